@@ -1,0 +1,69 @@
+-- The completions of a completion queue have their phases by their numbers.
+use Rattle.std.proofs.Common.{◌≡◌, ◌%◌, ◌-◌, ◌≤◌, ◌<◌, arith, mod-eq_of_lt, ℕ, zero, suc, Bool, true, false, cond, List, [], ◌∷◌, ◌++◌, length, refl, sym, ap, ◌∙◌, subst, Some, None, inl, inr, ◌⊎◌, eqb, eqb-true, slice_get, get_or}
+use Rattle.nvme_model.specs.Config.{completion_queue}
+use Rattle.nvme_model.specs.declared.config.ConfigNumbers.{ConfigNumbers}
+use Rattle.nvme_model.specs.EntryBytes.{cqe_bytes}
+use Rattle.nvme_model.specs.History.{Past}
+use Rattle.nvme_model.specs.Queues.{fetched}
+use Rattle.nvme_model.specs.Tickets
+use Rattle.nvme_model.specs.Tickets.{cids, posts_of}
+use Rattle.nvme_model.specs.Completions.{posted, phase}
+use Rattle.nvme_model.specs.Legal.{IsLegal}
+use Rattle.nvme_model.specs.Laws.{IsNumber}
+use Rattle.nvme_model.specs.declared.entry.PostLine.{PostLine}
+use Rattle.nvme_model.specs.declared.entry.Entry.{Entry}
+use Rattle.nvme_model.proofs.Rules.{follows}
+use Rattle.nvme_model.proofs.Posted.{posted_by_machine}
+
+-- one more at the end
+get_snoc : (xs : List PostLine) (y : PostLine) (k : ℕ) (p : PostLine) → slice_get (xs ++ (y ∷ [])) k ≡ Some p → (slice_get xs k ≡ Some p) ⊎ ((k ≡ length xs) × (y ≡ p))
+get_snoc [] y zero p e = inr (refl, same y p e)
+  where
+    same : (a b : PostLine) → Some a ≡ Some b → a ≡ b
+    same a b q = cc
+get_snoc [] y (suc k) p e = absurd (let f : None ≡ Some p = e in cc)
+get_snoc (x ∷ xs) y zero p e = inl e
+get_snoc (x ∷ xs) y (suc k) p e = elim (get_snoc xs y k p e) [
+  | inl f ↦ inl f
+  | inr f ↦ inr (ap suc f.0, f.1)
+]
+
+-- the Post at the end
+last_number : (c : ConfigNumbers) (past : Past) (p : PostLine) (q : ℕ) → IsLegal c (Entry.Post p ∷ past) → completion_queue c (Tickets.ticket past p.ticket).queue ≡ q → IsNumber c q (length (posted c past q)) p
+last_number c past p q h e =
+    let m = posted_by_machine c past p h in
+    let k = Tickets.ticket past p.ticket in (
+      fetched past k.queue % c.sq_size,
+      k.queue,
+      get_or (cids k) (posts_of past p.ticket) 0,
+      m.0,
+      m.2 ∙ ap (λ (i : ℕ). cqe_bytes (fetched past k.queue % c.sq_size) k.queue (get_or (cids k) (posts_of past p.ticket) 0) (phase (length (posted c past i)) c.cq_size) m.0) e,
+      e,
+    )
+
+pub posts_are_numbered : (c : ConfigNumbers) (past : Past) (q k : ℕ) (p : PostLine) → IsLegal c past → slice_get (posted c past q) k ≡ Some p → IsNumber c q k p
+posts_are_numbered c [] q k p h e = absurd (let f : None ≡ Some p = e in cc)
+posts_are_numbered c (Entry.Post y ∷ past) q k p h e =
+    go (eqb (completion_queue c (Tickets.ticket past y.ticket).queue) q) refl (λ f. posts_are_numbered c past q k p (follows c past (Entry.Post y) h).before f) e
+  where
+    last : (k ≡ length (posted c past q)) × (y ≡ p) → completion_queue c (Tickets.ticket past y.ticket).queue ≡ q → IsNumber c q k p
+    last f z = subst (λ (x : PostLine). IsNumber c q k x) f.1 (subst (λ (i : ℕ). IsNumber c q i y) (sym f.0) (last_number c past y q h z))
+
+    go : (b : Bool) → eqb (completion_queue c (Tickets.ticket past y.ticket).queue) q ≡ b → (slice_get (posted c past q) k ≡ Some p → IsNumber c q k p) → slice_get (posted c past q ++ cond b (y ∷ []) []) k ≡ Some p → IsNumber c q k p
+    go true z ih e = elim (get_snoc (posted c past q) y k p e) [
+      | inl f ↦ ih f
+      | inr f ↦ last f (eqb-true _ q z)
+    ]
+    go false z ih e = ih (ap (λ (xs : List PostLine). slice_get xs k) (sym (append_nil (posted c past q))) ∙ e)
+      where
+        append_nil : (xs : List PostLine) → xs ++ [] ≡ xs
+        append_nil [] = refl
+        append_nil (x ∷ xs) = ap (λ (ys : List PostLine). x ∷ ys) (append_nil xs)
+posts_are_numbered c (x ∷ past) q k p h e = posts_are_numbered c past q k p (follows c past x h).before e
+
+-- with as many completion queues as submission queues each uses its own
+pub own_queue : (c : ConfigNumbers) (q : ℕ) → c.cqs ≡ c.pairs → 1 ≤ q → q ≤ c.pairs → completion_queue c q ≡ q
+own_queue c q e l m =
+    let small : q - 1 < c.cqs = omega (arith, e, l, m) in
+    let same : (q - 1) % c.cqs ≡ q - 1 = mod-eq_of_lt small in
+    omega (arith, same, l)

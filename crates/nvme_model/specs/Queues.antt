@@ -1,0 +1,22 @@
+-- The entries of the submission queues.
+use Rattle.std.specs.Prelude.{List, [], drop, if◌then◌else◌, ℕ, ◌++◌, ◌+◌, ◌==◌, ◌∷◌}
+use Rattle.nvme_model.specs.History.{Past}
+use Rattle.nvme_model.specs.Verdict.{taken}
+use Rattle.nvme_model.specs.declared.entry.Entry.{Entry}
+use Rattle.nvme_model.specs.declared.submission.Submission.{Submission}
+
+-- the entries published to queue q, in order, batches joined
+abbrev pub published : Past → ℕ → List Submission
+published [] q = []
+published (Entry.Publish p ∷ past) q = published past q ++ (if p.queue == q then p.batch else [])
+published (_ ∷ past) q = published past q
+
+-- how many entries were fetched from q
+abbrev pub fetched : Past → ℕ → ℕ
+fetched [] q = 0
+fetched (Entry.Fetch f ∷ past) q = fetched past q + (if f.queue == q then taken f.verdict else 0)
+fetched (_ ∷ past) q = fetched past q
+
+-- the entries of queue q that aren't fetched yet
+abbrev pub waiting : Past → ℕ → List Submission
+waiting past q = drop (fetched past q) (published past q)

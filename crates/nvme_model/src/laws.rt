@@ -1,0 +1,114 @@
+//! What holds of the definitions, each as the contract of a function that does nothing.
+
+ghost use Rattle.std.specs.Prelude.{◌≡◌, slice_get, ◌≤◌, ◌⊎◌, is_some, ℕ, List, Some, None, true, false, take, map, reverse, [], ◌∷◌};
+ghost use Rattle.nvme_model.specs.Config.{completion_queue};
+ghost use Rattle.nvme_model.specs.declared.config.ConfigNumbers.{ConfigNumbers};
+ghost use Rattle.nvme_model.specs.declared.config.AtomicParameters.{AtomicParameters};
+ghost use Rattle.nvme_model.specs.Array.{blocks_from};
+ghost use Rattle.nvme_model.specs.Cut.{IsCut, cut};
+ghost use Rattle.nvme_model.specs.History.{Past};
+ghost use Rattle.nvme_model.specs.Tickets.{tickets, ticket, posts_of, in_flight};
+ghost use Rattle.nvme_model.specs.Operations.{op, has_compare, is_pair};
+ghost use Rattle.nvme_model.specs.Open.{open_units, unit_range, is_written};
+ghost use Rattle.nvme_model.specs.Value.{value, all_equal};
+ghost use Rattle.nvme_model.specs.Medium.{medium};
+ghost use Rattle.nvme_model.specs.Completions.{posted};
+ghost use Rattle.nvme_model.specs.Placed.{effect};
+ghost use Rattle.nvme_model.specs.Answered.{says_no};
+ghost use Rattle.nvme_model.specs.Owed.{some_no, all_done};
+ghost use Rattle.nvme_model.specs.Refusals.{refusal};
+ghost use Rattle.nvme_model.specs.Legal.{legal, IsLegal, IsLegalFile};
+ghost use Rattle.nvme_model.specs.FirstBad.{first_bad, IsFirstBad};
+ghost use Rattle.nvme_model.specs.Steps.{run, ready};
+ghost use Rattle.nvme_model.specs.Sequential.{sequential, answers, IsPosted, IsReaped};
+ghost use Rattle.nvme_model.specs.Laws.{Apart, MarkedRight, is_held, OwesToFull, IsNumber};
+ghost use Rattle.nvme_model.specs.Examples.{default, one_write_by, lost_pair};
+ghost use Rattle.nvme_model.specs.declared.array.Range.{Range};
+ghost use Rattle.nvme_model.specs.declared.entry.BlockLine.{BlockLine};
+ghost use Rattle.nvme_model.specs.declared.entry.PostLine.{PostLine};
+ghost use Rattle.nvme_model.specs.declared.entry.ReapLine.{ReapLine};
+ghost use Rattle.nvme_model.specs.declared.entry.Entry.{Entry};
+ghost use Rattle.nvme_model.specs.declared.step.Step.{Step};
+
+/// `cut` is the one list of maximal atomic ranges.
+pub fn one_cut()
+    ensures is { (u : AtomicParameters) (s n : ℕ) → IsCut u s n (cut u s n) }
+    ensures unique { (u : AtomicParameters) (s n : ℕ) (rs : List Range) → IsCut u s n rs → rs ≡ cut u s n }
+{}
+
+/// Each beginning of a legal history is legal.
+pub fn beginnings_are_legal()
+    ensures { (c : ConfigNumbers) (entries : List Entry) (k : ℕ) → IsLegalFile c entries → IsLegalFile c (take k entries) }
+{}
+
+/// No two open units of a legal history conflict.
+pub fn open_units_are_apart()
+    ensures { (c : ConfigNumbers) (past : Past) → IsLegal c past → Apart (open_units past) }
+{}
+
+/// Where no open Exclusive unit has a block, what lies in the volume is its value.
+pub fn volume_is_value()
+    ensures { (c : ConfigNumbers) (past : Past) (l : ℕ) → IsLegal c past → MarkedRight past → is_held past l ≡ false → medium past l ≡ value past l }
+{}
+
+/// Worked histories, and edits of them that are not legal.
+pub fn worked_histories()
+    ensures one_write { legal default (reverse (one_write_by true)) ≡ true }
+    ensures without_mark { legal default (reverse (take 4 (one_write_by false))) ≡ true }
+    ensures without_mark_bad { legal default (reverse (take 5 (one_write_by false))) ≡ false }
+    ensures lost_pair { legal default (reverse lost_pair) ≡ true }
+{}
+
+/// Whatever steps are asked, the history is legal, and where no open Exclusive unit has a block the volume is its value.
+pub fn every_run_is_legal()
+    ensures legal { (c : ConfigNumbers) (steps : List Step) → IsLegal c (run c [] steps) }
+    ensures volume { (c : ConfigNumbers) (steps : List Step) (l : ℕ) → is_held (run c [] steps) l ≡ false → medium (run c [] steps) l ≡ value (run c [] steps) l }
+{}
+
+/// An array of blocks that is asked the effects alone, one at a time and each done whole, in the order of the history:
+/// its contents are the value, its answers are those of the history, and each completion that is posted or reaped is what they make of it.
+pub fn one_operation_at_a_time()
+    ensures contents { (c : ConfigNumbers) (past : Past) → IsLegal c past → (sequential c past).contents ≡ map (value past) (blocks_from 0 c.blocks) }
+    ensures answers { (c : ConfigNumbers) (past : Past) → IsLegal c past → (sequential c past).replies ≡ answers past }
+    ensures posted { (c : ConfigNumbers) (past : Past) (p : PostLine) → IsLegal c (Entry.Post p ∷ past) → IsPosted c past p }
+    ensures reaped { (c : ConfigNumbers) (past : Past) (r : ReapLine) → IsLegal c (Entry.Reap r ∷ past) → IsReaped c past r }
+{}
+
+/// Each effect of a legal history stands once, after its ticket's Fetch and before its first Post;
+/// a ticket with an operation posts only once an effect says no or each of its units has its effect; and what says no writes nothing.
+pub fn effects_stand_in_their_places()
+    ensures fetched { (c : ConfigNumbers) (past : Past) (b : BlockLine) → IsLegal c (Entry.Block b ∷ past) → (1 ≤ b.ticket) × (b.ticket ≤ tickets past) }
+    ensures unposted { (c : ConfigNumbers) (past : Past) (b : BlockLine) → IsLegal c (Entry.Block b ∷ past) → posts_of past b.ticket ≡ 0 }
+    ensures once { (c : ConfigNumbers) (past : Past) (b : BlockLine) → IsLegal c (Entry.Block b ∷ past) → b.effect ≡ true → effect past b.ticket b.unit ≡ None }
+    ensures served { (c : ConfigNumbers) (past : Past) (p : PostLine) → IsLegal c (Entry.Post p ∷ past) → is_some (op (ticket past p.ticket)) ≡ true → (some_no c past p.ticket ≡ true) ⊎ (all_done c past p.ticket ≡ true) }
+    ensures no_writes_nothing { (past : Past) (b : BlockLine) (l : ℕ) → has_compare (op (ticket past b.ticket)) ≡ true → all_equal (value past) (ticket past b.ticket) (unit_range past b.ticket b.unit) ≡ false → value (Entry.Block b ∷ past) l ≡ value past l }
+{}
+
+/// Where each mark stands as this engine puts it, a pair that says no has no block written.
+pub fn a_pair_that_differs_writes_nothing()
+    ensures { (c : ConfigNumbers) (past : Past) (b : BlockLine) → IsLegal c (Entry.Block b ∷ past) → MarkedRight (Entry.Block b ∷ past) → is_pair (op (ticket past b.ticket)) ≡ true → is_written b.found ≡ true → says_no (Entry.Block b ∷ past) b.ticket b.unit ≡ false }
+{}
+
+/// The completions of a completion queue have their phases by their numbers on that queue, whichever submission queues they are for.
+pub fn completions_are_numbered()
+    ensures { (c : ConfigNumbers) (past : Past) (q k : ℕ) (p : PostLine) → IsLegal c past → slice_get (posted c past q) k ≡ Some p → IsNumber c q k p }
+{}
+
+/// With as many completion queues as submission queues each uses the one of its own number.
+pub fn each_has_its_own_completion_queue()
+    ensures { (c : ConfigNumbers) (q : ℕ) → c.cqs ≡ c.pairs → 1 ≤ q → q ≤ c.pairs → completion_queue c q ≡ q }
+{}
+
+/// Where no step is ready, each ticket in flight owes a completion to a full completion queue; and what is ready is not refused.
+pub fn never_stuck()
+    ensures stuck { (c : ConfigNumbers) (past : Past) (t : ℕ) → IsLegal c past → ready c past ≡ None → in_flight past t ≡ true → OwesToFull c past t }
+    ensures allowed { (c : ConfigNumbers) (past : Past) (step : Step) → ready c past ≡ Some step → refusal c past step ≡ None }
+{}
+
+/// A list of entries is legal, or there is one first place at which it is not.
+pub fn one_first_bad_place()
+    ensures none { (c : ConfigNumbers) (entries : List Entry) → first_bad c entries ≡ None → IsLegalFile c entries }
+    ensures legal { (c : ConfigNumbers) (entries : List Entry) → IsLegalFile c entries → first_bad c entries ≡ None }
+    ensures place { (c : ConfigNumbers) (entries : List Entry) (k : ℕ) → first_bad c entries ≡ Some k → IsFirstBad c entries k }
+    ensures first { (c : ConfigNumbers) (entries : List Entry) (k : ℕ) → IsFirstBad c entries k → first_bad c entries ≡ Some k }
+{}

@@ -1,0 +1,127 @@
+//! Submission queue entries with the data beside them, as lists that contracts see.
+
+ghost use Rattle.std.specs.Prelude.{◌≡◌, ◌<◌, length};
+
+use std::marker::Model;
+
+/// A list of bytes of any length.
+#[derive(Drop)]
+pub struct Payload {
+    bytes: Vec<u8>,
+}
+
+impl Model for Payload {
+    ghost use Rattle.std.specs.Prelude.{List, ℕ};
+
+    ghost Value = { List ℕ };
+
+    ghost view = { λ p. p.bytes.items };
+}
+
+impl Payload {
+    /// These bytes.
+    pub fn new(bytes: Vec<u8>) -> Payload
+        ensures { result ≡ bytes.items }
+    {
+        Payload { bytes }
+    }
+
+    pub fn as_slice(&self) -> &[u8]
+        ensures { result.now ≡ self.now }
+    {
+        self.bytes.as_slice()
+    }
+
+    /// The bytes, given back.
+    pub fn into_vec(self) -> Vec<u8>
+        ensures { result.items ≡ self }
+    {
+        self.bytes
+    }
+}
+
+/// A submission queue entry of 64 bytes, and the data beside it.
+#[derive(Drop)]
+pub struct Submission {
+    pub entry: [u8; 64],
+    pub payload: Payload,
+}
+
+/// A list of entries in order, maybe none.
+#[derive(Drop)]
+pub struct Submissions {
+    items: Vec<Submission>,
+}
+
+impl Model for Submissions {
+    ghost use Rattle.std.specs.Prelude.{List};
+    ghost use Rattle.nvme_model.specs.declared.submission.Submission.{Submission};
+
+    ghost Value = { List Submission };
+
+    ghost view = { λ b. b.items.items };
+}
+
+impl Submissions {
+    /// These entries.
+    pub fn new(items: Vec<Submission>) -> Submissions
+        ensures { result ≡ items.items }
+    {
+        Submissions { items }
+    }
+
+    pub fn as_slice(&self) -> &[Submission]
+        ensures { result.now ≡ self.now }
+    {
+        self.items.as_slice()
+    }
+
+    /// The entries, given back.
+    pub fn into_vec(self) -> Vec<Submission>
+        ensures { result.items ≡ self }
+    {
+        self.items
+    }
+}
+
+/// The entries of one accepted Publish in order, at least one.
+#[derive(Drop)]
+pub struct Batch {
+    items: Vec<Submission>,
+}
+
+impl Model for Batch {
+    ghost use Rattle.std.specs.Prelude.{List, ◌<◌, length};
+    ghost use Rattle.nvme_model.specs.declared.submission.Submission.{Submission};
+
+    ghost Value = { List Submission };
+
+    ghost view = { λ b. b.items.items };
+
+    ghost invariant = { λ b. 0 < length b.items.items };
+}
+
+impl Batch {
+    /// These entries.
+    pub fn new(items: Vec<Submission>) -> Batch
+        requires { 0 < length items.items }
+        ensures { result ≡ items.items }
+    {
+        Batch { items }
+    }
+
+    pub fn as_slice(&self) -> &[Submission]
+        ensures value { result.now ≡ self.now }
+        ensures some { 0 < length result.now }
+    {
+        self.items.as_slice()
+    }
+
+    /// The entries, given back.
+    pub fn into_vec(self) -> Vec<Submission>
+        ensures value { result.items ≡ self }
+        ensures some { 0 < length result.items }
+    {
+        self.items
+    }
+}
