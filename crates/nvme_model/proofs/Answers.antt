@@ -14,7 +14,8 @@ use Rattle.nvme_model.specs.Medium.{medium}
 use Rattle.nvme_model.specs.Array.{has_block}
 use Rattle.nvme_model.specs.Steps.{marked, word, compared}
 use Rattle.nvme_model.specs.Legal.{IsLegal}
-use Rattle.nvme_model.specs.Laws.{MarkedRight, WordsRight}
+use Rattle.nvme_model.specs.Laws.{MarkedRight}
+use Rattle.nvme_model.proofs.Words.{WordsRight}
 use Rattle.nvme_model.specs.declared.array.Range.{Range}
 use Rattle.nvme_model.specs.declared.operation.Op.{Op}
 use Rattle.nvme_model.specs.declared.operation.Found.{Found}
@@ -28,7 +29,8 @@ use Rattle.nvme_model.proofs.Granted.{GrantFacts, granted_facts}
 use Rattle.nvme_model.proofs.Blocks.{MayBlock, may_block, no_blocks, same_made, made_lbas, lbas, made_in_order, at_key, range_before}
 use Rattle.nvme_model.proofs.Effects.{came, is_write_op}
 use Rattle.nvme_model.proofs.Written.{clash}
-use Rattle.nvme_model.proofs.Medium.{medium_state, holds, Against, against_found, both_conflict, conflict_both, each_none, range_of_entry, due_within, false_if, found_state, untouched, is_open, unfilter, grant_key}
+use Rattle.nvme_model.proofs.Holding.{holds, both_conflict, conflict_both, range_of_entry, due_within, false_if, untouched, grant_key}
+use Rattle.nvme_model.proofs.Medium.{medium_state, Against, against_found, each_none, found_state, is_open, unfilter}
 
 -- ---- the volume at a block that is compared
 

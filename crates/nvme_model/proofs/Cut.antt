@@ -1,5 +1,5 @@
 -- `cut` is the one list of maximal atomic ranges.
-use Rattle.std.proofs.Common.{◌≡◌, ℕ, zero, suc, ◌+◌, ◌-◌, ◌≤◌, ◌<◌, Bool, true, false, ◌&&◌, List, [], ◌∷◌, refl, sym, ap, ◌∙◌, arith, nat_le, ◌==◌, inl, inr, true≢false, le-leb, leb-true, eq-eqb}
+use Rattle.std.proofs.Common.{◌≡◌, ℕ, zero, suc, ◌+◌, ◌-◌, ◌≤◌, ◌<◌, Bool, true, false, ◌&&◌, List, [], ◌∷◌, length, refl, sym, ap, ◌∙◌, ◌↔◌, subst, arith, nat_le, ◌==◌, inl, inr, true≢false, le-leb, leb-true, eq-eqb}
 use Rattle.std.specs.List.{list_all}
 use Rattle.std.proofs.lemmas.Bool.{and_parts, and_from, cases_eq, cases_Bool, cond-true, cond-false}
 use Rattle.nvme_model.specs.declared.config.AtomicParameters.{AtomicParameters}
@@ -120,3 +120,18 @@ is_within (suc k) u s (suc n) l =
 
 pub cut-is : (u : AtomicParameters) (s n : ℕ) → IsCut u s n (cut u s n)
 cut-is u s n = is_within n u s n (omega arith)
+
+-- ---- an atomic range is one unit
+
+cut-atomic : (u : AtomicParameters) (s n : ℕ) → is_atomic u s n ≡ true → cut u s n ≡ record { slba = s; blocks = n } ∷ []
+cut-atomic u s n h =
+    let r : Range = record { slba = s; blocks = n } in
+    sym (cut-unique u s n (r ∷ []) (refl, omega arith, h, λ l. absurd (omega (arith, l)), omega arith))
+
+one_is_atomic : (u : AtomicParameters) (s n : ℕ) (rs : List Range) → IsCut u s n rs → length rs ≡ 1 → is_atomic u s n ≡ true
+one_is_atomic u s n [] h l = absurd (omega (arith, l))
+one_is_atomic u s n (r ∷ []) h l = let e : r.blocks ≡ n = omega (arith, h.1, h.4) in subst (λ (i : ℕ). is_atomic u s i ≡ true) e h.2
+one_is_atomic u s n (r ∷ q ∷ rs) h l = absurd (omega (arith, l))
+
+pub one_unit : (u : AtomicParameters) (s n : ℕ) → (length (cut u s n) ≡ 1) ↔ (is_atomic u s n ≡ true)
+one_unit u s n = (λ l. one_is_atomic u s n (cut u s n) (cut-is u s n) l, λ h. ap length (cut-atomic u s n h))

@@ -15,7 +15,8 @@ use Rattle.nvme_model.specs.Owed.{owed}
 use Rattle.nvme_model.specs.Refusals.{refusal, next_unit}
 use Rattle.nvme_model.specs.Steps.{marked, word, due, block_entry, grant_entry, post_entry, reap_entry, next_entry, after, after_by, run}
 use Rattle.nvme_model.specs.Legal.{IsLegal, may_follow, block_fits}
-use Rattle.nvme_model.specs.Laws.{MarkedRight, WordsRight, is_held}
+use Rattle.nvme_model.specs.Laws.{MarkedRight, is_held}
+use Rattle.nvme_model.proofs.Words.{WordsRight}
 use Rattle.nvme_model.specs.declared.array.Range.{Range}
 use Rattle.nvme_model.specs.declared.entry.GrantLine.{GrantLine}
 use Rattle.nvme_model.specs.declared.operation.Found.{Found}

@@ -1,5 +1,6 @@
 -- Which worked histories are legal.
-use Rattle.std.specs.Prelude.{◌≡◌, refl, true, false, reverse, take}
+use Rattle.std.specs.Prelude.{◌≡◌, refl, Some, None, true, false, reverse, take}
+use Rattle.nvme_model.specs.FirstBad.{first_bad}
 use Rattle.nvme_model.specs.Legal.{legal}
 use Rattle.nvme_model.specs.Value.{value}
 use Rattle.nvme_model.specs.Medium.{medium}
@@ -16,6 +17,9 @@ unmarked_beginning = refl
 pub unmarked_write : legal default (reverse (take 5 (one_write_by false))) ≡ false
 unmarked_write = refl
 
+pub unmarked_place : first_bad default (one_write_by false) ≡ Some 5
+unmarked_place = refl
+
 pub pair_legal : legal default (reverse (pair_by Verdict.Pair true 1)) ≡ true
 pair_legal = refl
 
@@ -28,11 +32,20 @@ lone_first_beginning = refl
 pub lone_first_bad : legal default (reverse (take 2 lone_first)) ≡ false
 lone_first_bad = refl
 
+pub lone_first_place : first_bad default lone_first ≡ Some 2
+lone_first_place = refl
+
 pub wrong_phase_beginning : legal default (reverse (take 5 wrong_phase)) ≡ true
 wrong_phase_beginning = refl
 
 pub wrong_phase_bad : legal default (reverse (take 6 wrong_phase)) ≡ false
 wrong_phase_bad = refl
+
+pub wrong_phase_place : first_bad default wrong_phase ≡ Some 6
+wrong_phase_place = refl
+
+pub lost_pair_place : first_bad default lost_pair ≡ None
+lost_pair_place = refl
 
 pub lost_pair_legal : legal default (reverse lost_pair) ≡ true
 lost_pair_legal = refl

@@ -1,11 +1,11 @@
 -- Two hosts and one slot.
-use Rattle.std.specs.Prelude.{◌≡◌, refl, ℕ, true, false, Some, None, List, [], ◌∷◌}
+use Rattle.std.specs.Prelude.{◌≡◌, refl, ℕ, true, false, Some, None, List, [], ◌∷◌, ◌++◌, replicate}
 use Rattle.nvme_model.specs.History.{Past}
 use Rattle.nvme_model.specs.Legal.{legal}
 use Rattle.nvme_model.specs.Steps.{run, settle}
 use Rattle.nvme_model.specs.Array.{zeros}
 use Rattle.nvme_model.specs.Slots.{Name, slot_block, holder, believed, disciplined}
-use Rattle.nvme_model.specs.Examples.{default, submit}
+use Rattle.nvme_model.specs.Examples.{default, submit, publish}
 use Rattle.nvme_model.specs.declared.array.Range.{Range}
 use Rattle.nvme_model.specs.declared.submission.Submission.{Submission}
 use Rattle.nvme_model.specs.declared.step.Step.{Step}
@@ -61,3 +61,39 @@ kept = refl
 
 pub all_legal : legal default held_2 ≡ true
 all_legal = refl
+
+-- a batch that releases one name twice: the second release is of a name that isn't believed any more
+abbrev released_twice : Past
+released_twice = publish 1 (swap (slot_block (name 1 1)) zeros ++ swap (slot_block (name 1 1)) zeros) ∷ held_1
+
+pub released_twice_breaks : disciplined default area released_twice ≡ false
+released_twice_breaks = refl
+
+pub released_once_keeps : disciplined default area (publish 1 (swap (slot_block (name 1 1)) zeros) ∷ held_1) ≡ true
+released_once_keeps = refl
+
+-- on the other host's queue
+pub released_elsewhere_breaks : disciplined default area (publish 2 (swap (slot_block (name 1 1)) zeros) ∷ held_1) ≡ false
+released_elsewhere_breaks = refl
+
+-- a name that was claimed before
+pub claimed_again_breaks : disciplined default area (publish 2 (swap zeros (slot_block (name 1 1))) ∷ held_1) ≡ false
+claimed_again_breaks = refl
+
+-- a Write and a Write Zeroes in the area, and a Write beside it
+pub plain_write_breaks : disciplined default area (publish 2 (submit 1 0 1 0 0 zeros ∷ []) ∷ held_1) ≡ false
+plain_write_breaks = refl
+
+pub write_zeroes_breaks : disciplined default area (publish 2 (submit 8 0 1 0 0 [] ∷ []) ∷ held_1) ≡ false
+write_zeroes_breaks = refl
+
+pub write_beside_keeps : disciplined default area (publish 2 (submit 1 0 1 1 0 zeros ∷ []) ∷ held_1) ≡ true
+write_beside_keeps = refl
+
+-- outside the area a pair may use any name
+pub swap_beside_keeps : disciplined default (record { slba = 1; blocks = 1 }) (publish 2 (swap zeros (slot_block (name 1 1))) ∷ held_1) ≡ true
+swap_beside_keeps = refl
+
+-- the block of a slot: host 2, serial 2
+pub slot_bytes : slot_block (name 2 2) ≡ 2 ∷ 0 ∷ 0 ∷ 0 ∷ 0 ∷ 0 ∷ 0 ∷ 0 ∷ 2 ∷ (replicate 503 0)
+slot_bytes = refl

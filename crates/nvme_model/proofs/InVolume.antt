@@ -25,7 +25,7 @@ use Rattle.nvme_model.proofs.Lists.{Each, each_map, each_both, each_get}
 use Rattle.nvme_model.proofs.Cut.{longest_facts}
 use Rattle.nvme_model.proofs.Rules.{follows, none_holds}
 use Rattle.nvme_model.proofs.Written.{clash}
-use Rattle.nvme_model.proofs.NextBlock.{granted_op}
+use Rattle.nvme_model.proofs.Ended.{granted_op}
 use Rattle.nvme_model.proofs.NextPost.{unit_at}
 
 -- ---- the units of a range lie in it

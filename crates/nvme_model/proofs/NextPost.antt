@@ -39,7 +39,7 @@ use Rattle.nvme_model.proofs.Apart.{ticket_kept}
 use Rattle.nvme_model.proofs.Granted.{GrantFacts, granted_facts, units_some}
 use Rattle.nvme_model.proofs.Blocks.{MayBlock, may_block, no_blocks, same_made, at_key, grants_before, range_before}
 use Rattle.nvme_model.proofs.Written.{clash}
-use Rattle.nvme_model.proofs.NextBlock.{ended_effect, some_granted, found_some, some_made}
+use Rattle.nvme_model.proofs.Ended.{ended_effect, some_granted, found_some, some_made}
 use Rattle.nvme_model.proofs.Answers.{needs_all}
 use Rattle.nvme_model.proofs.Runs.{some_at, bytes_same}
 use Rattle.nvme_model.proofs.Pairs.{no_blocks_yet, word_at, goes_on, marked_here, says_no as says_no_at}

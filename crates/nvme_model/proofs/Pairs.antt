@@ -48,10 +48,10 @@ not_all q s (suc n) (suc i) m l e h = and_right _ _ (not_all q (suc s) n i m (om
 
 -- ---- answers
 
-abbrev comparing : Found → Bool
+abbrev pub comparing : Found → Bool
 comparing f = is_equal f || is_differs f
 
-abbrev answered : (ℕ → Bool) → BlockLine → Bool
+abbrev pub answered : (ℕ → Bool) → BlockLine → Bool
 answered q b = not (comparing b.found) || beq (is_equal b.found) (q b.lba)
 
 equal_here : (q : Bool) (f : Found) → comparing f ≡ true → is_differs f ≡ false → (not (comparing f) || beq (is_equal f) q) ≡ true → q ≡ true
@@ -79,7 +79,7 @@ equal_all q (b ∷ made) c d h =
 
 -- ---- words
 
-pair_word : (o : Option Op) (n j : ℕ) (f : Found) → is_pair o ≡ true → j < n → may_find o n j f ≡ true → comparing f ≡ true
+pub pair_word : (o : Option Op) (n j : ℕ) (f : Found) → is_pair o ≡ true → j < n → may_find o n j f ≡ true → comparing f ≡ true
 pair_word (Some Op.Pair) n j f p l h = subst (λ (x : Bool). cond x (comparing f) (Open.is_written f) ≡ true) (lt-ltb j n l) h
 pair_word None n j f p l h = clash false p refl
 pair_word (Some Op.Read) n j f p l h = clash false p refl

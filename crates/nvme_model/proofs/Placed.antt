@@ -26,7 +26,8 @@ use Rattle.nvme_model.proofs.Apart.{fetched_if}
 use Rattle.nvme_model.proofs.Blocks.{may_block}
 use Rattle.nvme_model.proofs.Written.{clash}
 use Rattle.nvme_model.proofs.NextPost.{not_flying}
-use Rattle.nvme_model.proofs.NeverStuck.{posted_finished, open_flying, zero_ticket}
+use Rattle.nvme_model.proofs.Finished.{posted_finished}
+use Rattle.nvme_model.proofs.NeverStuck.{open_flying, zero_ticket}
 
 -- the ticket of a Block is in flight
 block_flying : (c : ConfigNumbers) (past : Past) (b : BlockLine) → IsLegal c (Entry.Block b ∷ past) → in_flight past b.ticket ≡ true

@@ -19,7 +19,8 @@ use Rattle.nvme_model.proofs.Lists.{each_filter, each_find}
 use Rattle.nvme_model.proofs.Rules.{follows}
 use Rattle.nvme_model.proofs.Blocks.{may_block}
 use Rattle.nvme_model.proofs.Stepping.{writes_by, and_true}
-use Rattle.nvme_model.proofs.Medium.{range_of_entry, is_open}
+use Rattle.nvme_model.proofs.Holding.{range_of_entry}
+use Rattle.nvme_model.proofs.Medium.{is_open}
 use Rattle.nvme_model.proofs.BlockLists.{listed, length_listed, listed_same, listed_const, reads, overwrites, compares, with_range}
 use Rattle.nvme_model.proofs.InVolume.{units_in_volume}
 

@@ -2,7 +2,7 @@
 use Rattle.std.specs.Prelude.{Bool, List, [], nat_le, nat_lt, replicate, suc, zero, ℕ, ◌&&◌, ◌+◌, ◌∷◌}
 use Rattle.nvme_model.specs.declared.array.Range.{Range}
 
--- the block that a volume begins with
+-- the block that a volume begins with: 512 zeros (this profile's)
 abbrev pub zeros : List ℕ
 zeros = replicate 512 0
 

@@ -22,11 +22,11 @@ reaped [] q = 0
 reaped (Entry.Reap r ∷ past) q = reaped past q + (if r.queue == q then 1 else 0)
 reaped (_ ∷ past) q = reaped past q
 
--- the phase of the k-th completion of a queue of m slots, k from 0 (Base 2.0, 3.3.3.2)
+-- the phase of the k-th completion of a queue of m slots, k from 0 (Base 2.0, Phase Tag)
 abbrev pub phase : ℕ → ℕ → ℕ
 phase k m = if (k / m) % 2 == 0 then 1 else 0
 
--- the bytes of the next completion of ticket t, with this status
+-- the bytes of the next completion of ticket t, with this status: SQHD is the submission queue's head then (Base 2.0, Completion Queue Entry)
 abbrev pub completion : ConfigNumbers → Past → ℕ → Status → List ℕ
 completion c past t s =
     let k = ticket past t in

@@ -2,7 +2,7 @@
 use Rattle.std.specs.Prelude.{List, [], length, replicate, slice_range, ℕ, ◌%◌, ◌*◌, ◌++◌, ◌+◌, ◌/◌, ◌^◌, ◌∷◌, ◌≡◌}
 use Rattle.nvme_model.specs.declared.status.Status.{Status}
 
--- the number whose bytes are these, the least first
+-- the number whose bytes are these, the least first (Base 2.0, Byte, Word, and Dword Relationships)
 abbrev pub little_endian : List ℕ → ℕ
 little_endian [] = 0
 little_endian (b ∷ bs) = b + 256 * little_endian bs
@@ -15,7 +15,7 @@ two_bytes n = n % 256 ∷ (n / 256) % 256 ∷ []
 abbrev pub field : ℕ → ℕ → List ℕ → ℕ
 field first count bytes = little_endian (slice_range bytes first (first + count))
 
--- A submission queue entry (Base 2.0, 3.3.3.1).
+-- A submission queue entry (Base 2.0, Submission Queue Entry).
 pub record Sqe : Type 0 where
   pub opcode : ℕ
   pub fuse : ℕ
@@ -34,7 +34,7 @@ pub record Sqe : Type 0 where
   pub cdw14 : ℕ
   pub cdw15 : ℕ
 
--- the fields of these 64 bytes
+-- the fields of these 64 bytes, by their positions (Base 2.0, Submission Queue Entry)
 abbrev pub sqe_fields : List ℕ → Sqe
 sqe_fields bytes =
     record {
@@ -60,15 +60,15 @@ sqe_fields bytes =
 abbrev pub IsSqe : List ℕ → Sqe → Type 0
 IsSqe bytes fields = (length bytes ≡ 64) × (sqe_fields bytes ≡ fields)
 
--- SLBA of a Read, Write, Compare or Write Zeroes (NVM 1.0, 3.2)
+-- SLBA of a Read, Write, Compare or Write Zeroes (NVM 1.0, Read command)
 abbrev pub slba : Sqe → ℕ
 slba e = e.cdw10 + 2 ^ 32 * e.cdw11
 
--- the number of blocks, from NLB, which is 0's based (NVM 1.0, 3.2)
+-- the number of blocks, from NLB, which is 0's based (NVM 1.0, Read command)
 abbrev pub blocks : Sqe → ℕ
 blocks e = e.cdw12 % 65536 + 1
 
--- A completion queue entry (Base 2.0, 3.3.3.2).
+-- A completion queue entry (Base 2.0, Completion Queue Entry).
 pub record Cqe : Type 0 where
   pub dw0 : ℕ
   pub dw1 : ℕ
@@ -82,7 +82,7 @@ pub record Cqe : Type 0 where
   pub more : ℕ
   pub dnr : ℕ
 
--- the fields of these 16 bytes
+-- the fields of these 16 bytes, by their positions (Base 2.0, Completion Queue Entry)
 abbrev pub cqe_fields : List ℕ → Cqe
 cqe_fields bytes =
     let word = field 14 2 bytes in

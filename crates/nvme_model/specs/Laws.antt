@@ -11,7 +11,7 @@ use Rattle.nvme_model.specs.Config.{completion_queue}
 use Rattle.nvme_model.specs.declared.config.ConfigNumbers.{ConfigNumbers}
 use Rattle.nvme_model.specs.Completions.{posted, reaped, phase}
 use Rattle.nvme_model.specs.Refusals.{owes_nothing_yet}
-use Rattle.nvme_model.specs.Steps.{marked, word}
+use Rattle.nvme_model.specs.Steps.{marked}
 use Rattle.nvme_model.specs.declared.status.Status.{Status}
 use Rattle.nvme_model.specs.declared.entry.PostLine.{PostLine}
 use Rattle.nvme_model.specs.declared.entry.Entry.{Entry}
@@ -33,14 +33,6 @@ MarkedRight (Entry.Block b ∷ past) =
     MarkedRight past
     × (b.effect ≡ marked (op (ticket past b.ticket)) (unit_range past b.ticket b.unit).blocks (length (blocks_made past b.ticket b.unit)) b.found)
 MarkedRight (_ ∷ past) = MarkedRight past
-
--- each word is what the volume then holds
-abbrev pub WordsRight : Past → Type 0
-WordsRight [] = Unit {0}
-WordsRight (Entry.Block b ∷ past) =
-    WordsRight past
-    × (b.found ≡ word past (ticket past b.ticket) (op (ticket past b.ticket)) (unit_range past b.ticket b.unit).blocks (length (blocks_made past b.ticket b.unit)) b.lba)
-WordsRight (_ ∷ past) = WordsRight past
 
 -- ticket t owes a completion to a completion queue that is full
 abbrev pub OwesToFull : ConfigNumbers → Past → ℕ → Type 0

@@ -1,6 +1,6 @@
 -- Which units are granted, which have ended, and which conflict.
 use Rattle.std.specs.List.{filter, find, list_any}
-use Rattle.std.specs.Prelude.{Bool, List, None, Option, Some, [], false, if◌then◌else◌, length, nat_le, not, true, ℕ, ◌&&◌, ◌*◌, ◌++◌, ◌==◌, ◌||◌, ◌∷◌}
+use Rattle.std.specs.Prelude.{Bool, List, None, Option, Some, [], false, if◌then◌else◌, length, nat_le, not, true, ℕ, ◌&&◌, ◌*◌, ◌+◌, ◌++◌, ◌==◌, ◌||◌, ◌∷◌}
 use Rattle.nvme_model.specs.Array.{overlap}
 use Rattle.nvme_model.specs.History.{Past}
 use Rattle.nvme_model.specs.Operations.{is_exclusive, is_pair, op}
@@ -28,6 +28,12 @@ blocks_made [] t u = []
 blocks_made (Entry.Block b ∷ past) t u =
     (if (b.ticket == t) && (b.unit == u) then b ∷ [] else []) ++ blocks_made past t u
 blocks_made (_ ∷ past) t u = blocks_made past t u
+
+-- how many Block entries ticket t has
+abbrev pub blocks_of : Past → ℕ → ℕ
+blocks_of [] t = 0
+blocks_of (Entry.Block b ∷ past) t = blocks_of past t + (if b.ticket == t then 1 else 0)
+blocks_of (_ ∷ past) t = blocks_of past t
 
 -- it says `differs`
 abbrev pub is_differs : Found → Bool

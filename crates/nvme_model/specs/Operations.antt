@@ -59,7 +59,7 @@ units_by u (Some o) s n = cut u s n
 abbrev pub units : ConfigNumbers → Ticket → List Range
 units c k = units_by c.atomic (op k) (slba (first_fields k)) (blocks (first_fields k))
 
--- a unit that writes is Exclusive
+-- a unit that writes is Exclusive, any other Shared (this profile's)
 abbrev pub mode : Ticket → Mode
 mode k = if has_write (op k) then Mode.Exclusive else Mode.Shared
 

@@ -4,18 +4,18 @@ use Rattle.nvme_model.specs.History.{Past}
 use Rattle.nvme_model.specs.declared.entry.Entry.{Entry}
 
 -- the newest first
-abbrev pub Shared : Type 0
-Shared = List (ℕ × Entry)
+abbrev pub SharedPast : Type 0
+SharedPast = List (ℕ × Entry)
 
 -- the entries alone
-abbrev pub entries : Shared → Past
+abbrev pub entries : SharedPast → Past
 entries shared = map (λ m. m.1) shared
 
 -- the places, from 1, of the entries of pass p, the last first
-abbrev pub places : ℕ → Shared → List ℕ
+abbrev pub places : ℕ → SharedPast → List ℕ
 places p [] = []
 places p (m ∷ shared) = if m.0 == p then suc (length shared) ∷ places p shared else places p shared
 
 -- the history goes on from what was seen
-abbrev pub IsBeginning : Shared → Shared → Type 0
-IsBeginning seen shared = (later : Shared) × (later ++ seen ≡ shared)
+abbrev pub IsBeginning : SharedPast → SharedPast → Type 0
+IsBeginning seen shared = (later : SharedPast) × (later ++ seen ≡ shared)

@@ -1,4 +1,4 @@
--- The entries of the submission queues.
+-- The entries of the submission queues (Base 2.0, Queue Pair Model).
 use Rattle.std.specs.Prelude.{List, [], drop, if◌then◌else◌, ℕ, ◌++◌, ◌+◌, ◌==◌, ◌∷◌}
 use Rattle.nvme_model.specs.History.{Past}
 use Rattle.nvme_model.specs.Verdict.{taken}

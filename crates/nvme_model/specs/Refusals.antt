@@ -58,7 +58,7 @@ owes_nothing_yet c past t =
     let k = ticket past t in
     passed k.verdict && not (is_flush_ticket (op k)) && not (all_ended c past t || differed past t)
 
--- The conditions of each step, in order.
+-- The conditions of each step, in order (this profile's; a queue that is full: Base 2.0, Full Queue; one that is empty: Base 2.0, Empty Queue).
 abbrev pub conditions : ConfigNumbers → Past → Step → List (Bool × Why)
 conditions c past (Step.Publish q batch) =
     (no_queue c q, Why.NoQueue)

@@ -19,8 +19,6 @@ use Rattle.nvme_model.specs.declared.entry.PostLine.{PostLine}
 use Rattle.nvme_model.specs.declared.entry.ReapLine.{ReapLine}
 use Rattle.nvme_model.specs.declared.entry.Entry.{Entry}
 
--- ---- The machine
-
 -- the blocks, the first first
 abbrev pub Array : Type 0
 Array = List (List ℕ)
@@ -83,8 +81,6 @@ abbrev pub machine : ℕ → List Request → Machine
 machine n [] = record { contents = replicate n zeros; replies = [] }
 machine n (q ∷ requests) = answer_to q (serve q.operation (machine n requests).contents) (machine n requests).replies
 
--- ---- What a history asks of it
-
 -- what a unit of a ticket asks: its range, and the data that came with its commands
 abbrev pub operation : Option Op → Ticket → Range → Operation
 operation (Some Op.Compare) k r = compare r.slba (map (compare_data k) (blocks_from r.slba r.blocks))
@@ -108,8 +104,6 @@ requests (_ ∷ past) = requests past
 abbrev pub sequential : ConfigNumbers → Past → Machine
 sequential c past = machine c.blocks (requests past)
 
--- ---- What the contents at each effect say that it answers
-
 -- at these contents: the blocks of the range, or whether all are the Compare's data
 abbrev pub answer_by : (ℕ → List ℕ) → Option Op → Ticket → Range → Answer
 answer_by contents (Some Op.Compare) k r = says (all_equal contents k r)
@@ -127,8 +121,6 @@ answers (Entry.Block b ∷ past) =
     then record { ticket = b.ticket; unit = b.unit; answer = answer_by (value past) (op k) k (unit_range past b.ticket b.unit) } ∷ answers past
     else answers past
 answers (_ ∷ past) = answers past
-
--- ---- What its answers make of a completion
 
 -- the answer for unit u of ticket t
 abbrev pub answer_of : Option Reply → Option Answer

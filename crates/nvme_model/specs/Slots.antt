@@ -58,23 +58,18 @@ is_pair_on_one a b =
     let d = sqe_fields b.entry in
     is_compare e && is_write d && (e.fuse == 1) && (d.fuse == 2) && (slba e == slba d) && (blocks e == 1) && (blocks d == 1)
 
--- a claim to this name, if it is one
-abbrev pub claim_by : ℕ → ℕ → ℕ → Option Name → List Swap
-claim_by q j l None = []
-claim_by q j l (Some n) = record { claims = true; queue = q; number = j; lba = l; name = n } ∷ []
-
--- a release from this name, if it is one
-abbrev pub release_by : ℕ → ℕ → ℕ → Option Name → List Swap
-release_by q j l None = []
-release_by q j l (Some n) = record { claims = false; queue = q; number = j; lba = l; name = n } ∷ []
+-- a claim of this name or a release of it, if there is one
+abbrev pub swap_by : Bool → ℕ → ℕ → ℕ → Option Name → List Swap
+swap_by claims q j l None = []
+swap_by claims q j l (Some n) = record { claims = claims; queue = q; number = j; lba = l; name = n } ∷ []
 
 -- the claim or release that two entries are, if they are one
 abbrev pub swap_of : ℕ → ℕ → Submission → Submission → List Swap
 swap_of q j a b =
     if is_pair_on_one a b
     then (let l = slba (sqe_fields a.entry) in
-    (if bytes_eq a.payload zeros then claim_by q j l (name_of b.payload) else [])
-    ++ (if bytes_eq b.payload zeros then release_by q j l (name_of a.payload) else []))
+    (if bytes_eq a.payload zeros then swap_by true q j l (name_of b.payload) else [])
+    ++ (if bytes_eq b.payload zeros then swap_by false q j l (name_of a.payload) else []))
     else []
 
 -- the claims and releases of a batch whose first entry has number j on queue q
@@ -140,8 +135,6 @@ abbrev pub believed : ConfigNumbers → Past → ℕ → Name → Bool
 believed c past l n =
     list_any (λ s. s.claims && (s.lba == l) && same_name s.name n && reaped_success c past s.queue (suc s.number)) (swaps past)
     && not (list_any (λ s. releases s l n) (swaps past))
-
--- ---- The discipline, of a slot area (this profile's own)
 
 -- the entry writes in the slot area
 abbrev pub touches : Range → Submission → Bool

@@ -1,63 +1,35 @@
 //! What holds of the definitions, each as the contract of a function that does nothing.
 
-ghost use Rattle.std.specs.Prelude.{◌≡◌, slice_get, ◌≤◌, ◌⊎◌, is_some, ℕ, List, Some, None, true, false, take, map, reverse, [], ◌∷◌};
+ghost use Rattle.std.specs.Prelude.{◌≡◌, slice_get, ◌+◌, ◌<◌, ◌≤◌, ◌↔◌, is_some, ℕ, List, Some, None, true, false, take, map, length, suc, ◌∷◌, []};
+ghost use Rattle.std.specs.List.{list_any, sum_by};
 ghost use Rattle.nvme_model.specs.Config.{completion_queue};
-ghost use Rattle.nvme_model.specs.declared.config.ConfigNumbers.{ConfigNumbers};
-ghost use Rattle.nvme_model.specs.declared.config.AtomicParameters.{AtomicParameters};
 ghost use Rattle.nvme_model.specs.Array.{blocks_from};
+ghost use Rattle.nvme_model.specs.Cells.{is_atomic};
 ghost use Rattle.nvme_model.specs.Cut.{IsCut, cut};
+ghost use Rattle.nvme_model.specs.EntryBytes.{blocks};
 ghost use Rattle.nvme_model.specs.History.{Past};
-ghost use Rattle.nvme_model.specs.Tickets.{tickets, ticket, posts_of, in_flight};
-ghost use Rattle.nvme_model.specs.Operations.{op, has_compare, is_pair};
-ghost use Rattle.nvme_model.specs.Open.{open_units, unit_range, is_written};
+ghost use Rattle.nvme_model.specs.Tickets.{tickets, ticket, posts_of, in_flight, first_fields};
+ghost use Rattle.nvme_model.specs.Operations.{op, has_compare, is_pair, units};
+ghost use Rattle.nvme_model.specs.Open.{open_units, unit_range, grants_of, blocks_made, blocks_of, steps_needed, is_written};
 ghost use Rattle.nvme_model.specs.Value.{value, all_equal};
 ghost use Rattle.nvme_model.specs.Medium.{medium};
 ghost use Rattle.nvme_model.specs.Completions.{posted};
-ghost use Rattle.nvme_model.specs.Placed.{effect};
+ghost use Rattle.nvme_model.specs.Placed.{effect, effects_of};
 ghost use Rattle.nvme_model.specs.Answered.{says_no};
-ghost use Rattle.nvme_model.specs.Owed.{some_no, all_done};
 ghost use Rattle.nvme_model.specs.Refusals.{refusal};
-ghost use Rattle.nvme_model.specs.Legal.{legal, IsLegal, IsLegalFile};
+ghost use Rattle.nvme_model.specs.Legal.{IsLegal, IsLegalFile};
 ghost use Rattle.nvme_model.specs.FirstBad.{first_bad, IsFirstBad};
 ghost use Rattle.nvme_model.specs.Steps.{run, ready};
 ghost use Rattle.nvme_model.specs.Sequential.{sequential, answers, IsPosted, IsReaped};
 ghost use Rattle.nvme_model.specs.Laws.{Apart, MarkedRight, is_held, OwesToFull, IsNumber};
-ghost use Rattle.nvme_model.specs.Examples.{default, one_write_by, lost_pair};
 ghost use Rattle.nvme_model.specs.declared.array.Range.{Range};
+ghost use Rattle.nvme_model.specs.declared.config.AtomicParameters.{AtomicParameters};
+ghost use Rattle.nvme_model.specs.declared.config.ConfigNumbers.{ConfigNumbers};
 ghost use Rattle.nvme_model.specs.declared.entry.BlockLine.{BlockLine};
 ghost use Rattle.nvme_model.specs.declared.entry.PostLine.{PostLine};
 ghost use Rattle.nvme_model.specs.declared.entry.ReapLine.{ReapLine};
 ghost use Rattle.nvme_model.specs.declared.entry.Entry.{Entry};
 ghost use Rattle.nvme_model.specs.declared.step.Step.{Step};
-
-/// `cut` is the one list of maximal atomic ranges.
-pub fn one_cut()
-    ensures is { (u : AtomicParameters) (s n : ℕ) → IsCut u s n (cut u s n) }
-    ensures unique { (u : AtomicParameters) (s n : ℕ) (rs : List Range) → IsCut u s n rs → rs ≡ cut u s n }
-{}
-
-/// Each beginning of a legal history is legal.
-pub fn beginnings_are_legal()
-    ensures { (c : ConfigNumbers) (entries : List Entry) (k : ℕ) → IsLegalFile c entries → IsLegalFile c (take k entries) }
-{}
-
-/// No two open units of a legal history conflict.
-pub fn open_units_are_apart()
-    ensures { (c : ConfigNumbers) (past : Past) → IsLegal c past → Apart (open_units past) }
-{}
-
-/// Where no open Exclusive unit has a block, what lies in the volume is its value.
-pub fn volume_is_value()
-    ensures { (c : ConfigNumbers) (past : Past) (l : ℕ) → IsLegal c past → MarkedRight past → is_held past l ≡ false → medium past l ≡ value past l }
-{}
-
-/// Worked histories, and edits of them that are not legal.
-pub fn worked_histories()
-    ensures one_write { legal default (reverse (one_write_by true)) ≡ true }
-    ensures without_mark { legal default (reverse (take 4 (one_write_by false))) ≡ true }
-    ensures without_mark_bad { legal default (reverse (take 5 (one_write_by false))) ≡ false }
-    ensures lost_pair { legal default (reverse lost_pair) ≡ true }
-{}
 
 /// Whatever steps are asked, the history is legal, and where no open Exclusive unit has a block the volume is its value.
 pub fn every_run_is_legal()
@@ -74,19 +46,44 @@ pub fn one_operation_at_a_time()
     ensures reaped { (c : ConfigNumbers) (past : Past) (r : ReapLine) → IsLegal c (Entry.Reap r ∷ past) → IsReaped c past r }
 {}
 
-/// Each effect of a legal history stands once, after its ticket's Fetch and before its first Post;
-/// a ticket with an operation posts only once an effect says no or each of its units has its effect; and what says no writes nothing.
-pub fn effects_stand_in_their_places()
-    ensures fetched { (c : ConfigNumbers) (past : Past) (b : BlockLine) → IsLegal c (Entry.Block b ∷ past) → (1 ≤ b.ticket) × (b.ticket ≤ tickets past) }
-    ensures unposted { (c : ConfigNumbers) (past : Past) (b : BlockLine) → IsLegal c (Entry.Block b ∷ past) → posts_of past b.ticket ≡ 0 }
-    ensures once { (c : ConfigNumbers) (past : Past) (b : BlockLine) → IsLegal c (Entry.Block b ∷ past) → b.effect ≡ true → effect past b.ticket b.unit ≡ None }
-    ensures served { (c : ConfigNumbers) (past : Past) (p : PostLine) → IsLegal c (Entry.Post p ∷ past) → is_some (op (ticket past p.ticket)) ≡ true → (some_no c past p.ticket ≡ true) ⊎ (all_done c past p.ticket ≡ true) }
-    ensures no_writes_nothing { (past : Past) (b : BlockLine) (l : ℕ) → has_compare (op (ticket past b.ticket)) ≡ true → all_equal (value past) (ticket past b.ticket) (unit_range past b.ticket b.unit) ≡ false → value (Entry.Block b ∷ past) l ≡ value past l }
+/// Each unit of a ticket that passed its checks and has posted, up to the first that says no, has exactly one effect;
+/// no unit has two, a unit has its effect after the unit before it, and each effect stands after its ticket's Fetch and before its first Post.
+pub fn each_served_unit_takes_effect_once()
+    ensures served { (c : ConfigNumbers) (past : Past) (t u : ℕ) → IsLegal c past → 1 ≤ posts_of past t → is_some (op (ticket past t)) ≡ true → u < length (units c (ticket past t)) → ((v : ℕ) → v < u → says_no past t v ≡ false) → effects_of past t u ≡ 1 }
+    ensures most { (c : ConfigNumbers) (past : Past) (t u : ℕ) → IsLegal c past → effects_of past t u ≤ 1 }
+    ensures in_order { (c : ConfigNumbers) (past : Past) (t u : ℕ) → IsLegal c past → is_some (effect past t (suc u)) ≡ true → is_some (effect past t u) ≡ true }
+    ensures stands { (c : ConfigNumbers) (past : Past) (t u : ℕ) (before : Past) → IsLegal c past → effect past t u ≡ Some before → (1 ≤ t) × (t ≤ tickets before) × (posts_of before t ≡ 0) }
 {}
 
-/// Where each mark stands as this engine puts it, a pair that says no has no block written.
+/// A pair whose effect says no has no block written, ever, wherever its mark stands; and such an effect leaves every value as it was.
 pub fn a_pair_that_differs_writes_nothing()
-    ensures { (c : ConfigNumbers) (past : Past) (b : BlockLine) → IsLegal c (Entry.Block b ∷ past) → MarkedRight (Entry.Block b ∷ past) → is_pair (op (ticket past b.ticket)) ≡ true → is_written b.found ≡ true → says_no (Entry.Block b ∷ past) b.ticket b.unit ≡ false }
+    ensures unwritten { (c : ConfigNumbers) (past : Past) (t u : ℕ) → IsLegal c past → is_pair (op (ticket past t)) ≡ true → says_no past t u ≡ true → list_any (λ b. is_written b.found) (blocks_made past t u) ≡ false }
+    ensures value { (past : Past) (b : BlockLine) (l : ℕ) → has_compare (op (ticket past b.ticket)) ≡ true → all_equal (value past) (ticket past b.ticket) (unit_range past b.ticket b.unit) ≡ false → value (Entry.Block b ∷ past) l ≡ value past l }
+{}
+
+/// Where no open Exclusive unit has a block, what lies in the volume is its value.
+pub fn volume_is_value()
+    ensures { (c : ConfigNumbers) (past : Past) (l : ℕ) → IsLegal c past → MarkedRight past → is_held past l ≡ false → medium past l ≡ value past l }
+{}
+
+/// No two open units of a legal history conflict.
+pub fn open_units_are_apart()
+    ensures { (c : ConfigNumbers) (past : Past) → IsLegal c past → Apart (open_units past) }
+{}
+
+/// `cut` is the one list of maximal atomic ranges; its ranges have all the blocks; and it is one range exactly for an atomic one.
+pub fn one_cut()
+    ensures is { (u : AtomicParameters) (s n : ℕ) → IsCut u s n (cut u s n) }
+    ensures unique { (u : AtomicParameters) (s n : ℕ) (rs : List Range) → IsCut u s n rs → rs ≡ cut u s n }
+    ensures sum { (u : AtomicParameters) (s n : ℕ) → sum_by (λ r. r.blocks) (cut u s n) ≡ n }
+    ensures one { (u : AtomicParameters) (s n : ℕ) → (length (cut u s n) ≡ 1) ↔ (is_atomic u s n ≡ true) }
+{}
+
+/// A ticket of n blocks in m units has at most m Grants and n Blocks, 2n in a pair; a Flush, and a ticket that failed its checks, have none.
+pub fn a_ticket_has_few_steps()
+    ensures grants { (c : ConfigNumbers) (past : Past) (t : ℕ) → IsLegal c past → grants_of past t ≤ length (units c (ticket past t)) }
+    ensures blocks { (c : ConfigNumbers) (past : Past) (t : ℕ) → IsLegal c past → blocks_of past t ≤ steps_needed (ticket past t) (blocks (first_fields (ticket past t))) }
+    ensures idle { (c : ConfigNumbers) (past : Past) (t : ℕ) → IsLegal c past → op (ticket past t) ≡ None → (grants_of past t ≡ 0) × (blocks_of past t ≡ 0) }
 {}
 
 /// The completions of a completion queue have their phases by their numbers on that queue, whichever submission queues they are for.
@@ -103,6 +100,11 @@ pub fn each_has_its_own_completion_queue()
 pub fn never_stuck()
     ensures stuck { (c : ConfigNumbers) (past : Past) (t : ℕ) → IsLegal c past → ready c past ≡ None → in_flight past t ≡ true → OwesToFull c past t }
     ensures allowed { (c : ConfigNumbers) (past : Past) (step : Step) → ready c past ≡ Some step → refusal c past step ≡ None }
+{}
+
+/// Each beginning of a legal history is legal.
+pub fn beginnings_are_legal()
+    ensures { (c : ConfigNumbers) (entries : List Entry) (k : ℕ) → IsLegalFile c entries → IsLegalFile c (take k entries) }
 {}
 
 /// A list of entries is legal, or there is one first place at which it is not.

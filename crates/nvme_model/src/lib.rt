@@ -10,3 +10,5 @@ pub mod refusal;
 pub mod status;
 pub mod step;
 pub mod submission;
+#[cfg(test)]
+mod tests;

@@ -4,7 +4,7 @@ ghost use Rattle.std.specs.Prelude.{◌≡◌, ◌<◌};
 
 use std::marker::Model;
 
-/// A status: its Status Code Type, below 8, and its Status Code (Base 2.0, Status Field).
+/// A status: its Status Code Type, below 8, and its Status Code (NVM Express Base 2.0, Status Field).
 #[derive(Clone, Copy, Debug, PartialEq, Eq)]
 pub struct Status {
     sct: u8,
