@@ -1,0 +1,12 @@
+pub mod Known
+pub mod Spelling
+pub mod Pieces
+pub mod Moves
+pub mod LineLaws
+pub mod NumberLaws
+pub mod HexLaws
+pub mod WordLaws
+pub mod BlockLaws
+pub mod DataLaws
+pub mod DataReading
+pub mod DataWriting

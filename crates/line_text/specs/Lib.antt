@@ -1,0 +1,6 @@
+pub mod Known
+pub mod Lines
+pub mod Number
+pub mod Digits
+pub mod Data
+pub mod Words
