@@ -1,0 +1,4 @@
+pub mod Ends
+pub mod Longest
+pub mod Steps
+pub mod Tiling
