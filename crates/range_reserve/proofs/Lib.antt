@@ -1,0 +1,3 @@
+pub mod Kept
+pub mod Pairs
+pub mod Granted

@@ -1,0 +1,103 @@
+-- Any two that are held.
+use Rattle.std.proofs.Common.{◌≡◌, ◌≢◌, ℕ, zero, suc, ◌+◌, ◌≤◌, ◌<◌, ◌↔◌, Bool, true, false, ◌&&◌, ◌||◌, List, [], ◌∷◌, None, Some, refl, sym, ap, ◌∙◌, arith, inl, inr, slice_get, eq-eqb, ltb-true, lt-ltb, le-ltb, le-leb, leb-true, nat_le, nat_lt, ◌==◌, true≢false}
+use Rattle.std.specs.List.{list_any}
+use Rattle.std.proofs.lemmas.Bool.{and_from, and_parts, and_right, cases_lt, false_from_ne_true, or_left, or_parts}
+use Rattle.nvme_model.specs.Array.{has_block, overlap}
+use Rattle.nvme_model.specs.Open.{conflict}
+use Rattle.nvme_model.specs.Operations.{is_exclusive}
+use Rattle.nvme_model.specs.declared.array.Mode.{Mode}
+use Rattle.nvme_model.specs.declared.array.Range.{Range}
+use Rattle.range_reserve.specs.declared.held.Held.{Held}
+use Rattle.range_reserve.specs.Reserved.{AreApart, IsRange}
+
+-- ---- two ranges
+
+and_turned : (a b : Bool) → (a && b) ≡ (b && a)
+and_turned true true = refl
+and_turned true false = refl
+and_turned false true = refl
+and_turned false false = refl
+
+or_turned : (a b : Bool) → (a || b) ≡ (b || a)
+or_turned true true = refl
+or_turned true false = refl
+or_turned false true = refl
+or_turned false false = refl
+
+-- neither range comes first
+pub conflict-turned : (r : Range) (m : Mode) (s : Range) (n : Mode) → conflict r m s n ≡ conflict s n r m
+conflict-turned r m s n =
+    ap (λ b. b && (is_exclusive m || is_exclusive n)) (and_turned (nat_lt r.slba (s.slba + s.blocks)) (nat_lt s.slba (r.slba + r.blocks)))
+    ∙ ap (λ b. overlap s r && b) (or_turned (is_exclusive m) (is_exclusive n))
+
+-- what has a block
+record Has (r : Range) (l : ℕ) : Type 0 where
+  pub from : r.slba ≤ l
+  pub below : l < r.slba + r.blocks
+
+has_parts : (r : Range) (l : ℕ) → has_block r l ≡ true → Has r l
+has_parts r l h =
+    let k : (nat_le r.slba l ≡ true) × (nat_lt l (r.slba + r.blocks) ≡ true) = and_parts (nat_le r.slba l) (nat_lt l (r.slba + r.blocks)) h in
+    record { from = leb-true r.slba l k.0; below = ltb-true l (r.slba + r.blocks) k.1 }
+
+has_from : (r : Range) (l : ℕ) → r.slba ≤ l → l < r.slba + r.blocks → has_block r l ≡ true
+has_from r l a b = and_from _ _ (le-leb r.slba l a) (lt-ltb l (r.slba + r.blocks) b)
+
+overlap_from : (r s : Range) (l : ℕ) → has_block r l ≡ true → has_block s l ≡ true → overlap r s ≡ true
+overlap_from r s l h k =
+    let a : Has r l = has_parts r l h in
+    let b : Has s l = has_parts s l k in
+    and_from _ _ (lt-ltb r.slba (s.slba + s.blocks) (omega (arith, a.from, b.below))) (lt-ltb s.slba (r.slba + r.blocks) (omega (arith, b.from, a.below)))
+
+shared : (r s : Range) → IsRange r → IsRange s → overlap r s ≡ true → (l : ℕ) × (has_block r l ≡ true) × (has_block s l ≡ true)
+shared r s a b o =
+    let k : (nat_lt r.slba (s.slba + s.blocks) ≡ true) × (nat_lt s.slba (r.slba + r.blocks) ≡ true) = and_parts (nat_lt r.slba (s.slba + s.blocks)) (nat_lt s.slba (r.slba + r.blocks)) o in
+    let first : r.slba < s.slba + s.blocks = ltb-true r.slba (s.slba + s.blocks) k.0 in
+    let second : s.slba < r.slba + r.blocks = ltb-true s.slba (r.slba + r.blocks) k.1 in
+    elim (cases_lt r.slba s.slba) [
+      | inl e ↦ (s.slba, has_from r s.slba (omega (arith, e)) second, has_from s s.slba (omega arith) (omega (arith, b.0)))
+      | inr e ↦ (r.slba, has_from r r.slba (omega arith) (omega (arith, a.0)), has_from s r.slba e first)
+    ]
+
+-- ranges overlap where they share a block
+pub overlap_shared : (r s : Range) → IsRange r → IsRange s → (overlap r s ≡ true) ↔ ((l : ℕ) × (has_block r l ≡ true) × (has_block s l ≡ true))
+overlap_shared r s a b = (shared r s a b, λ k. overlap_from r s k.0 k.1 k.2)
+
+pub overlap_touching : (r s : Range) → r.slba + r.blocks ≡ s.slba → overlap r s ≡ false
+overlap_touching r s e = and_right (nat_lt r.slba (s.slba + s.blocks)) _ (le-ltb s.slba (r.slba + r.blocks) (omega (arith, e)))
+
+-- ---- two that are held
+
+none_at : {X : Type 0} (p : X → Bool) (xs : List X) (i : ℕ) (y : X) → list_any p xs ≡ false → slice_get xs i ≡ Some y → p y ≡ false
+none_at p [] i y h e = absurd (let f : None ≡ Some y = e in cc)
+none_at p (x ∷ xs) zero y h e = let f : Some x ≡ Some y = e in let g : x ≡ y = cc in ap p (sym g) ∙ (or_parts (p x) (list_any p xs) h).0
+none_at p (x ∷ xs) (suc i) y h e = none_at p xs i y (or_parts (p x) (list_any p xs) h).1 e
+
+-- two that don't conflict, of two tickets
+pub record ArePair (g h : Held) : Type 0 where
+  pub conflict : conflict g.range g.mode h.range h.mode ≡ false
+  pub ticket : g.ticket ≢ h.ticket
+
+turned : (g h : Held) → ArePair g h → ArePair h g
+turned g h p = record {
+  conflict = conflict-turned h.range h.mode g.range g.mode ∙ p.conflict;
+  ticket = λ e. p.ticket (sym e);
+}
+
+first_pair : (x : Held) (xs : List Held) (i : ℕ) (y : Held) → AreApart (x ∷ xs) → slice_get xs i ≡ Some y → ArePair x y
+first_pair x xs i y a e = record {
+  conflict = none_at (λ h. conflict x.range x.mode h.range h.mode) xs i y a.2 e;
+  ticket = λ (t : x.ticket ≡ y.ticket). true≢false (sym (eq-eqb y.ticket x.ticket (sym t)) ∙ none_at (λ h. h.ticket == x.ticket) xs i y a.1 e);
+}
+
+pub pair_at : (held : List Held) (i j : ℕ) (g h : Held) → AreApart held → i ≢ j → slice_get held i ≡ Some g → slice_get held j ≡ Some h → ArePair g h
+pair_at [] i j g h a n d e = absurd (let f : None ≡ Some g = d in cc)
+pair_at (x ∷ xs) zero zero g h a n d e = absurd (n refl)
+pair_at (x ∷ xs) zero (suc j) g h a n d e = let f : Some x ≡ Some g = d in let k : x ≡ g = cc in rw k at (first_pair x xs j h a e)
+pair_at (x ∷ xs) (suc i) zero g h a n d e = let f : Some x ≡ Some h = e in let k : x ≡ h = cc in turned h g (rw k at (first_pair x xs i g a d))
+pair_at (x ∷ xs) (suc i) (suc j) g h a n d e = pair_at xs i j g h a.3 (λ (s : i ≡ j). n (ap suc s)) d e
+
+-- a block of an Exclusive range is in no other
+pub alone : (g h : Held) (l : ℕ) → ArePair g h → is_exclusive g.mode ≡ true → has_block g.range l ≡ true → has_block h.range l ≡ false
+alone g h l p x b = false_from_ne_true (has_block h.range l) (λ (k : has_block h.range l ≡ true).
+    true≢false (sym (and_from (overlap g.range h.range) (is_exclusive g.mode || is_exclusive h.mode) (overlap_from g.range h.range l b k) (or_left (is_exclusive g.mode) (is_exclusive h.mode) x)) ∙ p.conflict))

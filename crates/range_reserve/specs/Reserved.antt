@@ -1,0 +1,47 @@
+-- What tickets hold.
+use Rattle.std.specs.List.{filter, find, list_any}
+use Rattle.std.specs.Option.{option_map}
+use Rattle.std.specs.Prelude.{Bool, List, Option, Some, [], false, not, slice_get, ℕ, ◌+◌, ◌==◌, ◌∷◌, ◌≡◌, ◌≢◌, ◌≤◌}
+use Rattle.nvme_model.specs.Open.{conflict}
+use Rattle.nvme_model.specs.declared.array.Mode.{Mode}
+use Rattle.nvme_model.specs.declared.array.Range.{Range}
+use Rattle.nvme_model.specs.declared.entry.GrantLine.{GrantLine}
+use Rattle.range_reserve.specs.declared.held.Held.{Held}
+
+-- what is held, the newest first, and how many grants need no memory
+pub record Reserved : Type 0 where
+  pub held : List Held
+  pub room : ℕ
+
+-- the ticket holds a range
+abbrev pub has_ticket : List Held → ℕ → Bool
+has_ticket held t = list_any (λ h. h.ticket == t) held
+
+-- the range conflicts with one that is held
+abbrev pub has_conflict : List Held → Range → Mode → Bool
+has_conflict held r m = list_any (λ h. conflict r m h.range h.mode) held
+
+-- what the ticket holds
+abbrev pub held_by : List Held → ℕ → Option (Range × Mode)
+held_by held t = option_map (λ h. (h.range, h.mode)) (find (λ h. h.ticket == t) held)
+
+-- what others hold
+abbrev pub held_beside : List Held → ℕ → List Held
+held_beside held t = filter (λ h. not (h.ticket == t)) held
+
+-- it has a block, and each block of it can be one of a volume
+abbrev pub IsRange : Range → Type 0
+IsRange r = (1 ≤ r.blocks) × (r.slba + r.blocks ≤ 65536)
+
+-- each ticket holds one range, and no range conflicts with another
+abbrev pub AreApart : List Held → Type 0
+AreApart [] = Unit {0}
+AreApart (h ∷ hs) = IsRange h.range × (has_ticket hs h.ticket ≡ false) × (has_conflict hs h.range h.mode ≡ false) × AreApart hs
+
+-- g and h are held, at two places of the list
+abbrev pub AreTwo : List Held → ℕ → ℕ → Held → Held → Type 0
+AreTwo held i j g h = (i ≢ j) × (slice_get held i ≡ Some g) × (slice_get held j ≡ Some h)
+
+-- what the grant of a unit holds
+abbrev pub held_of : GrantLine → Held
+held_of g = record { ticket = g.ticket; range = g.range; mode = g.mode }

@@ -1,0 +1,10 @@
+//! Which ranges of blocks tickets hold, each alone or beside others.
+#![tactic(auto)]
+
+mod conflicts;
+mod held;
+pub mod laws;
+mod ranges;
+
+pub use held::Held;
+pub use ranges::Ranges;

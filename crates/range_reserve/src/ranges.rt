@@ -1,0 +1,121 @@
+//! The ranges that tickets hold.
+
+ghost use Rattle.std.specs.Prelude.{◌≡◌, ◌+◌, ◌-◌, ◌≤◌, ◌↔◌, ◌⊎◌, [], ◌∷◌, IfErr, IsTrue, OnErr, OnOk, false, is_some, reverse, vec_capacity, vec_len};
+ghost use Rattle.range_reserve.specs.Reserved.{AreApart, IsRange, has_conflict, has_ticket, held_beside, held_by};
+
+use crate::conflicts::has_conflict;
+use crate::held::{Held, held_by};
+use nvme_model::array::{Mode, Range};
+use nvme_model::refusal::Why;
+use std::alloc::{AllocError as NoMemory, Global};
+use std::marker::Model;
+
+/// The ranges that tickets hold, seen as the list of them, the newest first, with how many grants need no memory.
+///
+/// Each ticket holds one range at most, and no two ranges conflict: they share no block, or both are Shared.
+#[derive(Drop)]
+pub struct Ranges {
+    held: Vec<Held>,
+}
+
+impl Model for Ranges {
+    ghost use Rattle.std.specs.Prelude.{◌-◌, reverse, vec_capacity, vec_len};
+    ghost use Rattle.range_reserve.specs.Reserved.{AreApart, Reserved};
+
+    ghost Value = { Reserved };
+
+    ghost view = { λ r. record { held = reverse r.held.items; room = vec_capacity r.held - vec_len r.held } };
+
+    ghost invariant = { λ r. AreApart (reverse r.held.items) };
+}
+
+impl Ranges {
+    /// No range is held. Takes no memory.
+    pub fn new(alloc: Global) -> Ranges
+        ensures held { result.held ≡ [] }
+    {
+        Ranges {
+            held: Vec::new(alloc),
+        }
+    }
+
+    /// Makes room, so that the next `more` grants need no memory.
+    ///
+    /// # Errors
+    ///
+    /// `NoMemory` where a growth is refused. What is held is the same in both outcomes, and the room is no less.
+    pub fn reserve(&mut self, more: usize) -> Result<(), NoMemory>
+        ensures ok { OnOk result (more ≤ self.new.room) }
+        ensures room { self.old.room ≤ self.new.room }
+        ensures held { self.new.held ≡ self.old.held }
+    {
+        self.held.reserve(more)
+    }
+
+    /// Whether a grant of this range would be a conflict with one that is held.
+    pub fn conflicts(&self, range: Range, mode: Mode) -> bool
+        ensures conflicts { result ≡ has_conflict self.now.held range mode }
+        ensures law { AreApart self.now.held }
+    {
+        has_conflict(self.held.as_slice(), range, mode)
+    }
+
+    /// What the ticket holds.
+    pub fn holds(&self, ticket: u64) -> Option<(Range, Mode)>
+        ensures holds { result ≡ held_by self.now.held ticket }
+        ensures any { is_some result ≡ has_ticket self.now.held ticket }
+        ensures law { AreApart self.now.held }
+    {
+        held_by(self.held.as_slice(), ticket)
+    }
+
+    /// Makes the ticket, which holds no range, hold this one.
+    ///
+    /// # Errors
+    ///
+    /// `Conflict` where one that is held conflicts with it; else `NoMemory` where there was no room and a growth is refused.
+    /// What is held is then as before.
+    pub fn grant(&mut self, ticket: u64, range: Range, mode: Mode) -> Result<(), Why>
+        requires free { has_ticket self.old.held ticket ≡ false }
+        requires range { IsRange range }
+        ensures ok { OnOk result (self.new.held ≡ record { ticket = ticket; range = range; mode = mode } ∷ self.old.held) }
+        ensures err { OnErr result (self.new.held ≡ self.old.held) }
+        ensures law { AreApart self.new.held }
+
+        // Which error it is.
+        ensures errors { IfErr result (λ why. (why ≡ Why.Conflict) ⊎ (why ≡ Why.NoMemory)) }
+        ensures conflict { (result ≡ Err Why.Conflict) ↔ IsTrue (has_conflict self.old.held range mode) }
+        ensures memory { result ≡ Err Why.NoMemory → self.old.room ≡ 0 }
+
+        // One grant takes room for one.
+        ensures room { OnOk result (self.old.room ≤ self.new.room + 1) }
+        ensures room_kept { OnErr result (self.old.room ≤ self.new.room) }
+    {
+        if self.conflicts(range, mode) {
+            return Err(Why::Conflict);
+        }
+        let held = Held {
+            ticket,
+            range,
+            mode,
+        };
+        if self.held.push(held).is_err() {
+            return Err(Why::NoMemory);
+        }
+        Ok(())
+    }
+
+    /// Makes the ticket hold nothing; where it holds nothing, this changes nothing.
+    pub fn release(&mut self, ticket: u64)
+        ensures released { self.new.held ≡ held_beside self.old.held ticket }
+        ensures absent { has_ticket self.old.held ticket ≡ false → self.new.held ≡ self.old.held }
+        ensures free { has_ticket self.new.held ticket ≡ false }
+        ensures room { self.old.room ≤ self.new.room }
+        ensures law { AreApart self.new.held }
+    {
+        self.held.retain(|held| held.ticket != ticket);
+    }
+}
+
+#[cfg(test)]
+mod tests;
