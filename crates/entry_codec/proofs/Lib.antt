@@ -1,0 +1,3 @@
+pub mod LittleLemmas
+pub mod SqeLemmas
+pub mod CqeLemmas

@@ -1,0 +1,4 @@
+pub mod Bytes
+pub mod Fuse
+pub mod Sqe
+pub mod Cqe

@@ -1,0 +1,14 @@
+//! Submission queue entries and completion queue entries, to and from their bytes.
+#![tactic(auto)]
+
+mod cqe;
+mod fuse;
+pub mod laws;
+mod little;
+mod sqe;
+#[cfg(test)]
+mod tests;
+
+pub use crate::cqe::{Cqe, CqeFault, decode_cqe, encode_cqe};
+pub use crate::fuse::Fuse;
+pub use crate::sqe::{Sqe, decode_sqe, encode_sqe};
