@@ -1,0 +1,153 @@
+-- How far a run has come, and how it goes on.
+use Rattle.std.proofs.Common.{◌≡◌, ℕ, ◌+◌, List, [], ◌∷◌, ◌++◌, None, Some, refl, sym, ap, ◌∙◌, subst, append_assoc, append-nil}
+use Rattle.std.specs.Prelude.{Option, Result, Ok, Err}
+use Rattle.std.specs.Io.KnownBytes.{Appends, Consumes, Keeps, IsAtEnd}
+use Rattle.std.proofs.KnownBytes.{Appends-trans, Appends-kept, Consumes-trans, Consumes-whole}
+use Rattle.line_text.specs.Known.{AppendsFront}
+use Rattle.line_text.specs.Lines.{NoFeed, Gives, GivesFront, whole_lines, rest_line}
+use Rattle.line_text.proofs.Known.{front_first, front_second, known_input}
+use Rattle.line_text.proofs.LineLaws.{whole_is_first, rest_is_last}
+use Rattle.nvme_model.specs.History.{Past}
+use Rattle.casdisk_script.specs.Meaning.{Meaning, StopsInLine}
+use Rattle.casdisk_script.specs.Script.{Outcome, End, done, bad_line, bad_config, ending, prefixed, after_line, lines_print}
+use Rattle.casdisk_script.specs.Running.{lines_from, PrintsAll, PrintsFront, Runs, IsStop}
+use Rattle.casdisk_script.specs.declared.fault.RunFault.{RunFault}
+use Rattle.casdisk_script.specs.declared.fault.RunFault.TheVariants.{BadLine, BadConfig, Input, Output, NoMemory}
+
+-- some bytes were read and some text was written, and the rest of the input prints what its lines from number n on do
+pub record Reached (outcome : List ℕ → Outcome) (meaning : Meaning) (past : Past) (n : ℕ) (r s w v : Option (List ℕ)) (held : List ℕ) : Type 0 where
+  pub bytes : List ℕ
+  pub consumed : Consumes r s bytes
+  pub out : List ℕ
+  pub written : Appends w v out
+  pub agrees : (more : List ℕ) → outcome (bytes ++ more) ≡ prefixed out (lines_from meaning past n held more)
+
+pub prefixed_twice : (a b : List ℕ) (o : Outcome) → prefixed a (prefixed b o) ≡ prefixed (a ++ b) o
+prefixed_twice a b o = ap (λ t. record { text = t; end = o.end }) (sym (append_assoc a b o.text))
+
+-- ---- one line
+
+print_good : (meaning : Meaning) (past : Past) (n : ℕ) (line : List ℕ) (lines : List (List ℕ)) (rest : List ℕ) (x : Past × List ℕ) → meaning past line ≡ Some x
+    → lines_print meaning past n (line ∷ lines) rest ≡ prefixed x.1 (lines_print meaning x.0 (n + 1) lines rest)
+unfolding lines_print
+print_good meaning past n line lines rest x e = ap (λ o. after_line n o (λ after. lines_print meaning after (n + 1) lines rest)) e
+
+print_bad : (meaning : Meaning) (past : Past) (n : ℕ) (line : List ℕ) (lines : List (List ℕ)) (rest : List ℕ) → meaning past line ≡ None → lines_print meaning past n (line ∷ lines) rest ≡ ending (bad_line n)
+unfolding lines_print
+print_bad meaning past n line lines rest e = ap (λ o. after_line n o (λ after. lines_print meaning after (n + 1) lines rest)) e
+
+print_end : (meaning : Meaning) (past : Past) (n : ℕ) → lines_print meaning past n [] [] ≡ ending done
+unfolding lines_print
+print_end meaning past n = refl
+
+print_cut : (meaning : Meaning) (past : Past) (n b : ℕ) (bs : List ℕ) → lines_print meaning past n [] (b ∷ bs) ≡ ending (bad_line n)
+unfolding lines_print
+print_cut meaning past n b bs = refl
+
+pub print_none : (meaning : Meaning) (past : Past) (n : ℕ) (rest : List ℕ) → rest ≡ [] → lines_print meaning past n [] rest ≡ ending done
+print_none meaning past n rest e = ap (λ l. lines_print meaning past n [] l) e ∙ print_end meaning past n
+
+pub print_rest : (meaning : Meaning) (past : Past) (n : ℕ) (rest : List ℕ) → (rest ≡ [] → ⊥) → lines_print meaning past n [] rest ≡ ending (bad_line n)
+print_rest meaning past n [] h = absurd (h refl)
+print_rest meaning past n (b ∷ bs) h = print_cut meaning past n b bs
+
+-- ---- the next call
+
+module _ (outcome : List ℕ → Outcome) (meaning : Meaning) (past : Past) (n : ℕ) (r s t w v : Option (List ℕ)) (held : List ℕ) (at : Reached outcome meaning past n r s w v held) where
+  -- all that follows, after a line was read
+  meant : (after line more : List ℕ) (g : Gives s t held after (line ++ 10 ∷ [])) → NoFeed line
+      → outcome ((at.bytes ++ g.bytes) ++ more) ≡ prefixed at.out (lines_print meaning past n (line ∷ whole_lines (after ++ more)) (rest_line (after ++ more)))
+  meant after line more g plain =
+      let first = whole_is_first s t held after line more g plain in
+      ap outcome (append_assoc at.bytes g.bytes more)
+      ∙ at.agrees (g.bytes ++ more)
+      ∙ ap (λ l. prefixed at.out (lines_print meaning past n l (rest_line (held ++ (g.bytes ++ more))))) first.0
+      ∙ ap (λ l. prefixed at.out (lines_print meaning past n (line ∷ whole_lines (after ++ more)) l)) first.1
+
+  pub goes_on : (after line : List ℕ) (u : Option (List ℕ)) (x : Past × List ℕ) → Gives s t held after (line ++ 10 ∷ []) → NoFeed line → meaning past line ≡ Some x → Appends v u x.1
+      → Reached outcome meaning x.0 (n + 1) r t w u after
+  goes_on after line u x g plain e p =
+      record {
+        bytes = at.bytes ++ g.bytes;
+        consumed = Consumes-trans r s t at.bytes g.bytes at.consumed g.consumed;
+        out = at.out ++ x.1;
+        written = Appends-trans w v u at.out x.1 at.written p;
+        agrees = λ more. meant after line more g plain ∙ ap (prefixed at.out) (print_good meaning past n line (whole_lines (after ++ more)) (rest_line (after ++ more)) x e) ∙ prefixed_twice at.out x.1 (lines_from meaning x.0 (n + 1) after more);
+      }
+
+  pub ends_bad : (after line : List ℕ) (u : Option (List ℕ)) → Gives s t held after (line ++ 10 ∷ []) → NoFeed line → meaning past line ≡ None → Keeps v u → PrintsAll outcome (bad_line n) r w u
+  ends_bad after line u g plain e p =
+      known_input r t (at.bytes ++ g.bytes) _ (Consumes-trans r s t at.bytes g.bytes at.consumed g.consumed) (λ more.
+      let is : outcome ((at.bytes ++ g.bytes) ++ more) ≡ prefixed at.out (ending (bad_line n)) = meant after line more g plain ∙ ap (prefixed at.out) (print_bad meaning past n line _ _ e) in
+      let text : at.out ≡ (outcome ((at.bytes ++ g.bytes) ++ more)).text = sym (append-nil at.out) ∙ sym (ap (λ (o : Outcome). o.text) is) in
+      (ap (λ (o : Outcome). o.end) is, subst (Appends w u) text (Appends-kept w v u at.out at.written p)))
+
+  pub front_stopped : (after line : List ℕ) (u : Option (List ℕ)) → Gives s t held after (line ++ 10 ∷ []) → NoFeed line → StopsInLine meaning past line v u → PrintsFront outcome r t w u
+  front_stopped after line u g plain h =
+      let is : outcome ((at.bytes ++ g.bytes) ++ []) ≡ prefixed at.out (prefixed h.0.1 (lines_from meaning h.0.0 (n + 1) after [])) =
+      meant after line [] g plain ∙ ap (prefixed at.out) (print_good meaning past n line (whole_lines (after ++ [])) (rest_line (after ++ [])) h.0 h.1) in
+      let all : outcome (at.bytes ++ g.bytes) ≡ prefixed at.out (prefixed h.0.1 (lines_from meaning h.0.0 (n + 1) after [])) = ap outcome (sym (append-nil (at.bytes ++ g.bytes))) ∙ is in
+      let text = ap (λ (o : Outcome). o.text) all in (
+        at.bytes ++ g.bytes,
+        Consumes-trans r s t at.bytes g.bytes at.consumed g.consumed,
+        subst (AppendsFront w u) (sym text) (front_second w v u at.out _ at.written (front_first v u h.0.1 _ h.2)),
+      )
+
+  pub front_lost : (after line : List ℕ) → GivesFront s t held after line → PrintsFront outcome r t w v
+  front_lost after line g =
+      let more = g.0.bytes in
+      let text : (outcome (at.bytes ++ more)).text ≡ at.out ++ (lines_from meaning past n held more).text = ap (λ (o : Outcome). o.text) (at.agrees more) in (
+        at.bytes ++ more,
+        Consumes-trans r s t at.bytes more at.consumed g.0.consumed,
+        record { front = at.out; rest = (lines_from meaning past n held more).text; whole = text; written = at.written },
+      )
+
+  pub front_here : PrintsFront outcome r s w v
+  front_here =
+      let text : (outcome at.bytes).text ≡ at.out ++ (lines_from meaning past n held []).text = ap (λ l. (outcome l).text) (sym (append-nil at.bytes)) ∙ ap (λ (o : Outcome). o.text) (at.agrees []) in
+      (at.bytes, at.consumed, record { front = at.out; rest = (lines_from meaning past n held []).text; whole = text; written = at.written })
+
+  pub ends_last : (after line : List ℕ) (e : End) → Gives s t held after line → NoFeed line → after ≡ [] → IsAtEnd t → lines_print meaning past n [] line ≡ ending e → PrintsAll outcome e r w v
+  ends_last after line e g plain none end p =
+      let last = rest_is_last s t held after line g plain none in
+      let is : outcome (at.bytes ++ g.bytes) ≡ prefixed at.out (ending e) =
+      at.agrees g.bytes
+      ∙ ap (λ l. prefixed at.out (lines_print meaning past n l (rest_line (held ++ g.bytes)))) last.0
+      ∙ ap (λ l. prefixed at.out (lines_print meaning past n [] l)) last.1
+      ∙ ap (prefixed at.out) p in
+      let text : at.out ≡ (outcome (at.bytes ++ g.bytes)).text = sym (append-nil at.out) ∙ sym (ap (λ (o : Outcome). o.text) is) in
+      Consumes-whole r t (at.bytes ++ g.bytes) (λ bytes. ((outcome bytes).end ≡ e) × Appends w v (outcome bytes).text) (Consumes-trans r s t at.bytes g.bytes at.consumed g.consumed) end
+      (ap (λ (o : Outcome). o.end) is, subst (Appends w v) text at.written)
+
+-- ---- the answer of a run
+
+pub runs_stopped : (outcome : List ℕ → Outcome) (f : RunFault) (r t w v : Option (List ℕ)) → IsStop f → PrintsFront outcome r t w v → Runs outcome (Err f) r t w v
+runs_stopped outcome (BadLine n) r t w v h p = absurd h
+runs_stopped outcome (BadConfig c) r t w v h p = absurd h
+runs_stopped outcome Input r t w v h p = p
+runs_stopped outcome Output r t w v h p = p
+runs_stopped outcome NoMemory r t w v h p = p
+
+-- what a run of the rest does, the whole run does
+prints_after : (outcome : List ℕ → Outcome) (meaning : Meaning) (past : Past) (n : ℕ) (e : End) (r s w v u : Option (List ℕ)) (held : List ℕ) → Reached outcome meaning past n r s w v held
+    → PrintsAll (lines_from meaning past n held) e s v u → PrintsAll outcome e r w u
+prints_after outcome meaning past n e None s w v u held at p = tt
+prints_after outcome meaning past n e (Some x) None w v u held at p = absurd at.consumed
+prints_after outcome meaning past n e (Some x) (Some y) w v u held at p =
+    let is : outcome x ≡ prefixed at.out (lines_from meaning past n held y) = ap outcome at.consumed ∙ at.agrees y in
+    (ap (λ (o : Outcome). o.end) is ∙ p.0, subst (Appends w u) (sym (ap (λ (o : Outcome). o.text) is)) (Appends-trans w v u at.out _ at.written p.1))
+
+front_after : (outcome : List ℕ → Outcome) (meaning : Meaning) (past : Past) (n : ℕ) (r s t w v u : Option (List ℕ)) (held : List ℕ) → Reached outcome meaning past n r s w v held
+    → PrintsFront (lines_from meaning past n held) s t v u → PrintsFront outcome r t w u
+front_after outcome meaning past n r s t w v u held at p =
+    let text : (outcome (at.bytes ++ p.0)).text ≡ at.out ++ (lines_from meaning past n held p.0).text = ap (λ (o : Outcome). o.text) (at.agrees p.0) in
+    (at.bytes ++ p.0, Consumes-trans r s t at.bytes p.0 at.consumed p.1, subst (AppendsFront w u) (sym text) (front_second w v u at.out _ at.written p.2))
+
+pub runs_after : (outcome : List ℕ → Outcome) (meaning : Meaning) (past : Past) (n : ℕ) (r s t w v u : Option (List ℕ)) (held : List ℕ) (res : Result (Unit {0}) RunFault) → Reached outcome meaning past n r s w v held
+    → Runs (lines_from meaning past n held) res s t v u → Runs outcome res r t w u
+runs_after outcome meaning past n r s t w v u held (Ok x) at p = (prints_after outcome meaning past n done r s w v u held at p.0, p.1)
+runs_after outcome meaning past n r s t w v u held (Err (BadLine k)) at p = prints_after outcome meaning past n (bad_line k) r s w v u held at p
+runs_after outcome meaning past n r s t w v u held (Err (BadConfig k)) at p = prints_after outcome meaning past n (bad_config k) r s w v u held at p
+runs_after outcome meaning past n r s t w v u held (Err Input) at p = front_after outcome meaning past n r s t w v u held at p
+runs_after outcome meaning past n r s t w v u held (Err Output) at p = front_after outcome meaning past n r s t w v u held at p
+runs_after outcome meaning past n r s t w v u held (Err NoMemory) at p = front_after outcome meaning past n r s t w v u held at p

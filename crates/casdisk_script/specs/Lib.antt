@@ -1,0 +1,5 @@
+pub mod Fault
+pub mod Meaning
+pub mod Script
+pub mod Running
+pub mod Comments

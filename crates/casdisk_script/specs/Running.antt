@@ -1,0 +1,39 @@
+-- What a run of a script leaves.
+use Rattle.std.specs.Prelude.{◌≡◌, ℕ, List, ◌++◌, Option, IfSome, Result, Ok, Err}
+use Rattle.std.specs.Io.KnownBytes.{Appends, Consumes, IsAtEnd}
+use Rattle.line_text.specs.Known.{AppendsFront}
+use Rattle.line_text.specs.Lines.{whole_lines, rest_line}
+use Rattle.nvme_model.specs.History.{Past}
+use Rattle.casdisk_script.specs.Meaning.{Meaning}
+use Rattle.casdisk_script.specs.Script.{Outcome, End, done, bad_line, bad_config, lines_print}
+use Rattle.casdisk_script.specs.declared.fault.RunFault.{RunFault}
+use Rattle.casdisk_script.specs.declared.fault.RunFault.TheVariants.{BadLine, BadConfig, Input, Output, NoMemory}
+
+-- the input ends so, and its whole text was written
+abbrev pub PrintsAll : (List ℕ → Outcome) → End → Option (List ℕ) → Option (List ℕ) → Option (List ℕ) → Type 0
+PrintsAll outcome e input old new = IfSome input (λ bytes. ((outcome bytes).end ≡ e) × Appends old new (outcome bytes).text)
+
+-- a beginning of the text of what was read was written
+abbrev pub PrintsFront : (List ℕ → Outcome) → Option (List ℕ) → Option (List ℕ) → Option (List ℕ) → Option (List ℕ) → Type 0
+PrintsFront outcome input left old new = (bytes : List ℕ) × Consumes input left bytes × AppendsFront old new (outcome bytes).text
+
+-- By what the run answered: the whole text and the reader at its end; the text before the bad line, or none; or a beginning of the text.
+abbrev pub Runs : (List ℕ → Outcome) → Result (Unit {0}) RunFault → Option (List ℕ) → Option (List ℕ) → Option (List ℕ) → Option (List ℕ) → Type 0
+Runs outcome (Ok x) input left old new = PrintsAll outcome done input old new × IsAtEnd left
+Runs outcome (Err (BadLine n)) input left old new = PrintsAll outcome (bad_line n) input old new
+Runs outcome (Err (BadConfig c)) input left old new = PrintsAll outcome (bad_config c) input old new
+Runs outcome (Err Input) input left old new = PrintsFront outcome input left old new
+Runs outcome (Err Output) input left old new = PrintsFront outcome input left old new
+Runs outcome (Err NoMemory) input left old new = PrintsFront outcome input left old new
+
+-- what the lines from number n on print, some of their bytes held already
+abbrev pub lines_from : Meaning → Past → ℕ → List ℕ → List ℕ → Outcome
+lines_from meaning past n held input = lines_print meaning past n (whole_lines (held ++ input)) (rest_line (held ++ input))
+
+-- the faults that say nothing of the script
+abbrev pub IsStop : RunFault → Type 0
+IsStop (BadLine n) = ⊥
+IsStop (BadConfig c) = ⊥
+IsStop Input = Unit {0}
+IsStop Output = Unit {0}
+IsStop NoMemory = Unit {0}

@@ -1,0 +1,58 @@
+-- What a script prints, and how it ends.
+use Rattle.std.specs.Prelude.{ℕ, ◌+◌, List, [], ◌∷◌, ◌++◌, Option, Some, None}
+use Rattle.line_text.specs.Lines.{whole_lines, rest_line}
+use Rattle.nvme_model.specs.Config.{config_fault, fault_number}
+use Rattle.nvme_model.specs.History.{Past}
+use Rattle.nvme_model.specs.declared.config.ConfigFault.{ConfigFault}
+use Rattle.nvme_model.specs.declared.config.ConfigNumbers.{ConfigNumbers}
+use Rattle.history.specs.ConfigLine.{config_in}
+use Rattle.casdisk_script.specs.Meaning.{Meaning}
+
+-- How a script ends: at its end, at a bad line by its number from 1, or at a configuration that is refused.
+pub data End : Type 0 where
+  done : End
+  bad_line : ℕ → End
+  bad_config : ℕ → End
+
+-- What a script prints, and how it ends.
+pub record Outcome : Type 0 where
+  pub text : List ℕ
+  pub end : End
+
+-- a text, and then what prints
+abbrev pub prefixed : List ℕ → Outcome → Outcome
+prefixed text o = record { text = text ++ o.text; end = o.end }
+
+-- nothing more
+abbrev pub ending : End → Outcome
+ending e = record { text = []; end = e }
+
+-- what follows line n, by what it gave
+abbrev pub after_line : ℕ → Option (Past × List ℕ) → (Past → Outcome) → Outcome
+after_line n None more = ending (bad_line n)
+after_line n (Some x) more = prefixed x.1 (more x.0)
+
+-- The lines from number n on, and what stands behind the last line feed, which has to be nothing.
+unfoldable pub lines_print : Meaning → Past → ℕ → List (List ℕ) → List ℕ → Outcome
+lines_print meaning past n [] [] = ending done
+lines_print meaning past n [] (b ∷ bs) = ending (bad_line n)
+lines_print meaning past n (line ∷ lines) rest = after_line n (meaning past line) (λ after. lines_print meaning after (n + 1) lines rest)
+
+-- what follows the first line, by its configuration, which may be refused
+abbrev pub after_numbers : List ℕ → Option ConfigFault → Outcome → Outcome
+after_numbers line None more = prefixed (line ++ 10 ∷ []) more
+after_numbers line (Some fault) more = ending (bad_config (fault_number fault))
+
+-- what follows the first line, by what it says
+abbrev pub after_config : List ℕ → Option ConfigNumbers → (ConfigNumbers → Outcome) → Outcome
+after_config line None more = ending (bad_line 1)
+after_config line (Some c) more = after_numbers line (config_fault c) (more c)
+
+-- A script from its first line on: the configuration line, and then what its lines print.
+unfoldable pub script_prints : (ConfigNumbers → Meaning) → List (List ℕ) → List ℕ → Outcome
+script_prints meaning [] rest = ending (bad_line 1)
+script_prints meaning (line ∷ lines) rest = after_config line (config_in line) (λ c. lines_print (meaning c) [] 2 lines rest)
+
+-- the outcome of a whole input
+abbrev pub outcome : (ConfigNumbers → Meaning) → List ℕ → Outcome
+outcome meaning input = script_prints meaning (whole_lines input) (rest_line input)

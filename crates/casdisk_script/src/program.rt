@@ -1,0 +1,64 @@
+//! The whole program, over any runtime.
+
+use crate::fault::RunFault;
+use crate::request::{Asked, UsageFault};
+use crate::script::run_script;
+use crate::usage::asked;
+use history::Kinds;
+use std::process::ExitCode;
+use std::rt::{Env, Files};
+use std::{env, fs, io};
+
+/// Does what the words of the command line ask, and says with which status the program ends: 0 where it is done,
+/// 2 after a bad line, configuration or command line, 3 after a failed opening, reading or writing, 4 where a growth
+/// was refused. The words of a fault go to standard error.
+pub fn run_program<R: Files + Env + Print + Eprint + AllocGlobal>(rt: &R) -> ExitCode {
+    let words: Result<Vec<String>, io::Error> = match env::args(rt) {
+        Ok(args) => args.collect(rt.alloc()).map_err(io::Error::from),
+        Err(error) => Err(error),
+    };
+    match words {
+        Ok(words) => match asked(rt.alloc(), words.as_slice()) {
+            Ok(what) => finish(rt, what),
+            Err(UsageFault::Text(text)) => end_with(rt, 2, text.as_str()),
+            Err(UsageFault::NoMemory) => end_with(rt, 4, "no memory"),
+        },
+        Err(error) => {
+            if error.kind() == io::ErrorKind::OutOfMemory {
+                end_with(rt, 4, "no memory")
+            } else {
+                end_with(rt, 2, "error: an argument is not text")
+            }
+        }
+    }
+}
+
+fn end_with<R: Eprint>(rt: &R, status: u8, words: &str) -> ExitCode {
+    let _ = rt.eprintln(words);
+    ExitCode::from(status)
+}
+
+fn finish<R: Files + Print + Eprint + AllocGlobal>(rt: &R, what: Asked<'_>) -> ExitCode {
+    let outcome = match what {
+        Asked::Run { kinds, file } => run_file(rt, kinds, file),
+        Asked::Show(text) => rt.print(text.as_str()).map_err(|_| RunFault::Output),
+    };
+    match outcome {
+        Ok(()) => ExitCode::SUCCESS,
+        Err(fault) => {
+            let status = fault.status();
+            let _ = rt.eprintln(fault);
+            ExitCode::from(status)
+        }
+    }
+}
+
+fn run_file<R: Files + Print + AllocGlobal>(
+    rt: &R,
+    kinds: Kinds,
+    file: &str,
+) -> Result<(), RunFault> {
+    let mut input = fs::open(rt, file).map_err(|_| RunFault::Input)?;
+    let mut output = io::writer(rt);
+    run_script(rt.alloc(), &mut input, &mut output, kinds)
+}

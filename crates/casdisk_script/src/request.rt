@@ -1,0 +1,28 @@
+//! What the command line asks for.
+
+use history::Kinds;
+use std::alloc::AllocError;
+
+/// What the words of the command line ask for.
+#[derive(Drop)]
+pub enum Asked<'a> {
+    /// To run the script in this file, and show these kinds of lines.
+    Run { kinds: Kinds, file: &'a str },
+    /// To print this text, of `--help` or `--version`.
+    Show(String),
+}
+
+/// Why the words ask for nothing.
+#[derive(Debug, Drop)]
+pub enum UsageFault {
+    /// They are a bad command line, for this reason.
+    Text(String),
+    /// A growth was refused.
+    NoMemory,
+}
+
+impl From<AllocError> for UsageFault {
+    fn from(_error: AllocError) -> UsageFault {
+        UsageFault::NoMemory
+    }
+}

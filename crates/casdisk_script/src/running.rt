@@ -1,0 +1,56 @@
+//! The lines of a script, one after the other.
+
+ghost use Rattle.std.specs.Prelude.{◌≡◌};
+ghost use Rattle.casdisk_script.specs.Running.{Runs, IsStop, lines_from};
+
+use crate::fault::RunFault;
+use crate::meaning::{LineMeaning, Taken, WriteFault};
+use line_text::{Lines, NextLine, ReadFault};
+use std::io::{Read, Write};
+
+pub(crate) fn read_fault(fault: ReadFault) -> RunFault
+    ensures { IsStop result }
+{
+    match fault {
+        ReadFault::Input => RunFault::Input,
+        ReadFault::NoMemory => RunFault::NoMemory,
+    }
+}
+
+pub(crate) fn write_fault(fault: WriteFault) -> RunFault
+    ensures { IsStop result }
+{
+    match fault {
+        WriteFault::Output => RunFault::Output,
+        WriteFault::NoMemory => RunFault::NoMemory,
+    }
+}
+
+/// Does the lines behind the first, whose number is 2, to the reader's end or to the first bad one; `line` holds one at a time.
+pub fn run_lines<M: LineMeaning, R: Read, W: Write>(
+    machine: &mut M,
+    lines: &mut Lines,
+    line: &mut Vec<u8>,
+    reader: &mut R,
+    writer: &mut W,
+) -> Result<(), RunFault>
+    ensures { Runs (lines_from (M.meaning machine.old) (M.past machine.old) 2 lines.old) result (R.remaining reader.old) (R.remaining reader.new) (W.contents writer.old) (W.contents writer.new) }
+{
+    for number in 2..u64::MAX {
+        match lines.next_line(reader, line) {
+            Err(fault) => return Err(read_fault(fault)),
+            Ok(NextLine::Rest) => {
+                if line.is_empty() {
+                    return Ok(());
+                }
+                return Err(RunFault::BadLine(number));
+            }
+            Ok(NextLine::Whole) => match machine.take_line(line, writer) {
+                Err(fault) => return Err(write_fault(fault)),
+                Ok(Taken::Bad) => return Err(RunFault::BadLine(number)),
+                Ok(Taken::Done) => {}
+            },
+        }
+    }
+    Err(RunFault::Input)
+}

@@ -1,0 +1,33 @@
+-- What becomes of the entries that a Fetch takes, by the definitions of the verdict and of operations.
+use Rattle.std.specs.Prelude.{◌≡◌, List, [], ◌∷◌, Option, Some, None}
+use Rattle.nvme_model.specs.EntryBytes.{Sqe, blocks, slba}
+use Rattle.nvme_model.specs.Verdict.{Item}
+use Rattle.nvme_model.specs.declared.operation.Op.{Op}
+use Rattle.nvme_model.specs.declared.status.Verdict.{Verdict}
+use Rattle.fused_match.specs.declared.judged.Judged.{Judged}
+use Rattle.fused_match.specs.declared.judged.Judged.TheVariants.{Flush, Single, Pair, Failed, FailedPair}
+
+-- the verdict that it is
+abbrev pub verdict_by : Judged → Verdict
+verdict_by Flush = Verdict.Single
+verdict_by (Single o r) = Verdict.Single
+verdict_by (Pair r) = Verdict.Pair
+verdict_by (Failed s) = Verdict.SingleFailed s
+verdict_by (FailedPair s t) = Verdict.PairFailed s t
+
+-- what is then done
+abbrev pub operation_in : Judged → Option Op
+operation_in (Single o r) = Some o
+operation_in (Pair r) = Some Op.Pair
+operation_in _ = None
+
+-- the blocks of the first command are those that it names
+abbrev pub NamesBlocks : Judged → Sqe → Type 0
+NamesBlocks (Single o r) e = (r.slba ≡ slba e) × (r.blocks ≡ blocks e)
+NamesBlocks (Pair r) e = (r.slba ≡ slba e) × (r.blocks ≡ blocks e)
+NamesBlocks _ e = Unit {0}
+
+-- the entries that wait: the first and the one behind it, if there is one
+abbrev pub waiting_items : Item → Option Item → List Item
+waiting_items first None = first ∷ []
+waiting_items first (Some next) = first ∷ next ∷ []

@@ -1,0 +1,48 @@
+//! What becomes of the entries that a Fetch takes.
+
+ghost use Rattle.std.specs.Prelude.{◌≡◌};
+ghost use Rattle.nvme_model.specs.Verdict.{taken};
+
+use block_array::{Op, Range};
+use nvme_model::status::{Status, Verdict};
+
+/// What becomes of the entries that a Fetch takes.
+#[derive(Clone, Copy, Debug, PartialEq, Eq)]
+pub enum Judged {
+    /// A Flush, which does nothing.
+    Flush,
+    /// One command, and the blocks that it is for.
+    Single(Op, Range),
+    /// A fused pair, and the blocks that it is for.
+    Pair(Range),
+    /// One command, which failed so.
+    Failed(Status),
+    /// A fused pair, whose first and second failed so.
+    FailedPair(Status, Status),
+}
+
+impl Judged {
+    ghost use Rattle.fused_match.specs.Judged.{verdict_by};
+
+    /// How many entries the Fetch takes, 1 or 2.
+    pub fn taken(&self) -> u8
+        ensures value { result ≡ taken (verdict_by self.now) }
+    {
+        match self {
+            Judged::Flush | Judged::Single(_, _) | Judged::Failed(_) => 1,
+            Judged::Pair(_) | Judged::FailedPair(_, _) => 2,
+        }
+    }
+
+    /// The same as a history names it.
+    pub fn verdict(&self) -> Verdict
+        ensures value { result ≡ verdict_by self.now }
+    {
+        match self {
+            Judged::Flush | Judged::Single(_, _) => Verdict::Single,
+            Judged::Pair(_) => Verdict::Pair,
+            Judged::Failed(status) => Verdict::SingleFailed(*status),
+            Judged::FailedPair(first, second) => Verdict::PairFailed(*first, *second),
+        }
+    }
+}

@@ -1,0 +1,14 @@
+//! What a Fetch says of the entries at the front of a submission queue: matching, and the checks of both tables.
+#![tactic(auto)]
+
+mod checks;
+mod item;
+mod judged;
+mod matching;
+
+pub use crate::item::Item;
+pub use crate::judged::Judged;
+pub use crate::matching::judge;
+
+#[cfg(test)]
+mod tests;

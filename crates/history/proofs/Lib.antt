@@ -1,0 +1,10 @@
+pub mod StatusLaws
+pub mod MarkLaws
+pub mod Joining
+pub mod BatchSpelling
+pub mod BatchLaws
+pub mod EntryParts
+pub mod LinesRead
+pub mod LinesAgain
+pub mod OneSpelling
+pub mod ConfigLaws

@@ -1,0 +1,27 @@
+//! Configurations, histories, and the one line of each entry, both ways.
+#![tactic(auto)]
+
+mod batch;
+mod config;
+mod config_line;
+mod kinds;
+mod laws;
+mod line_fault;
+#[cfg(test)]
+mod line_tests;
+mod marks;
+mod past;
+mod reading;
+mod status_word;
+#[cfg(test)]
+mod tests;
+mod writing;
+
+pub use crate::config::Config;
+pub use crate::config_line::{read_config_line, write_config_line};
+pub use crate::laws::{configurations_have_one_spelling, lines_have_one_spelling};
+pub use crate::line_fault::LineFault;
+pub use crate::kinds::{Kinds, all_kinds, shows};
+pub use crate::past::History;
+pub use crate::reading::parse_line;
+pub use crate::writing::write_line;

@@ -1,0 +1,110 @@
+use crate::{Config, History, Kinds, all_kinds, shows};
+use bitflags::Flags;
+use block_array::ConfigFault;
+use nvme_model::config::{AtomicParameters, ConfigNumbers};
+use nvme_model::entry::{Entry, FetchLine};
+use nvme_model::status::Verdict;
+use std::test::Fail;
+
+#[test]
+fn a_configuration_is_accepted(rt: HostRuntime) -> Result<(), Fail> {
+    let Ok(config) = Config::new(65_536, 255, 255, 0, 0, 16, 1024, 1024, 256) else {
+        return Err(Fail::from("refused"));
+    };
+    let numbers = config.numbers();
+    assert_eq!(rt; numbers.blocks, 65_536);
+    assert_eq!(rt; numbers.cqs, 16);
+    assert_eq!(rt; config.units().awun(), 255);
+    assert!(rt; Config::with_cqs(1, 0, 0, 0, 0, 2, 2, 2, 1, 1).is_ok());
+    assert!(rt; Config::from_numbers(&numbers) == Ok(config));
+    Ok(())
+}
+
+#[test]
+fn each_fault_refuses(rt: HostRuntime) {
+    let atomic = AtomicParameters {
+        awun: 1,
+        acwu: 1,
+        nabsn: 3,
+        nabo: 2,
+    };
+    let good = ConfigNumbers {
+        blocks: 8,
+        atomic,
+        pairs: 2,
+        sq_size: 4,
+        cq_size: 4,
+        jobs: 8,
+        cqs: 2,
+    };
+    let bad: [(ConfigNumbers, ConfigFault); 16] = [
+        (ConfigNumbers { atomic: AtomicParameters { awun: 256, ..atomic }, ..good }, ConfigFault::AwunTooLarge),
+        (ConfigNumbers { atomic: AtomicParameters { acwu: 256, ..atomic }, ..good }, ConfigFault::AcwuTooLarge),
+        (ConfigNumbers { atomic: AtomicParameters { awun: 4, ..atomic }, ..good }, ConfigFault::BoundaryBelowUnit),
+        (ConfigNumbers { atomic: AtomicParameters { nabo: 4, ..atomic }, ..good }, ConfigFault::OffsetPastBoundary),
+        (ConfigNumbers { blocks: 0, ..good }, ConfigFault::Blocks),
+        (ConfigNumbers { blocks: 65_537, ..good }, ConfigFault::Blocks),
+        (ConfigNumbers { pairs: 0, ..good }, ConfigFault::Pairs),
+        (ConfigNumbers { pairs: 17, ..good }, ConfigFault::Pairs),
+        (ConfigNumbers { sq_size: 1, ..good }, ConfigFault::SqSize),
+        (ConfigNumbers { sq_size: 1025, ..good }, ConfigFault::SqSize),
+        (ConfigNumbers { cq_size: 1, ..good }, ConfigFault::CqSize),
+        (ConfigNumbers { cq_size: 1025, ..good }, ConfigFault::CqSize),
+        (ConfigNumbers { jobs: 0, ..good }, ConfigFault::Jobs),
+        (ConfigNumbers { jobs: 257, ..good }, ConfigFault::Jobs),
+        (ConfigNumbers { cqs: 0, ..good }, ConfigFault::CqCount),
+        (ConfigNumbers { cqs: 3, ..good }, ConfigFault::CqCount),
+    ];
+    assert!(rt; Config::from_numbers(&good).is_ok());
+    for (numbers, fault) in bad {
+        assert_eq!(rt; Config::from_numbers(&numbers).err(), Some(fault));
+    }
+}
+
+fn fetched(ticket: u64) -> Entry {
+    Entry::Fetch(FetchLine {
+        queue: 1,
+        ticket,
+        verdict: Verdict::Single,
+    })
+}
+
+#[test]
+fn a_history_keeps_its_entries(rt: HostRuntime) -> Result<(), Fail> {
+    let mut history = History::new(rt.alloc());
+    assert!(rt; history.is_empty());
+    history.reserve(1)?;
+    history.push_reserved(fetched(1));
+    assert!(rt; history.push(fetched(2)).is_ok());
+    assert_eq!(rt; history.len(), 2);
+    for place in 0..2u64 {
+        let Some(Entry::Fetch(line)) = history.get(place as usize) else {
+            return Err(Fail::from("no fetch"));
+        };
+        assert_eq!(rt; line.ticket, place + 1);
+    }
+    assert!(rt; history.get(2).is_none());
+    Ok(())
+}
+
+#[test]
+fn kinds_have_names(rt: HostRuntime) {
+    let kinds: [(&str, u8); 8] = [
+        ("publish", 0x01),
+        ("fetch", 0x02),
+        ("grant", 0x04),
+        ("block", 0x08),
+        ("post", 0x10),
+        ("reap", 0x20),
+        ("refused", 0x40),
+        ("medium", 0x80),
+    ];
+    for (name, bit) in kinds {
+        let kind = Kinds::from_name(name);
+        assert_eq!(rt; kind, Some(Kinds::from_bits_retain(bit)));
+        assert!(rt; shows(all_kinds(), Kinds::from_bits_retain(bit)));
+        assert!(rt; !shows(Kinds::from_bits_retain(!bit), Kinds::from_bits_retain(bit)));
+    }
+    assert_eq!(rt; Kinds::from_name(""), None);
+    assert_eq!(rt; Kinds::from_name("Publish"), None);
+}

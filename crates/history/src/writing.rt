@@ -1,0 +1,180 @@
+//! The line of an entry.
+
+ghost use Rattle.std.specs.Prelude.{OnOk, OnErr};
+ghost use Rattle.std.specs.Io.KnownBytes.{Appends};
+ghost use Rattle.line_text.specs.Known.{AppendsFront};
+ghost use Rattle.nvme_model.specs.declared.entry.Entry.{Entry};
+ghost use Rattle.history.specs.Lines.{entry_line};
+
+use crate::batch::write_batch;
+use crate::marks::{found_text, mark_text, mode_text};
+use crate::status_word::status_text;
+use line_text::{Word, send_words};
+use nvme_model::entry::{
+    BlockLine, Entry, FetchLine, GrantLine, PostLine, PublishLine, ReapLine,
+};
+use nvme_model::status::Verdict;
+use std::io::{Result as IoResult, Write};
+
+#[tactic(auto, unfolding(crate::specs::Lines::entry_line, crate::specs::Lines::entry_words))]
+fn write_publish<W: Write>(line: &PublishLine, writer: &mut W) -> IoResult<()>
+    ensures whole { OnOk result
+        (Appends (W.contents writer.old) (W.contents writer.new) (entry_line (Entry.Publish line.now))) }
+    ensures front { OnErr result
+        (AppendsFront (W.contents writer.old) (W.contents writer.new) (entry_line (Entry.Publish line.now))) }
+{
+    write_batch(writer, line.queue, line.batch.as_slice())
+}
+
+#[tactic(auto, unfolding(crate::specs::Lines::entry_line, crate::specs::Lines::entry_words))]
+fn write_fetch<W: Write>(line: &FetchLine, writer: &mut W) -> IoResult<()>
+    ensures whole { OnOk result
+        (Appends (W.contents writer.old) (W.contents writer.new) (entry_line (Entry.Fetch line.now))) }
+    ensures front { OnErr result
+        (AppendsFront (W.contents writer.old) (W.contents writer.new) (entry_line (Entry.Fetch line.now))) }
+{
+    match line.verdict {
+        Verdict::Single => send_words(
+            writer,
+            &[
+                Word::Text(b"fetch"),
+                Word::Number(u64::from(line.queue)),
+                Word::Number(line.ticket),
+                Word::Text(b"1"),
+                Word::Text(b"ok"),
+            ],
+        ),
+        Verdict::SingleFailed(status) => {
+            let status = status_text(status);
+            send_words(
+                writer,
+                &[
+                    Word::Text(b"fetch"),
+                    Word::Number(u64::from(line.queue)),
+                    Word::Number(line.ticket),
+                    Word::Text(b"1"),
+                    Word::Text(&status),
+                ],
+            )
+        }
+        Verdict::Pair => send_words(
+            writer,
+            &[
+                Word::Text(b"fetch"),
+                Word::Number(u64::from(line.queue)),
+                Word::Number(line.ticket),
+                Word::Text(b"2"),
+                Word::Text(b"ok"),
+            ],
+        ),
+        Verdict::PairFailed(first, second) => {
+            let first = status_text(first);
+            let second = status_text(second);
+            send_words(
+                writer,
+                &[
+                    Word::Text(b"fetch"),
+                    Word::Number(u64::from(line.queue)),
+                    Word::Number(line.ticket),
+                    Word::Text(b"2"),
+                    Word::Text(&first),
+                    Word::Text(&second),
+                ],
+            )
+        }
+    }
+}
+
+#[tactic(auto, unfolding(crate::specs::Lines::entry_line, crate::specs::Lines::entry_words))]
+fn write_grant<W: Write>(line: &GrantLine, writer: &mut W) -> IoResult<()>
+    ensures whole { OnOk result
+        (Appends (W.contents writer.old) (W.contents writer.new) (entry_line (Entry.Grant line.now))) }
+    ensures front { OnErr result
+        (AppendsFront (W.contents writer.old) (W.contents writer.new) (entry_line (Entry.Grant line.now))) }
+{
+    send_words(
+        writer,
+        &[
+            Word::Text(b"grant"),
+            Word::Number(line.ticket),
+            Word::Number(line.unit),
+            Word::Number(line.range.slba),
+            Word::Number(u64::from(line.range.blocks)),
+            Word::Text(mode_text(&line.mode)),
+        ],
+    )
+}
+
+#[tactic(auto, unfolding(crate::specs::Lines::entry_line, crate::specs::Lines::entry_words))]
+fn write_block<W: Write>(line: &BlockLine, writer: &mut W) -> IoResult<()>
+    ensures whole { OnOk result
+        (Appends (W.contents writer.old) (W.contents writer.new) (entry_line (Entry.Block line.now))) }
+    ensures front { OnErr result
+        (AppendsFront (W.contents writer.old) (W.contents writer.new) (entry_line (Entry.Block line.now))) }
+{
+    send_words(
+        writer,
+        &[
+            Word::Text(b"block"),
+            Word::Number(line.ticket),
+            Word::Number(line.unit),
+            Word::Number(line.lba),
+            Word::Text(found_text(&line.found)),
+            Word::Text(mark_text(&line.effect)),
+        ],
+    )
+}
+
+#[tactic(auto, unfolding(crate::specs::Lines::entry_line, crate::specs::Lines::entry_words))]
+fn write_post<W: Write>(line: &PostLine, writer: &mut W) -> IoResult<()>
+    ensures whole { OnOk result
+        (Appends (W.contents writer.old) (W.contents writer.new) (entry_line (Entry.Post line.now))) }
+    ensures front { OnErr result
+        (AppendsFront (W.contents writer.old) (W.contents writer.new) (entry_line (Entry.Post line.now))) }
+{
+    send_words(
+        writer,
+        &[
+            Word::Text(b"post"),
+            Word::Number(line.ticket),
+            Word::Hex(&line.cqe),
+            Word::Data(line.payload.as_slice()),
+        ],
+    )
+}
+
+#[tactic(auto, unfolding(crate::specs::Lines::entry_line, crate::specs::Lines::entry_words))]
+fn write_reap<W: Write>(line: &ReapLine, writer: &mut W) -> IoResult<()>
+    ensures whole { OnOk result
+        (Appends (W.contents writer.old) (W.contents writer.new) (entry_line (Entry.Reap line.now))) }
+    ensures front { OnErr result
+        (AppendsFront (W.contents writer.old) (W.contents writer.new) (entry_line (Entry.Reap line.now))) }
+{
+    send_words(
+        writer,
+        &[
+            Word::Text(b"reap"),
+            Word::Number(u64::from(line.queue)),
+            Word::Hex(&line.cqe),
+        ],
+    )
+}
+
+/// Writes the line of the entry, without its line feed; it takes no memory.
+///
+/// After an `Err` the writer has some beginning of it.
+pub fn write_line<W: Write>(entry: &Entry, writer: &mut W) -> IoResult<()>
+    ensures whole { OnOk result
+        (Appends (W.contents writer.old) (W.contents writer.new) (entry_line entry.now)) }
+    ensures front { OnErr result
+        (AppendsFront (W.contents writer.old) (W.contents writer.new) (entry_line entry.now)) }
+{
+    match entry {
+        Entry::Publish(line) => write_publish(line, writer),
+        Entry::Fetch(line) => write_fetch(line, writer),
+        Entry::Grant(line) => write_grant(line, writer),
+        Entry::Block(line) => write_block(line, writer),
+        Entry::Post(line) => write_post(line, writer),
+        Entry::Reap(line) => write_reap(line, writer),
+    }
+}
