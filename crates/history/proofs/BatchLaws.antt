@@ -1,9 +1,9 @@
 -- The two laws of a batch: what is read is spelled so, and what is spelled so is read.
-use Rattle.std.proofs.Common.{◌≡◌, ℕ, ◌<◌, ◌^◌, length, Bool, true, false, cond, List, [], ◌∷◌, None, Some, refl, sym, ap, ◌∙◌, subst, arith}
+use Rattle.std.proofs.Common.{◌≡◌, ℕ, Bool, true, false, cond, List, [], ◌∷◌, None, Some, refl, ap, ◌∙◌, arith}
 use Rattle.std.specs.Prelude.{Option, codes, decimal}
 use Rattle.std.specs.List.{AllByRecursion}
 use Rattle.std.specs.Str.{bytes_eq}
-use Rattle.hex.specs.Hex.{encode_upper, IsBytes}
+use Rattle.hex.specs.Hex.{encode_upper}
 use Rattle.line_text.specs.Digits.{bytes_in, fixed_in}
 use Rattle.line_text.specs.Data.{data_text, data_in}
 use Rattle.line_text.proofs.NumberLaws.{bytes_eq_true}
@@ -15,30 +15,36 @@ use Rattle.nvme_model.specs.declared.submission.Submission.{Submission}
 use Rattle.history.specs.Lines.{HasItem}
 use Rattle.history.specs.BatchWords.{more_words, publish_words, item_from, item_in, then_item, more_in, batch_in}
 
+-- the parts of an entry that is read
 item_parts : (a b : Option (List ℕ)) (x : Submission) → item_from a b ≡ Some x → (e : List ℕ) × (p : List ℕ) × (a ≡ Some e) × (b ≡ Some p) × (record { entry = e; payload = p } ≡ x)
 item_parts None b x h = absurd cc
 item_parts (Some e) None x h = absurd cc
 item_parts (Some e) (Some p) x h = (e, p, refl, refl, cc)
 
+-- an entry that is read is spelled so
 pub item_is : (entry payload : List ℕ) (x : Submission) → item_in entry payload ≡ Some x → (entry ≡ encode_upper x.entry) × (payload ≡ data_text 512 x.payload)
 item_is entry payload x h =
     let p = item_parts (fixed_in 64 (bytes_in entry)) (data_in 512 payload) x h in
     (bytes_is entry p.0 (fixed_is 64 (bytes_in entry) p.0 p.2).0 ∙ ap (λ (y : Submission). encode_upper y.entry) p.4, data_is 512 payload p.1 (omega arith) p.3 ∙ ap (λ (y : Submission). data_text 512 y.payload) p.4)
 
+-- the words of an entry are read as that entry
 pub item_again : (x : Submission) → HasItem x → item_in (encode_upper x.entry) (data_text 512 x.payload) ≡ Some x
 item_again x fits =
     ap (λ o. item_from o (data_in 512 (data_text 512 x.payload))) (fixed_some 64 (bytes_in (encode_upper x.entry)) x.entry (bytes_again (encode_upper x.entry) x.entry fits.entry refl) fits.long)
     ∙ ap (item_from (Some x.entry)) (data_again 512 (data_text 512 x.payload) x.payload (omega arith) fits.payload refl)
 
+-- the parts of entries that are read
 then_parts : (a : Option Submission) (b : Option (List Submission)) (xs : List Submission) → then_item a b ≡ Some xs → (y : Submission) × (ys : List Submission) × (a ≡ Some y) × (b ≡ Some ys) × (y ∷ ys ≡ xs)
 then_parts None b xs h = absurd cc
 then_parts (Some y) None xs h = absurd cc
 then_parts (Some y) (Some ys) xs h = (y, ys, refl, refl, cc)
 
+-- a test that let entries through held
 if_plus : (b : Bool) (o : Option (List Submission)) (xs : List Submission) → cond b o None ≡ Some xs → (b ≡ true) × (o ≡ Some xs)
 if_plus true o xs h = (refl, h)
 if_plus false o xs h = absurd cc
 
+-- entries that are read are spelled so
 pub more_are : (words : List (List ℕ)) (xs : List Submission) → more_in words ≡ Some xs → words ≡ more_words xs
 unfolding more_in more_words
 more_are [] xs h = let none : [] ≡ xs = cc in ap more_words none
@@ -53,6 +59,7 @@ more_are (a ∷ b ∷ c ∷ words) xs h =
     ∙ ap (λ l. codes "+" ∷ encode_upper p.0.entry ∷ data_text 512 p.0.payload ∷ l) (more_are words p.1 p.3)
     ∙ ap more_words p.4
 
+-- the words of entries are read as those entries
 pub more_again : (xs : List Submission) → AllByRecursion HasItem xs → more_in (more_words xs) ≡ Some xs
 unfolding more_in more_words
 more_again [] fits = refl

@@ -1,8 +1,8 @@
 -- The text of a batch, entry by entry.
-use Rattle.std.proofs.Common.{◌≡◌, ℕ, ◌+◌, ◌<◌, ◌≤◌, length, drop, get_or, arith, List, [], ◌∷◌, ◌++◌, map, refl, sym, ap, ◌∙◌, subst, append_assoc, append-nil}
+use Rattle.std.proofs.Common.{◌≡◌, ℕ, ◌+◌, ◌<◌, ◌≤◌, length, drop, get_or, List, [], ◌∷◌, ◌++◌, refl, sym, ap, ◌∙◌, append_assoc}
 use Rattle.std.specs.Prelude.{codes, decimal}
 use Rattle.std.specs.List.{join_with_byte}
-use Rattle.std.proofs.lemmas.List.{drop_more, drop_all, length-map}
+use Rattle.std.proofs.lemmas.List.{drop_more, drop_all}
 use Rattle.hex.specs.Hex.{encode_upper}
 use Rattle.line_text.specs.Data.{data_text}
 use Rattle.line_text.specs.Words.{behind}
@@ -10,11 +10,13 @@ use Rattle.line_text.proofs.WordLaws.{join_behind}
 use Rattle.history.specs.BatchWords.{more_words, publish_words}
 use Rattle.nvme_model.specs.declared.submission.Submission.{Submission}
 
+-- the words of two lists
 behind_append : (c : ℕ) (xs ys : List (List ℕ)) → behind c (xs ++ ys) ≡ behind c xs ++ behind c ys
 unfolding behind
 behind_append c [] ys = refl
 behind_append c (x ∷ xs) ys = ap (λ l. (c ∷ x) ++ l) (behind_append c xs ys) ∙ sym (append_assoc (c ∷ x) (behind c xs) (behind c ys))
 
+-- the first entry of a Publish, and the others
 pub publish_first : (q : ℕ) (x : Submission) (others : List Submission)
     → join_with_byte 32 (publish_words q (x ∷ others)) ≡ join_with_byte 32 (codes "publish" ∷ decimal q ∷ encode_upper x.entry ∷ data_text 512 x.payload ∷ []) ++ behind 32 (more_words others)
 unfolding publish_words
@@ -28,6 +30,7 @@ publish_first q x others =
     ∙ sym (append_assoc (codes "publish") (behind 32 front) (behind 32 more))
     ∙ ap (λ l. l ++ behind 32 more) (sym (join_behind 32 (codes "publish") front))
 
+-- the entry at place i
 pub more_next : (xs : List Submission) (i : ℕ) (d : Submission) → i < length xs
     → behind 32 (more_words (drop i xs)) ≡ behind 32 (codes "+" ∷ encode_upper (get_or xs i d).entry ∷ data_text 512 (get_or xs i d).payload ∷ []) ++ behind 32 (more_words (drop (i + 1) xs))
 unfolding more_words
@@ -35,6 +38,7 @@ more_next xs i d low =
     ap (λ l. behind 32 (more_words l)) (drop_more xs i d low)
     ∙ behind_append 32 (codes "+" ∷ encode_upper (get_or xs i d).entry ∷ data_text 512 (get_or xs i d).payload ∷ []) (more_words (drop (i + 1) xs))
 
+-- no entries are left
 pub more_none : (xs : List Submission) (i : ℕ) → length xs ≤ i → behind 32 (more_words (drop i xs)) ≡ []
 unfolding more_words behind
 more_none xs i high = ap (λ l. behind 32 (more_words l)) (drop_all i xs high)

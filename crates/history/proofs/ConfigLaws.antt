@@ -8,7 +8,7 @@ use Rattle.std.proofs.lemmas.Bool.{eqb-true}
 use Rattle.std.proofs.lemmas.List.Splits.{join_with_byte-slice_split}
 use Rattle.line_text.specs.Number.{number_in}
 use Rattle.line_text.specs.Words.{Without}
-use Rattle.line_text.proofs.NumberLaws.{number_is, number_some, decimal_spaceless, bytes_eq_true}
+use Rattle.line_text.proofs.NumberLaws.{number_is, decimal_spaceless, bytes_eq_true}
 use Rattle.line_text.proofs.WordLaws.{words_again}
 use Rattle.nvme_model.specs.declared.config.AtomicParameters.{AtomicParameters}
 use Rattle.nvme_model.specs.declared.config.ConfigNumbers.{ConfigNumbers}
@@ -40,27 +40,34 @@ config_parts (Some a) (Some u) (Some p) None q j c h = absurd cc
 config_parts (Some a) (Some u) (Some p) (Some s) None j c h = absurd cc
 config_parts (Some a) (Some u) (Some p) (Some s) (Some q) None c h = absurd cc
 config_parts (Some a) (Some u) (Some p) (Some s) (Some q) (Some j) c h =
-    let same : record { blocks = a; atomic = u; pairs = p; sq_size = s; cq_size = q; jobs = j; cqs = p } ≡ c = cc in
-    (ap (λ (v : ConfigNumbers). Some v.blocks) same, ap (λ (v : ConfigNumbers). Some v.atomic) same, ap (λ (v : ConfigNumbers). Some v.pairs) same, ap (λ (v : ConfigNumbers). Some v.sq_size) same,
-      ap (λ (v : ConfigNumbers). Some v.cq_size) same, ap (λ (v : ConfigNumbers). Some v.jobs) same, sym (ap (λ (v : ConfigNumbers). v.cqs) same) ∙ ap (λ (v : ConfigNumbers). v.pairs) same)
+    let same : record { blocks = a; atomic = u; pairs = p; sq_size = s; cq_size = q; jobs = j; cqs = p } ≡ c = cc in (
+      ap (λ (v : ConfigNumbers). Some v.blocks) same,
+      ap (λ (v : ConfigNumbers). Some v.atomic) same,
+      ap (λ (v : ConfigNumbers). Some v.pairs) same,
+      ap (λ (v : ConfigNumbers). Some v.sq_size) same,
+      ap (λ (v : ConfigNumbers). Some v.cq_size) same,
+      ap (λ (v : ConfigNumbers). Some v.jobs) same,
+      sym (ap (λ (v : ConfigNumbers). v.cqs) same) ∙ ap (λ (v : ConfigNumbers). v.pairs) same,
+    )
 
 -- nine words that are read are those of the configuration, in front of any others
 nine_is : (b w x y z p s q j : List ℕ) (more : List (List ℕ)) (c : ConfigNumbers) → nine_in b w x y z p s q j ≡ Some c
     → (b ∷ w ∷ x ∷ y ∷ z ∷ p ∷ s ∷ q ∷ j ∷ more ≡ nine_words c ++ more) × (c.cqs ≡ c.pairs)
 nine_is b w x y z p s q j more c h =
     let k = config_parts (number_in 32 b) (atomic_from (number_in 16 w) (number_in 16 x) (number_in 16 y) (number_in 16 z)) (number_in 16 p) (number_in 16 s) (number_in 16 q) (number_in 16 j) c h in
-    let u = atomic_parts (number_in 16 w) (number_in 16 x) (number_in 16 y) (number_in 16 z) c.atomic k.1 in
-    (ap (λ v. v ∷ w ∷ x ∷ y ∷ z ∷ p ∷ s ∷ q ∷ j ∷ more) (number_is 32 c.blocks b k.0).0
-      ∙ ap (λ v. decimal c.blocks ∷ v ∷ x ∷ y ∷ z ∷ p ∷ s ∷ q ∷ j ∷ more) (number_is 16 c.atomic.awun w u.0).0
-      ∙ ap (λ v. decimal c.blocks ∷ decimal c.atomic.awun ∷ v ∷ y ∷ z ∷ p ∷ s ∷ q ∷ j ∷ more) (number_is 16 c.atomic.acwu x u.1).0
-      ∙ ap (λ v. decimal c.blocks ∷ decimal c.atomic.awun ∷ decimal c.atomic.acwu ∷ v ∷ z ∷ p ∷ s ∷ q ∷ j ∷ more) (number_is 16 c.atomic.nabsn y u.2).0
-      ∙ ap (λ v. decimal c.blocks ∷ decimal c.atomic.awun ∷ decimal c.atomic.acwu ∷ decimal c.atomic.nabsn ∷ v ∷ p ∷ s ∷ q ∷ j ∷ more) (number_is 16 c.atomic.nabo z u.3).0
-      ∙ ap (λ l. decimal c.blocks ∷ decimal c.atomic.awun ∷ decimal c.atomic.acwu ∷ decimal c.atomic.nabsn ∷ decimal c.atomic.nabo ∷ l)
-      (ap (λ v. v ∷ s ∷ q ∷ j ∷ more) (number_is 16 c.pairs p k.2).0
-        ∙ ap (λ v. decimal c.pairs ∷ v ∷ q ∷ j ∷ more) (number_is 16 c.sq_size s k.3).0
-        ∙ ap (λ v. decimal c.pairs ∷ decimal c.sq_size ∷ v ∷ j ∷ more) (number_is 16 c.cq_size q k.4).0
-        ∙ ap (λ v. decimal c.pairs ∷ decimal c.sq_size ∷ decimal c.cq_size ∷ v ∷ more) (number_is 16 c.jobs j k.5).0),
-      k.6)
+    let u = atomic_parts (number_in 16 w) (number_in 16 x) (number_in 16 y) (number_in 16 z) c.atomic k.1 in (
+      ap (λ v. v ∷ w ∷ x ∷ y ∷ z ∷ p ∷ s ∷ q ∷ j ∷ more) (number_is 32 c.blocks b k.0).0
+          ∙ ap (λ v. decimal c.blocks ∷ v ∷ x ∷ y ∷ z ∷ p ∷ s ∷ q ∷ j ∷ more) (number_is 16 c.atomic.awun w u.0).0
+          ∙ ap (λ v. decimal c.blocks ∷ decimal c.atomic.awun ∷ v ∷ y ∷ z ∷ p ∷ s ∷ q ∷ j ∷ more) (number_is 16 c.atomic.acwu x u.1).0
+          ∙ ap (λ v. decimal c.blocks ∷ decimal c.atomic.awun ∷ decimal c.atomic.acwu ∷ v ∷ z ∷ p ∷ s ∷ q ∷ j ∷ more) (number_is 16 c.atomic.nabsn y u.2).0
+          ∙ ap (λ v. decimal c.blocks ∷ decimal c.atomic.awun ∷ decimal c.atomic.acwu ∷ decimal c.atomic.nabsn ∷ v ∷ p ∷ s ∷ q ∷ j ∷ more) (number_is 16 c.atomic.nabo z u.3).0
+          ∙ ap (λ l. decimal c.blocks ∷ decimal c.atomic.awun ∷ decimal c.atomic.acwu ∷ decimal c.atomic.nabsn ∷ decimal c.atomic.nabo ∷ l)
+          (ap (λ v. v ∷ s ∷ q ∷ j ∷ more) (number_is 16 c.pairs p k.2).0
+          ∙ ap (λ v. decimal c.pairs ∷ v ∷ q ∷ j ∷ more) (number_is 16 c.sq_size s k.3).0
+          ∙ ap (λ v. decimal c.pairs ∷ decimal c.sq_size ∷ v ∷ j ∷ more) (number_is 16 c.cq_size q k.4).0
+          ∙ ap (λ v. decimal c.pairs ∷ decimal c.sq_size ∷ decimal c.cq_size ∷ v ∷ more) (number_is 16 c.jobs j k.5).0),
+      k.6,
+    )
 
 -- a number is equal to itself
 eqb_same : (n : ℕ) → eqb n n ≡ true
@@ -184,12 +191,26 @@ words_back c false is e =
 
 -- no number of a configuration has a space
 numbers_spaceless : (c : ConfigNumbers) (more : List (List ℕ)) → HasConfigLine c → AllByRecursion (Without 32) more → AllByRecursion (Without 32) (nine_words c ++ more)
-numbers_spaceless c more is others =
-    (spaceless_32 c.blocks is.blocks, (spaceless_16 c.atomic.awun is.awun, (spaceless_16 c.atomic.acwu is.acwu, (spaceless_16 c.atomic.nabsn is.nabsn, (spaceless_16 c.atomic.nabo is.nabo,
-              (spaceless_16 c.pairs is.pairs, (spaceless_16 c.sq_size is.sq_size, (spaceless_16 c.cq_size is.cq_size, (spaceless_16 c.jobs is.jobs, others)))))))))
+numbers_spaceless c more is others = (
+  spaceless_32 c.blocks is.blocks,
+  (
+    spaceless_16 c.atomic.awun is.awun,
+    (
+      spaceless_16 c.atomic.acwu is.acwu,
+      (
+        spaceless_16 c.atomic.nabsn is.nabsn,
+        (
+          spaceless_16 c.atomic.nabo is.nabo,
+          (spaceless_16 c.pairs is.pairs, (spaceless_16 c.sq_size is.sq_size, (spaceless_16 c.cq_size is.cq_size, (spaceless_16 c.jobs is.jobs, others)))),
+        ),
+      ),
+    ),
+  ),
+)
   where
     spaceless_16 : (n : ℕ) → n < 2 ^ 16 → Without 32 (decimal n)
     spaceless_16 n small = decimal_spaceless n (omega arith)
+
     spaceless_32 : (n : ℕ) → n < 2 ^ 32 → Without 32 (decimal n)
     spaceless_32 n small = decimal_spaceless n (omega arith)
 
@@ -212,9 +233,11 @@ config_again c is = ap config_words_in (split_again c (eqb c.cqs c.pairs) is) �
 
 -- ---- at the call
 
+-- what is read has the line
 pub config_found : (line : List ℕ) (r : Result ConfigNumbers LineFault) → Gives r (config_in line) → IfOk r (λ c. line ≡ config_line c)
 config_found line (Ok c) h = config_is line c h
 config_found line (Err f) h = tt
 
+-- what has the line is read
 pub config_only : (line : List ℕ) (r : Result ConfigNumbers LineFault) (c : ConfigNumbers) → Gives r (config_in line) → HasConfigLine c → line ≡ config_line c → Gives r (Some c)
 config_only line r c h is same = subst (Gives r) (ap config_in same ∙ config_again c is) h

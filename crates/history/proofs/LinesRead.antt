@@ -1,5 +1,5 @@
 -- What is read has the line that was read.
-use Rattle.std.proofs.Common.{◌≡◌, ℕ, Bool, true, false, cond, List, [], ◌∷◌, length, None, Some, refl, sym, ap, ◌∙◌, arith}
+use Rattle.std.proofs.Common.{◌≡◌, ℕ, Bool, true, false, cond, List, [], ◌∷◌, None, Some, refl, sym, ap, ◌∙◌, arith}
 use Rattle.std.specs.Prelude.{Result, Ok, Err, IfOk, codes, decimal}
 use Rattle.std.specs.List.{slice_split, join_with_byte}
 use Rattle.std.specs.Str.{bytes_eq}
@@ -8,16 +8,16 @@ use Rattle.std.proofs.lemmas.List.Splits.{join_with_byte-slice_split}
 use Rattle.hex.specs.Hex.{encode_upper}
 use Rattle.line_text.specs.Number.{number_in}
 use Rattle.line_text.specs.Digits.{bytes_in, fixed_in}
-use Rattle.line_text.specs.Data.{data_text, data_in}
+use Rattle.line_text.specs.Data.{data_in}
 use Rattle.line_text.proofs.NumberLaws.{number_is, bytes_eq_true}
 use Rattle.line_text.proofs.HexLaws.{bytes_is, fixed_is}
 use Rattle.line_text.proofs.DataLaws.{data_is}
 use Rattle.nvme_model.specs.declared.entry.Entry.{Entry}
 use Rattle.history.specs.declared.line_fault.LineFault.{LineFault}
 use Rattle.history.specs.Gives.{Gives}
-use Rattle.history.specs.StatusWord.{verdict_words, verdict_in}
-use Rattle.history.specs.Marks.{mode_word, mode_in, found_word, found_in, mark_word, mark_in}
-use Rattle.history.specs.BatchWords.{publish_words, batch_in}
+use Rattle.history.specs.StatusWord.{verdict_in}
+use Rattle.history.specs.Marks.{mode_in, found_word, found_in, mark_in}
+use Rattle.history.specs.BatchWords.{batch_in}
 use Rattle.history.specs.Lines.{entry_words, entry_line, publish_in, fetch_in, grant_in, block_in, post_in, reap_in, entry_words_in, entry_in}
 use Rattle.history.proofs.StatusLaws.{verdict_are}
 use Rattle.history.proofs.MarkLaws.{mode_is, found_is, mark_is}

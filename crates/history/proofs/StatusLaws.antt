@@ -1,5 +1,5 @@
 -- The words of statuses and verdicts: what is read is spelled so, and what is spelled so is read.
-use Rattle.std.proofs.Common.{◌≡◌, ℕ, zero, suc, ◌+◌, ◌-◌, ◌<◌, Bool, true, false, cond, List, [], ◌∷◌, length, get_or, None, Some, refl, sym, ap, ◌∙◌, arith}
+use Rattle.std.proofs.Common.{◌≡◌, ℕ, zero, suc, ◌+◌, ◌-◌, ◌<◌, Bool, true, false, cond, List, [], ◌∷◌, length, get_or, None, Some, refl, ap, ◌∙◌, arith}
 use Rattle.std.specs.Prelude.{Option, codes, nat_lt, ◌&&◌}
 use Rattle.std.specs.List.{AllByRecursion}
 use Rattle.std.specs.Str.{bytes_eq}
@@ -16,7 +16,6 @@ use Rattle.nvme_model.specs.declared.status.Status.{Status}
 use Rattle.nvme_model.specs.declared.status.Verdict.{Verdict}
 use Rattle.history.specs.StatusWord.{status_word, status_from, status_in, verdict_words, single_failed, pair_failed, short_verdict_in, verdict_in}
 use Rattle.history.specs.Lines.{HasStatus, HasVerdict}
-
 
 -- what an `and` that holds shows
 both_true : (a b : Bool) → (a && b) ≡ true → (a ≡ true) × (b ≡ true)

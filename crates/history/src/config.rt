@@ -60,9 +60,7 @@ impl Config {
         ensures accepted { OnOk result (config_fault (numbers blocks awun acwu nabsn nabo pairs sq cq jobs pairs) ≡ None) }
         ensures fault { IfErr result (λ f. config_fault (numbers blocks awun acwu nabsn nabo pairs sq cq jobs pairs) ≡ Some f) }
     {
-        Config::with_cqs(
-            blocks, awun, acwu, nabsn, nabo, pairs, sq, cq, jobs, pairs,
-        )
+        Config::with_cqs(blocks, awun, acwu, nabsn, nabo, pairs, sq, cq, jobs, pairs)
     }
 
     /// The same with `cqs` completion queues: submission queue q uses completion queue `1 + (q - 1) mod cqs`.

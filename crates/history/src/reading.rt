@@ -11,9 +11,7 @@ use crate::marks::{found_of, mark_of, mode_of};
 use crate::status_word::verdict_of;
 use line_text::{read_data, read_fixed, read_u16, read_u32, read_u64, split_words};
 use nvme_model::array::Range;
-use nvme_model::entry::{
-    BlockLine, Entry, FetchLine, GrantLine, PostLine, PublishLine, ReapLine,
-};
+use nvme_model::entry::{BlockLine, Entry, FetchLine, GrantLine, PostLine, PublishLine, ReapLine};
 use nvme_model::submission::Payload;
 use std::alloc::Global;
 

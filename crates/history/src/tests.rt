@@ -4,6 +4,7 @@ use block_array::ConfigFault;
 use nvme_model::config::{AtomicParameters, ConfigNumbers};
 use nvme_model::entry::{Entry, FetchLine};
 use nvme_model::status::Verdict;
+use std::process::Abort;
 use std::test::Fail;
 
 #[test]
@@ -20,45 +21,103 @@ fn a_configuration_is_accepted(rt: HostRuntime) -> Result<(), Fail> {
     Ok(())
 }
 
+const CUT: AtomicParameters = AtomicParameters {
+    awun: 1,
+    acwu: 1,
+    nabsn: 3,
+    nabo: 2,
+};
+
+const GOOD: ConfigNumbers = ConfigNumbers {
+    blocks: 8,
+    atomic: CUT,
+    pairs: 2,
+    sq_size: 4,
+    cq_size: 4,
+    jobs: 8,
+    cqs: 2,
+};
+
+// That the numbers are refused for this fault.
+fn check_refused(rt: &impl Abort, numbers: ConfigNumbers, fault: ConfigFault) {
+    assert_eq!(rt; Config::from_numbers(&numbers).err(), Some(fault));
+}
+
+// The same of the numbers of the cut, among others that are accepted.
+fn check_cut(rt: &impl Abort, atomic: AtomicParameters, fault: ConfigFault) {
+    check_refused(rt, ConfigNumbers { atomic, ..GOOD }, fault);
+}
+
 #[test]
-fn each_fault_refuses(rt: HostRuntime) {
-    let atomic = AtomicParameters {
-        awun: 1,
-        acwu: 1,
-        nabsn: 3,
-        nabo: 2,
-    };
-    let good = ConfigNumbers {
-        blocks: 8,
-        atomic,
-        pairs: 2,
-        sq_size: 4,
-        cq_size: 4,
-        jobs: 8,
-        cqs: 2,
-    };
-    let bad: [(ConfigNumbers, ConfigFault); 16] = [
-        (ConfigNumbers { atomic: AtomicParameters { awun: 256, ..atomic }, ..good }, ConfigFault::AwunTooLarge),
-        (ConfigNumbers { atomic: AtomicParameters { acwu: 256, ..atomic }, ..good }, ConfigFault::AcwuTooLarge),
-        (ConfigNumbers { atomic: AtomicParameters { awun: 4, ..atomic }, ..good }, ConfigFault::BoundaryBelowUnit),
-        (ConfigNumbers { atomic: AtomicParameters { nabo: 4, ..atomic }, ..good }, ConfigFault::OffsetPastBoundary),
-        (ConfigNumbers { blocks: 0, ..good }, ConfigFault::Blocks),
-        (ConfigNumbers { blocks: 65_537, ..good }, ConfigFault::Blocks),
-        (ConfigNumbers { pairs: 0, ..good }, ConfigFault::Pairs),
-        (ConfigNumbers { pairs: 17, ..good }, ConfigFault::Pairs),
-        (ConfigNumbers { sq_size: 1, ..good }, ConfigFault::SqSize),
-        (ConfigNumbers { sq_size: 1025, ..good }, ConfigFault::SqSize),
-        (ConfigNumbers { cq_size: 1, ..good }, ConfigFault::CqSize),
-        (ConfigNumbers { cq_size: 1025, ..good }, ConfigFault::CqSize),
-        (ConfigNumbers { jobs: 0, ..good }, ConfigFault::Jobs),
-        (ConfigNumbers { jobs: 257, ..good }, ConfigFault::Jobs),
-        (ConfigNumbers { cqs: 0, ..good }, ConfigFault::CqCount),
-        (ConfigNumbers { cqs: 3, ..good }, ConfigFault::CqCount),
-    ];
-    assert!(rt; Config::from_numbers(&good).is_ok());
-    for (numbers, fault) in bad {
-        assert_eq!(rt; Config::from_numbers(&numbers).err(), Some(fault));
-    }
+fn each_fault_of_the_cut_refuses(rt: HostRuntime) {
+    let rt = &rt;
+    assert!(rt; Config::from_numbers(&GOOD).is_ok());
+    check_cut(
+        rt,
+        AtomicParameters { awun: 256, ..CUT },
+        ConfigFault::AwunTooLarge,
+    );
+    check_cut(
+        rt,
+        AtomicParameters { acwu: 256, ..CUT },
+        ConfigFault::AcwuTooLarge,
+    );
+    check_cut(
+        rt,
+        AtomicParameters { awun: 4, ..CUT },
+        ConfigFault::BoundaryBelowUnit,
+    );
+    check_cut(
+        rt,
+        AtomicParameters { nabo: 4, ..CUT },
+        ConfigFault::OffsetPastBoundary,
+    );
+}
+
+#[test]
+fn each_fault_of_the_queues_refuses(rt: HostRuntime) {
+    let rt = &rt;
+    check_refused(rt, ConfigNumbers { blocks: 0, ..GOOD }, ConfigFault::Blocks);
+    check_refused(
+        rt,
+        ConfigNumbers {
+            blocks: 65_537,
+            ..GOOD
+        },
+        ConfigFault::Blocks,
+    );
+    check_refused(rt, ConfigNumbers { pairs: 0, ..GOOD }, ConfigFault::Pairs);
+    check_refused(rt, ConfigNumbers { pairs: 17, ..GOOD }, ConfigFault::Pairs);
+    check_refused(
+        rt,
+        ConfigNumbers { sq_size: 1, ..GOOD },
+        ConfigFault::SqSize,
+    );
+    check_refused(
+        rt,
+        ConfigNumbers {
+            sq_size: 1025,
+            ..GOOD
+        },
+        ConfigFault::SqSize,
+    );
+    check_refused(
+        rt,
+        ConfigNumbers { cq_size: 1, ..GOOD },
+        ConfigFault::CqSize,
+    );
+    check_refused(
+        rt,
+        ConfigNumbers {
+            cq_size: 1025,
+            ..GOOD
+        },
+        ConfigFault::CqSize,
+    );
+    check_refused(rt, ConfigNumbers { jobs: 0, ..GOOD }, ConfigFault::Jobs);
+    check_refused(rt, ConfigNumbers { jobs: 257, ..GOOD }, ConfigFault::Jobs);
+    check_refused(rt, ConfigNumbers { cqs: 0, ..GOOD }, ConfigFault::CqCount);
+    check_refused(rt, ConfigNumbers { cqs: 3, ..GOOD }, ConfigFault::CqCount);
 }
 
 fn fetched(ticket: u64) -> Entry {

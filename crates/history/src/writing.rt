@@ -1,7 +1,8 @@
 //! The line of an entry.
 
-ghost use Rattle.std.specs.Prelude.{OnOk, OnErr};
+ghost use Rattle.std.specs.Prelude.{[], ◌∷◌, OnOk, OnErr, codes, decimal};
 ghost use Rattle.std.specs.Io.KnownBytes.{Appends};
+ghost use Rattle.std.specs.List.{join_with_byte};
 ghost use Rattle.line_text.specs.Known.{AppendsFront};
 ghost use Rattle.nvme_model.specs.declared.entry.Entry.{Entry};
 ghost use Rattle.history.specs.Lines.{entry_line};
@@ -10,9 +11,7 @@ use crate::batch::write_batch;
 use crate::marks::{found_text, mark_text, mode_text};
 use crate::status_word::status_text;
 use line_text::{Word, send_words};
-use nvme_model::entry::{
-    BlockLine, Entry, FetchLine, GrantLine, PostLine, PublishLine, ReapLine,
-};
+use nvme_model::entry::{BlockLine, Entry, FetchLine, GrantLine, PostLine, PublishLine, ReapLine};
 use nvme_model::status::Verdict;
 use std::io::{Result as IoResult, Write};
 
@@ -34,39 +33,9 @@ fn write_fetch<W: Write>(line: &FetchLine, writer: &mut W) -> IoResult<()>
         (AppendsFront (W.contents writer.old) (W.contents writer.new) (entry_line (Entry.Fetch line.now))) }
 {
     match line.verdict {
-        Verdict::Single => send_words(
-            writer,
-            &[
-                Word::Text(b"fetch"),
-                Word::Number(u64::from(line.queue)),
-                Word::Number(line.ticket),
-                Word::Text(b"1"),
-                Word::Text(b"ok"),
-            ],
-        ),
-        Verdict::SingleFailed(status) => {
-            let status = status_text(status);
-            send_words(
-                writer,
-                &[
-                    Word::Text(b"fetch"),
-                    Word::Number(u64::from(line.queue)),
-                    Word::Number(line.ticket),
-                    Word::Text(b"1"),
-                    Word::Text(&status),
-                ],
-            )
-        }
-        Verdict::Pair => send_words(
-            writer,
-            &[
-                Word::Text(b"fetch"),
-                Word::Number(u64::from(line.queue)),
-                Word::Number(line.ticket),
-                Word::Text(b"2"),
-                Word::Text(b"ok"),
-            ],
-        ),
+        Verdict::Single => send_fetch(line, b"1", b"ok", writer),
+        Verdict::SingleFailed(status) => send_fetch(line, b"1", &status_text(status), writer),
+        Verdict::Pair => send_fetch(line, b"2", b"ok", writer),
         Verdict::PairFailed(first, second) => {
             let first = status_text(first);
             let second = status_text(second);
@@ -83,6 +52,32 @@ fn write_fetch<W: Write>(line: &FetchLine, writer: &mut W) -> IoResult<()>
             )
         }
     }
+}
+
+// Writes the line of a Fetch whose verdict is these two words.
+fn send_fetch<'a, W: Write>(
+    line: &FetchLine,
+    count: &'a [u8],
+    word: &'a [u8],
+    writer: &mut W,
+) -> IoResult<()>
+    ensures whole { OnOk result
+        (Appends (W.contents writer.old) (W.contents writer.new)
+        (join_with_byte 32 (codes "fetch" ∷ decimal line.now.queue ∷ decimal line.now.ticket ∷ count.now ∷ word.now ∷ []))) }
+    ensures front { OnErr result
+        (AppendsFront (W.contents writer.old) (W.contents writer.new)
+        (join_with_byte 32 (codes "fetch" ∷ decimal line.now.queue ∷ decimal line.now.ticket ∷ count.now ∷ word.now ∷ []))) }
+{
+    send_words(
+        writer,
+        &[
+            Word::Text(b"fetch"),
+            Word::Number(u64::from(line.queue)),
+            Word::Number(line.ticket),
+            Word::Text(count),
+            Word::Text(word),
+        ],
+    )
 }
 
 #[tactic(auto, unfolding(crate::specs::Lines::entry_line, crate::specs::Lines::entry_words))]

@@ -1,10 +1,9 @@
-use Rattle.std.proofs.Common.{◌≡◌, ◌<◌, ◌≤◌, ℕ, List, [], ◌∷◌, ◌++◌, map, length, None, Some, true, false, sym, ap, subst, ◌∙◌, arith, refl}
+use Rattle.std.proofs.Common.{◌≡◌, [], map, length, Some, sym, ap, ◌∙◌, arith}
 use Rattle.std.proofs.lemmas.List.{nil_from_length, length-map}
 use Rattle.std.proofs.lemmas.Bool.{eqb-true, eqb-false}
 use Rattle.std.proofs.lemmas.Result.{err_from_is_err_and}
-use Rattle.std.specs.Str.{bytes_eq}
-use Rattle.history.specs.BatchWords.{more_in, then_item, item_in}
-use Rattle.history.proofs.Joining.{joined, more_good, more_bad_plus, more_bad_item, three_up, more_few, more_end, then_some, fails_then, not_false, not_true}
+use Rattle.history.specs.BatchWords.{more_in}
+use Rattle.history.proofs.Joining.{more_good, more_bad_plus, more_bad_item, three_up, more_few, more_end, then_some, fails_then, not_false, not_true}
 use Rattle.history.proofs.batch.more_of.Goals as goal
 
 pub returns-then-ne : goal.returns-then-ne

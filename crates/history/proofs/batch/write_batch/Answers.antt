@@ -1,14 +1,10 @@
-use Rattle.std.proofs.Common.{◌≡◌, ◌+◌, ℕ, List, [], ◌++◌, ◌∷◌, map, drop, get_or, sym, ap, subst, refl, ◌∙◌, append_assoc, append-nil}
-use Rattle.std.specs.Prelude.{codes, decimal}
+use Rattle.std.proofs.Common.{◌++◌, sym, ap, subst, ◌∙◌, append_assoc, append-nil}
 use Rattle.std.specs.List.{join_with_byte}
 use Rattle.std.specs.Io.KnownBytes.{Appends}
 use Rattle.std.proofs.KnownBytes.{Appends-trans}
-use Rattle.hex.specs.Hex.{encode_upper}
 use Rattle.line_text.specs.Known.{AppendsFront}
 use Rattle.line_text.proofs.Known.{front_at, front_first, on_err}
-use Rattle.line_text.specs.Data.{data_text}
-use Rattle.line_text.specs.Words.{behind}
-use Rattle.history.specs.BatchWords.{more_words, publish_words}
+use Rattle.history.specs.BatchWords.{publish_words}
 use Rattle.history.proofs.BatchSpelling.{publish_first, more_next, more_none}
 use Rattle.history.proofs.batch.write_batch.Goals as goal
 
