@@ -1,2 +1,3 @@
-pub mod Reaching
 pub mod Beginning
+mod KindsLemmas
+pub mod Reaching

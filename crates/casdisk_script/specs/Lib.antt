@@ -3,3 +3,4 @@ pub mod Meaning
 pub mod Script
 pub mod Running
 pub mod Comments
+pub mod Kinds

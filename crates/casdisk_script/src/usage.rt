@@ -1,5 +1,8 @@
 //! The command line.
 
+ghost use Rattle.std.specs.Prelude.{◌≡◌, option_map};
+ghost use Rattle.casdisk_script.specs.Kinds.{kinds_in};
+
 use crate::request::{Asked, UsageFault};
 use bitflags::Flags;
 use clap::error::ErrorKind;
@@ -35,11 +38,18 @@ fn command<'a>(alloc: Global) -> Result<Command<'a>, AllocError> {
 }
 
 /// The kinds that a text names, joined by commas; a name twice counts once.
-pub fn kinds_of(text: &str) -> Option<Kinds> {
+///
+/// None where a name is unknown or empty.
+pub fn kinds_of(text: &str) -> Option<Kinds>
+    ensures value { option_map (λ kinds. kinds.0) result ≡ kinds_in text.now }
+{
     let mut kinds = Kinds::empty();
-    for name in text.split(',') {
+    let mut rest = text;
+    while let Some((name, after)) = rest.split_once(',') {
         kinds.insert(Kinds::from_name(name)?);
+        rest = after;
     }
+    kinds.insert(Kinds::from_name(rest)?);
     Some(kinds)
 }
 
