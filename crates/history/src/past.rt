@@ -1,6 +1,6 @@
 //! The entries of a run, one after the other.
 
-ghost use Rattle.std.specs.Prelude.{◌≡◌, ◌==◌, ◌<◌, ◌≤◌, ◌+◌, [], ◌∷◌, Err, OnOk, OnErr, length, reverse, slice_get};
+ghost use Rattle.std.specs.Prelude.{◌≡◌, ◌==◌, ◌<◌, ◌≤◌, ◌+◌, ◌^◌, [], ◌∷◌, Err, OnOk, OnErr, length, reverse, slice_get};
 ghost use Rattle.std.specs.Option.{option_copied};
 ghost use Rattle.nvme_model.specs.declared.entry.Entry.{Entry};
 
@@ -42,8 +42,11 @@ impl History {
         ensures room { OnOk result (more ≤ self.new.room) }
         ensures kept { self.old.room ≤ self.new.room }
         ensures full { OnErr result (self.old.room < more) }
+        ensures few { OnOk result (length self.new.past + more < 2 ^ 64) }
     {
-        self.entries.reserve(more)
+        self.entries.reserve(more)?;
+        let _most = self.entries.capacity();
+        Ok(())
     }
 
     /// Adds an entry for which there is room.

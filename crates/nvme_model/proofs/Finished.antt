@@ -40,7 +40,7 @@ IsNewest past x = is_open past x ≡ true → x.unit + 1 ≡ grants_of past x.ti
 still_open : (past : Past) (b : BlockLine) (x : GrantLine) → is_open (Entry.Block b ∷ past) x ≡ true → is_open past x ≡ true
 still_open past b x h = unless _ _ (ended_kept past b x.ticket x.unit x.range.blocks) h
 
-not_has_open : (past : Past) (t : ℕ) → has_open past t ≡ false → Each (λ x. is_open past x ≡ true → eqb x.ticket t ≡ false) (granted past)
+pub not_has_open : (past : Past) (t : ℕ) → has_open past t ≡ false → Each (λ x. is_open past x ≡ true → eqb x.ticket t ≡ false) (granted past)
 not_has_open past t h = unfilter (λ x. eqb x.ticket t ≡ false) (is_open past) (granted past) (none_each (λ x. eqb x.ticket t) (open_units past) h)
 
 no_open_if : (past : Past) (t : ℕ) → Each (λ x. is_open past x ≡ true → eqb x.ticket t ≡ false) (granted past) → has_open past t ≡ false
@@ -86,7 +86,7 @@ ended_here past b x e u d =
     ap not (or_right (nat_le (steps_needed (Tickets.ticket past x.ticket) x.range.blocks) (length (blocks_made (Entry.Block b ∷ past) x.ticket x.unit))) _
     (subst (λ (xs : List BlockLine). list_any (λ y. is_differs y.found) xs ≡ true) (sym (same_made b x.ticket x.unit (blocks_made past x.ticket x.unit) e u)) (or_left _ _ d)))
 
-differed_closed : (c : ConfigNumbers) (past : Past) (t : ℕ) → IsLegal c past → differed past t ≡ true → has_open past t ≡ false
+pub differed_closed : (c : ConfigNumbers) (past : Past) (t : ℕ) → IsLegal c past → differed past t ≡ true → has_open past t ≡ false
 differed_closed c [] t h d = refl
 differed_closed c (Entry.Fetch f ∷ past) t h d =
     ap (list_any (λ x. eqb x.ticket t)) (open_kept c past f h) ∙ differed_closed c past t (follows c past (Entry.Fetch f) h).before d
@@ -143,7 +143,7 @@ idle_finished c past t h e =
       left = or_left _ _ (ap (λ (o : Option Op). nat_le (length (units_by c.atomic o (slba (first_fields k)) (blocks (first_fields k)))) (grants_of past t)) e ∙ le-leb 0 (grants_of past t) (omega arith));
     }
 
-all_numbered : (p : ℕ × Range → Bool) (v i j : ℕ) (r : Range) (rs : List Range) → list_all p (numbered v rs) ≡ true → slice_get rs i ≡ Some r → j ≡ v + i → p (j, r) ≡ true
+pub all_numbered : (p : ℕ × Range → Bool) (v i j : ℕ) (r : Range) (rs : List Range) → list_all p (numbered v rs) ≡ true → slice_get rs i ≡ Some r → j ≡ v + i → p (j, r) ≡ true
 all_numbered p v i j r [] h e m = absurd (let f : None ≡ Some r = e in cc)
 all_numbered p v zero j r (s ∷ rs) h e m = here j v (omega (arith, m)) (same_range s r e) (and_parts (p (v, s)) (list_all p (numbered (suc v) rs)) h).0
   where
@@ -158,7 +158,8 @@ ended_some past t u n l h = go (or_cases _ _ h)
     go (inl q) = omega (arith, leb-true _ _ q, needs_all (Tickets.ticket past t) n, l)
     go (inr q) = some_made (blocks_made past t u) q
 
-ended_finished : (c : ConfigNumbers) (past : Past) (t : ℕ) → IsLegal c past → all_ended c past t ≡ true → Finished c past t
+-- one whose units have all ended
+pub ended_finished : (c : ConfigNumbers) (past : Past) (t : ℕ) → IsLegal c past → all_ended c past t ≡ true → Finished c past t
 ended_finished c past t h e =
     record {
       closed = no_open_if past t (each_map (λ x. slice_get (units c (Tickets.ticket past x.ticket)) x.unit ≡ Some x.range) (λ x. is_open past x ≡ true → eqb x.ticket t ≡ false) open_not (granted past) (unit_at c past h));

@@ -29,7 +29,7 @@ use Rattle.nvme_model.proofs.Granted.{GrantFacts, granted_facts}
 use Rattle.nvme_model.proofs.Blocks.{OpenFacts, open_facts, MayBlock, no_blocks, same_made, due_lba, range_before}
 use Rattle.nvme_model.proofs.Written.{Writing, clash}
 use Rattle.nvme_model.proofs.Stepping.{started, written, needed, writes_by, Stepped, step, and_true, or_false}
-use Rattle.nvme_model.proofs.Pairs.{word_at, goes_on, says_yes, says_no}
+use Rattle.nvme_model.proofs.Pairs.{word_at, goes_on, says_yes, says_no, pair_compares}
 
 -- ---- how far unit u of ticket t has written block l
 
@@ -216,7 +216,7 @@ own_step c past b g l h m marks w e s =
       word = word_at past b g m;
       mark = marks.1;
       unended = (or_parts _ _ (goes_on past b g m)).0;
-      yes = λ p x d n. says_yes c past b g h m x p d n;
+      yes = λ p x d n. says_yes c past b g h m x (pair_compares _ p) d n;
       no = λ x d. says_no c past b g m x d;
     }) s in
     let whole : (b.effect && writes_by (op k) same) ≡ (b.effect && has_block r l && writes_by (op k) same) =

@@ -47,7 +47,8 @@ use Rattle.nvme_model.proofs.Effects.{not_both}
 
 -- ---- a ticket has no more commands than its Fetch took
 
-commands_few : (past : Past) (t : ℕ) → length (Tickets.ticket past t).commands ≤ taken (Tickets.ticket past t).verdict
+-- no ticket has more commands than its verdict takes
+pub commands_few : (past : Past) (t : ℕ) → length (Tickets.ticket past t).commands ≤ taken (Tickets.ticket past t).verdict
 commands_few [] t = omega arith
 commands_few (Entry.Fetch f ∷ past) t = go (eqb f.ticket t) (commands_few past t)
   where
@@ -122,7 +123,8 @@ numbered_all p q v (r ∷ rs) f h =
 pub same_place : (j i : ℕ) → j ≡ 0 + i → j ≡ i
 same_place j i m = omega (arith, m)
 
-all_done_if : (c : ConfigNumbers) (past : Past) (t : ℕ) → IsLegal c past → MarkedRight past → all_ended c past t ≡ true → all_done c past t ≡ true
+-- where all units have ended each has its effect
+pub all_done_if : (c : ConfigNumbers) (past : Past) (t : ℕ) → IsLegal c past → MarkedRight past → all_ended c past t ≡ true → all_done c past t ≡ true
 all_done_if c past t h k e =
     and_from (all_ended c past t) _ e
     (numbered_all (λ u. has_ended past t u.0 u.1.blocks) (λ u. is_some (effect past t u.0)) 0 (units c (Tickets.ticket past t))
@@ -219,7 +221,8 @@ numbered_any p v zero j r (s ∷ rs) e m h = or_left _ _ (here j v (omega (arith
     here j v a b = ap₂ (λ (x : ℕ) (y : Range). p (x, y)) a b
 numbered_any p v (suc i) j r (s ∷ rs) e m h = or_right _ _ (numbered_any p (suc v) i j r rs e (omega (arith, m)) h)
 
-no_if : (c : ConfigNumbers) (past : Past) (t : ℕ) → IsLegal c past → MarkedRight past → differed past t ≡ true → some_no c past t ≡ true
+-- and where a `differs` came an effect says no
+pub no_if : (c : ConfigNumbers) (past : Past) (t : ℕ) → IsLegal c past → MarkedRight past → differed past t ≡ true → some_no c past t ≡ true
 no_if c past t h k d =
     let u = differs_unit past t d in
     let x = granted_unit c past t u.0 h (unit_of_blocks c past t u.0 h (some_made _ u.1)) in
@@ -279,7 +282,7 @@ single_owed c past t (Some Op.WriteZeroes) h k p e = one_of _ _ _ _ (some_or_don
 single_owed c past t (Some Op.Compare) h k p e = one_of _ _ _ _ (some_or_done c past t h k (e refl))
 
 -- a pair's one unit has ended where a block differs
-lone : (c : ConfigNumbers) (past : Past) (t : ℕ) → op (Tickets.ticket past t) ≡ Some Op.Pair → IsLegal c past → differed past t ≡ true → all_ended c past t ≡ true
+pub lone : (c : ConfigNumbers) (past : Past) (t : ℕ) → op (Tickets.ticket past t) ≡ Some Op.Pair → IsLegal c past → differed past t ≡ true → all_ended c past t ≡ true
 lone c past t p h d =
     let u = differs_unit past t d in
     let x = granted_unit c past t u.0 h (unit_of_blocks c past t u.0 h (some_made _ u.1)) in
@@ -299,7 +302,8 @@ pair_owed : (c : ConfigNumbers) (past : Past) (t : ℕ) → op (Tickets.ticket p
 pair_owed c past t p h k (inl e) = two_of (some_no c past t) (all_ended c past t) (all_done c past t) compare_failure failed_fused success success (inr (all_done_if c past t h k e))
 pair_owed c past t p h k (inr d) = two_of (some_no c past t) (all_ended c past t) (all_done c past t) compare_failure failed_fused success success (inl (no_if c past t h k d, lone c past t p h d))
 
-owed_long : (c : ConfigNumbers) (past : Past) (t : ℕ) (v : Verdict) → (Tickets.ticket past t).verdict ≡ v → IsLegal c past → MarkedRight past → owes_nothing_yet c past t ≡ false
+-- where something is owed all is
+pub owed_long : (c : ConfigNumbers) (past : Past) (t : ℕ) (v : Verdict) → (Tickets.ticket past t).verdict ≡ v → IsLegal c past → MarkedRight past → owes_nothing_yet c past t ≡ false
     → taken v ≤ length (owed_after c past t (Tickets.ticket past t) v)
 owed_long c past t (Verdict.SingleFailed s) e h k n = omega arith
 owed_long c past t (Verdict.PairFailed s r) e h k n = omega arith

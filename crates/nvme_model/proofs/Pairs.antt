@@ -10,7 +10,7 @@ use Rattle.nvme_model.specs.Open
 use Rattle.nvme_model.specs.Tickets
 use Rattle.nvme_model.specs.History.{Past}
 use Rattle.nvme_model.specs.Tickets.{Ticket}
-use Rattle.nvme_model.specs.Operations.{op, is_pair, compare_data}
+use Rattle.nvme_model.specs.Operations.{op, is_pair, has_compare, compare_data}
 use Rattle.nvme_model.specs.Open.{granted, grants_of, blocks_made, is_equal, is_differs, has_ended, unit_range}
 use Rattle.nvme_model.specs.Value.{value, all_equal}
 use Rattle.nvme_model.specs.Placed.{effect}
@@ -79,18 +79,28 @@ equal_all q (b ∷ made) c d h =
 
 -- ---- words
 
-pub pair_word : (o : Option Op) (n j : ℕ) (f : Found) → is_pair o ≡ true → j < n → may_find o n j f ≡ true → comparing f ≡ true
-pair_word (Some Op.Pair) n j f p l h = subst (λ (x : Bool). cond x (comparing f) (Open.is_written f) ≡ true) (lt-ltb j n l) h
-pair_word None n j f p l h = clash false p refl
-pair_word (Some Op.Read) n j f p l h = clash false p refl
-pair_word (Some Op.Write) n j f p l h = clash false p refl
-pair_word (Some Op.WriteZeroes) n j f p l h = clash false p refl
-pair_word (Some Op.Compare) n j f p l h = clash false p refl
+-- the first n Blocks of a unit that compares do
+pub compare_word : (o : Option Op) (n j : ℕ) (f : Found) → has_compare o ≡ true → j < n → may_find o n j f ≡ true → comparing f ≡ true
+compare_word (Some Op.Pair) n j f p l h = subst (λ (x : Bool). cond x (comparing f) (Open.is_written f) ≡ true) (lt-ltb j n l) h
+compare_word (Some Op.Compare) n j f p l h = h
+compare_word None n j f p l h = clash false p refl
+compare_word (Some Op.Read) n j f p l h = clash false p refl
+compare_word (Some Op.Write) n j f p l h = clash false p refl
+compare_word (Some Op.WriteZeroes) n j f p l h = clash false p refl
 
--- of a pair the first n Blocks compare
+-- a pair compares
+pub pair_compares : (o : Option Op) → is_pair o ≡ true → has_compare o ≡ true
+pair_compares (Some Op.Pair) p = refl
+pair_compares (Some Op.Compare) p = refl
+pair_compares None p = clash false p refl
+pair_compares (Some Op.Read) p = clash false p refl
+pair_compares (Some Op.Write) p = clash false p refl
+pair_compares (Some Op.WriteZeroes) p = clash false p refl
+
+-- the same of those that are made
 abbrev Words : Past → ℕ → ℕ → List BlockLine → Type 0
 Words past t u made =
-    is_pair (op (Tickets.ticket past t)) ≡ true → length made ≤ (unit_range past t u).blocks → list_all (λ b. comparing b.found) made ≡ true
+    has_compare (op (Tickets.ticket past t)) ≡ true → length made ≤ (unit_range past t u).blocks → list_all (λ b. comparing b.found) made ≡ true
 
 -- the word by the entry's own unit
 pub word_at : (past : Past) (b : BlockLine) (g : GrantLine) → MayBlock past b g
@@ -103,7 +113,7 @@ word_at past b g m =
 words_more : (past : Past) (b : BlockLine) (g : GrantLine) → MayBlock past b g → Words past b.ticket b.unit (blocks_made past b.ticket b.unit)
     → Words past b.ticket b.unit (b ∷ blocks_made past b.ticket b.unit)
 words_more past b g m ih p l =
-    and_from _ _ (pair_word _ (unit_range past b.ticket b.unit).blocks (length (blocks_made past b.ticket b.unit)) b.found p (omega (arith, l)) (word_at past b g m))
+    and_from _ _ (compare_word _ (unit_range past b.ticket b.unit).blocks (length (blocks_made past b.ticket b.unit)) b.found p (omega (arith, l)) (word_at past b g m))
     (ih p (omega (arith, l)))
 
 words_block : (past : Past) (b : BlockLine) (t u : ℕ) (x : Bool) → (eqb b.ticket t && eqb b.unit u) ≡ x → Words past t u (blocks_made past t u)
@@ -120,31 +130,31 @@ no_blocks_yet c (Entry.Block b ∷ past) t u h l =
     ∙ no_blocks_yet c past t u (follows c past (Entry.Block b) h).before l
 no_blocks_yet c (e ∷ past) t u h l = no_blocks_yet c past t u (follows c past e h).before l
 
-pub pair_words : (c : ConfigNumbers) (past : Past) (t u : ℕ) → IsLegal c past → t ≤ Tickets.tickets past → Words past t u (blocks_made past t u)
-pair_words c [] t u h k = λ p l. refl
-pair_words c (Entry.Fetch f ∷ past) t u h k =
+pub compare_words : (c : ConfigNumbers) (past : Past) (t u : ℕ) → IsLegal c past → t ≤ Tickets.tickets past → Words past t u (blocks_made past t u)
+compare_words c [] t u h k = λ p l. refl
+compare_words c (Entry.Fetch f ∷ past) t u h k =
     let before = (follows c past (Entry.Fetch f) h).before in
     elim (cases_lt (Tickets.tickets past) t) [
       | inl l ↦ λ p n. rw (no_blocks_yet c past t u before l) refl
-      | inr l ↦ λ p n. pair_words c past t u before l (ap (λ (x : Ticket). is_pair (op x)) (sym (ticket_kept c past f t h l)) ∙ p) n
+      | inr l ↦ λ p n. compare_words c past t u before l (ap (λ (x : Ticket). has_compare (op x)) (sym (ticket_kept c past f t h l)) ∙ p) n
     ]
-pair_words c (Entry.Grant g ∷ past) t u h k =
+compare_words c (Entry.Grant g ∷ past) t u h k =
     let before = (follows c past (Entry.Grant g) h).before in
-    words_grant (eqb g.ticket t && eqb g.unit u) refl (pair_words c past t u before k) (λ e. no_blocks c past t u before (grants_before c past g t u h e))
+    words_grant (eqb g.ticket t && eqb g.unit u) refl (compare_words c past t u before k) (λ e. no_blocks c past t u before (grants_before c past g t u h e))
   where
     words_grant : (x : Bool) → (eqb g.ticket t && eqb g.unit u) ≡ x → Words past t u (blocks_made past t u) → ((eqb g.ticket t && eqb g.unit u) ≡ true → blocks_made past t u ≡ [])
         → Words (Entry.Grant g ∷ past) t u (blocks_made past t u)
     words_grant true e ih f = λ p l. rw (f e) refl
     words_grant false e ih f =
-        subst (λ (r : Range). is_pair (op (Tickets.ticket past t)) ≡ true → length (blocks_made past t u) ≤ r.blocks → list_all (λ b. comparing b.found) (blocks_made past t u) ≡ true)
+        subst (λ (r : Range). has_compare (op (Tickets.ticket past t)) ≡ true → length (blocks_made past t u) ≤ r.blocks → list_all (λ b. comparing b.found) (blocks_made past t u) ≡ true)
         (sym (range_before past g t u e)) ih
-pair_words c (Entry.Block b ∷ past) t u h k =
+compare_words c (Entry.Block b ∷ past) t u h k =
     let m = may_block c past b h in
     let before = (follows c past (Entry.Block b) h).before in
     let known : b.ticket ≤ Tickets.tickets past = omega (arith, m.2.ticket, m.2.unended.facts.known) in
-    words_block past b t u (eqb b.ticket t && eqb b.unit u) refl (pair_words c past t u before k)
-    (words_more past b m.0 m.2 (pair_words c past b.ticket b.unit before known))
-pair_words c (e ∷ past) t u h k = pair_words c past t u (follows c past e h).before k
+    words_block past b t u (eqb b.ticket t && eqb b.unit u) refl (compare_words c past t u before k)
+    (words_more past b m.0 m.2 (compare_words c past b.ticket b.unit before known))
+compare_words c (e ∷ past) t u h k = compare_words c past t u (follows c past e h).before k
 
 -- ---- at the mark
 
@@ -171,14 +181,14 @@ goes_on past b g m =
     rw (← e, ← m.ticket, m.unit) m.unended.goes_on
 
 -- a marked n-th compare that says `equal`: all blocks are the Compare's data
-pub says_yes : (c : ConfigNumbers) (past : Past) (b : BlockLine) (g : GrantLine) → IsLegal c past → MayBlock past b g → b.effect ≡ true → is_pair (op (Tickets.ticket past b.ticket)) ≡ true
+pub says_yes : (c : ConfigNumbers) (past : Past) (b : BlockLine) (g : GrantLine) → IsLegal c past → MayBlock past b g → b.effect ≡ true → has_compare (op (Tickets.ticket past b.ticket)) ≡ true
     → is_differs b.found ≡ false → suc (length (blocks_made past b.ticket b.unit)) ≡ (unit_range past b.ticket b.unit).blocks
     → all_equal (value past) (Tickets.ticket past b.ticket) (unit_range past b.ticket b.unit) ≡ true
 says_yes c past b g h m e p d n =
     let made = blocks_made past b.ticket b.unit in
     let r = unit_range past b.ticket b.unit in
     let known : b.ticket ≤ Tickets.tickets past = omega (arith, m.ticket, m.unended.facts.known) in
-    let words = words_more past b g m (pair_words c past b.ticket b.unit h known) p (omega (arith, n)) in
+    let words = words_more past b g m (compare_words c past b.ticket b.unit h known) p (omega (arith, n)) in
     let none = or_from _ _ d (or_parts _ _ (goes_on past b g m)).1 in
     let all = equal_all (agrees past (Tickets.ticket past b.ticket)) (b ∷ made) words none (right_at_mark past b g m e) in
     let order = one_more past b g m (made_in_order c past b.ticket b.unit h) in

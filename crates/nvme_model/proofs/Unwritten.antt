@@ -24,7 +24,7 @@ use Rattle.nvme_model.specs.declared.entry.Entry.{Entry}
 use Rattle.nvme_model.proofs.Rules.{follows}
 use Rattle.nvme_model.proofs.Apart.{ticket_kept}
 use Rattle.nvme_model.proofs.Blocks.{MayBlock, may_block, no_blocks, same_made, at_key, grants_before, range_before, due_lba}
-use Rattle.nvme_model.proofs.Pairs.{no_blocks_yet, goes_on, word_at, pair_word, answered, comparing}
+use Rattle.nvme_model.proofs.Pairs.{no_blocks_yet, goes_on, word_at, compare_word, pair_compares, answered, comparing}
 use Rattle.nvme_model.proofs.Effects.{no_effect, not_both}
 use Rattle.nvme_model.proofs.Written.{clash}
 
@@ -121,7 +121,7 @@ found_own past b g m ih p d l a e w =
         let j = length (blocks_made past b.ticket b.unit) in
         let below : j < r.blocks = omega (arith, w, k) in
         let due : b.lba ≡ r.slba + j = due_lba past b g m ∙ ap (λ (i : ℕ). r.slba + i) (mod-eq_of_lt below) in
-        and_from _ _ (found_equal b.found (pair_word (op (Tickets.ticket past b.ticket)) r.blocks j b.found p below (word_at past b g m)) n)
+        and_from _ _ (found_equal b.found (compare_word (op (Tickets.ticket past b.ticket)) r.blocks j b.found (pair_compares _ p) below (word_at past b g m)) n)
         (eq-eqb b.lba l (omega (arith, due, k, e)))
 
 found : (c : ConfigNumbers) (past : Past) (t u : ℕ) → IsLegal c past → FoundEqual past t u (Tickets.ticket past t) (unit_range past t u) (blocks_made past t u)
@@ -182,7 +182,7 @@ late_own past b g m ih p w =
 
     enough : is_written b.found ≡ true → (unit_range past b.ticket b.unit).blocks ≤ suc (length (blocks_made past b.ticket b.unit))
     enough x = elim (cases_lt (length (blocks_made past b.ticket b.unit)) (unit_range past b.ticket b.unit).blocks) [
-      | inl l ↦ clash (comparing b.found) (pair_word (op (Tickets.ticket past b.ticket)) (unit_range past b.ticket b.unit).blocks (length (blocks_made past b.ticket b.unit)) b.found p l (word_at past b g m)) (not_comparing b.found x)
+      | inl l ↦ clash (comparing b.found) (compare_word (op (Tickets.ticket past b.ticket)) (unit_range past b.ticket b.unit).blocks (length (blocks_made past b.ticket b.unit)) b.found (pair_compares _ p) l (word_at past b g m)) (not_comparing b.found x)
       | inr l ↦ omega (arith, l)
     ]
 

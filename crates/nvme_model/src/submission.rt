@@ -1,5 +1,6 @@
 //! Submission queue entries with the data beside them, as lists that contracts see.
 
+ghost use Rattle.std.specs.Borrow.{sem};
 ghost use Rattle.std.specs.Prelude.{◌≡◌, ◌<◌, length};
 
 use std::marker::Model;
@@ -19,6 +20,8 @@ impl Model for Payload {
 }
 
 impl Payload {
+    ghost use Rattle.nvme_model.specs.Lends.{LendsBytes};
+
     /// These bytes.
     pub fn new(bytes: Vec<u8>) -> Payload
         ensures { result ≡ bytes.items }
@@ -30,6 +33,14 @@ impl Payload {
         ensures { result.now ≡ self.now }
     {
         self.bytes.as_slice()
+    }
+
+    /// The bytes, to be changed; their number stays.
+    pub fn as_mut_slice(&mut self) -> &mut [u8]
+        ensures* writes_back { sem 𝓛 (LendsBytes self.entry result) }
+        ensures value { result.now ≡ self.old }
+    {
+        self.bytes.as_mut_slice()
     }
 
     /// The bytes, given back.

@@ -52,9 +52,10 @@ fn statuses_and_verdicts_give_what_they_were_made_of(rt: HostRuntime) {
 
 #[test]
 fn lists_give_back_what_they_were_made_of(rt: HostRuntime) -> Result<(), Fail> {
-    let payload = Payload::new([1, 2, 3].to_vec(rt.alloc())?);
+    let mut payload = Payload::new([1, 2, 3].to_vec(rt.alloc())?);
     assert_eq!(rt; payload.as_slice(), [1, 2, 3].as_slice());
-    assert_eq!(rt; payload.into_vec().as_slice(), [1, 2, 3].as_slice());
+    payload.as_mut_slice()[1] = 7;
+    assert_eq!(rt; payload.into_vec().as_slice(), [1, 7, 3].as_slice());
     let mut items = Vec::new(rt.alloc());
     items.push(Submission {
         entry: [7; 64],

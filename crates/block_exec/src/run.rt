@@ -1,0 +1,186 @@
+//! The unit that is open of a ticket, as it goes on block by block.
+
+ghost use Rattle.std.specs.Prelude.{◌≡◌, ◌≤◌, ◌<◌, ◌+◌, Some, false, length, suc};
+ghost use Rattle.nvme_model.specs.Open.{is_differs};
+ghost use Rattle.nvme_model.specs.Steps.{marked};
+ghost use Rattle.block_exec.specs.Bytes.{compare_length, next_equal, read_after, read_length, volume_after, write_length};
+ghost use Rattle.block_exec.specs.Progress.{IsRange, has_ended, needed, next_block, next_found};
+
+use crate::blocks::{block_of, clear_block, compared, put_block};
+use block_array::Volume;
+use nvme_model::array::Range;
+use nvme_model::operation::{Found, Op};
+use std::marker::Model;
+
+/// An open unit: what it does, its blocks, and how many of its Block steps are made.
+#[derive(Clone, Copy, Debug, PartialEq, Eq)]
+pub struct Run {
+    op: Op,
+    range: Range,
+    made: u32,
+    differed: bool,
+}
+
+impl Model for Run {
+    ghost use Rattle.std.specs.Prelude.{◌≤◌};
+    ghost use Rattle.block_exec.specs.Progress.{Progress, IsRange, needed};
+
+    ghost Value = { Progress };
+
+    ghost view = { λ r. record { op = r.op; range = r.range; made = r.made; differed = r.differed } };
+
+    ghost invariant = { λ r. IsRange r.range × (r.made ≤ needed r.op r.range.blocks) };
+
+    ghost inverse = { λ v. record { op = v.op; range = v.range; made = v.made; differed = v.differed } };
+}
+
+/// What one Block step did.
+#[derive(Clone, Copy, Debug, PartialEq, Eq)]
+pub struct Done {
+    pub lba: u64,
+    pub found: Found,
+    /// The unit takes effect with this step.
+    pub effect: bool,
+    /// The unit has ended with this step.
+    pub ended: bool,
+}
+
+impl Run {
+    ghost use Rattle.block_exec.specs.Course.{next_done, stepped};
+
+    /// A unit of these blocks of which no step is made.
+    pub fn new(op: Op, range: Range) -> Run
+        requires range { IsRange range }
+        ensures value { result ≡ record { op = op; range = range; made = 0; differed = false } }
+    {
+        Run {
+            op,
+            range,
+            made: 0,
+            differed: false,
+        }
+    }
+
+    /// What the unit does.
+    pub fn op(&self) -> Op
+        ensures value { result ≡ self.now.op }
+    {
+        self.op
+    }
+
+    /// Its blocks.
+    pub fn range(&self) -> Range
+        ensures value { result ≡ self.now.range }
+        ensures law { IsRange result }
+    {
+        self.range
+    }
+
+    /// How many of its Block steps are made.
+    pub fn made(&self) -> u32
+        ensures value { result ≡ self.now.made }
+        ensures most { result ≤ needed self.now.op self.now.range.blocks }
+    {
+        self.made
+    }
+
+    /// Whether all its Block steps are made, or one found a difference.
+    pub fn has_ended(&self) -> bool
+        ensures value { result ≡ has_ended self.now }
+    {
+        let needed = match self.op {
+            Op::Pair => 2 * self.range.blocks,
+            _ => self.range.blocks,
+        };
+        self.differed || self.made >= needed
+    }
+
+    /// Reads, compares or writes the block that is due.
+    fn touch(&self, volume: &mut Volume, compare: &[u8], write: &[u8], read: &mut [u8]) -> Found
+        requires within { self.now.range.slba + self.now.range.blocks ≤ length volume.old }
+        requires compare { length compare.now ≡ compare_length self.now.op self.now.range.blocks }
+        requires write { length write.now ≡ write_length self.now.op self.now.range.blocks }
+        requires read { length read.old ≡ read_length self.now.op self.now.range.blocks }
+        ensures found { result ≡ next_found self.now (next_equal self.now volume.old compare.now) }
+        ensures volume { volume.new ≡ volume_after self.now volume.old write.now result }
+        ensures read { read.new ≡ read_after self.now volume.old read.old result }
+    {
+        let place = self.made % self.range.blocks;
+        let lba = self.range.slba + u64::from(place);
+        match self.op {
+            Op::Read => {
+                put_block(read, place, volume.block(lba));
+                Found::Read
+            }
+            Op::Compare => compared(volume, lba, block_of(compare, place)),
+            Op::Pair if self.made < self.range.blocks => {
+                compared(volume, lba, block_of(compare, place))
+            }
+            Op::Write | Op::Pair => {
+                volume.write_block(lba, block_of(write, place));
+                Found::Written
+            }
+            Op::WriteZeroes => {
+                clear_block(volume, lba);
+                Found::Written
+            }
+        }
+    }
+
+    /// Whether the unit takes effect with the Block step that is due, where it finds this.
+    fn is_effect(&self, found: Found) -> bool
+        ensures value { result ≡ marked (Some self.now.op) self.now.range.blocks self.now.made found }
+    {
+        match self.op {
+            Op::Write | Op::WriteZeroes => self.made == 0,
+            _ => self.made + 1 == self.range.blocks || found == Found::Differs,
+        }
+    }
+
+    /// Makes the Block step that is due, on one block of the volume.
+    ///
+    /// `compare`, `write` and `read` are the unit's bytes, 512 a block, where its operation uses them, and else empty:
+    /// a Compare and a pair compare with `compare`, a Write and a pair write `write`, a Read puts what it reads into `read`.
+    pub fn next(
+        &mut self,
+        volume: &mut Volume,
+        compare: &[u8],
+        write: &[u8],
+        read: &mut [u8],
+    ) -> Done
+        requires open { has_ended self.old ≡ false }
+        requires within { self.old.range.slba + self.old.range.blocks ≤ length volume.old }
+        requires compare { length compare.now ≡ compare_length self.old.op self.old.range.blocks }
+        requires write { length write.now ≡ write_length self.old.op self.old.range.blocks }
+        requires read { length read.old ≡ read_length self.old.op self.old.range.blocks }
+        ensures lba { result.lba ≡ next_block self.old }
+        ensures found { result.found ≡ next_found self.old (next_equal self.old volume.old compare.now) }
+        ensures effect { result.effect ≡ marked (Some self.old.op) self.old.range.blocks self.old.made result.found }
+        ensures ended { result.ended ≡ has_ended self.new }
+        ensures progress { self.new ≡ record self.old { made = suc self.old.made; differed = is_differs result.found } }
+
+        // The same as a whole: this is the next step of the unit's course.
+        ensures done { result ≡ next_done self.old (next_equal self.old volume.old compare.now) }
+        ensures stepped { self.new ≡ stepped self.old (next_equal self.old volume.old compare.now) }
+        ensures volume { volume.new ≡ volume_after self.old volume.old write.now result.found }
+        ensures read { read.new ≡ read_after self.old volume.old read.old result.found }
+    {
+        let lba = self.range.slba + u64::from(self.made % self.range.blocks);
+        let found = self.touch(volume, compare, write, read);
+        let effect = self.is_effect(found);
+        *self = Run {
+            made: self.made + 1,
+            differed: found == Found::Differs,
+            ..*self
+        };
+        Done {
+            lba,
+            found,
+            effect,
+            ended: self.has_ended(),
+        }
+    }
+}
+
+#[cfg(test)]
+mod tests;

@@ -1,0 +1,3 @@
+pub mod Cids
+pub mod Jobs
+pub mod Lends

@@ -1,0 +1,9 @@
+//! The rings of a queue pair: entries that wait to be fetched, and completions that wait to be reaped.
+#![tactic(auto)]
+
+mod completion_ring;
+mod slots;
+mod submission_ring;
+
+pub use completion_ring::{Completion, CqRing};
+pub use submission_ring::SqRing;

@@ -1,0 +1,15 @@
+pub mod TicketLists
+pub mod Unfetched
+pub mod Opening
+pub mod Standings
+pub mod Left
+pub mod Owing
+pub mod Counts
+pub mod Waiting
+pub mod InUse
+pub mod Flying
+pub mod ReadSoFar
+pub mod Joined
+pub mod Lengths
+pub mod ReadPlace
+pub mod WholeRead
