@@ -1,0 +1,37 @@
+-- A step that nothing refuses, told of the fields and of the controller's value.
+use Rattle.std.proofs.Common.{◌≡◌, ℕ, ◌∷◌, Option, None, Ok, sym, ap, ◌∙◌, subst}
+use Rattle.nvme_model.specs.declared.entry.Entry.{Entry}
+use Rattle.nvme_model.specs.declared.refusal.Why.{Why}
+use Rattle.nvme_model.specs.declared.step.Step.{Step}
+use Rattle.nvme_model.specs.History.{Past}
+use Rattle.nvme_model.specs.Refusals.{refusal}
+use Rattle.nvme_model.specs.Steps.{next_entry}
+use Rattle.step_core.specs.State.{Does, State, answer_of, promised_after}
+use Rattle.step_core.specs.declared.answer.Answer.{Answer}
+
+-- what is found of the value is so of the fields
+pub accepted : (inside old : State) (step : Step) (o : Option Why) → inside ≡ old → o ≡ refusal old.config old.past step
+    → o ≡ None → refusal inside.config inside.past step ≡ None
+accepted inside old step o same found none = ap (λ (x : State). refusal x.config x.past step) same ∙ sym found ∙ none
+
+-- what an accepted step does, by the entry that it adds
+pub does_accepted : (inside old : State) (step : Step) (a : Answer) (e : Entry) (p : Past) (n : ℕ) → inside ≡ old
+    → refusal inside.config inside.past step ≡ None
+    → e ≡ next_entry inside.config inside.past step
+    → a ≡ answer_of inside.config inside.past (next_entry inside.config inside.past step)
+    → p ≡ e ∷ inside.past → n ≡ promised_after step inside.promised
+    → Does old step (Ok a) (record { config = inside.config; past = p; promised = n })
+does_accepted inside old step a e p n same none entry answer past promised =
+    subst (λ (x : State). Does x step (Ok a) (record { config = inside.config; past = p; promised = n })) same (
+      none,
+      answer,
+      (λ i. record {
+        config = inside.config;
+        past = (past ∙ ap (λ (y : Entry). y ∷ inside.past) entry) i;
+        promised = promised i;
+      }),
+    )
+
+-- the history with one more entry, where making room left it as it was
+pub one_more : (e : Entry) (p made old : Past) → made ≡ old → p ≡ e ∷ made → p ≡ e ∷ old
+one_more e p made old room more = more ∙ ap (λ (x : Past). e ∷ x) room

@@ -1,0 +1,73 @@
+-- A controller without a history, and its volume.
+use Rattle.std.proofs.Common.{◌≡◌, ℕ, suc, ◌%◌, ◌==◌, ◌<◌, true, false, List, [], replicate, slice_get, Some, None, refl, sym, ap, ◌∙◌, subst, is_none, ltb-false}
+use Rattle.std.proofs.Math.Nat.{zero-div, zero-mod}
+use Rattle.std.proofs.lemmas.Bool.{or_parts}
+use Rattle.std.proofs.lemmas.Option.{get_or_from_slice_get}
+use Rattle.nvme_model.specs.Array.{zeros}
+use Rattle.nvme_model.specs.Config.{config_fault, config_faults}
+use Rattle.nvme_model.specs.History.{Past}
+use Rattle.nvme_model.specs.Laws.{is_held}
+use Rattle.nvme_model.specs.Medium.{medium}
+use Rattle.nvme_model.specs.Value.{value}
+use Rattle.nvme_model.specs.declared.config.ConfigNumbers.{ConfigNumbers}
+use Rattle.nvme_model.proofs.Medium.{medium_is_value}
+use Rattle.nvme_model.proofs.Rules.{none_holds}
+use Rattle.range_reserve.specs.declared.held.Held.{Held}
+use Rattle.rings.specs.Completions.{CompletionRing}
+use Rattle.rings.specs.Slots.{IsSize}
+use Rattle.rings.specs.Submissions.{SubmissionRing}
+use Rattle.job_table.specs.Jobs.{JobTable}
+use Rattle.step_core.specs.Fields.{completion_ring, submission_ring}
+use Rattle.step_core.specs.Kept.{IsKept}
+use Rattle.step_core.proofs.Tables.{IsTable-replicate}
+
+-- the size of a completion queue that is accepted
+pub cq_is_size : (c : ConfigNumbers) → config_fault c ≡ None → IsSize c.cq_size
+cq_is_size c none =
+    let p = or_parts _ _ (none_holds (config_faults c) (ap is_none none)).1.1.1.1.1.1.1.0 in
+    (ltb-false _ _ p.0, ltb-false _ _ p.1)
+
+-- ---- no history
+
+-- rings in which nothing waits
+abbrev pub submission_empty : ℕ → SubmissionRing
+submission_empty size = record { size = size; head = 0; waiting = [] }
+
+abbrev pub completion_empty : ℕ → CompletionRing
+completion_empty size = record { size = size; tail = 0; phase = true; waiting = [] }
+
+-- the rings of the queues
+submission_begins : (c : ConfigNumbers) (k : ℕ) → submission_ring c [] k ≡ submission_empty c.sq_size
+unfolding submission_ring
+submission_begins c k = ap (λ n. record (submission_empty c.sq_size) { head = n }) (zero-mod c.sq_size)
+
+completion_begins : (c : ConfigNumbers) (k : ℕ) → completion_ring c [] k ≡ completion_empty c.cq_size
+unfolding completion_ring
+completion_begins c k = (λ i. record (completion_empty c.cq_size) { tail = zero-mod c.cq_size i; phase = zero-div c.cq_size i % 2 == 0 })
+
+-- the fields of a controller that is just made
+pub begins : (c m : ConfigNumbers) (p : Past) (v : List (List ℕ)) (s : List SubmissionRing) (q : List CompletionRing) (j : JobTable) (r : List Held)
+    → m ≡ c → config_fault m ≡ None → p ≡ [] → v ≡ replicate m.blocks zeros
+    → s ≡ replicate m.pairs (submission_empty m.sq_size) → q ≡ replicate m.cqs (completion_empty m.cq_size)
+    → j ≡ record { limit = m.jobs; jobs = [] } → r ≡ []
+    → IsKept c p v s q j r 0
+begins c m p v s q j r same accepted none vs ss qs js rs =
+    subst (λ (x : ConfigNumbers). IsKept x p v s q j r 0) same (subst (λ (x : Past). IsKept m x v s q j r 0) (sym none) (record {
+      accepted = accepted;
+      volume = IsTable-replicate (medium []) m.blocks zeros v vs (λ k. refl);
+      submission = IsTable-replicate _ m.pairs _ s ss (λ k. submission_begins m (suc k));
+      completion = IsTable-replicate _ m.cqs _ q qs (λ k. completion_begins m (suc k));
+      jobs = js;
+      held = rs;
+      count = refl;
+      run = record { legal = refl; marks = tt; words = tt };
+    }))
+
+-- ---- the volume
+
+-- a block is its value where no open Exclusive unit has it
+pub block_is_value : (c : ConfigNumbers) (past : Past) (v : List (List ℕ)) (s : List SubmissionRing) (q : List CompletionRing) (j : JobTable) (r : List Held) (n : ℕ)
+    → IsKept c past v s q j r n
+    → (l : ℕ) (b : List ℕ) → l < c.blocks → slice_get v l ≡ Some b → is_held past l ≡ false → b ≡ value past l
+block_is_value c past v s q j r n k l b within at free =
+    sym (get_or_from_slice_get v l b b at) ∙ k.volume.at l b within ∙ medium_is_value c past l k.run.legal k.run.marks free

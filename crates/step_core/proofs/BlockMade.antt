@@ -1,0 +1,197 @@
+-- A Block that isn't refused: what the calls that make it require, what it answers, and the fields after it.
+use Rattle.std.proofs.Common.{◌≡◌, ℕ, suc, ◌-◌, ◌≤◌, Bool, true, false, cond, List, ◌∷◌, map, refl, sym, ap, ap₂, ◌∙◌, subst, Ok, Option, Some, None, arith}
+use Rattle.std.specs.Prelude.{IfSome, MatchOption, is_none}
+use Rattle.nvme_model.specs.declared.array.Range.{Range}
+use Rattle.nvme_model.specs.declared.config.ConfigNumbers.{ConfigNumbers}
+use Rattle.nvme_model.specs.declared.entry.BlockLine.{BlockLine}
+use Rattle.nvme_model.specs.declared.entry.Entry.{Entry}
+use Rattle.nvme_model.specs.declared.entry.GrantLine.{GrantLine}
+use Rattle.nvme_model.specs.declared.operation.Op.{Op}
+use Rattle.nvme_model.specs.declared.refusal.Why.{Why}
+use Rattle.nvme_model.specs.declared.step.Step.{Step}
+use Rattle.nvme_model.specs.History.{Past}
+use Rattle.nvme_model.specs.Legal.{IsLegal}
+use Rattle.nvme_model.specs.Medium.{medium}
+use Rattle.nvme_model.specs.Open.{open_units}
+use Rattle.nvme_model.specs.EntryBytes.{slba}
+use Rattle.nvme_model.specs.Operations.{op}
+use Rattle.nvme_model.specs.Refusals.{conditions, refusal}
+use Rattle.ticket_standing.specs.Standing.{standing}
+use Rattle.nvme_model.specs.Steps.{next_entry}
+use Rattle.nvme_model.specs.Tickets.{first_fields, in_flight, ticket}
+use Rattle.nvme_model.proofs.EveryRun.{Kept}
+use Rattle.ticket_standing.proofs.Opening.{block_open_beside, block_open_on}
+use Rattle.nvme_model.proofs.Rules.{none_holds}
+use Rattle.ticket_standing.proofs.Standings.{block_other}
+use Rattle.range_reserve.specs.Reserved.{held_beside, held_of}
+use Rattle.range_reserve.specs.declared.held.Held.{Held}
+use Rattle.range_reserve.proofs.Granted.{held_beside-map}
+use Rattle.block_exec.specs.Bytes.{volume_after}
+use Rattle.block_exec.specs.Course.{next_done, stepped}
+use Rattle.block_exec.specs.Progress.{Progress}
+use Rattle.block_exec.specs.Units.{progress_of}
+use Rattle.block_exec.specs.declared.run.Done.{Done}
+use Rattle.rings.specs.Completions.{CompletionRing}
+use Rattle.rings.specs.Submissions.{SubmissionRing}
+use Rattle.job_table.specs.Jobs.{JobTable, job_of, replaced}
+use Rattle.job_table.specs.declared.job.Job.{Job}
+use Rattle.step_core.specs.Blocks.{CanMake, finds_equal, noted_job, part_of, read_of}
+use Rattle.step_core.specs.Fields.{completion_ring, job_at, job_by, submission_ring, write_bytes_by}
+use Rattle.step_core.specs.Kept.{IsKept, IsTable}
+use Rattle.step_core.specs.State.{Does, State, answer_of}
+use Rattle.step_core.specs.declared.answer.Answer.{Answer}
+use Rattle.step_core.proofs.BlockData.{IsUnit, can_make, done_same, finds_same, not_false, run_is, unit_found}
+use Rattle.step_core.proofs.BlockKept.{read_now, volume_now}
+use Rattle.step_core.proofs.Blocked.{done_is, done_now, ended_is, entry_is, is_equal, job_now, line_now, run_now}
+use Rattle.step_core.proofs.Granting.{job_opened}
+use Rattle.step_core.proofs.Moves.{job_found, jobs_moved, legal_after, stepped as next_kept}
+use Rattle.step_core.proofs.Tables.{IsTable-same}
+
+-- ---- the rings are as they were
+
+submission_kept : (c : ConfigNumbers) (past : Past) (b : BlockLine) (q : ℕ) → submission_ring c (Entry.Block b ∷ past) q ≡ submission_ring c past q
+unfolding submission_ring
+submission_kept c past b q = refl
+
+completion_kept : (c : ConfigNumbers) (past : Past) (b : BlockLine) (q : ℕ) → completion_ring c (Entry.Block b ∷ past) q ≡ completion_ring c past q
+unfolding completion_ring
+completion_kept c past b q = refl
+
+-- the part of the data that is written, as the job has it
+data_written : (c : ConfigNumbers) (past : Past) (t : ℕ) (r : Range)
+    → part_of (job_at c past t).write (job_at c past t).range.slba r ≡ part_of (write_bytes_by (op (ticket past t)) (ticket past t)) (slba (first_fields (ticket past t))) r
+unfolding job_by
+data_written c past t r = refl
+
+-- ---- what making a Block says, by the job's run
+
+-- the call that made it says so
+pub record IsMade (y : Job) (v : List (List ℕ)) (d : Done) (v' : List (List ℕ)) (y' : Job) : Type 0 where
+  pub done : IfSome y.run (λ p. d ≡ next_done p (finds_equal y p v))
+  pub volume : IfSome y.run (λ p. v' ≡ volume_after p v (part_of y.write y.range.slba p.range) d.found)
+  pub job : IfSome y.run (λ p. y' ≡ noted_job (record y { read = read_of y p v d.found }) (stepped p (finds_equal y p v)) d)
+
+-- nothing refuses a Block of ticket t, in the fields where it is so in the value that contracts see
+pub block_seen : (c : ConfigNumbers) (past : Past) (n : ℕ) (x : State) (t : ℕ) (o : Option Why) → record { config = c; past = past; promised = n } ≡ x → o ≡ refusal x.config x.past (Step.Block t) → o ≡ None
+    → refusal c past (Step.Block t) ≡ None
+block_seen c past n x t o view e none = ap (λ (y : State). refusal y.config y.past (Step.Block t)) view ∙ sym e ∙ none
+
+module _ (c : ConfigNumbers) (past : Past) (v : List (List ℕ)) (s : List SubmissionRing) (q : List CompletionRing) (j : JobTable) (r : List Held) (n : ℕ) (k : IsKept c past v s q j r n) (t : ℕ) (none : refusal c past (Step.Block t) ≡ None) where
+  there : job_of j.jobs t ≡ Some (job_at c past t)
+  there =
+      let rows = none_holds (conditions c past (Step.Block t)) (ap is_none none) in
+      ap (λ (x : JobTable). job_of x.jobs t) k.jobs ∙ job_found c past t k.run.legal ∙ ap (λ b. cond b (Some (job_at c past t)) None) (not_false (in_flight past t) rows.0)
+
+  -- its ticket has a job
+  pub has_job : (o : Option Job) → o ≡ job_of j.jobs t → o ≡ None → ⊥
+  has_job o f h = absurd (let w : None ≡ Some (job_at c past t) = sym h ∙ f ∙ there in cc)
+
+  module _ (y : Job) (f : Some y ≡ job_of j.jobs t) where
+    job_is : y ≡ job_at c past t
+    job_is = some_inj (f ∙ there)
+      where
+        some_inj : Some y ≡ Some (job_at c past t) → y ≡ job_at c past t
+        some_inj h = cc
+
+    opened_is : (g : GrantLine) (o : Op) → IsUnit c past t g o → y.opened ≡ suc g.unit
+    opened_is g o u = ap (λ (x : Job). x.opened) job_is ∙ job_opened c (standing past t) ∙ sym u.last
+
+    -- a unit of it was opened
+    pub some_opened : 1 ≤ y.opened
+    some_opened = let u = unit_found c past t k.run.legal none in omega (arith, opened_is u.0 u.1 u.2)
+
+    -- its next Block can be made
+    pub ready : MatchOption y.run ⊥ (λ p. CanMake y p v)
+    ready =
+        let u = unit_found c past t k.run.legal none in
+        subst (λ (x : Job). MatchOption x.run ⊥ (λ p. CanMake x p v)) (sym job_is)
+        (subst (λ (w : Option Progress). MatchOption w ⊥ (λ p. CanMake (job_at c past t) p v)) (sym (run_is c past t k.run.legal u.0 u.1 u.2)) (can_make c past t k.run.legal u.0 u.1 u.2 v k.volume.size))
+
+    module _ (d : Done) (v' : List (List ℕ)) (y' : Job) (m : IsMade y v d v' y') where
+      -- what a clause says of the job's run it says of the open unit
+      at_run : (g : GrantLine) (o : Op) → IsUnit c past t g o → (P : Job → Progress → Type 0) → IfSome y.run (P y) → P (job_at c past t) (progress_of past t g.unit o g.range)
+      at_run g o u P h =
+          subst (λ (w : Option Progress). IfSome w (P (job_at c past t))) (run_is c past t k.run.legal g o u)
+          (subst (λ (x : Job). IfSome x.run (P x)) job_is h)
+
+      same : (g : GrantLine) (o : Op) → IsUnit c past t g o → (next_done (progress_of past t g.unit o g.range) (finds_equal (job_at c past t) (progress_of past t g.unit o g.range) v) ≡ done_now past t g o)
+          × (stepped (progress_of past t g.unit o g.range) (finds_equal (job_at c past t) (progress_of past t g.unit o g.range) v) ≡ run_now past t g o)
+      same g o u =
+          let p : Progress = progress_of past t g.unit o g.range in
+          done_same p (finds_equal (job_at c past t) p v) (is_equal past t g o) (finds_same c past t k.run.legal g o u v k.volume)
+
+      says : (g : GrantLine) (o : Op) → IsUnit c past t g o → d ≡ done_now past t g o
+      says g o u = at_run g o u (λ x p. d ≡ next_done p (finds_equal x p v)) m.done ∙ (same g o u).0
+
+      line_is : (g : GrantLine) (o : Op) → IsUnit c past t g o → Entry.Block (record { ticket = t; unit = y.opened - 1; lba = d.lba; found = d.found; effect = d.effect }) ≡ Entry.Block (line_now past t g o)
+      line_is g o u =
+          let number : y.opened - 1 ≡ g.unit = omega (arith, opened_is g o u) in
+          (λ z. Entry.Block (record { ticket = t; unit = number z; lba = (says g o u z).lba; found = (says g o u z).found; effect = (says g o u z).effect }))
+
+      -- its line is the next entry
+      pub next_is : Entry.Block (record { ticket = t; unit = y.opened - 1; lba = d.lba; found = d.found; effect = d.effect }) ≡ next_entry c past (Step.Block t)
+      next_is = let u = unit_found c past t k.run.legal none in line_is u.0 u.1 u.2 ∙ entry_is c past t u.0 u.1 u.2
+
+      legal_then : (g : GrantLine) (o : Op) → IsUnit c past t g o → IsLegal c (Entry.Block (line_now past t g o) ∷ past)
+      legal_then g o u = legal_after c past (Step.Block t) (Entry.Block (line_now past t g o)) k.run none (entry_is c past t g o u)
+
+      -- and it answers what that says
+      pub answer_is : Answer.Blocked d ≡ answer_of c past (next_entry c past (Step.Block t))
+      answer_is =
+          let u = unit_found c past t k.run.legal none in
+          ap Answer.Blocked (says u.0 u.1 u.2 ∙ done_is c past t u.0 u.1 u.2 (legal_then u.0 u.1 u.2) k.run.legal)
+          ∙ ap (answer_of c past) (entry_is c past t u.0 u.1 u.2)
+
+      -- so the step is done
+      pub block_does : (x : State) (p p' : ℕ) (h past' : Past) → record { config = c; past = past; promised = p } ≡ x → h ≡ past
+          → past' ≡ Entry.Block (record { ticket = t; unit = y.opened - 1; lba = d.lba; found = d.found; effect = d.effect }) ∷ h → p' ≡ p - 1
+          → Does x (Step.Block t) (Ok (Answer.Blocked d)) (record { config = c; past = past'; promised = p' })
+      block_does x p p' h past' view same_past is_past is_left =
+          subst (λ (w : State). Does w (Step.Block t) (Ok (Answer.Blocked d)) (record { config = c; past = past'; promised = p' })) view
+          (none, answer_is, (λ z. record { config = c; past = (is_past ∙ ap₂ (λ (e : Entry) (w : Past). e ∷ w) next_is same_past) z; promised = is_left z }))
+
+      -- the fields after it
+      pub kept : (h past' : Past) (r' : List Held) → h ≡ past → past' ≡ Entry.Block (record { ticket = t; unit = y.opened - 1; lba = d.lba; found = d.found; effect = d.effect }) ∷ h → r' ≡ cond d.ended (held_beside r t) r
+          → IsKept c past' v' s q (record { limit = j.limit; jobs = replaced j.jobs t y' }) r' n
+      kept h past' r' same_past is_past is_r = let u = unit_found c past t k.run.legal none in by u.0 u.1 u.2
+        where
+          by : (g : GrantLine) (o : Op) → IsUnit c past t g o → IsKept c past' v' s q (record { limit = j.limit; jobs = replaced j.jobs t y' }) r' n
+          by g o u =
+              let legal = legal_then g o u in
+              subst (λ (p : Past). IsKept c p v' s q (record { limit = j.limit; jobs = replaced j.jobs t y' }) r' n) (sym (is_past ∙ ap₂ (λ (e : Entry) (w : Past). e ∷ w) (line_is g o u) same_past))
+              (record {
+                accepted = k.accepted;
+                volume = subst (IsTable (medium (Entry.Block (line_now past t g o) ∷ past)) c.blocks) (sym (written g o u)) (volume_now c past t g o u k.run.legal v k.volume);
+                submission = IsTable-same (λ i. submission_ring c past (suc i)) (λ i. submission_ring c (Entry.Block (line_now past t g o) ∷ past) (suc i)) c.pairs s k.submission (λ i. submission_kept c past (line_now past t g o) (suc i));
+                completion = IsTable-same (λ i. completion_ring c past (suc i)) (λ i. completion_ring c (Entry.Block (line_now past t g o) ∷ past) (suc i)) c.cqs q k.completion (λ i. completion_kept c past (line_now past t g o) (suc i));
+                jobs =
+                    (λ z. record { limit = (k.jobs z).limit; jobs = replaced (k.jobs z).jobs t (own g o u z) })
+                    ∙ (λ z. record { limit = c.jobs; jobs = jobs_moved c past (Entry.Block (line_now past t g o)) t (λ w ne. block_other c past (line_now past t g o) w legal ne) z });
+                held = is_r ∙ (λ z. cond (says g o u z).ended (held_beside (k.held z) t) (k.held z)) ∙ held_now g o u (done_now past t g o).ended refl;
+                count = k.count;
+                run = subst (λ (x : Entry). Kept c (x ∷ past)) (sym (entry_is c past t g o u)) (next_kept c past (Step.Block t) k.run none);
+              })
+            where
+              written : (g : GrantLine) (o : Op) → IsUnit c past t g o
+                  → v' ≡ volume_after (progress_of past t g.unit o g.range) v (part_of (write_bytes_by (op (ticket past t)) (ticket past t)) (slba (first_fields (ticket past t))) g.range) (done_now past t g o).found
+              written g o u =
+                  let p : Progress = progress_of past t g.unit o g.range in
+                  at_run g o u (λ x w. v' ≡ volume_after w v (part_of x.write x.range.slba w.range) d.found) m.volume
+                  ∙ ap (λ (e : Done). volume_after p v (part_of (job_at c past t).write (job_at c past t).range.slba g.range) e.found) (says g o u)
+                  ∙ ap (λ (w : List ℕ). volume_after p v w (done_now past t g o).found) (data_written c past t g.range)
+
+              own : (g : GrantLine) (o : Op) → IsUnit c past t g o → y' ≡ job_at c (Entry.Block (line_now past t g o) ∷ past) t
+              own g o u =
+                  let p : Progress = progress_of past t g.unit o g.range in
+                  let x : Job = job_at c past t in
+                  at_run g o u (λ x p. y' ≡ noted_job (record x { read = read_of x p v d.found }) (stepped p (finds_equal x p v)) d) m.job
+                  ∙ (λ z. noted_job (record x { read = read_of x p v (says g o u z).found }) ((same g o u).1 z) (says g o u z))
+                  ∙ job_now c past t g o u (legal_then g o u) k.run.legal (read_of x p v (done_now past t g o).found) (read_now c past t g o u k.run.legal v k.volume)
+
+              held_now : (g : GrantLine) (o : Op) → IsUnit c past t g o → (b : Bool) → (done_now past t g o).ended ≡ b
+                  → cond b (held_beside (map held_of (open_units past)) t) (map held_of (open_units past)) ≡ map held_of (open_units (Entry.Block (line_now past t g o) ∷ past))
+              held_now g o u true e =
+                  held_beside-map (open_units past) t
+                  ∙ ap (map held_of) (sym (block_open_beside c past (line_now past t g o) (legal_then g o u) (sym (ended_is c past t g o u (legal_then g o u) k.run.legal) ∙ e)))
+              held_now g o u false e =
+                  ap (map held_of) (sym (block_open_on c past (line_now past t g o) k.run.legal (sym (ended_is c past t g o u (legal_then g o u) k.run.legal) ∙ e)))

@@ -1,0 +1,201 @@
+-- The job and the work of a ticket that was just fetched.
+use Rattle.std.proofs.Common.{◌≡◌, ℕ, ◌+◌, ◌-◌, ◌*◌, ◌≤◌, ◌&&◌, Bool, true, false, cond, List, [], ◌∷◌, length, replicate, Option, Some, None, is_some, refl, sym, ap, ap₂, ◌∙◌, subst, inl, inr, arith, add-zero}
+use Rattle.std.specs.List.{sum_by}
+use Rattle.std.proofs.lemmas.Bool.{lt-leb}
+use Rattle.std.proofs.lemmas.List.Sums.{sum_by-cons}
+use Rattle.nvme_model.specs.Cells.{pair_fits}
+use Rattle.nvme_model.specs.Commands.{is_compare, is_read, is_write, is_write_zeroes}
+use Rattle.nvme_model.specs.EntryBytes.{Sqe, blocks, slba}
+use Rattle.nvme_model.specs.Operations.{has_compare, is_pair, op, op_of_fields, units, units_by}
+use Rattle.ticket_standing.specs.Standing.{fresh, has_run, left, on_success, owed_running, still_owed}
+use Rattle.nvme_model.specs.Tickets.{Ticket, cids, first_fields}
+use Rattle.nvme_model.specs.Verdict.{taken}
+use Rattle.nvme_model.specs.declared.array.Range.{Range}
+use Rattle.nvme_model.specs.declared.config.AtomicParameters.{AtomicParameters}
+use Rattle.nvme_model.specs.declared.config.ConfigNumbers.{ConfigNumbers}
+use Rattle.nvme_model.specs.declared.operation.Op.{Op}
+use Rattle.nvme_model.specs.declared.submission.Submission.{Submission}
+use Rattle.nvme_model.proofs.Checked.{TicketChecked}
+use Rattle.nvme_model.proofs.StepCounts.{cut_sum}
+use Rattle.nvme_model.proofs.Written.{clash}
+use Rattle.block_exec.specs.Progress.{IsRange}
+use Rattle.fused_match.specs.Judged.{NamesBlocks, operation_in, verdict_by}
+use Rattle.fused_match.specs.declared.judged.Judged.{Judged}
+use Rattle.fused_match.specs.declared.judged.Judged.TheVariants as judged
+use Rattle.step_core.specs.Fetches.{commands_of, first_job, kind_in, left_by, owed_first, read_first, write_by}
+use Rattle.step_core.specs.Fields.{job_by, read_bytes_by, write_bytes_by}
+use Rattle.step_core.specs.State.{kind_by, kind_of, ticket_range}
+use Rattle.step_core.specs.Works.{IsKind}
+use Rattle.step_core.specs.declared.work.Kind.{Kind}
+
+-- the ticket of these commands
+abbrev pub ticket_by : ℕ → Judged → List Submission → Ticket
+ticket_by q j commands = record { queue = q; commands = commands; verdict = verdict_by j }
+
+-- what is judged is what the ticket does, and the blocks are those of its first command
+pub record Names (j : Judged) (k : Ticket) : Type 0 where
+  pub operation : operation_in j ≡ op k
+  pub range : NamesBlocks j (first_fields k)
+
+-- ---- what it has to do
+
+-- one command alone is no pair
+alone : (e : Sqe) → is_pair (op_of_fields e) ≡ false
+alone e = go (is_write e) (is_read e) (is_compare e) (is_write_zeroes e)
+  where
+    go : (w r m z : Bool) → is_pair (cond w (Some Op.Write) (cond r (Some Op.Read) (cond m (Some Op.Compare) (cond z (Some Op.WriteZeroes) None)))) ≡ false
+    go true r m z = refl
+    go false true m z = refl
+    go false false true z = refl
+    go false false false true = refl
+    go false false false false = refl
+
+-- a range by its two numbers
+same_range : (r : Range) (s n : ℕ) → r.slba ≡ s → r.blocks ≡ n → r ≡ record { slba = s; blocks = n }
+same_range r s n a b = (λ i. record { slba = a i; blocks = b i })
+
+-- the kind of a command on blocks
+units_kind : (k : Ticket) (o : Op) (r : Range) → (is_pair (Some o) ≡ false) → r ≡ ticket_range k → Kind.Units o r ≡ kind_by k (Some o)
+units_kind k Op.Read r n e = ap (λ x. Kind.Units Op.Read x) e
+units_kind k Op.Compare r n e = ap (λ x. Kind.Units Op.Compare x) e
+units_kind k Op.Write r n e = ap (λ x. Kind.Units Op.Write x) e
+units_kind k Op.WriteZeroes r n e = ap (λ x. Kind.Units Op.WriteZeroes x) e
+units_kind k Op.Pair r n e = absurd cc
+
+-- the kind is that of the ticket
+pub kind_is : (q : ℕ) (j : Judged) (cs : List Submission) → Names j (ticket_by q j cs) → kind_in j ≡ kind_of (ticket_by q j cs) (verdict_by j)
+kind_is q judged.Flush cs h = ap (kind_by (ticket_by q judged.Flush cs)) h.operation
+kind_is q (judged.Single o r) cs h =
+    let k = ticket_by q (judged.Single o r) cs in
+    units_kind k o r (ap is_pair h.operation ∙ alone (first_fields k)) (same_range r _ _ h.range.0 h.range.1) ∙ ap (kind_by k) h.operation
+kind_is q (judged.Pair r) cs h = ap (λ (x : Range). Kind.Pair x) (same_range r _ _ h.range.0 h.range.1)
+kind_is q (judged.Failed s) cs h = refl
+kind_is q (judged.FailedPair s r) cs h = refl
+
+-- a pair has two commands
+pub pair_second : (q : ℕ) (j : Judged) (cs : List Submission) → Names j (ticket_by q j cs) → operation_in j ≡ Some Op.Pair → taken (verdict_by j) ≡ 2
+pair_second q judged.Flush cs h e = absurd cc
+pair_second q (judged.Single o r) cs h e =
+    let b : is_pair (op_of_fields (first_fields (ticket_by q (judged.Single o r) cs))) ≡ true = sym (ap is_pair h.operation) ∙ ap is_pair e in
+    clash _ b (alone (first_fields (ticket_by q (judged.Single o r) cs)))
+pair_second q (judged.Pair r) cs h e = refl
+pair_second q (judged.Failed s) cs h e = absurd cc
+pair_second q (judged.FailedPair s r) cs h e = absurd cc
+
+-- a range within a volume
+range_fits : (r : Range) (s n m : ℕ) → r.slba ≡ s → r.blocks ≡ n + 1 → s + (n + 1) ≤ m → m ≤ 65536 → IsRange r
+range_fits r s n m a b l most = (omega (arith, b), omega (arith, a, b, l, most))
+
+-- a ticket that passed its checks has blocks of the volume
+pub kind_fits : (c : ConfigNumbers) (q : ℕ) (j : Judged) (cs : List Submission) → c.blocks ≤ 65536 → Names j (ticket_by q j cs)
+    → (is_some (op (ticket_by q j cs)) ≡ true → TicketChecked c (ticket_by q j cs)) → IsKind c.atomic (kind_in j)
+kind_fits c q judged.Flush cs most h check = tt
+kind_fits c q (judged.Failed s) cs most h check = inl refl
+kind_fits c q (judged.FailedPair s r) cs most h check = inr refl
+kind_fits c q (judged.Single o r) cs most h check =
+    let k = ticket_by q (judged.Single o r) cs in
+    range_fits r (slba (first_fields k)) _ c.blocks h.range.0 h.range.1 (check (sym (ap is_some h.operation))).first.inside most
+kind_fits c q (judged.Pair r) cs most h check =
+    let k = ticket_by q (judged.Pair r) cs in
+    let checked = check refl in (
+      range_fits r (slba (first_fields k)) _ c.blocks h.range.0 h.range.1 checked.first.inside most,
+      ap₂ (λ (s n : ℕ). pair_fits c.atomic s n) h.range.0 h.range.1 ∙ (checked.pair refl).fits,
+    )
+
+-- ---- its job
+
+-- the units of an operation are the blocks of its range
+units_sum : (u : AtomicParameters) (o : Option Op) (s n : ℕ) → cond (is_some o) n 0 ≡ sum_by (λ (r : Range). r.blocks) (units_by u o s n)
+units_sum u None s n = refl
+units_sum u (Some Op.Pair) s n = omega (arith, sum_by-cons (λ (x : Range). x.blocks) (record { slba = s; blocks = n }) [])
+units_sum u (Some Op.Read) s n = sym (cut_sum u s n)
+units_sum u (Some Op.Compare) s n = sym (cut_sum u s n)
+units_sum u (Some Op.Write) s n = sym (cut_sum u s n)
+units_sum u (Some Op.WriteZeroes) s n = sym (cut_sum u s n)
+
+-- all its blocks are left
+left_is : (c : ConfigNumbers) (k : Ticket) (o : Option Op) → o ≡ op k → left_by o (ticket_range k) ≡ left c (fresh k)
+left_is c k o e =
+    let s = slba (first_fields k) in
+    let n = blocks (first_fields k) in
+    let b : cond (is_some o) n 0 ≡ sum_by (λ (r : Range). r.blocks) (units c k) = ap (λ x. cond (is_some x) n 0) e ∙ units_sum c.atomic (op k) s n in
+    (λ i. record { slba = sym (add-zero s) i; blocks = b i })
+
+-- where there are blocks there is a range
+some_by_sum : (rs : List Range) → 1 ≤ sum_by (λ (r : Range). r.blocks) rs → 1 ≤ length rs
+some_by_sum [] l = absurd (omega (arith, l))
+some_by_sum (r ∷ rs) l = omega arith
+
+-- an operation has a unit, so it hasn't run
+unrun : (c : ConfigNumbers) (k : Ticket) (o : Op) → Some o ≡ op k → has_run c (fresh k) ≡ false
+unrun c k o e =
+    let s = slba (first_fields k) in
+    let n = blocks (first_fields k) in
+    let sum : n ≡ sum_by (λ (r : Range). r.blocks) (units c k) = ap (λ x. cond (is_some x) n 0) e ∙ units_sum c.atomic (op k) s n in
+    let some : 1 ≤ length (units c k) = some_by_sum (units c k) (subst (λ m. 1 ≤ m) sum (positive _)) in
+    ap (λ b. b && true) (lt-leb (length (units c k)) 0 some)
+  where
+    positive : (m : ℕ) → 1 ≤ m + 1
+    positive m = omega arith
+
+-- an operation owes nothing before it runs
+nothing_owed : (c : ConfigNumbers) (k : Ticket) (o : Op) → Some o ≡ op k → [] ≡ owed_running c (fresh k) (op k)
+nothing_owed c k o e = sym (ap (owed_running c (fresh k)) (sym e) ∙ ap (λ b. cond b (on_success o) []) (unrun c k o e))
+
+-- what it owes at once
+owed_is : (c : ConfigNumbers) (q : ℕ) (j : Judged) (cs : List Submission) → operation_in j ≡ op (ticket_by q j cs) → owed_first j ≡ still_owed c (fresh (ticket_by q j cs))
+owed_is c q judged.Flush cs e = ap (owed_running c (fresh (ticket_by q judged.Flush cs))) e
+owed_is c q (judged.Single o r) cs e = nothing_owed c (ticket_by q (judged.Single o r) cs) o e
+owed_is c q (judged.Pair r) cs e = nothing_owed c (ticket_by q (judged.Pair r) cs) Op.Pair e
+owed_is c q (judged.Failed s) cs e = refl
+owed_is c q (judged.FailedPair s r) cs e = refl
+
+-- the data that it writes
+write_is : (o : Option Op) (q : ℕ) (j : Judged) (first : Submission) (second : Option Submission) → write_by o first second ≡ write_bytes_by o (ticket_by q j (commands_of first second))
+write_is None q j first second = refl
+write_is (Some Op.Read) q j first second = refl
+write_is (Some Op.Compare) q j first second = refl
+write_is (Some Op.Write) q j first second = refl
+write_is (Some Op.WriteZeroes) q j first second = refl
+write_is (Some Op.Pair) q j first None = refl
+write_is (Some Op.Pair) q j first (Some other) = refl
+
+-- the room for what one command reads
+read_op : (k : Ticket) (o : Op) (r : Range) → r.blocks ≡ blocks (first_fields k) → read_first (judged.Single o r) ≡ read_bytes_by (Some o) k []
+read_op k Op.Read r e = ap (λ (n : ℕ). replicate n 0) (whole r.blocks (blocks (first_fields k)) e)
+  where
+    whole : (a b : ℕ) → a ≡ b → 512 * a ≡ 512 * b - 0
+    whole a b e = omega (arith, e)
+read_op k Op.Compare r e = refl
+read_op k Op.Write r e = refl
+read_op k Op.WriteZeroes r e = refl
+read_op k Op.Pair r e = refl
+
+-- the room for what it reads
+read_is : (q : ℕ) (j : Judged) (cs : List Submission) → Names j (ticket_by q j cs) → read_first j ≡ read_bytes_by (op (ticket_by q j cs)) (ticket_by q j cs) []
+read_is q judged.Flush cs h = let k = ticket_by q judged.Flush cs in ap (λ o. read_bytes_by o k []) h.operation
+read_is q (judged.Single o r) cs h = let k = ticket_by q (judged.Single o r) cs in read_op k o r h.range.1 ∙ ap (λ x. read_bytes_by x k []) h.operation
+read_is q (judged.Pair r) cs h = refl
+read_is q (judged.Failed s) cs h = refl
+read_is q (judged.FailedPair s r) cs h = refl
+
+-- the job that is made is that of a ticket that has begun nothing
+pub fresh_job : (c : ConfigNumbers) (q : ℕ) (j : Judged) (first : Submission) (second : Option Submission) (read : List ℕ) → Names j (ticket_by q j (commands_of first second)) → read ≡ read_first j
+    → first_job q j first second read ≡ job_by c (fresh (ticket_by q j (commands_of first second)))
+unfolding job_by
+fresh_job c q j first second read h room =
+    let k = ticket_by q j (commands_of first second) in
+    let e = h.operation in
+    (λ i. record {
+      queue = q;
+      cids = cids k;
+      op = e i;
+      range = ticket_range k;
+      left = left_is c k (operation_in j) e i;
+      opened = 0;
+      run = None;
+      owed = owed_is c q j (commands_of first second) e i;
+      compare = ap (λ o. cond (has_compare o) first.payload []) e i;
+      write = (write_is (operation_in j) q j first second ∙ ap (λ o. write_bytes_by o k) e) i;
+      read = (room ∙ read_is q j (commands_of first second) h) i;
+    })

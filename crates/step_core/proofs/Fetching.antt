@@ -1,0 +1,136 @@
+-- What a Fetch finds, and when it is refused.
+use Rattle.std.proofs.Common.{◌≡◌, ℕ, ◌≤◌, ◌<◌, ◌==◌, Bool, true, false, cond, List, [], ◌∷◌, length, map, take, slice_get, option_map, Option, Some, None, is_none, refl, sym, ap, ap₂, ◌∙◌, subst, arith, eq-eqb, ltb-false, nat_le}
+use Rattle.std.proofs.lemmas.Bool.{or_parts}
+use Rattle.std.proofs.lemmas.Bool.Decides.{nat_tests}
+use Rattle.std.proofs.lemmas.List.{length-drop}
+use Rattle.nvme_model.specs.Config.{config_fault, config_faults}
+use Rattle.nvme_model.specs.EntryBytes.{sqe_fields}
+use Rattle.nvme_model.specs.History.{Past}
+use Rattle.nvme_model.specs.Operations.{op_by}
+use Rattle.nvme_model.specs.Queues.{fetched, published, waiting}
+use Rattle.nvme_model.specs.Refusals.{jobs_full, no_queue, refusal}
+use Rattle.ticket_standing.specs.Standing.{flying}
+use Rattle.nvme_model.specs.Tickets.{cids_in_use, command, first_fields}
+use Rattle.nvme_model.specs.Verdict.{Item, item_of, taken, verdict_of}
+use Rattle.nvme_model.specs.declared.config.AtomicParameters.{AtomicParameters}
+use Rattle.nvme_model.specs.declared.config.ConfigNumbers.{ConfigNumbers}
+use Rattle.nvme_model.specs.declared.refusal.Why.{Why}
+use Rattle.nvme_model.specs.declared.status.Verdict.{Verdict}
+use Rattle.nvme_model.specs.declared.step.Step.{Step}
+use Rattle.nvme_model.specs.declared.submission.Submission.{Submission}
+use Rattle.ticket_standing.proofs.Counts.{flying_count}
+use Rattle.ticket_standing.proofs.InUse.{verdict_same}
+use Rattle.nvme_model.proofs.Rules.{none_holds}
+use Rattle.fused_match.specs.Judged.{NamesBlocks, operation_in, verdict_by, waiting_items}
+use Rattle.fused_match.specs.declared.judged.Judged.{Judged}
+use Rattle.job_table.specs.Jobs.{JobTable}
+use Rattle.job_table.proofs.Tables.{length-jobs_by}
+use Rattle.range_reserve.specs.declared.held.Held.{Held}
+use Rattle.rings.specs.Completions.{CompletionRing}
+use Rattle.rings.specs.Submissions.{SubmissionRing}
+use Rattle.step_core.specs.Fetches.{IsJudged, cids_on}
+use Rattle.step_core.specs.Fields.{job_at, job_table, submission_ring}
+use Rattle.step_core.specs.Kept.{IsKept, IsSqRing}
+use Rattle.step_core.proofs.CidsInUse.{in_use_same}
+
+-- ---- the limits of a configuration
+
+-- a volume has at most 65,536 blocks
+pub blocks_most : (c : ConfigNumbers) → config_fault c ≡ None → c.blocks ≤ 65536
+blocks_most c e = ltb-false _ _ (or_parts _ _ (none_holds (config_faults c) (ap is_none e)).1.1.1.1.0).1
+
+-- ---- when it is refused
+
+-- two tests of a count that is at most a limit
+le_is_eq : (a b : ℕ) → a ≤ b → (a == b) ≡ nat_le b a
+le_is_eq a b l = grind (arith, nat_tests)
+
+-- the table is full where as many tickets are in flight as may be
+pub full_is : (c : ConfigNumbers) (past : Past) (v : List (List ℕ)) (s : List SubmissionRing) (q : List CompletionRing) (j : JobTable) (r : List Held) (n : ℕ) → IsKept c past v s q j r n
+    → length j.jobs ≤ j.limit → (length j.jobs == j.limit) ≡ jobs_full c past
+full_is c past v s q j r n k most =
+    let count = ap (λ (x : JobTable). length x.jobs) k.jobs ∙ length-jobs_by (job_at c past) (flying past) ∙ flying_count past in
+    le_is_eq (length j.jobs) j.limit most ∙ ap₂ (λ (m n : ℕ). nat_le m n) (ap (λ (x : JobTable). x.limit) k.jobs) count
+
+-- none is waiting
+none_waits : (c : ConfigNumbers) (past : Past) (q : ℕ) (r : SubmissionRing) → IsSqRing c past q r → slice_get r.waiting 0 ≡ None → (length (published past q) == fetched past q) ≡ true
+unfolding submission_ring
+none_waits c past q r s none =
+    eq-eqb _ _ (omega (arith, s.within, length-drop (fetched past q) (published past q), no_first (waiting past q) (ap (λ (x : SubmissionRing). slice_get x.waiting 0) (sym s.is) ∙ none)))
+  where
+    no_first : (xs : List Submission) → slice_get xs 0 ≡ None → length xs ≡ 0
+    no_first [] e = refl
+    no_first (x ∷ xs) e = absurd cc
+
+-- where one does not all are
+one_waits : (c : ConfigNumbers) (past : Past) (q : ℕ) (r : SubmissionRing) (x : Submission) → IsSqRing c past q r → slice_get r.waiting 0 ≡ Some x → (length (published past q) == fetched past q) ≡ false
+unfolding submission_ring
+one_waits c past q r x s some = apart _ _ (omega (arith, length-drop (fetched past q) (published past q), first (waiting past q) (ap (λ (y : SubmissionRing). slice_get y.waiting 0) (sym s.is) ∙ some)))
+  where
+    apart : (a b : ℕ) → b < a → (a == b) ≡ false
+    apart a b l = grind (arith, nat_tests)
+
+    first : (xs : List Submission) → slice_get xs 0 ≡ Some x → 0 < length xs
+    first [] e = absurd cc
+    first (y ∷ xs) e = omega arith
+
+-- the refusal by its three tests
+refused_by : (c : ConfigNumbers) (past : Past) (q : ℕ) (b d f : Bool) → no_queue c q ≡ b → (length (published past q) == fetched past q) ≡ d → jobs_full c past ≡ f
+    → refusal c past (Step.Fetch q) ≡ cond b (Some Why.NoQueue) (cond d (Some Why.NoEntry) (cond f (Some Why.JobsFull) None))
+refused_by c past q b d f x y z = (λ i. cond (x i) (Some Why.NoQueue) (cond (y i) (Some Why.NoEntry) (cond (z i) (Some Why.JobsFull) None)))
+
+-- where no entry waits
+pub fetch_no_entry : (c : ConfigNumbers) (past : Past) (q : ℕ) (r : SubmissionRing) → IsSqRing c past q r → slice_get r.waiting 0 ≡ None → refusal c past (Step.Fetch q) ≡ Some Why.NoEntry
+fetch_no_entry c past q r s none = refused_by c past q false true (jobs_full c past) s.there (none_waits c past q r s none) refl
+
+-- where one does it is refused exactly where the jobs are full
+pub fetch_by_jobs : (c : ConfigNumbers) (past : Past) (q : ℕ) (r : SubmissionRing) (x : Submission) (b : Bool) → IsSqRing c past q r → slice_get r.waiting 0 ≡ Some x → jobs_full c past ≡ b
+    → refusal c past (Step.Fetch q) ≡ cond b (Some Why.JobsFull) None
+fetch_by_jobs c past q r x b s some full = refused_by c past q false false b s.there (one_waits c past q r x s some) full
+
+-- ---- what becomes of the entries
+
+-- a verdict looks at two entries
+front_verdict : (u : AtomicParameters) (size : ℕ) (in_use : List ℕ) (ws : List Submission) (first : Submission) → slice_get ws 0 ≡ Some first
+    → verdict_of u size in_use (waiting_items (item_of first) (option_map item_of (slice_get ws 1))) ≡ verdict_of u size in_use (map item_of ws)
+front_verdict u size in_use [] first e = absurd cc
+front_verdict u size in_use (x ∷ []) first e = ap (λ (s : Submission). verdict_of u size in_use (item_of s ∷ [])) (some_inj e)
+  where
+    some_inj : Some x ≡ Some first → first ≡ x
+    some_inj h = cc
+front_verdict u size in_use (x ∷ (y ∷ ws)) first e = ap (λ (s : Submission). verdict_of u size in_use (item_of s ∷ item_of y ∷ [])) (some_inj e)
+  where
+    some_inj : Some x ≡ Some first → first ≡ x
+    some_inj h = cc
+
+-- the first command of those that are taken
+front_fields : (ws : List Submission) (q : ℕ) (v : Verdict) (first : Submission) → slice_get ws 0 ≡ Some first → sqe_fields first.entry ≡ first_fields (record { queue = q; commands = take (taken v) ws; verdict = v })
+front_fields [] q v first e = absurd cc
+front_fields (x ∷ ws) q v first e = ap (λ (s : Submission). sqe_fields s.entry) (by v)
+  where
+    some_inj : Some x ≡ Some first → first ≡ x
+    some_inj h = cc
+
+    by : (v : Verdict) → first ≡ command (record { queue = q; commands = take (taken v) (x ∷ ws); verdict = v }) 0
+    by Verdict.Single = some_inj e
+    by (Verdict.SingleFailed s) = some_inj e
+    by Verdict.Pair = some_inj e
+    by (Verdict.PairFailed s t) = some_inj e
+
+-- what was found at the front of the ring is what becomes of the entries
+pub judged_is : (c : ConfigNumbers) (past : Past) (q : ℕ) (r : SubmissionRing) (j : JobTable) (x : Judged) (first : Submission) (next : Option Item) → IsSqRing c past q r → j ≡ job_table c past
+    → slice_get r.waiting 0 ≡ Some first → next ≡ option_map item_of (slice_get r.waiting 1) → verdict_by x ≡ verdict_of c.atomic c.blocks (cids_on q j.jobs) (waiting_items (item_of first) next)
+    → operation_in x ≡ op_by (verdict_by x) (sqe_fields first.entry) → NamesBlocks x (sqe_fields first.entry) → IsJudged c past q x
+unfolding submission_ring
+judged_is c past q r j x first next s table there behind verdict operation range =
+    let waits : r.waiting ≡ waiting past q = ap (λ (y : SubmissionRing). y.waiting) s.is in
+    let front : slice_get (waiting past q) 0 ≡ Some first = ap (λ (ws : List Submission). slice_get ws 0) (sym waits) ∙ there in
+    let second : next ≡ option_map item_of (slice_get (waiting past q) 1) = behind ∙ ap (λ (ws : List Submission). option_map item_of (slice_get ws 1)) waits in
+    let names = front_fields (waiting past q) q (verdict_by x) first front in
+    record {
+      verdict = verdict ∙ ap₂ (λ (y : JobTable) (o : Option Item). verdict_of c.atomic c.blocks (cids_on q y.jobs) (waiting_items (item_of first) o)) table second
+          ∙ verdict_same c.atomic c.blocks _ (cids_in_use past q) (waiting_items (item_of first) (option_map item_of (slice_get (waiting past q) 1))) (in_use_same c past q)
+          ∙ front_verdict c.atomic c.blocks (cids_in_use past q) (waiting past q) first front;
+      operation = operation ∙ ap (op_by (verdict_by x)) names;
+      range = subst (NamesBlocks x) names range;
+    }

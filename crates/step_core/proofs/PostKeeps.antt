@@ -1,0 +1,207 @@
+-- What a Post leaves.
+use Rattle.std.proofs.Common.{◌≡◌, ◌≢◌, ℕ, suc, ◌+◌, ◌-◌, ◌%◌, ◌≤◌, ◌<◌, Bool, true, false, cond, List, [], ◌∷◌, length, get_or, set, slice_get, Option, Some, None, refl, sym, ap, ◌∙◌, subst, arith, inl, inr, eqb, eq-eqb, ltb-true, ltb-false, ne_eqb, nat_lt, is_none}
+use Rattle.std.proofs.lemmas.Bool.{cases_eq, or_parts}
+use Rattle.std.proofs.lemmas.List.{length-drop, length-map}
+use Rattle.std.proofs.Math.Nat.{mod-lt}
+use Rattle.nvme_model.specs.declared.config.ConfigNumbers.{ConfigNumbers}
+use Rattle.nvme_model.specs.declared.entry.Entry.{Entry}
+use Rattle.nvme_model.specs.declared.entry.PostLine.{PostLine}
+use Rattle.nvme_model.specs.declared.operation.Op.{Op}
+use Rattle.nvme_model.specs.declared.status.Status.{Status}
+use Rattle.nvme_model.specs.declared.status.Verdict.{Verdict}
+use Rattle.nvme_model.specs.declared.step.Step.{Step}
+use Rattle.nvme_model.specs.Config.{completion_queue, config_fault, config_faults}
+use Rattle.nvme_model.specs.EntryBytes.{sqe_fields}
+use Rattle.nvme_model.specs.History.{Past}
+use Rattle.nvme_model.specs.Tickets
+use Rattle.nvme_model.specs.Tickets.{Ticket, cids, first_fields, in_flight, posts_of}
+use Rattle.nvme_model.specs.Operations.{op, op_by}
+use Rattle.nvme_model.specs.Completions.{posted, reaped}
+use Rattle.nvme_model.specs.Refusals.{conditions, refusal}
+use Rattle.nvme_model.specs.Verdict.{taken}
+use Rattle.nvme_model.proofs.Rules.{none_holds}
+use Rattle.nvme_model.specs.Steps.{next_entry, post_entry}
+use Rattle.ticket_standing.specs.Standing.{standing, still_owed}
+use Rattle.nvme_model.proofs.EveryRun.{Kept}
+use Rattle.nvme_model.proofs.NextPost.{commands_few, not_flying}
+use Rattle.ticket_standing.proofs.Owing.{next_owed}
+use Rattle.range_reserve.specs.declared.held.Held.{Held}
+use Rattle.rings.specs.Completions.{CompletionRing, is_full, posted_ring}
+use Rattle.rings.specs.Submissions.{SubmissionRing}
+use Rattle.job_table.specs.Jobs.{JobTable, has_ticket, job_of}
+use Rattle.job_table.specs.declared.job.Job.{Job}
+use Rattle.job_table.proofs.Tables.{has_ticket-jobs_by}
+use Rattle.step_core.specs.Fields.{completion_ring, job_at, job_by, posted_payload, posted_table, read_bytes_by, submission_ring}
+use Rattle.step_core.specs.Kept.{IsDue, IsKept}
+use Rattle.step_core.specs.declared.machine.post.Due.{Due}
+use Rattle.step_core.proofs.Moves.{job_found, stepped}
+use Rattle.step_core.proofs.Tables.{IsTable-same, IsTable-set}
+use Rattle.step_core.proofs.Posting.{cqs_some, due_full}
+use Rattle.step_core.proofs.PostedRing.{post_ring, post_ring_other}
+use Rattle.step_core.proofs.PostedJob.{posted_table_is}
+use Rattle.step_core.proofs.PostedData.{data_is}
+use Rattle.ticket_standing.proofs.Flying.{has_flying}
+use Rattle.ticket_standing.specs.Standing.{flying}
+
+-- ---- a pair's first completion carries nothing
+
+-- where more than one completion is owed, nothing is read
+pub nothing_yet : (c : ConfigNumbers) (past : Past) (t : ℕ) → 1 < length (job_at c past t).cids → (job_at c past t).read ≡ []
+unfolding job_by
+nothing_yet c past t l = by_verdict (Tickets.ticket past t).verdict refl (commands_few past t)
+  where
+    k : Ticket
+    k = Tickets.ticket past t
+
+    two : 1 < length k.commands
+    two = omega (arith, l, length-drop (posts_of past t) (cids k), length-map k.commands (λ s. (sqe_fields s.entry).cid))
+
+    nothing : (o : Option Op) → op k ≡ o → (o ≡ Some Op.Read → ⊥) → read_bytes_by (op k) k (standing past t).read ≡ []
+    nothing o e n = ap (λ x. read_bytes_by x k (standing past t).read) e ∙ go o n
+      where
+        go : (o : Option Op) → (o ≡ Some Op.Read → ⊥) → read_bytes_by o k (standing past t).read ≡ []
+        go None n = refl
+        go (Some Op.Compare) n = refl
+        go (Some Op.Write) n = refl
+        go (Some Op.WriteZeroes) n = refl
+        go (Some Op.Pair) n = refl
+        go (Some Op.Read) n = absurd (n refl)
+
+    by_verdict : (v : Verdict) → k.verdict ≡ v → length k.commands ≤ taken v → read_bytes_by (op k) k (standing past t).read ≡ []
+    by_verdict Verdict.Single e m = absurd (omega (arith, two, m))
+    by_verdict (Verdict.SingleFailed s) e m = absurd (omega (arith, two, m))
+    by_verdict Verdict.Pair e m = nothing (Some Op.Pair) (ap (λ (v : Verdict). op_by v (first_fields k)) e) (λ q. absurd cc)
+    by_verdict (Verdict.PairFailed s r) e m = nothing None (ap (λ (v : Verdict). op_by v (first_fields k)) e) (λ q. absurd cc)
+
+-- a Post leaves the submission rings
+post_sq_ring : (c : ConfigNumbers) (past : Past) (p : PostLine) (i : ℕ) → submission_ring c (Entry.Post p ∷ past) i ≡ submission_ring c past i
+unfolding submission_ring
+post_sq_ring c past p i = refl
+
+-- a completion queue has two slots at least
+size_two : (c : ConfigNumbers) → config_fault c ≡ None → 2 ≤ c.cq_size
+size_two c e = two c.cq_size (or_parts (nat_lt c.cq_size 2) (nat_lt 1024 c.cq_size) (none_holds (config_faults c) (ap is_none e)).1.1.1.1.1.1.1.0).0
+  where
+    two : (n : ℕ) → nat_lt n 2 ≡ false → 2 ≤ n
+    two n h = ltb-false _ _ h
+
+module _ (c : ConfigNumbers) (past : Past) (v : List (List ℕ)) (s : List SubmissionRing) (q : List CompletionRing) (j : JobTable) (r : List Held) (n : ℕ) (k : IsKept c past v s q j r n)
+    (t : ℕ) (d : Due) (none : refusal c past (Step.Post t) ≡ None) (due : IsDue c past t d) where
+  flies : in_flight past t ≡ true
+  flies = not_flying _ (none_holds (conditions c past (Step.Post t)) (ap is_none none)).0
+
+  -- the ticket is in the table
+  pub there : has_ticket j.jobs t ≡ true
+  there = ap (λ (x : JobTable). has_ticket x.jobs t) k.jobs ∙ has_ticket-jobs_by (job_at c past) (flying past) t ∙ has_flying c past t k.run.legal ∙ flies
+
+  -- with this job
+  pub found : (x : Job) → job_of j.jobs t ≡ Some x → x ≡ job_at c past t
+  found x e = some_inj (sym e ∙ ap (λ (y : JobTable). job_of y.jobs t) k.jobs ∙ job_found c past t k.run.legal ∙ ap (λ b. cond b (Some (job_at c past t)) None) flies)
+    where
+      some_inj : {x y : Job} → Some x ≡ Some y → x ≡ y
+      some_inj h = cc
+
+  pub is_there : job_of j.jobs t ≡ Some (job_at c past t)
+  is_there = ap (λ (y : JobTable). job_of y.jobs t) k.jobs ∙ job_found c past t k.run.legal ∙ ap (λ b. cond b (Some (job_at c past t)) None) flies
+
+  some_cids : 0 < length (job_at c past t).cids
+  unfolding job_by
+  some_cids = omega (arith, ltb-true _ _ flies, length-drop (posts_of past t) (cids (Tickets.ticket past t)), length-map (Tickets.ticket past t).commands (λ s. (sqe_fields s.entry).cid))
+
+  some_owed : 0 < length (job_at c past t).owed
+  unfolding job_by
+  some_owed = first (still_owed c (standing past t)) (next_owed c past t k.run.legal k.run.marks ∙ due.owed)
+    where
+      first : (xs : List Status) → slice_get xs 0 ≡ Some due.status → 0 < length xs
+      first [] e = absurd cc
+      first (x ∷ xs) e = omega arith
+
+  -- it owes a completion of a command
+  pub owes : (x : Job) → job_of j.jobs t ≡ Some x → (0 < length x.cids) × (0 < length x.owed)
+  owes x e = subst (λ (y : Job). (0 < length y.cids) × (0 < length y.owed)) (sym (found x e)) (some_cids, some_owed)
+
+  -- ---- the ring it goes to
+
+  cq_some : 0 < c.cq_size
+  cq_some = omega (arith, size_two c k.accepted)
+
+  queue_is : d.queue ≡ (((Tickets.ticket past t).queue - 1) % c.cqs) + 1
+  queue_is = due.queue
+
+  place_is : d.queue - 1 ≡ ((Tickets.ticket past t).queue - 1) % c.cqs
+  place_is = omega (arith, queue_is)
+
+  pub queue_some : 1 ≤ d.queue
+  queue_some = omega (arith, queue_is)
+
+  within : d.queue - 1 < c.cqs
+  within = omega (arith, place_is, mod-lt ((Tickets.ticket past t).queue - 1) (cqs_some c k.accepted))
+
+  pub place_there : d.queue - 1 < length q
+  place_there = omega (arith, within, k.completion.size)
+
+  ring_is : (x : CompletionRing) → x ≡ get_or q (d.queue - 1) x → x ≡ completion_ring c past d.queue
+  ring_is x e = e ∙ k.completion.at (d.queue - 1) x within ∙ ap (completion_ring c past) suc_is
+    where
+      suc_is : suc (d.queue - 1) ≡ d.queue
+      suc_is = omega (arith, queue_some)
+
+  -- it isn't full
+  pub not_full : (x : CompletionRing) → x ≡ get_or q (d.queue - 1) x → is_full x ≡ false
+  not_full x e =
+      due_full c past d.queue x k.run.legal (ring_is x e)
+      ∙ ap (λ i. eqb (length (posted c past i) - reaped past i) (c.cq_size - 1)) due.queue
+      ∙ (none_holds (conditions c past (Step.Post t)) (ap is_none none)).1.1.0
+
+  -- ---- the entry
+
+  post_line : List ℕ → PostLine
+  post_line copy = record { ticket = t; cqe = d.cqe; payload = copy }
+
+  pub post_entry_is : (copy : List ℕ) → copy ≡ (job_at c past t).read → Entry.Post (record { ticket = t; cqe = d.cqe; payload = copy }) ≡ next_entry c past (Step.Post t)
+  post_entry_is copy e =
+      (λ i. Entry.Post (record { ticket = t; cqe = due.cqe i; payload = (e ∙ data_is c past t due.status k.run flies due.owed) i }))
+      ∙ ap (post_entry c past t) (sym due.owed)
+
+  -- ---- all fields
+
+  payload_is : posted_payload (job_at c past t) ≡ (job_at c past t).read
+  payload_is = go (eqb (length (job_at c past t).cids) 1) refl
+    where
+      go : (b : Bool) → eqb (length (job_at c past t).cids) 1 ≡ b → cond b (job_at c past t).read [] ≡ (job_at c past t).read
+      go true e = refl
+      go false e = sym (nothing_yet c past t (more (length (job_at c past t).cids) e some_cids))
+        where
+          more : (m : ℕ) → eqb m 1 ≡ false → 0 < m → 1 < m
+          more m e l = elim (cases_eq m 1) [
+            | inl same ↦ absurd (let x : true ≡ false = sym (eq-eqb m 1 same) ∙ e in cc)
+            | inr apart ↦ omega (arith, apart, l)
+          ]
+
+  pub post_keeps : (x x' : CompletionRing) (copy payload : List ℕ) (j' : JobTable) (past' : Past) → x ≡ get_or q (d.queue - 1) x → copy ≡ (job_at c past t).read → payload ≡ posted_payload (job_at c past t)
+      → j' ≡ posted_table j t (job_at c past t) → x' ≡ posted_ring x (record { cqe = d.cqe; payload = payload }) → past' ≡ Entry.Post (record { ticket = t; cqe = d.cqe; payload = copy }) ∷ past
+      → IsKept c past' v s (set q (d.queue - 1) x') j' r n
+  post_keeps x x' copy payload j' past' e f g h l m =
+      let p : PostLine = record { ticket = t; cqe = d.cqe; payload = copy } in
+      let later : Past = Entry.Post p ∷ past in
+      let same : payload ≡ copy = g ∙ payload_is ∙ sym f in
+      let ring : x' ≡ completion_ring c later (suc (d.queue - 1)) =
+      l ∙ (λ i. posted_ring (ring_is x e i) (record { cqe = d.cqe; payload = same i }))
+      ∙ post_ring c past p d.queue k.run.legal cq_some (sym due.queue)
+      ∙ ap (completion_ring c later) (sym suc_is) in
+      subst (λ (w : Past). IsKept c w v s (set q (d.queue - 1) x') j' r n) (sym m) (record {
+        accepted = k.accepted;
+        volume = k.volume;
+        submission = IsTable-same (λ i. submission_ring c past (suc i)) (λ i. submission_ring c later (suc i)) c.pairs s k.submission (λ i. post_sq_ring c past p (suc i));
+        completion = IsTable-set (λ i. completion_ring c past (suc i)) (λ i. completion_ring c later (suc i)) c.cqs (d.queue - 1) q x' k.completion within ring (λ i a. post_ring_other c past p (suc i) (other i a));
+        jobs = h ∙ ap (λ (y : JobTable). posted_table y t (job_at c past t)) k.jobs ∙ posted_table_is c past p flies;
+        held = k.held;
+        count = k.count;
+        run = subst (λ (y : Entry). Kept c (y ∷ past)) (sym (post_entry_is copy f)) (stepped c past (Step.Post t) k.run none);
+      })
+    where
+      suc_is : suc (d.queue - 1) ≡ d.queue
+      suc_is = omega (arith, queue_some)
+
+      other : (i : ℕ) → i ≢ d.queue - 1 → eqb (completion_queue c (Tickets.ticket past t).queue) (suc i) ≡ false
+      other i a = ne_eqb _ _ (λ (z : completion_queue c (Tickets.ticket past t).queue ≡ suc i). a (omega (arith, z, due.queue)))

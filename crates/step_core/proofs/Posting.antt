@@ -1,0 +1,217 @@
+-- What a Post finds.
+use Rattle.std.proofs.Common.{◌≡◌, ℕ, zero, suc, ◌+◌, ◌-◌, ◌%◌, ◌≤◌, ◌<◌, Bool, true, false, not, cond, List, [], ◌∷◌, length, drop, get_or, slice_get, Option, Some, None, is_none, refl, sym, ap, ◌∙◌, subst, arith, eqb, ltb-true, ltb-false, nat_lt, add-one}
+use Rattle.std.proofs.lemmas.Bool.{or_parts}
+use Rattle.std.proofs.lemmas.List.{length-map, length-drop}
+use Rattle.nvme_model.specs.declared.config.ConfigNumbers.{ConfigNumbers}
+use Rattle.nvme_model.specs.declared.entry.Entry.{Entry}
+use Rattle.nvme_model.specs.declared.refusal.Why.{Why}
+use Rattle.nvme_model.specs.declared.status.Status.{Status}
+use Rattle.nvme_model.specs.declared.step.Step.{Step}
+use Rattle.nvme_model.specs.Config.{completion_queue, config_fault, config_faults}
+use Rattle.nvme_model.specs.History.{Past}
+use Rattle.nvme_model.specs.Tickets
+use Rattle.nvme_model.specs.Tickets.{Ticket, cids, in_flight, posts_of}
+use Rattle.nvme_model.specs.Queues.{fetched}
+use Rattle.nvme_model.specs.Completions.{posted, reaped}
+use Rattle.nvme_model.specs.Refusals.{no_queue, owes_nothing_yet, refusal}
+use Rattle.ticket_standing.specs.Standing.{standing, still_owed}
+use Rattle.nvme_model.specs.Legal.{IsLegal}
+use Rattle.nvme_model.specs.EntryBytes.{sqe_fields}
+use Rattle.nvme_model.proofs.EveryRun.{Kept}
+use Rattle.nvme_model.proofs.Rules.{follows, none_holds}
+use Rattle.ticket_standing.proofs.Owing.{has_next, next_owed}
+use Rattle.job_table.specs.declared.job.Job.{Job}
+use Rattle.rings.specs.Completions.{CompletionRing, is_full}
+use Rattle.rings.specs.Submissions.{SubmissionRing}
+use Rattle.entry_codec.specs.Cqe.{completion_bytes, phase_bit}
+use Rattle.entry_codec.specs.declared.cqe.Cqe.{Cqe}
+use Rattle.completions.proofs.CompletionLemmas.{completion_bytes-completion}
+use Rattle.step_core.specs.declared.machine.post.Due.{Due}
+use Rattle.step_core.specs.Fields.{completion_of, completion_ring, job_by, submission_ring}
+use Rattle.step_core.specs.Kept.{IsDue, IsJob, IsKept}
+use Rattle.step_core.specs.State.{State}
+use Rattle.range_reserve.specs.declared.held.Held.{Held}
+use Rattle.job_table.specs.Jobs.{JobTable}
+use Rattle.std.proofs.Math.Nat.{mod-lt}
+
+-- ---- the queue of a ticket
+
+-- a fetched ticket's queue is there
+pub ticket_queue : (c : ConfigNumbers) (past : Past) (t : ℕ) → IsLegal c past → 1 ≤ length (Tickets.ticket past t).commands → no_queue c (Tickets.ticket past t).queue ≡ false
+ticket_queue c [] t h l = absurd (omega (arith, l))
+ticket_queue c (Entry.Fetch f ∷ past) t h l =
+    let w = follows c past (Entry.Fetch f) h in
+    go (eqb f.ticket t) w.allowed.0 (ticket_queue c past t w.before) l
+  where
+    go : (b : Bool) → no_queue c f.queue ≡ false → (1 ≤ length (Tickets.ticket past t).commands → no_queue c (Tickets.ticket past t).queue ≡ false)
+        → 1 ≤ length (cond b (Tickets.fetched_ticket past f.queue f.verdict) (Tickets.ticket past t)).commands
+        → no_queue c (cond b (Tickets.fetched_ticket past f.queue f.verdict) (Tickets.ticket past t)).queue ≡ false
+    go true e ih l = e
+    go false e ih l = ih l
+ticket_queue c (Entry.Publish e ∷ past) t h l = ticket_queue c past t (follows c past (Entry.Publish e) h).before l
+ticket_queue c (Entry.Grant e ∷ past) t h l = ticket_queue c past t (follows c past (Entry.Grant e) h).before l
+ticket_queue c (Entry.Block e ∷ past) t h l = ticket_queue c past t (follows c past (Entry.Block e) h).before l
+ticket_queue c (Entry.Post e ∷ past) t h l = ticket_queue c past t (follows c past (Entry.Post e) h).before l
+ticket_queue c (Entry.Reap e ∷ past) t h l = ticket_queue c past t (follows c past (Entry.Reap e) h).before l
+
+-- one in flight has a command
+flies_some : (past : Past) (t : ℕ) → in_flight past t ≡ true → 1 ≤ length (Tickets.ticket past t).commands
+flies_some past t f = omega (arith, ltb-true _ _ f)
+
+-- the number of a queue that is there
+pub record HasQueue (c : ConfigNumbers) (q : ℕ) : Type 0 where
+  pub low : 1 ≤ q
+  pub high : q ≤ c.pairs
+
+queue_there : (c : ConfigNumbers) (q : ℕ) → no_queue c q ≡ false → HasQueue c q
+queue_there c q e =
+    let a = or_parts (eqb q 0) (nat_lt c.pairs q) e in
+    record { low = low q a.0; high = ltb-false _ _ a.1 }
+  where
+    low : (q : ℕ) → eqb q 0 ≡ false → 1 ≤ q
+    low zero e = absurd cc
+    low (suc q) e = omega arith
+
+pub job_queue : (c : ConfigNumbers) (past : Past) (t : ℕ) (j : Job) → IsLegal c past → IsJob c past t j → HasQueue c j.queue
+unfolding job_by
+job_queue c past t j h k =
+    subst (HasQueue c) (sym (ap (λ (x : Job). x.queue) k.is)) (queue_there c _ (ticket_queue c past t h (flies_some past t k.flies)))
+
+-- ---- what is due
+
+get_dropped : {X : Type 0} (n : ℕ) (xs : List X) → slice_get (drop n xs) 0 ≡ slice_get xs n
+get_dropped zero [] = refl
+get_dropped zero (x ∷ xs) = refl
+get_dropped (suc n) [] = refl
+get_dropped (suc n) (x ∷ xs) = get_dropped n xs
+
+none_then : {X : Type 0} (xs : List X) (n : ℕ) → slice_get xs n ≡ None → length xs ≤ n
+none_then [] n e = omega arith
+none_then (x ∷ xs) zero e = absurd cc
+none_then (x ∷ xs) (suc n) e = omega (arith, none_then xs n e)
+
+-- the CID of the next completion
+pub cid_there : (c : ConfigNumbers) (past : Past) (t : ℕ) (j : Job) → IsJob c past t j → slice_get j.cids 0 ≡ None → ⊥
+unfolding job_by
+cid_there c past t j k e =
+    omega (
+      arith,
+      ltb-true _ _ k.flies,
+      length-map (Tickets.ticket past t).commands (λ s. (sqe_fields s.entry).cid),
+      none_then (cids (Tickets.ticket past t)) (posts_of past t) (sym (get_dropped (posts_of past t) (cids (Tickets.ticket past t))) ∙ ap (λ (x : Job). slice_get x.cids 0) (sym k.is) ∙ e),
+    )
+
+-- where nothing is owed the Post is refused
+pub nothing_due : (c : ConfigNumbers) (past : Past) (t : ℕ) (j : Job) → Kept c past → IsJob c past t j → slice_get j.owed 0 ≡ None → refusal c past (Step.Post t) ≡ Some Why.WrongState
+unfolding job_by
+nothing_due c past t j r k e =
+    let next : is_none (slice_get (still_owed c (standing past t)) 0) ≡ true = ap is_none (ap (λ (x : Job). slice_get x.owed 0) (sym k.is) ∙ e) in
+    let nothing : owes_nothing_yet c past t ≡ true = sym (has_next c past t r.legal r.marks k.flies) ∙ next in
+    (λ i. cond (not (k.flies i)) (Some Why.NoTicket) (cond (nothing i) (Some Why.WrongState) (cond (eqb (length (posted c past (completion_queue c (Tickets.ticket past t).queue)) - reaped past (completion_queue c (Tickets.ticket past t).queue)) (c.cq_size - 1)) (Some Why.CqFull) None)))
+
+-- where something is, it is refused exactly where the completion queue is full
+pub something_due : (c : ConfigNumbers) (past : Past) (t : ℕ) (j : Job) (s : Status) (b : Bool) → Kept c past → IsJob c past t j → slice_get j.owed 0 ≡ Some s
+    → eqb (length (posted c past (completion_queue c (Tickets.ticket past t).queue)) - reaped past (completion_queue c (Tickets.ticket past t).queue)) (c.cq_size - 1) ≡ b
+    → refusal c past (Step.Post t) ≡ cond b (Some Why.CqFull) None
+unfolding job_by
+something_due c past t j s b r k e full =
+    let next : is_none (slice_get (still_owed c (standing past t)) 0) ≡ false = ap is_none (ap (λ (x : Job). slice_get x.owed 0) (sym k.is) ∙ e) in
+    let some : owes_nothing_yet c past t ≡ false = sym (has_next c past t r.legal r.marks k.flies) ∙ next in
+    (λ i. cond (not (k.flies i)) (Some Why.NoTicket) (cond (some i) (Some Why.WrongState) (cond (full i) (Some Why.CqFull) None)))
+
+-- ---- where it goes, and its bytes
+
+-- there is a completion queue
+pub cqs_some : (c : ConfigNumbers) → config_fault c ≡ None → 1 ≤ c.cqs
+cqs_some c e = some c.cqs (or_parts (eqb c.cqs 0) (nat_lt c.pairs c.cqs) (none_holds (config_faults c) (ap is_none e)).1.1.1.1.1.1.1.1.1.0).0
+  where
+    some : (n : ℕ) → eqb n 0 ≡ false → 1 ≤ n
+    some zero e = absurd cc
+    some (suc n) e = omega arith
+
+found_at : {X : Type 0} (xs : List X) (n : ℕ) (x d : X) → slice_get xs n ≡ Some x → get_or xs n d ≡ x
+found_at [] n x d e = absurd cc
+found_at (y ∷ xs) zero x d e = some_inj e
+  where
+    some_inj : Some y ≡ Some x → y ≡ x
+    some_inj h = cc
+found_at (y ∷ xs) (suc n) x d e = found_at xs n x d e
+
+-- the queue that a Post goes to
+pub due_queue : (c : ConfigNumbers) (past : Past) (t : ℕ) (j : Job) → IsJob c past t j → completion_queue c j.queue ≡ completion_queue c (Tickets.ticket past t).queue
+unfolding job_by
+due_queue c past t j k = ap (λ (x : Job). completion_queue c x.queue) k.is
+
+-- how full it is
+pub due_full : (c : ConfigNumbers) (past : Past) (q : ℕ) (x : CompletionRing) → IsLegal c past → x ≡ completion_ring c past q → is_full x ≡ eqb (length (posted c past q) - reaped past q) (c.cq_size - 1)
+unfolding completion_ring
+due_full c past q x h e =
+    ap is_full e
+    ∙ ap (λ n. eqb n (c.cq_size - 1)) (length-map (drop (reaped past q) (posted c past q)) completion_of ∙ length-drop (reaped past q) (posted c past q))
+
+-- the completion that is due
+pub due_is : (c : ConfigNumbers) (past : Past) (t : ℕ) (j : Job) (s : Status) (cid : ℕ) (x : CompletionRing) (r : SubmissionRing) (cqe : Cqe) (d : Due) → Kept c past → IsJob c past t j
+    → slice_get j.owed 0 ≡ Some s → slice_get j.cids 0 ≡ Some cid → x ≡ completion_ring c past (completion_queue c (Tickets.ticket past t).queue) → r ≡ submission_ring c past j.queue
+    → cqe ≡ record { sqhd = r.head; sqid = j.queue; cid = cid; phase = x.phase; status = s } → d.cqe ≡ completion_bytes cqe → d.queue ≡ completion_queue c j.queue → IsDue c past t d
+unfolding job_by completion_ring submission_ring
+due_is c past t j s cid x r cqe d kept k owes has ring sring fields bytes queue =
+    let of_queue : j.queue ≡ (Tickets.ticket past t).queue = ap (λ (y : Job). y.queue) k.is in
+    record {
+      status = s;
+      owed = sym (next_owed c past t kept.legal kept.marks) ∙ ap (λ (y : Job). slice_get y.owed 0) (sym k.is) ∙ owes;
+      queue = queue ∙ due_queue c past t j k;
+      cqe = bytes ∙ completion_bytes-completion c past t s cqe
+          (ap (λ (y : Cqe). y.sqhd) fields ∙ ap (λ (y : SubmissionRing). y.head) sring ∙ ap (λ n. fetched past n % c.sq_size) of_queue)
+          (ap (λ (y : Cqe). y.sqid) fields ∙ of_queue)
+          (ap (λ (y : Cqe). y.cid) fields ∙ sym (found_at (cids (Tickets.ticket past t)) (posts_of past t) cid 0 (sym (get_dropped (posts_of past t) (cids (Tickets.ticket past t))) ∙ ap (λ (y : Job). slice_get y.cids 0) (sym k.is) ∙ has)))
+          (ap (λ (y : Cqe). phase_bit y.phase) fields ∙ ap (λ (y : CompletionRing). phase_bit y.phase) ring)
+          (ap (λ (y : Cqe). y.status) fields);
+    }
+
+-- ---- what `post_due` finds
+
+module _ (c : ConfigNumbers) (past : Past) (v : List (List ℕ)) (s : List SubmissionRing) (q : List CompletionRing) (j : JobTable) (r : List Held) (n : ℕ) (k : IsKept c past v s q j r n)
+    (x : State) (m : ℕ) (view : record { config = c; past = past; promised = m } ≡ x) (t : ℕ) (job : Job) (is : IsJob x.config x.past t job) where
+  mine : IsJob c past t job
+  mine = subst (λ (y : State). IsJob y.config y.past t job) (sym view) is
+
+  refused_so : (o : Option Why) → refusal c past (Step.Post t) ≡ o → refusal x.config x.past (Step.Post t) ≡ o
+  refused_so o e = subst (λ (y : State). refusal y.config y.past (Step.Post t) ≡ o) view e
+
+  pub post_nothing : slice_get job.owed 0 ≡ None → refusal x.config x.past (Step.Post t) ≡ Some Why.WrongState
+  post_nothing e = refused_so (Some Why.WrongState) (nothing_due c past t job k.run mine e)
+
+  pub post_cid : slice_get job.cids 0 ≡ None → ⊥
+  post_cid e = cid_there c past t job mine e
+
+  pub post_queue : HasQueue c job.queue
+  post_queue = job_queue c past t job k.run.legal mine
+
+  pub post_some : 1 ≤ c.cqs
+  post_some = cqs_some c k.accepted
+
+  -- the place of the completion ring
+  pub post_place : (job.queue - 1) % c.cqs < length q
+  post_place = omega (arith, mod-lt (job.queue - 1) post_some, k.completion.size)
+
+  -- and of the submission ring
+  pub post_head : job.queue - 1 < length s
+  post_head = omega (arith, post_queue.low, post_queue.high, k.submission.size)
+
+  ring_is : (y : CompletionRing) → y ≡ get_or q ((job.queue - 1) % c.cqs) y → y ≡ completion_ring c past (completion_queue c (Tickets.ticket past t).queue)
+  ring_is y e =
+      e ∙ k.completion.at ((job.queue - 1) % c.cqs) y (mod-lt (job.queue - 1) post_some)
+      ∙ ap (completion_ring c past) (sym (add-one ((job.queue - 1) % c.cqs)) ∙ due_queue c past t job mine)
+
+  pub post_full : (o : Status) (y : CompletionRing) (b : Bool) → slice_get job.owed 0 ≡ Some o → y ≡ get_or q ((job.queue - 1) % c.cqs) y → is_full y ≡ b → refusal x.config x.past (Step.Post t) ≡ cond b (Some Why.CqFull) None
+  post_full o y b owes e f =
+      refused_so (cond b (Some Why.CqFull) None)
+      (something_due c past t job o b k.run mine owes (sym (due_full c past (completion_queue c (Tickets.ticket past t).queue) y k.run.legal (ring_is y e)) ∙ f))
+
+  pub post_is : (o : Status) (cid : ℕ) (y : CompletionRing) (z : SubmissionRing) (cqe : Cqe) (d : Due) → slice_get job.owed 0 ≡ Some o → slice_get job.cids 0 ≡ Some cid
+      → y ≡ get_or q ((job.queue - 1) % c.cqs) y → z ≡ get_or s (job.queue - 1) z → cqe ≡ record { sqhd = z.head; sqid = job.queue; cid = cid; phase = y.phase; status = o }
+      → d.cqe ≡ completion_bytes cqe → d.queue ≡ (job.queue - 1) % c.cqs + 1 → IsDue x.config x.past t d
+  post_is o cid y z cqe d owes has e f fields bytes queue =
+      let p : suc (job.queue - 1) ≡ job.queue = omega (arith, post_queue.low) in
+      let sring : z ≡ submission_ring c past job.queue = f ∙ k.submission.at (job.queue - 1) z (omega (arith, post_queue.low, post_queue.high)) ∙ ap (submission_ring c past) p in
+      subst (λ (w : State). IsDue w.config w.past t d) view (due_is c past t job o cid y z cqe d k.run mine owes has (ring_is y e) sring fields bytes queue)

@@ -1,0 +1,50 @@
+use Rattle.std.proofs.Common.{arith, subst, sym}
+use Rattle.step_core.specs.State.{State}
+use Rattle.step_core.proofs.Fetched.{IsFetched, ticket_fits, can_take, both_taken, is_above, not_full, work_fits, fetch_kept, fetch_done}
+use Rattle.step_core.proofs.machine.Core.fetch.Goals as goal
+
+pub overflow_add-ticket : goal.overflow_add-ticket
+overflow_add-ticket c =
+    let a = subst (λ (x : State). IsFetched x.config x.past c.args.queue c.in_ok-judged.judged) (sym c.self.view_is) c.in_ok-judged.ensures.value in
+    omega (arith, ticket_fits _ _ _ _ _ _ _ _ c.self.invariant.0 _ _ a _ c.keep_room.ensures.past c.in_ok-keep_room.ensures.few)
+
+pub take_commands-first-requires-clause-within : goal.take_commands-first-requires-clause-within
+take_commands-first-requires-clause-within c =
+    let a = subst (λ (x : State). IsFetched x.config x.past c.args.queue c.in_ok-judged.judged) (sym c.self.view_is) c.in_ok-judged.ensures.value in
+    can_take _ _ _ _ _ _ _ _ c.self.invariant.0 _ _ a _ _ c.index_mut-ring.ensures.value c.taken.ensures.value
+
+pub new_job-job-requires : goal.new_job-job-requires
+new_job-job-requires c =
+    let a = subst (λ (x : State). IsFetched x.config x.past c.args.queue c.in_ok-judged.judged) (sym c.self.view_is) c.in_ok-judged.ensures.value in
+    record { both = both_taken _ _ _ _ _ _ _ _ c.self.invariant.0 _ _ a _ _ _ _ c.index_mut-ring.ensures.value c.taken.ensures.value c.take_commands-first.ensures.taken }
+
+pub insert-requires : goal.insert-requires
+insert-requires c =
+    let a = subst (λ (x : State). IsFetched x.config x.past c.args.queue c.in_ok-judged.judged) (sym c.self.view_is) c.in_ok-judged.ensures.value in
+    record { above = is_above _ _ _ _ _ _ _ _ c.self.invariant.0 _ _ a }
+
+pub unreachable-requires : goal.unreachable-requires
+unreachable-requires c =
+    let a = subst (λ (x : State). IsFetched x.config x.past c.args.queue c.in_ok-judged.judged) (sym c.self.view_is) c.in_ok-judged.ensures.value in
+    not_full _ _ _ _ _ _ _ _ c.self.invariant.0 _ _ a c.in_default-insert.ensures.full
+
+pub new-requires : goal.new-requires
+new-requires c =
+    let a = subst (λ (x : State). IsFetched x.config x.past c.args.queue c.in_ok-judged.judged) (sym c.self.view_is) c.in_ok-judged.ensures.value in
+    work_fits _ _ _ _ _ _ _ _ c.self.invariant.0 _ _ a _ _ c.units-units.ensures c.kind_of.ensures.value
+
+pub invariant_of-self-2 : goal.invariant_of-self-2
+invariant_of-self-2 c =
+    let a = subst (λ (x : State). IsFetched x.config x.past c.args.queue c.in_ok-judged.judged) (sym c.self.view_is) c.in_ok-judged.ensures.value in (
+      fetch_kept _ _ _ _ _ _ _ _ c.self.invariant.0 _ _ a _ _ _ _ _ _ _ _ _ _ _ c.index_mut-ring.ensures.value c.taken.ensures.value c.take_commands-first.ensures.taken c.take_commands-first.ensures.rest
+          c.in-Ok.ensures.value c.new_job-job.ensures.value c.in-Ok-insert.ensures.ok c.verdict.ensures.value c.keep_room.ensures.past c.push_reserved.ensures.past,
+      omega (arith, c.in_ok-keep_room.ensures.ok, c.push_reserved.ensures.room),
+      c.self.invariant.2,
+    )
+
+pub returns : goal.returns
+returns c =
+    let a = subst (λ (x : State). IsFetched x.config x.past c.args.queue c.in_ok-judged.judged) (sym c.self.view_is) c.in_ok-judged.ensures.value in
+    record {
+      does = fetch_done _ _ _ _ _ _ _ _ c.self.invariant.0 _ _ a _ _ _ _ _ _ _ _ c.self.view_is c.verdict.ensures.value c.keep_room.ensures.past c.push_reserved.ensures.past c.units-units.ensures c.kind_of.ensures.value c.new.ensures;
+    }

@@ -1,0 +1,7 @@
+-- The CIDs of the first jobs, at most two of each.
+use Rattle.std.proofs.Common.{◌≡◌, ◌≤◌, ◌*◌, take}
+use Rattle.step_core.specs.Fetches.{cids_on}
+use Rattle.step_core.proofs.machine.fetch.cids_in_use.Given as goal
+
+abbrev pub invariant-loop-place : goal.invariant-loop-place
+invariant-loop-place l = record { few : l.count ≤ 2 * l.place; at : take l.count l.in_use ≡ cids_on l.queue (take l.place l.jobs.jobs) }

@@ -1,0 +1,62 @@
+-- The refinement: each field of a core is what its history says.
+use Rattle.std.specs.Prelude.{List, None, Some, false, slice_get, true, get_or, length, map, suc, ℕ, ◌<◌, ◌≡◌, ◌≤◌}
+use Rattle.nvme_model.specs.Config.{completion_queue, config_fault}
+use Rattle.nvme_model.specs.Completions.{completion, posted, reaped}
+use Rattle.nvme_model.specs.Queues.{fetched, published}
+use Rattle.nvme_model.specs.Refusals.{no_completion_queue, no_queue}
+use Rattle.nvme_model.specs.Owed.{owed}
+use Rattle.nvme_model.specs.declared.status.Status.{Status}
+use Rattle.step_core.specs.declared.machine.post.Due.{Due}
+use Rattle.nvme_model.specs.History.{Past}
+use Rattle.nvme_model.specs.Medium.{medium}
+use Rattle.nvme_model.specs.Open.{open_units}
+use Rattle.nvme_model.specs.Tickets.{in_flight, posts_of, ticket, tickets}
+use Rattle.nvme_model.specs.declared.config.ConfigNumbers.{ConfigNumbers}
+use Rattle.nvme_model.proofs.EveryRun.{Kept}
+use Rattle.range_reserve.specs.Reserved.{held_of}
+use Rattle.range_reserve.specs.declared.held.Held.{Held}
+use Rattle.rings.specs.Completions.{CompletionRing}
+use Rattle.rings.specs.Submissions.{SubmissionRing}
+use Rattle.job_table.specs.Jobs.{JobTable}
+use Rattle.job_table.specs.declared.job.Job.{Job}
+use Rattle.step_core.specs.Fields.{completion_ring, job_at, job_table, submission_ring}
+
+-- the list is what f says of each place below n
+pub record IsTable {X : Type 0} (f : ℕ → X) (n : ℕ) (xs : List X) : Type 0 where
+  pub size : length xs ≡ n
+  pub at : (k : ℕ) (d : X) → k < n → get_or xs k d ≡ f k
+
+-- each field is what the history says
+pub record IsKept (c : ConfigNumbers) (past : Past) (v : List (List ℕ)) (s : List SubmissionRing) (q : List CompletionRing) (j : JobTable) (r : List Held) (n : ℕ) : Type 0 where
+  pub accepted : config_fault c ≡ None
+  pub volume : IsTable (medium past) c.blocks v
+  pub submission : IsTable (λ k. submission_ring c past (suc k)) c.pairs s
+  pub completion : IsTable (λ k. completion_ring c past (suc k)) c.cqs q
+  pub jobs : j ≡ job_table c past
+  pub held : r ≡ map held_of (open_units past)
+  pub count : n ≡ tickets past
+  pub run : Kept c past
+
+-- a submission queue and its ring
+pub record IsSqRing (c : ConfigNumbers) (past : Past) (q : ℕ) (r : SubmissionRing) : Type 0 where
+  pub there : no_queue c q ≡ false
+  pub is : r ≡ submission_ring c past q
+  pub within : fetched past q ≤ length (published past q)
+
+-- a completion queue and its ring
+pub record IsCqRing (c : ConfigNumbers) (past : Past) (q : ℕ) (r : CompletionRing) : Type 0 where
+  pub there : no_completion_queue c q ≡ false
+  pub is : r ≡ completion_ring c past q
+  pub within : reaped past q ≤ length (posted c past q)
+
+-- a ticket in flight and its job
+pub record IsJob (c : ConfigNumbers) (past : Past) (t : ℕ) (j : Job) : Type 0 where
+  pub flies : in_flight past t ≡ true
+  pub is : j ≡ job_at c past t
+
+-- the completion that a Post of ticket t gives, and the queue that it goes to
+pub record IsDue (c : ConfigNumbers) (past : Past) (t : ℕ) (d : Due) : Type 0 where
+  pub status : Status
+  pub owed : slice_get (owed c past t) (posts_of past t) ≡ Some status
+  pub queue : d.queue ≡ completion_queue c (ticket past t).queue
+  pub cqe : d.cqe ≡ completion c past t status

@@ -1,0 +1,112 @@
+-- What a controller is, and what a step does to it.
+use Rattle.std.specs.Prelude.{Err, List, None, Ok, Option, Result, Some, slice_get, unwrap_or, ℕ, [], ◌-◌, ◌∷◌, ◌≡◌}
+use Rattle.nvme_model.specs.Completions.{posted, reaped}
+use Rattle.nvme_model.specs.EntryBytes.{blocks, slba}
+use Rattle.nvme_model.specs.History.{Past}
+use Rattle.nvme_model.specs.Open.{has_ended, unit_range}
+use Rattle.nvme_model.specs.Operations.{op}
+use Rattle.nvme_model.specs.Refusals.{refusal}
+use Rattle.nvme_model.specs.Steps.{next_entry}
+use Rattle.nvme_model.specs.Tickets.{Ticket, fetched_ticket, first_fields}
+use Rattle.nvme_model.specs.declared.array.Range.{Range}
+use Rattle.nvme_model.specs.declared.config.ConfigNumbers.{ConfigNumbers}
+use Rattle.nvme_model.specs.declared.entry.BlockLine.{BlockLine}
+use Rattle.nvme_model.specs.declared.entry.Entry.{Entry}
+use Rattle.nvme_model.specs.declared.entry.PostLine.{PostLine}
+use Rattle.nvme_model.specs.declared.operation.Op.{Op}
+use Rattle.nvme_model.specs.declared.refusal.Why.{Why}
+use Rattle.nvme_model.specs.declared.status.Verdict.{Verdict}
+use Rattle.nvme_model.specs.declared.step.Step.{Step}
+use Rattle.block_exec.specs.declared.run.Done.{Done}
+use Rattle.step_core.specs.declared.answer.Answer.{Answer}
+use Rattle.step_core.specs.declared.answer.Refused.{Refused}
+use Rattle.step_core.specs.declared.work.Kind.{Kind}
+use Rattle.step_core.specs.Works.{TicketWork}
+
+-- a controller: its configuration, its history, and how many of the next Grants, Blocks and Reaps have their memory
+pub record State : Type 0 where
+  pub config : ConfigNumbers
+  pub past : Past
+  pub promised : ℕ
+
+-- ---- what is answered
+
+-- the blocks that a ticket's first command names
+abbrev pub ticket_range : Ticket → Range
+ticket_range k = record { slba = slba (first_fields k); blocks = blocks (first_fields k) }
+
+-- what a ticket that passed its checks has to do
+abbrev pub kind_by : Ticket → Option Op → Kind
+kind_by k None = Kind.Flush
+kind_by k (Some Op.Pair) = Kind.Pair (ticket_range k)
+kind_by k (Some o) = Kind.Units o (ticket_range k)
+
+-- what a ticket has to do
+abbrev pub kind_of : Ticket → Verdict → Kind
+kind_of k (Verdict.SingleFailed s) = Kind.Failed 1
+kind_of k (Verdict.PairFailed s r) = Kind.Failed 2
+kind_of k _ = kind_by k (op k)
+
+-- the work of a ticket of this number
+abbrev pub work_of : ConfigNumbers → ℕ → Ticket → TicketWork
+work_of c t k = record { ticket = t; atomic = c.atomic; kind = kind_of k k.verdict }
+
+-- what a Block did
+abbrev pub done_of : Past → BlockLine → Done
+done_of past b =
+    record {
+      lba = b.lba;
+      found = b.found;
+      effect = b.effect;
+      ended = has_ended (Entry.Block b ∷ past) b.ticket b.unit (unit_range past b.ticket b.unit).blocks;
+    }
+
+-- the data of the completion that is reaped
+abbrev pub payload_of : Option PostLine → List ℕ
+payload_of None = []
+payload_of (Some p) = p.payload
+
+-- what is answered for an entry behind this history
+abbrev pub answer_of : ConfigNumbers → Past → Entry → Answer
+answer_of c past (Entry.Publish p) = Answer.Published
+answer_of c past (Entry.Fetch f) = Answer.Fetched (work_of c f.ticket (fetched_ticket past f.queue f.verdict))
+answer_of c past (Entry.Grant g) = Answer.Granted g.unit g.range g.mode
+answer_of c past (Entry.Block b) = Answer.Blocked (done_of past b)
+answer_of c past (Entry.Post p) = Answer.Posted p.cqe
+answer_of c past (Entry.Reap r) = Answer.Reaped r.cqe (payload_of (slice_get (posted c past r.queue) (reaped past r.queue)))
+
+-- ---- what a step does
+
+-- an accepted Grant, Block or Reap uses one promise, where there is one
+abbrev pub promised_after : Step → ℕ → ℕ
+promised_after (Step.Grant t) n = n - 1
+promised_after (Step.Block t) n = n - 1
+promised_after (Step.Reap q) n = n - 1
+promised_after _ n = n
+
+-- after an accepted step
+abbrev pub after : State → Step → State
+after x step = record { config = x.config; past = next_entry x.config x.past step ∷ x.past; promised = promised_after step x.promised }
+
+-- a refused batch comes back
+abbrev pub refused_as : Step → Why → Refused
+refused_as (Step.Publish q batch) why = Refused.Publish why batch
+refused_as _ why = Refused.Step why
+
+-- where a promise stands no Grant, Block or Reap wants memory
+abbrev pub KeepsPromise : State → Step → Type 0
+KeepsPromise x (Step.Grant t) = refusal x.config x.past (Step.Grant t) ≡ None → x.promised ≡ 0
+KeepsPromise x (Step.Block t) = refusal x.config x.past (Step.Block t) ≡ None → x.promised ≡ 0
+KeepsPromise x (Step.Reap q) = refusal x.config x.past (Step.Reap q) ≡ None → x.promised ≡ 0
+KeepsPromise x _ = Unit {0}
+
+-- The step is accepted where nothing refuses it; it then adds its entry, and the answer is what that says.
+-- Else the first refusal that holds is answered, or want of memory where none does; and nothing has changed.
+abbrev pub Serves : State → Step → Result Answer Refused → State → Type 0
+Serves old step (Ok a) new = (refusal old.config old.past step ≡ None) × (a ≡ answer_of old.config old.past (next_entry old.config old.past step)) × (new ≡ after old step)
+Serves old step (Err r) new = (r ≡ refused_as step (unwrap_or (refusal old.config old.past step) Why.NoMemory)) × (new ≡ old) × KeepsPromise old step
+
+-- the same of a step whose refusal hands nothing back
+abbrev pub Does : State → Step → Result Answer Why → State → Type 0
+Does old step (Ok a) new = (refusal old.config old.past step ≡ None) × (a ≡ answer_of old.config old.past (next_entry old.config old.past step)) × (new ≡ after old step)
+Does old step (Err why) new = (why ≡ unwrap_or (refusal old.config old.past step) Why.NoMemory) × (new ≡ old) × KeepsPromise old step

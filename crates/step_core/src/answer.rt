@@ -1,0 +1,29 @@
+//! What a step is answered with.
+
+use crate::work::Work;
+use block_exec::Done;
+use nvme_model::array::{Mode, Range};
+use nvme_model::refusal::Why;
+use nvme_model::submission::{Payload, Submissions};
+
+/// The answer to an accepted step.
+#[derive(Drop)]
+pub enum Answer {
+    Published,
+    /// A new ticket and what it has to do.
+    Fetched(Work),
+    /// The number of the unit, from 0, its blocks and how it holds them.
+    Granted(u64, Range, Mode),
+    Blocked(Done),
+    /// The completion queue entry.
+    Posted([u8; 16]),
+    /// The completion queue entry, and what a successful Read read.
+    Reaped([u8; 16], Payload),
+}
+
+/// Why a step is refused; a refused Publish hands its batch back.
+#[derive(Drop)]
+pub enum Refused {
+    Publish(Why, Submissions),
+    Step(Why),
+}

@@ -1,0 +1,16 @@
+//! The controller: a machine of six steps.
+#![tactic(auto)]
+
+mod answer;
+mod machine;
+mod work;
+
+pub use answer::{Answer, Refused};
+pub use block_exec::Done;
+pub use machine::Core;
+pub use nvme_model::step::Step;
+pub use nvme_model::submission::{Payload, Submission, Submissions};
+pub use work::{Kind, Work};
+
+#[cfg(test)]
+mod tests;

@@ -1,0 +1,171 @@
+//! The controller: its fields, and how a step reads and changes them.
+
+ghost use Rattle.std.specs.Prelude.{◌≡◌, ◌≤◌, ◌<◌, ◌+◌, ◌-◌, [], None, Some, IfErr, IfNone, IfOk, IfSome, MatchOption, OnErr, OnOk, false, max, replicate, true};
+ghost use Rattle.nvme_model.specs.Medium.{medium};
+ghost use Rattle.nvme_model.specs.Refusals.{no_completion_queue, no_queue};
+ghost use Rattle.nvme_model.specs.Tickets.{in_flight};
+ghost use Rattle.nvme_model.specs.Laws.{is_held};
+ghost use Rattle.nvme_model.specs.Value.{value};
+ghost use Rattle.rings.specs.Slots.{IsSize};
+ghost use Rattle.step_core.specs.Kept.{IsCqRing, IsJob, IsSqRing};
+
+mod block;
+mod fetch;
+mod grant;
+mod post;
+mod publish;
+mod reap;
+mod room;
+mod steps;
+
+use block_array::Volume;
+use history::{Config, History};
+use job_table::{Job, Jobs};
+use range_reserve::Ranges;
+use rings::{CqRing, SqRing};
+use std::alloc::{AllocError as NoMemory, Global};
+use std::marker::Model;
+
+/// A controller: its volume, queues and tickets, and the history of its accepted steps.
+#[derive(Drop)]
+pub struct Core {
+    alloc: Global,
+    config: Config,
+    volume: Volume,
+    submission: Vec<SqRing>,
+    completion: Vec<CqRing>,
+    jobs: Jobs,
+    ranges: Ranges,
+    tickets: u64,
+    history: History,
+    promised: usize,
+}
+
+impl Model for Core {
+    ghost use Rattle.std.specs.Prelude.{◌≤◌};
+    ghost use Rattle.step_core.specs.Kept.{IsKept};
+    ghost use Rattle.step_core.specs.State.{State};
+
+    ghost Value = { State };
+
+    ghost view = { λ c. record { config = c.config; past = c.history.past; promised = c.promised } };
+
+    ghost invariant = { λ c. IsKept c.config c.history.past c.volume c.submission.items c.completion.items c.jobs c.ranges.held c.tickets × (c.promised ≤ c.history.room) × (c.promised ≤ c.ranges.room) };
+}
+
+// So many submission rings of this size.
+fn sq_rings(alloc: Global, count: u16, size: u16) -> Result<Vec<SqRing>, NoMemory>
+    requires size { IsSize size }
+    ensures value { IfOk result (λ rings. rings.items ≡ replicate count (record { size = size; head = 0; waiting = [] })) }
+{
+    let mut rings = Vec::with_capacity(alloc, count as usize)?;
+    for _ in 0..count {
+        rings.push_reserved(SqRing::new(alloc, size)?);
+    }
+    Ok(rings)
+}
+
+// So many completion rings of this size.
+fn cq_rings(alloc: Global, count: u16, size: u16) -> Result<Vec<CqRing>, NoMemory>
+    requires size { IsSize size }
+    ensures value { IfOk result (λ rings. rings.items ≡ replicate count (record { size = size; tail = 0; phase = true; waiting = [] })) }
+{
+    let mut rings = Vec::with_capacity(alloc, count as usize)?;
+    for _ in 0..count {
+        rings.push_reserved(CqRing::new(alloc, size)?);
+    }
+    Ok(rings)
+}
+
+impl Core {
+    /// A controller of this configuration: its history is empty, and its blocks are zeros.
+    ///
+    /// # Errors
+    ///
+    /// `NoMemory` where a growth is refused.
+    pub fn new(alloc: Global, config: Config) -> Result<Core, NoMemory>
+        ensures ok { IfOk result (λ core. core ≡ record { config = config; past = []; promised = 0 }) }
+    {
+        let numbers = config.numbers();
+        Ok(Core {
+            alloc,
+            config,
+            volume: Volume::new(alloc, numbers.blocks)?,
+            submission: sq_rings(alloc, numbers.pairs, numbers.sq_size)?,
+            completion: cq_rings(alloc, numbers.cqs, numbers.cq_size)?,
+            jobs: Jobs::new(alloc, numbers.jobs as usize)?,
+            ranges: Ranges::new(alloc),
+            tickets: 0,
+            history: History::new(alloc),
+            promised: 0,
+        })
+    }
+
+    /// Its configuration.
+    pub fn config(&self) -> Config
+        ensures value { result ≡ self.now.config }
+    {
+        self.config
+    }
+
+    /// The block of this number as it lies in the volume, None past the end. Takes no memory.
+    pub fn medium(&self, lba: u64) -> Option<&[u8; 512]>
+        ensures value { MatchOption result (self.now.config.blocks ≤ lba) (λ b. (lba < self.now.config.blocks) × (b.now ≡ medium self.now.past lba)) }
+        ensures contents { IfSome result (λ b. is_held self.now.past lba ≡ false → b.now ≡ value self.now.past lba) }
+    {
+        if lba >= u64::from(self.config.numbers().blocks) {
+            return None;
+        }
+        Some(self.volume.block(lba))
+    }
+
+    /// Makes the memory of the next `more` Grants, Blocks and Reaps, so that none of them is refused for want of it.
+    ///
+    /// # Errors
+    ///
+    /// `NoMemory` where a growth is refused; nothing has changed.
+    pub fn reserve(&mut self, more: usize) -> Result<(), NoMemory>
+        ensures ok { OnOk result (self.new ≡ record self.old { promised = max self.old.promised more }) }
+        ensures err { OnErr result (self.new ≡ self.old) }
+    {
+        let count = self.promised.max(more);
+        self.history.reserve(count)?;
+        self.ranges.reserve(count)?;
+        self.promised = count;
+        Ok(())
+    }
+
+    /// The entries of all accepted steps, the oldest first.
+    pub fn history(&self) -> &History
+        ensures past { result.now.past ≡ self.now.past }
+    {
+        &self.history
+    }
+
+    // The ring of this submission queue.
+    fn sq_ring(&self, queue: u16) -> Option<&SqRing>
+        ensures value { MatchOption result (no_queue self.now.config queue ≡ true) (λ r. IsSqRing self.now.config self.now.past queue r.now) }
+    {
+        if queue == 0 || queue > self.config.numbers().pairs {
+            return None;
+        }
+        Some(&self.submission[queue as usize - 1])
+    }
+
+    // The ring of this completion queue.
+    fn cq_ring(&self, queue: u16) -> Option<&CqRing>
+        ensures value { MatchOption result (no_completion_queue self.now.config queue ≡ true) (λ r. IsCqRing self.now.config self.now.past queue r.now) }
+    {
+        if queue == 0 || queue > self.config.numbers().cqs {
+            return None;
+        }
+        Some(&self.completion[queue as usize - 1])
+    }
+
+    // The job of this ticket.
+    fn job(&self, ticket: u64) -> Option<&Job>
+        ensures value { MatchOption result (in_flight self.now.past ticket ≡ false) (λ j. IsJob self.now.config self.now.past ticket j.now) }
+    {
+        self.jobs.get(ticket)
+    }
+}

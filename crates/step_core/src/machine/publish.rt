@@ -1,0 +1,63 @@
+//! Publish: entries go into a submission queue.
+
+ghost use Rattle.std.specs.Prelude.{◌≡◌, IfOk, length, ◌<◌};
+ghost use Rattle.nvme_model.specs.Refusals.{refusal};
+ghost use Rattle.nvme_model.specs.declared.step.Step.{Step};
+ghost use Rattle.step_core.specs.State.{Serves};
+
+use crate::answer::{Answer, Refused};
+use crate::machine::Core;
+use crate::machine::room::keep_room;
+use nvme_model::entry::{Entry, PublishLine};
+use nvme_model::refusal::Why;
+use nvme_model::submission::{Batch, Payload, Submission, Submissions};
+use std::alloc::{AllocError as NoMemory, Global};
+
+// The same entries, for the history.
+fn copy_of(alloc: Global, entries: &[Submission]) -> Result<Vec<Submission>, NoMemory>
+    ensures same { IfOk result (λ copy. copy.items ≡ entries.now) }
+{
+    let mut copy = Vec::with_capacity(alloc, entries.len())?;
+    for one in entries {
+        copy.push_reserved(Submission {
+            entry: one.entry,
+            payload: Payload::new(one.payload.as_slice().to_vec(alloc)?),
+        });
+    }
+    Ok(copy)
+}
+
+impl Core {
+    // Why a batch is refused, memory aside.
+    fn publish_refusal(&self, queue: u16, batch: &Submissions) -> Option<Why>
+        ensures value { result ≡ refusal self.now.config self.now.past (Step.Publish queue batch.now) }
+    {
+        match self.sq_ring(queue) {
+            Some(ring) => ring.refuses(batch.as_slice()),
+            None => Some(Why::NoQueue),
+        }
+    }
+
+    /// Puts a batch at the end of a submission queue.
+    pub(super) fn publish(&mut self, queue: u16, batch: Submissions) -> Result<Answer, Refused>
+        ensures serves { Serves self.old (Step.Publish queue batch) result self.new }
+    {
+        if let Some(why) = self.publish_refusal(queue, &batch) {
+            return Err(Refused::Publish(why, batch));
+        }
+        let Ok(copy) = copy_of(self.alloc, batch.as_slice()) else {
+            return Err(Refused::Publish(Why::NoMemory, batch));
+        };
+        let Ok(()) = keep_room(&mut self.history, self.promised) else {
+            return Err(Refused::Publish(Why::NoMemory, batch));
+        };
+        let Ok(()) = self.submission[queue as usize - 1].publish(batch) else {
+            unreachable!();
+        };
+        self.history.push_reserved(Entry::Publish(PublishLine {
+            queue,
+            batch: Batch::new(copy),
+        }));
+        Ok(Answer::Published)
+    }
+}

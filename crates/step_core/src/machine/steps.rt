@@ -1,0 +1,109 @@
+//! Steps: one, many, and the one that is ready.
+
+ghost use Rattle.std.specs.Prelude.{◌≡◌, IfErr, IfNone, OnErr, OnOk, Some};
+ghost use Rattle.nvme_model.specs.Legal.{IsLegal};
+ghost use Rattle.nvme_model.specs.Laws.{OwesToFull};
+ghost use Rattle.nvme_model.specs.Steps.{ready};
+ghost use Rattle.nvme_model.specs.Tickets.{in_flight};
+ghost use Rattle.std.specs.Prelude.{ℕ, true};
+ghost use Rattle.step_core.specs.OneAtATime.{IsOneAtATime};
+ghost use Rattle.step_core.specs.Ready.{next_step};
+ghost use Rattle.step_core.specs.Runs.{RunsOnto};
+ghost use Rattle.step_core.specs.State.{Serves};
+
+use crate::answer::{Answer, Refused};
+use crate::machine::Core;
+use nvme_model::step::Step;
+use std::alloc::AllocError as NoMemory;
+
+impl Core {
+    /// Makes one step, or refuses it.
+    ///
+    /// # Errors
+    ///
+    /// The first refusal of the step that holds, or `NoMemory` where none does and a growth was refused; a refused
+    /// Publish hands its batch back, and nothing has changed.
+    pub fn step(&mut self, step: Step) -> Result<Answer, Refused>
+        ensures serves { Serves self.old step result self.new }
+        ensures legal { IsLegal self.new.config self.new.past }
+        ensures array { IsOneAtATime self.new.config self.new.past }
+    {
+        let _ = &self.alloc;
+        self.serve(step)
+    }
+
+    /// Tries every step in order, and puts one answer for each at the end of `out`; or does nothing.
+    ///
+    /// # Errors
+    ///
+    /// The steps, where there is no memory for the answers; nothing has changed.
+    pub fn run_steps(
+        &mut self,
+        steps: Vec<Step>,
+        out: &mut Vec<Result<Answer, Refused>>,
+    ) -> Result<(), (Vec<Step>, NoMemory)>
+        ensures ok { OnOk result (RunsOnto self.old steps.items out.old.items out.new.items self.new) }
+        ensures legal { IsLegal self.new.config self.new.past }
+        ensures array { IsOneAtATime self.new.config self.new.past }
+        ensures err { OnErr result ((self.new ≡ self.old) × (out.new.items ≡ out.old.items)) }
+        ensures back { IfErr result (λ back. back.0.items ≡ steps.items) }
+    {
+        let _ = &self.alloc;
+        let mut rest = steps;
+        if let Err(error) = out.reserve(rest.len()) {
+            return Err((rest, error));
+        }
+        rest.reverse();
+        while let Some(step) = rest.pop() {
+            let answer = self.serve(step);
+            out.push_reserved(answer);
+        }
+        Ok(())
+    }
+
+    /// The Grant, Block or Post of the least ticket for which one of them is refused for no other cause than memory. Takes no memory.
+    pub fn ready(&self) -> Option<Step>
+        ensures value { result ≡ ready self.now.config self.now.past }
+        ensures stuck { IfNone result ((t : ℕ) → in_flight self.now.past t ≡ true → OwesToFull self.now.config self.now.past t) }
+    {
+        for place in 0..self.jobs.len() {
+            let Some((ticket, _)) = self.jobs.nth(place) else {
+                unreachable!();
+            };
+            if let Some(step) = self.next_step(ticket) {
+                return Some(step);
+            }
+        }
+        None
+    }
+
+    // The Grant, Block or Post of this ticket that is refused for no other cause than memory.
+    fn next_step(&self, ticket: u64) -> Option<Step>
+        ensures value { result ≡ next_step self.now.config self.now.past ticket }
+    {
+        if self.grant_line(ticket).is_ok() {
+            return Some(Step::Grant(ticket));
+        }
+        if self.block_refusal(ticket).is_none() {
+            return Some(Step::Block(ticket));
+        }
+        if self.post_due(ticket).is_ok() {
+            return Some(Step::Post(ticket));
+        }
+        None
+    }
+
+    fn serve(&mut self, step: Step) -> Result<Answer, Refused>
+        ensures serves { Serves self.old step result self.new }
+    {
+        let done = match step {
+            Step::Publish(queue, batch) => return self.publish(queue, batch),
+            Step::Fetch(queue) => self.fetch(queue),
+            Step::Grant(ticket) => self.grant(ticket),
+            Step::Block(ticket) => self.block(ticket),
+            Step::Post(ticket) => self.post(ticket),
+            Step::Reap(queue) => self.reap(queue),
+        };
+        done.map_err(Refused::Step)
+    }
+}
