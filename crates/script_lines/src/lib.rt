@@ -1,0 +1,12 @@
+//! The lines of a script behind its first: what each asks for.
+#![tactic(auto)]
+
+mod batch;
+mod command;
+mod line;
+mod reading;
+#[cfg(test)]
+mod tests;
+
+pub use crate::line::ScriptLine;
+pub use crate::reading::read_script_line;
