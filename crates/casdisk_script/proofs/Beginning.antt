@@ -17,12 +17,12 @@ use Rattle.casdisk_script.specs.Running.{lines_from, PrintsAll, PrintsFront}
 use Rattle.casdisk_script.proofs.Reaching.{Reached}
 
 module _ (meaning : ConfigNumbers → Meaning) where
-  no_config : (line : List ℕ) (lines : List (List ℕ)) (rest : List ℕ) → config_in line ≡ None → script_prints meaning (line ∷ lines) rest ≡ ending (bad_line 1)
+  no_config : (line : List ℕ) (lines : List (List ℕ)) (rest : List ℕ) → config_in line ≡ None → script_prints meaning (line ∷ lines) rest ≡ ending (bad_line 1) []
   unfolding script_prints
   no_config line lines rest e = ap (λ o. after_config line o (λ c. lines_print (meaning c) [] 2 lines rest)) e
 
   wrong_config : (line : List ℕ) (lines : List (List ℕ)) (rest : List ℕ) (c : ConfigNumbers) (f : ConfigFault) → config_in line ≡ Some c → config_fault c ≡ Some f
-      → script_prints meaning (line ∷ lines) rest ≡ ending (bad_config (fault_number f))
+      → script_prints meaning (line ∷ lines) rest ≡ ending (bad_config (fault_number f)) []
   unfolding script_prints
   wrong_config line lines rest c f e h =
       ap (λ o. after_config line o (λ d. lines_print (meaning d) [] 2 lines rest)) e
@@ -35,7 +35,7 @@ module _ (meaning : ConfigNumbers → Meaning) where
       ap (λ o. after_config line o (λ d. lines_print (meaning d) [] 2 lines rest)) e
       ∙ ap (λ o. after_numbers line o (lines_print (meaning c) [] 2 lines rest)) h
 
-  no_lines : (rest : List ℕ) → script_prints meaning [] rest ≡ ending (bad_line 1)
+  no_lines : (rest : List ℕ) → script_prints meaning [] rest ≡ ending (bad_line 1) []
   unfolding script_prints
   no_lines rest = refl
 
@@ -49,7 +49,7 @@ module _ (meaning : ConfigNumbers → Meaning) where
   pub ends_first : (r t w : Option (List ℕ)) (after line : List ℕ) → Gives r t [] after line → NoFeed line → after ≡ [] → IsAtEnd t → PrintsAll (λ input. outcome meaning input) (bad_line 1) r w w
   ends_first r t w after line g plain none end =
       let last = rest_is_last r t [] after line g plain none in
-      let is : outcome meaning g.bytes ≡ ending (bad_line 1) = ap (λ l. script_prints meaning l (rest_line g.bytes)) last.0 ∙ no_lines (rest_line g.bytes) in
+      let is : outcome meaning g.bytes ≡ ending (bad_line 1) [] = ap (λ l. script_prints meaning l (rest_line g.bytes)) last.0 ∙ no_lines (rest_line g.bytes) in
       Consumes-whole r t g.bytes (λ bytes. ((outcome meaning bytes).end ≡ bad_line 1) × Appends w w (outcome meaning bytes).text) g.consumed end
       (ap (λ (o : Outcome). o.end) is, subst (Appends w w) (sym (ap (λ (o : Outcome). o.text) is)) (Appends-nil w))
 
@@ -59,7 +59,7 @@ module _ (meaning : ConfigNumbers → Meaning) where
         let first = whole_is_first r t [] after line more g plain in
         ap (λ l. script_prints meaning l (rest_line (g.bytes ++ more))) first.0 ∙ ap (λ l. script_prints meaning (line ∷ whole_lines (after ++ more)) l) first.1
 
-    ends_so : (e : End) → ((lines : List (List ℕ)) (rest : List ℕ) → script_prints meaning (line ∷ lines) rest ≡ ending e) → PrintsAll (λ input. outcome meaning input) e r w w
+    ends_so : (e : End) → ((lines : List (List ℕ)) (rest : List ℕ) → script_prints meaning (line ∷ lines) rest ≡ ending e []) → PrintsAll (λ input. outcome meaning input) e r w w
     ends_so e h =
         known_input r t g.bytes _ g.consumed (λ more.
         let is = first_meant more ∙ h (whole_lines (after ++ more)) (rest_line (after ++ more)) in

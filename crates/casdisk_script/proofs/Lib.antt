@@ -1,3 +1,6 @@
 pub mod Beginning
 mod KindsLemmas
+mod Printed
+mod Settling
+mod Stepping
 pub mod Reaching

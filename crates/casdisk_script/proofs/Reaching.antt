@@ -1,6 +1,6 @@
 -- How far a run has come, and how it goes on.
 use Rattle.std.proofs.Common.{◌≡◌, ℕ, ◌+◌, List, [], ◌∷◌, ◌++◌, None, Some, refl, sym, ap, ◌∙◌, subst, append_assoc, append-nil}
-use Rattle.std.specs.Prelude.{Option, Result, Ok, Err}
+use Rattle.std.specs.Prelude.{IfSome, Option, Result, Ok, Err}
 use Rattle.std.specs.Io.KnownBytes.{Appends, Consumes, Keeps, IsAtEnd}
 use Rattle.std.proofs.KnownBytes.{Appends-trans, Appends-kept, Consumes-trans, Consumes-whole}
 use Rattle.line_text.specs.Known.{AppendsFront}
@@ -8,9 +8,9 @@ use Rattle.line_text.specs.Lines.{NoFeed, Gives, GivesFront, whole_lines, rest_l
 use Rattle.line_text.proofs.Known.{front_first, front_second, known_input}
 use Rattle.line_text.proofs.LineLaws.{whole_is_first, rest_is_last}
 use Rattle.nvme_model.specs.History.{Past}
-use Rattle.casdisk_script.specs.Meaning.{Meaning, StopsInLine}
+use Rattle.casdisk_script.specs.Meaning.{Meaning, StopsInLine, text_of}
 use Rattle.casdisk_script.specs.Script.{Outcome, End, done, bad_line, bad_config, ending, prefixed, after_line, lines_print}
-use Rattle.casdisk_script.specs.Running.{lines_from, PrintsAll, PrintsFront, Runs, IsStop}
+use Rattle.casdisk_script.specs.Running.{lines_from, Makes, PrintsAll, PrintsFront, Runs, IsStop}
 use Rattle.casdisk_script.specs.declared.fault.RunFault.{RunFault}
 use Rattle.casdisk_script.specs.declared.fault.RunFault.TheVariants.{BadLine, BadConfig, Input, Output, NoMemory}
 
@@ -23,31 +23,41 @@ pub record Reached (outcome : List ℕ → Outcome) (meaning : Meaning) (past : 
   pub agrees : (more : List ℕ) → outcome (bytes ++ more) ≡ prefixed out (lines_from meaning past n held more)
 
 pub prefixed_twice : (a b : List ℕ) (o : Outcome) → prefixed a (prefixed b o) ≡ prefixed (a ++ b) o
-prefixed_twice a b o = ap (λ t. record { text = t; end = o.end }) (sym (append_assoc a b o.text))
+prefixed_twice a b o = ap (λ t. record { text = t; end = o.end; past = o.past }) (sym (append_assoc a b o.text))
 
 -- ---- one line
 
 print_good : (meaning : Meaning) (past : Past) (n : ℕ) (line : List ℕ) (lines : List (List ℕ)) (rest : List ℕ) (x : Past × List ℕ) → meaning past line ≡ Some x
     → lines_print meaning past n (line ∷ lines) rest ≡ prefixed x.1 (lines_print meaning x.0 (n + 1) lines rest)
 unfolding lines_print
-print_good meaning past n line lines rest x e = ap (λ o. after_line n o (λ after. lines_print meaning after (n + 1) lines rest)) e
+print_good meaning past n line lines rest x e = ap (λ o. after_line n past o (λ after. lines_print meaning after (n + 1) lines rest)) e
 
-print_bad : (meaning : Meaning) (past : Past) (n : ℕ) (line : List ℕ) (lines : List (List ℕ)) (rest : List ℕ) → meaning past line ≡ None → lines_print meaning past n (line ∷ lines) rest ≡ ending (bad_line n)
+print_bad : (meaning : Meaning) (past : Past) (n : ℕ) (line : List ℕ) (lines : List (List ℕ)) (rest : List ℕ) → meaning past line ≡ None → lines_print meaning past n (line ∷ lines) rest ≡ ending (bad_line n) past
 unfolding lines_print
-print_bad meaning past n line lines rest e = ap (λ o. after_line n o (λ after. lines_print meaning after (n + 1) lines rest)) e
+print_bad meaning past n line lines rest e = ap (λ o. after_line n past o (λ after. lines_print meaning after (n + 1) lines rest)) e
 
-print_end : (meaning : Meaning) (past : Past) (n : ℕ) → lines_print meaning past n [] [] ≡ ending done
+-- the text of a line, and what follows it
+text_first : (n : ℕ) (past : Past) (o : Option (Past × List ℕ)) (more : Past → Outcome) → (rest : List ℕ) × ((after_line n past o more).text ≡ text_of o ++ rest)
+text_first n past None more = ([], refl)
+text_first n past (Some x) more = ((more x.0).text, refl)
+
+print_line : (meaning : Meaning) (past : Past) (n : ℕ) (line : List ℕ) (lines : List (List ℕ)) (rest : List ℕ)
+    → (more : List ℕ) × ((lines_print meaning past n (line ∷ lines) rest).text ≡ text_of (meaning past line) ++ more)
+unfolding lines_print
+print_line meaning past n line lines rest = text_first n past (meaning past line) (λ after. lines_print meaning after (n + 1) lines rest)
+
+print_end : (meaning : Meaning) (past : Past) (n : ℕ) → lines_print meaning past n [] [] ≡ ending done past
 unfolding lines_print
 print_end meaning past n = refl
 
-print_cut : (meaning : Meaning) (past : Past) (n b : ℕ) (bs : List ℕ) → lines_print meaning past n [] (b ∷ bs) ≡ ending (bad_line n)
+print_cut : (meaning : Meaning) (past : Past) (n b : ℕ) (bs : List ℕ) → lines_print meaning past n [] (b ∷ bs) ≡ ending (bad_line n) past
 unfolding lines_print
 print_cut meaning past n b bs = refl
 
-pub print_none : (meaning : Meaning) (past : Past) (n : ℕ) (rest : List ℕ) → rest ≡ [] → lines_print meaning past n [] rest ≡ ending done
+pub print_none : (meaning : Meaning) (past : Past) (n : ℕ) (rest : List ℕ) → rest ≡ [] → lines_print meaning past n [] rest ≡ ending done past
 print_none meaning past n rest e = ap (λ l. lines_print meaning past n [] l) e ∙ print_end meaning past n
 
-pub print_rest : (meaning : Meaning) (past : Past) (n : ℕ) (rest : List ℕ) → (rest ≡ [] → ⊥) → lines_print meaning past n [] rest ≡ ending (bad_line n)
+pub print_rest : (meaning : Meaning) (past : Past) (n : ℕ) (rest : List ℕ) → (rest ≡ [] → ⊥) → lines_print meaning past n [] rest ≡ ending (bad_line n) past
 print_rest meaning past n [] h = absurd (h refl)
 print_rest meaning past n (b ∷ bs) h = print_cut meaning past n b bs
 
@@ -78,19 +88,18 @@ module _ (outcome : List ℕ → Outcome) (meaning : Meaning) (past : Past) (n :
   pub ends_bad : (after line : List ℕ) (u : Option (List ℕ)) → Gives s t held after (line ++ 10 ∷ []) → NoFeed line → meaning past line ≡ None → Keeps v u → PrintsAll outcome (bad_line n) r w u
   ends_bad after line u g plain e p =
       known_input r t (at.bytes ++ g.bytes) _ (Consumes-trans r s t at.bytes g.bytes at.consumed g.consumed) (λ more.
-      let is : outcome ((at.bytes ++ g.bytes) ++ more) ≡ prefixed at.out (ending (bad_line n)) = meant after line more g plain ∙ ap (prefixed at.out) (print_bad meaning past n line _ _ e) in
+      let is : outcome ((at.bytes ++ g.bytes) ++ more) ≡ prefixed at.out (ending (bad_line n) past) = meant after line more g plain ∙ ap (prefixed at.out) (print_bad meaning past n line _ _ e) in
       let text : at.out ≡ (outcome ((at.bytes ++ g.bytes) ++ more)).text = sym (append-nil at.out) ∙ sym (ap (λ (o : Outcome). o.text) is) in
       (ap (λ (o : Outcome). o.end) is, subst (Appends w u) text (Appends-kept w v u at.out at.written p)))
 
   pub front_stopped : (after line : List ℕ) (u : Option (List ℕ)) → Gives s t held after (line ++ 10 ∷ []) → NoFeed line → StopsInLine meaning past line v u → PrintsFront outcome r t w u
   front_stopped after line u g plain h =
-      let is : outcome ((at.bytes ++ g.bytes) ++ []) ≡ prefixed at.out (prefixed h.0.1 (lines_from meaning h.0.0 (n + 1) after [])) =
-      meant after line [] g plain ∙ ap (prefixed at.out) (print_good meaning past n line (whole_lines (after ++ [])) (rest_line (after ++ [])) h.0 h.1) in
-      let all : outcome (at.bytes ++ g.bytes) ≡ prefixed at.out (prefixed h.0.1 (lines_from meaning h.0.0 (n + 1) after [])) = ap outcome (sym (append-nil (at.bytes ++ g.bytes))) ∙ is in
-      let text = ap (λ (o : Outcome). o.text) all in (
+      let said = print_line meaning past n line (whole_lines (after ++ [])) (rest_line (after ++ [])) in
+      let text : (outcome (at.bytes ++ g.bytes)).text ≡ at.out ++ (text_of (meaning past line) ++ said.0) =
+      ap (λ l. (outcome l).text) (sym (append-nil (at.bytes ++ g.bytes))) ∙ ap (λ (o : Outcome). o.text) (meant after line [] g plain) ∙ ap (λ l. at.out ++ l) said.1 in (
         at.bytes ++ g.bytes,
         Consumes-trans r s t at.bytes g.bytes at.consumed g.consumed,
-        subst (AppendsFront w u) (sym text) (front_second w v u at.out _ at.written (front_first v u h.0.1 _ h.2)),
+        subst (AppendsFront w u) (sym text) (front_second w v u at.out _ at.written (front_first v u (text_of (meaning past line)) _ h)),
       )
 
   pub front_lost : (after line : List ℕ) → GivesFront s t held after line → PrintsFront outcome r t w v
@@ -107,10 +116,10 @@ module _ (outcome : List ℕ → Outcome) (meaning : Meaning) (past : Past) (n :
       let text : (outcome at.bytes).text ≡ at.out ++ (lines_from meaning past n held []).text = ap (λ l. (outcome l).text) (sym (append-nil at.bytes)) ∙ ap (λ (o : Outcome). o.text) (at.agrees []) in
       (at.bytes, at.consumed, record { front = at.out; rest = (lines_from meaning past n held []).text; whole = text; written = at.written })
 
-  pub ends_last : (after line : List ℕ) (e : End) → Gives s t held after line → NoFeed line → after ≡ [] → IsAtEnd t → lines_print meaning past n [] line ≡ ending e → PrintsAll outcome e r w v
+  pub ends_last : (after line : List ℕ) (e : End) → Gives s t held after line → NoFeed line → after ≡ [] → IsAtEnd t → lines_print meaning past n [] line ≡ ending e past → PrintsAll outcome e r w v
   ends_last after line e g plain none end p =
       let last = rest_is_last s t held after line g plain none in
-      let is : outcome (at.bytes ++ g.bytes) ≡ prefixed at.out (ending e) =
+      let is : outcome (at.bytes ++ g.bytes) ≡ prefixed at.out (ending e past) =
       at.agrees g.bytes
       ∙ ap (λ l. prefixed at.out (lines_print meaning past n l (rest_line (held ++ g.bytes)))) last.0
       ∙ ap (λ l. prefixed at.out (lines_print meaning past n [] l)) last.1
@@ -118,6 +127,18 @@ module _ (outcome : List ℕ → Outcome) (meaning : Meaning) (past : Past) (n :
       let text : at.out ≡ (outcome (at.bytes ++ g.bytes)).text = sym (append-nil at.out) ∙ sym (ap (λ (o : Outcome). o.text) is) in
       Consumes-whole r t (at.bytes ++ g.bytes) (λ bytes. ((outcome bytes).end ≡ e) × Appends w v (outcome bytes).text) (Consumes-trans r s t at.bytes g.bytes at.consumed g.consumed) end
       (ap (λ (o : Outcome). o.end) is, subst (Appends w v) text at.written)
+
+  -- the history that the whole input makes is the one by now
+  pub makes_last : (after line : List ℕ) (e : End) → Gives s t held after line → NoFeed line → after ≡ [] → IsAtEnd t → lines_print meaning past n [] line ≡ ending e past → IfSome r (λ bytes. past ≡ (outcome bytes).past)
+  makes_last after line e g plain none end p =
+      let last = rest_is_last s t held after line g plain none in
+      let is : outcome (at.bytes ++ g.bytes) ≡ prefixed at.out (ending e past) =
+      at.agrees g.bytes
+      ∙ ap (λ l. prefixed at.out (lines_print meaning past n l (rest_line (held ++ g.bytes)))) last.0
+      ∙ ap (λ l. prefixed at.out (lines_print meaning past n [] l)) last.1
+      ∙ ap (prefixed at.out) p in
+      Consumes-whole r t (at.bytes ++ g.bytes) (λ bytes. past ≡ (outcome bytes).past) (Consumes-trans r s t at.bytes g.bytes at.consumed g.consumed) end
+      (ap (λ (o : Outcome). o.past) (sym is))
 
 -- ---- the answer of a run
 
@@ -151,3 +172,11 @@ runs_after outcome meaning past n r s t w v u held (Err (BadConfig k)) at p = pr
 runs_after outcome meaning past n r s t w v u held (Err Input) at p = front_after outcome meaning past n r s t w v u held at p
 runs_after outcome meaning past n r s t w v u held (Err Output) at p = front_after outcome meaning past n r s t w v u held at p
 runs_after outcome meaning past n r s t w v u held (Err NoMemory) at p = front_after outcome meaning past n r s t w v u held at p
+
+-- and the history that it makes is the one that the whole run does
+pub makes_after : (outcome : List ℕ → Outcome) (meaning : Meaning) (past : Past) (n : ℕ) (r s w v : Option (List ℕ)) (held : List ℕ) (res : Result (Unit {0}) RunFault) (now : Past) → Reached outcome meaning past n r s w v held
+    → Makes (lines_from meaning past n held) res s now → Makes outcome res r now
+makes_after outcome meaning past n r s w v held (Err f) now at p = tt
+makes_after outcome meaning past n None s w v held (Ok x) now at p = tt
+makes_after outcome meaning past n (Some x) None w v held (Ok z) now at p = absurd at.consumed
+makes_after outcome meaning past n (Some x) (Some y) w v held (Ok z) now at p = p ∙ ap (λ (o : Outcome). o.past) (sym (ap outcome at.consumed ∙ at.agrees y))

@@ -1,6 +1,7 @@
 pub mod Fault
 pub mod Meaning
+pub mod Said
+pub mod Doing
 pub mod Script
 pub mod Running
-pub mod Comments
 pub mod Kinds

@@ -1,5 +1,5 @@
 -- What one line does.
-use Rattle.std.specs.Prelude.{◌≡◌, ℕ, List, Option, Some, None}
+use Rattle.std.specs.Prelude.{◌≡◌, ℕ, List, [], Option, Some, None}
 use Rattle.std.specs.Io.KnownBytes.{Appends, Keeps}
 use Rattle.line_text.specs.Known.{AppendsFront}
 use Rattle.nvme_model.specs.History.{Past}
@@ -16,6 +16,11 @@ TakesLine Done meaning later before after line old new =
     (x : Past × List ℕ) × (meaning before line ≡ Some x) × (after ≡ x.0) × (later ≡ meaning) × Appends old new x.1
 TakesLine Bad meaning later before after line old new = (meaning before line ≡ None) × Keeps old new
 
+-- what a line prints
+abbrev pub text_of : Option (Past × List ℕ) → List ℕ
+text_of None = []
+text_of (Some x) = x.1
+
 -- a beginning of the line's text was written
 abbrev pub StopsInLine : Meaning → Past → List ℕ → Option (List ℕ) → Option (List ℕ) → Type 0
-StopsInLine meaning before line old new = (x : Past × List ℕ) × (meaning before line ≡ Some x) × AppendsFront old new x.1
+StopsInLine meaning before line old new = AppendsFront old new (text_of (meaning before line))

@@ -26,6 +26,11 @@ Runs outcome (Err Input) input left old new = PrintsFront outcome input left old
 Runs outcome (Err Output) input left old new = PrintsFront outcome input left old new
 Runs outcome (Err NoMemory) input left old new = PrintsFront outcome input left old new
 
+-- where all was read, the history is the one that the input makes
+abbrev pub Makes : (List ℕ → Outcome) → Result (Unit {0}) RunFault → Option (List ℕ) → Past → Type 0
+Makes outcome (Ok x) input past = IfSome input (λ bytes. past ≡ (outcome bytes).past)
+Makes outcome (Err f) input past = Unit {0}
+
 -- what the lines from number n on print, some of their bytes held already
 abbrev pub lines_from : Meaning → Past → ℕ → List ℕ → List ℕ → Outcome
 lines_from meaning past n held input = lines_print meaning past n (whole_lines (held ++ input)) (rest_line (held ++ input))

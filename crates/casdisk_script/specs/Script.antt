@@ -14,43 +14,44 @@ pub data End : Type 0 where
   bad_line : ℕ → End
   bad_config : ℕ → End
 
--- What a script prints, and how it ends.
+-- What a script prints, how it ends, and the history that it makes.
 pub record Outcome : Type 0 where
   pub text : List ℕ
   pub end : End
+  pub past : Past
 
 -- a text, and then what prints
 abbrev pub prefixed : List ℕ → Outcome → Outcome
-prefixed text o = record { text = text ++ o.text; end = o.end }
+prefixed text o = record { text = text ++ o.text; end = o.end; past = o.past }
 
 -- nothing more
-abbrev pub ending : End → Outcome
-ending e = record { text = []; end = e }
+abbrev pub ending : End → Past → Outcome
+ending e past = record { text = []; end = e; past = past }
 
 -- what follows line n, by what it gave
-abbrev pub after_line : ℕ → Option (Past × List ℕ) → (Past → Outcome) → Outcome
-after_line n None more = ending (bad_line n)
-after_line n (Some x) more = prefixed x.1 (more x.0)
+abbrev pub after_line : ℕ → Past → Option (Past × List ℕ) → (Past → Outcome) → Outcome
+after_line n past None more = ending (bad_line n) past
+after_line n past (Some x) more = prefixed x.1 (more x.0)
 
 -- The lines from number n on, and what stands behind the last line feed, which has to be nothing.
 unfoldable pub lines_print : Meaning → Past → ℕ → List (List ℕ) → List ℕ → Outcome
-lines_print meaning past n [] [] = ending done
-lines_print meaning past n [] (b ∷ bs) = ending (bad_line n)
-lines_print meaning past n (line ∷ lines) rest = after_line n (meaning past line) (λ after. lines_print meaning after (n + 1) lines rest)
+lines_print meaning past n [] [] = ending done past
+lines_print meaning past n [] (b ∷ bs) = ending (bad_line n) past
+lines_print meaning past n (line ∷ lines) rest = after_line n past (meaning past line) (λ after. lines_print meaning after (n + 1) lines rest)
 
 -- what follows the first line, by its configuration, which may be refused
 abbrev pub after_numbers : List ℕ → Option ConfigFault → Outcome → Outcome
 after_numbers line None more = prefixed (line ++ 10 ∷ []) more
-after_numbers line (Some fault) more = ending (bad_config (fault_number fault))
+after_numbers line (Some fault) more = ending (bad_config (fault_number fault)) []
 
 -- what follows the first line, by what it says
 abbrev pub after_config : List ℕ → Option ConfigNumbers → (ConfigNumbers → Outcome) → Outcome
-after_config line None more = ending (bad_line 1)
+after_config line None more = ending (bad_line 1) []
 after_config line (Some c) more = after_numbers line (config_fault c) (more c)
 
 -- A script from its first line on: the configuration line, and then what its lines print.
 unfoldable pub script_prints : (ConfigNumbers → Meaning) → List (List ℕ) → List ℕ → Outcome
-script_prints meaning [] rest = ending (bad_line 1)
+script_prints meaning [] rest = ending (bad_line 1) []
 script_prints meaning (line ∷ lines) rest = after_config line (config_in line) (λ c. lines_print (meaning c) [] 2 lines rest)
 
 -- the outcome of a whole input

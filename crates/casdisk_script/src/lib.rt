@@ -1,9 +1,10 @@
 //! The program `casdisk` but for its `main`: the command line, scripts, and what is written of them.
 #![tactic(auto)]
 
-mod comments;
 mod fault;
+mod machine;
 mod meaning;
+mod printing;
 mod program;
 mod request;
 mod running;

@@ -1,7 +1,7 @@
 //! The lines of a script, one after the other.
 
 ghost use Rattle.std.specs.Prelude.{◌≡◌};
-ghost use Rattle.casdisk_script.specs.Running.{Runs, IsStop, lines_from};
+ghost use Rattle.casdisk_script.specs.Running.{Makes, Runs, IsStop, lines_from};
 
 use crate::fault::RunFault;
 use crate::meaning::{LineMeaning, Taken, WriteFault};
@@ -34,7 +34,8 @@ pub fn run_lines<M: LineMeaning, R: Read, W: Write>(
     reader: &mut R,
     writer: &mut W,
 ) -> Result<(), RunFault>
-    ensures { Runs (lines_from (M.meaning machine.old) (M.past machine.old) 2 lines.old) result (R.remaining reader.old) (R.remaining reader.new) (W.contents writer.old) (W.contents writer.new) }
+    ensures runs { Runs (lines_from (M.meaning machine.old) (M.past machine.old) 2 lines.old) result (R.remaining reader.old) (R.remaining reader.new) (W.contents writer.old) (W.contents writer.new) }
+    ensures makes { Makes (lines_from (M.meaning machine.old) (M.past machine.old) 2 lines.old) result (R.remaining reader.old) (M.past machine.new) }
 {
     for number in 2..u64::MAX {
         match lines.next_line(reader, line) {

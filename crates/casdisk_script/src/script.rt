@@ -1,17 +1,18 @@
 //! A script from its first line on.
 
 ghost use Rattle.std.specs.Prelude.{◌≡◌};
-ghost use Rattle.casdisk_script.specs.Comments.{comments_only};
 ghost use Rattle.casdisk_script.specs.Running.{Runs};
+ghost use Rattle.casdisk_script.specs.Said.{script_line};
 ghost use Rattle.casdisk_script.specs.Script.{outcome};
 
-use crate::comments::CommentsOnly;
 use crate::fault::RunFault;
+use crate::machine::Machine;
 use crate::running::{read_fault, run_lines};
 use history::{Config, Kinds, LineFault, read_config_line};
 use line_text::{Lines, NextLine, send_line};
 use std::alloc::Global;
 use std::io::{Read, Write};
+use step_core::Core;
 
 /// Runs a script: writes its configuration line, and then what its lines say, less the kinds that aren't shown.
 ///
@@ -24,9 +25,9 @@ pub fn run_script<R: Read, W: Write>(
     alloc: Global,
     reader: &mut R,
     writer: &mut W,
-    _kinds: Kinds,
+    kinds: Kinds,
 ) -> Result<(), RunFault>
-    ensures { Runs (outcome (λ c. comments_only)) result (R.remaining reader.old) (R.remaining reader.new) (W.contents writer.old) (W.contents writer.new) }
+    ensures { Runs (outcome (λ c. script_line c kinds.0)) result (R.remaining reader.old) (R.remaining reader.new) (W.contents writer.old) (W.contents writer.new) }
 {
     let Ok(mut lines) = Lines::new(alloc) else {
         return Err(RunFault::NoMemory);
@@ -42,11 +43,16 @@ pub fn run_script<R: Read, W: Write>(
         Err(LineFault::Malformed) => return Err(RunFault::BadLine(1)),
         Err(LineFault::NoMemory) => return Err(RunFault::NoMemory),
     };
-    if let Err(fault) = Config::from_numbers(&numbers) {
-        return Err(RunFault::BadConfig(fault.number()));
-    }
+    let config = match Config::from_numbers(&numbers) {
+        Ok(config) => config,
+        Err(fault) => return Err(RunFault::BadConfig(fault.number())),
+    };
+    let Ok(core) = Core::new(alloc, config) else {
+        return Err(RunFault::NoMemory);
+    };
     let Ok(()) = send_line(writer, line.as_slice()) else {
         return Err(RunFault::Output);
     };
-    run_lines(&mut CommentsOnly, &mut lines, &mut line, reader, writer)
+    let mut machine = Machine { alloc, core, kinds };
+    run_lines(&mut machine, &mut lines, &mut line, reader, writer)
 }

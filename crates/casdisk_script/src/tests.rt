@@ -37,7 +37,7 @@ fn configuration_lines_are_taken_or_refused(rt: HostRuntime) -> Result<(), Fail>
 }
 
 #[test]
-fn scripts_of_comments_are_taken(rt: HostRuntime) {
+fn comments_and_bad_lines_are_told_apart(rt: HostRuntime) {
     let rows: [(&[u8], Result<(), RunFault>, &[u8]); 9] = [
         (b"", Err(RunFault::BadLine(1)), b""),
         (b"config 8 1 1 0 0 2 4 4 8", Err(RunFault::BadLine(1)), b""),

@@ -85,6 +85,20 @@ impl History {
         self.entries.is_empty()
     }
 
+    /// All entries, the oldest first.
+    pub fn as_slice(&self) -> &[Entry]
+        ensures { result.now ≡ reverse self.now.past }
+    {
+        self.entries.as_slice()
+    }
+
+    /// The newest entry.
+    pub fn last(&self) -> Option<&Entry>
+        ensures { option_copied result ≡ slice_get self.now.past 0 }
+    {
+        self.entries.last()
+    }
+
     /// The entry at this place, from 0, the oldest first.
     pub fn get(&self, place: usize) -> Option<&Entry>
         ensures { option_copied result ≡ slice_get (reverse self.now.past) place }

@@ -143,6 +143,11 @@ fn a_history_keeps_its_entries(rt: HostRuntime) -> Result<(), Fail> {
         assert_eq!(rt; line.ticket, place + 1);
     }
     assert!(rt; history.get(2).is_none());
+    let Some(Entry::Fetch(newest)) = history.last() else {
+        return Err(Fail::from("no newest"));
+    };
+    assert_eq!(rt; newest.ticket, 2);
+    assert_eq!(rt; history.as_slice().len(), 2);
     Ok(())
 }
 

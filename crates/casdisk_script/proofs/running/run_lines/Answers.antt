@@ -1,35 +1,43 @@
 use Rattle.std.proofs.Common.{◌≡◌, [], length, vec_len, sym, ap, ◌∙◌}
 use Rattle.std.proofs.lemmas.Bool.{eqb-true, eqb-false}
 use Rattle.std.proofs.lemmas.List.{nil_from_length}
+use Rattle.casdisk_script.specs.Running.{lines_from}
 use Rattle.casdisk_script.specs.Script.{done, bad_line}
-use Rattle.casdisk_script.proofs.Reaching.{goes_on, ends_bad, front_stopped, front_lost, front_here, ends_last, print_none, print_rest, runs_stopped}
+use Rattle.casdisk_script.proofs.Reaching.{goes_on, ends_bad, front_stopped, front_lost, front_here, ends_last, makes_last, print_none, print_rest, runs_stopped}
 use Rattle.casdisk_script.proofs.running.run_lines.Goals as goal
 
-pub returns-in-Err : goal.returns-in-Err
-returns-in-Err g c = runs_stopped _ c.read_fault.result _ _ _ _ c.read_fault.ensures (front_lost _ _ _ _ _ _ _ _ _ _ c.loop-number.invariant.reached _ _ c.in-Err.ensures.err)
+pub returns-in-Err-clause-runs : goal.returns-in-Err-clause-runs
+returns-in-Err-clause-runs g c = runs_stopped (lines_from (g.M.LineMeaning.meaning c.args.machine.now) (g.M.LineMeaning.past c.args.machine.now) 2 c.args.lines.now) c.read_fault.result _ _ _ _ c.read_fault.ensures (front_lost _ _ _ _ _ _ _ _ _ _ c.loop-number.invariant.reached _ _ c.in-Err.ensures.err)
 
-pub returns-then-is_empty : goal.returns-then-is_empty
-returns-then-is_empty g c =
+pub returns-then-is_empty-clause-runs : goal.returns-then-is_empty-clause-runs
+returns-then-is_empty-clause-runs g c =
     let line = c.next_line.new.line in
     let x = rw c.in-Ok-Rest.field-0-is at c.in-Ok-Rest.ensures.line in
     let none : line.items ≡ [] = nil_from_length line.items (sym line.ok.0 ∙ eqb-true (vec_len line) 0 (sym c.is_empty.ensures ∙ c.if-is_empty.true)) in
     (ends_last _ _ _ _ _ _ _ _ _ _ c.loop-number.invariant.reached _ line.items done x.0 x.1 x.2 x.3 (print_none _ _ _ line.items none), x.3)
 
-pub returns-in-Ok-Rest : goal.returns-in-Ok-Rest
-returns-in-Ok-Rest g c =
+pub returns-then-is_empty-clause-makes : goal.returns-then-is_empty-clause-makes
+returns-then-is_empty-clause-makes g c =
+    let line = c.next_line.new.line in
+    let x = rw c.in-Ok-Rest.field-0-is at c.in-Ok-Rest.ensures.line in
+    let none : line.items ≡ [] = nil_from_length line.items (sym line.ok.0 ∙ eqb-true (vec_len line) 0 (sym c.is_empty.ensures ∙ c.if-is_empty.true)) in
+    makes_last _ _ _ _ _ _ _ _ _ _ c.loop-number.invariant.reached _ line.items done x.0 x.1 x.2 x.3 (print_none _ _ _ line.items none)
+
+pub returns-in-Ok-Rest-clause-runs : goal.returns-in-Ok-Rest-clause-runs
+returns-in-Ok-Rest-clause-runs g c =
     let line = c.next_line.new.line in
     let x = rw c.in-Ok-Rest.field-0-is at c.in-Ok-Rest.ensures.line in
     let some : line.items ≡ [] → ⊥ = λ (e : line.items ≡ []). eqb-false (vec_len line) 0 (sym c.is_empty.ensures ∙ c.if-is_empty.false) (line.ok.0 ∙ ap length e) in
     ends_last _ _ _ _ _ _ _ _ _ _ c.loop-number.invariant.reached _ line.items (bad_line c.loop-number.number) x.0 x.1 x.2 x.3 (print_rest _ _ _ line.items some)
 
-pub returns-in-Err-take_line : goal.returns-in-Err-take_line
-returns-in-Err-take_line g c =
+pub returns-in-Err-take_line-clause-runs : goal.returns-in-Err-take_line-clause-runs
+returns-in-Err-take_line-clause-runs g c =
     let x = rw c.in-Ok-Whole.field-0-is at c.in-Ok-Whole.ensures.line in
     let h = rw (c.deref.ensures.value, c.loop-number.invariant.same) at c.in-Err-take_line.ensures.stopped in
-    runs_stopped _ c.write_fault.result _ _ _ _ c.write_fault.ensures (front_stopped _ _ _ _ _ _ _ _ _ _ c.loop-number.invariant.reached _ c.next_line.new.line.items _ x.0 x.1 h)
+    runs_stopped (lines_from (g.M.LineMeaning.meaning c.args.machine.now) (g.M.LineMeaning.past c.args.machine.now) 2 c.args.lines.now) c.write_fault.result _ _ _ _ c.write_fault.ensures (front_stopped _ _ _ _ _ _ _ _ _ _ c.loop-number.invariant.reached _ c.next_line.new.line.items _ x.0 x.1 h)
 
-pub returns-in-Ok-Bad : goal.returns-in-Ok-Bad
-returns-in-Ok-Bad g c =
+pub returns-in-Ok-Bad-clause-runs : goal.returns-in-Ok-Bad-clause-runs
+returns-in-Ok-Bad-clause-runs g c =
     let x = rw c.in-Ok-Whole.field-0-is at c.in-Ok-Whole.ensures.line in
     let h = rw (c.in-Ok-Bad.field-0-is, c.deref.ensures.value, c.loop-number.invariant.same) at c.in-Ok-Bad.ensures.taken in
     ends_bad _ _ _ _ _ _ _ _ _ _ c.loop-number.invariant.reached _ c.next_line.new.line.items _ x.0 x.1 h.0 h.1
@@ -41,5 +49,5 @@ loop-number-preserved g c =
     let next = goes_on _ _ _ _ _ _ _ _ _ _ c.loop-number.invariant.reached _ c.next_line.new.line.items _ h.0 x.0 x.1 h.1 h.4 in
     record { same = h.3; reached = rw h.2 next }
 
-pub returns : goal.returns
-returns g c = front_here _ _ _ _ _ _ (g.R.Read.remaining c.loop-number.reader) _ _ _ c.loop-number.invariant.reached
+pub returns-clause-runs : goal.returns-clause-runs
+returns-clause-runs g c = front_here _ _ _ _ _ _ (g.R.Read.remaining c.loop-number.reader) _ _ _ c.loop-number.invariant.reached

@@ -1,0 +1,120 @@
+//! What a controller does of the lines of a script.
+
+ghost use Rattle.std.specs.Prelude.{◌≡◌, OnOk, OnErr, []};
+ghost use Rattle.nvme_model.specs.History.{Past};
+ghost use Rattle.nvme_model.specs.declared.entry.Entry.{Entry};
+ghost use Rattle.std.specs.Io.KnownBytes.{Appends};
+ghost use Rattle.line_text.specs.Known.{AppendsFront};
+ghost use Rattle.nvme_model.specs.declared.refusal.Why.{Why as TheWhy};
+ghost use Rattle.casdisk_script.specs.Doing.{Says};
+ghost use Rattle.casdisk_script.specs.Doing.{why_of as the_why_of};
+ghost use Rattle.casdisk_script.specs.Said.{all_ready, entry_text, refusal_text, script_line, settle_says, step_says};
+ghost use Rattle.std.specs.Prelude.{◌∷◌, ◌≢◌};
+
+use crate::meaning::{LineMeaning, Taken, WriteFault};
+use crate::printing::{print_entry, print_medium, print_refusal};
+use history::{Kinds, LineFault};
+use nvme_model::refusal::Why;
+use nvme_model::step::Step;
+use script_lines::{ScriptLine, read_script_line};
+use std::alloc::Global;
+use std::io::Write;
+use step_core::{Core, Refused};
+
+/// A controller that does what the lines of a script say, and prints the lines of these kinds.
+#[derive(Drop)]
+pub(crate) struct Machine {
+    pub(crate) alloc: Global,
+    pub(crate) core: Core,
+    pub(crate) kinds: Kinds,
+}
+
+fn why_of(refused: &Refused) -> Why
+    ensures { result ≡ the_why_of refused.now }
+{
+    match refused {
+        Refused::Publish(why, _) => *why,
+        Refused::Step(why) => *why,
+    }
+}
+
+impl Machine {
+    // Prints that a step was refused, or stops where it was for want of memory.
+    fn tell_refusal<W: Write>(&self, why: Why, writer: &mut W) -> Result<(), WriteFault>
+        ensures told { OnOk result (Appends (W.contents writer.old) (W.contents writer.new) (refusal_text self.now.kinds.0 why)) }
+        ensures other { OnOk result (why ≢ TheWhy.NoMemory) }
+        ensures stopped { OnErr result (AppendsFront (W.contents writer.old) (W.contents writer.new) (refusal_text self.now.kinds.0 why)) }
+        ensures silent { OnErr result (why ≡ TheWhy.NoMemory → Appends (W.contents writer.old) (W.contents writer.new) []) }
+    {
+        if why == Why::NoMemory {
+            return Err(WriteFault::NoMemory);
+        }
+        match print_refusal(self.kinds, why, writer) {
+            Ok(()) => Ok(()),
+            Err(_) => Err(WriteFault::Output),
+        }
+    }
+
+    // Prints the newest entry.
+    fn tell_entry<W: Write>(&self, writer: &mut W) -> Result<(), WriteFault>
+        ensures told { (e : Entry) (past : Past) → self.now.core.past ≡ e ∷ past → OnOk result (Appends (W.contents writer.old) (W.contents writer.new) (entry_text self.now.kinds.0 e)) }
+        ensures stopped { (e : Entry) (past : Past) → self.now.core.past ≡ e ∷ past → OnErr result (AppendsFront (W.contents writer.old) (W.contents writer.new) (entry_text self.now.kinds.0 e)) }
+    {
+        let Some(entry) = self.core.history().last() else {
+            return Ok(());
+        };
+        match print_entry(self.kinds, entry, writer) {
+            Ok(()) => Ok(()),
+            Err(_) => Err(WriteFault::Output),
+        }
+    }
+
+    // Makes a step or refuses it, and prints which.
+    fn do_step<W: Write>(&mut self, step: Step, writer: &mut W) -> Result<(), WriteFault>
+        ensures same { (self.new.core.config ≡ self.old.core.config) × (self.new.kinds ≡ self.old.kinds) }
+        ensures done { OnOk result (Says (step_says self.old.kinds.0 self.old.core.config self.old.core.past step) self.new.core.past (W.contents writer.old) (W.contents writer.new)) }
+        ensures stopped { OnErr result (AppendsFront (W.contents writer.old) (W.contents writer.new) (step_says self.old.kinds.0 self.old.core.config self.old.core.past step).1) }
+    {
+        match self.core.step(step) {
+            Ok(_) => self.tell_entry(writer),
+            Err(refused) => self.tell_refusal(why_of(&refused), writer),
+        }
+    }
+
+    // Makes the step that is ready, until there is none.
+    fn settle<W: Write>(&mut self, writer: &mut W) -> Result<(), WriteFault>
+        ensures same { (self.new.core.config ≡ self.old.core.config) × (self.new.kinds ≡ self.old.kinds) }
+        ensures done { OnOk result (Says (settle_says all_ready self.old.kinds.0 self.old.core.config self.old.core.past) self.new.core.past (W.contents writer.old) (W.contents writer.new)) }
+        ensures stopped { OnErr result (AppendsFront (W.contents writer.old) (W.contents writer.new) (settle_says all_ready self.old.kinds.0 self.old.core.config self.old.core.past).1) }
+    {
+        for _turn in 0..u64::MAX {
+            let Some(step) = self.core.ready() else {
+                return Ok(());
+            };
+            self.do_step(step, writer)?;
+        }
+        Ok(())
+    }
+}
+
+impl LineMeaning for Machine {
+    ghost past = { λ m. m.core.past };
+
+    ghost meaning = { λ m. script_line m.core.config m.kinds.0 };
+
+    fn take_line<W: Write>(&mut self, line: &[u8], writer: &mut W) -> Result<Taken, WriteFault> {
+        match read_script_line(self.alloc, line) {
+            Err(LineFault::Malformed) => return Ok(Taken::Bad),
+            Err(LineFault::NoMemory) => return Err(WriteFault::NoMemory),
+            Ok(ScriptLine::Comment) => {}
+            Ok(ScriptLine::Step(step)) => self.do_step(step, writer)?,
+            Ok(ScriptLine::Settle) => self.settle(writer)?,
+            Ok(ScriptLine::Medium(lba)) => {
+                if print_medium(self.kinds, &self.core, lba, writer).is_err() {
+                    return Err(WriteFault::Output);
+                }
+            }
+        }
+        Ok(Taken::Done)
+    }
+}
