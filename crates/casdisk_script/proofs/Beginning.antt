@@ -1,6 +1,6 @@
 -- The first line of a script.
 use Rattle.std.proofs.Common.{◌≡◌, ℕ, List, [], ◌∷◌, ◌++◌, None, Some, refl, sym, ap, ◌∙◌, subst, append-nil}
-use Rattle.std.specs.Prelude.{Option}
+use Rattle.std.specs.Prelude.{IfSome, Option}
 use Rattle.std.specs.Io.KnownBytes.{Appends, Consumes, IsAtEnd}
 use Rattle.std.proofs.KnownBytes.{Consumes-whole, Appends-nil}
 use Rattle.line_text.specs.Known.{AppendsFront}
@@ -12,9 +12,9 @@ use Rattle.nvme_model.specs.declared.config.ConfigFault.{ConfigFault}
 use Rattle.nvme_model.specs.declared.config.ConfigNumbers.{ConfigNumbers}
 use Rattle.history.specs.ConfigLine.{config_in}
 use Rattle.casdisk_script.specs.Meaning.{Meaning}
-use Rattle.casdisk_script.specs.Script.{Outcome, End, bad_line, bad_config, ending, prefixed, after_numbers, after_config, script_prints, lines_print, outcome}
+use Rattle.casdisk_script.specs.Script.{Outcome, End, bad_line, bad_config, ending, prefixed, after_numbers, after_config, first_config, script_prints, lines_print, outcome}
 use Rattle.casdisk_script.specs.Running.{lines_from, PrintsAll, PrintsFront}
-use Rattle.casdisk_script.proofs.Reaching.{Reached}
+use Rattle.casdisk_script.specs.Running.{Reached}
 
 module _ (meaning : ConfigNumbers → Meaning) where
   no_config : (line : List ℕ) (lines : List (List ℕ)) (rest : List ℕ) → config_in line ≡ None → script_prints meaning (line ∷ lines) rest ≡ ending (bad_line 1) []
@@ -82,3 +82,10 @@ module _ (meaning : ConfigNumbers → Meaning) where
 
       pub reached_first : (u : Option (List ℕ)) → Appends w u (line ++ 10 ∷ []) → Reached (λ input. outcome meaning input) (meaning c) [] 2 r t w u after
       reached_first u h = record { bytes = g.bytes; consumed = g.consumed; out = line ++ 10 ∷ []; written = h; agrees = begins }
+
+-- the configuration of a known input is that of the line that was read
+pub known_config : (r t : Option (List ℕ)) (after line : List ℕ) (g : Gives r t [] after (line ++ 10 ∷ [])) → NoFeed line → (c : ConfigNumbers) → config_in line ≡ Some c
+    → IfSome r (λ bytes. first_config (whole_lines bytes) ≡ Some c)
+known_config r t after line g plain c e =
+    known_input r t g.bytes _ g.consumed (λ more.
+    ap first_config (whole_is_first r t [] after line more g plain).0 ∙ e)

@@ -1,4 +1,5 @@
 pub mod Beginning
+mod Answering
 mod KindsLemmas
 mod Printed
 mod Settling

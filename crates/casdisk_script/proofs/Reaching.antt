@@ -10,17 +10,9 @@ use Rattle.line_text.proofs.LineLaws.{whole_is_first, rest_is_last}
 use Rattle.nvme_model.specs.History.{Past}
 use Rattle.casdisk_script.specs.Meaning.{Meaning, StopsInLine, text_of}
 use Rattle.casdisk_script.specs.Script.{Outcome, End, done, bad_line, bad_config, ending, prefixed, after_line, lines_print}
-use Rattle.casdisk_script.specs.Running.{lines_from, Makes, PrintsAll, PrintsFront, Runs, IsStop}
+use Rattle.casdisk_script.specs.Running.{lines_from, Makes, Reached, PrintsAll, PrintsFront, Runs, IsStop}
 use Rattle.casdisk_script.specs.declared.fault.RunFault.{RunFault}
 use Rattle.casdisk_script.specs.declared.fault.RunFault.TheVariants.{BadLine, BadConfig, Input, Output, NoMemory}
-
--- some bytes were read and some text was written, and the rest of the input prints what its lines from number n on do
-pub record Reached (outcome : List ℕ → Outcome) (meaning : Meaning) (past : Past) (n : ℕ) (r s w v : Option (List ℕ)) (held : List ℕ) : Type 0 where
-  pub bytes : List ℕ
-  pub consumed : Consumes r s bytes
-  pub out : List ℕ
-  pub written : Appends w v out
-  pub agrees : (more : List ℕ) → outcome (bytes ++ more) ≡ prefixed out (lines_from meaning past n held more)
 
 pub prefixed_twice : (a b : List ℕ) (o : Outcome) → prefixed a (prefixed b o) ≡ prefixed (a ++ b) o
 prefixed_twice a b o = ap (λ t. record { text = t; end = o.end; past = o.past }) (sym (append_assoc a b o.text))

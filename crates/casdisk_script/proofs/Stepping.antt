@@ -1,6 +1,6 @@
 -- A step that was made or refused, and what was printed of it.
-use Rattle.std.proofs.Common.{◌≡◌, ◌≢◌, ℕ, false, List, [], ◌∷◌, None, Some, refl, sym, ap, subst}
-use Rattle.std.specs.Prelude.{Option, Result, Ok, Err, OnOk, OnErr, is_err, unwrap_or}
+use Rattle.std.proofs.Common.{◌≡◌, ◌≢◌, ℕ, List, [], ◌∷◌, None, Some, refl, sym, ap, subst}
+use Rattle.std.specs.Prelude.{Option, Result, Ok, Err, OnOk, OnErr, unwrap_or}
 use Rattle.std.specs.Io.KnownBytes.{Appends}
 use Rattle.line_text.specs.Known.{AppendsFront}
 use Rattle.line_text.proofs.Known.{on_ok_then, on_err_then}
@@ -65,8 +65,3 @@ module _ (kinds : ℕ) (old new : State) (step : Step) (w v : Option (List ℕ))
         → OnErr r (AppendsFront w v (step_says kinds old.config old.past step).1)
     refused_stopped (Ok x) told silent = tt
     refused_stopped (Err x) told silent = begun (refusal old.config old.past step) is told silent
-
--- what holds at an `Ok` holds of a result that is no error
-pub ok_of : {X E P : Type 0} (r : Result X E) → false ≡ is_err r → OnOk r P → P
-ok_of (Ok x) e p = p
-ok_of (Err x) e p = absurd (let f = e in cc)

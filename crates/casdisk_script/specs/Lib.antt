@@ -4,4 +4,5 @@ pub mod Said
 pub mod Doing
 pub mod Script
 pub mod Running
+pub mod Files
 pub mod Kinds

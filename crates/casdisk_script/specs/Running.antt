@@ -5,7 +5,7 @@ use Rattle.line_text.specs.Known.{AppendsFront}
 use Rattle.line_text.specs.Lines.{whole_lines, rest_line}
 use Rattle.nvme_model.specs.History.{Past}
 use Rattle.casdisk_script.specs.Meaning.{Meaning}
-use Rattle.casdisk_script.specs.Script.{Outcome, End, done, bad_line, bad_config, lines_print}
+use Rattle.casdisk_script.specs.Script.{Outcome, End, done, bad_line, bad_config, lines_print, prefixed}
 use Rattle.casdisk_script.specs.declared.fault.RunFault.{RunFault}
 use Rattle.casdisk_script.specs.declared.fault.RunFault.TheVariants.{BadLine, BadConfig, Input, Output, NoMemory}
 
@@ -42,3 +42,11 @@ IsStop (BadConfig c) = ⊥
 IsStop Input = Unit {0}
 IsStop Output = Unit {0}
 IsStop NoMemory = Unit {0}
+
+-- some bytes were read and some text was written, and the rest of the input prints what its lines from number n on do
+pub record Reached (outcome : List ℕ → Outcome) (meaning : Meaning) (past : Past) (n : ℕ) (r s w v : Option (List ℕ)) (held : List ℕ) : Type 0 where
+  pub bytes : List ℕ
+  pub consumed : Consumes r s bytes
+  pub out : List ℕ
+  pub written : Appends w v out
+  pub agrees : (more : List ℕ) → outcome (bytes ++ more) ≡ prefixed out (lines_from meaning past n held more)

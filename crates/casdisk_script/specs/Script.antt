@@ -57,3 +57,8 @@ script_prints meaning (line ∷ lines) rest = after_config line (config_in line)
 -- the outcome of a whole input
 abbrev pub outcome : (ConfigNumbers → Meaning) → List ℕ → Outcome
 outcome meaning input = script_prints meaning (whole_lines input) (rest_line input)
+
+-- the configuration of the first line
+abbrev pub first_config : List (List ℕ) → Option ConfigNumbers
+first_config [] = None
+first_config (line ∷ lines) = config_in line

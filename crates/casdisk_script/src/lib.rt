@@ -1,7 +1,10 @@
 //! The program `casdisk` but for its `main`: the command line, scripts, and what is written of them.
 #![tactic(auto)]
 
+mod checking;
+mod entries;
 mod fault;
+mod first_line;
 mod machine;
 mod meaning;
 mod printing;
@@ -11,6 +14,7 @@ mod running;
 mod script;
 mod usage;
 
+pub use crate::checking::check_text;
 pub use crate::fault::RunFault;
 pub use crate::meaning::{LineMeaning, Taken, WriteFault};
 pub use crate::program::run_program;

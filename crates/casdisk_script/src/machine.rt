@@ -8,12 +8,13 @@ ghost use Rattle.line_text.specs.Known.{AppendsFront};
 ghost use Rattle.nvme_model.specs.declared.refusal.Why.{Why as TheWhy};
 ghost use Rattle.casdisk_script.specs.Doing.{Says};
 ghost use Rattle.casdisk_script.specs.Doing.{why_of as the_why_of};
-ghost use Rattle.casdisk_script.specs.Said.{all_ready, entry_text, refusal_text, script_line, settle_says, step_says};
+ghost use Rattle.casdisk_script.specs.Said.{all_ready, entry_text, medium_text, refusal_text, script_line, settle_says, step_says};
 ghost use Rattle.std.specs.Prelude.{◌∷◌, ◌≢◌};
 
 use crate::meaning::{LineMeaning, Taken, WriteFault};
 use crate::printing::{print_entry, print_medium, print_refusal};
 use history::{Kinds, LineFault};
+use line_text::send;
 use nvme_model::refusal::Why;
 use nvme_model::step::Step;
 use script_lines::{ScriptLine, read_script_line};
@@ -27,6 +28,8 @@ pub(crate) struct Machine {
     pub(crate) alloc: Global,
     pub(crate) core: Core,
     pub(crate) kinds: Kinds,
+    // the text of a line, until it is sent
+    pub(crate) text: Vec<u8>,
 }
 
 fn why_of(refused: &Refused) -> Why
@@ -38,35 +41,63 @@ fn why_of(refused: &Refused) -> Why
     }
 }
 
+// Writes a text at once.
+fn send_text<W: Write>(text: &[u8], writer: &mut W) -> Result<(), WriteFault>
+    ensures told { OnOk result (Appends (W.contents writer.old) (W.contents writer.new) text.now) }
+    ensures stopped { OnErr result (AppendsFront (W.contents writer.old) (W.contents writer.new) text.now) }
+{
+    match send(writer, text) {
+        Ok(()) => Ok(()),
+        Err(_) => Err(WriteFault::Output),
+    }
+}
+
 impl Machine {
     // Prints that a step was refused, or stops where it was for want of memory.
-    fn tell_refusal<W: Write>(&self, why: Why, writer: &mut W) -> Result<(), WriteFault>
-        ensures told { OnOk result (Appends (W.contents writer.old) (W.contents writer.new) (refusal_text self.now.kinds.0 why)) }
+    fn tell_refusal<W: Write>(&mut self, why: Why, writer: &mut W) -> Result<(), WriteFault>
+        ensures same { (self.new.core ≡ self.old.core) × (self.new.kinds ≡ self.old.kinds) }
+        ensures told { OnOk result (Appends (W.contents writer.old) (W.contents writer.new) (refusal_text self.old.kinds.0 why)) }
         ensures other { OnOk result (why ≢ TheWhy.NoMemory) }
-        ensures stopped { OnErr result (AppendsFront (W.contents writer.old) (W.contents writer.new) (refusal_text self.now.kinds.0 why)) }
+        ensures stopped { OnErr result (AppendsFront (W.contents writer.old) (W.contents writer.new) (refusal_text self.old.kinds.0 why)) }
         ensures silent { OnErr result (why ≡ TheWhy.NoMemory → Appends (W.contents writer.old) (W.contents writer.new) []) }
     {
         if why == Why::NoMemory {
             return Err(WriteFault::NoMemory);
         }
-        match print_refusal(self.kinds, why, writer) {
-            Ok(()) => Ok(()),
-            Err(_) => Err(WriteFault::Output),
+        self.text.clear();
+        if print_refusal(self.kinds, why, &mut self.text).is_err() {
+            return Err(WriteFault::NoMemory);
         }
+        send_text(self.text.as_slice(), writer)
     }
 
     // Prints the newest entry.
-    fn tell_entry<W: Write>(&self, writer: &mut W) -> Result<(), WriteFault>
-        ensures told { (e : Entry) (past : Past) → self.now.core.past ≡ e ∷ past → OnOk result (Appends (W.contents writer.old) (W.contents writer.new) (entry_text self.now.kinds.0 e)) }
-        ensures stopped { (e : Entry) (past : Past) → self.now.core.past ≡ e ∷ past → OnErr result (AppendsFront (W.contents writer.old) (W.contents writer.new) (entry_text self.now.kinds.0 e)) }
+    fn tell_entry<W: Write>(&mut self, writer: &mut W) -> Result<(), WriteFault>
+        ensures same { (self.new.core ≡ self.old.core) × (self.new.kinds ≡ self.old.kinds) }
+        ensures told { (e : Entry) (past : Past) → self.old.core.past ≡ e ∷ past → OnOk result (Appends (W.contents writer.old) (W.contents writer.new) (entry_text self.old.kinds.0 e)) }
+        ensures stopped { (e : Entry) (past : Past) → self.old.core.past ≡ e ∷ past → OnErr result (AppendsFront (W.contents writer.old) (W.contents writer.new) (entry_text self.old.kinds.0 e)) }
     {
+        self.text.clear();
         let Some(entry) = self.core.history().last() else {
             return Ok(());
         };
-        match print_entry(self.kinds, entry, writer) {
-            Ok(()) => Ok(()),
-            Err(_) => Err(WriteFault::Output),
+        if print_entry(self.kinds, entry, &mut self.text).is_err() {
+            return Err(WriteFault::NoMemory);
         }
+        send_text(self.text.as_slice(), writer)
+    }
+
+    // Prints a block of the volume.
+    fn tell_medium<W: Write>(&mut self, lba: u64, writer: &mut W) -> Result<(), WriteFault>
+        ensures same { (self.new.core ≡ self.old.core) × (self.new.kinds ≡ self.old.kinds) }
+        ensures told { OnOk result (Appends (W.contents writer.old) (W.contents writer.new) (medium_text self.old.kinds.0 self.old.core.config self.old.core.past lba)) }
+        ensures stopped { OnErr result (AppendsFront (W.contents writer.old) (W.contents writer.new) (medium_text self.old.kinds.0 self.old.core.config self.old.core.past lba)) }
+    {
+        self.text.clear();
+        if print_medium(self.kinds, &self.core, lba, &mut self.text).is_err() {
+            return Err(WriteFault::NoMemory);
+        }
+        send_text(self.text.as_slice(), writer)
     }
 
     // Makes a step or refuses it, and prints which.
@@ -109,11 +140,7 @@ impl LineMeaning for Machine {
             Ok(ScriptLine::Comment) => {}
             Ok(ScriptLine::Step(step)) => self.do_step(step, writer)?,
             Ok(ScriptLine::Settle) => self.settle(writer)?,
-            Ok(ScriptLine::Medium(lba)) => {
-                if print_medium(self.kinds, &self.core, lba, writer).is_err() {
-                    return Err(WriteFault::Output);
-                }
-            }
+            Ok(ScriptLine::Medium(lba)) => self.tell_medium(lba, writer)?,
         }
         Ok(Taken::Done)
     }

@@ -53,7 +53,10 @@ pub(crate) fn print_refusal<W: Write>(kinds: Kinds, why: Why, writer: &mut W) ->
     }
     send_words(
         writer,
-        &[Word::Text(b"refused"), Word::Number(u64::from(why.number()))],
+        &[
+            Word::Text(b"refused"),
+            Word::Number(u64::from(why.number())),
+        ],
     )?;
     send(writer, b"\n")
 }
@@ -69,7 +72,12 @@ fn word_of<'a>(core: &'a Core, lba: u64) -> Word<'a>
 }
 
 // Writes a block of the volume, where that is shown.
-pub(crate) fn print_medium<W: Write>(kinds: Kinds, core: &Core, lba: u64, writer: &mut W) -> IoResult<()>
+pub(crate) fn print_medium<W: Write>(
+    kinds: Kinds,
+    core: &Core,
+    lba: u64,
+    writer: &mut W,
+) -> IoResult<()>
     ensures whole { OnOk result
         (Appends (W.contents writer.old) (W.contents writer.new) (medium_text kinds.0 core.now.config core.now.past lba)) }
     ensures front { OnErr result

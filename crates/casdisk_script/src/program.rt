@@ -1,5 +1,6 @@
 //! The whole program, over any runtime.
 
+use crate::checking::check_text;
 use crate::fault::RunFault;
 use crate::request::{Asked, UsageFault};
 use crate::script::run_script;
@@ -10,7 +11,7 @@ use std::rt::{Env, Files};
 use std::{env, fs, io};
 
 /// Does what the words of the command line ask, and says with which status the program ends: 0 where it is done,
-/// 2 after a bad line, configuration or command line, 3 after a failed opening, reading or writing, 4 where a growth
+/// 1 where a history that was checked isn't legal, 2 after a bad line, configuration or command line, 3 after a failed opening, reading or writing, 4 where a growth
 /// was refused. The words of a fault go to standard error.
 pub fn run_program<R: Files + Env + Print + Eprint + AllocGlobal>(rt: &R) -> ExitCode {
     let words: Result<Vec<String>, io::Error> = match env::args(rt) {
@@ -33,18 +34,23 @@ pub fn run_program<R: Files + Env + Print + Eprint + AllocGlobal>(rt: &R) -> Exi
     }
 }
 
+// Says these words in a line of their own, and gives this status.
 fn end_with<R: Eprint>(rt: &R, status: u8, words: &str) -> ExitCode {
-    let _ = rt.eprintln(words);
+    let _ = rt.eprintln(words.trim_end());
     ExitCode::from(status)
 }
 
 fn finish<R: Files + Print + Eprint + AllocGlobal>(rt: &R, what: Asked<'_>) -> ExitCode {
     let outcome = match what {
         Asked::Run { kinds, file } => run_file(rt, kinds, file),
-        Asked::Show(text) => rt.print(text.as_str()).map_err(|_| RunFault::Output),
+        Asked::Check { file } => check_file(rt, file),
+        Asked::Show(text) => match rt.print(text.as_str()) {
+            Ok(()) => Ok(0),
+            Err(_) => Err(RunFault::Output),
+        },
     };
     match outcome {
-        Ok(()) => ExitCode::SUCCESS,
+        Ok(status) => ExitCode::from(status),
         Err(fault) => {
             let status = fault.status();
             let _ = rt.eprintln(fault);
@@ -53,12 +59,24 @@ fn finish<R: Files + Print + Eprint + AllocGlobal>(rt: &R, what: Asked<'_>) -> E
     }
 }
 
+// Runs a script, and then gives the status 0.
 fn run_file<R: Files + Print + AllocGlobal>(
     rt: &R,
     kinds: Kinds,
     file: &str,
-) -> Result<(), RunFault> {
+) -> Result<u8, RunFault> {
     let mut input = fs::open(rt, file).map_err(|_| RunFault::Input)?;
     let mut output = io::writer(rt);
-    run_script(rt.alloc(), &mut input, &mut output, kinds)
+    run_script(rt.alloc(), &mut input, &mut output, kinds)?;
+    Ok(0)
+}
+
+// Checks a history, and gives the status 0 where it is legal, else 1.
+fn check_file<R: Files + Print + AllocGlobal>(rt: &R, file: &str) -> Result<u8, RunFault> {
+    let mut input = fs::open(rt, file).map_err(|_| RunFault::Input)?;
+    let mut output = io::writer(rt);
+    match check_text(rt.alloc(), &mut input, &mut output)? {
+        true => Ok(0),
+        false => Ok(1),
+    }
 }

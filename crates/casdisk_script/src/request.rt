@@ -8,6 +8,8 @@ use std::alloc::AllocError;
 pub enum Asked<'a> {
     /// To run the script in this file, and show these kinds of lines.
     Run { kinds: Kinds, file: &'a str },
+    /// To check the history in this file.
+    Check { file: &'a str },
     /// To print this text, of `--help` or `--version`.
     Show(String),
 }

@@ -6,10 +6,11 @@ ghost use Rattle.casdisk_script.specs.Said.{script_line};
 ghost use Rattle.casdisk_script.specs.Script.{outcome};
 
 use crate::fault::RunFault;
+use crate::first_line::read_first;
 use crate::machine::Machine;
-use crate::running::{read_fault, run_lines};
-use history::{Config, Kinds, LineFault, read_config_line};
-use line_text::{Lines, NextLine, send_line};
+use crate::running::run_lines;
+use history::Kinds;
+use line_text::{Lines, send_line};
 use std::alloc::Global;
 use std::io::{Read, Write};
 use step_core::Core;
@@ -33,26 +34,18 @@ pub fn run_script<R: Read, W: Write>(
         return Err(RunFault::NoMemory);
     };
     let mut line = Vec::new(alloc);
-    match lines.next_line(reader, &mut line) {
-        Err(fault) => return Err(read_fault(fault)),
-        Ok(NextLine::Rest) => return Err(RunFault::BadLine(1)),
-        Ok(NextLine::Whole) => {}
-    }
-    let numbers = match read_config_line(alloc, line.as_slice()) {
-        Ok(numbers) => numbers,
-        Err(LineFault::Malformed) => return Err(RunFault::BadLine(1)),
-        Err(LineFault::NoMemory) => return Err(RunFault::NoMemory),
-    };
-    let config = match Config::from_numbers(&numbers) {
-        Ok(config) => config,
-        Err(fault) => return Err(RunFault::BadConfig(fault.number())),
-    };
+    let config = read_first(alloc, &mut lines, &mut line, reader)?;
     let Ok(core) = Core::new(alloc, config) else {
         return Err(RunFault::NoMemory);
     };
     let Ok(()) = send_line(writer, line.as_slice()) else {
         return Err(RunFault::Output);
     };
-    let mut machine = Machine { alloc, core, kinds };
+    let mut machine = Machine {
+        alloc,
+        core,
+        kinds,
+        text: Vec::new(alloc),
+    };
     run_lines(&mut machine, &mut lines, &mut line, reader, writer)
 }

@@ -1,3 +1,4 @@
+mod checks;
 mod config_rows;
 
 use self::config_rows::ROWS;
@@ -205,28 +206,34 @@ fn a_run_is_asked_for(rt: HostRuntime) -> Result<(), Fail> {
             assert!(rt; file == "a.txt");
             assert_eq!(rt; kinds.bits(), 0x12);
         }
-        Asked::Show(_) => assert!(rt; false, "a text"),
+        Asked::Check { .. } | Asked::Show(_) => assert!(rt; false, "no run"),
     }
     let given = words(rt.alloc(), &["casdisk", "run", "a.txt"])?;
     match asked(rt.alloc(), given.as_slice())? {
         Asked::Run { kinds, .. } => assert_eq!(rt; kinds.bits(), 0xff),
-        Asked::Show(_) => assert!(rt; false, "a text"),
+        Asked::Check { .. } | Asked::Show(_) => assert!(rt; false, "no run"),
+    }
+    let given = words(rt.alloc(), &["casdisk", "check", "a.txt"])?;
+    match asked(rt.alloc(), given.as_slice())? {
+        Asked::Check { file } => assert!(rt; file == "a.txt"),
+        Asked::Run { .. } | Asked::Show(_) => assert!(rt; false, "no check"),
     }
     Ok(())
 }
 
 #[test]
 fn help_and_version_are_shown(rt: HostRuntime) -> Result<(), Fail> {
-    let rows: [(&[&str], &str); 3] = [
+    let rows: [(&[&str], &str); 4] = [
         (&["casdisk", "--help"], "An NVM Express controller"),
         (&["casdisk", "run", "--help"], "Runs a script"),
+        (&["casdisk", "check", "--help"], "Checks a history"),
         (&["casdisk", "--version"], "casdisk 0.1.0"),
     ];
     for (given, front) in rows {
         let given = words(rt.alloc(), given)?;
         match asked(rt.alloc(), given.as_slice())? {
             Asked::Show(text) => assert!(rt; text.as_str().starts_with(front), "{text}"),
-            Asked::Run { .. } => assert!(rt; false, "a run"),
+            Asked::Run { .. } | Asked::Check { .. } => assert!(rt; false, "no text"),
         }
     }
     Ok(())
@@ -236,7 +243,7 @@ fn help_and_version_are_shown(rt: HostRuntime) -> Result<(), Fail> {
 fn has_reason(answer: Result<Asked<'_>, UsageFault>) -> bool {
     match answer {
         Err(UsageFault::Text(text)) => !text.as_str().is_empty(),
-        Err(UsageFault::NoMemory) | Ok(Asked::Run { .. }) => false,
+        Err(UsageFault::NoMemory) | Ok(Asked::Run { .. }) | Ok(Asked::Check { .. }) => false,
         Ok(Asked::Show(text)) => {
             drop(text);
             false
@@ -246,11 +253,13 @@ fn has_reason(answer: Result<Asked<'_>, UsageFault>) -> bool {
 
 #[test]
 fn bad_command_lines_are_refused(rt: HostRuntime) -> Result<(), Fail> {
-    let rows: [&[&str]; 7] = [
+    let rows: [&[&str]; 9] = [
         &["casdisk"],
         &["casdisk", "run"],
         &["casdisk", "run", "a", "b"],
         &["casdisk", "walk", "a"],
+        &["casdisk", "check"],
+        &["casdisk", "check", "--show", "fetch", "a"],
         &["casdisk", "run", "--show", "grants", "a"],
         &["casdisk", "run", "--show=", "a"],
         &["casdisk", "run", "--show", "grant,", "a"],

@@ -10,8 +10,43 @@ use clap::{Arg, ArgAction, ArgMatches, Command};
 use history::{Kinds, all_kinds};
 use std::alloc::{AllocError, Global};
 
-const KINDS: &str =
-    "Kinds of lines to show, joined by commas: publish, fetch, grant, block, post, reap, refused, medium [default: all]";
+const KINDS: &str = "Kinds of lines to show, joined by commas [default: all]";
+
+const ABOUT_SCRIPTS: &str = "\
+A script is a text: its first line is the controller's configuration, and each further line is one
+step. Try one: casdisk run examples/one_block.script. Each line is described in docs/SCRIPTS.md.
+
+Exit status: 0 where all is done, 1 where a history that was checked isn't legal, 2 after a bad
+line, configuration or command line, 3 after a failed input or output, 4 without memory.";
+
+const ABOUT_LINES: &str = "\
+The first line of the script is its configuration, of decimal numbers:
+  config BLOCKS AWUN ACWU NABSN NABO PAIRS SQ CQ JOBS
+  config2 BLOCKS AWUN ACWU NABSN NABO PAIRS SQ CQ JOBS CQS
+
+Each further line is one of these:
+  publish Q E + E + ..  puts entries into submission queue Q
+  fetch Q               takes its next command, or fused pair, as a ticket
+  grant T               begins the next unit of ticket T
+  block T               makes the next block of its open unit
+  post T                posts its next completion
+  reap Q                takes a completion out of completion queue Q
+  settle                makes each Grant, Block and Post that can be made
+  medium L              shows block L of the volume
+  # ..                  does nothing
+
+An entry E is NAME FUSE CID SLBA NLB DATA, where NAME is flush, write, read, compare or zeroes, or
+it is raw HEX DATA. DATA is - for none, A1 for a block of such bytes, or blocks joined by dots.
+
+Kinds of lines, each named by the word that it begins with:
+  publish, fetch, grant, block, post, reap, refused, medium";
+
+const ABOUT_HISTORIES: &str = "\
+A history is what 'casdisk run --show publish,fetch,grant,block,post,reap' prints: a configuration
+line, and then a line for each step that a controller made. Any controller may have made it: see
+docs/CHECKING.md.
+
+Exit status: 0 where it is legal, 1 where it isn't.";
 
 fn run_command<'a>(alloc: Global) -> Result<Command<'a>, AllocError> {
     let show = Arg::new(alloc, "show")
@@ -20,21 +55,37 @@ fn run_command<'a>(alloc: Global) -> Result<Command<'a>, AllocError> {
         .help(KINDS)
         .action(ArgAction::Set);
     let file = Arg::new(alloc, "FILE")
-        .help("The script: a configuration line, and then a line a step")
+        .help("The script")
         .required(true)
         .action(ArgAction::Set);
     Command::new(alloc, "run")
-        .about("Runs a script and prints what happens")
+        .about("Runs a script over one controller and prints what each step did")
+        .after_help(ABOUT_LINES)
         .arg(show)?
+        .arg(file)
+}
+
+fn check_command<'a>(alloc: Global) -> Result<Command<'a>, AllocError> {
+    let file = Arg::new(alloc, "FILE")
+        .help("The history")
+        .required(true)
+        .action(ArgAction::Set);
+    Command::new(alloc, "check")
+        .about(
+            "Checks a history: prints 'legal', or 'bad at K' with its first bad line, from 1 behind the configuration",
+        )
+        .after_help(ABOUT_HISTORIES)
         .arg(file)
 }
 
 fn command<'a>(alloc: Global) -> Result<Command<'a>, AllocError> {
     Command::new(alloc, "casdisk")
         .version("0.1.0")
-        .about("An NVM Express controller in software, around Compare and Write")
+        .about("An NVM Express controller in software, around the fused Compare and Write")
+        .after_help(ABOUT_SCRIPTS)
         .subcommand_required(true)
-        .subcommand(run_command(alloc)?)
+        .subcommand(run_command(alloc)?)?
+        .subcommand(check_command(alloc)?)
 }
 
 /// The kinds that a text names, joined by commas; a name twice counts once.
@@ -57,6 +108,13 @@ fn text_of(alloc: Global, words: &str) -> UsageFault {
     match String::from_str(alloc, words) {
         Ok(text) => UsageFault::Text(text),
         Err(_) => UsageFault::NoMemory,
+    }
+}
+
+fn check_asked<'a>(alloc: Global, matches: &ArgMatches<'a>) -> Result<Asked<'a>, UsageFault> {
+    match matches.get_str("FILE") {
+        Some(file) => Ok(Asked::Check { file }),
+        None => Err(text_of(alloc, "error: no file")),
     }
 }
 
@@ -94,7 +152,13 @@ pub fn asked<'a>(alloc: Global, words: &'a [String]) -> Result<Asked<'a>, UsageF
         }
     };
     match matches.subcommand() {
-        Some((_, inner)) => run_asked(alloc, inner),
+        Some((name, inner)) => {
+            if name == "check" {
+                check_asked(alloc, inner)
+            } else {
+                run_asked(alloc, inner)
+            }
+        }
         None => Err(text_of(alloc, "error: no command")),
     }
 }

@@ -1,7 +1,7 @@
 -- The lines so far are done.
 use Rattle.std.proofs.Common.{◌≡◌}
 use Rattle.casdisk_script.specs.Running.{lines_from}
-use Rattle.casdisk_script.proofs.Reaching.{Reached}
+use Rattle.casdisk_script.specs.Running.{Reached}
 use Rattle.casdisk_script.proofs.running.run_lines.Given as goal
 
 abbrev pub invariant-loop-number : goal.invariant-loop-number

@@ -1,0 +1,58 @@
+-- A check of a file, from what the reading of its lines gave.
+use Rattle.std.proofs.Common.{◌≡◌, ℕ, List, [], None, Some, inl, inr, sym, subst}
+use Rattle.std.specs.Prelude.{Bool, IfSome, Option, Result, Ok, Err}
+use Rattle.std.specs.Io.KnownBytes.{Appends, Keeps}
+use Rattle.std.proofs.KnownBytes.{Keeps-refl}
+use Rattle.line_text.specs.Known.{AppendsFront}
+use Rattle.line_text.specs.Lines.{whole_lines}
+use Rattle.nvme_model.specs.History.{Past}
+use Rattle.nvme_model.specs.declared.config.ConfigNumbers.{ConfigNumbers}
+use Rattle.casdisk_script.specs.Files.{ChecksText, EndsUnsaid, IsAnswer, IsAnswerOf, Tells, entry_added, file_of}
+use Rattle.casdisk_script.specs.Running.{Makes, PrintsAll, Reached, Runs}
+use Rattle.casdisk_script.specs.Script.{End, bad_config, bad_line, first_config, outcome}
+use Rattle.casdisk_script.specs.declared.fault.RunFault.{RunFault}
+use Rattle.casdisk_script.specs.declared.fault.RunFault.TheVariants.{BadLine, BadConfig, Input, Output, NoMemory}
+
+-- the lines weren't all read
+module _ (t w u v : Option (List ℕ)) where
+  unsaid_of : (e : End) (r : Option (List ℕ)) → PrintsAll (outcome (λ c. entry_added)) e r w u → EndsUnsaid e r v v
+  unsaid_of e None p = tt
+  unsaid_of e (Some x) p = (p.0, Keeps-refl v)
+
+  pub stopped : (f : RunFault) (r : Option (List ℕ)) → Runs (outcome (λ c. entry_added)) (Err f) r t w u → ChecksText (Err f) r t v v
+  stopped (BadLine n) r h = unsaid_of (bad_line n) r h
+  stopped (BadConfig n) r h = unsaid_of (bad_config n) r h
+  stopped Input r h = Keeps-refl v
+  stopped Output r h = inl (Keeps-refl v)
+  stopped NoMemory r h = Keeps-refl v
+
+-- they were
+module _ (c : ConfigNumbers) (past : Past) (t w u v x : Option (List ℕ)) where
+  whole : (r : Option (List ℕ)) (answer : Bool) (text : List ℕ) → Runs (outcome (λ c. entry_added)) (Ok tt) r t w u → Makes (outcome (λ c. entry_added)) (Ok tt) r past
+      → IfSome r (λ bytes. first_config (whole_lines bytes) ≡ Some c) → IsAnswer c past answer text → IfSome r (λ bytes. IsAnswerOf bytes answer text)
+  whole None answer text ran makes known is = tt
+  whole (Some bytes) answer text ran makes known is = (ran.0.0, (c, known, subst (λ p. IsAnswer c p answer text) makes is))
+
+  with_text : (r : Option (List ℕ)) (answer : Bool) (text : List ℕ) → IfSome r (λ bytes. IsAnswerOf bytes answer text) → Appends v x text
+      → IfSome r (λ bytes. (text : List ℕ) × IsAnswerOf bytes answer text × Appends v x text)
+  with_text None answer text is p = tt
+  with_text (Some bytes) answer text is p = (text, is, p)
+
+  with_front : (r : Option (List ℕ)) (answer : Bool) (text : List ℕ) → IfSome r (λ bytes. IsAnswerOf bytes answer text) → AppendsFront v x text
+      → IfSome r (λ bytes. (answer : Bool) × (text : List ℕ) × IsAnswerOf bytes answer text × AppendsFront v x text)
+  with_front None answer text is p = tt
+  with_front (Some bytes) answer text is p = (answer, text, is, p)
+
+  pub answered : (res : Result Bool RunFault) (r : Option (List ℕ)) → Runs (outcome (λ c. entry_added)) (Ok tt) r t w u → Makes (outcome (λ c. entry_added)) (Ok tt) r past
+      → IfSome r (λ bytes. first_config (whole_lines bytes) ≡ Some c) → Tells c past res v x → ChecksText res r t v x
+  answered (Ok answer) r ran makes known told = (ran.1, with_text r answer told.0 (whole r answer told.0 ran makes known told.1) told.2)
+  answered (Err (BadLine n)) r ran makes known told = absurd told
+  answered (Err (BadConfig n)) r ran makes known told = absurd told
+  answered (Err Input) r ran makes known told = absurd told
+  answered (Err Output) r ran makes known told = inr (with_front r told.0 told.1 (whole r told.0 told.1 ran makes known told.2) told.3)
+  answered (Err NoMemory) r ran makes known told = told
+
+-- no entry is there yet
+pub begun_with : (past : Past) (r s w v : Option (List ℕ)) (held : List ℕ) → past ≡ [] → Reached (outcome (λ c. entry_added)) entry_added [] 2 r s w v held
+    → Reached (outcome (λ c. entry_added)) entry_added past 2 r s w v held
+begun_with past r s w v held none begun = subst (λ p. Reached (outcome (λ c. entry_added)) entry_added p 2 r s w v held) (sym none) begun

@@ -1,0 +1,63 @@
+-- What is said of a file of entries.
+use Rattle.std.specs.Prelude.{◌≡◌, ◌⊎◌, ℕ, Bool, true, false, List, [], ◌∷◌, ◌++◌, Option, Some, IfSome, Result, Ok, Err, codes, decimal, option_map, reverse}
+use Rattle.std.specs.Io.KnownBytes.{Appends, IsAtEnd, Keeps}
+use Rattle.std.specs.List.{join_with_byte}
+use Rattle.line_text.specs.Known.{AppendsFront}
+use Rattle.line_text.specs.Lines.{whole_lines}
+use Rattle.nvme_model.specs.FirstBad.{IsFirstBad}
+use Rattle.nvme_model.specs.History.{Past}
+use Rattle.nvme_model.specs.Legal.{IsLegal}
+use Rattle.nvme_model.specs.declared.config.ConfigNumbers.{ConfigNumbers}
+use Rattle.history.specs.Lines.{entry_in}
+use Rattle.casdisk_script.specs.Meaning.{Meaning}
+use Rattle.casdisk_script.specs.Script.{End, Outcome, bad_config, bad_line, done, first_config, outcome}
+use Rattle.casdisk_script.specs.declared.fault.RunFault.{RunFault}
+use Rattle.casdisk_script.specs.declared.fault.RunFault.TheVariants.{BadLine, BadConfig, Input, Output, NoMemory}
+
+-- the line of an entry adds it, and prints nothing
+abbrev pub entry_added : Meaning
+entry_added past line = option_map (λ e. (e ∷ past, [])) (entry_in line)
+
+-- how a file ends, and the history that it has
+abbrev pub file_of : List ℕ → Outcome
+file_of input = outcome (λ c. entry_added) input
+
+-- the lines of a check
+abbrev pub legal_text : List ℕ
+legal_text = codes "legal" ++ 10 ∷ []
+
+abbrev pub bad_text : ℕ → List ℕ
+bad_text place = join_with_byte 32 (codes "bad" ∷ codes "at" ∷ decimal place ∷ []) ++ 10 ∷ []
+
+-- the answer on a history, and its line: `legal`, or `bad at K` with the first place, from 1, at which it isn't
+abbrev pub IsAnswer : ConfigNumbers → Past → Bool → List ℕ → Type 0
+IsAnswer c past true text = IsLegal c past × (text ≡ legal_text)
+IsAnswer c past false text =
+    (place : ℕ) × IsFirstBad c (reverse past) place × (text ≡ bad_text place)
+
+-- the line was written, or a beginning of it, or nothing
+abbrev pub Tells : ConfigNumbers → Past → Result Bool RunFault → Option (List ℕ) → Option (List ℕ) → Type 0
+Tells c past (Ok answer) old new = (text : List ℕ) × IsAnswer c past answer text × Appends old new text
+Tells c past (Err Output) old new = (answer : Bool) × (text : List ℕ) × IsAnswer c past answer text × AppendsFront old new text
+Tells c past (Err NoMemory) old new = Keeps old new
+Tells c past (Err f) old new = ⊥
+
+-- the same of a file whose lines are all read
+abbrev pub IsAnswerOf : List ℕ → Bool → List ℕ → Type 0
+IsAnswerOf input answer text =
+    ((file_of input).end ≡ done)
+    × ((c : ConfigNumbers) × (first_config (whole_lines input) ≡ Some c) × IsAnswer c (file_of input).past answer text)
+
+-- the file ends so, and nothing was written
+abbrev pub EndsUnsaid : End → Option (List ℕ) → Option (List ℕ) → Option (List ℕ) → Type 0
+EndsUnsaid e input old new = IfSome input (λ bytes. ((file_of bytes).end ≡ e) × Keeps old new)
+
+-- By what a check of a file answered: its one line, and the reader at its end; or nothing, or a beginning of that line.
+abbrev pub ChecksText : Result Bool RunFault → Option (List ℕ) → Option (List ℕ) → Option (List ℕ) → Option (List ℕ) → Type 0
+ChecksText (Ok answer) input left old new = IsAtEnd left × IfSome input (λ bytes. (text : List ℕ) × IsAnswerOf bytes answer text × Appends old new text)
+ChecksText (Err (BadLine n)) input left old new = EndsUnsaid (bad_line n) input old new
+ChecksText (Err (BadConfig c)) input left old new = EndsUnsaid (bad_config c) input old new
+ChecksText (Err Input) input left old new = Keeps old new
+ChecksText (Err NoMemory) input left old new = Keeps old new
+ChecksText (Err Output) input left old new =
+    Keeps old new ⊎ IfSome input (λ bytes. (answer : Bool) × (text : List ℕ) × IsAnswerOf bytes answer text × AppendsFront old new text)

@@ -1,0 +1,78 @@
+//! Files of entries that are checked.
+
+ghost use Rattle.std.specs.Prelude.{OnErr, OnOk};
+ghost use Rattle.std.specs.Io.KnownBytes.{Appends};
+ghost use Rattle.line_text.specs.Known.{AppendsFront};
+ghost use Rattle.casdisk_script.specs.Files.{ChecksText, Tells, bad_text};
+
+use crate::entries::Entries;
+use crate::fault::RunFault;
+use crate::first_line::read_first;
+use crate::running::run_lines;
+use history::{Config, History};
+use history_check::{CheckFault, check};
+use line_text::{Lines, Word, send, send_words};
+use std::alloc::Global;
+use std::io::{Read, Result as IoResult, Write};
+
+// Writes `bad at K`.
+fn send_bad<W: Write>(place: u64, writer: &mut W) -> IoResult<()>
+    ensures whole { OnOk result (Appends (W.contents writer.old) (W.contents writer.new) (bad_text place)) }
+    ensures front { OnErr result (AppendsFront (W.contents writer.old) (W.contents writer.new) (bad_text place)) }
+{
+    send_words(
+        writer,
+        &[Word::Text(b"bad"), Word::Text(b"at"), Word::Number(place)],
+    )?;
+    send(writer, b"\n")
+}
+
+// Checks a history, and writes whether it is legal, or where it isn't.
+fn tell_answer<W: Write>(
+    alloc: Global,
+    config: &Config,
+    history: &History,
+    writer: &mut W,
+) -> Result<bool, RunFault>
+    ensures told { Tells config.now history.now.past result (W.contents writer.old) (W.contents writer.new) }
+{
+    match check(alloc, config, history.as_slice()) {
+        Ok(()) => match send(writer, b"legal\n") {
+            Ok(()) => Ok(true),
+            Err(_) => Err(RunFault::Output),
+        },
+        Err(CheckFault::BadAt(place)) => match send_bad(place, writer) {
+            Ok(()) => Ok(false),
+            Err(_) => Err(RunFault::Output),
+        },
+        Err(CheckFault::NoMemory) => Err(RunFault::NoMemory),
+    }
+}
+
+/// Reads a configuration line and the lines of a history to the reader's end, and then writes one line: `legal` where
+/// the history is legal, or `bad at K` with the first place K, from 1, at which it isn't. Answers whether it is legal.
+///
+/// # Errors
+///
+/// `BadLine` with the number of the first line that may not stand there, `BadConfig` with the number of the fault,
+/// `Input` and `NoMemory`, all after nothing was written; `Output` after a beginning of the line.
+pub fn check_text<R: Read, W: Write>(
+    alloc: Global,
+    reader: &mut R,
+    writer: &mut W,
+) -> Result<bool, RunFault>
+    ensures { ChecksText result (R.remaining reader.old) (R.remaining reader.new) (W.contents writer.old) (W.contents writer.new) }
+{
+    let Ok(mut lines) = Lines::new(alloc) else {
+        return Err(RunFault::NoMemory);
+    };
+    let mut line = Vec::new(alloc);
+    let config = read_first(alloc, &mut lines, &mut line, reader)?;
+    let mut entries = Entries {
+        alloc,
+        history: History::new(alloc),
+    };
+    let mut unprinted: Vec<u8> = Vec::new(alloc);
+    run_lines(&mut entries, &mut lines, &mut line, reader, &mut unprinted)?;
+    tell_answer(alloc, &config, &entries.history, writer)
+}

@@ -1,0 +1,5 @@
+pub mod Answers
+pub mod Checks
+pub mod Last
+pub mod Notes
+pub mod Taken
