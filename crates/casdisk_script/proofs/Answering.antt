@@ -1,13 +1,13 @@
 -- A check of a file, from what the reading of its lines gave.
 use Rattle.std.proofs.Common.{◌≡◌, ℕ, List, [], None, Some, inl, inr, sym, subst}
 use Rattle.std.specs.Prelude.{Bool, IfSome, Option, Result, Ok, Err}
-use Rattle.std.specs.Io.KnownBytes.{Appends, Keeps}
+use Rattle.std.specs.Io.KnownBytes.{Appends}
 use Rattle.std.proofs.KnownBytes.{Keeps-refl}
 use Rattle.line_text.specs.Known.{AppendsFront}
 use Rattle.line_text.specs.Lines.{whole_lines}
 use Rattle.nvme_model.specs.History.{Past}
 use Rattle.nvme_model.specs.declared.config.ConfigNumbers.{ConfigNumbers}
-use Rattle.casdisk_script.specs.Files.{ChecksText, EndsUnsaid, IsAnswer, IsAnswerOf, Tells, entry_added, file_of}
+use Rattle.casdisk_script.specs.Files.{ChecksText, EndsUnsaid, IsAnswer, IsAnswerOf, Tells, entry_added}
 use Rattle.casdisk_script.specs.Running.{Makes, PrintsAll, Reached, Runs}
 use Rattle.casdisk_script.specs.Script.{End, bad_config, bad_line, first_config, outcome}
 use Rattle.casdisk_script.specs.declared.fault.RunFault.{RunFault}
