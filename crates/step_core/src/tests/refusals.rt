@@ -27,6 +27,9 @@ fn a_refused_batch_comes_back(rt: HostRuntime) -> Result<(), Fail> {
         0
     );
     assert_eq!(rt; publish(rt.alloc(), &mut core, 1, &[flush])?, 2);
+    assert_eq!(rt; publish(rt.alloc(), &mut core, 3, &[flush])?, 1);
+    assert_eq!(rt; publish(rt.alloc(), &mut core, 2, &[])?, 10);
+    assert_eq!(rt; publish(rt.alloc(), &mut core, 3, &[])?, 1);
     assert_eq!(rt; cid_that_comes_back(rt.alloc(), &mut core)?, 4);
     Ok(())
 }
