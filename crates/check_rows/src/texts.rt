@@ -1,0 +1,288 @@
+//! Histories as texts: bad lines, comments, configurations, spellings of lines.
+
+use crate::files::{CONFIG, WRITE, check, file_of};
+use casdisk_script::RunFault;
+use std::alloc::Global;
+use std::process::Abort;
+use std::test::Fail;
+
+/// 126 digits of an entry, and 128.
+const SHORT: &str =
+    "010001000100000000000000000000000000000000000000000000000000000000000000000000000300000000000000000000000000000000000000000000";
+
+const WHOLE: &str =
+    "01000100010000000000000000000000000000000000000000000000000000000000000000000000030000000000000000000000000000000000000000000000";
+
+/// Lines that are no entries.
+const BAD: [&str; 64] = [
+    "",
+    " ",
+    "# a comment",
+    "#",
+    "refused 9",
+    "medium 0 A1",
+    "medium 8 none",
+    "medium 0",
+    "settle",
+    "legal",
+    "bad at 1",
+    "config 8 1 1 0 0 2 4 4 8",
+    "publish",
+    "publish 1",
+    "publish 1 write 0 1 3 0 A1",
+    "publish 1 flush 0 1 0 0 -",
+    "publish 1 raw 00 -",
+    "fetch 1",
+    "fetch 1 1 1",
+    "fetch 1 1 1 ok ",
+    " fetch 1 1 1 ok",
+    "fetch  1 1 1 ok",
+    "fetch 1 1 1 ok\r",
+    "fetch 1 1 0 ok",
+    "fetch 1 1 3 ok",
+    "fetch 1 1 1 OK",
+    "fetch 1 1 1 0/2",
+    "fetch 1 1 1 0/002",
+    "fetch 1 1 1 8/02",
+    "fetch 1 1 1 00/02",
+    "fetch 1 1 1 0/0a",
+    "fetch 1 1 1 0/02 0/02",
+    "fetch 1 1 2 0/02",
+    "fetch 1 1 2 ok ok",
+    "fetch 1 1 2 0/02 0/02 0/02",
+    "fetch 1 1 2 0/02 ok",
+    "fetch 65536 1 1 ok",
+    "fetch 1 18446744073709551616 1 ok",
+    "fetch 1 01 1 ok",
+    "grant 1",
+    "grant 1 0 3 1",
+    "grant 1 0 3 1 x",
+    "grant 1 0 3 1 rw",
+    "grant 1 0 3 1 w w",
+    "grant 1 0 3 4294967296 w",
+    "grant 1 0 18446744073709551616 1 w",
+    "grant -1 0 3 1 w",
+    "block 1",
+    "block 1 0 3 written",
+    "block 1 0 3 written +",
+    "block 1 0 3 written *-",
+    "block 1 0 3 wrote *",
+    "block 1 0 3 Written *",
+    "block 1 0 3 zeroed *",
+    "post 1",
+    "post 1 00000000000000000100010001000100",
+    "post 1 000000000000000001000100010001 -",
+    "post 1 0000000000000000010001000100010000 -",
+    "post 1 00000000000000000100010007000b05 -",
+    "post 1 00000000000000000100010001000100 a1",
+    "reap 1",
+    "reap 1 00000000000000000100010001000100 -",
+    "reap 1 000000000000000001000100010001000",
+    "reap 65536 00000000000000000100010001000100",
+];
+
+/// That a file's check ends so, with this output.
+fn check_end(
+    rt: &impl Abort,
+    alloc: Global,
+    file: &[u8],
+    answer: Result<bool, RunFault>,
+    output: &str,
+) {
+    let outcome = check(alloc, file);
+    assert_eq!(rt; outcome.answer, answer);
+    assert_eq!(rt; outcome.output.as_slice(), output.as_bytes());
+}
+
+/// That a line is none, in place of the third line and behind the last of a Write's seven.
+fn check_bad(rt: &impl Abort, alloc: Global, line: &str) -> Result<(), Fail> {
+    let text = format!(in alloc; "{CONFIG} / fetch 3 1 1 ok / {line} / fetch 3 1 1 ok")?;
+    let file = file_of(alloc, text.as_str())?;
+    let outcome = check(alloc, file.as_bytes());
+    assert_eq!(rt; outcome.answer, Err(RunFault::BadLine(3)), "{line}");
+    assert_eq!(rt; outcome.output.len(), 0);
+    let text = format!(in alloc; "{WRITE} / {line}")?;
+    let file = file_of(alloc, text.as_str())?;
+    let outcome = check(alloc, file.as_bytes());
+    assert_eq!(rt; outcome.answer, Err(RunFault::BadLine(8)), "{line}");
+    assert_eq!(rt; outcome.output.len(), 0);
+    Ok(())
+}
+
+#[test]
+fn bad_lines_end_a_check(rt: HostRuntime) -> Result<(), Fail> {
+    for line in BAD {
+        check_bad(&rt, rt.alloc(), line)?;
+    }
+    Ok(())
+}
+
+#[test]
+fn entries_have_128_digits_and_data(rt: HostRuntime) -> Result<(), Fail> {
+    let alloc = rt.alloc();
+    for line in [
+        format!(in alloc; "publish 1 {SHORT} -")?,
+        format!(in alloc; "publish 1 {SHORT}0 -")?,
+        format!(in alloc; "publish 1 {WHOLE}00 -")?,
+        format!(in alloc; "publish 1 {SHORT}0a -")?,
+        format!(in alloc; "publish 1 {WHOLE}")?,
+        format!(in alloc; "publish 1 {WHOLE} ")?,
+        format!(in alloc; "publish 1 {WHOLE} a1")?,
+        format!(in alloc; "publish 1 {WHOLE} x")?,
+        format!(in alloc; "publish 1 {WHOLE} A1.")?,
+        format!(in alloc; "publish 1 {WHOLE} A1 {WHOLE} A1")?,
+        format!(in alloc; "publish 1 {WHOLE} A1 +")?,
+        format!(in alloc; "publish 1 {WHOLE} A1 + ")?,
+        format!(in alloc; "publish 1 {WHOLE} A1 + {WHOLE}")?,
+        format!(in alloc; "publish 65536 {WHOLE} A1")?,
+        format!(in alloc; "publish 1 + {WHOLE} A1")?,
+    ] {
+        check_bad(&rt, alloc, line.as_str())?;
+    }
+    Ok(())
+}
+
+#[test]
+fn data_has_one_spelling(rt: HostRuntime) -> Result<(), Fail> {
+    let alloc = rt.alloc();
+    let mut equal = String::new(alloc);
+    for _ in 0..512 {
+        equal.push_str("A1")?;
+    }
+    for line in [
+        format!(in alloc; "publish 1 {WHOLE} {equal}")?,
+        format!(in alloc; "publish 1 {WHOLE} x{equal}")?,
+        format!(in alloc; "post 1 00000000000000000100010001000100 {equal}")?,
+        format!(in alloc; "post 1 00000000000000000100010001000100 A1.{equal}")?,
+    ] {
+        check_bad(&rt, alloc, line.as_str())?;
+    }
+    Ok(())
+}
+
+/// A line that isn't one of any machine is an entry too, with its place.
+const STRANGE: [&str; 10] = [
+    "fetch 65535 18446744073709551615 1 7/FF",
+    "fetch 0 0 2 7/FF 0/00",
+    "grant 18446744073709551615 18446744073709551615 18446744073709551615 65535 r",
+    "grant 0 0 0 0 w",
+    "block 18446744073709551615 18446744073709551615 18446744073709551615 differs *",
+    "block 0 0 0 read -",
+    "post 0 FFFFFFFFFFFFFFFFFFFFFFFFFFFFFFFF x00FF",
+    "post 18446744073709551615 00000000000000000000000000000000 00.FF",
+    "reap 0 FFFFFFFFFFFFFFFFFFFFFFFFFFFFFFFF",
+    "reap 65535 00000000000000000000000000000000",
+];
+
+#[test]
+fn strange_entries_have_their_place(rt: HostRuntime) -> Result<(), Fail> {
+    let alloc = rt.alloc();
+    for line in STRANGE {
+        let text = format!(in alloc; "{WRITE} / {line}")?;
+        let file = file_of(alloc, text.as_str())?;
+        check_end(&rt, alloc, file.as_bytes(), Ok(false), "bad at 7\n");
+        let file = file_of(alloc, line)?;
+        check_end(&rt, alloc, file.as_bytes(), Ok(false), "bad at 1\n");
+    }
+    // Any bytes may be published.
+    let text = format!(in alloc; "{WRITE} / publish 2 {SHORT}FF x0102 + {SHORT}00 -")?;
+    let file = file_of(alloc, text.as_str())?;
+    check_end(&rt, alloc, file.as_bytes(), Ok(true), "legal\n");
+    Ok(())
+}
+
+/// Files, how their check ends, and what it writes.
+const ENDS: [(&[u8], Result<bool, RunFault>, &str); 19] = [
+    (b"", Err(RunFault::BadLine(1)), ""),
+    (b"\n", Err(RunFault::BadLine(1)), ""),
+    (b"# a comment\n", Err(RunFault::BadLine(1)), ""),
+    (b"fetch 1 1 1 ok\n", Err(RunFault::BadLine(1)), ""),
+    (b"config 8 1 1 0 0 2 4 4 8", Err(RunFault::BadLine(1)), ""),
+    (b"config 8 1 1 0 0 2 4 4\n", Err(RunFault::BadLine(1)), ""),
+    // No entry at all.
+    (b"config 8 1 1 0 0 2 4 4 8\n", Ok(true), "legal\n"),
+    (b"config2 8 1 1 0 0 2 4 4 8 1\n", Ok(true), "legal\n"),
+    (
+        b"config2 8 1 1 0 0 2 4 4 8 2\n",
+        Err(RunFault::BadLine(1)),
+        "",
+    ),
+    (
+        b"config2 8 1 1 0 0 2 4 4 8 3\n",
+        Err(RunFault::BadConfig(30)),
+        "",
+    ),
+    (
+        b"config 8 3 1 2 0 2 4 4 8\n",
+        Err(RunFault::BadConfig(23)),
+        "",
+    ),
+    // The first line is answered first.
+    (
+        b"config 8 3 1 2 0 2 4 4 8\nreap 01\n",
+        Err(RunFault::BadConfig(23)),
+        "",
+    ),
+    // What a script without a step that is accepted prints.
+    (
+        b"config 8 1 1 0 0 2 4 4 8\nrefused 9\n",
+        Err(RunFault::BadLine(2)),
+        "",
+    ),
+    (
+        b"config 8 1 1 0 0 2 4 4 8\nfetch 1 1 1 ok\n",
+        Ok(false),
+        "bad at 1\n",
+    ),
+    // A bad line is answered before a bad place.
+    (
+        b"config 8 1 1 0 0 2 4 4 8\nfetch 1 1 1 ok\nfetch 1 1 1 ok\n\n",
+        Err(RunFault::BadLine(4)),
+        "",
+    ),
+    (
+        b"config 8 1 1 0 0 2 4 4 8\nfetch 1 1 1 ok\n\nfetch 1\n",
+        Err(RunFault::BadLine(3)),
+        "",
+    ),
+    // No line feed.
+    (
+        b"config 8 1 1 0 0 2 4 4 8\nfetch 1 1 1 ok",
+        Err(RunFault::BadLine(2)),
+        "",
+    ),
+    (
+        b"config 8 1 1 0 0 2 4 4 8\nfetch 1 1 1 ok\n ",
+        Err(RunFault::BadLine(3)),
+        "",
+    ),
+    (
+        b"config 8 1 1 0 0 2 4 4 8\n\xff\x00\n",
+        Err(RunFault::BadLine(2)),
+        "",
+    ),
+];
+
+#[test]
+fn checks_end_as_their_lines_say(rt: HostRuntime) {
+    for (file, answer, output) in ENDS {
+        check_end(&rt, rt.alloc(), file, answer, output);
+    }
+}
+
+#[test]
+fn a_history_cut_anywhere_ends_there(rt: HostRuntime) -> Result<(), Fail> {
+    let file = file_of(rt.alloc(), WRITE)?;
+    let file = file.as_bytes();
+    for length in 0..=file.len() {
+        let cut = file.get(..length).unwrap_or(file);
+        let feeds = cut.iter().filter(|byte| **byte == b'\n').count() as u64;
+        if length > 0 && cut.ends_with(b"\n") {
+            check_end(&rt, rt.alloc(), cut, Ok(true), "legal\n");
+        } else {
+            let line = feeds.saturating_add(1);
+            check_end(&rt, rt.alloc(), cut, Err(RunFault::BadLine(line)), "");
+        }
+    }
+    Ok(())
+}
