@@ -6,7 +6,7 @@ use std::test::Fail;
 
 /// Pairs, Reads and Compares of two units, over and over: each turn has 37 entries or 38.
 const TURN: &str =
-    " / publish 1 compare 1 7 3 0 D4 + write 2 8 3 0 D4 / publish 2 write 0 9 0 3 A1.B2.C3.D4 / fetch 1 / fetch 2 / settle / reap 1 / reap 1 / reap 2 / publish 1 read 0 9 0 3 - + compare 0 7 0 3 A1.B2.C3.D4 / fetch 1 / fetch 1 / settle / reap 1 / reap 1";
+    " / publish 1 compare 1 7 3 0 EE + write 2 8 3 0 EE / publish 2 write 0 9 0 3 A1.FF.BB.EE / fetch 1 / fetch 2 / settle / reap 1 / reap 1 / reap 2 / publish 1 read 0 9 0 3 - + compare 0 7 0 3 A1.FF.BB.EE / fetch 1 / fetch 1 / settle / reap 1 / reap 1";
 
 const TURNS: usize = 55;
 

@@ -27,7 +27,7 @@ const EDITED: [&str; 10] = [
     // Two submission queues on it.
     "config2 8 1 1 0 0 2 4 2 8 1 / publish 1 write 0 1 0 0 A1 / publish 2 write 0 1 1 0 A1 / publish 1 write 0 2 2 0 A1 / fetch 1 / fetch 2 / fetch 1 / grant 1 / block 1 / grant 2 / block 2 / grant 3 / block 3 / post 1 / post 2 / reap 1 / post 2 / reap 1 / post 3 / reap 1",
     // Write Zeroes over two blocks of four, a Compare of all, and a Read.
-    "publish 1 write 0 1 0 3 A1.B2.C3.D4 / fetch 1 / settle / reap 1 / publish 1 zeroes 0 2 1 1 - + compare 0 3 0 3 A1.00.00.D4 / fetch 1 / fetch 1 / settle / reap 1 / reap 1 / publish 1 read 0 4 0 3 - / fetch 1 / settle / reap 1",
+    "publish 1 write 0 1 0 3 A1.FF.BB.EE / fetch 1 / settle / reap 1 / publish 1 zeroes 0 2 1 1 - + compare 0 3 0 3 A1.00.00.EE / fetch 1 / fetch 1 / settle / reap 1 / reap 1 / publish 1 read 0 4 0 3 - / fetch 1 / settle / reap 1",
 ];
 
 /// Further runs.
