@@ -101,7 +101,10 @@ fn overlap(range: Range, other: Range) -> bool
 {
     let start = u128::from(range.slba);
     let second = u128::from(other.slba);
-    start < second + u128::from(other.blocks) && second < start + u128::from(range.blocks)
+    range.blocks != 0
+        && other.blocks != 0
+        && start < second + u128::from(other.blocks)
+        && second < start + u128::from(range.blocks)
 }
 
 // Whether two units may not be open at once.

@@ -15,7 +15,7 @@ use Rattle.nvme_model.specs.Array.{has_block}
 use Rattle.nvme_model.specs.Steps.{marked, word, compared}
 use Rattle.nvme_model.specs.Legal.{IsLegal}
 use Rattle.nvme_model.specs.Laws.{MarkedRight}
-use Rattle.nvme_model.proofs.Words.{WordsRight}
+use Rattle.nvme_model.specs.Kept.{WordsRight}
 use Rattle.nvme_model.specs.declared.array.Range.{Range}
 use Rattle.nvme_model.specs.declared.operation.Op.{Op}
 use Rattle.nvme_model.specs.declared.operation.Found.{Found}

@@ -16,7 +16,7 @@ use Rattle.nvme_model.specs.Refusals.{refusal, next_unit}
 use Rattle.nvme_model.specs.Steps.{marked, word, due, block_entry, grant_entry, post_entry, reap_entry, next_entry, after, after_by, run}
 use Rattle.nvme_model.specs.Legal.{IsLegal, may_follow, block_fits}
 use Rattle.nvme_model.specs.Laws.{MarkedRight, is_held}
-use Rattle.nvme_model.proofs.Words.{WordsRight}
+use Rattle.nvme_model.specs.Kept.{Kept, WordsRight}
 use Rattle.nvme_model.specs.declared.array.Range.{Range}
 use Rattle.nvme_model.specs.declared.entry.GrantLine.{GrantLine}
 use Rattle.nvme_model.specs.declared.operation.Found.{Found}
@@ -33,11 +33,6 @@ use Rattle.nvme_model.proofs.NextBlock.{block_follows, line}
 use Rattle.nvme_model.proofs.NextPost.{post_follows}
 use Rattle.nvme_model.proofs.Written.{clash}
 use Rattle.nvme_model.proofs.Medium.{medium_is_value}
-
-pub record Kept (c : ConfigNumbers) (past : Past) : Type 0 where
-  pub legal : IsLegal c past
-  pub marks : MarkedRight past
-  pub words : WordsRight past
 
 block_kept : (c : ConfigNumbers) (past : Past) (t : ℕ) → Kept c past → (o : Option GrantLine) → find (λ g. eqb g.ticket t) (open_units past) ≡ o
     → may_follow c past (block_entry past t o) ≡ true → Kept c (block_entry past t o ∷ past)
@@ -59,7 +54,7 @@ block_kept c past t h (Some g) e f =
 plain_kept : (c : ConfigNumbers) (past : Past) (e : Entry) → (MarkedRight past → MarkedRight (e ∷ past)) → (WordsRight past → WordsRight (e ∷ past)) → Kept c past → may_follow c past e ≡ true → Kept c (e ∷ past)
 plain_kept c past e m w h f = record { legal = and_from _ _ h.legal f; marks = m h.marks; words = w h.words }
 
-step_kept : (c : ConfigNumbers) (past : Past) (step : Step) → Kept c past → is_none (refusal c past step) ≡ true → Kept c (next_entry c past step ∷ past)
+pub step_kept : (c : ConfigNumbers) (past : Past) (step : Step) → Kept c past → is_none (refusal c past step) ≡ true → Kept c (next_entry c past step ∷ past)
 step_kept c past (Step.Publish q batch) h n = plain_kept c past (next_entry c past (Step.Publish q batch)) (λ m. m) (λ w. w) h (publish_follows c past q batch n)
 step_kept c past (Step.Fetch q) h n = plain_kept c past (next_entry c past (Step.Fetch q)) (λ m. m) (λ w. w) h (fetch_follows c past q n)
 step_kept c past (Step.Grant t) h n = by_unit (next_unit c past t) (grant_follows c past t n)
@@ -90,11 +85,15 @@ pub run_kept : (c : ConfigNumbers) (past : Past) (steps : List Step) → Kept c 
 run_kept c past [] h = h
 run_kept c past (step ∷ steps) h = run_kept c (after c past step) steps (after_kept c past step h)
 
+-- a history without an entry
+pub none_kept : (c : ConfigNumbers) → Kept c []
+none_kept c = record { legal = refl; marks = tt; words = tt }
+
 pub every_run_legal : (c : ConfigNumbers) (steps : List Step) → IsLegal c (run c [] steps)
-every_run_legal c steps = (run_kept c [] steps (record { legal = refl; marks = tt; words = tt })).legal
+every_run_legal c steps = (run_kept c [] steps (none_kept c)).legal
 
 -- and its volume is the value, where no open Exclusive unit has the block
 pub every_run_volume : (c : ConfigNumbers) (steps : List Step) (l : ℕ) → is_held (run c [] steps) l ≡ false → medium (run c [] steps) l ≡ value (run c [] steps) l
 every_run_volume c steps l e =
-    let h = run_kept c [] steps (record { legal = refl; marks = tt; words = tt }) in
+    let h = run_kept c [] steps (none_kept c) in
     medium_is_value c (run c [] steps) l h.legal h.marks e

@@ -58,7 +58,7 @@ has_high r l h = ltb-true l (r.slba + r.blocks) (and_parts (nat_le r.slba l) _ h
 
 both_overlap : (r s : Range) (l : ℕ) → has_block r l ≡ true → has_block s l ≡ true → overlap r s ≡ true
 both_overlap r s l h k =
-    and_from _ _ (lt-ltb r.slba (s.slba + s.blocks) (omega (arith, has_low r l h, has_high s l k))) (lt-ltb s.slba (r.slba + r.blocks) (omega (arith, has_low s l k, has_high r l h)))
+    and_from _ _ (and_from _ _ (lt-ltb 0 r.blocks (omega (arith, has_low r l h, has_high r l h))) (lt-ltb 0 s.blocks (omega (arith, has_low s l k, has_high s l k)))) (and_from _ _ (lt-ltb r.slba (s.slba + s.blocks) (omega (arith, has_low r l h, has_high s l k))) (lt-ltb s.slba (r.slba + r.blocks) (omega (arith, has_low s l k, has_high r l h))))
 
 pub both_conflict : (x y : GrantLine) (l : ℕ) → holds l x ≡ true → has_block y.range l ≡ true → conflict x.range x.mode y.range y.mode ≡ true
 both_conflict x y l h k =

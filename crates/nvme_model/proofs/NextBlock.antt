@@ -19,7 +19,7 @@ use Rattle.nvme_model.specs.Steps.{marked, word, compared, due, block_entry, nex
 use Rattle.nvme_model.specs.Legal.{IsLegal, may_follow, block_fits}
 use Rattle.nvme_model.specs.Answered.{may_find, right_answers}
 use Rattle.nvme_model.specs.Laws.{MarkedRight}
-use Rattle.nvme_model.proofs.Words.{WordsRight}
+use Rattle.nvme_model.specs.Kept.{WordsRight}
 use Rattle.nvme_model.specs.declared.array.Range.{Range}
 use Rattle.nvme_model.specs.declared.operation.Op.{Op}
 use Rattle.nvme_model.specs.declared.operation.Found.{Found}

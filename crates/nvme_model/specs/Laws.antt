@@ -40,7 +40,8 @@ OwesToFull c past t =
     let q = completion_queue c (ticket past t).queue in
     (owes_nothing_yet c past t ≡ false) × (length (posted c past q) - reaped past q ≡ c.cq_size - 1)
 
--- p can be completion number k, from 0, of completion queue q: it is for a submission queue that uses q, and has the phase of that number
-abbrev pub IsNumber : ConfigNumbers → ℕ → ℕ → PostLine → Type 0
-IsNumber c q k p =
-    (sqhd sqid cid : ℕ) × (s : Status) × (p.cqe ≡ cqe_bytes sqhd sqid cid (phase k c.cq_size) s) × (completion_queue c sqid ≡ q)
+-- p, for submission queue sqid, can be completion number k, from 0, of completion queue q: sqid uses q, the bytes name sqid, and the phase is that
+-- of the number
+abbrev pub IsNumber : ConfigNumbers → ℕ → ℕ → ℕ → PostLine → Type 0
+IsNumber c sqid q k p =
+    (sqhd cid : ℕ) × (s : Status) × (p.cqe ≡ cqe_bytes sqhd sqid cid (phase k c.cq_size) s) × (completion_queue c sqid ≡ q)

@@ -6,7 +6,7 @@ use Rattle.nvme_model.specs.declared.config.ConfigNumbers.{ConfigNumbers}
 use Rattle.nvme_model.specs.EntryBytes.{field, two_bytes, sqe_fields, slba, blocks}
 use Rattle.nvme_model.specs.Commands.{is_write, is_compare, is_write_zeroes}
 use Rattle.nvme_model.specs.History.{Past}
-use Rattle.nvme_model.specs.Array.{has_block, zeros}
+use Rattle.nvme_model.specs.Array.{has_block, overlap, zeros}
 use Rattle.nvme_model.specs.Tickets.{ticket, posts_of}
 use Rattle.nvme_model.specs.Queues.{fetched, published}
 use Rattle.nvme_model.specs.Completions.{reaped}
@@ -14,6 +14,7 @@ use Rattle.nvme_model.specs.Value.{value}
 use Rattle.nvme_model.specs.declared.array.Range.{Range}
 use Rattle.nvme_model.specs.declared.submission.Submission.{Submission}
 use Rattle.nvme_model.specs.declared.entry.PostLine.{PostLine}
+use Rattle.nvme_model.specs.declared.entry.PublishLine.{PublishLine}
 use Rattle.nvme_model.specs.declared.entry.Entry.{Entry}
 
 -- The name of a claim: its host number and its serial, both at least 1.
@@ -95,27 +96,27 @@ abbrev pub next_number : Past → ℕ → ℕ
 next_number past t = fetched_before past t + posts_of past t
 
 -- A completion: the submission queue and the number there of the entry that it is for, and its bytes.
-pub record Reply : Type 0 where
+pub record EntryCompletion : Type 0 where
   pub queue : ℕ
   pub number : ℕ
   pub cqe : List ℕ
 
--- the reply that a Post gives
-abbrev pub reply : Past → PostLine → Reply
-reply past p = record { queue = (ticket past p.ticket).queue; number = next_number past p.ticket; cqe = p.cqe }
+-- the one that a Post gives
+abbrev pub entry_completion : Past → PostLine → EntryCompletion
+entry_completion past p = record { queue = (ticket past p.ticket).queue; number = next_number past p.ticket; cqe = p.cqe }
 
--- the replies posted to completion queue q, in order
-abbrev pub replies : ConfigNumbers → Past → ℕ → List Reply
-replies c [] q = []
-replies c (Entry.Post p ∷ past) q = replies c past q ++ (if completion_queue c (ticket past p.ticket).queue == q then reply past p ∷ [] else [])
-replies c (_ ∷ past) q = replies c past q
+-- those posted to completion queue q, in order
+abbrev pub entry_completions : ConfigNumbers → Past → ℕ → List EntryCompletion
+entry_completions c [] q = []
+entry_completions c (Entry.Post p ∷ past) q = entry_completions c past q ++ (if completion_queue c (ticket past p.ticket).queue == q then entry_completion past p ∷ [] else [])
+entry_completions c (_ ∷ past) q = entry_completions c past q
 
 -- the completion says success
 abbrev pub says_success : List ℕ → Bool
 says_success cqe = field 14 2 cqe / 2 == 0
 
 -- it says success of entry j of submission queue q
-abbrev pub is_success_of : ℕ → ℕ → Option Reply → Bool
+abbrev pub is_success_of : ℕ → ℕ → Option EntryCompletion → Bool
 is_success_of q j None = false
 is_success_of q j (Some r) = (r.queue == q) && (r.number == j) && says_success r.cqe
 
@@ -123,7 +124,7 @@ is_success_of q j (Some r) = (r.queue == q) && (r.number == j) && says_success r
 abbrev pub reaped_success : ConfigNumbers → Past → ℕ → ℕ → Bool
 reaped_success c [] q j = false
 reaped_success c (Entry.Reap r ∷ past) q j =
-    is_success_of q j (slice_get (replies c past r.queue) (reaped past r.queue)) || reaped_success c past q j
+    is_success_of q j (slice_get (entry_completions c past r.queue) (reaped past r.queue)) || reaped_success c past q j
 reaped_success c (_ ∷ past) q j = reaped_success c past q j
 
 -- this name is released, of the slot at block l
@@ -136,11 +137,11 @@ believed c past l n =
     list_any (λ s. s.claims && (s.lba == l) && same_name s.name n && reaped_success c past s.queue (suc s.number)) (swaps past)
     && not (list_any (λ s. releases s l n) (swaps past))
 
--- the entry writes in the slot area
+-- the entry writes in the slot area; an area without a block is touched by nothing
 abbrev pub touches : Range → Submission → Bool
 touches slots s =
     let e = sqe_fields s.entry in
-    (is_write e || is_write_zeroes e) && nat_lt (slba e) (slots.slba + slots.blocks) && nat_lt slots.slba (slba e + blocks e)
+    (is_write e || is_write_zeroes e) && overlap (record { slba = slba e; blocks = blocks e }) slots
 
 -- the claims and releases of slots of this area
 abbrev pub in_area : Range → List Swap → List Swap
@@ -170,11 +171,16 @@ released_right c past earlier (s ∷ later) =
     (s.claims || (believed c past s.lba s.name && not (list_any (λ w. releases w s.lba s.name) earlier) && on_its_queue c past s))
     && released_right c past (s ∷ earlier) later
 
--- Every Publish keeps the discipline of the slot area.
-abbrev pub disciplined : ConfigNumbers → Range → Past → Bool
-disciplined c slots [] = true
-disciplined c slots (Entry.Publish p ∷ past) =
+-- This Publish keeps the discipline of the slot area, where those before it did: in the area only claims and releases write, each claim has a
+-- name of its own, and each release is of a believed name.
+abbrev pub keeps_discipline : ConfigNumbers → Range → Past → PublishLine → Bool
+keeps_discipline c slots past p =
     let j = length (published past p.queue) in
     let of = in_area slots (swaps_in p.queue j p.batch) in
-    disciplined c slots past && only_swaps slots p.queue j p.batch of && fresh_names of (in_area slots (swaps past)) && released_right c past [] of
+    only_swaps slots p.queue j p.batch of && fresh_names of (in_area slots (swaps past)) && released_right c past [] of
+
+-- Every Publish does.
+abbrev pub disciplined : ConfigNumbers → Range → Past → Bool
+disciplined c slots [] = true
+disciplined c slots (Entry.Publish p ∷ past) = disciplined c slots past && keeps_discipline c slots past p
 disciplined c slots (_ ∷ past) = disciplined c slots past

@@ -19,7 +19,8 @@ ghost use Rattle.nvme_model.specs.Answered.{says_no};
 ghost use Rattle.nvme_model.specs.Refusals.{refusal};
 ghost use Rattle.nvme_model.specs.Legal.{IsLegal, IsLegalFile};
 ghost use Rattle.nvme_model.specs.FirstBad.{first_bad, IsFirstBad};
-ghost use Rattle.nvme_model.specs.Steps.{run, ready};
+ghost use Rattle.nvme_model.specs.Kept.{Kept};
+ghost use Rattle.nvme_model.specs.Steps.{after, next_entry, ready, run};
 ghost use Rattle.nvme_model.specs.Sequential.{sequential, answers, IsPosted, IsReaped};
 ghost use Rattle.nvme_model.specs.Laws.{Apart, MarkedRight, is_held, OwesToFull, IsNumber};
 ghost use Rattle.nvme_model.specs.declared.array.Range.{Range};
@@ -35,6 +36,16 @@ ghost use Rattle.nvme_model.specs.declared.step.Step.{Step};
 pub fn every_run_is_legal()
     ensures legal { (c : ConfigNumbers) (steps : List Step) → IsLegal c (run c [] steps) }
     ensures volume { (c : ConfigNumbers) (steps : List Step) (l : ℕ) → is_held (run c [] steps) l ≡ false → medium (run c [] steps) l ≡ value (run c [] steps) l }
+{}
+
+/// What this controller keeps of its history: a history without an entry has it, each step keeps it, also one that is refused, and it gives
+/// that the history is legal and its marks stand where this controller puts them.
+pub fn what_a_controller_keeps()
+    ensures begins { (c : ConfigNumbers) → Kept c [] }
+    ensures accepted { (c : ConfigNumbers) (past : Past) (step : Step) → Kept c past → refusal c past step ≡ None → Kept c (next_entry c past step ∷ past) }
+    ensures after { (c : ConfigNumbers) (past : Past) (step : Step) → Kept c past → Kept c (after c past step) }
+    ensures legal { (c : ConfigNumbers) (past : Past) → Kept c past → IsLegal c past }
+    ensures marks { (c : ConfigNumbers) (past : Past) → Kept c past → MarkedRight past }
 {}
 
 /// An array of blocks that is asked the effects alone, one at a time and each done whole, in the order of the history:
@@ -86,9 +97,11 @@ pub fn a_ticket_has_few_steps()
     ensures idle { (c : ConfigNumbers) (past : Past) (t : ℕ) → IsLegal c past → op (ticket past t) ≡ None → (grants_of past t ≡ 0) × (blocks_of past t ≡ 0) }
 {}
 
-/// The completions of a completion queue have their phases by their numbers on that queue, whichever submission queues they are for.
+/// The completions of a completion queue have their phases by their numbers on that queue, whichever submission queues they are for; each
+/// names its own ticket's submission queue, which uses that completion queue.
 pub fn completions_are_numbered()
-    ensures { (c : ConfigNumbers) (past : Past) (q k : ℕ) (p : PostLine) → IsLegal c past → slice_get (posted c past q) k ≡ Some p → IsNumber c q k p }
+    ensures { (c : ConfigNumbers) (past : Past) (q k : ℕ) (p : PostLine) → IsLegal c past → slice_get (posted c past q) k ≡ Some p →
+        IsNumber c (ticket past p.ticket).queue q k p }
 {}
 
 /// With as many completion queues as submission queues each uses the one of its own number.

@@ -25,9 +25,14 @@ or_turned false true = refl
 or_turned false false = refl
 
 -- neither range comes first
+overlap-turned : (r s : Range) → overlap r s ≡ overlap s r
+overlap-turned r s =
+    ap (λ b. b && (nat_lt r.slba (s.slba + s.blocks) && nat_lt s.slba (r.slba + r.blocks))) (and_turned (nat_lt 0 r.blocks) (nat_lt 0 s.blocks))
+    ∙ ap (λ b. (nat_lt 0 s.blocks && nat_lt 0 r.blocks) && b) (and_turned (nat_lt r.slba (s.slba + s.blocks)) (nat_lt s.slba (r.slba + r.blocks)))
+
 pub conflict-turned : (r : Range) (m : Mode) (s : Range) (n : Mode) → conflict r m s n ≡ conflict s n r m
 conflict-turned r m s n =
-    ap (λ b. b && (is_exclusive m || is_exclusive n)) (and_turned (nat_lt r.slba (s.slba + s.blocks)) (nat_lt s.slba (r.slba + r.blocks)))
+    ap (λ b. b && (is_exclusive m || is_exclusive n)) (overlap-turned r s)
     ∙ ap (λ b. overlap s r && b) (or_turned (is_exclusive m) (is_exclusive n))
 
 -- what has a block
@@ -47,24 +52,44 @@ overlap_from : (r s : Range) (l : ℕ) → has_block r l ≡ true → has_block 
 overlap_from r s l h k =
     let a : Has r l = has_parts r l h in
     let b : Has s l = has_parts s l k in
-    and_from _ _ (lt-ltb r.slba (s.slba + s.blocks) (omega (arith, a.from, b.below))) (lt-ltb s.slba (r.slba + r.blocks) (omega (arith, b.from, a.below)))
+    and_from _ _
+      (and_from _ _ (lt-ltb 0 r.blocks (omega (arith, a.from, a.below))) (lt-ltb 0 s.blocks (omega (arith, b.from, b.below))))
+      (and_from _ _ (lt-ltb r.slba (s.slba + s.blocks) (omega (arith, a.from, b.below))) (lt-ltb s.slba (r.slba + r.blocks) (omega (arith, b.from, a.below))))
 
-shared : (r s : Range) → IsRange r → IsRange s → overlap r s ≡ true → (l : ℕ) × (has_block r l ≡ true) × (has_block s l ≡ true)
-shared r s a b o =
-    let k : (nat_lt r.slba (s.slba + s.blocks) ≡ true) × (nat_lt s.slba (r.slba + r.blocks) ≡ true) = and_parts (nat_lt r.slba (s.slba + s.blocks)) (nat_lt s.slba (r.slba + r.blocks)) o in
-    let first : r.slba < s.slba + s.blocks = ltb-true r.slba (s.slba + s.blocks) k.0 in
-    let second : s.slba < r.slba + r.blocks = ltb-true s.slba (r.slba + r.blocks) k.1 in
+-- what overlapping ranges are
+record Overlaps (r s : Range) : Type 0 where
+  pub some : 0 < r.blocks
+  pub others : 0 < s.blocks
+  pub first : r.slba < s.slba + s.blocks
+  pub second : s.slba < r.slba + r.blocks
+
+overlap_parts : (r s : Range) → overlap r s ≡ true → Overlaps r s
+overlap_parts r s o =
+    let k = and_parts (nat_lt 0 r.blocks && nat_lt 0 s.blocks) (nat_lt r.slba (s.slba + s.blocks) && nat_lt s.slba (r.slba + r.blocks)) o in
+    let a = and_parts (nat_lt 0 r.blocks) (nat_lt 0 s.blocks) k.0 in
+    let b = and_parts (nat_lt r.slba (s.slba + s.blocks)) (nat_lt s.slba (r.slba + r.blocks)) k.1 in
+    record {
+      some = ltb-true 0 r.blocks a.0;
+      others = ltb-true 0 s.blocks a.1;
+      first = ltb-true r.slba (s.slba + s.blocks) b.0;
+      second = ltb-true s.slba (r.slba + r.blocks) b.1;
+    }
+
+shared : (r s : Range) → overlap r s ≡ true → (l : ℕ) × (has_block r l ≡ true) × (has_block s l ≡ true)
+shared r s o =
+    let k : Overlaps r s = overlap_parts r s o in
     elim (cases_lt r.slba s.slba) [
-      | inl e ↦ (s.slba, has_from r s.slba (omega (arith, e)) second, has_from s s.slba (omega arith) (omega (arith, b.0)))
-      | inr e ↦ (r.slba, has_from r r.slba (omega arith) (omega (arith, a.0)), has_from s r.slba e first)
+      | inl e ↦ (s.slba, has_from r s.slba (omega (arith, e)) k.second, has_from s s.slba (omega arith) (omega (arith, k.others)))
+      | inr e ↦ (r.slba, has_from r r.slba (omega arith) (omega (arith, k.some)), has_from s r.slba e k.first)
     ]
 
 -- ranges overlap where they share a block
-pub overlap_shared : (r s : Range) → IsRange r → IsRange s → (overlap r s ≡ true) ↔ ((l : ℕ) × (has_block r l ≡ true) × (has_block s l ≡ true))
-overlap_shared r s a b = (shared r s a b, λ k. overlap_from r s k.0 k.1 k.2)
+pub overlap_shared : (r s : Range) → (overlap r s ≡ true) ↔ ((l : ℕ) × (has_block r l ≡ true) × (has_block s l ≡ true))
+overlap_shared r s = (shared r s, λ k. overlap_from r s k.0 k.1 k.2)
 
 pub overlap_touching : (r s : Range) → r.slba + r.blocks ≡ s.slba → overlap r s ≡ false
-overlap_touching r s e = and_right (nat_lt r.slba (s.slba + s.blocks)) _ (le-ltb s.slba (r.slba + r.blocks) (omega (arith, e)))
+overlap_touching r s e =
+    and_right (nat_lt 0 r.blocks && nat_lt 0 s.blocks) _ (and_right (nat_lt r.slba (s.slba + s.blocks)) _ (le-ltb s.slba (r.slba + r.blocks) (omega (arith, e))))
 
 -- ---- two that are held
 

@@ -13,9 +13,12 @@ use std::cmp::Ordering;
 fn overlap(a: Range, b: Range) -> bool
     ensures value { result ≡ overlap a b }
 {
+    if a.blocks == 0 || b.blocks == 0 {
+        return false;
+    }
     match a.slba.cmp(&b.slba) {
         Ordering::Less => b.slba - a.slba < u64::from(a.blocks),
-        Ordering::Equal => a.blocks != 0 && b.blocks != 0,
+        Ordering::Equal => true,
         Ordering::Greater => a.slba - b.slba < u64::from(b.blocks),
     }
 }

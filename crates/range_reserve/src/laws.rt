@@ -18,9 +18,8 @@ pub fn reservations_are_apart()
         has_block g.range l ≡ true → has_block h.range l ≡ false }
 {}
 
-/// Ranges overlap where they share a block; ranges that only touch don't.
+/// Ranges overlap exactly where they share a block; so one without a block overlaps none, and ranges that only touch don't.
 pub fn an_overlap_is_a_shared_block()
-    ensures shared { (r s : Range) → IsRange r → IsRange s →
-        IsTrue (overlap r s) ↔ ((l : ℕ) × IsTrue (has_block r l) × IsTrue (has_block s l)) }
+    ensures shared { (r s : Range) → IsTrue (overlap r s) ↔ ((l : ℕ) × IsTrue (has_block r l) × IsTrue (has_block s l)) }
     ensures touching { (r s : Range) → r.slba + r.blocks ≡ s.slba → overlap r s ≡ false }
 {}

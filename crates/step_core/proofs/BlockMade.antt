@@ -19,7 +19,7 @@ use Rattle.nvme_model.specs.Refusals.{conditions, refusal}
 use Rattle.ticket_standing.specs.Standing.{standing}
 use Rattle.nvme_model.specs.Steps.{next_entry}
 use Rattle.nvme_model.specs.Tickets.{first_fields, in_flight, ticket}
-use Rattle.nvme_model.proofs.EveryRun.{Kept}
+use Rattle.nvme_model.specs.Kept.{Kept}
 use Rattle.ticket_standing.proofs.Opening.{block_open_beside, block_open_on}
 use Rattle.nvme_model.proofs.Rules.{none_holds}
 use Rattle.ticket_standing.proofs.Standings.{block_other}

@@ -27,7 +27,7 @@ use Rattle.nvme_model.specs.declared.step.Step.{Step}
 use Rattle.nvme_model.specs.declared.submission.Submission.{Submission}
 use Rattle.nvme_model.proofs.Checked.{TicketChecked, ticket_checked}
 use Rattle.ticket_standing.proofs.Counts.{fetched_within, taken_some, taken_within}
-use Rattle.nvme_model.proofs.EveryRun.{Kept}
+use Rattle.nvme_model.specs.Kept.{Kept}
 use Rattle.nvme_model.proofs.Holding.{open_kept}
 use Rattle.nvme_model.proofs.Lists.{Each}
 use Rattle.nvme_model.proofs.Rules.{none_holds}

@@ -18,7 +18,7 @@ use Rattle.nvme_model.specs.Refusals.{conflicts_open, has_open, next_unit, refus
 use Rattle.ticket_standing.specs.Standing.{Standing, has_run, left, on_differs, on_success, owed_by_standing, owed_running, standing, without}
 use Rattle.nvme_model.specs.Steps.{grant_entry, next_entry}
 use Rattle.nvme_model.specs.Tickets.{cids, in_flight, ticket}
-use Rattle.nvme_model.proofs.EveryRun.{Kept}
+use Rattle.nvme_model.specs.Kept.{Kept}
 use Rattle.ticket_standing.proofs.Left.{left_after, next_starts, next_unit_left}
 use Rattle.ticket_standing.proofs.Opening.{grant_open}
 use Rattle.nvme_model.proofs.Rules.{MayGrant, may_grant}

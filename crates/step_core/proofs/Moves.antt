@@ -10,7 +10,8 @@ use Rattle.nvme_model.specs.Refusals.{refusal}
 use Rattle.nvme_model.specs.Steps.{next_entry, after_by}
 use Rattle.ticket_standing.specs.Standing.{flying, standing}
 use Rattle.nvme_model.specs.Legal.{IsLegal}
-use Rattle.nvme_model.proofs.EveryRun.{Kept, after_kept}
+use Rattle.nvme_model.proofs.EveryRun.{after_kept}
+use Rattle.nvme_model.specs.Kept.{Kept}
 use Rattle.ticket_standing.proofs.Flying.{has_flying}
 use Rattle.job_table.specs.Jobs.{jobs_by, job_of, replaced}
 use Rattle.job_table.proofs.Tables.{jobs_by_agree, replaced-jobs_by_agree, job_of-jobs_by}

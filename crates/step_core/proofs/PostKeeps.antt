@@ -22,7 +22,7 @@ use Rattle.nvme_model.specs.Verdict.{taken}
 use Rattle.nvme_model.proofs.Rules.{none_holds}
 use Rattle.nvme_model.specs.Steps.{next_entry, post_entry}
 use Rattle.ticket_standing.specs.Standing.{standing, still_owed}
-use Rattle.nvme_model.proofs.EveryRun.{Kept}
+use Rattle.nvme_model.specs.Kept.{Kept}
 use Rattle.nvme_model.proofs.NextPost.{commands_few, not_flying}
 use Rattle.ticket_standing.proofs.Owing.{next_owed}
 use Rattle.range_reserve.specs.declared.held.Held.{Held}

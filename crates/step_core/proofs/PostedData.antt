@@ -20,7 +20,7 @@ use Rattle.nvme_model.specs.Answered.{no_at, says_no}
 use Rattle.nvme_model.specs.Value.{all_equal, value}
 use Rattle.nvme_model.specs.Owed.{all_done, all_ended, completion_data, numbered, owed, owed_after, owed_by, read_data_by, some_no}
 use Rattle.ticket_standing.specs.Standing.{OpenUnit, bytes_read, had, open_unit, standing}
-use Rattle.nvme_model.proofs.EveryRun.{Kept}
+use Rattle.nvme_model.specs.Kept.{Kept}
 use Rattle.nvme_model.proofs.Apart.{fetched_if}
 use Rattle.ticket_standing.proofs.Owing.{has_run_is, no_is_differed}
 use Rattle.ticket_standing.proofs.ReadPlace.{read_length, read_placed, rest_of}

@@ -17,7 +17,7 @@ use Rattle.nvme_model.specs.Refusals.{no_queue, owes_nothing_yet, refusal}
 use Rattle.ticket_standing.specs.Standing.{standing, still_owed}
 use Rattle.nvme_model.specs.Legal.{IsLegal}
 use Rattle.nvme_model.specs.EntryBytes.{sqe_fields}
-use Rattle.nvme_model.proofs.EveryRun.{Kept}
+use Rattle.nvme_model.specs.Kept.{Kept}
 use Rattle.nvme_model.proofs.Rules.{follows, none_holds}
 use Rattle.ticket_standing.proofs.Owing.{has_next, next_owed}
 use Rattle.job_table.specs.declared.job.Job.{Job}

@@ -11,7 +11,7 @@ use Rattle.nvme_model.specs.History.{Past}
 use Rattle.nvme_model.specs.Queues.{fetched, published, waiting}
 use Rattle.nvme_model.specs.Refusals.{conditions, refusal}
 use Rattle.nvme_model.specs.Tables.{first_row}
-use Rattle.nvme_model.proofs.EveryRun.{Kept}
+use Rattle.nvme_model.specs.Kept.{Kept}
 use Rattle.nvme_model.proofs.Rules.{none_holds}
 use Rattle.ticket_standing.proofs.Waiting.{publish_waits}
 use Rattle.range_reserve.specs.declared.held.Held.{Held}

@@ -13,7 +13,7 @@ use Rattle.nvme_model.specs.Completions.{posted, reaped}
 use Rattle.nvme_model.specs.History.{Past}
 use Rattle.nvme_model.specs.Refusals.{conditions, refusal}
 use Rattle.nvme_model.specs.Steps.{next_entry, reap_entry}
-use Rattle.nvme_model.proofs.EveryRun.{Kept}
+use Rattle.nvme_model.specs.Kept.{Kept}
 use Rattle.nvme_model.proofs.Rules.{none_holds}
 use Rattle.nvme_model.proofs.Runs.{reaped_posted, some_at}
 use Rattle.ticket_standing.proofs.Waiting.{reap_waits}

@@ -3,7 +3,7 @@ use Rattle.std.proofs.Common.{◌≡◌, List, [], ◌∷◌, ◌++◌, Result, 
 use mathlib.Core.List.{reverse}
 use Rattle.std.proofs.lemmas.List.{reverse-append}
 use Rattle.nvme_model.specs.declared.step.Step.{Step}
-use Rattle.nvme_model.proofs.EveryRun.{Kept}
+use Rattle.nvme_model.specs.Kept.{Kept}
 use Rattle.step_core.specs.declared.answer.Answer.{Answer}
 use Rattle.step_core.specs.declared.answer.Refused.{Refused}
 use Rattle.step_core.specs.Runs.{Runs, RunsOnto}

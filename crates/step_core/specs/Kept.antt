@@ -12,7 +12,7 @@ use Rattle.nvme_model.specs.Medium.{medium}
 use Rattle.nvme_model.specs.Open.{open_units}
 use Rattle.nvme_model.specs.Tickets.{in_flight, posts_of, ticket, tickets}
 use Rattle.nvme_model.specs.declared.config.ConfigNumbers.{ConfigNumbers}
-use Rattle.nvme_model.proofs.EveryRun.{Kept}
+use Rattle.nvme_model.specs.Kept.{Kept}
 use Rattle.range_reserve.specs.Reserved.{held_of}
 use Rattle.range_reserve.specs.declared.held.Held.{Held}
 use Rattle.rings.specs.Completions.{CompletionRing}
