@@ -16,7 +16,7 @@ KeptBy x = Kept x.config x.past
 
 -- after a step it is so again
 pub kept_served : (old new : State) (step : Step) (r : Result Answer Refused) → KeptBy old → Serves old step r new → KeptBy new
-kept_served old new step (Ok a) k s = subst KeptBy (sym s.2) (stepped old.config old.past step k s.0)
+kept_served old new step (Ok a) k s = subst KeptBy (sym s.1) (stepped old.config old.past step k s.0.0)
 kept_served old new step (Err r) k s = subst KeptBy (sym s.1) k
 
 -- and after many

@@ -100,11 +100,18 @@ KeepsPromise x (Step.Block t) = refusal x.config x.past (Step.Block t) ≡ None 
 KeepsPromise x (Step.Reap q) = refusal x.config x.past (Step.Reap q) ≡ None → x.promised ≡ 0
 KeepsPromise x _ = Unit {0}
 
--- The step is accepted where nothing refuses it; it then adds its entry, and the answer is what that says.
--- Else the first refusal that holds is answered, or want of memory where none does; and nothing has changed.
+-- a step that is accepted behind this history: nothing refuses it, this is the entry that it adds, and the answer is what that says
+abbrev pub Accepts : ConfigNumbers → Past → Step → Entry → Answer → Type 0
+Accepts c past step e a = (refusal c past step ≡ None) × (e ≡ next_entry c past step) × (a ≡ answer_of c past e)
+
+-- one that is refused: the first refusal that holds is answered, or want of memory where none does
+abbrev pub Refuses : ConfigNumbers → Past → Step → Refused → Type 0
+Refuses c past step r = r ≡ refused_as step (unwrap_or (refusal c past step) Why.NoMemory)
+
+-- A step is accepted, and then adds its entry; or it is refused, and nothing has changed.
 abbrev pub Serves : State → Step → Result Answer Refused → State → Type 0
-Serves old step (Ok a) new = (refusal old.config old.past step ≡ None) × (a ≡ answer_of old.config old.past (next_entry old.config old.past step)) × (new ≡ after old step)
-Serves old step (Err r) new = (r ≡ refused_as step (unwrap_or (refusal old.config old.past step) Why.NoMemory)) × (new ≡ old) × KeepsPromise old step
+Serves old step (Ok a) new = Accepts old.config old.past step (next_entry old.config old.past step) a × (new ≡ after old step)
+Serves old step (Err r) new = Refuses old.config old.past step r × (new ≡ old) × KeepsPromise old step
 
 -- the same of a step whose refusal hands nothing back
 abbrev pub Does : State → Step → Result Answer Why → State → Type 0

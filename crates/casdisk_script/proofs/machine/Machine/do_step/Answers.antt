@@ -6,12 +6,12 @@ use Rattle.casdisk_script.proofs.machine.Machine.do_step.Goals as goal
 pub returns-in-Ok-clause-done : goal.returns-in-Ok-clause-done
 returns-in-Ok-clause-done g c =
     let s = c.in-Ok.ensures.serves in
-    rw c.tell_entry.ensures.same.0 (made_done c.args.self.now.kinds.0 c.args.self.now.core c.step.new.self c.args.step _ _ c.tell_entry.result s.0 s.2 c.tell_entry.ensures.told)
+    rw c.tell_entry.ensures.same.0 (made_done c.args.self.now.kinds.0 c.args.self.now.core c.step.new.self c.args.step _ _ c.tell_entry.result s.0.0 s.1 c.tell_entry.ensures.told)
 
 pub returns-in-Ok-clause-stopped : goal.returns-in-Ok-clause-stopped
 returns-in-Ok-clause-stopped g c =
     let s = c.in-Ok.ensures.serves in
-    made_stopped c.args.self.now.kinds.0 c.args.self.now.core c.step.new.self c.args.step _ _ c.tell_entry.result s.0 s.2 c.tell_entry.ensures.stopped
+    made_stopped c.args.self.now.kinds.0 c.args.self.now.core c.step.new.self c.args.step _ _ c.tell_entry.result s.0.0 s.1 c.tell_entry.ensures.stopped
 
 pub returns-clause-done : goal.returns-clause-done
 returns-clause-done g c =
