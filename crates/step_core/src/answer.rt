@@ -18,7 +18,7 @@ pub enum Answer {
     /// The completion queue entry.
     Posted([u8; 16]),
     /// The completion queue entry, and what a successful Read read.
-    Reaped([u8; 16], Payload),
+    Reaped { cqe: [u8; 16], payload: Payload },
 }
 
 /// Why a step is refused; a refused Publish hands its batch back.

@@ -160,7 +160,7 @@ pub fn settle(core: &mut Core) -> usize {
 
 /// Bytes 8 to 15 of the next completion of a queue, and its data.
 pub fn reap(core: &mut Core, queue: u16) -> Result<([u8; 8], Payload), Fail> {
-    let Ok(Answer::Reaped(cqe, payload)) = core.step(Step::Reap(queue)) else {
+    let Ok(Answer::Reaped { cqe, payload }) = core.step(Step::Reap(queue)) else {
         return Err(Fail::from("nothing is reaped"));
     };
     let mut tail = [0; 8];

@@ -40,6 +40,6 @@ impl Core {
         let Completion { cqe, payload } = completion;
         self.history
             .push_reserved(Entry::Reap(ReapLine { queue, cqe }));
-        Ok(Answer::Reaped(cqe, payload))
+        Ok(Answer::Reaped { cqe, payload })
     }
 }
