@@ -1,6 +1,8 @@
 //! The controller: its fields, and how a step reads and changes them.
 
 ghost use Rattle.std.specs.Prelude.{◌≡◌, ◌≤◌, ◌<◌, ◌+◌, ◌-◌, [], None, Some, IfErr, IfNone, IfOk, IfSome, MatchOption, OnErr, OnOk, false, max, replicate, true};
+ghost use Rattle.nvme_model.specs.Kept.{Kept};
+ghost use Rattle.nvme_model.specs.Legal.{IsLegal};
 ghost use Rattle.nvme_model.specs.Medium.{medium};
 ghost use Rattle.nvme_model.specs.Refusals.{no_completion_queue, no_queue};
 ghost use Rattle.nvme_model.specs.Tickets.{in_flight};
@@ -85,6 +87,7 @@ impl Core {
     /// `NoMemory` where a growth is refused.
     pub fn new(alloc: Global, config: Config) -> Result<Core, NoMemory>
         ensures ok { IfOk result (λ core. core ≡ record { config = config; past = []; promised = 0 }) }
+        ensures kept { IfOk result (λ core. Kept core.config core.past) }
     {
         let numbers = config.numbers();
         Ok(Core {
@@ -127,6 +130,7 @@ impl Core {
     pub fn reserve(&mut self, more: usize) -> Result<(), NoMemory>
         ensures ok { OnOk result (self.new ≡ record self.old { promised = max self.old.promised more }) }
         ensures err { OnErr result (self.new ≡ self.old) }
+        ensures kept { Kept self.new.config self.new.past }
     {
         let count = self.promised.max(more);
         self.history.reserve(count)?;
@@ -138,6 +142,8 @@ impl Core {
     /// The entries of all accepted steps, the oldest first.
     pub fn history(&self) -> &History
         ensures past { result.now.past ≡ self.now.past }
+        ensures legal { IsLegal self.now.config self.now.past }
+        ensures kept { Kept self.now.config self.now.past }
     {
         &self.history
     }
