@@ -1,0 +1,12 @@
+pub mod Places
+pub mod Beginnings
+pub mod Owners
+pub mod Views
+pub mod Taking
+pub mod Giving
+pub mod Numbering
+pub mod Ends
+pub mod Telling
+pub mod Lading
+pub mod Told
+pub mod OneAtATime

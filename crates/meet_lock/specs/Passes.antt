@@ -1,0 +1,175 @@
+-- What contracts say of passes and of the seats that messages carry.
+use Rattle.std.specs.Prelude.{List, Ok, Option, Err, Result, Some, [], false, length, slice_get, ℕ, ◌+◌, ◌≡◌, ◌∷◌}
+use Rattle.atomic_table.specs.Seated.{TableId}
+use Rattle.atomic_table.specs.Table.{Me}
+use Rattle.nvme_model.specs.History.{Past}
+use Rattle.nvme_model.specs.Passes.{IsBeginning, SharedPast, entries, places}
+use Rattle.nvme_model.specs.declared.config.ConfigNumbers.{ConfigNumbers}
+use Rattle.nvme_model.specs.declared.entry.Entry.{Entry}
+use Rattle.nvme_model.specs.declared.step.Step.{Step}
+use Rattle.step_core.specs.declared.answer.Answer.{Answer}
+use Rattle.step_core.specs.declared.answer.Refused.{Refused}
+use Rattle.meet_lock.specs.Lock.{noted, unmade}
+use Rattle.ticket_entries.specs.Entries.{ticket_in}
+use Rattle.meet_lock.specs.declared.pass.Declined.{Declined}
+use Rattle.meet_lock.specs.declared.pass.Pass.{Pass}
+use Rattle.meet_lock.specs.declared.seats.NoteSeat.{NoteSeat}
+use Rattle.meet_lock.specs.declared.seats.TicketSeat.{TicketSeat}
+use Rattle.meet_lock.specs.declared.shared.Shared.{Shared}
+use Rattle.meet_lock.specs.declared.view.View.{View}
+
+-- the lock was got
+abbrev pub IsNotBusy : {A : Type 0} → Result A Declined → Type 0
+IsNotBusy (Ok a) = Unit {0}
+IsNotBusy (Err (Declined.Busy s)) = ⊥
+IsNotBusy (Err (Declined.Refused r)) = Unit {0}
+
+-- the view of the first seat before any number was given out
+abbrev pub IsFirst : ℕ → View → Type 0
+IsFirst passes v =
+    (v.number ≡ passes) × (v.passes ≡ passes) × (v.top ≡ 0) × (v.holds ≡ false) × (v.ticket ≡ 0) × (v.its ≡ [])
+
+module _ {M : Type 0} where
+  -- the beginning of the history that the pass has seen, the newest entry first
+  abbrev pub seen : Pass M → SharedPast
+  seen p = p.seat.me.0.seen
+
+  -- its number, from 1, and how many passes there are
+  abbrev pub number : Pass M → ℕ
+  number p = p.seat.me.0.number
+
+  abbrev pub passes_of : Pass M → ℕ
+  passes_of p = p.seat.me.0.passes
+
+  -- the places of its own entries, the last first
+  abbrev pub mine : Pass M → List ℕ
+  mine p = places (number p) (seen p)
+
+  -- how the machine is configured
+  abbrev pub config_of : Pass M → ConfigNumbers
+  config_of p = p.seat.me.0.config
+
+  abbrev pub IsSame : Pass M → Pass M → Type 0
+  IsSame p q =
+      (q.seat.table_id ≡ p.seat.table_id)
+      × (number q ≡ number p)
+      × (passes_of q ≡ passes_of p)
+      × (config_of q ≡ config_of p)
+
+  -- what q has seen is legal, and begins with what p had seen
+  abbrev pub Knows : (ConfigNumbers → Past → Type 0) → Pass M → Pass M → Type 0
+  Knows legal p q = legal (config_of q) (entries (seen q)) × IsBeginning (seen p) (seen q)
+
+  -- After an accepted step what was seen ends with this step's entry, whose place is the one addition to `mine`.
+  pub record Accepted (accepts : ConfigNumbers → Past → Step → Entry → Answer → Type 0) (p q : Pass M) (step : Step)
+      (a : Answer) : Type 0 where
+    pub before : SharedPast
+    pub entry : Entry
+    pub ends : seen q ≡ noted (number p) entry ∷ before
+    pub adds : mine q ≡ length (seen q) ∷ mine p
+    pub says : accepts (config_of p) (entries before) step entry a
+
+  -- Where another caller held the lock nothing has changed, and the step comes back. A refusal is the machine's at what
+  -- was seen.
+  abbrev pub Declines : (ConfigNumbers → Past → Step → Refused → Type 0) → Pass M → Pass M → Step → Declined → Type 0
+  Declines refuses p q step (Declined.Busy s) = (s ≡ step) × (seen q ≡ seen p) × (mine q ≡ mine p)
+  Declines refuses p q step (Declined.Refused r) = (mine q ≡ mine p) × refuses (config_of p) (entries (seen q)) step r
+
+  -- Both have seen the same legal history. It begins with what each had seen, and `mine` stays.
+  pub record Met (legal : ConfigNumbers → Past → Type 0) (p1 p2 q1 q2 : Pass M) : Type 0 where
+    pub same : seen q1 ≡ seen q2
+    pub right : legal (config_of q1) (entries (seen q1))
+    pub both : legal (config_of q2) (entries (seen q2))
+    pub first : IsBeginning (seen p1) (seen q1)
+    pub second : IsBeginning (seen p2) (seen q2)
+
+  -- ---- passes that are given out
+
+  -- of the n-th pass: it has seen the machine's history, and has made none of it
+  abbrev pub IsNew : ℕ → ConfigNumbers → Past → ℕ → Pass M → Type 0
+  IsNew passes c past n p =
+      (number p ≡ n) × (passes_of p ≡ passes) × (config_of p ≡ c) × (seen p ≡ unmade past) × (mine p ≡ [])
+
+  -- and while they are given out
+  abbrev pub Deals : ℕ → View → Me (Option M) View → Type 0
+  Deals passes v m =
+      (m.1 ≡ [])
+      × (m.0.number ≡ passes)
+      × (m.0.passes ≡ passes)
+      × (m.0.holds ≡ false)
+      × (m.0.seen ≡ v.seen)
+      × (m.0.config ≡ v.config)
+      × (m.0.ticket ≡ 0)
+      × (m.0.its ≡ [])
+
+  -- the k-th pass has the number k + 1, and the view of the first seat else
+  abbrev pub AllNew : TableId → View → List (Pass M) → Type 0
+  AllNew z v ps = (k : ℕ) (p : Pass M) → slice_get ps k ≡ Some p
+      → (p.seat.table_id ≡ z)
+      × (number p ≡ k + 1)
+      × (passes_of p ≡ v.passes)
+      × (config_of p ≡ v.config)
+      × (seen p ≡ v.seen)
+
+  -- ---- the seats of messages
+
+  -- what a message has seen
+  abbrev pub told : NoteSeat M → SharedPast
+  told m = m.seat.me.0.seen
+
+  abbrev pub told_config : NoteSeat M → ConfigNumbers
+  told_config m = m.seat.me.0.config
+
+  -- the ticket that it owns, or 0, that ticket's entries, and what it has seen
+  abbrev pub owned_ticket : TicketSeat M → ℕ
+  owned_ticket w = w.seat.me.0.ticket
+
+  abbrev pub its : TicketSeat M → Past
+  its w = w.seat.me.0.its
+
+  abbrev pub ticket_seen : TicketSeat M → SharedPast
+  ticket_seen w = w.seat.me.0.seen
+
+  abbrev pub ticket_config : TicketSeat M → ConfigNumbers
+  ticket_config w = w.seat.me.0.config
+
+  -- After an accepted step of an owned ticket: its entry is one more of the ticket's.
+  pub record Worked (accepts : ConfigNumbers → Past → Step → Entry → Answer → Type 0) (p q : Pass M)
+      (w v : TicketSeat M) (step : Step) (a : Answer) : Type 0 where
+    pub by : Accepted accepts p q step a
+    pub more : its v ≡ by.entry ∷ its w
+
+  -- After a step the pass has also seen what the seat had, and the seat what the pass has; where another caller held
+  -- the lock the seat is as it was.
+  abbrev pub Learned : Pass M → TicketSeat M → TicketSeat M → Type 0
+  Learned q w v =
+      IsBeginning (ticket_seen w) (seen q)
+      × (ticket_seen v ≡ seen q)
+      × (ticket_config w ≡ config_of q)
+      × (ticket_config v ≡ config_of q)
+
+  abbrev pub Saw : {A : Type 0} → Pass M → TicketSeat M → TicketSeat M → Result A Declined → Type 0
+  Saw q w v (Ok a) = Learned q w v
+  Saw q w v (Err (Declined.Busy s)) = (ticket_seen v ≡ ticket_seen w) × (ticket_config v ≡ ticket_config w)
+  Saw q w v (Err (Declined.Refused r)) = Learned q w v
+
+module _ {M K : Type 0} where
+  abbrev pub IsOf : Shared M K → Pass M → Type 0
+  IsOf s p = p.seat.table_id ≡ s.table.shared.table_id
+
+  abbrev pub IsNoteOf : Shared M K → NoteSeat M → Type 0
+  IsNoteOf s m = m.seat.table_id ≡ s.table.shared.table_id
+
+  abbrev pub IsTicketOf : Shared M K → TicketSeat M → Type 0
+  IsTicketOf s w = w.seat.table_id ≡ s.table.shared.table_id
+
+  -- After an accepted step that names a queue: beside what `Accepted` says, the seat owns the ticket of that entry,
+  -- whose one entry it is, and has seen what the pass has.
+  pub record Opened (accepts : ConfigNumbers → Past → Step → Entry → Answer → Type 0) (s : Shared M K) (p q : Pass M)
+      (step : Step) (a : Answer) (w : TicketSeat M) : Type 0 where
+    pub by : Accepted accepts p q step a
+    pub of : IsTicketOf s w
+    pub config : ticket_config w ≡ config_of p
+    pub saw : ticket_seen w ≡ seen q
+    pub owns : owned_ticket w ≡ ticket_in by.entry
+    pub one : its w ≡ by.entry ∷ []

@@ -1,0 +1,23 @@
+//! A machine that callers share, each with a pass that knows a beginning of the one history.
+//!
+//! A step takes the lock word by one compare-exchange and never waits: where another caller has the lock, the answer is
+//! Busy.
+#![tactic(auto)]
+
+mod core_machine;
+mod laws;
+mod machine;
+mod owner;
+mod pass;
+mod plays;
+mod seats;
+mod shared;
+mod view;
+
+pub use laws::what_a_pass_has_seen;
+pub use machine::Machine;
+pub use owner::{AnyPass, StepRight, TicketOwner};
+pub use pass::{Busy, Declined, Pass};
+pub use seats::{NoteSeat, TicketSeat};
+pub use shared::Shared;
+pub use view::View;

@@ -1,0 +1,58 @@
+//! The steps on the lock word, and those that take the machine out of its slot and put it back.
+
+ghost use Rattle.std.specs.Prelude.{◌≡◌, [], ◌∷◌, MatchOption};
+ghost use Rattle.nvme_model.specs.Passes.{entries};
+ghost use Rattle.nvme_model.specs.declared.entry.Entry.{Entry};
+ghost use Rattle.meet_lock.specs.Lock.{grown, shown};
+ghost use Rattle.meet_lock.specs.SeatSteps.{IsIdle, IsSameSeat, KnowsTicket, Missed, Out, OutMore, OutSame, SawAll};
+
+use crate::machine::Machine;
+use crate::owner::StepRight;
+use crate::plays::{Leave, Take, Write};
+use crate::shared::{Place, Shared};
+
+impl<M: Machine, K: StepRight> Shared<M, K> {
+    // Takes the lock, and the machine out of its slot.
+    pub(crate) fn take(&self, seat: &mut Place<M>) -> Option<M>
+        requires own { seat.old.table_id ≡ self.now.table.shared.table_id }
+        requires idle { IsIdle seat.old.me }
+        ensures same { IsSameSeat seat.old seat.new }
+        ensures taken { MatchOption result (Missed M.config M.history M.legal seat.old.me seat.new.me)
+            (λ machine. Out M.config M.history M.legal seat.old.me.0 machine seat.new.me) }
+    {
+        let shared = &self.table.shared;
+        if shared.compare_exchange::<Take<M>>(seat, 0, 0, 1) != 0 {
+            return None;
+        }
+        shared.exchange(seat, 0, None)
+    }
+
+    // Puts the machine, which has one entry more, back into its slot, and gives the lock back.
+    pub(crate) fn give_more(&self, seat: &mut Place<M>, machine: M)
+        requires own { seat.old.table_id ≡ self.now.table.shared.table_id }
+        requires out { OutMore M.config M.history M.legal K.owned machine seat.old.me }
+        ensures same { IsSameSeat seat.old seat.new }
+        ensures more { (e : Entry) → M.history machine ≡ e ∷ entries seat.old.me.0.held
+            → seat.new.me ≡ (grown K.owned seat.old.me.0 e, []) }
+        ensures told { SawAll seat.old.me.0 }
+        ensures whole { KnowsTicket seat.new.me.0 }
+    {
+        let shared = &self.table.shared;
+        drop(shared.exchange(seat, 0, Some(machine)));
+        shared.store::<Write<M, K>>(seat, 0, 0);
+    }
+
+    // The same, where the history is as it was.
+    pub(crate) fn give_same(&self, seat: &mut Place<M>, machine: M)
+        requires own { seat.old.table_id ≡ self.now.table.shared.table_id }
+        requires out { OutSame M.config M.history M.legal machine seat.old.me }
+        ensures same { IsSameSeat seat.old seat.new }
+        ensures shown { seat.new.me ≡ (shown seat.old.me.0, []) }
+        ensures told { SawAll seat.old.me.0 }
+        ensures whole { KnowsTicket seat.new.me.0 }
+    {
+        let shared = &self.table.shared;
+        drop(shared.exchange(seat, 0, Some(machine)));
+        shared.store::<Leave<M>>(seat, 0, 0);
+    }
+}

@@ -1,0 +1,92 @@
+//! Steps where each ticket has an owner, the seat that its message carries.
+
+ghost use Rattle.std.specs.Prelude.{◌≡◌, ◌<◌, IfErr, IfOk, true};
+ghost use Rattle.nvme_model.specs.Passes.{entries};
+ghost use Rattle.ticket_entries.specs.Entries.{named_ticket, names_queue, of_ticket};
+
+use crate::machine::Machine;
+use crate::owner::TicketOwner;
+use crate::pass::{Declined, Pass};
+use crate::seats::TicketSeat;
+use crate::shared::Shared;
+use step_core::{Answer, Step};
+
+impl<M: Machine> Shared<M, TicketOwner> {
+    ghost use Rattle.meet_lock.specs.Passes.{Declines, IsNotBusy, IsOf, IsSame, IsTicketOf, Knows, Opened, Saw, Worked};
+    ghost use Rattle.meet_lock.specs.Passes.{its, owned_ticket, passes_of, seen};
+
+    /// Makes a step that names a queue. Its seat owns the ticket that the step made, if it made one.
+    ///
+    /// # Errors
+    ///
+    /// As `attempt`.
+    pub fn attempt_open(
+        &self,
+        pass: &mut Pass<M>,
+        step: Step,
+    ) -> Result<(Answer, TicketSeat<M>), Declined>
+        requires own { IsOf self.now pass.old }
+        requires open { names_queue step ≡ true }
+        ensures same { IsSame pass.old pass.new }
+        ensures knows { Knows M.legal pass.old pass.new }
+        ensures accepted { IfOk result (λ r. Opened M.accepts self.now pass.old pass.new step r.0 r.1) }
+        ensures declined { IfErr result (Declines M.refuses pass.old pass.new step) }
+        ensures alone { passes_of pass.old ≡ 1 → IsNotBusy result }
+    {
+        let Some(mut machine) = self.take(&mut pass.seat) else {
+            return Err(Declined::Busy(step));
+        };
+        match machine.step(step) {
+            Ok(a) => {
+                self.give_more(&mut pass.seat, machine);
+                let seat = self.unload(&mut pass.seat);
+                Ok((a, TicketSeat { seat }))
+            }
+            Err(r) => {
+                self.give_same(&mut pass.seat, machine);
+                Err(Declined::Refused(r))
+            }
+        }
+    }
+
+    /// Makes a step of the seat's ticket.
+    ///
+    /// # Errors
+    ///
+    /// As `attempt`.
+    pub fn attempt_work(
+        &self,
+        pass: &mut Pass<M>,
+        owner: &mut TicketSeat<M>,
+        step: Step,
+    ) -> Result<Answer, Declined>
+        requires own { IsOf self.now pass.old × IsTicketOf self.now owner.old }
+        requires task { (0 < owned_ticket owner.old) × (named_ticket step ≡ owned_ticket owner.old) }
+        ensures same { IsSame pass.old pass.new × IsTicketOf self.now owner.new
+            × (owned_ticket owner.new ≡ owned_ticket owner.old) }
+        ensures knows { Knows M.legal pass.old pass.new }
+        ensures accepted { IfOk result (Worked M.accepts pass.old pass.new owner.old owner.new step) }
+        ensures declined { IfErr result (λ d. Declines M.refuses pass.old pass.new step d × (its owner.new ≡ its owner.old)) }
+        ensures whole { IsNotBusy result → of_ticket (owned_ticket owner.new) (entries (seen pass.new)) ≡ its owner.new }
+        ensures saw { Saw pass.new owner.old owner.new result }
+        ensures alone { passes_of pass.old ≡ 1 → IsNotBusy result }
+    {
+        let Some(mut machine) = self.take(&mut pass.seat) else {
+            return Err(Declined::Busy(step));
+        };
+        let seat = self.unload(&mut owner.seat);
+        self.load(&mut pass.seat, seat);
+        match machine.step(step) {
+            Ok(a) => {
+                self.give_more(&mut pass.seat, machine);
+                owner.seat = self.unload(&mut pass.seat);
+                Ok(a)
+            }
+            Err(r) => {
+                self.give_same(&mut pass.seat, machine);
+                owner.seat = self.unload(&mut pass.seat);
+                Err(Declined::Refused(r))
+            }
+        }
+    }
+}
