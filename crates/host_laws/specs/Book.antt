@@ -1,0 +1,40 @@
+-- What a driver keeps of its entries: which one it waits for, by submission queue and CID.
+use Rattle.std.specs.Prelude.{None, Option, Some, if◌then◌else◌, ℕ, ◌&&◌, ◌==◌, ◌≡◌, ◌↔◌, ◌++◌}
+use Rattle.nvme_model.specs.Config.{completion_queue}
+use Rattle.nvme_model.specs.EntryBytes.{sqe_fields}
+use Rattle.nvme_model.specs.History.{Past}
+use Rattle.nvme_model.specs.declared.config.ConfigNumbers.{ConfigNumbers}
+use Rattle.nvme_model.specs.declared.submission.Submission.{Submission}
+use Rattle.host_laws.specs.Calls.{IsWaiting}
+
+-- the number of the entry of a submission queue that has a CID, if one is waited for
+abbrev pub Book : Type 0
+Book = ℕ → ℕ → Option ℕ
+
+-- nothing is waited for
+abbrev pub empty_book : Book
+empty_book q cid = None
+
+-- entry j of submission queue q, with this CID, is waited for from now on
+abbrev pub with_entry : Book → ℕ → ℕ → ℕ → Book
+with_entry book q cid j r i = if (r == q) && (i == cid) then Some j else book r i
+
+-- and no longer
+abbrev pub without_entry : Book → ℕ → ℕ → Book
+without_entry book q cid r i = if (r == q) && (i == cid) then None else book r i
+
+-- For the submission queues of completion queue n the book has exactly the entries whose completions aren't reaped, each under its CID.
+abbrev pub IsBook : ConfigNumbers → Past → ℕ → Book → Type 0
+IsBook c past n book = (q cid j : ℕ) → completion_queue c q ≡ n → (book q cid ≡ Some j) ↔ IsWaiting c past q cid j
+
+-- the CID of an entry
+abbrev pub cid_of : Submission → ℕ
+cid_of s = (sqe_fields s.entry).cid
+
+-- no two entries of submission queue q that wait for their completions have one CID
+abbrev pub IsApart : ConfigNumbers → Past → ℕ → Type 0
+IsApart c past q = (cid i j : ℕ) → IsWaiting c past q cid i → IsWaiting c past q cid j → i ≡ j
+
+-- nor had any at an earlier place
+abbrev pub IsAlwaysApart : ConfigNumbers → Past → ℕ → Type 0
+IsAlwaysApart c past q = (later before : Past) → later ++ before ≡ past → IsApart c before q

@@ -1,0 +1,5 @@
+pub mod Calls
+pub mod Beside
+pub mod Claims
+pub mod Book
+pub mod Discipline
