@@ -16,7 +16,7 @@ use Rattle.nvme_model.proofs.Beginnings.{earlier}
 use Rattle.host_laws.specs.Beside.{IsBeside}
 use Rattle.host_laws.specs.Book.{Book, IsBook, cid_of, with_entry, without_entry}
 use Rattle.host_laws.specs.Calls.{takes, IsFused, ReapAnswers, PairSwaps, reaped_post, status_in}
-use Rattle.host_laws.specs.Claims.{pair_on}
+use Rattle.host_laws.specs.Batches.{pair_on}
 use Rattle.host_laws.proofs.Book.{book_beside, book_found, book_pair, book_reaped, next_numbers}
 use Rattle.host_laws.proofs.Elements.{same_some}
 use Rattle.host_laws.proofs.Lifts.{fused_later, not_before}

@@ -1,10 +1,11 @@
 -- A slot from its claim to its release, by the laws alone, whatever others do in between.
-use Rattle.std.proofs.Common.{refl, ◌≡◌, ℕ, suc, ◌<◌, true, false, ◌∷◌, ◌++◌, length, ◌∙◌, Some, inr}
+use Rattle.std.proofs.Common.{refl, ◌≡◌, ℕ, suc, ◌<◌, true, false, ◌∷◌, ◌++◌, length, ap, subst, ◌∙◌, Some, inr}
 use Rattle.std.proofs.lemmas.Bool.{and_from}
 use Rattle.nvme_model.specs.Array.{has_block}
 use Rattle.nvme_model.specs.Config.{completion_queue}
 use Rattle.nvme_model.specs.History.{Past}
 use Rattle.nvme_model.specs.Legal.{IsLegal}
+use Rattle.nvme_model.specs.Passes.{SharedPast, entries, places}
 use Rattle.nvme_model.specs.Queues.{published}
 use Rattle.nvme_model.specs.Slots.{Name, Swap, believed, disciplined, holder, keeps_discipline, swaps}
 use Rattle.nvme_model.specs.Statuses.{is_success}
@@ -12,16 +13,21 @@ use Rattle.nvme_model.specs.declared.array.Range.{Range}
 use Rattle.nvme_model.specs.declared.config.ConfigNumbers.{ConfigNumbers}
 use Rattle.nvme_model.specs.declared.entry.PostLine.{PostLine}
 use Rattle.nvme_model.specs.declared.submission.Submission.{Submission}
+use Rattle.host_laws.specs.Beside.{IsSole}
 use Rattle.host_laws.specs.Book.{IsAlwaysApart}
 use Rattle.host_laws.specs.Calls.{IsProperPair, reaped_post, status_in}
-use Rattle.host_laws.specs.Claims.{IsClaim, IsRelease, IsWon, all_drawn, claim_of, is_released_on, lba_of, pair_line, pair_on, release_of}
+use Rattle.host_laws.specs.Batches.{pair_line, pair_on}
+use Rattle.host_laws.specs.Discipline.{others_keep}
+use Rattle.host_laws.specs.Claims.{IsClaim, IsRelease, IsWon, all_drawn, claim_of, claims_only_on, is_released_on, lba_of, release_of}
 use Rattle.host_laws.proofs.Beliefs.{believed_holds}
-use Rattle.host_laws.proofs.Claims.{fresh_unreleased, serial_fresh, won_believed}
+use Rattle.host_laws.proofs.Beside.{entries_append, own_beside}
+use Rattle.host_laws.proofs.Claims.{drawn_later, fresh_unreleased, serial_fresh, won_believed}
 use Rattle.host_laws.proofs.Discipline.{area_has, swaps_later}
 use Rattle.host_laws.proofs.Elements.{contains_in, in_contains}
 use Rattle.host_laws.proofs.OwnPublishes.{claim_published, release_published, released_claim, won_releases}
 use Rattle.host_laws.proofs.Publishing.{claim_keeps}
 use Rattle.host_laws.proofs.ReleaseAnswers.{release_succeeds}
+use Rattle.host_laws.proofs.Sharing.{disciplined_behind}
 use Rattle.host_laws.proofs.Successes.{reaped_is_success}
 
 -- a claim under a serial above the last keeps the discipline, and nobody has released its name
@@ -37,6 +43,20 @@ claiming c slots q last start a b n d v h l x =
       kept = and_from (disciplined c slots start) (keeps_discipline c slots start (pair_line q a b)) d (claim_keeps c slots start q a b n x.pair x.old x.new (area_has slots _ v) fresh);
       unreleased = released_claim c start q a b n (completion_queue c q) (lba_of a) n x.pair x.old x.new ∙ fresh_unreleased c slots start (completion_queue c q) (lba_of a) n d v fresh;
     }
+
+-- the same in a shared history, by pass p: others, who keep the discipline, have added `later` since what it saw, and none of its queues
+pub claiming_shared : (c : ConfigNumbers) (slots : Range) (q p m last : ℕ) (later seen : SharedPast) (a b : Submission) (n : Name) → disciplined c slots (entries seen) ≡ true
+    → others_keep c slots p ((p, pair_on q a b) ∷ (later ++ seen)) ≡ true → places p ((p, pair_on q a b) ∷ (later ++ seen)) ≡ m ∷ places p seen
+    → IsSole c (completion_queue c q) p ((p, pair_on q a b) ∷ (later ++ seen)) → claims_only_on c slots (entries (later ++ seen)) n.host (completion_queue c q) ≡ true
+    → has_block slots (lba_of a) ≡ true → all_drawn slots (entries seen) n.host last ≡ true → last < n.serial → IsClaim a b n → Claiming c slots q (entries (later ++ seen)) a b n
+claiming_shared c slots q p m last later seen a b n d o e s u v h l x =
+    let kept = disciplined_behind c slots p m (pair_on q a b) later seen o e d in
+    let beside = own_beside c (completion_queue c q) p m (pair_on q a b) later seen s e in
+    let split = entries_append later seen in
+    let drawn : all_drawn slots (entries (later ++ seen)) n.host last ≡ true =
+    ap (λ (z : Past). all_drawn slots z n.host last) split ∙ drawn_later c slots (entries later) (entries seen) n.host last (completion_queue c q) beside
+    (subst (λ (z : Past). claims_only_on c slots z n.host (completion_queue c q) ≡ true) split u) h in
+    claiming c slots q last (entries (later ++ seen)) a b n kept v drawn l x
 
 -- once its success is reaped it is held
 pub record Held (c : ConfigNumbers) (past : Past) (k : Swap) : Type 0 where

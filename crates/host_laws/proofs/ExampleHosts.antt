@@ -1,21 +1,24 @@
 -- Two hosts, each with two submission queues on one completion queue, and one slot.
-use Rattle.std.specs.Prelude.{◌≡◌, refl, ℕ, true, false, None, Option, Some, List, [], ◌∷◌, option_map}
+use Rattle.std.specs.Prelude.{◌≡◌, refl, ℕ, true, false, None, Option, Some, List, [], ◌∷◌, map, option_map}
 use Rattle.nvme_model.specs.Array.{zeros}
 use Rattle.nvme_model.specs.Examples.{publish, submit}
 use Rattle.nvme_model.specs.History.{Past}
 use Rattle.nvme_model.specs.Legal.{legal}
+use Rattle.nvme_model.specs.Passes.{SharedPast}
 use Rattle.nvme_model.specs.Slots.{Name, believed, disciplined, holder, slot_block}
 use Rattle.nvme_model.specs.Statuses.{compare_failure, failed_fused, success}
 use Rattle.nvme_model.specs.Steps.{run, settle}
 use Rattle.nvme_model.specs.declared.array.Range.{Range}
 use Rattle.nvme_model.specs.declared.config.ConfigNumbers.{ConfigNumbers}
+use Rattle.nvme_model.specs.declared.entry.Entry.{Entry}
 use Rattle.nvme_model.specs.declared.entry.PostLine.{PostLine}
 use Rattle.nvme_model.specs.declared.status.Status.{Status}
 use Rattle.nvme_model.specs.declared.step.Step.{Step}
 use Rattle.nvme_model.specs.declared.submission.Submission.{Submission}
 use Rattle.host_laws.specs.Beside.{is_beside}
 use Rattle.host_laws.specs.Calls.{reaped_post, says_yes, status_in, takes}
-use Rattle.host_laws.specs.Claims.{all_drawn, host_claims_on, is_released_on}
+use Rattle.host_laws.specs.Discipline.{others_keep, pass_keeps}
+use Rattle.host_laws.specs.Claims.{all_drawn, claims_only_on, is_released_on}
 
 -- submission queues 1 and 3 use completion queue 1, the others completion queue 2
 abbrev four : ConfigNumbers
@@ -91,6 +94,19 @@ release_keeps = refl
 pub release_elsewhere_breaks : disciplined four area (publish 2 (swap (slot_block (name 1 1)) zeros) ∷ held) ≡ false
 release_elsewhere_breaks = refl
 
+-- where host 2, as pass 2, made such a release, the others than pass 1 don't keep the discipline, and those than pass 2 do
+abbrev broken : SharedPast
+broken = (2, publish 2 (swap (slot_block (name 1 1)) zeros)) ∷ map (λ (e : Entry). (1, e)) held
+
+pub others_than_1_break : others_keep four area 1 broken ≡ false
+others_than_1_break = refl
+
+pub others_than_2_keep : others_keep four area 2 broken ≡ true
+others_than_2_keep = refl
+
+pub pass_1_keeps : pass_keeps four area 1 broken ≡ true
+pass_1_keeps = refl
+
 -- what one host adds is beside the other's queues
 pub other_host_beside : is_beside four 2 (publish 3 (swap (slot_block (name 1 1)) zeros)) ≡ true
 other_host_beside = refl
@@ -104,5 +120,5 @@ serials = refl
 pub serials_below : all_drawn area free 1 0 ≡ false
 serials_below = refl
 
-pub host_on_its_queue : host_claims_on four area free 2 2 ≡ true
+pub host_on_its_queue : claims_only_on four area free 2 2 ≡ true
 host_on_its_queue = refl

@@ -10,7 +10,7 @@ use Rattle.nvme_model.specs.Tickets.{Ticket, tickets, command, first_fields, pos
 use Rattle.nvme_model.specs.Queues.{published}
 use Rattle.nvme_model.specs.Operations.{op, op_by}
 use Rattle.nvme_model.specs.Open.{blocks_of}
-use Rattle.host_laws.specs.Calls.{reaped_post, status_in, FailsChecks, is_fault}
+use Rattle.host_laws.specs.Calls.{reaped_post, status_in, FailsChecks, is_fault, is_known}
 use Rattle.nvme_model.specs.Owed.{owed, owed_after, owed_by, some_no, all_done, all_ended}
 use Rattle.nvme_model.specs.Legal.{IsLegal}
 use Rattle.nvme_model.specs.declared.operation.Op.{Op}
@@ -94,7 +94,7 @@ failed_checks c past q j p s h e two r y z =
 -- ---- which statuses there are
 
 abbrev pub IsKnown : Status → Type 0
-IsKnown x = (is_success x || same_status x compare_failure || is_fault x) ≡ true
+IsKnown x = is_known x ≡ true
 
 fails_known : (s : Status) → Fails s → IsKnown s
 fails_known s f = or_right (is_success s || same_status s compare_failure) (is_fault s) f.listed

@@ -15,7 +15,8 @@ use Rattle.nvme_model.specs.declared.entry.Entry.{Entry}
 use Rattle.nvme_model.specs.declared.entry.PublishLine.{PublishLine}
 use Rattle.nvme_model.specs.declared.submission.Submission.{Submission}
 use Rattle.nvme_model.proofs.Written.{clash}
-use Rattle.host_laws.specs.Claims.{IsWon, all_drawn, is_drawn, is_released_on, pair_line, pair_on}
+use Rattle.host_laws.specs.Batches.{pair_line, pair_on}
+use Rattle.host_laws.specs.Claims.{IsWon, all_drawn, is_drawn, is_released_on}
 use Rattle.host_laws.proofs.Claims.{all_from, all_in, drawn_from, drawn_parts, none_any, won_believed}
 use Rattle.host_laws.proofs.Discipline.{InArea, area_has}
 use Rattle.host_laws.proofs.Elements.{In, contains_in, in_any, in_contains, in_filter, in_cases}

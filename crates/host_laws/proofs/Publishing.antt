@@ -16,7 +16,7 @@ use Rattle.nvme_model.specs.declared.submission.Submission.{Submission}
 use Rattle.nvme_model.specs.declared.entry.PublishLine.{PublishLine}
 use Rattle.nvme_model.proofs.Written.{clash}
 use Rattle.nvme_model.specs.Config.{completion_queue}
-use Rattle.host_laws.specs.Claims.{pair_line}
+use Rattle.host_laws.specs.Batches.{pair_line}
 use Rattle.host_laws.proofs.SwapTickets.{on_one, touching}
 use Rattle.nvme_model.specs.Commands.{is_write, is_write_zeroes}
 use Rattle.host_laws.proofs.Names.{bytes_are, zeros_unnamed}

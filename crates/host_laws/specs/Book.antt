@@ -1,8 +1,9 @@
 -- What a driver keeps of its entries: which one it waits for, by submission queue and CID.
-use Rattle.std.specs.Prelude.{None, Option, Some, if◌then◌else◌, ℕ, ◌&&◌, ◌==◌, ◌≡◌, ◌↔◌, ◌++◌}
+use Rattle.std.specs.Prelude.{None, Option, Some, if◌then◌else◌, length, suc, ℕ, ◌&&◌, ◌==◌, ◌≡◌, ◌↔◌, ◌++◌}
 use Rattle.nvme_model.specs.Config.{completion_queue}
 use Rattle.nvme_model.specs.EntryBytes.{sqe_fields}
 use Rattle.nvme_model.specs.History.{Past}
+use Rattle.nvme_model.specs.Queues.{published}
 use Rattle.nvme_model.specs.declared.config.ConfigNumbers.{ConfigNumbers}
 use Rattle.nvme_model.specs.declared.submission.Submission.{Submission}
 use Rattle.host_laws.specs.Calls.{IsWaiting}
@@ -11,7 +12,7 @@ use Rattle.host_laws.specs.Calls.{IsWaiting}
 abbrev pub Book : Type 0
 Book = ℕ → ℕ → Option ℕ
 
--- nothing is waited for
+-- no entry is waited for
 abbrev pub empty_book : Book
 empty_book q cid = None
 
@@ -19,17 +20,25 @@ empty_book q cid = None
 abbrev pub with_entry : Book → ℕ → ℕ → ℕ → Book
 with_entry book q cid j r i = if (r == q) && (i == cid) then Some j else book r i
 
--- and no longer
-abbrev pub without_entry : Book → ℕ → ℕ → Book
-without_entry book q cid r i = if (r == q) && (i == cid) then None else book r i
-
--- For the submission queues of completion queue n the book has exactly the entries whose completions aren't reaped, each under its CID.
-abbrev pub IsBook : ConfigNumbers → Past → ℕ → Book → Type 0
-IsBook c past n book = (q cid j : ℕ) → completion_queue c q ≡ n → (book q cid ≡ Some j) ↔ IsWaiting c past q cid j
-
 -- the CID of an entry
 abbrev pub cid_of : Submission → ℕ
 cid_of s = (sqe_fields s.entry).cid
+
+-- the next entry of submission queue q, or the next two, are waited for from now on
+abbrev pub with_one : Book → Past → ℕ → Submission → Book
+with_one book past q s = with_entry book q (cid_of s) (length (published past q))
+
+abbrev pub with_pair : Book → Past → ℕ → Submission → Submission → Book
+with_pair book past q s t = with_entry (with_one book past q s) q (cid_of t) (suc (length (published past q)))
+
+-- the entry with this CID is no longer waited for
+abbrev pub without_entry : Book → ℕ → ℕ → Book
+without_entry book q cid r i = if (r == q) && (i == cid) then None else book r i
+
+-- For the submission queues of completion queue n the book has exactly the entries whose completions aren't reaped,
+-- each under its CID.
+abbrev pub IsBook : ConfigNumbers → Past → ℕ → Book → Type 0
+IsBook c past n book = (q cid j : ℕ) → completion_queue c q ≡ n → (book q cid ≡ Some j) ↔ IsWaiting c past q cid j
 
 -- no two entries of submission queue q that wait for their completions have one CID
 abbrev pub IsApart : ConfigNumbers → Past → ℕ → Type 0

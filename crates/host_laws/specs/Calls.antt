@@ -1,5 +1,7 @@
--- The entries of a submission queue by their numbers there, from 0: which ticket took one, and which reaped completion answers it.
-use Rattle.std.specs.Prelude.{not, suc, Bool, List, None, Option, Some, [], false, if◌then◌else◌, is_some, nat_le, nat_lt, true, ℕ, ◌&&◌, ◌+◌, ◌++◌, ◌==◌, ◌∷◌, ◌≡◌, ◌≤◌, ◌<◌, slice_get}
+-- The entries of a submission queue by their numbers there, from 0: which ticket took one, and which reaped completion
+-- answers it.
+use Rattle.std.specs.Prelude.{not, suc, Bool, List, None, Option, Some, [], false, if◌then◌else◌, is_some, nat_le}
+use Rattle.std.specs.Prelude.{nat_lt, slice_get, true, ℕ, ◌&&◌, ◌||◌, ◌+◌, ◌++◌, ◌==◌, ◌∷◌, ◌≡◌, ◌≤◌, ◌<◌}
 use Rattle.std.specs.List.{list_all, list_any}
 use Rattle.nvme_model.specs.Answered.{says_no}
 use Rattle.nvme_model.specs.Completions.{posted, reaped}
@@ -12,7 +14,9 @@ use Rattle.nvme_model.specs.Owed.{completion_data, some_no, units_of}
 use Rattle.nvme_model.specs.Placed.{effect}
 use Rattle.nvme_model.specs.Queues.{published}
 use Rattle.nvme_model.specs.Slots.{fetched_before, next_number}
-use Rattle.nvme_model.specs.Statuses.{cid_conflict, data_transfer_error, failed_fused, invalid_field, invalid_namespace, invalid_opcode, missing_fused, out_of_range, same_status, success, unit_exceeded}
+use Rattle.nvme_model.specs.Statuses.{cid_conflict, compare_failure, data_transfer_error, failed_fused, invalid_field}
+use Rattle.nvme_model.specs.Statuses.{invalid_namespace, invalid_opcode, is_success, missing_fused, out_of_range}
+use Rattle.nvme_model.specs.Statuses.{same_status, success, unit_exceeded}
 use Rattle.nvme_model.specs.Tickets
 use Rattle.nvme_model.specs.Tickets.{Ticket, command, tickets}
 use Rattle.nvme_model.specs.Value.{all_equal, value}
@@ -29,7 +33,9 @@ use Rattle.nvme_model.specs.declared.submission.Submission.{Submission}
 -- ticket t has taken entry j of submission queue q
 abbrev pub takes : Past → ℕ → ℕ → ℕ → Bool
 takes past t q j =
-    nat_le 1 t && nat_le t (tickets past) && ((Tickets.ticket past t).queue == q) && nat_le (fetched_before past t) j && nat_lt j (fetched_before past t + taken (Tickets.ticket past t).verdict)
+    let k = Tickets.ticket past t in
+    let first = fetched_before past t in
+    nat_le 1 t && nat_le t (tickets past) && (k.queue == q) && nat_le first j && nat_lt j (first + taken k.verdict)
 
 -- Entry j of submission queue q is published, as a command by itself that does o.
 pub record IsSingle (past : Past) (q j : ℕ) (o : Op) : Type 0 where
@@ -54,17 +60,20 @@ pub record PostedAnswer : Type 0 where
   pub number : ℕ
   pub post : PostLine
 
--- what a Post answers
+-- that of a Post
 abbrev pub posted_answer : Past → PostLine → PostedAnswer
-posted_answer past p = record { queue = (Tickets.ticket past p.ticket).queue; number = next_number past p.ticket; post = p }
+posted_answer past p =
+    record { queue = (Tickets.ticket past p.ticket).queue; number = next_number past p.ticket; post = p }
 
 -- the completions posted to completion queue q, in order
 abbrev pub posted_answers : ConfigNumbers → Past → ℕ → List PostedAnswer
 posted_answers c [] q = []
-posted_answers c (Entry.Post p ∷ past) q = posted_answers c past q ++ (if completion_queue c (Tickets.ticket past p.ticket).queue == q then posted_answer past p ∷ [] else [])
+posted_answers c (Entry.Post p ∷ past) q =
+    posted_answers c past q
+    ++ (if completion_queue c (Tickets.ticket past p.ticket).queue == q then posted_answer past p ∷ [] else [])
 posted_answers c (_ ∷ past) q = posted_answers c past q
 
--- the Post of this answer if it is for entry j of submission queue q, else what was before
+-- the Post of this completion if it is for entry j of submission queue q, else what was before
 abbrev pub post_if : ℕ → ℕ → Option PostedAnswer → Option PostLine → Option PostLine
 post_if q j None before = before
 post_if q j (Some a) before = if (a.queue == q) && (a.number == j) then Some a.post else before
@@ -72,7 +81,8 @@ post_if q j (Some a) before = if (a.queue == q) && (a.number == j) then Some a.p
 -- the Post of the completion for entry j of submission queue q, once it was reaped
 abbrev pub reaped_post : ConfigNumbers → Past → ℕ → ℕ → Option PostLine
 reaped_post c [] q j = None
-reaped_post c (Entry.Reap r ∷ past) q j = post_if q j (slice_get (posted_answers c past r.queue) (reaped past r.queue)) (reaped_post c past q j)
+reaped_post c (Entry.Reap r ∷ past) q j =
+    post_if q j (slice_get (posted_answers c past r.queue) (reaped past r.queue)) (reaped_post c past q j)
 reaped_post c (_ ∷ past) q j = reaped_post c past q j
 
 -- the status that a completion's bytes say
@@ -89,7 +99,12 @@ is_clean cqe =
 abbrev pub is_fault : Status → Bool
 is_fault s =
     list_any (same_status s)
-    (invalid_opcode ∷ invalid_field ∷ cid_conflict ∷ data_transfer_error ∷ failed_fused ∷ missing_fused ∷ invalid_namespace ∷ out_of_range ∷ unit_exceeded ∷ [])
+    (invalid_opcode ∷ invalid_field ∷ cid_conflict ∷ data_transfer_error ∷ failed_fused ∷ missing_fused
+    ∷ invalid_namespace ∷ out_of_range ∷ unit_exceeded ∷ [])
+
+-- it is one that a completion may say: success, Compare Failure, or that of a command that fails its checks
+abbrev pub is_known : Status → Bool
+is_known s = is_success s || same_status s compare_failure || is_fault s
 
 -- the entry names the one namespace, and has zeros where this profile wants them
 abbrev pub is_proper : Submission → Bool
@@ -113,8 +128,8 @@ yes_at (Some before) k r = has_compare (op k) && all_equal (value before) k r
 abbrev pub says_yes : Past → ℕ → ℕ → Bool
 says_yes past t u = yes_at (effect past t u) (Tickets.ticket past t) (unit_range past t u)
 
--- ---- what a completion says of entry j of submission queue q, where a pair is named by its first entry: the ticket that took it, with the commands
--- that were published there
+-- ---- what a completion says of entry j of submission queue q, where a pair is named by its first entry: the ticket
+-- that took it, with the commands that were published there
 
 -- a yes effect of the pair stands there
 pub record PairSwaps (past : Past) (q j : ℕ) : Type 0 where
@@ -176,7 +191,8 @@ pub record ReapAnswers (c : ConfigNumbers) (past : Past) (r : ReapLine) : Type 0
   pub cid : (sqe_fields entry.entry).cid < 65536 → (cqe_fields r.cqe).cid ≡ (sqe_fields entry.entry).cid
   pub unreaped : reaped_post c past queue number ≡ None
   pub reaped : reaped_post c (Entry.Reap r ∷ past) queue number ≡ Some post
-  pub others : (q j : ℕ) → (q ≡ queue → j ≡ number → ⊥) → reaped_post c (Entry.Reap r ∷ past) q j ≡ reaped_post c past q j
+  pub others : (q j : ℕ) → (q ≡ queue → j ≡ number → ⊥) →
+      reaped_post c (Entry.Reap r ∷ past) q j ≡ reaped_post c past q j
 
 -- entry j of submission queue q has this CID, and its completion isn't reaped
 pub record IsWaiting (c : ConfigNumbers) (past : Past) (q cid j : ℕ) : Type 0 where

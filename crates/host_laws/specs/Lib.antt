@@ -1,5 +1,6 @@
+pub mod Batches
 pub mod Calls
 pub mod Beside
-pub mod Claims
 pub mod Book
+pub mod Claims
 pub mod Discipline
