@@ -1,6 +1,6 @@
 -- The first line of a script.
 use Rattle.std.proofs.Common.{◌≡◌, ℕ, List, [], ◌∷◌, ◌++◌, None, Some, refl, sym, ap, ◌∙◌, subst, append-nil}
-use Rattle.std.specs.Prelude.{IfSome, Option}
+use Rattle.std.specs.Prelude.{IfSome, Option, Err}
 use Rattle.std.specs.Io.KnownBytes.{Appends, Consumes, IsAtEnd}
 use Rattle.std.proofs.KnownBytes.{Consumes-whole, Appends-nil}
 use Rattle.line_text.specs.Known.{AppendsFront}
@@ -13,8 +13,10 @@ use Rattle.nvme_model.specs.declared.config.ConfigNumbers.{ConfigNumbers}
 use Rattle.history.specs.ConfigLine.{config_in}
 use Rattle.casdisk_script.specs.Meaning.{Meaning}
 use Rattle.casdisk_script.specs.Script.{Outcome, End, bad_line, bad_config, ending, prefixed, after_numbers, after_config, first_config, script_prints, lines_print, outcome}
-use Rattle.casdisk_script.specs.Running.{lines_from, PrintsAll, PrintsFront}
-use Rattle.casdisk_script.specs.Running.{Reached}
+use Rattle.line_text.specs.declared.lines.ReadFault.{ReadFault}
+use Rattle.casdisk_script.specs.Fault.{fault_of_read}
+use Rattle.casdisk_script.specs.Running.{lines_from, PrintsAll, PrintsFront, PrintsRead, Reached, Runs}
+use Rattle.casdisk_script.proofs.Reaching.{runs_unread}
 
 module _ (meaning : ConfigNumbers → Meaning) where
   no_config : (line : List ℕ) (lines : List (List ℕ)) (rest : List ℕ) → config_in line ≡ None → script_prints meaning (line ∷ lines) rest ≡ ending (bad_line 1) []
@@ -43,8 +45,18 @@ module _ (meaning : ConfigNumbers → Meaning) where
   pub unwritten : (r t w : Option (List ℕ)) (bytes : List ℕ) → Consumes r t bytes → PrintsFront (λ input. outcome meaning input) r t w w
   unwritten r t w bytes h = (bytes, h, record { front = []; rest = (outcome meaning bytes).text; whole = refl; written = Appends-nil w })
 
-  pub lost_first : (r t w : Option (List ℕ)) (after line : List ℕ) → GivesFront r t [] after line → PrintsFront (λ input. outcome meaning input) r t w w
-  lost_first r t w after line h = unwritten r t w h.0.bytes h.0.consumed
+  -- no line was read, so there is no text
+  pub none_first : (r t w : Option (List ℕ)) (after line : List ℕ) → GivesFront r t [] after line → after ≡ [] → PrintsRead (λ input. outcome meaning input) r t w w
+  none_first r t w after line g none =
+      let bytes = g.0.bytes in
+      let last = rest_is_last r t [] after line g.0 g.1 none in
+      let is : outcome meaning bytes ≡ ending (bad_line 1) [] = ap (λ l. script_prints meaning l (rest_line bytes)) last.0 ∙ no_lines (rest_line bytes) in
+      (bytes, g.0.consumed, subst (Appends w w) (sym (ap (λ (o : Outcome). o.text) is)) (Appends-nil w))
+
+  pub lost_first : (f : ReadFault) (r t w : Option (List ℕ)) (after line : List ℕ) → GivesFront r t [] after line → (f ≡ ReadFault.Input → after ≡ [])
+      → Runs (λ input. outcome meaning input) (Err (fault_of_read f)) r t w w
+  lost_first f r t w after line h none =
+      runs_unread (λ input. outcome meaning input) f r t w w (λ e. none_first r t w after line h (none e)) (unwritten r t w h.0.bytes h.0.consumed)
 
   pub ends_first : (r t w : Option (List ℕ)) (after line : List ℕ) → Gives r t [] after line → NoFeed line → after ≡ [] → IsAtEnd t → PrintsAll (λ input. outcome meaning input) (bad_line 1) r w w
   ends_first r t w after line g plain none end =

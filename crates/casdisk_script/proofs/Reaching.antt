@@ -10,8 +10,11 @@ use Rattle.line_text.proofs.LineLaws.{whole_is_first, rest_is_last}
 use Rattle.nvme_model.specs.History.{Past}
 use Rattle.casdisk_script.specs.Meaning.{Meaning, StopsInLine, text_of}
 use Rattle.casdisk_script.specs.Script.{Outcome, End, done, bad_line, bad_config, ending, prefixed, after_line, lines_print}
-use Rattle.casdisk_script.specs.Running.{lines_from, Makes, Reached, PrintsAll, PrintsFront, Runs, IsStop}
+use Rattle.line_text.specs.declared.lines.ReadFault.{ReadFault}
+use Rattle.casdisk_script.specs.Fault.{fault_of_read, fault_of_write}
+use Rattle.casdisk_script.specs.Running.{lines_from, Makes, Reached, PrintsAll, PrintsFront, PrintsRead, Runs}
 use Rattle.casdisk_script.specs.declared.fault.RunFault.{RunFault}
+use Rattle.casdisk_script.specs.declared.meaning.WriteFault.{WriteFault}
 use Rattle.casdisk_script.specs.declared.fault.RunFault.TheVariants.{BadLine, BadConfig, Input, Output, NoMemory}
 
 pub prefixed_twice : (a b : List ℕ) (o : Outcome) → prefixed a (prefixed b o) ≡ prefixed (a ++ b) o
@@ -52,6 +55,11 @@ print_none meaning past n rest e = ap (λ l. lines_print meaning past n [] l) e 
 pub print_rest : (meaning : Meaning) (past : Past) (n : ℕ) (rest : List ℕ) → (rest ≡ [] → ⊥) → lines_print meaning past n [] rest ≡ ending (bad_line n) past
 print_rest meaning past n [] h = absurd (h refl)
 print_rest meaning past n (b ∷ bs) h = print_cut meaning past n b bs
+
+-- what stands behind the last line feed prints nothing
+print_nothing : (meaning : Meaning) (past : Past) (n : ℕ) (rest : List ℕ) → (lines_print meaning past n [] rest).text ≡ []
+print_nothing meaning past n [] = ap (λ (o : Outcome). o.text) (print_end meaning past n)
+print_nothing meaning past n (b ∷ bs) = ap (λ (o : Outcome). o.text) (print_cut meaning past n b bs)
 
 -- ---- the next call
 
@@ -103,6 +111,18 @@ module _ (outcome : List ℕ → Outcome) (meaning : Meaning) (past : Past) (n :
         record { front = at.out; rest = (lines_from meaning past n held more).text; whole = text; written = at.written },
       )
 
+  -- what was read ends within a line: its whole text is that of the lines before
+  pub all_read : (after line : List ℕ) → GivesFront s t held after line → after ≡ [] → PrintsRead outcome r t w v
+  all_read after line g none =
+      let more = g.0.bytes in
+      let last = rest_is_last s t held after line g.0 g.1 none in
+      let text : (outcome (at.bytes ++ more)).text ≡ at.out =
+      ap (λ (o : Outcome). o.text) (at.agrees more)
+      ∙ ap (λ l. at.out ++ (lines_print meaning past n l (rest_line (held ++ more))).text) last.0
+      ∙ ap (λ l. at.out ++ l) (print_nothing meaning past n (rest_line (held ++ more)))
+      ∙ append-nil at.out in
+      (at.bytes ++ more, Consumes-trans r s t at.bytes more at.consumed g.0.consumed, subst (Appends w v) (sym text) at.written)
+
   pub front_here : PrintsFront outcome r s w v
   front_here =
       let text : (outcome at.bytes).text ≡ at.out ++ (lines_from meaning past n held []).text = ap (λ l. (outcome l).text) (sym (append-nil at.bytes)) ∙ ap (λ (o : Outcome). o.text) (at.agrees []) in
@@ -134,12 +154,16 @@ module _ (outcome : List ℕ → Outcome) (meaning : Meaning) (past : Past) (n :
 
 -- ---- the answer of a run
 
-pub runs_stopped : (outcome : List ℕ → Outcome) (f : RunFault) (r t w v : Option (List ℕ)) → IsStop f → PrintsFront outcome r t w v → Runs outcome (Err f) r t w v
-runs_stopped outcome (BadLine n) r t w v h p = absurd h
-runs_stopped outcome (BadConfig c) r t w v h p = absurd h
-runs_stopped outcome Input r t w v h p = p
-runs_stopped outcome Output r t w v h p = p
-runs_stopped outcome NoMemory r t w v h p = p
+-- no line was read
+pub runs_unread : (outcome : List ℕ → Outcome) (f : ReadFault) (r t w v : Option (List ℕ)) → (f ≡ ReadFault.Input → PrintsRead outcome r t w v) → PrintsFront outcome r t w v
+    → Runs outcome (Err (fault_of_read f)) r t w v
+runs_unread outcome ReadFault.Input r t w v whole front = whole refl
+runs_unread outcome ReadFault.NoMemory r t w v whole front = front
+
+-- a line wasn't done to its end
+pub runs_stopped : (outcome : List ℕ → Outcome) (f : WriteFault) (r t w v : Option (List ℕ)) → PrintsFront outcome r t w v → Runs outcome (Err (fault_of_write f)) r t w v
+runs_stopped outcome WriteFault.Output r t w v p = p
+runs_stopped outcome WriteFault.NoMemory r t w v p = p
 
 -- what a run of the rest does, the whole run does
 prints_after : (outcome : List ℕ → Outcome) (meaning : Meaning) (past : Past) (n : ℕ) (e : End) (r s w v u : Option (List ℕ)) (held : List ℕ) → Reached outcome meaning past n r s w v held
@@ -156,12 +180,18 @@ front_after outcome meaning past n r s t w v u held at p =
     let text : (outcome (at.bytes ++ p.0)).text ≡ at.out ++ (lines_from meaning past n held p.0).text = ap (λ (o : Outcome). o.text) (at.agrees p.0) in
     (at.bytes ++ p.0, Consumes-trans r s t at.bytes p.0 at.consumed p.1, subst (AppendsFront w u) (sym text) (front_second w v u at.out _ at.written p.2))
 
+read_after : (outcome : List ℕ → Outcome) (meaning : Meaning) (past : Past) (n : ℕ) (r s t w v u : Option (List ℕ)) (held : List ℕ) → Reached outcome meaning past n r s w v held
+    → PrintsRead (lines_from meaning past n held) s t v u → PrintsRead outcome r t w u
+read_after outcome meaning past n r s t w v u held at p =
+    let text : (outcome (at.bytes ++ p.0)).text ≡ at.out ++ (lines_from meaning past n held p.0).text = ap (λ (o : Outcome). o.text) (at.agrees p.0) in
+    (at.bytes ++ p.0, Consumes-trans r s t at.bytes p.0 at.consumed p.1, subst (Appends w u) (sym text) (Appends-trans w v u at.out _ at.written p.2))
+
 pub runs_after : (outcome : List ℕ → Outcome) (meaning : Meaning) (past : Past) (n : ℕ) (r s t w v u : Option (List ℕ)) (held : List ℕ) (res : Result (Unit {0}) RunFault) → Reached outcome meaning past n r s w v held
     → Runs (lines_from meaning past n held) res s t v u → Runs outcome res r t w u
 runs_after outcome meaning past n r s t w v u held (Ok x) at p = (prints_after outcome meaning past n done r s w v u held at p.0, p.1)
 runs_after outcome meaning past n r s t w v u held (Err (BadLine k)) at p = prints_after outcome meaning past n (bad_line k) r s w v u held at p
 runs_after outcome meaning past n r s t w v u held (Err (BadConfig k)) at p = prints_after outcome meaning past n (bad_config k) r s w v u held at p
-runs_after outcome meaning past n r s t w v u held (Err Input) at p = front_after outcome meaning past n r s t w v u held at p
+runs_after outcome meaning past n r s t w v u held (Err Input) at p = read_after outcome meaning past n r s t w v u held at p
 runs_after outcome meaning past n r s t w v u held (Err Output) at p = front_after outcome meaning past n r s t w v u held at p
 runs_after outcome meaning past n r s t w v u held (Err NoMemory) at p = front_after outcome meaning past n r s t w v u held at p
 

@@ -1,7 +1,19 @@
--- The status with which the program ends.
+-- What a fault of reading or writing is to the run, and the status with which the program ends.
 use Rattle.std.specs.Prelude.{ℕ}
+use Rattle.line_text.specs.declared.lines.ReadFault.{ReadFault}
 use Rattle.casdisk_script.specs.declared.fault.RunFault.{RunFault}
+use Rattle.casdisk_script.specs.declared.meaning.WriteFault.{WriteFault}
 use Rattle.casdisk_script.specs.declared.fault.RunFault.TheVariants.{BadLine, BadConfig, Input, Output, NoMemory}
+
+-- the same cause, where no line was read
+abbrev pub fault_of_read : ReadFault → RunFault
+fault_of_read ReadFault.Input = Input
+fault_of_read ReadFault.NoMemory = NoMemory
+
+-- the same cause, where a line wasn't done to its end
+abbrev pub fault_of_write : WriteFault → RunFault
+fault_of_write WriteFault.Output = Output
+fault_of_write WriteFault.NoMemory = NoMemory
 
 -- the status after a run that ended early
 abbrev pub status_of : RunFault → ℕ

@@ -17,12 +17,17 @@ PrintsAll outcome e input old new = IfSome input (λ bytes. ((outcome bytes).end
 abbrev pub PrintsFront : (List ℕ → Outcome) → Option (List ℕ) → Option (List ℕ) → Option (List ℕ) → Option (List ℕ) → Type 0
 PrintsFront outcome input left old new = (bytes : List ℕ) × Consumes input left bytes × AppendsFront old new (outcome bytes).text
 
--- By what the run answered: the whole text and the reader at its end; the text before the bad line, or none; or a beginning of the text.
+-- all that was read is done: its whole text was written
+abbrev pub PrintsRead : (List ℕ → Outcome) → Option (List ℕ) → Option (List ℕ) → Option (List ℕ) → Option (List ℕ) → Type 0
+PrintsRead outcome input left old new = (bytes : List ℕ) × Consumes input left bytes × Appends old new (outcome bytes).text
+
+-- By what the run answered: the whole text and the reader at its end; the text before the bad line, or none; the whole
+-- text of what was read, where reading failed; or a beginning of that.
 abbrev pub Runs : (List ℕ → Outcome) → Result (Unit {0}) RunFault → Option (List ℕ) → Option (List ℕ) → Option (List ℕ) → Option (List ℕ) → Type 0
 Runs outcome (Ok x) input left old new = PrintsAll outcome done input old new × IsAtEnd left
 Runs outcome (Err (BadLine n)) input left old new = PrintsAll outcome (bad_line n) input old new
 Runs outcome (Err (BadConfig c)) input left old new = PrintsAll outcome (bad_config c) input old new
-Runs outcome (Err Input) input left old new = PrintsFront outcome input left old new
+Runs outcome (Err Input) input left old new = PrintsRead outcome input left old new
 Runs outcome (Err Output) input left old new = PrintsFront outcome input left old new
 Runs outcome (Err NoMemory) input left old new = PrintsFront outcome input left old new
 
@@ -34,14 +39,6 @@ Makes outcome (Err f) input past = Unit {0}
 -- what the lines from number n on print, some of their bytes held already
 abbrev pub lines_from : Meaning → Past → ℕ → List ℕ → List ℕ → Outcome
 lines_from meaning past n held input = lines_print meaning past n (whole_lines (held ++ input)) (rest_line (held ++ input))
-
--- the faults that say nothing of the script
-abbrev pub IsStop : RunFault → Type 0
-IsStop (BadLine n) = ⊥
-IsStop (BadConfig c) = ⊥
-IsStop Input = Unit {0}
-IsStop Output = Unit {0}
-IsStop NoMemory = Unit {0}
 
 -- some bytes were read and some text was written, and the rest of the input prints what its lines from number n on do
 pub record Reached (outcome : List ℕ → Outcome) (meaning : Meaning) (past : Past) (n : ℕ) (r s w v : Option (List ℕ)) (held : List ℕ) : Type 0 where

@@ -1,15 +1,17 @@
 //! The lines of a script, one after the other.
 
 ghost use Rattle.std.specs.Prelude.{◌≡◌};
-ghost use Rattle.casdisk_script.specs.Running.{Makes, Runs, IsStop, lines_from};
+ghost use Rattle.casdisk_script.specs.Fault.{fault_of_read, fault_of_write};
+ghost use Rattle.casdisk_script.specs.Running.{Makes, Runs, lines_from};
 
 use crate::fault::RunFault;
 use crate::meaning::{LineMeaning, Taken, WriteFault};
 use line_text::{Lines, NextLine, ReadFault};
 use std::io::{Read, Write};
 
+// Why the run ends where no line was read.
 pub(crate) fn read_fault(fault: ReadFault) -> RunFault
-    ensures { IsStop result }
+    ensures cause { result ≡ fault_of_read fault }
 {
     match fault {
         ReadFault::Input => RunFault::Input,
@@ -17,8 +19,9 @@ pub(crate) fn read_fault(fault: ReadFault) -> RunFault
     }
 }
 
+// Why the run ends where a line wasn't done to its end.
 pub(crate) fn write_fault(fault: WriteFault) -> RunFault
-    ensures { IsStop result }
+    ensures cause { result ≡ fault_of_write fault }
 {
     match fault {
         WriteFault::Output => RunFault::Output,
@@ -26,7 +29,14 @@ pub(crate) fn write_fault(fault: WriteFault) -> RunFault
     }
 }
 
-/// Does the lines behind the first, whose number is 2, to the reader's end or to the first bad one; `line` holds one at a time.
+/// Does the lines behind the first, whose number is 2, to the reader's end or to the first bad one; `line` holds one at
+/// a time.
+///
+/// # Errors
+///
+/// `BadLine` with the number of the first line that may not stand there, after the text of the lines before it; `Input`
+/// after the whole text of the lines that were read; `Output` and `NoMemory` after a beginning of it. A line whose
+/// number doesn't fit 64 bits is `NoMemory` too.
 pub fn run_lines<M: LineMeaning, R: Read, W: Write>(
     machine: &mut M,
     lines: &mut Lines,
@@ -53,5 +63,7 @@ pub fn run_lines<M: LineMeaning, R: Read, W: Write>(
             },
         }
     }
-    Err(RunFault::Input)
+
+    // The number of a line can't grow any more.
+    Err(RunFault::NoMemory)
 }

@@ -20,8 +20,8 @@ use step_core::Core;
 /// # Errors
 ///
 /// `BadLine` with the number of the first line that may not stand there, after the text of the lines before it;
-/// `BadConfig` with the number of the fault, after nothing; `Input`, `Output` and `NoMemory` after a beginning of
-/// the text.
+/// `BadConfig` with the number of the fault, after nothing; `Input` after the whole text of the lines that were read;
+/// `Output` and `NoMemory` after a beginning of it.
 pub fn run_script<R: Read, W: Write>(
     alloc: Global,
     reader: &mut R,

@@ -1,5 +1,11 @@
-use Rattle.casdisk_script.proofs.Beginning.{ends_first, ends_no_config, ends_wrong_config, front_config, reached_first, known_config}
+use Rattle.std.proofs.Common.{Err, ap}
+use Rattle.casdisk_script.proofs.Beginning.{ends_first, ends_no_config, ends_wrong_config, front_config, lost_first, reached_first, known_config}
 use Rattle.casdisk_script.proofs.first_line.read_first.Goals as goal
+
+pub returns-in-Err-clause-stopped : goal.returns-in-Err-clause-stopped
+returns-in-Err-clause-stopped g c meaning w =
+    let front = rw c.requires.fresh at c.in-Err.ensures.err in
+    rw c.read_fault.ensures.cause (lost_first meaning c.in-Err.fault _ _ w _ _ front (λ e. c.in-Err.ensures.input (ap Err e)))
 
 pub returns-in-Ok-Rest-clause-stopped : goal.returns-in-Ok-Rest-clause-stopped
 returns-in-Ok-Rest-clause-stopped g c meaning w =

@@ -1,13 +1,18 @@
-use Rattle.std.proofs.Common.{◌≡◌, [], length, vec_len, sym, ap, ◌∙◌}
+use Rattle.std.proofs.Common.{◌≡◌, Err, [], length, vec_len, sym, ap, ◌∙◌}
 use Rattle.std.proofs.lemmas.Bool.{eqb-true, eqb-false}
 use Rattle.std.proofs.lemmas.List.{nil_from_length}
 use Rattle.casdisk_script.specs.Running.{lines_from}
 use Rattle.casdisk_script.specs.Script.{done, bad_line}
-use Rattle.casdisk_script.proofs.Reaching.{goes_on, ends_bad, front_stopped, front_lost, front_here, ends_last, makes_last, print_none, print_rest, runs_stopped}
+use Rattle.casdisk_script.proofs.Reaching.{all_read, goes_on, ends_bad, front_stopped, front_lost, front_here, ends_last, makes_last, print_none, print_rest, runs_stopped, runs_unread}
 use Rattle.casdisk_script.proofs.running.run_lines.Goals as goal
 
 pub returns-in-Err-clause-runs : goal.returns-in-Err-clause-runs
-returns-in-Err-clause-runs g c = runs_stopped (lines_from (g.M.LineMeaning.meaning c.args.machine.now) (g.M.LineMeaning.past c.args.machine.now) 2 c.args.lines.now) c.read_fault.result _ _ _ _ c.read_fault.ensures (front_lost _ _ _ _ _ _ _ _ _ _ c.loop-number.invariant.reached _ _ c.in-Err.ensures.err)
+returns-in-Err-clause-runs g c =
+    let outcome = lines_from (g.M.LineMeaning.meaning c.args.machine.now) (g.M.LineMeaning.past c.args.machine.now) 2 c.args.lines.now in
+    let reached = c.loop-number.invariant.reached in
+    rw c.read_fault.ensures.cause (runs_unread outcome c.in-Err.fault _ _ _ _
+    (λ e. all_read _ _ _ _ _ _ _ _ _ _ reached _ _ c.in-Err.ensures.err (c.in-Err.ensures.input (ap Err e)))
+    (front_lost _ _ _ _ _ _ _ _ _ _ reached _ _ c.in-Err.ensures.err))
 
 pub returns-then-is_empty-clause-runs : goal.returns-then-is_empty-clause-runs
 returns-then-is_empty-clause-runs g c =
@@ -34,7 +39,9 @@ pub returns-in-Err-take_line-clause-runs : goal.returns-in-Err-take_line-clause-
 returns-in-Err-take_line-clause-runs g c =
     let x = rw c.in-Ok-Whole.field-0-is at c.in-Ok-Whole.ensures.line in
     let h = rw (c.deref.ensures.value, c.loop-number.invariant.same) at c.in-Err-take_line.ensures.stopped in
-    runs_stopped (lines_from (g.M.LineMeaning.meaning c.args.machine.now) (g.M.LineMeaning.past c.args.machine.now) 2 c.args.lines.now) c.write_fault.result _ _ _ _ c.write_fault.ensures (front_stopped _ _ _ _ _ _ _ _ _ _ c.loop-number.invariant.reached _ c.next_line.new.line.items _ x.0 x.1 h)
+    let outcome = lines_from (g.M.LineMeaning.meaning c.args.machine.now) (g.M.LineMeaning.past c.args.machine.now) 2 c.args.lines.now in
+    rw c.write_fault.ensures.cause (runs_stopped outcome c.in-Err-take_line.fault _ _ _ _
+    (front_stopped _ _ _ _ _ _ _ _ _ _ c.loop-number.invariant.reached _ c.next_line.new.line.items _ x.0 x.1 h))
 
 pub returns-in-Ok-Bad-clause-runs : goal.returns-in-Ok-Bad-clause-runs
 returns-in-Ok-Bad-clause-runs g c =
