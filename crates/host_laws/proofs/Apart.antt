@@ -16,7 +16,7 @@ use Rattle.nvme_model.specs.declared.submission.Submission.{Submission}
 use Rattle.host_laws.specs.Beside.{IsBeside, is_beside}
 use Rattle.host_laws.specs.Book.{Book, IsAlwaysApart, IsApart, IsBook, cid_of}
 use Rattle.host_laws.specs.Calls.{IsWaiting, reaped_post}
-use Rattle.host_laws.proofs.Beside.{published_beside, reaped_for_beside}
+use Rattle.host_laws.proofs.Beside.{published_beside, reaped_post_beside}
 use Rattle.host_laws.proofs.Elements.{any_in, same_some}
 use Rattle.host_laws.proofs.InUse.{in_use}
 use Rattle.host_laws.proofs.OneAnswer.{Known, posted_answers_known, reaped_at}
@@ -76,7 +76,7 @@ apart_beside c later past n q h e a = λ cid i j x y. a cid i j (back cid i x) (
           entry = w.entry;
           published = ap (λ (xs : List Submission). slice_get xs i) (sym (published_beside c later past n q h e)) ∙ w.published;
           says = w.says;
-          unreaped = sym (reaped_for_beside c later past n q i h e) ∙ w.unreaped;
+          unreaped = sym (reaped_post_beside c later past n q i h e) ∙ w.unreaped;
         }
 
 pub always_beside : (c : ConfigNumbers) (later past : Past) (n q : ℕ) → IsBeside c n later → completion_queue c q ≡ n → IsAlwaysApart c past q → IsAlwaysApart c (later ++ past) q

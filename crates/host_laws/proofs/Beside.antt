@@ -73,17 +73,17 @@ reap_beside c past n q j r i (Some x) a h e before =
       | inl o ↦ absurd (not_equal r n h (sym (answer_own c past r i x a) ∙ (ap (completion_queue c) (eqb-true x.queue q (and_parts _ _ o).0) ∙ e)))
     ])
 
-pub reaped_for_beside : (c : ConfigNumbers) (later past : Past) (n q j : ℕ) → IsBeside c n later → completion_queue c q ≡ n → reaped_post c (later ++ past) q j ≡ reaped_post c past q j
-reaped_for_beside c [] past n q j h e = refl
-reaped_for_beside c (Entry.Reap r ∷ later) past n q j h e =
+pub reaped_post_beside : (c : ConfigNumbers) (later past : Past) (n q j : ℕ) → IsBeside c n later → completion_queue c q ≡ n → reaped_post c (later ++ past) q j ≡ reaped_post c past q j
+reaped_post_beside c [] past n q j h e = refl
+reaped_post_beside c (Entry.Reap r ∷ later) past n q j h e =
     let a = and_parts (not (eqb r.queue n)) (list_all (is_beside c n) later) h in
     reap_beside c (later ++ past) n q j r.queue (reaped (later ++ past) r.queue) (slice_get (posted_answers c (later ++ past) r.queue) (reaped (later ++ past) r.queue)) refl a.0 e (reaped_post c (later ++ past) q j)
-    ∙ reaped_for_beside c later past n q j a.1 e
-reaped_for_beside c (Entry.Publish p ∷ later) past n q j h e = reaped_for_beside c later past n q j (and_parts (not (eqb (completion_queue c p.queue) n)) (list_all (is_beside c n) later) h).1 e
-reaped_for_beside c (Entry.Fetch p ∷ later) past n q j h e = reaped_for_beside c later past n q j h e
-reaped_for_beside c (Entry.Grant p ∷ later) past n q j h e = reaped_for_beside c later past n q j h e
-reaped_for_beside c (Entry.Block p ∷ later) past n q j h e = reaped_for_beside c later past n q j h e
-reaped_for_beside c (Entry.Post p ∷ later) past n q j h e = reaped_for_beside c later past n q j h e
+    ∙ reaped_post_beside c later past n q j a.1 e
+reaped_post_beside c (Entry.Publish p ∷ later) past n q j h e = reaped_post_beside c later past n q j (and_parts (not (eqb (completion_queue c p.queue) n)) (list_all (is_beside c n) later) h).1 e
+reaped_post_beside c (Entry.Fetch p ∷ later) past n q j h e = reaped_post_beside c later past n q j h e
+reaped_post_beside c (Entry.Grant p ∷ later) past n q j h e = reaped_post_beside c later past n q j h e
+reaped_post_beside c (Entry.Block p ∷ later) past n q j h e = reaped_post_beside c later past n q j h e
+reaped_post_beside c (Entry.Post p ∷ later) past n q j h e = reaped_post_beside c later past n q j h e
 
 -- ---- claims and releases
 

@@ -19,7 +19,7 @@ use Rattle.host_laws.specs.Beside.{IsBeside}
 use Rattle.host_laws.specs.Book.{Book, IsBook, cid_of, empty_book, with_entry, without_entry}
 use Rattle.host_laws.specs.Calls.{IsWaiting, ReapAnswers, reaped_post}
 use Rattle.host_laws.proofs.PostedAnswers.{reaped_posted_at}
-use Rattle.host_laws.proofs.Beside.{published_beside, reaped_for_beside}
+use Rattle.host_laws.proofs.Beside.{published_beside, reaped_post_beside}
 use Rattle.host_laws.proofs.Elements.{get_after, get_append, get_cases, same_some}
 use Rattle.host_laws.proofs.Reaps.{entry_is, none_if, reaped_later}
 
@@ -143,7 +143,7 @@ book_empty c past n f = λ q cid j e. (
 pub book_beside : (c : ConfigNumbers) (later past : Past) (n : ℕ) (book : Book) → IsBeside c n later → IsBook c past n book → IsBook c (later ++ past) n book
 book_beside c later past n book h b =
     right_book c (later ++ past) n book
-    (right_same c n (published past) (published (later ++ past)) (reaped_post c past) (reaped_post c (later ++ past)) book (λ q e. published_beside c later past n q h e) (λ q j e. reaped_for_beside c later past n q j h e) (book_right c past n book b))
+    (right_same c n (published past) (published (later ++ past)) (reaped_post c past) (reaped_post c (later ++ past)) book (λ q e. published_beside c later past n q h e) (λ q j e. reaped_post_beside c later past n q j h e) (book_right c past n book b))
 
 pub book_one : (c : ConfigNumbers) (past : Past) (n : ℕ) (book : Book) (q : ℕ) (s : Submission) → IsLegal c past → IsBook c past n book → book q (cid_of s) ≡ None
     → IsBook c (Entry.Publish (record { queue = q; batch = s ∷ [] }) ∷ past) n (with_entry book q (cid_of s) (length (published past q)))

@@ -151,6 +151,6 @@ no_swaps slots q j (a ∷ b ∷ rest) h =
     let y = or_parts (touches slots b) (list_any (touches slots) rest) x.1 in
     both_none slots (swap_of q j a b) (swaps_in q (suc j) (b ∷ rest)) (no_swap slots q j a b y.0) (no_swaps slots q (suc j) (b ∷ rest) x.1)
 
-pub beside_keeps : (c : ConfigNumbers) (slots : Range) (past : Past) (p : PublishLine) → list_any (touches slots) p.batch ≡ false → keeps_discipline c slots past p ≡ true
-beside_keeps c slots past p h =
+pub outside_keeps : (c : ConfigNumbers) (slots : Range) (past : Past) (p : PublishLine) → list_any (touches slots) p.batch ≡ false → keeps_discipline c slots past p ≡ true
+outside_keeps c slots past p h =
     keeps c slots past p [] (no_swaps slots p.queue (length (published past p.queue)) p.batch h) (no_only slots p.queue (length (published past p.queue)) p.batch [] h) refl refl

@@ -118,7 +118,7 @@ pub fn the_discipline_is_kept()
         is_released_on c past (completion_queue c k.queue) k.lba k.name ≡ false →
         completion_queue c q ≡ completion_queue c k.queue → IsRelease a b k.name → lba_of a ≡ k.lba →
         keeps_discipline c slots past (pair_line q a b) ≡ true }
-    ensures others { (c : ConfigNumbers) (slots : Range) (past : Past) (p : PublishLine) →
+    ensures outside { (c : ConfigNumbers) (slots : Range) (past : Past) (p : PublishLine) →
         list_any (touches slots) p.batch ≡ false → keeps_discipline c slots past p ≡ true }
     ensures earlier { (c : ConfigNumbers) (slots : Range) (later past : Past) →
         disciplined c slots (later ++ past) ≡ true → disciplined c slots past ≡ true }
@@ -150,7 +150,7 @@ pub fn a_publish_releases_its_own_name()
     ensures release { (c : ConfigNumbers) (past : Past) (q : ℕ) (a b : Submission) (m : Name) (r l : ℕ) (n : Name) →
         IsRelease a b m → ((lba_of a == l) && same_name m n) ≡ false →
         is_released_on c (pair_on q a b ∷ past) r l n ≡ is_released_on c past r l n }
-    ensures others { (c : ConfigNumbers) (slots : Range) (past : Past) (p : PublishLine) (q l : ℕ) (n : Name) →
+    ensures outside { (c : ConfigNumbers) (slots : Range) (past : Past) (p : PublishLine) (q l : ℕ) (n : Name) →
         has_block slots l ≡ true → list_any (touches slots) p.batch ≡ false →
         is_released_on c (Entry.Publish p ∷ past) q l n ≡ is_released_on c past q l n }
 {}
@@ -171,7 +171,7 @@ pub fn serials_rise()
     ensures release { (slots : Range) (past : Past) (q : ℕ) (a b : Submission) (n : Name) (host last : ℕ) →
         IsRelease a b n → all_drawn slots past host last ≡ true →
         all_drawn slots (pair_on q a b ∷ past) host last ≡ true }
-    ensures others { (slots : Range) (past : Past) (p : PublishLine) (host last : ℕ) →
+    ensures outside { (slots : Range) (past : Past) (p : PublishLine) (host last : ℕ) →
         list_any (touches slots) p.batch ≡ false → all_drawn slots past host last ≡ true →
         all_drawn slots (Entry.Publish p ∷ past) host last ≡ true }
 {}

@@ -2,7 +2,7 @@ use Rattle.std.proofs.lemmas.Bool.{and_from, and_parts}
 use Rattle.nvme_model.specs.Slots.{disciplined, keeps_discipline}
 use Rattle.host_laws.proofs.Discipline.{area_has, kept_earlier}
 use Rattle.host_laws.proofs.OwnPublishes.{won_releases}
-use Rattle.host_laws.proofs.Publishing.{beside_keeps, claim_keeps, release_keeps}
+use Rattle.host_laws.proofs.Publishing.{outside_keeps, claim_keeps, release_keeps}
 use Rattle.host_laws.proofs.slot_laws.the_discipline_is_kept.Goals as goal
 
 pub returns : goal.returns
@@ -11,6 +11,6 @@ returns c = record {
   claim = λ n slots past q a b name x i f. claim_keeps n slots past q a b name x.pair x.old x.new (area_has slots _ i) f;
   release = λ n slots past q a b name x i k o. release_keeps n slots past q a b name x.pair x.old x.new (area_has slots _ i) k o;
   won = λ n slots past q a b k d v w u e x l. won_releases n slots past q a b k d v w u e x.pair l x.old x.new;
-  others = beside_keeps;
+  outside = outside_keeps;
   earlier = kept_earlier;
 }
