@@ -6,7 +6,7 @@ use Rattle.nvme_model.specs.declared.config.ConfigNumbers.{ConfigNumbers}
 use Rattle.nvme_model.specs.Statuses.{success, compare_failure, is_success}
 use Rattle.nvme_model.specs.Verdict.{taken, passed}
 use Rattle.nvme_model.specs.History.{Past}
-use Rattle.nvme_model.specs.Tickets.{Ticket, tickets, command, first_fields, posts_of}
+use Rattle.nvme_model.specs.Tickets.{Ticket, tickets, command, posts_of}
 use Rattle.nvme_model.specs.Queues.{published}
 use Rattle.host_laws.specs.Calls.{takes, reaped_post}
 use Rattle.nvme_model.specs.Owed.{owed}

@@ -6,7 +6,7 @@ use Rattle.nvme_model.specs.declared.config.ConfigNumbers.{ConfigNumbers}
 use Rattle.nvme_model.specs.Statuses.{success, compare_failure, is_success, failed_fused, same_status}
 use Rattle.nvme_model.specs.Verdict.{taken, passed}
 use Rattle.nvme_model.specs.History.{Past}
-use Rattle.nvme_model.specs.Tickets.{Ticket, tickets, command, first_fields, posts_of}
+use Rattle.nvme_model.specs.Tickets.{Ticket, command, first_fields, posts_of}
 use Rattle.nvme_model.specs.Queues.{published}
 use Rattle.nvme_model.specs.Operations.{op, op_by}
 use Rattle.nvme_model.specs.Open.{blocks_of}

@@ -6,7 +6,7 @@ use Rattle.std.proofs.lemmas.Bool.{cases_lt, cases_eq}
 use Rattle.nvme_model.specs.declared.config.ConfigNumbers.{ConfigNumbers}
 use Rattle.nvme_model.specs.Verdict.{taken}
 use Rattle.nvme_model.specs.History.{Past}
-use Rattle.nvme_model.specs.Tickets.{Ticket, tickets, numbers, command, cids, cids_in_use, posts_of}
+use Rattle.nvme_model.specs.Tickets.{tickets, numbers, command, cids, cids_in_use, posts_of}
 use Rattle.nvme_model.specs.Queues.{fetched, published}
 use Rattle.nvme_model.specs.Slots.{fetched_before}
 use Rattle.host_laws.specs.Calls.{reaped_post, IsWaiting}

@@ -7,9 +7,9 @@ use Rattle.std.proofs.lemmas.Bool.{cases_lt}
 use Rattle.nvme_model.specs.declared.config.ConfigNumbers.{ConfigNumbers}
 use Rattle.nvme_model.specs.Verdict.{taken, passed}
 use Rattle.nvme_model.specs.History.{Past}
-use Rattle.nvme_model.specs.Tickets.{Ticket, tickets, command, first_fields, posts_of}
+use Rattle.nvme_model.specs.Tickets.{Ticket, tickets, command}
 use Rattle.nvme_model.specs.Queues.{published}
-use Rattle.nvme_model.specs.Operations.{op, has_compare}
+use Rattle.nvme_model.specs.Operations.{op}
 use Rattle.nvme_model.specs.Placed.{effect}
 use Rattle.host_laws.specs.Calls.{IsSingle, IsFused, IsProperPair, takes, IsDone, CompareDiffers, PairSwaps, PairDiffers, FailsChecks}
 use Rattle.nvme_model.specs.Answered.{says_no}
@@ -77,14 +77,15 @@ pair_differs_later c later past q j h x =
       no = no_later c later past x.ticket 0 h (earlier c later past h) x.no;
     }
 
-pub done_later : (c : ConfigNumbers) (later past : Past) (q j : ℕ) (bytes : List ℕ) → IsLegal c (later ++ past) → IsDone c past q j bytes → IsDone c (later ++ past) q j bytes
-done_later c later past q j bytes h x =
+pub done_later : (c : ConfigNumbers) (later past : Past) (q j : ℕ) (o : Op) (bytes : List ℕ) → IsLegal c (later ++ past) → IsDone c past q j o bytes → IsDone c (later ++ past) q j o bytes
+done_later c later past q j o bytes h x =
     let k = takes_parts past x.ticket q j x.takes in
     let same = ticket_later c later past x.ticket h k.known in
     record {
       ticket = x.ticket;
       takes = takes_later c later past x.ticket q j h x.takes;
       first = command_later c later past x.ticket q j 0 h k.known x.first;
+      does = ap op same ∙ x.does;
       effects = effects_later c later past x.ticket h same x.effects;
       none_no = none_no_later c later past x.ticket h (earlier c later past h) same x.effects ∙ x.none_no;
       reads = x.reads ∙ sym (ap (λ (z : Ticket). read_data_by c (later ++ past) x.ticket (op z)) same ∙ reads_by c later past x.ticket (op (Tickets.ticket past x.ticket)) h same x.effects);
@@ -98,7 +99,7 @@ compare_differs_later c later past q j h x =
       ticket = x.ticket;
       takes = takes_later c later past x.ticket q j h x.takes;
       first = command_later c later past x.ticket q j 0 h k.known x.first;
-      compares = ap (λ (z : Ticket). has_compare (op z)) same ∙ x.compares;
+      compares = ap op same ∙ x.compares;
       no = subst (λ (us : List (ℕ × Range)). list_any (λ u. says_no (later ++ past) x.ticket u.0) us ≡ true) (sym (units_later c past (later ++ past) x.ticket same))
           (any_more (λ u. says_no past x.ticket u.0) (λ u. says_no (later ++ past) x.ticket u.0) (units_of c past x.ticket) (λ u n. no_later c later past x.ticket u.0 h (earlier c later past h) n) x.no);
     }

@@ -5,7 +5,7 @@ use Rattle.std.proofs.lemmas.Bool.{and_parts, cases_Bool, cases_lt, cases_eq, co
 use Rattle.nvme_model.specs.declared.config.ConfigNumbers.{ConfigNumbers}
 use Rattle.nvme_model.specs.Verdict.{taken}
 use Rattle.nvme_model.specs.History.{Past}
-use Rattle.nvme_model.specs.Tickets.{Ticket, tickets, command, cids, posts_of, fetched_ticket}
+use Rattle.nvme_model.specs.Tickets.{Ticket, tickets, posts_of, fetched_ticket}
 use Rattle.nvme_model.specs.Queues.{fetched}
 use Rattle.nvme_model.specs.Completions.{reaped}
 use Rattle.nvme_model.specs.Legal.{IsLegal}

@@ -5,7 +5,7 @@ use Rattle.nvme_model.specs.declared.config.ConfigNumbers.{ConfigNumbers}
 use Rattle.nvme_model.specs.Statuses.{compare_failure, is_success}
 use Rattle.nvme_model.specs.Verdict.{taken}
 use Rattle.nvme_model.specs.History.{Past}
-use Rattle.nvme_model.specs.Tickets.{Ticket, tickets, command, first_fields, posts_of}
+use Rattle.nvme_model.specs.Tickets.{Ticket, command, first_fields, posts_of}
 use Rattle.nvme_model.specs.Queues.{published}
 use Rattle.nvme_model.specs.Operations.{op, op_by}
 use Rattle.host_laws.specs.Calls.{says_yes, reaped_post, status_in, PairSwaps, PairDiffers}

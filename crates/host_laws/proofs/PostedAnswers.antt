@@ -4,7 +4,6 @@ use Rattle.std.proofs.Common.{◌≡◌, ℕ, zero, suc, Bool, true, false, ◌&
 use Rattle.std.proofs.lemmas.Bool.{and_parts}
 use Rattle.nvme_model.specs.declared.config.ConfigNumbers.{ConfigNumbers}
 use Rattle.nvme_model.specs.History.{Past}
-use Rattle.nvme_model.specs.Tickets.{Ticket, tickets, command, first_fields, posts_of, cids}
 use Rattle.nvme_model.specs.Completions.{reaped, posted}
 use Rattle.host_laws.specs.Calls.{posted_answers, reaped_post, post_if, PostedAnswer, posted_answer}
 use Rattle.nvme_model.specs.Slots.{next_number, EntryCompletion, entry_completion, entry_completions}

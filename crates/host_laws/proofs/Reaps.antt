@@ -5,7 +5,7 @@ use Rattle.std.proofs.lemmas.Bool.{and_parts, and_from, cases_Bool, cases_lt, eq
 use Rattle.nvme_model.specs.declared.config.ConfigNumbers.{ConfigNumbers}
 use Rattle.nvme_model.specs.EntryBytes.{sqe_fields, cqe_fields, cqe_bytes}
 use Rattle.nvme_model.specs.History.{Past}
-use Rattle.nvme_model.specs.Tickets.{Ticket, tickets, command, cids, posts_of}
+use Rattle.nvme_model.specs.Tickets.{command, cids, posts_of}
 use Rattle.nvme_model.specs.Queues.{published, fetched}
 use Rattle.nvme_model.specs.Completions.{posted, reaped, phase}
 use Rattle.nvme_model.specs.Legal.{IsLegal, is_cqe}

@@ -10,7 +10,7 @@ use Rattle.nvme_model.specs.Queues.{fetched, published}
 use Rattle.nvme_model.specs.Slots.{Swap, disciplined, fetched_before, swaps}
 use Rattle.nvme_model.specs.Statuses.{compare_failure, failed_fused, is_success, same_status}
 use Rattle.nvme_model.specs.Tickets
-use Rattle.nvme_model.specs.Tickets.{Ticket, command, fetched_ticket, first_fields, posts_of, tickets}
+use Rattle.nvme_model.specs.Tickets.{Ticket, fetched_ticket, first_fields, tickets}
 use Rattle.nvme_model.specs.Verdict.{passed, taken}
 use Rattle.nvme_model.specs.declared.array.Range.{Range}
 use Rattle.nvme_model.specs.declared.config.ConfigNumbers.{ConfigNumbers}

@@ -13,7 +13,7 @@ use Rattle.nvme_model.specs.Placed.{effect}
 use Rattle.nvme_model.specs.Queues.{published}
 use Rattle.nvme_model.specs.Slots.{fetched_before}
 use Rattle.nvme_model.specs.Statuses.{compare_failure, failed_fused, success}
-use Rattle.nvme_model.specs.Tickets.{Ticket, command, first_fields, tickets}
+use Rattle.nvme_model.specs.Tickets.{Ticket, command, first_fields}
 use Rattle.nvme_model.specs.Value.{all_equal, value}
 use Rattle.nvme_model.specs.Verdict.{taken}
 use Rattle.nvme_model.specs.declared.array.Range.{Range}

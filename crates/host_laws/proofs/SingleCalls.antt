@@ -7,7 +7,7 @@ use Rattle.nvme_model.specs.declared.config.ConfigNumbers.{ConfigNumbers}
 use Rattle.nvme_model.specs.Statuses.{success, compare_failure, is_success}
 use Rattle.nvme_model.specs.Verdict.{taken}
 use Rattle.nvme_model.specs.History.{Past}
-use Rattle.nvme_model.specs.Tickets.{Ticket, tickets, command, first_fields, posts_of}
+use Rattle.nvme_model.specs.Tickets.{Ticket, command, first_fields, posts_of}
 use Rattle.nvme_model.specs.Queues.{published}
 use Rattle.nvme_model.specs.Operations.{op, op_by, op_of_fields, is_pair, has_compare}
 use Rattle.host_laws.specs.Calls.{reaped_post, status_in, IsDone, CompareDiffers}
@@ -30,7 +30,7 @@ use Rattle.host_laws.proofs.Units.{Effects, units_later, effects_later, none_no_
 
 pub done : (c : ConfigNumbers) (past : Past) (q j : ℕ) (p : PostLine) (s : Submission) (o : Op) → IsLegal c past → slice_get (published past q) j ≡ Some s → eqb (fuse s) 1 ≡ false → eqb (fuse s) 2 ≡ false
     → op_of_fields (sqe_fields s.entry) ≡ Some o → is_pair (Some o) ≡ false
-    → reaped_post c past q j ≡ Some p → is_success (status_in p.cqe) ≡ true → IsDone c past q j p.payload
+    → reaped_post c past q j ≡ Some p → is_success (status_in p.cqe) ≡ true → IsDone c past q j o p.payload
 done c past q j p s o h e one two oe np r y =
     let f = post_of c past q j p h r in
     let before = f.at.before in
@@ -55,12 +55,21 @@ done c past q j p s o h e one two oe np r y =
             takes = takes_from past p.ticket q j 1 f.is.some there.known there.queue (ap (λ (z : Ticket). taken z.verdict) there.ticket ∙ ap taken single)
                 (omega (arith, there.number, x.number)) (omega (arith, there.number, x.number));
             first = (published_at c past p.ticket q j h f.is.some there.known there.queue (omega (arith, there.number, x.number))).first;
+            does = ap op there.ticket ∙ oper;
             effects = subst (λ (z : Past). Effects c z p.ticket) (sym f.at.is) (effects_later c f.at.later (Entry.Post p ∷ before) p.ticket l kept effects);
             none_no = subst (λ (z : Past). some_no c z p.ticket ≡ false) (sym f.at.is) (none_no_later c f.at.later (Entry.Post p ∷ before) p.ticket l f.legal kept effects ∙ d.0);
             reads = bytes ∙ (sym same ∙ ap (λ (z : Past). completion_data c z p.ticket success) (sym f.at.is));
           }
       | inr x ↦ clash (eqb (fuse s) 2) (second_fuse k.verdict (command k 0) (command k 1) s x.two f.is.taken.verdict x.entry) two
     ]
+
+-- a command by itself that compares
+compare_is : (o : Op) → is_pair (Some o) ≡ false → has_compare (Some o) ≡ true → o ≡ Op.Compare
+compare_is Op.Compare n c = refl
+compare_is Op.Pair n c = clash true refl n
+compare_is Op.Read n c = clash false c refl
+compare_is Op.Write n c = clash false c refl
+compare_is Op.WriteZeroes n c = clash false c refl
 
 pub compare_differs : (c : ConfigNumbers) (past : Past) (q j : ℕ) (p : PostLine) (s : Submission) (o : Op) → IsLegal c past → slice_get (published past q) j ≡ Some s → eqb (fuse s) 1 ≡ false → eqb (fuse s) 2 ≡ false
     → op_of_fields (sqe_fields s.entry) ≡ Some o → is_pair (Some o) ≡ false
@@ -89,7 +98,7 @@ compare_differs c past q j p s o h e one two oe np r y =
             takes = takes_from past p.ticket q j 1 f.is.some there.known there.queue (ap (λ (z : Ticket). taken z.verdict) there.ticket ∙ ap taken single)
                 (omega (arith, there.number, x.number)) (omega (arith, there.number, x.number));
             first = (published_at c past p.ticket q j h f.is.some there.known there.queue (omega (arith, there.number, x.number))).first;
-            compares = some_compares c past p.ticket seen_no;
+            compares = ap op there.ticket ∙ (oper ∙ ap Some (compare_is o np (ap has_compare (sym oper) ∙ some_compares c before p.ticket d)));
             no = seen_no;
           }
       | inr x ↦ clash (eqb (fuse s) 2) (second_fuse k.verdict (command k 0) (command k 1) s x.two f.is.taken.verdict x.entry) two
@@ -112,10 +121,3 @@ only_compares c past q j p s o h e one two oe np r y =
           compare_is o np (ap has_compare (sym oper) ∙ some_compares c before p.ticket (single_no c before p.ticket (posts_of before p.ticket) o single oper np owes))
       | inr x ↦ clash (eqb (fuse s) 2) (second_fuse k.verdict (command k 0) (command k 1) s x.two f.is.taken.verdict x.entry) two
     ]
-  where
-    compare_is : (o : Op) → is_pair (Some o) ≡ false → has_compare (Some o) ≡ true → o ≡ Op.Compare
-    compare_is Op.Compare n c = refl
-    compare_is Op.Pair n c = clash true refl n
-    compare_is Op.Read n c = clash false c refl
-    compare_is Op.Write n c = clash false c refl
-    compare_is Op.WriteZeroes n c = clash false c refl

@@ -8,7 +8,7 @@ use Rattle.nvme_model.specs.Legal.{IsLegal}
 use Rattle.nvme_model.specs.Queues.{fetched, published, waiting}
 use Rattle.nvme_model.specs.Slots.{is_pair_on_one, reaped_success, Swap, disciplined, fetched_before, in_area, swaps, swaps_in}
 use Rattle.nvme_model.specs.Tickets
-use Rattle.nvme_model.specs.Tickets.{Ticket, cids_in_use, command, first_fields, posts_of, tickets}
+use Rattle.nvme_model.specs.Tickets.{Ticket, cids_in_use, command, first_fields, tickets}
 use Rattle.nvme_model.specs.Verdict.{item_of, verdict_of}
 use Rattle.nvme_model.specs.declared.array.Range.{Range}
 use Rattle.nvme_model.specs.declared.config.ConfigNumbers.{ConfigNumbers}

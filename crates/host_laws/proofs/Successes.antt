@@ -6,7 +6,7 @@ use Rattle.nvme_model.specs.declared.config.ConfigNumbers.{ConfigNumbers}
 use Rattle.nvme_model.specs.EntryBytes.{cqe_bytes, field}
 use Rattle.nvme_model.specs.Statuses.{success, is_success}
 use Rattle.nvme_model.specs.History.{Past}
-use Rattle.nvme_model.specs.Tickets.{Ticket, tickets, command, first_fields, posts_of, cids, in_flight}
+use Rattle.nvme_model.specs.Tickets.{posts_of, cids}
 use Rattle.nvme_model.specs.Queues.{fetched}
 use Rattle.nvme_model.specs.Completions.{reaped, posted, completion, phase}
 use Rattle.host_laws.specs.Calls.{posted_answers, status_in, reaped_post, post_if, PostedAnswer}

@@ -6,7 +6,7 @@ use Rattle.std.proofs.lemmas.Bool.{and_parts, and_from, or_parts, or_cases, or_l
 use Rattle.nvme_model.specs.declared.config.ConfigNumbers.{ConfigNumbers}
 use Rattle.nvme_model.specs.Array.{blocks_from}
 use Rattle.nvme_model.specs.History.{Past}
-use Rattle.nvme_model.specs.Tickets.{Ticket, tickets, command, first_fields, posts_of}
+use Rattle.nvme_model.specs.Tickets.{Ticket}
 use Rattle.nvme_model.specs.Operations.{op, units, has_compare}
 use Rattle.nvme_model.specs.Open.{unit_range}
 use Rattle.nvme_model.specs.Placed.{effect}
@@ -96,8 +96,8 @@ all_third p q r (x ∷ xs) f h k =
     and_from _ _ (f x a.0 b.0) (all_third p q r xs f a.1 b.1)
 
 -- where all units have their effects and none says no, each that compares says yes
-pub equal_units : (c : ConfigNumbers) (past : Past) (q j : ℕ) (bytes : List ℕ) (d : IsDone c past q j bytes) → has_compare (op (Tickets.ticket past d.ticket)) ≡ true
+pub equal_units : (c : ConfigNumbers) (past : Past) (q j : ℕ) (bytes : List ℕ) (d : IsDone c past q j Op.Compare bytes)
     → list_all (λ u. says_yes past d.ticket u.0) (units_of c past d.ticket) ≡ true
-equal_units c past q j bytes d h =
+equal_units c past q j bytes d =
     all_third (λ u. is_some (effect past d.ticket u.0)) (λ u. says_no past d.ticket u.0) (λ u. says_yes past d.ticket u.0) (units_of c past d.ticket)
-    (λ u s n. not_no (effect past d.ticket u.0) (Tickets.ticket past d.ticket) (unit_range past d.ticket u.0) s n h) d.effects d.none_no
+    (λ u s n. not_no (effect past d.ticket u.0) (Tickets.ticket past d.ticket) (unit_range past d.ticket u.0) s n (ap has_compare d.does)) d.effects d.none_no

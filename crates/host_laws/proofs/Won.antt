@@ -7,7 +7,7 @@ use Rattle.nvme_model.specs.EntryBytes.{sqe_fields, slba, blocks}
 use Rattle.nvme_model.specs.Verdict.{taken, passed}
 use Rattle.nvme_model.specs.Array.{has_block}
 use Rattle.nvme_model.specs.History.{Past}
-use Rattle.nvme_model.specs.Tickets.{Ticket, tickets, command, first_fields, posts_of}
+use Rattle.nvme_model.specs.Tickets.{Ticket, command, first_fields, posts_of}
 use Rattle.nvme_model.specs.Queues.{published}
 use Rattle.nvme_model.specs.Operations.{op, has_write, has_compare, compare_data, write_data, op_by}
 use Rattle.nvme_model.specs.Open.{grants_of, unit_range}

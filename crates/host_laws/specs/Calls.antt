@@ -149,21 +149,22 @@ pub record PairDiffers (past : Past) (q j : ℕ) : Type 0 where
   pub pair : op (Tickets.ticket past ticket) ≡ Some Op.Pair
   pub no : says_no past ticket 0 ≡ true
 
--- an effect of each unit stands there and none says no, and this is the data that the ticket owes
-pub record IsDone (c : ConfigNumbers) (past : Past) (q j : ℕ) (contents : List ℕ) : Type 0 where
+-- its ticket does o, an effect of each unit stands there and none says no, and this is the data that the ticket owes
+pub record IsDone (c : ConfigNumbers) (past : Past) (q j : ℕ) (o : Op) (contents : List ℕ) : Type 0 where
   pub ticket : ℕ
   pub takes : takes past ticket q j ≡ true
   pub first : slice_get (published past q) j ≡ Some (command (Tickets.ticket past ticket) 0)
+  pub does : op (Tickets.ticket past ticket) ≡ Some o
   pub effects : list_all (λ u. is_some (effect past ticket u.0)) (units_of c past ticket) ≡ true
   pub none_no : some_no c past ticket ≡ false
   pub reads : contents ≡ completion_data c past ticket success
 
--- a no effect of one of the units of the Compare stands there
+-- its ticket is a Compare, and a no effect of one of its units stands there
 pub record CompareDiffers (c : ConfigNumbers) (past : Past) (q j : ℕ) : Type 0 where
   pub ticket : ℕ
   pub takes : takes past ticket q j ≡ true
   pub first : slice_get (published past q) j ≡ Some (command (Tickets.ticket past ticket) 0)
-  pub compares : has_compare (op (Tickets.ticket past ticket)) ≡ true
+  pub compares : op (Tickets.ticket past ticket) ≡ Some Op.Compare
   pub no : some_no c past ticket ≡ true
 
 -- it failed its checks, and has no Block

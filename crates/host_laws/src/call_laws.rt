@@ -1,13 +1,12 @@
 //! What a reaped completion says of the command that it answers. A command is named by its submission queue and its
 //! number there, from 0.
 
-ghost use Rattle.std.specs.Prelude.{◌≡◌, suc, ◌≤◌, ◌∷◌, ◌++◌, ℕ, List, true, false, Some, None, length, ◌||◌};
+ghost use Rattle.std.specs.Prelude.{◌≡◌, suc, ◌≤◌, ◌∷◌, ◌++◌, ℕ, List, true, false, Some, None, length};
 ghost use Rattle.std.specs.List.{Contains, list_any, list_all};
 ghost use Rattle.nvme_model.specs.Statuses.{compare_failure, failed_fused, is_success, same_status};
 ghost use Rattle.nvme_model.specs.History.{Past};
 ghost use Rattle.nvme_model.specs.Tickets.{ticket, cids_in_use};
 ghost use Rattle.nvme_model.specs.Queues.{published};
-ghost use Rattle.nvme_model.specs.Operations.{op, has_compare};
 ghost use Rattle.nvme_model.specs.Open.{blocks_made, is_written};
 ghost use Rattle.nvme_model.specs.Placed.{effect};
 ghost use Rattle.nvme_model.specs.Owed.{units_of};
@@ -61,15 +60,15 @@ pub fn a_second_fails_with_its_first()
         status_in r.cqe ≡ failed_fused }
 {}
 
-/// Where success was reaped for a Read, Write, Write Zeroes or Compare by itself, each of its units has its effect, none
-/// of them says no, and its data is what the ticket owes. Compare Failure is answered to a Compare alone, of which an
-/// effect says no.
+/// Where success was reaped for a Read, Write, Write Zeroes or Compare by itself, its ticket does that, each of its
+/// units has its effect, none of them says no, and its data is what the ticket owes. Compare Failure is answered to a
+/// Compare alone, of which an effect says no.
 pub fn a_command_is_answered()
     ensures done { (c : ConfigNumbers) (past : Past) (q j : ℕ) (o : Op) (p : PostLine) → IsLegal c past →
         IsSingle past q j o → reaped_post c past q j ≡ Some p → is_success (status_in p.cqe) ≡ true →
-        IsDone c past q j p.payload }
-    ensures equal { (c : ConfigNumbers) (past : Past) (q j : ℕ) (bytes : List ℕ) (d : IsDone c past q j bytes) →
-        has_compare (op (ticket past d.ticket)) ≡ true →
+        IsDone c past q j o p.payload }
+    ensures equal { (c : ConfigNumbers) (past : Past) (q j : ℕ) (bytes : List ℕ) →
+        (d : IsDone c past q j Op.Compare bytes) →
         list_all (λ u. says_yes past d.ticket u.0) (units_of c past d.ticket) ≡ true }
     ensures differs { (c : ConfigNumbers) (past : Past) (q j : ℕ) (o : Op) (p : PostLine) → IsLegal c past →
         IsSingle past q j o → reaped_post c past q j ≡ Some p → status_in p.cqe ≡ compare_failure →

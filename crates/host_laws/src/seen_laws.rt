@@ -1,6 +1,6 @@
 //! What a caller has learnt stays true of all that it sees later, and what a driver has to keep of its queues.
 
-ghost use Rattle.std.specs.Prelude.{◌≡◌, ◌≢◌, suc, ◌+◌, ◌≤◌, ◌∷◌, ◌++◌, ℕ, List, [], false, true, Some, None, length};
+ghost use Rattle.std.specs.Prelude.{◌≡◌, ◌≢◌, ◌+◌, ◌≤◌, ◌∷◌, ◌++◌, ℕ, List, [], false, true, Some, None, length};
 ghost use Rattle.std.specs.Prelude.{slice_get};
 ghost use Rattle.std.specs.List.{Contains};
 ghost use Rattle.nvme_model.specs.Completions.{reaped};
@@ -39,8 +39,8 @@ pub fn what_was_learnt_stays()
         PairSwaps past q j → PairSwaps (later ++ past) q j }
     ensures pair_differs { (c : ConfigNumbers) (later past : Past) (q j : ℕ) → IsLegal c (later ++ past) →
         PairDiffers past q j → PairDiffers (later ++ past) q j }
-    ensures done { (c : ConfigNumbers) (later past : Past) (q j : ℕ) (bytes : List ℕ) → IsLegal c (later ++ past) →
-        IsDone c past q j bytes → IsDone c (later ++ past) q j bytes }
+    ensures done { (c : ConfigNumbers) (later past : Past) (q j : ℕ) (o : Op) (bytes : List ℕ) →
+        IsLegal c (later ++ past) → IsDone c past q j o bytes → IsDone c (later ++ past) q j o bytes }
     ensures compare_differs { (c : ConfigNumbers) (later past : Past) (q j : ℕ) → IsLegal c (later ++ past) →
         CompareDiffers c past q j → CompareDiffers c (later ++ past) q j }
     ensures failed { (c : ConfigNumbers) (later past : Past) (q j : ℕ) → IsLegal c (later ++ past) →

@@ -7,7 +7,7 @@ ghost use Rattle.nvme_model.specs.Array.{has_block, zeros};
 ghost use Rattle.nvme_model.specs.Config.{completion_queue};
 ghost use Rattle.nvme_model.specs.History.{Past};
 ghost use Rattle.nvme_model.specs.Passes.{SharedPast, entries, places};
-ghost use Rattle.nvme_model.specs.Slots.{Name, Swap, believed, disciplined, holder, in_area, keeps_discipline, name_of};
+ghost use Rattle.nvme_model.specs.Slots.{Name, Swap, believed, disciplined, holder, keeps_discipline, name_of};
 ghost use Rattle.nvme_model.specs.Slots.{on_its_queue, same_name, slot_block, swaps, touches};
 ghost use Rattle.nvme_model.specs.Legal.{IsLegal};
 ghost use Rattle.nvme_model.specs.Statuses.{is_success};
