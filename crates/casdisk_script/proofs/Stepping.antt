@@ -34,7 +34,7 @@ refusal_is None why e n = absurd (n e)
 refusal_is (Some x) why e n = ap Some (sym e)
 
 module _ (kinds : ℕ) (old new : State) (step : Step) (w v : Option (List ℕ)) where
-  module _ (r : Result (Unit {0}) WriteFault) (none : refusal old.config old.past step ≡ None) (made : new ≡ after old step) where
+  module _ (r : Result (Unit {0}) WriteFault) (none : refusal old.config old.past step ≡ None) (made : new ≡ after old step new.room) where
     pub made_done : ((e : Entry) (past : Past) → new.past ≡ e ∷ past → OnOk r (Appends w v (entry_text kinds e)))
         → OnOk r (Says (step_says kinds old.config old.past step) new.past w v)
     made_done told =
@@ -50,7 +50,7 @@ module _ (kinds : ℕ) (old new : State) (step : Step) (w v : Option (List ℕ))
         (told (next_entry old.config old.past step) old.past (ap (λ (x : State). x.past) made))
 
   module _ (why : Why) (is : why ≡ unwrap_or (refusal old.config old.past step) Why.NoMemory) where
-    pub refused_done : (r : Result (Unit {0}) WriteFault) → new ≡ old → OnOk r (Appends w v (refusal_text kinds why)) → OnOk r (why ≢ Why.NoMemory)
+    pub refused_done : (r : Result (Unit {0}) WriteFault) → new ≡ record old { room = new.room } → OnOk r (Appends w v (refusal_text kinds why)) → OnOk r (why ≢ Why.NoMemory)
         → OnOk r (Says (step_says kinds old.config old.past step) new.past w v)
     refused_done (Ok x) same told other =
         subst (λ o. Says (step_by kinds old.config old.past step o) new.past w v) (sym (refusal_is _ why is other)) (ap (λ (x : State). x.past) same, told)

@@ -1,6 +1,6 @@
 //! The ranges that tickets hold.
 
-ghost use Rattle.std.specs.Prelude.{◌≡◌, ◌+◌, ◌-◌, ◌≤◌, ◌↔◌, ◌⊎◌, [], ◌∷◌, IfErr, IsTrue, OnErr, OnOk, false, is_some, reverse, vec_capacity, vec_len};
+ghost use Rattle.std.specs.Prelude.{◌≡◌, ◌+◌, ◌-◌, ◌≤◌, ◌<◌, ◌↔◌, ◌⊎◌, [], ◌∷◌, IfErr, IsTrue, OnErr, OnOk, false, is_some, reverse, vec_capacity, vec_len};
 ghost use Rattle.range_reserve.specs.Reserved.{AreApart, IsRange, has_conflict, has_ticket, held_beside, held_by};
 
 use crate::conflicts::has_conflict;
@@ -43,9 +43,10 @@ impl Ranges {
     ///
     /// # Errors
     ///
-    /// `NoMemory` where a growth is refused. What is held is the same in both outcomes, and the room is no less.
+    /// `NoMemory` where there was less room and a growth is refused. What is held is the same in both outcomes, and the room is no less.
     pub fn reserve(&mut self, more: usize) -> Result<(), NoMemory>
         ensures ok { OnOk result (more ≤ self.new.room) }
+        ensures full { OnErr result (self.old.room < more) }
         ensures room { self.old.room ≤ self.new.room }
         ensures held { self.new.held ≡ self.old.held }
     {

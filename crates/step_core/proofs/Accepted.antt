@@ -1,12 +1,13 @@
 -- A step that nothing refuses, told of the fields and of the controller's value.
-use Rattle.std.proofs.Common.{◌≡◌, ℕ, ◌∷◌, Option, None, Ok, sym, ap, ◌∙◌, subst}
+use Rattle.std.proofs.Common.{◌≡◌, ℕ, ◌∷◌, Option, None, Ok, Err, refl, sym, ap, ◌∙◌, subst, arith}
+use Rattle.std.specs.Prelude.{unwrap_or}
 use Rattle.nvme_model.specs.declared.entry.Entry.{Entry}
 use Rattle.nvme_model.specs.declared.refusal.Why.{Why}
 use Rattle.nvme_model.specs.declared.step.Step.{Step}
 use Rattle.nvme_model.specs.History.{Past}
 use Rattle.nvme_model.specs.Refusals.{refusal}
 use Rattle.nvme_model.specs.Steps.{next_entry}
-use Rattle.step_core.specs.State.{Does, State, answer_of, promised_after}
+use Rattle.step_core.specs.State.{Does, Room, State, TakesRoom, WantsMemory, answer_of, promised_after}
 use Rattle.step_core.specs.declared.answer.Answer.{Answer}
 
 -- what is found of the value is so of the fields
@@ -15,22 +16,31 @@ pub accepted : (inside old : State) (step : Step) (o : Option Why) → inside �
 accepted inside old step o same found none = ap (λ (x : State). refusal x.config x.past step) same ∙ sym found ∙ none
 
 -- what an accepted step does, by the entry that it adds
-pub does_accepted : (inside old : State) (step : Step) (a : Answer) (e : Entry) (p : Past) (n : ℕ) → inside ≡ old
+pub does_accepted : (inside old : State) (step : Step) (a : Answer) (e : Entry) (p : Past) (n : ℕ) (room : Room) → inside ≡ old
     → refusal inside.config inside.past step ≡ None
     → e ≡ next_entry inside.config inside.past step
     → a ≡ answer_of inside.config inside.past (next_entry inside.config inside.past step)
-    → p ≡ e ∷ inside.past → n ≡ promised_after step inside.promised
-    → Does old step (Ok a) (record { config = inside.config; past = p; promised = n })
-does_accepted inside old step a e p n same none entry answer past promised =
-    subst (λ (x : State). Does x step (Ok a) (record { config = inside.config; past = p; promised = n })) same (
+    → p ≡ e ∷ inside.past → n ≡ promised_after step inside.promised → TakesRoom step inside.room room
+    → Does old step (Ok a) (record { config = inside.config; past = p; promised = n; room = room })
+does_accepted inside old step a e p n room same none entry answer past promised takes =
+    subst (λ (x : State). Does x step (Ok a) (record { config = inside.config; past = p; promised = n; room = room })) same (
       none,
       answer,
       (λ i. record {
         config = inside.config;
         past = (past ∙ ap (λ (y : Entry). y ∷ inside.past) entry) i;
         promised = promised i;
+        room = room;
       }),
+      takes,
     )
+
+-- what a step does that wants memory and leaves all as it was
+pub does_wanting : (inside old : State) (step : Step) → inside ≡ old → refusal inside.config inside.past step ≡ None → WantsMemory inside step
+    → Does old step (Err Why.NoMemory) old
+does_wanting inside old step same none wants =
+    subst (λ (x : State). Does x step (Err Why.NoMemory) x) same
+    (ap (λ (o : Option Why). unwrap_or o Why.NoMemory) (sym none), refl, record { entries = omega arith; ranges = omega arith }, wants)
 
 -- the history with one more entry, where making room left it as it was
 pub one_more : (e : Entry) (p made old : Past) → made ≡ old → p ≡ e ∷ made → p ≡ e ∷ old

@@ -38,7 +38,7 @@ use Rattle.job_table.specs.declared.job.Job.{Job}
 use Rattle.step_core.specs.Blocks.{CanMake, finds_equal, noted_job, part_of, read_of}
 use Rattle.step_core.specs.Fields.{completion_ring, job_at, job_by, submission_ring, write_bytes_by}
 use Rattle.step_core.specs.Kept.{IsKept, IsTable}
-use Rattle.step_core.specs.State.{Does, State, answer_of}
+use Rattle.step_core.specs.State.{Does, Room, State, TakesRoom, answer_of}
 use Rattle.step_core.specs.declared.answer.Answer.{Answer}
 use Rattle.step_core.proofs.BlockData.{IsUnit, can_make, done_same, finds_same, not_false, run_is, unit_found}
 use Rattle.step_core.proofs.BlockKept.{read_now, volume_now}
@@ -72,7 +72,7 @@ pub record IsMade (y : Job) (v : List (List ℕ)) (d : Done) (v' : List (List �
   pub job : IfSome y.run (λ p. y' ≡ noted_job (record y { read = read_of y p v d.found }) (stepped p (finds_equal y p v)) d)
 
 -- nothing refuses a Block of ticket t, in the fields where it is so in the value that contracts see
-pub block_seen : (c : ConfigNumbers) (past : Past) (n : ℕ) (x : State) (t : ℕ) (o : Option Why) → record { config = c; past = past; promised = n } ≡ x → o ≡ refusal x.config x.past (Step.Block t) → o ≡ None
+pub block_seen : (c : ConfigNumbers) (past : Past) (n : ℕ) {w : Room} (x : State) (t : ℕ) (o : Option Why) → record { config = c; past = past; promised = n; room = w } ≡ x → o ≡ refusal x.config x.past (Step.Block t) → o ≡ None
     → refusal c past (Step.Block t) ≡ None
 block_seen c past n x t o view e none = ap (λ (y : State). refusal y.config y.past (Step.Block t)) view ∙ sym e ∙ none
 
@@ -143,12 +143,12 @@ module _ (c : ConfigNumbers) (past : Past) (v : List (List ℕ)) (s : List Submi
           ∙ ap (answer_of c past) (entry_is c past t u.0 u.1 u.2)
 
       -- so the step is done
-      pub block_does : (x : State) (p p' : ℕ) (h past' : Past) → record { config = c; past = past; promised = p } ≡ x → h ≡ past
-          → past' ≡ Entry.Block (record { ticket = t; unit = y.opened - 1; lba = d.lba; found = d.found; effect = d.effect }) ∷ h → p' ≡ p - 1
-          → Does x (Step.Block t) (Ok (Answer.Blocked d)) (record { config = c; past = past'; promised = p' })
-      block_does x p p' h past' view same_past is_past is_left =
-          subst (λ (w : State). Does w (Step.Block t) (Ok (Answer.Blocked d)) (record { config = c; past = past'; promised = p' })) view
-          (none, answer_is, (λ z. record { config = c; past = (is_past ∙ ap₂ (λ (e : Entry) (w : Past). e ∷ w) next_is same_past) z; promised = is_left z }))
+      pub block_does : (x : State) (p p' : ℕ) (w w' : Room) (h past' : Past) → record { config = c; past = past; promised = p; room = w } ≡ x → h ≡ past
+          → past' ≡ Entry.Block (record { ticket = t; unit = y.opened - 1; lba = d.lba; found = d.found; effect = d.effect }) ∷ h → p' ≡ p - 1 → TakesRoom (Step.Block t) w w'
+          → Does x (Step.Block t) (Ok (Answer.Blocked d)) (record { config = c; past = past'; promised = p'; room = w' })
+      block_does x p p' w w' h past' view same_past is_past is_left takes =
+          subst (λ (y : State). Does y (Step.Block t) (Ok (Answer.Blocked d)) (record { config = c; past = past'; promised = p'; room = w' })) view
+          (none, answer_is, (λ z. record { config = c; past = (is_past ∙ ap₂ (λ (e : Entry) (w : Past). e ∷ w) next_is same_past) z; promised = is_left z; room = w' }), takes)
 
       -- the fields after it
       pub kept : (h past' : Past) (r' : List Held) → h ≡ past → past' ≡ Entry.Block (record { ticket = t; unit = y.opened - 1; lba = d.lba; found = d.found; effect = d.effect }) ∷ h → r' ≡ cond d.ended (held_beside r t) r

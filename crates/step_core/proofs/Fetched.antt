@@ -46,7 +46,7 @@ use Rattle.rings.specs.Submissions.{SubmissionRing, advanced}
 use Rattle.step_core.specs.Fetches.{IsJudged, commands_of, first_job, kind_in, read_first}
 use Rattle.step_core.specs.Fields.{completion_ring, job_at, job_by, job_table, submission_ring}
 use Rattle.step_core.specs.Kept.{IsKept}
-use Rattle.step_core.specs.State.{Does, State, work_of}
+use Rattle.step_core.specs.State.{Does, Room, State, TakesRoom, work_of}
 use Rattle.step_core.specs.Works.{IsKind, TicketWork}
 use Rattle.step_core.specs.declared.answer.Answer.{Answer}
 use Rattle.step_core.specs.declared.work.Kind.{Kind}
@@ -265,14 +265,14 @@ module _ (c : ConfigNumbers) (past : Past) (v : List (List ℕ)) (s : List Submi
       subst (λ (y : Past). IsKept c y v (set s (t - 1) later) q table r (n + 1)) (sym h) kept
 
   -- the step is done, and the answer is the new ticket and its work
-  pub fetch_done : (y : State) (p : ℕ) (w : Verdict) (now then : Past) (work : TicketWork) (u : AtomicParameters) (kind : Kind) → record { config = c; past = past; promised = p } ≡ y → w ≡ verdict_by x → now ≡ past
-      → then ≡ Entry.Fetch (record { queue = t; ticket = n + 1; verdict = w }) ∷ now → u ≡ c.atomic → kind ≡ kind_in x → work ≡ record { ticket = n + 1; atomic = u; kind = kind }
-      → Does y (Step.Fetch t) (Ok (Answer.Fetched work)) (record { config = c; past = then; promised = p })
-  fetch_done y p w now then work u kind view says same pushed units does made =
+  pub fetch_done : (y : State) (p : ℕ) (room left : Room) (w : Verdict) (now then : Past) (work : TicketWork) (u : AtomicParameters) (kind : Kind) → record { config = c; past = past; promised = p; room = room } ≡ y → w ≡ verdict_by x → now ≡ past
+      → then ≡ Entry.Fetch (record { queue = t; ticket = n + 1; verdict = w }) ∷ now → u ≡ c.atomic → kind ≡ kind_in x → work ≡ record { ticket = n + 1; atomic = u; kind = kind } → TakesRoom (Step.Fetch t) room left
+      → Does y (Step.Fetch t) (Ok (Answer.Fetched work)) (record { config = c; past = then; promised = p; room = left })
+  fetch_done y p room left w now then work u kind view says same pushed units does made takes =
       let work_is : work ≡ work_of c (Tickets.tickets past + 1) (fetched_ticket past t (next_verdict c past t)) =
       made ∙ (λ i. record { ticket = k.count i + 1; atomic = units i; kind = (does ∙ kind_is t x (take (taken (verdict_by x)) (waiting past t)) names) i })
       ∙ ap (λ (v : Verdict). work_of c (Tickets.tickets past + 1) (fetched_ticket past t v)) a.1.verdict in
       let past_is : then ≡ next_entry c past (Step.Fetch t) ∷ past =
       pushed ∙ (λ i. Entry.Fetch (record { queue = t; ticket = k.count i + 1; verdict = says i }) ∷ same i) ∙ ap (λ (e : Entry). e ∷ past) entry_is in
-      subst (λ (z : State). Does z (Step.Fetch t) (Ok (Answer.Fetched work)) (record { config = c; past = then; promised = p })) view
-      (a.0, ap (λ (v : TicketWork). Answer.Fetched v) work_is, (λ i. record { config = c; past = past_is i; promised = p }))
+      subst (λ (z : State). Does z (Step.Fetch t) (Ok (Answer.Fetched work)) (record { config = c; past = then; promised = p; room = left })) view
+      (a.0, ap (λ (v : TicketWork). Answer.Fetched v) work_is, (λ i. record { config = c; past = past_is i; promised = p; room = left }), takes)

@@ -33,7 +33,7 @@ use Rattle.job_table.specs.Jobs.{JobTable, job_of, replaced}
 use Rattle.job_table.specs.declared.job.Job.{Job}
 use Rattle.step_core.specs.Fields.{compare_bytes, completion_ring, fresh_run, job_at, job_by, opened_job, read_bytes_by, run_by, submission_ring, write_bytes_by}
 use Rattle.step_core.specs.Kept.{IsKept}
-use Rattle.step_core.specs.State.{State, ticket_range}
+use Rattle.step_core.specs.State.{Room, State, ticket_range}
 use Rattle.step_core.proofs.Bounds.{left_within, opened_few, unit_range_is}
 use Rattle.step_core.proofs.Granting.{job_left, job_op, job_opened}
 use Rattle.step_core.proofs.Moves.{job_found, jobs_moved, legal_after, stepped}
@@ -112,7 +112,7 @@ abbrev pub IsGrant : ConfigNumbers → Past → ℕ → GrantLine → Type 0
 IsGrant c past t g = (refusal c past (Step.Grant t) ≡ None) × (Entry.Grant g ≡ next_entry c past (Step.Grant t))
 
 -- it is one of the fields where it is one of the value that contracts see
-pub grant_seen : (c : ConfigNumbers) (past : Past) (p : ℕ) (x : State) (t : ℕ) (g : GrantLine) → record { config = c; past = past; promised = p } ≡ x → IsGrant x.config x.past t g → IsGrant c past t g
+pub grant_seen : (c : ConfigNumbers) (past : Past) (p : ℕ) {w : Room} (x : State) (t : ℕ) (g : GrantLine) → record { config = c; past = past; promised = p; room = w } ≡ x → IsGrant x.config x.past t g → IsGrant c past t g
 grant_seen c past p x t g e a = subst (λ (y : State). IsGrant y.config y.past t g) (sym e) a
 
 module _ (c : ConfigNumbers) (past : Past) (v : List (List ℕ)) (s : List SubmissionRing) (q : List CompletionRing) (j : JobTable) (r : List Held) (n : ℕ) (k : IsKept c past v s q j r n) (t : ℕ) (g : GrantLine) (a : IsGrant c past t g) where

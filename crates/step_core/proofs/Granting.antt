@@ -25,11 +25,11 @@ use Rattle.job_table.specs.Jobs.{JobTable}
 use Rattle.job_table.specs.declared.job.Job.{Job}
 use Rattle.step_core.specs.Fields.{job_at, job_by, run_by}
 use Rattle.step_core.specs.Kept.{IsJob, IsKept}
-use Rattle.step_core.specs.State.{State}
+use Rattle.step_core.specs.State.{Room, State}
 use Rattle.step_core.proofs.Bounds.{left_within}
 
 -- what is kept is so of the value that contracts see
-pub seen : (c : ConfigNumbers) (past : Past) (p : ℕ) (x : State) (v : List (List ℕ)) (s : List SubmissionRing) (q : List CompletionRing) (j : JobTable) (r : List Held) (n : ℕ) → record { config = c; past = past; promised = p } ≡ x
+pub seen : (c : ConfigNumbers) (past : Past) (p : ℕ) {w : Room} (x : State) (v : List (List ℕ)) (s : List SubmissionRing) (q : List CompletionRing) (j : JobTable) (r : List Held) (n : ℕ) → record { config = c; past = past; promised = p; room = w } ≡ x
     → IsKept c past v s q j r n → IsKept x.config x.past v s q j r n
 seen c past p x v s q j r n e k = subst (λ (y : State). IsKept y.config y.past v s q j r n) e k
 

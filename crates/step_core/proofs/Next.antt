@@ -17,7 +17,7 @@ use Rattle.job_table.specs.declared.job.Job.{Job}
 use Rattle.job_table.specs.declared.jobs.InFlight.{InFlight}
 use Rattle.job_table.proofs.Tables.{length-jobs_by, slice_get-jobs_by}
 use Rattle.step_core.specs.Fields.{job_at, job_table}
-use Rattle.step_core.specs.State.{State}
+use Rattle.step_core.specs.State.{Room, State}
 use Rattle.step_core.specs.Ready.{next_step, ready_among, steps_of}
 
 -- ---- lists
@@ -109,7 +109,7 @@ ticket_of (Some t) g e h = ap (λ (y : InFlight). Some y.ticket) (some_inj h)
     some_inj : {x y : InFlight} → Some x ≡ Some y → x ≡ y
     some_inj h = cc
 
-module _ (x : State) (j : JobTable) (c : ConfigNumbers) (past : Past) (m : ℕ) (view : record { config = c; past = past; promised = m } ≡ x) (table : j ≡ job_table c past) where
+module _ (x : State) (j : JobTable) (c : ConfigNumbers) (past : Past) (m : ℕ) {w : Room} (view : record { config = c; past = past; promised = m; room = w } ≡ x) (table : j ≡ job_table c past) where
   -- the ticket at this place
   pub nth_ticket : (i : ℕ) (e : InFlight) → slice_get j.jobs i ≡ Some e → slice_get (flying x.past) i ≡ Some e.ticket
   nth_ticket i e h =

@@ -85,6 +85,19 @@ size_two c e = two c.cq_size (or_parts (nat_lt c.cq_size 2) (nat_lt 1024 c.cq_si
     two : (n : ℕ) → nat_lt n 2 ≡ false → 2 ≤ n
     two n h = ltb-false _ _ h
 
+-- only a Read has bytes that it has read
+reads_by : (o : Option Op) (k : Ticket) (read : List ℕ) → read_bytes_by o k read ≢ [] → o ≡ Some Op.Read
+reads_by None k read some = absurd (some refl)
+reads_by (Some Op.Read) k read some = refl
+reads_by (Some Op.Write) k read some = absurd (some refl)
+reads_by (Some Op.Compare) k read some = absurd (some refl)
+reads_by (Some Op.WriteZeroes) k read some = absurd (some refl)
+reads_by (Some Op.Pair) k read some = absurd (some refl)
+
+pub only_reads : (c : ConfigNumbers) (past : Past) (t : ℕ) → (job_at c past t).read ≢ [] → op (Tickets.ticket past t) ≡ Some Op.Read
+unfolding job_by
+only_reads c past t some = reads_by (op (Tickets.ticket past t)) (Tickets.ticket past t) _ some
+
 module _ (c : ConfigNumbers) (past : Past) (v : List (List ℕ)) (s : List SubmissionRing) (q : List CompletionRing) (j : JobTable) (r : List Held) (n : ℕ) (k : IsKept c past v s q j r n)
     (t : ℕ) (d : Due) (none : refusal c past (Step.Post t) ≡ None) (due : IsDue c past t d) where
   flies : in_flight past t ≡ true

@@ -29,7 +29,7 @@ use Rattle.completions.proofs.CompletionLemmas.{completion_bytes-completion}
 use Rattle.step_core.specs.declared.machine.post.Due.{Due}
 use Rattle.step_core.specs.Fields.{completion_of, completion_ring, job_by, submission_ring}
 use Rattle.step_core.specs.Kept.{IsDue, IsJob, IsKept}
-use Rattle.step_core.specs.State.{State}
+use Rattle.step_core.specs.State.{Room, State}
 use Rattle.range_reserve.specs.declared.held.Held.{Held}
 use Rattle.job_table.specs.Jobs.{JobTable}
 use Rattle.std.proofs.Math.Nat.{mod-lt}
@@ -171,7 +171,7 @@ due_is c past t j s cid x r cqe d kept k owes has ring sring fields bytes queue 
 -- ---- what `post_due` finds
 
 module _ (c : ConfigNumbers) (past : Past) (v : List (List ℕ)) (s : List SubmissionRing) (q : List CompletionRing) (j : JobTable) (r : List Held) (n : ℕ) (k : IsKept c past v s q j r n)
-    (x : State) (m : ℕ) (view : record { config = c; past = past; promised = m } ≡ x) (t : ℕ) (job : Job) (is : IsJob x.config x.past t job) where
+    (x : State) (m : ℕ) {w : Room} (view : record { config = c; past = past; promised = m; room = w } ≡ x) (t : ℕ) (job : Job) (is : IsJob x.config x.past t job) where
   mine : IsJob c past t job
   mine = subst (λ (y : State). IsJob y.config y.past t job) (sym view) is
 

@@ -1,5 +1,5 @@
 -- What a controller is, and what a step does to it.
-use Rattle.std.specs.Prelude.{Err, List, None, Ok, Option, Result, Some, slice_get, unwrap_or, ℕ, [], ◌-◌, ◌∷◌, ◌≡◌}
+use Rattle.std.specs.Prelude.{Err, List, None, Ok, Option, Result, Some, slice_get, unwrap_or, ℕ, [], ◌+◌, ◌-◌, ◌^◌, ◌<◌, ◌≤◌, ◌∷◌, ◌≡◌, ◌⊎◌}
 use Rattle.nvme_model.specs.Completions.{posted, reaped}
 use Rattle.nvme_model.specs.EntryBytes.{blocks, slba}
 use Rattle.nvme_model.specs.History.{Past}
@@ -7,7 +7,7 @@ use Rattle.nvme_model.specs.Open.{has_ended, unit_range}
 use Rattle.nvme_model.specs.Operations.{op}
 use Rattle.nvme_model.specs.Refusals.{refusal}
 use Rattle.nvme_model.specs.Steps.{next_entry}
-use Rattle.nvme_model.specs.Tickets.{Ticket, fetched_ticket, first_fields}
+use Rattle.nvme_model.specs.Tickets.{Ticket, fetched_ticket, first_fields, next_verdict, ticket}
 use Rattle.nvme_model.specs.declared.array.Range.{Range}
 use Rattle.nvme_model.specs.declared.config.ConfigNumbers.{ConfigNumbers}
 use Rattle.nvme_model.specs.declared.entry.BlockLine.{BlockLine}
@@ -23,11 +23,17 @@ use Rattle.step_core.specs.declared.answer.Refused.{Refused}
 use Rattle.step_core.specs.declared.work.Kind.{Kind}
 use Rattle.step_core.specs.Works.{TicketWork}
 
--- a controller: its configuration, its history, and how many of the next Grants, Blocks and Reaps have their memory
+-- how many entries of the history, and how many ranges of open units, need no memory
+pub record Room : Type 0 where
+  pub entries : ℕ
+  pub ranges : ℕ
+
+-- a controller: its configuration, its history, how many of the next Grants, Blocks and Reaps have their memory, and the room that is there
 pub record State : Type 0 where
   pub config : ConfigNumbers
   pub past : Past
   pub promised : ℕ
+  pub room : Room
 
 -- ---- what is answered
 
@@ -84,21 +90,53 @@ promised_after (Step.Block t) n = n - 1
 promised_after (Step.Reap q) n = n - 1
 promised_after _ n = n
 
--- after an accepted step
-abbrev pub after : State → Step → State
-after x step = record { config = x.config; past = next_entry x.config x.past step ∷ x.past; promised = promised_after step x.promised }
+-- after an accepted step, with this room
+abbrev pub after : State → Step → Room → State
+after x step room =
+    record { config = x.config; past = next_entry x.config x.past step ∷ x.past; promised = promised_after step x.promised; room = room }
+
+-- how many ranges a step takes the room of
+abbrev pub ranges_taken : Step → ℕ
+ranges_taken (Step.Grant t) = 1
+ranges_taken _ = 0
+
+-- an accepted step takes the room of one entry at most, and a Grant that of one range
+pub record TakesRoom (step : Step) (old new : Room) : Type 0 where
+  pub entries : old.entries ≤ new.entries + 1
+  pub ranges : old.ranges ≤ new.ranges + ranges_taken step
+
+-- there is no less room than before
+pub record KeepsRoom (old new : Room) : Type 0 where
+  pub entries : old.entries ≤ new.entries
+  pub ranges : old.ranges ≤ new.ranges
+
+-- what is promised has its room
+pub record HasPromised (x : State) : Type 0 where
+  pub entries : x.promised ≤ x.room.entries
+  pub ranges : x.promised ≤ x.room.ranges
+
+-- there is not the room for so many entries and ranges: no memory has it for 2^64 - 1
+abbrev pub LacksRoom : Room → ℕ → Type 0
+LacksRoom room n = (room.entries < n) ⊎ (room.ranges < n) ⊎ (2 ^ 64 ≤ n + 1)
 
 -- a refused batch comes back
 abbrev pub refused_as : Step → Why → Refused
 refused_as (Step.Publish q batch) why = Refused.Publish why batch
 refused_as _ why = Refused.Step why
 
--- where a promise stands no Grant, Block or Reap wants memory
-abbrev pub KeepsPromise : State → Step → Type 0
-KeepsPromise x (Step.Grant t) = refusal x.config x.past (Step.Grant t) ≡ None → x.promised ≡ 0
-KeepsPromise x (Step.Block t) = refusal x.config x.past (Step.Block t) ≡ None → x.promised ≡ 0
-KeepsPromise x (Step.Reap q) = refusal x.config x.past (Step.Reap q) ≡ None → x.promised ≡ 0
-KeepsPromise x _ = Unit {0}
+-- A step that nothing refuses is answered want of memory only for a cause: a Grant, a Block or a Reap where nothing is promised and there
+-- is no room for it; a Fetch or a Post where all room is promised, or where it is of a Read, whose data needs memory of its own. A Publish
+-- always needs memory for its batch.
+abbrev pub WantsMemory : State → Step → Type 0
+WantsMemory x (Step.Grant t) = refusal x.config x.past (Step.Grant t) ≡ None → (x.promised ≡ 0) × ((x.room.entries ≡ 0) ⊎ (x.room.ranges ≡ 0))
+WantsMemory x (Step.Block t) = refusal x.config x.past (Step.Block t) ≡ None → (x.promised ≡ 0) × (x.room.entries ≡ 0)
+WantsMemory x (Step.Reap q) = refusal x.config x.past (Step.Reap q) ≡ None → (x.promised ≡ 0) × (x.room.entries ≡ 0)
+WantsMemory x (Step.Fetch q) =
+    refusal x.config x.past (Step.Fetch q) ≡ None →
+    (x.room.entries ≤ x.promised) ⊎ (op (fetched_ticket x.past q (next_verdict x.config x.past q)) ≡ Some Op.Read)
+WantsMemory x (Step.Post t) =
+    refusal x.config x.past (Step.Post t) ≡ None → (x.room.entries ≤ x.promised) ⊎ (op (ticket x.past t) ≡ Some Op.Read)
+WantsMemory x (Step.Publish q batch) = Unit {0}
 
 -- a step that is accepted behind this history: nothing refuses it, this is the entry that it adds, and the answer is what that says
 abbrev pub Accepts : ConfigNumbers → Past → Step → Entry → Answer → Type 0
@@ -108,12 +146,12 @@ Accepts c past step e a = (refusal c past step ≡ None) × (e ≡ next_entry c 
 abbrev pub Refuses : ConfigNumbers → Past → Step → Refused → Type 0
 Refuses c past step r = r ≡ refused_as step (unwrap_or (refusal c past step) Why.NoMemory)
 
--- A step is accepted, and then adds its entry; or it is refused, and nothing has changed.
+-- A step is accepted, and then adds its entry; or it is refused, and nothing has changed, but that there may be more room.
 abbrev pub Serves : State → Step → Result Answer Refused → State → Type 0
-Serves old step (Ok a) new = Accepts old.config old.past step (next_entry old.config old.past step) a × (new ≡ after old step)
-Serves old step (Err r) new = Refuses old.config old.past step r × (new ≡ old) × KeepsPromise old step
+Serves old step (Ok a) new = Accepts old.config old.past step (next_entry old.config old.past step) a × (new ≡ after old step new.room) × TakesRoom step old.room new.room
+Serves old step (Err r) new = Refuses old.config old.past step r × (new ≡ record old { room = new.room }) × KeepsRoom old.room new.room × WantsMemory old step
 
 -- the same of a step whose refusal hands nothing back
 abbrev pub Does : State → Step → Result Answer Why → State → Type 0
-Does old step (Ok a) new = (refusal old.config old.past step ≡ None) × (a ≡ answer_of old.config old.past (next_entry old.config old.past step)) × (new ≡ after old step)
-Does old step (Err why) new = (why ≡ unwrap_or (refusal old.config old.past step) Why.NoMemory) × (new ≡ old) × KeepsPromise old step
+Does old step (Ok a) new = (refusal old.config old.past step ≡ None) × (a ≡ answer_of old.config old.past (next_entry old.config old.past step)) × (new ≡ after old step new.room) × TakesRoom step old.room new.room
+Does old step (Err why) new = (why ≡ unwrap_or (refusal old.config old.past step) Why.NoMemory) × (new ≡ record old { room = new.room }) × KeepsRoom old.room new.room × WantsMemory old step

@@ -10,6 +10,7 @@ ghost use Rattle.nvme_model.specs.Laws.{is_held};
 ghost use Rattle.nvme_model.specs.Value.{value};
 ghost use Rattle.rings.specs.Slots.{IsSize};
 ghost use Rattle.step_core.specs.Kept.{IsCqRing, IsJob, IsSqRing};
+ghost use Rattle.step_core.specs.State.{HasPromised, KeepsRoom, LacksRoom};
 
 mod block;
 mod fetch;
@@ -44,15 +45,15 @@ pub struct Core {
 }
 
 impl Model for Core {
-    ghost use Rattle.std.specs.Prelude.{◌≤◌};
+    ghost use Rattle.std.specs.Prelude.{◌+◌, ◌^◌, ◌<◌, ◌≤◌};
     ghost use Rattle.step_core.specs.Kept.{IsKept};
     ghost use Rattle.step_core.specs.State.{State};
 
     ghost Value = { State };
 
-    ghost view = { λ c. record { config = c.config; past = c.history.past; promised = c.promised } };
+    ghost view = { λ c. record { config = c.config; past = c.history.past; promised = c.promised; room = record { entries = c.history.room; ranges = c.ranges.room } } };
 
-    ghost invariant = { λ c. IsKept c.config c.history.past c.volume c.submission.items c.completion.items c.jobs c.ranges.held c.tickets × (c.promised ≤ c.history.room) × (c.promised ≤ c.ranges.room) };
+    ghost invariant = { λ c. IsKept c.config c.history.past c.volume c.submission.items c.completion.items c.jobs c.ranges.held c.tickets × (c.promised ≤ c.history.room) × (c.promised ≤ c.ranges.room) × (c.promised + 1 < 2 ^ 64) };
 }
 
 // So many submission rings of this size.
@@ -86,7 +87,7 @@ impl Core {
     ///
     /// `NoMemory` where a growth is refused.
     pub fn new(alloc: Global, config: Config) -> Result<Core, NoMemory>
-        ensures ok { IfOk result (λ core. core ≡ record { config = config; past = []; promised = 0 }) }
+        ensures ok { IfOk result (λ core. core ≡ record { config = config; past = []; promised = 0; room = core.room }) }
         ensures kept { IfOk result (λ core. Kept core.config core.past) }
     {
         let numbers = config.numbers();
@@ -126,13 +127,20 @@ impl Core {
     ///
     /// # Errors
     ///
-    /// `NoMemory` where a growth is refused; nothing has changed.
+    /// `NoMemory` where there was less room and a growth is refused, or for the largest number of all. What is promised is
+    /// then as before, and the room is no less.
     pub fn reserve(&mut self, more: usize) -> Result<(), NoMemory>
-        ensures ok { OnOk result (self.new ≡ record self.old { promised = max self.old.promised more }) }
-        ensures err { OnErr result (self.new ≡ self.old) }
+        ensures ok { OnOk result (self.new ≡ record self.old { promised = max self.old.promised more; room = self.new.room }) }
+        ensures err { OnErr result (self.new ≡ record self.old { room = self.new.room }) }
+        ensures full { OnErr result (LacksRoom self.old.room more) }
+        ensures room { KeepsRoom self.old.room self.new.room }
+        ensures promise { HasPromised self.new }
         ensures kept { Kept self.new.config self.new.past }
     {
         let count = self.promised.max(more);
+        if count == usize::MAX {
+            return Err(NoMemory);
+        }
         self.history.reserve(count)?;
         self.ranges.reserve(count)?;
         self.promised = count;
@@ -144,6 +152,7 @@ impl Core {
         ensures past { result.now.past ≡ self.now.past }
         ensures legal { IsLegal self.now.config self.now.past }
         ensures kept { Kept self.now.config self.now.past }
+        ensures promise { HasPromised self.now }
     {
         &self.history
     }

@@ -1,7 +1,7 @@
 //! Fetch: the next command, or the next fused pair, of a submission queue becomes a ticket.
 
 ghost use Rattle.std.specs.Option.{option_copied, option_map};
-ghost use Rattle.std.specs.Prelude.{◌≡◌, ◌≤◌, ◌+◌, ◌++◌, IfOk, MatchResult, None, Some, is_some, length, slice_get, take, true};
+ghost use Rattle.std.specs.Prelude.{◌≡◌, ◌≤◌, ◌+◌, ◌++◌, IfOk, MatchResult, None, OnErr, Some, is_some, length, slice_get, take, true};
 ghost use Rattle.fused_match.specs.Judged.{NamesBlocks, operation_in, verdict_by, waiting_items};
 ghost use Rattle.nvme_model.specs.EntryBytes.{sqe_fields};
 ghost use Rattle.nvme_model.specs.Operations.{op_by};
@@ -84,6 +84,7 @@ fn owed_at_fetch(judged: &Judged) -> Owed
 // Zeros for what a Read will read; nothing for anything else.
 fn read_buffer(alloc: Global, judged: &Judged) -> Result<Payload, NoMemory>
     ensures value { IfOk result (λ read. read ≡ read_first judged.now) }
+    ensures wants { OnErr result (operation_in judged.now ≡ Some Operation.Read) }
 {
     match judged {
         Judged::Single(Op::Read, range) => {

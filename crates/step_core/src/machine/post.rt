@@ -1,6 +1,6 @@
 //! Post: a ticket's next completion goes into its completion queue.
 
-ghost use Rattle.std.specs.Prelude.{◌≡◌, ◌<◌, IfOk, MatchResult, None, Some, length, true};
+ghost use Rattle.std.specs.Prelude.{◌≡◌, ◌≢◌, ◌<◌, [], IfOk, MatchResult, None, OnErr, Some, length, true};
 ghost use Rattle.job_table.specs.Jobs.{has_ticket, job_of, jobs_beside};
 ghost use Rattle.job_table.specs.declared.job.Job.{Job};
 ghost use Rattle.step_core.specs.Fields.{posted_payload, posted_table};
@@ -82,10 +82,14 @@ impl Core {
 fn read_copy(alloc: Global, jobs: &Jobs, ticket: u64) -> Result<Payload, NoMemory>
     requires flies { has_ticket jobs.now.jobs ticket ≡ true }
     ensures value { IfOk result (λ copy. (j : Job) → job_of jobs.now.jobs ticket ≡ Some j → copy ≡ j.read) }
+    ensures wants { OnErr result ((j : Job) → job_of jobs.now.jobs ticket ≡ Some j → j.read ≢ []) }
 {
     let Some(job) = jobs.get(ticket) else {
         unreachable!();
     };
+    if job.read.as_slice().is_empty() {
+        return Ok(Payload::new(Vec::new(alloc)));
+    }
     Ok(Payload::new(job.read.as_slice().to_vec(alloc)?))
 }
 

@@ -1,6 +1,6 @@
 //! Room for entries of the history, taken early, so that what is promised can't want memory.
 
-ghost use Rattle.std.specs.Prelude.{◌≡◌, ◌≤◌, ◌<◌, ◌+◌, ◌-◌, ◌^◌, IfErr, OnErr, OnOk, length};
+ghost use Rattle.std.specs.Prelude.{◌≡◌, ◌≤◌, ◌<◌, ◌+◌, ◌-◌, ◌^◌, ◌⊎◌, IfErr, OnErr, OnOk, length};
 
 use history::History;
 use nvme_model::refusal::Why;
@@ -8,17 +8,15 @@ use range_reserve::Ranges;
 
 /// Makes room for one more entry beside those that are promised.
 pub(super) fn keep_room(history: &mut History, promised: usize) -> Result<(), Why>
-    requires room { promised ≤ history.old.room }
+    requires few { promised + 1 < 2 ^ 64 }
     ensures past { history.new.past ≡ history.old.past }
-    ensures kept { promised ≤ history.new.room }
+    ensures kept { history.old.room ≤ history.new.room }
     ensures ok { OnOk result (promised + 1 ≤ history.new.room) }
+    ensures full { OnErr result (history.old.room ≤ promised) }
     ensures few { OnOk result (length history.new.past + 1 < 2 ^ 64) }
     ensures why { IfErr result (λ why. why ≡ Why.NoMemory) }
 {
-    let Some(count) = promised.checked_add(1) else {
-        return Err(Why::NoMemory);
-    };
-    match history.reserve(count) {
+    match history.reserve(promised + 1) {
         Ok(()) => Ok(()),
         Err(_) => Err(Why::NoMemory),
     }
@@ -28,9 +26,10 @@ pub(super) fn keep_room(history: &mut History, promised: usize) -> Result<(), Wh
 pub(super) fn take_room(history: &mut History, promised: &mut usize) -> Result<(), Why>
     requires room { promised.old ≤ history.old.room }
     ensures past { history.new.past ≡ history.old.past }
-    ensures kept { promised.new ≤ history.new.room }
+    ensures kept { history.old.room ≤ history.new.room }
     ensures ok { OnOk result ((promised.new ≡ promised.old - 1) × (promised.new + 1 ≤ history.new.room)) }
     ensures err { OnErr result ((promised.old ≡ 0) × (promised.new ≡ 0)) }
+    ensures full { OnErr result (history.old.room ≡ 0) }
     ensures why { IfErr result (λ why. why ≡ Why.NoMemory) }
 {
     if *promised > 0 {
@@ -53,18 +52,22 @@ pub(super) fn take_both(
     requires held { promised.old ≤ ranges.old.room }
     ensures past { history.new.past ≡ history.old.past }
     ensures ranges { ranges.new.held ≡ ranges.old.held }
-    ensures kept { promised.new ≤ history.new.room }
-    ensures kept_ranges { promised.new ≤ ranges.new.room }
+    ensures kept { history.old.room ≤ history.new.room }
+    ensures kept_ranges { ranges.old.room ≤ ranges.new.room }
     ensures ok { OnOk result ((promised.new ≡ promised.old - 1) × (promised.new + 1 ≤ history.new.room)) }
     ensures both { OnOk result (promised.new + 1 ≤ ranges.new.room) }
     ensures err { OnErr result ((promised.old ≡ 0) × (promised.new ≡ 0)) }
+    ensures full { OnErr result ((history.old.room ≡ 0) ⊎ (ranges.old.room ≡ 0)) }
     ensures why { IfErr result (λ why. why ≡ Why.NoMemory) }
 {
     if *promised > 0 {
         *promised -= 1;
         return Ok(());
     }
-    if history.reserve(1).is_err() || ranges.reserve(1).is_err() {
+    if history.reserve(1).is_err() {
+        return Err(Why::NoMemory);
+    }
+    if ranges.reserve(1).is_err() {
         return Err(Why::NoMemory);
     }
     Ok(())

@@ -23,7 +23,7 @@ impl Core {
     /// # Errors
     ///
     /// The first refusal of the step that holds, or `NoMemory` where none does and a growth was refused; a refused
-    /// Publish hands its batch back, and nothing has changed.
+    /// Publish hands its batch back, and nothing has changed, but that there may be more room.
     pub fn step(&mut self, step: Step) -> Result<Answer, Refused>
         ensures serves { Serves self.old step result self.new }
         ensures legal { IsLegal self.new.config self.new.past }

@@ -40,11 +40,13 @@ invariant_of-self-2 c =
           c.in-Ok.ensures.value c.new_job-job.ensures.value c.in-Ok-insert.ensures.ok c.verdict.ensures.value c.keep_room.ensures.past c.push_reserved.ensures.past,
       omega (arith, c.in_ok-keep_room.ensures.ok, c.push_reserved.ensures.room),
       c.self.invariant.2,
+      c.self.invariant.3,
     )
 
 pub returns : goal.returns
 returns c =
     let a = subst (λ (x : State). IsFetched x.config x.past c.args.queue c.in_ok-judged.judged) (sym c.self.view_is) c.in_ok-judged.ensures.value in
     record {
-      does = fetch_done _ _ _ _ _ _ _ _ c.self.invariant.0 _ _ a _ _ _ _ _ _ _ _ c.self.view_is c.verdict.ensures.value c.keep_room.ensures.past c.push_reserved.ensures.past c.units-units.ensures c.kind_of.ensures.value c.new.ensures;
+      does = fetch_done _ _ _ _ _ _ _ _ c.self.invariant.0 _ _ a _ _ _ _ _ _ _ _ _ _ c.self.view_is c.verdict.ensures.value c.keep_room.ensures.past c.push_reserved.ensures.past c.units-units.ensures c.kind_of.ensures.value c.new.ensures
+          (record { entries = omega (arith, c.keep_room.ensures.kept, c.push_reserved.ensures.room); ranges = omega arith });
     }

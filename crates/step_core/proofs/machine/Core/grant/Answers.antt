@@ -49,4 +49,5 @@ invariant_of-self-2 c = (
       (c.in-Ok.ensures.ok ∙ ap (λ (hs : List Held). record { ticket = c.args.ticket; range = c.in_ok-line.line.range; mode = c.in_ok-line.line.mode } ∷ hs) c.take_both.ensures.ranges),
   omega (arith, c.push_reserved.ensures.room, c.in_ok-take_both.ensures.ok.1),
   omega (arith, c.in-Ok.ensures.room, c.in_ok-take_both.ensures.both),
+  omega (arith, c.self.invariant.3, c.in_ok-take_both.ensures.ok.0),
 )

@@ -11,4 +11,5 @@ invariant_of-result c = (
       c.in_ok-cq_rings.ensures.value c.in_ok-new-2.ensures.empty c.new-3.ensures.held,
   omega arith,
   omega arith,
+  omega arith,
 )

@@ -21,4 +21,5 @@ invariant_of-self-2 c =
           _ _ _ same c.in-Ok-publish.ensures.ok more,
       omega (arith, c.in-Ok-keep_room.ensures.ok, c.push_reserved.ensures.room),
       c.self.invariant.2,
+      c.self.invariant.3,
     )

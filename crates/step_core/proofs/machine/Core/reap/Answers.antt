@@ -18,6 +18,7 @@ invariant_of-self-2 c =
           c.in-Ok.completion c.in-Ok.ensures.ok _ _ c.in-Ok.ensures.rest more,
       omega (arith, c.in_ok-take_room.ensures.ok.1, c.push_reserved.ensures.room),
       omega (arith, c.in_ok-take_room.ensures.ok.0, c.self.invariant.2),
+      omega (arith, c.in_ok-take_room.ensures.ok.0, c.self.invariant.3),
     )
 
 pub returns : goal.returns
@@ -27,4 +28,7 @@ returns c =
     let adds = reap_adds _ _ _ _ _ _ _ _ c.self.invariant.0 c.args.queue none ring c.index_mut.ensures.value c.in-Ok.completion c.in-Ok.ensures.ok in
     let answers = reap_answers _ _ _ _ _ _ _ _ c.self.invariant.0 c.args.queue none ring c.index_mut.ensures.value c.in-Ok.completion c.in-Ok.ensures.ok in
     let more = one_more _ _ _ _ c.take_room.ensures.past c.push_reserved.ensures.past in
-    record { does = does_accepted _ _ (Step.Reap c.args.queue) _ _ _ _ c.self.view_is none adds answers more c.in_ok-take_room.ensures.ok.0 }
+    record {
+      does = does_accepted _ _ (Step.Reap c.args.queue) _ _ _ _ _ c.self.view_is none adds answers more c.in_ok-take_room.ensures.ok.0
+          (record { entries = omega (arith, c.take_room.ensures.kept, c.push_reserved.ensures.room); ranges = omega arith });
+    }
