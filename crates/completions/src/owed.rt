@@ -1,6 +1,6 @@
 //! The statuses that a ticket still owes.
 
-ghost use Rattle.std.specs.Prelude.{◌≡◌, ◌<◌, ◌≤◌, ◌↔◌, [], ◌∷◌, drop, length, slice_get, IsNone, IsTrue};
+ghost use Rattle.std.specs.Prelude.{◌≡◌, ◌≤◌, ◌↔◌, [], ◌∷◌, drop, length, slice_get, IsNone, IsTrue, MatchOption};
 
 use nvme_model::status::Status;
 use std::marker::Model;
@@ -73,22 +73,21 @@ impl Owed {
         }
     }
 
-    /// Takes the status that is owed first.
-    pub fn pop(&mut self) -> Status
-        requires { 0 < length self.old }
-        ensures front { self.old ≡ result ∷ self.new }
+    /// Takes the status that is owed first, where one is.
+    pub fn pop(&mut self) -> Option<Status>
+        ensures front { MatchOption result (self.old ≡ []) (λ status. self.old ≡ status ∷ self.new) }
         ensures rest { self.new ≡ drop 1 self.old }
     {
         let left = self.left;
         match left {
-            Left::Nothing => unreachable!(),
+            Left::Nothing => None,
             Left::One(status) => {
                 *self = Owed::none();
-                status
+                Some(status)
             }
             Left::Two(first, second) => {
                 *self = Owed::one(second);
-                first
+                Some(first)
             }
         }
     }

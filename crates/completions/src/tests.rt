@@ -43,13 +43,14 @@ fn first_is_owed_first(rt: HostRuntime) {
     let mut owed = Owed::two(differs, failed);
     assert_eq!(rt; owed.len(), 2);
     assert_eq!(rt; owed.front(), Some(differs));
-    assert_eq!(rt; owed.pop(), differs);
+    assert_eq!(rt; owed.pop(), Some(differs));
     assert_eq!(rt; owed, Owed::one(failed));
     assert_eq!(rt; owed.len(), 1);
     assert_eq!(rt; owed.front(), Some(failed));
-    assert_eq!(rt; owed.pop(), failed);
+    assert_eq!(rt; owed.pop(), Some(failed));
     assert_eq!(rt; owed, Owed::none());
     assert!(rt; owed.is_empty());
     assert_eq!(rt; owed.len(), 0);
     assert_eq!(rt; owed.front(), None);
+    assert_eq!(rt; owed.pop(), None);
 }
