@@ -5,6 +5,7 @@ ghost use Rattle.nvme_model.specs.Commands.{is_compare, is_flush, is_read, is_wr
 ghost use Rattle.nvme_model.specs.EntryBytes.{blocks, slba};
 ghost use Rattle.nvme_model.specs.Verdict.{command_fault, is_in, pair_fault};
 
+use crate::cells::pair_fits;
 use crate::item::Item;
 use atomic_units::Units;
 use entry_codec::Sqe;
@@ -104,7 +105,6 @@ pub(crate) fn pair_fault(
     units: &Units,
     size: u32,
 ) -> Option<(Status, Status)>
-    requires { size ≤ 65536 }
     ensures value { result ≡ pair_fault units.now size in_use.now first.now second.now }
 {
     let one = first.sqe();
@@ -124,7 +124,7 @@ pub(crate) fn pair_fault(
     if !is_same_range(&one, &other) {
         return Some((generic(INVALID_FIELD), generic(INVALID_FIELD)));
     }
-    if !units.pair_fits(one.slba(), one.blocks()) {
+    if !pair_fits(units, one.slba(), one.blocks()) {
         return Some((generic(UNIT_EXCEEDED), generic(UNIT_EXCEEDED)));
     }
     None

@@ -241,7 +241,6 @@ fn judge_front(
     config: &Config,
 ) -> Judged
     requires limit { jobs.now.limit ≤ 256 }
-    requires size { config.now.blocks ≤ 65536 }
     ensures verdict { verdict_by result ≡
         verdict_of config.now.atomic config.now.blocks (cids_on queue jobs.now.jobs) (waiting_items (item_of first.now) (option_copied next.entry)) }
     ensures operation { operation_in result ≡ op_by (verdict_by result) (sqe_fields first.now.entry) }
