@@ -9,7 +9,7 @@ use Rattle.nvme_model.specs.History.{Past}
 use Rattle.nvme_model.specs.declared.config.ConfigNumbers.{ConfigNumbers}
 use Rattle.casdisk_script.specs.Files.{ChecksText, EndsUnsaid, IsAnswer, IsAnswerOf, Tells, entry_added}
 use Rattle.casdisk_script.specs.Running.{Makes, PrintsAll, Reached, Runs}
-use Rattle.casdisk_script.specs.Script.{End, bad_config, bad_line, first_config, outcome}
+use Rattle.casdisk_script.specs.Script.{End, bad_config, bad_line, cut, first_config, outcome}
 use Rattle.casdisk_script.specs.declared.fault.RunFault.{RunFault}
 use Rattle.casdisk_script.specs.declared.fault.RunFault.TheVariants.{BadLine, BadConfig, Input, Output, NoMemory}
 
@@ -20,9 +20,10 @@ module _ (t w u v : Option (List ℕ)) where
   unsaid_of e (Some x) p = (p.0, Keeps-refl v)
 
   pub stopped : (f : RunFault) (r : Option (List ℕ)) → Runs (outcome (λ c. entry_added)) (Err f) r t w u → ChecksText (Err f) r t v v
-  stopped (BadLine n) r h = unsaid_of (bad_line n) r h
+  stopped (BadLine n) r (inl h) = inl (unsaid_of (bad_line n) r h)
+  stopped (BadLine n) r (inr h) = inr (unsaid_of (cut n) r h)
   stopped (BadConfig n) r h = unsaid_of (bad_config n) r h
-  stopped Input r h = Keeps-refl v
+  stopped Input r h = (h.0, h.1, h.2, Keeps-refl v)
   stopped Output r h = inl (Keeps-refl v)
   stopped NoMemory r h = Keeps-refl v
 

@@ -12,7 +12,7 @@ use Rattle.nvme_model.specs.declared.config.ConfigFault.{ConfigFault}
 use Rattle.nvme_model.specs.declared.config.ConfigNumbers.{ConfigNumbers}
 use Rattle.history.specs.ConfigLine.{config_in}
 use Rattle.casdisk_script.specs.Meaning.{Meaning}
-use Rattle.casdisk_script.specs.Script.{Outcome, End, bad_line, bad_config, ending, prefixed, after_numbers, after_config, first_config, script_prints, lines_print, outcome}
+use Rattle.casdisk_script.specs.Script.{Outcome, End, IsOpen, bad_line, bad_config, cut, ending, prefixed, after_numbers, after_config, first_config, script_prints, lines_print, outcome}
 use Rattle.line_text.specs.declared.lines.ReadFault.{ReadFault}
 use Rattle.casdisk_script.specs.Fault.{fault_of_read}
 use Rattle.casdisk_script.specs.Running.{lines_from, PrintsAll, PrintsFront, PrintsRead, Reached, Runs}
@@ -37,7 +37,7 @@ module _ (meaning : ConfigNumbers → Meaning) where
       ap (λ o. after_config line o (λ d. lines_print (meaning d) [] 2 lines rest)) e
       ∙ ap (λ o. after_numbers line o (lines_print (meaning c) [] 2 lines rest)) h
 
-  no_lines : (rest : List ℕ) → script_prints meaning [] rest ≡ ending (bad_line 1) []
+  no_lines : (rest : List ℕ) → script_prints meaning [] rest ≡ ending (cut 1) []
   unfolding script_prints
   no_lines rest = refl
 
@@ -50,19 +50,19 @@ module _ (meaning : ConfigNumbers → Meaning) where
   none_first r t w after line g none =
       let bytes = g.0.bytes in
       let last = rest_is_last r t [] after line g.0 g.1 none in
-      let is : outcome meaning bytes ≡ ending (bad_line 1) [] = ap (λ l. script_prints meaning l (rest_line bytes)) last.0 ∙ no_lines (rest_line bytes) in
-      (bytes, g.0.consumed, subst (Appends w w) (sym (ap (λ (o : Outcome). o.text) is)) (Appends-nil w))
+      let is : outcome meaning bytes ≡ ending (cut 1) [] = ap (λ l. script_prints meaning l (rest_line bytes)) last.0 ∙ no_lines (rest_line bytes) in
+      (bytes, g.0.consumed, subst (λ (o : Outcome). IsOpen o.end) (sym is) tt, subst (Appends w w) (sym (ap (λ (o : Outcome). o.text) is)) (Appends-nil w))
 
   pub lost_first : (f : ReadFault) (r t w : Option (List ℕ)) (after line : List ℕ) → GivesFront r t [] after line → (f ≡ ReadFault.Input → after ≡ [])
       → Runs (λ input. outcome meaning input) (Err (fault_of_read f)) r t w w
   lost_first f r t w after line h none =
       runs_unread (λ input. outcome meaning input) f r t w w (λ e. none_first r t w after line h (none e)) (unwritten r t w h.0.bytes h.0.consumed)
 
-  pub ends_first : (r t w : Option (List ℕ)) (after line : List ℕ) → Gives r t [] after line → NoFeed line → after ≡ [] → IsAtEnd t → PrintsAll (λ input. outcome meaning input) (bad_line 1) r w w
+  pub ends_first : (r t w : Option (List ℕ)) (after line : List ℕ) → Gives r t [] after line → NoFeed line → after ≡ [] → IsAtEnd t → PrintsAll (λ input. outcome meaning input) (cut 1) r w w
   ends_first r t w after line g plain none end =
       let last = rest_is_last r t [] after line g plain none in
-      let is : outcome meaning g.bytes ≡ ending (bad_line 1) [] = ap (λ l. script_prints meaning l (rest_line g.bytes)) last.0 ∙ no_lines (rest_line g.bytes) in
-      Consumes-whole r t g.bytes (λ bytes. ((outcome meaning bytes).end ≡ bad_line 1) × Appends w w (outcome meaning bytes).text) g.consumed end
+      let is : outcome meaning g.bytes ≡ ending (cut 1) [] = ap (λ l. script_prints meaning l (rest_line g.bytes)) last.0 ∙ no_lines (rest_line g.bytes) in
+      Consumes-whole r t g.bytes (λ bytes. ((outcome meaning bytes).end ≡ cut 1) × Appends w w (outcome meaning bytes).text) g.consumed end
       (ap (λ (o : Outcome). o.end) is, subst (Appends w w) (sym (ap (λ (o : Outcome). o.text) is)) (Appends-nil w))
 
   module _ (r t w : Option (List ℕ)) (after line : List ℕ) (g : Gives r t [] after (line ++ 10 ∷ [])) (plain : NoFeed line) where

@@ -1,5 +1,5 @@
 -- How far a run has come, and how it goes on.
-use Rattle.std.proofs.Common.{◌≡◌, ℕ, ◌+◌, List, [], ◌∷◌, ◌++◌, None, Some, refl, sym, ap, ◌∙◌, subst, append_assoc, append-nil}
+use Rattle.std.proofs.Common.{◌≡◌, ℕ, ◌+◌, List, [], ◌∷◌, ◌++◌, None, Some, inl, inr, refl, sym, ap, ◌∙◌, subst, append_assoc, append-nil}
 use Rattle.std.specs.Prelude.{IfSome, Option, Result, Ok, Err}
 use Rattle.std.specs.Io.KnownBytes.{Appends, Keeps, IsAtEnd}
 use Rattle.std.proofs.KnownBytes.{Appends-trans, Appends-kept, Consumes-trans, Consumes-whole}
@@ -9,7 +9,7 @@ use Rattle.line_text.proofs.Known.{front_first, front_second, known_input}
 use Rattle.line_text.proofs.LineLaws.{whole_is_first, rest_is_last}
 use Rattle.nvme_model.specs.History.{Past}
 use Rattle.casdisk_script.specs.Meaning.{Meaning, StopsInLine, text_of}
-use Rattle.casdisk_script.specs.Script.{Outcome, End, done, bad_line, bad_config, ending, prefixed, after_line, lines_print}
+use Rattle.casdisk_script.specs.Script.{Outcome, End, IsOpen, done, cut, bad_line, bad_config, ending, prefixed, after_line, lines_print}
 use Rattle.line_text.specs.declared.lines.ReadFault.{ReadFault}
 use Rattle.casdisk_script.specs.Fault.{fault_of_read, fault_of_write}
 use Rattle.casdisk_script.specs.Running.{lines_from, Makes, Reached, PrintsAll, PrintsFront, PrintsRead, Runs}
@@ -45,14 +45,14 @@ print_end : (meaning : Meaning) (past : Past) (n : ℕ) → lines_print meaning 
 unfolding lines_print
 print_end meaning past n = refl
 
-print_cut : (meaning : Meaning) (past : Past) (n b : ℕ) (bs : List ℕ) → lines_print meaning past n [] (b ∷ bs) ≡ ending (bad_line n) past
+print_cut : (meaning : Meaning) (past : Past) (n b : ℕ) (bs : List ℕ) → lines_print meaning past n [] (b ∷ bs) ≡ ending (cut n) past
 unfolding lines_print
 print_cut meaning past n b bs = refl
 
 pub print_none : (meaning : Meaning) (past : Past) (n : ℕ) (rest : List ℕ) → rest ≡ [] → lines_print meaning past n [] rest ≡ ending done past
 print_none meaning past n rest e = ap (λ l. lines_print meaning past n [] l) e ∙ print_end meaning past n
 
-pub print_rest : (meaning : Meaning) (past : Past) (n : ℕ) (rest : List ℕ) → (rest ≡ [] → ⊥) → lines_print meaning past n [] rest ≡ ending (bad_line n) past
+pub print_rest : (meaning : Meaning) (past : Past) (n : ℕ) (rest : List ℕ) → (rest ≡ [] → ⊥) → lines_print meaning past n [] rest ≡ ending (cut n) past
 print_rest meaning past n [] h = absurd (h refl)
 print_rest meaning past n (b ∷ bs) h = print_cut meaning past n b bs
 
@@ -60,6 +60,11 @@ print_rest meaning past n (b ∷ bs) h = print_cut meaning past n b bs
 print_nothing : (meaning : Meaning) (past : Past) (n : ℕ) (rest : List ℕ) → (lines_print meaning past n [] rest).text ≡ []
 print_nothing meaning past n [] = ap (λ (o : Outcome). o.text) (print_end meaning past n)
 print_nothing meaning past n (b ∷ bs) = ap (λ (o : Outcome). o.text) (print_cut meaning past n b bs)
+
+-- and is no bad line
+open_end : (meaning : Meaning) (past : Past) (n : ℕ) (rest : List ℕ) → IsOpen (lines_print meaning past n [] rest).end
+open_end meaning past n [] = subst (λ (o : Outcome). IsOpen o.end) (sym (print_end meaning past n)) tt
+open_end meaning past n (b ∷ bs) = subst (λ (o : Outcome). IsOpen o.end) (sym (print_cut meaning past n b bs)) tt
 
 -- ---- the next call
 
@@ -116,12 +121,16 @@ module _ (outcome : List ℕ → Outcome) (meaning : Meaning) (past : Past) (n :
   all_read after line g none =
       let more = g.0.bytes in
       let last = rest_is_last s t held after line g.0 g.1 none in
+      let rest = rest_line (held ++ more) in
+      let is : outcome (at.bytes ++ more) ≡ prefixed at.out (lines_print meaning past n [] rest) =
+      at.agrees more ∙ ap (λ l. prefixed at.out (lines_print meaning past n l rest)) last.0 in
       let text : (outcome (at.bytes ++ more)).text ≡ at.out =
-      ap (λ (o : Outcome). o.text) (at.agrees more)
-      ∙ ap (λ l. at.out ++ (lines_print meaning past n l (rest_line (held ++ more))).text) last.0
-      ∙ ap (λ l. at.out ++ l) (print_nothing meaning past n (rest_line (held ++ more)))
-      ∙ append-nil at.out in
-      (at.bytes ++ more, Consumes-trans r s t at.bytes more at.consumed g.0.consumed, subst (Appends w v) (sym text) at.written)
+      ap (λ (o : Outcome). o.text) is ∙ ap (λ l. at.out ++ l) (print_nothing meaning past n rest) ∙ append-nil at.out in (
+        at.bytes ++ more,
+        Consumes-trans r s t at.bytes more at.consumed g.0.consumed,
+        subst (λ (o : Outcome). IsOpen o.end) (sym is) (open_end meaning past n rest),
+        subst (Appends w v) (sym text) at.written,
+      )
 
   pub front_here : PrintsFront outcome r s w v
   front_here =
@@ -183,13 +192,18 @@ front_after outcome meaning past n r s t w v u held at p =
 read_after : (outcome : List ℕ → Outcome) (meaning : Meaning) (past : Past) (n : ℕ) (r s t w v u : Option (List ℕ)) (held : List ℕ) → Reached outcome meaning past n r s w v held
     → PrintsRead (lines_from meaning past n held) s t v u → PrintsRead outcome r t w u
 read_after outcome meaning past n r s t w v u held at p =
-    let text : (outcome (at.bytes ++ p.0)).text ≡ at.out ++ (lines_from meaning past n held p.0).text = ap (λ (o : Outcome). o.text) (at.agrees p.0) in
-    (at.bytes ++ p.0, Consumes-trans r s t at.bytes p.0 at.consumed p.1, subst (Appends w u) (sym text) (Appends-trans w v u at.out _ at.written p.2))
+    let is = at.agrees p.0 in (
+      at.bytes ++ p.0,
+      Consumes-trans r s t at.bytes p.0 at.consumed p.1,
+      subst (λ (o : Outcome). IsOpen o.end) (sym is) p.2,
+      subst (λ (o : Outcome). Appends w u o.text) (sym is) (Appends-trans w v u at.out _ at.written p.3),
+    )
 
 pub runs_after : (outcome : List ℕ → Outcome) (meaning : Meaning) (past : Past) (n : ℕ) (r s t w v u : Option (List ℕ)) (held : List ℕ) (res : Result (Unit {0}) RunFault) → Reached outcome meaning past n r s w v held
     → Runs (lines_from meaning past n held) res s t v u → Runs outcome res r t w u
 runs_after outcome meaning past n r s t w v u held (Ok x) at p = (prints_after outcome meaning past n done r s w v u held at p.0, p.1)
-runs_after outcome meaning past n r s t w v u held (Err (BadLine k)) at p = prints_after outcome meaning past n (bad_line k) r s w v u held at p
+runs_after outcome meaning past n r s t w v u held (Err (BadLine k)) at (inl p) = inl (prints_after outcome meaning past n (bad_line k) r s w v u held at p)
+runs_after outcome meaning past n r s t w v u held (Err (BadLine k)) at (inr p) = inr (prints_after outcome meaning past n (cut k) r s w v u held at p)
 runs_after outcome meaning past n r s t w v u held (Err (BadConfig k)) at p = prints_after outcome meaning past n (bad_config k) r s w v u held at p
 runs_after outcome meaning past n r s t w v u held (Err Input) at p = read_after outcome meaning past n r s t w v u held at p
 runs_after outcome meaning past n r s t w v u held (Err Output) at p = front_after outcome meaning past n r s t w v u held at p

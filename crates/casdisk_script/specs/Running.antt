@@ -1,11 +1,11 @@
 -- What a run of a script leaves.
-use Rattle.std.specs.Prelude.{◌≡◌, ℕ, List, ◌++◌, Option, IfSome, Result, Ok, Err}
+use Rattle.std.specs.Prelude.{◌≡◌, ◌⊎◌, ℕ, List, ◌++◌, Option, IfSome, Result, Ok, Err}
 use Rattle.std.specs.Io.KnownBytes.{Appends, Consumes, IsAtEnd}
 use Rattle.line_text.specs.Known.{AppendsFront}
 use Rattle.line_text.specs.Lines.{whole_lines, rest_line}
 use Rattle.nvme_model.specs.History.{Past}
 use Rattle.casdisk_script.specs.Meaning.{Meaning}
-use Rattle.casdisk_script.specs.Script.{Outcome, End, done, bad_line, bad_config, lines_print, prefixed}
+use Rattle.casdisk_script.specs.Script.{Outcome, End, IsOpen, done, cut, bad_line, bad_config, lines_print, prefixed}
 use Rattle.casdisk_script.specs.declared.fault.RunFault.{RunFault}
 use Rattle.casdisk_script.specs.declared.fault.RunFault.TheVariants.{BadLine, BadConfig, Input, Output, NoMemory}
 
@@ -17,15 +17,15 @@ PrintsAll outcome e input old new = IfSome input (λ bytes. ((outcome bytes).end
 abbrev pub PrintsFront : (List ℕ → Outcome) → Option (List ℕ) → Option (List ℕ) → Option (List ℕ) → Option (List ℕ) → Type 0
 PrintsFront outcome input left old new = (bytes : List ℕ) × Consumes input left bytes × AppendsFront old new (outcome bytes).text
 
--- all that was read is done: its whole text was written
+-- all that was read is done: no line of it is bad, and its whole text was written
 abbrev pub PrintsRead : (List ℕ → Outcome) → Option (List ℕ) → Option (List ℕ) → Option (List ℕ) → Option (List ℕ) → Type 0
-PrintsRead outcome input left old new = (bytes : List ℕ) × Consumes input left bytes × Appends old new (outcome bytes).text
+PrintsRead outcome input left old new = (bytes : List ℕ) × Consumes input left bytes × IsOpen (outcome bytes).end × Appends old new (outcome bytes).text
 
 -- By what the run answered: the whole text and the reader at its end; the text before the bad line, or none; the whole
 -- text of what was read, where reading failed; or a beginning of that.
 abbrev pub Runs : (List ℕ → Outcome) → Result (Unit {0}) RunFault → Option (List ℕ) → Option (List ℕ) → Option (List ℕ) → Option (List ℕ) → Type 0
 Runs outcome (Ok x) input left old new = PrintsAll outcome done input old new × IsAtEnd left
-Runs outcome (Err (BadLine n)) input left old new = PrintsAll outcome (bad_line n) input old new
+Runs outcome (Err (BadLine n)) input left old new = PrintsAll outcome (bad_line n) input old new ⊎ PrintsAll outcome (cut n) input old new
 Runs outcome (Err (BadConfig c)) input left old new = PrintsAll outcome (bad_config c) input old new
 Runs outcome (Err Input) input left old new = PrintsRead outcome input left old new
 Runs outcome (Err Output) input left old new = PrintsFront outcome input left old new

@@ -8,11 +8,20 @@ use Rattle.nvme_model.specs.declared.config.ConfigNumbers.{ConfigNumbers}
 use Rattle.history.specs.ConfigLine.{config_in}
 use Rattle.casdisk_script.specs.Meaning.{Meaning}
 
--- How a script ends: at its end, at a bad line by its number from 1, or at a configuration that is refused.
+-- How a script ends: at its end, within its last line, which lacks its line feed, at a bad line, each by its number
+-- from 1, or at a configuration that is refused.
 pub data End : Type 0 where
   done : End
+  cut : ℕ → End
   bad_line : ℕ → End
   bad_config : ℕ → End
+
+-- no line of it is bad, and its configuration isn't refused
+abbrev pub IsOpen : End → Type 0
+IsOpen done = Unit {0}
+IsOpen (cut n) = Unit {0}
+IsOpen (bad_line n) = ⊥
+IsOpen (bad_config c) = ⊥
 
 -- What a script prints, how it ends, and the history that it makes.
 pub record Outcome : Type 0 where
@@ -36,7 +45,7 @@ after_line n past (Some x) more = prefixed x.1 (more x.0)
 -- The lines from number n on, and what stands behind the last line feed, which has to be nothing.
 unfoldable pub lines_print : Meaning → Past → ℕ → List (List ℕ) → List ℕ → Outcome
 lines_print meaning past n [] [] = ending done past
-lines_print meaning past n [] (b ∷ bs) = ending (bad_line n) past
+lines_print meaning past n [] (b ∷ bs) = ending (cut n) past
 lines_print meaning past n (line ∷ lines) rest = after_line n past (meaning past line) (λ after. lines_print meaning after (n + 1) lines rest)
 
 -- what follows the first line, by its configuration, which may be refused
@@ -51,7 +60,7 @@ after_config line (Some c) more = after_numbers line (config_fault c) (more c)
 
 -- A script from its first line on: the configuration line, and then what its lines print.
 unfoldable pub script_prints : (ConfigNumbers → Meaning) → List (List ℕ) → List ℕ → Outcome
-script_prints meaning [] rest = ending (bad_line 1) []
+script_prints meaning [] rest = ending (cut 1) []
 script_prints meaning (line ∷ lines) rest = after_config line (config_in line) (λ c. lines_print (meaning c) [] 2 lines rest)
 
 -- the outcome of a whole input

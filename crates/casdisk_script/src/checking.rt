@@ -55,13 +55,14 @@ fn tell_answer<W: Write>(
 /// # Errors
 ///
 /// `BadLine` with the number of the first line that may not stand there, `BadConfig` with the number of the fault,
-/// `Input` and `NoMemory`, all after nothing was written; `Output` after a beginning of the line.
+/// `Input`, where no line that was read is bad, and `NoMemory`, all after nothing was written; `Output` after a
+/// beginning of the line.
 pub fn check_text<R: Read, W: Write>(
     alloc: Global,
     reader: &mut R,
     writer: &mut W,
 ) -> Result<bool, RunFault>
-    ensures { ChecksText result (R.remaining reader.old) (R.remaining reader.new) (W.contents writer.old) (W.contents writer.new) }
+    ensures checks { ChecksText result (R.remaining reader.old) (R.remaining reader.new) (W.contents writer.old) (W.contents writer.new) }
 {
     let Ok(mut lines) = Lines::new(alloc) else {
         return Err(RunFault::NoMemory);

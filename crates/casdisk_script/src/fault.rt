@@ -28,7 +28,7 @@ pub enum RunFault {
 impl RunFault {
     /// The status with which the program then ends.
     pub fn status(&self) -> u8
-        ensures { result ≡ status_of self.now }
+        ensures value { result ≡ status_of self.now }
     {
         match self {
             RunFault::BadLine(_) | RunFault::BadConfig(_) => 2,

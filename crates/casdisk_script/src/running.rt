@@ -34,8 +34,8 @@ pub(crate) fn write_fault(fault: WriteFault) -> RunFault
 ///
 /// # Errors
 ///
-/// `BadLine` with the number of the first line that may not stand there, after the text of the lines before it; `Input`
-/// after the whole text of the lines that were read; `Output` and `NoMemory` after a beginning of it. A line whose
+/// `BadLine` with the number of the first line that may not stand there, after the text of the lines before it; `Input`,
+/// where no line that was read is bad, after their whole text; `Output` and `NoMemory` after a beginning of it. A line whose
 /// number doesn't fit 64 bits is `NoMemory` too.
 pub fn run_lines<M: LineMeaning, R: Read, W: Write>(
     machine: &mut M,

@@ -20,15 +20,15 @@ use step_core::Core;
 /// # Errors
 ///
 /// `BadLine` with the number of the first line that may not stand there, after the text of the lines before it;
-/// `BadConfig` with the number of the fault, after nothing; `Input` after the whole text of the lines that were read;
-/// `Output` and `NoMemory` after a beginning of it.
+/// `BadConfig` with the number of the fault, after nothing; `Input`, where no line that was read is bad, after their
+/// whole text; `Output` and `NoMemory` after a beginning of it.
 pub fn run_script<R: Read, W: Write>(
     alloc: Global,
     reader: &mut R,
     writer: &mut W,
     kinds: Kinds,
 ) -> Result<(), RunFault>
-    ensures { Runs (outcome (λ c. script_line c kinds.0)) result (R.remaining reader.old) (R.remaining reader.new) (W.contents writer.old) (W.contents writer.new) }
+    ensures runs { Runs (outcome (λ c. script_line c kinds.0)) result (R.remaining reader.old) (R.remaining reader.new) (W.contents writer.old) (W.contents writer.new) }
 {
     let Ok(mut lines) = Lines::new(alloc) else {
         return Err(RunFault::NoMemory);

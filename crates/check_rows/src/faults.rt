@@ -9,13 +9,15 @@ use std::io::{ErrorKind, Read, Write};
 use std::process::Abort;
 use std::test::Fail;
 
-/// Gives some bytes at each call, and fails at one.
+/// Gives some bytes at each call, and fails at one, which it remembers.
 #[derive(Drop)]
 struct FailingReader<'a> {
     rest: &'a [u8],
     width: u64,
     calls: u64,
     fails_at: u64,
+    kind: ErrorKind,
+    failed: bool,
 }
 
 impl Read for FailingReader<'_> {
@@ -26,7 +28,8 @@ impl Read for FailingReader<'_> {
     fn read(&mut self, buf: &mut [u8]) -> io::Result<usize> {
         self.calls = self.calls.saturating_add(1);
         if self.calls == self.fails_at {
-            return Err(io::Error::from(ErrorKind::Other));
+            self.failed = true;
+            return Err(io::Error::from(self.kind));
         }
         let n = self.rest.len().min(buf.len()).min(self.width as usize);
         let (now, later) = self.rest.split_at(n);
@@ -36,13 +39,15 @@ impl Read for FailingReader<'_> {
     }
 }
 
-/// Takes some bytes at each call, and fails at one.
+/// Takes some bytes at each call, and fails at one, which it remembers.
 #[derive(Drop)]
 struct FailingWriter {
     taken: Vec<u8>,
     width: u64,
     calls: u64,
     fails_at: u64,
+    kind: ErrorKind,
+    failed: bool,
 }
 
 impl Write for FailingWriter {
@@ -53,7 +58,8 @@ impl Write for FailingWriter {
     fn write(&mut self, buf: &[u8]) -> io::Result<usize> {
         self.calls = self.calls.saturating_add(1);
         if self.calls == self.fails_at {
-            return Err(io::Error::from(ErrorKind::Other));
+            self.failed = true;
+            return Err(io::Error::from(self.kind));
         }
         let n = buf.len().min(self.width as usize);
         let Ok(()) = self.taken.extend_from_slice(&buf[..n]) else {
@@ -76,6 +82,8 @@ fn fail_reads(rt: &impl Abort, alloc: Global, file: &str, width: u64) -> Result<
             width,
             calls: 0,
             fails_at,
+            kind: ErrorKind::Other,
+            failed: false,
         };
         let mut output: Vec<u8> = Vec::new(alloc);
         let answer = check_text(alloc, &mut reader, &mut output);
@@ -101,6 +109,8 @@ fn fail_writes(rt: &impl Abort, alloc: Global, file: &str, width: u64) -> Result
             width,
             calls: 0,
             fails_at,
+            kind: ErrorKind::Other,
+            failed: false,
         };
         let answer = check_text(alloc, &mut reader, &mut writer);
         if answer.is_ok() {
@@ -142,6 +152,66 @@ fn a_failed_write_ends_the_check(rt: HostRuntime) -> Result<(), Fail> {
     for width in [1, 7, 100_000u64] {
         fail_writes(&rt, rt.alloc(), legal.as_str(), width)?;
         fail_writes(&rt, rt.alloc(), unmarked.as_str(), width)?;
+    }
+    Ok(())
+}
+
+/// That a check whose reader and whose writer fail at these calls, by this kind of error, names what failed.
+fn name_the_cause(
+    rt: &impl Abort,
+    alloc: Global,
+    file: &str,
+    calls: (u64, u64),
+    kind: ErrorKind,
+) -> Result<(), Fail> {
+    let whole = check(alloc, file.as_bytes());
+    let mut reader = FailingReader {
+        rest: file.as_bytes(),
+        width: 40,
+        calls: 0,
+        fails_at: calls.0,
+        kind,
+        failed: false,
+    };
+    let mut writer = FailingWriter {
+        taken: Vec::new(alloc),
+        width: 2,
+        calls: 0,
+        fails_at: calls.1,
+        kind,
+        failed: false,
+    };
+    let answer = check_text(alloc, &mut reader, &mut writer);
+    let want = if reader.failed {
+        Err(RunFault::Input)
+    } else if writer.failed {
+        Err(RunFault::Output)
+    } else {
+        whole.answer
+    };
+    assert_eq!(rt; answer, want, "{file}: {} {}", calls.0, calls.1);
+    assert!(rt; !(reader.failed && writer.failed));
+    assert!(rt; whole.output.starts_with(writer.taken.as_slice()));
+    if !reader.failed && !writer.failed {
+        assert_eq!(rt; writer.taken.as_slice(), whole.output.as_slice());
+    }
+    Ok(())
+}
+
+#[test]
+fn a_fault_names_what_failed(rt: HostRuntime) -> Result<(), Fail> {
+    let legal = file_of(rt.alloc(), WRITE)?;
+    let unmarked = unmarked(rt.alloc(), legal.as_str())?;
+    let worse = changed(rt.alloc(), legal.as_str(), &[(4, "block 1 0 3 written")])?;
+    let refused = file_of(rt.alloc(), "config 8 3 1 2 0 2 4 4 8 / reap 1")?;
+    for file in [&legal, &unmarked, &worse, &refused] {
+        for kind in [ErrorKind::Other, ErrorKind::OutOfMemory] {
+            for read in 0..14u64 {
+                for write in 0..8u64 {
+                    name_the_cause(&rt, rt.alloc(), file.as_str(), (read, write), kind)?;
+                }
+            }
+        }
     }
     Ok(())
 }

@@ -13,13 +13,15 @@ use std::test::Fail;
 const SCRIPT: &str =
     "publish 1 compare 1 7 3 0 00 + write 2 8 3 0 A1 / fetch 1 / settle / reap 1 / reap 1 / publish 1 read 0 9 3 0 - / fetch 1 / settle / reap 1";
 
-/// Gives some bytes at each call, and fails at one.
+/// Gives some bytes at each call, and fails at one, which it remembers.
 #[derive(Drop)]
 struct FailingReader<'a> {
     rest: &'a [u8],
     width: u64,
     calls: u64,
     fails_at: u64,
+    kind: ErrorKind,
+    failed: bool,
 }
 
 impl Read for FailingReader<'_> {
@@ -30,7 +32,8 @@ impl Read for FailingReader<'_> {
     fn read(&mut self, buf: &mut [u8]) -> io::Result<usize> {
         self.calls = self.calls.saturating_add(1);
         if self.calls == self.fails_at {
-            return Err(io::Error::from(ErrorKind::Other));
+            self.failed = true;
+            return Err(io::Error::from(self.kind));
         }
         let n = self.rest.len().min(buf.len()).min(self.width as usize);
         let (now, later) = self.rest.split_at(n);
@@ -40,13 +43,15 @@ impl Read for FailingReader<'_> {
     }
 }
 
-/// Takes some bytes at each call, and fails at one.
+/// Takes some bytes at each call, and fails at one, which it remembers.
 #[derive(Drop)]
 struct FailingWriter {
     taken: Vec<u8>,
     width: u64,
     calls: u64,
     fails_at: u64,
+    kind: ErrorKind,
+    failed: bool,
 }
 
 impl Write for FailingWriter {
@@ -57,7 +62,8 @@ impl Write for FailingWriter {
     fn write(&mut self, buf: &[u8]) -> io::Result<usize> {
         self.calls = self.calls.saturating_add(1);
         if self.calls == self.fails_at {
-            return Err(io::Error::from(ErrorKind::Other));
+            self.failed = true;
+            return Err(io::Error::from(self.kind));
         }
         let n = buf.len().min(self.width as usize);
         let Ok(()) = self.taken.extend_from_slice(&buf[..n]) else {
@@ -81,6 +87,8 @@ fn fail_reads(rt: &impl Abort, alloc: Global, width: u64) -> Result<(), Fail> {
             width,
             calls: 0,
             fails_at,
+            kind: ErrorKind::Other,
+            failed: false,
         };
         let mut output: Vec<u8> = Vec::new(alloc);
         let answer = run_script(alloc, &mut reader, &mut output, all_kinds());
@@ -109,6 +117,8 @@ fn fail_writes(rt: &impl Abort, alloc: Global, width: u64) -> Result<(), Fail> {
             width,
             calls: 0,
             fails_at,
+            kind: ErrorKind::Other,
+            failed: false,
         };
         let answer = run_script(alloc, &mut reader, &mut writer, all_kinds());
         if answer == Ok(()) {
@@ -137,6 +147,71 @@ fn a_failed_read_ends_the_run(rt: HostRuntime) -> Result<(), Fail> {
 fn a_failed_write_ends_the_run(rt: HostRuntime) -> Result<(), Fail> {
     for width in [1, 7, 100_000u64] {
         fail_writes(&rt, rt.alloc(), width)?;
+    }
+    Ok(())
+}
+
+/// That a run whose reader and whose writer fail at these calls, by this kind of error, names what failed.
+fn name_the_cause(
+    rt: &impl Abort,
+    alloc: Global,
+    script: &str,
+    calls: (u64, u64),
+    kind: ErrorKind,
+) -> Result<(), Fail> {
+    let whole = run(alloc, script.as_bytes(), all_kinds());
+    let mut reader = FailingReader {
+        rest: script.as_bytes(),
+        width: 40,
+        calls: 0,
+        fails_at: calls.0,
+        kind,
+        failed: false,
+    };
+    let mut writer = FailingWriter {
+        taken: Vec::new(alloc),
+        width: 40,
+        calls: 0,
+        fails_at: calls.1,
+        kind,
+        failed: false,
+    };
+    let answer = run_script(alloc, &mut reader, &mut writer, all_kinds());
+    let want = if reader.failed {
+        Err(RunFault::Input)
+    } else if writer.failed {
+        Err(RunFault::Output)
+    } else {
+        whole.answer
+    };
+    assert_eq!(rt; answer, want, "{script}: {} {}", calls.0, calls.1);
+    assert!(rt; !(reader.failed && writer.failed));
+    assert!(rt; whole.output.starts_with(writer.taken.as_slice()));
+    if !reader.failed && !writer.failed {
+        assert_eq!(rt; writer.taken.as_slice(), whole.output.as_slice());
+    }
+    Ok(())
+}
+
+#[test]
+fn a_fault_names_what_failed(rt: HostRuntime) -> Result<(), Fail> {
+    let scripts = [
+        SCRIPT,
+        "# a comment that is longer than what one read gives / medium 0 / reap 1 / medium 9",
+        "medium 3 / publish 1 write 0 1 3 0 A1 / settle 1 / medium 3",
+        "reap 1 / fetch 1 / / fetch 1",
+        "config 8 3 1 2 0 2 4 4 8 / reap 1",
+        "config 8 3 1 2 0 2 4 4 / reap 1",
+    ];
+    for script in scripts {
+        let file = file_of(rt.alloc(), script)?;
+        for kind in [ErrorKind::Other, ErrorKind::OutOfMemory] {
+            for read in 0..10u64 {
+                for write in 0..20u64 {
+                    name_the_cause(&rt, rt.alloc(), file.as_str(), (read, write), kind)?;
+                }
+            }
+        }
     }
     Ok(())
 }

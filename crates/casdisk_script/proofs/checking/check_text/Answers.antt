@@ -10,7 +10,7 @@ pub returns-in_err-config : goal.returns-in_err-config
 returns-in_err-config g c =
     let p = err_from_is_err_and c.from_residual.result c.from_residual.ensures.1 in
     let w = g.W.Write.contents c.args.writer.now in
-    rw (p.1, p.2) (stopped _ _ _ w c.in_err-config.field-0.0 _ (c.in_err-config.ensures.stopped (λ c'. entry_added) w))
+    rw (p.1, p.2) (record { checks = stopped _ _ _ w c.in_err-config.field-0.0 _ (c.in_err-config.ensures.stopped (λ c'. entry_added) w) })
 
 pub returns-in_err-run_lines : goal.returns-in_err-run_lines
 returns-in_err-run_lines g c =
@@ -20,7 +20,7 @@ returns-in_err-run_lines g c =
     let some = Some c.run_lines.new.writer.items in
     let begun = begun_with past _ _ None none _ c.new-2.ensures (c.in_ok-config.ensures.begun (λ c'. entry_added) None none tt) in
     let all = runs_after (outcome (λ c'. entry_added)) entry_added past 2 _ _ _ None none some _ (Err c.in_err-run_lines.field-0.0) begun c.in_err-run_lines.ensures.runs in
-    rw (p.1, p.2) (stopped _ None some (g.W.Write.contents c.args.writer.now) c.in_err-run_lines.field-0.0 _ all)
+    rw (p.1, p.2) (record { checks = stopped _ None some (g.W.Write.contents c.args.writer.now) c.in_err-run_lines.field-0.0 _ all })
 
 pub returns : goal.returns
 returns g c =
@@ -30,4 +30,4 @@ returns g c =
     let begun = begun_with past _ _ None none _ c.new-2.ensures (c.in_ok-config.ensures.begun (λ c'. entry_added) None none tt) in
     let all = runs_after (outcome (λ c'. entry_added)) entry_added past 2 _ _ _ None none some _ (Ok tt) begun c.in_ok-run_lines.ensures.runs in
     let makes = makes_after (outcome (λ c'. entry_added)) entry_added past 2 _ _ None none _ (Ok tt) _ begun c.in_ok-run_lines.ensures.makes in
-    answered c.in_ok-config.config c.run_lines.new.machine.history.past _ None some _ _ c.tell_answer.result _ all makes c.in_ok-config.ensures.config c.tell_answer.ensures.told
+    record { checks = answered c.in_ok-config.config c.run_lines.new.machine.history.past _ None some _ _ c.tell_answer.result _ all makes c.in_ok-config.ensures.config c.tell_answer.ensures.told }

@@ -1,4 +1,4 @@
-use Rattle.std.proofs.Common.{Err, ap}
+use Rattle.std.proofs.Common.{Err, ap, inl, inr}
 use Rattle.casdisk_script.proofs.Beginning.{ends_first, ends_no_config, ends_wrong_config, front_config, lost_first, reached_first, known_config}
 use Rattle.casdisk_script.proofs.first_line.read_first.Goals as goal
 
@@ -10,12 +10,12 @@ returns-in-Err-clause-stopped g c meaning w =
 pub returns-in-Ok-Rest-clause-stopped : goal.returns-in-Ok-Rest-clause-stopped
 returns-in-Ok-Rest-clause-stopped g c meaning w =
     let x = rw (c.in-Ok-Rest.field-0-is, c.requires.fresh) at c.in-Ok-Rest.ensures.line in
-    ends_first meaning _ _ _ _ _ x.0 x.1 x.2 x.3
+    inr (ends_first meaning _ _ _ _ _ x.0 x.1 x.2 x.3)
 
 pub returns-in-Err-Malformed-clause-stopped : goal.returns-in-Err-Malformed-clause-stopped
 returns-in-Err-Malformed-clause-stopped g c meaning w =
     let x = rw (c.in-Ok-Whole.field-0-is, c.requires.fresh) at c.in-Ok-Whole.ensures.line in
-    ends_no_config meaning _ _ _ _ _ x.0 x.1 (rw (c.in-Err-Malformed.field-0-is, c.as_slice.ensures.value) at c.in-Err-Malformed.ensures.value)
+    inl (ends_no_config meaning _ _ _ _ _ x.0 x.1 (rw (c.in-Err-Malformed.field-0-is, c.as_slice.ensures.value) at c.in-Err-Malformed.ensures.value))
 
 pub returns-in-Ok-from_numbers-clause-front : goal.returns-in-Ok-from_numbers-clause-front
 returns-in-Ok-from_numbers-clause-front g c meaning w u front =

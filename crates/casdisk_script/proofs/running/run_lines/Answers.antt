@@ -1,8 +1,8 @@
-use Rattle.std.proofs.Common.{◌≡◌, Err, [], length, vec_len, sym, ap, ◌∙◌}
+use Rattle.std.proofs.Common.{◌≡◌, Err, inl, inr, [], length, vec_len, sym, ap, ◌∙◌}
 use Rattle.std.proofs.lemmas.Bool.{eqb-true, eqb-false}
 use Rattle.std.proofs.lemmas.List.{nil_from_length}
 use Rattle.casdisk_script.specs.Running.{lines_from}
-use Rattle.casdisk_script.specs.Script.{done, bad_line}
+use Rattle.casdisk_script.specs.Script.{cut, done}
 use Rattle.casdisk_script.proofs.Reaching.{all_read, goes_on, ends_bad, front_stopped, front_lost, front_here, ends_last, makes_last, print_none, print_rest, runs_stopped, runs_unread}
 use Rattle.casdisk_script.proofs.running.run_lines.Goals as goal
 
@@ -33,7 +33,7 @@ returns-in-Ok-Rest-clause-runs g c =
     let line = c.next_line.new.line in
     let x = rw c.in-Ok-Rest.field-0-is at c.in-Ok-Rest.ensures.line in
     let some : line.items ≡ [] → ⊥ = λ (e : line.items ≡ []). eqb-false (vec_len line) 0 (sym c.is_empty.ensures ∙ c.if-is_empty.false) (line.ok.0 ∙ ap length e) in
-    ends_last _ _ _ _ _ _ _ _ _ _ c.loop-number.invariant.reached _ line.items (bad_line c.loop-number.number) x.0 x.1 x.2 x.3 (print_rest _ _ _ line.items some)
+    inr (ends_last _ _ _ _ _ _ _ _ _ _ c.loop-number.invariant.reached _ line.items (cut c.loop-number.number) x.0 x.1 x.2 x.3 (print_rest _ _ _ line.items some))
 
 pub returns-in-Err-take_line-clause-runs : goal.returns-in-Err-take_line-clause-runs
 returns-in-Err-take_line-clause-runs g c =
@@ -47,7 +47,7 @@ pub returns-in-Ok-Bad-clause-runs : goal.returns-in-Ok-Bad-clause-runs
 returns-in-Ok-Bad-clause-runs g c =
     let x = rw c.in-Ok-Whole.field-0-is at c.in-Ok-Whole.ensures.line in
     let h = rw (c.in-Ok-Bad.field-0-is, c.deref.ensures.value, c.loop-number.invariant.same) at c.in-Ok-Bad.ensures.taken in
-    ends_bad _ _ _ _ _ _ _ _ _ _ c.loop-number.invariant.reached _ c.next_line.new.line.items _ x.0 x.1 h.0 h.1
+    inl (ends_bad _ _ _ _ _ _ _ _ _ _ c.loop-number.invariant.reached _ c.next_line.new.line.items _ x.0 x.1 h.0 h.1)
 
 pub loop-number-preserved : goal.loop-number-preserved
 loop-number-preserved g c =

@@ -11,4 +11,4 @@ returns g c =
     let sent = rw c.as_slice.ensures.value at c.in-Ok-send_line.ensures.whole in
     let begun = c.in_ok-config.ensures.begun (λ c'. script_line c' kinds) _ _ sent in
     let ran = rw c.in-Ok-new.ensures.ok at c.run_lines.ensures.runs in
-    runs_after (outcome (λ c'. script_line c' kinds)) (script_line config kinds) [] 2 _ _ _ _ _ _ _ c.run_lines.result begun ran
+    record { runs = runs_after (outcome (λ c'. script_line c' kinds)) (script_line config kinds) [] 2 _ _ _ _ _ _ _ c.run_lines.result begun ran }
