@@ -1,0 +1,64 @@
+-- What contracts say of an engine, its works and its notices.
+use Rattle.std.specs.Prelude.{[], true, ◌≡◌, ◌∷◌}
+use Rattle.nvme_model.specs.History.{Past}
+use Rattle.nvme_model.specs.Passes.{SharedPast}
+use Rattle.nvme_model.specs.declared.entry.Entry.{Entry}
+use Rattle.nvme_model.specs.declared.refusal.Why.{Why}
+use Rattle.nvme_model.specs.declared.step.Step.{Step}
+use Rattle.step_core.specs.State.{State}
+use Rattle.step_core.specs.declared.answer.Answer.{Answer}
+use Rattle.step_core.specs.declared.answer.Refused.{Refused}
+use Rattle.step_core.specs.State.{Accepts}
+use Rattle.meet_lock.specs.Passes
+use Rattle.meet_lock.specs.declared.pass.Declined.{Declined}
+use Rattle.meet_lock.specs.declared.pass.Pass.{Pass}
+use Rattle.work_queue.specs.Duties.{is_only_fetch}
+use Rattle.work_queue.specs.declared.engine.Engine.{Engine}
+use Rattle.work_queue.specs.declared.engine.Open.{Open}
+use Rattle.work_queue.specs.declared.engine.Open.TheVariants as opening
+use Rattle.work_queue.specs.declared.engine.Opened.{Opened}
+use Rattle.work_queue.specs.declared.engine.Opened.TheVariants as opened
+use Rattle.work_queue.specs.declared.work.Work.{Work}
+
+-- a caller's pass
+abbrev pub EnginePass : Type 0
+EnginePass = Pass State
+
+abbrev pub IsOf : Engine → EnginePass → Type 0
+IsOf e p = Passes.IsOf e.shared p
+
+abbrev pub IsWorkOf : Engine → Work → Type 0
+IsWorkOf e w = Passes.IsTicketOf e.shared w.owner
+
+-- the ticket's entries, the newest first
+abbrev pub its : Work → Past
+its w = Passes.its w.owner
+
+-- what the Work has seen
+abbrev pub work_seen : Work → SharedPast
+work_seen w = Passes.ticket_seen w.owner
+
+-- the step that an opening asks for
+abbrev pub open_step : Open → Step
+open_step (opening.Publish q batch) = Step.Publish q batch
+open_step (opening.Fetch q) = Step.Fetch q
+open_step (opening.Reap q) = Step.Reap q
+
+-- the answer, with the Work of the ticket of this entry, its one entry, that has seen what the pass has
+abbrev pub IsOpened : Engine → EnginePass → Entry → Answer → Opened → Type 0
+IsOpened eng q e Answer.Published opened.Published = Unit {0}
+IsOpened eng q e (Answer.Fetched w) (opened.Fetched x) = (x.work ≡ w) × IsWorkOf eng x × (work_seen x ≡ Passes.seen q) × (its x ≡ e ∷ []) × (is_only_fetch w.ticket (its x) ≡ true)
+IsOpened eng q e (Answer.Reaped cqe payload) (opened.Reaped c p) = (c ≡ cqe) × (p ≡ payload)
+IsOpened eng q e _ _ = ⊥
+
+-- after an accepted opening
+pub record OpenedAs (eng : Engine) (p q : EnginePass) (o : Open) (r : Opened) : Type 0 where
+  pub answer : Answer
+  pub by : Passes.Accepted Accepts p q (open_step o) answer
+  pub is : IsOpened eng q by.entry answer r
+
+-- the ticket is in flight, and it is the task's turn
+abbrev pub IsNoTaskFault : Declined → Type 0
+IsNoTaskFault (Declined.Refused (Refused.Step Why.NoTicket)) = ⊥
+IsNoTaskFault (Declined.Refused (Refused.Step Why.WrongState)) = ⊥
+IsNoTaskFault _ = Unit {0}

@@ -1,0 +1,166 @@
+//! A controller that callers share, each ticket stepped only with its Work.
+
+ghost use Rattle.std.specs.Prelude.{◌≡◌, ◌<◌, ◌+◌, All, None, Some, ℕ, IfErr, IfOk, IfSome, IsSome, slice_get, vec_len};
+ghost use Rattle.nvme_model.specs.Passes.{IsBeginning, SharedPast, entries};
+ghost use Rattle.nvme_model.specs.Kept.{Kept};
+
+use crate::stages::{stage_after, start_of};
+use crate::task::Task;
+use crate::work::Work;
+use meet_lock::{Busy, Declined, Pass, Shared, TicketOwner};
+use nvme_model::submission::{Payload, Submissions};
+use std::alloc::{AllocError as NoMemory, Global};
+use step_core::{Answer, Core, Step};
+
+/// A step that names a queue.
+#[derive(Drop)]
+pub enum Open {
+    /// Put these entries at the end of a submission queue.
+    Publish(u16, Submissions),
+    /// Take the next command, or the next fused pair, of a submission queue, as a Work.
+    Fetch(u16),
+    /// Take the next completion of a completion queue.
+    Reap(u16),
+}
+
+/// The answer to an accepted one.
+#[derive(Drop)]
+pub enum Opened {
+    Published,
+    Fetched(Work),
+    /// The completion queue entry, and what a successful Read read.
+    Reaped { cqe: [u8; 16], payload: Payload },
+}
+
+/// A controller that callers share.
+#[derive(Drop)]
+pub struct Engine {
+    pub(crate) shared: Shared<Core, TicketOwner>,
+}
+
+impl Engine {
+    ghost use Rattle.step_core.specs.State.{Accepts, Refuses};
+    ghost use Rattle.meet_lock.specs.Passes.{Declines, IsNew, IsNotBusy, IsSame, Knows, Met, Saw, Worked, config_of, mine, passes_of, seen};
+    ghost use Rattle.meet_lock.specs.declared.pass.Pass.{Pass};
+    ghost use Rattle.step_core.specs.State.{State};
+    ghost use Rattle.ticket_entries.specs.Entries.{of_ticket};
+    ghost use Rattle.ticket_entries.specs.Tasks.{task_fault};
+    ghost use Rattle.work_queue.specs.Duties.{duty_of, task_step};
+    ghost use Rattle.work_queue.specs.Engines.{IsNoTaskFault, IsOf, IsWorkOf, OpenedAs, its, open_step, work_seen};
+
+    /// The controller with a lock round it, and as many passes as asked for, numbered from 1 in order.
+    ///
+    /// # Errors
+    ///
+    /// The controller, where a growth is refused.
+    pub fn new(
+        alloc: Global,
+        core: Core,
+        passes: usize,
+    ) -> Result<(Engine, Vec<Pass<Core>>), (Core, NoMemory)>
+        requires some { 0 < passes }
+        requires legal { Kept core.config core.past }
+        ensures count { IfOk result (λ e. vec_len e.1 ≡ passes) }
+        ensures own { IfOk result (λ e. All (IsOf e.0) e.1.items) }
+        ensures each { IfOk result (λ e. (k : ℕ) (p : Pass State) → slice_get e.1.items k ≡ Some p → IsOf e.0 p × IsNew passes core.config core.past (k + 1) p) }
+        ensures err { IfErr result (λ e. e.0 ≡ core) }
+    {
+        let (shared, passes) = Shared::new(alloc, core, passes)?;
+        Ok((Engine { shared }, passes))
+    }
+
+    /// Makes a Publish, a Fetch or a Reap, if no other caller has the lock.
+    ///
+    /// # Errors
+    ///
+    /// `Busy` with the step, where another caller had the lock; nothing has changed. `Refused` by the refusals at what the pass has seen then.
+    pub fn attempt_open(&self, pass: &mut Pass<Core>, request: Open) -> Result<Opened, Declined>
+        requires { IsOf self.now pass.old }
+        ensures same { IsSame pass.old pass.new }
+        ensures knows { Knows Kept pass.old pass.new }
+        ensures accepted { IfOk result (OpenedAs self.now pass.old pass.new request) }
+        ensures declined { IfErr result (Declines Refuses pass.old pass.new (open_step request)) }
+        ensures alone { passes_of pass.old ≡ 1 → IsNotBusy result }
+    {
+        match request {
+            Open::Publish(queue, batch) => {
+                self.shared.attempt_open(pass, Step::Publish(queue, batch))?;
+                Ok(Opened::Published)
+            }
+            Open::Fetch(queue) => {
+                let (answer, owner) = self.shared.attempt_open(pass, Step::Fetch(queue))?;
+                let Answer::Fetched(work) = answer else {
+                    unreachable!();
+                };
+                let stage = start_of(&work);
+                Ok(Opened::Fetched(Work { work, owner, stage }))
+            }
+            Open::Reap(queue) => {
+                let (answer, _) = self.shared.attempt_open(pass, Step::Reap(queue))?;
+                let Answer::Reaped { cqe, payload } = answer else {
+                    unreachable!();
+                };
+                Ok(Opened::Reaped { cqe, payload })
+            }
+        }
+    }
+
+    /// Makes a Grant, a Block or a Post of the Work's ticket, if no other caller has the lock.
+    ///
+    /// # Errors
+    ///
+    /// As `attempt_open`; never because the ticket isn't in flight or because it isn't the task's turn.
+    pub fn attempt_work(
+        &self,
+        pass: &mut Pass<Core>,
+        work: &mut Work,
+        task: Task,
+    ) -> Result<Answer, Declined>
+        requires own { IsOf self.now pass.old × IsWorkOf self.now work.old }
+        requires allowed { task_fault (duty_of work.old.work) work.old.work.ticket (its work.old) (task_step task work.old.work.ticket) ≡ None }
+        ensures same { IsSame pass.old pass.new × IsWorkOf self.now work.new × (work.new.work ≡ work.old.work) }
+        ensures knows { Knows Kept pass.old pass.new }
+        ensures accepted { IfOk result (Worked Accepts pass.old pass.new work.old.owner work.new.owner (task_step task work.old.work.ticket)) }
+        ensures declined { IfErr result (λ d. Declines Refuses pass.old pass.new (task_step task work.old.work.ticket) d × (its work.new ≡ its work.old)) }
+        ensures in_place { IfErr result IsNoTaskFault }
+        ensures whole { IsNotBusy result → of_ticket work.new.work.ticket (entries (seen pass.new)) ≡ its work.new }
+        ensures saw { Saw pass.new work.old.owner work.new.owner result }
+        ensures alone { passes_of pass.old ≡ 1 → IsNotBusy result }
+    {
+        let step = task.step_of(work.work.ticket());
+        match self.shared.attempt_work(pass, &mut work.owner, step) {
+            Ok(answer) => {
+                work.stage = stage_after(work.stage, &answer);
+                Ok(answer)
+            }
+            Err(declined) => Err(declined),
+        }
+    }
+
+    /// Both passes see the whole history so far, if no other caller has the lock. Takes no memory.
+    ///
+    /// # Errors
+    ///
+    /// `Busy` where another caller had the lock; nothing has changed.
+    pub fn meet(&self, first: &mut Pass<Core>, second: &mut Pass<Core>) -> Result<(), Busy>
+        requires first { IsOf self.now first.old }
+        requires second { IsOf self.now second.old }
+        ensures first { IsSame first.old first.new × (mine first.new ≡ mine first.old) }
+        ensures second { IsSame second.old second.new × (mine second.new ≡ mine second.old) }
+        ensures met { IfOk result (λ _. Met Kept first.old second.old first.new second.new) }
+        ensures busy { IfErr result (λ _. (seen first.new ≡ seen first.old) × (seen second.new ≡ seen second.old)) }
+    {
+        self.shared.meet(first, second)
+    }
+
+    /// The controller, where no pass had the lock.
+    pub fn close(self, pass: Pass<Core>) -> Option<Core>
+        requires { IsOf self pass }
+        ensures config { IfSome result (λ core. core.config ≡ config_of pass) }
+        ensures legal { IfSome result (λ core. Kept core.config core.past) }
+        ensures begins { IfSome result (λ core. (whole : SharedPast) × (core.past ≡ entries whole) × IsBeginning (seen pass) whole) }
+        ensures alone { passes_of pass ≡ 1 → IsSome result }
+    {
+        self.shared.close(pass)
+    }
+}
