@@ -47,7 +47,12 @@ open_step (opening.Reap q) = Step.Reap q
 -- the answer, with the Work of the ticket of this entry, its one entry, that has seen what the pass has
 abbrev pub IsOpened : Engine → EnginePass → Entry → Answer → Opened → Type 0
 IsOpened eng q e Answer.Published opened.Published = Unit {0}
-IsOpened eng q e (Answer.Fetched w) (opened.Fetched x) = (x.work ≡ w) × IsWorkOf eng x × (work_seen x ≡ Passes.seen q) × (its x ≡ e ∷ []) × (is_only_fetch w.ticket (its x) ≡ true)
+IsOpened eng q e (Answer.Fetched w) (opened.Fetched x) =
+    (x.work ≡ w)
+    × IsWorkOf eng x
+    × (work_seen x ≡ Passes.seen q)
+    × (its x ≡ e ∷ [])
+    × (is_only_fetch w.ticket (its x) ≡ true)
 IsOpened eng q e (Answer.Reaped cqe payload) (opened.Reaped c p) = (c ≡ cqe) × (p ≡ payload)
 IsOpened eng q e _ _ = ⊥
 

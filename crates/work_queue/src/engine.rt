@@ -1,6 +1,20 @@
 //! A controller that callers share, each ticket stepped only with its Work.
 
-ghost use Rattle.std.specs.Prelude.{◌≡◌, ◌<◌, ◌+◌, All, None, Some, ℕ, IfErr, IfOk, IfSome, IsSome, slice_get, vec_len};
+ghost use Rattle.std.specs.Prelude.{
+  ◌≡◌,
+  ◌<◌,
+  ◌+◌,
+  All,
+  None,
+  Some,
+  ℕ,
+  IfErr,
+  IfOk,
+  IfSome,
+  IsSome,
+  slice_get,
+  vec_len,
+};
 ghost use Rattle.nvme_model.specs.Passes.{IsBeginning, SharedPast, entries};
 ghost use Rattle.nvme_model.specs.Kept.{Kept};
 
@@ -40,7 +54,20 @@ pub struct Engine {
 
 impl Engine {
     ghost use Rattle.step_core.specs.State.{Accepts, Refuses};
-    ghost use Rattle.meet_lock.specs.Passes.{Declines, IsNew, IsNotBusy, IsSame, Knows, Met, Saw, Worked, config_of, mine, passes_of, seen};
+    ghost use Rattle.meet_lock.specs.Passes.{
+      Declines,
+      IsNew,
+      IsNotBusy,
+      IsSame,
+      Knows,
+      Met,
+      Saw,
+      Worked,
+      config_of,
+      mine,
+      passes_of,
+      seen,
+    };
     ghost use Rattle.meet_lock.specs.declared.pass.Pass.{Pass};
     ghost use Rattle.step_core.specs.State.{State};
     ghost use Rattle.ticket_entries.specs.Entries.{of_ticket};
@@ -62,7 +89,8 @@ impl Engine {
         requires legal { Kept core.config core.past }
         ensures count { IfOk result (λ e. vec_len e.1 ≡ passes) }
         ensures own { IfOk result (λ e. All (IsOf e.0) e.1.items) }
-        ensures each { IfOk result (λ e. (k : ℕ) (p : Pass State) → slice_get e.1.items k ≡ Some p → IsOf e.0 p × IsNew passes core.config core.past (k + 1) p) }
+        ensures each { IfOk result (λ e. (k : ℕ) (p : Pass State) → slice_get e.1.items k ≡ Some p
+            → IsOf e.0 p × IsNew passes core.config core.past (k + 1) p) }
         ensures err { IfErr result (λ e. e.0 ≡ core) }
     {
         let (shared, passes) = Shared::new(alloc, core, passes)?;
@@ -73,7 +101,8 @@ impl Engine {
     ///
     /// # Errors
     ///
-    /// `Busy` with the step, where another caller had the lock; nothing has changed. `Refused` by the refusals at what the pass has seen then.
+    /// `Busy` with the step, where another caller had the lock; nothing has changed. `Refused` by the refusals at what
+    /// the pass has seen then.
     pub fn attempt_open(&self, pass: &mut Pass<Core>, request: Open) -> Result<Opened, Declined>
         requires { IsOf self.now pass.old }
         ensures same { IsSame pass.old pass.new }
@@ -117,11 +146,14 @@ impl Engine {
         task: Task,
     ) -> Result<Answer, Declined>
         requires own { IsOf self.now pass.old × IsWorkOf self.now work.old }
-        requires allowed { task_fault (duty_of work.old.work) work.old.work.ticket (its work.old) (task_step task work.old.work.ticket) ≡ None }
+        requires allowed { task_fault (duty_of work.old.work) work.old.work.ticket (its work.old)
+            (task_step task work.old.work.ticket) ≡ None }
         ensures same { IsSame pass.old pass.new × IsWorkOf self.now work.new × (work.new.work ≡ work.old.work) }
         ensures knows { Knows Kept pass.old pass.new }
-        ensures accepted { IfOk result (Worked Accepts pass.old pass.new work.old.owner work.new.owner (task_step task work.old.work.ticket)) }
-        ensures declined { IfErr result (λ d. Declines Refuses pass.old pass.new (task_step task work.old.work.ticket) d × (its work.new ≡ its work.old)) }
+        ensures accepted { IfOk result (Worked Accepts pass.old pass.new work.old.owner work.new.owner
+            (task_step task work.old.work.ticket)) }
+        ensures declined { IfErr result (λ d. Declines Refuses pass.old pass.new (task_step task work.old.work.ticket) d
+            × (its work.new ≡ its work.old)) }
         ensures in_place { IfErr result IsNoTaskFault }
         ensures whole { IsNotBusy result → of_ticket work.new.work.ticket (entries (seen pass.new)) ≡ its work.new }
         ensures saw { Saw pass.new work.old.owner work.new.owner result }
@@ -148,7 +180,8 @@ impl Engine {
         ensures first { IsSame first.old first.new × (mine first.new ≡ mine first.old) }
         ensures second { IsSame second.old second.new × (mine second.new ≡ mine second.old) }
         ensures met { IfOk result (λ _. Met Kept first.old second.old first.new second.new) }
-        ensures busy { IfErr result (λ _. (seen first.new ≡ seen first.old) × (seen second.new ≡ seen second.old)) }
+        ensures busy { IfErr result (λ _. (seen first.new ≡ seen first.old)
+            × (seen second.new ≡ seen second.old)) }
     {
         self.shared.meet(first, second)
     }
@@ -158,7 +191,8 @@ impl Engine {
         requires { IsOf self pass }
         ensures config { IfSome result (λ core. core.config ≡ config_of pass) }
         ensures legal { IfSome result (λ core. Kept core.config core.past) }
-        ensures begins { IfSome result (λ core. (whole : SharedPast) × (core.past ≡ entries whole) × IsBeginning (seen pass) whole) }
+        ensures begins { IfSome result (λ core. (whole : SharedPast) × (core.past ≡ entries whole)
+            × IsBeginning (seen pass) whole) }
         ensures alone { passes_of pass ≡ 1 → IsSome result }
     {
         self.shared.close(pass)

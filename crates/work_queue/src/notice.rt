@@ -39,7 +39,8 @@ impl Notice {
         requires own { IsOf engine.now pass.old }
         requires there { IsPostedTo (config_of pass.old) (entries (seen pass.old)) queue cqe }
         ensures same { IsSame pass.old pass.new × (seen pass.new ≡ seen pass.old) }
-        ensures notice { IfOk result (λ n. IsNoticeOf engine.now n × (notice_seen n ≡ seen pass.old) × (notice_config n ≡ config_of pass.old) × (n.queue ≡ queue) × (n.cqe ≡ cqe)) }
+        ensures notice { IfOk result (λ n. IsNoticeOf engine.now n × (notice_seen n ≡ seen pass.old)
+            × (notice_config n ≡ config_of pass.old) × (n.queue ≡ queue) × (n.cqe ≡ cqe)) }
     {
         let note = engine.shared.note(pass);
         Ok(Notice { queue, cqe, note })
@@ -78,7 +79,8 @@ impl Engine {
         ensures learned { IfOk result (λ _. IsBeginning (notice_seen notice.old) (seen pass.new)) }
         ensures reaps { IfOk result (λ _. ReapFinds (notice_seen notice.old) notice.old.queue pass.new) }
         ensures busy { IfErr result (λ _. seen pass.new ≡ seen pass.old) }
-        ensures notice { IsNoticeOf self.now notice.new × (notice_seen notice.new ≡ notice_seen notice.old) × (notice.new.queue ≡ notice.old.queue) × (notice.new.cqe ≡ notice.old.cqe) }
+        ensures notice { IsNoticeOf self.now notice.new × (notice_seen notice.new ≡ notice_seen notice.old)
+            × (notice.new.queue ≡ notice.old.queue) × (notice.new.cqe ≡ notice.old.cqe) }
     {
         self.shared.learn(pass, &mut notice.note);
         Ok(())
