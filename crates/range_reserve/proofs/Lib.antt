@@ -1,3 +1,4 @@
 pub mod Kept
 pub mod Pairs
 pub mod Granted
+pub mod Rising

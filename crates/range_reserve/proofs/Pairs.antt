@@ -53,8 +53,8 @@ overlap_from r s l h k =
     let a : Has r l = has_parts r l h in
     let b : Has s l = has_parts s l k in
     and_from _ _
-      (and_from _ _ (lt-ltb 0 r.blocks (omega (arith, a.from, a.below))) (lt-ltb 0 s.blocks (omega (arith, b.from, b.below))))
-      (and_from _ _ (lt-ltb r.slba (s.slba + s.blocks) (omega (arith, a.from, b.below))) (lt-ltb s.slba (r.slba + r.blocks) (omega (arith, b.from, a.below))))
+    (and_from _ _ (lt-ltb 0 r.blocks (omega (arith, a.from, a.below))) (lt-ltb 0 s.blocks (omega (arith, b.from, b.below))))
+    (and_from _ _ (lt-ltb r.slba (s.slba + s.blocks) (omega (arith, a.from, b.below))) (lt-ltb s.slba (r.slba + r.blocks) (omega (arith, b.from, a.below))))
 
 -- what overlapping ranges are
 record Overlaps (r s : Range) : Type 0 where

@@ -1,14 +1,14 @@
 -- What tickets hold.
-use Rattle.std.specs.List.{filter, find, list_any}
+use Rattle.std.specs.List.{filter, find, list_all, list_any}
 use Rattle.std.specs.Option.{option_map}
-use Rattle.std.specs.Prelude.{Bool, List, Option, Some, [], false, not, slice_get, ℕ, ◌+◌, ◌==◌, ◌∷◌, ◌≡◌, ◌≢◌, ◌≤◌}
+use Rattle.std.specs.Prelude.{Bool, List, Option, Some, [], false, if◌then◌else◌, nat_le, nat_lt, not, slice_get, true, ℕ, ◌+◌, ◌==◌, ◌∷◌, ◌≡◌, ◌≢◌, ◌≤◌}
 use Rattle.nvme_model.specs.Open.{conflict}
 use Rattle.nvme_model.specs.declared.array.Mode.{Mode}
 use Rattle.nvme_model.specs.declared.array.Range.{Range}
 use Rattle.nvme_model.specs.declared.entry.GrantLine.{GrantLine}
 use Rattle.range_reserve.specs.declared.held.Held.{Held}
 
--- what is held, the newest first, and how many grants need no memory
+-- what is held, by rising ticket, and how many grants need no memory
 pub record Reserved : Type 0 where
   pub held : List Held
   pub room : ℕ
@@ -28,6 +28,25 @@ held_by held t = option_map (λ h. (h.range, h.mode)) (find (λ h. h.ticket == t
 -- what others hold
 abbrev pub held_beside : List Held → ℕ → List Held
 held_beside held t = filter (λ h. not (h.ticket == t)) held
+
+-- with one more, by rising ticket
+abbrev pub insert_held : Held → List Held → List Held
+insert_held h [] = h ∷ []
+insert_held h (x ∷ xs) = if nat_lt h.ticket x.ticket then h ∷ x ∷ xs else x ∷ insert_held h xs
+
+-- the same, by rising ticket, whatever their order was
+abbrev pub by_ticket : List Held → List Held
+by_ticket [] = []
+by_ticket (h ∷ hs) = insert_held h (by_ticket hs)
+
+-- no ticket is below n
+abbrev pub none_below : ℕ → List Held → Bool
+none_below n held = list_all (λ h. nat_le n h.ticket) held
+
+-- the tickets rise
+abbrev pub AreRising : List Held → Type 0
+AreRising [] = Unit {0}
+AreRising (h ∷ hs) = (none_below h.ticket hs ≡ true) × AreRising hs
 
 -- it has a block, and each block of it can be one of a volume
 abbrev pub IsRange : Range → Type 0

@@ -1,7 +1,7 @@
 //! The ranges that tickets hold.
 
 ghost use Rattle.std.specs.Prelude.{◌≡◌, ◌+◌, ◌-◌, ◌≤◌, ◌<◌, ◌↔◌, ◌⊎◌, [], ◌∷◌, IfErr, IsTrue, OnErr, OnOk, false, is_some, reverse, vec_capacity, vec_len};
-ghost use Rattle.range_reserve.specs.Reserved.{AreApart, IsRange, has_conflict, has_ticket, held_beside, held_by};
+ghost use Rattle.range_reserve.specs.Reserved.{AreApart, AreRising, IsRange, has_conflict, has_ticket, held_beside, held_by, insert_held};
 
 use crate::conflicts::has_conflict;
 use crate::held::{Held, held_by};
@@ -10,7 +10,7 @@ use nvme_model::refusal::Why;
 use std::alloc::{AllocError as NoMemory, Global};
 use std::marker::Model;
 
-/// The ranges that tickets hold, seen as the list of them, the newest first, with how many grants need no memory.
+/// The ranges that tickets hold, seen as the list of them by rising ticket, with how many grants need no memory.
 ///
 /// Each ticket holds one range at most, and no two ranges conflict: they share no block, or both are Shared.
 #[derive(Drop)]
@@ -20,11 +20,11 @@ pub struct Ranges {
 
 impl Model for Ranges {
     ghost use Rattle.std.specs.Prelude.{◌-◌, reverse, vec_capacity, vec_len};
-    ghost use Rattle.range_reserve.specs.Reserved.{AreApart, Reserved};
+    ghost use Rattle.range_reserve.specs.Reserved.{AreApart, Reserved, by_ticket};
 
     ghost Value = { Reserved };
 
-    ghost view = { λ r. record { held = reverse r.held.items; room = vec_capacity r.held - vec_len r.held } };
+    ghost view = { λ r. record { held = by_ticket (reverse r.held.items); room = vec_capacity r.held - vec_len r.held } };
 
     ghost invariant = { λ r. AreApart (reverse r.held.items) };
 }
@@ -66,6 +66,7 @@ impl Ranges {
         ensures holds { result ≡ held_by self.now.held ticket }
         ensures any { is_some result ≡ has_ticket self.now.held ticket }
         ensures law { AreApart self.now.held }
+        ensures rising { AreRising self.now.held }
     {
         held_by(self.held.as_slice(), ticket)
     }
@@ -79,7 +80,7 @@ impl Ranges {
     pub fn grant(&mut self, ticket: u64, range: Range, mode: Mode) -> Result<(), Why>
         requires free { has_ticket self.old.held ticket ≡ false }
         requires range { IsRange range }
-        ensures ok { OnOk result (self.new.held ≡ record { ticket = ticket; range = range; mode = mode } ∷ self.old.held) }
+        ensures ok { OnOk result (self.new.held ≡ insert_held (record { ticket = ticket; range = range; mode = mode }) self.old.held) }
         ensures err { OnErr result (self.new.held ≡ self.old.held) }
         ensures law { AreApart self.new.held }
 

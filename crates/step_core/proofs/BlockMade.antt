@@ -1,5 +1,5 @@
 -- A Block that isn't refused: what the calls that make it require, what it answers, and the fields after it.
-use Rattle.std.proofs.Common.{◌≡◌, ℕ, suc, ◌-◌, ◌≤◌, Bool, true, false, cond, List, ◌∷◌, map, refl, sym, ap, ap₂, ◌∙◌, subst, Ok, Option, Some, None, arith}
+use Rattle.std.proofs.Common.{◌≡◌, ℕ, suc, ◌-◌, ◌≤◌, Bool, true, false, cond, List, ◌∷◌, map, refl, sym, ap, ap₂, ◌∙◌, subst, Ok, Option, Some, None, arith, not, ◌==◌}
 use Rattle.std.specs.Prelude.{IfSome, MatchOption, is_none}
 use Rattle.nvme_model.specs.declared.array.Range.{Range}
 use Rattle.nvme_model.specs.declared.config.ConfigNumbers.{ConfigNumbers}
@@ -23,9 +23,10 @@ use Rattle.nvme_model.specs.Kept.{Kept}
 use Rattle.ticket_standing.proofs.Opening.{block_open_beside, block_open_on}
 use Rattle.nvme_model.proofs.Rules.{none_holds}
 use Rattle.ticket_standing.proofs.Standings.{block_other}
-use Rattle.range_reserve.specs.Reserved.{held_beside, held_of}
+use Rattle.range_reserve.specs.Reserved.{by_ticket, held_beside, held_of}
 use Rattle.range_reserve.specs.declared.held.Held.{Held}
 use Rattle.range_reserve.proofs.Granted.{held_beside-map}
+use Rattle.range_reserve.proofs.Rising.{filter-by_ticket}
 use Rattle.block_exec.specs.Bytes.{volume_after}
 use Rattle.block_exec.specs.Course.{next_done, stepped}
 use Rattle.block_exec.specs.Progress.{Progress}
@@ -189,9 +190,10 @@ module _ (c : ConfigNumbers) (past : Past) (v : List (List ℕ)) (s : List Submi
                   ∙ job_now c past t g o u (legal_then g o u) k.run.legal (read_of x p v (done_now past t g o).found) (read_now c past t g o u k.run.legal v k.volume)
 
               held_now : (g : GrantLine) (o : Op) → IsUnit c past t g o → (b : Bool) → (done_now past t g o).ended ≡ b
-                  → cond b (held_beside (map held_of (open_units past)) t) (map held_of (open_units past)) ≡ map held_of (open_units (Entry.Block (line_now past t g o) ∷ past))
+                  → cond b (held_beside (by_ticket (map held_of (open_units past))) t) (by_ticket (map held_of (open_units past)))
+                  ≡ by_ticket (map held_of (open_units (Entry.Block (line_now past t g o) ∷ past)))
               held_now g o u true e =
-                  held_beside-map (open_units past) t
-                  ∙ ap (map held_of) (sym (block_open_beside c past (line_now past t g o) (legal_then g o u) (sym (ended_is c past t g o u (legal_then g o u) k.run.legal) ∙ e)))
+                  filter-by_ticket (λ h. not (h.ticket == t)) (map held_of (open_units past)) ∙ ap by_ticket (held_beside-map (open_units past) t)
+                  ∙ ap (λ (gs : List GrantLine). by_ticket (map held_of gs)) (sym (block_open_beside c past (line_now past t g o) (legal_then g o u) (sym (ended_is c past t g o u (legal_then g o u) k.run.legal) ∙ e)))
               held_now g o u false e =
-                  ap (map held_of) (sym (block_open_on c past (line_now past t g o) k.run.legal (sym (ended_is c past t g o u (legal_then g o u) k.run.legal) ∙ e)))
+                  ap (λ (gs : List GrantLine). by_ticket (map held_of gs)) (sym (block_open_on c past (line_now past t g o) k.run.legal (sym (ended_is c past t g o u (legal_then g o u) k.run.legal) ∙ e)))

@@ -39,7 +39,7 @@ use Rattle.job_table.specs.Jobs.{JobTable, all_below, jobs_by}
 use Rattle.job_table.specs.declared.job.Job.{Job}
 use Rattle.job_table.specs.declared.jobs.InFlight.{InFlight}
 use Rattle.job_table.proofs.Tables.{all_below-jobs_by, push-jobs_by}
-use Rattle.range_reserve.specs.Reserved.{held_of}
+use Rattle.range_reserve.specs.Reserved.{by_ticket, held_of}
 use Rattle.range_reserve.specs.declared.held.Held.{Held}
 use Rattle.rings.specs.Completions.{CompletionRing}
 use Rattle.rings.specs.Submissions.{SubmissionRing, advanced}
@@ -258,7 +258,7 @@ module _ (c : ConfigNumbers) (past : Past) (v : List (List ℕ)) (s : List Submi
             (λ i apart. ring_other c past line (suc i) (λ (on : t ≡ suc i). apart (omega (arith, on))));
         completion = IsTable-same (λ i. completion_ring c past (suc i)) (λ i. completion_ring c e (suc i)) c.cqs q k.completion (λ i. completion_kept c past line (suc i));
         jobs = table_is job table (job_is first second read job (commands_are first second ring m there is took) room made) put;
-        held = k.held ∙ ap (λ (gs : List GrantLine). map held_of gs) (sym (open_kept c past line legal));
+        held = k.held ∙ ap (λ (gs : List GrantLine). by_ticket (map held_of gs)) (sym (open_kept c past line legal));
         count = ap (λ i. i + 1) k.count;
         run = subst (λ (y : Entry). Kept c (y ∷ past)) (sym entry_is) (stepped c past (Step.Fetch t) k.run a.0);
       } in

@@ -1,5 +1,5 @@
 -- A Grant that isn't refused: what the calls that make it require, and the fields after it.
-use Rattle.std.proofs.Common.{◌≡◌, ℕ, zero, suc, ◌+◌, ◌≤◌, ◌<◌, ◌^◌, true, false, ◌&&◌, cond, List, [], ◌∷◌, drop, length, map, option_map, refl, sym, ap, ◌∙◌, subst, Option, Some, None, is_some, is_none, arith, nat_le, slice_get}
+use Rattle.std.proofs.Common.{◌≡◌, ℕ, zero, suc, ◌+◌, ◌≤◌, ◌<◌, ◌^◌, true, false, ◌&&◌, cond, List, [], ◌∷◌, drop, length, map, option_map, refl, sym, ap, ◌∙◌, subst, Option, Some, None, is_some, is_none, arith, nat_le, slice_get, ◌==◌}
 use Rattle.std.proofs.lemmas.Bool.{and_right, lt-leb, or_parts}
 use Rattle.nvme_model.specs.declared.array.Range.{Range}
 use Rattle.nvme_model.specs.declared.config.AtomicParameters.{AtomicParameters}
@@ -12,7 +12,7 @@ use Rattle.nvme_model.specs.declared.step.Step.{Step}
 use Rattle.nvme_model.specs.History.{Past}
 use Rattle.nvme_model.specs.Legal.{IsLegal}
 use Rattle.nvme_model.specs.Medium.{medium}
-use Rattle.nvme_model.specs.Open.{differed, grants_of, open_units}
+use Rattle.nvme_model.specs.Open.{conflict, differed, grants_of, open_units}
 use Rattle.nvme_model.specs.Operations.{mode, op, units, units_by}
 use Rattle.nvme_model.specs.Refusals.{conflicts_open, has_open, next_unit, refusal}
 use Rattle.ticket_standing.specs.Standing.{Standing, has_run, left, on_differs, on_success, owed_by_standing, owed_running, standing, without}
@@ -23,7 +23,8 @@ use Rattle.ticket_standing.proofs.Left.{left_after, next_starts, next_unit_left}
 use Rattle.ticket_standing.proofs.Opening.{grant_open}
 use Rattle.nvme_model.proofs.Rules.{MayGrant, may_grant}
 use Rattle.ticket_standing.proofs.Standings.{grant_here, grant_other}
-use Rattle.range_reserve.specs.Reserved.{has_conflict, has_ticket, held_of}
+use Rattle.range_reserve.specs.Reserved.{by_ticket, has_conflict, has_ticket, held_of, insert_held}
+use Rattle.range_reserve.proofs.Rising.{list_any-by_ticket}
 use Rattle.range_reserve.specs.declared.held.Held.{Held}
 use Rattle.range_reserve.proofs.Granted.{has_conflict-map, has_ticket-map}
 use Rattle.block_exec.specs.Progress.{IsRange}
@@ -136,12 +137,13 @@ module _ (c : ConfigNumbers) (past : Past) (v : List (List ℕ)) (s : List Submi
 
   -- its ticket holds no range
   pub free : has_ticket r t ≡ false
-  free = ap (λ (hs : List Held). has_ticket hs t) k.held ∙ has_ticket-map (open_units past) t ∙ ap (has_open past) (sym same) ∙ may.closed
+  free = ap (λ (hs : List Held). has_ticket hs t) k.held ∙ list_any-by_ticket (λ h. h.ticket == t) (map held_of (open_units past)) ∙ has_ticket-map (open_units past) t ∙ ap (has_open past) (sym same) ∙ may.closed
 
   -- the range is apart from those that are held
   pub apart : has_conflict r g.range g.mode ≡ false
   apart =
-      ap (λ (hs : List Held). has_conflict hs g.range g.mode) k.held ∙ has_conflict-map (open_units past) g.range g.mode
+      ap (λ (hs : List Held). has_conflict hs g.range g.mode) k.held
+      ∙ list_any-by_ticket (λ h. conflict g.range g.mode h.range h.mode) (map held_of (open_units past)) ∙ has_conflict-map (open_units past) g.range g.mode
       ∙ (λ z. conflicts_open past ((line_parts past t (next_unit c past t) g a.1).1 z) (sym next z)) ∙ ap (λ (u : ℕ). conflicts_open past (mode (ticket past u)) (next_unit c past u)) (sym same) ∙ may.apart
 
   -- it is a range of blocks
@@ -201,7 +203,7 @@ module _ (c : ConfigNumbers) (past : Past) (v : List (List ℕ)) (s : List Submi
         run = ap (λ b. b && is_none (standing past t).unit) (lt-leb (length (units c (ticket past t))) (grants_of past t) (some_below (units c (ticket past t)) (grants_of past t) g.range next))
 
     -- the fields after it
-    pub kept : (h past' : Past) (y : Job) (r' : List Held) → h ≡ past → past' ≡ Entry.Grant g ∷ h → y ≡ opened_job x g.range → r' ≡ record { ticket = t; range = g.range; mode = g.mode } ∷ r
+    pub kept : (h past' : Past) (y : Job) (r' : List Held) → h ≡ past → past' ≡ Entry.Grant g ∷ h → y ≡ opened_job x g.range → r' ≡ insert_held (record { ticket = t; range = g.range; mode = g.mode }) r
         → IsKept c past' v s q (record { limit = j.limit; jobs = replaced j.jobs t y }) r' n
     kept h past' y r' same_past is_past is_y is_r =
         subst (λ (p : Past). IsKept c p v s q (record { limit = j.limit; jobs = replaced j.jobs t y }) r' n) (sym (is_past ∙ ap (λ (w : Past). Entry.Grant g ∷ w) same_past))
@@ -213,7 +215,7 @@ module _ (c : ConfigNumbers) (past : Past) (v : List (List ℕ)) (s : List Submi
           jobs =
               (λ z. record { limit = (k.jobs z).limit; jobs = replaced (k.jobs z).jobs t ((is_y ∙ own) z) })
               ∙ (λ z. record { limit = c.jobs; jobs = jobs_moved c past (Entry.Grant g) t (λ u ne. grant_other c past g u legal (λ h. ne (h ∙ same))) z });
-          held = is_r ∙ (λ z. record { ticket = sym same z; range = g.range; mode = g.mode } ∷ k.held z) ∙ ap (map held_of) (sym (grant_open c past g legal));
+          held = is_r ∙ (λ z. insert_held (record { ticket = sym same z; range = g.range; mode = g.mode }) (k.held z)) ∙ ap (λ (gs : List GrantLine). by_ticket (map held_of gs)) (sym (grant_open c past g legal));
           count = k.count;
           run = subst (λ (x : Entry). Kept c (x ∷ past)) (sym a.1) (stepped c past (Step.Grant t) k.run a.0);
         })

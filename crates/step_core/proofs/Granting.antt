@@ -1,5 +1,5 @@
 -- A Grant: what its line says, what the calls that make it require, and the fields after it.
-use Rattle.std.proofs.Common.{◌≡◌, ℕ, ◌+◌, ◌≤◌, Bool, true, false, not, ◌||◌, cond, List, [], ◌∷◌, option_map, refl, sym, ap, ap₂, ◌∙◌, subst, Option, Some, None, is_some, is_none, length, nat_le, ◌==◌}
+use Rattle.std.proofs.Common.{◌≡◌, ℕ, ◌+◌, ◌≤◌, Bool, true, false, not, ◌||◌, cond, List, [], ◌∷◌, option_map, refl, sym, ap, ap₂, ◌∙◌, subst, Option, Some, None, is_some, is_none, length, map, nat_le, ◌==◌}
 use Rattle.std.specs.List.{find, list_any}
 use Rattle.std.proofs.lemmas.Bool.{or_right, or_from, or_parts}
 use Rattle.nvme_model.specs.declared.array.Mode.{Mode}
@@ -9,16 +9,17 @@ use Rattle.nvme_model.specs.declared.entry.Entry.{Entry}
 use Rattle.nvme_model.specs.declared.refusal.Why.{Why}
 use Rattle.nvme_model.specs.declared.step.Step.{Step}
 use Rattle.nvme_model.specs.History.{Past}
-use Rattle.nvme_model.specs.Open.{differed, grants_of, open_units}
+use Rattle.nvme_model.specs.Open.{conflict, differed, grants_of, open_units}
 use Rattle.nvme_model.specs.Operations.{has_write, mode, op, units}
 use Rattle.nvme_model.specs.Refusals.{conflicts_open, has_open, next_unit, none_left, refusal}
 use Rattle.ticket_standing.specs.Standing.{Standing, left, next_of, standing, unit_of}
 use Rattle.nvme_model.specs.Steps.{grant_entry, next_entry}
 use Rattle.nvme_model.specs.Tickets.{ticket}
 use Rattle.ticket_standing.proofs.Left.{next_unit_left, none_left_is}
-use Rattle.range_reserve.specs.Reserved.{has_conflict}
+use Rattle.range_reserve.specs.Reserved.{has_conflict, held_of}
 use Rattle.range_reserve.specs.declared.held.Held.{Held}
 use Rattle.range_reserve.proofs.Granted.{has_conflict-map}
+use Rattle.range_reserve.proofs.Rising.{list_any-by_ticket}
 use Rattle.rings.specs.Completions.{CompletionRing}
 use Rattle.rings.specs.Submissions.{SubmissionRing}
 use Rattle.job_table.specs.Jobs.{JobTable}
@@ -121,7 +122,8 @@ module _ (c : ConfigNumbers) (past : Past) (v : List (List ℕ)) (s : List Submi
     tests_are : refusal c past (Step.Grant t) ≡ grant_tests true false (has_conflict r y m)
     tests_are =
         (λ z. grant_tests (i.flies z) (or_from _ _ some_left (sym run_is ∙ closed) z) (conflicts_open past (sym mode_is z) (unit_is z)))
-        ∙ ap (grant_tests true false) (sym (ap (λ (hs : List Held). has_conflict hs y m) k.held ∙ has_conflict-map (open_units past) y m))
+        ∙ ap (grant_tests true false) (sym (ap (λ (hs : List Held). has_conflict hs y m) k.held
+        ∙ list_any-by_ticket (λ h. conflict y m h.range h.mode) (map held_of (open_units past)) ∙ has_conflict-map (open_units past) y m))
 
     -- its unit conflicts with one that is open
     pub in_conflict : has_conflict r y m ≡ true → refusal c past (Step.Grant t) ≡ Some Why.Conflict

@@ -13,7 +13,7 @@ use Rattle.nvme_model.specs.Open.{open_units}
 use Rattle.nvme_model.specs.Tickets.{in_flight, posts_of, ticket, tickets}
 use Rattle.nvme_model.specs.declared.config.ConfigNumbers.{ConfigNumbers}
 use Rattle.nvme_model.specs.Kept.{Kept}
-use Rattle.range_reserve.specs.Reserved.{held_of}
+use Rattle.range_reserve.specs.Reserved.{by_ticket, held_of}
 use Rattle.range_reserve.specs.declared.held.Held.{Held}
 use Rattle.rings.specs.Completions.{CompletionRing}
 use Rattle.rings.specs.Submissions.{SubmissionRing}
@@ -33,7 +33,7 @@ pub record IsKept (c : ConfigNumbers) (past : Past) (v : List (List ℕ)) (s : L
   pub submission : IsTable (λ k. submission_ring c past (suc k)) c.pairs s
   pub completion : IsTable (λ k. completion_ring c past (suc k)) c.cqs q
   pub jobs : j ≡ job_table c past
-  pub held : r ≡ map held_of (open_units past)
+  pub held : r ≡ by_ticket (map held_of (open_units past))
   pub count : n ≡ tickets past
   pub run : Kept c past
 

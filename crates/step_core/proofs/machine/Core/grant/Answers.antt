@@ -1,5 +1,5 @@
 use Rattle.std.proofs.Common.{◌≡◌, ◌∷◌, List, Err, None, ap, arith, false, inl, inr, refl, sym, true, ◌∙◌}
-use Rattle.range_reserve.specs.Reserved.{has_conflict, has_ticket}
+use Rattle.range_reserve.specs.Reserved.{has_conflict, has_ticket, insert_held}
 use Rattle.range_reserve.specs.declared.held.Held.{Held}
 use Rattle.step_core.proofs.Granted.{apart, few, fits, free, grant_seen, has_job, has_op, kept, range_is, within}
 use Rattle.step_core.proofs.machine.Core.grant.Goals as goal
@@ -25,6 +25,9 @@ pub unreachable-requires-in_default-get_mut : goal.unreachable-requires-in_defau
 unreachable-requires-in_default-get_mut c =
     has_job _ _ _ _ _ _ _ _ c.self.invariant.0 c.args.ticket c.in_ok-line.line (grant_seen _ _ _ _ _ _ c.self.view_is c.in_ok-line.ensures.value) None c.in_default-get_mut.ensures.value refl
 
+pub open_unit-requires-clause-unit : goal.open_unit-requires-clause-unit
+open_unit-requires-clause-unit c = range_is _ _ _ _ _ _ _ _ c.self.invariant.0 c.args.ticket c.in_ok-line.line (grant_seen _ _ _ _ _ _ c.self.view_is c.in_ok-line.ensures.value)
+
 pub open_unit-requires-clause-some : goal.open_unit-requires-clause-some
 open_unit-requires-clause-some c =
     has_op _ _ _ _ _ _ _ _ c.self.invariant.0 c.args.ticket c.in_ok-line.line (grant_seen _ _ _ _ _ _ c.self.view_is c.in_ok-line.ensures.value) c.in-Some.job.now c.in-Some.ensures.value
@@ -46,7 +49,7 @@ invariant_of-self-2 c = (
   kept _ _ _ _ _ _ _ _ c.self.invariant.0 c.args.ticket c.in_ok-line.line (grant_seen _ _ _ _ _ _ c.self.view_is c.in_ok-line.ensures.value) c.in-Some.job.now c.in-Some.ensures.value
       c.take_both.new.history.past c.push_reserved.new.self.past c.open_unit.new.job c.grant.new.self.held
       c.take_both.ensures.past c.push_reserved.ensures.past c.open_unit.ensures.value
-      (c.in-Ok.ensures.ok ∙ ap (λ (hs : List Held). record { ticket = c.args.ticket; range = c.in_ok-line.line.range; mode = c.in_ok-line.line.mode } ∷ hs) c.take_both.ensures.ranges),
+      (c.in-Ok.ensures.ok ∙ ap (insert_held (record { ticket = c.args.ticket; range = c.in_ok-line.line.range; mode = c.in_ok-line.line.mode })) c.take_both.ensures.ranges),
   omega (arith, c.push_reserved.ensures.room, c.in_ok-take_both.ensures.ok.1),
   omega (arith, c.in-Ok.ensures.room, c.in_ok-take_both.ensures.both),
   omega (arith, c.self.invariant.3, c.in_ok-take_both.ensures.ok.0),
