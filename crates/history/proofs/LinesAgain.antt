@@ -80,10 +80,10 @@ unfolding entry_words_in entry_words grant_in
 grant_again g is =
     let s : ℕ = g.range.slba in
     let n : ℕ = g.range.blocks in
-    ap (λ o. granted o (number_in 64 (decimal g.unit)) (number_in 64 (decimal s)) (number_in 32 (decimal n)) (mode_in (mode_word g.mode))) (number_64 g.ticket is.0)
-    ∙ ap (λ o. granted (Some g.ticket) o (number_in 64 (decimal s)) (number_in 32 (decimal n)) (mode_in (mode_word g.mode))) (number_64 g.unit is.1)
-    ∙ ap (λ o. granted (Some g.ticket) (Some g.unit) o (number_in 32 (decimal n)) (mode_in (mode_word g.mode))) (number_64 s is.2)
-    ∙ ap (λ o. granted (Some g.ticket) (Some g.unit) (Some s) o (mode_in (mode_word g.mode))) (number_32 n is.3)
+    ap (λ o. granted o (number_in 64 (decimal g.unit)) (number_in 64 (decimal s)) (number_in 16 (decimal n)) (mode_in (mode_word g.mode))) (number_64 g.ticket is.0)
+    ∙ ap (λ o. granted (Some g.ticket) o (number_in 64 (decimal s)) (number_in 16 (decimal n)) (mode_in (mode_word g.mode))) (number_64 g.unit is.1)
+    ∙ ap (λ o. granted (Some g.ticket) (Some g.unit) o (number_in 16 (decimal n)) (mode_in (mode_word g.mode))) (number_64 s is.2)
+    ∙ ap (λ o. granted (Some g.ticket) (Some g.unit) (Some s) o (mode_in (mode_word g.mode))) (number_16 n is.3)
     ∙ ap (granted (Some g.ticket) (Some g.unit) (Some s) (Some n)) (mode_again g.mode)
 
 -- a Block

@@ -53,11 +53,11 @@ grant_is (t ∷ u ∷ []) e h = absurd cc
 grant_is (t ∷ u ∷ s ∷ []) e h = absurd cc
 grant_is (t ∷ u ∷ s ∷ n ∷ []) e h = absurd cc
 grant_is (t ∷ u ∷ s ∷ n ∷ m ∷ []) e h =
-    let p = granted_parts (number_in 64 t) (number_in 64 u) (number_in 64 s) (number_in 32 n) (mode_in m) e h in
+    let p = granted_parts (number_in 64 t) (number_in 64 u) (number_in 64 s) (number_in 16 n) (mode_in m) e h in
     ap (λ w. codes "grant" ∷ w ∷ u ∷ s ∷ n ∷ m ∷ []) (number_is 64 p.0 t p.5).0
     ∙ ap (λ w. codes "grant" ∷ decimal p.0 ∷ w ∷ s ∷ n ∷ m ∷ []) (number_is 64 p.1 u p.6).0
     ∙ ap (λ w. codes "grant" ∷ decimal p.0 ∷ decimal p.1 ∷ w ∷ n ∷ m ∷ []) (number_is 64 p.2 s p.7).0
-    ∙ ap (λ w. codes "grant" ∷ decimal p.0 ∷ decimal p.1 ∷ decimal p.2 ∷ w ∷ m ∷ []) (number_is 32 p.3 n p.8).0
+    ∙ ap (λ w. codes "grant" ∷ decimal p.0 ∷ decimal p.1 ∷ decimal p.2 ∷ w ∷ m ∷ []) (number_is 16 p.3 n p.8).0
     ∙ ap (λ w. codes "grant" ∷ decimal p.0 ∷ decimal p.1 ∷ decimal p.2 ∷ decimal p.3 ∷ w ∷ []) (mode_is m p.4 p.9)
     ∙ ap entry_words p.10
 grant_is (t ∷ u ∷ s ∷ n ∷ m ∷ x ∷ words) e h = absurd cc

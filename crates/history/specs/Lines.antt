@@ -56,7 +56,7 @@ HasVerdict (Verdict.PairFailed s r) = HasStatus s × HasStatus r
 abbrev pub HasLine : Entry → Type 0
 HasLine (Entry.Publish p) = (p.queue < 2 ^ 16) × (p.batch ≢ []) × AllByRecursion HasItem p.batch
 HasLine (Entry.Fetch f) = (f.queue < 2 ^ 16) × (f.ticket < 2 ^ 64) × HasVerdict f.verdict
-HasLine (Entry.Grant g) = (g.ticket < 2 ^ 64) × (g.unit < 2 ^ 64) × (g.range.slba < 2 ^ 64) × (g.range.blocks < 2 ^ 32)
+HasLine (Entry.Grant g) = (g.ticket < 2 ^ 64) × (g.unit < 2 ^ 64) × (g.range.slba < 2 ^ 64) × (g.range.blocks < 2 ^ 16)
 HasLine (Entry.Block b) = (b.ticket < 2 ^ 64) × (b.unit < 2 ^ 64) × (b.lba < 2 ^ 64)
 HasLine (Entry.Post p) = (p.ticket < 2 ^ 64) × (length p.cqe ≡ 16) × IsBytes p.cqe × IsBytes p.payload
 HasLine (Entry.Reap r) = (r.queue < 2 ^ 16) × (length r.cqe ≡ 16) × IsBytes r.cqe
@@ -92,7 +92,7 @@ granted _ _ _ _ _ = None
 -- the Grant that the words behind its kind spell
 unfoldable pub grant_in : List (List ℕ) → Option Entry
 grant_in (ticket ∷ unit ∷ slba ∷ blocks ∷ mode ∷ []) =
-    granted (number_in 64 ticket) (number_in 64 unit) (number_in 64 slba) (number_in 32 blocks) (mode_in mode)
+    granted (number_in 64 ticket) (number_in 64 unit) (number_in 64 slba) (number_in 16 blocks) (mode_in mode)
 grant_in words = None
 
 -- a Block of these parts, where all are there

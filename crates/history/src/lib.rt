@@ -26,5 +26,5 @@ pub use crate::past::History;
 pub use crate::reading::parse_line;
 pub use crate::writing::write_line;
 pub use nvme_model::entry::{
-    BlockLine, Entry, FetchLine, GrantLine, PostLine, PublishLine, ReapLine,
+    BlockLine, Entry, FetchLine, GrantLine, PostLine, PublishLine, ReapLine, UnitRange,
 };

@@ -1,6 +1,8 @@
 use crate::{LineFault, parse_line, read_config_line, write_config_line, write_line};
-use nvme_model::array::{Mode, Range};
-use nvme_model::entry::{BlockLine, Entry, FetchLine, GrantLine, PostLine, PublishLine, ReapLine};
+use nvme_model::array::Mode;
+use nvme_model::entry::{
+    BlockLine, Entry, FetchLine, GrantLine, PostLine, PublishLine, ReapLine, UnitRange,
+};
 use nvme_model::operation::Found;
 use nvme_model::status::{Status, Verdict};
 use nvme_model::submission::{Batch, Payload, Submission};
@@ -76,7 +78,7 @@ fn other_lines_are_read_and_written_back(rt: HostRuntime) -> Result<(), Fail> {
         b"publish 1 01000100010000000000000000000000000000000000000000000000000000000000000000000000030000000000000000000000000000000000000000000000 x0102",
         b"publish 1 01000100010000000000000000000000000000000000000000000000000000000000000000000000030000000000000000000000000000000000000000000000 - + 01000100010000000000000000000000000000000000000000000000000000000000000000000000030000000000000000000000000000000000000000000000 A1 + 01000100010000000000000000000000000000000000000000000000000000000000000000000000030000000000000000000000000000000000000000000000 xFF",
         b"fetch 65535 18446744073709551615 1 7/FF",
-        b"grant 18446744073709551615 0 18446744073709551615 4294967295 r",
+        b"grant 18446744073709551615 0 18446744073709551615 65535 r",
         b"block 1 2 18446744073709551615 read -",
         b"post 1 00000000000000000100010001000100 A1.B2",
     ];
@@ -119,6 +121,7 @@ fn grants_and_blocks_are_malformed(rt: HostRuntime) {
     let lines: [&[u8]; 9] = [
         b"grant 1 0 3 1 x",
         b"grant 1 0 3 1",
+        b"grant 1 0 3 65536 w",
         b"grant 1 0 3 4294967296 w",
         b"grant 1 0 3 1 w w",
         b"grant -1 0 3 1 w",
@@ -211,10 +214,7 @@ fn grants_are_written(rt: HostRuntime) -> Result<(), Fail> {
         let entry = Entry::Grant(GrantLine {
             ticket: 7,
             unit: 1,
-            range: Range {
-                slba: 300,
-                blocks: 4,
-            },
+            range: UnitRange::new(300, 4),
             mode,
         });
         check_written(&rt, rt.alloc(), &entry, line)?;

@@ -9,9 +9,10 @@ use crate::batch::batch_of;
 use crate::line_fault::LineFault;
 use crate::marks::{found_of, mark_of, mode_of};
 use crate::status_word::verdict_of;
-use line_text::{read_data, read_fixed, read_u16, read_u32, read_u64, split_words};
-use nvme_model::array::Range;
-use nvme_model::entry::{BlockLine, Entry, FetchLine, GrantLine, PostLine, PublishLine, ReapLine};
+use line_text::{read_data, read_fixed, read_u16, read_u64, split_words};
+use nvme_model::entry::{
+    BlockLine, Entry, FetchLine, GrantLine, PostLine, PublishLine, ReapLine, UnitRange,
+};
 use nvme_model::submission::Payload;
 use std::alloc::Global;
 
@@ -56,12 +57,12 @@ fn grant_of(words: &[&[u8]]) -> Option<Entry>
     let ticket = read_u64(ticket)?;
     let unit = read_u64(unit)?;
     let slba = read_u64(slba)?;
-    let blocks = read_u32(blocks)?;
+    let blocks = read_u16(blocks)?;
     let mode = mode_of(mode)?;
     Some(Entry::Grant(GrantLine {
         ticket,
         unit,
-        range: Range { slba, blocks },
+        range: UnitRange::new(slba, blocks),
         mode,
     }))
 }

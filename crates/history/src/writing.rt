@@ -87,14 +87,15 @@ fn write_grant<W: Write>(line: &GrantLine, writer: &mut W) -> IoResult<()>
     ensures front { OnErr result
         (AppendsFront (W.contents writer.old) (W.contents writer.new) (entry_line (Entry.Grant line.now))) }
 {
+    let range = line.range.get();
     send_words(
         writer,
         &[
             Word::Text(b"grant"),
             Word::Number(line.ticket),
             Word::Number(line.unit),
-            Word::Number(line.range.slba),
-            Word::Number(u64::from(line.range.blocks)),
+            Word::Number(range.slba),
+            Word::Number(u64::from(range.blocks)),
             Word::Text(mode_text(&line.mode)),
         ],
     )

@@ -153,7 +153,7 @@ fn grant_follows(
     if conflicts_open(past, mode, next) {
         return Ok(false);
     }
-    Ok(line.unit == granted && is_range(next, line.range) && same_mode(line.mode, mode))
+    Ok(line.unit == granted && is_range(next, line.range.get()) && same_mode(line.mode, mode))
 }
 
 // Whether a Block entry of a unit of `blocks` blocks may say this as its `made`th, from 0.
@@ -239,9 +239,10 @@ fn block_fits(past: &Before, block: &BlockLine, unit: &GrantLine) -> bool
 {
     let k = ticket(past, block.ticket);
     let made = made_len(past, unit.ticket, unit.unit);
+    let range = unit.range.get();
     block.unit == unit.unit
-        && is_due(unit.range, made, block.lba)
-        && may_find(op(&k), unit.range.blocks, made, block.found)
+        && is_due(range, made, block.lba)
+        && may_find(op(&k), range.blocks, made, block.found)
         && (!block.effect || may_be_effect(past, block.ticket, block.unit))
         && answers_right(past, &k, block)
 }

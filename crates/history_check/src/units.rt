@@ -92,7 +92,7 @@ fn is_open(past: &Before, grant: &GrantLine) -> bool
     ensures value { result ≡
         not (has_ended past.now grant.now.ticket grant.now.unit grant.now.range.blocks) }
 {
-    !has_ended(past, grant.ticket, grant.unit, grant.range.blocks)
+    !has_ended(past, grant.ticket, grant.unit, grant.range.get().blocks)
 }
 
 // Whether the ranges share a block.
@@ -132,7 +132,7 @@ fn conflicts_range(past: &Before, mode: Mode, range: Range) -> bool
     let mut rest = past.again();
     while let Some(last) = rest.split() {
         if let Entry::Grant(grant) = last.entry {
-            if conflict(range, mode, grant.range, grant.mode) && is_open(past, grant) {
+            if conflict(range, mode, grant.range.get(), grant.mode) && is_open(past, grant) {
                 return true;
             }
         }

@@ -75,7 +75,7 @@ pub(crate) fn unit_range(past: &Before, ticket: u64, unit: u64) -> Range
     while let Some(last) = rest.split() {
         if let Entry::Grant(grant) = last.entry {
             if grant.ticket == ticket && grant.unit == unit {
-                return grant.range;
+                return grant.range.get();
             }
         }
         rest = last.before;

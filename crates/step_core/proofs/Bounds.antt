@@ -67,6 +67,10 @@ module _ (c : ConfigNumbers) (past : Past) (t : ℕ) (h : IsLegal c past) (f : c
   pub left_within : (left c (standing past t)).slba + (left c (standing past t)).blocks ≤ 65536
   left_within = omega (arith, had_remaining c (standing past t), left_few c (standing past t), command_within)
 
+  -- and are few
+  pub left_short : (left c (standing past t)).blocks ≤ 256
+  left_short = omega (arith, had_remaining c (standing past t), left_few c (standing past t), (ticket_checked c past t h some).first.few)
+
   -- it has few units
   pub opened_few : grants_of past t + 1 < 2 ^ 64
   opened_few =

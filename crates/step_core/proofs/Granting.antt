@@ -1,11 +1,13 @@
 -- A Grant: what its line says, what the calls that make it require, and the fields after it.
-use Rattle.std.proofs.Common.{◌≡◌, ℕ, ◌+◌, ◌≤◌, Bool, true, false, not, ◌||◌, cond, List, [], ◌∷◌, option_map, refl, sym, ap, ap₂, ◌∙◌, subst, Option, Some, None, is_some, is_none, length, map, nat_le, ◌==◌}
+use Rattle.std.proofs.Common.{◌≡◌, ℕ, ◌+◌, ◌≤◌, Bool, true, false, not, ◌||◌, cond, List, [], ◌∷◌, option_map, refl, sym, ap, ap₂, ◌∙◌, subst, Option, Some, None, is_some, is_none, length, map, nat_le, ◌==◌, arith}
 use Rattle.std.specs.List.{find, list_any}
 use Rattle.std.proofs.lemmas.Bool.{or_right, or_from, or_parts}
 use Rattle.nvme_model.specs.declared.array.Mode.{Mode}
 use Rattle.nvme_model.specs.declared.array.Range.{Range}
+use Rattle.nvme_model.specs.declared.config.AtomicParameters.{AtomicParameters}
 use Rattle.nvme_model.specs.declared.config.ConfigNumbers.{ConfigNumbers}
 use Rattle.nvme_model.specs.declared.entry.Entry.{Entry}
+use Rattle.nvme_model.specs.declared.operation.Op.{Op}
 use Rattle.nvme_model.specs.declared.refusal.Why.{Why}
 use Rattle.nvme_model.specs.declared.step.Step.{Step}
 use Rattle.nvme_model.specs.History.{Past}
@@ -15,7 +17,7 @@ use Rattle.nvme_model.specs.Refusals.{conflicts_open, has_open, next_unit, none_
 use Rattle.ticket_standing.specs.Standing.{Standing, left, next_of, standing, unit_of}
 use Rattle.nvme_model.specs.Steps.{grant_entry, next_entry}
 use Rattle.nvme_model.specs.Tickets.{ticket}
-use Rattle.ticket_standing.proofs.Left.{next_unit_left, none_left_is}
+use Rattle.ticket_standing.proofs.Left.{next_starts, next_unit_left, none_left_is}
 use Rattle.range_reserve.specs.Reserved.{has_conflict, held_of}
 use Rattle.range_reserve.specs.declared.held.Held.{Held}
 use Rattle.range_reserve.proofs.Granted.{has_conflict-map}
@@ -27,7 +29,7 @@ use Rattle.job_table.specs.declared.job.Job.{Job}
 use Rattle.step_core.specs.Fields.{job_at, job_by, run_by}
 use Rattle.step_core.specs.Kept.{IsJob, IsKept}
 use Rattle.step_core.specs.State.{Room, State}
-use Rattle.step_core.proofs.Bounds.{left_within}
+use Rattle.step_core.proofs.Bounds.{left_short, left_within}
 
 -- what is kept is so of the value that contracts see
 pub seen : (c : ConfigNumbers) (past : Past) (p : ℕ) {w : Room} (x : State) (v : List (List ℕ)) (s : List SubmissionRing) (q : List CompletionRing) (j : JobTable) (r : List Held) (n : ℕ) → record { config = c; past = past; promised = p; room = w } ≡ x
@@ -73,6 +75,11 @@ pub run_open : (c : ConfigNumbers) (past : Past) (t : ℕ) → is_some (job_at c
 run_open c past t =
     job_run c (standing past t) ∙ some_mapped (unit_of past) (find (λ g. g.ticket == t) (open_units past)) ∙ any_found (λ g. g.ticket == t) (open_units past)
 
+-- a unit is opened next only of a ticket that works on blocks
+next_works : (u : AtomicParameters) (o : Option Op) (r x : Range) → next_of u o r ≡ Some x → is_some o ≡ true
+next_works u None r x e = absurd (let f : None ≡ Some x = e in cc)
+next_works u (Some o) r x e = refl
+
 -- ---- what a Grant's tests say
 
 abbrev grant_tests : Bool → Bool → Bool → Option Why
@@ -95,6 +102,16 @@ module _ (c : ConfigNumbers) (past : Past) (v : List (List ℕ)) (s : List Submi
   pub left_fits : is_some x.op ≡ true → x.left.slba + x.left.blocks ≤ 65536
   left_fits some =
       subst (λ (y : Range). y.slba + y.blocks ≤ 65536) (sym left_is) (left_within c past t k.run.legal k.accepted (ap is_some (sym op_is) ∙ some))
+
+  -- the unit that is opened next has few of them
+  pub next_short : (y : Range) → Some y ≡ next_of c.atomic x.op x.left → y.blocks ≤ 256
+  next_short y next =
+      let some = ap is_some (sym op_is) ∙ next_works c.atomic x.op x.left y (sym next) in
+      omega (
+        arith,
+        (next_starts c.atomic x.op x.left y (sym next)).1,
+        subst (λ (z : Range). z.blocks ≤ 256) (sym left_is) (left_short c past t k.run.legal k.accepted some),
+      )
 
   -- no unit is left
   pub nothing_next : next_of c.atomic x.op x.left ≡ None → refusal c past (Step.Grant t) ≡ Some Why.WrongState

@@ -3,8 +3,10 @@
 use crate::check;
 use completions::cqe_of;
 use entry_codec::{Fuse, Sqe, encode_cqe, encode_sqe};
-use history::{BlockLine, Config, Entry, FetchLine, GrantLine, PostLine, PublishLine, ReapLine};
-use nvme_model::array::{Mode, Range};
+use history::{
+    BlockLine, Config, Entry, FetchLine, GrantLine, PostLine, PublishLine, ReapLine, UnitRange,
+};
+use nvme_model::array::Mode;
 use nvme_model::operation::Found;
 use nvme_model::status::{Status, Verdict};
 use nvme_model::submission::{Batch, Payload, Submission};
@@ -43,7 +45,7 @@ fn put_write(alloc: Global, entries: &mut Vec<Entry>, number: u16) -> Result<(),
             verdict,
         }),
     )?;
-    let range = Range { slba: 3, blocks: 1 };
+    let range = UnitRange::new(3, 1);
     let mode = Mode::Exclusive;
     keep(
         entries,

@@ -19,7 +19,7 @@ use atomic_units::Units;
 use block_exec::Run;
 use job_table::Job;
 use nvme_model::array::{Mode, Range};
-use nvme_model::entry::{Entry, GrantLine};
+use nvme_model::entry::{Entry, GrantLine, UnitRange};
 use nvme_model::operation::Op;
 use nvme_model::refusal::Why;
 
@@ -71,7 +71,7 @@ impl Core {
         Ok(GrantLine {
             ticket,
             unit: job.opened,
-            range,
+            range: UnitRange::new(range.slba, range.blocks as u16),
             mode,
         })
     }
@@ -81,16 +81,17 @@ impl Core {
         ensures does { Does self.old (Step.Grant ticket) result self.new }
     {
         let line = self.grant_line(ticket)?;
+        let range = line.range.get();
         take_both(&mut self.history, &mut self.ranges, &mut self.promised)?;
-        let Ok(()) = self.ranges.grant(ticket, line.range, line.mode) else {
+        let Ok(()) = self.ranges.grant(ticket, range, line.mode) else {
             unreachable!();
         };
         let Some(job) = self.jobs.get_mut(ticket) else {
             unreachable!();
         };
-        open_unit(job, line.range);
+        open_unit(job, range);
         self.history.push_reserved(Entry::Grant(line));
-        Ok(Answer::Granted(line.unit, line.range, line.mode))
+        Ok(Answer::Granted(line.unit, range, line.mode))
     }
 }
 
