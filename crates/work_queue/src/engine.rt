@@ -73,6 +73,7 @@ impl Engine {
     ghost use Rattle.ticket_entries.specs.Entries.{of_ticket};
     ghost use Rattle.ticket_entries.specs.Tasks.{task_fault};
     ghost use Rattle.work_queue.specs.Duties.{duty_of, task_step};
+    ghost use Rattle.work_queue.specs.Posted.{IsAnswerPosted};
     ghost use Rattle.work_queue.specs.Engines.{IsNoTaskFault, IsOf, IsWorkOf, OpenedAs, its, open_step, work_seen};
 
     /// The controller with a lock round it, and as many passes as asked for, numbered from 1 in order.
@@ -152,6 +153,7 @@ impl Engine {
         ensures knows { Knows Kept pass.old pass.new }
         ensures accepted { IfOk result (Worked Accepts pass.old pass.new work.old.owner work.new.owner
             (task_step task work.old.work.ticket)) }
+        ensures posted { IfOk result (IsAnswerPosted (config_of pass.new) (entries (seen pass.new)) work.old.work.ticket) }
         ensures declined { IfErr result (λ d. Declines Refuses pass.old pass.new (task_step task work.old.work.ticket) d
             × (its work.new ≡ its work.old)) }
         ensures in_place { IfErr result IsNoTaskFault }

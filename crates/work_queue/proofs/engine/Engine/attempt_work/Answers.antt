@@ -4,8 +4,9 @@ use Rattle.nvme_model.specs.declared.step.Step.{Step}
 use Rattle.ticket_entries.specs.Entries.{of_ticket}
 use Rattle.ticket_entries.specs.Tasks.{own_stage}
 use Rattle.step_core.specs.State.{Accepts, Refuses}
-use Rattle.meet_lock.specs.Passes.{Declines, Worked, its, seen}
+use Rattle.meet_lock.specs.Passes.{Accepted, Declines, Worked, its, seen}
 use Rattle.work_queue.specs.Duties.{duty_of, task_step}
+use Rattle.work_queue.proofs.Posting.{told_posted}
 use Rattle.work_queue.proofs.Works.{after_saw, no_fault, staged}
 use Rattle.work_queue.proofs.engine.Engine.attempt_work.Goals as goal
 
@@ -43,3 +44,11 @@ returns-in-Err-clause-in_place c =
     no_fault c.args.pass.now c.attempt_work.new.pass was.owner c.attempt_work.new.owner was.work c.args.task (Err c.in-Err.declined) e.same.0.3 e.knows.0 e.saw was.fetched
     (λ n. ap (λ t. of_ticket t (entries (seen c.attempt_work.new.pass))) (sym owned) ∙ e.whole n) c.requires.allowed
     (subst (λ (s : Step). Declines Refuses c.args.pass.now c.attempt_work.new.pass s c.in-Err.declined × (its c.attempt_work.new.owner ≡ its was.owner)) step e.declined)
+
+pub returns-in-Ok-clause-posted : goal.returns-in-Ok-clause-posted
+returns-in-Ok-clause-posted c =
+    let e = c.in-Ok.ensures in
+    let was = c.args.work.now in
+    let step = c.step_of-step.ensures.value ∙ ap (task_step c.args.task) c.ticket.ensures.value in
+    told_posted c.args.pass.now c.attempt_work.new.pass c.args.task was.work.ticket c.in-Ok.answer e.same.0.3
+    (subst (λ (s : Step). Accepted Accepts c.args.pass.now c.attempt_work.new.pass s c.in-Ok.answer) step e.accepted.by)
