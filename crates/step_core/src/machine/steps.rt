@@ -1,7 +1,6 @@
 //! Steps: one, many, and the one that is ready.
 
 ghost use Rattle.std.specs.Prelude.{◌≡◌, IfErr, IfNone, OnErr, OnOk, Some};
-ghost use Rattle.nvme_model.specs.Kept.{Kept};
 ghost use Rattle.nvme_model.specs.Legal.{IsLegal};
 ghost use Rattle.nvme_model.specs.Laws.{OwesToFull};
 ghost use Rattle.nvme_model.specs.Steps.{ready};
@@ -27,7 +26,6 @@ impl Core {
     pub fn step(&mut self, step: Step) -> Result<Answer, Refused>
         ensures serves { Serves self.old step result self.new }
         ensures legal { IsLegal self.new.config self.new.past }
-        ensures kept { Kept self.new.config self.new.past }
         ensures array { IsOneAtATime self.new.config self.new.past }
     {
         let _ = &self.alloc;
@@ -46,7 +44,6 @@ impl Core {
     ) -> Result<(), (Vec<Step>, NoMemory)>
         ensures ok { OnOk result (RunsOnto self.old steps.items out.old.items out.new.items self.new) }
         ensures legal { IsLegal self.new.config self.new.past }
-        ensures kept { Kept self.new.config self.new.past }
         ensures array { IsOneAtATime self.new.config self.new.past }
         ensures err { OnErr result ((self.new ≡ self.old) × (out.new.items ≡ out.old.items)) }
         ensures back { IfErr result (λ back. back.0.items ≡ steps.items) }
