@@ -8,7 +8,7 @@ use Rattle.nvme_model.specs.Operations.{is_exclusive}
 use Rattle.nvme_model.specs.declared.array.Mode.{Mode}
 use Rattle.nvme_model.specs.declared.array.Range.{Range}
 use Rattle.range_reserve.specs.declared.held.Held.{Held}
-use Rattle.range_reserve.specs.Reserved.{AreApart, IsRange}
+use Rattle.range_reserve.specs.Reserved.{AreApart}
 
 -- ---- two ranges
 
