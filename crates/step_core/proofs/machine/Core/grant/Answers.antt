@@ -1,4 +1,4 @@
-use Rattle.std.proofs.Common.{◌≡◌, ◌∷◌, List, Err, None, ap, arith, false, inl, inr, refl, sym, true, ◌∙◌}
+use Rattle.std.proofs.Common.{◌≡◌, List, Err, None, ap, arith, false, inl, inr, refl, sym, true, ◌∙◌}
 use Rattle.range_reserve.specs.Reserved.{has_conflict, has_ticket, insert_held}
 use Rattle.range_reserve.specs.declared.held.Held.{Held}
 use Rattle.step_core.proofs.Granted.{apart, few, fits, free, grant_seen, has_job, has_op, kept, range_is, within}
