@@ -27,7 +27,8 @@ unreachable-requires-in_default-get_mut c =
     has_job _ _ _ _ _ _ _ _ c.self.invariant.0 c.args.ticket c.in_ok-line.line (grant_seen _ _ _ _ _ _ c.self.view_is c.in_ok-line.ensures.value) None c.in_default-get_mut.ensures.value refl
 
 pub open_unit-requires-clause-unit : goal.open_unit-requires-clause-unit
-open_unit-requires-clause-unit c = range_is _ _ _ _ _ _ _ _ c.self.invariant.0 c.args.ticket c.in_ok-line.line (grant_seen _ _ _ _ _ _ c.self.view_is c.in_ok-line.ensures.value)
+open_unit-requires-clause-unit c =
+    rw c.get-range.ensures.value (range_is _ _ _ _ _ _ _ _ c.self.invariant.0 c.args.ticket c.in_ok-line.line (grant_seen _ _ _ _ _ _ c.self.view_is c.in_ok-line.ensures.value))
 
 pub open_unit-requires-clause-some : goal.open_unit-requires-clause-some
 open_unit-requires-clause-some c =
