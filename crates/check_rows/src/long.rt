@@ -1,7 +1,8 @@
-//! A history of thousands of entries.
+//! Histories of thousands of entries, and of more than 65,536.
 
 use crate::edits::entries_in;
-use crate::files::{history_of, place_of};
+use crate::files::{check, history_of, place_of};
+use casdisk_script::RunFault;
 use std::test::Fail;
 
 /// Pairs, Reads and Compares of two units, over and over: each turn has 37 entries or 38.
@@ -20,5 +21,27 @@ fn a_long_history_is_legal(rt: HostRuntime) -> Result<(), Fail> {
     let entries = entries_in(history.as_str());
     assert!(rt; entries >= 2_000, "{entries}");
     assert_eq!(rt; place_of(&rt, rt.alloc(), history.as_str())?, None);
+    Ok(())
+}
+
+/// How many entries a history has behind one that is bad.
+const LATER: u64 = 70_000;
+
+// The rules of each entry are computed over all those before it, so a history of so many that is legal takes too long.
+#[test]
+fn a_longer_history_is_read_whole(rt: HostRuntime) -> Result<(), Fail> {
+    let mut history = String::from_str(rt.alloc(), "config 8 1 1 0 0 2 4 4 8\n")?;
+    history.push_str("fetch 1 1 1 ok\n")?;
+    for _ in 0..LATER {
+        history.push_str("grant 1 0 3 1 w\n")?;
+    }
+    let outcome = check(rt.alloc(), history.as_bytes());
+    assert_eq!(rt; outcome.answer, Ok(false));
+    assert_eq!(rt; outcome.output.as_slice(), b"bad at 1\n".as_slice());
+    history.push_str("grant 1\n")?;
+    let outcome = check(rt.alloc(), history.as_bytes());
+
+    // The configuration is line 1, and the first entry line 2.
+    assert_eq!(rt; outcome.answer, Err(RunFault::BadLine(70_003)));
     Ok(())
 }

@@ -12,6 +12,8 @@ mod kinds;
 #[cfg(test)]
 mod lines;
 #[cfg(test)]
+mod long;
+#[cfg(test)]
 mod pairs;
 #[cfg(test)]
 mod queues;

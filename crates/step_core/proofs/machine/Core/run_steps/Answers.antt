@@ -23,11 +23,6 @@ returns-clause-legal c =
     let tried = c.loop-step.invariant.tried in
     (kept_runs _ _ tried.0 tried.2.0 (subst KeptBy c.self.view_is c.self.invariant.0.run) tried.2.2).legal
 
-pub returns-clause-kept : goal.returns-clause-kept
-returns-clause-kept c =
-    let tried = c.loop-step.invariant.tried in
-    kept_runs _ _ tried.0 tried.2.0 (subst KeptBy c.self.view_is c.self.invariant.0.run) tried.2.2
-
 pub returns-clause-array : goal.returns-clause-array
 returns-clause-array c =
     let tried = c.loop-step.invariant.tried in

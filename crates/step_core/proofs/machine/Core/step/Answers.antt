@@ -6,8 +6,5 @@ use Rattle.step_core.proofs.machine.Core.step.Goals as goal
 pub returns-clause-legal : goal.returns-clause-legal
 returns-clause-legal c = (kept_served _ _ c.args.step _ (subst KeptBy c.self.view_is c.self.invariant.0.run) c.serve.ensures.serves).legal
 
-pub returns-clause-kept : goal.returns-clause-kept
-returns-clause-kept c = kept_served _ _ c.args.step _ (subst KeptBy c.self.view_is c.self.invariant.0.run) c.serve.ensures.serves
-
 pub returns-clause-array : goal.returns-clause-array
 returns-clause-array c = one_at_a_time _ _ (kept_served _ _ c.args.step _ (subst KeptBy c.self.view_is c.self.invariant.0.run) c.serve.ensures.serves).legal

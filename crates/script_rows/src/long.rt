@@ -1,0 +1,106 @@
+//! Long data, long lines and many lines: nothing ends a run but want of memory.
+
+use crate::runs::{file_of, kinds_named, run, table_of};
+use casdisk_script::RunFault;
+use history::all_kinds;
+use std::alloc::Global;
+use std::test::Fail;
+
+/// How often the widest Read is made.
+const READS: u64 = 5;
+
+/// The 256 blocks of equal bytes, one for each byte.
+fn rising_blocks(alloc: Global) -> Result<String, Fail> {
+    let mut data = String::from_str(alloc, "00")?;
+    for byte in 1..256u32 {
+        let block = format!(in alloc; ".{byte:02X}")?;
+        data.push_str(block.as_str())?;
+    }
+    Ok(data)
+}
+
+#[test]
+fn the_widest_read_has_its_data(rt: HostRuntime) -> Result<(), Fail> {
+    let data = rising_blocks(rt.alloc())?;
+    let mut script = format!(in rt.alloc();
+        "config 65536 255 255 0 0 1 1024 1024 1 / publish 1 write 0 1 9 255 {data} / fetch 1 / settle"
+    )?;
+    let mut posts = format!(in rt.alloc(); "post 1 00000000000000000100010001000100 -")?;
+    for ticket in 2..READS.saturating_add(2) {
+        let line = format!(in rt.alloc();
+            " / publish 1 read 0 {ticket} 9 255 - / fetch 1 / settle"
+        )?;
+        script.push_str(line.as_str())?;
+
+        // The head is the count of what was fetched, and the command's number the ticket's.
+        let post = format!(in rt.alloc();
+            " / post {ticket} 00000000000000000{ticket}0001000{ticket}000100 {data}"
+        )?;
+        posts.push_str(post.as_str())?;
+    }
+    let file = file_of(rt.alloc(), script.as_str())?;
+    let outcome = run(rt.alloc(), file.as_bytes(), kinds_named("post")?);
+    assert_eq!(rt; outcome.answer, Ok(()));
+    let table = table_of(rt.alloc(), outcome.output.as_slice())?;
+    assert_eq!(rt; table.as_str(), posts.as_str());
+    Ok(())
+}
+
+/// How many blocks the data of a long line has; each has 1,024 digits.
+const BLOCKS: usize = 1_100;
+
+/// A block that isn't of equal bytes, as DATA.
+fn digits_of_a_block(alloc: Global) -> Result<String, Fail> {
+    let mut digits = String::from_str(alloc, "01")?;
+    for _ in 1..512 {
+        digits.push_str("00")?;
+    }
+    Ok(digits)
+}
+
+#[test]
+fn lines_have_more_than_a_million_letters(rt: HostRuntime) -> Result<(), Fail> {
+    let block = digits_of_a_block(rt.alloc())?;
+    let mut data = String::from_str(rt.alloc(), block.as_str())?;
+    let mut comment = String::from_str(rt.alloc(), "#")?;
+    for _ in 1..BLOCKS {
+        data.push_str(".")?;
+        data.push_str(block.as_str())?;
+        comment.push_str(block.as_str())?;
+    }
+    assert!(rt; data.len() > 1 << 20);
+    assert!(rt; comment.len() > 1 << 20);
+    let script = format!(in rt.alloc();
+        "config 8 1 1 0 0 2 4 4 8\n{comment}\npublish 1 write 0 1 0 0 {data}\n{comment}\nfetch 1\n"
+    )?;
+    let mut entry = String::from_str(rt.alloc(), "0100010001000000")?;
+    for _ in 0..7 {
+        entry.push_str("0000000000000000")?;
+    }
+    let expected = format!(in rt.alloc();
+        "config 8 1 1 0 0 2 4 4 8\npublish 1 {entry} {data}\nfetch 1 1 1 0/04\n"
+    )?;
+    let outcome = run(rt.alloc(), script.as_bytes(), all_kinds());
+    assert_eq!(rt; outcome.answer, Ok(()));
+    assert!(rt; outcome.output.as_slice() == expected.as_bytes());
+    Ok(())
+}
+
+/// How many comments a script of many lines has.
+const COMMENTS: u64 = 100_000;
+
+#[test]
+fn a_script_has_more_than_100000_lines(rt: HostRuntime) -> Result<(), Fail> {
+    let mut script = String::from_str(rt.alloc(), "config 8 1 1 0 0 2 4 4 8\n")?;
+    for _ in 0..COMMENTS {
+        script.push_str("# again\n")?;
+    }
+    script.push_str("reap 1\nmedium 3\nreap 01\nreap 1\n")?;
+    let outcome = run(rt.alloc(), script.as_bytes(), all_kinds());
+
+    // The configuration is line 1, and two good lines stand before the bad one.
+    assert_eq!(rt; outcome.answer, Err(RunFault::BadLine(100_004)));
+    let expected = b"config 8 1 1 0 0 2 4 4 8\nrefused 9\nmedium 3 00\n";
+    assert_eq!(rt; outcome.output.as_slice(), expected.as_slice());
+    Ok(())
+}
