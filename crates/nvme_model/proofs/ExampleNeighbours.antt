@@ -96,8 +96,8 @@ unit_before_difference = refl
 abbrev half_posted : Past
 half_posted =
     run default []
-      (Step.Publish 1 (pair_on_3 7 8 0 0xa1) ∷ Step.Fetch 1 ∷ Step.Grant 1 ∷ Step.Block 1 ∷ Step.Block 1 ∷ Step.Post 1
-      ∷ Step.Publish 1 (submit 1 0 7 0 0 (one 0xa1) ∷ submit 1 0 8 1 0 (one 0xa1) ∷ []) ∷ [])
+    (Step.Publish 1 (pair_on_3 7 8 0 0xa1) ∷ Step.Fetch 1 ∷ Step.Grant 1 ∷ Step.Block 1 ∷ Step.Block 1 ∷ Step.Post 1
+    ∷ Step.Publish 1 (submit 1 0 7 0 0 (one 0xa1) ∷ submit 1 0 8 1 0 (one 0xa1) ∷ []) ∷ [])
 
 pub posted_cid_is_free : take 1 (run default half_posted (Step.Fetch 1 ∷ [])) ≡ fetch 1 2 Verdict.Single ∷ []
 posted_cid_is_free = refl
@@ -134,7 +134,7 @@ ticket_before_unit = refl
 abbrev between : Past
 between =
     run default []
-      (Step.Publish 1 (raw 1 0 1 1 0 3 2048 ∷ raw 1 0 2 1 2 1 1024 ∷ []) ∷ Step.Fetch 1 ∷ Step.Fetch 1 ∷ Step.Grant 1 ∷ Step.Grant 2 ∷ [])
+    (Step.Publish 1 (raw 1 0 1 1 0 3 2048 ∷ raw 1 0 2 1 2 1 1024 ∷ []) ∷ Step.Fetch 1 ∷ Step.Fetch 1 ∷ Step.Grant 1 ∷ Step.Grant 2 ∷ [])
 
 pub both_are_open : length between ≡ 5
 both_are_open = refl
@@ -150,7 +150,7 @@ ticket_before_block = refl
 abbrev one_posted : Past
 one_posted =
     run (record default { cq_size = 2 }) []
-      (Step.Publish 1 (submit 0 0 1 0 0 [] ∷ submit 1 0 2 0 0 (one 0xa1) ∷ []) ∷ Step.Fetch 1 ∷ Step.Fetch 1 ∷ Step.Post 1 ∷ [])
+    (Step.Publish 1 (submit 0 0 1 0 0 [] ∷ submit 1 0 2 0 0 (one 0xa1) ∷ []) ∷ Step.Fetch 1 ∷ Step.Fetch 1 ∷ Step.Post 1 ∷ [])
 
 pub nothing_owed_before_full : refusal (record default { cq_size = 2 }) one_posted (Step.Post 2) ≡ Some Why.WrongState
 nothing_owed_before_full = refl
