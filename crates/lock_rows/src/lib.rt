@@ -1,5 +1,9 @@
-//! A controller behind a lock, by one pass and by two that meet, as tests.
+//! A controller behind a lock: worked runs by passes in turn, as tests.
 #![tactic(auto)]
 
+#[cfg(test)]
+mod rows;
+#[cfg(test)]
+mod runs;
 #[cfg(test)]
 mod writes;

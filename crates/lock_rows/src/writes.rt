@@ -70,7 +70,7 @@ fn six_steps(alloc: Global) -> Result<Vec<Step>, AllocError> {
 }
 
 /// The lines of a history.
-fn text(alloc: Global, history: &History) -> Result<Vec<u8>, Fail> {
+pub(crate) fn text(alloc: Global, history: &History) -> Result<Vec<u8>, Fail> {
     let mut bytes = Vec::new(alloc);
     for entry in history.as_slice() {
         write_line(entry, &mut bytes)?;
@@ -110,7 +110,7 @@ fn meets<R: Abort, K: StepRight>(
 }
 
 /// Closes the lock; whether its history has these lines.
-fn closes<R: Abort, K: StepRight>(
+pub(crate) fn closes<R: Abort, K: StepRight>(
     rt: &R,
     alloc: Global,
     shared: Shared<Core, K>,
