@@ -118,7 +118,7 @@ fn fetches_are_malformed(rt: HostRuntime) {
 
 #[test]
 fn grants_and_blocks_are_malformed(rt: HostRuntime) {
-    let lines: [&[u8]; 9] = [
+    let lines: [&[u8]; 10] = [
         b"grant 1 0 3 1 x",
         b"grant 1 0 3 1",
         b"grant 1 0 3 65536 w",
