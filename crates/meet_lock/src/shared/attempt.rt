@@ -15,8 +15,8 @@ impl<M: Machine> Shared<M, AnyPass> {
     ///
     /// # Errors
     ///
-    /// `Busy` with the step, where another caller had the lock; nothing has changed. `Refused` where the machine refused
-    /// the step.
+    /// `Busy` with the step, where another caller had the lock; nothing has changed. `Refused` where the machine
+    /// refused the step.
     pub fn attempt(&self, pass: &mut Pass<M>, step: Step) -> Result<Answer, Declined>
         requires { IsOf self.now pass.old }
         ensures same { IsSame pass.old pass.new }

@@ -38,7 +38,8 @@ impl<M: Machine, K: StepRight> Shared<M, K> {
 
     // Takes in a message.
     pub(crate) fn hear(&self, seat: &mut Place<M>, from: Place<M>)
-        requires own { (seat.old.table_id ≡ self.now.table.shared.table_id) × (from.table_id ≡ self.now.table.shared.table_id) }
+        requires own { (seat.old.table_id ≡ self.now.table.shared.table_id)
+            × (from.table_id ≡ self.now.table.shared.table_id) }
         requires message { IsMessage from.me }
         ensures { IsSameSeat seat.old seat.new × (seat.new.me ≡ (hearing seat.old.me.0 from.me.0, seat.old.me.1)) }
     {
@@ -71,7 +72,8 @@ impl<M: Machine, K: StepRight> Shared<M, K> {
 
     // Takes in a message, with its ticket.
     pub(crate) fn load(&self, seat: &mut Place<M>, from: Place<M>)
-        requires own { (seat.old.table_id ≡ self.now.table.shared.table_id) × (from.table_id ≡ self.now.table.shared.table_id) }
+        requires own { (seat.old.table_id ≡ self.now.table.shared.table_id)
+            × (from.table_id ≡ self.now.table.shared.table_id) }
         requires message { IsMessage from.me }
         requires bare { seat.old.me.0.ticket ≡ 0 }
         ensures { IsSameSeat seat.old seat.new × (seat.new.me ≡ (lading seat.old.me.0 from.me.0, seat.old.me.1)) }
@@ -83,7 +85,8 @@ impl<M: Machine, K: StepRight> Shared<M, K> {
     pub fn note(&self, pass: &mut Pass<M>) -> NoteSeat<M>
         requires { IsOf self.now pass.old }
         ensures same { IsSame pass.old pass.new × (seen pass.new ≡ seen pass.old) }
-        ensures note { IsNoteOf self.now result × (told result ≡ seen pass.old) × (told_config result ≡ config_of pass.old) }
+        ensures note { IsNoteOf self.now result × (told result ≡ seen pass.old)
+            × (told_config result ≡ config_of pass.old) }
     {
         NoteSeat {
             seat: self.tell(&mut pass.seat),

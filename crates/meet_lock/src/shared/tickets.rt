@@ -66,8 +66,10 @@ impl<M: Machine> Shared<M, TicketOwner> {
             × (owned_ticket owner.new ≡ owned_ticket owner.old) }
         ensures knows { Knows M.legal pass.old pass.new }
         ensures accepted { IfOk result (Worked M.accepts pass.old pass.new owner.old owner.new step) }
-        ensures declined { IfErr result (λ d. Declines M.refuses pass.old pass.new step d × (its owner.new ≡ its owner.old)) }
-        ensures whole { IsNotBusy result → of_ticket (owned_ticket owner.new) (entries (seen pass.new)) ≡ its owner.new }
+        ensures declined { IfErr result (λ d. Declines M.refuses pass.old pass.new step d
+            × (its owner.new ≡ its owner.old)) }
+        ensures whole { IsNotBusy result
+            → of_ticket (owned_ticket owner.new) (entries (seen pass.new)) ≡ its owner.new }
         ensures saw { Saw pass.new owner.old owner.new result }
         ensures alone { passes_of pass.old ≡ 1 → IsNotBusy result }
     {
