@@ -1,0 +1,45 @@
+-- What a fetched Work is, to which queue a completion is posted where there is one, and what new passes know.
+use Rattle.std.proofs.Common.{All, ap, arith, slice_get, subst, ℕ, ◌%◌, ◌+◌, ◌-◌, ◌∙◌, ◌≡◌, List, Some}
+use Rattle.std.proofs.Math.ListN.{get_or}
+use Rattle.std.proofs.lemmas.Option.{slice_get-get_or}
+use Rattle.meet_lock.specs.Passes.{IsNew, config_of}
+use Rattle.nvme_model.specs.Config.{completion_queue}
+use Rattle.nvme_model.specs.History.{Past}
+use Rattle.nvme_model.specs.Tickets.{ticket}
+use Rattle.nvme_model.specs.declared.config.ConfigNumbers.{ConfigNumbers}
+use Rattle.nvme_model.specs.declared.entry.Entry.{Entry}
+use Rattle.step_core.specs.declared.answer.Answer.{Answer}
+use Rattle.step_core.specs.declared.work.Work.{Work as Duty}
+use Rattle.work_queue.specs.Duties.{is_only_fetch}
+use Rattle.work_queue.specs.Engines as engine
+use Rattle.work_queue.specs.Posted.{IsAnswerPosted, IsPostedTo}
+use Rattle.work_queue.specs.declared.engine.Engine.{Engine}
+use Rattle.work_queue.specs.declared.engine.Open.{Open}
+use Rattle.work_queue.specs.declared.engine.Opened.{Opened}
+use Rattle.work_queue.specs.declared.engine.Opened.TheVariants as opened
+use Rattle.work_queue.specs.declared.work.Work.{Work}
+use Rattle.engine_rows.specs.declared.hall.Hall.{Hall}
+use Rattle.engine_rows.specs.Hands.{IsFresh}
+
+by_answer : (hall : Hall) (q : engine.EnginePass) (entry : Entry) (a : Answer) (r : Opened) → engine.IsOpened hall.engine q entry a r → IsFresh hall r
+by_answer hall q entry a opened.Published h = tt
+by_answer hall q entry a (opened.Reaped c p) h = tt
+by_answer hall q entry Answer.Published (opened.Fetched w) h = absurd h
+by_answer hall q entry (Answer.Fetched x) (opened.Fetched w) h = (h.1, ap (λ n. is_only_fetch n (engine.its w)) (ap (λ (y : Duty). y.ticket) h.0) ∙ h.4)
+by_answer hall q entry (Answer.Blocked d) (opened.Fetched w) h = absurd h
+by_answer hall q entry (Answer.Granted u r m) (opened.Fetched w) h = absurd h
+by_answer hall q entry (Answer.Posted c) (opened.Fetched w) h = absurd h
+by_answer hall q entry (Answer.Reaped c p) (opened.Fetched w) h = absurd h
+
+pub fetched_fresh : (hall : Hall) (p q : engine.EnginePass) (o : Open) (r : Opened) → engine.OpenedAs hall.engine p q o r → IsFresh hall r
+fetched_fresh hall p q o r h = by_answer hall q h.by.entry h.answer r h.is
+
+mod_one : (n : ℕ) → n % 1 + 1 ≡ 1
+mod_one n = omega arith
+
+pub posted_one : (c : ConfigNumbers) (past : Past) (t : ℕ) (cqe : List ℕ) → c.cqs ≡ 1 → IsAnswerPosted c past t (Answer.Posted cqe) → IsPostedTo c past 1 cqe
+posted_one c past t cqe one h =
+    subst (λ n. IsPostedTo c past n cqe) (ap (λ k. ((ticket past t).queue - 1) % k + 1) one ∙ mod_one ((ticket past t).queue - 1)) h
+
+pub config_kept : (e : Engine) (n : ℕ) (c d : ConfigNumbers) (past : Past) (ps : List engine.EnginePass) → c ≡ d → ((k : ℕ) (p : engine.EnginePass) → slice_get ps k ≡ Some p → engine.IsOf e p × IsNew n c past (k + 1) p) → All (λ p. config_of p ≡ d) ps
+config_kept e n c d past ps same each = λ k x within. (each k (get_or ps k x) (slice_get-get_or ps k x within)).1.2 ∙ same

@@ -1,0 +1,101 @@
+//! What callers share, and what each owns.
+
+ghost use Rattle.std.specs.Prelude.{◌≡◌, ◌<◌, All, IfOk, IfSome};
+ghost use Rattle.meet_lock.specs.Passes.{config_of};
+ghost use Rattle.work_queue.specs.Engines as engine;
+ghost use Rattle.engine_rows.specs.Hands.{AreOf, IsOf};
+
+use history::Config;
+use meet_lock::Pass;
+use std::alloc::{AllocError as NoMemory, Global};
+use step_core::Core;
+use work_queue::{Engine, MessageQueue, Notice, NoticeQueue, QueuePass, Work, WorkQueue};
+
+/// Borrowed by each caller.
+#[derive(Drop)]
+pub struct Hall {
+    pub engine: Engine,
+    pub works: WorkQueue,
+    pub notices: NoticeQueue,
+    pub config: Config,
+}
+
+/// Owned by one caller. It has no bytes.
+#[derive(Drop)]
+pub struct Hand {
+    pub pass: Pass<Core>,
+    pub works: QueuePass<Work>,
+    pub notices: QueuePass<Notice>,
+}
+
+/// Passes that no caller has yet.
+#[derive(Drop)]
+pub struct Spares {
+    pub passes: Vec<Pass<Core>>,
+    pub works: Vec<QueuePass<Work>>,
+    pub notices: Vec<QueuePass<Notice>>,
+}
+
+/// One hand of these; None where there is none.
+pub fn take_hand(_hall: &Hall, hands: &mut Spares) -> Option<Hand>
+    requires { AreOf _hall.now hands.old }
+    ensures rest { AreOf _hall.now hands.new }
+    ensures hand { IfSome result (IsOf _hall.now) }
+{
+    let pass = hands.passes.pop()?;
+    let works = hands.works.pop()?;
+    let notices = hands.notices.pop()?;
+    Some(Hand {
+        pass,
+        works,
+        notices,
+    })
+}
+
+// An engine of a new controller, and so many passes.
+fn engine_of(
+    alloc: Global,
+    config: Config,
+    count: usize,
+) -> Result<(Engine, Vec<Pass<Core>>), NoMemory>
+    requires { 0 < count }
+    ensures own { IfOk result (λ e. All (engine.IsOf e.0) e.1.items) }
+    ensures config { IfOk result (λ e. All (λ p. config_of p ≡ config) e.1.items) }
+{
+    let core = Core::new(alloc, config)?;
+    let Ok((engine, passes)) = Engine::new(alloc, core, count) else {
+        return Err(NoMemory);
+    };
+    Ok((engine, passes))
+}
+
+/// A hall of a new controller, with so many hands.
+///
+/// # Errors
+///
+/// `NoMemory` where a growth is refused.
+pub fn hall_of(
+    alloc: Global,
+    config: Config,
+    capacity: usize,
+    count: usize,
+) -> Result<(Hall, Spares), NoMemory>
+    requires { (0 < capacity) × (0 < count) }
+    ensures { IfOk result (λ h. AreOf h.0 h.1) }
+{
+    let (engine, passes) = engine_of(alloc, config, count)?;
+    let (works, work_places) = MessageQueue::<Work>::new(alloc, &engine, capacity, count)?;
+    let (notices, notice_places) = MessageQueue::<Notice>::new(alloc, &engine, capacity, count)?;
+    let hall = Hall {
+        engine,
+        works,
+        notices,
+        config,
+    };
+    let hands = Spares {
+        passes,
+        works: work_places,
+        notices: notice_places,
+    };
+    Ok((hall, hands))
+}

@@ -1,0 +1,12 @@
+//! A controller whose works and notices travel: worked runs of one thread and of several, as tests.
+#![tactic(auto)]
+
+#[cfg(test)]
+mod capacity;
+mod hall;
+#[cfg(test)]
+mod messages;
+#[cfg(test)]
+mod travels;
+
+pub use crate::hall::{Hall, Hand, Spares, hall_of, take_hand};

@@ -1,0 +1,216 @@
+//! Steps of one caller, and messages from one to another.
+
+ghost use Rattle.std.specs.Prelude.{◌≡◌, IfErr, IfOk, IfSome, None};
+ghost use Rattle.meet_lock.specs.Passes.{config_of, seen};
+ghost use Rattle.nvme_model.specs.Passes.{entries};
+ghost use Rattle.ticket_entries.specs.Tasks.{task_fault};
+ghost use Rattle.work_queue.specs.Duties.{duty_of, task_step};
+ghost use Rattle.work_queue.specs.Engines.{its};
+ghost use Rattle.work_queue.specs.Posted.{IsAnswerPosted};
+ghost use Rattle.engine_rows.specs.Hands.{IsFresh, IsFreshWork, IsOf, IsWorkOf};
+
+use crate::hall::{Hall, Hand};
+use meet_lock::Declined;
+use nvme_model::submission::{Payload, Submission, Submissions};
+use std::alloc::{AllocError, Global};
+use std::sync::Wait;
+use std::thread::yield_now;
+use step_core::{Answer, Refused, Step};
+use work_queue::{Notice, Open, Opened, Task, Work};
+
+/// The number of want of memory.
+const NO_MEMORY: u8 = 11;
+
+/// A number of no refusal: another step came back, or another message was there.
+pub(crate) const STRANGE: u8 = 99;
+
+pub(crate) fn number(refused: Refused) -> u8 {
+    match refused {
+        Refused::Publish(why, _) => why.number(),
+        Refused::Step(why) => why.number(),
+    }
+}
+
+/// The batch of one command with this opcode, CID and block; a Write has one block of A1.
+pub(crate) fn one_command(
+    alloc: Global,
+    opcode: u8,
+    cid: u8,
+    block: u8,
+) -> Result<Submissions, AllocError> {
+    let mut entry = [0; 64];
+    entry[0] = opcode;
+    entry[2] = cid;
+    entry[4] = 1;
+    let mut bytes = Vec::new(alloc);
+    if opcode == 1 {
+        entry[40] = block;
+        for _ in 0..512 {
+            bytes.push(0xa1)?;
+        }
+    }
+    let mut items = Vec::new(alloc);
+    items.push(Submission {
+        entry,
+        payload: Payload::new(bytes),
+    })?;
+    Ok(Submissions::new(items))
+}
+
+#[tactic(auto, using(crate::proofs::Hands::fetched_fresh))]
+fn open(hall: &Hall, hand: &mut Hand, request: Open) -> Result<Opened, Declined>
+    requires { IsOf hall.now hand.old }
+    ensures same { IsOf hall.now hand.new }
+    ensures fresh { IfOk result (IsFresh hall.now) }
+{
+    hall.engine.attempt_open(&mut hand.pass, request)
+}
+
+/// The opening, asked again while another caller has the lock.
+///
+/// # Errors
+///
+/// The number of its refusal.
+pub(crate) fn opens<R: Wait>(
+    rt: &R,
+    hall: &Hall,
+    hand: &mut Hand,
+    request: Open,
+) -> Result<Opened, u8>
+    requires { IsOf hall.now hand.old }
+    ensures same { IsOf hall.now hand.new }
+    ensures fresh { IfOk result (IsFresh hall.now) }
+{
+    let mut next = request;
+    for _ in rt.forever() {
+        match open(hall, hand, next) {
+            Ok(opened) => return Ok(opened),
+            Err(Declined::Busy(Step::Publish(queue, batch))) => next = Open::Publish(queue, batch),
+            Err(Declined::Busy(Step::Fetch(queue))) => next = Open::Fetch(queue),
+            Err(Declined::Busy(Step::Reap(queue))) => next = Open::Reap(queue),
+            Err(Declined::Busy(_)) => return Err(STRANGE),
+            Err(Declined::Refused(refused)) => return Err(number(refused)),
+        }
+        yield_now();
+    }
+    unreachable!()
+}
+
+/// A Fetch.
+///
+/// # Errors
+///
+/// The number of its refusal.
+pub(crate) fn fetches<R: Wait>(rt: &R, hall: &Hall, hand: &mut Hand, queue: u16) -> Result<Work, u8>
+    requires { IsOf hall.now hand.old }
+    ensures same { IsOf hall.now hand.new }
+    ensures fresh { IfOk result (IsFreshWork hall.now) }
+{
+    match opens(rt, hall, hand, Open::Fetch(queue)) {
+        Ok(Opened::Fetched(work)) => Ok(work),
+        Ok(_) => Err(STRANGE),
+        Err(why) => Err(why),
+    }
+}
+
+/// The Work, put at the back; or it comes back.
+pub(crate) fn pushes<R: Wait>(rt: &R, hall: &Hall, hand: &mut Hand, work: Work) -> Result<(), Work>
+    requires own { IsOf hall.now hand.old }
+    requires fresh { IsFreshWork hall.now work }
+    ensures same { IsOf hall.now hand.new }
+    ensures back { IfErr result (IsFreshWork hall.now) }
+{
+    hall.works.push(rt, &mut hand.works, work)
+}
+
+/// The Work at the front.
+pub(crate) fn pops<R: Wait>(rt: &R, hall: &Hall, hand: &mut Hand) -> Option<Work>
+    requires { IsOf hall.now hand.old }
+    ensures same { IsOf hall.now hand.new }
+    ensures work { IfSome result (IsFreshWork hall.now) }
+{
+    hall.works.pop(rt, &mut hand.works)
+}
+
+fn attempt(hall: &Hall, hand: &mut Hand, work: &mut Work, task: Task) -> Result<Answer, Declined>
+    requires own { IsOf hall.now hand.old × IsWorkOf hall.now work.old }
+    requires allowed { task_fault (duty_of work.old.work) work.old.work.ticket (its work.old)
+        (task_step task work.old.work.ticket) ≡ None }
+    ensures same { IsOf hall.now hand.new × IsWorkOf hall.now work.new }
+    ensures posted { IfOk result (IsAnswerPosted (config_of hand.new.pass) (entries (seen hand.new.pass))
+        work.new.work.ticket) }
+{
+    hall.engine.attempt_work(&mut hand.pass, work, task)
+}
+
+/// Where only one completion queue is there, a Notice of what was posted, if it is a completion; whether there was room
+/// and memory for it.
+fn tells<R: Wait>(rt: &R, hall: &Hall, hand: &mut Hand, _work: &Work, answer: &Answer) -> bool
+    requires own { IsOf hall.now hand.old }
+    requires posted { IsAnswerPosted (config_of hand.old.pass) (entries (seen hand.old.pass)) _work.now.work.ticket
+        answer.now }
+    ensures { IsOf hall.now hand.new }
+{
+    let Answer::Posted(cqe) = answer else {
+        return true;
+    };
+    if hall.config.numbers().cqs != 1 {
+        return true;
+    }
+    let Ok(notice) = Notice::new(&hall.engine, &mut hand.pass, 1, *cqe) else {
+        return false;
+    };
+    hall.notices.push(rt, &mut hand.notices, notice).is_ok()
+}
+
+/// The task that is next, asked again while another caller has the lock; None where there is none. What was posted is
+/// told.
+///
+/// # Errors
+///
+/// The number of its refusal.
+pub(crate) fn works<R: Wait>(
+    rt: &R,
+    hall: &Hall,
+    hand: &mut Hand,
+    work: &mut Work,
+) -> Result<Option<Task>, u8>
+    requires { IsOf hall.now hand.old × IsWorkOf hall.now work.old }
+    ensures { IsOf hall.now hand.new × IsWorkOf hall.now work.new }
+{
+    for _ in rt.forever() {
+        let Some(task) = work.next_task() else {
+            return Ok(None);
+        };
+        match attempt(hall, hand, work, task) {
+            Ok(answer) => {
+                if !tells(rt, hall, hand, work, &answer) {
+                    return Err(NO_MEMORY);
+                }
+                return Ok(Some(task));
+            }
+            Err(Declined::Refused(refused)) => return Err(number(refused)),
+            Err(Declined::Busy(_)) => {}
+        }
+        yield_now();
+    }
+    unreachable!()
+}
+
+/// Learns one notice, if one is there; whether there was.
+///
+/// # Errors
+///
+/// A number, where another caller had the lock.
+pub(crate) fn learns<R: Wait>(rt: &R, hall: &Hall, hand: &mut Hand) -> Result<bool, u8>
+    requires { IsOf hall.now hand.old }
+    ensures { IsOf hall.now hand.new }
+{
+    let Some(mut notice) = hall.notices.pop(rt, &mut hand.notices) else {
+        return Ok(false);
+    };
+    match hall.engine.learn(&mut hand.pass, &mut notice) {
+        Ok(()) => Ok(true),
+        Err(_) => Err(STRANGE),
+    }
+}

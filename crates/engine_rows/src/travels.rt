@@ -1,0 +1,119 @@
+//! A Work on another thread than its fetcher's.
+
+ghost use Rattle.std.specs.Prelude.{IfOk};
+ghost use Rattle.engine_rows.specs.Hands.{IsOf, IsWorkOf};
+
+use crate::capacity::one_queue;
+use crate::hall::{Hall, Hand, take_hand};
+use crate::messages::{fetches, learns, one_command, opens, pops, pushes, works};
+use std::alloc::Global;
+use std::process::Abort;
+use std::sync::Wait;
+use std::test::Fail;
+use std::thread::{Threads, join, yield_now};
+use work_queue::{Open, Opened, Work};
+
+/// Makes each task of the Work, to its last Post; how many. What is refused for now is asked again.
+///
+/// # Errors
+///
+/// The number of another refusal.
+pub(crate) fn ends<R: Wait>(rt: &R, hall: &Hall, hand: &mut Hand, mut work: Work) -> Result<u64, u8>
+    requires { IsOf hall.now hand.old × IsWorkOf hall.now work }
+    ensures { IsOf hall.now hand.new }
+{
+    let mut made = 0u64;
+    for _ in rt.forever() {
+        match works(rt, hall, hand, &mut work) {
+            Ok(Some(_)) => made = made.wrapping_add(1),
+            Ok(None) => return Ok(made),
+            Err(6 | 8) => yield_now(),
+            Err(why) => return Err(why),
+        }
+    }
+    unreachable!()
+}
+
+// Waits for a Work and ends it.
+fn serves<R: Wait>(rt: &R, hall: &Hall, mut hand: Hand) -> Result<u64, u8>
+    requires { IsOf hall.now hand }
+{
+    for _ in rt.forever() {
+        match pops(rt, hall, &mut hand) {
+            Some(work) => return ends(rt, hall, &mut hand, work),
+            None => yield_now(),
+        }
+    }
+    unreachable!()
+}
+
+// Waits for a notice, and reaps; the number of the refusal, if it is refused.
+fn hears<R: Wait>(rt: &R, hall: &Hall, mut hand: Hand) -> Result<(), u8>
+    requires { IsOf hall.now hand }
+{
+    for _ in rt.forever() {
+        if learns(rt, hall, &mut hand)? {
+            return match opens(rt, hall, &mut hand, Open::Reap(1)) {
+                Ok(Opened::Reaped { .. }) => Ok(()),
+                Ok(_) => Err(0),
+                Err(why) => Err(why),
+            };
+        }
+        yield_now();
+    }
+    unreachable!()
+}
+
+// A worker and a host, each on a thread.
+fn both<R: Threads + Wait + Sync>(
+    rt: &R,
+    hall: &Hall,
+    worker: Hand,
+    host: Hand,
+) -> (Result<u64, u8>, Result<(), u8>)
+    requires { IsOf hall.now worker × IsOf hall.now host }
+{
+    join(
+        rt,
+        move || -> Result<u64, u8>
+            requires { IsOf hall.now worker }
+        { serves(rt, hall, worker) },
+        move || -> Result<(), u8>
+            requires { IsOf hall.now host }
+        { hears(rt, hall, host) },
+    )
+}
+
+fn sends<R: Abort + Wait>(rt: &R, alloc: Global, hall: &Hall, hand: &mut Hand) -> Result<(), Fail>
+    requires { IsOf hall.now hand.old }
+    ensures { IfOk result (λ _. IsOf hall.now hand.new) }
+{
+    let batch = one_command(alloc, 1, 1, 3)?;
+    assert!(rt; opens(rt, hall, hand, Open::Publish(1, batch)).is_ok());
+    let Ok(work) = fetches(rt, hall, hand, 1) else {
+        return Err(Fail::from("a Work"));
+    };
+    assert!(rt; pushes(rt, hall, hand, work).is_ok());
+    Ok(())
+}
+
+// Its three tasks are made there, and the host that learnt of the Post reaps at once.
+#[test]
+fn a_work_ends_on_another_thread(rt: HostRuntime) -> Result<(), Fail> {
+    let (hall, mut hands) = one_queue(rt.alloc(), 4, 3)?;
+    let (Some(mut fetcher), Some(worker), Some(host)) = (
+        take_hand(&hall, &mut hands),
+        take_hand(&hall, &mut hands),
+        take_hand(&hall, &mut hands),
+    ) else {
+        return Err(Fail::from("three hands"));
+    };
+    sends(&rt, rt.alloc(), &hall, &mut fetcher)?;
+    let (made, heard) = both(&rt, &hall, worker, host);
+    assert_eq!(rt; made, Ok(3));
+    assert_eq!(rt; heard, Ok(()));
+    let Hall { engine, .. } = hall;
+    let core = engine.close(fetcher.pass).ok_or("the lock isn't free")?;
+    assert_eq!(rt; core.history().len(), 6);
+    Ok(())
+}
