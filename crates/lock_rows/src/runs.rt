@@ -79,7 +79,7 @@ fn run_of(alloc: Global, config: &str, script: &str) -> Result<Run, Fail> {
     for line in script.split(" / ") {
         make_line(alloc, &mut core, line, &mut steps, &mut answers)?;
     }
-    let lines = text(alloc, core.history())?;
+    let lines = text(alloc, core.history().as_slice())?;
     Ok(Run {
         steps,
         answers,

@@ -3,7 +3,7 @@
 ghost use Rattle.std.specs.Prelude.{◌≡◌, ◌<◌, IfOk, All, [], vec_len};
 ghost use Rattle.meet_lock.specs.Passes.{IsOf, IsSame};
 
-use history::{Config, History, write_line};
+use history::{Config, Entry, write_line};
 use history_check::check;
 use meet_lock::{AnyPass, Declined, Pass, Shared, StepRight};
 use nvme_model::refusal::Why;
@@ -38,23 +38,35 @@ fn small_shared<K: StepRight>(
     }
 }
 
-/// The batch of one Write of A1 to block 3, CID 1.
-fn one_write(alloc: Global) -> Result<Submissions, AllocError> {
+/// One Write, of one block of these bytes.
+pub(crate) fn write_command(
+    alloc: Global,
+    cid: u8,
+    block: u8,
+    byte: u8,
+) -> Result<Vec<Submission>, AllocError>
+    ensures { IfOk result (λ v. vec_len v ≡ 1) }
+{
     let mut entry = [0; 64];
     entry[0] = 1;
-    entry[2] = 1;
+    entry[2] = cid;
     entry[4] = 1;
-    entry[40] = 3;
+    entry[40] = block;
     let mut bytes = Vec::new(alloc);
     for _ in 0..512 {
-        bytes.push(0xa1)?;
+        bytes.push(byte)?;
     }
     let mut items = Vec::new(alloc);
     items.push(Submission {
         entry,
         payload: Payload::new(bytes),
     })?;
-    Ok(Submissions::new(items))
+    Ok(items)
+}
+
+/// The batch of one Write of A1 to block 3, CID 1.
+fn one_write(alloc: Global) -> Result<Submissions, AllocError> {
+    Ok(Submissions::new(write_command(alloc, 1, 3, 0xa1)?))
 }
 
 /// Its six steps, from the Publish to the Reap.
@@ -69,10 +81,10 @@ fn six_steps(alloc: Global) -> Result<Vec<Step>, AllocError> {
     Ok(steps)
 }
 
-/// The lines of a history.
-pub(crate) fn text(alloc: Global, history: &History) -> Result<Vec<u8>, Fail> {
+/// The lines of these entries.
+pub(crate) fn text(alloc: Global, entries: &[Entry]) -> Result<Vec<u8>, Fail> {
     let mut bytes = Vec::new(alloc);
-    for entry in history.as_slice() {
+    for entry in entries {
         write_line(entry, &mut bytes)?;
         bytes.push(b'\n')?;
     }
@@ -87,7 +99,7 @@ fn expected(alloc: Global) -> Result<Vec<u8>, Fail> {
             return Err(Fail::from("a step is refused"));
         }
     }
-    text(alloc, core.history())
+    text(alloc, core.history().as_slice())
 }
 
 fn does<R: Abort>(rt: &R, shared: &Shared<Core>, pass: &mut Pass<Core>, step: Step)
@@ -123,7 +135,7 @@ pub(crate) fn closes<R: Abort, K: StepRight>(
         panic!(rt; "the lock was free")
     };
     assert!(rt; check(alloc, &core.config(), core.history().as_slice()).is_ok());
-    Ok(text(alloc, core.history())?.as_slice() == lines.as_slice())
+    Ok(text(alloc, core.history().as_slice())?.as_slice() == lines.as_slice())
 }
 
 #[test]
