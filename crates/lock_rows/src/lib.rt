@@ -1,9 +1,12 @@
-//! A controller behind a lock: worked runs by passes in turn, as tests.
+//! A controller behind a lock: worked runs by passes in turn, as tests, and the scripts of those runs.
 #![tactic(auto)]
 
 #[cfg(test)]
 mod rows;
 #[cfg(test)]
 mod runs;
+mod table;
 #[cfg(test)]
 mod writes;
+
+pub use crate::table::{CONFIG, LARGE, LARGE_PAIR, ROWS};
