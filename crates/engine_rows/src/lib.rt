@@ -3,6 +3,12 @@
 
 #[cfg(test)]
 mod capacity;
+#[cfg(test)]
+mod carries;
+#[cfg(test)]
+mod counts;
+#[cfg(test)]
+mod crowd;
 mod hall;
 #[cfg(test)]
 mod messages;
