@@ -15,6 +15,8 @@ mod hall;
 #[cfg(test)]
 mod messages;
 #[cfg(test)]
+mod notices;
+#[cfg(test)]
 mod plain;
 #[cfg(test)]
 mod rows;
