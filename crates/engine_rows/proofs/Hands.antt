@@ -3,7 +3,6 @@ use Rattle.std.proofs.Common.{All, ap, arith, slice_get, subst, ℕ, ◌%◌, �
 use Rattle.std.proofs.Math.ListN.{get_or}
 use Rattle.std.proofs.lemmas.Option.{slice_get-get_or}
 use Rattle.meet_lock.specs.Passes.{IsNew, config_of}
-use Rattle.nvme_model.specs.Config.{completion_queue}
 use Rattle.nvme_model.specs.History.{Past}
 use Rattle.nvme_model.specs.Tickets.{ticket}
 use Rattle.nvme_model.specs.declared.config.ConfigNumbers.{ConfigNumbers}
@@ -17,7 +16,6 @@ use Rattle.work_queue.specs.declared.engine.Engine.{Engine}
 use Rattle.work_queue.specs.declared.engine.Open.{Open}
 use Rattle.work_queue.specs.declared.engine.Opened.{Opened}
 use Rattle.work_queue.specs.declared.engine.Opened.TheVariants as opened
-use Rattle.work_queue.specs.declared.work.Work.{Work}
 use Rattle.engine_rows.specs.declared.hall.Hall.{Hall}
 use Rattle.engine_rows.specs.Hands.{IsFresh}
 

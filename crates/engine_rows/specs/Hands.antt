@@ -7,6 +7,7 @@ use Rattle.work_queue.specs.QueuePasses as queue
 use Rattle.work_queue.specs.declared.engine.Opened.{Opened}
 use Rattle.work_queue.specs.declared.engine.Opened.TheVariants as opened
 use Rattle.work_queue.specs.declared.work.Work.{Work}
+use Rattle.engine_rows.specs.declared.hall.Crew.{Crew}
 use Rattle.engine_rows.specs.declared.hall.Hall.{Hall}
 use Rattle.engine_rows.specs.declared.hall.Hand.{Hand}
 use Rattle.engine_rows.specs.declared.hall.Spares.{Spares}
@@ -29,6 +30,13 @@ pub record AreOf (hall : Hall) (h : Spares) : Type 0 where
 -- a Work of the hall's engine
 abbrev pub IsWorkOf : Hall → Work → Type 0
 IsWorkOf hall w = engine.IsWorkOf hall.engine w
+
+-- so are the passes and the Works of these
+pub record IsCrewOf (hall : Hall) (c : Crew) : Type 0 where
+  pub host : IsOf hall c.host
+  pub fetcher : IsOf hall c.fetcher
+  pub worker : IsOf hall c.worker
+  pub works : All (IsWorkOf hall) c.works.items
 
 -- one that may be pushed
 abbrev pub IsFreshWork : Hall → Work → Type 0

@@ -1,4 +1,4 @@
-//! A queue of one place.
+//! Queues of one place and of sixteen.
 
 ghost use Rattle.std.specs.Prelude.{◌<◌, IfOk};
 ghost use Rattle.engine_rows.specs.Hands.{AreOf, IsFreshWork, IsOf};
@@ -21,19 +21,19 @@ pub(crate) fn one_queue(
     requires { (0 < capacity) × (0 < count) }
     ensures { IfOk result (λ h. AreOf h.0 h.1) }
 {
-    let Ok(config) = Config::new(8, 1, 1, 0, 0, 1, 4, 4, 8) else {
+    let Ok(config) = Config::new(8, 1, 1, 0, 0, 1, 4, 4, 32) else {
         return Err(Fail::from("the configuration is refused"));
     };
     Ok(hall_of(alloc, config, capacity, count)?)
 }
 
 /// A Flush, published and fetched.
-fn flush<R: Abort + Wait>(
+pub(crate) fn flush<R: Abort + Wait>(
     rt: &R,
     alloc: Global,
     hall: &Hall,
     hand: &mut Hand,
-    cid: u8,
+    cid: u16,
 ) -> Result<Work, Fail>
     requires { IsOf hall.now hand.old }
     ensures same { IfOk result (λ _. IsOf hall.now hand.new) }
@@ -58,39 +58,68 @@ fn popped<R: Wait>(rt: &R, hall: &Hall, hand: &mut Hand) -> u64
     }
 }
 
-/// Pushes two Works where there is room for one; gives back the second.
-fn fills<R: Abort + Wait>(rt: &R, alloc: Global, hall: &Hall, one: &mut Hand) -> Result<Work, Fail>
-    requires { IsOf hall.now one.old }
-    ensures same { IfOk result (λ _. IsOf hall.now one.new) }
+/// Pushes as many Works as there are places, and one more; gives that one back.
+fn overfills<R: Abort + Wait>(
+    rt: &R,
+    alloc: Global,
+    hall: &Hall,
+    hand: &mut Hand,
+    capacity: u16,
+) -> Result<Work, Fail>
+    requires { IsOf hall.now hand.old }
+    ensures same { IfOk result (λ _. IsOf hall.now hand.new) }
     ensures fresh { IfOk result (IsFreshWork hall.now) }
 {
-    let first = flush(rt, alloc, hall, one, 1)?;
-    let second = flush(rt, alloc, hall, one, 2)?;
-    assert_eq!(rt; (first.ticket(), second.ticket()), (1, 2));
-    assert!(rt; pushes(rt, hall, one, first).is_ok());
-    let Err(back) = pushes(rt, hall, one, second) else {
-        return Err(Fail::from("room for two"));
-    };
-    assert_eq!(rt; back.ticket(), 2);
-    Ok(back)
+    for cid in 0..capacity {
+        let work = flush(rt, alloc, hall, hand, cid)?;
+        assert!(rt; pushes(rt, hall, hand, work).is_ok());
+    }
+    let work = flush(rt, alloc, hall, hand, capacity)?;
+    match pushes(rt, hall, hand, work) {
+        Ok(()) => Err(Fail::from("room for one more")),
+        Err(back) => Ok(back),
+    }
 }
 
-// The second Work comes back, and an empty queue gives none.
-#[test]
-fn one_place_holds_one_work(rt: HostRuntime) -> Result<(), Fail> {
-    let (hall, mut hands) = one_queue(rt.alloc(), 1, 2)?;
+/// Pops the tickets from 1 to `count`, and then nothing.
+fn empties<R: Abort + Wait>(rt: &R, hall: &Hall, hand: &mut Hand, count: u64)
+    requires { IsOf hall.now hand.old }
+    ensures { IsOf hall.now hand.new }
+{
+    for before in 0..count {
+        assert_eq!(rt; popped(rt, hall, hand), before.wrapping_add(1));
+    }
+    assert_eq!(rt; popped(rt, hall, hand), 0);
+}
+
+/// That a queue of so many places holds so many Works: one more comes back, and an empty queue gives none.
+fn holds<R: Abort + Wait>(rt: &R, alloc: Global, capacity: u16) -> Result<(), Fail>
+    requires { 0 < capacity }
+{
+    let (hall, mut hands) = one_queue(alloc, capacity as usize, 2)?;
     let (Some(mut two), Some(mut one)) = (
         take_hand(&hall, &mut hands),
         take_hand(&hall, &mut hands),
     ) else {
         return Err(Fail::from("two hands"));
     };
-    assert_eq!(rt; popped(&rt, &hall, &mut two), 0);
-    let second = fills(&rt, rt.alloc(), &hall, &mut one)?;
-    assert_eq!(rt; popped(&rt, &hall, &mut two), 1);
-    assert_eq!(rt; popped(&rt, &hall, &mut two), 0);
-    assert!(rt; pushes(&rt, &hall, &mut one, second).is_ok());
-    assert_eq!(rt; popped(&rt, &hall, &mut two), 2);
-    assert_eq!(rt; popped(&rt, &hall, &mut two), 0);
+    assert_eq!(rt; popped(rt, &hall, &mut two), 0);
+    let back = overfills(rt, alloc, &hall, &mut one, capacity)?;
+    let last = back.ticket();
+    assert_eq!(rt; last, u64::from(capacity).wrapping_add(1));
+    empties(rt, &hall, &mut two, u64::from(capacity));
+    assert!(rt; pushes(rt, &hall, &mut one, back).is_ok());
+    assert_eq!(rt; popped(rt, &hall, &mut two), last);
+    assert_eq!(rt; popped(rt, &hall, &mut two), 0);
     Ok(())
+}
+
+#[test]
+fn one_place_holds_one_work(rt: HostRuntime) -> Result<(), Fail> {
+    holds(&rt, rt.alloc(), 1)
+}
+
+#[test]
+fn sixteen_places_hold_sixteen_works(rt: HostRuntime) -> Result<(), Fail> {
+    holds(&rt, rt.alloc(), 16)
 }

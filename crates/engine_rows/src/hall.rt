@@ -3,7 +3,7 @@
 ghost use Rattle.std.specs.Prelude.{◌≡◌, ◌<◌, All, IfOk, IfSome};
 ghost use Rattle.meet_lock.specs.Passes.{config_of};
 ghost use Rattle.work_queue.specs.Engines as engine;
-ghost use Rattle.engine_rows.specs.Hands.{AreOf, IsOf};
+ghost use Rattle.engine_rows.specs.Hands.{AreOf, IsCrewOf, IsOf};
 
 use history::Config;
 use meet_lock::Pass;
@@ -28,6 +28,19 @@ pub struct Hand {
     pub notices: QueuePass<Notice>,
 }
 
+/// Three callers on one thread.
+#[derive(Drop)]
+pub struct Crew {
+    /// It publishes, learns and reaps.
+    pub host: Hand,
+    pub fetcher: Hand,
+    /// It grants, blocks and posts, with the Works that it popped.
+    pub worker: Hand,
+    pub works: Vec<Work>,
+    /// How many notices the host learnt of.
+    pub learnt: u64,
+}
+
 /// Passes that no caller has yet.
 #[derive(Drop)]
 pub struct Spares {
@@ -49,6 +62,23 @@ pub fn take_hand(_hall: &Hall, hands: &mut Spares) -> Option<Hand>
         pass,
         works,
         notices,
+    })
+}
+
+/// A crew without Works, of three of these hands; None where there are fewer.
+pub fn crew_of(alloc: Global, hall: &Hall, hands: &mut Spares) -> Option<Crew>
+    requires { AreOf hall.now hands.old }
+    ensures { IfSome result (IsCrewOf hall.now) }
+{
+    let host = take_hand(hall, hands)?;
+    let fetcher = take_hand(hall, hands)?;
+    let worker = take_hand(hall, hands)?;
+    Some(Crew {
+        host,
+        fetcher,
+        worker,
+        works: Vec::new(alloc),
+        learnt: 0,
     })
 }
 

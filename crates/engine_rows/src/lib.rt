@@ -3,10 +3,24 @@
 
 #[cfg(test)]
 mod capacity;
+#[cfg(test)]
+mod carries;
+#[cfg(test)]
+mod counts;
+#[cfg(test)]
+mod crew;
+#[cfg(test)]
+mod crowd;
 mod hall;
 #[cfg(test)]
 mod messages;
 #[cfg(test)]
+mod notices;
+#[cfg(test)]
+mod plain;
+#[cfg(test)]
+mod rows;
+#[cfg(test)]
 mod travels;
 
-pub use crate::hall::{Hall, Hand, Spares, hall_of, take_hand};
+pub use crate::hall::{Crew, Hall, Hand, Spares, crew_of, hall_of, take_hand};

@@ -6,6 +6,7 @@ ghost use Rattle.nvme_model.specs.Passes.{entries};
 ghost use Rattle.ticket_entries.specs.Tasks.{task_fault};
 ghost use Rattle.work_queue.specs.Duties.{duty_of, task_step};
 ghost use Rattle.work_queue.specs.Engines.{its};
+ghost use Rattle.work_queue.specs.Notices.{IsNoticeOf};
 ghost use Rattle.work_queue.specs.Posted.{IsAnswerPosted};
 ghost use Rattle.engine_rows.specs.Hands.{IsFresh, IsFreshWork, IsOf, IsWorkOf};
 
@@ -19,7 +20,7 @@ use step_core::{Answer, Refused, Step};
 use work_queue::{Notice, Open, Opened, Task, Work};
 
 /// The number of want of memory.
-const NO_MEMORY: u8 = 11;
+pub(crate) const NO_MEMORY: u8 = 11;
 
 /// A number of no refusal: another step came back, or another message was there.
 pub(crate) const STRANGE: u8 = 99;
@@ -35,12 +36,14 @@ pub(crate) fn number(refused: Refused) -> u8 {
 pub(crate) fn one_command(
     alloc: Global,
     opcode: u8,
-    cid: u8,
+    cid: u16,
     block: u8,
 ) -> Result<Submissions, AllocError> {
     let mut entry = [0; 64];
+    let cid = cid.to_le_bytes();
     entry[0] = opcode;
-    entry[2] = cid;
+    entry[2] = cid[0];
+    entry[3] = cid[1];
     entry[4] = 1;
     let mut bytes = Vec::new(alloc);
     if opcode == 1 {
@@ -58,7 +61,7 @@ pub(crate) fn one_command(
 }
 
 #[tactic(auto, using(crate::proofs::Hands::fetched_fresh))]
-fn open(hall: &Hall, hand: &mut Hand, request: Open) -> Result<Opened, Declined>
+pub(crate) fn open(hall: &Hall, hand: &mut Hand, request: Open) -> Result<Opened, Declined>
     requires { IsOf hall.now hand.old }
     ensures same { IsOf hall.now hand.new }
     ensures fresh { IfOk result (IsFresh hall.now) }
@@ -132,7 +135,12 @@ pub(crate) fn pops<R: Wait>(rt: &R, hall: &Hall, hand: &mut Hand) -> Option<Work
     hall.works.pop(rt, &mut hand.works)
 }
 
-fn attempt(hall: &Hall, hand: &mut Hand, work: &mut Work, task: Task) -> Result<Answer, Declined>
+pub(crate) fn attempt(
+    hall: &Hall,
+    hand: &mut Hand,
+    work: &mut Work,
+    task: Task,
+) -> Result<Answer, Declined>
     requires own { IsOf hall.now hand.old × IsWorkOf hall.now work.old }
     requires allowed { task_fault (duty_of work.old.work) work.old.work.ticket (its work.old)
         (task_step task work.old.work.ticket) ≡ None }
@@ -143,28 +151,57 @@ fn attempt(hall: &Hall, hand: &mut Hand, work: &mut Work, task: Task) -> Result<
     hall.engine.attempt_work(&mut hand.pass, work, task)
 }
 
-/// Where only one completion queue is there, a Notice of what was posted, if it is a completion; whether there was room
-/// and memory for it.
-fn tells<R: Wait>(rt: &R, hall: &Hall, hand: &mut Hand, _work: &Work, answer: &Answer) -> bool
+/// A Notice of what was posted, where that is a completion and there is one completion queue.
+///
+/// # Errors
+///
+/// The number of want of memory.
+pub(crate) fn noted(
+    hall: &Hall,
+    hand: &mut Hand,
+    _work: &Work,
+    answer: &Answer,
+) -> Result<Option<Notice>, u8>
+    requires own { IsOf hall.now hand.old }
+    requires posted { IsAnswerPosted (config_of hand.old.pass) (entries (seen hand.old.pass)) _work.now.work.ticket
+        answer.now }
+    ensures same { IsOf hall.now hand.new }
+    ensures notice { IfOk result (λ n. IfSome n (IsNoticeOf hall.now.engine)) }
+{
+    let Answer::Posted(cqe) = answer else {
+        return Ok(None);
+    };
+    if hall.config.numbers().cqs != 1 {
+        return Ok(None);
+    }
+    match Notice::new(&hall.engine, &mut hand.pass, 1, *cqe) {
+        Ok(notice) => Ok(Some(notice)),
+        Err(_) => Err(NO_MEMORY),
+    }
+}
+
+/// That Notice, put into the queue; whether there was room and memory for it.
+pub(crate) fn tells<R: Wait>(
+    rt: &R,
+    hall: &Hall,
+    hand: &mut Hand,
+    _work: &Work,
+    answer: &Answer,
+) -> bool
     requires own { IsOf hall.now hand.old }
     requires posted { IsAnswerPosted (config_of hand.old.pass) (entries (seen hand.old.pass)) _work.now.work.ticket
         answer.now }
     ensures { IsOf hall.now hand.new }
 {
-    let Answer::Posted(cqe) = answer else {
-        return true;
-    };
-    if hall.config.numbers().cqs != 1 {
-        return true;
+    match noted(hall, hand, _work, answer) {
+        Ok(Some(notice)) => hall.notices.push(rt, &mut hand.notices, notice).is_ok(),
+        Ok(None) => true,
+        Err(_) => false,
     }
-    let Ok(notice) = Notice::new(&hall.engine, &mut hand.pass, 1, *cqe) else {
-        return false;
-    };
-    hall.notices.push(rt, &mut hand.notices, notice).is_ok()
 }
 
-/// The task that is next, asked again while another caller has the lock; None where there is none. What was posted is
-/// told.
+/// The answer to the task that is next, asked again while another caller has the lock; None where there is none. What
+/// was posted is told.
 ///
 /// # Errors
 ///
@@ -174,7 +211,7 @@ pub(crate) fn works<R: Wait>(
     hall: &Hall,
     hand: &mut Hand,
     work: &mut Work,
-) -> Result<Option<Task>, u8>
+) -> Result<Option<Answer>, u8>
     requires { IsOf hall.now hand.old × IsWorkOf hall.now work.old }
     ensures { IsOf hall.now hand.new × IsWorkOf hall.now work.new }
 {
@@ -187,7 +224,7 @@ pub(crate) fn works<R: Wait>(
                 if !tells(rt, hall, hand, work, &answer) {
                     return Err(NO_MEMORY);
                 }
-                return Ok(Some(task));
+                return Ok(Some(answer));
             }
             Err(Declined::Refused(refused)) => return Err(number(refused)),
             Err(Declined::Busy(_)) => {}

@@ -1,6 +1,7 @@
 //! A Work on another thread than its fetcher's.
 
-ghost use Rattle.std.specs.Prelude.{IfOk};
+ghost use Rattle.std.specs.Prelude.{◌≡◌, IfOk};
+ghost use Rattle.meet_lock.specs.Passes.{seen};
 ghost use Rattle.engine_rows.specs.Hands.{IsOf, IsWorkOf};
 
 use crate::capacity::one_queue;
@@ -35,12 +36,13 @@ pub(crate) fn ends<R: Wait>(rt: &R, hall: &Hall, hand: &mut Hand, mut work: Work
 }
 
 // Waits for a Work and ends it.
-fn serves<R: Wait>(rt: &R, hall: &Hall, mut hand: Hand) -> Result<u64, u8>
-    requires { IsOf hall.now hand }
+fn serves<R: Wait>(rt: &R, hall: &Hall, hand: &mut Hand) -> Result<u64, u8>
+    requires { IsOf hall.now hand.old }
+    ensures { IsOf hall.now hand.new }
 {
     for _ in rt.forever() {
-        match pops(rt, hall, &mut hand) {
-            Some(work) => return ends(rt, hall, &mut hand, work),
+        match pops(rt, hall, hand) {
+            Some(work) => return ends(rt, hall, hand, work),
             None => yield_now(),
         }
     }
@@ -48,12 +50,13 @@ fn serves<R: Wait>(rt: &R, hall: &Hall, mut hand: Hand) -> Result<u64, u8>
 }
 
 // Waits for a notice, and reaps; the number of the refusal, if it is refused.
-fn hears<R: Wait>(rt: &R, hall: &Hall, mut hand: Hand) -> Result<(), u8>
-    requires { IsOf hall.now hand }
+fn hears<R: Wait>(rt: &R, hall: &Hall, hand: &mut Hand) -> Result<(), u8>
+    requires { IsOf hall.now hand.old }
+    ensures { IsOf hall.now hand.new }
 {
     for _ in rt.forever() {
-        if learns(rt, hall, &mut hand)? {
-            return match opens(rt, hall, &mut hand, Open::Reap(1)) {
+        if learns(rt, hall, hand)? {
+            return match opens(rt, hall, hand, Open::Reap(1)) {
                 Ok(Opened::Reaped { .. }) => Ok(()),
                 Ok(_) => Err(0),
                 Err(why) => Err(why),
@@ -64,24 +67,46 @@ fn hears<R: Wait>(rt: &R, hall: &Hall, mut hand: Hand) -> Result<(), u8>
     unreachable!()
 }
 
-// A worker and a host, each on a thread.
+// A worker and a host, each on a thread; how each ended, and what it owned.
 fn both<R: Threads + Wait + Sync>(
     rt: &R,
     hall: &Hall,
     worker: Hand,
     host: Hand,
-) -> (Result<u64, u8>, Result<(), u8>)
+) -> ((Result<u64, u8>, Hand), (Result<(), u8>, Hand))
     requires { IsOf hall.now worker × IsOf hall.now host }
+    ensures { IsOf hall.now result.0.1 × IsOf hall.now result.1.1 }
 {
     join(
         rt,
-        move || -> Result<u64, u8>
+        move || -> (Result<u64, u8>, Hand)
             requires { IsOf hall.now worker }
-        { serves(rt, hall, worker) },
-        move || -> Result<(), u8>
+            ensures { IsOf hall.entry.now result.1 }
+        {
+            let mut hand = worker;
+            let made = serves(rt, hall, &mut hand);
+            (made, hand)
+        },
+        move || -> (Result<(), u8>, Hand)
             requires { IsOf hall.now host }
-        { hears(rt, hall, host) },
+            ensures { IsOf hall.entry.now result.1 }
+        {
+            let mut hand = host;
+            let heard = hears(rt, hall, &mut hand);
+            (heard, hand)
+        },
     )
+}
+
+// Two passes see one history.
+fn meets<R: Abort>(rt: &R, hall: &Hall, one: &mut Hand, two: &mut Hand)
+    requires { IsOf hall.now one.old × IsOf hall.now two.old }
+    ensures same { IsOf hall.now one.new × IsOf hall.now two.new }
+    ensures met { seen one.new.pass ≡ seen two.new.pass }
+{
+    if hall.engine.meet(&mut one.pass, &mut two.pass).is_err() {
+        panic!(rt; "the lock was held")
+    }
 }
 
 fn sends<R: Abort + Wait>(rt: &R, alloc: Global, hall: &Hall, hand: &mut Hand) -> Result<(), Fail>
@@ -97,7 +122,8 @@ fn sends<R: Abort + Wait>(rt: &R, alloc: Global, hall: &Hall, hand: &mut Hand) -
     Ok(())
 }
 
-// Its three tasks are made there, and the host that learnt of the Post reaps at once.
+// Its three tasks are made there, and the host that learnt of the Post reaps at once. After their run the two passes
+// meet.
 #[test]
 fn a_work_ends_on_another_thread(rt: HostRuntime) -> Result<(), Fail> {
     let (hall, mut hands) = one_queue(rt.alloc(), 4, 3)?;
@@ -109,11 +135,12 @@ fn a_work_ends_on_another_thread(rt: HostRuntime) -> Result<(), Fail> {
         return Err(Fail::from("three hands"));
     };
     sends(&rt, rt.alloc(), &hall, &mut fetcher)?;
-    let (made, heard) = both(&rt, &hall, worker, host);
+    let ((made, mut worker), (heard, mut host)) = both(&rt, &hall, worker, host);
     assert_eq!(rt; made, Ok(3));
     assert_eq!(rt; heard, Ok(()));
+    meets(&rt, &hall, &mut worker, &mut host);
     let Hall { engine, .. } = hall;
-    let core = engine.close(fetcher.pass).ok_or("the lock isn't free")?;
+    let core = engine.close(host.pass).ok_or("the lock isn't free")?;
     assert_eq!(rt; core.history().len(), 6);
     Ok(())
 }

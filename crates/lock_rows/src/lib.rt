@@ -1,4 +1,4 @@
-//! A controller behind a lock: worked runs by passes in turn and by four threads, as tests.
+//! A controller behind a lock: worked runs by passes in turn and by four threads, as tests, and the scripts of those runs.
 #![tactic(auto)]
 
 #[cfg(test)]
@@ -7,7 +7,10 @@ mod accounts;
 mod rows;
 #[cfg(test)]
 mod runs;
+mod table;
 #[cfg(test)]
 mod threads;
 #[cfg(test)]
 mod writes;
+
+pub use crate::table::{CONFIG, LARGE, LARGE_PAIR, ROWS};

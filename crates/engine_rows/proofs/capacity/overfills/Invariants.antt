@@ -1,0 +1,5 @@
+use Rattle.engine_rows.specs.Hands.{IsOf}
+use Rattle.engine_rows.proofs.capacity.overfills.Given as goal
+
+abbrev pub invariant-loop-cid : goal.invariant-loop-cid
+invariant-loop-cid g l = IsOf l.hall l.hand
