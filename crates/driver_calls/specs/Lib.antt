@@ -1,0 +1,4 @@
+pub mod Answers
+pub mod Log
+pub mod Events
+pub mod Says
