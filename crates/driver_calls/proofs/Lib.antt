@@ -5,3 +5,4 @@ pub mod Telling
 pub mod Singles
 pub mod Pairs
 pub mod Answering
+pub mod Views

@@ -2,3 +2,4 @@ pub mod Answers
 pub mod Log
 pub mod Events
 pub mod Says
+pub mod Views
