@@ -1,0 +1,2 @@
+pub mod CidsLemmas
+mod Places

@@ -1,0 +1,5 @@
+pub mod Answers
+pub mod Log
+pub mod Events
+pub mod Says
+pub mod Views

@@ -1,0 +1,81 @@
+-- What contracts say of a driver and its calls.
+use Rattle.std.specs.Prelude.{Contains, Err, List, None, Ok, Option, Result, Some, false, if◌then◌else◌, is_some, length, true, ℕ, ◌&&◌, ◌∷◌, ◌≡◌, ◌⊎◌}
+use Rattle.nvme_model.specs.declared.status.Status.{Status}
+use Rattle.cid_table.specs.Cids.{Cids, held, queues_of}
+use Rattle.driver_calls.specs.Log.{sent}
+use Rattle.driver_calls.specs.Says.{IsCallIn, outcome}
+use Rattle.driver_calls.specs.Views.{since}
+use Rattle.driver_calls.specs.declared.event.PortEvent.{PortEvent}
+use Rattle.driver_calls.specs.declared.reply.Reply.{Reply}
+use Rattle.driver_cas.specs.Tables.{IsHeld, is_free, is_its_cid}
+use Rattle.driver_cas.specs.declared.call.Call.{Call}
+use Rattle.driver_cas.specs.declared.call.Poll.{Poll}
+use Rattle.driver_cas.specs.declared.driver.Driver.{Driver}
+use Rattle.driver_cas.specs.declared.fault.Fault.{Fault}
+use Rattle.driver_cas.specs.declared.port.Port.{Ghosts}
+
+module _ {P : Type 0} {g : Ghosts P} where
+  -- what the port did before its driver was made, and since
+  abbrev pub before : Driver P g → List PortEvent
+  before d = g.log d.began.value
+
+  abbrev pub made : Driver P g → List PortEvent
+  made d = since (before d) (g.log d.port)
+
+  -- the number, on its submission queue, of the call's first entry among those of the driver
+  abbrev pub number_of : Driver P g → Call P → ℕ
+  number_of d k = length (sent (since (before d) (g.log k.start.value)) k.queue)
+
+  -- The driver began the call, which hasn't ended: its entries are published, and its CIDs are in use.
+  pub record IsCallOf (d : Driver P g) (k : Call P) : Type 0 where
+    pub later : g.follows k.start.value d.port
+    pub known : Contains (queues_of d.cids) k.queue
+    pub published : IsCallIn (made d) k.queue k.op k.first k.second (number_of d k)
+    pub in_use : IsHeld d.cids k.op k.queue k.first k.second
+
+  -- what a call is answered by what the port did since the driver was made
+  abbrev pub answer_to : Driver P g → Call P → Option (Result Reply Status)
+  answer_to d k = outcome (made d) k.queue k.op k.first k.second
+
+  -- the driver's settings, and the last serial that it drew
+  pub record IsSame (d e : Driver P g) : Type 0 where
+    pub began : e.began ≡ d.began
+    pub host : e.host ≡ d.host
+    pub acwu : e.acwu ≡ d.acwu
+    pub slots : e.slots ≡ d.slots
+    pub serial : e.serial ≡ d.serial
+    pub queues : queues_of e.cids ≡ queues_of d.cids
+
+module _ {P : Type 0} where
+  -- the answer that a poll tells, if it tells one
+  abbrev pub told : Poll P → Option (Result Reply Status)
+  told (Poll.Done r) = Some (Ok r)
+  told (Poll.Failed (Fault.Status s)) = Some (Err s)
+  told _ = None
+
+  -- the call comes back; it may be asked again, for this cause
+  abbrev pub IsBack : Call P → Poll P → Type 0
+  IsBack k (Poll.Pending j) = j ≡ k
+  IsBack k (Poll.Later f j) = (j ≡ k) × ((f ≡ Fault.Busy) ⊎ (f ≡ Fault.NoMemory))
+  IsBack k _ = Unit {0}
+
+  -- the two calls have no CID in common
+  abbrev pub IsApart : Call P → Call P → Type 0
+  IsApart k j = (q cid : ℕ) → is_its_cid k.op k.queue k.first k.second q cid ≡ true → is_its_cid j.op j.queue j.first j.second q cid ≡ false
+
+  -- a call that was answered has no CID any more; all others are in use as before
+  abbrev pub IsFreed : Cids → Cids → Call P → Poll P → Type 0
+  IsFreed old new k r =
+      (q cid : ℕ) → is_free (held new q cid)
+      ≡ (if is_some (told r) && is_its_cid k.op k.queue k.first k.second q cid then true else is_free (held old q cid))
+
+-- nothing came, or one completion
+abbrev pub IsOneMore : List PortEvent → List PortEvent → Type 0
+IsOneMore log more = (more ≡ log) ⊎ ((cqe : List ℕ) × (payload : List ℕ) × (more ≡ PortEvent.Got cqe payload ∷ log))
+
+module _ {P : Type 0} {g : Ghosts P} where
+  -- a call that comes back is still the driver's
+  abbrev pub IsCallBack : Driver P g → Poll P → Type 0
+  IsCallBack d (Poll.Pending k) = IsCallOf d k
+  IsCallBack d (Poll.Later f k) = IsCallOf d k
+  IsCallBack d _ = Unit {0}

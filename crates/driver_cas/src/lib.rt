@@ -1,0 +1,17 @@
+//! A host's driver: calls that are commands of several submission queues of one completion queue.
+#![tactic(auto)]
+
+mod call;
+mod driver;
+mod fault;
+mod poll;
+mod port;
+mod shared_port;
+mod table;
+
+pub use call::{Call, Poll};
+pub use driver::Driver;
+pub use driver_calls::Reply;
+pub use fault::{Fault, PortFault};
+pub use port::{Port, Reaped};
+pub use shared_port::SharedPort;

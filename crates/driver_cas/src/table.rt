@@ -1,0 +1,67 @@
+//! What a driver's table of CIDs becomes by completions and by answers.
+
+ghost use Rattle.std.specs.Prelude.{◌≡◌, ◌≢◌, ℕ, IfErr, IfNone, IfOk, IfSome, List, ◌∷◌};
+ghost use Rattle.cid_table.specs.Cids.{held, queues_of};
+ghost use Rattle.driver_calls.specs.declared.event.PortEvent.{PortEvent};
+ghost use Rattle.driver_cas.specs.Made.{after_reap};
+ghost use Rattle.driver_cas.specs.Tables.{GoesOn, IsReleased, Matches, Reaps, table_outcome};
+
+use crate::fault::PortFault;
+use crate::port::{Port, Reaped};
+use cid_table::CidTable;
+use driver_calls::{Reply, answer_to, pair_answer_to};
+use entry_codec::decode_cqe;
+use nvme_model::operation::Op;
+use nvme_model::status::Status;
+
+/// Notes a reaped completion; one that is no completion, or that no CID waits for, is dropped.
+pub(crate) fn settle(cids: &mut CidTable, reaped: Reaped)
+    ensures queues { queues_of cids.new ≡ queues_of cids.old }
+    ensures goes_on { GoesOn cids.old cids.new }
+    ensures matches { (log : List PortEvent) → Matches cids.old log →
+        Matches cids.new (PortEvent.Got reaped.cqe reaped.payload ∷ log) }
+{
+    let Ok(cqe) = decode_cqe(&reaped.cqe) else {
+        return;
+    };
+    cids.answer(cqe.sqid, cqe.cid, cqe.status, reaped.payload);
+}
+
+/// Reaps one completion, if there is one, and notes it.
+pub(crate) fn reap_one<P: Port>(port: &mut P, cids: &mut CidTable) -> Result<(), PortFault>
+    ensures later { P.follows port.old port.new }
+    ensures queues { queues_of cids.new ≡ queues_of cids.old }
+    ensures goes_on { GoesOn cids.old cids.new }
+    ensures reaped { Reaps (P.log port.old) (P.log port.new) cids.old cids.new }
+    ensures fault { IfErr result (λ f. (P.log port.new ≡ P.log port.old) × (f ≢ PortFault.RingFull)) }
+{
+    if let Some(reaped) = port.reap()? {
+        settle(cids, reaped);
+    }
+    Ok(())
+}
+
+/// The answer to a call whose completions were all reaped, and its CIDs are free.
+pub(crate) fn take_answer(
+    cids: &mut CidTable,
+    op: Op,
+    queue: u16,
+    first: u16,
+    second: u16,
+) -> Option<Result<Reply, Status>>
+    ensures queues { queues_of cids.new ≡ queues_of cids.old }
+    ensures value { result ≡ table_outcome op (held cids.old queue first) (held cids.old queue second) }
+    ensures none { IfNone result (cids.new ≡ cids.old) }
+    ensures some { IfSome result (λ _. IsReleased cids.old cids.new op queue first second) }
+{
+    if op == Op::Pair {
+        let status = cids.status(queue, first)?;
+        let other = cids.status(queue, second)?;
+        cids.release(queue, first);
+        cids.release(queue, second);
+        return Some(pair_answer_to(status, other));
+    }
+    let status = cids.status(queue, first)?;
+    let payload = cids.release(queue, first)?;
+    Some(answer_to(op, status, payload))
+}
