@@ -41,7 +41,7 @@ more_call log more q o first second j (inl e) h = subst (λ (xs : List PortEvent
 more_call log more q o first second j (inr e) h = subst (λ (xs : List PortEvent). IsCallIn xs q o first second j) (sym e.2) (got_call e.0 e.1 log q o first second j h)
 
 module _ {P : Type 0} (g : Ghosts P) where
-  same_number : (d e : Driver P g) (k : Call P) → e.began ≡ d.began → number_of e k ≡ number_of d k
+  pub same_number : (d e : Driver P g) (k : Call P) → e.began ≡ d.began → number_of e k ≡ number_of d k
   same_number d e k b = ap (λ (s : Snapshot P). length (sent (since (g.log s.value) (g.log k.start.value)) k.queue)) b
 
   pub same_made : (d e : Driver P g) → e.began ≡ d.began → e.port ≡ d.port → made e ≡ made d
@@ -80,10 +80,10 @@ module _ {P : Type 0} (g : Ghosts P) where
   one_over a d e h s port = subst (λ (log : List PortEvent). IsOneMore (made a) log) (sym (same_made d e s.began port)) h
 
 module _ {P : Type 0} where
-  own_first : (k : Call P) → is_its_cid k.op k.queue k.first k.second k.queue k.first ≡ true
+  pub own_first : (k : Call P) → is_its_cid k.op k.queue k.first k.second k.queue k.first ≡ true
   own_first k = and_from _ _ (eq-eqb k.queue k.queue refl) (or_left (eqb k.first k.first) (is_pair (Some k.op) && eqb k.first k.second) (eq-eqb k.first k.first refl))
 
-  own_second : (k : Call P) → is_pair (Some k.op) ≡ true → is_its_cid k.op k.queue k.first k.second k.queue k.second ≡ true
+  pub own_second : (k : Call P) → is_pair (Some k.op) ≡ true → is_its_cid k.op k.queue k.first k.second k.queue k.second ≡ true
   own_second k p = and_from _ _ (eq-eqb k.queue k.queue refl) (or_right (eqb k.second k.first) (is_pair (Some k.op) && eqb k.second k.second) (and_from _ _ p (eq-eqb k.second k.second refl)))
 
   -- the CIDs of a call apart stay in use

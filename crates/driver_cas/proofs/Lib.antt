@@ -1,3 +1,5 @@
 pub mod Ports
 pub mod Tables
 pub mod Drivers
+pub mod Sending
+pub mod Starting

@@ -3,3 +3,6 @@ pub mod Passes
 pub mod Ports
 pub mod Tables
 pub mod Drivers
+pub mod Starts
+pub mod Tries
+pub mod Requests

@@ -13,9 +13,13 @@ use nvme_model::array::Range;
 use std::alloc::{AllocError as NoMemory, Global};
 use std::snapshot::Snapshot;
 
+// No table has more submission queues: their numbers have 16 bits.
+pub(crate) const QUEUES: usize = 65_536;
+
 /// A driver of one port, on submission queues of it.
 #[derive(Drop)]
 pub struct Driver<P: Port> {
+    pub(crate) alloc: Global,
     pub(crate) port: P,
     // The port when the driver was made.
     pub(crate) began: Snapshot<P>,
@@ -62,6 +66,7 @@ impl<P: Port> Driver<P> {
         let began = Snapshot::of(&port);
         match CidTable::new(alloc, queues) {
             Ok(cids) => Ok(Driver {
+                alloc,
                 port,
                 began,
                 host,

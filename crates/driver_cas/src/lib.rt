@@ -2,11 +2,13 @@
 #![tactic(auto)]
 
 mod call;
+mod calls;
 mod driver;
 mod fault;
 mod poll;
 mod port;
 mod shared_port;
+mod start;
 mod table;
 
 pub use call::{Call, Poll};
