@@ -4,7 +4,6 @@ use Rattle.std.proofs.Math.ListN.{get_or}
 use Rattle.std.proofs.lemmas.Option.{slice_get-get_or}
 use Rattle.meet_lock.specs.Passes.{IsNew, config_of}
 use Rattle.nvme_model.specs.History.{Past}
-use Rattle.nvme_model.specs.Tickets.{ticket}
 use Rattle.nvme_model.specs.declared.config.ConfigNumbers.{ConfigNumbers}
 use Rattle.nvme_model.specs.declared.entry.Entry.{Entry}
 use Rattle.step_core.specs.declared.answer.Answer.{Answer}
@@ -35,9 +34,9 @@ fetched_fresh hall p q o r h = by_answer hall q h.by.entry h.answer r h.is
 mod_one : (n : ℕ) → n % 1 + 1 ≡ 1
 mod_one n = omega arith
 
-pub posted_one : (c : ConfigNumbers) (past : Past) (t : ℕ) (cqe : List ℕ) → c.cqs ≡ 1 → IsAnswerPosted c past t (Answer.Posted cqe) → IsPostedTo c past 1 cqe
-posted_one c past t cqe one h =
-    subst (λ n. IsPostedTo c past n cqe) (ap (λ k. ((ticket past t).queue - 1) % k + 1) one ∙ mod_one ((ticket past t).queue - 1)) h
+pub posted_one : (c : ConfigNumbers) (past : Past) (q : ℕ) (cqe : List ℕ) → c.cqs ≡ 1 → IsAnswerPosted c past q (Answer.Posted cqe) → IsPostedTo c past 1 cqe
+posted_one c past q cqe one h =
+    subst (λ n. IsPostedTo c past n cqe) (ap (λ k. (q - 1) % k + 1) one ∙ mod_one (q - 1)) h
 
 pub config_kept : (e : Engine) (n : ℕ) (c d : ConfigNumbers) (past : Past) (ps : List engine.EnginePass) → c ≡ d → ((k : ℕ) (p : engine.EnginePass) → slice_get ps k ≡ Some p → engine.IsOf e p × IsNew n c past (k + 1) p) → All (λ p. config_of p ≡ d) ps
 config_kept e n c d past ps same each = λ k x within. (each k (get_or ps k x) (slice_get-get_or ps k x within)).1.2 ∙ same

@@ -146,7 +146,7 @@ pub(crate) fn attempt(
         (task_step task work.old.work.ticket) ≡ None }
     ensures same { IsOf hall.now hand.new × IsWorkOf hall.now work.new }
     ensures posted { IfOk result (IsAnswerPosted (config_of hand.new.pass) (entries (seen hand.new.pass))
-        work.new.work.ticket) }
+        work.new.queue) }
 {
     hall.engine.attempt_work(&mut hand.pass, work, task)
 }
@@ -163,7 +163,7 @@ pub(crate) fn noted(
     answer: &Answer,
 ) -> Result<Option<Notice>, u8>
     requires own { IsOf hall.now hand.old }
-    requires posted { IsAnswerPosted (config_of hand.old.pass) (entries (seen hand.old.pass)) _work.now.work.ticket
+    requires posted { IsAnswerPosted (config_of hand.old.pass) (entries (seen hand.old.pass)) _work.now.queue
         answer.now }
     ensures same { IsOf hall.now hand.new }
     ensures notice { IfOk result (λ n. IfSome n (IsNoticeOf hall.now.engine)) }
@@ -189,7 +189,7 @@ pub(crate) fn tells<R: Wait>(
     answer: &Answer,
 ) -> bool
     requires own { IsOf hall.now hand.old }
-    requires posted { IsAnswerPosted (config_of hand.old.pass) (entries (seen hand.old.pass)) _work.now.work.ticket
+    requires posted { IsAnswerPosted (config_of hand.old.pass) (entries (seen hand.old.pass)) _work.now.queue
         answer.now }
     ensures { IsOf hall.now hand.new }
 {

@@ -66,7 +66,7 @@ line c past q = record { queue = q; ticket = tickets past + 1; verdict = next_ve
 -- ---- and the Work is that of the ticket
 
 pub fresh_work : (c : ConfigNumbers) (past : Past) (q : ℕ) → IsLegal c past → IsLegal c (Entry.Fetch (line c past q) ∷ past) → Rattle.nvme_model.specs.Refusals.refusal c past (Step.Fetch q) ≡ None
-    → IsWorkAt c (Entry.Fetch (line c past q) ∷ past) (work_of c (tickets past + 1) (fetched_ticket past q (next_verdict c past q)))
+    → IsWorkAt c (Entry.Fetch (line c past q) ∷ past) (work_of c (tickets past + 1) (fetched_ticket past q (next_verdict c past q))) q
 fresh_work c past q h now none =
     let f : FetchLine = line c past q in
     let t : ℕ = tickets past + 1 in
@@ -79,18 +79,19 @@ fresh_work c past q h now none =
       known = omega arith;
       stands = ap (λ b. b || list_any (is_fetch_of t) past) (eq-eqb t t refl);
       duty = is ∙ ap (λ (x : Ticket). record { statuses = length x.commands; op = op x; units = units c x }) (sym here);
+      from = ap (λ (x : Ticket). x.queue) here;
       legal = now;
     }
 
 -- a Fetch is answered with it
 pub fetched_work : (c : ConfigNumbers) (past : Past) (q : ℕ) (e : Entry) (a : Answer) (w : TicketWork) → IsLegal c past → IsLegal c (e ∷ past) → Accepts c past (Step.Fetch q) e a → a ≡ Answer.Fetched w
-    → (ticket_in e ≡ w.ticket) × IsWorkAt c (e ∷ past) w × (first_stage (duty_of w) ≡ own_stage (duty_of w) w.ticket (e ∷ [])) × (is_fetch_of w.ticket e ≡ true)
+    → (ticket_in e ≡ w.ticket) × IsWorkAt c (e ∷ past) w q × (first_stage (duty_of w) ≡ own_stage (duty_of w) w.ticket (e ∷ [])) × (is_fetch_of w.ticket e ≡ true)
 fetched_work c past q e a w h now s is =
     let made : TicketWork = work_of c (tickets past + 1) (fetched_ticket past q (next_verdict c past q)) in
     let same : Answer.Fetched made ≡ Answer.Fetched w = sym (s.2 ∙ ap (answer_of c past) s.1) ∙ is in
     let work : made ≡ w = cc in (
       ap ticket_in s.1 ∙ ap (λ (x : TicketWork). x.ticket) work,
-      subst (λ (z : Entry × TicketWork). IsWorkAt c (z.0 ∷ past) z.1) (λ i. (sym s.1 i, work i)) (fresh_work c past q h (subst (λ (z : Entry). IsLegal c (z ∷ past)) s.1 now) s.0),
+      subst (λ (z : Entry × TicketWork). IsWorkAt c (z.0 ∷ past) z.1 q) (λ i. (sym s.1 i, work i)) (fresh_work c past q h (subst (λ (z : Entry). IsLegal c (z ∷ past)) s.1 now) s.0),
       fetched_stage (duty_of w) w.ticket (line c past q) ∙ ap (λ (z : Entry). own_stage (duty_of w) w.ticket (z ∷ [])) (sym s.1),
       ap (is_fetch_of w.ticket) s.1 ∙ eq-eqb (tickets past + 1) w.ticket (ap (λ (x : TicketWork). x.ticket) work),
     )

@@ -30,6 +30,10 @@ use Rattle.work_queue.specs.Posted.{IsAnswerPosted, IsPostedTo}
 use Rattle.work_queue.specs.declared.task.Task.{Task}
 use Rattle.work_queue.specs.declared.task.Task.TheVariants as task
 
+-- so it is to the completion queue of ticket t
+abbrev IsTicketPosted : ConfigNumbers → Past → ℕ → Answer → Type 0
+IsTicketPosted c past t a = IsAnswerPosted c past (ticket past t).queue a
+
 module _ (c : ConfigNumbers) (past : Past) where
   newest : (p : PostLine) → IsPostedTo c (Entry.Post p ∷ past) (completion_queue c (ticket past p.ticket).queue) p.cqe
   newest p =
@@ -40,30 +44,31 @@ module _ (c : ConfigNumbers) (past : Past) where
       ∙ or-true (list_any (λ (r : PostLine). bytes_eq r.cqe p.cqe) (posted c past q))))
 
   module _ (t : ℕ) where
-    by_grant : (o : Option Range) → IsAnswerPosted c (grant_entry past t o ∷ past) t (answer_of c past (grant_entry past t o))
+    by_grant : (o : Option Range) → IsTicketPosted c (grant_entry past t o ∷ past) t (answer_of c past (grant_entry past t o))
     by_grant None = tt
     by_grant (Some r) = tt
 
-    by_block : (o : Option GrantLine) → IsAnswerPosted c (block_entry past t o ∷ past) t (answer_of c past (block_entry past t o))
+    by_block : (o : Option GrantLine) → IsTicketPosted c (block_entry past t o ∷ past) t (answer_of c past (block_entry past t o))
     by_block None = tt
     by_block (Some g) = tt
 
-    by_post : (o : Option Status) → IsAnswerPosted c (post_entry c past t o ∷ past) t (answer_of c past (post_entry c past t o))
+    by_post : (o : Option Status) → IsTicketPosted c (post_entry c past t o ∷ past) t (answer_of c past (post_entry c past t o))
     by_post None = newest (record { ticket = t; cqe = []; payload = [] })
     by_post (Some s) = newest (record { ticket = t; cqe = completion c past t s; payload = completion_data c past t s })
 
-    by_entry : (e x : Entry) (a : Answer) → e ≡ x → a ≡ answer_of c past e → IsAnswerPosted c (x ∷ past) t (answer_of c past x)
-        → IsAnswerPosted c (e ∷ past) t a
+    by_entry : (e x : Entry) (a : Answer) → e ≡ x → a ≡ answer_of c past e → IsTicketPosted c (x ∷ past) t (answer_of c past x)
+        → IsTicketPosted c (e ∷ past) t a
     by_entry e x a is answer m =
-        subst (λ (z : Entry × Answer). IsAnswerPosted c (z.0 ∷ past) t z.1) (λ i. (sym is i, (ap (answer_of c past) (sym is) ∙ sym answer) i)) m
+        subst (λ (z : Entry × Answer). IsTicketPosted c (z.0 ∷ past) t z.1) (λ i. (sym is i, (ap (answer_of c past) (sym is) ∙ sym answer) i)) m
 
-    pub answer_posted : (k : Task) (e : Entry) (a : Answer) → Accepts c past (task_step k t) e a → IsAnswerPosted c (e ∷ past) t a
+    pub answer_posted : (k : Task) (e : Entry) (a : Answer) → Accepts c past (task_step k t) e a → IsTicketPosted c (e ∷ past) t a
     answer_posted task.Grant e a s = by_entry e _ a s.1 s.2 (by_grant (next_unit c past t))
     answer_posted task.Block e a s = by_entry e _ a s.1 s.2 (by_block (find (λ g. g.ticket == t) (open_units past)))
     answer_posted task.Post e a s = by_entry e _ a s.1 s.2 (by_post (slice_get (owed c past t) (posts_of past t)))
 
-pub told_posted : (p q : EnginePass) (k : Task) (t : ℕ) (a : Answer) → config_of q ≡ config_of p → Accepted Accepts p q (task_step k t) a
-    → IsAnswerPosted (config_of q) (entries (seen q)) t a
-told_posted p q k t a same h =
-    subst (λ (z : ConfigNumbers × SharedPast). IsAnswerPosted z.0 (entries z.1) t a) (λ i. (sym same i, sym h.ends i))
-    (answer_posted (config_of p) (entries h.before) t k h.entry a h.says)
+pub told_posted : (p q : EnginePass) (k : Task) (t n : ℕ) (a : Answer) → config_of q ≡ config_of p → (ticket (entries (seen q)) t).queue ≡ n
+    → Accepted Accepts p q (task_step k t) a → IsAnswerPosted (config_of q) (entries (seen q)) n a
+told_posted p q k t n a same from h =
+    subst (λ (m : ℕ). IsAnswerPosted (config_of q) (entries (seen q)) m a) from
+    (subst (λ (z : ConfigNumbers × SharedPast). IsTicketPosted z.0 (entries z.1) t a) (λ i. (sym same i, sym h.ends i))
+    (answer_posted (config_of p) (entries h.before) t k h.entry a h.says))

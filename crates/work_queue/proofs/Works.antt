@@ -6,6 +6,7 @@ use Rattle.nvme_model.specs.History.{Past}
 use Rattle.nvme_model.specs.Legal.{IsLegal}
 use Rattle.nvme_model.specs.Passes.{IsBeginning, SharedPast, entries}
 use Rattle.nvme_model.specs.Refusals.{refusal}
+use Rattle.nvme_model.specs.Tickets.{Ticket}
 use Rattle.nvme_model.specs.declared.config.ConfigNumbers.{ConfigNumbers}
 use Rattle.nvme_model.specs.declared.refusal.Why.{Why}
 use Rattle.nvme_model.specs.declared.step.Step.{Step}
@@ -18,7 +19,7 @@ use Rattle.ticket_entries.specs.Entries.{of_ticket}
 use Rattle.ticket_entries.specs.Tasks.{Duty, IsInPlace, duty_at, own_stage, task_fault}
 use Rattle.ticket_entries.specs.declared.stage.Stage.{Stage}
 use Rattle.ticket_entries.proofs.Allowed.{block_in_place, grant_in_place, post_in_place}
-use Rattle.ticket_entries.proofs.Later.{duty_later, tickets_later}
+use Rattle.ticket_entries.proofs.Later.{duty_later, ticket_later, tickets_later}
 use Rattle.step_core.specs.State.{Accepts, Refuses}
 use Rattle.meet_lock.specs.Passes.{Declines, IsNotBusy, Learned, Saw, Worked, config_of, its, seen, ticket_config, ticket_seen}
 use Rattle.meet_lock.specs.declared.pass.Declined.{Declined}
@@ -40,8 +41,8 @@ stands_later t (e ∷ later) past h = either (is_fetch_of t e) (list_any (is_fet
     either false b h = h
 
 -- what holds of a Work in a history holds of it later
-pub carry : (c : ConfigNumbers) (later past : Past) (x : TicketWork) → IsLegal c (later ++ past) → IsWorkAt c past x → IsWorkAt c (later ++ past) x
-carry c later past x h w =
+pub carry : (c : ConfigNumbers) (later past : Past) (x : TicketWork) (n : ℕ) → IsLegal c (later ++ past) → IsWorkAt c past x n → IsWorkAt c (later ++ past) x n
+carry c later past x n h w =
     let more = tickets_later later past in
     let known = w.known in
     record {
@@ -49,29 +50,30 @@ carry c later past x h w =
       known = omega (arith, more, known);
       stands = stands_later x.ticket later past w.stands;
       duty = w.duty ∙ sym (duty_later c later past x.ticket h w.known);
+      from = ap (λ (t : Ticket). t.queue) (ticket_later c later past x.ticket h w.known) ∙ w.from;
       legal = h;
     }
 
-pub carried : (c : ConfigNumbers) (old new : SharedPast) (x : TicketWork) → IsBeginning old new → IsLegal c (entries new) → IsWorkAt c (entries old) x → IsWorkAt c (entries new) x
-carried c old new x b h w =
+pub carried : (c : ConfigNumbers) (old new : SharedPast) (x : TicketWork) (n : ℕ) → IsBeginning old new → IsLegal c (entries new) → IsWorkAt c (entries old) x n → IsWorkAt c (entries new) x n
+carried c old new x n b h w =
     let same : entries b.0 ++ entries old ≡ entries new = sym (map-append _ b.0 old) ∙ ap entries b.1 in
-    subst (λ past. IsWorkAt c past x) same (carry c (entries b.0) (entries old) x (subst (λ past. IsLegal c past) (sym same) h) w)
+    subst (λ past. IsWorkAt c past x n) same (carry c (entries b.0) (entries old) x n (subst (λ past. IsLegal c past) (sym same) h) w)
 
 -- and of it after it was stepped
-pub learned_work : (q : Pass State) (w v : TicketSeat State) (x : TicketWork) → Learned q w v → Kept (config_of q) (entries (seen q)) → IsWorkAt (ticket_config w) (entries (ticket_seen w)) x
-    → IsWorkAt (config_of q) (entries (seen q)) x
-learned_work q w v x l k at = carried (config_of q) (ticket_seen w) (seen q) x l.0 k.legal (subst (λ c. IsWorkAt c (entries (ticket_seen w)) x) l.2 at)
+pub learned_work : (q : Pass State) (w v : TicketSeat State) (x : TicketWork) (n : ℕ) → Learned q w v → Kept (config_of q) (entries (seen q)) → IsWorkAt (ticket_config w) (entries (ticket_seen w)) x n
+    → IsWorkAt (config_of q) (entries (seen q)) x n
+learned_work q w v x n l k at = carried (config_of q) (ticket_seen w) (seen q) x n l.0 k.legal (subst (λ c. IsWorkAt c (entries (ticket_seen w)) x n) l.2 at)
 
-moved_work : (q : Pass State) (w v : TicketSeat State) (x : TicketWork) → Learned q w v → Kept (config_of q) (entries (seen q)) → IsWorkAt (ticket_config w) (entries (ticket_seen w)) x
-    → IsWorkAt (ticket_config v) (entries (ticket_seen v)) x
-moved_work q w v x l k at =
-    subst (λ (z : ConfigNumbers × SharedPast). IsWorkAt z.0 (entries z.1) x) (λ i. (sym l.3 i, sym l.1 i)) (learned_work q w v x l k at)
+moved_work : (q : Pass State) (w v : TicketSeat State) (x : TicketWork) (n : ℕ) → Learned q w v → Kept (config_of q) (entries (seen q)) → IsWorkAt (ticket_config w) (entries (ticket_seen w)) x n
+    → IsWorkAt (ticket_config v) (entries (ticket_seen v)) x n
+moved_work q w v x n l k at =
+    subst (λ (z : ConfigNumbers × SharedPast). IsWorkAt z.0 (entries z.1) x n) (λ i. (sym l.3 i, sym l.1 i)) (learned_work q w v x n l k at)
 
-pub after_saw : (q : Pass State) (w v : TicketSeat State) (x : TicketWork) (r : Result Answer Declined) → Saw q w v r → Kept (config_of q) (entries (seen q)) → IsWorkAt (ticket_config w) (entries (ticket_seen w)) x
-    → IsWorkAt (ticket_config v) (entries (ticket_seen v)) x
-after_saw q w v x (Ok a) s k at = moved_work q w v x s k at
-after_saw q w v x (Err (Declined.Busy step)) s k at = subst (λ (z : ConfigNumbers × SharedPast). IsWorkAt z.0 (entries z.1) x) (λ i. (sym s.1 i, sym s.0 i)) at
-after_saw q w v x (Err (Declined.Refused r)) s k at = moved_work q w v x s k at
+pub after_saw : (q : Pass State) (w v : TicketSeat State) (x : TicketWork) (n : ℕ) (r : Result Answer Declined) → Saw q w v r → Kept (config_of q) (entries (seen q)) → IsWorkAt (ticket_config w) (entries (ticket_seen w)) x n
+    → IsWorkAt (ticket_config v) (entries (ticket_seen v)) x n
+after_saw q w v x n (Ok a) s k at = moved_work q w v x n s k at
+after_saw q w v x n (Err (Declined.Busy step)) s k at = subst (λ (z : ConfigNumbers × SharedPast). IsWorkAt z.0 (entries z.1) x n) (λ i. (sym s.1 i, sym s.0 i)) at
+after_saw q w v x n (Err (Declined.Refused r)) s k at = moved_work q w v x n s k at
 
 -- ---- a task that the ticket's entries allow
 
@@ -95,15 +97,15 @@ task_in_place c past t task.Grant none = no_fault_of (refusal c past (Step.Grant
 task_in_place c past t task.Block none = no_fault_of (refusal c past (Step.Block t)) (block_in_place c past t none)
 task_in_place c past t task.Post none = no_fault_of (refusal c past (Step.Post t)) (post_in_place c past t none)
 
-pub no_fault : (p q : Pass State) (w v : TicketSeat State) (x : TicketWork) (k : Task) (r : Result Answer Declined) → config_of q ≡ config_of p → Kept (config_of q) (entries (seen q)) → Saw q w v r
-    → IsWorkAt (ticket_config w) (entries (ticket_seen w)) x → (IsNotBusy r → of_ticket x.ticket (entries (seen q)) ≡ its v) → task_fault (duty_of x) x.ticket (its w) (task_step k x.ticket) ≡ None
+pub no_fault : (p q : Pass State) (w v : TicketSeat State) (x : TicketWork) (n : ℕ) (k : Task) (r : Result Answer Declined) → config_of q ≡ config_of p → Kept (config_of q) (entries (seen q)) → Saw q w v r
+    → IsWorkAt (ticket_config w) (entries (ticket_seen w)) x n → (IsNotBusy r → of_ticket x.ticket (entries (seen q)) ≡ its v) → task_fault (duty_of x) x.ticket (its w) (task_step k x.ticket) ≡ None
     → IfErr r (λ d. Declines Refuses p q (task_step k x.ticket) d × (its v ≡ its w)) → IfErr r IsNoTaskFault
-no_fault p q w v x k (Ok a) same kept s at whole none d = tt
-no_fault p q w v x k (Err (Declined.Busy step)) same kept s at whole none d = tt
-no_fault p q w v x k (Err (Declined.Refused r)) same kept s at whole none d =
+no_fault p q w v x n k (Ok a) same kept s at whole none d = tt
+no_fault p q w v x n k (Err (Declined.Busy step)) same kept s at whole none d = tt
+no_fault p q w v x n k (Err (Declined.Refused r)) same kept s at whole none d =
     let t = x.ticket in
     let past = entries (seen q) in
-    let here = learned_work q w v x s kept at in
+    let here = learned_work q w v x n s kept at in
     let all : its w ≡ of_ticket t past = sym (whole tt ∙ d.1) in
     let fault : task_fault (duty_at (config_of q) past t) t (of_ticket t past) (task_step k t) ≡ None = subst (λ (z : Duty × Past). task_fault z.0 t z.1 (task_step k t) ≡ None) (λ i. (here.duty i, all i)) none in
     let is : refused_as (task_step k t) (unwrap_or (refusal (config_of q) past (task_step k t)) Why.NoMemory) ≡ r = ap (λ c. refused_as (task_step k t) (unwrap_or (refusal c past (task_step k t)) Why.NoMemory)) same ∙ sym d.0.1 in
@@ -111,11 +113,11 @@ no_fault p q w v x k (Err (Declined.Refused r)) same kept s at whole none d =
 
 -- ---- how far it has come
 
-pub staged : (p q : Pass State) (w v : TicketSeat State) (x : TicketWork) (k : Task) (a : Answer) (s : Stage) → config_of q ≡ config_of p → Kept (config_of q) (entries (seen q)) → Learned q w v
-    → IsWorkAt (ticket_config w) (entries (ticket_seen w)) x → of_ticket x.ticket (entries (seen q)) ≡ its v → Worked Accepts p q w v (task_step k x.ticket) a → s ≡ own_stage (duty_of x) x.ticket (its w)
+pub staged : (p q : Pass State) (w v : TicketSeat State) (x : TicketWork) (n : ℕ) (k : Task) (a : Answer) (s : Stage) → config_of q ≡ config_of p → Kept (config_of q) (entries (seen q)) → Learned q w v
+    → IsWorkAt (ticket_config w) (entries (ticket_seen w)) x n → of_ticket x.ticket (entries (seen q)) ≡ its v → Worked Accepts p q w v (task_step k x.ticket) a → s ≡ own_stage (duty_of x) x.ticket (its w)
     → answer_stage s a ≡ own_stage (duty_of x) x.ticket (its v)
-staged p q w v x k a s same kept l at whole by is =
-    let here = learned_work q w v x l kept at in
+staged p q w v x n k a s same kept l at whole by is =
+    let here = learned_work q w v x n l kept at in
     let e = by.by.entry in
     let past = entries by.by.before in
     let there : entries (seen q) ≡ e ∷ past = ap entries by.by.ends in
@@ -123,10 +125,10 @@ staged p q w v x k a s same kept l at whole by is =
     (subst (λ (z : ConfigNumbers × Past). IsLegal z.0 z.1) (λ i. (same i, there i)) kept.legal) by.by.says
     (here.duty ∙ (λ i. duty_at (same i) (there i) x.ticket)) is by.more (ap (of_ticket x.ticket) (sym there) ∙ whole)
 
-pub next_of_work : (w : TicketSeat State) (x : TicketWork) (s : Stage) (o : Option Task) → s ≡ own_stage (duty_of x) x.ticket (its w) → IsWorkAt (ticket_config w) (entries (ticket_seen w)) x
+pub next_of_work : (w : TicketSeat State) (x : TicketWork) (n : ℕ) (s : Stage) (o : Option Task) → s ≡ own_stage (duty_of x) x.ticket (its w) → IsWorkAt (ticket_config w) (entries (ticket_seen w)) x n
     → of_ticket x.ticket (entries (ticket_seen w)) ≡ its w → o ≡ next_task s → IfSome o (λ k. task_fault (duty_of x) x.ticket (its w) (task_step k x.ticket) ≡ None)
-next_of_work w x s None is at whole next = tt
-next_of_work w x s (Some k) is at whole next =
+next_of_work w x n s None is at whole next = tt
+next_of_work w x n s (Some k) is at whole next =
     let c = ticket_config w in
     let past = entries (ticket_seen w) in
     let t = x.ticket in

@@ -123,7 +123,12 @@ impl Engine {
                     unreachable!();
                 };
                 let stage = start_of(&work);
-                Ok(Opened::Fetched(Work { work, owner, stage }))
+                Ok(Opened::Fetched(Work {
+                    work,
+                    queue,
+                    owner,
+                    stage,
+                }))
             }
             Open::Reap(queue) => {
                 let (answer, _) = self.shared.attempt_open(pass, Step::Reap(queue))?;
@@ -149,11 +154,12 @@ impl Engine {
         requires own { IsOf self.now pass.old × IsWorkOf self.now work.old }
         requires allowed { task_fault (duty_of work.old.work) work.old.work.ticket (its work.old)
             (task_step task work.old.work.ticket) ≡ None }
-        ensures same { IsSame pass.old pass.new × IsWorkOf self.now work.new × (work.new.work ≡ work.old.work) }
+        ensures same { IsSame pass.old pass.new × IsWorkOf self.now work.new × (work.new.work ≡ work.old.work)
+            × (work.new.queue ≡ work.old.queue) }
         ensures knows { Knows Kept pass.old pass.new }
         ensures accepted { IfOk result (Worked Accepts pass.old pass.new work.old.owner work.new.owner
             (task_step task work.old.work.ticket)) }
-        ensures posted { IfOk result (IsAnswerPosted (config_of pass.new) (entries (seen pass.new)) work.old.work.ticket) }
+        ensures posted { IfOk result (IsAnswerPosted (config_of pass.new) (entries (seen pass.new)) work.old.queue) }
         ensures declined { IfErr result (λ d. Declines Refuses pass.old pass.new (task_step task work.old.work.ticket) d
             × (its work.new ≡ its work.old)) }
         ensures in_place { IfErr result IsNoTaskFault }

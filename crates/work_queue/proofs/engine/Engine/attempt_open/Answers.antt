@@ -23,7 +23,7 @@ invariant_of-result c =
     record {
       owned = o.owns ∙ w.0;
       staged = c.start_of-stage.ensures.value ∙ (w.2 ∙ ap (own_stage (duty_of c.in-Fetched.work) c.in-Fetched.work.ticket) (sym o.one));
-      fetched = subst (λ (z : ConfigNumbers × SharedPast). IsWorkAt z.0 (entries z.1) c.in-Fetched.work) (λ i. (sym o.config i, sym (o.saw ∙ o.by.ends) i)) w.1;
+      fetched = subst (λ (z : ConfigNumbers × SharedPast). IsWorkAt z.0 (entries z.1) c.in-Fetched.work c.in-Fetch.queue) (λ i. (sym o.config i, sym (o.saw ∙ o.by.ends) i)) w.1;
     }
 
 pub unreachable-requires-in_default-answer : goal.unreachable-requires-in_default-answer
