@@ -1,0 +1,12 @@
+pub mod Batches
+pub mod Beliefs
+pub mod Areas
+pub mod Staying
+pub mod Winning
+pub mod Knowing
+pub mod Believing
+pub mod Keeping
+pub mod Views
+pub mod Meeting
+pub mod Releasing
+pub mod ExampleLog
