@@ -30,11 +30,11 @@ use Rattle.driver_calls.proofs.Logs.{tidy_before}
 use Rattle.slot_calls.specs.Careful.{are_careful, is_careful_batch, serials_below}
 use Rattle.slot_calls.specs.Hosts.{elsewhere_keeps}
 use Rattle.slot_calls.specs.Swaps.{log_believed, log_swaps}
-use Rattle.slot_calls.proofs.Areas.{below_parts, is_below}
+use Rattle.slot_calls.proofs.Careful.{below_parts, is_below}
 use Rattle.slot_calls.proofs.Believing.{log_believes, on_own_queue}
 use Rattle.slot_calls.proofs.Beliefs.{believed_parts}
 use Rattle.slot_calls.proofs.Knowing.{Knows, log_knows}
-use Rattle.slot_calls.proofs.Staying.{CarefulBatch, CarefulSwap, careful_batch}
+use Rattle.slot_calls.proofs.Claiming.{CarefulBatch, CarefulSwap, careful_batch}
 
 -- ---- what two entries are that have a claim or a release
 

@@ -1,7 +1,8 @@
 pub mod Batches
 pub mod Beliefs
-pub mod Areas
+pub mod Careful
 pub mod Staying
+pub mod Claiming
 pub mod Winning
 pub mod Knowing
 pub mod Believing
@@ -10,3 +11,4 @@ pub mod Views
 pub mod Meeting
 pub mod Releasing
 pub mod ExampleLog
+pub mod ExampleHosts

@@ -18,9 +18,9 @@ use Rattle.driver_calls.specs.declared.event.PortEvent.{PortEvent}
 use Rattle.driver_calls.proofs.Following.{all_beside_no_events}
 use Rattle.slot_calls.specs.Hosts.{IsSlotView, log_since}
 use Rattle.slot_calls.specs.Swaps.{log_believed}
-use Rattle.slot_calls.proofs.Areas.{careful_parts}
+use Rattle.slot_calls.proofs.Careful.{careful_parts}
 use Rattle.slot_calls.proofs.Beliefs.{believed_parts}
-use Rattle.slot_calls.proofs.Staying.{claimed_host}
+use Rattle.slot_calls.proofs.Claiming.{claimed_host}
 use Rattle.slot_calls.proofs.Views.{view_disciplined, view_holder, view_knows, whole_log}
 
 pub one_name : (before other : List PortEvent) (slots : Range) (host last guest final : ℕ) (a b : PortView) (l : ℕ) (n m : Name) → IsSlotView before slots host last a → IsSlotView other slots guest final b → a.seen ≡ b.seen

@@ -1,13 +1,14 @@
 -- A release is answered by success.
-use Rattle.std.proofs.Common.{Bool, Err, List, Ok, Result, Some, [], ap, arith, cond, eq-eqb, eqb, false, inl, inr, refl, slice_get, subst, suc, sym, true, ℕ, ◌+◌, ◌++◌, ◌||◌, ◌∙◌, ◌∷◌, ◌≡◌}
+use Rattle.std.proofs.Common.{Bool, Err, List, Ok, Result, Some, [], ap, arith, cond, eq-eqb, eqb, eqb-true, false, inl, inr, length, refl, slice_get, subst, suc, sym, true, ℕ, ◌&&◌, ◌+◌, ◌++◌, ◌||◌, ◌∙◌, ◌∷◌, ◌≡◌}
 use Rattle.std.specs.List.{list_all}
 use Rattle.std.proofs.lemmas.Bool.{and_parts, cond-true}
 use Rattle.nvme_model.specs.Array.{has_block}
 use Rattle.nvme_model.specs.Config.{completion_queue}
 use Rattle.nvme_model.specs.Legal.{IsLegal}
 use Rattle.nvme_model.specs.Passes.{SharedPast, entries}
+use Rattle.nvme_model.specs.History.{Past}
 use Rattle.nvme_model.specs.Queues.{published}
-use Rattle.nvme_model.specs.Slots.{Name, slot_block}
+use Rattle.nvme_model.specs.Slots.{Name, Swap, believed, in_area, keeps_discipline, released_right, same_name, slot_block, swaps, swaps_in}
 use Rattle.nvme_model.specs.Statuses.{compare_failure, is_success, same_status}
 use Rattle.nvme_model.specs.declared.array.Range.{Range}
 use Rattle.nvme_model.specs.declared.config.ConfigNumbers.{ConfigNumbers}
@@ -21,7 +22,9 @@ use Rattle.host_laws.specs.Book.{IsAlwaysApart}
 use Rattle.host_laws.specs.Calls.{reaped_post, status_in}
 use Rattle.host_laws.proofs.Apart.{always_empty, always_more, book_apart}
 use Rattle.host_laws.proofs.Discipline.{area_has}
-use Rattle.host_laws.proofs.Elements.{get_after, get_append}
+use Rattle.host_laws.proofs.Names.{name_eq}
+use Rattle.host_laws.proofs.UniqueNames.{release_right}
+use Rattle.host_laws.proofs.Elements.{In, any_in, get_after, get_append}
 use Rattle.host_laws.proofs.Publishing.{release_at}
 use Rattle.host_laws.proofs.ReleaseAnswers.{release_succeeds}
 use Rattle.driver_calls.specs.Answers.{pair_answer_of}
@@ -34,10 +37,13 @@ use Rattle.driver_calls.specs.declared.reply.Reply.{Reply}
 use Rattle.driver_calls.proofs.Books.{book_of}
 use Rattle.driver_calls.proofs.Logs.{tidy_before}
 use Rattle.driver_calls.proofs.Telling.{log_tells}
-use Rattle.slot_calls.specs.Calls.{IsReleaseIn, IsSentAs}
+use Rattle.slot_calls.specs.Calls.{IsName, IsReleaseBatch, IsReleaseIn, IsSentAs}
+use Rattle.slot_calls.specs.Swaps.{log_believed}
 use Rattle.slot_calls.specs.Hosts.{IsSlotView, log_since}
 use Rattle.slot_calls.proofs.Batches.{pair_of, release_batch}
-use Rattle.slot_calls.proofs.Views.{view_disciplined, view_knows, view_tidy, whole_log}
+use Rattle.slot_calls.proofs.Careful.{careful_parts}
+use Rattle.slot_calls.proofs.Claiming.{claimed_host}
+use Rattle.slot_calls.proofs.Views.{view_back, view_careful, view_disciplined, view_knows, view_tidy, whole_log}
 use Rattle.slot_calls.proofs.Winning.{IsAnswered, pair_answered, swap_sent}
 
 -- ---- the CIDs
@@ -119,3 +125,38 @@ release_answer before slots host last v q first second j l n r x k i h =
     let e = whole_log before slots host last v x in
     release_answered before slots host last v q first second j l n r x (subst (λ (log : List PortEvent). IsReleaseIn log q first second j l n) e k) i
     (ap (λ (log : List PortEvent). outcome log q Op.Pair first second) (sym e) ∙ h)
+
+-- ---- a release that keeps the discipline
+
+-- what the log believes then
+record KeptRelease (c : ConfigNumbers) (past : Past) (q l : ℕ) (n : Name) : Type 0 where
+  believed : believed c past l n ≡ true
+  claim : Swap
+  there : In claim (swaps past)
+  claims : claim.claims ≡ true
+  lba : claim.lba ≡ l
+  name : claim.name ≡ n
+  queue : completion_queue c claim.queue ≡ completion_queue c q
+
+kept_release : (c : ConfigNumbers) (slots : Range) (past : Past) (q l first second : ℕ) (n : Name) (batch : List Submission) → IsName n → IsReleaseBatch l first second n batch → has_block slots l ≡ true
+    → keeps_discipline c slots past (record { queue = q; batch = batch }) ≡ true → KeptRelease c past q l n
+kept_release c slots past q l first second n batch x b v h =
+    let j = length (published past q) in
+    let s = release_at q j l n in
+    let alone : in_area slots (swaps_in q j batch) ≡ s ∷ [] = ap (in_area slots) (release_batch q j l first second n batch x b) ∙ cond-true (has_block slots l) (s ∷ []) [] v in
+    let right : released_right c past [] (s ∷ []) ≡ true = ap (released_right c past []) (sym alone) ∙ (and_parts _ (released_right c past [] (in_area slots (swaps_in q j batch))) h).1 in
+    let r = release_right c past [] (s ∷ []) s right (inl refl) refl in
+    let w = any_in (λ w. w.claims && eqb w.lba l && same_name w.name n && eqb (completion_queue c w.queue) (completion_queue c q)) (swaps past) r.claim in
+    let a = and_parts _ _ w.2 in
+    let d = and_parts _ _ a.0 in
+    let e = and_parts _ _ d.0 in
+    record { believed = r.believed; claim = w.0; there = w.1; claims = e.0; lba = eqb-true _ _ e.1; name = name_eq w.0.name n d.1; queue = eqb-true _ _ a.1 }
+
+pub kept_is_believed : (before : List PortEvent) (slots : Range) (host last : ℕ) (v : PortView) (q l first second : ℕ) (n : Name) (batch : List Submission) → IsSlotView before slots host last v
+    → IsName n → IsReleaseBatch l first second n batch → has_block slots l ≡ true → completion_queue v.config q ≡ v.queue → keeps_discipline v.config slots (entries v.seen) (record { queue = q; batch = batch }) ≡ true
+    → log_believed (log_since before v) l n ≡ true
+kept_is_believed before slots host last v q l first second n batch x y b i e h =
+    let k = kept_release v.config slots (entries v.seen) q l first second n batch y b i h in
+    let here = (view_knows before slots host last v x).known k.claim k.there (k.queue ∙ e) in
+    let host_is = claimed_host slots host (log_of v) k.claim (careful_parts slots host last (log_of v) (view_careful before slots host last v x)).each here k.claims (ap (has_block slots) k.lba ∙ i) in
+    view_back before slots host last v l n x i (ap (λ (m : Name). m.host) (sym k.name) ∙ host_is) k.believed

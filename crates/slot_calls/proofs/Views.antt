@@ -13,7 +13,7 @@ use Rattle.driver_calls.proofs.Views.{since_none}
 use Rattle.slot_calls.specs.Careful.{is_careful}
 use Rattle.slot_calls.specs.Hosts.{IsSlotView, log_since}
 use Rattle.slot_calls.specs.Swaps.{log_believed}
-use Rattle.slot_calls.proofs.Areas.{careful_parts}
+use Rattle.slot_calls.proofs.Careful.{careful_parts}
 use Rattle.slot_calls.proofs.Believing.{believes_back, log_believes}
 use Rattle.slot_calls.proofs.Keeping.{careful_disciplined}
 use Rattle.slot_calls.proofs.Knowing.{Knows, log_knows}
@@ -25,7 +25,7 @@ whole_log before slots host last v x = ap (λ (b : List PortEvent). since b (log
 pub view_tidy : (before : List PortEvent) (slots : Range) (host last : ℕ) (v : PortView) → IsSlotView before slots host last v → is_tidy (log_of v) ≡ true
 view_tidy before slots host last v x = ap is_tidy (sym (whole_log before slots host last v x)) ∙ x.tidy
 
-view_careful : (before : List PortEvent) (slots : Range) (host last : ℕ) (v : PortView) → IsSlotView before slots host last v → is_careful slots host last (log_of v) ≡ true
+pub view_careful : (before : List PortEvent) (slots : Range) (host last : ℕ) (v : PortView) → IsSlotView before slots host last v → is_careful slots host last (log_of v) ≡ true
 view_careful before slots host last v x = ap (is_careful slots host last) (sym (whole_log before slots host last v x)) ∙ x.careful
 
 pub view_knows : (before : List PortEvent) (slots : Range) (host last : ℕ) (v : PortView) → IsSlotView before slots host last v → Knows v.config (entries v.seen) v.queue (log_of v)

@@ -2,16 +2,18 @@
 
 ghost use Rattle.std.specs.Prelude.{◌≡◌, ◌≢◌, ℕ, List, true, Ok, Result, Some};
 ghost use Rattle.nvme_model.specs.Array.{has_block};
+ghost use Rattle.nvme_model.specs.Config.{completion_queue};
 ghost use Rattle.nvme_model.specs.Passes.{entries};
-ghost use Rattle.nvme_model.specs.Slots.{Name, believed, disciplined, holder};
+ghost use Rattle.nvme_model.specs.Slots.{Name, believed, disciplined, holder, keeps_discipline};
 ghost use Rattle.nvme_model.specs.declared.array.Range.{Range};
 ghost use Rattle.nvme_model.specs.declared.operation.Op.{Op};
 ghost use Rattle.nvme_model.specs.declared.status.Status.{Status};
+ghost use Rattle.nvme_model.specs.declared.submission.Submission.{Submission};
 ghost use Rattle.driver_calls.specs.Says.{outcome};
 ghost use Rattle.driver_calls.specs.Views.{PortView};
 ghost use Rattle.driver_calls.specs.declared.event.PortEvent.{PortEvent};
 ghost use Rattle.driver_calls.specs.declared.reply.Reply.{Reply};
-ghost use Rattle.slot_calls.specs.Calls.{IsReleaseIn};
+ghost use Rattle.slot_calls.specs.Calls.{IsName, IsReleaseBatch, IsReleaseIn};
 ghost use Rattle.slot_calls.specs.Hosts.{IsSlotView, log_since};
 ghost use Rattle.slot_calls.specs.Swaps.{log_believed};
 
@@ -62,4 +64,14 @@ pub fn a_release_is_answered_by_success()
         (r : Result Reply Status) → IsSlotView before slots host last v →
         IsReleaseIn (log_since before v) q first second j l n → has_block slots l ≡ true →
         outcome (log_since before v) q Op.Pair first second ≡ Some r → r ≡ Ok Reply.Swapped }
+{}
+
+/// A release that this driver publishes, and that keeps the discipline where it stands, is of a name that its log believes
+/// there. So where it is a premise that releases keep the discipline, the log stays careful by them.
+pub fn a_release_that_keeps_the_discipline_is_believed()
+    ensures { (before : List PortEvent) (slots : Range) (host last : ℕ) (v : PortView) (q l first second : ℕ) (n : Name)
+        (batch : List Submission) → IsSlotView before slots host last v → IsName n →
+        IsReleaseBatch l first second n batch → has_block slots l ≡ true → completion_queue v.config q ≡ v.queue →
+        keeps_discipline v.config slots (entries v.seen) (record { queue = q; batch = batch }) ≡ true →
+        log_believed (log_since before v) l n ≡ true }
 {}

@@ -1,5 +1,5 @@
 use Rattle.std.proofs.Common.{refl}
-use Rattle.slot_calls.proofs.Areas.{careful_claim, careful_drawn, careful_outside, careful_release}
+use Rattle.slot_calls.proofs.Careful.{careful_claim, careful_drawn, careful_outside, careful_release}
 use Rattle.slot_calls.proofs.log_laws.a_log_stays_careful.Goals as goal
 
 pub returns : goal.returns
