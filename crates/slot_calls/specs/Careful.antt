@@ -13,7 +13,7 @@ use Rattle.slot_calls.specs.Swaps.{log_believed, log_swaps}
 abbrev pub serials_below : Range → ℕ → List PortEvent → Bool
 serials_below slots serial log = list_all (λ s. not s.claims || nat_lt s.name.serial serial) (in_area slots (log_swaps log))
 
--- it is one claim in the area, by this host and with a serial above all before, or one release there, of a name that is believed
+-- it is one claim in the area, by this host and with a serial above all before, or one release there, of a believed name
 abbrev pub is_careful_swap : Range → ℕ → List PortEvent → List Swap → Bool
 is_careful_swap slots host log (s ∷ []) =
     has_block slots s.lba

@@ -18,8 +18,8 @@ abbrev pub elsewhere_keeps : ConfigNumbers → Range → ℕ → Past → Bool
 elsewhere_keeps c slots n [] = true
 elsewhere_keeps c slots n (e ∷ past) = elsewhere_keeps c slots n past && (not (is_beside c n e) || keeps_at c slots past e)
 
--- The premises, of what was seen: only this driver uses its queues, which nobody used before; whoever uses others keeps the discipline of the slot
--- area; and nobody else claims under this host's number.
+-- The premises, of what was seen: only this driver uses its queues, which nobody used before; whoever uses others keeps
+-- the discipline of the slot area; and nobody else claims under this host's number.
 pub record IsSlotHost (before : List PortEvent) (slots : Range) (host : ℕ) (now : PortView) : Type 0 where
   pub alone : IsAlone before now
   pub elsewhere : elsewhere_keeps now.config slots now.queue (entries now.seen) ≡ true

@@ -15,8 +15,8 @@ ghost use Rattle.slot_calls.specs.Calls.{IsClaimBatch, IsClaimIn, IsName, IsRele
 ghost use Rattle.slot_calls.specs.Careful.{is_careful};
 ghost use Rattle.slot_calls.specs.Swaps.{log_believed, log_released};
 
-/// A log stays careful by whatever is reaped, by batches that touch no slot, by claims under serials above the last, and by
-/// releases of names that it believes.
+/// A log stays careful by whatever is reaped, by batches that touch no slot, by claims under serials above the last, and
+/// by releases of names that it believes.
 pub fn a_log_stays_careful()
     ensures empty { (slots : Range) (host last : ℕ) → is_careful slots host last [] ≡ true }
     ensures drawn { (slots : Range) (host last next : ℕ) (log : List PortEvent) → last ≤ next →
@@ -43,7 +43,8 @@ pub fn what_is_believed_stays()
     ensures outside { (slots : Range) (log : List PortEvent) (q : ℕ) (batch : List Submission) (l : ℕ) (n : Name) →
         list_any (touches slots) batch ≡ false → has_block slots l ≡ true → log_believed log l n ≡ true →
         log_believed (PortEvent.Sent q batch ∷ log) l n ≡ true }
-    ensures claim { (log : List PortEvent) (q k first second : ℕ) (m : Name) (batch : List Submission) (l : ℕ) (n : Name) →
+    ensures claim { (log : List PortEvent) (q k first second : ℕ) (m : Name) (batch : List Submission) (l : ℕ)
+        (n : Name) →
         IsName m → IsClaimBatch k first second m batch → log_believed log l n ≡ true →
         log_believed (PortEvent.Sent q batch ∷ log) l n ≡ true }
     ensures release { (log : List PortEvent) (q k first second : ℕ) (m : Name) (batch : List Submission) (l : ℕ)
@@ -51,14 +52,16 @@ pub fn what_is_believed_stays()
         log_believed log l n ≡ true → log_believed (PortEvent.Sent q batch ∷ log) l n ≡ true }
 {}
 
-/// Only the release of a name from a slot of the area releases it there; so a name under a serial above the last never was.
+/// Only the release of a name from a slot of the area releases it there; so a name under a serial above the last never
+/// was.
 pub fn a_log_releases_what_it_says()
     ensures got { (log : List PortEvent) (cqe payload : List ℕ) (l : ℕ) (n : Name) →
         log_released (PortEvent.Got cqe payload ∷ log) l n ≡ log_released log l n }
     ensures outside { (slots : Range) (log : List PortEvent) (q : ℕ) (batch : List Submission) (l : ℕ) (n : Name) →
         list_any (touches slots) batch ≡ false → has_block slots l ≡ true →
         log_released (PortEvent.Sent q batch ∷ log) l n ≡ log_released log l n }
-    ensures claim { (log : List PortEvent) (q k first second : ℕ) (m : Name) (batch : List Submission) (l : ℕ) (n : Name) →
+    ensures claim { (log : List PortEvent) (q k first second : ℕ) (m : Name) (batch : List Submission) (l : ℕ)
+        (n : Name) →
         IsName m → IsClaimBatch k first second m batch →
         log_released (PortEvent.Sent q batch ∷ log) l n ≡ log_released log l n }
     ensures release { (log : List PortEvent) (q k first second : ℕ) (m : Name) (batch : List Submission) (l : ℕ)
@@ -69,8 +72,8 @@ pub fn a_log_releases_what_it_says()
         log_released log l n ≡ false }
 {}
 
-/// The call whose batch was published just now is a claim, or a release, by the log, and it is so in each later log in which
-/// its CIDs still name it.
+/// The call whose batch was published just now is a claim, or a release, by the log, and it is so in each later log in
+/// which its CIDs still name it.
 pub fn a_call_is_in_its_log()
     ensures claim { (log : List PortEvent) (q l first second : ℕ) (n : Name) (batch : List Submission) → IsName n →
         IsClaimBatch l first second n batch →
