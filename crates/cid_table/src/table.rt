@@ -1,7 +1,7 @@
 //! The CIDs of several submission queues.
 
 ghost use Rattle.std.specs.List.Sorted.{IsStrictlyIncreasing};
-ghost use Rattle.std.specs.Prelude.{◌≡◌, ℕ, ◌+◌, ◌<◌, ◌≤◌, ◌*◌, ◌==◌, Contains, IfErr, IfNone, IfOk, IfSome, OnSome, position, replicate, slice_get};
+ghost use Rattle.std.specs.Prelude.{◌≡◌, ℕ, ◌+◌, ◌<◌, ◌≤◌, ◌*◌, ◌==◌, Contains, IfErr, IfNone, IfOk, IfSome, OnSome, position, replicate};
 ghost use Rattle.cid_table.specs.Cids.{AtMostOneFree, ChangesOnly, NoneFreeBelow, NoneFreeBetween, answered, held, payload_of, place_of, queues_of, status_of};
 
 use crate::held::Held;
@@ -65,12 +65,12 @@ impl CidTable {
         queues
     }
 
-    /// The submission queue with `k` lower ones in the table.
-    pub fn queue(&self, k: usize) -> Option<u16>
-        ensures value { result ≡ slice_get (queues_of self.now) k }
+    /// The submission queues, in rising order.
+    pub fn queues(&self) -> &[u16]
+        ensures value { result.now ≡ queues_of self.now }
         ensures law { IsStrictlyIncreasing (queues_of self.now) }
     {
-        self.queues.get(k).copied()
+        self.queues.as_slice()
     }
 
     /// The least free CID of a submission queue; None where all are in use, and of a queue that isn't in the table.

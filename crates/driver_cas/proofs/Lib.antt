@@ -3,3 +3,5 @@ pub mod Tables
 pub mod Drivers
 pub mod Sending
 pub mod Starting
+pub mod Passing
+pub mod Drawing

@@ -1,5 +1,5 @@
 -- A call after its Publish, and the others.
-use Rattle.std.proofs.Common.{◌≡◌, ℕ, true, false, ◌&&◌, ◌||◌, eqb, List, ◌∷◌, Some, refl, sym, ap, ap₂, ◌∙◌, subst, inl, inr, ◌⊎◌, eqb-true, length}
+use Rattle.std.proofs.Common.{◌≡◌, ℕ, true, false, ◌&&◌, ◌||◌, eqb, List, ◌∷◌, Some, refl, sym, ap, ap₂, ◌∙◌, subst, inl, inr, eqb-true, length}
 use Rattle.std.specs.List.{Contains}
 use Rattle.std.proofs.lemmas.Bool.{and_parts, cases_Bool, cond-true, cond-false, or_cases}
 use Rattle.std.specs.declared.snapshot.Snapshot.{Snapshot}
@@ -16,11 +16,10 @@ use Rattle.driver_calls.specs.declared.event.PortEvent.{PortEvent}
 use Rattle.driver_commands.specs.Entries.{IsBatch}
 use Rattle.driver_commands.specs.declared.request.CallData.{CallData}
 use Rattle.driver_cas.specs.Drivers.{IsApart, IsCallOf, IsSame, made, number_of}
-use Rattle.driver_cas.specs.Starts.{AreFree, IsAsBefore, IsPortFault, IsStarted, IsTaken, IsUntouched}
+use Rattle.driver_cas.specs.Starts.{AreFree, IsAsBefore, IsStarted, IsTaken, IsUntouched}
 use Rattle.driver_cas.specs.Tables.{IsHeld, is_free, is_its_cid}
 use Rattle.driver_cas.specs.declared.call.Call.{Call}
 use Rattle.driver_cas.specs.declared.driver.Driver.{Driver}
-use Rattle.driver_cas.specs.declared.fault.Fault.{Fault}
 use Rattle.driver_cas.specs.declared.port.Port.{Ghosts}
 use Rattle.driver_cas.proofs.Drivers.{own_first, own_second, reaped_calls, same_number}
 use Rattle.driver_cas.proofs.Sending.{batch_cids, other_call, sent_call}
@@ -61,10 +60,6 @@ taken_held old new o queue first second q i taken h = ap is_free (taken q i ∙ 
 kept_held : (old new : Cids) (o : Op) (queue first second q i : ℕ) → IsTaken old new o queue first second → AreFree old o queue first second → is_free (held old q i) ≡ false → is_free (held new q i) ≡ false
 kept_held old new o queue first second q i taken free h =
     ap is_free (taken q i ∙ cond-false (is_its_cid o queue first second q i) Held.Waiting (held old q i) (not_taken old o queue first second q i free h)) ∙ h
-
-pub port_fault : (f : Fault) → (f ≡ Fault.Busy) ⊎ (f ≡ Fault.NoMemory) → IsPortFault f
-port_fault f (inl e) = subst IsPortFault (sym e) tt
-port_fault f (inr e) = subst IsPortFault (sym e) tt
 
 module _ {P : Type 0} (g : Ghosts P) where
   -- what its Publish did

@@ -37,7 +37,15 @@ module _ {P : Type 0} {g : Ghosts P} where
   abbrev pub answer_to : Driver P g → Call P → Option (Result Reply Status)
   answer_to d k = outcome (made d) k.queue k.op k.first k.second
 
-  -- the driver's settings, and the last serial that it drew
+  -- the driver's settings
+  pub record HasSettings (d e : Driver P g) : Type 0 where
+    pub began : e.began ≡ d.began
+    pub host : e.host ≡ d.host
+    pub acwu : e.acwu ≡ d.acwu
+    pub slots : e.slots ≡ d.slots
+    pub queues : queues_of e.cids ≡ queues_of d.cids
+
+  -- and the last serial that it drew
   pub record IsSame (d e : Driver P g) : Type 0 where
     pub began : e.began ≡ d.began
     pub host : e.host ≡ d.host

@@ -6,3 +6,4 @@ pub mod Drivers
 pub mod Starts
 pub mod Tries
 pub mod Requests
+pub mod SlotStarts

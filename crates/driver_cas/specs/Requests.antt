@@ -6,7 +6,8 @@ use Rattle.nvme_model.specs.declared.array.Range.{Range}
 use Rattle.nvme_model.specs.declared.operation.Op.{Op}
 use Rattle.driver_commands.specs.declared.request.CallData.{CallData}
 use Rattle.driver_commands.specs.declared.request.Request.{Request}
-use Rattle.driver_cas.specs.Starts.{IsAsBefore, IsPortFault, IsStarted}
+use Rattle.driver_cas.specs.Starts.{IsAsBefore}
+use Rattle.driver_cas.specs.Tries.{IsBegun}
 use Rattle.driver_cas.specs.declared.call.Call.{Call}
 use Rattle.driver_cas.specs.declared.driver.Driver.{Driver}
 use Rattle.driver_cas.specs.declared.fault.Fault.{Fault}
@@ -31,5 +32,4 @@ module _ {P : Type 0} {g : Ghosts P} where
   -- nothing was published.
   abbrev pub IsStart : Driver P g → Driver P g → Result Request Fault → CallData → Result (Call P) Fault → Type 0
   IsStart d e (Err f) contents r = (r ≡ Err f) × IsAsBefore d e
-  IsStart d e (Ok q) contents (Ok k) = IsStarted d e k q.op q.slba q.blocks contents
-  IsStart d e (Ok q) contents (Err f) = IsAsBefore d e × IsPortFault f
+  IsStart d e (Ok q) contents r = IsBegun d e q contents r

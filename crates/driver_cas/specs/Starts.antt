@@ -12,7 +12,6 @@ use Rattle.driver_cas.specs.Drivers.{IsApart, IsCallOf, IsSame, made}
 use Rattle.driver_cas.specs.Tables.{is_its_cid}
 use Rattle.driver_cas.specs.declared.call.Call.{Call}
 use Rattle.driver_cas.specs.declared.driver.Driver.{Driver}
-use Rattle.driver_cas.specs.declared.fault.Fault.{Fault}
 use Rattle.driver_cas.specs.declared.port.Port.{Ghosts}
 
 -- Two CIDs that a call of this operation may use: both are free, and those of a pair are unlike. Of any other operation only the first counts.
@@ -32,13 +31,6 @@ IsTaken old new o queue first second =
 abbrev pub IsSent : List PortEvent → List PortEvent → Cids → Cids → Op → ℕ → ℕ → ℕ → List Submission → Type 0
 IsSent before after old new o queue first second batch =
     ((after ≡ PortEvent.Sent queue batch ∷ before) × IsTaken old new o queue first second) ⊎ ((after ≡ before) × (new ≡ old))
-
--- a fault that a port, or want of CIDs, is the cause of
-abbrev pub IsPortFault : Fault → Type 0
-IsPortFault Fault.RingFull = Unit {0}
-IsPortFault Fault.Busy = Unit {0}
-IsPortFault Fault.NoMemory = Unit {0}
-IsPortFault _ = ⊥
 
 module _ {P : Type 0} {g : Ghosts P} where
   -- nothing was published, and no CID is used otherwise

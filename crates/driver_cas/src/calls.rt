@@ -1,6 +1,7 @@
 //! Starting a call.
 
-ghost use Rattle.std.specs.Prelude.{[], ◌*◌, ◌+◌, ◌≡◌, ◌≤◌, length};
+ghost use Rattle.std.specs.Prelude.{[], ◌*◌, ◌+◌, ◌≡◌, ◌≤◌, All, false, length};
+ghost use Rattle.cid_table.specs.Cids.{queues_of};
 ghost use Rattle.driver_commands.specs.Entries.{entry_count};
 ghost use Rattle.driver_commands.specs.declared.request.CallData.{CallData};
 ghost use Rattle.nvme_model.specs.Array.{overlap as overlap_of};
@@ -9,9 +10,10 @@ ghost use Rattle.nvme_model.specs.declared.operation.Op.{Op};
 ghost use Rattle.std.specs.Prelude.{Some};
 ghost use Rattle.driver_cas.specs.Drivers.{IsSame};
 ghost use Rattle.driver_cas.specs.Requests.{IsStart, pair_request_of, request_of};
+ghost use Rattle.driver_cas.specs.Tries.{HasTooFew, IsBegun};
 
 use crate::call::Call;
-use crate::driver::{Driver, QUEUES};
+use crate::driver::Driver;
 use crate::fault::Fault;
 use crate::port::Port;
 use crate::start::free_cids;
@@ -66,12 +68,11 @@ fn request(acwu: u16, slots: Range, op: Op, slba: u64, bytes: usize) -> Result<R
 
 impl<P: Port> Driver<P> {
     // Whether one of the submission queues has CIDs for a call of this operation.
-    fn has_free(&self, op: Op) -> bool {
-        for k in 0..QUEUES {
-            let Some(queue) = self.cids.queue(k) else {
-                return false;
-            };
-            if free_cids(&self.cids, queue, op).is_some() {
+    fn has_free(&self, op: Op) -> bool
+        ensures none { result ≡ false → All (HasTooFew self.now.cids op) (queues_of self.now.cids) }
+    {
+        for queue in self.cids.queues() {
+            if free_cids(&self.cids, *queue, op).is_some() {
                 return true;
             }
         }
@@ -183,6 +184,22 @@ impl<P: Port> Driver<P> {
             return Err(Fault::Length);
         }
         let request = request(self.acwu, self.slots, Op::Pair, slba, expected.len())?;
+        self.start_pair(request, expected, desired)
+    }
+
+    /// Begins a fused pair, with copies of these data: that of its Compare, and that of its Write.
+    pub(crate) fn start_pair(
+        &mut self,
+        request: Request,
+        expected: &[u8],
+        desired: &[u8],
+    ) -> Result<Call<P>, Fault>
+        requires pair { request.op ≡ Op.Pair }
+        requires blocks { (1 ≤ request.blocks) × (request.blocks ≤ 65536) }
+        ensures same { IsSame self.old self.new }
+        ensures later { P.follows self.old.port self.new.port }
+        ensures is { IsBegun self.old self.new request (CallData.Two expected.now desired.now) result }
+    {
         if !self.has_free(Op::Pair) {
             return Err(Fault::RingFull);
         }

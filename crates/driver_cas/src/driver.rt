@@ -13,9 +13,6 @@ use nvme_model::array::Range;
 use std::alloc::{AllocError as NoMemory, Global};
 use std::snapshot::Snapshot;
 
-// No table has more submission queues: their numbers have 16 bits.
-pub(crate) const QUEUES: usize = 65_536;
-
 /// A driver of one port, on submission queues of it.
 #[derive(Drop)]
 pub struct Driver<P: Port> {

@@ -3,6 +3,7 @@
 
 mod call;
 mod calls;
+mod claims;
 mod driver;
 mod fault;
 mod poll;

@@ -1,16 +1,16 @@
 //! Publishing the entries of a call.
 
-ghost use Rattle.std.specs.Prelude.{[], ◌∷◌, ◌≡◌, ◌≤◌, ◌<◌, Contains, IfErr, IfOk, IfSome, OnSome, length, true, vec_capacity};
+ghost use Rattle.std.specs.Prelude.{[], ◌∷◌, ◌≡◌, ◌≤◌, ◌<◌, Contains, IfErr, IfNone, IfOk, IfSome, OnSome, length, true, vec_capacity};
 ghost use Rattle.driver_commands.specs.Entries.{entry_count, payloads_of};
 ghost use Rattle.driver_cas.specs.Drivers.{IsSame};
-ghost use Rattle.driver_cas.specs.Tries.{IsNotSent, IsTried};
+ghost use Rattle.driver_cas.specs.Tries.{HasTooFew, IsBegun, IsNotSent, IsTried};
 ghost use Rattle.cid_table.specs.Cids.{queues_of};
 ghost use Rattle.driver_calls.specs.declared.event.PortEvent.{PortEvent};
 ghost use Rattle.driver_cas.specs.declared.fault.PortFault.{PortFault};
-ghost use Rattle.driver_cas.specs.Starts.{AreFree, IsAsBefore, IsPortFault, IsSent, IsStarted, IsTaken};
+ghost use Rattle.driver_cas.specs.Starts.{AreFree, IsSent, IsTaken};
 
 use crate::call::Call;
-use crate::driver::{Driver, QUEUES};
+use crate::driver::Driver;
 use crate::fault::{Fault, PortFault};
 use crate::port::Port;
 use cid_table::{CidTable, TwoCids};
@@ -33,6 +33,7 @@ pub(crate) enum Tried<P> {
 pub(crate) fn free_cids(cids: &CidTable, queue: u16, op: Op) -> Option<TwoCids>
     ensures known { OnSome result (Contains (queues_of cids.now) queue) }
     ensures free { IfSome result (λ two. AreFree cids.now op queue two.first two.second) }
+    ensures none { IfNone result (Contains (queues_of cids.now) queue → HasTooFew cids.now op queue) }
 {
     if op == Op::Pair {
         return cids.free_two(queue);
@@ -150,15 +151,12 @@ impl<P: Port> Driver<P> {
         requires room { (room.items ≡ []) × (entry_count request.op ≤ vec_capacity room) }
         ensures same { IsSame self.old self.new }
         ensures later { P.follows self.old.port self.new.port }
-        ensures started { IfOk result (λ k. IsStarted self.old self.new k request.op request.slba request.blocks contents) }
-        ensures fault { IfErr result (λ f. IsAsBefore self.old self.new × IsPortFault f) }
+        ensures is { IsBegun self.old self.new request contents result }
     {
         let mut contents = contents;
         let mut room = room;
-        for k in 0..QUEUES {
-            let Some(queue) = self.cids.queue(k) else {
-                return Err(Fault::RingFull);
-            };
+        for k in 0..self.cids.queues().len() {
+            let queue = self.cids.queues()[k];
             let Some(two) = free_cids(&self.cids, queue, request.op) else {
                 continue;
             };

@@ -1,2 +1,3 @@
 pub mod Commands
 pub mod Calls
+pub mod Bytes

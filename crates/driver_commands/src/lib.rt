@@ -4,8 +4,10 @@
 mod batch;
 pub mod laws;
 mod request;
+mod slot;
 #[cfg(test)]
 mod tests;
 
 pub use batch::{batch_of, copy_of, room_for, taken_back};
 pub use request::{CallData, Request};
+pub use slot::slot_block;

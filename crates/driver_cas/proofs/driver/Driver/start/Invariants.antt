@@ -1,8 +1,15 @@
 use Rattle.std.proofs.Common.{[], ◌≡◌, ◌≤◌, vec_capacity}
 use Rattle.driver_commands.specs.Entries.{entry_count}
 use Rattle.driver_cas.specs.Starts.{IsUntouched}
+use Rattle.driver_cas.proofs.Passing.{PassedBelow}
 use Rattle.driver_cas.proofs.driver.Driver.start.Given as goal
 
+-- nothing was published, and the queues so far didn't take the entries
 abbrev pub invariant-loop-k : goal.invariant-loop-k
-invariant-loop-k g l =
-    IsUntouched l.fn.self l.self × (l.contents ≡ l.fn.contents) × (l.room.items ≡ []) × (entry_count l.fn.request.op ≤ vec_capacity l.room)
+invariant-loop-k g l = record {
+  untouched : IsUntouched l.fn.self l.self;
+  contents : l.contents ≡ l.fn.contents;
+  empty : l.room.items ≡ [];
+  capacity : entry_count l.fn.request.op ≤ vec_capacity l.room;
+  passed : PassedBelow g.P.Port l.fn.self l.self l.fn.request l.fn.contents l.k;
+}

@@ -1,0 +1,69 @@
+//! Starting to claim and to release a slot, for an allocator of slots.
+
+ghost use Rattle.std.specs.Prelude.{◌≡◌, true};
+ghost use Rattle.nvme_model.specs.Array.{has_block};
+ghost use Rattle.driver_cas.specs.Drivers.{HasSettings, IsSame};
+ghost use Rattle.driver_cas.specs.SlotStarts.{IsClaimStart, IsReleaseStart, swap_request};
+
+use crate::call::Call;
+use crate::driver::Driver;
+use crate::fault::Fault;
+use crate::port::Port;
+use driver_commands::{Request, slot_block};
+use nvme_model::operation::Op;
+
+// The block of a slot that nobody holds.
+const ZEROS: [u8; 512] = [0; 512];
+
+// A fused pair on one block.
+fn swap(lba: u64) -> Request
+    ensures { result ≡ swap_request lba }
+{
+    Request {
+        op: Op::Pair,
+        slba: lba,
+        blocks: 1,
+    }
+}
+
+impl<P: Port> Driver<P> {
+    /// Begins to claim the slot at block `lba`: to swap zeros for the name of this driver's host and its next serial, which
+    /// is given beside the call.
+    ///
+    /// # Errors
+    ///
+    /// The first that holds: `NoSerial` where the driver has drawn the last; `RingFull` where too few CIDs are free;
+    /// `NoMemory`; then what the port answers. Nothing was published, and no serial is used up.
+    pub fn start_claim(&mut self, lba: u64) -> Result<(Call<P>, u64), Fault>
+        requires inside { has_block self.old.slots lba ≡ true }
+        ensures settings { HasSettings self.old self.new }
+        ensures later { P.follows self.old.port self.new.port }
+        ensures is { IsClaimStart self.old self.new lba result }
+    {
+        if self.serial == u64::MAX {
+            return Err(Fault::NoSerial);
+        }
+        let serial = self.serial + 1;
+        let name = slot_block(self.host, serial);
+        let call = self.start_pair(swap(lba), &ZEROS, &name)?;
+        self.serial = serial;
+        Ok((call, serial))
+    }
+
+    /// Begins to release the slot at block `lba`: to swap the name of this driver's host and this serial for zeros. That
+    /// nobody but who holds a slot releases it is for the caller to see.
+    ///
+    /// # Errors
+    ///
+    /// The first that holds: `RingFull` where too few CIDs are free; `NoMemory`; then what the port answers. Nothing was
+    /// published.
+    pub fn start_release(&mut self, lba: u64, serial: u64) -> Result<Call<P>, Fault>
+        requires inside { has_block self.old.slots lba ≡ true }
+        ensures same { IsSame self.old self.new }
+        ensures later { P.follows self.old.port self.new.port }
+        ensures is { IsReleaseStart self.old self.new lba serial result }
+    {
+        let name = slot_block(self.host, serial);
+        self.start_pair(swap(lba), &name, &ZEROS)
+    }
+}
