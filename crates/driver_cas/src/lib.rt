@@ -5,6 +5,8 @@ mod call;
 mod calls;
 mod driver;
 mod fault;
+mod listen;
+mod messages;
 mod poll;
 mod port;
 mod shared_port;
