@@ -2,10 +2,11 @@
 
 ghost use Rattle.std.specs.Prelude.{◌≡◌, ◌*◌, ◌-◌, ◌≤◌, ◌∷◌, drop, get_or, length, option_to_list, take};
 ghost use Rattle.nvme_model.specs.Array.{zeros};
-ghost use Rattle.nvme_model.specs.Operations.{compare_data, has_compare, has_write, op, op_of_fields, write_data};
+ghost use Rattle.nvme_model.specs.Operations.{compare_data, has_compare, has_write, mode, op, op_of_fields, write_data};
 ghost use Rattle.nvme_model.specs.Tickets.{cids, command, first_fields};
 
 use entry_codec::{Sqe, decode_sqe};
+use nvme_model::array::Mode;
 use nvme_model::operation::Op;
 use nvme_model::status::Verdict;
 use nvme_model::submission::Submission;
@@ -105,6 +106,17 @@ impl Commands {
             Verdict::Single => op_of_fields(&self.first_fields()),
             Verdict::Pair => Some(Op::Pair),
             Verdict::SingleFailed(_) | Verdict::PairFailed(_, _) => None,
+        }
+    }
+
+    /// How its units hold their blocks.
+    pub fn mode(&self) -> Mode
+        ensures value { result ≡ mode self.now }
+    {
+        if has_write(self.op()) {
+            Mode::Exclusive
+        } else {
+            Mode::Shared
         }
     }
 

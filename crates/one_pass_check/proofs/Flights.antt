@@ -1,7 +1,7 @@
 -- The tickets in flight, as a table.
-use Rattle.std.proofs.Common.{◌≡◌, ◌≢◌, ℕ, zero, suc, ◌≤◌, ◌<◌, ◌==◌, ◌||◌, Bool, true, false, not, cond, List, [], ◌∷◌, ◌++◌, get_or, length, map, set, slice_get, Option, Some, None, refl, sym, ap, ap₂, ◌∙◌, subst, inl, inr, arith, eqb-true, nat_lt}
+use Rattle.std.proofs.Common.{◌≡◌, ◌≢◌, ℕ, zero, suc, ◌<◌, ◌==◌, ◌||◌, Bool, true, false, not, cond, List, [], ◌∷◌, ◌++◌, get_or, length, map, set, slice_get, Option, Some, None, refl, sym, ap, ap₂, ◌∙◌, subst, arith, eqb-true, nat_lt}
 use Rattle.std.specs.List.{filter, list_any, position, position_or_len}
-use Rattle.std.proofs.lemmas.Bool.{cases_Bool, eqb-false}
+use Rattle.std.proofs.lemmas.Bool.{eqb-false}
 use Rattle.std.proofs.lemmas.Bool.Decides.{nat_tests}
 use Rattle.std.proofs.lemmas.List.{map-append}
 use Rattle.std.proofs.lemmas.List.Quantifiers.{position-Some}
@@ -67,6 +67,12 @@ set_place g h (u ∷ us) (suc i) t x r s e o =
     let below : u < t = each_get (λ v. u < v) us i t r.0 s in
     ap₂ (λ (y : InFlight) (ys : List InFlight). y ∷ ys) (sym (o u (λ q. omega (arith, q, below)))) (set_place g h us i t x r.1 s e o)
 
+-- the same at its place
+pub set_same : (xs : List InFlight) (i : ℕ) (x : InFlight) → i < length xs → x ≡ get_or xs i x → set xs i x ≡ xs
+set_same [] i x l e = absurd (omega (arith, l))
+set_same (y ∷ ys) zero x l e = ap (λ (z : InFlight). z ∷ ys) e
+set_same (y ∷ ys) (suc i) x l e = ap (λ (zs : List InFlight). y ∷ zs) (set_same ys i x (omega (arith, l)) e)
+
 -- one fewer
 pub less_one : (g h : ℕ → InFlight) (ts : List ℕ) (t : ℕ) → IsOwn g → ((u : ℕ) → u ≢ t → h u ≡ g u) → filter (λ (e : InFlight). not (e.ticket == t)) (map g ts) ≡ map h (filter (λ u. not (u == t)) ts)
 less_one g h [] t o s = refl
@@ -123,3 +129,6 @@ module _ (c : ConfigNumbers) (past : Past) (k : Kept) (keeps : Keeps c past k) (
 
   pub found_by : (i : ℕ) (x : InFlight) (xs : List InFlight) (o : Option ℕ) → xs ≡ k.flights → o ≡ position (λ (e : InFlight). e.ticket == t) xs → o ≡ Some i → x ≡ get_or k.flights i x → IsThere c past t i x
   found_by i x xs o same by e at = found i x (ap (position (λ (e : InFlight). e.ticket == t)) (sym same) ∙ sym by ∙ e) at
+
+  pub placed_by : (i : ℕ) (xs : List InFlight) (o : Option ℕ) → xs ≡ k.flights → o ≡ position (λ (e : InFlight). e.ticket == t) xs → o ≡ Some i → i < length k.flights
+  placed_by i xs o same by e = placed i (ap (position (λ (e : InFlight). e.ticket == t)) (sym same) ∙ sym by ∙ e)

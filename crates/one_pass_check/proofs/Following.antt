@@ -1,5 +1,5 @@
 -- Whether an entry may follow.
-use Rattle.std.proofs.Common.{◌≡◌, ℕ, ◌&&◌, Bool, true, false, not, cond, ◌∷◌, Option, Some, None, is_none, refl, sym, ◌∙◌}
+use Rattle.std.proofs.Common.{◌≡◌, ◌&&◌, Bool, true, false, not, cond, ◌∷◌, Option, Some, is_none, refl, sym, ◌∙◌}
 use Rattle.std.proofs.lemmas.Bool.{and_from}
 use Rattle.checker_tables.specs.Judged.{judged}
 use Rattle.checker_tables.specs.Tables.{tables}

@@ -1,11 +1,10 @@
 -- What a Grant finds, and what is kept after it.
-use Rattle.std.proofs.Common.{◌≡◌, ◌≢◌, ℕ, zero, suc, ◌≤◌, ◌<◌, ◌^◌, ◌==◌, ◌&&◌, ◌||◌, Bool, true, false, not, cond, List, [], ◌∷◌, length, map, set, slice_get, Option, Some, None, is_none, is_some, nat_le, refl, sym, ap, ap₂, ◌∙◌, subst, arith, ne_eqb, eq-eqb}
+use Rattle.std.proofs.Common.{◌≡◌, ◌≢◌, ℕ, zero, suc, ◌<◌, ◌^◌, ◌==◌, ◌&&◌, ◌||◌, Bool, true, false, not, cond, List, [], ◌∷◌, length, map, set, slice_get, Option, Some, None, is_none, is_some, nat_le, refl, sym, ap, ◌∙◌, subst, arith, ne_eqb, eq-eqb}
 use Rattle.std.specs.Bool.{beq}
-use Rattle.std.specs.List.{list_any}
 use Rattle.std.proofs.lemmas.Bool.Decides.{nat_tests}
 use Rattle.checker_tables.specs.Judged.{conflicts_by, flies, judged}
 use Rattle.checker_tables.specs.Tables.{Flight, Tables, flight, tables}
-use Rattle.checker_tables.specs.Taken.{opened_flight, taken, with_flight}
+use Rattle.checker_tables.specs.Taken.{opened_flight, taken}
 use Rattle.nvme_model.specs.History.{Past}
 use Rattle.nvme_model.specs.Legal.{IsLegal, is_range}
 use Rattle.nvme_model.specs.Open.{conflict, open_units}
@@ -26,7 +25,7 @@ use Rattle.range_reserve.proofs.Granted.{has_conflict-map, has_ticket-map}
 use Rattle.range_reserve.proofs.Rising.{list_any-by_ticket}
 use Rattle.ticket_standing.specs.Standing.{flying}
 use Rattle.ticket_standing.proofs.Flying.{flying_rises}
-use Rattle.one_pass_check.specs.Kept.{Keeps, Kept, Shows, flight_in}
+use Rattle.one_pass_check.specs.Kept.{Keeps, Kept, flight_in}
 use Rattle.one_pass_check.specs.Steps.{Took, grant_by}
 use Rattle.one_pass_check.specs.declared.fields.InFlight.{InFlight}
 use Rattle.one_pass_check.proofs.Bounds.{has_op, opened_few, unit_range_is}

@@ -3,6 +3,9 @@ pub mod Flights
 pub mod Following
 pub mod Bounds
 pub mod Publishing
+pub mod Fetching
 pub mod Granting
+pub mod Blocking
 pub mod Posting
 pub mod Reaping
+pub mod Standing

@@ -1,5 +1,5 @@
 -- What a Post finds, and what is kept after it.
-use Rattle.std.proofs.Common.{◌≡◌, ◌≢◌, ℕ, zero, suc, ◌+◌, ◌-◌, ◌%◌, ◌/◌, ◌≤◌, ◌<◌, ◌^◌, ◌==◌, ◌&&◌, Bool, true, false, not, cond, List, [], ◌∷◌, ◌++◌, length, get_or, map, replicate, set, slice_get, Option, Some, None, is_none, refl, sym, ap, ap₂, ◌∙◌, subst, arith, eqb, eq-eqb, ne_eqb, ltb-true, ltb-false, nat_lt, add-one}
+use Rattle.std.proofs.Common.{◌≡◌, ◌≢◌, ℕ, zero, suc, ◌+◌, ◌-◌, ◌%◌, ◌/◌, ◌≤◌, ◌<◌, ◌^◌, ◌==◌, ◌&&◌, Bool, true, false, not, cond, List, [], ◌∷◌, ◌++◌, length, get_or, map, replicate, set, slice_get, Some, None, is_none, refl, sym, ap, ◌∙◌, subst, arith, eqb, eq-eqb, ne_eqb, ltb-true, ltb-false, nat_lt, add-one}
 use Rattle.std.specs.List.{filter}
 use Rattle.std.proofs.lemmas.Bool.{or_parts}
 use Rattle.std.proofs.lemmas.List.{append-nil, length-map, length-replicate, length_push, map-append}
@@ -7,7 +7,7 @@ use Rattle.std.proofs.Math.Nat.{mod-lt}
 use Rattle.checked_tickets.specs.Contents.{post_fits_at}
 use Rattle.checked_tickets.proofs.Posting.{by_rings}
 use Rattle.checker_tables.specs.Judged.{flies, judged, owed_by, owes_nothing, post_fits_by}
-use Rattle.checker_tables.specs.Tables.{Flight, Tables, flight, tables}
+use Rattle.checker_tables.specs.Tables.{Flight, flight, tables}
 use Rattle.checker_tables.specs.Taken.{flies_on, posted_flight, taken}
 use Rattle.entry_codec.specs.Cqe.{phase_bit}
 use Rattle.nvme_model.specs.Completions.{phase}
@@ -21,7 +21,6 @@ use Rattle.nvme_model.specs.declared.config.ConfigNumbers.{ConfigNumbers}
 use Rattle.nvme_model.specs.declared.entry.Entry.{Entry}
 use Rattle.nvme_model.specs.declared.entry.PostLine.{PostLine}
 use Rattle.nvme_model.specs.declared.refusal.Why.{Why}
-use Rattle.nvme_model.specs.declared.status.Status.{Status}
 use Rattle.nvme_model.proofs.NextPost.{commands_few}
 use Rattle.nvme_model.proofs.Rules.{follows, none_holds}
 use Rattle.rings.specs.Completions.{Completed, CompletionRing, ShowsCompleted, is_full, posted_ring}
@@ -31,7 +30,7 @@ use Rattle.rings.proofs.Counts.{completed_more}
 use Rattle.ticket_standing.specs.Standing.{flying}
 use Rattle.ticket_standing.proofs.Counts.{taken_some}
 use Rattle.ticket_standing.proofs.Flying.{flying_rises}
-use Rattle.one_pass_check.specs.Kept.{Keeps, Kept, Shows, flight_in}
+use Rattle.one_pass_check.specs.Kept.{Keeps, Kept, flight_in}
 use Rattle.one_pass_check.specs.Rings.{bare, completion_ring, submission_ring}
 use Rattle.one_pass_check.specs.Steps.{Took}
 use Rattle.one_pass_check.specs.declared.fields.InFlight.{InFlight}

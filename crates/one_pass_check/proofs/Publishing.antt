@@ -1,5 +1,5 @@
 -- What a Publish finds, and what is kept after it.
-use Rattle.std.proofs.Common.{◌≡◌, ◌≢◌, ℕ, suc, ◌+◌, ◌<◌, ◌&&◌, Bool, true, false, cond, List, [], ◌++◌, get_or, set, Option, Some, None, is_none, refl, sym, ap, ◌∙◌, subst, arith, eq-eqb, ne_eqb}
+use Rattle.std.proofs.Common.{◌≡◌, ◌≢◌, ℕ, suc, ◌&&◌, Bool, true, false, cond, List, [], ◌++◌, get_or, set, Option, Some, None, is_none, refl, sym, ap, ◌∙◌, arith, eq-eqb, ne_eqb}
 use Rattle.std.proofs.lemmas.List.{append-nil}
 use Rattle.checker_tables.specs.Judged.{judged}
 use Rattle.checker_tables.specs.Tables.{Tables, tables}
@@ -12,7 +12,7 @@ use Rattle.nvme_model.specs.declared.entry.PublishLine.{PublishLine}
 use Rattle.nvme_model.specs.declared.refusal.Why.{Why}
 use Rattle.nvme_model.specs.declared.submission.Submission.{Submission}
 use Rattle.rings.specs.Submissions.{SubmissionRing, batch_fault}
-use Rattle.one_pass_check.specs.Kept.{Keeps, Kept, Shows}
+use Rattle.one_pass_check.specs.Kept.{Keeps, Kept}
 use Rattle.one_pass_check.specs.Rings.{submission_ring}
 use Rattle.one_pass_check.specs.Steps.{Took}
 use Rattle.one_pass_check.proofs.Rings.{IsPlace, IsTable-set, apart, ring_at, there}

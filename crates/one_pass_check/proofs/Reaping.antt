@@ -1,12 +1,11 @@
 -- What a Reap finds, and what is kept after it.
-use Rattle.std.proofs.Common.{◌≡◌, ◌≢◌, ℕ, suc, ◌+◌, ◌<◌, ◌&&◌, ◌==◌, Bool, true, false, cond, List, [], ◌∷◌, drop, get_or, length, map, set, slice_get, Option, Some, None, bytes_eq, is_none, refl, sym, ap, ◌∙◌, subst, arith, eq-eqb, ne_eqb}
+use Rattle.std.proofs.Common.{◌≡◌, ◌≢◌, ℕ, suc, ◌&&◌, ◌==◌, Bool, true, false, cond, List, [], ◌∷◌, drop, get_or, length, map, set, slice_get, Some, None, bytes_eq, is_none, refl, sym, ap, ◌∙◌, arith, eq-eqb, ne_eqb}
 use Rattle.std.proofs.lemmas.List.{drop-map}
 use Rattle.checker_tables.specs.Judged.{judged}
-use Rattle.checker_tables.specs.Tables.{Tables, tables}
+use Rattle.checker_tables.specs.Tables.{tables}
 use Rattle.checker_tables.specs.Taken.{taken}
 use Rattle.nvme_model.specs.History.{Past}
 use Rattle.nvme_model.specs.Legal.{is_cqe}
-use Rattle.nvme_model.specs.Refusals.{no_completion_queue}
 use Rattle.nvme_model.specs.declared.config.ConfigNumbers.{ConfigNumbers}
 use Rattle.nvme_model.specs.declared.entry.Entry.{Entry}
 use Rattle.nvme_model.specs.declared.entry.PostLine.{PostLine}
@@ -14,7 +13,7 @@ use Rattle.nvme_model.specs.declared.entry.ReapLine.{ReapLine}
 use Rattle.nvme_model.specs.declared.refusal.Why.{Why}
 use Rattle.rings.specs.Completions.{CompletionRing}
 use Rattle.rings.specs.declared.completion_ring.Completion.{Completion}
-use Rattle.one_pass_check.specs.Kept.{Keeps, Kept, Shows}
+use Rattle.one_pass_check.specs.Kept.{Keeps, Kept}
 use Rattle.one_pass_check.specs.Rings.{bare, completion_ring}
 use Rattle.one_pass_check.specs.Steps.{Took}
 use Rattle.one_pass_check.proofs.Rings.{IsPlace, IsTable-set, apart, ring_at, there}

@@ -1,5 +1,5 @@
 -- Lists as tables, and the rings of queues that are there.
-use Rattle.std.proofs.Common.{◌≡◌, ◌≢◌, ℕ, suc, ◌+◌, ◌≤◌, ◌<◌, ◌==◌, ◌||◌, Bool, true, false, cond, List, length, get_or, set, replicate, sym, ap, ◌∙◌, inl, inr, arith, nat_lt, ne_eqb}
+use Rattle.std.proofs.Common.{◌≡◌, ◌≢◌, ℕ, suc, ◌+◌, ◌≤◌, ◌<◌, ◌==◌, ◌||◌, false, List, length, get_or, set, replicate, sym, ap, ◌∙◌, inl, inr, arith, nat_lt, ne_eqb}
 use Rattle.std.proofs.lemmas.Bool.{cases_eq, or_from}
 use Rattle.std.proofs.lemmas.Bool.Decides.{nat_tests}
 use Rattle.std.proofs.lemmas.List.{get_or-set_same, get_or-set_other, length-set, length-replicate, get_or-replicate}
@@ -49,3 +49,7 @@ ring_at f n q i xs x t p e =
 -- another ring is of another queue
 pub apart : (n q i k : ℕ) → IsPlace n q i → k ≢ i → q ≢ suc k
 apart n q i k p ne e = ne (omega (arith, e, p.next))
+
+-- one ring is at one place
+pub one_ring : {X : Type 0} (f : ℕ → X) (n q i : ℕ) (xs : List X) (x y : X) → IsTable (λ k. f (suc k)) n xs → IsPlace n q i → x ≡ get_or xs i x → y ≡ get_or xs i y → x ≡ y
+one_ring f n q i xs x y t p e h = ring_at f n q i xs x t p e ∙ sym (ring_at f n q i xs y t p h)

@@ -1,6 +1,6 @@
 -- What one more entry makes of what is kept.
 use Rattle.std.specs.Bool.{beq}
-use Rattle.std.specs.Prelude.{Bool, List, None, Option, Some, [], false, if◌then◌else◌, is_some, not, true, ℕ, ◌&&◌, ◌+◌, ◌==◌, ◌||◌, ◌∷◌, ◌≡◌, ◌≤◌}
+use Rattle.std.specs.Prelude.{Bool, List, None, Option, Some, [], false, is_some, not, true, ◌&&◌, ◌+◌, ◌==◌, ◌||◌, ◌∷◌, ◌≡◌, ◌≤◌}
 use Rattle.checker_tables.specs.Judged as rules
 use Rattle.checker_tables.specs.Tables.{tables}
 use Rattle.checker_tables.specs.Tables.{Flight}

@@ -65,11 +65,7 @@ fn grant_fits(one: &InFlight, ranges: &Ranges, line: &GrantLine) -> bool
 /// # Errors
 ///
 /// `NoMemory` where a growth is refused; nothing has changed.
-pub fn take_grant(
-    alloc: Global,
-    fields: &mut Fields,
-    line: &GrantLine,
-) -> Result<bool, NoMemory>
+pub fn take_grant(alloc: Global, fields: &mut Fields, line: &GrantLine) -> Result<bool, NoMemory>
     requires keeps { (c : ConfigNumbers) × (past : Past) × Keeps c past (kept_in fields.old) }
     ensures took { (c : ConfigNumbers) (past : Past) → Keeps c past (kept_in fields.old) → IfOk result (λ b. Took c past (Entry.Grant line.now) b (kept_in fields.new)) }
     ensures err { OnErr result (kept_in fields.new ≡ kept_in fields.old) }

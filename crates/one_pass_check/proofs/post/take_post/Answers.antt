@@ -1,4 +1,4 @@
-use Rattle.std.proofs.Common.{List, ap, arith, get_or, length, set, slice_get, subst, sym, true, ℕ, ◌%◌, ◌-◌, ◌∙◌, ◌≡◌}
+use Rattle.std.proofs.Common.{List, ap, arith, get_or, length, set, slice_get, subst, sym, true, ℕ, ◌%◌, ◌-◌, ◌∙◌}
 use Rattle.checker_tables.specs.Tables.{Flight}
 use Rattle.checker_tables.specs.Taken.{posted_flight}
 use Rattle.nvme_model.specs.Tickets.{Ticket}
@@ -96,7 +96,7 @@ returns-then-flies_on c = record {
       let count = post_count _ past _ k c.args.line.now c.in-Some.place c.index-one.result.now there _ (ap length c.as_slice-2.ensures) in
       let owes = sym (c.owes_nothing.ensures.value c.args.config.now count) ∙ c.if-owes_nothing.false in
       let fits = (λ i. post_fits_at (sym c.head-head.ensures.value i) (phase_bit ((ap (λ (r : CompletionRing). r.phase) same ∙ sym c.phase-phase.ensures.value) i)) c.index-one.result.now.flight c.args.line.now (slice_get (owed_by c.args.config.now c.index-one.result.now.flight) c.index-one.result.now.flight.posts))
-          ∙ sym (c.post_fits.ensures.value c.args.config.now count) ∙ c.if-not-post_fits.false in
+      ∙ sym (c.post_fits.ensures.value c.args.config.now count) ∙ c.if-not-post_fits.false in
       let more = c.in-Ok.ensures.ok ∙ ap (λ (xs : List ℕ). posted_ring c.index_mut.result.now (record { cqe = c.args.line.now.cqe; payload = xs })) (c.new-nothing.ensures ∙ c.new.ensures.items) in
       let here = found_by _ past _ k c.args.line.now.ticket c.in-Some.place c.index_mut-then-flies_on.result.now _ _ c.as_slice.ensures.value c.ticket_place.ensures.value c.in-Some.is c.index_mut-then-flies_on.ensures.value in
       let fs = set c.args.fields.now.flights.items c.in-Some.place (record { ticket = c.index_mut-then-flies_on.result.now.ticket; flight = c.post-then-flies_on.new.self; units = c.index_mut-then-flies_on.result.now.units }) in
@@ -119,7 +119,7 @@ returns c = record {
       let count = post_count _ past _ k c.args.line.now c.in-Some.place c.index-one.result.now there _ (ap length c.as_slice-2.ensures) in
       let owes = sym (c.owes_nothing.ensures.value c.args.config.now count) ∙ c.if-owes_nothing.false in
       let fits = (λ i. post_fits_at (sym c.head-head.ensures.value i) (phase_bit ((ap (λ (r : CompletionRing). r.phase) same ∙ sym c.phase-phase.ensures.value) i)) c.index-one.result.now.flight c.args.line.now (slice_get (owed_by c.args.config.now c.index-one.result.now.flight) c.index-one.result.now.flight.posts))
-          ∙ sym (c.post_fits.ensures.value c.args.config.now count) ∙ c.if-not-post_fits.false in
+      ∙ sym (c.post_fits.ensures.value c.args.config.now count) ∙ c.if-not-post_fits.false in
       let more = c.in-Ok.ensures.ok ∙ ap (λ (xs : List ℕ). posted_ring c.index_mut.result.now (record { cqe = c.args.line.now.cqe; payload = xs })) (c.new-nothing.ensures ∙ c.new.ensures.items) in
       subst (λ (n : ℕ). Took c.args.config.now past (Entry.Post c.args.line.now) true (record (kept_in c.args.fields.now) { completion = set c.args.fields.now.completion.items n c.post.new.self; flights = c.remove_ticket.new.flights.items })) (sym at)
       (post_off _ past _ k c.args.line.now c.in-Some.place c.index-one.result.now there c.index.result.now c.index_mut.result.now sq own owes fits c.in-Ok.ensures.room c.post.new.self more _

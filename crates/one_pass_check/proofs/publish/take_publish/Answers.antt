@@ -1,4 +1,4 @@
-use Rattle.std.proofs.Common.{ap, arith, length, sym, ◌∙◌}
+use Rattle.std.proofs.Common.{arith, ◌∙◌}
 use Rattle.one_pass_check.proofs.Publishing.{publish_no, publish_yes}
 use Rattle.one_pass_check.proofs.publish.take_publish.Goals as goal
 

@@ -1,4 +1,4 @@
-use Rattle.std.proofs.Common.{List, ap, ap₂, arith, bytes_eq, sym, ℕ, ◌∙◌}
+use Rattle.std.proofs.Common.{ap₂, arith, bytes_eq, ◌∙◌}
 use Rattle.one_pass_check.proofs.Reaping.{reap_no, reap_yes}
 use Rattle.one_pass_check.proofs.reap.take_reap.Goals as goal
 
