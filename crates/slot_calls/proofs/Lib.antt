@@ -1,0 +1,14 @@
+pub mod Batches
+pub mod Beliefs
+pub mod Careful
+pub mod Staying
+pub mod Claiming
+pub mod Winning
+pub mod Knowing
+pub mod Believing
+pub mod Keeping
+pub mod Views
+pub mod Meeting
+pub mod Releasing
+pub mod ExampleLog
+pub mod ExampleHosts

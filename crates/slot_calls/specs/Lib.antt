@@ -1,0 +1,4 @@
+pub mod Swaps
+pub mod Careful
+pub mod Calls
+pub mod Hosts
