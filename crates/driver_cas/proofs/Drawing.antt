@@ -55,6 +55,7 @@ module _ {P : Type 0} (g : Ghosts P) where
         is = subst (λ (n : ℕ). IsBatch Op.Pair lba 1 k.first k.second (claim_data d.host n) s.batch) (sym next) s.is;
         does = s.does;
         free = s.free;
+        since = s.since;
         accepted = subst (λ (q : P). g.accepts k.start.value q k.queue s.batch) (sym p) s.accepted;
         published = ap₂ (λ (x : Snapshot P) (q : P). since (g.log x.value) (g.log q)) b p ∙ s.published;
         taken = subst (λ (t : Cids). IsTaken d.cids t Op.Pair k.queue k.first k.second) (sym c) s.taken;

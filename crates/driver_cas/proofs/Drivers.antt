@@ -15,12 +15,13 @@ use Rattle.driver_calls.specs.Says.{IsCallIn}
 use Rattle.driver_calls.specs.Views.{since}
 use Rattle.driver_calls.specs.declared.event.PortEvent.{PortEvent}
 use Rattle.driver_calls.specs.declared.reply.Reply.{Reply}
-use Rattle.driver_cas.specs.Drivers.{IsApart, IsCallOf, IsFreed, IsOneMore, IsSame, answer_to, before, made, number_of, told}
+use Rattle.driver_cas.specs.Drivers.{IsApart, IsBack, IsCallOf, IsFreed, IsOneMore, IsSame, Says, answer_to, made, number_of, told}
 use Rattle.driver_cas.specs.Tables.{GoesOn, IsHeld, IsReleased, Reaps, is_free, is_its_cid}
 use Rattle.driver_cas.proofs.Tables.{since_more}
 use Rattle.driver_cas.specs.declared.call.Call.{Call}
 use Rattle.driver_cas.specs.declared.call.Poll.{Poll}
 use Rattle.driver_cas.specs.declared.driver.Driver.{Driver}
+use Rattle.driver_cas.specs.declared.fault.Fault.{Fault}
 use Rattle.driver_cas.specs.declared.port.Port.{Ghosts}
 
 -- what a Reap adds since the driver was made
@@ -67,10 +68,6 @@ module _ {P : Type 0} (g : Ghosts P) where
         in_use = held;
       }
 
-  -- what is known where a call was answered, or not yet
-  abbrev pub Says : Driver P g → Call P → Option (Result Reply Status) → Type 0
-  Says d k r = g.says (before d) k.start.value d.port k.queue (number_of d k) k.op r
-
   pub says_over : (d e : Driver P g) (k : Call P) (r : Poll P) → Says d k (answer_to d k) → IsSame d e → e.port ≡ d.port → told r ≡ answer_to d k → Says e k (told r)
   says_over d e k r h s port t =
       subst (λ (o : Option (Result Reply Status)). Says e k o) (sym t)
@@ -80,6 +77,14 @@ module _ {P : Type 0} (g : Ghosts P) where
   one_over a d e h s port = subst (λ (log : List PortEvent). IsOneMore (made a) log) (sym (same_made d e s.began port)) h
 
 module _ {P : Type 0} where
+  -- what is told is an answer
+  pub told_back : (k : Call P) (r : Poll P) (x : Result Reply Status) → told r ≡ Some x → IsBack k r
+  told_back k (Poll.Pending j) x h = absurd (let e : None ≡ Some x = h in cc)
+  told_back k (Poll.Later f j) x h = absurd (let e : None ≡ Some x = h in cc)
+  told_back k (Poll.Done r) x h = tt
+  told_back k (Poll.Failed (Fault.Status s)) x h = tt
+  told_back k (Poll.Failed _) x h = absurd (let e : None ≡ Some x = h in cc)
+
   pub own_first : (k : Call P) → is_its_cid k.op k.queue k.first k.second k.queue k.first ≡ true
   own_first k = and_from _ _ (eq-eqb k.queue k.queue refl) (or_left (eqb k.first k.first) (is_pair (Some k.op) && eqb k.first k.second) (eq-eqb k.first k.first refl))
 

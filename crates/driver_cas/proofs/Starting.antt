@@ -115,14 +115,15 @@ module _ {P : Type 0} (g : Ghosts P) where
       )
 
   -- the call is begun
-  pub started : ((a b c : P) → g.follows a b → g.follows b c → g.follows a c) → (d e : Driver P g) (k : Call P) (l n : ℕ) (contents : CallData) (batch : List Submission) → Sends d e k l n contents batch
+  pub started : ((a : P) → g.follows a a) → ((a b c : P) → g.follows a b → g.follows b c → g.follows a c) → (d e : Driver P g) (k : Call P) (l n : ℕ) (contents : CallData) (batch : List Submission) → Sends d e k l n contents batch
       → IsStarted d e k k.op l n contents
-  started on d e k l n contents batch s =
+  started stays on d e k l n contents batch s =
       record {
         batch = batch;
         is = s.is;
         does = refl;
         free = s.free;
+        since = subst (λ (p : P). g.follows d.port p) (sym s.start) (stays d.port);
         accepted = subst (λ (p : P). g.accepts p e.port k.queue batch) (sym s.start) s.accepted;
         published = now_made d e k l n contents batch s;
         taken = s.taken;
@@ -165,6 +166,7 @@ module _ {P : Type 0} (g : Ghosts P) where
         is = s.is;
         does = s.does;
         free = subst (λ (c : Cids). AreFree c o k.queue k.first k.second) x.as_before.1 s.free;
+        since = on d.port e.port k.start.value x.later s.since;
         accepted = s.accepted;
         published = s.published ∙ ap (λ (log : List PortEvent). PortEvent.Sent k.queue s.batch ∷ log) x.as_before.0;
         taken = subst (λ (c : Cids). IsTaken c f.cids o k.queue k.first k.second) x.as_before.1 s.taken;

@@ -1,5 +1,6 @@
 -- What contracts say of a driver and its calls.
 use Rattle.std.specs.Prelude.{Contains, Err, List, None, Ok, Option, Result, Some, false, if◌then◌else◌, is_some, length, true, ℕ, ◌&&◌, ◌∷◌, ◌≡◌, ◌⊎◌}
+use Rattle.nvme_model.specs.declared.array.Range.{Range}
 use Rattle.nvme_model.specs.declared.status.Status.{Status}
 use Rattle.cid_table.specs.Cids.{Cids, held, queues_of}
 use Rattle.driver_calls.specs.Log.{sent}
@@ -33,9 +34,23 @@ module _ {P : Type 0} {g : Ghosts P} where
     pub published : IsCallIn (made d) k.queue k.op k.first k.second (number_of d k)
     pub in_use : IsHeld d.cids k.op k.queue k.first k.second
 
+  -- what is known of the port where the call is answered so, or not yet
+  abbrev pub Says : Driver P g → Call P → Option (Result Reply Status) → Type 0
+  Says d k r = g.says (before d) k.start.value d.port k.queue (number_of d k) k.op r
+
   -- what a call is answered by what the port did since the driver was made
   abbrev pub answer_to : Driver P g → Call P → Option (Result Reply Status)
   answer_to d k = outcome (made d) k.queue k.op k.first k.second
+
+  -- the slot area, the host number, and the last serial that was drawn
+  abbrev pub area_of : Driver P g → Range
+  area_of d = d.slots
+
+  abbrev pub host_of : Driver P g → ℕ
+  host_of d = d.host
+
+  abbrev pub serial_of : Driver P g → ℕ
+  serial_of d = d.serial
 
   -- the driver's settings
   pub record HasSettings (d e : Driver P g) : Type 0 where
@@ -61,11 +76,13 @@ module _ {P : Type 0} where
   told (Poll.Failed (Fault.Status s)) = Some (Err s)
   told _ = None
 
-  -- the call comes back; it may be asked again, for this cause
+  -- the call comes back, it may be for this cause; else it is answered, as failed with a status alone
   abbrev pub IsBack : Call P → Poll P → Type 0
   IsBack k (Poll.Pending j) = j ≡ k
   IsBack k (Poll.Later f j) = (j ≡ k) × ((f ≡ Fault.Busy) ⊎ (f ≡ Fault.NoMemory))
-  IsBack k _ = Unit {0}
+  IsBack k (Poll.Done r) = Unit {0}
+  IsBack k (Poll.Failed (Fault.Status s)) = Unit {0}
+  IsBack k (Poll.Failed _) = ⊥
 
   -- the two calls have no CID in common
   abbrev pub IsApart : Call P → Call P → Type 0

@@ -43,6 +43,7 @@ module _ {P : Type 0} {g : Ghosts P} where
     pub is : IsBatch o slba blocks k.first k.second contents batch
     pub does : k.op ≡ o
     pub free : AreFree d.cids o k.queue k.first k.second
+    pub since : g.follows d.port k.start.value
     pub accepted : g.accepts k.start.value e.port k.queue batch
     pub published : made e ≡ PortEvent.Sent k.queue batch ∷ made d
     pub taken : IsTaken d.cids e.cids o k.queue k.first k.second

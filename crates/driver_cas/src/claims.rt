@@ -1,8 +1,8 @@
 //! Starting to claim and to release a slot, for an allocator of slots.
 
-ghost use Rattle.std.specs.Prelude.{◌≡◌, true};
+ghost use Rattle.std.specs.Prelude.{◌≡◌, ◌≤◌, ◌<◌, IfOk, true};
 ghost use Rattle.nvme_model.specs.Array.{has_block};
-ghost use Rattle.driver_cas.specs.Drivers.{HasSettings, IsSame};
+ghost use Rattle.driver_cas.specs.Drivers.{HasSettings, IsSame, host_of};
 ghost use Rattle.driver_cas.specs.SlotStarts.{IsClaimStart, IsReleaseStart, swap_request};
 
 use crate::call::Call;
@@ -39,6 +39,8 @@ impl<P: Port> Driver<P> {
         ensures settings { HasSettings self.old self.new }
         ensures later { P.follows self.old.port self.new.port }
         ensures is { IsClaimStart self.old self.new lba result }
+        ensures law { (1 ≤ host_of self.old) × (host_of self.old < 4294967296)
+            × IfOk result (λ r. r.1 < 18446744073709551616) }
     {
         if self.serial == u64::MAX {
             return Err(Fault::NoSerial);

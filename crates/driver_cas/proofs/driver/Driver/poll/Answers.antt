@@ -2,12 +2,15 @@ use Rattle.std.proofs.Common.{◌∙◌, Option, Result, refl, subst, sym}
 use Rattle.nvme_model.specs.declared.status.Status.{Status}
 use Rattle.driver_calls.specs.declared.reply.Reply.{Reply}
 use Rattle.driver_cas.specs.declared.call.Poll.{Poll}
-use Rattle.driver_cas.specs.Drivers.{before, number_of}
-use Rattle.driver_cas.proofs.Drivers.{Says, freed_some, one_over, says_over}
+use Rattle.driver_cas.specs.Drivers.{Says, before, number_of}
+use Rattle.driver_cas.proofs.Drivers.{freed_some, one_over, says_over, told_back}
 use Rattle.driver_cas.proofs.driver.Driver.poll.Goals as goal
 
 pub returns-in-Some-clause-one : goal.returns-in-Some-clause-one
 returns-in-Some-clause-one g c = one_over g.P.Port c.args.self.now c.reap.new.self c.take.new.self c.reap.ensures.made c.take.ensures.same c.take.ensures.port
+
+pub returns-in-Some-clause-back : goal.returns-in-Some-clause-back
+returns-in-Some-clause-back g c = told_back c.args.call _ c.in-Some.answer c.ended.ensures
 
 pub returns-in-Some-clause-freed : goal.returns-in-Some-clause-freed
 returns-in-Some-clause-freed g c = freed_some c.args.self.now.cids c.reap.new.self.cids c.take.new.self.cids c.args.call _ c.in-Some.answer c.reap.ensures.in_use c.in-Some.ensures.some c.ended.ensures
@@ -44,5 +47,5 @@ returns-in-Err-clause-says g c =
     let d = c.reap.new.self in
     let k = c.args.call in
     let of = c.reap.ensures.calls k c.requires in
-    subst (λ (r : Option (Result Reply Status)). Says g.P.Port d k r) c.in-Err.ensures.waits
+    subst (λ (r : Option (Result Reply Status)). Says d k r) c.in-Err.ensures.waits
     (g.met.P.Port.tells (before d) k.start.value d.port k.queue (number_of d k) k.first k.second k.op of.later (d.own k.queue of.known) d.tidy refl of.published)

@@ -23,7 +23,7 @@ invariant_of-self g c =
 pub returns-in-Ok-clause-tried : goal.returns-in-Ok-clause-tried
 returns-in-Ok-clause-tried g c = (
   refl,
-  started g.P.Port g.met.P.Port.goes_on c.args.self.now _ (record { op = c.args.request.op; queue = c.args.queue; first = c.args.two.first; second = c.args.two.second; start = c.of-start.result }) c.args.request.slba c.args.request.blocks
+  started g.P.Port g.met.P.Port.stays g.met.P.Port.goes_on c.args.self.now _ (record { op = c.args.request.op; queue = c.args.queue; first = c.args.two.first; second = c.args.two.second; start = c.of-start.result }) c.args.request.slba c.args.request.blocks
       c.args.contents c.batch_of-batch.result (record {
         start = c.of-start.ensures;
         same = record { began = refl; host = refl; acwu = refl; slots = refl; serial = refl; queues = c.send.ensures.queues };

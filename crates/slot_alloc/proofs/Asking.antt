@@ -1,0 +1,129 @@
+-- A claim at a later moment of its driver.
+use Rattle.std.proofs.Common.{None, arith, ap, inl, inr, le-leb, lt-ltb, refl, subst, suc, sym, true, ℕ, ◌+◌, ◌<◌, ◌∙◌, ◌≡◌, ◌≢◌, ◌≤◌, ◌⊎◌}
+use Rattle.std.specs.Prelude.{Ok, Result}
+use Rattle.std.specs.declared.snapshot.Snapshot.{Snapshot}
+use Rattle.std.proofs.lemmas.Bool.{and_from}
+use Rattle.nvme_model.specs.Array.{has_block}
+use Rattle.nvme_model.specs.declared.array.Range.{Range}
+use Rattle.nvme_model.specs.declared.status.Status.{Status}
+use Rattle.driver_calls.specs.declared.reply.Reply.{Reply}
+use Rattle.cid_table.specs.Cids.{Cids, held}
+use Rattle.driver_commands.specs.declared.request.CallData.{CallData}
+use Rattle.driver_commands.specs.declared.request.Request.{Request}
+use Rattle.driver_cas.proofs.Drivers.{reaped_calls}
+use Rattle.driver_cas.specs.Drivers.{HasSettings, IsCallOf, area_of, host_of, serial_of}
+use Rattle.driver_cas.specs.SlotStarts.{IsClaimFault, IsClaimStart, claim_data, swap_request}
+use Rattle.driver_cas.specs.Starts.{IsAsBefore}
+use Rattle.driver_cas.specs.Tables.{is_free}
+use Rattle.driver_cas.specs.Tries.{IsPortFault}
+use Rattle.driver_cas.specs.declared.call.Call.{Call}
+use Rattle.driver_cas.specs.declared.driver.Driver.{Driver}
+use Rattle.driver_cas.specs.declared.fault.Fault.{Fault}
+use Rattle.driver_cas.specs.declared.port.Port.{Ghosts}
+use Rattle.slot_alloc.specs.Areas.{area, block_of}
+use Rattle.slot_alloc.specs.Careful.{GoesOn, IsCareful}
+use Rattle.slot_alloc.specs.Claims.{AreTaken, ClaimSays, IsAsking, IsClaimingOf}
+use Rattle.slot_alloc.specs.Progresses.{IsSameClaiming}
+use Rattle.slot_alloc.specs.declared.claiming.Claiming.{Claiming}
+use Rattle.slot_alloc.specs.declared.claiming.Reach.{Reach}
+use Rattle.slot_alloc.specs.declared.claiming.Stage.{Stage}
+use Rattle.slot_alloc.specs.declared.slots.Slots.{Slots}
+use Rattle.slot_alloc.proofs.Starting.{Claims, asking_claimed, goes_on_claimed}
+
+-- the block of a slot lies in the area
+pub inside_of : (r : Range) (i : ℕ) → i < r.blocks → has_block r (block_of r i) ≡ true
+inside_of r i h = and_from _ _ (le-leb r.slba (r.slba + i) (omega arith)) (lt-ltb (r.slba + i) (r.slba + r.blocks) (omega (arith, h)))
+
+module _ {P : Type 0} (g : Ghosts P) where
+  -- two later drivers have the same settings
+  settings_from : (d e f : Driver P g) → HasSettings d e → HasSettings d f → HasSettings e f
+  settings_from d e f x y =
+      record { began = y.began ∙ sym x.began; host = y.host ∙ sym x.host; acwu = y.acwu ∙ sym x.acwu; slots = y.slots ∙ sym x.slots; queues = y.queues ∙ sym x.queues }
+
+  -- what a claim's answer said it goes on to say
+  pub says_on : ((a b c : P) → g.follows a b → g.follows b c → g.follows a c) → (d e began : Driver P g) (l : ℕ) (r : Result Reply Status) → GoesOn d e None → ClaimSays d began l r → ClaimSays e began l r
+  says_on on d e began l r x s =
+      record {
+        at = s.at;
+        call = s.call;
+        serial = s.serial;
+        same = settings_from d e s.at x.settings s.same;
+        begun = s.begun;
+        later = on s.at.port d.port e.port s.later x.later;
+        does = s.does;
+        claim = s.claim;
+        answer = s.answer;
+        says = s.says;
+      }
+
+  pub taken_on : ((a b c : P) → g.follows a b → g.follows b c → g.follows a c) → (d e began : Driver P g) (n : ℕ) → GoesOn d e None → AreTaken d began n → AreTaken e began n
+  taken_on on d e began n x h i less =
+      subst (λ (r : Range). ClaimSays e began (block_of r i) (Ok Reply.Differs)) (sym x.settings.slots) (says_on on d e began (block_of (area_of d) i) (Ok Reply.Differs) x (h i less))
+
+  -- what is known of a claim that was begun
+  pub claims_of : (d e : Driver P g) (slots : Slots) (slot l : ℕ) (k : Call P) (serial : ℕ) → l ≡ block_of (area slots) slot → HasSettings d e → g.follows d.port e.port → IsClaimStart d e l (Ok (k, serial))
+      → 1 ≤ host_of d → host_of d < 4294967296 → serial < 18446744073709551616 → area_of d ≡ area slots → slot < slots.count → IsCareful d → Claims g d e (block_of (area_of d) slot) k serial
+  claims_of d e slots slot l k serial at settings later start named narrow fits is less careful =
+      record {
+        settings = settings;
+        later = later;
+        start = subst (λ (b : ℕ). IsClaimStart d e b (Ok (k, serial))) (at ∙ ap (λ (r : Range). block_of r slot) (sym is)) start;
+        named = named;
+        narrow = narrow;
+        fits = fits;
+        inside = subst (λ (r : Range). has_block r (block_of r slot) ≡ true) (sym is) (inside_of (area slots) slot less);
+        careful = careful;
+      }
+
+  -- the claim of the slot at hand was begun
+  pub claiming_now : ((a b c : P) → g.follows a b → g.follows b c → g.follows a c) → (d e : Driver P g) (began : Snapshot (Driver P g)) (slots : Slots) (reach : Reach) (slot : ℕ) (k : Call P) (serial : ℕ)
+      → Claims g d e (block_of (area_of d) slot) k serial → area_of d ≡ area slots → slot < slots.count → g.follows began.value.port d.port → (reach ≡ Reach.Any → AreTaken d began.value slot)
+      → IsClaimingOf e (record { slots = slots; reach = reach; slot = slot; stage = Stage.Asked k serial; began = began })
+  claiming_now on d e began slots reach slot k serial c area_is inside since lower =
+      let x = goes_on_claimed g d e (block_of (area_of d) slot) k serial c in
+      record {
+        area_is = x.settings.slots ∙ area_is;
+        inside = inside;
+        since = on began.value.port d.port e.port since x.later;
+        at = (
+          subst (λ (r : Range). IsAsking e (block_of r slot) k serial) (sym x.settings.slots) (asking_claimed g d e (block_of (area_of d) slot) k serial c),
+          on began.value.port d.port k.start.value since c.start.2.since,
+        );
+        lower = λ any. taken_on on d e began.value slot x (lower any);
+      }
+
+  -- it is due
+  pub claiming_due : ((a b c : P) → g.follows a b → g.follows b c → g.follows a c) → (d e : Driver P g) (k : Claiming P g) → IsClaimingOf d k → k.reach ≡ Reach.Any → GoesOn d e None
+      → IsClaimingOf e (record { slots = k.slots; reach = k.reach; slot = k.slot; stage = Stage.Due; began = k.began })
+  claiming_due on d e k of any x =
+      record {
+        area_is = x.settings.slots ∙ of.area_is;
+        inside = of.inside;
+        since = on k.began.value.port d.port e.port of.since x.later;
+        at = any;
+        lower = λ y. taken_on on d e k.began.value k.slot x (of.lower y);
+      }
+
+  -- a call after a fault
+  pub call_kept : ((a b c : P) → g.follows a b → g.follows b c → g.follows a c) → (d e : Driver P g) (k : Call P) → HasSettings d e → serial_of e ≡ serial_of d → g.follows d.port e.port → IsAsBefore d e → IsCallOf d k → IsCallOf e k
+  call_kept on d e k s drawn later x of =
+      reaped_calls g on d e k (record { began = s.began; host = s.host; acwu = s.acwu; slots = s.slots; serial = drawn; queues = s.queues }) later (inl x.0) (λ q i. ap (λ (c : Cids). is_free (held c q i)) x.1) of
+
+  -- the same claim at the same slot
+  pub same_claiming : (k : Claiming P g) (stage : Stage P) → IsSameClaiming k (record { slots = k.slots; reach = k.reach; slot = k.slot; stage = stage; began = k.began })
+  same_claiming k stage = record { slots = refl; reach = refl; began = refl; slot = omega arith; alone = λ one. refl }
+
+  -- why a claim isn't begun now, where neither serials nor CIDs nor room are lacking
+  pub later_cause : (d e : Driver P g) (r : Request) (contents : CallData) (f : Fault) → IsPortFault d e r contents f → f ≢ Fault.RingFull → (f ≡ Fault.Busy) ⊎ (f ≡ Fault.NoMemory)
+  later_cause d e r contents Fault.RingFull h n = absurd (n refl)
+  later_cause d e r contents Fault.Busy h n = inl refl
+  later_cause d e r contents Fault.NoMemory h n = inr refl
+  later_cause d e r contents Fault.Length h n = absurd h
+  later_cause d e r contents Fault.TooLong h n = absurd h
+  later_cause d e r contents (Fault.Status s) h n = absurd h
+  later_cause d e r contents Fault.SlotArea h n = absurd h
+  later_cause d e r contents Fault.NoSerial h n = absurd h
+
+  pub claim_cause : (d e : Driver P g) (l : ℕ) (f : Fault) → IsClaimFault d e l f → f ≢ Fault.NoSerial → f ≢ Fault.RingFull → (f ≡ Fault.Busy) ⊎ (f ≡ Fault.NoMemory)
+  claim_cause d e l f (inl x) n m = absurd (n x.0)
+  claim_cause d e l f (inr x) n m = later_cause d e (swap_request l) (claim_data (host_of d) (suc (serial_of d))) f x.1 m

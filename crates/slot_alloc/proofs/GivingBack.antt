@@ -1,0 +1,121 @@
+-- A release that was begun, and after a poll of its call.
+use Rattle.std.proofs.Common.{List, Ok, Some, [], arith, ap, inl, inr, subst, sym, ℕ, ◌∙◌, ◌∷◌, ◌<◌, ◌≡◌, ◌≢◌}
+use Rattle.nvme_model.specs.Slots.{Name}
+use Rattle.nvme_model.specs.declared.array.Range.{Range}
+use Rattle.nvme_model.specs.declared.operation.Op.{Op}
+use Rattle.driver_calls.specs.Says.{outcome}
+use Rattle.driver_calls.specs.declared.event.PortEvent.{PortEvent}
+use Rattle.driver_calls.specs.declared.reply.Reply.{Reply}
+use Rattle.driver_cas.proofs.Sending.{sent_call}
+use Rattle.driver_cas.specs.Drivers.{IsBack, IsCallOf, IsOneMore, IsSame, Says, answer_to, area_of, host_of, made, number_of, serial_of as last_of, told}
+use Rattle.driver_cas.specs.SlotStarts.{IsReleaseStart, release_data}
+use Rattle.driver_cas.specs.declared.call.Call.{Call}
+use Rattle.driver_cas.specs.declared.call.Poll.{Poll}
+use Rattle.driver_cas.specs.declared.driver.Driver.{Driver}
+use Rattle.driver_cas.specs.declared.fault.Fault.{Fault}
+use Rattle.driver_cas.specs.declared.port.Port.{Ghosts}
+use Rattle.slot_calls.proofs.Careful.{careful_release}
+use Rattle.slot_calls.proofs.Winning.{release_in, release_in_later}
+use Rattle.slot_calls.specs.Calls.{IsReleaseIn}
+use Rattle.slot_calls.specs.Careful.{is_careful}
+use Rattle.slot_alloc.specs.Areas.{block_of, serial_of, slot_of}
+use Rattle.slot_alloc.specs.Careful.{GoesOn, IsCareful, LogGoesOn, own_name}
+use Rattle.slot_alloc.specs.Claims.{IsHeldBy, IsReleasingOf}
+use Rattle.slot_alloc.specs.Releases.{IsReleased}
+use Rattle.slot_alloc.specs.declared.claim.Claim.{Claim}
+use Rattle.slot_alloc.specs.declared.progress.Released.{Released}
+use Rattle.slot_alloc.specs.declared.release.Releasing.{Releasing}
+use Rattle.slot_alloc.proofs.Asking.{inside_of}
+use Rattle.slot_alloc.proofs.Logs.{release_on}
+use Rattle.slot_alloc.proofs.Polling.{Polls, pair_reply}
+use Rattle.slot_alloc.proofs.Starting.{number_now, number_same, settings_of}
+
+module _ {P : Type 0} (g : Ghosts P) where
+  -- what is known of a release that was begun
+  pub record Releases (d e : Driver P g) (c : Claim) (k : Call P) : Type 0 where
+    pub same : IsSame d e
+    pub later : g.follows d.port e.port
+    pub start : IsReleaseStart d e (block_of (area_of d) (slot_of c)) (serial_of c) (Ok k)
+    pub held : IsHeldBy d c
+    pub careful : IsCareful d
+
+  pub releases_of : (d e : Driver P g) (c : Claim) (k : Call P) (r : Range) (l : ℕ) → l ≡ block_of r (slot_of c) → area_of d ≡ r → IsSame d e → g.follows d.port e.port → IsReleaseStart d e l (serial_of c) (Ok k) → IsHeldBy d c → IsCareful d → Releases d e c k
+  releases_of d e c k r l at is same later start held careful =
+      record {
+        same = same;
+        later = later;
+        start = subst (λ (b : ℕ). IsReleaseStart d e b (serial_of c) (Ok k)) (at ∙ ap (λ (a : Range). block_of a (slot_of c)) (sym is)) start;
+        held = held;
+        careful = careful;
+      }
+
+  pub careful_released : (d e : Driver P g) (c : Claim) (k : Call P) → Releases d e c k → IsCareful e
+  careful_released d e c k x =
+      let s = x.start in
+      let p : is_careful (area_of e) (host_of e) (last_of e) (made e) ≡ is_careful (area_of d) (host_of d) (last_of d) (PortEvent.Sent k.queue s.batch ∷ made d) =
+      λ i. is_careful (x.same.slots i) (x.same.host i) (x.same.serial i) (s.published i) in
+      p ∙ careful_release (area_of d) (host_of d) (last_of d) (made d) k.queue (block_of (area_of d) (slot_of c)) k.first k.second (own_name d (serial_of c)) s.batch x.held.name s.is
+      (inside_of (area_of d) (slot_of c) x.held.inside) x.held.believed x.careful
+
+  pub goes_on_released : (d e : Driver P g) (c : Claim) (k : Call P) → Releases d e c k → GoesOn d e (Some (block_of (area_of d) (slot_of c), own_name d (serial_of c)))
+  goes_on_released d e c k x =
+      let s = x.start in
+      let drawn = x.same.serial in
+      record {
+        settings = settings_of g d e x.same;
+        drawn = omega (arith, drawn);
+        later = x.later;
+        log = subst (λ (log : List PortEvent). LogGoesOn (area_of d) (made d) log (Some (block_of (area_of d) (slot_of c), own_name d (serial_of c)))) (sym s.published)
+            (release_on (area_of d) (made d) k.queue (block_of (area_of d) (slot_of c)) k.first k.second (own_name d (serial_of c)) s.batch x.held.name s.is);
+      }
+
+  pub releasing_now : (d e : Driver P g) (c : Claim) (k : Call P) → Releases d e c k → IsReleasingOf e (record { slot = slot_of c; serial = serial_of c; call = k })
+  releasing_now d e c k x =
+      let s = x.start in
+      let l = block_of (area_of d) (slot_of c) in
+      let contents = release_data (host_of d) (serial_of c) in
+      let number = number_now g d e k l contents s in
+      record {
+        of = s.of;
+        does = s.does;
+        inside = subst (λ (r : Range). slot_of c < r.blocks) (sym x.same.slots) x.held.inside;
+        release = subst (λ (z : List PortEvent × ℕ × ℕ × Range). IsReleaseIn z.0 k.queue k.first k.second z.1 (block_of z.3 (slot_of c)) (record { host = z.2; serial = serial_of c }))
+            (λ i. (sym s.published i, sym number i, sym x.same.host i, sym x.same.slots i))
+            (release_in (made d) k.queue l k.first k.second (own_name d (serial_of c)) s.batch x.held.name s.is (sent_call (made d) k.queue l 1 k.first k.second Op.Pair contents s.batch s.free.unlike s.is));
+      }
+
+  -- ---- after a poll
+
+  release_more : (log more : List PortEvent) (q first second j l : ℕ) (n : Name) → IsOneMore log more → IsReleaseIn log q first second j l n → IsReleaseIn more q first second j l n
+  release_more log more q first second j l n (inl e) c = subst (λ (xs : List PortEvent). IsReleaseIn xs q first second j l n) (sym e) c
+  release_more log more q first second j l n (inr e) c =
+      subst (λ (xs : List PortEvent). IsReleaseIn xs q first second j l n) (sym e.2) (release_in_later (PortEvent.Got e.0 e.1 ∷ []) log q first second j l n c c.call)
+
+  pub releasing_polled : (d e : Driver P g) (k : Releasing P) → IsReleasingOf d k → Polls g d e → IsCallOf e k.call → IsReleasingOf e k
+  releasing_polled d e k of x call_of =
+      record {
+        of = call_of;
+        does = of.does;
+        inside = subst (λ (r : Range). k.slot < r.blocks) (sym x.same.slots) of.inside;
+        release = subst (λ (z : ℕ × ℕ × Range). IsReleaseIn (made e) k.call.queue k.call.first k.call.second z.0 (block_of z.2 k.slot) (record { host = z.1; serial = k.serial }))
+            (λ i. (sym (number_same g d e k.call (settings_of g d e x.same)) i, sym x.same.host i, sym x.same.slots i))
+            (release_more (made d) (made e) k.call.queue k.call.first k.call.second (number_of d k.call) (block_of (area_of d) k.slot) (own_name d k.serial) x.one of.release);
+      }
+
+  -- the release's call comes back
+  pub same_releasing : (k : Releasing P) (call : Call P) → call ≡ k.call → (let j : Releasing P = record { slot = k.slot; serial = k.serial; call = call } in j) ≡ k
+  same_releasing k call h = ap (λ (c : Call P). record { slot = k.slot; serial = k.serial; call = c }) h
+
+  pub differs_polled : (d e : Driver P g) (k : Releasing P) (reply : Reply) → IsReleasingOf d k → reply ≢ Reply.Swapped → answer_to e k.call ≡ Some (Ok reply) → reply ≡ Reply.Differs
+  differs_polled d e k reply of other answer =
+      pair_reply (made e) k.call.queue k.call.first k.call.second reply (subst (λ (o : Op). outcome (made e) k.call.queue o k.call.first k.call.second ≡ Some (Ok reply)) of.does answer) other
+
+  pub failed_release : (e : Driver P g) (k : Releasing P) (f : Fault) → IsBack k.call (Poll.Failed f) → told {P = P} (Poll.Failed f) ≡ answer_to e k.call → Says e k.call (told {P = P} (Poll.Failed f)) → IsReleased e k (Released.Failed f)
+  failed_release e k (Fault.Status s) back answer says = inl (sym answer, says)
+  failed_release e k Fault.Length back answer says = absurd back
+  failed_release e k Fault.TooLong back answer says = absurd back
+  failed_release e k Fault.RingFull back answer says = absurd back
+  failed_release e k Fault.Busy back answer says = absurd back
+  failed_release e k Fault.NoMemory back answer says = absurd back
+  failed_release e k Fault.SlotArea back answer says = absurd back
+  failed_release e k Fault.NoSerial back answer says = absurd back

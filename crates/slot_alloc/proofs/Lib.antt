@@ -1,0 +1,5 @@
+pub mod Logs
+pub mod Starting
+pub mod Asking
+pub mod Polling
+pub mod GivingBack

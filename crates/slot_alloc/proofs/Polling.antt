@@ -1,0 +1,253 @@
+-- A claim after a poll of its call.
+use Rattle.std.proofs.Common.{Bool, List, None, Some, [], arith, cond, false, inl, inr, refl, subst, sym, true, ℕ, ◌+◌, ◌<◌, ◌∙◌, ◌∷◌, ◌≡◌, ◌≢◌, ap}
+use Rattle.std.specs.Prelude.{Err, Ok, Result}
+use Rattle.std.proofs.lemmas.Bool.{cases_lt}
+use Rattle.nvme_model.specs.Statuses.{compare_failure, is_success, same_status}
+use Rattle.nvme_model.specs.Slots.{Name}
+use Rattle.nvme_model.specs.declared.array.Range.{Range}
+use Rattle.nvme_model.specs.declared.operation.Op.{Op}
+use Rattle.nvme_model.specs.declared.status.Status.{Status}
+use Rattle.host_laws.specs.Calls.{status_in}
+use Rattle.driver_calls.specs.Says.{outcome}
+use Rattle.driver_calls.specs.declared.event.PortEvent.{PortEvent}
+use Rattle.driver_calls.specs.declared.reply.Reply.{Reply}
+use Rattle.driver_cas.specs.Drivers.{IsBack, IsCallOf, IsOneMore, IsSame, Says, answer_to, area_of, made, number_of, told}
+use Rattle.driver_cas.specs.declared.call.Call.{Call}
+use Rattle.driver_cas.specs.declared.call.Poll.{Poll}
+use Rattle.driver_cas.specs.declared.driver.Driver.{Driver}
+use Rattle.driver_cas.specs.declared.fault.Fault.{Fault}
+use Rattle.driver_cas.specs.declared.port.Port.{Ghosts}
+use Rattle.slot_calls.proofs.Winning.{claim_in_later, pair_answered, won_by_log}
+use Rattle.slot_calls.specs.Calls.{IsClaimIn}
+use Rattle.slot_calls.specs.Careful.{is_careful}
+use Rattle.slot_calls.specs.Swaps.{log_believed, log_released}
+use Rattle.slot_alloc.specs.Areas.{block_of}
+use Rattle.slot_alloc.specs.Careful.{GoesOn, IsCareful, own_name}
+use Rattle.slot_alloc.specs.Claims.{AreTaken, ClaimSays, IsAsking, IsClaimingOf, IsAt, IsHeldBy}
+use Rattle.slot_alloc.specs.Progresses.{IsAsked, IsLost, IsProgress, IsSameClaiming}
+use Rattle.slot_alloc.specs.declared.claiming.Claiming.{Claiming}
+use Rattle.slot_alloc.specs.declared.claiming.Reach.{Reach}
+use Rattle.slot_alloc.specs.declared.claiming.Stage.{Stage}
+use Rattle.slot_alloc.specs.declared.progress.Progress.{Progress}
+use Rattle.slot_alloc.proofs.Asking.{inside_of, taken_on}
+use Rattle.slot_alloc.proofs.Logs.{on_on, on_same, one_more_on}
+use Rattle.slot_alloc.proofs.Starting.{number_same, settings_of}
+
+one_reply : (r : Result Reply Status) (x y : Reply) → r ≡ Ok x → r ≡ Ok y → y ≡ x
+one_reply r x y h e = cc
+
+not_both : (r : Result Reply Status) (s : Status) (x : Reply) → r ≡ Err s → r ≡ Ok x → ⊥
+not_both r s x h e = cc
+
+-- a fused pair that was served is answered in one of two ways
+pub pair_reply : (log : List PortEvent) (q first second : ℕ) (reply : Reply) → outcome log q Op.Pair first second ≡ Some (Ok reply) → reply ≢ Reply.Swapped → reply ≡ Reply.Differs
+pair_reply log q first second reply h other =
+    let a = pair_answered log q first second (Ok reply) h in
+    go (is_success (status_in a.first.cqe)) (is_success (status_in a.second.cqe)) (same_status (status_in a.first.cqe) compare_failure) (status_in a.second.cqe) (status_in a.first.cqe) a.by
+  where
+    go : (b c d : Bool) (r s : Status) → cond b (cond c (Ok Reply.Swapped) (Err r)) (cond d (Ok Reply.Differs) (Err s)) ≡ Ok reply → reply ≡ Reply.Differs
+    go true true d r s e = absurd (other (one_reply (Ok Reply.Swapped) Reply.Swapped reply refl e))
+    go true false d r s e = absurd (not_both (Err r) r reply refl e)
+    go false c true r s e = one_reply (Ok Reply.Differs) Reply.Differs reply refl e
+    go false c false r s e = absurd (not_both (Err s) s reply refl e)
+
+pub any_reach : (r : Reach) → r ≢ Reach.One → r ≡ Reach.Any
+any_reach Reach.One h = absurd (h refl)
+any_reach Reach.Any h = refl
+
+-- a completion leaves a log as careful
+careful_more : (slots : Range) (host last : ℕ) (log more : List PortEvent) → IsOneMore log more → is_careful slots host last more ≡ is_careful slots host last log
+careful_more slots host last log more (inl e) = ap (is_careful slots host last) e
+careful_more slots host last log more (inr e) = ap (is_careful slots host last) e.2
+
+module _ {P : Type 0} (g : Ghosts P) where
+  -- what came of a call by a poll
+  pub record Polls (d e : Driver P g) : Type 0 where
+    pub same : IsSame d e
+    pub later : g.follows d.port e.port
+    pub one : IsOneMore (made d) (made e)
+
+  pub careful_polled : (d e : Driver P g) → Polls d e → IsCareful d → IsCareful e
+  careful_polled d e x h =
+      let s = x.same in
+      let p : is_careful (area_of e) e.host e.serial (made e) ≡ is_careful (area_of d) d.host d.serial (made e) = λ i. is_careful (s.slots i) (s.host i) (s.serial i) (made e) in
+      p ∙ (careful_more (area_of d) d.host d.serial (made d) (made e) x.one ∙ h)
+
+  pub goes_on_polled : (d e : Driver P g) → Polls d e → GoesOn d e None
+  goes_on_polled d e x =
+      let drawn = x.same.serial in
+      record { settings = settings_of g d e x.same; drawn = omega (arith, drawn); later = x.later; log = one_more_on (area_of d) (made d) (made e) x.one }
+
+  -- a claim stands in the log also after a completion
+  claim_more : (log more : List PortEvent) (q first second j l : ℕ) (n : Name) → IsOneMore log more → IsClaimIn log q first second j l n → IsClaimIn more q first second j l n
+  claim_more log more q first second j l n (inl e) c = subst (λ (xs : List PortEvent). IsClaimIn xs q first second j l n) (sym e) c
+  claim_more log more q first second j l n (inr e) c =
+      subst (λ (xs : List PortEvent). IsClaimIn xs q first second j l n) (sym e.2) (claim_in_later (PortEvent.Got e.0 e.1 ∷ []) log q first second j l n c c.call)
+
+  pub claim_polled : (d e : Driver P g) (l : ℕ) (k : Call P) (serial : ℕ) → Polls d e → IsAsking d l k serial → IsClaimIn (made e) k.queue k.first k.second (number_of e k) l (own_name e serial)
+  claim_polled d e l k serial x a =
+      subst (λ (z : ℕ × ℕ). IsClaimIn (made e) k.queue k.first k.second z.0 l (record { host = z.1; serial = serial })) (λ i. (sym (number_same g d e k (settings_of g d e x.same)) i, sym x.same.host i))
+      (claim_more (made d) (made e) k.queue k.first k.second (number_of d k) l (own_name d serial) x.one a.claim)
+
+  pub unreleased_polled : (d e : Driver P g) (slot : ℕ) (k : Call P) (serial : ℕ) → Polls d e → slot < (area_of d).blocks → IsAsking d (block_of (area_of d) slot) k serial → log_released (made e) (block_of (area_of d) slot) (own_name e serial) ≡ false
+  unreleased_polled d e slot k serial x less a =
+      let p : log_released (made e) (block_of (area_of d) slot) (own_name e serial) ≡ log_released (made e) (block_of (area_of d) slot) (own_name d serial) =
+      λ i. log_released (made e) (block_of (area_of d) slot) (record { host = x.same.host i; serial = serial }) in
+      p ∙ (goes_on_polled d e x).log.unreleased (block_of (area_of d) slot) (own_name d serial) (inside_of (area_of d) slot less) refl a.unreleased
+
+  -- ---- what came of the claim
+
+  asked : (d : Driver P g) (k : Claiming P g) (call : Call P) (serial : ℕ) → IsClaimingOf d k → k.stage ≡ Stage.Asked call serial
+      → IsAsking d (block_of (area_of d) k.slot) call serial × g.follows k.began.value.port call.start.value
+  asked d k call serial of is = subst (λ (s : Stage P). IsAt d k.began.value (block_of (area_of d) k.slot) k.reach s) is of.at
+
+  within : (d : Driver P g) (k : Claiming P g) → IsClaimingOf d k → k.slot < (area_of d).blocks
+  within d k of = subst (λ (r : Range). k.slot < r.blocks) (sym of.area_is) of.inside
+
+  pub claiming_polled : ((a b c : P) → g.follows a b → g.follows b c → g.follows a c) → (d e : Driver P g) (k : Claiming P g) (call : Call P) (serial : ℕ) → IsClaimingOf d k → k.stage ≡ Stage.Asked call serial → Polls d e → IsCallOf e call
+      → IsClaimingOf e (record { slots = k.slots; reach = k.reach; slot = k.slot; stage = Stage.Asked call serial; began = k.began })
+  claiming_polled on d e k call serial of is x call_of =
+      let a = asked d k call serial of is in
+      let gone = goes_on_polled d e x in
+      record {
+        area_is = x.same.slots ∙ of.area_is;
+        inside = of.inside;
+        since = on k.began.value.port d.port e.port of.since x.later;
+        at = (
+          subst (λ (r : Range). IsAsking e (block_of r k.slot) call serial) (sym x.same.slots) (record {
+            of = call_of;
+            does = a.0.does;
+            claim = claim_polled d e (block_of (area_of d) k.slot) call serial x a.0;
+            unreleased = unreleased_polled d e k.slot call serial x (within d k of) a.0;
+          }),
+          a.1,
+        );
+        lower = λ any. taken_on g on d e k.began.value k.slot gone (of.lower any);
+      }
+
+  pub held_polled : (d e : Driver P g) (k : Claiming P g) (call : Call P) (serial : ℕ) → IsClaimingOf d k → k.stage ≡ Stage.Asked call serial → Polls d e → answer_to e call ≡ Some (Ok Reply.Swapped)
+      → IsHeldBy e (record { slot = k.slot; serial = serial })
+  held_polled d e k call serial of is x answer =
+      let a = asked d k call serial of is in
+      let less = within d k of in
+      let there = claim_polled d e (block_of (area_of d) k.slot) call serial x a.0 in
+      record {
+        inside = subst (λ (r : Range). k.slot < r.blocks) (sym x.same.slots) less;
+        name = there.name;
+        believed = subst (λ (r : Range). log_believed (made e) (block_of r k.slot) (own_name e serial) ≡ true) (sym x.same.slots)
+            (won_by_log (made e) call.queue call.first call.second (number_of e call) (block_of (area_of d) k.slot) (own_name e serial) there
+            (subst (λ (o : Op). outcome (made e) call.queue o call.first call.second ≡ Some (Ok Reply.Swapped)) a.0.does answer) (unreleased_polled d e k.slot call serial x less a.0));
+      }
+
+  pub says_polled : ((a : P) → g.follows a a) → (d e : Driver P g) (k : Claiming P g) (call : Call P) (serial : ℕ) (r : Result Reply Status) → IsClaimingOf d k → k.stage ≡ Stage.Asked call serial → Polls d e → answer_to e call ≡ Some r → Says e call (Some r)
+      → ClaimSays e k.began.value (block_of (area_of e) k.slot) r
+  says_polled stays d e k call serial r of is x answer says =
+      let a = asked d k call serial of is in
+      record {
+        at = e;
+        call = call;
+        serial = serial;
+        same = record { began = refl; host = refl; acwu = refl; slots = refl; queues = refl };
+        begun = a.1;
+        later = stays e.port;
+        does = a.0.does;
+        claim = subst (λ (z : Range). IsClaimIn (made e) call.queue call.first call.second (number_of e call) (block_of z k.slot) (own_name e serial)) (sym x.same.slots) (claim_polled d e (block_of (area_of d) k.slot) call serial x a.0);
+        answer = answer;
+        says = says;
+      }
+
+  pub failed_polled : ((a : P) → g.follows a a) → (d e : Driver P g) (k : Claiming P g) (call : Call P) (serial : ℕ) (f : Fault) → IsClaimingOf d k → k.stage ≡ Stage.Asked call serial → Polls d e
+      → IsBack call (Poll.Failed f) → told {P = P} (Poll.Failed f) ≡ answer_to e call → Says e call (told {P = P} (Poll.Failed f)) → IsProgress e k (Progress.Failed f)
+  failed_polled stays d e k call serial (Fault.Status s) of is x back answer says = says_polled stays d e k call serial (Err s) of is x (sym answer) says
+  failed_polled stays d e k call serial Fault.Length of is x back answer says = absurd back
+  failed_polled stays d e k call serial Fault.TooLong of is x back answer says = absurd back
+  failed_polled stays d e k call serial Fault.RingFull of is x back answer says = absurd back
+  failed_polled stays d e k call serial Fault.Busy of is x back answer says = absurd back
+  failed_polled stays d e k call serial Fault.NoMemory of is x back answer says = absurd back
+  failed_polled stays d e k call serial Fault.SlotArea of is x back answer says = absurd back
+  failed_polled stays d e k call serial Fault.NoSerial of is x back answer says = absurd back
+
+  pub lost_polled : ((a : P) → g.follows a a) → ((a b c : P) → g.follows a b → g.follows b c → g.follows a c) → (d e : Driver P g) (k : Claiming P g) (call : Call P) (serial : ℕ) (reply : Reply) → IsClaimingOf d k → k.stage ≡ Stage.Asked call serial
+      → Polls d e → reply ≢ Reply.Swapped → answer_to e call ≡ Some (Ok reply) → Says e call (Some (Ok reply)) → IsLost e (record { slots = k.slots; reach = k.reach; slot = k.slot; stage = Stage.Due; began = k.began })
+  lost_polled stays on d e k call serial reply of is x other answer says =
+      let a = asked d k call serial of is in
+      let differs = pair_reply (made e) call.queue call.first call.second reply (subst (λ (o : Op). outcome (made e) call.queue o call.first call.second ≡ Some (Ok reply)) a.0.does answer) other in
+      record {
+        area_is = x.same.slots ∙ of.area_is;
+        inside = of.inside;
+        since = on k.began.value.port d.port e.port of.since x.later;
+        taken = subst (λ (y : Reply). ClaimSays e k.began.value (block_of (area_of e) k.slot) (Ok y)) differs (says_polled stays d e k call serial (Ok reply) of is x answer says);
+        lower = λ any. taken_on g on d e k.began.value k.slot (goes_on_polled d e x) (of.lower any);
+      }
+
+  -- ---- the next slot
+
+  pub taken_more : (d began : Driver P g) (n : ℕ) → AreTaken d began n → ClaimSays d began (block_of (area_of d) n) (Ok Reply.Differs) → AreTaken d began (n + 1)
+  taken_more d began n below here i less = elim (cases_lt i n) [
+    | inl before ↦ below i before
+    | inr not_before ↦
+        let same : n ≡ i = omega arith in
+        subst (λ (j : ℕ). ClaimSays d began (block_of (area_of d) j) (Ok Reply.Differs)) same here
+  ]
+
+  pub all_taken : (d : Driver P g) (k : Claiming P g) → IsLost d k → k.reach ≡ Reach.Any → k.slot + 1 ≡ k.slots.count → AreTaken d k.began.value (area_of d).blocks
+  all_taken d k lost any last =
+      subst (λ (n : ℕ). AreTaken d k.began.value n) (last ∙ ap (λ (r : Range). r.blocks) (sym lost.area_is)) (taken_more d k.began.value k.slot (lost.lower any) lost.taken)
+
+  pub next_claiming : (d : Driver P g) (k : Claiming P g) → IsLost d k → k.reach ≡ Reach.Any → k.slot + 1 ≢ k.slots.count
+      → IsClaimingOf d (record { slots = k.slots; reach = k.reach; slot = k.slot + 1; stage = Stage.Due; began = k.began })
+  next_claiming d k lost any more =
+      let inside = lost.inside in
+      record {
+        area_is = lost.area_is;
+        inside = omega (arith, inside, more);
+        since = lost.since;
+        at = any;
+        lower = λ y. taken_more d k.began.value k.slot (lost.lower any) lost.taken;
+      }
+
+  same_next : (k j : Claiming P g) → k.reach ≡ Reach.Any → IsSameClaiming (record { slots = k.slots; reach = k.reach; slot = k.slot + 1; stage = Stage.Due; began = k.began }) j → IsSameClaiming k j
+  same_next k j any x =
+      let slot = x.slot in
+      record { slots = x.slots; reach = x.reach; began = x.began; slot = omega (arith, slot); alone = λ one. absurd (let e : Reach.One ≡ Reach.Any = sym one ∙ any in cc) }
+
+  due_same : (k j : Claiming P g) → IsSameClaiming (record { slots = k.slots; reach = k.reach; slot = k.slot; stage = Stage.Due; began = k.began }) j → IsSameClaiming k j
+  due_same k j x = record { slots = x.slots; reach = x.reach; began = x.began; slot = x.slot; alone = x.alone }
+
+  pub due_progress : (e : Driver P g) (k : Claiming P g) (r : Progress P g) → IsProgress e (record { slots = k.slots; reach = k.reach; slot = k.slot; stage = Stage.Due; began = k.began }) r → IsProgress e k r
+  due_progress e k (Progress.Pending j) h = (due_same k j h.0, h.1)
+  due_progress e k (Progress.Later f j) h = (due_same k j h.0, h.1, h.2)
+  due_progress e k (Progress.Held c) h = h
+  due_progress e k Progress.Taken h = h
+  due_progress e k Progress.AllTaken h = h
+  due_progress e k (Progress.Failed f) h = h
+
+  -- one moment after the other
+  pub goes_on_on : ((a b c : P) → g.follows a b → g.follows b c → g.follows a c) → (d e f : Driver P g) → GoesOn d e None → GoesOn e f None → GoesOn d f None
+  goes_on_on on d e f x y =
+      let s = x.settings in
+      let t = y.settings in
+      let a = x.drawn in
+      let b = y.drawn in
+      record {
+        settings = record { began = t.began ∙ s.began; host = t.host ∙ s.host; acwu = t.acwu ∙ s.acwu; slots = t.slots ∙ s.slots; queues = t.queues ∙ s.queues };
+        drawn = omega (arith, a, b);
+        later = on d.port e.port f.port x.later y.later;
+        log = on_on (area_of d) (made d) (made e) (made f) x.log (on_same (area_of e) (area_of d) (made e) (made f) None (sym s.slots) y.log);
+      }
+
+  pub asked_progress : (e : Driver P g) (k : Claiming P g) (r : Progress P g) → k.reach ≡ Reach.Any
+      → IsAsked e (record { slots = k.slots; reach = k.reach; slot = k.slot + 1; stage = Stage.Due; began = k.began }) r → IsProgress e k r
+  asked_progress e k (Progress.Pending j) any h = (same_next k j any h.0, h.1)
+  asked_progress e k (Progress.Later f j) any h = (same_next k j any h.0, h.1, h.2)
+  asked_progress e k (Progress.Held c) any h = absurd h
+  asked_progress e k Progress.Taken any h = absurd h
+  asked_progress e k Progress.AllTaken any h = absurd h
+  asked_progress e k (Progress.Failed Fault.NoSerial) any h = h
+  asked_progress e k (Progress.Failed (Fault.Status s)) any h = absurd h
+  asked_progress e k (Progress.Failed Fault.Length) any h = absurd h
+  asked_progress e k (Progress.Failed Fault.TooLong) any h = absurd h
+  asked_progress e k (Progress.Failed Fault.RingFull) any h = absurd h
+  asked_progress e k (Progress.Failed Fault.Busy) any h = absurd h
+  asked_progress e k (Progress.Failed Fault.NoMemory) any h = absurd h
+  asked_progress e k (Progress.Failed Fault.SlotArea) any h = absurd h

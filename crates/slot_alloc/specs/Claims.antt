@@ -1,0 +1,69 @@
+-- What contracts say of claims and releases.
+use Rattle.std.specs.Prelude.{Ok, Result, Some, false, true, ℕ, ◌<◌, ◌≡◌}
+use Rattle.nvme_model.specs.declared.operation.Op.{Op}
+use Rattle.nvme_model.specs.declared.status.Status.{Status}
+use Rattle.driver_calls.specs.declared.reply.Reply.{Reply}
+use Rattle.driver_cas.specs.Drivers.{HasSettings, IsCallOf, Says, answer_to, area_of, made, number_of}
+use Rattle.driver_cas.specs.declared.call.Call.{Call}
+use Rattle.driver_cas.specs.declared.driver.Driver.{Driver}
+use Rattle.driver_cas.specs.declared.port.Port.{Ghosts}
+use Rattle.slot_alloc.specs.Areas.{area, block_of, serial_of, slot_of}
+use Rattle.slot_alloc.specs.Careful.{own_name}
+use Rattle.slot_alloc.specs.declared.claim.Claim.{Claim}
+use Rattle.slot_alloc.specs.declared.claiming.Claiming.{Claiming}
+use Rattle.slot_alloc.specs.declared.claiming.Reach.{Reach}
+use Rattle.slot_alloc.specs.declared.claiming.Stage.{Stage}
+use Rattle.slot_alloc.specs.declared.release.Releasing.{Releasing}
+use Rattle.slot_calls.specs.Calls.{IsClaimIn, IsName, IsReleaseIn}
+use Rattle.slot_calls.specs.Swaps.{log_believed, log_released}
+
+module _ {P : Type 0} {g : Ghosts P} where
+  -- By its log the driver's host holds the slot, under this claim's serial: its claim was answered by success, and no release of its name was published.
+  pub record IsHeldBy (d : Driver P g) (c : Claim) : Type 0 where
+    pub inside : slot_of c < (area_of d).blocks
+    pub name : IsName (own_name d (serial_of c))
+    pub believed : log_believed (made d) (block_of (area_of d) (slot_of c)) (own_name d (serial_of c)) ≡ true
+
+  -- The call claims the slot at this block under this serial, and isn't answered. Nothing released that name there.
+  pub record IsAsking (d : Driver P g) (lba : ℕ) (call : Call P) (serial : ℕ) : Type 0 where
+    pub of : IsCallOf d call
+    pub does : call.op ≡ Op.Pair
+    pub claim : IsClaimIn (made d) call.queue call.first call.second (number_of d call) lba (own_name d serial)
+    pub unreleased : log_released (made d) lba (own_name d serial) ≡ false
+
+  -- the claim of the slot at hand is begun, or is due, where any slot will do
+  abbrev pub IsAt : Driver P g → Driver P g → ℕ → Reach → Stage P → Type 0
+  IsAt d began lba reach (Stage.Asked call serial) = IsAsking d lba call serial × g.follows began.port call.start.value
+  IsAt d began lba reach Stage.Due = reach ≡ Reach.Any
+
+  -- Since this moment the driver began a claim of the slot at this block that was answered so, and at the moment of its answer this said what it says.
+  pub record ClaimSays (d began : Driver P g) (lba : ℕ) (r : Result Reply Status) : Type 0 where
+    pub at : Driver P g
+    pub call : Call P
+    pub serial : ℕ
+    pub same : HasSettings d at
+    pub begun : g.follows began.port call.start.value
+    pub later : g.follows at.port d.port
+    pub does : call.op ≡ Op.Pair
+    pub claim : IsClaimIn (made at) call.queue call.first call.second (number_of at call) lba (own_name at serial)
+    pub answer : answer_to at call ≡ Some r
+    pub says : Says at call (Some r)
+
+  -- each slot below the one at hand was had by somebody else
+  abbrev pub AreTaken : Driver P g → Driver P g → ℕ → Type 0
+  AreTaken d began n = (i : ℕ) → i < n → ClaimSays d began (block_of (area_of d) i) (Ok Reply.Differs)
+
+  -- The driver began the claim, which hasn't ended: that of the slot at hand is begun or is due, and where any slot will do the lower ones were taken.
+  pub record IsClaimingOf (d : Driver P g) (k : Claiming P g) : Type 0 where
+    pub area_is : area_of d ≡ area k.slots
+    pub inside : k.slot < k.slots.count
+    pub since : g.follows k.began.value.port d.port
+    pub at : IsAt d k.began.value (block_of (area_of d) k.slot) k.reach k.stage
+    pub lower : k.reach ≡ Reach.Any → AreTaken d k.began.value k.slot
+
+  -- The driver began the release of this claim's name, which hasn't ended.
+  pub record IsReleasingOf (d : Driver P g) (k : Releasing P) : Type 0 where
+    pub of : IsCallOf d k.call
+    pub does : k.call.op ≡ Op.Pair
+    pub inside : k.slot < (area_of d).blocks
+    pub release : IsReleaseIn (made d) k.call.queue k.call.first k.call.second (number_of d k.call) (block_of (area_of d) k.slot) (own_name d k.serial)

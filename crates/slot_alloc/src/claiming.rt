@@ -1,0 +1,150 @@
+//! Claims that were begun.
+
+ghost use Rattle.std.specs.Prelude.{◌≡◌, ◌<◌, IfOk, None};
+ghost use Rattle.driver_cas.specs.Drivers.{IsCallOf, area_of};
+ghost use Rattle.slot_alloc.specs.Areas.{area};
+ghost use Rattle.slot_alloc.specs.Careful.{GoesOn, IsCareful};
+ghost use Rattle.slot_alloc.specs.Claims.{IsClaimingOf};
+ghost use Rattle.slot_alloc.specs.Progresses.{IsAsked, IsBesideOn, IsFirstClaim};
+ghost use Rattle.slot_alloc.specs.declared.claiming.Reach.{Reach};
+ghost use Rattle.driver_cas.specs.declared.call.Call.{Call};
+
+use crate::progress::Progress;
+use crate::slots::Slots;
+use driver_cas::{Call, Driver, Fault, Port};
+use std::snapshot::Snapshot;
+
+/// Which slots a claim may take.
+#[derive(Clone, Copy, Debug, PartialEq, Eq)]
+pub enum Reach {
+    /// One alone.
+    One,
+    /// The first that nobody has.
+    Any,
+}
+
+/// What was done about the slot at hand.
+#[derive(Drop)]
+pub enum Stage<P> {
+    /// Its claim was begun, under this serial.
+    Asked(Call<P>, u64),
+    /// It has to be begun.
+    Due,
+}
+
+/// A claim that was begun. It can't be copied, and one that is dropped keeps its CIDs, and its slot if it is won.
+#[derive(Drop)]
+pub struct Claiming<P: Port> {
+    pub(crate) slots: Slots,
+    pub(crate) reach: Reach,
+    // The one at hand.
+    pub(crate) slot: u32,
+    pub(crate) stage: Stage<P>,
+    // The driver when the first claim was begun.
+    pub(crate) began: Snapshot<Driver<P>>,
+}
+
+impl Slots {
+    // Begins the first claim of a call.
+    fn begin<P: Port>(
+        &self,
+        driver: &mut Driver<P>,
+        reach: Reach,
+        slot: u32,
+    ) -> Result<Claiming<P>, Fault>
+        requires area { area_of driver.old ≡ area self.now }
+        requires slot { slot < (area self.now).blocks }
+        requires lower { reach ≡ Reach.Any → slot ≡ 0 }
+        requires careful { IsCareful driver.old }
+        ensures careful { IsCareful driver.new }
+        ensures goes_on { GoesOn driver.old driver.new None }
+        ensures is { IsFirstClaim driver.old driver.new self.now reach slot result }
+        ensures of { IfOk result (λ k. IsClaimingOf driver.new k) }
+    {
+        let began = Snapshot::of(&*driver);
+        let (call, serial) = driver.start_claim(self.block(slot))?;
+        Ok(Claiming {
+            slots: *self,
+            reach,
+            slot,
+            stage: Stage::Asked(call, serial),
+            began,
+        })
+    }
+
+    /// Begins to claim slot `i`: one fused pair is published, and no Read.
+    ///
+    /// # Errors
+    ///
+    /// Those of `Driver::start_claim`. Nothing was published, and no serial is used up.
+    pub fn claim<P: Port>(&self, driver: &mut Driver<P>, i: u32) -> Result<Claiming<P>, Fault>
+        requires area { area_of driver.old ≡ area self.now }
+        requires slot { i < (area self.now).blocks }
+        requires careful { IsCareful driver.old }
+        ensures careful { IsCareful driver.new }
+        ensures goes_on { GoesOn driver.old driver.new None }
+        ensures is { IsFirstClaim driver.old driver.new self.now Reach.One i result }
+        ensures of { IfOk result (λ k. IsClaimingOf driver.new k) }
+    {
+        self.begin(driver, Reach::One, i)
+    }
+
+    /// Begins to claim any slot: the pair of slot 0 is published, and each further slot's by a poll, once the one before was
+    /// answered.
+    ///
+    /// # Errors
+    ///
+    /// As `claim`.
+    pub fn claim_any<P: Port>(&self, driver: &mut Driver<P>) -> Result<Claiming<P>, Fault>
+        requires area { area_of driver.old ≡ area self.now }
+        requires careful { IsCareful driver.old }
+        ensures careful { IsCareful driver.new }
+        ensures goes_on { GoesOn driver.old driver.new None }
+        ensures is { IsFirstClaim driver.old driver.new self.now Reach.Any 0 result }
+        ensures of { IfOk result (λ k. IsClaimingOf driver.new k) }
+    {
+        self.begin(driver, Reach::Any, 0)
+    }
+}
+
+/// Begins the claim of the slot at hand, which is due.
+pub(crate) fn ask<P: Port>(driver: &mut Driver<P>, claiming: Claiming<P>) -> Progress<P>
+    requires of { IsClaimingOf driver.old claiming }
+    requires any { claiming.reach ≡ Reach.Any }
+    requires careful { IsCareful driver.old }
+    ensures careful { IsCareful driver.new }
+    ensures goes_on { GoesOn driver.old driver.new None }
+    ensures is { IsAsked driver.new claiming result }
+    ensures others { (other : Call P) → IsCallOf driver.old other → IsCallOf driver.new other × IsBesideOn result other }
+{
+    let Claiming {
+        slots,
+        reach,
+        slot,
+        stage: _,
+        began,
+    } = claiming;
+    match driver.start_claim(slots.block(slot)) {
+        Ok((call, serial)) => Progress::Pending(Claiming {
+            slots,
+            reach,
+            slot,
+            stage: Stage::Asked(call, serial),
+            began,
+        }),
+        Err(Fault::NoSerial) => Progress::Failed(Fault::NoSerial),
+        Err(fault) => {
+            let due = Claiming {
+                slots,
+                reach,
+                slot,
+                stage: Stage::Due,
+                began,
+            };
+            if fault == Fault::RingFull {
+                return Progress::Pending(due);
+            }
+            Progress::Later(fault, due)
+        }
+    }
+}

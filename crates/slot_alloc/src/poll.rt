@@ -1,0 +1,130 @@
+//! Polling a claim.
+
+ghost use Rattle.std.specs.Prelude.{◌≡◌, ◌≢◌, None, false, true};
+ghost use Rattle.driver_calls.specs.declared.reply.Reply.{Reply};
+ghost use Rattle.driver_cas.specs.Drivers.{IsCallOf};
+ghost use Rattle.driver_cas.specs.declared.call.Call.{Call};
+ghost use Rattle.slot_alloc.specs.Careful.{GoesOn, IsCareful};
+ghost use Rattle.slot_alloc.specs.Claims.{IsClaimingOf};
+ghost use Rattle.slot_alloc.specs.Progresses.{IsBeside, IsBesideOn, IsLost, IsProgress};
+
+use crate::claim::Claim;
+use crate::claiming::{Claiming, Reach, Stage, ask};
+use crate::progress::Progress;
+use driver_cas::{Driver, Poll, Port, Reply};
+
+// Whether a pair's effect said yes.
+pub(crate) fn is_swapped(reply: Reply) -> bool
+    ensures yes { result ≡ true → reply ≡ Reply.Swapped }
+    ensures no_other { result ≡ false → reply ≢ Reply.Swapped }
+{
+    match reply {
+        Reply::Swapped => true,
+        Reply::Read(_) | Reply::Written | Reply::Equal | Reply::Differs => false,
+    }
+}
+
+// Goes on to the next slot where any will do: somebody else has the one at hand.
+fn next<P: Port>(driver: &mut Driver<P>, claiming: Claiming<P>) -> Progress<P>
+    requires lost { IsLost driver.old claiming }
+    requires careful { IsCareful driver.old }
+    ensures careful { IsCareful driver.new }
+    ensures goes_on { GoesOn driver.old driver.new None }
+    ensures is { IsProgress driver.new claiming result }
+    ensures others { (other : Call P) → IsCallOf driver.old other → IsCallOf driver.new other × IsBesideOn result other }
+{
+    let Claiming {
+        slots,
+        reach,
+        slot,
+        stage: _,
+        began,
+    } = claiming;
+    if reach == Reach::One {
+        return Progress::Taken;
+    }
+    let slot = slot + 1;
+    if slot == slots.count {
+        return Progress::AllTaken;
+    }
+    let stage = Stage::Due;
+    ask(
+        driver,
+        Claiming {
+            slots,
+            reach,
+            slot,
+            stage,
+            began,
+        },
+    )
+}
+
+/// What has come of a claim. Reaps at most one completion; where the slot at hand is somebody else's and any will do, the
+/// next slot's pair is published.
+pub fn poll_claim<P: Port>(driver: &mut Driver<P>, claiming: Claiming<P>) -> Progress<P>
+    requires of { IsClaimingOf driver.old claiming }
+    requires careful { IsCareful driver.old }
+    ensures careful { IsCareful driver.new }
+    ensures goes_on { GoesOn driver.old driver.new None }
+    ensures is { IsProgress driver.new claiming result }
+    ensures others { (other : Call P) → IsCallOf driver.old other → IsBeside claiming.stage other →
+        IsCallOf driver.new other × IsBesideOn result other }
+{
+    let Claiming {
+        slots,
+        reach,
+        slot,
+        stage,
+        began,
+    } = claiming;
+    let Stage::Asked(call, serial) = stage else {
+        let stage = Stage::Due;
+        return ask(
+            driver,
+            Claiming {
+                slots,
+                reach,
+                slot,
+                stage,
+                began,
+            },
+        );
+    };
+    match driver.poll(call) {
+        Poll::Pending(call) => Progress::Pending(Claiming {
+            slots,
+            reach,
+            slot,
+            stage: Stage::Asked(call, serial),
+            began,
+        }),
+        Poll::Later(fault, call) => Progress::Later(
+            fault,
+            Claiming {
+                slots,
+                reach,
+                slot,
+                stage: Stage::Asked(call, serial),
+                began,
+            },
+        ),
+        Poll::Done(reply) => {
+            if is_swapped(reply) {
+                return Progress::Held(Claim { slot, serial });
+            }
+            let stage = Stage::Due;
+            next(
+                driver,
+                Claiming {
+                    slots,
+                    reach,
+                    slot,
+                    stage,
+                    began,
+                },
+            )
+        }
+        Poll::Failed(fault) => Progress::Failed(fault),
+    }
+}
