@@ -18,7 +18,7 @@ ghost use Rattle.nvme_model.specs.declared.status.Verdict.{Verdict};
 ghost use Rattle.one_pass_check.specs.Steps.{HasUnits, units_in};
 ghost use Rattle.rings.specs.Submissions.{advanced};
 
-use crate::fields::{Fields, InFlight, Units};
+use crate::fields::{Fields, InFlight, TicketUnits};
 use crate::places::ring_place;
 use block_array::NoMemory;
 use checked_tickets::{Commands, Flight};
@@ -181,7 +181,7 @@ pub fn take_fetch(
     if !fetch_fits(line, fields.tickets, &judged) {
         return Ok(false);
     }
-    let units = Units::new(units_of(alloc, config, &judged)?);
+    let units = TicketUnits::new(units_of(alloc, config, &judged)?);
     fields.flights.reserve(1)?;
     let (first, second) = take_commands(&mut fields.submission[place], judged.taken());
     let commands = Commands::new(line.queue, line.verdict, first, second);

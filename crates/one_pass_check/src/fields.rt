@@ -14,11 +14,11 @@ use std::marker::Model;
 
 /// The units of a ticket, in order.
 #[derive(Drop)]
-pub struct Units {
+pub struct TicketUnits {
     ranges: Vec<Range>,
 }
 
-impl Model for Units {
+impl Model for TicketUnits {
     ghost use Rattle.std.specs.Prelude.{List};
     ghost use Rattle.nvme_model.specs.declared.array.Range.{Range};
 
@@ -27,12 +27,12 @@ impl Model for Units {
     ghost view = { λ u. u.ranges.items };
 }
 
-impl Units {
+impl TicketUnits {
     /// These units.
-    pub fn new(ranges: Vec<Range>) -> Units
+    pub fn new(ranges: Vec<Range>) -> TicketUnits
         ensures { result ≡ ranges.items }
     {
-        Units { ranges }
+        TicketUnits { ranges }
     }
 
     pub fn as_slice(&self) -> &[Range]
@@ -47,7 +47,7 @@ impl Units {
 pub struct InFlight {
     pub ticket: u64,
     pub flight: Flight,
-    pub units: Units,
+    pub units: TicketUnits,
 }
 
 /// What a checker keeps.
