@@ -62,7 +62,7 @@ fn put<R: Wait, G: Gate>(rt: &R, hall: &Hall<G>, hand: &mut Hand, work: Work)
 
 // Takes the next command of this submission queue, if one waits, and pushes its Work.
 #[tactic(auto, using(crate::proofs::Going::goes_same))]
-fn serve<R: Wait, G: Gate>(
+pub(crate) fn serve<R: Wait, G: Gate>(
     rt: &R,
     hall: &Hall<G>,
     hand: &mut Hand,

@@ -24,3 +24,30 @@ pub struct Hand {
     pub pass: Pass<Core>,
     pub works: QueuePass<Work>,
 }
+
+/// What a worker owns.
+#[derive(Drop)]
+pub struct WorkerHand {
+    pub hand: Hand,
+    /// Of the queues of notices, in their order.
+    pub notices: Vec<QueuePass<Notice>>,
+}
+
+/// What the host of a completion queue owns.
+#[derive(Drop)]
+pub struct HostHand {
+    pub pass: Pass<Core>,
+    /// The completion queue, from 1.
+    pub queue: u16,
+    /// Of its queue of notices.
+    pub notices: QueuePass<Notice>,
+}
+
+/// What all callers of a hall own.
+#[derive(Drop)]
+pub struct Hands {
+    pub fetcher: Hand,
+    pub workers: Vec<WorkerHand>,
+    /// One for each completion queue.
+    pub hosts: Vec<HostHand>,
+}

@@ -7,7 +7,7 @@ ghost use Rattle.meet_lock.specs.Passes.{config_of, seen};
 ghost use Rattle.work_queue.specs.Notices.{IsNoticeOf};
 ghost use Rattle.work_queue.specs.Posted.{IsPostedTo};
 ghost use Rattle.work_queue.specs.QueuePasses as queue;
-ghost use Rattle.hosts.specs.Hands.{AreNoticesOf, Goes, IsOf, IsPlaceAt};
+ghost use Rattle.hosts.specs.Hands.{AreNoticesOf, Goes, IsOf, IsPlaceAt, IsWordOf};
 
 use crate::gate::Gate;
 use crate::hall::{Hall, Hand};
@@ -35,12 +35,12 @@ fn noted<G: Gate>(
     requires own { IsOf hall.now hand.old }
     requires there { IsPostedTo (config_of hand.old.pass) (entries (seen hand.old.pass)) queue cqe }
     ensures goes { Goes hall.now hand.old hand.new }
-    ensures notice { IfOk result (IsNoticeOf hall.now.engine) }
+    ensures notice { IfOk result (λ n. IsNoticeOf hall.now.engine n × IsWordOf queue n) }
 {
     Notice::new(&hall.engine, &mut hand.pass, queue, cqe)
 }
 
-// Pushes the word to a queue, again while that is full, until the stop flag is set.
+// Pushes the word to the queue of its completion queue, again while that is full, until the stop flag is set.
 fn put<R: Wait, G: Gate>(
     rt: &R,
     hall: &Hall<G>,
@@ -50,7 +50,7 @@ fn put<R: Wait, G: Gate>(
 )
     requires place { place < vec_len hall.now.notices }
     requires own { IsPlaceAt hall.now place pass.old }
-    requires notice { IsNoticeOf hall.now.engine notice }
+    requires notice { IsNoticeOf hall.now.engine notice × IsWordOf (place + 1) notice }
     ensures same { queue.IsSame pass.old pass.new }
 {
     let mut notice = notice;
