@@ -3,3 +3,5 @@ pub mod Starting
 pub mod Asking
 pub mod Polling
 pub mod GivingBack
+pub mod Keeping
+pub mod Staying
