@@ -5,3 +5,4 @@ pub mod Polling
 pub mod GivingBack
 pub mod Keeping
 pub mod Staying
+pub mod Taking

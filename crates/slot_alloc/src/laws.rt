@@ -2,10 +2,12 @@
 
 ghost use Rattle.std.specs.Prelude.{[], None, Ok, Option, Result, Some, length, true, ℕ, ◌≡◌, ◌≢◌};
 ghost use Rattle.nvme_model.specs.Passes.{entries};
-ghost use Rattle.nvme_model.specs.Slots.{believed, holder};
+ghost use Rattle.nvme_model.specs.Slots.{believed, disciplined, holder};
 ghost use Rattle.nvme_model.specs.declared.status.Status.{Status};
+ghost use Rattle.host_laws.specs.Calls.{PairDiffers};
+ghost use Rattle.driver_calls.specs.Views.{IsAlone};
 ghost use Rattle.driver_calls.specs.declared.reply.Reply.{Reply};
-ghost use Rattle.driver_cas.specs.Drivers.{IsCallOf, IsOneMore, IsSame, answer_to, area_of, before, host_of, made};
+ghost use Rattle.driver_cas.specs.Drivers.{IsCallOf, IsOneMore, IsSame, answer_to, area_of, before, host_of, made, number_of};
 ghost use Rattle.driver_cas.specs.Ports.{view_of};
 ghost use Rattle.driver_cas.specs.Requests.{IsStart, pair_request_of, request_of};
 ghost use Rattle.driver_cas.specs.declared.call.Call.{Call};
@@ -15,7 +17,7 @@ ghost use Rattle.nvme_model.specs.declared.operation.Op.{Op};
 ghost use Rattle.slot_calls.specs.Hosts.{IsSlotHost};
 ghost use Rattle.slot_alloc.specs.Areas.{block_of, serial_of, slot_of};
 ghost use Rattle.slot_alloc.specs.Careful.{GoesOn, IsCareful, ReleasedName, is_another, own_name};
-ghost use Rattle.slot_alloc.specs.Claims.{IsCallKept, IsClaimingOf, IsHeldBy, IsReleasingOf, release_call, stage_of};
+ghost use Rattle.slot_alloc.specs.Claims.{ClaimSays, IsCallKept, IsClaimingOf, IsHeldBy, IsReleasingOf, release_call, stage_of};
 
 use crate::claim::Claim;
 use crate::claiming::Claiming;
@@ -74,6 +76,29 @@ pub fn what_was_begun_stays<P: Port>(
     let _ = claim;
     let _ = claiming;
     let _ = releasing;
+}
+
+/// Where the premises hold of what its port has seen, a careful driver keeps the discipline of the slot area, and so does
+/// the whole history.
+pub fn a_careful_driver_keeps_the_discipline(driver: &Driver<SharedPort<'_>>)
+    requires careful { IsCareful driver.now }
+    requires host { IsSlotHost (before driver.now) (area_of driver.now) (host_of driver.now) (view_of driver.now.port) }
+    ensures { let v = view_of driver.now.port in disciplined v.config (area_of driver.now) (entries v.seen) ≡ true }
+{
+    let _ = driver;
+}
+
+/// Where a claim was answered that somebody else has its slot, its effect said no, and stands in what was seen.
+pub fn a_taken_slot_was_anothers(
+    driver: &Driver<SharedPort<'_>>,
+    began: &Snapshot<Driver<SharedPort<'_>>>,
+)
+    requires { IsAlone (before driver.now) (view_of driver.now.port) }
+    ensures { (lba : ℕ) (s : ClaimSays driver.now began.now.value lba (Ok Reply.Differs)) →
+        PairDiffers (entries (view_of driver.now.port).seen) s.call.queue (number_of s.at s.call) }
+{
+    let _ = driver;
+    let _ = began;
 }
 
 /// Where the premises hold of what its driver's port has seen, a claim's name is believed of its slot, and holds it.
