@@ -27,7 +27,7 @@ fn a_long_history_is_legal(rt: HostRuntime) -> Result<(), Fail> {
 /// How many entries a history has behind one that is bad.
 const LATER: u64 = 70_000;
 
-// The rules of each entry are computed over all those before it, so a history of so many that is legal takes too long.
+// What stands behind a bad entry is read and not judged.
 #[test]
 fn a_longer_history_is_read_whole(rt: HostRuntime) -> Result<(), Fail> {
     let mut history = String::from_str(rt.alloc(), "config 8 1 1 0 0 2 4 4 8\n")?;

@@ -1,6 +1,7 @@
 pub mod Made
 pub mod Passes
 pub mod Ports
+pub mod Listening
 pub mod Tables
 pub mod Drivers
 pub mod Starts

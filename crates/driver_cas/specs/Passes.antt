@@ -1,6 +1,7 @@
 -- The events of a pass.
-use Rattle.std.specs.Prelude.{List, ℕ}
-use Rattle.meet_lock.specs.Passes.{config_of, number, seen}
+use Rattle.std.specs.Prelude.{List, ℕ, ◌≡◌}
+use Rattle.nvme_model.specs.Passes.{IsBeginning}
+use Rattle.meet_lock.specs.Passes.{IsSame, config_of, mine, number, seen}
 use Rattle.work_queue.specs.Engines.{EnginePass}
 use Rattle.driver_calls.specs.Events.{events}
 use Rattle.driver_calls.specs.declared.event.PortEvent.{PortEvent}
@@ -8,3 +9,9 @@ use Rattle.driver_calls.specs.declared.event.PortEvent.{PortEvent}
 -- what the pass published to the submission queues of completion queue n and reaped there, the newest first
 abbrev pub log_at : ℕ → EnginePass → List PortEvent
 log_at n p = events (config_of p) n (number p) (seen p)
+
+-- the second is the first, which has seen what it had seen, and maybe more, and added no entry
+pub record SawOn (p q : EnginePass) : Type 0 where
+  pub same : IsSame p q
+  pub mine_stay : mine q ≡ mine p
+  pub goes_on : IsBeginning (seen p) (seen q)

@@ -6,6 +6,8 @@ mod calls;
 mod claims;
 mod driver;
 mod fault;
+mod listen;
+mod messages;
 mod poll;
 mod port;
 mod shared_port;

@@ -20,7 +20,7 @@ use work_queue::{Engine, Open, Opened};
 /// The port of one completion queue of an engine's controller and the submission queues that use it.
 #[derive(Drop)]
 pub struct SharedPort<'a> {
-    engine: &'a Engine,
+    pub(crate) engine: &'a Engine,
     pub(crate) pass: Pass<Core>,
     pub(crate) queue: u16,
     // How many notices were counted whose completions aren't reaped.
@@ -36,12 +36,13 @@ impl<'a> SharedPort<'a> {
     /// The port of this completion queue, with a pass of the engine.
     pub fn new(engine: &'a Engine, pass: Pass<Core>, queue: u16) -> SharedPort<'a>
         requires own { IsOf engine.now pass }
-        requires kept { Kept (config_of pass) (entries (seen pass)) }
         requires there { (1 ≤ queue) × (queue ≤ (config_of pass).cqs) }
-        ensures pass { result.pass ≡ pass }
+        ensures pass { IsSame pass result.pass × (seen result.pass ≡ seen pass) }
         ensures queue { result.queue ≡ queue }
         ensures counted { result.counted ≡ 0 }
     {
+        let mut pass = pass;
+        engine.recall(&mut pass);
         SharedPort {
             engine,
             pass,

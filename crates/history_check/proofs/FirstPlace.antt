@@ -1,5 +1,5 @@
 -- The first place at which a list of entries is no longer legal.
-use Rattle.std.proofs.Common.{◌≡◌, ℕ, zero, suc, ◌+◌, ◌<◌, ◌≤◌, false, List, [], ◌∷◌, get_or, length, reverse, take, refl, sym, ap, ◌∙◌, subst, arith}
+use Rattle.std.proofs.Common.{◌≡◌, ℕ, zero, suc, ◌+◌, ◌<◌, ◌≤◌, Bool, false, true, List, [], ◌∷◌, get_or, length, reverse, take, refl, sym, ap, ◌∙◌, subst, arith}
 use Rattle.std.proofs.lemmas.Bool.{and_right}
 use Rattle.std.proofs.lemmas.List.{reverse-append, take_more}
 use Rattle.nvme_model.specs.FirstBad.{IsFirstBad}
@@ -8,6 +8,7 @@ use Rattle.nvme_model.specs.Legal.{IsLegal, IsLegalFile, legal, may_follow}
 use Rattle.nvme_model.specs.declared.config.ConfigNumbers.{ConfigNumbers}
 use Rattle.nvme_model.specs.declared.entry.Entry.{Entry}
 use Rattle.nvme_model.proofs.Beginnings.{beginning}
+use Rattle.one_pass_check.specs.Kept.{Stands, State}
 
 -- the entries up to a place, the newest first
 one_more : (entries : List Entry) (i : ℕ) (e : Entry) → i < length entries → e ≡ get_or entries i e → reverse (take (i + 1) entries) ≡ e ∷ reverse (take i entries)
@@ -21,13 +22,34 @@ take_fewer (suc k) zero xs l = absurd (omega (arith, l))
 take_fewer (suc k) (suc i) [] l = refl
 take_fewer (suc k) (suc i) (x ∷ xs) l = ap (λ (ys : List Entry). x ∷ ys) (take_fewer k i xs (omega (arith, l)))
 
--- an entry that may not follow those before it, which are legal
-pub first_place : (c : ConfigNumbers) (entries : List Entry) (i : ℕ) (past : Past) (e : Entry) → i < length entries → e ≡ get_or entries i e → past ≡ reverse (take i entries)
-    → IsLegal c (reverse (take i entries)) → may_follow c past e ≡ false → IsFirstBad c entries (i + 1)
-first_place c entries i past e l there before h f = (
+-- entries that are legal, and with this one aren't
+pub first_bad : (c : ConfigNumbers) (entries : List Entry) (i : ℕ) (e : Entry) → i < length entries → e ≡ get_or entries i e → IsLegal c (reverse (take i entries)) → legal c (e ∷ reverse (take i entries)) ≡ false
+    → IsFirstBad c entries (i + 1)
+first_bad c entries i e l there h f = (
   omega arith,
   omega (arith, l),
-  ap (legal c) (one_more entries i e l there)
-      ∙ and_right (legal c (reverse (take i entries))) (may_follow c (reverse (take i entries)) e) (subst (λ (p : Past). may_follow c p e ≡ false) before f),
+  ap (legal c) (one_more entries i e l there) ∙ f,
   λ k m. subst (λ (xs : List Entry). IsLegalFile c xs) (take_fewer k i entries (omega (arith, m))) (beginning c (take i entries) k h),
 )
+
+-- the same where it may not follow them
+pub first_place : (c : ConfigNumbers) (entries : List Entry) (i : ℕ) (past : Past) (e : Entry) → i < length entries → e ≡ get_or entries i e → past ≡ reverse (take i entries)
+    → IsLegal c (reverse (take i entries)) → may_follow c past e ≡ false → IsFirstBad c entries (i + 1)
+first_place c entries i past e l there before h f =
+    first_bad c entries i e l there h
+    (and_right (legal c (reverse (take i entries))) (may_follow c (reverse (take i entries)) e) (subst (λ (p : Past). may_follow c p e ≡ false) before f))
+
+-- ---- by a checker
+
+-- what it answers of one more entry, and for which history it stands then
+pub taken : (c : ConfigNumbers) (entries : List Entry) (i : ℕ) (e : Entry) (old new : State) (b : Bool) → i < length entries → e ≡ get_or entries i e → Stands c (reverse (take i entries)) old
+    → (Stands old.config (reverse (take i entries)) old → (b ≡ legal old.config (e ∷ reverse (take i entries))) × Stands old.config (e ∷ reverse (take i entries)) new)
+    → (b ≡ legal c (e ∷ reverse (take i entries))) × Stands c (reverse (take (i + 1) entries)) new
+taken c entries i e old new b l there s t =
+    let own = subst (λ (d : ConfigNumbers). Stands d (reverse (take i entries)) old) (sym s.same) s in
+    let p = subst (λ (d : ConfigNumbers). (b ≡ legal d (e ∷ reverse (take i entries))) × Stands d (e ∷ reverse (take i entries)) new) s.same (t own) in
+    (p.0, subst (λ (past : Past). Stands c past new) (sym (one_more entries i e l there)) p.1)
+
+-- the entries with one more that lets them be legal
+pub legal_more : (c : ConfigNumbers) (entries : List Entry) (i : ℕ) (e : Entry) → i < length entries → e ≡ get_or entries i e → legal c (e ∷ reverse (take i entries)) ≡ true → IsLegal c (reverse (take (i + 1) entries))
+legal_more c entries i e l there h = ap (legal c) (one_more entries i e l there) ∙ h

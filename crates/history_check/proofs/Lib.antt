@@ -1,10 +1,1 @@
-mod FirstPlace
-mod Followed
-mod Fronts
-mod Judging
-mod Limits
-mod Noted
-mod Opened
-mod ReadBack
-mod Skipped
-mod Ticketed
+pub mod FirstPlace

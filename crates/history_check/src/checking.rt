@@ -2,10 +2,8 @@
 
 ghost use Rattle.history_check.specs.Checks.{Checks};
 
-use crate::past::Before;
-use crate::rules::may_follow;
-use crate::values::note_of;
 use history::{Config, Entry};
+use one_pass_check::Checker;
 use std::alloc::{AllocError, Global};
 
 /// Why a list of entries is not said to be legal.
@@ -38,16 +36,10 @@ impl From<AllocError> for CheckFault {
 pub fn check(alloc: Global, config: &Config, entries: &[Entry]) -> Result<(), CheckFault>
     ensures value { Checks config.now entries.now result }
 {
-    let mut notes = Vec::new(alloc);
+    let mut checker = Checker::new(alloc, config)?;
     for place in 0..entries.len() {
-        let past = Before::new(&entries[..place], notes.as_slice());
-        let entry = &entries[place];
-        if !may_follow(alloc, config, &past, entry)? {
+        if !checker.take(&entries[place])? {
             return Err(CheckFault::BadAt(place as u64 + 1));
-        }
-        let note = note_of(&past, entry);
-        if notes.push(note).is_err() {
-            return Err(CheckFault::NoMemory);
         }
     }
     Ok(())

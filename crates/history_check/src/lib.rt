@@ -2,16 +2,8 @@
 #![tactic(auto)]
 
 mod checking;
-mod counts;
-mod fetching;
-mod owed;
-mod past;
-mod posts;
-mod rules;
-mod taken;
 #[cfg(test)]
 mod tests;
-mod units;
-mod values;
 
 pub use crate::checking::{CheckFault, check};
+pub use one_pass_check::Checker;

@@ -4,6 +4,7 @@ mod edits;
 mod lists;
 mod long;
 mod runs;
+mod steps;
 
 use crate::{CheckFault, check};
 use history::{Config, parse_line};

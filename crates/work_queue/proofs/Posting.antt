@@ -1,5 +1,5 @@
 -- The completion that a Post answers is posted.
-use Rattle.std.proofs.Common.{[], None, Option, Some, ap, eq-eqb, false, refl, subst, sym, true, ℕ, ◌++◌, ◌∙◌, ◌≡◌, ◌||◌, ◌∷◌, if◌then◌else◌, slice_get}
+use Rattle.std.proofs.Common.{[], None, Option, Some, ap, eq-eqb, false, refl, subst, sym, ℕ, ◌++◌, ◌∙◌, ◌≡◌, ◌||◌, ◌∷◌, if◌then◌else◌, slice_get}
 use Rattle.std.specs.List.{find, list_any}
 use Rattle.std.specs.Prelude.{bytes_eq, ◌==◌}
 use Rattle.std.proofs.Math.Bool.{or-true}
@@ -20,7 +20,6 @@ use Rattle.nvme_model.specs.declared.entry.Entry.{Entry}
 use Rattle.nvme_model.specs.declared.entry.GrantLine.{GrantLine}
 use Rattle.nvme_model.specs.declared.entry.PostLine.{PostLine}
 use Rattle.nvme_model.specs.declared.status.Status.{Status}
-use Rattle.nvme_model.specs.declared.step.Step.{Step}
 use Rattle.step_core.specs.State.{Accepts, answer_of}
 use Rattle.step_core.specs.declared.answer.Answer.{Answer}
 use Rattle.meet_lock.specs.Passes.{Accepted, config_of, seen}

@@ -194,6 +194,17 @@ impl Engine {
         self.shared.meet(first, second)
     }
 
+    /// Tells what holds of whatever the pass has seen: it is what a controller keeps of its history. Takes neither lock nor
+    /// memory.
+    pub fn recall(&self, pass: &mut Pass<Core>)
+        requires { IsOf self.now pass.old }
+        ensures same { IsSame pass.old pass.new × (seen pass.new ≡ seen pass.old) }
+        ensures kept { Kept (config_of pass.new) (entries (seen pass.new)) }
+    {
+        let mut note = self.shared.note(pass);
+        self.shared.learn(pass, &mut note);
+    }
+
     /// The controller, where no pass had the lock.
     pub fn close(self, pass: Pass<Core>) -> Option<Core>
         requires { IsOf self pass }

@@ -1,4 +1,4 @@
-//! A history of hundreds of entries.
+//! A history of thousands of entries.
 
 use crate::check;
 use completions::cqe_of;
@@ -13,7 +13,7 @@ use nvme_model::submission::{Batch, Payload, Submission};
 use std::alloc::Global;
 use std::test::Fail;
 
-const WRITES: u16 = 100;
+const WRITES: u16 = 2_000;
 
 // Keeps an entry behind the others.
 fn keep(entries: &mut Vec<Entry>, entry: Entry) -> Result<(), Fail> {
@@ -88,7 +88,7 @@ fn many_writes(rt: HostRuntime) -> Result<(), Fail> {
     for number in 0..WRITES {
         put_write(alloc, &mut entries, number)?;
     }
-    assert_eq!(rt; entries.len(), 600);
+    assert_eq!(rt; entries.len(), 12_000);
     assert_eq!(rt; check(alloc, &config, entries.as_slice()), Ok(()));
     Ok(())
 }

@@ -1,11 +1,11 @@
-use Rattle.std.proofs.Common.{◌≡◌, take}
+use Rattle.std.proofs.Common.{take}
 use mathlib.Core.List.{reverse}
 use Rattle.nvme_model.specs.Legal.{IsLegal}
-use Rattle.history_check.specs.Notes.{notes_of}
+use Rattle.one_pass_check.specs.Kept.{Stands}
 use Rattle.history_check.proofs.checking.check.Given as goal
 
 abbrev pub invariant-loop-place : goal.invariant-loop-place
 invariant-loop-place l = record {
-  notes : reverse l.notes.items ≡ notes_of (reverse (take l.place l.entries));
+  stands : Stands l.config (reverse (take l.place l.entries)) l.checker;
   legal : IsLegal l.config (reverse (take l.place l.entries));
 }

@@ -1,0 +1,13 @@
+//! A ticket in flight, as a checker of one pass keeps it: what its entries are judged by, and what they change.
+#![tactic(auto)]
+
+mod commands;
+mod flight;
+mod laws;
+mod unit;
+mod values;
+
+pub use commands::Commands;
+pub use flight::{Flight, TakenBlock};
+pub use laws::a_post_asks_for_its_rings;
+pub use values::write_range;

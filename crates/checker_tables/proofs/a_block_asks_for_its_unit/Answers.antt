@@ -1,0 +1,11 @@
+use Rattle.checker_tables.proofs.Within.{fits_same, flight_same, value_same}
+use Rattle.checker_tables.proofs.a_block_asks_for_its_unit.Goals as goal
+
+pub returns-clause-fits : goal.returns-clause-fits
+returns-clause-fits c = fits_same
+
+pub returns-clause-flight : goal.returns-clause-flight
+returns-clause-flight c = flight_same
+
+pub returns-clause-value : goal.returns-clause-value
+returns-clause-value c = value_same

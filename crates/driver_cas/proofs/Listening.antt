@@ -1,0 +1,65 @@
+-- A pass, a port and a driver that saw more.
+use Rattle.std.proofs.Common.{◌≡◌, ℕ, [], Err, List, Ok, Result, ap, ap₂, inl, refl, sym, ◌∙◌}
+use Rattle.std.specs.Prelude.{IfErr}
+use Rattle.std.specs.declared.snapshot.Snapshot.{Snapshot}
+use Rattle.cid_table.specs.Cids.{Cids, held}
+use Rattle.nvme_model.specs.Passes.{IsBeginning}
+use Rattle.meet_lock.specs.Passes.{IsSame, mine, seen}
+use Rattle.work_queue.specs.Engines.{EnginePass}
+use Rattle.driver_calls.proofs.Views.{begins_on, follows_on}
+use Rattle.driver_calls.specs.Views.{since}
+use Rattle.driver_calls.specs.declared.event.PortEvent.{PortEvent}
+use Rattle.driver_cas.specs.Drivers.{IsCallOf, IsSame as IsDriver}
+use Rattle.driver_cas.specs.Listening.{SawMore}
+use Rattle.driver_cas.specs.Passes.{SawOn, log_at}
+use Rattle.driver_cas.specs.Ports.{Follows, view_of}
+use Rattle.driver_cas.specs.Tables.{is_free}
+use Rattle.driver_cas.specs.declared.call.Call.{Call}
+use Rattle.driver_cas.specs.declared.driver.Driver.{Driver}
+use Rattle.driver_cas.specs.declared.port.Port.{Ghosts}
+use Rattle.driver_cas.specs.declared.shared_port.SharedPort.{SharedPort}
+use Rattle.driver_cas.proofs.Drivers.{reaped_calls}
+use Rattle.driver_cas.proofs.Ports.{log_declined}
+
+-- ---- passes
+
+same_on : (p q r : EnginePass) → IsSame p q → IsSame q r → IsSame p r
+same_on p q r x y = (y.0 ∙ x.0, y.1 ∙ x.1, y.2 ∙ x.2, y.3 ∙ x.3)
+
+pub saw_self : (p : EnginePass) → SawOn p p
+saw_self p = record { same = (refl, refl, refl, refl); mine_stay = refl; goes_on = ([], refl) }
+
+pub saw_same : (p q r : EnginePass) → SawOn p q → IsSame q r → mine r ≡ mine q → seen r ≡ seen q → SawOn p r
+saw_same p q r x s m e = record { same = same_on p q r x.same s; mine_stay = m ∙ x.mine_stay; goes_on = (x.goes_on.0, x.goes_on.1 ∙ sym e) }
+
+pub saw_on : (p q r : EnginePass) → SawOn p q → IsSame q r → mine r ≡ mine q → IsBeginning (seen q) (seen r) → SawOn p r
+saw_on p q r x s m b = record { same = same_on p q r x.same s; mine_stay = m ∙ x.mine_stay; goes_on = begins_on (seen p) (seen q) (seen r) x.goes_on b }
+
+-- ---- ports
+
+pub saw_more : (a b : SharedPort) → b.queue ≡ a.queue → SawOn a.pass b.pass → SawMore a b
+saw_more a b queue s =
+    record {
+      follows = record { same_lock = s.same.0; view = record { same_config = s.same.3; same_queue = queue; same_pass = s.same.1; goes_on = s.goes_on } };
+      log = ap (λ (n : ℕ). log_at n b.pass) queue ∙ log_declined a.queue a.pass b.pass s.same s.mine_stay s.goes_on;
+    }
+
+-- where nothing has changed
+pub same_view : (a b : SharedPort) → b.queue ≡ a.queue → SawOn a.pass b.pass → seen b.pass ≡ seen a.pass → view_of b ≡ view_of a
+same_view a b queue s e = λ i. record { config = s.same.3 i; queue = queue i; pass = s.same.1 i; seen = e i }
+
+pub if_err : {A E : Type 0} (P Q : Type 0) (r : Result A E) → (P → Q) → IfErr r (λ x. P) → IfErr r (λ x. Q)
+if_err P Q (Ok a) f h = tt
+if_err P Q (Err e) f h = f h
+
+-- ---- drivers
+
+module _ {P : Type 0} (g : Ghosts P) where
+  -- the calls of a driver that did nothing stay its calls
+  pub idle_calls : ((a b c : P) → g.follows a b → g.follows b c → g.follows a c) → (d e : Driver P g) → IsDriver d e → e.cids ≡ d.cids → g.follows d.port e.port → g.log e.port ≡ g.log d.port → (k : Call P) → IsCallOf d k → IsCallOf e k
+  idle_calls on d e same cids later log k of =
+      reaped_calls g on d e k same later (inl (ap₂ (λ (s : Snapshot P) (l : List PortEvent). since (g.log s.value) l) same.began log)) (λ q i. ap (λ (c : Cids). is_free (held c q i)) cids) of
+
+-- a later port of an engine is one of what is later than it
+pub follows_later : (a b c : SharedPort) → Follows a b → Follows b c → Follows a c
+follows_later a b c x y = record { same_lock = y.same_lock ∙ x.same_lock; view = follows_on (view_of a) (view_of b) (view_of c) x.view y.view }

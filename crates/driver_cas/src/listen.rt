@@ -1,0 +1,58 @@
+//! A driver of a shared controller meets another, and listens for completions.
+
+ghost use Rattle.std.specs.Prelude.{◌≡◌, IfErr, IfOk};
+ghost use Rattle.meet_lock.specs.Passes.{seen};
+ghost use Rattle.driver_cas.specs.Drivers.{IsCallOf};
+ghost use Rattle.driver_cas.specs.Listening.{IsBeside, IsPlaceFor, Listens};
+ghost use Rattle.driver_cas.specs.Ports.{view_of};
+ghost use Rattle.driver_cas.specs.Starts.{IsUntouched};
+ghost use Rattle.driver_cas.specs.declared.call.Call.{Call};
+ghost use Rattle.driver_cas.specs.declared.shared_port.SharedPort.{SharedPort};
+
+use crate::driver::Driver;
+use crate::shared_port::SharedPort;
+use meet_lock::Busy;
+use std::sync::Wait;
+use work_queue::{Notice, NoticeQueue, QueuePass};
+
+impl<'a> Driver<SharedPort<'a>> {
+    /// Both drivers' ports have seen the whole history so far, if no other caller has the controller. Takes no memory.
+    ///
+    /// # Errors
+    ///
+    /// `Busy` where another caller had the controller; nothing has changed.
+    pub fn meet(&mut self, other: &mut Driver<SharedPort<'_>>) -> Result<(), Busy>
+        requires { IsBeside self.old.port other.old.port }
+        ensures first { IsUntouched self.old self.new }
+        ensures second { IsUntouched other.old other.new }
+        ensures calls { (k : Call SharedPort) → IsCallOf self.old k → IsCallOf self.new k }
+        ensures others { (k : Call SharedPort) → IsCallOf other.old k → IsCallOf other.new k }
+        ensures met { IfOk result (λ _. seen self.new.port.pass ≡ seen other.new.port.pass) }
+        ensures busy { IfErr result (λ _. (view_of self.new.port ≡ view_of self.old.port)
+            × (view_of other.new.port ≡ view_of other.old.port)) }
+    {
+        self.port.meet(&mut other.port)
+    }
+
+    /// Takes at most one notice out of a queue of the port's engine; whether it took one. The port then has seen what the
+    /// notice had, and a notice of its completion queue lets one more completion be reaped. It may spin beside other
+    /// callers, and asks again while one has the controller.
+    pub fn listen<R: Wait>(
+        &mut self,
+        rt: &R,
+        notices: &NoticeQueue,
+        pass: &mut QueuePass<Notice>,
+    ) -> bool
+        requires { IsPlaceFor self.old.port notices.now pass.old }
+        ensures untouched { IsUntouched self.old self.new }
+        ensures calls { (k : Call SharedPort) → IsCallOf self.old k → IsCallOf self.new k }
+        ensures place { IsPlaceFor self.new.port notices.now pass.new }
+        ensures listens { Listens self.old.port self.new.port pass.old pass.new result }
+    {
+        let Some(notice) = notices.pop(rt, pass) else {
+            return false;
+        };
+        self.port.hear(rt, notice);
+        true
+    }
+}

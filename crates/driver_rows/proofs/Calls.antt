@@ -1,0 +1,114 @@
+-- What becomes of a host's calls, what is fetched, and that there are completion queues.
+use Rattle.std.proofs.Common.{◌≡◌, ℕ, ◌<◌, ◌+◌, ◌∙◌, All, Err, List, None, Ok, Option, Result, Some, ap, arith, eqb, false, inl, is_none, slice_get, subst, sym}
+use Rattle.std.specs.Prelude.{IfOk, IfSome}
+use Rattle.std.proofs.Math.ListN.{get_or}
+use Rattle.std.proofs.lemmas.Option.{slice_get-get_or}
+use Rattle.nvme_model.specs.History.{Past}
+use Rattle.meet_lock.specs.Passes.{IsNew, config_of}
+use Rattle.std.proofs.lemmas.Bool.{or_parts}
+use Rattle.std.proofs.lemmas.Bool.Decides.{nat_tests}
+use Rattle.nvme_model.specs.Config.{config_fault, config_faults}
+use Rattle.nvme_model.specs.declared.config.ConfigNumbers.{ConfigNumbers}
+use Rattle.nvme_model.specs.declared.entry.Entry.{Entry}
+use Rattle.nvme_model.proofs.Rules.{none_holds}
+use Rattle.step_core.specs.declared.answer.Answer.{Answer}
+use Rattle.work_queue.specs.Engines.{EnginePass, IsOf, IsOpened, IsWorkOf, OpenedAs}
+use Rattle.work_queue.specs.declared.engine.Engine.{Engine}
+use Rattle.work_queue.specs.declared.engine.Open.{Open}
+use Rattle.work_queue.specs.declared.engine.Opened.TheVariants as opened
+use Rattle.work_queue.specs.declared.work.Work.{Work}
+use Rattle.cid_table.specs.Cids.{Cids, held}
+use Rattle.driver_commands.specs.declared.request.CallData.{CallData}
+use Rattle.driver_commands.specs.declared.request.Request.{Request}
+use Rattle.driver_cas.specs.Drivers.{IsApart, IsBack, IsCallBack, IsCallOf, IsSame}
+use Rattle.driver_cas.specs.Ports.{Follows}
+use Rattle.driver_cas.specs.Requests.{IsStart}
+use Rattle.driver_cas.specs.Starts.{IsAsBefore}
+use Rattle.driver_cas.specs.Tables.{is_free}
+use Rattle.driver_cas.specs.declared.call.Call.{Call}
+use Rattle.driver_cas.specs.declared.call.Poll.{Poll}
+use Rattle.driver_cas.specs.declared.driver.Driver.{Driver}
+use Rattle.driver_cas.specs.declared.fault.Fault.{Fault}
+use Rattle.driver_cas.specs.declared.port.Port.{Ghosts}
+use Rattle.driver_cas.specs.declared.shared_port.SharedPort.{SharedPort}
+use Rattle.driver_cas.proofs.Drivers.{reaped_calls}
+use Rattle.driver_cas.proofs.Listening.{follows_later}
+use Rattle.driver_rows.specs.Calls.{Begins, Keeps, Polls, given_back}
+use Rattle.driver_rows.specs.declared.bench.Host.{Host}
+
+-- ---- calls
+
+kept : (h i : Host) → IsSame h.driver i.driver → Follows h.driver.port i.driver.port → IsAsBefore h.driver i.driver → Keeps h i
+kept h i same later before = λ k of.
+    reaped_calls _ follows_later h.driver i.driver k same later (inl before.0) (λ q n. ap (λ (c : Cids). is_free (held c q n)) before.1) of
+
+pub begun : (h i : Host) (q : Result Request Fault) (c : CallData) (r : Result (Call SharedPort) Fault) → IsSame h.driver i.driver → Follows h.driver.port i.driver.port → i.place ≡ h.place → IsStart h.driver i.driver q c r → Begins h i r
+begun h i (Err f) c r same later place s =
+    subst (λ (x : Result (Call SharedPort) Fault). Begins h i x) (sym s.0) (record { same = (later.same_lock, place); keeps = kept h i same later s.1; call = tt })
+begun h i (Ok q) c (Ok k) same later place s =
+    record { same = (later.same_lock, place); keeps = λ j of. (s.others j of).0; call = (s.of, λ j of. (s.others j of).1) }
+begun h i (Ok q) c (Err f) same later place s = record { same = (later.same_lock, place); keeps = kept h i same later s.0; call = tt }
+
+pub back_of : (i : Host) (k : Call SharedPort) (r : Poll SharedPort) (o : Option (Call SharedPort)) → o ≡ given_back r → IsBack k r → IsCallBack i.driver r → IfSome o (λ j. (j ≡ k) × IsCallOf i.driver j)
+back_of i k r o e back of = subst (λ (x : Option (Call SharedPort)). IfSome x (λ j. (j ≡ k) × IsCallOf i.driver j)) (sym e) (go r back of)
+  where
+    go : (r : Poll SharedPort) → IsBack k r → IsCallBack i.driver r → IfSome (given_back r) (λ j. (j ≡ k) × IsCallOf i.driver j)
+    go (Poll.Pending j) back of = (back, of)
+    go (Poll.Later f j) back of = (back.0, of)
+    go (Poll.Done r) back of = tt
+    go (Poll.Failed f) back of = tt
+
+pub polls_on : (h i m : Host) (k n : Call SharedPort) → n ≡ k → Polls h i k → Polls i m n → Polls h m k
+polls_on h i m k n e x y =
+    record {
+      same = (y.same.0 ∙ x.same.0, y.same.1 ∙ x.same.1);
+      others = λ j of apart. y.others j (x.others j of apart) (subst (λ (c : Call SharedPort). IsApart c j) (sym e) apart);
+    }
+
+-- ---- what is fetched
+
+by_answer : (eng : Engine) (q : EnginePass) (e : Entry) (a : Answer) (w : Work) → IsOpened eng q e a (opened.Fetched w) → IsWorkOf eng w
+by_answer eng q e Answer.Published w h = absurd h
+by_answer eng q e (Answer.Fetched x) w h = h.1
+by_answer eng q e (Answer.Blocked d) w h = absurd h
+by_answer eng q e (Answer.Granted u r m) w h = absurd h
+by_answer eng q e (Answer.Posted c) w h = absurd h
+by_answer eng q e (Answer.Reaped c p) w h = absurd h
+
+pub fetched_of : (eng : Engine) (p q : EnginePass) (o : Open) (w : Work) → OpenedAs eng p q o (opened.Fetched w) → IsWorkOf eng w
+fetched_of eng p q o w h = by_answer eng q h.by.entry h.answer w h.is
+
+-- ---- completion queues
+
+pub some_queues : (c : ConfigNumbers) → config_fault c ≡ None → 0 < c.cqs
+some_queues c e = not_zero c.cqs (or_parts _ _ (none_holds (config_faults c) (ap is_none e)).1.1.1.1.1.1.1.1.1.0).0
+  where
+    not_zero : (n : ℕ) → eqb n 0 ≡ false → 0 < n
+    not_zero n e = grind (arith, nat_tests)
+
+-- ---- new passes
+
+pub config_kept : (e : Engine) (n : ℕ) (c d : ConfigNumbers) (past : Past) (ps : List EnginePass) → c ≡ d → ((k : ℕ) (p : EnginePass) → slice_get ps k ≡ Some p → IsOf e p × IsNew n c past (k + 1) p) → All (λ p. config_of p ≡ d) ps
+config_kept e n c d past ps same each = λ k x within. (each k (get_or ps k x) (slice_get-get_or ps k x within)).1.2 ∙ same
+
+-- ---- calls of any port
+
+module _ {P : Type 0} {g : Ghosts P} where
+  pub begun_call : (d e : Driver P g) (q : Result Request Fault) (c : CallData) (r : Result (Call P) Fault) → IsStart d e q c r → IfOk r (λ k. IsCallOf e k)
+  begun_call d e (Err f) c r s = subst (λ (x : Result (Call P) Fault). IfOk x (λ k. IsCallOf e k)) (sym s.0) tt
+  begun_call d e (Ok q) c (Ok k) s = s.of
+  begun_call d e (Ok q) c (Err f) s = tt
+
+  pub begun_others : (d e : Driver P g) (q : Result Request Fault) (c : CallData) (r : Result (Call P) Fault) → IsStart d e q c r → IfOk r (λ k. (j : Call P) → IsCallOf d j → IsCallOf e j × IsApart k j)
+  begun_others d e (Err f) c r s = subst (λ (x : Result (Call P) Fault). IfOk x (λ k. (j : Call P) → IsCallOf d j → IsCallOf e j × IsApart k j)) (sym s.0) tt
+  begun_others d e (Ok q) c (Ok k) s = s.others
+  begun_others d e (Ok q) c (Err f) s = tt
+
+  pub again : (e : Driver P g) (r : Poll P) (o : Option (Call P)) → o ≡ given_back r → IsCallBack e r → IfSome o (λ j. IsCallOf e j)
+  again e r o is of = subst (λ (x : Option (Call P)). IfSome x (λ j. IsCallOf e j)) (sym is) (go r of)
+    where
+      go : (r : Poll P) → IsCallBack e r → IfSome (given_back r) (λ j. IsCallOf e j)
+      go (Poll.Pending j) of = of
+      go (Poll.Later f j) of = of
+      go (Poll.Done r) of = tt
+      go (Poll.Failed f) of = tt

@@ -1,0 +1,29 @@
+-- What contracts say of a host and a server.
+use Rattle.std.specs.Prelude.{All, Bool, nat_le, true, ℕ, ◌&&◌, ◌==◌, ◌≡◌}
+use Rattle.nvme_model.specs.Config.{completion_queue}
+use Rattle.nvme_model.specs.declared.config.ConfigNumbers.{ConfigNumbers}
+use Rattle.meet_lock.specs.Passes.{config_of}
+use Rattle.work_queue.specs.Engines as engine
+use Rattle.work_queue.specs.QueuePasses as queue
+use Rattle.driver_cas.specs.Listening.{IsPlaceFor}
+use Rattle.driver_rows.specs.declared.bench.Bench.{Bench}
+use Rattle.driver_rows.specs.declared.bench.Host.{Host}
+use Rattle.driver_rows.specs.declared.bench.Server.{Server}
+use Rattle.driver_rows.specs.declared.bench.Spares.{Spares}
+
+-- the submission queue is there, and uses completion queue 1
+abbrev pub uses : ConfigNumbers → ℕ → Bool
+uses c q = nat_le 1 q && nat_le q c.pairs && (completion_queue c q == 1)
+
+-- its passes are of what the bench has
+abbrev pub IsServerOf : Bench → Server → Type 0
+IsServerOf b s = engine.IsOf b.engine s.pass × queue.IsPlaceOf b.engine b.notices s.place × (config_of s.pass ≡ b.config)
+
+abbrev pub IsHostOf : Bench → Host → Type 0
+IsHostOf b h = IsPlaceFor h.driver.port b.notices h.place
+
+-- so are these, that nobody has yet
+pub record AreOf (b : Bench) (s : Spares) : Type 0 where
+  pub passes : All (engine.IsOf b.engine) s.passes.items
+  pub places : All (queue.IsPlaceOf b.engine b.notices) s.places.items
+  pub config : All (λ p. config_of p ≡ b.config) s.passes.items

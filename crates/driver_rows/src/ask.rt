@@ -1,0 +1,158 @@
+//! A host's calls.
+
+ghost use Rattle.std.specs.Prelude.{◌≡◌, IfSome};
+ghost use Rattle.driver_cas.specs.Drivers.{IsCallOf};
+ghost use Rattle.driver_rows.specs.Benches.{IsHostOf};
+ghost use Rattle.driver_rows.specs.Calls.{Begins, Keeps, Polls, given_back};
+
+use crate::bench::{Bench, Host};
+use driver_cas::{Call, Fault, Poll, Reply, SharedPort};
+use std::sync::Wait;
+
+/// The most bytes of a call here.
+pub const MOST: usize = 1536;
+
+/// So many bytes, at most `MOST`, all of which are this one.
+#[derive(Clone, Copy, Debug)]
+pub struct Fill(pub u8, pub usize);
+
+/// A call, with its block and its blocks or data.
+#[derive(Clone, Copy, Debug)]
+pub enum Ask {
+    Read(u64, u32),
+    WriteZeroes(u64, u32),
+    Write(u64, Fill),
+    Compare(u64, Fill),
+    CompareAndWrite(u64, Fill, Fill),
+}
+
+/// What a call was answered, in words.
+#[derive(Clone, Copy, Debug, PartialEq, Eq)]
+pub enum Told {
+    /// So many bytes, all of which are this one.
+    Read(usize, u8),
+    /// Bytes that are not all alike.
+    Mixed,
+    Written,
+    Equal,
+    Differs,
+    Swapped,
+    Failed(u8, u8),
+    /// Any other fault.
+    Faulty,
+    /// Not all of its completions were reaped.
+    Pending,
+    Later(Fault),
+}
+
+fn in_words(reply: &Reply) -> Told {
+    match reply {
+        Reply::Read(payload) => {
+            let bytes = payload.as_slice();
+            let first = bytes.first().copied().unwrap_or(0);
+            if bytes.iter().all(|b| *b == first) {
+                Told::Read(bytes.len(), first)
+            } else {
+                Told::Mixed
+            }
+        }
+        Reply::Written => Told::Written,
+        Reply::Equal => Told::Equal,
+        Reply::Differs => Told::Differs,
+        Reply::Swapped => Told::Swapped,
+    }
+}
+
+fn fault_in_words(fault: Fault) -> Told {
+    match fault {
+        Fault::Status(status) => Told::Failed(status.sct(), status.sc()),
+        _ => Told::Faulty,
+    }
+}
+
+/// A poll in words, and the call where it comes back.
+pub fn poll_in_words<P>(poll: Poll<P>) -> (Told, Option<Call<P>>)
+    ensures { result.1 ≡ given_back poll }
+{
+    match poll {
+        Poll::Done(reply) => (in_words(&reply), None),
+        Poll::Failed(fault) => (fault_in_words(fault), None),
+        Poll::Pending(call) => (Told::Pending, Some(call)),
+        Poll::Later(fault, call) => (Told::Later(fault), Some(call)),
+    }
+}
+
+/// Begins a call.
+///
+/// # Errors
+///
+/// What the driver answers; the calls stay.
+pub fn starts<'a>(host: &mut Host<'a>, ask: Ask) -> Result<Call<SharedPort<'a>>, Fault>
+    ensures { Begins host.old host.new result }
+{
+    match ask {
+        Ask::Read(slba, blocks) => host.driver.start_read(slba, blocks),
+        Ask::WriteZeroes(slba, blocks) => host.driver.start_write_zeroes(slba, blocks),
+        Ask::Write(slba, fill) => {
+            let bytes = [fill.0; MOST];
+            host.driver.start_write(slba, &bytes[..fill.1.min(MOST)])
+        }
+        Ask::Compare(slba, fill) => {
+            let bytes = [fill.0; MOST];
+            host.driver.start_compare(slba, &bytes[..fill.1.min(MOST)])
+        }
+        Ask::CompareAndWrite(slba, fill, other) => {
+            let expected = [fill.0; MOST];
+            let desired = [other.0; MOST];
+            host.driver.start_compare_and_write(
+                slba,
+                &expected[..fill.1.min(MOST)],
+                &desired[..other.1.min(MOST)],
+            )
+        }
+    }
+}
+
+/// Polls a call once.
+pub fn polls<'a>(
+    host: &mut Host<'a>,
+    call: Call<SharedPort<'a>>,
+) -> (Told, Option<Call<SharedPort<'a>>>)
+    requires { IsCallOf host.old.driver call }
+    ensures polls { Polls host.old host.new call.entry }
+    ensures back { IfSome result.1 (λ k. (k ≡ call.entry) × IsCallOf host.new.driver k) }
+{
+    poll_in_words(host.driver.poll(call))
+}
+
+/// Polls a call until it is answered, at most so many times.
+pub fn answers<'a>(host: &mut Host<'a>, call: Call<SharedPort<'a>>, most: u32) -> Told
+    requires { IsCallOf host.old.driver call }
+    ensures { Polls host.old host.new call.entry }
+{
+    let mut next = call;
+    for _ in 0..most {
+        let (told, back) = polls(host, next);
+        let Some(same) = back else {
+            return told;
+        };
+        next = same;
+    }
+    Told::Pending
+}
+
+/// Learns all notices that are there; how many.
+pub fn hears<R: Wait>(rt: &R, bench: &Bench, host: &mut Host<'_>) -> u32
+    requires { IsHostOf bench.now host.old }
+    ensures same { IsHostOf bench.now host.new }
+    ensures calls { Keeps host.old host.new }
+{
+    let mut count: u32 = 0;
+    for _ in rt.forever() {
+        if !host.driver.listen(rt, &bench.notices, &mut host.place) {
+            return count;
+        }
+        count = count.wrapping_add(1);
+    }
+    unreachable!()
+}

@@ -1,0 +1,123 @@
+//! What a host's driver and a server share on one thread.
+
+ghost use Rattle.std.specs.List.Sorted.{IsStrictlyIncreasing};
+ghost use Rattle.std.specs.Prelude.{◌≡◌, ◌<◌, ◌≤◌, ◌+◌, All, IfOk, IfSome, length, true};
+ghost use Rattle.meet_lock.specs.Passes.{config_of};
+ghost use Rattle.work_queue.specs.Engines as engine;
+ghost use Rattle.driver_rows.specs.Benches.{AreOf, IsHostOf, IsServerOf, uses};
+
+use driver_cas::{Driver, SharedPort};
+use history::Config;
+use meet_lock::Pass;
+use nvme_model::array::Range;
+use std::alloc::{AllocError as NoMemory, Global};
+use step_core::Core;
+use work_queue::{Engine, MessageQueue, Notice, NoticeQueue, QueuePass};
+
+/// A controller, and the queue of notices of completion queue 1.
+#[derive(Drop)]
+pub struct Bench {
+    pub engine: Engine,
+    pub notices: NoticeQueue,
+    pub config: Config,
+}
+
+/// Passes that nobody has yet.
+#[derive(Drop)]
+pub struct Spares {
+    pub passes: Vec<Pass<Core>>,
+    pub places: Vec<QueuePass<Notice>>,
+}
+
+/// What a caller steps with: one that serves commands, or one that is to be a host. It has no bytes.
+#[derive(Drop)]
+pub struct Server {
+    pub pass: Pass<Core>,
+    pub place: QueuePass<Notice>,
+}
+
+/// A host, on completion queue 1.
+#[derive(Drop)]
+pub struct Host<'a> {
+    pub driver: Driver<SharedPort<'a>>,
+    pub place: QueuePass<Notice>,
+}
+
+// An engine of a new controller, and so many passes.
+fn engine_of(
+    alloc: Global,
+    config: Config,
+    count: usize,
+) -> Result<(Engine, Vec<Pass<Core>>), NoMemory>
+    requires { 0 < count }
+    ensures own { IfOk result (λ e. All (engine.IsOf e.0) e.1.items) }
+    ensures config { IfOk result (λ e. All (λ p. config_of p ≡ config) e.1.items) }
+{
+    let core = Core::new(alloc, config)?;
+    let Ok((engine, passes)) = Engine::new(alloc, core, count) else {
+        return Err(NoMemory);
+    };
+    Ok((engine, passes))
+}
+
+/// A new controller, with so many passes. The queue of notices holds `capacity` of them.
+///
+/// # Errors
+///
+/// `NoMemory` where a growth is refused.
+pub fn bench_of(
+    alloc: Global,
+    config: Config,
+    capacity: usize,
+    count: usize,
+) -> Result<(Bench, Spares), NoMemory>
+    requires { (0 < capacity) × (0 < count) }
+    ensures own { IfOk result (λ b. AreOf b.0 b.1) }
+    ensures config { IfOk result (λ b. b.0.config ≡ config) }
+{
+    let (engine, passes) = engine_of(alloc, config, count)?;
+    let (notices, places) = MessageQueue::<Notice>::new(alloc, &engine, capacity, count)?;
+    let bench = Bench {
+        engine,
+        notices,
+        config,
+    };
+    Ok((bench, Spares { passes, places }))
+}
+
+/// A pass of each; None where none is left.
+pub fn hand_of(_bench: &Bench, spares: &mut Spares) -> Option<Server>
+    requires { AreOf _bench.now spares.old }
+    ensures rest { AreOf _bench.now spares.new }
+    ensures server { IfSome result (IsServerOf _bench.now) }
+{
+    let pass = spares.passes.pop()?;
+    let place = spares.places.pop()?;
+    Some(Server { pass, place })
+}
+
+/// A host with this number, whose driver uses these submission queues; None where memory is refused.
+pub fn host_of<'a>(
+    alloc: Global,
+    bench: &'a Bench,
+    hand: Server,
+    number: u32,
+    slots: Range,
+    queues: Vec<u16>,
+) -> Option<Host<'a>>
+    requires hand { IsServerOf bench.now hand }
+    requires number { 1 ≤ number }
+    requires slots { slots.slba + slots.blocks ≤ 65536 }
+    requires some { (1 ≤ length queues.items) × (1 ≤ bench.now.config.cqs) }
+    requires rising { IsStrictlyIncreasing queues.items }
+    requires uses { All (λ q. uses bench.now.config q ≡ true) queues.items }
+    ensures { IfSome result (IsHostOf bench.entry.now) }
+{
+    let Server { pass, place } = hand;
+    let port = SharedPort::new(&bench.engine, pass, 1);
+    let acwu = bench.config.numbers().atomic.acwu;
+    match Driver::new(alloc, port, number, acwu, slots, queues) {
+        Ok(driver) => Some(Host { driver, place }),
+        Err(_) => None,
+    }
+}

@@ -1,0 +1,191 @@
+//! A driver over a port that answers what it likes.
+
+ghost use Rattle.std.specs.Prelude.{IfErr, IfOk, IfSome};
+ghost use Rattle.driver_cas.specs.Drivers.{IsApart, IsCallOf};
+ghost use Rattle.driver_cas.specs.declared.call.Call.{Call};
+
+use crate::ask::{Told, poll_in_words};
+use crate::fake::{Fake, Script};
+use driver_cas::{Call, Driver, Fault, Port, PortFault};
+use nvme_model::array::Range;
+use std::alloc::Global;
+use std::process::Abort;
+use std::test::Fail;
+
+/// Success for the command with CID 0 of submission queue 1.
+const GOOD: [u8; 16] = [0, 0, 0, 0, 0, 0, 0, 0, 1, 0, 1, 0, 0, 0, 1, 0];
+
+/// The same, with this CID.
+fn good(cid: u8) -> [u8; 16] {
+    let mut cqe = GOOD;
+    cqe[12] = cid;
+    cqe
+}
+
+// A driver of submission queue 1 over a port that is to answer so, the next last.
+fn driver_of(
+    alloc: Global,
+    refusals: Vec<PortFault>,
+    reaps: Vec<Script>,
+) -> Result<Driver<Fake>, Fail> {
+    let mut queues = Vec::new(alloc);
+    queues.push(1)?;
+    let port = Fake {
+        alloc,
+        did: Vec::new(alloc),
+        refusals,
+        reaps,
+    };
+    let slots = Range { slba: 0, blocks: 0 };
+    match Driver::new(alloc, port, 1, 1, slots, queues) {
+        Ok(driver) => Ok(driver),
+        Err(_) => Err(Fail::from("memory")),
+    }
+}
+
+fn reads<P: Port>(driver: &mut Driver<P>) -> Result<Call<P>, Fault>
+    ensures call { IfOk result (λ k. IsCallOf driver.new k) }
+    ensures others { IfOk result (λ k. (j : Call P) → IsCallOf driver.old j → IsCallOf driver.new j × IsApart k j) }
+{
+    driver.start_read(0, 1)
+}
+
+fn polled<P: Port>(driver: &mut Driver<P>, call: Call<P>) -> (Told, Option<Call<P>>)
+    requires { IsCallOf driver.old call }
+    ensures back { IfSome result.1 (λ k. IsCallOf driver.new k) }
+    ensures others { (j : Call P) → IsCallOf driver.old j → IsApart call j → IsCallOf driver.new j }
+{
+    poll_in_words(driver.poll(call))
+}
+
+// That polling a call gives these, the last of which is its answer.
+fn is_told<R: Abort>(
+    rt: &R,
+    driver: &mut Driver<Fake>,
+    call: Call<Fake>,
+    wants: [Told; 3],
+) -> Result<(), Fail>
+    requires { IsCallOf driver.old call }
+{
+    let mut next = call;
+    for want in wants {
+        let (told, back) = polled(driver, next);
+        assert_eq!(rt; told, want);
+        let Some(same) = back else {
+            return Ok(());
+        };
+        next = same;
+    }
+    Err(Fail::from("no answer"))
+}
+
+// What a Read is told whose completion has this bit changed, and then, where it waits, by the good one.
+fn changed(alloc: Global, bit: usize) -> Result<(Told, Told), Fail> {
+    let mut bad = GOOD;
+    if let Some(byte) = bad.get_mut(bit / 8) {
+        *byte ^= 1 << (bit % 8);
+    }
+    let mut reaps = Vec::new(alloc);
+    reaps.push(Script::Posted(GOOD))?;
+    reaps.push(Script::Posted(bad))?;
+    let mut driver = driver_of(alloc, Vec::new(alloc), reaps)?;
+    let Ok(call) = reads(&mut driver) else {
+        return Err(Fail::from("a Read"));
+    };
+    let (first, back) = polled(&mut driver, call);
+    let Some(call) = back else {
+        return Ok((first, Told::Pending));
+    };
+    let (second, _) = polled(&mut driver, call);
+    Ok((first, second))
+}
+
+// By the layout of a completion queue entry.
+fn wanted(bit: usize) -> (Told, Told) {
+    let read = Told::Read(1, 0);
+    match bit {
+        // SQHD and the phase tag.
+        64..80 | 112 => (read, Told::Pending),
+        // The Status Code and its type.
+        113..121 => (Told::Failed(0, 1 << (bit - 113)), Told::Pending),
+        121..124 => (Told::Failed(1 << (bit - 121), 0), Told::Pending),
+        _ => (Told::Pending, read),
+    }
+}
+
+// That it is told so.
+fn counts<R: Abort>(rt: &R, alloc: Global, bit: usize) -> Result<(), Fail> {
+    let (first, second) = changed(alloc, bit)?;
+    let (one, two) = wanted(bit);
+    assert_eq!(rt; first, one, "bit {bit}");
+    assert_eq!(rt; second, two, "bit {bit}");
+    Ok(())
+}
+
+#[test]
+fn each_bit_of_a_completion_counts(rt: HostRuntime) -> Result<(), Fail> {
+    for bit in 0..128 {
+        counts(&rt, rt.alloc(), bit)?;
+    }
+    Ok(())
+}
+
+// Two Reads; the completion of the second comes twice.
+#[test]
+fn a_completion_counts_once(rt: HostRuntime) -> Result<(), Fail> {
+    let mut reaps = Vec::new(rt.alloc());
+    reaps.push(Script::Posted(good(0)))?;
+    reaps.push(Script::Posted(good(9)))?;
+    reaps.push(Script::Posted(good(1)))?;
+    reaps.push(Script::Posted(good(1)))?;
+    let mut driver = driver_of(rt.alloc(), Vec::new(rt.alloc()), reaps)?;
+    let Ok(one) = reads(&mut driver) else {
+        return Err(Fail::from("a Read"));
+    };
+    let Ok(two) = reads(&mut driver) else {
+        return Err(Fail::from("a second Read"));
+    };
+    let (told, _) = polled(&mut driver, two);
+    assert_eq!(rt; told, Told::Read(1, 1));
+    is_told(
+        &rt,
+        &mut driver,
+        one,
+        [Told::Pending, Told::Pending, Told::Read(1, 0)],
+    )
+}
+
+// That a Read is refused so, and then begun; that its completion comes later, and then comes.
+fn is_later<R: Abort>(rt: &R, alloc: Global, fault: PortFault, want: Fault) -> Result<(), Fail> {
+    let mut refusals = Vec::new(alloc);
+    refusals.push(fault)?;
+    let mut reaps = Vec::new(alloc);
+    reaps.push(Script::Posted(GOOD))?;
+    reaps.push(Script::NoMemory)?;
+    reaps.push(Script::Busy)?;
+    let mut driver = driver_of(alloc, refusals, reaps)?;
+    match reads(&mut driver) {
+        Ok(_) => return Err(Fail::from("a refused Read")),
+        Err(fault) => assert_eq!(rt; fault, want),
+    }
+    let Ok(call) = reads(&mut driver) else {
+        return Err(Fail::from("a Read"));
+    };
+    is_told(
+        rt,
+        &mut driver,
+        call,
+        [
+            Told::Later(Fault::Busy),
+            Told::Later(Fault::NoMemory),
+            Told::Read(1, 0),
+        ],
+    )
+}
+
+#[test]
+fn after_a_fault_the_same_call_succeeds(rt: HostRuntime) -> Result<(), Fail> {
+    is_later(&rt, rt.alloc(), PortFault::RingFull, Fault::RingFull)?;
+    is_later(&rt, rt.alloc(), PortFault::Busy, Fault::Busy)?;
+    is_later(&rt, rt.alloc(), PortFault::NoMemory, Fault::NoMemory)
+}

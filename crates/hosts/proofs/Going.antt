@@ -1,0 +1,61 @@
+-- What a hand has seen goes on from what it had.
+use Rattle.std.proofs.Common.{◌≡◌, ◌++◌, List, [], ◌∙◌, ap, append_assoc, refl, subst, sym, true}
+use Rattle.nvme_model.specs.Passes.{IsBeginning, SharedPast}
+use Rattle.nvme_model.specs.declared.config.ConfigNumbers.{ConfigNumbers}
+use Rattle.nvme_model.specs.declared.entry.Entry.{Entry}
+use Rattle.nvme_model.specs.Kept.{Kept}
+use Rattle.step_core.specs.declared.answer.Answer.{Answer}
+use Rattle.step_core.specs.declared.work.Work.{Work as Duty}
+use Rattle.meet_lock.specs.Passes.{IsSame, Knows, config_of, seen}
+use Rattle.work_queue.specs.Duties.{is_only_fetch}
+use Rattle.work_queue.specs.Engines as engine
+use Rattle.work_queue.specs.QueuePasses as queue
+use Rattle.work_queue.specs.declared.engine.Engine.{Engine}
+use Rattle.work_queue.specs.declared.engine.Open.{Open}
+use Rattle.work_queue.specs.declared.engine.Opened.TheVariants as opened
+use Rattle.work_queue.specs.declared.notice.Notice.{Notice}
+use Rattle.work_queue.specs.declared.queue.QueuePass.{QueuePass}
+use Rattle.work_queue.specs.declared.work.Work.{Work}
+use Rattle.hosts.specs.declared.hall.Hall.{Hall}
+use Rattle.hosts.specs.declared.hall.Hand.{Hand}
+use Rattle.hosts.specs.Hands.{AreNoticesOf, Goes, IsOf}
+
+begins_far : (xs ys zs : SharedPast) → IsBeginning xs ys → IsBeginning ys zs → IsBeginning xs zs
+begins_far xs ys zs a b = (b.0 ++ a.0, append_assoc b.0 a.0 xs ∙ (ap (λ l. b.0 ++ l) a.1 ∙ b.1))
+
+module _ {G : Type 0} where
+  pub goes_same : (hall : Hall G) (h : Hand) → IsOf hall h → Goes hall h h
+  goes_same hall h of = record { of = of; config = refl; begins = ([], refl) }
+
+  pub goes_on : (hall : Hall G) (h k m : Hand) → Goes hall h k → Goes hall k m → Goes hall h m
+  goes_on hall h k m a b =
+      record { of = b.of; config = b.config ∙ a.config; begins = begins_far (seen h.pass) (seen k.pass) (seen m.pass) a.begins b.begins }
+
+  -- by a step of its pass
+  pub goes_step : (hall : Hall G) (h : Hand) (p : engine.EnginePass) → IsOf hall h → IsSame h.pass p → Knows Kept h.pass p
+      → Goes hall h (record h { pass = p })
+  goes_step hall h p of same knows = record { of = (same.0 ∙ of.0, of.1); config = same.3; begins = knows.1 }
+
+  -- by a push or a pop
+  pub goes_push : (hall : Hall G) (h : Hand) (q : QueuePass Work) → IsOf hall h → queue.IsSame h.works q → Goes hall h (record h { works = q })
+  goes_push hall h q of same = record { of = (of.0, (same.0 ∙ of.1.0, same.2 ∙ of.1.1)); config = refl; begins = ([], refl) }
+
+-- the Work of a Fetch may be pushed
+fetched_is : (e : Engine) (q : engine.EnginePass) (entry : Entry) (a : Answer) (w : Work) → engine.IsOpened e q entry a (opened.Fetched w)
+    → engine.IsWorkOf e w × (is_only_fetch w.work.ticket (engine.its w) ≡ true)
+fetched_is e q entry Answer.Published w h = absurd h
+fetched_is e q entry (Answer.Fetched x) w h = (h.1, ap (λ n. is_only_fetch n (engine.its w)) (ap (λ (y : Duty). y.ticket) h.0) ∙ h.4)
+fetched_is e q entry (Answer.Blocked d) w h = absurd h
+fetched_is e q entry (Answer.Granted u r m) w h = absurd h
+fetched_is e q entry (Answer.Posted c) w h = absurd h
+fetched_is e q entry (Answer.Reaped c p) w h = absurd h
+
+pub fetched_ready : (e : Engine) (p q : engine.EnginePass) (o : Open) (w : Work) → engine.OpenedAs e p q o (opened.Fetched w)
+    → engine.IsWorkOf e w × (is_only_fetch w.work.ticket (engine.its w) ≡ true)
+fetched_ready e p q o w h = fetched_is e q h.by.entry h.answer w h.is
+
+module _ {G : Type 0} where
+  -- the passes of the queues of notices stay those of the same controller's
+  pub notices_on : (hall : Hall G) (h k : Hand) (ps : List (QueuePass Notice)) → Goes hall h k → AreNoticesOf hall (config_of h.pass).cqs ps
+      → AreNoticesOf hall (config_of k.pass).cqs ps
+  notices_on hall h k ps a x = subst (λ (c : ConfigNumbers). AreNoticesOf hall c.cqs ps) (sym a.config) x

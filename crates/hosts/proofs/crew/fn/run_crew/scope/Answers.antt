@@ -1,0 +1,4 @@
+use Rattle.hosts.proofs.crew.fn.run_crew.scope.Goals as goal
+
+pub spawn_with-requires-clause-keeps : goal.spawn_with-requires-clause-keeps
+spawn_with-requires-clause-keeps g c κs lives = rw (c.of.ensures, c.of-2.ensures) (λ r goes. goes)

@@ -1,0 +1,146 @@
+//! The threads round one engine.
+
+ghost use Rattle.std.specs.Prelude.{◌+◌, ◌≤◌, All, IfOk, vec_len};
+ghost use Rattle.std.specs.Vec.{vec_capacity};
+ghost use Rattle.hosts.specs.Hands.{Goes, IsOf, IsWorkerOf};
+
+use crate::fetching::fetcher;
+use crate::gate::Gate;
+use crate::hall::{Hall, Hand, WorkerHand};
+use crate::working::worker;
+use std::alloc::{AllocError as NoMemory, Global};
+use std::snapshot::Snapshot;
+use std::sync::Wait;
+use std::thread;
+use std::thread::{JoinHandle, Promise, Scope, Threads};
+
+/// The hand comes back, of the same hall, and its pass has seen no less.
+#[derive(Drop)]
+struct ComesBack<G> {
+    hall: Snapshot<Hall<G>>,
+    hand: Snapshot<Hand>,
+}
+
+impl<G> Promise<(Hand, Result<(), NoMemory>)> for ComesBack<G> {
+    ghost kept_by = { λ p r. Goes p.hall.value p.hand.value r.0 };
+}
+
+fn fetches<R: Wait, G: Gate>(
+    rt: &R,
+    hall: &Hall<G>,
+    mut hand: Hand,
+    queues: u16,
+) -> (Hand, Result<(), NoMemory>)
+    requires own { IsOf hall.now hand }
+    requires some { 1 ≤ queues }
+    ensures { Goes hall.now hand result.0 }
+{
+    let end = fetcher(rt, hall, &mut hand, queues);
+    (hand, end)
+}
+
+fn works<R: Wait, G: Gate>(rt: &R, hall: &Hall<G>, mut own: WorkerHand) -> Result<(), NoMemory>
+    requires { IsWorkerOf hall.now own }
+{
+    worker(rt, hall, &mut own.hand, &mut own.notices)
+}
+
+type Handles = Vec<JoinHandle<Result<(), NoMemory>>>;
+
+// Starts a worker for each hand. At `Err` one couldn't be started, and those before it run.
+fn start_workers<'s, E, R: Threads + Wait + Sync, G: Gate + Sync>(
+    rt: &'s R,
+    scope: &Scope<'s, E>,
+    hall: &'s Hall<G>,
+    mut hands: Vec<WorkerHand>,
+    started: &mut Handles,
+) -> Result<(), NoMemory>
+    requires hands { All (IsWorkerOf hall.now) hands.items }
+    requires room { vec_len started.old + vec_len hands ≤ vec_capacity started.old }
+{
+    for _ in 0..hands.len() {
+        let Some(own) = hands.pop() else {
+            return Ok(());
+        };
+        let child = scope.spawn(
+            move || -> Result<(), NoMemory>
+                requires { IsWorkerOf hall.now own }
+            { works(rt, hall, own) },
+        )?;
+        started.push_reserved(child);
+    }
+    Ok(())
+}
+
+// Joins all, and says whether one met no memory.
+fn join_each<R: Threads>(rt: &R, started: Handles) -> Result<(), NoMemory> {
+    let mut ends = Ok(());
+    for child in started {
+        ends = ends.and(child.join(rt));
+    }
+    ends
+}
+
+/// A fetcher of the submission queues from 1 to `queues`, and the workers, each on a thread of its own, until the stop
+/// flag is set. All threads are joined. The fetcher's hand comes back.
+///
+/// # Errors
+///
+/// `NoMemory` where a growth is refused or a thread couldn't be started. The stop flag is set then.
+pub fn run_crew<R: Threads + Wait + Sync, G: Gate + Sync>(
+    rt: &R,
+    alloc: Global,
+    hall: &Hall<G>,
+    queues: u16,
+    hand: Hand,
+    workers: Vec<WorkerHand>,
+) -> Result<Hand, NoMemory>
+    requires some { 1 ≤ queues }
+    requires hand { IsOf hall.now hand }
+    requires workers { All (IsWorkerOf hall.now) workers.items }
+    ensures goes { IfOk result (Goes hall.now hand) }
+{
+    let mut helpers: Handles = match Vec::with_capacity(alloc, workers.len()) {
+        Ok(room) => room,
+        Err(why) => {
+            hall.stop.set();
+            return Err(why);
+        }
+    };
+    thread::scope(
+        thread::scope_env(),
+        rt,
+        |scope| -> Result<Hand, NoMemory>
+            requires some { 1 ≤ queues }
+            requires own { IsOf hall.now hand × All (IsWorkerOf hall.now) workers.items }
+            requires room { vec_len helpers + vec_len workers ≤ vec_capacity helpers }
+            ensures { IfOk result (Goes hall.entry.now hand) }
+        {
+            let promise = ComesBack {
+                hall: Snapshot::of(hall),
+                hand: Snapshot::of(&hand),
+            };
+            let fetching = match scope.spawn_with(
+                promise,
+                move || -> (Hand, Result<(), NoMemory>)
+                    requires { IsOf hall.now hand × (1 ≤ queues) }
+                    ensures { Goes hall.entry.now hand result.0 }
+                { fetches(rt, hall, hand, queues) },
+            ) {
+                Ok(child) => child,
+                Err(_) => {
+                    hall.stop.set();
+                    return Err(NoMemory);
+                }
+            };
+            let mut ends = start_workers(rt, scope, hall, workers, &mut helpers);
+            if ends.is_err() {
+                hall.stop.set();
+            }
+            ends = ends.and(join_each(rt, helpers));
+            let (hand, end) = fetching.join(rt);
+            ends.and(end)?;
+            Ok(hand)
+        },
+    )
+}

@@ -1,0 +1,139 @@
+//! A fetcher beside a full queue.
+
+ghost use Rattle.std.specs.Prelude.{◌≡◌, All, [], IfOk};
+ghost use Rattle.hosts.specs.Hands.{IsListening, IsOf, IsWorkerOf};
+
+use crate::crew::run_crew;
+use crate::gate::{Gate, Point};
+use crate::hall::{Hall, Hand, Hands, HostHand, WorkerHand};
+use crate::opening::hall_of;
+use crate::test_calls::{publishes, reaps, write_command};
+use crate::working::worker;
+use history::Config;
+use std::alloc::{AllocError as NoMemory, Global};
+use std::sync::Wait;
+use std::sync::atomic::{AtomicU64, Ordering};
+use std::test::Fail;
+use std::thread::{Threads, join, yield_now};
+
+/// How many commands are published, more than the queue of Works holds.
+const WRITES: u8 = 20;
+
+/// The Fetch whose Work finds the queue full.
+const ONE_TOO_MANY: u64 = 17;
+
+/// Counts Fetches.
+#[derive(Drop)]
+struct Fetches {
+    made: AtomicU64,
+}
+
+impl Gate for Fetches {
+    fn pass(&self, point: Point, _ticket: u64) {
+        if point == Point::Fetched {
+            self.made.fetch_add(1, Ordering::SeqCst);
+        }
+    }
+}
+
+// Begins to work once a Work has found the queue full.
+fn works_late<R: Wait>(rt: &R, hall: &Hall<Fetches>, mut own: WorkerHand) -> bool
+    requires { IsWorkerOf hall.now own }
+{
+    for _ in rt.forever() {
+        if hall.gate.made.load(Ordering::SeqCst) >= ONE_TOO_MANY || hall.stop.is_set() {
+            break;
+        }
+        yield_now();
+    }
+    for _ in 0..1000 {
+        yield_now();
+    }
+    worker(rt, hall, &mut own.hand, &mut own.notices).is_ok()
+}
+
+// Reaps all completions, and ends the others; how many say success.
+fn ends<R: Wait>(rt: &R, hall: &Hall<Fetches>, mut host: HostHand) -> u16
+    requires { IsListening hall.now host }
+{
+    let good = reaps(rt, hall, &mut host, u16::from(WRITES));
+    hall.stop.set();
+    good
+}
+
+fn worker_and_host<R: Threads + Wait + Sync>(
+    rt: &R,
+    hall: &Hall<Fetches>,
+    own: WorkerHand,
+    host: HostHand,
+) -> u16
+    requires { IsWorkerOf hall.now own × IsListening hall.now host }
+{
+    let (_, good) = join(
+        rt,
+        move || -> bool
+            requires { IsWorkerOf hall.now own }
+        { works_late(rt, hall, own) },
+        move || -> u16
+            requires { IsListening hall.now host }
+        { ends(rt, hall, host) },
+    );
+    good
+}
+
+// A fetcher on a thread of its own, a worker and a host.
+fn all_three<R: Threads + Wait + Sync>(
+    rt: &R,
+    alloc: Global,
+    hall: &Hall<Fetches>,
+    fetcher: Hand,
+    own: WorkerHand,
+    host: HostHand,
+) -> (Result<Hand, NoMemory>, u16)
+    requires { IsOf hall.now fetcher × IsWorkerOf hall.now own × IsListening hall.now host }
+    ensures { IfOk result.0 (IsOf hall.now) }
+{
+    join(
+        rt,
+        move || -> Result<Hand, NoMemory>
+            requires { IsOf hall.now fetcher }
+            ensures { IfOk result (IsOf hall.entry.now) }
+        { run_crew(rt, alloc, hall, 1, fetcher, Vec::new(alloc)) },
+        move || -> u16
+            requires { IsWorkerOf hall.now own × IsListening hall.now host }
+        { worker_and_host(rt, hall, own, host) },
+    )
+}
+
+// Each of the Works is served, those too that found the queue full.
+#[test]
+fn a_full_queue_keeps_each_work(rt: HostRuntime) -> Result<(), Fail> {
+    let alloc = rt.alloc();
+    let Ok(config) = Config::new(8, 1, 1, 0, 0, 1, 32, 32, 32) else {
+        return Err(Fail::from("the configuration is refused"));
+    };
+    let gate = Fetches {
+        made: AtomicU64::new(0),
+    };
+    let (hall, hands) = hall_of(alloc, config, gate, 1)?;
+    let Hands {
+        fetcher,
+        mut workers,
+        mut hosts,
+    } = hands;
+    let (Some(own), Some(mut host)) = (workers.pop(), hosts.pop()) else {
+        return Err(Fail::from("a worker and a host"));
+    };
+    let mut batch = Vec::new(alloc);
+    for cid in 0..WRITES {
+        batch.push(write_command(alloc, cid, 0, 1)?)?;
+    }
+    assert!(rt; publishes(&hall, &mut host.pass, 1, batch));
+    let (ended, good) = all_three(&rt, alloc, &hall, fetcher, own, host);
+    assert_eq!(rt; good, u16::from(WRITES));
+    let hand = ended?;
+    let Hall { engine, .. } = hall;
+    let core = engine.close(hand.pass).ok_or("the lock isn't free")?;
+    assert_eq!(rt; core.history().len(), 101);
+    Ok(())
+}

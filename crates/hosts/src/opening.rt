@@ -1,0 +1,223 @@
+//! Halls, and what their callers own.
+
+ghost use Rattle.std.specs.Prelude.{◌≡◌, ◌<◌, ◌≤◌, ◌+◌, ◌-◌, All, IfOk, IfSome, MatchOption, length, vec_len};
+ghost use Rattle.std.specs.Vec.{vec_capacity};
+ghost use Rattle.work_queue.specs.QueuePasses as queue;
+ghost use Rattle.hosts.specs.Hands.{
+  AreFirstPlaces,
+  AreHandsOf,
+  AreHostsOf,
+  AreLastHosts,
+  ArePlaces,
+  AreSpares,
+  IsFreshPass,
+  IsHostOf,
+  IsPlaceAt,
+  IsWorkerOf,
+};
+
+use crate::hall::{Hall, Hand, Hands, HostHand, WorkerHand};
+use crate::rows::{Row, notice_queues};
+use crate::stop::Stop;
+use history::Config;
+use meet_lock::Pass;
+use std::alloc::{AllocError as NoMemory, Global};
+use step_core::Core;
+use work_queue::{Engine, MessageQueue, Notice, QueuePass, Work};
+
+/// How many Works wait for a worker at most.
+const WORKS: usize = 16;
+
+// An engine of a new controller, and so many passes.
+fn engine_of(
+    alloc: Global,
+    config: Config,
+    count: usize,
+) -> Result<(Engine, Vec<Pass<Core>>), NoMemory>
+    requires some { 0 < count }
+    ensures passes { IfOk result (λ e. All (IsFreshPass e.0 config) e.1.items) }
+    ensures count { IfOk result (λ e. vec_len e.1 ≡ count) }
+{
+    let core = Core::new(alloc, config)?;
+    let Ok((engine, passes)) = Engine::new(alloc, core, count) else {
+        return Err(NoMemory);
+    };
+    Ok((engine, passes))
+}
+
+// The last of these passes, which are of the first queues of notices.
+#[tactic(auto, using(crate::proofs::Halls::place_last, crate::proofs::Halls::places_rest))]
+fn last_place<G>(_hall: &Hall<G>, places: &mut Row) -> Option<QueuePass<Notice>>
+    requires { AreFirstPlaces _hall.now places.old.items }
+    ensures rest { AreFirstPlaces _hall.now places.new.items }
+    ensures last { IfSome result (IsPlaceAt _hall.now (vec_len places.new)) }
+    ensures count { MatchOption result (vec_len places.old ≡ 0) (λ _. vec_len places.new + 1 ≡ vec_len places.old) }
+{
+    places.pop()
+}
+
+// One host more, behind those of the completion queues after its own.
+#[tactic(auto, using(crate::proofs::Halls::hosts_more))]
+fn put_host<G>(_hall: &Hall<G>, _config: &Config, hosts: &mut Vec<HostHand>, host: HostHand)
+    requires hosts { AreLastHosts _hall.now _config.now hosts.old.items }
+    requires host { IsHostOf _hall.now _config.now host }
+    requires place { host.queue + vec_len hosts.old ≡ _config.now.cqs }
+    requires room { vec_len hosts.old < vec_capacity hosts.old }
+    ensures hosts { AreLastHosts _hall.now _config.now hosts.new.items }
+    ensures len { vec_len hosts.new ≡ vec_len hosts.old + 1 }
+    ensures capacity { vec_capacity hosts.new ≡ vec_capacity hosts.old }
+{
+    hosts.push_reserved(host);
+}
+
+// A host for each completion queue, from the last to the first.
+#[tactic(auto, using(crate::proofs::Halls::first_places, crate::proofs::Halls::places_count))]
+fn hosts_of<G>(
+    alloc: Global,
+    hall: &Hall<G>,
+    config: &Config,
+    passes: &mut Vec<Pass<Core>>,
+    mut places: Row,
+) -> Result<Vec<HostHand>, NoMemory>
+    requires passes { All (IsFreshPass hall.now.engine config.now) passes.old.items }
+    requires places { ArePlaces hall.now.engine hall.now.notices.items places.items }
+    requires queues { length hall.now.notices.items ≡ config.now.cqs }
+    requires room { config.now.cqs ≤ vec_len passes.old }
+    ensures hosts { IfOk result (λ h. AreHostsOf hall.now config.now h.items) }
+    ensures passes { All (IsFreshPass hall.now.engine config.now) passes.new.items }
+    ensures rest { IfOk result (λ _. vec_len passes.new + config.now.cqs ≡ vec_len passes.old) }
+{
+    let count = config.numbers().cqs;
+    let mut hosts = Vec::with_capacity(alloc, usize::from(count))?;
+    for k in 0..count {
+        let (Some(pass), Some(notices)) = (passes.pop(), last_place(hall, &mut places)) else {
+            unreachable!();
+        };
+        let queue = count - k;
+        put_host(
+            hall,
+            config,
+            &mut hosts,
+            HostHand {
+                pass,
+                queue,
+                notices,
+            },
+        );
+    }
+    Ok(hosts)
+}
+
+/// What workers are to own: as many passes as rows, of each kind.
+#[derive(Drop)]
+struct Spares {
+    passes: Vec<Pass<Core>>,
+    works: Vec<QueuePass<Work>>,
+    rows: Vec<Row>,
+}
+
+// What one worker is to own; None where nothing is left.
+fn take_worker<G>(_hall: &Hall<G>, _config: &Config, spares: &mut Spares) -> Option<WorkerHand>
+    requires { AreSpares _hall.now _config.now spares.old }
+    ensures rest { AreSpares _hall.now _config.now spares.new }
+    ensures worker { IfSome result (IsWorkerOf _hall.now) }
+    ensures count { MatchOption result (vec_len spares.old.rows ≡ 0) (λ _. vec_len spares.new.rows + 1
+        ≡ vec_len spares.old.rows) }
+{
+    let notices = spares.rows.pop()?;
+    let (Some(pass), Some(works)) = (spares.passes.pop(), spares.works.pop()) else {
+        unreachable!();
+    };
+    Some(WorkerHand {
+        hand: Hand { pass, works },
+        notices,
+    })
+}
+
+// A worker for each row.
+fn workers_of<G>(
+    alloc: Global,
+    hall: &Hall<G>,
+    config: &Config,
+    mut spares: Spares,
+) -> Result<Vec<WorkerHand>, NoMemory>
+    requires { AreSpares hall.now config.now spares }
+    ensures workers { IfOk result (λ w. All (IsWorkerOf hall.now) w.items) }
+    ensures count { IfOk result (λ w. vec_len w ≡ vec_len spares.rows) }
+{
+    let count = spares.rows.len();
+    let mut workers = Vec::with_capacity(alloc, count)?;
+    for _ in 0..count {
+        let Some(worker) = take_worker(hall, config, &mut spares) else {
+            unreachable!();
+        };
+        workers.push_reserved(worker);
+    }
+    Ok(workers)
+}
+
+// Hands for a fetcher, a worker for each row but the last, and hosts.
+fn hands_of<G>(
+    alloc: Global,
+    hall: &Hall<G>,
+    config: &Config,
+    mut passes: Vec<Pass<Core>>,
+    mut works: Vec<QueuePass<Work>>,
+    mut rows: Vec<Row>,
+) -> Result<Hands, NoMemory>
+    requires passes { All (IsFreshPass hall.now.engine config.now) passes.items }
+    requires works { All (queue.IsPlaceOf hall.now.engine hall.now.works) works.items }
+    requires rows { All (λ row. ArePlaces hall.now.engine hall.now.notices.items row.items) rows.items }
+    requires queues { (1 ≤ config.now.cqs) × (length hall.now.notices.items ≡ config.now.cqs) }
+    requires some { 0 < vec_len rows }
+    requires count { (vec_len passes ≡ vec_len rows + config.now.cqs) × (vec_len works ≡ vec_len rows) }
+    ensures { IfOk result (AreHandsOf hall.now config.now (vec_len rows - 1)) }
+{
+    let (Some(row), Some(pass), Some(place)) = (rows.pop(), passes.pop(), works.pop()) else {
+        unreachable!();
+    };
+    let hosts = hosts_of(alloc, hall, config, &mut passes, row)?;
+    let spares = Spares {
+        passes,
+        works,
+        rows,
+    };
+    let workers = workers_of(alloc, hall, config, spares)?;
+    let fetcher = Hand { pass, works: place };
+    Ok(Hands {
+        fetcher,
+        workers,
+        hosts,
+    })
+}
+
+/// A hall of a new controller, and hands for a fetcher, so many workers, and a host of each completion queue. Its queue
+/// of Works holds 16, and each queue of notices as many as a completion queue has slots.
+///
+/// # Errors
+///
+/// `NoMemory` where a growth is refused.
+#[tactic(auto, using(crate::proofs::Halls::some_slots, crate::proofs::Halls::some_queues))]
+pub fn hall_of<G: Drop>(
+    alloc: Global,
+    config: Config,
+    gate: G,
+    workers: u16,
+) -> Result<(Hall<G>, Hands), NoMemory>
+    ensures hands { IfOk result (λ h. AreHandsOf h.0 config workers h.1) }
+{
+    let numbers = config.numbers();
+    let count = usize::from(workers) + 1;
+    let (engine, passes) = engine_of(alloc, config, count + usize::from(numbers.cqs))?;
+    let (works, places) = MessageQueue::<Work>::new(alloc, &engine, WORKS, count)?;
+    let (notices, rows) = notice_queues(alloc, &engine, numbers.cqs, numbers.cq_size, count)?;
+    let hall = Hall {
+        engine,
+        works,
+        notices,
+        stop: Stop::new(),
+        gate,
+    };
+    let hands = hands_of(alloc, &hall, &config, passes, places, rows)?;
+    Ok((hall, hands))
+}

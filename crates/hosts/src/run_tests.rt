@@ -1,0 +1,141 @@
+//! A fetcher and workers that serve what hosts published.
+
+ghost use Rattle.std.specs.Prelude.{◌≤◌, All, IfOk};
+ghost use Rattle.hosts.specs.Hands.{IsHostOf, IsListening, IsOf, IsWorkerOf};
+
+use crate::crew::run_crew;
+use crate::gate::OpenGate;
+use crate::hall::{Hall, Hand, Hands, HostHand, WorkerHand};
+use crate::opening::hall_of;
+use crate::test_calls::{config_of, publishes, reaps, write_command};
+use history::Config;
+use history_check::check;
+use std::alloc::{AllocError as NoMemory, Global};
+use std::sync::Wait;
+use std::test::Fail;
+use std::thread::{Threads, join};
+
+/// How many Writes each submission queue has.
+const WRITES: u8 = 3;
+
+// The same hosts, whatever they will have seen.
+#[tactic(auto, using(crate::proofs::Halls::hosts_listen))]
+fn listening(_hall: &Hall<OpenGate>, _config: &Config, hosts: Vec<HostHand>) -> Vec<HostHand>
+    requires { All (IsHostOf _hall.now _config.now) hosts.items }
+    ensures { All (IsListening _hall.now) result.items }
+{
+    hosts
+}
+
+// Publishes the Writes of a submission queue, each of two blocks.
+fn sends(alloc: Global, hall: &Hall<OpenGate>, host: &mut HostHand, queue: u16) -> Result<(), Fail>
+    requires { IsListening hall.now host.old }
+    ensures { IfOk result (λ _. IsListening hall.now host.new) }
+{
+    let mut batch = Vec::new(alloc);
+    for cid in 0..WRITES {
+        batch.push(write_command(alloc, cid, cid, 2)?)?;
+    }
+    if !publishes(hall, &mut host.pass, queue, batch) {
+        return Err(Fail::from("room for the Writes"));
+    }
+    Ok(())
+}
+
+// Reaps so many completions of each host's queue, and ends the crew; how many say success.
+fn ends<R: Wait>(rt: &R, hall: &Hall<OpenGate>, mut hosts: Vec<HostHand>, count: u16) -> u16
+    requires { All (IsListening hall.now) hosts.items }
+{
+    let mut good = 0u16;
+    for _ in 0..hosts.len() {
+        let Some(mut host) = hosts.pop() else {
+            break;
+        };
+        good = good.saturating_add(reaps(rt, hall, &mut host, count));
+    }
+    hall.stop.set();
+    good
+}
+
+type Ended = (Result<Hand, NoMemory>, u16);
+
+// The crew and, on a thread of their own, the hosts.
+fn both<R: Threads + Wait + Sync>(
+    rt: &R,
+    alloc: Global,
+    hall: &Hall<OpenGate>,
+    fetcher: Hand,
+    workers: Vec<WorkerHand>,
+    hosts: Vec<HostHand>,
+    count: u16,
+) -> Ended
+    requires crew { IsOf hall.now fetcher × All (IsWorkerOf hall.now) workers.items }
+    requires hosts { All (IsListening hall.now) hosts.items }
+    ensures { IfOk result.0 (IsOf hall.now) }
+{
+    join(
+        rt,
+        move || -> Result<Hand, NoMemory>
+            requires { IsOf hall.now fetcher × All (IsWorkerOf hall.now) workers.items }
+            ensures { IfOk result (IsOf hall.entry.now) }
+        { run_crew(rt, alloc, hall, 2, fetcher, workers) },
+        move || -> u16
+            requires { All (IsListening hall.now) hosts.items }
+        { ends(rt, hall, hosts, count) },
+    )
+}
+
+// Two submission queues and so many completion queues; how many completions say success, and how many entries the
+// history has, which is legal.
+fn served<R: Threads + Wait + Sync>(
+    rt: &R,
+    alloc: Global,
+    cqs: u16,
+    workers: u16,
+) -> Result<(u16, usize), Fail> {
+    let config = config_of(cqs)?;
+    let (hall, hands) = hall_of(alloc, config, OpenGate, workers)?;
+    let Hands {
+        fetcher,
+        workers,
+        hosts,
+    } = hands;
+    let mut hosts = listening(&hall, &config, hosts);
+    let Some(mut host) = hosts.pop() else {
+        return Err(Fail::from("a host"));
+    };
+    sends(alloc, &hall, &mut host, 1)?;
+    sends(alloc, &hall, &mut host, 2)?;
+    hosts.push(host)?;
+    let count = if cqs == 1 { 6 } else { 3 };
+    let (ended, good) = both(rt, alloc, &hall, fetcher, workers, hosts, count);
+    let hand = ended?;
+    let Hall { engine, .. } = hall;
+    let core = engine.close(hand.pass).ok_or("the lock isn't free")?;
+    let history = core.history().as_slice();
+    if check(alloc, &core.config(), history).is_err() {
+        return Err(Fail::from("the history isn't legal"));
+    }
+    Ok((good, history.len()))
+}
+
+// Two entries of Publishes, and of each of six Writes a Fetch, a Grant, two Blocks, a Post and a Reap.
+#[test]
+fn two_workers_serve_two_hosts(rt: HostRuntime) -> Result<(), Fail> {
+    assert_eq!(rt; served(&rt, rt.alloc(), 2, 2)?, (6, 38));
+    Ok(())
+}
+
+// The completion queue is full while three completions wait.
+#[test]
+fn four_workers_share_a_completion_queue(rt: HostRuntime) -> Result<(), Fail> {
+    assert_eq!(rt; served(&rt, rt.alloc(), 1, 4)?, (6, 38));
+    Ok(())
+}
+
+// A worker alone does all, and so a thread for each of many is no premise.
+#[test]
+fn one_worker_serves_all(rt: HostRuntime) -> Result<(), Fail> {
+    assert_eq!(rt; served(&rt, rt.alloc(), 2, 1)?, (6, 38));
+    Ok(())
+}

@@ -1,0 +1,11 @@
+pub mod Rings
+pub mod Flights
+pub mod Following
+pub mod Bounds
+pub mod Publishing
+pub mod Fetching
+pub mod Granting
+pub mod Blocking
+pub mod Posting
+pub mod Reaping
+pub mod Standing

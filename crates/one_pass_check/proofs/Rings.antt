@@ -1,0 +1,55 @@
+-- Lists as tables, and the rings of queues that are there.
+use Rattle.std.proofs.Common.{◌≡◌, ◌≢◌, ℕ, suc, ◌+◌, ◌≤◌, ◌<◌, ◌==◌, ◌||◌, false, List, length, get_or, set, replicate, sym, ap, ◌∙◌, inl, inr, arith, nat_lt, ne_eqb}
+use Rattle.std.proofs.lemmas.Bool.{cases_eq, or_from}
+use Rattle.std.proofs.lemmas.Bool.Decides.{nat_tests}
+use Rattle.std.proofs.lemmas.List.{get_or-set_same, get_or-set_other, length-set, length-replicate, get_or-replicate}
+use Rattle.one_pass_check.specs.Rings.{IsTable}
+
+-- ---- tables
+
+-- a table after one place has changed
+pub IsTable-set : {X : Type 0} (f g : ℕ → X) (n i : ℕ) (xs : List X) (y : X) → IsTable f n xs → i < n → y ≡ g i → ((k : ℕ) → k ≢ i → g k ≡ f k) → IsTable g n (set xs i y)
+IsTable-set f g n i xs y t lt e others =
+    record {
+      size = length-set xs i y ∙ t.size;
+      at = λ k d below. elim (cases_eq k i) [
+        | inl same ↦ let within : i < length xs = omega (arith, t.size, lt) in rw same (get_or-set_same xs i y d within ∙ e)
+        | inr apart ↦ get_or-set_other xs i k y d apart ∙ t.at k d below ∙ sym (others k apart)
+      ];
+    }
+
+-- the same table by another function
+pub IsTable-same : {X : Type 0} (f g : ℕ → X) (n : ℕ) (xs : List X) → IsTable f n xs → ((k : ℕ) → g k ≡ f k) → IsTable g n xs
+IsTable-same f g n xs t same = record { size = t.size; at = λ k d below. t.at k d below ∙ sym (same k) }
+
+-- a table of one value
+pub IsTable-replicate : {X : Type 0} (f : ℕ → X) (n : ℕ) (x : X) (xs : List X) → xs ≡ replicate n x → ((k : ℕ) → f k ≡ x) → IsTable f n xs
+IsTable-replicate f n x xs is same = record { size = ap length is ∙ length-replicate n x; at = λ k d lt. ap (λ ys. get_or ys k d) is ∙ get_or-replicate n k x d lt ∙ sym (same k) }
+
+-- ---- queues
+
+-- the queue at this place, of so many
+pub record IsPlace (n q i : ℕ) : Type 0 where
+  pub next : i + 1 ≡ q
+  pub within : i < n
+
+-- there is such a queue
+pub there : (n q i : ℕ) → IsPlace n q i → ((q == 0) || nat_lt n q) ≡ false
+there n q i p = or_from _ _ (ne_eqb q 0 (λ e. omega (arith, e, p.next))) (not_above n q (omega (arith, p.next, p.within)))
+  where
+    not_above : (n q : ℕ) → q ≤ n → nat_lt n q ≡ false
+    not_above n q l = grind (arith, nat_tests)
+
+-- its ring
+pub ring_at : {X : Type 0} (f : ℕ → X) (n q i : ℕ) (xs : List X) (x : X) → IsTable (λ k. f (suc k)) n xs → IsPlace n q i → x ≡ get_or xs i x → x ≡ f q
+ring_at f n q i xs x t p e =
+    let same : suc i ≡ q = omega (arith, p.next) in
+    e ∙ t.at i x p.within ∙ ap f same
+
+-- another ring is of another queue
+pub apart : (n q i k : ℕ) → IsPlace n q i → k ≢ i → q ≢ suc k
+apart n q i k p ne e = ne (omega (arith, e, p.next))
+
+-- one ring is at one place
+pub one_ring : {X : Type 0} (f : ℕ → X) (n q i : ℕ) (xs : List X) (x y : X) → IsTable (λ k. f (suc k)) n xs → IsPlace n q i → x ≡ get_or xs i x → y ≡ get_or xs i y → x ≡ y
+one_ring f n q i xs x y t p e h = ring_at f n q i xs x t p e ∙ sym (ring_at f n q i xs y t p h)

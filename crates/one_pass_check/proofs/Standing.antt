@@ -1,0 +1,99 @@
+-- Which history a checker stands for.
+use Rattle.std.proofs.Common.{◌≡◌, ℕ, suc, ◌%◌, ◌==◌, ◌&&◌, Bool, true, false, List, [], ◌∷◌, length, replicate, None, is_none, refl, sym, ap, ◌∙◌, subst, ltb-false}
+use Rattle.std.proofs.Math.Nat.{zero-div, zero-mod}
+use Rattle.std.proofs.lemmas.Bool.{or_parts}
+use Rattle.std.proofs.lemmas.List.{get_or-replicate, length-replicate}
+use Rattle.checked_tickets.specs.Contents.{contents_in}
+use Rattle.checker_tables.specs.Tables.{Tables, tables}
+use Rattle.checker_tables.proofs.Judging.{judged_is}
+use Rattle.checker_tables.proofs.Taking.{taken_is}
+use Rattle.nvme_model.specs.Array.{zeros}
+use Rattle.nvme_model.specs.Config.{config_fault, config_faults}
+use Rattle.nvme_model.specs.History.{Past}
+use Rattle.nvme_model.specs.Legal.{legal, may_follow}
+use Rattle.nvme_model.specs.declared.config.ConfigNumbers.{ConfigNumbers}
+use Rattle.nvme_model.specs.declared.entry.Entry.{Entry}
+use Rattle.nvme_model.proofs.Rules.{none_holds}
+use Rattle.range_reserve.specs.declared.held.Held.{Held}
+use Rattle.rings.specs.Completions.{CompletionRing}
+use Rattle.rings.specs.Slots.{IsSize}
+use Rattle.rings.specs.Submissions.{SubmissionRing}
+use Rattle.one_pass_check.specs.Kept.{Keeps, Kept, Shows, Stands, State}
+use Rattle.one_pass_check.specs.Rings.{completion_ring, submission_ring}
+use Rattle.one_pass_check.specs.Steps.{Took}
+use Rattle.one_pass_check.specs.declared.fields.InFlight.{InFlight}
+use Rattle.one_pass_check.proofs.Following.{legal_next}
+use Rattle.one_pass_check.proofs.Rings.{IsTable-replicate}
+
+-- ---- no entry
+
+-- the sizes of the queues
+pub sq_is_size : (c : ConfigNumbers) → config_fault c ≡ None → IsSize c.sq_size
+sq_is_size c none =
+    let p = or_parts _ _ (none_holds (config_faults c) (ap is_none none)).1.1.1.1.1.1.0 in
+    (ltb-false _ _ p.0, ltb-false _ _ p.1)
+
+pub cq_is_size : (c : ConfigNumbers) → config_fault c ≡ None → IsSize c.cq_size
+cq_is_size c none =
+    let p = or_parts _ _ (none_holds (config_faults c) (ap is_none none)).1.1.1.1.1.1.1.0 in
+    (ltb-false _ _ p.0, ltb-false _ _ p.1)
+
+abbrev submission_empty : ℕ → SubmissionRing
+submission_empty size = record { size = size; head = 0; waiting = [] }
+
+abbrev completion_empty : ℕ → CompletionRing
+completion_empty size = record { size = size; tail = 0; phase = true; waiting = [] }
+
+submission_begins : (c : ConfigNumbers) (k : ℕ) → submission_ring c (tables c []) k ≡ submission_empty c.sq_size
+submission_begins c k = ap (λ n. record (submission_empty c.sq_size) { head = n }) (zero-mod c.sq_size)
+
+completion_begins : (c : ConfigNumbers) (k : ℕ) → completion_ring c (tables c []) k ≡ completion_empty c.cq_size
+completion_begins c k = (λ i. record (completion_empty c.cq_size) { tail = zero-mod c.cq_size i; phase = zero-div c.cq_size i % 2 == 0 })
+
+-- what is kept of none
+pub keeps_none : (c m : ConfigNumbers) (v : List (List ℕ)) (s : List SubmissionRing) (q : List CompletionRing) (fs : List InFlight) (r : List Held)
+    → m ≡ c → config_fault m ≡ None → v ≡ replicate m.blocks zeros → s ≡ replicate m.pairs (submission_empty m.sq_size) → q ≡ replicate m.cqs (completion_empty m.cq_size) → fs ≡ [] → r ≡ []
+    → Keeps c [] (record { volume = v; submission = s; completion = q; flights = fs; held = r; tickets = 0 })
+keeps_none c m v s q fs r same accepted vs ss qs none free =
+    subst (λ (x : ConfigNumbers). Keeps x [] (record { volume = v; submission = s; completion = q; flights = fs; held = r; tickets = 0 })) same
+    (record {
+      accepted = accepted;
+      legal_so_far = refl;
+      shows = record {
+        blocks = ap length vs ∙ length-replicate m.blocks zeros;
+        values = λ l below. ap (λ (xs : List (List ℕ)). contents_in xs l) vs ∙ get_or-replicate m.blocks l zeros [] below;
+        sq_rings = IsTable-replicate _ m.pairs _ s ss (λ k. submission_begins m (suc k));
+        cq_rings = IsTable-replicate _ m.cqs _ q qs (λ k. completion_begins m (suc k));
+        in_flight = none;
+        ranges = free;
+        count = refl;
+      };
+    })
+
+-- ---- one more entry
+
+-- behind entries that aren't legal
+pub stands_false : (c : ConfigNumbers) (past : Past) (x : State) (e : Entry) → Stands c past x → x.is_legal ≡ false → (false ≡ legal c (e ∷ past)) × Stands c (e ∷ past) x
+stands_false c past x e s bad =
+    let answer : false ≡ legal c (e ∷ past) = sym (ap (λ b. b && may_follow c past e) (sym s.answer ∙ bad)) in
+    (answer, record { same = s.same; answer = bad ∙ answer; keeps = λ good. absurd (let f : false ≡ true = sym bad ∙ good in cc) })
+
+-- and behind legal ones
+pub stands_next : (c : ConfigNumbers) (past : Past) (x : State) (e : Entry) (b : Bool) (k : Kept) → Stands c past x → x.is_legal ≡ true → Took c past e b k
+    → (b ≡ legal c (e ∷ past)) × Stands c (e ∷ past) (record { config = x.config; is_legal = b; kept = k })
+stands_next c past x e b k s good t =
+    let keeps = s.keeps good in
+    let answer : b ≡ legal c (e ∷ past) = t.answer ∙ sym (judged_is c past e keeps.legal_so_far) ∙ sym (ap (λ a. a && may_follow c past e) (sym s.answer ∙ good)) in (
+      answer,
+      record {
+        same = s.same;
+        answer = answer;
+        keeps = λ true_now.
+            let legal_then = legal_next c past x.kept e keeps (sym t.answer ∙ true_now) in
+            record {
+              accepted = keeps.accepted;
+              legal_so_far = legal_then;
+              shows = subst (λ (y : Tables). Shows c y k) (sym (taken_is c past e legal_then)) (t.shows true_now);
+            };
+      },
+    )

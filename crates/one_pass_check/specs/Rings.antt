@@ -1,0 +1,26 @@
+-- The rings of the queues, as tables.
+use Rattle.std.specs.Prelude.{List, [], get_or, length, map, ℕ, ◌%◌, ◌/◌, ◌<◌, ◌==◌, ◌≡◌}
+use Rattle.checker_tables.specs.Tables.{Tables}
+use Rattle.nvme_model.specs.declared.config.ConfigNumbers.{ConfigNumbers}
+use Rattle.nvme_model.specs.declared.entry.PostLine.{PostLine}
+use Rattle.rings.specs.Completions.{CompletionRing}
+use Rattle.rings.specs.Submissions.{SubmissionRing}
+use Rattle.rings.specs.declared.completion_ring.Completion.{Completion}
+
+-- the ring of submission queue q
+abbrev pub submission_ring : ConfigNumbers → Tables → ℕ → SubmissionRing
+submission_ring c s q = record { size = c.sq_size; head = s.fetched q % c.sq_size; waiting = s.waiting q }
+
+-- a completion without its data, which no later entry is judged by
+abbrev pub bare : PostLine → Completion
+bare p = record { cqe = p.cqe; payload = [] }
+
+-- the ring of completion queue q
+abbrev pub completion_ring : ConfigNumbers → Tables → ℕ → CompletionRing
+completion_ring c s q =
+    record { size = c.cq_size; tail = s.posts q % c.cq_size; phase = (s.posts q / c.cq_size) % 2 == 0; waiting = map bare (s.unreaped q) }
+
+-- the list is what f says of each place below n
+pub record IsTable {X : Type 0} (f : ℕ → X) (n : ℕ) (xs : List X) : Type 0 where
+  pub size : length xs ≡ n
+  pub at : (k : ℕ) (d : X) → k < n → get_or xs k d ≡ f k

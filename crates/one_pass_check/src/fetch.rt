@@ -1,0 +1,195 @@
+//! Fetch: the next command, or the next fused pair, of a submission queue becomes a ticket.
+
+ghost use Rattle.std.specs.Option.{option_copied, option_map};
+ghost use Rattle.std.specs.List.{flat_map};
+ghost use Rattle.std.specs.Prelude.{◌≡◌, ◌≤◌, ◌+◌, ◌==◌, ◌&&◌, ◌∷◌, IfOk, OnErr, length, option_to_list, slice_get, take};
+ghost use Rattle.nvme_model.specs.History.{Past};
+ghost use Rattle.nvme_model.specs.declared.config.ConfigNumbers.{ConfigNumbers};
+ghost use Rattle.nvme_model.specs.declared.entry.Entry.{Entry};
+ghost use Rattle.one_pass_check.specs.Kept.{Keeps, kept_in};
+ghost use Rattle.one_pass_check.specs.Steps.{Took};
+ghost use Rattle.checker_tables.specs.Judged.{cids_left};
+ghost use Rattle.fused_match.specs.Judged.{NamesBlocks, operation_in, verdict_by, waiting_items};
+ghost use Rattle.nvme_model.specs.EntryBytes.{sqe_fields};
+ghost use Rattle.nvme_model.specs.Operations.{op_by};
+ghost use Rattle.nvme_model.specs.Statuses.{same_status};
+ghost use Rattle.nvme_model.specs.Verdict.{item_of, same_verdict, verdict_of};
+ghost use Rattle.nvme_model.specs.declared.status.Verdict.{Verdict};
+ghost use Rattle.one_pass_check.specs.Steps.{HasUnits, units_in};
+ghost use Rattle.rings.specs.Submissions.{advanced};
+
+use crate::fields::{Fields, InFlight, TicketUnits};
+use crate::places::ring_place;
+use block_array::NoMemory;
+use checked_tickets::{Commands, Flight};
+use fused_match::{Item, Judged, judge};
+use history::Config;
+use nvme_model::array::Range;
+use nvme_model::entry::FetchLine;
+use nvme_model::status::{Status, Verdict};
+use nvme_model::submission::Submission;
+use rings::SqRing;
+use std::alloc::Global;
+
+// The identifiers that tickets in flight on this queue still owe a completion for.
+fn cids_in_use(alloc: Global, flights: &[InFlight], queue: u16) -> Result<Vec<u16>, NoMemory>
+    ensures value { IfOk result (λ in_use. in_use.items ≡ flat_map (λ e. cids_left queue e.flight) flights.now) }
+{
+    let mut in_use = Vec::new(alloc);
+    for one in flights {
+        one.flight.put_cids(queue, &mut in_use)?;
+    }
+    Ok(in_use)
+}
+
+// What a check sees of the entry behind the first of a ring, if there is one.
+fn next_item(ring: &SqRing) -> Option<Item>
+    ensures value { result ≡ option_map item_of (slice_get ring.now.waiting 1) }
+{
+    ring.peek(1).map(Item::of)
+}
+
+// What becomes of the entries at the front of a ring, where these tickets are in flight.
+fn judge_front(
+    alloc: Global,
+    config: &Config,
+    flights: &[InFlight],
+    queue: u16,
+    first: &Submission,
+    next: Option<&Item>,
+) -> Result<Judged, NoMemory>
+    ensures verdict { IfOk result (λ j. verdict_by j ≡
+        verdict_of config.now.atomic config.now.blocks (flat_map (λ e. cids_left queue e.flight) flights.now) (waiting_items (item_of first.now) (option_copied next.entry))) }
+    ensures operation { IfOk result (λ j. operation_in j ≡ op_by (verdict_by j) (sqe_fields first.now.entry)) }
+    ensures range { IfOk result (λ j. NamesBlocks j (sqe_fields first.now.entry)) }
+{
+    let in_use = cids_in_use(alloc, flights, queue)?;
+    Ok(judge(
+        &Item::of(first),
+        next,
+        in_use.as_slice(),
+        &config.units(),
+        config.numbers().blocks,
+    ))
+}
+
+// Whether two statuses are the same.
+fn same_status(status: Status, other: Status) -> bool
+    ensures value { result ≡ same_status status other }
+{
+    status.sct() == other.sct() && status.sc() == other.sc()
+}
+
+// Whether a verdict is that one command failed so.
+fn is_single_failed(verdict: Verdict, status: Status) -> bool
+    ensures value { result ≡ same_verdict (Verdict.SingleFailed status) verdict }
+{
+    match verdict {
+        Verdict::SingleFailed(other) => same_status(status, other),
+        _ => false,
+    }
+}
+
+// Whether a verdict is that a pair failed so.
+fn is_pair_failed(verdict: Verdict, first: Status, second: Status) -> bool
+    ensures value { result ≡ same_verdict (Verdict.PairFailed first second) verdict }
+{
+    match verdict {
+        Verdict::PairFailed(one, other) => same_status(first, one) && same_status(second, other),
+        _ => false,
+    }
+}
+
+// Whether two verdicts are the same.
+fn same_verdict(verdict: Verdict, other: Verdict) -> bool
+    ensures value { result ≡ same_verdict verdict other }
+{
+    match verdict {
+        Verdict::Single => matches!(other, Verdict::Single),
+        Verdict::Pair => matches!(other, Verdict::Pair),
+        Verdict::SingleFailed(status) => is_single_failed(other, status),
+        Verdict::PairFailed(first, second) => is_pair_failed(other, first, second),
+    }
+}
+
+// The units of a ticket.
+fn units_of(alloc: Global, config: &Config, judged: &Judged) -> Result<Vec<Range>, NoMemory>
+    requires within { HasUnits judged.now }
+    ensures value { IfOk result (λ units. units.items ≡ units_in config.now.atomic judged.now) }
+{
+    match judged {
+        Judged::Single(_, range) => config.units().cut(range.slba, range.blocks).collect(alloc),
+        Judged::Pair(range) => {
+            let mut units = Vec::new(alloc);
+            units.push(*range)?;
+            Ok(units)
+        }
+        _ => Ok(Vec::new(alloc)),
+    }
+}
+
+// Takes the next one or two entries out of a ring.
+fn take_commands(ring: &mut SqRing, count: u8) -> (Submission, Option<Submission>)
+    requires some { 1 ≤ count }
+    requires few { count ≤ 2 }
+    requires within { count ≤ length ring.old.waiting }
+    ensures taken { result.0 ∷ option_to_list result.1 ≡ take count ring.old.waiting }
+    ensures rest { ring.new ≡ advanced ring.old count }
+{
+    let first = ring.take();
+    if count == 1 {
+        return (first, None);
+    }
+    (first, Some(ring.take()))
+}
+
+// Whether a Fetch says the next ticket, and what became of its entries.
+fn fetch_fits(line: &FetchLine, tickets: u64, judged: &Judged) -> bool
+    ensures value { result ≡ ((line.now.ticket == tickets + 1) && same_verdict line.now.verdict (verdict_by judged.now)) }
+{
+    line.ticket != 0 && line.ticket - 1 == tickets && same_verdict(line.verdict, judged.verdict())
+}
+
+/// Takes a Fetch, and says whether it may follow.
+///
+/// # Errors
+///
+/// `NoMemory` where a growth is refused; nothing has changed.
+pub fn take_fetch(
+    alloc: Global,
+    config: &Config,
+    fields: &mut Fields,
+    line: &FetchLine,
+) -> Result<bool, NoMemory>
+    requires keeps { (past : Past) × Keeps config.now past (kept_in fields.old) }
+    ensures took { (past : Past) → Keeps config.now past (kept_in fields.old) → IfOk result (λ b. Took config.now past (Entry.Fetch line.now) b (kept_in fields.new)) }
+    ensures err { OnErr result (kept_in fields.new ≡ kept_in fields.old) }
+{
+    let Some(place) = ring_place(line.queue, fields.submission.len()) else {
+        return Ok(false);
+    };
+    let ring = &fields.submission[place];
+    let Some(first) = ring.peek(0) else {
+        return Ok(false);
+    };
+    if fields.flights.len() >= usize::from(config.numbers().jobs) {
+        return Ok(false);
+    }
+    let next = next_item(ring);
+    let flights = fields.flights.as_slice();
+    let judged = judge_front(alloc, config, flights, line.queue, first, next.as_ref())?;
+    if !fetch_fits(line, fields.tickets, &judged) {
+        return Ok(false);
+    }
+    let units = TicketUnits::new(units_of(alloc, config, &judged)?);
+    fields.flights.reserve(1)?;
+    let (first, second) = take_commands(&mut fields.submission[place], judged.taken());
+    let commands = Commands::new(line.queue, line.verdict, first, second);
+    fields.flights.push_reserved(InFlight {
+        ticket: line.ticket,
+        flight: Flight::new(alloc, commands),
+        units,
+    });
+    fields.tickets = line.ticket;
+    Ok(true)
+}

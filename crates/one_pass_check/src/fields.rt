@@ -1,0 +1,113 @@
+//! What a checker keeps.
+
+ghost use Rattle.std.specs.Prelude.{◌≡◌, [], IfOk, replicate, true};
+ghost use Rattle.rings.specs.Slots.{IsSize};
+
+use block_array::{NoMemory, Volume};
+use checked_tickets::Flight;
+use history::Config;
+use nvme_model::array::Range;
+use range_reserve::Ranges;
+use rings::{CqRing, SqRing};
+use std::alloc::Global;
+use std::marker::Model;
+
+/// The units of a ticket, in order.
+#[derive(Drop)]
+pub struct TicketUnits {
+    ranges: Vec<Range>,
+}
+
+impl Model for TicketUnits {
+    ghost use Rattle.std.specs.Prelude.{List};
+    ghost use Rattle.nvme_model.specs.declared.array.Range.{Range};
+
+    ghost Value = { List Range };
+
+    ghost view = { λ u. u.ranges.items };
+}
+
+impl TicketUnits {
+    /// These units.
+    pub fn new(ranges: Vec<Range>) -> TicketUnits
+        ensures { result ≡ ranges.items }
+    {
+        TicketUnits { ranges }
+    }
+
+    pub fn as_slice(&self) -> &[Range]
+        ensures { result.now ≡ self.now }
+    {
+        self.ranges.as_slice()
+    }
+}
+
+/// A ticket in flight.
+#[derive(Drop)]
+pub struct InFlight {
+    pub ticket: u64,
+    pub flight: Flight,
+    pub units: TicketUnits,
+}
+
+/// What a checker keeps.
+#[derive(Drop)]
+pub struct Fields {
+    pub volume: Volume,
+    /// By submission queue.
+    pub submission: Vec<SqRing>,
+    /// By completion queue; without the data, which no later entry is judged by.
+    pub completion: Vec<CqRing>,
+    /// By rising ticket.
+    pub flights: Vec<InFlight>,
+    /// Of the open units.
+    pub ranges: Ranges,
+    pub tickets: u64,
+}
+
+// So many submission rings of this size.
+fn sq_rings(alloc: Global, count: u16, size: u16) -> Result<Vec<SqRing>, NoMemory>
+    requires size { IsSize size }
+    ensures value { IfOk result (λ rings. rings.items ≡ replicate count (record { size = size; head = 0; waiting = [] })) }
+{
+    let mut rings = Vec::with_capacity(alloc, count as usize)?;
+    for _ in 0..count {
+        rings.push_reserved(SqRing::new(alloc, size)?);
+    }
+    Ok(rings)
+}
+
+// So many completion rings of this size.
+fn cq_rings(alloc: Global, count: u16, size: u16) -> Result<Vec<CqRing>, NoMemory>
+    requires size { IsSize size }
+    ensures value { IfOk result (λ rings. rings.items ≡ replicate count (record { size = size; tail = 0; phase = true; waiting = [] })) }
+{
+    let mut rings = Vec::with_capacity(alloc, count as usize)?;
+    for _ in 0..count {
+        rings.push_reserved(CqRing::new(alloc, size)?);
+    }
+    Ok(rings)
+}
+
+impl Fields {
+    ghost use Rattle.one_pass_check.specs.Kept.{Keeps, kept_in};
+
+    /// What is kept of no entry.
+    ///
+    /// # Errors
+    ///
+    /// `NoMemory` where a growth is refused.
+    pub fn new(alloc: Global, config: &Config) -> Result<Fields, NoMemory>
+        ensures keeps { IfOk result (λ fields. Keeps config.now [] (kept_in fields)) }
+    {
+        let numbers = config.numbers();
+        Ok(Fields {
+            volume: Volume::new(alloc, numbers.blocks)?,
+            submission: sq_rings(alloc, numbers.pairs, numbers.sq_size)?,
+            completion: cq_rings(alloc, numbers.cqs, numbers.cq_size)?,
+            flights: Vec::new(alloc),
+            ranges: Ranges::new(alloc),
+            tickets: 0,
+        })
+    }
+}

@@ -1,0 +1,52 @@
+//! Publish: entries go into a submission queue.
+
+ghost use Rattle.std.specs.Prelude.{◌≡◌, IfOk, OnErr};
+ghost use Rattle.nvme_model.specs.History.{Past};
+ghost use Rattle.nvme_model.specs.declared.config.ConfigNumbers.{ConfigNumbers};
+ghost use Rattle.nvme_model.specs.declared.entry.Entry.{Entry};
+ghost use Rattle.one_pass_check.specs.Kept.{Keeps, kept_in};
+ghost use Rattle.one_pass_check.specs.Steps.{Took};
+
+use crate::fields::Fields;
+use crate::places::ring_place;
+use block_array::NoMemory;
+use nvme_model::entry::PublishLine;
+use nvme_model::submission::{Payload, Submission, Submissions};
+use std::alloc::Global;
+
+// The same entries.
+fn copy_of(alloc: Global, entries: &[Submission]) -> Result<Vec<Submission>, NoMemory>
+    ensures same { IfOk result (λ copy. copy.items ≡ entries.now) }
+{
+    let mut copy = Vec::with_capacity(alloc, entries.len())?;
+    for one in entries {
+        copy.push_reserved(Submission {
+            entry: one.entry,
+            payload: Payload::new(one.payload.as_slice().to_vec(alloc)?),
+        });
+    }
+    Ok(copy)
+}
+
+/// Takes a Publish, and says whether it may follow.
+///
+/// # Errors
+///
+/// `NoMemory` where a growth is refused; nothing has changed.
+pub fn take_publish(
+    alloc: Global,
+    fields: &mut Fields,
+    line: &PublishLine,
+) -> Result<bool, NoMemory>
+    ensures took { (c : ConfigNumbers) (past : Past) → Keeps c past (kept_in fields.old) → IfOk result (λ b. Took c past (Entry.Publish line.now) b (kept_in fields.new)) }
+    ensures err { OnErr result (kept_in fields.new ≡ kept_in fields.old) }
+{
+    let Some(place) = ring_place(line.queue, fields.submission.len()) else {
+        return Ok(false);
+    };
+    let copy = copy_of(alloc, line.batch.as_slice())?;
+    let Ok(()) = fields.submission[place].publish(Submissions::new(copy)) else {
+        return Ok(false);
+    };
+    Ok(true)
+}

@@ -1,0 +1,9 @@
+mod Followed
+mod Fronts
+mod Judging
+mod Limits
+mod Noted
+mod Opened
+mod ReadBack
+mod Skipped
+mod Ticketed

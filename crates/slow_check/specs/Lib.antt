@@ -1,0 +1,4 @@
+pub mod Answers
+pub mod Last
+pub mod Notes
+pub mod Taken
