@@ -17,6 +17,10 @@ use Rattle.slot_alloc.specs.declared.release.Releasing.{Releasing}
 use Rattle.slot_calls.specs.Calls.{IsClaimIn, IsName, IsReleaseIn}
 use Rattle.slot_calls.specs.Swaps.{log_believed, log_released}
 
+-- the call of a release
+abbrev pub release_call : {P : Type 0} → Releasing P → Call P
+release_call k = k.call
+
 module _ {P : Type 0} {g : Ghosts P} where
   -- By its log the driver's host holds the slot, under this claim's serial: its claim was answered by success, and no release of its name was published.
   pub record IsHeldBy (d : Driver P g) (c : Claim) : Type 0 where
@@ -60,6 +64,14 @@ module _ {P : Type 0} {g : Ghosts P} where
     pub since : g.follows k.began.value.port d.port
     pub at : IsAt d k.began.value (block_of (area_of d) k.slot) k.reach k.stage
     pub lower : k.reach ≡ Reach.Any → AreTaken d k.began.value k.slot
+
+  abbrev pub stage_of : Claiming P g → Stage P
+  stage_of k = k.stage
+
+  -- the call of the slot at hand, if it is begun, is one of the driver
+  abbrev pub IsCallKept : Driver P g → Stage P → Type 0
+  IsCallKept d (Stage.Asked call serial) = IsCallOf d call
+  IsCallKept d Stage.Due = Unit {0}
 
   -- The driver began the release of this claim's name, which hasn't ended.
   pub record IsReleasingOf (d : Driver P g) (k : Releasing P) : Type 0 where

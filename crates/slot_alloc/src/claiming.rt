@@ -16,7 +16,7 @@ use std::snapshot::Snapshot;
 
 /// Which slots a claim may take.
 #[derive(Clone, Copy, Debug, PartialEq, Eq)]
-pub enum Reach {
+pub(crate) enum Reach {
     /// One alone.
     One,
     /// The first that nobody has.
@@ -25,7 +25,7 @@ pub enum Reach {
 
 /// What was done about the slot at hand.
 #[derive(Drop)]
-pub enum Stage<P> {
+pub(crate) enum Stage<P> {
     /// Its claim was begun, under this serial.
     Asked(Call<P>, u64),
     /// It has to be begun.

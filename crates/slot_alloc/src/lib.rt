@@ -3,13 +3,14 @@
 
 mod claim;
 mod claiming;
+pub mod laws;
 mod poll;
 mod progress;
 mod release;
 mod slots;
 
 pub use claim::Claim;
-pub use claiming::{Claiming, Reach, Stage};
+pub use claiming::Claiming;
 pub use poll::poll_claim;
 pub use progress::{Progress, Released};
 pub use release::Releasing;

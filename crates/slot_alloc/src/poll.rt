@@ -12,6 +12,7 @@ use crate::claim::Claim;
 use crate::claiming::{Claiming, Reach, Stage, ask};
 use crate::progress::Progress;
 use driver_cas::{Driver, Poll, Port, Reply};
+use std::mem;
 
 // Whether a pair's effect said yes.
 pub(crate) fn is_swapped(reply: Reply) -> bool
@@ -71,59 +72,25 @@ pub fn poll_claim<P: Port>(driver: &mut Driver<P>, claiming: Claiming<P>) -> Pro
     ensures others { (other : Call P) → IsCallOf driver.old other → IsBeside claiming.stage other →
         IsCallOf driver.new other × IsBesideOn result other }
 {
-    let Claiming {
-        slots,
-        reach,
-        slot,
-        stage,
-        began,
-    } = claiming;
-    let Stage::Asked(call, serial) = stage else {
-        let stage = Stage::Due;
-        return ask(
-            driver,
-            Claiming {
-                slots,
-                reach,
-                slot,
-                stage,
-                began,
-            },
-        );
+    let mut claiming = claiming;
+    let Stage::Asked(call, serial) = mem::replace(&mut claiming.stage, Stage::Due) else {
+        return ask(driver, claiming);
     };
     match driver.poll(call) {
-        Poll::Pending(call) => Progress::Pending(Claiming {
-            slots,
-            reach,
-            slot,
-            stage: Stage::Asked(call, serial),
-            began,
-        }),
-        Poll::Later(fault, call) => Progress::Later(
-            fault,
-            Claiming {
-                slots,
-                reach,
-                slot,
-                stage: Stage::Asked(call, serial),
-                began,
-            },
-        ),
+        Poll::Pending(call) => {
+            claiming.stage = Stage::Asked(call, serial);
+            Progress::Pending(claiming)
+        }
+        Poll::Later(fault, call) => {
+            claiming.stage = Stage::Asked(call, serial);
+            Progress::Later(fault, claiming)
+        }
         Poll::Done(reply) => {
             if is_swapped(reply) {
+                let slot = claiming.slot;
                 return Progress::Held(Claim { slot, serial });
             }
-            let stage = Stage::Due;
-            next(
-                driver,
-                Claiming {
-                    slots,
-                    reach,
-                    slot,
-                    stage,
-                    began,
-                },
-            )
+            next(driver, claiming)
         }
         Poll::Failed(fault) => Progress::Failed(fault),
     }

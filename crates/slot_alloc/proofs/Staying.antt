@@ -1,0 +1,69 @@
+-- A claim and a release that were begun, at a later moment.
+use Rattle.std.proofs.Common.{List, None, Option, refl, true, subst, sym, ℕ, ◌++◌, ◌<◌, ◌∙◌, ◌≡◌}
+use Rattle.nvme_model.specs.Array.{has_block}
+use Rattle.nvme_model.specs.declared.array.Range.{Range}
+use Rattle.nvme_model.specs.declared.operation.Op.{Op}
+use Rattle.driver_calls.specs.Says.{IsCallIn}
+use Rattle.driver_calls.specs.declared.event.PortEvent.{PortEvent}
+use Rattle.driver_cas.specs.Drivers.{IsCallOf, area_of, made, number_of}
+use Rattle.driver_cas.specs.declared.call.Call.{Call}
+use Rattle.driver_cas.specs.declared.driver.Driver.{Driver}
+use Rattle.driver_cas.specs.declared.port.Port.{Ghosts}
+use Rattle.slot_calls.proofs.Winning.{claim_in_later, release_in_later}
+use Rattle.slot_calls.specs.Calls.{IsClaimIn, IsReleaseIn}
+use Rattle.slot_calls.specs.Swaps.{log_released}
+use Rattle.slot_alloc.specs.Areas.{block_of}
+use Rattle.slot_alloc.specs.Careful.{GoesOn, ReleasedName, own_name}
+use Rattle.slot_alloc.specs.Claims.{IsAsking, IsAt, IsCallKept, IsClaimingOf, IsReleasingOf}
+use Rattle.slot_alloc.specs.declared.claiming.Claiming.{Claiming}
+use Rattle.slot_alloc.specs.declared.claiming.Reach.{Reach}
+use Rattle.slot_alloc.specs.declared.claiming.Stage.{Stage}
+use Rattle.slot_alloc.specs.declared.release.Releasing.{Releasing}
+use Rattle.slot_alloc.proofs.Asking.{inside_of, taken_on}
+use Rattle.slot_alloc.proofs.Starting.{number_same}
+
+module _ {P : Type 0} (g : Ghosts P) where
+  -- a pair's call stands in the later log
+  later_call : (d e : Driver P g) (released : Option ReleasedName) (x : GoesOn d e released) (k : Call P) → k.op ≡ Op.Pair → IsCallOf e k → IsCallIn (x.log.log ++ made d) k.queue Op.Pair k.first k.second (number_of d k)
+  later_call d e released x k does of =
+      subst (λ (z : List PortEvent × ℕ × Op). IsCallIn z.0 k.queue z.2 k.first k.second z.1) (λ i. (x.log.more i, number_same g d e k x.settings i, does i)) of.published
+
+  asking_on : (d e : Driver P g) (l : ℕ) (k : Call P) (serial : ℕ) (x : GoesOn d e None) → has_block (area_of d) l ≡ true → IsCallOf e k → IsAsking d l k serial → IsAsking e l k serial
+  asking_on d e l k serial x inside of a =
+      record {
+        of = of;
+        does = a.does;
+        claim = subst (λ (z : List PortEvent × ℕ × ℕ). IsClaimIn z.0 k.queue k.first k.second z.1 l (record { host = z.2; serial = serial }))
+            (λ i. (sym x.log.more i, sym (number_same g d e k x.settings) i, sym x.settings.host i))
+            (claim_in_later x.log.log (made d) k.queue k.first k.second (number_of d k) l (own_name d serial) a.claim (later_call d e None x k a.does of));
+        unreleased =
+            let p : log_released (made e) l (own_name e serial) ≡ log_released (made e) l (own_name d serial) = λ i. log_released (made e) l (record { host = x.settings.host i; serial = serial }) in
+            p ∙ x.log.unreleased l (own_name d serial) inside refl a.unreleased;
+      }
+
+  at_on : (d e began : Driver P g) (slot : ℕ) (reach : Reach) (stage : Stage P) → GoesOn d e None → slot < (area_of d).blocks → IsCallKept e stage
+      → IsAt d began (block_of (area_of d) slot) reach stage → IsAt e began (block_of (area_of e) slot) reach stage
+  at_on d e began slot reach (Stage.Asked call serial) x less kept at =
+      (subst (λ (r : Range). IsAsking e (block_of r slot) call serial) (sym x.settings.slots) (asking_on d e (block_of (area_of d) slot) call serial x (inside_of (area_of d) slot less) kept at.0), at.1)
+  at_on d e began slot reach Stage.Due x less kept at = at
+
+  pub claiming_on : ((a b c : P) → g.follows a b → g.follows b c → g.follows a c) → (d e : Driver P g) (k : Claiming P g) → GoesOn d e None → IsCallKept e k.stage → IsClaimingOf d k → IsClaimingOf e k
+  claiming_on on d e k x kept of =
+      record {
+        area_is = x.settings.slots ∙ of.area_is;
+        inside = of.inside;
+        since = on k.began.value.port d.port e.port of.since x.later;
+        at = at_on d e k.began.value k.slot k.reach k.stage x (subst (λ (r : Range). k.slot < r.blocks) (sym of.area_is) of.inside) kept of.at;
+        lower = λ any. taken_on g on d e k.began.value k.slot x (of.lower any);
+      }
+
+  pub releasing_on : (d e : Driver P g) (k : Releasing P) (released : Option ReleasedName) → GoesOn d e released → IsCallOf e k.call → IsReleasingOf d k → IsReleasingOf e k
+  releasing_on d e k released x call_of of =
+      record {
+        of = call_of;
+        does = of.does;
+        inside = subst (λ (r : Range). k.slot < r.blocks) (sym x.settings.slots) of.inside;
+        release = subst (λ (z : List PortEvent × ℕ × ℕ × Range). IsReleaseIn z.0 k.call.queue k.call.first k.call.second z.1 (block_of z.3 k.slot) (record { host = z.2; serial = k.serial }))
+            (λ i. (sym x.log.more i, sym (number_same g d e k.call x.settings) i, sym x.settings.host i, sym x.settings.slots i))
+            (release_in_later x.log.log (made d) k.call.queue k.call.first k.call.second (number_of d k.call) (block_of (area_of d) k.slot) (own_name d k.serial) of.release (later_call d e released x k.call of.does call_of));
+      }

@@ -1,0 +1,19 @@
+use Rattle.driver_cas.specs.Drivers.{area_of}
+use Rattle.slot_alloc.proofs.Keeping.{pair_sound, request_sound, start_kept}
+use Rattle.slot_alloc.proofs.Polling.{careful_polled, goes_on_polled}
+use Rattle.driver_cas.specs.Requests.{pair_request_of, request_of}
+use Rattle.slot_alloc.proofs.laws.other_calls_touch_no_slot.Goals as goal
+
+pub returns : goal.returns
+returns g c =
+    let d = c.args.old.now.value in
+    let e = c.args.new.now in
+    let r = c.requires in
+    record {
+      start = λ acwu slba bytes o contents result s.
+          start_kept g.P.Port d e (request_of acwu (area_of d) o slba bytes) contents result r.same r.later (request_sound acwu (area_of d) o slba bytes) r.careful s;
+      pair = λ acwu slba bytes others contents result s.
+          start_kept g.P.Port d e (pair_request_of acwu (area_of d) slba bytes others) contents result r.same r.later (pair_sound acwu (area_of d) slba bytes others) r.careful s;
+      poll = λ one.
+          (careful_polled g.P.Port d e (record { same = r.same; later = r.later; one = one }) r.careful, goes_on_polled g.P.Port d e (record { same = r.same; later = r.later; one = one }));
+    }

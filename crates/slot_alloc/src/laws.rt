@@ -1,0 +1,151 @@
+//! What holds of an allocator's claims and releases, each as the contract of a function that does nothing.
+
+ghost use Rattle.std.specs.Prelude.{[], None, Ok, Option, Result, Some, length, true, ℕ, ◌≡◌, ◌≢◌};
+ghost use Rattle.nvme_model.specs.Passes.{entries};
+ghost use Rattle.nvme_model.specs.Slots.{believed, disciplined, holder};
+ghost use Rattle.nvme_model.specs.declared.status.Status.{Status};
+ghost use Rattle.host_laws.specs.Calls.{PairDiffers};
+ghost use Rattle.driver_calls.specs.Views.{IsAlone};
+ghost use Rattle.driver_calls.specs.declared.reply.Reply.{Reply};
+ghost use Rattle.driver_cas.specs.Drivers.{IsCallOf, IsOneMore, IsSame, answer_to, area_of, before, host_of, made, number_of};
+ghost use Rattle.driver_cas.specs.Ports.{view_of};
+ghost use Rattle.driver_cas.specs.Requests.{IsStart, pair_request_of, request_of};
+ghost use Rattle.driver_cas.specs.declared.call.Call.{Call};
+ghost use Rattle.driver_cas.specs.declared.fault.Fault.{Fault};
+ghost use Rattle.driver_commands.specs.declared.request.CallData.{CallData};
+ghost use Rattle.nvme_model.specs.declared.operation.Op.{Op};
+ghost use Rattle.slot_calls.specs.Hosts.{IsSlotHost};
+ghost use Rattle.slot_alloc.specs.Areas.{block_of, serial_of, slot_of};
+ghost use Rattle.slot_alloc.specs.Careful.{GoesOn, IsCareful, ReleasedName, is_another, own_name};
+ghost use Rattle.slot_alloc.specs.Claims.{ClaimSays, IsCallKept, IsClaimingOf, IsHeldBy, IsReleasingOf, release_call, stage_of};
+
+use crate::claim::Claim;
+use crate::claiming::Claiming;
+use crate::release::Releasing;
+use driver_cas::{Driver, Port, SharedPort};
+use std::snapshot::Snapshot;
+
+/// Nothing was published by a driver that was made just now.
+pub fn a_new_driver_is_careful<P: Port>(driver: &Driver<P>)
+    requires { made driver.now ≡ [] }
+    ensures { IsCareful driver.now }
+{
+    let _ = driver;
+}
+
+/// A driver's other calls touch no slot: what they publish and reap leaves it careful, and what it believed it goes on to
+/// believe.
+pub fn other_calls_touch_no_slot<P: Port>(old: &Snapshot<Driver<P>>, new: &Driver<P>)
+    requires careful { IsCareful old.now.value }
+    requires same { IsSame old.now.value new.now }
+    requires later { P.follows old.now.value.port new.now.port }
+    ensures start { (acwu slba bytes : ℕ) (o : Op) (contents : CallData) (r : Result (Call P) Fault) →
+        IsStart old.now.value new.now (request_of acwu (area_of old.now.value) o slba bytes) contents r →
+        IsCareful new.now × GoesOn old.now.value new.now None }
+    ensures pair { (acwu slba bytes others : ℕ) (contents : CallData) (r : Result (Call P) Fault) →
+        IsStart old.now.value new.now (pair_request_of acwu (area_of old.now.value) slba bytes others) contents r →
+        IsCareful new.now × GoesOn old.now.value new.now None }
+    ensures poll { IsOneMore (made old.now.value) (made new.now) →
+        IsCareful new.now × GoesOn old.now.value new.now None }
+{
+    let _ = old;
+    let _ = new;
+}
+
+/// What a driver goes on to believe: a claim stays held, but by the release of its own name, and a claim and a release that
+/// were begun stay so as long as their calls are the driver's.
+pub fn what_was_begun_stays<P: Port>(
+    old: &Snapshot<Driver<P>>,
+    new: &Driver<P>,
+    claim: &Claim,
+    claiming: &Claiming<P>,
+    releasing: &Releasing<P>,
+)
+    ensures held { (released : Option ReleasedName) → GoesOn old.now.value new.now released →
+        is_another released (block_of (area_of old.now.value) (slot_of claim.now))
+        (own_name old.now.value (serial_of claim.now)) ≡ true →
+        IsHeldBy old.now.value claim.now → IsHeldBy new.now claim.now }
+    ensures claiming { GoesOn old.now.value new.now None → IsCallKept new.now (stage_of claiming.now) →
+        IsClaimingOf old.now.value claiming.now → IsClaimingOf new.now claiming.now }
+    ensures releasing { (released : Option ReleasedName) → GoesOn old.now.value new.now released →
+        IsCallOf new.now (release_call releasing.now) →
+        IsReleasingOf old.now.value releasing.now → IsReleasingOf new.now releasing.now }
+{
+    let _ = old;
+    let _ = new;
+    let _ = claim;
+    let _ = claiming;
+    let _ = releasing;
+}
+
+/// Where the premises hold of what its port has seen, a careful driver keeps the discipline of the slot area, and so does
+/// the whole history.
+pub fn a_careful_driver_keeps_the_discipline(driver: &Driver<SharedPort<'_>>)
+    requires careful { IsCareful driver.now }
+    requires host { IsSlotHost (before driver.now) (area_of driver.now) (host_of driver.now) (view_of driver.now.port) }
+    ensures { let v = view_of driver.now.port in disciplined v.config (area_of driver.now) (entries v.seen) ≡ true }
+{
+    let _ = driver;
+}
+
+/// Where a claim was answered that somebody else has its slot, its effect said no, and stands in what was seen.
+pub fn a_taken_slot_was_anothers(
+    driver: &Driver<SharedPort<'_>>,
+    began: &Snapshot<Driver<SharedPort<'_>>>,
+)
+    requires { IsAlone (before driver.now) (view_of driver.now.port) }
+    ensures { (lba : ℕ) (s : ClaimSays driver.now began.now.value lba (Ok Reply.Differs)) →
+        PairDiffers (entries (view_of driver.now.port).seen) s.call.queue (number_of s.at s.call) }
+{
+    let _ = driver;
+    let _ = began;
+}
+
+/// Where the premises hold of what its driver's port has seen, a claim's name is believed of its slot, and holds it.
+pub fn a_claim_holds_its_slot(driver: &Driver<SharedPort<'_>>, claim: &Claim)
+    requires held { IsHeldBy driver.now claim.now }
+    requires careful { IsCareful driver.now }
+    requires host { IsSlotHost (before driver.now) (area_of driver.now) (host_of driver.now) (view_of driver.now.port) }
+    ensures believed { let v = view_of driver.now.port in
+        believed v.config (entries v.seen) (block_of (area_of driver.now) (slot_of claim.now))
+        (own_name driver.now (serial_of claim.now)) ≡ true }
+    ensures holder { let v = view_of driver.now.port in
+        holder (entries v.seen) (block_of (area_of driver.now) (slot_of claim.now))
+        ≡ Some (own_name driver.now (serial_of claim.now)) }
+{
+    let _ = driver;
+    let _ = claim;
+}
+
+/// Then a release that was begun is answered by success, if it is answered.
+pub fn a_release_never_fails(driver: &Driver<SharedPort<'_>>, releasing: &Releasing<SharedPort<'_>>)
+    requires of { IsReleasingOf driver.now releasing.now }
+    requires careful { IsCareful driver.now }
+    requires host { IsSlotHost (before driver.now) (area_of driver.now) (host_of driver.now) (view_of driver.now.port) }
+    ensures { (r : Result Reply Status) → answer_to driver.now (release_call releasing.now) ≡ Some r → r ≡ Ok Reply.Swapped }
+{
+    let _ = driver;
+    let _ = releasing;
+}
+
+/// Two drivers of unlike hosts that have seen one history never both have a claim of one slot.
+pub fn no_slot_is_held_twice(
+    one: &Driver<SharedPort<'_>>,
+    other: &Driver<SharedPort<'_>>,
+    claim: &Claim,
+    second: &Claim,
+)
+    requires held { IsHeldBy one.now claim.now × IsHeldBy other.now second.now }
+    requires careful { IsCareful one.now × IsCareful other.now }
+    requires host { IsSlotHost (before one.now) (area_of one.now) (host_of one.now) (view_of one.now.port) }
+    requires guest { IsSlotHost (before other.now) (area_of other.now) (host_of other.now) (view_of other.now.port) }
+    requires area { area_of one.now ≡ area_of other.now }
+    requires met { (view_of one.now.port).seen ≡ (view_of other.now.port).seen }
+    requires apart { host_of one.now ≢ host_of other.now }
+    ensures { slot_of claim.now ≢ slot_of second.now }
+{
+    let _ = one;
+    let _ = other;
+    let _ = claim;
+    let _ = second;
+}
