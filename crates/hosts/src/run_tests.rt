@@ -42,6 +42,20 @@ fn sends(alloc: Global, hall: &Hall<OpenGate>, host: &mut HostHand, queue: u16) 
     Ok(())
 }
 
+// Publishes the Writes of both submission queues, by the last host.
+fn send_all(alloc: Global, hall: &Hall<OpenGate>, hosts: &mut Vec<HostHand>) -> Result<(), Fail>
+    requires { All (IsListening hall.now) hosts.old.items }
+    ensures { IfOk result (λ _. All (IsListening hall.now) hosts.new.items) }
+{
+    let Some(mut host) = hosts.pop() else {
+        return Err(Fail::from("a host"));
+    };
+    sends(alloc, hall, &mut host, 1)?;
+    sends(alloc, hall, &mut host, 2)?;
+    hosts.push(host)?;
+    Ok(())
+}
+
 // Reaps so many completions of each host's queue, and ends the crew; how many say success.
 fn ends<R: Wait>(rt: &R, hall: &Hall<OpenGate>, mut hosts: Vec<HostHand>, count: u16) -> u16
     requires { All (IsListening hall.now) hosts.items }
@@ -101,12 +115,7 @@ fn served<R: Threads + Wait + Sync>(
         hosts,
     } = hands;
     let mut hosts = listening(&hall, &config, hosts);
-    let Some(mut host) = hosts.pop() else {
-        return Err(Fail::from("a host"));
-    };
-    sends(alloc, &hall, &mut host, 1)?;
-    sends(alloc, &hall, &mut host, 2)?;
-    hosts.push(host)?;
+    send_all(alloc, &hall, &mut hosts)?;
     let count = if cqs == 1 { 6 } else { 3 };
     let (ended, good) = both(rt, alloc, &hall, fetcher, workers, hosts, count);
     let hand = ended?;
