@@ -1,5 +1,5 @@
 -- A claim at a later moment of its driver.
-use Rattle.std.proofs.Common.{None, arith, ap, inl, inr, le-leb, lt-ltb, refl, subst, suc, sym, true, ℕ, ◌+◌, ◌<◌, ◌∙◌, ◌≡◌, ◌≢◌, ◌≤◌, ◌⊎◌}
+use Rattle.std.proofs.Common.{None, Option, arith, ap, false, inl, inr, le-leb, lt-ltb, refl, subst, suc, sym, true, ℕ, ◌+◌, ◌<◌, ◌∙◌, ◌≡◌, ◌≢◌, ◌≤◌, ◌⊎◌}
 use Rattle.std.specs.Prelude.{Ok, Result}
 use Rattle.std.specs.declared.snapshot.Snapshot.{Snapshot}
 use Rattle.std.proofs.lemmas.Bool.{and_from}
@@ -11,7 +11,7 @@ use Rattle.cid_table.specs.Cids.{Cids, held}
 use Rattle.driver_commands.specs.declared.request.CallData.{CallData}
 use Rattle.driver_commands.specs.declared.request.Request.{Request}
 use Rattle.driver_cas.proofs.Drivers.{reaped_calls}
-use Rattle.driver_cas.specs.Drivers.{HasSettings, IsCallOf, area_of, host_of, serial_of}
+use Rattle.driver_cas.specs.Drivers.{HasSettings, IsCallOf, area_of, host_of, made, serial_of}
 use Rattle.driver_cas.specs.SlotStarts.{IsClaimFault, IsClaimStart, claim_data, swap_request}
 use Rattle.driver_cas.specs.Starts.{IsAsBefore}
 use Rattle.driver_cas.specs.Tables.{is_free}
@@ -20,15 +20,16 @@ use Rattle.driver_cas.specs.declared.call.Call.{Call}
 use Rattle.driver_cas.specs.declared.driver.Driver.{Driver}
 use Rattle.driver_cas.specs.declared.fault.Fault.{Fault}
 use Rattle.driver_cas.specs.declared.port.Port.{Ghosts}
+use Rattle.slot_calls.specs.Swaps.{log_released}
 use Rattle.slot_alloc.specs.Areas.{area, block_of}
-use Rattle.slot_alloc.specs.Careful.{GoesOn, IsCareful}
-use Rattle.slot_alloc.specs.Claims.{AreTaken, ClaimSays, IsAsking, IsClaimingOf}
+use Rattle.slot_alloc.specs.Careful.{GoesOn, IsCareful, ReleasedName, own_name}
+use Rattle.slot_alloc.specs.Claims.{AreTaken, ClaimSays, IsAsking, IsClaimingOf, IsStageUnreleased}
 use Rattle.slot_alloc.specs.Progresses.{IsSameClaiming}
 use Rattle.slot_alloc.specs.declared.claiming.Claiming.{Claiming}
 use Rattle.slot_alloc.specs.declared.claiming.Reach.{Reach}
 use Rattle.slot_alloc.specs.declared.claiming.Stage.{Stage}
 use Rattle.slot_alloc.specs.declared.slots.Slots.{Slots}
-use Rattle.slot_alloc.proofs.Starting.{Claims, asking_claimed, goes_on_claimed}
+use Rattle.slot_alloc.proofs.Starting.{Claims, asking_claimed, goes_on_claimed, unreleased_claimed}
 
 -- the block of a slot lies in the area
 pub inside_of : (r : Range) (i : ℕ) → i < r.blocks → has_block r (block_of r i) ≡ true
@@ -41,8 +42,8 @@ module _ {P : Type 0} (g : Ghosts P) where
       record { began = y.began ∙ sym x.began; host = y.host ∙ sym x.host; acwu = y.acwu ∙ sym x.acwu; slots = y.slots ∙ sym x.slots; queues = y.queues ∙ sym x.queues }
 
   -- what a claim's answer said it goes on to say
-  pub says_on : ((a b c : P) → g.follows a b → g.follows b c → g.follows a c) → (d e began : Driver P g) (l : ℕ) (r : Result Reply Status) → GoesOn d e None → ClaimSays d began l r → ClaimSays e began l r
-  says_on on d e began l r x s =
+  pub says_on : ((a b c : P) → g.follows a b → g.follows b c → g.follows a c) → (d e began : Driver P g) (l : ℕ) (r : Result Reply Status) (released : Option ReleasedName) → GoesOn d e released → ClaimSays d began l r → ClaimSays e began l r
+  says_on on d e began l r released x s =
       record {
         at = s.at;
         call = s.call;
@@ -56,14 +57,14 @@ module _ {P : Type 0} (g : Ghosts P) where
         says = s.says;
       }
 
-  pub taken_on : ((a b c : P) → g.follows a b → g.follows b c → g.follows a c) → (d e began : Driver P g) (n : ℕ) → GoesOn d e None → AreTaken d began n → AreTaken e began n
-  taken_on on d e began n x h i less =
-      subst (λ (r : Range). ClaimSays e began (block_of r i) (Ok Reply.Differs)) (sym x.settings.slots) (says_on on d e began (block_of (area_of d) i) (Ok Reply.Differs) x (h i less))
+  pub taken_on : ((a b c : P) → g.follows a b → g.follows b c → g.follows a c) → (d e began : Driver P g) (n : ℕ) (released : Option ReleasedName) → GoesOn d e released → AreTaken d began n → AreTaken e began n
+  taken_on on d e began n released x h i less =
+      subst (λ (r : Range). ClaimSays e began (block_of r i) (Ok Reply.Differs)) (sym x.settings.slots) (says_on on d e began (block_of (area_of d) i) (Ok Reply.Differs) released x (h i less))
 
   -- what is known of a claim that was begun
   pub claims_of : (d e : Driver P g) (slots : Slots) (slot l : ℕ) (k : Call P) (serial : ℕ) → l ≡ block_of (area slots) slot → HasSettings d e → g.follows d.port e.port → IsClaimStart d e l (Ok (k, serial))
-      → 1 ≤ host_of d → host_of d < 4294967296 → serial < 18446744073709551616 → area_of d ≡ area slots → slot < slots.count → IsCareful d → Claims g d e (block_of (area_of d) slot) k serial
-  claims_of d e slots slot l k serial at settings later start named narrow fits is less careful =
+      → 1 ≤ host_of d → host_of d < 4294967296 → serial < 18446744073709551616 → area_of d ≡ area slots → slot < slots.count → Claims g d e (block_of (area_of d) slot) k serial
+  claims_of d e slots slot l k serial at settings later start named narrow fits is less =
       record {
         settings = settings;
         later = later;
@@ -72,7 +73,6 @@ module _ {P : Type 0} (g : Ghosts P) where
         narrow = narrow;
         fits = fits;
         inside = subst (λ (r : Range). has_block r (block_of r slot) ≡ true) (sym is) (inside_of (area slots) slot less);
-        careful = careful;
       }
 
   -- the claim of the slot at hand was begun
@@ -89,8 +89,13 @@ module _ {P : Type 0} (g : Ghosts P) where
           subst (λ (r : Range). IsAsking e (block_of r slot) k serial) (sym x.settings.slots) (asking_claimed g d e (block_of (area_of d) slot) k serial c),
           on began.value.port d.port k.start.value since c.start.2.since,
         );
-        lower = λ any. taken_on on d e began.value slot x (lower any);
+        lower = λ any. taken_on on d e began.value slot None x (lower any);
       }
+
+  -- no release of its name was published
+  pub unreleased_now : (d e : Driver P g) (slot : ℕ) (k : Call P) (serial : ℕ) → Claims g d e (block_of (area_of d) slot) k serial → IsCareful d → IsStageUnreleased e (block_of (area_of e) slot) (Stage.Asked k serial)
+  unreleased_now d e slot k serial c careful =
+      subst (λ (r : Range). log_released (made e) (block_of r slot) (own_name e serial) ≡ false) (sym c.settings.slots) (unreleased_claimed g d e (block_of (area_of d) slot) k serial c careful)
 
   -- it is due
   pub claiming_due : ((a b c : P) → g.follows a b → g.follows b c → g.follows a c) → (d e : Driver P g) (k : Claiming P g) → IsClaimingOf d k → k.reach ≡ Reach.Any → GoesOn d e None
@@ -101,7 +106,7 @@ module _ {P : Type 0} (g : Ghosts P) where
         inside = of.inside;
         since = on k.began.value.port d.port e.port of.since x.later;
         at = any;
-        lower = λ y. taken_on on d e k.began.value k.slot x (of.lower y);
+        lower = λ y. taken_on on d e k.began.value k.slot None x (of.lower y);
       }
 
   -- a call after a fault

@@ -1,5 +1,7 @@
 -- A release that was begun, and after a poll of its call.
-use Rattle.std.proofs.Common.{List, Ok, Some, [], arith, ap, inl, inr, subst, sym, ℕ, ◌∙◌, ◌∷◌, ◌<◌, ◌≡◌, ◌≢◌}
+use Rattle.std.proofs.Common.{List, Ok, Some, [], arith, ap, inl, inr, subst, sym, true, ℕ, ◌∙◌, ◌∷◌, ◌<◌, ◌≡◌, ◌≢◌}
+use Rattle.std.specs.Prelude.{Err, Result}
+use Rattle.nvme_model.specs.Array.{has_block}
 use Rattle.nvme_model.specs.Slots.{Name}
 use Rattle.nvme_model.specs.declared.array.Range.{Range}
 use Rattle.nvme_model.specs.declared.operation.Op.{Op}
@@ -16,8 +18,9 @@ use Rattle.driver_cas.specs.declared.fault.Fault.{Fault}
 use Rattle.driver_cas.specs.declared.port.Port.{Ghosts}
 use Rattle.slot_calls.proofs.Careful.{careful_release}
 use Rattle.slot_calls.proofs.Winning.{release_in, release_in_later}
-use Rattle.slot_calls.specs.Calls.{IsReleaseIn}
+use Rattle.slot_calls.specs.Calls.{IsName, IsReleaseIn}
 use Rattle.slot_calls.specs.Careful.{is_careful}
+use Rattle.slot_calls.specs.Swaps.{log_believed}
 use Rattle.slot_alloc.specs.Areas.{block_of, serial_of, slot_of}
 use Rattle.slot_alloc.specs.Careful.{GoesOn, IsCareful, LogGoesOn, own_name}
 use Rattle.slot_alloc.specs.Claims.{IsHeldBy, IsReleasingOf}
@@ -28,7 +31,7 @@ use Rattle.slot_alloc.specs.declared.release.Releasing.{Releasing}
 use Rattle.slot_alloc.proofs.Asking.{inside_of}
 use Rattle.slot_alloc.proofs.Logs.{release_on}
 use Rattle.slot_alloc.proofs.Polling.{Polls, pair_reply}
-use Rattle.slot_alloc.proofs.Starting.{number_now, number_same, settings_of}
+use Rattle.slot_alloc.proofs.Starting.{careful_same, goes_on_any, goes_on_same, number_now, number_same, settings_of}
 
 module _ {P : Type 0} (g : Ghosts P) where
   -- what is known of a release that was begun
@@ -37,37 +40,45 @@ module _ {P : Type 0} (g : Ghosts P) where
     pub later : g.follows d.port e.port
     pub start : IsReleaseStart d e (block_of (area_of d) (slot_of c)) (serial_of c) (Ok k)
     pub held : IsHeldBy d c
-    pub careful : IsCareful d
 
-  pub releases_of : (d e : Driver P g) (c : Claim) (k : Call P) (r : Range) (l : ℕ) → l ≡ block_of r (slot_of c) → area_of d ≡ r → IsSame d e → g.follows d.port e.port → IsReleaseStart d e l (serial_of c) (Ok k) → IsHeldBy d c → IsCareful d → Releases d e c k
-  releases_of d e c k r l at is same later start held careful =
+  pub releases_of : (d e : Driver P g) (c : Claim) (k : Call P) (r : Range) (l : ℕ) → l ≡ block_of r (slot_of c) → area_of d ≡ r → IsSame d e → g.follows d.port e.port → IsReleaseStart d e l (serial_of c) (Ok k) → IsHeldBy d c → Releases d e c k
+  releases_of d e c k r l at is same later start held =
       record {
         same = same;
         later = later;
         start = subst (λ (b : ℕ). IsReleaseStart d e b (serial_of c) (Ok k)) (at ∙ ap (λ (a : Range). block_of a (slot_of c)) (sym is)) start;
         held = held;
-        careful = careful;
       }
 
-  pub careful_released : (d e : Driver P g) (c : Claim) (k : Call P) → Releases d e c k → IsCareful e
-  careful_released d e c k x =
-      let s = x.start in
+  -- ---- whoever's name it is
+
+  pub careful_start : (d e : Driver P g) (l serial : ℕ) (r : Result (Call P) Fault) → IsSame d e → IsReleaseStart d e l serial r → IsName (own_name d serial) → has_block (area_of d) l ≡ true → log_believed (made d) l (own_name d serial) ≡ true → IsCareful d → IsCareful e
+  careful_start d e l serial (Ok k) same s name inside believed careful =
       let p : is_careful (area_of e) (host_of e) (last_of e) (made e) ≡ is_careful (area_of d) (host_of d) (last_of d) (PortEvent.Sent k.queue s.batch ∷ made d) =
-      λ i. is_careful (x.same.slots i) (x.same.host i) (x.same.serial i) (s.published i) in
-      p ∙ careful_release (area_of d) (host_of d) (last_of d) (made d) k.queue (block_of (area_of d) (slot_of c)) k.first k.second (own_name d (serial_of c)) s.batch x.held.name s.is
-      (inside_of (area_of d) (slot_of c) x.held.inside) x.held.believed x.careful
+      λ i. is_careful (same.slots i) (same.host i) (same.serial i) (s.published i) in
+      p ∙ careful_release (area_of d) (host_of d) (last_of d) (made d) k.queue l k.first k.second (own_name d serial) s.batch name s.is inside believed careful
+  careful_start d e l serial (Err f) same s name inside believed careful = careful_same g d e (settings_of g d e same) same.serial s.0.0 careful
+
+  pub goes_on_start : (d e : Driver P g) (l serial : ℕ) (r : Result (Call P) Fault) → IsSame d e → g.follows d.port e.port → IsReleaseStart d e l serial r → IsName (own_name d serial) → GoesOn d e (Some (l, own_name d serial))
+  goes_on_start d e l serial (Ok k) same later s name =
+      let drawn = same.serial in
+      record {
+        settings = settings_of g d e same;
+        drawn = omega (arith, drawn);
+        later = later;
+        log = subst (λ (log : List PortEvent). LogGoesOn (area_of d) (made d) log (Some (l, own_name d serial))) (sym s.published)
+            (release_on (area_of d) (made d) k.queue l k.first k.second (own_name d serial) s.batch name s.is);
+      }
+  goes_on_start d e l serial (Err f) same later s name = goes_on_any g d e (Some (l, own_name d serial)) (goes_on_same g d e (settings_of g d e same) same.serial later s.0.0)
+
+  -- ---- that of a claim
+
+  pub careful_released : (d e : Driver P g) (c : Claim) (k : Call P) → Releases d e c k → IsCareful d → IsCareful e
+  careful_released d e c k x careful =
+      careful_start d e (block_of (area_of d) (slot_of c)) (serial_of c) (Ok k) x.same x.start x.held.name (inside_of (area_of d) (slot_of c) x.held.inside) x.held.believed careful
 
   pub goes_on_released : (d e : Driver P g) (c : Claim) (k : Call P) → Releases d e c k → GoesOn d e (Some (block_of (area_of d) (slot_of c), own_name d (serial_of c)))
-  goes_on_released d e c k x =
-      let s = x.start in
-      let drawn = x.same.serial in
-      record {
-        settings = settings_of g d e x.same;
-        drawn = omega (arith, drawn);
-        later = x.later;
-        log = subst (λ (log : List PortEvent). LogGoesOn (area_of d) (made d) log (Some (block_of (area_of d) (slot_of c), own_name d (serial_of c)))) (sym s.published)
-            (release_on (area_of d) (made d) k.queue (block_of (area_of d) (slot_of c)) k.first k.second (own_name d (serial_of c)) s.batch x.held.name s.is);
-      }
+  goes_on_released d e c k x = goes_on_start d e (block_of (area_of d) (slot_of c)) (serial_of c) (Ok k) x.same x.later x.start x.held.name
 
   pub releasing_now : (d e : Driver P g) (c : Claim) (k : Call P) → Releases d e c k → IsReleasingOf e (record { slot = slot_of c; serial = serial_of c; call = k })
   releasing_now d e c k x =

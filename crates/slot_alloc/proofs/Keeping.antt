@@ -87,20 +87,20 @@ module _ {P : Type 0} (g : Ghosts P) where
   started_outside : (d e : Driver P g) (q : Request) (contents : CallData) (k : Call P) → IsSound (area_of d) q → (s : IsStarted d e k q.op q.slba q.blocks contents) → list_any (touches (area_of d)) s.batch ≡ false
   started_outside d e q contents k sound s = call_touches (area_of d) q.op q.slba q.blocks k.first k.second contents s.batch sound.some sound.most s.is ∙ sound.outside
 
-  pub start_kept : (d e : Driver P g) (rq : Result Request Fault) (contents : CallData) (r : Result (Call P) Fault) → IsSame d e → g.follows d.port e.port → Sound (area_of d) rq → IsCareful d → IsStart d e rq contents r
-      → IsCareful e × GoesOn d e None
-  start_kept d e (Err f) contents r same later sound careful s =
+  pub start_kept : (d e : Driver P g) (rq : Result Request Fault) (contents : CallData) (r : Result (Call P) Fault) → IsSame d e → g.follows d.port e.port → Sound (area_of d) rq → IsStart d e rq contents r
+      → (IsCareful d → IsCareful e) × GoesOn d e None
+  start_kept d e (Err f) contents r same later sound s =
       let settings = settings_of g d e same in
-      (careful_same g d e settings same.serial s.1.0 careful, goes_on_same g d e settings same.serial later s.1.0)
-  start_kept d e (Ok q) contents (Err f) same later sound careful s =
+      (careful_same g d e settings same.serial s.1.0, goes_on_same g d e settings same.serial later s.1.0)
+  start_kept d e (Ok q) contents (Err f) same later sound s =
       let settings = settings_of g d e same in
-      (careful_same g d e settings same.serial s.0.0 careful, goes_on_same g d e settings same.serial later s.0.0)
-  start_kept d e (Ok q) contents (Ok k) same later sound careful s =
+      (careful_same g d e settings same.serial s.0.0, goes_on_same g d e settings same.serial later s.0.0)
+  start_kept d e (Ok q) contents (Ok k) same later sound s =
       let t = started_outside d e q contents k sound s in
       let drawn = same.serial in
       let p : is_careful (area_of e) (host_of e) (last_of e) (made e) ≡ is_careful (area_of d) (host_of d) (last_of d) (PortEvent.Sent k.queue s.batch ∷ made d) =
       λ i. is_careful (same.slots i) (same.host i) (same.serial i) (s.published i) in (
-        p ∙ careful_outside (area_of d) (host_of d) (last_of d) (made d) k.queue s.batch t careful,
+        λ careful. p ∙ careful_outside (area_of d) (host_of d) (last_of d) (made d) k.queue s.batch t careful,
         record {
           settings = settings_of g d e same;
           drawn = omega (arith, drawn);

@@ -20,11 +20,11 @@ use Rattle.driver_cas.specs.declared.port.Port.{Ghosts}
 use Rattle.slot_calls.proofs.Winning.{claim_in_later, pair_answered, won_by_log}
 use Rattle.slot_calls.specs.Calls.{IsClaimIn}
 use Rattle.slot_calls.specs.Careful.{is_careful}
-use Rattle.slot_calls.specs.Swaps.{log_believed, log_released}
+use Rattle.slot_calls.specs.Swaps.{log_released}
 use Rattle.slot_alloc.specs.Areas.{block_of}
 use Rattle.slot_alloc.specs.Careful.{GoesOn, IsCareful, own_name}
-use Rattle.slot_alloc.specs.Claims.{AreTaken, ClaimSays, IsAsking, IsClaimingOf, IsAt, IsHeldBy}
-use Rattle.slot_alloc.specs.Progresses.{IsAsked, IsLost, IsProgress, IsSameClaiming}
+use Rattle.slot_alloc.specs.Claims.{AreTaken, ClaimSays, IsAsking, IsClaimingOf, IsAt, IsHeldBy, IsStageUnreleased, IsUnreleased, IsWonBy}
+use Rattle.slot_alloc.specs.Progresses.{IsAsked, IsHeldOn, IsLost, IsProgress, IsSameClaiming}
 use Rattle.slot_alloc.specs.declared.claiming.Claiming.{Claiming}
 use Rattle.slot_alloc.specs.declared.claiming.Reach.{Reach}
 use Rattle.slot_alloc.specs.declared.claiming.Stage.{Stage}
@@ -89,11 +89,11 @@ module _ {P : Type 0} (g : Ghosts P) where
       subst (λ (z : ℕ × ℕ). IsClaimIn (made e) k.queue k.first k.second z.0 l (record { host = z.1; serial = serial })) (λ i. (sym (number_same g d e k (settings_of g d e x.same)) i, sym x.same.host i))
       (claim_more (made d) (made e) k.queue k.first k.second (number_of d k) l (own_name d serial) x.one a.claim)
 
-  pub unreleased_polled : (d e : Driver P g) (slot : ℕ) (k : Call P) (serial : ℕ) → Polls d e → slot < (area_of d).blocks → IsAsking d (block_of (area_of d) slot) k serial → log_released (made e) (block_of (area_of d) slot) (own_name e serial) ≡ false
+  pub unreleased_polled : (d e : Driver P g) (slot : ℕ) (k : Call P) (serial : ℕ) → Polls d e → slot < (area_of d).blocks → log_released (made d) (block_of (area_of d) slot) (own_name d serial) ≡ false → log_released (made e) (block_of (area_of e) slot) (own_name e serial) ≡ false
   unreleased_polled d e slot k serial x less a =
-      let p : log_released (made e) (block_of (area_of d) slot) (own_name e serial) ≡ log_released (made e) (block_of (area_of d) slot) (own_name d serial) =
-      λ i. log_released (made e) (block_of (area_of d) slot) (record { host = x.same.host i; serial = serial }) in
-      p ∙ (goes_on_polled d e x).log.unreleased (block_of (area_of d) slot) (own_name d serial) (inside_of (area_of d) slot less) refl a.unreleased
+      let p : log_released (made e) (block_of (area_of e) slot) (own_name e serial) ≡ log_released (made e) (block_of (area_of d) slot) (own_name d serial) =
+      λ i. log_released (made e) (block_of (x.same.slots i) slot) (record { host = x.same.host i; serial = serial }) in
+      p ∙ (goes_on_polled d e x).log.unreleased (block_of (area_of d) slot) (own_name d serial) (inside_of (area_of d) slot less) refl a
 
   -- ---- what came of the claim
 
@@ -118,26 +118,24 @@ module _ {P : Type 0} (g : Ghosts P) where
             of = call_of;
             does = a.0.does;
             claim = claim_polled d e (block_of (area_of d) k.slot) call serial x a.0;
-            unreleased = unreleased_polled d e k.slot call serial x (within d k of) a.0;
           }),
           a.1,
         );
-        lower = λ any. taken_on g on d e k.began.value k.slot gone (of.lower any);
+        lower = λ any. taken_on g on d e k.began.value k.slot None gone (of.lower any);
       }
 
-  pub held_polled : (d e : Driver P g) (k : Claiming P g) (call : Call P) (serial : ℕ) → IsClaimingOf d k → k.stage ≡ Stage.Asked call serial → Polls d e → answer_to e call ≡ Some (Ok Reply.Swapped)
-      → IsHeldBy e (record { slot = k.slot; serial = serial })
-  held_polled d e k call serial of is x answer =
-      let a = asked d k call serial of is in
-      let less = within d k of in
-      let there = claim_polled d e (block_of (area_of d) k.slot) call serial x a.0 in
-      record {
-        inside = subst (λ (r : Range). k.slot < r.blocks) (sym x.same.slots) less;
-        name = there.name;
-        believed = subst (λ (r : Range). log_believed (made e) (block_of r k.slot) (own_name e serial) ≡ true) (sym x.same.slots)
-            (won_by_log (made e) call.queue call.first call.second (number_of e call) (block_of (area_of d) k.slot) (own_name e serial) there
-            (subst (λ (o : Op). outcome (made e) call.queue o call.first call.second ≡ Some (Ok Reply.Swapped)) a.0.does answer) (unreleased_polled d e k.slot call serial x less a.0));
-      }
+  -- the claim of the slot at hand is one of the name that the driver has for this serial
+  claim_there : (d e : Driver P g) (k : Claiming P g) (call : Call P) (serial : ℕ) → IsClaimingOf d k → k.stage ≡ Stage.Asked call serial → Polls d e
+      → IsClaimIn (made e) call.queue call.first call.second (number_of e call) (block_of (area_of e) k.slot) (own_name e serial)
+  claim_there d e k call serial of is x =
+      subst (λ (r : Range). IsClaimIn (made e) call.queue call.first call.second (number_of e call) (block_of r k.slot) (own_name e serial)) (sym x.same.slots)
+      (claim_polled d e (block_of (area_of d) k.slot) call serial x (asked d k call serial of is).0)
+
+  -- the name of a claim that goes on isn't released
+  pub still_polled : (d e : Driver P g) (k : Claiming P g) (call : Call P) (serial : ℕ) → IsClaimingOf d k → k.stage ≡ Stage.Asked call serial → Polls d e → IsUnreleased d k
+      → IsStageUnreleased e (block_of (area_of e) k.slot) (Stage.Asked call serial)
+  still_polled d e k call serial of is x h =
+      unreleased_polled d e k.slot call serial x (within d k of) (subst (λ (s : Stage P). IsStageUnreleased d (block_of (area_of d) k.slot) s) is h)
 
   pub says_polled : ((a : P) → g.follows a a) → (d e : Driver P g) (k : Claiming P g) (call : Call P) (serial : ℕ) (r : Result Reply Status) → IsClaimingOf d k → k.stage ≡ Stage.Asked call serial → Polls d e → answer_to e call ≡ Some r → Says e call (Some r)
       → ClaimSays e k.began.value (block_of (area_of e) k.slot) r
@@ -154,6 +152,29 @@ module _ {P : Type 0} (g : Ghosts P) where
         claim = subst (λ (z : Range). IsClaimIn (made e) call.queue call.first call.second (number_of e call) (block_of z k.slot) (own_name e serial)) (sym x.same.slots) (claim_polled d e (block_of (area_of d) k.slot) call serial x a.0);
         answer = answer;
         says = says;
+      }
+
+  pub won_polled : ((a : P) → g.follows a a) → (d e : Driver P g) (k : Claiming P g) (call : Call P) (serial : ℕ) → IsClaimingOf d k → k.stage ≡ Stage.Asked call serial → Polls d e → answer_to e call ≡ Some (Ok Reply.Swapped)
+      → Says e call (Some (Ok Reply.Swapped)) → IsWonBy e k.began.value (record { slot = k.slot; serial = serial })
+  unfolding says_polled
+  won_polled stays d e k call serial of is x answer says =
+      let there = claim_there d e k call serial of is x in
+      record {
+        inside = subst (λ (r : Range). k.slot < r.blocks) (sym x.same.slots) (within d k of);
+        won = says_polled stays d e k call serial (Ok Reply.Swapped) of is x answer says;
+        serial = refl;
+        name = there.name;
+        believed = won_by_log (made e) call.queue call.first call.second (number_of e call) (block_of (area_of e) k.slot) (own_name e serial) there
+            (subst (λ (o : Op). outcome (made e) call.queue o call.first call.second ≡ Some (Ok Reply.Swapped)) (asked d k call serial of is).0.does answer);
+      }
+
+  pub held_polled : (d e : Driver P g) (k : Claiming P g) (call : Call P) (serial : ℕ) → IsClaimingOf d k → k.stage ≡ Stage.Asked call serial → Polls d e
+      → IsWonBy e k.began.value (record { slot = k.slot; serial = serial }) → IsUnreleased d k → IsHeldBy e (record { slot = k.slot; serial = serial })
+  held_polled d e k call serial of is x won h =
+      record {
+        inside = won.inside;
+        name = won.name;
+        believed = won.believed (unreleased_polled d e k.slot call serial x (within d k of) (subst (λ (s : Stage P). IsStageUnreleased d (block_of (area_of d) k.slot) s) is h));
       }
 
   pub failed_polled : ((a : P) → g.follows a a) → (d e : Driver P g) (k : Claiming P g) (call : Call P) (serial : ℕ) (f : Fault) → IsClaimingOf d k → k.stage ≡ Stage.Asked call serial → Polls d e
@@ -177,7 +198,7 @@ module _ {P : Type 0} (g : Ghosts P) where
         inside = of.inside;
         since = on k.began.value.port d.port e.port of.since x.later;
         taken = subst (λ (y : Reply). ClaimSays e k.began.value (block_of (area_of e) k.slot) (Ok y)) differs (says_polled stays d e k call serial (Ok reply) of is x answer says);
-        lower = λ any. taken_on g on d e k.began.value k.slot (goes_on_polled d e x) (of.lower any);
+        lower = λ any. taken_on g on d e k.began.value k.slot None (goes_on_polled d e x) (of.lower any);
       }
 
   -- ---- the next slot
@@ -251,3 +272,12 @@ module _ {P : Type 0} (g : Ghosts P) where
   asked_progress e k (Progress.Failed Fault.Busy) any h = absurd h
   asked_progress e k (Progress.Failed Fault.NoMemory) any h = absurd h
   asked_progress e k (Progress.Failed Fault.SlotArea) any h = absurd h
+
+  -- beginning the next claim holds nothing yet
+  pub asked_held : (e : Driver P g) (k : Claiming P g) (r : Progress P g) → IsAsked e k r → IsHeldOn e r
+  asked_held e k (Progress.Held c) h = absurd h
+  asked_held e k (Progress.Pending j) h = tt
+  asked_held e k (Progress.Later f j) h = tt
+  asked_held e k Progress.Taken h = tt
+  asked_held e k Progress.AllTaken h = tt
+  asked_held e k (Progress.Failed f) h = tt

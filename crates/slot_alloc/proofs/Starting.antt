@@ -1,5 +1,5 @@
 -- A driver after a claim was begun, or wasn't.
-use Rattle.std.proofs.Common.{List, None, Some, arith, ap, length, subst, sym, true, ℕ, ◌<◌, ◌∙◌, ◌∷◌, ◌≡◌, ◌≤◌}
+use Rattle.std.proofs.Common.{List, None, Option, Some, arith, ap, false, length, refl, subst, sym, true, ℕ, ◌<◌, ◌∙◌, ◌∷◌, ◌≡◌, ◌≤◌}
 use Rattle.std.specs.Prelude.{Ok}
 use Rattle.std.specs.declared.snapshot.Snapshot.{Snapshot}
 use Rattle.nvme_model.specs.Array.{has_block}
@@ -23,7 +23,7 @@ use Rattle.slot_calls.proofs.Winning.{claim_in}
 use Rattle.slot_calls.specs.Calls.{IsClaimIn, IsName}
 use Rattle.slot_calls.specs.Careful.{is_careful}
 use Rattle.slot_calls.specs.Swaps.{log_released}
-use Rattle.slot_alloc.specs.Careful.{GoesOn, IsCareful, LogGoesOn, own_name}
+use Rattle.slot_alloc.specs.Careful.{GoesOn, IsCareful, LogGoesOn, ReleasedName, own_name}
 use Rattle.slot_alloc.specs.Claims.{IsAsking}
 use Rattle.slot_alloc.proofs.Logs.{claim_on, same_on}
 
@@ -64,6 +64,16 @@ module _ {P : Type 0} (g : Ghosts P) where
         log = subst (λ (log : List PortEvent). LogGoesOn (area_of d) (made d) log None) (sym m) (same_on (area_of d) (made d));
       }
 
+  -- what goes on with nothing released goes on whatever is released
+  pub goes_on_any : (d e : Driver P g) (released : Option ReleasedName) → GoesOn d e None → GoesOn d e released
+  goes_on_any d e released x =
+      record {
+        settings = x.settings;
+        drawn = x.drawn;
+        later = x.later;
+        log = record { log = x.log.log; more = x.log.more; believed = λ l n v a h. x.log.believed l n v refl h; unreleased = λ l n v a h. x.log.unreleased l n v refl h };
+      }
+
   -- ---- a claim was begun
 
   pub record Claims (d e : Driver P g) (l : ℕ) (k : Call P) (serial : ℕ) : Type 0 where
@@ -74,7 +84,6 @@ module _ {P : Type 0} (g : Ghosts P) where
     pub narrow : host_of d < 4294967296
     pub fits : serial < 18446744073709551616
     pub inside : has_block (area_of d) l ≡ true
-    pub careful : IsCareful d
 
   name_is : (d e : Driver P g) (l : ℕ) (k : Call P) (serial : ℕ) → Claims d e l k serial → IsName (own_name d serial)
   name_is d e l k serial c = record { host = c.named; host_fits = c.narrow; serial = omega (arith, c.start.0); serial_fits = c.fits }
@@ -82,12 +91,12 @@ module _ {P : Type 0} (g : Ghosts P) where
   above : (d e : Driver P g) (l : ℕ) (k : Call P) (serial : ℕ) → Claims d e l k serial → serial_of d < serial
   above d e l k serial c = omega (arith, c.start.0)
 
-  pub careful_claimed : (d e : Driver P g) (l : ℕ) (k : Call P) (serial : ℕ) → Claims d e l k serial → IsCareful e
-  careful_claimed d e l k serial c =
+  pub careful_claimed : (d e : Driver P g) (l : ℕ) (k : Call P) (serial : ℕ) → Claims d e l k serial → IsCareful d → IsCareful e
+  careful_claimed d e l k serial c careful =
       let s = c.start.2 in
       let p : is_careful (area_of e) (host_of e) (serial_of e) (made e) ≡ is_careful (area_of d) (host_of d) serial (PortEvent.Sent k.queue s.batch ∷ made d) =
       λ i. is_careful (c.settings.slots i) (c.settings.host i) (c.start.1 i) (s.published i) in
-      p ∙ careful_claim (area_of d) (serial_of d) (made d) k.queue l k.first k.second (own_name d serial) s.batch (name_is d e l k serial c) s.is c.inside (above d e l k serial c) c.careful
+      p ∙ careful_claim (area_of d) (serial_of d) (made d) k.queue l k.first k.second (own_name d serial) s.batch (name_is d e l k serial c) s.is c.inside (above d e l k serial c) careful
 
   pub goes_on_claimed : (d e : Driver P g) (l : ℕ) (k : Call P) (serial : ℕ) → Claims d e l k serial → GoesOn d e None
   goes_on_claimed d e l k serial c =
@@ -105,14 +114,19 @@ module _ {P : Type 0} (g : Ghosts P) where
       let s = c.start.2 in
       let n = own_name d serial in
       let x = name_is d e l k serial c in
-      let log = PortEvent.Sent k.queue s.batch ∷ made d in
       let number = number_now d e k l (claim_data (host_of d) serial) s in
       record {
         of = s.of;
         does = s.does;
         claim = subst (λ (z : List PortEvent × ℕ × ℕ). IsClaimIn z.0 k.queue k.first k.second z.1 l (record { host = z.2; serial = serial })) (λ i. (sym s.published i, sym number i, sym c.settings.host i))
             (claim_in (made d) k.queue l k.first k.second n s.batch x s.is (sent_call (made d) k.queue l 1 k.first k.second Op.Pair (claim_data (host_of d) serial) s.batch s.free.unlike s.is));
-        unreleased =
-            let p : log_released (made e) l (own_name e serial) ≡ log_released log l n = λ i. log_released (s.published i) l (record { host = c.settings.host i; serial = serial }) in
-            p ∙ (released_claim (made d) k.queue l k.first k.second n s.batch l n x s.is ∙ unreleased (area_of d) (host_of d) (serial_of d) (made d) l n c.careful c.inside (above d e l k serial c));
       }
+
+  -- a driver that is careful has released no name under its next serial
+  pub unreleased_claimed : (d e : Driver P g) (l : ℕ) (k : Call P) (serial : ℕ) → Claims d e l k serial → IsCareful d → log_released (made e) l (own_name e serial) ≡ false
+  unreleased_claimed d e l k serial c careful =
+      let s = c.start.2 in
+      let n = own_name d serial in
+      let x = name_is d e l k serial c in
+      let p : log_released (made e) l (own_name e serial) ≡ log_released (PortEvent.Sent k.queue s.batch ∷ made d) l n = λ i. log_released (s.published i) l (record { host = c.settings.host i; serial = serial }) in
+      p ∙ (released_claim (made d) k.queue l k.first k.second n s.batch l n x s.is ∙ unreleased (area_of d) (host_of d) (serial_of d) (made d) l n careful c.inside (above d e l k serial c))

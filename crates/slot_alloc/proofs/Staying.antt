@@ -1,5 +1,5 @@
 -- A claim and a release that were begun, at a later moment.
-use Rattle.std.proofs.Common.{List, None, Option, refl, true, subst, sym, ℕ, ◌++◌, ◌<◌, ◌∙◌, ◌≡◌}
+use Rattle.std.proofs.Common.{Bool, List, None, Option, Some, false, refl, true, subst, sym, ℕ, ◌++◌, ◌<◌, ◌∙◌, ◌≡◌}
 use Rattle.nvme_model.specs.Array.{has_block}
 use Rattle.nvme_model.specs.declared.array.Range.{Range}
 use Rattle.nvme_model.specs.declared.operation.Op.{Op}
@@ -14,7 +14,7 @@ use Rattle.slot_calls.specs.Calls.{IsClaimIn, IsReleaseIn}
 use Rattle.slot_calls.specs.Swaps.{log_released}
 use Rattle.slot_alloc.specs.Areas.{block_of}
 use Rattle.slot_alloc.specs.Careful.{GoesOn, ReleasedName, own_name}
-use Rattle.slot_alloc.specs.Claims.{IsAsking, IsAt, IsCallKept, IsClaimingOf, IsReleasingOf}
+use Rattle.slot_alloc.specs.Claims.{IsAsking, IsAt, IsCallKept, IsClaimingOf, IsReleasingOf, IsStageUnreleased, IsUnreleased, is_other_claim, is_other_stage}
 use Rattle.slot_alloc.specs.declared.claiming.Claiming.{Claiming}
 use Rattle.slot_alloc.specs.declared.claiming.Reach.{Reach}
 use Rattle.slot_alloc.specs.declared.claiming.Stage.{Stage}
@@ -28,34 +28,58 @@ module _ {P : Type 0} (g : Ghosts P) where
   later_call d e released x k does of =
       subst (λ (z : List PortEvent × ℕ × Op). IsCallIn z.0 k.queue z.2 k.first k.second z.1) (λ i. (x.log.more i, number_same g d e k x.settings i, does i)) of.published
 
-  asking_on : (d e : Driver P g) (l : ℕ) (k : Call P) (serial : ℕ) (x : GoesOn d e None) → has_block (area_of d) l ≡ true → IsCallOf e k → IsAsking d l k serial → IsAsking e l k serial
-  asking_on d e l k serial x inside of a =
+  asking_on : (d e : Driver P g) (l : ℕ) (k : Call P) (serial : ℕ) (released : Option ReleasedName) (x : GoesOn d e released) → IsCallOf e k → IsAsking d l k serial → IsAsking e l k serial
+  asking_on d e l k serial released x of a =
       record {
         of = of;
         does = a.does;
         claim = subst (λ (z : List PortEvent × ℕ × ℕ). IsClaimIn z.0 k.queue k.first k.second z.1 l (record { host = z.2; serial = serial }))
             (λ i. (sym x.log.more i, sym (number_same g d e k x.settings) i, sym x.settings.host i))
-            (claim_in_later x.log.log (made d) k.queue k.first k.second (number_of d k) l (own_name d serial) a.claim (later_call d e None x k a.does of));
-        unreleased =
-            let p : log_released (made e) l (own_name e serial) ≡ log_released (made e) l (own_name d serial) = λ i. log_released (made e) l (record { host = x.settings.host i; serial = serial }) in
-            p ∙ x.log.unreleased l (own_name d serial) inside refl a.unreleased;
+            (claim_in_later x.log.log (made d) k.queue k.first k.second (number_of d k) l (own_name d serial) a.claim (later_call d e released x k a.does of));
       }
 
-  at_on : (d e began : Driver P g) (slot : ℕ) (reach : Reach) (stage : Stage P) → GoesOn d e None → slot < (area_of d).blocks → IsCallKept e stage
+  at_on : (d e began : Driver P g) (slot : ℕ) (reach : Reach) (stage : Stage P) (released : Option ReleasedName) → GoesOn d e released → IsCallKept e stage
       → IsAt d began (block_of (area_of d) slot) reach stage → IsAt e began (block_of (area_of e) slot) reach stage
-  at_on d e began slot reach (Stage.Asked call serial) x less kept at =
-      (subst (λ (r : Range). IsAsking e (block_of r slot) call serial) (sym x.settings.slots) (asking_on d e (block_of (area_of d) slot) call serial x (inside_of (area_of d) slot less) kept at.0), at.1)
-  at_on d e began slot reach Stage.Due x less kept at = at
+  at_on d e began slot reach (Stage.Asked call serial) released x kept at =
+      (subst (λ (r : Range). IsAsking e (block_of r slot) call serial) (sym x.settings.slots) (asking_on d e (block_of (area_of d) slot) call serial released x kept at.0), at.1)
+  at_on d e began slot reach Stage.Due released x kept at = at
 
-  pub claiming_on : ((a b c : P) → g.follows a b → g.follows b c → g.follows a c) → (d e : Driver P g) (k : Claiming P g) → GoesOn d e None → IsCallKept e k.stage → IsClaimingOf d k → IsClaimingOf e k
-  claiming_on on d e k x kept of =
+  pub claiming_on : ((a b c : P) → g.follows a b → g.follows b c → g.follows a c) → (d e : Driver P g) (k : Claiming P g) (released : Option ReleasedName) → GoesOn d e released → IsCallKept e k.stage → IsClaimingOf d k → IsClaimingOf e k
+  claiming_on on d e k released x kept of =
       record {
         area_is = x.settings.slots ∙ of.area_is;
         inside = of.inside;
         since = on k.began.value.port d.port e.port of.since x.later;
-        at = at_on d e k.began.value k.slot k.reach k.stage x (subst (λ (r : Range). k.slot < r.blocks) (sym of.area_is) of.inside) kept of.at;
-        lower = λ any. taken_on g on d e k.began.value k.slot x (of.lower any);
+        at = at_on d e k.began.value k.slot k.reach k.stage released x kept of.at;
+        lower = λ any. taken_on g on d e k.began.value k.slot released x (of.lower any);
       }
+
+  -- a name that wasn't released isn't, where another was
+  pub unreleased_on : (d e : Driver P g) (k : Claiming P g) (released : Option ReleasedName) → GoesOn d e released → is_other_claim released d k ≡ true → IsClaimingOf d k → IsUnreleased d k → IsUnreleased e k
+  unreleased_on d e k released x other of h =
+      go k.stage released x (same released other) h
+    where
+      other_stage : Option ReleasedName → Stage P → Bool
+      other_stage None stage = true
+      other_stage (Some r) stage = is_other_stage r d (block_of (area_of d) k.slot) stage
+
+      same : (r : Option ReleasedName) → is_other_claim r d k ≡ true → other_stage r k.stage ≡ true
+      same None o = o
+      same (Some r) o = o
+
+      inside : has_block (area_of d) (block_of (area_of d) k.slot) ≡ true
+      inside = inside_of (area_of d) k.slot (subst (λ (r : Range). k.slot < r.blocks) (sym of.area_is) of.inside)
+
+      moved : (serial : ℕ) → log_released (made e) (block_of (area_of d) k.slot) (own_name d serial) ≡ false → log_released (made e) (block_of (area_of e) k.slot) (own_name e serial) ≡ false
+      moved serial a =
+          let p : log_released (made e) (block_of (area_of e) k.slot) (own_name e serial) ≡ log_released (made e) (block_of (area_of d) k.slot) (own_name d serial) =
+          λ i. log_released (made e) (block_of (x.settings.slots i) k.slot) (record { host = x.settings.host i; serial = serial }) in
+          p ∙ a
+
+      go : (stage : Stage P) (r : Option ReleasedName) → GoesOn d e r → other_stage r stage ≡ true → IsStageUnreleased d (block_of (area_of d) k.slot) stage → IsStageUnreleased e (block_of (area_of e) k.slot) stage
+      go (Stage.Asked call serial) None y o a = moved serial (y.log.unreleased (block_of (area_of d) k.slot) (own_name d serial) inside refl a)
+      go (Stage.Asked call serial) (Some r) y o a = moved serial (y.log.unreleased (block_of (area_of d) k.slot) (own_name d serial) inside o a)
+      go Stage.Due r y o a = tt
 
   pub releasing_on : (d e : Driver P g) (k : Releasing P) (released : Option ReleasedName) → GoesOn d e released → IsCallOf e k.call → IsReleasingOf d k → IsReleasingOf e k
   releasing_on d e k released x call_of of =

@@ -1,5 +1,5 @@
 -- What contracts say of claims and releases.
-use Rattle.std.specs.Prelude.{Ok, Result, Some, false, true, ℕ, ◌<◌, ◌≡◌}
+use Rattle.std.specs.Prelude.{Bool, None, Ok, Option, Result, Some, false, true, ℕ, ◌<◌, ◌≡◌}
 use Rattle.nvme_model.specs.declared.operation.Op.{Op}
 use Rattle.nvme_model.specs.declared.status.Status.{Status}
 use Rattle.driver_calls.specs.declared.reply.Reply.{Reply}
@@ -8,7 +8,7 @@ use Rattle.driver_cas.specs.declared.call.Call.{Call}
 use Rattle.driver_cas.specs.declared.driver.Driver.{Driver}
 use Rattle.driver_cas.specs.declared.port.Port.{Ghosts}
 use Rattle.slot_alloc.specs.Areas.{area, block_of, serial_of, slot_of}
-use Rattle.slot_alloc.specs.Careful.{own_name}
+use Rattle.slot_alloc.specs.Careful.{ReleasedName, is_another, own_name}
 use Rattle.slot_alloc.specs.declared.claim.Claim.{Claim}
 use Rattle.slot_alloc.specs.declared.claiming.Claiming.{Claiming}
 use Rattle.slot_alloc.specs.declared.claiming.Reach.{Reach}
@@ -28,12 +28,11 @@ module _ {P : Type 0} {g : Ghosts P} where
     pub name : IsName (own_name d (serial_of c))
     pub believed : log_believed (made d) (block_of (area_of d) (slot_of c)) (own_name d (serial_of c)) ≡ true
 
-  -- The call claims the slot at this block under this serial, and isn't answered. Nothing released that name there.
+  -- The call claims the slot at this block under this serial, and isn't answered.
   pub record IsAsking (d : Driver P g) (lba : ℕ) (call : Call P) (serial : ℕ) : Type 0 where
     pub of : IsCallOf d call
     pub does : call.op ≡ Op.Pair
     pub claim : IsClaimIn (made d) call.queue call.first call.second (number_of d call) lba (own_name d serial)
-    pub unreleased : log_released (made d) lba (own_name d serial) ≡ false
 
   -- the claim of the slot at hand is begun, or is due, where any slot will do
   abbrev pub IsAt : Driver P g → Driver P g → ℕ → Reach → Stage P → Type 0
@@ -53,6 +52,15 @@ module _ {P : Type 0} {g : Ghosts P} where
     pub answer : answer_to at call ≡ Some r
     pub says : Says at call (Some r)
 
+  -- The claim was begun since this moment and answered by success. So the driver's log believes its name, unless a release of it was published.
+  pub record IsWonBy (d began : Driver P g) (c : Claim) : Type 0 where
+    pub inside : slot_of c < (area_of d).blocks
+    pub won : ClaimSays d began (block_of (area_of d) (slot_of c)) (Ok Reply.Swapped)
+    pub serial : won.serial ≡ serial_of c
+    pub name : IsName (own_name d (serial_of c))
+    pub believed : log_released (made d) (block_of (area_of d) (slot_of c)) (own_name d (serial_of c)) ≡ false
+        → log_believed (made d) (block_of (area_of d) (slot_of c)) (own_name d (serial_of c)) ≡ true
+
   -- each slot below the one at hand was had by somebody else
   abbrev pub AreTaken : Driver P g → Driver P g → ℕ → Type 0
   AreTaken d began n = (i : ℕ) → i < n → ClaimSays d began (block_of (area_of d) i) (Ok Reply.Differs)
@@ -64,6 +72,24 @@ module _ {P : Type 0} {g : Ghosts P} where
     pub since : g.follows k.began.value.port d.port
     pub at : IsAt d k.began.value (block_of (area_of d) k.slot) k.reach k.stage
     pub lower : k.reach ≡ Reach.Any → AreTaken d k.began.value k.slot
+
+  -- no release of the name was published
+  abbrev pub IsStageUnreleased : Driver P g → ℕ → Stage P → Type 0
+  IsStageUnreleased d lba (Stage.Asked call serial) = log_released (made d) lba (own_name d serial) ≡ false
+  IsStageUnreleased d lba Stage.Due = Unit {0}
+
+  -- no release of the name of the claim that is begun, if one is, was published
+  abbrev pub IsUnreleased : Driver P g → Claiming P g → Type 0
+  IsUnreleased d k = IsStageUnreleased d (block_of (area_of d) k.slot) k.stage
+
+  -- that name isn't what was released, if anything was
+  abbrev pub is_other_stage : ReleasedName → Driver P g → ℕ → Stage P → Bool
+  is_other_stage r d lba (Stage.Asked call serial) = is_another (Some r) lba (own_name d serial)
+  is_other_stage r d lba Stage.Due = true
+
+  abbrev pub is_other_claim : Option ReleasedName → Driver P g → Claiming P g → Bool
+  is_other_claim None d k = true
+  is_other_claim (Some r) d k = is_other_stage r d (block_of (area_of d) k.slot) k.stage
 
   abbrev pub stage_of : Claiming P g → Stage P
   stage_of k = k.stage

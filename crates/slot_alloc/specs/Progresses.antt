@@ -9,7 +9,7 @@ use Rattle.driver_cas.specs.declared.driver.Driver.{Driver}
 use Rattle.driver_cas.specs.declared.fault.Fault.{Fault}
 use Rattle.driver_cas.specs.declared.port.Port.{Ghosts}
 use Rattle.slot_alloc.specs.Areas.{area, block_of, slot_of}
-use Rattle.slot_alloc.specs.Claims.{AreTaken, ClaimSays, IsClaimingOf, IsHeldBy}
+use Rattle.slot_alloc.specs.Claims.{AreTaken, ClaimSays, IsClaimingOf, IsHeldBy, IsUnreleased, IsWonBy}
 use Rattle.slot_alloc.specs.declared.claiming.Claiming.{Claiming}
 use Rattle.slot_alloc.specs.declared.claiming.Reach.{Reach}
 use Rattle.slot_alloc.specs.declared.claiming.Stage.{Stage}
@@ -61,12 +61,23 @@ module _ {P : Type 0} {g : Ghosts P} where
   abbrev pub IsProgress : Driver P g → Claiming P g → Progress P g → Type 0
   IsProgress e k (Progress.Pending j) = IsSameClaiming k j × IsClaimingOf e j
   IsProgress e k (Progress.Later f j) = IsSameClaiming k j × IsClaimingOf e j × ((f ≡ Fault.Busy) ⊎ (f ≡ Fault.NoMemory))
-  IsProgress e k (Progress.Held c) = (slot_of c ≡ k.slot) × IsHeldBy e c
+  IsProgress e k (Progress.Held c) = (slot_of c ≡ k.slot) × IsWonBy e k.began.value c
   IsProgress e k Progress.Taken = (k.reach ≡ Reach.One) × ClaimSays e k.began.value (block_of (area_of e) k.slot) (Ok Reply.Differs)
   IsProgress e k Progress.AllTaken = (k.reach ≡ Reach.Any) × AreTaken e k.began.value (area_of e).blocks
   IsProgress e k (Progress.Failed (Fault.Status s)) = ClaimSays e k.began.value (block_of (area_of e) k.slot) (Err s)
   IsProgress e k (Progress.Failed Fault.NoSerial) = (k.reach ≡ Reach.Any) × (drivers.serial_of e ≡ last_serial)
   IsProgress e k (Progress.Failed _) = ⊥
+
+  -- a slot that is held is believed by the driver's log
+  abbrev pub IsHeldOn : Driver P g → Progress P g → Type 0
+  IsHeldOn e (Progress.Held c) = IsHeldBy e c
+  IsHeldOn e _ = Unit {0}
+
+  -- no release of the name of the claim that goes on was published
+  abbrev pub IsUnreleasedOn : Driver P g → Progress P g → Type 0
+  IsUnreleasedOn e (Progress.Pending j) = IsUnreleased e j
+  IsUnreleasedOn e (Progress.Later f j) = IsUnreleased e j
+  IsUnreleasedOn e _ = Unit {0}
 
   -- the call has no CID in common with that of the claim that goes on
   abbrev pub IsBesideOn : Progress P g → Call P → Type 0

@@ -4,8 +4,8 @@ ghost use Rattle.std.specs.Prelude.{◌≡◌, ◌<◌, IfOk, None};
 ghost use Rattle.driver_cas.specs.Drivers.{IsCallOf, area_of};
 ghost use Rattle.slot_alloc.specs.Areas.{area};
 ghost use Rattle.slot_alloc.specs.Careful.{GoesOn, IsCareful};
-ghost use Rattle.slot_alloc.specs.Claims.{IsClaimingOf};
-ghost use Rattle.slot_alloc.specs.Progresses.{IsAsked, IsBesideOn, IsFirstClaim};
+ghost use Rattle.slot_alloc.specs.Claims.{IsClaimingOf, IsUnreleased};
+ghost use Rattle.slot_alloc.specs.Progresses.{IsAsked, IsBesideOn, IsFirstClaim, IsUnreleasedOn};
 ghost use Rattle.slot_alloc.specs.declared.claiming.Reach.{Reach};
 ghost use Rattle.driver_cas.specs.declared.call.Call.{Call};
 
@@ -55,11 +55,11 @@ impl Slots {
         requires area { area_of driver.old ≡ area self.now }
         requires slot { slot < (area self.now).blocks }
         requires lower { reach ≡ Reach.Any → slot ≡ 0 }
-        requires careful { IsCareful driver.old }
-        ensures careful { IsCareful driver.new }
+        ensures careful { IsCareful driver.old → IsCareful driver.new }
         ensures goes_on { GoesOn driver.old driver.new None }
         ensures is { IsFirstClaim driver.old driver.new self.now reach slot result }
         ensures of { IfOk result (λ k. IsClaimingOf driver.new k) }
+        ensures unreleased { IsCareful driver.old → IfOk result (λ k. IsUnreleased driver.new k) }
     {
         let began = Snapshot::of(&*driver);
         let (call, serial) = driver.start_claim(self.block(slot))?;
@@ -80,11 +80,11 @@ impl Slots {
     pub fn claim<P: Port>(&self, driver: &mut Driver<P>, i: u32) -> Result<Claiming<P>, Fault>
         requires area { area_of driver.old ≡ area self.now }
         requires slot { i < (area self.now).blocks }
-        requires careful { IsCareful driver.old }
-        ensures careful { IsCareful driver.new }
+        ensures careful { IsCareful driver.old → IsCareful driver.new }
         ensures goes_on { GoesOn driver.old driver.new None }
         ensures is { IsFirstClaim driver.old driver.new self.now Reach.One i result }
         ensures of { IfOk result (λ k. IsClaimingOf driver.new k) }
+        ensures unreleased { IsCareful driver.old → IfOk result (λ k. IsUnreleased driver.new k) }
     {
         self.begin(driver, Reach::One, i)
     }
@@ -97,11 +97,11 @@ impl Slots {
     /// As `claim`.
     pub fn claim_any<P: Port>(&self, driver: &mut Driver<P>) -> Result<Claiming<P>, Fault>
         requires area { area_of driver.old ≡ area self.now }
-        requires careful { IsCareful driver.old }
-        ensures careful { IsCareful driver.new }
+        ensures careful { IsCareful driver.old → IsCareful driver.new }
         ensures goes_on { GoesOn driver.old driver.new None }
         ensures is { IsFirstClaim driver.old driver.new self.now Reach.Any 0 result }
         ensures of { IfOk result (λ k. IsClaimingOf driver.new k) }
+        ensures unreleased { IsCareful driver.old → IfOk result (λ k. IsUnreleased driver.new k) }
     {
         self.begin(driver, Reach::Any, 0)
     }
@@ -111,10 +111,10 @@ impl Slots {
 pub(crate) fn ask<P: Port>(driver: &mut Driver<P>, claiming: Claiming<P>) -> Progress<P>
     requires of { IsClaimingOf driver.old claiming }
     requires any { claiming.reach ≡ Reach.Any }
-    requires careful { IsCareful driver.old }
-    ensures careful { IsCareful driver.new }
+    ensures careful { IsCareful driver.old → IsCareful driver.new }
     ensures goes_on { GoesOn driver.old driver.new None }
     ensures is { IsAsked driver.new claiming result }
+    ensures unreleased { IsCareful driver.old → IsUnreleasedOn driver.new result }
     ensures others { (other : Call P) → IsCallOf driver.old other → IsCallOf driver.new other × IsBesideOn result other }
 {
     let Claiming {

@@ -1,23 +1,32 @@
 //! What holds of an allocator's claims and releases, each as the contract of a function that does nothing.
 
-ghost use Rattle.std.specs.Prelude.{[], None, Ok, Option, Result, Some, length, true, ℕ, ◌≡◌, ◌≢◌};
+ghost use Rattle.std.specs.Prelude.{[], Err, None, Ok, Option, Result, Some, true, ℕ, ◌≡◌, ◌≢◌};
+ghost use Rattle.nvme_model.specs.Array.{has_block};
 ghost use Rattle.nvme_model.specs.Passes.{entries};
 ghost use Rattle.nvme_model.specs.Slots.{believed, disciplined, holder};
 ghost use Rattle.nvme_model.specs.declared.status.Status.{Status};
-ghost use Rattle.host_laws.specs.Calls.{PairDiffers};
+ghost use Rattle.host_laws.specs.Calls.{PairDiffers, PairSwaps};
+ghost use Rattle.driver_calls.specs.Says.{FailedSays};
 ghost use Rattle.driver_calls.specs.Views.{IsAlone};
 ghost use Rattle.driver_calls.specs.declared.reply.Reply.{Reply};
-ghost use Rattle.driver_cas.specs.Drivers.{IsCallOf, IsOneMore, IsSame, answer_to, area_of, before, host_of, made, number_of};
-ghost use Rattle.driver_cas.specs.Ports.{view_of};
+ghost use Rattle.driver_cas.specs.Drivers.{HasSettings, IsCallOf, IsOneMore, IsSame, answer_to, area_of, before};
+ghost use Rattle.driver_cas.specs.Drivers.{host_of, made, number_of};
+ghost use Rattle.driver_cas.specs.Ports.{Follows, view_of};
+ghost use Rattle.driver_cas.specs.SlotStarts.{IsReleaseStart};
 ghost use Rattle.driver_cas.specs.Requests.{IsStart, pair_request_of, request_of};
 ghost use Rattle.driver_cas.specs.declared.call.Call.{Call};
 ghost use Rattle.driver_cas.specs.declared.fault.Fault.{Fault};
 ghost use Rattle.driver_commands.specs.declared.request.CallData.{CallData};
 ghost use Rattle.nvme_model.specs.declared.operation.Op.{Op};
+ghost use Rattle.slot_calls.specs.Calls.{IsName};
 ghost use Rattle.slot_calls.specs.Hosts.{IsSlotHost};
+ghost use Rattle.slot_calls.specs.Swaps.{log_believed};
 ghost use Rattle.slot_alloc.specs.Areas.{block_of, serial_of, slot_of};
 ghost use Rattle.slot_alloc.specs.Careful.{GoesOn, IsCareful, ReleasedName, is_another, own_name};
-ghost use Rattle.slot_alloc.specs.Claims.{ClaimSays, IsCallKept, IsClaimingOf, IsHeldBy, IsReleasingOf, release_call, stage_of};
+ghost use Rattle.slot_alloc.specs.Claims.{ClaimSays, IsCallKept, IsClaimingOf, IsHeldBy, IsReleasingOf, IsUnreleased};
+ghost use Rattle.slot_alloc.specs.Claims.{is_other_claim, release_call, stage_of};
+ghost use Rattle.slot_alloc.specs.Releases.{IsReleased};
+ghost use Rattle.slot_alloc.specs.declared.progress.Released.{Released};
 
 use crate::claim::Claim;
 use crate::claiming::Claiming;
@@ -33,27 +42,43 @@ pub fn a_new_driver_is_careful<P: Port>(driver: &Driver<P>)
     let _ = driver;
 }
 
-/// A driver's other calls touch no slot: what they publish and reap leaves it careful, and what it believed it goes on to
-/// believe.
+/// A driver's other calls touch no slot: what they publish and reap leaves a careful driver so, and what it believed it
+/// goes on to believe.
 pub fn other_calls_touch_no_slot<P: Port>(old: &Snapshot<Driver<P>>, new: &Driver<P>)
-    requires careful { IsCareful old.now.value }
     requires same { IsSame old.now.value new.now }
     requires later { P.follows old.now.value.port new.now.port }
     ensures start { (acwu slba bytes : ℕ) (o : Op) (contents : CallData) (r : Result (Call P) Fault) →
         IsStart old.now.value new.now (request_of acwu (area_of old.now.value) o slba bytes) contents r →
-        IsCareful new.now × GoesOn old.now.value new.now None }
+        (IsCareful old.now.value → IsCareful new.now) × GoesOn old.now.value new.now None }
     ensures pair { (acwu slba bytes others : ℕ) (contents : CallData) (r : Result (Call P) Fault) →
         IsStart old.now.value new.now (pair_request_of acwu (area_of old.now.value) slba bytes others) contents r →
-        IsCareful new.now × GoesOn old.now.value new.now None }
+        (IsCareful old.now.value → IsCareful new.now) × GoesOn old.now.value new.now None }
     ensures poll { IsOneMore (made old.now.value) (made new.now) →
-        IsCareful new.now × GoesOn old.now.value new.now None }
+        (IsCareful old.now.value → IsCareful new.now) × GoesOn old.now.value new.now None }
+{
+    let _ = old;
+    let _ = new;
+}
+
+/// A release that is begun without its claim (`Driver::start_release` called by itself) leaves all other names as they
+/// were, and a driver careful where its log believes the name.
+pub fn a_release_by_itself<P: Port>(old: &Snapshot<Driver<P>>, new: &Driver<P>)
+    requires same { IsSame old.now.value new.now }
+    requires later { P.follows old.now.value.port new.now.port }
+    ensures careful { (lba serial : ℕ) (r : Result (Call P) Fault) → IsReleaseStart old.now.value new.now lba serial r →
+        IsName (own_name old.now.value serial) → has_block (area_of old.now.value) lba ≡ true →
+        log_believed (made old.now.value) lba (own_name old.now.value serial) ≡ true →
+        IsCareful old.now.value → IsCareful new.now }
+    ensures goes_on { (lba serial : ℕ) (r : Result (Call P) Fault) → IsReleaseStart old.now.value new.now lba serial r →
+        IsName (own_name old.now.value serial) →
+        GoesOn old.now.value new.now (Some (lba, own_name old.now.value serial)) }
 {
     let _ = old;
     let _ = new;
 }
 
 /// What a driver goes on to believe: a claim stays held, but by the release of its own name, and a claim and a release that
-/// were begun stay so as long as their calls are the driver's.
+/// were begun stay so as long as their calls are the driver's. A name that wasn't released isn't, but by its own release.
 pub fn what_was_begun_stays<P: Port>(
     old: &Snapshot<Driver<P>>,
     new: &Driver<P>,
@@ -65,8 +90,12 @@ pub fn what_was_begun_stays<P: Port>(
         is_another released (block_of (area_of old.now.value) (slot_of claim.now))
         (own_name old.now.value (serial_of claim.now)) ≡ true →
         IsHeldBy old.now.value claim.now → IsHeldBy new.now claim.now }
-    ensures claiming { GoesOn old.now.value new.now None → IsCallKept new.now (stage_of claiming.now) →
+    ensures claiming { (released : Option ReleasedName) → GoesOn old.now.value new.now released →
+        IsCallKept new.now (stage_of claiming.now) →
         IsClaimingOf old.now.value claiming.now → IsClaimingOf new.now claiming.now }
+    ensures unreleased { (released : Option ReleasedName) → GoesOn old.now.value new.now released →
+        is_other_claim released old.now.value claiming.now ≡ true → IsClaimingOf old.now.value claiming.now →
+        IsUnreleased old.now.value claiming.now → IsUnreleased new.now claiming.now }
     ensures releasing { (released : Option ReleasedName) → GoesOn old.now.value new.now released →
         IsCallOf new.now (release_call releasing.now) →
         IsReleasingOf old.now.value releasing.now → IsReleasingOf new.now releasing.now }
@@ -86,6 +115,51 @@ pub fn a_careful_driver_keeps_the_discipline(driver: &Driver<SharedPort<'_>>)
     ensures { let v = view_of driver.now.port in disciplined v.config (area_of driver.now) (entries v.seen) ≡ true }
 {
     let _ = driver;
+}
+
+/// Where a claim was won, its effect said yes, and stands in what was seen.
+pub fn a_won_slot_was_free(
+    driver: &Driver<SharedPort<'_>>,
+    began: &Snapshot<Driver<SharedPort<'_>>>,
+)
+    requires { IsAlone (before driver.now) (view_of driver.now.port) }
+    ensures { (lba : ℕ) (s : ClaimSays driver.now began.now.value lba (Ok Reply.Swapped)) →
+        PairSwaps (entries (view_of driver.now.port).seen) s.call.queue (number_of s.at s.call) }
+{
+    let _ = driver;
+    let _ = began;
+}
+
+/// Where a claim failed, a completion of its pair with that status was reaped, the first that isn't success.
+pub fn a_failed_claim_was_told_so(
+    driver: &Driver<SharedPort<'_>>,
+    began: &Snapshot<Driver<SharedPort<'_>>>,
+)
+    requires { IsAlone (before driver.now) (view_of driver.now.port) }
+    ensures { (lba : ℕ) (status : Status) (s : ClaimSays driver.now began.now.value lba (Err status)) →
+        let v = view_of driver.now.port in
+        FailedSays v.config (entries v.seen) s.call.queue (number_of s.at s.call) Op.Pair status }
+{
+    let _ = driver;
+    let _ = began;
+}
+
+/// Where a release was answered, its effect said yes, and stands in what is seen then and later.
+pub fn a_released_slot_was_held(
+    at: &Snapshot<Driver<SharedPort<'_>>>,
+    driver: &Driver<SharedPort<'_>>,
+    releasing: &Snapshot<Releasing<SharedPort<'_>>>,
+)
+    requires alone { IsAlone (before driver.now) (view_of driver.now.port) }
+    requires same { HasSettings at.now.value driver.now }
+    requires later { Follows at.now.value.port driver.now.port }
+    ensures { let k = release_call releasing.now.value in
+        IsReleased at.now.value releasing.now.value Released.Released →
+        PairSwaps (entries (view_of driver.now.port).seen) k.queue (number_of at.now.value k) }
+{
+    let _ = at;
+    let _ = driver;
+    let _ = releasing;
 }
 
 /// Where a claim was answered that somebody else has its slot, its effect said no, and stands in what was seen.

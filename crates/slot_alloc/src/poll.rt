@@ -5,8 +5,8 @@ ghost use Rattle.driver_calls.specs.declared.reply.Reply.{Reply};
 ghost use Rattle.driver_cas.specs.Drivers.{IsCallOf};
 ghost use Rattle.driver_cas.specs.declared.call.Call.{Call};
 ghost use Rattle.slot_alloc.specs.Careful.{GoesOn, IsCareful};
-ghost use Rattle.slot_alloc.specs.Claims.{IsClaimingOf};
-ghost use Rattle.slot_alloc.specs.Progresses.{IsBeside, IsBesideOn, IsLost, IsProgress};
+ghost use Rattle.slot_alloc.specs.Claims.{IsClaimingOf, IsUnreleased};
+ghost use Rattle.slot_alloc.specs.Progresses.{IsBeside, IsBesideOn, IsHeldOn, IsLost, IsProgress, IsUnreleasedOn};
 
 use crate::claim::Claim;
 use crate::claiming::{Claiming, Reach, Stage, ask};
@@ -28,10 +28,11 @@ pub(crate) fn is_swapped(reply: Reply) -> bool
 // Goes on to the next slot where any will do: somebody else has the one at hand.
 fn next<P: Port>(driver: &mut Driver<P>, claiming: Claiming<P>) -> Progress<P>
     requires lost { IsLost driver.old claiming }
-    requires careful { IsCareful driver.old }
-    ensures careful { IsCareful driver.new }
+    ensures careful { IsCareful driver.old → IsCareful driver.new }
     ensures goes_on { GoesOn driver.old driver.new None }
     ensures is { IsProgress driver.new claiming result }
+    ensures held { IsHeldOn driver.new result }
+    ensures unreleased { IsCareful driver.old → IsUnreleasedOn driver.new result }
     ensures others { (other : Call P) → IsCallOf driver.old other → IsCallOf driver.new other × IsBesideOn result other }
 {
     let Claiming {
@@ -65,10 +66,11 @@ fn next<P: Port>(driver: &mut Driver<P>, claiming: Claiming<P>) -> Progress<P>
 /// next slot's pair is published.
 pub fn poll_claim<P: Port>(driver: &mut Driver<P>, claiming: Claiming<P>) -> Progress<P>
     requires of { IsClaimingOf driver.old claiming }
-    requires careful { IsCareful driver.old }
-    ensures careful { IsCareful driver.new }
+    ensures careful { IsCareful driver.old → IsCareful driver.new }
     ensures goes_on { GoesOn driver.old driver.new None }
     ensures is { IsProgress driver.new claiming result }
+    ensures held { IsUnreleased driver.old claiming → IsHeldOn driver.new result }
+    ensures unreleased { IsCareful driver.old → IsUnreleased driver.old claiming → IsUnreleasedOn driver.new result }
     ensures others { (other : Call P) → IsCallOf driver.old other → IsBeside claiming.stage other →
         IsCallOf driver.new other × IsBesideOn result other }
 {

@@ -36,8 +36,7 @@ impl Slots {
     ) -> Result<Releasing<P>, (Claim, Fault)>
         requires area { area_of driver.old ≡ area self.now }
         requires held { IsHeldBy driver.old claim }
-        requires careful { IsCareful driver.old }
-        ensures careful { IsCareful driver.new }
+        ensures careful { IsCareful driver.old → IsCareful driver.new }
         ensures goes_on { GoesOn driver.old driver.new (released_by driver.old claim result) }
         ensures is { IsReleaseBegun driver.old driver.new claim result }
         ensures of { IfOk result (λ k. IsReleasingOf driver.new k) }
@@ -56,8 +55,7 @@ impl Slots {
 /// What has come of a release. Reaps at most one completion.
 pub fn poll_release<P: Port>(driver: &mut Driver<P>, releasing: Releasing<P>) -> Released<P>
     requires of { IsReleasingOf driver.old releasing }
-    requires careful { IsCareful driver.old }
-    ensures careful { IsCareful driver.new }
+    ensures careful { IsCareful driver.old → IsCareful driver.new }
     ensures goes_on { GoesOn driver.old driver.new None }
     ensures is { IsReleased driver.new releasing result }
     ensures others { (other : Call P) → IsCallOf driver.old other → IsApart releasing.call other → IsCallOf driver.new other }

@@ -2,7 +2,7 @@ use Rattle.std.proofs.Common.{rules, ◌≢◌}
 use Rattle.driver_cas.specs.Drivers.{area_of}
 use Rattle.driver_cas.specs.declared.fault.Fault.{Fault}
 use Rattle.slot_alloc.specs.Areas.{block_of}
-use Rattle.slot_alloc.proofs.Asking.{call_kept, claim_cause, claiming_due, claiming_now, claims_of, same_claiming}
+use Rattle.slot_alloc.proofs.Asking.{call_kept, claim_cause, claiming_due, claiming_now, claims_of, same_claiming, unreleased_now}
 use Rattle.slot_alloc.proofs.Starting.{careful_claimed, careful_same, goes_on_claimed, goes_on_same}
 use Rattle.slot_alloc.specs.declared.claiming.Stage.{Stage}
 use Rattle.slot_alloc.proofs.claiming.ask.Goals as goal
@@ -14,7 +14,16 @@ returns-in-Ok-clause-careful g c =
     let k = c.args.claiming in
     let x = c.in-Ok in
     careful_claimed g.P.Port d e (block_of (area_of d) k.slot) x.call x.serial
-    (claims_of g.P.Port d e k.slots k.slot c.block.result x.call x.serial c.block.ensures x.ensures.settings x.ensures.later x.ensures.is x.ensures.law.0 x.ensures.law.1 x.ensures.law.2 c.requires.of.area_is c.requires.of.inside c.requires.careful)
+    (claims_of g.P.Port d e k.slots k.slot c.block.result x.call x.serial c.block.ensures x.ensures.settings x.ensures.later x.ensures.is x.ensures.law.0 x.ensures.law.1 x.ensures.law.2 c.requires.of.area_is c.requires.of.inside)
+
+pub returns-in-Ok-clause-unreleased : goal.returns-in-Ok-clause-unreleased
+returns-in-Ok-clause-unreleased g c = λ careful.
+    let d = c.args.driver.now in
+    let e = c.start_claim.new.self in
+    let k = c.args.claiming in
+    let x = c.in-Ok in
+    unreleased_now g.P.Port d e k.slot x.call x.serial
+    (claims_of g.P.Port d e k.slots k.slot c.block.result x.call x.serial c.block.ensures x.ensures.settings x.ensures.later x.ensures.is x.ensures.law.0 x.ensures.law.1 x.ensures.law.2 c.requires.of.area_is c.requires.of.inside) careful
 
 pub returns-in-Ok-clause-goes_on : goal.returns-in-Ok-clause-goes_on
 returns-in-Ok-clause-goes_on g c =
@@ -23,7 +32,7 @@ returns-in-Ok-clause-goes_on g c =
     let k = c.args.claiming in
     let x = c.in-Ok in
     goes_on_claimed g.P.Port d e (block_of (area_of d) k.slot) x.call x.serial
-    (claims_of g.P.Port d e k.slots k.slot c.block.result x.call x.serial c.block.ensures x.ensures.settings x.ensures.later x.ensures.is x.ensures.law.0 x.ensures.law.1 x.ensures.law.2 c.requires.of.area_is c.requires.of.inside c.requires.careful)
+    (claims_of g.P.Port d e k.slots k.slot c.block.result x.call x.serial c.block.ensures x.ensures.settings x.ensures.later x.ensures.is x.ensures.law.0 x.ensures.law.1 x.ensures.law.2 c.requires.of.area_is c.requires.of.inside)
 
 pub returns-in-Ok-clause-is : goal.returns-in-Ok-clause-is
 returns-in-Ok-clause-is g c =
@@ -33,7 +42,7 @@ returns-in-Ok-clause-is g c =
     let x = c.in-Ok in (
       same_claiming g.P.Port k (Stage.Asked x.call x.serial),
       claiming_now g.P.Port g.met.P.Port.goes_on d e k.began k.slots k.reach k.slot x.call x.serial
-          (claims_of g.P.Port d e k.slots k.slot c.block.result x.call x.serial c.block.ensures x.ensures.settings x.ensures.later x.ensures.is x.ensures.law.0 x.ensures.law.1 x.ensures.law.2 c.requires.of.area_is c.requires.of.inside c.requires.careful)
+          (claims_of g.P.Port d e k.slots k.slot c.block.result x.call x.serial c.block.ensures x.ensures.settings x.ensures.later x.ensures.is x.ensures.law.0 x.ensures.law.1 x.ensures.law.2 c.requires.of.area_is c.requires.of.inside)
           c.requires.of.area_is c.requires.of.inside c.requires.of.since c.requires.of.lower,
     )
 
@@ -43,7 +52,7 @@ returns-in-Ok-clause-others g c = c.in-Ok.ensures.is.2.others
 pub returns-then-eq-clause-careful : goal.returns-then-eq-clause-careful
 returns-then-eq-clause-careful g c =
     let x = c.in-Err.ensures in
-    careful_same g.P.Port c.args.driver.now c.start_claim.new.self x.settings x.is.0 x.is.1.0 c.requires.careful
+    careful_same g.P.Port c.args.driver.now c.start_claim.new.self x.settings x.is.0 x.is.1.0
 
 pub returns-then-eq-clause-goes_on : goal.returns-then-eq-clause-goes_on
 returns-then-eq-clause-goes_on g c =
@@ -66,7 +75,7 @@ returns-then-eq-clause-others g c =
 pub returns-clause-careful : goal.returns-clause-careful
 returns-clause-careful g c =
     let x = c.in-Err.ensures in
-    careful_same g.P.Port c.args.driver.now c.start_claim.new.self x.settings x.is.0 x.is.1.0 c.requires.careful
+    careful_same g.P.Port c.args.driver.now c.start_claim.new.self x.settings x.is.0 x.is.1.0
 
 pub returns-clause-goes_on : goal.returns-clause-goes_on
 returns-clause-goes_on g c =

@@ -1,5 +1,5 @@
 use Rattle.std.proofs.Common.{rules, ◌+◌, ◌≡◌, ◌≢◌}
-use Rattle.slot_alloc.proofs.Polling.{all_taken, any_reach, asked_progress, next_claiming}
+use Rattle.slot_alloc.proofs.Polling.{all_taken, any_reach, asked_held, asked_progress, next_claiming}
 use Rattle.slot_alloc.specs.declared.claiming.Reach.{Reach}
 use Rattle.slot_alloc.proofs.poll.next.Goals as goal
 
@@ -22,3 +22,6 @@ returns-clause-is g c =
     let k = c.args.claiming in
     let many : k.reach ≢ Reach.One = search rules in
     asked_progress g.P.Port c.ask.new.driver k c.ask.result (any_reach k.reach many) c.ask.ensures.is
+
+pub returns-clause-held : goal.returns-clause-held
+returns-clause-held g c = asked_held g.P.Port c.ask.new.driver _ c.ask.result c.ask.ensures.is

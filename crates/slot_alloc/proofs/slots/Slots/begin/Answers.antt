@@ -5,7 +5,7 @@ use Rattle.driver_cas.specs.Drivers.{area_of}
 use Rattle.driver_cas.specs.SlotStarts.{IsClaimStart}
 use Rattle.driver_cas.specs.declared.driver.Driver.{Driver}
 use Rattle.slot_alloc.specs.Areas.{block_of}
-use Rattle.slot_alloc.proofs.Asking.{claiming_now, claims_of}
+use Rattle.slot_alloc.proofs.Asking.{claiming_now, claims_of, unreleased_now}
 use Rattle.slot_alloc.proofs.Starting.{careful_claimed, goes_on_claimed, goes_on_same}
 use Rattle.slot_alloc.proofs.slots.Slots.begin.Goals as goal
 
@@ -28,7 +28,15 @@ returns-clause-careful g c =
     let e = c.start_claim.new.self in
     let x = c.in_ok-call in
     careful_claimed g.P.Port d e (block_of (area_of d) c.args.slot) x.call x.serial
-    (claims_of g.P.Port d e c.args.self.now c.args.slot c.block.result x.call x.serial c.block.ensures x.ensures.settings x.ensures.later x.ensures.is x.ensures.law.0 x.ensures.law.1 x.ensures.law.2 c.requires.area c.requires.slot c.requires.careful)
+    (claims_of g.P.Port d e c.args.self.now c.args.slot c.block.result x.call x.serial c.block.ensures x.ensures.settings x.ensures.later x.ensures.is x.ensures.law.0 x.ensures.law.1 x.ensures.law.2 c.requires.area c.requires.slot)
+
+pub returns-clause-unreleased : goal.returns-clause-unreleased
+returns-clause-unreleased g c = λ careful.
+    let d = c.args.driver.now in
+    let e = c.start_claim.new.self in
+    let x = c.in_ok-call in
+    unreleased_now g.P.Port d e c.args.slot x.call x.serial
+    (claims_of g.P.Port d e c.args.self.now c.args.slot c.block.result x.call x.serial c.block.ensures x.ensures.settings x.ensures.later x.ensures.is x.ensures.law.0 x.ensures.law.1 x.ensures.law.2 c.requires.area c.requires.slot) careful
 
 pub returns-clause-goes_on : goal.returns-clause-goes_on
 returns-clause-goes_on g c =
@@ -36,7 +44,7 @@ returns-clause-goes_on g c =
     let e = c.start_claim.new.self in
     let x = c.in_ok-call in
     goes_on_claimed g.P.Port d e (block_of (area_of d) c.args.slot) x.call x.serial
-    (claims_of g.P.Port d e c.args.self.now c.args.slot c.block.result x.call x.serial c.block.ensures x.ensures.settings x.ensures.later x.ensures.is x.ensures.law.0 x.ensures.law.1 x.ensures.law.2 c.requires.area c.requires.slot c.requires.careful)
+    (claims_of g.P.Port d e c.args.self.now c.args.slot c.block.result x.call x.serial c.block.ensures x.ensures.settings x.ensures.later x.ensures.is x.ensures.law.0 x.ensures.law.1 x.ensures.law.2 c.requires.area c.requires.slot)
 
 pub returns-clause-is : goal.returns-clause-is
 returns-clause-is g c =
@@ -47,7 +55,7 @@ returns-clause-is g c =
       refl,
       refl,
       c.of-began.ensures,
-      (claims_of g.P.Port d e c.args.self.now c.args.slot c.block.result x.call x.serial c.block.ensures x.ensures.settings x.ensures.later x.ensures.is x.ensures.law.0 x.ensures.law.1 x.ensures.law.2 c.requires.area c.requires.slot c.requires.careful).start,
+      (claims_of g.P.Port d e c.args.self.now c.args.slot c.block.result x.call x.serial c.block.ensures x.ensures.settings x.ensures.later x.ensures.is x.ensures.law.0 x.ensures.law.1 x.ensures.law.2 c.requires.area c.requires.slot).start,
     )
 
 pub returns-clause-of : goal.returns-clause-of
@@ -57,6 +65,6 @@ returns-clause-of g c =
     let x = c.in_ok-call in
     let began = c.of-began.result in
     claiming_now g.P.Port g.met.P.Port.goes_on d e began c.args.self.now c.args.reach c.args.slot x.call x.serial
-    (claims_of g.P.Port d e c.args.self.now c.args.slot c.block.result x.call x.serial c.block.ensures x.ensures.settings x.ensures.later x.ensures.is x.ensures.law.0 x.ensures.law.1 x.ensures.law.2 c.requires.area c.requires.slot c.requires.careful)
+    (claims_of g.P.Port d e c.args.self.now c.args.slot c.block.result x.call x.serial c.block.ensures x.ensures.settings x.ensures.later x.ensures.is x.ensures.law.0 x.ensures.law.1 x.ensures.law.2 c.requires.area c.requires.slot)
     c.requires.area c.requires.slot (subst (λ (b : Driver _ _). g.P.Port.follows b.port d.port) (sym c.of-began.ensures) (g.met.P.Port.stays d.port))
     (λ any i less. absurd (let none : c.args.slot ≡ 0 = c.requires.lower any in omega (arith, none, less)))

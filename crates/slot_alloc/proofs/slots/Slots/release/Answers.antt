@@ -11,21 +11,21 @@ returns-in-Ok-clause-careful g c =
     let d = c.args.driver.now in
     let e = c.start_release.new.self in
     let x = c.in-Ok.ensures in
-    careful_released g.P.Port d e c.args.claim c.in-Ok.call (releases_of g.P.Port d e c.args.claim c.in-Ok.call (area c.args.self.now) c.block.result c.block.ensures c.requires.area x.same x.later x.is c.requires.held c.requires.careful)
+    careful_released g.P.Port d e c.args.claim c.in-Ok.call (releases_of g.P.Port d e c.args.claim c.in-Ok.call (area c.args.self.now) c.block.result c.block.ensures c.requires.area x.same x.later x.is c.requires.held)
 
 pub returns-in-Ok-clause-goes_on : goal.returns-in-Ok-clause-goes_on
 returns-in-Ok-clause-goes_on g c =
     let d = c.args.driver.now in
     let e = c.start_release.new.self in
     let x = c.in-Ok.ensures in
-    goes_on_released g.P.Port d e c.args.claim c.in-Ok.call (releases_of g.P.Port d e c.args.claim c.in-Ok.call (area c.args.self.now) c.block.result c.block.ensures c.requires.area x.same x.later x.is c.requires.held c.requires.careful)
+    goes_on_released g.P.Port d e c.args.claim c.in-Ok.call (releases_of g.P.Port d e c.args.claim c.in-Ok.call (area c.args.self.now) c.block.result c.block.ensures c.requires.area x.same x.later x.is c.requires.held)
 
 pub returns-in-Ok-clause-of : goal.returns-in-Ok-clause-of
 returns-in-Ok-clause-of g c =
     let d = c.args.driver.now in
     let e = c.start_release.new.self in
     let x = c.in-Ok.ensures in
-    releasing_now g.P.Port d e c.args.claim c.in-Ok.call (releases_of g.P.Port d e c.args.claim c.in-Ok.call (area c.args.self.now) c.block.result c.block.ensures c.requires.area x.same x.later x.is c.requires.held c.requires.careful)
+    releasing_now g.P.Port d e c.args.claim c.in-Ok.call (releases_of g.P.Port d e c.args.claim c.in-Ok.call (area c.args.self.now) c.block.result c.block.ensures c.requires.area x.same x.later x.is c.requires.held)
 
 pub returns-in-Err-clause-is : goal.returns-in-Err-clause-is
 returns-in-Err-clause-is g c =
