@@ -1,5 +1,5 @@
 -- What becomes of a host's calls, what is fetched, and that there are completion queues.
-use Rattle.std.proofs.Common.{◌≡◌, ℕ, ◌<◌, ◌+◌, ◌∙◌, All, Err, List, None, Ok, Option, Result, Some, ap, arith, eqb, false, inl, is_none, slice_get, subst, sym}
+use Rattle.std.proofs.Common.{[], ◌≡◌, ℕ, ◌<◌, ◌+◌, ◌-◌, ◌∙◌, All, Err, List, None, Ok, Option, Result, Some, ap, arith, eqb, false, inl, is_none, length, refl, slice_get, subst, sym, take}
 use Rattle.std.specs.Prelude.{IfOk, IfSome}
 use Rattle.std.proofs.Math.ListN.{get_or}
 use Rattle.std.proofs.lemmas.Option.{slice_get-get_or}
@@ -21,9 +21,12 @@ use Rattle.cid_table.specs.Cids.{Cids, held}
 use Rattle.driver_commands.specs.declared.request.CallData.{CallData}
 use Rattle.driver_commands.specs.declared.request.Request.{Request}
 use Rattle.driver_cas.specs.Drivers.{IsApart, IsBack, IsCallBack, IsCallOf, IsSame}
-use Rattle.driver_cas.specs.Ports.{Follows}
+use Rattle.driver_cas.specs.Ports.{Follows, view_of}
+use Rattle.driver_calls.proofs.Views.{follows_self}
+use Rattle.driver_calls.specs.Views.{since}
+use Rattle.driver_calls.specs.declared.event.PortEvent.{PortEvent}
 use Rattle.driver_cas.specs.Requests.{IsStart}
-use Rattle.driver_cas.specs.Starts.{IsAsBefore}
+use Rattle.driver_cas.specs.Starts.{IsAsBefore, IsUntouched}
 use Rattle.driver_cas.specs.Tables.{is_free}
 use Rattle.driver_cas.specs.declared.call.Call.{Call}
 use Rattle.driver_cas.specs.declared.call.Poll.{Poll}
@@ -64,6 +67,33 @@ polls_on h i m k n e x y =
       same = (y.same.0 ∙ x.same.0, y.same.1 ∙ x.same.1);
       others = λ j of apart. y.others j (x.others j of apart) (subst (λ (c : Call SharedPort). IsApart c j) (sym e) apart);
     }
+
+-- the same driver with a still later port
+pub untouched_on : (h i m : Host) → IsUntouched h.driver i.driver → IsUntouched i.driver m.driver → IsUntouched h.driver m.driver
+untouched_on h i m x y =
+    record {
+      same = record {
+        began = y.same.began ∙ x.same.began;
+        host = y.same.host ∙ x.same.host;
+        acwu = y.same.acwu ∙ x.same.acwu;
+        slots = y.same.slots ∙ x.same.slots;
+        serial = y.same.serial ∙ x.same.serial;
+        queues = y.same.queues ∙ x.same.queues;
+      };
+      later = follows_later h.driver.port i.driver.port m.driver.port x.later y.later;
+      as_before = (y.as_before.0 ∙ x.as_before.0, y.as_before.1 ∙ x.as_before.1);
+    }
+
+pub untouched_self : (h : Host) → IsUntouched h.driver h.driver
+untouched_self h =
+    record { same = record { began = refl; host = refl; acwu = refl; slots = refl; serial = refl; queues = refl }; later = record { same_lock = refl; view = follows_self (view_of h.driver.port) }; as_before = (refl, refl) }
+
+-- nothing was done by a driver that was made just now
+pub nothing_since : (xs : List PortEvent) → since xs xs ≡ []
+nothing_since xs = ap (λ (n : ℕ). take n xs) (less (length xs))
+  where
+    less : (n : ℕ) → n - n ≡ 0
+    less n = omega arith
 
 -- ---- what is fetched
 

@@ -11,9 +11,9 @@ use Rattle.driver_rows.specs.declared.bench.Host.{Host}
 use Rattle.driver_rows.specs.declared.bench.Server.{Server}
 use Rattle.driver_rows.specs.declared.bench.Spares.{Spares}
 
--- the submission queue is there, and uses completion queue 1
-abbrev pub uses : ConfigNumbers → ℕ → Bool
-uses c q = nat_le 1 q && nat_le q c.pairs && (completion_queue c q == 1)
+-- submission queue q is there, and uses completion queue n
+abbrev pub uses : ConfigNumbers → ℕ → ℕ → Bool
+uses c n q = nat_le 1 q && nat_le q c.pairs && (completion_queue c q == n)
 
 -- its passes are of what the bench has
 abbrev pub IsServerOf : Bench → Server → Type 0

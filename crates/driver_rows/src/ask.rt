@@ -2,6 +2,7 @@
 
 ghost use Rattle.std.specs.Prelude.{◌≡◌, IfSome};
 ghost use Rattle.driver_cas.specs.Drivers.{IsCallOf};
+ghost use Rattle.driver_cas.specs.Starts.{IsUntouched};
 ghost use Rattle.driver_rows.specs.Benches.{IsHostOf};
 ghost use Rattle.driver_rows.specs.Calls.{Begins, Keeps, Polls, given_back};
 
@@ -146,6 +147,7 @@ pub fn hears<R: Wait>(rt: &R, bench: &Bench, host: &mut Host<'_>) -> u32
     requires { IsHostOf bench.now host.old }
     ensures same { IsHostOf bench.now host.new }
     ensures calls { Keeps host.old host.new }
+    ensures untouched { IsUntouched host.old.driver host.new.driver }
 {
     let mut count: u32 = 0;
     for _ in rt.forever() {

@@ -1,7 +1,8 @@
 //! What a host's driver and a server share on one thread.
 
 ghost use Rattle.std.specs.List.Sorted.{IsStrictlyIncreasing};
-ghost use Rattle.std.specs.Prelude.{◌≡◌, ◌<◌, ◌≤◌, ◌+◌, All, IfOk, IfSome, length, true};
+ghost use Rattle.std.specs.Prelude.{◌≡◌, ◌<◌, ◌≤◌, ◌+◌, All, IfOk, IfSome, [], length, true};
+ghost use Rattle.driver_cas.specs.Drivers.{area_of, made};
 ghost use Rattle.meet_lock.specs.Passes.{config_of};
 ghost use Rattle.work_queue.specs.Engines as engine;
 ghost use Rattle.driver_rows.specs.Benches.{AreOf, IsHostOf, IsServerOf, uses};
@@ -14,7 +15,8 @@ use std::alloc::{AllocError as NoMemory, Global};
 use step_core::Core;
 use work_queue::{Engine, MessageQueue, Notice, NoticeQueue, QueuePass};
 
-/// A controller, and the queue of notices of completion queue 1.
+/// A controller, and one queue of notices for the completions of all hosts: on one thread a host hears all that are there
+/// before another is served.
 #[derive(Drop)]
 pub struct Bench {
     pub engine: Engine,
@@ -36,7 +38,7 @@ pub struct Server {
     pub place: QueuePass<Notice>,
 }
 
-/// A host, on completion queue 1.
+/// A host.
 #[derive(Drop)]
 pub struct Host<'a> {
     pub driver: Driver<SharedPort<'a>>,
@@ -96,25 +98,30 @@ pub fn hand_of(_bench: &Bench, spares: &mut Spares) -> Option<Server>
     Some(Server { pass, place })
 }
 
-/// A host with this number, whose driver uses these submission queues; None where memory is refused.
+/// A host with this number, whose driver uses these submission queues of one completion queue; None where memory is
+/// refused.
 pub fn host_of<'a>(
     alloc: Global,
     bench: &'a Bench,
     hand: Server,
     number: u32,
     slots: Range,
+    queue: u16,
     queues: Vec<u16>,
 ) -> Option<Host<'a>>
     requires hand { IsServerOf bench.now hand }
     requires number { 1 ≤ number }
     requires slots { slots.slba + slots.blocks ≤ 65536 }
-    requires some { (1 ≤ length queues.items) × (1 ≤ bench.now.config.cqs) }
+    requires there { (1 ≤ queue) × (queue ≤ bench.now.config.cqs) }
+    requires some { 1 ≤ length queues.items }
     requires rising { IsStrictlyIncreasing queues.items }
-    requires uses { All (λ q. uses bench.now.config q ≡ true) queues.items }
-    ensures { IfSome result (IsHostOf bench.entry.now) }
+    requires uses { All (λ q. uses bench.now.config queue q ≡ true) queues.items }
+    ensures host { IfSome result (IsHostOf bench.entry.now) }
+    ensures area { IfSome result (λ h. area_of h.driver ≡ slots) }
+    ensures made { IfSome result (λ h. made h.driver ≡ []) }
 {
     let Server { pass, place } = hand;
-    let port = SharedPort::new(&bench.engine, pass, 1);
+    let port = SharedPort::new(&bench.engine, pass, queue);
     let acwu = bench.config.numbers().atomic.acwu;
     match Driver::new(alloc, port, number, acwu, slots, queues) {
         Ok(driver) => Some(Host { driver, place }),

@@ -22,13 +22,13 @@ pub enum Script {
     NoMemory,
 }
 
-/// A port with what it did, in order, and what it is still to answer, the next last. Once there is nothing, each Publish is
-/// accepted, and no Reap finds a completion.
+/// A port with what it did, in order, and what it is still to answer, the next last: a Publish that is refused for a fault or
+/// accepted, and a Reap. Once there is nothing, each Publish is accepted, and no Reap finds a completion.
 #[derive(Drop)]
 pub struct Fake {
     pub alloc: Global,
     pub did: Vec<Did>,
-    pub refusals: Vec<PortFault>,
+    pub refusals: Vec<Option<PortFault>>,
     pub reaps: Vec<Script>,
 }
 
@@ -59,7 +59,7 @@ impl Port for Fake {
 
     #[tactic(auto, using(crate::proofs::Fakes::log_more))]
     fn publish(&mut self, queue: u16, batch: Submissions) -> Result<(), (PortFault, Submissions)> {
-        if let Some(fault) = self.refusals.pop() {
+        if let Some(Some(fault)) = self.refusals.pop() {
             return Err((fault, batch));
         }
         if let Err(_) = self.did.reserve(1) {

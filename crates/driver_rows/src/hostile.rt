@@ -25,7 +25,7 @@ fn good(cid: u8) -> [u8; 16] {
 // A driver of submission queue 1 over a port that is to answer so, the next last.
 fn driver_of(
     alloc: Global,
-    refusals: Vec<PortFault>,
+    refusals: Vec<Option<PortFault>>,
     reaps: Vec<Script>,
 ) -> Result<Driver<Fake>, Fail> {
     let mut queues = Vec::new(alloc);
@@ -158,7 +158,7 @@ fn a_completion_counts_once(rt: HostRuntime) -> Result<(), Fail> {
 // That a Read is refused so, and then begun; that its completion comes later, and then comes.
 fn is_later<R: Abort>(rt: &R, alloc: Global, fault: PortFault, want: Fault) -> Result<(), Fail> {
     let mut refusals = Vec::new(alloc);
-    refusals.push(fault)?;
+    refusals.push(Some(fault))?;
     let mut reaps = Vec::new(alloc);
     reaps.push(Script::Posted(GOOD))?;
     reaps.push(Script::NoMemory)?;

@@ -39,7 +39,7 @@ fn host<'a>(alloc: Global, bench: &'a Bench, hand: Server, slots: u32) -> Result
         slba: 0,
         blocks: slots,
     };
-    match host_of(alloc, bench, hand, 1, slots, queues) {
+    match host_of(alloc, bench, hand, 1, slots, 1, queues) {
         Some(host) => Ok(host),
         None => Err(Fail::from("a host")),
     }
