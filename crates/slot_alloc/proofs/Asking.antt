@@ -24,7 +24,7 @@ use Rattle.slot_calls.specs.Swaps.{log_released}
 use Rattle.slot_alloc.specs.Areas.{area, block_of}
 use Rattle.slot_alloc.specs.Careful.{GoesOn, IsCareful, ReleasedName, own_name}
 use Rattle.slot_alloc.specs.Claims.{AreTaken, ClaimSays, IsAsking, IsClaimingOf, IsStageUnreleased}
-use Rattle.slot_alloc.specs.Progresses.{IsSameClaiming}
+use Rattle.slot_alloc.specs.Progresses.{IsSameClaiming, IsTried}
 use Rattle.slot_alloc.specs.declared.claiming.Claiming.{Claiming}
 use Rattle.slot_alloc.specs.declared.claiming.Reach.{Reach}
 use Rattle.slot_alloc.specs.declared.claiming.Stage.{Stage}
@@ -91,6 +91,10 @@ module _ {P : Type 0} (g : Ghosts P) where
         );
         lower = λ any. taken_on on d e began.value slot None x (lower any);
       }
+
+  -- the pair of the slot at hand was tried
+  pub tried_of : (d e : Driver P g) (slots : Slots) (slot l : ℕ) (r : Result (Call P × ℕ) Fault) → l ≡ block_of (area slots) slot → area_of d ≡ area slots → IsClaimStart d e l r → IsTried d e slot
+  tried_of d e slots slot l r at is start = (r, subst (λ (b : ℕ). IsClaimStart d e b r) (at ∙ ap (λ (x : Range). block_of x slot) (sym is)) start)
 
   -- no release of its name was published
   pub unreleased_now : (d e : Driver P g) (slot : ℕ) (k : Call P) (serial : ℕ) → Claims g d e (block_of (area_of d) slot) k serial → IsCareful d → IsStageUnreleased e (block_of (area_of e) slot) (Stage.Asked k serial)

@@ -24,7 +24,7 @@ use Rattle.slot_calls.specs.Swaps.{log_released}
 use Rattle.slot_alloc.specs.Areas.{block_of}
 use Rattle.slot_alloc.specs.Careful.{GoesOn, IsCareful, own_name}
 use Rattle.slot_alloc.specs.Claims.{AreTaken, ClaimSays, IsAsking, IsClaimingOf, IsAt, IsHeldBy, IsStageUnreleased, IsUnreleased, IsWonBy}
-use Rattle.slot_alloc.specs.Progresses.{IsAsked, IsHeldOn, IsLost, IsProgress, IsSameClaiming}
+use Rattle.slot_alloc.specs.Progresses.{IsAsked, IsHeldOn, IsLost, IsNext, IsProgress, IsQuiet, IsSameClaiming, IsTurn}
 use Rattle.slot_alloc.specs.declared.claiming.Claiming.{Claiming}
 use Rattle.slot_alloc.specs.declared.claiming.Reach.{Reach}
 use Rattle.slot_alloc.specs.declared.claiming.Stage.{Stage}
@@ -281,3 +281,22 @@ module _ {P : Type 0} (g : Ghosts P) where
   asked_held e k Progress.Taken h = tt
   asked_held e k Progress.AllTaken h = tt
   asked_held e k (Progress.Failed f) h = tt
+
+  -- ---- what was published
+
+  pub quiet_polled : (d e : Driver P g) → Polls d e → IsQuiet d e
+  quiet_polled d e x = record { same = x.same; one = x.one }
+
+  pub turn_quiet : (d e : Driver P g) (k : Claiming P g) (call : Call P) (serial : ℕ) → k.stage ≡ Stage.Asked call serial → Polls d e → IsTurn d e k k.stage
+  turn_quiet d e k call serial is x = subst (λ (s : Stage P). IsTurn d e k s) (sym is) (inl (quiet_polled d e x))
+
+  -- the slot at hand is somebody else's
+  pub turn_lost : (d e f : Driver P g) (k : Claiming P g) (call : Call P) (serial : ℕ) (reply : Reply) → IsClaimingOf d k → k.stage ≡ Stage.Asked call serial → Polls d e → reply ≢ Reply.Swapped → answer_to e call ≡ Some (Ok reply)
+      → IsNext e f (record { slots = k.slots; reach = k.reach; slot = k.slot; stage = Stage.Due; began = k.began }) → IsTurn d f k k.stage
+  turn_lost d e f k call serial reply of is x other answer (inl same) =
+      subst (λ (s : Stage P). IsTurn d f k s) (sym is) (inl (subst (λ (h : Driver P g). IsQuiet d h) (sym same) (quiet_polled d e x)))
+  turn_lost d e f k call serial reply of is x other answer (inr next) =
+      let a = asked d k call serial of is in
+      let differs = pair_reply (made e) call.queue call.first call.second reply (subst (λ (o : Op). outcome (made e) call.queue o call.first call.second ≡ Some (Ok reply)) a.0.does answer) other in
+      subst (λ (s : Stage P). IsTurn d f k s) (sym is)
+      (inr (record { at = e; quiet = quiet_polled d e x; answer = answer ∙ ap (λ (r : Reply). Some (Ok r)) differs; any = next.0; tried = next.1 }))

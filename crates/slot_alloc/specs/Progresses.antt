@@ -1,7 +1,7 @@
 -- What contracts say of what polling gives.
-use Rattle.std.specs.Prelude.{Err, Ok, Result, ℕ, ◌<◌, ◌≡◌, ◌≤◌, ◌⊎◌}
+use Rattle.std.specs.Prelude.{Err, Ok, Result, Some, ℕ, ◌+◌, ◌<◌, ◌≡◌, ◌≤◌, ◌⊎◌}
 use Rattle.driver_calls.specs.declared.reply.Reply.{Reply}
-use Rattle.driver_cas.specs.Drivers.{IsApart, IsCallOf, area_of}
+use Rattle.driver_cas.specs.Drivers.{IsApart, IsCallOf, IsOneMore, IsSame, answer_to, area_of, made}
 use Rattle.driver_cas.specs.Drivers as drivers
 use Rattle.driver_cas.specs.SlotStarts.{IsClaimStart, last_serial}
 use Rattle.driver_cas.specs.declared.call.Call.{Call}
@@ -78,6 +78,33 @@ module _ {P : Type 0} {g : Ghosts P} where
   IsUnreleasedOn e (Progress.Pending j) = IsUnreleased e j
   IsUnreleasedOn e (Progress.Later f j) = IsUnreleased e j
   IsUnreleasedOn e _ = Unit {0}
+
+  -- Nothing was published, and at most one completion was reaped.
+  pub record IsQuiet (d e : Driver P g) : Type 0 where
+    pub same : IsSame d e
+    pub one : IsOneMore (made d) (made e)
+
+  -- the pair of slot i is published, or nothing is
+  abbrev pub IsTried : Driver P g → Driver P g → ℕ → Type 0
+  IsTried d e i = (r : Result (Call P × ℕ) Fault) × IsClaimStart d e (block_of (area_of d) i) r
+
+  -- nothing is done, or where any slot will do the next one's pair is published, or nothing is
+  abbrev pub IsNext : Driver P g → Driver P g → Claiming P g → Type 0
+  IsNext d e k = (e ≡ d) ⊎ ((k.reach ≡ Reach.Any) × IsTried d e (k.slot + 1))
+
+  -- The call was answered that somebody else has the slot at hand, and then the next one's pair was tried.
+  pub record GoesToNext (d e : Driver P g) (k : Claiming P g) (call : Call P) : Type 0 where
+    pub at : Driver P g
+    pub quiet : IsQuiet d at
+    pub answer : answer_to at call ≡ Some (Ok Reply.Differs)
+    pub any : k.reach ≡ Reach.Any
+    pub tried : IsTried at e (k.slot + 1)
+
+  -- What a poll does. While the slot at hand is claimed it publishes nothing, but for the next slot's pair once that claim was answered; and where its
+  -- claim is due, it tries that.
+  abbrev pub IsTurn : Driver P g → Driver P g → Claiming P g → Stage P → Type 0
+  IsTurn d e k (Stage.Asked call serial) = IsQuiet d e ⊎ GoesToNext d e k call
+  IsTurn d e k Stage.Due = IsTried d e k.slot
 
   -- the call has no CID in common with that of the claim that goes on
   abbrev pub IsBesideOn : Progress P g → Call P → Type 0

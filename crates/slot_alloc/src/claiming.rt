@@ -5,7 +5,7 @@ ghost use Rattle.driver_cas.specs.Drivers.{IsCallOf, area_of};
 ghost use Rattle.slot_alloc.specs.Areas.{area};
 ghost use Rattle.slot_alloc.specs.Careful.{GoesOn, IsCareful};
 ghost use Rattle.slot_alloc.specs.Claims.{IsClaimingOf, IsUnreleased};
-ghost use Rattle.slot_alloc.specs.Progresses.{IsAsked, IsBesideOn, IsFirstClaim, IsUnreleasedOn};
+ghost use Rattle.slot_alloc.specs.Progresses.{IsAsked, IsBesideOn, IsFirstClaim, IsTried, IsUnreleasedOn};
 ghost use Rattle.slot_alloc.specs.declared.claiming.Reach.{Reach};
 ghost use Rattle.driver_cas.specs.declared.call.Call.{Call};
 
@@ -114,6 +114,7 @@ pub(crate) fn ask<P: Port>(driver: &mut Driver<P>, claiming: Claiming<P>) -> Pro
     ensures careful { IsCareful driver.old → IsCareful driver.new }
     ensures goes_on { GoesOn driver.old driver.new None }
     ensures is { IsAsked driver.new claiming result }
+    ensures tried { IsTried driver.old driver.new claiming.slot }
     ensures unreleased { IsCareful driver.old → IsUnreleasedOn driver.new result }
     ensures others { (other : Call P) → IsCallOf driver.old other → IsCallOf driver.new other × IsBesideOn result other }
 {

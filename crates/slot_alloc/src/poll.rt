@@ -6,7 +6,8 @@ ghost use Rattle.driver_cas.specs.Drivers.{IsCallOf};
 ghost use Rattle.driver_cas.specs.declared.call.Call.{Call};
 ghost use Rattle.slot_alloc.specs.Careful.{GoesOn, IsCareful};
 ghost use Rattle.slot_alloc.specs.Claims.{IsClaimingOf, IsUnreleased};
-ghost use Rattle.slot_alloc.specs.Progresses.{IsBeside, IsBesideOn, IsHeldOn, IsLost, IsProgress, IsUnreleasedOn};
+ghost use Rattle.slot_alloc.specs.Progresses.{IsBeside, IsBesideOn, IsHeldOn, IsLost, IsNext, IsProgress, IsTurn};
+ghost use Rattle.slot_alloc.specs.Progresses.{IsUnreleasedOn};
 
 use crate::claim::Claim;
 use crate::claiming::{Claiming, Reach, Stage, ask};
@@ -31,6 +32,7 @@ fn next<P: Port>(driver: &mut Driver<P>, claiming: Claiming<P>) -> Progress<P>
     ensures careful { IsCareful driver.old → IsCareful driver.new }
     ensures goes_on { GoesOn driver.old driver.new None }
     ensures is { IsProgress driver.new claiming result }
+    ensures next { IsNext driver.old driver.new claiming }
     ensures held { IsHeldOn driver.new result }
     ensures unreleased { IsCareful driver.old → IsUnreleasedOn driver.new result }
     ensures others { (other : Call P) → IsCallOf driver.old other → IsCallOf driver.new other × IsBesideOn result other }
@@ -69,6 +71,7 @@ pub fn poll_claim<P: Port>(driver: &mut Driver<P>, claiming: Claiming<P>) -> Pro
     ensures careful { IsCareful driver.old → IsCareful driver.new }
     ensures goes_on { GoesOn driver.old driver.new None }
     ensures is { IsProgress driver.new claiming result }
+    ensures turn { IsTurn driver.old driver.new claiming claiming.stage }
     ensures held { IsUnreleased driver.old claiming → IsHeldOn driver.new result }
     ensures unreleased { IsCareful driver.old → IsUnreleased driver.old claiming → IsUnreleasedOn driver.new result }
     ensures others { (other : Call P) → IsCallOf driver.old other → IsBeside claiming.stage other →

@@ -6,6 +6,7 @@ ghost use Rattle.driver_cas.specs.declared.call.Call.{Call};
 ghost use Rattle.slot_alloc.specs.Areas.{area};
 ghost use Rattle.slot_alloc.specs.Careful.{GoesOn, IsCareful};
 ghost use Rattle.slot_alloc.specs.Claims.{IsHeldBy, IsReleasingOf};
+ghost use Rattle.slot_alloc.specs.Progresses.{IsQuiet};
 ghost use Rattle.slot_alloc.specs.Releases.{IsReleaseBegun, IsReleased, released_by};
 
 use crate::claim::Claim;
@@ -58,6 +59,7 @@ pub fn poll_release<P: Port>(driver: &mut Driver<P>, releasing: Releasing<P>) ->
     ensures careful { IsCareful driver.old → IsCareful driver.new }
     ensures goes_on { GoesOn driver.old driver.new None }
     ensures is { IsReleased driver.new releasing result }
+    ensures quiet { IsQuiet driver.old driver.new }
     ensures others { (other : Call P) → IsCallOf driver.old other → IsApart releasing.call other → IsCallOf driver.new other }
 {
     let Releasing { slot, serial, call } = releasing;

@@ -1,8 +1,8 @@
-use Rattle.std.proofs.Common.{rules, ◌≢◌}
+use Rattle.std.proofs.Common.{Err, rules, ◌≢◌}
 use Rattle.driver_cas.specs.Drivers.{area_of}
 use Rattle.driver_cas.specs.declared.fault.Fault.{Fault}
 use Rattle.slot_alloc.specs.Areas.{block_of}
-use Rattle.slot_alloc.proofs.Asking.{call_kept, claim_cause, claiming_due, claiming_now, claims_of, same_claiming, unreleased_now}
+use Rattle.slot_alloc.proofs.Asking.{call_kept, claim_cause, claiming_due, claiming_now, claims_of, same_claiming, tried_of, unreleased_now}
 use Rattle.slot_alloc.proofs.Starting.{careful_claimed, careful_same, goes_on_claimed, goes_on_same}
 use Rattle.slot_alloc.specs.declared.claiming.Stage.{Stage}
 use Rattle.slot_alloc.proofs.claiming.ask.Goals as goal
@@ -45,6 +45,16 @@ returns-in-Ok-clause-is g c =
           (claims_of g.P.Port d e k.slots k.slot c.block.result x.call x.serial c.block.ensures x.ensures.settings x.ensures.later x.ensures.is x.ensures.law.0 x.ensures.law.1 x.ensures.law.2 c.requires.of.area_is c.requires.of.inside)
           c.requires.of.area_is c.requires.of.inside c.requires.of.since c.requires.of.lower,
     )
+
+pub returns-then-eq-clause-tried : goal.returns-then-eq-clause-tried
+returns-then-eq-clause-tried g c =
+    let k = c.args.claiming in
+    tried_of g.P.Port c.args.driver.now c.start_claim.new.self k.slots k.slot c.block.result (Err c.in-Err.fault) c.block.ensures c.requires.of.area_is c.in-Err.ensures.is
+
+pub returns-clause-tried : goal.returns-clause-tried
+returns-clause-tried g c =
+    let k = c.args.claiming in
+    tried_of g.P.Port c.args.driver.now c.start_claim.new.self k.slots k.slot c.block.result (Err c.in-Err.fault) c.block.ensures c.requires.of.area_is c.in-Err.ensures.is
 
 pub returns-in-Ok-clause-others : goal.returns-in-Ok-clause-others
 returns-in-Ok-clause-others g c = c.in-Ok.ensures.is.2.others

@@ -3,7 +3,7 @@ use Rattle.driver_calls.specs.declared.reply.Reply.{Reply}
 use Rattle.driver_cas.specs.Drivers.{Says}
 use Rattle.driver_cas.specs.declared.call.Call.{Call}
 use Rattle.slot_alloc.proofs.Asking.{same_claiming}
-use Rattle.slot_alloc.proofs.Polling.{claiming_polled, due_progress, failed_polled, goes_on_on, goes_on_polled, held_polled, lost_polled, still_polled, won_polled, Polls}
+use Rattle.slot_alloc.proofs.Polling.{claiming_polled, due_progress, failed_polled, goes_on_on, goes_on_polled, held_polled, lost_polled, still_polled, turn_lost, turn_quiet, won_polled, Polls}
 use Rattle.slot_alloc.specs.Progresses.{IsLost, IsProgress}
 use Rattle.slot_alloc.specs.declared.claiming.Stage.{Stage}
 use Rattle.slot_alloc.proofs.poll.poll_claim.Goals as goal
@@ -98,6 +98,23 @@ returns-then-is_swapped-clause-held g c = λ unreleased.
     held_polled g.P.Port c.args.driver.now c.poll.new.self c.args.claiming c.in-Asked.call c.in-Asked.serial c.requires.of is polls
     (won_polled g.P.Port g.met.P.Port.stays c.args.driver.now c.poll.new.self c.args.claiming c.in-Asked.call c.in-Asked.serial c.requires.of is polls
     (sym y.ensures.answer ∙ ap (λ (r : Reply). Some (Ok r)) yes) (subst (λ (r : Reply). Says c.poll.new.self c.in-Asked.call (Some (Ok r))) yes y.ensures.says)) unreleased
+
+pub returns-then-is_swapped-clause-turn : goal.returns-then-is_swapped-clause-turn
+returns-then-is_swapped-clause-turn g c =
+    let x = c.poll.ensures in
+    turn_quiet g.P.Port c.args.driver.now c.poll.new.self c.args.claiming c.in-Asked.call c.in-Asked.serial (sym c.replace.ensures.value ∙ c.in-Asked.is) (record { same = x.same; later = x.later; one = x.one })
+
+pub returns-in-Failed-clause-turn : goal.returns-in-Failed-clause-turn
+returns-in-Failed-clause-turn g c =
+    let x = c.poll.ensures in
+    turn_quiet g.P.Port c.args.driver.now c.poll.new.self c.args.claiming c.in-Asked.call c.in-Asked.serial (sym c.replace.ensures.value ∙ c.in-Asked.is) (record { same = x.same; later = x.later; one = x.one })
+
+pub returns-else-is_swapped-clause-turn : goal.returns-else-is_swapped-clause-turn
+returns-else-is_swapped-clause-turn g c =
+    let x = c.poll.ensures in
+    let y = c.in-Done in
+    turn_lost g.P.Port c.args.driver.now c.poll.new.self c.next.new.driver c.args.claiming c.in-Asked.call c.in-Asked.serial y.reply c.requires.of (sym c.replace.ensures.value ∙ c.in-Asked.is) (record { same = x.same; later = x.later; one = x.one })
+    (c.is_swapped.ensures.no_other c.if-is_swapped.false) (sym y.ensures.answer) c.next.ensures.next
 
 pub returns-else-is_swapped-clause-goes_on : goal.returns-else-is_swapped-clause-goes_on
 returns-else-is_swapped-clause-goes_on g c =
