@@ -1,6 +1,7 @@
 pub mod Beginning
 mod Answering
 mod KindsLemmas
+mod Placing
 mod Printed
 mod Settling
 mod Stepping

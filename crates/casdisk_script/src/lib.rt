@@ -2,9 +2,9 @@
 #![tactic(auto)]
 
 mod checking;
-mod entries;
 mod fault;
 mod first_line;
+mod judging;
 mod machine;
 mod meaning;
 mod printing;
