@@ -111,7 +111,7 @@ grant_none g opened None m = by (eqb g.unit opened)
     by false = refl
 grant_none g opened (Some r) m = three_rows (eqb g.unit opened) ((eqb r.slba g.range.slba) && (eqb r.blocks g.range.blocks)) (beq (is_exclusive g.mode) (is_exclusive m)) _ _ _
 
-word_is : (o : Option Op) (n j : ℕ) (f : Found) → is_word (word_due o n j) f ≡ may_find o n j f
+pub word_is : (o : Option Op) (n j : ℕ) (f : Found) → is_word (word_due o n j) f ≡ may_find o n j f
 word_is None n j f = refl
 word_is (Some Op.Read) n j f = refl
 word_is (Some Op.Compare) n j f = refl

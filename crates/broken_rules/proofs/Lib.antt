@@ -1,2 +1,2 @@
 mod Apart
-mod Exactly
+pub mod Exactly
