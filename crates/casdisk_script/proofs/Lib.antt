@@ -1,6 +1,7 @@
 pub mod Beginning
 mod Answering
 mod KindsLemmas
+mod Breaking
 mod Placing
 mod Printed
 mod Settling

@@ -13,10 +13,10 @@ use Rattle.casdisk_script.specs.Judged.{HasJudged, answer_text}
 
 -- ---- what a place says
 
-of_file : (c : ConfigNumbers) (past : Past) → first_bad c (reverse past) ≡ first_bad_of c past
+pub of_file : (c : ConfigNumbers) (past : Past) → first_bad c (reverse past) ≡ first_bad_of c past
 of_file c past = ap (first_bad_of c) (reverse-reverse past)
 
-no_place : (c : ConfigNumbers) (past : Past) → None ≡ first_bad_of c past → IsLegal c past
+pub no_place : (c : ConfigNumbers) (past : Past) → None ≡ first_bad_of c past → IsLegal c past
 no_place c past e = subst (IsLegal c) (reverse-reverse past) (none_is_legal c (reverse past) (of_file c past ∙ sym e))
 
 pub answered_by : (c : ConfigNumbers) (past : Past) (bad : Option ℕ) → bad ≡ first_bad_of c past → IsAnswer c past (is_none bad) (answer_text bad)

@@ -6,4 +6,5 @@ pub mod Script
 pub mod Running
 pub mod Files
 pub mod Judged
+pub mod Explained
 pub mod Kinds
