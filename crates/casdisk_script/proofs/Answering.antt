@@ -1,14 +1,16 @@
 -- A check of a file, from what the reading of its lines gave.
-use Rattle.std.proofs.Common.{◌≡◌, ℕ, List, [], None, Some, inl, inr, sym, subst}
-use Rattle.std.specs.Prelude.{Bool, IfSome, Option, Result, Ok, Err}
+use Rattle.std.proofs.Common.{◌≡◌, ℕ, List, None, Some, inl, inr, sym, subst}
+use Rattle.std.specs.Prelude.{Bool, IfSome, Option, Result, Ok, Err, is_none}
 use Rattle.std.specs.Io.KnownBytes.{Appends}
 use Rattle.std.proofs.KnownBytes.{Keeps-refl}
 use Rattle.line_text.specs.Known.{AppendsFront}
 use Rattle.line_text.specs.Lines.{whole_lines}
-use Rattle.nvme_model.specs.History.{Past}
 use Rattle.nvme_model.specs.declared.config.ConfigNumbers.{ConfigNumbers}
-use Rattle.casdisk_script.specs.Files.{ChecksText, EndsUnsaid, IsAnswer, IsAnswerOf, Tells, entry_added}
-use Rattle.casdisk_script.specs.Running.{Makes, PrintsAll, Reached, Runs}
+use Rattle.one_pass_check.specs.Kept.{State}
+use Rattle.casdisk_script.specs.Files.{ChecksText, EndsUnsaid, IsAnswerOf, entry_added}
+use Rattle.casdisk_script.specs.Judged.{HasJudged, Tells, answer_text}
+use Rattle.casdisk_script.specs.Running.{Makes, PrintsAll, Runs}
+use Rattle.casdisk_script.proofs.Placing.{answered_by}
 use Rattle.casdisk_script.specs.Script.{End, bad_config, bad_line, cut, first_config, outcome}
 use Rattle.casdisk_script.specs.declared.fault.RunFault.{RunFault}
 use Rattle.casdisk_script.specs.declared.fault.RunFault.TheVariants.{BadLine, BadConfig, Input, Output, NoMemory}
@@ -28,11 +30,11 @@ module _ (t w u v : Option (List ℕ)) where
   stopped NoMemory r h = Keeps-refl v
 
 -- they were
-module _ (c : ConfigNumbers) (past : Past) (t w u v x : Option (List ℕ)) where
-  whole : (r : Option (List ℕ)) (answer : Bool) (text : List ℕ) → Runs (outcome (λ c. entry_added)) (Ok tt) r t w u → Makes (outcome (λ c. entry_added)) (Ok tt) r past
-      → IfSome r (λ bytes. first_config (whole_lines bytes) ≡ Some c) → IsAnswer c past answer text → IfSome r (λ bytes. IsAnswerOf bytes answer text)
-  whole None answer text ran makes known is = tt
-  whole (Some bytes) answer text ran makes known is = (ran.0.0, (c, known, subst (λ p. IsAnswer c p answer text) makes is))
+module _ (c : ConfigNumbers) (checker : State) (count : ℕ) (bad : Option ℕ) (t w u v x : Option (List ℕ)) where
+  whole : (r : Option (List ℕ)) → Runs (outcome (λ c. entry_added)) (Ok tt) r t w u → Makes (outcome (λ c. entry_added)) (Ok tt) r (λ past. HasJudged c past checker count bad)
+      → IfSome r (λ bytes. first_config (whole_lines bytes) ≡ Some c) → IfSome r (λ bytes. IsAnswerOf bytes (is_none bad) (answer_text bad))
+  whole None ran makes known = tt
+  whole (Some bytes) ran makes known = (ran.0.0, (c, known, answered_by c (outcome (λ c. entry_added) bytes).past bad makes.place))
 
   with_text : (r : Option (List ℕ)) (answer : Bool) (text : List ℕ) → IfSome r (λ bytes. IsAnswerOf bytes answer text) → Appends v x text
       → IfSome r (λ bytes. (text : List ℕ) × IsAnswerOf bytes answer text × Appends v x text)
@@ -44,16 +46,12 @@ module _ (c : ConfigNumbers) (past : Past) (t w u v x : Option (List ℕ)) where
   with_front None answer text is p = tt
   with_front (Some bytes) answer text is p = (answer, text, is, p)
 
-  pub answered : (res : Result Bool RunFault) (r : Option (List ℕ)) → Runs (outcome (λ c. entry_added)) (Ok tt) r t w u → Makes (outcome (λ c. entry_added)) (Ok tt) r past
-      → IfSome r (λ bytes. first_config (whole_lines bytes) ≡ Some c) → Tells c past res v x → ChecksText res r t v x
-  answered (Ok answer) r ran makes known told = (ran.1, with_text r answer told.0 (whole r answer told.0 ran makes known told.1) told.2)
+  pub answered : (res : Result Bool RunFault) (r : Option (List ℕ)) → Runs (outcome (λ c. entry_added)) (Ok tt) r t w u → Makes (outcome (λ c. entry_added)) (Ok tt) r (λ past. HasJudged c past checker count bad)
+      → IfSome r (λ bytes. first_config (whole_lines bytes) ≡ Some c) → Tells bad res v x → ChecksText res r t v x
+  answered (Ok answer) r ran makes known told =
+      (ran.1, with_text r answer (answer_text bad) (subst (λ b. IfSome r (λ bytes. IsAnswerOf bytes b (answer_text bad))) (sym told.0) (whole r ran makes known)) told.1)
   answered (Err (BadLine n)) r ran makes known told = absurd told
   answered (Err (BadConfig n)) r ran makes known told = absurd told
   answered (Err Input) r ran makes known told = absurd told
-  answered (Err Output) r ran makes known told = inr (with_front r told.0 told.1 (whole r told.0 told.1 ran makes known told.2) told.3)
-  answered (Err NoMemory) r ran makes known told = told
-
--- no entry is there yet
-pub begun_with : (past : Past) (r s w v : Option (List ℕ)) (held : List ℕ) → past ≡ [] → Reached (outcome (λ c. entry_added)) entry_added [] 2 r s w v held
-    → Reached (outcome (λ c. entry_added)) entry_added past 2 r s w v held
-begun_with past r s w v held none begun = subst (λ p. Reached (outcome (λ c. entry_added)) entry_added p 2 r s w v held) (sym none) begun
+  answered (Err Output) r ran makes known told = inr (with_front r (is_none bad) (answer_text bad) (whole r ran makes known) told)
+  answered (Err NoMemory) r ran makes known told = absurd told

@@ -1,6 +1,8 @@
 pub mod Beginning
 mod Answering
 mod KindsLemmas
+mod Breaking
+mod Placing
 mod Printed
 mod Settling
 mod Stepping

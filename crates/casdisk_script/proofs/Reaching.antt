@@ -2,7 +2,7 @@
 use Rattle.std.proofs.Common.{◌≡◌, ℕ, ◌+◌, List, [], ◌∷◌, ◌++◌, None, Some, inl, inr, refl, sym, ap, ◌∙◌, subst, append_assoc, append-nil}
 use Rattle.std.specs.Prelude.{IfSome, Option, Result, Ok, Err}
 use Rattle.std.specs.Io.KnownBytes.{Appends, Keeps, IsAtEnd}
-use Rattle.std.proofs.KnownBytes.{Appends-trans, Appends-kept, Consumes-trans, Consumes-whole}
+use Rattle.std.proofs.KnownBytes.{Appends-nil, Appends-trans, Appends-kept, Consumes-nil, Consumes-trans, Consumes-whole}
 use Rattle.line_text.specs.Known.{AppendsFront}
 use Rattle.line_text.specs.Lines.{NoFeed, Gives, GivesFront, whole_lines, rest_line}
 use Rattle.line_text.proofs.Known.{front_first, front_second, known_input}
@@ -65,6 +65,11 @@ print_nothing meaning past n (b ∷ bs) = ap (λ (o : Outcome). o.text) (print_c
 open_end : (meaning : Meaning) (past : Past) (n : ℕ) (rest : List ℕ) → IsOpen (lines_print meaning past n [] rest).end
 open_end meaning past n [] = subst (λ (o : Outcome). IsOpen o.end) (sym (print_end meaning past n)) tt
 open_end meaning past n (b ∷ bs) = subst (λ (o : Outcome). IsOpen o.end) (sym (print_cut meaning past n b bs)) tt
+
+-- ---- no call yet
+
+pub begins : (meaning : Meaning) (past : Past) (n : ℕ) (r w : Option (List ℕ)) (held : List ℕ) → Reached (lines_from meaning past n held) meaning past n r r w w held
+begins meaning past n r w held = record { bytes = []; consumed = Consumes-nil r; out = []; written = Appends-nil w; agrees = λ more. refl }
 
 -- ---- the next call
 
@@ -149,17 +154,18 @@ module _ (outcome : List ℕ → Outcome) (meaning : Meaning) (past : Past) (n :
       Consumes-whole r t (at.bytes ++ g.bytes) (λ bytes. ((outcome bytes).end ≡ e) × Appends w v (outcome bytes).text) (Consumes-trans r s t at.bytes g.bytes at.consumed g.consumed) end
       (ap (λ (o : Outcome). o.end) is, subst (Appends w v) text at.written)
 
-  -- the history that the whole input makes is the one by now
-  pub makes_last : (after line : List ℕ) (e : End) → Gives s t held after line → NoFeed line → after ≡ [] → IsAtEnd t → lines_print meaning past n [] line ≡ ending e past → IfSome r (λ bytes. past ≡ (outcome bytes).past)
-  makes_last after line e g plain none end p =
+  -- what holds of the history by now holds of the one that the whole input makes
+  pub makes_last : (after line : List ℕ) (e : End) (Stands : Past → Type 0) → Stands past → Gives s t held after line → NoFeed line → after ≡ [] → IsAtEnd t → lines_print meaning past n [] line ≡ ending e past
+      → IfSome r (λ bytes. Stands (outcome bytes).past)
+  makes_last after line e Stands stands g plain none end p =
       let last = rest_is_last s t held after line g plain none in
       let is : outcome (at.bytes ++ g.bytes) ≡ prefixed at.out (ending e past) =
       at.agrees g.bytes
       ∙ ap (λ l. prefixed at.out (lines_print meaning past n l (rest_line (held ++ g.bytes)))) last.0
       ∙ ap (λ l. prefixed at.out (lines_print meaning past n [] l)) last.1
       ∙ ap (prefixed at.out) p in
-      Consumes-whole r t (at.bytes ++ g.bytes) (λ bytes. past ≡ (outcome bytes).past) (Consumes-trans r s t at.bytes g.bytes at.consumed g.consumed) end
-      (ap (λ (o : Outcome). o.past) (sym is))
+      Consumes-whole r t (at.bytes ++ g.bytes) (λ bytes. Stands (outcome bytes).past) (Consumes-trans r s t at.bytes g.bytes at.consumed g.consumed) end
+      (subst Stands (ap (λ (o : Outcome). o.past) (sym is)) stands)
 
 -- ---- the answer of a run
 
@@ -210,9 +216,9 @@ runs_after outcome meaning past n r s t w v u held (Err Output) at p = front_aft
 runs_after outcome meaning past n r s t w v u held (Err NoMemory) at p = front_after outcome meaning past n r s t w v u held at p
 
 -- and the history that it makes is the one that the whole run does
-pub makes_after : (outcome : List ℕ → Outcome) (meaning : Meaning) (past : Past) (n : ℕ) (r s w v : Option (List ℕ)) (held : List ℕ) (res : Result (Unit {0}) RunFault) (now : Past) → Reached outcome meaning past n r s w v held
-    → Makes (lines_from meaning past n held) res s now → Makes outcome res r now
-makes_after outcome meaning past n r s w v held (Err f) now at p = tt
-makes_after outcome meaning past n None s w v held (Ok x) now at p = tt
-makes_after outcome meaning past n (Some x) None w v held (Ok z) now at p = absurd at.consumed
-makes_after outcome meaning past n (Some x) (Some y) w v held (Ok z) now at p = p ∙ ap (λ (o : Outcome). o.past) (sym (ap outcome at.consumed ∙ at.agrees y))
+pub makes_after : (outcome : List ℕ → Outcome) (meaning : Meaning) (past : Past) (n : ℕ) (r s w v : Option (List ℕ)) (held : List ℕ) (res : Result (Unit {0}) RunFault) (Stands : Past → Type 0) → Reached outcome meaning past n r s w v held
+    → Makes (lines_from meaning past n held) res s Stands → Makes outcome res r Stands
+makes_after outcome meaning past n r s w v held (Err f) Stands at p = tt
+makes_after outcome meaning past n None s w v held (Ok x) Stands at p = tt
+makes_after outcome meaning past n (Some x) None w v held (Ok z) Stands at p = absurd at.consumed
+makes_after outcome meaning past n (Some x) (Some y) w v held (Ok z) Stands at p = subst Stands (ap (λ (o : Outcome). o.past) (sym (ap outcome at.consumed ∙ at.agrees y))) p

@@ -35,13 +35,6 @@ IsAnswer c past true text = IsLegal c past × (text ≡ legal_text)
 IsAnswer c past false text =
     (place : ℕ) × IsFirstBad c (reverse past) place × (text ≡ bad_text place)
 
--- the line was written, or a beginning of it, or nothing
-abbrev pub Tells : ConfigNumbers → Past → Result Bool RunFault → Option (List ℕ) → Option (List ℕ) → Type 0
-Tells c past (Ok answer) old new = (text : List ℕ) × IsAnswer c past answer text × Appends old new text
-Tells c past (Err Output) old new = (answer : Bool) × (text : List ℕ) × IsAnswer c past answer text × AppendsFront old new text
-Tells c past (Err NoMemory) old new = Keeps old new
-Tells c past (Err f) old new = ⊥
-
 -- the same of a file whose lines are all read
 abbrev pub IsAnswerOf : List ℕ → Bool → List ℕ → Type 0
 IsAnswerOf input answer text =

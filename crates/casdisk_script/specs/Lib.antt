@@ -5,4 +5,6 @@ pub mod Doing
 pub mod Script
 pub mod Running
 pub mod Files
+pub mod Judged
+pub mod Explained
 pub mod Kinds

@@ -10,11 +10,11 @@ use Rattle.casdisk_script.specs.declared.meaning.Taken.TheVariants.{Done, Bad}
 abbrev pub Meaning : Type 0
 Meaning = Past → List ℕ → Option (Past × List ℕ)
 
--- the line was done, and its text was written; or it is bad, and nothing was
-abbrev pub TakesLine : Taken → Meaning → Meaning → Past → Past → List ℕ → Option (List ℕ) → Option (List ℕ) → Type 0
-TakesLine Done meaning later before after line old new =
-    (x : Past × List ℕ) × (meaning before line ≡ Some x) × (after ≡ x.0) × (later ≡ meaning) × Appends old new x.1
-TakesLine Bad meaning later before after line old new = (meaning before line ≡ None) × Keeps old new
+-- the line was done, `Stands` holds of the history then, and its text was written; or it is bad, and nothing was
+abbrev pub TakesLine : Taken → Meaning → Meaning → Past → (Past → Type 0) → List ℕ → Option (List ℕ) → Option (List ℕ) → Type 0
+TakesLine Done meaning later before Stands line old new =
+    (x : Past × List ℕ) × (meaning before line ≡ Some x) × Stands x.0 × (later ≡ meaning) × Appends old new x.1
+TakesLine Bad meaning later before Stands line old new = (meaning before line ≡ None) × Keeps old new
 
 -- what a line prints
 abbrev pub text_of : Option (Past × List ℕ) → List ℕ

@@ -31,10 +31,10 @@ Runs outcome (Err Input) input left old new = PrintsRead outcome input left old 
 Runs outcome (Err Output) input left old new = PrintsFront outcome input left old new
 Runs outcome (Err NoMemory) input left old new = PrintsFront outcome input left old new
 
--- where all was read, the history is the one that the input makes
-abbrev pub Makes : (List ℕ → Outcome) → Result (Unit {0}) RunFault → Option (List ℕ) → Past → Type 0
-Makes outcome (Ok x) input past = IfSome input (λ bytes. past ≡ (outcome bytes).past)
-Makes outcome (Err f) input past = Unit {0}
+-- where all was read, `Stands` holds of the history that the input makes
+abbrev pub Makes : (List ℕ → Outcome) → Result (Unit {0}) RunFault → Option (List ℕ) → (Past → Type 0) → Type 0
+Makes outcome (Ok x) input Stands = IfSome input (λ bytes. Stands (outcome bytes).past)
+Makes outcome (Err f) input Stands = Unit {0}
 
 -- what the lines from number n on print, some of their bytes held already
 abbrev pub lines_from : Meaning → Past → ℕ → List ℕ → List ℕ → Outcome
@@ -47,3 +47,9 @@ pub record Reached (outcome : List ℕ → Outcome) (meaning : Meaning) (past : 
   pub out : List ℕ
   pub written : Appends w v out
   pub agrees : (more : List ℕ) → outcome (bytes ++ more) ≡ prefixed out (lines_from meaning past n held more)
+
+-- the same, for a history of which `Stands` holds
+pub record Reaches (Stands : Past → Type 0) (outcome : List ℕ → Outcome) (meaning : Meaning) (n : ℕ) (r s w v : Option (List ℕ)) (held : List ℕ) : Type 0 where
+  pub past : Past
+  pub stands : Stands past
+  pub reached : Reached outcome meaning past n r s w v held

@@ -3,14 +3,13 @@
 ghost use Rattle.std.specs.Prelude.{OnErr, OnOk};
 ghost use Rattle.std.specs.Io.KnownBytes.{Appends};
 ghost use Rattle.line_text.specs.Known.{AppendsFront};
-ghost use Rattle.casdisk_script.specs.Files.{ChecksText, Tells, bad_text};
+ghost use Rattle.casdisk_script.specs.Files.{ChecksText, bad_text};
+ghost use Rattle.casdisk_script.specs.Judged.{Tells};
 
-use crate::entries::Entries;
 use crate::fault::RunFault;
 use crate::first_line::read_first;
+use crate::judging::Judge;
 use crate::running::run_lines;
-use history::{Config, History};
-use history_check::{CheckFault, check};
 use line_text::{Lines, Word, send, send_words};
 use std::alloc::Global;
 use std::io::{Read, Result as IoResult, Write};
@@ -27,25 +26,19 @@ fn send_bad<W: Write>(place: u64, writer: &mut W) -> IoResult<()>
     send(writer, b"\n")
 }
 
-// Checks a history, and writes whether it is legal, or where it isn't.
-fn tell_answer<W: Write>(
-    alloc: Global,
-    config: &Config,
-    history: &History,
-    writer: &mut W,
-) -> Result<bool, RunFault>
-    ensures told { Tells config.now history.now.past result (W.contents writer.old) (W.contents writer.new) }
+// Writes `legal`, or `bad at K` with this place, and says which.
+fn tell_answer<W: Write>(bad: Option<u64>, writer: &mut W) -> Result<bool, RunFault>
+    ensures told { Tells bad result (W.contents writer.old) (W.contents writer.new) }
 {
-    match check(alloc, config, history.as_slice()) {
-        Ok(()) => match send(writer, b"legal\n") {
+    let Some(place) = bad else {
+        return match send(writer, b"legal\n") {
             Ok(()) => Ok(true),
             Err(_) => Err(RunFault::Output),
-        },
-        Err(CheckFault::BadAt(place)) => match send_bad(place, writer) {
-            Ok(()) => Ok(false),
-            Err(_) => Err(RunFault::Output),
-        },
-        Err(CheckFault::NoMemory) => Err(RunFault::NoMemory),
+        };
+    };
+    match send_bad(place, writer) {
+        Ok(()) => Ok(false),
+        Err(_) => Err(RunFault::Output),
     }
 }
 
@@ -69,11 +62,10 @@ pub fn check_text<R: Read, W: Write>(
     };
     let mut line = Vec::new(alloc);
     let config = read_first(alloc, &mut lines, &mut line, reader)?;
-    let mut entries = Entries {
-        alloc,
-        history: History::new(alloc),
+    let Ok(mut judge) = Judge::new(alloc, &config) else {
+        return Err(RunFault::NoMemory);
     };
     let mut unprinted: Vec<u8> = Vec::new(alloc);
-    run_lines(&mut entries, &mut lines, &mut line, reader, &mut unprinted)?;
-    tell_answer(alloc, &config, &entries.history, writer)
+    run_lines(&mut judge, &mut lines, &mut line, reader, &mut unprinted)?;
+    tell_answer(judge.bad, writer)
 }

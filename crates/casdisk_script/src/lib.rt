@@ -2,9 +2,10 @@
 #![tactic(auto)]
 
 mod checking;
-mod entries;
+mod explaining;
 mod fault;
 mod first_line;
+mod judging;
 mod machine;
 mod meaning;
 mod printing;
@@ -15,6 +16,7 @@ mod script;
 mod usage;
 
 pub use crate::checking::check_text;
+pub use crate::explaining::{BadStep, Explained, explain_text};
 pub use crate::fault::RunFault;
 pub use crate::meaning::{LineMeaning, Taken, WriteFault};
 pub use crate::program::run_program;

@@ -129,7 +129,7 @@ impl Machine {
 }
 
 impl LineMeaning for Machine {
-    ghost past = { λ m. m.core.past };
+    ghost stands = { λ m c past. m.core.past ≡ past };
 
     ghost meaning = { λ m. script_line m.core.config m.kinds.0 };
 

@@ -2,6 +2,7 @@
 
 ghost use Rattle.std.specs.Prelude.{ℕ, List, IfOk, OnErr};
 ghost use Rattle.nvme_model.specs.History.{Past};
+ghost use Rattle.nvme_model.specs.declared.config.ConfigNumbers.{ConfigNumbers};
 ghost use Rattle.casdisk_script.specs.Meaning.{Meaning, TakesLine, StopsInLine};
 
 use std::io::Write;
@@ -26,14 +27,14 @@ pub enum WriteFault {
 
 /// What does the lines of a script behind the first.
 pub trait LineMeaning {
-    // the history that the lines so far have made
-    ghost past: { Self → Past };
+    // it is of this configuration, and this is the history that the lines so far have made
+    ghost stands: { Self → ConfigNumbers → Past → Type 0 };
 
     // what a line then does to a history, and prints
     ghost meaning: { Self → Meaning };
 
     /// Does what a line says and writes its text, or a beginning of it.
     fn take_line<W: Write>(&mut self, line: &[u8], writer: &mut W) -> Result<Taken, WriteFault>
-        ensures taken { IfOk result (λ taken. TakesLine taken (meaning self.old) (meaning self.new) (past self.old) (past self.new) line.now (W.contents writer.old) (W.contents writer.new)) }
-        ensures stopped { OnErr result (StopsInLine (meaning self.old) (past self.old) line.now (W.contents writer.old) (W.contents writer.new)) };
+        ensures taken { (c : ConfigNumbers) (past : Past) → stands self.old c past → IfOk result (λ taken. TakesLine taken (meaning self.old) (meaning self.new) past (stands self.new c) line.now (W.contents writer.old) (W.contents writer.new)) }
+        ensures stopped { (c : ConfigNumbers) (past : Past) → stands self.old c past → OnErr result (StopsInLine (meaning self.old) past line.now (W.contents writer.old) (W.contents writer.new)) };
 }

@@ -1,6 +1,7 @@
 //! The whole program, over any runtime.
 
 use crate::checking::check_text;
+use crate::explaining::{Explained, config_words, explain_text};
 use crate::fault::RunFault;
 use crate::request::{Asked, UsageFault};
 use crate::script::run_script;
@@ -44,6 +45,7 @@ fn finish<R: Files + Print + Eprint + AllocGlobal>(rt: &R, what: Asked<'_>) -> E
     let outcome = match what {
         Asked::Run { kinds, file } => run_file(rt, kinds, file),
         Asked::Check { file } => check_file(rt, file),
+        Asked::Explain { file } => explain_file(rt, file),
         Asked::Show(text) => match rt.print(text.as_str()) {
             Ok(()) => Ok(0),
             Err(_) => Err(RunFault::Output),
@@ -79,4 +81,28 @@ fn check_file<R: Files + Print + AllocGlobal>(rt: &R, file: &str) -> Result<u8, 
         true => Ok(0),
         false => Ok(1),
     }
+}
+
+// Explains a history, and gives the status 0 where it is legal, 1 where it isn't, else that of the fault. Behind the words of
+// a refused configuration it says what its number means.
+fn explain_file<R: Files + Print + Eprint + AllocGlobal>(
+    rt: &R,
+    file: &str,
+) -> Result<u8, RunFault> {
+    let mut input = fs::open(rt, file).map_err(|_| RunFault::Input)?;
+    let explained = match explain_text(rt.alloc(), &mut input) {
+        Ok(explained) => explained,
+        Err(RunFault::BadConfig(number)) => {
+            let fault = RunFault::BadConfig(number);
+            let _ = rt.eprintln(fault);
+            let _ = rt.eprintln(config_words(number));
+            return Ok(fault.status());
+        }
+        Err(fault) => return Err(fault),
+    };
+    let status = if explained == Explained::Legal { 0 } else { 1 };
+    if rt.println(explained).is_err() {
+        return Err(RunFault::Output);
+    }
+    Ok(status)
 }

@@ -10,6 +10,8 @@ pub enum Asked<'a> {
     Run { kinds: Kinds, file: &'a str },
     /// To check the history in this file.
     Check { file: &'a str },
+    /// To check the history in this file, and say what is wrong with its first bad line.
+    Explain { file: &'a str },
     /// To print this text, of `--help` or `--version`.
     Show(String),
 }

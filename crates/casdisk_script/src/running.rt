@@ -1,6 +1,8 @@
 //! The lines of a script, one after the other.
 
 ghost use Rattle.std.specs.Prelude.{◌≡◌};
+ghost use Rattle.nvme_model.specs.History.{Past};
+ghost use Rattle.nvme_model.specs.declared.config.ConfigNumbers.{ConfigNumbers};
 ghost use Rattle.casdisk_script.specs.Fault.{fault_of_read, fault_of_write};
 ghost use Rattle.casdisk_script.specs.Running.{Makes, Runs, lines_from};
 
@@ -44,8 +46,8 @@ pub fn run_lines<M: LineMeaning, R: Read, W: Write>(
     reader: &mut R,
     writer: &mut W,
 ) -> Result<(), RunFault>
-    ensures runs { Runs (lines_from (M.meaning machine.old) (M.past machine.old) 2 lines.old) result (R.remaining reader.old) (R.remaining reader.new) (W.contents writer.old) (W.contents writer.new) }
-    ensures makes { Makes (lines_from (M.meaning machine.old) (M.past machine.old) 2 lines.old) result (R.remaining reader.old) (M.past machine.new) }
+    ensures runs { (c : ConfigNumbers) (past : Past) → M.stands machine.old c past → Runs (lines_from (M.meaning machine.old) past 2 lines.old) result (R.remaining reader.old) (R.remaining reader.new) (W.contents writer.old) (W.contents writer.new) }
+    ensures makes { (c : ConfigNumbers) (past : Past) → M.stands machine.old c past → Makes (lines_from (M.meaning machine.old) past 2 lines.old) result (R.remaining reader.old) (M.stands machine.new c) }
 {
     for number in 2..u64::MAX {
         match lines.next_line(reader, line) {

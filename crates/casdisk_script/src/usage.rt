@@ -78,6 +78,19 @@ fn check_command<'a>(alloc: Global) -> Result<Command<'a>, AllocError> {
         .arg(file)
 }
 
+fn explain_command<'a>(alloc: Global) -> Result<Command<'a>, AllocError> {
+    let file = Arg::new(alloc, "FILE")
+        .help("The history")
+        .required(true)
+        .action(ArgAction::Set);
+    Command::new(alloc, "explain")
+        .about(
+            "Checks a history like 'check', and says behind 'bad at K' which rule its line breaks",
+        )
+        .after_help(ABOUT_HISTORIES)
+        .arg(file)
+}
+
 fn command<'a>(alloc: Global) -> Result<Command<'a>, AllocError> {
     Command::new(alloc, "casdisk")
         .version("0.1.0")
@@ -85,7 +98,8 @@ fn command<'a>(alloc: Global) -> Result<Command<'a>, AllocError> {
         .after_help(ABOUT_SCRIPTS)
         .subcommand_required(true)
         .subcommand(run_command(alloc)?)?
-        .subcommand(check_command(alloc)?)
+        .subcommand(check_command(alloc)?)?
+        .subcommand(explain_command(alloc)?)
 }
 
 /// The kinds that a text names, joined by commas; a name twice counts once.
@@ -114,6 +128,13 @@ fn text_of(alloc: Global, words: &str) -> UsageFault {
 fn check_asked<'a>(alloc: Global, matches: &ArgMatches<'a>) -> Result<Asked<'a>, UsageFault> {
     match matches.get_str("FILE") {
         Some(file) => Ok(Asked::Check { file }),
+        None => Err(text_of(alloc, "error: no file")),
+    }
+}
+
+fn explain_asked<'a>(alloc: Global, matches: &ArgMatches<'a>) -> Result<Asked<'a>, UsageFault> {
+    match matches.get_str("FILE") {
+        Some(file) => Ok(Asked::Explain { file }),
         None => Err(text_of(alloc, "error: no file")),
     }
 }
@@ -155,6 +176,8 @@ pub fn asked<'a>(alloc: Global, words: &'a [String]) -> Result<Asked<'a>, UsageF
         Some((name, inner)) => {
             if name == "check" {
                 check_asked(alloc, inner)
+            } else if name == "explain" {
+                explain_asked(alloc, inner)
             } else {
                 run_asked(alloc, inner)
             }

@@ -1,6 +1,6 @@
 //! A ticket in flight: whether a Block fits it, and what it owes.
 
-ghost use Rattle.std.specs.Prelude.{◌≡◌, ◌≤◌, ◌<◌, ◌+◌, ◌++◌, ◌^◌, ◌&&◌, ◌||◌, [], None, Some, IfOk, IfSome, OnErr, OnOk, if◌then◌else◌, is_some, length, option_map, option_to_list, get_or, slice_get, true};
+ghost use Rattle.std.specs.Prelude.{◌≡◌, ◌≤◌, ◌<◌, ◌+◌, ◌++◌, ◌^◌, ◌&&◌, ◌||◌, [], None, Some, IfOk, IfSome, OnErr, OnOk, if◌then◌else◌, is_some, length, option_copied, option_map, option_to_list, get_or, slice_get, true};
 ghost use Rattle.entry_codec.specs.Cqe.{phase_bit};
 ghost use Rattle.nvme_model.specs.EntryBytes.{cqe_bytes};
 ghost use Rattle.nvme_model.specs.Tickets.{cids};
@@ -103,6 +103,20 @@ impl Flight {
         ensures value { result ≡ is_some self.now.unit }
     {
         self.unit.is_some()
+    }
+
+    /// The open unit.
+    pub(crate) fn unit(&self) -> Option<&OpenUnit>
+        ensures value { option_copied result ≡ self.now.unit }
+    {
+        self.unit.as_ref()
+    }
+
+    /// How many completions of it were posted, and how many of its units have their effect.
+    pub(crate) fn counts(&self) -> (u8, u64)
+        ensures value { result ≡ (self.now.posts, self.now.placed) }
+    {
+        (self.posts, self.placed)
     }
 
     /// Whether a `differs` ended it.
@@ -304,7 +318,7 @@ impl Flight {
     }
 
     // What it owes in all, where it has so many units.
-    fn owed(&self, count: u64) -> Owed
+    pub(crate) fn owed(&self, count: u64) -> Owed
         ensures value { (c : ConfigNumbers) → count ≡ length (units c self.now.ticket) → result ≡ owed_by c self.now }
     {
         match self.ticket.verdict() {
@@ -315,7 +329,7 @@ impl Flight {
     }
 
     // The bytes of its next completion with this status, by the head and the phase of its queues' rings.
-    fn completion(&self, status: Status, head: u16, phase: bool) -> [u8; 16]
+    pub(crate) fn completion(&self, status: Status, head: u16, phase: bool) -> [u8; 16]
         ensures value { result ≡ cqe_bytes head self.now.ticket.queue (get_or (cids self.now.ticket) self.now.posts 0) (phase_bit phase) status }
     {
         let cid = self.ticket.cid_at(self.posts);
@@ -346,7 +360,7 @@ impl Flight {
     }
 
     // The data beside its completion with this status.
-    fn data(&self, status: Status) -> &[u8]
+    pub(crate) fn data(&self, status: Status) -> &[u8]
         ensures value { result.now ≡ data_by self.now status }
     {
         if status.sct() == 0 && status.sc() == 0 && self.ticket.op() == Some(Op::Read) {
@@ -357,7 +371,7 @@ impl Flight {
 }
 
 // The status at a place of what is owed, from 0.
-fn status_at(owed: Owed, place: u8) -> Option<Status>
+pub(crate) fn status_at(owed: Owed, place: u8) -> Option<Status>
     ensures value { result ≡ slice_get owed place }
 {
     let mut left = owed;

@@ -2,6 +2,7 @@
 #![tactic(auto)]
 
 mod commands;
+mod explaining;
 mod flight;
 mod laws;
 mod unit;

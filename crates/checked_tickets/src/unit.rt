@@ -9,9 +9,11 @@ ghost use Rattle.checker_tables.specs.Effects.{answers_at, read_at, word_of};
 ghost use Rattle.checker_tables.specs.Judged.{agrees, are_right};
 ghost use Rattle.checker_tables.specs.Taken.{no_by};
 ghost use Rattle.checked_tickets.specs.Contents.{contents_in, first_some, fits_unit};
+ghost use Rattle.checked_tickets.specs.Explained.{due_in};
 
 use crate::commands::{Commands, has_compare, has_write};
 use block_array::{NoMemory, Volume};
+use broken_rules::{BlockDue, Words};
 use nvme_model::array::Range;
 use nvme_model::entry::{BlockLine, GrantLine};
 use nvme_model::operation::{Found, Op};
@@ -315,4 +317,29 @@ pub(crate) fn block_fits(
         )
         && (!block.effect || block.unit == placed)
         && are_right(unit.said.as_slice(), word_of(block.found), right)
+}
+
+/// What is due of the next Block of the open unit of a ticket with so many effects, where these answers are right.
+pub(crate) fn block_due(
+    ticket: &Commands,
+    placed: u64,
+    unit: &OpenUnit,
+    right: Option<&[bool]>,
+    block: &BlockLine,
+) -> BlockDue
+    requires some { 1 ≤ unit.now.line.range.blocks }
+    requires within { unit.now.line.range.slba + unit.now.line.range.blocks < 2 ^ 64 }
+    ensures value { result ≡ due_in ticket.now placed unit.now (option_copied right.entry) block.now }
+{
+    let range = unit.line.range.get();
+    let said = unit.said.as_slice();
+    BlockDue {
+        unit: unit.line.unit,
+        lba: range.slba + unit.made % u64::from(range.blocks),
+        word: Words::due(ticket.op(), range.blocks, unit.made),
+        marked: block.unit < placed,
+        may_mark: block.unit == placed,
+        earlier: are_right(said, None, right),
+        answers: are_right(said, word_of(block.found), right),
+    }
 }

@@ -54,7 +54,7 @@ use Rattle.checker_tables.proofs.Finding.{data_is}
 none_waits : (n k m : ℕ) → m ≡ n - k → k ≤ n → eqb n k ≡ eqb m 0
 none_waits n k m e l = grind (arith, nat_tests, e, l)
 
-get_drop : {X : Type 0} (n : ℕ) (xs : List X) → slice_get xs n ≡ slice_get (drop n xs) 0
+pub get_drop : {X : Type 0} (n : ℕ) (xs : List X) → slice_get xs n ≡ slice_get (drop n xs) 0
 get_drop zero [] = refl
 get_drop zero (x ∷ xs) = refl
 get_drop (suc n) [] = refl
@@ -113,7 +113,7 @@ conditions_is c past (Step.Reap q) h =
 
 -- ---- a Block
 
-right_is : (o : Option Past) (k : Ticket) (r : Range) (made : List BlockLine) → Saying (has_compare (op k)) r.slba r.blocks made
+pub right_is : (o : Option Past) (k : Ticket) (r : Range) (made : List BlockLine) → Saying (has_compare (op k)) r.slba r.blocks made
     → right_answers o k made ≡ are_right (option_map (λ before. answers_at (value before) k r) o) (said made)
 right_is None k r made h = refl
 right_is (Some before) k r made h = agrees_is (λ l. bytes_eq (value before l) (compare_data k l)) (has_compare (op k)) r.slba r.blocks made h
@@ -142,46 +142,61 @@ answers_are c past b g t u =
 pub made_is : (past : Past) (b : BlockLine) (g : GrantLine) → g.ticket ≡ b.ticket → b.unit ≡ g.unit → blocks_made (Entry.Block b ∷ past) b.ticket b.unit ≡ b ∷ blocks_made past g.ticket g.unit
 made_is past b g t u = same_made b b.ticket b.unit (blocks_made past b.ticket b.unit) refl refl ∙ (λ i. b ∷ blocks_made past (sym t i) (u i))
 
+-- the Block entries of the open unit of a Block's ticket
+module _ (c : ConfigNumbers) (past : Past) (b : BlockLine) (h : IsLegal c past) (g : GrantLine) (e : find (λ g. eqb g.ticket b.ticket) (open_units past) ≡ Some g) where
+  open_found : OpenFacts past g × (eqb g.ticket b.ticket ≡ true)
+  open_found = each_find (OpenFacts past) (λ x. eqb x.ticket b.ticket) (open_units past) g (open_facts c past h) e
+
+  pub open_ticket : g.ticket ≡ b.ticket
+  open_ticket = eqb-true g.ticket b.ticket open_found.1
+
+  same_op : op (Tickets.ticket past g.ticket) ≡ op (Tickets.ticket past b.ticket)
+  same_op = ap (λ i. op (Tickets.ticket past i)) open_ticket
+
+  pub open_saying : Saying (has_compare (op (Tickets.ticket past b.ticket))) g.range.slba g.range.blocks (blocks_made past g.ticket g.unit)
+  open_saying =
+      subst (λ (x : Range). Saying (has_compare (op (Tickets.ticket past b.ticket))) x.slba x.blocks (blocks_made past g.ticket g.unit)) open_found.0.facts.range
+      (subst (λ (o : Option Op). Saying (has_compare o) (unit_range past g.ticket g.unit).slba (unit_range past g.ticket g.unit).blocks (blocks_made past g.ticket g.unit)) same_op
+      (saying c past g.ticket g.unit h open_found.0.facts.known))
+
+  -- with this one
+  pub open_saying_more : eqb b.lba (g.range.slba + length (blocks_made past g.ticket g.unit) % g.range.blocks) ≡ true → may_find (op (Tickets.ticket past b.ticket)) g.range.blocks (length (blocks_made past g.ticket g.unit)) b.found ≡ true
+      → Saying (has_compare (op (Tickets.ticket past b.ticket))) g.range.slba g.range.blocks (b ∷ blocks_made past g.ticket g.unit)
+  open_saying_more l m =
+      let made = blocks_made past g.ticket g.unit in
+      saying_more (op (Tickets.ticket past b.ticket)) g.range.slba g.range.blocks b made open_saying
+      (subst (λ (x : Range). has_compare (op (Tickets.ticket past b.ticket)) ≡ true → length made ≤ x.blocks → list_all (λ y. comparing y.found) made ≡ true) open_found.0.facts.range
+      (subst (λ (o : Option Op). has_compare o ≡ true → length made ≤ (unit_range past g.ticket g.unit).blocks → list_all (λ y. comparing y.found) made ≡ true) same_op
+      (compare_words c past g.ticket g.unit h open_found.0.facts.known)))
+      (eqb-true _ _ l) m
+      (subst (λ (o : Option Op). nat_le (cond (is_pair o) (2 * g.range.blocks) g.range.blocks) (length made) ≡ false) same_op (or_parts _ _ open_found.0.goes_on).0)
+
+  -- the answers so far, and with this one, are right exactly where they are by the tables
+  pub earlier_right : b.unit ≡ g.unit
+      → right_answers (effect (Entry.Block b ∷ past) b.ticket b.unit) (Tickets.ticket past b.ticket) (blocks_made past g.ticket g.unit) ≡ are_right (right_after (value past) (flight past b.ticket) b (unit_of past g)) (said (blocks_made past g.ticket g.unit))
+  earlier_right u =
+      right_is (effect (Entry.Block b ∷ past) b.ticket b.unit) (Tickets.ticket past b.ticket) g.range (blocks_made past g.ticket g.unit) open_saying
+      ∙ ap (λ o. are_right o (said (blocks_made past g.ticket g.unit))) (answers_are c past b g open_ticket u)
+
+  pub answers_right : b.unit ≡ g.unit → eqb b.lba (g.range.slba + length (blocks_made past g.ticket g.unit) % g.range.blocks) ≡ true → may_find (op (Tickets.ticket past b.ticket)) g.range.blocks (length (blocks_made past g.ticket g.unit)) b.found ≡ true
+      → right_answers (effect (Entry.Block b ∷ past) b.ticket b.unit) (Tickets.ticket past b.ticket) (blocks_made (Entry.Block b ∷ past) b.ticket b.unit) ≡ are_right (right_after (value past) (flight past b.ticket) b (unit_of past g)) (said (b ∷ blocks_made past g.ticket g.unit))
+  answers_right u l m =
+      ap (λ (xs : List BlockLine). right_answers (effect (Entry.Block b ∷ past) b.ticket b.unit) (Tickets.ticket past b.ticket) xs) (made_is past b g open_ticket u)
+      ∙ right_is (effect (Entry.Block b ∷ past) b.ticket b.unit) (Tickets.ticket past b.ticket) g.range (b ∷ blocks_made past g.ticket g.unit) (open_saying_more l m)
+      ∙ ap (λ o. are_right o (said (b ∷ blocks_made past g.ticket g.unit))) (answers_are c past b g open_ticket u)
+
 block_is : (c : ConfigNumbers) (past : Past) (b : BlockLine) → IsLegal c past → block_fits past b (find (λ g. eqb g.ticket b.ticket) (open_units past)) ≡ block_fits_by (value past) (flight past b.ticket) b (open_unit past b.ticket)
 block_is c past b h = by (find (λ g. eqb g.ticket b.ticket) (open_units past)) refl
   where
     by : (o : Option GrantLine) → find (λ g. eqb g.ticket b.ticket) (open_units past) ≡ o → block_fits past b o ≡ block_fits_by (value past) (flight past b.ticket) b (option_map (unit_of past) o)
     by None e = refl
-    by (Some g) e = go (eqb b.unit g.unit && eqb b.lba (g.range.slba + j % g.range.blocks) && may_find (op k) g.range.blocks j b.found) refl
+    by (Some g) e = go (eqb b.unit g.unit && eqb b.lba (g.range.slba + length (blocks_made past g.ticket g.unit) % g.range.blocks) && may_find (op (Tickets.ticket past b.ticket)) g.range.blocks (length (blocks_made past g.ticket g.unit)) b.found) refl
       where
-        found : OpenFacts past g × (eqb g.ticket b.ticket ≡ true)
-        found = each_find (OpenFacts past) (λ x. eqb x.ticket b.ticket) (open_units past) g (open_facts c past h) e
-
-        t : g.ticket ≡ b.ticket
-        t = eqb-true g.ticket b.ticket found.1
-
         j : ℕ
         j = length (blocks_made past g.ticket g.unit)
 
         k : Ticket
         k = Tickets.ticket past b.ticket
-
-        -- the Block entries with this one
-        saying_now : eqb b.lba (g.range.slba + j % g.range.blocks) ≡ true → may_find (op k) g.range.blocks j b.found ≡ true → Saying (has_compare (op k)) g.range.slba g.range.blocks (b ∷ blocks_made past g.ticket g.unit)
-        saying_now l m =
-            let r = found.0.facts.range in
-            let known = found.0.facts.known in
-            let same : op (Tickets.ticket past g.ticket) ≡ op k = ap (λ i. op (Tickets.ticket past i)) t in
-            saying_more (op k) g.range.slba g.range.blocks b (blocks_made past g.ticket g.unit)
-            (subst (λ (x : Range). Saying (has_compare (op k)) x.slba x.blocks (blocks_made past g.ticket g.unit)) r
-            (subst (λ (o : Option Op). Saying (has_compare o) (unit_range past g.ticket g.unit).slba (unit_range past g.ticket g.unit).blocks (blocks_made past g.ticket g.unit)) same (saying c past g.ticket g.unit h known)))
-            (subst (λ (x : Range). has_compare (op k) ≡ true → length (blocks_made past g.ticket g.unit) ≤ x.blocks → list_all (λ y. comparing y.found) (blocks_made past g.ticket g.unit) ≡ true) r
-            (subst (λ (o : Option Op). has_compare o ≡ true → length (blocks_made past g.ticket g.unit) ≤ (unit_range past g.ticket g.unit).blocks → list_all (λ y. comparing y.found) (blocks_made past g.ticket g.unit) ≡ true) same
-            (compare_words c past g.ticket g.unit h known)))
-            (eqb-true _ _ l) m
-            (subst (λ (o : Option Op). nat_le (cond (is_pair o) (2 * g.range.blocks) g.range.blocks) (length (blocks_made past g.ticket g.unit)) ≡ false) same (or_parts _ _ found.0.goes_on).0)
-
-        right : b.unit ≡ g.unit → Saying (has_compare (op k)) g.range.slba g.range.blocks (b ∷ blocks_made past g.ticket g.unit)
-            → right_answers (effect (Entry.Block b ∷ past) b.ticket b.unit) k (blocks_made (Entry.Block b ∷ past) b.ticket b.unit) ≡ are_right (right_after (value past) (flight past b.ticket) b (unit_of past g)) (said (b ∷ blocks_made past g.ticket g.unit))
-        right u s =
-            ap (λ (xs : List BlockLine). right_answers (effect (Entry.Block b ∷ past) b.ticket b.unit) k xs) (made_is past b g t u)
-            ∙ right_is (effect (Entry.Block b ∷ past) b.ticket b.unit) k g.range (b ∷ blocks_made past g.ticket g.unit) s
-            ∙ ap (λ o. are_right o (said (b ∷ blocks_made past g.ticket g.unit))) (answers_are c past b g t u)
 
         go : (x : Bool) → (eqb b.unit g.unit && eqb b.lba (g.range.slba + j % g.range.blocks) && may_find (op k) g.range.blocks j b.found) ≡ x
             → (x && (not b.effect || may_be_effect past b.ticket b.unit) && right_answers (effect (Entry.Block b ∷ past) b.ticket b.unit) k (blocks_made (Entry.Block b ∷ past) b.ticket b.unit))
@@ -190,7 +205,7 @@ block_is c past b h = by (find (λ g. eqb g.ticket b.ticket) (open_units past)) 
         go true q =
             let a = and_parts (eqb b.unit g.unit && eqb b.lba (g.range.slba + j % g.range.blocks)) _ q in
             let d = and_parts (eqb b.unit g.unit) _ a.0 in
-            ap₂ (λ (y z : Bool). true && (not b.effect || y) && z) (may_is c past b.ticket b.unit h) (right (eqb-true b.unit g.unit d.0) (saying_now d.1 a.1))
+            ap₂ (λ (y z : Bool). true && (not b.effect || y) && z) (may_is c past b.ticket b.unit h) (answers_right c past b h g e (eqb-true b.unit g.unit d.0) d.1 a.1)
 
 -- ---- a Post
 

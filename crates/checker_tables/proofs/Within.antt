@@ -36,7 +36,7 @@ module _ (f g : ℕ → List ℕ) (r : Range) (h : SameIn f g r) where
   read_same k = ap (λ (xs : List ℕ). cond (reads (op k)) xs []) (flat_same f g r.slba r.blocks h)
 
 module _ (f g : ℕ → List ℕ) (u : OpenUnit) (h : SameIn f g u.line.range) where
-  right_same : (x : Flight) (b : BlockLine) → right_after f x b u ≡ right_after g x b u
+  pub right_same : (x : Flight) (b : BlockLine) → right_after f x b u ≡ right_after g x b u
   right_same x b = ap (λ (xs : List Bool). cond b.effect (Some xs) u.right) (answers_same f g u.line.range h x.ticket)
 
   pub fits_same : (x : Flight) (b : BlockLine) → block_fits_by f x b (Some u) ≡ block_fits_by g x b (Some u)

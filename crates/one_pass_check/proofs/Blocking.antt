@@ -52,7 +52,7 @@ use Rattle.one_pass_check.proofs.Following.{legal_next, none_flies, took_not}
 -- ---- an open unit
 
 -- what holds of each granted unit holds of the one that is found open
-open_granted : (P : GrantLine → Type 0) (past : Past) (t : ℕ) (g : GrantLine) → Each P (granted past) → find (λ x. x.ticket == t) (open_units past) ≡ Some g → P g
+pub open_granted : (P : GrantLine → Type 0) (past : Past) (t : ℕ) (g : GrantLine) → Each P (granted past) → find (λ x. x.ticket == t) (open_units past) ≡ Some g → P g
 open_granted P past t g all e = (each_find P (λ x. x.ticket == t) (open_units past) g (each_filter P P (λ x. not (has_ended past x.ticket x.unit x.range.blocks)) (λ x p q. p) (granted past) all) e).0
 
 -- a Block leaves what its ticket is of
@@ -116,7 +116,7 @@ module _ (c : ConfigNumbers) (past : Past) (k : Kept) (keeps : Keeps c past k) (
   open_within g e = open_granted (λ x. x.range.slba + x.range.blocks ≤ c.blocks) past b.ticket g (units_in_volume c past keeps.legal_so_far) e
 
   -- and their contents are the values
-  same_in : (g : GrantLine) → find (λ x. x.ticket == b.ticket) (open_units past) ≡ Some g → SameIn (contents_in k.volume) (value past) g.range
+  pub same_in : (g : GrantLine) → find (λ x. x.ticket == b.ticket) (open_units past) ≡ Some g → SameIn (contents_in k.volume) (value past) g.range
   same_in g e l low high = keeps.shows.values l (omega (arith, open_within g e, high))
 
   module _ (i : ℕ) (x : InFlight) (there : IsThere c past b.ticket i x) where

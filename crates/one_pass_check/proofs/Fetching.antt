@@ -105,11 +105,11 @@ front_fields (x ∷ ws) q v first e = ap (λ (s : Submission). sqe_fields s.entr
     by (Said.PairFailed s t) = some_inj e
 
 -- an entry waits
-front_some : (ws : List Submission) (first : Submission) → slice_get ws 0 ≡ Some first → 0 < length ws
+pub front_some : (ws : List Submission) (first : Submission) → slice_get ws 0 ≡ Some first → 0 < length ws
 front_some [] first e = absurd cc
 front_some (x ∷ ws) first e = omega arith
 
-front_none : (ws : List Submission) → slice_get ws 0 ≡ None → length ws ≡ 0
+pub front_none : (ws : List Submission) → slice_get ws 0 ≡ None → length ws ≡ 0
 front_none [] e = refl
 front_none (x ∷ ws) e = absurd (let f : Some x ≡ None = e in cc)
 
@@ -173,10 +173,10 @@ form_unfit false true = refl
 form_unfit false false = refl
 
 module _ (c : ConfigNumbers) (past : Past) (k : Kept) (keeps : Keeps c past k) (l : FetchLine) (i : ℕ) (place : IsPlace c.pairs l.queue i) (r : SubmissionRing) (is : r ≡ get_or k.submission i r) where
-  ring_is : r ≡ submission_ring c (tables c past) l.queue
+  pub ring_is : r ≡ submission_ring c (tables c past) l.queue
   ring_is = ring_at (submission_ring c (tables c past)) c.pairs l.queue i k.submission r keeps.shows.sq_rings place is
 
-  waiting_is : r.waiting ≡ (tables c past).waiting l.queue
+  pub waiting_is : r.waiting ≡ (tables c past).waiting l.queue
   waiting_is = ap (λ (y : SubmissionRing). y.waiting) ring_is
 
   rule_is : judged c (tables c past) (Entry.Fetch l)
@@ -189,7 +189,7 @@ module _ (c : ConfigNumbers) (past : Past) (k : Kept) (keeps : Keeps c past k) (
       let empty = eq-eqb (length ((tables c past).waiting l.queue)) 0 (front_none ((tables c past).waiting l.queue) (ap (λ (xs : List Submission). slice_get xs 0) (sym waiting_is) ∙ e)) in
       took_not c past (Entry.Fetch l) after (rule_is ∙ ap (λ b. fetch_form false b (nat_le c.jobs (length (flying past))) ((l.ticket == Tickets.tickets past + 1) && same_verdict l.verdict (verdict_by c (tables c past) l.queue))) empty)
 
-  count_is : length k.flights ≡ length (flying past)
+  pub count_is : length k.flights ≡ length (flying past)
   count_is = ap length keeps.shows.in_flight ∙ length-map (flying past) (flight_in c (tables c past))
 
   -- as many are in flight as may be
@@ -202,10 +202,10 @@ module _ (c : ConfigNumbers) (past : Past) (k : Kept) (keeps : Keeps c past k) (
   module _ (first : Submission) (waits : slice_get r.waiting 0 ≡ Some first) (next : Option Item) (behind : next ≡ option_map item_of (slice_get r.waiting 1)) (room : length k.flights < c.jobs) (j : Judged)
       (all : List InFlight) (all_are : all ≡ k.flights) (verdict : matched.verdict_by j ≡ verdict_of c.atomic c.blocks (flat_map (λ e. cids_left l.queue e.flight) all) (waiting_items (item_of first) next))
       (operation : operation_in j ≡ op_by (matched.verdict_by j) (sqe_fields first.entry)) (names : NamesBlocks j (sqe_fields first.entry)) where
-    front : slice_get ((tables c past).waiting l.queue) 0 ≡ Some first
+    pub front : slice_get ((tables c past).waiting l.queue) 0 ≡ Some first
     front = ap (λ (xs : List Submission). slice_get xs 0) (sym waiting_is) ∙ waits
 
-    verdict_is : matched.verdict_by j ≡ verdict_by c (tables c past) l.queue
+    pub verdict_is : matched.verdict_by j ≡ verdict_by c (tables c past) l.queue
     verdict_is =
         verdict
         ∙ ap₂ (λ (cids : List ℕ) (o : Option Item). verdict_of c.atomic c.blocks cids (waiting_items (item_of first) o))

@@ -44,17 +44,17 @@ one_left false true k f = refl
 one_left false false true f = refl
 one_left false false false f = refl
 
-none_at : {X : Type 0} (xs : List X) (n : ℕ) → slice_get xs n ≡ None → nat_le (length xs) n ≡ true
+pub none_at : {X : Type 0} (xs : List X) (n : ℕ) → slice_get xs n ≡ None → nat_le (length xs) n ≡ true
 none_at [] n e = grind (arith, nat_tests)
 none_at (x ∷ xs) zero e = absurd (let f : Some x ≡ None = e in cc)
 none_at (x ∷ xs) (suc n) e = let ih : nat_le (length xs) n ≡ true = none_at xs n e in grind (arith, nat_tests, ih)
 
-some_at : {X : Type 0} (xs : List X) (n : ℕ) (x : X) → slice_get xs n ≡ Some x → nat_le (length xs) n ≡ false
+pub some_at : {X : Type 0} (xs : List X) (n : ℕ) (x : X) → slice_get xs n ≡ Some x → nat_le (length xs) n ≡ false
 some_at [] n x e = absurd (let f : None ≡ Some x = e in cc)
 some_at (y ∷ xs) zero x e = grind (arith, nat_tests)
 some_at (y ∷ xs) (suc n) x e = let ih : nat_le (length xs) n ≡ false = some_at xs n x e in grind (arith, nat_tests, ih)
 
-conflicts_is : (s : Tables) (held : List Held) (r : Range) (m : Mode) → held ≡ by_ticket (map held_of s.opens) → has_conflict held r m ≡ conflicts_by s m (Some r)
+pub conflicts_is : (s : Tables) (held : List Held) (r : Range) (m : Mode) → held ≡ by_ticket (map held_of s.opens) → has_conflict held r m ≡ conflicts_by s m (Some r)
 conflicts_is s held r m e =
     ap (λ (hs : List Held). has_conflict hs r m) e
     ∙ list_any-by_ticket (λ h. conflict r m h.range h.mode) (map held_of s.opens) ∙ has_conflict-map s.opens r m

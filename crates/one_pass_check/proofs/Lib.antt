@@ -9,3 +9,5 @@ pub mod Blocking
 pub mod Posting
 pub mod Reaping
 pub mod Standing
+pub mod Explaining
+pub mod Telling

@@ -185,15 +185,15 @@ module _ (c : ConfigNumbers) (past : Past) (k : Kept) (keeps : Keeps c past k) (
         (post_fits_by c (tables c past) p (slice_get (owed_by c (flight past p.ticket)) (flight past p.ticket).posts))) (sym (ap (owes_nothing c) flight_is) ∙ e))
 
     module _ (sr : SubmissionRing) (cr : CompletionRing) (sr_is : sr ≡ get_or k.submission (x.flight.ticket.queue - 1) sr) (cr_is : cr ≡ get_or k.completion ((x.flight.ticket.queue - 1) % c.cqs) cr) where
-      sq_is : sr ≡ submission_ring c (tables c past) (flight past p.ticket).ticket.queue
+      pub sq_is : sr ≡ submission_ring c (tables c past) (flight past p.ticket).ticket.queue
       sq_is = ring_at (submission_ring c (tables c past)) c.pairs x.flight.ticket.queue (x.flight.ticket.queue - 1) k.submission sr keeps.shows.sq_rings post_sq_place sr_is
           ∙ ap (λ (f : Flight). submission_ring c (tables c past) f.ticket.queue) flight_is
 
-      cq_is : cr ≡ completion_ring c (tables c past) (completion_queue c (flight past p.ticket).ticket.queue)
+      pub cq_is : cr ≡ completion_ring c (tables c past) (completion_queue c (flight past p.ticket).ticket.queue)
       cq_is = ring_at (completion_ring c (tables c past)) c.cqs (completion_queue c x.flight.ticket.queue) ((x.flight.ticket.queue - 1) % c.cqs) k.completion cr keeps.shows.cq_rings post_cq_place cr_is
           ∙ ap (λ (f : Flight). completion_ring c (tables c past) (completion_queue c f.ticket.queue)) flight_is
 
-      full_is : is_full cr ≡ (length ((tables c past).unreaped (completion_queue c (flight past p.ticket).ticket.queue)) == c.cq_size - 1)
+      pub full_is : is_full cr ≡ (length ((tables c past).unreaped (completion_queue c (flight past p.ticket).ticket.queue)) == c.cq_size - 1)
       full_is = ap is_full cq_is ∙ ap (λ n. n == c.cq_size - 1) (length-map ((tables c past).unreaped (completion_queue c (flight past p.ticket).ticket.queue)) bare)
 
       fits_is : post_fits_at sr.head (phase_bit cr.phase) x.flight p (slice_get (owed_by c x.flight) x.flight.posts) ≡ post_fits_by c (tables c past) p (slice_get (owed_by c (flight past p.ticket)) (flight past p.ticket).posts)

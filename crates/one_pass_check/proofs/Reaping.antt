@@ -39,7 +39,7 @@ module _ (c : ConfigNumbers) (past : Past) (k : Kept) (keeps : Keeps c past k) (
   ring_is : r ≡ completion_ring c (tables c past) l.queue
   ring_is = ring_at (completion_ring c (tables c past)) c.cqs l.queue i k.completion r keeps.shows.cq_rings place is
 
-  waiting_is : r.waiting ≡ map bare ((tables c past).unreaped l.queue)
+  pub waiting_is : r.waiting ≡ map bare ((tables c past).unreaped l.queue)
   waiting_is = ap (λ (y : CompletionRing). y.waiting) ring_is
 
   reap_judged : judged c (tables c past) (Entry.Reap l) ≡ reap_by false ((tables c past).unreaped l.queue) l.cqe

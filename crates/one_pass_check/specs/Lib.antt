@@ -1,3 +1,4 @@
 pub mod Rings
 pub mod Kept
 pub mod Steps
+pub mod Whys

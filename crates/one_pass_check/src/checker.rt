@@ -1,8 +1,9 @@
 //! The checker.
 
-ghost use Rattle.std.specs.Prelude.{◌≡◌, ◌∷◌, [], IfOk, OnErr};
+ghost use Rattle.std.specs.Prelude.{◌≡◌, ◌∷◌, [], IfOk, OnErr, is_none};
 ghost use Rattle.nvme_model.specs.History.{Past};
 ghost use Rattle.nvme_model.specs.Legal.{legal};
+ghost use Rattle.broken_rules.specs.Broken.{first_broken};
 ghost use Rattle.one_pass_check.specs.Kept.{Keeps, Stands, kept_in};
 ghost use Rattle.one_pass_check.specs.Steps.{Took};
 
@@ -13,7 +14,9 @@ use crate::grant::take_grant;
 use crate::post::take_post;
 use crate::publish::take_publish;
 use crate::reap::take_reap;
+use crate::why::why_broken;
 use block_array::NoMemory;
+use broken_rules::Broken;
 use history::{Config, Entry};
 use std::alloc::Global;
 use std::marker::Model;
@@ -95,5 +98,20 @@ impl Checker {
         let follows = take_entry(self.alloc, &self.config, &mut self.fields, entry)?;
         self.legal = follows;
         Ok(follows)
+    }
+
+    /// The first rule that an entry breaks behind those that were taken; None exactly where the entries with it are legal.
+    ///
+    /// # Errors
+    ///
+    /// `NoMemory` where a growth is refused.
+    pub fn why(&self, entry: &Entry) -> Result<Option<Broken>, NoMemory>
+        ensures first { (past : Past) → Stands self.now.config past self.now → IfOk result (λ b. b ≡ first_broken self.now.config past entry.now) }
+        ensures none { (past : Past) → Stands self.now.config past self.now → IfOk result (λ b. is_none b ≡ legal self.now.config (entry.now ∷ past)) }
+    {
+        if !self.legal {
+            return Ok(Some(Broken::Earlier));
+        }
+        why_broken(self.alloc, &self.config, &self.fields, entry)
     }
 }

@@ -12,21 +12,19 @@ ghost use Rattle.checker_tables.specs.Judged.{cids_left};
 ghost use Rattle.fused_match.specs.Judged.{NamesBlocks, operation_in, verdict_by, waiting_items};
 ghost use Rattle.nvme_model.specs.EntryBytes.{sqe_fields};
 ghost use Rattle.nvme_model.specs.Operations.{op_by};
-ghost use Rattle.nvme_model.specs.Statuses.{same_status};
 ghost use Rattle.nvme_model.specs.Verdict.{item_of, same_verdict, verdict_of};
-ghost use Rattle.nvme_model.specs.declared.status.Verdict.{Verdict};
 ghost use Rattle.one_pass_check.specs.Steps.{HasUnits, units_in};
 ghost use Rattle.rings.specs.Submissions.{advanced};
 
 use crate::fields::{Fields, InFlight, TicketUnits};
 use crate::places::ring_place;
 use block_array::NoMemory;
+use broken_rules::same_verdict;
 use checked_tickets::{Commands, Flight};
 use fused_match::{Item, Judged, judge};
 use history::Config;
 use nvme_model::array::Range;
 use nvme_model::entry::FetchLine;
-use nvme_model::status::{Status, Verdict};
 use nvme_model::submission::Submission;
 use rings::SqRing;
 use std::alloc::Global;
@@ -43,14 +41,14 @@ fn cids_in_use(alloc: Global, flights: &[InFlight], queue: u16) -> Result<Vec<u1
 }
 
 // What a check sees of the entry behind the first of a ring, if there is one.
-fn next_item(ring: &SqRing) -> Option<Item>
+pub(crate) fn next_item(ring: &SqRing) -> Option<Item>
     ensures value { result ≡ option_map item_of (slice_get ring.now.waiting 1) }
 {
     ring.peek(1).map(Item::of)
 }
 
 // What becomes of the entries at the front of a ring, where these tickets are in flight.
-fn judge_front(
+pub(crate) fn judge_front(
     alloc: Global,
     config: &Config,
     flights: &[InFlight],
@@ -71,45 +69,6 @@ fn judge_front(
         &config.units(),
         config.numbers().blocks,
     ))
-}
-
-// Whether two statuses are the same.
-fn same_status(status: Status, other: Status) -> bool
-    ensures value { result ≡ same_status status other }
-{
-    status.sct() == other.sct() && status.sc() == other.sc()
-}
-
-// Whether a verdict is that one command failed so.
-fn is_single_failed(verdict: Verdict, status: Status) -> bool
-    ensures value { result ≡ same_verdict (Verdict.SingleFailed status) verdict }
-{
-    match verdict {
-        Verdict::SingleFailed(other) => same_status(status, other),
-        _ => false,
-    }
-}
-
-// Whether a verdict is that a pair failed so.
-fn is_pair_failed(verdict: Verdict, first: Status, second: Status) -> bool
-    ensures value { result ≡ same_verdict (Verdict.PairFailed first second) verdict }
-{
-    match verdict {
-        Verdict::PairFailed(one, other) => same_status(first, one) && same_status(second, other),
-        _ => false,
-    }
-}
-
-// Whether two verdicts are the same.
-fn same_verdict(verdict: Verdict, other: Verdict) -> bool
-    ensures value { result ≡ same_verdict verdict other }
-{
-    match verdict {
-        Verdict::Single => matches!(other, Verdict::Single),
-        Verdict::Pair => matches!(other, Verdict::Pair),
-        Verdict::SingleFailed(status) => is_single_failed(other, status),
-        Verdict::PairFailed(first, second) => is_pair_failed(other, first, second),
-    }
 }
 
 // The units of a ticket.

@@ -28,7 +28,7 @@ fn is_exclusive(mode: Mode) -> bool
 }
 
 // The unit that a Grant would open.
-fn next_unit(one: &InFlight) -> Option<Range>
+pub(crate) fn next_unit(one: &InFlight) -> Option<Range>
     ensures value { result ≡ slice_get one.now.units one.now.flight.opened }
 {
     let units = one.units.as_slice();

@@ -10,5 +10,6 @@ mod places;
 mod post;
 mod publish;
 mod reap;
+mod why;
 
 pub use checker::Checker;

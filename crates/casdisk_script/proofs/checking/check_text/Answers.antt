@@ -1,8 +1,9 @@
-use Rattle.std.proofs.Common.{Err, None, Ok, Some}
+use Rattle.std.proofs.Common.{[], Err, None, Ok, Some}
 use Rattle.std.proofs.lemmas.Result.{err_from_is_err_and}
 use Rattle.casdisk_script.specs.Files.{entry_added}
+use Rattle.casdisk_script.specs.Judged.{HasJudged}
 use Rattle.casdisk_script.specs.Script.{outcome}
-use Rattle.casdisk_script.proofs.Answering.{answered, begun_with, stopped}
+use Rattle.casdisk_script.proofs.Answering.{answered, stopped}
 use Rattle.casdisk_script.proofs.Reaching.{makes_after, runs_after}
 use Rattle.casdisk_script.proofs.checking.check_text.Goals as goal
 
@@ -15,19 +16,21 @@ returns-in_err-config g c =
 pub returns-in_err-run_lines : goal.returns-in_err-run_lines
 returns-in_err-run_lines g c =
     let p = err_from_is_err_and c.from_residual-in_err-run_lines.result c.from_residual-in_err-run_lines.ensures.1 in
-    let past = c.new-2.result.past in
     let none = Some c.new-unprinted.result.items in
     let some = Some c.run_lines.new.writer.items in
-    let begun = begun_with past _ _ None none _ c.new-2.ensures (c.in_ok-config.ensures.begun (λ c'. entry_added) None none tt) in
-    let all = runs_after (outcome (λ c'. entry_added)) entry_added past 2 _ _ _ None none some _ (Err c.in_err-run_lines.field-0.0) begun c.in_err-run_lines.ensures.runs in
+    let begun = c.in_ok-config.ensures.begun (λ c'. entry_added) None none tt in
+    let ran = c.in_err-run_lines.ensures.runs c.in_ok-config.config [] c.in-Ok-new.ensures.begun in
+    let all = runs_after (outcome (λ c'. entry_added)) entry_added [] 2 _ _ _ None none some _ (Err c.in_err-run_lines.field-0.0) begun ran in
     rw (p.1, p.2) (record { checks = stopped _ None some (g.W.Write.contents c.args.writer.now) c.in_err-run_lines.field-0.0 _ all })
 
 pub returns : goal.returns
 returns g c =
-    let past = c.new-2.result.past in
     let none = Some c.new-unprinted.result.items in
     let some = Some c.run_lines.new.writer.items in
-    let begun = begun_with past _ _ None none _ c.new-2.ensures (c.in_ok-config.ensures.begun (λ c'. entry_added) None none tt) in
-    let all = runs_after (outcome (λ c'. entry_added)) entry_added past 2 _ _ _ None none some _ (Ok tt) begun c.in_ok-run_lines.ensures.runs in
-    let makes = makes_after (outcome (λ c'. entry_added)) entry_added past 2 _ _ None none _ (Ok tt) _ begun c.in_ok-run_lines.ensures.makes in
-    record { checks = answered c.in_ok-config.config c.run_lines.new.machine.history.past _ None some _ _ c.tell_answer.result _ all makes c.in_ok-config.ensures.config c.tell_answer.ensures.told }
+    let begun = c.in_ok-config.ensures.begun (λ c'. entry_added) None none tt in
+    let ran = c.in_ok-run_lines.ensures.runs c.in_ok-config.config [] c.in-Ok-new.ensures.begun in
+    let made = c.in_ok-run_lines.ensures.makes c.in_ok-config.config [] c.in-Ok-new.ensures.begun in
+    let all = runs_after (outcome (λ c'. entry_added)) entry_added [] 2 _ _ _ None none some _ (Ok tt) begun ran in
+    let judge = c.run_lines.new.machine in
+    let makes = makes_after (outcome (λ c'. entry_added)) entry_added [] 2 _ _ None none _ (Ok tt) (λ past. HasJudged c.in_ok-config.config past judge.checker judge.count judge.bad) begun made in
+    record { checks = answered c.in_ok-config.config judge.checker judge.count judge.bad _ None some _ _ c.tell_answer.result _ all makes c.in_ok-config.ensures.config c.tell_answer.ensures.told }
