@@ -13,5 +13,5 @@ pub use claim::Claim;
 pub use claiming::Claiming;
 pub use poll::poll_claim;
 pub use progress::{Progress, Released};
-pub use release::Releasing;
+pub use release::{Releasing, poll_release};
 pub use slots::Slots;
