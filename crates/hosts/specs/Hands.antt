@@ -78,6 +78,7 @@ module _ {G : Type 0} where
   pub record IsHostOf (hall : Hall G) (c : ConfigNumbers) (h : HostHand) : Type 0 where
     pub pass : IsFreshPass hall.engine c h.pass
     pub queue : (1 ≤ h.queue) × (h.queue ≤ c.cqs)
+    pub told : h.queue ≤ length hall.notices.items
     pub notices : IsPlaceAt hall (h.queue - 1) h.notices
 
   -- they are of what the hall shares, whatever the host has seen

@@ -45,7 +45,8 @@ fn works<R: Wait, G: Gate>(rt: &R, hall: &Hall<G>, mut own: WorkerHand) -> Resul
     worker(rt, hall, &mut own.hand, &mut own.notices)
 }
 
-type Handles = Vec<JoinHandle<Result<(), NoMemory>>>;
+/// The handles of threads that were started.
+pub type Handles = Vec<JoinHandle<Result<(), NoMemory>>>;
 
 // Starts a worker for each hand. At `Err` one couldn't be started, and those before it run.
 fn start_workers<'s, E, R: Threads + Wait + Sync, G: Gate + Sync>(
@@ -72,8 +73,12 @@ fn start_workers<'s, E, R: Threads + Wait + Sync, G: Gate + Sync>(
     Ok(())
 }
 
-// Joins all, and says whether one met no memory.
-fn join_each<R: Threads>(rt: &R, started: Handles) -> Result<(), NoMemory> {
+/// Joins all.
+///
+/// # Errors
+///
+/// `NoMemory` where one of the threads says so.
+pub fn join_each<R: Threads>(rt: &R, started: Handles) -> Result<(), NoMemory> {
     let mut ends = Ok(());
     for child in started {
         ends = ends.and(child.join(rt));
@@ -81,24 +86,32 @@ fn join_each<R: Threads>(rt: &R, started: Handles) -> Result<(), NoMemory> {
     ends
 }
 
-/// A fetcher of the submission queues from 1 to `queues`, and the workers, each on a thread of its own, until the stop
-/// flag is set. All threads are joined. The fetcher's hand comes back.
+/// A fetcher of the submission queues from 1 to `queues`, and the workers, each on a thread of its own, while `beside` runs
+/// on this one. When that has ended the stop flag is set, and all threads are joined. The fetcher's hand comes back, and
+/// what `beside` gave.
 ///
 /// # Errors
 ///
-/// `NoMemory` where a growth is refused or a thread couldn't be started. The stop flag is set then.
-pub fn run_crew<R: Threads + Wait + Sync, G: Gate + Sync>(
+/// `NoMemory` where a growth is refused, a thread couldn't be started, or `beside` says so. The stop flag is set then.
+pub fn run_crew<
+    R: Threads + Wait + Sync,
+    G: Gate + Sync,
+    T: Drop,
+    F: FnOnce() -> Result<T, NoMemory> + Drop,
+>(
     rt: &R,
     alloc: Global,
     hall: &Hall<G>,
     queues: u16,
     hand: Hand,
     workers: Vec<WorkerHand>,
-) -> Result<Hand, NoMemory>
+    beside: F,
+) -> Result<(Hand, T), NoMemory>
     requires some { 1 ≤ queues }
     requires hand { IsOf hall.now hand }
     requires workers { All (IsWorkerOf hall.now) workers.items }
-    ensures goes { IfOk result (Goes hall.now hand) }
+    requires beside { F.IsAlwaysCallable beside }
+    ensures goes { IfOk result (λ r. Goes hall.now hand r.0) }
 {
     let mut helpers: Handles = match Vec::with_capacity(alloc, workers.len()) {
         Ok(room) => room,
@@ -110,11 +123,12 @@ pub fn run_crew<R: Threads + Wait + Sync, G: Gate + Sync>(
     thread::scope(
         thread::scope_env(),
         rt,
-        |scope| -> Result<Hand, NoMemory>
+        |scope| -> Result<(Hand, T), NoMemory>
             requires some { 1 ≤ queues }
             requires own { IsOf hall.now hand × All (IsWorkerOf hall.now) workers.items }
             requires room { vec_len helpers + vec_len workers ≤ vec_capacity helpers }
-            ensures { IfOk result (Goes hall.entry.now hand) }
+            requires beside { F.IsAlwaysCallable beside }
+            ensures { IfOk result (λ r. Goes hall.entry.now hand r.0) }
         {
             let promise = ComesBack {
                 hall: Snapshot::of(hall),
@@ -133,14 +147,15 @@ pub fn run_crew<R: Threads + Wait + Sync, G: Gate + Sync>(
                     return Err(NoMemory);
                 }
             };
-            let mut ends = start_workers(rt, scope, hall, workers, &mut helpers);
-            if ends.is_err() {
-                hall.stop.set();
-            }
-            ends = ends.and(join_each(rt, helpers));
+            let given = match start_workers(rt, scope, hall, workers, &mut helpers) {
+                Ok(()) => beside(),
+                Err(why) => Err(why),
+            };
+            hall.stop.set();
+            let ends = join_each(rt, helpers);
             let (hand, end) = fetching.join(rt);
             ends.and(end)?;
-            Ok(hand)
+            Ok((hand, given?))
         },
     )
 }

@@ -81,7 +81,7 @@ fn worker_and_host<R: Threads + Wait + Sync>(
     good
 }
 
-// A fetcher on a thread of its own, a worker and a host.
+// A fetcher on a thread of its own, and beside it a worker and a host.
 fn all_three<R: Threads + Wait + Sync>(
     rt: &R,
     alloc: Global,
@@ -89,19 +89,20 @@ fn all_three<R: Threads + Wait + Sync>(
     fetcher: Hand,
     own: WorkerHand,
     host: HostHand,
-) -> (Result<Hand, NoMemory>, u16)
+) -> Result<(Hand, u16), NoMemory>
     requires { IsOf hall.now fetcher × IsWorkerOf hall.now own × IsListening hall.now host }
-    ensures { IfOk result.0 (IsOf hall.now) }
+    ensures { IfOk result (λ r. IsOf hall.now r.0) }
 {
-    join(
+    run_crew(
         rt,
-        move || -> Result<Hand, NoMemory>
-            requires { IsOf hall.now fetcher }
-            ensures { IfOk result (IsOf hall.entry.now) }
-        { run_crew(rt, alloc, hall, 1, fetcher, Vec::new(alloc)) },
-        move || -> u16
+        alloc,
+        hall,
+        1,
+        fetcher,
+        Vec::new(alloc),
+        move || -> Result<u16, NoMemory>
             requires { IsWorkerOf hall.now own × IsListening hall.now host }
-        { worker_and_host(rt, hall, own, host) },
+        { Ok(worker_and_host(rt, hall, own, host)) },
     )
 }
 
@@ -129,9 +130,8 @@ fn a_full_queue_keeps_each_work(rt: HostRuntime) -> Result<(), Fail> {
         batch.push(write_command(alloc, cid, 0, 1)?)?;
     }
     assert!(rt; publishes(&hall, &mut host.pass, 1, batch));
-    let (ended, good) = all_three(&rt, alloc, &hall, fetcher, own, host);
+    let (hand, good) = all_three(&rt, alloc, &hall, fetcher, own, host)?;
     assert_eq!(rt; good, u16::from(WRITES));
-    let hand = ended?;
     let Hall { engine, .. } = hall;
     let core = engine.close(hand.pass).ok_or("the lock isn't free")?;
     assert_eq!(rt; core.history().len(), 101);

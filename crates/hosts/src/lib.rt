@@ -20,7 +20,7 @@ mod telling;
 mod test_calls;
 mod working;
 
-pub use crew::run_crew;
+pub use crew::{Handles, join_each, run_crew};
 pub use fetching::fetcher;
 pub use gate::{Gate, OpenGate, Point};
 pub use hall::{Hall, Hand, Hands, HostHand, WorkerHand};

@@ -13,7 +13,7 @@ use history_check::check;
 use std::alloc::{AllocError as NoMemory, Global};
 use std::sync::Wait;
 use std::test::Fail;
-use std::thread::{Threads, join};
+use std::thread::Threads;
 
 /// How many Writes each submission queue has.
 const WRITES: u8 = 3;
@@ -56,7 +56,7 @@ fn send_all(alloc: Global, hall: &Hall<OpenGate>, hosts: &mut Vec<HostHand>) -> 
     Ok(())
 }
 
-// Reaps so many completions of each host's queue, and ends the crew; how many say success.
+// Reaps so many completions of each host's queue; how many say success.
 fn ends<R: Wait>(rt: &R, hall: &Hall<OpenGate>, mut hosts: Vec<HostHand>, count: u16) -> u16
     requires { All (IsListening hall.now) hosts.items }
 {
@@ -67,13 +67,10 @@ fn ends<R: Wait>(rt: &R, hall: &Hall<OpenGate>, mut hosts: Vec<HostHand>, count:
         };
         good = good.saturating_add(reaps(rt, hall, &mut host, count));
     }
-    hall.stop.set();
     good
 }
 
-type Ended = (Result<Hand, NoMemory>, u16);
-
-// The crew and, on a thread of their own, the hosts.
+// The crew and, beside it, the hosts.
 fn both<R: Threads + Wait + Sync>(
     rt: &R,
     alloc: Global,
@@ -82,20 +79,21 @@ fn both<R: Threads + Wait + Sync>(
     workers: Vec<WorkerHand>,
     hosts: Vec<HostHand>,
     count: u16,
-) -> Ended
+) -> Result<(Hand, u16), NoMemory>
     requires crew { IsOf hall.now fetcher × All (IsWorkerOf hall.now) workers.items }
     requires hosts { All (IsListening hall.now) hosts.items }
-    ensures { IfOk result.0 (IsOf hall.now) }
+    ensures { IfOk result (λ r. IsOf hall.now r.0) }
 {
-    join(
+    run_crew(
         rt,
-        move || -> Result<Hand, NoMemory>
-            requires { IsOf hall.now fetcher × All (IsWorkerOf hall.now) workers.items }
-            ensures { IfOk result (IsOf hall.entry.now) }
-        { run_crew(rt, alloc, hall, 2, fetcher, workers) },
-        move || -> u16
+        alloc,
+        hall,
+        2,
+        fetcher,
+        workers,
+        move || -> Result<u16, NoMemory>
             requires { All (IsListening hall.now) hosts.items }
-        { ends(rt, hall, hosts, count) },
+        { Ok(ends(rt, hall, hosts, count)) },
     )
 }
 
@@ -117,8 +115,7 @@ fn served<R: Threads + Wait + Sync>(
     let mut hosts = listening(&hall, &config, hosts);
     send_all(alloc, &hall, &mut hosts)?;
     let count = if cqs == 1 { 6 } else { 3 };
-    let (ended, good) = both(rt, alloc, &hall, fetcher, workers, hosts, count);
-    let hand = ended?;
+    let (hand, good) = both(rt, alloc, &hall, fetcher, workers, hosts, count)?;
     let Hall { engine, .. } = hall;
     let core = engine.close(hand.pass).ok_or("the lock isn't free")?;
     let history = core.history().as_slice();

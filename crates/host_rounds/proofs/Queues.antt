@@ -1,0 +1,71 @@
+-- The submission queues of a completion queue.
+use Rattle.std.proofs.Common.{All, List, None, [], arith, ap, eqb, false, get_or, inl, inr, is_none, le-leb, length, length-append, mod-eq_of_lt, slice_index, subst, suc, sym, true, zero, ℕ, ◌%◌, ◌+◌, ◌-◌, ◌++◌, ◌<◌, ◌∙◌, ◌∷◌, ◌≡◌, ◌≤◌}
+use Rattle.std.proofs.Math.ListN.{get_or-append}
+use Rattle.std.proofs.Math.Seq.{get_or-append_seam}
+use Rattle.std.proofs.lemmas.Bool.{and_from, cases_lt, eq-eqb, ltb-false, or_parts}
+use Rattle.std.proofs.lemmas.Bool.Decides.{nat_tests}
+use Rattle.std.proofs.lemmas.List.Elements.{All-append}
+use Rattle.std.specs.List.Sorted.{IsStrictlyIncreasing}
+use Rattle.nvme_model.specs.Config.{completion_queue, config_fault, config_faults}
+use Rattle.nvme_model.specs.declared.config.ConfigNumbers.{ConfigNumbers}
+use Rattle.nvme_model.proofs.Rules.{none_holds}
+use Rattle.host_rounds.specs.Hosts.{uses}
+
+-- a greater number behind rising ones
+pub rising_more : (xs : List ℕ) (n : ℕ) → IsStrictlyIncreasing xs → All (λ x. x < n) xs → IsStrictlyIncreasing (xs ++ n ∷ [])
+rising_more xs n up below k within =
+    elim (cases_lt (k + 1) (length xs)) [
+      | inl low ↦
+          let a : slice_index (xs ++ n ∷ []) k ≡ slice_index xs k = get_or-append xs (n ∷ []) 0 k (omega (arith, low)) in
+          let b : slice_index (xs ++ n ∷ []) (k + 1) ≡ slice_index xs (k + 1) = get_or-append xs (n ∷ []) 0 (k + 1) low in
+          let c = up k low in
+          omega (arith, a, b, c)
+      | inr high ↦
+          let len : length (xs ++ n ∷ []) ≡ length xs + 1 = length-append xs (n ∷ []) in
+          let at : k + 1 ≡ length xs = omega (arith, len, within, high) in
+          let a : slice_index (xs ++ n ∷ []) k ≡ slice_index xs k = get_or-append xs (n ∷ []) 0 k (omega (arith, at)) in
+          let b : slice_index (xs ++ n ∷ []) (length xs) ≡ n = get_or-append_seam xs n [] 0 in
+          let b' : slice_index (xs ++ n ∷ []) (k + 1) ≡ n = ap (slice_index (xs ++ n ∷ [])) at ∙ b in
+          let c : slice_index xs k < n = below k 0 (omega (arith, at)) in
+          omega (arith, a, b', c)
+    ]
+
+one : (P : ℕ → Type 0) (n : ℕ) → P n → All P (n ∷ [])
+one P n h zero x within = h
+one P n h (suc k) x within = absurd (omega (arith, within))
+
+-- so all are below the number after it
+pub below_more : (xs : List ℕ) (n : ℕ) → All (λ x. x < n) xs → All (λ x. x < n + 1) (xs ++ n ∷ [])
+below_more xs n below = All-append (λ x. x < n + 1) xs (n ∷ []) (λ k x within. let c = below k x within in omega (arith, c)) (one (λ x. x < n + 1) n (omega arith))
+
+pub use_more : (c : ConfigNumbers) (queue : ℕ) (xs : List ℕ) (n : ℕ) → All (λ x. uses c queue x ≡ true) xs → uses c queue n ≡ true → All (λ x. uses c queue x ≡ true) (xs ++ n ∷ [])
+use_more c queue xs n all h = All-append (λ x. uses c queue x ≡ true) xs (n ∷ []) all (one (λ x. uses c queue x ≡ true) n h)
+
+pub none_yet : (P : ℕ → Type 0) → All P []
+none_yet P k x within = absurd (omega (arith, within))
+
+-- ---- which queues use it
+
+-- there are as many submission queues as completion queues, or more
+counts : (c : ConfigNumbers) → config_fault c ≡ None → (1 ≤ c.cqs) × (c.cqs ≤ c.pairs)
+counts c e = let p = or_parts _ _ (none_holds (config_faults c) (ap is_none e)).1.1.1.1.1.1.1.1.1.0 in (some c.cqs p.0, ltb-false c.pairs c.cqs p.1)
+  where
+    some : (n : ℕ) → eqb n 0 ≡ false → 1 ≤ n
+    some n e = grind (arith, nat_tests)
+
+used : (c : ConfigNumbers) (queue n : ℕ) → 1 ≤ n → n ≤ c.pairs → completion_queue c n ≡ queue → uses c queue n ≡ true
+used c queue n some few e = and_from _ _ (and_from _ _ (le-leb 1 n some) (le-leb n c.pairs few)) (eq-eqb (completion_queue c n) queue e)
+
+-- the first of its number
+pub first_uses : (c : ConfigNumbers) (queue : ℕ) → config_fault c ≡ None → 1 ≤ queue → queue ≤ c.cqs → uses c queue queue ≡ true
+first_uses c queue e some few =
+    let n = counts c e in
+    let small : (queue - 1) % c.cqs ≡ queue - 1 = mod-eq_of_lt (omega (arith, some, few)) in
+    used c queue queue some (omega (arith, few, n.1)) (omega (arith, small, some))
+
+-- each next one by its remainder
+pub next_uses : (c : ConfigNumbers) (queue k : ℕ) → 1 ≤ queue → k < c.pairs → k % c.cqs ≡ queue - 1 → uses c queue (k + 1) ≡ true
+next_uses c queue k some few at =
+    let same : (k + 1) - 1 ≡ k = omega arith in
+    let rest : ((k + 1) - 1) % c.cqs ≡ k % c.cqs = ap (λ (n : ℕ). n % c.cqs) same in
+    used c queue (k + 1) (omega arith) (omega (arith, few)) (omega (arith, rest, at, some))

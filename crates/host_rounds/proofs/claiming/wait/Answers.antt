@@ -1,0 +1,30 @@
+use Rattle.std.proofs.Common.{None, refl}
+use Rattle.driver_cas.proofs.Listening.{follows_later}
+use Rattle.slot_alloc.specs.Claims.{IsClaimingOf}
+use Rattle.host_rounds.proofs.Going.{claiming_heard, goes_called, goes_far, goes_same}
+use Rattle.host_rounds.proofs.claiming.wait.Goals as goal
+use Rattle.host_rounds.proofs.claiming.wait.Goals.{in-Pending, in-Later+else-eq}
+
+pub loop-init : goal.loop-init
+loop-init g c = (goes_same _ _ c.requires.own, c.requires.of)
+
+pub returns-in-Held-clause-goes : goal.returns-in-Held-clause-goes
+returns-in-Held-clause-goes g c = goes_called _ _ _ _ None c.loop.invariant.0 refl refl refl c.poll_claim.ensures.careful c.poll_claim.ensures.goes_on
+
+pub returns-then-eq-clause-goes : goal.returns-then-eq-clause-goes
+returns-then-eq-clause-goes g c = goes_called _ _ _ _ None c.loop.invariant.0 refl refl refl c.poll_claim.ensures.careful c.poll_claim.ensures.goes_on
+
+pub returns-in-Taken-clause-goes : goal.returns-in-Taken-clause-goes
+returns-in-Taken-clause-goes g c = goes_called _ _ _ _ None c.loop.invariant.0 refl refl refl c.poll_claim.ensures.careful c.poll_claim.ensures.goes_on
+
+pub loop-preserved : goal.loop-preserved
+loop-preserved g c =
+    let of : IsClaimingOf c.poll_claim.new.driver c.match-poll_claim.claiming =
+    elim c.match-poll_claim.branch [
+      | in-Pending w ↦ rw w.claiming-is w.in-Pending.ensures.is.1
+      | in-Later+else-eq w ↦ rw w.claiming-is w.in-Later.ensures.is.1
+    ] in (
+      goes_far _ _ (record c.loop.host { driver = c.poll_claim.new.driver }) _
+          (goes_called _ _ _ _ None c.loop.invariant.0 refl refl refl c.poll_claim.ensures.careful c.poll_claim.ensures.goes_on) c.pause.ensures.goes,
+      claiming_heard follows_later c.poll_claim.new.driver c.pause.new.host.driver c.match-poll_claim.claiming c.pause.ensures.untouched c.pause.ensures.calls of,
+    )

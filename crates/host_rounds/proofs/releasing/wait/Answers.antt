@@ -1,0 +1,26 @@
+use Rattle.std.proofs.Common.{None, refl}
+use Rattle.slot_alloc.specs.Claims.{IsReleasingOf}
+use Rattle.host_rounds.proofs.Going.{goes_called, goes_far, goes_same, releasing_heard}
+use Rattle.host_rounds.proofs.releasing.wait.Goals as goal
+use Rattle.host_rounds.proofs.releasing.wait.Goals.{in-Pending, in-Later+else-eq}
+
+pub loop-init : goal.loop-init
+loop-init g c = (goes_same _ _ c.requires.own, c.requires.of)
+
+pub returns-in-Released : goal.returns-in-Released
+returns-in-Released g c = record { goes = goes_called _ _ _ _ None c.loop.invariant.0 refl refl refl c.poll_release.ensures.careful c.poll_release.ensures.goes_on }
+
+pub returns-then-eq : goal.returns-then-eq
+returns-then-eq g c = record { goes = goes_called _ _ _ _ None c.loop.invariant.0 refl refl refl c.poll_release.ensures.careful c.poll_release.ensures.goes_on }
+
+pub loop-preserved : goal.loop-preserved
+loop-preserved g c =
+    let of : IsReleasingOf c.poll_release.new.driver c.match-poll_release.releasing =
+    elim c.match-poll_release.branch [
+      | in-Pending w ↦ rw w.releasing-is w.in-Pending.ensures.is.1
+      | in-Later+else-eq w ↦ rw w.releasing-is w.in-Later.ensures.is.1
+    ] in (
+      goes_far _ _ (record c.loop.host { driver = c.poll_release.new.driver }) _
+          (goes_called _ _ _ _ None c.loop.invariant.0 refl refl refl c.poll_release.ensures.careful c.poll_release.ensures.goes_on) c.pause.ensures.goes,
+      releasing_heard c.poll_release.new.driver c.pause.new.host.driver c.match-poll_release.releasing c.pause.ensures.untouched c.pause.ensures.calls of,
+    )

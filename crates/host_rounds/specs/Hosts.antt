@@ -1,0 +1,38 @@
+-- What contracts say of a host.
+use Rattle.std.specs.Prelude.{Bool, length, nat_le, ℕ, ◌&&◌, ◌+◌, ◌-◌, ◌==◌, ◌≡◌, ◌≤◌}
+use Rattle.nvme_model.specs.Config.{completion_queue}
+use Rattle.nvme_model.specs.declared.array.Range.{Range}
+use Rattle.nvme_model.specs.declared.config.ConfigNumbers.{ConfigNumbers}
+use Rattle.work_queue.specs.QueuePasses.{engine_lock}
+use Rattle.hosts.specs.Hands.{IsPlaceAt}
+use Rattle.hosts.specs.declared.hall.Hall.{Hall}
+use Rattle.driver_cas.specs.Drivers.{HasSettings, area_of}
+use Rattle.driver_cas.specs.Ports.{Follows}
+use Rattle.slot_alloc.specs.Areas.{area}
+use Rattle.slot_alloc.specs.Careful.{IsCareful}
+use Rattle.host_rounds.specs.declared.owned.Host.{Host}
+
+-- the submission queue is there, and uses this completion queue
+abbrev pub uses : ConfigNumbers → ℕ → ℕ → Bool
+uses c queue n = nat_le 1 n && nat_le n c.pairs && (completion_queue c n == queue)
+
+-- some blocks, which lie among the first 65,536
+abbrev pub IsSlotArea : Range → Type 0
+IsSlotArea r = (1 ≤ r.blocks) × (r.slba + r.blocks ≤ 65536)
+
+module _ {G : Type 0} where
+  -- Its driver is of the hall's controller and has these slots, whose discipline it has kept, and its place is one of the notices of a completion queue.
+  pub record IsHosting (hall : Hall G) (h : Host) : Type 0 where
+    pub of : h.driver.port.pass.seat.table_id ≡ engine_lock hall.engine
+    pub slots : area_of h.driver ≡ area h.slots
+    pub careful : IsCareful h.driver
+    pub queue : (1 ≤ h.queue) × (h.queue ≤ length hall.notices.items)
+    pub place : IsPlaceAt hall (h.queue - 1) h.notices
+
+  -- It is so later, with the same settings, and its port is what it was at a later time: what its pass has seen begins with what it had.
+  pub record Goes (hall : Hall G) (h k : Host) : Type 0 where
+    pub of : IsHosting hall k
+    pub settings : HasSettings h.driver k.driver
+    pub slots : k.slots ≡ h.slots
+    pub queue : k.queue ≡ h.queue
+    pub later : Follows h.driver.port k.driver.port

@@ -1,0 +1,93 @@
+//! A claim of any slot, until it ends.
+
+ghost use Rattle.std.specs.Prelude.{◌≡◌, IfOk, IfSome};
+ghost use Rattle.slot_alloc.specs.Claims.{IsClaimingOf, IsHeldBy};
+ghost use Rattle.host_rounds.specs.Hosts.{Goes, IsHosting};
+
+use crate::owned::Host;
+use crate::pausing::{Next, next_after, pause, stops};
+use driver_cas::{Fault, SharedPort};
+use hosts::Hall;
+use slot_alloc::{Claim, Claiming, Progress, poll_claim};
+use std::alloc::AllocError as NoMemory;
+use std::sync::Wait;
+
+// Begins to claim any slot, again while that is refused for now; None where it is refused for good, or the stop flag is set.
+fn begin<'a, R: Wait, G>(
+    rt: &R,
+    hall: &Hall<G>,
+    host: &mut Host<'a>,
+) -> Result<Option<Claiming<SharedPort<'a>>>, NoMemory>
+    requires { IsHosting hall.now host.old }
+    ensures goes { Goes hall.now host.old host.new }
+    ensures of { IfOk result (λ o. IfSome o (λ k. IsClaimingOf host.new.driver k)) }
+{
+    for _ in rt.forever() {
+        if hall.stop.is_set() {
+            return Ok(None);
+        }
+        match host.slots.claim_any(&mut host.driver) {
+            Ok(claiming) => return Ok(Some(claiming)),
+            Err(fault) => match next_after(fault) {
+                Next::Again => {}
+                Next::RoundEnds => return Ok(None),
+                Next::NoMemory => return Err(stops(hall)),
+            },
+        }
+        pause(rt, hall, host);
+    }
+    unreachable!()
+}
+
+// Polls a claim until it ends; None where it didn't end with a slot, or the stop flag is set.
+fn wait<'a, R: Wait, G>(
+    rt: &R,
+    hall: &Hall<G>,
+    host: &mut Host<'a>,
+    claiming: Claiming<SharedPort<'a>>,
+) -> Result<Option<Claim>, NoMemory>
+    requires own { IsHosting hall.now host.old }
+    requires of { IsClaimingOf host.old.driver claiming }
+    ensures goes { Goes hall.now host.old host.new }
+    ensures held { IfOk result (λ o. IfSome o (λ claim. IsHeldBy host.new.driver claim)) }
+{
+    let mut claiming = claiming;
+    for _ in rt.forever() {
+        if hall.stop.is_set() {
+            return Ok(None);
+        }
+        match poll_claim(&mut host.driver, claiming) {
+            Progress::Held(claim) => return Ok(Some(claim)),
+            Progress::Pending(same) => claiming = same,
+            Progress::Later(fault, same) => {
+                if fault == Fault::NoMemory {
+                    return Err(stops(hall));
+                }
+                claiming = same;
+            }
+            Progress::Taken | Progress::AllTaken | Progress::Failed(_) => return Ok(None),
+        }
+        pause(rt, hall, host);
+    }
+    unreachable!()
+}
+
+/// Claims any slot; None where it got none, or the stop flag is set.
+///
+/// # Errors
+///
+/// `NoMemory` where a growth is refused. The stop flag is set then.
+pub(crate) fn take_slot<R: Wait, G>(
+    rt: &R,
+    hall: &Hall<G>,
+    host: &mut Host<'_>,
+) -> Result<Option<Claim>, NoMemory>
+    requires { IsHosting hall.now host.old }
+    ensures goes { Goes hall.now host.old host.new }
+    ensures held { IfOk result (λ o. IfSome o (λ claim. IsHeldBy host.new.driver claim)) }
+{
+    match begin(rt, hall, host)? {
+        Some(claiming) => wait(rt, hall, host, claiming),
+        None => Ok(None),
+    }
+}

@@ -1,0 +1,102 @@
+//! What the host of a completion queue has once its driver is made.
+
+ghost use Rattle.std.specs.List.Sorted.{IsStrictlyIncreasing};
+ghost use Rattle.std.specs.Prelude.{◌≡◌, ◌≤◌, ◌<◌, ◌+◌, All, IfOk, OnOk, length, true, vec_len};
+ghost use Rattle.hosts.specs.Hands.{IsHostOf};
+ghost use Rattle.host_rounds.specs.Hosts.{IsHosting, IsSlotArea, uses};
+
+use driver_cas::{Driver, SharedPort};
+use history::Config;
+use hosts::{Hall, HostHand};
+use nvme_model::array::Range;
+use slot_alloc::Slots;
+use std::alloc::{AllocError as NoMemory, Global};
+use work_queue::{Notice, QueuePass};
+
+/// A host of a hall, with its driver.
+#[derive(Drop)]
+pub struct Host<'a> {
+    pub driver: Driver<SharedPort<'a>>,
+    /// Those of the driver's slot area.
+    pub slots: Slots,
+    /// The driver's completion queue, from 1.
+    pub queue: u16,
+    /// Of its queue of notices.
+    pub notices: QueuePass<Notice>,
+}
+
+// One more submission queue, behind lower ones.
+#[tactic(auto, using(crate::proofs::Queues::rising_more, crate::proofs::Queues::below_more, crate::proofs::Queues::use_more))]
+fn put_queue(
+    _config: &Config,
+    _queue: u16,
+    queues: &mut Vec<u16>,
+    next: u16,
+) -> Result<(), NoMemory>
+    requires rising { IsStrictlyIncreasing queues.old.items }
+    requires below { All (λ n. n < next) queues.old.items }
+    requires all { All (λ n. uses _config.now _queue n ≡ true) queues.old.items }
+    requires uses { uses _config.now _queue next ≡ true }
+    ensures rising { OnOk result (IsStrictlyIncreasing queues.new.items) }
+    ensures below { OnOk result (All (λ n. n < next + 1) queues.new.items) }
+    ensures all { OnOk result (All (λ n. uses _config.now _queue n ≡ true) queues.new.items) }
+    ensures some { OnOk result (1 ≤ vec_len queues.new) }
+{
+    queues.push(next)?;
+    Ok(())
+}
+
+// The submission queues that use this completion queue, in rising order.
+#[tactic(auto, using(crate::proofs::Queues::first_uses, crate::proofs::Queues::next_uses, crate::proofs::Queues::none_yet))]
+fn submission_queues(alloc: Global, config: &Config, queue: u16) -> Result<Vec<u16>, NoMemory>
+    requires there { (1 ≤ queue) × (queue ≤ config.now.cqs) }
+    ensures some { IfOk result (λ q. 1 ≤ vec_len q) }
+    ensures rising { IfOk result (λ q. IsStrictlyIncreasing q.items) }
+    ensures all { IfOk result (λ q. All (λ n. uses config.now queue n ≡ true) q.items) }
+{
+    let numbers = config.numbers();
+    let mut queues = Vec::new(alloc);
+    put_queue(config, queue, &mut queues, queue)?;
+    for k in queue..numbers.pairs {
+        if k % numbers.cqs == queue - 1 {
+            put_queue(config, queue, &mut queues, k + 1)?;
+        }
+    }
+    Ok(queues)
+}
+
+/// The host of a completion queue of this configuration's controller, whose number is its host number. Its driver uses all
+/// submission queues that use the completion queue, and these blocks are its slots.
+///
+/// # Errors
+///
+/// `NoMemory` where a growth is refused.
+pub fn host_of<'a, G>(
+    alloc: Global,
+    config: &Config,
+    hall: &'a Hall<G>,
+    hand: HostHand,
+    slots: Range,
+) -> Result<Host<'a>, NoMemory>
+    requires hand { IsHostOf hall.now config.now hand }
+    requires slots { IsSlotArea slots }
+    ensures { IfOk result (IsHosting hall.entry.now) }
+{
+    let HostHand {
+        pass,
+        queue,
+        notices,
+    } = hand;
+    let queues = submission_queues(alloc, config, queue)?;
+    let acwu = config.numbers().atomic.acwu;
+    let port = SharedPort::new(&hall.engine, pass, queue);
+    match Driver::new(alloc, port, u32::from(queue), acwu, slots, queues) {
+        Ok(driver) => Ok(Host {
+            driver,
+            slots: Slots::new(slots.slba, slots.blocks),
+            queue,
+            notices,
+        }),
+        Err(_) => Err(NoMemory),
+    }
+}

@@ -1,0 +1,103 @@
+//! The release of a slot, until it ends.
+
+ghost use Rattle.std.specs.Prelude.{◌≡◌, IfOk, IfSome};
+ghost use Rattle.slot_alloc.specs.Claims.{IsHeldBy, IsReleasingOf};
+ghost use Rattle.host_rounds.specs.Hosts.{Goes, IsHosting};
+
+use crate::owned::Host;
+use crate::pausing::{Next, next_after, pause, stops};
+use driver_cas::{Fault, SharedPort};
+use hosts::Hall;
+use slot_alloc::{Claim, Released, Releasing, poll_release};
+use std::alloc::AllocError as NoMemory;
+use std::sync::Wait;
+
+// Begins to release the slot of a claim, again while that is refused for now; None where it is refused for good, or the
+// stop flag is set, and the slot is left held.
+fn begin<'a, R: Wait, G>(
+    rt: &R,
+    hall: &Hall<G>,
+    host: &mut Host<'a>,
+    claim: Claim,
+) -> Result<Option<Releasing<SharedPort<'a>>>, NoMemory>
+    requires own { IsHosting hall.now host.old }
+    requires held { IsHeldBy host.old.driver claim }
+    ensures goes { Goes hall.now host.old host.new }
+    ensures of { IfOk result (λ o. IfSome o (λ k. IsReleasingOf host.new.driver k)) }
+{
+    let mut claim = claim;
+    for _ in rt.forever() {
+        if hall.stop.is_set() {
+            claim.leave();
+            return Ok(None);
+        }
+        match host.slots.release(&mut host.driver, claim) {
+            Ok(releasing) => return Ok(Some(releasing)),
+            Err((back, fault)) => match next_after(fault) {
+                Next::Again => claim = back,
+                Next::RoundEnds => {
+                    back.leave();
+                    return Ok(None);
+                }
+                Next::NoMemory => {
+                    back.leave();
+                    return Err(stops(hall));
+                }
+            },
+        }
+        pause(rt, hall, host);
+    }
+    unreachable!()
+}
+
+// Polls a release until it ends, or the stop flag is set.
+fn wait<'a, R: Wait, G>(
+    rt: &R,
+    hall: &Hall<G>,
+    host: &mut Host<'a>,
+    releasing: Releasing<SharedPort<'a>>,
+) -> Result<(), NoMemory>
+    requires own { IsHosting hall.now host.old }
+    requires of { IsReleasingOf host.old.driver releasing }
+    ensures goes { Goes hall.now host.old host.new }
+{
+    let mut releasing = releasing;
+    for _ in rt.forever() {
+        if hall.stop.is_set() {
+            return Ok(());
+        }
+        match poll_release(&mut host.driver, releasing) {
+            Released::Released | Released::Failed(_) => return Ok(()),
+            Released::Pending(same) => releasing = same,
+            Released::Later(fault, same) => {
+                if fault == Fault::NoMemory {
+                    return Err(stops(hall));
+                }
+                releasing = same;
+            }
+        }
+        pause(rt, hall, host);
+    }
+    unreachable!()
+}
+
+/// Releases the slot of a claim. It is left held where the stop flag is set before the release is begun.
+///
+/// # Errors
+///
+/// `NoMemory` where a growth is refused. The stop flag is set then, and the slot may be held.
+pub(crate) fn give_back<R: Wait, G>(
+    rt: &R,
+    hall: &Hall<G>,
+    host: &mut Host<'_>,
+    claim: Claim,
+) -> Result<(), NoMemory>
+    requires own { IsHosting hall.now host.old }
+    requires held { IsHeldBy host.old.driver claim }
+    ensures goes { Goes hall.now host.old host.new }
+{
+    match begin(rt, hall, host, claim)? {
+        Some(releasing) => wait(rt, hall, host, releasing),
+        None => Ok(()),
+    }
+}

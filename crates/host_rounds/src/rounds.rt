@@ -1,0 +1,46 @@
+//! The rounds of a host.
+
+ghost use Rattle.std.specs.Prelude.{◌≡◌};
+ghost use Rattle.host_rounds.specs.Hosts.{Goes, IsHosting};
+
+use crate::claiming::take_slot;
+use crate::owned::Host;
+use crate::releasing::give_back;
+use hosts::Hall;
+use std::alloc::AllocError as NoMemory;
+use std::sync::Wait;
+
+// Claims any slot, and releases it.
+fn round<R: Wait, G>(rt: &R, hall: &Hall<G>, host: &mut Host<'_>) -> Result<(), NoMemory>
+    requires { IsHosting hall.now host.old }
+    ensures goes { Goes hall.now host.old host.new }
+{
+    match take_slot(rt, hall, host)? {
+        Some(claim) => give_back(rt, hall, host, claim),
+        None => Ok(()),
+    }
+}
+
+/// Claims any slot and releases it, so many times, or until the stop flag is set. A round in which all slots are had by
+/// others, or a claim fails, ends there. A slot that is held when the stop flag is set stays held.
+///
+/// # Errors
+///
+/// `NoMemory` where a growth is refused. The stop flag is set then, and a slot may be held.
+pub fn host<R: Wait, G>(
+    rt: &R,
+    hall: &Hall<G>,
+    host: &mut Host<'_>,
+    rounds: u32,
+) -> Result<(), NoMemory>
+    requires { IsHosting hall.now host.old }
+    ensures goes { Goes hall.now host.old host.new }
+{
+    for _ in 0..rounds {
+        if hall.stop.is_set() {
+            return Ok(());
+        }
+        round(rt, hall, host)?;
+    }
+    Ok(())
+}

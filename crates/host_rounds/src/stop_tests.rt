@@ -1,0 +1,102 @@
+//! Hosts that are stopped from outside.
+
+ghost use Rattle.std.specs.Prelude.{◌≡◌, All, IfOk};
+ghost use Rattle.hosts.specs.Hands.{IsHostOf, IsOf, IsWorkerOf};
+ghost use Rattle.host_rounds.specs.Hosts.{IsSlotArea};
+
+use crate::guests::{Play, run_hosts};
+use history::Config;
+use history_check::check;
+use hosts::{Hall, Hand, Hands, HostHand, OpenGate, WorkerHand, hall_of, run_crew};
+use nvme_model::array::Range;
+use std::alloc::{AllocError as NoMemory, Global};
+use std::sync::Wait;
+use std::test::Fail;
+use std::thread::{Threads, join, yield_now};
+
+/// More rounds than a test has time for.
+const ROUNDS: u32 = u32::MAX;
+
+// Sets the stop flag after a while.
+fn stops_late(hall: &Hall<OpenGate>) {
+    for _ in 0..2000 {
+        yield_now();
+    }
+    hall.stop.set();
+}
+
+// The hosts, and who stops them.
+fn guests<R: Threads + Wait + Sync>(
+    rt: &R,
+    alloc: Global,
+    hall: &Hall<OpenGate>,
+    play: &Play,
+    hands: Vec<HostHand>,
+) -> Result<(), NoMemory>
+    requires hands { All (IsHostOf hall.now play.now.config) hands.items }
+    requires slots { IsSlotArea play.now.slots }
+{
+    let (ended, ()) = join(
+        rt,
+        move || -> Result<(), NoMemory>
+            requires { All (IsHostOf hall.now play.now.config) hands.items × IsSlotArea play.now.slots }
+        { run_hosts(rt, alloc, hall, play, hands) },
+        || stops_late(hall),
+    );
+    ended
+}
+
+// The crew, and beside it the hosts.
+fn all<R: Threads + Wait + Sync>(
+    rt: &R,
+    alloc: Global,
+    hall: &Hall<OpenGate>,
+    play: &Play,
+    hands: Hands,
+) -> Result<Hand, NoMemory>
+    requires crew { IsOf hall.now hands.fetcher × All (IsWorkerOf hall.now) hands.workers.items }
+    requires hosts { All (IsHostOf hall.now play.now.config) hands.hosts.items }
+    requires slots { IsSlotArea play.now.slots }
+    ensures { IfOk result (IsOf hall.now) }
+{
+    let Hands {
+        fetcher,
+        workers,
+        hosts,
+    } = hands;
+    let (hand, ()) = run_crew(
+        rt,
+        alloc,
+        hall,
+        2,
+        fetcher,
+        workers,
+        move || -> Result<(), NoMemory>
+            requires { All (IsHostOf hall.now play.now.config) hosts.items × IsSlotArea play.now.slots }
+        { guests(rt, alloc, hall, play, hosts) },
+    )?;
+    Ok(hand)
+}
+
+#[test]
+fn a_stop_flag_ends_all_loops(rt: HostRuntime) -> Result<(), Fail> {
+    let alloc = rt.alloc();
+    let Ok(config) = Config::new(64, 1, 1, 0, 0, 2, 8, 8, 16) else {
+        return Err(Fail::from("the configuration is refused"));
+    };
+    let (hall, hands) = hall_of(alloc, config, OpenGate, 2)?;
+    let play = Play {
+        config,
+        slots: Range { slba: 0, blocks: 2 },
+        rounds: ROUNDS,
+    };
+    let hand = all(&rt, alloc, &hall, &play, hands)?;
+    let Hall { engine, .. } = hall;
+    let core = engine.close(hand.pass).ok_or("the lock isn't free")?;
+    let history = core.history().as_slice();
+    assert!(rt; !history.is_empty());
+    if check(alloc, &core.config(), history).is_err() {
+        return Err(Fail::from("the history isn't legal"));
+    }
+    Ok(())
+}
