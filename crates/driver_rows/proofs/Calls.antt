@@ -36,30 +36,10 @@ use Rattle.driver_cas.specs.declared.port.Port.{Ghosts}
 use Rattle.driver_cas.specs.declared.shared_port.SharedPort.{SharedPort}
 use Rattle.driver_cas.proofs.Drivers.{reaped_calls}
 use Rattle.driver_cas.proofs.Listening.{follows_later}
-use Rattle.driver_rows.specs.Calls.{Begins, Keeps, Polls, given_back}
+use Rattle.driver_rows.specs.Calls.{IsNewCall, Polls, StayCalls, given_back}
 use Rattle.driver_rows.specs.declared.bench.Host.{Host}
 
 -- ---- calls
-
-kept : (h i : Host) → IsSame h.driver i.driver → Follows h.driver.port i.driver.port → IsAsBefore h.driver i.driver → Keeps h i
-kept h i same later before = λ k of.
-    reaped_calls _ follows_later h.driver i.driver k same later (inl before.0) (λ q n. ap (λ (c : Cids). is_free (held c q n)) before.1) of
-
-pub begun : (h i : Host) (q : Result Request Fault) (c : CallData) (r : Result (Call SharedPort) Fault) → IsSame h.driver i.driver → Follows h.driver.port i.driver.port → i.place ≡ h.place → IsStart h.driver i.driver q c r → Begins h i r
-begun h i (Err f) c r same later place s =
-    subst (λ (x : Result (Call SharedPort) Fault). Begins h i x) (sym s.0) (record { same = (later.same_lock, place); keeps = kept h i same later s.1; call = tt })
-begun h i (Ok q) c (Ok k) same later place s =
-    record { same = (later.same_lock, place); keeps = λ j of. (s.others j of).0; call = (s.of, λ j of. (s.others j of).1) }
-begun h i (Ok q) c (Err f) same later place s = record { same = (later.same_lock, place); keeps = kept h i same later s.0; call = tt }
-
-pub back_of : (i : Host) (k : Call SharedPort) (r : Poll SharedPort) (o : Option (Call SharedPort)) → o ≡ given_back r → IsBack k r → IsCallBack i.driver r → IfSome o (λ j. (j ≡ k) × IsCallOf i.driver j)
-back_of i k r o e back of = subst (λ (x : Option (Call SharedPort)). IfSome x (λ j. (j ≡ k) × IsCallOf i.driver j)) (sym e) (go r back of)
-  where
-    go : (r : Poll SharedPort) → IsBack k r → IsCallBack i.driver r → IfSome (given_back r) (λ j. (j ≡ k) × IsCallOf i.driver j)
-    go (Poll.Pending j) back of = (back, of)
-    go (Poll.Later f j) back of = (back.0, of)
-    go (Poll.Done r) back of = tt
-    go (Poll.Failed f) back of = tt
 
 pub polls_on : (h i m : Host) (k n : Call SharedPort) → n ≡ k → Polls h i k → Polls i m n → Polls h m k
 polls_on h i m k n e x y =
@@ -124,21 +104,24 @@ config_kept e n c d past ps same each = λ k x within. (each k (get_or ps k x) (
 -- ---- calls of any port
 
 module _ {P : Type 0} {g : Ghosts P} where
-  pub begun_call : (d e : Driver P g) (q : Result Request Fault) (c : CallData) (r : Result (Call P) Fault) → IsStart d e q c r → IfOk r (λ k. IsCallOf e k)
-  begun_call d e (Err f) c r s = subst (λ (x : Result (Call P) Fault). IfOk x (λ k. IsCallOf e k)) (sym s.0) tt
-  begun_call d e (Ok q) c (Ok k) s = s.of
+  kept : ((a b c : P) → g.follows a b → g.follows b c → g.follows a c) → (d e : Driver P g) → IsSame d e → g.follows d.port e.port → IsAsBefore d e → StayCalls d e
+  kept on d e same later before = λ k of. reaped_calls g on d e k same later (inl before.0) (λ q n. ap (λ (c : Cids). is_free (held c q n)) before.1) of
+
+  pub begun_keeps : ((a b c : P) → g.follows a b → g.follows b c → g.follows a c) → (d e : Driver P g) (q : Result Request Fault) (c : CallData) (r : Result (Call P) Fault) → IsSame d e → g.follows d.port e.port → IsStart d e q c r → StayCalls d e
+  begun_keeps on d e (Err f) c r same later s = kept on d e same later s.1
+  begun_keeps on d e (Ok q) c (Ok k) same later s = λ j of. (s.others j of).0
+  begun_keeps on d e (Ok q) c (Err f) same later s = kept on d e same later s.0
+
+  pub begun_call : (d e : Driver P g) (q : Result Request Fault) (c : CallData) (r : Result (Call P) Fault) → IsStart d e q c r → IfOk r (IsNewCall d e)
+  begun_call d e (Err f) c r s = subst (λ (x : Result (Call P) Fault). IfOk x (IsNewCall d e)) (sym s.0) tt
+  begun_call d e (Ok q) c (Ok k) s = (s.of, λ j of. (s.others j of).1)
   begun_call d e (Ok q) c (Err f) s = tt
 
-  pub begun_others : (d e : Driver P g) (q : Result Request Fault) (c : CallData) (r : Result (Call P) Fault) → IsStart d e q c r → IfOk r (λ k. (j : Call P) → IsCallOf d j → IsCallOf e j × IsApart k j)
-  begun_others d e (Err f) c r s = subst (λ (x : Result (Call P) Fault). IfOk x (λ k. (j : Call P) → IsCallOf d j → IsCallOf e j × IsApart k j)) (sym s.0) tt
-  begun_others d e (Ok q) c (Ok k) s = s.others
-  begun_others d e (Ok q) c (Err f) s = tt
-
-  pub again : (e : Driver P g) (r : Poll P) (o : Option (Call P)) → o ≡ given_back r → IsCallBack e r → IfSome o (λ j. IsCallOf e j)
-  again e r o is of = subst (λ (x : Option (Call P)). IfSome x (λ j. IsCallOf e j)) (sym is) (go r of)
+  pub back_of : (e : Driver P g) (k : Call P) (r : Poll P) (o : Option (Call P)) → o ≡ given_back r → IsBack k r → IsCallBack e r → IfSome o (λ j. (j ≡ k) × IsCallOf e j)
+  back_of e k r o is back of = subst (λ (x : Option (Call P)). IfSome x (λ j. (j ≡ k) × IsCallOf e j)) (sym is) (go r back of)
     where
-      go : (r : Poll P) → IsCallBack e r → IfSome (given_back r) (λ j. IsCallOf e j)
-      go (Poll.Pending j) of = of
-      go (Poll.Later f j) of = of
-      go (Poll.Done r) of = tt
-      go (Poll.Failed f) of = tt
+      go : (r : Poll P) → IsBack k r → IsCallBack e r → IfSome (given_back r) (λ j. (j ≡ k) × IsCallOf e j)
+      go (Poll.Pending j) back of = (back, of)
+      go (Poll.Later f j) back of = (back.0, of)
+      go (Poll.Done r) back of = tt
+      go (Poll.Failed f) back of = tt

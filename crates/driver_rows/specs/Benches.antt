@@ -20,7 +20,7 @@ abbrev pub IsServerOf : Bench → Server → Type 0
 IsServerOf b s = engine.IsOf b.engine s.pass × queue.IsPlaceOf b.engine b.notices s.place × (config_of s.pass ≡ b.config)
 
 abbrev pub IsHostOf : Bench → Host → Type 0
-IsHostOf b h = IsPlaceFor h.driver.port b.notices h.place
+IsHostOf b h = IsPlaceFor h.driver.port b.notices h.place × engine.IsOf b.engine h.driver.port.pass
 
 -- so are these, that nobody has yet
 pub record AreOf (b : Bench) (s : Spares) : Type 0 where

@@ -3,9 +3,20 @@ use Rattle.std.specs.Prelude.{IfOk, None, Option, Result, Some, ◌≡◌}
 use Rattle.driver_cas.specs.Drivers.{IsApart, IsCallOf}
 use Rattle.driver_cas.specs.declared.call.Call.{Call}
 use Rattle.driver_cas.specs.declared.call.Poll.{Poll}
+use Rattle.driver_cas.specs.declared.driver.Driver.{Driver}
 use Rattle.driver_cas.specs.declared.fault.Fault.{Fault}
+use Rattle.driver_cas.specs.declared.port.Port.{Ghosts}
 use Rattle.driver_cas.specs.declared.shared_port.SharedPort.{SharedPort}
 use Rattle.driver_rows.specs.declared.bench.Host.{Host}
+
+module _ {P : Type 0} {g : Ghosts P} where
+  -- all its calls stay its calls
+  abbrev pub StayCalls : Driver P g → Driver P g → Type 0
+  StayCalls d e = (k : Call P) → IsCallOf d k → IsCallOf e k
+
+  -- the call is the driver's, and apart from all that it had
+  abbrev pub IsNewCall : Driver P g → Driver P g → Call P → Type 0
+  IsNewCall d e k = IsCallOf e k × ((j : Call P) → IsCallOf d j → IsApart k j)
 
 -- the host is of the same engine, with the same pass of the queue
 abbrev pub IsSameHost : Host → Host → Type 0
@@ -13,13 +24,13 @@ IsSameHost h i = (i.driver.port.pass.seat.table_id ≡ h.driver.port.pass.seat.t
 
 -- all its calls stay its calls
 abbrev pub Keeps : Host → Host → Type 0
-Keeps h i = (k : Call SharedPort) → IsCallOf h.driver k → IsCallOf i.driver k
+Keeps h i = StayCalls h.driver i.driver
 
 -- a call that was begun is the host's, and apart from all that it had, which stay
 pub record Begins (h i : Host) (r : Result (Call SharedPort) Fault) : Type 0 where
   pub same : IsSameHost h i
   pub keeps : Keeps h i
-  pub call : IfOk r (λ k. IsCallOf i.driver k × ((j : Call SharedPort) → IsCallOf h.driver j → IsApart k j))
+  pub call : IfOk r (IsNewCall h.driver i.driver)
 
 -- after a poll those that are apart from the call stay
 pub record Polls (h i : Host) (k : Call SharedPort) : Type 0 where

@@ -1,13 +1,14 @@
 //! A host's calls.
 
-ghost use Rattle.std.specs.Prelude.{◌≡◌, IfSome};
-ghost use Rattle.driver_cas.specs.Drivers.{IsCallOf};
+ghost use Rattle.std.specs.Prelude.{◌≡◌, IfOk, IfSome};
+ghost use Rattle.driver_cas.specs.Drivers.{IsApart, IsCallOf, IsSame};
 ghost use Rattle.driver_cas.specs.Starts.{IsUntouched};
+ghost use Rattle.driver_cas.specs.declared.call.Call.{Call};
 ghost use Rattle.driver_rows.specs.Benches.{IsHostOf};
-ghost use Rattle.driver_rows.specs.Calls.{Begins, Keeps, Polls, given_back};
+ghost use Rattle.driver_rows.specs.Calls.{Begins, IsNewCall, Keeps, Polls, StayCalls, given_back};
 
 use crate::bench::{Bench, Host};
-use driver_cas::{Call, Fault, Poll, Reply, SharedPort};
+use driver_cas::{Call, Driver, Fault, Poll, Port, Reply, SharedPort};
 use std::sync::Wait;
 
 /// The most bytes of a call here.
@@ -83,6 +84,50 @@ pub fn poll_in_words<P>(poll: Poll<P>) -> (Told, Option<Call<P>>)
     }
 }
 
+/// Begins a call of a driver.
+///
+/// # Errors
+///
+/// What the driver answers; its calls stay.
+pub fn begins<P: Port>(driver: &mut Driver<P>, ask: Ask) -> Result<Call<P>, Fault>
+    ensures same { IsSame driver.old driver.new }
+    ensures later { P.follows driver.old.port driver.new.port }
+    ensures keeps { StayCalls driver.old driver.new }
+    ensures call { IfOk result (IsNewCall driver.old driver.new) }
+{
+    match ask {
+        Ask::Read(slba, blocks) => driver.start_read(slba, blocks),
+        Ask::WriteZeroes(slba, blocks) => driver.start_write_zeroes(slba, blocks),
+        Ask::Write(slba, fill) => {
+            let bytes = [fill.0; MOST];
+            driver.start_write(slba, &bytes[..fill.1.min(MOST)])
+        }
+        Ask::Compare(slba, fill) => {
+            let bytes = [fill.0; MOST];
+            driver.start_compare(slba, &bytes[..fill.1.min(MOST)])
+        }
+        Ask::CompareAndWrite(slba, fill, other) => {
+            let expected = [fill.0; MOST];
+            let desired = [other.0; MOST];
+            driver.start_compare_and_write(
+                slba,
+                &expected[..fill.1.min(MOST)],
+                &desired[..other.1.min(MOST)],
+            )
+        }
+    }
+}
+
+/// Polls a call of a driver once.
+pub fn polled<P: Port>(driver: &mut Driver<P>, call: Call<P>) -> (Told, Option<Call<P>>)
+    requires { IsCallOf driver.old call }
+    ensures later { P.follows driver.old.port driver.new.port }
+    ensures back { IfSome result.1 (λ k. (k ≡ call) × IsCallOf driver.new k) }
+    ensures others { (j : Call P) → IsCallOf driver.old j → IsApart call j → IsCallOf driver.new j }
+{
+    poll_in_words(driver.poll(call))
+}
+
 /// Begins a call.
 ///
 /// # Errors
@@ -91,27 +136,7 @@ pub fn poll_in_words<P>(poll: Poll<P>) -> (Told, Option<Call<P>>)
 pub fn starts<'a>(host: &mut Host<'a>, ask: Ask) -> Result<Call<SharedPort<'a>>, Fault>
     ensures { Begins host.old host.new result }
 {
-    match ask {
-        Ask::Read(slba, blocks) => host.driver.start_read(slba, blocks),
-        Ask::WriteZeroes(slba, blocks) => host.driver.start_write_zeroes(slba, blocks),
-        Ask::Write(slba, fill) => {
-            let bytes = [fill.0; MOST];
-            host.driver.start_write(slba, &bytes[..fill.1.min(MOST)])
-        }
-        Ask::Compare(slba, fill) => {
-            let bytes = [fill.0; MOST];
-            host.driver.start_compare(slba, &bytes[..fill.1.min(MOST)])
-        }
-        Ask::CompareAndWrite(slba, fill, other) => {
-            let expected = [fill.0; MOST];
-            let desired = [other.0; MOST];
-            host.driver.start_compare_and_write(
-                slba,
-                &expected[..fill.1.min(MOST)],
-                &desired[..other.1.min(MOST)],
-            )
-        }
-    }
+    begins(&mut host.driver, ask)
 }
 
 /// Polls a call once.
@@ -123,7 +148,7 @@ pub fn polls<'a>(
     ensures polls { Polls host.old host.new call.entry }
     ensures back { IfSome result.1 (λ k. (k ≡ call.entry) × IsCallOf host.new.driver k) }
 {
-    poll_in_words(host.driver.poll(call))
+    polled(&mut host.driver, call)
 }
 
 /// Polls a call until it is answered, at most so many times.

@@ -1,16 +1,16 @@
 //! A driver over a port that answers what it likes.
 
-ghost use Rattle.std.specs.Prelude.{IfErr, IfOk, IfSome};
-ghost use Rattle.driver_cas.specs.Drivers.{IsApart, IsCallOf};
-ghost use Rattle.driver_cas.specs.declared.call.Call.{Call};
+ghost use Rattle.driver_cas.specs.Drivers.{IsCallOf};
 
-use crate::ask::{Told, poll_in_words};
+use crate::ask::{Ask, Told, begins, polled};
 use crate::fake::{Fake, Script};
-use driver_cas::{Call, Driver, Fault, Port, PortFault};
+use driver_cas::{Call, Driver, Fault, PortFault};
 use nvme_model::array::Range;
 use std::alloc::Global;
 use std::process::Abort;
 use std::test::Fail;
+
+const READ: Ask = Ask::Read(0, 1);
 
 /// Success for the command with CID 0 of submission queue 1.
 const GOOD: [u8; 16] = [0, 0, 0, 0, 0, 0, 0, 0, 1, 0, 1, 0, 0, 0, 1, 0];
@@ -41,21 +41,6 @@ fn driver_of(
         Ok(driver) => Ok(driver),
         Err(_) => Err(Fail::from("memory")),
     }
-}
-
-fn reads<P: Port>(driver: &mut Driver<P>) -> Result<Call<P>, Fault>
-    ensures call { IfOk result (λ k. IsCallOf driver.new k) }
-    ensures others { IfOk result (λ k. (j : Call P) → IsCallOf driver.old j → IsCallOf driver.new j × IsApart k j) }
-{
-    driver.start_read(0, 1)
-}
-
-fn polled<P: Port>(driver: &mut Driver<P>, call: Call<P>) -> (Told, Option<Call<P>>)
-    requires { IsCallOf driver.old call }
-    ensures back { IfSome result.1 (λ k. IsCallOf driver.new k) }
-    ensures others { (j : Call P) → IsCallOf driver.old j → IsApart call j → IsCallOf driver.new j }
-{
-    poll_in_words(driver.poll(call))
 }
 
 // That polling a call gives these, the last of which is its answer.
@@ -89,7 +74,7 @@ fn changed(alloc: Global, bit: usize) -> Result<(Told, Told), Fail> {
     reaps.push(Script::Posted(GOOD))?;
     reaps.push(Script::Posted(bad))?;
     let mut driver = driver_of(alloc, Vec::new(alloc), reaps)?;
-    let Ok(call) = reads(&mut driver) else {
+    let Ok(call) = begins(&mut driver, READ) else {
         return Err(Fail::from("a Read"));
     };
     let (first, back) = polled(&mut driver, call);
@@ -139,10 +124,10 @@ fn a_completion_counts_once(rt: HostRuntime) -> Result<(), Fail> {
     reaps.push(Script::Posted(good(1)))?;
     reaps.push(Script::Posted(good(1)))?;
     let mut driver = driver_of(rt.alloc(), Vec::new(rt.alloc()), reaps)?;
-    let Ok(one) = reads(&mut driver) else {
+    let Ok(one) = begins(&mut driver, READ) else {
         return Err(Fail::from("a Read"));
     };
-    let Ok(two) = reads(&mut driver) else {
+    let Ok(two) = begins(&mut driver, READ) else {
         return Err(Fail::from("a second Read"));
     };
     let (told, _) = polled(&mut driver, two);
@@ -164,11 +149,11 @@ fn is_later<R: Abort>(rt: &R, alloc: Global, fault: PortFault, want: Fault) -> R
     reaps.push(Script::NoMemory)?;
     reaps.push(Script::Busy)?;
     let mut driver = driver_of(alloc, refusals, reaps)?;
-    match reads(&mut driver) {
+    match begins(&mut driver, READ) {
         Ok(_) => return Err(Fail::from("a refused Read")),
         Err(fault) => assert_eq!(rt; fault, want),
     }
-    let Ok(call) = reads(&mut driver) else {
+    let Ok(call) = begins(&mut driver, READ) else {
         return Err(Fail::from("a Read"));
     };
     is_told(

@@ -10,7 +10,9 @@ mod hostile;
 mod rows;
 mod serve;
 
-pub use ask::{Ask, Fill, MOST, Told, answers, hears, poll_in_words, polls, starts};
+pub use ask::{
+    Ask, Fill, MOST, Told, answers, begins, hears, poll_in_words, polled, polls, starts,
+};
 pub use bench::{Bench, Host, Server, Spares, bench_of, hand_of, host_of};
 pub use fake::{Did, Fake, Script};
 pub use serve::{ends, fetches, serves};

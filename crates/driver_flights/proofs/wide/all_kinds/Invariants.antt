@@ -1,0 +1,6 @@
+use Rattle.driver_rows.specs.Benches.{IsServerOf}
+use Rattle.driver_flights.specs.Flights.{IsFlightOf}
+use Rattle.driver_flights.proofs.wide.all_kinds.Given as goal
+
+abbrev pub invariant-loop-kind : goal.invariant-loop-kind
+invariant-loop-kind g l = IsServerOf l.bench l.server × IsFlightOf l.bench l.flight

@@ -1,0 +1,109 @@
+//! Calls whose port refuses their Publish, and claims that find too few identifiers.
+
+ghost use Rattle.std.specs.Prelude.{◌≡◌};
+ghost use Rattle.driver_cas.specs.Drivers.{area_of};
+
+use crate::sent::driver_of;
+use driver_cas::{Driver, Fault, PortFault};
+use driver_rows::{Ask, Did, Fake, Fill, begins};
+use nvme_model::submission::Submission;
+use std::alloc::Global;
+use std::process::Abort;
+use std::test::Fail;
+
+#[derive(Clone, Copy, Debug)]
+enum Start {
+    Asks(Ask),
+    /// Of the slot at block 0.
+    Claims,
+    /// Of the same, of the name with serial 1.
+    Releases,
+}
+
+const STARTS: [Start; 7] = [
+    Start::Asks(Ask::Read(1, 2)),
+    Start::Asks(Ask::WriteZeroes(1, 2)),
+    Start::Asks(Ask::Write(1, Fill(0xa1, 1024))),
+    Start::Asks(Ask::Compare(1, Fill(0xa1, 1024))),
+    Start::Asks(Ask::CompareAndWrite(1, Fill(0xa1, 512), Fill(0xb2, 512))),
+    Start::Claims,
+    Start::Releases,
+];
+
+// Begins the call, and drops it; the serial of a claim, else 0.
+fn starts(driver: &mut Driver<Fake>, start: Start) -> Result<u64, Fault>
+    requires { area_of driver.old ≡ record { slba = 0; blocks = 1 } }
+    ensures { area_of driver.new ≡ record { slba = 0; blocks = 1 } }
+{
+    match start {
+        Start::Asks(ask) => begins(driver, ask).map(|_| 0),
+        Start::Claims => driver.start_claim(0).map(|claim| claim.1),
+        Start::Releases => driver.start_release(0, 1).map(|_| 0),
+    }
+}
+
+fn same_items(one: &[Submission], two: &[Submission]) -> bool {
+    one.len() == two.len()
+        && one.iter().zip(two).all(|(a, b)| {
+            a.entry.as_slice() == b.entry.as_slice() && a.payload.as_slice() == b.payload.as_slice()
+        })
+}
+
+// Whether each published one batch, and these are alike.
+fn one_alike(one: Driver<Fake>, two: Driver<Fake>) -> bool {
+    let (one, two) = (one.into_port(), two.into_port());
+    let ([Did::Sent(queue, batch)], [Did::Sent(other, same)]) = (
+        one.did.as_slice(),
+        two.did.as_slice(),
+    ) else {
+        return false;
+    };
+    queue == other && same_items(batch.as_slice(), same.as_slice())
+}
+
+// That it is refused so, and then begun as by a driver that wasn't refused.
+fn as_before<R: Abort>(
+    rt: &R,
+    alloc: Global,
+    start: Start,
+    refusal: PortFault,
+    fault: Fault,
+) -> Result<(), Fail> {
+    let mut driver = driver_of(alloc, &[1], &[refusal], &[])?;
+    let mut other = driver_of(alloc, &[1], &[], &[])?;
+    let serial = if matches!(start, Start::Claims) { 1 } else { 0 };
+    assert_eq!(rt; starts(&mut driver, start), Err(fault), "{start:?}");
+    assert_eq!(rt; starts(&mut driver, start), Ok(serial), "{start:?}");
+    assert_eq!(rt; starts(&mut other, start), Ok(serial), "{start:?}");
+    assert!(rt; one_alike(driver, other), "{start:?}");
+    Ok(())
+}
+
+#[test]
+fn after_a_fault_the_driver_is_as_before(rt: HostRuntime) -> Result<(), Fail> {
+    for start in STARTS {
+        for (refusal, fault) in [
+            (PortFault::RingFull, Fault::RingFull),
+            (PortFault::Busy, Fault::Busy),
+            (PortFault::NoMemory, Fault::NoMemory),
+        ] {
+            as_before(&rt, rt.alloc(), start, refusal, fault)?;
+        }
+    }
+    Ok(())
+}
+
+// No serial is used up.
+#[test]
+fn a_claim_needs_two_identifiers(rt: HostRuntime) -> Result<(), Fail> {
+    let mut driver = driver_of(rt.alloc(), &[1], &[], &[])?;
+    assert_eq!(rt; starts(&mut driver, Start::Claims), Ok(1));
+    for _ in 0..61 {
+        assert_eq!(rt; starts(&mut driver, STARTS[0]), Ok(0));
+    }
+    assert_eq!(rt; starts(&mut driver, Start::Claims), Err(Fault::RingFull));
+    assert_eq!(rt; starts(&mut driver, Start::Releases), Err(Fault::RingFull));
+    assert_eq!(rt; starts(&mut driver, STARTS[0]), Ok(0));
+    assert_eq!(rt; starts(&mut driver, STARTS[0]), Err(Fault::RingFull));
+    Ok(())
+}

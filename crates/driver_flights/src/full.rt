@@ -1,0 +1,120 @@
+//! Submission queues that are full.
+
+ghost use Rattle.std.specs.Prelude.{◌≡◌, IfOk};
+ghost use Rattle.history.specs.Config.{numbers};
+ghost use Rattle.driver_rows.specs.Benches.{AreOf};
+
+use crate::closing::closes;
+use crate::hands::on_both;
+use crate::sent::{Sent, one, published_in, two};
+use crate::turns::{Turn, turns_all};
+use crate::under_way::pass_of;
+use driver_cas::Fault;
+use driver_rows::{Ask, Bench, Fill, Spares, Told, bench_of, hand_of};
+use history::Config;
+use std::alloc::Global;
+use std::process::Abort;
+use std::sync::Wait;
+use std::test::Fail;
+
+const READ: Ask = Ask::Read(1, 1);
+
+const PAIR: Ask = Ask::CompareAndWrite(1, Fill(0xa1, 512), Fill(0xb2, 512));
+
+const FULL: Fault = Fault::RingFull;
+
+const ZEROS: Told = Told::Read(512, 0);
+
+// A bench of `config2 8 1 1 0 0 2 SQ 8 8 1`.
+fn narrow(alloc: Global, sq: u16) -> Result<(Bench, Spares), Fail>
+    ensures own { IfOk result (λ b. AreOf b.0 b.1) }
+    ensures config { IfOk result (λ b. b.0.config ≡ numbers 8 1 1 0 0 2 sq 8 8 1) }
+{
+    let Ok(config) = Config::with_cqs(8, 1, 1, 0, 0, 2, sq, 8, 8, 1) else {
+        return Err(Fail::from("the configuration is refused"));
+    };
+    Ok(bench_of(alloc, config, 8, 2)?)
+}
+
+// That these turns publish these batches, where a submission queue has room for one entry less than `sq`.
+fn publishes<R: Abort + Wait>(
+    rt: &R,
+    alloc: Global,
+    sq: u16,
+    turns: &[Turn],
+    all: &[Sent],
+) -> Result<(), Fail> {
+    let (bench, mut spares) = narrow(alloc, sq)?;
+    let mut server = hand_of(&bench, &mut spares).ok_or("a server")?;
+    let hand = hand_of(&bench, &mut spares).ok_or("a host")?;
+    let mut flight = on_both(alloc, &bench, hand)?;
+    turns_all(rt, &bench, &mut server, &mut flight, turns);
+    let pass = pass_of(&bench, flight);
+    let core = closes(bench, pass)?;
+    let sent = published_in(alloc, core.history().as_slice())?;
+    assert_eq!(rt; sent.as_slice(), all);
+    Ok(())
+}
+
+#[test]
+fn one_entry_fills_a_queue(rt: HostRuntime) -> Result<(), Fail> {
+    let turns = [
+        Turn::Refused(PAIR, FULL),
+        Turn::Begin(READ),
+        Turn::Begin(READ),
+        Turn::Refused(READ, FULL),
+        Turn::Refused(PAIR, FULL),
+        Turn::Serve(1),
+        Turn::Begin(READ),
+        Turn::Refused(READ, FULL),
+        Turn::Serve(1),
+        Turn::Serve(2),
+        Turn::Listen(true),
+        Turn::Listen(true),
+        Turn::Listen(true),
+        Turn::End(0, 1, ZEROS),
+        Turn::End(0, 2, ZEROS),
+        Turn::End(0, 1, ZEROS),
+    ];
+    publishes(
+        &rt,
+        rt.alloc(),
+        2,
+        &turns,
+        &[one(1, 0), one(2, 0), one(1, 1)],
+    )
+}
+
+// A pair goes to the first submission queue that has room for both of its entries.
+#[test]
+fn two_entries_fill_a_queue(rt: HostRuntime) -> Result<(), Fail> {
+    let turns = [
+        Turn::Begin(READ),
+        Turn::Begin(PAIR),
+        Turn::Begin(READ),
+        Turn::Refused(READ, FULL),
+        Turn::Refused(PAIR, FULL),
+        Turn::Serve(2),
+        Turn::Begin(READ),
+        Turn::Refused(PAIR, FULL),
+        Turn::Serve(1),
+        Turn::Begin(PAIR),
+        Turn::Serve(1),
+        Turn::Serve(2),
+        Turn::Listen(true),
+        Turn::Listen(true),
+        Turn::Listen(true),
+        Turn::Listen(true),
+        Turn::Listen(true),
+        Turn::Listen(true),
+        Turn::Listen(true),
+        Turn::Listen(false),
+        Turn::End(0, 3, ZEROS),
+        Turn::End(0, 1, Told::Differs),
+        Turn::End(0, 1, ZEROS),
+        Turn::End(0, 3, ZEROS),
+        Turn::End(0, 1, Told::Differs),
+    ];
+    let all = [one(1, 0), two(2, 0, 1), one(1, 1), one(2, 2), two(1, 2, 3)];
+    publishes(&rt, rt.alloc(), 3, &turns, &all)
+}

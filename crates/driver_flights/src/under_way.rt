@@ -1,0 +1,137 @@
+//! A host with its calls in flight, and the Works of a server that aren't begun.
+
+ghost use Rattle.std.specs.Prelude.{◌≡◌, All, true};
+ghost use Rattle.work_queue.specs.Engines.{IsOf, IsWorkOf};
+ghost use Rattle.driver_rows.specs.Benches.{IsHostOf, IsServerOf};
+ghost use Rattle.driver_flights.specs.Flights.{HaveMet, IsFlightOf};
+
+use crate::flights::{begins_one, ends_one, no_calls};
+use driver_cas::{Call, Fault, SharedPort};
+use driver_rows::{Ask, Bench, Host, Server, Told, ends, fetches, hears};
+use meet_lock::Pass;
+use std::alloc::{AllocError as NoMemory, Global};
+use std::sync::Wait;
+use step_core::Core;
+use work_queue::Work;
+
+/// A host with its calls in flight.
+#[derive(Drop)]
+pub struct Flight<'a> {
+    pub host: Host<'a>,
+    pub calls: Vec<Call<SharedPort<'a>>>,
+}
+
+/// A host with no call in flight.
+pub fn flight_of<'a>(alloc: Global, bench: &Bench, host: Host<'a>) -> Flight<'a>
+    requires { IsHostOf bench.now host }
+    ensures { IsFlightOf bench.now result }
+{
+    let _ = bench;
+    let calls = no_calls(alloc, &host.driver);
+    Flight { host, calls }
+}
+
+/// Begins a call, and puts it behind the others.
+///
+/// # Errors
+///
+/// What the driver answers, and `NoMemory` where there is no room for one call more; the others stay.
+pub fn launches(bench: &Bench, flight: &mut Flight<'_>, ask: Ask) -> Result<(), Fault>
+    requires { IsFlightOf bench.now flight.old }
+    ensures { IsFlightOf bench.now flight.new }
+{
+    let _ = bench;
+    begins_one(&mut flight.host.driver, &mut flight.calls, ask)
+}
+
+/// Polls the call at a place, the first at 0, until it is answered, at most so many times: what it was told, and how often it
+/// was polled. It is in flight no longer. None where there is no such call.
+pub fn lands(bench: &Bench, flight: &mut Flight<'_>, place: usize, most: u32) -> Option<(Told, u32)>
+    requires { IsFlightOf bench.now flight.old }
+    ensures { IsFlightOf bench.now flight.new }
+{
+    let _ = bench;
+    ends_one(&mut flight.host.driver, &mut flight.calls, place, most)
+}
+
+/// Learns all notices that are there; how many.
+pub fn hears_all<R: Wait>(rt: &R, bench: &Bench, flight: &mut Flight<'_>) -> u32
+    requires { IsFlightOf bench.now flight.old }
+    ensures { IsFlightOf bench.now flight.new }
+{
+    hears(rt, bench, &mut flight.host)
+}
+
+/// Takes at most one notice; whether it took one.
+pub fn listens<R: Wait>(rt: &R, bench: &Bench, flight: &mut Flight<'_>) -> bool
+    requires { IsFlightOf bench.now flight.old }
+    ensures { IsFlightOf bench.now flight.new }
+{
+    let host = &mut flight.host;
+    host.driver.listen(rt, &bench.notices, &mut host.place)
+}
+
+/// Both hosts have seen the whole history so far; false where another caller had the controller.
+pub fn meets(bench: &Bench, one: &mut Flight<'_>, two: &mut Flight<'_>) -> bool
+    requires { IsFlightOf bench.now one.old × IsFlightOf bench.now two.old }
+    ensures same { IsFlightOf bench.now one.new × IsFlightOf bench.now two.new }
+    ensures met { result ≡ true → HaveMet one.old two.old one.new two.new }
+{
+    let _ = bench;
+    one.host.driver.meet(&mut two.host.driver).is_ok()
+}
+
+/// The host's pass, given back.
+pub fn pass_of(bench: &Bench, flight: Flight<'_>) -> Pass<Core>
+    requires { IsFlightOf bench.now flight }
+    ensures { IsOf bench.now.engine result }
+{
+    let _ = bench;
+    let Flight { host, calls: _ } = flight;
+    host.driver.into_port().into_pass()
+}
+
+/// Fetches all commands of a submission queue, and puts their Works behind the others; how many.
+///
+/// # Errors
+///
+/// `NoMemory`; a Work that there is no room for is dropped.
+pub fn fetches_all(
+    bench: &Bench,
+    server: &mut Server,
+    queue: u16,
+    works: &mut Vec<Work>,
+) -> Result<u32, NoMemory>
+    requires server { IsServerOf bench.now server.old }
+    requires works { All (IsWorkOf bench.now.engine) works.old.items }
+    ensures server { IsServerOf bench.now server.new }
+    ensures works { All (IsWorkOf bench.now.engine) works.new.items }
+{
+    let mut count: u32 = 0;
+    for _ in 0..1024 {
+        let Some(work) = fetches(bench, server, queue) else {
+            return Ok(count);
+        };
+        works.push(work)?;
+        count = count.saturating_add(1);
+    }
+    Ok(count)
+}
+
+/// Makes all tasks of the newest Work; whether there was one and none was refused.
+pub fn ends_newest<R: Wait>(
+    rt: &R,
+    bench: &Bench,
+    server: &mut Server,
+    works: &mut Vec<Work>,
+) -> bool
+    requires server { IsServerOf bench.now server.old }
+    requires works { All (IsWorkOf bench.now.engine) works.old.items }
+    ensures server { IsServerOf bench.now server.new }
+    ensures works { All (IsWorkOf bench.now.engine) works.new.items }
+{
+    let Some(work) = works.pop() else {
+        return false;
+    };
+    ends(rt, bench, server, work)
+}
