@@ -1,0 +1,5 @@
+//! The product and the peer behind functions of one shape.
+
+pub mod both;
+#[cfg(feature = "count")]
+pub mod memory;

@@ -1,0 +1,76 @@
+//! Steps as they lie in memory, for the peer and for a library of functions with C names.
+
+use peer::{Config, Step, Submission};
+
+#[repr(C)]
+#[derive(Clone, Copy, Debug)]
+pub struct Numbers {
+    pub blocks: u32,
+    pub awun: u16,
+    pub acwu: u16,
+    pub nabsn: u16,
+    pub nabo: u16,
+    pub pairs: u16,
+    pub sq_size: u16,
+    pub cq_size: u16,
+    pub jobs: u16,
+    pub cqs: u16,
+}
+
+/// One step: kind 0 to 5 is Publish, Fetch, Grant, Block, Post, Reap; `number` is its queue or ticket. A Publish has
+/// `count` entries, from `at` on: 64 bytes each, and then `first` or `second` bytes of data.
+#[repr(C)]
+#[derive(Clone, Copy, Debug)]
+pub struct Asked {
+    pub kind: u32,
+    pub count: u32,
+    pub number: u64,
+    pub at: usize,
+    pub first: usize,
+    pub second: usize,
+}
+
+pub fn config_of(numbers: &Numbers) -> Option<Config> {
+    let n = *numbers;
+    let config = Config {
+        blocks: n.blocks,
+        awun: n.awun,
+        acwu: n.acwu,
+        nabsn: n.nabsn,
+        nabo: n.nabo,
+        pairs: n.pairs,
+        sq_size: n.sq_size,
+        cq_size: n.cq_size,
+        jobs: n.jobs,
+        cqs: n.cqs,
+    };
+    config.fault().is_none().then_some(config)
+}
+
+fn submission_at(bytes: &[u8], at: usize, length: usize) -> Option<Submission> {
+    let rest = bytes.get(at..)?;
+    let entry = rest.get(..64)?.try_into().ok()?;
+    let payload = rest.get(64..)?.get(..length)?.to_vec();
+    Some(Submission { entry, payload })
+}
+
+pub fn step_of(bytes: &[u8], asked: &Asked) -> Option<Step> {
+    let queue = (asked.number % 65_536) as u16;
+    Some(match asked.kind {
+        0 => {
+            let mut batch = Vec::with_capacity(2);
+            if asked.count > 0 {
+                batch.push(submission_at(bytes, asked.at, asked.first)?);
+            }
+            if asked.count > 1 {
+                batch.push(submission_at(bytes, asked.at + 64 + asked.first, asked.second)?);
+            }
+            Step::Publish(queue, batch)
+        }
+        1 => Step::Fetch(queue),
+        2 => Step::Grant(asked.number),
+        3 => Step::Block(asked.number),
+        4 => Step::Post(asked.number),
+        _ => Step::Reap(queue),
+    })
+}

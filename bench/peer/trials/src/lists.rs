@@ -1,0 +1,572 @@
+//! Lists of steps: the workloads, and random ones.
+
+use crate::asked::{Asked, Numbers, step_of};
+use peer::sqe::command;
+use peer::{Answer, Config, Core, Kind};
+use std::cell::Cell;
+use std::collections::VecDeque;
+
+/// Steps, and the bytes of their entries.
+pub struct List {
+    pub numbers: Numbers,
+    pub asked: Vec<Asked>,
+    pub bytes: Vec<u8>,
+}
+
+pub fn numbers(blocks: u32, awun: u16) -> Numbers {
+    Numbers { blocks, awun, acwu: awun, nabsn: 0, nabo: 0, pairs: 1, sq_size: 8, cq_size: 8, jobs: 8, cqs: 1 }
+}
+
+fn other(kind: u32, number: u64) -> Asked {
+    Asked { kind, count: 0, number, at: 0, first: 0, second: 0 }
+}
+
+pub const FLUSH: u8 = 0x00;
+pub const WRITE: u8 = 0x01;
+pub const READ: u8 = 0x02;
+pub const COMPARE: u8 = 0x05;
+pub const ZEROES: u8 = 0x08;
+
+impl List {
+    pub fn new(numbers: Numbers) -> List {
+        List { numbers, asked: Vec::new(), bytes: Vec::new() }
+    }
+
+    /// Puts an entry with its data among the bytes, and says where.
+    pub fn entry(&mut self, entry: &[u8; 64], data: &[u8]) -> usize {
+        let at = self.bytes.len();
+        self.bytes.extend_from_slice(entry);
+        self.bytes.extend_from_slice(data);
+        at
+    }
+
+    pub fn publish(&mut self, queue: u16, count: u32, at: usize, first: usize, second: usize) {
+        self.asked.push(Asked { kind: 0, count, number: u64::from(queue), at, first, second });
+    }
+
+    pub fn fetch(&mut self, queue: u16) {
+        self.asked.push(other(1, u64::from(queue)));
+    }
+
+    pub fn grant(&mut self, ticket: u64) {
+        self.asked.push(other(2, ticket));
+    }
+
+    pub fn block(&mut self, ticket: u64) {
+        self.asked.push(other(3, ticket));
+    }
+
+    pub fn post(&mut self, ticket: u64) {
+        self.asked.push(other(4, ticket));
+    }
+
+    pub fn reap(&mut self, queue: u16) {
+        self.asked.push(other(5, u64::from(queue)));
+    }
+}
+
+fn pattern(blocks: usize, seed: usize) -> Vec<u8> {
+    (0..512 * blocks).map(|place| (place * 7 + seed * 13 + 1) as u8).collect()
+}
+
+/// Writes of so many blocks, one ticket after the other.
+pub fn writes(numbers: Numbers, blocks: u16, count: usize) -> List {
+    let mut list = List::new(numbers);
+    let places = (numbers.blocks as usize / usize::from(blocks)).min(if blocks == 1 { 256 } else { 4 });
+    let stride = numbers.blocks as usize / places;
+    let entries: Vec<usize> = (0..places)
+        .map(|place| {
+            let entry = command(WRITE, 0, place as u16, (place * stride) as u64, blocks - 1);
+            list.entry(&entry, &pattern(usize::from(blocks), place))
+        })
+        .collect();
+    for turn in 0..count {
+        let ticket = turn as u64 + 1;
+        list.publish(1, 1, entries[turn % places], 512 * usize::from(blocks), 0);
+        list.fetch(1);
+        list.grant(ticket);
+        for _ in 0..blocks {
+            list.block(ticket);
+        }
+        list.post(ticket);
+        list.reap(1);
+    }
+    list
+}
+
+/// Reads of so many blocks, one ticket after the other.
+pub fn reads(numbers: Numbers, blocks: u16, count: usize) -> List {
+    let mut list = List::new(numbers);
+    let entry = list.entry(&command(READ, 0, 1, 0, blocks - 1), &[]);
+    for turn in 0..count {
+        let ticket = turn as u64 + 1;
+        list.publish(1, 1, entry, 0, 0);
+        list.fetch(1);
+        list.grant(ticket);
+        for _ in 0..blocks {
+            list.block(ticket);
+        }
+        list.post(ticket);
+        list.reap(1);
+    }
+    list
+}
+
+/// Fused pairs of one block that all win, one ticket after the other.
+pub fn pairs(numbers: Numbers, count: usize) -> List {
+    let mut list = List::new(numbers);
+    let (zeros, ones) = ([0; 512], [0xA1; 512]);
+    let pair = |list: &mut List, from: &[u8], to: &[u8]| {
+        let at = list.entry(&command(COMPARE, 1, 1, 3, 0), from);
+        list.entry(&command(WRITE, 2, 2, 3, 0), to);
+        at
+    };
+    let there = pair(&mut list, &zeros, &ones);
+    let back = pair(&mut list, &ones, &zeros);
+    for turn in 0..count {
+        let ticket = turn as u64 + 1;
+        list.publish(1, 2, if turn % 2 == 0 { there } else { back }, 512, 512);
+        list.fetch(1);
+        list.grant(ticket);
+        list.block(ticket);
+        list.block(ticket);
+        list.post(ticket);
+        list.post(ticket);
+        list.reap(1);
+        list.reap(1);
+    }
+    list
+}
+
+/// So many tickets in flight, each a Write of one block with its unit open; in turn the oldest ends and a new one comes.
+pub fn in_flight(tickets: u16, turns: usize) -> List {
+    let mut numbers = numbers(4096, 0);
+    numbers.jobs = tickets;
+    let mut list = List::new(numbers);
+    let entries: Vec<usize> = (0..512u16)
+        .map(|place| list.entry(&command(WRITE, 0, place, u64::from(place) * 8, 0), &pattern(1, usize::from(place))))
+        .collect();
+    let mut newest = 0;
+    let mut begin = |list: &mut List| {
+        list.publish(1, 1, entries[newest as usize % 512], 512, 0);
+        list.fetch(1);
+        newest += 1;
+        list.grant(newest);
+    };
+    for _ in 0..tickets {
+        begin(&mut list);
+    }
+    for oldest in 1..=turns as u64 {
+        list.block(oldest);
+        list.post(oldest);
+        list.reap(1);
+        begin(&mut list);
+    }
+    list
+}
+
+/// The same where the newest ends and the older ones stay.
+pub fn idle_in_flight(tickets: u16, turns: usize) -> List {
+    let mut numbers = numbers(4096, 0);
+    numbers.jobs = tickets;
+    let mut list = List::new(numbers);
+    let entries: Vec<usize> = (0..512u16)
+        .map(|place| list.entry(&command(WRITE, 0, place, u64::from(place) * 8, 0), &pattern(1, usize::from(place))))
+        .collect();
+    for place in 0..tickets - 1 {
+        list.publish(1, 1, entries[usize::from(place)], 512, 0);
+        list.fetch(1);
+        list.grant(u64::from(place) + 1);
+    }
+    for turn in 0..turns as u64 {
+        let ticket = u64::from(tickets) + turn;
+        list.publish(1, 1, entries[511], 512, 0);
+        list.fetch(1);
+        list.grant(ticket);
+        list.block(ticket);
+        list.post(ticket);
+        list.reap(1);
+    }
+    list
+}
+
+/// So many tickets that stay in flight, with no unit open, beside Flushes, one after the other.
+pub fn flushes_beside(tickets: u16, turns: usize) -> List {
+    let mut numbers = numbers(4096, 0);
+    numbers.jobs = tickets + 1;
+    let mut list = List::new(numbers);
+    let idle = list.entry(&command(READ, 0, 1, 0, 0), &[]);
+    let flush = list.entry(&command(FLUSH, 0, 2, 0, 0), &[]);
+    for _ in 0..tickets {
+        list.publish(1, 1, idle, 0, 0);
+        list.fetch(1);
+    }
+    for turn in 0..turns as u64 {
+        list.publish(1, 1, flush, 0, 0);
+        list.fetch(1);
+        list.post(u64::from(tickets) + turn + 1);
+        list.reap(1);
+    }
+    list
+}
+
+/// So many tickets with open units of one block beside Writes, one after the other, of so many units of one block.
+pub fn grants_beside(tickets: u16, units: u16, turns: usize) -> List {
+    let mut numbers = numbers(65_536, 0);
+    numbers.jobs = tickets + 1;
+    let mut list = List::new(numbers);
+    for place in 0..tickets {
+        let idle = list.entry(&command(READ, 0, place, 1024 + u64::from(place) * 8, 0), &[]);
+        list.publish(1, 1, idle, 0, 0);
+        list.fetch(1);
+        list.grant(u64::from(place) + 1);
+    }
+    let write = list.entry(&command(WRITE, 0, 1000, 0, units - 1), &pattern(usize::from(units), 1));
+    for turn in 0..turns as u64 {
+        let ticket = u64::from(tickets) + turn + 1;
+        list.publish(1, 1, write, 512 * usize::from(units), 0);
+        list.fetch(1);
+        for _ in 0..units {
+            list.grant(ticket);
+            list.block(ticket);
+        }
+        list.post(ticket);
+        list.reap(1);
+    }
+    list
+}
+
+/// 256 tickets in flight on 16 queues, each a Write of 16 blocks in units of one, of which one is always open.
+pub fn many_open(turns: usize) -> List {
+    let numbers =
+        Numbers { blocks: 65_536, awun: 0, acwu: 0, nabsn: 0, nabo: 0, pairs: 16, sq_size: 32, cq_size: 32, jobs: 256, cqs: 16 };
+    let mut list = List::new(numbers);
+    let entries: Vec<usize> = (0..512u64)
+        .map(|place| list.entry(&command(WRITE, 0, place as u16, place * 128 % 65_536, 15), &pattern(16, place as usize)))
+        .collect();
+    let mut newest = 0u64;
+    for turn in 0..turns as u64 {
+        let first = turn * 256 + 1;
+        for place in 0..256u16 {
+            list.publish(place % 16 + 1, 1, entries[newest as usize % 512], 16 * 512, 0);
+            list.fetch(place % 16 + 1);
+            newest += 1;
+            list.grant(newest);
+        }
+        for unit in 0..16 {
+            for ticket in first..first + 256 {
+                list.block(ticket);
+                if unit < 15 {
+                    list.grant(ticket);
+                }
+            }
+        }
+        for ticket in first..first + 256 {
+            list.post(ticket);
+            list.reap(((ticket - first) % 16) as u16 + 1);
+        }
+    }
+    list
+}
+
+/// Numbers by xorshift.
+pub struct Random(Cell<u64>);
+
+impl Random {
+    pub fn new(seed: u64) -> Random {
+        Random(Cell::new(seed.wrapping_mul(0x9E37_79B9_7F4A_7C15) | 1))
+    }
+
+    /// A number below n.
+    pub fn up_to(&self, n: u64) -> u64 {
+        let mut state = self.0.get();
+        state ^= state << 13;
+        state ^= state >> 7;
+        state ^= state << 17;
+        self.0.set(state);
+        (state.wrapping_mul(0x2545_F491_4F6C_DD1D) >> 32) % n
+    }
+
+    pub fn one_in(&self, n: u64) -> bool {
+        self.up_to(n) == 0
+    }
+}
+
+pub fn config_of(n: &Numbers) -> Config {
+    Config {
+        blocks: n.blocks,
+        awun: n.awun,
+        acwu: n.acwu,
+        nabsn: n.nabsn,
+        nabo: n.nabo,
+        pairs: n.pairs,
+        sq_size: n.sq_size,
+        cq_size: n.cq_size,
+        jobs: n.jobs,
+        cqs: n.cqs,
+    }
+}
+
+#[derive(Clone, Copy, PartialEq)]
+enum Due {
+    Grant,
+    Block,
+    Post,
+}
+
+/// 16 queues and about 256 tickets in flight, of all operations on 1 to 8 blocks: so many steps.
+pub fn mixed(seed: u64, steps: usize) -> List {
+    let numbers =
+        Numbers { blocks: 65_536, awun: 3, acwu: 7, nabsn: 0, nabo: 0, pairs: 16, sq_size: 64, cq_size: 64, jobs: 256, cqs: 16 };
+    let random = Random::new(seed);
+    let mut list = List::new(numbers);
+    // entries with their data, of each operation; the first 64 blocks of each are bytes that a Compare finds
+    let mut stock: Vec<(u32, usize, usize, usize)> = Vec::new();
+    for place in 0..1024u64 {
+        let blocks = 1 + random.up_to(8) as u16;
+        let length = 512 * usize::from(blocks);
+        let slba = random.up_to(65_536 - 8);
+        let cid = place as u16 * 2;
+        let data = pattern(usize::from(blocks), random.up_to(3) as usize);
+        let one = match random.up_to(10) {
+            0..=3 => (1, list.entry(&command(WRITE, 0, cid, slba, blocks - 1), &data), length, 0),
+            4..=6 => (1, list.entry(&command(READ, 0, cid, slba, blocks - 1), &[]), 0, 0),
+            7 => (1, list.entry(&command(COMPARE, 0, cid, slba, blocks - 1), &vec![0; length]), length, 0),
+            8 => (1, list.entry(&command(ZEROES, 0, cid, slba, blocks - 1), &[]), 0, 0),
+            _ => {
+                let at = list.entry(&command(COMPARE, 1, cid, slba, blocks - 1), &vec![0; length]);
+                list.entry(&command(WRITE, 2, cid + 1, slba, blocks - 1), &data);
+                (2, at, length, length)
+            }
+        };
+        stock.push(one);
+    }
+    let mut core = Core::new(config_of(&numbers));
+    let mut flying: Vec<(u64, u16, u32, Due)> = Vec::new();
+    let mut next = 0;
+    while list.asked.len() < steps {
+        if flying.len() < 256 {
+            let queue = random.up_to(16) as u16 + 1;
+            let (count, at, first, second) = stock[next % 1024];
+            next += 1;
+            list.publish(queue, count, at, first, second);
+            if core.step(step_of(&list.bytes, list.asked.last().unwrap()).unwrap()).is_err() {
+                continue;
+            }
+            list.fetch(queue);
+            if let Ok(Answer::Fetched(ticket, kind)) = core.step(step_of(&list.bytes, list.asked.last().unwrap()).unwrap()) {
+                flying.push(match kind {
+                    Kind::Failed(owed) => (ticket, queue, u32::from(owed), Due::Post),
+                    Kind::Flush => (ticket, queue, 1, Due::Post),
+                    Kind::Units(..) => (ticket, queue, 1, Due::Grant),
+                    Kind::Pair(_) => (ticket, queue, 2, Due::Grant),
+                });
+            }
+            continue;
+        }
+        let place = random.up_to(flying.len() as u64) as usize;
+        let (ticket, queue, owed, due) = flying[place];
+        match due {
+            Due::Grant => list.grant(ticket),
+            Due::Block => list.block(ticket),
+            Due::Post => list.post(ticket),
+        }
+        let answer = core.step(step_of(&list.bytes, list.asked.last().unwrap()).unwrap());
+        match answer {
+            Ok(Answer::Granted(..)) => flying[place].3 = Due::Block,
+            Ok(Answer::Blocked(done)) if done.ended => flying[place].3 = Due::Grant,
+            Ok(Answer::Blocked(_)) => {}
+            Ok(Answer::Posted(_)) => {
+                flying[place].2 -= 1;
+                list.reap(queue);
+                let _ = core.step(step_of(&list.bytes, list.asked.last().unwrap()).unwrap());
+                if owed == 1 {
+                    flying.swap_remove(place);
+                }
+            }
+            Err(refused) if due == Due::Grant && refused.why() == peer::Why::WrongState => flying[place].3 = Due::Post,
+            _ => {}
+        }
+    }
+    list
+}
+
+/// A short list of random steps, right and wrong, over a random small configuration.
+pub fn random_list(seed: u64) -> List {
+    let random = Random::new(seed);
+    let awun = random.up_to(4) as u16;
+    let acwu = random.up_to(4) as u16;
+    let nabsn = if random.one_in(2) { 0 } else { awun.max(acwu) + random.up_to(3) as u16 };
+    let pairs = 1 + random.up_to(3) as u16;
+    let numbers = Numbers {
+        blocks: 1 + random.up_to(24) as u32,
+        awun,
+        acwu,
+        nabsn,
+        nabo: random.up_to(u64::from(nabsn) + 1) as u16,
+        pairs,
+        sq_size: 2 + random.up_to(6) as u16,
+        cq_size: 2 + random.up_to(5) as u16,
+        jobs: 1 + random.up_to(6) as u16,
+        cqs: 1 + random.up_to(u64::from(pairs)) as u16,
+    };
+    let mut list = List::new(numbers);
+    // the tickets that the peer has in flight there, so that most steps are of these
+    let mut core = Core::new(config_of(&numbers));
+    let mut recent: VecDeque<u64> = VecDeque::new();
+    let mut fetched = 0;
+    let mut told = 0;
+    let entry = |random: &Random, fuse: u8, opcode: u8, like: Option<(u64, u16)>| {
+        let blocks = u64::from(numbers.blocks);
+        let (slba, nlb) = like.unwrap_or((random.up_to(blocks + 1), random.up_to(if random.one_in(20) { 300 } else { 5 }) as u16));
+        let (slba, nlb) = if opcode == FLUSH && !random.one_in(8) { (0, 0) } else { (slba, nlb) };
+        let mut bytes = command(opcode, fuse, random.up_to(if random.one_in(3) { 4 } else { 4000 }) as u16, slba, nlb);
+        if random.one_in(25) {
+            let place = random.up_to(64) as usize;
+            bytes[place] = random.up_to(4) as u8;
+        }
+        let needs = if opcode == WRITE || opcode == COMPARE { 512 * (usize::from(nlb) + 1) } else { 0 };
+        let length = if random.one_in(30) { random.up_to(1200) as usize } else { needs };
+        let mut data = vec![0; length];
+        for block in data.chunks_mut(512) {
+            block.fill([0, 0, 0, 0xA1, 0xB2][random.up_to(5) as usize]);
+            if random.one_in(12) {
+                let place = random.up_to(block.len() as u64) as usize;
+                block[place] = random.up_to(256) as u8;
+            }
+        }
+        (bytes, data, (slba, nlb))
+    };
+    for _ in 0..20 + random.up_to(160) {
+        for asked in &list.asked[told..] {
+            match core.step(step_of(&list.bytes, asked).unwrap()) {
+                Ok(Answer::Fetched(ticket, _)) => {
+                    fetched = ticket;
+                    recent.push_back(ticket);
+                    if recent.len() > 5 {
+                        recent.pop_front();
+                    }
+                }
+                Err(refused) if refused.why() == peer::Why::NoTicket => recent.retain(|ticket| *ticket != asked.number),
+                _ => {}
+            }
+        }
+        told = list.asked.len();
+        let queue = random.up_to(u64::from(pairs) + if random.one_in(20) { 3 } else { 0 }) as u16 + u16::from(!random.one_in(30));
+        let ticket = match random.up_to(12) {
+            0 => random.up_to(fetched + 3),
+            _ if recent.is_empty() => 1,
+            _ => recent[random.up_to(recent.len() as u64) as usize],
+        };
+        match random.up_to(20) {
+            0..=3 => {
+                if random.one_in(40) {
+                    list.publish(queue, 0, 0, 0, 0);
+                    continue;
+                }
+                let opcode = [WRITE, READ, COMPARE, ZEROES, FLUSH, WRITE, READ, 0x7F][random.up_to(if random.one_in(20) { 8 } else { 7 }) as usize];
+                let fuse = if random.one_in(15) { random.up_to(4) as u8 } else { 0 };
+                if random.one_in(3) {
+                    let (one, data, like) = entry(&random, 1, COMPARE, None);
+                    let like = (!random.one_in(8)).then_some(like);
+                    let (two, more, _) = entry(&random, 2, if random.one_in(12) { READ } else { WRITE }, like);
+                    let at = list.entry(&one, &data);
+                    list.entry(&two, &more);
+                    list.publish(queue, 2, at, data.len(), more.len());
+                } else {
+                    let (one, data, _) = entry(&random, fuse, opcode, None);
+                    let at = list.entry(&one, &data);
+                    if random.one_in(6) {
+                        let (two, more, _) = entry(&random, 0, opcode, None);
+                        list.entry(&two, &more);
+                        list.publish(queue, 2, at, data.len(), more.len());
+                    } else {
+                        list.publish(queue, 1, at, data.len(), 0);
+                    }
+                }
+            }
+            4..=6 => {
+                list.fetch(queue);
+            }
+            7..=9 => list.grant(ticket),
+            10..=14 => list.block(ticket),
+            15..=17 => list.post(ticket),
+            _ => list.reap(queue),
+        }
+    }
+    list
+}
+
+fn put_hex(out: &mut Vec<u8>, bytes: &[u8]) {
+    for byte in bytes {
+        out.extend_from_slice(format!("{byte:02X}").as_bytes());
+    }
+}
+
+fn put_data(out: &mut Vec<u8>, data: &[u8]) {
+    if data.is_empty() {
+        out.push(b'-');
+    } else if data.len() % 512 != 0 {
+        out.push(b'x');
+        put_hex(out, data);
+    } else {
+        for (place, block) in data.chunks(512).enumerate() {
+            if place > 0 {
+                out.push(b'.');
+            }
+            let same = block.iter().all(|byte| *byte == block[0]);
+            put_hex(out, if same { &block[..1] } else { block });
+        }
+    }
+}
+
+impl List {
+    /// The configuration line.
+    pub fn config_text(&self) -> String {
+        let n = self.numbers;
+        let nine = format!(
+            "{} {} {} {} {} {} {} {} {}",
+            n.blocks, n.awun, n.acwu, n.nabsn, n.nabo, n.pairs, n.sq_size, n.cq_size, n.jobs
+        );
+        if n.cqs == n.pairs { format!("config {nine}\n") } else { format!("config2 {nine} {}\n", n.cqs) }
+    }
+
+    /// The lines of a script that asks for these steps; a Publish without an entry has none.
+    pub fn line(&self, asked: &Asked, out: &mut Vec<u8>) {
+        let kind = ["publish", "fetch", "grant", "block", "post", "reap"][asked.kind as usize];
+        if asked.kind != 0 {
+            out.extend_from_slice(format!("{kind} {}\n", asked.number).as_bytes());
+            return;
+        }
+        if asked.count == 0 {
+            return;
+        }
+        out.extend_from_slice(format!("{kind} {}", asked.number).as_bytes());
+        let mut at = asked.at;
+        for (place, length) in [asked.first, asked.second][..asked.count as usize].iter().enumerate() {
+            out.extend_from_slice(if place == 0 { b" raw " } else { b" + raw " });
+            put_hex(out, &self.bytes[at..at + 64]);
+            out.push(b' ');
+            put_data(out, &self.bytes[at + 64..at + 64 + length]);
+            at += 64 + length;
+        }
+        out.push(b'\n');
+    }
+
+    /// The whole script; with `random`, lines `settle`, `medium` and comments among the others.
+    pub fn script(&self, random: Option<&Random>) -> Vec<u8> {
+        let mut out = self.config_text().into_bytes();
+        for asked in &self.asked {
+            self.line(asked, &mut out);
+            if let Some(random) = random {
+                match random.up_to(40) {
+                    0 => out.extend_from_slice(b"settle\n"),
+                    1 | 2 => out.extend_from_slice(format!("medium {}\n", random.up_to(30)).as_bytes()),
+                    3 => out.extend_from_slice(b"# a comment\n"),
+                    _ => {}
+                }
+            }
+        }
+        out
+    }
+}

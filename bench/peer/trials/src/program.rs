@@ -1,0 +1,91 @@
+//! The product's programs.
+
+use std::fs;
+use std::path::{Path, PathBuf};
+use std::process::{Command, Stdio};
+
+/// Which allocations and growths of a program are refused, counted from 1.
+#[derive(Clone, Copy)]
+pub struct Refused {
+    pub first: u64,
+    pub last: u64,
+}
+
+impl Refused {
+    pub const NONE: Refused = Refused { first: u64::MAX, last: u64::MAX };
+
+    pub fn one(number: u64) -> Refused {
+        Refused { first: number, last: number }
+    }
+
+    pub fn from(number: u64) -> Refused {
+        Refused { first: number, last: u64::MAX - 1 }
+    }
+}
+
+/// What came of a run.
+#[derive(Debug, PartialEq, Eq)]
+pub struct Ended {
+    /// The exit status, -1 where a signal ended it.
+    pub status: i32,
+    pub output: Vec<u8>,
+    pub words: Vec<u8>,
+    /// How many allocations and growths it asked for, how many were refused, how many blocks it had at its end.
+    pub asked: u64,
+    pub refused: u64,
+    pub held: i64,
+}
+
+/// A program, the library that refuses its memory, and a folder of this thread's own.
+pub struct Program {
+    pub file: PathBuf,
+    pub refusing: PathBuf,
+    pub room: PathBuf,
+}
+
+impl Program {
+    pub fn new(file: &Path, refusing: &Path, room: &Path) -> Program {
+        fs::create_dir_all(room).expect("a folder");
+        Program { file: file.into(), refusing: refusing.into(), room: room.into() }
+    }
+
+    /// Writes a file into the folder, and names it.
+    pub fn put(&self, name: &str, text: &[u8]) -> String {
+        let path = self.room.join(name);
+        fs::write(&path, text).expect("written");
+        path.to_str().expect("a name").into()
+    }
+
+    /// Runs the program; its memory is counted, and refused.
+    pub fn refusing(&self, words: &[&str], refused: Refused) -> Ended {
+        let report = self.room.join("report");
+        let _ = fs::remove_file(&report);
+        let ran = Command::new(&self.file)
+            .args(words)
+            .env_clear()
+            .env("LD_PRELOAD", &self.refusing)
+            .env("REFUSE_FIRST", refused.first.to_string())
+            .env("REFUSE_LAST", refused.last.to_string())
+            .env("REFUSE_REPORT", &report)
+            .stdin(Stdio::null())
+            .output()
+            .expect("the program");
+        let numbers = fs::read_to_string(&report).unwrap_or_default();
+        let mut numbers = numbers.split(' ').map(|word| word.trim().parse::<i64>().unwrap_or(-1));
+        let mut next = || numbers.next().unwrap_or(-1);
+        Ended {
+            status: ran.status.code().unwrap_or(-1),
+            output: ran.stdout,
+            words: ran.stderr,
+            asked: next() as u64,
+            refused: next() as u64,
+            held: next(),
+        }
+    }
+
+    /// Runs the program as it is.
+    pub fn run(&self, words: &[&str]) -> (i32, Vec<u8>) {
+        let ran = Command::new(&self.file).args(words).env_clear().stdin(Stdio::null()).output().expect("the program");
+        (ran.status.code().unwrap_or(-1), ran.stdout)
+    }
+}

@@ -1,0 +1,154 @@
+//! A run's steps, each asked for again after want of memory.
+
+ghost use Rattle.std.specs.Prelude.{◌≡◌, [], IfSome};
+ghost use Rattle.meet_lock.specs.Passes.{IsOf, IsSame};
+
+use crate::script::Run;
+use history::Config;
+use meet_lock::{Declined, Pass, Shared};
+use nvme_model::refusal::Why;
+use std::alloc::Global;
+use step_core::{Answer, Core, Refused, Step};
+
+/// How often a step is asked again after want of memory, at most.
+const TURNS: u32 = 1000;
+
+// A new controller, asked for again after want of memory.
+fn controller(alloc: Global, config: Config, told: &mut u64) -> Option<Core>
+    ensures { IfSome result (λ core. core.past ≡ []) }
+{
+    for _ in 0..TURNS {
+        match Core::new(alloc, config) {
+            Ok(core) => return Some(core),
+            Err(_) => *told = told.wrapping_add(1),
+        }
+    }
+    None
+}
+
+// Another step of the same, but for a Publish.
+fn same(step: &Step) -> Option<Step> {
+    match step {
+        Step::Publish(_, _) => None,
+        Step::Fetch(queue) => Some(Step::Fetch(*queue)),
+        Step::Grant(ticket) => Some(Step::Grant(*ticket)),
+        Step::Block(ticket) => Some(Step::Block(*ticket)),
+        Step::Post(ticket) => Some(Step::Post(*ticket)),
+        Step::Reap(queue) => Some(Step::Reap(*queue)),
+    }
+}
+
+// The queue of a Publish.
+fn queue_of(step: &Step) -> u16 {
+    match step {
+        Step::Publish(queue, _) => *queue,
+        _ => 0,
+    }
+}
+
+// The step that was refused for want of memory, to be asked again.
+fn again(refused: Refused, queue: u16, kept: Option<Step>) -> Option<Step> {
+    match refused {
+        Refused::Publish(Why::NoMemory, batch) => Some(Step::Publish(queue, batch)),
+        Refused::Step(Why::NoMemory) => kept,
+        _ => None,
+    }
+}
+
+// Makes a step, asked for again after want of memory.
+fn insist(core: &mut Core, step: Step, told: &mut u64) {
+    let mut asked = Some(step);
+    for _ in 0..TURNS {
+        let Some(step) = asked else {
+            return;
+        };
+        let (queue, kept) = (queue_of(&step), same(&step));
+        let Err(refused) = core.step(step) else {
+            return;
+        };
+        asked = again(refused, queue, kept);
+        if asked.is_some() {
+            *told = told.wrapping_add(1);
+        }
+    }
+}
+
+// A step by a pass; its refusal, if it is refused.
+fn attempt(shared: &Shared<Core>, pass: &mut Pass<Core>, step: Step) -> Option<Refused>
+    requires { IsOf shared.now pass.old }
+    ensures { IsSame pass.old pass.new }
+{
+    match shared.attempt(pass, step) {
+        Ok(_) => None,
+        Err(Declined::Refused(refused)) => Some(refused),
+        Err(Declined::Busy(_)) => None,
+    }
+}
+
+// The same by a pass.
+fn insist_by_pass(shared: &Shared<Core>, pass: &mut Pass<Core>, step: Step, told: &mut u64)
+    requires { IsOf shared.now pass.old }
+    ensures { IsSame pass.old pass.new }
+{
+    let mut asked = Some(step);
+    for _ in 0..TURNS {
+        let Some(step) = asked else {
+            return;
+        };
+        let (queue, kept) = (queue_of(&step), same(&step));
+        let Some(refused) = attempt(shared, pass, step) else {
+            return;
+        };
+        asked = again(refused, queue, kept);
+        if asked.is_some() {
+            *told = told.wrapping_add(1);
+        }
+    }
+}
+
+// All steps by a controller.
+pub(crate) fn by_steps(alloc: Global, run: Run, told: &mut u64) -> Option<Core> {
+    let mut core = controller(alloc, run.config, told)?;
+    for step in run.steps {
+        insist(&mut core, step, told);
+    }
+    Some(core)
+}
+
+// All steps by the one pass of a lock.
+fn make_each(shared: &Shared<Core>, pass: &mut Pass<Core>, steps: Vec<Step>, told: &mut u64)
+    requires { IsOf shared.now pass.old }
+    ensures { IsSame pass.old pass.new }
+{
+    for step in steps {
+        insist_by_pass(shared, pass, step, told);
+    }
+}
+
+// All steps by the one pass of a lock, which is asked for again after want of memory.
+pub(crate) fn by_a_pass(alloc: Global, run: Run, told: &mut u64) -> Option<Core> {
+    let mut core = controller(alloc, run.config, told)?;
+    for _ in 0..TURNS {
+        match Shared::new(alloc, core, 1) {
+            Ok((shared, mut passes)) => {
+                let mut pass = passes.pop()?;
+                make_each(&shared, &mut pass, run.steps, told);
+                return shared.close(pass);
+            }
+            Err((back, _)) => core = back,
+        }
+        *told = told.wrapping_add(1);
+    }
+    None
+}
+
+// How many of these answers are want of memory.
+pub(crate) fn wants(answers: &[Result<Answer, Refused>]) -> u64 {
+    let mut count: u64 = 0;
+    for answer in answers {
+        if let Err(Refused::Publish(Why::NoMemory, _) | Refused::Step(Why::NoMemory)) = answer {
+            count = count.wrapping_add(1);
+        }
+    }
+    count
+}

@@ -1,0 +1,54 @@
+//! The steps of a worked run.
+
+use history::{Config, read_config_line};
+use script_lines::{ScriptLine, read_script_line};
+use std::alloc::Global;
+use step_core::{Core, Step};
+
+/// How many steps one line of a script makes at most.
+const STEPS: u32 = 10_000;
+
+/// The steps of a run.
+#[derive(Drop)]
+pub(crate) struct Run {
+    pub config: Config,
+    pub steps: Vec<Step>,
+}
+
+// What a line asks for: a step, or the next that is ready where it settles.
+fn step_of(alloc: Global, core: &Core, line: &[u8]) -> Option<Step> {
+    match read_script_line(alloc, line) {
+        Ok(ScriptLine::Step(step)) => Some(step),
+        Ok(ScriptLine::Settle) => core.ready(),
+        _ => None,
+    }
+}
+
+// Makes what a line asks for, and keeps its steps.
+fn make_line(alloc: Global, core: &mut Core, line: &[u8], steps: &mut Vec<Step>) -> Option<()> {
+    let turns = if line == b"settle".as_slice() {
+        STEPS
+    } else {
+        1
+    };
+    for _ in 0..turns {
+        let Some(step) = step_of(alloc, core, line) else {
+            return Some(());
+        };
+        steps.push(step_of(alloc, core, line)?).ok()?;
+        let _ = core.step(step);
+    }
+    Some(())
+}
+
+/// The run of a configuration line and lines that are parted by ` / `.
+pub(crate) fn run_of(alloc: Global, first: &str, lines: &str) -> Option<Run> {
+    let numbers = read_config_line(alloc, first.as_bytes()).ok()?;
+    let config = Config::from_numbers(&numbers).ok()?;
+    let mut core = Core::new(alloc, config).ok()?;
+    let mut steps = Vec::new(alloc);
+    for line in lines.split(" / ") {
+        make_line(alloc, &mut core, line.as_bytes(), &mut steps)?;
+    }
+    Some(Run { config, steps })
+}
