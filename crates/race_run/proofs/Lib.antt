@@ -1,0 +1,2 @@
+pub mod LinesOut
+pub mod Judging

@@ -1,0 +1,48 @@
+//! Why a race gave no legal history.
+
+ghost use Rattle.std.specs.Prelude.{◌≡◌};
+ghost use Rattle.race_run.specs.Faults.{status_of};
+
+use std::alloc::AllocError;
+use thiserror::Error;
+
+/// Why a race ended early, or gave no history that is legal. Its words are what the program says on standard error.
+#[derive(Clone, Copy, Debug, Drop, Error, PartialEq, Eq)]
+pub enum RaceFault {
+    /// A growth was refused, or a thread couldn't be started.
+    #[error("no memory")]
+    NoMemory,
+    /// The controller wasn't given back.
+    #[error("no history")]
+    NoHistory,
+    /// The history up to this place, from 1, isn't legal, and shorter beginnings are.
+    #[error("bad at {0}")]
+    BadAt(u64),
+    /// Writing failed.
+    #[error("output failed")]
+    Output,
+}
+
+impl RaceFault {
+    /// The status with which the program then ends.
+    pub fn status(&self) -> u8
+        ensures value { result ≡ status_of self.now }
+    {
+        match self {
+            RaceFault::NoHistory | RaceFault::BadAt(_) => 1,
+            RaceFault::Output => 3,
+            RaceFault::NoMemory => 4,
+        }
+    }
+}
+
+impl From<AllocError> for RaceFault {
+    ghost use Rattle.std.specs.Prelude.{◌≡◌};
+    ghost use Rattle.race_run.specs.declared.fault.RaceFault.TheVariants.{NoMemory};
+
+    ghost from_gives = { λ _ fault. fault ≡ NoMemory };
+
+    fn from(_error: AllocError) -> RaceFault {
+        RaceFault::NoMemory
+    }
+}

@@ -1,0 +1,11 @@
+//! A race of hosts for slots on threads, and its history as a text.
+#![tactic(auto)]
+
+mod fault;
+mod printing;
+mod racing;
+mod run;
+
+pub use fault::RaceFault;
+pub use printing::{PrintFault, print_history};
+pub use run::run_race;

@@ -1,0 +1,69 @@
+//! A race, its text, and its check.
+
+ghost use Rattle.std.specs.Prelude.{◌≡◌, IfErr};
+ghost use Rattle.nvme_model.specs.Legal.{IsLegalFile};
+ghost use Rattle.race_numbers.specs.Races.{config_of};
+ghost use Rattle.race_run.specs.Races.{Races, Tells};
+ghost use Rattle.race_run.specs.declared.fault.RaceFault.{RaceFault};
+
+use crate::fault::RaceFault;
+use crate::printing::{PrintFault, print_history};
+use crate::racing::raced;
+use history::{Config, Entry};
+use history_check::{CheckFault, check};
+use race_numbers::Race;
+use std::alloc::Global;
+use std::io::Write;
+use std::sync::Wait;
+use std::thread::Threads;
+
+// Writes a history's text.
+fn tell<W: Write>(
+    alloc: Global,
+    config: &Config,
+    entries: &[Entry],
+    writer: &mut W,
+) -> Result<(), RaceFault>
+    ensures { Tells config.now entries.now result (W.contents writer.old) (W.contents writer.new) }
+{
+    match print_history(alloc, config, entries, writer) {
+        Ok(()) => Ok(()),
+        Err(PrintFault::Output) => Err(RaceFault::Output),
+        Err(PrintFault::NoMemory) => Err(RaceFault::NoMemory),
+    }
+}
+
+// Checks a history.
+fn judge(alloc: Global, config: &Config, entries: &[Entry]) -> Result<(), RaceFault>
+    requires legal { IsLegalFile config.now entries.now }
+    ensures { IfErr result (λ f. f ≡ RaceFault.NoMemory) }
+{
+    match check(alloc, config, entries) {
+        Ok(()) => Ok(()),
+        Err(CheckFault::BadAt(place)) => Err(RaceFault::BadAt(place)),
+        Err(CheckFault::NoMemory) => Err(RaceFault::NoMemory),
+    }
+}
+
+/// Lets hosts race for slots on threads, and writes the configuration line and the controller's whole history; then checks
+/// the history.
+///
+/// # Errors
+///
+/// `NoMemory` where a growth was refused or a thread couldn't be started; `NoHistory`, after nothing was written, where the
+/// controller wasn't given back; `Output` after a beginning of the text. `BadAt` would name the first place at which the
+/// history isn't legal; it never comes, since what the controller gives is.
+pub fn run_race<R: Threads + Wait + Sync, W: Write>(
+    rt: &R,
+    alloc: Global,
+    race: &Race,
+    writer: &mut W,
+) -> Result<(), RaceFault>
+    ensures races { Races (config_of race.now) result (W.contents writer.old) (W.contents writer.new) }
+{
+    let core = raced(rt, alloc, race)?;
+    let config = core.config();
+    let entries = core.history().as_slice();
+    tell(alloc, &config, entries, writer)?;
+    judge(alloc, &config, entries)
+}
