@@ -48,12 +48,18 @@ fn calls<R: Wait>(
 // One host, on submission queue 1, whose slots are blocks 0 and 1, and one server.
 fn runs<R: AllocGlobal + Print + Wait>(rt: &R) -> Option<()> {
     let alloc = rt.alloc();
-    let config = Config::new(8, 1, 1, 0, 0, 2, 4, 4, 8).ok()?;
-    let (bench, mut spares) = bench_of(alloc, config, 4, 2).ok()?;
+    let Ok(config) = Config::new(8, 1, 1, 0, 0, 2, 4, 4, 8) else {
+        return None;
+    };
+    let Ok((bench, mut spares)) = bench_of(alloc, config, 4, 2) else {
+        return None;
+    };
     let mut server = hand_of(&bench, &mut spares)?;
     let hand = hand_of(&bench, &mut spares)?;
     let slots = Range { slba: 0, blocks: 2 };
-    let queues = [1].to_vec(alloc).ok()?;
+    let Ok(queues) = [1].to_vec(alloc) else {
+        return None;
+    };
     let mut host = host_of(alloc, &bench, hand, 1, slots, queues)?;
     let (write, pair) = calls(rt, &bench, &mut server, &mut host).ok()?;
     println!(rt; "write: {write:?}").ok()?;
