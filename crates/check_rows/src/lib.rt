@@ -4,6 +4,8 @@
 #[cfg(test)]
 mod edits;
 #[cfg(test)]
+mod explain;
+#[cfg(test)]
 mod faults;
 #[cfg(test)]
 mod files;

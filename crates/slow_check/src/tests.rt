@@ -1,5 +1,7 @@
 //! Both readings of lists of entries, legal and not.
 
+mod random;
+
 use crate::check;
 use history::{Config, Entry, parse_line};
 use std::alloc::Global;
