@@ -60,7 +60,7 @@ fn runs<R: AllocGlobal + Print + Wait>(rt: &R) -> Option<()> {
     let Ok(queues) = [1].to_vec(alloc) else {
         return None;
     };
-    let mut host = host_of(alloc, &bench, hand, 1, slots, queues)?;
+    let mut host = host_of(alloc, &bench, hand, 1, slots, 1, queues)?;
     let (write, pair) = calls(rt, &bench, &mut server, &mut host).ok()?;
     println!(rt; "write: {write:?}").ok()?;
     println!(rt; "compare and write: {pair:?}").ok()

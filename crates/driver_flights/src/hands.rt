@@ -6,8 +6,7 @@ ghost use Rattle.driver_rows.specs.Benches.{IsServerOf, uses};
 ghost use Rattle.driver_flights.specs.Flights.{IsFlightOf};
 
 use crate::under_way::{Flight, flight_of};
-use driver_cas::{Driver, SharedPort};
-use driver_rows::{Bench, Host, Server, host_of};
+use driver_rows::{Bench, Server, host_of};
 use nvme_model::array::Range;
 use std::alloc::Global;
 use std::test::Fail;
@@ -18,12 +17,12 @@ const NO_SLOTS: Range = Range { slba: 0, blocks: 0 };
 pub(crate) fn on_both<'a>(alloc: Global, bench: &'a Bench, hand: Server) -> Result<Flight<'a>, Fail>
     requires hand { IsServerOf bench.now hand }
     requires some { 1 ≤ bench.now.config.cqs }
-    requires one { uses bench.now.config 1 ≡ true }
-    requires two { uses bench.now.config 2 ≡ true }
+    requires one { uses bench.now.config 1 1 ≡ true }
+    requires two { uses bench.now.config 1 2 ≡ true }
     ensures { IfOk result (IsFlightOf bench.entry.now) }
 {
     let queues = [1, 2].to_vec(alloc)?;
-    match host_of(alloc, bench, hand, 1, NO_SLOTS, queues) {
+    match host_of(alloc, bench, hand, 1, NO_SLOTS, 1, queues) {
         Some(host) => Ok(flight_of(alloc, bench, host)),
         None => Err(Fail::from("a host")),
     }
@@ -40,7 +39,7 @@ pub(crate) fn on_first<'a>(
     ensures { IfOk result (IsFlightOf bench.entry.now) }
 {
     let queues = [1].to_vec(alloc)?;
-    match host_of(alloc, bench, hand, 1, NO_SLOTS, queues) {
+    match host_of(alloc, bench, hand, 1, NO_SLOTS, 1, queues) {
         Some(host) => Ok(flight_of(alloc, bench, host)),
         None => Err(Fail::from("a host")),
     }
@@ -57,10 +56,8 @@ pub(crate) fn on_second<'a>(
     ensures { IfOk result (IsFlightOf bench.entry.now) }
 {
     let queues = [2].to_vec(alloc)?;
-    let Server { pass, place } = hand;
-    let port = SharedPort::new(&bench.engine, pass, 2);
-    match Driver::new(alloc, port, 2, 1, NO_SLOTS, queues) {
-        Ok(driver) => Ok(flight_of(alloc, bench, Host { driver, place })),
-        Err(_) => Err(Fail::from("memory")),
+    match host_of(alloc, bench, hand, 2, NO_SLOTS, 2, queues) {
+        Some(host) => Ok(flight_of(alloc, bench, host)),
+        None => Err(Fail::from("a host")),
     }
 }

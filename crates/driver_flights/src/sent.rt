@@ -44,6 +44,15 @@ pub(crate) fn good(queue: u8, cid: u8) -> Script {
     Script::Posted([0, 0, 0, 0, 0, 0, 0, 0, 1, 0, queue, 0, cid, 0, 1, 0])
 }
 
+// A Publish that is refused for each of these faults.
+fn each(alloc: Global, refusals: &[PortFault]) -> Result<Vec<Option<PortFault>>, Fail> {
+    let mut all = Vec::new(alloc);
+    for fault in refusals {
+        all.push(Some(*fault))?;
+    }
+    Ok(all)
+}
+
 /// A driver of these submission queues over a port that is to answer so, the next last. Its slot area is block 0.
 pub(crate) fn driver_of(
     alloc: Global,
@@ -58,7 +67,7 @@ pub(crate) fn driver_of(
     let port = Fake {
         alloc,
         did: Vec::new(alloc),
-        refusals: refusals.to_vec(alloc)?,
+        refusals: each(alloc, refusals)?,
         reaps: reaps.to_vec(alloc)?,
     };
     let slots = Range { slba: 0, blocks: 1 };
