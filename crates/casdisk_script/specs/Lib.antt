@@ -8,3 +8,4 @@ pub mod Files
 pub mod Judged
 pub mod Explained
 pub mod Kinds
+pub mod Asking
