@@ -1,0 +1,259 @@
+//! A host that claims slots, and what it has begun.
+
+ghost use Rattle.std.specs.Prelude.{◌≡◌, ◌<◌, ◌≤◌, ◌∷◌, [], IfOk, IfSome};
+ghost use Rattle.driver_rows.specs.Benches.{IsServerOf};
+ghost use Rattle.slot_alloc.specs.Areas.{area};
+ghost use Rattle.slot_alloc.specs.Claims.{IsClaimingOf, IsReleasingOf, IsUnreleased};
+ghost use Rattle.slot_rows.specs.Claimants.{IsBegun, IsClaimant, IsReady};
+
+use driver_cas::{Fault, SharedPort};
+use driver_rows::{Bench, Host, Server, host_of};
+use nvme_model::array::Range;
+use slot_alloc::{Claim, Claiming, Progress, Released, Releasing, Slots, poll_claim, poll_release};
+use std::alloc::{AllocError as NoMemory, Global};
+
+/// A claim that may be dropped: its slot then stays held.
+pub struct Kept {
+    pub claim: Claim,
+}
+
+impl Drop for Kept {
+    fn drop(self) {
+        let Kept { claim } = self;
+        let _ = claim.leave();
+    }
+}
+
+impl Kept {
+    fn into_claim(self) -> Claim
+        ensures { result ≡ self.claim }
+    {
+        let Kept { claim } = self;
+        claim
+    }
+}
+
+/// What a host has begun.
+#[derive(Drop)]
+pub enum Stage<'a> {
+    Idle,
+    Claiming(Claiming<SharedPort<'a>>),
+    Holding(Kept),
+    Releasing(Releasing<SharedPort<'a>>),
+}
+
+/// A host that claims slots, on the submission queue of this number.
+#[derive(Drop)]
+pub struct Claimant<'a> {
+    pub host: Host<'a>,
+    pub queue: u16,
+    pub stage: Stage<'a>,
+}
+
+/// Host h, on queue h, with so many slots from block 0 on; None where memory is refused.
+pub fn claimant_of<'a>(
+    alloc: Global,
+    bench: &'a Bench,
+    hand: Server,
+    h: u16,
+    _slots: &Slots,
+    count: u32,
+) -> Option<Claimant<'a>>
+    requires hand { IsServerOf bench.now hand }
+    requires number { (1 ≤ h) × (h ≤ bench.now.config.pairs) }
+    requires own { bench.now.config.cqs ≡ bench.now.config.pairs }
+    requires slots { (area _slots.now ≡ record { slba = 0; blocks = count }) × (count ≤ 65536) }
+    ensures { IfSome result (IsClaimant bench.entry.now _slots.now) }
+{
+    let Ok(queues) = queues_of(alloc, h) else {
+        return None;
+    };
+    let range = Range {
+        slba: 0,
+        blocks: count,
+    };
+    let host = host_of(alloc, bench, hand, u32::from(h), range, h, queues)?;
+    Some(idle(bench, _slots, host, h))
+}
+
+// A list of one queue.
+fn queues_of(alloc: Global, queue: u16) -> Result<Vec<u16>, NoMemory>
+    ensures { IfOk result (λ q. q.items ≡ queue ∷ []) }
+{
+    let mut queues = Vec::new(alloc);
+    queues.push(queue)?;
+    Ok(queues)
+}
+
+/// A host that has begun nothing.
+pub fn idle<'a>(_bench: &Bench, _slots: &Slots, host: Host<'a>, queue: u16) -> Claimant<'a>
+    requires { IsReady _bench.now _slots.now host }
+    ensures { IsClaimant _bench.now _slots.now result }
+{
+    Claimant {
+        host,
+        queue,
+        stage: Stage::Idle,
+    }
+}
+
+/// What came of a call.
+#[derive(Clone, Copy, Debug, PartialEq, Eq)]
+pub enum Came {
+    /// Nothing was asked for.
+    Nothing,
+    /// A claim or a release was begun.
+    Begun,
+    /// It wasn't, for this cause.
+    Refused(Fault),
+    Pending,
+    Later(Fault),
+    /// The slot of this number is held.
+    Held(u32),
+    Taken,
+    AllTaken,
+    Failed(Fault),
+    Released,
+}
+
+// Begins to claim this slot or, where it names none, any.
+fn begins<'a>(
+    _bench: &Bench,
+    slots: &Slots,
+    host: &mut Host<'a>,
+    slot: Option<u32>,
+) -> Result<Claiming<SharedPort<'a>>, Fault>
+    requires ready { IsReady _bench.now slots.now host.old }
+    requires slot { IfSome slot (λ i. i < (area slots.now).blocks) }
+    ensures ready { IsReady _bench.now slots.now host.new }
+    ensures claiming { IfOk result (λ k. IsClaimingOf host.new.driver k × IsUnreleased host.new.driver k) }
+{
+    match slot {
+        Some(i) => slots.claim(&mut host.driver, i),
+        None => slots.claim_any(&mut host.driver),
+    }
+}
+
+/// Begins to claim this slot, or any, where nothing is begun.
+pub fn asks<'a>(
+    bench: &Bench,
+    slots: &Slots,
+    claimant: Claimant<'a>,
+    slot: Option<u32>,
+) -> (Claimant<'a>, Came)
+    requires claimant { IsClaimant bench.now slots.now claimant }
+    requires slot { IfSome slot (λ i. i < (area slots.now).blocks) }
+    ensures { IsClaimant bench.now slots.now result.0 }
+{
+    let Claimant { host, queue, stage } = claimant;
+    let Stage::Idle = stage else {
+        return (Claimant { host, queue, stage }, Came::Nothing);
+    };
+    let mut host = host;
+    let (stage, came) = match begins(bench, slots, &mut host, slot) {
+        Ok(claiming) => (Stage::Claiming(claiming), Came::Begun),
+        Err(fault) => (Stage::Idle, Came::Refused(fault)),
+    };
+    (Claimant { host, queue, stage }, came)
+}
+
+/// Begins to release the slot that is held, if one is.
+pub fn gives_back<'a>(_bench: &Bench, slots: &Slots, claimant: Claimant<'a>) -> (Claimant<'a>, Came)
+    requires { IsClaimant _bench.now slots.now claimant }
+    ensures { IsClaimant _bench.now slots.now result.0 }
+{
+    let Claimant { host, queue, stage } = claimant;
+    let mut host = host;
+    let (stage, came) = match stage {
+        Stage::Holding(kept) => match slots.release(&mut host.driver, kept.into_claim()) {
+            Ok(releasing) => (Stage::Releasing(releasing), Came::Begun),
+            Err((claim, fault)) => (Stage::Holding(Kept { claim }), Came::Refused(fault)),
+        },
+        Stage::Idle => (Stage::Idle, Came::Nothing),
+        Stage::Claiming(claiming) => (Stage::Claiming(claiming), Came::Nothing),
+        Stage::Releasing(releasing) => (Stage::Releasing(releasing), Came::Nothing),
+    };
+    (Claimant { host, queue, stage }, came)
+}
+
+// What has come of a claim.
+fn polled_claim<'a>(
+    _bench: &Bench,
+    _slots: &Slots,
+    host: &mut Host<'a>,
+    claiming: Claiming<SharedPort<'a>>,
+) -> (Stage<'a>, Came)
+    requires ready { IsReady _bench.now _slots.now host.old }
+    requires of { IsClaimingOf host.old.driver claiming × IsUnreleased host.old.driver claiming }
+    ensures ready { IsReady _bench.now _slots.now host.new }
+    ensures begun { IsBegun host.new result.0 }
+{
+    match poll_claim(&mut host.driver, claiming) {
+        Progress::Pending(claiming) => (Stage::Claiming(claiming), Came::Pending),
+        Progress::Later(fault, claiming) => (Stage::Claiming(claiming), Came::Later(fault)),
+        Progress::Held(claim) => {
+            let slot = claim.slot();
+            (Stage::Holding(Kept { claim }), Came::Held(slot))
+        }
+        Progress::Taken => (Stage::Idle, Came::Taken),
+        Progress::AllTaken => (Stage::Idle, Came::AllTaken),
+        Progress::Failed(fault) => (Stage::Idle, Came::Failed(fault)),
+    }
+}
+
+// What has come of a release.
+fn polled_release<'a>(
+    _bench: &Bench,
+    _slots: &Slots,
+    host: &mut Host<'a>,
+    releasing: Releasing<SharedPort<'a>>,
+) -> (Stage<'a>, Came)
+    requires ready { IsReady _bench.now _slots.now host.old }
+    requires of { IsReleasingOf host.old.driver releasing }
+    ensures ready { IsReady _bench.now _slots.now host.new }
+    ensures begun { IsBegun host.new result.0 }
+{
+    match poll_release(&mut host.driver, releasing) {
+        Released::Pending(releasing) => (Stage::Releasing(releasing), Came::Pending),
+        Released::Later(fault, releasing) => (Stage::Releasing(releasing), Came::Later(fault)),
+        Released::Released => (Stage::Idle, Came::Released),
+        Released::Failed(fault) => (Stage::Idle, Came::Failed(fault)),
+    }
+}
+
+/// Polls what is begun, once.
+pub fn polls<'a>(_bench: &Bench, _slots: &Slots, claimant: Claimant<'a>) -> (Claimant<'a>, Came)
+    requires { IsClaimant _bench.now _slots.now claimant }
+    ensures { IsClaimant _bench.now _slots.now result.0 }
+{
+    let Claimant { host, queue, stage } = claimant;
+    let mut host = host;
+    let (stage, came) = match stage {
+        Stage::Claiming(claiming) => polled_claim(_bench, _slots, &mut host, claiming),
+        Stage::Releasing(releasing) => polled_release(_bench, _slots, &mut host, releasing),
+        Stage::Idle => (Stage::Idle, Came::Nothing),
+        Stage::Holding(kept) => (Stage::Holding(kept), Came::Nothing),
+    };
+    (Claimant { host, queue, stage }, came)
+}
+
+/// The host, with the slot that it held and the serial of its claim, if it held one, which stays held. What was begun is
+/// dropped.
+pub fn leaves<'a>(
+    _bench: &Bench,
+    _slots: &Slots,
+    claimant: Claimant<'a>,
+) -> (Host<'a>, Option<(u32, u64)>)
+    requires { IsClaimant _bench.now _slots.now claimant }
+    ensures { IsReady _bench.now _slots.now result.0 }
+{
+    let Claimant {
+        host,
+        queue: _,
+        stage,
+    } = claimant;
+    match stage {
+        Stage::Holding(kept) => (host, Some(kept.into_claim().leave())),
+        Stage::Idle | Stage::Claiming(_) | Stage::Releasing(_) => (host, None),
+    }
+}

@@ -1,0 +1,185 @@
+//! Serving a host that claims slots, and reading a block.
+
+ghost use Rattle.std.specs.Prelude.{◌<◌, IfSome};
+ghost use Rattle.driver_cas.specs.Drivers.{IsCallOf};
+ghost use Rattle.driver_cas.specs.Starts.{IsUntouched};
+ghost use Rattle.driver_rows.specs.Benches.{IsServerOf};
+ghost use Rattle.driver_rows.specs.Calls.{Keeps};
+ghost use Rattle.slot_alloc.specs.Areas.{area};
+ghost use Rattle.slot_rows.specs.Claimants.{IsClaimant, IsReady};
+
+use crate::claimant::{Came, Claimant, asks, gives_back, polls};
+use driver_cas::{Call, Poll, Reply, SharedPort};
+use driver_rows::{Bench, Host, Server, hears, serves};
+use slot_alloc::Slots;
+use std::sync::Wait;
+
+/// A block.
+pub type Contents = [u8; 512];
+
+/// What is in the host's submission queue is served, and it hears of each completion; whether nothing was refused.
+pub fn is_served<'a, R: Wait>(
+    rt: &R,
+    bench: &Bench,
+    server: &mut Server,
+    slots: &Slots,
+    claimant: Claimant<'a>,
+) -> (Claimant<'a>, bool)
+    requires server { IsServerOf bench.now server.old }
+    requires claimant { IsClaimant bench.now slots.now claimant }
+    ensures server { IsServerOf bench.now server.new }
+    ensures claimant { IsClaimant bench.now slots.now result.0 }
+{
+    let Claimant { host, queue, stage } = claimant;
+    let mut host = host;
+    let done = serves(rt, bench, server, queue);
+    listens(rt, bench, slots, &mut host);
+    (Claimant { host, queue, stage }, done)
+}
+
+/// What comes in the end of what is begun, each time served and polled, at most so many times.
+pub fn answered<'a, R: Wait>(
+    rt: &R,
+    bench: &Bench,
+    server: &mut Server,
+    slots: &Slots,
+    claimant: Claimant<'a>,
+    most: u32,
+) -> (Claimant<'a>, Came)
+    requires server { IsServerOf bench.now server.old }
+    requires claimant { IsClaimant bench.now slots.now claimant }
+    ensures server { IsServerOf bench.now server.new }
+    ensures claimant { IsClaimant bench.now slots.now result.0 }
+{
+    let mut claimant = claimant;
+    for _ in 0..most {
+        let (served, _) = is_served(rt, bench, server, slots, claimant);
+        let (polled, came) = polls(bench, slots, served);
+        if came != Came::Pending {
+            return (polled, came);
+        }
+        claimant = polled;
+    }
+    (claimant, Came::Pending)
+}
+
+/// What comes of a claim of this slot, or of any: it is begun, served and polled until it is answered.
+pub fn claims<'a, R: Wait>(
+    rt: &R,
+    bench: &Bench,
+    server: &mut Server,
+    slots: &Slots,
+    claimant: Claimant<'a>,
+    slot: Option<u32>,
+) -> (Claimant<'a>, Came)
+    requires server { IsServerOf bench.now server.old }
+    requires claimant { IsClaimant bench.now slots.now claimant }
+    requires slot { IfSome slot (λ i. i < (area slots.now).blocks) }
+    ensures server { IsServerOf bench.now server.new }
+    ensures claimant { IsClaimant bench.now slots.now result.0 }
+{
+    let (claimant, came) = asks(bench, slots, claimant, slot);
+    if came != Came::Begun {
+        return (claimant, came);
+    }
+    answered(rt, bench, server, slots, claimant, 8)
+}
+
+/// What comes of the release of the slot that is held.
+pub fn releases<'a, R: Wait>(
+    rt: &R,
+    bench: &Bench,
+    server: &mut Server,
+    slots: &Slots,
+    claimant: Claimant<'a>,
+) -> (Claimant<'a>, Came)
+    requires server { IsServerOf bench.now server.old }
+    requires claimant { IsClaimant bench.now slots.now claimant }
+    ensures server { IsServerOf bench.now server.new }
+    ensures claimant { IsClaimant bench.now slots.now result.0 }
+{
+    let (claimant, came) = gives_back(bench, slots, claimant);
+    if came != Came::Begun {
+        return (claimant, came);
+    }
+    answered(rt, bench, server, slots, claimant, 8)
+}
+
+// The bytes of a Read of one block.
+fn contents_of(reply: &Reply) -> Option<Contents> {
+    let Reply::Read(payload) = reply else {
+        return None;
+    };
+    let bytes = payload.as_slice();
+    if bytes.len() != 512 {
+        return None;
+    }
+    let mut contents = [0; 512];
+    contents.copy_from_slice(bytes);
+    Some(contents)
+}
+
+// Begins to read a block.
+fn begins_read<'a>(
+    _bench: &Bench,
+    _slots: &Slots,
+    host: &mut Host<'a>,
+    lba: u64,
+) -> Option<Call<SharedPort<'a>>>
+    requires { IsReady _bench.now _slots.now host.old }
+    ensures ready { IsReady _bench.now _slots.now host.new }
+    ensures call { IfSome result (λ k. IsCallOf host.new.driver k) }
+{
+    match host.driver.start_read(lba, 1) {
+        Ok(call) => Some(call),
+        Err(_) => None,
+    }
+}
+
+// The bytes that were read, where the first completion that is reaped is that of the Read.
+fn polled_read<'a>(
+    _bench: &Bench,
+    _slots: &Slots,
+    host: &mut Host<'a>,
+    call: Call<SharedPort<'a>>,
+) -> Option<Contents>
+    requires ready { IsReady _bench.now _slots.now host.old }
+    requires call { IsCallOf host.old.driver call }
+    ensures { IsReady _bench.now _slots.now host.new }
+{
+    match host.driver.poll(call) {
+        Poll::Done(reply) => contents_of(&reply),
+        _ => None,
+    }
+}
+
+// Learns all notices that are there.
+fn listens<'a, R: Wait>(rt: &R, bench: &Bench, _slots: &Slots, host: &mut Host<'a>)
+    requires { IsReady bench.now _slots.now host.old }
+    ensures ready { IsReady bench.now _slots.now host.new }
+    ensures calls { Keeps host.old host.new }
+    ensures untouched { IsUntouched host.old.driver host.new.driver }
+{
+    hears(rt, bench, host);
+}
+
+/// The bytes of a block, by a Read that is served; None where it isn't answered by success.
+pub fn reads<'a, R: Wait>(
+    rt: &R,
+    bench: &Bench,
+    server: &mut Server,
+    slots: &Slots,
+    host: &mut Host<'a>,
+    queue: u16,
+    lba: u64,
+) -> Option<Contents>
+    requires server { IsServerOf bench.now server.old }
+    requires host { IsReady bench.now slots.now host.old }
+    ensures server { IsServerOf bench.now server.new }
+    ensures host { IsReady bench.now slots.now host.new }
+{
+    let call = begins_read(bench, slots, host, lba)?;
+    serves(rt, bench, server, queue);
+    listens(rt, bench, slots, host);
+    polled_read(bench, slots, host, call)
+}
