@@ -12,7 +12,8 @@ use slot_alloc::{Claim, Claiming, Progress, poll_claim};
 use std::alloc::AllocError as NoMemory;
 use std::sync::Wait;
 
-// Begins to claim any slot, again while that is refused for now; None where it is refused for good, or the stop flag is set.
+// Begins to claim any slot, again while that is refused for now; None where it is refused for good, or the stop flag is
+// set.
 fn begin<'a, R: Wait, G>(
     rt: &R,
     hall: &Hall<G>,

@@ -65,8 +65,8 @@ fn submission_queues(alloc: Global, config: &Config, queue: u16) -> Result<Vec<u
     Ok(queues)
 }
 
-/// The host of a completion queue of this configuration's controller, whose number is its host number. Its driver uses all
-/// submission queues that use the completion queue, and these blocks are its slots.
+/// The host of a completion queue of this configuration's controller, whose number is its host number. Its driver uses
+/// all submission queues that use the completion queue, and these blocks are its slots.
 ///
 /// # Errors
 ///

@@ -54,7 +54,8 @@ fn all_threads<R: Threads + Wait + Sync>(
 ///
 /// # Errors
 ///
-/// `NoMemory` where a growth was refused or a thread couldn't be started; `NoHistory` where the controller wasn't given back.
+/// `NoMemory` where a growth was refused or a thread couldn't be started; `NoHistory` where the controller wasn't given
+/// back.
 pub(crate) fn raced<R: Threads + Wait + Sync>(
     rt: &R,
     alloc: Global,

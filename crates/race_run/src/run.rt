@@ -45,14 +45,14 @@ fn judge(alloc: Global, config: &Config, entries: &[Entry]) -> Result<(), RaceFa
     }
 }
 
-/// Lets hosts race for slots on threads, and writes the configuration line and the controller's whole history; then checks
-/// the history.
+/// Lets hosts race for slots on threads, and writes the configuration line and the controller's whole history; then
+/// checks the history.
 ///
 /// # Errors
 ///
-/// `NoMemory` where a growth was refused or a thread couldn't be started; `NoHistory`, after nothing was written, where the
-/// controller wasn't given back; `Output` after a beginning of the text. `BadAt` would name the first place at which the
-/// history isn't legal; it never comes, since what the controller gives is.
+/// `NoMemory` where a growth was refused or a thread couldn't be started; `NoHistory`, after nothing was written, where
+/// the controller wasn't given back; `Output` after a beginning of the text. `BadAt` would name the first place at which
+/// the history isn't legal; it never comes, since what the controller gives is.
 pub fn run_race<R: Threads + Wait + Sync, W: Write>(
     rt: &R,
     alloc: Global,
