@@ -24,11 +24,11 @@ use Rattle.driver_cas.specs.declared.port.Port.{Ghosts}
 use Rattle.driver_cas.specs.declared.shared_port.SharedPort.{SharedPort}
 use Rattle.slot_alloc.proofs.Asking.{inside_of}
 use Rattle.slot_alloc.proofs.Starting.{careful_same, goes_on_same, settings_of}
-use Rattle.slot_alloc.proofs.Staying.{claiming_on, releasing_on}
+use Rattle.slot_alloc.proofs.Staying.{claiming_on, releasing_on, unreleased_on}
 use Rattle.slot_alloc.specs.Areas.{area, block_of, serial_of, slot_of}
 use Rattle.slot_alloc.specs.Careful as careful
 use Rattle.slot_alloc.specs.Careful.{IsCareful, ReleasedName, own_name}
-use Rattle.slot_alloc.specs.Claims.{IsAt, IsCallKept, IsClaimingOf, IsHeldBy, IsReleasingOf}
+use Rattle.slot_alloc.specs.Claims.{IsAt, IsCallKept, IsClaimingOf, IsHeldBy, IsReleasingOf, IsUnreleased}
 use Rattle.slot_alloc.specs.declared.claim.Claim.{Claim}
 use Rattle.slot_alloc.specs.declared.claiming.Claiming.{Claiming}
 use Rattle.slot_alloc.specs.declared.claiming.Stage.{Stage}
@@ -74,7 +74,7 @@ module _ {G : Type 0} where
       }
 
   -- by a call of its driver
-  pub goes_called : (hall : Hall G) (h k m : Host) (released : Option ReleasedName) → Goes hall h k → m.slots ≡ k.slots → m.queue ≡ k.queue → m.notices ≡ k.notices → IsCareful m.driver
+  pub goes_called : (hall : Hall G) (h k m : Host) (released : Option ReleasedName) → Goes hall h k → m.slots ≡ k.slots → m.queue ≡ k.queue → m.notices ≡ k.notices → (IsCareful k.driver → IsCareful m.driver)
       → careful.GoesOn k.driver m.driver released → Goes hall h m
   goes_called hall h k m released a slots queue notices kept x =
       goes_far hall h k m a
@@ -83,7 +83,7 @@ module _ {G : Type 0} where
             record {
               of = x.later.same_lock ∙ a.of.of;
               slots = x.settings.slots ∙ a.of.slots ∙ ap area (sym slots);
-              careful = kept;
+              careful = kept a.of.careful;
               queue = subst (λ (n : ℕ). (1 ≤ n) × (n ≤ length hall.notices.items)) (sym queue) a.of.queue;
               place = subst (λ (z : ℕ × QueuePass Notice). IsPlaceAt hall (z.0 - 1) z.1) (λ i. (sym queue i, sym notices i)) a.of.place;
             };
@@ -144,11 +144,14 @@ module _ {P : Type 0} {g : Ghosts P} where
   on_of d e u = goes_on_same g d e (settings_of g d e u.same) u.same.serial u.later u.as_before.0
 
   pub claiming_heard : ((a b c : P) → g.follows a b → g.follows b c → g.follows a c) → (d e : Driver P g) (c : Claiming P g) → IsUntouched d e → ((j : Call P) → IsCallOf d j → IsCallOf e j) → IsClaimingOf d c → IsClaimingOf e c
-  claiming_heard on d e c u calls of = claiming_on g on d e c (on_of d e u) (kept c.stage of.at) of
+  claiming_heard on d e c u calls of = claiming_on g on d e c None (on_of d e u) (kept c.stage of.at) of
     where
       kept : (s : Stage P) → IsAt d c.began.value (block_of (area_of d) c.slot) c.reach s → IsCallKept e s
       kept (Stage.Asked call serial) at = calls call at.0.of
       kept Stage.Due at = tt
+
+  pub unreleased_heard : (d e : Driver P g) (c : Claiming P g) → IsUntouched d e → IsClaimingOf d c → IsUnreleased d c → IsUnreleased e c
+  unreleased_heard d e c u of free = unreleased_on g d e c None (on_of d e u) refl of free
 
   pub releasing_heard : (d e : Driver P g) (c : Releasing P) → IsUntouched d e → ((j : Call P) → IsCallOf d j → IsCallOf e j) → IsReleasingOf d c → IsReleasingOf e c
   releasing_heard d e c u calls of = releasing_on g d e c None (on_of d e u) (calls c.call of.of) of

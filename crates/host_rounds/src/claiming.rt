@@ -1,7 +1,7 @@
 //! A claim of any slot, until it ends.
 
 ghost use Rattle.std.specs.Prelude.{◌≡◌, IfOk, IfSome};
-ghost use Rattle.slot_alloc.specs.Claims.{IsClaimingOf, IsHeldBy};
+ghost use Rattle.slot_alloc.specs.Claims.{IsClaimingOf, IsHeldBy, IsUnreleased};
 ghost use Rattle.host_rounds.specs.Hosts.{Goes, IsHosting};
 
 use crate::owned::Host;
@@ -22,6 +22,7 @@ fn begin<'a, R: Wait, G>(
     requires { IsHosting hall.now host.old }
     ensures goes { Goes hall.now host.old host.new }
     ensures of { IfOk result (λ o. IfSome o (λ k. IsClaimingOf host.new.driver k)) }
+    ensures unreleased { IfOk result (λ o. IfSome o (λ k. IsUnreleased host.new.driver k)) }
 {
     for _ in rt.forever() {
         if hall.stop.is_set() {
@@ -49,6 +50,7 @@ fn wait<'a, R: Wait, G>(
 ) -> Result<Option<Claim>, NoMemory>
     requires own { IsHosting hall.now host.old }
     requires of { IsClaimingOf host.old.driver claiming }
+    requires unreleased { IsUnreleased host.old.driver claiming }
     ensures goes { Goes hall.now host.old host.new }
     ensures held { IfOk result (λ o. IfSome o (λ claim. IsHeldBy host.new.driver claim)) }
 {

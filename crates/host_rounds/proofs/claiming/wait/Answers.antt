@@ -1,15 +1,18 @@
 use Rattle.std.proofs.Common.{None, refl}
 use Rattle.driver_cas.proofs.Listening.{follows_later}
-use Rattle.slot_alloc.specs.Claims.{IsClaimingOf}
-use Rattle.host_rounds.proofs.Going.{claiming_heard, goes_called, goes_far, goes_same}
+use Rattle.slot_alloc.specs.Claims.{IsClaimingOf, IsUnreleased}
+use Rattle.host_rounds.proofs.Going.{claiming_heard, goes_called, goes_far, goes_same, unreleased_heard}
 use Rattle.host_rounds.proofs.claiming.wait.Goals as goal
 use Rattle.host_rounds.proofs.claiming.wait.Goals.{in-Pending, in-Later+else-eq}
 
 pub loop-init : goal.loop-init
-loop-init g c = (goes_same _ _ c.requires.own, c.requires.of)
+loop-init g c = (goes_same _ _ c.requires.own, c.requires.of, c.requires.unreleased)
 
 pub returns-in-Held-clause-goes : goal.returns-in-Held-clause-goes
 returns-in-Held-clause-goes g c = goes_called _ _ _ _ None c.loop.invariant.0 refl refl refl c.poll_claim.ensures.careful c.poll_claim.ensures.goes_on
+
+pub returns-in-Held-clause-held : goal.returns-in-Held-clause-held
+returns-in-Held-clause-held g c = c.poll_claim.ensures.held c.loop.invariant.2
 
 pub returns-then-eq-clause-goes : goal.returns-then-eq-clause-goes
 returns-then-eq-clause-goes g c = goes_called _ _ _ _ None c.loop.invariant.0 refl refl refl c.poll_claim.ensures.careful c.poll_claim.ensures.goes_on
@@ -23,8 +26,14 @@ loop-preserved g c =
     elim c.match-poll_claim.branch [
       | in-Pending w ↦ rw w.claiming-is w.in-Pending.ensures.is.1
       | in-Later+else-eq w ↦ rw w.claiming-is w.in-Later.ensures.is.1
+    ] in
+    let free : IsUnreleased c.poll_claim.new.driver c.match-poll_claim.claiming =
+    elim c.match-poll_claim.branch [
+      | in-Pending w ↦ rw w.claiming-is (w.in-Pending.ensures.unreleased c.loop.invariant.0.of.careful c.loop.invariant.2)
+      | in-Later+else-eq w ↦ rw w.claiming-is (w.in-Later.ensures.unreleased c.loop.invariant.0.of.careful c.loop.invariant.2)
     ] in (
       goes_far _ _ (record c.loop.host { driver = c.poll_claim.new.driver }) _
           (goes_called _ _ _ _ None c.loop.invariant.0 refl refl refl c.poll_claim.ensures.careful c.poll_claim.ensures.goes_on) c.pause.ensures.goes,
       claiming_heard follows_later c.poll_claim.new.driver c.pause.new.host.driver c.match-poll_claim.claiming c.pause.ensures.untouched c.pause.ensures.calls of,
+      unreleased_heard c.poll_claim.new.driver c.pause.new.host.driver c.match-poll_claim.claiming c.pause.ensures.untouched of free,
     )
