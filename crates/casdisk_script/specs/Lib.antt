@@ -6,3 +6,4 @@ pub mod Script
 pub mod Running
 pub mod Files
 pub mod Kinds
+pub mod Asking

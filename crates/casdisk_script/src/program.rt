@@ -6,14 +6,21 @@ use crate::request::{Asked, UsageFault};
 use crate::script::run_script;
 use crate::usage::asked;
 use history::Kinds;
+use race_numbers::Race;
+use race_run::{RaceFault, run_race};
 use std::process::ExitCode;
 use std::rt::{Env, Files};
+use std::sync::Wait;
+use std::thread::Threads;
 use std::{env, fs, io};
 
 /// Does what the words of the command line ask, and says with which status the program ends: 0 where it is done,
-/// 1 where a history that was checked isn't legal, 2 after a bad line, configuration or command line, 3 after a failed opening, reading or writing, 4 where a growth
-/// was refused. The words of a fault go to standard error.
-pub fn run_program<R: Files + Env + Print + Eprint + AllocGlobal>(rt: &R) -> ExitCode {
+/// 1 where a history isn't legal or a race gave none, 2 after a bad line, configuration or command line, 3 after a failed
+/// opening, reading or writing, 4 where a growth was refused or a thread couldn't be started. The words of a fault go to
+/// standard error.
+pub fn run_program<R: Threads + Wait + Sync + Files + Env + Print + Eprint + AllocGlobal>(
+    rt: &R,
+) -> ExitCode {
     let words: Result<Vec<String>, io::Error> = match env::args(rt) {
         Ok(args) => args.collect(rt.alloc()).map_err(io::Error::from),
         Err(error) => Err(error),
@@ -40,10 +47,14 @@ fn end_with<R: Eprint>(rt: &R, status: u8, words: &str) -> ExitCode {
     ExitCode::from(status)
 }
 
-fn finish<R: Files + Print + Eprint + AllocGlobal>(rt: &R, what: Asked<'_>) -> ExitCode {
+fn finish<R: Threads + Wait + Sync + Files + Print + Eprint + AllocGlobal>(
+    rt: &R,
+    what: Asked<'_>,
+) -> ExitCode {
     let outcome = match what {
         Asked::Run { kinds, file } => run_file(rt, kinds, file),
         Asked::Check { file } => check_file(rt, file),
+        Asked::Race(race) => return race_hosts(rt, &race),
         Asked::Show(text) => match rt.print(text.as_str()) {
             Ok(()) => Ok(0),
             Err(_) => Err(RunFault::Output),
@@ -57,6 +68,23 @@ fn finish<R: Files + Print + Eprint + AllocGlobal>(rt: &R, what: Asked<'_>) -> E
             ExitCode::from(status)
         }
     }
+}
+
+// Lets hosts race.
+fn race_hosts<R: Threads + Wait + Sync + Print + Eprint + AllocGlobal>(
+    rt: &R,
+    race: &Race,
+) -> ExitCode {
+    let mut output = io::writer(rt);
+    match run_race(rt, rt.alloc(), race, &mut output) {
+        Ok(()) => ExitCode::from(0),
+        Err(fault) => end_race(rt, fault),
+    }
+}
+
+fn end_race<R: Eprint>(rt: &R, fault: RaceFault) -> ExitCode {
+    let _ = rt.eprintln(fault);
+    ExitCode::from(fault.status())
 }
 
 // Runs a script, and then gives the status 0.

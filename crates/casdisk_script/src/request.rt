@@ -1,6 +1,7 @@
 //! What the command line asks for.
 
 use history::Kinds;
+use race_numbers::Race;
 use std::alloc::AllocError;
 
 /// What the words of the command line ask for.
@@ -10,6 +11,8 @@ pub enum Asked<'a> {
     Run { kinds: Kinds, file: &'a str },
     /// To check the history in this file.
     Check { file: &'a str },
+    /// To let hosts race, and print the history.
+    Race(Race),
     /// To print this text, of `--help` or `--version`.
     Show(String),
 }

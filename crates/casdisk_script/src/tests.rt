@@ -206,25 +206,145 @@ fn a_run_is_asked_for(rt: HostRuntime) -> Result<(), Fail> {
             assert!(rt; file == "a.txt");
             assert_eq!(rt; kinds.bits(), 0x12);
         }
-        Asked::Check { .. } | Asked::Show(_) => assert!(rt; false, "no run"),
+        _ => assert!(rt; false, "no run"),
     }
     let given = words(rt.alloc(), &["casdisk", "run", "a.txt"])?;
     match asked(rt.alloc(), given.as_slice())? {
         Asked::Run { kinds, .. } => assert_eq!(rt; kinds.bits(), 0xff),
-        Asked::Check { .. } | Asked::Show(_) => assert!(rt; false, "no run"),
+        _ => assert!(rt; false, "no run"),
     }
     let given = words(rt.alloc(), &["casdisk", "check", "a.txt"])?;
     match asked(rt.alloc(), given.as_slice())? {
         Asked::Check { file } => assert!(rt; file == "a.txt"),
-        Asked::Run { .. } | Asked::Show(_) => assert!(rt; false, "no check"),
+        _ => assert!(rt; false, "no check"),
+    }
+    Ok(())
+}
+
+#[test]
+fn a_race_is_asked_for(rt: HostRuntime) -> Result<(), Fail> {
+    let rows: [(&[&str], (u16, u16, u32, u32, u16)); 3] = [
+        (
+            &[
+                "casdisk",
+                "race",
+                "--hosts",
+                "4",
+                "--workers",
+                "2",
+                "--slots",
+                "3",
+            ],
+            (4, 2, 3, 10, 1),
+        ),
+        (
+            &[
+                "casdisk",
+                "race",
+                "--hosts=16",
+                "--workers=16",
+                "--slots=64",
+                "--rounds=1000",
+            ],
+            (16, 16, 64, 1000, 1),
+        ),
+        (
+            &[
+                "casdisk",
+                "race",
+                "--queues",
+                "16",
+                "--slots",
+                "1",
+                "--workers",
+                "1",
+                "--hosts",
+                "1",
+                "--rounds",
+                "1",
+            ],
+            (1, 1, 1, 1, 16),
+        ),
+    ];
+    for (given, want) in rows {
+        let given = words(rt.alloc(), given)?;
+        match asked(rt.alloc(), given.as_slice())? {
+            Asked::Race(race) => {
+                let got = (
+                    race.hosts,
+                    race.workers,
+                    race.slots,
+                    race.rounds,
+                    race.queues,
+                );
+                assert_eq!(rt; got, want);
+            }
+            _ => assert!(rt; false, "no race"),
+        }
+    }
+    Ok(())
+}
+
+#[test]
+fn numbers_of_no_race_are_refused(rt: HostRuntime) -> Result<(), Fail> {
+    let rows: [(&[&str], &str); 3] = [
+        (
+            &[
+                "casdisk",
+                "race",
+                "--hosts",
+                "17",
+                "--workers",
+                "1",
+                "--slots",
+                "1",
+            ],
+            "error: '--hosts' is a number from 1 to 16",
+        ),
+        (
+            &[
+                "casdisk",
+                "race",
+                "--hosts",
+                "1",
+                "--workers",
+                "1",
+                "--slots",
+                "0",
+            ],
+            "error: '--slots' is a number from 1 to 64",
+        ),
+        (
+            &[
+                "casdisk",
+                "race",
+                "--hosts",
+                "8",
+                "--workers",
+                "1",
+                "--slots",
+                "1",
+                "--queues",
+                "3",
+            ],
+            "too many queues",
+        ),
+    ];
+    for (given, want) in rows {
+        let given = words(rt.alloc(), given)?;
+        match asked(rt.alloc(), given.as_slice()) {
+            Err(UsageFault::Text(text)) => assert!(rt; text.as_str() == want, "{text}"),
+            _ => assert!(rt; false, "no fault"),
+        }
     }
     Ok(())
 }
 
 #[test]
 fn help_and_version_are_shown(rt: HostRuntime) -> Result<(), Fail> {
-    let rows: [(&[&str], &str); 4] = [
+    let rows: [(&[&str], &str); 5] = [
         (&["casdisk", "--help"], "An NVM Express controller"),
+        (&["casdisk", "race", "--help"], "Lets hosts race"),
         (&["casdisk", "run", "--help"], "Runs a script"),
         (&["casdisk", "check", "--help"], "Checks a history"),
         (&["casdisk", "--version"], "casdisk 0.1.0"),
@@ -233,7 +353,7 @@ fn help_and_version_are_shown(rt: HostRuntime) -> Result<(), Fail> {
         let given = words(rt.alloc(), given)?;
         match asked(rt.alloc(), given.as_slice())? {
             Asked::Show(text) => assert!(rt; text.as_str().starts_with(front), "{text}"),
-            Asked::Run { .. } | Asked::Check { .. } => assert!(rt; false, "no text"),
+            _ => assert!(rt; false, "no text"),
         }
     }
     Ok(())
@@ -243,18 +363,36 @@ fn help_and_version_are_shown(rt: HostRuntime) -> Result<(), Fail> {
 fn has_reason(answer: Result<Asked<'_>, UsageFault>) -> bool {
     match answer {
         Err(UsageFault::Text(text)) => !text.as_str().is_empty(),
-        Err(UsageFault::NoMemory) | Ok(Asked::Run { .. }) | Ok(Asked::Check { .. }) => false,
-        Ok(Asked::Show(text)) => {
-            drop(text);
-            false
-        }
+        _ => false,
     }
 }
 
 #[test]
 fn bad_command_lines_are_refused(rt: HostRuntime) -> Result<(), Fail> {
-    let rows: [&[&str]; 9] = [
+    let rows: [&[&str]; 12] = [
         &["casdisk"],
+        &["casdisk", "race"],
+        &[
+            "casdisk",
+            "race",
+            "--hosts",
+            "4",
+            "--workers",
+            "2",
+            "--slots",
+            "x",
+        ],
+        &[
+            "casdisk",
+            "race",
+            "--hosts",
+            "4",
+            "--workers",
+            "2",
+            "--slots",
+            "2",
+            "a",
+        ],
         &["casdisk", "run"],
         &["casdisk", "run", "a", "b"],
         &["casdisk", "walk", "a"],

@@ -1,13 +1,15 @@
 //! The command line.
 
-ghost use Rattle.std.specs.Prelude.{◌≡◌, option_map};
+ghost use Rattle.std.specs.Prelude.{◌≡◌, IfOk, option_map};
+ghost use Rattle.casdisk_script.specs.Asking.{IsRaceInRange};
 ghost use Rattle.casdisk_script.specs.Kinds.{kinds_in};
 
 use crate::request::{Asked, UsageFault};
 use bitflags::Flags;
 use clap::error::ErrorKind;
-use clap::{Arg, ArgAction, ArgMatches, Command};
+use clap::{Arg, ArgAction, ArgMatches, Command, value_parser};
 use history::{Kinds, all_kinds};
+use race_numbers::Race;
 use std::alloc::{AllocError, Global};
 
 const KINDS: &str = "Kinds of lines to show, joined by commas [default: all]";
@@ -48,6 +50,16 @@ docs/CHECKING.md.
 
 Exit status: 0 where it is legal, 1 where it isn't.";
 
+const ABOUT_RACES: &str = "\
+Each host claims any slot by a fused Compare and Write, and releases it, round by round, on a thread
+of its own; workers on other threads serve the controller. What is printed is a history, which
+'casdisk check' reads, and which differs from run to run: see docs/RACE.md.
+
+All hosts have at most 16 submission queues.
+
+Exit status: 0 where all is done, 1 where there is no history, or it isn't legal, 2 after a bad
+command line, 3 after a failed output, 4 without memory or threads.";
+
 fn run_command<'a>(alloc: Global) -> Result<Command<'a>, AllocError> {
     let show = Arg::new(alloc, "show")
         .long("show")
@@ -78,6 +90,48 @@ fn check_command<'a>(alloc: Global) -> Result<Command<'a>, AllocError> {
         .arg(file)
 }
 
+// An option with a number.
+fn number_option<'a>(
+    alloc: Global,
+    name: &'static str,
+    value: &'static str,
+    help: &'static str,
+) -> Arg<'a> {
+    Arg::new(alloc, name)
+        .long(name)
+        .value_name(value)
+        .help(help)
+        .value_parser(value_parser!(u64))
+        .action(ArgAction::Set)
+}
+
+fn race_command<'a>(alloc: Global) -> Result<Command<'a>, AllocError> {
+    let hosts = number_option(alloc, "hosts", "H", "Hosts, 1 to 16").required(true);
+    let workers = number_option(alloc, "workers", "W", "Workers, 1 to 16").required(true);
+    let slots = number_option(alloc, "slots", "S", "Slots, 1 to 64").required(true);
+    let rounds = number_option(
+        alloc,
+        "rounds",
+        "R",
+        "Rounds of each host, 1 to 1000",
+    ).default_value("10");
+    let queues = number_option(
+        alloc,
+        "queues",
+        "Z",
+        "Submission queues of each host, 1 to 16",
+    )
+    .default_value("1");
+    Command::new(alloc, "race")
+        .about("Lets hosts race for slots on threads and prints the controller's history")
+        .after_help(ABOUT_RACES)
+        .arg(hosts)?
+        .arg(workers)?
+        .arg(slots)?
+        .arg(rounds)?
+        .arg(queues)
+}
+
 fn command<'a>(alloc: Global) -> Result<Command<'a>, AllocError> {
     Command::new(alloc, "casdisk")
         .version("0.1.0")
@@ -85,7 +139,8 @@ fn command<'a>(alloc: Global) -> Result<Command<'a>, AllocError> {
         .after_help(ABOUT_SCRIPTS)
         .subcommand_required(true)
         .subcommand(run_command(alloc)?)?
-        .subcommand(check_command(alloc)?)
+        .subcommand(check_command(alloc)?)?
+        .subcommand(race_command(alloc)?)
 }
 
 /// The kinds that a text names, joined by commas; a name twice counts once.
@@ -111,14 +166,18 @@ fn text_of(alloc: Global, words: &str) -> UsageFault {
     }
 }
 
-fn check_asked<'a>(alloc: Global, matches: &ArgMatches<'a>) -> Result<Asked<'a>, UsageFault> {
+fn check_asked<'a>(alloc: Global, matches: &ArgMatches<'a>) -> Result<Asked<'a>, UsageFault>
+    ensures race { IfOk result IsRaceInRange }
+{
     match matches.get_str("FILE") {
         Some(file) => Ok(Asked::Check { file }),
         None => Err(text_of(alloc, "error: no file")),
     }
 }
 
-fn run_asked<'a>(alloc: Global, matches: &ArgMatches<'a>) -> Result<Asked<'a>, UsageFault> {
+fn run_asked<'a>(alloc: Global, matches: &ArgMatches<'a>) -> Result<Asked<'a>, UsageFault>
+    ensures race { IfOk result IsRaceInRange }
+{
     let kinds = match matches.get_str("show") {
         Some(text) => kinds_of(text),
         None => Some(all_kinds()),
@@ -133,12 +192,34 @@ fn run_asked<'a>(alloc: Global, matches: &ArgMatches<'a>) -> Result<Asked<'a>, U
     }
 }
 
-/// Reads the words that the program was started with, its name first.
+fn race_asked<'a>(alloc: Global, matches: &ArgMatches<'a>) -> Result<Asked<'a>, UsageFault>
+    ensures race { IfOk result IsRaceInRange }
+{
+    let (Some(hosts), Some(workers), Some(slots), Some(rounds), Some(queues)) = (
+        matches.get_one::<u64>("hosts"),
+        matches.get_one::<u64>("workers"),
+        matches.get_one::<u64>("slots"),
+        matches.get_one::<u64>("rounds"),
+        matches.get_one::<u64>("queues"),
+    ) else {
+        return Err(text_of(alloc, "error: a number is missing"));
+    };
+    match Race::new(hosts, workers, slots, rounds, queues) {
+        Ok(race) => Ok(Asked::Race(race)),
+        Err(usage) => Err(UsageFault::Text(usage.to_string(alloc)?)),
+    }
+}
+
+/// Reads the words that the program was started with, its name first. The numbers of a race that is asked for are in
+/// their ranges.
 ///
 /// # Errors
 ///
-/// A text for a bad command line, an unknown or empty kind of lines among them; `NoMemory` where a growth was refused.
-pub fn asked<'a>(alloc: Global, words: &'a [String]) -> Result<Asked<'a>, UsageFault> {
+/// A text for a bad command line, an unknown or empty kind of lines and numbers of no race among them; `NoMemory` where a
+/// growth was refused.
+pub fn asked<'a>(alloc: Global, words: &'a [String]) -> Result<Asked<'a>, UsageFault>
+    ensures race { IfOk result IsRaceInRange }
+{
     let matches = match command(alloc)?.try_get_matches_from(words) {
         Ok(matches) => matches,
         Err(error) => {
@@ -155,6 +236,8 @@ pub fn asked<'a>(alloc: Global, words: &'a [String]) -> Result<Asked<'a>, UsageF
         Some((name, inner)) => {
             if name == "check" {
                 check_asked(alloc, inner)
+            } else if name == "race" {
+                race_asked(alloc, inner)
             } else {
                 run_asked(alloc, inner)
             }
