@@ -6,7 +6,7 @@ pub returns-in-Ok-clause-goes : goal.returns-in-Ok-clause-goes
 returns-in-Ok-clause-goes g c = goes_called _ _ _ _ None c.loop.invariant refl refl refl c.claim_any.ensures.careful c.claim_any.ensures.goes_on
 
 pub returns-in-Ok-clause-unreleased : goal.returns-in-Ok-clause-unreleased
-returns-in-Ok-clause-unreleased g c = c.claim_any.ensures.unreleased c.loop.invariant.of.careful
+returns-in-Ok-clause-unreleased g c = c.in-Ok.ensures.unreleased c.loop.invariant.of.careful
 
 pub returns-in-RoundEnds-clause-goes : goal.returns-in-RoundEnds-clause-goes
 returns-in-RoundEnds-clause-goes g c = goes_called _ _ _ _ None c.loop.invariant refl refl refl c.claim_any.ensures.careful c.claim_any.ensures.goes_on

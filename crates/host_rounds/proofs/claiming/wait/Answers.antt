@@ -12,7 +12,7 @@ pub returns-in-Held-clause-goes : goal.returns-in-Held-clause-goes
 returns-in-Held-clause-goes g c = goes_called _ _ _ _ None c.loop.invariant.0 refl refl refl c.poll_claim.ensures.careful c.poll_claim.ensures.goes_on
 
 pub returns-in-Held-clause-held : goal.returns-in-Held-clause-held
-returns-in-Held-clause-held g c = c.poll_claim.ensures.held c.loop.invariant.2
+returns-in-Held-clause-held g c = c.in-Held.ensures.held c.loop.invariant.2
 
 pub returns-then-eq-clause-goes : goal.returns-then-eq-clause-goes
 returns-then-eq-clause-goes g c = goes_called _ _ _ _ None c.loop.invariant.0 refl refl refl c.poll_claim.ensures.careful c.poll_claim.ensures.goes_on
