@@ -76,7 +76,7 @@ read_ready b s h i q c r ready same later place sound start =
     }
   where
     moved : (b : Bench) (h i : Host) → Follows h.driver.port i.driver.port → i.place ≡ h.place → IsHostOf b h → IsHostOf b i
-    moved b h i later place of = (subst (λ (p : QueuePass Notice). IsOf b.notices p) (sym place) of.0, ap lock_of_pass place ∙ (of.1 ∙ sym later.same_lock))
+    moved b h i later place of = ((subst (λ (p : QueuePass Notice). IsOf b.notices p) (sym place) of.0.0, ap lock_of_pass place ∙ (of.0.1 ∙ sym later.same_lock)), later.same_lock ∙ of.1)
 
 pub poll_ready : (b : Bench) (s : Slots) (h i : Host) → IsReady b s h → IsHostOf b i → IsSame h.driver i.driver → Follows h.driver.port i.driver.port → IsOneMore (made h.driver) (made i.driver) → IsReady b s i
 poll_ready b s h i ready host same later one =
