@@ -3,7 +3,7 @@
 /// A claim's host number and serial.
 #[derive(Clone, Copy, Debug, PartialEq, Eq)]
 pub(crate) struct Name {
-    pub(crate) host: u32,
+    pub(crate) host: u64,
     pub(crate) serial: u64,
 }
 
@@ -38,7 +38,7 @@ pub(crate) fn contents_of(block: &[u8]) -> Contents {
     if is_zero(block) {
         return Contents::Nobody;
     }
-    let host = number(&block[0..4]) as u32;
+    let host = number(&block[0..4]);
     let serial = number(&block[8..16]);
     if host == 0 || serial == 0 || !is_zero(&block[4..8]) || !is_zero(&block[16..]) {
         return Contents::Other;
