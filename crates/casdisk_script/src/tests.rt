@@ -363,7 +363,12 @@ fn help_and_version_are_shown(rt: HostRuntime) -> Result<(), Fail> {
 fn has_reason(answer: Result<Asked<'_>, UsageFault>) -> bool {
     match answer {
         Err(UsageFault::Text(text)) => !text.as_str().is_empty(),
-        _ => false,
+        Err(UsageFault::NoMemory) | Ok(Asked::Run { .. }) | Ok(Asked::Check { .. }) => false,
+        Ok(Asked::Explain { .. }) | Ok(Asked::Race(_)) => false,
+        Ok(Asked::Show(text)) => {
+            drop(text);
+            false
+        }
     }
 }
 
