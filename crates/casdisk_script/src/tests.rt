@@ -285,6 +285,19 @@ fn a_race_is_asked_for(rt: HostRuntime) -> Result<(), Fail> {
     Ok(())
 }
 
+// Why a command line is refused.
+fn reason(answer: Result<Asked<'_>, UsageFault>) -> Option<String> {
+    match answer {
+        Err(UsageFault::Text(text)) => Some(text),
+        Err(UsageFault::NoMemory) | Ok(Asked::Run { .. }) | Ok(Asked::Check { .. }) => None,
+        Ok(Asked::Explain { .. }) | Ok(Asked::Race(_)) => None,
+        Ok(Asked::Show(text)) => {
+            drop(text);
+            None
+        }
+    }
+}
+
 #[test]
 fn numbers_of_no_race_are_refused(rt: HostRuntime) -> Result<(), Fail> {
     let rows: [(&[&str], &str); 3] = [
@@ -332,10 +345,10 @@ fn numbers_of_no_race_are_refused(rt: HostRuntime) -> Result<(), Fail> {
     ];
     for (given, want) in rows {
         let given = words(rt.alloc(), given)?;
-        match asked(rt.alloc(), given.as_slice()) {
-            Err(UsageFault::Text(text)) => assert!(rt; text.as_str() == want, "{text}"),
-            _ => assert!(rt; false, "no fault"),
-        }
+        let Some(text) = reason(asked(rt.alloc(), given.as_slice())) else {
+            return Err(Fail::from("no reason"));
+        };
+        assert!(rt; text.as_str() == want, "{text}");
     }
     Ok(())
 }
@@ -361,14 +374,9 @@ fn help_and_version_are_shown(rt: HostRuntime) -> Result<(), Fail> {
 
 /// Whether the answer is that of a bad command line, with a reason.
 fn has_reason(answer: Result<Asked<'_>, UsageFault>) -> bool {
-    match answer {
-        Err(UsageFault::Text(text)) => !text.as_str().is_empty(),
-        Err(UsageFault::NoMemory) | Ok(Asked::Run { .. }) | Ok(Asked::Check { .. }) => false,
-        Ok(Asked::Explain { .. }) | Ok(Asked::Race(_)) => false,
-        Ok(Asked::Show(text)) => {
-            drop(text);
-            false
-        }
+    match reason(answer) {
+        Some(text) => !text.as_str().is_empty(),
+        None => false,
     }
 }
 
