@@ -1,7 +1,7 @@
 //! Runs scripts on an NVM Express controller in software: see `casdisk --help`.
 #![tactic(auto)]
 
-use casdisk_script::run_program;
+use casdisk_program::run_program;
 use std::process::ExitCode;
 
 fn main(rt: HostRuntime) -> ExitCode {

@@ -8,4 +8,3 @@ pub mod Files
 pub mod Judged
 pub mod Explained
 pub mod Kinds
-pub mod Asking

@@ -149,20 +149,3 @@ pub fn explain_text<R: Read>(alloc: Global, reader: &mut R) -> Result<Explained,
     )?;
     Ok(explained_by(explainer.bad))
 }
-
-/// What the number of a configuration's fault means.
-pub(crate) fn config_words(number: u8) -> &'static str {
-    match number {
-        21 => "AWUN is above 255",
-        22 => "ACWU is above 255",
-        23 => "NABSN isn't 0, and AWUN or ACWU is above it",
-        24 => "NABO is above NABSN",
-        25 => "BLOCKS isn't 1 to 65536",
-        26 => "PAIRS isn't 1 to 16",
-        27 => "SQ isn't 2 to 1024",
-        28 => "CQ isn't 2 to 1024",
-        29 => "JOBS isn't 1 to 256",
-        30 => "CQS is 0 or above PAIRS",
-        _ => "it is refused",
-    }
-}

@@ -1,14 +1,13 @@
 //! The command line.
 
-ghost use Rattle.std.specs.Prelude.{◌≡◌, IfOk, option_map};
-ghost use Rattle.casdisk_script.specs.Asking.{IsRaceInRange};
-ghost use Rattle.casdisk_script.specs.Kinds.{kinds_in};
+ghost use Rattle.std.specs.Prelude.{IfOk};
+ghost use Rattle.casdisk_program.specs.Asking.{IsRaceInRange};
 
 use crate::request::{Asked, UsageFault};
-use bitflags::Flags;
+use casdisk_script::kinds_of;
 use clap::error::ErrorKind;
 use clap::{Arg, ArgAction, ArgMatches, Command, value_parser};
-use history::{Kinds, all_kinds};
+use history::all_kinds;
 use race_numbers::Race;
 use std::alloc::{AllocError, Global};
 
@@ -155,22 +154,6 @@ fn command<'a>(alloc: Global) -> Result<Command<'a>, AllocError> {
         .subcommand(check_command(alloc)?)?
         .subcommand(explain_command(alloc)?)?
         .subcommand(race_command(alloc)?)
-}
-
-/// The kinds that a text names, joined by commas; a name twice counts once.
-///
-/// None where a name is unknown or empty.
-pub fn kinds_of(text: &str) -> Option<Kinds>
-    ensures value { option_map (λ kinds. kinds.0) result ≡ kinds_in text.now }
-{
-    let mut kinds = Kinds::empty();
-    let mut rest = text;
-    while let Some((name, after)) = rest.split_once(',') {
-        kinds.insert(Kinds::from_name(name)?);
-        rest = after;
-    }
-    kinds.insert(Kinds::from_name(rest)?);
-    Some(kinds)
 }
 
 fn text_of(alloc: Global, words: &str) -> UsageFault {

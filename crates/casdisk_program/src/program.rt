@@ -1,11 +1,8 @@
 //! The whole program, over any runtime.
 
-use crate::checking::check_text;
-use crate::explaining::{Explained, config_words, explain_text};
-use crate::fault::RunFault;
 use crate::request::{Asked, UsageFault};
-use crate::script::run_script;
 use crate::usage::asked;
+use casdisk_script::{Explained, RunFault, check_text, explain_text, run_script};
 use history::Kinds;
 use race_numbers::Race;
 use race_run::{RaceFault, run_race};
@@ -149,4 +146,21 @@ fn explain_file<R: Files + Print + Eprint + AllocGlobal>(
         return Err(RunFault::Output);
     }
     Ok(status)
+}
+
+// What the number of a configuration's fault means.
+fn config_words(number: u8) -> &'static str {
+    match number {
+        21 => "AWUN is above 255",
+        22 => "ACWU is above 255",
+        23 => "NABSN isn't 0, and AWUN or ACWU is above it",
+        24 => "NABO is above NABSN",
+        25 => "BLOCKS isn't 1 to 65536",
+        26 => "PAIRS isn't 1 to 16",
+        27 => "SQ isn't 2 to 1024",
+        28 => "CQ isn't 2 to 1024",
+        29 => "JOBS isn't 1 to 256",
+        30 => "CQS is 0 or above PAIRS",
+        _ => "it is refused",
+    }
 }

@@ -1,7 +1,7 @@
 -- What a command line asks for.
 use Rattle.std.specs.Prelude.{None, ◌≡◌}
 use Rattle.race_numbers.specs.Races.{usage_of}
-use Rattle.casdisk_script.specs.declared.request.Asked.{Asked}
+use Rattle.casdisk_program.specs.declared.request.Asked.{Asked}
 
 -- the numbers of a race that is asked for are in their ranges
 abbrev pub IsRaceInRange : Asked → Type 0

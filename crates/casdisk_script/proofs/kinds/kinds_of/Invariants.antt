@@ -4,7 +4,7 @@ use Rattle.std.specs.List.{slice_split}
 use denote.Text.{Utf8}
 use denote.Shadow.{shadow}
 use Rattle.casdisk_script.specs.Kinds.{kinds_in, kinds_after}
-use Rattle.casdisk_script.proofs.usage.kinds_of.Given as goal
+use Rattle.casdisk_script.proofs.kinds.kinds_of.Given as goal
 
 -- the kinds so far and those of the rest are those of the text
 abbrev pub invariant-loop-name : goal.invariant-loop-name
