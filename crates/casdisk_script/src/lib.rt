@@ -20,6 +20,3 @@ pub use crate::kinds::kinds_of;
 pub use crate::meaning::{LineMeaning, Taken, WriteFault};
 pub use crate::running::run_lines;
 pub use crate::script::run_script;
-
-#[cfg(test)]
-mod tests;

@@ -1,8 +1,9 @@
 //! Histories whose first bad step is explained; the words are those of docs/CHECKING.md.
 
 use crate::edits::changed;
-use crate::files::{WRITE, file_of};
+use crate::files::WRITE;
 use casdisk_script::{RunFault, explain_text};
+use script_rows::files::file_of;
 use std::alloc::Global;
 use std::process::Abort;
 use std::test::Fail;

@@ -1,90 +1,20 @@
 //! Readers and writers that fail at one of their calls.
 
 use crate::edits::changed;
-use crate::files::{WRITE, check, file_of};
+use crate::files::{WRITE, check};
 use casdisk_script::{RunFault, check_text};
+use script_rows::failing::{FailingReader, FailingWriter};
+use script_rows::files::file_of;
 use std::alloc::Global;
-use std::io;
-use std::io::{ErrorKind, Read, Write};
+use std::io::ErrorKind;
 use std::process::Abort;
 use std::test::Fail;
-
-/// Gives some bytes at each call, and fails at one, which it remembers.
-#[derive(Drop)]
-struct FailingReader<'a> {
-    rest: &'a [u8],
-    width: u64,
-    calls: u64,
-    fails_at: u64,
-    kind: ErrorKind,
-    failed: bool,
-}
-
-impl Read for FailingReader<'_> {
-    ghost use Rattle.std.specs.Prelude.{None};
-
-    ghost remaining = { λ _. None };
-
-    fn read(&mut self, buf: &mut [u8]) -> io::Result<usize> {
-        self.calls = self.calls.saturating_add(1);
-        if self.calls == self.fails_at {
-            self.failed = true;
-            return Err(io::Error::from(self.kind));
-        }
-        let n = self.rest.len().min(buf.len()).min(self.width as usize);
-        let (now, later) = self.rest.split_at(n);
-        buf[..n].copy_from_slice(now);
-        self.rest = later;
-        Ok(n)
-    }
-}
-
-/// Takes some bytes at each call, and fails at one, which it remembers.
-#[derive(Drop)]
-struct FailingWriter {
-    taken: Vec<u8>,
-    width: u64,
-    calls: u64,
-    fails_at: u64,
-    kind: ErrorKind,
-    failed: bool,
-}
-
-impl Write for FailingWriter {
-    ghost use Rattle.std.specs.Prelude.{None};
-
-    ghost contents = { λ _. None };
-
-    fn write(&mut self, buf: &[u8]) -> io::Result<usize> {
-        self.calls = self.calls.saturating_add(1);
-        if self.calls == self.fails_at {
-            self.failed = true;
-            return Err(io::Error::from(self.kind));
-        }
-        let n = buf.len().min(self.width as usize);
-        let Ok(()) = self.taken.extend_from_slice(&buf[..n]) else {
-            return Err(io::Error::from(ErrorKind::OutOfMemory));
-        };
-        Ok(n)
-    }
-
-    fn flush(&mut self) -> io::Result<()> {
-        Ok(())
-    }
-}
 
 /// Checks a file with a reader whose N-th call fails, for each N until no call does.
 fn fail_reads(rt: &impl Abort, alloc: Global, file: &str, width: u64) -> Result<(), Fail> {
     let whole = check(alloc, file.as_bytes());
     for fails_at in 1..10_000u64 {
-        let mut reader = FailingReader {
-            rest: file.as_bytes(),
-            width,
-            calls: 0,
-            fails_at,
-            kind: ErrorKind::Other,
-            failed: false,
-        };
+        let mut reader = FailingReader::new(file.as_bytes(), width, fails_at, ErrorKind::Other);
         let mut output: Vec<u8> = Vec::new(alloc);
         let answer = check_text(alloc, &mut reader, &mut output);
         if answer.is_ok() {
@@ -104,14 +34,7 @@ fn fail_writes(rt: &impl Abort, alloc: Global, file: &str, width: u64) -> Result
     let whole = check(alloc, file.as_bytes());
     for fails_at in 1..10_000u64 {
         let mut reader = file.as_bytes();
-        let mut writer = FailingWriter {
-            taken: Vec::new(alloc),
-            width,
-            calls: 0,
-            fails_at,
-            kind: ErrorKind::Other,
-            failed: false,
-        };
+        let mut writer = FailingWriter::new(alloc, width, fails_at, ErrorKind::Other);
         let answer = check_text(alloc, &mut reader, &mut writer);
         if answer.is_ok() {
             assert_eq!(rt; answer, whole.answer);
@@ -165,22 +88,8 @@ fn name_the_cause(
     kind: ErrorKind,
 ) -> Result<(), Fail> {
     let whole = check(alloc, file.as_bytes());
-    let mut reader = FailingReader {
-        rest: file.as_bytes(),
-        width: 40,
-        calls: 0,
-        fails_at: calls.0,
-        kind,
-        failed: false,
-    };
-    let mut writer = FailingWriter {
-        taken: Vec::new(alloc),
-        width: 2,
-        calls: 0,
-        fails_at: calls.1,
-        kind,
-        failed: false,
-    };
+    let mut reader = FailingReader::new(file.as_bytes(), 40, calls.0, kind);
+    let mut writer = FailingWriter::new(alloc, 2, calls.1, kind);
     let answer = check_text(alloc, &mut reader, &mut writer);
     let want = if reader.failed {
         Err(RunFault::Input)

@@ -2,13 +2,11 @@
 
 use crate::edits::changed;
 use casdisk_script::{RunFault, check_text, kinds_of, run_script};
+use script_rows::files::file_of;
 use std::alloc::Global;
 use std::process::Abort;
 use std::str;
 use std::test::Fail;
-
-/// The configuration of a table's rows that have none of their own.
-pub(crate) const CONFIG: &str = "config 8 1 1 0 0 2 4 4 8";
 
 /// The kinds of lines that are a history.
 const HISTORY: &str = "publish,fetch,grant,block,post,reap";
@@ -30,20 +28,6 @@ pub(crate) fn check(alloc: Global, file: &[u8]) -> Outcome {
     let mut output = Vec::new(alloc);
     let answer = check_text(alloc, &mut reader, &mut output);
     Outcome { answer, output }
-}
-
-/// A table's lines, parted by ` / `, as a file.
-pub(crate) fn file_of(alloc: Global, lines: &str) -> Result<String, Fail> {
-    let mut file = String::new(alloc);
-    if !lines.starts_with("config") {
-        file.push_str(CONFIG)?;
-        file.push_str("\n")?;
-    }
-    for line in lines.split(" / ") {
-        file.push_str(line)?;
-        file.push_str("\n")?;
-    }
-    Ok(file)
 }
 
 /// The history that a table's script prints.

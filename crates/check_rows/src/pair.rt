@@ -1,18 +1,13 @@
 //! The history of a pair that wins, and what is answered of it with a line edited.
 
 use crate::edits::{Edit, check_changes, check_edits};
-use crate::files::{file_of, place_of};
-use std::alloc::Global;
+use crate::files::place_of;
+use script_rows::files::file_of;
 use std::test::Fail;
 
 /// The lines of a pair that changes block 3 from zeros to A1.
 const PAIR: &str =
     "publish 1 05010700010000000000000000000000000000000000000000000000000000000000000000000000030000000000000000000000000000000000000000000000 00 + 01020800010000000000000000000000000000000000000000000000000000000000000000000000030000000000000000000000000000000000000000000000 A1 / fetch 1 1 2 ok / grant 1 0 3 1 w / block 1 0 3 equal * / block 1 0 3 written - / post 1 00000000000000000200010007000100 - / post 1 00000000000000000200010008000100 - / reap 1 00000000000000000200010007000100 / reap 1 00000000000000000200010008000100";
-
-/// The same as a file.
-fn pair_file(alloc: Global) -> Result<String, Fail> {
-    file_of(alloc, PAIR)
-}
 
 /// By place: nothing to fetch; no such ticket; no open unit; a pair compares before it writes; the
 /// unit hasn't ended; the first command's completion comes first; only one completion is there to
@@ -180,7 +175,7 @@ const PUBLISHED: [(&[(usize, &str)], Option<u64>); 5] = [
 
 #[test]
 fn a_pair_is_legal(rt: HostRuntime) -> Result<(), Fail> {
-    let file = pair_file(rt.alloc())?;
+    let file = file_of(rt.alloc(), PAIR)?;
     assert_eq!(rt; place_of(&rt, rt.alloc(), file.as_str())?, None);
     Ok(())
 }
@@ -188,7 +183,7 @@ fn a_pair_is_legal(rt: HostRuntime) -> Result<(), Fail> {
 #[test]
 fn a_pair_with_a_line_edited(rt: HostRuntime) -> Result<(), Fail> {
     let alloc = rt.alloc();
-    let file = pair_file(alloc)?;
+    let file = file_of(alloc, PAIR)?;
     check_edits(&rt, alloc, file.as_str(), Edit::LeftOut, &LEFT_OUT)?;
     check_edits(&rt, alloc, file.as_str(), Edit::Doubled, &DOUBLED)?;
     check_edits(&rt, alloc, file.as_str(), Edit::Swapped, &SWAPPED)
@@ -197,7 +192,7 @@ fn a_pair_with_a_line_edited(rt: HostRuntime) -> Result<(), Fail> {
 #[test]
 fn a_pair_with_lines_changed(rt: HostRuntime) -> Result<(), Fail> {
     let alloc = rt.alloc();
-    let file = pair_file(alloc)?;
+    let file = file_of(alloc, PAIR)?;
     check_changes(&rt, alloc, file.as_str(), &CHANGED)?;
     check_changes(&rt, alloc, file.as_str(), &COMPLETED)?;
     check_changes(&rt, alloc, file.as_str(), &PUBLISHED)

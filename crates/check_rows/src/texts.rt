@@ -1,7 +1,8 @@
 //! Histories as texts: bad lines, comments, configurations, spellings of lines.
 
-use crate::files::{CONFIG, WRITE, check, file_of};
+use crate::files::{WRITE, check};
 use casdisk_script::RunFault;
+use script_rows::files::{CONFIG, file_of};
 use std::alloc::Global;
 use std::process::Abort;
 use std::test::Fail;

@@ -1,6 +1,7 @@
 //! Entries by their bytes: each opcode, and each bit of an entry changed.
 
-use crate::runs::{file_of, kinds_named, run, table_of};
+use crate::files::file_of;
+use crate::runs::{kinds_named, run, table_of};
 use std::alloc::Global;
 use std::test::Fail;
 

@@ -1,11 +1,12 @@
 //! Readers and writers that fail at one of their calls.
 
-use crate::runs::{file_of, run};
+use crate::failing::{FailingReader, FailingWriter};
+use crate::files::file_of;
+use crate::runs::run;
 use casdisk_script::{RunFault, run_script};
 use history::all_kinds;
 use std::alloc::Global;
-use std::io;
-use std::io::{ErrorKind, Read, Write};
+use std::io::ErrorKind;
 use std::process::Abort;
 use std::test::Fail;
 
@@ -13,83 +14,12 @@ use std::test::Fail;
 const SCRIPT: &str =
     "publish 1 compare 1 7 3 0 00 + write 2 8 3 0 A1 / fetch 1 / settle / reap 1 / reap 1 / publish 1 read 0 9 3 0 - / fetch 1 / settle / reap 1";
 
-/// Gives some bytes at each call, and fails at one, which it remembers.
-#[derive(Drop)]
-struct FailingReader<'a> {
-    rest: &'a [u8],
-    width: u64,
-    calls: u64,
-    fails_at: u64,
-    kind: ErrorKind,
-    failed: bool,
-}
-
-impl Read for FailingReader<'_> {
-    ghost use Rattle.std.specs.Prelude.{None};
-
-    ghost remaining = { λ _. None };
-
-    fn read(&mut self, buf: &mut [u8]) -> io::Result<usize> {
-        self.calls = self.calls.saturating_add(1);
-        if self.calls == self.fails_at {
-            self.failed = true;
-            return Err(io::Error::from(self.kind));
-        }
-        let n = self.rest.len().min(buf.len()).min(self.width as usize);
-        let (now, later) = self.rest.split_at(n);
-        buf[..n].copy_from_slice(now);
-        self.rest = later;
-        Ok(n)
-    }
-}
-
-/// Takes some bytes at each call, and fails at one, which it remembers.
-#[derive(Drop)]
-struct FailingWriter {
-    taken: Vec<u8>,
-    width: u64,
-    calls: u64,
-    fails_at: u64,
-    kind: ErrorKind,
-    failed: bool,
-}
-
-impl Write for FailingWriter {
-    ghost use Rattle.std.specs.Prelude.{None};
-
-    ghost contents = { λ _. None };
-
-    fn write(&mut self, buf: &[u8]) -> io::Result<usize> {
-        self.calls = self.calls.saturating_add(1);
-        if self.calls == self.fails_at {
-            self.failed = true;
-            return Err(io::Error::from(self.kind));
-        }
-        let n = buf.len().min(self.width as usize);
-        let Ok(()) = self.taken.extend_from_slice(&buf[..n]) else {
-            return Err(io::Error::from(ErrorKind::OutOfMemory));
-        };
-        Ok(n)
-    }
-
-    fn flush(&mut self) -> io::Result<()> {
-        Ok(())
-    }
-}
-
 /// Runs the script with a reader whose N-th call fails, for each N until no call does.
 fn fail_reads(rt: &impl Abort, alloc: Global, width: u64) -> Result<(), Fail> {
     let script = file_of(alloc, SCRIPT)?;
     let whole = run(alloc, script.as_bytes(), all_kinds());
     for fails_at in 1..10_000u64 {
-        let mut reader = FailingReader {
-            rest: script.as_bytes(),
-            width,
-            calls: 0,
-            fails_at,
-            kind: ErrorKind::Other,
-            failed: false,
-        };
+        let mut reader = FailingReader::new(script.as_bytes(), width, fails_at, ErrorKind::Other);
         let mut output: Vec<u8> = Vec::new(alloc);
         let answer = run_script(alloc, &mut reader, &mut output, all_kinds());
         if answer == Ok(()) {
@@ -112,14 +42,7 @@ fn fail_writes(rt: &impl Abort, alloc: Global, width: u64) -> Result<(), Fail> {
     let whole = run(alloc, script.as_bytes(), all_kinds());
     for fails_at in 1..10_000u64 {
         let mut reader = script.as_bytes();
-        let mut writer = FailingWriter {
-            taken: Vec::new(alloc),
-            width,
-            calls: 0,
-            fails_at,
-            kind: ErrorKind::Other,
-            failed: false,
-        };
+        let mut writer = FailingWriter::new(alloc, width, fails_at, ErrorKind::Other);
         let answer = run_script(alloc, &mut reader, &mut writer, all_kinds());
         if answer == Ok(()) {
             assert_eq!(rt; writer.taken.as_slice(), whole.output.as_slice());
@@ -160,22 +83,8 @@ fn name_the_cause(
     kind: ErrorKind,
 ) -> Result<(), Fail> {
     let whole = run(alloc, script.as_bytes(), all_kinds());
-    let mut reader = FailingReader {
-        rest: script.as_bytes(),
-        width: 40,
-        calls: 0,
-        fails_at: calls.0,
-        kind,
-        failed: false,
-    };
-    let mut writer = FailingWriter {
-        taken: Vec::new(alloc),
-        width: 40,
-        calls: 0,
-        fails_at: calls.1,
-        kind,
-        failed: false,
-    };
+    let mut reader = FailingReader::new(script.as_bytes(), 40, calls.0, kind);
+    let mut writer = FailingWriter::new(alloc, 40, calls.1, kind);
     let answer = run_script(alloc, &mut reader, &mut writer, all_kinds());
     let want = if reader.failed {
         Err(RunFault::Input)
@@ -212,6 +121,23 @@ fn a_fault_names_what_failed(rt: HostRuntime) -> Result<(), Fail> {
                 }
             }
         }
+    }
+    Ok(())
+}
+
+#[test]
+fn faults_have_their_words_and_statuses(rt: HostRuntime) -> Result<(), Fail> {
+    let rows = [
+        (RunFault::BadLine(3), "bad line 3", 2),
+        (RunFault::BadConfig(23), "bad config 23", 2),
+        (RunFault::Input, "input failed", 3),
+        (RunFault::Output, "output failed", 3),
+        (RunFault::NoMemory, "no memory", 4),
+    ];
+    for (fault, words, status) in rows {
+        let text = fault.to_string(rt.alloc())?;
+        assert_eq!(rt; text.as_str(), words);
+        assert_eq!(rt; fault.status(), status);
     }
     Ok(())
 }

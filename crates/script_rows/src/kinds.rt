@@ -1,6 +1,8 @@
 //! What is shown of the kinds that are asked for.
 
-use crate::runs::{check_table, file_of, kinds_named, lines_of, run, table_of};
+use crate::files::file_of;
+use crate::runs::{check_table, kinds_named, lines_of, run, table_of};
+use casdisk_script::kinds_of;
 use history::all_kinds;
 use std::alloc::Global;
 use std::test::Fail;
@@ -27,6 +29,13 @@ fn names_in(alloc: Global, set: u32) -> Result<String, Fail> {
         rest /= 2;
     }
     Ok(names)
+}
+
+#[test]
+fn other_names_are_no_kinds(rt: HostRuntime) {
+    for text in ["", ",", "publish,", "Publish", "publish fetch", "all"] {
+        assert!(rt; kinds_of(text).is_none(), "{text}");
+    }
 }
 
 #[test]

@@ -1,12 +1,16 @@
-//! Scripts beside the lines that they print, as tests of `casdisk_script` over its neighbours.
+//! Scripts beside the lines that they print, as tests of `casdisk_script` over its neighbours; and what other tests of texts use.
 #![tactic(auto)]
 
 #[cfg(test)]
 mod commands;
 #[cfg(test)]
+mod configurations;
+#[cfg(test)]
 mod entries;
+pub mod failing;
 #[cfg(test)]
 mod faults;
+pub mod files;
 #[cfg(test)]
 mod kinds;
 #[cfg(test)]

@@ -1,6 +1,7 @@
 //! Outputs byte for byte, and lines of single kinds.
 
-use crate::runs::{CONFIG, check_read_back, check_table, file_of, run};
+use crate::files::{CONFIG, file_of};
+use crate::runs::{check_read_back, check_table, run};
 use history::all_kinds;
 use std::alloc::Global;
 use std::process::Abort;

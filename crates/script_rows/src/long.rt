@@ -1,6 +1,7 @@
 //! Long data, long lines and many lines: nothing ends a run but want of memory.
 
-use crate::runs::{file_of, kinds_named, run, table_of};
+use crate::files::file_of;
+use crate::runs::{kinds_named, run, table_of};
 use casdisk_script::RunFault;
 use history::all_kinds;
 use std::alloc::Global;

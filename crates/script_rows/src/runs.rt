@@ -1,14 +1,12 @@
 //! Runs of scripts, and what the tables show of their output.
 
+use crate::files::file_of;
 use casdisk_script::{RunFault, kinds_of, run_script};
 use history::{Kinds, all_kinds, parse_line, write_line};
 use std::alloc::Global;
 use std::process::Abort;
 use std::str;
 use std::test::Fail;
-
-/// The configuration of a table's script that has none of its own.
-pub(crate) const CONFIG: &str = "config 8 1 1 0 0 2 4 4 8";
 
 /// The kinds of lines that are a history.
 const HISTORY: &str = "publish,fetch,grant,block,post,reap";
@@ -26,20 +24,6 @@ pub(crate) fn run(alloc: Global, script: &[u8], kinds: Kinds) -> Outcome {
     let mut output = Vec::new(alloc);
     let answer = run_script(alloc, &mut reader, &mut output, kinds);
     Outcome { answer, output }
-}
-
-/// A table's script, its lines parted by ` / `, as a file.
-pub(crate) fn file_of(alloc: Global, script: &str) -> Result<String, Fail> {
-    let mut file = String::new(alloc);
-    if !script.starts_with("config") {
-        file.push_str(CONFIG)?;
-        file.push_str("\n")?;
-    }
-    for line in script.split(" / ") {
-        file.push_str(line)?;
-        file.push_str("\n")?;
-    }
-    Ok(file)
 }
 
 /// A line as a table has it: of a Reap, bytes 8 to 15 of its completion, where the others are zero.

@@ -1,6 +1,7 @@
 //! Scripts as texts: bad lines, scripts that are cut, configurations, comments, spellings of data.
 
-use crate::runs::{CONFIG, check_run, file_of, run};
+use crate::files::{CONFIG, file_of};
+use crate::runs::{check_run, run};
 use casdisk_script::RunFault;
 use history::all_kinds;
 use std::alloc::Global;

@@ -1,6 +1,7 @@
 //! Units: how a range is cut, and what may come between two of them.
 
-use crate::runs::{check_run, check_table, file_of, kinds_named, run};
+use crate::files::file_of;
+use crate::runs::{check_run, check_table, kinds_named, run};
 use std::alloc::Global;
 use std::test::Fail;
 

@@ -1,71 +1,18 @@
-mod promises;
-mod queues;
-mod refusals;
-mod rows;
+//! Promised steps, many steps in one call, and what a Work says. What each step does is told by contracts, and shown by scripts.
 
-use crate::{Answer, Core, Refused, Step, Submissions};
+use crate::{Answer, Core, Refused, Step, Submissions, Work};
 use history::Config;
 use nvme_model::submission::{Payload, Submission};
 use std::alloc::{AllocError, Global};
 use std::test::Fail;
 
-/// One command of a batch: opcode, FUSE, CID, first block, NLB, and each data block as one byte repeated.
-#[derive(Clone, Copy, Drop)]
-pub struct Command<'a> {
-    pub opcode: u8,
-    pub fuse: u8,
-    pub cid: u8,
-    pub slba: u64,
-    pub nlb: u16,
-    pub fill: &'a [u8],
-}
+// The opcodes of a Write and of a Read.
+const WRITE: u8 = 1;
 
-pub const FLUSH: u8 = 0;
+const READ: u8 = 2;
 
-pub const WRITE: u8 = 1;
-
-pub const READ: u8 = 2;
-
-pub const COMPARE: u8 = 5;
-
-/// A command of these fields.
-pub fn make_command(
-    opcode: u8,
-    fuse: u8,
-    cid: u8,
-    slba: u64,
-    nlb: u16,
-    fill: &[u8],
-) -> Command<'_> {
-    Command {
-        opcode,
-        fuse,
-        cid,
-        slba,
-        nlb,
-        fill,
-    }
-}
-
-/// The 64 bytes of a command's entry, NSID 1.
-pub fn entry(one: &Command<'_>) -> [u8; 64] {
-    let mut bytes = [0; 64];
-    bytes[0] = one.opcode;
-    bytes[1] = one.fuse;
-    bytes[2] = one.cid;
-    bytes[4] = 1;
-    let slba = one.slba.to_le_bytes();
-    for place in 0..8 {
-        bytes[40 + place] = slba[place];
-    }
-    let nlb = one.nlb.to_le_bytes();
-    bytes[48] = nlb[0];
-    bytes[49] = nlb[1];
-    bytes
-}
-
-/// Blocks of 512 bytes, each one byte repeated.
-pub fn blocks(alloc: Global, fill: &[u8]) -> Result<Vec<u8>, AllocError> {
+// Blocks of 512 bytes, each one byte repeated.
+fn blocks(alloc: Global, fill: &[u8]) -> Result<Vec<u8>, AllocError> {
     let mut bytes = Vec::new(alloc);
     for byte in fill {
         for _ in 0..512 {
@@ -75,116 +22,123 @@ pub fn blocks(alloc: Global, fill: &[u8]) -> Result<Vec<u8>, AllocError> {
     Ok(bytes)
 }
 
-/// The batch of these commands.
-pub fn batch(alloc: Global, commands: &[Command<'_>]) -> Result<Submissions, AllocError> {
+// One command of four blocks from block 0, with its opcode, identifier and data.
+fn batch(alloc: Global, opcode: u8, cid: u8, fill: &[u8]) -> Result<Submissions, AllocError> {
+    let mut entry = [0; 64];
+    entry[0] = opcode;
+    entry[2] = cid;
+    entry[4] = 1;
+    entry[48] = 3;
+    let payload = Payload::new(blocks(alloc, fill)?);
     let mut items = Vec::new(alloc);
-    for one in commands {
-        let payload = Payload::new(blocks(alloc, one.fill)?);
-        items.push(Submission {
-            entry: entry(one),
-            payload,
-        })?;
-    }
+    items.push(Submission { entry, payload })?;
     Ok(Submissions::new(items))
 }
 
-/// A controller of `config 8 1 1 0 0 2 4 CQ 8`.
-pub fn small(alloc: Global, cq: u16) -> Result<Core, Fail> {
-    let Ok(config) = Config::new(8, 1, 1, 0, 0, 2, 4, cq, 8) else {
+// A controller of eight blocks, two queues, and units of at most two blocks.
+fn small(alloc: Global) -> Result<Core, Fail> {
+    let Ok(config) = Config::new(8, 1, 1, 0, 0, 2, 4, 4, 8) else {
         return Err(Fail::from("the configuration is refused"));
     };
     Ok(Core::new(alloc, config)?)
 }
 
-/// A step that asks for no data.
-#[derive(Clone, Copy, Drop)]
-pub enum Ask {
-    Fetch(u16),
-    Grant(u64),
-    Block(u64),
-    Post(u64),
-    Reap(u16),
+fn is_accepted(answer: &Result<Answer, Refused>) -> bool {
+    answer.is_ok()
 }
 
-/// The number of the refusal, 0 where the step is accepted.
-fn number(answer: Result<Answer, Refused>) -> u8 {
-    match answer {
-        Ok(_) => 0,
-        Err(Refused::Publish(why, _)) => why.number(),
-        Err(Refused::Step(why)) => why.number(),
-    }
+// A Write of four blocks and a Read of the same ones, each fetched.
+fn beginning(alloc: Global) -> Result<Vec<Step>, AllocError> {
+    let mut steps = Vec::new(alloc);
+    let write = batch(alloc, WRITE, 1, &[0xa1, 0xa1, 0xa1, 0xa1])?;
+    steps.push(Step::Publish(1, write))?;
+    steps.push(Step::Publish(2, batch(alloc, READ, 2, &[])?))?;
+    steps.push(Step::Fetch(1))?;
+    steps.push(Step::Fetch(2))?;
+    Ok(steps)
 }
 
-fn number_of(core: &mut Core, what: Ask) -> u8 {
-    let step = match what {
-        Ask::Fetch(queue) => Step::Fetch(queue),
-        Ask::Grant(ticket) => Step::Grant(ticket),
-        Ask::Block(ticket) => Step::Block(ticket),
-        Ask::Post(ticket) => Step::Post(ticket),
-        Ask::Reap(queue) => Step::Reap(queue),
-    };
-    number(core.step(step))
+// A unit of two blocks of this ticket.
+fn add_unit(steps: &mut Vec<Step>, ticket: u64) -> Result<(), AllocError> {
+    steps.push(Step::Grant(ticket))?;
+    steps.push(Step::Block(ticket))?;
+    steps.push(Step::Block(ticket))?;
+    Ok(())
 }
 
-/// Whether each of these steps is answered so, by the number of the refusal or 0.
-pub fn goes(core: &mut Core, asks: &[(Ask, u8)]) -> bool {
-    for (what, expected) in asks {
-        if number_of(core, *what) != *expected {
-            return false;
-        }
-    }
-    true
+fn fourteen_steps(alloc: Global) -> Result<Vec<Step>, AllocError> {
+    let mut steps = beginning(alloc)?;
+    add_unit(&mut steps, 1)?;
+    add_unit(&mut steps, 2)?;
+    add_unit(&mut steps, 2)?;
+    steps.push(Step::Post(2))?;
+    Ok(steps)
 }
 
-/// Publishes these commands, and gives the number of the refusal or 0.
-pub fn publish(
-    alloc: Global,
-    core: &mut Core,
-    queue: u16,
-    commands: &[Command<'_>],
-) -> Result<u8, AllocError> {
-    let entries = batch(alloc, commands)?;
-    Ok(number(core.step(Step::Publish(queue, entries))))
+// Promises as many steps, and makes them; whether each is accepted.
+fn run_promised(alloc: Global, core: &mut Core, steps: Vec<Step>) -> Result<bool, AllocError> {
+    let count = steps.len();
+    core.reserve(count)?;
+    let mut out = Vec::new(alloc);
+    let ran = core.run_steps(steps, &mut out).is_ok();
+    Ok(ran && out.len() == count && out.iter().all(is_accepted))
 }
 
-/// Does each step that is ready until none is, and gives their number.
-pub fn settle(core: &mut Core) -> usize {
-    for count in 0..10_000 {
-        let Some(step) = core.ready() else {
-            return count;
-        };
-        let _answer = core.step(step);
-    }
-    10_000
-}
-
-/// Bytes 8 to 15 of the next completion of a queue, and its data.
-pub fn reap(core: &mut Core, queue: u16) -> Result<([u8; 8], Payload), Fail> {
-    let Ok(Answer::Reaped { cqe, payload }) = core.step(Step::Reap(queue)) else {
+// Whether the next completion of queue 2 ends with these bytes, and its data are these blocks.
+fn gives(alloc: Global, core: &mut Core, tail: [u8; 8], fill: &[u8]) -> Result<bool, Fail> {
+    let Ok(Answer::Reaped { cqe, payload }) = core.step(Step::Reap(2)) else {
         return Err(Fail::from("nothing is reaped"));
     };
-    let mut tail = [0; 8];
-    for place in 0..8 {
-        tail[place] = cqe[8 + place];
-    }
-    Ok((tail, payload))
+    let expected = blocks(alloc, fill)?;
+    Ok(cqe.ends_with(&tail) && payload.as_slice() == expected.as_slice())
 }
 
-/// Whether these are bytes 8 to 15 of the next completions of a queue.
-pub fn reaps(core: &mut Core, queue: u16, completions: &[[u8; 8]]) -> Result<bool, Fail> {
-    for expected in completions {
-        let (tail, _) = reap(core, queue)?;
-        if tail != *expected {
-            return Ok(false);
-        }
-    }
-    Ok(true)
+#[test]
+fn a_read_beside_a_write_sees_each_unit_at_one_moment(rt: HostRuntime) -> Result<(), Fail> {
+    let mut core = small(rt.alloc())?;
+    let steps = fourteen_steps(rt.alloc())?;
+    assert!(rt; run_promised(rt.alloc(), &mut core, steps)?);
+    let seen = gives(
+        rt.alloc(),
+        &mut core,
+        [1, 0, 2, 0, 2, 0, 1, 0],
+        &[0xa1, 0xa1, 0, 0],
+    )?;
+    assert!(rt; seen);
+    Ok(())
 }
 
-/// Whether each byte of a block of the volume is this one.
-pub fn holds(core: &Core, lba: u64, byte: u8) -> bool {
-    match core.medium(lba) {
-        Some(block) => block.iter().all(|one| *one == byte),
-        None => false,
+// Whether these are the units of ticket 1.
+fn has_units(work: &Work, first: (u64, u32), second: (u64, u32)) -> bool {
+    let Some(mut units) = work.units() else {
+        return false;
+    };
+    let one = units.next();
+    let two = units.next();
+    if let (Some(one), Some(two)) = (one, two) {
+        let both = one.slba == first.0 && one.blocks == first.1;
+        both && two.slba == second.0 && two.blocks == second.1 && units.next().is_none()
+    } else {
+        false
     }
+}
+
+// Whether an answer is that ticket 1 is fetched, with two units of two blocks.
+fn has_two_units(answer: &Result<Answer, Refused>) -> bool {
+    match answer {
+        Ok(Answer::Fetched(work)) => work.ticket() == 1 && has_units(work, (0, 2), (2, 2)),
+        _ => false,
+    }
+}
+
+#[test]
+fn a_work_says_what_its_ticket_has_to_do(rt: HostRuntime) -> Result<(), Fail> {
+    let mut core = small(rt.alloc())?;
+    let write = batch(rt.alloc(), WRITE, 1, &[1, 2, 3, 4])?;
+    assert!(rt; is_accepted(&core.step(Step::Publish(1, write))));
+    let answer = core.step(Step::Fetch(1));
+    assert!(rt; has_two_units(&answer));
+    assert!(rt; is_accepted(&core.step(Step::Grant(1))));
+    assert!(rt; is_accepted(&core.step(Step::Block(1))));
+    Ok(())
 }

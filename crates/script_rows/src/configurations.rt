@@ -1,5 +1,12 @@
-// The answer to a script of this one line: 0 where it is taken, 1 where it is a bad line, else the fault of its configuration.
-pub(crate) const ROWS: [(&str, u8); 100] = [
+//! Configuration lines: which are taken, which are none, and which are refused, by the first fault that holds.
+
+use crate::runs::run;
+use casdisk_script::RunFault;
+use history::all_kinds;
+use std::test::Fail;
+
+/// The answer to a script of this one line: 0 where it is taken, 1 where it is a bad line, else the fault of its configuration.
+const ROWS: [(&str, u8); 100] = [
     ("config 0 1 1 0 0 2 4 4 8", 25),
     ("config 1 1 1 0 0 2 4 4 8", 0),
     ("config 2 1 1 0 0 2 4 4 8", 0),
@@ -101,3 +108,19 @@ pub(crate) const ROWS: [(&str, u8); 100] = [
     ("# a comment", 1),
     ("reap 1", 1),
 ];
+
+#[test]
+fn configuration_lines_are_taken_or_refused(rt: HostRuntime) -> Result<(), Fail> {
+    for (line, code) in ROWS {
+        let script = format!(in rt.alloc(); "{line}\n")?;
+        let outcome = run(rt.alloc(), script.as_bytes(), all_kinds());
+        let (wanted, text) = match code {
+            0 => (Ok(()), script.as_bytes()),
+            1 => (Err(RunFault::BadLine(1)), b"".as_slice()),
+            fault => (Err(RunFault::BadConfig(fault)), b"".as_slice()),
+        };
+        assert_eq!(rt; outcome.answer, wanted, "{line}");
+        assert_eq!(rt; outcome.output.as_slice(), text);
+    }
+    Ok(())
+}
