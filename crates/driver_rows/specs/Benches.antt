@@ -1,5 +1,5 @@
 -- What contracts say of a host and a server.
-use Rattle.std.specs.Prelude.{All, Bool, nat_le, true, ℕ, ◌&&◌, ◌==◌, ◌≡◌}
+use Rattle.std.specs.Prelude.{All, Bool, nat_le, ℕ, ◌&&◌, ◌==◌, ◌≡◌}
 use Rattle.nvme_model.specs.Config.{completion_queue}
 use Rattle.nvme_model.specs.declared.config.ConfigNumbers.{ConfigNumbers}
 use Rattle.meet_lock.specs.Passes.{config_of}
@@ -17,7 +17,8 @@ uses c n q = nat_le 1 q && nat_le q c.pairs && (completion_queue c q == n)
 
 -- its passes are of what the bench has
 abbrev pub IsServerOf : Bench → Server → Type 0
-IsServerOf b s = engine.IsOf b.engine s.pass × queue.IsPlaceOf b.engine b.notices s.place × (config_of s.pass ≡ b.config)
+IsServerOf b s =
+    engine.IsOf b.engine s.pass × queue.IsPlaceOf b.engine b.notices s.place × (config_of s.pass ≡ b.config)
 
 abbrev pub IsHostOf : Bench → Host → Type 0
 IsHostOf b h = IsPlaceFor h.driver.port b.notices h.place × engine.IsOf b.engine h.driver.port.pass

@@ -15,8 +15,8 @@ use std::alloc::{AllocError as NoMemory, Global};
 use step_core::Core;
 use work_queue::{Engine, MessageQueue, Notice, NoticeQueue, QueuePass};
 
-/// A controller, and one queue of notices for the completions of all hosts: on one thread a host hears all that are there
-/// before another is served.
+/// A controller, and one queue of notices for the completions of all hosts: on one thread a host hears all that are
+/// there before another is served.
 #[derive(Drop)]
 pub struct Bench {
     pub engine: Engine,

@@ -22,8 +22,8 @@ pub enum Script {
     NoMemory,
 }
 
-/// A port with what it did, in order, and what it is still to answer, the next last: a Publish that is refused for a fault or
-/// accepted, and a Reap. Once there is nothing, each Publish is accepted, and no Reap finds a completion.
+/// A port with what it did, in order, and what it is still to answer, the next last: a Publish that is refused for a
+/// fault or accepted, and a Reap. Once there is nothing, each Publish is accepted, and no Reap finds a completion.
 #[derive(Drop)]
 pub struct Fake {
     pub alloc: Global,

@@ -141,6 +141,9 @@ fn zeros_are_written(rt: HostRuntime) -> Result<(), Fail> {
         (Ask::Read(1, 1), Ok(Told::Read(512, 0))),
         (Ask::Read(0, 1), Ok(Told::Read(512, 0xa1))),
         (Ask::WriteZeroes(7, 2), Ok(Told::Failed(0, 0x80))),
+        (Ask::WriteZeroes(2, 1), Ok(Told::Written)),
+        (Ask::WriteZeroes(2, 0), Err(Fault::Length)),
+        (Ask::WriteZeroes(2, 257), Err(Fault::TooLong)),
     ];
     all_answered(&rt, &bench, &mut server, &mut host, &rows);
     Ok(())
