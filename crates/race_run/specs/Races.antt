@@ -1,7 +1,8 @@
 -- What a race writes.
-use Rattle.std.specs.Prelude.{Err, List, Ok, Option, Result, reverse, ℕ}
+use Rattle.std.specs.Prelude.{All, Err, List, Ok, Option, Result, reverse, ℕ}
 use Rattle.std.specs.Io.KnownBytes.{Appends, Keeps}
 use Rattle.line_text.specs.Known.{AppendsFront}
+use Rattle.history.specs.Lines.{HasLine}
 use Rattle.nvme_model.specs.History.{Past}
 use Rattle.nvme_model.specs.Legal.{IsLegal}
 use Rattle.nvme_model.specs.declared.config.ConfigNumbers.{ConfigNumbers}
@@ -10,9 +11,9 @@ use Rattle.race_run.specs.Texts.{history_text}
 use Rattle.race_run.specs.declared.fault.RaceFault.{RaceFault}
 use Rattle.race_run.specs.declared.fault.RaceFault.TheVariants.{BadAt, NoHistory, NoMemory, Output}
 
--- the whole text of a legal history was written
+-- the whole text of a legal history, each of whose entries has a line, was written
 abbrev pub PrintsLegal : ConfigNumbers → Option (List ℕ) → Option (List ℕ) → Type 0
-PrintsLegal c old new = (past : Past) × IsLegal c past × Appends old new (history_text c (reverse past))
+PrintsLegal c old new = (past : Past) × IsLegal c past × All HasLine (reverse past) × Appends old new (history_text c (reverse past))
 
 -- or a beginning of it, maybe nothing
 abbrev pub PrintsFront : ConfigNumbers → Option (List ℕ) → Option (List ℕ) → Type 0

@@ -2,6 +2,7 @@
 #![tactic(auto)]
 
 mod fault;
+mod lines_there;
 mod printing;
 mod racing;
 mod run;

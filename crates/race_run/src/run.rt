@@ -7,6 +7,7 @@ ghost use Rattle.race_run.specs.Races.{Races, Tells};
 ghost use Rattle.race_run.specs.declared.fault.RaceFault.{RaceFault};
 
 use crate::fault::RaceFault;
+use crate::lines_there::have_lines;
 use crate::printing::{PrintFault, print_history};
 use crate::racing::raced;
 use history::{Config, Entry};
@@ -64,6 +65,7 @@ pub fn run_race<R: Threads + Wait + Sync, W: Write>(
     let core = raced(rt, alloc, race)?;
     let config = core.config();
     let entries = core.history().as_slice();
+    have_lines(entries);
     tell(alloc, &config, entries, writer)?;
     judge(alloc, &config, entries)
 }
