@@ -1,0 +1,5 @@
+mod Apps
+mod Parsed
+mod Feeds
+mod ReadBack
+mod Telling

@@ -1,9 +1,49 @@
 -- What a command line asks for.
-use Rattle.std.specs.Prelude.{None, ◌≡◌}
+use Rattle.std.specs.Prelude.{List, None, Ok, Option, Some, codes, ◌≡◌, ℕ}
+use Rattle.std.specs.Str.Parse.{ParsesUnsigned}
+use Rattle.std.specs.declared.num.ParseIntError.{ParseIntError}
+use Rattle.clap.specs.Words.{Row, Text, first_of, one_of}
+use Rattle.casdisk_script.specs.Kinds.{kinds_in}
 use Rattle.race_numbers.specs.Races.{usage_of}
+use Rattle.race_numbers.specs.declared.race.Race.{Race}
+use Rattle.casdisk_program.specs.CommandLine.{command_in}
 use Rattle.casdisk_program.specs.declared.request.Asked.{Asked}
 
 -- the numbers of a race that is asked for are in their ranges
 abbrev pub IsRaceInRange : Asked → Type 0
 IsRaceInRange (Asked.Race r) = usage_of r.hosts r.workers r.slots r.rounds r.queues ≡ None
 IsRaceInRange _ = Unit {0}
+
+-- the kinds that are named, all where none are
+abbrev pub kinds_asked : Option Text → Option ℕ
+kinds_asked None = Some 255
+kinds_asked (Some text) = kinds_in text
+
+-- the number that an option says
+abbrev pub SaysNumber : Text → List Row → ℕ → Type 0
+SaysNumber name rows n = (digits : Text) × (one_of name rows ≡ Some digits) × ParsesUnsigned {E = ParseIntError} 64 10 digits (Ok n)
+
+-- the numbers of a race
+pub record SaysRace (rows : List Row) (r : Race) : Type 0 where
+  pub hosts : SaysNumber (codes "hosts") rows r.hosts
+  pub workers : SaysNumber (codes "workers") rows r.workers
+  pub slots : SaysNumber (codes "slots") rows r.slots
+  pub rounds : SaysNumber (codes "rounds") rows r.rounds
+  pub queues : SaysNumber (codes "queues") rows r.queues
+
+-- what the options of a command of this name ask for
+abbrev pub AsksBy : Text → List Row → Asked → Type 0
+AsksBy name rows (Asked.Run kinds file) = (name ≡ codes "run") × (first_of (codes "FILE") rows ≡ Some file.now) × (kinds_asked (first_of (codes "show") rows) ≡ Some kinds.0)
+AsksBy name rows (Asked.Check file) = (name ≡ codes "check") × (first_of (codes "FILE") rows ≡ Some file.now)
+AsksBy name rows (Asked.Explain file) = (name ≡ codes "explain") × (first_of (codes "FILE") rows ≡ Some file.now)
+AsksBy name rows (Asked.Race r) = (name ≡ codes "race") × SaysRace rows r
+AsksBy name rows (Asked.Show text) = ⊥
+
+-- the words name a command, whose options ask for it
+abbrev pub AsksByCommand : List Text → Asked → Type 0
+AsksByCommand words asked = (name : Text) × (rows : List Row) × (command_in words ≡ Some (name, rows)) × AsksBy name rows asked
+
+-- the words ask for it; of a text that is shown nothing is said
+abbrev pub Asks : List Text → Asked → Type 0
+Asks words (Asked.Show text) = Unit {0}
+Asks words asked = AsksByCommand words asked

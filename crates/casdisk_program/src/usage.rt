@@ -1,13 +1,15 @@
 //! The command line.
 
-ghost use Rattle.std.specs.Prelude.{IfOk};
-ghost use Rattle.casdisk_program.specs.Asking.{IsRaceInRange};
+ghost use Rattle.std.specs.Prelude.{◌≡◌, IfOk, codes, map, option_map, string_bytes};
+ghost use Rattle.clap.specs.Words.{app_of, first_of, found_of, rows_of, rule_of};
+ghost use Rattle.casdisk_program.specs.Asking.{Asks, AsksBy, IsRaceInRange, kinds_asked};
+ghost use Rattle.casdisk_program.specs.CommandLine.{casdisk_app, check_app, explain_app, number_rule, race_app, run_app};
 
 use crate::request::{Asked, UsageFault};
 use casdisk_script::kinds_of;
 use clap::error::ErrorKind;
 use clap::{Arg, ArgAction, ArgMatches, Command, value_parser};
-use history::all_kinds;
+use history::{Kinds, all_kinds};
 use race_numbers::Race;
 use std::alloc::{AllocError, Global};
 
@@ -59,7 +61,9 @@ All hosts have at most 16 submission queues.
 Exit status: 0 where all is done, 1 where there is no history, or it isn't legal, 2 after a bad
 command line, 3 after a failed output, 4 without memory or threads.";
 
-fn run_command<'a>(alloc: Global) -> Result<Command<'a>, AllocError> {
+fn run_command<'a>(alloc: Global) -> Result<Command<'a>, AllocError>
+    ensures { IfOk result (λ c. app_of c ≡ run_app) }
+{
     let show = Arg::new(alloc, "show")
         .long("show")
         .value_name("KINDS")
@@ -76,7 +80,9 @@ fn run_command<'a>(alloc: Global) -> Result<Command<'a>, AllocError> {
         .arg(file)
 }
 
-fn check_command<'a>(alloc: Global) -> Result<Command<'a>, AllocError> {
+fn check_command<'a>(alloc: Global) -> Result<Command<'a>, AllocError>
+    ensures { IfOk result (λ c. app_of c ≡ check_app) }
+{
     let file = Arg::new(alloc, "FILE")
         .help("The history")
         .required(true)
@@ -89,7 +95,9 @@ fn check_command<'a>(alloc: Global) -> Result<Command<'a>, AllocError> {
         .arg(file)
 }
 
-fn explain_command<'a>(alloc: Global) -> Result<Command<'a>, AllocError> {
+fn explain_command<'a>(alloc: Global) -> Result<Command<'a>, AllocError>
+    ensures { IfOk result (λ c. app_of c ≡ explain_app) }
+{
     let file = Arg::new(alloc, "FILE")
         .help("The history")
         .required(true)
@@ -108,7 +116,9 @@ fn number_option<'a>(
     name: &'static str,
     value: &'static str,
     help: &'static str,
-) -> Arg<'a> {
+) -> Arg<'a>
+    ensures { rule_of result ≡ number_rule name.entry.now }
+{
     Arg::new(alloc, name)
         .long(name)
         .value_name(value)
@@ -117,7 +127,9 @@ fn number_option<'a>(
         .action(ArgAction::Set)
 }
 
-fn race_command<'a>(alloc: Global) -> Result<Command<'a>, AllocError> {
+fn race_command<'a>(alloc: Global) -> Result<Command<'a>, AllocError>
+    ensures { IfOk result (λ c. app_of c ≡ race_app) }
+{
     let hosts = number_option(alloc, "hosts", "H", "Hosts, 1 to 16").required(true);
     let workers = number_option(alloc, "workers", "W", "Workers, 1 to 16").required(true);
     let slots = number_option(alloc, "slots", "S", "Slots, 1 to 64").required(true);
@@ -144,7 +156,9 @@ fn race_command<'a>(alloc: Global) -> Result<Command<'a>, AllocError> {
         .arg(queues)
 }
 
-fn command<'a>(alloc: Global) -> Result<Command<'a>, AllocError> {
+fn command<'a>(alloc: Global) -> Result<Command<'a>, AllocError>
+    ensures { IfOk result (λ c. app_of c ≡ casdisk_app) }
+{
     Command::new(alloc, "casdisk")
         .version("0.1.0")
         .about("An NVM Express controller in software, around the fused Compare and Write")
@@ -164,6 +178,7 @@ fn text_of(alloc: Global, words: &str) -> UsageFault {
 }
 
 fn check_asked<'a>(alloc: Global, matches: &ArgMatches<'a>) -> Result<Asked<'a>, UsageFault>
+    ensures asks { IfOk result (AsksBy (codes "check") (rows_of (found_of matches.now))) }
     ensures race { IfOk result IsRaceInRange }
 {
     match matches.get_str("FILE") {
@@ -173,6 +188,7 @@ fn check_asked<'a>(alloc: Global, matches: &ArgMatches<'a>) -> Result<Asked<'a>,
 }
 
 fn explain_asked<'a>(alloc: Global, matches: &ArgMatches<'a>) -> Result<Asked<'a>, UsageFault>
+    ensures asks { IfOk result (AsksBy (codes "explain") (rows_of (found_of matches.now))) }
     ensures race { IfOk result IsRaceInRange }
 {
     match matches.get_str("FILE") {
@@ -181,14 +197,21 @@ fn explain_asked<'a>(alloc: Global, matches: &ArgMatches<'a>) -> Result<Asked<'a
     }
 }
 
-fn run_asked<'a>(alloc: Global, matches: &ArgMatches<'a>) -> Result<Asked<'a>, UsageFault>
-    ensures race { IfOk result IsRaceInRange }
+// The kinds of lines to show, all where none are named.
+fn kinds_shown(matches: &ArgMatches<'_>) -> Option<Kinds>
+    ensures { option_map (λ kinds. kinds.0) result ≡ kinds_asked (first_of (codes "show") (rows_of (found_of matches.now))) }
 {
-    let kinds = match matches.get_str("show") {
+    match matches.get_str("show") {
         Some(text) => kinds_of(text),
         None => Some(all_kinds()),
-    };
-    match (kinds, matches.get_str("FILE")) {
+    }
+}
+
+fn run_asked<'a>(alloc: Global, matches: &ArgMatches<'a>) -> Result<Asked<'a>, UsageFault>
+    ensures asks { IfOk result (AsksBy (codes "run") (rows_of (found_of matches.now))) }
+    ensures race { IfOk result IsRaceInRange }
+{
+    match (kinds_shown(matches), matches.get_str("FILE")) {
         (Some(kinds), Some(file)) => Ok(Asked::Run { kinds, file }),
         (None, _) => Err(text_of(
             alloc,
@@ -199,6 +222,7 @@ fn run_asked<'a>(alloc: Global, matches: &ArgMatches<'a>) -> Result<Asked<'a>, U
 }
 
 fn race_asked<'a>(alloc: Global, matches: &ArgMatches<'a>) -> Result<Asked<'a>, UsageFault>
+    ensures asks { IfOk result (AsksBy (codes "race") (rows_of (found_of matches.now))) }
     ensures race { IfOk result IsRaceInRange }
 {
     let (Some(hosts), Some(workers), Some(slots), Some(rounds), Some(queues)) = (
@@ -224,6 +248,7 @@ fn race_asked<'a>(alloc: Global, matches: &ArgMatches<'a>) -> Result<Asked<'a>, 
 /// A text for a bad command line, an unknown or empty kind of lines and numbers of no race among them; `NoMemory` where a
 /// growth was refused.
 pub fn asked<'a>(alloc: Global, words: &'a [String]) -> Result<Asked<'a>, UsageFault>
+    ensures asks { IfOk result (Asks (map string_bytes words.entry.now)) }
     ensures race { IfOk result IsRaceInRange }
 {
     let matches = match command(alloc)?.try_get_matches_from(words) {
@@ -246,8 +271,10 @@ pub fn asked<'a>(alloc: Global, words: &'a [String]) -> Result<Asked<'a>, UsageF
                 explain_asked(alloc, inner)
             } else if name == "race" {
                 race_asked(alloc, inner)
-            } else {
+            } else if name == "run" {
                 run_asked(alloc, inner)
+            } else {
+                Err(text_of(alloc, "error: no command"))
             }
         }
         None => Err(text_of(alloc, "error: no command")),

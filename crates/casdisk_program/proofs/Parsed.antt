@@ -1,0 +1,44 @@
+-- What clap's matches say of a command line.
+use Rattle.std.proofs.Common.{◌≡◌, ℕ, true, List, Option, Some, None, ap, refl, sym, ◌∙◌}
+use Rattle.std.specs.Prelude.{Ok, Result, option_map}
+use Rattle.std.specs.Str.Parse.{ParsesUnsigned}
+use Rattle.std.specs.declared.num.ParseIntError.{ParseIntError}
+use Rattle.clap.specs.Words.{ReadsOne, Row, Text, one_of}
+use Rattle.clap.proofs.OnLiterals.{clap_on_literals}
+use Rattle.clap.specs.Words.{is_simple, subcommand_of}
+use Rattle.casdisk_program.specs.Asking.{Asks, AsksBy, SaysNumber}
+use Rattle.casdisk_program.specs.CommandLine.{casdisk_app, command_in}
+use Rattle.casdisk_program.specs.declared.request.Asked.{Asked}
+
+-- a number that was read is what the option says
+pub says_number : (G : Text → Result ℕ ParseIntError → Type 0) (o : Option Text) (name : Text) (rows : List Row) (n : ℕ) → o ≡ one_of name rows
+    → ((u : Text) (x : Result ℕ ParseIntError) → G u x → ParsesUnsigned 64 10 u x)
+    → (o ≡ None → Some n ≡ None) → ((t : Text) → o ≡ Some t → ReadsOne G t (Some n)) → SaysNumber name rows n
+says_number G None name rows n is only none value = let bad : Some n ≡ None = none refl in absurd cc
+says_number G (Some t) name rows n is only none value = (t, sym is, only t (Ok n) (value t refl))
+
+-- a command's name and its matches, from both parts
+pub both_parts : {X : Type 0} (s : Option X) (g : X → Text) (h : X → List Row) (name : Text) (rows : List Row)
+    → option_map g s ≡ Some name → option_map (λ (p : Text × List Row). p.1) (option_map {U = Text × List Row} (λ b. (g b, h b)) s) ≡ Some rows → option_map {U = Text × List Row} (λ b. (g b, h b)) s ≡ Some (name, rows)
+both_parts None g h name rows p q = absurd cc
+both_parts (Some b) g h name rows p q =
+    let p' : g b ≡ name = cc in
+    let q' : h b ≡ rows = cc in
+    ap (λ n. Some (n, h b)) p' ∙ ap (λ r. Some (name, r)) q'
+
+-- clap's definitions give the matches of the program's commands
+pub casdisk_is_simple : is_simple casdisk_app ≡ true
+unfolding clap_on_literals
+casdisk_is_simple = refl
+
+pub named : (words : List Text) (name : Text) (rows : List Row) → subcommand_of casdisk_app words ≡ Some (name, rows) → command_in words ≡ Some (name, rows)
+unfolding command_in
+named words name rows e = e
+
+-- what a command's options ask for is what the words ask for
+pub by_command : (words : List Text) (name : Text) (rows : List Row) → command_in words ≡ Some (name, rows) → (a : Asked) → AsksBy name rows a → Asks words a
+by_command words name rows e (Asked.Run kinds file) h = (name, rows, e, h)
+by_command words name rows e (Asked.Check file) h = (name, rows, e, h)
+by_command words name rows e (Asked.Explain file) h = (name, rows, e, h)
+by_command words name rows e (Asked.Race r) h = (name, rows, e, h)
+by_command words name rows e (Asked.Show text) h = tt

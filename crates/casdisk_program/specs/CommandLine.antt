@@ -1,0 +1,52 @@
+-- The program's command line, as clap's definitions see it.
+use Rattle.std.specs.Prelude.{List, Option, Some, [], codes, true, ◌∷◌}
+use Rattle.clap.specs.Words.{App, Row, Rule, Text, new_app, new_rule, subcommand_of, with_rule, with_subcommand}
+use Rattle.clap.specs.declared.builder.action.ArgAction.TheVariants.{Set}
+use Rattle.clap.specs.declared.builder.value_parser.ValueParser.TheVariants.{Unsigned}
+
+-- the name of a file, which has to be there
+abbrev pub file_rule : Rule
+file_rule = record (new_rule (codes "FILE")) { required = true; action = Some Set }
+
+-- the kinds of lines to show
+abbrev pub show_rule : Rule
+show_rule = record (new_rule (codes "show")) { long = Some (codes "show"); value_names = 1; action = Some Set }
+
+-- an option with a number of 64 bits
+abbrev pub number_rule : Text → Rule
+number_rule name = record (new_rule name) { long = Some name; value_names = 1; parser = Some (Unsigned 0 18446744073709551615); action = Some Set }
+
+-- one that has to be there
+abbrev pub needed_rule : Text → Rule
+needed_rule name = record (number_rule name) { required = true }
+
+-- one that is this number where it isn't there
+abbrev pub default_rule : Text → Text → Rule
+default_rule name value = record (number_rule name) { defaults = value ∷ [] }
+
+-- the commands below it
+abbrev pub run_app : App
+run_app = with_rule (with_rule (new_app (codes "run")) show_rule) file_rule
+
+abbrev pub check_app : App
+check_app = with_rule (new_app (codes "check")) file_rule
+
+abbrev pub explain_app : App
+explain_app = with_rule (new_app (codes "explain")) file_rule
+
+abbrev pub race_app : App
+race_app =
+    with_rule (with_rule (with_rule (with_rule (with_rule (new_app (codes "race")) (needed_rule (codes "hosts"))) (needed_rule (codes "workers"))) (needed_rule (codes "slots")))
+    (default_rule (codes "rounds") (codes "10"))) (default_rule (codes "queues") (codes "1"))
+
+-- the program, with a version, of which one command has to be named
+abbrev pub top_app : App
+top_app = let a = new_app (codes "casdisk") in record a { top = record a.top { has_version = true; subcommand_required = true } }
+
+-- the whole program
+abbrev pub casdisk_app : App
+casdisk_app = with_subcommand (with_subcommand (with_subcommand (with_subcommand top_app run_app.top) check_app.top) explain_app.top) race_app.top
+
+-- the command that the words name, and what they give its options
+unfoldable pub command_in : List Text → Option (Text × List Row)
+command_in words = subcommand_of casdisk_app words
