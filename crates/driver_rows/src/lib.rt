@@ -15,4 +15,4 @@ pub use ask::{
 };
 pub use bench::{Bench, Host, Server, Spares, bench_of, hand_of, host_of};
 pub use fake::{Did, Fake, Script};
-pub use serve::{ends, fetches, serves};
+pub use serve::{ends, fetches, makes, serves};

@@ -55,7 +55,7 @@ fn tells<R: Wait>(rt: &R, bench: &Bench, server: &mut Server, queue: u16, answer
 }
 
 /// Makes the Work's next task, and tells of what it posted; whether there was a task. None where it was refused.
-fn makes<R: Wait>(rt: &R, bench: &Bench, server: &mut Server, work: &mut Work) -> Option<bool>
+pub fn makes<R: Wait>(rt: &R, bench: &Bench, server: &mut Server, work: &mut Work) -> Option<bool>
     requires { IsServerOf bench.now server.old × IsWorkOf bench.now.engine work.old }
     ensures { IsServerOf bench.now server.new × IsWorkOf bench.now.engine work.new }
 {

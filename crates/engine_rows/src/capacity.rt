@@ -3,8 +3,9 @@
 ghost use Rattle.std.specs.Prelude.{◌<◌, IfOk};
 ghost use Rattle.engine_rows.specs.Hands.{AreOf, IsFreshWork, IsOf};
 
+use crate::commands::one_command;
 use crate::hall::{Hall, Hand, Spares, hall_of, take_hand};
-use crate::messages::{fetches, one_command, opens, pops, pushes};
+use crate::messages::{fetches, opens, pops, pushes};
 use history::Config;
 use std::alloc::Global;
 use std::process::Abort;

@@ -3,9 +3,10 @@
 ghost use Rattle.std.specs.Prelude.{◌<◌, IfOk, IfSome};
 ghost use Rattle.engine_rows.specs.Hands.{AreOf, IsFreshWork, IsOf, IsWorkOf};
 
+use crate::commands::one_command;
 use crate::counts::Counts;
 use crate::hall::{Hall, Hand, Spares, take_hand};
-use crate::messages::{NO_MEMORY, STRANGE, fetches, one_command, opens, pops, pushes, works};
+use crate::messages::{NO_MEMORY, STRANGE, fetches, opens, pops, pushes, works};
 use std::alloc::Global;
 use std::sync::Wait;
 use std::thread::{Threads, join, yield_now};

@@ -6,13 +6,14 @@ mod capacity;
 #[cfg(test)]
 mod carries;
 #[cfg(test)]
+mod commands;
+#[cfg(test)]
 mod counts;
 #[cfg(test)]
 mod crew;
 #[cfg(test)]
 mod crowd;
 mod hall;
-#[cfg(test)]
 mod messages;
 #[cfg(test)]
 mod notices;
@@ -24,3 +25,4 @@ mod rows;
 mod travels;
 
 pub use crate::hall::{Crew, Hall, Hand, Spares, crew_of, hall_of, take_hand};
+pub use crate::messages::{NO_MEMORY, fetches, learns, open, opens, pops, pushes, works};

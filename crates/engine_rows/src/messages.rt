@@ -12,15 +12,13 @@ ghost use Rattle.engine_rows.specs.Hands.{IsFresh, IsFreshWork, IsOf, IsWorkOf};
 
 use crate::hall::{Hall, Hand};
 use meet_lock::Declined;
-use nvme_model::submission::{Payload, Submission, Submissions};
-use std::alloc::{AllocError, Global};
 use std::sync::Wait;
 use std::thread::yield_now;
 use step_core::{Answer, Refused, Step};
 use work_queue::{Notice, Open, Opened, Task, Work};
 
 /// The number of want of memory.
-pub(crate) const NO_MEMORY: u8 = 11;
+pub const NO_MEMORY: u8 = 11;
 
 /// A number of no refusal: another step came back, or another message was there.
 pub(crate) const STRANGE: u8 = 99;
@@ -32,36 +30,9 @@ pub(crate) fn number(refused: Refused) -> u8 {
     }
 }
 
-/// The batch of one command with this opcode, CID and block; a Write has one block of A1.
-pub(crate) fn one_command(
-    alloc: Global,
-    opcode: u8,
-    cid: u16,
-    block: u8,
-) -> Result<Submissions, AllocError> {
-    let mut entry = [0; 64];
-    let cid = cid.to_le_bytes();
-    entry[0] = opcode;
-    entry[2] = cid[0];
-    entry[3] = cid[1];
-    entry[4] = 1;
-    let mut bytes = Vec::new(alloc);
-    if opcode == 1 {
-        entry[40] = block;
-        for _ in 0..512 {
-            bytes.push(0xa1)?;
-        }
-    }
-    let mut items = Vec::new(alloc);
-    items.push(Submission {
-        entry,
-        payload: Payload::new(bytes),
-    })?;
-    Ok(Submissions::new(items))
-}
-
+/// A Publish, a Fetch or a Reap.
 #[tactic(auto, using(crate::proofs::Hands::fetched_fresh))]
-pub(crate) fn open(hall: &Hall, hand: &mut Hand, request: Open) -> Result<Opened, Declined>
+pub fn open(hall: &Hall, hand: &mut Hand, request: Open) -> Result<Opened, Declined>
     requires { IsOf hall.now hand.old }
     ensures same { IsOf hall.now hand.new }
     ensures fresh { IfOk result (IsFresh hall.now) }
@@ -74,12 +45,7 @@ pub(crate) fn open(hall: &Hall, hand: &mut Hand, request: Open) -> Result<Opened
 /// # Errors
 ///
 /// The number of its refusal.
-pub(crate) fn opens<R: Wait>(
-    rt: &R,
-    hall: &Hall,
-    hand: &mut Hand,
-    request: Open,
-) -> Result<Opened, u8>
+pub fn opens<R: Wait>(rt: &R, hall: &Hall, hand: &mut Hand, request: Open) -> Result<Opened, u8>
     requires { IsOf hall.now hand.old }
     ensures same { IsOf hall.now hand.new }
     ensures fresh { IfOk result (IsFresh hall.now) }
@@ -104,7 +70,7 @@ pub(crate) fn opens<R: Wait>(
 /// # Errors
 ///
 /// The number of its refusal.
-pub(crate) fn fetches<R: Wait>(rt: &R, hall: &Hall, hand: &mut Hand, queue: u16) -> Result<Work, u8>
+pub fn fetches<R: Wait>(rt: &R, hall: &Hall, hand: &mut Hand, queue: u16) -> Result<Work, u8>
     requires { IsOf hall.now hand.old }
     ensures same { IsOf hall.now hand.new }
     ensures fresh { IfOk result (IsFreshWork hall.now) }
@@ -117,7 +83,7 @@ pub(crate) fn fetches<R: Wait>(rt: &R, hall: &Hall, hand: &mut Hand, queue: u16)
 }
 
 /// The Work, put at the back; or it comes back.
-pub(crate) fn pushes<R: Wait>(rt: &R, hall: &Hall, hand: &mut Hand, work: Work) -> Result<(), Work>
+pub fn pushes<R: Wait>(rt: &R, hall: &Hall, hand: &mut Hand, work: Work) -> Result<(), Work>
     requires own { IsOf hall.now hand.old }
     requires fresh { IsFreshWork hall.now work }
     ensures same { IsOf hall.now hand.new }
@@ -127,7 +93,7 @@ pub(crate) fn pushes<R: Wait>(rt: &R, hall: &Hall, hand: &mut Hand, work: Work) 
 }
 
 /// The Work at the front.
-pub(crate) fn pops<R: Wait>(rt: &R, hall: &Hall, hand: &mut Hand) -> Option<Work>
+pub fn pops<R: Wait>(rt: &R, hall: &Hall, hand: &mut Hand) -> Option<Work>
     requires { IsOf hall.now hand.old }
     ensures same { IsOf hall.now hand.new }
     ensures work { IfSome result (IsFreshWork hall.now) }
@@ -206,7 +172,7 @@ pub(crate) fn tells<R: Wait>(
 /// # Errors
 ///
 /// The number of its refusal.
-pub(crate) fn works<R: Wait>(
+pub fn works<R: Wait>(
     rt: &R,
     hall: &Hall,
     hand: &mut Hand,
@@ -239,7 +205,7 @@ pub(crate) fn works<R: Wait>(
 /// # Errors
 ///
 /// A number, where another caller had the lock.
-pub(crate) fn learns<R: Wait>(rt: &R, hall: &Hall, hand: &mut Hand) -> Result<bool, u8>
+pub fn learns<R: Wait>(rt: &R, hall: &Hall, hand: &mut Hand) -> Result<bool, u8>
     requires { IsOf hall.now hand.old }
     ensures { IsOf hall.now hand.new }
 {

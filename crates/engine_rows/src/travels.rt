@@ -5,8 +5,9 @@ ghost use Rattle.meet_lock.specs.Passes.{seen};
 ghost use Rattle.engine_rows.specs.Hands.{IsOf, IsWorkOf};
 
 use crate::capacity::one_queue;
+use crate::commands::one_command;
 use crate::hall::{Hall, Hand, take_hand};
-use crate::messages::{fetches, learns, one_command, opens, pops, pushes, works};
+use crate::messages::{fetches, learns, opens, pops, pushes, works};
 use std::alloc::Global;
 use std::process::Abort;
 use std::sync::Wait;
