@@ -11,10 +11,10 @@ use std::alloc::Global;
 use step_core::{Answer, Core, Refused, Step};
 
 /// How often a step is asked again after want of memory, at most.
-const TURNS: u32 = 1000;
+pub(crate) const TURNS: u32 = 1000;
 
-// A new controller, asked for again after want of memory.
-fn controller(alloc: Global, config: Config, told: &mut u64) -> Option<Core>
+/// A new controller, asked for again after want of memory.
+pub(crate) fn controller(alloc: Global, config: Config, told: &mut u64) -> Option<Core>
     ensures { IfSome result (λ core. core.past ≡ []) }
 {
     for _ in 0..TURNS {
@@ -55,8 +55,8 @@ fn again(refused: Refused, queue: u16, kept: Option<Step>) -> Option<Step> {
     }
 }
 
-// Makes a step, asked for again after want of memory.
-fn insist(core: &mut Core, step: Step, told: &mut u64) {
+/// Makes a step, asked for again after want of memory.
+pub(crate) fn insist(core: &mut Core, step: Step, told: &mut u64) {
     let mut asked = Some(step);
     for _ in 0..TURNS {
         let Some(step) = asked else {
@@ -106,7 +106,7 @@ fn insist_by_pass(shared: &Shared<Core>, pass: &mut Pass<Core>, step: Step, told
     }
 }
 
-// All steps by a controller.
+/// All steps by a controller.
 pub(crate) fn by_steps(alloc: Global, run: Run, told: &mut u64) -> Option<Core> {
     let mut core = controller(alloc, run.config, told)?;
     for step in run.steps {
@@ -125,7 +125,7 @@ fn make_each(shared: &Shared<Core>, pass: &mut Pass<Core>, steps: Vec<Step>, tol
     }
 }
 
-// All steps by the one pass of a lock, which is asked for again after want of memory.
+/// All steps by the one pass of a lock, which is asked for again after want of memory.
 pub(crate) fn by_a_pass(alloc: Global, run: Run, told: &mut u64) -> Option<Core> {
     let mut core = controller(alloc, run.config, told)?;
     for _ in 0..TURNS {
@@ -142,7 +142,7 @@ pub(crate) fn by_a_pass(alloc: Global, run: Run, told: &mut u64) -> Option<Core>
     None
 }
 
-// How many of these answers are want of memory.
+/// How many of these answers are want of memory.
 pub(crate) fn wants(answers: &[Result<Answer, Refused>]) -> u64 {
     let mut count: u64 = 0;
     for answer in answers {

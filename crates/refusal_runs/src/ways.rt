@@ -1,13 +1,21 @@
 //! The ways to make a run.
 
+use crate::calls::by_calls;
+use crate::long::{publish_long, write_long};
+use crate::many::run_many;
 use crate::promises::{make_promised, make_room};
+use crate::quiet::make_quiet;
 use crate::runs::{by_a_pass, by_steps, wants};
 use crate::script::{Run, run_of};
+use crate::slots::by_slots;
+use crate::works::by_works;
 use history::write_line;
 use lock_rows::ROWS;
+use std::alloc::Global;
 use std::io::Write;
 use std::process::ExitCode;
-use std::rt::Env;
+use std::rt::{Env, Files};
+use std::sync::Wait;
 use std::{env, io};
 use step_core::Core;
 
@@ -20,12 +28,23 @@ enum End {
     NoMemory,
 }
 
+/// What the words ask for.
+#[derive(Clone, Copy)]
+struct Asked<'a> {
+    way: &'a str,
+    first: &'static str,
+    lines: &'static str,
+    place: usize,
+    // It ends once what it needs is made.
+    is_first: bool,
+}
+
 // Shows a run as a script.
-fn show_script<R: Print>(rt: &R, first: &str, lines: &str) -> Option<End> {
+fn show_script<R: Print>(rt: &R, asked: &Asked<'_>) -> Option<End> {
     let mut out = io::writer(rt);
-    out.write_all(first.as_bytes()).ok()?;
+    out.write_all(asked.first.as_bytes()).ok()?;
     out.write_all(b"\n").ok()?;
-    for line in lines.split(" / ") {
+    for line in asked.lines.split(" / ") {
         out.write_all(line.as_bytes()).ok()?;
         out.write_all(b"\n").ok()?;
     }
@@ -42,34 +61,41 @@ fn show_history<R: Print>(rt: &R, core: &Core) -> Option<()> {
     Some(())
 }
 
-// All steps, each asked for again.
-fn one_by_one<R: Print + AllocGlobal>(
-    rt: &R,
-    run: Run,
-    is_shared: bool,
-    is_first: bool,
-) -> Option<End> {
+// The controller after a run whose steps are asked for again, or after the calls or the claims of a driver.
+fn core_of<R: Wait>(rt: &R, alloc: Global, way: &str, run: Run, told: &mut u64) -> Option<Core> {
+    match way {
+        "steps" => by_steps(alloc, run, told),
+        "attempts" => by_a_pass(alloc, run, told),
+        "works" => by_works(rt, alloc, run, told),
+        "calls" => by_calls(rt, alloc, told),
+        "slots" => by_slots(rt, alloc, told),
+        _ => None,
+    }
+}
+
+// All steps, each asked for again, in the last of so many runs and one.
+fn one_by_one<R: Print + AllocGlobal + Wait>(rt: &R, asked: &Asked<'_>, run: Run) -> Option<End> {
     let mut told = 0;
-    if is_first {
+    if asked.is_first {
         return Some(End::Done(0));
     }
-    let core = if is_shared {
-        by_a_pass(rt.alloc(), run, &mut told)?
-    } else {
-        by_steps(rt.alloc(), run, &mut told)?
-    };
+    for _ in 0..asked.place {
+        let before = run_of(rt.alloc(), asked.first, asked.lines)?;
+        core_of(rt, rt.alloc(), asked.way, before, &mut told)?;
+    }
+    let core = core_of(rt, rt.alloc(), asked.way, run, &mut told)?;
     show_history(rt, &core)?;
     Some(End::Done(told))
 }
 
 // All steps in one call: an answer for each, or all come back and nothing has changed.
-fn together<R: AllocGlobal>(rt: &R, run: Run, is_first: bool) -> Option<End> {
-    let mut core = Core::new(rt.alloc(), run.config).ok()?;
+fn together(alloc: Global, run: Run, is_first: bool) -> Option<End> {
+    let mut core = Core::new(alloc, run.config).ok()?;
     if is_first {
         return Some(End::Done(0));
     }
     let count = run.steps.len();
-    let mut answers = Vec::new(rt.alloc());
+    let mut answers = Vec::new(alloc);
     match core.run_steps(run.steps, &mut answers) {
         Ok(()) => {
             let is_whole = answers.len() == count;
@@ -82,44 +108,92 @@ fn together<R: AllocGlobal>(rt: &R, run: Run, is_first: bool) -> Option<End> {
     }
 }
 
+// The same, in the last of so many runs and one.
+fn all_together(alloc: Global, asked: &Asked<'_>, run: Run) -> Option<End> {
+    for _ in 0..asked.place {
+        let before = run_of(alloc, asked.first, asked.lines)?;
+        together(alloc, before, false)?;
+    }
+    together(alloc, run, asked.is_first)
+}
+
 // The steps that room was made for.
-fn promised<R: AllocGlobal>(rt: &R, run: Run, place: usize, is_first: bool) -> Option<End> {
-    let (mut core, rest, count) = make_room(rt.alloc(), run, place)?;
+fn promised(alloc: Global, run: Run, place: usize, is_first: bool) -> Option<End> {
+    let (mut core, rest, count) = make_room(alloc, run, place)?;
     if is_first || make_promised(&mut core, rest, count) {
         return Some(End::Done(0));
     }
     None
 }
 
+fn done(done: Option<()>) -> Option<End> {
+    done?;
+    Some(End::Done(0))
+}
+
+// A way that makes steps of a row.
+fn by_row<R: Print + AllocGlobal + Wait>(rt: &R, asked: &Asked<'_>) -> Option<End> {
+    let run = run_of(rt.alloc(), asked.first, asked.lines)?;
+    match asked.way {
+        "together" => all_together(rt.alloc(), asked, run),
+        "promised" => promised(rt.alloc(), run, asked.place, asked.is_first),
+        _ => one_by_one(rt, asked, run),
+    }
+}
+
+// A way.
+fn make<R: Print + AllocGlobal + Wait>(rt: &R, asked: &Asked<'_>) -> Option<End> {
+    let alloc = rt.alloc();
+    match asked.way {
+        "script" => show_script(rt, asked),
+        "quiet" => done(make_quiet(rt, alloc, asked.is_first)),
+        "publish" => done(publish_long(alloc, asked.place, asked.is_first)),
+        "write" => done(write_long(alloc, asked.place)),
+        _ => by_row(rt, asked),
+    }
+}
+
+// Whether the word at this place is `first`.
+fn is_first(words: &[String], place: usize) -> bool {
+    match words.get(place) {
+        Some(word) => word.as_str() == "first",
+        None => false,
+    }
+}
+
 // What the words ask for.
-fn make<R: Print + AllocGlobal>(rt: &R, words: &[String]) -> Option<End> {
-    let way = words.get(1)?.as_str();
+fn asked_of(words: &[String]) -> Option<Asked<'_>> {
     let row: usize = words.get(2)?.parse().ok()?;
-    let place: usize = words.get(3)?.parse().ok()?;
-    let is_first = words.len() > 4;
     let (first, lines) = ROWS.get(row)?;
-    if way == "script" {
-        return show_script(rt, first, lines);
+    Some(Asked {
+        way: words.get(1)?.as_str(),
+        first,
+        lines,
+        place: words.get(3)?.parse().ok()?,
+        is_first: is_first(words, 4),
+    })
+}
+
+// What came of what the words ask for.
+fn end_of<R: Files + Print + AllocGlobal + Wait>(rt: &R, words: &[String]) -> Option<End> {
+    if words.get(1)?.as_str() == "many" {
+        let told = run_many(rt, words.get(2)?.as_str(), is_first(words, 3))?;
+        return Some(End::Done(told));
     }
-    let run = run_of(rt.alloc(), first, lines)?;
-    if way == "together" {
-        return together(rt, run, is_first);
-    }
-    if way == "promised" {
-        return promised(rt, run, place, is_first);
-    }
-    one_by_one(rt, run, way == "attempts", is_first)
+    make(rt, &asked_of(words)?)
 }
 
 /// Does what the words of the command line ask for, and says on standard error how often want of memory was told.
-pub(crate) fn run_program<R: Env + Print + Eprint + AllocGlobal>(rt: &R) -> ExitCode {
+pub(crate) fn run_program<R: Env + Files + Print + Eprint + AllocGlobal + Wait>(
+    rt: &R,
+) -> ExitCode {
     let Ok(args) = env::args(rt) else {
         return ExitCode::from(1);
     };
     let Ok(words) = args.collect::<Vec<String>>(rt.alloc()) else {
         return ExitCode::from(1);
     };
-    match make(rt, words.as_slice()) {
+    match end_of(rt, words.as_slice()) {
         Some(End::Done(told)) => {
             let _ = rt.eprintln(told);
             ExitCode::from(0)

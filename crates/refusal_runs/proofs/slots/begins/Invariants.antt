@@ -1,0 +1,5 @@
+use Rattle.slot_rows.specs.Claimants.{IsClaimant}
+use Rattle.refusal_runs.proofs.slots.begins.Given as goal
+
+abbrev pub invariant-loop : goal.invariant-loop
+invariant-loop l = IsClaimant l.bench l.slots l.claimant

@@ -1,0 +1,5 @@
+use Rattle.engine_rows.specs.Hands.{IsOf, IsWorkOf}
+use Rattle.refusal_runs.proofs.works.ends.Given as goal
+
+abbrev pub invariant-loop : goal.invariant-loop
+invariant-loop g l = IsOf l.hall l.hand × IsWorkOf l.hall l.work

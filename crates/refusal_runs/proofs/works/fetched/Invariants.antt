@@ -1,0 +1,5 @@
+use Rattle.engine_rows.specs.Hands.{IsCrewOf}
+use Rattle.refusal_runs.proofs.works.fetched.Given as goal
+
+abbrev pub invariant-loop : goal.invariant-loop
+invariant-loop g l = IsCrewOf l.hall l.crew

@@ -1,0 +1,5 @@
+use Rattle.engine_rows.specs.Hands.{IsOf}
+use Rattle.refusal_runs.proofs.works.hears.Given as goal
+
+abbrev pub invariant-loop : goal.invariant-loop
+invariant-loop g l = IsOf l.hall l.hand

@@ -1,0 +1,220 @@
+//! The calls of a driver, each served before the next, and asked for again after want of memory.
+
+ghost use Rattle.std.specs.Prelude.{◌≡◌, IfSome};
+ghost use Rattle.driver_cas.specs.Drivers.{IsCallOf};
+ghost use Rattle.history.specs.Config.{numbers};
+ghost use Rattle.work_queue.specs.Engines.{IsWorkOf};
+ghost use Rattle.driver_rows.specs.Benches.{AreOf, IsHostOf, IsServerOf};
+
+use crate::runs::TURNS;
+use driver_cas::{Call, Fault, SharedPort};
+use driver_rows::{
+    Ask, Bench, Fill, Host, Server, Spares, Told, bench_of, fetches, hand_of, hears, host_of,
+    makes, polls, starts,
+};
+use history::Config;
+use nvme_model::array::Range;
+use std::alloc::Global;
+use std::sync::Wait;
+use step_core::Core;
+use work_queue::Work;
+
+/// How many completions are told of at once, and how many passes there are: a host that isn't made leaves its own unused.
+const MOST: usize = 8;
+
+/// How often a Fetch is asked for, where one command waits at most.
+const FETCHES: u32 = 3;
+
+const SLOTS: Range = Range { slba: 0, blocks: 1 };
+
+const A1: Fill = Fill(0xa1, 512);
+
+const B2: Fill = Fill(0xb2, 512);
+
+/// Calls, and what each is told.
+const CALLS: [(Ask, Told); 10] = [
+    (Ask::Write(2, A1), Told::Written),
+    (Ask::Read(2, 1), Told::Read(512, 0xa1)),
+    (Ask::Compare(2, A1), Told::Equal),
+    (Ask::Compare(2, B2), Told::Differs),
+    (Ask::CompareAndWrite(2, A1, B2), Told::Swapped),
+    (Ask::CompareAndWrite(2, A1, B2), Told::Differs),
+    (Ask::Read(2, 1), Told::Read(512, 0xb2)),
+    (Ask::WriteZeroes(2, 1), Told::Written),
+    (Ask::Read(1, 3), Told::Read(1536, 0)),
+    (Ask::Read(8, 1), Told::Failed(0, 0x80)),
+];
+
+/// A controller, and passes for its callers.
+pub(crate) fn bench(alloc: Global, config: Config, told: &mut u64) -> Option<(Bench, Spares)>
+    ensures own { IfSome result (λ b. AreOf b.0 b.1) }
+    ensures config { IfSome result (λ b. b.0.config ≡ config) }
+{
+    for _ in 0..TURNS {
+        match bench_of(alloc, config, MOST, MOST) {
+            Ok(made) => return Some(made),
+            Err(_) => *told = told.wrapping_add(1),
+        }
+    }
+    None
+}
+
+// Makes all tasks of a Work.
+fn ends<R: Wait>(rt: &R, bench: &Bench, server: &mut Server, work: Work, told: &mut u64)
+    requires { IsServerOf bench.now server.old × IsWorkOf bench.now.engine work }
+    ensures { IsServerOf bench.now server.new }
+{
+    let mut work = work;
+    for _ in 0..TURNS {
+        match makes(rt, bench, server, &mut work) {
+            Some(true) => {}
+            Some(false) => return,
+            None => *told = told.wrapping_add(1),
+        }
+    }
+}
+
+/// Serves the command that waits in a submission queue, if one does.
+pub(crate) fn serves<R: Wait>(
+    rt: &R,
+    bench: &Bench,
+    server: &mut Server,
+    queue: u16,
+    told: &mut u64,
+)
+    requires { IsServerOf bench.now server.old }
+    ensures { IsServerOf bench.now server.new }
+{
+    for _ in 0..FETCHES {
+        if let Some(work) = fetches(bench, server, queue) {
+            ends(rt, bench, server, work, told);
+        }
+    }
+}
+
+// Begins a call.
+fn begins<'a>(
+    _bench: &Bench,
+    host: &mut Host<'a>,
+    ask: Ask,
+    told: &mut u64,
+) -> Option<Call<SharedPort<'a>>>
+    requires { IsHostOf _bench.now host.old }
+    ensures same { IsHostOf _bench.now host.new }
+    ensures call { IfSome result (IsCallOf host.new.driver) }
+{
+    for _ in 0..TURNS {
+        match starts(host, ask) {
+            Ok(call) => return Some(call),
+            Err(Fault::NoMemory) => *told = told.wrapping_add(1),
+            Err(_) => return None,
+        }
+    }
+    None
+}
+
+// Polls a call until it is answered.
+fn answers<'a>(
+    _bench: &Bench,
+    host: &mut Host<'a>,
+    call: Call<SharedPort<'a>>,
+    told: &mut u64,
+) -> Option<Told>
+    requires { IsHostOf _bench.now host.old × IsCallOf host.old.driver call }
+    ensures { IsHostOf _bench.now host.new }
+{
+    let mut next = call;
+    for _ in 0..TURNS {
+        let (now, back) = polls(host, next);
+        let Some(same) = back else {
+            return Some(now);
+        };
+        if now == Told::Later(Fault::NoMemory) {
+            *told = told.wrapping_add(1);
+        }
+        next = same;
+    }
+    None
+}
+
+// What a call is told, once it is served.
+fn served<R: Wait>(
+    rt: &R,
+    bench: &Bench,
+    server: &mut Server,
+    host: &mut Host<'_>,
+    ask: Ask,
+    told: &mut u64,
+) -> Option<Told>
+    requires { IsServerOf bench.now server.old × IsHostOf bench.now host.old }
+    ensures { IsServerOf bench.now server.new × IsHostOf bench.now host.new }
+{
+    let call = begins(bench, host, ask, told)?;
+    serves(rt, bench, server, 1, told);
+    hears(rt, bench, host);
+    answers(bench, host, call, told)
+}
+
+// Host 1, on submission queue 1.
+fn host<'a>(
+    alloc: Global,
+    bench: &'a Bench,
+    spares: &mut Spares,
+    told: &mut u64,
+) -> Option<Host<'a>>
+    requires own { AreOf bench.now spares.old }
+    requires config { bench.now.config ≡ numbers 8 1 1 0 0 2 4 4 8 2 }
+    ensures { IfSome result (IsHostOf bench.entry.now) }
+{
+    for _ in 0..MOST {
+        if let Ok(queues) = [1].to_vec(alloc) {
+            let hand = hand_of(bench, spares)?;
+            let host = host_of(alloc, bench, hand, 1, SLOTS, 1, queues);
+            if host.is_some() {
+                return host;
+            }
+        }
+        *told = told.wrapping_add(1);
+    }
+    None
+}
+
+// Makes all calls; who served them. None where one was told something else.
+fn all_served<R: Wait>(
+    rt: &R,
+    alloc: Global,
+    bench: &Bench,
+    mut spares: Spares,
+    told: &mut u64,
+) -> Option<Server>
+    requires own { AreOf bench.now spares }
+    requires config { bench.now.config ≡ numbers 8 1 1 0 0 2 4 4 8 2 }
+    ensures { IfSome result (IsServerOf bench.now) }
+{
+    let mut server = hand_of(bench, &mut spares)?;
+    let mut host = host(alloc, bench, &mut spares, told)?;
+    for (ask, wanted) in CALLS {
+        if served(rt, bench, &mut server, &mut host, ask, told)? != wanted {
+            return None;
+        }
+    }
+    Some(server)
+}
+
+/// The controller of a bench whose hosts are gone.
+pub(crate) fn closes(bench: Bench, server: Server) -> Option<Core>
+    requires { IsServerOf bench server }
+{
+    let Bench { engine, .. } = bench;
+    engine.close(server.pass)
+}
+
+/// The controller after all calls.
+pub(crate) fn by_calls<R: Wait>(rt: &R, alloc: Global, told: &mut u64) -> Option<Core> {
+    let Ok(config) = Config::new(8, 1, 1, 0, 0, 2, 4, 4, 8) else {
+        return None;
+    };
+    let (bench, spares) = bench(alloc, config, told)?;
+    let server = all_served(rt, alloc, &bench, spares, told)?;
+    closes(bench, server)
+}

@@ -1,0 +1,63 @@
+//! Calls of an engine and its queues that take no memory.
+
+ghost use Rattle.std.specs.Prelude.{IfSome};
+ghost use Rattle.engine_rows.specs.Hands.{IsCrewOf, IsFreshWork};
+
+use crate::script::{Run, run_of};
+use crate::works::{closes, ends, fetched, hall, publishes};
+use engine_rows::{Crew, Hall, crew_of, learns, pops, pushes};
+use lock_rows::CONFIG;
+use std::alloc::Global;
+use std::sync::Wait;
+use step_core::Step;
+use work_queue::Work;
+
+/// Two Flushes: of the first all is made, so that a Notice waits, and of the second its Work is at hand.
+const LINES: &str = "publish 1 flush 0 1 0 0 - / publish 1 flush 0 2 0 0 -";
+
+// What stands before: the Work of the second Flush.
+fn begins<R: Wait>(rt: &R, hall: &Hall, crew: &mut Crew, steps: Vec<Step>) -> Option<Work>
+    requires { IsCrewOf hall.now crew.old }
+    ensures same { IsCrewOf hall.now crew.new }
+    ensures work { IfSome result (IsFreshWork hall.now) }
+{
+    let mut told = 0;
+    for step in steps {
+        if let Step::Publish(queue, batch) = step {
+            publishes(hall, &mut crew.host, queue, batch, &mut told);
+        }
+    }
+    let work = fetched(rt, hall, crew, 1, &mut told)?;
+    ends(rt, hall, &mut crew.worker, work, &mut told);
+    fetched(rt, hall, crew, 1, &mut told)
+}
+
+// A Work goes through its queue, a Notice is learnt, and two passes meet.
+fn quiet_calls<R: Wait>(rt: &R, hall: &Hall, crew: &mut Crew, work: Work) -> Option<()>
+    requires { IsCrewOf hall.now crew.old × IsFreshWork hall.now work }
+    ensures { IsCrewOf hall.now crew.new }
+{
+    pushes(rt, hall, &mut crew.fetcher, work).ok()?;
+    pops(rt, hall, &mut crew.worker)?;
+    if learns(rt, hall, &mut crew.host) != Ok(true) {
+        return None;
+    }
+    hall.engine
+        .meet(&mut crew.host.pass, &mut crew.fetcher.pass)
+        .ok()
+}
+
+/// Makes them, and closes the engine, whose controller has the history; None where one didn't go as with memory.
+pub(crate) fn make_quiet<R: Wait>(rt: &R, alloc: Global, is_first: bool) -> Option<()> {
+    let Run { config, steps } = run_of(alloc, CONFIG, LINES)?;
+    let mut told = 0;
+    let (hall, mut hands) = hall(alloc, config, &mut told)?;
+    let mut crew = crew_of(alloc, &hall, &mut hands)?;
+    let work = begins(rt, &hall, &mut crew, steps)?;
+    if is_first {
+        return Some(());
+    }
+    quiet_calls(rt, &hall, &mut crew, work)?;
+    let core = closes(hall, crew)?;
+    (core.history().len() == 5).then_some(())
+}
