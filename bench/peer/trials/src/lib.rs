@@ -1,6 +1,9 @@
 //! Lists of steps, and the product's programs, which are run with and without memory.
 
 pub mod asked;
+pub mod at_random;
 pub mod edits;
 pub mod lists;
 pub mod program;
+pub mod tally;
+pub mod worked;

@@ -4,29 +4,39 @@ use std::fs;
 use std::path::{Path, PathBuf};
 use std::process::{Command, Stdio};
 
-/// Which allocations and growths of a program are refused, counted from 1.
+/// A program that runs for longer has hung.
+const SECONDS: &str = "60";
+
+/// Which allocations and growths of a program are refused, counted from 1: of those from `first` to `last` one in `one_in`,
+/// drawn from `seed`.
 #[derive(Clone, Copy)]
 pub struct Refused {
     pub first: u64,
     pub last: u64,
+    pub one_in: u64,
+    pub seed: u64,
 }
 
 impl Refused {
-    pub const NONE: Refused = Refused { first: u64::MAX, last: u64::MAX };
+    pub const NONE: Refused = Refused { first: u64::MAX, last: u64::MAX, one_in: 1, seed: 0 };
 
     pub fn one(number: u64) -> Refused {
-        Refused { first: number, last: number }
+        Refused { first: number, last: number, ..Refused::NONE }
     }
 
     pub fn from(number: u64) -> Refused {
-        Refused { first: number, last: u64::MAX - 1 }
+        Refused { first: number, last: u64::MAX - 1, ..Refused::NONE }
+    }
+
+    pub fn one_in(self, one_in: u64, seed: u64) -> Refused {
+        Refused { one_in, seed, ..self }
     }
 }
 
 /// What came of a run.
 #[derive(Debug, PartialEq, Eq)]
 pub struct Ended {
-    /// The exit status, -1 where a signal ended it.
+    /// The exit status, -1 where a signal ended it, as after too long a time.
     pub status: i32,
     pub output: Vec<u8>,
     pub words: Vec<u8>,
@@ -34,6 +44,9 @@ pub struct Ended {
     pub asked: u64,
     pub refused: u64,
     pub held: i64,
+    /// How many bytes it asked for, and how many it had at most.
+    pub bytes: u64,
+    pub most: i64,
 }
 
 /// A program, the library that refuses its memory, and a folder of this thread's own.
@@ -66,6 +79,9 @@ impl Program {
             .env("LD_PRELOAD", &self.refusing)
             .env("REFUSE_FIRST", refused.first.to_string())
             .env("REFUSE_LAST", refused.last.to_string())
+            .env("REFUSE_ONE_IN", refused.one_in.to_string())
+            .env("REFUSE_SEED", refused.seed.to_string())
+            .env("REFUSE_SECONDS", SECONDS)
             .env("REFUSE_REPORT", &report)
             .stdin(Stdio::null())
             .output()
@@ -80,6 +96,8 @@ impl Program {
             asked: next() as u64,
             refused: next() as u64,
             held: next(),
+            bytes: next() as u64,
+            most: next(),
         }
     }
 
