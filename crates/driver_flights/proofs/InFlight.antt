@@ -1,5 +1,5 @@
 -- The calls of one driver that are in flight: one more, one less, and after a poll of one of them.
-use Rattle.std.proofs.Common.{◌≡◌, ◌∙◌, ℕ, suc, zero, ◌<◌, ◌≤◌, ◌+◌, All, List, [], ◌∷◌, ◌++◌, arith, get_or, inl, inr, length, Option, Some, subst, sym, true, false}
+use Rattle.std.proofs.Common.{◌≡◌, ◌∙◌, ℕ, suc, zero, ◌<◌, ◌+◌, All, List, [], ◌∷◌, ◌++◌, arith, get_or, inl, inr, length, Option, Some, subst, sym}
 use Rattle.std.specs.Prelude.{IfSome}
 use Rattle.std.specs.List.{AllPairs, remove}
 use Rattle.std.proofs.lemmas.Bool.{cases_Bool, cases_lt}

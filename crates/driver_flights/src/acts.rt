@@ -14,8 +14,8 @@ pub(crate) enum Act {
     Begin(u16, Ask),
     /// Begins a call, which is refused so.
     Refused(Ask, Fault),
-    /// Polls the call at this place, the first at 0, so many times at most; it is told this at the last of them. It is in
-    /// flight no longer.
+    /// Polls the call at this place, the first at 0, so many times at most; it is told this at the last of them. It is
+    /// in flight no longer.
     End(usize, u32, Told),
 }
 

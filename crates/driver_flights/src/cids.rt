@@ -164,8 +164,8 @@ fn a_pair_keeps_both_till_both_have_ended(rt: HostRuntime) -> Result<(), Fail> {
     Ok(())
 }
 
-// RingFull at the first of its submission queues, at both, and at the first before Busy at the second; Busy and NoMemory at
-// the first, where the second would have answered RingFull.
+// RingFull at the first of its submission queues, at both, and at the first before Busy at the second; Busy and
+// NoMemory at the first, where the second would have answered RingFull.
 #[test]
 fn the_next_queue_is_tried_after_ring_full(rt: HostRuntime) -> Result<(), Fail> {
     let alloc = rt.alloc();

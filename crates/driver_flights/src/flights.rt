@@ -51,8 +51,9 @@ fn takes<P: Port>(driver: &Driver<P>, calls: &mut Vec<Call<P>>, place: usize) ->
     }
 }
 
-/// Polls the call at a place, the first at 0, until it is answered, at most so many times: what it was told, and how often it
-/// was polled. It is in flight no longer, and one that wasn't answered keeps its identifiers. None where there is no such call.
+/// Polls the call at a place, the first at 0, until it is answered, at most so many times: what it was told, and how
+/// often it was polled. It is in flight no longer, and one that wasn't answered keeps its identifiers. None where there
+/// is no such call.
 pub fn ends_one<P: Port>(
     driver: &mut Driver<P>,
     calls: &mut Vec<Call<P>>,

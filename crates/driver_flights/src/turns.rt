@@ -19,8 +19,8 @@ pub(crate) enum Turn {
     Serve(u16),
     /// The host listens; whether it took a notice.
     Listen(bool),
-    /// The host polls the call at this place, the first at 0, so many times at most; it is told this at the last of them. It
-    /// is in flight no longer.
+    /// The host polls the call at this place, the first at 0, so many times at most; it is told this at the last of
+    /// them. It is in flight no longer.
     End(usize, u32, Told),
 }
 

@@ -44,8 +44,8 @@ pub fn launches(bench: &Bench, flight: &mut Flight<'_>, ask: Ask) -> Result<(), 
     begins_one(&mut flight.host.driver, &mut flight.calls, ask)
 }
 
-/// Polls the call at a place, the first at 0, until it is answered, at most so many times: what it was told, and how often it
-/// was polled. It is in flight no longer. None where there is no such call.
+/// Polls the call at a place, the first at 0, until it is answered, at most so many times: what it was told, and how
+/// often it was polled. It is in flight no longer. None where there is no such call.
 pub fn lands(bench: &Bench, flight: &mut Flight<'_>, place: usize, most: u32) -> Option<(Told, u32)>
     requires { IsFlightOf bench.now flight.old }
     ensures { IsFlightOf bench.now flight.new }

@@ -58,8 +58,8 @@ fn wide(alloc: Global) -> Result<(Bench, Spares), Fail>
     Ok(bench_of(alloc, config, 128, 2)?)
 }
 
-// Begins all calls, and one too many; 64 of them are fetched from each submission queue, and served from the newest to the
-// oldest.
+// Begins all calls, and one too many; 64 of them are fetched from each submission queue, and served from the newest to
+// the oldest.
 fn all_served<R: Abort + Wait>(
     rt: &R,
     alloc: Global,
