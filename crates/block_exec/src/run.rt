@@ -46,7 +46,7 @@ pub struct Done {
 }
 
 impl Run {
-    ghost use Rattle.block_exec.specs.Course.{next_done, stepped};
+    ghost use Rattle.block_exec.specs.Course.{done_by, next_done, noted, stepped};
 
     /// A unit of these blocks of which no step is made.
     pub fn new(op: Op, range: Range) -> Run
@@ -137,6 +137,27 @@ impl Run {
         }
     }
 
+    /// Counts the Block step that is due, which found this, whoever made it.
+    pub fn note(&mut self, found: Found) -> Done
+        requires open { has_ended self.old ≡ false }
+        ensures done { result ≡ done_by self.old found }
+        ensures noted { self.new ≡ noted self.old found }
+    {
+        let lba = self.range.slba + u64::from(self.made % self.range.blocks);
+        let effect = self.is_effect(found);
+        *self = Run {
+            made: self.made + 1,
+            differed: found == Found::Differs,
+            ..*self
+        };
+        Done {
+            lba,
+            found,
+            effect,
+            ended: self.has_ended(),
+        }
+    }
+
     /// Makes the Block step that is due, on one block of the volume.
     ///
     /// `compare`, `write` and `read` are the unit's bytes, 512 a block, where its operation uses them, and else empty:
@@ -165,20 +186,8 @@ impl Run {
         ensures volume { volume.new ≡ volume_after self.old volume.old write.now result.found }
         ensures read { read.new ≡ read_after self.old volume.old read.old result.found }
     {
-        let lba = self.range.slba + u64::from(self.made % self.range.blocks);
         let found = self.touch(volume, compare, write, read);
-        let effect = self.is_effect(found);
-        *self = Run {
-            made: self.made + 1,
-            differed: found == Found::Differs,
-            ..*self
-        };
-        Done {
-            lba,
-            found,
-            effect,
-            ended: self.has_ended(),
-        }
+        self.note(found)
     }
 }
 

@@ -1,3 +1,2 @@
-pub mod Cids
 pub mod Jobs
 pub mod Lends

@@ -1,11 +1,11 @@
 //! What is kept of a ticket in flight.
 
-use crate::cids::Cids;
 use block_exec::Run;
 use completions::Owed;
 use nvme_model::array::Range;
 use nvme_model::operation::Op;
 use nvme_model::submission::Payload;
+use ticket_course::Cids;
 
 /// What is kept of a ticket in flight.
 #[derive(Drop)]

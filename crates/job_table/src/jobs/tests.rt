@@ -4,7 +4,6 @@ ghost use Rattle.std.specs.Prelude.{◌≡◌, MatchOption, Some};
 ghost use Rattle.job_table.specs.Jobs.{job_of, replaced};
 
 use super::*;
-use crate::cids::Cids;
 use block_exec::Run;
 use completions::Owed;
 use nvme_model::array::Range;
@@ -13,6 +12,7 @@ use nvme_model::status::Status;
 use nvme_model::submission::Payload;
 use std::process::Abort;
 use std::test::Fail;
+use ticket_course::Cids;
 
 const NONE: Range = Range { slba: 0, blocks: 0 };
 

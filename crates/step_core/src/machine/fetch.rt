@@ -21,7 +21,7 @@ use completions::Owed;
 use entry_codec::{Sqe, decode_sqe};
 use fused_match::{Item, Judged, judge};
 use history::Config;
-use job_table::{Cids, Job, Jobs};
+use job_table::{Job, Jobs};
 use nvme_model::array::Range;
 use nvme_model::entry::{Entry, FetchLine};
 use nvme_model::operation::Op;
@@ -30,6 +30,7 @@ use nvme_model::status::Status;
 use nvme_model::submission::{Payload, Submission};
 use rings::SqRing;
 use std::alloc::{AllocError as NoMemory, Global};
+use ticket_course::Cids;
 
 // Puts the CIDs that a job still owes a completion for, if it is on this queue, behind the first `count` of an array,
 // and says how many there are then.

@@ -23,7 +23,7 @@ impl Model for Cids {
 
     ghost Value = { List ℕ };
 
-    ghost use Rattle.job_table.specs.Cids.{cids_of, left_of, left_of-cids_of};
+    ghost use Rattle.ticket_course.specs.Cids.{cids_of, left_of, left_of-cids_of};
 
     ghost view = { λ c. cids_of c.left };
 

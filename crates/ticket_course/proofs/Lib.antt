@@ -1,0 +1,5 @@
+pub mod StageLemmas
+pub mod Granted
+pub mod Blocked
+pub mod Posted
+pub mod Fetched

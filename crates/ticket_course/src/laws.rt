@@ -1,0 +1,37 @@
+//! How the stage of a ticket moves in a legal history of any controller, as the contract of a function that does
+//! nothing.
+
+ghost use Rattle.std.specs.Prelude.{◌≡◌, ◌∷◌, List, drop};
+ghost use Rattle.nvme_model.specs.History.{Past};
+ghost use Rattle.nvme_model.specs.Legal.{IsLegal};
+ghost use Rattle.nvme_model.specs.Operations.{op};
+ghost use Rattle.nvme_model.specs.Tickets.{Ticket, first_fields};
+ghost use Rattle.fused_match.specs.Judged.{NamesBlocks, operation_in, verdict_by};
+ghost use Rattle.fused_match.specs.declared.judged.Judged.{Judged};
+ghost use Rattle.nvme_model.specs.declared.config.ConfigNumbers.{ConfigNumbers};
+ghost use Rattle.nvme_model.specs.declared.entry.BlockLine.{BlockLine};
+ghost use Rattle.nvme_model.specs.declared.entry.Entry.{Entry};
+ghost use Rattle.nvme_model.specs.declared.entry.GrantLine.{GrantLine};
+ghost use Rattle.nvme_model.specs.declared.entry.PostLine.{PostLine};
+ghost use Rattle.nvme_model.specs.declared.status.Status.{Status};
+ghost use Rattle.ticket_course.specs.declared.course.Stage.{Stage};
+ghost use Rattle.ticket_standing.specs.Standing.{fresh, standing};
+ghost use Rattle.ticket_course.specs.Shown.{stage_of};
+ghost use Rattle.ticket_course.specs.Stages.{first_stage, noted_in, opened_in};
+
+/// A ticket that was just fetched is at the first stage of its verdict. A Grant opens the unit of its range, and a Block
+/// moves its unit by what it found, wherever the unit's mark stands; a Post takes the first off what is owed.
+pub fn a_step_moves_the_stage()
+    ensures fetched { (c : ConfigNumbers) (k : Ticket) (j : Judged) →
+        verdict_by j ≡ k.verdict → operation_in j ≡ op k → NamesBlocks j (first_fields k) →
+        stage_of c (fresh k) ≡ first_stage j }
+    ensures granted { (c : ConfigNumbers) (past : Past) (g : GrantLine) → IsLegal c (Entry.Grant g ∷ past) →
+        stage_of c (standing (Entry.Grant g ∷ past) g.ticket)
+        ≡ opened_in (stage_of c (standing past g.ticket)) g.range }
+    ensures blocked { (c : ConfigNumbers) (past : Past) (b : BlockLine) → IsLegal c (Entry.Block b ∷ past) →
+        stage_of c (standing (Entry.Block b ∷ past) b.ticket)
+        ≡ noted_in (stage_of c (standing past b.ticket)) b.found }
+    ensures posted { (c : ConfigNumbers) (past : Past) (p : PostLine) (owed : List Status) →
+        stage_of c (standing past p.ticket) ≡ Stage.Owing owed →
+        stage_of c (standing (Entry.Post p ∷ past) p.ticket) ≡ Stage.Owing (drop 1 owed) }
+{}
