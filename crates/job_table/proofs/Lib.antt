@@ -1,3 +1,4 @@
 pub mod Tickets
+mod Noted
 pub mod Tables
 mod Place

@@ -1,2 +1,4 @@
+pub mod Parts
+pub mod Keeping
 pub mod Jobs
 pub mod Lends

@@ -4,5 +4,5 @@
 mod job;
 mod jobs;
 
-pub use job::Job;
+pub use job::{Data, Job};
 pub use jobs::{InFlight, Jobs};

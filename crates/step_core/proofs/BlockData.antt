@@ -21,7 +21,7 @@ use Rattle.nvme_model.specs.Open.{blocks_made, granted, grants_of, is_differs, i
 use Rattle.nvme_model.specs.Open
 use Rattle.nvme_model.specs.Operations.{compare_data, has_compare, op, units}
 use Rattle.nvme_model.specs.Refusals.{conditions, has_open, refusal}
-use Rattle.ticket_standing.specs.Standing.{Standing, standing, unit_of}
+use Rattle.ticket_standing.specs.Standing.{left, standing, unit_of}
 use Rattle.nvme_model.specs.Steps.{marked}
 use Rattle.nvme_model.specs.Tickets.{Ticket, command, first_fields, ticket}
 use Rattle.nvme_model.proofs.Blocks.{OpenFacts, open_facts}
@@ -34,16 +34,19 @@ use Rattle.nvme_model.proofs.Medium.{is_open}
 use Rattle.nvme_model.proofs.NextPost.{unit_at}
 use Rattle.nvme_model.proofs.Rules.{none_holds}
 use Rattle.block_exec.specs.Bytes.{compare_length, data_at, write_length}
-use Rattle.block_exec.specs.Course.{next_done, stepped}
+use Rattle.block_exec.specs.Course.{next_done}
 use Rattle.block_exec.specs.Progress.{Progress, found_by, has_ended, needed, next_block, next_place}
 use Rattle.block_exec.specs.Units.{progress_of, unit_compare, unit_write}
 use Rattle.block_exec.specs.declared.run.Done.{Done}
 use Rattle.block_exec.proofs.Histories.{has_ended-progress_of}
 use Rattle.block_exec.proofs.Parts.{data_at-unit_compare, length-unit_compare, length-unit_write}
-use Rattle.step_core.specs.Blocks.{CanMake, HasPart, finds_equal, part_end, part_of}
-use Rattle.step_core.specs.Fields.{compare_bytes, job_at, job_by, read_bytes_by, run_by, write_bytes_by}
+use Rattle.job_table.specs.Keeping.{CanMake, finds_equal}
+use Rattle.job_table.specs.Parts.{HasPart, part_end, part_of}
+use Rattle.ticket_course.specs.Shown.{stage_by}
+use Rattle.ticket_course.specs.declared.course.Stage.TheVariants.{Open}
+use Rattle.step_core.specs.Fields.{compare_bytes, job_at, job_by, read_bytes_by, write_bytes_by}
 use Rattle.step_core.specs.Kept.{IsTable}
-use Rattle.step_core.proofs.Granting.{any_found}
+use Rattle.step_core.proofs.Granting.{any_found, job_stage}
 
 -- ---- the unit that a Block is of
 
@@ -69,11 +72,10 @@ some_is (Some x) e = (x, refl)
 opens_each : (P : GrantLine → Type 0) (past : Past) → Each P (granted past) → Each (λ x. P x × (is_open past x ≡ true)) (open_units past)
 opens_each P past h = each_filter P (λ x. P x × (is_open past x ≡ true)) (is_open past) (λ x p e. (p, e)) (granted past) h
 
--- where nothing refuses a Block there is one
-pub unit_found : (c : ConfigNumbers) (past : Past) (t : ℕ) → IsLegal c past → refusal c past (Step.Block t) ≡ None → (g : GrantLine) × (o : Op) × IsUnit c past t g o
-unit_found c past t h none =
-    let rows = none_holds (conditions c past (Step.Block t)) (ap is_none none) in
-    let x = found_some (λ g. g.ticket == t) (open_units past) (any_found (λ g. g.ticket == t) (open_units past) ∙ not_false (has_open past t) rows.1.0) in
+-- the unit that stands open
+pub unit_there : (c : ConfigNumbers) (past : Past) (t : ℕ) → IsLegal c past → has_open past t ≡ true → (g : GrantLine) × (o : Op) × IsUnit c past t g o
+unit_there c past t h up =
+    let x = found_some (λ g. g.ticket == t) (open_units past) (any_found (λ g. g.ticket == t) (open_units past) ∙ up) in
     let g : GrantLine = x.0 in
     let facts = each_find (OpenFacts past) (λ y. y.ticket == t) (open_units past) g (open_facts c past h) x.1 in
     let own : g.ticket ≡ t = eqb-true g.ticket t facts.1 in
@@ -94,6 +96,12 @@ unit_found c past t h none =
         place = ap (λ (s : ℕ). slice_get (units c (ticket past s)) g.unit) (sym own) ∙ there.0.0;
       },
     )
+
+-- where nothing refuses a Block there is one
+pub unit_found : (c : ConfigNumbers) (past : Past) (t : ℕ) → IsLegal c past → refusal c past (Step.Block t) ≡ None → (g : GrantLine) × (o : Op) × IsUnit c past t g o
+unit_found c past t h none =
+    let rows = none_holds (conditions c past (Step.Block t)) (ap is_none none) in
+    unit_there c past t h (not_false (has_open past t) rows.1.0)
 
 -- ---- parts of data
 
@@ -141,17 +149,12 @@ found_same Op.Compare n j a b e = ap (found_by Op.Compare n j) (e refl)
 found_same Op.Pair n j a b e = ap (found_by Op.Pair n j) (e refl)
 
 -- whether a block is the Compare's data counts where there is one
-pub done_same : (p : Progress) (a b : Bool) → (has_compare (Some p.op) ≡ true → a ≡ b) → (next_done p a ≡ next_done p b) × (stepped p a ≡ stepped p b)
+pub done_same : (p : Progress) (a b : Bool) → (has_compare (Some p.op) ≡ true → a ≡ b) → next_done p a ≡ next_done p b
 done_same p a b e =
-    let f = found_same p.op p.range.blocks p.made a b e in
     let says : Found → Done = λ x. record { lba = next_block p; found = x; effect = marked (Some p.op) p.range.blocks p.made x; ended = has_ended (record p { made = suc p.made; differed = is_differs x }) } in
-    (ap says f, (λ z. record p { made = suc p.made; differed = is_differs (f z) }))
+    ap says (found_same p.op p.range.blocks p.made a b e)
 
--- ---- the job's run, and what its next Block requires
-
-run_is_by : (c : ConfigNumbers) (s : Standing) → (job_by c s).run ≡ option_map (run_by (op s.ticket)) s.unit
-unfolding job_by
-run_is_by c s = refl
+-- ---- where its ticket stands, and what its next Block requires
 
 module _ (c : ConfigNumbers) (past : Past) (t : ℕ) (h : IsLegal c past) (g : GrantLine) (o : Op) (u : IsUnit c past t g o) where
   -- its unit goes on
@@ -163,13 +166,13 @@ module _ (c : ConfigNumbers) (past : Past) (t : ℕ) (h : IsLegal c past) (g : G
   pub same_so_far : list_any (λ b. is_differs b.found) (blocks_made past t g.unit) ≡ false
   same_so_far = (or_parts (nat_le (needed o g.range.blocks) (length (blocks_made past t g.unit))) (list_any (λ b. is_differs b.found) (blocks_made past t g.unit)) unended).1
 
-  -- and is what is kept
-  pub run_is : (job_at c past t).run ≡ Some (progress_of past t g.unit o g.range)
-  run_is =
-      run_is_by c (standing past t)
-      ∙ ap (λ (x : Option GrantLine). option_map (run_by (op (ticket past t))) (option_map (unit_of past) x)) u.found
-      ∙ ap (λ (w : Option Op). Some (run_by w (unit_of past g))) u.does
-      ∙ (λ z. Some (record { op = o; range = g.range; made = length (blocks_made past (u.own z) g.unit); differed = sym same_so_far z }))
+  -- and its ticket stands so
+  pub stage_is : (job_at c past t).course.stage ≡ Open (progress_of past t g.unit o g.range) g.unit (left c (standing past t))
+  stage_is =
+      job_stage c (standing past t)
+      ∙ ap (λ (x : Option GrantLine). stage_by c (standing past t) (op (ticket past t)) (option_map (unit_of past) x)) u.found
+      ∙ ap (λ (w : Option Op). stage_by c (standing past t) w (Some (unit_of past g))) u.does
+      ∙ (λ z. Open (record { op = o; range = g.range; made = length (blocks_made past (u.own z) g.unit); differed = sym same_so_far z }) g.unit (left c (standing past t)))
 
   -- the block that is due is one of the unit
   pub place_within : next_place (progress_of past t g.unit o g.range) < g.range.blocks
@@ -222,7 +225,6 @@ module _ (c : ConfigNumbers) (past : Past) (t : ℕ) (h : IsLegal c past) (g : G
   pub can_make : (v : List (List ℕ)) → length v ≡ c.blocks → CanMake (job_at c past t) (progress_of past t g.unit o g.range) v
   unfolding job_by
   can_make v size = record {
-    unended = unended;
     within = omega (arith, size, range_inside);
     start = u.inside.low;
     has_compare = compare_there;

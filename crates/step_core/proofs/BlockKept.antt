@@ -25,7 +25,8 @@ use Rattle.block_exec.specs.Bytes.{block_at, put_at, volume_after, written_at}
 use Rattle.block_exec.specs.Progress.{Progress, found_by, needed, next_block, next_place}
 use Rattle.block_exec.specs.Units.{progress_of}
 use Rattle.block_exec.proofs.Parts.{written_at-unit_write}
-use Rattle.step_core.specs.Blocks.{part_of, read_of, with_part}
+use Rattle.job_table.specs.Keeping.{read_of}
+use Rattle.job_table.specs.Parts.{part_of, with_part}
 use Rattle.step_core.specs.Fields.{job_at, job_by, read_bytes_by, write_bytes_by}
 use Rattle.step_core.specs.Kept.{IsTable}
 use Rattle.step_core.proofs.BlockData.{IsUnit, place_within, range_inside, unended, write_part}
@@ -110,7 +111,7 @@ module _ (c : ConfigNumbers) (past : Past) (t : ℕ) (g : GrantLine) (o : Op) (u
 
   -- what is kept of it has the next block behind that
   pub read_now : (v : List (List ℕ)) → IsTable (medium past) c.blocks v
-      → read_of (job_at c past t) (progress_of past t g.unit o g.range) v (done_now past t g o).found
+      → read_of (job_at c past t).read (job_at c past t).slba (progress_of past t g.unit o g.range) v (done_now past t g o).found
       ≡ read_bytes_by (op (ticket past t)) (ticket past t) (bytes_read past t ++ cond (is_read_found (done_now past t g o).found) (medium past (next_block (progress_of past t g.unit o g.range))) [])
   unfolding job_by
   read_now v table =

@@ -1,6 +1,6 @@
 -- A Block that isn't refused: what the calls that make it require, what it answers, and the fields after it.
-use Rattle.std.proofs.Common.{◌≡◌, ℕ, suc, ◌-◌, ◌≤◌, Bool, true, false, cond, List, ◌∷◌, map, refl, sym, ap, ap₂, ◌∙◌, subst, Ok, Option, Some, None, arith, not, ◌==◌}
-use Rattle.std.specs.Prelude.{IfSome, MatchOption, is_none}
+use Rattle.std.proofs.Common.{◌≡◌, ℕ, suc, ◌-◌, Bool, true, false, cond, List, ◌∷◌, map, refl, sym, ap, ap₂, ◌∙◌, subst, Ok, Option, Some, None, not, ◌==◌}
+use Rattle.std.specs.Prelude.{is_none}
 use Rattle.nvme_model.specs.declared.array.Range.{Range}
 use Rattle.nvme_model.specs.declared.config.ConfigNumbers.{ConfigNumbers}
 use Rattle.nvme_model.specs.declared.entry.BlockLine.{BlockLine}
@@ -16,7 +16,7 @@ use Rattle.nvme_model.specs.Open.{open_units}
 use Rattle.nvme_model.specs.EntryBytes.{slba}
 use Rattle.nvme_model.specs.Operations.{op}
 use Rattle.nvme_model.specs.Refusals.{conditions, refusal}
-use Rattle.ticket_standing.specs.Standing.{standing}
+use Rattle.ticket_standing.specs.Standing.{left, standing}
 use Rattle.nvme_model.specs.Steps.{next_entry}
 use Rattle.nvme_model.specs.Tickets.{first_fields, in_flight, ticket}
 use Rattle.nvme_model.specs.Kept.{Kept}
@@ -28,23 +28,25 @@ use Rattle.range_reserve.specs.declared.held.Held.{Held}
 use Rattle.range_reserve.proofs.Granted.{held_beside-map}
 use Rattle.range_reserve.proofs.Rising.{filter-by_ticket}
 use Rattle.block_exec.specs.Bytes.{volume_after}
-use Rattle.block_exec.specs.Course.{next_done, stepped}
+use Rattle.block_exec.specs.Course.{next_done}
 use Rattle.block_exec.specs.Progress.{Progress}
 use Rattle.block_exec.specs.Units.{progress_of}
 use Rattle.block_exec.specs.declared.run.Done.{Done}
 use Rattle.rings.specs.Completions.{CompletionRing}
 use Rattle.rings.specs.Submissions.{SubmissionRing}
 use Rattle.job_table.specs.Jobs.{JobTable, job_of, replaced}
-use Rattle.job_table.specs.declared.job.Job.{Job}
-use Rattle.step_core.specs.Blocks.{CanMake, finds_equal, noted_job, part_of, read_of}
+use Rattle.job_table.specs.Keeping.{CanMake, Keeping, finds_equal, noted_job, read_of}
+use Rattle.job_table.specs.Parts.{part_of}
+use Rattle.ticket_course.specs.Stages.{IfOpen, is_open, unit_in}
+use Rattle.ticket_course.specs.declared.course.Stage.{Stage}
+use Rattle.ticket_course.specs.declared.course.Stage.TheVariants.{Open}
 use Rattle.step_core.specs.Fields.{completion_ring, job_at, job_by, submission_ring, write_bytes_by}
 use Rattle.step_core.specs.Kept.{IsKept, IsTable}
 use Rattle.step_core.specs.State.{Does, Room, State, TakesRoom, answer_of}
 use Rattle.step_core.specs.declared.answer.Answer.{Answer}
-use Rattle.step_core.proofs.BlockData.{IsUnit, can_make, done_same, finds_same, not_false, run_is, unit_found}
+use Rattle.step_core.proofs.BlockData.{IsUnit, can_make, done_same, finds_same, not_false, stage_is, unit_found}
 use Rattle.step_core.proofs.BlockKept.{read_now, volume_now}
-use Rattle.step_core.proofs.Blocked.{done_is, done_now, ended_is, entry_is, is_equal, job_now, line_now, run_now}
-use Rattle.step_core.proofs.Granting.{job_opened}
+use Rattle.step_core.proofs.Blocked.{done_is, done_now, ended_is, entry_is, is_equal, job_now, line_now}
 use Rattle.step_core.proofs.Moves.{job_found, jobs_moved, legal_after, stepped as next_kept}
 use Rattle.step_core.proofs.Tables.{IsTable-same}
 
@@ -60,17 +62,17 @@ completion_kept c past b q = refl
 
 -- the part of the data that is written, as the job has it
 data_written : (c : ConfigNumbers) (past : Past) (t : ℕ) (r : Range)
-    → part_of (job_at c past t).write (job_at c past t).range.slba r ≡ part_of (write_bytes_by (op (ticket past t)) (ticket past t)) (slba (first_fields (ticket past t))) r
+    → part_of (job_at c past t).write (job_at c past t).slba r ≡ part_of (write_bytes_by (op (ticket past t)) (ticket past t)) (slba (first_fields (ticket past t))) r
 unfolding job_by
 data_written c past t r = refl
 
--- ---- what making a Block says, by the job's run
+-- ---- what making a Block says, by the unit that is open
 
 -- the call that made it says so
-pub record IsMade (y : Job) (v : List (List ℕ)) (d : Done) (v' : List (List ℕ)) (y' : Job) : Type 0 where
-  pub done : IfSome y.run (λ p. d ≡ next_done p (finds_equal y p v))
-  pub volume : IfSome y.run (λ p. v' ≡ volume_after p v (part_of y.write y.range.slba p.range) d.found)
-  pub job : IfSome y.run (λ p. y' ≡ noted_job (record y { read = read_of y p v d.found }) (stepped p (finds_equal y p v)) d)
+pub record IsMade (y : Keeping) (v : List (List ℕ)) (d : Done) (v' : List (List ℕ)) (y' : Keeping) : Type 0 where
+  pub done : IfOpen y.course.stage (λ p. d ≡ next_done p (finds_equal y p v))
+  pub volume : IfOpen y.course.stage (λ p. v' ≡ volume_after p v (part_of y.write y.slba p.range) d.found)
+  pub job : IfOpen y.course.stage (λ p. y' ≡ noted_job y p v d.found)
 
 -- nothing refuses a Block of ticket t, in the fields where it is so in the value that contracts see
 pub block_seen : (c : ConfigNumbers) (past : Past) (n : ℕ) {w : Room} (x : State) (t : ℕ) (o : Option Why) → record { config = c; past = past; promised = n; room = w } ≡ x → o ≡ refusal x.config x.past (Step.Block t) → o ≡ None
@@ -84,53 +86,51 @@ module _ (c : ConfigNumbers) (past : Past) (v : List (List ℕ)) (s : List Submi
       ap (λ (x : JobTable). job_of x.jobs t) k.jobs ∙ job_found c past t k.run.legal ∙ ap (λ b. cond b (Some (job_at c past t)) None) (not_false (in_flight past t) rows.0)
 
   -- its ticket has a job
-  pub has_job : (o : Option Job) → o ≡ job_of j.jobs t → o ≡ None → ⊥
+  pub has_job : (o : Option Keeping) → o ≡ job_of j.jobs t → o ≡ None → ⊥
   has_job o f h = absurd (let w : None ≡ Some (job_at c past t) = sym h ∙ f ∙ there in cc)
 
-  module _ (y : Job) (f : Some y ≡ job_of j.jobs t) where
+  module _ (y : Keeping) (f : Some y ≡ job_of j.jobs t) where
     job_is : y ≡ job_at c past t
     job_is = some_inj (f ∙ there)
       where
         some_inj : Some y ≡ Some (job_at c past t) → y ≡ job_at c past t
         some_inj h = cc
 
-    opened_is : (g : GrantLine) (o : Op) → IsUnit c past t g o → y.opened ≡ suc g.unit
-    opened_is g o u = ap (λ (x : Job). x.opened) job_is ∙ job_opened c (standing past t) ∙ sym u.last
+    stands_open : (g : GrantLine) (o : Op) → IsUnit c past t g o → y.course.stage ≡ Open (progress_of past t g.unit o g.range) g.unit (left c (standing past t))
+    stands_open g o u = ap (λ (x : Keeping). x.course.stage) job_is ∙ stage_is c past t k.run.legal g o u
 
-    -- a unit of it was opened
-    pub some_opened : 1 ≤ y.opened
-    some_opened = let u = unit_found c past t k.run.legal none in omega (arith, opened_is u.0 u.1 u.2)
+    -- a unit of it is open
+    pub opened : is_open y.course.stage ≡ true
+    opened = let u = unit_found c past t k.run.legal none in ap is_open (stands_open u.0 u.1 u.2)
 
     -- its next Block can be made
-    pub ready : MatchOption y.run ⊥ (λ p. CanMake y p v)
+    pub ready : IfOpen y.course.stage (λ p. CanMake y p v)
     ready =
         let u = unit_found c past t k.run.legal none in
-        subst (λ (x : Job). MatchOption x.run ⊥ (λ p. CanMake x p v)) (sym job_is)
-        (subst (λ (w : Option Progress). MatchOption w ⊥ (λ p. CanMake (job_at c past t) p v)) (sym (run_is c past t k.run.legal u.0 u.1 u.2)) (can_make c past t k.run.legal u.0 u.1 u.2 v k.volume.size))
+        subst (λ (x : Keeping). IfOpen x.course.stage (λ p. CanMake x p v)) (sym job_is)
+        (subst (λ (s : Stage). IfOpen s (λ p. CanMake (job_at c past t) p v)) (sym (stage_is c past t k.run.legal u.0 u.1 u.2)) (can_make c past t k.run.legal u.0 u.1 u.2 v k.volume.size))
 
-    module _ (d : Done) (v' : List (List ℕ)) (y' : Job) (m : IsMade y v d v' y') where
-      -- what a clause says of the job's run it says of the open unit
-      at_run : (g : GrantLine) (o : Op) → IsUnit c past t g o → (P : Job → Progress → Type 0) → IfSome y.run (P y) → P (job_at c past t) (progress_of past t g.unit o g.range)
+    module _ (n' : ℕ) (number : n' ≡ unit_in y.course.stage) (d : Done) (v' : List (List ℕ)) (y' : Keeping) (m : IsMade y v d v' y') where
+      -- what a clause says of the job's open unit it says of the ticket's
+      at_run : (g : GrantLine) (o : Op) → IsUnit c past t g o → (P : Keeping → Progress → Type 0) → IfOpen y.course.stage (P y) → P (job_at c past t) (progress_of past t g.unit o g.range)
       at_run g o u P h =
-          subst (λ (w : Option Progress). IfSome w (P (job_at c past t))) (run_is c past t k.run.legal g o u)
-          (subst (λ (x : Job). IfSome x.run (P x)) job_is h)
+          subst (λ (s : Stage). IfOpen s (P (job_at c past t))) (stage_is c past t k.run.legal g o u)
+          (subst (λ (x : Keeping). IfOpen x.course.stage (P x)) job_is h)
 
-      same : (g : GrantLine) (o : Op) → IsUnit c past t g o → (next_done (progress_of past t g.unit o g.range) (finds_equal (job_at c past t) (progress_of past t g.unit o g.range) v) ≡ done_now past t g o)
-          × (stepped (progress_of past t g.unit o g.range) (finds_equal (job_at c past t) (progress_of past t g.unit o g.range) v) ≡ run_now past t g o)
+      same : (g : GrantLine) (o : Op) → IsUnit c past t g o → next_done (progress_of past t g.unit o g.range) (finds_equal (job_at c past t) (progress_of past t g.unit o g.range) v) ≡ done_now past t g o
       same g o u =
           let p : Progress = progress_of past t g.unit o g.range in
           done_same p (finds_equal (job_at c past t) p v) (is_equal past t g o) (finds_same c past t k.run.legal g o u v k.volume)
 
       says : (g : GrantLine) (o : Op) → IsUnit c past t g o → d ≡ done_now past t g o
-      says g o u = at_run g o u (λ x p. d ≡ next_done p (finds_equal x p v)) m.done ∙ (same g o u).0
+      says g o u = at_run g o u (λ x p. d ≡ next_done p (finds_equal x p v)) m.done ∙ same g o u
 
-      line_is : (g : GrantLine) (o : Op) → IsUnit c past t g o → Entry.Block (record { ticket = t; unit = y.opened - 1; lba = d.lba; found = d.found; effect = d.effect }) ≡ Entry.Block (line_now past t g o)
+      line_is : (g : GrantLine) (o : Op) → IsUnit c past t g o → Entry.Block (record { ticket = t; unit = n'; lba = d.lba; found = d.found; effect = d.effect }) ≡ Entry.Block (line_now past t g o)
       line_is g o u =
-          let number : y.opened - 1 ≡ g.unit = omega (arith, opened_is g o u) in
-          (λ z. Entry.Block (record { ticket = t; unit = number z; lba = (says g o u z).lba; found = (says g o u z).found; effect = (says g o u z).effect }))
+          (λ z. Entry.Block (record { ticket = t; unit = (number ∙ ap unit_in (stands_open g o u)) z; lba = (says g o u z).lba; found = (says g o u z).found; effect = (says g o u z).effect }))
 
       -- its line is the next entry
-      pub next_is : Entry.Block (record { ticket = t; unit = y.opened - 1; lba = d.lba; found = d.found; effect = d.effect }) ≡ next_entry c past (Step.Block t)
+      pub next_is : Entry.Block (record { ticket = t; unit = n'; lba = d.lba; found = d.found; effect = d.effect }) ≡ next_entry c past (Step.Block t)
       next_is = let u = unit_found c past t k.run.legal none in line_is u.0 u.1 u.2 ∙ entry_is c past t u.0 u.1 u.2
 
       legal_then : (g : GrantLine) (o : Op) → IsUnit c past t g o → IsLegal c (Entry.Block (line_now past t g o) ∷ past)
@@ -145,14 +145,14 @@ module _ (c : ConfigNumbers) (past : Past) (v : List (List ℕ)) (s : List Submi
 
       -- so the step is done
       pub block_does : (x : State) (p p' : ℕ) (w w' : Room) (h past' : Past) → record { config = c; past = past; promised = p; room = w } ≡ x → h ≡ past
-          → past' ≡ Entry.Block (record { ticket = t; unit = y.opened - 1; lba = d.lba; found = d.found; effect = d.effect }) ∷ h → p' ≡ p - 1 → TakesRoom (Step.Block t) w w'
+          → past' ≡ Entry.Block (record { ticket = t; unit = n'; lba = d.lba; found = d.found; effect = d.effect }) ∷ h → p' ≡ p - 1 → TakesRoom (Step.Block t) w w'
           → Does x (Step.Block t) (Ok (Answer.Blocked d)) (record { config = c; past = past'; promised = p'; room = w' })
       block_does x p p' w w' h past' view same_past is_past is_left takes =
           subst (λ (y : State). Does y (Step.Block t) (Ok (Answer.Blocked d)) (record { config = c; past = past'; promised = p'; room = w' })) view
           (none, answer_is, (λ z. record { config = c; past = (is_past ∙ ap₂ (λ (e : Entry) (w : Past). e ∷ w) next_is same_past) z; promised = is_left z; room = w' }), takes)
 
       -- the fields after it
-      pub kept : (h past' : Past) (r' : List Held) → h ≡ past → past' ≡ Entry.Block (record { ticket = t; unit = y.opened - 1; lba = d.lba; found = d.found; effect = d.effect }) ∷ h → r' ≡ cond d.ended (held_beside r t) r
+      pub kept : (h past' : Past) (r' : List Held) → h ≡ past → past' ≡ Entry.Block (record { ticket = t; unit = n'; lba = d.lba; found = d.found; effect = d.effect }) ∷ h → r' ≡ cond d.ended (held_beside r t) r
           → IsKept c past' v' s q (record { limit = j.limit; jobs = replaced j.jobs t y' }) r' n
       kept h past' r' same_past is_past is_r = let u = unit_found c past t k.run.legal none in by u.0 u.1 u.2
         where
@@ -177,17 +177,17 @@ module _ (c : ConfigNumbers) (past : Past) (v : List (List ℕ)) (s : List Submi
                   → v' ≡ volume_after (progress_of past t g.unit o g.range) v (part_of (write_bytes_by (op (ticket past t)) (ticket past t)) (slba (first_fields (ticket past t))) g.range) (done_now past t g o).found
               written g o u =
                   let p : Progress = progress_of past t g.unit o g.range in
-                  at_run g o u (λ x w. v' ≡ volume_after w v (part_of x.write x.range.slba w.range) d.found) m.volume
-                  ∙ ap (λ (e : Done). volume_after p v (part_of (job_at c past t).write (job_at c past t).range.slba g.range) e.found) (says g o u)
+                  at_run g o u (λ x w. v' ≡ volume_after w v (part_of x.write x.slba w.range) d.found) m.volume
+                  ∙ ap (λ (e : Done). volume_after p v (part_of (job_at c past t).write (job_at c past t).slba g.range) e.found) (says g o u)
                   ∙ ap (λ (w : List ℕ). volume_after p v w (done_now past t g o).found) (data_written c past t g.range)
 
               own : (g : GrantLine) (o : Op) → IsUnit c past t g o → y' ≡ job_at c (Entry.Block (line_now past t g o) ∷ past) t
               own g o u =
                   let p : Progress = progress_of past t g.unit o g.range in
-                  let x : Job = job_at c past t in
-                  at_run g o u (λ x p. y' ≡ noted_job (record x { read = read_of x p v d.found }) (stepped p (finds_equal x p v)) d) m.job
-                  ∙ (λ z. noted_job (record x { read = read_of x p v (says g o u z).found }) ((same g o u).1 z) (says g o u z))
-                  ∙ job_now c past t g o u (legal_then g o u) k.run.legal (read_of x p v (done_now past t g o).found) (read_now c past t g o u k.run.legal v k.volume)
+                  let x : Keeping = job_at c past t in
+                  at_run g o u (λ x p. y' ≡ noted_job x p v d.found) m.job
+                  ∙ (λ z. noted_job x p v (says g o u z).found)
+                  ∙ job_now c past t g o u (legal_then g o u) k.run.legal (read_of x.read x.slba p v (done_now past t g o).found) (read_now c past t g o u k.run.legal v k.volume)
 
               held_now : (g : GrantLine) (o : Op) → IsUnit c past t g o → (b : Bool) → (done_now past t g o).ended ≡ b
                   → cond b (held_beside (by_ticket (map held_of (open_units past))) t) (by_ticket (map held_of (open_units past)))

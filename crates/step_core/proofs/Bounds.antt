@@ -1,8 +1,8 @@
 -- Where the blocks of a ticket lie, and how many units they make.
-use Rattle.std.proofs.Common.{◌≡◌, ℕ, ◌+◌, ◌≤◌, ◌<◌, ◌^◌, Bool, true, false, cond, List, [], ◌∷◌, length, ap, Option, Some, None, is_some, arith, ltb-false, slice_get}
+use Rattle.std.proofs.Common.{◌≡◌, ℕ, ◌+◌, ◌≤◌, Bool, true, false, cond, ap, Option, Some, None, is_some, arith, ltb-false, slice_get}
 use Rattle.std.specs.Prelude.{is_none}
 use Rattle.std.proofs.lemmas.Bool.{or_parts}
-use Rattle.std.proofs.lemmas.List.Sums.{sum_by-cons, sum_by-take-drop}
+use Rattle.std.proofs.lemmas.List.Sums.{sum_by-take-drop}
 use Rattle.nvme_model.specs.declared.array.Range.{Range}
 use Rattle.nvme_model.specs.declared.config.AtomicParameters.{AtomicParameters}
 use Rattle.nvme_model.specs.declared.config.ConfigNumbers.{ConfigNumbers}
@@ -11,7 +11,6 @@ use Rattle.nvme_model.specs.Config.{config_fault, config_faults}
 use Rattle.nvme_model.specs.EntryBytes.{blocks, slba}
 use Rattle.nvme_model.specs.History.{Past}
 use Rattle.nvme_model.specs.Legal.{IsLegal}
-use Rattle.nvme_model.specs.Open.{grants_of}
 use Rattle.nvme_model.specs.Operations.{op, units, units_by}
 use Rattle.ticket_standing.specs.Standing.{Standing, had, left, remaining, standing}
 use Rattle.nvme_model.specs.Tickets.{first_fields, ticket}
@@ -19,9 +18,9 @@ use Rattle.nvme_model.proofs.Checked.{ticket_checked}
 use Rattle.nvme_model.proofs.Granted.{units_some}
 use Rattle.ticket_standing.proofs.Left.{blocks_of_all}
 use Rattle.ticket_standing.proofs.Lengths.{units_lie}
-use Rattle.nvme_model.proofs.Lists.{Each, each_get}
+use Rattle.nvme_model.proofs.Lists.{each_get}
 use Rattle.nvme_model.proofs.Rules.{none_holds}
-use Rattle.nvme_model.proofs.StepCounts.{cut_sum, grants_within}
+use Rattle.nvme_model.proofs.StepCounts.{cut_sum}
 use Rattle.block_exec.specs.Progress.{IsRange}
 
 -- a volume has 65,536 blocks at most
@@ -39,10 +38,6 @@ units_sum u (Some Op.Read) s n = omega (arith, cut_sum u s n)
 units_sum u (Some Op.Compare) s n = omega (arith, cut_sum u s n)
 units_sum u (Some Op.Write) s n = omega (arith, cut_sum u s n)
 units_sum u (Some Op.WriteZeroes) s n = omega (arith, cut_sum u s n)
-
-few_units : (rs : List Range) → Each (λ r. 1 ≤ r.blocks) rs → length rs ≤ blocks_of_all rs
-few_units [] e = omega arith
-few_units (r ∷ rs) e = omega (arith, few_units rs e.1, e.0, sum_by-cons (λ (x : Range). x.blocks) r rs)
 
 -- what was opened and what wasn't are no more than the command's blocks
 pub had_remaining : (c : ConfigNumbers) (s : Standing) → had c s + remaining c s ≤ blocks (first_fields s.ticket)
@@ -63,29 +58,11 @@ module _ (c : ConfigNumbers) (past : Past) (t : ℕ) (h : IsLegal c past) (f : c
   pub command_within : slba (first_fields (ticket past t)) + blocks (first_fields (ticket past t)) ≤ 65536
   command_within = omega (arith, (ticket_checked c past t h some).first.inside, volume_few c f)
 
-  -- and those that are left
-  pub left_within : (left c (standing past t)).slba + (left c (standing past t)).blocks ≤ 65536
-  left_within = omega (arith, had_remaining c (standing past t), left_few c (standing past t), command_within)
-
-  -- and are few
+  -- those that are left are few
   pub left_short : (left c (standing past t)).blocks ≤ 256
   left_short = omega (arith, had_remaining c (standing past t), left_few c (standing past t), (ticket_checked c past t h some).first.few)
 
-  -- it has few units
-  pub opened_few : grants_of past t + 1 < 2 ^ 64
-  opened_few =
-      let k = ticket past t in
-      let rs = units c k in
-      let one : 1 ≤ blocks (first_fields k) = omega arith in
-      omega (
-        arith,
-        grants_within c past t h,
-        few_units rs (units_some c.atomic (op k) (slba (first_fields k)) (blocks (first_fields k)) one),
-        units_sum c.atomic (op k) (slba (first_fields k)) (blocks (first_fields k)),
-        (ticket_checked c past t h some).first.few,
-      )
-
-  -- each of them is a range of blocks
+  -- each of its units is a range of blocks
   pub unit_range_is : (n : ℕ) (r : Range) → slice_get (units c (ticket past t)) n ≡ Some r → IsRange r
   unit_range_is n r e =
       let k = ticket past t in

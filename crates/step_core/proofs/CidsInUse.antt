@@ -15,7 +15,7 @@ use Rattle.nvme_model.specs.declared.submission.Submission.{Submission}
 use Rattle.ticket_standing.proofs.Counts.{in_use_flying, owing}
 use Rattle.ticket_standing.proofs.InUse.{SameIn}
 use Rattle.job_table.specs.Jobs.{jobs_by}
-use Rattle.job_table.specs.declared.job.Job.{Job}
+use Rattle.job_table.specs.Keeping.{Keeping}
 use Rattle.job_table.specs.declared.jobs.InFlight.{InFlight}
 use Rattle.step_core.specs.Fetches.{cids_on, job_cids}
 use Rattle.step_core.specs.Fields.{job_at, job_by}
@@ -40,10 +40,10 @@ put_two xs n a b l =
     ∙ append_assoc (take n xs) (a ∷ []) (b ∷ [])
 
 -- both CIDs of a job
-pub put_both : (xs : List ℕ) (n a b q : ℕ) (j : Job) → n + 2 ≤ length xs → j.queue ≡ q → slice_get j.cids 0 ≡ Some a → slice_get j.cids 1 ≡ Some b → length j.cids ≤ 2
+pub put_both : (xs : List ℕ) (n a b q : ℕ) (j : Keeping) → n + 2 ≤ length xs → j.queue ≡ q → slice_get j.course.cids 0 ≡ Some a → slice_get j.course.cids 1 ≡ Some b → length j.course.cids ≤ 2
     → take (n + 2) (set (set xs n a) (n + 1) b) ≡ take n xs ++ job_cids q j
 put_both xs n a b q j l on e f most =
-    put_two xs n a b l ∙ ap (λ (ys : List ℕ). take n xs ++ ys) (sym (two_of j.cids a b e f most) ∙ sym (ap (λ x. cond x j.cids []) (eq-eqb j.queue q on)))
+    put_two xs n a b l ∙ ap (λ (ys : List ℕ). take n xs ++ ys) (sym (two_of j.course.cids a b e f most) ∙ sym (ap (λ x. cond x j.course.cids []) (eq-eqb j.queue q on)))
 
 -- ---- those of all jobs
 
@@ -60,7 +60,7 @@ flat_append q (x ∷ xs) e =
     ap (λ (ys : List ℕ). job_cids q x.job ++ ys) (flat_append q xs e) ∙ sym (append_assoc (job_cids q x.job) (cids_on q xs) (job_cids q e.job))
 
 -- with those of the next job
-pub cids_more : (q i t : ℕ) (j : Job) (jobs : List InFlight) (xs ys : List ℕ) (n m : ℕ) → slice_get jobs i ≡ Some (record { ticket = t; job = j }) → take n xs ≡ cids_on q (take i jobs)
+pub cids_more : (q i t : ℕ) (j : Keeping) (jobs : List InFlight) (xs ys : List ℕ) (n m : ℕ) → slice_get jobs i ≡ Some (record { ticket = t; job = j }) → take n xs ≡ cids_on q (take i jobs)
     → take m ys ≡ take n xs ++ job_cids q j → take m ys ≡ cids_on q (take (i + 1) jobs)
 cids_more q i t j jobs xs ys n m there before more =
     more ∙ ap (λ (zs : List ℕ). zs ++ job_cids q j) before

@@ -36,11 +36,12 @@ use Rattle.ticket_standing.proofs.Waiting.{fetch_waits}
 use Rattle.fused_match.specs.Judged.{operation_in, verdict_by}
 use Rattle.fused_match.specs.declared.judged.Judged.{Judged}
 use Rattle.job_table.specs.Jobs.{JobTable, all_below, jobs_by}
-use Rattle.job_table.specs.declared.job.Job.{Job}
+use Rattle.job_table.specs.Keeping.{Keeping}
 use Rattle.job_table.specs.declared.jobs.InFlight.{InFlight}
 use Rattle.job_table.proofs.Tables.{all_below-jobs_by, push-jobs_by}
 use Rattle.range_reserve.specs.Reserved.{by_ticket, held_of}
 use Rattle.range_reserve.specs.declared.held.Held.{Held}
+use Rattle.ticket_course.specs.Stages.{IsSound}
 use Rattle.rings.specs.Completions.{CompletionRing}
 use Rattle.rings.specs.Submissions.{SubmissionRing, advanced}
 use Rattle.step_core.specs.Fetches.{IsJudged, commands_of, first_job, kind_in, read_first}
@@ -50,7 +51,7 @@ use Rattle.step_core.specs.State.{Does, Room, State, TakesRoom, work_of}
 use Rattle.step_core.specs.Works.{IsKind, TicketWork}
 use Rattle.step_core.specs.declared.answer.Answer.{Answer}
 use Rattle.step_core.specs.declared.work.Kind.{Kind}
-use Rattle.step_core.proofs.FetchedJob.{Names, fresh_job, kind_fits, kind_is, pair_second, ticket_by}
+use Rattle.step_core.proofs.FetchedJob.{Names, fresh_job, kind_fits, kind_is, pair_second, sound, ticket_by}
 use Rattle.step_core.proofs.Fetching.{blocks_most, full_is}
 use Rattle.step_core.proofs.Moves.{legal_after, stepped}
 use Rattle.step_core.proofs.Tables.{IsTable-same, IsTable-set}
@@ -186,6 +187,13 @@ module _ (c : ConfigNumbers) (past : Past) (v : List (List ℕ)) (s : List Submi
       let two = pair_second t x (take (taken (verdict_by x)) (waiting past t)) names e in
       second_some first second (waiting past t) (commands_are first second ring m there is took ∙ ap (λ n. take n (waiting past t)) two) (omega (arith, two, taken_waits))
 
+  -- each of them has a CID
+  pub cids_are : (first : Submission) (second : Option Submission) (ring : SubmissionRing) (m : ℕ) → ring ≡ get_or s (t - 1) ring → m ≡ taken (verdict_by x) → commands_of first second ≡ take m ring.waiting
+      → length (commands_of first second) ≡ taken (verdict_by x)
+  cids_are first second ring m there is took =
+      let all = commands_are first second ring m there is took in
+      omega (arith, ap (λ (cs : List Submission). length cs) all, length-take (taken (verdict_by x)) (waiting past t), taken_waits)
+
   -- its number is above all that fly
   pub is_above : all_below (n + 1) j.jobs ≡ true
   is_above =
@@ -210,6 +218,10 @@ module _ (c : ConfigNumbers) (past : Past) (v : List (List ℕ)) (s : List Submi
       subst₂ IsKind (sym e) (sym f) (kind_fits c t x (take (taken (verdict_by x)) (waiting past t)) (blocks_most c k.accepted) names
       (subst (λ (y : Ticket). is_some (op y) ≡ true → TicketChecked c y) ticket_here (ticket_checked c (Entry.Fetch (fetch_line past t x) ∷ past) (Tickets.tickets past + 1) legal)))
 
+  -- and what was judged can be
+  pub sound_is : IsSound x
+  sound_is = sound c.atomic t x (take (taken (verdict_by x)) (waiting past t)) names (work_fits c.atomic (kind_in x) refl refl)
+
   -- ---- what it leaves
 
   -- it has a command
@@ -217,7 +229,7 @@ module _ (c : ConfigNumbers) (past : Past) (v : List (List ℕ)) (s : List Submi
   some_taken = omega (arith, taken_waits, taken_some (verdict_by x), length-take (taken (verdict_by x)) (waiting past t))
 
   -- its job
-  job_is : (first : Submission) (second : Option Submission) (read : List ℕ) (job : Job) → commands_of first second ≡ take (taken (verdict_by x)) (waiting past t) → read ≡ read_first x → job ≡ first_job t x first second read
+  job_is : (first : Submission) (second : Option Submission) (read : List ℕ) (job : Keeping) → commands_of first second ≡ take (taken (verdict_by x)) (waiting past t) → read ≡ read_first x → job ≡ first_job t x first second read
       → job ≡ job_at c (Entry.Fetch (fetch_line past t x) ∷ past) (Tickets.tickets past + 1)
   job_is first second read job commands room made =
       made ∙ fresh_job c t x first second read (subst (λ cs. Names x (ticket_by t x cs)) (sym commands) names) room
@@ -225,7 +237,7 @@ module _ (c : ConfigNumbers) (past : Past) (v : List (List ℕ)) (s : List Submi
       ∙ ap (job_by c) (sym (fetch_here c past (fetch_line past t x) legal))
 
   -- the table with its job
-  table_is : (job : Job) (later : JobTable) → job ≡ job_at c (Entry.Fetch (fetch_line past t x) ∷ past) (Tickets.tickets past + 1) → later ≡ record j { jobs = j.jobs ++ record { ticket = n + 1; job = job } ∷ [] }
+  table_is : (job : Keeping) (later : JobTable) → job ≡ job_at c (Entry.Fetch (fetch_line past t x) ∷ past) (Tickets.tickets past + 1) → later ≡ record j { jobs = j.jobs ++ record { ticket = n + 1; job = job } ∷ [] }
       → later ≡ job_table c (Entry.Fetch (fetch_line past t x) ∷ past)
   table_is job later is put =
       let e : Past = Entry.Fetch (fetch_line past t x) ∷ past in
@@ -241,7 +253,7 @@ module _ (c : ConfigNumbers) (past : Past) (v : List (List ℕ)) (s : List Submi
   ring_after ring later m there is moved = moved ∙ ap₂ advanced (ring_is ring there) is ∙ ring_here c past (fetch_line past t x)
 
   -- each field is what the history says
-  pub fetch_kept : (first : Submission) (second : Option Submission) (read : List ℕ) (job : Job) (ring later : SubmissionRing) (m : ℕ) (table : JobTable) (w : Verdict) (now then : Past)
+  pub fetch_kept : (first : Submission) (second : Option Submission) (read : List ℕ) (job : Keeping) (ring later : SubmissionRing) (m : ℕ) (table : JobTable) (w : Verdict) (now then : Past)
       → ring ≡ get_or s (t - 1) ring → m ≡ taken (verdict_by x) → commands_of first second ≡ take m ring.waiting → later ≡ advanced ring m → read ≡ read_first x → job ≡ first_job t x first second read
       → table ≡ record j { jobs = j.jobs ++ record { ticket = n + 1; job = job } ∷ [] } → w ≡ verdict_by x → now ≡ past → then ≡ Entry.Fetch (record { queue = t; ticket = n + 1; verdict = w }) ∷ now
       → IsKept c then v (set s (t - 1) later) q table r (n + 1)

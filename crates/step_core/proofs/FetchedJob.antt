@@ -1,13 +1,10 @@
 -- The job and the work of a ticket that was just fetched.
-use Rattle.std.proofs.Common.{◌≡◌, ℕ, ◌+◌, ◌-◌, ◌*◌, ◌≤◌, ◌&&◌, Bool, true, false, cond, List, [], ◌∷◌, length, replicate, Option, Some, None, is_some, refl, sym, ap, ap₂, ◌∙◌, subst, inl, inr, arith, add-zero}
-use Rattle.std.specs.List.{sum_by}
-use Rattle.std.proofs.lemmas.Bool.{lt-leb}
-use Rattle.std.proofs.lemmas.List.Sums.{sum_by-cons}
+use Rattle.std.proofs.Common.{◌≡◌, ℕ, ◌+◌, ◌-◌, ◌*◌, ◌≤◌, Bool, true, false, cond, List, [], replicate, Option, Some, None, is_some, refl, sym, ap, ap₂, ◌∙◌, inl, inr, arith}
 use Rattle.nvme_model.specs.Cells.{pair_fits}
 use Rattle.nvme_model.specs.Commands.{is_compare, is_read, is_write, is_write_zeroes}
 use Rattle.nvme_model.specs.EntryBytes.{Sqe, blocks, slba}
-use Rattle.nvme_model.specs.Operations.{has_compare, is_pair, op, op_of_fields, units, units_by}
-use Rattle.ticket_standing.specs.Standing.{fresh, has_run, left, on_success, owed_running, still_owed}
+use Rattle.nvme_model.specs.Operations.{has_compare, is_pair, op, op_of_fields}
+use Rattle.ticket_standing.specs.Standing.{fresh}
 use Rattle.nvme_model.specs.Tickets.{Ticket, cids, first_fields}
 use Rattle.nvme_model.specs.Verdict.{taken}
 use Rattle.nvme_model.specs.declared.array.Range.{Range}
@@ -16,13 +13,14 @@ use Rattle.nvme_model.specs.declared.config.ConfigNumbers.{ConfigNumbers}
 use Rattle.nvme_model.specs.declared.operation.Op.{Op}
 use Rattle.nvme_model.specs.declared.submission.Submission.{Submission}
 use Rattle.nvme_model.proofs.Checked.{TicketChecked}
-use Rattle.nvme_model.proofs.StepCounts.{cut_sum}
 use Rattle.nvme_model.proofs.Written.{clash}
 use Rattle.block_exec.specs.Progress.{IsRange}
 use Rattle.fused_match.specs.Judged.{NamesBlocks, operation_in, verdict_by}
 use Rattle.fused_match.specs.declared.judged.Judged.{Judged}
 use Rattle.fused_match.specs.declared.judged.Judged.TheVariants as judged
-use Rattle.step_core.specs.Fetches.{commands_of, first_job, kind_in, left_by, owed_first, read_first, write_by}
+use Rattle.ticket_course.specs.Stages.{IsSound, commands_in}
+use Rattle.ticket_course.proofs.Fetched.{fetched}
+use Rattle.step_core.specs.Fetches.{commands_of, first_job, kind_in, read_first, write_by}
 use Rattle.step_core.specs.Fields.{job_by, read_bytes_by, write_bytes_by}
 use Rattle.step_core.specs.State.{kind_by, kind_of, ticket_range}
 use Rattle.step_core.specs.Works.{IsKind}
@@ -102,53 +100,22 @@ kind_fits c q (judged.Pair r) cs most h check =
       ap₂ (λ (s n : ℕ). pair_fits c.atomic s n) h.range.0 h.range.1 ∙ (checked.pair refl).fits,
     )
 
--- ---- its job
-
--- the units of an operation are the blocks of its range
-units_sum : (u : AtomicParameters) (o : Option Op) (s n : ℕ) → cond (is_some o) n 0 ≡ sum_by (λ (r : Range). r.blocks) (units_by u o s n)
-units_sum u None s n = refl
-units_sum u (Some Op.Pair) s n = omega (arith, sum_by-cons (λ (x : Range). x.blocks) (record { slba = s; blocks = n }) [])
-units_sum u (Some Op.Read) s n = sym (cut_sum u s n)
-units_sum u (Some Op.Compare) s n = sym (cut_sum u s n)
-units_sum u (Some Op.Write) s n = sym (cut_sum u s n)
-units_sum u (Some Op.WriteZeroes) s n = sym (cut_sum u s n)
-
--- all its blocks are left
-left_is : (c : ConfigNumbers) (k : Ticket) (o : Option Op) → o ≡ op k → left_by o (ticket_range k) ≡ left c (fresh k)
-left_is c k o e =
-    let s = slba (first_fields k) in
-    let n = blocks (first_fields k) in
-    let b : cond (is_some o) n 0 ≡ sum_by (λ (r : Range). r.blocks) (units c k) = ap (λ x. cond (is_some x) n 0) e ∙ units_sum c.atomic (op k) s n in
-    (λ i. record { slba = sym (add-zero s) i; blocks = b i })
-
--- where there are blocks there is a range
-some_by_sum : (rs : List Range) → 1 ≤ sum_by (λ (r : Range). r.blocks) rs → 1 ≤ length rs
-some_by_sum [] l = absurd (omega (arith, l))
-some_by_sum (r ∷ rs) l = omega arith
-
--- an operation has a unit, so it hasn't run
-unrun : (c : ConfigNumbers) (k : Ticket) (o : Op) → Some o ≡ op k → has_run c (fresh k) ≡ false
-unrun c k o e =
-    let s = slba (first_fields k) in
-    let n = blocks (first_fields k) in
-    let sum : n ≡ sum_by (λ (r : Range). r.blocks) (units c k) = ap (λ x. cond (is_some x) n 0) e ∙ units_sum c.atomic (op k) s n in
-    let some : 1 ≤ length (units c k) = some_by_sum (units c k) (subst (λ m. 1 ≤ m) sum (positive _)) in
-    ap (λ b. b && true) (lt-leb (length (units c k)) 0 some)
+-- what was judged can be
+pub sound : (u : AtomicParameters) (q : ℕ) (j : Judged) (cs : List Submission) → Names j (ticket_by q j cs) → IsKind u (kind_in j) → IsSound j
+sound u q judged.Flush cs h fits = tt
+sound u q (judged.Single o r) cs h fits = (one_command o (ap is_pair h.operation ∙ alone (first_fields (ticket_by q (judged.Single o r) cs))), fits)
   where
-    positive : (m : ℕ) → 1 ≤ m + 1
-    positive m = omega arith
+    one_command : (o : Op) → is_pair (Some o) ≡ false → commands_in o ≡ 1
+    one_command Op.Read e = refl
+    one_command Op.Compare e = refl
+    one_command Op.Write e = refl
+    one_command Op.WriteZeroes e = refl
+    one_command Op.Pair e = absurd cc
+sound u q (judged.Pair r) cs h fits = fits.0
+sound u q (judged.Failed s) cs h fits = tt
+sound u q (judged.FailedPair s r) cs h fits = tt
 
--- an operation owes nothing before it runs
-nothing_owed : (c : ConfigNumbers) (k : Ticket) (o : Op) → Some o ≡ op k → [] ≡ owed_running c (fresh k) (op k)
-nothing_owed c k o e = sym (ap (owed_running c (fresh k)) (sym e) ∙ ap (λ b. cond b (on_success o) []) (unrun c k o e))
-
--- what it owes at once
-owed_is : (c : ConfigNumbers) (q : ℕ) (j : Judged) (cs : List Submission) → operation_in j ≡ op (ticket_by q j cs) → owed_first j ≡ still_owed c (fresh (ticket_by q j cs))
-owed_is c q judged.Flush cs e = ap (owed_running c (fresh (ticket_by q judged.Flush cs))) e
-owed_is c q (judged.Single o r) cs e = nothing_owed c (ticket_by q (judged.Single o r) cs) o e
-owed_is c q (judged.Pair r) cs e = nothing_owed c (ticket_by q (judged.Pair r) cs) Op.Pair e
-owed_is c q (judged.Failed s) cs e = refl
-owed_is c q (judged.FailedPair s r) cs e = refl
+-- ---- its job
 
 -- the data that it writes
 write_is : (o : Option Op) (q : ℕ) (j : Judged) (first : Submission) (second : Option Submission) → write_by o first second ≡ write_bytes_by o (ticket_by q j (commands_of first second))
@@ -188,13 +155,8 @@ fresh_job c q j first second read h room =
     let e = h.operation in
     (λ i. record {
       queue = q;
-      cids = cids k;
-      op = e i;
-      range = ticket_range k;
-      left = left_is c k (operation_in j) e i;
-      opened = 0;
-      run = None;
-      owed = owed_is c q j (commands_of first second) e i;
+      course = record { stage = sym (fetched c k j refl h.operation h.range) i; cids = cids k };
+      slba = slba (first_fields k);
       compare = ap (λ o. cond (has_compare o) first.payload []) e i;
       write = (write_is (operation_in j) q j first second ∙ ap (λ o. write_bytes_by o k) e) i;
       read = (room ∙ read_is q j (commands_of first second) h) i;

@@ -1,25 +1,25 @@
 -- A Grant that isn't refused: what the calls that make it require, and the fields after it.
-use Rattle.std.proofs.Common.{◌≡◌, ℕ, zero, suc, ◌+◌, ◌≤◌, ◌<◌, ◌^◌, true, false, ◌&&◌, cond, List, [], ◌∷◌, drop, length, map, option_map, refl, sym, ap, ◌∙◌, subst, Option, Some, None, is_some, is_none, arith, nat_le, slice_get, ◌==◌}
-use Rattle.std.proofs.lemmas.Bool.{and_right, lt-leb, or_parts}
+use Rattle.std.proofs.Common.{◌≡◌, ℕ, zero, suc, ◌+◌, true, false, cond, List, ◌∷◌, drop, map, option_map, refl, sym, ap, ◌∙◌, subst, Option, Some, None, is_some, slice_get, ◌==◌}
+use Rattle.std.proofs.lemmas.Bool.{or_parts}
 use Rattle.nvme_model.specs.declared.array.Range.{Range}
 use Rattle.nvme_model.specs.declared.config.AtomicParameters.{AtomicParameters}
 use Rattle.nvme_model.specs.declared.config.ConfigNumbers.{ConfigNumbers}
 use Rattle.nvme_model.specs.declared.entry.Entry.{Entry}
 use Rattle.nvme_model.specs.declared.entry.GrantLine.{GrantLine}
 use Rattle.nvme_model.specs.declared.operation.Op.{Op}
-use Rattle.nvme_model.specs.declared.status.Verdict.{Verdict}
 use Rattle.nvme_model.specs.declared.step.Step.{Step}
 use Rattle.nvme_model.specs.History.{Past}
 use Rattle.nvme_model.specs.Legal.{IsLegal}
 use Rattle.nvme_model.specs.Medium.{medium}
 use Rattle.nvme_model.specs.Open.{conflict, differed, grants_of, open_units}
-use Rattle.nvme_model.specs.Operations.{mode, op, units, units_by}
+use Rattle.nvme_model.specs.Operations.{mode, op, units_by}
 use Rattle.nvme_model.specs.Refusals.{conflicts_open, has_open, next_unit, refusal}
-use Rattle.ticket_standing.specs.Standing.{Standing, has_run, left, on_differs, on_success, owed_by_standing, owed_running, standing, without}
+use Rattle.ticket_standing.specs.Standing.{Standing, open_unit, standing, unit_of}
 use Rattle.nvme_model.specs.Steps.{grant_entry, next_entry}
-use Rattle.nvme_model.specs.Tickets.{cids, in_flight, ticket}
+use Rattle.nvme_model.specs.Tickets.{cids, first_fields, in_flight, ticket}
+use Rattle.nvme_model.specs.EntryBytes.{slba}
 use Rattle.nvme_model.specs.Kept.{Kept}
-use Rattle.ticket_standing.proofs.Left.{left_after, next_starts, next_unit_left}
+use Rattle.ticket_standing.proofs.Left.{next_unit_left}
 use Rattle.ticket_standing.proofs.Opening.{grant_open}
 use Rattle.nvme_model.proofs.Rules.{MayGrant, may_grant}
 use Rattle.ticket_standing.proofs.Standings.{grant_here, grant_other}
@@ -31,12 +31,17 @@ use Rattle.block_exec.specs.Progress.{IsRange}
 use Rattle.rings.specs.Completions.{CompletionRing}
 use Rattle.rings.specs.Submissions.{SubmissionRing}
 use Rattle.job_table.specs.Jobs.{JobTable, job_of, replaced}
-use Rattle.job_table.specs.declared.job.Job.{Job}
-use Rattle.step_core.specs.Fields.{compare_bytes, completion_ring, fresh_run, job_at, job_by, opened_job, read_bytes_by, run_by, submission_ring, write_bytes_by}
+use Rattle.job_table.specs.Keeping.{Keeping, opened_job}
+use Rattle.ticket_course.specs.Shown.{stage_of}
+use Rattle.ticket_course.specs.Stages.{IsFirst, opened_in}
+use Rattle.ticket_course.specs.declared.course.Stage.{Stage}
+use Rattle.ticket_course.proofs.Granted.{granted, none_found}
+use Rattle.ticket_course.proofs.Waits.{Waits, first_of, opens}
+use Rattle.step_core.specs.Fields.{compare_bytes, completion_ring, job_at, job_by, read_bytes_by, submission_ring, write_bytes_by}
 use Rattle.step_core.specs.Kept.{IsKept}
-use Rattle.step_core.specs.State.{Room, State, ticket_range}
-use Rattle.step_core.proofs.Bounds.{left_within, opened_few, unit_range_is}
-use Rattle.step_core.proofs.Granting.{job_left, job_op, job_opened}
+use Rattle.step_core.specs.State.{Room, State}
+use Rattle.step_core.proofs.Bounds.{unit_range_is}
+use Rattle.step_core.proofs.Granting.{job_stage}
 use Rattle.step_core.proofs.Moves.{job_found, jobs_moved, legal_after, stepped}
 use Rattle.step_core.proofs.Tables.{IsTable-same}
 
@@ -46,37 +51,14 @@ use Rattle.step_core.proofs.Tables.{IsTable-same}
 abbrev with_unit : Standing → GrantLine → Standing
 with_unit s g = record s { opened = s.opened + 1; unit = Some (record { line = g; made = 0 }) }
 
--- what is owed is as before
-owed_same : (c : ConfigNumbers) (s : Standing) (g : GrantLine) → has_run c s ≡ false → (v : Verdict) → owed_by_standing c (with_unit s g) v ≡ owed_by_standing c s v
-owed_same c s g e v = go v
-  where
-    running : (o : Option Op) → owed_running c (with_unit s g) o ≡ owed_running c s o
-    running None = refl
-    running (Some o) = ap (λ b. cond s.differs (on_differs o) (cond b (on_success o) [])) (and_right (nat_le (length (units c s.ticket)) (s.opened + 1)) false refl ∙ sym e)
-
-    go : (v : Verdict) → owed_by_standing c (with_unit s g) v ≡ owed_by_standing c s v
-    go Verdict.Single = running (op s.ticket)
-    go Verdict.Pair = running (op s.ticket)
-    go (Verdict.SingleFailed f) = refl
-    go (Verdict.PairFailed f r) = refl
-
-new_run : (g : GrantLine) (o : Option Op) → is_some o ≡ true → option_map (fresh_run g.range) o ≡ Some (run_by o (record { line = g; made = 0 }))
-new_run g None e = absurd cc
-new_run g (Some o) e = refl
-
-opened_is : (c : ConfigNumbers) (s : Standing) (g : GrantLine) → is_some (op s.ticket) ≡ true → has_run c s ≡ false → left c (with_unit s g) ≡ without (left c s) g.range.blocks
-    → opened_job (job_by c s) g.range ≡ job_by c (with_unit s g)
+-- only its stage is another
+opened_is : (c : ConfigNumbers) (s : Standing) (g : GrantLine) → opened_in (stage_of c s) g.range ≡ stage_of c (with_unit s g) → opened_job (job_by c s) g.range ≡ job_by c (with_unit s g)
 unfolding job_by
-opened_is c s g some e l =
+opened_is c s g e =
     (λ z. record {
       queue = s.ticket.queue;
-      cids = drop s.posts (cids s.ticket);
-      op = op s.ticket;
-      range = ticket_range s.ticket;
-      left = sym l z;
-      opened = s.opened + 1;
-      run = new_run g (op s.ticket) some z;
-      owed = drop s.posts (sym (owed_same c s g e s.ticket.verdict) z);
+      course = record { stage = e z; cids = drop s.posts (cids s.ticket) };
+      slba = slba (first_fields s.ticket);
       compare = compare_bytes s.ticket;
       write = write_bytes_by (op s.ticket) s.ticket;
       read = read_bytes_by (op s.ticket) s.ticket s.read;
@@ -102,11 +84,6 @@ units_of_op : (u : AtomicParameters) (o : Option Op) (s n i : ℕ) (r : Range) �
 units_of_op u (Some o) s n i r e = refl
 units_of_op u None s n zero r e = absurd (let f : None ≡ Some r = e in cc)
 units_of_op u None s n (suc i) r e = absurd (let f : None ≡ Some r = e in cc)
-
-some_below : (rs : List Range) (i : ℕ) (r : Range) → slice_get rs i ≡ Some r → i < length rs
-some_below [] i r e = absurd (let f : None ≡ Some r = e in cc)
-some_below (x ∷ rs) zero r e = omega arith
-some_below (x ∷ rs) (suc i) r e = omega (arith, some_below rs i r e)
 
 -- it is the line of a Grant of ticket t that isn't refused
 abbrev pub IsGrant : ConfigNumbers → Past → ℕ → GrantLine → Type 0
@@ -150,60 +127,49 @@ module _ (c : ConfigNumbers) (past : Past) (v : List (List ℕ)) (s : List Submi
   pub range_is : IsRange g.range
   range_is = unit_range_is c past t k.run.legal k.accepted some (grants_of past t) g.range next
 
+  -- a unit of it may be opened
+  waiting : Waits c (standing past t) g.range (op (ticket past t)) (open_unit past t)
+  waiting =
+      opens c (standing past t) g.range (op (ticket past t)) (open_unit past t) some
+      (ap (option_map (unit_of past)) (none_found (λ (y : GrantLine). y.ticket == t) (open_units past) (ap (has_open past) (sym same) ∙ may.closed)))
+      (sym (next_unit_left c past t goes_on) ∙ next) range_is.0
+
   there : job_of j.jobs t ≡ Some (job_at c past t)
   there =
       ap (λ (x : JobTable). job_of x.jobs t) k.jobs ∙ job_found c past t k.run.legal
       ∙ ap (λ b. cond b (Some (job_at c past t)) None) (ap (in_flight past) (sym same) ∙ may.in_flight)
 
   -- its ticket has a job
-  pub has_job : (o : Option Job) → o ≡ job_of j.jobs t → o ≡ None → ⊥
+  pub has_job : (o : Option Keeping) → o ≡ job_of j.jobs t → o ≡ None → ⊥
   has_job o f h = absurd (let w : None ≡ Some (job_at c past t) = sym h ∙ f ∙ there in cc)
 
-  module _ (x : Job) (f : Some x ≡ job_of j.jobs t) where
+  module _ (x : Keeping) (f : Some x ≡ job_of j.jobs t) where
     job_is : x ≡ job_at c past t
     job_is = some_inj (f ∙ there)
       where
         some_inj : Some x ≡ Some (job_at c past t) → x ≡ job_at c past t
         some_inj h = cc
 
-    -- which works on blocks
-    pub has_op : is_some x.op ≡ true
-    has_op = ap (λ (y : Job). is_some y.op) job_is ∙ ap is_some (job_op c (standing past t)) ∙ some
-
-    left_is : x.left ≡ left c (standing past t)
-    left_is = ap (λ (y : Job). y.left) job_is ∙ job_left c (standing past t)
-
-    -- of which as many are left
-    pub fits : g.range.blocks ≤ x.left.blocks
-    fits =
-        subst (λ (y : Range). g.range.blocks ≤ y.blocks) (sym left_is)
-        (next_starts c.atomic (op (ticket past t)) (left c (standing past t)) g.range (sym (next_unit_left c past t goes_on) ∙ next)).1
-
-    -- in a volume
-    pub within : x.left.slba + x.left.blocks ≤ 65536
-    within = subst (λ (y : Range). y.slba + y.blocks ≤ 65536) (sym left_is) (left_within c past t k.run.legal k.accepted some)
-
-    -- in few units
-    pub few : x.opened + 1 < 2 ^ 64
-    few = subst (λ (m : ℕ). m + 1 < 2 ^ 64) (sym (ap (λ (y : Job). y.opened) job_is ∙ job_opened c (standing past t))) (opened_few c past t k.run.legal k.accepted some)
+    -- its unit is the next one
+    pub first : IsFirst x.course.stage g.range
+    first =
+        subst (λ (y : Stage). IsFirst y g.range) (sym (ap (λ (y : Keeping). y.course.stage) job_is ∙ job_stage c (standing past t)))
+        (first_of c (standing past t) g.range (op (ticket past t)) (open_unit past t) waiting range_is.0)
 
     own : opened_job x g.range ≡ job_at c (Entry.Grant g ∷ past) t
     own =
-        ap (λ (y : Job). opened_job y g.range) job_is
-        ∙ opened_is c (standing past t) g some run l
+        ap (λ (y : Keeping). opened_job y g.range) job_is
+        ∙ opened_is c (standing past t) g (sym moved ∙ ap (stage_of c) here)
         ∙ ap (job_by c) (sym here)
       where
         here : standing (Entry.Grant g ∷ past) t ≡ with_unit (standing past t) g
         here = subst (λ (u : ℕ). standing (Entry.Grant g ∷ past) u ≡ with_unit (standing past u) g) same (grant_here c past g legal)
 
-        l : left c (with_unit (standing past t) g) ≡ without (left c (standing past t)) g.range.blocks
-        l = left_after c (standing past t) (with_unit (standing past t) g) g.range refl refl refl goes_on next
-
-        run : has_run c (standing past t) ≡ false
-        run = ap (λ b. b && is_none (standing past t).unit) (lt-leb (length (units c (ticket past t))) (grants_of past t) (some_below (units c (ticket past t)) (grants_of past t) g.range next))
+        moved : stage_of c (standing (Entry.Grant g ∷ past) t) ≡ opened_in (stage_of c (standing past t)) g.range
+        moved = subst (λ (u : ℕ). stage_of c (standing (Entry.Grant g ∷ past) u) ≡ opened_in (stage_of c (standing past u)) g.range) same (granted c past g legal)
 
     -- the fields after it
-    pub kept : (h past' : Past) (y : Job) (r' : List Held) → h ≡ past → past' ≡ Entry.Grant g ∷ h → y ≡ opened_job x g.range → r' ≡ insert_held (record { ticket = t; range = g.range; mode = g.mode }) r
+    pub kept : (h past' : Past) (y : Keeping) (r' : List Held) → h ≡ past → past' ≡ Entry.Grant g ∷ h → y ≡ opened_job x g.range → r' ≡ insert_held (record { ticket = t; range = g.range; mode = g.mode }) r
         → IsKept c past' v s q (record { limit = j.limit; jobs = replaced j.jobs t y }) r' n
     kept h past' y r' same_past is_past is_y is_r =
         subst (λ (p : Past). IsKept c p v s q (record { limit = j.limit; jobs = replaced j.jobs t y }) r' n) (sym (is_past ∙ ap (λ (w : Past). Entry.Grant g ∷ w) same_past))

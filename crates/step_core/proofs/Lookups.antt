@@ -9,7 +9,8 @@ use Rattle.range_reserve.specs.declared.held.Held.{Held}
 use Rattle.rings.specs.Completions.{CompletionRing}
 use Rattle.rings.specs.Submissions.{SubmissionRing}
 use Rattle.job_table.specs.Jobs.{JobTable, job_of}
-use Rattle.job_table.specs.declared.job.Job.{Job}
+use Rattle.job_table.specs.Keeping.{Keeping}
+use Rattle.nvme_model.specs.Legal.{IsLegal}
 use Rattle.std.proofs.lemmas.Bool.{cases_eq, or_from}
 use Rattle.std.proofs.lemmas.Bool.Decides.{nat_tests}
 use Rattle.ticket_standing.proofs.Counts.{fetched_within}
@@ -18,14 +19,15 @@ use Rattle.step_core.specs.Fields.{completion_ring, job_at, submission_ring}
 use Rattle.step_core.specs.Kept.{IsCqRing, IsJob, IsKept, IsSqRing}
 use Rattle.step_core.proofs.Moves.{job_found}
 
-by_found : (c : ConfigNumbers) (past : Past) (t : ℕ) (o : Option Job) (b : Bool) → in_flight past t ≡ b → o ≡ cond b (Some (job_at c past t)) None → MatchOption o (in_flight past t ≡ false) (λ j. IsJob c past t j)
-by_found c past t None true e f = absurd cc
-by_found c past t None false e f = e
-by_found c past t (Some j) true e f = record { flies = e; is = some_inj f }
+by_found : (c : ConfigNumbers) (past : Past) (t : ℕ) → IsLegal c past → (o : Option Keeping) (b : Bool) → in_flight past t ≡ b → o ≡ cond b (Some (job_at c past t)) None
+    → MatchOption o (in_flight past t ≡ false) (λ j. IsJob c past t j)
+by_found c past t h None true e f = absurd cc
+by_found c past t h None false e f = e
+by_found c past t h (Some j) true e f = record { legal = h; flies = e; is = some_inj f }
   where
-    some_inj : {x y : Job} → Some x ≡ Some y → x ≡ y
+    some_inj : {x y : Keeping} → Some x ≡ Some y → x ≡ y
     some_inj h = cc
-by_found c past t (Some j) false e f = absurd cc
+by_found c past t h (Some j) false e f = absurd cc
 
 -- a reference that is found is what is found
 pub copied_match : {X : Type 0} (o : Option (Bor X)) (P : Type 0) (Q : X → Type 0) → MatchOption (option_copied o) P Q → MatchOption o P (λ b. Q b.now)
@@ -47,8 +49,8 @@ there_if q n a b = or_from _ _ (ne_eqb q 0 a) (le_not_lt q n b)
 
 module _ (c : ConfigNumbers) (past : Past) (v : List (List ℕ)) (s : List SubmissionRing) (q : List CompletionRing) (j : JobTable) (r : List Held) (n : ℕ) (k : IsKept c past v s q j r n) where
   -- the job of a ticket is there exactly where the ticket is in flight
-  pub job_read : (t : ℕ) (o : Option Job) → o ≡ job_of j.jobs t → MatchOption o (in_flight past t ≡ false) (λ x. IsJob c past t x)
-  job_read t o e = by_found c past t o (in_flight past t) refl (e ∙ ap (λ (x : JobTable). job_of x.jobs t) k.jobs ∙ job_found c past t k.run.legal)
+  pub job_read : (t : ℕ) (o : Option Keeping) → o ≡ job_of j.jobs t → MatchOption o (in_flight past t ≡ false) (λ x. IsJob c past t x)
+  job_read t o e = by_found c past t k.run.legal o (in_flight past t) refl (e ∙ ap (λ (x : JobTable). job_of x.jobs t) k.jobs ∙ job_found c past t k.run.legal)
 
   -- the ring of a submission queue
   pub sq_read : (t : ℕ) (x : SubmissionRing) → (t ≡ 0 → ⊥) → t ≤ c.pairs → x ≡ get_or s (t - 1) x → IsSqRing c past t x

@@ -13,7 +13,7 @@ use Rattle.nvme_model.specs.Refusals.{refusal}
 use Rattle.nvme_model.specs.Steps.{is_ready, ready}
 use Rattle.ticket_standing.specs.Standing.{flying, rising}
 use Rattle.job_table.specs.Jobs.{JobTable}
-use Rattle.job_table.specs.declared.job.Job.{Job}
+use Rattle.job_table.specs.Keeping.{Keeping}
 use Rattle.job_table.specs.declared.jobs.InFlight.{InFlight}
 use Rattle.job_table.proofs.Tables.{length-jobs_by, slice_get-jobs_by}
 use Rattle.step_core.specs.Fields.{job_at, job_table}
@@ -102,7 +102,7 @@ ready_past c past (suc k) (t ∷ ts) l = ready_past c past k ts (omega (arith, l
 
 -- ---- the table of jobs has them in this order
 
-ticket_of : (o : Option ℕ) (g : ℕ → Job) (e : InFlight) → option_map {U = InFlight} (λ t. record { ticket = t; job = g t }) o ≡ Some e → o ≡ Some e.ticket
+ticket_of : (o : Option ℕ) (g : ℕ → Keeping) (e : InFlight) → option_map {U = InFlight} (λ t. record { ticket = t; job = g t }) o ≡ Some e → o ≡ Some e.ticket
 ticket_of None g e h = absurd (let f : None ≡ Some e = h in cc)
 ticket_of (Some t) g e h = ap (λ (y : InFlight). Some y.ticket) (some_inj h)
   where

@@ -21,7 +21,7 @@ use Rattle.nvme_model.specs.Refusals.{conditions, refusal}
 use Rattle.nvme_model.specs.Verdict.{taken}
 use Rattle.nvme_model.proofs.Rules.{none_holds}
 use Rattle.nvme_model.specs.Steps.{next_entry, post_entry}
-use Rattle.ticket_standing.specs.Standing.{standing, still_owed}
+use Rattle.ticket_standing.specs.Standing.{standing}
 use Rattle.nvme_model.specs.Kept.{Kept}
 use Rattle.nvme_model.proofs.NextPost.{commands_few, not_flying}
 use Rattle.ticket_standing.proofs.Owing.{next_owed}
@@ -29,7 +29,10 @@ use Rattle.range_reserve.specs.declared.held.Held.{Held}
 use Rattle.rings.specs.Completions.{CompletionRing, is_full, posted_ring}
 use Rattle.rings.specs.Submissions.{SubmissionRing}
 use Rattle.job_table.specs.Jobs.{JobTable, has_ticket, job_of}
-use Rattle.job_table.specs.declared.job.Job.{Job}
+use Rattle.job_table.specs.Keeping.{Keeping}
+use Rattle.ticket_course.specs.Shown.{stage_of}
+use Rattle.ticket_course.specs.Stages.{owed_in}
+use Rattle.ticket_course.proofs.Owes.{owes as stage_owes}
 use Rattle.job_table.proofs.Tables.{has_ticket-jobs_by}
 use Rattle.step_core.specs.Fields.{completion_ring, job_at, job_by, posted_payload, posted_table, read_bytes_by, submission_ring}
 use Rattle.step_core.specs.Kept.{IsDue, IsKept}
@@ -46,7 +49,7 @@ use Rattle.ticket_standing.specs.Standing.{flying}
 -- ---- a pair's first completion carries nothing
 
 -- where more than one completion is owed, nothing is read
-pub nothing_yet : (c : ConfigNumbers) (past : Past) (t : ℕ) → 1 < length (job_at c past t).cids → (job_at c past t).read ≡ []
+pub nothing_yet : (c : ConfigNumbers) (past : Past) (t : ℕ) → 1 < length (job_at c past t).course.cids → (job_at c past t).read ≡ []
 unfolding job_by
 nothing_yet c past t l = by_verdict (Tickets.ticket past t).verdict refl (commands_few past t)
   where
@@ -108,30 +111,30 @@ module _ (c : ConfigNumbers) (past : Past) (v : List (List ℕ)) (s : List Submi
   there = ap (λ (x : JobTable). has_ticket x.jobs t) k.jobs ∙ has_ticket-jobs_by (job_at c past) (flying past) t ∙ has_flying c past t k.run.legal ∙ flies
 
   -- with this job
-  pub found : (x : Job) → job_of j.jobs t ≡ Some x → x ≡ job_at c past t
+  pub found : (x : Keeping) → job_of j.jobs t ≡ Some x → x ≡ job_at c past t
   found x e = some_inj (sym e ∙ ap (λ (y : JobTable). job_of y.jobs t) k.jobs ∙ job_found c past t k.run.legal ∙ ap (λ b. cond b (Some (job_at c past t)) None) flies)
     where
-      some_inj : {x y : Job} → Some x ≡ Some y → x ≡ y
+      some_inj : {x y : Keeping} → Some x ≡ Some y → x ≡ y
       some_inj h = cc
 
   pub is_there : job_of j.jobs t ≡ Some (job_at c past t)
   is_there = ap (λ (y : JobTable). job_of y.jobs t) k.jobs ∙ job_found c past t k.run.legal ∙ ap (λ b. cond b (Some (job_at c past t)) None) flies
 
-  some_cids : 0 < length (job_at c past t).cids
+  some_cids : 0 < length (job_at c past t).course.cids
   unfolding job_by
   some_cids = omega (arith, ltb-true _ _ flies, length-drop (posts_of past t) (cids (Tickets.ticket past t)), length-map (Tickets.ticket past t).commands (λ s. (sqe_fields s.entry).cid))
 
-  some_owed : 0 < length (job_at c past t).owed
+  some_owed : 0 < length (owed_in (job_at c past t).course.stage)
   unfolding job_by
-  some_owed = first (still_owed c (standing past t)) (next_owed c past t k.run.legal k.run.marks ∙ due.owed)
+  some_owed = first (owed_in (stage_of c (standing past t))) (ap (λ xs. slice_get xs 0) (stage_owes c past t k.run.legal) ∙ next_owed c past t k.run.legal k.run.marks ∙ due.owed)
     where
       first : (xs : List Status) → slice_get xs 0 ≡ Some due.status → 0 < length xs
       first [] e = absurd cc
       first (x ∷ xs) e = omega arith
 
-  -- it owes a completion of a command
-  pub owes : (x : Job) → job_of j.jobs t ≡ Some x → (0 < length x.cids) × (0 < length x.owed)
-  owes x e = subst (λ (y : Job). (0 < length y.cids) × (0 < length y.owed)) (sym (found x e)) (some_cids, some_owed)
+  -- it owes a completion
+  pub owes : (x : Keeping) → job_of j.jobs t ≡ Some x → 0 < length (owed_in x.course.stage)
+  owes x e = subst (λ (y : Keeping). 0 < length (owed_in y.course.stage)) (sym (found x e)) some_owed
 
   -- ---- the ring it goes to
 
@@ -179,11 +182,11 @@ module _ (c : ConfigNumbers) (past : Past) (v : List (List ℕ)) (s : List Submi
   -- ---- all fields
 
   payload_is : posted_payload (job_at c past t) ≡ (job_at c past t).read
-  payload_is = go (eqb (length (job_at c past t).cids) 1) refl
+  payload_is = go (eqb (length (job_at c past t).course.cids) 1) refl
     where
-      go : (b : Bool) → eqb (length (job_at c past t).cids) 1 ≡ b → cond b (job_at c past t).read [] ≡ (job_at c past t).read
+      go : (b : Bool) → eqb (length (job_at c past t).course.cids) 1 ≡ b → cond b (job_at c past t).read [] ≡ (job_at c past t).read
       go true e = refl
-      go false e = sym (nothing_yet c past t (more (length (job_at c past t).cids) e some_cids))
+      go false e = sym (nothing_yet c past t (more (length (job_at c past t).course.cids) e some_cids))
         where
           more : (m : ℕ) → eqb m 1 ≡ false → 0 < m → 1 < m
           more m e l = elim (cases_eq m 1) [
@@ -207,7 +210,7 @@ module _ (c : ConfigNumbers) (past : Past) (v : List (List ℕ)) (s : List Submi
         volume = k.volume;
         submission = IsTable-same (λ i. submission_ring c past (suc i)) (λ i. submission_ring c later (suc i)) c.pairs s k.submission (λ i. post_sq_ring c past p (suc i));
         completion = IsTable-set (λ i. completion_ring c past (suc i)) (λ i. completion_ring c later (suc i)) c.cqs (d.queue - 1) q x' k.completion within ring (λ i a. post_ring_other c past p (suc i) (other i a));
-        jobs = h ∙ ap (λ (y : JobTable). posted_table y t (job_at c past t)) k.jobs ∙ posted_table_is c past p flies;
+        jobs = h ∙ ap (λ (y : JobTable). posted_table y t (job_at c past t)) k.jobs ∙ posted_table_is c past p flies some_owed;
         held = k.held;
         count = k.count;
         run = subst (λ (y : Entry). Kept c (y ∷ past)) (sym (post_entry_is copy f)) (stepped c past (Step.Post t) k.run none);

@@ -16,11 +16,12 @@ use Rattle.nvme_model.specs.Completions.{posted, reaped}
 use Rattle.nvme_model.specs.Refusals.{no_queue, owes_nothing_yet, refusal}
 use Rattle.ticket_standing.specs.Standing.{standing, still_owed}
 use Rattle.nvme_model.specs.Legal.{IsLegal}
-use Rattle.nvme_model.specs.EntryBytes.{sqe_fields}
 use Rattle.nvme_model.specs.Kept.{Kept}
 use Rattle.nvme_model.proofs.Rules.{follows, none_holds}
 use Rattle.ticket_standing.proofs.Owing.{has_next, next_owed}
-use Rattle.job_table.specs.declared.job.Job.{Job}
+use Rattle.job_table.specs.Keeping.{Keeping}
+use Rattle.ticket_course.specs.Stages.{owed_in}
+use Rattle.ticket_course.proofs.Owes.{owes}
 use Rattle.rings.specs.Completions.{CompletionRing, is_full}
 use Rattle.rings.specs.Submissions.{SubmissionRing}
 use Rattle.entry_codec.specs.Cqe.{completion_bytes, phase_bit}
@@ -72,10 +73,10 @@ queue_there c q e =
     low zero e = absurd cc
     low (suc q) e = omega arith
 
-pub job_queue : (c : ConfigNumbers) (past : Past) (t : ℕ) (j : Job) → IsLegal c past → IsJob c past t j → HasQueue c j.queue
+pub job_queue : (c : ConfigNumbers) (past : Past) (t : ℕ) (j : Keeping) → IsLegal c past → IsJob c past t j → HasQueue c j.queue
 unfolding job_by
 job_queue c past t j h k =
-    subst (HasQueue c) (sym (ap (λ (x : Job). x.queue) k.is)) (queue_there c _ (ticket_queue c past t h (flies_some past t k.flies)))
+    subst (HasQueue c) (sym (ap (λ (x : Keeping). x.queue) k.is)) (queue_there c _ (ticket_queue c past t h (flies_some past t k.flies)))
 
 -- ---- what is due
 
@@ -85,37 +86,26 @@ get_dropped zero (x ∷ xs) = refl
 get_dropped (suc n) [] = refl
 get_dropped (suc n) (x ∷ xs) = get_dropped n xs
 
-none_then : {X : Type 0} (xs : List X) (n : ℕ) → slice_get xs n ≡ None → length xs ≤ n
-none_then [] n e = omega arith
-none_then (x ∷ xs) zero e = absurd cc
-none_then (x ∷ xs) (suc n) e = omega (arith, none_then xs n e)
-
--- the CID of the next completion
-pub cid_there : (c : ConfigNumbers) (past : Past) (t : ℕ) (j : Job) → IsJob c past t j → slice_get j.cids 0 ≡ None → ⊥
+-- what is owed next by the stage is what the ticket still owes next
+next_by : (c : ConfigNumbers) (past : Past) (t : ℕ) (j : Keeping) → IsLegal c past → IsJob c past t j → slice_get (still_owed c (standing past t)) 0 ≡ slice_get (owed_in j.course.stage) 0
 unfolding job_by
-cid_there c past t j k e =
-    omega (
-      arith,
-      ltb-true _ _ k.flies,
-      length-map (Tickets.ticket past t).commands (λ s. (sqe_fields s.entry).cid),
-      none_then (cids (Tickets.ticket past t)) (posts_of past t) (sym (get_dropped (posts_of past t) (cids (Tickets.ticket past t))) ∙ ap (λ (x : Job). slice_get x.cids 0) (sym k.is) ∙ e),
-    )
+next_by c past t j h k = ap (λ xs. slice_get xs 0) (sym (owes c past t h)) ∙ ap (λ (x : Keeping). slice_get (owed_in x.course.stage) 0) (sym k.is)
 
 -- where nothing is owed the Post is refused
-pub nothing_due : (c : ConfigNumbers) (past : Past) (t : ℕ) (j : Job) → Kept c past → IsJob c past t j → slice_get j.owed 0 ≡ None → refusal c past (Step.Post t) ≡ Some Why.WrongState
+pub nothing_due : (c : ConfigNumbers) (past : Past) (t : ℕ) (j : Keeping) → Kept c past → IsJob c past t j → slice_get (owed_in j.course.stage) 0 ≡ None → refusal c past (Step.Post t) ≡ Some Why.WrongState
 unfolding job_by
 nothing_due c past t j r k e =
-    let next : is_none (slice_get (still_owed c (standing past t)) 0) ≡ true = ap is_none (ap (λ (x : Job). slice_get x.owed 0) (sym k.is) ∙ e) in
+    let next : is_none (slice_get (still_owed c (standing past t)) 0) ≡ true = ap is_none (next_by c past t j r.legal k ∙ e) in
     let nothing : owes_nothing_yet c past t ≡ true = sym (has_next c past t r.legal r.marks k.flies) ∙ next in
     (λ i. cond (not (k.flies i)) (Some Why.NoTicket) (cond (nothing i) (Some Why.WrongState) (cond (eqb (length (posted c past (completion_queue c (Tickets.ticket past t).queue)) - reaped past (completion_queue c (Tickets.ticket past t).queue)) (c.cq_size - 1)) (Some Why.CqFull) None)))
 
 -- where something is, it is refused exactly where the completion queue is full
-pub something_due : (c : ConfigNumbers) (past : Past) (t : ℕ) (j : Job) (s : Status) (b : Bool) → Kept c past → IsJob c past t j → slice_get j.owed 0 ≡ Some s
+pub something_due : (c : ConfigNumbers) (past : Past) (t : ℕ) (j : Keeping) (s : Status) (b : Bool) → Kept c past → IsJob c past t j → slice_get (owed_in j.course.stage) 0 ≡ Some s
     → eqb (length (posted c past (completion_queue c (Tickets.ticket past t).queue)) - reaped past (completion_queue c (Tickets.ticket past t).queue)) (c.cq_size - 1) ≡ b
     → refusal c past (Step.Post t) ≡ cond b (Some Why.CqFull) None
 unfolding job_by
 something_due c past t j s b r k e full =
-    let next : is_none (slice_get (still_owed c (standing past t)) 0) ≡ false = ap is_none (ap (λ (x : Job). slice_get x.owed 0) (sym k.is) ∙ e) in
+    let next : is_none (slice_get (still_owed c (standing past t)) 0) ≡ false = ap is_none (next_by c past t j r.legal k ∙ e) in
     let some : owes_nothing_yet c past t ≡ false = sym (has_next c past t r.legal r.marks k.flies) ∙ next in
     (λ i. cond (not (k.flies i)) (Some Why.NoTicket) (cond (some i) (Some Why.WrongState) (cond (full i) (Some Why.CqFull) None)))
 
@@ -138,9 +128,9 @@ found_at (y ∷ xs) zero x d e = some_inj e
 found_at (y ∷ xs) (suc n) x d e = found_at xs n x d e
 
 -- the queue that a Post goes to
-pub due_queue : (c : ConfigNumbers) (past : Past) (t : ℕ) (j : Job) → IsJob c past t j → completion_queue c j.queue ≡ completion_queue c (Tickets.ticket past t).queue
+pub due_queue : (c : ConfigNumbers) (past : Past) (t : ℕ) (j : Keeping) → IsJob c past t j → completion_queue c j.queue ≡ completion_queue c (Tickets.ticket past t).queue
 unfolding job_by
-due_queue c past t j k = ap (λ (x : Job). completion_queue c x.queue) k.is
+due_queue c past t j k = ap (λ (x : Keeping). completion_queue c x.queue) k.is
 
 -- how full it is
 pub due_full : (c : ConfigNumbers) (past : Past) (q : ℕ) (x : CompletionRing) → IsLegal c past → x ≡ completion_ring c past q → is_full x ≡ eqb (length (posted c past q) - reaped past q) (c.cq_size - 1)
@@ -150,68 +140,74 @@ due_full c past q x h e =
     ∙ ap (λ n. eqb n (c.cq_size - 1)) (length-map (drop (reaped past q) (posted c past q)) completion_of ∙ length-drop (reaped past q) (posted c past q))
 
 -- the completion that is due
-pub due_is : (c : ConfigNumbers) (past : Past) (t : ℕ) (j : Job) (s : Status) (cid : ℕ) (x : CompletionRing) (r : SubmissionRing) (cqe : Cqe) (d : Due) → Kept c past → IsJob c past t j
-    → slice_get j.owed 0 ≡ Some s → slice_get j.cids 0 ≡ Some cid → x ≡ completion_ring c past (completion_queue c (Tickets.ticket past t).queue) → r ≡ submission_ring c past j.queue
+pub due_is : (c : ConfigNumbers) (past : Past) (t : ℕ) (j : Keeping) (s : Status) (cid : ℕ) (x : CompletionRing) (r : SubmissionRing) (cqe : Cqe) (d : Due) → Kept c past → IsJob c past t j
+    → slice_get (owed_in j.course.stage) 0 ≡ Some s → slice_get j.course.cids 0 ≡ Some cid → x ≡ completion_ring c past (completion_queue c (Tickets.ticket past t).queue) → r ≡ submission_ring c past j.queue
     → cqe ≡ record { sqhd = r.head; sqid = j.queue; cid = cid; phase = x.phase; status = s } → d.cqe ≡ completion_bytes cqe → d.queue ≡ completion_queue c j.queue → IsDue c past t d
 unfolding job_by completion_ring submission_ring
-due_is c past t j s cid x r cqe d kept k owes has ring sring fields bytes queue =
-    let of_queue : j.queue ≡ (Tickets.ticket past t).queue = ap (λ (y : Job). y.queue) k.is in
+due_is c past t j s cid x r cqe d kept k due has ring sring fields bytes queue =
+    let of_queue : j.queue ≡ (Tickets.ticket past t).queue = ap (λ (y : Keeping). y.queue) k.is in
     record {
       status = s;
-      owed = sym (next_owed c past t kept.legal kept.marks) ∙ ap (λ (y : Job). slice_get y.owed 0) (sym k.is) ∙ owes;
+      owed = sym (next_owed c past t kept.legal kept.marks) ∙ next_by c past t j kept.legal k ∙ due;
       queue = queue ∙ due_queue c past t j k;
       cqe = bytes ∙ completion_bytes-completion c past t s cqe
           (ap (λ (y : Cqe). y.sqhd) fields ∙ ap (λ (y : SubmissionRing). y.head) sring ∙ ap (λ n. fetched past n % c.sq_size) of_queue)
           (ap (λ (y : Cqe). y.sqid) fields ∙ of_queue)
-          (ap (λ (y : Cqe). y.cid) fields ∙ sym (found_at (cids (Tickets.ticket past t)) (posts_of past t) cid 0 (sym (get_dropped (posts_of past t) (cids (Tickets.ticket past t))) ∙ ap (λ (y : Job). slice_get y.cids 0) (sym k.is) ∙ has)))
+          (ap (λ (y : Cqe). y.cid) fields ∙ sym (found_at (cids (Tickets.ticket past t)) (posts_of past t) cid 0 (sym (get_dropped (posts_of past t) (cids (Tickets.ticket past t))) ∙ ap (λ (y : Keeping). slice_get y.course.cids 0) (sym k.is) ∙ has)))
           (ap (λ (y : Cqe). phase_bit y.phase) fields ∙ ap (λ (y : CompletionRing). phase_bit y.phase) ring)
           (ap (λ (y : Cqe). y.status) fields);
     }
 
+-- a completion by its fields
+pub fields_by : (x : Cqe) (h h' q cid : ℕ) (p p' : Bool) (s : Status) → x ≡ record { sqhd = h; sqid = q; cid = cid; phase = p; status = s } → h ≡ h' → p ≡ p'
+    → x ≡ record { sqhd = h'; sqid = q; cid = cid; phase = p'; status = s }
+fields_by x h h' q cid p p' s e head phase = e ∙ (λ i. record { sqhd = head i; sqid = q; cid = cid; phase = phase i; status = s })
+
 -- ---- what `post_due` finds
 
 module _ (c : ConfigNumbers) (past : Past) (v : List (List ℕ)) (s : List SubmissionRing) (q : List CompletionRing) (j : JobTable) (r : List Held) (n : ℕ) (k : IsKept c past v s q j r n)
-    (x : State) (m : ℕ) {w : Room} (view : record { config = c; past = past; promised = m; room = w } ≡ x) (t : ℕ) (job : Job) (is : IsJob x.config x.past t job) where
+    (x : State) (m : ℕ) {w : Room} (view : record { config = c; past = past; promised = m; room = w } ≡ x) (t : ℕ) (job : Keeping) (is : IsJob x.config x.past t job) where
   mine : IsJob c past t job
   mine = subst (λ (y : State). IsJob y.config y.past t job) (sym view) is
 
   refused_so : (o : Option Why) → refusal c past (Step.Post t) ≡ o → refusal x.config x.past (Step.Post t) ≡ o
   refused_so o e = subst (λ (y : State). refusal y.config y.past (Step.Post t) ≡ o) view e
 
-  pub post_nothing : slice_get job.owed 0 ≡ None → refusal x.config x.past (Step.Post t) ≡ Some Why.WrongState
+  pub post_nothing : slice_get (owed_in job.course.stage) 0 ≡ None → refusal x.config x.past (Step.Post t) ≡ Some Why.WrongState
   post_nothing e = refused_so (Some Why.WrongState) (nothing_due c past t job k.run mine e)
-
-  pub post_cid : slice_get job.cids 0 ≡ None → ⊥
-  post_cid e = cid_there c past t job mine e
-
-  pub post_queue : HasQueue c job.queue
-  post_queue = job_queue c past t job k.run.legal mine
 
   pub post_some : 1 ≤ c.cqs
   post_some = cqs_some c k.accepted
 
-  -- the place of the completion ring
-  pub post_place : (job.queue - 1) % c.cqs < length q
-  post_place = omega (arith, mod-lt (job.queue - 1) post_some, k.completion.size)
+  -- by the number of its queue
+  module _ (n' : ℕ) (of : n' ≡ job.queue) where
+    pub post_queue : HasQueue c n'
+    post_queue = subst (HasQueue c) (sym of) (job_queue c past t job k.run.legal mine)
 
-  -- and of the submission ring
-  pub post_head : job.queue - 1 < length s
-  post_head = omega (arith, post_queue.low, post_queue.high, k.submission.size)
+    -- the place of the completion ring
+    pub post_place : (n' - 1) % c.cqs < length q
+    post_place = omega (arith, mod-lt (n' - 1) post_some, k.completion.size)
 
-  ring_is : (y : CompletionRing) → y ≡ get_or q ((job.queue - 1) % c.cqs) y → y ≡ completion_ring c past (completion_queue c (Tickets.ticket past t).queue)
-  ring_is y e =
-      e ∙ k.completion.at ((job.queue - 1) % c.cqs) y (mod-lt (job.queue - 1) post_some)
-      ∙ ap (completion_ring c past) (sym (add-one ((job.queue - 1) % c.cqs)) ∙ due_queue c past t job mine)
+    -- and of the submission ring
+    pub post_head : n' - 1 < length s
+    post_head = omega (arith, post_queue.low, post_queue.high, k.submission.size)
 
-  pub post_full : (o : Status) (y : CompletionRing) (b : Bool) → slice_get job.owed 0 ≡ Some o → y ≡ get_or q ((job.queue - 1) % c.cqs) y → is_full y ≡ b → refusal x.config x.past (Step.Post t) ≡ cond b (Some Why.CqFull) None
-  post_full o y b owes e f =
-      refused_so (cond b (Some Why.CqFull) None)
-      (something_due c past t job o b k.run mine owes (sym (due_full c past (completion_queue c (Tickets.ticket past t).queue) y k.run.legal (ring_is y e)) ∙ f))
+    ring_is : (y : CompletionRing) → y ≡ get_or q ((n' - 1) % c.cqs) y → y ≡ completion_ring c past (completion_queue c (Tickets.ticket past t).queue)
+    ring_is y e =
+        e ∙ k.completion.at ((n' - 1) % c.cqs) y (mod-lt (n' - 1) post_some)
+        ∙ ap (completion_ring c past) (sym (add-one ((n' - 1) % c.cqs)) ∙ ap (completion_queue c) of ∙ due_queue c past t job mine)
 
-  pub post_is : (o : Status) (cid : ℕ) (y : CompletionRing) (z : SubmissionRing) (cqe : Cqe) (d : Due) → slice_get job.owed 0 ≡ Some o → slice_get job.cids 0 ≡ Some cid
-      → y ≡ get_or q ((job.queue - 1) % c.cqs) y → z ≡ get_or s (job.queue - 1) z → cqe ≡ record { sqhd = z.head; sqid = job.queue; cid = cid; phase = y.phase; status = o }
-      → d.cqe ≡ completion_bytes cqe → d.queue ≡ (job.queue - 1) % c.cqs + 1 → IsDue x.config x.past t d
-  post_is o cid y z cqe d owes has e f fields bytes queue =
-      let p : suc (job.queue - 1) ≡ job.queue = omega (arith, post_queue.low) in
-      let sring : z ≡ submission_ring c past job.queue = f ∙ k.submission.at (job.queue - 1) z (omega (arith, post_queue.low, post_queue.high)) ∙ ap (submission_ring c past) p in
-      subst (λ (w : State). IsDue w.config w.past t d) view (due_is c past t job o cid y z cqe d k.run mine owes has (ring_is y e) sring fields bytes queue)
+    pub post_full : (o : Status) (y : CompletionRing) (b : Bool) → slice_get (owed_in job.course.stage) 0 ≡ Some o → y ≡ get_or q ((n' - 1) % c.cqs) y → is_full y ≡ b → refusal x.config x.past (Step.Post t) ≡ cond b (Some Why.CqFull) None
+    post_full o y b due e f =
+        refused_so (cond b (Some Why.CqFull) None)
+        (something_due c past t job o b k.run mine due (sym (due_full c past (completion_queue c (Tickets.ticket past t).queue) y k.run.legal (ring_is y e)) ∙ f))
+
+    pub post_is : (o : Status) (cid : ℕ) (y : CompletionRing) (z : SubmissionRing) (cqe : Cqe) (d : Due) → slice_get (owed_in job.course.stage) 0 ≡ Some o → slice_get job.course.cids 0 ≡ Some cid
+        → y ≡ get_or q ((n' - 1) % c.cqs) y → z ≡ get_or s (n' - 1) z → cqe ≡ record { sqhd = z.head; sqid = n'; cid = cid; phase = y.phase; status = o }
+        → d.cqe ≡ completion_bytes cqe → d.queue ≡ (n' - 1) % c.cqs + 1 → IsDue x.config x.past t d
+    post_is o cid y z cqe d due has e f fields bytes queue =
+        let p : suc (n' - 1) ≡ n' = omega (arith, post_queue.low) in
+        let sring : z ≡ submission_ring c past n' = f ∙ k.submission.at (n' - 1) z (omega (arith, post_queue.low, post_queue.high)) ∙ ap (submission_ring c past) p in
+        let of_job : cqe ≡ record { sqhd = z.head; sqid = job.queue; cid = cid; phase = y.phase; status = o } = fields ∙ (λ i. record { sqhd = z.head; sqid = of i; cid = cid; phase = y.phase; status = o }) in
+        subst (λ (w : State). IsDue w.config w.past t d) view
+        (due_is c past t job o cid y z cqe d k.run mine due has (ring_is y e) (sring ∙ ap (submission_ring c past) of) of_job bytes (queue ∙ ap (completion_queue c) of))

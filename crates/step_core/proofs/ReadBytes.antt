@@ -10,7 +10,7 @@ use Rattle.nvme_model.specs.Cut.{IsCut}
 use Rattle.ticket_standing.proofs.Left.{blocks_of_all}
 use Rattle.block_exec.specs.Bytes.{put_at}
 use Rattle.block_exec.proofs.Parts.{put_at-next}
-use Rattle.step_core.specs.Blocks.{part_of, with_part}
+use Rattle.job_table.specs.Parts.{part_of, with_part}
 
 -- a block put into a part of the bytes is put into all of them
 pub put_in_part : (bytes : List ℕ) (s : ℕ) (r : Range) (i : ℕ) (block : List ℕ) → i < r.blocks

@@ -1,27 +1,25 @@
 -- What a Fetch finds, and the job that it makes.
 use Rattle.std.specs.List.{flat_map}
 use Rattle.std.specs.Option.{option_to_list}
-use Rattle.std.specs.Prelude.{List, None, Option, Some, [], if◌then◌else◌, is_some, map, replicate, ℕ, ◌*◌, ◌==◌, ◌∷◌, ◌≡◌}
-use Rattle.nvme_model.specs.EntryBytes.{blocks, slba, sqe_fields}
+use Rattle.std.specs.Prelude.{List, Option, Some, [], if◌then◌else◌, map, replicate, ℕ, ◌*◌, ◌==◌, ◌∷◌, ◌≡◌}
+use Rattle.nvme_model.specs.EntryBytes.{slba, sqe_fields}
 use Rattle.nvme_model.specs.History.{Past}
 use Rattle.nvme_model.specs.Operations.{has_compare, op_by}
-use Rattle.nvme_model.specs.Statuses.{success}
 use Rattle.nvme_model.specs.Tickets.{fetched_ticket, first_fields, next_verdict}
-use Rattle.nvme_model.specs.declared.array.Range.{Range}
 use Rattle.nvme_model.specs.declared.config.ConfigNumbers.{ConfigNumbers}
 use Rattle.nvme_model.specs.declared.operation.Op.{Op}
-use Rattle.nvme_model.specs.declared.status.Status.{Status}
 use Rattle.nvme_model.specs.declared.submission.Submission.{Submission}
 use Rattle.fused_match.specs.Judged.{NamesBlocks, operation_in, verdict_by}
 use Rattle.fused_match.specs.declared.judged.Judged.{Judged}
 use Rattle.fused_match.specs.declared.judged.Judged.TheVariants as judged
-use Rattle.job_table.specs.declared.job.Job.{Job}
+use Rattle.job_table.specs.Keeping.{Keeping}
+use Rattle.ticket_course.specs.Stages.{first_stage}
 use Rattle.job_table.specs.declared.jobs.InFlight.{InFlight}
 use Rattle.step_core.specs.declared.work.Kind.{Kind}
 
 -- the CIDs that a ticket of queue q still owes a completion for
-abbrev pub job_cids : ℕ → Job → List ℕ
-job_cids q j = if j.queue == q then j.cids else []
+abbrev pub job_cids : ℕ → Keeping → List ℕ
+job_cids q j = if j.queue == q then j.course.cids else []
 
 -- and those of all tickets of queue q
 abbrev pub cids_on : ℕ → List InFlight → List ℕ
@@ -38,13 +36,6 @@ pub record IsJudged (c : ConfigNumbers) (past : Past) (q : ℕ) (j : Judged) : T
 -- one or two commands
 abbrev pub commands_of : Submission → Option Submission → List Submission
 commands_of first second = first ∷ option_to_list second
-
--- what is owed before anything runs
-abbrev pub owed_first : Judged → List Status
-owed_first judged.Flush = success ∷ []
-owed_first (judged.Failed s) = s ∷ []
-owed_first (judged.FailedPair s r) = s ∷ r ∷ []
-owed_first _ = []
 
 -- what it has to do
 abbrev pub kind_in : Judged → Kind
@@ -63,14 +54,6 @@ read_first _ = []
 abbrev pub cids_by : List Submission → List ℕ
 cids_by commands = map (λ s. (sqe_fields s.entry).cid) commands
 
--- the blocks that this command names
-abbrev pub range_by : Submission → Range
-range_by s = record { slba = slba (sqe_fields s.entry); blocks = blocks (sqe_fields s.entry) }
-
--- none of them but for an operation
-abbrev pub left_by : Option Op → Range → Range
-left_by o r = record { slba = r.slba; blocks = if is_some o then r.blocks else 0 }
-
 -- the Compare's data, by the operation
 abbrev pub compare_by : Option Op → Submission → List ℕ
 compare_by o first = if has_compare o then first.payload else []
@@ -81,18 +64,13 @@ write_by (Some Op.Write) first second = first.payload
 write_by (Some Op.Pair) first (Some other) = other.payload
 write_by _ first second = []
 
--- the job of a ticket that begins, with this room for what it reads
-abbrev pub first_job : ℕ → Judged → Submission → Option Submission → List ℕ → Job
+-- what is kept of a ticket that begins, with this room for what it reads
+abbrev pub first_job : ℕ → Judged → Submission → Option Submission → List ℕ → Keeping
 first_job q j first second read =
     record {
       queue = q;
-      cids = cids_by (commands_of first second);
-      op = operation_in j;
-      range = range_by first;
-      left = left_by (operation_in j) (range_by first);
-      opened = 0;
-      run = None;
-      owed = owed_first j;
+      course = record { stage = first_stage j; cids = cids_by (commands_of first second) };
+      slba = slba (sqe_fields first.entry);
       compare = compare_by (operation_in j) first;
       write = write_by (operation_in j) first second;
       read = read;

@@ -1,24 +1,21 @@
 -- What the fields of a core are: what the definitions compute from its history.
-use Rattle.std.specs.Option.{option_map}
-use Rattle.std.specs.Prelude.{List, None, Option, Some, [], drop, false, if◌then◌else◌, length, map, replicate, ℕ, ◌%◌, ◌*◌, ◌+◌, ◌++◌, ◌-◌, ◌/◌, ◌==◌}
+use Rattle.std.specs.Prelude.{List, Option, Some, [], drop, if◌then◌else◌, length, map, replicate, ℕ, ◌%◌, ◌*◌, ◌++◌, ◌-◌, ◌/◌, ◌==◌}
 use Rattle.nvme_model.specs.Completions.{posted, reaped}
-use Rattle.nvme_model.specs.EntryBytes.{blocks}
+use Rattle.nvme_model.specs.EntryBytes.{blocks, slba}
 use Rattle.nvme_model.specs.History.{Past}
 use Rattle.nvme_model.specs.Operations.{has_compare, op}
 use Rattle.nvme_model.specs.Queues.{fetched, waiting}
-use Rattle.ticket_standing.specs.Standing.{OpenUnit, Standing, flying, left, standing, still_owed, without}
+use Rattle.ticket_standing.specs.Standing.{Standing, flying, standing}
 use Rattle.nvme_model.specs.Tickets.{Ticket, cids, command, first_fields}
-use Rattle.nvme_model.specs.declared.array.Range.{Range}
 use Rattle.nvme_model.specs.declared.config.ConfigNumbers.{ConfigNumbers}
 use Rattle.nvme_model.specs.declared.entry.PostLine.{PostLine}
 use Rattle.nvme_model.specs.declared.operation.Op.{Op}
-use Rattle.block_exec.specs.Progress.{Progress}
 use Rattle.rings.specs.Completions.{CompletionRing}
 use Rattle.rings.specs.Submissions.{SubmissionRing}
 use Rattle.rings.specs.declared.completion_ring.Completion.{Completion}
 use Rattle.job_table.specs.Jobs.{JobTable, jobs_beside, jobs_by, replaced}
-use Rattle.job_table.specs.declared.job.Job.{Job}
-use Rattle.step_core.specs.State.{ticket_range}
+use Rattle.job_table.specs.Keeping.{Keeping, posted_job}
+use Rattle.ticket_course.specs.Shown.{stage_of}
 
 -- ---- queues
 
@@ -58,30 +55,20 @@ abbrev pub read_bytes_by : Option Op → Ticket → List ℕ → List ℕ
 read_bytes_by (Some Op.Read) k read = read ++ replicate (512 * blocks (first_fields k) - length read) 0
 read_bytes_by _ k read = []
 
--- how far the open unit of an operation has come
-abbrev pub run_by : Option Op → OpenUnit → Progress
-run_by (Some o) u = record { op = o; range = u.line.range; made = u.made; differed = false }
-run_by None u = record { op = Op.Read; range = u.line.range; made = u.made; differed = false }
-
 -- what is kept of a ticket that stands so
-unfoldable pub job_by : ConfigNumbers → Standing → Job
+unfoldable pub job_by : ConfigNumbers → Standing → Keeping
 job_by c s =
     record {
       queue = s.ticket.queue;
-      cids = drop s.posts (cids s.ticket);
-      op = op s.ticket;
-      range = ticket_range s.ticket;
-      left = left c s;
-      opened = s.opened;
-      run = option_map (run_by (op s.ticket)) s.unit;
-      owed = still_owed c s;
+      course = record { stage = stage_of c s; cids = drop s.posts (cids s.ticket) };
+      slba = slba (first_fields s.ticket);
       compare = compare_bytes s.ticket;
       write = write_bytes_by (op s.ticket) s.ticket;
       read = read_bytes_by (op s.ticket) s.ticket s.read;
     }
 
 -- of ticket t
-abbrev pub job_at : ConfigNumbers → Past → ℕ → Job
+abbrev pub job_at : ConfigNumbers → Past → ℕ → Keeping
 job_at c past t = job_by c (standing past t)
 
 -- all tickets in flight
@@ -90,23 +77,11 @@ job_table c past = record { limit = c.jobs; jobs = jobs_by (job_at c past) (flyi
 
 -- ---- what a step changes of a job
 
--- the run of a unit that has just been opened
-abbrev pub fresh_run : Range → Op → Progress
-fresh_run r o = record { op = o; range = r; made = 0; differed = false }
-
--- with this unit opened
-abbrev pub opened_job : Job → Range → Job
-opened_job j r = record j { opened = j.opened + 1; left = without j.left r.blocks; run = option_map (fresh_run r) j.op }
-
--- with its next completion posted
-abbrev pub posted_job : Job → Job
-posted_job j = record j { cids = drop 1 j.cids; owed = drop 1 j.owed }
-
 -- the tickets in flight after a Post of this ticket, with this job: its last completion takes it out of flight
-abbrev pub posted_table : JobTable → ℕ → Job → JobTable
+abbrev pub posted_table : JobTable → ℕ → Keeping → JobTable
 posted_table table t j =
-    if length j.cids == 1 then record table { jobs = jobs_beside table.jobs t } else record table { jobs = replaced table.jobs t (posted_job j) }
+    if length j.course.cids == 1 then record table { jobs = jobs_beside table.jobs t } else record table { jobs = replaced table.jobs t (posted_job j) }
 
 -- what goes with it: all that was read goes with the last
-abbrev pub posted_payload : Job → List ℕ
-posted_payload j = if length j.cids == 1 then j.read else []
+abbrev pub posted_payload : Keeping → List ℕ
+posted_payload j = if length j.course.cids == 1 then j.read else []

@@ -8,6 +8,7 @@ use Rattle.nvme_model.specs.Owed.{owed}
 use Rattle.nvme_model.specs.declared.status.Status.{Status}
 use Rattle.step_core.specs.declared.machine.post.Due.{Due}
 use Rattle.nvme_model.specs.History.{Past}
+use Rattle.nvme_model.specs.Legal.{IsLegal}
 use Rattle.nvme_model.specs.Medium.{medium}
 use Rattle.nvme_model.specs.Open.{open_units}
 use Rattle.nvme_model.specs.Tickets.{in_flight, posts_of, ticket, tickets}
@@ -18,7 +19,7 @@ use Rattle.range_reserve.specs.declared.held.Held.{Held}
 use Rattle.rings.specs.Completions.{CompletionRing}
 use Rattle.rings.specs.Submissions.{SubmissionRing}
 use Rattle.job_table.specs.Jobs.{JobTable}
-use Rattle.job_table.specs.declared.job.Job.{Job}
+use Rattle.job_table.specs.Keeping.{Keeping}
 use Rattle.step_core.specs.Fields.{completion_ring, job_at, job_table, submission_ring}
 
 -- the list is what f says of each place below n
@@ -49,8 +50,9 @@ pub record IsCqRing (c : ConfigNumbers) (past : Past) (q : ℕ) (r : CompletionR
   pub is : r ≡ completion_ring c past q
   pub within : reaped past q ≤ length (posted c past q)
 
--- a ticket in flight and its job
-pub record IsJob (c : ConfigNumbers) (past : Past) (t : ℕ) (j : Job) : Type 0 where
+-- a ticket in flight of a legal history, and what is kept of it
+pub record IsJob (c : ConfigNumbers) (past : Past) (t : ℕ) (j : Keeping) : Type 0 where
+  pub legal : IsLegal c past
   pub flies : in_flight past t ≡ true
   pub is : j ≡ job_at c past t
 

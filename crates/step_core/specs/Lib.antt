@@ -5,5 +5,4 @@ pub mod Kept
 pub mod Fetches
 pub mod Runs
 pub mod Ready
-pub mod Blocks
 pub mod OneAtATime

@@ -43,7 +43,7 @@ use Rattle.ticket_course.specs.declared.course.Stage.{Stage}
 use Rattle.ticket_course.specs.declared.course.Stage.TheVariants.{Open, Owing, Waiting}
 
 -- no block is left where no unit is
-none_behind : (rs : List Range) (n : ℕ) → Each (λ r. 1 ≤ r.blocks) rs → nat_le (length rs) n ≡ (blocks_of_all (drop n rs) == 0)
+pub none_behind : (rs : List Range) (n : ℕ) → Each (λ r. 1 ≤ r.blocks) rs → nat_le (length rs) n ≡ (blocks_of_all (drop n rs) == 0)
 none_behind [] zero e = le-leb 0 0 (omega arith)
 none_behind [] (suc n) e = le-leb 0 (suc n) (omega arith)
 none_behind (r ∷ rs) zero e =
@@ -54,7 +54,7 @@ none_behind (r ∷ rs) (suc n) e = next (length rs) n ∙ none_behind rs n e.1
     next a b = grind (arith, nat_tests)
 
 -- an operation is of a verdict that passed
-owed_by_op : (c : ConfigNumbers) (s : Standing) (o : Op) (v : Verdict) (e : Sqe) → op_by v e ≡ Some o → owed_by_standing c s v ≡ owed_running c s (op s.ticket)
+pub owed_by_op : (c : ConfigNumbers) (s : Standing) (o : Op) (v : Verdict) (e : Sqe) → op_by v e ≡ Some o → owed_by_standing c s v ≡ owed_running c s (op s.ticket)
 owed_by_op c s o Verdict.Single e h = refl
 owed_by_op c s o Verdict.Pair e h = refl
 owed_by_op c s o (Verdict.SingleFailed f) e h = absurd (let x : None ≡ Some o = h in cc)
@@ -87,7 +87,7 @@ module _ (c : ConfigNumbers) (s : Standing) (o : Op) (does : op s.ticket ≡ Som
           let run : has_run c s ≡ true = (λ z. last z && is_none (n z)) in
           ap Owing (owed_is ∙ (λ z. cond (d z) (on_differs o) (cond (run z) (on_success o) [])))
 
-found_any : {X : Type 0} (f : X → Bool) (xs : List X) (x : X) → find f xs ≡ Some x → list_any f xs ≡ true
+pub found_any : {X : Type 0} (f : X → Bool) (xs : List X) (x : X) → find f xs ≡ Some x → list_any f xs ≡ true
 found_any f [] x e = absurd cc
 found_any f (y ∷ ys) x e = go (f y) (found_any f ys x) e
   where

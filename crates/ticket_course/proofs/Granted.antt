@@ -24,7 +24,7 @@ use Rattle.ticket_course.specs.Shown.{stage_by, stage_of}
 use Rattle.ticket_course.specs.Stages.{opened_in}
 use Rattle.ticket_course.specs.declared.course.Stage.TheVariants.{Open, Owing, Waiting}
 
-none_found : {X : Type 0} (f : X → Bool) (xs : List X) → list_any f xs ≡ false → find f xs ≡ None
+pub none_found : {X : Type 0} (f : X → Bool) (xs : List X) → list_any f xs ≡ false → find f xs ≡ None
 none_found f [] e = refl
 none_found f (x ∷ xs) e =
     let parts = or_parts (f x) (list_any f xs) e in

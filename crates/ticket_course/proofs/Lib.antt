@@ -3,3 +3,5 @@ pub mod Granted
 pub mod Blocked
 pub mod Posted
 pub mod Fetched
+pub mod Owes
+pub mod Waits

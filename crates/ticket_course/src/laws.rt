@@ -1,7 +1,7 @@
-//! How the stage of a ticket moves in a legal history of any controller, as the contract of a function that does
-//! nothing.
+//! How the stage of a ticket moves in a legal history of any controller, and what it owes, as the contracts
+//! of functions that do nothing.
 
-ghost use Rattle.std.specs.Prelude.{◌≡◌, ◌∷◌, List, drop};
+ghost use Rattle.std.specs.Prelude.{◌≡◌, ◌∷◌, List, drop, ℕ};
 ghost use Rattle.nvme_model.specs.History.{Past};
 ghost use Rattle.nvme_model.specs.Legal.{IsLegal};
 ghost use Rattle.nvme_model.specs.Operations.{op};
@@ -15,9 +15,9 @@ ghost use Rattle.nvme_model.specs.declared.entry.GrantLine.{GrantLine};
 ghost use Rattle.nvme_model.specs.declared.entry.PostLine.{PostLine};
 ghost use Rattle.nvme_model.specs.declared.status.Status.{Status};
 ghost use Rattle.ticket_course.specs.declared.course.Stage.{Stage};
-ghost use Rattle.ticket_standing.specs.Standing.{fresh, standing};
+ghost use Rattle.ticket_standing.specs.Standing.{fresh, standing, still_owed};
 ghost use Rattle.ticket_course.specs.Shown.{stage_of};
-ghost use Rattle.ticket_course.specs.Stages.{first_stage, noted_in, opened_in};
+ghost use Rattle.ticket_course.specs.Stages.{first_stage, noted_in, opened_in, owed_in};
 
 /// A ticket that was just fetched is at the first stage of its verdict. A Grant opens the unit of its range, and a Block
 /// moves its unit by what it found, wherever the unit's mark stands; a Post takes the first off what is owed.
@@ -34,4 +34,10 @@ pub fn a_step_moves_the_stage()
     ensures posted { (c : ConfigNumbers) (past : Past) (p : PostLine) (owed : List Status) →
         stage_of c (standing past p.ticket) ≡ Stage.Owing owed →
         stage_of c (standing (Entry.Post p ∷ past) p.ticket) ≡ Stage.Owing (drop 1 owed) }
+{}
+
+/// What the stage of a ticket owes is what the ticket still owes.
+pub fn a_stage_owes_what_its_ticket_owes()
+    ensures owes { (c : ConfigNumbers) (past : Past) (t : ℕ) → IsLegal c past →
+        owed_in (stage_of c (standing past t)) ≡ still_owed c (standing past t) }
 {}

@@ -6,27 +6,25 @@ ghost use Rattle.fused_match.specs.Judged.{NamesBlocks, operation_in, verdict_by
 ghost use Rattle.nvme_model.specs.EntryBytes.{sqe_fields};
 ghost use Rattle.nvme_model.specs.Operations.{op_by};
 ghost use Rattle.nvme_model.specs.Refusals.{jobs_full, refusal};
-ghost use Rattle.nvme_model.specs.Verdict.{item_of, verdict_of};
+ghost use Rattle.nvme_model.specs.Verdict.{item_of, taken, verdict_of};
 ghost use Rattle.nvme_model.specs.declared.operation.Op.{Op as Operation};
 ghost use Rattle.nvme_model.specs.declared.step.Step.{Step};
 ghost use Rattle.rings.specs.Submissions.{advanced};
-ghost use Rattle.step_core.specs.Fetches.{IsJudged, cids_by, cids_on, commands_of, compare_by, first_job, job_cids, kind_in, left_by, owed_first, range_by, read_first, write_by};
+ghost use Rattle.step_core.specs.Fetches.{IsJudged, cids_by, cids_on, commands_of, compare_by, first_job, job_cids, kind_in, read_first, write_by};
 ghost use Rattle.step_core.specs.State.{Does};
+ghost use Rattle.ticket_course.specs.Stages.{IsSound};
 
 use crate::answer::Answer;
 use crate::machine::Core;
 use crate::machine::room::keep_room;
 use crate::work::{Kind, Work};
-use completions::Owed;
 use entry_codec::{Sqe, decode_sqe};
 use fused_match::{Item, Judged, judge};
 use history::Config;
-use job_table::{Job, Jobs};
-use nvme_model::array::Range;
+use job_table::{Data, Job, Jobs};
 use nvme_model::entry::{Entry, FetchLine};
 use nvme_model::operation::Op;
 use nvme_model::refusal::Why;
-use nvme_model::status::Status;
 use nvme_model::submission::{Payload, Submission};
 use rings::SqRing;
 use std::alloc::{AllocError as NoMemory, Global};
@@ -39,15 +37,16 @@ fn put_cids(job: &Job, queue: u16, in_use: &mut [u16; 512], count: usize) -> usi
     ensures few { result ≤ count + 2 }
     ensures value { take result in_use.new ≡ take count in_use.old ++ job_cids queue job.now }
 {
-    if job.queue != queue {
+    if job.queue() != queue {
         return count;
     }
-    let _most = job.cids.len();
-    let Some(first) = job.cids.get(0) else {
+    let cids = job.course().cids();
+    let _most = cids.len();
+    let Some(first) = cids.get(0) else {
         return count;
     };
     in_use[count] = first;
-    let Some(second) = job.cids.get(1) else {
+    let Some(second) = cids.get(1) else {
         return count + 1;
     };
     in_use[count + 1] = second;
@@ -68,18 +67,6 @@ fn cids_in_use(jobs: &Jobs, queue: u16, in_use: &mut [u16; 512]) -> usize
         count = put_cids(job, queue, in_use, count);
     }
     count
-}
-
-// What is owed before anything runs.
-fn owed_at_fetch(judged: &Judged) -> Owed
-    ensures value { result ≡ owed_first judged.now }
-{
-    match judged {
-        Judged::Flush => Owed::one(Status::new(0, 0)),
-        Judged::Failed(status) => Owed::one(*status),
-        Judged::FailedPair(first, second) => Owed::two(*first, *second),
-        Judged::Single(_, _) | Judged::Pair(_) => Owed::none(),
-    }
 }
 
 // Zeros for what a Read will read; nothing for anything else.
@@ -139,27 +126,6 @@ fn cids_of(first: &Submission, second: &Option<Submission>) -> Cids
     }
 }
 
-// The blocks that a command names.
-fn range_of(submission: &Submission) -> Range
-    ensures value { result ≡ range_by submission.now }
-{
-    let sqe = fields(submission);
-    Range {
-        slba: sqe.slba(),
-        blocks: sqe.blocks(),
-    }
-}
-
-// Those of them that no unit has had yet.
-fn left_of(op: Option<Op>, range: Range) -> Range
-    ensures value { result ≡ left_by op range }
-{
-    Range {
-        slba: range.slba,
-        blocks: if op.is_some() { range.blocks } else { 0 },
-    }
-}
-
 // The Compare's data and the Write's, of what lies beside the commands.
 fn data_of(
     alloc: Global,
@@ -190,25 +156,21 @@ fn new_job(
     read: Payload,
 ) -> Job
     requires both { operation_in judged.now ≡ Some Operation.Pair → is_some second ≡ true }
+    requires cids { length (commands_of first second) ≡ taken (verdict_by judged.now) }
+    requires sound { IsSound judged.now }
     ensures value { result ≡ first_job queue judged.now first second read }
 {
     let op = op_of(judged);
     let cids = cids_of(&first, &second);
-    let range = range_of(&first);
+    let slba = fields(&first).slba();
     let (compare, write) = data_of(alloc, op, first, second);
-    Job {
-        queue,
-        cids,
-        op,
-        range,
-        left: left_of(op, range),
-        opened: 0,
-        run: None,
-        owed: owed_at_fetch(judged),
+    let all = Data {
+        slba,
         compare,
         write,
         read,
-    }
+    };
+    Job::new(queue, judged, cids, all)
 }
 
 // Takes the next one or two entries out of a ring.

@@ -2,19 +2,20 @@
 
 ghost use Rattle.std.specs.Prelude.{◌≡◌, ◌≢◌, ◌<◌, [], IfOk, MatchResult, None, OnErr, Some, length, true};
 ghost use Rattle.job_table.specs.Jobs.{has_ticket, job_of, jobs_beside};
-ghost use Rattle.job_table.specs.declared.job.Job.{Job};
+ghost use Rattle.job_table.specs.Keeping.{Keeping};
 ghost use Rattle.step_core.specs.Fields.{posted_payload, posted_table};
 ghost use Rattle.nvme_model.specs.Refusals.{refusal};
 ghost use Rattle.nvme_model.specs.declared.step.Step.{Step};
 ghost use Rattle.step_core.specs.Kept.{IsDue};
 ghost use Rattle.step_core.specs.State.{Does};
+ghost use Rattle.ticket_course.specs.Stages.{owed_in};
 
 use crate::answer::Answer;
 use crate::machine::Core;
 use crate::machine::room::keep_room;
 use completions::cqe_of;
 use entry_codec::encode_cqe;
-use job_table::{Job, Jobs};
+use job_table::Jobs;
 use nvme_model::entry::{Entry, PostLine};
 use nvme_model::refusal::Why;
 use nvme_model::submission::Payload;
@@ -38,21 +39,21 @@ impl Core {
         let Some(job) = self.job(ticket) else {
             return Err(Why::NoTicket);
         };
-        let Some(status) = job.owed.front() else {
+        let Some((status, cid)) = job.course().due() else {
             return Err(Why::WrongState);
         };
-        let Some(cid) = job.cids.front() else {
-            unreachable!();
-        };
-        let place = (job.queue - 1) % self.config.numbers().cqs;
+        let queue = job.queue();
+        let place = (queue - 1) % self.config.numbers().cqs;
         let ring = &self.completion[place as usize];
         if ring.is_full() {
             return Err(Why::CqFull);
         }
-        let head = self.submission[job.queue as usize - 1].head();
-        let cqe = encode_cqe(&cqe_of(status, cid, job.queue, head, ring.phase()));
-        let queue = place + 1;
-        Ok(Due { queue, cqe })
+        let head = self.submission[queue as usize - 1].head();
+        let cqe = encode_cqe(&cqe_of(status, cid, queue, head, ring.phase()));
+        Ok(Due {
+            queue: place + 1,
+            cqe,
+        })
     }
 
     /// Posts a ticket's next completion.
@@ -81,35 +82,34 @@ impl Core {
 // A copy of what a Read has read, for the history.
 fn read_copy(alloc: Global, jobs: &Jobs, ticket: u64) -> Result<Payload, NoMemory>
     requires flies { has_ticket jobs.now.jobs ticket ≡ true }
-    ensures value { IfOk result (λ copy. (j : Job) → job_of jobs.now.jobs ticket ≡ Some j → copy ≡ j.read) }
-    ensures wants { OnErr result ((j : Job) → job_of jobs.now.jobs ticket ≡ Some j → j.read ≢ []) }
+    ensures value { IfOk result (λ copy. (j : Keeping) → job_of jobs.now.jobs ticket ≡ Some j → copy ≡ j.read) }
+    ensures wants { OnErr result ((j : Keeping) → job_of jobs.now.jobs ticket ≡ Some j → j.read ≢ []) }
 {
     let Some(job) = jobs.get(ticket) else {
         unreachable!();
     };
-    if job.read.as_slice().is_empty() {
+    if job.read().is_empty() {
         return Ok(Payload::new(Vec::new(alloc)));
     }
-    Ok(Payload::new(job.read.as_slice().to_vec(alloc)?))
+    Ok(Payload::new(job.read().to_vec(alloc)?))
 }
 
 // Takes the next completion off what a ticket owes, and the ticket out of flight with its last one, and gives what it has read then.
 fn finish_post(alloc: Global, jobs: &mut Jobs, ticket: u64) -> Payload
     requires flies { has_ticket jobs.old.jobs ticket ≡ true }
-    requires owes { (j : Job) → job_of jobs.old.jobs ticket ≡ Some j → (0 < length j.cids) × (0 < length j.owed) }
-    ensures value { (j : Job) → job_of jobs.old.jobs ticket ≡ Some j → (jobs.new ≡ posted_table jobs.old ticket j) × (result ≡ posted_payload j) }
+    requires owes { (j : Keeping) → job_of jobs.old.jobs ticket ≡ Some j → 0 < length (owed_in j.course.stage) }
+    ensures value { (j : Keeping) → job_of jobs.old.jobs ticket ≡ Some j → (jobs.new ≡ posted_table jobs.old ticket j) × (result ≡ posted_payload j) }
 {
     let Some(job) = jobs.get(ticket) else {
         unreachable!();
     };
-    if job.cids.len() == 1 {
+    if job.course().cids().len() == 1 {
         return take_read(jobs, ticket);
     }
     let Some(job) = jobs.get_mut(ticket) else {
         unreachable!();
     };
-    let _status = job.owed.pop();
-    let _cid = job.cids.pop();
+    let _last = job.post();
     Payload::new(Vec::new(alloc))
 }
 
@@ -117,11 +117,10 @@ fn finish_post(alloc: Global, jobs: &mut Jobs, ticket: u64) -> Payload
 fn take_read(jobs: &mut Jobs, ticket: u64) -> Payload
     requires flies { has_ticket jobs.old.jobs ticket ≡ true }
     ensures jobs { jobs.new ≡ record jobs.old { jobs = jobs_beside jobs.old.jobs ticket } }
-    ensures value { (j : Job) → job_of jobs.old.jobs ticket ≡ Some j → result ≡ j.read }
+    ensures value { (j : Keeping) → job_of jobs.old.jobs ticket ≡ Some j → result ≡ j.read }
 {
     let Some(job) = jobs.remove(ticket) else {
         unreachable!();
     };
-    let Job { read, .. } = job;
-    read
+    job.into_read()
 }

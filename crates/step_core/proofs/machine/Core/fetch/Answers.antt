@@ -1,6 +1,6 @@
 use Rattle.std.proofs.Common.{arith, subst, sym}
 use Rattle.step_core.specs.State.{State}
-use Rattle.step_core.proofs.Fetched.{IsFetched, ticket_fits, can_take, both_taken, is_above, not_full, work_fits, fetch_kept, fetch_done}
+use Rattle.step_core.proofs.Fetched.{IsFetched, ticket_fits, can_take, both_taken, cids_are, is_above, sound_is, not_full, work_fits, fetch_kept, fetch_done}
 use Rattle.step_core.proofs.machine.Core.fetch.Goals as goal
 
 pub overflow_add-ticket : goal.overflow_add-ticket
@@ -16,7 +16,11 @@ take_commands-first-requires-clause-within c =
 pub new_job-job-requires : goal.new_job-job-requires
 new_job-job-requires c =
     let a = subst (λ (x : State). IsFetched x.config x.past c.args.queue c.in_ok-judged.judged) (sym c.self.view_is) c.in_ok-judged.ensures.value in
-    record { both = both_taken _ _ _ _ _ _ _ _ c.self.invariant.0 _ _ a _ _ _ _ c.index_mut-ring.ensures.value c.taken.ensures.value c.take_commands-first.ensures.taken }
+    record {
+      both = both_taken _ _ _ _ _ _ _ _ c.self.invariant.0 _ _ a _ _ _ _ c.index_mut-ring.ensures.value c.taken.ensures.value c.take_commands-first.ensures.taken;
+      cids = cids_are _ _ _ _ _ _ _ _ c.self.invariant.0 _ _ a _ _ _ _ c.index_mut-ring.ensures.value c.taken.ensures.value c.take_commands-first.ensures.taken;
+      sound = sound_is _ _ _ _ _ _ _ _ c.self.invariant.0 _ _ a;
+    }
 
 pub insert-requires : goal.insert-requires
 insert-requires c =

@@ -1,7 +1,7 @@
 use Rattle.std.proofs.Common.{◌≡◌, List, Err, None, ap, arith, false, inl, inr, refl, sym, true, ◌∙◌}
 use Rattle.range_reserve.specs.Reserved.{has_conflict, has_ticket, insert_held}
 use Rattle.range_reserve.specs.declared.held.Held.{Held}
-use Rattle.step_core.proofs.Granted.{apart, few, fits, free, grant_seen, has_job, has_op, kept, range_is, within}
+use Rattle.step_core.proofs.Granted.{apart, first, free, grant_seen, has_job, kept, range_is}
 use Rattle.step_core.proofs.machine.Core.grant.Goals as goal
 
 pub grant-requires-clause-free : goal.grant-requires-clause-free
@@ -26,32 +26,17 @@ pub unreachable-requires-in_default-get_mut : goal.unreachable-requires-in_defau
 unreachable-requires-in_default-get_mut c =
     has_job _ _ _ _ _ _ _ _ c.self.invariant.0 c.args.ticket c.in_ok-line.line (grant_seen _ _ _ _ _ _ c.self.view_is c.in_ok-line.ensures.value) None c.in_default-get_mut.ensures.value refl
 
-pub open_unit-requires-clause-unit : goal.open_unit-requires-clause-unit
-open_unit-requires-clause-unit c =
-    rw c.get-range.ensures.value (range_is _ _ _ _ _ _ _ _ c.self.invariant.0 c.args.ticket c.in_ok-line.line (grant_seen _ _ _ _ _ _ c.self.view_is c.in_ok-line.ensures.value))
-
-pub open_unit-requires-clause-some : goal.open_unit-requires-clause-some
-open_unit-requires-clause-some c =
-    has_op _ _ _ _ _ _ _ _ c.self.invariant.0 c.args.ticket c.in_ok-line.line (grant_seen _ _ _ _ _ _ c.self.view_is c.in_ok-line.ensures.value) c.in-Some.job.now c.in-Some.ensures.value
-
-pub open_unit-requires-clause-fits : goal.open_unit-requires-clause-fits
-open_unit-requires-clause-fits c =
-    rw c.get-range.ensures.value (fits _ _ _ _ _ _ _ _ c.self.invariant.0 c.args.ticket c.in_ok-line.line (grant_seen _ _ _ _ _ _ c.self.view_is c.in_ok-line.ensures.value) c.in-Some.job.now c.in-Some.ensures.value)
-
-pub open_unit-requires-clause-within : goal.open_unit-requires-clause-within
-open_unit-requires-clause-within c =
-    within _ _ _ _ _ _ _ _ c.self.invariant.0 c.args.ticket c.in_ok-line.line (grant_seen _ _ _ _ _ _ c.self.view_is c.in_ok-line.ensures.value) c.in-Some.job.now c.in-Some.ensures.value
-
-pub open_unit-requires-clause-count : goal.open_unit-requires-clause-count
-open_unit-requires-clause-count c =
-    few _ _ _ _ _ _ _ _ c.self.invariant.0 c.args.ticket c.in_ok-line.line (grant_seen _ _ _ _ _ _ c.self.view_is c.in_ok-line.ensures.value) c.in-Some.job.now c.in-Some.ensures.value
+pub open-requires : goal.open-requires
+open-requires c = record {
+  first = rw c.get-range.ensures.value (first _ _ _ _ _ _ _ _ c.self.invariant.0 c.args.ticket c.in_ok-line.line (grant_seen _ _ _ _ _ _ c.self.view_is c.in_ok-line.ensures.value) c.in-Some.job.now c.in-Some.ensures.value);
+}
 
 pub invariant_of-self-2 : goal.invariant_of-self-2
 invariant_of-self-2 c =
-    let opened = rw c.get-range.ensures.value at c.open_unit.ensures.value in
+    let opened = rw c.get-range.ensures.value at c.open.ensures.opened in
     let held = rw c.get-range.ensures.value at c.in-Ok.ensures.ok in (
       kept _ _ _ _ _ _ _ _ c.self.invariant.0 c.args.ticket c.in_ok-line.line (grant_seen _ _ _ _ _ _ c.self.view_is c.in_ok-line.ensures.value) c.in-Some.job.now c.in-Some.ensures.value
-          c.take_both.new.history.past c.push_reserved.new.self.past c.open_unit.new.job c.grant.new.self.held
+          c.take_both.new.history.past c.push_reserved.new.self.past c.open.new.self c.grant.new.self.held
           c.take_both.ensures.past c.push_reserved.ensures.past opened
           (held ∙ ap (insert_held (record { ticket = c.args.ticket; range = c.in_ok-line.line.range; mode = c.in_ok-line.line.mode })) c.take_both.ensures.ranges),
       omega (arith, c.push_reserved.ensures.room, c.in_ok-take_both.ensures.ok.1),

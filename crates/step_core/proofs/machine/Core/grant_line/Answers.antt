@@ -1,37 +1,26 @@
-use Rattle.std.proofs.Common.{◌≡◌, ap, arith, sym, ◌∙◌}
+use Rattle.std.proofs.Common.{◌≡◌, ap, ap₂, arith, sym, ◌∙◌}
 use Rattle.nvme_model.specs.declared.config.AtomicParameters.{AtomicParameters}
-use Rattle.ticket_standing.specs.Standing.{next_of}
+use Rattle.ticket_course.specs.Stages.{Ticking, mode_in, next_in, unit_in}
 use Rattle.step_core.specs.State.{State}
-use Rattle.step_core.proofs.Granting.{already_open, in_conflict, left_fits, line_is, next_short, nothing_next, seen}
+use Rattle.step_core.proofs.Granting.{in_conflict, line_is, next_short, nothing_next, seen}
 use Rattle.step_core.proofs.machine.Core.grant_line.Goals as goal
 
-pub next_of-requires : goal.next_of-requires
-next_of-requires c = record {
-  within = left_fits _ _ _ _ _ _ _ _ (seen _ _ _ _ _ _ _ _ _ _ c.self.view_is c.self.invariant.0) c.args.ticket c.in-Some.job.now c.in-Some.ensures.value;
-}
-
-pub returns-in_default-next_of : goal.returns-in_default-next_of
-returns-in_default-next_of c =
+pub returns-in_default-next_unit : goal.returns-in_default-next_unit
+returns-in_default-next_unit c =
     let same : c.units.result ≡ c.args.self.now.config.atomic = c.units.ensures ∙ ap (λ (x : State). x.config.atomic) c.self.view_is in
     record {
       value = nothing_next _ _ _ _ _ _ _ _ (seen _ _ _ _ _ _ _ _ _ _ c.self.view_is c.self.invariant.0) c.args.ticket c.in-Some.job.now c.in-Some.ensures.value
-          (ap (λ (u : AtomicParameters). next_of u c.in-Some.job.now.op c.in-Some.job.now.left) (sym same) ∙ sym c.in_default-next_of.ensures.value);
+          (ap₂ (λ (u : AtomicParameters) (x : Ticking). next_in u x.stage) (sym same) (sym c.course-course.ensures.value) ∙ sym c.in_default-next_unit.ensures.value);
     }
-
-pub returns-then-is_some : goal.returns-then-is_some
-returns-then-is_some c = record {
-  value = already_open _ _ _ _ _ _ _ _ (seen _ _ _ _ _ _ _ _ _ _ c.self.view_is c.self.invariant.0) c.args.ticket c.in-Some.job.now c.in-Some.ensures.value
-      (sym c.if-is_some.ensures);
-}
 
 pub returns-then-conflicts : goal.returns-then-conflicts
 returns-then-conflicts c =
     let same : c.units.result ≡ c.args.self.now.config.atomic = c.units.ensures ∙ ap (λ (x : State). x.config.atomic) c.self.view_is in
     record {
       value = in_conflict _ _ _ _ _ _ _ _ (seen _ _ _ _ _ _ _ _ _ _ c.self.view_is c.self.invariant.0) c.args.ticket c.in-Some.job.now c.in-Some.ensures.value
-          c.in-Some-next_of.range c.mode_of-mode.result
-          (c.in-Some-next_of.ensures.value ∙ ap (λ (u : AtomicParameters). next_of u c.in-Some.job.now.op c.in-Some.job.now.left) same)
-          c.mode_of-mode.ensures.value (sym c.if-is_some.ensures) (sym c.if-conflicts.ensures.conflicts);
+          c.in-Some-next_unit.range
+          (c.in-Some-next_unit.ensures.value ∙ ap₂ (λ (u : AtomicParameters) (x : Ticking). next_in u x.stage) same c.course-course.ensures.value)
+          c.mode-mode.result (c.mode-mode.ensures.value ∙ ap (λ (x : Ticking). mode_in x.stage) c.course-course.ensures.value) (sym c.if-conflicts.ensures.conflicts);
     }
 
 pub overflow_cast-range : goal.overflow_cast-range
@@ -40,8 +29,8 @@ overflow_cast-range c =
     omega (
       arith,
       next_short _ _ _ _ _ _ _ _ (seen _ _ _ _ _ _ _ _ _ _ c.self.view_is c.self.invariant.0) c.args.ticket c.in-Some.job.now c.in-Some.ensures.value
-          c.in-Some-next_of.range
-          (c.in-Some-next_of.ensures.value ∙ ap (λ (u : AtomicParameters). next_of u c.in-Some.job.now.op c.in-Some.job.now.left) same),
+          c.in-Some-next_unit.range
+          (c.in-Some-next_unit.ensures.value ∙ ap₂ (λ (u : AtomicParameters) (x : Ticking). next_in u x.stage) same c.course-course.ensures.value),
     )
 
 pub returns : goal.returns
@@ -49,7 +38,8 @@ returns c =
     let same : c.units.result ≡ c.args.self.now.config.atomic = c.units.ensures ∙ ap (λ (x : State). x.config.atomic) c.self.view_is in
     rw c.new.ensures.value (record {
       value = line_is _ _ _ _ _ _ _ _ (seen _ _ _ _ _ _ _ _ _ _ c.self.view_is c.self.invariant.0) c.args.ticket c.in-Some.job.now c.in-Some.ensures.value
-          c.in-Some-next_of.range c.mode_of-mode.result
-          (c.in-Some-next_of.ensures.value ∙ ap (λ (u : AtomicParameters). next_of u c.in-Some.job.now.op c.in-Some.job.now.left) same)
-          c.mode_of-mode.ensures.value (sym c.if-is_some.ensures) (sym c.if-conflicts.ensures.conflicts);
+          c.in-Some-next_unit.range
+          (c.in-Some-next_unit.ensures.value ∙ ap₂ (λ (u : AtomicParameters) (x : Ticking). next_in u x.stage) same c.course-course.ensures.value)
+          c.mode-mode.result (c.mode-mode.ensures.value ∙ ap (λ (x : Ticking). mode_in x.stage) c.course-course.ensures.value)
+          c.unit.result (c.unit.ensures.value ∙ ap (λ (x : Ticking). unit_in x.stage) c.course-course.ensures.value) (sym c.if-conflicts.ensures.conflicts);
     })
