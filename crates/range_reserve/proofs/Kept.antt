@@ -1,4 +1,4 @@
--- Lists that are reversed, and what a filter keeps.
+-- What a filter keeps.
 use Rattle.std.proofs.Common.{◌≡◌, ℕ, Bool, true, false, not, cond, ◌||◌, List, [], ◌∷◌, ◌++◌, refl, sym, ap, ◌∙◌, ◌==◌, reverse, eqb, inl, inr, eqb-true, Option, Some, None, append-nil, is_some}
 use Rattle.std.specs.List.{filter, find, list_any}
 use Rattle.std.proofs.lemmas.Bool.{cases_Bool, cond-false, cond-true, not_from_false, or_from, or_parts}
@@ -11,50 +11,6 @@ use Rattle.nvme_model.specs.declared.array.Range.{Range}
 use Rattle.range_reserve.specs.declared.held.Held.{Held}
 use Rattle.range_reserve.specs.Reserved.{AreApart, IsRange, has_conflict, has_ticket, held_beside, held_by}
 use Rattle.std.specs.Option.{option_map}
-
--- ---- reversed lists
-
--- a push at the end stands first
-pub reverse_push : {X : Type 0} (xs : List X) (x : X) → reverse (xs ++ x ∷ []) ≡ x ∷ reverse xs
-reverse_push xs x = reverse-append xs (x ∷ [])
-
-pub list_any-reverse : {X : Type 0} (p : X → Bool) (xs : List X) → list_any p (reverse xs) ≡ list_any p xs
-list_any-reverse p xs = sym (list_any-IsPermutation p xs (reverse xs) (IsPermutation-reverse xs))
-
-pub filter-reverse : {X : Type 0} (p : X → Bool) (xs : List X) → filter p (reverse xs) ≡ reverse (filter p xs)
-filter-reverse p [] = refl
-filter-reverse p (x ∷ xs) =
-    ap (filter p) (reverse-append (x ∷ []) xs) ∙ filter-append p (reverse xs) (x ∷ []) ∙ ap (λ ys. ys ++ filter p (x ∷ [])) (filter-reverse p xs) ∙ last (p x) x (filter p xs)
-  where
-    last : {X : Type 0} (b : Bool) (x : X) (ys : List X) → reverse ys ++ cond b (x ∷ []) [] ≡ reverse (cond b (x ∷ ys) ys)
-    last true x ys = sym (reverse-append (x ∷ []) ys)
-    last false x ys = append-nil (reverse ys)
-
-find_append : {X : Type 0} (p : X → Bool) (xs ys : List X) → list_any p xs ≡ false → find p (xs ++ ys) ≡ find p ys
-find_append p [] ys h = refl
-find_append p (x ∷ xs) ys h =
-    let k : (p x ≡ false) × (list_any p xs ≡ false) = or_parts (p x) (list_any p xs) h in
-    cond-false (p x) _ _ k.0 ∙ find_append p xs ys k.1
-
-find_before : {X : Type 0} (p : X → Bool) (xs ys : List X) → find p ys ≡ None → find p (xs ++ ys) ≡ find p xs
-find_before p [] ys h = h
-find_before p (x ∷ xs) ys h = ap (λ (o : Option _). cond (p x) (Some x) o) (find_before p xs ys h)
-
--- where each ticket holds one, the order is the same to it
-pub find-reverse : (t : ℕ) (held : List Held) → AreApart held → find (λ h. h.ticket == t) (reverse held) ≡ find (λ h. h.ticket == t) held
-find-reverse t [] a = refl
-find-reverse t (h ∷ hs) a =
-    ap (find (λ h. h.ticket == t)) (reverse-append (h ∷ []) hs) ∙ elim (cases_Bool (h.ticket == t)) [
-      | inl e ↦
-          find_append (λ h. h.ticket == t) (reverse hs) (h ∷ [])
-          (list_any-reverse (λ h. h.ticket == t) hs ∙ ap (λ n. has_ticket hs n) (sym (eqb-true h.ticket t e)) ∙ a.1)
-          ∙ cond-true (h.ticket == t) (Some h) None e ∙ sym (cond-true (h.ticket == t) (Some h) (find (λ h. h.ticket == t) hs) e)
-      | inr e ↦
-          find_before (λ h. h.ticket == t) (reverse hs) (h ∷ []) (cond-false (h.ticket == t) (Some h) None e)
-          ∙ find-reverse t hs a.3 ∙ sym (cond-false (h.ticket == t) (Some h) (find (λ h. h.ticket == t) hs) e)
-    ]
-
--- ---- what a filter keeps
 
 list_any_kept : {X : Type 0} (p : X → Bool) (b : Bool) (x : X) (ys : List X) → p x ≡ false → list_any p ys ≡ false → list_any p (cond b (x ∷ ys) ys) ≡ false
 list_any_kept p true x ys h k = or_from (p x) (list_any p ys) h k
@@ -92,12 +48,6 @@ beside_none (h ∷ hs) t = kept (h.ticket == t) h (held_beside hs t) refl (besid
     kept : (b : Bool) (h : Held) (hs : List Held) → (h.ticket == t) ≡ b → has_ticket hs t ≡ false → has_ticket (cond (not b) (h ∷ hs) hs) t ≡ false
     kept true h hs e k = k
     kept false h hs e k = or_from (h.ticket == t) (has_ticket hs t) e k
-
--- where each ticket holds one, the order is the same to it
-pub held_by-reverse : (t : ℕ) (held : List Held) → AreApart (reverse held) → held_by (reverse held) t ≡ held_by held t
-held_by-reverse t held a =
-    ap (option_map (λ h. (h.range, h.mode)))
-    (sym (find-reverse t (reverse held) a) ∙ ap (find (λ h. h.ticket == t)) (reverse-reverse held))
 
 -- what a ticket holds is there where one has its number
 pub is_some-held_by : (held : List Held) (t : ℕ) → is_some (held_by held t) ≡ has_ticket held t

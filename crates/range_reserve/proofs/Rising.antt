@@ -111,7 +111,7 @@ filter-by_ticket q (h ∷ hs) =
 
 -- ---- each ticket holds one
 
-different : (x h t : ℕ) → (x == h) ≡ false → x ≡ t → (h == t) ≡ false
+pub different : (x h t : ℕ) → (x == h) ≡ false → x ≡ t → (h == t) ≡ false
 different x h t n e = ne_eqb h t (λ (d : h ≡ t). absurd (true≢false (sym (eq-eqb x h (e ∙ sym d)) ∙ n)))
 
 find-insert : (t : ℕ) (h : Held) (xs : List Held) → has_ticket xs h.ticket ≡ false
@@ -173,13 +173,3 @@ apart_by_ticket [] a = tt
 apart_by_ticket (h ∷ hs) a =
     apart_insert h (by_ticket hs) a.0 (list_any-by_ticket (λ y. y.ticket == h.ticket) hs ∙ a.1)
     (list_any-by_ticket (λ y. conflict h.range h.mode y.range y.mode) hs ∙ a.2) (apart_by_ticket hs a.3)
-
--- one more that nothing conflicts with
-pub apart_pushed : (h : Held) (xs : List Held) → IsRange h.range → has_ticket (by_ticket xs) h.ticket ≡ false → has_conflict (by_ticket xs) h.range h.mode ≡ false
-    → AreApart xs → AreApart (h ∷ xs)
-apart_pushed h xs r t c a = (
-  r,
-  sym (list_any-by_ticket (λ y. y.ticket == h.ticket) xs) ∙ t,
-  sym (list_any-by_ticket (λ y. conflict h.range h.mode y.range y.mode) xs) ∙ c,
-  a,
-)

@@ -1,9 +1,9 @@
 //! Which ranges conflict.
 
-ghost use Rattle.std.specs.Prelude.{◌≡◌};
+ghost use Rattle.std.specs.Prelude.{◌≡◌, ◌+◌, nat_lt};
 ghost use Rattle.nvme_model.specs.Array.{overlap};
 ghost use Rattle.nvme_model.specs.Open.{conflict};
-ghost use Rattle.range_reserve.specs.Reserved.{has_conflict};
+ghost use Rattle.range_reserve.specs.Sorted.{has_conflict_before_end};
 
 use crate::held::Held;
 use nvme_model::array::{Mode, Range};
@@ -30,10 +30,18 @@ fn conflict(a: Range, a_mode: Mode, b: Range, b_mode: Mode) -> bool
     (a_mode == Mode::Exclusive || b_mode == Mode::Exclusive) && overlap(a, b)
 }
 
-/// Whether the range conflicts with one of those.
-pub fn has_conflict(held: &[Held], range: Range, mode: Mode) -> bool
-    ensures value { result ≡ has_conflict held.now range mode }
+/// Whether this start is before the end of the range.
+fn starts_before_end(range: Range, start: u64) -> bool
+    ensures value { result ≡ nat_lt start (range.slba + range.blocks) }
+{
+    start < range.slba || start - range.slba < u64::from(range.blocks)
+}
+
+/// Whether the range conflicts with one of those, by rising start, that stand before the first that starts behind it.
+pub fn has_conflict_before_end(held: &[Held], range: Range, mode: Mode) -> bool
+    ensures value { result ≡ has_conflict_before_end held.now range mode }
 {
     held.iter()
+        .take_while(|other| starts_before_end(range, other.range.slba))
         .any(|other| conflict(range, mode, other.range, other.mode))
 }

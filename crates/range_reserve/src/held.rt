@@ -2,8 +2,9 @@
 
 ghost use Rattle.std.specs.List.{find};
 ghost use Rattle.std.specs.Prelude.{◌≡◌, ◌==◌};
-ghost use Rattle.range_reserve.specs.Reserved.{held_by};
+ghost use Rattle.range_reserve.specs.Sorted.{IsRisingBy};
 
+use crate::places::ticket_place;
 use nvme_model::array::{Mode, Range};
 
 /// The range that a ticket holds, and how.
@@ -14,16 +15,14 @@ pub struct Held {
     pub mode: Mode,
 }
 
-/// The first of those with this ticket.
-fn first_held(held: &[Held], ticket: u64) -> Option<Held>
+/// What the ticket holds, of those by rising ticket.
+pub fn held_by(held: &[Held], ticket: u64) -> Option<Held>
+    requires rising { IsRisingBy (λ (h : Held). h.ticket) held.now }
     ensures value { result ≡ find (λ h. h.ticket == ticket) held.now }
 {
-    held.iter().copied().find(|one| one.ticket == ticket)
-}
-
-/// What the first of those with this ticket holds.
-pub fn held_by(held: &[Held], ticket: u64) -> Option<(Range, Mode)>
-    ensures value { result ≡ held_by held.now ticket }
-{
-    first_held(held, ticket).map(|one| (one.range, one.mode))
+    let place = ticket_place(held, ticket);
+    if place < held.len() && held[place].ticket == ticket {
+        return Some(held[place]);
+    }
+    None
 }

@@ -4,6 +4,7 @@
 mod conflicts;
 mod held;
 pub mod laws;
+mod places;
 mod ranges;
 
 pub use held::Held;

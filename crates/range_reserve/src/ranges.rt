@@ -3,8 +3,9 @@
 ghost use Rattle.std.specs.Prelude.{◌≡◌, ◌+◌, ◌-◌, ◌≤◌, ◌<◌, ◌↔◌, ◌⊎◌, [], ◌∷◌, IfErr, IsTrue, OnErr, OnOk, false, is_some, reverse, vec_capacity, vec_len};
 ghost use Rattle.range_reserve.specs.Reserved.{AreApart, AreRising, IsRange, has_conflict, has_ticket, held_beside, held_by, insert_held};
 
-use crate::conflicts::has_conflict;
+use crate::conflicts::has_conflict_before_end;
 use crate::held::{Held, held_by};
+use crate::places::{start_place, ticket_place};
 use nvme_model::array::{Mode, Range};
 use nvme_model::refusal::Why;
 use std::alloc::{AllocError as NoMemory, Global};
@@ -15,18 +16,28 @@ use std::marker::Model;
 /// Each ticket holds one range at most, and no two ranges conflict: they share no block, or both are Shared.
 #[derive(Drop)]
 pub struct Ranges {
-    held: Vec<Held>,
+    /// By rising ticket.
+    tickets: Vec<Held>,
+    /// The same by rising start, and by ticket where starts are equal.
+    starts: Vec<Held>,
+    /// No range that was ever granted is longer.
+    longest: u32,
 }
 
 impl Model for Ranges {
-    ghost use Rattle.std.specs.Prelude.{◌-◌, reverse, vec_capacity, vec_len};
-    ghost use Rattle.range_reserve.specs.Reserved.{AreApart, Reserved, by_ticket};
+    ghost use Rattle.std.specs.Prelude.{◌≡◌, ◌-◌, min, vec_capacity, vec_len};
+    ghost use Rattle.range_reserve.specs.Reserved.{Reserved, by_ticket};
+    ghost use Rattle.range_reserve.specs.Sorted.{AreByStart};
 
     ghost Value = { Reserved };
 
-    ghost view = { λ r. record { held = by_ticket (reverse r.held.items); room = vec_capacity r.held - vec_len r.held } };
+    // A grant needs no memory where both lists have room.
+    ghost view = { λ r. record {
+      held = r.tickets.items;
+      room = min (vec_capacity r.tickets - vec_len r.tickets) (vec_capacity r.starts - vec_len r.starts);
+    } };
 
-    ghost invariant = { λ r. AreApart (reverse r.held.items) };
+    ghost invariant = { λ r. (by_ticket r.starts.items ≡ r.tickets.items) × AreByStart r.longest r.starts.items };
 }
 
 impl Ranges {
@@ -35,7 +46,9 @@ impl Ranges {
         ensures held { result.held ≡ [] }
     {
         Ranges {
-            held: Vec::new(alloc),
+            tickets: Vec::new(alloc),
+            starts: Vec::new(alloc),
+            longest: 0,
         }
     }
 
@@ -50,7 +63,8 @@ impl Ranges {
         ensures room { self.old.room ≤ self.new.room }
         ensures held { self.new.held ≡ self.old.held }
     {
-        self.held.reserve(more)
+        self.tickets.reserve(more)?;
+        self.starts.reserve(more)
     }
 
     /// Whether a grant of this range would be a conflict with one that is held.
@@ -58,7 +72,9 @@ impl Ranges {
         ensures conflicts { result ≡ has_conflict self.now.held range mode }
         ensures law { AreApart self.now.held }
     {
-        has_conflict(self.held.as_slice(), range, mode)
+        let from = range.slba.saturating_sub(u64::from(self.longest));
+        let first = start_place(self.starts.as_slice(), from, 0);
+        has_conflict_before_end(&self.starts.as_slice()[first..], range, mode)
     }
 
     /// What the ticket holds.
@@ -68,7 +84,7 @@ impl Ranges {
         ensures law { AreApart self.now.held }
         ensures rising { AreRising self.now.held }
     {
-        held_by(self.held.as_slice(), ticket)
+        held_by(self.tickets.as_slice(), ticket).map(|one| (one.range, one.mode))
     }
 
     /// Makes the ticket, which holds no range, hold this one.
@@ -96,14 +112,15 @@ impl Ranges {
         if self.conflicts(range, mode) {
             return Err(Why::Conflict);
         }
+        if self.reserve(1).is_err() {
+            return Err(Why::NoMemory);
+        }
         let held = Held {
             ticket,
             range,
             mode,
         };
-        if self.held.push(held).is_err() {
-            return Err(Why::NoMemory);
-        }
+        self.put(held);
         Ok(())
     }
 
@@ -115,7 +132,32 @@ impl Ranges {
         ensures room { self.old.room ≤ self.new.room }
         ensures law { AreApart self.new.held }
     {
-        self.held.retain(|held| held.ticket != ticket);
+        match held_by(self.tickets.as_slice(), ticket) {
+            Some(held) => {
+                let place = ticket_place(self.tickets.as_slice(), ticket);
+                self.tickets.remove(place);
+                let start = start_place(self.starts.as_slice(), held.range.slba, ticket);
+                self.starts.remove(start);
+            }
+            None => {}
+        }
+    }
+
+    // Keeps what its ticket is to hold in both orders; there is room, so neither is refused.
+    fn put(&mut self, held: Held)
+        requires room { 1 ≤ self.old.room }
+        requires free { has_ticket self.old.held held.ticket ≡ false }
+        requires range { IsRange held.range }
+        requires apart { has_conflict self.old.held held.range held.mode ≡ false }
+        ensures held { self.new.held ≡ insert_held held self.old.held }
+        ensures law { AreApart self.new.held }
+        ensures room { self.old.room ≤ self.new.room + 1 }
+    {
+        let place = ticket_place(self.tickets.as_slice(), held.ticket);
+        let start = start_place(self.starts.as_slice(), held.range.slba, held.ticket);
+        let _in_tickets = self.tickets.insert(place, held).is_ok();
+        let _in_starts = self.starts.insert(start, held).is_ok();
+        self.longest = self.longest.max(held.range.blocks);
     }
 }
 

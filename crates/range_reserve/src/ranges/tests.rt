@@ -80,3 +80,63 @@ fn releases_and_grants_again(rt: HostRuntime) -> Result<(), Fail> {
     assert!(rt; ranges.holds(7) == Some((low, Mode::Shared)));
     Ok(())
 }
+
+/// Whether what is held says of each range of the first 16 blocks what a walk over the list says.
+fn check_all(rt: &impl Abort, ranges: &Ranges, held: &[(u64, Range, Mode)]) {
+    for mode in [Mode::Shared, Mode::Exclusive] {
+        for slba in 0u64..16 {
+            for blocks in 1u32..9 {
+                let range = Range { slba, blocks };
+                let mut want = false;
+                for (_, other, other_mode) in held.iter().copied() {
+                    let shared = mode == Mode::Shared && other_mode == Mode::Shared;
+                    want = want || (!shared && walk_shares(range, other));
+                }
+                assert!(rt; ranges.conflicts(range, mode) == want, "{range:?} {mode:?}");
+            }
+        }
+    }
+    for (ticket, range, mode) in held.iter().copied() {
+        assert!(rt; ranges.holds(ticket) == Some((range, mode)), "{ticket}");
+    }
+}
+
+/// Grants what no ticket holds yet.
+fn granted(rt: &impl Abort, ranges: &mut Ranges, one: (u64, Range, Mode)) -> Result<(), Fail> {
+    assert!(rt; one.1.blocks >= 1 && one.1.slba < 100 && one.1.blocks < 100);
+    assert!(rt; ranges.holds(one.0).is_none());
+    ranges.grant(one.0, one.1, one.2)?;
+    Ok(())
+}
+
+#[test]
+fn a_long_range_is_found_from_its_end(rt: HostRuntime) -> Result<(), Fail> {
+    let shared = Mode::Shared;
+    let held = [
+        (9, Range { slba: 0, blocks: 8 }, shared),
+        (3, Range { slba: 2, blocks: 1 }, shared),
+        (7, Range { slba: 2, blocks: 4 }, shared),
+        (5, Range { slba: 2, blocks: 2 }, shared),
+        (
+            4,
+            Range {
+                slba: 12,
+                blocks: 2,
+            },
+            Mode::Exclusive,
+        ),
+    ];
+    let mut ranges = Ranges::new(rt.alloc());
+    for one in held {
+        granted(&rt, &mut ranges, one)?;
+    }
+    check_all(&rt, &ranges, &held);
+    // Of those with one start the middle one, then the long one, which was granted first.
+    ranges.release(5);
+    check_all(&rt, &ranges, &[held[0], held[1], held[2], held[4]]);
+    ranges.release(9);
+    check_all(&rt, &ranges, &[held[1], held[2], held[4]]);
+    assert!(rt; ranges.holds(5).is_none());
+    assert!(rt; ranges.holds(9).is_none());
+    Ok(())
+}
