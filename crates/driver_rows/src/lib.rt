@@ -3,6 +3,7 @@
 
 mod ask;
 mod bench;
+mod desk;
 mod fake;
 #[cfg(test)]
 mod hostile;
@@ -14,5 +15,6 @@ pub use ask::{
     Ask, Fill, MOST, Told, answers, begins, hears, poll_in_words, polled, polls, starts,
 };
 pub use bench::{Bench, Host, Server, Spares, bench_of, hand_of, host_of};
+pub use desk::{desk_of, served, small_bench};
 pub use fake::{Did, Fake, Script};
 pub use serve::{ends, fetches, makes, serves};

@@ -1,0 +1,60 @@
+//! One host and one server, on one queue of a small controller.
+
+ghost use Rattle.std.specs.Prelude.{◌≡◌, ◌≤◌, IfSome, true};
+ghost use Rattle.driver_cas.specs.Drivers.{IsCallOf};
+ghost use Rattle.driver_rows.specs.Benches.{AreOf, IsHostOf, IsServerOf, uses};
+
+use crate::ask::{Told, answers, hears};
+use crate::bench::{Bench, Host, Server, Spares, bench_of, hand_of, host_of};
+use crate::serve::serves;
+use driver_cas::{Call, SharedPort};
+use history::Config;
+use nvme_model::array::Range;
+use std::alloc::Global;
+use std::sync::Wait;
+
+/// A controller of 8 blocks and one queue pair, with passes for two; None where memory is refused.
+pub fn small_bench(alloc: Global) -> Option<(Bench, Spares)>
+    ensures own { IfSome result (λ b. AreOf b.0 b.1) }
+    ensures queue { IfSome result (λ b. (uses b.0.config 1 1 ≡ true) × (1 ≤ b.0.config.cqs)) }
+{
+    let config = Config::new(8, 1, 1, 0, 0, 2, 4, 4, 8).ok()?;
+    bench_of(alloc, config, 4, 2).ok()
+}
+
+/// A server, and the host with number 1 on submission queue 1, whose slots are blocks 0 and 1; None where memory is
+/// refused or no pass is left.
+pub fn desk_of<'a>(
+    alloc: Global,
+    bench: &'a Bench,
+    spares: &mut Spares,
+) -> Option<(Server, Host<'a>)>
+    requires own { AreOf bench.now spares.old }
+    requires queue { (uses bench.now.config 1 1 ≡ true) × (1 ≤ bench.now.config.cqs) }
+    ensures server { IfSome result (λ d. IsServerOf bench.entry.now d.0) }
+    ensures host { IfSome result (λ d. IsHostOf bench.entry.now d.1) }
+{
+    let server = hand_of(bench, spares)?;
+    let hand = hand_of(bench, spares)?;
+    let slots = Range { slba: 0, blocks: 2 };
+    let queues = [1].to_vec(alloc).ok()?;
+    let host = host_of(alloc, bench, hand, 1, slots, 1, queues)?;
+    Some((server, host))
+}
+
+/// What a call is told once all commands of submission queue 1 are served.
+pub fn served<'a, R: Wait>(
+    rt: &R,
+    bench: &Bench,
+    server: &mut Server,
+    host: &mut Host<'a>,
+    call: Call<SharedPort<'a>>,
+) -> Told
+    requires own { IsServerOf bench.now server.old × IsHostOf bench.now host.old }
+    requires call { IsCallOf host.old.driver call }
+    ensures { IsServerOf bench.now server.new × IsHostOf bench.now host.new }
+{
+    serves(rt, bench, server, 1);
+    hears(rt, bench, host);
+    answers(host, call, 2)
+}
