@@ -3,3 +3,4 @@ mod Parsed
 mod Feeds
 mod ReadBack
 mod Telling
+mod Refused

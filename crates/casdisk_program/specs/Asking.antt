@@ -1,13 +1,14 @@
 -- What a command line asks for.
-use Rattle.std.specs.Prelude.{List, None, Ok, Option, Some, codes, ◌≡◌, ℕ}
+use Rattle.std.specs.Prelude.{List, None, Ok, Option, Some, codes, false, ◌≡◌, ◌≢◌, ◌⊎◌, ℕ}
 use Rattle.std.specs.Str.Parse.{ParsesUnsigned}
 use Rattle.std.specs.declared.num.ParseIntError.{ParseIntError}
 use Rattle.clap.specs.Words.{Row, Text, first_of, one_of}
 use Rattle.casdisk_script.specs.Kinds.{kinds_in}
 use Rattle.race_numbers.specs.Races.{usage_of}
 use Rattle.race_numbers.specs.declared.race.Race.{Race}
-use Rattle.casdisk_program.specs.CommandLine.{command_in}
+use Rattle.casdisk_program.specs.CommandLine.{command_in, is_taken}
 use Rattle.casdisk_program.specs.declared.request.Asked.{Asked}
+use Rattle.casdisk_program.specs.declared.request.UsageFault.{UsageFault}
 
 -- the numbers of a race that is asked for are in their ranges
 abbrev pub IsRaceInRange : Asked → Type 0
@@ -47,3 +48,27 @@ AsksByCommand words asked = (name : Text) × (rows : List Row) × (command_in wo
 abbrev pub Asks : List Text → Asked → Type 0
 Asks words (Asked.Show text) = Unit {0}
 Asks words asked = AsksByCommand words asked
+
+-- no command has this name
+abbrev pub IsOther : Text → Type 0
+IsOther name = (name ≢ codes "run") × (name ≢ codes "check") × (name ≢ codes "explain") × (name ≢ codes "race")
+
+-- The options of a command of this name ask for nothing: no file is named, or the kinds of lines are unknown or none. Of
+-- the numbers of a race it isn't said which are refused. There is no other command.
+abbrev pub AskNothing : Text → List Row → Type 0
+AskNothing name rows =
+    (first_of (codes "FILE") rows ≡ None) ⊎ (kinds_asked (first_of (codes "show") rows) ≡ None)
+    ⊎ (name ≡ codes "race") ⊎ IsOther name
+
+-- a text says why options are refused only where they ask for nothing
+abbrev pub IsRefusedBy : Text → List Row → UsageFault → Type 0
+IsRefusedBy name rows UsageFault.NoMemory = Unit {0}
+IsRefusedBy name rows (UsageFault.Text text) = AskNothing name rows
+
+-- A text says why the words are refused only where they are no command line of the program by clap's definitions, or
+-- name a command whose options ask for nothing.
+abbrev pub AreRefused : List Text → UsageFault → Type 0
+AreRefused words UsageFault.NoMemory = Unit {0}
+AreRefused words (UsageFault.Text text) =
+    (is_taken words ≡ false) ⊎ (command_in words ≡ None)
+    ⊎ ((name : Text) × (rows : List Row) × (command_in words ≡ Some (name, rows)) × AskNothing name rows)

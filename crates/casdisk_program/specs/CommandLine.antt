@@ -1,6 +1,6 @@
 -- The program's command line, as clap's definitions see it.
-use Rattle.std.specs.Prelude.{List, Option, Some, [], codes, true, ◌∷◌}
-use Rattle.clap.specs.Words.{App, Row, Rule, Text, new_app, new_rule, subcommand_of, with_rule, with_subcommand}
+use Rattle.std.specs.Prelude.{Bool, List, Option, Some, [], codes, true, ◌∷◌}
+use Rattle.clap.specs.Words.{App, Row, Rule, Text, new_app, new_rule, subcommand_of, takes, with_rule, with_subcommand}
 use Rattle.clap.specs.declared.builder.action.ArgAction.TheVariants.{Set}
 use Rattle.clap.specs.declared.builder.value_parser.ValueParser.TheVariants.{Unsigned}
 
@@ -50,3 +50,7 @@ casdisk_app = with_subcommand (with_subcommand (with_subcommand (with_subcommand
 -- the command that the words name, and what they give its options
 unfoldable pub command_in : List Text → Option (Text × List Row)
 command_in words = subcommand_of casdisk_app words
+
+-- the words are a command line of the program
+unfoldable pub is_taken : List Text → Bool
+is_taken words = takes casdisk_app words

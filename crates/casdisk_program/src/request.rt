@@ -1,5 +1,8 @@
 //! What the command line asks for.
 
+ghost use Rattle.std.specs.Prelude.{◌≡◌};
+ghost use Rattle.casdisk_program.specs.declared.request.UsageFault.TheVariants.{NoMemory};
+
 use history::Kinds;
 use race_numbers::Race;
 use std::alloc::AllocError;
@@ -29,6 +32,8 @@ pub enum UsageFault {
 }
 
 impl From<AllocError> for UsageFault {
+    ghost from_gives = { λ _ fault. fault ≡ NoMemory };
+
     fn from(_error: AllocError) -> UsageFault {
         UsageFault::NoMemory
     }

@@ -1,8 +1,8 @@
 //! The command line.
 
-ghost use Rattle.std.specs.Prelude.{◌≡◌, IfOk, codes, map, option_map, string_bytes};
+ghost use Rattle.std.specs.Prelude.{◌≡◌, IfErr, IfOk, codes, map, option_map, string_bytes};
 ghost use Rattle.clap.specs.Words.{app_of, first_of, found_of, rows_of, rule_of};
-ghost use Rattle.casdisk_program.specs.Asking.{Asks, AsksBy, IsRaceInRange, kinds_asked};
+ghost use Rattle.casdisk_program.specs.Asking.{AreRefused, Asks, AsksBy, IsRaceInRange, IsRefusedBy, kinds_asked};
 ghost use Rattle.casdisk_program.specs.CommandLine.{casdisk_app, check_app, explain_app, number_rule, race_app, run_app};
 
 use crate::request::{Asked, UsageFault};
@@ -180,6 +180,7 @@ fn text_of(alloc: Global, words: &str) -> UsageFault {
 fn check_asked<'a>(alloc: Global, matches: &ArgMatches<'a>) -> Result<Asked<'a>, UsageFault>
     ensures asks { IfOk result (AsksBy (codes "check") (rows_of (found_of matches.now))) }
     ensures race { IfOk result IsRaceInRange }
+    ensures refuses { IfErr result (IsRefusedBy (codes "check") (rows_of (found_of matches.now))) }
 {
     match matches.get_str("FILE") {
         Some(file) => Ok(Asked::Check { file }),
@@ -190,6 +191,7 @@ fn check_asked<'a>(alloc: Global, matches: &ArgMatches<'a>) -> Result<Asked<'a>,
 fn explain_asked<'a>(alloc: Global, matches: &ArgMatches<'a>) -> Result<Asked<'a>, UsageFault>
     ensures asks { IfOk result (AsksBy (codes "explain") (rows_of (found_of matches.now))) }
     ensures race { IfOk result IsRaceInRange }
+    ensures refuses { IfErr result (IsRefusedBy (codes "explain") (rows_of (found_of matches.now))) }
 {
     match matches.get_str("FILE") {
         Some(file) => Ok(Asked::Explain { file }),
@@ -210,6 +212,7 @@ fn kinds_shown(matches: &ArgMatches<'_>) -> Option<Kinds>
 fn run_asked<'a>(alloc: Global, matches: &ArgMatches<'a>) -> Result<Asked<'a>, UsageFault>
     ensures asks { IfOk result (AsksBy (codes "run") (rows_of (found_of matches.now))) }
     ensures race { IfOk result IsRaceInRange }
+    ensures refuses { IfErr result (IsRefusedBy (codes "run") (rows_of (found_of matches.now))) }
 {
     match (kinds_shown(matches), matches.get_str("FILE")) {
         (Some(kinds), Some(file)) => Ok(Asked::Run { kinds, file }),
@@ -224,6 +227,7 @@ fn run_asked<'a>(alloc: Global, matches: &ArgMatches<'a>) -> Result<Asked<'a>, U
 fn race_asked<'a>(alloc: Global, matches: &ArgMatches<'a>) -> Result<Asked<'a>, UsageFault>
     ensures asks { IfOk result (AsksBy (codes "race") (rows_of (found_of matches.now))) }
     ensures race { IfOk result IsRaceInRange }
+    ensures refuses { IfErr result (IsRefusedBy (codes "race") (rows_of (found_of matches.now))) }
 {
     let (Some(hosts), Some(workers), Some(slots), Some(rounds), Some(queues)) = (
         matches.get_one::<u64>("hosts"),
@@ -240,6 +244,29 @@ fn race_asked<'a>(alloc: Global, matches: &ArgMatches<'a>) -> Result<Asked<'a>, 
     }
 }
 
+// What the options of a command of this name ask for.
+fn command_asked<'a>(
+    alloc: Global,
+    name: &str,
+    matches: &ArgMatches<'a>,
+) -> Result<Asked<'a>, UsageFault>
+    ensures asks { IfOk result (AsksBy name.now (rows_of (found_of matches.now))) }
+    ensures race { IfOk result IsRaceInRange }
+    ensures refuses { IfErr result (IsRefusedBy name.now (rows_of (found_of matches.now))) }
+{
+    if name == "check" {
+        check_asked(alloc, matches)
+    } else if name == "explain" {
+        explain_asked(alloc, matches)
+    } else if name == "race" {
+        race_asked(alloc, matches)
+    } else if name == "run" {
+        run_asked(alloc, matches)
+    } else {
+        Err(text_of(alloc, "error: no command"))
+    }
+}
+
 /// Reads the words that the program was started with, its name first. The numbers of a race that is asked for are in
 /// their ranges.
 ///
@@ -250,6 +277,7 @@ fn race_asked<'a>(alloc: Global, matches: &ArgMatches<'a>) -> Result<Asked<'a>, 
 pub fn asked<'a>(alloc: Global, words: &'a [String]) -> Result<Asked<'a>, UsageFault>
     ensures asks { IfOk result (Asks (map string_bytes words.entry.now)) }
     ensures race { IfOk result IsRaceInRange }
+    ensures refuses { IfErr result (AreRefused (map string_bytes words.entry.now)) }
 {
     let matches = match command(alloc)?.try_get_matches_from(words) {
         Ok(matches) => matches,
@@ -264,19 +292,7 @@ pub fn asked<'a>(alloc: Global, words: &'a [String]) -> Result<Asked<'a>, UsageF
         }
     };
     match matches.subcommand() {
-        Some((name, inner)) => {
-            if name == "check" {
-                check_asked(alloc, inner)
-            } else if name == "explain" {
-                explain_asked(alloc, inner)
-            } else if name == "race" {
-                race_asked(alloc, inner)
-            } else if name == "run" {
-                run_asked(alloc, inner)
-            } else {
-                Err(text_of(alloc, "error: no command"))
-            }
-        }
+        Some((name, inner)) => command_asked(alloc, name, inner),
         None => Err(text_of(alloc, "error: no command")),
     }
 }

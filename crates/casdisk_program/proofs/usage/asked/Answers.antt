@@ -1,53 +1,53 @@
-use Rattle.std.proofs.Common.{List, ap, codes, map, string_bytes, subst, sym, ◌≡◌, ◌∙◌}
-use Rattle.std.specs.Prelude.{Some}
-use Rattle.std.proofs.lemmas.Result.{IfOk-weaker}
-use Rattle.std.proofs.lemmas.Slice.Eq.{bytes_eq-Decides}
-use Rattle.clap.specs.Words.{App, Text, found_of, is_simple, rows_of, subcommand_of}
-use Rattle.casdisk_program.specs.Asking.{AsksBy}
-use Rattle.casdisk_program.specs.CommandLine.{command_in}
+use Rattle.std.proofs.Common.{List, ap, map, string_bytes, subst, sym, ◌≡◌, ◌∙◌}
+use Rattle.std.specs.Prelude.{IfErr, Result, Some}
+use Rattle.std.proofs.lemmas.Result.{IfErr-weaker, IfOk-weaker}
+use Rattle.clap.specs.Words.{App, Text, found_of, is_simple, rows_of, subcommand_of, takes}
+use Rattle.clap.specs.declared.error.kind.ErrorKind.{ErrorKind}
+use Rattle.casdisk_program.specs.Asking.{AreRefused}
+use Rattle.casdisk_program.specs.CommandLine.{command_in, is_taken}
+use Rattle.casdisk_program.specs.declared.request.Asked.{Asked}
+use Rattle.casdisk_program.specs.declared.request.UsageFault.{UsageFault}
 use Rattle.casdisk_program.proofs.Parsed.{both_parts, by_command, casdisk_is_simple, named}
+use Rattle.casdisk_program.proofs.Refused.{by_no_command, by_options, by_words, names_none, no_parts, not_true, taken}
 use Rattle.casdisk_program.proofs.usage.asked.Goals as goal
+use Rattle.casdisk_program.proofs.usage.asked.Goals.{in-OutOfMemory, in-DisplayHelp+in_ok-to_string-in-DisplayHelp, in_default+in_ok-to_string-in_default}
 
-pub returns-then-eq-clause-asks : goal.returns-then-eq-clause-asks
-returns-then-eq-clause-asks c =
+pub returns-in-Some-clause-asks : goal.returns-in-Some-clause-asks
+returns-in-Some-clause-asks c =
     let words : List Text = map string_bytes c.args.words.now in
     let rows = rows_of (found_of c.in-Some.inner.now) in
     let app_is = c.in_ok-command.ensures in
     let parts = (c.in-Ok.ensures.matches (ap is_simple app_is ∙ casdisk_is_simple)).1 ∙ ap (λ (a : App). subcommand_of a words) app_is in
     let both = both_parts _ _ _ c.in-Some.name.now rows (sym c.in-Some.ensures.name) (sym c.in-Some.ensures.rows) in
     let entered : command_in words ≡ Some (c.in-Some.name.now, rows) = named words c.in-Some.name.now rows (sym parts ∙ both) in
-    let name_is : c.in-Some.name.now ≡ codes "check" = (bytes_eq-Decides c.in-Some.name.now (codes "check")).0 (sym c.eq.ensures ∙ c.if-eq.true) in
-    IfOk-weaker c.check_asked.result _ _ (λ a h. by_command words c.in-Some.name.now rows entered a (subst (λ (n : Text). AsksBy n rows a) (sym name_is) h)) c.check_asked.ensures.asks
+    IfOk-weaker c.command_asked.result _ _ (λ a h. by_command words c.in-Some.name.now rows entered a h) c.command_asked.ensures.asks
 
-pub returns-then-eq-2-clause-asks : goal.returns-then-eq-2-clause-asks
-returns-then-eq-2-clause-asks c =
+pub returns-in-Some-clause-refuses : goal.returns-in-Some-clause-refuses
+returns-in-Some-clause-refuses c =
     let words : List Text = map string_bytes c.args.words.now in
     let rows = rows_of (found_of c.in-Some.inner.now) in
     let app_is = c.in_ok-command.ensures in
     let parts = (c.in-Ok.ensures.matches (ap is_simple app_is ∙ casdisk_is_simple)).1 ∙ ap (λ (a : App). subcommand_of a words) app_is in
     let both = both_parts _ _ _ c.in-Some.name.now rows (sym c.in-Some.ensures.name) (sym c.in-Some.ensures.rows) in
     let entered : command_in words ≡ Some (c.in-Some.name.now, rows) = named words c.in-Some.name.now rows (sym parts ∙ both) in
-    let name_is : c.in-Some.name.now ≡ codes "explain" = (bytes_eq-Decides c.in-Some.name.now (codes "explain")).0 (sym c.eq-else-eq.ensures ∙ c.if-eq-2.true) in
-    IfOk-weaker c.explain_asked.result _ _ (λ a h. by_command words c.in-Some.name.now rows entered a (subst (λ (n : Text). AsksBy n rows a) (sym name_is) h)) c.explain_asked.ensures.asks
+    IfErr-weaker c.command_asked.result _ _ (λ f h. by_options words c.in-Some.name.now rows entered f h) c.command_asked.ensures.refuses
 
-pub returns-then-eq-3-clause-asks : goal.returns-then-eq-3-clause-asks
-returns-then-eq-3-clause-asks c =
+pub returns-clause-refuses : goal.returns-clause-refuses
+returns-clause-refuses c =
     let words : List Text = map string_bytes c.args.words.now in
-    let rows = rows_of (found_of c.in-Some.inner.now) in
     let app_is = c.in_ok-command.ensures in
     let parts = (c.in-Ok.ensures.matches (ap is_simple app_is ∙ casdisk_is_simple)).1 ∙ ap (λ (a : App). subcommand_of a words) app_is in
-    let both = both_parts _ _ _ c.in-Some.name.now rows (sym c.in-Some.ensures.name) (sym c.in-Some.ensures.rows) in
-    let entered : command_in words ≡ Some (c.in-Some.name.now, rows) = named words c.in-Some.name.now rows (sym parts ∙ both) in
-    let name_is : c.in-Some.name.now ≡ codes "race" = (bytes_eq-Decides c.in-Some.name.now (codes "race")).0 (sym c.eq-else-eq-2.ensures ∙ c.if-eq-3.true) in
-    IfOk-weaker c.race_asked.result _ _ (λ a h. by_command words c.in-Some.name.now rows entered a (subst (λ (n : Text). AsksBy n rows a) (sym name_is) h)) c.race_asked.ensures.asks
+    let both = no_parts _ _ _ (sym c.in-None.ensures.name) in
+    by_no_command words (names_none words (sym parts ∙ both)) c.text_of.result
 
-pub returns-then-eq-4-clause-asks : goal.returns-then-eq-4-clause-asks
-returns-then-eq-4-clause-asks c =
+pub returns-in-Err-clause-refuses : goal.returns-in-Err-clause-refuses
+returns-in-Err-clause-refuses c =
     let words : List Text = map string_bytes c.args.words.now in
-    let rows = rows_of (found_of c.in-Some.inner.now) in
     let app_is = c.in_ok-command.ensures in
-    let parts = (c.in-Ok.ensures.matches (ap is_simple app_is ∙ casdisk_is_simple)).1 ∙ ap (λ (a : App). subcommand_of a words) app_is in
-    let both = both_parts _ _ _ c.in-Some.name.now rows (sym c.in-Some.ensures.name) (sym c.in-Some.ensures.rows) in
-    let entered : command_in words ≡ Some (c.in-Some.name.now, rows) = named words c.in-Some.name.now rows (sym parts ∙ both) in
-    let name_is : c.in-Some.name.now ≡ codes "run" = (bytes_eq-Decides c.in-Some.name.now (codes "run")).0 (sym c.eq-else-eq-3.ensures ∙ c.if-eq-4.true) in
-    IfOk-weaker c.run_asked.result _ _ (λ a h. by_command words c.in-Some.name.now rows entered a (subst (λ (n : Text). AsksBy n rows a) (sym name_is) h)) c.run_asked.ensures.asks
+    elim c.match-kind.branch [
+      | in-OutOfMemory w ↦ subst (λ (r : Result Asked UsageFault). IfErr r (AreRefused words)) (sym w.result-is) tt
+      | in-DisplayHelp+in_ok-to_string-in-DisplayHelp w ↦ subst (λ (r : Result Asked UsageFault). IfErr r (AreRefused words)) (sym w.result-is) tt
+      | in_default+in_ok-to_string-in_default w ↦
+          let not_taken = not_true (is_taken words) (c.kind.result ≡ ErrorKind.OutOfMemory) (λ h. c.kind.ensures ∙ c.in-Err.ensures.passes (ap (λ (a : App). takes a words) app_is ∙ sym (taken words) ∙ h)) (λ k. w.in_default.not-OutOfMemory k) in
+          subst (λ (r : Result Asked UsageFault). IfErr r (AreRefused words)) (sym w.result-is) (by_words words not_taken (UsageFault.Text w.in_ok-to_string-in_default.field-0))
+    ]

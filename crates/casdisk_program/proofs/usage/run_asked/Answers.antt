@@ -1,6 +1,7 @@
-use Rattle.std.proofs.Common.{codes, refl, sym, ◌∙◌}
-use Rattle.clap.specs.Words.{found_of}
+use Rattle.std.proofs.Common.{codes, inl, refl, sym, ◌∙◌}
+use Rattle.clap.specs.Words.{found_of, rows_of}
 use Rattle.clap.proofs.WalkLemmas.{first_value-rows}
+use Rattle.casdisk_program.proofs.Refused.{refused_by}
 use Rattle.casdisk_program.proofs.usage.run_asked.Goals as goal
 
 pub returns-in-Some-Some-clause-asks : goal.returns-in-Some-Some-clause-asks
@@ -9,3 +10,7 @@ returns-in-Some-Some-clause-asks c = (
   sym (c.in-Some-Some.ensures' ∙ first_value-rows (found_of c.args.matches.now) (codes "FILE")),
   sym c.in-Some-Some.ensures,
 )
+
+pub returns-in_default-None-clause-refuses : goal.returns-in_default-None-clause-refuses
+returns-in_default-None-clause-refuses c =
+    refused_by (codes "run") (rows_of (found_of c.args.matches.now)) c.text_of.result (inl (sym (c.in_default-None.ensures' ∙ first_value-rows (found_of c.args.matches.now) (codes "FILE"))))

@@ -1,0 +1,46 @@
+-- What is said of a command line that is refused.
+use Rattle.std.proofs.Common.{◌≡◌, Bool, true, false, List, Option, Some, None, inl, inr, refl}
+use Rattle.std.specs.Prelude.{option_map}
+use Rattle.clap.specs.Words.{Row, Text, subcommand_of, takes}
+use Rattle.casdisk_program.specs.Asking.{AreRefused, AskNothing, IsRefusedBy}
+use Rattle.casdisk_program.specs.CommandLine.{casdisk_app, command_in, is_taken}
+use Rattle.casdisk_program.specs.declared.request.UsageFault.{UsageFault}
+
+-- options that ask for nothing may be refused
+pub refused_by : (name : Text) (rows : List Row) (f : UsageFault) → AskNothing name rows → IsRefusedBy name rows f
+refused_by name rows (UsageFault.Text text) h = h
+refused_by name rows UsageFault.NoMemory h = tt
+
+module _ (words : List Text) where
+  -- the words whose options are refused
+  pub by_options : (name : Text) (rows : List Row) → command_in words ≡ Some (name, rows) → (f : UsageFault) → IsRefusedBy name rows f → AreRefused words f
+  by_options name rows e (UsageFault.Text text) h = inr (inr (name, rows, e, h))
+  by_options name rows e UsageFault.NoMemory h = tt
+
+  -- those that name no command
+  pub by_no_command : command_in words ≡ None → (f : UsageFault) → AreRefused words f
+  by_no_command e (UsageFault.Text text) = inr (inl e)
+  by_no_command e UsageFault.NoMemory = tt
+
+  -- those that are no command line
+  pub by_words : is_taken words ≡ false → (f : UsageFault) → AreRefused words f
+  by_words e (UsageFault.Text text) = inl e
+  by_words e UsageFault.NoMemory = tt
+
+  pub names_none : subcommand_of casdisk_app words ≡ None → command_in words ≡ None
+  unfolding command_in
+  names_none e = e
+
+  pub taken : is_taken words ≡ takes casdisk_app words
+  unfolding is_taken
+  taken = refl
+
+-- no
+pub not_true : (b : Bool) (P : Type 0) → (b ≡ true → P) → (P → ⊥) → b ≡ false
+not_true false P f n = refl
+not_true true P f n = absurd (n (f refl))
+
+-- nothing has no parts
+pub no_parts : {X : Type 0} (s : Option X) (g : X → Text) (h : X → List Row) → option_map g s ≡ None → option_map {U = Text × List Row} (λ b. (g b, h b)) s ≡ None
+no_parts None g h e = refl
+no_parts (Some b) g h e = absurd cc
