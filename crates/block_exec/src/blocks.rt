@@ -2,6 +2,8 @@
 
 ghost use Rattle.std.specs.Prelude.{◌≡◌, ◌≤◌, ◌<◌, ◌*◌, ◌+◌, bytes_eq, length, slice_set};
 ghost use Rattle.nvme_model.specs.Array.{zeros};
+ghost use Rattle.nvme_model.specs.declared.operation.Found.{Found as Finding};
+ghost use Rattle.block_array.specs.Blocks.{contents_of};
 ghost use Rattle.block_exec.specs.Bytes.{block_at, data_at, put_at};
 ghost use Rattle.block_exec.specs.Progress.{compared_as};
 
@@ -41,6 +43,18 @@ pub fn compared(volume: &Volume, lba: u64, bytes: &[u8]) -> Found
     } else {
         Found::Differs
     }
+}
+
+/// Makes the block in the box at this place the block of this number, and leaves the old one in the box.
+pub fn hand_over(volume: &mut Volume, lba: u64, boxes: &mut [Box<[u8; 512]>], at: usize) -> Found
+    requires within { lba < length volume.old }
+    requires boxed { at < length boxes.old }
+    ensures found { result ≡ Finding.Written }
+    ensures volume { volume.new ≡ slice_set volume.old lba (block_at (contents_of boxes.old) at) }
+    ensures boxes { contents_of boxes.new ≡ slice_set (contents_of boxes.old) at (block_at volume.old lba) }
+{
+    volume.swap_block(lba, &mut boxes[at]);
+    Found::Written
 }
 
 /// Makes the block of this number zeros.

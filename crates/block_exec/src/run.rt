@@ -1,12 +1,13 @@
 //! The unit that is open of a ticket, as it goes on block by block.
 
-ghost use Rattle.std.specs.Prelude.{◌≡◌, ◌≤◌, ◌<◌, ◌+◌, Some, false, length, suc};
+ghost use Rattle.std.specs.Prelude.{◌≡◌, ◌≤◌, ◌<◌, ◌+◌, Some, false, length, suc, true};
 ghost use Rattle.nvme_model.specs.Open.{is_differs};
 ghost use Rattle.nvme_model.specs.Steps.{marked};
-ghost use Rattle.block_exec.specs.Bytes.{compare_length, next_equal, read_after, read_length, volume_after, write_length};
-ghost use Rattle.block_exec.specs.Progress.{IsRange, has_ended, needed, next_block, next_found};
+ghost use Rattle.block_array.specs.Blocks.{contents_of};
+ghost use Rattle.block_exec.specs.Bytes.{block_at, boxes_after, compare_length, needs_box, next_equal, read_after, read_length, volume_after, volume_with, write_count};
+ghost use Rattle.block_exec.specs.Progress.{IsRange, has_ended, needed, next_block, next_found, next_place};
 
-use crate::blocks::{block_of, clear_block, compared, put_block};
+use crate::blocks::{block_of, clear_block, compared, hand_over, put_block};
 use block_array::Volume;
 use nvme_model::array::Range;
 use nvme_model::operation::{Found, Op};
@@ -95,14 +96,22 @@ impl Run {
         self.differed || self.made >= needed
     }
 
-    /// Reads, compares or writes the block that is due.
-    fn touch(&self, volume: &mut Volume, compare: &[u8], write: &[u8], read: &mut [u8]) -> Found
+    /// Reads, compares or writes the block that is due; what is written comes from the box at this place.
+    fn touch(
+        &self,
+        volume: &mut Volume,
+        compare: &[u8],
+        boxes: &mut [Box<[u8; 512]>],
+        at: usize,
+        read: &mut [u8],
+    ) -> Found
         requires within { self.now.range.slba + self.now.range.blocks ≤ length volume.old }
         requires compare { length compare.now ≡ compare_length self.now.op self.now.range.blocks }
-        requires write { length write.now ≡ write_length self.now.op self.now.range.blocks }
+        requires boxed { needs_box self.now ≡ true → at < length boxes.old }
         requires read { length read.old ≡ read_length self.now.op self.now.range.blocks }
         ensures found { result ≡ next_found self.now (next_equal self.now volume.old compare.now) }
-        ensures volume { volume.new ≡ volume_after self.now volume.old write.now result }
+        ensures volume { volume.new ≡ volume_with self.now volume.old (block_at (contents_of boxes.old) at) result }
+        ensures boxes { contents_of boxes.new ≡ boxes_after self.now volume.old (contents_of boxes.old) at result }
         ensures read { read.new ≡ read_after self.now volume.old read.old result }
     {
         let place = self.made % self.range.blocks;
@@ -116,10 +125,8 @@ impl Run {
             Op::Pair if self.made < self.range.blocks => {
                 compared(volume, lba, block_of(compare, place))
             }
-            Op::Write | Op::Pair => {
-                volume.write_block(lba, block_of(write, place));
-                Found::Written
-            }
+            Op::Write => hand_over(volume, lba, boxes, at),
+            Op::Pair => hand_over(volume, lba, boxes, at),
             Op::WriteZeroes => {
                 clear_block(volume, lba);
                 Found::Written
@@ -160,19 +167,20 @@ impl Run {
 
     /// Makes the Block step that is due, on one block of the volume.
     ///
-    /// `compare`, `write` and `read` are the unit's bytes, 512 a block, where its operation uses them, and else empty:
-    /// a Compare and a pair compare with `compare`, a Write and a pair write `write`, a Read puts what it reads into `read`.
+    /// `compare` and `read` are the unit's bytes, 512 a block, and `write` its blocks, one a box, where its operation uses
+    /// them, and else empty: a Compare and a pair compare with `compare`, a Write and a pair write the blocks of `write`, a
+    /// Read puts what it reads into `read`. A block that is written changes hands: its box then holds what the volume held.
     pub fn next(
         &mut self,
         volume: &mut Volume,
         compare: &[u8],
-        write: &[u8],
+        write: &mut [Box<[u8; 512]>],
         read: &mut [u8],
     ) -> Done
         requires open { has_ended self.old ≡ false }
         requires within { self.old.range.slba + self.old.range.blocks ≤ length volume.old }
         requires compare { length compare.now ≡ compare_length self.old.op self.old.range.blocks }
-        requires write { length write.now ≡ write_length self.old.op self.old.range.blocks }
+        requires write { length write.old ≡ write_count self.old.op self.old.range.blocks }
         requires read { length read.old ≡ read_length self.old.op self.old.range.blocks }
         ensures lba { result.lba ≡ next_block self.old }
         ensures found { result.found ≡ next_found self.old (next_equal self.old volume.old compare.now) }
@@ -183,10 +191,36 @@ impl Run {
         // The same as a whole: this is the next step of the unit's course.
         ensures done { result ≡ next_done self.old (next_equal self.old volume.old compare.now) }
         ensures stepped { self.new ≡ stepped self.old (next_equal self.old volume.old compare.now) }
-        ensures volume { volume.new ≡ volume_after self.old volume.old write.now result.found }
+        ensures volume { volume.new ≡ volume_after self.old volume.old (contents_of write.old) result.found }
+        ensures write { contents_of write.new ≡ boxes_after self.old volume.old (contents_of write.old) (next_place self.old) result.found }
         ensures read { read.new ≡ read_after self.old volume.old read.old result.found }
     {
-        let found = self.touch(volume, compare, write, read);
+        let place = self.made % self.range.blocks;
+        self.next_from(volume, compare, write, place as usize, read)
+    }
+
+    /// The same, where a block that is due to be written is in the box at this place.
+    pub fn next_from(
+        &mut self,
+        volume: &mut Volume,
+        compare: &[u8],
+        boxes: &mut [Box<[u8; 512]>],
+        at: usize,
+        read: &mut [u8],
+    ) -> Done
+        requires open { has_ended self.old ≡ false }
+        requires within { self.old.range.slba + self.old.range.blocks ≤ length volume.old }
+        requires compare { length compare.now ≡ compare_length self.old.op self.old.range.blocks }
+        requires boxed { needs_box self.old ≡ true → at < length boxes.old }
+        requires read { length read.old ≡ read_length self.old.op self.old.range.blocks }
+        ensures found { result.found ≡ next_found self.old (next_equal self.old volume.old compare.now) }
+        ensures done { result ≡ next_done self.old (next_equal self.old volume.old compare.now) }
+        ensures stepped { self.new ≡ stepped self.old (next_equal self.old volume.old compare.now) }
+        ensures volume { volume.new ≡ volume_with self.old volume.old (block_at (contents_of boxes.old) at) result.found }
+        ensures boxes { contents_of boxes.new ≡ boxes_after self.old volume.old (contents_of boxes.old) at result.found }
+        ensures read { read.new ≡ read_after self.old volume.old read.old result.found }
+    {
+        let found = self.touch(volume, compare, boxes, at, read);
         self.note(found)
     }
 }

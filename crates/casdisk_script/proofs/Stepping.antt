@@ -10,7 +10,9 @@ use Rattle.nvme_model.specs.Steps.{next_entry}
 use Rattle.nvme_model.specs.declared.entry.Entry.{Entry}
 use Rattle.nvme_model.specs.declared.refusal.Why.{Why}
 use Rattle.nvme_model.specs.declared.step.Step.{Step}
-use Rattle.step_core.specs.State.{State, after, refused_as}
+use Rattle.step_core.specs.State.{Serves, State, after, refused_as}
+use Rattle.step_core.specs.declared.answer.Answer.{Answer}
+use Rattle.step_core.specs.declared.answer.Refused.{Refused}
 use Rattle.casdisk_script.specs.Doing.{Says, why_of}
 use Rattle.casdisk_script.specs.Said.{entry_text, refusal_text, step_by, step_says}
 use Rattle.casdisk_script.specs.declared.meaning.WriteFault.{WriteFault}
@@ -32,6 +34,11 @@ why_refused (Step.Reap q) why = refl
 refusal_is : (o : Option Why) (why : Why) → why ≡ unwrap_or o Why.NoMemory → why ≢ Why.NoMemory → o ≡ Some why
 refusal_is None why e n = absurd (n e)
 refusal_is (Some x) why e n = ap Some (sym e)
+
+-- a step leaves the configuration
+pub config_served : (old new : State) (step : Step) (r : Result Answer Refused) → Serves old step r new → new.config ≡ old.config
+config_served old new step (Ok a) s = ap (λ (x : State). x.config) s.1
+config_served old new step (Err r) s = ap (λ (x : State). x.config) s.1
 
 module _ (kinds : ℕ) (old new : State) (step : Step) (w v : Option (List ℕ)) where
   module _ (r : Result (Unit {0}) WriteFault) (none : refusal old.config old.past step ≡ None) (made : new ≡ after old step new.room) where

@@ -6,6 +6,8 @@ ghost use Rattle.nvme_model.specs.declared.entry.Entry.{Entry};
 ghost use Rattle.std.specs.Io.KnownBytes.{Appends};
 ghost use Rattle.line_text.specs.Known.{AppendsFront};
 ghost use Rattle.nvme_model.specs.declared.refusal.Why.{Why as TheWhy};
+ghost use Rattle.nvme_model.specs.declared.step.Step.{Step as TheStep};
+ghost use Rattle.step_core.specs.State.{Serves, State};
 ghost use Rattle.casdisk_script.specs.Doing.{Says};
 ghost use Rattle.casdisk_script.specs.Doing.{why_of as the_why_of};
 ghost use Rattle.casdisk_script.specs.Said.{all_ready, entry_text, medium_text, refusal_text, script_line, settle_says, step_says};
@@ -20,7 +22,7 @@ use nvme_model::step::Step;
 use script_lines::{ScriptLine, read_script_line};
 use std::alloc::Global;
 use std::io::Write;
-use step_core::{Core, Refused};
+use step_core::{Answer, Core, Refused};
 
 /// A controller that does what the lines of a script say, and prints the lines of these kinds.
 #[derive(Drop)]
@@ -100,16 +102,34 @@ impl Machine {
         send_text(self.text.as_slice(), writer)
     }
 
+    // Prints how a step was answered: its entry, or that it was refused.
+    fn tell_answer<W: Write>(
+        &mut self,
+        answer: Result<Answer, Refused>,
+        writer: &mut W,
+    ) -> Result<(), WriteFault>
+        ensures same { (self.new.core ≡ self.old.core) × (self.new.kinds ≡ self.old.kinds) }
+        ensures done { (before : State) (step : TheStep) → Serves before step answer self.old.core →
+            OnOk result (Says (step_says self.old.kinds.0 before.config before.past step) self.new.core.past
+            (W.contents writer.old) (W.contents writer.new)) }
+        ensures stopped { (before : State) (step : TheStep) → Serves before step answer self.old.core →
+            OnErr result (AppendsFront (W.contents writer.old) (W.contents writer.new)
+            (step_says self.old.kinds.0 before.config before.past step).1) }
+    {
+        match answer {
+            Ok(_) => self.tell_entry(writer),
+            Err(refused) => self.tell_refusal(why_of(&refused), writer),
+        }
+    }
+
     // Makes a step or refuses it, and prints which.
     fn do_step<W: Write>(&mut self, step: Step, writer: &mut W) -> Result<(), WriteFault>
         ensures same { (self.new.core.config ≡ self.old.core.config) × (self.new.kinds ≡ self.old.kinds) }
         ensures done { OnOk result (Says (step_says self.old.kinds.0 self.old.core.config self.old.core.past step) self.new.core.past (W.contents writer.old) (W.contents writer.new)) }
         ensures stopped { OnErr result (AppendsFront (W.contents writer.old) (W.contents writer.new) (step_says self.old.kinds.0 self.old.core.config self.old.core.past step).1) }
     {
-        match self.core.step(step) {
-            Ok(_) => self.tell_entry(writer),
-            Err(refused) => self.tell_refusal(why_of(&refused), writer),
-        }
+        let answer = self.core.step(step);
+        self.tell_answer(answer, writer)
     }
 
     // Makes the step that is ready, until there is none.
@@ -119,10 +139,10 @@ impl Machine {
         ensures stopped { OnErr result (AppendsFront (W.contents writer.old) (W.contents writer.new) (settle_says all_ready self.old.kinds.0 self.old.core.config self.old.core.past).1) }
     {
         for _turn in 0..u64::MAX {
-            let Some(step) = self.core.ready() else {
+            let Some((_step, answer)) = self.core.step_ready() else {
                 return Ok(());
             };
-            self.do_step(step, writer)?;
+            self.tell_answer(answer, writer)?;
         }
         Ok(())
     }

@@ -1,4 +1,5 @@
 pub mod Parts
 pub mod Keeping
 pub mod Jobs
+pub mod Slots
 pub mod Lends

@@ -1,7 +1,8 @@
 //! A ticket in flight: how far it has come, and its data.
 
-ghost use Rattle.std.specs.Prelude.{◌≡◌, ◌≤◌, ◌<◌, ◌+◌, ◌⊎◌, ◌↔◌, [], IsTrue, drop, false, length, take, true};
-ghost use Rattle.block_exec.specs.Bytes.{compare_length, next_equal, volume_after, write_length};
+ghost use Rattle.std.specs.Prelude.{◌≡◌, ◌≤◌, ◌<◌, ◌+◌, ◌^◌, ◌⊎◌, ◌↔◌, [], IsTrue, drop, false, if◌then◌else◌, length, take, true};
+ghost use Rattle.block_array.specs.Blocks.{contents_of};
+ghost use Rattle.block_exec.specs.Bytes.{block_at, boxes_after, compare_length, needs_box, next_equal, takes_box, volume_with};
 ghost use Rattle.block_exec.specs.Course.{next_done};
 ghost use Rattle.block_exec.specs.Progress.{has_ended, next_found};
 ghost use Rattle.fused_match.specs.Judged.{verdict_by};
@@ -20,6 +21,8 @@ use std::marker::Model;
 use ticket_course::{Cids, Course};
 
 /// A ticket in flight.
+///
+/// Contracts see its queue, how far it has come, and its data: of what it writes, the blocks that are still to be written.
 #[derive(Drop)]
 pub struct Job {
     queue: u16,
@@ -27,17 +30,20 @@ pub struct Job {
     // The first of the blocks that its data is for.
     slba: u64,
     compare: Payload,
-    write: Payload,
+    // A box for each block to be written, the first of which are written: these boxes have what the volume had there.
+    write: Vec<Box<[u8; 512]>>,
+    written: usize,
     read: Payload,
 }
 
-// Contracts see all of it.
 impl Model for Job {
+    ghost use Rattle.std.specs.Prelude.{drop};
+    ghost use Rattle.block_array.specs.Blocks.{contents_of};
     ghost use Rattle.job_table.specs.Keeping.{Keeping};
 
     ghost Value = { Keeping };
 
-    ghost view = { λ j. record { queue = j.queue; course = j.course; slba = j.slba; compare = j.compare; write = j.write; read = j.read } };
+    ghost view = { λ j. record { queue = j.queue; course = j.course; slba = j.slba; compare = j.compare; write = drop j.written (contents_of j.write.items); read = j.read } };
 }
 
 /// The data of a ticket whose first block is this one.
@@ -47,8 +53,8 @@ pub struct Data {
     pub slba: u64,
     /// The Compare's data.
     pub compare: Payload,
-    /// The Write's data.
-    pub write: Payload,
+    /// The Write's data, a block a box.
+    pub write: Vec<Box<[u8; 512]>>,
     /// Zeros for what a Read will read.
     pub read: Payload,
 }
@@ -61,7 +67,7 @@ impl Job {
     pub fn new(queue: u16, judged: &Judged, cids: Cids, all: Data) -> Job
         requires cids { length cids ≡ taken (verdict_by judged.now) }
         requires sound { IsSound judged.now }
-        ensures value { result ≡ record { queue = queue; course = record { stage = first_stage judged.now; cids = cids }; slba = all.slba; compare = all.compare; write = all.write; read = all.read } }
+        ensures value { result ≡ record { queue = queue; course = record { stage = first_stage judged.now; cids = cids }; slba = all.slba; compare = all.compare; write = contents_of all.write.items; read = all.read } }
     {
         Job {
             queue,
@@ -69,6 +75,7 @@ impl Job {
             slba: all.slba,
             compare: all.compare,
             write: all.write,
+            written: 0,
             read: all.read,
         }
     }
@@ -114,16 +121,18 @@ impl Job {
         requires open { is_open self.old.course.stage ≡ true }
         requires ready { IfOpen self.old.course.stage (λ p. CanMake self.old p volume.old) }
         ensures done { IfOpen self.old.course.stage (λ p. result ≡ next_done p (finds_equal self.old p volume.old)) }
-        ensures volume { IfOpen self.old.course.stage (λ p. volume.new ≡ volume_after p volume.old (part_of self.old.write self.old.slba p.range) result.found) }
+        ensures volume { IfOpen self.old.course.stage (λ p. volume.new ≡ volume_with p volume.old (block_at self.old.write 0) result.found) }
         ensures job { IfOpen self.old.course.stage (λ p. self.new ≡ noted_job self.old p volume.old result.found) }
     {
         let Some(run) = self.course.run() else {
             unreachable!();
         };
         let compare = self.compare.as_slice();
-        let write = self.write.as_slice();
+        let boxes = self.write.as_mut_slice();
         let read = self.read.as_mut_slice();
-        let found = touch(run, self.slba, compare, write, read, volume);
+        let found = touch(run, self.slba, compare, boxes, self.written, read, volume);
+        let count = written_then(self.written, run, found);
+        self.written = count;
         self.course.note(found)
     }
 
@@ -148,12 +157,25 @@ fn part(bytes: &[u8], at: usize, count: usize) -> &[u8]
     &bytes[at..at + count]
 }
 
-// Makes the next block of an open unit, where the data is for the blocks from this one on, and says what it found.
+// How many boxes are written after a Block of this unit that found this, where so many were.
+fn written_then(written: usize, run: Run, found: Found) -> usize
+    requires room { takes_box run.op found ≡ true → written + 1 < 2 ^ 64 }
+    ensures value { result ≡ (if takes_box run.op found then written + 1 else written) }
+{
+    if run.op() != Op::WriteZeroes && found == Found::Written {
+        return written + 1;
+    }
+    written
+}
+
+// Makes the next block of an open unit, where the data is for the blocks from this one on, and what is written next is in
+// the box at this place, and says what it found.
 fn touch(
     run: Run,
     slba: u64,
     compare: &[u8],
-    write: &[u8],
+    boxes: &mut [Box<[u8; 512]>],
+    next: usize,
     read: &mut [u8],
     volume: &mut Volume,
 ) -> Found
@@ -161,12 +183,12 @@ fn touch(
     requires within { run.range.slba + run.range.blocks ≤ length volume.old }
     requires start { slba ≤ run.range.slba }
     requires has_compare { HasPart compare.now slba run.range }
-    requires has_write { HasPart write.now slba run.range }
     requires compare { length (part_of compare.now slba run.range) ≡ compare_length run.op run.range.blocks }
-    requires write { length (part_of write.now slba run.range) ≡ write_length run.op run.range.blocks }
+    requires boxed { needs_box run ≡ true → next < length boxes.old }
     requires read { run.op ≡ Operation.Read → part_end slba run.range ≤ length read.old }
     ensures found { result ≡ next_found run (next_equal run volume.old (part_of compare.now slba run.range)) }
-    ensures volume { volume.new ≡ volume_after run volume.old (part_of write.now slba run.range) result }
+    ensures volume { volume.new ≡ volume_with run volume.old (block_at (contents_of boxes.old) next) result }
+    ensures boxes { contents_of boxes.new ≡ boxes_after run volume.old (contents_of boxes.old) next result }
     ensures read { read.new ≡ read_of read.old slba run volume.old result }
     ensures size { length read.new ≡ length read.old }
 {
@@ -174,13 +196,11 @@ fn touch(
     let at = BLOCK * (run.range().slba - slba) as usize;
     let count = BLOCK * run.range().blocks as usize;
     let compare = part(compare, at, count);
-    let write = part(write, at, count);
     if run.op() == Op::Read {
-        return run
-            .next(volume, compare, write, &mut read[at..at + count])
-            .found;
+        let read = &mut read[at..at + count];
+        return run.next_from(volume, compare, boxes, next, read).found;
     }
-    run.next(volume, compare, write, &mut []).found
+    run.next_from(volume, compare, boxes, next, &mut []).found
 }
 
 #[cfg(test)]

@@ -3,9 +3,13 @@
 ghost use Rattle.std.specs.Option.{option_copied_mut};
 ghost use Rattle.std.specs.Borrow.{sem};
 ghost use Rattle.std.specs.Prelude.{◌≡◌, ◌<◌, ◌≤◌, ◌==◌, ◌++◌, ◌↔◌, [], ◌∷◌, IfErr, IfNone, IfOk, IfSome, IsTrue, MatchOption, None, OnErr, OnOk, Some, false, is_some, length, option_copied, slice_get, true};
-ghost use Rattle.job_table.specs.Jobs.{IsPlaceOf, IsRising, all_below, has_ticket, job_of, jobs_beside, replaced};
+ghost use Rattle.job_table.specs.Jobs.{IsRising, all_below, has_ticket, job_of, jobs_beside};
+ghost use Rattle.slab.specs.Slab.{ContainsKey, get};
 
 use crate::job::Job;
+use crate::uncounted::{find, remove};
+use job_index::JobIndex;
+use slab::Slab;
 use std::alloc::{AllocError as NoMemory, Global};
 use std::marker::Model;
 
@@ -16,26 +20,28 @@ pub struct InFlight {
     pub job: Job,
 }
 
-/// The tickets in flight, by rising number, at most as many as it was made for. Once made it takes no memory.
+/// The tickets in flight, by rising number, at most as many as it was made for. Once made it takes no memory. A job stays
+/// where it is while its ticket is in flight; where it lies is looked up by halves.
 #[derive(Drop)]
 pub struct Jobs {
     limit: usize,
-    jobs: Vec<InFlight>,
+    index: JobIndex,
+    jobs: Slab<InFlight>,
 }
 
 impl Model for Jobs {
-    ghost use Rattle.std.specs.Prelude.{vec_capacity};
-    ghost use Rattle.job_table.specs.Jobs.{IsKept, JobTable};
+    ghost use Rattle.job_table.specs.Jobs.{JobTable};
+    ghost use Rattle.job_table.specs.Slots.{IsKept, jobs_in};
 
     ghost Value = { JobTable };
 
-    ghost view = { λ t. record { limit = t.limit; jobs = t.jobs.items } };
+    ghost view = { λ t. record { limit = t.limit; jobs = jobs_in t.jobs t.index.keyed } };
 
-    ghost invariant = { λ t. IsKept t.jobs.items t.limit (vec_capacity t.jobs) };
+    ghost invariant = { λ t. IsKept t.limit t.index t.jobs };
 }
 
 impl Jobs {
-    ghost use Rattle.job_table.specs.Lends.{LendsJob, LendsJobIf};
+    ghost use Rattle.job_table.specs.Lends.{LendsJobIf};
 
     /// Room for that many tickets, none in flight.
     ///
@@ -47,7 +53,8 @@ impl Jobs {
     {
         Ok(Jobs {
             limit,
-            jobs: Vec::with_capacity(alloc, limit)?,
+            index: JobIndex::new(alloc, limit)?,
+            jobs: Slab::with_capacity(alloc, limit)?,
         })
     }
 
@@ -57,14 +64,14 @@ impl Jobs {
         ensures most { result ≤ self.now.limit }
         ensures law { IsRising self.now.jobs }
     {
-        self.jobs.len()
+        self.index.len()
     }
 
     /// Whether no ticket is in flight.
     pub fn is_empty(&self) -> bool
         ensures value { IsTrue result ↔ (self.now.jobs ≡ []) }
     {
-        self.jobs.is_empty()
+        self.index.is_empty()
     }
 
     /// How many tickets may be in flight.
@@ -79,16 +86,15 @@ impl Jobs {
         ensures value { result ≡ (length self.now.jobs == self.now.limit) }
         ensures most { length self.now.jobs ≤ self.now.limit }
     {
-        self.jobs.len() == self.limit
+        self.index.len() == self.limit
     }
 
     /// Whether the ticket is above all that are in flight.
-    #[tactic(auto, using(crate::proofs::Place::all_below_last, crate::proofs::Place::all_below_none))]
     pub fn is_above_all(&self, ticket: u64) -> bool
         ensures value { result ≡ all_below ticket self.now.jobs }
     {
-        match self.jobs.last() {
-            Some(last) => last.ticket < ticket,
+        match self.index.len().checked_sub(1) {
+            Some(last) => one(&self.jobs, self.index.key(last)).ticket < ticket,
             None => true,
         }
     }
@@ -109,7 +115,8 @@ impl Jobs {
         if self.is_full() {
             return Err(job);
         }
-        self.jobs.push_reserved(InFlight { ticket, job });
+        let key = self.jobs.insert_reserved(InFlight { ticket, job });
+        self.index.push(ticket, key);
         Ok(())
     }
 
@@ -118,44 +125,44 @@ impl Jobs {
         ensures value { result ≡ has_ticket self.now.jobs ticket }
         ensures law { IsRising self.now.jobs }
     {
-        self.place(ticket).is_some()
+        find(&self.index, ticket).is_some()
     }
 
     /// The job of a ticket, where it is in flight.
-    #[tactic(auto, using(crate::proofs::Tickets::job_of_absent, crate::proofs::Place::job_at))]
     pub fn get(&self, ticket: u64) -> Option<&Job>
         ensures value { option_copied result ≡ job_of self.now.jobs ticket }
         ensures any { is_some result ≡ has_ticket self.now.jobs ticket }
         ensures law { IsRising self.now.jobs }
     {
-        match self.place(ticket) {
-            Some(place) => Some(&self.jobs[place].job),
+        match find(&self.index, ticket) {
+            Some(key) => Some(&one(&self.jobs, key).job),
             None => None,
         }
     }
 
     /// The same, to be changed.
-    #[tactic(auto, using(crate::proofs::Tickets::job_of_absent))]
     pub fn get_mut(&mut self, ticket: u64) -> Option<&mut Job>
         ensures* writes_back { sem 𝓛 (LendsJobIf self.entry ticket result) }
         ensures value { option_copied_mut result ≡ job_of self.old.jobs ticket }
         ensures any { is_some result ≡ has_ticket self.old.jobs ticket }
         ensures law { IsRising self.old.jobs }
     {
-        match self.place(ticket) {
-            Some(place) => Some(self.job_mut(ticket, place)),
+        match find(&self.index, ticket) {
+            Some(key) => Some(&mut self.jobs[key].job),
             None => None,
         }
     }
 
     /// Takes a ticket out of flight.
-    #[tactic(auto, using(crate::proofs::Tickets::job_of_absent, crate::proofs::Tickets::beside_absent))]
     pub fn remove(&mut self, ticket: u64) -> Option<Job>
         ensures value { result ≡ job_of self.old.jobs ticket }
         ensures rest { self.new ≡ record self.old { jobs = jobs_beside self.old.jobs ticket } }
     {
-        match self.place(ticket) {
-            Some(place) => Some(self.take_at(ticket, place)),
+        match remove(&mut self.index, ticket) {
+            Some(key) => {
+                let InFlight { ticket: _, job } = self.jobs.remove(key);
+                Some(job)
+            }
             None => None,
         }
     }
@@ -167,43 +174,23 @@ impl Jobs {
         ensures any { IsTrue (is_some result) ↔ (place < length self.now.jobs) }
         ensures law { IsRising self.now.jobs }
     {
-        match self.jobs.get(place) {
-            Some(one) => Some((one.ticket, &one.job)),
-            None => None,
+        if place >= self.index.len() {
+            return None;
         }
+        let one = one(&self.jobs, self.index.key(place));
+        Some((one.ticket, &one.job))
     }
+}
 
-    // Where the ticket is.
-    fn place(&self, ticket: u64) -> Option<usize>
-        ensures found { IfSome result (IsPlaceOf self.now.jobs ticket) }
-        ensures any { is_some result ≡ has_ticket self.now.jobs ticket }
-        ensures law { IsRising self.now.jobs }
-    {
-        self.jobs
-            .as_slice()
-            .binary_search_by_key(&ticket, |one| one.ticket)
-            .ok()
-    }
-
-    // The job of the ticket, which is at that place; the ticket is for the contract alone.
-    fn job_mut(&mut self, ticket: u64, place: usize) -> &mut Job
-        requires { IsPlaceOf self.old.jobs ticket place }
-        ensures* writes_back { sem 𝓛 (LendsJob self.entry ticket result) }
-        ensures value { job_of self.old.jobs ticket ≡ Some result.now }
-    {
-        &mut self.jobs[place].job
-    }
-
-    // Takes the ticket, which is at that place, out of flight; the ticket is for the contract alone.
-    #[tactic(auto, using(crate::proofs::Place::job_at, crate::proofs::Place::ticket_at))]
-    fn take_at(&mut self, ticket: u64, place: usize) -> Job
-        requires { IsPlaceOf self.old.jobs ticket place }
-        ensures value { job_of self.old.jobs ticket ≡ Some result }
-        ensures rest { self.new ≡ record self.old { jobs = jobs_beside self.old.jobs ticket } }
-    {
-        let InFlight { ticket: _, job } = self.jobs.remove(place);
-        job
-    }
+// What is at a key.
+fn one(jobs: &Slab<InFlight>, key: usize) -> &InFlight
+    requires there { ContainsKey jobs.now key }
+    ensures value { get jobs.now key ≡ Some result.now }
+{
+    let Some(one) = jobs.get(key) else {
+        unreachable!();
+    };
+    one
 }
 
 #[cfg(test)]

@@ -3,6 +3,7 @@
 
 mod job;
 mod jobs;
+mod uncounted;
 
 pub use job::{Data, Job};
 pub use jobs::{InFlight, Jobs};

@@ -1,6 +1,6 @@
 -- The same ranges by ticket and by start.
-use Rattle.std.proofs.Common.{◌≡◌, ℕ, ◌≤◌, ◌<◌, Bool, true, false, not, cond, List, Option, Some, None, refl, sym, ap, subst, ◌∙◌, ◌==◌, arith, eq-eqb, ◌-◌, le-leb, leb-true, lt-ltb, length, drop, max, nat_le, nat_lt}
-use Rattle.std.specs.List.{find, insert, list_all, list_any, remove}
+use Rattle.std.proofs.Common.{◌≡◌, ℕ, ◌≤◌, ◌<◌, Bool, true, false, not, List, Some, sym, ap, subst, ◌∙◌, ◌==◌, arith, eq-eqb, ◌-◌, le-leb, leb-true, lt-ltb, length, drop, nat_le, nat_lt}
+use Rattle.std.specs.List.{find, insert, list_any, remove}
 use Rattle.std.proofs.lemmas.Bool.{and_from, and_parts}
 use Rattle.nvme_model.specs.Open.{conflict}
 use Rattle.nvme_model.specs.declared.array.Mode.{Mode}

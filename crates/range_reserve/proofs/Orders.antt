@@ -1,5 +1,5 @@
 -- Where a number stands in a list that rises by it, and what a change at that place leaves.
-use Rattle.std.proofs.Common.{◌≡◌, ◌≢◌, ℕ, zero, suc, ◌+◌, ◌≤◌, ◌<◌, Bool, true, false, cond, not, List, [], ◌∷◌, Option, Some, None, refl, sym, ap, subst, ◌∙◌, ◌==◌, arith, inl, inr, eqb-true, eq-eqb, ne_eqb, nat_lt, nat_le, lt-ltb, le-ltb, ltb-true, ltb-false, le-leb, leb-true, length, get_or, slice_get, true≢false}
+use Rattle.std.proofs.Common.{◌≡◌, ◌≢◌, ℕ, zero, suc, ◌+◌, ◌≤◌, ◌<◌, Bool, true, false, cond, not, List, [], ◌∷◌, Option, Some, None, refl, sym, ap, subst, ◌∙◌, ◌==◌, arith, inl, inr, eqb-true, eq-eqb, ne_eqb, nat_lt, nat_le, ltb-true, ltb-false, le-leb, leb-true, length, get_or, slice_get, true≢false}
 use Rattle.std.specs.List.{filter, find, insert, list_all, remove}
 use Rattle.std.specs.List.Sorted.{IsNonDecreasingBy, IsPartitionPoint}
 use Rattle.std.proofs.lemmas.Bool.{and_from, and_parts, cases_Bool, cond-false, cond-true, not_from_false, not_from_true, or_from, or_parts}

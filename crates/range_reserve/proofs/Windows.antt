@@ -1,7 +1,7 @@
 -- What is kept by start: what a grant adds, and the starts that a search for conflicts leaves out.
-use Rattle.std.proofs.Common.{◌≡◌, ℕ, zero, suc, ◌+◌, ◌-◌, ◌*◌, ◌≤◌, ◌<◌, Bool, true, false, cond, ◌||◌, List, [], ◌∷◌, refl, sym, ap, ◌∙◌, ◌==◌, arith, inl, inr, nat_lt, nat_le, lt-ltb, le-ltb, ltb-true, ltb-false, le-leb, leb-true, drop}
+use Rattle.std.proofs.Common.{◌≡◌, ℕ, zero, suc, ◌+◌, ◌-◌, ◌≤◌, ◌<◌, Bool, true, false, cond, ◌||◌, List, [], ◌∷◌, refl, sym, ap, ◌∙◌, ◌==◌, arith, inl, inr, nat_lt, nat_le, lt-ltb, le-ltb, ltb-true, ltb-false, leb-true, drop}
 use Rattle.std.specs.List.{insert, list_all, list_any, take_while}
-use Rattle.std.proofs.lemmas.Bool.{and_left, and_parts, and_right, cases_Bool, cases_order, cond-false, cond-true, or_from, or_parts}
+use Rattle.std.proofs.lemmas.Bool.{and_left, and_parts, and_right, cases_Bool, cond-false, cond-true, or_from, or_parts}
 use Rattle.std.proofs.lemmas.Bool.Decides.{nat_tests}
 use Rattle.std.proofs.lemmas.List.Sorted.{IsPermutation-insert, list_any-IsPermutation}
 use Rattle.std.proofs.lemmas.List.Sums.{take_while-cons}

@@ -1,6 +1,6 @@
 -- What tickets hold, in an order that a search can use.
 use Rattle.std.specs.List.{list_all, prefix_len, take_while}
-use Rattle.std.specs.Prelude.{Bool, List, [], drop, nat_le, nat_lt, true, ℕ, ◌*◌, ◌+◌, ◌-◌, ◌&&◌, ◌∷◌, ◌≡◌}
+use Rattle.std.specs.Prelude.{Bool, List, [], nat_le, nat_lt, true, ℕ, ◌*◌, ◌+◌, ◌&&◌, ◌∷◌, ◌≡◌}
 use Rattle.nvme_model.specs.declared.array.Mode.{Mode}
 use Rattle.nvme_model.specs.declared.array.Range.{Range}
 use Rattle.range_reserve.specs.Reserved.{AreApart, has_conflict}

@@ -1,6 +1,6 @@
 -- A step that nothing refuses, told of the fields and of the controller's value.
-use Rattle.std.proofs.Common.{◌≡◌, ℕ, ◌∷◌, Option, None, Ok, Err, refl, sym, ap, ◌∙◌, subst, arith}
-use Rattle.std.specs.Prelude.{unwrap_or}
+use Rattle.std.proofs.Common.{◌≡◌, ℕ, ◌∷◌, Option, None, Result, Ok, Err, is_ok, true, refl, sym, ap, ◌∙◌, subst, arith}
+use Rattle.std.specs.Prelude.{IfErr, unwrap_or}
 use Rattle.nvme_model.specs.declared.entry.Entry.{Entry}
 use Rattle.nvme_model.specs.declared.refusal.Why.{Why}
 use Rattle.nvme_model.specs.declared.step.Step.{Step}
@@ -9,6 +9,11 @@ use Rattle.nvme_model.specs.Refusals.{refusal}
 use Rattle.nvme_model.specs.Steps.{next_entry}
 use Rattle.step_core.specs.State.{Does, Room, State, TakesRoom, WantsMemory, answer_of, promised_after}
 use Rattle.step_core.specs.declared.answer.Answer.{Answer}
+
+-- a call whose error nothing allows answers Ok
+pub ok_unless : {A E : Type 0} {P : E → Type 0} (r : Result A E) → IfErr r P → ((e : E) → P e → ⊥) → is_ok r ≡ true
+ok_unless (Ok x) h n = refl
+ok_unless (Err e) h n = absurd (n e h)
 
 -- what is found of the value is so of the fields
 pub accepted : (inside old : State) (step : Step) (o : Option Why) → inside ≡ old → o ≡ refusal old.config old.past step

@@ -33,18 +33,18 @@ use Rattle.nvme_model.proofs.Lists.{Each, each_filter, each_find}
 use Rattle.nvme_model.proofs.Medium.{is_open}
 use Rattle.nvme_model.proofs.NextPost.{unit_at}
 use Rattle.nvme_model.proofs.Rules.{none_holds}
-use Rattle.block_exec.specs.Bytes.{compare_length, data_at, write_length}
+use Rattle.block_exec.specs.Bytes.{compare_length, data_at}
 use Rattle.block_exec.specs.Course.{next_done}
 use Rattle.block_exec.specs.Progress.{Progress, found_by, has_ended, needed, next_block, next_place}
-use Rattle.block_exec.specs.Units.{progress_of, unit_compare, unit_write}
+use Rattle.block_exec.specs.Units.{progress_of, unit_compare}
 use Rattle.block_exec.specs.declared.run.Done.{Done}
 use Rattle.block_exec.proofs.Histories.{has_ended-progress_of}
-use Rattle.block_exec.proofs.Parts.{data_at-unit_compare, length-unit_compare, length-unit_write}
-use Rattle.job_table.specs.Keeping.{CanMake, finds_equal}
+use Rattle.block_exec.proofs.Parts.{data_at-unit_compare, length-unit_compare}
+use Rattle.job_table.specs.Keeping.{finds_equal}
 use Rattle.job_table.specs.Parts.{HasPart, part_end, part_of}
 use Rattle.ticket_course.specs.Shown.{stage_by}
 use Rattle.ticket_course.specs.declared.course.Stage.TheVariants.{Open}
-use Rattle.step_core.specs.Fields.{compare_bytes, job_at, job_by, read_bytes_by, write_bytes_by}
+use Rattle.step_core.specs.Fields.{compare_bytes, job_at, job_by, read_bytes_by}
 use Rattle.step_core.specs.Kept.{IsTable}
 use Rattle.step_core.proofs.Granting.{any_found, job_stage}
 
@@ -128,17 +128,6 @@ compare_part k o r e = ap (λ (w : Option Op). part_of (cond (has_compare w) (co
     by Op.Write = none_part (slba (first_fields k)) r
     by Op.WriteZeroes = none_part (slba (first_fields k)) r
 
--- what it writes from is its part of the data that is written
-pub write_part : (k : Ticket) (o : Op) (r : Range) → op k ≡ Some o → part_of (write_bytes_by (op k) k) (slba (first_fields k)) r ≡ unit_write o k r
-write_part k o r e = ap (λ (w : Option Op). part_of (write_bytes_by w k) (slba (first_fields k)) r) e ∙ by o
-  where
-    by : (o : Op) → part_of (write_bytes_by (Some o) k) (slba (first_fields k)) r ≡ unit_write o k r
-    by Op.Write = refl
-    by Op.Pair = refl
-    by Op.Read = none_part (slba (first_fields k)) r
-    by Op.Compare = none_part (slba (first_fields k)) r
-    by Op.WriteZeroes = none_part (slba (first_fields k)) r
-
 -- ---- what a Block finds
 
 found_same : (o : Op) (n j : ℕ) (a b : Bool) → (has_compare (Some o) ≡ true → a ≡ b) → found_by o n j a ≡ found_by o n j b
@@ -188,53 +177,25 @@ module _ (c : ConfigNumbers) (past : Past) (t : ℕ) (h : IsLegal c past) (g : G
   data_is : HasData (ticket past t)
   data_is = has_data_if c (ticket past t) (ticket_checked c past t h some)
 
-  compare_there : HasPart (compare_bytes (ticket past t)) (slba (first_fields (ticket past t))) g.range
+  pub compare_there : HasPart (compare_bytes (ticket past t)) (slba (first_fields (ticket past t))) g.range
   compare_there = go (has_compare (op (ticket past t))) refl
     where
       go : (b : Bool) → has_compare (op (ticket past t)) ≡ b → HasPart (cond b (command (ticket past t) 0).payload []) (slba (first_fields (ticket past t))) g.range
       go true e = inr (omega (arith, data_is.compare e, u.inside.low, u.inside.high))
       go false e = inl refl
 
-  write_there : HasPart (write_bytes_by (op (ticket past t)) (ticket past t)) (slba (first_fields (ticket past t))) g.range
-  write_there = subst (λ (w : Option Op). HasPart (write_bytes_by w (ticket past t)) (slba (first_fields (ticket past t))) g.range) (sym u.does) (go o u.does)
-    where
-      go : (x : Op) → op (ticket past t) ≡ Some x → HasPart (write_bytes_by (Some x) (ticket past t)) (slba (first_fields (ticket past t))) g.range
-      go Op.Write e = inr (omega (arith, data_is.write e, u.inside.low, u.inside.high))
-      go Op.Pair e = inr (omega (arith, data_is.pair e, u.inside.low, u.inside.high))
-      go Op.Read e = inl refl
-      go Op.Compare e = inl refl
-      go Op.WriteZeroes e = inl refl
-
-  compare_long : length (part_of (compare_bytes (ticket past t)) (slba (first_fields (ticket past t))) g.range) ≡ compare_length o g.range.blocks
+  pub compare_long : length (part_of (compare_bytes (ticket past t)) (slba (first_fields (ticket past t))) g.range) ≡ compare_length o g.range.blocks
   compare_long =
       ap length (compare_part (ticket past t) o g.range u.does)
       ∙ length-unit_compare o (ticket past t) g.range (λ e. omega (arith, data_is.compare (ap has_compare u.does ∙ e), u.inside.low, u.inside.high))
 
-  write_long : length (part_of (write_bytes_by (op (ticket past t)) (ticket past t)) (slba (first_fields (ticket past t))) g.range) ≡ write_length o g.range.blocks
-  write_long =
-      ap length (write_part (ticket past t) o g.range u.does)
-      ∙ length-unit_write o (ticket past t) g.range (λ e. omega (arith, data_is.write (u.does ∙ ap Some e), u.inside.low, u.inside.high)) (λ e. omega (arith, data_is.pair (u.does ∙ ap Some e), u.inside.low, u.inside.high))
-
-  read_long : (read : List ℕ) → o ≡ Op.Read → part_end (slba (first_fields (ticket past t))) g.range ≤ length (read_bytes_by (op (ticket past t)) (ticket past t) read)
+  pub read_long : (read : List ℕ) → o ≡ Op.Read → part_end (slba (first_fields (ticket past t))) g.range ≤ length (read_bytes_by (op (ticket past t)) (ticket past t) read)
   read_long read e =
       let total : ℕ = 512 * blocks (first_fields (ticket past t)) in
       subst (λ (w : Option Op). part_end (slba (first_fields (ticket past t))) g.range ≤ length (read_bytes_by w (ticket past t) read)) (sym (u.does ∙ ap Some e))
       (omega (arith, length-append read (replicate (total - length read) 0), length-replicate {A = ℕ} (total - length read) 0, u.inside.low, u.inside.high))
 
-  -- its next Block can be made
-  pub can_make : (v : List (List ℕ)) → length v ≡ c.blocks → CanMake (job_at c past t) (progress_of past t g.unit o g.range) v
-  unfolding job_by
-  can_make v size = record {
-    within = omega (arith, size, range_inside);
-    start = u.inside.low;
-    has_compare = compare_there;
-    has_write = write_there;
-    compare = compare_long;
-    write = write_long;
-    read = read_long (standing past t).read;
-  }
-
-  -- and finds what the history says
+  -- its next Block finds what the history says
   pub finds_same : (v : List (List ℕ)) → IsTable (medium past) c.blocks v → has_compare (Some o) ≡ true
       → (let p = progress_of past t g.unit o g.range in finds_equal (job_at c past t) p v ≡ bytes_eq (medium past (next_block p)) (compare_data (ticket past t) (next_block p)))
   unfolding job_by

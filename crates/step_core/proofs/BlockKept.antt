@@ -14,35 +14,27 @@ use Rattle.nvme_model.specs.History.{Past}
 use Rattle.nvme_model.specs.Legal.{IsLegal}
 use Rattle.nvme_model.specs.Medium.{medium}
 use Rattle.nvme_model.specs.Open.{blocks_made, blocks_of, grants_of, is_read_found, is_written}
-use Rattle.nvme_model.specs.Operations.{has_write, op, units, units_by, write_data}
-use Rattle.ticket_standing.specs.Standing.{bytes_read, open_unit, unit_of}
+use Rattle.nvme_model.specs.Operations.{op, units, units_by, write_data}
+use Rattle.ticket_standing.specs.Standing.{bytes_read, open_unit, standing, unit_of}
 use Rattle.nvme_model.specs.Tickets.{Ticket, first_fields, ticket, tickets}
 use Rattle.nvme_model.proofs.Cut.{cut-is}
 use Rattle.ticket_standing.proofs.Left.{blocks_of_all, take_one_more}
 use Rattle.ticket_standing.proofs.Lengths.{medium_length}
 use Rattle.ticket_standing.proofs.ReadPlace.{read_length, read_placed, rest_of}
-use Rattle.block_exec.specs.Bytes.{block_at, put_at, volume_after, written_at}
-use Rattle.block_exec.specs.Progress.{Progress, found_by, needed, next_block, next_place}
+use Rattle.block_exec.specs.Bytes.{block_at, put_at, volume_with, written_by}
+use Rattle.block_exec.specs.Progress.{Progress, found_by, needed, next_block}
 use Rattle.block_exec.specs.Units.{progress_of}
-use Rattle.block_exec.proofs.Parts.{written_at-unit_write}
 use Rattle.job_table.specs.Keeping.{read_of}
 use Rattle.job_table.specs.Parts.{part_of, with_part}
-use Rattle.step_core.specs.Fields.{job_at, job_by, read_bytes_by, write_bytes_by}
+use Rattle.step_core.specs.Fields.{job_at, job_by, read_bytes_by, still_written}
 use Rattle.step_core.specs.Kept.{IsTable}
-use Rattle.step_core.proofs.BlockData.{IsUnit, place_within, range_inside, unended, write_part}
+use Rattle.step_core.proofs.BlockData.{IsUnit, place_within, range_inside, unended}
 use Rattle.step_core.proofs.Blocked.{done_now, is_equal, line_now}
 use Rattle.step_core.proofs.ReadBytes.{cut_place, read_next, zeros_left}
 use Rattle.step_core.proofs.Tables.{IsTable-same, IsTable-set}
+use Rattle.step_core.proofs.Written.{written_now}
 
 -- ---- what each operation finds
-
-found_writes : (o : Op) (n j : ℕ) (e : Bool) → is_written (found_by o n j e) ≡ true → has_write (Some o) ≡ true
-found_writes Op.Write n j e h = refl
-found_writes Op.WriteZeroes n j e h = refl
-found_writes Op.Pair n j e h = refl
-found_writes Op.Read n j e h = absurd cc
-found_writes Op.Compare n j true h = absurd cc
-found_writes Op.Compare n j false h = absurd cc
 
 compared_no_read : (e : Bool) → is_read_found (cond e Found.Equal Found.Differs) ≡ false
 compared_no_read true = refl
@@ -58,7 +50,8 @@ module _ (c : ConfigNumbers) (past : Past) (t : ℕ) (g : GrantLine) (o : Op) (u
   -- of the volume, one block is as the ticket writes it
   pub volume_now : (v : List (List ℕ)) → IsTable (medium past) c.blocks v
       → IsTable (medium (Entry.Block (line_now past t g o) ∷ past)) c.blocks
-      (volume_after (progress_of past t g.unit o g.range) v (part_of (write_bytes_by (op (ticket past t)) (ticket past t)) (slba (first_fields (ticket past t))) g.range) (done_now past t g o).found)
+      (volume_with (progress_of past t g.unit o g.range) v (block_at (job_at c past t).write 0) (done_now past t g o).found)
+  unfolding job_by
   volume_now v table = go (is_written f) refl
     where
       p : Progress
@@ -68,20 +61,19 @@ module _ (c : ConfigNumbers) (past : Past) (t : ℕ) (g : GrantLine) (o : Op) (u
       f = (done_now past t g o).found
 
       w : List ℕ
-      w = part_of (write_bytes_by (op (ticket past t)) (ticket past t)) (slba (first_fields (ticket past t))) g.range
+      w = block_at (still_written c (standing past t)) 0
 
       lies : next_block p < c.blocks
       lies = omega (arith, range_inside c past t h g o u, place_within c past t h g o u)
 
-      value : is_written f ≡ true → written_at o w (next_place p) ≡ cond (is_written f && (next_block p == next_block p)) (write_data (ticket past t) (next_block p)) (medium past (next_block p))
+      value : is_written f ≡ true → written_by o w ≡ cond (is_written f && (next_block p == next_block p)) (write_data (ticket past t) (next_block p)) (medium past (next_block p))
       value e =
-          ap (λ (xs : List ℕ). written_at o xs (next_place p)) (write_part (ticket past t) o g.range u.does)
-          ∙ written_at-unit_write (ticket past t) o g.range (next_place p) u.does (found_writes o g.range.blocks p.made (is_equal past t g o) e) u.inside.low (place_within c past t h g o u)
+          written_now c past t h g o u (is_equal past t g o) e
           ∙ (λ z. cond (sym e z && sym (eq-eqb (next_block p) (next_block p) refl) z) (write_data (ticket past t) (next_block p)) (medium past (next_block p)))
 
-      go : (b : Bool) → is_written f ≡ b → IsTable (medium (Entry.Block (line_now past t g o) ∷ past)) c.blocks (cond b (set v (next_block p) (written_at o w (next_place p))) v)
+      go : (b : Bool) → is_written f ≡ b → IsTable (medium (Entry.Block (line_now past t g o) ∷ past)) c.blocks (cond b (set v (next_block p) (written_by o w)) v)
       go true e =
-          IsTable-set (medium past) (medium (Entry.Block (line_now past t g o) ∷ past)) c.blocks (next_block p) v (written_at o w (next_place p)) table lies (value e)
+          IsTable-set (medium past) (medium (Entry.Block (line_now past t g o) ∷ past)) c.blocks (next_block p) v (written_by o w) table lies (value e)
           (λ i ne. ap (λ b. cond b (write_data (ticket past t) i) (medium past i)) (and_right (is_written f) (next_block p == i) (ne_eqb (next_block p) i (λ q. ne (sym q)))))
       go false e =
           IsTable-same (medium past) (medium (Entry.Block (line_now past t g o) ∷ past)) c.blocks v table

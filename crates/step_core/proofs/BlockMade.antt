@@ -1,24 +1,20 @@
 -- A Block that isn't refused: what the calls that make it require, what it answers, and the fields after it.
-use Rattle.std.proofs.Common.{◌≡◌, ℕ, suc, ◌-◌, Bool, true, false, cond, List, ◌∷◌, map, refl, sym, ap, ap₂, ◌∙◌, subst, Ok, Option, Some, None, not, ◌==◌}
-use Rattle.std.specs.Prelude.{is_none}
-use Rattle.nvme_model.specs.declared.array.Range.{Range}
+use Rattle.std.proofs.Common.{◌≡◌, ℕ, suc, ◌-◌, Bool, true, false, cond, List, ◌∷◌, map, refl, sym, ap, ap₂, ◌∙◌, subst, Ok, Some, None, not, ◌==◌}
+use Rattle.std.specs.Prelude.{is_none, is_some}
 use Rattle.nvme_model.specs.declared.config.ConfigNumbers.{ConfigNumbers}
 use Rattle.nvme_model.specs.declared.entry.BlockLine.{BlockLine}
 use Rattle.nvme_model.specs.declared.entry.Entry.{Entry}
 use Rattle.nvme_model.specs.declared.entry.GrantLine.{GrantLine}
 use Rattle.nvme_model.specs.declared.operation.Op.{Op}
-use Rattle.nvme_model.specs.declared.refusal.Why.{Why}
 use Rattle.nvme_model.specs.declared.step.Step.{Step}
 use Rattle.nvme_model.specs.History.{Past}
 use Rattle.nvme_model.specs.Legal.{IsLegal}
 use Rattle.nvme_model.specs.Medium.{medium}
 use Rattle.nvme_model.specs.Open.{open_units}
-use Rattle.nvme_model.specs.EntryBytes.{slba}
-use Rattle.nvme_model.specs.Operations.{op}
 use Rattle.nvme_model.specs.Refusals.{conditions, refusal}
 use Rattle.ticket_standing.specs.Standing.{left, standing}
 use Rattle.nvme_model.specs.Steps.{next_entry}
-use Rattle.nvme_model.specs.Tickets.{first_fields, in_flight, ticket}
+use Rattle.nvme_model.specs.Tickets.{in_flight}
 use Rattle.nvme_model.specs.Kept.{Kept}
 use Rattle.ticket_standing.proofs.Opening.{block_open_beside, block_open_on}
 use Rattle.nvme_model.proofs.Rules.{none_holds}
@@ -27,28 +23,30 @@ use Rattle.range_reserve.specs.Reserved.{by_ticket, held_beside, held_of}
 use Rattle.range_reserve.specs.declared.held.Held.{Held}
 use Rattle.range_reserve.proofs.Granted.{held_beside-map}
 use Rattle.range_reserve.proofs.Rising.{filter-by_ticket}
-use Rattle.block_exec.specs.Bytes.{volume_after}
+use Rattle.block_exec.specs.Bytes.{block_at, volume_with}
 use Rattle.block_exec.specs.Course.{next_done}
 use Rattle.block_exec.specs.Progress.{Progress}
 use Rattle.block_exec.specs.Units.{progress_of}
 use Rattle.block_exec.specs.declared.run.Done.{Done}
 use Rattle.rings.specs.Completions.{CompletionRing}
 use Rattle.rings.specs.Submissions.{SubmissionRing}
-use Rattle.job_table.specs.Jobs.{JobTable, job_of, replaced}
-use Rattle.job_table.specs.Keeping.{CanMake, Keeping, finds_equal, noted_job, read_of}
-use Rattle.job_table.specs.Parts.{part_of}
+use Rattle.job_table.specs.Jobs.{JobTable, has_ticket, job_of, replaced}
+use Rattle.job_table.proofs.Tickets.{is_some-job_of}
+use Rattle.job_table.specs.Keeping.{CanMake, Keeping, finds_equal, noted_job, read_of, written_on}
 use Rattle.ticket_course.specs.Stages.{IfOpen, is_open, unit_in}
 use Rattle.ticket_course.specs.declared.course.Stage.{Stage}
 use Rattle.ticket_course.specs.declared.course.Stage.TheVariants.{Open}
-use Rattle.step_core.specs.Fields.{completion_ring, job_at, job_by, submission_ring, write_bytes_by}
+use Rattle.step_core.specs.Fields.{completion_ring, job_at, submission_ring}
 use Rattle.step_core.specs.Kept.{IsKept, IsTable}
 use Rattle.step_core.specs.State.{Does, Room, State, TakesRoom, answer_of}
 use Rattle.step_core.specs.declared.answer.Answer.{Answer}
-use Rattle.step_core.proofs.BlockData.{IsUnit, can_make, done_same, finds_same, not_false, stage_is, unit_found}
+use Rattle.step_core.proofs.BlockData.{IsUnit, done_same, finds_same, not_false, stage_is, unit_found}
 use Rattle.step_core.proofs.BlockKept.{read_now, volume_now}
 use Rattle.step_core.proofs.Blocked.{done_is, done_now, ended_is, entry_is, is_equal, job_now, line_now}
 use Rattle.step_core.proofs.Moves.{job_found, jobs_moved, legal_after, stepped as next_kept}
 use Rattle.step_core.proofs.Tables.{IsTable-same}
+use Rattle.step_core.proofs.Written.{can_make}
+use Rattle.step_core.proofs.WrittenOn.{write_now}
 
 -- ---- the rings are as they were
 
@@ -60,24 +58,13 @@ completion_kept : (c : ConfigNumbers) (past : Past) (b : BlockLine) (q : ℕ) �
 unfolding completion_ring
 completion_kept c past b q = refl
 
--- the part of the data that is written, as the job has it
-data_written : (c : ConfigNumbers) (past : Past) (t : ℕ) (r : Range)
-    → part_of (job_at c past t).write (job_at c past t).slba r ≡ part_of (write_bytes_by (op (ticket past t)) (ticket past t)) (slba (first_fields (ticket past t))) r
-unfolding job_by
-data_written c past t r = refl
-
 -- ---- what making a Block says, by the unit that is open
 
 -- the call that made it says so
 pub record IsMade (y : Keeping) (v : List (List ℕ)) (d : Done) (v' : List (List ℕ)) (y' : Keeping) : Type 0 where
   pub done : IfOpen y.course.stage (λ p. d ≡ next_done p (finds_equal y p v))
-  pub volume : IfOpen y.course.stage (λ p. v' ≡ volume_after p v (part_of y.write y.slba p.range) d.found)
+  pub volume : IfOpen y.course.stage (λ p. v' ≡ volume_with p v (block_at y.write 0) d.found)
   pub job : IfOpen y.course.stage (λ p. y' ≡ noted_job y p v d.found)
-
--- nothing refuses a Block of ticket t, in the fields where it is so in the value that contracts see
-pub block_seen : (c : ConfigNumbers) (past : Past) (n : ℕ) {w : Room} (x : State) (t : ℕ) (o : Option Why) → record { config = c; past = past; promised = n; room = w } ≡ x → o ≡ refusal x.config x.past (Step.Block t) → o ≡ None
-    → refusal c past (Step.Block t) ≡ None
-block_seen c past n x t o view e none = ap (λ (y : State). refusal y.config y.past (Step.Block t)) view ∙ sym e ∙ none
 
 module _ (c : ConfigNumbers) (past : Past) (v : List (List ℕ)) (s : List SubmissionRing) (q : List CompletionRing) (j : JobTable) (r : List Held) (n : ℕ) (k : IsKept c past v s q j r n) (t : ℕ) (none : refusal c past (Step.Block t) ≡ None) where
   there : job_of j.jobs t ≡ Some (job_at c past t)
@@ -86,8 +73,8 @@ module _ (c : ConfigNumbers) (past : Past) (v : List (List ℕ)) (s : List Submi
       ap (λ (x : JobTable). job_of x.jobs t) k.jobs ∙ job_found c past t k.run.legal ∙ ap (λ b. cond b (Some (job_at c past t)) None) (not_false (in_flight past t) rows.0)
 
   -- its ticket has a job
-  pub has_job : (o : Option Keeping) → o ≡ job_of j.jobs t → o ≡ None → ⊥
-  has_job o f h = absurd (let w : None ≡ Some (job_at c past t) = sym h ∙ f ∙ there in cc)
+  pub has_job : has_ticket j.jobs t ≡ true
+  has_job = sym (is_some-job_of j.jobs t) ∙ ap is_some there
 
   module _ (y : Keeping) (f : Some y ≡ job_of j.jobs t) where
     job_is : y ≡ job_at c past t
@@ -110,7 +97,7 @@ module _ (c : ConfigNumbers) (past : Past) (v : List (List ℕ)) (s : List Submi
         subst (λ (x : Keeping). IfOpen x.course.stage (λ p. CanMake x p v)) (sym job_is)
         (subst (λ (s : Stage). IfOpen s (λ p. CanMake (job_at c past t) p v)) (sym (stage_is c past t k.run.legal u.0 u.1 u.2)) (can_make c past t k.run.legal u.0 u.1 u.2 v k.volume.size))
 
-    module _ (n' : ℕ) (number : n' ≡ unit_in y.course.stage) (d : Done) (v' : List (List ℕ)) (y' : Keeping) (m : IsMade y v d v' y') where
+    module _ (n' : ℕ) (number : n' ≡ unit_in (job_at c past t).course.stage) (d : Done) (v' : List (List ℕ)) (y' : Keeping) (m : IsMade y v d v' y') where
       -- what a clause says of the job's open unit it says of the ticket's
       at_run : (g : GrantLine) (o : Op) → IsUnit c past t g o → (P : Keeping → Progress → Type 0) → IfOpen y.course.stage (P y) → P (job_at c past t) (progress_of past t g.unit o g.range)
       at_run g o u P h =
@@ -127,7 +114,7 @@ module _ (c : ConfigNumbers) (past : Past) (v : List (List ℕ)) (s : List Submi
 
       line_is : (g : GrantLine) (o : Op) → IsUnit c past t g o → Entry.Block (record { ticket = t; unit = n'; lba = d.lba; found = d.found; effect = d.effect }) ≡ Entry.Block (line_now past t g o)
       line_is g o u =
-          (λ z. Entry.Block (record { ticket = t; unit = (number ∙ ap unit_in (stands_open g o u)) z; lba = (says g o u z).lba; found = (says g o u z).found; effect = (says g o u z).effect }))
+          (λ z. Entry.Block (record { ticket = t; unit = (number ∙ ap unit_in (stage_is c past t k.run.legal g o u)) z; lba = (says g o u z).lba; found = (says g o u z).found; effect = (says g o u z).effect }))
 
       -- its line is the next entry
       pub next_is : Entry.Block (record { ticket = t; unit = n'; lba = d.lba; found = d.found; effect = d.effect }) ≡ next_entry c past (Step.Block t)
@@ -173,13 +160,10 @@ module _ (c : ConfigNumbers) (past : Past) (v : List (List ℕ)) (s : List Submi
                 run = subst (λ (x : Entry). Kept c (x ∷ past)) (sym (entry_is c past t g o u)) (next_kept c past (Step.Block t) k.run none);
               })
             where
-              written : (g : GrantLine) (o : Op) → IsUnit c past t g o
-                  → v' ≡ volume_after (progress_of past t g.unit o g.range) v (part_of (write_bytes_by (op (ticket past t)) (ticket past t)) (slba (first_fields (ticket past t))) g.range) (done_now past t g o).found
+              written : (g : GrantLine) (o : Op) → IsUnit c past t g o → v' ≡ volume_with (progress_of past t g.unit o g.range) v (block_at (job_at c past t).write 0) (done_now past t g o).found
               written g o u =
-                  let p : Progress = progress_of past t g.unit o g.range in
-                  at_run g o u (λ x w. v' ≡ volume_after w v (part_of x.write x.slba w.range) d.found) m.volume
-                  ∙ ap (λ (e : Done). volume_after p v (part_of (job_at c past t).write (job_at c past t).slba g.range) e.found) (says g o u)
-                  ∙ ap (λ (w : List ℕ). volume_after p v w (done_now past t g o).found) (data_written c past t g.range)
+                  at_run g o u (λ x w. v' ≡ volume_with w v (block_at x.write 0) d.found) m.volume
+                  ∙ ap (λ (e : Done). volume_with (progress_of past t g.unit o g.range) v (block_at (job_at c past t).write 0) e.found) (says g o u)
 
               own : (g : GrantLine) (o : Op) → IsUnit c past t g o → y' ≡ job_at c (Entry.Block (line_now past t g o) ∷ past) t
               own g o u =
@@ -187,7 +171,7 @@ module _ (c : ConfigNumbers) (past : Past) (v : List (List ℕ)) (s : List Submi
                   let x : Keeping = job_at c past t in
                   at_run g o u (λ x p. y' ≡ noted_job x p v d.found) m.job
                   ∙ (λ z. noted_job x p v (says g o u z).found)
-                  ∙ job_now c past t g o u (legal_then g o u) k.run.legal (read_of x.read x.slba p v (done_now past t g o).found) (read_now c past t g o u k.run.legal v k.volume)
+                  ∙ job_now c past t g o u (legal_then g o u) k.run.legal (written_on o (done_now past t g o).found x.write) (read_of x.read x.slba p v (done_now past t g o).found) (write_now c past t k.run.legal g o u) (read_now c past t g o u k.run.legal v k.volume)
 
               held_now : (g : GrantLine) (o : Op) → IsUnit c past t g o → (b : Bool) → (done_now past t g o).ended ≡ b
                   → cond b (held_beside (by_ticket (map held_of (open_units past))) t) (by_ticket (map held_of (open_units past)))

@@ -29,7 +29,7 @@ use Rattle.block_exec.proofs.Histories.{block_entry-next_done, has_ended-progres
 use Rattle.ticket_course.specs.Shown.{stage_of}
 use Rattle.ticket_course.specs.Stages.{noted_in}
 use Rattle.ticket_course.proofs.Blocked.{blocked}
-use Rattle.step_core.specs.Fields.{compare_bytes, job_at, job_by, read_bytes_by, write_bytes_by}
+use Rattle.step_core.specs.Fields.{compare_bytes, job_at, job_by, read_bytes_by, still_written}
 use Rattle.step_core.specs.State.{done_of}
 use Rattle.step_core.proofs.BlockData.{IsUnit, unended}
 
@@ -89,18 +89,18 @@ module _ (c : ConfigNumbers) (past : Past) (t : ℕ) (g : GrantLine) (o : Op) (u
     moved : noted_in (stage_of c (standing past t)) (done_now past t g o).found ≡ stage_of c (after_block past (line_now past t g o) (unit_now past t g o))
     moved = sym (blocked c past (line_now past t g o) legal) ∙ ap (stage_of c) stands
 
-    -- the job then, where this is what it has read
-    pub job_now : (read : List ℕ) → read ≡ read_bytes_by (op (ticket past t)) (ticket past t) (after_block past (line_now past t g o) (unit_now past t g o)).read
-        → record (job_at c past t) { course = record (job_at c past t).course { stage = noted_in (job_at c past t).course.stage (done_now past t g o).found }; read = read }
+    -- the job then, where this is what it still writes and has read
+    pub job_now : (write : List (List ℕ)) (read : List ℕ) → write ≡ still_written c (after_block past (line_now past t g o) (unit_now past t g o)) → read ≡ read_bytes_by (op (ticket past t)) (ticket past t) (after_block past (line_now past t g o) (unit_now past t g o)).read
+        → record (job_at c past t) { course = record (job_at c past t).course { stage = noted_in (job_at c past t).course.stage (done_now past t g o).found }; write = write; read = read }
         ≡ job_at c (Entry.Block (line_now past t g o) ∷ past) t
     unfolding job_by
-    job_now read e =
+    job_now write read w e =
         (λ z. record {
           queue = (ticket past t).queue;
           course = record { stage = moved z; cids = drop (posts_of past t) (cids (ticket past t)) };
           slba = slba (first_fields (ticket past t));
           compare = compare_bytes (ticket past t);
-          write = write_bytes_by (op (ticket past t)) (ticket past t);
+          write = w z;
           read = e z;
         })
         ∙ ap (job_by c) (sym stands)

@@ -1,5 +1,5 @@
 -- What a Fetch requires and what it leaves.
-use Rattle.std.proofs.Common.{◌≡◌, ◌≢◌, ℕ, zero, suc, ◌+◌, ◌-◌, ◌%◌, ◌≤◌, ◌<◌, ◌^◌, ◌==◌, ◌||◌, true, false, cond, List, [], ◌∷◌, ◌++◌, drop, get_or, length, map, set, take, Option, Some, None, Ok, is_none, is_some, refl, sym, ap, ap₂, ◌∙◌, subst, subst₂, arith, inl, inr, add-zero, eqb, eqb-true, eq-eqb, ne_eqb, nat_lt, ltb-false}
+use Rattle.std.proofs.Common.{◌≡◌, ◌≢◌, ℕ, zero, suc, ◌+◌, ◌-◌, ◌%◌, ◌≤◌, ◌<◌, ◌^◌, ◌==◌, ◌||◌, true, false, cond, List, [], ◌∷◌, ◌++◌, drop, get_or, length, map, set, take, Option, None, Ok, is_none, is_some, refl, sym, ap, ap₂, ◌∙◌, subst, subst₂, arith, inl, inr, add-zero, eqb, eqb-true, eq-eqb, ne_eqb, nat_lt, ltb-false}
 use Rattle.std.specs.List.{list_all, list_any}
 use Rattle.std.proofs.Math.Nat.{mod-add-mod}
 use Rattle.std.proofs.lemmas.Bool.{cases_Bool, cond-true, or_parts}
@@ -21,7 +21,6 @@ use Rattle.nvme_model.specs.declared.config.ConfigNumbers.{ConfigNumbers}
 use Rattle.nvme_model.specs.declared.entry.Entry.{Entry}
 use Rattle.nvme_model.specs.declared.entry.FetchLine.{FetchLine}
 use Rattle.nvme_model.specs.declared.entry.GrantLine.{GrantLine}
-use Rattle.nvme_model.specs.declared.operation.Op.{Op}
 use Rattle.nvme_model.specs.declared.status.Verdict.{Verdict}
 use Rattle.nvme_model.specs.declared.step.Step.{Step}
 use Rattle.nvme_model.specs.declared.submission.Submission.{Submission}
@@ -33,7 +32,7 @@ use Rattle.nvme_model.proofs.Lists.{Each}
 use Rattle.nvme_model.proofs.Rules.{none_holds}
 use Rattle.ticket_standing.proofs.Unfetched.{fetch_flying, fetch_here, fetch_other, flying_known}
 use Rattle.ticket_standing.proofs.Waiting.{fetch_waits}
-use Rattle.fused_match.specs.Judged.{operation_in, verdict_by}
+use Rattle.fused_match.specs.Judged.{verdict_by}
 use Rattle.fused_match.specs.declared.judged.Judged.{Judged}
 use Rattle.job_table.specs.Jobs.{JobTable, all_below, jobs_by}
 use Rattle.job_table.specs.Keeping.{Keeping}
@@ -44,14 +43,15 @@ use Rattle.range_reserve.specs.declared.held.Held.{Held}
 use Rattle.ticket_course.specs.Stages.{IsSound}
 use Rattle.rings.specs.Completions.{CompletionRing}
 use Rattle.rings.specs.Submissions.{SubmissionRing, advanced}
-use Rattle.step_core.specs.Fetches.{IsJudged, commands_of, first_job, kind_in, read_first}
-use Rattle.step_core.specs.Fields.{completion_ring, job_at, job_by, job_table, submission_ring}
-use Rattle.step_core.specs.Kept.{IsKept}
+use Rattle.step_core.specs.Fetches.{HasBlocks, IsJudged, commands_of, first_job, kind_in, read_first, write_first}
+use Rattle.step_core.specs.Fields.{completion_ring, job_at, job_by, job_table, submission_ring, write_blocks}
+use Rattle.step_core.specs.Kept.{IsKept, IsSqRing}
 use Rattle.step_core.specs.State.{Does, Room, State, TakesRoom, work_of}
 use Rattle.step_core.specs.Works.{IsKind, TicketWork}
 use Rattle.step_core.specs.declared.answer.Answer.{Answer}
 use Rattle.step_core.specs.declared.work.Kind.{Kind}
-use Rattle.step_core.proofs.FetchedJob.{Names, fresh_job, kind_fits, kind_is, pair_second, sound, ticket_by}
+use Rattle.step_core.proofs.FetchedJob.{Names, fresh_job, kind_fits, kind_is, sound, ticket_by}
+use Rattle.step_core.proofs.FetchedData.{blocks_are, has_blocks}
 use Rattle.step_core.proofs.Fetching.{blocks_most, full_is}
 use Rattle.step_core.proofs.Moves.{legal_after, stepped}
 use Rattle.step_core.proofs.Tables.{IsTable-same, IsTable-set}
@@ -114,13 +114,6 @@ among (t ∷ ts) n u h e = elim (cases_Bool (t == u)) [
   | inr apart ↦ among ts n u h.1 (sym (ap (λ b. b || list_any (λ v. v == u) ts) apart) ∙ e)
 ]
 
--- of two commands there is a second
-second_some : (first : Submission) (second : Option Submission) (ws : List Submission) → commands_of first second ≡ take 2 ws → 2 ≤ length ws → is_some second ≡ true
-second_some first (Some other) ws e l = refl
-second_some first None [] e l = absurd (omega (arith, l))
-second_some first None (a ∷ []) e l = absurd (omega (arith, l))
-second_some first None (a ∷ (b ∷ ws)) e l = absurd (let n : 1 ≡ 2 = ap length e in omega (arith, n))
-
 module _ (c : ConfigNumbers) (past : Past) (v : List (List ℕ)) (s : List SubmissionRing) (q : List CompletionRing) (j : JobTable) (r : List Held) (n : ℕ) (k : IsKept c past v s q j r n) (t : ℕ) (x : Judged) (a : IsFetched c past t x) where
   -- ---- what it requires
 
@@ -180,13 +173,6 @@ module _ (c : ConfigNumbers) (past : Past) (v : List (List ℕ)) (s : List Submi
   names : Names x (ticket_by t x (take (taken (verdict_by x)) (waiting past t)))
   names = record { operation = a.1.operation; range = a.1.range }
 
-  -- both commands of a pair are taken
-  pub both_taken : (first : Submission) (second : Option Submission) (ring : SubmissionRing) (m : ℕ) → ring ≡ get_or s (t - 1) ring → m ≡ taken (verdict_by x) → commands_of first second ≡ take m ring.waiting
-      → operation_in x ≡ Some Op.Pair → is_some second ≡ true
-  both_taken first second ring m there is took e =
-      let two = pair_second t x (take (taken (verdict_by x)) (waiting past t)) names e in
-      second_some first second (waiting past t) (commands_are first second ring m there is took ∙ ap (λ n. take n (waiting past t)) two) (omega (arith, two, taken_waits))
-
   -- each of them has a CID
   pub cids_are : (first : Submission) (second : Option Submission) (ring : SubmissionRing) (m : ℕ) → ring ≡ get_or s (t - 1) ring → m ≡ taken (verdict_by x) → commands_of first second ≡ take m ring.waiting
       → length (commands_of first second) ≡ taken (verdict_by x)
@@ -212,11 +198,24 @@ module _ (c : ConfigNumbers) (past : Past) (v : List (List ℕ)) (s : List Submi
   ticket_here : Tickets.ticket (Entry.Fetch (fetch_line past t x) ∷ past) (Tickets.tickets past + 1) ≡ fetched_ticket past t (verdict_by x)
   ticket_here = cond-true (eqb (Tickets.tickets past + 1) (Tickets.tickets past + 1)) _ _ (eq-eqb (Tickets.tickets past + 1) (Tickets.tickets past + 1) refl)
 
+  -- it has passed its checks
+  checked : is_some (op (fetched_ticket past t (verdict_by x))) ≡ true → TicketChecked c (fetched_ticket past t (verdict_by x))
+  checked = subst (λ (y : Ticket). is_some (op y) ≡ true → TicketChecked c y) ticket_here (ticket_checked c (Entry.Fetch (fetch_line past t x) ∷ past) (Tickets.tickets past + 1) legal)
+
+  -- the data beside its entries has the blocks that it writes
+  pub data_has : (ring : SubmissionRing) → IsSqRing c past t ring → HasBlocks x ring.waiting
+  unfolding submission_ring
+  data_has ring is = subst (λ (y : SubmissionRing). HasBlocks x y.waiting) (sym is.is) (has_blocks c t x (waiting past t) names taken_waits checked)
+
+  -- and these are they
+  pub data_is : (ring : SubmissionRing) → IsSqRing c past t ring → write_first x ring.waiting ≡ write_blocks (fetched_ticket past t (verdict_by x))
+  unfolding submission_ring
+  data_is ring is = ap (λ (y : SubmissionRing). write_first x y.waiting) is.is ∙ blocks_are t x (waiting past t) names
+
   -- what it has to do is right
   pub work_fits : (u : AtomicParameters) (w : Kind) → u ≡ c.atomic → w ≡ kind_in x → IsKind u w
   work_fits u w e f =
-      subst₂ IsKind (sym e) (sym f) (kind_fits c t x (take (taken (verdict_by x)) (waiting past t)) (blocks_most c k.accepted) names
-      (subst (λ (y : Ticket). is_some (op y) ≡ true → TicketChecked c y) ticket_here (ticket_checked c (Entry.Fetch (fetch_line past t x) ∷ past) (Tickets.tickets past + 1) legal)))
+      subst₂ IsKind (sym e) (sym f) (kind_fits c t x (take (taken (verdict_by x)) (waiting past t)) (blocks_most c k.accepted) names checked)
 
   -- and what was judged can be
   pub sound_is : IsSound x
@@ -229,10 +228,13 @@ module _ (c : ConfigNumbers) (past : Past) (v : List (List ℕ)) (s : List Submi
   some_taken = omega (arith, taken_waits, taken_some (verdict_by x), length-take (taken (verdict_by x)) (waiting past t))
 
   -- its job
-  job_is : (first : Submission) (second : Option Submission) (read : List ℕ) (job : Keeping) → commands_of first second ≡ take (taken (verdict_by x)) (waiting past t) → read ≡ read_first x → job ≡ first_job t x first second read
+  job_is : (first : Submission) (second : Option Submission) (write : List (List ℕ)) (read : List ℕ) (job : Keeping) → commands_of first second ≡ take (taken (verdict_by x)) (waiting past t)
+      → write ≡ write_blocks (fetched_ticket past t (verdict_by x)) → read ≡ read_first x → job ≡ first_job t x first second write read
       → job ≡ job_at c (Entry.Fetch (fetch_line past t x) ∷ past) (Tickets.tickets past + 1)
-  job_is first second read job commands room made =
-      made ∙ fresh_job c t x first second read (subst (λ cs. Names x (ticket_by t x cs)) (sym commands) names) room
+  job_is first second write read job commands wrote room made =
+      made
+      ∙ fresh_job c t x first second write read (subst (λ cs. Names x (ticket_by t x cs)) (sym commands) names)
+      (subst (λ cs. write ≡ write_blocks (ticket_by t x cs)) (sym commands) wrote) room
       ∙ ap (λ cs. job_by c (fresh (ticket_by t x cs))) commands
       ∙ ap (job_by c) (sym (fetch_here c past (fetch_line past t x) legal))
 
@@ -253,11 +255,12 @@ module _ (c : ConfigNumbers) (past : Past) (v : List (List ℕ)) (s : List Submi
   ring_after ring later m there is moved = moved ∙ ap₂ advanced (ring_is ring there) is ∙ ring_here c past (fetch_line past t x)
 
   -- each field is what the history says
-  pub fetch_kept : (first : Submission) (second : Option Submission) (read : List ℕ) (job : Keeping) (ring later : SubmissionRing) (m : ℕ) (table : JobTable) (w : Verdict) (now then : Past)
-      → ring ≡ get_or s (t - 1) ring → m ≡ taken (verdict_by x) → commands_of first second ≡ take m ring.waiting → later ≡ advanced ring m → read ≡ read_first x → job ≡ first_job t x first second read
+  pub fetch_kept : (first : Submission) (second : Option Submission) (write : List (List ℕ)) (read : List ℕ) (job : Keeping) (ring later : SubmissionRing) (m : ℕ) (table : JobTable) (w : Verdict) (now then : Past)
+      → ring ≡ get_or s (t - 1) ring → m ≡ taken (verdict_by x) → commands_of first second ≡ take m ring.waiting → later ≡ advanced ring m
+      → write ≡ write_blocks (fetched_ticket past t (verdict_by x)) → read ≡ read_first x → job ≡ first_job t x first second write read
       → table ≡ record j { jobs = j.jobs ++ record { ticket = n + 1; job = job } ∷ [] } → w ≡ verdict_by x → now ≡ past → then ≡ Entry.Fetch (record { queue = t; ticket = n + 1; verdict = w }) ∷ now
       → IsKept c then v (set s (t - 1) later) q table r (n + 1)
-  fetch_kept first second read job ring later m table w now then there is took moved room made put says same pushed =
+  fetch_kept first second write read job ring later m table w now then there is took moved wrote room made put says same pushed =
       let line = fetch_line past t x in
       let e : Past = Entry.Fetch line ∷ past in
       let h : then ≡ e = pushed ∙ (λ i. Entry.Fetch (record { queue = t; ticket = k.count i + 1; verdict = says i }) ∷ same i) in
@@ -269,7 +272,7 @@ module _ (c : ConfigNumbers) (past : Past) (v : List (List ℕ)) (s : List Submi
             (ring_after ring later m there is moved ∙ ap (submission_ring c e) (sym place.0))
             (λ i apart. ring_other c past line (suc i) (λ (on : t ≡ suc i). apart (omega (arith, on))));
         completion = IsTable-same (λ i. completion_ring c past (suc i)) (λ i. completion_ring c e (suc i)) c.cqs q k.completion (λ i. completion_kept c past line (suc i));
-        jobs = table_is job table (job_is first second read job (commands_are first second ring m there is took) room made) put;
+        jobs = table_is job table (job_is first second write read job (commands_are first second ring m there is took) wrote room made) put;
         held = k.held ∙ ap (λ (gs : List GrantLine). by_ticket (map held_of gs)) (sym (open_kept c past line legal));
         count = ap (λ i. i + 1) k.count;
         run = subst (λ (y : Entry). Kept c (y ∷ past)) (sym entry_is) (stepped c past (Step.Fetch t) k.run a.0);

@@ -6,7 +6,6 @@ use Rattle.nvme_model.specs.EntryBytes.{Sqe, blocks, slba}
 use Rattle.nvme_model.specs.Operations.{has_compare, is_pair, op, op_of_fields}
 use Rattle.ticket_standing.specs.Standing.{fresh}
 use Rattle.nvme_model.specs.Tickets.{Ticket, cids, first_fields}
-use Rattle.nvme_model.specs.Verdict.{taken}
 use Rattle.nvme_model.specs.declared.array.Range.{Range}
 use Rattle.nvme_model.specs.declared.config.AtomicParameters.{AtomicParameters}
 use Rattle.nvme_model.specs.declared.config.ConfigNumbers.{ConfigNumbers}
@@ -20,11 +19,12 @@ use Rattle.fused_match.specs.declared.judged.Judged.{Judged}
 use Rattle.fused_match.specs.declared.judged.Judged.TheVariants as judged
 use Rattle.ticket_course.specs.Stages.{IsSound, commands_in}
 use Rattle.ticket_course.proofs.Fetched.{fetched}
-use Rattle.step_core.specs.Fetches.{commands_of, first_job, kind_in, read_first, write_by}
-use Rattle.step_core.specs.Fields.{job_by, read_bytes_by, write_bytes_by}
+use Rattle.step_core.specs.Fetches.{commands_of, first_job, kind_in, read_first}
+use Rattle.step_core.specs.Fields.{job_by, read_bytes_by, write_blocks}
 use Rattle.step_core.specs.State.{kind_by, kind_of, ticket_range}
 use Rattle.step_core.specs.Works.{IsKind}
 use Rattle.step_core.specs.declared.work.Kind.{Kind}
+use Rattle.step_core.proofs.Written.{fresh_blocks}
 
 -- the ticket of these commands
 abbrev pub ticket_by : ℕ → Judged → List Submission → Ticket
@@ -70,15 +70,9 @@ kind_is q (judged.Pair r) cs h = ap (λ (x : Range). Kind.Pair x) (same_range r 
 kind_is q (judged.Failed s) cs h = refl
 kind_is q (judged.FailedPair s r) cs h = refl
 
--- a pair has two commands
-pub pair_second : (q : ℕ) (j : Judged) (cs : List Submission) → Names j (ticket_by q j cs) → operation_in j ≡ Some Op.Pair → taken (verdict_by j) ≡ 2
-pair_second q judged.Flush cs h e = absurd cc
-pair_second q (judged.Single o r) cs h e =
-    let b : is_pair (op_of_fields (first_fields (ticket_by q (judged.Single o r) cs))) ≡ true = sym (ap is_pair h.operation) ∙ ap is_pair e in
-    clash _ b (alone (first_fields (ticket_by q (judged.Single o r) cs)))
-pair_second q (judged.Pair r) cs h e = refl
-pair_second q (judged.Failed s) cs h e = absurd cc
-pair_second q (judged.FailedPair s r) cs h e = absurd cc
+-- one command alone does no pair's work
+pub no_pair : (q : ℕ) (r : Range) (cs : List Submission) → Names (judged.Single Op.Pair r) (ticket_by q (judged.Single Op.Pair r) cs) → ⊥
+no_pair q r cs h = let k = ticket_by q (judged.Single Op.Pair r) cs in clash (is_pair (op_of_fields (first_fields k))) (sym (ap is_pair h.operation)) (alone (first_fields k))
 
 -- a range within a volume
 range_fits : (r : Range) (s n m : ℕ) → r.slba ≡ s → r.blocks ≡ n + 1 → s + (n + 1) ≤ m → m ≤ 65536 → IsRange r
@@ -117,16 +111,6 @@ sound u q (judged.FailedPair s r) cs h fits = tt
 
 -- ---- its job
 
--- the data that it writes
-write_is : (o : Option Op) (q : ℕ) (j : Judged) (first : Submission) (second : Option Submission) → write_by o first second ≡ write_bytes_by o (ticket_by q j (commands_of first second))
-write_is None q j first second = refl
-write_is (Some Op.Read) q j first second = refl
-write_is (Some Op.Compare) q j first second = refl
-write_is (Some Op.Write) q j first second = refl
-write_is (Some Op.WriteZeroes) q j first second = refl
-write_is (Some Op.Pair) q j first None = refl
-write_is (Some Op.Pair) q j first (Some other) = refl
-
 -- the room for what one command reads
 read_op : (k : Ticket) (o : Op) (r : Range) → r.blocks ≡ blocks (first_fields k) → read_first (judged.Single o r) ≡ read_bytes_by (Some o) k []
 read_op k Op.Read r e = ap (λ (n : ℕ). replicate n 0) (whole r.blocks (blocks (first_fields k)) e)
@@ -147,10 +131,10 @@ read_is q (judged.Failed s) cs h = refl
 read_is q (judged.FailedPair s r) cs h = refl
 
 -- the job that is made is that of a ticket that has begun nothing
-pub fresh_job : (c : ConfigNumbers) (q : ℕ) (j : Judged) (first : Submission) (second : Option Submission) (read : List ℕ) → Names j (ticket_by q j (commands_of first second)) → read ≡ read_first j
-    → first_job q j first second read ≡ job_by c (fresh (ticket_by q j (commands_of first second)))
+pub fresh_job : (c : ConfigNumbers) (q : ℕ) (j : Judged) (first : Submission) (second : Option Submission) (write : List (List ℕ)) (read : List ℕ) → Names j (ticket_by q j (commands_of first second))
+    → write ≡ write_blocks (ticket_by q j (commands_of first second)) → read ≡ read_first j → first_job q j first second write read ≡ job_by c (fresh (ticket_by q j (commands_of first second)))
 unfolding job_by
-fresh_job c q j first second read h room =
+fresh_job c q j first second write read h wrote room =
     let k = ticket_by q j (commands_of first second) in
     let e = h.operation in
     (λ i. record {
@@ -158,6 +142,6 @@ fresh_job c q j first second read h room =
       course = record { stage = sym (fetched c k j refl h.operation h.range) i; cids = cids k };
       slba = slba (first_fields k);
       compare = ap (λ o. cond (has_compare o) first.payload []) e i;
-      write = (write_is (operation_in j) q j first second ∙ ap (λ o. write_bytes_by o k) e) i;
+      write = (wrote ∙ sym (fresh_blocks c k)) i;
       read = (room ∙ read_is q j (commands_of first second) h) i;
     })

@@ -5,16 +5,19 @@ pub mod Accepted
 pub mod Beginning
 pub mod Publishing
 pub mod CidsInUse
-pub mod FetchedJob
 pub mod Fetching
-pub mod Fetched
 pub mod Bounds
 pub mod Granting
-pub mod Granted
 pub mod ReadBytes
-pub mod Blocking
 pub mod BlockData
+pub mod Written
+pub mod FetchedJob
+pub mod FetchedData
+pub mod Fetched
+pub mod Granted
+pub mod Blocking
 pub mod Blocked
+pub mod WrittenOn
 pub mod BlockKept
 pub mod BlockMade
 pub mod Posting
@@ -26,3 +29,4 @@ pub mod Reaping
 pub mod Next
 pub mod Whole
 pub mod OneAtATime
+mod Filing

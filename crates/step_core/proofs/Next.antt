@@ -1,6 +1,7 @@
 -- The step that is ready is that of the least ticket in flight that has one.
 use Rattle.std.proofs.Common.{◌≡◌, ℕ, zero, suc, ◌+◌, ◌≤◌, Bool, true, false, not, cond, List, [], ◌∷◌, ◌++◌, length, drop, option_map, slice_get, Option, Some, None, is_none, refl, sym, ap, ◌∙◌, subst, arith}
 use Rattle.std.specs.List.{filter, find, flat_map}
+use Rattle.std.specs.Option.{option_and_then}
 use mathlib.Core.List.{reverse}
 use Rattle.std.proofs.lemmas.List.{reverse-append}
 use Rattle.nvme_model.specs.declared.config.ConfigNumbers.{ConfigNumbers}
@@ -18,7 +19,15 @@ use Rattle.job_table.specs.declared.jobs.InFlight.{InFlight}
 use Rattle.job_table.proofs.Tables.{length-jobs_by, slice_get-jobs_by}
 use Rattle.step_core.specs.Fields.{job_at, job_table}
 use Rattle.step_core.specs.State.{Room, State}
-use Rattle.step_core.specs.Ready.{next_step, ready_among, steps_of}
+use Rattle.step_core.specs.Ready.{next_step}
+
+-- the steps of a ticket beside its Fetch
+abbrev pub steps_of : ℕ → List Step
+steps_of t = Step.Grant t ∷ Step.Block t ∷ Step.Post t ∷ []
+
+-- the first step of these tickets that nothing refuses
+abbrev pub ready_among : ConfigNumbers → Past → List ℕ → Option Step
+ready_among c past ts = find (is_ready c past) (flat_map steps_of ts)
 
 -- ---- lists
 
@@ -41,21 +50,19 @@ find_append p (x ∷ xs) ys = go (p x) (find_append p xs ys)
 
 -- ---- tickets that aren't in flight have none
 
+-- by what refuses its three steps
+pub next_by : (c : ConfigNumbers) (past : Past) (t : ℕ) (g b p : Option Why) → refusal c past (Step.Grant t) ≡ g → refusal c past (Step.Block t) ≡ b → refusal c past (Step.Post t) ≡ p
+    → next_step c past t ≡ cond (is_none g) (Some (Step.Grant t)) (cond (is_none b) (Some (Step.Block t)) (cond (is_none p) (Some (Step.Post t)) None))
+next_by c past t g b p grant block post =
+    (λ i. cond (is_none (grant i)) (Some (Step.Grant t)) (cond (is_none (block i)) (Some (Step.Block t)) (cond (is_none (post i)) (Some (Step.Post t)) None)))
+
 refused : (c : ConfigNumbers) (past : Past) (t : ℕ) → in_flight past t ≡ false → next_step c past t ≡ None
-refused c past t e = (λ i. cond (is_none (g i)) (Some (Step.Grant t)) (cond (is_none (b i)) (Some (Step.Block t)) (cond (is_none (p i)) (Some (Step.Post t)) None)))
+refused c past t e =
+    next_by c past t (Some Why.NoTicket) (Some Why.NoTicket) (Some Why.NoTicket) (first _ (in_flight past t) e) (first _ (in_flight past t) e) (first _ (in_flight past t) e)
   where
     first : (o : Option Why) (x : Bool) → x ≡ false → cond (not x) (Some Why.NoTicket) o ≡ Some Why.NoTicket
     first o false e = refl
     first o true e = absurd cc
-
-    g : refusal c past (Step.Grant t) ≡ Some Why.NoTicket
-    g = first _ (in_flight past t) e
-
-    b : refusal c past (Step.Block t) ≡ Some Why.NoTicket
-    b = first _ (in_flight past t) e
-
-    p : refusal c past (Step.Post t) ≡ Some Why.NoTicket
-    p = first _ (in_flight past t) e
 
 one_more : (c : ConfigNumbers) (past : Past) (t : ℕ) (ts : List ℕ) → ready_among c past (t ∷ ts) ≡ or_else (next_step c past t) (ready_among c past ts)
 one_more c past t ts = find_append (is_ready c past) (steps_of t) (flat_map steps_of ts)
@@ -75,23 +82,20 @@ ready_is c past = flying_ready c past (rising (Tickets.tickets past)) ∙ ap (re
 
 -- ---- one ticket after the other
 
-drop_from : (k t : ℕ) (ts : List ℕ) → slice_get ts k ≡ Some t → drop k ts ≡ t ∷ drop (k + 1) ts
-drop_from k t ts e = go k ts e ∙ ap (λ n. t ∷ drop n ts) more
+-- of the tickets from the k-th on
+pub step_at : (c : ConfigNumbers) (past : Past) (k : ℕ) (ts : List ℕ)
+    → ready_among c past (drop k ts) ≡ or_else (option_and_then (next_step c past) (slice_get ts k)) (ready_among c past (drop (k + 1) ts))
+step_at c past k ts = go k ts ∙ ap (λ n. or_else (option_and_then (next_step c past) (slice_get ts k)) (ready_among c past (drop n ts))) more
   where
     more : suc k ≡ k + 1
     more = omega arith
 
-    some_inj : {x y : ℕ} → Some x ≡ Some y → x ≡ y
-    some_inj h = cc
-
-    go : (k : ℕ) (ts : List ℕ) → slice_get ts k ≡ Some t → drop k ts ≡ t ∷ drop (suc k) ts
-    go k [] e = absurd (let f : None ≡ Some t = e in cc)
-    go zero (x ∷ ts) e = ap (λ y. y ∷ ts) (some_inj e)
-    go (suc k) (x ∷ ts) e = go k ts e
-
--- of the tickets from the k-th on
-pub ready_from : (c : ConfigNumbers) (past : Past) (k t : ℕ) (ts : List ℕ) → slice_get ts k ≡ Some t → ready_among c past (drop k ts) ≡ or_else (next_step c past t) (ready_among c past (drop (k + 1) ts))
-ready_from c past k t ts e = ap (ready_among c past) (drop_from k t ts e) ∙ one_more c past t (drop (k + 1) ts)
+    go : (k : ℕ) (ts : List ℕ)
+        → ready_among c past (drop k ts) ≡ or_else (option_and_then (next_step c past) (slice_get ts k)) (ready_among c past (drop (suc k) ts))
+    go zero [] = refl
+    go (suc k) [] = refl
+    go zero (t ∷ ts) = one_more c past t ts
+    go (suc k) (t ∷ ts) = go k ts
 
 -- and behind the last
 pub ready_past : (c : ConfigNumbers) (past : Past) (k : ℕ) (ts : List ℕ) → length ts ≤ k → ready_among c past (drop k ts) ≡ None
@@ -109,12 +113,22 @@ ticket_of (Some t) g e h = ap (λ (y : InFlight). Some y.ticket) (some_inj h)
     some_inj : {x y : InFlight} → Some x ≡ Some y → x ≡ y
     some_inj h = cc
 
+no_ticket : (o : Option ℕ) (g : ℕ → Keeping) → option_map {U = InFlight} (λ t. record { ticket = t; job = g t }) o ≡ None → o ≡ None
+no_ticket None g h = refl
+no_ticket (Some t) g h = absurd cc
+
 module _ (x : State) (j : JobTable) (c : ConfigNumbers) (past : Past) (m : ℕ) {w : Room} (view : record { config = c; past = past; promised = m; room = w } ≡ x) (table : j ≡ job_table c past) where
   -- the ticket at this place
   pub nth_ticket : (i : ℕ) (e : InFlight) → slice_get j.jobs i ≡ Some e → slice_get (flying x.past) i ≡ Some e.ticket
   nth_ticket i e h =
       subst (λ (y : State). slice_get (flying y.past) i ≡ Some e.ticket) view
       (ticket_of (slice_get (flying past) i) (job_at c past) e (sym (slice_get-jobs_by (job_at c past) (flying past) i) ∙ ap (λ (y : JobTable). slice_get y.jobs i) (sym table) ∙ h))
+
+  -- none is behind the last
+  pub nth_none : (i : ℕ) → slice_get j.jobs i ≡ None → slice_get (flying x.past) i ≡ None
+  nth_none i h =
+      subst (λ (y : State). slice_get (flying y.past) i ≡ None) view
+      (no_ticket (slice_get (flying past) i) (job_at c past) (sym (slice_get-jobs_by (job_at c past) (flying past) i) ∙ ap (λ (y : JobTable). slice_get y.jobs i) (sym table) ∙ h))
 
   -- and how many there are
   pub count_tickets : length j.jobs ≡ length (flying x.past)

@@ -17,7 +17,7 @@ use Rattle.nvme_model.specs.Tickets
 use Rattle.nvme_model.specs.Tickets.{Ticket, cids, first_fields, in_flight, posts_of}
 use Rattle.nvme_model.specs.Operations.{op, op_by}
 use Rattle.nvme_model.specs.Completions.{posted, reaped}
-use Rattle.nvme_model.specs.Refusals.{conditions, refusal}
+use Rattle.nvme_model.specs.Refusals.{conditions}
 use Rattle.nvme_model.specs.Verdict.{taken}
 use Rattle.nvme_model.proofs.Rules.{none_holds}
 use Rattle.nvme_model.specs.Steps.{next_entry, post_entry}
@@ -28,20 +28,22 @@ use Rattle.ticket_standing.proofs.Owing.{next_owed}
 use Rattle.range_reserve.specs.declared.held.Held.{Held}
 use Rattle.rings.specs.Completions.{CompletionRing, is_full, posted_ring}
 use Rattle.rings.specs.Submissions.{SubmissionRing}
-use Rattle.job_table.specs.Jobs.{JobTable, has_ticket, job_of}
-use Rattle.job_table.specs.Keeping.{Keeping}
+use Rattle.job_table.specs.Jobs.{JobTable, has_ticket, job_of, jobs_beside, replaced}
+use Rattle.job_table.specs.Keeping.{Keeping, posted_job}
 use Rattle.ticket_course.specs.Shown.{stage_of}
 use Rattle.ticket_course.specs.Stages.{owed_in}
 use Rattle.ticket_course.proofs.Owes.{owes as stage_owes}
 use Rattle.job_table.proofs.Tables.{has_ticket-jobs_by}
-use Rattle.step_core.specs.Fields.{completion_ring, job_at, job_by, posted_payload, posted_table, read_bytes_by, submission_ring}
-use Rattle.step_core.specs.Kept.{IsDue, IsKept}
+use Rattle.step_core.specs.Fields.{completion_ring, job_at, job_by, read_bytes_by, submission_ring}
+use Rattle.step_core.specs.Kept.{IsKept}
+use Rattle.step_core.specs.Ready.{IsNext}
+use Rattle.step_core.specs.declared.machine.next.Next.{Next}
 use Rattle.step_core.specs.declared.machine.post.Due.{Due}
 use Rattle.step_core.proofs.Moves.{job_found, stepped}
 use Rattle.step_core.proofs.Tables.{IsTable-same, IsTable-set}
 use Rattle.step_core.proofs.Posting.{cqs_some, due_full}
 use Rattle.step_core.proofs.PostedRing.{post_ring, post_ring_other}
-use Rattle.step_core.proofs.PostedJob.{posted_table_is}
+use Rattle.step_core.proofs.PostedJob.{posted_table, posted_table_is}
 use Rattle.step_core.proofs.PostedData.{data_is}
 use Rattle.ticket_standing.proofs.Flying.{has_flying}
 use Rattle.ticket_standing.specs.Standing.{flying}
@@ -102,38 +104,38 @@ unfolding job_by
 only_reads c past t some = reads_by (op (Tickets.ticket past t)) (Tickets.ticket past t) _ some
 
 module _ (c : ConfigNumbers) (past : Past) (v : List (List ℕ)) (s : List SubmissionRing) (q : List CompletionRing) (j : JobTable) (r : List Held) (n : ℕ) (k : IsKept c past v s q j r n)
-    (t : ℕ) (d : Due) (none : refusal c past (Step.Post t) ≡ None) (due : IsDue c past t d) where
-  flies : in_flight past t ≡ true
-  flies = not_flying _ (none_holds (conditions c past (Step.Post t)) (ap is_none none)).0
+    (d : Due) (post : IsNext c past (Next.Post d)) where
+  flies : in_flight past d.ticket ≡ true
+  flies = not_flying _ (none_holds (conditions c past (Step.Post d.ticket)) (ap is_none post.0)).0
 
   -- the ticket is in the table
-  pub there : has_ticket j.jobs t ≡ true
-  there = ap (λ (x : JobTable). has_ticket x.jobs t) k.jobs ∙ has_ticket-jobs_by (job_at c past) (flying past) t ∙ has_flying c past t k.run.legal ∙ flies
+  pub there : has_ticket j.jobs d.ticket ≡ true
+  there = ap (λ (x : JobTable). has_ticket x.jobs d.ticket) k.jobs ∙ has_ticket-jobs_by (job_at c past) (flying past) d.ticket ∙ has_flying c past d.ticket k.run.legal ∙ flies
 
   -- with this job
-  pub found : (x : Keeping) → job_of j.jobs t ≡ Some x → x ≡ job_at c past t
-  found x e = some_inj (sym e ∙ ap (λ (y : JobTable). job_of y.jobs t) k.jobs ∙ job_found c past t k.run.legal ∙ ap (λ b. cond b (Some (job_at c past t)) None) flies)
+  pub found : (x : Keeping) → job_of j.jobs d.ticket ≡ Some x → x ≡ job_at c past d.ticket
+  found x e = some_inj (sym e ∙ ap (λ (y : JobTable). job_of y.jobs d.ticket) k.jobs ∙ job_found c past d.ticket k.run.legal ∙ ap (λ b. cond b (Some (job_at c past d.ticket)) None) flies)
     where
       some_inj : {x y : Keeping} → Some x ≡ Some y → x ≡ y
       some_inj h = cc
 
-  pub is_there : job_of j.jobs t ≡ Some (job_at c past t)
-  is_there = ap (λ (y : JobTable). job_of y.jobs t) k.jobs ∙ job_found c past t k.run.legal ∙ ap (λ b. cond b (Some (job_at c past t)) None) flies
+  pub is_there : job_of j.jobs d.ticket ≡ Some (job_at c past d.ticket)
+  is_there = ap (λ (y : JobTable). job_of y.jobs d.ticket) k.jobs ∙ job_found c past d.ticket k.run.legal ∙ ap (λ b. cond b (Some (job_at c past d.ticket)) None) flies
 
-  some_cids : 0 < length (job_at c past t).course.cids
+  some_cids : 0 < length (job_at c past d.ticket).course.cids
   unfolding job_by
-  some_cids = omega (arith, ltb-true _ _ flies, length-drop (posts_of past t) (cids (Tickets.ticket past t)), length-map (Tickets.ticket past t).commands (λ s. (sqe_fields s.entry).cid))
+  some_cids = omega (arith, ltb-true _ _ flies, length-drop (posts_of past d.ticket) (cids (Tickets.ticket past d.ticket)), length-map (Tickets.ticket past d.ticket).commands (λ s. (sqe_fields s.entry).cid))
 
-  some_owed : 0 < length (owed_in (job_at c past t).course.stage)
+  some_owed : 0 < length (owed_in (job_at c past d.ticket).course.stage)
   unfolding job_by
-  some_owed = first (owed_in (stage_of c (standing past t))) (ap (λ xs. slice_get xs 0) (stage_owes c past t k.run.legal) ∙ next_owed c past t k.run.legal k.run.marks ∙ due.owed)
+  some_owed = first (owed_in (stage_of c (standing past d.ticket))) (ap (λ xs. slice_get xs 0) (stage_owes c past d.ticket k.run.legal) ∙ next_owed c past d.ticket k.run.legal k.run.marks ∙ post.1.owed)
     where
-      first : (xs : List Status) → slice_get xs 0 ≡ Some due.status → 0 < length xs
+      first : (xs : List Status) → slice_get xs 0 ≡ Some post.1.status → 0 < length xs
       first [] e = absurd cc
       first (x ∷ xs) e = omega arith
 
   -- it owes a completion
-  pub owes : (x : Keeping) → job_of j.jobs t ≡ Some x → 0 < length (owed_in x.course.stage)
+  pub owes : (x : Keeping) → job_of j.jobs d.ticket ≡ Some x → 0 < length (owed_in x.course.stage)
   owes x e = subst (λ (y : Keeping). 0 < length (owed_in y.course.stage)) (sym (found x e)) some_owed
 
   -- ---- the ring it goes to
@@ -141,17 +143,17 @@ module _ (c : ConfigNumbers) (past : Past) (v : List (List ℕ)) (s : List Submi
   cq_some : 0 < c.cq_size
   cq_some = omega (arith, size_two c k.accepted)
 
-  queue_is : d.queue ≡ (((Tickets.ticket past t).queue - 1) % c.cqs) + 1
-  queue_is = due.queue
+  queue_is : d.queue ≡ (((Tickets.ticket past d.ticket).queue - 1) % c.cqs) + 1
+  queue_is = post.1.queue
 
-  place_is : d.queue - 1 ≡ ((Tickets.ticket past t).queue - 1) % c.cqs
+  place_is : d.queue - 1 ≡ ((Tickets.ticket past d.ticket).queue - 1) % c.cqs
   place_is = omega (arith, queue_is)
 
   pub queue_some : 1 ≤ d.queue
   queue_some = omega (arith, queue_is)
 
   within : d.queue - 1 < c.cqs
-  within = omega (arith, place_is, mod-lt ((Tickets.ticket past t).queue - 1) (cqs_some c k.accepted))
+  within = omega (arith, place_is, mod-lt ((Tickets.ticket past d.ticket).queue - 1) (cqs_some c k.accepted))
 
   pub place_there : d.queue - 1 < length q
   place_there = omega (arith, within, k.completion.size)
@@ -166,27 +168,28 @@ module _ (c : ConfigNumbers) (past : Past) (v : List (List ℕ)) (s : List Submi
   pub not_full : (x : CompletionRing) → x ≡ get_or q (d.queue - 1) x → is_full x ≡ false
   not_full x e =
       due_full c past d.queue x k.run.legal (ring_is x e)
-      ∙ ap (λ i. eqb (length (posted c past i) - reaped past i) (c.cq_size - 1)) due.queue
-      ∙ (none_holds (conditions c past (Step.Post t)) (ap is_none none)).1.1.0
+      ∙ ap (λ i. eqb (length (posted c past i) - reaped past i) (c.cq_size - 1)) post.1.queue
+      ∙ (none_holds (conditions c past (Step.Post d.ticket)) (ap is_none post.0)).1.1.0
 
   -- ---- the entry
 
   post_line : List ℕ → PostLine
-  post_line copy = record { ticket = t; cqe = d.cqe; payload = copy }
+  post_line copy = record { ticket = d.ticket; cqe = d.cqe; payload = copy }
 
-  pub post_entry_is : (copy : List ℕ) → copy ≡ (job_at c past t).read → Entry.Post (record { ticket = t; cqe = d.cqe; payload = copy }) ≡ next_entry c past (Step.Post t)
+  pub post_entry_is : (copy : List ℕ) → copy ≡ (job_at c past d.ticket).read → Entry.Post (record { ticket = d.ticket; cqe = d.cqe; payload = copy }) ≡ next_entry c past (Step.Post d.ticket)
   post_entry_is copy e =
-      (λ i. Entry.Post (record { ticket = t; cqe = due.cqe i; payload = (e ∙ data_is c past t due.status k.run flies due.owed) i }))
-      ∙ ap (post_entry c past t) (sym due.owed)
+      (λ i. Entry.Post (record { ticket = d.ticket; cqe = post.1.cqe i; payload = (e ∙ data_is c past d.ticket post.1.status k.run flies post.1.owed) i }))
+      ∙ ap (post_entry c past d.ticket) (sym post.1.owed)
 
   -- ---- all fields
 
-  payload_is : posted_payload (job_at c past t) ≡ (job_at c past t).read
-  payload_is = go (eqb (length (job_at c past t).course.cids) 1) refl
+  -- all that was read goes with the last completion, and a pair, which owes two, has read nothing
+  payload_is : cond d.last (job_at c past d.ticket).read [] ≡ (job_at c past d.ticket).read
+  payload_is = go d.last (sym post.1.last)
     where
-      go : (b : Bool) → eqb (length (job_at c past t).course.cids) 1 ≡ b → cond b (job_at c past t).read [] ≡ (job_at c past t).read
+      go : (b : Bool) → eqb (length (job_at c past d.ticket).course.cids) 1 ≡ b → cond b (job_at c past d.ticket).read [] ≡ (job_at c past d.ticket).read
       go true e = refl
-      go false e = sym (nothing_yet c past t (more (length (job_at c past t).course.cids) e some_cids))
+      go false e = sym (nothing_yet c past d.ticket (more (length (job_at c past d.ticket).course.cids) e some_cids))
         where
           more : (m : ℕ) → eqb m 1 ≡ false → 0 < m → 1 < m
           more m e l = elim (cases_eq m 1) [
@@ -194,30 +197,51 @@ module _ (c : ConfigNumbers) (past : Past) (v : List (List ℕ)) (s : List Submi
             | inr apart ↦ omega (arith, apart, l)
           ]
 
-  pub post_keeps : (x x' : CompletionRing) (copy payload : List ℕ) (j' : JobTable) (past' : Past) → x ≡ get_or q (d.queue - 1) x → copy ≡ (job_at c past t).read → payload ≡ posted_payload (job_at c past t)
-      → j' ≡ posted_table j t (job_at c past t) → x' ≡ posted_ring x (record { cqe = d.cqe; payload = payload }) → past' ≡ Entry.Post (record { ticket = t; cqe = d.cqe; payload = copy }) ∷ past
+  -- a Post for which room is needed is of a Read
+  pub reads : (d.bytes ≡ 0 → ⊥) → op (Tickets.ticket past d.ticket) ≡ Some Op.Read
+  reads some = only_reads c past d.ticket (λ (e : (job_at c past d.ticket).read ≡ []). some (post.1.bytes ∙ ap length e))
+
+  -- what is taken with it
+  pub taken_is : (payload : List ℕ) → ((x : Keeping) → job_of j.jobs d.ticket ≡ Some x → payload ≡ cond d.last x.read []) → payload ≡ (job_at c past d.ticket).read
+  taken_is payload e = e (job_at c past d.ticket) is_there ∙ payload_is
+
+  -- and left of the jobs
+  module _ (j' : JobTable) (limit : j'.limit ≡ j.limit) (last : d.last ≡ true → j'.jobs ≡ jobs_beside j.jobs d.ticket)
+      (more : d.last ≡ false → (x : Keeping) → job_of j.jobs d.ticket ≡ Some x → j'.jobs ≡ replaced j.jobs d.ticket (posted_job x)) where
+    pub left : j' ≡ posted_table j d.ticket (job_at c past d.ticket)
+    left = go d.last refl (sym post.1.last)
+      where
+        go : (b : Bool) → d.last ≡ b → eqb (length (job_at c past d.ticket).course.cids) 1 ≡ b → j' ≡ posted_table j d.ticket (job_at c past d.ticket)
+        go true f e =
+            (λ i. record { limit = limit i; jobs = last f i })
+            ∙ ap (λ b. cond b (record j { jobs = jobs_beside j.jobs d.ticket }) (record j { jobs = replaced j.jobs d.ticket (posted_job (job_at c past d.ticket)) })) (sym e)
+        go false f e =
+            (λ i. record { limit = limit i; jobs = more f (job_at c past d.ticket) is_there i })
+            ∙ ap (λ b. cond b (record j { jobs = jobs_beside j.jobs d.ticket }) (record j { jobs = replaced j.jobs d.ticket (posted_job (job_at c past d.ticket)) })) (sym e)
+
+  pub post_keeps : (x x' : CompletionRing) (copy payload : List ℕ) (j' : JobTable) (past' : Past) → x ≡ get_or q (d.queue - 1) x → copy ≡ (job_at c past d.ticket).read → payload ≡ copy
+      → j' ≡ posted_table j d.ticket (job_at c past d.ticket) → x' ≡ posted_ring x (record { cqe = d.cqe; payload = payload }) → past' ≡ Entry.Post (record { ticket = d.ticket; cqe = d.cqe; payload = copy }) ∷ past
       → IsKept c past' v s (set q (d.queue - 1) x') j' r n
   post_keeps x x' copy payload j' past' e f g h l m =
-      let p : PostLine = record { ticket = t; cqe = d.cqe; payload = copy } in
+      let p : PostLine = record { ticket = d.ticket; cqe = d.cqe; payload = copy } in
       let later : Past = Entry.Post p ∷ past in
-      let same : payload ≡ copy = g ∙ payload_is ∙ sym f in
       let ring : x' ≡ completion_ring c later (suc (d.queue - 1)) =
-      l ∙ (λ i. posted_ring (ring_is x e i) (record { cqe = d.cqe; payload = same i }))
-      ∙ post_ring c past p d.queue k.run.legal cq_some (sym due.queue)
+      l ∙ (λ i. posted_ring (ring_is x e i) (record { cqe = d.cqe; payload = g i }))
+      ∙ post_ring c past p d.queue k.run.legal cq_some (sym post.1.queue)
       ∙ ap (completion_ring c later) (sym suc_is) in
       subst (λ (w : Past). IsKept c w v s (set q (d.queue - 1) x') j' r n) (sym m) (record {
         accepted = k.accepted;
         volume = k.volume;
         submission = IsTable-same (λ i. submission_ring c past (suc i)) (λ i. submission_ring c later (suc i)) c.pairs s k.submission (λ i. post_sq_ring c past p (suc i));
         completion = IsTable-set (λ i. completion_ring c past (suc i)) (λ i. completion_ring c later (suc i)) c.cqs (d.queue - 1) q x' k.completion within ring (λ i a. post_ring_other c past p (suc i) (other i a));
-        jobs = h ∙ ap (λ (y : JobTable). posted_table y t (job_at c past t)) k.jobs ∙ posted_table_is c past p flies some_owed;
+        jobs = h ∙ ap (λ (y : JobTable). posted_table y d.ticket (job_at c past d.ticket)) k.jobs ∙ posted_table_is c past p flies some_owed;
         held = k.held;
         count = k.count;
-        run = subst (λ (y : Entry). Kept c (y ∷ past)) (sym (post_entry_is copy f)) (stepped c past (Step.Post t) k.run none);
+        run = subst (λ (y : Entry). Kept c (y ∷ past)) (sym (post_entry_is copy f)) (stepped c past (Step.Post d.ticket) k.run post.0);
       })
     where
       suc_is : suc (d.queue - 1) ≡ d.queue
       suc_is = omega (arith, queue_some)
 
-      other : (i : ℕ) → i ≢ d.queue - 1 → eqb (completion_queue c (Tickets.ticket past t).queue) (suc i) ≡ false
-      other i a = ne_eqb _ _ (λ (z : completion_queue c (Tickets.ticket past t).queue ≡ suc i). a (omega (arith, z, due.queue)))
+      other : (i : ℕ) → i ≢ d.queue - 1 → eqb (completion_queue c (Tickets.ticket past d.ticket).queue) (suc i) ≡ false
+      other i a = ne_eqb _ _ (λ (z : completion_queue c (Tickets.ticket past d.ticket).queue ≡ suc i). a (omega (arith, z, post.1.queue)))

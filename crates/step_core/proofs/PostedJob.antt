@@ -1,5 +1,6 @@
 -- The tickets in flight after one more Post, and what goes with it.
 use Rattle.std.proofs.Common.{◌≡◌, ◌≢◌, ℕ, ◌+◌, ◌-◌, ◌<◌, Bool, true, false, cond, ◌∷◌, drop, length, refl, sym, ap, ◌∙◌, arith, eqb, eqb-true, eq-eqb, ltb-true, lt-ltb, le-ltb}
+use Rattle.std.specs.Prelude.{if◌then◌else◌, ◌==◌}
 use Rattle.std.proofs.lemmas.List.{length-map, length-drop}
 use Rattle.nvme_model.specs.declared.config.ConfigNumbers.{ConfigNumbers}
 use Rattle.nvme_model.specs.declared.entry.Entry.{Entry}
@@ -11,15 +12,15 @@ use Rattle.nvme_model.specs.Tickets.{Ticket, cids, first_fields, in_flight, post
 use Rattle.ticket_standing.specs.Standing.{Standing, flying, standing}
 use Rattle.ticket_standing.proofs.Standings.{post_here, post_other, post_flying_on, post_flying_off}
 use Rattle.ticket_standing.proofs.Waiting.{drop_twice}
-use Rattle.job_table.specs.Jobs.{jobs_beside, jobs_by, replaced}
+use Rattle.job_table.specs.Jobs.{JobTable, jobs_beside, jobs_by, replaced}
 use Rattle.job_table.proofs.Tables.{beside-jobs_by_agree}
-use Rattle.job_table.specs.Keeping.{posted_job}
+use Rattle.job_table.specs.Keeping.{Keeping, posted_job}
 use Rattle.ticket_course.specs.Shown.{stage_of}
 use Rattle.ticket_course.specs.Stages.{owed_in}
 use Rattle.ticket_course.specs.declared.course.Stage.{Stage}
 use Rattle.ticket_course.specs.declared.course.Stage.TheVariants.{Open, Owing, Waiting}
 use Rattle.ticket_course.proofs.Posted.{posted}
-use Rattle.step_core.specs.Fields.{job_at, job_by, job_table, posted_table}
+use Rattle.step_core.specs.Fields.{job_at, job_by, job_table}
 use Rattle.step_core.proofs.Moves.{jobs_moved}
 
 -- a ticket that owes something stands there
@@ -27,6 +28,12 @@ owing : (s : Stage) → 0 < length (owed_in s) → s ≡ Owing (owed_in s)
 owing (Owing owed) some = refl
 owing (Waiting o u left) some = absurd (omega (arith, some))
 owing (Open p u left) some = absurd (omega (arith, some))
+
+-- the tickets in flight after a Post of this ticket, with this job: its last completion takes it out of flight
+abbrev pub posted_table : JobTable → ℕ → Keeping → JobTable
+posted_table table t j =
+    if length j.course.cids == 1 then record table { jobs = jobs_beside table.jobs t }
+    else record table { jobs = replaced table.jobs t (posted_job j) }
 
 -- what is kept of a ticket that owes something, with its next completion posted, is that after its Post
 pub posted_job_at : (c : ConfigNumbers) (past : Past) (p : PostLine) → 0 < length (owed_in (job_at c past p.ticket).course.stage) → posted_job (job_at c past p.ticket) ≡ job_at c (Entry.Post p ∷ past) p.ticket

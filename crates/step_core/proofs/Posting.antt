@@ -142,9 +142,10 @@ due_full c past q x h e =
 -- the completion that is due
 pub due_is : (c : ConfigNumbers) (past : Past) (t : ℕ) (j : Keeping) (s : Status) (cid : ℕ) (x : CompletionRing) (r : SubmissionRing) (cqe : Cqe) (d : Due) → Kept c past → IsJob c past t j
     → slice_get (owed_in j.course.stage) 0 ≡ Some s → slice_get j.course.cids 0 ≡ Some cid → x ≡ completion_ring c past (completion_queue c (Tickets.ticket past t).queue) → r ≡ submission_ring c past j.queue
-    → cqe ≡ record { sqhd = r.head; sqid = j.queue; cid = cid; phase = x.phase; status = s } → d.cqe ≡ completion_bytes cqe → d.queue ≡ completion_queue c j.queue → IsDue c past t d
+    → cqe ≡ record { sqhd = r.head; sqid = j.queue; cid = cid; phase = x.phase; status = s } → d.cqe ≡ completion_bytes cqe → d.queue ≡ completion_queue c j.queue
+    → d.bytes ≡ length j.read → d.last ≡ eqb (length j.course.cids) 1 → IsDue c past (record d { ticket = t })
 unfolding job_by completion_ring submission_ring
-due_is c past t j s cid x r cqe d kept k due has ring sring fields bytes queue =
+due_is c past t j s cid x r cqe d kept k due has ring sring fields bytes queue read last =
     let of_queue : j.queue ≡ (Tickets.ticket past t).queue = ap (λ (y : Keeping). y.queue) k.is in
     record {
       status = s;
@@ -156,6 +157,8 @@ due_is c past t j s cid x r cqe d kept k due has ring sring fields bytes queue =
           (ap (λ (y : Cqe). y.cid) fields ∙ sym (found_at (cids (Tickets.ticket past t)) (posts_of past t) cid 0 (sym (get_dropped (posts_of past t) (cids (Tickets.ticket past t))) ∙ ap (λ (y : Keeping). slice_get y.course.cids 0) (sym k.is) ∙ has)))
           (ap (λ (y : Cqe). phase_bit y.phase) fields ∙ ap (λ (y : CompletionRing). phase_bit y.phase) ring)
           (ap (λ (y : Cqe). y.status) fields);
+      bytes = read ∙ ap (λ (y : Keeping). length y.read) k.is;
+      last = last ∙ ap (λ (y : Keeping). eqb (length y.course.cids) 1) k.is;
     }
 
 -- a completion by its fields
@@ -204,10 +207,12 @@ module _ (c : ConfigNumbers) (past : Past) (v : List (List ℕ)) (s : List Submi
 
     pub post_is : (o : Status) (cid : ℕ) (y : CompletionRing) (z : SubmissionRing) (cqe : Cqe) (d : Due) → slice_get (owed_in job.course.stage) 0 ≡ Some o → slice_get job.course.cids 0 ≡ Some cid
         → y ≡ get_or q ((n' - 1) % c.cqs) y → z ≡ get_or s (n' - 1) z → cqe ≡ record { sqhd = z.head; sqid = n'; cid = cid; phase = y.phase; status = o }
-        → d.cqe ≡ completion_bytes cqe → d.queue ≡ (n' - 1) % c.cqs + 1 → IsDue x.config x.past t d
-    post_is o cid y z cqe d due has e f fields bytes queue =
+        → d.cqe ≡ completion_bytes cqe → d.queue ≡ (n' - 1) % c.cqs + 1
+        → d.bytes ≡ length job.read → d.last ≡ eqb (length job.course.cids) 1 → d.ticket ≡ t → IsDue x.config x.past d
+    post_is o cid y z cqe d due has e f fields bytes queue read last at =
         let p : suc (n' - 1) ≡ n' = omega (arith, post_queue.low) in
         let sring : z ≡ submission_ring c past n' = f ∙ k.submission.at (n' - 1) z (omega (arith, post_queue.low, post_queue.high)) ∙ ap (submission_ring c past) p in
         let of_job : cqe ≡ record { sqhd = z.head; sqid = job.queue; cid = cid; phase = y.phase; status = o } = fields ∙ (λ i. record { sqhd = z.head; sqid = of i; cid = cid; phase = y.phase; status = o }) in
-        subst (λ (w : State). IsDue w.config w.past t d) view
-        (due_is c past t job o cid y z cqe d k.run mine due has (ring_is y e) (sring ∙ ap (submission_ring c past) of) of_job bytes (queue ∙ ap (completion_queue c) of))
+        subst (λ (u : ℕ). IsDue x.config x.past (record d { ticket = u })) (sym at)
+        (subst (λ (w : State). IsDue w.config w.past (record d { ticket = t })) view
+        (due_is c past t job o cid y z cqe d k.run mine due has (ring_is y e) (sring ∙ ap (submission_ring c past) of) of_job bytes (queue ∙ ap (completion_queue c) of) read last))

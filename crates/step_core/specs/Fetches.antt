@@ -1,7 +1,7 @@
 -- What a Fetch finds, and the job that it makes.
 use Rattle.std.specs.List.{flat_map}
 use Rattle.std.specs.Option.{option_to_list}
-use Rattle.std.specs.Prelude.{List, Option, Some, [], if◌then◌else◌, map, replicate, ℕ, ◌*◌, ◌==◌, ◌∷◌, ◌≡◌}
+use Rattle.std.specs.Prelude.{List, Option, [], get_or, if◌then◌else◌, length, map, replicate, ℕ, ◌*◌, ◌<◌, ◌==◌, ◌∷◌, ◌≡◌, ◌≤◌}
 use Rattle.nvme_model.specs.EntryBytes.{slba, sqe_fields}
 use Rattle.nvme_model.specs.History.{Past}
 use Rattle.nvme_model.specs.Operations.{has_compare, op_by}
@@ -12,6 +12,7 @@ use Rattle.nvme_model.specs.declared.submission.Submission.{Submission}
 use Rattle.fused_match.specs.Judged.{NamesBlocks, operation_in, verdict_by}
 use Rattle.fused_match.specs.declared.judged.Judged.{Judged}
 use Rattle.fused_match.specs.declared.judged.Judged.TheVariants as judged
+use Rattle.block_exec.specs.Bytes.{blocks_in}
 use Rattle.job_table.specs.Keeping.{Keeping}
 use Rattle.ticket_course.specs.Stages.{first_stage}
 use Rattle.job_table.specs.declared.jobs.InFlight.{InFlight}
@@ -58,20 +59,30 @@ cids_by commands = map (λ s. (sqe_fields s.entry).cid) commands
 abbrev pub compare_by : Option Op → Submission → List ℕ
 compare_by o first = if has_compare o then first.payload else []
 
--- the Write's data
-abbrev pub write_by : Option Op → Submission → Option Submission → List ℕ
-write_by (Some Op.Write) first second = first.payload
-write_by (Some Op.Pair) first (Some other) = other.payload
-write_by _ first second = []
+-- the data beside the i-th of these entries
+abbrev pub payload_at : List Submission → ℕ → List ℕ
+payload_at ws i = (get_or ws i (record { entry = []; payload = [] })).payload
 
--- what is kept of a ticket that begins, with this room for what it reads
-abbrev pub first_job : ℕ → Judged → Submission → Option Submission → List ℕ → Keeping
-first_job q j first second read =
+-- the blocks that a ticket writes from its data, where these entries wait
+abbrev pub write_first : Judged → List Submission → List (List ℕ)
+write_first (judged.Single Op.Write r) ws = blocks_in r.blocks (payload_at ws 0)
+write_first (judged.Pair r) ws = blocks_in r.blocks (payload_at ws 1)
+write_first _ ws = []
+
+-- and they have them
+abbrev pub HasBlocks : Judged → List Submission → Type 0
+HasBlocks (judged.Single Op.Write r) ws = (0 < length ws) × (512 * r.blocks ≤ length (payload_at ws 0))
+HasBlocks (judged.Pair r) ws = (1 < length ws) × (512 * r.blocks ≤ length (payload_at ws 1))
+HasBlocks _ ws = Unit {0}
+
+-- what is kept of a ticket that begins, with these blocks to write and this room for what it reads
+abbrev pub first_job : ℕ → Judged → Submission → Option Submission → List (List ℕ) → List ℕ → Keeping
+first_job q j first second write read =
     record {
       queue = q;
       course = record { stage = first_stage j; cids = cids_by (commands_of first second) };
       slba = slba (sqe_fields first.entry);
       compare = compare_by (operation_in j) first;
-      write = write_by (operation_in j) first second;
+      write = write;
       read = read;
     }

@@ -1,20 +1,22 @@
 -- What the fields of a core are: what the definitions compute from its history.
-use Rattle.std.specs.Prelude.{List, Option, Some, [], drop, if◌then◌else◌, length, map, replicate, ℕ, ◌%◌, ◌*◌, ◌++◌, ◌-◌, ◌/◌, ◌==◌}
+use Rattle.std.specs.Prelude.{List, None, Option, Some, [], drop, if◌then◌else◌, length, map, replicate}
+use Rattle.std.specs.Prelude.{ℕ, ◌%◌, ◌*◌, ◌++◌, ◌-◌, ◌/◌, ◌==◌}
 use Rattle.nvme_model.specs.Completions.{posted, reaped}
 use Rattle.nvme_model.specs.EntryBytes.{blocks, slba}
 use Rattle.nvme_model.specs.History.{Past}
 use Rattle.nvme_model.specs.Operations.{has_compare, op}
 use Rattle.nvme_model.specs.Queues.{fetched, waiting}
-use Rattle.ticket_standing.specs.Standing.{Standing, flying, standing}
+use Rattle.ticket_standing.specs.Standing.{OpenUnit, Standing, flying, had, standing}
 use Rattle.nvme_model.specs.Tickets.{Ticket, cids, command, first_fields}
 use Rattle.nvme_model.specs.declared.config.ConfigNumbers.{ConfigNumbers}
 use Rattle.nvme_model.specs.declared.entry.PostLine.{PostLine}
 use Rattle.nvme_model.specs.declared.operation.Op.{Op}
+use Rattle.block_exec.specs.Bytes.{blocks_in}
 use Rattle.rings.specs.Completions.{CompletionRing}
 use Rattle.rings.specs.Submissions.{SubmissionRing}
 use Rattle.rings.specs.declared.completion_ring.Completion.{Completion}
-use Rattle.job_table.specs.Jobs.{JobTable, jobs_beside, jobs_by, replaced}
-use Rattle.job_table.specs.Keeping.{Keeping, posted_job}
+use Rattle.job_table.specs.Jobs.{JobTable, jobs_by}
+use Rattle.job_table.specs.Keeping.{Keeping}
 use Rattle.ticket_course.specs.Shown.{stage_of}
 
 -- ---- queues
@@ -44,11 +46,34 @@ completion_ring c past q =
 abbrev pub compare_bytes : Ticket → List ℕ
 compare_bytes k = if has_compare (op k) then (command k 0).payload else []
 
--- the data that it writes
-abbrev pub write_bytes_by : Option Op → Ticket → List ℕ
-write_bytes_by (Some Op.Write) k = (command k 0).payload
-write_bytes_by (Some Op.Pair) k = (command k 1).payload
-write_bytes_by _ k = []
+-- the blocks that it writes from its data, by the operation
+abbrev pub write_blocks_by : Option Op → Ticket → List (List ℕ)
+write_blocks_by (Some Op.Write) k = blocks_in (blocks (first_fields k)) (command k 0).payload
+write_blocks_by (Some Op.Pair) k = blocks_in (blocks (first_fields k)) (command k 1).payload
+write_blocks_by _ k = []
+
+abbrev pub write_blocks : Ticket → List (List ℕ)
+write_blocks k = write_blocks_by (op k) k
+
+-- how many blocks of the open unit aren't made yet
+abbrev pub left_in : Option OpenUnit → ℕ
+left_in None = 0
+left_in (Some u) = u.line.range.blocks - u.made
+
+-- how many blocks a pair has written: none before all are compared
+abbrev pub pair_written : ConfigNumbers → Standing → Option OpenUnit → ℕ
+pair_written c s None = if s.differs then 0 else had c s
+pair_written c s (Some u) = u.made - u.line.range.blocks
+
+-- how many a ticket that stands so has written from its data
+abbrev pub written_so_far : ConfigNumbers → Standing → Option Op → ℕ
+written_so_far c s (Some Op.Write) = had c s - left_in s.unit
+written_so_far c s (Some Op.Pair) = pair_written c s s.unit
+written_so_far c s _ = 0
+
+-- those that it still writes
+abbrev pub still_written : ConfigNumbers → Standing → List (List ℕ)
+still_written c s = drop (written_so_far c s (op s.ticket)) (write_blocks s.ticket)
 
 -- what a Read has read so far, and zeros for the rest
 abbrev pub read_bytes_by : Option Op → Ticket → List ℕ → List ℕ
@@ -63,7 +88,7 @@ job_by c s =
       course = record { stage = stage_of c s; cids = drop s.posts (cids s.ticket) };
       slba = slba (first_fields s.ticket);
       compare = compare_bytes s.ticket;
-      write = write_bytes_by (op s.ticket) s.ticket;
+      write = still_written c s;
       read = read_bytes_by (op s.ticket) s.ticket s.read;
     }
 
@@ -74,14 +99,3 @@ job_at c past t = job_by c (standing past t)
 -- all tickets in flight
 abbrev pub job_table : ConfigNumbers → Past → JobTable
 job_table c past = record { limit = c.jobs; jobs = jobs_by (job_at c past) (flying past) }
-
--- ---- what a step changes of a job
-
--- the tickets in flight after a Post of this ticket, with this job: its last completion takes it out of flight
-abbrev pub posted_table : JobTable → ℕ → Keeping → JobTable
-posted_table table t j =
-    if length j.course.cids == 1 then record table { jobs = jobs_beside table.jobs t } else record table { jobs = replaced table.jobs t (posted_job j) }
-
--- what goes with it: all that was read goes with the last
-abbrev pub posted_payload : Keeping → List ℕ
-posted_payload j = if length j.course.cids == 1 then j.read else []

@@ -1,5 +1,6 @@
 -- The refinement: each field of a core is what its history says.
-use Rattle.std.specs.Prelude.{List, None, Some, false, slice_get, true, get_or, length, map, suc, ℕ, ◌<◌, ◌≡◌, ◌≤◌}
+use Rattle.std.specs.Prelude.{List, None, Some, false, get_or, length, map, slice_get, suc, true}
+use Rattle.std.specs.Prelude.{ℕ, ◌<◌, ◌==◌, ◌≡◌, ◌≤◌}
 use Rattle.nvme_model.specs.Config.{completion_queue, config_fault}
 use Rattle.nvme_model.specs.Completions.{completion, posted, reaped}
 use Rattle.nvme_model.specs.Queues.{fetched, published}
@@ -28,7 +29,8 @@ pub record IsTable {X : Type 0} (f : ℕ → X) (n : ℕ) (xs : List X) : Type 0
   pub at : (k : ℕ) (d : X) → k < n → get_or xs k d ≡ f k
 
 -- each field is what the history says
-pub record IsKept (c : ConfigNumbers) (past : Past) (v : List (List ℕ)) (s : List SubmissionRing) (q : List CompletionRing) (j : JobTable) (r : List Held) (n : ℕ) : Type 0 where
+pub record IsKept (c : ConfigNumbers) (past : Past) (v : List (List ℕ)) (s : List SubmissionRing)
+    (q : List CompletionRing) (j : JobTable) (r : List Held) (n : ℕ) : Type 0 where
   pub accepted : config_fault c ≡ None
   pub volume : IsTable (medium past) c.blocks v
   pub submission : IsTable (λ k. submission_ring c past (suc k)) c.pairs s
@@ -56,9 +58,11 @@ pub record IsJob (c : ConfigNumbers) (past : Past) (t : ℕ) (j : Keeping) : Typ
   pub flies : in_flight past t ≡ true
   pub is : j ≡ job_at c past t
 
--- the completion that a Post of ticket t gives, and the queue that it goes to
-pub record IsDue (c : ConfigNumbers) (past : Past) (t : ℕ) (d : Due) : Type 0 where
+-- the completion that a Post of its ticket gives, and the queue that it goes to
+pub record IsDue (c : ConfigNumbers) (past : Past) (d : Due) : Type 0 where
   pub status : Status
-  pub owed : slice_get (owed c past t) (posts_of past t) ≡ Some status
-  pub queue : d.queue ≡ completion_queue c (ticket past t).queue
-  pub cqe : d.cqe ≡ completion c past t status
+  pub owed : slice_get (owed c past d.ticket) (posts_of past d.ticket) ≡ Some status
+  pub queue : d.queue ≡ completion_queue c (ticket past d.ticket).queue
+  pub cqe : d.cqe ≡ completion c past d.ticket status
+  pub bytes : d.bytes ≡ length (job_at c past d.ticket).read
+  pub last : d.last ≡ (length (job_at c past d.ticket).course.cids == 1)

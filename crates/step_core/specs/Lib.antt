@@ -6,3 +6,4 @@ pub mod Fetches
 pub mod Runs
 pub mod Ready
 pub mod OneAtATime
+pub mod Filed

@@ -9,9 +9,9 @@ use Rattle.nvme_model.specs.declared.entry.Entry.{Entry}
 use Rattle.nvme_model.specs.declared.entry.PostLine.{PostLine}
 use Rattle.nvme_model.specs.declared.entry.ReapLine.{ReapLine}
 
--- An array that is asked the effects alone, in the order of the history and each done whole, has the value as its contents and
--- gives the answers of the history; each completion posted has the status and the data that its answers make, and each
--- completion reaped is, byte for byte, the posted one of its number.
+-- An array that is asked the effects alone, in the order of the history and each done whole, has the value as its
+-- contents and gives the answers of the history; each completion posted has the status and the data that its answers
+-- make, and each completion reaped is, byte for byte, the posted one of its number.
 pub record IsOneAtATime (c : ConfigNumbers) (past : Past) : Type 0 where
   pub contents : (sequential c past).contents ≡ map (value past) (blocks_from 0 c.blocks)
   pub replies : (sequential c past).replies ≡ answers past

@@ -14,4 +14,5 @@ Runs old (step ∷ steps) [] new = ⊥
 
 -- the list of answers has grown by one for each step
 abbrev pub RunsOnto : State → List Step → List (Result Answer Refused) → List (Result Answer Refused) → State → Type 0
-RunsOnto old steps before out new = (answers : List (Result Answer Refused)) × (out ≡ before ++ answers) × Runs old steps answers new
+RunsOnto old steps before out new =
+    (answers : List (Result Answer Refused)) × (out ≡ before ++ answers) × Runs old steps answers new

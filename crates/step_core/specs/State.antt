@@ -1,5 +1,6 @@
 -- What a controller is, and what a step does to it.
-use Rattle.std.specs.Prelude.{Err, List, None, Ok, Option, Result, Some, slice_get, unwrap_or, ℕ, [], ◌+◌, ◌-◌, ◌^◌, ◌<◌, ◌≤◌, ◌∷◌, ◌≡◌, ◌⊎◌}
+use Rattle.std.specs.Prelude.{Bool, Err, List, None, Ok, Option, Result, Some, false, slice_get, true, unwrap_or}
+use Rattle.std.specs.Prelude.{ℕ, [], ◌+◌, ◌-◌, ◌^◌, ◌<◌, ◌≤◌, ◌∷◌, ◌≡◌, ◌⊎◌}
 use Rattle.nvme_model.specs.Completions.{posted, reaped}
 use Rattle.nvme_model.specs.EntryBytes.{blocks, slba}
 use Rattle.nvme_model.specs.History.{Past}
@@ -28,7 +29,8 @@ pub record Room : Type 0 where
   pub entries : ℕ
   pub ranges : ℕ
 
--- a controller: its configuration, its history, how many of the next Grants, Blocks and Reaps have their memory, and the room that is there
+-- a controller: its configuration, its history, how many of the next Grants, Blocks and Reaps have their memory, and
+-- the room that is there
 pub record State : Type 0 where
   pub config : ConfigNumbers
   pub past : Past
@@ -79,7 +81,8 @@ answer_of c past (Entry.Fetch f) = Answer.Fetched (work_of c f.ticket (fetched_t
 answer_of c past (Entry.Grant g) = Answer.Granted g.unit g.range g.mode
 answer_of c past (Entry.Block b) = Answer.Blocked (done_of past b)
 answer_of c past (Entry.Post p) = Answer.Posted p.cqe
-answer_of c past (Entry.Reap r) = Answer.Reaped r.cqe (payload_of (slice_get (posted c past r.queue) (reaped past r.queue)))
+answer_of c past (Entry.Reap r) =
+    Answer.Reaped r.cqe (payload_of (slice_get (posted c past r.queue) (reaped past r.queue)))
 
 -- ---- what a step does
 
@@ -93,7 +96,12 @@ promised_after _ n = n
 -- after an accepted step, with this room
 abbrev pub after : State → Step → Room → State
 after x step room =
-    record { config = x.config; past = next_entry x.config x.past step ∷ x.past; promised = promised_after step x.promised; room = room }
+    record {
+      config = x.config;
+      past = next_entry x.config x.past step ∷ x.past;
+      promised = promised_after step x.promised;
+      room = room;
+    }
 
 -- how many ranges a step takes the room of
 abbrev pub ranges_taken : Step → ℕ
@@ -124,21 +132,32 @@ abbrev pub refused_as : Step → Why → Refused
 refused_as (Step.Publish q batch) why = Refused.Publish why batch
 refused_as _ why = Refused.Step why
 
--- A step that nothing refuses is answered want of memory only for a cause: a Grant, a Block or a Reap where nothing is promised and there
--- is no room for it; a Fetch or a Post where all room is promised, or where it is of a Read, whose data needs memory of its own. A Publish
--- always needs memory for its batch.
+-- the data of a ticket that does this needs memory of its own: a Read's, and that which a Write or a pair writes
+abbrev pub needs_data : Option Op → Bool
+needs_data (Some Op.Read) = true
+needs_data (Some Op.Write) = true
+needs_data (Some Op.Pair) = true
+needs_data _ = false
+
+-- A step that nothing refuses is answered want of memory only for a cause: a Grant, a Block or a Reap where nothing is
+-- promised and there is no room for it; a Fetch or a Post where all room is promised, or where the data needs memory of
+-- its own, which is so at the Fetch of a Read, a Write or a pair, and at the Post of a Read. A Publish always needs
+-- memory for its batch.
 abbrev pub WantsMemory : State → Step → Type 0
-WantsMemory x (Step.Grant t) = refusal x.config x.past (Step.Grant t) ≡ None → (x.promised ≡ 0) × ((x.room.entries ≡ 0) ⊎ (x.room.ranges ≡ 0))
+WantsMemory x (Step.Grant t) =
+    refusal x.config x.past (Step.Grant t) ≡ None →
+    (x.promised ≡ 0) × ((x.room.entries ≡ 0) ⊎ (x.room.ranges ≡ 0))
 WantsMemory x (Step.Block t) = refusal x.config x.past (Step.Block t) ≡ None → (x.promised ≡ 0) × (x.room.entries ≡ 0)
 WantsMemory x (Step.Reap q) = refusal x.config x.past (Step.Reap q) ≡ None → (x.promised ≡ 0) × (x.room.entries ≡ 0)
 WantsMemory x (Step.Fetch q) =
     refusal x.config x.past (Step.Fetch q) ≡ None →
-    (x.room.entries ≤ x.promised) ⊎ (op (fetched_ticket x.past q (next_verdict x.config x.past q)) ≡ Some Op.Read)
+    (x.room.entries ≤ x.promised) ⊎ (needs_data (op (fetched_ticket x.past q (next_verdict x.config x.past q))) ≡ true)
 WantsMemory x (Step.Post t) =
     refusal x.config x.past (Step.Post t) ≡ None → (x.room.entries ≤ x.promised) ⊎ (op (ticket x.past t) ≡ Some Op.Read)
 WantsMemory x (Step.Publish q batch) = Unit {0}
 
--- a step that is accepted behind this history: nothing refuses it, this is the entry that it adds, and the answer is what that says
+-- a step that is accepted behind this history: nothing refuses it, this is the entry that it adds, and the answer is
+-- what that says
 abbrev pub Accepts : ConfigNumbers → Past → Step → Entry → Answer → Type 0
 Accepts c past step e a = (refusal c past step ≡ None) × (e ≡ next_entry c past step) × (a ≡ answer_of c past e)
 
@@ -146,12 +165,22 @@ Accepts c past step e a = (refusal c past step ≡ None) × (e ≡ next_entry c 
 abbrev pub Refuses : ConfigNumbers → Past → Step → Refused → Type 0
 Refuses c past step r = r ≡ refused_as step (unwrap_or (refusal c past step) Why.NoMemory)
 
--- A step is accepted, and then adds its entry; or it is refused, and nothing has changed, but that there may be more room.
+-- A step is accepted, and then adds its entry; or it is refused, and nothing has changed, but that there may be more
+-- room.
 abbrev pub Serves : State → Step → Result Answer Refused → State → Type 0
-Serves old step (Ok a) new = Accepts old.config old.past step (next_entry old.config old.past step) a × (new ≡ after old step new.room) × TakesRoom step old.room new.room
-Serves old step (Err r) new = Refuses old.config old.past step r × (new ≡ record old { room = new.room }) × KeepsRoom old.room new.room × WantsMemory old step
+Serves old step (Ok a) new =
+    Accepts old.config old.past step (next_entry old.config old.past step) a
+    × (new ≡ after old step new.room) × TakesRoom step old.room new.room
+Serves old step (Err r) new =
+    Refuses old.config old.past step r
+    × (new ≡ record old { room = new.room }) × KeepsRoom old.room new.room × WantsMemory old step
 
 -- the same of a step whose refusal hands nothing back
 abbrev pub Does : State → Step → Result Answer Why → State → Type 0
-Does old step (Ok a) new = (refusal old.config old.past step ≡ None) × (a ≡ answer_of old.config old.past (next_entry old.config old.past step)) × (new ≡ after old step new.room) × TakesRoom step old.room new.room
-Does old step (Err why) new = (why ≡ unwrap_or (refusal old.config old.past step) Why.NoMemory) × (new ≡ record old { room = new.room }) × KeepsRoom old.room new.room × WantsMemory old step
+Does old step (Ok a) new =
+    (refusal old.config old.past step ≡ None)
+    × (a ≡ answer_of old.config old.past (next_entry old.config old.past step))
+    × (new ≡ after old step new.room) × TakesRoom step old.room new.room
+Does old step (Err why) new =
+    (why ≡ unwrap_or (refusal old.config old.past step) Why.NoMemory)
+    × (new ≡ record old { room = new.room }) × KeepsRoom old.room new.room × WantsMemory old step

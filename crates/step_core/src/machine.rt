@@ -1,6 +1,7 @@
 //! The controller: its fields, and how a step reads and changes them.
 
-ghost use Rattle.std.specs.Prelude.{◌≡◌, ◌≤◌, ◌<◌, ◌+◌, ◌-◌, [], None, Some, IfErr, IfNone, IfOk, IfSome, MatchOption, OnErr, OnOk, false, max, replicate, true};
+ghost use Rattle.std.specs.Prelude.{◌≡◌, ◌≤◌, ◌<◌, [], IfOk, IfSome, MatchOption, MatchResult, OnErr, OnOk};
+ghost use Rattle.std.specs.Prelude.{false, max, replicate, true};
 ghost use Rattle.nvme_model.specs.Kept.{Kept};
 ghost use Rattle.nvme_model.specs.Legal.{IsLegal};
 ghost use Rattle.nvme_model.specs.Medium.{medium};
@@ -8,13 +9,16 @@ ghost use Rattle.nvme_model.specs.Refusals.{no_completion_queue, no_queue};
 ghost use Rattle.nvme_model.specs.Tickets.{in_flight};
 ghost use Rattle.nvme_model.specs.Laws.{is_held};
 ghost use Rattle.nvme_model.specs.Value.{value};
+ghost use Rattle.nvme_model.specs.declared.refusal.Why.{Why as TheWhy};
 ghost use Rattle.rings.specs.Slots.{IsSize};
 ghost use Rattle.step_core.specs.Kept.{IsCqRing, IsJob, IsSqRing};
 ghost use Rattle.step_core.specs.State.{HasPromised, KeepsRoom, LacksRoom};
 
 mod block;
+mod data;
 mod fetch;
 mod grant;
+mod next;
 mod post;
 mod publish;
 mod reap;
@@ -23,7 +27,9 @@ mod steps;
 
 use block_array::Volume;
 use history::{Config, History};
+use job_index::QueueIndex;
 use job_table::{Job, Jobs};
+use nvme_model::refusal::Why;
 use range_reserve::Ranges;
 use rings::{CqRing, SqRing};
 use std::alloc::{AllocError as NoMemory, Global};
@@ -38,6 +44,8 @@ pub struct Core {
     submission: Vec<SqRing>,
     completion: Vec<CqRing>,
     jobs: Jobs,
+    // The tickets in flight of each submission queue.
+    queues: QueueIndex,
     ranges: Ranges,
     tickets: u64,
     history: History,
@@ -46,20 +54,30 @@ pub struct Core {
 
 impl Model for Core {
     ghost use Rattle.std.specs.Prelude.{◌+◌, ◌^◌, ◌<◌, ◌≤◌};
+    ghost use Rattle.step_core.specs.Filed.{IsFiled};
     ghost use Rattle.step_core.specs.Kept.{IsKept};
     ghost use Rattle.step_core.specs.State.{State};
 
     ghost Value = { State };
 
-    ghost view = { λ c. record { config = c.config; past = c.history.past; promised = c.promised; room = record { entries = c.history.room; ranges = c.ranges.room } } };
+    ghost view = { λ c. record {
+      config = c.config;
+      past = c.history.past;
+      promised = c.promised;
+      room = record { entries = c.history.room; ranges = c.ranges.room };
+    } };
 
-    ghost invariant = { λ c. IsKept c.config c.history.past c.volume c.submission.items c.completion.items c.jobs c.ranges.held c.tickets × (c.promised ≤ c.history.room) × (c.promised ≤ c.ranges.room) × (c.promised + 1 < 2 ^ 64) };
+    ghost invariant = { λ c.
+        IsKept c.config c.history.past c.volume c.submission.items c.completion.items c.jobs c.ranges.held c.tickets
+        × (c.promised ≤ c.history.room) × (c.promised ≤ c.ranges.room) × (c.promised + 1 < 2 ^ 64)
+        × IsFiled c.queues c.jobs };
 }
 
 // So many submission rings of this size.
 fn sq_rings(alloc: Global, count: u16, size: u16) -> Result<Vec<SqRing>, NoMemory>
     requires size { IsSize size }
-    ensures value { IfOk result (λ rings. rings.items ≡ replicate count (record { size = size; head = 0; waiting = [] })) }
+    ensures value { IfOk result (λ rings.
+        rings.items ≡ replicate count (record { size = size; head = 0; waiting = [] })) }
 {
     let mut rings = Vec::with_capacity(alloc, count as usize)?;
     for _ in 0..count {
@@ -71,7 +89,8 @@ fn sq_rings(alloc: Global, count: u16, size: u16) -> Result<Vec<SqRing>, NoMemor
 // So many completion rings of this size.
 fn cq_rings(alloc: Global, count: u16, size: u16) -> Result<Vec<CqRing>, NoMemory>
     requires size { IsSize size }
-    ensures value { IfOk result (λ rings. rings.items ≡ replicate count (record { size = size; tail = 0; phase = true; waiting = [] })) }
+    ensures value { IfOk result (λ rings.
+        rings.items ≡ replicate count (record { size = size; tail = 0; phase = true; waiting = [] })) }
 {
     let mut rings = Vec::with_capacity(alloc, count as usize)?;
     for _ in 0..count {
@@ -87,7 +106,8 @@ impl Core {
     ///
     /// `NoMemory` where a growth is refused.
     pub fn new(alloc: Global, config: Config) -> Result<Core, NoMemory>
-        ensures ok { IfOk result (λ core. core ≡ record { config = config; past = []; promised = 0; room = core.room }) }
+        ensures ok { IfOk result (λ core.
+            core ≡ record { config = config; past = []; promised = 0; room = core.room }) }
         ensures kept { IfOk result (λ core. Kept core.config core.past) }
     {
         let numbers = config.numbers();
@@ -98,6 +118,7 @@ impl Core {
             submission: sq_rings(alloc, numbers.pairs, numbers.sq_size)?,
             completion: cq_rings(alloc, numbers.cqs, numbers.cq_size)?,
             jobs: Jobs::new(alloc, numbers.jobs as usize)?,
+            queues: QueueIndex::new(alloc, numbers.jobs as usize)?,
             ranges: Ranges::new(alloc),
             tickets: 0,
             history: History::new(alloc),
@@ -114,7 +135,8 @@ impl Core {
 
     /// The block of this number as it lies in the volume, None past the end. Takes no memory.
     pub fn medium(&self, lba: u64) -> Option<&[u8; 512]>
-        ensures value { MatchOption result (self.now.config.blocks ≤ lba) (λ b. (lba < self.now.config.blocks) × (b.now ≡ medium self.now.past lba)) }
+        ensures value { MatchOption result (self.now.config.blocks ≤ lba)
+            (λ b. (lba < self.now.config.blocks) × (b.now ≡ medium self.now.past lba)) }
         ensures contents { IfSome result (λ b. is_held self.now.past lba ≡ false → b.now ≡ value self.now.past lba) }
     {
         if lba >= u64::from(self.config.numbers().blocks) {
@@ -127,10 +149,11 @@ impl Core {
     ///
     /// # Errors
     ///
-    /// `NoMemory` where there was less room and a growth is refused, or for the largest number of all. What is promised is
-    /// then as before, and the room is no less.
+    /// `NoMemory` where there was less room and a growth is refused, or for the largest number of all. What is promised
+    /// is then as before, and the room is no less.
     pub fn reserve(&mut self, more: usize) -> Result<(), NoMemory>
-        ensures ok { OnOk result (self.new ≡ record self.old { promised = max self.old.promised more; room = self.new.room }) }
+        ensures ok { OnOk result
+            (self.new ≡ record self.old { promised = max self.old.promised more; room = self.new.room }) }
         ensures err { OnErr result (self.new ≡ record self.old { room = self.new.room }) }
         ensures full { OnErr result (LacksRoom self.old.room more) }
         ensures room { KeepsRoom self.old.room self.new.room }
@@ -159,7 +182,8 @@ impl Core {
 
     // The ring of this submission queue.
     fn sq_ring(&self, queue: u16) -> Option<&SqRing>
-        ensures value { MatchOption result (no_queue self.now.config queue ≡ true) (λ r. IsSqRing self.now.config self.now.past queue r.now) }
+        ensures value { MatchOption result (no_queue self.now.config queue ≡ true)
+            (λ r. IsSqRing self.now.config self.now.past queue r.now) }
     {
         if queue == 0 || queue > self.config.numbers().pairs {
             return None;
@@ -169,7 +193,8 @@ impl Core {
 
     // The ring of this completion queue.
     fn cq_ring(&self, queue: u16) -> Option<&CqRing>
-        ensures value { MatchOption result (no_completion_queue self.now.config queue ≡ true) (λ r. IsCqRing self.now.config self.now.past queue r.now) }
+        ensures value { MatchOption result (no_completion_queue self.now.config queue ≡ true)
+            (λ r. IsCqRing self.now.config self.now.past queue r.now) }
     {
         if queue == 0 || queue > self.config.numbers().cqs {
             return None;
@@ -178,9 +203,14 @@ impl Core {
     }
 
     // The job of this ticket.
-    fn job(&self, ticket: u64) -> Option<&Job>
-        ensures value { MatchOption result (in_flight self.now.past ticket ≡ false) (λ j. IsJob self.now.config self.now.past ticket j.now) }
+    fn job(&self, ticket: u64) -> Result<&Job, Why>
+        ensures value { MatchResult result
+            (λ j. IsJob self.now.config self.now.past ticket j.now)
+            (λ why. (in_flight self.now.past ticket ≡ false) × (why ≡ TheWhy.NoTicket)) }
     {
-        self.jobs.get(ticket)
+        match self.jobs.get(ticket) {
+            Some(job) => Ok(job),
+            None => Err(Why::NoTicket),
+        }
     }
 }

@@ -1,4 +1,5 @@
-//! Promised steps, many steps in one call, and what a Work says. What each step does is told by contracts, and shown by scripts.
+//! Promised steps, many steps in one call, the step that is ready, and what a Work says.
+//! What each step does is told by contracts, and shown by scripts.
 
 use crate::{Answer, Core, Refused, Step, Submissions, Work};
 use history::Config;
@@ -103,6 +104,37 @@ fn a_read_beside_a_write_sees_each_unit_at_one_moment(rt: HostRuntime) -> Result
         &mut core,
         [1, 0, 2, 0, 2, 0, 1, 0],
         &[0xa1, 0xa1, 0, 0],
+    )?;
+    assert!(rt; seen);
+    Ok(())
+}
+
+// Makes what is ready until nothing is, and counts it; None where a step is refused.
+fn settled(core: &mut Core) -> Option<u32> {
+    for made in 0..100 {
+        let Some((_step, answer)) = core.step_ready() else {
+            return Some(made);
+        };
+        if answer.is_err() {
+            return None;
+        }
+    }
+    None
+}
+
+// The Write's unit begins first, so its two Grants, four Blocks and Post come before the Read's.
+#[test]
+fn what_is_ready_is_made_until_nothing_is(rt: HostRuntime) -> Result<(), Fail> {
+    let mut core = small(rt.alloc())?;
+    let steps = beginning(rt.alloc())?;
+    assert!(rt; run_promised(rt.alloc(), &mut core, steps)?);
+    assert!(rt; settled(&mut core) == Some(14));
+    assert!(rt; core.ready().is_none());
+    let seen = gives(
+        rt.alloc(),
+        &mut core,
+        [1, 0, 2, 0, 2, 0, 1, 0],
+        &[0xa1, 0xa1, 0xa1, 0xa1],
     )?;
     assert!(rt; seen);
     Ok(())

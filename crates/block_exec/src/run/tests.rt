@@ -1,5 +1,5 @@
 ghost use Rattle.std.specs.Prelude.{◌≡◌, ◌≤◌};
-ghost use Rattle.block_exec.specs.Bytes.{compare_length, read_length, write_length};
+ghost use Rattle.block_exec.specs.Bytes.{compare_length, read_length, write_count};
 
 use super::*;
 use block_array::{BLOCK, NoMemory};
@@ -34,11 +34,10 @@ fn compare_len(op: Op, blocks: u32) -> usize
 }
 
 fn write_len(op: Op, blocks: u32) -> usize
-    requires few { blocks ≤ 65536 }
-    ensures len { result ≡ write_length op blocks }
+    ensures len { result ≡ write_count op blocks }
 {
     match op {
-        Op::Write | Op::Pair => BLOCK * blocks as usize,
+        Op::Write | Op::Pair => blocks as usize,
         _ => 0,
     }
 }
@@ -135,16 +134,27 @@ fn bytes(alloc: Global, case: Case, seed: u64, len: usize) -> Result<Vec<u8>, No
     Ok(bytes)
 }
 
-/// A unit with its volume and bytes, and the blocks of the volume and what was read as they should be.
+/// The first `len` blocks that the unit writes, one a box.
+fn boxes(alloc: Global, case: Case, len: usize) -> Result<Vec<Box<[u8; 512]>>, NoMemory> {
+    let mut boxes = Vec::new(alloc);
+    for place in 0..len as u64 {
+        let lba = case.range.slba.wrapping_add(place);
+        boxes.push(Box::new(alloc, pattern(100, lba))?)?;
+    }
+    Ok(boxes)
+}
+
+/// A unit with its volume and data, and the blocks of the volume, those in the boxes and what was read as they should be.
 #[derive(Drop)]
 struct Bench {
     case: Case,
     run: Run,
     volume: Volume,
     compare: Vec<u8>,
-    write: Vec<u8>,
+    write: Vec<Box<[u8; 512]>>,
     read: Vec<u8>,
     want_blocks: Vec<[u8; 512]>,
+    want_boxes: Vec<[u8; 512]>,
     want_read: Vec<u8>,
 }
 
@@ -160,18 +170,20 @@ impl Bench {
         for lba in 0..u64::from(BLOCKS) {
             want_blocks.push(pattern(1, lba))?;
         }
-        let plain = Case {
-            differs: None,
-            ..case
-        };
+        let write = boxes(alloc, case, write_len(op, range.blocks))?;
+        let mut want_boxes = Vec::new(alloc);
+        for block in &write {
+            want_boxes.push(**block)?;
+        }
         Ok(Bench {
             case,
             run: Run::new(op, range),
             volume: filled(alloc)?,
             compare: bytes(alloc, case, 1, compare_len(op, range.blocks))?,
-            write: bytes(alloc, plain, 100, write_len(op, range.blocks))?,
+            write,
             read: vec![in alloc; UNREAD; read_len(op, range.blocks)]?,
             want_blocks,
+            want_boxes,
             want_read: vec![in alloc; UNREAD; read_len(op, range.blocks)]?,
         })
     }
@@ -187,17 +199,21 @@ impl Bench {
         self.run.next(
             &mut self.volume,
             self.compare.as_slice(),
-            self.write.as_slice(),
+            self.write.as_mut_slice(),
             self.read.as_mut_slice(),
         )
     }
 
-    /// What one step of the table makes of the blocks and of what was read.
+    /// What one step of the table makes of the blocks, of the boxes and of what was read.
     fn carry_out(&mut self, rt: &impl Abort, step: Done) {
         let lba = step.lba as usize;
         assert!(rt; lba < self.want_blocks.len());
         match step.found {
             Found::Written => {
+                let place = step.lba.wrapping_sub(self.case.range.slba) as usize;
+                if let Some(held) = self.want_boxes.get_mut(place) {
+                    *held = self.want_blocks[lba];
+                }
                 self.want_blocks[lba] = if self.case.op == Op::WriteZeroes {
                     [0; BLOCK]
                 } else {
@@ -235,6 +251,18 @@ impl Bench {
             "read: {op:?} {range:?} {differs:?}"
         );
     }
+
+    /// So is what each box holds.
+    fn check_boxes(&self, rt: &impl Abort) {
+        let Case { op, range, differs } = self.case;
+        assert!(rt; self.write.len() == self.want_boxes.len());
+        for at in 0..self.write.len() {
+            assert!(rt;
+                *self.write[at] == self.want_boxes[at],
+                "box {at}: {op:?} {range:?} {differs:?}"
+            );
+        }
+    }
 }
 
 /// Runs the unit to its end, with the volume and what was read compared after each step.
@@ -251,6 +279,7 @@ fn check_run(rt: &impl Abort, alloc: Global, case: Case) -> Result<(), Fail> {
         made = made.wrapping_add(1);
     }
     assert!(rt; bench.run.has_ended() && bench.run.made() == made);
+    bench.check_boxes(rt);
     Ok(())
 }
 

@@ -11,7 +11,7 @@ fn a_flush_owes_one_success(rt: HostRuntime) -> Result<(), Fail> {
     let all = Data {
         slba: 0,
         compare: Payload::new(Vec::new(alloc)),
-        write: Payload::new(Vec::new(alloc)),
+        write: Vec::new(alloc),
         read: Payload::new(vec![in alloc; 7; 3]?),
     };
     let job = Job::new(65_535, &Judged::Flush, Cids::one(9), all);

@@ -13,7 +13,7 @@ fn flush(alloc: Global, queue: u16) -> Job {
     let data = Data {
         slba: 0,
         compare: Payload::new(Vec::new(alloc)),
-        write: Payload::new(Vec::new(alloc)),
+        write: Vec::new(alloc),
         read: Payload::new(Vec::new(alloc)),
     };
     Job::new(queue, &Judged::Flush, Cids::one(4), data)

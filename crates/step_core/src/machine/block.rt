@@ -1,27 +1,34 @@
 //! Block: the next block of a ticket's open unit.
 
-ghost use Rattle.std.specs.Prelude.{◌≡◌, ◌≤◌, if◌then◌else◌};
+ghost use Rattle.std.specs.Prelude.{◌≡◌, ◌≤◌, MatchResult, Some, if◌then◌else◌};
 ghost use Rattle.nvme_model.specs.Refusals.{refusal};
 ghost use Rattle.nvme_model.specs.declared.step.Step.{Step};
 ghost use Rattle.range_reserve.specs.Reserved.{held_beside};
+ghost use Rattle.step_core.specs.Kept.{IsJob};
+ghost use Rattle.step_core.specs.Ready.{IsNext};
 ghost use Rattle.step_core.specs.State.{Does};
+ghost use Rattle.step_core.specs.declared.machine.next.Next.{Next};
 
 use crate::answer::Answer;
 use crate::machine::Core;
 use crate::machine::room::take_room;
+use job_table::Job;
 use nvme_model::entry::{BlockLine, Entry};
 use nvme_model::refusal::Why;
 use range_reserve::Ranges;
 
 impl Core {
-    // Why a Block of this ticket is refused, memory aside.
-    pub(super) fn block_refusal(&self, ticket: u64) -> Option<Why>
-        ensures value { result ≡ refusal self.now.config self.now.past (Step.Block ticket) }
+    // The open unit of this ticket, or why a Block of it is refused, memory aside.
+    pub(super) fn open_unit(&self, ticket: u64, job: &Job) -> Result<u64, Why>
+        requires job { IsJob self.now.config self.now.past ticket job.now }
+        ensures value { MatchResult result
+            (λ u. IsNext self.now.config self.now.past (Next.Block ticket u))
+            (λ why. refusal self.now.config self.now.past (Step.Block ticket) ≡ Some why) }
     {
-        match self.job(ticket) {
-            Some(job) if job.course().run().is_some() => None,
-            Some(_) => Some(Why::WrongState),
-            None => Some(Why::NoTicket),
+        let course = job.course();
+        match course.run() {
+            Some(_) => Ok(course.unit()),
+            None => Err(Why::WrongState),
         }
     }
 
@@ -29,14 +36,18 @@ impl Core {
     pub(super) fn block(&mut self, ticket: u64) -> Result<Answer, Why>
         ensures does { Does self.old (Step.Block ticket) result self.new }
     {
-        if let Some(why) = self.block_refusal(ticket) {
-            return Err(why);
-        }
+        let job = self.job(ticket)?;
+        let unit = self.open_unit(ticket, job)?;
+        self.make_block(ticket, unit)
+    }
+
+    // Makes the next block of this open unit.
+    pub(super) fn make_block(&mut self, ticket: u64, unit: u64) -> Result<Answer, Why>
+        requires block { IsNext self.old.config self.old.past (Next.Block ticket unit) }
+        ensures does { Does self.old (Step.Block ticket) result self.new }
+    {
         take_room(&mut self.history, &mut self.promised)?;
-        let Some(job) = self.jobs.get_mut(ticket) else {
-            unreachable!();
-        };
-        let unit = job.course().unit();
+        let job = self.jobs.get_mut(ticket).unwrap();
         let done = job.make_block(&mut self.volume);
         release_ended(&mut self.ranges, ticket, done.ended);
         self.history.push_reserved(Entry::Block(BlockLine {

@@ -1,26 +1,33 @@
 //! Fetch: the next command, or the next fused pair, of a submission queue becomes a ticket.
 
 ghost use Rattle.std.specs.Option.{option_copied, option_map};
-ghost use Rattle.std.specs.Prelude.{◌≡◌, ◌≤◌, ◌+◌, ◌++◌, IfOk, MatchResult, None, OnErr, Some, is_some, length, slice_get, take, true};
+ghost use Rattle.std.specs.Prelude.{◌≡◌, ◌≤◌, ◌+◌, ◌++◌, IfOk, MatchResult, None, OnErr, Some};
+ghost use Rattle.std.specs.Prelude.{length, slice_get, take, true};
+ghost use Rattle.block_array.specs.Blocks.{contents_of};
 ghost use Rattle.fused_match.specs.Judged.{NamesBlocks, operation_in, verdict_by, waiting_items};
 ghost use Rattle.nvme_model.specs.EntryBytes.{sqe_fields};
 ghost use Rattle.nvme_model.specs.Operations.{op_by};
 ghost use Rattle.nvme_model.specs.Refusals.{jobs_full, refusal};
+ghost use Rattle.nvme_model.specs.Tickets.{fetched_ticket};
 ghost use Rattle.nvme_model.specs.Verdict.{item_of, taken, verdict_of};
-ghost use Rattle.nvme_model.specs.declared.operation.Op.{Op as Operation};
 ghost use Rattle.nvme_model.specs.declared.step.Step.{Step};
 ghost use Rattle.rings.specs.Submissions.{advanced};
-ghost use Rattle.step_core.specs.Fetches.{IsJudged, cids_by, cids_on, commands_of, compare_by, first_job, job_cids, kind_in, read_first, write_by};
-ghost use Rattle.step_core.specs.State.{Does};
+ghost use Rattle.step_core.specs.Fetches.{IsJudged, cids_by, cids_on, commands_of, compare_by, first_job, job_cids};
+ghost use Rattle.step_core.specs.Fetches.{kind_in, read_first};
+ghost use Rattle.step_core.specs.Fields.{write_blocks};
+ghost use Rattle.step_core.specs.Filed.{IsFiled};
+ghost use Rattle.step_core.specs.State.{Does, needs_data};
 ghost use Rattle.ticket_course.specs.Stages.{IsSound};
 
 use crate::answer::Answer;
 use crate::machine::Core;
+use crate::machine::data::{DataRoom, data_room};
 use crate::machine::room::keep_room;
 use crate::work::{Kind, Work};
 use entry_codec::{Sqe, decode_sqe};
 use fused_match::{Item, Judged, judge};
 use history::Config;
+use job_index::QueueIndex;
 use job_table::{Data, Job, Jobs};
 use nvme_model::entry::{Entry, FetchLine};
 use nvme_model::operation::Op;
@@ -54,35 +61,23 @@ fn put_cids(job: &Job, queue: u16, in_use: &mut [u16; 512], count: usize) -> usi
 }
 
 // The CIDs that tickets in flight on this queue still owe a completion for, at the front of an array, and how many.
-fn cids_in_use(jobs: &Jobs, queue: u16, in_use: &mut [u16; 512]) -> usize
+fn cids_in_use(jobs: &Jobs, queues: &QueueIndex, queue: u16, in_use: &mut [u16; 512]) -> usize
     requires limit { jobs.now.limit ≤ 256 }
+    requires filed { IsFiled queues.now jobs.now }
     ensures few { result ≤ 512 }
     ensures value { take result in_use.new ≡ cids_on queue jobs.now.jobs }
 {
+    // That no more are in flight than may be.
+    let _most = jobs.is_full();
     let mut count = 0;
-    for place in 0..jobs.len() {
-        let Some((_, job)) = jobs.nth(place) else {
+    let tickets = queues.on(queue);
+    for place in 0..tickets.len() {
+        let Some(job) = jobs.get(tickets[place].ticket) else {
             unreachable!();
         };
         count = put_cids(job, queue, in_use, count);
     }
     count
-}
-
-// Zeros for what a Read will read; nothing for anything else.
-fn read_buffer(alloc: Global, judged: &Judged) -> Result<Payload, NoMemory>
-    ensures value { IfOk result (λ read. read ≡ read_first judged.now) }
-    ensures wants { OnErr result (operation_in judged.now ≡ Some Operation.Read) }
-{
-    match judged {
-        Judged::Single(Op::Read, range) => {
-            let bytes = 512 * range.blocks as usize;
-            let mut buffer = Vec::with_capacity(alloc, bytes)?;
-            buffer.resize(bytes, 0)?;
-            Ok(Payload::new(buffer))
-        }
-        _ => Ok(Payload::new(Vec::new(alloc))),
-    }
 }
 
 // The fields of a submission's entry.
@@ -126,49 +121,38 @@ fn cids_of(first: &Submission, second: &Option<Submission>) -> Cids
     }
 }
 
-// The Compare's data and the Write's, of what lies beside the commands.
-fn data_of(
-    alloc: Global,
-    op: Option<Op>,
-    first: Submission,
-    second: Option<Submission>,
-) -> (Payload, Payload)
-    requires both { op ≡ Some Operation.Pair → is_some second ≡ true }
-    ensures compare { result.0 ≡ compare_by op first }
-    ensures write { result.1 ≡ write_by op first second }
+// The Compare's data, of what lies beside the first command.
+fn compare_of(alloc: Global, op: Option<Op>, first: Submission) -> Payload
+    ensures value { result ≡ compare_by op first }
 {
-    let nothing = Payload::new(Vec::new(alloc));
-    match (op, second) {
-        (Some(Op::Pair), Some(other)) => (first.payload, other.payload),
-        (Some(Op::Compare), _) => (first.payload, nothing),
-        (Some(Op::Write), _) => (nothing, first.payload),
-        _ => (Payload::new(Vec::new(alloc)), nothing),
+    match op {
+        Some(Op::Compare) => first.payload,
+        Some(Op::Pair) => first.payload,
+        _ => Payload::new(Vec::new(alloc)),
     }
 }
 
-// The job of a ticket that was just fetched, with this room for what it reads.
+// The job of a ticket that was just fetched, with the room that was made for its data.
 fn new_job(
     alloc: Global,
     queue: u16,
     judged: &Judged,
     first: Submission,
     second: Option<Submission>,
-    read: Payload,
+    room: DataRoom,
 ) -> Job
-    requires both { operation_in judged.now ≡ Some Operation.Pair → is_some second ≡ true }
     requires cids { length (commands_of first second) ≡ taken (verdict_by judged.now) }
     requires sound { IsSound judged.now }
-    ensures value { result ≡ first_job queue judged.now first second read }
+    ensures value { result ≡ first_job queue judged.now first second (contents_of room.write.items) room.read }
 {
     let op = op_of(judged);
     let cids = cids_of(&first, &second);
     let slba = fields(&first).slba();
-    let (compare, write) = data_of(alloc, op, first, second);
     let all = Data {
         slba,
-        compare,
-        write,
-        read,
+        compare: compare_of(alloc, op, first),
+        write: room.write,
+        read: room.read,
     };
     Job::new(queue, judged, cids, all)
 }
@@ -200,17 +184,20 @@ fn judge_front(
     first: &Submission,
     next: Option<&Item>,
     jobs: &Jobs,
+    queues: &QueueIndex,
     queue: u16,
     config: &Config,
 ) -> Judged
     requires limit { jobs.now.limit ≤ 256 }
+    requires filed { IsFiled queues.now jobs.now }
     ensures verdict { verdict_by result ≡
-        verdict_of config.now.atomic config.now.blocks (cids_on queue jobs.now.jobs) (waiting_items (item_of first.now) (option_copied next.entry)) }
+        verdict_of config.now.atomic config.now.blocks (cids_on queue jobs.now.jobs)
+        (waiting_items (item_of first.now) (option_copied next.entry)) }
     ensures operation { operation_in result ≡ op_by (verdict_by result) (sqe_fields first.now.entry) }
     ensures range { NamesBlocks result (sqe_fields first.now.entry) }
 {
     let mut in_use = [0; 512];
-    let count = cids_in_use(jobs, queue, &mut in_use);
+    let count = cids_in_use(jobs, queues, queue, &mut in_use);
     judge(
         &Item::of(first),
         next,
@@ -231,7 +218,8 @@ impl Core {
     // What becomes of the entries that a Fetch of this queue takes, or why it is refused, memory aside.
     fn fetch_judged(&self, queue: u16) -> Result<Judged, Why>
         ensures value { MatchResult result
-            (λ j. (refusal self.now.config self.now.past (Step.Fetch queue) ≡ None) × IsJudged self.now.config self.now.past queue j)
+            (λ j. (refusal self.now.config self.now.past (Step.Fetch queue) ≡ None)
+            × IsJudged self.now.config self.now.past queue j)
             (λ why. refusal self.now.config self.now.past (Step.Fetch queue) ≡ Some why) }
     {
         let Some(ring) = self.sq_ring(queue) else {
@@ -245,7 +233,22 @@ impl Core {
         }
         let next = next_item(ring);
         let next = next.as_ref();
-        Ok(judge_front(first, next, &self.jobs, queue, &self.config))
+        Ok(judge_front(first, next, &self.jobs, &self.queues, queue, &self.config))
+    }
+
+    // The room for the data of the ticket that a Fetch of this queue makes, where its entries are judged so.
+    fn fetch_room(&self, queue: u16, judged: &Judged) -> Result<DataRoom, NoMemory>
+        requires fetched { (refusal self.now.config self.now.past (Step.Fetch queue) ≡ None)
+            × IsJudged self.now.config self.now.past queue judged.now }
+        ensures write { IfOk result (λ room. contents_of room.write.items
+            ≡ write_blocks (fetched_ticket self.now.past queue (verdict_by judged.now))) }
+        ensures read { IfOk result (λ room. room.read ≡ read_first judged.now) }
+        ensures wants { OnErr result (needs_data (operation_in judged.now) ≡ true) }
+    {
+        let Some(ring) = self.sq_ring(queue) else {
+            unreachable!();
+        };
+        data_room(self.alloc, ring, judged)
     }
 
     /// Takes the next command, or the next fused pair, of a submission queue.
@@ -253,17 +256,18 @@ impl Core {
         ensures does { Does self.old (Step.Fetch queue) result self.new }
     {
         let judged = self.fetch_judged(queue)?;
-        let Ok(read) = read_buffer(self.alloc, &judged) else {
+        let Ok(room) = self.fetch_room(queue, &judged) else {
             return Err(Why::NoMemory);
         };
         keep_room(&mut self.history, self.promised)?;
         let ticket = self.tickets + 1;
         let ring = &mut self.submission[queue as usize - 1];
         let (first, second) = take_commands(ring, judged.taken());
-        let job = new_job(self.alloc, queue, &judged, first, second, read);
+        let job = new_job(self.alloc, queue, &judged, first, second, room);
         let Ok(()) = self.jobs.insert(ticket, job) else {
             unreachable!();
         };
+        self.queues.insert(queue, ticket);
         self.tickets = ticket;
         self.history.push_reserved(Entry::Fetch(FetchLine {
             queue,

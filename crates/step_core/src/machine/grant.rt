@@ -1,28 +1,28 @@
 //! Grant: the next unit of a ticket begins.
 
-ghost use Rattle.std.specs.Prelude.{◌≡◌, MatchResult, None, Some};
+ghost use Rattle.std.specs.Prelude.{◌≡◌, MatchResult, Some};
 ghost use Rattle.nvme_model.specs.Refusals.{refusal};
-ghost use Rattle.nvme_model.specs.Steps.{next_entry};
-ghost use Rattle.nvme_model.specs.declared.entry.Entry.{Entry};
 ghost use Rattle.nvme_model.specs.declared.step.Step.{Step};
+ghost use Rattle.step_core.specs.Kept.{IsJob};
+ghost use Rattle.step_core.specs.Ready.{IsNext};
 ghost use Rattle.step_core.specs.State.{Does};
+ghost use Rattle.step_core.specs.declared.machine.next.Next.{Next};
 
 use crate::answer::Answer;
 use crate::machine::Core;
 use crate::machine::room::take_both;
+use job_table::Job;
 use nvme_model::entry::{Entry, GrantLine, UnitRange};
 use nvme_model::refusal::Why;
 
 impl Core {
     // What a Grant of this ticket adds, or why it is refused, memory aside.
-    pub(super) fn grant_line(&self, ticket: u64) -> Result<GrantLine, Why>
+    pub(super) fn grant_line(&self, ticket: u64, job: &Job) -> Result<GrantLine, Why>
+        requires job { IsJob self.now.config self.now.past ticket job.now }
         ensures value { MatchResult result
-            (λ g. (refusal self.now.config self.now.past (Step.Grant ticket) ≡ None) × (Entry.Grant g ≡ next_entry self.now.config self.now.past (Step.Grant ticket)))
+            (λ g. (g.ticket ≡ ticket) × IsNext self.now.config self.now.past (Next.Grant g))
             (λ why. refusal self.now.config self.now.past (Step.Grant ticket) ≡ Some why) }
     {
-        let Some(job) = self.job(ticket) else {
-            return Err(Why::NoTicket);
-        };
         let course = job.course();
         let Some(range) = course.next_unit(self.config.units()) else {
             return Err(Why::WrongState);
@@ -43,16 +43,21 @@ impl Core {
     pub(super) fn grant(&mut self, ticket: u64) -> Result<Answer, Why>
         ensures does { Does self.old (Step.Grant ticket) result self.new }
     {
-        let line = self.grant_line(ticket)?;
+        let job = self.job(ticket)?;
+        let line = self.grant_line(ticket, job)?;
+        self.make_grant(line)
+    }
+
+    // Begins the unit of this line.
+    pub(super) fn make_grant(&mut self, line: GrantLine) -> Result<Answer, Why>
+        requires line { IsNext self.old.config self.old.past (Next.Grant line) }
+        ensures does { Does self.old (Step.Grant line.ticket) result self.new }
+    {
+        let ticket = line.ticket;
         let range = line.range.get();
         take_both(&mut self.history, &mut self.ranges, &mut self.promised)?;
-        let Ok(()) = self.ranges.grant(ticket, range, line.mode) else {
-            unreachable!();
-        };
-        let Some(job) = self.jobs.get_mut(ticket) else {
-            unreachable!();
-        };
-        job.open(range);
+        self.ranges.grant(ticket, range, line.mode).unwrap();
+        self.jobs.get_mut(ticket).unwrap().open(range);
         self.history.push_reserved(Entry::Grant(line));
         Ok(Answer::Granted(line.unit, range, line.mode))
     }

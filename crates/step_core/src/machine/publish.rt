@@ -51,9 +51,7 @@ impl Core {
         let Ok(()) = keep_room(&mut self.history, self.promised) else {
             return Err(Refused::Publish(Why::NoMemory, batch));
         };
-        let Ok(()) = self.submission[queue as usize - 1].publish(batch) else {
-            unreachable!();
-        };
+        self.submission[queue as usize - 1].publish(batch).unwrap();
         self.history.push_reserved(Entry::Publish(PublishLine {
             queue,
             batch: Batch::new(copy),

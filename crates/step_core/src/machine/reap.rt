@@ -34,9 +34,7 @@ impl Core {
             return Err(why);
         }
         take_room(&mut self.history, &mut self.promised)?;
-        let Ok(completion) = self.completion[queue as usize - 1].reap() else {
-            unreachable!();
-        };
+        let completion = self.completion[queue as usize - 1].reap().unwrap();
         let Completion { cqe, payload } = completion;
         self.history
             .push_reserved(Entry::Reap(ReapLine { queue, cqe }));

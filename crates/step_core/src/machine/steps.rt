@@ -1,13 +1,8 @@
-//! Steps: one, many, and the one that is ready.
+//! Steps: one and many.
 
-ghost use Rattle.std.specs.Prelude.{◌≡◌, IfErr, IfNone, OnErr, OnOk, Some};
+ghost use Rattle.std.specs.Prelude.{◌≡◌, IfErr, OnErr, OnOk};
 ghost use Rattle.nvme_model.specs.Legal.{IsLegal};
-ghost use Rattle.nvme_model.specs.Laws.{OwesToFull};
-ghost use Rattle.nvme_model.specs.Steps.{ready};
-ghost use Rattle.nvme_model.specs.Tickets.{in_flight};
-ghost use Rattle.std.specs.Prelude.{ℕ, true};
 ghost use Rattle.step_core.specs.OneAtATime.{IsOneAtATime};
-ghost use Rattle.step_core.specs.Ready.{next_step};
 ghost use Rattle.step_core.specs.Runs.{RunsOnto};
 ghost use Rattle.step_core.specs.State.{Serves};
 
@@ -59,38 +54,6 @@ impl Core {
             out.push_reserved(answer);
         }
         Ok(())
-    }
-
-    /// The Grant, Block or Post of the least ticket for which one of them is refused for no other cause than memory. Takes no memory.
-    pub fn ready(&self) -> Option<Step>
-        ensures value { result ≡ ready self.now.config self.now.past }
-        ensures stuck { IfNone result ((t : ℕ) → in_flight self.now.past t ≡ true → OwesToFull self.now.config self.now.past t) }
-    {
-        for place in 0..self.jobs.len() {
-            let Some((ticket, _)) = self.jobs.nth(place) else {
-                unreachable!();
-            };
-            if let Some(step) = self.next_step(ticket) {
-                return Some(step);
-            }
-        }
-        None
-    }
-
-    // The Grant, Block or Post of this ticket that is refused for no other cause than memory.
-    fn next_step(&self, ticket: u64) -> Option<Step>
-        ensures value { result ≡ next_step self.now.config self.now.past ticket }
-    {
-        if self.grant_line(ticket).is_ok() {
-            return Some(Step::Grant(ticket));
-        }
-        if self.block_refusal(ticket).is_none() {
-            return Some(Step::Block(ticket));
-        }
-        if self.post_due(ticket).is_ok() {
-            return Some(Step::Post(ticket));
-        }
-        None
     }
 
     fn serve(&mut self, step: Step) -> Result<Answer, Refused>

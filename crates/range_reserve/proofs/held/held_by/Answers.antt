@@ -1,5 +1,3 @@
-use Rattle.std.proofs.Common.{arith, length, ◌==◌, ◌<◌, ◌≤◌, ◌≡◌, true, false}
-use Rattle.std.proofs.lemmas.Bool.Decides.{nat_tests}
 use Rattle.range_reserve.proofs.Orders.{found_at, none_past, other_at}
 use Rattle.range_reserve.proofs.held.held_by.Goals as goal
 use Rattle.range_reserve.proofs.held.held_by.Goals.{else-place-held-via-else-place-held, else-place-held-via-then-place-held+else-held-place}

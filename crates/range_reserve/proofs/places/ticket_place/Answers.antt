@@ -1,4 +1,4 @@
-use Rattle.std.proofs.Common.{arith, nat_lt, rules, sym}
+use Rattle.std.proofs.Common.{nat_lt, rules}
 use Rattle.std.proofs.lemmas.List.Sorted.{IsPartitionPoint-from_clause, IsPartitionedBy-ltb}
 use Rattle.range_reserve.specs.declared.held.Held.{Held}
 use Rattle.range_reserve.proofs.Orders.{place_from_point, rising_far}

@@ -1,4 +1,4 @@
-use Rattle.std.proofs.Common.{ap, arith, drop, length, rules, subst, sym, ◌-◌, ◌∙◌, ◌≡◌}
+use Rattle.std.proofs.Common.{ap, arith, drop, length, rules, subst, ◌-◌, ◌∙◌, ◌≡◌}
 use Rattle.std.proofs.lemmas.List.{length-drop, take_all}
 use Rattle.range_reserve.specs.Reserved.{AreApart, Reserved, has_conflict}
 use Rattle.range_reserve.specs.Sorted.{has_conflict_before_end, held_key, place_by, start_key}

@@ -1,8 +1,8 @@
-use Rattle.std.proofs.Common.{ap, arith, max, min, rules, subst, sym, vec_capacity, vec_len, ◌-◌, ◌<◌, ◌∙◌, ◌≡◌, ◌≤◌, false}
+use Rattle.std.proofs.Common.{ap, arith, min, rules, subst, sym, vec_capacity, vec_len, ◌-◌, ◌∙◌, ◌≡◌, ◌≤◌, false}
 use Rattle.std.proofs.lemmas.Bool.{cond-true}
 use Rattle.std.specs.List.{insert}
-use Rattle.range_reserve.specs.Reserved.{AreApart, Reserved, has_conflict, has_ticket, insert_held}
-use Rattle.range_reserve.specs.Sorted.{AreByStart, IsRisingBy, held_key, place_by}
+use Rattle.range_reserve.specs.Reserved.{Reserved, has_conflict, has_ticket, insert_held}
+use Rattle.range_reserve.specs.Sorted.{IsRisingBy, held_key, place_by}
 use Rattle.range_reserve.specs.declared.held.Held.{Held}
 use Rattle.range_reserve.proofs.BothOrders.{AreBoth, both_put, ticket_put, tickets_apart, tickets_rise}
 use Rattle.range_reserve.proofs.ranges.Ranges.put.Goals as goal

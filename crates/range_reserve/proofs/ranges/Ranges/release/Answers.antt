@@ -1,7 +1,7 @@
-use Rattle.std.proofs.Common.{ap, arith, false, length, subst, sym, ◌<◌, ◌==◌, ◌∙◌, ◌≡◌, List, None, Option, Some, ℕ}
-use Rattle.std.specs.List.{find, remove}
-use Rattle.range_reserve.specs.Reserved.{AreApart, Reserved, by_ticket, has_ticket, held_beside}
-use Rattle.range_reserve.specs.Sorted.{AreByStart, IsRisingBy, held_key, place_by, start_key}
+use Rattle.std.proofs.Common.{ap, arith, length, subst, sym, ◌==◌, ◌∙◌, ◌≡◌, List, Option, Some, ℕ}
+use Rattle.std.specs.List.{find}
+use Rattle.range_reserve.specs.Reserved.{AreApart, Reserved, has_ticket, held_beside}
+use Rattle.range_reserve.specs.Sorted.{IsRisingBy, held_key, place_by, start_key}
 use Rattle.range_reserve.specs.declared.held.Held.{Held}
 use Rattle.range_reserve.proofs.BothOrders.{AreBoth, both_out, start_out, ticket_out, tickets_apart, tickets_rise}
 use Rattle.range_reserve.proofs.Kept.{beside_all, beside_none}

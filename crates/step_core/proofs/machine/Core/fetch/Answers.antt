@@ -1,6 +1,12 @@
-use Rattle.std.proofs.Common.{arith, subst, sym}
+use Rattle.std.proofs.Common.{◌≡◌, ap, arith, subst, sym, ◌+◌}
+use Rattle.block_array.specs.Blocks.{contents_of}
+use Rattle.fused_match.specs.Judged.{verdict_by}
+use Rattle.nvme_model.specs.Tickets.{fetched_ticket}
+use Rattle.job_table.specs.Keeping.{Keeping}
+use Rattle.step_core.specs.Fields.{write_blocks}
 use Rattle.step_core.specs.State.{State}
-use Rattle.step_core.proofs.Fetched.{IsFetched, ticket_fits, can_take, both_taken, cids_are, is_above, sound_is, not_full, work_fits, fetch_kept, fetch_done}
+use Rattle.step_core.proofs.Filing.{above_filed, filed_more}
+use Rattle.step_core.proofs.Fetched.{IsFetched, ticket_fits, can_take, cids_are, is_above, sound_is, not_full, work_fits, fetch_kept, fetch_done}
 use Rattle.step_core.proofs.machine.Core.fetch.Goals as goal
 
 pub overflow_add-ticket : goal.overflow_add-ticket
@@ -17,7 +23,6 @@ pub new_job-job-requires : goal.new_job-job-requires
 new_job-job-requires c =
     let a = subst (λ (x : State). IsFetched x.config x.past c.args.queue c.in_ok-judged.judged) (sym c.self.view_is) c.in_ok-judged.ensures.value in
     record {
-      both = both_taken _ _ _ _ _ _ _ _ c.self.invariant.0 _ _ a _ _ _ _ c.index_mut-ring.ensures.value c.taken.ensures.value c.take_commands-first.ensures.taken;
       cids = cids_are _ _ _ _ _ _ _ _ c.self.invariant.0 _ _ a _ _ _ _ c.index_mut-ring.ensures.value c.taken.ensures.value c.take_commands-first.ensures.taken;
       sound = sound_is _ _ _ _ _ _ _ _ c.self.invariant.0 _ _ a;
     }
@@ -26,6 +31,11 @@ pub insert-requires : goal.insert-requires
 insert-requires c =
     let a = subst (λ (x : State). IsFetched x.config x.past c.args.queue c.in_ok-judged.judged) (sym c.self.view_is) c.in_ok-judged.ensures.value in
     record { above = is_above _ _ _ _ _ _ _ _ c.self.invariant.0 _ _ a }
+
+pub insert-requires-2-clause-above : goal.insert-requires-2-clause-above
+insert-requires-2-clause-above c =
+    let a = subst (λ (x : State). IsFetched x.config x.past c.args.queue c.in_ok-judged.judged) (sym c.self.view_is) c.in_ok-judged.ensures.value in
+    above_filed _ _ c.args.queue (c.self.inside.tickets + 1) c.self.invariant.4 (is_above _ _ _ _ _ _ _ _ c.self.invariant.0 _ _ a)
 
 pub unreachable-requires : goal.unreachable-requires
 unreachable-requires c =
@@ -39,12 +49,15 @@ new-requires c =
 
 pub invariant_of-self-2 : goal.invariant_of-self-2
 invariant_of-self-2 c =
-    let a = subst (λ (x : State). IsFetched x.config x.past c.args.queue c.in_ok-judged.judged) (sym c.self.view_is) c.in_ok-judged.ensures.value in (
-      fetch_kept _ _ _ _ _ _ _ _ c.self.invariant.0 _ _ a _ _ _ _ _ _ _ _ _ _ _ c.index_mut-ring.ensures.value c.taken.ensures.value c.take_commands-first.ensures.taken c.take_commands-first.ensures.rest
-          c.in-Ok.ensures.value c.new_job-job.ensures.value c.in-Ok-insert.ensures.ok c.verdict.ensures.value c.keep_room.ensures.past c.push_reserved.ensures.past,
+    let a = subst (λ (x : State). IsFetched x.config x.past c.args.queue c.in_ok-judged.judged) (sym c.self.view_is) c.in_ok-judged.ensures.value in
+    let wrote = subst (λ (x : State). contents_of c.in-Ok.room.write.items ≡ write_blocks (fetched_ticket x.past c.args.queue (verdict_by c.in_ok-judged.judged))) (sym c.self.view_is) c.in-Ok.ensures.write in (
+      fetch_kept _ _ _ _ _ _ _ _ c.self.invariant.0 _ _ a _ _ _ _ _ _ _ _ _ _ _ _ c.index_mut-ring.ensures.value c.taken.ensures.value c.take_commands-first.ensures.taken c.take_commands-first.ensures.rest
+          wrote c.in-Ok.ensures.read c.new_job-job.ensures.value c.in-Ok-insert.ensures.ok c.verdict.ensures.value c.keep_room.ensures.past c.push_reserved.ensures.past,
       omega (arith, c.in_ok-keep_room.ensures.ok, c.push_reserved.ensures.room),
       c.self.invariant.2,
       c.self.invariant.3,
+      filed_more _ _ _ _ c.args.queue (c.self.inside.tickets + 1) c.new_job-job.result c.self.invariant.4 (ap (λ (j : Keeping). j.queue) c.new_job-job.ensures.value) c.insert-2.ensures.each c.insert-2.ensures.more
+          c.insert-2.ensures.limit c.in-Ok-insert.ensures.ok,
     )
 
 pub returns : goal.returns

@@ -1,25 +1,25 @@
-use Rattle.std.proofs.Common.{◌≡◌, ap, ap₂, arith, sym, ◌∙◌}
+use Rattle.std.proofs.Common.{◌≡◌, ap, ap₂, arith, refl, sym, ◌∙◌}
 use Rattle.nvme_model.specs.declared.config.AtomicParameters.{AtomicParameters}
 use Rattle.ticket_course.specs.Stages.{Ticking, mode_in, next_in, unit_in}
 use Rattle.step_core.specs.State.{State}
 use Rattle.step_core.proofs.Granting.{in_conflict, line_is, next_short, nothing_next, seen}
 use Rattle.step_core.proofs.machine.Core.grant_line.Goals as goal
 
-pub returns-in_default-next_unit : goal.returns-in_default-next_unit
-returns-in_default-next_unit c =
+pub returns-in_default : goal.returns-in_default
+returns-in_default c =
     let same : c.units.result ≡ c.args.self.now.config.atomic = c.units.ensures ∙ ap (λ (x : State). x.config.atomic) c.self.view_is in
     record {
-      value = nothing_next _ _ _ _ _ _ _ _ (seen _ _ _ _ _ _ _ _ _ _ c.self.view_is c.self.invariant.0) c.args.ticket c.in-Some.job.now c.in-Some.ensures.value
-          (ap₂ (λ (u : AtomicParameters) (x : Ticking). next_in u x.stage) (sym same) (sym c.course-course.ensures.value) ∙ sym c.in_default-next_unit.ensures.value);
+      value = nothing_next _ _ _ _ _ _ _ _ (seen _ _ _ _ _ _ _ _ _ _ c.self.view_is c.self.invariant.0) c.args.ticket c.args.job.now c.requires.job
+          (ap₂ (λ (u : AtomicParameters) (x : Ticking). next_in u x.stage) (sym same) (sym c.course-course.ensures.value) ∙ sym c.in_default.ensures.value);
     }
 
 pub returns-then-conflicts : goal.returns-then-conflicts
 returns-then-conflicts c =
     let same : c.units.result ≡ c.args.self.now.config.atomic = c.units.ensures ∙ ap (λ (x : State). x.config.atomic) c.self.view_is in
     record {
-      value = in_conflict _ _ _ _ _ _ _ _ (seen _ _ _ _ _ _ _ _ _ _ c.self.view_is c.self.invariant.0) c.args.ticket c.in-Some.job.now c.in-Some.ensures.value
-          c.in-Some-next_unit.range
-          (c.in-Some-next_unit.ensures.value ∙ ap₂ (λ (u : AtomicParameters) (x : Ticking). next_in u x.stage) same c.course-course.ensures.value)
+      value = in_conflict _ _ _ _ _ _ _ _ (seen _ _ _ _ _ _ _ _ _ _ c.self.view_is c.self.invariant.0) c.args.ticket c.args.job.now c.requires.job
+          c.in-Some.range
+          (c.in-Some.ensures.value ∙ ap₂ (λ (u : AtomicParameters) (x : Ticking). next_in u x.stage) same c.course-course.ensures.value)
           c.mode-mode.result (c.mode-mode.ensures.value ∙ ap (λ (x : Ticking). mode_in x.stage) c.course-course.ensures.value) (sym c.if-conflicts.ensures.conflicts);
     }
 
@@ -28,18 +28,21 @@ overflow_cast-range c =
     let same : c.units.result ≡ c.args.self.now.config.atomic = c.units.ensures ∙ ap (λ (x : State). x.config.atomic) c.self.view_is in
     omega (
       arith,
-      next_short _ _ _ _ _ _ _ _ (seen _ _ _ _ _ _ _ _ _ _ c.self.view_is c.self.invariant.0) c.args.ticket c.in-Some.job.now c.in-Some.ensures.value
-          c.in-Some-next_unit.range
-          (c.in-Some-next_unit.ensures.value ∙ ap₂ (λ (u : AtomicParameters) (x : Ticking). next_in u x.stage) same c.course-course.ensures.value),
+      next_short _ _ _ _ _ _ _ _ (seen _ _ _ _ _ _ _ _ _ _ c.self.view_is c.self.invariant.0) c.args.ticket c.args.job.now c.requires.job
+          c.in-Some.range
+          (c.in-Some.ensures.value ∙ ap₂ (λ (u : AtomicParameters) (x : Ticking). next_in u x.stage) same c.course-course.ensures.value),
     )
 
 pub returns : goal.returns
 returns c =
     let same : c.units.result ≡ c.args.self.now.config.atomic = c.units.ensures ∙ ap (λ (x : State). x.config.atomic) c.self.view_is in
     rw c.new.ensures.value (record {
-      value = line_is _ _ _ _ _ _ _ _ (seen _ _ _ _ _ _ _ _ _ _ c.self.view_is c.self.invariant.0) c.args.ticket c.in-Some.job.now c.in-Some.ensures.value
-          c.in-Some-next_unit.range
-          (c.in-Some-next_unit.ensures.value ∙ ap₂ (λ (u : AtomicParameters) (x : Ticking). next_in u x.stage) same c.course-course.ensures.value)
-          c.mode-mode.result (c.mode-mode.ensures.value ∙ ap (λ (x : Ticking). mode_in x.stage) c.course-course.ensures.value)
-          c.unit.result (c.unit.ensures.value ∙ ap (λ (x : Ticking). unit_in x.stage) c.course-course.ensures.value) (sym c.if-conflicts.ensures.conflicts);
+      value = (
+        refl,
+        line_is _ _ _ _ _ _ _ _ (seen _ _ _ _ _ _ _ _ _ _ c.self.view_is c.self.invariant.0) c.args.ticket c.args.job.now c.requires.job
+            c.in-Some.range
+            (c.in-Some.ensures.value ∙ ap₂ (λ (u : AtomicParameters) (x : Ticking). next_in u x.stage) same c.course-course.ensures.value)
+            c.mode-mode.result (c.mode-mode.ensures.value ∙ ap (λ (x : Ticking). mode_in x.stage) c.course-course.ensures.value)
+            c.unit.result (c.unit.ensures.value ∙ ap (λ (x : Ticking). unit_in x.stage) c.course-course.ensures.value) (sym c.if-conflicts.ensures.conflicts),
+      );
     })

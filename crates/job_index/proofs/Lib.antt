@@ -1,0 +1,3 @@
+pub mod Rising
+mod Search
+mod QueueOrder

@@ -1,0 +1,129 @@
+//! The step that is ready.
+
+ghost use Rattle.std.specs.Prelude.{◌≡◌, IfNone, IfSome, MatchOption, option_map, slice_get, true, ℕ};
+ghost use Rattle.std.specs.Option.{option_and_then};
+ghost use Rattle.nvme_model.specs.Kept.{Kept};
+ghost use Rattle.nvme_model.specs.Legal.{IsLegal};
+ghost use Rattle.nvme_model.specs.Laws.{OwesToFull};
+ghost use Rattle.nvme_model.specs.Steps.{ready};
+ghost use Rattle.nvme_model.specs.Tickets.{in_flight};
+ghost use Rattle.ticket_standing.specs.Standing.{flying};
+ghost use Rattle.step_core.specs.Kept.{IsJob};
+ghost use Rattle.step_core.specs.OneAtATime.{IsOneAtATime};
+ghost use Rattle.step_core.specs.Ready.{IsNext, next_step, step_of};
+ghost use Rattle.step_core.specs.State.{Serves};
+
+use crate::answer::{Answer, Refused};
+use crate::machine::Core;
+use crate::machine::post::Due;
+use job_table::Job;
+use nvme_model::entry::GrantLine;
+use nvme_model::step::Step;
+
+// A step of a ticket that is ready, with what was found of it.
+#[derive(Clone, Copy)]
+pub(crate) enum Next {
+    Grant(GrantLine),
+    // The next block of this unit.
+    Block { ticket: u64, unit: u64 },
+    Post(Due),
+}
+
+impl Next {
+    // The step.
+    fn step(&self) -> Step
+        ensures value { result ≡ step_of self.now }
+    {
+        match self {
+            Next::Grant(line) => Step::Grant(line.ticket),
+            Next::Block { ticket, .. } => Step::Block(*ticket),
+            Next::Post(due) => Step::Post(due.ticket),
+        }
+    }
+}
+
+impl Core {
+    /// The Grant, Block or Post of the least ticket for which one of them is refused for no other cause than memory.
+    /// Takes no memory.
+    pub fn ready(&self) -> Option<Step>
+        ensures value { result ≡ ready self.now.config self.now.past }
+        ensures stuck { IfNone result ((t : ℕ) →
+            in_flight self.now.past t ≡ true → OwesToFull self.now.config self.now.past t) }
+    {
+        match self.next() {
+            Some(next) => Some(next.step()),
+            None => None,
+        }
+    }
+
+    /// Makes the step that is ready, where there is one, and tells it beside its answer.
+    ///
+    /// # Errors
+    ///
+    /// `NoMemory` alone, as from `step`.
+    pub fn step_ready(&mut self) -> Option<(Step, Result<Answer, Refused>)>
+        ensures step { option_map (λ r. r.0) result ≡ ready self.old.config self.old.past }
+        ensures serves { MatchOption result (self.new ≡ self.old) (λ r. Serves self.old r.0 r.1 self.new) }
+        ensures legal { IsLegal self.new.config self.new.past }
+        ensures array { IsOneAtATime self.new.config self.new.past }
+    {
+        let next = self.next()?;
+        let answer = self.make(next);
+        Some((next.step(), answer))
+    }
+
+    // What the least ticket that can go on does next.
+    fn next(&self) -> Option<Next>
+        ensures step { option_map step_of result ≡ ready self.now.config self.now.past }
+        ensures found { IfSome result (λ n. IsNext self.now.config self.now.past n) }
+        ensures kept { Kept self.now.config self.now.past }
+    {
+        for place in 0..self.jobs.len() {
+            if let Some(next) = self.next_at(place) {
+                return Some(next);
+            }
+        }
+        None
+    }
+
+    // What the ticket in flight with `place` lower ones in flight does next.
+    fn next_at(&self, place: usize) -> Option<Next>
+        ensures step { option_map step_of result
+            ≡ option_and_then (next_step self.now.config self.now.past) (slice_get (flying self.now.past) place) }
+        ensures found { IfSome result (λ n. IsNext self.now.config self.now.past n) }
+    {
+        let (ticket, job) = self.jobs.nth(place)?;
+        self.next_of(ticket, job)
+    }
+
+    // What this ticket does next.
+    fn next_of(&self, ticket: u64, job: &Job) -> Option<Next>
+        requires job { IsJob self.now.config self.now.past ticket job.now }
+        ensures step { option_map step_of result ≡ next_step self.now.config self.now.past ticket }
+        ensures found { IfSome result (λ n. IsNext self.now.config self.now.past n) }
+    {
+        if let Ok(line) = self.grant_line(ticket, job) {
+            return Some(Next::Grant(line));
+        }
+        if let Ok(unit) = self.open_unit(ticket, job) {
+            return Some(Next::Block { ticket, unit });
+        }
+        match self.post_due(ticket, job) {
+            Ok(due) => Some(Next::Post(due)),
+            Err(_) => None,
+        }
+    }
+
+    // Makes it.
+    fn make(&mut self, next: Next) -> Result<Answer, Refused>
+        requires next { IsNext self.old.config self.old.past next }
+        ensures serves { Serves self.old (step_of next) result self.new }
+    {
+        let done = match next {
+            Next::Grant(line) => self.make_grant(line),
+            Next::Block { ticket, unit } => self.make_block(ticket, unit),
+            Next::Post(due) => self.make_post(due),
+        };
+        done.map_err(Refused::Step)
+    }
+}
