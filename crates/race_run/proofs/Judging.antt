@@ -1,10 +1,22 @@
 -- No place of a legal history is bad.
-use Rattle.std.proofs.Common.{List, None, Some, sym, ℕ, ◌∙◌, ◌≡◌}
+use Rattle.std.proofs.Common.{Err, List, None, Option, Some, [], ◌++◌, ap, append-nil, reverse, subst, sym, ℕ, ◌∙◌, ◌≡◌}
+use Rattle.std.proofs.lemmas.List.{reverse-reverse}
+use Rattle.std.specs.Io.KnownBytes.{Appends}
 use Rattle.nvme_model.specs.FirstBad.{IsFirstBad}
 use Rattle.nvme_model.specs.Legal.{IsLegalFile}
 use Rattle.nvme_model.specs.declared.config.ConfigNumbers.{ConfigNumbers}
 use Rattle.nvme_model.specs.declared.entry.Entry.{Entry}
 use Rattle.nvme_model.proofs.FirstBad.{first_is_some, legal_is_none}
+use Rattle.race_run.specs.Races.{Races}
+use Rattle.race_run.specs.Texts.{history_text}
+use Rattle.race_run.specs.declared.fault.RaceFault.{RaceFault}
+use Rattle.race_run.specs.declared.fault.RaceFault.TheVariants.{NoMemory}
 
 pub none_bad : (c : ConfigNumbers) (entries : List Entry) (k : ℕ) → IsLegalFile c entries → IsFirstBad c entries k → ⊥
 none_bad c entries k h bad = let e : None ≡ Some k = sym (legal_is_none c entries h) ∙ first_is_some c entries k bad in absurd cc
+
+-- where the check had no memory, the whole text was written
+pub unjudged : (c : ConfigNumbers) (entries : List Entry) (f : RaceFault) (old new : Option (List ℕ)) → IsLegalFile c entries → Appends old new (history_text c entries) → f ≡ NoMemory → Races c (Err f) old new
+unjudged c entries f old new legal written is =
+    let same : history_text c (reverse (reverse entries)) ≡ history_text c entries ++ [] = ap (history_text c) (reverse-reverse entries) ∙ sym (append-nil (history_text c entries)) in
+    subst (λ (x : RaceFault). Races c (Err x) old new) (sym is) (reverse entries, legal, record { front = history_text c entries; rest = []; whole = same; written = written })

@@ -46,6 +46,23 @@ fn judge(alloc: Global, config: &Config, entries: &[Entry]) -> Result<(), RaceFa
     }
 }
 
+// Writes and checks a history.
+#[tactic(auto, using(crate::proofs::Judging::unjudged))]
+fn finish<W: Write>(
+    alloc: Global,
+    config: &Config,
+    entries: &[Entry],
+    writer: &mut W,
+) -> Result<(), RaceFault>
+    requires legal { IsLegalFile config.now entries.now }
+    ensures races { Races config.now result (W.contents writer.old) (W.contents writer.new) }
+{
+    have_lines(entries);
+    tell(alloc, config, entries, writer)?;
+    judge(alloc, config, entries)?;
+    Ok(())
+}
+
 /// Lets hosts race for slots on threads, and writes the configuration line and the controller's whole history; then
 /// checks the history.
 ///
@@ -64,8 +81,5 @@ pub fn run_race<R: Threads + Wait + Sync, W: Write>(
 {
     let core = raced(rt, alloc, race)?;
     let config = core.config();
-    let entries = core.history().as_slice();
-    have_lines(entries);
-    tell(alloc, &config, entries, writer)?;
-    judge(alloc, &config, entries)
+    finish(alloc, &config, core.history().as_slice(), writer)
 }
