@@ -152,11 +152,9 @@ impl Run {
     {
         let lba = self.range.slba + u64::from(self.made % self.range.blocks);
         let effect = self.is_effect(found);
-        *self = Run {
-            made: self.made + 1,
-            differed: found == Found::Differs,
-            ..*self
-        };
+        let Run { made, differed, .. } = self;
+        *made += 1;
+        *differed = found == Found::Differs;
         Done {
             lba,
             found,

@@ -20,7 +20,7 @@ use std::alloc::{AllocError as NoMemory, Global};
 pub fn copy_of(alloc: Global, bytes: &[u8]) -> Result<Payload, NoMemory>
     ensures same { IfOk result (λ payload. payload ≡ bytes.now) }
 {
-    Ok(Payload::new(bytes.to_vec(alloc)?))
+    Payload::copy_of(alloc, bytes)
 }
 
 /// Room for the entries of a call of this operation, none of which is there.

@@ -180,6 +180,21 @@ impl Jobs {
         let one = one(&self.jobs, self.index.key(place));
         Some((one.ticket, &one.job))
     }
+
+    /// The job of a ticket, where it is in flight; looked for first as the one with `place` lower ones, where it lies if all
+    /// tickets in flight are of one queue and it has as many lower ones there.
+    pub fn get_near(&self, place: usize, ticket: u64) -> Option<&Job>
+        ensures value { option_copied result ≡ job_of self.now.jobs ticket }
+        ensures any { is_some result ≡ has_ticket self.now.jobs ticket }
+        ensures law { IsRising self.now.jobs }
+    {
+        if let Some((found, job)) = self.nth(place) {
+            if found == ticket {
+                return Some(job);
+            }
+        }
+        self.get(ticket)
+    }
 }
 
 // What is at a key.

@@ -1,8 +1,9 @@
 //! Submission queue entries with the data beside them, as lists that contracts see.
 
 ghost use Rattle.std.specs.Borrow.{sem};
-ghost use Rattle.std.specs.Prelude.{◌≡◌, ◌<◌, length};
+ghost use Rattle.std.specs.Prelude.{◌≡◌, ◌<◌, IfOk, length};
 
+use std::alloc::{AllocError as NoMemory, Global};
 use std::marker::Model;
 
 /// A list of bytes of any length.
@@ -27,6 +28,19 @@ impl Payload {
         ensures { result ≡ bytes.items }
     {
         Payload { bytes }
+    }
+
+    /// The same bytes, in memory of their own.
+    ///
+    /// # Errors
+    ///
+    /// `NoMemory` alone.
+    pub fn copy_of(alloc: Global, bytes: &[u8]) -> Result<Payload, NoMemory>
+        ensures same { IfOk result (λ payload. payload ≡ bytes.now) }
+    {
+        let mut copy = Vec::with_capacity(alloc, bytes.len())?;
+        copy.extend_from_slice(bytes)?;
+        Ok(Payload { bytes: copy })
     }
 
     pub fn as_slice(&self) -> &[u8]
@@ -56,6 +70,24 @@ impl Payload {
 pub struct Submission {
     pub entry: [u8; 64],
     pub payload: Payload,
+}
+
+/// The same entries, each with its data in memory of its own.
+///
+/// # Errors
+///
+/// `NoMemory` alone.
+pub fn copies_of(alloc: Global, entries: &[Submission]) -> Result<Vec<Submission>, NoMemory>
+    ensures same { IfOk result (λ copies. copies.items ≡ entries.now) }
+{
+    let mut copies = Vec::with_capacity(alloc, entries.len())?;
+    for one in entries {
+        copies.push_reserved(Submission {
+            entry: one.entry,
+            payload: Payload::copy_of(alloc, one.payload.as_slice())?,
+        });
+    }
+    Ok(copies)
 }
 
 /// A list of entries in order, maybe none.

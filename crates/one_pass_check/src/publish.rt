@@ -11,22 +11,8 @@ use crate::fields::Fields;
 use crate::places::ring_place;
 use block_array::NoMemory;
 use nvme_model::entry::PublishLine;
-use nvme_model::submission::{Payload, Submission, Submissions};
+use nvme_model::submission::{Submissions, copies_of};
 use std::alloc::Global;
-
-// The same entries.
-fn copy_of(alloc: Global, entries: &[Submission]) -> Result<Vec<Submission>, NoMemory>
-    ensures same { IfOk result (λ copy. copy.items ≡ entries.now) }
-{
-    let mut copy = Vec::with_capacity(alloc, entries.len())?;
-    for one in entries {
-        copy.push_reserved(Submission {
-            entry: one.entry,
-            payload: Payload::new(one.payload.as_slice().to_vec(alloc)?),
-        });
-    }
-    Ok(copy)
-}
 
 /// Takes a Publish, and says whether it may follow.
 ///
@@ -44,7 +30,7 @@ pub fn take_publish(
     let Some(place) = ring_place(line.queue, fields.submission.len()) else {
         return Ok(false);
     };
-    let copy = copy_of(alloc, line.batch.as_slice())?;
+    let copy = copies_of(alloc, line.batch.as_slice())?;
     let Ok(()) = fields.submission[place].publish(Submissions::new(copy)) else {
         return Ok(false);
     };

@@ -72,7 +72,7 @@ fn cids_in_use(jobs: &Jobs, queues: &QueueIndex, queue: u16, in_use: &mut [u16; 
     let mut count = 0;
     let tickets = queues.on(queue);
     for place in 0..tickets.len() {
-        let Some(job) = jobs.get(tickets[place].ticket) else {
+        let Some(job) = jobs.get_near(place, tickets[place].ticket) else {
             unreachable!();
         };
         count = put_cids(job, queue, in_use, count);

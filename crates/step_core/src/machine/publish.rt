@@ -1,6 +1,6 @@
 //! Publish: entries go into a submission queue.
 
-ghost use Rattle.std.specs.Prelude.{◌≡◌, IfOk, length, ◌<◌};
+ghost use Rattle.std.specs.Prelude.{◌≡◌};
 ghost use Rattle.nvme_model.specs.Refusals.{refusal};
 ghost use Rattle.nvme_model.specs.declared.step.Step.{Step};
 ghost use Rattle.step_core.specs.State.{Serves};
@@ -10,22 +10,7 @@ use crate::machine::Core;
 use crate::machine::room::keep_room;
 use nvme_model::entry::{Entry, PublishLine};
 use nvme_model::refusal::Why;
-use nvme_model::submission::{Batch, Payload, Submission, Submissions};
-use std::alloc::{AllocError as NoMemory, Global};
-
-// The same entries, for the history.
-fn copy_of(alloc: Global, entries: &[Submission]) -> Result<Vec<Submission>, NoMemory>
-    ensures same { IfOk result (λ copy. copy.items ≡ entries.now) }
-{
-    let mut copy = Vec::with_capacity(alloc, entries.len())?;
-    for one in entries {
-        copy.push_reserved(Submission {
-            entry: one.entry,
-            payload: Payload::new(one.payload.as_slice().to_vec(alloc)?),
-        });
-    }
-    Ok(copy)
-}
+use nvme_model::submission::{Batch, Submissions, copies_of};
 
 impl Core {
     // Why a batch is refused, memory aside.
@@ -45,7 +30,7 @@ impl Core {
         if let Some(why) = self.publish_refusal(queue, &batch) {
             return Err(Refused::Publish(why, batch));
         }
-        let Ok(copy) = copy_of(self.alloc, batch.as_slice()) else {
+        let Ok(copy) = copies_of(self.alloc, batch.as_slice()) else {
             return Err(Refused::Publish(Why::NoMemory, batch));
         };
         let Ok(()) = keep_room(&mut self.history, self.promised) else {

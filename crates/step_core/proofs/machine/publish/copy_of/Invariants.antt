@@ -1,5 +1,0 @@
-use Rattle.std.proofs.Common.{length, take, vec_capacity, ◌≡◌, ◌≤◌}
-use Rattle.step_core.proofs.machine.publish.copy_of.Given as goal
-
-abbrev pub invariant-loop-one : goal.invariant-loop-one
-invariant-loop-one l = (l.copy.items ≡ take l.one-index l.entries) × (length l.entries ≤ vec_capacity l.copy)
