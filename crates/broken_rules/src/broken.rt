@@ -16,7 +16,7 @@ pub enum Broken {
     #[error("an earlier step is bad")]
     Earlier,
     /// Its step is refused.
-    #[error("refused {}: {}", .0.number(), why_words(*.0))]
+    #[error("refused {}: {}", .0.number(), *.0)]
     Refused(Why),
     /// It isn't the ticket behind the last.
     #[error("ticket {found}, where {last} tickets were fetched before")]
@@ -66,24 +66,6 @@ pub enum Broken {
     /// It isn't the oldest completion of the queue.
     #[error("another completion: {0}")]
     Reaped(Unlike),
-}
-
-// The name of a refusal.
-fn why_words(why: Why) -> &'static str {
-    match why {
-        Why::NoQueue => "no such queue",
-        Why::NoRoom => "no room in the submission queue",
-        Why::NoEntry => "no entry to fetch",
-        Why::JobsFull => "as many tickets in flight as may be",
-        Why::NoTicket => "no such ticket in flight",
-        Why::Conflict => "conflict with an open unit",
-        Why::WrongState => "not the ticket's turn",
-        Why::CqFull => "completion queue full",
-        Why::NoCompletion => "no completion to reap",
-        Why::BadBatch => "no entry to publish",
-        Why::NoMemory => "no memory",
-        Why::Busy => "busy",
-    }
 }
 
 fn mode_word(mode: Mode) -> &'static str {

@@ -4,6 +4,7 @@ use crate::request::{Asked, UsageFault};
 use crate::usage::asked;
 use casdisk_script::{Explained, RunFault, check_text, explain_text, run_script};
 use history::Kinds;
+use nvme_model::config::ConfigFault;
 use race_numbers::Race;
 use race_run::{RaceFault, run_race};
 use std::io::{BufWriter, Write};
@@ -136,7 +137,9 @@ fn explain_file<R: Files + Print + Eprint + AllocGlobal>(
         Err(RunFault::BadConfig(number)) => {
             let fault = RunFault::BadConfig(number);
             let _ = rt.eprintln(fault);
-            let _ = rt.eprintln(config_words(number));
+            if let Some(why) = ConfigFault::of_number(number) {
+                let _ = rt.eprintln(why);
+            }
             return Ok(fault.status());
         }
         Err(fault) => return Err(fault),
@@ -146,21 +149,4 @@ fn explain_file<R: Files + Print + Eprint + AllocGlobal>(
         return Err(RunFault::Output);
     }
     Ok(status)
-}
-
-// What the number of a configuration's fault means.
-fn config_words(number: u8) -> &'static str {
-    match number {
-        21 => "AWUN is above 255",
-        22 => "ACWU is above 255",
-        23 => "NABSN isn't 0, and AWUN or ACWU is above it",
-        24 => "NABO is above NABSN",
-        25 => "BLOCKS isn't 1 to 65536",
-        26 => "PAIRS isn't 1 to 16",
-        27 => "SQ isn't 2 to 1024",
-        28 => "CQ isn't 2 to 1024",
-        29 => "JOBS isn't 1 to 256",
-        30 => "CQS is 0 or above PAIRS",
-        _ => "it is refused",
-    }
 }

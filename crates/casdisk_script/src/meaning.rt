@@ -6,6 +6,7 @@ ghost use Rattle.nvme_model.specs.declared.config.ConfigNumbers.{ConfigNumbers};
 ghost use Rattle.casdisk_script.specs.Meaning.{Meaning, TakesLine, StopsInLine};
 
 use std::io::Write;
+use thiserror::Error;
 
 /// Whether a line was one.
 #[derive(Clone, Copy, Debug, PartialEq, Eq)]
@@ -17,11 +18,13 @@ pub enum Taken {
 }
 
 /// Why a line wasn't done to its end.
-#[derive(Clone, Copy, Debug, PartialEq, Eq)]
+#[derive(Clone, Copy, Debug, Drop, Error, PartialEq, Eq)]
 pub enum WriteFault {
     /// Writing failed.
+    #[error("output failed")]
     Output,
     /// A growth was refused.
+    #[error("no memory")]
     NoMemory,
 }
 

@@ -1,35 +1,47 @@
 //! Why a port, or a call, doesn't do what it is asked.
 
 use nvme_model::status::Status;
+use thiserror::Error;
 
 /// Why a port didn't publish or reap. Nothing was done.
-#[derive(Clone, Copy, Debug, PartialEq, Eq)]
+#[derive(Clone, Copy, Debug, Drop, Error, PartialEq, Eq)]
 pub enum PortFault {
     /// The submission queue has no room for the batch.
+    #[error("no room in the submission queue")]
     RingFull,
     /// Another caller had the controller.
+    #[error("busy")]
     Busy,
     /// A growth was refused.
+    #[error("no memory")]
     NoMemory,
 }
 
 /// Why a call isn't started, or wasn't served.
-#[derive(Clone, Copy, Debug, PartialEq, Eq)]
+#[derive(Clone, Copy, Debug, Drop, Error, PartialEq, Eq)]
 pub enum Fault {
     /// No block, data that isn't whole blocks, or two data of unlike lengths.
+    #[error("not whole blocks, or data of unlike lengths")]
     Length,
     /// More than 256 blocks, or in a Compare and Write more than `acwu` and one.
+    #[error("too many blocks")]
     TooLong,
     /// Too few CIDs are free, or no submission queue has room.
+    #[error("too few identifiers, or no room in a submission queue")]
     RingFull,
     /// A completion with this status: not success, and not a Compare that differs; of a pair the first that isn't success.
+    #[error("status {}/{:02X}", .0.sct(), .0.sc())]
     Status(Status),
     /// Another caller had the controller.
+    #[error("busy")]
     Busy,
     /// A growth was refused.
+    #[error("no memory")]
     NoMemory,
     /// A Write, a Write Zeroes or a Compare and Write that touches the slot area.
+    #[error("the slot area is written by claims and releases alone")]
     SlotArea,
     /// The driver has drawn the last serial.
+    #[error("no serial is left")]
     NoSerial,
 }

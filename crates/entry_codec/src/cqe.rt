@@ -7,6 +7,7 @@ ghost use Rattle.entry_codec.specs.Cqe.{FitsCqe, SetsReserved, completion_bytes,
 
 use crate::little::{put_u16, u16_at, u32_at};
 use nvme_model::status::Status;
+use thiserror::Error;
 
 /// A completion queue entry of 16 bytes, whose fields DW0, DW1, CRD, More and DNR are zero (Base 2.0, Completion Queue Entry).
 #[derive(Clone, Copy, Debug, PartialEq, Eq)]
@@ -23,9 +24,10 @@ pub struct Cqe {
 }
 
 /// Why 16 bytes are no completion queue entry.
-#[derive(Clone, Copy, Debug, PartialEq, Eq)]
+#[derive(Clone, Copy, Debug, Drop, Error, PartialEq, Eq)]
 pub enum CqeFault {
     /// One of DW0, DW1, CRD, More and DNR isn't zero.
+    #[error("DW0, DW1, CRD, More or DNR isn't zero")]
     ReservedNotZero,
 }
 

@@ -5,13 +5,16 @@ ghost use Rattle.history.specs.declared.line_fault.LineFault.TheVariants.{NoMemo
 ghost use Rattle.history.specs.Gives.{fault_number};
 
 use std::alloc::{AllocError, AllocFailed};
+use thiserror::Error;
 
 /// Why a line gave nothing.
-#[derive(Clone, Copy, Debug, PartialEq, Eq)]
+#[derive(Clone, Copy, Debug, Drop, Error, PartialEq, Eq)]
 pub enum LineFault {
     /// It is not the line of anything, fault 51.
+    #[error("not such a line")]
     Malformed,
     /// A growth was refused, fault 11.
+    #[error("no memory")]
     NoMemory,
 }
 

@@ -5,13 +5,16 @@ ghost use Rattle.history_check.specs.Checks.{Checks};
 use history::{Config, Entry};
 use one_pass_check::Checker;
 use std::alloc::{AllocError, Global};
+use thiserror::Error;
 
 /// Why a list of entries is not said to be legal.
-#[derive(Clone, Copy, Debug, PartialEq, Eq)]
+#[derive(Clone, Copy, Debug, Drop, Error, PartialEq, Eq)]
 pub enum CheckFault {
     /// The entries up to this place, from 1, are not legal, and fewer are.
+    #[error("bad at {0}")]
     BadAt(u64),
     /// A growth was refused; nothing is said of the entries.
+    #[error("no memory")]
     NoMemory,
 }
 

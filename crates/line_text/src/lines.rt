@@ -8,16 +8,19 @@ use memchr::memchr;
 use std::alloc::{AllocError, Global};
 use std::io::{ErrorKind, Read, Result as IoResult};
 use std::marker::Model;
+use thiserror::Error;
 
 // How many bytes one read asks for.
 const CHUNK: usize = 8192;
 
 /// Why no line was read.
-#[derive(Clone, Copy, Debug, PartialEq, Eq)]
+#[derive(Clone, Copy, Debug, Drop, Error, PartialEq, Eq)]
 pub enum ReadFault {
     /// A read failed, other than by an interruption, which is tried again.
+    #[error("input failed")]
     Input,
     /// The line could not grow.
+    #[error("no memory")]
     NoMemory,
 }
 

@@ -1,6 +1,8 @@
 //! The numbers of a configuration, and why one is refused.
 
-ghost use Rattle.std.specs.Prelude.{◌≡◌};
+ghost use Rattle.std.specs.Prelude.{◌≡◌, ◌<◌, ◌⊎◌, IfNone, IfSome};
+
+use thiserror::Error;
 
 /// How commands are cut into units (NVM Command Set 1.0, Atomic Operation).
 #[derive(Clone, Copy, Debug, PartialEq, Eq)]
@@ -34,27 +36,37 @@ pub struct ConfigNumbers {
 }
 
 /// Why a configuration is refused.
-#[derive(Clone, Copy, Debug, PartialEq, Eq)]
+#[derive(Clone, Copy, Debug, Drop, Error, PartialEq, Eq)]
 pub enum ConfigFault {
     /// AWUN is above 255.
+    #[error("AWUN is above 255")]
     AwunTooLarge,
     /// ACWU is above 255.
+    #[error("ACWU is above 255")]
     AcwuTooLarge,
     /// There are boundaries, and a unit may be longer than from one to the next.
+    #[error("NABSN isn't 0, and AWUN or ACWU is above it")]
     BoundaryBelowUnit,
     /// The first boundary lies above NABSN.
+    #[error("NABO is above NABSN")]
     OffsetPastBoundary,
     /// Not 1 to 65,536 blocks.
+    #[error("BLOCKS isn't 1 to 65536")]
     Blocks,
     /// Not 1 to 16 submission queues.
+    #[error("PAIRS isn't 1 to 16")]
     Pairs,
     /// Not 2 to 1,024 slots of a submission queue.
+    #[error("SQ isn't 2 to 1024")]
     SqSize,
     /// Not 2 to 1,024 slots of a completion queue.
+    #[error("CQ isn't 2 to 1024")]
     CqSize,
     /// Not 1 to 256 tickets in flight.
+    #[error("JOBS isn't 1 to 256")]
     Jobs,
     /// No completion queue, or more than submission queues.
+    #[error("CQS is 0 or above PAIRS")]
     CqCount,
 }
 
@@ -76,6 +88,26 @@ impl ConfigFault {
             ConfigFault::CqSize => 28,
             ConfigFault::Jobs => 29,
             ConfigFault::CqCount => 30,
+        }
+    }
+
+    /// The fault of this number, where one has it.
+    pub fn of_number(number: u8) -> Option<ConfigFault>
+        ensures value { IfSome result (λ fault. fault_number fault ≡ number) }
+        ensures none { IfNone result ((number < 21) ⊎ (30 < number)) }
+    {
+        match number {
+            21 => Some(ConfigFault::AwunTooLarge),
+            22 => Some(ConfigFault::AcwuTooLarge),
+            23 => Some(ConfigFault::BoundaryBelowUnit),
+            24 => Some(ConfigFault::OffsetPastBoundary),
+            25 => Some(ConfigFault::Blocks),
+            26 => Some(ConfigFault::Pairs),
+            27 => Some(ConfigFault::SqSize),
+            28 => Some(ConfigFault::CqSize),
+            29 => Some(ConfigFault::Jobs),
+            30 => Some(ConfigFault::CqCount),
+            _ => None,
         }
     }
 }

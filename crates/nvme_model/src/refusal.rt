@@ -2,32 +2,46 @@
 
 ghost use Rattle.std.specs.Prelude.{◌≡◌};
 
+use thiserror::Error;
+
 /// Why a step is refused.
-#[derive(Clone, Copy, Debug, PartialEq, Eq)]
+#[derive(Clone, Copy, Debug, Drop, Error, PartialEq, Eq)]
 pub enum Why {
     /// There is no such queue.
+    #[error("no such queue")]
     NoQueue,
     /// The batch doesn't fit into the submission queue.
+    #[error("no room in the submission queue")]
     NoRoom,
     /// All published entries of the queue are fetched.
+    #[error("no entry to fetch")]
     NoEntry,
     /// As many tickets are in flight as may be.
+    #[error("as many tickets in flight as may be")]
     JobsFull,
     /// The ticket isn't in flight.
+    #[error("no such ticket in flight")]
     NoTicket,
     /// The ticket's next unit conflicts with an open unit.
+    #[error("conflict with an open unit")]
     Conflict,
     /// The ticket isn't where such a step follows.
+    #[error("not the ticket's turn")]
     WrongState,
     /// The completion queue is full.
+    #[error("completion queue full")]
     CqFull,
     /// All posted completions of the queue are reaped.
+    #[error("no completion to reap")]
     NoCompletion,
     /// The batch has no entry.
+    #[error("no entry to publish")]
     BadBatch,
     /// A growth was refused.
+    #[error("no memory")]
     NoMemory,
     /// Another caller held the lock.
+    #[error("busy")]
     Busy,
 }
 

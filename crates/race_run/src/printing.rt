@@ -11,13 +11,16 @@ use history::{Config, Entry, write_config_line, write_line};
 use line_text::send_line;
 use std::alloc::Global;
 use std::io::Write;
+use thiserror::Error;
 
 /// Why a history wasn't printed whole.
-#[derive(Clone, Copy, Debug, PartialEq, Eq)]
+#[derive(Clone, Copy, Debug, Drop, Error, PartialEq, Eq)]
 pub enum PrintFault {
     /// Writing failed.
+    #[error("output failed")]
     Output,
     /// A growth was refused.
+    #[error("no memory")]
     NoMemory,
 }
 
