@@ -17,11 +17,10 @@ use crate::driver::Driver;
 use crate::fault::Fault;
 use crate::port::Port;
 use crate::start::free_cids;
+use block_array::BLOCK;
 use driver_commands::{CallData, Request, copy_of, room_for};
 use nvme_model::array::Range;
 use nvme_model::operation::Op;
-
-const BLOCK: usize = 512;
 
 // The most blocks of a call.
 const MOST: usize = 256;
