@@ -1,6 +1,6 @@
 //! Four threads, each on a queue of its own.
 
-ghost use Rattle.std.specs.Prelude.{All, IfOk, IfSome};
+ghost use Rattle.std.specs.Prelude.{All, IfOk};
 ghost use Rattle.meet_lock.specs.Passes.{IsOf};
 
 use crate::accounts::{Account, Stop, TRIES, write};
@@ -111,13 +111,30 @@ fn shared_of_four(alloc: Global) -> Result<(Shared<Core>, Vec<Pass<Core>>), Fail
     }
 }
 
-/// The next of the passes.
-fn next(_shared: &Shared<Core>, passes: &mut Vec<Pass<Core>>) -> Option<Pass<Core>>
+/// The last of the passes.
+fn one_pass(_shared: &Shared<Core>, passes: &mut Vec<Pass<Core>>) -> Result<Pass<Core>, Fail>
     requires { All (IsOf _shared.now) passes.old.items }
     ensures rest { All (IsOf _shared.now) passes.new.items }
-    ensures pass { IfSome result (IsOf _shared.now) }
+    ensures pass { IfOk result (IsOf _shared.now) }
 {
-    passes.pop()
+    match passes.pop() {
+        Some(pass) => Ok(pass),
+        None => Err(Fail::from("five passes")),
+    }
+}
+
+/// The last two.
+fn two_passes(
+    shared: &Shared<Core>,
+    passes: &mut Vec<Pass<Core>>,
+) -> Result<(Pass<Core>, Pass<Core>), Fail>
+    requires { All (IsOf shared.now) passes.old.items }
+    ensures rest { All (IsOf shared.now) passes.new.items }
+    ensures pair { IfOk result (λ pair. IsOf shared.now pair.0 × IsOf shared.now pair.1) }
+{
+    let one = one_pass(shared, passes)?;
+    let two = one_pass(shared, passes)?;
+    Ok((one, two))
 }
 
 /// The queue of an entry, where the ticket n was fetched from the n-th of these queues. Each completion queue has the
@@ -199,26 +216,46 @@ fn check_refuses<R: Abort>(
     Ok(())
 }
 
-// The history has each thread's entries as that thread made them, and is legal.
+/// What two threads made.
+fn both(made: (Made, Made)) -> Result<(Vec<Entry>, Vec<Entry>), Fail> {
+    let (one, two) = made;
+    Ok((one?, two?))
+}
+
+/// A controller after the Writes of four threads, and what these made.
+fn written<R: Threads + Sync>(
+    rt: &R,
+    alloc: Global,
+) -> Result<(Core, (Made, Made), (Made, Made)), Fail> {
+    let (shared, mut passes) = shared_of_four(alloc)?;
+    let low = two_passes(&shared, &mut passes)?;
+    let high = two_passes(&shared, &mut passes)?;
+    let last = one_pass(&shared, &mut passes)?;
+    let (low, high) = four_threads(rt, alloc, &shared, low, high);
+    match shared.close(last) {
+        Some(core) => Ok((core, low, high)),
+        None => Err(Fail::from("the lock isn't free")),
+    }
+}
+
+/// That the history has each thread's entries as that thread made them, and is legal.
+fn check_core<R: Abort>(
+    rt: &R,
+    alloc: Global,
+    core: &Core,
+    low: (Vec<Entry>, Vec<Entry>),
+    high: (Vec<Entry>, Vec<Entry>),
+) -> Result<(), Fail> {
+    let history = core.history().as_slice();
+    check_history(rt, alloc, history, &low, &high)?;
+    check_refuses(rt, alloc, history, low.0)?;
+    assert!(rt; check(alloc, &core.config(), history).is_ok());
+    Ok(())
+}
+
 #[test]
 fn four_threads_write_on_queues_of_their_own(rt: HostRuntime) -> Result<(), Fail> {
     let alloc = rt.alloc();
-    let (shared, mut passes) = shared_of_four(alloc)?;
-    let (Some(one), Some(two), Some(three), Some(four), Some(last)) = (
-        next(&shared, &mut passes),
-        next(&shared, &mut passes),
-        next(&shared, &mut passes),
-        next(&shared, &mut passes),
-        next(&shared, &mut passes),
-    ) else {
-        return Err(Fail::from("five passes"));
-    };
-    let (low, high) = four_threads(&rt, alloc, &shared, (one, two), (three, four));
-    let core = shared.close(last).ok_or("the lock isn't free")?;
-    let history = core.history().as_slice();
-    let (low, high) = ((low.0?, low.1?), (high.0?, high.1?));
-    check_history(&rt, alloc, history, &low, &high)?;
-    check_refuses(&rt, alloc, history, low.0)?;
-    assert!(rt; check(alloc, &core.config(), history).is_ok());
-    Ok(())
+    let (core, low, high) = written(&rt, alloc)?;
+    check_core(&rt, alloc, &core, both(low)?, both(high)?)
 }
