@@ -1,6 +1,7 @@
 //! What holds of the units of a range, each as the contract of a function that does nothing.
 
-ghost use Rattle.std.specs.Prelude.{◌≡◌, ◌+◌, ◌-◌, ◌≤◌, ◌↔◌, IsTrue, List, [], ◌∷◌, count_by, if◌then◌else◌, length, min, sum_by, true, ℕ};
+ghost use Rattle.std.specs.Prelude.{◌≡◌, ◌+◌, ◌-◌, ◌≤◌, ◌↔◌, IsTrue, List, [], ◌∷◌, count_by, if◌then◌else◌, length};
+ghost use Rattle.std.specs.Prelude.{min, sum_by, true, ℕ};
 ghost use Rattle.nvme_model.specs.Array.{has_block};
 ghost use Rattle.nvme_model.specs.Cells.{cell, in_one_cell, is_atomic};
 ghost use Rattle.nvme_model.specs.Cut.{IsCut, cut, longest};
@@ -17,7 +18,8 @@ pub fn the_cut_is_one_list()
 
 /// A range is one unit exactly where it is atomic.
 pub fn an_atomic_range_is_one_unit()
-    ensures whole { (u : AtomicParameters) (s n : ℕ) → is_atomic u s n ≡ true → cut u s n ≡ record { slba = s; blocks = n } ∷ [] }
+    ensures whole { (u : AtomicParameters) (s n : ℕ) →
+        is_atomic u s n ≡ true → cut u s n ≡ record { slba = s; blocks = n } ∷ [] }
     ensures only { (u : AtomicParameters) (s n : ℕ) → length (cut u s n) ≡ 1 → is_atomic u s n ≡ true }
 {}
 
@@ -37,5 +39,6 @@ pub fn a_unit_ends_at_the_next_boundary()
 
 /// Blocks are in one cell exactly where the last is in the cell of the first.
 pub fn the_ends_decide_a_crossing()
-    ensures ends { (u : AtomicParameters) (s n : ℕ) → 1 ≤ n → IsTrue (in_one_cell u s n) ↔ (cell u (s + n - 1) ≡ cell u s) }
+    ensures ends { (u : AtomicParameters) (s n : ℕ) →
+        1 ≤ n → IsTrue (in_one_cell u s n) ↔ (cell u (s + n - 1) ≡ cell u s) }
 {}

@@ -134,6 +134,3 @@ impl Units {
         blocks <= u32::from(self.parameters.acwu) + 1 && in_one_cell(&self.parameters, slba, blocks)
     }
 }
-
-#[cfg(test)]
-mod tests;

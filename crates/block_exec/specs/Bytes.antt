@@ -1,5 +1,6 @@
 -- The bytes that a unit compares, writes and reads, and what its Block steps make of the volume.
-use Rattle.std.specs.Prelude.{Bool, List, [], bytes_eq, drop, false, get_or, if◌then◌else◌, nat_le, slice_set, suc, take, true, zero, ℕ, ◌*◌, ◌++◌, ◌+◌, ◌∷◌}
+use Rattle.std.specs.Prelude.{Bool, List, [], bytes_eq, drop, false, get_or, if◌then◌else◌, nat_le, slice_set, suc}
+use Rattle.std.specs.Prelude.{take, true, zero, ℕ, ◌*◌, ◌++◌, ◌+◌, ◌∷◌}
 use Rattle.nvme_model.specs.Array.{zeros}
 use Rattle.nvme_model.specs.Open.{is_read_found, is_written}
 use Rattle.nvme_model.specs.declared.operation.Found.{Found}
@@ -34,7 +35,8 @@ written_by _ block = block
 
 -- the volume after a Block step of this unit that found this, where this was the data of its block
 abbrev pub volume_with : Progress → List (List ℕ) → List ℕ → Found → List (List ℕ)
-volume_with p volume block found = if is_written found then slice_set volume (next_block p) (written_by p.op block) else volume
+volume_with p volume block found =
+    if is_written found then slice_set volume (next_block p) (written_by p.op block) else volume
 
 -- and where these were the data of the unit's blocks
 abbrev pub volume_after : Progress → List (List ℕ) → List (List ℕ) → Found → List (List ℕ)
@@ -47,7 +49,8 @@ takes_box _ found = is_written found
 
 -- what boxes hold after such a step, where the i-th was that of its block: it then holds what the volume held there
 abbrev pub boxes_after : Progress → List (List ℕ) → List (List ℕ) → ℕ → Found → List (List ℕ)
-boxes_after p volume boxes i found = if takes_box p.op found then slice_set boxes i (block_at volume (next_block p)) else boxes
+boxes_after p volume boxes i found =
+    if takes_box p.op found then slice_set boxes i (block_at volume (next_block p)) else boxes
 
 -- the j-th Block step of a unit of n blocks, j from 0, writes from a box
 abbrev pub needs_box_by : Op → ℕ → ℕ → Bool
@@ -61,7 +64,8 @@ needs_box p = needs_box_by p.op p.range.blocks p.made
 
 -- what was read of the unit after such a step
 abbrev pub read_after : Progress → List (List ℕ) → List ℕ → Found → List ℕ
-read_after p volume read found = if is_read_found found then put_at read (next_place p) (block_at volume (next_block p)) else read
+read_after p volume read found =
+    if is_read_found found then put_at read (next_place p) (block_at volume (next_block p)) else read
 
 -- how many bytes a unit of n blocks compares with
 abbrev pub compare_length : Op → ℕ → ℕ

@@ -4,7 +4,8 @@ ghost use Rattle.std.specs.Prelude.{◌≡◌, ◌≤◌, ◌<◌, ◌+◌, Some
 ghost use Rattle.nvme_model.specs.Open.{is_differs};
 ghost use Rattle.nvme_model.specs.Steps.{marked};
 ghost use Rattle.block_array.specs.Blocks.{contents_of};
-ghost use Rattle.block_exec.specs.Bytes.{block_at, boxes_after, compare_length, needs_box, next_equal, read_after, read_length, volume_after, volume_with, write_count};
+ghost use Rattle.block_exec.specs.Bytes.{block_at, boxes_after, compare_length, needs_box, next_equal, read_after};
+ghost use Rattle.block_exec.specs.Bytes.{read_length, volume_after, volume_with, write_count};
 ghost use Rattle.block_exec.specs.Progress.{IsRange, has_ended, needed, next_block, next_found, next_place};
 
 use crate::blocks::{block_of, clear_block, compared, hand_over, put_block};
@@ -165,9 +166,10 @@ impl Run {
 
     /// Makes the Block step that is due, on one block of the volume.
     ///
-    /// `compare` and `read` are the unit's bytes, 512 a block, and `write` its blocks, one a box, where its operation uses
-    /// them, and else empty: a Compare and a pair compare with `compare`, a Write and a pair write the blocks of `write`, a
-    /// Read puts what it reads into `read`. A block that is written changes hands: its box then holds what the volume held.
+    /// `compare` and `read` are the unit's bytes, 512 a block, and `write` its blocks, one a box, where its operation
+    /// uses them, and else empty: a Compare and a pair compare with `compare`, a Write and a pair write the blocks of
+    /// `write`, a Read puts what it reads into `read`. A block that is written changes hands: its box then holds what
+    /// the volume held.
     pub fn next(
         &mut self,
         volume: &mut Volume,
@@ -190,7 +192,8 @@ impl Run {
         ensures done { result ≡ next_done self.old (next_equal self.old volume.old compare.now) }
         ensures stepped { self.new ≡ stepped self.old (next_equal self.old volume.old compare.now) }
         ensures volume { volume.new ≡ volume_after self.old volume.old (contents_of write.old) result.found }
-        ensures write { contents_of write.new ≡ boxes_after self.old volume.old (contents_of write.old) (next_place self.old) result.found }
+        ensures write { contents_of write.new ≡
+            boxes_after self.old volume.old (contents_of write.old) (next_place self.old) result.found }
         ensures read { read.new ≡ read_after self.old volume.old read.old result.found }
     {
         let place = self.made % self.range.blocks;
@@ -214,8 +217,10 @@ impl Run {
         ensures found { result.found ≡ next_found self.old (next_equal self.old volume.old compare.now) }
         ensures done { result ≡ next_done self.old (next_equal self.old volume.old compare.now) }
         ensures stepped { self.new ≡ stepped self.old (next_equal self.old volume.old compare.now) }
-        ensures volume { volume.new ≡ volume_with self.old volume.old (block_at (contents_of boxes.old) at) result.found }
-        ensures boxes { contents_of boxes.new ≡ boxes_after self.old volume.old (contents_of boxes.old) at result.found }
+        ensures volume { volume.new ≡
+            volume_with self.old volume.old (block_at (contents_of boxes.old) at) result.found }
+        ensures boxes { contents_of boxes.new ≡
+            boxes_after self.old volume.old (contents_of boxes.old) at result.found }
         ensures read { read.new ≡ read_after self.old volume.old read.old result.found }
     {
         let found = self.touch(volume, compare, boxes, at, read);

@@ -1,6 +1,7 @@
 -- The first rule that an entry breaks behind a history.
 use Rattle.std.specs.List.{find}
-use Rattle.std.specs.Prelude.{None, Option, Some, if◌then◌else◌, is_some, length, option_map, slice_get, ◌%◌, ◌+◌, ◌==◌, ◌∷◌}
+use Rattle.std.specs.Prelude.{None, Option, Some, if◌then◌else◌, is_some, length, option_map, slice_get, ◌%◌, ◌+◌, ◌==◌}
+use Rattle.std.specs.Prelude.{◌∷◌}
 use Rattle.nvme_model.specs.Answered.{right_answers}
 use Rattle.nvme_model.specs.Completions.{completion, posted, reaped}
 use Rattle.nvme_model.specs.History.{Past, step_of}
@@ -52,16 +53,20 @@ post_wrong c past p (Some s) = post_broken p (completion c past p.ticket s) (com
 abbrev pub wrong : ConfigNumbers → Past → Entry → Option Broken
 wrong c past (Entry.Publish p) = None
 wrong c past (Entry.Fetch f) = fetch_broken f (tickets past) (next_verdict c past f.queue)
-wrong c past (Entry.Grant g) = grant_broken g (grants_of past g.ticket) (next_unit c past g.ticket) (mode (ticket past g.ticket))
+wrong c past (Entry.Grant g) =
+    grant_broken g (grants_of past g.ticket) (next_unit c past g.ticket) (mode (ticket past g.ticket))
 wrong c past (Entry.Block b) = block_wrong past b (find (λ g. g.ticket == b.ticket) (open_units past))
 wrong c past (Entry.Post p) = post_wrong c past p (slice_get (owed c past p.ticket) (posts_of past p.ticket))
-wrong c past (Entry.Reap r) = reap_broken r (option_map (λ (p : PostLine). p.cqe) (slice_get (posted c past r.queue) (reaped past r.queue)))
+wrong c past (Entry.Reap r) =
+    reap_broken r (option_map (λ (p : PostLine). p.cqe) (slice_get (posted c past r.queue) (reaped past r.queue)))
 
 -- its refusal, or what else is wrong
 abbrev pub refused_or : Option Why → Option Broken → Option Broken
 refused_or None more = more
 refused_or (Some why) more = Some (Broken.Refused why)
 
--- The first rule that an entry breaks: those before it are legal, its step isn't refused, and it says what its step does.
+-- The first rule that an entry breaks: those before it are legal, its step isn't refused, and it says what its step
+-- does.
 abbrev pub first_broken : ConfigNumbers → Past → Entry → Option Broken
-first_broken c past e = if legal c past then refused_or (refusal c past (step_of e)) (wrong c past e) else Some Broken.Earlier
+first_broken c past e =
+    if legal c past then refused_or (refusal c past (step_of e)) (wrong c past e) else Some Broken.Earlier

@@ -1,6 +1,7 @@
 -- What is wrong with an entry, by what is due: the first row that holds.
 use Rattle.std.specs.Bool.{beq}
-use Rattle.std.specs.Prelude.{Bool, List, None, Option, Some, [], bytes_eq, false, get_or, if◌then◌else◌, length, nat_lt, not, option_map, ℕ, ◌&&◌, ◌+◌, ◌==◌, ◌||◌, ◌∷◌}
+use Rattle.std.specs.Prelude.{Bool, List, None, Option, Some, [], bytes_eq, false, get_or, if◌then◌else◌, length}
+use Rattle.std.specs.Prelude.{nat_lt, not, option_map, ℕ, ◌&&◌, ◌+◌, ◌==◌, ◌||◌, ◌∷◌}
 use Rattle.nvme_model.specs.Open.{is_differs, is_equal, is_read_found, is_written}
 use Rattle.nvme_model.specs.Operations.{is_exclusive}
 use Rattle.nvme_model.specs.Tables.{first_row}
@@ -71,7 +72,8 @@ abbrev pub data_broken : List ℕ → List ℕ → Option Broken
 data_broken found due =
     let place = first_apart found due in
     if bytes_eq found due then None
-    else (if length found == length due then Some (Broken.Data place (get_or found place 0) (get_or due place 0)) else Some (Broken.Length (length found) (length due)))
+    else (if length found == length due then Some (Broken.Data place (get_or found place 0) (get_or due place 0))
+    else Some (Broken.Length (length found) (length due)))
 
 -- a fault of the completion, or of the data
 abbrev pub completion_or : Option Unlike → Option Broken → Option Broken

@@ -1,5 +1,6 @@
 -- How the bytes of a completion differ from those that are due (Base 2.0, Completion Queue Entry).
-use Rattle.std.specs.Prelude.{Bool, List, None, Option, Some, [], bytes_eq, get_or, if◌then◌else◌, not, suc, ℕ, ◌%◌, ◌*◌, ◌+◌, ◌/◌, ◌==◌, ◌∷◌}
+use Rattle.std.specs.Prelude.{Bool, List, None, Option, Some, [], bytes_eq, get_or, if◌then◌else◌, not, suc, ℕ, ◌%◌}
+use Rattle.std.specs.Prelude.{◌*◌, ◌+◌, ◌/◌, ◌==◌, ◌∷◌}
 use Rattle.broken_rules.specs.declared.unlike.Unlike.{Unlike}
 
 -- the number that the two bytes from this place on spell
@@ -29,12 +30,15 @@ bytes_apart found due =
 abbrev pub row_or : Bool → Unlike → Option Unlike → Option Unlike
 row_or holds fault more = if holds then Some fault else more
 
--- The first of these that differs: the numbers of the queue and of the command, the status, the head, the phase tag, and any byte.
+-- The first of these that differs: the numbers of the queue and of the command, the status, the head, the phase tag,
+-- and any byte.
 abbrev pub cqe_unlike : List ℕ → List ℕ → Option Unlike
 cqe_unlike found due =
     row_or (not (two_at 10 found == two_at 10 due)) (Unlike.Sqid (two_at 10 found) (two_at 10 due))
     (row_or (not (two_at 12 found == two_at 12 due)) (Unlike.Cid (two_at 12 found) (two_at 12 due))
-    (row_or (not (status_of (two_at 14 found) == status_of (two_at 14 due))) (Unlike.Status (status_of (two_at 14 found)) (status_of (two_at 14 due)))
+    (row_or (not (status_of (two_at 14 found) == status_of (two_at 14 due)))
+    (Unlike.Status (status_of (two_at 14 found)) (status_of (two_at 14 due)))
     (row_or (not (two_at 8 found == two_at 8 due)) (Unlike.Sqhd (two_at 8 found) (two_at 8 due))
-    (row_or (not (phase_of (two_at 14 found) == phase_of (two_at 14 due))) (Unlike.Phase (phase_of (two_at 14 found)) (phase_of (two_at 14 due)))
+    (row_or (not (phase_of (two_at 14 found) == phase_of (two_at 14 due)))
+    (Unlike.Phase (phase_of (two_at 14 found)) (phase_of (two_at 14 due)))
     (bytes_apart found due)))))

@@ -9,7 +9,8 @@ use nvme_model::status::{Status, Verdict};
 use std::fmt;
 use thiserror::Error;
 
-/// A rule that an entry breaks, with what stands there (`found`) and what is due. Its words are what `casdisk explain` says.
+/// A rule that an entry breaks, with what stands there (`found`) and what is due. Its words are what `casdisk explain`
+/// says.
 #[derive(Clone, Copy, Debug, Drop, Error, PartialEq, Eq)]
 pub enum Broken {
     /// An entry before it broke one.

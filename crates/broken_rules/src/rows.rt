@@ -4,7 +4,8 @@ ghost use Rattle.std.specs.Prelude.{◌≡◌};
 ghost use Rattle.std.specs.Bool.{beq};
 ghost use Rattle.nvme_model.specs.Operations.{is_exclusive};
 ghost use Rattle.broken_rules.specs.declared.broken.Broken.{Broken};
-ghost use Rattle.broken_rules.specs.Rows.{block_broken as the_block_broken, fetch_broken as the_fetch_broken, grant_broken as the_grant_broken};
+ghost use Rattle.broken_rules.specs.Rows.{block_broken as the_block_broken, fetch_broken as the_fetch_broken};
+ghost use Rattle.broken_rules.specs.Rows.{grant_broken as the_grant_broken};
 
 use crate::broken::Broken;
 use crate::verdicts::same_verdict;
@@ -47,8 +48,8 @@ fn same_mode(mode: Mode, other: Mode) -> bool
     }
 }
 
-/// What is wrong with a Grant of a ticket of which so many units were opened, whose next unit, where it has one, is this,
-/// and whose units hold their blocks so.
+/// What is wrong with a Grant of a ticket of which so many units were opened, whose next unit, where it has one, is
+/// this, and whose units hold their blocks so.
 pub fn grant_broken(
     line: &GrantLine,
     opened: u64,

@@ -10,8 +10,8 @@ use nvme_model::entry::ReapLine;
 use nvme_model::refusal::Why;
 use thiserror::Error;
 
-/// How the 16 bytes of a completion differ from those that are due: the first of these that does, with what stands there
-/// and what is due.
+/// How the 16 bytes of a completion differ from those that are due: the first of these that does, with what stands
+/// there and what is due.
 #[derive(Clone, Copy, Debug, Drop, Error, PartialEq, Eq)]
 pub enum Unlike {
     /// The number of the submission queue.

@@ -22,7 +22,8 @@ kinds_asked (Some text) = kinds_in text
 
 -- the number that an option says
 abbrev pub SaysNumber : Text → List Row → ℕ → Type 0
-SaysNumber name rows n = (digits : Text) × (one_of name rows ≡ Some digits) × ParsesUnsigned {E = ParseIntError} 64 10 digits (Ok n)
+SaysNumber name rows n =
+    (digits : Text) × (one_of name rows ≡ Some digits) × ParsesUnsigned {E = ParseIntError} 64 10 digits (Ok n)
 
 -- the numbers of a race
 pub record SaysRace (rows : List Row) (r : Race) : Type 0 where
@@ -34,7 +35,8 @@ pub record SaysRace (rows : List Row) (r : Race) : Type 0 where
 
 -- what the options of a command of this name ask for
 abbrev pub AsksBy : Text → List Row → Asked → Type 0
-AsksBy name rows (Asked.Run kinds file) = (name ≡ codes "run") × (first_of (codes "FILE") rows ≡ Some file.now) × (kinds_asked (first_of (codes "show") rows) ≡ Some kinds.0)
+AsksBy name rows (Asked.Run kinds file) = (name ≡ codes "run") × (first_of (codes "FILE") rows ≡ Some file.now)
+    × (kinds_asked (first_of (codes "show") rows) ≡ Some kinds.0)
 AsksBy name rows (Asked.Check file) = (name ≡ codes "check") × (first_of (codes "FILE") rows ≡ Some file.now)
 AsksBy name rows (Asked.Explain file) = (name ≡ codes "explain") × (first_of (codes "FILE") rows ≡ Some file.now)
 AsksBy name rows (Asked.Race r) = (name ≡ codes "race") × SaysRace rows r
@@ -42,7 +44,8 @@ AsksBy name rows (Asked.Show text) = ⊥
 
 -- the words name a command, whose options ask for it
 abbrev pub AsksByCommand : List Text → Asked → Type 0
-AsksByCommand words asked = (name : Text) × (rows : List Row) × (command_in words ≡ Some (name, rows)) × AsksBy name rows asked
+AsksByCommand words asked =
+    (name : Text) × (rows : List Row) × (command_in words ≡ Some (name, rows)) × AsksBy name rows asked
 
 -- the words ask for it; of a text that is shown nothing is said
 abbrev pub Asks : List Text → Asked → Type 0
@@ -53,8 +56,8 @@ Asks words asked = AsksByCommand words asked
 abbrev pub IsOther : Text → Type 0
 IsOther name = (name ≢ codes "run") × (name ≢ codes "check") × (name ≢ codes "explain") × (name ≢ codes "race")
 
--- The options of a command of this name ask for nothing: no file is named, or the kinds of lines are unknown or none. Of
--- the numbers of a race it isn't said which are refused. There is no other command.
+-- The options of a command of this name ask for nothing: no file is named, or the kinds of lines are unknown or none.
+-- Of the numbers of a race it isn't said which are refused. There is no other command.
 abbrev pub AskNothing : Text → List Row → Type 0
 AskNothing name rows =
     (first_of (codes "FILE") rows ≡ None) ⊎ (kinds_asked (first_of (codes "show") rows) ≡ None)

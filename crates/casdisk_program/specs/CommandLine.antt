@@ -14,7 +14,12 @@ show_rule = record (new_rule (codes "show")) { long = Some (codes "show"); value
 
 -- an option with a number of 64 bits
 abbrev pub number_rule : Text → Rule
-number_rule name = record (new_rule name) { long = Some name; value_names = 1; parser = Some (Unsigned 0 18446744073709551615); action = Some Set }
+number_rule name = record (new_rule name) {
+  long = Some name;
+  value_names = 1;
+  parser = Some (Unsigned 0 18446744073709551615);
+  action = Some Set;
+}
 
 -- one that has to be there
 abbrev pub needed_rule : Text → Rule
@@ -36,16 +41,19 @@ explain_app = with_rule (new_app (codes "explain")) file_rule
 
 abbrev pub race_app : App
 race_app =
-    with_rule (with_rule (with_rule (with_rule (with_rule (new_app (codes "race")) (needed_rule (codes "hosts"))) (needed_rule (codes "workers"))) (needed_rule (codes "slots")))
+    with_rule (with_rule (with_rule (with_rule (with_rule (new_app (codes "race")) (needed_rule (codes "hosts")))
+    (needed_rule (codes "workers"))) (needed_rule (codes "slots")))
     (default_rule (codes "rounds") (codes "10"))) (default_rule (codes "queues") (codes "1"))
 
 -- the program, with a version, of which one command has to be named
 abbrev pub top_app : App
-top_app = let a = new_app (codes "casdisk") in record a { top = record a.top { has_version = true; subcommand_required = true } }
+top_app = let a = new_app (codes "casdisk") in
+    record a { top = record a.top { has_version = true; subcommand_required = true } }
 
 -- the whole program
 abbrev pub casdisk_app : App
-casdisk_app = with_subcommand (with_subcommand (with_subcommand (with_subcommand top_app run_app.top) check_app.top) explain_app.top) race_app.top
+casdisk_app = with_subcommand
+    (with_subcommand (with_subcommand (with_subcommand top_app run_app.top) check_app.top) explain_app.top) race_app.top
 
 -- the command that the words name, and what they give its options
 unfoldable pub command_in : List Text → Option (Text × List Row)

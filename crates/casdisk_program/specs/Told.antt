@@ -6,8 +6,8 @@ use Rattle.casdisk_script.specs.Files.{legal_text}
 use Rattle.casdisk_script.specs.declared.fault.RunFault.{RunFault}
 use Rattle.casdisk_script.specs.declared.fault.RunFault.TheVariants.{BadConfig, BadLine, Input, NoMemory, Output}
 
--- By what a check answered: it said `legal`, or a beginning of it, or nothing where reading failed or memory ran out. That a line or
--- the configuration is bad it never answers.
+-- By what a check answered: it said `legal`, or a beginning of it, or nothing where reading failed or memory ran out.
+-- That a line or the configuration is bad it never answers.
 abbrev pub SaysLegal : Result Bool RunFault → Option (List ℕ) → Option (List ℕ) → Type 0
 SaysLegal (Ok answer) old new = (answer ≡ true) × Appends old new legal_text
 SaysLegal (Err Output) old new = AppendsFront old new legal_text

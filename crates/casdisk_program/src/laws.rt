@@ -23,19 +23,23 @@ use race_numbers::Race;
 pub fn a_history_is_read_back()
     ensures config { (c : ConfigNumbers) (entries : List Entry) → HasConfigLine c → All HasLine entries →
         first_config (whole_lines (history_text c entries)) ≡ Some c }
-    ensures end { (c : ConfigNumbers) (entries : List Entry) → HasConfigLine c → config_fault c ≡ None → All HasLine entries →
+    ensures end { (c : ConfigNumbers) (entries : List Entry) →
+        HasConfigLine c → config_fault c ≡ None → All HasLine entries →
         (file_of (history_text c entries)).end ≡ done }
-    ensures entries { (c : ConfigNumbers) (entries : List Entry) → HasConfigLine c → config_fault c ≡ None → All HasLine entries →
+    ensures entries { (c : ConfigNumbers) (entries : List Entry) →
+        HasConfigLine c → config_fault c ≡ None → All HasLine entries →
         (file_of (history_text c entries)).past ≡ reverse entries }
-    ensures legal { (c : ConfigNumbers) (past : Past) → HasConfigLine c → config_fault c ≡ None → All HasLine (reverse past) → IsLegal c past →
+    ensures legal { (c : ConfigNumbers) (past : Past) →
+        HasConfigLine c → config_fault c ≡ None → All HasLine (reverse past) → IsLegal c past →
         IsAnswerOf (history_text c (reverse past)) true legal_text }
 {}
 
-/// Whatever a check answers on the text that a race wrote, and on nothing else before it: it says `legal`, unless reading,
-/// writing or memory fails it.
+/// Whatever a check answers on the text that a race wrote, and on nothing else before it: it says `legal`, unless
+/// reading, writing or memory fails it.
 pub fn what_a_race_wrote_is_legal(race: &Race)
     ensures { (text : List ℕ) (told : Result Bool RunFault) (left old new : Option (List ℕ)) →
-        PrintsLegal (config_of race.now) (Some []) (Some text) → ChecksText told (Some text) left old new → SaysLegal told old new }
+        PrintsLegal (config_of race.now) (Some []) (Some text) → ChecksText told (Some text) left old new →
+        SaysLegal told old new }
 {
     let _ = race.config().numbers();
 }

@@ -18,9 +18,9 @@ use std::{env, fs, io};
 const BUFFER: usize = 65_536;
 
 /// Does what the words of the command line ask, and says with which status the program ends: 0 where it is done,
-/// 1 where a history isn't legal or a race gave none, 2 after a bad line, configuration or command line, 3 after a failed
-/// opening, reading or writing, 4 where a growth was refused or a thread couldn't be started. The words of a fault go to
-/// standard error.
+/// 1 where a history isn't legal or a race gave none, 2 after a bad line, configuration or command line, 3 after a
+/// failed opening, reading or writing, 4 where a growth was refused or a thread couldn't be started. The words of a
+/// fault go to standard error.
 pub fn run_program<R: Threads + Wait + Sync + Files + Env + Print + Eprint + AllocGlobal>(
     rt: &R,
 ) -> ExitCode {
@@ -125,8 +125,8 @@ fn check_file<R: Files + Print + AllocGlobal>(rt: &R, file: &str) -> Result<u8, 
     }
 }
 
-// Explains a history, and gives the status 0 where it is legal, 1 where it isn't, else that of the fault. Behind the words of
-// a refused configuration it says what its number means.
+// Explains a history, and gives the status 0 where it is legal, 1 where it isn't, else that of the fault. Behind the
+// words of a refused configuration it says what its number means.
 fn explain_file<R: Files + Print + Eprint + AllocGlobal>(
     rt: &R,
     file: &str,

@@ -3,7 +3,8 @@
 ghost use Rattle.std.specs.Prelude.{◌≡◌, IfErr, IfOk, codes, map, option_map, string_bytes};
 ghost use Rattle.clap.specs.Words.{app_of, first_of, found_of, rows_of, rule_of};
 ghost use Rattle.casdisk_program.specs.Asking.{AreRefused, Asks, AsksBy, IsRaceInRange, IsRefusedBy, kinds_asked};
-ghost use Rattle.casdisk_program.specs.CommandLine.{casdisk_app, check_app, explain_app, number_rule, race_app, run_app};
+ghost use Rattle.casdisk_program.specs.CommandLine.{casdisk_app, check_app, explain_app, number_rule, race_app};
+ghost use Rattle.casdisk_program.specs.CommandLine.{run_app};
 
 use crate::request::{Asked, UsageFault};
 use casdisk_script::kinds_of;
@@ -201,7 +202,8 @@ fn explain_asked<'a>(alloc: Global, matches: &ArgMatches<'a>) -> Result<Asked<'a
 
 // The kinds of lines to show, all where none are named.
 fn kinds_shown(matches: &ArgMatches<'_>) -> Option<Kinds>
-    ensures { option_map (λ kinds. kinds.0) result ≡ kinds_asked (first_of (codes "show") (rows_of (found_of matches.now))) }
+    ensures { option_map (λ kinds. kinds.0) result ≡
+        kinds_asked (first_of (codes "show") (rows_of (found_of matches.now))) }
 {
     match matches.get_str("show") {
         Some(text) => kinds_of(text),
@@ -272,8 +274,8 @@ fn command_asked<'a>(
 ///
 /// # Errors
 ///
-/// A text for a bad command line, an unknown or empty kind of lines and numbers of no race among them; `NoMemory` where a
-/// growth was refused.
+/// A text for a bad command line, an unknown or empty kind of lines and numbers of no race among them; `NoMemory` where
+/// a growth was refused.
 pub fn asked<'a>(alloc: Global, words: &'a [String]) -> Result<Asked<'a>, UsageFault>
     ensures asks { IfOk result (Asks (map string_bytes words.entry.now)) }
     ensures race { IfOk result IsRaceInRange }

@@ -1,5 +1,6 @@
 -- What is said of a file of entries.
-use Rattle.std.specs.Prelude.{◌≡◌, ◌⊎◌, ℕ, Bool, true, false, List, [], ◌∷◌, ◌++◌, Option, Some, IfSome, Result, Ok, Err, codes, decimal, option_map, reverse}
+use Rattle.std.specs.Prelude.{◌≡◌, ◌⊎◌, ℕ, Bool, true, false, List, [], ◌∷◌, ◌++◌, Option, Some, IfSome, Result, Ok}
+use Rattle.std.specs.Prelude.{Err, codes, decimal, option_map, reverse}
 use Rattle.std.specs.Io.KnownBytes.{Appends, Consumes, IsAtEnd, Keeps}
 use Rattle.std.specs.List.{join_with_byte}
 use Rattle.line_text.specs.Known.{AppendsFront}
@@ -46,11 +47,16 @@ abbrev pub EndsUnsaid : End → Option (List ℕ) → Option (List ℕ) → Opti
 EndsUnsaid e input old new = IfSome input (λ bytes. ((file_of bytes).end ≡ e) × Keeps old new)
 
 -- By what a check of a file answered: its one line, and the reader at its end; or nothing, or a beginning of that line.
-abbrev pub ChecksText : Result Bool RunFault → Option (List ℕ) → Option (List ℕ) → Option (List ℕ) → Option (List ℕ) → Type 0
-ChecksText (Ok answer) input left old new = IsAtEnd left × IfSome input (λ bytes. (text : List ℕ) × IsAnswerOf bytes answer text × Appends old new text)
-ChecksText (Err (BadLine n)) input left old new = EndsUnsaid (bad_line n) input old new ⊎ EndsUnsaid (cut n) input old new
+abbrev pub ChecksText : Result Bool RunFault → Option (List ℕ) → Option (List ℕ) → Option (List ℕ) →
+    Option (List ℕ) → Type 0
+ChecksText (Ok answer) input left old new =
+    IsAtEnd left × IfSome input (λ bytes. (text : List ℕ) × IsAnswerOf bytes answer text × Appends old new text)
+ChecksText (Err (BadLine n)) input left old new =
+    EndsUnsaid (bad_line n) input old new ⊎ EndsUnsaid (cut n) input old new
 ChecksText (Err (BadConfig c)) input left old new = EndsUnsaid (bad_config c) input old new
-ChecksText (Err Input) input left old new = (bytes : List ℕ) × Consumes input left bytes × IsOpen (file_of bytes).end × Keeps old new
+ChecksText (Err Input) input left old new =
+    (bytes : List ℕ) × Consumes input left bytes × IsOpen (file_of bytes).end × Keeps old new
 ChecksText (Err NoMemory) input left old new = Keeps old new
 ChecksText (Err Output) input left old new =
-    Keeps old new ⊎ IfSome input (λ bytes. (answer : Bool) × (text : List ℕ) × IsAnswerOf bytes answer text × AppendsFront old new text)
+    Keeps old new ⊎ IfSome input
+    (λ bytes. (answer : Bool) × (text : List ℕ) × IsAnswerOf bytes answer text × AppendsFront old new text)

@@ -10,7 +10,8 @@ use Rattle.casdisk_script.specs.Files.{bad_text, legal_text}
 use Rattle.casdisk_script.specs.declared.fault.RunFault.{RunFault}
 use Rattle.casdisk_script.specs.declared.fault.RunFault.TheVariants.{Output}
 
--- so many entries were judged, this is the first place at which they are no longer legal, and where there is none the checker stands for them
+-- so many entries were judged, this is the first place at which they are no longer legal, and where there is none the
+-- checker stands for them
 pub record HasJudged (c : ConfigNumbers) (past : Past) (x : State) (count : ℕ) (bad : Option ℕ) : Type 0 where
   pub counted : count ≡ length past
   pub place : bad ≡ first_bad_of c past

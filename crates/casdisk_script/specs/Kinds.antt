@@ -13,7 +13,8 @@ kinds_table =
 -- these kinds and those that the names say, where each name is that of a kind
 unfoldable pub kinds_after : ℕ → List (List ℕ) → Option ℕ
 kinds_after kinds [] = Some kinds
-kinds_after kinds (name ∷ names) = option_and_then (λ kind. kinds_after (bit_or kinds kind) names) (find_name kinds_table name)
+kinds_after kinds (name ∷ names) =
+    option_and_then (λ kind. kinds_after (bit_or kinds kind) names) (find_name kinds_table name)
 
 -- the kinds that a text names, joined by commas
 abbrev pub kinds_in : List ℕ → Option ℕ

@@ -11,7 +11,8 @@ abbrev pub Meaning : Type 0
 Meaning = Past → List ℕ → Option (Past × List ℕ)
 
 -- the line was done, `Stands` holds of the history then, and its text was written; or it is bad, and nothing was
-abbrev pub TakesLine : Taken → Meaning → Meaning → Past → (Past → Type 0) → List ℕ → Option (List ℕ) → Option (List ℕ) → Type 0
+abbrev pub TakesLine : Taken → Meaning → Meaning → Past → (Past → Type 0) → List ℕ → Option (List ℕ) →
+    Option (List ℕ) → Type 0
 TakesLine Done meaning later before Stands line old new =
     (x : Past × List ℕ) × (meaning before line ≡ Some x) × Stands x.0 × (later ≡ meaning) × Appends old new x.1
 TakesLine Bad meaning later before Stands line old new = (meaning before line ≡ None) × Keeps old new

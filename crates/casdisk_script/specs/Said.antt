@@ -1,5 +1,6 @@
 -- What a line of a script does to the history, and what it prints.
-use Rattle.std.specs.Prelude.{ℕ, zero, suc, ◌==◌, nat_le, if◌then◌else◌, List, [], ◌∷◌, ◌++◌, Option, Some, None, codes, decimal, option_map}
+use Rattle.std.specs.Prelude.{ℕ, zero, suc, ◌==◌, nat_le, if◌then◌else◌, List, [], ◌∷◌, ◌++◌, Option, Some, None, codes}
+use Rattle.std.specs.Prelude.{decimal, option_map}
 use Rattle.std.specs.Int.RustNames.{bit_and}
 use Rattle.std.specs.List.{join_with_byte}
 use Rattle.line_text.specs.Data.{data_text}

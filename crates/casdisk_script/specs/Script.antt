@@ -46,7 +46,8 @@ after_line n past (Some x) more = prefixed x.1 (more x.0)
 unfoldable pub lines_print : Meaning → Past → ℕ → List (List ℕ) → List ℕ → Outcome
 lines_print meaning past n [] [] = ending done past
 lines_print meaning past n [] (b ∷ bs) = ending (cut n) past
-lines_print meaning past n (line ∷ lines) rest = after_line n past (meaning past line) (λ after. lines_print meaning after (n + 1) lines rest)
+lines_print meaning past n (line ∷ lines) rest =
+    after_line n past (meaning past line) (λ after. lines_print meaning after (n + 1) lines rest)
 
 -- what follows the first line, by its configuration, which may be refused
 abbrev pub after_numbers : List ℕ → Option ConfigFault → Outcome → Outcome
@@ -61,7 +62,8 @@ after_config line (Some c) more = after_numbers line (config_fault c) (more c)
 -- A script from its first line on: the configuration line, and then what its lines print.
 unfoldable pub script_prints : (ConfigNumbers → Meaning) → List (List ℕ) → List ℕ → Outcome
 script_prints meaning [] rest = ending (cut 1) []
-script_prints meaning (line ∷ lines) rest = after_config line (config_in line) (λ c. lines_print (meaning c) [] 2 lines rest)
+script_prints meaning (line ∷ lines) rest =
+    after_config line (config_in line) (λ c. lines_print (meaning c) [] 2 lines rest)
 
 -- the outcome of a whole input
 abbrev pub outcome : (ConfigNumbers → Meaning) → List ℕ → Outcome

@@ -55,7 +55,8 @@ pub fn check_text<R: Read, W: Write>(
     reader: &mut R,
     writer: &mut W,
 ) -> Result<bool, RunFault>
-    ensures checks { ChecksText result (R.remaining reader.old) (R.remaining reader.new) (W.contents writer.old) (W.contents writer.new) }
+    ensures checks { ChecksText result (R.remaining reader.old) (R.remaining reader.new) (W.contents writer.old)
+        (W.contents writer.new) }
 {
     let Ok(mut lines) = Lines::new(alloc) else {
         return Err(RunFault::NoMemory);

@@ -69,7 +69,8 @@ impl Explainer {
 
     // Looks at the next entry, where none before was bad.
     fn explain(&mut self, entry: &Entry) -> Result<(), NoMemory>
-        ensures explained { (c : ConfigNumbers) (past : Past) → HasExplained c past self.old.checker self.old.count self.old.bad →
+        ensures explained { (c : ConfigNumbers) (past : Past) →
+            HasExplained c past self.old.checker self.old.count self.old.bad →
             OnOk result (HasExplained c (entry.now ∷ past) self.new.checker self.new.count self.new.bad) }
     {
         let Some(count) = self.count.checked_add(1) else {
@@ -121,8 +122,8 @@ fn explained_by(bad: Option<BadStep>) -> Explained
     }
 }
 
-/// Reads a configuration line and the lines of a history to the reader's end, and answers whether the history is legal, or
-/// its first bad entry with the first rule that it breaks.
+/// Reads a configuration line and the lines of a history to the reader's end, and answers whether the history is legal,
+/// or its first bad entry with the first rule that it breaks.
 ///
 /// # Errors
 ///

@@ -27,10 +27,13 @@ pub(crate) fn read_first<R: Read>(
     ensures stopped { (meaning : ConfigNumbers → Meaning) (w : Option (List ℕ)) → IfErr result
         (λ f. Runs (outcome meaning) (Err f) (R.remaining reader.old) (R.remaining reader.new) w w) }
     ensures front { (meaning : ConfigNumbers → Meaning) (w u : Option (List ℕ)) → IfOk result
-        (λ c. AppendsFront w u (line.new.items ++ 10 ∷ []) → PrintsFront (outcome meaning) (R.remaining reader.old) (R.remaining reader.new) w u) }
+        (λ c. AppendsFront w u (line.new.items ++ 10 ∷ []) →
+        PrintsFront (outcome meaning) (R.remaining reader.old) (R.remaining reader.new) w u) }
     ensures begun { (meaning : ConfigNumbers → Meaning) (w u : Option (List ℕ)) → IfOk result
-        (λ c. Appends w u (line.new.items ++ 10 ∷ []) → Reached (outcome meaning) (meaning c) [] 2 (R.remaining reader.old) (R.remaining reader.new) w u lines.new) }
-    ensures config { IfOk result (λ c. IfSome (R.remaining reader.old) (λ bytes. first_config (whole_lines bytes) ≡ Some c)) }
+        (λ c. Appends w u (line.new.items ++ 10 ∷ []) →
+        Reached (outcome meaning) (meaning c) [] 2 (R.remaining reader.old) (R.remaining reader.new) w u lines.new) }
+    ensures config { IfOk result
+        (λ c. IfSome (R.remaining reader.old) (λ bytes. first_config (whole_lines bytes) ≡ Some c)) }
 {
     match lines.next_line(reader, line) {
         Err(fault) => return Err(read_fault(fault)),

@@ -46,7 +46,8 @@ impl Judge {
 
     // Judges the next entry.
     fn judge(&mut self, entry: &Entry) -> Result<(), NoMemory>
-        ensures judged { (c : ConfigNumbers) (past : Past) → HasJudged c past self.old.checker self.old.count self.old.bad →
+        ensures judged { (c : ConfigNumbers) (past : Past) →
+            HasJudged c past self.old.checker self.old.count self.old.bad →
             OnOk result (HasJudged c (entry.now ∷ past) self.new.checker self.new.count self.new.bad) }
     {
         let Some(count) = self.count.checked_add(1) else {

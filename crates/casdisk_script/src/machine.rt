@@ -10,7 +10,8 @@ ghost use Rattle.nvme_model.specs.declared.step.Step.{Step as TheStep};
 ghost use Rattle.step_core.specs.State.{Serves, State};
 ghost use Rattle.casdisk_script.specs.Doing.{Says};
 ghost use Rattle.casdisk_script.specs.Doing.{why_of as the_why_of};
-ghost use Rattle.casdisk_script.specs.Said.{all_ready, entry_text, medium_text, refusal_text, script_line, settle_says, step_says};
+ghost use Rattle.casdisk_script.specs.Said.{all_ready, entry_text, medium_text, refusal_text, script_line, settle_says};
+ghost use Rattle.casdisk_script.specs.Said.{step_says};
 ghost use Rattle.std.specs.Prelude.{◌∷◌, ◌≢◌};
 
 use crate::meaning::{LineMeaning, Taken, WriteFault};
@@ -58,10 +59,13 @@ impl Machine {
     // Prints that a step was refused, or stops where it was for want of memory.
     fn tell_refusal<W: Write>(&mut self, why: Why, writer: &mut W) -> Result<(), WriteFault>
         ensures same { (self.new.core ≡ self.old.core) × (self.new.kinds ≡ self.old.kinds) }
-        ensures told { OnOk result (Appends (W.contents writer.old) (W.contents writer.new) (refusal_text self.old.kinds.0 why)) }
+        ensures told { OnOk result
+            (Appends (W.contents writer.old) (W.contents writer.new) (refusal_text self.old.kinds.0 why)) }
         ensures other { OnOk result (why ≢ TheWhy.NoMemory) }
-        ensures stopped { OnErr result (AppendsFront (W.contents writer.old) (W.contents writer.new) (refusal_text self.old.kinds.0 why)) }
-        ensures silent { OnErr result (why ≡ TheWhy.NoMemory → Appends (W.contents writer.old) (W.contents writer.new) []) }
+        ensures stopped { OnErr result
+            (AppendsFront (W.contents writer.old) (W.contents writer.new) (refusal_text self.old.kinds.0 why)) }
+        ensures silent { OnErr result (why ≡ TheWhy.NoMemory →
+            Appends (W.contents writer.old) (W.contents writer.new) []) }
     {
         if why == Why::NoMemory {
             return Err(WriteFault::NoMemory);
@@ -76,8 +80,10 @@ impl Machine {
     // Prints the newest entry.
     fn tell_entry<W: Write>(&mut self, writer: &mut W) -> Result<(), WriteFault>
         ensures same { (self.new.core ≡ self.old.core) × (self.new.kinds ≡ self.old.kinds) }
-        ensures told { (e : Entry) (past : Past) → self.old.core.past ≡ e ∷ past → OnOk result (Appends (W.contents writer.old) (W.contents writer.new) (entry_text self.old.kinds.0 e)) }
-        ensures stopped { (e : Entry) (past : Past) → self.old.core.past ≡ e ∷ past → OnErr result (AppendsFront (W.contents writer.old) (W.contents writer.new) (entry_text self.old.kinds.0 e)) }
+        ensures told { (e : Entry) (past : Past) → self.old.core.past ≡ e ∷ past →
+            OnOk result (Appends (W.contents writer.old) (W.contents writer.new) (entry_text self.old.kinds.0 e)) }
+        ensures stopped { (e : Entry) (past : Past) → self.old.core.past ≡ e ∷ past → OnErr result
+            (AppendsFront (W.contents writer.old) (W.contents writer.new) (entry_text self.old.kinds.0 e)) }
     {
         self.text.clear();
         let Some(entry) = self.core.history().last() else {
@@ -92,8 +98,10 @@ impl Machine {
     // Prints a block of the volume.
     fn tell_medium<W: Write>(&mut self, lba: u64, writer: &mut W) -> Result<(), WriteFault>
         ensures same { (self.new.core ≡ self.old.core) × (self.new.kinds ≡ self.old.kinds) }
-        ensures told { OnOk result (Appends (W.contents writer.old) (W.contents writer.new) (medium_text self.old.kinds.0 self.old.core.config self.old.core.past lba)) }
-        ensures stopped { OnErr result (AppendsFront (W.contents writer.old) (W.contents writer.new) (medium_text self.old.kinds.0 self.old.core.config self.old.core.past lba)) }
+        ensures told { OnOk result (Appends (W.contents writer.old) (W.contents writer.new)
+            (medium_text self.old.kinds.0 self.old.core.config self.old.core.past lba)) }
+        ensures stopped { OnErr result (AppendsFront (W.contents writer.old) (W.contents writer.new)
+            (medium_text self.old.kinds.0 self.old.core.config self.old.core.past lba)) }
     {
         self.text.clear();
         if print_medium(self.kinds, &self.core, lba, &mut self.text).is_err() {
@@ -125,8 +133,10 @@ impl Machine {
     // Makes a step or refuses it, and prints which.
     fn do_step<W: Write>(&mut self, step: Step, writer: &mut W) -> Result<(), WriteFault>
         ensures same { (self.new.core.config ≡ self.old.core.config) × (self.new.kinds ≡ self.old.kinds) }
-        ensures done { OnOk result (Says (step_says self.old.kinds.0 self.old.core.config self.old.core.past step) self.new.core.past (W.contents writer.old) (W.contents writer.new)) }
-        ensures stopped { OnErr result (AppendsFront (W.contents writer.old) (W.contents writer.new) (step_says self.old.kinds.0 self.old.core.config self.old.core.past step).1) }
+        ensures done { OnOk result (Says (step_says self.old.kinds.0 self.old.core.config self.old.core.past step)
+            self.new.core.past (W.contents writer.old) (W.contents writer.new)) }
+        ensures stopped { OnErr result (AppendsFront (W.contents writer.old) (W.contents writer.new)
+            (step_says self.old.kinds.0 self.old.core.config self.old.core.past step).1) }
     {
         let answer = self.core.step(step);
         self.tell_answer(answer, writer)
@@ -135,8 +145,10 @@ impl Machine {
     // Makes the step that is ready, until there is none.
     fn settle<W: Write>(&mut self, writer: &mut W) -> Result<(), WriteFault>
         ensures same { (self.new.core.config ≡ self.old.core.config) × (self.new.kinds ≡ self.old.kinds) }
-        ensures done { OnOk result (Says (settle_says all_ready self.old.kinds.0 self.old.core.config self.old.core.past) self.new.core.past (W.contents writer.old) (W.contents writer.new)) }
-        ensures stopped { OnErr result (AppendsFront (W.contents writer.old) (W.contents writer.new) (settle_says all_ready self.old.kinds.0 self.old.core.config self.old.core.past).1) }
+        ensures done { OnOk result (Says (settle_says all_ready self.old.kinds.0 self.old.core.config
+            self.old.core.past) self.new.core.past (W.contents writer.old) (W.contents writer.new)) }
+        ensures stopped { OnErr result (AppendsFront (W.contents writer.old) (W.contents writer.new)
+            (settle_says all_ready self.old.kinds.0 self.old.core.config self.old.core.past).1) }
     {
         for _turn in 0..u64::MAX {
             let Some((_step, answer)) = self.core.step_ready() else {

@@ -38,6 +38,9 @@ pub trait LineMeaning {
 
     /// Does what a line says and writes its text, or a beginning of it.
     fn take_line<W: Write>(&mut self, line: &[u8], writer: &mut W) -> Result<Taken, WriteFault>
-        ensures taken { (c : ConfigNumbers) (past : Past) → stands self.old c past → IfOk result (λ taken. TakesLine taken (meaning self.old) (meaning self.new) past (stands self.new c) line.now (W.contents writer.old) (W.contents writer.new)) }
-        ensures stopped { (c : ConfigNumbers) (past : Past) → stands self.old c past → OnErr result (StopsInLine (meaning self.old) past line.now (W.contents writer.old) (W.contents writer.new)) };
+        ensures taken { (c : ConfigNumbers) (past : Past) →
+            stands self.old c past → IfOk result (λ taken. TakesLine taken (meaning self.old) (meaning self.new) past
+            (stands self.new c) line.now (W.contents writer.old) (W.contents writer.new)) }
+        ensures stopped { (c : ConfigNumbers) (past : Past) → stands self.old c past → OnErr result
+            (StopsInLine (meaning self.old) past line.now (W.contents writer.old) (W.contents writer.new)) };
 }

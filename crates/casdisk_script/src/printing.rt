@@ -79,9 +79,11 @@ pub(crate) fn print_medium<W: Write>(
     writer: &mut W,
 ) -> IoResult<()>
     ensures whole { OnOk result
-        (Appends (W.contents writer.old) (W.contents writer.new) (medium_text kinds.0 core.now.config core.now.past lba)) }
+        (Appends (W.contents writer.old) (W.contents writer.new)
+        (medium_text kinds.0 core.now.config core.now.past lba)) }
     ensures front { OnErr result
-        (AppendsFront (W.contents writer.old) (W.contents writer.new) (medium_text kinds.0 core.now.config core.now.past lba)) }
+        (AppendsFront (W.contents writer.old) (W.contents writer.new)
+        (medium_text kinds.0 core.now.config core.now.past lba)) }
 {
     if !shows(kinds, Kinds::medium) {
         return Ok(());

@@ -36,9 +36,9 @@ pub(crate) fn write_fault(fault: WriteFault) -> RunFault
 ///
 /// # Errors
 ///
-/// `BadLine` with the number of the first line that may not stand there, after the text of the lines before it; `Input`,
-/// where no line that was read is bad, after their whole text; `Output` and `NoMemory` after a beginning of it. A line whose
-/// number doesn't fit 64 bits is `NoMemory` too.
+/// `BadLine` with the number of the first line that may not stand there, after the text of the lines before it;
+/// `Input`, where no line that was read is bad, after their whole text; `Output` and `NoMemory` after a beginning of
+/// it. A line whose number doesn't fit 64 bits is `NoMemory` too.
 pub fn run_lines<M: LineMeaning, R: Read, W: Write>(
     machine: &mut M,
     lines: &mut Lines,
@@ -46,8 +46,11 @@ pub fn run_lines<M: LineMeaning, R: Read, W: Write>(
     reader: &mut R,
     writer: &mut W,
 ) -> Result<(), RunFault>
-    ensures runs { (c : ConfigNumbers) (past : Past) → M.stands machine.old c past → Runs (lines_from (M.meaning machine.old) past 2 lines.old) result (R.remaining reader.old) (R.remaining reader.new) (W.contents writer.old) (W.contents writer.new) }
-    ensures makes { (c : ConfigNumbers) (past : Past) → M.stands machine.old c past → Makes (lines_from (M.meaning machine.old) past 2 lines.old) result (R.remaining reader.old) (M.stands machine.new c) }
+    ensures runs { (c : ConfigNumbers) (past : Past) →
+        M.stands machine.old c past → Runs (lines_from (M.meaning machine.old) past 2 lines.old) result
+        (R.remaining reader.old) (R.remaining reader.new) (W.contents writer.old) (W.contents writer.new) }
+    ensures makes { (c : ConfigNumbers) (past : Past) → M.stands machine.old c past → Makes
+        (lines_from (M.meaning machine.old) past 2 lines.old) result (R.remaining reader.old) (M.stands machine.new c) }
 {
     for number in 2..u64::MAX {
         match lines.next_line(reader, line) {

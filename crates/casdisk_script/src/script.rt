@@ -28,7 +28,8 @@ pub fn run_script<R: Read, W: Write>(
     writer: &mut W,
     kinds: Kinds,
 ) -> Result<(), RunFault>
-    ensures runs { Runs (outcome (λ c. script_line c kinds.0)) result (R.remaining reader.old) (R.remaining reader.new) (W.contents writer.old) (W.contents writer.new) }
+    ensures runs { Runs (outcome (λ c. script_line c kinds.0)) result (R.remaining reader.old) (R.remaining reader.new)
+        (W.contents writer.old) (W.contents writer.new) }
 {
     let Ok(mut lines) = Lines::new(alloc) else {
         return Err(RunFault::NoMemory);

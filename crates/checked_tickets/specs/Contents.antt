@@ -1,5 +1,6 @@
 -- The contents of blocks as a list keeps them, and answers as they are kept.
-use Rattle.std.specs.Prelude.{false, Bool, List, None, Option, Some, [], get_or, ℕ, ◌&&◌, ◌+◌, ◌++◌, ◌%◌, ◌<◌, ◌==◌, ◌≡◌, ◌||◌, if◌then◌else◌, length, not, bytes_eq}
+use Rattle.std.specs.Prelude.{false, Bool, List, None, Option, Some, [], get_or, ℕ, ◌&&◌, ◌+◌, ◌++◌, ◌%◌, ◌<◌, ◌==◌}
+use Rattle.std.specs.Prelude.{◌≡◌, ◌||◌, if◌then◌else◌, length, not, bytes_eq}
 use Rattle.nvme_model.specs.Answered.{may_find}
 use Rattle.nvme_model.specs.Array.{has_block}
 use Rattle.nvme_model.specs.EntryBytes.{cqe_bytes}
@@ -45,4 +46,5 @@ written_in contents k r l = if has_block r l then write_data k l else contents l
 abbrev pub post_fits_at : ℕ → ℕ → Flight → PostLine → Option Status → Bool
 post_fits_at head tag f p None = false
 post_fits_at head tag f p (Some s) =
-    bytes_eq p.cqe (cqe_bytes head f.ticket.queue (get_or (cids f.ticket) f.posts 0) tag s) && bytes_eq p.payload (data_by f s)
+    bytes_eq p.cqe (cqe_bytes head f.ticket.queue (get_or (cids f.ticket) f.posts 0) tag s)
+    && bytes_eq p.payload (data_by f s)

@@ -35,4 +35,5 @@ block_wrong_by contents f b (Some u) = block_broken b (due_in f.ticket f.placed 
 -- a Post of a ticket that owes this status next, by the head and the phase of its rings
 abbrev pub post_wrong_at : ℕ → ℕ → Flight → PostLine → Option Status → Option Broken
 post_wrong_at head tag f p None = Some (Broken.NothingOwed p.ticket)
-post_wrong_at head tag f p (Some s) = post_broken p (cqe_bytes head f.ticket.queue (get_or (cids f.ticket) f.posts 0) tag s) (data_by f s)
+post_wrong_at head tag f p (Some s) =
+    post_broken p (cqe_bytes head f.ticket.queue (get_or (cids f.ticket) f.posts 0) tag s) (data_by f s)

@@ -30,7 +30,8 @@ impl Flight {
     ) -> Result<Option<Broken>, NoMemory>
         requires within { IfSome self.now.unit (λ u. u.line.range.slba + u.line.range.blocks ≤ length volume.now) }
         requires some { IfSome self.now.unit (λ u. 1 ≤ u.line.range.blocks) }
-        ensures value { IfOk result (λ b. b ≡ block_wrong_by (contents_in volume.now) self.now block.now self.now.unit) }
+        ensures value { IfOk result
+            (λ b. b ≡ block_wrong_by (contents_in volume.now) self.now block.now self.now.unit) }
     {
         let Some(unit) = self.unit() else {
             return Ok(Some(Broken::Refused(Why::WrongState)));
@@ -50,7 +51,8 @@ impl Flight {
     /// What is wrong with a Post, where the ticket has so many units, by the head and the phase of its queues' rings.
     pub fn post_wrong(&self, count: u64, head: u16, phase: bool, line: &PostLine) -> Option<Broken>
         ensures value { (c : ConfigNumbers) → count ≡ length (units c self.now.ticket) →
-            result ≡ post_wrong_at head (phase_bit phase) self.now line.now (slice_get (owed_by c self.now) self.now.posts) }
+            result ≡
+            post_wrong_at head (phase_bit phase) self.now line.now (slice_get (owed_by c self.now) self.now.posts) }
     {
         let (posts, _placed) = self.counts();
         let Some(status) = status_at(self.owed(count), posts) else {

@@ -1,6 +1,8 @@
 //! A ticket in flight: whether a Block fits it, and what it owes.
 
-ghost use Rattle.std.specs.Prelude.{◌≡◌, ◌≤◌, ◌<◌, ◌+◌, ◌++◌, ◌^◌, ◌&&◌, ◌||◌, [], None, Some, IfOk, IfSome, OnErr, OnOk, if◌then◌else◌, is_some, length, option_copied, option_map, option_to_list, get_or, slice_get, true};
+ghost use Rattle.std.specs.Prelude.{◌≡◌, ◌≤◌, ◌<◌, ◌+◌, ◌++◌, ◌^◌, ◌&&◌, ◌||◌, [], None, Some, IfOk, IfSome, OnErr};
+ghost use Rattle.std.specs.Prelude.{OnOk, if◌then◌else◌, is_some, length, option_copied, option_map, option_to_list};
+ghost use Rattle.std.specs.Prelude.{get_or, slice_get, true};
 ghost use Rattle.entry_codec.specs.Cqe.{phase_bit};
 ghost use Rattle.nvme_model.specs.EntryBytes.{cqe_bytes};
 ghost use Rattle.nvme_model.specs.Tickets.{cids};
@@ -208,9 +210,11 @@ impl Flight {
         requires within { IfSome self.old.unit (λ u. u.line.range.slba + u.line.range.blocks ≤ length volume.now) }
         requires few { (self.old.placed < 2 ^ 32) × IfSome self.old.unit (λ u. u.made < 2 ^ 32) }
         requires one { reads (op self.old.ticket) ≡ true → word_of block.now.found ≡ [] }
-        ensures ok { OnOk result (IfSome self.old.unit (λ u. self.new ≡ blocked_flight (contents_in volume.now) self.old block.now u)) }
+        ensures ok { OnOk result
+            (IfSome self.old.unit (λ u. self.new ≡ blocked_flight (contents_in volume.now) self.old block.now u)) }
         ensures range { IfOk result (λ d. IfSome self.old.unit (λ u. d.range ≡ u.line.range)) }
-        ensures writes { IfOk result (λ d. IfSome self.old.unit (λ u. d.writes ≡ (block.now.effect && writes (contents_in volume.now) self.old.ticket u.line.range))) }
+        ensures writes { IfOk result (λ d. IfSome self.old.unit
+            (λ u. d.writes ≡ (block.now.effect && writes (contents_in volume.now) self.old.ticket u.line.range))) }
         ensures ended { IfOk result (λ d. IfSome self.old.unit (λ u. d.ended ≡ ends_by self.old block.now u)) }
         ensures err { OnErr result (self.new ≡ self.old) }
     {
@@ -250,7 +254,8 @@ impl Flight {
     fn grow(&mut self, word: Option<bool>, read: &[u8]) -> Result<(), NoMemory>
         requires open { is_some self.old.unit ≡ true }
         requires one { is_some word ≡ true → read.now ≡ [] }
-        ensures ok { OnOk result (IfSome self.old.unit (λ u. self.new ≡ record self.old { unit = Some (record u { said = u.said ++ option_to_list word }); found = self.old.found ++ read.now })) }
+        ensures ok { OnOk result (IfSome self.old.unit (λ u. self.new ≡ record self.old
+            { unit = Some (record u { said = u.said ++ option_to_list word }); found = self.old.found ++ read.now })) }
         ensures err { OnErr result (self.new ≡ self.old) }
     {
         let Some(word) = word else {
@@ -268,7 +273,8 @@ impl Flight {
     fn finish_block(&mut self, found: Found, right: Option<Vec<bool>>, no: bool, ends: bool)
         requires few { (self.old.placed < 2 ^ 32) × IfSome self.old.unit (λ u. u.made < 2 ^ 32) }
         ensures value { IfSome self.old.unit (λ u. self.new ≡ record self.old {
-          unit = if ends then None else Some (record u { made = u.made + 1; right = first_some (option_map (λ v. v.items) right) u.right });
+          unit = if ends then None
+              else Some (record u { made = u.made + 1; right = first_some (option_map (λ v. v.items) right) u.right });
           differs = is_differs found || self.old.differs;
           placed = self.old.placed + (if is_some right then 1 else 0);
           no = no || self.old.no;
@@ -290,7 +296,8 @@ impl Flight {
 
     // What it owes after its checks passed, where it has so many units.
     fn owed_running(&self, count: u64, op: Option<Op>) -> Owed
-        ensures value { (c : ConfigNumbers) → count ≡ length (units c self.now.ticket) → result ≡ owed_running c self.now op }
+        ensures value { (c : ConfigNumbers) →
+            count ≡ length (units c self.now.ticket) → result ≡ owed_running c self.now op }
     {
         let success = Status::new(0, 0);
         let failure = Status::new(2, 0x85);
@@ -330,7 +337,8 @@ impl Flight {
 
     // The bytes of its next completion with this status, by the head and the phase of its queues' rings.
     pub(crate) fn completion(&self, status: Status, head: u16, phase: bool) -> [u8; 16]
-        ensures value { result ≡ cqe_bytes head self.now.ticket.queue (get_or (cids self.now.ticket) self.now.posts 0) (phase_bit phase) status }
+        ensures value { result ≡ cqe_bytes head self.now.ticket.queue (get_or (cids self.now.ticket) self.now.posts 0)
+            (phase_bit phase) status }
     {
         let cid = self.ticket.cid_at(self.posts);
         encode_cqe(&cqe_of(status, cid, self.ticket.queue(), head, phase))
@@ -338,7 +346,8 @@ impl Flight {
 
     /// Whether a Post says what is owed next, where the ticket has so many units.
     pub fn post_fits(&self, count: u64, head: u16, phase: bool, line: &PostLine) -> bool
-        ensures value { (c : ConfigNumbers) → count ≡ length (units c self.now.ticket) → result ≡ post_fits_at head (phase_bit phase) self.now line.now (slice_get (owed_by c self.now) self.now.posts) }
+        ensures value { (c : ConfigNumbers) → count ≡ length (units c self.now.ticket) → result ≡
+            post_fits_at head (phase_bit phase) self.now line.now (slice_get (owed_by c self.now) self.now.posts) }
     {
         let Some(status) = status_at(self.owed(count), self.posts) else {
             return false;
@@ -349,7 +358,8 @@ impl Flight {
 
     /// Whether nothing is owed yet, where it has so many units.
     pub fn owes_nothing(&self, count: u64) -> bool
-        ensures value { (c : ConfigNumbers) → count ≡ length (units c self.now.ticket) → result ≡ owes_nothing c self.now }
+        ensures value { (c : ConfigNumbers) →
+            count ≡ length (units c self.now.ticket) → result ≡ owes_nothing c self.now }
     {
         let passed = match self.ticket.verdict() {
             Verdict::Single | Verdict::Pair => true,

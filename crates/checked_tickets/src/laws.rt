@@ -13,5 +13,6 @@ ghost use Rattle.checked_tickets.specs.Contents.{post_fits_at};
 /// A Post asks for the head and the phase of its queues' rings, and for its own ticket.
 pub fn a_post_asks_for_its_rings()
     ensures { (c : ConfigNumbers) (s : Tables) (p : PostLine) (o : Option Status) →
-        post_fits_by c s p o ≡ post_fits_at (s.fetched (s.flight p.ticket).ticket.queue % c.sq_size) (phase (s.posts (completion_queue c (s.flight p.ticket).ticket.queue)) c.cq_size) (s.flight p.ticket) p o }
+        post_fits_by c s p o ≡ post_fits_at (s.fetched (s.flight p.ticket).ticket.queue % c.sq_size)
+        (phase (s.posts (completion_queue c (s.flight p.ticket).ticket.queue)) c.cq_size) (s.flight p.ticket) p o }
 {}

@@ -1,6 +1,7 @@
 //! The open unit of a ticket, and its Blocks.
 
-ghost use Rattle.std.specs.Prelude.{◌≡◌, ◌≤◌, ◌<◌, ◌+◌, ◌++◌, ◌%◌, ◌^◌, ◌==◌, [], ◌∷◌, ◌||◌, None, IfOk, OnErr, OnOk, length, nat_le, option_copied, option_map, option_to_list};
+ghost use Rattle.std.specs.Prelude.{◌≡◌, ◌≤◌, ◌<◌, ◌+◌, ◌++◌, ◌%◌, ◌^◌, ◌==◌, [], ◌∷◌, ◌||◌, None, IfOk, OnErr, OnOk};
+ghost use Rattle.std.specs.Prelude.{length, nat_le, option_copied, option_map, option_to_list};
 ghost use Rattle.nvme_model.specs.Answered.{may_find};
 ghost use Rattle.std.specs.List.{list_all};
 ghost use Rattle.nvme_model.specs.Open.{is_differs, steps_needed};
@@ -66,7 +67,8 @@ impl OpenUnit {
     /// Whether it ends with a Block that says this.
     pub(crate) fn ends(&self, ticket: &Commands, found: Found) -> bool
         requires few { self.now.made < 2 ^ 32 }
-        ensures value { result ≡ (nat_le (steps_needed ticket.now self.now.line.range.blocks) (self.now.made + 1) || is_differs found) }
+        ensures value { result ≡
+            (nat_le (steps_needed ticket.now self.now.line.range.blocks) (self.now.made + 1) || is_differs found) }
     {
         let blocks = u64::from(self.line.range.get().blocks);
         let needed = if ticket.op() == Some(Op::Pair) {
@@ -95,7 +97,8 @@ impl OpenUnit {
     /// One more Block, and the answers that are right where it is the effect.
     pub(crate) fn count(&mut self, right: Option<Vec<bool>>)
         requires few { self.old.made < 2 ^ 32 }
-        ensures value { self.new ≡ record self.old { made = self.old.made + 1; right = first_some (option_map (λ v. v.items) right) self.old.right } }
+        ensures value { self.new ≡ record self.old
+            { made = self.old.made + 1; right = first_some (option_map (λ v. v.items) right) self.old.right } }
     {
         if let Some(answers) = right {
             self.right = Some(answers);

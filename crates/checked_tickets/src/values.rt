@@ -14,7 +14,8 @@ pub fn write_range(volume: &mut Volume, ticket: &Commands, range: Range)
     requires within { range.slba + range.blocks ≤ length volume.old }
     requires whole { (l : ℕ) → has_block range l ≡ true → length (write_data ticket.now l) ≡ 512 }
     ensures length { length volume.new ≡ length volume.old }
-    ensures value { (l : ℕ) → l < length volume.old → contents_in volume.new l ≡ written_in (contents_in volume.old) ticket.now range l }
+    ensures value { (l : ℕ) →
+        l < length volume.old → contents_in volume.new l ≡ written_in (contents_in volume.old) ticket.now range l }
 {
     let _count = volume.len();
     for place in 0..range.blocks {

@@ -1,7 +1,9 @@
 -- The rules over the tables: what refuses a step, and whether an entry may follow.
 use Rattle.std.specs.Bool.{beq}
 use Rattle.std.specs.List.{flat_map, list_any}
-use Rattle.std.specs.Prelude.{Bool, List, None, Option, Some, [], bytes_eq, drop, false, get_or, if◌then◌else◌, is_none, is_some, length, map, nat_le, nat_lt, not, slice_get, true, ℕ, ◌%◌, ◌&&◌, ◌+◌, ◌++◌, ◌-◌, ◌==◌, ◌||◌, ◌∷◌}
+use Rattle.std.specs.Prelude.{Bool, List, None, Option, Some, [], bytes_eq, drop, false, get_or, if◌then◌else◌, is_none}
+use Rattle.std.specs.Prelude.{is_some, length, map, nat_le, nat_lt, not, slice_get, true, ℕ, ◌%◌, ◌&&◌, ◌+◌, ◌++◌, ◌-◌}
+use Rattle.std.specs.Prelude.{◌==◌, ◌||◌, ◌∷◌}
 use Rattle.nvme_model.specs.Answered.{may_find}
 use Rattle.nvme_model.specs.Completions.{phase}
 use Rattle.nvme_model.specs.Config.{completion_queue}
@@ -91,7 +93,8 @@ owed_by c f = owed_as c f f.ticket.verdict
 abbrev pub completion_by : ConfigNumbers → Tables → Flight → Status → List ℕ
 completion_by c s f status =
     let k = f.ticket in
-    cqe_bytes (s.fetched k.queue % c.sq_size) k.queue (get_or (cids k) f.posts 0) (phase (s.posts (completion_queue c k.queue)) c.cq_size) status
+    cqe_bytes (s.fetched k.queue % c.sq_size) k.queue (get_or (cids k) f.posts 0)
+    (phase (s.posts (completion_queue c k.queue)) c.cq_size) status
 
 -- and its data
 abbrev pub read_by : Option Op → List ℕ → List ℕ
@@ -168,7 +171,8 @@ block_fits_by contents f b (Some u) =
 abbrev pub post_fits_by : ConfigNumbers → Tables → PostLine → Option Status → Bool
 post_fits_by c s p None = false
 post_fits_by c s p (Some status) =
-    bytes_eq p.cqe (completion_by c s (s.flight p.ticket) status) && bytes_eq p.payload (data_by (s.flight p.ticket) status)
+    bytes_eq p.cqe (completion_by c s (s.flight p.ticket) status)
+    && bytes_eq p.payload (data_by (s.flight p.ticket) status)
 
 abbrev pub fits_by : ConfigNumbers → Tables → Entry → Bool
 fits_by c s (Entry.Publish p) = true

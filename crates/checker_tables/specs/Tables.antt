@@ -34,7 +34,8 @@ unit_of past g =
       line = g;
       made = length (blocks_made past g.ticket g.unit);
       said = said (blocks_made past g.ticket g.unit);
-      right = option_map (λ before. answers_at (Value.value before) (Tickets.ticket past g.ticket) g.range) (effect past g.ticket g.unit);
+      right = option_map (λ before. answers_at (Value.value before) (Tickets.ticket past g.ticket) g.range)
+          (effect past g.ticket g.unit);
     }
 
 abbrev pub open_unit : Past → ℕ → Option OpenUnit

@@ -1,6 +1,7 @@
 -- What an entry that may follow changes in the tables.
 use Rattle.std.specs.List.{filter}
-use Rattle.std.specs.Prelude.{Bool, List, None, Option, Some, [], drop, if◌then◌else◌, length, nat_le, nat_lt, not, take, ℕ, ◌&&◌, ◌+◌, ◌++◌, ◌<◌, ◌==◌, ◌||◌, ◌∷◌, ◌≡◌, ◌≤◌}
+use Rattle.std.specs.Prelude.{Bool, List, None, Option, Some, [], drop, if◌then◌else◌, length, nat_le, nat_lt, not}
+use Rattle.std.specs.Prelude.{take, ℕ, ◌&&◌, ◌+◌, ◌++◌, ◌<◌, ◌==◌, ◌||◌, ◌∷◌, ◌≡◌, ◌≤◌}
 use Rattle.nvme_model.specs.Array.{has_block}
 use Rattle.nvme_model.specs.Config.{completion_queue}
 use Rattle.nvme_model.specs.Open.{is_differs, steps_needed}
@@ -25,12 +26,14 @@ with_flight flights t f u = if u == t then f else flights u
 -- ---- a Fetch
 
 abbrev pub fetched_by : Tables → FetchLine → Ticket
-fetched_by s f = record { queue = f.queue; commands = take (Verdict.taken f.verdict) (s.waiting f.queue); verdict = f.verdict }
+fetched_by s f =
+    record { queue = f.queue; commands = take (Verdict.taken f.verdict) (s.waiting f.queue); verdict = f.verdict }
 
 -- ---- a Grant
 
 abbrev pub opened_flight : Flight → GrantLine → Flight
-opened_flight f g = record f { opened = f.opened + 1; unit = Some (record { line = g; made = 0; said = []; right = None }) }
+opened_flight f g =
+    record f { opened = f.opened + 1; unit = Some (record { line = g; made = 0; said = []; right = None }) }
 
 -- ---- a Block
 
@@ -40,7 +43,8 @@ ends_by f b u = nat_le (steps_needed f.ticket u.line.range.blocks) (u.made + 1) 
 
 -- it has one more Block, and maybe its effect
 abbrev pub unit_after : (ℕ → List ℕ) → Flight → BlockLine → OpenUnit → OpenUnit
-unit_after contents f b u = record u { made = u.made + 1; said = u.said ++ word_of b.found; right = right_after contents f b u }
+unit_after contents f b u =
+    record u { made = u.made + 1; said = u.said ++ word_of b.found; right = right_after contents f b u }
 
 -- at these contents the effect says no
 abbrev pub no_by : (ℕ → List ℕ) → Ticket → Range → Bool

@@ -18,14 +18,17 @@ ghost use Rattle.nvme_model.specs.Tickets.{Ticket};
 
 /// What refuses a step, and whether an entry may follow, is read off the tables of a legal history.
 pub fn the_tables_judge()
-    ensures refusal { (c : ConfigNumbers) (past : Past) (step : Step) → IsLegal c past → refusal c past step ≡ refusal_by c (tables c past) step }
-    ensures judged { (c : ConfigNumbers) (past : Past) (e : Entry) → IsLegal c past → may_follow c past e ≡ judged c (tables c past) e }
+    ensures refusal { (c : ConfigNumbers) (past : Past) (step : Step) →
+        IsLegal c past → refusal c past step ≡ refusal_by c (tables c past) step }
+    ensures judged { (c : ConfigNumbers) (past : Past) (e : Entry) →
+        IsLegal c past → may_follow c past e ≡ judged c (tables c past) e }
 {}
 
 /// The tables with one more entry are made of those before it.
 pub fn the_tables_go_on()
     ensures start { (c : ConfigNumbers) → tables c [] ≡ start }
-    ensures taken { (c : ConfigNumbers) (past : Past) (e : Entry) → IsLegal c (e ∷ past) → tables c (e ∷ past) ≡ taken c (tables c past) e }
+    ensures taken { (c : ConfigNumbers) (past : Past) (e : Entry) →
+        IsLegal c (e ∷ past) → tables c (e ∷ past) ≡ taken c (tables c past) e }
 {}
 
 /// A pass that keeps only the tables says of any list of entries whether it is legal.
@@ -35,7 +38,10 @@ pub fn one_pass_is_enough()
 
 /// Of what the blocks are a Block asks only for its unit's own, so a volume's list serves for the contents.
 pub fn a_block_asks_for_its_unit()
-    ensures fits { (f g : ℕ → List ℕ) (u : OpenUnit) → SameIn f g u.line.range → (x : Flight) (b : BlockLine) → block_fits_by f x b (Some u) ≡ block_fits_by g x b (Some u) }
-    ensures flight { (f g : ℕ → List ℕ) (u : OpenUnit) → SameIn f g u.line.range → (x : Flight) (b : BlockLine) → blocked_flight f x b u ≡ blocked_flight g x b u }
-    ensures value { (f g : ℕ → List ℕ) (u : OpenUnit) → SameIn f g u.line.range → (k : Ticket) (b : BlockLine) (l : ℕ) → f l ≡ g l → value_after f b k u.line.range l ≡ value_after g b k u.line.range l }
+    ensures fits { (f g : ℕ → List ℕ) (u : OpenUnit) → SameIn f g u.line.range → (x : Flight) (b : BlockLine) →
+        block_fits_by f x b (Some u) ≡ block_fits_by g x b (Some u) }
+    ensures flight { (f g : ℕ → List ℕ) (u : OpenUnit) → SameIn f g u.line.range → (x : Flight) (b : BlockLine) →
+        blocked_flight f x b u ≡ blocked_flight g x b u }
+    ensures value { (f g : ℕ → List ℕ) (u : OpenUnit) → SameIn f g u.line.range → (k : Ticket) (b : BlockLine) (l : ℕ) →
+        f l ≡ g l → value_after f b k u.line.range l ≡ value_after g b k u.line.range l }
 {}

@@ -2,7 +2,8 @@
 use Rattle.std.specs.List.{position}
 use Rattle.std.specs.List.Sorted.{IsStrictlyIncreasing}
 use Rattle.std.specs.Option.{option_map}
-use Rattle.std.specs.Prelude.{List, None, Option, Some, if◌then◌else◌, length, nat_lt, slice_index_or, ℕ, ◌&&◌, ◌*◌, ◌+◌, ◌<◌, ◌==◌, ◌≡◌, ◌≢◌, ◌≤◌}
+use Rattle.std.specs.Prelude.{List, None, Option, Some, if◌then◌else◌, length, nat_lt, slice_index_or, ℕ, ◌&&◌, ◌*◌}
+use Rattle.std.specs.Prelude.{◌+◌, ◌<◌, ◌==◌, ◌≡◌, ◌≢◌, ◌≤◌}
 use Rattle.nvme_model.specs.declared.status.Status.{Status}
 use Rattle.nvme_model.specs.declared.submission.Payload.{Payload}
 use Rattle.cid_table.specs.declared.held.Held.{Held}
@@ -25,7 +26,8 @@ queues_of t = t.queues
 
 -- where a CID of a queue is, among 64 of each
 abbrev pub place_of : List ℕ → ℕ → ℕ → Option ℕ
-place_of queues queue cid = if nat_lt cid 64 then option_map (λ k. 64 * k + cid) (position (λ q. q == queue) queues) else None
+place_of queues queue cid =
+    if nat_lt cid 64 then option_map (λ k. 64 * k + cid) (position (λ q. q == queue) queues) else None
 
 -- what is at that place
 abbrev pub held_at : List Held → Option ℕ → Held

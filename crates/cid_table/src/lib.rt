@@ -6,6 +6,3 @@ mod table;
 
 pub use held::Held;
 pub use table::{CidTable, TwoCids};
-
-#[cfg(test)]
-mod tests;

@@ -1,8 +1,10 @@
 //! The CIDs of several submission queues.
 
 ghost use Rattle.std.specs.List.Sorted.{IsStrictlyIncreasing};
-ghost use Rattle.std.specs.Prelude.{◌≡◌, ℕ, ◌+◌, ◌<◌, ◌≤◌, ◌*◌, ◌==◌, Contains, IfErr, IfNone, IfOk, IfSome, OnSome, position, replicate};
-ghost use Rattle.cid_table.specs.Cids.{AtMostOneFree, ChangesOnly, NoneFreeBelow, NoneFreeBetween, answered, held, payload_of, place_of, queues_of, status_of};
+ghost use Rattle.std.specs.Prelude.{◌≡◌, ℕ, ◌+◌, ◌<◌, ◌≤◌, ◌*◌, ◌==◌, Contains, IfErr, IfNone, IfOk, IfSome, OnSome};
+ghost use Rattle.std.specs.Prelude.{position, replicate};
+ghost use Rattle.cid_table.specs.Cids.{AtMostOneFree, ChangesOnly, NoneFreeBelow, NoneFreeBetween, answered, held};
+ghost use Rattle.cid_table.specs.Cids.{payload_of, place_of, queues_of, status_of};
 
 use crate::held::Held;
 use nvme_model::status::Status;
@@ -85,7 +87,8 @@ impl CidTable {
         self.next_free(queue, 0)
     }
 
-    /// The two least free CIDs of a submission queue; None where fewer than two are free, and of a queue that isn't in the table.
+    /// The two least free CIDs of a submission queue; None where fewer than two are free, and of a queue that isn't in
+    /// the table.
     pub fn free_two(&self, queue: u16) -> Option<TwoCids>
         ensures known { OnSome result (Contains (queues_of self.now) queue) }
         ensures unlike { IfSome result (λ two. two.first < two.second) }

@@ -19,4 +19,5 @@ left_of (first ∷ (second ∷ _)) = Two first second
 
 -- what is kept is found from its list
 pub left_of-statuses_of : (o : Inside) → record { left = left_of (statuses_of o.left) } ≡ o
-left_of-statuses_of o = elim o.left as (λ (k : Left). record { left = left_of (statuses_of k) } ≡ record { left = k }) [ Nothing ↦ refl | One s ↦ refl | Two s r ↦ refl ]
+left_of-statuses_of o = elim o.left as (λ (k : Left). record { left = left_of (statuses_of k) } ≡ record { left = k })
+    [ Nothing ↦ refl | One s ↦ refl | Two s r ↦ refl ]

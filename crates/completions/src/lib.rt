@@ -3,8 +3,6 @@
 
 mod entry;
 mod owed;
-#[cfg(test)]
-mod tests;
 
 pub use crate::entry::cqe_of;
 pub use crate::owed::Owed;

@@ -1,4 +1,5 @@
--- The events of a port in a shared history: the Publishes to the submission queues of one completion queue, and the Reaps of it, by one pass.
+-- The events of a port in a shared history: the Publishes to the submission queues of one completion queue, and the
+-- Reaps of it, by one pass.
 use Rattle.std.specs.Prelude.{List, [], if◌then◌else◌, slice_get, ℕ, ◌++◌, ◌==◌, ◌≡◌, ◌∷◌}
 use Rattle.nvme_model.specs.Completions.{posted, reaped}
 use Rattle.nvme_model.specs.Config.{completion_queue}
@@ -18,7 +19,8 @@ use Rattle.std.specs.Prelude.{None, Option, Some}
 
 -- the event that an entry is for completion queue n, if it is one
 abbrev pub event_at : ConfigNumbers → ℕ → Past → Entry → List PortEvent
-event_at c n past (Entry.Publish p) = if completion_queue c p.queue == n then PortEvent.Sent p.queue p.batch ∷ [] else []
+event_at c n past (Entry.Publish p) =
+    if completion_queue c p.queue == n then PortEvent.Sent p.queue p.batch ∷ [] else []
 event_at c n past (Entry.Reap r) =
     if r.queue == n
     then PortEvent.Got r.cqe (payload_of (slice_get (posted c past r.queue) (reaped past r.queue))) ∷ []
@@ -35,10 +37,12 @@ abbrev pub waiting_number : CidState → Option ℕ → Option ℕ
 waiting_number CidState.Waiting j = j
 waiting_number _ j = None
 
--- What a log tells of completion queue n and its submission queues: which entries are published, which are not reaped, and by which Post each was
--- answered.
+-- What a log tells of completion queue n and its submission queues: which entries are published, which are not reaped,
+-- and by which Post each was answered.
 pub record IsTold (c : ConfigNumbers) (past : Past) (n : ℕ) (log : List PortEvent) : Type 0 where
   pub entries_are : (q : ℕ) → completion_queue c q ≡ n → published past q ≡ sent log q
   pub book : IsBook c past n (λ q cid. waiting_number (state_of log q cid) (newest log q cid))
-  pub got : (q cid j : ℕ) (cqe payload : List ℕ) → completion_queue c q ≡ n → state_of log q cid ≡ CidState.Answered cqe payload →
-      newest log q cid ≡ Some j → (p : PostLine) × (reaped_post c past q j ≡ Some p) × (p.cqe ≡ cqe) × (p.payload ≡ payload)
+  pub got : (q cid j : ℕ) (cqe payload : List ℕ) →
+      completion_queue c q ≡ n → state_of log q cid ≡ CidState.Answered cqe payload →
+      newest log q cid ≡ Some j →
+      (p : PostLine) × (reaped_post c past q j ≡ Some p) × (p.cqe ≡ cqe) × (p.payload ≡ payload)

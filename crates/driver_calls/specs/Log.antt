@@ -1,5 +1,6 @@
 -- What a port did for its driver, the newest event first, and what that says of each CID and each entry.
-use Rattle.std.specs.Prelude.{Bool, List, None, Option, Some, [], false, if◌then◌else◌, length, nat_lt, not, suc, true, ℕ, ◌&&◌, ◌++◌, ◌==◌, ◌∷◌}
+use Rattle.std.specs.Prelude.{Bool, List, None, Option, Some, [], false, if◌then◌else◌, length, nat_lt, not, suc, true}
+use Rattle.std.specs.Prelude.{ℕ, ◌&&◌, ◌++◌, ◌==◌, ◌∷◌}
 use Rattle.std.specs.List.{list_any}
 use Rattle.nvme_model.specs.EntryBytes.{cqe_fields}
 use Rattle.nvme_model.specs.declared.submission.Submission.{Submission}
@@ -30,7 +31,8 @@ has_cid cid batch = list_any (λ s. cid_of s == cid) batch
 -- what the newest entry of submission queue q with this CID has come to
 abbrev pub state_of : List PortEvent → ℕ → ℕ → CidState
 state_of [] q cid = CidState.Idle
-state_of (PortEvent.Sent p batch ∷ log) q cid = if (p == q) && has_cid cid batch then CidState.Waiting else state_of log q cid
+state_of (PortEvent.Sent p batch ∷ log) q cid =
+    if (p == q) && has_cid cid batch then CidState.Waiting else state_of log q cid
 state_of (PortEvent.Got cqe payload ∷ log) q cid = after_got (names_cid cqe q cid) cqe payload (state_of log q cid)
 
 -- the number of the last of these entries with this CID, where the first has number k; else the one that was

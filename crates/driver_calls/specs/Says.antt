@@ -13,7 +13,8 @@ use Rattle.nvme_model.specs.declared.entry.PostLine.{PostLine}
 use Rattle.nvme_model.specs.declared.operation.Op.{Op}
 use Rattle.nvme_model.specs.declared.status.Status.{Status}
 use Rattle.nvme_model.specs.declared.submission.Submission.{Submission}
-use Rattle.host_laws.specs.Calls.{CompareDiffers, FailsChecks, IsDone, PairDiffers, PairSwaps, reaped_post, says_yes, status_in}
+use Rattle.host_laws.specs.Calls.{CompareDiffers, FailsChecks, IsDone, PairDiffers, PairSwaps, reaped_post, says_yes}
+use Rattle.host_laws.specs.Calls.{status_in}
 use Rattle.driver_calls.specs.Answers.{answer_of, pair_answer_of}
 use Rattle.driver_calls.specs.Log.{newest, sent, state_of}
 use Rattle.driver_calls.specs.declared.event.CidState.{CidState}
@@ -27,10 +28,12 @@ one_outcome o (CidState.Answered cqe payload) = Some (answer_of o (status_in cqe
 one_outcome o _ = None
 
 abbrev pub pair_outcome : CidState → CidState → Option (Result Reply Status)
-pair_outcome (CidState.Answered cqe payload) (CidState.Answered bytes second) = Some (pair_answer_of (status_in cqe) (status_in bytes))
+pair_outcome (CidState.Answered cqe payload) (CidState.Answered bytes second) =
+    Some (pair_answer_of (status_in cqe) (status_in bytes))
 pair_outcome _ _ = None
 
--- what a call of operation o on submission queue q is answered, whose entries have these CIDs (the second is of a pair alone)
+-- what a call of operation o on submission queue q is answered, whose entries have these CIDs (the second is of a pair
+-- alone)
 abbrev pub outcome : List PortEvent → ℕ → Op → ℕ → ℕ → Option (Result Reply Status)
 outcome log q Op.Pair first second = pair_outcome (state_of log q first) (state_of log q second)
 outcome log q o first second = one_outcome o (state_of log q first)
@@ -58,7 +61,8 @@ IsCallIn log q Op.Pair first second j =
     IsFusedIn (sent log q) j × (newest log q first ≡ Some j) × (newest log q second ≡ Some (suc j))
 IsCallIn log q o first second j = IsSingleIn (sent log q) j o × (newest log q first ≡ Some j)
 
--- ---- what it says of the history, where entry j of submission queue q is the call's first, and start is what was seen when the call was started
+-- ---- what it says of the history, where entry j of submission queue q is the call's first, and start is what was seen
+-- when the call was started
 
 -- the ticket has no effect at the start
 abbrev pub IsAfter : Past → ℕ → Type 0
@@ -67,7 +71,8 @@ IsAfter start t = (u : ℕ) → effect start t u ≡ None
 -- the effects that a reply names stand in the history, after the start
 abbrev pub ReplySays : ConfigNumbers → Past → Past → ℕ → ℕ → Op → Reply → Type 0
 ReplySays c start past q j Op.Read (Reply.Read bytes) = (d : IsDone c past q j Op.Read bytes) × IsAfter start d.ticket
-ReplySays c start past q j Op.Write Reply.Written = (bytes : List ℕ) × (d : IsDone c past q j Op.Write bytes) × IsAfter start d.ticket
+ReplySays c start past q j Op.Write Reply.Written =
+    (bytes : List ℕ) × (d : IsDone c past q j Op.Write bytes) × IsAfter start d.ticket
 ReplySays c start past q j Op.WriteZeroes Reply.Written =
     (bytes : List ℕ) × (d : IsDone c past q j Op.WriteZeroes bytes) × IsAfter start d.ticket
 ReplySays c start past q j Op.Compare Reply.Equal =
@@ -76,7 +81,8 @@ ReplySays c start past q j Op.Compare Reply.Equal =
 ReplySays c start past q j Op.Compare Reply.Differs = (d : CompareDiffers c past q j) × IsAfter start d.ticket
 ReplySays c start past q j Op.Pair Reply.Swapped = (d : PairSwaps past q j) × IsAfter start d.ticket
 ReplySays c start past q j Op.Pair Reply.Differs =
-    (d : PairDiffers past q j) × (list_any (λ b. is_written b.found) (blocks_made past d.ticket 0) ≡ false) × IsAfter start d.ticket
+    (d : PairDiffers past q j) × (list_any (λ b. is_written b.found) (blocks_made past d.ticket 0) ≡ false)
+    × IsAfter start d.ticket
 ReplySays c start past q j _ _ = ⊥
 
 -- the completion of entry j was reaped, with this status, which isn't success
@@ -87,12 +93,13 @@ IsReapedAs c past q j s =
 abbrev pub IsReaped : ConfigNumbers → Past → ℕ → ℕ → Type 0
 IsReaped c past q j = (p : PostLine) × (reaped_post c past q j ≡ Some p)
 
--- A completion of the call has this status: of a pair the first that isn't success. A command that is answered so failed its checks, unless it
--- is a pair's second, whose first succeeded.
+-- A completion of the call has this status: of a pair the first that isn't success. A command that is answered so
+-- failed its checks, unless it is a pair's second, whose first succeeded.
 abbrev pub FailedSays : ConfigNumbers → Past → ℕ → ℕ → Op → Status → Type 0
 FailedSays c past q j Op.Pair s =
     (IsReapedAs c past q j s × (same_status s compare_failure ≡ false) × FailsChecks past q j)
-    ⊎ (((p : PostLine) × (reaped_post c past q j ≡ Some p) × (is_success (status_in p.cqe) ≡ true)) × IsReapedAs c past q (suc j) s)
+    ⊎ (((p : PostLine) × (reaped_post c past q j ≡ Some p) × (is_success (status_in p.cqe) ≡ true))
+    × IsReapedAs c past q (suc j) s)
 FailedSays c past q j o s = IsReapedAs c past q j s × (same_status s compare_failure ≡ false) × FailsChecks past q j
 
 abbrev pub AllReaped : ConfigNumbers → Past → ℕ → ℕ → Op → Type 0

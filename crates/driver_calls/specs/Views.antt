@@ -52,8 +52,8 @@ pub record Publishes (a b : PortView) (q : ℕ) (batch : List Submission) : Type
 abbrev pub IsFull : PortView → ℕ → List Submission → Type 0
 IsFull v q batch = refusal v.config (entries v.seen) (Step.Publish q batch) ≡ Some Why.NoRoom
 
--- The premise of a driver: every Publish to the submission queues of its completion queue, and every Reap of that, in what was seen is this driver's.
--- They are all of its port's pass, which made none of them before the driver was made.
+-- The premise of a driver: every Publish to the submission queues of its completion queue, and every Reap of that, in
+-- what was seen is this driver's. They are all of its port's pass, which made none of them before the driver was made.
 pub record IsAlone (before : List PortEvent) (now : PortView) : Type 0 where
   pub none : before ≡ []
   pub sole : IsSole now.config now.queue now.pass now.seen

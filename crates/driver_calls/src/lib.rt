@@ -4,8 +4,6 @@
 mod event;
 pub mod laws;
 mod reply;
-#[cfg(test)]
-mod tests;
 
 pub use event::{CidState, PortEvent};
 pub use reply::{Reply, answer_to, pair_answer_to};

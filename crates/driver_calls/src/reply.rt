@@ -1,7 +1,8 @@
 //! What a call is answered by the statuses of its completions.
 
 ghost use Rattle.std.specs.Prelude.{◌≡◌};
-ghost use Rattle.nvme_model.specs.Statuses.{compare_failure as compare_failure_status, is_success as is_success_of, same_status};
+ghost use Rattle.nvme_model.specs.Statuses.{compare_failure as compare_failure_status, is_success as is_success_of};
+ghost use Rattle.nvme_model.specs.Statuses.{same_status};
 ghost use Rattle.driver_calls.specs.Answers.{answer_of, pair_answer_of};
 
 use nvme_model::operation::Op;

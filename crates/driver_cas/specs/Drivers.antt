@@ -1,5 +1,6 @@
 -- What contracts say of a driver and its calls.
-use Rattle.std.specs.Prelude.{Contains, Err, List, None, Ok, Option, Result, Some, false, if◌then◌else◌, is_some, length, true, ℕ, ◌&&◌, ◌∷◌, ◌≡◌, ◌⊎◌}
+use Rattle.std.specs.Prelude.{Contains, Err, List, None, Ok, Option, Result, Some, false, if◌then◌else◌, is_some}
+use Rattle.std.specs.Prelude.{length, true, ℕ, ◌&&◌, ◌∷◌, ◌≡◌, ◌⊎◌}
 use Rattle.nvme_model.specs.declared.array.Range.{Range}
 use Rattle.nvme_model.specs.declared.status.Status.{Status}
 use Rattle.cid_table.specs.Cids.{Cids, held, queues_of}
@@ -86,7 +87,8 @@ module _ {P : Type 0} where
 
   -- the two calls have no CID in common
   abbrev pub IsApart : Call P → Call P → Type 0
-  IsApart k j = (q cid : ℕ) → is_its_cid k.op k.queue k.first k.second q cid ≡ true → is_its_cid j.op j.queue j.first j.second q cid ≡ false
+  IsApart k j = (q cid : ℕ) →
+      is_its_cid k.op k.queue k.first k.second q cid ≡ true → is_its_cid j.op j.queue j.first j.second q cid ≡ false
 
   -- a call that was answered has no CID any more; all others are in use as before
   abbrev pub IsFreed : Cids → Cids → Call P → Poll P → Type 0

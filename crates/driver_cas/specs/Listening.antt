@@ -24,12 +24,14 @@ pub record SawMore (a b : SharedPort) : Type 0 where
   pub follows : Follows a b
   pub log : log_of (view_of b) ≡ log_of (view_of a)
 
--- how many notices are counted after one of this completion queue: one more, but 2^64 - 1 at most, where it is the port's own
+-- how many notices are counted after one of this completion queue: one more, but 2^64 - 1 at most, where it is the
+-- port's own
 abbrev pub counted_with : ℕ → SharedPort → ℕ
 counted_with queue p = if queue == p.queue then min (p.counted + 1) (2 ^ 64 - 1) else p.counted
 
--- The port has seen what the notice had, and did nothing else; the notice is counted. From now on a Reap of the notice's completion queue is
--- refused for want of a completion only where as many Reaps of it stand there as posts stood in what the notice had seen.
+-- The port has seen what the notice had, and did nothing else; the notice is counted. From now on a Reap of the
+-- notice's completion queue is refused for want of a completion only where as many Reaps of it stand there as posts
+-- stood in what the notice had seen.
 pub record Hears (a b : SharedPort) (n : Notice) : Type 0 where
   pub saw : SawMore a b
   pub learned : IsBeginning (notice_seen n) (seen b.pass)
@@ -44,7 +46,8 @@ IsPlaceFor a q p = IsOf q p × (lock_of_pass p ≡ a.pass.seat.table_id)
 abbrev pub Pops : QueuePass Notice → QueuePass Notice → Option Notice → Type 0
 Pops = IsPopped (λ n. n.note.seat.table_id) (λ n. Unit {0})
 
--- the notice at the front was popped, and the port heard it; or the queue was empty at one moment, and the port is as it was
+-- the notice at the front was popped, and the port heard it; or the queue was empty at one moment, and the port is as
+-- it was
 abbrev pub Listens : SharedPort → SharedPort → QueuePass Notice → QueuePass Notice → Bool → Type 0
 Listens a b p q true = (n : Notice) × Pops p q (Some n) × Hears a b n
 Listens a b p q false = Pops p q None × (b ≡ a)

@@ -7,7 +7,8 @@ use Rattle.driver_cas.specs.declared.shared_port.SharedPort.{SharedPort}
 
 -- what is known of it
 abbrev pub view_of : SharedPort → PortView
-view_of p = record { config = passes.config_of p.pass; queue = p.queue; pass = passes.number p.pass; seen = passes.seen p.pass }
+view_of p =
+    record { config = passes.config_of p.pass; queue = p.queue; pass = passes.number p.pass; seen = passes.seen p.pass }
 
 -- the second is the first at a later time, of the same engine
 pub record Follows (a b : SharedPort) : Type 0 where

@@ -1,5 +1,6 @@
 -- What a start call asks for, and what comes of it.
-use Rattle.std.specs.Prelude.{Err, Ok, Result, Some, if◌then◌else◌, nat_lt, not, ℕ, ◌%◌, ◌&&◌, ◌+◌, ◌/◌, ◌==◌, ◌||◌, ◌≡◌}
+use Rattle.std.specs.Prelude.{Err, Ok, Result, Some, if◌then◌else◌, nat_lt, not, ℕ, ◌%◌, ◌&&◌, ◌+◌, ◌/◌, ◌==◌, ◌||◌}
+use Rattle.std.specs.Prelude.{◌≡◌}
 use Rattle.nvme_model.specs.Array.{overlap}
 use Rattle.nvme_model.specs.Operations.{has_write, is_pair}
 use Rattle.nvme_model.specs.declared.array.Range.{Range}
@@ -28,8 +29,8 @@ pair_request_of acwu slots slba bytes others =
     if bytes == others then request_of acwu slots Op.Pair slba bytes else Err Fault.Length
 
 module _ {P : Type 0} {g : Ghosts P} where
-  -- A fault of what was asked is answered as such. Else the call is begun, or a port's fault is answered. After any fault the driver is as before, and
-  -- nothing was published.
+  -- A fault of what was asked is answered as such. Else the call is begun, or a port's fault is answered. After any
+  -- fault the driver is as before, and nothing was published.
   abbrev pub IsStart : Driver P g → Driver P g → Result Request Fault → CallData → Result (Call P) Fault → Type 0
   IsStart d e (Err f) contents r = (r ≡ Err f) × IsAsBefore d e
   IsStart d e (Ok q) contents r = IsBegun d e q contents r

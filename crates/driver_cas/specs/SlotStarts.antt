@@ -34,7 +34,8 @@ module _ {P : Type 0} {g : Ghosts P} where
       ((f ≡ Fault.NoSerial) × (d.serial ≡ last_serial))
       ⊎ ((d.serial ≢ last_serial) × IsPortFault d e (swap_request lba) (claim_data d.host (suc d.serial)) f)
 
-  -- The claim is begun under the next serial, which is drawn. After any fault the driver is as before, and nothing was published.
+  -- The claim is begun under the next serial, which is drawn. After any fault the driver is as before, and nothing was
+  -- published.
   abbrev pub IsClaimStart : Driver P g → Driver P g → ℕ → Result (Call P × ℕ) Fault → Type 0
   IsClaimStart d e lba (Ok r) =
       (r.1 ≡ suc d.serial) × (e.serial ≡ r.1) × IsStarted d e r.0 Op.Pair lba 1 (claim_data d.host r.1)

@@ -14,7 +14,8 @@ use Rattle.driver_cas.specs.declared.call.Call.{Call}
 use Rattle.driver_cas.specs.declared.driver.Driver.{Driver}
 use Rattle.driver_cas.specs.declared.port.Port.{Ghosts}
 
--- Two CIDs that a call of this operation may use: both are free, and those of a pair are unlike. Of any other operation only the first counts.
+-- Two CIDs that a call of this operation may use: both are free, and those of a pair are unlike. Of any other operation
+-- only the first counts.
 pub record AreFree (cids : Cids) (o : Op) (queue first second : ℕ) : Type 0 where
   pub first_free : held cids queue first ≡ Held.Free
   pub second_free : held cids queue second ≡ Held.Free
@@ -30,7 +31,8 @@ IsTaken old new o queue first second =
 -- the batch was published and its CIDs are taken, or nothing has changed
 abbrev pub IsSent : List PortEvent → List PortEvent → Cids → Cids → Op → ℕ → ℕ → ℕ → List Submission → Type 0
 IsSent before after old new o queue first second batch =
-    ((after ≡ PortEvent.Sent queue batch ∷ before) × IsTaken old new o queue first second) ⊎ ((after ≡ before) × (new ≡ old))
+    ((after ≡ PortEvent.Sent queue batch ∷ before) × IsTaken old new o queue first second)
+    ⊎ ((after ≡ before) × (new ≡ old))
 
 module _ {P : Type 0} {g : Ghosts P} where
   -- nothing was published, and no CID is used otherwise

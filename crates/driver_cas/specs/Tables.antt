@@ -1,5 +1,6 @@
 -- A driver's table of CIDs, beside what its port did.
-use Rattle.std.specs.Prelude.{Bool, List, None, Option, Result, bytes_eq, false, if◌then◌else◌, true, ℕ, ◌&&◌, ◌==◌, ◌≡◌, ◌⊎◌, ◌∷◌, ◌||◌}
+use Rattle.std.specs.Prelude.{Bool, List, None, Option, Result, bytes_eq, false, if◌then◌else◌, true, ℕ, ◌&&◌, ◌==◌}
+use Rattle.std.specs.Prelude.{◌≡◌, ◌⊎◌, ◌∷◌, ◌||◌}
 use Rattle.nvme_model.specs.Operations.{is_pair}
 use Rattle.nvme_model.specs.Statuses.{same_status}
 use Rattle.nvme_model.specs.declared.operation.Op.{Op}
@@ -18,7 +19,8 @@ use Rattle.std.specs.Prelude.{Some}
 abbrev pub fits : Held → CidState → Bool
 fits Held.Free st = is_idle st
 fits Held.Waiting CidState.Waiting = true
-fits (Held.Answered status payload) (CidState.Answered cqe bytes) = same_status (status_in cqe) status && bytes_eq bytes payload
+fits (Held.Answered status payload) (CidState.Answered cqe bytes) =
+    same_status (status_in cqe) status && bytes_eq bytes payload
 fits _ _ = false
 
 -- so of each CID

@@ -65,7 +65,8 @@ module _ {P : Type 0} {g : Ghosts P} where
 -- what is made of a batch that wasn't published: for want of room its data and its room come back, else it is told why
 abbrev pub IsNotSent : {P : Type 0} → PortFault → List Submission → Tried P → Type 0
 IsNotSent PortFault.RingFull batch (Tried.Full c room) =
-    ((o : Op) (slba blocks first second : ℕ) (contents : CallData) → IsBatch o slba blocks first second contents batch → c ≡ contents)
+    ((o : Op) (slba blocks first second : ℕ) (contents : CallData) →
+    IsBatch o slba blocks first second contents batch → c ≡ contents)
     × (room.items ≡ []) × (length batch ≤ vec_capacity room)
 IsNotSent PortFault.Busy batch (Tried.Stopped f) = f ≡ Fault.Busy
 IsNotSent PortFault.NoMemory batch (Tried.Stopped f) = f ≡ Fault.NoMemory

@@ -128,7 +128,8 @@ impl<P: Port> Driver<P> {
     pub fn start_write_zeroes(&mut self, slba: u64, blocks: u32) -> Result<Call<P>, Fault>
         ensures same { IsSame self.old self.new }
         ensures later { P.follows self.old.port self.new.port }
-        ensures is { IsStart self.old self.new (request_of self.old.acwu self.old.slots Op.WriteZeroes slba (512 * blocks))
+        ensures is { IsStart self.old self.new
+            (request_of self.old.acwu self.old.slots Op.WriteZeroes slba (512 * blocks))
             (CallData.One []) result }
     {
         self.start_one(Op::WriteZeroes, slba, BLOCK * blocks as usize, &[])
@@ -142,7 +143,8 @@ impl<P: Port> Driver<P> {
     pub fn start_write(&mut self, slba: u64, contents: &[u8]) -> Result<Call<P>, Fault>
         ensures same { IsSame self.old self.new }
         ensures later { P.follows self.old.port self.new.port }
-        ensures is { IsStart self.old self.new (request_of self.old.acwu self.old.slots Op.Write slba (length contents.now))
+        ensures is { IsStart self.old self.new
+            (request_of self.old.acwu self.old.slots Op.Write slba (length contents.now))
             (CallData.One contents.now) result }
     {
         self.start_one(Op::Write, slba, contents.len(), contents)
@@ -156,18 +158,20 @@ impl<P: Port> Driver<P> {
     pub fn start_compare(&mut self, slba: u64, contents: &[u8]) -> Result<Call<P>, Fault>
         ensures same { IsSame self.old self.new }
         ensures later { P.follows self.old.port self.new.port }
-        ensures is { IsStart self.old self.new (request_of self.old.acwu self.old.slots Op.Compare slba (length contents.now))
+        ensures is { IsStart self.old self.new
+            (request_of self.old.acwu self.old.slots Op.Compare slba (length contents.now))
             (CallData.One contents.now) result }
     {
         self.start_one(Op::Compare, slba, contents.len(), contents)
     }
 
-    /// Begins to write the desired data to the blocks from block `slba` on where they hold the expected data, as one fused
-    /// pair.
+    /// Begins to write the desired data to the blocks from block `slba` on where they hold the expected data, as one
+    /// fused pair.
     ///
     /// # Errors
     ///
-    /// As `start_write`; `Length` also of two data of unlike lengths, `TooLong` also of more than `acwu` and one blocks.
+    /// As `start_write`; `Length` also of two data of unlike lengths, `TooLong` also of more than `acwu` and one
+    /// blocks.
     pub fn start_compare_and_write(
         &mut self,
         slba: u64,

@@ -27,8 +27,8 @@ fn swap(lba: u64) -> Request
 }
 
 impl<P: Port> Driver<P> {
-    /// Begins to claim the slot at block `lba`: to swap zeros for the name of this driver's host and its next serial, which
-    /// is given beside the call.
+    /// Begins to claim the slot at block `lba`: to swap zeros for the name of this driver's host and its next serial,
+    /// which is given beside the call.
     ///
     /// # Errors
     ///
@@ -52,13 +52,13 @@ impl<P: Port> Driver<P> {
         Ok((call, serial))
     }
 
-    /// Begins to release the slot at block `lba`: to swap the name of this driver's host and this serial for zeros. That
-    /// nobody but who holds a slot releases it is for the caller to see.
+    /// Begins to release the slot at block `lba`: to swap the name of this driver's host and this serial for zeros.
+    /// That nobody but who holds a slot releases it is for the caller to see.
     ///
     /// # Errors
     ///
-    /// The first that holds: `RingFull` where too few CIDs are free; `NoMemory`; then what the port answers. Nothing was
-    /// published.
+    /// The first that holds: `RingFull` where too few CIDs are free; `NoMemory`; then what the port answers. Nothing
+    /// was published.
     pub fn start_release(&mut self, lba: u64, serial: u64) -> Result<Call<P>, Fault>
         requires inside { has_block self.old.slots lba ≡ true }
         ensures same { IsSame self.old self.new }

@@ -30,14 +30,16 @@ pub struct Driver<P: Port> {
     ghost grows: { length (P.log began.value) ≤ length (P.log port) },
     ghost tidy: { is_tidy (since (P.log began.value) (P.log port)) ≡ true },
     ghost own: { (q : ℕ) → Contains (queues_of cids) q → P.owns port q ≡ true },
-    ghost matches: { (q cid : ℕ) → fits (held cids q cid) (state_of (since (P.log began.value) (P.log port)) q cid) ≡ true },
+    ghost matches: { (q cid : ℕ) →
+        fits (held cids q cid) (state_of (since (P.log began.value) (P.log port)) q cid) ≡ true },
     ghost named: { 1 ≤ host },
     ghost within: { slots.slba + slots.blocks ≤ 65536 },
 }
 
 impl<P: Port> Driver<P> {
-    /// A driver of this port on these submission queues of it, in rising order, as this host. A Compare and Write has at
-    /// most `acwu` and one blocks (0's based). Blocks of `slots`, which may be empty, are for claims and releases alone.
+    /// A driver of this port on these submission queues of it, in rising order, as this host. A Compare and Write has
+    /// at most `acwu` and one blocks (0's based). Blocks of `slots`, which may be empty, are for claims and releases
+    /// alone.
     ///
     /// # Errors
     ///

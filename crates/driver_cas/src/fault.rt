@@ -29,7 +29,8 @@ pub enum Fault {
     /// Too few CIDs are free, or no submission queue has room.
     #[error("too few identifiers, or no room in a submission queue")]
     RingFull,
-    /// A completion with this status: not success, and not a Compare that differs; of a pair the first that isn't success.
+    /// A completion with this status: not success, and not a Compare that differs; of a pair the first that isn't
+    /// success.
     #[error("status {}/{:02X}", .0.sct(), .0.sc())]
     Status(Status),
     /// Another caller had the controller.

@@ -34,9 +34,9 @@ impl<'a> Driver<SharedPort<'a>> {
         self.port.meet(&mut other.port)
     }
 
-    /// Takes at most one notice out of a queue of the port's engine; whether it took one. The port then has seen what the
-    /// notice had, and a notice of its completion queue lets one more completion be reaped. It may spin beside other
-    /// callers, and asks again while one has the controller.
+    /// Takes at most one notice out of a queue of the port's engine; whether it took one. The port then has seen what
+    /// the notice had, and a notice of its completion queue lets one more completion be reaped. It may spin beside
+    /// other callers, and asks again while one has the controller.
     pub fn listen<R: Wait>(
         &mut self,
         rt: &R,

@@ -63,12 +63,14 @@ impl<'a> SharedPort<'a> {
         ensures second { SawMore other.old other.new }
         ensures counted { (self.new.counted ≡ self.old.counted) × (other.new.counted ≡ other.old.counted) }
         ensures met { IfOk result (λ _. seen self.new.pass ≡ seen other.new.pass) }
-        ensures busy { IfErr result (λ _. (view_of self.new ≡ view_of self.old) × (view_of other.new ≡ view_of other.old)) }
+        ensures busy { IfErr result
+            (λ _. (view_of self.new ≡ view_of self.old) × (view_of other.new ≡ view_of other.old)) }
     {
         meet_passes(self.engine, &mut self.pass, &mut other.pass)
     }
 
-    /// Learns a notice, again while another caller has the controller, and counts it where it is of this completion queue.
+    /// Learns a notice, again while another caller has the controller, and counts it where it is of this completion
+    /// queue.
     pub(crate) fn hear<R: Wait>(&mut self, rt: &R, notice: Notice)
         requires { IsNoticeFor self.old notice }
         ensures saw { SawMore self.old self.new }

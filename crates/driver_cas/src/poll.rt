@@ -1,7 +1,8 @@
 //! Polling a call.
 
 ghost use Rattle.std.specs.Prelude.{◌≡◌, ◌≢◌, ◌⊎◌, IfErr, IfNone, IfSome, None, Some, is_some};
-ghost use Rattle.driver_cas.specs.Drivers.{IsApart, IsBack, IsCallBack, IsCallOf, IsFreed, IsOneMore, IsSame, answer_to};
+ghost use Rattle.driver_cas.specs.Drivers.{IsApart, IsBack, IsCallBack, IsCallOf, IsFreed, IsOneMore, IsSame};
+ghost use Rattle.driver_cas.specs.Drivers.{answer_to};
 ghost use Rattle.driver_cas.specs.Drivers.{before, made, number_of, told};
 ghost use Rattle.driver_cas.specs.Tables.{GoesOn, IsReleased};
 ghost use Rattle.driver_cas.specs.declared.call.Call.{Call};
@@ -47,7 +48,8 @@ impl<P: Port> Driver<P> {
         ensures port { self.new.port ≡ self.old.port }
         ensures answer { result ≡ answer_to self.old call.now }
         ensures none { IfNone result (self.new.cids ≡ self.old.cids) }
-        ensures some { IfSome result (λ _. IsReleased self.old.cids self.new.cids call.now.op call.now.queue call.now.first
+        ensures some { IfSome result
+            (λ _. IsReleased self.old.cids self.new.cids call.now.op call.now.queue call.now.first
             call.now.second) }
         ensures others { (other : Call P) → IsCallOf self.old other → IsApart call.now other → IsCallOf self.new other }
     {
@@ -85,8 +87,8 @@ impl<P: Port> Driver<P> {
         reap_one(&mut self.port, &mut self.cids)
     }
 
-    /// The answer to a call whose completions were reaped, or else the call. Reaps at most one completion, of this call or
-    /// of another; one that no call is owed is dropped. Takes no memory but what the port's Reap takes.
+    /// The answer to a call whose completions were reaped, or else the call. Reaps at most one completion, of this call
+    /// or of another; one that no call is owed is dropped. Takes no memory but what the port's Reap takes.
     pub fn poll(&mut self, call: Call<P>) -> Poll<P>
         requires { IsCallOf self.old call }
         ensures same { IsSame self.old self.new }
@@ -97,7 +99,8 @@ impl<P: Port> Driver<P> {
         ensures stays { IsCallBack self.new result }
         ensures others { (other : Call P) → IsCallOf self.old other → IsApart call other → IsCallOf self.new other }
         ensures freed { IsFreed self.old.cids self.new.cids call result }
-        ensures says { P.says (before self.new) call.start.value self.new.port call.queue (number_of self.new call) call.op
+        ensures says { P.says (before self.new) call.start.value self.new.port call.queue
+            (number_of self.new call) call.op
             (told result) }
     {
         if let Err(fault) = self.reap(&call) {

@@ -41,9 +41,9 @@ pub trait Port: Drop {
     /// What is known of one that had no room for this batch.
     ghost is_full: { Self → Self → ℕ → List Submission → Type 0 };
 
-    /// What is known where a call was answered so, or not yet: by what the port did before its driver was made, the port
-    /// just before the call's Publish and now, the call's submission queue, the number of its first entry there, and what
-    /// it does.
+    /// What is known where a call was answered so, or not yet: by what the port did before its driver was made, the
+    /// port just before the call's Publish and now, the call's submission queue, the number of its first entry there,
+    /// and what it does.
     ghost says: { List PortEvent → Self → Self → ℕ → ℕ → Op → Option (Result Reply Status) → Type 0 };
 
     /// Publishes the batch to one of its submission queues.

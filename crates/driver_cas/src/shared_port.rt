@@ -150,7 +150,10 @@ impl<'a> Port for SharedPort<'a> {
 
     ghost stays = { λ a. record { same_lock = refl; view = follows_self (view_of a) } };
 
-    ghost goes_on = { λ a b c x y. record { same_lock = y.same_lock ∙ x.same_lock; view = follows_on (view_of a) (view_of b) (view_of c) x.view y.view } };
+    ghost goes_on = { λ a b c x y. record {
+      same_lock = y.same_lock ∙ x.same_lock;
+      view = follows_on (view_of a) (view_of b) (view_of c) x.view y.view;
+    } };
 
     ghost keeps_own = { λ a b q x. owns_same (view_of a) (view_of b) q x.view };
 

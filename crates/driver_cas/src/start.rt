@@ -1,6 +1,7 @@
 //! Publishing the entries of a call.
 
-ghost use Rattle.std.specs.Prelude.{[], ◌∷◌, ◌≡◌, ◌≤◌, ◌<◌, Contains, IfErr, IfNone, IfOk, IfSome, OnSome, length, true, vec_capacity};
+ghost use Rattle.std.specs.Prelude.{[], ◌∷◌, ◌≡◌, ◌≤◌, ◌<◌, Contains, IfErr, IfNone, IfOk, IfSome, OnSome, length};
+ghost use Rattle.std.specs.Prelude.{true, vec_capacity};
 ghost use Rattle.driver_commands.specs.Entries.{entry_count, payloads_of};
 ghost use Rattle.driver_cas.specs.Drivers.{IsSame};
 ghost use Rattle.driver_cas.specs.Tries.{HasTooFew, IsBegun, IsNotSent, IsTried};

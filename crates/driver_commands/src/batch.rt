@@ -60,8 +60,8 @@ fn entry_of(opcode: u8, fuse: Fuse, cid: u16, request: Request, payload: Payload
     }
 }
 
-/// The entries of a call, in the room that is given: of a fused pair two, with the CIDs `first` and `second`, of any other
-/// operation one, with the CID `first`. Takes no memory.
+/// The entries of a call, in the room that is given: of a fused pair two, with the CIDs `first` and `second`, of any
+/// other operation one, with the CID `first`. Takes no memory.
 #[tactic(auto, using(crate::proofs::Calls::one_made, crate::proofs::Calls::two_made))]
 pub fn batch_of(
     request: Request,
@@ -92,8 +92,8 @@ pub fn batch_of(
     }
 }
 
-/// The data of a call, and the room of its entries, out of the entries that a port handed back, so that they can be made
-/// again. Takes no memory.
+/// The data of a call, and the room of its entries, out of the entries that a port handed back, so that they can be
+/// made again. Takes no memory.
 pub fn taken_back(batch: Submissions) -> (CallData, Vec<Submission>)
     requires some { 1 ≤ length batch }
     requires most { length batch ≤ 2 }

@@ -5,8 +5,6 @@ mod batch;
 pub mod laws;
 mod request;
 mod slot;
-#[cfg(test)]
-mod tests;
 
 pub use batch::{batch_of, copy_of, room_for, taken_back};
 pub use request::{CallData, Request};

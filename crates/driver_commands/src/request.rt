@@ -3,8 +3,8 @@
 use nvme_model::operation::Op;
 use nvme_model::submission::Payload;
 
-/// What a call asks of the controller: an operation on so many blocks of the namespace from block `slba` on. `Op::Pair` is a
-/// Compare and a Write of the same blocks, fused.
+/// What a call asks of the controller: an operation on so many blocks of the namespace from block `slba` on. `Op::Pair`
+/// is a Compare and a Write of the same blocks, fused.
 #[derive(Clone, Copy, Debug, PartialEq, Eq)]
 pub struct Request {
     pub op: Op,

@@ -3,8 +3,8 @@
 ghost use Rattle.std.specs.Prelude.{◌≡◌};
 ghost use Rattle.nvme_model.specs.Slots.{slot_block as block_of_name};
 
-/// The block of a slot that this host holds under this serial: the host number in bytes 0 to 3 and the serial in bytes 8 to
-/// 15, both little endian, and zeros elsewhere.
+/// The block of a slot that this host holds under this serial: the host number in bytes 0 to 3 and the serial in bytes
+/// 8 to 15, both little endian, and zeros elsewhere.
 pub fn slot_block(host: u32, serial: u64) -> [u8; 512]
     ensures value { result ≡ block_of_name (record { host = host; serial = serial }) }
 {

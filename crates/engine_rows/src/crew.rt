@@ -148,7 +148,8 @@ pub(crate) fn hears<R: Wait>(rt: &R, hall: &Hall, crew: &mut Crew) -> Result<(),
     unreachable!()
 }
 
-/// A step by the caller whose it is: 0 or the number of its refusal, None where its ticket's Work can't be asked for it.
+/// A step by the caller whose it is: 0 or the number of its refusal, None where its ticket's Work can't be asked for
+/// it.
 fn make<R: Wait>(
     rt: &R,
     alloc: Global,

@@ -9,7 +9,8 @@ use crate::little::{put_u16, u16_at, u32_at};
 use nvme_model::status::Status;
 use thiserror::Error;
 
-/// A completion queue entry of 16 bytes, whose fields DW0, DW1, CRD, More and DNR are zero (Base 2.0, Completion Queue Entry).
+/// A completion queue entry of 16 bytes, whose fields DW0, DW1, CRD, More and DNR are zero (Base 2.0, Completion Queue
+/// Entry).
 #[derive(Clone, Copy, Debug, PartialEq, Eq)]
 pub struct Cqe {
     /// SQ Head Pointer: the slot of the submission queue from which the next entry is fetched.

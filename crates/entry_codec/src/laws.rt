@@ -16,5 +16,6 @@ pub fn sqe_codec_is_inverse()
 /// The bytes of a completion have its fields, and 16 bytes with the fields of a completion are its bytes.
 pub fn cqe_codec_is_inverse()
     ensures fields { (c : Cqe) → FitsCqe c → cqe_fields (completion_bytes c) ≡ completion_fields c }
-    ensures bytes { (c : Cqe) (bytes : List ℕ) → length bytes ≡ 16 → IsBytes bytes → cqe_fields bytes ≡ completion_fields c → bytes ≡ completion_bytes c }
+    ensures bytes { (c : Cqe) (bytes : List ℕ) →
+        length bytes ≡ 16 → IsBytes bytes → cqe_fields bytes ≡ completion_fields c → bytes ≡ completion_bytes c }
 {}

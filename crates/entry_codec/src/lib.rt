@@ -6,8 +6,6 @@ mod fuse;
 pub mod laws;
 mod little;
 mod sqe;
-#[cfg(test)]
-mod tests;
 
 pub use crate::cqe::{Cqe, CqeFault, decode_cqe, encode_cqe};
 pub use crate::fuse::Fuse;

@@ -35,7 +35,8 @@ fn generic(sc: u8) -> Status
 }
 
 fn is_known(sqe: &Sqe) -> bool
-    ensures value { result ≡ (is_flush sqe.now || is_write sqe.now || is_read sqe.now || is_compare sqe.now || is_write_zeroes sqe.now) }
+    ensures value { result ≡
+        (is_flush sqe.now || is_write sqe.now || is_read sqe.now || is_compare sqe.now || is_write_zeroes sqe.now) }
 {
     sqe.is_flush() || sqe.is_write() || sqe.is_read() || sqe.is_compare() || sqe.is_write_zeroes()
 }
@@ -70,7 +71,8 @@ fn is_out_of_range(sqe: &Sqe, size: u32) -> bool
 /// The status of a command that fails its checks, on a volume of `size` blocks.
 pub(crate) fn command_fault(item: &Item, in_use: &[u16], size: u32) -> Option<Status>
     ensures value { result ≡ command_fault size in_use.now item.now }
-    ensures fits { IfNone result (is_flush item.now.fields ≡ false → slba item.now.fields + blocks item.now.fields ≤ size) }
+    ensures fits { IfNone result (is_flush item.now.fields ≡ false →
+        slba item.now.fields + blocks item.now.fields ≤ size) }
 {
     let sqe = item.sqe();
     if !is_known(&sqe) {

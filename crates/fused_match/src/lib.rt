@@ -10,6 +10,3 @@ mod matching;
 pub use crate::item::Item;
 pub use crate::judged::Judged;
 pub use crate::matching::judge;
-
-#[cfg(test)]
-mod tests;

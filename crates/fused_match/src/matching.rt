@@ -67,7 +67,8 @@ fn pair(sqe: &Sqe, fault: Option<(Status, Status)>) -> Judged
 /// fused pair (FUSE 01b) is taken with a second (FUSE 10b) right behind it; without one, and a second at the front, end
 /// alone with Command Aborted due to Missing Fused Command (Base 2.0, Fused Operations).
 pub fn judge(first: &Item, next: Option<&Item>, in_use: &[u16], units: &Units, size: u32) -> Judged
-    ensures verdict { verdict_by result ≡ verdict_of units.now size in_use.now (waiting_items first.now (option_copied next.entry)) }
+    ensures verdict { verdict_by result ≡
+        verdict_of units.now size in_use.now (waiting_items first.now (option_copied next.entry)) }
     ensures operation { operation_in result ≡ op_by (verdict_by result) first.now.fields }
     ensures range { NamesBlocks result first.now.fields }
 {

@@ -14,7 +14,8 @@ more_words (x ∷ xs) = codes "+" ∷ encode_upper x.entry ∷ data_text 512 x.p
 -- the words of a Publish of at least one entry
 unfoldable pub publish_words : ℕ → List Submission → List (List ℕ)
 publish_words queue [] = []
-publish_words queue (x ∷ xs) = codes "publish" ∷ decimal queue ∷ encode_upper x.entry ∷ data_text 512 x.payload ∷ more_words xs
+publish_words queue (x ∷ xs) =
+    codes "publish" ∷ decimal queue ∷ encode_upper x.entry ∷ data_text 512 x.payload ∷ more_words xs
 
 -- the entry of these bytes with this data, where both are there
 abbrev pub item_from : Option (List ℕ) → Option (List ℕ) → Option Submission
@@ -37,7 +38,8 @@ unfoldable pub more_in : List (List ℕ) → Option (List Submission)
 more_in [] = Some []
 more_in (plus ∷ []) = None
 more_in (plus ∷ entry ∷ []) = None
-more_in (plus ∷ entry ∷ payload ∷ words) = if bytes_eq plus (codes "+") then then_item (item_in entry payload) (more_in words) else None
+more_in (plus ∷ entry ∷ payload ∷ words) =
+    if bytes_eq plus (codes "+") then then_item (item_in entry payload) (more_in words) else None
 
 -- the entries that words spell, at least one
 unfoldable pub batch_in : List (List ℕ) → Option (List Submission)

@@ -39,11 +39,13 @@ pub record HasConfigLine (c : ConfigNumbers) : Type 0 where
 
 -- the numbers of the cut, where all four are there
 abbrev pub atomic_from : (awun acwu nabsn nabo : Option ℕ) → Option AtomicParameters
-atomic_from (Some awun) (Some acwu) (Some nabsn) (Some nabo) = Some (record { awun = awun; acwu = acwu; nabsn = nabsn; nabo = nabo })
+atomic_from (Some awun) (Some acwu) (Some nabsn) (Some nabo) =
+    Some (record { awun = awun; acwu = acwu; nabsn = nabsn; nabo = nabo })
 atomic_from _ _ _ _ = None
 
 -- the configuration of these numbers, where all are there, with as many completion queues as submission queues
-abbrev pub config_from : (blocks : Option ℕ) → Option AtomicParameters → (pairs sq cq jobs : Option ℕ) → Option ConfigNumbers
+abbrev pub config_from : (blocks : Option ℕ) → Option AtomicParameters → (pairs sq cq jobs : Option ℕ) →
+    Option ConfigNumbers
 config_from (Some blocks) (Some u) (Some pairs) (Some sq) (Some cq) (Some jobs) =
     Some (record { blocks = blocks; atomic = u; pairs = pairs; sq_size = sq; cq_size = cq; jobs = jobs; cqs = pairs })
 config_from _ _ _ _ _ _ = None
@@ -57,12 +59,14 @@ with_queues (Some c) (Some cqs) = if cqs == c.pairs then None else Some (record 
 -- the configuration that nine words spell
 abbrev pub nine_in : (blocks awun acwu nabsn nabo pairs sq cq jobs : List ℕ) → Option ConfigNumbers
 nine_in blocks awun acwu nabsn nabo pairs sq cq jobs =
-    config_from (number_in 32 blocks) (atomic_from (number_in 16 awun) (number_in 16 acwu) (number_in 16 nabsn) (number_in 16 nabo))
+    config_from (number_in 32 blocks)
+    (atomic_from (number_in 16 awun) (number_in 16 acwu) (number_in 16 nabsn) (number_in 16 nabo))
     (number_in 16 pairs) (number_in 16 sq) (number_in 16 cq) (number_in 16 jobs)
 
 -- the configuration that the words behind `config` spell
 unfoldable pub nine_words_in : List (List ℕ) → Option ConfigNumbers
-nine_words_in (blocks ∷ awun ∷ acwu ∷ nabsn ∷ nabo ∷ pairs ∷ sq ∷ cq ∷ jobs ∷ []) = nine_in blocks awun acwu nabsn nabo pairs sq cq jobs
+nine_words_in (blocks ∷ awun ∷ acwu ∷ nabsn ∷ nabo ∷ pairs ∷ sq ∷ cq ∷ jobs ∷ []) =
+    nine_in blocks awun acwu nabsn nabo pairs sq cq jobs
 nine_words_in words = None
 
 -- the configuration that the words behind `config2` spell

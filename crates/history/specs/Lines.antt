@@ -1,5 +1,6 @@
 -- The one line of each entry, and the entry of a line.
-use Rattle.std.specs.Prelude.{◌≡◌, ◌≢◌, ℕ, ◌^◌, ◌<◌, ◌==◌, Bool, List, [], ◌∷◌, length, Option, Some, None, if◌then◌else◌, codes, decimal}
+use Rattle.std.specs.Prelude.{◌≡◌, ◌≢◌, ℕ, ◌^◌, ◌<◌, ◌==◌, Bool, List, [], ◌∷◌, length, Option, Some, None}
+use Rattle.std.specs.Prelude.{if◌then◌else◌, codes, decimal}
 use Rattle.std.specs.List.{slice_split, join_with_byte, AllByRecursion}
 use Rattle.std.specs.Str.{bytes_eq}
 use Rattle.hex.specs.Hex.{encode_upper, IsBytes}
@@ -23,7 +24,8 @@ unfoldable pub entry_words : Entry → List (List ℕ)
 entry_words (Entry.Publish p) = publish_words p.queue p.batch
 entry_words (Entry.Fetch f) = codes "fetch" ∷ decimal f.queue ∷ decimal f.ticket ∷ verdict_words f.verdict
 entry_words (Entry.Grant g) =
-    codes "grant" ∷ decimal g.ticket ∷ decimal g.unit ∷ decimal g.range.slba ∷ decimal g.range.blocks ∷ mode_word g.mode ∷ []
+    codes "grant" ∷ decimal g.ticket ∷ decimal g.unit ∷ decimal g.range.slba ∷ decimal g.range.blocks
+    ∷ mode_word g.mode ∷ []
 entry_words (Entry.Block b) =
     codes "block" ∷ decimal b.ticket ∷ decimal b.unit ∷ decimal b.lba ∷ found_word b.found ∷ mark_word b.effect ∷ []
 entry_words (Entry.Post p) = codes "post" ∷ decimal p.ticket ∷ encode_upper p.cqe ∷ data_text 512 p.payload ∷ []
@@ -75,7 +77,8 @@ publish_in words = None
 
 -- a Fetch of these parts, where all are there
 abbrev pub fetched : Option ℕ → Option ℕ → Option Verdict → Option Entry
-fetched (Some queue) (Some ticket) (Some verdict) = Some (Entry.Fetch (record { queue = queue; ticket = ticket; verdict = verdict }))
+fetched (Some queue) (Some ticket) (Some verdict) =
+    Some (Entry.Fetch (record { queue = queue; ticket = ticket; verdict = verdict }))
 fetched _ _ _ = None
 
 -- the Fetch that the words behind its kind spell
@@ -86,7 +89,8 @@ fetch_in words = None
 -- a Grant of these parts, where all are there
 abbrev pub granted : (ticket unit slba blocks : Option ℕ) → Option Mode → Option Entry
 granted (Some ticket) (Some unit) (Some slba) (Some blocks) (Some mode) =
-    Some (Entry.Grant (record { ticket = ticket; unit = unit; range = record { slba = slba; blocks = blocks }; mode = mode }))
+    Some (Entry.Grant
+    (record { ticket = ticket; unit = unit; range = record { slba = slba; blocks = blocks }; mode = mode }))
 granted _ _ _ _ _ = None
 
 -- the Grant that the words behind its kind spell
@@ -109,7 +113,8 @@ block_in words = None
 
 -- a Post of these parts, where all are there
 abbrev pub posted : Option ℕ → (cqe payload : Option (List ℕ)) → Option Entry
-posted (Some ticket) (Some cqe) (Some payload) = Some (Entry.Post (record { ticket = ticket; cqe = cqe; payload = payload }))
+posted (Some ticket) (Some cqe) (Some payload) =
+    Some (Entry.Post (record { ticket = ticket; cqe = cqe; payload = payload }))
 posted _ _ _ = None
 
 -- the Post that the words behind its kind spell

@@ -1,5 +1,6 @@
 -- Statuses and verdicts as words.
-use Rattle.std.specs.Prelude.{ℕ, ◌+◌, ◌-◌, ◌==◌, ◌&&◌, nat_lt, List, [], ◌∷◌, Option, Some, None, if◌then◌else◌, codes, slice_index}
+use Rattle.std.specs.Prelude.{ℕ, ◌+◌, ◌-◌, ◌==◌, ◌&&◌, nat_lt, List, [], ◌∷◌, Option, Some, None, if◌then◌else◌, codes}
+use Rattle.std.specs.Prelude.{slice_index}
 use Rattle.std.specs.Str.{bytes_eq}
 use Rattle.hex.specs.Hex.{encode_upper}
 use Rattle.line_text.specs.Digits.{bytes_in, fixed_in}
@@ -21,7 +22,8 @@ status_from sct (Some code) = Some (status sct (slice_index code 0))
 -- the status that a word spells
 unfoldable pub status_in : List ℕ → Option Status
 status_in (digit ∷ slash ∷ code) =
-    if nat_lt 47 digit && nat_lt digit 56 && (slash == 47) then status_from (digit - 48) (fixed_in 1 (bytes_in code)) else None
+    if nat_lt 47 digit && nat_lt digit 56 && (slash == 47)
+    then status_from (digit - 48) (fixed_in 1 (bytes_in code)) else None
 status_in word = None
 
 -- ---- a verdict
@@ -46,12 +48,14 @@ pair_failed _ _ = None
 -- what two words say: of one command, or of a pair that passed
 unfoldable pub short_verdict_in : List ℕ → List ℕ → Option Verdict
 short_verdict_in count word =
-    if bytes_eq count (codes "1") then (if bytes_eq word (codes "ok") then Some Verdict.Single else single_failed (status_in word))
+    if bytes_eq count (codes "1")
+    then (if bytes_eq word (codes "ok") then Some Verdict.Single else single_failed (status_in word))
     else if bytes_eq count (codes "2") && bytes_eq word (codes "ok") then Some Verdict.Pair
     else None
 
 -- the verdict that words spell
 unfoldable pub verdict_in : List (List ℕ) → Option Verdict
 verdict_in (count ∷ word ∷ []) = short_verdict_in count word
-verdict_in (count ∷ first ∷ second ∷ []) = if bytes_eq count (codes "2") then pair_failed (status_in first) (status_in second) else None
+verdict_in (count ∷ first ∷ second ∷ []) =
+    if bytes_eq count (codes "2") then pair_failed (status_in first) (status_in second) else None
 verdict_in words = None

@@ -29,11 +29,35 @@ impl Model for Config {
 
     ghost Value = { ConfigNumbers };
 
-    ghost view = { λ c. record { blocks = c.blocks; atomic = c.units; pairs = c.pairs; sq_size = c.sq_size; cq_size = c.cq_size; jobs = c.jobs; cqs = c.cqs } };
+    ghost view = { λ c. record {
+      blocks = c.blocks;
+      atomic = c.units;
+      pairs = c.pairs;
+      sq_size = c.sq_size;
+      cq_size = c.cq_size;
+      jobs = c.jobs;
+      cqs = c.cqs;
+    } };
 
-    ghost invariant = { λ c. config_fault (record { blocks = c.blocks; atomic = c.units; pairs = c.pairs; sq_size = c.sq_size; cq_size = c.cq_size; jobs = c.jobs; cqs = c.cqs }) ≡ None };
+    ghost invariant = { λ c. config_fault (record {
+      blocks = c.blocks;
+      atomic = c.units;
+      pairs = c.pairs;
+      sq_size = c.sq_size;
+      cq_size = c.cq_size;
+      jobs = c.jobs;
+      cqs = c.cqs;
+    }) ≡ None };
 
-    ghost inverse = { λ c. record { blocks = c.blocks; units = c.atomic; pairs = c.pairs; sq_size = c.sq_size; cq_size = c.cq_size; jobs = c.jobs; cqs = c.cqs } };
+    ghost inverse = { λ c. record {
+      blocks = c.blocks;
+      units = c.atomic;
+      pairs = c.pairs;
+      sq_size = c.sq_size;
+      cq_size = c.cq_size;
+      jobs = c.jobs;
+      cqs = c.cqs;
+    } };
 }
 
 impl Config {
@@ -57,8 +81,10 @@ impl Config {
         jobs: u16,
     ) -> Result<Config, ConfigFault>
         ensures value { IfOk result (λ c. c ≡ numbers blocks awun acwu nabsn nabo pairs sq cq jobs pairs) }
-        ensures accepted { OnOk result (config_fault (numbers blocks awun acwu nabsn nabo pairs sq cq jobs pairs) ≡ None) }
-        ensures fault { IfErr result (λ f. config_fault (numbers blocks awun acwu nabsn nabo pairs sq cq jobs pairs) ≡ Some f) }
+        ensures accepted { OnOk result
+            (config_fault (numbers blocks awun acwu nabsn nabo pairs sq cq jobs pairs) ≡ None) }
+        ensures fault { IfErr result
+            (λ f. config_fault (numbers blocks awun acwu nabsn nabo pairs sq cq jobs pairs) ≡ Some f) }
     {
         Config::with_cqs(blocks, awun, acwu, nabsn, nabo, pairs, sq, cq, jobs, pairs)
     }
@@ -81,8 +107,10 @@ impl Config {
         cqs: u16,
     ) -> Result<Config, ConfigFault>
         ensures value { IfOk result (λ c. c ≡ numbers blocks awun acwu nabsn nabo pairs sq cq jobs cqs) }
-        ensures accepted { OnOk result (config_fault (numbers blocks awun acwu nabsn nabo pairs sq cq jobs cqs) ≡ None) }
-        ensures fault { IfErr result (λ f. config_fault (numbers blocks awun acwu nabsn nabo pairs sq cq jobs cqs) ≡ Some f) }
+        ensures accepted { OnOk result
+            (config_fault (numbers blocks awun acwu nabsn nabo pairs sq cq jobs cqs) ≡ None) }
+        ensures fault { IfErr result
+            (λ f. config_fault (numbers blocks awun acwu nabsn nabo pairs sq cq jobs cqs) ≡ Some f) }
     {
         let numbers = ConfigNumbers {
             blocks,

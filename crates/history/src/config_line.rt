@@ -6,7 +6,9 @@ ghost use Rattle.std.specs.List.{join_with_byte};
 ghost use Rattle.line_text.specs.Known.{AppendsFront};
 ghost use Rattle.line_text.specs.Number.{number_in};
 ghost use Rattle.nvme_model.specs.declared.config.ConfigNumbers.{ConfigNumbers};
-ghost use Rattle.history.specs.ConfigLine.{HasConfigLine, atomic_from, config_in, config_line, config_words, config_words_in, nine_in, nine_words, nine_words_in, ten_words, ten_words_in, with_queues};
+ghost use Rattle.history.specs.ConfigLine.{HasConfigLine, atomic_from, config_in, config_line, config_words};
+ghost use Rattle.history.specs.ConfigLine.{config_words_in, nine_in, nine_words, nine_words_in, ten_words};
+ghost use Rattle.history.specs.ConfigLine.{ten_words_in, with_queues};
 ghost use Rattle.history.specs.Gives.{Gives};
 
 use crate::line_fault::LineFault;
@@ -17,7 +19,8 @@ use std::io::{Result as IoResult, Write};
 
 // The numbers of the cut that four words spell.
 fn atomic_of(awun: &[u8], acwu: &[u8], nabsn: &[u8], nabo: &[u8]) -> Option<AtomicParameters>
-    ensures { result ≡ atomic_from (number_in 16 awun.now) (number_in 16 acwu.now) (number_in 16 nabsn.now) (number_in 16 nabo.now) }
+    ensures { result ≡
+        atomic_from (number_in 16 awun.now) (number_in 16 acwu.now) (number_in 16 nabsn.now) (number_in 16 nabo.now) }
 {
     let awun = read_u16(awun)?;
     let acwu = read_u16(acwu)?;
@@ -158,9 +161,11 @@ pub fn write_config_line<W: Write>(numbers: &ConfigNumbers, writer: &mut W) -> I
 // Writes the line of nine numbers.
 fn write_nine<W: Write>(numbers: &ConfigNumbers, writer: &mut W) -> IoResult<()>
     ensures whole { OnOk result
-        (Appends (W.contents writer.old) (W.contents writer.new) (join_with_byte 32 (codes "config" ∷ nine_words numbers.now))) }
+        (Appends (W.contents writer.old) (W.contents writer.new)
+        (join_with_byte 32 (codes "config" ∷ nine_words numbers.now))) }
     ensures front { OnErr result
-        (AppendsFront (W.contents writer.old) (W.contents writer.new) (join_with_byte 32 (codes "config" ∷ nine_words numbers.now))) }
+        (AppendsFront (W.contents writer.old) (W.contents writer.new)
+        (join_with_byte 32 (codes "config" ∷ nine_words numbers.now))) }
 {
     let c = numbers;
     send_words(
@@ -183,9 +188,11 @@ fn write_nine<W: Write>(numbers: &ConfigNumbers, writer: &mut W) -> IoResult<()>
 // Writes the line of ten numbers.
 fn write_ten<W: Write>(numbers: &ConfigNumbers, writer: &mut W) -> IoResult<()>
     ensures whole { OnOk result
-        (Appends (W.contents writer.old) (W.contents writer.new) (join_with_byte 32 (codes "config2" ∷ ten_words numbers.now))) }
+        (Appends (W.contents writer.old) (W.contents writer.new)
+        (join_with_byte 32 (codes "config2" ∷ ten_words numbers.now))) }
     ensures front { OnErr result
-        (AppendsFront (W.contents writer.old) (W.contents writer.new) (join_with_byte 32 (codes "config2" ∷ ten_words numbers.now))) }
+        (AppendsFront (W.contents writer.old) (W.contents writer.new)
+        (join_with_byte 32 (codes "config2" ∷ ten_words numbers.now))) }
 {
     let c = numbers;
     send_words(

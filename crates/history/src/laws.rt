@@ -16,6 +16,7 @@ pub fn lines_have_one_spelling()
 /// The numbers of a configuration have one line, and each line one configuration.
 pub fn configurations_have_one_spelling()
     ensures read_back { (c : ConfigNumbers) → HasConfigLine c → config_in (config_line c) ≡ Some c }
-    ensures one_configuration { (a b : ConfigNumbers) → HasConfigLine a → HasConfigLine b → config_line a ≡ config_line b → a ≡ b }
+    ensures one_configuration { (a b : ConfigNumbers) →
+        HasConfigLine a → HasConfigLine b → config_line a ≡ config_line b → a ≡ b }
     ensures written_back { (line : List ℕ) (c : ConfigNumbers) → config_in line ≡ Some c → config_line c ≡ line }
 {}

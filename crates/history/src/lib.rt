@@ -7,14 +7,10 @@ mod config_line;
 mod kinds;
 mod laws;
 mod line_fault;
-#[cfg(test)]
-mod line_tests;
 mod marks;
 mod past;
 mod reading;
 mod status_word;
-#[cfg(test)]
-mod tests;
 mod writing;
 
 pub use crate::config::Config;

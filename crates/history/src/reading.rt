@@ -3,7 +3,8 @@
 ghost use Rattle.std.specs.Prelude.{◌≡◌, Some, IfOk, map};
 ghost use Rattle.nvme_model.specs.declared.entry.Entry.{Entry};
 ghost use Rattle.history.specs.Gives.{Gives};
-ghost use Rattle.history.specs.Lines.{HasLine, block_in, entry_in, entry_line, entry_words_in, fetch_in, grant_in, post_in, publish_in, reap_in};
+ghost use Rattle.history.specs.Lines.{HasLine, block_in, entry_in, entry_line, entry_words_in, fetch_in, grant_in};
+ghost use Rattle.history.specs.Lines.{post_in, publish_in, reap_in};
 
 use crate::batch::batch_of;
 use crate::line_fault::LineFault;

@@ -63,10 +63,12 @@ fn send_fetch<'a, W: Write>(
 ) -> IoResult<()>
     ensures whole { OnOk result
         (Appends (W.contents writer.old) (W.contents writer.new)
-        (join_with_byte 32 (codes "fetch" ∷ decimal line.now.queue ∷ decimal line.now.ticket ∷ count.now ∷ word.now ∷ []))) }
+        (join_with_byte 32
+        (codes "fetch" ∷ decimal line.now.queue ∷ decimal line.now.ticket ∷ count.now ∷ word.now ∷ []))) }
     ensures front { OnErr result
         (AppendsFront (W.contents writer.old) (W.contents writer.new)
-        (join_with_byte 32 (codes "fetch" ∷ decimal line.now.queue ∷ decimal line.now.ticket ∷ count.now ∷ word.now ∷ []))) }
+        (join_with_byte 32
+        (codes "fetch" ∷ decimal line.now.queue ∷ decimal line.now.ticket ∷ count.now ∷ word.now ∷ []))) }
 {
     send_words(
         writer,

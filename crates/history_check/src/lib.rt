@@ -2,8 +2,6 @@
 #![tactic(auto)]
 
 mod checking;
-#[cfg(test)]
-mod tests;
 
 pub use crate::checking::{CheckFault, check};
 pub use one_pass_check::Checker;

@@ -12,8 +12,8 @@ use Rattle.nvme_model.proofs.Rules.{none_holds}
 use Rattle.host_rounds.specs.Hosts.{uses}
 
 -- a greater number behind rising ones
-pub rising_more : (xs : List ℕ) (n : ℕ) → IsStrictlyIncreasing xs → All (λ x. x < n) xs → IsStrictlyIncreasing (xs ++ n ∷ [])
-rising_more xs n up below k within =
+pub rising_on : (xs : List ℕ) (n : ℕ) → IsStrictlyIncreasing xs → All (λ x. x < n) xs → IsStrictlyIncreasing (xs ++ n ∷ [])
+rising_on xs n up below k within =
     elim (cases_lt (k + 1) (length xs)) [
       | inl low ↦
           let a : slice_index (xs ++ n ∷ []) k ≡ slice_index xs k = get_or-append xs (n ∷ []) 0 k (omega (arith, low)) in
@@ -35,14 +35,14 @@ one P n h zero x within = h
 one P n h (suc k) x within = absurd (omega (arith, within))
 
 -- so all are below the number after it
-pub below_more : (xs : List ℕ) (n : ℕ) → All (λ x. x < n) xs → All (λ x. x < n + 1) (xs ++ n ∷ [])
-below_more xs n below = All-append (λ x. x < n + 1) xs (n ∷ []) (λ k x within. let c = below k x within in omega (arith, c)) (one (λ x. x < n + 1) n (omega arith))
+pub below_on : (xs : List ℕ) (n : ℕ) → All (λ x. x < n) xs → All (λ x. x < n + 1) (xs ++ n ∷ [])
+below_on xs n below = All-append (λ x. x < n + 1) xs (n ∷ []) (λ k x within. let c = below k x within in omega (arith, c)) (one (λ x. x < n + 1) n (omega arith))
 
-pub use_more : (c : ConfigNumbers) (queue : ℕ) (xs : List ℕ) (n : ℕ) → All (λ x. uses c queue x ≡ true) xs → uses c queue n ≡ true → All (λ x. uses c queue x ≡ true) (xs ++ n ∷ [])
-use_more c queue xs n all h = All-append (λ x. uses c queue x ≡ true) xs (n ∷ []) all (one (λ x. uses c queue x ≡ true) n h)
+pub use_on : (c : ConfigNumbers) (queue : ℕ) (xs : List ℕ) (n : ℕ) → All (λ x. uses c queue x ≡ true) xs → uses c queue n ≡ true → All (λ x. uses c queue x ≡ true) (xs ++ n ∷ [])
+use_on c queue xs n all h = All-append (λ x. uses c queue x ≡ true) xs (n ∷ []) all (one (λ x. uses c queue x ≡ true) n h)
 
-pub none_yet : (P : ℕ → Type 0) → All P []
-none_yet P k x within = absurd (omega (arith, within))
+pub empty : (P : ℕ → Type 0) → All P []
+empty P k x within = absurd (omega (arith, within))
 
 -- ---- which queues use it
 
@@ -57,15 +57,15 @@ used : (c : ConfigNumbers) (queue n : ℕ) → 1 ≤ n → n ≤ c.pairs → com
 used c queue n some few e = and_from _ _ (and_from _ _ (le-leb 1 n some) (le-leb n c.pairs few)) (eq-eqb (completion_queue c n) queue e)
 
 -- the first of its number
-pub first_uses : (c : ConfigNumbers) (queue : ℕ) → config_fault c ≡ None → 1 ≤ queue → queue ≤ c.cqs → uses c queue queue ≡ true
-first_uses c queue e some few =
+pub first_use : (c : ConfigNumbers) (queue : ℕ) → config_fault c ≡ None → 1 ≤ queue → queue ≤ c.cqs → uses c queue queue ≡ true
+first_use c queue e some few =
     let n = counts c e in
     let small : (queue - 1) % c.cqs ≡ queue - 1 = mod-eq_of_lt (omega (arith, some, few)) in
     used c queue queue some (omega (arith, few, n.1)) (omega (arith, small, some))
 
 -- each next one by its remainder
-pub next_uses : (c : ConfigNumbers) (queue k : ℕ) → 1 ≤ queue → k < c.pairs → k % c.cqs ≡ queue - 1 → uses c queue (k + 1) ≡ true
-next_uses c queue k some few at =
+pub next_use : (c : ConfigNumbers) (queue k : ℕ) → 1 ≤ queue → k < c.pairs → k % c.cqs ≡ queue - 1 → uses c queue (k + 1) ≡ true
+next_use c queue k some few at =
     let same : (k + 1) - 1 ≡ k = omega arith in
     let rest : ((k + 1) - 1) % c.cqs ≡ k % c.cqs = ap (λ (n : ℕ). n % c.cqs) same in
     used c queue (k + 1) (omega arith) (omega (arith, few)) (omega (arith, rest, at, some))

@@ -21,7 +21,8 @@ abbrev pub IsSlotArea : Range → Type 0
 IsSlotArea r = (1 ≤ r.blocks) × (r.slba + r.blocks ≤ 65536)
 
 module _ {G : Type 0} where
-  -- Its driver is of the hall's controller and has these slots, whose discipline it has kept, and its place is one of the notices of a completion queue.
+  -- Its driver is of the hall's controller and has these slots, whose discipline it has kept, and its place is one of
+  -- the notices of a completion queue.
   pub record IsHosting (hall : Hall G) (h : Host) : Type 0 where
     pub of : h.driver.port.pass.seat.table_id ≡ engine_lock hall.engine
     pub slots : area_of h.driver ≡ area h.slots
@@ -29,7 +30,8 @@ module _ {G : Type 0} where
     pub queue : (1 ≤ h.queue) × (h.queue ≤ length hall.notices.items)
     pub place : IsPlaceAt hall (h.queue - 1) h.notices
 
-  -- It is so later, with the same settings, and its port is what it was at a later time: what its pass has seen begins with what it had.
+  -- It is so later, with the same settings, and its port is what it was at a later time: what its pass has seen begins
+  -- with what it had.
   pub record Goes (hall : Hall G) (h k : Host) : Type 0 where
     pub of : IsHosting hall k
     pub settings : HasSettings h.driver k.driver

@@ -26,7 +26,7 @@ pub struct Host<'a> {
 }
 
 // One more submission queue, behind lower ones.
-#[tactic(auto, using(crate::proofs::Queues::rising_more, crate::proofs::Queues::below_more, crate::proofs::Queues::use_more))]
+#[tactic(auto, using(crate::proofs::Queues::rising_on, crate::proofs::Queues::below_on, crate::proofs::Queues::use_on))]
 fn put_queue(
     _config: &Config,
     _queue: u16,
@@ -47,7 +47,7 @@ fn put_queue(
 }
 
 // The submission queues that use this completion queue, in rising order.
-#[tactic(auto, using(crate::proofs::Queues::first_uses, crate::proofs::Queues::next_uses, crate::proofs::Queues::none_yet))]
+#[tactic(auto, using(crate::proofs::Queues::first_use, crate::proofs::Queues::next_use, crate::proofs::Queues::empty))]
 fn submission_queues(alloc: Global, config: &Config, queue: u16) -> Result<Vec<u16>, NoMemory>
     requires there { (1 ≤ queue) × (queue ≤ config.now.cqs) }
     ensures some { IfOk result (λ q. 1 ≤ vec_len q) }

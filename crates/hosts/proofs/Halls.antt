@@ -17,7 +17,7 @@ use Rattle.work_queue.specs.declared.notice.Notice.{Notice}
 use Rattle.work_queue.specs.declared.queue.MessageQueue.{MessageQueue}
 use Rattle.work_queue.specs.declared.queue.QueuePass.{QueuePass}
 use Rattle.work_queue.specs.declared.work.Work.{Work}
-use Rattle.hosts.specs.Hands.{AreFirstPlaces, AreHostsOf, AreLastHosts, AreNoticesOf, ArePlaces, IsFreshPass, IsHostOf, IsListening, IsPlaceAt, IsWorkerOf}
+use Rattle.hosts.specs.Hands.{AreFirstPlaces, AreHostsOf, AreLastHosts, AreNoticesOf, ArePlaces, IsFreshPass, IsHostOf, IsPlaceAt, IsWorkerOf}
 use Rattle.hosts.specs.declared.hall.Hall.{Hall}
 use Rattle.hosts.specs.declared.hall.HostHand.{HostHand}
 
@@ -129,6 +129,3 @@ module _ {G : Type 0} where
         hand = (fresh.of, place);
         notices = subst (λ (n : ConfigNumbers). AreNoticesOf hall n.cqs row.items) (sym fresh.config) (notices_are hall c row.items some count are);
       }
-
-  pub hosts_listen : (hall : Hall G) (c : ConfigNumbers) (hs : List HostHand) → All (IsHostOf hall c) hs → All (IsListening hall) hs
-  hosts_listen hall c hs a = λ k x within. let h = a k x within in (h.pass.of, h.notices)

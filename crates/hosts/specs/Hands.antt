@@ -1,6 +1,7 @@
 -- What contracts say of what a thread owns.
 use Rattle.std.specs.List.{AllZip}
-use Rattle.std.specs.Prelude.{All, List, Ok, Option, Result, Some, [], length, slice_get, true, vec_len, ℕ, ◌+◌, ◌-◌, ◌≡◌, ◌≤◌}
+use Rattle.std.specs.Prelude.{All, List, Ok, Option, Result, Some, [], length, slice_get, true, vec_len, ℕ, ◌+◌, ◌-◌}
+use Rattle.std.specs.Prelude.{◌≡◌, ◌≤◌}
 use Rattle.nvme_model.specs.Passes.{IsBeginning, entries}
 use Rattle.nvme_model.specs.declared.config.ConfigNumbers.{ConfigNumbers}
 use Rattle.meet_lock.specs.Passes.{config_of, seen}
@@ -52,7 +53,8 @@ module _ {G : Type 0} where
 
   -- a pass of the queue of notices at this place
   abbrev pub IsPlaceAt : Hall G → ℕ → QueuePass Notice → Type 0
-  IsPlaceAt hall k p = (q : MessageQueue Notice) → slice_get hall.notices.items k ≡ Some q → queue.IsPlaceOf hall.engine q p
+  IsPlaceAt hall k p =
+      (q : MessageQueue Notice) → slice_get hall.notices.items k ≡ Some q → queue.IsPlaceOf hall.engine q p
 
   -- there is a pass for each queue of notices, and a queue for each of so many completion queues
   pub record AreNoticesOf (hall : Hall G) (cqs : ℕ) (passes : List (QueuePass Notice)) : Type 0 where
@@ -80,10 +82,6 @@ module _ {G : Type 0} where
     pub queue : (1 ≤ h.queue) × (h.queue ≤ c.cqs)
     pub told : h.queue ≤ length hall.notices.items
     pub notices : IsPlaceAt hall (h.queue - 1) h.notices
-
-  -- they are of what the hall shares, whatever the host has seen
-  abbrev pub IsListening : Hall G → HostHand → Type 0
-  IsListening hall h = engine.IsOf hall.engine h.pass × IsPlaceAt hall (h.queue - 1) h.notices
 
   -- passes of the first queues of notices, in their order
   abbrev pub AreFirstPlaces : Hall G → List (QueuePass Notice) → Type 0

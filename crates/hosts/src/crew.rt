@@ -86,9 +86,9 @@ pub fn join_each<R: Threads>(rt: &R, started: Handles) -> Result<(), NoMemory> {
     ends
 }
 
-/// A fetcher of the submission queues from 1 to `queues`, and the workers, each on a thread of its own, while `beside` runs
-/// on this one. When that has ended the stop flag is set, and all threads are joined. The fetcher's hand comes back, and
-/// what `beside` gave.
+/// A fetcher of the submission queues from 1 to `queues`, and the workers, each on a thread of its own, while `beside`
+/// runs on this one. When that has ended the stop flag is set, and all threads are joined. The fetcher's hand comes
+/// back, and what `beside` gave.
 ///
 /// # Errors
 ///

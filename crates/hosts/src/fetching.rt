@@ -95,8 +95,8 @@ pub(crate) fn serve<R: Wait, G: Gate>(
     unreachable!()
 }
 
-/// Goes round the submission queues from 1 to `queues`, takes a command of each that has one, and pushes its Work, until
-/// the stop flag is set.
+/// Goes round the submission queues from 1 to `queues`, takes a command of each that has one, and pushes its Work,
+/// until the stop flag is set.
 ///
 /// # Errors
 ///

@@ -3,21 +3,13 @@
 
 mod crew;
 mod fetching;
-#[cfg(test)]
-mod full_tests;
 mod gate;
-#[cfg(test)]
-mod gate_tests;
 mod hall;
 mod insist;
 mod opening;
 mod rows;
-#[cfg(test)]
-mod run_tests;
 mod stop;
 mod telling;
-#[cfg(test)]
-mod test_calls;
 mod working;
 
 pub use crew::{Handles, join_each, run_crew};

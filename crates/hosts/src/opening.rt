@@ -3,18 +3,8 @@
 ghost use Rattle.std.specs.Prelude.{◌≡◌, ◌<◌, ◌≤◌, ◌+◌, ◌-◌, All, IfOk, IfSome, MatchOption, length, vec_len};
 ghost use Rattle.std.specs.Vec.{vec_capacity};
 ghost use Rattle.work_queue.specs.QueuePasses as queue;
-ghost use Rattle.hosts.specs.Hands.{
-  AreFirstPlaces,
-  AreHandsOf,
-  AreHostsOf,
-  AreLastHosts,
-  ArePlaces,
-  AreSpares,
-  IsFreshPass,
-  IsHostOf,
-  IsPlaceAt,
-  IsWorkerOf,
-};
+ghost use Rattle.hosts.specs.Hands.{AreFirstPlaces, AreHandsOf, AreHostsOf, AreLastHosts, ArePlaces, AreSpares};
+ghost use Rattle.hosts.specs.Hands.{IsFreshPass, IsHostOf, IsPlaceAt, IsWorkerOf};
 
 use crate::hall::{Hall, Hand, Hands, HostHand, WorkerHand};
 use crate::rows::{Row, notice_queues};

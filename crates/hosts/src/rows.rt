@@ -51,7 +51,8 @@ fn longer_rows(
     requires places { All (queue.IsPlaceOf engine.now more.now) places.items }
     requires rows { All (λ row. ArePlaces engine.now made.now.items row.items) rows.items }
     requires count { vec_len places ≡ vec_len rows }
-    ensures rows { IfOk result (λ r. All (λ row. ArePlaces engine.now (made.now.items ++ more.now ∷ []) row.items) r.items) }
+    ensures rows { IfOk result
+        (λ r. All (λ row. ArePlaces engine.now (made.now.items ++ more.now ∷ []) row.items) r.items) }
     ensures count { IfOk result (λ r. vec_len r ≡ vec_len rows) }
 {
     let count = rows.len();

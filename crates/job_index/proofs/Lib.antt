@@ -1,3 +1,2 @@
 pub mod Rising
 mod Search
-mod QueueOrder

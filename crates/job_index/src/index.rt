@@ -1,6 +1,7 @@
 //! The tickets in flight by rising number, and the key of each one's job.
 
-ghost use Rattle.std.specs.Prelude.{◌≡◌, ◌<◌, ◌≤◌, ◌+◌, ◌-◌, ◌*◌, ◌^◌, ◌++◌, ◌↔◌, [], ◌∷◌, IfOk, IfSome, IsTrue, Some, is_some, length, slice_get, true};
+ghost use Rattle.std.specs.Prelude.{◌≡◌, ◌<◌, ◌≤◌, ◌+◌, ◌-◌, ◌*◌, ◌^◌, ◌++◌, ◌↔◌, [], ◌∷◌, IfOk, IfSome, IsTrue, Some};
+ghost use Rattle.std.specs.Prelude.{is_some, length, slice_get, true};
 ghost use Rattle.job_index.specs.Keyed.{IsPlaceOf, IsRising, all_below, has_ticket, key_of, keyed_beside, keys_of};
 
 use crate::steps::Steps;
@@ -79,12 +80,14 @@ impl JobIndex {
     pub fn push(&mut self, ticket: u64, key: usize)
         requires above { all_below ticket self.old.keyed ≡ true }
         requires room { length self.old.keyed < self.old.limit }
-        ensures pushed { self.new ≡ record self.old { keyed = self.old.keyed ++ record { ticket = ticket; key = key } ∷ [] } }
+        ensures pushed { self.new ≡
+            record self.old { keyed = self.old.keyed ++ record { ticket = ticket; key = key } ∷ [] } }
     {
         self.tickets.push(ticket, key);
     }
 
-    /// Takes a ticket out, where it is there, and gives its key. It takes no more steps than the count of tickets has binary digits.
+    /// Takes a ticket out, where it is there, and gives its key. It takes no more steps than the count of tickets has
+    /// binary digits.
     pub fn remove<L: Ledger>(&mut self, t: u64, steps: &mut Steps<L>) -> Option<usize>
         ensures key { result ≡ key_of self.old.keyed t }
         ensures rest { self.new ≡ record self.old { keyed = keyed_beside self.old.keyed t } }

@@ -1,13 +1,11 @@
-//! Where the tickets in flight are kept: by ticket, and by queue.
+//! Where the tickets in flight are kept, by ticket.
 #![tactic(auto)]
 
 mod index;
-mod queues;
 mod steps;
 mod tickets;
 
 pub use index::JobIndex;
-pub use queues::{QueueIndex, Queued};
 pub use steps::Steps;
 pub use tickets::{Keyed, Tickets};
 

@@ -85,7 +85,8 @@ impl Tickets {
     /// Puts a ticket with its key behind the others.
     pub fn push(&mut self, ticket: u64, key: usize)
         requires room { length self.old.keyed < self.old.limit }
-        ensures pushed { self.new ≡ record self.old { keyed = self.old.keyed ++ record { ticket = ticket; key = key } ∷ [] } }
+        ensures pushed { self.new ≡
+            record self.old { keyed = self.old.keyed ++ record { ticket = ticket; key = key } ∷ [] } }
     {
         self.keyed.push_reserved(Keyed { ticket, key });
     }

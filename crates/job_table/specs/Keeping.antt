@@ -9,8 +9,8 @@ use Rattle.block_exec.specs.Progress.{Progress}
 use Rattle.ticket_course.specs.Stages.{Ticking, noted_in, opened_in, posted_in}
 use Rattle.job_table.specs.Parts.{HasPart, part_end, part_of, with_part}
 
--- a ticket: its queue, how far it has come, and its data, which is for the blocks from `slba` on: what it compares with, the
--- blocks that it still writes, and what it reads
+-- a ticket: its queue, how far it has come, and its data, which is for the blocks from `slba` on: what it compares
+-- with, the blocks that it still writes, and what it reads
 pub record Keeping : Type 0 where
   pub queue : ℕ
   pub course : Ticking
@@ -42,7 +42,8 @@ finds_equal j p v = next_equal p v (part_of j.compare j.slba p.range)
 
 -- what is read so far of the blocks from s on, after a Block that found this
 abbrev pub read_of : List ℕ → ℕ → Progress → List (List ℕ) → Found → List ℕ
-read_of bytes s p v f = if is_read_found f then with_part bytes s p.range (read_after p v (part_of bytes s p.range) f) else bytes
+read_of bytes s p v f =
+    if is_read_found f then with_part bytes s p.range (read_after p v (part_of bytes s p.range) f) else bytes
 
 -- what is still to be written, after it
 abbrev pub written_on : Op → Found → List (List ℕ) → List (List ℕ)

@@ -1,8 +1,10 @@
 //! A ticket in flight: how far it has come, and its data.
 
-ghost use Rattle.std.specs.Prelude.{◌≡◌, ◌≤◌, ◌<◌, ◌+◌, ◌^◌, ◌⊎◌, ◌↔◌, [], IsTrue, drop, false, if◌then◌else◌, length, take, true};
+ghost use Rattle.std.specs.Prelude.{◌≡◌, ◌≤◌, ◌<◌, ◌+◌, ◌^◌, ◌⊎◌, ◌↔◌, [], IsTrue, drop, false, if◌then◌else◌, length};
+ghost use Rattle.std.specs.Prelude.{take, true};
 ghost use Rattle.block_array.specs.Blocks.{contents_of};
-ghost use Rattle.block_exec.specs.Bytes.{block_at, boxes_after, compare_length, needs_box, next_equal, takes_box, volume_with};
+ghost use Rattle.block_exec.specs.Bytes.{block_at, boxes_after, compare_length, needs_box, next_equal, takes_box};
+ghost use Rattle.block_exec.specs.Bytes.{volume_with};
 ghost use Rattle.block_exec.specs.Course.{next_done};
 ghost use Rattle.block_exec.specs.Progress.{has_ended, next_found};
 ghost use Rattle.fused_match.specs.Judged.{verdict_by};
@@ -22,7 +24,8 @@ use ticket_course::{Cids, Course};
 
 /// A ticket in flight.
 ///
-/// Contracts see its queue, how far it has come, and its data: of what it writes, the blocks that are still to be written.
+/// Contracts see its queue, how far it has come, and its data: of what it writes, the blocks that are still to be
+/// written.
 #[derive(Drop)]
 pub struct Job {
     queue: u16,
@@ -43,7 +46,14 @@ impl Model for Job {
 
     ghost Value = { Keeping };
 
-    ghost view = { λ j. record { queue = j.queue; course = j.course; slba = j.slba; compare = j.compare; write = drop j.written (contents_of j.write.items); read = j.read } };
+    ghost view = { λ j. record {
+      queue = j.queue;
+      course = j.course;
+      slba = j.slba;
+      compare = j.compare;
+      write = drop j.written (contents_of j.write.items);
+      read = j.read;
+    } };
 }
 
 /// The data of a ticket whose first block is this one.
@@ -67,7 +77,15 @@ impl Job {
     pub fn new(queue: u16, judged: &Judged, cids: Cids, all: Data) -> Job
         requires cids { length cids ≡ taken (verdict_by judged.now) }
         requires sound { IsSound judged.now }
-        ensures value { result ≡ record { queue = queue; course = record { stage = first_stage judged.now; cids = cids }; slba = all.slba; compare = all.compare; write = contents_of all.write.items; read = all.read } }
+        ensures value { result ≡
+            record {
+              queue = queue;
+              course = record { stage = first_stage judged.now; cids = cids };
+              slba = all.slba;
+              compare = all.compare;
+              write = contents_of all.write.items;
+              read = all.read;
+            } }
     {
         Job {
             queue,
@@ -121,7 +139,8 @@ impl Job {
         requires open { is_open self.old.course.stage ≡ true }
         requires ready { IfOpen self.old.course.stage (λ p. CanMake self.old p volume.old) }
         ensures done { IfOpen self.old.course.stage (λ p. result ≡ next_done p (finds_equal self.old p volume.old)) }
-        ensures volume { IfOpen self.old.course.stage (λ p. volume.new ≡ volume_with p volume.old (block_at self.old.write 0) result.found) }
+        ensures volume { IfOpen self.old.course.stage
+            (λ p. volume.new ≡ volume_with p volume.old (block_at self.old.write 0) result.found) }
         ensures job { IfOpen self.old.course.stage (λ p. self.new ≡ noted_job self.old p volume.old result.found) }
     {
         let Some(run) = self.course.run() else {
@@ -168,8 +187,8 @@ fn written_then(written: usize, run: Run, found: Found) -> usize
     written
 }
 
-// Makes the next block of an open unit, where the data is for the blocks from this one on, and what is written next is in
-// the box at this place, and says what it found.
+// Makes the next block of an open unit, where the data is for the blocks from this one on, and what is written next is
+// in the box at this place, and says what it found.
 fn touch(
     run: Run,
     slba: u64,

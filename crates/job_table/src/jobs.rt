@@ -2,7 +2,9 @@
 
 ghost use Rattle.std.specs.Option.{option_copied_mut};
 ghost use Rattle.std.specs.Borrow.{sem};
-ghost use Rattle.std.specs.Prelude.{◌≡◌, ◌<◌, ◌≤◌, ◌==◌, ◌++◌, ◌↔◌, [], ◌∷◌, IfErr, IfNone, IfOk, IfSome, IsTrue, MatchOption, None, OnErr, OnOk, Some, false, is_some, length, option_copied, slice_get, true};
+ghost use Rattle.std.specs.Prelude.{◌≡◌, ◌<◌, ◌≤◌, ◌==◌, ◌++◌, ◌↔◌, [], ◌∷◌, IfErr, IfNone, IfOk, IfSome, IsTrue};
+ghost use Rattle.std.specs.Prelude.{MatchOption, None, OnErr, OnOk, Some, false, is_some, length, option_copied};
+ghost use Rattle.std.specs.Prelude.{slice_get, true};
 ghost use Rattle.job_table.specs.Jobs.{IsRising, all_below, has_ticket, job_of, jobs_beside};
 ghost use Rattle.slab.specs.Slab.{ContainsKey, get};
 
@@ -20,8 +22,8 @@ pub struct InFlight {
     pub job: Job,
 }
 
-/// The tickets in flight, by rising number, at most as many as it was made for. Once made it takes no memory. A job stays
-/// where it is while its ticket is in flight; where it lies is looked up by halves.
+/// The tickets in flight, by rising number, at most as many as it was made for. Once made it takes no memory. A job
+/// stays where it is while its ticket is in flight; where it lies is looked up by halves.
 #[derive(Drop)]
 pub struct Jobs {
     limit: usize,
@@ -106,7 +108,8 @@ impl Jobs {
     /// The job, exactly where as many as the limit are in flight; nothing has changed.
     pub fn insert(&mut self, ticket: u64, job: Job) -> Result<(), Job>
         requires above { all_below ticket self.old.jobs ≡ true }
-        ensures ok { OnOk result (self.new ≡ record self.old { jobs = self.old.jobs ++ record { ticket = ticket; job = job } ∷ [] }) }
+        ensures ok { OnOk result
+            (self.new ≡ record self.old { jobs = self.old.jobs ++ record { ticket = ticket; job = job } ∷ [] }) }
         ensures err { OnErr result (self.new ≡ self.old) }
         ensures room { OnOk result (length self.old.jobs < self.old.limit) }
         ensures full { OnErr result (length self.old.jobs ≡ self.old.limit) }
@@ -179,21 +182,6 @@ impl Jobs {
         }
         let one = one(&self.jobs, self.index.key(place));
         Some((one.ticket, &one.job))
-    }
-
-    /// The job of a ticket, where it is in flight; looked for first as the one with `place` lower ones, where it lies if all
-    /// tickets in flight are of one queue and it has as many lower ones there.
-    pub fn get_near(&self, place: usize, ticket: u64) -> Option<&Job>
-        ensures value { option_copied result ≡ job_of self.now.jobs ticket }
-        ensures any { is_some result ≡ has_ticket self.now.jobs ticket }
-        ensures law { IsRising self.now.jobs }
-    {
-        if let Some((found, job)) = self.nth(place) {
-            if found == ticket {
-                return Some(job);
-            }
-        }
-        self.get(ticket)
     }
 }
 

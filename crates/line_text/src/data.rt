@@ -1,4 +1,5 @@
-ghost use Rattle.std.specs.Prelude.{◌≡◌, ◌<◌, ◌^◌, ◌==◌, ◌++◌, ℕ, List, Some, IfOk, IfSome, OnOk, replicate, option_map};
+ghost use Rattle.std.specs.Prelude.{◌≡◌, ◌<◌, ◌^◌, ◌==◌, ◌++◌, ℕ, List, Some, IfOk, IfSome, OnOk, replicate};
+ghost use Rattle.std.specs.Prelude.{option_map};
 ghost use Rattle.std.specs.List.{slice_split, list_all};
 ghost use Rattle.hex.specs.Hex.{IsBytes};
 ghost use Rattle.line_text.specs.Digits.{bytes_in};

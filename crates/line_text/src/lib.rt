@@ -8,10 +8,6 @@ mod laws;
 mod lines;
 mod number;
 mod output;
-#[cfg(test)]
-mod stream_tests;
-#[cfg(test)]
-mod word_tests;
 mod words;
 
 pub use crate::data::{BLOCK, read_data};

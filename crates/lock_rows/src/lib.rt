@@ -1,4 +1,5 @@
-//! A controller behind a lock: worked runs by passes in turn and by four threads, as tests, and the scripts of those runs.
+//! A controller behind a lock: worked runs by passes in turn and by four threads, as tests, and the scripts of those
+//! runs.
 #![tactic(auto)]
 
 #[cfg(test)]

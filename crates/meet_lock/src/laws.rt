@@ -13,8 +13,8 @@ ghost use Rattle.step_core.specs.OneAtATime.{IsOneAtATime};
 use crate::pass::Pass;
 use step_core::Core;
 
-/// What a pass of a controller has seen is legal; what callers got there is what an array of blocks gives that serves one
-/// operation at a time; and where no open unit writes a block, the volume then held its value.
+/// What a pass of a controller has seen is legal; what callers got there is what an array of blocks gives that serves
+/// one operation at a time; and where no open unit writes a block, the volume then held its value.
 ///
 /// What is asked of the pass is what `new`, `attempt`, `meet` and `learn` ensure of it.
 pub fn what_a_pass_has_seen(pass: &Pass<Core>)

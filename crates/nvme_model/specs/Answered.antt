@@ -1,7 +1,8 @@
 -- What Block entries say, and what an effect says.
 use Rattle.std.specs.Bool.{beq}
 use Rattle.std.specs.List.{list_all}
-use Rattle.std.specs.Prelude.{Bool, List, None, Option, Some, bytes_eq, false, if◌then◌else◌, nat_lt, not, true, ℕ, ◌&&◌, ◌||◌}
+use Rattle.std.specs.Prelude.{Bool, List, None, Option, Some, bytes_eq, false, if◌then◌else◌, nat_lt, not, true, ℕ}
+use Rattle.std.specs.Prelude.{◌&&◌, ◌||◌}
 use Rattle.nvme_model.specs.History.{Past}
 use Rattle.nvme_model.specs.Open.{is_differs, is_equal, is_read_found, is_written, unit_range}
 use Rattle.nvme_model.specs.Operations.{compare_data, has_compare, op}
@@ -35,4 +36,5 @@ may_find (Some Op.Pair) n j f = if nat_lt j n then is_equal f || is_differs f el
 abbrev pub right_answers : Option Past → Ticket → List BlockLine → Bool
 right_answers None k made = true
 right_answers (Some before) k made =
-    list_all (λ b. not (is_equal b.found || is_differs b.found) || beq (is_equal b.found) (bytes_eq (value before b.lba) (compare_data k b.lba))) made
+    list_all (λ b. not (is_equal b.found || is_differs b.found)
+    || beq (is_equal b.found) (bytes_eq (value before b.lba) (compare_data k b.lba))) made

@@ -17,4 +17,5 @@ has_block r l = nat_le r.slba l && nat_lt l (r.slba + r.blocks)
 
 -- the ranges share a block: both have one, and each begins before the other ends
 abbrev pub overlap : Range → Range → Bool
-overlap r s = nat_lt 0 r.blocks && nat_lt 0 s.blocks && (nat_lt r.slba (s.slba + s.blocks) && nat_lt s.slba (r.slba + r.blocks))
+overlap r s =
+    nat_lt 0 r.blocks && nat_lt 0 s.blocks && (nat_lt r.slba (s.slba + s.blocks) && nat_lt s.slba (r.slba + r.blocks))

@@ -13,7 +13,8 @@ use Rattle.nvme_model.specs.declared.status.Status.{Status}
 -- those posted to completion queue q, in order
 abbrev pub posted : ConfigNumbers → Past → ℕ → List PostLine
 posted c [] q = []
-posted c (Entry.Post p ∷ past) q = posted c past q ++ (if completion_queue c (ticket past p.ticket).queue == q then p ∷ [] else [])
+posted c (Entry.Post p ∷ past) q =
+    posted c past q ++ (if completion_queue c (ticket past p.ticket).queue == q then p ∷ [] else [])
 posted c (_ ∷ past) q = posted c past q
 
 -- how many were reaped from completion queue q
@@ -26,8 +27,10 @@ reaped (_ ∷ past) q = reaped past q
 abbrev pub phase : ℕ → ℕ → ℕ
 phase k m = if (k / m) % 2 == 0 then 1 else 0
 
--- the bytes of the next completion of ticket t, with this status: SQHD is the submission queue's head then (Base 2.0, Completion Queue Entry)
+-- the bytes of the next completion of ticket t, with this status: SQHD is the submission queue's head then (Base 2.0,
+-- Completion Queue Entry)
 abbrev pub completion : ConfigNumbers → Past → ℕ → Status → List ℕ
 completion c past t s =
     let k = ticket past t in
-    cqe_bytes (fetched past k.queue % c.sq_size) k.queue (get_or (cids k) (posts_of past t) 0) (phase (length (posted c past (completion_queue c k.queue))) c.cq_size) s
+    cqe_bytes (fetched past k.queue % c.sq_size) k.queue (get_or (cids k) (posts_of past t) 0)
+    (phase (length (posted c past (completion_queue c k.queue))) c.cq_size) s

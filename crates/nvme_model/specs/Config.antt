@@ -1,5 +1,6 @@
 -- Which configurations are accepted, and which completion queue a submission queue uses.
-use Rattle.std.specs.Prelude.{ℕ, ◌+◌, ◌-◌, ◌%◌, Bool, not, ◌&&◌, ◌||◌, ◌==◌, nat_lt, Option, List, [], ◌∷◌, ◌++◌, is_none}
+use Rattle.std.specs.Prelude.{ℕ, ◌+◌, ◌-◌, ◌%◌, Bool, not, ◌&&◌, ◌||◌, ◌==◌, nat_lt, Option, List, [], ◌∷◌, ◌++◌}
+use Rattle.std.specs.Prelude.{is_none}
 use Rattle.nvme_model.specs.Tables.{first_row}
 use Rattle.nvme_model.specs.declared.config.AtomicParameters.{AtomicParameters}
 use Rattle.nvme_model.specs.declared.config.ConfigNumbers.{ConfigNumbers}
@@ -9,7 +10,8 @@ use Rattle.nvme_model.specs.declared.config.ConfigFault.{ConfigFault}
 abbrev pub is_outside : (low high n : ℕ) → Bool
 is_outside low high n = nat_lt n low || nat_lt high n
 
--- What is wrong with the numbers of the cut, the first fault first (NVM 1.0, Atomic Operation; the limit of 255 is this profile's).
+-- What is wrong with the numbers of the cut, the first fault first (NVM 1.0, Atomic Operation; the limit of 255 is this
+-- profile's).
 abbrev pub unit_faults : AtomicParameters → List (Bool × ConfigFault)
 unit_faults u =
     (nat_lt 255 u.awun, ConfigFault.AwunTooLarge)
@@ -55,6 +57,7 @@ fault_number ConfigFault.CqSize = 28
 fault_number ConfigFault.Jobs = 29
 fault_number ConfigFault.CqCount = 30
 
--- the completion queue that submission queue q uses (Base 2.0, Create I/O Submission Queue; the assignment is this profile's)
+-- the completion queue that submission queue q uses (Base 2.0, Create I/O Submission Queue; the assignment is this
+-- profile's)
 abbrev pub completion_queue : ConfigNumbers → ℕ → ℕ
 completion_queue c q = (q - 1) % c.cqs + 1

@@ -22,7 +22,8 @@ abbrev pub cut_within : ℕ → AtomicParameters → ℕ → ℕ → List Range
 cut_within k u s zero = []
 cut_within zero u s (suc n) = []
 cut_within (suc k) u s (suc n) =
-    record { slba = s; blocks = longest u s (suc n) } ∷ cut_within k u (s + longest u s (suc n)) (suc n - longest u s (suc n))
+    record { slba = s; blocks = longest u s (suc n) }
+    ∷ cut_within k u (s + longest u s (suc n)) (suc n - longest u s (suc n))
 
 -- the one list that is a cut, for computing (`one_cut` of the laws says so)
 abbrev pub cut : AtomicParameters → ℕ → ℕ → List Range

@@ -107,4 +107,5 @@ IsCqe bytes fields = (length bytes ≡ 16) × (cqe_fields bytes ≡ fields)
 -- the bytes of a completion with these fields, where the others are zero
 abbrev pub cqe_bytes : (sqhd sqid cid phase : ℕ) → Status → List ℕ
 cqe_bytes sqhd sqid cid phase status =
-    replicate 8 0 ++ (two_bytes sqhd ++ (two_bytes sqid ++ (two_bytes cid ++ two_bytes (phase + (2 * status.sc + 512 * status.sct)))))
+    replicate 8 0 ++ (two_bytes sqhd
+    ++ (two_bytes sqid ++ (two_bytes cid ++ two_bytes (phase + (2 * status.sc + 512 * status.sct)))))

@@ -11,12 +11,21 @@ use Rattle.nvme_model.specs.declared.entry.Entry.{Entry}
 
 -- eight blocks and two queue pairs
 abbrev pub default : ConfigNumbers
-default = record { blocks = 8; atomic = record { awun = 1; acwu = 1; nabsn = 0; nabo = 0 }; pairs = 2; sq_size = 4; cq_size = 4; jobs = 8; cqs = 2 }
+default = record {
+  blocks = 8;
+  atomic = record { awun = 1; acwu = 1; nabsn = 0; nabo = 0 };
+  pairs = 2;
+  sq_size = 4;
+  cq_size = 4;
+  jobs = 8;
+  cqs = 2;
+}
 
 -- the entry of `NAME F C S N`
 abbrev pub entry : ℕ → ℕ → ℕ → ℕ → ℕ → List ℕ
 entry opcode fuse cid slba nlb =
-    opcode ∷ fuse ∷ (two_bytes cid ++ (1 ∷ 0 ∷ 0 ∷ 0 ∷ (replicate 32 0 ++ (slba % 256 ∷ replicate 7 0 ++ (nlb % 256 ∷ replicate 15 0)))))
+    opcode ∷ fuse ∷ (two_bytes cid
+    ++ (1 ∷ 0 ∷ 0 ∷ 0 ∷ (replicate 32 0 ++ (slba % 256 ∷ replicate 7 0 ++ (nlb % 256 ∷ replicate 15 0)))))
 
 -- a block of one byte
 abbrev pub one : ℕ → List ℕ

@@ -1,5 +1,5 @@
--- What a controller that makes these steps keeps of its history: more than that it is legal, since a legal history may have its marks elsewhere, and
--- then not every step of this controller that nothing refuses keeps it legal.
+-- What a controller that makes these steps keeps of its history: more than that it is legal, since a legal history may
+-- have its marks elsewhere, and then not every step of this controller that nothing refuses keeps it legal.
 use Rattle.std.specs.Prelude.{[], length, ◌∷◌, ◌≡◌}
 use Rattle.nvme_model.specs.History.{Past}
 use Rattle.nvme_model.specs.Laws.{MarkedRight}
@@ -17,7 +17,8 @@ WordsRight [] = Unit {0}
 WordsRight (Entry.Block b ∷ past) =
     let k = ticket past b.ticket in
     WordsRight past
-    × (b.found ≡ word past k (op k) (unit_range past b.ticket b.unit).blocks (length (blocks_made past b.ticket b.unit)) b.lba)
+    × (b.found ≡
+    word past k (op k) (unit_range past b.ticket b.unit).blocks (length (blocks_made past b.ticket b.unit)) b.lba)
 WordsRight (_ ∷ past) = WordsRight past
 
 -- The history is legal, and its marks and words are where and what this controller makes them.

@@ -31,7 +31,8 @@ abbrev pub MarkedRight : Past → Type 0
 MarkedRight [] = Unit {0}
 MarkedRight (Entry.Block b ∷ past) =
     MarkedRight past
-    × (b.effect ≡ marked (op (ticket past b.ticket)) (unit_range past b.ticket b.unit).blocks (length (blocks_made past b.ticket b.unit)) b.found)
+    × (b.effect ≡ marked (op (ticket past b.ticket)) (unit_range past b.ticket b.unit).blocks
+    (length (blocks_made past b.ticket b.unit)) b.found)
 MarkedRight (_ ∷ past) = MarkedRight past
 
 -- ticket t owes a completion to a completion queue that is full
@@ -40,8 +41,9 @@ OwesToFull c past t =
     let q = completion_queue c (ticket past t).queue in
     (owes_nothing_yet c past t ≡ false) × (length (posted c past q) - reaped past q ≡ c.cq_size - 1)
 
--- p, for submission queue sqid, can be completion number k, from 0, of completion queue q: sqid uses q, the bytes name sqid, and the phase is that
--- of the number
+-- p, for submission queue sqid, can be completion number k, from 0, of completion queue q: sqid uses q, the bytes name
+-- sqid, and the phase is that of the number
 abbrev pub IsNumber : ConfigNumbers → ℕ → ℕ → ℕ → PostLine → Type 0
 IsNumber c sqid q k p =
-    (sqhd cid : ℕ) × (s : Status) × (p.cqe ≡ cqe_bytes sqhd sqid cid (phase k c.cq_size) s) × (completion_queue c sqid ≡ q)
+    (sqhd cid : ℕ) × (s : Status) × (p.cqe ≡ cqe_bytes sqhd sqid cid (phase k c.cq_size) s)
+    × (completion_queue c sqid ≡ q)

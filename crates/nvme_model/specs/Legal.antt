@@ -1,7 +1,8 @@
 -- Which entry may follow which history.
 use Rattle.std.specs.Bool.{beq}
 use Rattle.std.specs.List.{find}
-use Rattle.std.specs.Prelude.{Bool, IsTrue, List, None, Option, Some, [], bytes_eq, false, is_none, length, not, reverse, slice_get, true, ℕ, ◌%◌, ◌&&◌, ◌+◌, ◌==◌, ◌||◌, ◌∷◌}
+use Rattle.std.specs.Prelude.{Bool, IsTrue, List, None, Option, Some, [], bytes_eq, false, is_none, length, not}
+use Rattle.std.specs.Prelude.{reverse, slice_get, true, ℕ, ◌%◌, ◌&&◌, ◌+◌, ◌==◌, ◌||◌, ◌∷◌}
 use Rattle.nvme_model.specs.Answered.{may_find, right_answers}
 use Rattle.nvme_model.specs.Completions.{completion, posted, reaped}
 use Rattle.nvme_model.specs.declared.config.ConfigNumbers.{ConfigNumbers}

@@ -1,4 +1,5 @@
--- A payload whose bytes were lent is, once the borrow ends, the bytes that were left in it: as many as before, the first of them new.
+-- A payload whose bytes were lent is, once the borrow ends, the bytes that were left in it: as many as before, the
+-- first of them new.
 use Rattle.std.specs.Borrow.{Array, Fml, Lends, MutBor, u8}
 use Rattle.std.specs.Prelude.{List, drop, length, take, ℕ, ◌++◌}
 use Rattle.nvme_model.specs.contracts.submission.Payload.{the_row}

@@ -1,6 +1,7 @@
 -- Which units are granted, which have ended, and which conflict.
 use Rattle.std.specs.List.{filter, find, list_any}
-use Rattle.std.specs.Prelude.{Bool, List, None, Option, Some, [], false, if◌then◌else◌, length, nat_le, not, true, ℕ, ◌&&◌, ◌*◌, ◌+◌, ◌++◌, ◌==◌, ◌||◌, ◌∷◌}
+use Rattle.std.specs.Prelude.{Bool, List, None, Option, Some, [], false, if◌then◌else◌, length, nat_le, not, true, ℕ}
+use Rattle.std.specs.Prelude.{◌&&◌, ◌*◌, ◌+◌, ◌++◌, ◌==◌, ◌||◌, ◌∷◌}
 use Rattle.nvme_model.specs.Array.{overlap}
 use Rattle.nvme_model.specs.History.{Past}
 use Rattle.nvme_model.specs.Operations.{is_exclusive, is_pair, op}
@@ -62,7 +63,8 @@ steps_needed k n = if is_pair (op k) then 2 * n else n
 -- they were made, or one said `differs`
 abbrev pub has_ended : Past → ℕ → ℕ → ℕ → Bool
 has_ended past t u n =
-    nat_le (steps_needed (ticket past t) n) (length (blocks_made past t u)) || list_any (λ b. is_differs b.found) (blocks_made past t u)
+    nat_le (steps_needed (ticket past t) n) (length (blocks_made past t u))
+    || list_any (λ b. is_differs b.found) (blocks_made past t u)
 
 -- the units that are granted and haven't ended
 abbrev pub open_units : Past → List GrantLine

@@ -1,5 +1,6 @@
 -- What a ticket does, in which units, and with which data.
-use Rattle.std.specs.Prelude.{Bool, List, None, Option, Some, [], drop, false, if◌then◌else◌, take, true, ℕ, ◌*◌, ◌-◌, ◌∷◌}
+use Rattle.std.specs.Prelude.{Bool, List, None, Option, Some, [], drop, false, if◌then◌else◌, take, true, ℕ, ◌*◌, ◌-◌}
+use Rattle.std.specs.Prelude.{◌∷◌}
 use Rattle.nvme_model.specs.Array.{zeros}
 use Rattle.nvme_model.specs.Commands.{is_compare, is_read, is_write, is_write_zeroes}
 use Rattle.nvme_model.specs.declared.config.AtomicParameters.{AtomicParameters}

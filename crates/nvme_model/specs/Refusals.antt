@@ -1,6 +1,7 @@
 -- What refuses a step, read off the history.
 use Rattle.std.specs.List.{count_by, list_any}
-use Rattle.std.specs.Prelude.{Bool, List, None, Option, Some, [], false, length, nat_le, nat_lt, not, slice_get, true, ℕ, ◌&&◌, ◌+◌, ◌-◌, ◌==◌, ◌||◌, ◌∷◌}
+use Rattle.std.specs.Prelude.{Bool, List, None, Option, Some, [], false, length, nat_le, nat_lt, not, slice_get, true}
+use Rattle.std.specs.Prelude.{ℕ, ◌&&◌, ◌+◌, ◌-◌, ◌==◌, ◌||◌, ◌∷◌}
 use Rattle.nvme_model.specs.Completions.{posted, reaped}
 use Rattle.nvme_model.specs.Config.{completion_queue}
 use Rattle.nvme_model.specs.declared.config.ConfigNumbers.{ConfigNumbers}
@@ -58,7 +59,8 @@ owes_nothing_yet c past t =
     let k = ticket past t in
     passed k.verdict && not (is_flush_ticket (op k)) && not (all_ended c past t || differed past t)
 
--- The conditions of each step, in order (this profile's; a queue that is full: Base 2.0, Full Queue; one that is empty: Base 2.0, Empty Queue).
+-- The conditions of each step, in order (this profile's; a queue that is full: Base 2.0, Full Queue; one that is empty:
+-- Base 2.0, Empty Queue).
 abbrev pub conditions : ConfigNumbers → Past → Step → List (Bool × Why)
 conditions c past (Step.Publish q batch) =
     (no_queue c q, Why.NoQueue)
@@ -82,7 +84,11 @@ conditions c past (Step.Block t) =
 conditions c past (Step.Post t) =
     (not (in_flight past t), Why.NoTicket)
     ∷ (owes_nothing_yet c past t, Why.WrongState)
-    ∷ (let q = completion_queue c (ticket past t).queue in (length (posted c past q) - reaped past q == c.cq_size - 1), Why.CqFull)
+    ∷ (
+      let q = completion_queue c (ticket past t).queue in
+          (length (posted c past q) - reaped past q == c.cq_size - 1),
+      Why.CqFull,
+    )
     ∷ []
 conditions c past (Step.Reap q) =
     (no_completion_queue c q, Why.NoQueue)

@@ -1,5 +1,6 @@
 -- An array of blocks that serves one operation at a time, each done whole, and what it is asked by a history.
-use Rattle.std.specs.Prelude.{◌≡◌, slice_get, ℕ, ◌+◌, Bool, true, false, not, ◌&&◌, if◌then◌else◌, ◌==◌, Option, Some, None, List, [], ◌∷◌, ◌++◌, length, take, drop, map, replicate, bytes_eq}
+use Rattle.std.specs.Prelude.{◌≡◌, slice_get, ℕ, ◌+◌, Bool, true, false, not, ◌&&◌, if◌then◌else◌, ◌==◌, Option, Some}
+use Rattle.std.specs.Prelude.{None, List, [], ◌∷◌, ◌++◌, length, take, drop, map, replicate, bytes_eq}
 use Rattle.std.specs.List.{find, list_any, flat_map}
 use Rattle.nvme_model.specs.declared.config.ConfigNumbers.{ConfigNumbers}
 use Rattle.nvme_model.specs.Array.{zeros, blocks_from}
@@ -74,7 +75,8 @@ pub record Machine : Type 0 where
 
 -- the machine after a request that was served so
 abbrev pub answer_to : Request → Array × Answer → List Reply → Machine
-answer_to q served replies = record { contents = served.0; replies = record { ticket = q.ticket; unit = q.unit; answer = served.1 } ∷ replies }
+answer_to q served replies =
+    record { contents = served.0; replies = record { ticket = q.ticket; unit = q.unit; answer = served.1 } ∷ replies }
 
 -- n blocks of zeros, and then these requests one by one, the newest first
 abbrev pub machine : ℕ → List Request → Machine
@@ -87,7 +89,8 @@ operation (Some Op.Compare) k r = compare r.slba (map (compare_data k) (blocks_f
 operation (Some Op.Write) k r = write r.slba (map (write_data k) (blocks_from r.slba r.blocks))
 operation (Some Op.WriteZeroes) k r = write r.slba (replicate r.blocks zeros)
 operation (Some Op.Pair) k r =
-    compare_and_write r.slba (map (compare_data k) (blocks_from r.slba r.blocks)) (map (write_data k) (blocks_from r.slba r.blocks))
+    compare_and_write r.slba (map (compare_data k) (blocks_from r.slba r.blocks))
+    (map (write_data k) (blocks_from r.slba r.blocks))
 operation _ k r = read r.slba r.blocks
 
 -- the effects alone, in the order of the history, the newest first
@@ -96,7 +99,8 @@ requests [] = []
 requests (Entry.Block b ∷ past) =
     let k = ticket past b.ticket in
     if b.effect
-    then record { ticket = b.ticket; unit = b.unit; operation = operation (op k) k (unit_range past b.ticket b.unit) } ∷ requests past
+    then record { ticket = b.ticket; unit = b.unit; operation = operation (op k) k (unit_range past b.ticket b.unit) }
+    ∷ requests past
     else requests past
 requests (_ ∷ past) = requests past
 
@@ -118,7 +122,11 @@ answers [] = []
 answers (Entry.Block b ∷ past) =
     let k = ticket past b.ticket in
     if b.effect
-    then record { ticket = b.ticket; unit = b.unit; answer = answer_by (value past) (op k) k (unit_range past b.ticket b.unit) } ∷ answers past
+    then record {
+      ticket = b.ticket;
+      unit = b.unit;
+      answer = answer_by (value past) (op k) k (unit_range past b.ticket b.unit);
+    } ∷ answers past
     else answers past
 answers (_ ∷ past) = answers past
 
@@ -163,7 +171,8 @@ sequential_statuses c past t = statuses_after (ticket past t).verdict (op (ticke
 
 -- the bytes that were read of each unit
 abbrev pub data_by : ConfigNumbers → Past → ℕ → Option Op → List ℕ
-data_by c past t (Some Op.Read) = flat_map (λ u. bytes_of (answer_for (sequential c past).replies t u.0)) (units_of c past t)
+data_by c past t (Some Op.Read) =
+    flat_map (λ u. bytes_of (answer_for (sequential c past).replies t u.0)) (units_of c past t)
 data_by c past t _ = []
 
 -- the data beside a completion of ticket t with this status: what a successful Read read, unit after unit
@@ -178,4 +187,5 @@ IsPosted c past p =
 
 -- This Reap gives the bytes of the Post of the same number on its queue.
 abbrev pub IsReaped : ConfigNumbers → Past → ReapLine → Type 0
-IsReaped c past r = (p : PostLine) × (slice_get (posted c past r.queue) (reaped past r.queue) ≡ Some p) × (r.cqe ≡ p.cqe)
+IsReaped c past r =
+    (p : PostLine) × (slice_get (posted c past r.queue) (reaped past r.queue) ≡ Some p) × (r.cqe ≡ p.cqe)

@@ -1,5 +1,6 @@
 -- Slots that are claimed and released by fused pairs.
-use Rattle.std.specs.Prelude.{ℕ, suc, ◌+◌, ◌/◌, ◌^◌, Bool, true, false, not, ◌&&◌, ◌||◌, if◌then◌else◌, ◌==◌, nat_lt, Option, Some, None, List, [], ◌∷◌, ◌++◌, length, replicate, bytes_eq, slice_get}
+use Rattle.std.specs.Prelude.{ℕ, suc, ◌+◌, ◌/◌, ◌^◌, Bool, true, false, not, ◌&&◌, ◌||◌, if◌then◌else◌, ◌==◌, nat_lt}
+use Rattle.std.specs.Prelude.{Option, Some, None, List, [], ◌∷◌, ◌++◌, length, replicate, bytes_eq, slice_get}
 use Rattle.std.specs.List.{filter, list_any}
 use Rattle.nvme_model.specs.Config.{completion_queue}
 use Rattle.nvme_model.specs.declared.config.ConfigNumbers.{ConfigNumbers}
@@ -28,7 +29,8 @@ four_bytes n = two_bytes n ++ two_bytes (n / 2 ^ 16)
 
 -- the block of a held slot
 abbrev pub slot_block : Name → List ℕ
-slot_block n = four_bytes n.host ++ (replicate 4 0 ++ (four_bytes n.serial ++ (four_bytes (n.serial / 2 ^ 32) ++ replicate 496 0)))
+slot_block n =
+    four_bytes n.host ++ (replicate 4 0 ++ (four_bytes n.serial ++ (four_bytes (n.serial / 2 ^ 32) ++ replicate 496 0)))
 
 -- the same name
 abbrev pub same_name : Name → Name → Bool
@@ -57,7 +59,8 @@ abbrev pub is_pair_on_one : Submission → Submission → Bool
 is_pair_on_one a b =
     let e = sqe_fields a.entry in
     let d = sqe_fields b.entry in
-    is_compare e && is_write d && (e.fuse == 1) && (d.fuse == 2) && (slba e == slba d) && (blocks e == 1) && (blocks d == 1)
+    is_compare e && is_write d && (e.fuse == 1) && (d.fuse == 2) && (slba e == slba d) && (blocks e == 1)
+    && (blocks d == 1)
 
 -- a claim of this name or a release of it, if there is one
 abbrev pub swap_by : Bool → ℕ → ℕ → ℕ → Option Name → List Swap
@@ -103,12 +106,14 @@ pub record EntryCompletion : Type 0 where
 
 -- the one that a Post gives
 abbrev pub entry_completion : Past → PostLine → EntryCompletion
-entry_completion past p = record { queue = (ticket past p.ticket).queue; number = next_number past p.ticket; cqe = p.cqe }
+entry_completion past p =
+    record { queue = (ticket past p.ticket).queue; number = next_number past p.ticket; cqe = p.cqe }
 
 -- those posted to completion queue q, in order
 abbrev pub entry_completions : ConfigNumbers → Past → ℕ → List EntryCompletion
 entry_completions c [] q = []
-entry_completions c (Entry.Post p ∷ past) q = entry_completions c past q ++ (if completion_queue c (ticket past p.ticket).queue == q then entry_completion past p ∷ [] else [])
+entry_completions c (Entry.Post p ∷ past) q = entry_completions c past q
+    ++ (if completion_queue c (ticket past p.ticket).queue == q then entry_completion past p ∷ [] else [])
 entry_completions c (_ ∷ past) q = entry_completions c past q
 
 -- the completion says success
@@ -134,7 +139,8 @@ releases s l n = not s.claims && (s.lba == l) && same_name s.name n
 -- the name is believed of the slot at block l: its claim's success was reaped, and its release wasn't published
 abbrev pub believed : ConfigNumbers → Past → ℕ → Name → Bool
 believed c past l n =
-    list_any (λ s. s.claims && (s.lba == l) && same_name s.name n && reaped_success c past s.queue (suc s.number)) (swaps past)
+    list_any (λ s. s.claims && (s.lba == l) && same_name s.name n && reaped_success c past s.queue (suc s.number))
+    (swaps past)
     && not (list_any (λ s. releases s l n) (swaps past))
 
 -- the entry writes in the slot area; an area without a block is touched by nothing
@@ -157,22 +163,26 @@ only_swaps slots q j (s ∷ batch) of =
 abbrev pub fresh_names : List Swap → List Swap → Bool
 fresh_names [] before = true
 fresh_names (s ∷ later) before =
-    (not s.claims || not (list_any (λ w. w.claims && same_name w.name s.name) (later ++ before))) && fresh_names later before
+    (not s.claims || not (list_any (λ w. w.claims && same_name w.name s.name) (later ++ before)))
+    && fresh_names later before
 
 -- the claim of the release's name on its slot stands on a queue that has the same completion queue
 abbrev pub on_its_queue : ConfigNumbers → Past → Swap → Bool
 on_its_queue c past s =
-    list_any (λ w. w.claims && (w.lba == s.lba) && same_name w.name s.name && (completion_queue c w.queue == completion_queue c s.queue)) (swaps past)
+    list_any (λ w. w.claims && (w.lba == s.lba) && same_name w.name s.name
+    && (completion_queue c w.queue == completion_queue c s.queue)) (swaps past)
 
--- Each release of a batch is of a name that is believed of its slot just before the release's own entry, and stands on its claim's completion queue.
+-- Each release of a batch is of a name that is believed of its slot just before the release's own entry, and stands on
+-- its claim's completion queue.
 abbrev pub released_right : ConfigNumbers → Past → List Swap → List Swap → Bool
 released_right c past earlier [] = true
 released_right c past earlier (s ∷ later) =
-    (s.claims || (believed c past s.lba s.name && not (list_any (λ w. releases w s.lba s.name) earlier) && on_its_queue c past s))
+    (s.claims || (believed c past s.lba s.name && not (list_any (λ w. releases w s.lba s.name) earlier)
+    && on_its_queue c past s))
     && released_right c past (s ∷ earlier) later
 
--- This Publish keeps the discipline of the slot area, where those before it did: in the area only claims and releases write, each claim has a
--- name of its own, and each release is of a believed name.
+-- This Publish keeps the discipline of the slot area, where those before it did: in the area only claims and releases
+-- write, each claim has a name of its own, and each release is of a believed name.
 abbrev pub keeps_discipline : ConfigNumbers → Range → Past → PublishLine → Bool
 keeps_discipline c slots past p =
     let j = length (published past p.queue) in

@@ -1,5 +1,6 @@
 -- The entry that an accepted step of this engine adds, and a run of steps.
-use Rattle.std.specs.Prelude.{ℕ, zero, suc, is_none, reverse, ◌+◌, ◌%◌, Bool, false, ◌||◌, if◌then◌else◌, ◌==◌, nat_lt, Option, Some, None, List, [], ◌∷◌, length, slice_get, bytes_eq}
+use Rattle.std.specs.Prelude.{ℕ, zero, suc, is_none, reverse, ◌+◌, ◌%◌, Bool, false, ◌||◌, if◌then◌else◌, ◌==◌, nat_lt}
+use Rattle.std.specs.Prelude.{Option, Some, None, List, [], ◌∷◌, length, slice_get, bytes_eq}
 use Rattle.std.specs.List.{find, flat_map}
 use Rattle.nvme_model.specs.declared.config.ConfigNumbers.{ConfigNumbers}
 use Rattle.nvme_model.specs.History.{Past}
@@ -35,7 +36,8 @@ word past k (Some Op.Compare) n j l = compared past k l
 word past k (Some Op.Pair) n j l = if nat_lt j n then compared past k l else Found.Written
 word past k _ n j l = Found.Written
 
--- where this engine puts the mark: a Write's or a Write Zeroes' first Block, and otherwise the last that reads or compares
+-- where this engine puts the mark: a Write's or a Write Zeroes' first Block, and otherwise the last that reads or
+-- compares
 abbrev pub marked : Option Op → ℕ → ℕ → Found → Bool
 marked (Some Op.Write) n j f = j == 0
 marked (Some Op.WriteZeroes) n j f = j == 0
@@ -53,13 +55,16 @@ block_entry past t (Some g) =
 
 -- the next Grant of ticket t, of this range
 abbrev pub grant_entry : Past → ℕ → Option Range → Entry
-grant_entry past t None = Entry.Grant (record { ticket = t; unit = 0; range = record { slba = 0; blocks = 0 }; mode = mode (ticket past t) })
-grant_entry past t (Some r) = Entry.Grant (record { ticket = t; unit = grants_of past t; range = r; mode = mode (ticket past t) })
+grant_entry past t None =
+    Entry.Grant (record { ticket = t; unit = 0; range = record { slba = 0; blocks = 0 }; mode = mode (ticket past t) })
+grant_entry past t (Some r) =
+    Entry.Grant (record { ticket = t; unit = grants_of past t; range = r; mode = mode (ticket past t) })
 
 -- the next Post of ticket t, with this status
 abbrev pub post_entry : ConfigNumbers → Past → ℕ → Option Status → Entry
 post_entry c past t None = Entry.Post (record { ticket = t; cqe = []; payload = [] })
-post_entry c past t (Some s) = Entry.Post (record { ticket = t; cqe = completion c past t s; payload = completion_data c past t s })
+post_entry c past t (Some s) =
+    Entry.Post (record { ticket = t; cqe = completion c past t s; payload = completion_data c past t s })
 
 -- the next Reap of queue q, of this Post
 abbrev pub reap_entry : ℕ → Option PostLine → Entry

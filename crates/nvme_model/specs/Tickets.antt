@@ -1,6 +1,7 @@
 -- What each Fetch took.
 use Rattle.std.specs.List.{flat_map}
-use Rattle.std.specs.Prelude.{Bool, List, [], drop, get_or, if◌then◌else◌, length, map, nat_lt, suc, take, zero, ℕ, ◌+◌, ◌==◌, ◌∷◌}
+use Rattle.std.specs.Prelude.{Bool, List, [], drop, get_or, if◌then◌else◌, length, map, nat_lt, suc, take, zero, ℕ, ◌+◌}
+use Rattle.std.specs.Prelude.{◌==◌, ◌∷◌}
 use Rattle.nvme_model.specs.EntryBytes.{Sqe, sqe_fields}
 use Rattle.nvme_model.specs.History.{Past}
 use Rattle.nvme_model.specs.Queues.{waiting}
@@ -62,7 +63,8 @@ in_flight past t = nat_lt (posts_of past t) (length (ticket past t).commands)
 -- the CIDs on queue q that were fetched and whose completion wasn't posted yet
 abbrev pub cids_in_use : Past → ℕ → List ℕ
 cids_in_use past q =
-    flat_map (λ t. if (ticket past t).queue == q then drop (posts_of past t) (cids (ticket past t)) else []) (numbers (tickets past))
+    flat_map (λ t. if (ticket past t).queue == q then drop (posts_of past t) (cids (ticket past t)) else [])
+    (numbers (tickets past))
 
 -- what a Fetch of queue q says now
 abbrev pub next_verdict : ConfigNumbers → Past → ℕ → Verdict

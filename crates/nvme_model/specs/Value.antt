@@ -13,7 +13,8 @@ use Rattle.nvme_model.specs.declared.array.Range.{Range}
 abbrev pub all_equal : (ℕ → List ℕ) → Ticket → Range → Bool
 all_equal contents k r = list_all (λ l. bytes_eq (contents l) (compare_data k l)) (blocks_from r.slba r.blocks)
 
--- at these contents an effect of the ticket writes: a Write's does, and a pair's that says yes (NVM 1.0, Compare and Write)
+-- at these contents an effect of the ticket writes: a Write's does, and a pair's that says yes (NVM 1.0, Compare and
+-- Write)
 abbrev pub writes : (ℕ → List ℕ) → Ticket → Range → Bool
 writes contents k r = has_write (op k) && (not (has_compare (op k)) || all_equal contents k r)
 

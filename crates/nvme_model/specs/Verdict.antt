@@ -1,11 +1,13 @@
 -- Which status a command or a fused pair is answered with before it runs.
 use Rattle.std.specs.List.{list_any}
-use Rattle.std.specs.Prelude.{Bool, List, None, Option, Some, [], false, if◌then◌else◌, is_some, length, nat_lt, not, true, unwrap_or, ℕ, ◌&&◌, ◌+◌, ◌/◌, ◌==◌, ◌||◌, ◌∷◌}
+use Rattle.std.specs.Prelude.{Bool, List, None, Option, Some, [], false, if◌then◌else◌, is_some, length, nat_lt, not}
+use Rattle.std.specs.Prelude.{true, unwrap_or, ℕ, ◌&&◌, ◌+◌, ◌/◌, ◌==◌, ◌||◌, ◌∷◌}
 use Rattle.nvme_model.specs.Cells.{pair_fits}
 use Rattle.nvme_model.specs.Commands.{data_length, is_compare, is_flush, is_read, is_write, is_write_zeroes}
 use Rattle.nvme_model.specs.declared.config.AtomicParameters.{AtomicParameters}
 use Rattle.nvme_model.specs.EntryBytes.{Sqe, blocks, slba, sqe_fields}
-use Rattle.nvme_model.specs.Statuses.{cid_conflict, data_transfer_error, failed_fused, invalid_field, invalid_namespace, invalid_opcode, missing_fused, out_of_range, same_status, success, unit_exceeded}
+use Rattle.nvme_model.specs.Statuses.{cid_conflict, data_transfer_error, failed_fused, invalid_field, invalid_namespace}
+use Rattle.nvme_model.specs.Statuses.{invalid_opcode, missing_fused, out_of_range, same_status, success, unit_exceeded}
 use Rattle.nvme_model.specs.Tables.{first_row}
 use Rattle.nvme_model.specs.declared.status.Status.{Status}
 use Rattle.nvme_model.specs.declared.submission.Submission.{Submission}
@@ -31,7 +33,8 @@ has_invalid_field e =
 abbrev pub is_in : ℕ → List ℕ → Bool
 is_in n ns = list_any (λ m. m == n) ns
 
--- What is wrong with one command on a volume of `size` blocks, where these CIDs are in use, the first fault first. The order of the rows is this profile's.
+-- What is wrong with one command on a volume of `size` blocks, where these CIDs are in use, the first fault first. The
+-- order of the rows is this profile's.
 abbrev pub command_faults : ℕ → List ℕ → Item → List (Bool × Status)
 command_faults size in_use i =
     let e = i.fields in
@@ -48,7 +51,8 @@ command_faults size in_use i =
 abbrev pub command_fault : ℕ → List ℕ → Item → Option Status
 command_fault size in_use i = first_row (command_faults size in_use i)
 
--- What is wrong with a matched pair, as the statuses of its first and its second command (Base 2.0, Fused Operations; NVM 1.0, Compare and Write).
+-- What is wrong with a matched pair, as the statuses of its first and its second command (Base 2.0, Fused Operations;
+-- NVM 1.0, Compare and Write).
 abbrev pub pair_faults : AtomicParameters → ℕ → List ℕ → Item → Item → List (Bool × (Status × Status))
 pair_faults u size in_use first second =
     let e = first.fields in
@@ -81,7 +85,8 @@ of_pair (Some s) = Verdict.PairFailed s.0 s.1
 abbrev pub pair_verdict : AtomicParameters → ℕ → List ℕ → Item → List Item → Verdict
 pair_verdict u size in_use first [] = Verdict.SingleFailed missing_fused
 pair_verdict u size in_use first (second ∷ _) =
-    if second.fields.fuse == 2 then of_pair (pair_fault u size in_use first second) else Verdict.SingleFailed missing_fused
+    if second.fields.fuse == 2 then of_pair (pair_fault u size in_use first second)
+    else Verdict.SingleFailed missing_fused
 
 -- What a Fetch says of the entries that wait, the first of them at the front.
 abbrev pub verdict_of : AtomicParameters → ℕ → List ℕ → List Item → Verdict

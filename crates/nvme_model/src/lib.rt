@@ -10,5 +10,3 @@ pub mod refusal;
 pub mod status;
 pub mod step;
 pub mod submission;
-#[cfg(test)]
-mod tests;

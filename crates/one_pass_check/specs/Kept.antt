@@ -15,7 +15,8 @@ use Rattle.one_pass_check.specs.Rings.{IsTable, completion_ring, submission_ring
 use Rattle.one_pass_check.specs.declared.fields.Fields.{Fields}
 use Rattle.one_pass_check.specs.declared.fields.InFlight.{InFlight}
 
--- what each block is, the rings of the queues, the tickets in flight, the ranges of open units, and how many tickets there are
+-- what each block is, the rings of the queues, the tickets in flight, the ranges of open units, and how many tickets
+-- there are
 pub record Kept : Type 0 where
   pub volume : List (List ℕ)
   pub submission : List SubmissionRing

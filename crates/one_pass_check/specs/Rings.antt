@@ -18,7 +18,12 @@ bare p = record { cqe = p.cqe; payload = [] }
 -- the ring of completion queue q
 abbrev pub completion_ring : ConfigNumbers → Tables → ℕ → CompletionRing
 completion_ring c s q =
-    record { size = c.cq_size; tail = s.posts q % c.cq_size; phase = (s.posts q / c.cq_size) % 2 == 0; waiting = map bare (s.unreaped q) }
+    record {
+      size = c.cq_size;
+      tail = s.posts q % c.cq_size;
+      phase = (s.posts q / c.cq_size) % 2 == 0;
+      waiting = map bare (s.unreaped q);
+    }
 
 -- the list is what f says of each place below n
 pub record IsTable {X : Type 0} (f : ℕ → X) (n : ℕ) (xs : List X) : Type 0 where

@@ -1,6 +1,7 @@
 -- What one more entry makes of what is kept.
 use Rattle.std.specs.Bool.{beq}
-use Rattle.std.specs.Prelude.{Bool, List, None, Option, Some, [], false, is_some, not, true, ◌&&◌, ◌+◌, ◌==◌, ◌||◌, ◌∷◌, ◌≡◌, ◌≤◌}
+use Rattle.std.specs.Prelude.{Bool, List, None, Option, Some, [], false, is_some, not, true, ◌&&◌, ◌+◌, ◌==◌, ◌||◌, ◌∷◌}
+use Rattle.std.specs.Prelude.{◌≡◌, ◌≤◌}
 use Rattle.checker_tables.specs.Judged as rules
 use Rattle.checker_tables.specs.Tables.{tables}
 use Rattle.checker_tables.specs.Tables.{Flight}
@@ -31,7 +32,8 @@ abbrev pub grant_by : Flight → Option Range → List Held → GrantLine → Bo
 grant_by f None held g = false
 grant_by f (Some r) held g =
     not (f.differs || is_some f.unit) && not (has_conflict held r (mode f.ticket))
-    && ((g.unit == f.opened) && ((r.slba == g.range.slba) && (r.blocks == g.range.blocks)) && beq (is_exclusive g.mode) (is_exclusive (mode f.ticket)))
+    && ((g.unit == f.opened) && ((r.slba == g.range.slba) && (r.blocks == g.range.blocks))
+    && beq (is_exclusive g.mode) (is_exclusive (mode f.ticket)))
 
 -- ---- a Fetch
 

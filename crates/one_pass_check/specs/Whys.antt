@@ -23,12 +23,14 @@ use Rattle.range_reserve.specs.declared.held.Held.{Held}
 abbrev pub wrong_by : ConfigNumbers → Tables → Entry → Option Broken
 wrong_by c s (Entry.Publish p) = None
 wrong_by c s (Entry.Fetch f) = fetch_broken f s.tickets (verdict_by c s f.queue)
-wrong_by c s (Entry.Grant g) = grant_broken g (s.flight g.ticket).opened (next_by c (s.flight g.ticket)) (mode (s.flight g.ticket).ticket)
+wrong_by c s (Entry.Grant g) =
+    grant_broken g (s.flight g.ticket).opened (next_by c (s.flight g.ticket)) (mode (s.flight g.ticket).ticket)
 wrong_by c s (Entry.Block b) = block_wrong_by s.value (s.flight b.ticket) b (s.flight b.ticket).unit
 wrong_by c s (Entry.Post p) =
     let f = s.flight p.ticket in
     let q = f.ticket.queue in
-    post_wrong_at (s.fetched q % c.sq_size) (phase (s.posts (completion_queue c q)) c.cq_size) f p (slice_get (owed_by c f) f.posts)
+    post_wrong_at (s.fetched q % c.sq_size) (phase (s.posts (completion_queue c q)) c.cq_size) f p
+    (slice_get (owed_by c f) f.posts)
 wrong_by c s (Entry.Reap r) = reap_broken r (option_map (λ (p : PostLine). p.cqe) (slice_get (s.unreaped r.queue) 0))
 
 -- its refusal, or that
@@ -40,4 +42,5 @@ abbrev pub grant_why : Flight → Option Range → List Held → GrantLine → O
 grant_why f None held g = Some (Broken.Refused Why.WrongState)
 grant_why f (Some r) held g =
     if f.differs || is_some f.unit then Some (Broken.Refused Why.WrongState)
-    else (if has_conflict held r (mode f.ticket) then Some (Broken.Refused Why.Conflict) else grant_broken g f.opened (Some r) (mode f.ticket))
+    else (if has_conflict held r (mode f.ticket) then Some (Broken.Refused Why.Conflict)
+    else grant_broken g f.opened (Some r) (mode f.ticket))

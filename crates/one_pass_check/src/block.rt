@@ -22,9 +22,11 @@ use std::alloc::Global;
 // Writes the blocks of a unit where its effect does.
 fn write_taken(volume: &mut Volume, ticket: &Commands, done: TakenBlock)
     requires within { done.range.slba + done.range.blocks ≤ length volume.old }
-    requires whole { done.writes ≡ true → (l : ℕ) → has_block done.range l ≡ true → length (write_data ticket.now l) ≡ 512 }
+    requires whole { done.writes ≡ true → (l : ℕ) →
+        has_block done.range l ≡ true → length (write_data ticket.now l) ≡ 512 }
     ensures length { length volume.new ≡ length volume.old }
-    ensures value { (l : ℕ) → l < length volume.old → contents_in volume.new l ≡ (if done.writes then written_in (contents_in volume.old) ticket.now done.range l else contents_in volume.old l) }
+    ensures value { (l : ℕ) → l < length volume.old → contents_in volume.new l ≡ (if done.writes
+        then written_in (contents_in volume.old) ticket.now done.range l else contents_in volume.old l) }
 {
     if done.writes {
         write_range(volume, ticket, done.range);
@@ -47,7 +49,8 @@ fn release_ended(ranges: &mut Ranges, ticket: u64, ended: bool)
 /// `NoMemory` where a growth is refused; nothing has changed.
 pub fn take_block(alloc: Global, fields: &mut Fields, line: &BlockLine) -> Result<bool, NoMemory>
     requires keeps { (c : ConfigNumbers) × (past : Past) × Keeps c past (kept_in fields.old) }
-    ensures took { (c : ConfigNumbers) (past : Past) → Keeps c past (kept_in fields.old) → IfOk result (λ b. Took c past (Entry.Block line.now) b (kept_in fields.new)) }
+    ensures took { (c : ConfigNumbers) (past : Past) → Keeps c past (kept_in fields.old) →
+        IfOk result (λ b. Took c past (Entry.Block line.now) b (kept_in fields.new)) }
     ensures err { OnErr result (kept_in fields.new ≡ kept_in fields.old) }
 {
     let Some(place) = ticket_place(fields.flights.as_slice(), line.ticket) else {

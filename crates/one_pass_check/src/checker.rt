@@ -21,9 +21,9 @@ use history::{Config, Entry};
 use std::alloc::Global;
 use std::marker::Model;
 
-/// Says of each entry that it takes whether the entries so far, the oldest first, are a legal history of its configuration, whoever
-/// made them. It keeps what later entries are judged by, and no entry: how much that is, and how long an entry takes, doesn't grow with
-/// the history.
+/// Says of each entry that it takes whether the entries so far, the oldest first, are a legal history of its
+/// configuration, whoever made them. It keeps what later entries are judged by, and no entry: how much that is, and how
+/// long an entry takes, doesn't grow with the history.
 #[derive(Drop)]
 pub struct Checker {
     alloc: Global,
@@ -41,7 +41,8 @@ impl Model for Checker {
     ghost view = { λ x. record { config = x.config; is_legal = x.legal; kept = kept_in x.fields } };
 
     // There is a history that it stands for.
-    ghost invariant = { λ x. (past : Past) × Stands x.config past (record { config = x.config; is_legal = x.legal; kept = kept_in x.fields }) };
+    ghost invariant = { λ x. (past : Past)
+        × Stands x.config past (record { config = x.config; is_legal = x.legal; kept = kept_in x.fields }) };
 }
 
 // Takes an entry after a legal history, and says whether it may follow.
@@ -52,7 +53,8 @@ fn take_entry(
     entry: &Entry,
 ) -> Result<bool, NoMemory>
     requires keeps { (past : Past) × Keeps config.now past (kept_in fields.old) }
-    ensures took { (past : Past) → Keeps config.now past (kept_in fields.old) → IfOk result (λ b. Took config.now past entry.now b (kept_in fields.new)) }
+    ensures took { (past : Past) → Keeps config.now past (kept_in fields.old) →
+        IfOk result (λ b. Took config.now past entry.now b (kept_in fields.new)) }
     ensures err { OnErr result (kept_in fields.new ≡ kept_in fields.old) }
 {
     match entry {
@@ -89,7 +91,8 @@ impl Checker {
     /// `NoMemory` where a growth is refused; the entry isn't taken, and nothing has changed.
     pub fn take(&mut self, entry: &Entry) -> Result<bool, NoMemory>
         ensures ok { (past : Past) → Stands self.old.config past self.old →
-            IfOk result (λ b. (b ≡ legal self.old.config (entry.now ∷ past)) × Stands self.old.config (entry.now ∷ past) self.new) }
+            IfOk result (λ b. (b ≡ legal self.old.config (entry.now ∷ past))
+            × Stands self.old.config (entry.now ∷ past) self.new) }
         ensures err { OnErr result (self.new ≡ self.old) }
     {
         if !self.legal {
@@ -100,14 +103,17 @@ impl Checker {
         Ok(follows)
     }
 
-    /// The first rule that an entry breaks behind those that were taken; None exactly where the entries with it are legal.
+    /// The first rule that an entry breaks behind those that were taken; None exactly where the entries with it are
+    /// legal.
     ///
     /// # Errors
     ///
     /// `NoMemory` where a growth is refused.
     pub fn why(&self, entry: &Entry) -> Result<Option<Broken>, NoMemory>
-        ensures first { (past : Past) → Stands self.now.config past self.now → IfOk result (λ b. b ≡ first_broken self.now.config past entry.now) }
-        ensures none { (past : Past) → Stands self.now.config past self.now → IfOk result (λ b. is_none b ≡ legal self.now.config (entry.now ∷ past)) }
+        ensures first { (past : Past) →
+            Stands self.now.config past self.now → IfOk result (λ b. b ≡ first_broken self.now.config past entry.now) }
+        ensures none { (past : Past) → Stands self.now.config past self.now →
+            IfOk result (λ b. is_none b ≡ legal self.now.config (entry.now ∷ past)) }
     {
         if !self.legal {
             return Ok(Some(Broken::Earlier));

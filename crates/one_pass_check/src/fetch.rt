@@ -2,7 +2,8 @@
 
 ghost use Rattle.std.specs.Option.{option_copied, option_map};
 ghost use Rattle.std.specs.List.{flat_map};
-ghost use Rattle.std.specs.Prelude.{◌≡◌, ◌≤◌, ◌+◌, ◌==◌, ◌&&◌, ◌∷◌, IfOk, OnErr, length, option_to_list, slice_get, take};
+ghost use Rattle.std.specs.Prelude.{◌≡◌, ◌≤◌, ◌+◌, ◌==◌, ◌&&◌, ◌∷◌, IfOk, OnErr, length, option_to_list, slice_get};
+ghost use Rattle.std.specs.Prelude.{take};
 ghost use Rattle.nvme_model.specs.History.{Past};
 ghost use Rattle.nvme_model.specs.declared.config.ConfigNumbers.{ConfigNumbers};
 ghost use Rattle.nvme_model.specs.declared.entry.Entry.{Entry};
@@ -57,7 +58,8 @@ pub(crate) fn judge_front(
     next: Option<&Item>,
 ) -> Result<Judged, NoMemory>
     ensures verdict { IfOk result (λ j. verdict_by j ≡
-        verdict_of config.now.atomic config.now.blocks (flat_map (λ e. cids_left queue e.flight) flights.now) (waiting_items (item_of first.now) (option_copied next.entry))) }
+        verdict_of config.now.atomic config.now.blocks (flat_map (λ e. cids_left queue e.flight) flights.now)
+        (waiting_items (item_of first.now) (option_copied next.entry))) }
     ensures operation { IfOk result (λ j. operation_in j ≡ op_by (verdict_by j) (sqe_fields first.now.entry)) }
     ensures range { IfOk result (λ j. NamesBlocks j (sqe_fields first.now.entry)) }
 {
@@ -104,7 +106,8 @@ fn take_commands(ring: &mut SqRing, count: u8) -> (Submission, Option<Submission
 
 // Whether a Fetch says the next ticket, and what became of its entries.
 fn fetch_fits(line: &FetchLine, tickets: u64, judged: &Judged) -> bool
-    ensures value { result ≡ ((line.now.ticket == tickets + 1) && same_verdict line.now.verdict (verdict_by judged.now)) }
+    ensures value { result ≡
+        ((line.now.ticket == tickets + 1) && same_verdict line.now.verdict (verdict_by judged.now)) }
 {
     line.ticket != 0 && line.ticket - 1 == tickets && same_verdict(line.verdict, judged.verdict())
 }
@@ -121,7 +124,8 @@ pub fn take_fetch(
     line: &FetchLine,
 ) -> Result<bool, NoMemory>
     requires keeps { (past : Past) × Keeps config.now past (kept_in fields.old) }
-    ensures took { (past : Past) → Keeps config.now past (kept_in fields.old) → IfOk result (λ b. Took config.now past (Entry.Fetch line.now) b (kept_in fields.new)) }
+    ensures took { (past : Past) → Keeps config.now past (kept_in fields.old) →
+        IfOk result (λ b. Took config.now past (Entry.Fetch line.now) b (kept_in fields.new)) }
     ensures err { OnErr result (kept_in fields.new ≡ kept_in fields.old) }
 {
     let Some(place) = ring_place(line.queue, fields.submission.len()) else {

@@ -68,7 +68,8 @@ pub struct Fields {
 // So many submission rings of this size.
 fn sq_rings(alloc: Global, count: u16, size: u16) -> Result<Vec<SqRing>, NoMemory>
     requires size { IsSize size }
-    ensures value { IfOk result (λ rings. rings.items ≡ replicate count (record { size = size; head = 0; waiting = [] })) }
+    ensures value { IfOk result
+        (λ rings. rings.items ≡ replicate count (record { size = size; head = 0; waiting = [] })) }
 {
     let mut rings = Vec::with_capacity(alloc, count as usize)?;
     for _ in 0..count {
@@ -80,7 +81,8 @@ fn sq_rings(alloc: Global, count: u16, size: u16) -> Result<Vec<SqRing>, NoMemor
 // So many completion rings of this size.
 fn cq_rings(alloc: Global, count: u16, size: u16) -> Result<Vec<CqRing>, NoMemory>
     requires size { IsSize size }
-    ensures value { IfOk result (λ rings. rings.items ≡ replicate count (record { size = size; tail = 0; phase = true; waiting = [] })) }
+    ensures value { IfOk result
+        (λ rings. rings.items ≡ replicate count (record { size = size; tail = 0; phase = true; waiting = [] })) }
 {
     let mut rings = Vec::with_capacity(alloc, count as usize)?;
     for _ in 0..count {

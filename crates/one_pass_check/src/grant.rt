@@ -41,7 +41,8 @@ pub(crate) fn next_unit(one: &InFlight) -> Option<Range>
 
 // Whether a Grant of a ticket in flight may follow, where these ranges are held.
 fn grant_fits(one: &InFlight, ranges: &Ranges, line: &GrantLine) -> bool
-    ensures value { result ≡ grant_by one.now.flight (slice_get one.now.units one.now.flight.opened) ranges.now.held line.now }
+    ensures value { result ≡
+        grant_by one.now.flight (slice_get one.now.units one.now.flight.opened) ranges.now.held line.now }
 {
     let Some(next) = next_unit(one) else {
         return false;
@@ -67,7 +68,8 @@ fn grant_fits(one: &InFlight, ranges: &Ranges, line: &GrantLine) -> bool
 /// `NoMemory` where a growth is refused; nothing has changed.
 pub fn take_grant(alloc: Global, fields: &mut Fields, line: &GrantLine) -> Result<bool, NoMemory>
     requires keeps { (c : ConfigNumbers) × (past : Past) × Keeps c past (kept_in fields.old) }
-    ensures took { (c : ConfigNumbers) (past : Past) → Keeps c past (kept_in fields.old) → IfOk result (λ b. Took c past (Entry.Grant line.now) b (kept_in fields.new)) }
+    ensures took { (c : ConfigNumbers) (past : Past) → Keeps c past (kept_in fields.old) →
+        IfOk result (λ b. Took c past (Entry.Grant line.now) b (kept_in fields.new)) }
     ensures err { OnErr result (kept_in fields.new ≡ kept_in fields.old) }
 {
     let Some(place) = ticket_place(fields.flights.as_slice(), line.ticket) else {

@@ -6,7 +6,8 @@ use crate::fields::InFlight;
 
 /// The place of the ring of a queue, where there are so many.
 pub fn ring_place(queue: u16, count: usize) -> Option<usize>
-    ensures value { MatchOption result (((queue == 0) || nat_lt count queue) ≡ true) (λ i. (i + 1 ≡ queue) × (i < count)) }
+    ensures value { MatchOption result (((queue == 0) || nat_lt count queue) ≡ true)
+        (λ i. (i + 1 ≡ queue) × (i < count)) }
 {
     if queue == 0 || usize::from(queue) > count {
         return None;

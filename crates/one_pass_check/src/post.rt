@@ -25,7 +25,8 @@ fn remove_ticket(flights: &mut Vec<InFlight>, ticket: u64)
 /// Takes a Post, and says whether it may follow. Takes no memory.
 pub fn take_post(alloc: Global, config: &Config, fields: &mut Fields, line: &PostLine) -> bool
     requires keeps { (past : Past) × Keeps config.now past (kept_in fields.old) }
-    ensures took { (past : Past) → Keeps config.now past (kept_in fields.old) → Took config.now past (Entry.Post line.now) result (kept_in fields.new) }
+    ensures took { (past : Past) → Keeps config.now past (kept_in fields.old) →
+        Took config.now past (Entry.Post line.now) result (kept_in fields.new) }
 {
     let Some(place) = ticket_place(fields.flights.as_slice(), line.ticket) else {
         return false;

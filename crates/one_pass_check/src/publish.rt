@@ -24,7 +24,8 @@ pub fn take_publish(
     fields: &mut Fields,
     line: &PublishLine,
 ) -> Result<bool, NoMemory>
-    ensures took { (c : ConfigNumbers) (past : Past) → Keeps c past (kept_in fields.old) → IfOk result (λ b. Took c past (Entry.Publish line.now) b (kept_in fields.new)) }
+    ensures took { (c : ConfigNumbers) (past : Past) → Keeps c past (kept_in fields.old) →
+        IfOk result (λ b. Took c past (Entry.Publish line.now) b (kept_in fields.new)) }
     ensures err { OnErr result (kept_in fields.new ≡ kept_in fields.old) }
 {
     let Some(place) = ring_place(line.queue, fields.submission.len()) else {

@@ -13,7 +13,8 @@ use nvme_model::entry::ReapLine;
 
 /// Takes a Reap, and says whether it may follow.
 pub fn take_reap(fields: &mut Fields, line: &ReapLine) -> bool
-    ensures took { (c : ConfigNumbers) (past : Past) → Keeps c past (kept_in fields.old) → Took c past (Entry.Reap line.now) result (kept_in fields.new) }
+    ensures took { (c : ConfigNumbers) (past : Past) →
+        Keeps c past (kept_in fields.old) → Took c past (Entry.Reap line.now) result (kept_in fields.new) }
 {
     let Some(place) = ring_place(line.queue, fields.completion.len()) else {
         return false;

@@ -21,7 +21,8 @@ use range_reserve::Ranges;
 use std::alloc::Global;
 
 fn why_publish(fields: &Fields, line: &PublishLine) -> Option<Broken>
-    ensures value { (c : ConfigNumbers) (past : Past) → Keeps c past (kept_in fields.now) → result ≡ broken_by c (tables c past) (Entry.Publish line.now) }
+    ensures value { (c : ConfigNumbers) (past : Past) →
+        Keeps c past (kept_in fields.now) → result ≡ broken_by c (tables c past) (Entry.Publish line.now) }
 {
     let Some(place) = ring_place(line.queue, fields.submission.len()) else {
         return Some(Broken::Refused(Why::NoQueue));
@@ -36,7 +37,8 @@ fn why_fetch(
     fields: &Fields,
     line: &FetchLine,
 ) -> Result<Option<Broken>, NoMemory>
-    ensures value { (past : Past) → Keeps config.now past (kept_in fields.now) → IfOk result (λ b. b ≡ broken_by config.now (tables config.now past) (Entry.Fetch line.now)) }
+    ensures value { (past : Past) → Keeps config.now past (kept_in fields.now) →
+        IfOk result (λ b. b ≡ broken_by config.now (tables config.now past) (Entry.Fetch line.now)) }
 {
     let Some(place) = ring_place(line.queue, fields.submission.len()) else {
         return Ok(Some(Broken::Refused(Why::NoQueue)));
@@ -56,7 +58,8 @@ fn why_fetch(
 
 // A Grant of a ticket in flight.
 fn why_not_granted(one: &InFlight, ranges: &Ranges, line: &GrantLine) -> Option<Broken>
-    ensures value { result ≡ grant_why one.now.flight (slice_get one.now.units one.now.flight.opened) ranges.now.held line.now }
+    ensures value { result ≡
+        grant_why one.now.flight (slice_get one.now.units one.now.flight.opened) ranges.now.held line.now }
 {
     let Some(next) = next_unit(one) else {
         return Some(Broken::Refused(Why::WrongState));
@@ -72,7 +75,8 @@ fn why_not_granted(one: &InFlight, ranges: &Ranges, line: &GrantLine) -> Option<
 }
 
 fn why_grant(fields: &Fields, line: &GrantLine) -> Option<Broken>
-    ensures value { (c : ConfigNumbers) (past : Past) → Keeps c past (kept_in fields.now) → result ≡ broken_by c (tables c past) (Entry.Grant line.now) }
+    ensures value { (c : ConfigNumbers) (past : Past) →
+        Keeps c past (kept_in fields.now) → result ≡ broken_by c (tables c past) (Entry.Grant line.now) }
 {
     let Some(place) = ticket_place(fields.flights.as_slice(), line.ticket) else {
         return Some(Broken::Refused(Why::NoTicket));
@@ -82,7 +86,8 @@ fn why_grant(fields: &Fields, line: &GrantLine) -> Option<Broken>
 
 fn why_block(alloc: Global, fields: &Fields, line: &BlockLine) -> Result<Option<Broken>, NoMemory>
     requires keeps { (c : ConfigNumbers) × (past : Past) × Keeps c past (kept_in fields.now) }
-    ensures value { (c : ConfigNumbers) (past : Past) → Keeps c past (kept_in fields.now) → IfOk result (λ b. b ≡ broken_by c (tables c past) (Entry.Block line.now)) }
+    ensures value { (c : ConfigNumbers) (past : Past) →
+        Keeps c past (kept_in fields.now) → IfOk result (λ b. b ≡ broken_by c (tables c past) (Entry.Block line.now)) }
 {
     let Some(place) = ticket_place(fields.flights.as_slice(), line.ticket) else {
         return Ok(Some(Broken::Refused(Why::NoTicket)));
@@ -93,7 +98,8 @@ fn why_block(alloc: Global, fields: &Fields, line: &BlockLine) -> Result<Option<
 
 fn why_post(config: &Config, fields: &Fields, line: &PostLine) -> Option<Broken>
     requires keeps { (past : Past) × Keeps config.now past (kept_in fields.now) }
-    ensures value { (past : Past) → Keeps config.now past (kept_in fields.now) → result ≡ broken_by config.now (tables config.now past) (Entry.Post line.now) }
+    ensures value { (past : Past) → Keeps config.now past (kept_in fields.now) →
+        result ≡ broken_by config.now (tables config.now past) (Entry.Post line.now) }
 {
     let Some(place) = ticket_place(fields.flights.as_slice(), line.ticket) else {
         return Some(Broken::Refused(Why::NoTicket));
@@ -114,7 +120,8 @@ fn why_post(config: &Config, fields: &Fields, line: &PostLine) -> Option<Broken>
 }
 
 fn why_reap(fields: &Fields, line: &ReapLine) -> Option<Broken>
-    ensures value { (c : ConfigNumbers) (past : Past) → Keeps c past (kept_in fields.now) → result ≡ broken_by c (tables c past) (Entry.Reap line.now) }
+    ensures value { (c : ConfigNumbers) (past : Past) →
+        Keeps c past (kept_in fields.now) → result ≡ broken_by c (tables c past) (Entry.Reap line.now) }
 {
     let Some(place) = ring_place(line.queue, fields.completion.len()) else {
         return Some(Broken::Refused(Why::NoQueue));
@@ -137,7 +144,8 @@ pub fn why_broken(
     entry: &Entry,
 ) -> Result<Option<Broken>, NoMemory>
     requires keeps { (past : Past) × Keeps config.now past (kept_in fields.now) }
-    ensures value { (past : Past) → Keeps config.now past (kept_in fields.now) → IfOk result (λ b. b ≡ broken_by config.now (tables config.now past) entry.now) }
+    ensures value { (past : Past) → Keeps config.now past (kept_in fields.now) →
+        IfOk result (λ b. b ≡ broken_by config.now (tables config.now past) entry.now) }
 {
     match entry {
         Entry::Publish(line) => Ok(why_publish(fields, line)),

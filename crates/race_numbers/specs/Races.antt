@@ -7,7 +7,8 @@ use Rattle.history.specs.Config.{numbers}
 use Rattle.race_numbers.specs.declared.race.Race.{Race}
 use Rattle.race_numbers.specs.declared.race.RaceUsage.{RaceUsage}
 
--- what is wrong with these numbers of hosts, workers, slots, rounds and submission queues of a host, the first fault first
+-- what is wrong with these numbers of hosts, workers, slots, rounds and submission queues of a host, the first fault
+-- first
 abbrev pub usages : (hosts workers slots rounds queues : ℕ) → List (Bool × RaceUsage)
 usages hosts workers slots rounds queues =
     (is_outside 1 16 hosts, RaceUsage.Hosts)

@@ -2,7 +2,5 @@
 #![tactic(auto)]
 
 mod race;
-#[cfg(test)]
-mod tests;
 
 pub use race::{Race, RaceUsage};

@@ -89,8 +89,8 @@ impl Race {
         })
     }
 
-    /// The configuration of its controller: 64 blocks, units and pairs of at most two, 8 slots in each queue, 16 tickets in
-    /// flight, a completion queue for each host, and the hosts' submission queues.
+    /// The configuration of its controller: 64 blocks, units and pairs of at most two, 8 slots in each queue, 16
+    /// tickets in flight, a completion queue for each host, and the hosts' submission queues.
     pub fn config(&self) -> Config
         ensures value { result ≡ config_of self.now }
     {

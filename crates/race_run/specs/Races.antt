@@ -13,7 +13,8 @@ use Rattle.race_run.specs.declared.fault.RaceFault.TheVariants.{BadAt, NoHistory
 
 -- the whole text of a legal history, each of whose entries has a line, was written
 abbrev pub PrintsLegal : ConfigNumbers → Option (List ℕ) → Option (List ℕ) → Type 0
-PrintsLegal c old new = (past : Past) × IsLegal c past × All HasLine (reverse past) × Appends old new (history_text c (reverse past))
+PrintsLegal c old new =
+    (past : Past) × IsLegal c past × All HasLine (reverse past) × Appends old new (history_text c (reverse past))
 
 -- or a beginning of it, maybe nothing
 abbrev pub PrintsFront : ConfigNumbers → Option (List ℕ) → Option (List ℕ) → Type 0

@@ -69,8 +69,8 @@ fn finish<W: Write>(
 /// # Errors
 ///
 /// `NoMemory` where a growth was refused or a thread couldn't be started; `NoHistory`, after nothing was written, where
-/// the controller wasn't given back; `Output` after a beginning of the text. `BadAt` would name the first place at which
-/// the history isn't legal; it never comes, since what the controller gives is.
+/// the controller wasn't given back; `Output` after a beginning of the text. `BadAt` would name the first place at
+/// which the history isn't legal; it never comes, since what the controller gives is.
 pub fn run_race<R: Threads + Wait + Sync, W: Write>(
     rt: &R,
     alloc: Global,

@@ -1,7 +1,8 @@
 -- What tickets hold.
 use Rattle.std.specs.List.{filter, find, list_all, list_any}
 use Rattle.std.specs.Option.{option_map}
-use Rattle.std.specs.Prelude.{Bool, List, Option, Some, [], false, if◌then◌else◌, nat_le, nat_lt, not, slice_get, true, ℕ, ◌+◌, ◌==◌, ◌∷◌, ◌≡◌, ◌≢◌, ◌≤◌}
+use Rattle.std.specs.Prelude.{Bool, List, Option, Some, [], false, if◌then◌else◌, nat_le, nat_lt, not, slice_get, true}
+use Rattle.std.specs.Prelude.{ℕ, ◌+◌, ◌==◌, ◌∷◌, ◌≡◌, ◌≢◌, ◌≤◌}
 use Rattle.nvme_model.specs.Open.{conflict}
 use Rattle.nvme_model.specs.declared.array.Mode.{Mode}
 use Rattle.nvme_model.specs.declared.array.Range.{Range}
@@ -55,7 +56,8 @@ IsRange r = (1 ≤ r.blocks) × (r.slba + r.blocks ≤ 65536)
 -- each ticket holds one range, and no range conflicts with another
 abbrev pub AreApart : List Held → Type 0
 AreApart [] = Unit {0}
-AreApart (h ∷ hs) = IsRange h.range × (has_ticket hs h.ticket ≡ false) × (has_conflict hs h.range h.mode ≡ false) × AreApart hs
+AreApart (h ∷ hs) =
+    IsRange h.range × (has_ticket hs h.ticket ≡ false) × (has_conflict hs h.range h.mode ≡ false) × AreApart hs
 
 -- g and h are held, at two places of the list
 abbrev pub AreTwo : List Held → ℕ → ℕ → Held → Held → Type 0

@@ -1,7 +1,9 @@
 //! The ranges that tickets hold.
 
-ghost use Rattle.std.specs.Prelude.{◌≡◌, ◌+◌, ◌-◌, ◌≤◌, ◌<◌, ◌↔◌, ◌⊎◌, [], ◌∷◌, IfErr, IsTrue, OnErr, OnOk, false, is_some, reverse, vec_capacity, vec_len};
-ghost use Rattle.range_reserve.specs.Reserved.{AreApart, AreRising, IsRange, has_conflict, has_ticket, held_beside, held_by, insert_held};
+ghost use Rattle.std.specs.Prelude.{◌≡◌, ◌+◌, ◌-◌, ◌≤◌, ◌<◌, ◌↔◌, ◌⊎◌, [], ◌∷◌, IfErr, IsTrue, OnErr, OnOk, false};
+ghost use Rattle.std.specs.Prelude.{is_some, reverse, vec_capacity, vec_len};
+ghost use Rattle.range_reserve.specs.Reserved.{AreApart, AreRising, IsRange, has_conflict, has_ticket, held_beside};
+ghost use Rattle.range_reserve.specs.Reserved.{held_by, insert_held};
 
 use crate::conflicts::has_conflict_before_end;
 use crate::held::{Held, held_by};
@@ -56,7 +58,8 @@ impl Ranges {
     ///
     /// # Errors
     ///
-    /// `NoMemory` where there was less room and a growth is refused. What is held is the same in both outcomes, and the room is no less.
+    /// `NoMemory` where there was less room and a growth is refused. What is held is the same in both outcomes, and the
+    /// room is no less.
     pub fn reserve(&mut self, more: usize) -> Result<(), NoMemory>
         ensures ok { OnOk result (more ≤ self.new.room) }
         ensures full { OnErr result (self.old.room < more) }
@@ -91,12 +94,13 @@ impl Ranges {
     ///
     /// # Errors
     ///
-    /// `Conflict` where one that is held conflicts with it; else `NoMemory` where there was no room and a growth is refused.
-    /// What is held is then as before.
+    /// `Conflict` where one that is held conflicts with it; else `NoMemory` where there was no room and a growth is
+    /// refused. What is held is then as before.
     pub fn grant(&mut self, ticket: u64, range: Range, mode: Mode) -> Result<(), Why>
         requires free { has_ticket self.old.held ticket ≡ false }
         requires range { IsRange range }
-        ensures ok { OnOk result (self.new.held ≡ insert_held (record { ticket = ticket; range = range; mode = mode }) self.old.held) }
+        ensures ok { OnOk result
+            (self.new.held ≡ insert_held (record { ticket = ticket; range = range; mode = mode }) self.old.held) }
         ensures err { OnErr result (self.new.held ≡ self.old.held) }
         ensures law { AreApart self.new.held }
 
@@ -160,6 +164,3 @@ impl Ranges {
         self.longest = self.longest.max(held.range.blocks);
     }
 }
-
-#[cfg(test)]
-mod tests;

@@ -19,7 +19,8 @@ use std::sync::Wait;
 use step_core::Core;
 use work_queue::Work;
 
-/// How many completions are told of at once, and how many passes there are: a host that isn't made leaves its own unused.
+/// How many completions are told of at once, and how many passes there are: a host that isn't made leaves its own
+/// unused.
 const MOST: usize = 8;
 
 /// How often a Fetch is asked for, where one command waits at most.

@@ -1,5 +1,5 @@
-//! A run by an engine: a host publishes and reaps, a fetcher's Works go through a queue, and a worker makes all that a Work asks
-//! for and tells of it. What is refused for want of memory is asked for again.
+//! A run by an engine: a host publishes and reaps, a fetcher's Works go through a queue, and a worker makes all that a
+//! Work asks for and tells of it. What is refused for want of memory is asked for again.
 
 ghost use Rattle.std.specs.Prelude.{IfSome};
 ghost use Rattle.engine_rows.specs.Hands.{AreOf, IsCrewOf, IsFreshWork, IsOf, IsWorkOf};

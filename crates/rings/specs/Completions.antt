@@ -1,11 +1,12 @@
 -- What the ring of a completion queue shows (Base 2.0, Queue Pair Model; Phase Tag).
-use Rattle.std.specs.Prelude.{Bool, List, [], drop, if◌then◌else◌, length, not, ℕ, ◌%◌, ◌+◌, ◌++◌, ◌-◌, ◌==◌, ◌∷◌, ◌≡◌, ◌≤◌}
+use Rattle.std.specs.Prelude.{Bool, List, [], drop, if◌then◌else◌, length, not, ℕ, ◌%◌, ◌+◌, ◌++◌, ◌-◌, ◌==◌, ◌∷◌, ◌≡◌}
+use Rattle.std.specs.Prelude.{◌≤◌}
 use Rattle.entry_codec.specs.Cqe.{phase_bit}
 use Rattle.nvme_model.specs.Completions.{phase}
 use Rattle.rings.specs.declared.completion_ring.Completion.{Completion}
 
--- how many slots there are, the slot and the phase tag of the completion that is posted next, and the completions that wait,
--- the one that is reaped next first
+-- how many slots there are, the slot and the phase tag of the completion that is posted next, and the completions that
+-- wait, the one that is reaped next first
 pub record CompletionRing : Type 0 where
   pub size : ℕ
   pub tail : ℕ

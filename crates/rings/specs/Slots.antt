@@ -2,7 +2,8 @@
 use Rattle.std.specs.Coded.{Coded, code_by, coded×, coded_list, coded_ℕ}
 use Rattle.std.specs.List.{flat_map}
 use Rattle.std.specs.Option.{option_to_list}
-use Rattle.std.specs.Prelude.{List, None, Option, Some, [], drop, length, map, refl, replicate, take, ℕ, ◌%◌, ◌+◌, ◌++◌, ◌-◌, ◌<◌, ◌∷◌, ◌≡◌, ◌≤◌}
+use Rattle.std.specs.Prelude.{List, None, Option, Some, [], drop, length, map, refl, replicate, take, ℕ, ◌%◌, ◌+◌, ◌++◌}
+use Rattle.std.specs.Prelude.{◌-◌, ◌<◌, ◌∷◌, ◌≡◌, ◌≤◌}
 
 -- the sizes that a ring may have (this profile's)
 abbrev pub IsSize : ℕ → Type 0

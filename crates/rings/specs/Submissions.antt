@@ -26,7 +26,8 @@ pub record ShowsSubmitted (s : Submitted) (r : SubmissionRing) : Type 0 where
 abbrev pub advanced : SubmissionRing → ℕ → SubmissionRing
 advanced r k = record r { waiting = drop k r.waiting; head = (r.head + k) % r.size }
 
--- why a batch isn't taken where that many entries wait, the first that holds (Base 2.0, Full Queue: one slot stays free)
+-- why a batch isn't taken where that many entries wait, the first that holds (Base 2.0, Full Queue: one slot stays
+-- free)
 abbrev pub batch_faults : ℕ → ℕ → List Submission → List (Bool × Why)
 batch_faults size waiting batch =
     (length batch == 0, Why.BadBatch)

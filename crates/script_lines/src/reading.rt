@@ -2,7 +2,8 @@
 
 ghost use Rattle.std.specs.Prelude.{◌≡◌, map};
 ghost use Rattle.history.specs.Gives.{Gives};
-ghost use Rattle.script_lines.specs.ScriptLines.{one_number_in, publish_in, script_line_in, script_words_in, settle_in, short_in};
+ghost use Rattle.script_lines.specs.ScriptLines.{one_number_in, publish_in, script_line_in, script_words_in, settle_in};
+ghost use Rattle.script_lines.specs.ScriptLines.{short_in};
 
 use crate::batch::batch_of;
 use crate::line::ScriptLine;

@@ -1,12 +1,14 @@
 //! Configuration lines: which are taken, which are none, and which are refused, by the first fault that holds.
 
-use crate::runs::run;
+use crate::runs::check_end;
 use casdisk_script::RunFault;
-use history::all_kinds;
+use std::alloc::{AllocError, Global};
+use std::process::Abort;
 use std::test::Fail;
 
-/// The answer to a script of this one line: 0 where it is taken, 1 where it is a bad line, else the fault of its configuration.
-const ROWS: [(&str, u8); 100] = [
+/// The answer to a script of this one line: 0 where it is taken, 1 where it is a bad line, else the fault of its
+/// configuration.
+const ROWS: &[(&str, u8)] = &[
     ("config 0 1 1 0 0 2 4 4 8", 25),
     ("config 1 1 1 0 0 2 4 4 8", 0),
     ("config 2 1 1 0 0 2 4 4 8", 0),
@@ -109,18 +111,40 @@ const ROWS: [(&str, u8); 100] = [
     ("reap 1", 1),
 ];
 
+/// How a script of this one line ends.
+fn answer_of(code: u8) -> Result<(), RunFault> {
+    match code {
+        0 => Ok(()),
+        1 => Err(RunFault::BadLine(1)),
+        fault => Err(RunFault::BadConfig(fault)),
+    }
+}
+
+/// The line as a file.
+fn file_of_line(alloc: Global, line: &str) -> Result<String, AllocError> {
+    let mut script = String::from_str(alloc, line)?;
+    script.push_str("\n")?;
+    Ok(script)
+}
+
+/// That a line is taken, and printed, or refused.
+fn check_line(rt: &impl Abort, alloc: Global, line: &str, code: u8) -> Result<(), Fail> {
+    let script = file_of_line(alloc, line)?;
+    let text = if code == 0 { script.as_str() } else { "" };
+    check_end(
+        rt,
+        alloc,
+        script.as_bytes(),
+        answer_of(code),
+        text.as_bytes(),
+    );
+    Ok(())
+}
+
 #[test]
 fn configuration_lines_are_taken_or_refused(rt: HostRuntime) -> Result<(), Fail> {
     for (line, code) in ROWS {
-        let script = format!(in rt.alloc(); "{line}\n")?;
-        let outcome = run(rt.alloc(), script.as_bytes(), all_kinds());
-        let (wanted, text) = match code {
-            0 => (Ok(()), script.as_bytes()),
-            1 => (Err(RunFault::BadLine(1)), b"".as_slice()),
-            fault => (Err(RunFault::BadConfig(fault)), b"".as_slice()),
-        };
-        assert_eq!(rt; outcome.answer, wanted, "{line}");
-        assert_eq!(rt; outcome.output.as_slice(), text);
+        check_line(&rt, rt.alloc(), line, *code)?;
     }
     Ok(())
 }

@@ -1,8 +1,11 @@
 //! Entries by their bytes: each opcode, and each bit of an entry changed.
 
+ghost use Rattle.std.specs.Prelude.{◌<◌};
+
 use crate::files::file_of;
 use crate::runs::{kinds_named, run, table_of};
-use std::alloc::Global;
+use std::alloc::{AllocError, Global};
+use std::process::Abort;
 use std::test::Fail;
 
 /// The 64 bytes of `write 0 1 3 0`.
@@ -11,17 +14,38 @@ const WRITE: [u8; 64] = [
     0, 0, 0, 0, 0, 0, 0, 0, 3, 0, 0, 0, 0, 0, 0, 0, 0, 0, 0, 0, 0, 0, 0, 0, 0, 0, 0, 0, 0, 0, 0, 0,
 ];
 
-/// What is reaped of an entry that is published with one block of data, fetched and served.
-fn reaped(alloc: Global, entry: &[u8; 64]) -> Result<String, Fail> {
+/// The script by which an entry is published with one block of data, fetched and served.
+fn script_of(alloc: Global, entry: &[u8]) -> Result<String, AllocError> {
     let mut script = String::from_str(alloc, "publish 1 raw ")?;
     for byte in entry {
         let digits = format!(in alloc; "{byte:02X}")?;
         script.push_str(digits.as_str())?;
     }
     script.push_str(" A1 / fetch 1 / settle / reap 1")?;
+    Ok(script)
+}
+
+/// What is reaped of it.
+fn reaped(alloc: Global, entry: &[u8]) -> Result<String, Fail> {
+    let script = script_of(alloc, entry)?;
     let file = file_of(alloc, script.as_str())?;
     let outcome = run(alloc, file.as_bytes(), kinds_named("reap")?);
     table_of(alloc, outcome.output.as_slice())
+}
+
+/// That its completion has these command identifier and status.
+fn check_entry(
+    rt: &impl Abort,
+    alloc: Global,
+    entry: &[u8],
+    cid: (u8, u8),
+    status: &str,
+) -> Result<(), Fail> {
+    let (low, high) = cid;
+    let got = reaped(alloc, entry)?;
+    let wanted = format!(in alloc; "01000100 {low:02X}{high:02X}{status}")?;
+    assert_eq!(rt; got.as_str(), wanted.as_str(), "{entry:?}");
+    Ok(())
 }
 
 /// Bytes 14 and 15 of the completion of that Write with another opcode.
@@ -40,10 +64,8 @@ fn every_opcode_has_its_status(rt: HostRuntime) -> Result<(), Fail> {
     for opcode in 0..=255u8 {
         let mut entry = WRITE;
         entry[0] = opcode;
-        let got = reaped(rt.alloc(), &entry)?;
         let status = status_of_opcode(opcode);
-        let wanted = format!(in rt.alloc(); "01000100 0100{status}")?;
-        assert_eq!(rt; got.as_str(), wanted.as_str(), "opcode {opcode}");
+        check_entry(&rt, rt.alloc(), &entry, (1, 0), status)?;
     }
     Ok(())
 }
@@ -76,20 +98,31 @@ fn status_of_bit(place: usize, mask: u8) -> &'static str {
     }
 }
 
-const MASKS: [u8; 8] = [0x01, 0x02, 0x04, 0x08, 0x10, 0x20, 0x40, 0x80];
+const MASKS: &[u8] = &[0x01, 0x02, 0x04, 0x08, 0x10, 0x20, 0x40, 0x80];
+
+/// An entry with one bit of one byte changed.
+fn changed(entry: [u8; 64], place: usize, mask: u8) -> [u8; 64]
+    requires { place < 64 }
+{
+    let mut entry = entry;
+    entry[place] ^= mask;
+    entry
+}
+
+/// That the Write with that bit changed has its status.
+fn check_bit(rt: &impl Abort, alloc: Global, place: usize, mask: u8) -> Result<(), Fail>
+    requires { place < 64 }
+{
+    let entry = changed(WRITE, place, mask);
+    let status = status_of_bit(place, mask);
+    check_entry(rt, alloc, &entry, (entry[2], entry[3]), status)
+}
 
 #[test]
 fn every_bit_has_its_status(rt: HostRuntime) -> Result<(), Fail> {
     for place in 0..64usize {
         for mask in MASKS {
-            let mut entry = WRITE;
-            entry[place] ^= mask;
-            let got = reaped(rt.alloc(), &entry)?;
-            let status = status_of_bit(place, mask);
-            let low = entry[2];
-            let high = entry[3];
-            let wanted = format!(in rt.alloc(); "01000100 {low:02X}{high:02X}{status}")?;
-            assert_eq!(rt; got.as_str(), wanted.as_str(), "byte {place}, bit {mask}");
+            check_bit(&rt, rt.alloc(), place, *mask)?;
         }
     }
     Ok(())

@@ -5,9 +5,10 @@ use crate::runs::{check_table, kinds_named, lines_of, run, table_of};
 use casdisk_script::kinds_of;
 use history::all_kinds;
 use std::alloc::Global;
+use std::process::Abort;
 use std::test::Fail;
 
-const NAMES: [&str; 8] = [
+const NAMES: &[&str] = &[
     "publish", "fetch", "grant", "block", "post", "reap", "refused", "medium",
 ];
 
@@ -31,11 +32,28 @@ fn names_in(alloc: Global, set: u32) -> Result<String, Fail> {
     Ok(names)
 }
 
+const OTHERS: &[&str] = &["", ",", "publish,", "Publish", "publish fetch", "all"];
+
 #[test]
 fn other_names_are_no_kinds(rt: HostRuntime) {
-    for text in ["", ",", "publish,", "Publish", "publish fetch", "all"] {
+    for text in OTHERS {
         assert!(rt; kinds_of(text).is_none(), "{text}");
     }
+}
+
+/// That a script that prints this whole shows its lines of these kinds.
+fn check_kinds(
+    rt: &impl Abort,
+    alloc: Global,
+    script: &[u8],
+    whole: &[u8],
+    names: &str,
+) -> Result<(), Fail> {
+    let lines = lines_of(alloc, whole, names)?;
+    let some = run(alloc, script, kinds_named(names)?);
+    assert_eq!(rt; some.answer, Ok(()));
+    assert_eq!(rt; some.output.as_slice(), lines.as_bytes(), "{names}");
+    Ok(())
 }
 
 #[test]
@@ -44,11 +62,8 @@ fn each_set_of_kinds_shows_its_lines(rt: HostRuntime) -> Result<(), Fail> {
     let whole = run(rt.alloc(), script.as_bytes(), all_kinds());
     for set in 1..256u32 {
         let names = names_in(rt.alloc(), set)?;
-        let kinds = kinds_named(names.as_str())?;
-        let some = run(rt.alloc(), script.as_bytes(), kinds);
-        let lines = lines_of(rt.alloc(), whole.output.as_slice(), names.as_str())?;
-        assert_eq!(rt; some.answer, Ok(()));
-        assert_eq!(rt; some.output.as_slice(), lines.as_bytes(), "{names}");
+        let (file, whole) = (script.as_bytes(), whole.output.as_slice());
+        check_kinds(&rt, rt.alloc(), file, whole, names.as_str())?;
     }
     Ok(())
 }

@@ -1,4 +1,5 @@
-//! Scripts beside the lines that they print, as tests of `casdisk_script` over its neighbours; and what other tests of texts use.
+//! Scripts beside the lines that they print, as tests of `casdisk_script` over its neighbours; and what other tests of
+//! texts use.
 #![tactic(auto)]
 
 #[cfg(test)]

@@ -26,6 +26,20 @@ pub(crate) fn run(alloc: Global, script: &[u8], kinds: Kinds) -> Outcome {
     Outcome { answer, output }
 }
 
+/// That a script ends with this fault, after this output.
+pub(crate) fn check_end(
+    rt: &impl Abort,
+    alloc: Global,
+    script: &[u8],
+    answer: Result<(), RunFault>,
+    output: &[u8],
+) {
+    let outcome = run(alloc, script, all_kinds());
+    let words = str::from_utf8(script).unwrap_or("no text");
+    assert_eq!(rt; outcome.answer, answer, "{words}");
+    assert_eq!(rt; outcome.output.as_slice(), output);
+}
+
 /// A line as a table has it: of a Reap, bytes 8 to 15 of its completion, where the others are zero.
 fn shown<'a>(line: &'a str) -> (&'a str, &'a str) {
     let Some((_, digits)) = line.rsplit_once(' ') else {
@@ -102,6 +116,27 @@ pub(crate) fn check_read_back(rt: &impl Abort, alloc: Global, file: &str) -> Res
     Ok(())
 }
 
+/// That an output's lines are the table's.
+fn check_shown(rt: &impl Abort, alloc: Global, output: &[u8], expected: &str) -> Result<(), Fail> {
+    let table = table_of(alloc, output)?;
+    assert_eq!(rt; table.as_str(), expected);
+    Ok(())
+}
+
+/// That these are the lines of those kinds of a file's whole output.
+fn check_chosen(
+    rt: &impl Abort,
+    alloc: Global,
+    file: &str,
+    names: &str,
+    some: &[u8],
+) -> Result<(), Fail> {
+    let all = run(alloc, file.as_bytes(), all_kinds());
+    let chosen = lines_of(alloc, all.output.as_slice(), names)?;
+    assert_eq!(rt; some, chosen.as_bytes(), "{file}");
+    Ok(())
+}
+
 /// That a script ends well and its lines of these kinds are the table's, that they are those lines
 /// of its whole output, and that its history is read back.
 pub(crate) fn check_run(
@@ -114,11 +149,8 @@ pub(crate) fn check_run(
     let file = file_of(alloc, script)?;
     let some = run(alloc, file.as_bytes(), kinds_named(names)?);
     assert_eq!(rt; some.answer, Ok(()), "{script}");
-    let table = table_of(alloc, some.output.as_slice())?;
-    assert_eq!(rt; table.as_str(), expected, "{script}");
-    let all = run(alloc, file.as_bytes(), all_kinds());
-    let chosen = lines_of(alloc, all.output.as_slice(), names)?;
-    assert_eq!(rt; some.output.as_slice(), chosen.as_bytes(), "{script}");
+    check_shown(rt, alloc, some.output.as_slice(), expected)?;
+    check_chosen(rt, alloc, file.as_str(), names, some.output.as_slice())?;
     check_read_back(rt, alloc, file.as_str())
 }
 

@@ -19,19 +19,23 @@ abbrev pub is_another : Option ReleasedName → ℕ → Name → Bool
 is_another None l n = true
 is_another (Some r) l n = not ((r.0 == l) && same_name r.1 n)
 
--- A log has gone on: what it believed of a slot of the area it goes on to believe, and what wasn't released isn't, but for this release.
+-- A log has gone on: what it believed of a slot of the area it goes on to believe, and what wasn't released isn't, but
+-- for this release.
 pub record LogGoesOn (slots : Range) (before after : List PortEvent) (released : Option ReleasedName) : Type 0 where
   pub log : List PortEvent
   pub more : after ≡ log ++ before
-  pub believed : (l : ℕ) (n : Name) → has_block slots l ≡ true → is_another released l n ≡ true → log_believed before l n ≡ true → log_believed after l n ≡ true
-  pub unreleased : (l : ℕ) (n : Name) → has_block slots l ≡ true → is_another released l n ≡ true → log_released before l n ≡ false → log_released after l n ≡ false
+  pub believed : (l : ℕ) (n : Name) → has_block slots l ≡ true → is_another released l n ≡ true →
+      log_believed before l n ≡ true → log_believed after l n ≡ true
+  pub unreleased : (l : ℕ) (n : Name) → has_block slots l ≡ true → is_another released l n ≡ true →
+      log_released before l n ≡ false → log_released after l n ≡ false
 
 module _ {P : Type 0} {g : Ghosts P} where
   -- the name of this driver's claim with this serial
   abbrev pub own_name : Driver P g → ℕ → Name
   own_name d serial = record { host = host_of d; serial = serial }
 
-  -- What the driver published since it was made keeps the discipline of its slot area by what its log says, with serials up to its last.
+  -- What the driver published since it was made keeps the discipline of its slot area by what its log says, with
+  -- serials up to its last.
   abbrev pub IsCareful : Driver P g → Type 0
   IsCareful d = is_careful (area_of d) (host_of d) (serial_of d) (made d) ≡ true
 

@@ -22,7 +22,8 @@ abbrev pub release_call : {P : Type 0} → Releasing P → Call P
 release_call k = k.call
 
 module _ {P : Type 0} {g : Ghosts P} where
-  -- By its log the driver's host holds the slot, under this claim's serial: its claim was answered by success, and no release of its name was published.
+  -- By its log the driver's host holds the slot, under this claim's serial: its claim was answered by success, and no
+  -- release of its name was published.
   pub record IsHeldBy (d : Driver P g) (c : Claim) : Type 0 where
     pub inside : slot_of c < (area_of d).blocks
     pub name : IsName (own_name d (serial_of c))
@@ -39,7 +40,8 @@ module _ {P : Type 0} {g : Ghosts P} where
   IsAt d began lba reach (Stage.Asked call serial) = IsAsking d lba call serial × g.follows began.port call.start.value
   IsAt d began lba reach Stage.Due = reach ≡ Reach.Any
 
-  -- Since this moment the driver began a claim of the slot at this block that was answered so, and at the moment of its answer this said what it says.
+  -- Since this moment the driver began a claim of the slot at this block that was answered so, and at the moment of its
+  -- answer this said what it says.
   pub record ClaimSays (d began : Driver P g) (lba : ℕ) (r : Result Reply Status) : Type 0 where
     pub at : Driver P g
     pub call : Call P
@@ -52,7 +54,8 @@ module _ {P : Type 0} {g : Ghosts P} where
     pub answer : answer_to at call ≡ Some r
     pub says : Says at call (Some r)
 
-  -- The claim was begun since this moment and answered by success. So the driver's log believes its name, unless a release of it was published.
+  -- The claim was begun since this moment and answered by success. So the driver's log believes its name, unless a
+  -- release of it was published.
   pub record IsWonBy (d began : Driver P g) (c : Claim) : Type 0 where
     pub inside : slot_of c < (area_of d).blocks
     pub won : ClaimSays d began (block_of (area_of d) (slot_of c)) (Ok Reply.Swapped)
@@ -65,7 +68,8 @@ module _ {P : Type 0} {g : Ghosts P} where
   abbrev pub AreTaken : Driver P g → Driver P g → ℕ → Type 0
   AreTaken d began n = (i : ℕ) → i < n → ClaimSays d began (block_of (area_of d) i) (Ok Reply.Differs)
 
-  -- The driver began the claim, which hasn't ended: that of the slot at hand is begun or is due, and where any slot will do the lower ones were taken.
+  -- The driver began the claim, which hasn't ended: that of the slot at hand is begun or is due, and where any slot
+  -- will do the lower ones were taken.
   pub record IsClaimingOf (d : Driver P g) (k : Claiming P g) : Type 0 where
     pub area_is : area_of d ≡ area k.slots
     pub inside : k.slot < k.slots.count
@@ -104,4 +108,5 @@ module _ {P : Type 0} {g : Ghosts P} where
     pub of : IsCallOf d k.call
     pub does : k.call.op ≡ Op.Pair
     pub inside : k.slot < (area_of d).blocks
-    pub release : IsReleaseIn (made d) k.call.queue k.call.first k.call.second (number_of d k.call) (block_of (area_of d) k.slot) (own_name d k.serial)
+    pub release : IsReleaseIn (made d) k.call.queue k.call.first k.call.second (number_of d k.call)
+        (block_of (area_of d) k.slot) (own_name d k.serial)

@@ -60,9 +60,11 @@ module _ {P : Type 0} {g : Ghosts P} where
   -- what `poll_claim` gives
   abbrev pub IsProgress : Driver P g → Claiming P g → Progress P g → Type 0
   IsProgress e k (Progress.Pending j) = IsSameClaiming k j × IsClaimingOf e j
-  IsProgress e k (Progress.Later f j) = IsSameClaiming k j × IsClaimingOf e j × ((f ≡ Fault.Busy) ⊎ (f ≡ Fault.NoMemory))
+  IsProgress e k (Progress.Later f j) =
+      IsSameClaiming k j × IsClaimingOf e j × ((f ≡ Fault.Busy) ⊎ (f ≡ Fault.NoMemory))
   IsProgress e k (Progress.Held c) = (slot_of c ≡ k.slot) × IsWonBy e k.began.value c
-  IsProgress e k Progress.Taken = (k.reach ≡ Reach.One) × ClaimSays e k.began.value (block_of (area_of e) k.slot) (Ok Reply.Differs)
+  IsProgress e k Progress.Taken =
+      (k.reach ≡ Reach.One) × ClaimSays e k.began.value (block_of (area_of e) k.slot) (Ok Reply.Differs)
   IsProgress e k Progress.AllTaken = (k.reach ≡ Reach.Any) × AreTaken e k.began.value (area_of e).blocks
   IsProgress e k (Progress.Failed (Fault.Status s)) = ClaimSays e k.began.value (block_of (area_of e) k.slot) (Err s)
   IsProgress e k (Progress.Failed Fault.NoSerial) = (k.reach ≡ Reach.Any) × (drivers.serial_of e ≡ last_serial)
@@ -100,8 +102,8 @@ module _ {P : Type 0} {g : Ghosts P} where
     pub any : k.reach ≡ Reach.Any
     pub tried : IsTried at e (k.slot + 1)
 
-  -- What a poll does. While the slot at hand is claimed it publishes nothing, but for the next slot's pair once that claim was answered; and where its
-  -- claim is due, it tries that.
+  -- What a poll does. While the slot at hand is claimed it publishes nothing, but for the next slot's pair once that
+  -- claim was answered; and where its claim is due, it tries that.
   abbrev pub IsTurn : Driver P g → Driver P g → Claiming P g → Stage P → Type 0
   IsTurn d e k (Stage.Asked call serial) = IsQuiet d e ⊎ GoesToNext d e k call
   IsTurn d e k Stage.Due = IsTried d e k.slot

@@ -24,8 +24,10 @@ module _ {P : Type 0} {g : Ghosts P} where
 
   -- the release of the claim's slot is begun, or the claim comes back and it is told why
   abbrev pub IsReleaseBegun : Driver P g → Driver P g → Claim → Result (Releasing P) (Claim × Fault) → Type 0
-  IsReleaseBegun d e c (Ok k) = (k.slot ≡ slot_of c) × (k.serial ≡ serial_of c) × IsReleaseStart d e (block_of (area_of d) (slot_of c)) (serial_of c) (Ok k.call)
-  IsReleaseBegun d e c (Err x) = (x.0 ≡ c) × IsReleaseStart d e (block_of (area_of d) (slot_of c)) (serial_of c) (Err x.1)
+  IsReleaseBegun d e c (Ok k) = (k.slot ≡ slot_of c) × (k.serial ≡ serial_of c)
+      × IsReleaseStart d e (block_of (area_of d) (slot_of c)) (serial_of c) (Ok k.call)
+  IsReleaseBegun d e c (Err x) =
+      (x.0 ≡ c) × IsReleaseStart d e (block_of (area_of d) (slot_of c)) (serial_of c) (Err x.1)
 
   -- the call was answered so, which says what it says
   abbrev pub IsAnswered : Driver P g → Call P → Result Reply Status → Type 0
@@ -36,5 +38,6 @@ module _ {P : Type 0} {g : Ghosts P} where
   IsReleased e k (Released.Pending j) = (j ≡ k) × IsReleasingOf e j
   IsReleased e k (Released.Later f j) = (j ≡ k) × IsReleasingOf e j × ((f ≡ Fault.Busy) ⊎ (f ≡ Fault.NoMemory))
   IsReleased e k Released.Released = IsAnswered e k.call (Ok Reply.Swapped)
-  IsReleased e k (Released.Failed (Fault.Status s)) = IsAnswered e k.call (Err s) ⊎ ((s ≡ compare_failure) × IsAnswered e k.call (Ok Reply.Differs))
+  IsReleased e k (Released.Failed (Fault.Status s)) =
+      IsAnswered e k.call (Err s) ⊎ ((s ≡ compare_failure) × IsAnswered e k.call (Ok Reply.Differs))
   IsReleased e k (Released.Failed _) = ⊥

@@ -89,8 +89,8 @@ impl Slots {
         self.begin(driver, Reach::One, i)
     }
 
-    /// Begins to claim any slot: the pair of slot 0 is published, and each further slot's by a poll, once the one before was
-    /// answered.
+    /// Begins to claim any slot: the pair of slot 0 is published, and each further slot's by a poll, once the one
+    /// before was answered.
     ///
     /// # Errors
     ///
@@ -116,7 +116,8 @@ pub(crate) fn ask<P: Port>(driver: &mut Driver<P>, claiming: Claiming<P>) -> Pro
     ensures is { IsAsked driver.new claiming result }
     ensures tried { IsTried driver.old driver.new claiming.slot }
     ensures unreleased { IsCareful driver.old → IsUnreleasedOn driver.new result }
-    ensures others { (other : Call P) → IsCallOf driver.old other → IsCallOf driver.new other × IsBesideOn result other }
+    ensures others { (other : Call P) →
+        IsCallOf driver.old other → IsCallOf driver.new other × IsBesideOn result other }
 {
     let Claiming {
         slots,

@@ -77,8 +77,9 @@ pub fn a_release_by_itself<P: Port>(old: &Snapshot<Driver<P>>, new: &Driver<P>)
     let _ = new;
 }
 
-/// What a driver goes on to believe: a claim stays held, but by the release of its own name, and a claim and a release that
-/// were begun stay so as long as their calls are the driver's. A name that wasn't released isn't, but by its own release.
+/// What a driver goes on to believe: a claim stays held, but by the release of its own name, and a claim and a release
+/// that were begun stay so as long as their calls are the driver's. A name that wasn't released isn't, but by its own
+/// release.
 pub fn what_was_begun_stays<P: Port>(
     old: &Snapshot<Driver<P>>,
     new: &Driver<P>,
@@ -107,8 +108,8 @@ pub fn what_was_begun_stays<P: Port>(
     let _ = releasing;
 }
 
-/// Where the premises hold of what its port has seen, a careful driver keeps the discipline of the slot area, and so does
-/// the whole history.
+/// Where the premises hold of what its port has seen, a careful driver keeps the discipline of the slot area, and so
+/// does the whole history.
 pub fn a_careful_driver_keeps_the_discipline(driver: &Driver<SharedPort<'_>>)
     requires careful { IsCareful driver.now }
     requires host { IsSlotHost (before driver.now) (area_of driver.now) (host_of driver.now) (view_of driver.now.port) }
@@ -196,7 +197,8 @@ pub fn a_release_never_fails(driver: &Driver<SharedPort<'_>>, releasing: &Releas
     requires of { IsReleasingOf driver.now releasing.now }
     requires careful { IsCareful driver.now }
     requires host { IsSlotHost (before driver.now) (area_of driver.now) (host_of driver.now) (view_of driver.now.port) }
-    ensures { (r : Result Reply Status) → answer_to driver.now (release_call releasing.now) ≡ Some r → r ≡ Ok Reply.Swapped }
+    ensures { (r : Result Reply Status) →
+        answer_to driver.now (release_call releasing.now) ≡ Some r → r ≡ Ok Reply.Swapped }
 {
     let _ = driver;
     let _ = releasing;

@@ -35,7 +35,8 @@ fn next<P: Port>(driver: &mut Driver<P>, claiming: Claiming<P>) -> Progress<P>
     ensures next { IsNext driver.old driver.new claiming }
     ensures held { IsHeldOn driver.new result }
     ensures unreleased { IsCareful driver.old → IsUnreleasedOn driver.new result }
-    ensures others { (other : Call P) → IsCallOf driver.old other → IsCallOf driver.new other × IsBesideOn result other }
+    ensures others { (other : Call P) →
+        IsCallOf driver.old other → IsCallOf driver.new other × IsBesideOn result other }
 {
     let Claiming {
         slots,
@@ -64,8 +65,8 @@ fn next<P: Port>(driver: &mut Driver<P>, claiming: Claiming<P>) -> Progress<P>
     )
 }
 
-/// What has come of a claim. Reaps at most one completion; where the slot at hand is somebody else's and any will do, the
-/// next slot's pair is published.
+/// What has come of a claim. Reaps at most one completion; where the slot at hand is somebody else's and any will do,
+/// the next slot's pair is published.
 pub fn poll_claim<P: Port>(driver: &mut Driver<P>, claiming: Claiming<P>) -> Progress<P>
     requires of { IsClaimingOf driver.old claiming }
     ensures careful { IsCareful driver.old → IsCareful driver.new }

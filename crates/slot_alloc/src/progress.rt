@@ -17,8 +17,8 @@ pub enum Progress<P: Port> {
     Taken,
     /// Each slot was had by somebody else when its claim was answered.
     AllTaken,
-    /// A pair was answered with a status that is neither success nor a difference; or, where any slot will do, the driver
-    /// has drawn the last serial (`NoSerial`).
+    /// A pair was answered with a status that is neither success nor a difference; or, where any slot will do, the
+    /// driver has drawn the last serial (`NoSerial`).
     Failed(Fault),
 }
 

@@ -60,7 +60,8 @@ pub fn poll_release<P: Port>(driver: &mut Driver<P>, releasing: Releasing<P>) ->
     ensures goes_on { GoesOn driver.old driver.new None }
     ensures is { IsReleased driver.new releasing result }
     ensures quiet { IsQuiet driver.old driver.new }
-    ensures others { (other : Call P) → IsCallOf driver.old other → IsApart releasing.call other → IsCallOf driver.new other }
+    ensures others { (other : Call P) →
+        IsCallOf driver.old other → IsApart releasing.call other → IsCallOf driver.new other }
 {
     let Releasing { slot, serial, call } = releasing;
     match driver.poll(call) {

@@ -31,7 +31,8 @@ pub record IsSentAs (log : List PortEvent) (q j : ℕ) (batch : List Submission)
   pub whole : later ++ (PortEvent.Sent q batch ∷ before) ≡ log
   pub number : length (sent before q) ≡ j
 
--- The call with these CIDs, whose first entry is entry j of submission queue q, claims the slot at block l for this name.
+-- The call with these CIDs, whose first entry is entry j of submission queue q, claims the slot at block l for this
+-- name.
 pub record IsClaimIn (log : List PortEvent) (q first second j l : ℕ) (n : Name) : Type 0 where
   pub name : IsName n
   pub batch : List Submission

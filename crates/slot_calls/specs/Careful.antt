@@ -1,5 +1,6 @@
 -- Which batches keep the discipline of the slot area by what their driver's log says.
-use Rattle.std.specs.Prelude.{Bool, List, [], false, if◌then◌else◌, length, nat_lt, not, true, ℕ, ◌&&◌, ◌+◌, ◌==◌, ◌||◌, ◌∷◌}
+use Rattle.std.specs.Prelude.{Bool, List, [], false, if◌then◌else◌, length, nat_lt, not, true, ℕ, ◌&&◌, ◌+◌, ◌==◌, ◌||◌}
+use Rattle.std.specs.Prelude.{◌∷◌}
 use Rattle.std.specs.List.{list_all, list_any}
 use Rattle.nvme_model.specs.Array.{has_block}
 use Rattle.nvme_model.specs.Slots.{Swap, in_area, swaps_in, touches}
@@ -11,13 +12,16 @@ use Rattle.slot_calls.specs.Swaps.{log_believed, log_swaps}
 
 -- every claim of the area has a serial below this one
 abbrev pub serials_below : Range → ℕ → List PortEvent → Bool
-serials_below slots serial log = list_all (λ s. not s.claims || nat_lt s.name.serial serial) (in_area slots (log_swaps log))
+serials_below slots serial log =
+    list_all (λ s. not s.claims || nat_lt s.name.serial serial) (in_area slots (log_swaps log))
 
--- it is one claim in the area, by this host and with a serial above all before, or one release there, of a believed name
+-- it is one claim in the area, by this host and with a serial above all before, or one release there, of a believed
+-- name
 abbrev pub is_careful_swap : Range → ℕ → List PortEvent → List Swap → Bool
 is_careful_swap slots host log (s ∷ []) =
     has_block slots s.lba
-    && (if s.claims then (s.name.host == host) && serials_below slots s.name.serial log else log_believed log s.lba s.name)
+    && (if s.claims then (s.name.host == host) && serials_below slots s.name.serial log
+    else log_believed log s.lba s.name)
 is_careful_swap slots host log _ = false
 
 -- the batch touches no slot, or is one such pair
@@ -29,7 +33,8 @@ is_careful_batch slots host log q batch =
 -- each batch was so, by what was in the log before it
 abbrev pub are_careful : Range → ℕ → List PortEvent → Bool
 are_careful slots host [] = true
-are_careful slots host (PortEvent.Sent q batch ∷ log) = are_careful slots host log && is_careful_batch slots host log q batch
+are_careful slots host (PortEvent.Sent q batch ∷ log) =
+    are_careful slots host log && is_careful_batch slots host log q batch
 are_careful slots host (PortEvent.Got cqe payload ∷ log) = are_careful slots host log
 
 -- and no serial above `last` was used

@@ -16,7 +16,8 @@ use Rattle.slot_calls.specs.Careful.{is_careful}
 -- each Publish to a submission queue of another completion queue than n keeps the discipline at its own place
 abbrev pub elsewhere_keeps : ConfigNumbers → Range → ℕ → Past → Bool
 elsewhere_keeps c slots n [] = true
-elsewhere_keeps c slots n (e ∷ past) = elsewhere_keeps c slots n past && (not (is_beside c n e) || keeps_at c slots past e)
+elsewhere_keeps c slots n (e ∷ past) =
+    elsewhere_keeps c slots n past && (not (is_beside c n e) || keeps_at c slots past e)
 
 -- The premises, of what was seen: only this driver uses its queues, which nobody used before; whoever uses others keeps
 -- the discipline of the slot area; and nobody else claims under this host's number.

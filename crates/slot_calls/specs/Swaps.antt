@@ -1,5 +1,6 @@
 -- What a driver's log, the newest event first, says of claims and releases of slots.
-use Rattle.std.specs.Prelude.{Bool, List, None, Option, Some, [], false, length, not, suc, ℕ, ◌&&◌, ◌++◌, ◌==◌, ◌||◌, ◌∷◌}
+use Rattle.std.specs.Prelude.{Bool, List, None, Option, Some, [], false, length, not, suc, ℕ, ◌&&◌, ◌++◌, ◌==◌, ◌||◌}
+use Rattle.std.specs.Prelude.{◌∷◌}
 use Rattle.std.specs.List.{list_any}
 use Rattle.nvme_model.specs.EntryBytes.{cqe_fields}
 use Rattle.nvme_model.specs.Slots.{Name, Swap, releases, same_name, swaps_in}
@@ -30,7 +31,8 @@ answers log cqe q j =
 abbrev pub log_success : List PortEvent → ℕ → ℕ → Bool
 log_success [] q j = false
 log_success (PortEvent.Sent p batch ∷ log) q j = log_success log q j
-log_success (PortEvent.Got cqe payload ∷ log) q j = (answers log cqe q j && is_success (status_in cqe)) || log_success log q j
+log_success (PortEvent.Got cqe payload ∷ log) q j =
+    (answers log cqe q j && is_success (status_in cqe)) || log_success log q j
 
 -- a release of the name from the slot at block l was published
 abbrev pub log_released : List PortEvent → ℕ → Name → Bool
@@ -39,5 +41,6 @@ log_released log l n = list_any (λ s. releases s l n) (log_swaps log)
 -- the name is believed of the slot at block l: its claim's success was reaped, and no release of it was published
 abbrev pub log_believed : List PortEvent → ℕ → Name → Bool
 log_believed log l n =
-    list_any (λ s. s.claims && (s.lba == l) && same_name s.name n && log_success log s.queue (suc s.number)) (log_swaps log)
+    list_any (λ s. s.claims && (s.lba == l) && same_name s.name n && log_success log s.queue (suc s.number))
+    (log_swaps log)
     && not (log_released log l n)

@@ -49,11 +49,13 @@ pub fn no_slot_has_two_claims()
         has_block slots l ≡ true → log_believed (log_since before a) l n ≡ true →
         log_believed (log_since other b) l m ≡ true → host ≢ guest → ⊥ }
     ensures queues { (before other : List PortEvent) (slots : Range) (host last guest final : ℕ) (a b : PortView)
-        (l : ℕ) (n m : Name) → IsSlotView before slots host last a → IsSlotView other slots guest final b → a.seen ≡ b.seen →
+        (l : ℕ) (n m : Name) →
+        IsSlotView before slots host last a → IsSlotView other slots guest final b → a.seen ≡ b.seen →
         a.config ≡ b.config → has_block slots l ≡ true → log_believed (log_since before a) l n ≡ true →
         log_believed (log_since other b) l m ≡ true → a.queue ≢ b.queue → ⊥ }
     ensures passes { (before other : List PortEvent) (slots : Range) (host last guest final : ℕ) (a b : PortView)
-        (l : ℕ) (n m : Name) → IsSlotView before slots host last a → IsSlotView other slots guest final b → a.seen ≡ b.seen →
+        (l : ℕ) (n m : Name) →
+        IsSlotView before slots host last a → IsSlotView other slots guest final b → a.seen ≡ b.seen →
         a.config ≡ b.config → has_block slots l ≡ true → log_believed (log_since before a) l n ≡ true →
         log_believed (log_since other b) l m ≡ true → a.pass ≢ b.pass → ⊥ }
 {}

@@ -15,8 +15,8 @@ ghost use Rattle.slot_calls.specs.Calls.{IsClaimBatch, IsClaimIn, IsName, IsRele
 ghost use Rattle.slot_calls.specs.Careful.{is_careful};
 ghost use Rattle.slot_calls.specs.Swaps.{log_believed, log_released};
 
-/// A log stays careful by whatever is reaped, by batches that touch no slot, by claims under serials above the last, and
-/// by releases of names that it believes.
+/// A log stays careful by whatever is reaped, by batches that touch no slot, by claims under serials above the last,
+/// and by releases of names that it believes.
 pub fn a_log_stays_careful()
     ensures empty { (slots : Range) (host last : ℕ) → is_careful slots host last [] ≡ true }
     ensures drawn { (slots : Range) (host last next : ℕ) (log : List PortEvent) → last ≤ next →

@@ -237,8 +237,8 @@ pub fn polls<'a>(_bench: &Bench, _slots: &Slots, claimant: Claimant<'a>) -> (Cla
     (Claimant { host, queue, stage }, came)
 }
 
-/// The host, with the slot that it held and the serial of its claim, if it held one, which stays held. What was begun is
-/// dropped.
+/// The host, with the slot that it held and the serial of its claim, if it held one, which stays held. What was begun
+/// is dropped.
 pub fn leaves<'a>(
     _bench: &Bench,
     _slots: &Slots,

@@ -116,8 +116,8 @@ fn crowd<'a>(
     Ok(all)
 }
 
-// What a host does at its turn: it begins a claim, or the release of the slot that it holds, or is served until it is told
-// what came of that.
+// What a host does at its turn: it begins a claim, or the release of the slot that it holds, or is served until it is
+// told what came of that.
 fn turn<'a, R: Abort + Wait>(
     rt: &R,
     bench: &Bench,

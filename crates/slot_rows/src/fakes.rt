@@ -1,5 +1,5 @@
-//! Claims over a port that answers what it is told to: what they publish, under which serials, and what is told where the
-//! next slot's pair isn't taken.
+//! Claims over a port that answers what it is told to: what they publish, under which serials, and what is told where
+//! the next slot's pair isn't taken.
 
 ghost use Rattle.std.specs.Prelude.{◌≡◌, IfOk, IfSome};
 ghost use Rattle.driver_cas.specs.Drivers.{area_of};

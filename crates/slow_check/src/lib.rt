@@ -9,8 +9,6 @@ mod past;
 mod posts;
 mod rules;
 mod taken;
-#[cfg(test)]
-mod tests;
 mod units;
 mod values;
 

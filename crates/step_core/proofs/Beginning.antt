@@ -1,5 +1,5 @@
 -- A controller without a history, and its volume.
-use Rattle.std.proofs.Common.{◌≡◌, ℕ, suc, ◌%◌, ◌==◌, ◌<◌, true, false, List, [], replicate, slice_get, Some, None, refl, sym, ap, ◌∙◌, subst, is_none, ltb-false}
+use Rattle.std.proofs.Common.{◌≡◌, ℕ, suc, ◌%◌, ◌*◌, ◌==◌, ◌<◌, true, false, List, [], replicate, slice_get, Some, None, refl, sym, ap, ◌∙◌, subst, is_none, ltb-false}
 use Rattle.std.proofs.Math.Nat.{zero-div, zero-mod}
 use Rattle.std.proofs.lemmas.Bool.{or_parts}
 use Rattle.std.proofs.lemmas.Option.{get_or_from_slice_get}
@@ -12,13 +12,13 @@ use Rattle.nvme_model.specs.Value.{value}
 use Rattle.nvme_model.specs.declared.config.ConfigNumbers.{ConfigNumbers}
 use Rattle.nvme_model.proofs.Medium.{medium_is_value}
 use Rattle.nvme_model.proofs.Rules.{none_holds}
-use Rattle.range_reserve.specs.declared.held.Held.{Held}
 use Rattle.rings.specs.Completions.{CompletionRing}
 use Rattle.rings.specs.Slots.{IsSize}
 use Rattle.rings.specs.Submissions.{SubmissionRing}
-use Rattle.job_table.specs.Jobs.{JobTable}
 use Rattle.step_core.specs.Fields.{completion_ring, submission_ring}
-use Rattle.step_core.specs.Kept.{IsKept}
+use Rattle.cids_in_use.specs.Used.{UsedCids}
+use Rattle.std.proofs.lemmas.List.{get_or-replicate, length-replicate}
+use Rattle.step_core.specs.Kept.{AreInUse, AreUsed, CoreFields, IsKept}
 use Rattle.step_core.proofs.Tables.{IsTable-replicate}
 
 -- the size of a completion queue that is accepted
@@ -45,29 +45,38 @@ completion_begins : (c : ConfigNumbers) (k : ℕ) → completion_ring c [] k ≡
 unfolding completion_ring
 completion_begins c k = (λ i. record (completion_empty c.cq_size) { tail = zero-mod c.cq_size i; phase = zero-div c.cq_size i % 2 == 0 })
 
+-- nothing is in use
+none_used : (c : ConfigNumbers) (k : ℕ) → AreUsed c [] (suc k) (record { room = 2 * c.jobs; cids = [] })
+none_used c k = record { cids = λ p. refl; room = refl }
+
+used_begins : (c : ConfigNumbers) (us : List UsedCids) → us ≡ replicate c.pairs (record { room = 2 * c.jobs; cids = [] }) → AreInUse c [] us
+used_begins c us e = subst (AreInUse c []) (sym e) (record {
+  size = length-replicate c.pairs _;
+  at = λ k d below. subst (AreUsed c [] (suc k)) (sym (get_or-replicate c.pairs k (record { room = 2 * c.jobs; cids = [] }) d below)) (none_used c k);
+})
+
 -- the fields of a controller that is just made
-pub begins : (c m : ConfigNumbers) (p : Past) (v : List (List ℕ)) (s : List SubmissionRing) (q : List CompletionRing) (j : JobTable) (r : List Held)
-    → m ≡ c → config_fault m ≡ None → p ≡ [] → v ≡ replicate m.blocks zeros
-    → s ≡ replicate m.pairs (submission_empty m.sq_size) → q ≡ replicate m.cqs (completion_empty m.cq_size)
-    → j ≡ record { limit = m.jobs; jobs = [] } → r ≡ []
-    → IsKept c p v s q j r 0
-begins c m p v s q j r same accepted none vs ss qs js rs =
-    subst (λ (x : ConfigNumbers). IsKept x p v s q j r 0) same (subst (λ (x : Past). IsKept m x v s q j r 0) (sym none) (record {
+pub begins : (c m : ConfigNumbers) (p : Past) (f : CoreFields) → m ≡ c → config_fault m ≡ None → p ≡ [] → f.volume ≡ replicate m.blocks zeros
+    → f.submission ≡ replicate m.pairs (submission_empty m.sq_size) → f.in_use ≡ replicate m.pairs (record { room = 2 * m.jobs; cids = [] })
+    → f.completion ≡ replicate m.cqs (completion_empty m.cq_size) → f.jobs ≡ record { limit = m.jobs; jobs = [] } → f.held ≡ [] → f.tickets ≡ 0
+    → IsKept c p f
+begins c m p f same accepted none vs ss us qs js rs ns =
+    subst (λ (x : ConfigNumbers). IsKept x p f) same (subst (λ (x : Past). IsKept m x f) (sym none) (record {
       accepted = accepted;
-      volume = IsTable-replicate (medium []) m.blocks zeros v vs (λ k. refl);
-      submission = IsTable-replicate _ m.pairs _ s ss (λ k. submission_begins m (suc k));
-      completion = IsTable-replicate _ m.cqs _ q qs (λ k. completion_begins m (suc k));
+      volume = IsTable-replicate (medium []) m.blocks zeros f.volume vs (λ k. refl);
+      submission = IsTable-replicate _ m.pairs _ f.submission ss (λ k. submission_begins m (suc k));
+      in_use = used_begins m f.in_use us;
+      completion = IsTable-replicate _ m.cqs _ f.completion qs (λ k. completion_begins m (suc k));
       jobs = js;
       held = rs;
-      count = refl;
+      count = ns;
       run = record { legal = refl; marks = tt; words = tt };
     }))
 
 -- ---- the volume
 
 -- a block is its value where no open Exclusive unit has it
-pub block_is_value : (c : ConfigNumbers) (past : Past) (v : List (List ℕ)) (s : List SubmissionRing) (q : List CompletionRing) (j : JobTable) (r : List Held) (n : ℕ)
-    → IsKept c past v s q j r n
-    → (l : ℕ) (b : List ℕ) → l < c.blocks → slice_get v l ≡ Some b → is_held past l ≡ false → b ≡ value past l
-block_is_value c past v s q j r n k l b within at free =
-    sym (get_or_from_slice_get v l b b at) ∙ k.volume.at l b within ∙ medium_is_value c past l k.run.legal k.run.marks free
+pub block_is_value : (c : ConfigNumbers) (past : Past) (fields : CoreFields) → IsKept c past fields
+    → (l : ℕ) (b : List ℕ) → l < c.blocks → slice_get fields.volume l ≡ Some b → is_held past l ≡ false → b ≡ value past l
+block_is_value c past fields k l b within at free =
+    sym (get_or_from_slice_get fields.volume l b b at) ∙ k.volume.at l b within ∙ medium_is_value c past l k.run.legal k.run.marks free

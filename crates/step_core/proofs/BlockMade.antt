@@ -37,7 +37,8 @@ use Rattle.ticket_course.specs.Stages.{IfOpen, is_open, unit_in}
 use Rattle.ticket_course.specs.declared.course.Stage.{Stage}
 use Rattle.ticket_course.specs.declared.course.Stage.TheVariants.{Open}
 use Rattle.step_core.specs.Fields.{completion_ring, job_at, submission_ring}
-use Rattle.step_core.specs.Kept.{IsKept, IsTable}
+use Rattle.step_core.proofs.InUse.{used_same}
+use Rattle.step_core.specs.Kept.{CoreFields, IsKept, IsTable}
 use Rattle.step_core.specs.State.{Does, Room, State, TakesRoom, answer_of}
 use Rattle.step_core.specs.declared.answer.Answer.{Answer}
 use Rattle.step_core.proofs.BlockData.{IsUnit, done_same, finds_same, not_false, stage_is, unit_found}
@@ -66,7 +67,25 @@ pub record IsMade (y : Keeping) (v : List (List ℕ)) (d : Done) (v' : List (Lis
   pub volume : IfOpen y.course.stage (λ p. v' ≡ volume_with p v (block_at y.write 0) d.found)
   pub job : IfOpen y.course.stage (λ p. y' ≡ noted_job y p v d.found)
 
-module _ (c : ConfigNumbers) (past : Past) (v : List (List ℕ)) (s : List SubmissionRing) (q : List CompletionRing) (j : JobTable) (r : List Held) (n : ℕ) (k : IsKept c past v s q j r n) (t : ℕ) (none : refusal c past (Step.Block t) ≡ None) where
+module _ (c : ConfigNumbers) (past : Past) (fields : CoreFields) (k : IsKept c past fields) (t : ℕ) (none : refusal c past (Step.Block t) ≡ None) where
+  abbrev v : List (List ℕ)
+  v = fields.volume
+
+  abbrev s : List SubmissionRing
+  s = fields.submission
+
+  abbrev q : List CompletionRing
+  q = fields.completion
+
+  abbrev j : JobTable
+  j = fields.jobs
+
+  abbrev r : List Held
+  r = fields.held
+
+  abbrev n : ℕ
+  n = fields.tickets
+
   there : job_of j.jobs t ≡ Some (job_at c past t)
   there =
       let rows = none_holds (conditions c past (Step.Block t)) (ap is_none none) in
@@ -140,17 +159,18 @@ module _ (c : ConfigNumbers) (past : Past) (v : List (List ℕ)) (s : List Submi
 
       -- the fields after it
       pub kept : (h past' : Past) (r' : List Held) → h ≡ past → past' ≡ Entry.Block (record { ticket = t; unit = n'; lba = d.lba; found = d.found; effect = d.effect }) ∷ h → r' ≡ cond d.ended (held_beside r t) r
-          → IsKept c past' v' s q (record { limit = j.limit; jobs = replaced j.jobs t y' }) r' n
+          → IsKept c past' (record fields { volume = v'; jobs = record { limit = j.limit; jobs = replaced j.jobs t y' }; held = r' })
       kept h past' r' same_past is_past is_r = let u = unit_found c past t k.run.legal none in by u.0 u.1 u.2
         where
-          by : (g : GrantLine) (o : Op) → IsUnit c past t g o → IsKept c past' v' s q (record { limit = j.limit; jobs = replaced j.jobs t y' }) r' n
+          by : (g : GrantLine) (o : Op) → IsUnit c past t g o → IsKept c past' (record fields { volume = v'; jobs = record { limit = j.limit; jobs = replaced j.jobs t y' }; held = r' })
           by g o u =
               let legal = legal_then g o u in
-              subst (λ (p : Past). IsKept c p v' s q (record { limit = j.limit; jobs = replaced j.jobs t y' }) r' n) (sym (is_past ∙ ap₂ (λ (e : Entry) (w : Past). e ∷ w) (line_is g o u) same_past))
+              subst (λ (p : Past). IsKept c p (record fields { volume = v'; jobs = record { limit = j.limit; jobs = replaced j.jobs t y' }; held = r' })) (sym (is_past ∙ ap₂ (λ (e : Entry) (w : Past). e ∷ w) (line_is g o u) same_past))
               (record {
                 accepted = k.accepted;
                 volume = subst (IsTable (medium (Entry.Block (line_now past t g o) ∷ past)) c.blocks) (sym (written g o u)) (volume_now c past t g o u k.run.legal v k.volume);
                 submission = IsTable-same (λ i. submission_ring c past (suc i)) (λ i. submission_ring c (Entry.Block (line_now past t g o) ∷ past) (suc i)) c.pairs s k.submission (λ i. submission_kept c past (line_now past t g o) (suc i));
+                in_use = used_same c past (Entry.Block (line_now past t g o) ∷ past) fields.in_use k.in_use (λ i p. refl);
                 completion = IsTable-same (λ i. completion_ring c past (suc i)) (λ i. completion_ring c (Entry.Block (line_now past t g o) ∷ past) (suc i)) c.cqs q k.completion (λ i. completion_kept c past (line_now past t g o) (suc i));
                 jobs =
                     (λ z. record { limit = (k.jobs z).limit; jobs = replaced (k.jobs z).jobs t (own g o u z) })

@@ -1,20 +1,21 @@
 -- What a Fetch requires and what it leaves.
-use Rattle.std.proofs.Common.{◌≡◌, ◌≢◌, ℕ, zero, suc, ◌+◌, ◌-◌, ◌%◌, ◌≤◌, ◌<◌, ◌^◌, ◌==◌, ◌||◌, true, false, cond, List, [], ◌∷◌, ◌++◌, drop, get_or, length, map, set, take, Option, None, Ok, is_none, is_some, refl, sym, ap, ap₂, ◌∙◌, subst, subst₂, arith, inl, inr, add-zero, eqb, eqb-true, eq-eqb, ne_eqb, nat_lt, ltb-false}
-use Rattle.std.specs.List.{list_all, list_any}
+use Rattle.std.proofs.Common.{◌≡◌, ◌≢◌, ℕ, zero, suc, ◌+◌, ◌-◌, ◌%◌, ◌≤◌, ◌<◌, ◌^◌, ◌==◌, ◌||◌, true, false, cond, List, [], ◌∷◌, ◌++◌, drop, get_or, length, map, set, take, None, Some, Ok, Bool, slice_get, nat_le, is_none, is_some, refl, sym, ap, ap₂, ◌∙◌, subst, subst₂, arith, inl, inr, add-zero, eqb, eqb-true, eq-eqb, ne_eqb, nat_lt, ltb-false}
+use Rattle.std.specs.List.{count_by, list_all, list_any}
 use Rattle.std.proofs.Math.Nat.{mod-add-mod}
 use Rattle.std.proofs.lemmas.Bool.{cases_Bool, cond-true, or_parts}
 use Rattle.std.proofs.lemmas.Bool.Decides.{nat_tests}
 use Rattle.std.proofs.lemmas.List.{length-drop, length-map, length-take}
+use Rattle.nvme_model.specs.EntryBytes.{sqe_fields}
 use Rattle.nvme_model.specs.History.{Past}
 use Rattle.nvme_model.specs.Legal.{IsLegal}
 use Rattle.nvme_model.specs.Medium.{medium}
 use Rattle.nvme_model.specs.Operations.{op}
 use Rattle.nvme_model.specs.Queues.{fetched, published, waiting}
 use Rattle.nvme_model.specs.Refusals.{conditions, refusal}
-use Rattle.ticket_standing.specs.Standing.{flying, fresh}
+use Rattle.ticket_standing.specs.Standing.{flying}
 use Rattle.nvme_model.specs.Steps.{next_entry}
 use Rattle.nvme_model.specs.Tickets
-use Rattle.nvme_model.specs.Tickets.{Ticket, cids_in_use, fetched_ticket, next_verdict}
+use Rattle.nvme_model.specs.Tickets.{Ticket, cids, cids_in_use, fetched_ticket, in_flight, next_verdict, numbers}
 use Rattle.nvme_model.specs.Verdict.{item_of, taken}
 use Rattle.nvme_model.specs.declared.config.AtomicParameters.{AtomicParameters}
 use Rattle.nvme_model.specs.declared.config.ConfigNumbers.{ConfigNumbers}
@@ -33,7 +34,6 @@ use Rattle.nvme_model.proofs.Rules.{none_holds}
 use Rattle.ticket_standing.proofs.Unfetched.{fetch_flying, fetch_here, fetch_other, flying_known}
 use Rattle.ticket_standing.proofs.Waiting.{fetch_waits}
 use Rattle.fused_match.specs.Judged.{verdict_by}
-use Rattle.fused_match.specs.declared.judged.Judged.{Judged}
 use Rattle.job_table.specs.Jobs.{JobTable, all_below, jobs_by}
 use Rattle.job_table.specs.Keeping.{Keeping}
 use Rattle.job_table.specs.declared.jobs.InFlight.{InFlight}
@@ -43,26 +43,29 @@ use Rattle.range_reserve.specs.declared.held.Held.{Held}
 use Rattle.ticket_course.specs.Stages.{IsSound}
 use Rattle.rings.specs.Completions.{CompletionRing}
 use Rattle.rings.specs.Submissions.{SubmissionRing, advanced}
-use Rattle.step_core.specs.Fetches.{HasBlocks, IsJudged, commands_of, first_job, kind_in, read_first, write_first}
+use Rattle.step_core.specs.Fetches.{HasBlocks, IsFront, first_job, kind_in, read_first, write_first}
+use Rattle.step_core.specs.declared.machine.fetch.Front.{Front}
 use Rattle.step_core.specs.Fields.{completion_ring, job_at, job_by, job_table, submission_ring, write_blocks}
-use Rattle.step_core.specs.Kept.{IsKept, IsSqRing}
+use Rattle.step_core.specs.Kept.{AreInUse, AreUsed, CoreFields, IsKept, IsSqRing}
+use Rattle.cids_in_use.specs.Used.{UsedCids}
 use Rattle.step_core.specs.State.{Does, Room, State, TakesRoom, work_of}
 use Rattle.step_core.specs.Works.{IsKind, TicketWork}
 use Rattle.step_core.specs.declared.answer.Answer.{Answer}
 use Rattle.step_core.specs.declared.work.Kind.{Kind}
 use Rattle.step_core.proofs.FetchedJob.{Names, fresh_job, kind_fits, kind_is, sound, ticket_by}
 use Rattle.step_core.proofs.FetchedData.{blocks_are, has_blocks}
-use Rattle.step_core.proofs.Fetching.{blocks_most, full_is}
+use Rattle.step_core.proofs.Fetching.{blocks_most, front_command, full_is}
+use Rattle.step_core.proofs.InUse.{count_append, fetched_count, same_length, two_each, used_set}
 use Rattle.step_core.proofs.Moves.{legal_after, stepped}
 use Rattle.step_core.proofs.Tables.{IsTable-same, IsTable-set}
 
--- no refusal, and what becomes of the entries
-abbrev pub IsFetched : ConfigNumbers → Past → ℕ → Judged → Type 0
-IsFetched c past t x = (refusal c past (Step.Fetch t) ≡ None) × IsJudged c past t x
+-- no refusal, and what is found of the entries
+abbrev pub IsFetched : ConfigNumbers → Past → ℕ → Front → Type 0
+IsFetched c past t x = (refusal c past (Step.Fetch t) ≡ None) × IsFront c past t x
 
 -- the Fetch of this
-abbrev pub fetch_line : Past → ℕ → Judged → FetchLine
-fetch_line past t x = record { queue = t; ticket = Tickets.tickets past + 1; verdict = verdict_by x }
+abbrev pub fetch_line : Past → ℕ → Front → FetchLine
+fetch_line past t x = record { queue = t; ticket = Tickets.tickets past + 1; verdict = verdict_by x.judged }
 
 -- ---- submission rings
 
@@ -114,7 +117,25 @@ among (t ∷ ts) n u h e = elim (cases_Bool (t == u)) [
   | inr apart ↦ among ts n u h.1 (sym (ap (λ b. b || list_any (λ v. v == u) ts) apart) ∙ e)
 ]
 
-module _ (c : ConfigNumbers) (past : Past) (v : List (List ℕ)) (s : List SubmissionRing) (q : List CompletionRing) (j : JobTable) (r : List Held) (n : ℕ) (k : IsKept c past v s q j r n) (t : ℕ) (x : Judged) (a : IsFetched c past t x) where
+module _ (c : ConfigNumbers) (past : Past) (fields : CoreFields) (k : IsKept c past fields) (t : ℕ) (x : Front) (a : IsFetched c past t x) where
+  abbrev v : List (List ℕ)
+  v = fields.volume
+
+  abbrev s : List SubmissionRing
+  s = fields.submission
+
+  abbrev q : List CompletionRing
+  q = fields.completion
+
+  abbrev j : JobTable
+  j = fields.jobs
+
+  abbrev r : List Held
+  r = fields.held
+
+  abbrev n : ℕ
+  n = fields.tickets
+
   -- ---- what it requires
 
   -- its number fits
@@ -123,20 +144,20 @@ module _ (c : ConfigNumbers) (past : Past) (v : List (List ℕ)) (s : List Submi
 
   -- the entry that it adds
   entry_is : Entry.Fetch (fetch_line past t x) ≡ next_entry c past (Step.Fetch t)
-  entry_is = ap (λ (w : Verdict). Entry.Fetch (record { queue = t; ticket = Tickets.tickets past + 1; verdict = w })) a.1.verdict
+  entry_is = ap (λ (w : Verdict). Entry.Fetch (record { queue = t; ticket = Tickets.tickets past + 1; verdict = w })) a.1.judged.verdict
 
   -- which may follow
   legal : IsLegal c (Entry.Fetch (fetch_line past t x) ∷ past)
   legal = legal_after c past (Step.Fetch t) (Entry.Fetch (fetch_line past t x)) k.run a.0 entry_is
 
   -- its command waits, and so do both of a pair
-  taken_waits : taken (verdict_by x) ≤ length (waiting past t)
+  taken_waits : taken (verdict_by x.judged) ≤ length (waiting past t)
   taken_waits =
       let rows = none_holds (conditions c past (Step.Fetch t)) (ap is_none a.0) in
       let some = more _ _ (fetched_within c past t k.run.legal) rows.1.0 in
       let items = length-map (waiting past t) item_of in
       let most = taken_within c.atomic c.blocks (cids_in_use past t) (map item_of (waiting past t)) (omega (arith, some, items, length-drop (fetched past t) (published past t))) in
-      omega (arith, most, items, ap taken a.1.verdict)
+      omega (arith, most, items, ap taken a.1.judged.verdict)
     where
       more : (m f : ℕ) → f ≤ m → (m == f) ≡ false → f < m
       more m f l e = grind (arith, nat_tests)
@@ -159,26 +180,24 @@ module _ (c : ConfigNumbers) (past : Past) (v : List (List ℕ)) (s : List Submi
   ring_is ring there = there ∙ k.submission.at (t - 1) ring queue_place.1 ∙ ap (submission_ring c past) queue_place.0
 
   -- its commands are on the ring
-  pub can_take : (ring : SubmissionRing) (m : ℕ) → ring ≡ get_or s (t - 1) ring → m ≡ taken (verdict_by x) → m ≤ length ring.waiting
+  pub can_take : (ring : SubmissionRing) (m : ℕ) → ring ≡ get_or s (t - 1) ring → m ≡ taken (verdict_by x.judged) → m ≤ length ring.waiting
   unfolding submission_ring
   can_take ring m there is = omega (arith, taken_waits, ap (λ (y : SubmissionRing). length y.waiting) (ring_is ring there), is)
 
-  -- the commands that it takes
-  commands_are : (first : Submission) (second : Option Submission) (ring : SubmissionRing) (m : ℕ) → ring ≡ get_or s (t - 1) ring → m ≡ taken (verdict_by x) → commands_of first second ≡ take m ring.waiting
-      → commands_of first second ≡ take (taken (verdict_by x)) (waiting past t)
-  unfolding submission_ring
-  commands_are first second ring m there is took = took ∙ ap₂ (λ (n : ℕ) (y : SubmissionRing). take n y.waiting) is (ring_is ring there)
-
   -- what is judged is of the ticket
-  names : Names x (ticket_by t x (take (taken (verdict_by x)) (waiting past t)))
-  names = record { operation = a.1.operation; range = a.1.range }
+  names : Names x.judged (ticket_by t x.judged (take (taken (verdict_by x.judged)) (waiting past t)))
+  names = record { operation = a.1.judged.operation; range = a.1.judged.range }
 
   -- each of them has a CID
-  pub cids_are : (first : Submission) (second : Option Submission) (ring : SubmissionRing) (m : ℕ) → ring ≡ get_or s (t - 1) ring → m ≡ taken (verdict_by x) → commands_of first second ≡ take m ring.waiting
-      → length (commands_of first second) ≡ taken (verdict_by x)
-  cids_are first second ring m there is took =
-      let all = commands_are first second ring m there is took in
-      omega (arith, ap (λ (cs : List Submission). length cs) all, length-take (taken (verdict_by x)) (waiting past t), taken_waits)
+  pub cids_are : length x.cids ≡ taken (verdict_by x.judged)
+  cids_are =
+      omega (
+        arith,
+        ap (λ (ids : List ℕ). length ids) a.1.cids,
+        length-map (take (taken (verdict_by x.judged)) (waiting past t)) (λ s. (sqe_fields s.entry).cid),
+        length-take (taken (verdict_by x.judged)) (waiting past t),
+        taken_waits,
+      )
 
   -- its number is above all that fly
   pub is_above : all_below (n + 1) j.jobs ≡ true
@@ -191,51 +210,50 @@ module _ (c : ConfigNumbers) (past : Past) (v : List (List ℕ)) (s : List Submi
   pub not_full : length j.jobs ≡ j.limit → ⊥
   not_full full =
       let rows = none_holds (conditions c past (Step.Fetch t)) (ap is_none a.0) in
-      let says : (length j.jobs == j.limit) ≡ false = full_is c past v s q j r n k (omega (arith, full)) ∙ rows.1.1.0 in
+      let says : (length j.jobs == j.limit) ≡ false = full_is c past fields k (omega (arith, full)) ∙ rows.1.1.0 in
       absurd (let yes_full : (length j.jobs == j.limit) ≡ true = eq-eqb _ _ full in cc)
 
   -- the new ticket
-  ticket_here : Tickets.ticket (Entry.Fetch (fetch_line past t x) ∷ past) (Tickets.tickets past + 1) ≡ fetched_ticket past t (verdict_by x)
+  ticket_here : Tickets.ticket (Entry.Fetch (fetch_line past t x) ∷ past) (Tickets.tickets past + 1) ≡ fetched_ticket past t (verdict_by x.judged)
   ticket_here = cond-true (eqb (Tickets.tickets past + 1) (Tickets.tickets past + 1)) _ _ (eq-eqb (Tickets.tickets past + 1) (Tickets.tickets past + 1) refl)
 
   -- it has passed its checks
-  checked : is_some (op (fetched_ticket past t (verdict_by x))) ≡ true → TicketChecked c (fetched_ticket past t (verdict_by x))
+  checked : is_some (op (fetched_ticket past t (verdict_by x.judged))) ≡ true → TicketChecked c (fetched_ticket past t (verdict_by x.judged))
   checked = subst (λ (y : Ticket). is_some (op y) ≡ true → TicketChecked c y) ticket_here (ticket_checked c (Entry.Fetch (fetch_line past t x) ∷ past) (Tickets.tickets past + 1) legal)
 
   -- the data beside its entries has the blocks that it writes
-  pub data_has : (ring : SubmissionRing) → IsSqRing c past t ring → HasBlocks x ring.waiting
+  pub data_has : (ring : SubmissionRing) → IsSqRing c past t ring → HasBlocks x.judged ring.waiting
   unfolding submission_ring
-  data_has ring is = subst (λ (y : SubmissionRing). HasBlocks x y.waiting) (sym is.is) (has_blocks c t x (waiting past t) names taken_waits checked)
+  data_has ring is = subst (λ (y : SubmissionRing). HasBlocks x.judged y.waiting) (sym is.is) (has_blocks c t x.judged (waiting past t) names taken_waits checked)
 
   -- and these are they
-  pub data_is : (ring : SubmissionRing) → IsSqRing c past t ring → write_first x ring.waiting ≡ write_blocks (fetched_ticket past t (verdict_by x))
+  pub data_is : (ring : SubmissionRing) → IsSqRing c past t ring → write_first x.judged ring.waiting ≡ write_blocks (fetched_ticket past t (verdict_by x.judged))
   unfolding submission_ring
-  data_is ring is = ap (λ (y : SubmissionRing). write_first x y.waiting) is.is ∙ blocks_are t x (waiting past t) names
+  data_is ring is = ap (λ (y : SubmissionRing). write_first x.judged y.waiting) is.is ∙ blocks_are t x.judged (waiting past t) names
 
   -- what it has to do is right
-  pub work_fits : (u : AtomicParameters) (w : Kind) → u ≡ c.atomic → w ≡ kind_in x → IsKind u w
+  pub work_fits : (u : AtomicParameters) (w : Kind) → u ≡ c.atomic → w ≡ kind_in x.judged → IsKind u w
   work_fits u w e f =
-      subst₂ IsKind (sym e) (sym f) (kind_fits c t x (take (taken (verdict_by x)) (waiting past t)) (blocks_most c k.accepted) names checked)
+      subst₂ IsKind (sym e) (sym f) (kind_fits c t x.judged (take (taken (verdict_by x.judged)) (waiting past t)) (blocks_most c k.accepted) names checked)
 
   -- and what was judged can be
-  pub sound_is : IsSound x
-  sound_is = sound c.atomic t x (take (taken (verdict_by x)) (waiting past t)) names (work_fits c.atomic (kind_in x) refl refl)
+  pub sound_is : IsSound x.judged
+  sound_is = sound c.atomic t x.judged (take (taken (verdict_by x.judged)) (waiting past t)) names (work_fits c.atomic (kind_in x.judged) refl refl)
 
   -- ---- what it leaves
 
   -- it has a command
-  some_taken : 0 < length (take (taken (verdict_by x)) (waiting past t))
-  some_taken = omega (arith, taken_waits, taken_some (verdict_by x), length-take (taken (verdict_by x)) (waiting past t))
+  some_taken : 0 < length (take (taken (verdict_by x.judged)) (waiting past t))
+  some_taken = omega (arith, taken_waits, taken_some (verdict_by x.judged), length-take (taken (verdict_by x.judged)) (waiting past t))
 
   -- its job
-  job_is : (first : Submission) (second : Option Submission) (write : List (List ℕ)) (read : List ℕ) (job : Keeping) → commands_of first second ≡ take (taken (verdict_by x)) (waiting past t)
-      → write ≡ write_blocks (fetched_ticket past t (verdict_by x)) → read ≡ read_first x → job ≡ first_job t x first second write read
+  job_is : (first : Submission) (write : List (List ℕ)) (read : List ℕ) (job : Keeping) → slice_get (waiting past t) 0 ≡ Some first
+      → write ≡ write_blocks (fetched_ticket past t (verdict_by x.judged)) → read ≡ read_first x.judged → job ≡ first_job t x first write read
       → job ≡ job_at c (Entry.Fetch (fetch_line past t x) ∷ past) (Tickets.tickets past + 1)
-  job_is first second write read job commands wrote room made =
+  job_is first write read job front wrote room made =
       made
-      ∙ fresh_job c t x first second write read (subst (λ cs. Names x (ticket_by t x cs)) (sym commands) names)
-      (subst (λ cs. write ≡ write_blocks (ticket_by t x cs)) (sym commands) wrote) room
-      ∙ ap (λ cs. job_by c (fresh (ticket_by t x cs))) commands
+      ∙ fresh_job c t x (take (taken (verdict_by x.judged)) (waiting past t)) first write read names a.1.cids a.1.slba
+      (front_command (waiting past t) t (verdict_by x.judged) first front) wrote room
       ∙ ap (job_by c) (sym (fetch_here c past (fetch_line past t x) legal))
 
   -- the table with its job
@@ -251,42 +269,101 @@ module _ (c : ConfigNumbers) (past : Past) (v : List (List ℕ)) (s : List Submi
       )
 
   -- the ring that is left
-  ring_after : (ring later : SubmissionRing) (m : ℕ) → ring ≡ get_or s (t - 1) ring → m ≡ taken (verdict_by x) → later ≡ advanced ring m → later ≡ submission_ring c (Entry.Fetch (fetch_line past t x) ∷ past) t
+  ring_after : (ring later : SubmissionRing) (m : ℕ) → ring ≡ get_or s (t - 1) ring → m ≡ taken (verdict_by x.judged) → later ≡ advanced ring m → later ≡ submission_ring c (Entry.Fetch (fetch_line past t x) ∷ past) t
   ring_after ring later m there is moved = moved ∙ ap₂ advanced (ring_is ring there) is ∙ ring_here c past (fetch_line past t x)
 
+  -- the CIDs in use on its queue, without it
+  own_used : (u : UsedCids) → u ≡ get_or fields.in_use (t - 1) u → AreUsed c past t u
+  own_used u there =
+      subst (λ (m : ℕ). AreUsed c past m u) queue_place.0
+      (subst (AreUsed c past (suc (t - 1))) (sym there) (k.in_use.at (t - 1) u queue_place.1))
+
+  -- there is room for its own
+  pub used_room : (u : UsedCids) → u ≡ get_or fields.in_use (t - 1) u → length u.cids + length x.cids ≤ u.room
+  used_room u there =
+      let own = own_used u there in
+      let rows = none_holds (conditions c past (Step.Fetch t)) (ap is_none a.0) in
+      omega (
+        arith,
+        same_length u.cids (cids_in_use past t) own.cids,
+        two_each past t,
+        less c.jobs (count_by (in_flight past) (numbers (Tickets.tickets past))) rows.1.1.0,
+        own.room,
+        cids_are,
+        two (verdict_by x.judged),
+      )
+    where
+      less : (m f : ℕ) → nat_le m f ≡ false → f < m
+      less m f e = grind (arith, nat_tests)
+
+      two : (w : Verdict) → taken w ≤ 2
+      two Verdict.Single = omega arith
+      two (Verdict.SingleFailed s) = omega arith
+      two Verdict.Pair = omega arith
+      two (Verdict.PairFailed s r) = omega arith
+
+  -- they are in use with it
+  used_after : (u y : UsedCids) → u ≡ get_or fields.in_use (t - 1) u → y ≡ record u { cids = u.cids ++ x.cids } → AreInUse c (Entry.Fetch (fetch_line past t x) ∷ past) (set fields.in_use (t - 1) y)
+  used_after u y there more = used_set c past (Entry.Fetch (fetch_line past t x) ∷ past) fields.in_use (t - 1) y k.in_use queue_place.1 here others
+    where
+      own : AreUsed c past t u
+      own = own_used u there
+
+      here : AreUsed c (Entry.Fetch (fetch_line past t x) ∷ past) (suc (t - 1)) y
+      here = subst (λ (m : ℕ). AreUsed c (Entry.Fetch (fetch_line past t x) ∷ past) m y) (sym queue_place.0) (subst (AreUsed c (Entry.Fetch (fetch_line past t x) ∷ past) t) (sym more) (record {
+        cids = λ p.
+            let mine = fetched_count c past (fetch_line past t x) legal t p in
+            let on = ap (λ b. count_by p (cond b (cids (fetched_ticket past t (verdict_by x.judged))) [])) (eq-eqb t t refl) in
+            omega (arith, count_append p u.cids x.cids, own.cids p, ap (count_by p) a.1.cids, mine, on);
+        room = own.room;
+      }))
+
+      others : (i : ℕ) → i ≢ t - 1 → (p : ℕ → Bool) → count_by p (cids_in_use (Entry.Fetch (fetch_line past t x) ∷ past) (suc i)) ≡ count_by p (cids_in_use past (suc i))
+      others i apart p =
+          let off = ap (λ b. count_by p (cond b (cids (fetched_ticket past t (verdict_by x.judged))) [])) (ne_eqb t (suc i) (λ (on : t ≡ suc i). apart (omega (arith, on)))) in
+          omega (arith, fetched_count c past (fetch_line past t x) legal (suc i) p, off)
+
+  -- the first that waits
+  waits : (ring : SubmissionRing) (first : Submission) → ring ≡ get_or s (t - 1) ring → slice_get ring.waiting 0 ≡ Some first → slice_get (waiting past t) 0 ≡ Some first
+  unfolding submission_ring
+  waits ring first there front = ap (λ (y : SubmissionRing). slice_get y.waiting 0) (sym (ring_is ring there)) ∙ front
+
   -- each field is what the history says
-  pub fetch_kept : (first : Submission) (second : Option Submission) (write : List (List ℕ)) (read : List ℕ) (job : Keeping) (ring later : SubmissionRing) (m : ℕ) (table : JobTable) (w : Verdict) (now then : Past)
-      → ring ≡ get_or s (t - 1) ring → m ≡ taken (verdict_by x) → commands_of first second ≡ take m ring.waiting → later ≡ advanced ring m
-      → write ≡ write_blocks (fetched_ticket past t (verdict_by x)) → read ≡ read_first x → job ≡ first_job t x first second write read
-      → table ≡ record j { jobs = j.jobs ++ record { ticket = n + 1; job = job } ∷ [] } → w ≡ verdict_by x → now ≡ past → then ≡ Entry.Fetch (record { queue = t; ticket = n + 1; verdict = w }) ∷ now
-      → IsKept c then v (set s (t - 1) later) q table r (n + 1)
-  fetch_kept first second write read job ring later m table w now then there is took moved wrote room made put says same pushed =
+  pub fetch_kept : (first : Submission) (write : List (List ℕ)) (read : List ℕ) (job : Keeping) (ring later : SubmissionRing) (u y : UsedCids) (m : ℕ) (table : JobTable) (w : Verdict) (now then : Past)
+      → ring ≡ get_or s (t - 1) ring → m ≡ taken (verdict_by x.judged) → slice_get ring.waiting 0 ≡ Some first → later ≡ advanced ring m
+      → u ≡ get_or fields.in_use (t - 1) u → y ≡ record u { cids = u.cids ++ x.cids }
+      → write ≡ write_blocks (fetched_ticket past t (verdict_by x.judged)) → read ≡ read_first x.judged → job ≡ first_job t x first write read
+      → table ≡ record j { jobs = j.jobs ++ record { ticket = n + 1; job = job } ∷ [] } → w ≡ verdict_by x.judged → now ≡ past → then ≡ Entry.Fetch (record { queue = t; ticket = n + 1; verdict = w }) ∷ now
+      → IsKept c then (record fields { submission = set s (t - 1) later; in_use = set fields.in_use (t - 1) y; jobs = table; tickets = n + 1 })
+  fetch_kept first write read job ring later u y m table w now then there is front moved used more wrote room made put says same pushed =
       let line = fetch_line past t x in
       let e : Past = Entry.Fetch line ∷ past in
       let h : then ≡ e = pushed ∙ (λ i. Entry.Fetch (record { queue = t; ticket = k.count i + 1; verdict = says i }) ∷ same i) in
       let place = queue_place in
-      let kept : IsKept c e v (set s (t - 1) later) q table r (n + 1) = record {
+      let all : CoreFields = record fields { submission = set s (t - 1) later; in_use = set fields.in_use (t - 1) y; jobs = table; tickets = n + 1 } in
+      let kept : IsKept c e all = record {
         accepted = k.accepted;
         volume = IsTable-same (medium past) (medium e) c.blocks v k.volume (λ l. refl);
         submission = IsTable-set (λ i. submission_ring c past (suc i)) (λ i. submission_ring c e (suc i)) c.pairs (t - 1) s later k.submission place.1
             (ring_after ring later m there is moved ∙ ap (submission_ring c e) (sym place.0))
             (λ i apart. ring_other c past line (suc i) (λ (on : t ≡ suc i). apart (omega (arith, on))));
+        in_use = used_after u y used more;
         completion = IsTable-same (λ i. completion_ring c past (suc i)) (λ i. completion_ring c e (suc i)) c.cqs q k.completion (λ i. completion_kept c past line (suc i));
-        jobs = table_is job table (job_is first second write read job (commands_are first second ring m there is took) wrote room made) put;
+        jobs = table_is job table (job_is first write read job (waits ring first there front) wrote room made) put;
         held = k.held ∙ ap (λ (gs : List GrantLine). by_ticket (map held_of gs)) (sym (open_kept c past line legal));
         count = ap (λ i. i + 1) k.count;
         run = subst (λ (y : Entry). Kept c (y ∷ past)) (sym entry_is) (stepped c past (Step.Fetch t) k.run a.0);
       } in
-      subst (λ (y : Past). IsKept c y v (set s (t - 1) later) q table r (n + 1)) (sym h) kept
+      subst (λ (y : Past). IsKept c y all) (sym h) kept
 
   -- the step is done, and the answer is the new ticket and its work
-  pub fetch_done : (y : State) (p : ℕ) (room left : Room) (w : Verdict) (now then : Past) (work : TicketWork) (u : AtomicParameters) (kind : Kind) → record { config = c; past = past; promised = p; room = room } ≡ y → w ≡ verdict_by x → now ≡ past
-      → then ≡ Entry.Fetch (record { queue = t; ticket = n + 1; verdict = w }) ∷ now → u ≡ c.atomic → kind ≡ kind_in x → work ≡ record { ticket = n + 1; atomic = u; kind = kind } → TakesRoom (Step.Fetch t) room left
+  pub fetch_done : (y : State) (p : ℕ) (room left : Room) (w : Verdict) (now then : Past) (work : TicketWork) (u : AtomicParameters) (kind : Kind) → record { config = c; past = past; promised = p; room = room } ≡ y → w ≡ verdict_by x.judged → now ≡ past
+      → then ≡ Entry.Fetch (record { queue = t; ticket = n + 1; verdict = w }) ∷ now → u ≡ c.atomic → kind ≡ kind_in x.judged → work ≡ record { ticket = n + 1; atomic = u; kind = kind } → TakesRoom (Step.Fetch t) room left
       → Does y (Step.Fetch t) (Ok (Answer.Fetched work)) (record { config = c; past = then; promised = p; room = left })
   fetch_done y p room left w now then work u kind view says same pushed units does made takes =
       let work_is : work ≡ work_of c (Tickets.tickets past + 1) (fetched_ticket past t (next_verdict c past t)) =
-      made ∙ (λ i. record { ticket = k.count i + 1; atomic = units i; kind = (does ∙ kind_is t x (take (taken (verdict_by x)) (waiting past t)) names) i })
-      ∙ ap (λ (v : Verdict). work_of c (Tickets.tickets past + 1) (fetched_ticket past t v)) a.1.verdict in
+      made ∙ (λ i. record { ticket = k.count i + 1; atomic = units i; kind = (does ∙ kind_is t x.judged (take (taken (verdict_by x.judged)) (waiting past t)) names) i })
+      ∙ ap (λ (v : Verdict). work_of c (Tickets.tickets past + 1) (fetched_ticket past t v)) a.1.judged.verdict in
       let past_is : then ≡ next_entry c past (Step.Fetch t) ∷ past =
       pushed ∙ (λ i. Entry.Fetch (record { queue = t; ticket = k.count i + 1; verdict = says i }) ∷ same i) ∙ ap (λ (e : Entry). e ∷ past) entry_is in
       subst (λ (z : State). Does z (Step.Fetch t) (Ok (Answer.Fetched work)) (record { config = c; past = then; promised = p; room = left })) view

@@ -1,11 +1,11 @@
 -- The job and the work of a ticket that was just fetched.
-use Rattle.std.proofs.Common.{◌≡◌, ℕ, ◌+◌, ◌-◌, ◌*◌, ◌≤◌, Bool, true, false, cond, List, [], replicate, Option, Some, None, is_some, refl, sym, ap, ap₂, ◌∙◌, inl, inr, arith}
+use Rattle.std.proofs.Common.{◌≡◌, ℕ, ◌+◌, ◌-◌, ◌*◌, ◌≤◌, Bool, true, false, cond, List, [], replicate, Some, None, is_some, refl, sym, ap, ap₂, ◌∙◌, inl, inr, arith}
 use Rattle.nvme_model.specs.Cells.{pair_fits}
 use Rattle.nvme_model.specs.Commands.{is_compare, is_read, is_write, is_write_zeroes}
 use Rattle.nvme_model.specs.EntryBytes.{Sqe, blocks, slba}
 use Rattle.nvme_model.specs.Operations.{has_compare, is_pair, op, op_of_fields}
 use Rattle.ticket_standing.specs.Standing.{fresh}
-use Rattle.nvme_model.specs.Tickets.{Ticket, cids, first_fields}
+use Rattle.nvme_model.specs.Tickets.{Ticket, cids, command, first_fields}
 use Rattle.nvme_model.specs.declared.array.Range.{Range}
 use Rattle.nvme_model.specs.declared.config.AtomicParameters.{AtomicParameters}
 use Rattle.nvme_model.specs.declared.config.ConfigNumbers.{ConfigNumbers}
@@ -19,7 +19,8 @@ use Rattle.fused_match.specs.declared.judged.Judged.{Judged}
 use Rattle.fused_match.specs.declared.judged.Judged.TheVariants as judged
 use Rattle.ticket_course.specs.Stages.{IsSound, commands_in}
 use Rattle.ticket_course.proofs.Fetched.{fetched}
-use Rattle.step_core.specs.Fetches.{commands_of, first_job, kind_in, read_first}
+use Rattle.step_core.specs.Fetches.{first_job, kind_in, read_first}
+use Rattle.step_core.specs.declared.machine.fetch.Front.{Front}
 use Rattle.step_core.specs.Fields.{job_by, read_bytes_by, write_blocks}
 use Rattle.step_core.specs.State.{kind_by, kind_of, ticket_range}
 use Rattle.step_core.specs.Works.{IsKind}
@@ -131,17 +132,18 @@ read_is q (judged.Failed s) cs h = refl
 read_is q (judged.FailedPair s r) cs h = refl
 
 -- the job that is made is that of a ticket that has begun nothing
-pub fresh_job : (c : ConfigNumbers) (q : ℕ) (j : Judged) (first : Submission) (second : Option Submission) (write : List (List ℕ)) (read : List ℕ) → Names j (ticket_by q j (commands_of first second))
-    → write ≡ write_blocks (ticket_by q j (commands_of first second)) → read ≡ read_first j → first_job q j first second write read ≡ job_by c (fresh (ticket_by q j (commands_of first second)))
+pub fresh_job : (c : ConfigNumbers) (q : ℕ) (f : Front) (cs : List Submission) (first : Submission) (write : List (List ℕ)) (read : List ℕ) → Names f.judged (ticket_by q f.judged cs)
+    → f.cids ≡ cids (ticket_by q f.judged cs) → f.slba ≡ slba (first_fields (ticket_by q f.judged cs)) → first ≡ command (ticket_by q f.judged cs) 0
+    → write ≡ write_blocks (ticket_by q f.judged cs) → read ≡ read_first f.judged → first_job q f first write read ≡ job_by c (fresh (ticket_by q f.judged cs))
 unfolding job_by
-fresh_job c q j first second write read h wrote room =
-    let k = ticket_by q j (commands_of first second) in
+fresh_job c q f cs first write read h ids start front wrote room =
+    let k = ticket_by q f.judged cs in
     let e = h.operation in
     (λ i. record {
       queue = q;
-      course = record { stage = sym (fetched c k j refl h.operation h.range) i; cids = cids k };
-      slba = slba (first_fields k);
-      compare = ap (λ o. cond (has_compare o) first.payload []) e i;
+      course = record { stage = sym (fetched c k f.judged refl h.operation h.range) i; cids = ids i };
+      slba = start i;
+      compare = cond (has_compare (e i)) (front i).payload [];
       write = (wrote ∙ sym (fresh_blocks c k)) i;
-      read = (room ∙ read_is q j (commands_of first second) h) i;
+      read = (room ∙ read_is q f.judged cs h) i;
     })

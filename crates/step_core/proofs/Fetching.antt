@@ -4,13 +4,13 @@ use Rattle.std.proofs.lemmas.Bool.{or_parts}
 use Rattle.std.proofs.lemmas.Bool.Decides.{nat_tests}
 use Rattle.std.proofs.lemmas.List.{length-drop}
 use Rattle.nvme_model.specs.Config.{config_fault, config_faults}
-use Rattle.nvme_model.specs.EntryBytes.{sqe_fields}
+use Rattle.nvme_model.specs.EntryBytes.{slba, sqe_fields}
 use Rattle.nvme_model.specs.History.{Past}
 use Rattle.nvme_model.specs.Operations.{op_by}
 use Rattle.nvme_model.specs.Queues.{fetched, published, waiting}
 use Rattle.nvme_model.specs.Refusals.{jobs_full, no_queue, refusal}
 use Rattle.ticket_standing.specs.Standing.{flying}
-use Rattle.nvme_model.specs.Tickets.{cids_in_use, command, first_fields}
+use Rattle.nvme_model.specs.Tickets.{cids_in_use, command}
 use Rattle.nvme_model.specs.Verdict.{Item, item_of, taken, verdict_of}
 use Rattle.nvme_model.specs.declared.config.AtomicParameters.{AtomicParameters}
 use Rattle.nvme_model.specs.declared.config.ConfigNumbers.{ConfigNumbers}
@@ -21,17 +21,17 @@ use Rattle.nvme_model.specs.declared.submission.Submission.{Submission}
 use Rattle.ticket_standing.proofs.Counts.{flying_count}
 use Rattle.ticket_standing.proofs.InUse.{verdict_same}
 use Rattle.nvme_model.proofs.Rules.{none_holds}
+use Rattle.cids_in_use.specs.Used.{UsedCids}
 use Rattle.fused_match.specs.Judged.{NamesBlocks, operation_in, verdict_by, waiting_items}
 use Rattle.fused_match.specs.declared.judged.Judged.{Judged}
 use Rattle.job_table.specs.Jobs.{JobTable}
 use Rattle.job_table.proofs.Tables.{length-jobs_by}
-use Rattle.range_reserve.specs.declared.held.Held.{Held}
-use Rattle.rings.specs.Completions.{CompletionRing}
 use Rattle.rings.specs.Submissions.{SubmissionRing}
-use Rattle.step_core.specs.Fetches.{IsJudged, cids_on}
-use Rattle.step_core.specs.Fields.{job_at, job_table, submission_ring}
-use Rattle.step_core.specs.Kept.{IsKept, IsSqRing}
-use Rattle.step_core.proofs.CidsInUse.{in_use_same}
+use Rattle.step_core.specs.Fetches.{IsFront, cids_taken}
+use Rattle.step_core.specs.declared.machine.fetch.Front.{Front}
+use Rattle.step_core.specs.Fields.{job_at, submission_ring}
+use Rattle.step_core.specs.Kept.{AreUsed, CoreFields, IsKept, IsSqRing}
+use Rattle.step_core.proofs.InUse.{same_in}
 
 -- ---- the limits of a configuration
 
@@ -46,9 +46,10 @@ le_is_eq : (a b : ℕ) → a ≤ b → (a == b) ≡ nat_le b a
 le_is_eq a b l = grind (arith, nat_tests)
 
 -- the table is full where as many tickets are in flight as may be
-pub full_is : (c : ConfigNumbers) (past : Past) (v : List (List ℕ)) (s : List SubmissionRing) (q : List CompletionRing) (j : JobTable) (r : List Held) (n : ℕ) → IsKept c past v s q j r n
-    → length j.jobs ≤ j.limit → (length j.jobs == j.limit) ≡ jobs_full c past
-full_is c past v s q j r n k most =
+pub full_is : (c : ConfigNumbers) (past : Past) (fields : CoreFields) → IsKept c past fields
+    → length fields.jobs.jobs ≤ fields.jobs.limit → (length fields.jobs.jobs == fields.jobs.limit) ≡ jobs_full c past
+full_is c past fields k most =
+    let j = fields.jobs in
     let count = ap (λ (x : JobTable). length x.jobs) k.jobs ∙ length-jobs_by (job_at c past) (flying past) ∙ flying_count past in
     le_is_eq (length j.jobs) j.limit most ∙ ap₂ (λ (m n : ℕ). nat_le m n) (ap (λ (x : JobTable). x.limit) k.jobs) count
 
@@ -104,9 +105,10 @@ front_verdict u size in_use (x ∷ (y ∷ ws)) first e = ap (λ (s : Submission)
     some_inj h = cc
 
 -- the first command of those that are taken
-front_fields : (ws : List Submission) (q : ℕ) (v : Verdict) (first : Submission) → slice_get ws 0 ≡ Some first → sqe_fields first.entry ≡ first_fields (record { queue = q; commands = take (taken v) ws; verdict = v })
-front_fields [] q v first e = absurd cc
-front_fields (x ∷ ws) q v first e = ap (λ (s : Submission). sqe_fields s.entry) (by v)
+pub front_command : (ws : List Submission) (q : ℕ) (v : Verdict) (first : Submission) → slice_get ws 0 ≡ Some first
+    → first ≡ command (record { queue = q; commands = take (taken v) ws; verdict = v }) 0
+front_command [] q v first e = absurd cc
+front_command (x ∷ ws) q v first e = by v
   where
     some_inj : Some x ≡ Some first → first ≡ x
     some_inj h = cc
@@ -117,20 +119,62 @@ front_fields (x ∷ ws) q v first e = ap (λ (s : Submission). sqe_fields s.entr
     by Verdict.Pair = some_inj e
     by (Verdict.PairFailed s t) = some_inj e
 
--- what was found at the front of the ring is what becomes of the entries
-pub judged_is : (c : ConfigNumbers) (past : Past) (q : ℕ) (r : SubmissionRing) (j : JobTable) (x : Judged) (first : Submission) (next : Option Item) → IsSqRing c past q r → j ≡ job_table c past
-    → slice_get r.waiting 0 ≡ Some first → next ≡ option_map item_of (slice_get r.waiting 1) → verdict_by x ≡ verdict_of c.atomic c.blocks (cids_on q j.jobs) (waiting_items (item_of first) next)
-    → operation_in x ≡ op_by (verdict_by x) (sqe_fields first.entry) → NamesBlocks x (sqe_fields first.entry) → IsJudged c past q x
+-- the CIDs of those that are taken, where two are looked at
+front_cids : (ws : List Submission) (j : Judged) (first : Submission) → slice_get ws 0 ≡ Some first
+    → cids_taken j (item_of first) (option_map item_of (slice_get ws 1)) ≡ map (λ s. (sqe_fields s.entry).cid) (take (taken (verdict_by j)) ws)
+front_cids [] j first e = absurd cc
+front_cids (x ∷ []) j first e = by (verdict_by j)
+  where
+    some_inj : Some x ≡ Some first → first ≡ x
+    some_inj h = cc
+
+    same : (sqe_fields first.entry).cid ≡ (sqe_fields x.entry).cid
+    same = ap (λ (s : Submission). (sqe_fields s.entry).cid) (some_inj e)
+
+    by : (v : Verdict) → map (λ (i : Item). i.fields.cid) (take (taken v) (item_of first ∷ [])) ≡ map (λ (s : Submission). (sqe_fields s.entry).cid) (take (taken v) (x ∷ []))
+    by Verdict.Single = ap (λ n. n ∷ []) same
+    by (Verdict.SingleFailed s) = ap (λ n. n ∷ []) same
+    by Verdict.Pair = ap (λ n. n ∷ []) same
+    by (Verdict.PairFailed s t) = ap (λ n. n ∷ []) same
+front_cids (x ∷ (y ∷ ws)) j first e = by (verdict_by j)
+  where
+    some_inj : Some x ≡ Some first → first ≡ x
+    some_inj h = cc
+
+    same : (sqe_fields first.entry).cid ≡ (sqe_fields x.entry).cid
+    same = ap (λ (s : Submission). (sqe_fields s.entry).cid) (some_inj e)
+
+    by : (v : Verdict) → map (λ (i : Item). i.fields.cid) (take (taken v) (item_of first ∷ item_of y ∷ [])) ≡ map (λ (s : Submission). (sqe_fields s.entry).cid) (take (taken v) (x ∷ y ∷ ws))
+    by Verdict.Single = ap (λ n. n ∷ []) same
+    by (Verdict.SingleFailed s) = ap (λ n. n ∷ []) same
+    by Verdict.Pair = ap (λ n. n ∷ (sqe_fields y.entry).cid ∷ []) same
+    by (Verdict.PairFailed s t) = ap (λ n. n ∷ (sqe_fields y.entry).cid ∷ []) same
+
+-- what was found at the front of the ring is what a Fetch finds
+pub front_is : (c : ConfigNumbers) (past : Past) (q : ℕ) (r : SubmissionRing) (f : Front) (first : Submission) (second : Option Item) → IsSqRing c past q r
+    → slice_get r.waiting 0 ≡ Some first → second ≡ option_map item_of (slice_get r.waiting 1)
+    → verdict_by f.judged ≡ verdict_of c.atomic c.blocks (cids_in_use past q) (waiting_items (item_of first) second)
+    → operation_in f.judged ≡ op_by (verdict_by f.judged) (sqe_fields first.entry) → NamesBlocks f.judged (sqe_fields first.entry)
+    → f.cids ≡ cids_taken f.judged (item_of first) second → f.slba ≡ slba (sqe_fields first.entry) → IsFront c past q f
 unfolding submission_ring
-judged_is c past q r j x first next s table there behind verdict operation range =
+front_is c past q r f first second s there behind verdict operation range ids start =
     let waits : r.waiting ≡ waiting past q = ap (λ (y : SubmissionRing). y.waiting) s.is in
     let front : slice_get (waiting past q) 0 ≡ Some first = ap (λ (ws : List Submission). slice_get ws 0) (sym waits) ∙ there in
-    let second : next ≡ option_map item_of (slice_get (waiting past q) 1) = behind ∙ ap (λ (ws : List Submission). option_map item_of (slice_get ws 1)) waits in
-    let names = front_fields (waiting past q) q (verdict_by x) first front in
+    let next : second ≡ option_map item_of (slice_get (waiting past q) 1) = behind ∙ ap (λ (ws : List Submission). option_map item_of (slice_get ws 1)) waits in
+    let names = ap (λ (x : Submission). sqe_fields x.entry) (front_command (waiting past q) q (verdict_by f.judged) first front) in
     record {
-      verdict = verdict ∙ ap₂ (λ (y : JobTable) (o : Option Item). verdict_of c.atomic c.blocks (cids_on q y.jobs) (waiting_items (item_of first) o)) table second
-          ∙ verdict_same c.atomic c.blocks _ (cids_in_use past q) (waiting_items (item_of first) (option_map item_of (slice_get (waiting past q) 1))) (in_use_same c past q)
-          ∙ front_verdict c.atomic c.blocks (cids_in_use past q) (waiting past q) first front;
-      operation = operation ∙ ap (op_by (verdict_by x)) names;
-      range = subst (NamesBlocks x) names range;
+      judged = record {
+        verdict = verdict ∙ ap (λ (o : Option Item). verdict_of c.atomic c.blocks (cids_in_use past q) (waiting_items (item_of first) o)) next
+            ∙ front_verdict c.atomic c.blocks (cids_in_use past q) (waiting past q) first front;
+        operation = operation ∙ ap (op_by (verdict_by f.judged)) names;
+        range = subst (NamesBlocks f.judged) names range;
+      };
+      cids = ids ∙ ap (cids_taken f.judged (item_of first)) next ∙ front_cids (waiting past q) f.judged first front;
+      slba = start ∙ ap slba names;
     }
+
+-- what is judged by the CIDs that are kept of a queue is judged by those in use
+pub judged_by : (c : ConfigNumbers) (past : Past) (q : ℕ) (u : UsedCids) (j : Judged) (a : AtomicParameters) (size : ℕ) (cids : List ℕ) (items : List Item) → AreUsed c past q u → cids ≡ u.cids
+    → a ≡ c.atomic → size ≡ c.blocks → verdict_by j ≡ verdict_of a size cids items → verdict_by j ≡ verdict_of c.atomic c.blocks (cids_in_use past q) items
+judged_by c past q u j a size cids items used is units blocks e =
+    e ∙ (λ i. verdict_of (units i) (blocks i) (is i) items) ∙ verdict_same c.atomic c.blocks u.cids (cids_in_use past q) items (same_in u.cids (cids_in_use past q) used.cids)

@@ -1,5 +1,5 @@
 -- A Grant that isn't refused: what the calls that make it require, and the fields after it.
-use Rattle.std.proofs.Common.{◌≡◌, ℕ, zero, suc, ◌+◌, true, false, cond, List, ◌∷◌, drop, map, option_map, refl, sym, ap, ◌∙◌, subst, Option, Some, None, is_some, is_ok, inl, inr, Result, Ok, Err, slice_get, ◌==◌, ◌⊎◌}
+use Rattle.std.proofs.Common.{◌≡◌, ℕ, zero, suc, true, false, cond, List, ◌∷◌, drop, map, option_map, refl, sym, ap, ◌∙◌, subst, Option, Some, None, is_some, is_ok, inl, inr, Result, Ok, Err, slice_get, ◌==◌, ◌⊎◌}
 use Rattle.std.specs.Prelude.{IfErr}
 use Rattle.std.proofs.lemmas.Bool.{or_parts}
 use Rattle.nvme_model.specs.declared.array.Range.{Range}
@@ -41,7 +41,8 @@ use Rattle.ticket_course.specs.declared.course.Stage.{Stage}
 use Rattle.ticket_course.proofs.Granted.{granted, none_found}
 use Rattle.ticket_course.proofs.Waits.{Waits, first_of, opens}
 use Rattle.step_core.specs.Fields.{compare_bytes, completion_ring, job_at, job_by, read_bytes_by, still_written, submission_ring}
-use Rattle.step_core.specs.Kept.{IsKept}
+use Rattle.step_core.proofs.InUse.{used_same}
+use Rattle.step_core.specs.Kept.{CoreFields, IsKept}
 use Rattle.step_core.specs.Ready.{IsNext}
 use Rattle.step_core.specs.declared.machine.next.Next.{Next}
 use Rattle.step_core.proofs.Bounds.{unit_range_is}
@@ -96,7 +97,25 @@ units_of_op u (Some o) s n i r e = refl
 units_of_op u None s n zero r e = absurd (let f : None ≡ Some r = e in cc)
 units_of_op u None s n (suc i) r e = absurd (let f : None ≡ Some r = e in cc)
 
-module _ (c : ConfigNumbers) (past : Past) (v : List (List ℕ)) (s : List SubmissionRing) (q : List CompletionRing) (j : JobTable) (r : List Held) (n : ℕ) (k : IsKept c past v s q j r n) (g : GrantLine) (a : IsNext c past (Next.Grant g)) where
+module _ (c : ConfigNumbers) (past : Past) (fields : CoreFields) (k : IsKept c past fields) (g : GrantLine) (a : IsNext c past (Next.Grant g)) where
+  abbrev v : List (List ℕ)
+  v = fields.volume
+
+  abbrev s : List SubmissionRing
+  s = fields.submission
+
+  abbrev q : List CompletionRing
+  q = fields.completion
+
+  abbrev j : JobTable
+  j = fields.jobs
+
+  abbrev r : List Held
+  r = fields.held
+
+  abbrev n : ℕ
+  n = fields.tickets
+
   legal : IsLegal c (Entry.Grant g ∷ past)
   legal = legal_after c past (Step.Grant g.ticket) (Entry.Grant g) k.run a.0 a.1
 
@@ -173,13 +192,14 @@ module _ (c : ConfigNumbers) (past : Past) (v : List (List ℕ)) (s : List Submi
 
     -- the fields after it
     pub kept : (h past' : Past) (y : Keeping) (r' : List Held) → h ≡ past → past' ≡ Entry.Grant g ∷ h → y ≡ opened_job x g.range → r' ≡ insert_held (record { ticket = g.ticket; range = g.range; mode = g.mode }) r
-        → IsKept c past' v s q (record { limit = j.limit; jobs = replaced j.jobs g.ticket y }) r' n
+        → IsKept c past' (record fields { jobs = record { limit = j.limit; jobs = replaced j.jobs g.ticket y }; held = r' })
     kept h past' y r' same_past is_past is_y is_r =
-        subst (λ (p : Past). IsKept c p v s q (record { limit = j.limit; jobs = replaced j.jobs g.ticket y }) r' n) (sym (is_past ∙ ap (λ (w : Past). Entry.Grant g ∷ w) same_past))
+        subst (λ (p : Past). IsKept c p (record fields { jobs = record { limit = j.limit; jobs = replaced j.jobs g.ticket y }; held = r' })) (sym (is_past ∙ ap (λ (w : Past). Entry.Grant g ∷ w) same_past))
         (record {
           accepted = k.accepted;
           volume = IsTable-same (medium past) (medium (Entry.Grant g ∷ past)) c.blocks v k.volume (λ l. refl);
           submission = IsTable-same (λ i. submission_ring c past (suc i)) (λ i. submission_ring c (Entry.Grant g ∷ past) (suc i)) c.pairs s k.submission (λ i. submission_kept c past g (suc i));
+          in_use = used_same c past (Entry.Grant g ∷ past) fields.in_use k.in_use (λ i p. refl);
           completion = IsTable-same (λ i. completion_ring c past (suc i)) (λ i. completion_ring c (Entry.Grant g ∷ past) (suc i)) c.cqs q k.completion (λ i. completion_kept c past g (suc i));
           jobs =
               (λ z. record { limit = (k.jobs z).limit; jobs = replaced (k.jobs z).jobs g.ticket ((is_y ∙ own) z) })

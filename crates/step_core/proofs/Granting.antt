@@ -20,23 +20,20 @@ use Rattle.range_reserve.specs.Reserved.{has_conflict, held_of}
 use Rattle.range_reserve.specs.declared.held.Held.{Held}
 use Rattle.range_reserve.proofs.Granted.{has_conflict-map}
 use Rattle.range_reserve.proofs.Rising.{list_any-by_ticket}
-use Rattle.rings.specs.Completions.{CompletionRing}
-use Rattle.rings.specs.Submissions.{SubmissionRing}
-use Rattle.job_table.specs.Jobs.{JobTable}
 use Rattle.job_table.specs.Keeping.{Keeping}
 use Rattle.ticket_course.specs.Shown.{stage_of}
 use Rattle.ticket_course.specs.Stages.{mode_in, next_in, unit_in}
 use Rattle.ticket_course.specs.declared.course.Stage.TheVariants.{Waiting}
 use Rattle.ticket_course.proofs.Waits.{Waits, no_next, waits}
 use Rattle.step_core.specs.Fields.{job_by}
-use Rattle.step_core.specs.Kept.{IsJob, IsKept}
+use Rattle.step_core.specs.Kept.{CoreFields, IsJob, IsKept}
 use Rattle.step_core.specs.State.{Room, State}
 use Rattle.step_core.proofs.Bounds.{left_short}
 
 -- what is kept is so of the value that contracts see
-pub seen : (c : ConfigNumbers) (past : Past) (p : ℕ) {w : Room} (x : State) (v : List (List ℕ)) (s : List SubmissionRing) (q : List CompletionRing) (j : JobTable) (r : List Held) (n : ℕ) → record { config = c; past = past; promised = p; room = w } ≡ x
-    → IsKept c past v s q j r n → IsKept x.config x.past v s q j r n
-seen c past p x v s q j r n e k = subst (λ (y : State). IsKept y.config y.past v s q j r n) e k
+pub seen : (c : ConfigNumbers) (past : Past) (p : ℕ) {w : Room} (x : State) (fields : CoreFields) → record { config = c; past = past; promised = p; room = w } ≡ x
+    → IsKept c past fields → IsKept x.config x.past fields
+seen c past p x fields e k = subst (λ (y : State). IsKept y.config y.past fields) e k
 
 -- ---- what is kept of the open unit
 
@@ -68,7 +65,10 @@ unit_open past t =
 abbrev grant_tests : Bool → Bool → Bool → Option Why
 grant_tests flies wrong apart = cond (not flies) (Some Why.NoTicket) (cond wrong (Some Why.WrongState) (cond apart (Some Why.Conflict) None))
 
-module _ (c : ConfigNumbers) (past : Past) (v : List (List ℕ)) (s : List SubmissionRing) (q : List CompletionRing) (j : JobTable) (r : List Held) (n : ℕ) (k : IsKept c past v s q j r n) (t : ℕ) (x : Keeping) (i : IsJob c past t x) where
+module _ (c : ConfigNumbers) (past : Past) (fields : CoreFields) (k : IsKept c past fields) (t : ℕ) (x : Keeping) (i : IsJob c past t x) where
+  abbrev r : List Held
+  r = fields.held
+
   stage_is : x.course.stage ≡ stage_of c (standing past t)
   stage_is = ap (λ (y : Keeping). y.course.stage) i.is ∙ job_stage c (standing past t)
 

@@ -4,7 +4,7 @@ pub mod Lookups
 pub mod Accepted
 pub mod Beginning
 pub mod Publishing
-pub mod CidsInUse
+pub mod InUse
 pub mod Fetching
 pub mod Bounds
 pub mod Granting
@@ -29,4 +29,3 @@ pub mod Reaping
 pub mod Next
 pub mod Whole
 pub mod OneAtATime
-mod Filing

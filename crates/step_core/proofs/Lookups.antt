@@ -5,7 +5,6 @@ use Rattle.nvme_model.specs.declared.config.ConfigNumbers.{ConfigNumbers}
 use Rattle.nvme_model.specs.History.{Past}
 use Rattle.nvme_model.specs.Tickets.{in_flight, tickets}
 use Rattle.ticket_standing.specs.Standing.{flying, rising}
-use Rattle.range_reserve.specs.declared.held.Held.{Held}
 use Rattle.rings.specs.Completions.{CompletionRing}
 use Rattle.rings.specs.Submissions.{SubmissionRing}
 use Rattle.job_table.specs.Jobs.{JobTable, job_of}
@@ -17,7 +16,7 @@ use Rattle.std.proofs.lemmas.Bool.Decides.{nat_tests}
 use Rattle.ticket_standing.proofs.Counts.{fetched_within}
 use Rattle.nvme_model.proofs.Runs.{reaped_posted}
 use Rattle.step_core.specs.Fields.{completion_ring, job_at, submission_ring}
-use Rattle.step_core.specs.Kept.{IsCqRing, IsJob, IsKept, IsSqRing}
+use Rattle.step_core.specs.Kept.{CoreFields, IsCqRing, IsJob, IsKept, IsSqRing}
 use Rattle.step_core.proofs.Moves.{job_found}
 
 -- what is among those that pass passes
@@ -47,7 +46,16 @@ there_if q n a b = or_from _ _ (ne_eqb q 0 a) (le_not_lt q n b)
     le_not_lt : (q n : ℕ) → q ≤ n → nat_lt n q ≡ false
     le_not_lt q n l = grind (arith, nat_tests)
 
-module _ (c : ConfigNumbers) (past : Past) (v : List (List ℕ)) (s : List SubmissionRing) (q : List CompletionRing) (j : JobTable) (r : List Held) (n : ℕ) (k : IsKept c past v s q j r n) where
+module _ (c : ConfigNumbers) (past : Past) (fields : CoreFields) (k : IsKept c past fields) where
+  abbrev s : List SubmissionRing
+  s = fields.submission
+
+  abbrev q : List CompletionRing
+  q = fields.completion
+
+  abbrev j : JobTable
+  j = fields.jobs
+
   found : (t : ℕ) → job_of j.jobs t ≡ cond (in_flight past t) (Some (job_at c past t)) None
   found t = ap (λ (x : JobTable). job_of x.jobs t) k.jobs ∙ job_found c past t k.run.legal
 

@@ -1,5 +1,5 @@
 -- What a Post leaves.
-use Rattle.std.proofs.Common.{◌≡◌, ◌≢◌, ℕ, suc, ◌+◌, ◌-◌, ◌%◌, ◌≤◌, ◌<◌, Bool, true, false, cond, List, [], ◌∷◌, length, get_or, set, slice_get, Option, Some, None, refl, sym, ap, ◌∙◌, subst, arith, inl, inr, eqb, eq-eqb, ltb-true, ltb-false, ne_eqb, nat_lt, is_none}
+use Rattle.std.proofs.Common.{◌≡◌, ◌≢◌, ℕ, zero, suc, drop, ◌+◌, ◌-◌, ◌%◌, ◌≤◌, ◌<◌, Bool, true, false, cond, List, [], ◌∷◌, length, get_or, set, slice_get, Option, Some, None, refl, sym, ap, ◌∙◌, subst, arith, inl, inr, eqb, eq-eqb, ltb-true, ltb-false, ne_eqb, nat_lt, is_none}
 use Rattle.std.proofs.lemmas.Bool.{cases_eq, or_parts}
 use Rattle.std.proofs.lemmas.List.{length-drop, length-map}
 use Rattle.std.proofs.Math.Nat.{mod-lt}
@@ -14,7 +14,7 @@ use Rattle.nvme_model.specs.Config.{completion_queue, config_fault, config_fault
 use Rattle.nvme_model.specs.EntryBytes.{sqe_fields}
 use Rattle.nvme_model.specs.History.{Past}
 use Rattle.nvme_model.specs.Tickets
-use Rattle.nvme_model.specs.Tickets.{Ticket, cids, first_fields, in_flight, posts_of}
+use Rattle.nvme_model.specs.Tickets.{Ticket, cids, cids_in_use, first_fields, in_flight, posts_of}
 use Rattle.nvme_model.specs.Operations.{op, op_by}
 use Rattle.nvme_model.specs.Completions.{posted, reaped}
 use Rattle.nvme_model.specs.Refusals.{conditions}
@@ -35,13 +35,18 @@ use Rattle.ticket_course.specs.Stages.{owed_in}
 use Rattle.ticket_course.proofs.Owes.{owes as stage_owes}
 use Rattle.job_table.proofs.Tables.{has_ticket-jobs_by}
 use Rattle.step_core.specs.Fields.{completion_ring, job_at, job_by, read_bytes_by, submission_ring}
-use Rattle.step_core.specs.Kept.{IsKept}
+use Rattle.step_core.specs.Kept.{AreInUse, AreUsed, CoreFields, IsKept}
 use Rattle.step_core.specs.Ready.{IsNext}
 use Rattle.step_core.specs.declared.machine.next.Next.{Next}
 use Rattle.step_core.specs.declared.machine.post.Due.{Due}
 use Rattle.step_core.proofs.Moves.{job_found, stepped}
 use Rattle.step_core.proofs.Tables.{IsTable-same, IsTable-set}
-use Rattle.step_core.proofs.Posting.{cqs_some, due_full}
+use Rattle.step_core.proofs.Posting.{cqs_some, due_full, flies_some, queue_there, ticket_queue}
+use Rattle.step_core.proofs.InUse.{count_cons, is_among, one_less, posted_count, ticket_zero, used_set}
+use Rattle.nvme_model.proofs.Apart.{fetched_if}
+use Rattle.cids_in_use.specs.Used.{UsedCids, is_used}
+use Rattle.std.specs.List.{count_by}
+use Rattle.std.specs.List.Sorted.{IsPermutation}
 use Rattle.step_core.proofs.PostedRing.{post_ring, post_ring_other}
 use Rattle.step_core.proofs.PostedJob.{posted_table, posted_table_is}
 use Rattle.step_core.proofs.PostedData.{data_is}
@@ -103,8 +108,26 @@ pub only_reads : (c : ConfigNumbers) (past : Past) (t : ℕ) → (job_at c past 
 unfolding job_by
 only_reads c past t some = reads_by (op (Tickets.ticket past t)) (Tickets.ticket past t) _ some
 
-module _ (c : ConfigNumbers) (past : Past) (v : List (List ℕ)) (s : List SubmissionRing) (q : List CompletionRing) (j : JobTable) (r : List Held) (n : ℕ) (k : IsKept c past v s q j r n)
+module _ (c : ConfigNumbers) (past : Past) (fields : CoreFields) (k : IsKept c past fields)
     (d : Due) (post : IsNext c past (Next.Post d)) where
+  abbrev v : List (List ℕ)
+  v = fields.volume
+
+  abbrev s : List SubmissionRing
+  s = fields.submission
+
+  abbrev q : List CompletionRing
+  q = fields.completion
+
+  abbrev j : JobTable
+  j = fields.jobs
+
+  abbrev r : List Held
+  r = fields.held
+
+  abbrev n : ℕ
+  n = fields.tickets
+
   flies : in_flight past d.ticket ≡ true
   flies = not_flying _ (none_holds (conditions c past (Step.Post d.ticket)) (ap is_none post.0)).0
 
@@ -173,7 +196,7 @@ module _ (c : ConfigNumbers) (past : Past) (v : List (List ℕ)) (s : List Submi
 
   -- ---- the entry
 
-  post_line : List ℕ → PostLine
+  abbrev post_line : List ℕ → PostLine
   post_line copy = record { ticket = d.ticket; cqe = d.cqe; payload = copy }
 
   pub post_entry_is : (copy : List ℕ) → copy ≡ (job_at c past d.ticket).read → Entry.Post (record { ticket = d.ticket; cqe = d.cqe; payload = copy }) ≡ next_entry c past (Step.Post d.ticket)
@@ -219,20 +242,88 @@ module _ (c : ConfigNumbers) (past : Past) (v : List (List ℕ)) (s : List Submi
             (λ i. record { limit = limit i; jobs = more f (job_at c past d.ticket) is_there i })
             ∙ ap (λ b. cond b (record j { jobs = jobs_beside j.jobs d.ticket }) (record j { jobs = replaced j.jobs d.ticket (posted_job (job_at c past d.ticket)) })) (sym e)
 
-  pub post_keeps : (x x' : CompletionRing) (copy payload : List ℕ) (j' : JobTable) (past' : Past) → x ≡ get_or q (d.queue - 1) x → copy ≡ (job_at c past d.ticket).read → payload ≡ copy
+  -- ---- the CIDs in use
+
+  -- the queue that it came from
+  pub from_there : (1 ≤ d.from) × (d.from ≤ c.pairs)
+  from_there =
+      let queue = queue_there c (Tickets.ticket past d.ticket).queue (ticket_queue c past d.ticket k.run.legal (flies_some past d.ticket flies)) in
+      (omega (arith, queue.low, post.1.from), omega (arith, queue.high, post.1.from))
+
+  pub from_place : d.from - 1 < length fields.in_use
+  from_place = omega (arith, from_there.0, from_there.1, k.in_use.size)
+
+  own_used : (u : UsedCids) → u ≡ get_or fields.in_use (d.from - 1) u → AreUsed c past d.from u
+  own_used u e =
+      subst (λ (m : ℕ). AreUsed c past m u) (let one : suc (d.from - 1) ≡ d.from = omega (arith, from_there.0) in one)
+      (subst (AreUsed c past (suc (d.from - 1))) (sym e) (k.in_use.at (d.from - 1) u (omega (arith, from_there.0, from_there.1))))
+
+  next_cid : slice_get (drop (posts_of past d.ticket) (cids (Tickets.ticket past d.ticket))) 0 ≡ Some d.cid
+  unfolding job_by
+  next_cid = post.1.cid
+
+  some_ticket : 0 < d.ticket
+  some_ticket = above d.ticket flies
+    where
+      above : (t : ℕ) → in_flight past t ≡ true → 0 < t
+      above zero f = absurd (omega (arith, ltb-true _ _ f, ticket_zero c past k.run.legal))
+      above (suc t) f = omega arith
+
+  fewer : (copy : List ℕ) (m : ℕ) (p : ℕ → Bool)
+      → count_by p (cids_in_use past m) ≡ count_by p (cond (eqb (Tickets.ticket past d.ticket).queue m) (d.cid ∷ []) []) + count_by p (cids_in_use (Entry.Post (post_line copy) ∷ past) m)
+  fewer copy m p = posted_count past (post_line copy) d.cid next_cid some_ticket (fetched_if c past d.ticket k.run.legal flies) m p
+
+  one_in : (p : ℕ → Bool) → count_by p (cond (eqb (Tickets.ticket past d.ticket).queue d.from) (d.cid ∷ []) []) ≡ cond (p d.cid) 1 0 + 0
+  one_in p = ap (λ b. count_by p (cond b (d.cid ∷ []) [])) (eq-eqb _ _ (sym post.1.from)) ∙ count_cons p d.cid []
+
+  -- its CID is in use
+  pub uses : (u : UsedCids) → u ≡ get_or fields.in_use (d.from - 1) u → is_used d.cid u.cids ≡ true
+  uses u e =
+      let p : ℕ → Bool = λ x. eqb x d.cid in
+      is_among u d.cid (count_by p (cids_in_use (Entry.Post (post_line []) ∷ past) d.from))
+      (omega (arith, (own_used u e).cids p, fewer [] d.from p, one_in p))
+
+  -- and afterwards once less
+  used_after : (u y : UsedCids) (copy : List ℕ) → u ≡ get_or fields.in_use (d.from - 1) u → IsPermutation u.cids (d.cid ∷ y.cids) → y.room ≡ u.room
+      → AreInUse c (Entry.Post (post_line copy) ∷ past) (set fields.in_use (d.from - 1) y)
+  used_after u y copy e less room = used_set c past (Entry.Post (post_line copy) ∷ past) fields.in_use (d.from - 1) y k.in_use within_from here others
+    where
+      within_from : d.from - 1 < c.pairs
+      within_from = omega (arith, from_there.0, from_there.1)
+
+      own : AreUsed c past d.from u
+      own = own_used u e
+
+      at_from : suc (d.from - 1) ≡ d.from
+      at_from = omega (arith, from_there.0)
+
+      here : AreUsed c (Entry.Post (post_line copy) ∷ past) (suc (d.from - 1)) y
+      here = subst (λ (m : ℕ). AreUsed c (Entry.Post (post_line copy) ∷ past) m y) (sym at_from) (record {
+        cids = λ p. omega (arith, own.cids p, fewer copy d.from p, one_in p, one_less d.cid u.cids y.cids less p);
+        room = room ∙ own.room;
+      })
+
+      others : (i : ℕ) → i ≢ d.from - 1 → (p : ℕ → Bool) → count_by p (cids_in_use (Entry.Post (post_line copy) ∷ past) (suc i)) ≡ count_by p (cids_in_use past (suc i))
+      others i apart p =
+          let off = ap (λ b. count_by p (cond b (d.cid ∷ []) [])) (ne_eqb (Tickets.ticket past d.ticket).queue (suc i) (λ (z : (Tickets.ticket past d.ticket).queue ≡ suc i). apart (omega (arith, z, post.1.from)))) in
+          omega (arith, fewer copy (suc i) p, off)
+
+  pub post_keeps : (x x' : CompletionRing) (u y : UsedCids) (copy payload : List ℕ) (j' : JobTable) (past' : Past) → x ≡ get_or q (d.queue - 1) x → u ≡ get_or fields.in_use (d.from - 1) u
+      → IsPermutation u.cids (d.cid ∷ y.cids) → y.room ≡ u.room → copy ≡ (job_at c past d.ticket).read → payload ≡ copy
       → j' ≡ posted_table j d.ticket (job_at c past d.ticket) → x' ≡ posted_ring x (record { cqe = d.cqe; payload = payload }) → past' ≡ Entry.Post (record { ticket = d.ticket; cqe = d.cqe; payload = copy }) ∷ past
-      → IsKept c past' v s (set q (d.queue - 1) x') j' r n
-  post_keeps x x' copy payload j' past' e f g h l m =
+      → IsKept c past' (record fields { in_use = set fields.in_use (d.from - 1) y; completion = set q (d.queue - 1) x'; jobs = j' })
+  post_keeps x x' u y copy payload j' past' e used less room f g h l m =
       let p : PostLine = record { ticket = d.ticket; cqe = d.cqe; payload = copy } in
       let later : Past = Entry.Post p ∷ past in
       let ring : x' ≡ completion_ring c later (suc (d.queue - 1)) =
       l ∙ (λ i. posted_ring (ring_is x e i) (record { cqe = d.cqe; payload = g i }))
       ∙ post_ring c past p d.queue k.run.legal cq_some (sym post.1.queue)
       ∙ ap (completion_ring c later) (sym suc_is) in
-      subst (λ (w : Past). IsKept c w v s (set q (d.queue - 1) x') j' r n) (sym m) (record {
+      subst (λ (w : Past). IsKept c w (record fields { in_use = set fields.in_use (d.from - 1) y; completion = set q (d.queue - 1) x'; jobs = j' })) (sym m) (record {
         accepted = k.accepted;
         volume = k.volume;
         submission = IsTable-same (λ i. submission_ring c past (suc i)) (λ i. submission_ring c later (suc i)) c.pairs s k.submission (λ i. post_sq_ring c past p (suc i));
+        in_use = used_after u y copy used less room;
         completion = IsTable-set (λ i. completion_ring c past (suc i)) (λ i. completion_ring c later (suc i)) c.cqs (d.queue - 1) q x' k.completion within ring (λ i a. post_ring_other c past p (suc i) (other i a));
         jobs = h ∙ ap (λ (y : JobTable). posted_table y d.ticket (job_at c past d.ticket)) k.jobs ∙ posted_table_is c past p flies some_owed;
         held = k.held;

@@ -29,10 +29,8 @@ use Rattle.entry_codec.specs.declared.cqe.Cqe.{Cqe}
 use Rattle.completions.proofs.CompletionLemmas.{completion_bytes-completion}
 use Rattle.step_core.specs.declared.machine.post.Due.{Due}
 use Rattle.step_core.specs.Fields.{completion_of, completion_ring, job_by, submission_ring}
-use Rattle.step_core.specs.Kept.{IsDue, IsJob, IsKept}
+use Rattle.step_core.specs.Kept.{CoreFields, IsDue, IsJob, IsKept}
 use Rattle.step_core.specs.State.{Room, State}
-use Rattle.range_reserve.specs.declared.held.Held.{Held}
-use Rattle.job_table.specs.Jobs.{JobTable}
 use Rattle.std.proofs.Math.Nat.{mod-lt}
 
 -- ---- the queue of a ticket
@@ -56,7 +54,7 @@ ticket_queue c (Entry.Post e ∷ past) t h l = ticket_queue c past t (follows c 
 ticket_queue c (Entry.Reap e ∷ past) t h l = ticket_queue c past t (follows c past (Entry.Reap e) h).before l
 
 -- one in flight has a command
-flies_some : (past : Past) (t : ℕ) → in_flight past t ≡ true → 1 ≤ length (Tickets.ticket past t).commands
+pub flies_some : (past : Past) (t : ℕ) → in_flight past t ≡ true → 1 ≤ length (Tickets.ticket past t).commands
 flies_some past t f = omega (arith, ltb-true _ _ f)
 
 -- the number of a queue that is there
@@ -64,7 +62,7 @@ pub record HasQueue (c : ConfigNumbers) (q : ℕ) : Type 0 where
   pub low : 1 ≤ q
   pub high : q ≤ c.pairs
 
-queue_there : (c : ConfigNumbers) (q : ℕ) → no_queue c q ≡ false → HasQueue c q
+pub queue_there : (c : ConfigNumbers) (q : ℕ) → no_queue c q ≡ false → HasQueue c q
 queue_there c q e =
     let a = or_parts (eqb q 0) (nat_lt c.pairs q) e in
     record { low = low q a.0; high = ltb-false _ _ a.1 }
@@ -142,15 +140,17 @@ due_full c past q x h e =
 -- the completion that is due
 pub due_is : (c : ConfigNumbers) (past : Past) (t : ℕ) (j : Keeping) (s : Status) (cid : ℕ) (x : CompletionRing) (r : SubmissionRing) (cqe : Cqe) (d : Due) → Kept c past → IsJob c past t j
     → slice_get (owed_in j.course.stage) 0 ≡ Some s → slice_get j.course.cids 0 ≡ Some cid → x ≡ completion_ring c past (completion_queue c (Tickets.ticket past t).queue) → r ≡ submission_ring c past j.queue
-    → cqe ≡ record { sqhd = r.head; sqid = j.queue; cid = cid; phase = x.phase; status = s } → d.cqe ≡ completion_bytes cqe → d.queue ≡ completion_queue c j.queue
+    → cqe ≡ record { sqhd = r.head; sqid = j.queue; cid = cid; phase = x.phase; status = s } → d.cqe ≡ completion_bytes cqe → d.from ≡ j.queue → d.cid ≡ cid → d.queue ≡ completion_queue c j.queue
     → d.bytes ≡ length j.read → d.last ≡ eqb (length j.course.cids) 1 → IsDue c past (record d { ticket = t })
 unfolding job_by completion_ring submission_ring
-due_is c past t j s cid x r cqe d kept k due has ring sring fields bytes queue read last =
+due_is c past t j s cid x r cqe d kept k due has ring sring fields bytes origin name queue read last =
     let of_queue : j.queue ≡ (Tickets.ticket past t).queue = ap (λ (y : Keeping). y.queue) k.is in
     record {
       status = s;
       owed = sym (next_owed c past t kept.legal kept.marks) ∙ next_by c past t j kept.legal k ∙ due;
+      from = origin ∙ of_queue;
       queue = queue ∙ due_queue c past t j k;
+      cid = ap (λ (y : Keeping). slice_get y.course.cids 0) (sym k.is) ∙ has ∙ ap Some (sym name);
       cqe = bytes ∙ completion_bytes-completion c past t s cqe
           (ap (λ (y : Cqe). y.sqhd) fields ∙ ap (λ (y : SubmissionRing). y.head) sring ∙ ap (λ n. fetched past n % c.sq_size) of_queue)
           (ap (λ (y : Cqe). y.sqid) fields ∙ of_queue)
@@ -168,8 +168,14 @@ fields_by x h h' q cid p p' s e head phase = e ∙ (λ i. record { sqhd = head i
 
 -- ---- what `post_due` finds
 
-module _ (c : ConfigNumbers) (past : Past) (v : List (List ℕ)) (s : List SubmissionRing) (q : List CompletionRing) (j : JobTable) (r : List Held) (n : ℕ) (k : IsKept c past v s q j r n)
+module _ (c : ConfigNumbers) (past : Past) (fields : CoreFields) (k : IsKept c past fields)
     (x : State) (m : ℕ) {w : Room} (view : record { config = c; past = past; promised = m; room = w } ≡ x) (t : ℕ) (job : Keeping) (is : IsJob x.config x.past t job) where
+  abbrev s : List SubmissionRing
+  s = fields.submission
+
+  abbrev q : List CompletionRing
+  q = fields.completion
+
   mine : IsJob c past t job
   mine = subst (λ (y : State). IsJob y.config y.past t job) (sym view) is
 
@@ -207,12 +213,12 @@ module _ (c : ConfigNumbers) (past : Past) (v : List (List ℕ)) (s : List Submi
 
     pub post_is : (o : Status) (cid : ℕ) (y : CompletionRing) (z : SubmissionRing) (cqe : Cqe) (d : Due) → slice_get (owed_in job.course.stage) 0 ≡ Some o → slice_get job.course.cids 0 ≡ Some cid
         → y ≡ get_or q ((n' - 1) % c.cqs) y → z ≡ get_or s (n' - 1) z → cqe ≡ record { sqhd = z.head; sqid = n'; cid = cid; phase = y.phase; status = o }
-        → d.cqe ≡ completion_bytes cqe → d.queue ≡ (n' - 1) % c.cqs + 1
+        → d.cqe ≡ completion_bytes cqe → d.from ≡ n' → d.cid ≡ cid → d.queue ≡ (n' - 1) % c.cqs + 1
         → d.bytes ≡ length job.read → d.last ≡ eqb (length job.course.cids) 1 → d.ticket ≡ t → IsDue x.config x.past d
-    post_is o cid y z cqe d due has e f fields bytes queue read last at =
+    post_is o cid y z cqe d due has e f fields bytes origin name queue read last at =
         let p : suc (n' - 1) ≡ n' = omega (arith, post_queue.low) in
         let sring : z ≡ submission_ring c past n' = f ∙ k.submission.at (n' - 1) z (omega (arith, post_queue.low, post_queue.high)) ∙ ap (submission_ring c past) p in
         let of_job : cqe ≡ record { sqhd = z.head; sqid = job.queue; cid = cid; phase = y.phase; status = o } = fields ∙ (λ i. record { sqhd = z.head; sqid = of i; cid = cid; phase = y.phase; status = o }) in
         subst (λ (u : ℕ). IsDue x.config x.past (record d { ticket = u })) (sym at)
         (subst (λ (w : State). IsDue w.config w.past (record d { ticket = t })) view
-        (due_is c past t job o cid y z cqe d k.run mine due has (ring_is y e) (sring ∙ ap (submission_ring c past) of) of_job bytes (queue ∙ ap (completion_queue c) of) read last))
+        (due_is c past t job o cid y z cqe d k.run mine due has (ring_is y e) (sring ∙ ap (submission_ring c past) of) of_job bytes (origin ∙ of) name (queue ∙ ap (completion_queue c) of) read last))

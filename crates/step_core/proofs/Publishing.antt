@@ -19,7 +19,8 @@ use Rattle.rings.specs.Completions.{CompletionRing}
 use Rattle.rings.specs.Submissions.{SubmissionRing, batch_fault, batch_faults}
 use Rattle.job_table.specs.Jobs.{JobTable}
 use Rattle.step_core.specs.Fields.{completion_ring, submission_ring}
-use Rattle.step_core.specs.Kept.{IsKept, IsSqRing}
+use Rattle.step_core.proofs.InUse.{used_same}
+use Rattle.step_core.specs.Kept.{CoreFields, IsKept, IsSqRing}
 use Rattle.step_core.proofs.Lookups.{sq_read}
 use Rattle.step_core.proofs.Moves.{stepped}
 use Rattle.step_core.proofs.Tables.{IsTable-same, IsTable-set}
@@ -67,8 +68,26 @@ completion_stays : (c : ConfigNumbers) (past : Past) (t : ℕ) (batch : List Sub
 unfolding completion_ring
 completion_stays c past t batch k = refl
 
-module _ (c : ConfigNumbers) (past : Past) (v : List (List ℕ)) (s : List SubmissionRing) (q : List CompletionRing) (j : JobTable) (r : List Held) (n : ℕ)
-    (k : IsKept c past v s q j r n) (t : ℕ) (batch : List Submission) (none : refusal c past (Step.Publish t batch) ≡ None) where
+module _ (c : ConfigNumbers) (past : Past) (fields : CoreFields)
+    (k : IsKept c past fields) (t : ℕ) (batch : List Submission) (none : refusal c past (Step.Publish t batch) ≡ None) where
+  abbrev v : List (List ℕ)
+  v = fields.volume
+
+  abbrev s : List SubmissionRing
+  s = fields.submission
+
+  abbrev q : List CompletionRing
+  q = fields.completion
+
+  abbrev j : JobTable
+  j = fields.jobs
+
+  abbrev r : List Held
+  r = fields.held
+
+  abbrev n : ℕ
+  n = fields.tickets
+
   -- there is such a queue
   first_one : t ≡ 0 → ⊥
   first_one = eqb-false t 0 (or_parts _ _ (none_holds (conditions c past (Step.Publish t batch)) (ap is_none none)).0).0
@@ -79,7 +98,7 @@ module _ (c : ConfigNumbers) (past : Past) (v : List (List ℕ)) (s : List Submi
   module _ (x : SubmissionRing) (is : x ≡ get_or s (t - 1) x) where
     -- the ring that it finds
     publish_ring : IsSqRing c past t x
-    publish_ring = sq_read c past v s q j r n k t x first_one last_one is
+    publish_ring = sq_read c past fields k t x first_one last_one is
 
     -- the ring takes the batch
     pub publish_taken : (why : Why) → batch_fault x batch ≡ Some why → ⊥
@@ -90,11 +109,12 @@ module _ (c : ConfigNumbers) (past : Past) (v : List (List ℕ)) (s : List Submi
     -- the fields
     pub publish_keeps : (copy : List Submission) (y : SubmissionRing) (p : Past) → copy ≡ batch
         → y ≡ record x { waiting = x.waiting ++ batch } → p ≡ published_entry t copy ∷ past
-        → IsKept c p v (set s (t - 1) y) q j r n
-    publish_keeps copy y p same more adds = subst (λ (p : Past). IsKept c p v (set s (t - 1) y) q j r n) (sym entry) (record {
+        → IsKept c p (record fields { submission = set s (t - 1) y })
+    publish_keeps copy y p same more adds = subst (λ (p : Past). IsKept c p (record fields { submission = set s (t - 1) y })) (sym entry) (record {
       accepted = k.accepted;
       volume = k.volume;
       submission = IsTable-set _ _ c.pairs (t - 1) s y k.submission within ring (λ i apart. ring_stays c past t batch (suc i) k.run (other i apart));
+      in_use = used_same c past (published_entry t batch ∷ past) fields.in_use k.in_use (λ i p. refl);
       completion = IsTable-same _ _ c.cqs q k.completion (λ i. completion_stays c past t batch (suc i));
       jobs = k.jobs;
       held = k.held;

@@ -23,7 +23,8 @@ use Rattle.rings.specs.Submissions.{SubmissionRing}
 use Rattle.rings.specs.declared.completion_ring.Completion.{Completion}
 use Rattle.job_table.specs.Jobs.{JobTable}
 use Rattle.step_core.specs.Fields.{completion_of, completion_ring, submission_ring}
-use Rattle.step_core.specs.Kept.{IsCqRing, IsKept}
+use Rattle.step_core.proofs.InUse.{used_same}
+use Rattle.step_core.specs.Kept.{CoreFields, IsCqRing, IsKept}
 use Rattle.step_core.specs.State.{answer_of, payload_of}
 use Rattle.step_core.specs.declared.answer.Answer.{Answer}
 use Rattle.step_core.proofs.Lookups.{cq_read}
@@ -117,8 +118,26 @@ submission_stays c past t d k = refl
 same_completion : {x y : Completion} → Some x ≡ Some y → x ≡ y
 same_completion h = cc
 
-module _ (c : ConfigNumbers) (past : Past) (v : List (List ℕ)) (s : List SubmissionRing) (q : List CompletionRing) (j : JobTable) (r : List Held) (n : ℕ)
-    (k : IsKept c past v s q j r n) (t : ℕ) (none : refusal c past (Step.Reap t) ≡ None) where
+module _ (c : ConfigNumbers) (past : Past) (fields : CoreFields)
+    (k : IsKept c past fields) (t : ℕ) (none : refusal c past (Step.Reap t) ≡ None) where
+  abbrev v : List (List ℕ)
+  v = fields.volume
+
+  abbrev s : List SubmissionRing
+  s = fields.submission
+
+  abbrev q : List CompletionRing
+  q = fields.completion
+
+  abbrev j : JobTable
+  j = fields.jobs
+
+  abbrev r : List Held
+  r = fields.held
+
+  abbrev n : ℕ
+  n = fields.tickets
+
   -- there is such a queue
   first_one : t ≡ 0 → ⊥
   first_one = eqb-false t 0 (or_parts _ _ (none_holds (conditions c past (Step.Reap t)) (ap is_none none)).0).0
@@ -135,7 +154,7 @@ module _ (c : ConfigNumbers) (past : Past) (v : List (List ℕ)) (s : List Submi
   module _ (x : CompletionRing) (is : x ≡ get_or q (t - 1) x) where
     -- the ring that it finds
     reap_ring : x ≡ completion_ring c past t
-    reap_ring = (cq_read c past v s q j r n k t x first_one last_one is).is
+    reap_ring = (cq_read c past fields k t x first_one last_one is).is
 
     -- what waits first in it
     reap_first : slice_get x.waiting 0 ≡ Some (completion_of next_post.0)
@@ -165,11 +184,12 @@ module _ (c : ConfigNumbers) (past : Past) (v : List (List ℕ)) (s : List Submi
 
       -- the fields
       pub reap_keeps : (y : CompletionRing) (p : Past) → y ≡ record x { waiting = drop 1 x.waiting } → p ≡ reaped_entry t d ∷ past
-          → IsKept c p v s (set q (t - 1) y) j r n
-      reap_keeps y p rest more = subst (λ (p : Past). IsKept c p v s (set q (t - 1) y) j r n) (sym more) (record {
+          → IsKept c p (record fields { completion = set q (t - 1) y })
+      reap_keeps y p rest more = subst (λ (p : Past). IsKept c p (record fields { completion = set q (t - 1) y })) (sym more) (record {
         accepted = k.accepted;
         volume = k.volume;
         submission = IsTable-same _ _ c.pairs s k.submission (λ i. submission_stays c past t d (suc i));
+        in_use = used_same c past (reaped_entry t d ∷ past) fields.in_use k.in_use (λ i p. refl);
         completion = IsTable-set _ _ c.cqs (t - 1) q y k.completion within ring (λ i apart. ring_stays c past t d (suc i) (other i apart));
         jobs = k.jobs;
         held = k.held;

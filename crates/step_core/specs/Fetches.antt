@@ -1,30 +1,22 @@
 -- What a Fetch finds, and the job that it makes.
-use Rattle.std.specs.List.{flat_map}
-use Rattle.std.specs.Option.{option_to_list}
-use Rattle.std.specs.Prelude.{List, Option, [], get_or, if◌then◌else◌, length, map, replicate, ℕ, ◌*◌, ◌<◌, ◌==◌, ◌∷◌, ◌≡◌, ◌≤◌}
-use Rattle.nvme_model.specs.EntryBytes.{slba, sqe_fields}
+use Rattle.std.specs.Prelude.{List, Option, [], get_or, if◌then◌else◌, length, map, replicate, take, ℕ, ◌*◌, ◌<◌, ◌≡◌}
+use Rattle.std.specs.Prelude.{◌≤◌}
+use Rattle.nvme_model.specs.EntryBytes.{slba}
 use Rattle.nvme_model.specs.History.{Past}
 use Rattle.nvme_model.specs.Operations.{has_compare, op_by}
-use Rattle.nvme_model.specs.Tickets.{fetched_ticket, first_fields, next_verdict}
+use Rattle.nvme_model.specs.Tickets.{cids, fetched_ticket, first_fields, next_verdict}
+use Rattle.nvme_model.specs.Verdict.{Item, taken}
 use Rattle.nvme_model.specs.declared.config.ConfigNumbers.{ConfigNumbers}
 use Rattle.nvme_model.specs.declared.operation.Op.{Op}
 use Rattle.nvme_model.specs.declared.submission.Submission.{Submission}
-use Rattle.fused_match.specs.Judged.{NamesBlocks, operation_in, verdict_by}
+use Rattle.fused_match.specs.Judged.{NamesBlocks, operation_in, verdict_by, waiting_items}
 use Rattle.fused_match.specs.declared.judged.Judged.{Judged}
 use Rattle.fused_match.specs.declared.judged.Judged.TheVariants as judged
 use Rattle.block_exec.specs.Bytes.{blocks_in}
 use Rattle.job_table.specs.Keeping.{Keeping}
 use Rattle.ticket_course.specs.Stages.{first_stage}
-use Rattle.job_table.specs.declared.jobs.InFlight.{InFlight}
+use Rattle.step_core.specs.declared.machine.fetch.Front.{Front}
 use Rattle.step_core.specs.declared.work.Kind.{Kind}
-
--- the CIDs that a ticket of queue q still owes a completion for
-abbrev pub job_cids : ℕ → Keeping → List ℕ
-job_cids q j = if j.queue == q then j.course.cids else []
-
--- and those of all tickets of queue q
-abbrev pub cids_on : ℕ → List InFlight → List ℕ
-cids_on q jobs = flat_map (λ e. job_cids q e.job) jobs
 
 -- what becomes of the entries at the front of queue q
 pub record IsJudged (c : ConfigNumbers) (past : Past) (q : ℕ) (j : Judged) : Type 0 where
@@ -32,11 +24,14 @@ pub record IsJudged (c : ConfigNumbers) (past : Past) (q : ℕ) (j : Judged) : T
   pub operation : operation_in j ≡ op_by (verdict_by j) (first_fields (fetched_ticket past q (verdict_by j)))
   pub range : NamesBlocks j (first_fields (fetched_ticket past q (verdict_by j)))
 
--- ---- what it makes of them
+-- what a Fetch of queue q finds: what becomes of the entries, the CIDs of those that it takes, and the first block that
+-- the first of them names
+pub record IsFront (c : ConfigNumbers) (past : Past) (q : ℕ) (f : Front) : Type 0 where
+  pub judged : IsJudged c past q f.judged
+  pub cids : f.cids ≡ cids (fetched_ticket past q (verdict_by f.judged))
+  pub slba : f.slba ≡ slba (first_fields (fetched_ticket past q (verdict_by f.judged)))
 
--- one or two commands
-abbrev pub commands_of : Submission → Option Submission → List Submission
-commands_of first second = first ∷ option_to_list second
+-- ---- what it makes of them
 
 -- what it has to do
 abbrev pub kind_in : Judged → Kind
@@ -51,9 +46,9 @@ abbrev pub read_first : Judged → List ℕ
 read_first (judged.Single Op.Read r) = replicate (512 * r.blocks) 0
 read_first _ = []
 
--- the CIDs of these commands
-abbrev pub cids_by : List Submission → List ℕ
-cids_by commands = map (λ s. (sqe_fields s.entry).cid) commands
+-- the CIDs of those of one or two entries that are taken
+abbrev pub cids_taken : Judged → Item → Option Item → List ℕ
+cids_taken j first second = map (λ i. i.fields.cid) (take (taken (verdict_by j)) (waiting_items first second))
 
 -- the Compare's data, by the operation
 abbrev pub compare_by : Option Op → Submission → List ℕ
@@ -76,13 +71,13 @@ HasBlocks (judged.Pair r) ws = (1 < length ws) × (512 * r.blocks ≤ length (pa
 HasBlocks _ ws = Unit {0}
 
 -- what is kept of a ticket that begins, with these blocks to write and this room for what it reads
-abbrev pub first_job : ℕ → Judged → Submission → Option Submission → List (List ℕ) → List ℕ → Keeping
-first_job q j first second write read =
+abbrev pub first_job : ℕ → Front → Submission → List (List ℕ) → List ℕ → Keeping
+first_job q f first write read =
     record {
       queue = q;
-      course = record { stage = first_stage j; cids = cids_by (commands_of first second) };
-      slba = slba (sqe_fields first.entry);
-      compare = compare_by (operation_in j) first;
+      course = record { stage = first_stage f.judged; cids = f.cids };
+      slba = f.slba;
+      compare = compare_by (operation_in f.judged) first;
       write = write;
       read = read;
     }

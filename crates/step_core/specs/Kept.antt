@@ -1,6 +1,8 @@
 -- The refinement: each field of a core is what its history says.
-use Rattle.std.specs.Prelude.{List, None, Some, false, get_or, length, map, slice_get, suc, true}
-use Rattle.std.specs.Prelude.{ℕ, ◌<◌, ◌==◌, ◌≡◌, ◌≤◌}
+use Rattle.std.specs.List.{count_by}
+use Rattle.std.specs.Prelude.{Bool, List, None, Some, false, get_or, length, map, slice_get, suc, true}
+use Rattle.std.specs.Prelude.{ℕ, ◌*◌, ◌<◌, ◌==◌, ◌≡◌, ◌≤◌}
+use Rattle.cids_in_use.specs.Used.{UsedCids}
 use Rattle.nvme_model.specs.Config.{completion_queue, config_fault}
 use Rattle.nvme_model.specs.Completions.{completion, posted, reaped}
 use Rattle.nvme_model.specs.Queues.{fetched, published}
@@ -12,7 +14,7 @@ use Rattle.nvme_model.specs.History.{Past}
 use Rattle.nvme_model.specs.Legal.{IsLegal}
 use Rattle.nvme_model.specs.Medium.{medium}
 use Rattle.nvme_model.specs.Open.{open_units}
-use Rattle.nvme_model.specs.Tickets.{in_flight, posts_of, ticket, tickets}
+use Rattle.nvme_model.specs.Tickets.{cids_in_use, in_flight, posts_of, ticket, tickets}
 use Rattle.nvme_model.specs.declared.config.ConfigNumbers.{ConfigNumbers}
 use Rattle.nvme_model.specs.Kept.{Kept}
 use Rattle.range_reserve.specs.Reserved.{by_ticket, held_of}
@@ -28,16 +30,37 @@ pub record IsTable {X : Type 0} (f : ℕ → X) (n : ℕ) (xs : List X) : Type 0
   pub size : length xs ≡ n
   pub at : (k : ℕ) (d : X) → k < n → get_or xs k d ≡ f k
 
+-- the CIDs kept for a submission queue are those in use on it, in whatever order, each as often; and there is room for
+-- two of each ticket that may be in flight
+pub record AreUsed (c : ConfigNumbers) (past : Past) (q : ℕ) (u : UsedCids) : Type 0 where
+  pub cids : (p : ℕ → Bool) → count_by p u.cids ≡ count_by p (cids_in_use past q)
+  pub room : u.room ≡ 2 * c.jobs
+
+-- so it is of each submission queue
+pub record AreInUse (c : ConfigNumbers) (past : Past) (us : List UsedCids) : Type 0 where
+  pub size : length us ≡ c.pairs
+  pub at : (k : ℕ) (d : UsedCids) → k < c.pairs → AreUsed c past (suc k) (get_or us k d)
+
+-- what a core has beside its configuration, its history and its room
+pub record CoreFields : Type 0 where
+  pub volume : List (List ℕ)
+  pub submission : List SubmissionRing
+  pub in_use : List UsedCids
+  pub completion : List CompletionRing
+  pub jobs : JobTable
+  pub held : List Held
+  pub tickets : ℕ
+
 -- each field is what the history says
-pub record IsKept (c : ConfigNumbers) (past : Past) (v : List (List ℕ)) (s : List SubmissionRing)
-    (q : List CompletionRing) (j : JobTable) (r : List Held) (n : ℕ) : Type 0 where
+pub record IsKept (c : ConfigNumbers) (past : Past) (f : CoreFields) : Type 0 where
   pub accepted : config_fault c ≡ None
-  pub volume : IsTable (medium past) c.blocks v
-  pub submission : IsTable (λ k. submission_ring c past (suc k)) c.pairs s
-  pub completion : IsTable (λ k. completion_ring c past (suc k)) c.cqs q
-  pub jobs : j ≡ job_table c past
-  pub held : r ≡ by_ticket (map held_of (open_units past))
-  pub count : n ≡ tickets past
+  pub volume : IsTable (medium past) c.blocks f.volume
+  pub submission : IsTable (λ k. submission_ring c past (suc k)) c.pairs f.submission
+  pub in_use : AreInUse c past f.in_use
+  pub completion : IsTable (λ k. completion_ring c past (suc k)) c.cqs f.completion
+  pub jobs : f.jobs ≡ job_table c past
+  pub held : f.held ≡ by_ticket (map held_of (open_units past))
+  pub count : f.tickets ≡ tickets past
   pub run : Kept c past
 
 -- a submission queue and its ring
@@ -62,7 +85,9 @@ pub record IsJob (c : ConfigNumbers) (past : Past) (t : ℕ) (j : Keeping) : Typ
 pub record IsDue (c : ConfigNumbers) (past : Past) (d : Due) : Type 0 where
   pub status : Status
   pub owed : slice_get (owed c past d.ticket) (posts_of past d.ticket) ≡ Some status
+  pub from : d.from ≡ (ticket past d.ticket).queue
   pub queue : d.queue ≡ completion_queue c (ticket past d.ticket).queue
+  pub cid : slice_get (job_at c past d.ticket).course.cids 0 ≡ Some d.cid
   pub cqe : d.cqe ≡ completion c past d.ticket status
   pub bytes : d.bytes ≡ length (job_at c past d.ticket).read
   pub last : d.last ≡ (length (job_at c past d.ticket).course.cids == 1)

@@ -6,4 +6,3 @@ pub mod Fetches
 pub mod Runs
 pub mod Ready
 pub mod OneAtATime
-pub mod Filed

@@ -26,8 +26,8 @@ mod room;
 mod steps;
 
 use block_array::Volume;
+use cids_in_use::CidsInUse;
 use history::{Config, History};
-use job_index::QueueIndex;
 use job_table::{Job, Jobs};
 use nvme_model::refusal::Why;
 use range_reserve::Ranges;
@@ -42,10 +42,10 @@ pub struct Core {
     config: Config,
     volume: Volume,
     submission: Vec<SqRing>,
+    // Of each submission queue.
+    in_use: Vec<CidsInUse>,
     completion: Vec<CqRing>,
     jobs: Jobs,
-    // The tickets in flight of each submission queue.
-    queues: QueueIndex,
     ranges: Ranges,
     tickets: u64,
     history: History,
@@ -54,7 +54,6 @@ pub struct Core {
 
 impl Model for Core {
     ghost use Rattle.std.specs.Prelude.{◌+◌, ◌^◌, ◌<◌, ◌≤◌};
-    ghost use Rattle.step_core.specs.Filed.{IsFiled};
     ghost use Rattle.step_core.specs.Kept.{IsKept};
     ghost use Rattle.step_core.specs.State.{State};
 
@@ -68,9 +67,16 @@ impl Model for Core {
     } };
 
     ghost invariant = { λ c.
-        IsKept c.config c.history.past c.volume c.submission.items c.completion.items c.jobs c.ranges.held c.tickets
-        × (c.promised ≤ c.history.room) × (c.promised ≤ c.ranges.room) × (c.promised + 1 < 2 ^ 64)
-        × IsFiled c.queues c.jobs };
+        IsKept c.config c.history.past (record {
+          volume = c.volume;
+          submission = c.submission.items;
+          in_use = c.in_use.items;
+          completion = c.completion.items;
+          jobs = c.jobs;
+          held = c.ranges.held;
+          tickets = c.tickets;
+        })
+        × (c.promised ≤ c.history.room) × (c.promised ≤ c.ranges.room) × (c.promised + 1 < 2 ^ 64) };
 }
 
 // So many submission rings of this size.
@@ -99,6 +105,17 @@ fn cq_rings(alloc: Global, count: u16, size: u16) -> Result<Vec<CqRing>, NoMemor
     Ok(rings)
 }
 
+// What is in use on so many submission queues, none yet, with room for so many CIDs on each.
+fn none_in_use(alloc: Global, count: u16, room: usize) -> Result<Vec<CidsInUse>, NoMemory>
+    ensures value { IfOk result (λ used. used.items ≡ replicate count (record { room = room; cids = [] })) }
+{
+    let mut used = Vec::with_capacity(alloc, count as usize)?;
+    for _ in 0..count {
+        used.push_reserved(CidsInUse::new(alloc, room)?);
+    }
+    Ok(used)
+}
+
 impl Core {
     /// A controller of this configuration: its history is empty, and its blocks are zeros.
     ///
@@ -116,9 +133,9 @@ impl Core {
             config,
             volume: Volume::new(alloc, numbers.blocks)?,
             submission: sq_rings(alloc, numbers.pairs, numbers.sq_size)?,
+            in_use: none_in_use(alloc, numbers.pairs, 2 * numbers.jobs as usize)?,
             completion: cq_rings(alloc, numbers.cqs, numbers.cq_size)?,
             jobs: Jobs::new(alloc, numbers.jobs as usize)?,
-            queues: QueueIndex::new(alloc, numbers.jobs as usize)?,
             ranges: Ranges::new(alloc),
             tickets: 0,
             history: History::new(alloc),

@@ -1,5 +1,6 @@
 -- Where a ticket stands, and how a step moves it.
-use Rattle.std.specs.Prelude.{Bool, List, None, Option, Some, [], drop, false, if◌then◌else◌, length, true, ℕ, ◌+◌, ◌==◌, ◌∷◌, ◌≡◌, ◌≤◌}
+use Rattle.std.specs.Prelude.{Bool, List, None, Option, Some, [], drop, false, if◌then◌else◌, length, true, ℕ, ◌+◌}
+use Rattle.std.specs.Prelude.{◌==◌, ◌∷◌, ◌≡◌, ◌≤◌}
 use Rattle.nvme_model.specs.Statuses.{success}
 use Rattle.nvme_model.specs.Operations.{has_write}
 use Rattle.nvme_model.specs.declared.array.Mode.{Mode}
@@ -83,7 +84,8 @@ next_in a _ = None
 
 -- these are the first of the blocks that are left, and all of a pair's
 abbrev pub IsFirst : Stage → Range → Type 0
-IsFirst (Waiting o u left) r = (r.slba ≡ left.slba) × (1 ≤ r.blocks) × (r.blocks ≤ left.blocks) × (o ≡ Op.Pair → r.blocks ≡ left.blocks)
+IsFirst (Waiting o u left) r =
+    (r.slba ≡ left.slba) × (1 ≤ r.blocks) × (r.blocks ≤ left.blocks) × (o ≡ Op.Pair → r.blocks ≡ left.blocks)
 IsFirst _ r = ⊥
 
 -- what is owed
@@ -118,7 +120,8 @@ between o u left = if left.blocks == 0 then Owing (on_success o) else Waiting o 
 
 -- where its open unit has come so far
 abbrev pub moved_to : Progress → ℕ → Range → Stage
-moved_to p u left = if p.differed then Owing (on_differs p.op) else (if has_ended p then between p.op (u + 1) left else Open p u left)
+moved_to p u left =
+    if p.differed then Owing (on_differs p.op) else (if has_ended p then between p.op (u + 1) left else Open p u left)
 
 -- after a Block that found this
 abbrev pub noted_in : Stage → Found → Stage

@@ -50,7 +50,8 @@ impl Model for Course {
 }
 
 impl Course {
-    ghost use Rattle.ticket_course.specs.Stages.{IfOpen, IsCourse, IsFirst, IsSound, first_stage, is_open, mode_in, next_in, noted_in, opened_in, owed_in, posted_in, unit_in};
+    ghost use Rattle.ticket_course.specs.Stages.{IfOpen, IsCourse, IsFirst, IsSound, first_stage, is_open, mode_in};
+    ghost use Rattle.ticket_course.specs.Stages.{next_in, noted_in, opened_in, owed_in, posted_in, unit_in};
 
     /// The course of a ticket that was judged so, with the CIDs of its commands.
     #[tactic(auto, using(crate::proofs::StageLemmas::first_is))]

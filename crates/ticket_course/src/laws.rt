@@ -19,8 +19,8 @@ ghost use Rattle.ticket_standing.specs.Standing.{fresh, standing, still_owed};
 ghost use Rattle.ticket_course.specs.Shown.{stage_of};
 ghost use Rattle.ticket_course.specs.Stages.{first_stage, noted_in, opened_in, owed_in};
 
-/// A ticket that was just fetched is at the first stage of its verdict. A Grant opens the unit of its range, and a Block
-/// moves its unit by what it found, wherever the unit's mark stands; a Post takes the first off what is owed.
+/// A ticket that was just fetched is at the first stage of its verdict. A Grant opens the unit of its range, and a
+/// Block moves its unit by what it found, wherever the unit's mark stands; a Post takes the first off what is owed.
 pub fn a_step_moves_the_stage()
     ensures fetched { (c : ConfigNumbers) (k : Ticket) (j : Judged) →
         verdict_by j ≡ k.verdict → operation_in j ≡ op k → NamesBlocks j (first_fields k) →

@@ -1,6 +1,7 @@
 -- Which steps of a ticket are in their place, by the ticket's own entries.
 use Rattle.std.specs.List.{list_all, list_any}
-use Rattle.std.specs.Prelude.{Bool, List, None, Option, Some, [], false, if◌then◌else◌, is_some, length, nat_le, nat_lt, not}
+use Rattle.std.specs.Prelude.{Bool, List, None, Option, Some, [], false, if◌then◌else◌, is_some, length, nat_le, nat_lt}
+use Rattle.std.specs.Prelude.{not}
 use Rattle.std.specs.Prelude.{true, ℕ, ◌&&◌, ◌*◌, ◌-◌, ◌||◌, ◌∷◌}
 use Rattle.nvme_model.specs.History.{Past}
 use Rattle.nvme_model.specs.Open.{blocks_made, differed, granted, is_differs}

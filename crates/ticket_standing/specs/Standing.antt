@@ -1,6 +1,7 @@
 -- Where a ticket stands: all that a machine has to know of it to go on.
 use Rattle.std.specs.List.{filter, find, sum_by}
-use Rattle.std.specs.Prelude.{Bool, List, None, Option, Some, [], drop, false, if◌then◌else◌, is_none, length, nat_le, option_map, slice_get, suc, take, zero, ℕ, ◌&&◌, ◌+◌, ◌++◌, ◌-◌, ◌==◌, ◌∷◌}
+use Rattle.std.specs.Prelude.{Bool, List, None, Option, Some, [], drop, false, if◌then◌else◌, is_none, length, nat_le}
+use Rattle.std.specs.Prelude.{option_map, slice_get, suc, take, zero, ℕ, ◌&&◌, ◌+◌, ◌++◌, ◌-◌, ◌==◌, ◌∷◌}
 use Rattle.nvme_model.specs.Cut.{cut}
 use Rattle.nvme_model.specs.EntryBytes.{slba}
 use Rattle.nvme_model.specs.History.{Past}

@@ -1,20 +1,6 @@
 //! A controller that callers share, each ticket stepped only with its Work.
 
-ghost use Rattle.std.specs.Prelude.{
-  ◌≡◌,
-  ◌<◌,
-  ◌+◌,
-  All,
-  None,
-  Some,
-  ℕ,
-  IfErr,
-  IfOk,
-  IfSome,
-  IsSome,
-  slice_get,
-  vec_len,
-};
+ghost use Rattle.std.specs.Prelude.{◌≡◌, ◌<◌, ◌+◌, All, None, Some, ℕ, IfErr, IfOk, IfSome, IsSome, slice_get, vec_len};
 ghost use Rattle.nvme_model.specs.Passes.{IsBeginning, SharedPast, entries};
 ghost use Rattle.nvme_model.specs.Kept.{Kept};
 
@@ -54,20 +40,8 @@ pub struct Engine {
 
 impl Engine {
     ghost use Rattle.step_core.specs.State.{Accepts, Refuses};
-    ghost use Rattle.meet_lock.specs.Passes.{
-      Declines,
-      IsNew,
-      IsNotBusy,
-      IsSame,
-      Knows,
-      Met,
-      Saw,
-      Worked,
-      config_of,
-      mine,
-      passes_of,
-      seen,
-    };
+    ghost use Rattle.meet_lock.specs.Passes.{Declines, IsNew, IsNotBusy, IsSame, Knows, Met, Saw, Worked, config_of};
+    ghost use Rattle.meet_lock.specs.Passes.{mine, passes_of, seen};
     ghost use Rattle.meet_lock.specs.declared.pass.Pass.{Pass};
     ghost use Rattle.step_core.specs.State.{State};
     ghost use Rattle.ticket_entries.specs.Entries.{of_ticket};
@@ -194,8 +168,8 @@ impl Engine {
         self.shared.meet(first, second)
     }
 
-    /// Tells what holds of whatever the pass has seen: it is what a controller keeps of its history. Takes neither lock nor
-    /// memory.
+    /// Tells what holds of whatever the pass has seen: it is what a controller keeps of its history. Takes neither lock
+    /// nor memory.
     pub fn recall(&self, pass: &mut Pass<Core>)
         requires { IsOf self.now pass.old }
         ensures same { IsSame pass.old pass.new × (seen pass.new ≡ seen pass.old) }

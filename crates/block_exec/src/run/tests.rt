@@ -118,7 +118,8 @@ fn filled(alloc: Global) -> Result<Volume, NoMemory> {
     Ok(volume)
 }
 
-/// The bytes of the unit's blocks, of which the one at the place `differs` has one byte changed; the first `len` of them.
+/// The bytes of the unit's blocks, of which the one at the place `differs` has one byte changed; the first `len` of
+/// them.
 fn bytes(alloc: Global, case: Case, seed: u64, len: usize) -> Result<Vec<u8>, NoMemory> {
     let mut bytes = Vec::new(alloc);
     for place in 0..case.range.blocks {
@@ -144,7 +145,8 @@ fn boxes(alloc: Global, case: Case, len: usize) -> Result<Vec<Box<[u8; 512]>>, N
     Ok(boxes)
 }
 
-/// A unit with its volume and data, and the blocks of the volume, those in the boxes and what was read as they should be.
+/// A unit with its volume and data, and the blocks of the volume, those in the boxes and what was read as they should
+/// be.
 #[derive(Drop)]
 struct Bench {
     case: Case,

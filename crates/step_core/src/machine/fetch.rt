@@ -2,20 +2,17 @@
 
 ghost use Rattle.std.specs.Option.{option_copied, option_map};
 ghost use Rattle.std.specs.Prelude.{◌≡◌, ◌≤◌, ◌+◌, ◌++◌, IfOk, MatchResult, None, OnErr, Some};
-ghost use Rattle.std.specs.Prelude.{length, slice_get, take, true};
+ghost use Rattle.std.specs.Prelude.{false, length, slice_get, true};
 ghost use Rattle.block_array.specs.Blocks.{contents_of};
 ghost use Rattle.fused_match.specs.Judged.{NamesBlocks, operation_in, verdict_by, waiting_items};
-ghost use Rattle.nvme_model.specs.EntryBytes.{sqe_fields};
 ghost use Rattle.nvme_model.specs.Operations.{op_by};
-ghost use Rattle.nvme_model.specs.Refusals.{jobs_full, refusal};
-ghost use Rattle.nvme_model.specs.Tickets.{fetched_ticket};
+ghost use Rattle.nvme_model.specs.Refusals.{jobs_full, no_queue, refusal};
+ghost use Rattle.nvme_model.specs.Tickets.{cids_in_use, fetched_ticket};
 ghost use Rattle.nvme_model.specs.Verdict.{item_of, taken, verdict_of};
 ghost use Rattle.nvme_model.specs.declared.step.Step.{Step};
 ghost use Rattle.rings.specs.Submissions.{advanced};
-ghost use Rattle.step_core.specs.Fetches.{IsJudged, cids_by, cids_on, commands_of, compare_by, first_job, job_cids};
-ghost use Rattle.step_core.specs.Fetches.{kind_in, read_first};
+ghost use Rattle.step_core.specs.Fetches.{IsFront, cids_taken, compare_by, first_job, kind_in, read_first};
 ghost use Rattle.step_core.specs.Fields.{write_blocks};
-ghost use Rattle.step_core.specs.Filed.{IsFiled};
 ghost use Rattle.step_core.specs.State.{Does, needs_data};
 ghost use Rattle.ticket_course.specs.Stages.{IsSound};
 
@@ -24,11 +21,9 @@ use crate::machine::Core;
 use crate::machine::data::{DataRoom, data_room};
 use crate::machine::room::keep_room;
 use crate::work::{Kind, Work};
-use entry_codec::{Sqe, decode_sqe};
+use cids_in_use::CidsInUse;
 use fused_match::{Item, Judged, judge};
-use history::Config;
-use job_index::QueueIndex;
-use job_table::{Data, Job, Jobs};
+use job_table::{Data, Job};
 use nvme_model::entry::{Entry, FetchLine};
 use nvme_model::operation::Op;
 use nvme_model::refusal::Why;
@@ -37,54 +32,13 @@ use rings::SqRing;
 use std::alloc::{AllocError as NoMemory, Global};
 use ticket_course::Cids;
 
-// Puts the CIDs that a job still owes a completion for, if it is on this queue, behind the first `count` of an array,
-// and says how many there are then.
-fn put_cids(job: &Job, queue: u16, in_use: &mut [u16; 512], count: usize) -> usize
-    requires room { count + 2 ≤ 512 }
-    ensures few { result ≤ count + 2 }
-    ensures value { take result in_use.new ≡ take count in_use.old ++ job_cids queue job.now }
-{
-    if job.queue() != queue {
-        return count;
-    }
-    let cids = job.course().cids();
-    let _most = cids.len();
-    let Some(first) = cids.get(0) else {
-        return count;
-    };
-    in_use[count] = first;
-    let Some(second) = cids.get(1) else {
-        return count + 1;
-    };
-    in_use[count + 1] = second;
-    count + 2
-}
-
-// The CIDs that tickets in flight on this queue still owe a completion for, at the front of an array, and how many.
-fn cids_in_use(jobs: &Jobs, queues: &QueueIndex, queue: u16, in_use: &mut [u16; 512]) -> usize
-    requires limit { jobs.now.limit ≤ 256 }
-    requires filed { IsFiled queues.now jobs.now }
-    ensures few { result ≤ 512 }
-    ensures value { take result in_use.new ≡ cids_on queue jobs.now.jobs }
-{
-    // That no more are in flight than may be.
-    let _most = jobs.is_full();
-    let mut count = 0;
-    let tickets = queues.on(queue);
-    for place in 0..tickets.len() {
-        let Some(job) = jobs.get_near(place, tickets[place].ticket) else {
-            unreachable!();
-        };
-        count = put_cids(job, queue, in_use, count);
-    }
-    count
-}
-
-// The fields of a submission's entry.
-fn fields(submission: &Submission) -> Sqe
-    ensures value { result ≡ sqe_fields submission.now.entry }
-{
-    decode_sqe(&submission.entry)
+// What a Fetch finds of the entries at the front of a queue: what becomes of them, the CIDs of those that it takes, and
+// the first block that the first of them names.
+#[derive(Clone, Copy)]
+pub(crate) struct Front {
+    judged: Judged,
+    cids: Cids,
+    slba: u64,
 }
 
 // What a ticket has to do.
@@ -111,14 +65,30 @@ fn op_of(judged: &Judged) -> Option<Op>
     }
 }
 
-// The CIDs of one or two commands.
-fn cids_of(first: &Submission, second: &Option<Submission>) -> Cids
-    ensures value { result ≡ cids_by (commands_of first.now second.now) }
+// The CIDs of the commands that are taken.
+fn taken_cids(judged: &Judged, first: &Item, second: Option<&Item>) -> Cids
+    ensures value { result ≡ cids_taken judged.now first.now (option_copied second.entry) }
 {
     match second {
-        Some(other) => Cids::two(fields(first).cid(), fields(other).cid()),
-        None => Cids::one(fields(first).cid()),
+        Some(second) if judged.taken() == 2 => Cids::two(first.sqe().cid(), second.sqe().cid()),
+        _ => Cids::one(first.sqe().cid()),
     }
+}
+
+// Puts the CIDs of a ticket in use.
+fn put_in_use(used: &mut CidsInUse, cids: Cids)
+    requires room { length used.old.cids + length cids ≤ used.old.room }
+    ensures more { used.new ≡ record used.old { cids = used.old.cids ++ cids } }
+{
+    let _most = cids.len();
+    let Some(first) = cids.get(0) else {
+        return;
+    };
+    used.add(first);
+    let Some(second) = cids.get(1) else {
+        return;
+    };
+    used.add(second);
 }
 
 // The Compare's data, of what lies beside the first command.
@@ -133,43 +103,34 @@ fn compare_of(alloc: Global, op: Option<Op>, first: Submission) -> Payload
 }
 
 // The job of a ticket that was just fetched, with the room that was made for its data.
-fn new_job(
-    alloc: Global,
-    queue: u16,
-    judged: &Judged,
-    first: Submission,
-    second: Option<Submission>,
-    room: DataRoom,
-) -> Job
-    requires cids { length (commands_of first second) ≡ taken (verdict_by judged.now) }
-    requires sound { IsSound judged.now }
-    ensures value { result ≡ first_job queue judged.now first second (contents_of room.write.items) room.read }
+fn new_job(alloc: Global, queue: u16, front: Front, first: Submission, room: DataRoom) -> Job
+    requires cids { length front.cids ≡ taken (verdict_by front.judged) }
+    requires sound { IsSound front.judged }
+    ensures value { result ≡ first_job queue front first (contents_of room.write.items) room.read }
 {
-    let op = op_of(judged);
-    let cids = cids_of(&first, &second);
-    let slba = fields(&first).slba();
+    let Front { judged, cids, slba } = front;
     let all = Data {
         slba,
-        compare: compare_of(alloc, op, first),
+        compare: compare_of(alloc, op_of(&judged), first),
         write: room.write,
         read: room.read,
     };
-    Job::new(queue, judged, cids, all)
+    Job::new(queue, &judged, cids, all)
 }
 
-// Takes the next one or two entries out of a ring.
-fn take_commands(ring: &mut SqRing, count: u8) -> (Submission, Option<Submission>)
+// Takes the next one or two entries out of a ring, and gives the first.
+fn take_commands(ring: &mut SqRing, count: u8) -> Submission
     requires some { 1 ≤ count }
     requires few { count ≤ 2 }
     requires within { count ≤ length ring.old.waiting }
-    ensures taken { commands_of result.0 result.1 ≡ take count ring.old.waiting }
+    ensures first { slice_get ring.old.waiting 0 ≡ Some result }
     ensures rest { ring.new ≡ advanced ring.old count }
 {
     let first = ring.take();
-    if count == 1 {
-        return (first, None);
+    if count == 2 {
+        let _second = ring.take();
     }
-    (first, Some(ring.take()))
+    first
 }
 
 // What a check sees of the entry behind the first of a ring, if there is one.
@@ -177,34 +138,6 @@ fn next_item(ring: &SqRing) -> Option<Item>
     ensures value { result ≡ option_map item_of (slice_get ring.now.waiting 1) }
 {
     ring.peek(1).map(Item::of)
-}
-
-// What becomes of the entries at the front of a ring, where these tickets are in flight.
-fn judge_front(
-    first: &Submission,
-    next: Option<&Item>,
-    jobs: &Jobs,
-    queues: &QueueIndex,
-    queue: u16,
-    config: &Config,
-) -> Judged
-    requires limit { jobs.now.limit ≤ 256 }
-    requires filed { IsFiled queues.now jobs.now }
-    ensures verdict { verdict_by result ≡
-        verdict_of config.now.atomic config.now.blocks (cids_on queue jobs.now.jobs)
-        (waiting_items (item_of first.now) (option_copied next.entry)) }
-    ensures operation { operation_in result ≡ op_by (verdict_by result) (sqe_fields first.now.entry) }
-    ensures range { NamesBlocks result (sqe_fields first.now.entry) }
-{
-    let mut in_use = [0; 512];
-    let count = cids_in_use(jobs, queues, queue, &mut in_use);
-    judge(
-        &Item::of(first),
-        next,
-        &in_use[..count],
-        &config.units(),
-        config.numbers().blocks,
-    )
 }
 
 impl Core {
@@ -215,11 +148,25 @@ impl Core {
         self.jobs.is_full()
     }
 
-    // What becomes of the entries that a Fetch of this queue takes, or why it is refused, memory aside.
-    fn fetch_judged(&self, queue: u16) -> Result<Judged, Why>
+    // What becomes of these entries at the front of a queue.
+    fn judge_front(&self, queue: u16, first: &Item, second: Option<&Item>) -> Judged
+        requires there { no_queue self.now.config queue ≡ false }
+        ensures verdict { verdict_by result ≡
+            verdict_of self.now.config.atomic self.now.config.blocks (cids_in_use self.now.past queue)
+            (waiting_items first.now (option_copied second.entry)) }
+        ensures operation { operation_in result ≡ op_by (verdict_by result) first.now.fields }
+        ensures range { NamesBlocks result first.now.fields }
+    {
+        let in_use = self.in_use[queue as usize - 1].as_slice();
+        let numbers = self.config.numbers();
+        judge(first, second, in_use, &self.config.units(), numbers.blocks)
+    }
+
+    // What a Fetch of this queue finds of the entries that it takes, or why it is refused, memory aside.
+    fn fetch_front(&self, queue: u16) -> Result<Front, Why>
         ensures value { MatchResult result
-            (λ j. (refusal self.now.config self.now.past (Step.Fetch queue) ≡ None)
-            × IsJudged self.now.config self.now.past queue j)
+            (λ f. (refusal self.now.config self.now.past (Step.Fetch queue) ≡ None)
+            × IsFront self.now.config self.now.past queue f)
             (λ why. refusal self.now.config self.now.past (Step.Fetch queue) ≡ Some why) }
     {
         let Some(ring) = self.sq_ring(queue) else {
@@ -231,43 +178,50 @@ impl Core {
         if self.jobs_full() {
             return Err(Why::JobsFull);
         }
-        let next = next_item(ring);
-        let next = next.as_ref();
-        Ok(judge_front(first, next, &self.jobs, &self.queues, queue, &self.config))
+        let first = Item::of(first);
+        let second = next_item(ring);
+        let second = second.as_ref();
+        let judged = self.judge_front(queue, &first, second);
+        Ok(Front {
+            judged,
+            cids: taken_cids(&judged, &first, second),
+            slba: first.sqe().slba(),
+        })
     }
 
-    // The room for the data of the ticket that a Fetch of this queue makes, where its entries are judged so.
-    fn fetch_room(&self, queue: u16, judged: &Judged) -> Result<DataRoom, NoMemory>
+    // The room for the data of the ticket that a Fetch of this queue makes, where it finds this.
+    fn fetch_room(&self, queue: u16, front: &Front) -> Result<DataRoom, NoMemory>
         requires fetched { (refusal self.now.config self.now.past (Step.Fetch queue) ≡ None)
-            × IsJudged self.now.config self.now.past queue judged.now }
+            × IsFront self.now.config self.now.past queue front.now }
         ensures write { IfOk result (λ room. contents_of room.write.items
-            ≡ write_blocks (fetched_ticket self.now.past queue (verdict_by judged.now))) }
-        ensures read { IfOk result (λ room. room.read ≡ read_first judged.now) }
-        ensures wants { OnErr result (needs_data (operation_in judged.now) ≡ true) }
+            ≡ write_blocks (fetched_ticket self.now.past queue (verdict_by front.now.judged))) }
+        ensures read { IfOk result (λ room. room.read ≡ read_first front.now.judged) }
+        ensures wants { OnErr result (needs_data (operation_in front.now.judged) ≡ true) }
     {
         let Some(ring) = self.sq_ring(queue) else {
             unreachable!();
         };
-        data_room(self.alloc, ring, judged)
+        data_room(self.alloc, ring, &front.judged)
     }
 
     /// Takes the next command, or the next fused pair, of a submission queue.
     pub(super) fn fetch(&mut self, queue: u16) -> Result<Answer, Why>
         ensures does { Does self.old (Step.Fetch queue) result self.new }
     {
-        let judged = self.fetch_judged(queue)?;
-        let Ok(room) = self.fetch_room(queue, &judged) else {
+        let front = self.fetch_front(queue)?;
+        let Ok(room) = self.fetch_room(queue, &front) else {
             return Err(Why::NoMemory);
         };
         keep_room(&mut self.history, self.promised)?;
+        let judged = front.judged;
         let ticket = self.tickets + 1;
-        let ring = &mut self.submission[queue as usize - 1];
-        let (first, second) = take_commands(ring, judged.taken());
-        let job = new_job(self.alloc, queue, &judged, first, second, room);
+        let place = queue as usize - 1;
+        let first = take_commands(&mut self.submission[place], judged.taken());
+        put_in_use(&mut self.in_use[place], front.cids);
+        let job = new_job(self.alloc, queue, front, first, room);
         let Ok(()) = self.jobs.insert(ticket, job) else {
             unreachable!();
         };
-        self.queues.insert(queue, ticket);
         self.tickets = ticket;
         self.history.push_reserved(Entry::Fetch(FetchLine {
             queue,

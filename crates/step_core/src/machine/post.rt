@@ -5,7 +5,6 @@ ghost use Rattle.job_table.specs.Jobs.{has_ticket, job_of, jobs_beside, replaced
 ghost use Rattle.job_table.specs.Keeping.{Keeping, posted_job};
 ghost use Rattle.nvme_model.specs.Refusals.{refusal};
 ghost use Rattle.nvme_model.specs.declared.step.Step.{Step};
-ghost use Rattle.step_core.specs.Filed.{IsFiled};
 ghost use Rattle.step_core.specs.Kept.{IsJob};
 ghost use Rattle.step_core.specs.Ready.{IsNext};
 ghost use Rattle.step_core.specs.State.{Does};
@@ -17,7 +16,6 @@ use crate::machine::Core;
 use crate::machine::room::keep_room;
 use completions::cqe_of;
 use entry_codec::encode_cqe;
-use job_index::QueueIndex;
 use job_table::{Job, Jobs};
 use nvme_model::entry::{Entry, PostLine};
 use nvme_model::refusal::Why;
@@ -28,6 +26,10 @@ use std::alloc::Global;
 #[derive(Clone, Copy)]
 pub(crate) struct Due {
     pub(super) ticket: u64,
+    // Its submission queue, and its CID.
+    from: u16,
+    cid: u16,
+    // Where its completion goes.
     queue: u16,
     cqe: [u8; 16],
     // How much its ticket has read.
@@ -59,6 +61,8 @@ impl Core {
         let cqe = encode_cqe(&cqe_of(status, cid, queue, head, ring.phase()));
         Ok(Due {
             ticket,
+            from: queue,
+            cid,
             queue: place + 1,
             cqe,
             bytes: job.read().len(),
@@ -85,7 +89,8 @@ impl Core {
             return Err(Why::NoMemory);
         };
         keep_room(&mut self.history, self.promised)?;
-        let payload = take_due(self.alloc, &mut self.jobs, &mut self.queues, due);
+        let payload = take_due(self.alloc, &mut self.jobs, due);
+        self.in_use[due.from as usize - 1].remove(due.cid);
         copy.extend_from_slice(payload.as_slice()).unwrap();
         self.completion[due.queue as usize - 1]
             .post(cqe, payload)
@@ -101,12 +106,10 @@ impl Core {
 
 // Takes the completion that is due off what its ticket owes, and the ticket out of flight with its last one, and gives
 // the data that goes with it.
-fn take_due(alloc: Global, jobs: &mut Jobs, queues: &mut QueueIndex, due: Due) -> Payload
-    requires filed { IsFiled queues.old jobs.old }
+fn take_due(alloc: Global, jobs: &mut Jobs, due: Due) -> Payload
     requires flies { has_ticket jobs.old.jobs due.ticket ≡ true }
     requires owes { (j : Keeping) → job_of jobs.old.jobs due.ticket ≡ Some j → 0 < length (owed_in j.course.stage) }
     ensures limit { jobs.new.limit ≡ jobs.old.limit }
-    ensures filed { IsFiled queues.new jobs.new }
     ensures last { due.last ≡ true → jobs.new.jobs ≡ jobs_beside jobs.old.jobs due.ticket }
     ensures more { due.last ≡ false → (j : Keeping) → job_of jobs.old.jobs due.ticket ≡ Some j →
         jobs.new.jobs ≡ replaced jobs.old.jobs due.ticket (posted_job j) }
@@ -114,11 +117,7 @@ fn take_due(alloc: Global, jobs: &mut Jobs, queues: &mut QueueIndex, due: Due) -
         result ≡ (if due.last then j.read else []) }
 {
     if due.last {
-        // That the tickets rise.
-        let _count = jobs.len();
-        let job = jobs.remove(due.ticket).unwrap();
-        queues.remove(job.queue(), due.ticket);
-        return job.into_read();
+        return jobs.remove(due.ticket).unwrap().into_read();
     }
     jobs.get_mut(due.ticket).unwrap().post();
     Payload::new(Vec::new(alloc))

@@ -69,7 +69,8 @@ fn row(repeats: usize, name: &str, list: &List) {
 }
 
 fn head(name: &str) {
-    println!("\n{name}\n");
+    let beside = if cfg!(feature = "boxed") { ", beside the peer with boxed blocks" } else { "" };
+    println!("\n{name}{beside}\n");
     println!("| workload | steps | product ns/step | peer ns/step | ratio | ratio of least | product less building | peer less building | ratio | product steps/s | peer steps/s | peer: freeing, of the steps |");
     println!("|---|---|---|---|---|---|---|---|---|---|---|---|");
 }

@@ -1,69 +1,63 @@
-use Rattle.std.proofs.Common.{◌≡◌, ap, arith, subst, sym, ◌+◌}
+use Rattle.std.proofs.Common.{◌≡◌, arith, subst, sym}
 use Rattle.block_array.specs.Blocks.{contents_of}
 use Rattle.fused_match.specs.Judged.{verdict_by}
 use Rattle.nvme_model.specs.Tickets.{fetched_ticket}
-use Rattle.job_table.specs.Keeping.{Keeping}
 use Rattle.step_core.specs.Fields.{write_blocks}
 use Rattle.step_core.specs.State.{State}
-use Rattle.step_core.proofs.Filing.{above_filed, filed_more}
-use Rattle.step_core.proofs.Fetched.{IsFetched, ticket_fits, can_take, cids_are, is_above, sound_is, not_full, work_fits, fetch_kept, fetch_done}
+use Rattle.step_core.proofs.Fetched.{IsFetched, ticket_fits, can_take, cids_are, is_above, sound_is, not_full, used_room, work_fits, fetch_kept, fetch_done}
 use Rattle.step_core.proofs.machine.Core.fetch.Goals as goal
 
 pub overflow_add-ticket : goal.overflow_add-ticket
 overflow_add-ticket c =
-    let a = subst (λ (x : State). IsFetched x.config x.past c.args.queue c.in_ok-judged.judged) (sym c.self.view_is) c.in_ok-judged.ensures.value in
-    omega (arith, ticket_fits _ _ _ _ _ _ _ _ c.self.invariant.0 _ _ a _ c.keep_room.ensures.past c.in_ok-keep_room.ensures.few)
+    let a = subst (λ (x : State). IsFetched x.config x.past c.args.queue c.in_ok-front.front) (sym c.self.view_is) c.in_ok-front.ensures.value in
+    omega (arith, ticket_fits _ _ _ c.self.invariant.0 _ _ a _ c.keep_room.ensures.past c.in_ok-keep_room.ensures.few)
 
 pub take_commands-first-requires-clause-within : goal.take_commands-first-requires-clause-within
 take_commands-first-requires-clause-within c =
-    let a = subst (λ (x : State). IsFetched x.config x.past c.args.queue c.in_ok-judged.judged) (sym c.self.view_is) c.in_ok-judged.ensures.value in
-    can_take _ _ _ _ _ _ _ _ c.self.invariant.0 _ _ a _ _ c.index_mut-ring.ensures.value c.taken.ensures.value
+    let a = subst (λ (x : State). IsFetched x.config x.past c.args.queue c.in_ok-front.front) (sym c.self.view_is) c.in_ok-front.ensures.value in
+    can_take _ _ _ c.self.invariant.0 _ _ a _ _ c.index_mut.ensures.value c.taken.ensures.value
+
+pub put_in_use-requires : goal.put_in_use-requires
+put_in_use-requires c =
+    let a = subst (λ (x : State). IsFetched x.config x.past c.args.queue c.in_ok-front.front) (sym c.self.view_is) c.in_ok-front.ensures.value in
+    record { room = used_room _ _ _ c.self.invariant.0 _ _ a _ c.index_mut-2.ensures.value }
 
 pub new_job-job-requires : goal.new_job-job-requires
 new_job-job-requires c =
-    let a = subst (λ (x : State). IsFetched x.config x.past c.args.queue c.in_ok-judged.judged) (sym c.self.view_is) c.in_ok-judged.ensures.value in
-    record {
-      cids = cids_are _ _ _ _ _ _ _ _ c.self.invariant.0 _ _ a _ _ _ _ c.index_mut-ring.ensures.value c.taken.ensures.value c.take_commands-first.ensures.taken;
-      sound = sound_is _ _ _ _ _ _ _ _ c.self.invariant.0 _ _ a;
-    }
+    let a = subst (λ (x : State). IsFetched x.config x.past c.args.queue c.in_ok-front.front) (sym c.self.view_is) c.in_ok-front.ensures.value in
+    record { cids = cids_are _ _ _ c.self.invariant.0 _ _ a; sound = sound_is _ _ _ c.self.invariant.0 _ _ a }
 
 pub insert-requires : goal.insert-requires
 insert-requires c =
-    let a = subst (λ (x : State). IsFetched x.config x.past c.args.queue c.in_ok-judged.judged) (sym c.self.view_is) c.in_ok-judged.ensures.value in
-    record { above = is_above _ _ _ _ _ _ _ _ c.self.invariant.0 _ _ a }
-
-pub insert-requires-2-clause-above : goal.insert-requires-2-clause-above
-insert-requires-2-clause-above c =
-    let a = subst (λ (x : State). IsFetched x.config x.past c.args.queue c.in_ok-judged.judged) (sym c.self.view_is) c.in_ok-judged.ensures.value in
-    above_filed _ _ c.args.queue (c.self.inside.tickets + 1) c.self.invariant.4 (is_above _ _ _ _ _ _ _ _ c.self.invariant.0 _ _ a)
+    let a = subst (λ (x : State). IsFetched x.config x.past c.args.queue c.in_ok-front.front) (sym c.self.view_is) c.in_ok-front.ensures.value in
+    record { above = is_above _ _ _ c.self.invariant.0 _ _ a }
 
 pub unreachable-requires : goal.unreachable-requires
 unreachable-requires c =
-    let a = subst (λ (x : State). IsFetched x.config x.past c.args.queue c.in_ok-judged.judged) (sym c.self.view_is) c.in_ok-judged.ensures.value in
-    not_full _ _ _ _ _ _ _ _ c.self.invariant.0 _ _ a c.in_default-insert.ensures.full
+    let a = subst (λ (x : State). IsFetched x.config x.past c.args.queue c.in_ok-front.front) (sym c.self.view_is) c.in_ok-front.ensures.value in
+    not_full _ _ _ c.self.invariant.0 _ _ a c.in_default-insert.ensures.full
 
 pub new-requires : goal.new-requires
 new-requires c =
-    let a = subst (λ (x : State). IsFetched x.config x.past c.args.queue c.in_ok-judged.judged) (sym c.self.view_is) c.in_ok-judged.ensures.value in
-    work_fits _ _ _ _ _ _ _ _ c.self.invariant.0 _ _ a _ _ c.units-units.ensures c.kind_of.ensures.value
+    let a = subst (λ (x : State). IsFetched x.config x.past c.args.queue c.in_ok-front.front) (sym c.self.view_is) c.in_ok-front.ensures.value in
+    work_fits _ _ _ c.self.invariant.0 _ _ a _ _ c.units-units.ensures c.kind_of.ensures.value
 
 pub invariant_of-self-2 : goal.invariant_of-self-2
 invariant_of-self-2 c =
-    let a = subst (λ (x : State). IsFetched x.config x.past c.args.queue c.in_ok-judged.judged) (sym c.self.view_is) c.in_ok-judged.ensures.value in
-    let wrote = subst (λ (x : State). contents_of c.in-Ok.room.write.items ≡ write_blocks (fetched_ticket x.past c.args.queue (verdict_by c.in_ok-judged.judged))) (sym c.self.view_is) c.in-Ok.ensures.write in (
-      fetch_kept _ _ _ _ _ _ _ _ c.self.invariant.0 _ _ a _ _ _ _ _ _ _ _ _ _ _ _ c.index_mut-ring.ensures.value c.taken.ensures.value c.take_commands-first.ensures.taken c.take_commands-first.ensures.rest
+    let a = subst (λ (x : State). IsFetched x.config x.past c.args.queue c.in_ok-front.front) (sym c.self.view_is) c.in_ok-front.ensures.value in
+    let wrote = subst (λ (x : State). contents_of c.in-Ok.room.write.items ≡ write_blocks (fetched_ticket x.past c.args.queue (verdict_by c.in_ok-front.front.judged))) (sym c.self.view_is) c.in-Ok.ensures.write in (
+      fetch_kept _ _ _ c.self.invariant.0 _ _ a _ _ _ _ _ _ _ _ _ _ _ _ _ c.index_mut.ensures.value c.taken.ensures.value c.take_commands-first.ensures.first c.take_commands-first.ensures.rest
+          c.index_mut-2.ensures.value c.put_in_use.ensures.more
           wrote c.in-Ok.ensures.read c.new_job-job.ensures.value c.in-Ok-insert.ensures.ok c.verdict.ensures.value c.keep_room.ensures.past c.push_reserved.ensures.past,
       omega (arith, c.in_ok-keep_room.ensures.ok, c.push_reserved.ensures.room),
       c.self.invariant.2,
       c.self.invariant.3,
-      filed_more _ _ _ _ c.args.queue (c.self.inside.tickets + 1) c.new_job-job.result c.self.invariant.4 (ap (λ (j : Keeping). j.queue) c.new_job-job.ensures.value) c.insert-2.ensures.each c.insert-2.ensures.more
-          c.insert-2.ensures.limit c.in-Ok-insert.ensures.ok,
     )
 
 pub returns : goal.returns
 returns c =
-    let a = subst (λ (x : State). IsFetched x.config x.past c.args.queue c.in_ok-judged.judged) (sym c.self.view_is) c.in_ok-judged.ensures.value in
+    let a = subst (λ (x : State). IsFetched x.config x.past c.args.queue c.in_ok-front.front) (sym c.self.view_is) c.in_ok-front.ensures.value in
     record {
-      does = fetch_done _ _ _ _ _ _ _ _ c.self.invariant.0 _ _ a _ _ _ _ _ _ _ _ _ _ c.self.view_is c.verdict.ensures.value c.keep_room.ensures.past c.push_reserved.ensures.past c.units-units.ensures c.kind_of.ensures.value c.new.ensures
+      does = fetch_done _ _ _ c.self.invariant.0 _ _ a _ _ _ _ _ _ _ _ _ _ c.self.view_is c.verdict.ensures.value c.keep_room.ensures.past c.push_reserved.ensures.past c.units-units.ensures c.kind_of.ensures.value c.new.ensures
           (record { entries = omega (arith, c.keep_room.ensures.kept, c.push_reserved.ensures.room); ranges = omega arith });
     }

@@ -9,7 +9,7 @@ pub returns-in_default : goal.returns-in_default
 returns-in_default c =
     let same : c.units.result ≡ c.args.self.now.config.atomic = c.units.ensures ∙ ap (λ (x : State). x.config.atomic) c.self.view_is in
     record {
-      value = nothing_next _ _ _ _ _ _ _ _ (seen _ _ _ _ _ _ _ _ _ _ c.self.view_is c.self.invariant.0) c.args.ticket c.args.job.now c.requires.job
+      value = nothing_next _ _ _ (seen _ _ _ _ _ c.self.view_is c.self.invariant.0) c.args.ticket c.args.job.now c.requires.job
           (ap₂ (λ (u : AtomicParameters) (x : Ticking). next_in u x.stage) (sym same) (sym c.course-course.ensures.value) ∙ sym c.in_default.ensures.value);
     }
 
@@ -17,7 +17,7 @@ pub returns-then-conflicts : goal.returns-then-conflicts
 returns-then-conflicts c =
     let same : c.units.result ≡ c.args.self.now.config.atomic = c.units.ensures ∙ ap (λ (x : State). x.config.atomic) c.self.view_is in
     record {
-      value = in_conflict _ _ _ _ _ _ _ _ (seen _ _ _ _ _ _ _ _ _ _ c.self.view_is c.self.invariant.0) c.args.ticket c.args.job.now c.requires.job
+      value = in_conflict _ _ _ (seen _ _ _ _ _ c.self.view_is c.self.invariant.0) c.args.ticket c.args.job.now c.requires.job
           c.in-Some.range
           (c.in-Some.ensures.value ∙ ap₂ (λ (u : AtomicParameters) (x : Ticking). next_in u x.stage) same c.course-course.ensures.value)
           c.mode-mode.result (c.mode-mode.ensures.value ∙ ap (λ (x : Ticking). mode_in x.stage) c.course-course.ensures.value) (sym c.if-conflicts.ensures.conflicts);
@@ -28,7 +28,7 @@ overflow_cast-range c =
     let same : c.units.result ≡ c.args.self.now.config.atomic = c.units.ensures ∙ ap (λ (x : State). x.config.atomic) c.self.view_is in
     omega (
       arith,
-      next_short _ _ _ _ _ _ _ _ (seen _ _ _ _ _ _ _ _ _ _ c.self.view_is c.self.invariant.0) c.args.ticket c.args.job.now c.requires.job
+      next_short _ _ _ (seen _ _ _ _ _ c.self.view_is c.self.invariant.0) c.args.ticket c.args.job.now c.requires.job
           c.in-Some.range
           (c.in-Some.ensures.value ∙ ap₂ (λ (u : AtomicParameters) (x : Ticking). next_in u x.stage) same c.course-course.ensures.value),
     )
@@ -39,7 +39,7 @@ returns c =
     rw c.new.ensures.value (record {
       value = (
         refl,
-        line_is _ _ _ _ _ _ _ _ (seen _ _ _ _ _ _ _ _ _ _ c.self.view_is c.self.invariant.0) c.args.ticket c.args.job.now c.requires.job
+        line_is _ _ _ (seen _ _ _ _ _ c.self.view_is c.self.invariant.0) c.args.ticket c.args.job.now c.requires.job
             c.in-Some.range
             (c.in-Some.ensures.value ∙ ap₂ (λ (u : AtomicParameters) (x : Ticking). next_in u x.stage) same c.course-course.ensures.value)
             c.mode-mode.result (c.mode-mode.ensures.value ∙ ap (λ (x : Ticking). mode_in x.stage) c.course-course.ensures.value)

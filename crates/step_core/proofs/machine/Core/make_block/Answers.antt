@@ -3,22 +3,21 @@ use Rattle.std.specs.Option.{option_copied_mut}
 use Rattle.step_core.specs.Ready.{IsNext}
 use Rattle.step_core.specs.declared.machine.next.Next.{Next}
 use Rattle.step_core.specs.State.{State}
-use Rattle.step_core.proofs.Filing.{filed_same, noted_queue}
 use Rattle.step_core.proofs.BlockMade.{block_does, has_job, kept, opened, ready}
 use Rattle.step_core.proofs.machine.Core.make_block.Goals as goal
 
 pub unwrap-job-requires : goal.unwrap-job-requires
 unwrap-job-requires c =
     let b = subst (λ (x : State). IsNext x.config x.past (Next.Block c.args.ticket c.args.unit)) (sym c.self.view_is) c.requires.block in
-    c.get_mut.ensures.any ∙ has_job _ _ _ _ _ _ _ _ c.self.invariant.0 c.args.ticket b.0
+    c.get_mut.ensures.any ∙ has_job _ _ _ c.self.invariant.0 c.args.ticket b.0
 
 pub make_block-done-requires : goal.make_block-done-requires
 make_block-done-requires c =
     let b = subst (λ (x : State). IsNext x.config x.past (Next.Block c.args.ticket c.args.unit)) (sym c.self.view_is) c.requires.block in
     let job = sym (ap option_copied_mut c.unwrap-job.ensures) ∙ c.get_mut.ensures.value in
     record {
-      «open» = opened _ _ _ _ _ _ _ _ c.self.invariant.0 c.args.ticket b.0 c.unwrap-job.result.now job;
-      ready = ready _ _ _ _ _ _ _ _ c.self.invariant.0 c.args.ticket b.0 c.unwrap-job.result.now job;
+      «open» = opened _ _ _ c.self.invariant.0 c.args.ticket b.0 c.unwrap-job.result.now job;
+      ready = ready _ _ _ c.self.invariant.0 c.args.ticket b.0 c.unwrap-job.result.now job;
     }
 
 pub invariant_of-self-2 : goal.invariant_of-self-2
@@ -26,7 +25,7 @@ invariant_of-self-2 c =
     let b = subst (λ (x : State). IsNext x.config x.past (Next.Block c.args.ticket c.args.unit)) (sym c.self.view_is) c.requires.block in
     let job = sym (ap option_copied_mut c.unwrap-job.ensures) ∙ c.get_mut.ensures.value in
     let made = c.make_block-done.ensures in (
-      kept _ _ _ _ _ _ _ _ c.self.invariant.0 c.args.ticket b.0 c.unwrap-job.result.now job c.args.unit b.1
+      kept _ _ _ c.self.invariant.0 c.args.ticket b.0 c.unwrap-job.result.now job c.args.unit b.1
           c.make_block-done.result c.make_block-done.new.volume c.make_block-done.new.self
           (record { done = made.done; volume = made.volume; job = made.job })
           c.take_room.new.history.past c.push_reserved.new.self.past c.release_ended.new.ranges.held
@@ -34,9 +33,6 @@ invariant_of-self-2 c =
       omega (arith, c.push_reserved.ensures.room, c.in_ok-take_room.ensures.ok.1),
       omega (arith, c.self.invariant.2, c.release_ended.ensures.room, c.in_ok-take_room.ensures.ok.0),
       omega (arith, c.self.invariant.3, c.in_ok-take_room.ensures.ok.0),
-      filed_same _ _ c.args.ticket c.unwrap-job.result.now c.make_block-done.new.self c.self.invariant.4 c.get_mut.ensures.law (sym job)
-          (noted_queue c.unwrap-job.result.now.course.stage c.unwrap-job.result.now c.make_block-done.new.self _ _
-          (opened _ _ _ _ _ _ _ _ c.self.invariant.0 c.args.ticket b.0 c.unwrap-job.result.now job) made.job),
     )
 
 pub returns : goal.returns
@@ -45,7 +41,7 @@ returns c =
     let job = sym (ap option_copied_mut c.unwrap-job.ensures) ∙ c.get_mut.ensures.value in
     let made = c.make_block-done.ensures in
     record {
-      does = block_does _ _ _ _ _ _ _ _ c.self.invariant.0 c.args.ticket b.0 c.unwrap-job.result.now job c.args.unit b.1
+      does = block_does _ _ _ c.self.invariant.0 c.args.ticket b.0 c.unwrap-job.result.now job c.args.unit b.1
           c.make_block-done.result c.make_block-done.new.volume c.make_block-done.new.self
           (record { done = made.done; volume = made.volume; job = made.job })
           c.args.self.now c.self.inside.promised c.take_room.new.promised _ _

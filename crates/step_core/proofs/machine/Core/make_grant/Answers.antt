@@ -5,25 +5,23 @@ use Rattle.range_reserve.specs.declared.held.Held.{Held}
 use Rattle.step_core.specs.Ready.{IsNext}
 use Rattle.step_core.specs.declared.machine.next.Next.{Next}
 use Rattle.step_core.specs.State.{State}
-use Rattle.job_table.specs.Keeping.{Keeping}
-use Rattle.step_core.proofs.Filing.{filed_same}
 use Rattle.step_core.proofs.Granted.{apart, first, free, has_job, held_ok, kept, range_is}
 use Rattle.step_core.proofs.machine.Core.make_grant.Goals as goal
 
 pub grant-requires-clause-free : goal.grant-requires-clause-free
 grant-requires-clause-free c =
     let g = subst (λ (x : State). IsNext x.config x.past (Next.Grant c.args.line)) (sym c.self.view_is) c.requires.line in
-    ap (λ (hs : List Held). has_ticket hs c.args.line.ticket) c.take_both.ensures.ranges ∙ free _ _ _ _ _ _ _ _ c.self.invariant.0 c.args.line g
+    ap (λ (hs : List Held). has_ticket hs c.args.line.ticket) c.take_both.ensures.ranges ∙ free _ _ _ c.self.invariant.0 c.args.line g
 
 pub grant-requires-clause-range : goal.grant-requires-clause-range
 grant-requires-clause-range c =
     let g = subst (λ (x : State). IsNext x.config x.past (Next.Grant c.args.line)) (sym c.self.view_is) c.requires.line in
-    rw c.get-range.ensures.value (range_is _ _ _ _ _ _ _ _ c.self.invariant.0 c.args.line g)
+    rw c.get-range.ensures.value (range_is _ _ _ c.self.invariant.0 c.args.line g)
 
 pub unwrap-requires : goal.unwrap-requires
 unwrap-requires c =
     let g = subst (λ (x : State). IsNext x.config x.past (Next.Grant c.args.line)) (sym c.self.view_is) c.requires.line in
-    let no = apart _ _ _ _ _ _ _ _ c.self.invariant.0 c.args.line g in
+    let no = apart _ _ _ c.self.invariant.0 c.args.line g in
     let same = ap (λ (hs : List Held). has_conflict hs c.args.line.range c.args.line.mode) c.take_both.ensures.ranges in
     held_ok c.grant.result c.grant.ensures.errors
     (λ e. absurd (let both : true ≡ false = sym ((rw c.get-range.ensures.value at c.grant.ensures.conflict).0 e) ∙ same ∙ no in cc))
@@ -32,13 +30,13 @@ unwrap-requires c =
 pub unwrap-requires-2 : goal.unwrap-requires-2
 unwrap-requires-2 c =
     let g = subst (λ (x : State). IsNext x.config x.past (Next.Grant c.args.line)) (sym c.self.view_is) c.requires.line in
-    c.get_mut.ensures.any ∙ has_job _ _ _ _ _ _ _ _ c.self.invariant.0 c.args.line g
+    c.get_mut.ensures.any ∙ has_job _ _ _ c.self.invariant.0 c.args.line g
 
 pub open-requires : goal.open-requires
 open-requires c =
     let g = subst (λ (x : State). IsNext x.config x.past (Next.Grant c.args.line)) (sym c.self.view_is) c.requires.line in
     let job = sym (ap option_copied_mut c.unwrap-2.ensures) ∙ c.get_mut.ensures.value in
-    record { first = rw c.get-range.ensures.value (first _ _ _ _ _ _ _ _ c.self.invariant.0 c.args.line g c.unwrap-2.result.now job) }
+    record { first = rw c.get-range.ensures.value (first _ _ _ c.self.invariant.0 c.args.line g c.unwrap-2.result.now job) }
 
 pub invariant_of-self-2 : goal.invariant_of-self-2
 invariant_of-self-2 c =
@@ -49,13 +47,11 @@ invariant_of-self-2 c =
     let held = rw c.get-range.ensures.value at ok in
     let room = rw c.unwrap.ensures at c.grant.ensures.room in
     let hold : Held = record { ticket = c.args.line.ticket; range = c.args.line.range; mode = c.args.line.mode } in (
-      kept _ _ _ _ _ _ _ _ c.self.invariant.0 c.args.line g c.unwrap-2.result.now job
+      kept _ _ _ c.self.invariant.0 c.args.line g c.unwrap-2.result.now job
           c.take_both.new.history.past c.push_reserved.new.self.past c.open.new.self c.grant.new.self.held
           c.take_both.ensures.past c.push_reserved.ensures.past opened
           (held ∙ ap (insert_held hold) c.take_both.ensures.ranges),
       omega (arith, c.push_reserved.ensures.room, c.in_ok-take_both.ensures.ok.1),
       omega (arith, room, c.in_ok-take_both.ensures.both),
       omega (arith, c.self.invariant.3, c.in_ok-take_both.ensures.ok.0),
-      filed_same _ _ c.args.line.ticket c.unwrap-2.result.now c.open.new.self c.self.invariant.4 c.get_mut.ensures.law (sym job)
-          (ap (λ (j : Keeping). j.queue) c.open.ensures.opened),
     )

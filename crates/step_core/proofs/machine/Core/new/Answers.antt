@@ -1,6 +1,5 @@
-use Rattle.std.proofs.Common.{arith}
+use Rattle.std.proofs.Common.{arith, refl}
 use Rattle.step_core.proofs.Beginning.{begins, cq_is_size}
-use Rattle.step_core.proofs.Filing.{none_filed}
 use Rattle.step_core.proofs.machine.Core.new.Goals as goal
 
 pub cq_rings-requires : goal.cq_rings-requires
@@ -8,10 +7,9 @@ cq_rings-requires c = record { size = cq_is_size c.numbers-numbers.result c.numb
 
 pub invariant_of-result : goal.invariant_of-result
 invariant_of-result c = (
-  begins _ _ _ _ _ _ _ _ c.numbers-numbers.ensures.value c.numbers-numbers.ensures.accepted c.new-5.ensures c.in_ok-new.ensures.zeros c.in_ok-sq_rings.ensures.value
-      c.in_ok-cq_rings.ensures.value c.in_ok-new-2.ensures.empty c.new-4.ensures.held,
+  begins _ _ _ _ c.numbers-numbers.ensures.value c.numbers-numbers.ensures.accepted c.new-4.ensures c.in_ok-new.ensures.zeros c.in_ok-sq_rings.ensures.value c.in_ok-none_in_use.ensures.value
+      c.in_ok-cq_rings.ensures.value c.in_ok-new-2.ensures.empty c.new-3.ensures.held refl,
   omega arith,
   omega arith,
   omega arith,
-  none_filed _ _ _ c.in_ok-new-2.ensures.empty c.in_ok-new-3.ensures.empty,
 )

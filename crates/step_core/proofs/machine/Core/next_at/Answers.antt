@@ -10,7 +10,7 @@ use Rattle.step_core.proofs.machine.Core.next_at.Goals as goal
 pub next_of-requires : goal.next_of-requires
 next_of-requires c = record {
   job = subst (λ (x : State). IsJob x.config x.past c.in_ok-ticket.ticket c.in_ok-ticket.job.now) c.self.view_is
-      (job_nth _ _ _ _ _ _ _ _ c.self.invariant.0 c.args.place _ c.in_ok-ticket.ensures.value);
+      (job_nth _ _ _ c.self.invariant.0 c.args.place _ c.in_ok-ticket.ensures.value);
 }
 
 pub returns-clause-step : goal.returns-clause-step

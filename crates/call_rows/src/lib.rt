@@ -1,0 +1,7 @@
+//! The entries of a driver's calls by the layout of the standards, and what the calls are answered, as tests.
+#![tactic(auto)]
+
+#[cfg(test)]
+mod answers;
+#[cfg(test)]
+mod entries;

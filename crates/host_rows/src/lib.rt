@@ -1,0 +1,11 @@
+//! A fetcher, workers and hosts on threads of their own, as tests of `hosts`.
+#![tactic(auto)]
+
+#[cfg(test)]
+mod calls;
+#[cfg(test)]
+mod full;
+#[cfg(test)]
+mod held;
+#[cfg(test)]
+mod served;
