@@ -5,7 +5,7 @@ use Rattle.std.specs.List.{find}
 use Rattle.std.proofs.lemmas.Bool.{and_right, eq-eqb}
 use Rattle.std.proofs.lemmas.Slice.Eq.{bytes_eq-Decides}
 use Rattle.nvme_model.specs.Answered.{may_find, right_answers}
-use Rattle.nvme_model.specs.Completions.{completion, posted, reaped}
+use Rattle.nvme_model.specs.Completions.{completion, posted_completions, reaped_count}
 use Rattle.nvme_model.specs.History.{Past, step_of}
 use Rattle.nvme_model.specs.Legal.{block_fits, fits, is_cqe, is_range, legal, post_fits}
 use Rattle.nvme_model.specs.Open.{blocks_made, grants_of, is_differs, is_equal, is_written, open_units}
@@ -187,7 +187,7 @@ wrong_none c past (Entry.Fetch f) = two_rows (eqb f.ticket (tickets past + 1)) (
 wrong_none c past (Entry.Grant g) = grant_none g (grants_of past g.ticket) (next_unit c past g.ticket) (mode (ticket past g.ticket))
 wrong_none c past (Entry.Block b) = block_none past b (find (λ g. eqb g.ticket b.ticket) (open_units past))
 wrong_none c past (Entry.Post p) = post_none c past p (slice_get (owed c past p.ticket) (posts_of past p.ticket))
-wrong_none c past (Entry.Reap r) = reap_none r (slice_get (posted c past r.queue) (reaped past r.queue))
+wrong_none c past (Entry.Reap r) = reap_none r (slice_get (posted_completions c past r.queue) (reaped_count past r.queue))
 
 pub exactly : (c : ConfigNumbers) (past : Past) (e : Entry) → is_none (first_broken c past e) ≡ legal c (e ∷ past)
 exactly c past e = by (legal c past) ∙ ap (λ x. legal c past && x) (none_or (refusal c past (step_of e)) (wrong c past e) ∙ ap (λ x. is_none (refusal c past (step_of e)) && x) (wrong_none c past e))

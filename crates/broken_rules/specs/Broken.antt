@@ -3,7 +3,7 @@ use Rattle.std.specs.List.{find}
 use Rattle.std.specs.Prelude.{None, Option, Some, if◌then◌else◌, is_some, length, option_map, slice_get, ◌%◌, ◌+◌, ◌==◌}
 use Rattle.std.specs.Prelude.{◌∷◌}
 use Rattle.nvme_model.specs.Answered.{right_answers}
-use Rattle.nvme_model.specs.Completions.{completion, posted, reaped}
+use Rattle.nvme_model.specs.Completions.{completion, posted_completions, reaped_count}
 use Rattle.nvme_model.specs.History.{Past, step_of}
 use Rattle.nvme_model.specs.Legal.{legal}
 use Rattle.nvme_model.specs.Open.{blocks_made, grants_of, open_units}
@@ -58,7 +58,8 @@ wrong c past (Entry.Grant g) =
 wrong c past (Entry.Block b) = block_wrong past b (find (λ g. g.ticket == b.ticket) (open_units past))
 wrong c past (Entry.Post p) = post_wrong c past p (slice_get (owed c past p.ticket) (posts_of past p.ticket))
 wrong c past (Entry.Reap r) =
-    reap_broken r (option_map (λ (p : PostLine). p.cqe) (slice_get (posted c past r.queue) (reaped past r.queue)))
+    reap_broken r
+    (option_map (λ (p : PostLine). p.cqe) (slice_get (posted_completions c past r.queue) (reaped_count past r.queue)))
 
 -- its refusal, or what else is wrong
 abbrev pub refused_or : Option Why → Option Broken → Option Broken

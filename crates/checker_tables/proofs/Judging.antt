@@ -18,7 +18,7 @@ use Rattle.nvme_model.specs.declared.status.Status.{Status}
 use Rattle.nvme_model.specs.declared.step.Step.{Step}
 use Rattle.nvme_model.specs.declared.submission.Submission.{Submission}
 use Rattle.nvme_model.specs.Answered.{may_find, right_answers}
-use Rattle.nvme_model.specs.Completions.{completion, posted, reaped}
+use Rattle.nvme_model.specs.Completions.{completion, posted_completions, reaped_count}
 use Rattle.nvme_model.specs.Config.{completion_queue}
 use Rattle.nvme_model.specs.EntryBytes.{sqe_fields}
 use Rattle.nvme_model.specs.History.{Past, step_of}
@@ -26,7 +26,7 @@ use Rattle.nvme_model.specs.Legal.{IsLegal, block_fits, fits, is_cqe, may_follow
 use Rattle.nvme_model.specs.Open.{blocks_made, open_units, unit_range}
 use Rattle.nvme_model.specs.Operations.{compare_data, has_compare, is_pair, mode, op}
 use Rattle.nvme_model.specs.Placed.{effect, may_be_effect}
-use Rattle.nvme_model.specs.Queues.{fetched, published, waiting}
+use Rattle.nvme_model.specs.Queues.{fetched_count, published_entries, waiting}
 use Rattle.nvme_model.specs.Refusals.{conditions, conflicts_open, next_unit, no_completion_queue, no_queue, none_left, refusal}
 use Rattle.nvme_model.specs.Tables.{first_row}
 use Rattle.nvme_model.specs.Tickets
@@ -95,10 +95,10 @@ conflicts_is c past m (Some r) = refl
 
 pub conditions_is : (c : ConfigNumbers) (past : Past) (step : Step) → IsLegal c past → conditions c past step ≡ conditions_by c (tables c past) step
 conditions_is c past (Step.Publish q batch) h =
-    ap (λ n. (no_queue c q, Why.NoQueue) ∷ (eqb (length batch) 0, Why.BadBatch) ∷ (nat_lt (c.sq_size - 1) (n + length batch), Why.NoRoom) ∷ []) (sym (length-drop (fetched past q) (published past q)))
+    ap (λ n. (no_queue c q, Why.NoQueue) ∷ (eqb (length batch) 0, Why.BadBatch) ∷ (nat_lt (c.sq_size - 1) (n + length batch), Why.NoRoom) ∷ []) (sym (length-drop (fetched_count past q) (published_entries past q)))
 conditions_is c past (Step.Fetch q) h =
     ap₂ (λ (x : Bool) (n : ℕ). (no_queue c q, Why.NoQueue) ∷ (x, Why.NoEntry) ∷ (nat_le c.jobs n, Why.JobsFull) ∷ [])
-    (none_waits (length (published past q)) (fetched past q) (length (waiting past q)) (length-drop (fetched past q) (published past q)) (fetched_within c past q h)) (sym (flying_count past))
+    (none_waits (length (published_entries past q)) (fetched_count past q) (length (waiting past q)) (length-drop (fetched_count past q) (published_entries past q)) (fetched_within c past q h)) (sym (flying_count past))
 conditions_is c past (Step.Grant t) h =
     ap₂ (λ (x y : Bool). (not (in_flight past t), Why.NoTicket) ∷ (none_left c past t || x, Why.WrongState) ∷ (y, Why.Conflict) ∷ [])
     (sym (has_unit past t)) (conflicts_is c past (mode (Tickets.ticket past t)) (next_unit c past t))
@@ -106,10 +106,10 @@ conditions_is c past (Step.Block t) h = ap (λ x. (not (in_flight past t), Why.N
 conditions_is c past (Step.Post t) h =
     let q = completion_queue c (Tickets.ticket past t).queue in
     ap₂ (λ (x : Bool) (n : ℕ). (not (in_flight past t), Why.NoTicket) ∷ (x, Why.WrongState) ∷ (eqb n (c.cq_size - 1), Why.CqFull) ∷ [])
-    (owes_nothing_is c past t h) (sym (length-drop (reaped past q) (posted c past q)))
+    (owes_nothing_is c past t h) (sym (length-drop (reaped_count past q) (posted_completions c past q)))
 conditions_is c past (Step.Reap q) h =
     ap (λ x. (no_completion_queue c q, Why.NoQueue) ∷ (x, Why.NoCompletion) ∷ [])
-    (none_waits (length (posted c past q)) (reaped past q) (length (unreaped c past q)) (length-drop (reaped past q) (posted c past q)) (reaped_posted c past q h))
+    (none_waits (length (posted_completions c past q)) (reaped_count past q) (length (unreaped c past q)) (length-drop (reaped_count past q) (posted_completions c past q)) (reaped_posted c past q h))
 
 -- ---- a Block
 
@@ -222,7 +222,7 @@ fits_is c past (Entry.Grant g) h = refl
 fits_is c past (Entry.Block b) h = block_is c past b h
 fits_is c past (Entry.Post p) h =
     ap (λ (ss : List Status). post_fits c past p (slice_get ss (posts_of past p.ticket))) (owed_is c past p.ticket h) ∙ post_is c past p (slice_get (Judged.owed_by c (flight past p.ticket)) (posts_of past p.ticket)) h
-fits_is c past (Entry.Reap r) h = ap (λ o. is_cqe o r.cqe) (get_drop (reaped past r.queue) (posted c past r.queue))
+fits_is c past (Entry.Reap r) h = ap (λ o. is_cqe o r.cqe) (get_drop (reaped_count past r.queue) (posted_completions c past r.queue))
 
 pub judged_is : (c : ConfigNumbers) (past : Past) (e : Entry) → IsLegal c past → may_follow c past e ≡ judged c (tables c past) e
 judged_is c past e h = ap₂ (λ (rows : List (Bool × Why)) (x : Bool). is_none (first_row rows) && x) (conditions_is c past (step_of e) h) (fits_is c past e h)

@@ -14,14 +14,14 @@ use Rattle.nvme_model.specs.declared.entry.PublishLine.{PublishLine}
 use Rattle.nvme_model.specs.declared.entry.ReapLine.{ReapLine}
 use Rattle.nvme_model.specs.Answered.{no_at}
 use Rattle.nvme_model.specs.Array.{has_block}
-use Rattle.nvme_model.specs.Completions.{posted}
+use Rattle.nvme_model.specs.Completions.{posted_completions}
 use Rattle.nvme_model.specs.Config.{completion_queue}
 use Rattle.nvme_model.specs.History.{Past}
 use Rattle.nvme_model.specs.Legal.{IsLegal, legal, may_follow}
 use Rattle.nvme_model.specs.Open.{blocks_made, differed, granted, grants_of, is_differs, open_units, steps_needed, unit_range}
 use Rattle.nvme_model.specs.Operations.{write_data}
 use Rattle.nvme_model.specs.Placed.{effect}
-use Rattle.nvme_model.specs.Queues.{fetched, published, waiting}
+use Rattle.nvme_model.specs.Queues.{fetched_count, published_entries, waiting}
 use Rattle.nvme_model.specs.Tickets
 use Rattle.nvme_model.specs.Tickets.{Ticket, fetched_ticket, in_flight, posts_of}
 use Rattle.nvme_model.specs.Value.{value, writes}
@@ -112,7 +112,7 @@ post_taken c past p h =
     (λ i. record (tables c past) {
       flying = fy i;
       flight = fl i;
-      posts = λ q. (length-append (posted c past q) (cond (eqb (completion_queue c (Tickets.ticket past p.ticket).queue) q) (p ∷ []) []) ∙ ap (λ n. length (posted c past q) + n) (one_posted (eqb (completion_queue c (Tickets.ticket past p.ticket).queue) q) p)) i;
+      posts = λ q. (length-append (posted_completions c past q) (cond (eqb (completion_queue c (Tickets.ticket past p.ticket).queue) q) (p ∷ []) []) ∙ ap (λ n. length (posted_completions c past q) + n) (one_posted (eqb (completion_queue c (Tickets.ticket past p.ticket).queue) q) p)) i;
       unreaped = λ q. post_waits c past p q w.before i;
     })
 
@@ -200,7 +200,7 @@ fetch_other c past f h t ne =
 some_taken : (c : ConfigNumbers) (past : Past) (f : FetchLine) → IsLegal c (Entry.Fetch f ∷ past) → 0 < length (take (Verdict.taken f.verdict) (waiting past f.queue))
 some_taken c past f h =
     let w = follows c past (Entry.Fetch f) h in
-    let some = waits (length (published past f.queue)) (fetched past f.queue) (length (waiting past f.queue)) (length-drop (fetched past f.queue) (published past f.queue)) (fetched_within c past f.queue w.before) w.allowed.1.0 in
+    let some = waits (length (published_entries past f.queue)) (fetched_count past f.queue) (length (waiting past f.queue)) (length-drop (fetched_count past f.queue) (published_entries past f.queue)) (fetched_within c past f.queue w.before) w.allowed.1.0 in
     omega (arith, some, (taken_some f.verdict).0, length-take (Verdict.taken f.verdict) (waiting past f.queue))
   where
     waits : (n k m : ℕ) → m ≡ n - k → k ≤ n → eqb n k ≡ false → 0 < m
@@ -216,7 +216,7 @@ fetch_taken c past f h =
       flight = fl i;
       opens = open_kept c past f h i;
       waiting = λ q. fetch_waits past f q i;
-      fetched = λ q. fetched past q + cond (eqb f.queue q) (Verdict.taken f.verdict) 0;
+      fetched = λ q. fetched_count past q + cond (eqb f.queue q) (Verdict.taken f.verdict) 0;
     })
 
 -- ---- a Block

@@ -2,11 +2,11 @@
 use Rattle.std.specs.List.{find}
 use Rattle.std.specs.Prelude.{Bool, List, None, Option, [], drop, false, length, option_map, ℕ, ◌==◌}
 use Rattle.nvme_model.specs.Array.{zeros}
-use Rattle.nvme_model.specs.Completions.{posted, reaped}
+use Rattle.nvme_model.specs.Completions.{posted_completions, reaped_count}
 use Rattle.nvme_model.specs.History.{Past}
 use Rattle.nvme_model.specs.Open.{blocks_made, differed, grants_of, open_units}
 use Rattle.nvme_model.specs.Placed.{effect}
-use Rattle.nvme_model.specs.Queues.{fetched, waiting}
+use Rattle.nvme_model.specs.Queues.{fetched_count, waiting}
 use Rattle.nvme_model.specs.Tickets
 use Rattle.nvme_model.specs.Tickets.{Ticket, posts_of, tickets}
 use Rattle.nvme_model.specs.Value
@@ -75,7 +75,7 @@ fresh k = record { ticket = k; opened = 0; unit = None; differs = false; posts =
 
 -- the completions of completion queue q that weren't reaped
 abbrev pub unreaped : ConfigNumbers → Past → ℕ → List PostLine
-unreaped c past q = drop (reaped past q) (posted c past q)
+unreaped c past q = drop (reaped_count past q) (posted_completions c past q)
 
 -- all that is kept
 pub record Tables : Type 0 where
@@ -104,8 +104,8 @@ tables c past =
       flight = flight past;
       opens = open_units past;
       waiting = waiting past;
-      fetched = fetched past;
-      posts = λ q. length (posted c past q);
+      fetched = fetched_count past;
+      posts = λ q. length (posted_completions c past q);
       unreaped = unreaped c past;
     }
 

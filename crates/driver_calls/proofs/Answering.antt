@@ -7,7 +7,7 @@ use Rattle.nvme_model.specs.Config.{completion_queue}
 use Rattle.nvme_model.specs.History.{Past}
 use Rattle.nvme_model.specs.Legal.{IsLegal}
 use Rattle.nvme_model.specs.Passes.{SharedPast, entries}
-use Rattle.nvme_model.specs.Queues.{published}
+use Rattle.nvme_model.specs.Queues.{published_entries}
 use Rattle.nvme_model.specs.declared.config.ConfigNumbers.{ConfigNumbers}
 use Rattle.nvme_model.specs.declared.entry.Entry.{Entry}
 use Rattle.nvme_model.specs.declared.operation.Op.{Op}
@@ -110,7 +110,7 @@ answer_says c n p later start q j first second o h sole tidy e at call =
     let same = entries_append later start in
     let whole : IsLegal c (entries later ++ entries start) = subst (λ (past : Past). IsLegal c past) same h in
     let began = log_tells c n p start (earlier c (entries later) (entries start) whole) (sole_before c n p later start sole) (events_tidy_before c n p later start tidy) in
-    let few : length (published (entries start) q) ≤ j = omega (arith, at, ap length (began.entries_are q e)) in
+    let few : length (published_entries (entries start) q) ≤ j = omega (arith, at, ap length (began.entries_are q e)) in
     let of : Asked c (entries start) (entries (later ++ start)) n q j (events c n p (later ++ start)) = record {
       legal = h;
       told = log_tells c n p (later ++ start) h sole tidy;

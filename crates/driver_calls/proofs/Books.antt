@@ -3,7 +3,7 @@ use Rattle.std.proofs.Common.{◌≡◌, ℕ, suc, Bool, true, false, ◌&&◌, 
 use Rattle.nvme_model.specs.Config.{completion_queue}
 use Rattle.nvme_model.specs.History.{Past}
 use Rattle.nvme_model.specs.Legal.{IsLegal}
-use Rattle.nvme_model.specs.Queues.{published}
+use Rattle.nvme_model.specs.Queues.{published_entries}
 use Rattle.nvme_model.specs.declared.config.ConfigNumbers.{ConfigNumbers}
 use Rattle.nvme_model.specs.declared.entry.Entry.{Entry}
 use Rattle.nvme_model.specs.declared.submission.Submission.{Submission}
@@ -71,16 +71,16 @@ two_wait log q s t r i =
     go false b d e = refl
 
 -- a tidy batch keeps the book right
-pub sent_book : (c : ConfigNumbers) (past : Past) (n : ℕ) (log : List PortEvent) (q : ℕ) (batch : List Submission) → IsLegal c past → published past q ≡ sent log q → is_tidy_batch log q batch ≡ true
+pub sent_book : (c : ConfigNumbers) (past : Past) (n : ℕ) (log : List PortEvent) (q : ℕ) (batch : List Submission) → IsLegal c past → published_entries past q ≡ sent log q → is_tidy_batch log q batch ≡ true
     → IsBook c past n (book_of log) → IsBook c (Entry.Publish (record { queue = q; batch = batch }) ∷ past) n (book_of (PortEvent.Sent q batch ∷ log))
 sent_book c past n log q [] h e d b = absurd (let f = d in cc)
 sent_book c past n log q (s ∷ []) h e d b =
-    same_book c (Entry.Publish (record { queue = q; batch = s ∷ [] }) ∷ past) n (with_entry (book_of log) q (cid_of s) (length (published past q))) (book_of (PortEvent.Sent q (s ∷ []) ∷ log))
+    same_book c (Entry.Publish (record { queue = q; batch = s ∷ [] }) ∷ past) n (with_entry (book_of log) q (cid_of s) (length (published_entries past q))) (book_of (PortEvent.Sent q (s ∷ []) ∷ log))
     (λ r i x. one_waits log q s r i ∙ ap (λ (xs : List Submission). with_entry (book_of log) q (cid_of s) (length xs) r i) (sym e))
     (book_one c past n (book_of log) q s h b (free_waits_not log q s d))
 sent_book c past n log q (s ∷ t ∷ []) h e d b =
     let f = tidy_pair log q s t d in
-    same_book c (Entry.Publish (record { queue = q; batch = s ∷ t ∷ [] }) ∷ past) n (with_entry (with_entry (book_of log) q (cid_of s) (length (published past q))) q (cid_of t) (suc (length (published past q))))
+    same_book c (Entry.Publish (record { queue = q; batch = s ∷ t ∷ [] }) ∷ past) n (with_entry (with_entry (book_of log) q (cid_of s) (length (published_entries past q))) q (cid_of t) (suc (length (published_entries past q))))
     (book_of (PortEvent.Sent q (s ∷ t ∷ []) ∷ log))
     (λ r i x. two_wait log q s t r i ∙ ap (λ (xs : List Submission). with_entry (with_entry (book_of log) q (cid_of s) (length xs)) q (cid_of t) (suc (length xs)) r i) (sym e))
     (book_pair c past n (book_of log) q s t h b (free_waits_not log q s f.first) (free_waits_not log q t f.second) f.unlike)

@@ -2,7 +2,7 @@
 use Rattle.std.proofs.Common.{◌≡◌, ℕ, Bool, true, false, ◌&&◌, ◌||◌, cond, List, [], ◌∷◌, ◌++◌, refl, sym, ap, ap₂, ◌∙◌, subst, Some, eqb, eqb-true, slice_get, nat_lt}
 use Rattle.std.specs.List.{list_all}
 use Rattle.std.proofs.lemmas.Bool.{and_parts, and_from, not_from_false}
-use Rattle.nvme_model.specs.Completions.{posted, reaped}
+use Rattle.nvme_model.specs.Completions.{posted_completions, reaped_count}
 use Rattle.nvme_model.specs.Config.{completion_queue}
 use Rattle.nvme_model.specs.History.{Past}
 use Rattle.nvme_model.specs.Legal.{IsLegal}
@@ -86,7 +86,7 @@ GotPost c past q j cqe payload = (p : PostLine) × (reaped_post c past q j ≡ S
 -- an answered CID names the Post that was reaped, before or now
 reap_got : (c : ConfigNumbers) (past : Past) (n : ℕ) (r : ReapLine) (log : List PortEvent) (x : ReapAnswers c past r) → IsLegal c (Entry.Reap r ∷ past) → IsBook c past r.queue (book_of log) → IsTold c past n log
     → (q cid j : ℕ) (cqe payload : List ℕ) (b : Bool) → b ≡ (eqb q x.queue && eqb cid (cid_of x.entry)) → completion_queue c q ≡ n → newest log q cid ≡ Some j
-    → GotCase log b r.cqe (payload_of (slice_get (posted c past r.queue) (reaped past r.queue))) q cid cqe payload → GotPost c (Entry.Reap r ∷ past) q j cqe payload
+    → GotCase log b r.cqe (payload_of (slice_get (posted_completions c past r.queue) (reaped_count past r.queue))) q cid cqe payload → GotPost c (Entry.Reap r ∷ past) q j cqe payload
 reap_got c past n r log x h k t q cid j cqe payload b names e w (GotCase.before s) =
     let y = t.got q cid j cqe payload e s w in
     (y.0, reaped_later c (Entry.Reap r ∷ []) past q j y.0 h y.1, y.2, y.3)
@@ -100,10 +100,10 @@ reap_got c past n r log x h k t q cid j cqe payload b names e w (GotCase.now is 
 
 -- a Reap tells as a Got which entry it answers
 pub told_got : (c : ConfigNumbers) (past : Past) (n : ℕ) (r : ReapLine) (log : List PortEvent) → IsLegal c (Entry.Reap r ∷ past) → r.queue ≡ n → is_tidy log ≡ true → IsTold c past n log
-    → IsTold c (Entry.Reap r ∷ past) n (PortEvent.Got r.cqe (payload_of (slice_get (posted c past r.queue) (reaped past r.queue))) ∷ log)
+    → IsTold c (Entry.Reap r ∷ past) n (PortEvent.Got r.cqe (payload_of (slice_get (posted_completions c past r.queue) (reaped_count past r.queue))) ∷ log)
 told_got c past n r log h e d t =
     let x = reap_answers c past r h in
-    let contents = payload_of (slice_get (posted c past r.queue) (reaped past r.queue)) in
+    let contents = payload_of (slice_get (posted_completions c past r.queue) (reaped_count past r.queue)) in
     let names = reap_names c past n r log x e d t in
     let book : IsBook c past r.queue (book_of log) = subst (λ (k : ℕ). IsBook c past k (book_of log)) (sym e) t.book in
     record {
@@ -127,7 +127,7 @@ told_own c past n (Entry.Publish p) log h d l t = go (eqb (completion_queue c p.
 told_own c past n (Entry.Reap r) log h d l t = go (eqb r.queue n) refl
   where
     go : (b : Bool) → eqb r.queue n ≡ b
-        → IsTold c (Entry.Reap r ∷ past) n (cond b (PortEvent.Got r.cqe (payload_of (slice_get (posted c past r.queue) (reaped past r.queue))) ∷ []) [] ++ log)
+        → IsTold c (Entry.Reap r ∷ past) n (cond b (PortEvent.Got r.cqe (payload_of (slice_get (posted_completions c past r.queue) (reaped_count past r.queue))) ∷ []) [] ++ log)
     go true z = told_got c past n r log h (eqb-true r.queue n z) l t
     go false z = told_beside c past n (Entry.Reap r) log (not_from_false (eqb r.queue n) z) t
 told_own c past n (Entry.Fetch p) log h d l t = told_beside c past n (Entry.Fetch p) log refl t

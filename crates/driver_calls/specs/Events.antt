@@ -1,11 +1,11 @@
 -- The events of a port in a shared history: the Publishes to the submission queues of one completion queue, and the
 -- Reaps of it, by one pass.
 use Rattle.std.specs.Prelude.{List, [], if◌then◌else◌, slice_get, ℕ, ◌++◌, ◌==◌, ◌≡◌, ◌∷◌}
-use Rattle.nvme_model.specs.Completions.{posted, reaped}
+use Rattle.nvme_model.specs.Completions.{posted_completions, reaped_count}
 use Rattle.nvme_model.specs.Config.{completion_queue}
 use Rattle.nvme_model.specs.History.{Past}
 use Rattle.nvme_model.specs.Passes.{SharedPast, entries}
-use Rattle.nvme_model.specs.Queues.{published}
+use Rattle.nvme_model.specs.Queues.{published_entries}
 use Rattle.nvme_model.specs.declared.config.ConfigNumbers.{ConfigNumbers}
 use Rattle.nvme_model.specs.declared.entry.Entry.{Entry}
 use Rattle.nvme_model.specs.declared.entry.PostLine.{PostLine}
@@ -23,7 +23,8 @@ event_at c n past (Entry.Publish p) =
     if completion_queue c p.queue == n then PortEvent.Sent p.queue p.batch ∷ [] else []
 event_at c n past (Entry.Reap r) =
     if r.queue == n
-    then PortEvent.Got r.cqe (payload_of (slice_get (posted c past r.queue) (reaped past r.queue))) ∷ []
+    then PortEvent.Got r.cqe
+        (payload_of (slice_get (posted_completions c past r.queue) (reaped_count past r.queue))) ∷ []
     else []
 event_at c n past _ = []
 
@@ -40,7 +41,7 @@ waiting_number _ j = None
 -- What a log tells of completion queue n and its submission queues: which entries are published, which are not reaped,
 -- and by which Post each was answered.
 pub record IsTold (c : ConfigNumbers) (past : Past) (n : ℕ) (log : List PortEvent) : Type 0 where
-  pub entries_are : (q : ℕ) → completion_queue c q ≡ n → published past q ≡ sent log q
+  pub entries_are : (q : ℕ) → completion_queue c q ≡ n → published_entries past q ≡ sent log q
   pub book : IsBook c past n (λ q cid. waiting_number (state_of log q cid) (newest log q cid))
   pub got : (q cid j : ℕ) (cqe payload : List ℕ) →
       completion_queue c q ≡ n → state_of log q cid ≡ CidState.Answered cqe payload →

@@ -2,7 +2,7 @@
 use Rattle.std.proofs.Common.{◌≡◌, ℕ, true, List, [], ◌∷◌, ◌++◌, ◌&&◌, eqb, eq-eqb, nat_le, refl, sym, ap, ap₂, ◌∙◌, length, subst, Option, Some, None}
 use Rattle.std.proofs.lemmas.Bool.{and_parts, cond-true}
 use Rattle.std.specs.Prelude.{unwrap_or, slice_get}
-use Rattle.nvme_model.specs.Completions.{posted, reaped}
+use Rattle.nvme_model.specs.Completions.{posted_completions, reaped_count}
 use Rattle.nvme_model.specs.Config.{completion_queue}
 use Rattle.nvme_model.specs.History.{Past}
 use Rattle.nvme_model.specs.Passes.{IsBeginning, SharedPast, entries, places}
@@ -77,16 +77,16 @@ pub record Got (c : ConfigNumbers) (n : ℕ) (past : Past) (e : Entry) (a : Answ
 
 pub reap_event : (c : ConfigNumbers) (n : ℕ) (past : Past) (e : Entry) (a : Answer) → Accepts c past (Step.Reap n) e a → Got c n past e a
 reap_event c n past e a s =
-    let l = reap_line n (slice_get (posted c past n) (reaped past n)) in
+    let l = reap_line n (slice_get (posted_completions c past n) (reaped_count past n)) in
     let r = l.line in
     let is = s.1 ∙ l.is in
     record {
       cqe = r.cqe;
-      payload = payload_of (slice_get (posted c past r.queue) (reaped past r.queue));
+      payload = payload_of (slice_get (posted_completions c past r.queue) (reaped_count past r.queue));
       answers = s.2 ∙ ap (answer_of c past) is;
       event =
           ap (event_at c n past) is
-          ∙ cond-true (eqb r.queue n) (PortEvent.Got r.cqe (payload_of (slice_get (posted c past r.queue) (reaped past r.queue))) ∷ []) [] (eq-eqb r.queue n l.of);
+          ∙ cond-true (eqb r.queue n) (PortEvent.Got r.cqe (payload_of (slice_get (posted_completions c past r.queue) (reaped_count past r.queue))) ∷ []) [] (eq-eqb r.queue n l.of);
     }
 
 pub opened_as_reaped : (eng : Engine) (q : EnginePass) (e : Entry) (cqe payload : List ℕ) (r : Opened) → IsOpened eng q e (Answer.Reaped cqe payload) r → r ≡ opened.Reaped cqe payload

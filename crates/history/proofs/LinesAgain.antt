@@ -24,7 +24,7 @@ use Rattle.history.specs.Gives.{Gives}
 use Rattle.history.specs.StatusWord.{verdict_words, verdict_in}
 use Rattle.history.specs.Marks.{mode_word, mode_in, found_word, found_in, mark_word, mark_in}
 use Rattle.history.specs.BatchWords.{more_words, publish_words, batch_in}
-use Rattle.history.specs.Lines.{entry_words, entry_line, HasItem, HasLine, published, fetched, granted, blocked, posted, reaped, publish_in, fetch_in, grant_in, block_in, post_in, reap_in, entry_words_in, entry_in}
+use Rattle.history.specs.Lines.{entry_words, entry_line, HasItem, HasLine, publish_from, fetch_from, grant_from, block_from, post_from, reap_from, publish_in, fetch_in, grant_in, block_in, post_in, reap_in, entry_words_in, entry_in}
 use Rattle.history.proofs.StatusLaws.{verdict_again, verdict_spaceless}
 use Rattle.history.proofs.MarkLaws.{mode_again, mode_spaceless, found_again, found_spaceless, mark_again, mark_spaceless}
 use Rattle.history.proofs.BatchLaws.{batch_again, more_spaceless}
@@ -58,8 +58,8 @@ entries_again : (q : ℕ) (xs : List Submission) → q < 2 ^ 16 → xs ≢ [] �
 unfolding entry_words_in publish_in publish_words
 entries_again q [] small some fits = absurd (some refl)
 entries_again q (x ∷ xs) small some fits =
-    ap (λ o. published o (batch_in (encode_upper x.entry ∷ data_text 512 x.payload ∷ more_words xs))) (number_16 q small)
-    ∙ ap (published (Some q)) (batch_again x xs fits.0 fits.1)
+    ap (λ o. publish_from o (batch_in (encode_upper x.entry ∷ data_text 512 x.payload ∷ more_words xs))) (number_16 q small)
+    ∙ ap (publish_from (Some q)) (batch_again x xs fits.0 fits.1)
 
 -- a Publish
 publish_again : (p : PublishLine) → HasLine (Entry.Publish p) → entry_words_in (entry_words (Entry.Publish p)) ≡ Some (Entry.Publish p)
@@ -70,9 +70,9 @@ publish_again p is = entries_again p.queue p.batch is.0 is.1 is.2
 fetch_again : (f : FetchLine) → HasLine (Entry.Fetch f) → entry_words_in (entry_words (Entry.Fetch f)) ≡ Some (Entry.Fetch f)
 unfolding entry_words_in entry_words fetch_in
 fetch_again f is =
-    ap (λ o. fetched o (number_in 64 (decimal f.ticket)) (verdict_in (verdict_words f.verdict))) (number_16 f.queue is.0)
-    ∙ ap (λ o. fetched (Some f.queue) o (verdict_in (verdict_words f.verdict))) (number_64 f.ticket is.1)
-    ∙ ap (fetched (Some f.queue) (Some f.ticket)) (verdict_again f.verdict is.2)
+    ap (λ o. fetch_from o (number_in 64 (decimal f.ticket)) (verdict_in (verdict_words f.verdict))) (number_16 f.queue is.0)
+    ∙ ap (λ o. fetch_from (Some f.queue) o (verdict_in (verdict_words f.verdict))) (number_64 f.ticket is.1)
+    ∙ ap (fetch_from (Some f.queue) (Some f.ticket)) (verdict_again f.verdict is.2)
 
 -- a Grant
 grant_again : (g : GrantLine) → HasLine (Entry.Grant g) → entry_words_in (entry_words (Entry.Grant g)) ≡ Some (Entry.Grant g)
@@ -80,36 +80,36 @@ unfolding entry_words_in entry_words grant_in
 grant_again g is =
     let s : ℕ = g.range.slba in
     let n : ℕ = g.range.blocks in
-    ap (λ o. granted o (number_in 64 (decimal g.unit)) (number_in 64 (decimal s)) (number_in 16 (decimal n)) (mode_in (mode_word g.mode))) (number_64 g.ticket is.0)
-    ∙ ap (λ o. granted (Some g.ticket) o (number_in 64 (decimal s)) (number_in 16 (decimal n)) (mode_in (mode_word g.mode))) (number_64 g.unit is.1)
-    ∙ ap (λ o. granted (Some g.ticket) (Some g.unit) o (number_in 16 (decimal n)) (mode_in (mode_word g.mode))) (number_64 s is.2)
-    ∙ ap (λ o. granted (Some g.ticket) (Some g.unit) (Some s) o (mode_in (mode_word g.mode))) (number_16 n is.3)
-    ∙ ap (granted (Some g.ticket) (Some g.unit) (Some s) (Some n)) (mode_again g.mode)
+    ap (λ o. grant_from o (number_in 64 (decimal g.unit)) (number_in 64 (decimal s)) (number_in 16 (decimal n)) (mode_in (mode_word g.mode))) (number_64 g.ticket is.0)
+    ∙ ap (λ o. grant_from (Some g.ticket) o (number_in 64 (decimal s)) (number_in 16 (decimal n)) (mode_in (mode_word g.mode))) (number_64 g.unit is.1)
+    ∙ ap (λ o. grant_from (Some g.ticket) (Some g.unit) o (number_in 16 (decimal n)) (mode_in (mode_word g.mode))) (number_64 s is.2)
+    ∙ ap (λ o. grant_from (Some g.ticket) (Some g.unit) (Some s) o (mode_in (mode_word g.mode))) (number_16 n is.3)
+    ∙ ap (grant_from (Some g.ticket) (Some g.unit) (Some s) (Some n)) (mode_again g.mode)
 
 -- a Block
 block_again : (b : BlockLine) → HasLine (Entry.Block b) → entry_words_in (entry_words (Entry.Block b)) ≡ Some (Entry.Block b)
 unfolding entry_words_in entry_words block_in
 block_again b is =
-    ap (λ o. blocked o (number_in 64 (decimal b.unit)) (number_in 64 (decimal b.lba)) (found_in (found_word b.found)) (mark_in (mark_word b.effect))) (number_64 b.ticket is.0)
-    ∙ ap (λ o. blocked (Some b.ticket) o (number_in 64 (decimal b.lba)) (found_in (found_word b.found)) (mark_in (mark_word b.effect))) (number_64 b.unit is.1)
-    ∙ ap (λ o. blocked (Some b.ticket) (Some b.unit) o (found_in (found_word b.found)) (mark_in (mark_word b.effect))) (number_64 b.lba is.2)
-    ∙ ap (λ o. blocked (Some b.ticket) (Some b.unit) (Some b.lba) o (mark_in (mark_word b.effect))) (found_again b.found)
-    ∙ ap (blocked (Some b.ticket) (Some b.unit) (Some b.lba) (Some b.found)) (mark_again b.effect)
+    ap (λ o. block_from o (number_in 64 (decimal b.unit)) (number_in 64 (decimal b.lba)) (found_in (found_word b.found)) (mark_in (mark_word b.effect))) (number_64 b.ticket is.0)
+    ∙ ap (λ o. block_from (Some b.ticket) o (number_in 64 (decimal b.lba)) (found_in (found_word b.found)) (mark_in (mark_word b.effect))) (number_64 b.unit is.1)
+    ∙ ap (λ o. block_from (Some b.ticket) (Some b.unit) o (found_in (found_word b.found)) (mark_in (mark_word b.effect))) (number_64 b.lba is.2)
+    ∙ ap (λ o. block_from (Some b.ticket) (Some b.unit) (Some b.lba) o (mark_in (mark_word b.effect))) (found_again b.found)
+    ∙ ap (block_from (Some b.ticket) (Some b.unit) (Some b.lba) (Some b.found)) (mark_again b.effect)
 
 -- a Post
 post_again : (p : PostLine) → HasLine (Entry.Post p) → entry_words_in (entry_words (Entry.Post p)) ≡ Some (Entry.Post p)
 unfolding entry_words_in entry_words post_in
 post_again p is =
-    ap (λ o. posted o (fixed_in 16 (bytes_in (encode_upper p.cqe))) (data_in 512 (data_text 512 p.payload))) (number_64 p.ticket is.0)
-    ∙ ap (λ o. posted (Some p.ticket) o (data_in 512 (data_text 512 p.payload))) (cqe_again p.cqe is.1 is.2)
-    ∙ ap (posted (Some p.ticket) (Some p.cqe)) (payload_again p.payload is.3)
+    ap (λ o. post_from o (fixed_in 16 (bytes_in (encode_upper p.cqe))) (data_in 512 (data_text 512 p.payload))) (number_64 p.ticket is.0)
+    ∙ ap (λ o. post_from (Some p.ticket) o (data_in 512 (data_text 512 p.payload))) (cqe_again p.cqe is.1 is.2)
+    ∙ ap (post_from (Some p.ticket) (Some p.cqe)) (payload_again p.payload is.3)
 
 -- a Reap
 reap_again : (r : ReapLine) → HasLine (Entry.Reap r) → entry_words_in (entry_words (Entry.Reap r)) ≡ Some (Entry.Reap r)
 unfolding entry_words_in entry_words reap_in
 reap_again r is =
-    ap (λ o. reaped o (fixed_in 16 (bytes_in (encode_upper r.cqe)))) (number_16 r.queue is.0)
-    ∙ ap (reaped (Some r.queue)) (cqe_again r.cqe is.1 is.2)
+    ap (λ o. reap_from o (fixed_in 16 (bytes_in (encode_upper r.cqe)))) (number_16 r.queue is.0)
+    ∙ ap (reap_from (Some r.queue)) (cqe_again r.cqe is.1 is.2)
 
 -- the words of an entry are read as that entry
 words_back : (e : Entry) → HasLine e → entry_words_in (entry_words e) ≡ Some e

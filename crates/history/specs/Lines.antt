@@ -66,70 +66,71 @@ HasLine (Entry.Reap r) = (r.queue < 2 ^ 16) × (length r.cqe ≡ 16) × IsBytes 
 -- ---- the entry of a line
 
 -- a Publish of these parts, where all are there
-abbrev pub published : Option ℕ → Option (List Submission) → Option Entry
-published (Some queue) (Some batch) = Some (Entry.Publish (record { queue = queue; batch = batch }))
-published _ _ = None
+abbrev pub publish_from : Option ℕ → Option (List Submission) → Option Entry
+publish_from (Some queue) (Some batch) = Some (Entry.Publish (record { queue = queue; batch = batch }))
+publish_from _ _ = None
 
 -- the Publish that the words behind its kind spell
 unfoldable pub publish_in : List (List ℕ) → Option Entry
-publish_in (queue ∷ batch) = published (number_in 16 queue) (batch_in batch)
+publish_in (queue ∷ batch) = publish_from (number_in 16 queue) (batch_in batch)
 publish_in words = None
 
 -- a Fetch of these parts, where all are there
-abbrev pub fetched : Option ℕ → Option ℕ → Option Verdict → Option Entry
-fetched (Some queue) (Some ticket) (Some verdict) =
+abbrev pub fetch_from : Option ℕ → Option ℕ → Option Verdict → Option Entry
+fetch_from (Some queue) (Some ticket) (Some verdict) =
     Some (Entry.Fetch (record { queue = queue; ticket = ticket; verdict = verdict }))
-fetched _ _ _ = None
+fetch_from _ _ _ = None
 
 -- the Fetch that the words behind its kind spell
 unfoldable pub fetch_in : List (List ℕ) → Option Entry
-fetch_in (queue ∷ ticket ∷ verdict) = fetched (number_in 16 queue) (number_in 64 ticket) (verdict_in verdict)
+fetch_in (queue ∷ ticket ∷ verdict) = fetch_from (number_in 16 queue) (number_in 64 ticket) (verdict_in verdict)
 fetch_in words = None
 
 -- a Grant of these parts, where all are there
-abbrev pub granted : (ticket unit slba blocks : Option ℕ) → Option Mode → Option Entry
-granted (Some ticket) (Some unit) (Some slba) (Some blocks) (Some mode) =
+abbrev pub grant_from : (ticket unit slba blocks : Option ℕ) → Option Mode → Option Entry
+grant_from (Some ticket) (Some unit) (Some slba) (Some blocks) (Some mode) =
     Some (Entry.Grant
     (record { ticket = ticket; unit = unit; range = record { slba = slba; blocks = blocks }; mode = mode }))
-granted _ _ _ _ _ = None
+grant_from _ _ _ _ _ = None
 
 -- the Grant that the words behind its kind spell
 unfoldable pub grant_in : List (List ℕ) → Option Entry
 grant_in (ticket ∷ unit ∷ slba ∷ blocks ∷ mode ∷ []) =
-    granted (number_in 64 ticket) (number_in 64 unit) (number_in 64 slba) (number_in 16 blocks) (mode_in mode)
+    grant_from (number_in 64 ticket) (number_in 64 unit) (number_in 64 slba) (number_in 16 blocks) (mode_in mode)
 grant_in words = None
 
 -- a Block of these parts, where all are there
-abbrev pub blocked : (ticket unit lba : Option ℕ) → Option Found → Option Bool → Option Entry
-blocked (Some ticket) (Some unit) (Some lba) (Some found) (Some effect) =
+abbrev pub block_from : (ticket unit lba : Option ℕ) → Option Found → Option Bool → Option Entry
+block_from (Some ticket) (Some unit) (Some lba) (Some found) (Some effect) =
     Some (Entry.Block (record { ticket = ticket; unit = unit; lba = lba; found = found; effect = effect }))
-blocked _ _ _ _ _ = None
+block_from _ _ _ _ _ = None
 
 -- the Block that the words behind its kind spell
 unfoldable pub block_in : List (List ℕ) → Option Entry
 block_in (ticket ∷ unit ∷ lba ∷ found ∷ mark ∷ []) =
-    blocked (number_in 64 ticket) (number_in 64 unit) (number_in 64 lba) (found_in found) (mark_in mark)
+    block_from (number_in 64 ticket) (number_in 64 unit) (number_in 64 lba) (found_in found) (mark_in mark)
 block_in words = None
 
 -- a Post of these parts, where all are there
-abbrev pub posted : Option ℕ → (cqe payload : Option (List ℕ)) → Option Entry
-posted (Some ticket) (Some cqe) (Some payload) =
+abbrev pub post_from : Option ℕ → (cqe payload : Option (List ℕ)) → Option Entry
+post_from (Some ticket) (Some cqe) (Some payload) =
     Some (Entry.Post (record { ticket = ticket; cqe = cqe; payload = payload }))
-posted _ _ _ = None
+post_from _ _ _ = None
 
 -- the Post that the words behind its kind spell
 unfoldable pub post_in : List (List ℕ) → Option Entry
-post_in (ticket ∷ cqe ∷ payload ∷ []) = posted (number_in 64 ticket) (fixed_in 16 (bytes_in cqe)) (data_in 512 payload)
+post_in (ticket ∷ cqe ∷ payload ∷ []) =
+    post_from (number_in 64 ticket) (fixed_in 16 (bytes_in cqe)) (data_in 512 payload)
 post_in words = None
 
 -- a Reap of these parts, where all are there
-abbrev pub reaped : Option ℕ → Option (List ℕ) → Option Entry
-reaped (Some queue) (Some cqe) = Some (Entry.Reap (record { queue = queue; cqe = cqe }))
-reaped _ _ = None
+abbrev pub reap_from : Option ℕ → Option (List ℕ) → Option Entry
+reap_from (Some queue) (Some cqe) = Some (Entry.Reap (record { queue = queue; cqe = cqe }))
+reap_from _ _ = None
 
 -- the Reap that the words behind its kind spell
 unfoldable pub reap_in : List (List ℕ) → Option Entry
-reap_in (queue ∷ cqe ∷ []) = reaped (number_in 16 queue) (fixed_in 16 (bytes_in cqe))
+reap_in (queue ∷ cqe ∷ []) = reap_from (number_in 16 queue) (fixed_in 16 (bytes_in cqe))
 reap_in words = None
 
 -- the entry whose words these are

@@ -5,7 +5,7 @@ use Rattle.std.proofs.lemmas.Bool.{and_parts, cases_Bool}
 use Rattle.nvme_model.specs.Config.{completion_queue}
 use Rattle.nvme_model.specs.History.{Past}
 use Rattle.nvme_model.specs.Legal.{IsLegal}
-use Rattle.nvme_model.specs.Queues.{fetched, published}
+use Rattle.nvme_model.specs.Queues.{fetched_count, published_entries}
 use Rattle.nvme_model.specs.Tickets
 use Rattle.nvme_model.specs.Tickets.{cids_in_use}
 use Rattle.nvme_model.specs.Slots.{fetched_before}
@@ -26,18 +26,18 @@ use Rattle.host_laws.proofs.Later.{published_later}
 
 -- ---- what isn't fetched isn't answered, nor in use
 
-pub known_fetched : (c : ConfigNumbers) (past : Past) (q j : ℕ) → IsLegal c past → Known past q j → j < fetched past q
+pub known_fetched : (c : ConfigNumbers) (past : Past) (q j : ℕ) → IsLegal c past → Known past q j → j < fetched_count past q
 known_fetched c past q j h k =
-    let w = subst (λ (x : ℕ). fetched_before past k.ticket + taken (Tickets.ticket past k.ticket).verdict ≤ fetched past x) k.queue (within_fetched c past k.ticket h k.some k.known) in
+    let w = subst (λ (x : ℕ). fetched_before past k.ticket + taken (Tickets.ticket past k.ticket).verdict ≤ fetched_count past x) k.queue (within_fetched c past k.ticket h k.some k.known) in
     omega (arith, w, k.number, k.posted, k.few)
 
-pub unfetched_unreaped : (c : ConfigNumbers) (past : Past) (q j : ℕ) → IsLegal c past → fetched past q ≤ j → reaped_post c past q j ≡ None
+pub unfetched_unreaped : (c : ConfigNumbers) (past : Past) (q j : ℕ) → IsLegal c past → fetched_count past q ≤ j → reaped_post c past q j ≡ None
 unfetched_unreaped c past q j h l =
     none_if (reaped_post c past q j) (λ p s.
     let y = reaped_at c past q j p s in
     omega (arith, known_fetched c past q j h (posted_answers_known c past (completion_queue c q) y.index (record { queue = q; number = j; post = p }) h y.at), l))
 
-pub no_conflict : (c : ConfigNumbers) (past : Past) (q j : ℕ) (s : Submission) → IsLegal c past → IsApart c past q → fetched past q ≤ j → slice_get (published past q) j ≡ Some s → is_in (cid_of s) (cids_in_use past q) ≡ false
+pub no_conflict : (c : ConfigNumbers) (past : Past) (q j : ℕ) (s : Submission) → IsLegal c past → IsApart c past q → fetched_count past q ≤ j → slice_get (published_entries past q) j ≡ Some s → is_in (cid_of s) (cids_in_use past q) ≡ false
 no_conflict c past q j s h a l e =
     elim (cases_Bool (is_in (cid_of s) (cids_in_use past q))) [
       | inr o ↦ o
@@ -54,10 +54,10 @@ no_conflict c past q j s h a l e =
 pub book_apart : (c : ConfigNumbers) (past : Past) (n : ℕ) (book : Book) (q : ℕ) → IsBook c past n book → completion_queue c q ≡ n → IsApart c past q
 book_apart c past n book q b e = λ cid i j x y. same_some i j (book q cid) ((b q cid i e).1 x) ((b q cid j e).1 y)
 
-pub always_empty : (c : ConfigNumbers) (past : Past) (q : ℕ) → published past q ≡ [] → IsAlwaysApart c past q
+pub always_empty : (c : ConfigNumbers) (past : Past) (q : ℕ) → published_entries past q ≡ [] → IsAlwaysApart c past q
 always_empty c past q e = λ later before same cid i j x y.
     let f = published_later later before q i x.entry x.published in
-    let g : None ≡ Some x.entry = sym (ap (λ (xs : List Submission). slice_get xs i) (ap (λ (p : Past). published p q) same ∙ e)) ∙ f in
+    let g : None ≡ Some x.entry = sym (ap (λ (xs : List Submission). slice_get xs i) (ap (λ (p : Past). published_entries p q) same ∙ e)) ∙ f in
     absurd cc
 
 pub always_more : (c : ConfigNumbers) (e : Entry) (past : Past) (q : ℕ) → IsAlwaysApart c past q → IsApart c (e ∷ past) q → IsAlwaysApart c (e ∷ past) q

@@ -4,11 +4,11 @@ use Rattle.std.specs.List.{list_all, list_any}
 use Rattle.std.proofs.lemmas.Bool.{cond-true, and_parts, and_from, or_cases, cases_Bool, cond-false}
 use Rattle.std.proofs.lemmas.List.{append-nil, map-append}
 use Rattle.std.proofs.lemmas.List.Folds.{list_any-append}
-use Rattle.nvme_model.specs.Completions.{reaped}
+use Rattle.nvme_model.specs.Completions.{reaped_count}
 use Rattle.nvme_model.specs.Config.{completion_queue}
 use Rattle.nvme_model.specs.History.{Past}
 use Rattle.nvme_model.specs.Passes.{SharedPast, entries, places}
-use Rattle.nvme_model.specs.Queues.{published}
+use Rattle.nvme_model.specs.Queues.{published_entries}
 use Rattle.nvme_model.specs.Slots.{Name, Swap, releases, swaps, swaps_in}
 use Rattle.nvme_model.specs.declared.config.ConfigNumbers.{ConfigNumbers}
 use Rattle.nvme_model.specs.declared.entry.Entry.{Entry}
@@ -35,12 +35,12 @@ publish_beside c n q r h e = elim (cases_Bool (eqb r q)) [
   | inl o ↦ absurd (not_equal (completion_queue c r) n h (ap (completion_queue c) (eqb-true r q o) ∙ e))
 ]
 
-pub published_beside : (c : ConfigNumbers) (later past : Past) (n q : ℕ) → IsBeside c n later → completion_queue c q ≡ n → published (later ++ past) q ≡ published past q
+pub published_beside : (c : ConfigNumbers) (later past : Past) (n q : ℕ) → IsBeside c n later → completion_queue c q ≡ n → published_entries (later ++ past) q ≡ published_entries past q
 published_beside c [] past n q h e = refl
 published_beside c (Entry.Publish p ∷ later) past n q h e =
     let a = and_parts (not (eqb (completion_queue c p.queue) n)) (list_all (is_beside c n) later) h in
-    ap (λ (xs : List Submission). published (later ++ past) q ++ xs) (cond-false (eqb p.queue q) p.batch [] (publish_beside c n q p.queue a.0 e))
-    ∙ (append-nil (published (later ++ past) q) ∙ published_beside c later past n q a.1 e)
+    ap (λ (xs : List Submission). published_entries (later ++ past) q ++ xs) (cond-false (eqb p.queue q) p.batch [] (publish_beside c n q p.queue a.0 e))
+    ∙ (append-nil (published_entries (later ++ past) q) ∙ published_beside c later past n q a.1 e)
 published_beside c (Entry.Reap r ∷ later) past n q h e = published_beside c later past n q (and_parts (not (eqb r.queue n)) (list_all (is_beside c n) later) h).1 e
 published_beside c (Entry.Fetch p ∷ later) past n q h e = published_beside c later past n q h e
 published_beside c (Entry.Grant p ∷ later) past n q h e = published_beside c later past n q h e
@@ -49,11 +49,11 @@ published_beside c (Entry.Post p ∷ later) past n q h e = published_beside c la
 
 -- ---- the completion queue
 
-pub reaped_beside : (c : ConfigNumbers) (later past : Past) (n : ℕ) → IsBeside c n later → reaped (later ++ past) n ≡ reaped past n
+pub reaped_beside : (c : ConfigNumbers) (later past : Past) (n : ℕ) → IsBeside c n later → reaped_count (later ++ past) n ≡ reaped_count past n
 reaped_beside c [] past n h = refl
 reaped_beside c (Entry.Reap r ∷ later) past n h =
     let a = and_parts (not (eqb r.queue n)) (list_all (is_beside c n) later) h in
-    add_none (eqb r.queue n) a.0 (reaped (later ++ past) n) ∙ reaped_beside c later past n a.1
+    add_none (eqb r.queue n) a.0 (reaped_count (later ++ past) n) ∙ reaped_beside c later past n a.1
   where
     add_none : (b : Bool) → not b ≡ true → (m : ℕ) → m + cond b 1 0 ≡ m
     add_none true h m = cc
@@ -77,7 +77,7 @@ pub reaped_post_beside : (c : ConfigNumbers) (later past : Past) (n q j : ℕ) �
 reaped_post_beside c [] past n q j h e = refl
 reaped_post_beside c (Entry.Reap r ∷ later) past n q j h e =
     let a = and_parts (not (eqb r.queue n)) (list_all (is_beside c n) later) h in
-    reap_beside c (later ++ past) n q j r.queue (reaped (later ++ past) r.queue) (slice_get (posted_answers c (later ++ past) r.queue) (reaped (later ++ past) r.queue)) refl a.0 e (reaped_post c (later ++ past) q j)
+    reap_beside c (later ++ past) n q j r.queue (reaped_count (later ++ past) r.queue) (slice_get (posted_answers c (later ++ past) r.queue) (reaped_count (later ++ past) r.queue)) refl a.0 e (reaped_post c (later ++ past) q j)
     ∙ reaped_post_beside c later past n q j a.1 e
 reaped_post_beside c (Entry.Publish p ∷ later) past n q j h e = reaped_post_beside c later past n q j (and_parts (not (eqb (completion_queue c p.queue) n)) (list_all (is_beside c n) later) h).1 e
 reaped_post_beside c (Entry.Fetch p ∷ later) past n q j h e = reaped_post_beside c later past n q j h e
@@ -91,9 +91,9 @@ pub swaps_beside : (c : ConfigNumbers) (later past : Past) (n : ℕ) (s : Swap) 
 swaps_beside c [] past n s h e i = i
 swaps_beside c (Entry.Publish p ∷ later) past n s h e i =
     let a = and_parts (not (eqb (completion_queue c p.queue) n)) (list_all (is_beside c n) later) h in
-    go a.0 (in_cases s (swaps_in p.queue (length (published (later ++ past) p.queue)) p.batch) (swaps (later ++ past)) i) (swaps_beside c later past n s a.1 e)
+    go a.0 (in_cases s (swaps_in p.queue (length (published_entries (later ++ past) p.queue)) p.batch) (swaps (later ++ past)) i) (swaps_beside c later past n s a.1 e)
   where
-    go : not (eqb (completion_queue c p.queue) n) ≡ true → In s (swaps_in p.queue (length (published (later ++ past) p.queue)) p.batch) ⊎ In s (swaps (later ++ past)) → (In s (swaps (later ++ past)) → In s (swaps past)) → In s (swaps past)
+    go : not (eqb (completion_queue c p.queue) n) ≡ true → In s (swaps_in p.queue (length (published_entries (later ++ past) p.queue)) p.batch) ⊎ In s (swaps (later ++ past)) → (In s (swaps (later ++ past)) → In s (swaps past)) → In s (swaps past)
     go b (inl new) ih = absurd (not_equal (completion_queue c p.queue) n b (ap (completion_queue c) (sym (swaps_in_queue (later ++ past) p s new)) ∙ e))
     go b (inr old) ih = ih old
 swaps_beside c (Entry.Reap r ∷ later) past n s h e i = swaps_beside c later past n s (and_parts (not (eqb r.queue n)) (list_all (is_beside c n) later) h).1 e i
@@ -103,9 +103,9 @@ swaps_beside c (Entry.Block p ∷ later) past n s h e i = swaps_beside c later p
 swaps_beside c (Entry.Post p ∷ later) past n s h e i = swaps_beside c later past n s h e i
 
 none_new : (c : ConfigNumbers) (past : Past) (p : PublishLine) (n l : ℕ) (name : Name) → not (eqb (completion_queue c p.queue) n) ≡ true
-    → list_any (λ r. releases r l name && eqb (completion_queue c r.queue) n) (swaps_in p.queue (length (published past p.queue)) p.batch) ≡ false
+    → list_any (λ r. releases r l name && eqb (completion_queue c r.queue) n) (swaps_in p.queue (length (published_entries past p.queue)) p.batch) ≡ false
 none_new c past p n l name h =
-    let of = swaps_in p.queue (length (published past p.queue)) p.batch in
+    let of = swaps_in p.queue (length (published_entries past p.queue)) p.batch in
     elim (cases_Bool (list_any (λ r. releases r l name && eqb (completion_queue c r.queue) n) of)) [
       | inr o ↦ o
       | inl o ↦
@@ -118,7 +118,7 @@ pub released_beside : (c : ConfigNumbers) (later past : Past) (n l : ℕ) (name 
 released_beside c [] past n l name h = refl
 released_beside c (Entry.Publish p ∷ later) past n l name h =
     let a = and_parts (not (eqb (completion_queue c p.queue) n)) (list_all (is_beside c n) later) h in
-    list_any-append (λ r. releases r l name && eqb (completion_queue c r.queue) n) (swaps_in p.queue (length (published (later ++ past) p.queue)) p.batch) (swaps (later ++ past))
+    list_any-append (λ r. releases r l name && eqb (completion_queue c r.queue) n) (swaps_in p.queue (length (published_entries (later ++ past) p.queue)) p.batch) (swaps (later ++ past))
     ∙ (ap (λ (b : Bool). b || is_released_on c (later ++ past) n l name) (none_new c (later ++ past) p n l name a.0) ∙ released_beside c later past n l name a.1)
 released_beside c (Entry.Reap r ∷ later) past n l name h = released_beside c later past n l name (and_parts (not (eqb r.queue n)) (list_all (is_beside c n) later) h).1
 released_beside c (Entry.Fetch p ∷ later) past n l name h = released_beside c later past n l name h

@@ -7,7 +7,7 @@ use Rattle.std.proofs.lemmas.Option.{slice_get_within}
 use Rattle.nvme_model.specs.Config.{completion_queue}
 use Rattle.nvme_model.specs.History.{Past}
 use Rattle.nvme_model.specs.Legal.{IsLegal}
-use Rattle.nvme_model.specs.Queues.{published}
+use Rattle.nvme_model.specs.Queues.{published_entries}
 use Rattle.nvme_model.specs.declared.config.ConfigNumbers.{ConfigNumbers}
 use Rattle.nvme_model.specs.declared.entry.Entry.{Entry}
 use Rattle.nvme_model.specs.declared.entry.PostLine.{PostLine}
@@ -25,24 +25,24 @@ use Rattle.host_laws.proofs.Reaps.{entry_is, none_if, reaped_later}
 
 -- ---- what a Publish adds
 
-pub next_numbers : (past : Past) (p : PublishLine) (i : ℕ) (s : Submission) → slice_get p.batch i ≡ Some s → slice_get (published (Entry.Publish p ∷ past) p.queue) (length (published past p.queue) + i) ≡ Some s
+pub next_numbers : (past : Past) (p : PublishLine) (i : ℕ) (s : Submission) → slice_get p.batch i ≡ Some s → slice_get (published_entries (Entry.Publish p ∷ past) p.queue) (length (published_entries past p.queue) + i) ≡ Some s
 next_numbers past p i s h =
-    get_after (published past p.queue) (cond (eqb p.queue p.queue) p.batch []) i (length (published past p.queue) + i) s refl
+    get_after (published_entries past p.queue) (cond (eqb p.queue p.queue) p.batch []) i (length (published_entries past p.queue) + i) s refl
     (ap (λ (xs : List Submission). slice_get xs i) (cond-true (eqb p.queue p.queue) p.batch [] (eq-eqb p.queue p.queue refl)) ∙ h)
 
-pub other_queue : (past : Past) (p : PublishLine) (q : ℕ) → (q ≡ p.queue → ⊥) → published (Entry.Publish p ∷ past) q ≡ published past q
+pub other_queue : (past : Past) (p : PublishLine) (q : ℕ) → (q ≡ p.queue → ⊥) → published_entries (Entry.Publish p ∷ past) q ≡ published_entries past q
 other_queue past p q d =
-    ap (λ (xs : List Submission). published past q ++ xs) (cond-false (eqb p.queue q) p.batch [] (elim (cases_Bool (eqb p.queue q)) [
+    ap (λ (xs : List Submission). published_entries past q ++ xs) (cond-false (eqb p.queue q) p.batch [] (elim (cases_Bool (eqb p.queue q)) [
       | inr e ↦ e
       | inl e ↦ absurd (d (sym (eqb-true p.queue q e)))
-    ])) ∙ append-nil (published past q)
+    ])) ∙ append-nil (published_entries past q)
 
 -- an entry that isn't published yet isn't answered
-pub new_unreaped : (c : ConfigNumbers) (past : Past) (q j : ℕ) → IsLegal c past → length (published past q) ≤ j → reaped_post c past q j ≡ None
+pub new_unreaped : (c : ConfigNumbers) (past : Past) (q j : ℕ) → IsLegal c past → length (published_entries past q) ≤ j → reaped_post c past q j ≡ None
 new_unreaped c past q j h l =
     none_if (reaped_post c past q j) (λ p s.
     let e = entry_is c past q j p h (reaped_posted_at c past q j p s) in
-    omega (arith, slice_get_within (published past q) j e.entry e.published, l))
+    omega (arith, slice_get_within (published_entries past q) j e.entry e.published, l))
 
 -- ---- the book, over any lists of entries
 
@@ -55,16 +55,16 @@ record WaitingIn (entries : ℕ → List Submission) (reaped : ℕ → ℕ → O
 abbrev Right : ConfigNumbers → ℕ → (ℕ → List Submission) → (ℕ → ℕ → Option PostLine) → Book → Type 0
 Right c n entries reaped book = (q cid j : ℕ) → completion_queue c q ≡ n → (book q cid ≡ Some j) ↔ WaitingIn entries reaped q cid j
 
-waiting_in : (c : ConfigNumbers) (past : Past) (q cid j : ℕ) → IsWaiting c past q cid j → WaitingIn (published past) (reaped_post c past) q cid j
+waiting_in : (c : ConfigNumbers) (past : Past) (q cid j : ℕ) → IsWaiting c past q cid j → WaitingIn (published_entries past) (reaped_post c past) q cid j
 waiting_in c past q cid j w = record { entry = w.entry; published = w.published; says = w.says; unreaped = w.unreaped }
 
-in_waiting : (c : ConfigNumbers) (past : Past) (q cid j : ℕ) → WaitingIn (published past) (reaped_post c past) q cid j → IsWaiting c past q cid j
+in_waiting : (c : ConfigNumbers) (past : Past) (q cid j : ℕ) → WaitingIn (published_entries past) (reaped_post c past) q cid j → IsWaiting c past q cid j
 in_waiting c past q cid j w = record { entry = w.entry; published = w.published; says = w.says; unreaped = w.unreaped }
 
-book_right : (c : ConfigNumbers) (past : Past) (n : ℕ) (book : Book) → IsBook c past n book → Right c n (published past) (reaped_post c past) book
+book_right : (c : ConfigNumbers) (past : Past) (n : ℕ) (book : Book) → IsBook c past n book → Right c n (published_entries past) (reaped_post c past) book
 book_right c past n book b = λ q cid j e. (λ x. waiting_in c past q cid j ((b q cid j e).0 x), λ w. (b q cid j e).1 (in_waiting c past q cid j w))
 
-right_book : (c : ConfigNumbers) (past : Past) (n : ℕ) (book : Book) → Right c n (published past) (reaped_post c past) book → IsBook c past n book
+right_book : (c : ConfigNumbers) (past : Past) (n : ℕ) (book : Book) → Right c n (published_entries past) (reaped_post c past) book → IsBook c past n book
 right_book c past n book b = λ q cid j e. (λ x. in_waiting c past q cid j ((b q cid j e).0 x), λ w. (b q cid j e).1 (waiting_in c past q cid j w))
 
 -- the same entries and answers, for the submission queues of completion queue n
@@ -134,7 +134,7 @@ right_more c n entries reaped book q m s at none free b = λ r i j e. (to_entry 
 
 -- ---- the book is kept
 
-pub book_empty : (c : ConfigNumbers) (past : Past) (n : ℕ) → ((q : ℕ) → completion_queue c q ≡ n → published past q ≡ []) → IsBook c past n empty_book
+pub book_empty : (c : ConfigNumbers) (past : Past) (n : ℕ) → ((q : ℕ) → completion_queue c q ≡ n → published_entries past q ≡ []) → IsBook c past n empty_book
 book_empty c past n f = λ q cid j e. (
   λ x. no_some j (IsWaiting c past q cid j) x,
   λ w. let g : None ≡ Some w.entry = sym (ap (λ (xs : List Submission). slice_get xs j) (f q e)) ∙ w.published in absurd cc,
@@ -143,30 +143,30 @@ book_empty c past n f = λ q cid j e. (
 pub book_beside : (c : ConfigNumbers) (later past : Past) (n : ℕ) (book : Book) → IsBeside c n later → IsBook c past n book → IsBook c (later ++ past) n book
 book_beside c later past n book h b =
     right_book c (later ++ past) n book
-    (right_same c n (published past) (published (later ++ past)) (reaped_post c past) (reaped_post c (later ++ past)) book (λ q e. published_beside c later past n q h e) (λ q j e. reaped_post_beside c later past n q j h e) (book_right c past n book b))
+    (right_same c n (published_entries past) (published_entries (later ++ past)) (reaped_post c past) (reaped_post c (later ++ past)) book (λ q e. published_beside c later past n q h e) (λ q j e. reaped_post_beside c later past n q j h e) (book_right c past n book b))
 
 pub book_one : (c : ConfigNumbers) (past : Past) (n : ℕ) (book : Book) (q : ℕ) (s : Submission) → IsLegal c past → IsBook c past n book → book q (cid_of s) ≡ None
-    → IsBook c (Entry.Publish (record { queue = q; batch = s ∷ [] }) ∷ past) n (with_entry book q (cid_of s) (length (published past q)))
+    → IsBook c (Entry.Publish (record { queue = q; batch = s ∷ [] }) ∷ past) n (with_entry book q (cid_of s) (length (published_entries past q)))
 book_one c past n book q s h b free =
-    right_book c (Entry.Publish (record { queue = q; batch = s ∷ [] }) ∷ past) n (with_entry book q (cid_of s) (length (published past q)))
-    (right_more c n (published past) (reaped_post c past) book q (length (published past q)) s refl (new_unreaped c past q (length (published past q)) h (omega arith)) free (book_right c past n book b))
+    right_book c (Entry.Publish (record { queue = q; batch = s ∷ [] }) ∷ past) n (with_entry book q (cid_of s) (length (published_entries past q)))
+    (right_more c n (published_entries past) (reaped_post c past) book q (length (published_entries past q)) s refl (new_unreaped c past q (length (published_entries past q)) h (omega arith)) free (book_right c past n book b))
 
 two_grown : (xs : List Submission) (a b : Submission) (k : Bool) → xs ++ cond k (a ∷ b ∷ []) [] ≡ (xs ++ cond k (a ∷ []) []) ++ cond k (b ∷ []) []
 two_grown xs a b true = sym (append_assoc xs (a ∷ []) (b ∷ []))
 two_grown xs a b false = ap (λ (ys : List Submission). ys ++ []) (sym (append-nil xs))
 
 pub book_pair : (c : ConfigNumbers) (past : Past) (n : ℕ) (book : Book) (q : ℕ) (s t : Submission) → IsLegal c past → IsBook c past n book → book q (cid_of s) ≡ None → book q (cid_of t) ≡ None → (cid_of t ≡ cid_of s → ⊥)
-    → IsBook c (Entry.Publish (record { queue = q; batch = s ∷ t ∷ [] }) ∷ past) n (with_entry (with_entry book q (cid_of s) (length (published past q))) q (cid_of t) (suc (length (published past q))))
+    → IsBook c (Entry.Publish (record { queue = q; batch = s ∷ t ∷ [] }) ∷ past) n (with_entry (with_entry book q (cid_of s) (length (published_entries past q))) q (cid_of t) (suc (length (published_entries past q))))
 book_pair c past n book q s t h b free free2 apart =
-    let m = length (published past q) in
-    let one = right_more c n (published past) (reaped_post c past) book q m s refl (new_unreaped c past q m h (omega arith)) free (book_right c past n book b) in
-    let count : suc m ≡ length (grown (published past) q s q) = omega (arith, length-append (published past q) (cond (eqb q q) (s ∷ []) []), ap length (cond-true (eqb q q) (s ∷ []) [] (eq-eqb q q refl))) in
+    let m = length (published_entries past q) in
+    let one = right_more c n (published_entries past) (reaped_post c past) book q m s refl (new_unreaped c past q m h (omega arith)) free (book_right c past n book b) in
+    let count : suc m ≡ length (grown (published_entries past) q s q) = omega (arith, length-append (published_entries past q) (cond (eqb q q) (s ∷ []) []), ap length (cond-true (eqb q q) (s ∷ []) [] (eq-eqb q q refl))) in
     let still : with_entry book q (cid_of s) m q (cid_of t) ≡ None = cond-false (eqb q q && eqb (cid_of t) (cid_of s)) (Some m) (book q (cid_of t)) (unlike (eqb q q) (eqb (cid_of t) (cid_of s)) refl) ∙ free2 in
-    let two = right_more c n (grown (published past) q s) (reaped_post c past) (with_entry book q (cid_of s) m) q (suc m) t count (new_unreaped c past q (suc m) h (omega arith)) still one in
+    let two = right_more c n (grown (published_entries past) q s) (reaped_post c past) (with_entry book q (cid_of s) m) q (suc m) t count (new_unreaped c past q (suc m) h (omega arith)) still one in
     let all : Past = Entry.Publish (record { queue = q; batch = s ∷ t ∷ [] }) ∷ past in
     right_book c all n (with_entry (with_entry book q (cid_of s) m) q (cid_of t) (suc m))
-    (right_same c n (grown (grown (published past) q s) q t) (published all) (reaped_post c past) (reaped_post c past) (with_entry (with_entry book q (cid_of s) m) q (cid_of t) (suc m))
-    (λ r e. two_grown (published past r) s t (eqb q r)) (λ r j e. refl) two)
+    (right_same c n (grown (grown (published_entries past) q s) q t) (published_entries all) (reaped_post c past) (reaped_post c past) (with_entry (with_entry book q (cid_of s) m) q (cid_of t) (suc m))
+    (λ r e. two_grown (published_entries past r) s t (eqb q r)) (λ r j e. refl) two)
   where
     unlike : (x y : Bool) → eqb (cid_of t) (cid_of s) ≡ y → (x && y) ≡ false
     unlike x true e = absurd (apart (eqb-true (cid_of t) (cid_of s) e))
@@ -187,8 +187,8 @@ book_reaped c past r book x h b = λ q cid j e. (to_entry q cid j e, of_entry q 
           published = w.published;
           says = w.says;
           unreaped = x.others q j (λ a d.
-              let there : slice_get (published past q) j ≡ Some x.entry = ap₂ (λ (y z : ℕ). slice_get (published past y) z) a d ∙ x.published in
-              let same = same_some w.entry x.entry (slice_get (published past q) j) w.published there in
+              let there : slice_get (published_entries past q) j ≡ Some x.entry = ap₂ (λ (y z : ℕ). slice_get (published_entries past y) z) a d ∙ x.published in
+              let same = same_some w.entry x.entry (slice_get (published_entries past q) j) w.published there in
               clash (eqb q x.queue && eqb cid (cid_of x.entry)) (and_from _ _ (eq-eqb q x.queue a) (eq-eqb cid (cid_of x.entry) (sym w.says ∙ ap cid_of same))) k) ∙ w.unreaped;
         }
 

@@ -7,7 +7,7 @@ use Rattle.nvme_model.specs.Statuses.{success, compare_failure, is_success}
 use Rattle.nvme_model.specs.Verdict.{taken, passed}
 use Rattle.nvme_model.specs.History.{Past}
 use Rattle.nvme_model.specs.Tickets.{Ticket, tickets, command, posts_of}
-use Rattle.nvme_model.specs.Queues.{published}
+use Rattle.nvme_model.specs.Queues.{published_entries}
 use Rattle.host_laws.specs.Calls.{takes, reaped_post}
 use Rattle.nvme_model.specs.Owed.{owed}
 use Rattle.nvme_model.specs.Slots.{fetched_before}
@@ -83,26 +83,26 @@ pub record Second (past : Past) (t j : ℕ) (s : Submission) : Type 0 where
   pub entry : command (Tickets.ticket past t) 1 ≡ s
   pub two : taken (Tickets.ticket past t).verdict ≡ 2
 
-pub which : (c : ConfigNumbers) (past : Past) (q j : ℕ) (p : PostLine) (s : Submission) (f : PostOf c past q j p) → slice_get (published past q) j ≡ Some s
+pub which : (c : ConfigNumbers) (past : Past) (q j : ℕ) (p : PostLine) (s : Submission) (f : PostOf c past q j p) → slice_get (published_entries past q) j ≡ Some s
     → First f.at.before p.ticket j s ⊎ Second f.at.before p.ticket j s
 which c past q j p s f e =
     let t = p.ticket in
     let before = f.at.before in
     let all : Past = f.at.later ++ (Entry.Post p ∷ before) in
-    let e2 : slice_get (published all q) j ≡ Some s = subst (λ (x : Past). slice_get (published x q) j ≡ Some s) f.at.is e in
+    let e2 : slice_get (published_entries all q) j ≡ Some s = subst (λ (x : Past). slice_get (published_entries x q) j ≡ Some s) f.at.is e in
     let below : posts_of before t < taken (Tickets.ticket before t).verdict = subst (λ (n : ℕ). posts_of before t < n) f.is.taken.count (ltb-true _ _ f.is.in_flight) in
     let first = published_later f.at.later (Entry.Post p ∷ before) q (fetched_before before t) (command (Tickets.ticket before t) 0)
-    (subst (λ (x : ℕ). slice_get (published before x) (fetched_before before t) ≡ Some (command (Tickets.ticket before t) 0)) f.at.queue f.is.taken.first) in
+    (subst (λ (x : ℕ). slice_get (published_entries before x) (fetched_before before t) ≡ Some (command (Tickets.ticket before t) 0)) f.at.queue f.is.taken.first) in
     elim (cases_lt (posts_of before t) 1) [
       | inl z ↦
           let number : fetched_before before t ≡ j = omega (arith, f.at.number, z) in
-          inl (record { posts = omega (arith, z); number = number; entry = same_some (command (Tickets.ticket before t) 0) s (slice_get (published all q) j) (ap (slice_get (published all q)) (sym number) ∙ first) e2 })
+          inl (record { posts = omega (arith, z); number = number; entry = same_some (command (Tickets.ticket before t) 0) s (slice_get (published_entries all q) j) (ap (slice_get (published_entries all q)) (sym number) ∙ first) e2 })
       | inr z ↦
           let two : taken (Tickets.ticket before t).verdict ≡ 2 = omega (arith, below, z, taken_two (Tickets.ticket before t).verdict) in
           let number : suc (fetched_before before t) ≡ j = omega (arith, f.at.number, below, two, z) in
           let second = published_later f.at.later (Entry.Post p ∷ before) q (suc (fetched_before before t)) (command (Tickets.ticket before t) 1)
-          (subst (λ (x : ℕ). slice_get (published before x) (suc (fetched_before before t)) ≡ Some (command (Tickets.ticket before t) 1)) f.at.queue (f.is.taken.second two)) in
-          inr (record { posts = omega (arith, below, two, z); number = number; entry = same_some (command (Tickets.ticket before t) 1) s (slice_get (published all q) j) (ap (slice_get (published all q)) (sym number) ∙ second) e2; two = two })
+          (subst (λ (x : ℕ). slice_get (published_entries before x) (suc (fetched_before before t)) ≡ Some (command (Tickets.ticket before t) 1)) f.at.queue (f.is.taken.second two)) in
+          inr (record { posts = omega (arith, below, two, z); number = number; entry = same_some (command (Tickets.ticket before t) 1) s (slice_get (published_entries all q) j) (ap (slice_get (published_entries all q)) (sym number) ∙ second) e2; two = two })
     ]
 
 -- its ticket, seen from the end
@@ -175,18 +175,18 @@ compare_passes c past t i v a b e k h = elim (cases_Bool (passed v)) [
 -- ---- the commands of a ticket, seen from the end
 
 pub record Published (past : Past) (t q j : ℕ) : Type 0 where
-  pub first : slice_get (published past q) j ≡ Some (command (Tickets.ticket past t) 0)
-  pub second : taken (Tickets.ticket past t).verdict ≡ 2 → slice_get (published past q) (suc j) ≡ Some (command (Tickets.ticket past t) 1)
+  pub first : slice_get (published_entries past q) j ≡ Some (command (Tickets.ticket past t) 0)
+  pub second : taken (Tickets.ticket past t).verdict ≡ 2 → slice_get (published_entries past q) (suc j) ≡ Some (command (Tickets.ticket past t) 1)
 
 pub published_at : (c : ConfigNumbers) (past : Past) (t q j : ℕ) → IsLegal c past → 1 ≤ t → t ≤ tickets past → (Tickets.ticket past t).queue ≡ q → fetched_before past t ≡ j → Published past t q j
 published_at c past t q j h a b e n =
     let f = ticket_taken c past t h a b in
     record {
-      first = subst₂ (λ (x y : ℕ). slice_get (published past x) y ≡ Some (command (Tickets.ticket past t) 0)) e n f.first;
-      second = λ two. subst₂ (λ (x y : ℕ). slice_get (published past x) (suc y) ≡ Some (command (Tickets.ticket past t) 1)) e n (f.second two);
+      first = subst₂ (λ (x y : ℕ). slice_get (published_entries past x) y ≡ Some (command (Tickets.ticket past t) 0)) e n f.first;
+      second = λ two. subst₂ (λ (x y : ℕ). slice_get (published_entries past x) (suc y) ≡ Some (command (Tickets.ticket past t) 1)) e n (f.second two);
     }
 
-pub command_later : (c : ConfigNumbers) (later past : Past) (t q j i : ℕ) → IsLegal c (later ++ past) → t ≤ tickets past → slice_get (published past q) j ≡ Some (command (Tickets.ticket past t) i)
-    → slice_get (published (later ++ past) q) j ≡ Some (command (Tickets.ticket (later ++ past) t) i)
+pub command_later : (c : ConfigNumbers) (later past : Past) (t q j i : ℕ) → IsLegal c (later ++ past) → t ≤ tickets past → slice_get (published_entries past q) j ≡ Some (command (Tickets.ticket past t) i)
+    → slice_get (published_entries (later ++ past) q) j ≡ Some (command (Tickets.ticket (later ++ past) t) i)
 command_later c later past t q j i h k e =
     published_later later past q j (command (Tickets.ticket past t) i) e ∙ ap (λ (z : Ticket). Some (command z i)) (sym (ticket_later c later past t h k))

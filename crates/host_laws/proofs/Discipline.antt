@@ -4,7 +4,7 @@ use Rattle.std.specs.List.{list_any}
 use Rattle.std.proofs.lemmas.Bool.{and_parts, and_from, or_parts, or_cases}
 use Rattle.nvme_model.specs.declared.config.ConfigNumbers.{ConfigNumbers}
 use Rattle.nvme_model.specs.History.{Past}
-use Rattle.nvme_model.specs.Queues.{published}
+use Rattle.nvme_model.specs.Queues.{published_entries}
 use Rattle.nvme_model.specs.Array.{has_block}
 use Rattle.nvme_model.specs.Slots.{Name, Swap, swaps_in, swaps, touches, only_swaps, disciplined, keeps_discipline, fresh_names, released_right, in_area, releases}
 use Rattle.nvme_model.specs.declared.array.Range.{Range}
@@ -31,9 +31,9 @@ area_has slots l h =
 -- what a Publish that keeps the discipline has, where those before it do
 pub record Keeps (c : ConfigNumbers) (slots : Range) (past : Past) (p : PublishLine) : Type 0 where
   pub before : disciplined c slots past ≡ true
-  pub only : only_swaps slots p.queue (length (published past p.queue)) p.batch (in_area slots (swaps_in p.queue (length (published past p.queue)) p.batch)) ≡ true
-  pub fresh : fresh_names (in_area slots (swaps_in p.queue (length (published past p.queue)) p.batch)) (in_area slots (swaps past)) ≡ true
-  pub right : released_right c past [] (in_area slots (swaps_in p.queue (length (published past p.queue)) p.batch)) ≡ true
+  pub only : only_swaps slots p.queue (length (published_entries past p.queue)) p.batch (in_area slots (swaps_in p.queue (length (published_entries past p.queue)) p.batch)) ≡ true
+  pub fresh : fresh_names (in_area slots (swaps_in p.queue (length (published_entries past p.queue)) p.batch)) (in_area slots (swaps past)) ≡ true
+  pub right : released_right c past [] (in_area slots (swaps_in p.queue (length (published_entries past p.queue)) p.batch)) ≡ true
 
 pub kept : (c : ConfigNumbers) (slots : Range) (past : Past) (p : PublishLine) → disciplined c slots (Entry.Publish p ∷ past) ≡ true → Keeps c slots past p
 kept c slots past p h =
@@ -75,11 +75,11 @@ pub record SwapAt (past : Past) (q i : ℕ) : Type 0 where
   pub queue : swap.queue ≡ q
   pub number : suc swap.number ≡ i
 
-pub swapped_by : (c : ConfigNumbers) (slots : Range) (past : Past) (q i : ℕ) (s : Submission) → disciplined c slots past ≡ true → slice_get (published past q) i ≡ Some s → touches slots s ≡ true → SwapAt past q i
+pub swapped_by : (c : ConfigNumbers) (slots : Range) (past : Past) (q i : ℕ) (s : Submission) → disciplined c slots past ≡ true → slice_get (published_entries past q) i ≡ Some s → touches slots s ≡ true → SwapAt past q i
 swapped_by c slots [] q i s d g t = absurd (let f : None ≡ Some s = g in cc)
 swapped_by c slots (Entry.Publish p ∷ past) q i s d g t =
     let k = kept c slots past p d in
-    elim (get_cases (published past q) (cond (eqb p.queue q) p.batch []) i s g) [
+    elim (get_cases (published_entries past q) (cond (eqb p.queue q) p.batch []) i s g) [
       | inl e ↦ old (swapped_by c slots past q i s k.before e t)
       | inr m ↦ new k (eqb p.queue q) refl m.0 m.1 m.2
     ]
@@ -87,20 +87,20 @@ swapped_by c slots (Entry.Publish p ∷ past) q i s d g t =
     old : SwapAt past q i → SwapAt (Entry.Publish p ∷ past) q i
     old w = record { swap = w.swap; there = in_right w.swap _ (swaps past) w.there; queue = w.queue; number = w.number }
 
-    new : Keeps c slots past p → (b : Bool) → eqb p.queue q ≡ b → (m : ℕ) → i ≡ length (published past q) + m → slice_get (cond b p.batch []) m ≡ Some s → SwapAt (Entry.Publish p ∷ past) q i
+    new : Keeps c slots past p → (b : Bool) → eqb p.queue q ≡ b → (m : ℕ) → i ≡ length (published_entries past q) + m → slice_get (cond b p.batch []) m ≡ Some s → SwapAt (Entry.Publish p ∷ past) q i
     new k false e m l h = absurd (let f : None ≡ Some s = h in cc)
     new k true e m l h =
         let same = eqb-true p.queue q e in
-        let j = length (published past p.queue) in
+        let j = length (published_entries past p.queue) in
         let w = any_in (λ w. eqb (suc w.number) (j + m)) (in_area slots (swaps_in p.queue j p.batch)) (only_at slots p.queue j p.batch (in_area slots (swaps_in p.queue j p.batch)) m s k.only h t) in
         let there = of_filter (λ s. has_block slots s.lba) (swaps_in p.queue j p.batch) w.0 w.1 in
-        let on = each_in (OnQueue (published (Entry.Publish p ∷ past) p.queue) p.queue) (swaps_in p.queue j p.batch) w.0
-        (swaps_in_are (published (Entry.Publish p ∷ past) p.queue) p.queue j p.batch (publish_stands past p)) there in
+        let on = each_in (OnQueue (published_entries (Entry.Publish p ∷ past) p.queue) p.queue) (swaps_in p.queue j p.batch) w.0
+        (swaps_in_are (published_entries (Entry.Publish p ∷ past) p.queue) p.queue j p.batch (publish_stands past p)) there in
         record {
           swap = w.0;
           there = in_left w.0 (swaps_in p.queue j p.batch) (swaps past) there;
           queue = on.0 ∙ same;
-          number = eqb-true (suc w.0.number) (j + m) w.2 ∙ (ap (λ (x : ℕ). length (published past x) + m) same ∙ sym l);
+          number = eqb-true (suc w.0.number) (j + m) w.2 ∙ (ap (λ (x : ℕ). length (published_entries past x) + m) same ∙ sym l);
         }
 swapped_by c slots (Entry.Fetch p ∷ past) q i s d g t = let w = swapped_by c slots past q i s d g t in record { swap = w.swap; there = w.there; queue = w.queue; number = w.number }
 swapped_by c slots (Entry.Grant p ∷ past) q i s d g t = let w = swapped_by c slots past q i s d g t in record { swap = w.swap; there = w.there; queue = w.queue; number = w.number }
@@ -116,7 +116,7 @@ released past l n = list_any (λ s. releases s l n) (swaps past)
 
 pub released_before : (e : Entry) (past : Past) (l : ℕ) (n : Name) → released (e ∷ past) l n ≡ false → released past l n ≡ false
 released_before (Entry.Publish p) past l n h =
-    (or_parts _ _ (sym (list_any-append (λ s. releases s l n) (swaps_in p.queue (length (published past p.queue)) p.batch) (swaps past)) ∙ h)).1
+    (or_parts _ _ (sym (list_any-append (λ s. releases s l n) (swaps_in p.queue (length (published_entries past p.queue)) p.batch) (swaps past)) ∙ h)).1
 released_before (Entry.Fetch p) past l n h = h
 released_before (Entry.Grant p) past l n h = h
 released_before (Entry.Block p) past l n h = h

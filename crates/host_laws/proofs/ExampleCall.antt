@@ -5,7 +5,7 @@ use Rattle.std.proofs.lemmas.Bool.{and_from, cond-true}
 use Rattle.nvme_model.specs.History.{Past}
 use Rattle.nvme_model.specs.Legal.{IsLegal}
 use Rattle.nvme_model.specs.Placed.{effect}
-use Rattle.nvme_model.specs.Queues.{published}
+use Rattle.nvme_model.specs.Queues.{published_entries}
 use Rattle.nvme_model.specs.Statuses.{is_success}
 use Rattle.nvme_model.specs.declared.config.ConfigNumbers.{ConfigNumbers}
 use Rattle.nvme_model.specs.declared.entry.Entry.{Entry}
@@ -25,7 +25,7 @@ use Rattle.host_laws.proofs.Verdicts.{fuse}
 
 -- the book with both entries of the pair
 abbrev pub begun : Past → ℕ → Submission → Submission → Book → Book
-begun start q a b book = with_entry (with_entry book q (cid_of a) (length (published start q))) q (cid_of b) (suc (length (published start q)))
+begun start q a b book = with_entry (with_entry book q (cid_of a) (length (published_entries start q))) q (cid_of b) (suc (length (published_entries start q)))
 
 -- what the driver knows of the pair that it published to queue q, of completion queue n, and of the Reap that answers it
 pub record Call (c : ConfigNumbers) (n q : ℕ) (start later : Past) (a b : Submission) (r : ReapLine) (book : Book) : Type 0 where
@@ -40,7 +40,7 @@ pub record Call (c : ConfigNumbers) (n q : ℕ) (start later : Past) (a b : Subm
   pub of : r.queue ≡ n
 
 pub record Learnt (c : ConfigNumbers) (n q : ℕ) (start later : Past) (a b : Submission) (r : ReapLine) (book : Book) : Type 0 where
-  pub swaps : PairSwaps (Entry.Reap r ∷ (later ++ (pair_on q a b ∷ start))) q (length (published start q))
+  pub swaps : PairSwaps (Entry.Reap r ∷ (later ++ (pair_on q a b ∷ start))) q (length (published_entries start q))
   pub after : effect start swaps.ticket 0 ≡ None
   pub kept : IsBook c (Entry.Reap r ∷ (later ++ (pair_on q a b ∷ start))) r.queue (without_entry (begun start q a b book) q (cid_of b))
 
@@ -48,7 +48,7 @@ pub record Learnt (c : ConfigNumbers) (n q : ℕ) (start later : Past) (a b : Su
 pub learnt : (c : ConfigNumbers) (n q : ℕ) (start later : Past) (a b : Submission) (r : ReapLine) (book : Book) (k : Call c n q start later a b r book) (x : ReapAnswers c (later ++ (pair_on q a b ∷ start)) r)
     → x.queue ≡ q → cid_of x.entry ≡ cid_of b → is_success (status_in r.cqe) ≡ true → Learnt c n q start later a b r book
 learnt c n q start later a b r book k x on cid y =
-    let j = length (published start q) in
+    let j = length (published_entries start q) in
     let line : PublishLine = record { queue = q; batch = a ∷ b ∷ [] } in
     let begin : Past = pair_on q a b ∷ start in
     let seen : Past = later ++ begin in
@@ -65,8 +65,8 @@ learnt c n q start later a b r book k x on cid y =
     record {
       first = a;
       second = b;
-      first_published = ap (slice_get (published begin q)) (omega arith) ∙ next_numbers start line 0 a refl;
-      second_published = ap (slice_get (published begin q)) (omega arith) ∙ next_numbers start line 1 b refl;
+      first_published = ap (slice_get (published_entries begin q)) (omega arith) ∙ next_numbers start line 0 a refl;
+      second_published = ap (slice_get (published_entries begin q)) (omega arith) ∙ next_numbers start line 1 b refl;
       first_fuse = k.first;
       second_fuse = k.second;
     } in

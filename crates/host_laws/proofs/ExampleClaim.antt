@@ -6,7 +6,7 @@ use Rattle.nvme_model.specs.Config.{completion_queue}
 use Rattle.nvme_model.specs.History.{Past}
 use Rattle.nvme_model.specs.Legal.{IsLegal}
 use Rattle.nvme_model.specs.Passes.{SharedPast, entries, places}
-use Rattle.nvme_model.specs.Queues.{published}
+use Rattle.nvme_model.specs.Queues.{published_entries}
 use Rattle.nvme_model.specs.Slots.{Name, Swap, believed, disciplined, holder, keeps_discipline, swaps}
 use Rattle.nvme_model.specs.Statuses.{is_success}
 use Rattle.nvme_model.specs.declared.array.Range.{Range}
@@ -65,7 +65,7 @@ pub record Held (c : ConfigNumbers) (past : Past) (k : Swap) : Type 0 where
   pub holder : holder past k.lba ≡ Some k.name
 
 pub held : (c : ConfigNumbers) (slots : Range) (q : ℕ) (later start : Past) (a b : Submission) (n : Name) (p : PostLine) → IsLegal c (later ++ (pair_on q a b ∷ start)) → disciplined c slots (later ++ (pair_on q a b ∷ start)) ≡ true
-    → has_block slots (lba_of a) ≡ true → IsClaim a b n → reaped_post c (later ++ (pair_on q a b ∷ start)) q (suc (length (published start q))) ≡ Some p → is_success (status_in p.cqe) ≡ true
+    → has_block slots (lba_of a) ≡ true → IsClaim a b n → reaped_post c (later ++ (pair_on q a b ∷ start)) q (suc (length (published_entries start q))) ≡ Some p → is_success (status_in p.cqe) ≡ true
     → is_released_on c (later ++ (pair_on q a b ∷ start)) (completion_queue c q) (lba_of a) n ≡ false → Held c (later ++ (pair_on q a b ∷ start)) (claim_of start q a n)
 held c slots q later start a b n p h d v x r y u =
     let k = claim_of start q a n in
@@ -74,7 +74,7 @@ held c slots q later start a b n p h d v x r y u =
     record {
       claims = refl;
       published = in_contains (swaps seen) k (swaps_later later (pair_on q a b ∷ start) k (contains_in _ k (claim_published start q a b n x.pair x.old x.new)));
-      reaped = reaped_is_success c seen q (suc (length (published start q))) p h r y;
+      reaped = reaped_is_success c seen q (suc (length (published_entries start q))) p h r y;
     } in
     let believes = won_believed c slots seen k d v won u in
     record { won = won; believed = believes; holder = believed_holds c slots seen k.lba n h d (area_has slots _ v) believes }
@@ -87,8 +87,8 @@ releasing c slots q past a b k d v x u e y l =
 
 -- and is answered by success
 pub released : (c : ConfigNumbers) (slots : Range) (q : ℕ) (later past : Past) (a b : Submission) (n : Name) (p : PostLine) → IsLegal c (later ++ (pair_on q a b ∷ past)) → disciplined c slots (later ++ (pair_on q a b ∷ past)) ≡ true
-    → has_block slots (lba_of a) ≡ true → IsRelease a b n → IsAlwaysApart c (later ++ (pair_on q a b ∷ past)) q → IsProperPair (later ++ (pair_on q a b ∷ past)) q (length (published past q))
-    → reaped_post c (later ++ (pair_on q a b ∷ past)) q (suc (length (published past q))) ≡ Some p → is_success (status_in p.cqe) ≡ true
+    → has_block slots (lba_of a) ≡ true → IsRelease a b n → IsAlwaysApart c (later ++ (pair_on q a b ∷ past)) q → IsProperPair (later ++ (pair_on q a b ∷ past)) q (length (published_entries past q))
+    → reaped_post c (later ++ (pair_on q a b ∷ past)) q (suc (length (published_entries past q))) ≡ Some p → is_success (status_in p.cqe) ≡ true
 released c slots q later past a b n p h d v x s y r =
     let w = release_of past q a n in
     release_succeeds c slots (later ++ (pair_on q a b ∷ past)) w y.first y.second p h d (swaps_later later (pair_on q a b ∷ past) w (contains_in _ w (release_published past q a b n x.pair x.old x.new))) refl

@@ -7,7 +7,7 @@ use Rattle.nvme_model.specs.Statuses.{success, compare_failure, is_success, fail
 use Rattle.nvme_model.specs.Verdict.{taken, passed}
 use Rattle.nvme_model.specs.History.{Past}
 use Rattle.nvme_model.specs.Tickets.{Ticket, command, first_fields, posts_of}
-use Rattle.nvme_model.specs.Queues.{published}
+use Rattle.nvme_model.specs.Queues.{published_entries}
 use Rattle.nvme_model.specs.Operations.{op, op_by}
 use Rattle.nvme_model.specs.Open.{blocks_of}
 use Rattle.host_laws.specs.Calls.{reaped_post, status_in, FailsChecks, is_fault, is_known}
@@ -64,7 +64,7 @@ pub failed_idle : (c : ConfigNumbers) (past : Past) (t : ℕ) → IsLegal c past
 failed_idle c past t h p = (idle_counts c past t h (not_passed (Tickets.ticket past t).verdict (first_fields (Tickets.ticket past t)) p)).1
 
 -- another status than success and 2/85, of an entry that is no second of a pair
-pub failed_checks : (c : ConfigNumbers) (past : Past) (q j : ℕ) (p : PostLine) (s : Submission) → IsLegal c past → slice_get (published past q) j ≡ Some s → eqb (fuse s) 2 ≡ false
+pub failed_checks : (c : ConfigNumbers) (past : Past) (q j : ℕ) (p : PostLine) (s : Submission) → IsLegal c past → slice_get (published_entries past q) j ≡ Some s → eqb (fuse s) 2 ≡ false
     → reaped_post c past q j ≡ Some p → is_success (status_in p.cqe) ≡ false → same_status (status_in p.cqe) compare_failure ≡ false → FailsChecks past q j
 failed_checks c past q j p s h e two r y z =
     let f = post_of c past q j p h r in

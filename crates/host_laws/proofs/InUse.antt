@@ -7,7 +7,7 @@ use Rattle.nvme_model.specs.declared.config.ConfigNumbers.{ConfigNumbers}
 use Rattle.nvme_model.specs.Verdict.{taken}
 use Rattle.nvme_model.specs.History.{Past}
 use Rattle.nvme_model.specs.Tickets.{tickets, numbers, command, cids, cids_in_use, posts_of}
-use Rattle.nvme_model.specs.Queues.{fetched, published}
+use Rattle.nvme_model.specs.Queues.{fetched_count, published_entries}
 use Rattle.nvme_model.specs.Slots.{fetched_before}
 use Rattle.host_laws.specs.Calls.{reaped_post, IsWaiting}
 use Rattle.nvme_model.specs.Legal.{IsLegal}
@@ -52,13 +52,13 @@ not_known c past q t i j h a b e l m n k =
       ]
     ]
 
-pub in_use : (c : ConfigNumbers) (past : Past) (q cid : ℕ) → IsLegal c past → In cid (cids_in_use past q) → (j : ℕ) × IsWaiting c past q cid j × (j < fetched past q)
+pub in_use : (c : ConfigNumbers) (past : Past) (q cid : ℕ) → IsLegal c past → In cid (cids_in_use past q) → (j : ℕ) × IsWaiting c past q cid j × (j < fetched_count past q)
 in_use c past q cid h i =
     let x = in_flat (λ t. cond (eqb (Tickets.ticket past t).queue q) (drop (posts_of past t) (cids (Tickets.ticket past t))) []) (numbers (tickets past)) cid i in
     let known = in_numbers (tickets past) x.0 x.1 in
     by_queue x.0 known.0 known.1 (eqb (Tickets.ticket past x.0).queue q) refl x.2
   where
-    by_queue : (t : ℕ) → 1 ≤ t → t ≤ tickets past → (b : Bool) → eqb (Tickets.ticket past t).queue q ≡ b → In cid (cond b (drop (posts_of past t) (cids (Tickets.ticket past t))) []) → (j : ℕ) × IsWaiting c past q cid j × (j < fetched past q)
+    by_queue : (t : ℕ) → 1 ≤ t → t ≤ tickets past → (b : Bool) → eqb (Tickets.ticket past t).queue q ≡ b → In cid (cond b (drop (posts_of past t) (cids (Tickets.ticket past t))) []) → (j : ℕ) × IsWaiting c past q cid j × (j < fetched_count past q)
     by_queue t a k false e j = absurd j
     by_queue t a k true e j =
         let queue = eqb-true (Tickets.ticket past t).queue q e in
@@ -66,23 +66,23 @@ in_use c past q cid h i =
         let r = in_drop (posts_of past t) tk.commands cid (record { entry = []; payload = [] }) j in
         let f = ticket_taken c past t h a k in
         let few : r.0 < taken tk.verdict = omega (arith, r.2, f.count) in
-        let stands : slice_get (published past tk.queue) (fetched_before past t + r.0) ≡ Some (command tk r.0) =
+        let stands : slice_get (published_entries past tk.queue) (fetched_before past t + r.0) ≡ Some (command tk r.0) =
         elim (cases_lt r.0 1) [
           | inl z ↦
               let o : r.0 ≡ 0 = omega (arith, z) in
-              ap (slice_get (published past tk.queue)) (omega (arith, o)) ∙ (f.first ∙ ap (λ (n : ℕ). Some (command tk n)) (sym o))
+              ap (slice_get (published_entries past tk.queue)) (omega (arith, o)) ∙ (f.first ∙ ap (λ (n : ℕ). Some (command tk n)) (sym o))
           | inr z ↦
               let o : r.0 ≡ 1 = omega (arith, z, few, taken_two tk.verdict) in
-              ap (slice_get (published past tk.queue)) (omega (arith, o)) ∙ (f.second (omega (arith, few, o, taken_two tk.verdict)) ∙ ap (λ (n : ℕ). Some (command tk n)) (sym o))
+              ap (slice_get (published_entries past tk.queue)) (omega (arith, o)) ∙ (f.second (omega (arith, few, o, taken_two tk.verdict)) ∙ ap (λ (n : ℕ). Some (command tk n)) (sym o))
         ] in (
           fetched_before past t + r.0,
           record {
             entry = command tk r.0;
-            published = subst (λ (n : ℕ). slice_get (published past n) (fetched_before past t + r.0) ≡ Some (command tk r.0)) queue stands;
+            published = subst (λ (n : ℕ). slice_get (published_entries past n) (fetched_before past t + r.0) ≡ Some (command tk r.0)) queue stands;
             says = r.3;
             unreaped = none_if (reaped_post c past q (fetched_before past t + r.0)) (λ p s.
                 let y = reaped_at c past q (fetched_before past t + r.0) p s in
                 not_known c past q t r.0 (fetched_before past t + r.0) h a k queue r.1 few refl (posted_answers_known c past (completion_queue c q) y.index (record { queue = q; number = fetched_before past t + r.0; post = p }) h y.at));
           },
-          (let w = subst (λ (n : ℕ). fetched_before past t + taken tk.verdict ≤ fetched past n) queue (within_fetched c past t h a k) in omega (arith, w, few)),
+          (let w = subst (λ (n : ℕ). fetched_before past t + taken tk.verdict ≤ fetched_count past n) queue (within_fetched c past t h a k) in omega (arith, w, few)),
         )

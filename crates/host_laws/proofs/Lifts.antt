@@ -8,7 +8,7 @@ use Rattle.nvme_model.specs.declared.config.ConfigNumbers.{ConfigNumbers}
 use Rattle.nvme_model.specs.Verdict.{taken, passed}
 use Rattle.nvme_model.specs.History.{Past}
 use Rattle.nvme_model.specs.Tickets.{Ticket, tickets, command}
-use Rattle.nvme_model.specs.Queues.{published}
+use Rattle.nvme_model.specs.Queues.{published_entries}
 use Rattle.nvme_model.specs.Operations.{op}
 use Rattle.nvme_model.specs.Placed.{effect}
 use Rattle.host_laws.specs.Calls.{IsSingle, IsFused, IsProperPair, takes, IsDone, CompareDiffers, PairSwaps, PairDiffers, FailsChecks}
@@ -28,7 +28,7 @@ use Rattle.host_laws.proofs.FailedCalls.{failed_idle}
 use Rattle.host_laws.proofs.Verdicts.{taken_two}
 use Rattle.nvme_model.specs.declared.operation.Op.{Op}
 
-pub not_before : (c : ConfigNumbers) (later start : Past) (t q j u : ℕ) → IsLegal c (later ++ start) → takes (later ++ start) t q j ≡ true → length (published start q) ≤ j → effect start t u ≡ None
+pub not_before : (c : ConfigNumbers) (later start : Past) (t q j u : ℕ) → IsLegal c (later ++ start) → takes (later ++ start) t q j ≡ true → length (published_entries start q) ≤ j → effect start t u ≡ None
 not_before c later start t q j u h k l =
     let x = takes_parts (later ++ start) t q j k in
     let before = earlier c later start h in
@@ -40,11 +40,11 @@ not_before c later start t q j u h k l =
           let f = ticket_taken c start t before x.some m in
           let queue : (Tickets.ticket start t).queue ≡ q = sym (ap (λ (z : Ticket). z.queue) same) ∙ x.queue in
           let v : taken (Tickets.ticket (later ++ start) t).verdict ≡ taken (Tickets.ticket start t).verdict = ap (λ (z : Ticket). taken z.verdict) same in
-          let first = slice_get_within (published start (Tickets.ticket start t).queue) (fetched_before start t) (command (Tickets.ticket start t) 0) f.first in
-          let count : length (published start (Tickets.ticket start t).queue) ≡ length (published start q) = ap (λ (z : ℕ). length (published start z)) queue in
+          let first = slice_get_within (published_entries start (Tickets.ticket start t).queue) (fetched_before start t) (command (Tickets.ticket start t) 0) f.first in
+          let count : length (published_entries start (Tickets.ticket start t).queue) ≡ length (published_entries start q) = ap (λ (z : ℕ). length (published_entries start z)) queue in
           elim (cases_lt 1 (taken (Tickets.ticket start t).verdict)) [
             | inl two ↦
-                let second = slice_get_within (published start (Tickets.ticket start t).queue) (suc (fetched_before start t)) (command (Tickets.ticket start t) 1)
+                let second = slice_get_within (published_entries start (Tickets.ticket start t).queue) (suc (fetched_before start t)) (command (Tickets.ticket start t) 1)
                 (f.second (omega (arith, two, taken_two (Tickets.ticket start t).verdict))) in
                 absurd (omega (arith, second, count, l, number, x.high, v, taken_two (Tickets.ticket start t).verdict))
             | inr one ↦ absurd (omega (arith, first, count, l, number, x.high, v, one))

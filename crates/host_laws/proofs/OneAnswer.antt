@@ -6,8 +6,8 @@ use Rattle.nvme_model.specs.declared.config.ConfigNumbers.{ConfigNumbers}
 use Rattle.nvme_model.specs.Verdict.{taken}
 use Rattle.nvme_model.specs.History.{Past}
 use Rattle.nvme_model.specs.Tickets.{Ticket, tickets, posts_of, fetched_ticket}
-use Rattle.nvme_model.specs.Queues.{fetched}
-use Rattle.nvme_model.specs.Completions.{reaped}
+use Rattle.nvme_model.specs.Queues.{fetched_count}
+use Rattle.nvme_model.specs.Completions.{reaped_count}
 use Rattle.nvme_model.specs.Legal.{IsLegal}
 use Rattle.host_laws.specs.Calls.{posted_answers, reaped_post, post_if, PostedAnswer, posted_answer}
 use Rattle.nvme_model.specs.Slots.{fetched_before, next_number}
@@ -55,7 +55,7 @@ known_fetch c past f q j h k =
       known = omega (arith, k.known);
       queue = ap (λ (x : Ticket). x.queue) same ∙ k.queue;
       index = k.index;
-      number = k.number ∙ ap (λ (x : ℕ). x + k.index) (sym (cond-false (eqb f.ticket k.ticket) (fetched past f.queue) (fetched_before past k.ticket) other));
+      number = k.number ∙ ap (λ (x : ℕ). x + k.index) (sym (cond-false (eqb f.ticket k.ticket) (fetched_count past f.queue) (fetched_before past k.ticket) other));
       posted = k.posted;
       few = omega (arith, k.few, ap (λ (x : Ticket). taken x.verdict) same);
     }
@@ -175,7 +175,7 @@ numbers_differ c (Entry.Reap p ∷ past) q i k a b h e f t s = numbers_differ c 
 
 pub record ReapedAt (c : ConfigNumbers) (past : Past) (q j : ℕ) (p : PostLine) : Type 0 where
   pub index : ℕ
-  pub below : index < reaped past (completion_queue c q)
+  pub below : index < reaped_count past (completion_queue c q)
   pub at : slice_get (posted_answers c past (completion_queue c q)) index ≡ Some (record { queue = q; number = j; post = p })
 
 later_answer : (c : ConfigNumbers) (e : Entry) (past : Past) (q i : ℕ) (a : PostedAnswer) → slice_get (posted_answers c past q) i ≡ Some a → slice_get (posted_answers c (e ∷ past) q) i ≡ Some a
@@ -186,7 +186,7 @@ later_answer c (Entry.Grant p) past q i a h = h
 later_answer c (Entry.Block p) past q i a h = h
 later_answer c (Entry.Reap p) past q i a h = h
 
-later_reaped : (e : Entry) (past : Past) (q : ℕ) → reaped past q ≤ reaped (e ∷ past) q
+later_reaped : (e : Entry) (past : Past) (q : ℕ) → reaped_count past q ≤ reaped_count (e ∷ past) q
 later_reaped (Entry.Post p) past q = omega arith
 later_reaped (Entry.Publish p) past q = omega arith
 later_reaped (Entry.Fetch p) past q = omega arith
@@ -203,27 +203,27 @@ of_parts q j p = record { queue = q; number = j; post = p }
 
 pub reaped_at : (c : ConfigNumbers) (past : Past) (q j : ℕ) (p : PostLine) → reaped_post c past q j ≡ Some p → ReapedAt c past q j p
 reaped_at c [] q j p h = absurd (let f : None ≡ Some p = h in cc)
-reaped_at c (Entry.Reap r ∷ past) q j p h = by_answer (slice_get (posted_answers c past r.queue) (reaped past r.queue)) refl h (reaped_at c past q j p)
+reaped_at c (Entry.Reap r ∷ past) q j p h = by_answer (slice_get (posted_answers c past r.queue) (reaped_count past r.queue)) refl h (reaped_at c past q j p)
   where
-    now : (a : PostedAnswer) → slice_get (posted_answers c past r.queue) (reaped past r.queue) ≡ Some a → a.queue ≡ q → a.number ≡ j → a.post ≡ p → ReapedAt c (Entry.Reap r ∷ past) q j p
+    now : (a : PostedAnswer) → slice_get (posted_answers c past r.queue) (reaped_count past r.queue) ≡ Some a → a.queue ≡ q → a.number ≡ j → a.post ≡ p → ReapedAt c (Entry.Reap r ∷ past) q j p
     now a e x y z =
-        let own : r.queue ≡ completion_queue c q = sym (answer_own c past r.queue (reaped past r.queue) a e) ∙ ap (completion_queue c) x in
+        let own : r.queue ≡ completion_queue c q = sym (answer_own c past r.queue (reaped_count past r.queue) a e) ∙ ap (completion_queue c) x in
         let one = counted (eqb r.queue (completion_queue c q)) (eq-eqb _ _ own) in
         let same : Some a ≡ Some (of_parts q j p) = ap Some (ap₂ (λ (u v : ℕ). of_parts u v a.post) x y ∙ ap (of_parts q j) z) in
         record {
-          index = reaped past (completion_queue c q);
+          index = reaped_count past (completion_queue c q);
           below = omega (arith, one);
-          at = subst (λ (n : ℕ). slice_get (posted_answers c past n) (reaped past n) ≡ Some (of_parts q j p)) own (e ∙ same);
+          at = subst (λ (n : ℕ). slice_get (posted_answers c past n) (reaped_count past n) ≡ Some (of_parts q j p)) own (e ∙ same);
         }
 
-    by_number : (a : PostedAnswer) → slice_get (posted_answers c past r.queue) (reaped past r.queue) ≡ Some a → (x : Bool) → (eqb a.queue q && eqb a.number j) ≡ x → cond x (Some a.post) (reaped_post c past q j) ≡ Some p
+    by_number : (a : PostedAnswer) → slice_get (posted_answers c past r.queue) (reaped_count past r.queue) ≡ Some a → (x : Bool) → (eqb a.queue q && eqb a.number j) ≡ x → cond x (Some a.post) (reaped_post c past q j) ≡ Some p
         → (reaped_post c past q j ≡ Some p → ReapedAt c past q j p) → ReapedAt c (Entry.Reap r ∷ past) q j p
     by_number a e false n g ih = keep c (Entry.Reap r) past q j p (ih g)
     by_number a e true n g ih =
         let k = and_parts _ _ n in
         now a e (eqb-true a.queue q k.0) (eqb-true a.number j k.1) (same_some a.post p (Some a.post) refl g)
 
-    by_answer : (o : Option PostedAnswer) → slice_get (posted_answers c past r.queue) (reaped past r.queue) ≡ o → post_if q j o (reaped_post c past q j) ≡ Some p
+    by_answer : (o : Option PostedAnswer) → slice_get (posted_answers c past r.queue) (reaped_count past r.queue) ≡ o → post_if q j o (reaped_post c past q j) ≡ Some p
         → (reaped_post c past q j ≡ Some p → ReapedAt c past q j p) → ReapedAt c (Entry.Reap r ∷ past) q j p
     by_answer None e f ih = keep c (Entry.Reap r) past q j p (ih f)
     by_answer (Some a) e f ih = by_number a e (eqb a.queue q && eqb a.number j) refl f ih

@@ -6,7 +6,7 @@ use Rattle.nvme_model.specs.Statuses.{compare_failure, is_success}
 use Rattle.nvme_model.specs.Verdict.{taken}
 use Rattle.nvme_model.specs.History.{Past}
 use Rattle.nvme_model.specs.Tickets.{Ticket, command, first_fields, posts_of}
-use Rattle.nvme_model.specs.Queues.{published}
+use Rattle.nvme_model.specs.Queues.{published_entries}
 use Rattle.nvme_model.specs.Operations.{op, op_by}
 use Rattle.host_laws.specs.Calls.{says_yes, reaped_post, status_in, PairSwaps, PairDiffers}
 use Rattle.nvme_model.specs.Answered.{says_no}
@@ -21,7 +21,7 @@ use Rattle.host_laws.proofs.Outcomes.{passes, pair_says_yes, pair_says_no}
 use Rattle.host_laws.proofs.Later.{yes_later, no_later}
 use Rattle.host_laws.proofs.Calls.{published_at, post_of, which, seen, takes_from, success_is, pair_by, two_pair, first_pair, second_fuse, compare_passes}
 
-pub pair_swaps : (c : ConfigNumbers) (past : Past) (q j : ℕ) (p : PostLine) (s : Submission) → IsLegal c past → slice_get (published past q) (suc j) ≡ Some s → eqb (fuse s) 2 ≡ true
+pub pair_swaps : (c : ConfigNumbers) (past : Past) (q j : ℕ) (p : PostLine) (s : Submission) → IsLegal c past → slice_get (published_entries past q) (suc j) ≡ Some s → eqb (fuse s) 2 ≡ true
     → reaped_post c past q (suc j) ≡ Some p → is_success (status_in p.cqe) ≡ true → PairSwaps past q j
 pair_swaps c past q j p s h e fused r y =
     let f = post_of c past q (suc j) p h r in
@@ -48,7 +48,7 @@ pair_swaps c past q j p s h e fused r y =
           }
     ]
 
-pub pair_differs : (c : ConfigNumbers) (past : Past) (q j : ℕ) (p : PostLine) (s : Submission) → IsLegal c past → slice_get (published past q) j ≡ Some s → eqb (fuse s) 1 ≡ true
+pub pair_differs : (c : ConfigNumbers) (past : Past) (q j : ℕ) (p : PostLine) (s : Submission) → IsLegal c past → slice_get (published_entries past q) j ≡ Some s → eqb (fuse s) 1 ≡ true
     → reaped_post c past q j ≡ Some p → status_in p.cqe ≡ compare_failure → PairDiffers past q j
 pair_differs c past q j p s h e one r y =
     let f = post_of c past q j p h r in

@@ -4,7 +4,7 @@ use Rattle.std.proofs.Common.{◌≡◌, ℕ, zero, suc, Bool, true, false, ◌&
 use Rattle.std.proofs.lemmas.Bool.{and_parts}
 use Rattle.nvme_model.specs.declared.config.ConfigNumbers.{ConfigNumbers}
 use Rattle.nvme_model.specs.History.{Past}
-use Rattle.nvme_model.specs.Completions.{reaped, posted}
+use Rattle.nvme_model.specs.Completions.{reaped_count, posted_completions}
 use Rattle.host_laws.specs.Calls.{posted_answers, reaped_post, post_if, PostedAnswer, posted_answer}
 use Rattle.nvme_model.specs.Slots.{next_number, EntryCompletion, entry_completion, entry_completions}
 use Rattle.nvme_model.specs.declared.entry.PostLine.{PostLine}
@@ -71,9 +71,9 @@ answer_own c (Entry.Reap p ∷ past) q i a h = answer_own c past q i a h
 pub reaped_posted_at : (c : ConfigNumbers) (past : Past) (q j : ℕ) (p : PostLine) → reaped_post c past q j ≡ Some p → PostedAt past q j p
 reaped_posted_at c [] q j p h = absurd (let f : None ≡ Some p = h in cc)
 reaped_posted_at c (Entry.Reap r ∷ past) q j p h =
-    later_post (Entry.Reap r) past q j p (by_answer (slice_get (posted_answers c past r.queue) (reaped past r.queue)) refl h (reaped_posted_at c past q j p))
+    later_post (Entry.Reap r) past q j p (by_answer (slice_get (posted_answers c past r.queue) (reaped_count past r.queue)) refl h (reaped_posted_at c past q j p))
   where
-    by_answer : (o : Option PostedAnswer) → slice_get (posted_answers c past r.queue) (reaped past r.queue) ≡ o → post_if q j o (reaped_post c past q j) ≡ Some p → (reaped_post c past q j ≡ Some p → PostedAt past q j p) → PostedAt past q j p
+    by_answer : (o : Option PostedAnswer) → slice_get (posted_answers c past r.queue) (reaped_count past r.queue) ≡ o → post_if q j o (reaped_post c past q j) ≡ Some p → (reaped_post c past q j ≡ Some p → PostedAt past q j p) → PostedAt past q j p
     by_answer None e f ih = ih f
     by_answer (Some a) e f ih = by_number (eqb a.queue q && eqb a.number j) refl f
       where
@@ -81,7 +81,7 @@ reaped_posted_at c (Entry.Reap r ∷ past) q j p h =
         by_number false n g = ih g
         by_number true n g =
             let k = and_parts _ _ n in
-            let at = subst₂ (λ (x y : ℕ). PostedAt past x y a.post) (eqb-true a.queue q k.0) (eqb-true a.number j k.1) (answer_at c past r.queue (reaped past r.queue) a e) in
+            let at = subst₂ (λ (x y : ℕ). PostedAt past x y a.post) (eqb-true a.queue q k.0) (eqb-true a.number j k.1) (answer_at c past r.queue (reaped_count past r.queue) a e) in
             subst (λ (z : PostLine). PostedAt past q j z) (same_some a.post p (Some a.post) refl g) at
 reaped_posted_at c (Entry.Publish x ∷ past) q j p h = later_post _ past q j p (reaped_posted_at c past q j p h)
 reaped_posted_at c (Entry.Fetch x ∷ past) q j p h = later_post _ past q j p (reaped_posted_at c past q j p h)
@@ -97,7 +97,7 @@ to_post a = a.post
 abbrev pub to_entry_completion : PostedAnswer → EntryCompletion
 to_entry_completion a = record { queue = a.queue; number = a.number; cqe = a.post.cqe }
 
-posts_map : (c : ConfigNumbers) (past : Past) (q : ℕ) → map to_post (posted_answers c past q) ≡ posted c past q
+posts_map : (c : ConfigNumbers) (past : Past) (q : ℕ) → map to_post (posted_answers c past q) ≡ posted_completions c past q
 posts_map c [] q = refl
 posts_map c (Entry.Post p ∷ past) q =
     map-append to_post (posted_answers c past q) (cond (eqb (completion_queue c (Tickets.ticket past p.ticket).queue) q) (posted_answer past p ∷ []) [])
@@ -132,7 +132,7 @@ by_map f [] i p h = absurd (let e : None ≡ Some p = h in cc)
 by_map f (x ∷ xs) zero p h = (x, refl, same_some (f x) p (Some (f x)) refl h)
 by_map f (x ∷ xs) (suc i) p h = by_map f xs i p h
 
-pub posts_are : (c : ConfigNumbers) (past : Past) (q i : ℕ) (p : PostLine) → slice_get (posted c past q) i ≡ Some p → (a : PostedAnswer) × (slice_get (posted_answers c past q) i ≡ Some a) × (a.post ≡ p)
+pub posts_are : (c : ConfigNumbers) (past : Past) (q i : ℕ) (p : PostLine) → slice_get (posted_completions c past q) i ≡ Some p → (a : PostedAnswer) × (slice_get (posted_answers c past q) i ≡ Some a) × (a.post ≡ p)
 posts_are c past q i p h = by_map to_post (posted_answers c past q) i p (ap (λ (xs : List PostLine). slice_get xs i) (posts_map c past q) ∙ h)
 
 pub entry_completions_are : (c : ConfigNumbers) (past : Past) (q i : ℕ) (r : EntryCompletion) → slice_get (entry_completions c past q) i ≡ Some r → (a : PostedAnswer) × (slice_get (posted_answers c past q) i ≡ Some a) × (to_entry_completion a ≡ r)

@@ -8,7 +8,7 @@ use Rattle.nvme_model.specs.declared.config.ConfigNumbers.{ConfigNumbers}
 use Rattle.nvme_model.specs.EntryBytes.{sqe_fields, slba}
 use Rattle.nvme_model.specs.Commands.{is_write}
 use Rattle.nvme_model.specs.History.{Past}
-use Rattle.nvme_model.specs.Queues.{published}
+use Rattle.nvme_model.specs.Queues.{published_entries}
 use Rattle.nvme_model.specs.Array.{zeros, has_block}
 use Rattle.nvme_model.specs.Slots.{Name, Swap, name_of, swaps, swaps_in, swap_of, is_pair_on_one, touches, only_swaps, fresh_names, released_right, in_area, keeps_discipline, believed, same_name, swap_by}
 use Rattle.nvme_model.specs.declared.array.Range.{Range}
@@ -22,11 +22,11 @@ use Rattle.nvme_model.specs.Commands.{is_write, is_write_zeroes}
 use Rattle.host_laws.proofs.Names.{bytes_are, zeros_unnamed}
 use Rattle.host_laws.proofs.Discipline.{InArea, has_area}
 
-keeps : (c : ConfigNumbers) (slots : Range) (past : Past) (p : PublishLine) (of : List Swap) → in_area slots (swaps_in p.queue (length (published past p.queue)) p.batch) ≡ of
-    → only_swaps slots p.queue (length (published past p.queue)) p.batch of ≡ true → fresh_names of (in_area slots (swaps past)) ≡ true → released_right c past [] of ≡ true
+keeps : (c : ConfigNumbers) (slots : Range) (past : Past) (p : PublishLine) (of : List Swap) → in_area slots (swaps_in p.queue (length (published_entries past p.queue)) p.batch) ≡ of
+    → only_swaps slots p.queue (length (published_entries past p.queue)) p.batch of ≡ true → fresh_names of (in_area slots (swaps past)) ≡ true → released_right c past [] of ≡ true
     → keeps_discipline c slots past p ≡ true
 keeps c slots past p of e o f r =
-    subst (λ (xs : List Swap). (only_swaps slots p.queue (length (published past p.queue)) p.batch xs && fresh_names xs (in_area slots (swaps past)) && released_right c past [] xs) ≡ true) (sym e)
+    subst (λ (xs : List Swap). (only_swaps slots p.queue (length (published_entries past p.queue)) p.batch xs && fresh_names xs (in_area slots (swaps past)) && released_right c past [] xs) ≡ true) (sym e)
     (and_from _ _ (and_from _ _ o f) r)
 
 abbrev pub claim_at : ℕ → ℕ → ℕ → Name → Swap
@@ -69,7 +69,7 @@ pub claim_keeps : (c : ConfigNumbers) (slots : Range) (past : Past) (q : ℕ) (a
     → InArea slots (slba (sqe_fields a.entry)) → list_any (λ w. w.claims && same_name w.name n) (in_area slots (swaps past)) ≡ false
     → keeps_discipline c slots past (pair_line q a b) ≡ true
 claim_keeps c slots past q a b n p z m i f =
-    let j = length (published past q) in
+    let j = length (published_entries past q) in
     let s = claim_at q j (slba (sqe_fields a.entry)) n in
     keeps c slots past (pair_line q a b) (s ∷ [])
     (one_in slots s (swaps_in q j (a ∷ b ∷ [])) (claim_swaps q j a b n p z m) i)
@@ -81,7 +81,7 @@ pub release_keeps : (c : ConfigNumbers) (slots : Range) (past : Past) (q : ℕ) 
     → list_any (λ w. w.claims && eqb w.lba (slba (sqe_fields a.entry)) && same_name w.name n && eqb (completion_queue c w.queue) (completion_queue c q)) (swaps past) ≡ true
     → keeps_discipline c slots past (pair_line q a b) ≡ true
 release_keeps c slots past q a b n p m z i k o =
-    let j = length (published past q) in
+    let j = length (published_entries past q) in
     let s = release_at q j (slba (sqe_fields a.entry)) n in
     keeps c slots past (pair_line q a b) (s ∷ [])
     (one_in slots s (swaps_in q j (a ∷ b ∷ [])) (release_swaps q j a b n p m z) i)
@@ -153,4 +153,4 @@ no_swaps slots q j (a ∷ b ∷ rest) h =
 
 pub outside_keeps : (c : ConfigNumbers) (slots : Range) (past : Past) (p : PublishLine) → list_any (touches slots) p.batch ≡ false → keeps_discipline c slots past p ≡ true
 outside_keeps c slots past p h =
-    keeps c slots past p [] (no_swaps slots p.queue (length (published past p.queue)) p.batch h) (no_only slots p.queue (length (published past p.queue)) p.batch [] h) refl refl
+    keeps c slots past p [] (no_swaps slots p.queue (length (published_entries past p.queue)) p.batch h) (no_only slots p.queue (length (published_entries past p.queue)) p.batch [] h) refl refl

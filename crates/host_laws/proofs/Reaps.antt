@@ -6,8 +6,8 @@ use Rattle.nvme_model.specs.declared.config.ConfigNumbers.{ConfigNumbers}
 use Rattle.nvme_model.specs.EntryBytes.{sqe_fields, cqe_fields, cqe_bytes}
 use Rattle.nvme_model.specs.History.{Past}
 use Rattle.nvme_model.specs.Tickets.{command, cids, posts_of}
-use Rattle.nvme_model.specs.Queues.{published, fetched}
-use Rattle.nvme_model.specs.Completions.{posted, reaped, phase}
+use Rattle.nvme_model.specs.Queues.{published_entries, fetched_count}
+use Rattle.nvme_model.specs.Completions.{posted_completions, reaped_count, phase}
 use Rattle.nvme_model.specs.Legal.{IsLegal, is_cqe}
 use Rattle.host_laws.specs.Calls.{is_clean, posted_answers, reaped_post, post_if, status_in, PostedAnswer, ReapAnswers}
 use Rattle.nvme_model.specs.declared.status.Status.{Status}
@@ -40,10 +40,10 @@ queue_real c q h =
     some zero f = absurd (f refl)
     some (suc n) f = omega arith
 
-pub published_real : (c : ConfigNumbers) (past : Past) (q i : ℕ) (s : Submission) → IsLegal c past → slice_get (published past q) i ≡ Some s → (1 ≤ q) × (q ≤ c.pairs)
+pub published_real : (c : ConfigNumbers) (past : Past) (q i : ℕ) (s : Submission) → IsLegal c past → slice_get (published_entries past q) i ≡ Some s → (1 ≤ q) × (q ≤ c.pairs)
 published_real c [] q i s h e = absurd (let f : None ≡ Some s = e in cc)
 published_real c (Entry.Publish p ∷ past) q i s h e =
-    elim (get_cases (published past q) (cond (eqb p.queue q) p.batch []) i s e) [
+    elim (get_cases (published_entries past q) (cond (eqb p.queue q) p.batch []) i s e) [
       | inl x ↦ published_real c past q i s (follows c past (Entry.Publish p) h).before x
       | inr m ↦ new (eqb p.queue q) refl m.0 m.2
     ]
@@ -88,7 +88,7 @@ is_posted (Some p) cqe h = (p, refl, bytes_are _ _ h)
 
 pub record EntryIs (past : Past) (q j : ℕ) (cqe : List ℕ) : Type 0 where
   pub entry : Submission
-  pub published : slice_get (published past q) j ≡ Some entry
+  pub published : slice_get (published_entries past q) j ≡ Some entry
   pub clean : is_clean cqe ≡ true
   pub sqid : q < 65536 → (cqe_fields cqe).sqid ≡ q
   pub cid : (sqe_fields entry.entry).cid < 65536 → (cqe_fields cqe).cid ≡ (sqe_fields entry.entry).cid
@@ -105,29 +105,29 @@ entry_is c past q j p h at =
     λ l.
     let same = cids_at k.commands (posts_of at.before t) (record { entry = []; payload = [] }) below in
     ap (λ (x : List ℕ). (cqe_fields x).cid) f.cqe
-    ∙ (cid_back (fetched at.before k.queue % c.sq_size) k.queue (get_or (cids k) (posts_of at.before t) 0) (phase (length (posted c at.before (completion_queue c k.queue))) c.cq_size) (status_in p.cqe) (omega (arith, same, l)) ∙ same) in
+    ∙ (cid_back (fetched_count at.before k.queue % c.sq_size) k.queue (get_or (cids k) (posts_of at.before t) 0) (phase (length (posted_completions c at.before (completion_queue c k.queue))) c.cq_size) (status_in p.cqe) (omega (arith, same, l)) ∙ same) in
     let sqid : q < 65536 → (cqe_fields p.cqe).sqid ≡ q =
     λ l.
     ap (λ (x : List ℕ). (cqe_fields x).sqid) f.cqe
-    ∙ (sqid_back (fetched at.before k.queue % c.sq_size) k.queue (get_or (cids k) (posts_of at.before t) 0) (phase (length (posted c at.before (completion_queue c k.queue))) c.cq_size) (status_in p.cqe) (omega (arith, at.queue, l)) ∙ at.queue) in
-    let stands : slice_get (published at.before q) j ≡ Some (command k (posts_of at.before t)) =
-    subst (λ (x : ℕ). slice_get (published at.before x) j ≡ Some (command k (posts_of at.before t))) at.queue
+    ∙ (sqid_back (fetched_count at.before k.queue % c.sq_size) k.queue (get_or (cids k) (posts_of at.before t) 0) (phase (length (posted_completions c at.before (completion_queue c k.queue))) c.cq_size) (status_in p.cqe) (omega (arith, at.queue, l)) ∙ at.queue) in
+    let stands : slice_get (published_entries at.before q) j ≡ Some (command k (posts_of at.before t)) =
+    subst (λ (x : ℕ). slice_get (published_entries at.before x) j ≡ Some (command k (posts_of at.before t))) at.queue
     (elim (cases_lt (posts_of at.before t) 1) [
       | inl z ↦
           let i : posts_of at.before t ≡ 0 = omega (arith, z) in
-          ap (slice_get (published at.before k.queue)) (omega (arith, at.number, i)) ∙ (f.taken.first ∙ ap (λ (n : ℕ). Some (command k n)) (sym i))
+          ap (slice_get (published_entries at.before k.queue)) (omega (arith, at.number, i)) ∙ (f.taken.first ∙ ap (λ (n : ℕ). Some (command k n)) (sym i))
       | inr z ↦
           let i : posts_of at.before t ≡ 1 = omega (arith, z, below, f.taken.count, taken_two k.verdict) in
-          ap (slice_get (published at.before k.queue)) (omega (arith, at.number, i))
+          ap (slice_get (published_entries at.before k.queue)) (omega (arith, at.number, i))
           ∙ (f.taken.second (omega (arith, f.taken.count, taken_two k.verdict, below, i)) ∙ ap (λ (n : ℕ). Some (command k n)) (sym i))
     ]) in
     record {
       entry = command k (posts_of at.before t);
-      published = subst (λ (x : Past). slice_get (published x q) j ≡ Some (command k (posts_of at.before t))) (sym at.is)
+      published = subst (λ (x : Past). slice_get (published_entries x q) j ≡ Some (command k (posts_of at.before t))) (sym at.is)
           (published_later at.later (Entry.Post p ∷ at.before) q j (command k (posts_of at.before t)) stands);
       clean = ap is_clean f.cqe
-          ∙ clean_bytes (fetched at.before k.queue % c.sq_size) k.queue (get_or (cids k) (posts_of at.before t) 0) (phase (length (posted c at.before (completion_queue c k.queue))) c.cq_size) (status_in p.cqe)
-          (phase_small (length (posted c at.before (completion_queue c k.queue))) c.cq_size) f.narrow;
+          ∙ clean_bytes (fetched_count at.before k.queue % c.sq_size) k.queue (get_or (cids k) (posts_of at.before t) 0) (phase (length (posted_completions c at.before (completion_queue c k.queue))) c.cq_size) (status_in p.cqe)
+          (phase_small (length (posted_completions c at.before (completion_queue c k.queue))) c.cq_size) f.narrow;
       sqid = sqid;
       cid = cid;
     }
@@ -139,12 +139,12 @@ none_if (Some p) f = absurd (f p refl)
 pub reap_answers : (c : ConfigNumbers) (past : Past) (r : ReapLine) → IsLegal c (Entry.Reap r ∷ past) → ReapAnswers c past r
 reap_answers c past r h =
     let f = follows c past (Entry.Reap r) h in
-    let p = is_posted (slice_get (posted c past r.queue) (reaped past r.queue)) r.cqe f.fits in
-    let found = posts_are c past r.queue (reaped past r.queue) p.0 p.1 in
+    let p = is_posted (slice_get (posted_completions c past r.queue) (reaped_count past r.queue)) r.cqe f.fits in
+    let found = posts_are c past r.queue (reaped_count past r.queue) p.0 p.1 in
     let a = found.0 in
     let at = found.1 in
-    let own = answer_own c past r.queue (reaped past r.queue) a at in
-    let e = entry_is c past a.queue a.number a.post f.before (answer_at c past r.queue (reaped past r.queue) a at) in
+    let own = answer_own c past r.queue (reaped_count past r.queue) a at in
+    let e = entry_is c past a.queue a.number a.post f.before (answer_at c past r.queue (reaped_count past r.queue) a at) in
     let same : a.post.cqe ≡ r.cqe = ap (λ (x : PostLine). x.cqe) found.2 ∙ p.2 in
     let real = published_real c past a.queue a.number e.entry f.before e.published in
     record {
@@ -164,8 +164,8 @@ reap_answers c past r h =
       unreaped = none_if (reaped_post c past a.queue a.number) (λ x s.
           let b = reaped_at c past a.queue a.number x s in
           let there = subst (λ (n : ℕ). slice_get (posted_answers c past n) b.index ≡ Some (record { queue = a.queue; number = a.number; post = x })) own b.at in
-          let alike = numbers_differ c past r.queue b.index (reaped past r.queue) (record { queue = a.queue; number = a.number; post = x }) a f.before there at refl refl in
-          let below : b.index < reaped past r.queue = subst (λ (n : ℕ). b.index < reaped past n) own b.below in
+          let alike = numbers_differ c past r.queue b.index (reaped_count past r.queue) (record { queue = a.queue; number = a.number; post = x }) a f.before there at refl refl in
+          let below : b.index < reaped_count past r.queue = subst (λ (n : ℕ). b.index < reaped_count past n) own b.below in
           omega (arith, below, alike));
       reaped = ap (λ (o : Option PostedAnswer). post_if a.queue a.number o (reaped_post c past a.queue a.number)) at
           ∙ cond-true (eqb a.queue a.queue && eqb a.number a.number) (Some a.post) (reaped_post c past a.queue a.number) (and_from _ _ (eq-eqb a.queue a.queue refl) (eq-eqb a.number a.number refl));

@@ -6,7 +6,7 @@ use Rattle.nvme_model.specs.Legal.{IsLegal}
 use Rattle.nvme_model.specs.Operations.{op_by}
 use Rattle.nvme_model.specs.Owed.{owed}
 use Rattle.nvme_model.specs.Answered.{says_no}
-use Rattle.nvme_model.specs.Queues.{fetched, published}
+use Rattle.nvme_model.specs.Queues.{fetched_count, published_entries}
 use Rattle.nvme_model.specs.Slots.{Swap, disciplined, fetched_before, swaps}
 use Rattle.nvme_model.specs.Statuses.{compare_failure, failed_fused, is_success, same_status}
 use Rattle.nvme_model.specs.Tickets
@@ -40,21 +40,21 @@ use Rattle.host_laws.proofs.Verdicts.{fuse, one_not_two, status_eq}
 
 -- ---- each entry that was fetched was taken by a ticket
 
-pub taken_by_some : (c : ConfigNumbers) (past : Past) (q j : ℕ) → IsLegal c past → j < fetched past q → (t : ℕ) × (takes past t q j ≡ true)
+pub taken_by_some : (c : ConfigNumbers) (past : Past) (q j : ℕ) → IsLegal c past → j < fetched_count past q → (t : ℕ) × (takes past t q j ≡ true)
 taken_by_some c [] q j h l = absurd (omega (arith, l))
 taken_by_some c (Entry.Fetch f ∷ past) q j h l =
-    elim (cases_lt j (fetched past q)) [
+    elim (cases_lt j (fetched_count past q)) [
       | inl k ↦ let x = taken_by_some c past q j (follows c past (Entry.Fetch f) h).before k in (x.0, takes_later c (Entry.Fetch f ∷ []) past x.0 q j h x.1)
       | inr k ↦ (f.ticket, new (eqb f.queue q) refl k l)
     ]
   where
-    new : (b : Bool) → eqb f.queue q ≡ b → fetched past q ≤ j → j < fetched past q + cond b (taken f.verdict) 0 → takes (Entry.Fetch f ∷ past) f.ticket q j ≡ true
+    new : (b : Bool) → eqb f.queue q ≡ b → fetched_count past q ≤ j → j < fetched_count past q + cond b (taken f.verdict) 0 → takes (Entry.Fetch f ∷ past) f.ticket q j ≡ true
     new false e k m = absurd (omega (arith, k, m))
     new true e k m =
         let n = fetch_number c past f h in
         let same = cond-true (eqb f.ticket f.ticket) (fetched_ticket past f.queue f.verdict) (Tickets.ticket past f.ticket) (eq-eqb f.ticket f.ticket refl) in
         let on = eqb-true f.queue q e in
-        let at : fetched_before (Entry.Fetch f ∷ past) f.ticket ≡ fetched past q = cond-true (eqb f.ticket f.ticket) (fetched past f.queue) (fetched_before past f.ticket) (eq-eqb f.ticket f.ticket refl) ∙ ap (fetched past) on in
+        let at : fetched_before (Entry.Fetch f ∷ past) f.ticket ≡ fetched_count past q = cond-true (eqb f.ticket f.ticket) (fetched_count past f.queue) (fetched_before past f.ticket) (eq-eqb f.ticket f.ticket refl) ∙ ap (fetched_count past) on in
         takes_from (Entry.Fetch f ∷ past) f.ticket q j (taken f.verdict) (omega (arith, n)) (omega (arith, n)) (ap (λ (k : Ticket). k.queue) same ∙ on) (ap (λ (k : Ticket). taken k.verdict) same) (omega (arith, at, k)) (omega (arith, at, m))
 taken_by_some c (Entry.Publish p ∷ past) q j h l = let x = taken_by_some c past q j (follows c past (Entry.Publish p) h).before l in (x.0, takes_later c (Entry.Publish p ∷ []) past x.0 q j h x.1)
 taken_by_some c (Entry.Grant p ∷ past) q j h l = let x = taken_by_some c past q j (follows c past (Entry.Grant p) h).before l in (x.0, takes_later c (Entry.Grant p ∷ []) past x.0 q j h x.1)
@@ -71,8 +71,8 @@ record Released (c : ConfigNumbers) (slots : Range) (past : Past) (r : Swap) (a 
   releases : r.claims ≡ false
   area : InArea slots r.lba
   apart : IsAlwaysApart c past r.queue
-  first : slice_get (published past r.queue) r.number ≡ Some a
-  second : slice_get (published past r.queue) (suc r.number) ≡ Some b
+  first : slice_get (published_entries past r.queue) r.number ≡ Some a
+  second : slice_get (published_entries past r.queue) (suc r.number) ≡ Some b
   first_proper : is_proper a ≡ true
   second_proper : is_proper b ≡ true
 
@@ -84,8 +84,8 @@ record Entries (a b : Submission) : Type 0 where
 entries_of : (c : ConfigNumbers) (slots : Range) (past : Past) (r : Swap) (a b : Submission) → Released c slots past r a b → Entries a b
 entries_of c slots past r a b x =
     let g = each_in (SwapOf past) (swaps past) r (swaps_are past) x.there in
-    let old = same_some g.old a (slice_get (published past r.queue) r.number) g.first x.first in
-    let new = same_some g.new b (slice_get (published past r.queue) (suc r.number)) g.second x.second in
+    let old = same_some g.old a (slice_get (published_entries past r.queue) r.number) g.first x.first in
+    let new = same_some g.new b (slice_get (published_entries past r.queue) (suc r.number)) g.second x.second in
     let d = g.bytes.release x.releases in
     subst₂ (λ (y z : Submission). Entries y z) old new (record { pair = on_one g.old g.new g.pair; old = name_length g.old.payload r.name d.0; new = ap length d.1 })
 
@@ -115,7 +115,7 @@ first_succeeds c slots past r a b p x e =
 -- no ticket begins with the second entry
 begins_no_ticket : (c : ConfigNumbers) (slots : Range) (past : Past) (r : Swap) (a b : Submission) (t : ℕ) → Released c slots past r a b → 1 ≤ t → t ≤ tickets past → (Tickets.ticket past t).queue ≡ r.queue → fetched_before past t ≡ suc r.number → ⊥
 begins_no_ticket c slots past r a b t x some known queue number =
-    let w = subst (λ (q : ℕ). fetched_before past t + taken (Tickets.ticket past t).verdict ≤ fetched past q) queue (within_fetched c past t x.legal some known) in
+    let w = subst (λ (q : ℕ). fetched_before past t + taken (Tickets.ticket past t).verdict ≤ fetched_count past q) queue (within_fetched c past t x.legal some known) in
     let u = taken_by_some c past r.queue r.number x.legal (omega (arith, w, number)) in
     let k = takes_parts past u.0 r.queue r.number u.1 in
     let pair = its_verdict c slots past r a b u.0 x u.1 in
@@ -154,7 +154,7 @@ second_succeeds c slots past r a b p x e =
     ]
 
 pub release_succeeds : (c : ConfigNumbers) (slots : Range) (past : Past) (r : Swap) (a b : Submission) (p : PostLine) → IsLegal c past → disciplined c slots past ≡ true → In r (swaps past) → r.claims ≡ false → InArea slots r.lba
-    → IsAlwaysApart c past r.queue → slice_get (published past r.queue) r.number ≡ Some a → slice_get (published past r.queue) (suc r.number) ≡ Some b → is_proper a ≡ true → is_proper b ≡ true
+    → IsAlwaysApart c past r.queue → slice_get (published_entries past r.queue) r.number ≡ Some a → slice_get (published_entries past r.queue) (suc r.number) ≡ Some b → is_proper a ≡ true → is_proper b ≡ true
     → (reaped_post c past r.queue r.number ≡ Some p) ⊎ (reaped_post c past r.queue (suc r.number) ≡ Some p) → is_success (status_in p.cqe) ≡ true
 release_succeeds c slots past r a b p h d i e v ap1 ea eb pa pb o = go o
   where

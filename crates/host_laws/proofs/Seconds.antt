@@ -10,7 +10,7 @@ use Rattle.nvme_model.specs.Open.{unit_range}
 use Rattle.nvme_model.specs.Operations.{has_compare, is_pair, op, op_by}
 use Rattle.nvme_model.specs.Owed.{all_done, all_ended, owed, owed_after, owed_by, some_no}
 use Rattle.nvme_model.specs.Placed.{effect}
-use Rattle.nvme_model.specs.Queues.{published}
+use Rattle.nvme_model.specs.Queues.{published_entries}
 use Rattle.nvme_model.specs.Slots.{fetched_before}
 use Rattle.nvme_model.specs.Statuses.{compare_failure, failed_fused, success}
 use Rattle.nvme_model.specs.Tickets.{Ticket, command, first_fields}
@@ -37,7 +37,7 @@ use Rattle.host_laws.proofs.TicketsApart.{not_inside, one_ticket, taken_some}
 use Rattle.host_laws.proofs.Verdicts.{fuse, not_pair, one_not_two, taken_two}
 
 -- an entry with FUSE 01b is the first of the ticket that takes it
-pub first_number : (c : ConfigNumbers) (past : Past) (t q j : ℕ) (a : Submission) → IsLegal c past → takes past t q j ≡ true → slice_get (published past q) j ≡ Some a → eqb (fuse a) 1 ≡ true → fetched_before past t ≡ j
+pub first_number : (c : ConfigNumbers) (past : Past) (t q j : ℕ) (a : Submission) → IsLegal c past → takes past t q j ≡ true → slice_get (published_entries past q) j ≡ Some a → eqb (fuse a) 1 ≡ true → fetched_before past t ≡ j
 first_number c past t q j a h k e one =
     let x = takes_parts past t q j k in
     let f = ticket_taken c past t h x.some x.known in
@@ -46,8 +46,8 @@ first_number c past t q j a h k e one =
       | inl m ↦
           let two : taken (Tickets.ticket past t).verdict ≡ 2 = omega (arith, m, x.high, (taken_some (Tickets.ticket past t).verdict), taken_two (Tickets.ticket past t).verdict) in
           let at : j ≡ suc (fetched_before past t) = omega (arith, m, x.high, two) in
-          let there = subst₂ (λ (y z : ℕ). slice_get (published past y) z ≡ Some (command (Tickets.ticket past t) 1)) x.queue (sym at) (f.second two) in
-          let same = same_some (command (Tickets.ticket past t) 1) a (slice_get (published past q) j) there e in
+          let there = subst₂ (λ (y z : ℕ). slice_get (published_entries past y) z ≡ Some (command (Tickets.ticket past t) 1)) x.queue (sym at) (f.second two) in
+          let same = same_some (command (Tickets.ticket past t) 1) a (slice_get (published_entries past q) j) there e in
           clash (eqb (fuse a) 2) (second_fuse (Tickets.ticket past t).verdict (command (Tickets.ticket past t) 0) (command (Tickets.ticket past t) 1) a two f.verdict same) (one_not_two (fuse a) one)
     ]
 

@@ -8,7 +8,7 @@ use Rattle.nvme_model.specs.Statuses.{success, compare_failure, is_success}
 use Rattle.nvme_model.specs.Verdict.{taken}
 use Rattle.nvme_model.specs.History.{Past}
 use Rattle.nvme_model.specs.Tickets.{Ticket, command, first_fields, posts_of}
-use Rattle.nvme_model.specs.Queues.{published}
+use Rattle.nvme_model.specs.Queues.{published_entries}
 use Rattle.nvme_model.specs.Operations.{op, op_by, op_of_fields, is_pair, has_compare}
 use Rattle.host_laws.specs.Calls.{reaped_post, status_in, IsDone, CompareDiffers}
 use Rattle.nvme_model.specs.Answered.{says_no}
@@ -28,7 +28,7 @@ use Rattle.host_laws.proofs.Later.{no_later}
 use Rattle.host_laws.proofs.Calls.{published_at, post_of, which, seen, takes_from, success_is, first_single, second_fuse, compare_passes}
 use Rattle.host_laws.proofs.Units.{Effects, units_later, effects_later, none_no_later, reads_by, any_more, some_compares}
 
-pub done : (c : ConfigNumbers) (past : Past) (q j : ℕ) (p : PostLine) (s : Submission) (o : Op) → IsLegal c past → slice_get (published past q) j ≡ Some s → eqb (fuse s) 1 ≡ false → eqb (fuse s) 2 ≡ false
+pub done : (c : ConfigNumbers) (past : Past) (q j : ℕ) (p : PostLine) (s : Submission) (o : Op) → IsLegal c past → slice_get (published_entries past q) j ≡ Some s → eqb (fuse s) 1 ≡ false → eqb (fuse s) 2 ≡ false
     → op_of_fields (sqe_fields s.entry) ≡ Some o → is_pair (Some o) ≡ false
     → reaped_post c past q j ≡ Some p → is_success (status_in p.cqe) ≡ true → IsDone c past q j o p.payload
 done c past q j p s o h e one two oe np r y =
@@ -71,7 +71,7 @@ compare_is Op.Read n c = clash false c refl
 compare_is Op.Write n c = clash false c refl
 compare_is Op.WriteZeroes n c = clash false c refl
 
-pub compare_differs : (c : ConfigNumbers) (past : Past) (q j : ℕ) (p : PostLine) (s : Submission) (o : Op) → IsLegal c past → slice_get (published past q) j ≡ Some s → eqb (fuse s) 1 ≡ false → eqb (fuse s) 2 ≡ false
+pub compare_differs : (c : ConfigNumbers) (past : Past) (q j : ℕ) (p : PostLine) (s : Submission) (o : Op) → IsLegal c past → slice_get (published_entries past q) j ≡ Some s → eqb (fuse s) 1 ≡ false → eqb (fuse s) 2 ≡ false
     → op_of_fields (sqe_fields s.entry) ≡ Some o → is_pair (Some o) ≡ false
     → reaped_post c past q j ≡ Some p → status_in p.cqe ≡ compare_failure → CompareDiffers c past q j
 compare_differs c past q j p s o h e one two oe np r y =
@@ -105,7 +105,7 @@ compare_differs c past q j p s o h e one two oe np r y =
     ]
 
 -- 2/85 is of a Compare
-pub only_compares : (c : ConfigNumbers) (past : Past) (q j : ℕ) (p : PostLine) (s : Submission) (o : Op) → IsLegal c past → slice_get (published past q) j ≡ Some s → eqb (fuse s) 1 ≡ false → eqb (fuse s) 2 ≡ false
+pub only_compares : (c : ConfigNumbers) (past : Past) (q j : ℕ) (p : PostLine) (s : Submission) (o : Op) → IsLegal c past → slice_get (published_entries past q) j ≡ Some s → eqb (fuse s) 1 ≡ false → eqb (fuse s) 2 ≡ false
     → op_of_fields (sqe_fields s.entry) ≡ Some o → is_pair (Some o) ≡ false
     → reaped_post c past q j ≡ Some p → status_in p.cqe ≡ compare_failure → o ≡ Op.Compare
 only_compares c past q j p s o h e one two oe np r y =

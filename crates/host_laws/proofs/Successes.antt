@@ -7,8 +7,8 @@ use Rattle.nvme_model.specs.EntryBytes.{cqe_bytes, field}
 use Rattle.nvme_model.specs.Statuses.{success, is_success}
 use Rattle.nvme_model.specs.History.{Past}
 use Rattle.nvme_model.specs.Tickets.{posts_of, cids}
-use Rattle.nvme_model.specs.Queues.{fetched}
-use Rattle.nvme_model.specs.Completions.{reaped, posted, completion, phase}
+use Rattle.nvme_model.specs.Queues.{fetched_count}
+use Rattle.nvme_model.specs.Completions.{reaped_count, posted_completions, completion, phase}
 use Rattle.host_laws.specs.Calls.{posted_answers, status_in, reaped_post, post_if, PostedAnswer}
 use Rattle.nvme_model.specs.Slots.{reaped_success, says_success, EntryCompletion, entry_completions, is_success_of}
 use Rattle.nvme_model.specs.Legal.{IsLegal}
@@ -47,7 +47,7 @@ posted_says c past p h y =
     let k = Tickets.ticket past p.ticket in
     let cqe : p.cqe ≡ completion c past p.ticket success = f.cqe ∙ ap (completion c past p.ticket) (success_is (status_in p.cqe) y) in
     ap says_success cqe
-    ∙ success_says (fetched past k.queue % c.sq_size) k.queue (get_or (cids k) (posts_of past p.ticket) 0) (phase (length (posted c past (completion_queue c k.queue))) c.cq_size) (phase_small (length (posted c past (completion_queue c k.queue))) c.cq_size)
+    ∙ success_says (fetched_count past k.queue % c.sq_size) k.queue (get_or (cids k) (posts_of past p.ticket) 0) (phase (length (posted_completions c past (completion_queue c k.queue))) c.cq_size) (phase_small (length (posted_completions c past (completion_queue c k.queue))) c.cq_size)
 
 -- ---- success was reaped for an entry exactly where its reaped completion says success
 
@@ -56,11 +56,11 @@ pub record Success (c : ConfigNumbers) (past : Past) (q j : ℕ) : Type 0 where
   pub reaped : reaped_post c past q j ≡ Some post
   pub says : is_success (status_in post.cqe) ≡ true
 
-success_now : (c : ConfigNumbers) (past : Past) (r : ReapLine) (q j : ℕ) (o : Option EntryCompletion) → slice_get (entry_completions c past r.queue) (reaped past r.queue) ≡ o → is_success_of q j o ≡ true → Success c (Entry.Reap r ∷ past) q j
+success_now : (c : ConfigNumbers) (past : Past) (r : ReapLine) (q j : ℕ) (o : Option EntryCompletion) → slice_get (entry_completions c past r.queue) (reaped_count past r.queue) ≡ o → is_success_of q j o ≡ true → Success c (Entry.Reap r ∷ past) q j
 success_now c past r q j None e h = clash false h refl
 success_now c past r q j (Some y) e h =
     let x = and_parts (eqb y.queue q && eqb y.number j) (says_success y.cqe) h in
-    let found = entry_completions_are c past r.queue (reaped past r.queue) y e in
+    let found = entry_completions_are c past r.queue (reaped_count past r.queue) y e in
     let a = found.0 in
     let here : (eqb a.queue q && eqb a.number j) ≡ true = ap (λ (z : EntryCompletion). eqb z.queue q && eqb z.number j) found.2 ∙ x.0 in
     record {
@@ -72,10 +72,10 @@ success_now c past r q j (Some y) e h =
 pub success_reaped : (c : ConfigNumbers) (past : Past) (q j : ℕ) → IsLegal c past → reaped_success c past q j ≡ true → Success c past q j
 success_reaped c [] q j h s = clash false s refl
 success_reaped c (Entry.Reap r ∷ past) q j h s =
-    go (or_cases (is_success_of q j (slice_get (entry_completions c past r.queue) (reaped past r.queue))) (reaped_success c past q j) s) (success_reaped c past q j (follows c past (Entry.Reap r) h).before)
+    go (or_cases (is_success_of q j (slice_get (entry_completions c past r.queue) (reaped_count past r.queue))) (reaped_success c past q j) s) (success_reaped c past q j (follows c past (Entry.Reap r) h).before)
   where
-    go : (is_success_of q j (slice_get (entry_completions c past r.queue) (reaped past r.queue)) ≡ true) ⊎ (reaped_success c past q j ≡ true) → (reaped_success c past q j ≡ true → Success c past q j) → Success c (Entry.Reap r ∷ past) q j
-    go (inl e) ih = success_now c past r q j (slice_get (entry_completions c past r.queue) (reaped past r.queue)) refl e
+    go : (is_success_of q j (slice_get (entry_completions c past r.queue) (reaped_count past r.queue)) ≡ true) ⊎ (reaped_success c past q j ≡ true) → (reaped_success c past q j ≡ true → Success c past q j) → Success c (Entry.Reap r ∷ past) q j
+    go (inl e) ih = success_now c past r q j (slice_get (entry_completions c past r.queue) (reaped_count past r.queue)) refl e
     go (inr e) ih = let k = ih e in record { post = k.post; reaped = reaped_later c (Entry.Reap r ∷ []) past q j k.post h k.reaped; says = k.says }
 success_reaped c (Entry.Publish x ∷ past) q j h s = let k = success_reaped c past q j (follows c past (Entry.Publish x) h).before s in record { post = k.post; reaped = k.reaped; says = k.says }
 success_reaped c (Entry.Fetch x ∷ past) q j h s = let k = success_reaped c past q j (follows c past (Entry.Fetch x) h).before s in record { post = k.post; reaped = k.reaped; says = k.says }
@@ -93,28 +93,28 @@ entry_completion_at c past q i a h = ap (λ (xs : List EntryCompletion). slice_g
 
 pub reaped_is_success : (c : ConfigNumbers) (past : Past) (q j : ℕ) (p : PostLine) → IsLegal c past → reaped_post c past q j ≡ Some p → is_success (status_in p.cqe) ≡ true → reaped_success c past q j ≡ true
 reaped_is_success c [] q j p h e y = absurd (let f : None ≡ Some p = e in cc)
-reaped_is_success c (Entry.Reap r ∷ past) q j p h e y = by_answer (slice_get (posted_answers c past r.queue) (reaped past r.queue)) refl e (reaped_is_success c past q j p before)
+reaped_is_success c (Entry.Reap r ∷ past) q j p h e y = by_answer (slice_get (posted_answers c past r.queue) (reaped_count past r.queue)) refl e (reaped_is_success c past q j p before)
   where
     before : IsLegal c past
     before = (follows c past (Entry.Reap r) h).before
 
     earlier_or : reaped_success c past q j ≡ true → reaped_success c (Entry.Reap r ∷ past) q j ≡ true
-    earlier_or s = or_right (is_success_of q j (slice_get (entry_completions c past r.queue) (reaped past r.queue))) (reaped_success c past q j) s
+    earlier_or s = or_right (is_success_of q j (slice_get (entry_completions c past r.queue) (reaped_count past r.queue))) (reaped_success c past q j) s
 
-    now : (a : PostedAnswer) → slice_get (posted_answers c past r.queue) (reaped past r.queue) ≡ Some a → (eqb a.queue q && eqb a.number j) ≡ true → a.post ≡ p → reaped_success c (Entry.Reap r ∷ past) q j ≡ true
+    now : (a : PostedAnswer) → slice_get (posted_answers c past r.queue) (reaped_count past r.queue) ≡ Some a → (eqb a.queue q && eqb a.number j) ≡ true → a.post ≡ p → reaped_success c (Entry.Reap r ∷ past) q j ≡ true
     now a f n z =
-        let at = answer_at c past r.queue (reaped past r.queue) a f in
+        let at = answer_at c past r.queue (reaped_count past r.queue) a f in
         let legal = earlier c at.later (Entry.Post a.post ∷ at.before) (subst (λ (x : Past). IsLegal c x) at.is before) in
         let says = posted_says c at.before a.post legal (ap (λ (x : PostLine). is_success (status_in x.cqe)) z ∙ y) in
-        or_left (is_success_of q j (slice_get (entry_completions c past r.queue) (reaped past r.queue))) (reaped_success c past q j)
-        (ap (is_success_of q j) (entry_completion_at c past r.queue (reaped past r.queue) a f) ∙ and_from (eqb a.queue q && eqb a.number j) (says_success a.post.cqe) n says)
+        or_left (is_success_of q j (slice_get (entry_completions c past r.queue) (reaped_count past r.queue))) (reaped_success c past q j)
+        (ap (is_success_of q j) (entry_completion_at c past r.queue (reaped_count past r.queue) a f) ∙ and_from (eqb a.queue q && eqb a.number j) (says_success a.post.cqe) n says)
 
-    by_number : (a : PostedAnswer) → slice_get (posted_answers c past r.queue) (reaped past r.queue) ≡ Some a → (x : Bool) → (eqb a.queue q && eqb a.number j) ≡ x → cond x (Some a.post) (reaped_post c past q j) ≡ Some p
+    by_number : (a : PostedAnswer) → slice_get (posted_answers c past r.queue) (reaped_count past r.queue) ≡ Some a → (x : Bool) → (eqb a.queue q && eqb a.number j) ≡ x → cond x (Some a.post) (reaped_post c past q j) ≡ Some p
         → (reaped_post c past q j ≡ Some p → is_success (status_in p.cqe) ≡ true → reaped_success c past q j ≡ true) → reaped_success c (Entry.Reap r ∷ past) q j ≡ true
     by_number a f false n g ih = earlier_or (ih g y)
     by_number a f true n g ih = now a f n (same_some a.post p (Some a.post) refl g)
 
-    by_answer : (o : Option PostedAnswer) → slice_get (posted_answers c past r.queue) (reaped past r.queue) ≡ o → post_if q j o (reaped_post c past q j) ≡ Some p
+    by_answer : (o : Option PostedAnswer) → slice_get (posted_answers c past r.queue) (reaped_count past r.queue) ≡ o → post_if q j o (reaped_post c past q j) ≡ Some p
         → (reaped_post c past q j ≡ Some p → is_success (status_in p.cqe) ≡ true → reaped_success c past q j ≡ true) → reaped_success c (Entry.Reap r ∷ past) q j ≡ true
     by_answer None f g ih = earlier_or (ih g y)
     by_answer (Some a) f g ih = by_number a f (eqb a.queue q && eqb a.number j) refl g ih

@@ -8,7 +8,7 @@ use Rattle.nvme_model.specs.EntryBytes.{Sqe, sqe_fields, slba, blocks}
 use Rattle.nvme_model.specs.Commands.{is_write, is_compare, is_read, is_write_zeroes}
 use Rattle.nvme_model.specs.History.{Past}
 use Rattle.nvme_model.specs.Tickets.{Ticket, tickets, command, first_fields}
-use Rattle.nvme_model.specs.Queues.{published}
+use Rattle.nvme_model.specs.Queues.{published_entries}
 use Rattle.nvme_model.specs.Operations.{op, op_by, op_of_fields, has_write, compare_data, write_data}
 use Rattle.nvme_model.specs.Slots.{Swap, name_of, is_pair_on_one, swaps, touches, disciplined, fetched_before}
 use Rattle.nvme_model.specs.Legal.{IsLegal}
@@ -105,7 +105,7 @@ pub swap_ticket : (c : ConfigNumbers) (slots : Range) (past : Past) (t l : ℕ) 
     → has_write (op (Tickets.ticket past t)) ≡ true → Meets slots (Tickets.ticket past t) l → SwapTicket past t l
 swap_ticket c slots past t l h d a b w m = by_verdict (Tickets.ticket past t).verdict refl (ticket_taken c past t h a b)
   where
-    by_verdict : (v : Verdict) → (Tickets.ticket past t).verdict ≡ v → Taken (published past (Tickets.ticket past t).queue) (fetched_before past t) (Tickets.ticket past t) → SwapTicket past t l
+    by_verdict : (v : Verdict) → (Tickets.ticket past t).verdict ≡ v → Taken (published_entries past (Tickets.ticket past t).queue) (fetched_before past t) (Tickets.ticket past t) → SwapTicket past t l
     by_verdict (Verdict.SingleFailed s) e k = clash false (subst (λ (v : Verdict). has_write (op_by v (first_fields (Tickets.ticket past t))) ≡ true) e w) refl
     by_verdict (Verdict.PairFailed s r) e k = clash false (subst (λ (v : Verdict). has_write (op_by v (first_fields (Tickets.ticket past t))) ≡ true) e w) refl
     by_verdict Verdict.Single e k =
@@ -113,9 +113,9 @@ swap_ticket c slots past t l h d a b w m = by_verdict (Tickets.ticket past t).ve
         let s = swapped_by c slots past (Tickets.ticket past t).queue (fetched_before past t) (command (Tickets.ticket past t) 0) d k.first
         (touching slots (command (Tickets.ticket past t) 0) l writes m.low m.high m.from m.to) in
         let f = each_in (SwapOf past) (swaps past) s.swap (swaps_are past) s.there in
-        let second = subst (λ (q : ℕ). slice_get (published past q) (suc s.swap.number) ≡ Some f.new) s.queue f.second in
-        let same = same_some f.new (command (Tickets.ticket past t) 0) (slice_get (published past (Tickets.ticket past t).queue) (suc s.swap.number)) second
-        (ap (slice_get (published past (Tickets.ticket past t).queue)) s.number ∙ k.first) in
+        let second = subst (λ (q : ℕ). slice_get (published_entries past q) (suc s.swap.number) ≡ Some f.new) s.queue f.second in
+        let same = same_some f.new (command (Tickets.ticket past t) 0) (slice_get (published_entries past (Tickets.ticket past t).queue) (suc s.swap.number)) second
+        (ap (slice_get (published_entries past (Tickets.ticket past t).queue)) s.number ∙ k.first) in
         let normal = (subst (λ (v : Verdict). VerdictIs v (command (Tickets.ticket past t) 0) (command (Tickets.ticket past t) 1)) e k.verdict).1 in
         clash (eqb (fuse f.new) 2) (on_one f.old f.new f.pair).second (ap (λ (x : Submission). eqb (fuse x) 2) same ∙ normal)
     by_verdict Verdict.Pair e k =
@@ -125,10 +125,10 @@ swap_ticket c slots past t l h d a b w m = by_verdict (Tickets.ticket past t).ve
         (touching slots (command (Tickets.ticket past t) 1) l (or_left _ _ pair.writes) (omega (arith, m.low, pair.slba)) (omega (arith, m.high, pair.slba, pair.blocks)) m.from m.to) in
         let f = each_in (SwapOf past) (swaps past) s.swap (swaps_are past) s.there in
         let number : s.swap.number ≡ fetched_before past t = omega (arith, s.number) in
-        let first2 = subst (λ (q : ℕ). slice_get (published past q) s.swap.number ≡ Some f.old) s.queue f.first in
-        let second2 = subst (λ (q : ℕ). slice_get (published past q) (suc s.swap.number) ≡ Some f.new) s.queue f.second in
-        let old = same_some f.old (command (Tickets.ticket past t) 0) _ first2 (ap (slice_get (published past (Tickets.ticket past t).queue)) number ∙ k.first) in
-        let new = same_some f.new (command (Tickets.ticket past t) 1) _ second2 (ap (slice_get (published past (Tickets.ticket past t).queue)) s.number ∙ second) in
+        let first2 = subst (λ (q : ℕ). slice_get (published_entries past q) s.swap.number ≡ Some f.old) s.queue f.first in
+        let second2 = subst (λ (q : ℕ). slice_get (published_entries past q) (suc s.swap.number) ≡ Some f.new) s.queue f.second in
+        let old = same_some f.old (command (Tickets.ticket past t) 0) _ first2 (ap (slice_get (published_entries past (Tickets.ticket past t).queue)) number ∙ k.first) in
+        let new = same_some f.new (command (Tickets.ticket past t) 1) _ second2 (ap (slice_get (published_entries past (Tickets.ticket past t).queue)) s.number ∙ second) in
         let one : blocks (first_fields (Tickets.ticket past t)) ≡ 1 = sym (ap (λ (x : Submission). blocks (sqe_fields x.entry)) old) ∙ (on_one f.old f.new f.pair).one in
         let at : slba (first_fields (Tickets.ticket past t)) ≡ l = omega (arith, one, m.low, m.high) in
         let paired : op (Tickets.ticket past t) ≡ Some Op.Pair = ap (λ (v : Verdict). op_by v (first_fields (Tickets.ticket past t))) e in

@@ -6,21 +6,21 @@ use Rattle.nvme_model.specs.declared.config.ConfigNumbers.{ConfigNumbers}
 use Rattle.nvme_model.specs.Verdict.{taken}
 use Rattle.nvme_model.specs.History.{Past}
 use Rattle.nvme_model.specs.Tickets.{tickets, fetched_ticket}
-use Rattle.nvme_model.specs.Queues.{fetched}
+use Rattle.nvme_model.specs.Queues.{fetched_count}
 use Rattle.nvme_model.specs.Legal.{IsLegal}
 use Rattle.nvme_model.specs.Slots.{fetched_before}
 use Rattle.nvme_model.specs.declared.entry.Entry.{Entry}
 use Rattle.nvme_model.proofs.Rules.{follows, fetch_number}
 use Rattle.nvme_model.specs.declared.status.Verdict.{Verdict}
 
-pub within_fetched : (c : ConfigNumbers) (past : Past) (t : ℕ) → IsLegal c past → 1 ≤ t → t ≤ tickets past → fetched_before past t + taken (Tickets.ticket past t).verdict ≤ fetched past (Tickets.ticket past t).queue
+pub within_fetched : (c : ConfigNumbers) (past : Past) (t : ℕ) → IsLegal c past → 1 ≤ t → t ≤ tickets past → fetched_before past t + taken (Tickets.ticket past t).verdict ≤ fetched_count past (Tickets.ticket past t).queue
 within_fetched c [] t h a l = absurd (omega (arith, a, l))
 within_fetched c (Entry.Fetch f ∷ past) t h a l =
     go (eqb f.ticket t) refl (λ m. within_fetched c past t (follows c past (Entry.Fetch f) h).before a m)
   where
-    go : (b : Bool) → eqb f.ticket t ≡ b → (t ≤ tickets past → fetched_before past t + taken (Tickets.ticket past t).verdict ≤ fetched past (Tickets.ticket past t).queue)
-        → cond b (fetched past f.queue) (fetched_before past t) + taken (cond b (fetched_ticket past f.queue f.verdict) (Tickets.ticket past t)).verdict
-        ≤ fetched past (cond b (fetched_ticket past f.queue f.verdict) (Tickets.ticket past t)).queue
+    go : (b : Bool) → eqb f.ticket t ≡ b → (t ≤ tickets past → fetched_before past t + taken (Tickets.ticket past t).verdict ≤ fetched_count past (Tickets.ticket past t).queue)
+        → cond b (fetched_count past f.queue) (fetched_before past t) + taken (cond b (fetched_ticket past f.queue f.verdict) (Tickets.ticket past t)).verdict
+        ≤ fetched_count past (cond b (fetched_ticket past f.queue f.verdict) (Tickets.ticket past t)).queue
         + cond (eqb f.queue (cond b (fetched_ticket past f.queue f.verdict) (Tickets.ticket past t)).queue) (taken f.verdict) 0
     go true e ih = omega (arith, cond-true (eqb f.queue f.queue) (taken f.verdict) 0 (eq-eqb f.queue f.queue refl))
     go false e ih =
@@ -47,11 +47,11 @@ ranges_apart c (Entry.Fetch f ∷ past) t u h a k l q =
         → (cond b (fetched_ticket past f.queue f.verdict) (Tickets.ticket past t)).queue ≡ (cond d (fetched_ticket past f.queue f.verdict) (Tickets.ticket past u)).queue
         → IsLegal c past → f.ticket ≡ tickets past + 1
         → (u ≤ tickets past → (Tickets.ticket past t).queue ≡ (Tickets.ticket past u).queue → fetched_before past t + taken (Tickets.ticket past t).verdict ≤ fetched_before past u)
-        → cond b (fetched past f.queue) (fetched_before past t) + taken (cond b (fetched_ticket past f.queue f.verdict) (Tickets.ticket past t)).verdict ≤ cond d (fetched past f.queue) (fetched_before past u)
+        → cond b (fetched_count past f.queue) (fetched_before past t) + taken (cond b (fetched_ticket past f.queue f.verdict) (Tickets.ticket past t)).verdict ≤ cond d (fetched_count past f.queue) (fetched_before past u)
     go true o d e s before n ih = absurd (let g = o in cc)
     go false o true e s before n ih =
         let w = within_fetched c past t before a (omega (arith, k, l)) in
-        subst (λ (x : ℕ). fetched_before past t + taken (Tickets.ticket past t).verdict ≤ fetched past x) s w
+        subst (λ (x : ℕ). fetched_before past t + taken (Tickets.ticket past t).verdict ≤ fetched_count past x) s w
     go false o false e s before n ih =
         ih (elim (cases_lt (tickets past) u) [
           | inl m ↦ absurd (eqb-false f.ticket u e (omega (arith, m, l, n)))

@@ -8,7 +8,7 @@ use Rattle.nvme_model.specs.Verdict.{taken, passed}
 use Rattle.nvme_model.specs.Array.{has_block}
 use Rattle.nvme_model.specs.History.{Past}
 use Rattle.nvme_model.specs.Tickets.{Ticket, command, first_fields, posts_of}
-use Rattle.nvme_model.specs.Queues.{published}
+use Rattle.nvme_model.specs.Queues.{published_entries}
 use Rattle.nvme_model.specs.Operations.{op, has_write, has_compare, compare_data, write_data, op_by}
 use Rattle.nvme_model.specs.Open.{grants_of, unit_range}
 use Rattle.nvme_model.specs.Value.{value, all_equal, writes}
@@ -101,32 +101,32 @@ record AtPost (past : Past) (t : ℕ) (s : Swap) : Type 0 where
   bytes : SwapData s (command (Tickets.ticket past t) 0).payload (command (Tickets.ticket past t) 1).payload
 
 record Numbers (past all : Past) (t : ℕ) (s : Swap) : Type 0 where
-  first : slice_get (published all s.queue) (fetched_before past t) ≡ Some (command (Tickets.ticket past t) 0)
-  second : taken (Tickets.ticket past t).verdict ≡ 2 → slice_get (published all s.queue) (suc (fetched_before past t)) ≡ Some (command (Tickets.ticket past t) 1)
+  first : slice_get (published_entries all s.queue) (fetched_before past t) ≡ Some (command (Tickets.ticket past t) 0)
+  second : taken (Tickets.ticket past t).verdict ≡ 2 → slice_get (published_entries all s.queue) (suc (fetched_before past t)) ≡ Some (command (Tickets.ticket past t) 1)
   below : posts_of past t < taken (Tickets.ticket past t).verdict
   number : fetched_before past t + posts_of past t ≡ suc s.number
 
 at_post : (past all : Past) (t : ℕ) (s : Swap) (v : Verdict) → (Tickets.ticket past t).verdict ≡ v → passed v ≡ true → VerdictIs v (command (Tickets.ticket past t) 0) (command (Tickets.ticket past t) 1)
-    → Numbers past all t s → SwapIs (published all s.queue) s → AtPost past t s
+    → Numbers past all t s → SwapIs (published_entries all s.queue) s → AtPost past t s
 at_post past all t s (Verdict.SingleFailed x) e p k n f = clash false p refl
 at_post past all t s (Verdict.PairFailed x y) e p k n f = clash false p refl
 at_post past all t s Verdict.Single e p k n f =
     let few : posts_of past t < 1 = subst (λ (v : Verdict). posts_of past t < taken v) e n.below in
-    let same = same_some f.new (command (Tickets.ticket past t) 0) (slice_get (published all s.queue) (suc s.number)) f.second
-    (ap (slice_get (published all s.queue)) (omega (arith, n.number, few)) ∙ n.first) in
+    let same = same_some f.new (command (Tickets.ticket past t) 0) (slice_get (published_entries all s.queue) (suc s.number)) f.second
+    (ap (slice_get (published_entries all s.queue)) (omega (arith, n.number, few)) ∙ n.first) in
     clash (eqb (fuse f.new) 2) (on_one f.old f.new f.pair).second (ap (λ (x : Submission). eqb (fuse x) 2) same ∙ k.1)
 at_post past all t s Verdict.Pair e p k n f =
     let few : posts_of past t < 2 = subst (λ (v : Verdict). posts_of past t < taken v) e n.below in
     elim (cases_lt (posts_of past t) 1) [
       | inl z ↦
-          let same = same_some f.new (command (Tickets.ticket past t) 0) (slice_get (published all s.queue) (suc s.number)) f.second
-          (ap (slice_get (published all s.queue)) (omega (arith, n.number, z)) ∙ n.first) in
+          let same = same_some f.new (command (Tickets.ticket past t) 0) (slice_get (published_entries all s.queue) (suc s.number)) f.second
+          (ap (slice_get (published_entries all s.queue)) (omega (arith, n.number, z)) ∙ n.first) in
           clash (eqb (fuse f.new) 2) (on_one f.old f.new f.pair).second (ap (λ (x : Submission). eqb (fuse x) 2) same ∙ one_not_two (fuse (command (Tickets.ticket past t) 0)) k.first)
       | inr z ↦
           let at : s.number ≡ fetched_before past t = omega (arith, n.number, z, few) in
-          let old = same_some f.old (command (Tickets.ticket past t) 0) (slice_get (published all s.queue) s.number) f.first (ap (slice_get (published all s.queue)) at ∙ n.first) in
-          let new = same_some f.new (command (Tickets.ticket past t) 1) (slice_get (published all s.queue) (suc s.number)) f.second
-          (ap (λ (i : ℕ). slice_get (published all s.queue) (suc i)) at ∙ n.second (ap taken e)) in
+          let old = same_some f.old (command (Tickets.ticket past t) 0) (slice_get (published_entries all s.queue) s.number) f.first (ap (slice_get (published_entries all s.queue)) at ∙ n.first) in
+          let new = same_some f.new (command (Tickets.ticket past t) 1) (slice_get (published_entries all s.queue) (suc s.number)) f.second
+          (ap (λ (i : ℕ). slice_get (published_entries all s.queue) (suc i)) at ∙ n.second (ap taken e)) in
           record {
             op = ap (λ (v : Verdict). op_by v (first_fields (Tickets.ticket past t))) e;
             verdict = e;
@@ -157,9 +157,9 @@ won c past s h i r =
     let numbers : Numbers at.before all found.post.ticket s =
     record {
       first = published_later at.later (Entry.Post found.post ∷ at.before) s.queue (fetched_before at.before found.post.ticket) (command k 0)
-          (subst (λ (q : ℕ). slice_get (published at.before q) (fetched_before at.before found.post.ticket) ≡ Some (command k 0)) at.queue p.taken.first);
+          (subst (λ (q : ℕ). slice_get (published_entries at.before q) (fetched_before at.before found.post.ticket) ≡ Some (command k 0)) at.queue p.taken.first);
       second = λ two. published_later at.later (Entry.Post found.post ∷ at.before) s.queue (suc (fetched_before at.before found.post.ticket)) (command k 1)
-          (subst (λ (q : ℕ). slice_get (published at.before q) (suc (fetched_before at.before found.post.ticket)) ≡ Some (command k 1)) at.queue (p.taken.second two));
+          (subst (λ (q : ℕ). slice_get (published_entries at.before q) (suc (fetched_before at.before found.post.ticket)) ≡ Some (command k 1)) at.queue (p.taken.second two));
       below = subst (λ (n : ℕ). posts_of at.before found.post.ticket < n) p.taken.count (ltb-true _ _ p.in_flight);
       number = at.number;
     } in

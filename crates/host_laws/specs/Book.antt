@@ -3,7 +3,7 @@ use Rattle.std.specs.Prelude.{None, Option, Some, if◌then◌else◌, length, s
 use Rattle.nvme_model.specs.Config.{completion_queue}
 use Rattle.nvme_model.specs.EntryBytes.{sqe_fields}
 use Rattle.nvme_model.specs.History.{Past}
-use Rattle.nvme_model.specs.Queues.{published}
+use Rattle.nvme_model.specs.Queues.{published_entries}
 use Rattle.nvme_model.specs.declared.config.ConfigNumbers.{ConfigNumbers}
 use Rattle.nvme_model.specs.declared.submission.Submission.{Submission}
 use Rattle.host_laws.specs.Calls.{IsWaiting}
@@ -26,10 +26,10 @@ cid_of s = (sqe_fields s.entry).cid
 
 -- the next entry of submission queue q, or the next two, are waited for from now on
 abbrev pub with_one : Book → Past → ℕ → Submission → Book
-with_one book past q s = with_entry book q (cid_of s) (length (published past q))
+with_one book past q s = with_entry book q (cid_of s) (length (published_entries past q))
 
 abbrev pub with_pair : Book → Past → ℕ → Submission → Submission → Book
-with_pair book past q s t = with_entry (with_one book past q s) q (cid_of t) (suc (length (published past q)))
+with_pair book past q s t = with_entry (with_one book past q s) q (cid_of t) (suc (length (published_entries past q)))
 
 -- the entry with this CID is no longer waited for
 abbrev pub without_entry : Book → ℕ → ℕ → Book

@@ -4,7 +4,7 @@ use Rattle.std.specs.Prelude.{not, suc, Bool, List, None, Option, Some, [], fals
 use Rattle.std.specs.Prelude.{nat_lt, slice_get, true, ℕ, ◌&&◌, ◌||◌, ◌+◌, ◌++◌, ◌==◌, ◌∷◌, ◌≡◌, ◌≤◌, ◌<◌}
 use Rattle.std.specs.List.{list_all, list_any}
 use Rattle.nvme_model.specs.Answered.{says_no}
-use Rattle.nvme_model.specs.Completions.{posted, reaped}
+use Rattle.nvme_model.specs.Completions.{posted_completions, reaped_count}
 use Rattle.nvme_model.specs.Config.{completion_queue}
 use Rattle.nvme_model.specs.EntryBytes.{cqe_fields, sqe_fields}
 use Rattle.nvme_model.specs.History.{Past}
@@ -12,7 +12,7 @@ use Rattle.nvme_model.specs.Open.{blocks_of, unit_range}
 use Rattle.nvme_model.specs.Operations.{has_compare, op, op_of_fields}
 use Rattle.nvme_model.specs.Owed.{completion_data, some_no, units_of}
 use Rattle.nvme_model.specs.Placed.{effect}
-use Rattle.nvme_model.specs.Queues.{published}
+use Rattle.nvme_model.specs.Queues.{published_entries}
 use Rattle.nvme_model.specs.Slots.{fetched_before, next_number}
 use Rattle.nvme_model.specs.Statuses.{cid_conflict, compare_failure, data_transfer_error, failed_fused, invalid_field}
 use Rattle.nvme_model.specs.Statuses.{invalid_namespace, invalid_opcode, is_success, missing_fused, out_of_range}
@@ -40,7 +40,7 @@ takes past t q j =
 -- Entry j of submission queue q is published, as a command by itself that does o.
 pub record IsSingle (past : Past) (q j : ℕ) (o : Op) : Type 0 where
   pub entry : Submission
-  pub published : slice_get (published past q) j ≡ Some entry
+  pub published : slice_get (published_entries past q) j ≡ Some entry
   pub not_first : ((sqe_fields entry.entry).fuse == 1) ≡ false
   pub not_second : ((sqe_fields entry.entry).fuse == 2) ≡ false
   pub does : op_of_fields (sqe_fields entry.entry) ≡ Some o
@@ -49,8 +49,8 @@ pub record IsSingle (past : Past) (q j : ℕ) (o : Op) : Type 0 where
 pub record IsFused (past : Past) (q j : ℕ) : Type 0 where
   pub first : Submission
   pub second : Submission
-  pub first_published : slice_get (published past q) j ≡ Some first
-  pub second_published : slice_get (published past q) (suc j) ≡ Some second
+  pub first_published : slice_get (published_entries past q) j ≡ Some first
+  pub second_published : slice_get (published_entries past q) (suc j) ≡ Some second
   pub first_fuse : ((sqe_fields first.entry).fuse == 1) ≡ true
   pub second_fuse : ((sqe_fields second.entry).fuse == 2) ≡ true
 
@@ -82,7 +82,7 @@ post_if q j (Some a) before = if (a.queue == q) && (a.number == j) then Some a.p
 abbrev pub reaped_post : ConfigNumbers → Past → ℕ → ℕ → Option PostLine
 reaped_post c [] q j = None
 reaped_post c (Entry.Reap r ∷ past) q j =
-    post_if q j (slice_get (posted_answers c past r.queue) (reaped past r.queue)) (reaped_post c past q j)
+    post_if q j (slice_get (posted_answers c past r.queue) (reaped_count past r.queue)) (reaped_post c past q j)
 reaped_post c (_ ∷ past) q j = reaped_post c past q j
 
 -- the status that a completion's bytes say
@@ -114,8 +114,8 @@ is_proper s = ((sqe_fields s.entry).nsid == 1) && not (has_invalid_field (sqe_fi
 pub record IsProperPair (past : Past) (q j : ℕ) : Type 0 where
   pub first : Submission
   pub second : Submission
-  pub first_published : slice_get (published past q) j ≡ Some first
-  pub second_published : slice_get (published past q) (suc j) ≡ Some second
+  pub first_published : slice_get (published_entries past q) j ≡ Some first
+  pub second_published : slice_get (published_entries past q) (suc j) ≡ Some second
   pub first_proper : is_proper first ≡ true
   pub second_proper : is_proper second ≡ true
 
@@ -135,8 +135,8 @@ says_yes past t u = yes_at (effect past t u) (Tickets.ticket past t) (unit_range
 pub record PairSwaps (past : Past) (q j : ℕ) : Type 0 where
   pub ticket : ℕ
   pub takes : takes past ticket q j ≡ true
-  pub first : slice_get (published past q) j ≡ Some (command (Tickets.ticket past ticket) 0)
-  pub second : slice_get (published past q) (suc j) ≡ Some (command (Tickets.ticket past ticket) 1)
+  pub first : slice_get (published_entries past q) j ≡ Some (command (Tickets.ticket past ticket) 0)
+  pub second : slice_get (published_entries past q) (suc j) ≡ Some (command (Tickets.ticket past ticket) 1)
   pub pair : op (Tickets.ticket past ticket) ≡ Some Op.Pair
   pub yes : says_yes past ticket 0 ≡ true
 
@@ -144,8 +144,8 @@ pub record PairSwaps (past : Past) (q j : ℕ) : Type 0 where
 pub record PairDiffers (past : Past) (q j : ℕ) : Type 0 where
   pub ticket : ℕ
   pub takes : takes past ticket q j ≡ true
-  pub first : slice_get (published past q) j ≡ Some (command (Tickets.ticket past ticket) 0)
-  pub second : slice_get (published past q) (suc j) ≡ Some (command (Tickets.ticket past ticket) 1)
+  pub first : slice_get (published_entries past q) j ≡ Some (command (Tickets.ticket past ticket) 0)
+  pub second : slice_get (published_entries past q) (suc j) ≡ Some (command (Tickets.ticket past ticket) 1)
   pub pair : op (Tickets.ticket past ticket) ≡ Some Op.Pair
   pub no : says_no past ticket 0 ≡ true
 
@@ -153,7 +153,7 @@ pub record PairDiffers (past : Past) (q j : ℕ) : Type 0 where
 pub record IsDone (c : ConfigNumbers) (past : Past) (q j : ℕ) (o : Op) (contents : List ℕ) : Type 0 where
   pub ticket : ℕ
   pub takes : takes past ticket q j ≡ true
-  pub first : slice_get (published past q) j ≡ Some (command (Tickets.ticket past ticket) 0)
+  pub first : slice_get (published_entries past q) j ≡ Some (command (Tickets.ticket past ticket) 0)
   pub does : op (Tickets.ticket past ticket) ≡ Some o
   pub effects : list_all (λ u. is_some (effect past ticket u.0)) (units_of c past ticket) ≡ true
   pub none_no : some_no c past ticket ≡ false
@@ -163,7 +163,7 @@ pub record IsDone (c : ConfigNumbers) (past : Past) (q j : ℕ) (o : Op) (conten
 pub record CompareDiffers (c : ConfigNumbers) (past : Past) (q j : ℕ) : Type 0 where
   pub ticket : ℕ
   pub takes : takes past ticket q j ≡ true
-  pub first : slice_get (published past q) j ≡ Some (command (Tickets.ticket past ticket) 0)
+  pub first : slice_get (published_entries past q) j ≡ Some (command (Tickets.ticket past ticket) 0)
   pub compares : op (Tickets.ticket past ticket) ≡ Some Op.Compare
   pub no : some_no c past ticket ≡ true
 
@@ -171,7 +171,7 @@ pub record CompareDiffers (c : ConfigNumbers) (past : Past) (q j : ℕ) : Type 0
 pub record FailsChecks (past : Past) (q j : ℕ) : Type 0 where
   pub ticket : ℕ
   pub takes : takes past ticket q j ≡ true
-  pub first : slice_get (published past q) j ≡ Some (command (Tickets.ticket past ticket) 0)
+  pub first : slice_get (published_entries past q) j ≡ Some (command (Tickets.ticket past ticket) 0)
   pub failed : passed (Tickets.ticket past ticket).verdict ≡ false
   pub idle : blocks_of past ticket ≡ 0
 
@@ -180,13 +180,13 @@ pub record ReapAnswers (c : ConfigNumbers) (past : Past) (r : ReapLine) : Type 0
   pub queue : ℕ
   pub number : ℕ
   pub post : PostLine
-  pub posted : slice_get (posted c past r.queue) (reaped past r.queue) ≡ Some post
+  pub posted : slice_get (posted_completions c past r.queue) (reaped_count past r.queue) ≡ Some post
   pub cqe : post.cqe ≡ r.cqe
   pub own : completion_queue c queue ≡ r.queue
   pub some : 1 ≤ queue
   pub few : queue ≤ c.pairs
   pub entry : Submission
-  pub published : slice_get (published past queue) number ≡ Some entry
+  pub published : slice_get (published_entries past queue) number ≡ Some entry
   pub clean : is_clean r.cqe ≡ true
   pub sqid : queue < 65536 → (cqe_fields r.cqe).sqid ≡ queue
   pub cid : (sqe_fields entry.entry).cid < 65536 → (cqe_fields r.cqe).cid ≡ (sqe_fields entry.entry).cid
@@ -198,6 +198,6 @@ pub record ReapAnswers (c : ConfigNumbers) (past : Past) (r : ReapLine) : Type 0
 -- entry j of submission queue q has this CID, and its completion isn't reaped
 pub record IsWaiting (c : ConfigNumbers) (past : Past) (q cid j : ℕ) : Type 0 where
   pub entry : Submission
-  pub published : slice_get (published past q) j ≡ Some entry
+  pub published : slice_get (published_entries past q) j ≡ Some entry
   pub says : (sqe_fields entry.entry).cid ≡ cid
   pub unreaped : reaped_post c past q j ≡ None

@@ -4,7 +4,7 @@ use Rattle.std.specs.List.{Contains, list_all, list_any}
 use Rattle.nvme_model.specs.Array.{has_block, zeros}
 use Rattle.nvme_model.specs.Config.{completion_queue}
 use Rattle.nvme_model.specs.EntryBytes.{slba, sqe_fields}
-use Rattle.nvme_model.specs.Queues.{published}
+use Rattle.nvme_model.specs.Queues.{published_entries}
 use Rattle.nvme_model.specs.declared.submission.Submission.{Submission}
 use Rattle.nvme_model.specs.History.{Past}
 use Rattle.nvme_model.specs.Slots.{Name, Swap, in_area, is_pair_on_one, name_of, reaped_success, releases, same_name}
@@ -71,8 +71,8 @@ pub record IsRelease (a b : Submission) (n : Name) : Type 0 where
 -- the claim, or the release, of this name that a pair makes whose first entry is a, the next of submission queue q
 abbrev pub claim_of : Past → ℕ → Submission → Name → Swap
 claim_of past q a n =
-    record { claims = true; queue = q; number = length (published past q); lba = lba_of a; name = n }
+    record { claims = true; queue = q; number = length (published_entries past q); lba = lba_of a; name = n }
 
 abbrev pub release_of : Past → ℕ → Submission → Name → Swap
 release_of past q a n =
-    record { claims = false; queue = q; number = length (published past q); lba = lba_of a; name = n }
+    record { claims = false; queue = q; number = length (published_entries past q); lba = lba_of a; name = n }

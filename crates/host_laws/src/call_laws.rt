@@ -6,7 +6,7 @@ ghost use Rattle.std.specs.List.{Contains, list_any, list_all};
 ghost use Rattle.nvme_model.specs.Statuses.{compare_failure, failed_fused, is_success, same_status};
 ghost use Rattle.nvme_model.specs.History.{Past};
 ghost use Rattle.nvme_model.specs.Tickets.{ticket, cids_in_use};
-ghost use Rattle.nvme_model.specs.Queues.{published};
+ghost use Rattle.nvme_model.specs.Queues.{published_entries};
 ghost use Rattle.nvme_model.specs.Open.{blocks_made, is_written};
 ghost use Rattle.nvme_model.specs.Placed.{effect};
 ghost use Rattle.nvme_model.specs.Owed.{units_of};
@@ -93,5 +93,5 @@ pub fn a_failure_does_nothing()
 /// The effects of an entry that was published after a moment stand after it.
 pub fn effects_come_after_the_start()
     ensures { (c : ConfigNumbers) (later start : Past) (t q j u : ℕ) → IsLegal c (later ++ start) →
-        takes (later ++ start) t q j ≡ true → length (published start q) ≤ j → effect start t u ≡ None }
+        takes (later ++ start) t q j ≡ true → length (published_entries start q) ≤ j → effect start t u ≡ None }
 {}

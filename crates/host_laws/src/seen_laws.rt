@@ -3,11 +3,11 @@
 ghost use Rattle.std.specs.Prelude.{◌≡◌, ◌≢◌, ◌+◌, ◌≤◌, ◌∷◌, ◌++◌, ℕ, List, [], false, true, Some, None, length};
 ghost use Rattle.std.specs.Prelude.{slice_get};
 ghost use Rattle.std.specs.List.{Contains};
-ghost use Rattle.nvme_model.specs.Completions.{reaped};
+ghost use Rattle.nvme_model.specs.Completions.{reaped_count};
 ghost use Rattle.nvme_model.specs.Config.{completion_queue};
 ghost use Rattle.nvme_model.specs.History.{Past};
 ghost use Rattle.nvme_model.specs.Passes.{SharedPast, entries, places};
-ghost use Rattle.nvme_model.specs.Queues.{fetched, published};
+ghost use Rattle.nvme_model.specs.Queues.{fetched_count, published_entries};
 ghost use Rattle.nvme_model.specs.Tickets.{cids_in_use};
 ghost use Rattle.nvme_model.specs.Verdict.{is_in};
 ghost use Rattle.nvme_model.specs.Slots.{Swap, swaps};
@@ -28,8 +28,9 @@ ghost use Rattle.nvme_model.specs.declared.entry.Entry.{Entry};
 /// What a caller knows of its commands holds in every later history that begins with what it saw.
 pub fn what_was_learnt_stays()
     ensures legal { (c : ConfigNumbers) (later past : Past) → IsLegal c (later ++ past) → IsLegal c past }
-    ensures published { (later past : Past) (q j : ℕ) (s : Submission) → slice_get (published past q) j ≡ Some s →
-        slice_get (published (later ++ past) q) j ≡ Some s }
+    ensures published { (later past : Past) (q j : ℕ) (s : Submission) →
+        slice_get (published_entries past q) j ≡ Some s →
+        slice_get (published_entries (later ++ past) q) j ≡ Some s }
     ensures single { (later past : Past) (q j : ℕ) (o : Op) → IsSingle past q j o → IsSingle (later ++ past) q j o }
     ensures fused { (later past : Past) (q j : ℕ) → IsFused past q j → IsFused (later ++ past) q j }
     ensures proper { (later past : Past) (q j : ℕ) → IsProperPair past q j → IsProperPair (later ++ past) q j }
@@ -56,9 +57,9 @@ pub fn others_leave_a_queue_alone()
         IsBeside c q (entries later) }
     ensures entries { (later seen : SharedPast) → entries (later ++ seen) ≡ entries later ++ entries seen }
     ensures published { (c : ConfigNumbers) (later past : Past) (n q : ℕ) → IsBeside c n later →
-        completion_queue c q ≡ n → published (later ++ past) q ≡ published past q }
+        completion_queue c q ≡ n → published_entries (later ++ past) q ≡ published_entries past q }
     ensures reaped { (c : ConfigNumbers) (later past : Past) (n : ℕ) → IsBeside c n later →
-        reaped (later ++ past) n ≡ reaped past n }
+        reaped_count (later ++ past) n ≡ reaped_count past n }
     ensures reaped_post { (c : ConfigNumbers) (later past : Past) (n q j : ℕ) → IsBeside c n later →
         completion_queue c q ≡ n → reaped_post c (later ++ past) q j ≡ reaped_post c past q j }
     ensures swaps { (c : ConfigNumbers) (later past : Past) (n : ℕ) (s : Swap) → IsBeside c n later →
@@ -68,10 +69,12 @@ pub fn others_leave_a_queue_alone()
 /// A Publish gives its entries the next numbers of its submission queue. No entry is answered before it is published.
 pub fn a_publish_takes_the_next_numbers()
     ensures numbers { (past : Past) (p : PublishLine) (i : ℕ) (s : Submission) → slice_get p.batch i ≡ Some s →
-        slice_get (published (Entry.Publish p ∷ past) p.queue) (length (published past p.queue) + i) ≡ Some s }
+        slice_get (published_entries (Entry.Publish p ∷ past) p.queue)
+            (length (published_entries past p.queue) + i) ≡ Some s }
     ensures others { (past : Past) (p : PublishLine) (q : ℕ) → q ≢ p.queue →
-        published (Entry.Publish p ∷ past) q ≡ published past q }
-    ensures unreaped { (c : ConfigNumbers) (past : Past) (q j : ℕ) → IsLegal c past → length (published past q) ≤ j →
+        published_entries (Entry.Publish p ∷ past) q ≡ published_entries past q }
+    ensures unreaped { (c : ConfigNumbers) (past : Past) (q j : ℕ) → IsLegal c past →
+        length (published_entries past q) ≤ j →
         reaped_post c past q j ≡ None }
 {}
 
@@ -79,7 +82,7 @@ pub fn a_publish_takes_the_next_numbers()
 /// entries under free CIDs, and a Reap finds its entry there and takes it out.
 pub fn a_book_is_kept()
     ensures empty { (c : ConfigNumbers) (past : Past) (n : ℕ) →
-        ((q : ℕ) → completion_queue c q ≡ n → published past q ≡ []) → IsBook c past n empty_book }
+        ((q : ℕ) → completion_queue c q ≡ n → published_entries past q ≡ []) → IsBook c past n empty_book }
     ensures beside { (c : ConfigNumbers) (later past : Past) (n : ℕ) (book : Book) → IsBeside c n later →
         IsBook c past n book → IsBook c (later ++ past) n book }
     ensures one { (c : ConfigNumbers) (past : Past) (n : ℕ) (book : Book) (q : ℕ) (s : Submission) → IsLegal c past →
@@ -97,7 +100,7 @@ pub fn a_book_is_kept()
 /// A driver that publishes under free CIDs never waits for two entries with one CID, whatever others add. Then no entry
 /// that isn't fetched yet has a CID in use.
 pub fn cids_stay_apart()
-    ensures empty { (c : ConfigNumbers) (past : Past) (q : ℕ) → published past q ≡ [] → IsAlwaysApart c past q }
+    ensures empty { (c : ConfigNumbers) (past : Past) (q : ℕ) → published_entries past q ≡ [] → IsAlwaysApart c past q }
     ensures book { (c : ConfigNumbers) (past : Past) (n : ℕ) (book : Book) (q : ℕ) → IsBook c past n book →
         completion_queue c q ≡ n → IsApart c past q }
     ensures more { (c : ConfigNumbers) (e : Entry) (past : Past) (q : ℕ) → IsAlwaysApart c past q →
@@ -105,5 +108,6 @@ pub fn cids_stay_apart()
     ensures beside { (c : ConfigNumbers) (later past : Past) (n q : ℕ) → IsBeside c n later → completion_queue c q ≡ n →
         IsAlwaysApart c past q → IsAlwaysApart c (later ++ past) q }
     ensures free { (c : ConfigNumbers) (past : Past) (q j : ℕ) (s : Submission) → IsLegal c past → IsApart c past q →
-        fetched past q ≤ j → slice_get (published past q) j ≡ Some s → is_in (cid_of s) (cids_in_use past q) ≡ false }
+        fetched_count past q ≤ j → slice_get (published_entries past q) j ≡ Some s →
+        is_in (cid_of s) (cids_in_use past q) ≡ false }
 {}

@@ -8,7 +8,7 @@ use Rattle.nvme_model.specs.History.{Past}
 use Rattle.nvme_model.specs.Operations.{op}
 use Rattle.nvme_model.specs.Open.{open_units, blocks_made}
 use Rattle.nvme_model.specs.Tickets.{posts_of}
-use Rattle.nvme_model.specs.Completions.{posted, reaped}
+use Rattle.nvme_model.specs.Completions.{posted_completions, reaped_count}
 use Rattle.nvme_model.specs.Value.{value}
 use Rattle.nvme_model.specs.Medium.{medium}
 use Rattle.nvme_model.specs.Owed.{owed}
@@ -68,7 +68,7 @@ step_kept c past (Step.Post t) h n = by_status (slice_get (owed c past t) (posts
     by_status : (o : Option Status) → may_follow c past (post_entry c past t o) ≡ true → Kept c (post_entry c past t o ∷ past)
     by_status None f = plain_kept c past (post_entry c past t None) (λ m. m) (λ w. w) h f
     by_status (Some s) f = plain_kept c past (post_entry c past t (Some s)) (λ m. m) (λ w. w) h f
-step_kept c past (Step.Reap q) h n = by_post (slice_get (posted c past q) (reaped past q)) (reap_follows c past q h.legal n)
+step_kept c past (Step.Reap q) h n = by_post (slice_get (posted_completions c past q) (reaped_count past q)) (reap_follows c past q h.legal n)
   where
     by_post : (o : Option PostLine) → may_follow c past (reap_entry q o) ≡ true → Kept c (reap_entry q o ∷ past)
     by_post None f = plain_kept c past (reap_entry q None) (λ m. m) (λ w. w) h f

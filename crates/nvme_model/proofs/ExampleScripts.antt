@@ -2,7 +2,7 @@
 use Rattle.std.specs.Prelude.{ℕ, List, [], ◌∷◌, replicate, drop, map}
 use Rattle.nvme_model.specs.declared.config.ConfigNumbers.{ConfigNumbers}
 use Rattle.nvme_model.specs.History.{Past}
-use Rattle.nvme_model.specs.Completions.{posted}
+use Rattle.nvme_model.specs.Completions.{posted_completions}
 use Rattle.nvme_model.specs.Steps.{run, settle}
 use Rattle.nvme_model.specs.Examples.{submit, one}
 use Rattle.nvme_model.specs.declared.submission.Submission.{Submission}
@@ -10,7 +10,7 @@ use Rattle.nvme_model.specs.declared.step.Step.{Step}
 
 -- bytes 8 to 15 of what was posted to a completion queue
 abbrev pub posted_ends : ConfigNumbers → Past → ℕ → List (List ℕ)
-posted_ends c past q = map (λ p. drop 8 p.cqe) (posted c past q)
+posted_ends c past q = map (λ p. drop 8 p.cqe) (posted_completions c past q)
 
 -- n Fetches of queue 1
 abbrev pub fetches : ℕ → List Step

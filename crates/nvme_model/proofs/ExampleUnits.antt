@@ -2,7 +2,7 @@
 use Rattle.std.specs.Prelude.{◌≡◌, refl, ℕ, true, Some, [], ◌∷◌, ◌++◌, replicate, map}
 use Rattle.nvme_model.specs.declared.config.ConfigNumbers.{ConfigNumbers}
 use Rattle.nvme_model.specs.History.{Past}
-use Rattle.nvme_model.specs.Completions.{posted}
+use Rattle.nvme_model.specs.Completions.{posted_completions}
 use Rattle.nvme_model.specs.Open.{granted}
 use Rattle.nvme_model.specs.Value.{value}
 use Rattle.nvme_model.specs.Medium.{medium}
@@ -20,7 +20,7 @@ between_units_end =
     run default [] (Step.Publish 1 (submit 1 0 1 0 3 (replicate 2048 0xa1) ∷ []) ∷ Step.Publish 2 (submit 2 0 2 0 3 [] ∷ []) ∷ Step.Fetch 1 ∷ Step.Fetch 2
     ∷ Step.Grant 1 ∷ Step.Block 1 ∷ Step.Block 1 ∷ Step.Grant 2 ∷ Step.Block 2 ∷ Step.Block 2 ∷ Step.Grant 2 ∷ Step.Block 2 ∷ Step.Block 2 ∷ Step.Post 2 ∷ [])
 
-pub between_units_read : map (λ p. p.payload) (posted default between_units_end 2) ≡ (replicate 1024 0xa1 ++ replicate 1024 0) ∷ []
+pub between_units_read : map (λ p. p.payload) (posted_completions default between_units_end 2) ≡ (replicate 1024 0xa1 ++ replicate 1024 0) ∷ []
 between_units_read = refl
 
 pub between_units_legal : legal default between_units_end ≡ true

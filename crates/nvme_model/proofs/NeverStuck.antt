@@ -10,7 +10,7 @@ use Rattle.nvme_model.specs.History.{Past}
 use Rattle.nvme_model.specs.Tickets
 use Rattle.nvme_model.specs.Tickets.{Ticket, numbers, posts_of, in_flight, first_fields}
 use Rattle.nvme_model.specs.Operations.{op, units, mode}
-use Rattle.nvme_model.specs.Completions.{posted, reaped}
+use Rattle.nvme_model.specs.Completions.{posted_completions, reaped_count}
 use Rattle.nvme_model.specs.Open.{granted, grants_of, has_ended, open_units, differed}
 use Rattle.nvme_model.specs.Owed.{numbered, all_ended}
 use Rattle.nvme_model.specs.Refusals.{has_open, next_unit, none_left, conflicts_open, is_flush_ticket, owes_nothing_yet, refusal}
@@ -210,7 +210,7 @@ never_stuck c past t h r i =
     let k = Tickets.ticket past t in
     let owed = owes (passed k.verdict) (not (is_flush_ticket (op k))) (all_ended c past t) (differed past t) done in
     let q = completion_queue c k.queue in
-    (owed, eqb-true (length (posted c past q) - reaped past q) (c.cq_size - 1) (third_of_three (not (in_flight past t)) (owes_nothing_yet c past t) (eqb (length (posted c past q) - reaped past q) (c.cq_size - 1)) Why.NoTicket Why.WrongState Why.CqFull n.2 (ap not i) owed))
+    (owed, eqb-true (length (posted_completions c past q) - reaped_count past q) (c.cq_size - 1) (third_of_three (not (in_flight past t)) (owes_nothing_yet c past t) (eqb (length (posted_completions c past q) - reaped_count past q) (c.cq_size - 1)) Why.NoTicket Why.WrongState Why.CqFull n.2 (ap not i) owed))
   where
     by_left : open_units past ≡ [] → (none_left c past t ≡ true) ⊎ (has_open past t ≡ true) → has_open past t ≡ false → (all_ended c past t || differed past t) ≡ true
     by_left none (inr o) closed = clash (has_open past t) o closed

@@ -4,10 +4,10 @@ use Rattle.nvme_model.specs.Config.{completion_queue}
 use Rattle.nvme_model.specs.declared.config.ConfigNumbers.{ConfigNumbers}
 use Rattle.nvme_model.specs.EntryBytes.{cqe_bytes}
 use Rattle.nvme_model.specs.History.{Past}
-use Rattle.nvme_model.specs.Queues.{fetched}
+use Rattle.nvme_model.specs.Queues.{fetched_count}
 use Rattle.nvme_model.specs.Tickets
 use Rattle.nvme_model.specs.Tickets.{Ticket, cids, posts_of, tickets}
-use Rattle.nvme_model.specs.Completions.{posted, phase}
+use Rattle.nvme_model.specs.Completions.{posted_completions, phase}
 use Rattle.nvme_model.specs.Legal.{IsLegal}
 use Rattle.nvme_model.specs.Laws.{IsNumber}
 use Rattle.nvme_model.specs.declared.entry.FetchLine.{FetchLine}
@@ -39,17 +39,17 @@ record IsNumbered (c : ConfigNumbers) (past : Past) (q k : ℕ) (p : PostLine) :
 
 -- the Post at the end
 last_number : (c : ConfigNumbers) (past : Past) (p : PostLine) (q : ℕ) → IsLegal c (Entry.Post p ∷ past) → completion_queue c (Tickets.ticket past p.ticket).queue ≡ q
-    → IsNumbered c (Entry.Post p ∷ past) q (length (posted c past q)) p
+    → IsNumbered c (Entry.Post p ∷ past) q (length (posted_completions c past q)) p
 last_number c past p q h e =
     let m = posted_by_machine c past p h in
     let k = Tickets.ticket past p.ticket in
     let f = follows c past (Entry.Post p) h in
     record {
       number = (
-        fetched past k.queue % c.sq_size,
+        fetched_count past k.queue % c.sq_size,
         get_or (cids k) (posts_of past p.ticket) 0,
         m.0,
-        m.2 ∙ ap (λ (i : ℕ). cqe_bytes (fetched past k.queue % c.sq_size) k.queue (get_or (cids k) (posts_of past p.ticket) 0) (phase (length (posted c past i)) c.cq_size) m.0) e,
+        m.2 ∙ ap (λ (i : ℕ). cqe_bytes (fetched_count past k.queue % c.sq_size) k.queue (get_or (cids k) (posts_of past p.ticket) 0) (phase (length (posted_completions c past i)) c.cq_size) m.0) e,
         e,
       );
       known = fetched_if c past p.ticket f.before (not_flying _ f.allowed.0);
@@ -64,7 +64,7 @@ fetched_later c past f q k p h n =
       known = omega (arith, n.known);
     }
 
-numbered : (c : ConfigNumbers) (past : Past) (q k : ℕ) (p : PostLine) → IsLegal c past → slice_get (posted c past q) k ≡ Some p → IsNumbered c past q k p
+numbered : (c : ConfigNumbers) (past : Past) (q k : ℕ) (p : PostLine) → IsLegal c past → slice_get (posted_completions c past q) k ≡ Some p → IsNumbered c past q k p
 numbered c [] q k p h e = absurd (let f : None ≡ Some p = e in cc)
 numbered c (Entry.Publish x ∷ past) q k p h e = let n = numbered c past q k p (follows c past (Entry.Publish x) h).before e in record { number = n.number; known = n.known }
 numbered c (Entry.Fetch f ∷ past) q k p h e = fetched_later c past f q k p h (numbered c past q k p (follows c past (Entry.Fetch f) h).before e)
@@ -77,22 +77,22 @@ numbered c (Entry.Post y ∷ past) q k p h e =
     after : IsNumbered c past q k p → IsNumbered c (Entry.Post y ∷ past) q k p
     after n = record { number = n.number; known = n.known }
 
-    last : (k ≡ length (posted c past q)) × (y ≡ p) → completion_queue c (Tickets.ticket past y.ticket).queue ≡ q → IsNumbered c (Entry.Post y ∷ past) q k p
+    last : (k ≡ length (posted_completions c past q)) × (y ≡ p) → completion_queue c (Tickets.ticket past y.ticket).queue ≡ q → IsNumbered c (Entry.Post y ∷ past) q k p
     last f z = subst (λ (x : PostLine). IsNumbered c (Entry.Post y ∷ past) q k x) f.1 (subst (λ (i : ℕ). IsNumbered c (Entry.Post y ∷ past) q i y) (sym f.0) (last_number c past y q h z))
 
-    go : (b : Bool) → eqb (completion_queue c (Tickets.ticket past y.ticket).queue) q ≡ b → (slice_get (posted c past q) k ≡ Some p → IsNumbered c past q k p)
-        → slice_get (posted c past q ++ cond b (y ∷ []) []) k ≡ Some p → IsNumbered c (Entry.Post y ∷ past) q k p
-    go true z ih e = elim (get_snoc (posted c past q) y k p e) [
+    go : (b : Bool) → eqb (completion_queue c (Tickets.ticket past y.ticket).queue) q ≡ b → (slice_get (posted_completions c past q) k ≡ Some p → IsNumbered c past q k p)
+        → slice_get (posted_completions c past q ++ cond b (y ∷ []) []) k ≡ Some p → IsNumbered c (Entry.Post y ∷ past) q k p
+    go true z ih e = elim (get_snoc (posted_completions c past q) y k p e) [
       | inl f ↦ after (ih f)
       | inr f ↦ last f (eqb-true _ q z)
     ]
-    go false z ih e = after (ih (ap (λ (xs : List PostLine). slice_get xs k) (sym (append_nil (posted c past q))) ∙ e))
+    go false z ih e = after (ih (ap (λ (xs : List PostLine). slice_get xs k) (sym (append_nil (posted_completions c past q))) ∙ e))
       where
         append_nil : (xs : List PostLine) → xs ++ [] ≡ xs
         append_nil [] = refl
         append_nil (x ∷ xs) = ap (λ (ys : List PostLine). x ∷ ys) (append_nil xs)
 
-pub posts_are_numbered : (c : ConfigNumbers) (past : Past) (q k : ℕ) (p : PostLine) → IsLegal c past → slice_get (posted c past q) k ≡ Some p
+pub posts_are_numbered : (c : ConfigNumbers) (past : Past) (q k : ℕ) (p : PostLine) → IsLegal c past → slice_get (posted_completions c past q) k ≡ Some p
     → IsNumber c (Tickets.ticket past p.ticket).queue q k p
 posts_are_numbered c past q k p h e = (numbered c past q k p h e).number
 

@@ -10,7 +10,7 @@ use Rattle.nvme_model.specs.History.{Past}
 use Rattle.nvme_model.specs.Tickets
 use Rattle.nvme_model.specs.Tickets.{Ticket, posts_of}
 use Rattle.nvme_model.specs.Operations.{op, units, has_compare}
-use Rattle.nvme_model.specs.Completions.{posted, reaped}
+use Rattle.nvme_model.specs.Completions.{posted_completions, reaped_count}
 use Rattle.nvme_model.specs.Open.{unit_range, grants_of}
 use Rattle.nvme_model.specs.Value.{value, all_equal}
 use Rattle.nvme_model.specs.Placed.{effect}
@@ -223,8 +223,8 @@ posted_by_machine c past p h =
         (s, same_status c past p.ticket (posts_of past p.ticket) s b e, same_bytes _ _ a.0, same_bytes _ _ a.1 ∙ sym (data_same c past p.ticket s b))
 
 pub reaped_is_posted : (c : ConfigNumbers) (past : Past) (r : ReapLine) → IsLegal c (Entry.Reap r ∷ past) → IsReaped c past r
-reaped_is_posted c past r h = go (slice_get (posted c past r.queue) (reaped past r.queue)) refl (follows c past (Entry.Reap r) h).fits
+reaped_is_posted c past r h = go (slice_get (posted_completions c past r.queue) (reaped_count past r.queue)) refl (follows c past (Entry.Reap r) h).fits
   where
-    go : (o : Option PostLine) → slice_get (posted c past r.queue) (reaped past r.queue) ≡ o → is_cqe o r.cqe ≡ true → IsReaped c past r
+    go : (o : Option PostLine) → slice_get (posted_completions c past r.queue) (reaped_count past r.queue) ≡ o → is_cqe o r.cqe ≡ true → IsReaped c past r
     go None e f = clash false f refl
     go (Some p) e f = (p, e, sym (same_bytes _ _ f))

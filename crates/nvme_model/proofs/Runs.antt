@@ -10,7 +10,7 @@ use Rattle.nvme_model.specs.Tickets
 use Rattle.nvme_model.specs.History.{Past, step_of}
 use Rattle.nvme_model.specs.Open.{grants_of}
 use Rattle.nvme_model.specs.Operations.{units, mode, is_exclusive}
-use Rattle.nvme_model.specs.Completions.{posted, reaped}
+use Rattle.nvme_model.specs.Completions.{posted_completions, reaped_count}
 use Rattle.nvme_model.specs.Tickets.{tickets, next_verdict}
 use Rattle.nvme_model.specs.Refusals.{refusal, conditions, next_unit}
 use Rattle.nvme_model.specs.Legal.{IsLegal, may_follow, fits, is_range, is_cqe}
@@ -89,11 +89,11 @@ grant_follows c past t n =
     subst (λ (o : Option Range). may_follow c past (grant_entry past t o) ≡ true) (sym unit.1) (grant_by c past t unit.0 unit.1 n)
 
 -- a completion is reaped once it was posted
-pub reaped_posted : (c : ConfigNumbers) (past : Past) (q : ℕ) → IsLegal c past → reaped past q ≤ length (posted c past q)
+pub reaped_posted : (c : ConfigNumbers) (past : Past) (q : ℕ) → IsLegal c past → reaped_count past q ≤ length (posted_completions c past q)
 reaped_posted c [] q h = omega arith
 reaped_posted c (Entry.Post p ∷ past) q h =
     let l = reaped_posted c past q (follows c past (Entry.Post p) h).before in
-    omega (arith, l, length-append (posted c past q) (cond (eqb (completion_queue c (Tickets.ticket past p.ticket).queue) q) (p ∷ []) []))
+    omega (arith, l, length-append (posted_completions c past q) (cond (eqb (completion_queue c (Tickets.ticket past p.ticket).queue) q) (p ∷ []) []))
 reaped_posted c (Entry.Reap r ∷ past) q h =
     let f = follows c past (Entry.Reap r) h in
     one_reap (eqb r.queue q) refl f.fits (reaped_posted c past q f.before)
@@ -102,24 +102,24 @@ reaped_posted c (Entry.Reap r ∷ past) q h =
     is_some None e = sym e
     is_some (Some p) e = refl
 
-    one_reap : (b : Bool) → eqb r.queue q ≡ b → is_cqe (slice_get (posted c past r.queue) (reaped past r.queue)) r.cqe ≡ true → reaped past q ≤ length (posted c past q)
-        → reaped past q + cond b 1 0 ≤ length (posted c past q)
+    one_reap : (b : Bool) → eqb r.queue q ≡ b → is_cqe (slice_get (posted_completions c past r.queue) (reaped_count past r.queue)) r.cqe ≡ true → reaped_count past q ≤ length (posted_completions c past q)
+        → reaped_count past q + cond b 1 0 ≤ length (posted_completions c past q)
     one_reap true e f l =
-        let below = below_if (posted c past r.queue) (reaped past r.queue) _ refl (is_some _ f) in
-        omega (arith, subst (λ (i : ℕ). reaped past i < length (posted c past i)) (eqb-true r.queue q e) below)
+        let below = below_if (posted_completions c past r.queue) (reaped_count past r.queue) _ refl (is_some _ f) in
+        omega (arith, subst (λ (i : ℕ). reaped_count past i < length (posted_completions c past i)) (eqb-true r.queue q e) below)
     one_reap false e f l = omega (arith, l)
 reaped_posted c (e ∷ past) q h = reaped_posted c past q (follows c past e h).before
 
 pub reap_follows : (c : ConfigNumbers) (past : Past) (q : ℕ) → IsLegal c past → is_none (refusal c past (Step.Reap q)) ≡ true → may_follow c past (next_entry c past (Step.Reap q)) ≡ true
 reap_follows c past q h n =
     let none = none_holds (conditions c past (Step.Reap q)) n in
-    let differ = eqb-false (length (posted c past q)) (reaped past q) none.1.0 in
-    let post = some_at (posted c past q) (reaped past q) (below (reaped_posted c past q h) differ) in
+    let differ = eqb-false (length (posted_completions c past q)) (reaped_count past q) none.1.0 in
+    let post = some_at (posted_completions c past q) (reaped_count past q) (below (reaped_posted c past q h) differ) in
     subst (λ (o : Option PostLine). may_follow c past (reap_entry q o) ≡ true) (sym post.1)
     (follows_if c past (reap_entry q (Some post.0)) n (ap (λ (o : Option PostLine). is_cqe o post.0.cqe) post.1 ∙ bytes_same post.0.cqe))
   where
-    below : reaped past q ≤ length (posted c past q) → (length (posted c past q) ≡ reaped past q → ⊥) → reaped past q < length (posted c past q)
-    below l d = elim (cases_lt (reaped past q) (length (posted c past q))) [
+    below : reaped_count past q ≤ length (posted_completions c past q) → (length (posted_completions c past q) ≡ reaped_count past q → ⊥) → reaped_count past q < length (posted_completions c past q)
+    below l d = elim (cases_lt (reaped_count past q) (length (posted_completions c past q))) [
       | inl k ↦ k
       | inr k ↦ absurd (d (omega (arith, k, l)))
     ]

@@ -9,7 +9,7 @@ use Rattle.nvme_model.specs.Open.{open_units, blocks_made, conflict, unit_range}
 use Rattle.nvme_model.specs.Array.{has_block}
 use Rattle.nvme_model.specs.Config.{completion_queue}
 use Rattle.nvme_model.specs.declared.config.ConfigNumbers.{ConfigNumbers}
-use Rattle.nvme_model.specs.Completions.{posted, reaped, phase}
+use Rattle.nvme_model.specs.Completions.{posted_completions, reaped_count, phase}
 use Rattle.nvme_model.specs.Refusals.{owes_nothing_yet}
 use Rattle.nvme_model.specs.Steps.{marked}
 use Rattle.nvme_model.specs.declared.status.Status.{Status}
@@ -39,7 +39,7 @@ MarkedRight (_ ∷ past) = MarkedRight past
 abbrev pub OwesToFull : ConfigNumbers → Past → ℕ → Type 0
 OwesToFull c past t =
     let q = completion_queue c (ticket past t).queue in
-    (owes_nothing_yet c past t ≡ false) × (length (posted c past q) - reaped past q ≡ c.cq_size - 1)
+    (owes_nothing_yet c past t ≡ false) × (length (posted_completions c past q) - reaped_count past q ≡ c.cq_size - 1)
 
 -- p, for submission queue sqid, can be completion number k, from 0, of completion queue q: sqid uses q, the bytes name
 -- sqid, and the phase is that of the number

@@ -4,7 +4,7 @@ use Rattle.std.specs.List.{find}
 use Rattle.std.specs.Prelude.{Bool, IsTrue, List, None, Option, Some, [], bytes_eq, false, is_none, length, not}
 use Rattle.std.specs.Prelude.{reverse, slice_get, true, ℕ, ◌%◌, ◌&&◌, ◌+◌, ◌==◌, ◌||◌, ◌∷◌}
 use Rattle.nvme_model.specs.Answered.{may_find, right_answers}
-use Rattle.nvme_model.specs.Completions.{completion, posted, reaped}
+use Rattle.nvme_model.specs.Completions.{completion, posted_completions, reaped_count}
 use Rattle.nvme_model.specs.declared.config.ConfigNumbers.{ConfigNumbers}
 use Rattle.nvme_model.specs.History.{Past, step_of}
 use Rattle.nvme_model.specs.Open.{blocks_made, grants_of, open_units}
@@ -60,7 +60,7 @@ fits c past (Entry.Grant g) =
     && beq (is_exclusive g.mode) (is_exclusive (mode (ticket past g.ticket)))
 fits c past (Entry.Block b) = block_fits past b (find (λ g. g.ticket == b.ticket) (open_units past))
 fits c past (Entry.Post p) = post_fits c past p (slice_get (owed c past p.ticket) (posts_of past p.ticket))
-fits c past (Entry.Reap r) = is_cqe (slice_get (posted c past r.queue) (reaped past r.queue)) r.cqe
+fits c past (Entry.Reap r) = is_cqe (slice_get (posted_completions c past r.queue) (reaped_count past r.queue)) r.cqe
 
 -- the step isn't refused, and the entry says what it does
 abbrev pub may_follow : ConfigNumbers → Past → Entry → Bool

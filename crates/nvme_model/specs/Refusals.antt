@@ -2,14 +2,14 @@
 use Rattle.std.specs.List.{count_by, list_any}
 use Rattle.std.specs.Prelude.{Bool, List, None, Option, Some, [], false, length, nat_le, nat_lt, not, slice_get, true}
 use Rattle.std.specs.Prelude.{ℕ, ◌&&◌, ◌+◌, ◌-◌, ◌==◌, ◌||◌, ◌∷◌}
-use Rattle.nvme_model.specs.Completions.{posted, reaped}
+use Rattle.nvme_model.specs.Completions.{posted_completions, reaped_count}
 use Rattle.nvme_model.specs.Config.{completion_queue}
 use Rattle.nvme_model.specs.declared.config.ConfigNumbers.{ConfigNumbers}
 use Rattle.nvme_model.specs.History.{Past}
 use Rattle.nvme_model.specs.Open.{conflict, differed, grants_of, open_units}
 use Rattle.nvme_model.specs.Operations.{mode, op, units}
 use Rattle.nvme_model.specs.Owed.{all_ended}
-use Rattle.nvme_model.specs.Queues.{fetched, published}
+use Rattle.nvme_model.specs.Queues.{fetched_count, published_entries}
 use Rattle.nvme_model.specs.Tables.{first_row}
 use Rattle.nvme_model.specs.Tickets.{in_flight, numbers, ticket, tickets}
 use Rattle.nvme_model.specs.Verdict.{passed}
@@ -65,11 +65,11 @@ abbrev pub conditions : ConfigNumbers → Past → Step → List (Bool × Why)
 conditions c past (Step.Publish q batch) =
     (no_queue c q, Why.NoQueue)
     ∷ (length batch == 0, Why.BadBatch)
-    ∷ (nat_lt (c.sq_size - 1) (length (published past q) - fetched past q + length batch), Why.NoRoom)
+    ∷ (nat_lt (c.sq_size - 1) (length (published_entries past q) - fetched_count past q + length batch), Why.NoRoom)
     ∷ []
 conditions c past (Step.Fetch q) =
     (no_queue c q, Why.NoQueue)
-    ∷ (length (published past q) == fetched past q, Why.NoEntry)
+    ∷ (length (published_entries past q) == fetched_count past q, Why.NoEntry)
     ∷ (jobs_full c past, Why.JobsFull)
     ∷ []
 conditions c past (Step.Grant t) =
@@ -86,13 +86,13 @@ conditions c past (Step.Post t) =
     ∷ (owes_nothing_yet c past t, Why.WrongState)
     ∷ (
       let q = completion_queue c (ticket past t).queue in
-          (length (posted c past q) - reaped past q == c.cq_size - 1),
+          (length (posted_completions c past q) - reaped_count past q == c.cq_size - 1),
       Why.CqFull,
     )
     ∷ []
 conditions c past (Step.Reap q) =
     (no_completion_queue c q, Why.NoQueue)
-    ∷ (length (posted c past q) == reaped past q, Why.NoCompletion)
+    ∷ (length (posted_completions c past q) == reaped_count past q, Why.NoCompletion)
     ∷ []
 
 -- what refuses the step, memory aside

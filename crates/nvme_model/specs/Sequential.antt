@@ -8,7 +8,7 @@ use Rattle.nvme_model.specs.Statuses.{success, compare_failure, failed_fused, is
 use Rattle.nvme_model.specs.History.{Past}
 use Rattle.nvme_model.specs.Tickets.{Ticket, ticket, posts_of}
 use Rattle.nvme_model.specs.Operations.{op, compare_data, write_data}
-use Rattle.nvme_model.specs.Completions.{completion, posted, reaped}
+use Rattle.nvme_model.specs.Completions.{completion, posted_completions, reaped_count}
 use Rattle.nvme_model.specs.Open.{unit_range}
 use Rattle.nvme_model.specs.Value.{all_equal, value}
 use Rattle.nvme_model.specs.Owed.{units_of}
@@ -188,4 +188,5 @@ IsPosted c past p =
 -- This Reap gives the bytes of the Post of the same number on its queue.
 abbrev pub IsReaped : ConfigNumbers → Past → ReapLine → Type 0
 IsReaped c past r =
-    (p : PostLine) × (slice_get (posted c past r.queue) (reaped past r.queue) ≡ Some p) × (r.cqe ≡ p.cqe)
+    (p : PostLine)
+    × (slice_get (posted_completions c past r.queue) (reaped_count past r.queue) ≡ Some p) × (r.cqe ≡ p.cqe)

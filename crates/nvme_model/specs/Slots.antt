@@ -9,8 +9,8 @@ use Rattle.nvme_model.specs.Commands.{is_write, is_compare, is_write_zeroes}
 use Rattle.nvme_model.specs.History.{Past}
 use Rattle.nvme_model.specs.Array.{has_block, overlap, zeros}
 use Rattle.nvme_model.specs.Tickets.{ticket, posts_of}
-use Rattle.nvme_model.specs.Queues.{fetched, published}
-use Rattle.nvme_model.specs.Completions.{reaped}
+use Rattle.nvme_model.specs.Queues.{fetched_count, published_entries}
+use Rattle.nvme_model.specs.Completions.{reaped_count}
 use Rattle.nvme_model.specs.Value.{value}
 use Rattle.nvme_model.specs.declared.array.Range.{Range}
 use Rattle.nvme_model.specs.declared.submission.Submission.{Submission}
@@ -85,13 +85,13 @@ swaps_in q j (a ∷ b ∷ rest) = swap_of q j a b ++ swaps_in q (suc j) (b ∷ r
 -- all that were published, the newest Publish first
 abbrev pub swaps : Past → List Swap
 swaps [] = []
-swaps (Entry.Publish p ∷ past) = swaps_in p.queue (length (published past p.queue)) p.batch ++ swaps past
+swaps (Entry.Publish p ∷ past) = swaps_in p.queue (length (published_entries past p.queue)) p.batch ++ swaps past
 swaps (_ ∷ past) = swaps past
 
 -- how many entries were fetched from its queue before ticket t
 abbrev pub fetched_before : Past → ℕ → ℕ
 fetched_before [] t = 0
-fetched_before (Entry.Fetch f ∷ past) t = if f.ticket == t then fetched past f.queue else fetched_before past t
+fetched_before (Entry.Fetch f ∷ past) t = if f.ticket == t then fetched_count past f.queue else fetched_before past t
 fetched_before (_ ∷ past) t = fetched_before past t
 
 -- the number of the entry, on its queue, that the next completion of ticket t is for
@@ -129,7 +129,8 @@ is_success_of q j (Some r) = (r.queue == q) && (r.number == j) && says_success r
 abbrev pub reaped_success : ConfigNumbers → Past → ℕ → ℕ → Bool
 reaped_success c [] q j = false
 reaped_success c (Entry.Reap r ∷ past) q j =
-    is_success_of q j (slice_get (entry_completions c past r.queue) (reaped past r.queue)) || reaped_success c past q j
+    is_success_of q j (slice_get (entry_completions c past r.queue) (reaped_count past r.queue))
+    || reaped_success c past q j
 reaped_success c (_ ∷ past) q j = reaped_success c past q j
 
 -- this name is released, of the slot at block l
@@ -185,7 +186,7 @@ released_right c past earlier (s ∷ later) =
 -- write, each claim has a name of its own, and each release is of a believed name.
 abbrev pub keeps_discipline : ConfigNumbers → Range → Past → PublishLine → Bool
 keeps_discipline c slots past p =
-    let j = length (published past p.queue) in
+    let j = length (published_entries past p.queue) in
     let of = in_area slots (swaps_in p.queue j p.batch) in
     only_swaps slots p.queue j p.batch of && fresh_names of (in_area slots (swaps past)) && released_right c past [] of
 

@@ -7,7 +7,7 @@ use Rattle.nvme_model.specs.History.{Past}
 use Rattle.nvme_model.specs.Tickets.{Ticket, ticket, tickets, numbers, next_verdict, posts_of}
 use Rattle.nvme_model.specs.Operations.{op, mode, compare_data}
 use Rattle.nvme_model.specs.Open.{grants_of, blocks_made, open_units, is_differs}
-use Rattle.nvme_model.specs.Completions.{posted, reaped, completion}
+use Rattle.nvme_model.specs.Completions.{posted_completions, reaped_count, completion}
 use Rattle.nvme_model.specs.Medium.{medium}
 use Rattle.nvme_model.specs.Owed.{owed, completion_data}
 use Rattle.nvme_model.specs.Refusals.{refusal, next_unit}
@@ -79,7 +79,7 @@ next_entry c past (Step.Fetch q) =
 next_entry c past (Step.Grant t) = grant_entry past t (next_unit c past t)
 next_entry c past (Step.Block t) = block_entry past t (find (λ g. g.ticket == t) (open_units past))
 next_entry c past (Step.Post t) = post_entry c past t (slice_get (owed c past t) (posts_of past t))
-next_entry c past (Step.Reap q) = reap_entry q (slice_get (posted c past q) (reaped past q))
+next_entry c past (Step.Reap q) = reap_entry q (slice_get (posted_completions c past q) (reaped_count past q))
 
 -- the history after a step that was accepted or refused so
 abbrev pub after_by : ConfigNumbers → Past → Step → Option Why → Past

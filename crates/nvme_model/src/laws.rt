@@ -15,7 +15,7 @@ ghost use Rattle.nvme_model.specs.Open.{open_units, unit_range, grants_of, block
 ghost use Rattle.nvme_model.specs.Open.{is_written};
 ghost use Rattle.nvme_model.specs.Value.{value, all_equal};
 ghost use Rattle.nvme_model.specs.Medium.{medium};
-ghost use Rattle.nvme_model.specs.Completions.{posted};
+ghost use Rattle.nvme_model.specs.Completions.{posted_completions};
 ghost use Rattle.nvme_model.specs.Placed.{effect, effects_of};
 ghost use Rattle.nvme_model.specs.Answered.{says_no};
 ghost use Rattle.nvme_model.specs.Refusals.{refusal};
@@ -125,7 +125,7 @@ pub fn a_ticket_has_few_steps()
 /// they are for; each names its own ticket's submission queue, which uses that completion queue.
 pub fn completions_are_numbered()
     ensures { (c : ConfigNumbers) (past : Past) (q k : ℕ) (p : PostLine) →
-        IsLegal c past → slice_get (posted c past q) k ≡ Some p →
+        IsLegal c past → slice_get (posted_completions c past q) k ≡ Some p →
         IsNumber c (ticket past p.ticket).queue q k p }
 {}
 

@@ -14,7 +14,7 @@ use Rattle.checker_tables.proofs.Judging.{answers_right, earlier_right, get_drop
 use Rattle.checker_tables.proofs.Owing.{owed_is}
 use Rattle.checker_tables.proofs.Placing.{effect_placed, may_is}
 use Rattle.nvme_model.specs.Answered.{right_answers}
-use Rattle.nvme_model.specs.Completions.{completion, phase, posted, reaped}
+use Rattle.nvme_model.specs.Completions.{completion, phase, posted_completions, reaped_count}
 use Rattle.nvme_model.specs.Config.{completion_queue}
 use Rattle.nvme_model.specs.History.{Past, step_of}
 use Rattle.nvme_model.specs.Legal.{IsLegal}
@@ -74,7 +74,7 @@ wrong_is c past (Entry.Block b) h = block_is c past b h (find (λ g. eqb g.ticke
 wrong_is c past (Entry.Post p) h =
     ap (λ (ss : List Status). post_wrong c past p (slice_get ss (posts_of past p.ticket))) (owed_is c past p.ticket h)
     ∙ post_is c past p (slice_get (owed_by c (flight past p.ticket)) (posts_of past p.ticket)) h
-wrong_is c past (Entry.Reap r) h = ap (λ o. reap_broken r (option_map (λ (p : PostLine). p.cqe) o)) (get_drop (reaped past r.queue) (posted c past r.queue))
+wrong_is c past (Entry.Reap r) h = ap (λ o. reap_broken r (option_map (λ (p : PostLine). p.cqe) o)) (get_drop (reaped_count past r.queue) (posted_completions c past r.queue))
 
 pub broken_is : (c : ConfigNumbers) (past : Past) (e : Entry) → IsLegal c past → first_broken c past e ≡ broken_by c (tables c past) e
 broken_is c past e h =

@@ -9,14 +9,14 @@ use Rattle.script_lines.specs.declared.line.ScriptLine.{ScriptLine}
 use Rattle.script_lines.specs.Batches.{batch_in}
 
 -- a Publish of these parts, where both are there
-abbrev pub published : Option ℕ → Option (List Submission) → Option ScriptLine
-published (Some queue) (Some items) = Some (ScriptLine.Step (Step.Publish queue items))
-published _ _ = None
+abbrev pub publish_from : Option ℕ → Option (List Submission) → Option ScriptLine
+publish_from (Some queue) (Some items) = Some (ScriptLine.Step (Step.Publish queue items))
+publish_from _ _ = None
 
 -- the Publish that the words behind `publish` spell
 unfoldable pub publish_in : List (List ℕ) → Option ScriptLine
 publish_in [] = None
-publish_in (queue ∷ items) = published (number_in 16 queue) (batch_in items)
+publish_in (queue ∷ items) = publish_from (number_in 16 queue) (batch_in items)
 
 -- the step with this number, where it is there
 abbrev pub step_with : (ℕ → Step) → Option ℕ → Option ScriptLine

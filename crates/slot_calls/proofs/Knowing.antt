@@ -7,7 +7,7 @@ use Rattle.nvme_model.specs.EntryBytes.{cqe_fields}
 use Rattle.nvme_model.specs.History.{Past}
 use Rattle.nvme_model.specs.Legal.{IsLegal}
 use Rattle.nvme_model.specs.Passes.{SharedPast, entries}
-use Rattle.nvme_model.specs.Queues.{published}
+use Rattle.nvme_model.specs.Queues.{published_entries}
 use Rattle.nvme_model.specs.Slots.{Swap, swaps, swaps_in}
 use Rattle.nvme_model.specs.Statuses.{is_success}
 use Rattle.nvme_model.specs.declared.config.ConfigNumbers.{ConfigNumbers}
@@ -60,7 +60,7 @@ knows_beside c past n e log h k =
 
 -- ---- what the port publishes
 
-knows_sent : (c : ConfigNumbers) (past : Past) (n : ℕ) (p : PublishLine) (log : List PortEvent) → completion_queue c p.queue ≡ n → published past p.queue ≡ sent log p.queue → Knows c past n log
+knows_sent : (c : ConfigNumbers) (past : Past) (n : ℕ) (p : PublishLine) (log : List PortEvent) → completion_queue c p.queue ≡ n → published_entries past p.queue ≡ sent log p.queue → Knows c past n log
     → Knows c (Entry.Publish p ∷ past) n (PortEvent.Sent p.queue p.batch ∷ log)
 knows_sent c past n p log e same k =
     record {
@@ -84,7 +84,7 @@ knows_sent c past n p log e same k =
     of = swaps_in p.queue (length (sent log p.queue)) p.batch
 
     new : List Swap
-    new = swaps_in p.queue (length (published past p.queue)) p.batch
+    new = swaps_in p.queue (length (published_entries past p.queue)) p.batch
 
     alike : new ≡ of
     alike = ap (λ (xs : List Submission). swaps_in p.queue (length xs) p.batch) same

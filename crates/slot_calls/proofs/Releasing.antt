@@ -7,7 +7,7 @@ use Rattle.nvme_model.specs.Config.{completion_queue}
 use Rattle.nvme_model.specs.Legal.{IsLegal}
 use Rattle.nvme_model.specs.Passes.{SharedPast, entries}
 use Rattle.nvme_model.specs.History.{Past}
-use Rattle.nvme_model.specs.Queues.{published}
+use Rattle.nvme_model.specs.Queues.{published_entries}
 use Rattle.nvme_model.specs.Slots.{Name, Swap, believed, in_area, keeps_discipline, released_right, same_name, slot_block, swaps, swaps_in}
 use Rattle.nvme_model.specs.Statuses.{compare_failure, is_success, same_status}
 use Rattle.nvme_model.specs.declared.array.Range.{Range}
@@ -104,9 +104,9 @@ release_answered before slots host last v q first second j l n r x k i h =
     let own : completion_queue c q ≡ v.queue = knows.own swap here in
     let two = pair_of l first second (slot_block n) _ k.batch k.is in
     let same = told.entries_are q own in
-    let first_there : slice_get (published past q) j ≡ Some two.first =
+    let first_there : slice_get (published_entries past q) j ≡ Some two.first =
     ap (λ (xs : List Submission). slice_get xs j) same ∙ sent_there log q j 0 j k.batch two.first k.sent_as (omega arith) (ap (λ (xs : List Submission). slice_get xs 0) two.are) in
-    let second_there : slice_get (published past q) (suc j) ≡ Some two.second =
+    let second_there : slice_get (published_entries past q) (suc j) ≡ Some two.second =
     ap (λ (xs : List Submission). slice_get xs (suc j)) same ∙ sent_there log q j 1 (suc j) k.batch two.second k.sent_as (omega arith) (ap (λ (xs : List Submission). slice_get xs 1) two.are) in
     let apart = always_apart c v.queue v.pass q v.seen x.legal x.premises.alone.sole tidy own in
     let kept = view_disciplined before slots host last v x in
@@ -141,7 +141,7 @@ record KeptRelease (c : ConfigNumbers) (past : Past) (q l : ℕ) (n : Name) : Ty
 kept_release : (c : ConfigNumbers) (slots : Range) (past : Past) (q l first second : ℕ) (n : Name) (batch : List Submission) → IsName n → IsReleaseBatch l first second n batch → has_block slots l ≡ true
     → keeps_discipline c slots past (record { queue = q; batch = batch }) ≡ true → KeptRelease c past q l n
 kept_release c slots past q l first second n batch x b v h =
-    let j = length (published past q) in
+    let j = length (published_entries past q) in
     let s = release_at q j l n in
     let alone : in_area slots (swaps_in q j batch) ≡ s ∷ [] = ap (in_area slots) (release_batch q j l first second n batch x b) ∙ cond-true (has_block slots l) (s ∷ []) [] v in
     let right : released_right c past [] (s ∷ []) ≡ true = ap (released_right c past []) (sym alone) ∙ (and_parts _ (released_right c past [] (in_area slots (swaps_in q j batch))) h).1 in

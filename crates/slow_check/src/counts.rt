@@ -2,9 +2,9 @@
 
 ghost use Rattle.std.specs.Option.{option_copied};
 ghost use Rattle.std.specs.Prelude.{◌≡◌, ◌≤◌, ◌*◌, ◌^◌, length, slice_get};
-ghost use Rattle.nvme_model.specs.Completions.{reaped};
+ghost use Rattle.nvme_model.specs.Completions.{reaped_count};
 ghost use Rattle.nvme_model.specs.Open.{differed, grants_of};
-ghost use Rattle.nvme_model.specs.Queues.{fetched, published};
+ghost use Rattle.nvme_model.specs.Queues.{fetched_count, published_entries};
 ghost use Rattle.nvme_model.specs.Tickets.{posts_of, tickets};
 
 use crate::past::Before;
@@ -82,7 +82,7 @@ pub(crate) fn differed(past: &Before, ticket: u64) -> bool
 
 /// How many entries were fetched from a submission queue.
 pub(crate) fn fetched(past: &Before, queue: u16) -> u128
-    ensures value { result ≡ fetched past.now queue }
+    ensures value { result ≡ fetched_count past.now queue }
     ensures most { result ≤ 2 * length past.now }
 {
     let _most = past.len();
@@ -101,7 +101,7 @@ pub(crate) fn fetched(past: &Before, queue: u16) -> u128
 
 /// How many entries were published to a submission queue.
 pub(crate) fn published_len(past: &Before, queue: u16) -> u128
-    ensures value { result ≡ length (published past.now queue) }
+    ensures value { result ≡ length (published_entries past.now queue) }
 {
     let _most = past.len();
     let mut rest = past.again();
@@ -123,7 +123,7 @@ pub(crate) fn published_at<'e>(
     queue: u16,
     number: u128,
 ) -> Option<&'e Submission>
-    ensures value { option_copied result ≡ slice_get (published past.now queue) number }
+    ensures value { option_copied result ≡ slice_get (published_entries past.now queue) number }
 {
     let mut left = published_len(past, queue);
     let mut rest = past.again();
@@ -154,7 +154,7 @@ fn item_at(items: &[Submission], place: u128) -> Option<&Submission>
 
 /// How many completions were reaped from a completion queue.
 pub(crate) fn reaped(past: &Before, queue: u16) -> u64
-    ensures value { result ≡ reaped past.now queue }
+    ensures value { result ≡ reaped_count past.now queue }
 {
     let _most = past.len();
     let mut rest = past.again();

@@ -3,7 +3,7 @@
 ghost use Rattle.std.specs.Option.{option_map};
 ghost use Rattle.std.specs.Prelude.{◌≡◌, ◌++◌, ◌==◌, [], IfOk, OnOk, drop, if◌then◌else◌};
 ghost use Rattle.std.specs.Prelude.{slice_get};
-ghost use Rattle.nvme_model.specs.Queues.{published};
+ghost use Rattle.nvme_model.specs.Queues.{published_entries};
 ghost use Rattle.nvme_model.specs.Refusals.{jobs_full};
 ghost use Rattle.nvme_model.specs.Tickets.{cids, cids_in_use, in_flight, next_verdict};
 ghost use Rattle.nvme_model.specs.Tickets.{posts_of, ticket};
@@ -79,7 +79,7 @@ fn cids_in_use(alloc: Global, past: &Before, queue: u16) -> Result<Vec<u16>, NoM
 
 // What a check sees of the entry that was published to a queue as its `number`th, from 0.
 fn item_at(past: &Before, queue: u16, number: u128) -> Option<Item>
-    ensures value { result ≡ option_map item_of (slice_get (published past.now queue) number) }
+    ensures value { result ≡ option_map item_of (slice_get (published_entries past.now queue) number) }
 {
     published_at(past, queue, number).map(Item::of)
 }

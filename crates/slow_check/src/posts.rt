@@ -2,9 +2,9 @@
 
 ghost use Rattle.std.specs.Option.{option_copied};
 ghost use Rattle.std.specs.Prelude.{◌≡◌, ◌≤◌, ◌%◌, length, slice_get};
-ghost use Rattle.nvme_model.specs.Completions.{completion, phase, posted};
+ghost use Rattle.nvme_model.specs.Completions.{completion, phase, posted_completions};
 ghost use Rattle.nvme_model.specs.Config.{completion_queue};
-ghost use Rattle.nvme_model.specs.Queues.{fetched};
+ghost use Rattle.nvme_model.specs.Queues.{fetched_count};
 ghost use Rattle.entry_codec.specs.Cqe.{phase_bit};
 ghost use Rattle.slow_check.specs.Notes.{queue_in};
 
@@ -38,7 +38,7 @@ fn queue_in(note: Note) -> u16
 
 /// How many completions were posted to a completion queue.
 pub(crate) fn posted_len(config: &Config, past: &Before, queue: u16) -> u64
-    ensures value { result ≡ length (posted config.now past.now queue) }
+    ensures value { result ≡ length (posted_completions config.now past.now queue) }
     ensures most { result ≤ length past.now }
 {
     let _most = past.len();
@@ -62,7 +62,7 @@ pub(crate) fn posted_at<'e>(
     queue: u16,
     number: u64,
 ) -> Option<&'e PostLine>
-    ensures value { option_copied result ≡ slice_get (posted config.now past.now queue) number }
+    ensures value { option_copied result ≡ slice_get (posted_completions config.now past.now queue) number }
 {
     let mut left = posted_len(config, past, queue);
     let mut rest = past.again();
@@ -84,7 +84,7 @@ pub(crate) fn posted_at<'e>(
 #[tactic(auto, using(crate::proofs::Limits::some_completions))]
 fn next_phase(config: &Config, past: &Before, queue: u16) -> bool
     ensures value { phase_bit result ≡
-        phase (length (posted config.now past.now queue)) config.now.cq_size }
+        phase (length (posted_completions config.now past.now queue)) config.now.cq_size }
 {
     let size = u64::from(config.numbers().cq_size);
     posted_len(config, past, queue) / size % 2 == 0
@@ -93,7 +93,7 @@ fn next_phase(config: &Config, past: &Before, queue: u16) -> bool
 // The slot of a submission queue from which the next entry is fetched.
 #[tactic(auto, using(crate::proofs::Limits::some_entries))]
 fn head_of(config: &Config, past: &Before, queue: u16) -> u16
-    ensures value { result ≡ fetched past.now queue % config.now.sq_size }
+    ensures value { result ≡ fetched_count past.now queue % config.now.sq_size }
 {
     let size = u128::from(config.numbers().sq_size);
     (fetched(past, queue) % size) as u16

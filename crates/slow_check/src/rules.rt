@@ -6,7 +6,7 @@ ghost use Rattle.std.specs.Option.{option_copied};
 ghost use Rattle.std.specs.Prelude.{◌≡◌, ◌==◌, ◌+◌, ◌-◌, ◌%◌, ◌∷◌, IfOk, Some, is_none, length};
 ghost use Rattle.std.specs.Prelude.{slice_get};
 ghost use Rattle.nvme_model.specs.Answered.{may_find, right_answers};
-ghost use Rattle.nvme_model.specs.Completions.{posted, reaped};
+ghost use Rattle.nvme_model.specs.Completions.{posted_completions, reaped_count};
 ghost use Rattle.nvme_model.specs.Legal.{IsLegal, block_fits, is_cqe, is_range, may_follow};
 ghost use Rattle.nvme_model.specs.Legal.{post_fits};
 ghost use Rattle.nvme_model.specs.Open.{blocks_made};
@@ -275,7 +275,7 @@ fn owes_nothing_yet(config: &Config, past: &Before, number: u64, ranges: &[Range
 
 // Whether a completion queue is full.
 fn is_full(config: &Config, past: &Before, queue: u16) -> bool
-    ensures value { let waiting = length (posted config.now past.now queue) - reaped past.now queue in
+    ensures value { let waiting = length (posted_completions config.now past.now queue) - reaped_count past.now queue in
         result ≡ (waiting == config.now.cq_size - 1) }
 {
     let waiting = posted_len(config, past, queue).saturating_sub(reaped(past, queue));

@@ -10,7 +10,7 @@ use Rattle.nvme_model.specs.History.{Past}
 use Rattle.nvme_model.specs.Legal.{IsLegal}
 use Rattle.nvme_model.specs.Medium.{medium}
 use Rattle.nvme_model.specs.Operations.{op}
-use Rattle.nvme_model.specs.Queues.{fetched, published, waiting}
+use Rattle.nvme_model.specs.Queues.{fetched_count, published_entries, waiting}
 use Rattle.nvme_model.specs.Refusals.{conditions, refusal}
 use Rattle.ticket_standing.specs.Standing.{flying}
 use Rattle.nvme_model.specs.Steps.{next_entry}
@@ -55,7 +55,7 @@ use Rattle.step_core.specs.declared.work.Kind.{Kind}
 use Rattle.step_core.proofs.FetchedJob.{Names, fresh_job, kind_fits, kind_is, sound, ticket_by}
 use Rattle.step_core.proofs.FetchedData.{blocks_are, has_blocks}
 use Rattle.step_core.proofs.Fetching.{blocks_most, front_command, full_is}
-use Rattle.step_core.proofs.InUse.{count_append, fetched_count, same_length, two_each, used_set}
+use Rattle.step_core.proofs.InUse.{count_append, count_fetched, same_length, two_each, used_set}
 use Rattle.step_core.proofs.Moves.{legal_after, stepped}
 use Rattle.step_core.proofs.Tables.{IsTable-same, IsTable-set}
 
@@ -75,7 +75,7 @@ unfolding submission_ring
 ring_here c past f =
     let on : true ≡ eqb f.queue f.queue = sym (eq-eqb f.queue f.queue refl) in
     let m = taken f.verdict in
-    let head = mod-add-mod (fetched past f.queue) c.sq_size m ∙ ap (λ b. (fetched past f.queue + cond b m 0) % c.sq_size) on in
+    let head = mod-add-mod (fetched_count past f.queue) c.sq_size m ∙ ap (λ b. (fetched_count past f.queue + cond b m 0) % c.sq_size) on in
     let waits = ap (λ b. drop (cond b m 0) (waiting past f.queue)) on ∙ sym (fetch_waits past f f.queue) in
     (λ i. record { size = c.sq_size; head = head i; waiting = waits i })
 
@@ -84,8 +84,8 @@ ring_other : (c : ConfigNumbers) (past : Past) (f : FetchLine) (q : ℕ) → f.q
 unfolding submission_ring
 ring_other c past f q apart =
     let off = ne_eqb f.queue q apart in
-    let count : fetched past q + cond (eqb f.queue q) (taken f.verdict) 0 ≡ fetched past q = ap (λ b. fetched past q + cond b (taken f.verdict) 0) off ∙ add-zero (fetched past q) in
-    (λ i. record { size = c.sq_size; head = count i % c.sq_size; waiting = drop (count i) (published past q) })
+    let count : fetched_count past q + cond (eqb f.queue q) (taken f.verdict) 0 ≡ fetched_count past q = ap (λ b. fetched_count past q + cond b (taken f.verdict) 0) off ∙ add-zero (fetched_count past q) in
+    (λ i. record { size = c.sq_size; head = count i % c.sq_size; waiting = drop (count i) (published_entries past q) })
 
 -- completion queues stay
 completion_kept : (c : ConfigNumbers) (past : Past) (f : FetchLine) (q : ℕ) → completion_ring c (Entry.Fetch f ∷ past) q ≡ completion_ring c past q
@@ -156,7 +156,7 @@ module _ (c : ConfigNumbers) (past : Past) (fields : CoreFields) (k : IsKept c p
       let rows = none_holds (conditions c past (Step.Fetch t)) (ap is_none a.0) in
       let some = more _ _ (fetched_within c past t k.run.legal) rows.1.0 in
       let items = length-map (waiting past t) item_of in
-      let most = taken_within c.atomic c.blocks (cids_in_use past t) (map item_of (waiting past t)) (omega (arith, some, items, length-drop (fetched past t) (published past t))) in
+      let most = taken_within c.atomic c.blocks (cids_in_use past t) (map item_of (waiting past t)) (omega (arith, some, items, length-drop (fetched_count past t) (published_entries past t))) in
       omega (arith, most, items, ap taken a.1.judged.verdict)
     where
       more : (m f : ℕ) → f ≤ m → (m == f) ≡ false → f < m
@@ -312,7 +312,7 @@ module _ (c : ConfigNumbers) (past : Past) (fields : CoreFields) (k : IsKept c p
       here : AreUsed c (Entry.Fetch (fetch_line past t x) ∷ past) (suc (t - 1)) y
       here = subst (λ (m : ℕ). AreUsed c (Entry.Fetch (fetch_line past t x) ∷ past) m y) (sym queue_place.0) (subst (AreUsed c (Entry.Fetch (fetch_line past t x) ∷ past) t) (sym more) (record {
         cids = λ p.
-            let mine = fetched_count c past (fetch_line past t x) legal t p in
+            let mine = count_fetched c past (fetch_line past t x) legal t p in
             let on = ap (λ b. count_by p (cond b (cids (fetched_ticket past t (verdict_by x.judged))) [])) (eq-eqb t t refl) in
             omega (arith, count_append p u.cids x.cids, own.cids p, ap (count_by p) a.1.cids, mine, on);
         room = own.room;
@@ -321,7 +321,7 @@ module _ (c : ConfigNumbers) (past : Past) (fields : CoreFields) (k : IsKept c p
       others : (i : ℕ) → i ≢ t - 1 → (p : ℕ → Bool) → count_by p (cids_in_use (Entry.Fetch (fetch_line past t x) ∷ past) (suc i)) ≡ count_by p (cids_in_use past (suc i))
       others i apart p =
           let off = ap (λ b. count_by p (cond b (cids (fetched_ticket past t (verdict_by x.judged))) [])) (ne_eqb t (suc i) (λ (on : t ≡ suc i). apart (omega (arith, on)))) in
-          omega (arith, fetched_count c past (fetch_line past t x) legal (suc i) p, off)
+          omega (arith, count_fetched c past (fetch_line past t x) legal (suc i) p, off)
 
   -- the first that waits
   waits : (ring : SubmissionRing) (first : Submission) → ring ≡ get_or s (t - 1) ring → slice_get ring.waiting 0 ≡ Some first → slice_get (waiting past t) 0 ≡ Some first

@@ -7,7 +7,7 @@ use Rattle.nvme_model.specs.Config.{config_fault, config_faults}
 use Rattle.nvme_model.specs.EntryBytes.{slba, sqe_fields}
 use Rattle.nvme_model.specs.History.{Past}
 use Rattle.nvme_model.specs.Operations.{op_by}
-use Rattle.nvme_model.specs.Queues.{fetched, published, waiting}
+use Rattle.nvme_model.specs.Queues.{fetched_count, published_entries, waiting}
 use Rattle.nvme_model.specs.Refusals.{jobs_full, no_queue, refusal}
 use Rattle.ticket_standing.specs.Standing.{flying}
 use Rattle.nvme_model.specs.Tickets.{cids_in_use, command}
@@ -54,19 +54,19 @@ full_is c past fields k most =
     le_is_eq (length j.jobs) j.limit most ∙ ap₂ (λ (m n : ℕ). nat_le m n) (ap (λ (x : JobTable). x.limit) k.jobs) count
 
 -- none is waiting
-none_waits : (c : ConfigNumbers) (past : Past) (q : ℕ) (r : SubmissionRing) → IsSqRing c past q r → slice_get r.waiting 0 ≡ None → (length (published past q) == fetched past q) ≡ true
+none_waits : (c : ConfigNumbers) (past : Past) (q : ℕ) (r : SubmissionRing) → IsSqRing c past q r → slice_get r.waiting 0 ≡ None → (length (published_entries past q) == fetched_count past q) ≡ true
 unfolding submission_ring
 none_waits c past q r s none =
-    eq-eqb _ _ (omega (arith, s.within, length-drop (fetched past q) (published past q), no_first (waiting past q) (ap (λ (x : SubmissionRing). slice_get x.waiting 0) (sym s.is) ∙ none)))
+    eq-eqb _ _ (omega (arith, s.within, length-drop (fetched_count past q) (published_entries past q), no_first (waiting past q) (ap (λ (x : SubmissionRing). slice_get x.waiting 0) (sym s.is) ∙ none)))
   where
     no_first : (xs : List Submission) → slice_get xs 0 ≡ None → length xs ≡ 0
     no_first [] e = refl
     no_first (x ∷ xs) e = absurd cc
 
 -- where one does not all are
-one_waits : (c : ConfigNumbers) (past : Past) (q : ℕ) (r : SubmissionRing) (x : Submission) → IsSqRing c past q r → slice_get r.waiting 0 ≡ Some x → (length (published past q) == fetched past q) ≡ false
+one_waits : (c : ConfigNumbers) (past : Past) (q : ℕ) (r : SubmissionRing) (x : Submission) → IsSqRing c past q r → slice_get r.waiting 0 ≡ Some x → (length (published_entries past q) == fetched_count past q) ≡ false
 unfolding submission_ring
-one_waits c past q r x s some = apart _ _ (omega (arith, length-drop (fetched past q) (published past q), first (waiting past q) (ap (λ (y : SubmissionRing). slice_get y.waiting 0) (sym s.is) ∙ some)))
+one_waits c past q r x s some = apart _ _ (omega (arith, length-drop (fetched_count past q) (published_entries past q), first (waiting past q) (ap (λ (y : SubmissionRing). slice_get y.waiting 0) (sym s.is) ∙ some)))
   where
     apart : (a b : ℕ) → b < a → (a == b) ≡ false
     apart a b l = grind (arith, nat_tests)
@@ -76,7 +76,7 @@ one_waits c past q r x s some = apart _ _ (omega (arith, length-drop (fetched pa
     first (y ∷ xs) e = omega arith
 
 -- the refusal by its three tests
-refused_by : (c : ConfigNumbers) (past : Past) (q : ℕ) (b d f : Bool) → no_queue c q ≡ b → (length (published past q) == fetched past q) ≡ d → jobs_full c past ≡ f
+refused_by : (c : ConfigNumbers) (past : Past) (q : ℕ) (b d f : Bool) → no_queue c q ≡ b → (length (published_entries past q) == fetched_count past q) ≡ d → jobs_full c past ≡ f
     → refusal c past (Step.Fetch q) ≡ cond b (Some Why.NoQueue) (cond d (Some Why.NoEntry) (cond f (Some Why.JobsFull) None))
 refused_by c past q b d f x y z = (λ i. cond (x i) (Some Why.NoQueue) (cond (y i) (Some Why.NoEntry) (cond (z i) (Some Why.JobsFull) None)))
 

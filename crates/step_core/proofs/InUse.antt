@@ -64,10 +64,10 @@ left_on past q t = cond (eqb (Tickets.ticket past t).queue q) (drop (posts_of pa
 
 -- ---- a Fetch
 
-pub fetched_count : (c : ConfigNumbers) (past : Past) (f : FetchLine) → IsLegal c (Entry.Fetch f ∷ past) → (q : ℕ) (p : ℕ → Bool)
+pub count_fetched : (c : ConfigNumbers) (past : Past) (f : FetchLine) → IsLegal c (Entry.Fetch f ∷ past) → (q : ℕ) (p : ℕ → Bool)
     → count_by p (cids_in_use (Entry.Fetch f ∷ past) q)
     ≡ count_by p (cond (eqb f.queue q) (cids (fetched_ticket past f.queue f.verdict)) []) + count_by p (cids_in_use past q)
-fetched_count c past f h q p =
+count_fetched c past f h q p =
     ap (λ (m : ℕ). count_by p (flat_map (left_on (Entry.Fetch f ∷ past) q) (numbers m))) (add-one (Tickets.tickets past))
     ∙ count_append p (left_on (Entry.Fetch f ∷ past) q (suc (Tickets.tickets past))) _
     ∙ (λ i. count_by p (first i) + count_by p (rest (Tickets.tickets past) (omega arith) i))
@@ -154,11 +154,11 @@ module _ (past : Past) (p : PostLine) (cid : ℕ) (next : slice_get (drop (posts
   ]
 
 -- a Post takes the first CID of its ticket away
-pub posted_count : (past : Past) (p : PostLine) (cid : ℕ) → slice_get (drop (posts_of past p.ticket) (cids (Tickets.ticket past p.ticket))) 0 ≡ Some cid
+pub count_posted : (past : Past) (p : PostLine) (cid : ℕ) → slice_get (drop (posts_of past p.ticket) (cids (Tickets.ticket past p.ticket))) 0 ≡ Some cid
     → 0 < p.ticket → p.ticket ≤ Tickets.tickets past → (q : ℕ) (f : ℕ → Bool)
     → count_by f (cids_in_use past q)
     ≡ count_by f (cond (eqb (Tickets.ticket past p.ticket).queue q) (cid ∷ []) []) + count_by f (cids_in_use (Entry.Post p ∷ past) q)
-posted_count past p cid next some known q f = one_fewer past p cid next q f (Tickets.tickets past) some known
+count_posted past p cid next some known q f = one_fewer past p cid next q f (Tickets.tickets past) some known
 
 -- no ticket has the number 0
 pub ticket_zero : (c : ConfigNumbers) (past : Past) → IsLegal c past → length (Tickets.ticket past 0).commands ≡ 0

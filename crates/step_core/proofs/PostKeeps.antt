@@ -16,7 +16,7 @@ use Rattle.nvme_model.specs.History.{Past}
 use Rattle.nvme_model.specs.Tickets
 use Rattle.nvme_model.specs.Tickets.{Ticket, cids, cids_in_use, first_fields, in_flight, posts_of}
 use Rattle.nvme_model.specs.Operations.{op, op_by}
-use Rattle.nvme_model.specs.Completions.{posted, reaped}
+use Rattle.nvme_model.specs.Completions.{posted_completions, reaped_count}
 use Rattle.nvme_model.specs.Refusals.{conditions}
 use Rattle.nvme_model.specs.Verdict.{taken}
 use Rattle.nvme_model.proofs.Rules.{none_holds}
@@ -42,7 +42,7 @@ use Rattle.step_core.specs.declared.machine.post.Due.{Due}
 use Rattle.step_core.proofs.Moves.{job_found, stepped}
 use Rattle.step_core.proofs.Tables.{IsTable-same, IsTable-set}
 use Rattle.step_core.proofs.Posting.{cqs_some, due_full, flies_some, queue_there, ticket_queue}
-use Rattle.step_core.proofs.InUse.{count_cons, is_among, one_less, posted_count, ticket_zero, used_set}
+use Rattle.step_core.proofs.InUse.{count_cons, is_among, one_less, count_posted, ticket_zero, used_set}
 use Rattle.nvme_model.proofs.Apart.{fetched_if}
 use Rattle.cids_in_use.specs.Used.{UsedCids, is_used}
 use Rattle.std.specs.List.{count_by}
@@ -191,7 +191,7 @@ module _ (c : ConfigNumbers) (past : Past) (fields : CoreFields) (k : IsKept c p
   pub not_full : (x : CompletionRing) → x ≡ get_or q (d.queue - 1) x → is_full x ≡ false
   not_full x e =
       due_full c past d.queue x k.run.legal (ring_is x e)
-      ∙ ap (λ i. eqb (length (posted c past i) - reaped past i) (c.cq_size - 1)) post.1.queue
+      ∙ ap (λ i. eqb (length (posted_completions c past i) - reaped_count past i) (c.cq_size - 1)) post.1.queue
       ∙ (none_holds (conditions c past (Step.Post d.ticket)) (ap is_none post.0)).1.1.0
 
   -- ---- the entry
@@ -271,7 +271,7 @@ module _ (c : ConfigNumbers) (past : Past) (fields : CoreFields) (k : IsKept c p
 
   fewer : (copy : List ℕ) (m : ℕ) (p : ℕ → Bool)
       → count_by p (cids_in_use past m) ≡ count_by p (cond (eqb (Tickets.ticket past d.ticket).queue m) (d.cid ∷ []) []) + count_by p (cids_in_use (Entry.Post (post_line copy) ∷ past) m)
-  fewer copy m p = posted_count past (post_line copy) d.cid next_cid some_ticket (fetched_if c past d.ticket k.run.legal flies) m p
+  fewer copy m p = count_posted past (post_line copy) d.cid next_cid some_ticket (fetched_if c past d.ticket k.run.legal flies) m p
 
   one_in : (p : ℕ → Bool) → count_by p (cond (eqb (Tickets.ticket past d.ticket).queue d.from) (d.cid ∷ []) []) ≡ cond (p d.cid) 1 0 + 0
   one_in p = ap (λ b. count_by p (cond b (d.cid ∷ []) [])) (eq-eqb _ _ (sym post.1.from)) ∙ count_cons p d.cid []

@@ -7,7 +7,7 @@ use Rattle.nvme_model.specs.declared.entry.PostLine.{PostLine}
 use Rattle.nvme_model.specs.Config.{completion_queue}
 use Rattle.nvme_model.specs.History.{Past}
 use Rattle.nvme_model.specs.Tickets.{ticket}
-use Rattle.nvme_model.specs.Completions.{posted, reaped}
+use Rattle.nvme_model.specs.Completions.{posted_completions, reaped_count}
 use Rattle.nvme_model.specs.Legal.{IsLegal}
 use Rattle.nvme_model.proofs.Runs.{reaped_posted}
 use Rattle.entry_codec.specs.Cqe.{phase_bit}
@@ -71,13 +71,13 @@ pub post_ring : (c : ConfigNumbers) (past : Past) (p : PostLine) (q : ℕ) → I
     → posted_ring (completion_ring c past q) (completion_of p) ≡ completion_ring c (Entry.Post p ∷ past) q
 unfolding completion_ring
 post_ring c past p q h some e =
-    ring_more c.cq_size (posted c past q) (reaped past q) p some (reaped_posted c past q h)
-    ∙ ap (λ b. ring_of c.cq_size (posted c past q ++ cond b (p ∷ []) []) (reaped past q)) (sym (eq-eqb _ _ e))
+    ring_more c.cq_size (posted_completions c past q) (reaped_count past q) p some (reaped_posted c past q h)
+    ∙ ap (λ b. ring_of c.cq_size (posted_completions c past q ++ cond b (p ∷ []) []) (reaped_count past q)) (sym (eq-eqb _ _ e))
 
 -- and the others
 pub post_ring_other : (c : ConfigNumbers) (past : Past) (p : PostLine) (q : ℕ) → eqb (completion_queue c (ticket past p.ticket).queue) q ≡ false
     → completion_ring c (Entry.Post p ∷ past) q ≡ completion_ring c past q
 unfolding completion_ring
 post_ring_other c past p q e =
-    ap (λ b. ring_of c.cq_size (posted c past q ++ cond b (p ∷ []) []) (reaped past q)) e
-    ∙ ap (λ ps. ring_of c.cq_size ps (reaped past q)) (append-nil (posted c past q))
+    ap (λ b. ring_of c.cq_size (posted_completions c past q ++ cond b (p ∷ []) []) (reaped_count past q)) e
+    ∙ ap (λ ps. ring_of c.cq_size ps (reaped_count past q)) (append-nil (posted_completions c past q))

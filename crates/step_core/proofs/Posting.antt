@@ -11,8 +11,8 @@ use Rattle.nvme_model.specs.Config.{completion_queue, config_fault, config_fault
 use Rattle.nvme_model.specs.History.{Past}
 use Rattle.nvme_model.specs.Tickets
 use Rattle.nvme_model.specs.Tickets.{Ticket, cids, in_flight, posts_of}
-use Rattle.nvme_model.specs.Queues.{fetched}
-use Rattle.nvme_model.specs.Completions.{posted, reaped}
+use Rattle.nvme_model.specs.Queues.{fetched_count}
+use Rattle.nvme_model.specs.Completions.{posted_completions, reaped_count}
 use Rattle.nvme_model.specs.Refusals.{no_queue, owes_nothing_yet, refusal}
 use Rattle.ticket_standing.specs.Standing.{standing, still_owed}
 use Rattle.nvme_model.specs.Legal.{IsLegal}
@@ -95,11 +95,11 @@ unfolding job_by
 nothing_due c past t j r k e =
     let next : is_none (slice_get (still_owed c (standing past t)) 0) ≡ true = ap is_none (next_by c past t j r.legal k ∙ e) in
     let nothing : owes_nothing_yet c past t ≡ true = sym (has_next c past t r.legal r.marks k.flies) ∙ next in
-    (λ i. cond (not (k.flies i)) (Some Why.NoTicket) (cond (nothing i) (Some Why.WrongState) (cond (eqb (length (posted c past (completion_queue c (Tickets.ticket past t).queue)) - reaped past (completion_queue c (Tickets.ticket past t).queue)) (c.cq_size - 1)) (Some Why.CqFull) None)))
+    (λ i. cond (not (k.flies i)) (Some Why.NoTicket) (cond (nothing i) (Some Why.WrongState) (cond (eqb (length (posted_completions c past (completion_queue c (Tickets.ticket past t).queue)) - reaped_count past (completion_queue c (Tickets.ticket past t).queue)) (c.cq_size - 1)) (Some Why.CqFull) None)))
 
 -- where something is, it is refused exactly where the completion queue is full
 pub something_due : (c : ConfigNumbers) (past : Past) (t : ℕ) (j : Keeping) (s : Status) (b : Bool) → Kept c past → IsJob c past t j → slice_get (owed_in j.course.stage) 0 ≡ Some s
-    → eqb (length (posted c past (completion_queue c (Tickets.ticket past t).queue)) - reaped past (completion_queue c (Tickets.ticket past t).queue)) (c.cq_size - 1) ≡ b
+    → eqb (length (posted_completions c past (completion_queue c (Tickets.ticket past t).queue)) - reaped_count past (completion_queue c (Tickets.ticket past t).queue)) (c.cq_size - 1) ≡ b
     → refusal c past (Step.Post t) ≡ cond b (Some Why.CqFull) None
 unfolding job_by
 something_due c past t j s b r k e full =
@@ -131,11 +131,11 @@ unfolding job_by
 due_queue c past t j k = ap (λ (x : Keeping). completion_queue c x.queue) k.is
 
 -- how full it is
-pub due_full : (c : ConfigNumbers) (past : Past) (q : ℕ) (x : CompletionRing) → IsLegal c past → x ≡ completion_ring c past q → is_full x ≡ eqb (length (posted c past q) - reaped past q) (c.cq_size - 1)
+pub due_full : (c : ConfigNumbers) (past : Past) (q : ℕ) (x : CompletionRing) → IsLegal c past → x ≡ completion_ring c past q → is_full x ≡ eqb (length (posted_completions c past q) - reaped_count past q) (c.cq_size - 1)
 unfolding completion_ring
 due_full c past q x h e =
     ap is_full e
-    ∙ ap (λ n. eqb n (c.cq_size - 1)) (length-map (drop (reaped past q) (posted c past q)) completion_of ∙ length-drop (reaped past q) (posted c past q))
+    ∙ ap (λ n. eqb n (c.cq_size - 1)) (length-map (drop (reaped_count past q) (posted_completions c past q)) completion_of ∙ length-drop (reaped_count past q) (posted_completions c past q))
 
 -- the completion that is due
 pub due_is : (c : ConfigNumbers) (past : Past) (t : ℕ) (j : Keeping) (s : Status) (cid : ℕ) (x : CompletionRing) (r : SubmissionRing) (cqe : Cqe) (d : Due) → Kept c past → IsJob c past t j
@@ -152,7 +152,7 @@ due_is c past t j s cid x r cqe d kept k due has ring sring fields bytes origin 
       queue = queue ∙ due_queue c past t j k;
       cid = ap (λ (y : Keeping). slice_get y.course.cids 0) (sym k.is) ∙ has ∙ ap Some (sym name);
       cqe = bytes ∙ completion_bytes-completion c past t s cqe
-          (ap (λ (y : Cqe). y.sqhd) fields ∙ ap (λ (y : SubmissionRing). y.head) sring ∙ ap (λ n. fetched past n % c.sq_size) of_queue)
+          (ap (λ (y : Cqe). y.sqhd) fields ∙ ap (λ (y : SubmissionRing). y.head) sring ∙ ap (λ n. fetched_count past n % c.sq_size) of_queue)
           (ap (λ (y : Cqe). y.sqid) fields ∙ of_queue)
           (ap (λ (y : Cqe). y.cid) fields ∙ sym (found_at (cids (Tickets.ticket past t)) (posts_of past t) cid 0 (sym (get_dropped (posts_of past t) (cids (Tickets.ticket past t))) ∙ ap (λ (y : Keeping). slice_get y.course.cids 0) (sym k.is) ∙ has)))
           (ap (λ (y : Cqe). phase_bit y.phase) fields ∙ ap (λ (y : CompletionRing). phase_bit y.phase) ring)

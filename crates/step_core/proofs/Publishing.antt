@@ -8,7 +8,7 @@ use Rattle.nvme_model.specs.declared.refusal.Why.{Why}
 use Rattle.nvme_model.specs.declared.step.Step.{Step}
 use Rattle.nvme_model.specs.declared.submission.Submission.{Submission}
 use Rattle.nvme_model.specs.History.{Past}
-use Rattle.nvme_model.specs.Queues.{fetched, published, waiting}
+use Rattle.nvme_model.specs.Queues.{fetched_count, published_entries, waiting}
 use Rattle.nvme_model.specs.Refusals.{conditions, refusal}
 use Rattle.nvme_model.specs.Tables.{first_row}
 use Rattle.nvme_model.specs.Kept.{Kept}
@@ -29,9 +29,9 @@ use Rattle.step_core.proofs.Tables.{IsTable-same, IsTable-set}
 
 -- what refuses a batch at the ring of a queue, by the history
 ring_faults : (c : ConfigNumbers) (past : Past) (q : ℕ) (batch : List Submission)
-    → batch_fault (submission_ring c past q) batch ≡ first_row (batch_faults c.sq_size (length (published past q) - fetched past q) batch)
+    → batch_fault (submission_ring c past q) batch ≡ first_row (batch_faults c.sq_size (length (published_entries past q) - fetched_count past q) batch)
 unfolding submission_ring
-ring_faults c past q batch = ap (λ n. first_row (batch_faults c.sq_size n batch)) (length-drop (fetched past q) (published past q))
+ring_faults c past q batch = ap (λ n. first_row (batch_faults c.sq_size n batch)) (length-drop (fetched_count past q) (published_entries past q))
 
 -- what refuses a Publish to a queue that is there
 pub publish_refused : (c : ConfigNumbers) (past : Past) (q : ℕ) (batch : List Submission) (r : SubmissionRing)
@@ -39,7 +39,7 @@ pub publish_refused : (c : ConfigNumbers) (past : Past) (q : ℕ) (batch : List 
     → batch_fault r batch ≡ refusal c past (Step.Publish q batch)
 publish_refused c past q batch r h =
     ap (λ (x : SubmissionRing). batch_fault x batch) h.is ∙ ring_faults c past q batch
-    ∙ ap (λ (a : Bool). cond a (Some Why.NoQueue) (first_row (batch_faults c.sq_size (length (published past q) - fetched past q) batch))) (sym h.there)
+    ∙ ap (λ (a : Bool). cond a (Some Why.NoQueue) (first_row (batch_faults c.sq_size (length (published_entries past q) - fetched_count past q) batch))) (sym h.there)
 
 -- ---- an accepted Publish
 

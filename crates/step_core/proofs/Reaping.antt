@@ -9,7 +9,7 @@ use Rattle.nvme_model.specs.declared.entry.PostLine.{PostLine}
 use Rattle.nvme_model.specs.declared.entry.ReapLine.{ReapLine}
 use Rattle.nvme_model.specs.declared.refusal.Why.{Why}
 use Rattle.nvme_model.specs.declared.step.Step.{Step}
-use Rattle.nvme_model.specs.Completions.{posted, reaped}
+use Rattle.nvme_model.specs.Completions.{posted_completions, reaped_count}
 use Rattle.nvme_model.specs.History.{Past}
 use Rattle.nvme_model.specs.Refusals.{conditions, refusal}
 use Rattle.nvme_model.specs.Steps.{next_entry, reap_entry}
@@ -42,17 +42,17 @@ slice_get-drop (suc n) (x ∷ xs) = slice_get-drop n xs
 
 -- how many wait
 length-waiting : (c : ConfigNumbers) (past : Past) (q : ℕ)
-    → length (completion_ring c past q).waiting ≡ length (posted c past q) - reaped past q
+    → length (completion_ring c past q).waiting ≡ length (posted_completions c past q) - reaped_count past q
 unfolding completion_ring
-length-waiting c past q = length-map (drop (reaped past q) (posted c past q)) completion_of ∙ length-drop (reaped past q) (posted c past q)
+length-waiting c past q = length-map (drop (reaped_count past q) (posted_completions c past q)) completion_of ∙ length-drop (reaped_count past q) (posted_completions c past q)
 
 -- the one that waits first is the next to be reaped
 first-waiting : (c : ConfigNumbers) (past : Past) (q : ℕ)
-    → slice_get (completion_ring c past q).waiting 0 ≡ option_map completion_of (slice_get (posted c past q) (reaped past q))
+    → slice_get (completion_ring c past q).waiting 0 ≡ option_map completion_of (slice_get (posted_completions c past q) (reaped_count past q))
 unfolding completion_ring
 first-waiting c past q =
-    slice_get-map completion_of (drop (reaped past q) (posted c past q)) 0
-    ∙ ap (option_map completion_of) (slice_get-drop (reaped past q) (posted c past q))
+    slice_get-map completion_of (drop (reaped_count past q) (posted_completions c past q)) 0
+    ∙ ap (option_map completion_of) (slice_get-drop (reaped_count past q) (posted_completions c past q))
 
 -- ---- what refuses it
 
@@ -65,7 +65,7 @@ left_none n p k e l = elim (cases_Bool (eqb p k)) [
 
 -- as many were reaped as were posted exactly where nothing waits
 all_reaped : (c : ConfigNumbers) (past : Past) (q : ℕ) (r : CompletionRing) → IsCqRing c past q r
-    → eqb (length (posted c past q)) (reaped past q) ≡ eqb (length r.waiting) 0
+    → eqb (length (posted_completions c past q)) (reaped_count past q) ≡ eqb (length r.waiting) 0
 all_reaped c past q r h = left_none (length r.waiting) _ _ (ap (λ (x : CompletionRing). length x.waiting) h.is ∙ length-waiting c past q) h.within
 
 -- what refuses a Reap of a queue that is there
@@ -74,7 +74,7 @@ pub reap_refused : (c : ConfigNumbers) (past : Past) (q : ℕ) (r : CompletionRi
     → cond b (Some Why.NoCompletion) None ≡ refusal c past (Step.Reap q)
 reap_refused c past q r b h e =
     ap (λ (a : Bool). cond a (Some Why.NoCompletion) None) (sym (all_reaped c past q r h ∙ e))
-    ∙ ap (λ (a : Bool). cond a (Some Why.NoQueue) (cond (eqb (length (posted c past q)) (reaped past q)) (Some Why.NoCompletion) None)) (sym h.there)
+    ∙ ap (λ (a : Bool). cond a (Some Why.NoQueue) (cond (eqb (length (posted_completions c past q)) (reaped_count past q)) (Some Why.NoCompletion) None)) (sym h.there)
 
 -- ---- an accepted Reap
 
@@ -96,7 +96,7 @@ unfolding completion_ring
 ring_stays c past t d k ne =
     ap (λ (xs : List PostLine). record (completion_ring c past k) { waiting = map completion_of xs })
     (reap_waits c past (record { queue = t; cqe = d.cqe }) k
-    ∙ ap (λ b. drop (cond b 1 0) (drop (reaped past k) (posted c past k))) (ne_eqb t k (λ e. ne (sym e))))
+    ∙ ap (λ b. drop (cond b 1 0) (drop (reaped_count past k) (posted_completions c past k))) (ne_eqb t k (λ e. ne (sym e))))
 
 -- the ring that is reaped
 ring_reaped : (c : ConfigNumbers) (past : Past) (t : ℕ) (d : Completion)
@@ -104,9 +104,9 @@ ring_reaped : (c : ConfigNumbers) (past : Past) (t : ℕ) (d : Completion)
 unfolding completion_ring
 ring_reaped c past t d =
     let line : ReapLine = record { queue = t; cqe = d.cqe } in
-    let one = ap (λ b. drop (cond b 1 0) (drop (reaped past t) (posted c past t))) (eq-eqb t t refl) in
+    let one = ap (λ b. drop (cond b 1 0) (drop (reaped_count past t) (posted_completions c past t))) (eq-eqb t t refl) in
     ap (λ (xs : List Completion). record (completion_ring c past t) { waiting = xs })
-    (drop-map completion_of 1 (drop (reaped past t) (posted c past t)) ∙ sym (ap (map completion_of) (reap_waits c past line t ∙ one)))
+    (drop-map completion_of 1 (drop (reaped_count past t) (posted_completions c past t)) ∙ sym (ap (map completion_of) (reap_waits c past line t ∙ one)))
 
 -- the ring of a submission queue stays
 submission_stays : (c : ConfigNumbers) (past : Past) (t : ℕ) (d : Completion) (k : ℕ)
@@ -146,9 +146,9 @@ module _ (c : ConfigNumbers) (past : Past) (fields : CoreFields)
   last_one = ltb-false _ _ (or_parts _ _ (none_holds (conditions c past (Step.Reap t)) (ap is_none none)).0).1
 
   -- the Post whose completion is next
-  next_post : (p : PostLine) × (slice_get (posted c past t) (reaped past t) ≡ Some p)
+  next_post : (p : PostLine) × (slice_get (posted_completions c past t) (reaped_count past t) ≡ Some p)
   next_post =
-      some_at (posted c past t) (reaped past t)
+      some_at (posted_completions c past t) (reaped_count past t)
       (below _ _ (reaped_posted c past t k.run.legal) (none_holds (conditions c past (Step.Reap t)) (ap is_none none)).1.0)
 
   module _ (x : CompletionRing) (is : x ≡ get_or q (t - 1) x) where

@@ -1,11 +1,11 @@
 -- What the fields of a core are: what the definitions compute from its history.
 use Rattle.std.specs.Prelude.{List, None, Option, Some, [], drop, if◌then◌else◌, length, map, replicate}
 use Rattle.std.specs.Prelude.{ℕ, ◌%◌, ◌*◌, ◌++◌, ◌-◌, ◌/◌, ◌==◌}
-use Rattle.nvme_model.specs.Completions.{posted, reaped}
+use Rattle.nvme_model.specs.Completions.{posted_completions, reaped_count}
 use Rattle.nvme_model.specs.EntryBytes.{blocks, slba}
 use Rattle.nvme_model.specs.History.{Past}
 use Rattle.nvme_model.specs.Operations.{has_compare, op}
-use Rattle.nvme_model.specs.Queues.{fetched, waiting}
+use Rattle.nvme_model.specs.Queues.{fetched_count, waiting}
 use Rattle.ticket_standing.specs.Standing.{OpenUnit, Standing, flying, had, standing}
 use Rattle.nvme_model.specs.Tickets.{Ticket, cids, command, first_fields}
 use Rattle.nvme_model.specs.declared.config.ConfigNumbers.{ConfigNumbers}
@@ -23,7 +23,8 @@ use Rattle.ticket_course.specs.Shown.{stage_of}
 
 -- the ring of submission queue q
 unfoldable pub submission_ring : ConfigNumbers → Past → ℕ → SubmissionRing
-submission_ring c past q = record { size = c.sq_size; head = fetched past q % c.sq_size; waiting = waiting past q }
+submission_ring c past q =
+    record { size = c.sq_size; head = fetched_count past q % c.sq_size; waiting = waiting past q }
 
 -- a completion without its ticket
 abbrev pub completion_of : PostLine → Completion
@@ -32,12 +33,12 @@ completion_of p = record { cqe = p.cqe; payload = p.payload }
 -- the ring of completion queue q
 unfoldable pub completion_ring : ConfigNumbers → Past → ℕ → CompletionRing
 completion_ring c past q =
-    let n = length (posted c past q) in
+    let n = length (posted_completions c past q) in
     record {
       size = c.cq_size;
       tail = n % c.cq_size;
       phase = (n / c.cq_size) % 2 == 0;
-      waiting = map completion_of (drop (reaped past q) (posted c past q));
+      waiting = map completion_of (drop (reaped_count past q) (posted_completions c past q));
     }
 
 -- ---- tickets in flight

@@ -4,8 +4,8 @@ use Rattle.std.specs.Prelude.{Bool, List, None, Some, false, get_or, length, map
 use Rattle.std.specs.Prelude.{ℕ, ◌*◌, ◌<◌, ◌==◌, ◌≡◌, ◌≤◌}
 use Rattle.cids_in_use.specs.Used.{UsedCids}
 use Rattle.nvme_model.specs.Config.{completion_queue, config_fault}
-use Rattle.nvme_model.specs.Completions.{completion, posted, reaped}
-use Rattle.nvme_model.specs.Queues.{fetched, published}
+use Rattle.nvme_model.specs.Completions.{completion, posted_completions, reaped_count}
+use Rattle.nvme_model.specs.Queues.{fetched_count, published_entries}
 use Rattle.nvme_model.specs.Refusals.{no_completion_queue, no_queue}
 use Rattle.nvme_model.specs.Owed.{owed}
 use Rattle.nvme_model.specs.declared.status.Status.{Status}
@@ -67,13 +67,13 @@ pub record IsKept (c : ConfigNumbers) (past : Past) (f : CoreFields) : Type 0 wh
 pub record IsSqRing (c : ConfigNumbers) (past : Past) (q : ℕ) (r : SubmissionRing) : Type 0 where
   pub there : no_queue c q ≡ false
   pub is : r ≡ submission_ring c past q
-  pub within : fetched past q ≤ length (published past q)
+  pub within : fetched_count past q ≤ length (published_entries past q)
 
 -- a completion queue and its ring
 pub record IsCqRing (c : ConfigNumbers) (past : Past) (q : ℕ) (r : CompletionRing) : Type 0 where
   pub there : no_completion_queue c q ≡ false
   pub is : r ≡ completion_ring c past q
-  pub within : reaped past q ≤ length (posted c past q)
+  pub within : reaped_count past q ≤ length (posted_completions c past q)
 
 -- a ticket in flight of a legal history, and what is kept of it
 pub record IsJob (c : ConfigNumbers) (past : Past) (t : ℕ) (j : Keeping) : Type 0 where

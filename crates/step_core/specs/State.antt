@@ -1,7 +1,7 @@
 -- What a controller is, and what a step does to it.
 use Rattle.std.specs.Prelude.{Bool, Err, List, None, Ok, Option, Result, Some, false, slice_get, true, unwrap_or}
 use Rattle.std.specs.Prelude.{ℕ, [], ◌+◌, ◌-◌, ◌^◌, ◌<◌, ◌≤◌, ◌∷◌, ◌≡◌, ◌⊎◌}
-use Rattle.nvme_model.specs.Completions.{posted, reaped}
+use Rattle.nvme_model.specs.Completions.{posted_completions, reaped_count}
 use Rattle.nvme_model.specs.EntryBytes.{blocks, slba}
 use Rattle.nvme_model.specs.History.{Past}
 use Rattle.nvme_model.specs.Open.{has_ended, unit_range}
@@ -82,7 +82,7 @@ answer_of c past (Entry.Grant g) = Answer.Granted g.unit g.range g.mode
 answer_of c past (Entry.Block b) = Answer.Blocked (done_of past b)
 answer_of c past (Entry.Post p) = Answer.Posted p.cqe
 answer_of c past (Entry.Reap r) =
-    Answer.Reaped r.cqe (payload_of (slice_get (posted c past r.queue) (reaped past r.queue)))
+    Answer.Reaped r.cqe (payload_of (slice_get (posted_completions c past r.queue) (reaped_count past r.queue)))
 
 -- ---- what a step does
 

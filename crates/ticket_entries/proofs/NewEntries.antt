@@ -3,7 +3,7 @@ use Rattle.std.proofs.Common.{None, Option, Some, [], ap, arith, eq-eqb, eqb, in
 use Rattle.std.proofs.lemmas.Bool.{cond-false, cond-true}
 use Rattle.std.specs.List.{find}
 use Rattle.std.specs.Prelude.{slice_get, ◌==◌}
-use Rattle.nvme_model.specs.Completions.{posted, reaped}
+use Rattle.nvme_model.specs.Completions.{posted_completions, reaped_count}
 use Rattle.nvme_model.specs.History.{Past}
 use Rattle.nvme_model.specs.Kept.{Kept}
 use Rattle.nvme_model.specs.Legal.{IsLegal}
@@ -73,7 +73,7 @@ new_entry c past (Step.Publish q batch) e h is named = inl (ap ticket_in is)
 new_entry c past (Step.Fetch q) e h is named =
     let n : ticket_in e ≡ tickets past + 1 = ap ticket_in is in
     inr (no_entries c past (ticket_in e) h (omega (arith, n)))
-new_entry c past (Step.Reap q) e h is named = inl (ap ticket_in is ∙ reap_ticket q (slice_get (posted c past q) (reaped past q)))
+new_entry c past (Step.Reap q) e h is named = inl (ap ticket_in is ∙ reap_ticket q (slice_get (posted_completions c past q) (reaped_count past q)))
 new_entry c past (Step.Grant t) e h is named = cc
 new_entry c past (Step.Block t) e h is named = cc
 new_entry c past (Step.Post t) e h is named = cc

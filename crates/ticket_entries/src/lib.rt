@@ -4,7 +4,7 @@
 mod stage;
 
 ghost use Rattle.std.specs.Prelude.{◌≡◌, ◌∷◌, ◌++◌, ◌<◌, ◌≤◌, ◌⊎◌, ℕ, None, Some, [], false, length, nat_le, true};
-ghost use Rattle.nvme_model.specs.Completions.{posted, reaped};
+ghost use Rattle.nvme_model.specs.Completions.{posted_completions, reaped_count};
 ghost use Rattle.nvme_model.specs.History.{Past};
 ghost use Rattle.nvme_model.specs.Legal.{IsLegal};
 ghost use Rattle.nvme_model.specs.Open.{differed, granted, has_ended, unit_range};
@@ -77,5 +77,5 @@ pub fn a_ticket_comes_on_by_its_own_steps()
 pub fn a_completion_that_was_seen_is_there_until_it_is_reaped()
     ensures reaped { (c : ConfigNumbers) (later past : Past) (q : ℕ) →
         refusal c (later ++ past) (Step.Reap q) ≡ Some Why.NoCompletion
-        → length (posted c past q) ≤ reaped (later ++ past) q }
+        → length (posted_completions c past q) ≤ reaped_count (later ++ past) q }
 {}

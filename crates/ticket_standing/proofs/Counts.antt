@@ -10,7 +10,7 @@ use Rattle.nvme_model.proofs.Rules.{follows}
 use Rattle.nvme_model.specs.EntryBytes.{sqe_fields}
 use Rattle.nvme_model.specs.History.{Past}
 use Rattle.nvme_model.specs.Legal.{IsLegal}
-use Rattle.nvme_model.specs.Queues.{fetched, published, waiting}
+use Rattle.nvme_model.specs.Queues.{fetched_count, published_entries, waiting}
 use Rattle.ticket_standing.specs.Standing.{flying, rising}
 use Rattle.nvme_model.specs.Tickets.{next_verdict, cids, cids_in_use, in_flight, numbers, posts_of, tickets}
 use Rattle.nvme_model.specs.Statuses.{missing_fused}
@@ -74,26 +74,26 @@ taken_within u size in_use (first ∷ rest) l =
     by_bool (λ v. taken v ≤ suc (length rest)) (eqb first.fields.fuse 1) (pair_verdict u size in_use first rest) _ (pair_within u size in_use first rest)
     (by_bool (λ v. taken v ≤ suc (length rest)) (eqb first.fields.fuse 2) (Verdict.SingleFailed missing_fused) (of_command (command_fault size in_use first)) (omega arith) (omega (arith, taken_command (command_fault size in_use first))))
 
-pub fetched_within : (c : ConfigNumbers) (past : Past) (q : ℕ) → IsLegal c past → fetched past q ≤ length (published past q)
+pub fetched_within : (c : ConfigNumbers) (past : Past) (q : ℕ) → IsLegal c past → fetched_count past q ≤ length (published_entries past q)
 fetched_within c [] q h = omega arith
 fetched_within c (Entry.Publish p ∷ past) q h =
-    omega (arith, fetched_within c past q (follows c past (Entry.Publish p) h).before, length-append (published past q) (cond (eqb p.queue q) p.batch []))
+    omega (arith, fetched_within c past q (follows c past (Entry.Publish p) h).before, length-append (published_entries past q) (cond (eqb p.queue q) p.batch []))
 fetched_within c (Entry.Fetch f ∷ past) q h =
     let w = follows c past (Entry.Fetch f) h in
     one (eqb f.queue q) refl w.before (fetched_within c past q w.before) w.allowed.1.0 (same_taken _ _ (and_parts _ _ w.fits).1)
   where
-    one : (b : Bool) → eqb f.queue q ≡ b → IsLegal c past → fetched past q ≤ length (published past q) → eqb (length (published past f.queue)) (fetched past f.queue) ≡ false
-        → taken f.verdict ≡ taken (next_verdict c past f.queue) → fetched past q + cond b (taken f.verdict) 0 ≤ length (published past q)
+    one : (b : Bool) → eqb f.queue q ≡ b → IsLegal c past → fetched_count past q ≤ length (published_entries past q) → eqb (length (published_entries past f.queue)) (fetched_count past f.queue) ≡ false
+        → taken f.verdict ≡ taken (next_verdict c past f.queue) → fetched_count past q + cond b (taken f.verdict) 0 ≤ length (published_entries past q)
     one false e k l n t = omega (arith, l)
     one true e k l n t =
         let same : f.queue ≡ q = eqb-true _ _ e in
-        let le : fetched past f.queue ≤ length (published past f.queue) = subst (λ x. fetched past x ≤ length (published past x)) (sym same) l in
-        let len : length (waiting past f.queue) ≡ length (published past f.queue) - fetched past f.queue = length-drop (fetched past f.queue) (published past f.queue) in
-        let ne : length (published past f.queue) ≡ fetched past f.queue → ⊥ = λ x. absurd (let y : eqb (length (published past f.queue)) (fetched past f.queue) ≡ true = eq-eqb _ _ x in cc) in
+        let le : fetched_count past f.queue ≤ length (published_entries past f.queue) = subst (λ x. fetched_count past x ≤ length (published_entries past x)) (sym same) l in
+        let len : length (waiting past f.queue) ≡ length (published_entries past f.queue) - fetched_count past f.queue = length-drop (fetched_count past f.queue) (published_entries past f.queue) in
+        let ne : length (published_entries past f.queue) ≡ fetched_count past f.queue → ⊥ = λ x. absurd (let y : eqb (length (published_entries past f.queue)) (fetched_count past f.queue) ≡ true = eq-eqb _ _ x in cc) in
         let some : 0 < length (waiting past f.queue) = more len le ne in
         let items : length (map item_of (waiting past f.queue)) ≡ length (waiting past f.queue) = length-map (waiting past f.queue) item_of in
         let most = taken_within c.atomic c.blocks (cids_in_use past f.queue) (map item_of (waiting past f.queue)) (omega (arith, some, items)) in
-        subst (λ x. fetched past x + taken f.verdict ≤ length (published past x)) same (omega (arith, most, items, t, len, le))
+        subst (λ x. fetched_count past x + taken f.verdict ≤ length (published_entries past x)) same (omega (arith, most, items, t, len, le))
       where
         more : {n p k : ℕ} → n ≡ p - k → k ≤ p → (p ≡ k → ⊥) → 0 < n
         more {n} {p} {k} a b d = elim (cases_Bool (eqb p k)) [

@@ -3,7 +3,7 @@ use Rattle.std.proofs.Common.{Bool, List, None, Option, Some, [], ap, arith, con
 use Rattle.std.specs.List.{list_any}
 use Rattle.std.proofs.lemmas.Bool.{cond-true}
 use Rattle.nvme_model.specs.Commands.{is_compare, is_read, is_write, is_write_zeroes}
-use Rattle.nvme_model.specs.Completions.{posted, reaped}
+use Rattle.nvme_model.specs.Completions.{posted_completions, reaped_count}
 use Rattle.nvme_model.specs.EntryBytes.{blocks, slba}
 use Rattle.nvme_model.specs.History.{Past}
 use Rattle.nvme_model.specs.Legal.{IsLegal}
@@ -103,5 +103,5 @@ reap_by c past q (Some p) = (_, _, refl)
 
 pub reaped_answer : (c : ConfigNumbers) (past : Past) (q : ℕ) (e : Entry) (a : Answer) → Accepts c past (Step.Reap q) e a → (cqe payload : List ℕ) × (a ≡ Answer.Reaped cqe payload)
 reaped_answer c past q e a s =
-    let t = reap_by c past q (slice_get (posted c past q) (reaped past q)) in
+    let t = reap_by c past q (slice_get (posted_completions c past q) (reaped_count past q)) in
     (t.0, t.1, s.2 ∙ (ap (answer_of c past) s.1 ∙ t.2))

@@ -5,7 +5,7 @@ use Rattle.std.specs.Prelude.{bytes_eq, ◌==◌}
 use Rattle.std.proofs.Math.Bool.{or-true}
 use Rattle.std.proofs.lemmas.List.Folds.{list_any-append}
 use Rattle.std.proofs.lemmas.Slice.Eq.{bytes_eq-Decides}
-use Rattle.nvme_model.specs.Completions.{completion, posted}
+use Rattle.nvme_model.specs.Completions.{completion, posted_completions}
 use Rattle.nvme_model.specs.Config.{completion_queue}
 use Rattle.nvme_model.specs.History.{Past}
 use Rattle.nvme_model.specs.Open.{open_units}
@@ -37,10 +37,10 @@ module _ (c : ConfigNumbers) (past : Past) where
   newest : (p : PostLine) → IsPostedTo c (Entry.Post p ∷ past) (completion_queue c (ticket past p.ticket).queue) p.cqe
   newest p =
       let q : ℕ = completion_queue c (ticket past p.ticket).queue in
-      ap (λ b. list_any (λ (r : PostLine). bytes_eq r.cqe p.cqe) (posted c past q ++ (if b then p ∷ [] else []))) (eq-eqb q q refl)
-      ∙ (list_any-append (λ (r : PostLine). bytes_eq r.cqe p.cqe) (posted c past q) (p ∷ [])
-      ∙ (ap (λ b. list_any (λ (r : PostLine). bytes_eq r.cqe p.cqe) (posted c past q) || (b || false)) ((bytes_eq-Decides p.cqe p.cqe).1 refl)
-      ∙ or-true (list_any (λ (r : PostLine). bytes_eq r.cqe p.cqe) (posted c past q))))
+      ap (λ b. list_any (λ (r : PostLine). bytes_eq r.cqe p.cqe) (posted_completions c past q ++ (if b then p ∷ [] else []))) (eq-eqb q q refl)
+      ∙ (list_any-append (λ (r : PostLine). bytes_eq r.cqe p.cqe) (posted_completions c past q) (p ∷ [])
+      ∙ (ap (λ b. list_any (λ (r : PostLine). bytes_eq r.cqe p.cqe) (posted_completions c past q) || (b || false)) ((bytes_eq-Decides p.cqe p.cqe).1 refl)
+      ∙ or-true (list_any (λ (r : PostLine). bytes_eq r.cqe p.cqe) (posted_completions c past q))))
 
   module _ (t : ℕ) where
     by_grant : (o : Option Range) → IsTicketPosted c (grant_entry past t o ∷ past) t (answer_of c past (grant_entry past t o))

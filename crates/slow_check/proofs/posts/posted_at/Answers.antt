@@ -1,12 +1,12 @@
 use Rattle.std.proofs.Common.{ap, sym, ◌∙◌, length, slice_get}
-use Rattle.nvme_model.specs.Completions.{posted}
+use Rattle.nvme_model.specs.Completions.{posted_completions}
 use Rattle.nvme_model.specs.History.{Past}
 use Rattle.slow_check.proofs.Skipped.{no_post}
 use Rattle.slow_check.proofs.posts.posted_at.Goals as goal
 
 pub loop-last-preserved : goal.loop-last-preserved
 loop-last-preserved c =
-    let same = ap (λ (p : Past). posted c.args.config.now p c.args.queue) c.in-Some.ensures.value.is
+    let same = ap (λ (p : Past). posted_completions c.args.config.now p c.args.queue) c.in-Some.ensures.value.is
     ∙ no_post c.args.config.now c.in-Some.last.before c.in-Some.last.entry.now c.args.queue c.in_default-entry.not-Post in
     record {
       left = c.loop-last.invariant.left ∙ ap length same;
