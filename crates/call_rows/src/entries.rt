@@ -3,9 +3,9 @@
 ghost use Rattle.std.specs.Prelude.{IfOk, length, ◌≡◌, ◌≤◌};
 ghost use Rattle.driver_commands.specs.Entries.{entry_count, payloads_of};
 
-use driver_commands::{CallData, Request, batch_of, copy_of, room_for, taken_back};
+use driver_commands::{CallData, Request, batch_of, room_for, taken_back};
 use nvme_model::operation::Op;
-use nvme_model::submission::Submissions;
+use nvme_model::submission::{Payload, Submissions};
 use std::alloc::{AllocError as NoMemory, Global};
 use std::test::Fail;
 
@@ -62,7 +62,7 @@ fn a_read(rt: HostRuntime) -> Result<(), Fail> {
         slba: 0x0102_0304_0506_0708,
         blocks: 256,
     };
-    let contents = CallData::One(copy_of(rt.alloc(), &[])?);
+    let contents = CallData::One(Payload::copy_of(rt.alloc(), &[])?);
     let batch = made(rt.alloc(), request, contents)?;
     assert_eq!(rt; batch.as_slice().len(), 1);
     assert_eq!(rt; batch.as_slice()[0].entry, READ);
@@ -72,9 +72,9 @@ fn a_read(rt: HostRuntime) -> Result<(), Fail> {
 #[test]
 fn commands_by_themselves(rt: HostRuntime) -> Result<(), Fail> {
     let bytes = [9, 8, 7];
-    let empty = CallData::One(copy_of(rt.alloc(), &[])?);
-    let compared = CallData::One(copy_of(rt.alloc(), &bytes)?);
-    let written = CallData::One(copy_of(rt.alloc(), &bytes)?);
+    let empty = CallData::One(Payload::copy_of(rt.alloc(), &[])?);
+    let compared = CallData::One(Payload::copy_of(rt.alloc(), &bytes)?);
+    let written = CallData::One(Payload::copy_of(rt.alloc(), &bytes)?);
     let compare = Request {
         op: Op::Compare,
         slba: 0x8000_0000_0000_0001,
@@ -128,8 +128,8 @@ const SWAP: Request = Request {
 fn swap(alloc: Global) -> Result<Submissions, NoMemory>
     ensures two { IfOk result (λ batch. length batch ≡ 2) }
 {
-    let expected = copy_of(alloc, &[3, 4])?;
-    let desired = copy_of(alloc, &[5, 6])?;
+    let expected = Payload::copy_of(alloc, &[3, 4])?;
+    let desired = Payload::copy_of(alloc, &[5, 6])?;
     made(alloc, SWAP, CallData::Two(expected, desired))
 }
 

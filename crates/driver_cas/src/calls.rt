@@ -18,9 +18,10 @@ use crate::fault::Fault;
 use crate::port::Port;
 use crate::start::free_cids;
 use block_array::BLOCK;
-use driver_commands::{CallData, Request, copy_of, room_for};
+use driver_commands::{CallData, Request, room_for};
 use nvme_model::array::Range;
 use nvme_model::operation::Op;
+use nvme_model::submission::Payload;
 
 // The most blocks of a call.
 const MOST: usize = 256;
@@ -96,7 +97,7 @@ impl<P: Port> Driver<P> {
         if !self.has_free(op) {
             return Err(Fault::RingFull);
         }
-        let Ok(payload) = copy_of(self.alloc, contents) else {
+        let Ok(payload) = Payload::copy_of(self.alloc, contents) else {
             return Err(Fault::NoMemory);
         };
         let Ok(room) = room_for(self.alloc, op) else {
@@ -206,10 +207,10 @@ impl<P: Port> Driver<P> {
         if !self.has_free(Op::Pair) {
             return Err(Fault::RingFull);
         }
-        let Ok(first) = copy_of(self.alloc, expected) else {
+        let Ok(first) = Payload::copy_of(self.alloc, expected) else {
             return Err(Fault::NoMemory);
         };
-        let Ok(second) = copy_of(self.alloc, desired) else {
+        let Ok(second) = Payload::copy_of(self.alloc, desired) else {
             return Err(Fault::NoMemory);
         };
         let Ok(room) = room_for(self.alloc, Op::Pair) else {

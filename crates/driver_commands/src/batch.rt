@@ -12,17 +12,6 @@ use nvme_model::operation::Op;
 use nvme_model::submission::{Payload, Submission, Submissions};
 use std::alloc::{AllocError as NoMemory, Global};
 
-/// The same bytes, in memory of their own.
-///
-/// # Errors
-///
-/// `NoMemory` alone.
-pub fn copy_of(alloc: Global, bytes: &[u8]) -> Result<Payload, NoMemory>
-    ensures same { IfOk result (λ payload. payload ≡ bytes.now) }
-{
-    Payload::copy_of(alloc, bytes)
-}
-
 /// Room for the entries of a call of this operation, none of which is there.
 ///
 /// # Errors

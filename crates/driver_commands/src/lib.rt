@@ -6,6 +6,6 @@ pub mod laws;
 mod request;
 mod slot;
 
-pub use batch::{batch_of, copy_of, room_for, taken_back};
+pub use batch::{batch_of, room_for, taken_back};
 pub use request::{CallData, Request};
 pub use slot::slot_block;

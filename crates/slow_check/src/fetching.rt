@@ -7,8 +7,7 @@ ghost use Rattle.nvme_model.specs.Queues.{published_entries};
 ghost use Rattle.nvme_model.specs.Refusals.{jobs_full};
 ghost use Rattle.nvme_model.specs.Tickets.{cids, cids_in_use, in_flight, next_verdict};
 ghost use Rattle.nvme_model.specs.Tickets.{posts_of, ticket};
-ghost use Rattle.nvme_model.specs.Verdict.{item_of, same_verdict};
-ghost use Rattle.nvme_model.specs.Statuses.{same_status};
+ghost use Rattle.nvme_model.specs.Verdict.{item_of};
 ghost use Rattle.nvme_model.specs.declared.status.Verdict.{Verdict};
 
 use crate::counts::{fetched, posts_of, published_at, tickets};
@@ -17,7 +16,7 @@ use crate::taken::{cid_at, count_at, queue_at, ticket};
 use block_array::NoMemory;
 use fused_match::{Item, judge};
 use history::Config;
-use nvme_model::status::{Status, Verdict};
+use nvme_model::status::Verdict;
 use std::alloc::Global;
 
 /// Whether a ticket is in flight.
@@ -109,43 +108,4 @@ pub(crate) fn next_verdict(
         size,
     );
     Ok(judged.verdict())
-}
-
-// Whether two statuses are the same.
-fn same_status(status: Status, other: Status) -> bool
-    ensures value { result ≡ same_status status other }
-{
-    status.sct() == other.sct() && status.sc() == other.sc()
-}
-
-// Whether a verdict is that one command failed so.
-fn is_single_failed(verdict: Verdict, status: Status) -> bool
-    ensures value { result ≡ same_verdict (Verdict.SingleFailed status) verdict }
-{
-    match verdict {
-        Verdict::SingleFailed(other) => same_status(status, other),
-        _ => false,
-    }
-}
-
-// Whether a verdict is that a pair failed so.
-fn is_pair_failed(verdict: Verdict, first: Status, second: Status) -> bool
-    ensures value { result ≡ same_verdict (Verdict.PairFailed first second) verdict }
-{
-    match verdict {
-        Verdict::PairFailed(one, other) => same_status(first, one) && same_status(second, other),
-        _ => false,
-    }
-}
-
-/// Whether two verdicts are the same.
-pub(crate) fn same_verdict(verdict: Verdict, other: Verdict) -> bool
-    ensures value { result ≡ same_verdict verdict other }
-{
-    match verdict {
-        Verdict::Single => matches!(other, Verdict::Single),
-        Verdict::Pair => matches!(other, Verdict::Pair),
-        Verdict::SingleFailed(status) => is_single_failed(other, status),
-        Verdict::PairFailed(first, second) => is_pair_failed(other, first, second),
-    }
 }

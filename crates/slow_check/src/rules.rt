@@ -21,7 +21,7 @@ ghost use Rattle.nvme_model.specs.declared.step.Step.{Step};
 ghost use Rattle.slow_check.specs.Answers.{is_right};
 
 use crate::counts::{differed, fetched, grants_of, posts_of, published_len, reaped, tickets};
-use crate::fetching::{in_flight, jobs_full, next_verdict, same_verdict};
+use crate::fetching::{in_flight, jobs_full, next_verdict};
 use crate::owed::{completion_data, owed, status_at, units_of};
 use crate::past::Before;
 use crate::posts::{completion, completion_queue, posted_at, posted_len};
@@ -29,6 +29,7 @@ use crate::taken::{Taken, compare_data, is_exclusive, mode, op, queue_of, ticket
 use crate::units::{all_ended, conflicts_open, find_open, made_len};
 use crate::values::{effect, may_be_effect, value};
 use block_array::NoMemory;
+use broken_rules::same_verdict;
 use history::Config;
 use nvme_model::array::{Mode, Range};
 use nvme_model::entry::{BlockLine, Entry, FetchLine, GrantLine, PostLine, PublishLine, ReapLine};
