@@ -15,4 +15,4 @@ pub use laws::nothing_is_broken_exactly_where_legal;
 pub use rows::{BlockDue, block_broken, fetch_broken, grant_broken};
 pub use unlike::{Unlike, cqe_unlike, reap_broken};
 pub use verdicts::same_verdict;
-pub use words::Words;
+pub use words::{Words, may_find};

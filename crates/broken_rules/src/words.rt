@@ -1,6 +1,7 @@
 //! What the word of a Block has to be.
 
 ghost use Rattle.std.specs.Prelude.{◌≡◌};
+ghost use Rattle.nvme_model.specs.Answered.{may_find};
 ghost use Rattle.broken_rules.specs.Rows.{is_word, word_due};
 
 use nvme_model::operation::{Found, Op};
@@ -49,4 +50,12 @@ impl Words {
             Words::Written => found == Found::Written,
         }
     }
+}
+
+/// Whether a Block of a unit of `blocks` blocks may say this as its `made`th, from 0.
+#[tactic(auto, using(crate::proofs::Exactly::word_is))]
+pub fn may_find(op: Option<Op>, blocks: u32, made: u64, found: Found) -> bool
+    ensures value { result ≡ may_find op blocks made found }
+{
+    Words::due(op, blocks, made).fits(found)
 }

@@ -2,7 +2,7 @@
 
 ghost use Rattle.std.specs.Prelude.{◌≡◌, ◌*◌, ◌-◌, ◌≤◌, ◌∷◌, drop, get_or, length, option_to_list, take};
 ghost use Rattle.nvme_model.specs.Array.{zeros};
-ghost use Rattle.nvme_model.specs.Operations.{compare_data, has_compare, has_write, mode, op, op_of_fields, write_data};
+ghost use Rattle.nvme_model.specs.Operations.{compare_data, has_compare, has_write, mode, op, write_data};
 ghost use Rattle.nvme_model.specs.Tickets.{cids, command, first_fields};
 
 use entry_codec::{Sqe, decode_sqe};
@@ -103,7 +103,7 @@ impl Commands {
         ensures value { result ≡ op self.now }
     {
         match self.verdict {
-            Verdict::Single => op_of_fields(&self.first_fields()),
+            Verdict::Single => self.first_fields().operation(),
             Verdict::Pair => Some(Op::Pair),
             Verdict::SingleFailed(_) | Verdict::PairFailed(_, _) => None,
         }
@@ -159,25 +159,6 @@ fn zero_block() -> &'static [u8]
     ensures value { result.now ≡ zeros }
 {
     &ZEROS
-}
-
-// What a single command that passed its checks does.
-fn op_of_fields(fields: &Sqe) -> Option<Op>
-    ensures value { result ≡ op_of_fields fields.now }
-{
-    if fields.is_write() {
-        return Some(Op::Write);
-    }
-    if fields.is_read() {
-        return Some(Op::Read);
-    }
-    if fields.is_compare() {
-        return Some(Op::Compare);
-    }
-    if fields.is_write_zeroes() {
-        return Some(Op::WriteZeroes);
-    }
-    None
 }
 
 /// Whether it writes blocks.

@@ -2,7 +2,6 @@
 
 ghost use Rattle.std.specs.Prelude.{◌≡◌, ◌≤◌, ◌<◌, ◌+◌, ◌++◌, ◌%◌, ◌^◌, ◌==◌, [], ◌∷◌, ◌||◌, None, IfOk, OnErr, OnOk};
 ghost use Rattle.std.specs.Prelude.{length, nat_le, option_copied, option_map, option_to_list};
-ghost use Rattle.nvme_model.specs.Answered.{may_find};
 ghost use Rattle.std.specs.List.{list_all};
 ghost use Rattle.nvme_model.specs.Open.{is_differs, steps_needed};
 ghost use Rattle.nvme_model.specs.Value.{writes};
@@ -14,7 +13,7 @@ ghost use Rattle.checked_tickets.specs.Explained.{due_in};
 
 use crate::commands::{Commands, has_compare, has_write};
 use block_array::{NoMemory, Volume};
-use broken_rules::{BlockDue, Words};
+use broken_rules::{BlockDue, Words, may_find};
 use nvme_model::array::Range;
 use nvme_model::entry::{BlockLine, GrantLine};
 use nvme_model::operation::{Found, Op};
@@ -256,25 +255,6 @@ pub(crate) fn word_of(found: Found) -> Option<bool>
         Found::Equal => Some(true),
         Found::Differs => Some(false),
         Found::Read | Found::Written => None,
-    }
-}
-
-// Whether a Block entry of a unit of `blocks` blocks may say this as its `made`th, from 0.
-fn may_find(op: Option<Op>, blocks: u32, made: u64, found: Found) -> bool
-    ensures value { result ≡ may_find op blocks made found }
-{
-    match op {
-        None => false,
-        Some(Op::Read) => found == Found::Read,
-        Some(Op::Compare) => found == Found::Equal || found == Found::Differs,
-        Some(Op::Write | Op::WriteZeroes) => found == Found::Written,
-        Some(Op::Pair) => {
-            if made < u64::from(blocks) {
-                found == Found::Equal || found == Found::Differs
-            } else {
-                found == Found::Written
-            }
-        }
     }
 }
 

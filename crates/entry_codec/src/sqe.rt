@@ -3,11 +3,13 @@
 ghost use Rattle.std.specs.Prelude.{◌≡◌, ◌<◌, ◌≤◌, ◌+◌, ◌↔◌, IsTrue};
 ghost use Rattle.nvme_model.specs.EntryBytes.{slba as slba_of, blocks as blocks_of};
 ghost use Rattle.nvme_model.specs.Commands.{is_flush, is_write, is_read, is_compare, is_write_zeroes, data_length};
+ghost use Rattle.nvme_model.specs.Operations.{op_of_fields};
 ghost use Rattle.nvme_model.specs.Verdict.{has_invalid_field};
 ghost use Rattle.entry_codec.specs.Fuse.{fuse_number};
 ghost use Rattle.entry_codec.specs.Sqe.{command_fields, unused};
 
 use crate::fuse::Fuse;
+use nvme_model::operation::Op;
 use std::marker::Model;
 
 mod codec;
@@ -266,6 +268,25 @@ impl Sqe {
         ensures value { result ≡ is_write_zeroes self.now }
     {
         self.opcode == 0x08
+    }
+
+    /// What a single command that passed its checks does; None for a Flush.
+    pub fn operation(&self) -> Option<Op>
+        ensures value { result ≡ op_of_fields self.now }
+    {
+        if self.is_write() {
+            return Some(Op::Write);
+        }
+        if self.is_read() {
+            return Some(Op::Read);
+        }
+        if self.is_compare() {
+            return Some(Op::Compare);
+        }
+        if self.is_write_zeroes() {
+            return Some(Op::WriteZeroes);
+        }
+        None
     }
 
     /// How many bytes of data lie beside the entry: 512 a block of a Write or a Compare, else none.

@@ -11,7 +11,7 @@ use crate::checks::{command_fault, pair_fault};
 use crate::item::Item;
 use crate::judged::Judged;
 use atomic_units::Units;
-use block_array::{Op, Range};
+use block_array::Range;
 use entry_codec::Sqe;
 use nvme_model::status::Status;
 
@@ -34,19 +34,10 @@ fn single(sqe: &Sqe, fault: Option<Status>) -> Judged
     if let Some(status) = fault {
         return Judged::Failed(status);
     }
-    if sqe.is_write() {
-        return Judged::Single(Op::Write, range_of(sqe));
+    match sqe.operation() {
+        Some(op) => Judged::Single(op, range_of(sqe)),
+        None => Judged::Flush,
     }
-    if sqe.is_read() {
-        return Judged::Single(Op::Read, range_of(sqe));
-    }
-    if sqe.is_compare() {
-        return Judged::Single(Op::Compare, range_of(sqe));
-    }
-    if sqe.is_write_zeroes() {
-        return Judged::Single(Op::WriteZeroes, range_of(sqe));
-    }
-    Judged::Flush
 }
 
 // A matched pair that passed its checks, or failed so.

@@ -5,7 +5,7 @@ ghost use Rattle.std.specs.List.{list_all};
 ghost use Rattle.std.specs.Option.{option_copied};
 ghost use Rattle.std.specs.Prelude.{◌≡◌, ◌==◌, ◌+◌, ◌-◌, ◌%◌, ◌∷◌, IfOk, Some, is_none, length};
 ghost use Rattle.std.specs.Prelude.{slice_get};
-ghost use Rattle.nvme_model.specs.Answered.{may_find, right_answers};
+ghost use Rattle.nvme_model.specs.Answered.{right_answers};
 ghost use Rattle.nvme_model.specs.Completions.{posted_completions, reaped_count};
 ghost use Rattle.nvme_model.specs.Legal.{IsLegal, block_fits, is_cqe, is_range, may_follow};
 ghost use Rattle.nvme_model.specs.Legal.{post_fits};
@@ -29,7 +29,7 @@ use crate::taken::{Taken, compare_data, is_exclusive, mode, op, queue_of, ticket
 use crate::units::{all_ended, conflicts_open, find_open, made_len};
 use crate::values::{effect, may_be_effect, value};
 use block_array::NoMemory;
-use broken_rules::same_verdict;
+use broken_rules::{may_find, same_verdict};
 use history::Config;
 use nvme_model::array::{Mode, Range};
 use nvme_model::entry::{BlockLine, Entry, FetchLine, GrantLine, PostLine, PublishLine, ReapLine};
@@ -155,25 +155,6 @@ fn grant_follows(
         return Ok(false);
     }
     Ok(line.unit == granted && is_range(next, line.range.get()) && same_mode(line.mode, mode))
-}
-
-// Whether a Block entry of a unit of `blocks` blocks may say this as its `made`th, from 0.
-fn may_find(op: Option<Op>, blocks: u32, made: u64, found: Found) -> bool
-    ensures value { result ≡ may_find op blocks made found }
-{
-    match op {
-        None => false,
-        Some(Op::Read) => found == Found::Read,
-        Some(Op::Compare) => found == Found::Equal || found == Found::Differs,
-        Some(Op::Write | Op::WriteZeroes) => found == Found::Written,
-        Some(Op::Pair) => {
-            if made < u64::from(blocks) {
-                found == Found::Equal || found == Found::Differs
-            } else {
-                found == Found::Written
-            }
-        }
-    }
 }
 
 // Whether a comparing entry says what the contents at the effect say.

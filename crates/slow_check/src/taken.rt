@@ -4,7 +4,7 @@ ghost use Rattle.std.specs.Option.{option_copied};
 ghost use Rattle.std.specs.Prelude.{◌≡◌, ◌*◌, ◌-◌, ◌==◌, None, drop, get_or, if◌then◌else◌};
 ghost use Rattle.std.specs.Prelude.{length, take};
 ghost use Rattle.nvme_model.specs.Operations.{compare_data, has_compare, has_write, is_exclusive};
-ghost use Rattle.nvme_model.specs.Operations.{is_pair, mode, op, op_of_fields, write_data};
+ghost use Rattle.nvme_model.specs.Operations.{is_pair, mode, op, write_data};
 ghost use Rattle.nvme_model.specs.Array.{zeros};
 ghost use Rattle.nvme_model.specs.Tickets.{cids, command, fetched_ticket, first_fields, ticket};
 ghost use Rattle.slow_check.specs.Taken.{passes_pair};
@@ -212,31 +212,12 @@ pub(crate) fn cid_at(k: &Taken, number: u64) -> u16
     }
 }
 
-// What a single command that passed its checks does.
-fn op_of_fields(fields: &Sqe) -> Option<Op>
-    ensures value { result ≡ op_of_fields fields.now }
-{
-    if fields.is_write() {
-        return Some(Op::Write);
-    }
-    if fields.is_read() {
-        return Some(Op::Read);
-    }
-    if fields.is_compare() {
-        return Some(Op::Compare);
-    }
-    if fields.is_write_zeroes() {
-        return Some(Op::WriteZeroes);
-    }
-    None
-}
-
 /// What the ticket does with its blocks.
 pub(crate) fn op(k: &Taken) -> Option<Op>
     ensures value { result ≡ op k.now }
 {
     match k.verdict {
-        Verdict::Single => op_of_fields(&first_fields(k)),
+        Verdict::Single => first_fields(k).operation(),
         Verdict::Pair => Some(Op::Pair),
         Verdict::SingleFailed(_) | Verdict::PairFailed(_, _) => None,
     }
