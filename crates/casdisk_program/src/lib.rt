@@ -10,6 +10,3 @@ pub use crate::laws::{a_history_is_read_back, what_a_race_wrote_is_legal};
 pub use crate::program::run_program;
 pub use crate::request::{Asked, UsageFault};
 pub use crate::usage::asked;
-
-#[cfg(test)]
-mod tests;

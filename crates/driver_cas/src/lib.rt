@@ -6,8 +6,6 @@ mod calls;
 mod claims;
 mod driver;
 mod fault;
-#[cfg(test)]
-mod last_serial;
 mod listen;
 mod messages;
 mod poll;

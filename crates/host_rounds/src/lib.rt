@@ -7,8 +7,6 @@ mod owned;
 mod pausing;
 mod releasing;
 mod rounds;
-#[cfg(test)]
-mod stop_tests;
 
 pub use guests::{Play, run_hosts};
 pub use owned::{Host, host_of};

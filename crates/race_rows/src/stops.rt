@@ -4,9 +4,9 @@ ghost use Rattle.std.specs.Prelude.{◌≡◌, All, IfOk};
 ghost use Rattle.hosts.specs.Hands.{IsHostOf, IsOf, IsWorkerOf};
 ghost use Rattle.host_rounds.specs.Hosts.{IsSlotArea};
 
-use crate::guests::{Play, run_hosts};
 use history::Config;
 use history_check::check;
+use host_rounds::{Play, run_hosts};
 use hosts::{Hall, Hand, Hands, HostHand, OpenGate, WorkerHand, hall_of, run_crew};
 use nvme_model::array::Range;
 use std::alloc::{AllocError as NoMemory, Global};
