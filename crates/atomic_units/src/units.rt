@@ -1,7 +1,7 @@
 //! The numbers of the cut, without a fault.
 
 ghost use Rattle.std.specs.Prelude.{◌≡◌, ◌≢◌, ◌↔◌, ◌+◌, ◌-◌, ◌≤◌, IfErr, IfOk, IsTrue, None, OnOk, Some, not};
-ghost use Rattle.nvme_model.specs.Cells.{cell, in_one_cell, is_atomic, pair_fits};
+ghost use Rattle.nvme_model.specs.Cells.{cell, in_one_cell, pair_fits};
 ghost use Rattle.nvme_model.specs.Config.{unit_fault};
 ghost use Rattle.nvme_model.specs.Cut.{IsCut, cut};
 ghost use Rattle.nvme_model.specs.declared.config.AtomicParameters.{AtomicParameters};
@@ -103,15 +103,6 @@ impl Units {
         ensures law { IsCut self.now slba blocks result }
     {
         UnitIter::new(self.parameters, slba, blocks)
-    }
-
-    /// Whether these blocks can be one unit: at most AWUN + 1, with no boundary between them.
-    pub fn is_atomic(&self, slba: u64, blocks: u32) -> bool
-        requires some { 1 ≤ blocks }
-        requires within { slba + blocks ≤ 65536 }
-        ensures atomic { result ≡ is_atomic self.now slba blocks }
-    {
-        blocks <= u32::from(self.parameters.awun) + 1 && in_one_cell(&self.parameters, slba, blocks)
     }
 
     /// Whether a boundary lies between these blocks.

@@ -59,14 +59,6 @@ impl CidTable {
         }
     }
 
-    /// The submission queues, given back.
-    pub fn into_queues(self) -> Vec<u16>
-        ensures value { result.items ≡ queues_of self }
-    {
-        let CidTable { queues, cids: _ } = self;
-        queues
-    }
-
     /// The submission queues, in rising order.
     pub fn queues(&self) -> &[u16]
         ensures value { result.now ≡ queues_of self.now }

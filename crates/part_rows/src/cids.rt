@@ -88,7 +88,7 @@ fn new_is_free(rt: HostRuntime) {
     }
     agree(&rt, &table, 0);
     assert!(rt; table.release(5, 63).is_none());
-    assert_eq!(rt; table.into_queues().as_slice(), [2, 5].as_slice());
+    assert_eq!(rt; table.queues(), [2, 5].as_slice());
 }
 
 #[test]
@@ -99,7 +99,6 @@ fn no_queue(rt: HostRuntime) {
             assert!(rt; table.queues().is_empty());
             assert_eq!(rt; table.free_one(0), None);
             agree(&rt, &table, 0);
-            assert!(rt; table.into_queues().is_empty());
         }
     }
 }

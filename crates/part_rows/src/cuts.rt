@@ -97,10 +97,6 @@ fn check(
         units.pair_fits(slba, blocks) == (blocks <= u32::from(acwu) + 1 && !crosses),
         "{numbers:?} at {slba}, {blocks}"
     );
-    assert!(rt;
-        units.is_atomic(slba, blocks) == (want.len() == 1),
-        "{numbers:?} at {slba}, {blocks}"
-    );
     Ok(())
 }
 
