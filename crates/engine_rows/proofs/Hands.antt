@@ -1,8 +1,5 @@
--- What a fetched Work is, to which queue a completion is posted where there is one, and what new passes know.
-use Rattle.std.proofs.Common.{All, ap, arith, slice_get, subst, ℕ, ◌%◌, ◌+◌, ◌-◌, ◌∙◌, ◌≡◌, List, Some}
-use Rattle.std.proofs.Math.ListN.{get_or}
-use Rattle.std.proofs.lemmas.Option.{slice_get-get_or}
-use Rattle.meet_lock.specs.Passes.{IsNew, config_of}
+-- What a fetched Work is, and to which queue a completion is posted where there is one.
+use Rattle.std.proofs.Common.{ap, arith, subst, ℕ, ◌%◌, ◌+◌, ◌-◌, ◌∙◌, ◌≡◌, List}
 use Rattle.nvme_model.specs.History.{Past}
 use Rattle.nvme_model.specs.declared.config.ConfigNumbers.{ConfigNumbers}
 use Rattle.nvme_model.specs.declared.entry.Entry.{Entry}
@@ -11,7 +8,6 @@ use Rattle.step_core.specs.declared.work.Work.{Work as Duty}
 use Rattle.work_queue.specs.Duties.{is_only_fetch}
 use Rattle.work_queue.specs.Engines as engine
 use Rattle.work_queue.specs.Posted.{IsAnswerPosted, IsPostedTo}
-use Rattle.work_queue.specs.declared.engine.Engine.{Engine}
 use Rattle.work_queue.specs.declared.engine.Open.{Open}
 use Rattle.work_queue.specs.declared.engine.Opened.{Opened}
 use Rattle.work_queue.specs.declared.engine.Opened.TheVariants as opened
@@ -37,6 +33,3 @@ mod_one n = omega arith
 pub posted_one : (c : ConfigNumbers) (past : Past) (q : ℕ) (cqe : List ℕ) → c.cqs ≡ 1 → IsAnswerPosted c past q (Answer.Posted cqe) → IsPostedTo c past 1 cqe
 posted_one c past q cqe one h =
     subst (λ n. IsPostedTo c past n cqe) (ap (λ k. (q - 1) % k + 1) one ∙ mod_one (q - 1)) h
-
-pub config_kept : (e : Engine) (n : ℕ) (c d : ConfigNumbers) (past : Past) (ps : List engine.EnginePass) → c ≡ d → ((k : ℕ) (p : engine.EnginePass) → slice_get ps k ≡ Some p → engine.IsOf e p × IsNew n c past (k + 1) p) → All (λ p. config_of p ≡ d) ps
-config_kept e n c d past ps same each = λ k x within. (each k (get_or ps k x) (slice_get-get_or ps k x within)).1.2 ∙ same

@@ -4,29 +4,15 @@ ghost use Rattle.std.specs.Prelude.{◌<◌, IfOk};
 ghost use Rattle.engine_rows.specs.Hands.{AreOf, IsFreshWork, IsOf};
 
 use crate::commands::one_command;
-use crate::hall::{Hall, Hand, Spares, hall_of, take_hand};
+use crate::hall::{Hall, Hand, Spares};
+use crate::halls::{next_hand, one_queue};
 use crate::messages::{fetches, opens, pops, pushes};
-use history::Config;
 use std::alloc::Global;
+use std::ops::Range;
 use std::process::Abort;
 use std::sync::Wait;
 use std::test::Fail;
 use work_queue::{Open, Work};
-
-/// A hall of one queue pair, whose queues have so many places.
-pub(crate) fn one_queue(
-    alloc: Global,
-    capacity: usize,
-    count: usize,
-) -> Result<(Hall, Spares), Fail>
-    requires { (0 < capacity) × (0 < count) }
-    ensures { IfOk result (λ h. AreOf h.0 h.1) }
-{
-    let Ok(config) = Config::new(8, 1, 1, 0, 0, 1, 4, 4, 32) else {
-        return Err(Fail::from("the configuration is refused"));
-    };
-    Ok(hall_of(alloc, config, capacity, count)?)
-}
 
 /// A Flush, published and fetched.
 pub(crate) fn flush<R: Abort + Wait>(
@@ -82,37 +68,58 @@ fn overfills<R: Abort + Wait>(
     }
 }
 
-/// Pops the tickets from 1 to `count`, and then nothing.
-fn empties<R: Abort + Wait>(rt: &R, hall: &Hall, hand: &mut Hand, count: u64)
+/// Pops these tickets, and then nothing.
+fn empties<R: Abort + Wait>(rt: &R, hall: &Hall, hand: &mut Hand, tickets: Range<u64>)
     requires { IsOf hall.now hand.old }
     ensures { IsOf hall.now hand.new }
 {
-    for before in 0..count {
-        assert_eq!(rt; popped(rt, hall, hand), before.wrapping_add(1));
+    for ticket in tickets {
+        assert_eq!(rt; popped(rt, hall, hand), ticket);
     }
     assert_eq!(rt; popped(rt, hall, hand), 0);
 }
 
 /// That a queue of so many places holds so many Works: one more comes back, and an empty queue gives none.
+fn holds_so_many<R: Abort + Wait>(
+    rt: &R,
+    alloc: Global,
+    hall: &Hall,
+    one: &mut Hand,
+    two: &mut Hand,
+    capacity: u16,
+) -> Result<(), Fail>
+    requires { IsOf hall.now one.old × IsOf hall.now two.old }
+{
+    empties(rt, hall, two, 1..1);
+    let back = overfills(rt, alloc, hall, one, capacity)?;
+    let next = u64::from(capacity).wrapping_add(1);
+    assert_eq!(rt; back.ticket(), next);
+    empties(rt, hall, two, 1..next);
+    assert!(rt; pushes(rt, hall, one, back).is_ok());
+    empties(rt, hall, two, next..next.wrapping_add(1));
+    Ok(())
+}
+
+/// That by two of these hands.
+fn two_hold<R: Abort + Wait>(
+    rt: &R,
+    alloc: Global,
+    hall: &Hall,
+    hands: &mut Spares,
+    capacity: u16,
+) -> Result<(), Fail>
+    requires { AreOf hall.now hands.old }
+{
+    let mut one = next_hand(hall, hands)?;
+    let mut two = next_hand(hall, hands)?;
+    holds_so_many(rt, alloc, hall, &mut one, &mut two, capacity)
+}
+
 fn holds<R: Abort + Wait>(rt: &R, alloc: Global, capacity: u16) -> Result<(), Fail>
     requires { 0 < capacity }
 {
     let (hall, mut hands) = one_queue(alloc, capacity as usize, 2)?;
-    let (Some(mut two), Some(mut one)) = (
-        take_hand(&hall, &mut hands),
-        take_hand(&hall, &mut hands),
-    ) else {
-        return Err(Fail::from("two hands"));
-    };
-    assert_eq!(rt; popped(rt, &hall, &mut two), 0);
-    let back = overfills(rt, alloc, &hall, &mut one, capacity)?;
-    let last = back.ticket();
-    assert_eq!(rt; last, u64::from(capacity).wrapping_add(1));
-    empties(rt, &hall, &mut two, u64::from(capacity));
-    assert!(rt; pushes(rt, &hall, &mut one, back).is_ok());
-    assert_eq!(rt; popped(rt, &hall, &mut two), last);
-    assert_eq!(rt; popped(rt, &hall, &mut two), 0);
-    Ok(())
+    two_hold(rt, alloc, &hall, &mut hands, capacity)
 }
 
 #[test]

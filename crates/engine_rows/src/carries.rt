@@ -1,10 +1,12 @@
 //! Every Work that goes through a queue comes out, once and in its pusher's order.
 
-ghost use Rattle.std.specs.Prelude.{◌<◌};
+ghost use Rattle.std.specs.Prelude.{◌<◌, IfOk};
+ghost use Rattle.engine_rows.specs.Hands.{AreOf};
 
 use crate::counts::Counts;
-use crate::crowd::{Ended, Got, Put, crowd};
-use crate::hall::{Hall, hall_of, take_hand};
+use crate::crowd::{Ended, Got, Half, Put, crowd};
+use crate::hall::{Hall, Spares, hall_of};
+use crate::halls::{entries_of, next_hand};
 use history::Config;
 use std::alloc::{AllocError, Global};
 use std::process::Abort;
@@ -87,7 +89,53 @@ fn lists_of<R: Abort>(rt: &R, gots: [Got; 2], lists: &mut Vec<Vec<Ended>>) -> Re
     Ok(())
 }
 
-/// Four pushers and four poppers at one queue of so many places, each pusher with so many Works.
+/// What two pushers put, and two poppers got.
+fn half_of<R: Abort>(rt: &R, half: Half, lists: &mut Vec<Vec<Ended>>) -> Result<(), Fail> {
+    let (puts, gots) = half;
+    puts_all(rt, puts);
+    lists_of(rt, gots, lists)
+}
+
+/// That each Work of four pushers was popped once.
+fn check_each<R: Abort>(rt: &R, alloc: Global, both: (Half, Half), count: u16) -> Result<(), Fail> {
+    let mut lists = Vec::new(alloc);
+    half_of(rt, both.0, &mut lists)?;
+    half_of(rt, both.1, &mut lists)?;
+    for queue in 1..=4 {
+        assert!(rt; has_each(alloc, lists.as_slice(), queue, count)?);
+    }
+    Ok(())
+}
+
+/// A hall of four queue pairs, whose queues have so many places.
+fn four_queues(alloc: Global, capacity: u8) -> Result<(Hall, Spares), Fail>
+    requires { 0 < capacity }
+    ensures { IfOk result (λ h. AreOf h.0 h.1) }
+{
+    let Ok(config) = Config::new(8, 1, 1, 0, 0, 4, 4, 8, 32) else {
+        return Err(Fail::from("the configuration is refused"));
+    };
+    Ok(hall_of(alloc, config, capacity as usize, 9)?)
+}
+
+/// Four pushers and four poppers, each pusher with so many Works.
+fn eight<R: Abort + Threads + Wait + Sync>(
+    rt: &R,
+    alloc: Global,
+    hall: &Hall,
+    hands: &mut Spares,
+    capacity: u8,
+    count: u16,
+) -> Result<(), Fail>
+    requires { AreOf hall.now hands.old }
+    ensures { IfOk result (λ _. AreOf hall.now hands.new) }
+{
+    let counts = Counts::new(4 * u64::from(count), u64::from(capacity));
+    let both = crowd(rt, alloc, hall, &counts, hands, count).ok_or("eight hands")?;
+    check_each(rt, alloc, both, count)
+}
+
+/// They carry each Work once through one queue of so many places.
 fn carries<R: Abort + Threads + Wait + Sync>(
     rt: &R,
     alloc: Global,
@@ -96,29 +144,10 @@ fn carries<R: Abort + Threads + Wait + Sync>(
 ) -> Result<(), Fail>
     requires { 0 < capacity }
 {
-    let Ok(config) = Config::new(8, 1, 1, 0, 0, 4, 4, 8, 32) else {
-        return Err(Fail::from("the configuration is refused"));
-    };
-    let (hall, mut hands) = hall_of(alloc, config, capacity as usize, 9)?;
-    let Some(last) = take_hand(&hall, &mut hands) else {
-        return Err(Fail::from("nine hands"));
-    };
-    let total = 4 * u64::from(count);
-    let counts = Counts::new(total, u64::from(capacity));
-    let Some((one, two)) = crowd(rt, alloc, &hall, &counts, &mut hands, count) else {
-        return Err(Fail::from("nine hands"));
-    };
-    let mut lists = Vec::new(alloc);
-    puts_all(rt, one.0);
-    puts_all(rt, two.0);
-    lists_of(rt, one.1, &mut lists)?;
-    lists_of(rt, two.1, &mut lists)?;
-    for queue in 1..=4 {
-        assert!(rt; has_each(alloc, lists.as_slice(), queue, count)?);
-    }
-    let Hall { engine, .. } = hall;
-    let core = engine.close(last.pass).ok_or("the lock isn't free")?;
-    assert_eq!(rt; core.history().len() as u64, 4 * total);
+    let (hall, mut hands) = four_queues(alloc, capacity)?;
+    eight(rt, alloc, &hall, &mut hands, capacity, count)?;
+    let last = next_hand(&hall, &mut hands)?;
+    assert_eq!(rt; entries_of(hall, last)? as u64, 16 * u64::from(count));
     Ok(())
 }
 

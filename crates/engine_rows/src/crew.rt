@@ -4,7 +4,8 @@ ghost use Rattle.std.specs.Prelude.{All, IfOk, IfSome};
 ghost use Rattle.engine_rows.specs.Hands.{IsCrewOf, IsFreshWork, IsOf, IsWorkOf};
 
 use crate::hall::{Crew, Hall, Hand};
-use crate::messages::{NO_MEMORY, attempt, learns, number, open, pops, pushes, tells};
+use crate::messages::{NO_MEMORY, attempt, learns, open, pops, pushes, tells};
+use lock_rows::number;
 use meet_lock::Declined;
 use std::alloc::{AllocError, Global};
 use std::sync::Wait;
@@ -134,7 +135,7 @@ fn work_on<R: Wait>(
 }
 
 /// The host learns what it was told.
-pub(crate) fn hears<R: Wait>(rt: &R, hall: &Hall, crew: &mut Crew) -> Result<(), Fail>
+fn hears<R: Wait>(rt: &R, hall: &Hall, crew: &mut Crew) -> Result<(), Fail>
     requires { IsCrewOf hall.now crew.old }
     ensures { IfOk result (λ _. IsCrewOf hall.now crew.new) }
 {
@@ -177,7 +178,7 @@ fn make<R: Wait>(
     }
 }
 
-/// The steps, and how each was answered.
+/// The steps, and how each was answered; at the end the host learns what it was told.
 pub(crate) fn make_all<R: Wait>(
     rt: &R,
     alloc: Global,
@@ -192,5 +193,6 @@ pub(crate) fn make_all<R: Wait>(
     for step in steps {
         answers.push(make(rt, alloc, hall, crew, step)?)?;
     }
+    hears(rt, hall, crew)?;
     Ok(answers)
 }

@@ -249,6 +249,7 @@ pub(crate) fn crowd<R: Threads + Wait + Sync>(
     count: u16,
 ) -> Option<(Half, Half)>
     requires { AreOf hall.now hands.old }
+    ensures { AreOf hall.now hands.new }
 {
     let one = take_two(hall, hands)?;
     let two = take_two(hall, hands)?;

@@ -1,11 +1,10 @@
 //! What callers share, and what each owns.
 
-ghost use Rattle.std.specs.Prelude.{◌≡◌, ◌<◌, All, IfOk, IfSome};
-ghost use Rattle.meet_lock.specs.Passes.{config_of};
-ghost use Rattle.work_queue.specs.Engines as engine;
+ghost use Rattle.std.specs.Prelude.{◌<◌, IfOk, IfSome};
 ghost use Rattle.engine_rows.specs.Hands.{AreOf, IsCrewOf, IsOf};
 
 use history::Config;
+use lock_rows::engine_of;
 use meet_lock::Pass;
 use std::alloc::{AllocError as NoMemory, Global};
 use step_core::Core;
@@ -80,23 +79,6 @@ pub fn crew_of(alloc: Global, hall: &Hall, hands: &mut Spares) -> Option<Crew>
         works: Vec::new(alloc),
         learnt: 0,
     })
-}
-
-// An engine of a new controller, and so many passes.
-fn engine_of(
-    alloc: Global,
-    config: Config,
-    count: usize,
-) -> Result<(Engine, Vec<Pass<Core>>), NoMemory>
-    requires { 0 < count }
-    ensures own { IfOk result (λ e. All (engine.IsOf e.0) e.1.items) }
-    ensures config { IfOk result (λ e. All (λ p. config_of p ≡ config) e.1.items) }
-{
-    let core = Core::new(alloc, config)?;
-    let Ok((engine, passes)) = Engine::new(alloc, core, count) else {
-        return Err(NoMemory);
-    };
-    Ok((engine, passes))
 }
 
 /// A hall of a new controller, with so many hands.

@@ -14,11 +14,11 @@ mod crew;
 #[cfg(test)]
 mod crowd;
 mod hall;
+#[cfg(test)]
+mod halls;
 mod messages;
 #[cfg(test)]
 mod notices;
-#[cfg(test)]
-mod plain;
 #[cfg(test)]
 mod rows;
 #[cfg(test)]

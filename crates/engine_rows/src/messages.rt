@@ -11,10 +11,11 @@ ghost use Rattle.work_queue.specs.Posted.{IsAnswerPosted};
 ghost use Rattle.engine_rows.specs.Hands.{IsFresh, IsFreshWork, IsOf, IsWorkOf};
 
 use crate::hall::{Hall, Hand};
+use lock_rows::number;
 use meet_lock::Declined;
 use std::sync::Wait;
 use std::thread::yield_now;
-use step_core::{Answer, Refused, Step};
+use step_core::{Answer, Step};
 use work_queue::{Notice, Open, Opened, Task, Work};
 
 /// The number of want of memory.
@@ -22,13 +23,6 @@ pub const NO_MEMORY: u8 = 11;
 
 /// A number of no refusal: another step came back, or another message was there.
 pub(crate) const STRANGE: u8 = 99;
-
-pub(crate) fn number(refused: Refused) -> u8 {
-    match refused {
-        Refused::Publish(why, _) => why.number(),
-        Refused::Step(why) => why.number(),
-    }
-}
 
 /// A Publish, a Fetch or a Reap.
 #[tactic(auto, using(crate::proofs::Hands::fetched_fresh))]

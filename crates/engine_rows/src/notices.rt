@@ -4,8 +4,9 @@ ghost use Rattle.std.specs.Prelude.{IfErr, IfOk, IfSome};
 ghost use Rattle.work_queue.specs.Notices.{IsNoticeOf};
 ghost use Rattle.engine_rows.specs.Hands.{IsOf};
 
-use crate::capacity::{flush, one_queue};
-use crate::hall::{Hall, Hand, take_hand};
+use crate::capacity::flush;
+use crate::hall::{Hall, Hand};
+use crate::halls::one_hand;
 use crate::messages::{attempt, noted, opens};
 use std::alloc::Global;
 use std::process::Abort;
@@ -69,24 +70,54 @@ fn hears<R: Abort + Wait>(rt: &R, hall: &Hall, hand: &mut Hand) -> u16
     cid_of(&notice)
 }
 
-// The second notice comes back, and an empty queue gives none.
+/// Two notices, of which there is room for one.
+fn overfills<R: Abort + Wait>(
+    rt: &R,
+    alloc: Global,
+    hall: &Hall,
+    hand: &mut Hand,
+) -> Result<Notice, Fail>
+    requires { IsOf hall.now hand.old }
+    ensures same { IfOk result (λ _. IsOf hall.now hand.new) }
+    ensures notice { IfOk result (IsNoticeOf hall.now.engine) }
+{
+    let first = posts(rt, alloc, hall, hand, 1)?;
+    let second = posts(rt, alloc, hall, hand, 2)?;
+    assert!(rt; tells(rt, hall, hand, first).is_ok());
+    match tells(rt, hall, hand, second) {
+        Ok(()) => Err(Fail::from("room for two")),
+        Err(back) => Ok(back),
+    }
+}
+
+/// That this notice is the only one.
+fn hears_one<R: Abort + Wait>(rt: &R, hall: &Hall, hand: &mut Hand, cid: u16)
+    requires { IsOf hall.now hand.old }
+    ensures { IsOf hall.now hand.new }
+{
+    assert_eq!(rt; hears(rt, hall, hand), cid);
+    assert_eq!(rt; hears(rt, hall, hand), 0);
+}
+
+/// That the second notice comes back, and an empty queue gives none.
+fn holds_one<R: Abort + Wait>(
+    rt: &R,
+    alloc: Global,
+    hall: &Hall,
+    hand: &mut Hand,
+) -> Result<(), Fail>
+    requires { IsOf hall.now hand.old }
+{
+    let back = overfills(rt, alloc, hall, hand)?;
+    assert_eq!(rt; cid_of(&back), 2);
+    hears_one(rt, hall, hand, 1);
+    assert!(rt; tells(rt, hall, hand, back).is_ok());
+    hears_one(rt, hall, hand, 2);
+    Ok(())
+}
+
 #[test]
 fn one_place_holds_one_notice(rt: HostRuntime) -> Result<(), Fail> {
-    let (hall, mut hands) = one_queue(rt.alloc(), 1, 1)?;
-    let Some(mut hand) = take_hand(&hall, &mut hands) else {
-        return Err(Fail::from("one hand"));
-    };
-    let first = posts(&rt, rt.alloc(), &hall, &mut hand, 1)?;
-    let second = posts(&rt, rt.alloc(), &hall, &mut hand, 2)?;
-    assert!(rt; tells(&rt, &hall, &mut hand, first).is_ok());
-    let Err(back) = tells(&rt, &hall, &mut hand, second) else {
-        return Err(Fail::from("room for two"));
-    };
-    assert_eq!(rt; cid_of(&back), 2);
-    assert_eq!(rt; hears(&rt, &hall, &mut hand), 1);
-    assert_eq!(rt; hears(&rt, &hall, &mut hand), 0);
-    assert!(rt; tells(&rt, &hall, &mut hand, back).is_ok());
-    assert_eq!(rt; hears(&rt, &hall, &mut hand), 2);
-    assert_eq!(rt; hears(&rt, &hall, &mut hand), 0);
-    Ok(())
+    let (hall, mut hand) = one_hand(rt.alloc())?;
+    holds_one(&rt, rt.alloc(), &hall, &mut hand)
 }

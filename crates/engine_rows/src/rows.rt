@@ -1,12 +1,13 @@
 //! Worked runs through an engine, answer for answer and line for line as by a controller of one caller.
 
+ghost use Rattle.std.specs.Prelude.{IfOk};
 ghost use Rattle.engine_rows.specs.Hands.{IsCrewOf};
 
-use crate::capacity::one_queue;
-use crate::crew::{hears, make_all, opened};
-use crate::hall::{Crew, Hall, crew_of, hall_of, take_hand};
-use crate::plain::{Run, config_of, run_of, text};
-use lock_rows::{CONFIG, LARGE, LARGE_PAIR, ROWS};
+use crate::crew::{make_all, opened};
+use crate::hall::{Crew, Hall, crew_of, hall_of};
+use crate::halls::{closed, one_hand};
+use history::Config;
+use lock_rows::{CONFIG, LARGE, LARGE_PAIR, ROWS, Run, config_of, run_of, text};
 use std::alloc::Global;
 use std::process::Abort;
 use std::sync::Wait;
@@ -72,9 +73,9 @@ fn agrees<R: Abort>(rt: &R, made: &[Option<u8>], answers: &[u8]) -> usize {
 }
 
 /// How many Posts are accepted.
-fn posts_of(run: &Run) -> u64 {
+fn posts_of(steps: &[Step], answers: &[u8]) -> u64 {
     let mut posts = 0u64;
-    for (step, answer) in run.steps.iter().zip(run.answers.as_slice()) {
+    for (step, answer) in steps.iter().zip(answers) {
         if matches!(step, Step::Post(_)) && *answer == 0 {
             posts = posts.saturating_add(1);
         }
@@ -82,14 +83,47 @@ fn posts_of(run: &Run) -> u64 {
     posts
 }
 
-/// Closes the lock; whether its history has these lines.
-fn closes(alloc: Global, hall: Hall, crew: Crew, lines: &Vec<u8>) -> Result<bool, Fail>
+/// The configuration that a line spells, with one completion queue where `is_single`.
+fn config_for(alloc: Global, line: &str, is_single: bool) -> Option<Config> {
+    let config = config_of(alloc, line)?;
+    if !is_single {
+        return Some(config);
+    }
+    let mut numbers = config.numbers();
+    numbers.cqs = 1;
+    Config::from_numbers(&numbers).ok()
+}
+
+/// A hall of a new controller, and its crew.
+fn crewed(alloc: Global, config: Config) -> Result<(Hall, Crew), Fail>
+    ensures { IfOk result (λ h. IsCrewOf h.0 h.1) }
+{
+    let (hall, mut hands) = hall_of(alloc, config, 16, 3)?;
+    match crew_of(alloc, &hall, &mut hands) {
+        Some(crew) => Ok((hall, crew)),
+        None => Err(Fail::from("three hands")),
+    }
+}
+
+/// Closes the lock; the lines of its history, and how many notices were learnt.
+fn closes(alloc: Global, hall: Hall, crew: Crew) -> Result<(Vec<u8>, u64), Fail>
     requires { IsCrewOf hall crew }
 {
-    let Hall { engine, .. } = hall;
-    let Crew { host, .. } = crew;
-    let core = engine.close(host.pass).ok_or("the lock isn't free")?;
-    Ok(text(alloc, core.history())?.as_slice() == lines.as_slice())
+    let Crew { host, learnt, .. } = crew;
+    let core = closed(hall, host)?;
+    Ok((text(alloc, core.history().as_slice())?, learnt))
+}
+
+/// The steps made by one thread: how each was answered, the lines of the history, and how many notices were learnt.
+fn made_of<R: Wait>(
+    rt: &R,
+    alloc: Global,
+    config: Config,
+    steps: Vec<Step>,
+) -> Result<(Vec<Option<u8>>, (Vec<u8>, u64)), Fail> {
+    let (hall, mut crew) = crewed(alloc, config)?;
+    let answers = make_all(rt, alloc, &hall, &mut crew, steps)?;
+    Ok((answers, closes(alloc, hall, crew)?))
 }
 
 /// That one thread makes the run of the controller of one caller, a host that learns of each Post where one completion
@@ -101,24 +135,18 @@ fn check<R: Abort + Wait>(
     script: &str,
     is_single: bool,
 ) -> Result<(Vec<u8>, usize), Fail> {
-    let config = config_of(alloc, line, is_single)?;
-    let run = run_of(alloc, config, script)?;
-    let posts = posts_of(&run);
+    let config = config_for(alloc, line, is_single).ok_or("no configuration")?;
     let Run {
         steps,
         answers,
         lines,
-    } = run;
-    let (hall, mut hands) = hall_of(alloc, config, 16, 3)?;
-    let Some(mut crew) = crew_of(alloc, &hall, &mut hands) else {
-        return Err(Fail::from("three hands"));
-    };
-    let made = make_all(rt, alloc, &hall, &mut crew, steps)?;
-    hears(rt, &hall, &mut crew)?;
+    } = run_of(alloc, config, script).ok_or("memory")?;
+    let posts = posts_of(steps.as_slice(), answers.as_slice());
+    let (made, (written, learnt)) = made_of(rt, alloc, config, steps)?;
     let skipped = agrees(rt, made.as_slice(), answers.as_slice());
     let told = if config.numbers().cqs == 1 { posts } else { 0 };
-    assert_eq!(rt; crew.learnt, told);
-    assert!(rt; closes(alloc, hall, crew, &lines)?);
+    assert_eq!(rt; learnt, told);
+    assert!(rt; written.as_slice() == lines.as_slice());
     Ok((answers, skipped))
 }
 
@@ -181,10 +209,7 @@ fn refusals_keep_their_numbers(rt: HostRuntime) -> Result<(), Fail> {
 // A batch of no entry has no script.
 #[test]
 fn an_empty_batch_is_refused(rt: HostRuntime) -> Result<(), Fail> {
-    let (hall, mut hands) = one_queue(rt.alloc(), 1, 1)?;
-    let Some(mut hand) = take_hand(&hall, &mut hands) else {
-        return Err(Fail::from("one hand"));
-    };
+    let (hall, mut hand) = one_hand(rt.alloc())?;
     let batch = Submissions::new(Vec::new(rt.alloc()));
     let (answer, _) = opened(&hall, &mut hand, Open::Publish(1, batch));
     assert_eq!(rt; answer, 10);

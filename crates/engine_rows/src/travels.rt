@@ -2,11 +2,11 @@
 
 ghost use Rattle.std.specs.Prelude.{◌≡◌, IfOk};
 ghost use Rattle.meet_lock.specs.Passes.{seen};
-ghost use Rattle.engine_rows.specs.Hands.{IsOf, IsWorkOf};
+ghost use Rattle.engine_rows.specs.Hands.{AreOf, IsOf, IsWorkOf};
 
-use crate::capacity::one_queue;
 use crate::commands::one_command;
-use crate::hall::{Hall, Hand, take_hand};
+use crate::hall::{Hall, Hand, Spares};
+use crate::halls::{entries_of, next_hand, one_queue};
 use crate::messages::{fetches, learns, opens, pops, pushes, works};
 use std::alloc::Global;
 use std::process::Abort;
@@ -110,38 +110,64 @@ fn meets<R: Abort>(rt: &R, hall: &Hall, one: &mut Hand, two: &mut Hand)
     }
 }
 
-fn sends<R: Abort + Wait>(rt: &R, alloc: Global, hall: &Hall, hand: &mut Hand) -> Result<(), Fail>
-    requires { IsOf hall.now hand.old }
-    ensures { IfOk result (λ _. IsOf hall.now hand.new) }
+// A Write, published, fetched and pushed.
+fn sends<R: Abort + Wait>(
+    rt: &R,
+    alloc: Global,
+    hall: &Hall,
+    hands: &mut Spares,
+) -> Result<(), Fail>
+    requires { AreOf hall.now hands.old }
+    ensures { IfOk result (λ _. AreOf hall.now hands.new) }
 {
+    let mut hand = next_hand(hall, hands)?;
     let batch = one_command(alloc, 1, 1, 3)?;
-    assert!(rt; opens(rt, hall, hand, Open::Publish(1, batch)).is_ok());
-    let Ok(work) = fetches(rt, hall, hand, 1) else {
-        return Err(Fail::from("a Work"));
-    };
-    assert!(rt; pushes(rt, hall, hand, work).is_ok());
+    assert!(rt; opens(rt, hall, &mut hand, Open::Publish(1, batch)).is_ok());
+    match fetches(rt, hall, &mut hand, 1) {
+        Ok(work) => assert!(rt; pushes(rt, hall, &mut hand, work).is_ok()),
+        Err(why) => panic!(rt; "no Work: {why}"),
+    }
     Ok(())
 }
 
 // Its three tasks are made there, and the host that learnt of the Post reaps at once. After their run the two passes
 // meet.
+fn ends_there<R: Abort + Threads + Wait + Sync>(
+    rt: &R,
+    hall: &Hall,
+    worker: Hand,
+    host: Hand,
+) -> Hand
+    requires { IsOf hall.now worker × IsOf hall.now host }
+    ensures { IsOf hall.now result }
+{
+    let ((made, mut worker), (heard, mut host)) = both(rt, hall, worker, host);
+    meets(rt, hall, &mut worker, &mut host);
+    assert_eq!(rt; made, Ok(3));
+    assert_eq!(rt; heard, Ok(()));
+    host
+}
+
+// Made by three hands; the host's.
+fn travels<R: Abort + Threads + Wait + Sync>(
+    rt: &R,
+    alloc: Global,
+    hall: &Hall,
+    hands: &mut Spares,
+) -> Result<Hand, Fail>
+    requires { AreOf hall.now hands.old }
+    ensures { IfOk result (IsOf hall.now) }
+{
+    sends(rt, alloc, hall, hands)?;
+    let worker = next_hand(hall, hands)?;
+    let host = next_hand(hall, hands)?;
+    Ok(ends_there(rt, hall, worker, host))
+}
+
 #[test]
 fn a_work_ends_on_another_thread(rt: HostRuntime) -> Result<(), Fail> {
     let (hall, mut hands) = one_queue(rt.alloc(), 4, 3)?;
-    let (Some(mut fetcher), Some(worker), Some(host)) = (
-        take_hand(&hall, &mut hands),
-        take_hand(&hall, &mut hands),
-        take_hand(&hall, &mut hands),
-    ) else {
-        return Err(Fail::from("three hands"));
-    };
-    sends(&rt, rt.alloc(), &hall, &mut fetcher)?;
-    let ((made, mut worker), (heard, mut host)) = both(&rt, &hall, worker, host);
-    assert_eq!(rt; made, Ok(3));
-    assert_eq!(rt; heard, Ok(()));
-    meets(&rt, &hall, &mut worker, &mut host);
-    let Hall { engine, .. } = hall;
-    let core = engine.close(host.pass).ok_or("the lock isn't free")?;
-    assert_eq!(rt; core.history().len(), 6);
+    let host = travels(&rt, rt.alloc(), &hall, &mut hands)?;
+    assert_eq!(rt; entries_of(hall, host)?, 6);
     Ok(())
 }

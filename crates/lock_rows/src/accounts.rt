@@ -1,14 +1,14 @@
 //! Writes that one caller makes on its own queue, and its account of them.
 
+ghost use Rattle.std.specs.Prelude.{◌≡◌, IfOk, vec_len};
 ghost use Rattle.meet_lock.specs.Passes.{IsOf, IsSame};
 
-use crate::writes::write_command;
 use history::{BlockLine, Entry, FetchLine, GrantLine, PostLine, PublishLine, ReapLine, UnitRange};
 use meet_lock::{Declined, Pass, Shared};
 use nvme_model::array::{Mode, Range};
 use nvme_model::refusal::Why;
 use nvme_model::status::Verdict;
-use nvme_model::submission::{Batch, Payload};
+use nvme_model::submission::{Batch, Payload, Submission};
 use std::alloc::{AllocError, Global};
 use std::thread::yield_now;
 use step_core::{Answer, Core, Refused, Step, Submissions};
@@ -42,6 +42,14 @@ fn grant_entry(ticket: u64, unit: u64, range: &Range, mode: Mode) -> Option<Entr
         range: UnitRange::new(range.slba, blocks),
         mode,
     }))
+}
+
+/// A Write of one block of these bytes.
+#[derive(Clone, Copy)]
+pub(crate) struct Write {
+    pub cid: u8,
+    pub block: u8,
+    pub byte: u8,
 }
 
 /// What a caller made on its queue: each accepted step, as it asked for it and was told.
@@ -146,22 +154,41 @@ fn insist_grant(shared: &Shared<Core>, pass: &mut Pass<Core>, ticket: u64) -> Re
     Err(Stop::Late)
 }
 
-/// Publishes the Write of one block of these bytes.
+/// Its one entry, with its data.
+fn items_of(alloc: Global, write: Write) -> Result<Vec<Submission>, AllocError>
+    ensures { IfOk result (λ v. vec_len v ≡ 1) }
+{
+    let mut entry = [0; 64];
+    entry[0] = 1;
+    entry[2] = write.cid;
+    entry[4] = 1;
+    entry[40] = write.block;
+    let mut bytes = Vec::new(alloc);
+    for _ in 0..512 {
+        bytes.push(write.byte)?;
+    }
+    let mut items = Vec::new(alloc);
+    items.push(Submission {
+        entry,
+        payload: Payload::new(bytes),
+    })?;
+    Ok(items)
+}
+
+/// Publishes the Write.
 fn publish(
     alloc: Global,
     shared: &Shared<Core>,
     pass: &mut Pass<Core>,
     account: &mut Account,
-    cid: u8,
-    block: u8,
-    byte: u8,
+    write: Write,
 ) -> Result<(), Stop>
     requires { IsOf shared.now pass.old }
     ensures { IsSame pass.old pass.new }
 {
     let queue = account.queue;
-    let asked = Submissions::new(write_command(alloc, cid, block, byte)?);
-    let batch = Batch::new(write_command(alloc, cid, block, byte)?);
+    let asked = Submissions::new(items_of(alloc, write)?);
+    let batch = Batch::new(items_of(alloc, write)?);
     let Answer::Published = insist(shared, pass, Step::Publish(queue, asked))? else {
         return Err(Stop::Strange);
     };
@@ -169,30 +196,27 @@ fn publish(
     Ok(())
 }
 
-/// Makes the Write of one block of these bytes, from its Publish to its Reap.
-pub(crate) fn write(
+/// Makes the Write, from its Publish to its Reap.
+pub(crate) fn makes(
     alloc: Global,
     shared: &Shared<Core>,
     pass: &mut Pass<Core>,
     account: &mut Account,
-    cid: u8,
-    block: u8,
-    byte: u8,
+    write: Write,
 ) -> Result<(), Stop>
     requires { IsOf shared.now pass.old }
     ensures { IsSame pass.old pass.new }
 {
-    publish(alloc, shared, pass, account, cid, block, byte)?;
+    publish(alloc, shared, pass, account, write)?;
     let queue = account.queue;
     let answer = insist(shared, pass, Step::Fetch(queue))?;
     account.note(alloc, &answer)?;
     let ticket = account.ticket;
     let answer = insist_grant(shared, pass, ticket)?;
     account.note(alloc, &answer)?;
-    let answer = insist(shared, pass, Step::Block(ticket))?;
-    account.note(alloc, &answer)?;
-    let answer = insist(shared, pass, Step::Post(ticket))?;
-    account.note(alloc, &answer)?;
-    let answer = insist(shared, pass, Step::Reap(queue))?;
-    account.note(alloc, &answer)
+    for step in [Step::Block(ticket), Step::Post(ticket), Step::Reap(queue)] {
+        let answer = insist(shared, pass, step)?;
+        account.note(alloc, &answer)?;
+    }
+    Ok(())
 }

@@ -4,6 +4,10 @@
 
 #[cfg(test)]
 mod accounts;
+mod engines;
+#[cfg(test)]
+mod passes;
+mod plain;
 #[cfg(test)]
 mod rows;
 #[cfg(test)]
@@ -11,7 +15,7 @@ mod runs;
 mod table;
 #[cfg(test)]
 mod threads;
-#[cfg(test)]
-mod writes;
 
+pub use crate::engines::engine_of;
+pub use crate::plain::{Run, config_of, number, run_of, text};
 pub use crate::table::{CONFIG, LARGE, LARGE_PAIR, ROWS};

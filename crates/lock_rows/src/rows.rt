@@ -1,7 +1,7 @@
-//! Worked runs made of steps, by one pass and by three in turn that meet.
+//! Worked runs made of steps, by one pass, and by two and three in turn that meet.
 
-use crate::runs::{check_one, check_three};
-use crate::table::{LARGE, LARGE_PAIR, ROWS};
+use crate::runs::check;
+use crate::table::{CONFIG, LARGE, LARGE_PAIR, ROWS};
 use std::alloc::Global;
 use std::process::Abort;
 use std::test::Fail;
@@ -16,26 +16,39 @@ fn long_write(alloc: Global, slba: u32) -> Result<String, Fail> {
     Ok(script)
 }
 
-#[test]
-fn one_pass_makes_the_rows(rt: HostRuntime) -> Result<(), Fail> {
+/// That so many passes make all rows.
+fn check_rows<R: Abort>(rt: &R, alloc: Global, passes: u8) -> Result<(), Fail> {
     for (config, script) in ROWS {
-        check_one(&rt, rt.alloc(), config, script)?;
+        check(rt, alloc, config, script, passes)?;
     }
     Ok(())
 }
 
 #[test]
+fn one_pass_makes_the_rows(rt: HostRuntime) -> Result<(), Fail> {
+    check_rows(&rt, rt.alloc(), 1)
+}
+
+#[test]
 fn three_passes_make_the_rows(rt: HostRuntime) -> Result<(), Fail> {
-    for (config, script) in ROWS {
-        check_three(&rt, rt.alloc(), config, script)?;
-    }
+    check_rows(&rt, rt.alloc(), 3)
+}
+
+// The second fetches before it meets the first, and finds nothing to reap after it.
+#[test]
+fn two_passes_write_one_block_and_meet(rt: HostRuntime) -> Result<(), Fail> {
+    let script =
+        "publish 1 write 0 1 3 0 A1 / fetch 1 / grant 1 / block 1 / post 1 / reap 1 / reap 1";
+    let answers = check(&rt, rt.alloc(), CONFIG, script, 2)?;
+    assert_eq!(rt; answers.as_slice(), [0, 0, 0, 0, 0, 0, 9].as_slice());
     Ok(())
 }
 
 /// A row of the largest volume, by one pass and by three.
 fn check_large<R: Abort>(rt: &R, alloc: Global, script: &str) -> Result<(), Fail> {
-    check_one(rt, alloc, LARGE, script)?;
-    check_three(rt, alloc, LARGE, script)
+    check(rt, alloc, LARGE, script, 1)?;
+    check(rt, alloc, LARGE, script, 3)?;
+    Ok(())
 }
 
 // A pair doesn't fit a queue of two slots.

@@ -1,91 +1,15 @@
-//! The steps of a worked run, made by a controller of one caller, by one pass and by three in turn that meet.
+//! The steps of a worked run, made by a controller of one caller, by one pass, and by two and three in turn that meet.
 
-ghost use Rattle.std.specs.Prelude.{◌≡◌, [], IfOk};
 ghost use Rattle.meet_lock.specs.Passes.{IsOf, IsSame};
 
-use crate::writes::{closes, text};
-use history::{Config, read_config_line};
+use crate::passes::{closed, lines_of, one_pass, shared_of, two_passes};
+use crate::plain::{Run, config_of, number, run_of};
+use history::Config;
 use meet_lock::{Declined, Pass, Shared};
-use script_lines::{ScriptLine, read_script_line};
 use std::alloc::Global;
 use std::process::Abort;
 use std::test::Fail;
-use step_core::{Answer, Core, Refused, Step};
-
-/// A controller of the configuration that a line spells.
-fn controller(alloc: Global, line: &str) -> Result<Core, Fail>
-    ensures fresh { IfOk result (λ core. core.past ≡ []) }
-{
-    let Ok(numbers) = read_config_line(alloc, line.as_bytes()) else {
-        return Err(Fail::from("no configuration"));
-    };
-    let Ok(config) = Config::from_numbers(&numbers) else {
-        return Err(Fail::from("the configuration is refused"));
-    };
-    Ok(Core::new(alloc, config)?)
-}
-
-/// The number of a refusal, 0 where the step is accepted.
-fn number(answer: Result<Answer, Refused>) -> u8 {
-    match answer {
-        Ok(_) => 0,
-        Err(Refused::Publish(why, _)) => why.number(),
-        Err(Refused::Step(why)) => why.number(),
-    }
-}
-
-/// A run by a controller of one caller: its steps, how each was answered, and the lines of its history.
-#[derive(Drop)]
-struct Run {
-    steps: Vec<Step>,
-    answers: Vec<u8>,
-    lines: Vec<u8>,
-}
-
-/// The step of a script's line, or the next that is ready where the line settles.
-fn step_of(alloc: Global, core: &Core, line: &str) -> Result<Option<Step>, Fail> {
-    match read_script_line(alloc, line.as_bytes()) {
-        Ok(ScriptLine::Step(step)) => Ok(Some(step)),
-        Ok(ScriptLine::Settle) => Ok(core.ready()),
-        _ => Err(Fail::from("no step")),
-    }
-}
-
-/// Makes what a line asks for, a step twice: once to make it and once to keep it.
-fn make_line(
-    alloc: Global,
-    core: &mut Core,
-    line: &str,
-    steps: &mut Vec<Step>,
-    answers: &mut Vec<u8>,
-) -> Result<(), Fail> {
-    let turns = if line == "settle" { 10_000 } else { 1 };
-    for _ in 0..turns {
-        let (Some(step), Some(same)) = (step_of(alloc, core, line)?, step_of(alloc, core, line)?)
-        else {
-            return Ok(());
-        };
-        answers.push(number(core.step(step)))?;
-        steps.push(same)?;
-    }
-    Ok(())
-}
-
-/// The run of a script whose lines are parted by ` / `.
-fn run_of(alloc: Global, config: &str, script: &str) -> Result<Run, Fail> {
-    let mut core = controller(alloc, config)?;
-    let mut steps = Vec::new(alloc);
-    let mut answers = Vec::new(alloc);
-    for line in script.split(" / ") {
-        make_line(alloc, &mut core, line, &mut steps, &mut answers)?;
-    }
-    let lines = text(alloc, core.history().as_slice())?;
-    Ok(Run {
-        steps,
-        answers,
-        lines,
-    })
-}
+use step_core::{Core, Step};
 
 /// A step by a pass, and how it was answered.
 fn attempted(shared: &Shared<Core>, pass: &mut Pass<Core>, step: Step) -> Result<u8, Fail>
@@ -93,8 +17,8 @@ fn attempted(shared: &Shared<Core>, pass: &mut Pass<Core>, step: Step) -> Result
     ensures { IsSame pass.old pass.new }
 {
     match shared.attempt(pass, step) {
-        Ok(answer) => Ok(number(Ok(answer))),
-        Err(Declined::Refused(refused)) => Ok(number(Err(refused))),
+        Ok(_) => Ok(0),
+        Err(Declined::Refused(refused)) => Ok(number(refused)),
         Err(Declined::Busy(_)) => Err(Fail::from("the lock was held")),
     }
 }
@@ -133,6 +57,31 @@ fn take_turn(
     Ok(answer)
 }
 
+/// The steps by two passes, and how each was answered. After the second and the fifth step they meet.
+fn run_two(
+    alloc: Global,
+    shared: &Shared<Core>,
+    mut one: Pass<Core>,
+    two: &mut Pass<Core>,
+    steps: Vec<Step>,
+) -> Result<Vec<u8>, Fail>
+    requires { IsOf shared.now one × IsOf shared.now two.old }
+    ensures { IsSame two.old two.new }
+{
+    let mut answers = Vec::new(alloc);
+    let mut turn = 0u8;
+    for step in steps {
+        turn = turn.wrapping_add(1);
+        let answer = match turn {
+            1 | 3 | 6 => attempted(shared, &mut one, step)?,
+            2 | 5 => take_turn(shared, two, &mut one, step)?,
+            _ => attempted(shared, two, step)?,
+        };
+        answers.push(answer)?;
+    }
+    Ok(answers)
+}
+
 /// The steps by three passes in turn, and how each was answered. After each step two of them meet.
 fn run_three(
     alloc: Global,
@@ -159,50 +108,63 @@ fn run_three(
     Ok(answers)
 }
 
-/// That one pass makes the run of the controller of one caller, answer for answer and line for line.
-pub(crate) fn check_one<R: Abort>(
-    rt: &R,
-    alloc: Global,
-    config: &str,
-    script: &str,
-) -> Result<(), Fail> {
-    let Run {
-        steps,
-        answers,
-        lines,
-    } = run_of(alloc, config, script)?;
-    let Ok((shared, mut passes)) = Shared::new(alloc, controller(alloc, config)?, 1) else {
-        return Err(Fail::from("memory"));
-    };
-    let Some(mut pass) = passes.pop() else {
-        return Err(Fail::from("no pass"));
-    };
-    let got = run_one(alloc, &shared, &mut pass, steps)?;
-    assert!(rt; got.as_slice() == answers.as_slice());
-    assert!(rt; closes(rt, alloc, shared, pass, &lines)?);
-    Ok(())
+/// What the steps were answered, and the lines of the history.
+type Made = (Vec<u8>, Vec<u8>);
+
+/// The steps by one pass.
+fn by_one<R: Abort>(rt: &R, alloc: Global, config: Config, steps: Vec<Step>) -> Result<Made, Fail> {
+    let (shared, mut passes) = shared_of(alloc, config, 1)?;
+    let mut one = one_pass(&shared, &mut passes)?;
+    let answers = run_one(alloc, &shared, &mut one, steps)?;
+    let core = closed(shared, one)?;
+    Ok((answers, lines_of(rt, alloc, &core)?))
 }
 
-/// The same by three passes in turn.
-pub(crate) fn check_three<R: Abort>(
+/// The same by two.
+fn by_two<R: Abort>(rt: &R, alloc: Global, config: Config, steps: Vec<Step>) -> Result<Made, Fail> {
+    let (shared, mut passes) = shared_of(alloc, config, 2)?;
+    let (one, mut two) = two_passes(&shared, &mut passes)?;
+    let answers = run_two(alloc, &shared, one, &mut two, steps)?;
+    let core = closed(shared, two)?;
+    Ok((answers, lines_of(rt, alloc, &core)?))
+}
+
+/// The same by three.
+fn by_three<R: Abort>(
     rt: &R,
     alloc: Global,
-    config: &str,
+    config: Config,
+    steps: Vec<Step>,
+) -> Result<Made, Fail> {
+    let (shared, mut passes) = shared_of(alloc, config, 3)?;
+    let (one, two) = two_passes(&shared, &mut passes)?;
+    let mut three = one_pass(&shared, &mut passes)?;
+    let answers = run_three(alloc, &shared, one, two, &mut three, steps)?;
+    let core = closed(shared, three)?;
+    Ok((answers, lines_of(rt, alloc, &core)?))
+}
+
+/// That so many passes, up to three, make the run of the controller of one caller, answer for answer and line for line;
+/// the answers.
+pub(crate) fn check<R: Abort>(
+    rt: &R,
+    alloc: Global,
+    line: &str,
     script: &str,
-) -> Result<(), Fail> {
+    passes: u8,
+) -> Result<Vec<u8>, Fail> {
+    let config = config_of(alloc, line).ok_or("no configuration")?;
     let Run {
         steps,
         answers,
         lines,
-    } = run_of(alloc, config, script)?;
-    let Ok((shared, mut passes)) = Shared::new(alloc, controller(alloc, config)?, 3) else {
-        return Err(Fail::from("memory"));
+    } = run_of(alloc, config, script).ok_or("memory")?;
+    let (got, made) = match passes {
+        1 => by_one(rt, alloc, config, steps)?,
+        2 => by_two(rt, alloc, config, steps)?,
+        _ => by_three(rt, alloc, config, steps)?,
     };
-    let (Some(mut three), Some(two), Some(one)) = (passes.pop(), passes.pop(), passes.pop()) else {
-        return Err(Fail::from("no pass"));
-    };
-    let got = run_three(alloc, &shared, one, two, &mut three, steps)?;
     assert!(rt; got.as_slice() == answers.as_slice());
-    assert!(rt; closes(rt, alloc, shared, three, &lines)?);
-    Ok(())
+    assert!(rt; made.as_slice() == lines.as_slice());
+    Ok(got)
 }

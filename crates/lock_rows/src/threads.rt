@@ -1,10 +1,10 @@
 //! Four threads, each on a queue of its own.
 
-ghost use Rattle.std.specs.Prelude.{All, IfOk};
 ghost use Rattle.meet_lock.specs.Passes.{IsOf};
 
-use crate::accounts::{Account, Stop, TRIES, write};
-use crate::writes::text;
+use crate::accounts::{Account, Stop, TRIES, Write, makes};
+use crate::passes::{closed, one_pass, shared_of, two_passes};
+use crate::plain::text;
 use history::{Config, Entry, ReapLine, write_line};
 use history_check::check;
 use meet_lock::{Pass, Shared};
@@ -46,7 +46,14 @@ fn writes(
     let mut account = Account::new(alloc, u16::from(queue));
     for cid in 0..WRITES {
         let byte = queue.wrapping_mul(WRITES).wrapping_add(cid);
-        write(alloc, shared, &mut pass, &mut account, cid, cid % 2, byte)?;
+        let block = cid % 2;
+        makes(
+            alloc,
+            shared,
+            &mut pass,
+            &mut account,
+            Write { cid, block, byte },
+        )?;
     }
     Ok(account.into_entries())
 }
@@ -96,45 +103,6 @@ fn four_threads<R: Threads + Sync>(
             requires { IsOf shared.now high.0 × IsOf shared.now high.1 }
         { two_threads(rt, alloc, shared, high, (3, 4), come) },
     )
-}
-
-/// A controller of four queue pairs behind a lock, with five passes.
-fn shared_of_four(alloc: Global) -> Result<(Shared<Core>, Vec<Pass<Core>>), Fail>
-    ensures { IfOk result (λ s. All (IsOf s.0) s.1.items) }
-{
-    let Ok(config) = Config::new(8, 1, 1, 0, 0, 4, 4, 4, 8) else {
-        return Err(Fail::from("the configuration is refused"));
-    };
-    match Shared::new(alloc, Core::new(alloc, config)?, 5) {
-        Ok(made) => Ok(made),
-        Err(_) => Err(Fail::from("memory")),
-    }
-}
-
-/// The last of the passes.
-fn one_pass(_shared: &Shared<Core>, passes: &mut Vec<Pass<Core>>) -> Result<Pass<Core>, Fail>
-    requires { All (IsOf _shared.now) passes.old.items }
-    ensures rest { All (IsOf _shared.now) passes.new.items }
-    ensures pass { IfOk result (IsOf _shared.now) }
-{
-    match passes.pop() {
-        Some(pass) => Ok(pass),
-        None => Err(Fail::from("five passes")),
-    }
-}
-
-/// The last two.
-fn two_passes(
-    shared: &Shared<Core>,
-    passes: &mut Vec<Pass<Core>>,
-) -> Result<(Pass<Core>, Pass<Core>), Fail>
-    requires { All (IsOf shared.now) passes.old.items }
-    ensures rest { All (IsOf shared.now) passes.new.items }
-    ensures pair { IfOk result (λ pair. IsOf shared.now pair.0 × IsOf shared.now pair.1) }
-{
-    let one = one_pass(shared, passes)?;
-    let two = one_pass(shared, passes)?;
-    Ok((one, two))
 }
 
 /// The queue of an entry, where the ticket n was fetched from the n-th of these queues. Each completion queue has the
@@ -222,20 +190,20 @@ fn both(made: (Made, Made)) -> Result<(Vec<Entry>, Vec<Entry>), Fail> {
     Ok((one?, two?))
 }
 
-/// A controller after the Writes of four threads, and what these made.
+/// A controller of four queue pairs after the Writes of four threads, and what these made.
 fn written<R: Threads + Sync>(
     rt: &R,
     alloc: Global,
 ) -> Result<(Core, (Made, Made), (Made, Made)), Fail> {
-    let (shared, mut passes) = shared_of_four(alloc)?;
+    let Ok(config) = Config::new(8, 1, 1, 0, 0, 4, 4, 4, 8) else {
+        return Err(Fail::from("the configuration is refused"));
+    };
+    let (shared, mut passes) = shared_of(alloc, config, 5)?;
     let low = two_passes(&shared, &mut passes)?;
     let high = two_passes(&shared, &mut passes)?;
     let last = one_pass(&shared, &mut passes)?;
     let (low, high) = four_threads(rt, alloc, &shared, low, high);
-    match shared.close(last) {
-        Some(core) => Ok((core, low, high)),
-        None => Err(Fail::from("the lock isn't free")),
-    }
+    Ok((closed(shared, last)?, low, high))
 }
 
 /// That the history has each thread's entries as that thread made them, and is legal.

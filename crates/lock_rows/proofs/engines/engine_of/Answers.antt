@@ -1,7 +1,7 @@
 use Rattle.std.proofs.Common.{ap}
 use Rattle.step_core.specs.State.{State}
-use Rattle.engine_rows.proofs.Hands.{config_kept}
-use Rattle.engine_rows.proofs.hall.engine_of.Goals as goal
+use Rattle.lock_rows.proofs.NewPasses.{config_kept}
+use Rattle.lock_rows.proofs.engines.engine_of.Goals as goal
 
 pub returns-clause-config : goal.returns-clause-config
 returns-clause-config c =
