@@ -1,4 +1,5 @@
-//! Histories beside what their check answers, as tests of `casdisk_script` over its neighbours.
+//! Histories beside what their check answers, as tests of `casdisk_script` over its neighbours. How a check ends whose
+//! reader or writer fails is shown in `script_rows`.
 #![tactic(auto)]
 
 #[cfg(test)]
@@ -6,15 +7,11 @@ mod edits;
 #[cfg(test)]
 mod explain;
 #[cfg(test)]
-mod faults;
-#[cfg(test)]
 mod files;
 #[cfg(test)]
 mod long;
 #[cfg(test)]
 mod marks;
-#[cfg(test)]
-mod pair;
 #[cfg(test)]
 mod refused;
 #[cfg(test)]
@@ -22,4 +19,4 @@ mod scripts;
 #[cfg(test)]
 mod texts;
 #[cfg(test)]
-mod write;
+mod worked;

@@ -1,8 +1,10 @@
 //! Histories of thousands of entries, and of more than 65,536.
 
 use crate::edits::entries_in;
-use crate::files::{check, history_of, place_of};
+use crate::files::{check, check_place, history_of};
 use casdisk_script::RunFault;
+use std::alloc::{AllocError, Global};
+use std::process::Abort;
 use std::test::Fail;
 
 /// Pairs, Reads and Compares of two units, over and over: each turn has 37 entries or 38.
@@ -11,37 +13,49 @@ const TURN: &str =
 
 const TURNS: usize = 55;
 
+/// A text, and so often another behind it.
+fn followed(alloc: Global, first: &str, part: &str, count: usize) -> Result<String, AllocError> {
+    let mut text = String::from_str(alloc, first)?;
+    for _ in 0..count {
+        text.push_str(part)?;
+    }
+    Ok(text)
+}
+
 #[test]
 fn a_long_history_is_legal(rt: HostRuntime) -> Result<(), Fail> {
-    let mut script = String::from_str(rt.alloc(), "medium 3")?;
-    for _ in 0..TURNS {
-        script.push_str(TURN)?;
-    }
-    let history = history_of(&rt, rt.alloc(), script.as_str())?;
+    let script = followed(rt.alloc(), "medium 3", TURN, TURNS)?;
+    let history = history_of(rt.alloc(), script.as_str())?;
     let entries = entries_in(history.as_str());
     assert!(rt; entries >= 2_000, "{entries}");
-    assert_eq!(rt; place_of(&rt, rt.alloc(), history.as_str())?, None);
-    Ok(())
+    check_place(&rt, rt.alloc(), history.as_str(), 0)
 }
 
 /// How many entries a history has behind one that is bad.
-const LATER: u64 = 70_000;
+const LATER: usize = 70_000;
+
+/// That a file's check ends so.
+fn check_answer(rt: &impl Abort, alloc: Global, file: &str, answer: Result<bool, RunFault>) {
+    let outcome = check(alloc, file.as_bytes());
+    assert_eq!(rt; outcome.answer, answer);
+    let output = if answer.is_ok() { "bad at 1\n" } else { "" };
+    assert_eq!(rt; outcome.output.as_slice(), output.as_bytes());
+}
 
 // What stands behind a bad entry is read and not judged.
 #[test]
 fn a_longer_history_is_read_whole(rt: HostRuntime) -> Result<(), Fail> {
-    let mut history = String::from_str(rt.alloc(), "config 8 1 1 0 0 2 4 4 8\n")?;
-    history.push_str("fetch 1 1 1 ok\n")?;
-    for _ in 0..LATER {
-        history.push_str("grant 1 0 3 1 w\n")?;
-    }
-    let outcome = check(rt.alloc(), history.as_bytes());
-    assert_eq!(rt; outcome.answer, Ok(false));
-    assert_eq!(rt; outcome.output.as_slice(), b"bad at 1\n".as_slice());
+    let first = "config 8 1 1 0 0 2 4 4 8\nfetch 1 1 1 ok\n";
+    let mut history = followed(rt.alloc(), first, "grant 1 0 3 1 w\n", LATER)?;
+    check_answer(&rt, rt.alloc(), history.as_str(), Ok(false));
     history.push_str("grant 1\n")?;
-    let outcome = check(rt.alloc(), history.as_bytes());
 
     // The configuration is line 1, and the first entry line 2.
-    assert_eq!(rt; outcome.answer, Err(RunFault::BadLine(70_003)));
+    check_answer(
+        &rt,
+        rt.alloc(),
+        history.as_str(),
+        Err(RunFault::BadLine(70_003)),
+    );
     Ok(())
 }

@@ -1,13 +1,13 @@
 //! Histories that scripts print are legal, and a line edited in one is found where it matters.
 
 use crate::edits::{Edit, beginning, edited, entries_in};
-use crate::files::{history_of, place_of};
+use crate::files::{check_place, history_of, place_of};
 use std::alloc::Global;
 use std::process::Abort;
 use std::test::Fail;
 
 /// The richest runs: each of them edited line by line.
-const EDITED: [&str; 10] = [
+const EDITED: &[&str] = &[
     // A pair wins, a Read reads what it wrote, and a pair from the old data loses.
     "publish 1 compare 1 7 3 0 00 + write 2 8 3 0 A1 / fetch 1 / settle / reap 1 / reap 1 / publish 1 read 0 9 3 0 - / fetch 1 / settle / reap 1 / publish 2 compare 1 9 3 0 00 + write 2 10 3 0 B2 / fetch 2 / settle / reap 2 / reap 2 / medium 3",
     // A pair in the last slot and the first one.
@@ -31,7 +31,7 @@ const EDITED: [&str; 10] = [
 ];
 
 /// Further runs.
-const LEGAL: [&str; 18] = [
+const LEGAL: &[&str] = &[
     // Nothing but refusals.
     "reap 1 / fetch 1 / grant 1 / block 1 / post 1",
     "publish 1 compare 0 1 0 0 A1 / fetch 1 / settle / reap 1 / publish 1 compare 0 1 0 0 00 / fetch 1 / settle / reap 1",
@@ -54,14 +54,10 @@ const LEGAL: [&str; 18] = [
 ];
 
 /// That a file isn't legal from this place, from 1, on, and is before it.
-fn check_place(rt: &impl Abort, alloc: Global, file: &str, place: u64) -> Result<(), Fail> {
-    let before = beginning(alloc, file, place.saturating_sub(1))?;
-    let got = place_of(rt, alloc, before.as_str())?;
-    assert_eq!(rt; got, None, "{before}");
-    let up_to = beginning(alloc, file, place)?;
-    let got = place_of(rt, alloc, up_to.as_str())?;
-    assert_eq!(rt; got, Some(place), "{up_to}");
-    Ok(())
+fn check_first(rt: &impl Abort, alloc: Global, file: &str, place: u64) -> Result<(), Fail> {
+    let place = place as usize;
+    check_place(rt, alloc, beginning(file, place.saturating_sub(1)), 0)?;
+    check_place(rt, alloc, beginning(file, place), place as u64)
 }
 
 /// That an edit of the line at a place is found there or later, if at all.
@@ -77,35 +73,38 @@ fn check_edit(
         Edit::LeftOut | Edit::Swapped => place,
         Edit::Doubled => place.saturating_add(1),
     };
-    match place_of(rt, alloc, text.as_str())? {
-        None => Ok(()),
-        Some(bad) => {
-            assert!(rt; first as u64 <= bad, "at {bad}, {text}");
-            check_place(rt, alloc, text.as_str(), bad)
-        }
+    let bad = place_of(rt, alloc, text.as_str())?;
+    if bad == 0 {
+        return Ok(());
     }
+    assert!(rt; first as u64 <= bad, "at {bad}, {text}");
+    check_first(rt, alloc, text.as_str(), bad)
 }
 
-#[test]
-fn histories_of_scripts_are_legal(rt: HostRuntime) -> Result<(), Fail> {
-    for script in EDITED.iter().chain(LEGAL.iter()) {
-        let history = history_of(&rt, rt.alloc(), script)?;
-        let got = place_of(&rt, rt.alloc(), history.as_str())?;
-        assert_eq!(rt; got, None, "{history}");
+/// That each edit of each line of a history is found so.
+fn check_edits(rt: &impl Abort, alloc: Global, history: &str) -> Result<(), Fail> {
+    for before in 0..entries_in(history) {
+        let place = before.saturating_add(1);
+        for edit in [Edit::LeftOut, Edit::Doubled, Edit::Swapped] {
+            check_edit(rt, alloc, history, place, edit)?;
+        }
+    }
+    Ok(())
+}
+
+/// That a history is legal, and each beginning of it.
+fn check_beginnings(rt: &impl Abort, alloc: Global, history: &str) -> Result<(), Fail> {
+    for count in 0..=entries_in(history) {
+        check_place(rt, alloc, beginning(history, count), 0)?;
     }
     Ok(())
 }
 
 #[test]
-fn edits_are_found_where_they_matter(rt: HostRuntime) -> Result<(), Fail> {
-    for script in EDITED {
-        let history = history_of(&rt, rt.alloc(), script)?;
-        for before in 0..entries_in(history.as_str()) {
-            let place = before.saturating_add(1);
-            for edit in [Edit::LeftOut, Edit::Doubled, Edit::Swapped] {
-                check_edit(&rt, rt.alloc(), history.as_str(), place, edit)?;
-            }
-        }
+fn histories_of_scripts_are_legal(rt: HostRuntime) -> Result<(), Fail> {
+    for script in LEGAL {
+        let history = history_of(rt.alloc(), script)?;
+        check_place(&rt, rt.alloc(), history.as_str(), 0)?;
     }
     Ok(())
 }
@@ -113,12 +112,17 @@ fn edits_are_found_where_they_matter(rt: HostRuntime) -> Result<(), Fail> {
 #[test]
 fn beginnings_are_legal(rt: HostRuntime) -> Result<(), Fail> {
     for script in EDITED {
-        let history = history_of(&rt, rt.alloc(), script)?;
-        for count in 0..entries_in(history.as_str()) {
-            let front = beginning(rt.alloc(), history.as_str(), count as u64)?;
-            let got = place_of(&rt, rt.alloc(), front.as_str())?;
-            assert_eq!(rt; got, None, "{front}");
-        }
+        let history = history_of(rt.alloc(), script)?;
+        check_beginnings(&rt, rt.alloc(), history.as_str())?;
+    }
+    Ok(())
+}
+
+#[test]
+fn edits_are_found_where_they_matter(rt: HostRuntime) -> Result<(), Fail> {
+    for script in EDITED {
+        let history = history_of(rt.alloc(), script)?;
+        check_edits(&rt, rt.alloc(), history.as_str())?;
     }
     Ok(())
 }

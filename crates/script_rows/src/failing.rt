@@ -6,19 +6,24 @@ use std::io::{ErrorKind, Read, Write};
 
 /// Gives some bytes at each call, and fails at one, which it remembers.
 #[derive(Drop)]
-pub struct FailingReader<'a> {
+pub(crate) struct FailingReader<'a> {
     rest: &'a [u8],
     width: u64,
     calls: u64,
     fails_at: u64,
     kind: ErrorKind,
     /// Whether a call failed.
-    pub failed: bool,
+    pub(crate) failed: bool,
 }
 
 impl FailingReader<'_> {
     /// Over these bytes, at most so many at a call; its call of that number, from 1, fails with this kind of error.
-    pub fn new(rest: &[u8], width: u64, fails_at: u64, kind: ErrorKind) -> FailingReader<'_> {
+    pub(crate) fn new(
+        rest: &[u8],
+        width: u64,
+        fails_at: u64,
+        kind: ErrorKind,
+    ) -> FailingReader<'_> {
         FailingReader {
             rest,
             width,
@@ -51,20 +56,20 @@ impl Read for FailingReader<'_> {
 
 /// Takes some bytes at each call, and fails at one, which it remembers.
 #[derive(Drop)]
-pub struct FailingWriter {
+pub(crate) struct FailingWriter {
     /// What it took.
-    pub taken: Vec<u8>,
+    pub(crate) taken: Vec<u8>,
     width: u64,
     calls: u64,
     fails_at: u64,
     kind: ErrorKind,
     /// Whether a call failed.
-    pub failed: bool,
+    pub(crate) failed: bool,
 }
 
 impl FailingWriter {
     /// Takes at most so many bytes at a call; its call of that number, from 1, fails with this kind of error.
-    pub fn new(alloc: Global, width: u64, fails_at: u64, kind: ErrorKind) -> FailingWriter {
+    pub(crate) fn new(alloc: Global, width: u64, fails_at: u64, kind: ErrorKind) -> FailingWriter {
         FailingWriter {
             taken: Vec::new(alloc),
             width,

@@ -1,160 +1,120 @@
-//! Readers and writers that fail at one of their calls.
+//! Readers and writers that fail at one of their calls, of scripts that are run and of histories that are checked.
 
 use crate::failing::{FailingReader, FailingWriter};
-use crate::files::file_of;
-use crate::runs::{Outcome, run};
-use casdisk_script::{RunFault, run_script};
+use crate::files::{WRITE, file_of};
+use casdisk_script::{RunFault, check_text, run_script};
 use history::all_kinds;
 use std::alloc::Global;
 use std::io::ErrorKind;
 use std::process::Abort;
 use std::test::Fail;
 
+/// What is done with a text, and so the most bytes that its writer takes at a call.
+#[derive(Clone, Copy, PartialEq, Eq)]
+enum Work {
+    Run,
+    Check,
+}
+
 /// A pair that wins, and a Read of what it wrote.
 const SCRIPT: &str =
     "publish 1 compare 1 7 3 0 00 + write 2 8 3 0 A1 / fetch 1 / settle / reap 1 / reap 1 / publish 1 read 0 9 3 0 - / fetch 1 / settle / reap 1";
 
-/// A run whose reader fails at its call of this number.
-fn read_fails(alloc: Global, script: &[u8], width: u64, fails_at: u64) -> Outcome {
-    let mut reader = FailingReader::new(script, width, fails_at, ErrorKind::Other);
-    let mut output: Vec<u8> = Vec::new(alloc);
-    let answer = run_script(alloc, &mut reader, &mut output, all_kinds());
-    Outcome { answer, output }
+/// The history of a Write without its mark, so that nothing is owed.
+const UNMARKED: &str =
+    "publish 1 01000100010000000000000000000000000000000000000000000000000000000000000000000000030000000000000000000000000000000000000000000000 A1 / fetch 1 1 1 ok / grant 1 0 3 1 w / block 1 0 3 written - / post 1 00000000000000000100010001000100 - / reap 1 00000000000000000100010001000100";
+
+/// Texts whose reading or writing fails at each call in turn.
+const ENDED: &[(Work, &str)] = &[
+    (Work::Run, SCRIPT),
+    (Work::Check, WRITE),
+    (Work::Check, UNMARKED),
+];
+
+/// Texts of which some end well, whose reading and writing fail at any two calls.
+const NAMED: &[(Work, &str)] = &[
+    (Work::Run, SCRIPT),
+    (
+        Work::Run,
+        "# a comment that is longer than what one read gives / medium 0 / reap 1 / medium 9",
+    ),
+    (
+        Work::Run,
+        "medium 3 / publish 1 write 0 1 3 0 A1 / settle 1 / medium 3",
+    ),
+    (Work::Run, "reap 1 / fetch 1 / / fetch 1"),
+    (Work::Run, "config 8 3 1 2 0 2 4 4 8 / reap 1"),
+    (Work::Run, "config 8 3 1 2 0 2 4 4 / reap 1"),
+    (Work::Check, WRITE),
+    (Work::Check, UNMARKED),
+    (
+        Work::Check,
+        "fetch 1 1 1 ok / grant 1 0 3 1 w / block 1 0 3 written / reap 1 00000000000000000100010001000100",
+    ),
+    (Work::Check, "config 8 3 1 2 0 2 4 4 8 / reap 1"),
+];
+
+/// Which call of a reader and which of a writer fail, from 1, and how many bytes each takes at a call.
+#[derive(Clone, Copy)]
+struct Calls {
+    read: u64,
+    write: u64,
+    read_width: u64,
+    write_width: u64,
 }
 
-/// A run whose writer fails at its call of this number.
-fn write_fails(alloc: Global, script: &[u8], width: u64, fails_at: u64) -> Outcome {
-    let mut reader = script;
-    let mut writer = FailingWriter::new(alloc, width, fails_at, ErrorKind::Other);
-    let answer = run_script(alloc, &mut reader, &mut writer, all_kinds());
-    let FailingWriter { taken, .. } = writer;
-    Outcome {
+/// What failed, how it ended, and what was written.
+#[derive(Drop)]
+struct Made {
+    reader: bool,
+    writer: bool,
+    answer: Result<bool, RunFault>,
+    output: Vec<u8>,
+}
+
+/// Runs a script, or checks a history; whether all is well.
+fn answer_of(
+    alloc: Global,
+    work: Work,
+    reader: &mut FailingReader<'_>,
+    writer: &mut FailingWriter,
+) -> Result<bool, RunFault> {
+    match work {
+        Work::Run => match run_script(alloc, reader, writer, all_kinds()) {
+            Ok(()) => Ok(true),
+            Err(fault) => Err(fault),
+        },
+        Work::Check => check_text(alloc, reader, writer),
+    }
+}
+
+/// What comes of a text with these failures.
+fn made_with(alloc: Global, work: Work, text: &[u8], calls: Calls, kind: ErrorKind) -> Made {
+    let mut reader = FailingReader::new(text, calls.read_width, calls.read, kind);
+    let mut writer = FailingWriter::new(alloc, calls.write_width, calls.write, kind);
+    let answer = answer_of(alloc, work, &mut reader, &mut writer);
+    let FailingWriter { taken, failed, .. } = writer;
+    Made {
+        reader: reader.failed,
+        writer: failed,
         answer,
         output: taken,
     }
 }
 
-/// That a run ends with this fault and has written a beginning of the whole, or ends well and has written all of it;
-/// whether it ends well.
-fn check_outcome(
-    rt: &impl Abort,
-    outcome: &Outcome,
-    whole: &[u8],
-    fault: RunFault,
-    fails_at: u64,
-) -> bool {
-    if outcome.answer == Ok(()) {
-        assert_eq!(rt; outcome.output.as_slice(), whole);
-        return true;
-    }
-    assert_eq!(rt; outcome.answer, Err(fault), "at {fails_at}");
-    assert!(rt;
-        whole.starts_with(outcome.output.as_slice()),
-        "at {fails_at}"
-    );
-    false
+/// What comes of it without any.
+fn whole(alloc: Global, work: Work, text: &[u8]) -> Made {
+    let calls = Calls {
+        read: 0,
+        write: 0,
+        read_width: 100_000,
+        write_width: 100_000,
+    };
+    made_with(alloc, work, text, calls, ErrorKind::Other)
 }
 
-/// The first call that a run does without; None where there is none.
-fn reads_made(
-    rt: &impl Abort,
-    alloc: Global,
-    script: &[u8],
-    whole: &[u8],
-    width: u64,
-) -> Option<u64> {
-    for fails_at in 1..10_000u64 {
-        let outcome = read_fails(alloc, script, width, fails_at);
-        if check_outcome(rt, &outcome, whole, RunFault::Input, fails_at) {
-            return Some(fails_at);
-        }
-    }
-    None
-}
-
-/// The same of a writer.
-fn writes_made(
-    rt: &impl Abort,
-    alloc: Global,
-    script: &[u8],
-    whole: &[u8],
-    width: u64,
-) -> Option<u64> {
-    for fails_at in 1..10_000u64 {
-        let outcome = write_fails(alloc, script, width, fails_at);
-        if check_outcome(rt, &outcome, whole, RunFault::Output, fails_at) {
-            return Some(fails_at);
-        }
-    }
-    None
-}
-
-/// Runs the script with a reader whose N-th call fails, for each N until no call does.
-fn fail_reads(rt: &impl Abort, alloc: Global, width: u64) -> Result<(), Fail> {
-    let script = file_of(alloc, SCRIPT)?;
-    let script = script.as_bytes();
-    let whole = run(alloc, script, all_kinds());
-    match reads_made(rt, alloc, script, whole.output.as_slice(), width) {
-        Some(calls) => assert!(rt; calls.saturating_mul(width) > script.len() as u64),
-        None => panic!(rt; "no end"),
-    }
-    Ok(())
-}
-
-/// The same with a writer.
-fn fail_writes(rt: &impl Abort, alloc: Global, width: u64) -> Result<(), Fail> {
-    let script = file_of(alloc, SCRIPT)?;
-    let script = script.as_bytes();
-    let whole = run(alloc, script, all_kinds());
-    match writes_made(rt, alloc, script, whole.output.as_slice(), width) {
-        Some(calls) => assert!(rt; calls.saturating_mul(width) > whole.output.len() as u64),
-        None => panic!(rt; "no end"),
-    }
-    Ok(())
-}
-
-#[test]
-fn a_failed_read_ends_the_run(rt: HostRuntime) -> Result<(), Fail> {
-    for width in [1, 7, 100_000u64] {
-        fail_reads(&rt, rt.alloc(), width)?;
-    }
-    Ok(())
-}
-
-#[test]
-fn a_failed_write_ends_the_run(rt: HostRuntime) -> Result<(), Fail> {
-    for width in [1, 7, 100_000u64] {
-        fail_writes(&rt, rt.alloc(), width)?;
-    }
-    Ok(())
-}
-
-/// What failed of a run, how it ended, and what it wrote.
-#[derive(Drop)]
-struct Failed {
-    reader: bool,
-    writer: bool,
-    outcome: Outcome,
-}
-
-/// A run whose reader and whose writer fail at these calls, by this kind of error.
-fn both_fail(alloc: Global, script: &[u8], calls: (u64, u64), kind: ErrorKind) -> Failed {
-    let mut reader = FailingReader::new(script, 40, calls.0, kind);
-    let mut writer = FailingWriter::new(alloc, 40, calls.1, kind);
-    let answer = run_script(alloc, &mut reader, &mut writer, all_kinds());
-    let FailingWriter { taken, failed, .. } = writer;
-    Failed {
-        reader: reader.failed,
-        writer: failed,
-        outcome: Outcome {
-            answer,
-            output: taken,
-        },
-    }
-}
-
-/// That it names what failed, where the run without failures is the whole.
-fn name_the_cause(rt: &impl Abort, made: &Failed, whole: &Outcome, calls: (u64, u64)) {
+/// That it names what failed, and wrote a beginning of the whole, or all of it. A check that can't read writes nothing.
+fn name_the_cause(rt: &impl Abort, work: Work, made: &Made, whole: &Made, calls: Calls) {
     let want = if made.reader {
         Err(RunFault::Input)
     } else if made.writer {
@@ -162,42 +122,103 @@ fn name_the_cause(rt: &impl Abort, made: &Failed, whole: &Outcome, calls: (u64, 
     } else {
         whole.answer
     };
-    assert_eq!(rt; made.outcome.answer, want, "{} {}", calls.0, calls.1);
+    assert_eq!(rt; made.answer, want, "{} {}", calls.read, calls.write);
     assert!(rt; !(made.reader && made.writer));
-    let (taken, all) = (made.outcome.output.as_slice(), whole.output.as_slice());
+    let (taken, all) = (made.output.as_slice(), whole.output.as_slice());
     assert!(rt; all.starts_with(taken));
-    if !made.reader && !made.writer {
-        assert_eq!(rt; taken, all);
-    }
+    assert!(rt; made.reader || made.writer || taken.len() == all.len());
+    assert!(rt; !made.reader || work == Work::Run || taken.is_empty());
 }
 
-/// Scripts of which some end well.
-const SCRIPTS: &[&str] = &[
-    SCRIPT,
-    "# a comment that is longer than what one read gives / medium 0 / reap 1 / medium 9",
-    "medium 3 / publish 1 write 0 1 3 0 A1 / settle 1 / medium 3",
-    "reap 1 / fetch 1 / / fetch 1",
-    "config 8 3 1 2 0 2 4 4 8 / reap 1",
-    "config 8 3 1 2 0 2 4 4 / reap 1",
-];
+/// Makes it with these failures, and looks at what comes of it; whether nothing failed.
+fn is_made(
+    rt: &impl Abort,
+    alloc: Global,
+    work: Work,
+    text: &[u8],
+    whole: &Made,
+    calls: Calls,
+    kind: ErrorKind,
+) -> bool {
+    let made = made_with(alloc, work, text, calls, kind);
+    name_the_cause(rt, work, &made, whole, calls);
+    !made.reader && !made.writer
+}
 
-/// That each failure of a script, by this kind of error, is named.
-fn name_causes(rt: &impl Abort, alloc: Global, script: &[u8], kind: ErrorKind) {
-    let whole = run(alloc, script, all_kinds());
-    for read in 0..10u64 {
+/// The first call that it does without, of a reader or of a writer that takes so many bytes at a call.
+fn calls_made(
+    rt: &impl Abort,
+    alloc: Global,
+    work: Work,
+    text: &[u8],
+    whole: &Made,
+    is_reader: bool,
+    width: u64,
+) -> u64 {
+    for at in 1..10_000u64 {
+        let (read, write) = if is_reader { (at, 0) } else { (0, at) };
+        let calls = Calls {
+            read,
+            write,
+            read_width: width,
+            write_width: width,
+        };
+        if is_made(rt, alloc, work, text, whole, calls, ErrorKind::Other) {
+            return at;
+        }
+    }
+    panic!(rt; "no end")
+}
+
+/// That each call of a reader and each of a writer ends it.
+fn fail_each(rt: &impl Abort, alloc: Global, work: Work, text: &[u8], width: u64) {
+    let whole = whole(alloc, work, text);
+    let reads = calls_made(rt, alloc, work, text, &whole, true, width);
+    assert!(rt; reads > 1 && reads.saturating_mul(width) > text.len() as u64);
+    let writes = calls_made(rt, alloc, work, text, &whole, false, width);
+    assert!(rt; writes > 1 && writes.saturating_mul(width) > whole.output.len() as u64);
+}
+
+#[test]
+fn a_failed_call_ends_the_work(rt: HostRuntime) -> Result<(), Fail> {
+    for (work, text) in ENDED {
+        let file = file_of(rt.alloc(), text)?;
+        for width in [1, 7, 100_000u64] {
+            fail_each(&rt, rt.alloc(), *work, file.as_bytes(), width);
+        }
+    }
+    Ok(())
+}
+
+/// That each failure of both, by this kind of error, is named.
+fn name_causes(rt: &impl Abort, alloc: Global, work: Work, text: &[u8], kind: ErrorKind) {
+    let whole = whole(alloc, work, text);
+    let write_width = if work == Work::Run { 40 } else { 2 };
+    for read in 0..14u64 {
         for write in 0..20u64 {
-            let made = both_fail(alloc, script, (read, write), kind);
-            name_the_cause(rt, &made, &whole, (read, write));
+            let calls = Calls {
+                read,
+                write,
+                read_width: 40,
+                write_width,
+            };
+            is_made(rt, alloc, work, text, &whole, calls, kind);
         }
     }
 }
 
 #[test]
 fn a_fault_names_what_failed(rt: HostRuntime) -> Result<(), Fail> {
-    for script in SCRIPTS {
-        let file = file_of(rt.alloc(), script)?;
-        name_causes(&rt, rt.alloc(), file.as_bytes(), ErrorKind::Other);
-        name_causes(&rt, rt.alloc(), file.as_bytes(), ErrorKind::OutOfMemory);
+    for (work, text) in NAMED {
+        let file = file_of(rt.alloc(), text)?;
+        name_causes(&rt, rt.alloc(), *work, file.as_bytes(), ErrorKind::Other);
+        name_causes(
+            &rt,
+            rt.alloc(),
+            *work,
+            file.as_bytes(),
+            ErrorKind::OutOfMemory,
+        );
     }
     Ok(())
 }

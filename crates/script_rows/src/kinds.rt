@@ -68,22 +68,16 @@ fn each_set_of_kinds_shows_its_lines(rt: HostRuntime) -> Result<(), Fail> {
     Ok(())
 }
 
-const SHOWN: [(&str, &str); 2] = [
+const SHOWN: &[&str] = &[
     // In the middle of a unit.
-    (
-        "publish 1 write 0 1 0 1 A1.A1 / publish 2 read 0 2 0 1 - / fetch 1 / fetch 2 / grant 1 / block 1 / medium 0 / medium 1 / grant 2",
-        "medium 0 A1 / medium 1 00 / refused 6",
-    ),
+    "publish 1 write 0 1 0 1 A1.A1 / publish 2 read 0 2 0 1 - / fetch 1 / fetch 2 / grant 1 / block 1 / medium 0 / medium 1 / grant 2 => medium 0 A1 / medium 1 00 / refused 6",
     // A block past the end is none, and a queue that isn't there is refused.
-    (
-        "reap 0 / reap 65535 / grant 18446744073709551615 / medium 8 / medium 7",
-        "refused 1 / refused 1 / refused 5 / medium 8 none / medium 7 00",
-    ),
+    "reap 0 / reap 65535 / grant 18446744073709551615 / medium 8 / medium 7 => refused 1 / refused 1 / refused 5 / medium 8 none / medium 7 00",
 ];
 
 #[test]
 fn refusals_and_blocks_are_shown(rt: HostRuntime) -> Result<(), Fail> {
-    check_table(&rt, rt.alloc(), "refused,medium", &SHOWN)
+    check_table(&rt, rt.alloc(), "refused,medium", SHOWN)
 }
 
 /// How often the long script writes its block.

@@ -1,5 +1,5 @@
-//! Scripts beside the lines that they print, as tests of `casdisk_script` over its neighbours; and what other tests of
-//! texts use.
+//! Scripts beside the lines that they print, and runs and checks whose reader or writer fails, as tests of
+//! `casdisk_script` over its neighbours; and what other tests of texts use.
 #![tactic(auto)]
 
 #[cfg(test)]
@@ -8,7 +8,8 @@ mod commands;
 mod configurations;
 #[cfg(test)]
 mod entries;
-pub mod failing;
+#[cfg(test)]
+mod failing;
 #[cfg(test)]
 mod faults;
 pub mod files;

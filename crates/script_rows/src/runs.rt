@@ -154,14 +154,15 @@ pub(crate) fn check_run(
     check_read_back(rt, alloc, file.as_str())
 }
 
-/// `check_run` for each row of a table: a script, and its lines of these kinds.
+/// `check_run` for each row of a table: a script and, behind an arrow, its lines of these kinds.
 pub(crate) fn check_table(
     rt: &impl Abort,
     alloc: Global,
     names: &str,
-    rows: &[(&str, &str)],
+    rows: &[&str],
 ) -> Result<(), Fail> {
-    for (script, expected) in rows {
+    for row in rows {
+        let (script, expected) = row.split_once(" => ").ok_or("no arrow")?;
         check_run(rt, alloc, names, script, expected)?;
     }
     Ok(())

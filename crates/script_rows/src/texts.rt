@@ -3,6 +3,7 @@
 use crate::files::{CONFIG, file_of};
 use crate::runs::{check_end, check_run, run};
 use casdisk_script::RunFault;
+use casdisk_script::RunFault::{BadConfig, BadLine};
 use history::all_kinds;
 use std::alloc::Global;
 use std::process::Abort;
@@ -82,7 +83,7 @@ fn check_bad(rt: &impl Abort, alloc: Global, line: &str) -> Result<(), Fail> {
     script.push_str("\n")?;
     let script = script.as_bytes();
     let output = script.get(..config).unwrap_or(b"");
-    check_end(rt, alloc, script, Err(RunFault::BadLine(2)), output);
+    check_end(rt, alloc, script, Err(BadLine(2)), output);
     Ok(())
 }
 
@@ -184,25 +185,17 @@ fn raw_entries_have_128_digits(rt: HostRuntime) -> Result<(), Fail> {
 
 /// Scripts, how they end, and what they print.
 const ENDS: &[(&[u8], Result<(), RunFault>, &[u8])] = &[
-    (b"", Err(RunFault::BadLine(1)), b""),
-    (b"\n", Err(RunFault::BadLine(1)), b""),
-    (b"# a comment\n", Err(RunFault::BadLine(1)), b""),
-    (b"config 8 1 1 0 0 2 4 4 8", Err(RunFault::BadLine(1)), b""),
+    (b"", Err(BadLine(1)), b""),
+    (b"\n", Err(BadLine(1)), b""),
+    (b"# a comment\n", Err(BadLine(1)), b""),
+    (b"config 8 1 1 0 0 2 4 4 8", Err(BadLine(1)), b""),
     (
         b"config 8 3 1 2 0 2 4 4 8\nreap 1\n",
-        Err(RunFault::BadConfig(23)),
+        Err(BadConfig(23)),
         b"",
     ),
-    (
-        b"config2 8 1 1 0 0 2 4 4 8 3\n",
-        Err(RunFault::BadConfig(30)),
-        b"",
-    ),
-    (
-        b"config2 8 1 1 0 0 2 4 4 8 2\n",
-        Err(RunFault::BadLine(1)),
-        b"",
-    ),
+    (b"config2 8 1 1 0 0 2 4 4 8 3\n", Err(BadConfig(30)), b""),
+    (b"config2 8 1 1 0 0 2 4 4 8 2\n", Err(BadLine(1)), b""),
     (
         b"config2 8 1 1 0 0 2 4 4 8 1\nreap 1\n",
         Ok(()),
@@ -210,7 +203,7 @@ const ENDS: &[(&[u8], Result<(), RunFault>, &[u8])] = &[
     ),
     (
         b"config 8 1 1 0 0 2 4 4 8\nreap 1",
-        Err(RunFault::BadLine(2)),
+        Err(BadLine(2)),
         b"config 8 1 1 0 0 2 4 4 8\n",
     ),
     (
@@ -220,12 +213,12 @@ const ENDS: &[(&[u8], Result<(), RunFault>, &[u8])] = &[
     ),
     (
         b"config 8 1 1 0 0 2 4 4 8\n# a comment is a line\nreap 1\n\nreap 1\n",
-        Err(RunFault::BadLine(4)),
+        Err(BadLine(4)),
         b"config 8 1 1 0 0 2 4 4 8\nrefused 9\n",
     ),
     (
         b"config 8 1 1 0 0 2 4 4 8\nmedium 0\n # no comment\nmedium 0\n",
-        Err(RunFault::BadLine(3)),
+        Err(BadLine(3)),
         b"config 8 1 1 0 0 2 4 4 8\nmedium 0 00\n",
     ),
 ];
@@ -271,7 +264,7 @@ fn check_cut(rt: &impl Abort, alloc: Global, script: &[u8], whole: &[u8], length
     let answer = if length > 0 && cut.ends_with(b"\n") {
         Ok(())
     } else {
-        Err(RunFault::BadLine(lines.saturating_add(1)))
+        Err(BadLine(lines.saturating_add(1)))
     };
     check_end(rt, alloc, cut, answer, first_lines(whole, lines));
 }
