@@ -227,6 +227,3 @@ impl Run {
         self.note(found)
     }
 }
-
-#[cfg(test)]
-mod tests;

@@ -8,7 +8,7 @@ ghost use Rattle.checker_tables.specs.Judged.{owed_by};
 ghost use Rattle.checked_tickets.specs.Contents.{contents_in};
 ghost use Rattle.checked_tickets.specs.Explained.{block_wrong_by, post_wrong_at};
 
-use crate::flight::{Flight, status_at};
+use crate::flight::Flight;
 use crate::unit::{answers_at, block_due};
 use block_array::{NoMemory, Volume};
 use broken_rules::{Broken, block_broken, post_broken};
@@ -55,7 +55,7 @@ impl Flight {
             post_wrong_at head (phase_bit phase) self.now line.now (slice_get (owed_by c self.now) self.now.posts) }
     {
         let (posts, _placed) = self.counts();
-        let Some(status) = status_at(self.owed(count), posts) else {
+        let Some(status) = self.owed(count).get(usize::from(posts)) else {
             return Some(Broken::NothingOwed {
                 ticket: line.ticket,
             });

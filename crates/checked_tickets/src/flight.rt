@@ -349,7 +349,7 @@ impl Flight {
         ensures value { (c : ConfigNumbers) → count ≡ length (units c self.now.ticket) → result ≡
             post_fits_at head (phase_bit phase) self.now line.now (slice_get (owed_by c self.now) self.now.posts) }
     {
-        let Some(status) = status_at(self.owed(count), self.posts) else {
+        let Some(status) = self.owed(count).get(usize::from(self.posts)) else {
             return false;
         };
         let wanted = self.completion(status, head, phase);
@@ -378,19 +378,4 @@ impl Flight {
         }
         &[]
     }
-}
-
-// The status at a place of what is owed, from 0.
-pub(crate) fn status_at(owed: Owed, place: u8) -> Option<Status>
-    ensures value { result ≡ slice_get owed place }
-{
-    let mut left = owed;
-    let count = left.len();
-    if place as usize >= count {
-        return None;
-    }
-    if place == 1 {
-        let _first = left.pop();
-    }
-    left.front()
 }

@@ -4,6 +4,3 @@
 mod in_use;
 
 pub use in_use::CidsInUse;
-
-#[cfg(test)]
-mod tests;

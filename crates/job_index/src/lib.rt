@@ -8,6 +8,3 @@ mod tickets;
 pub use index::JobIndex;
 pub use steps::Steps;
 pub use tickets::{Keyed, Tickets};
-
-#[cfg(test)]
-mod tests;

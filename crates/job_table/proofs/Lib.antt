@@ -1,5 +1,4 @@
 pub mod Tickets
 mod Noted
 pub mod Tables
-mod Place
 mod Slots

@@ -221,6 +221,3 @@ fn touch(
     }
     run.next_from(volume, compare, boxes, next, &mut []).found
 }
-
-#[cfg(test)]
-mod tests;

@@ -76,29 +76,12 @@ impl Jobs {
         self.index.is_empty()
     }
 
-    /// How many tickets may be in flight.
-    pub fn limit(&self) -> usize
-        ensures value { result ≡ self.now.limit }
-    {
-        self.limit
-    }
-
     /// Whether as many tickets are in flight as may be.
     pub fn is_full(&self) -> bool
         ensures value { result ≡ (length self.now.jobs == self.now.limit) }
         ensures most { length self.now.jobs ≤ self.now.limit }
     {
         self.index.len() == self.limit
-    }
-
-    /// Whether the ticket is above all that are in flight.
-    pub fn is_above_all(&self, ticket: u64) -> bool
-        ensures value { result ≡ all_below ticket self.now.jobs }
-    {
-        match self.index.len().checked_sub(1) {
-            Some(last) => one(&self.jobs, self.index.key(last)).ticket < ticket,
-            None => true,
-        }
     }
 
     /// Puts a ticket, above all that are there, in flight.
@@ -195,6 +178,3 @@ fn one(jobs: &Slab<InFlight>, key: usize) -> &InFlight
     };
     one
 }
-
-#[cfg(test)]
-mod tests;

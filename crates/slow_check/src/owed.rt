@@ -1,7 +1,7 @@
 //! What a ticket owes, and what a successful Read has read.
 
 ghost use Rattle.std.specs.List.{flat_map};
-ghost use Rattle.std.specs.Prelude.{◌≡◌, ◌≤◌, ◌+◌, ◌++◌, IfOk, Ok, OnOk, is_some, slice_get, true};
+ghost use Rattle.std.specs.Prelude.{◌≡◌, ◌≤◌, ◌+◌, ◌++◌, IfOk, Ok, OnOk, is_some, true};
 ghost use Rattle.nvme_model.specs.Array.{blocks_from};
 ghost use Rattle.nvme_model.specs.Legal.{IsLegal};
 ghost use Rattle.nvme_model.specs.Operations.{units};
@@ -80,22 +80,7 @@ pub(crate) fn owed(config: &Config, past: &Before, number: u64, ranges: &[Range]
     }
 }
 
-/// The status at a place of what is owed, from 0.
-pub(crate) fn status_at(owed: Owed, place: u64) -> Option<Status>
-    ensures value { result ≡ slice_get owed place }
-{
-    let mut left = owed;
-    let count = left.len();
-    if place >= count as u64 {
-        return None;
-    }
-    if place == 1 {
-        let _first = left.pop();
-    }
-    left.front()
-}
-
-// Puts the contents of blocks at an effect behind what was read.
+/// Puts the contents of blocks at an effect behind what was read.
 #[tactic(auto, using(crate::proofs::ReadBack::block_next, crate::proofs::ReadBack::none_read))]
 fn read_unit(
     past: &Before,

@@ -22,7 +22,7 @@ ghost use Rattle.slow_check.specs.Answers.{is_right};
 
 use crate::counts::{differed, fetched, grants_of, posts_of, published_len, reaped, tickets};
 use crate::fetching::{in_flight, jobs_full, next_verdict};
-use crate::owed::{completion_data, owed, status_at, units_of};
+use crate::owed::{completion_data, owed, units_of};
 use crate::past::Before;
 use crate::posts::{completion, completion_queue, posted_at, posted_len};
 use crate::taken::{Taken, compare_data, is_exclusive, mode, op, queue_of, ticket, verdict_of};
@@ -290,7 +290,7 @@ fn post_fits(
         (slice_get (owed config.now past.now t) (posts_of past.now t))) }
 {
     let owed = owed(config, past, line.ticket, ranges);
-    let Some(status) = status_at(owed, posts_of(past, line.ticket)) else {
+    let Some(status) = owed.get(posts_of(past, line.ticket) as usize) else {
         return Ok(false);
     };
     let wanted = completion(config, past, line.ticket, status);

@@ -11,6 +11,3 @@ pub use machine::Core;
 pub use nvme_model::step::Step;
 pub use nvme_model::submission::{Payload, Submission, Submissions};
 pub use work::{Kind, Work};
-
-#[cfg(test)]
-mod tests;

@@ -1,3 +1,2 @@
-pub mod Cids
 pub mod Stages
 pub mod Shown

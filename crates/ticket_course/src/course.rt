@@ -233,6 +233,3 @@ fn owed_on_success(op: Op) -> Owed
         _ => Owed::one(success),
     }
 }
-
-#[cfg(test)]
-mod tests;
