@@ -1,11 +1,12 @@
 //! Which identifiers calls get, and when these are free again.
 
-ghost use Rattle.std.specs.Prelude.{length};
+ghost use Rattle.std.specs.List.Sorted.{IsStrictlyIncreasing};
+ghost use Rattle.std.specs.Prelude.{◌≤◌, length};
 
 use crate::acts::{Act, acts_all};
 use crate::sent::{Sent, driver_of, good, one, published, two};
-use driver_cas::{Driver, Fault, PortFault};
-use driver_rows::{Ask, Fake, Fill, Told};
+use driver_cas::{Fault, PortFault};
+use driver_rows::{Ask, Fill, Script, Told};
 use std::alloc::Global;
 use std::process::Abort;
 use std::test::Fail;
@@ -16,22 +17,27 @@ const PAIR: Ask = Ask::CompareAndWrite(1, Fill(0xa1, 512), Fill(0xb2, 512));
 
 const FULL: Fault = Fault::RingFull;
 
-// That the driver does this, and with it publishes so many batches, the last of which are these.
+// That a driver of these submission queues, whose port answers so, does this, and with it publishes so many batches,
+// the last of which are these.
 fn publishes<R: Abort>(
     rt: &R,
     alloc: Global,
-    driver: Driver<Fake>,
+    queues: &[u16],
+    answers: (&[PortFault], &[Script]),
     acts: &[Act],
     count: usize,
     last: &[Sent],
-) -> Result<Vec<Sent>, Fail> {
-    let mut driver = driver;
+) -> Result<(), Fail>
+    requires some { 1 ≤ length queues.now }
+    requires rising { IsStrictlyIncreasing queues.now }
+{
+    let mut driver = driver_of(alloc, queues, answers.0, answers.1)?;
     acts_all(rt, alloc, &mut driver, acts);
     let all = published(alloc, driver)?;
     assert_eq!(rt; all.len(), count);
     let from = count.saturating_sub(last.len());
     assert_eq!(rt; all.as_slice().get(from..), Some(last));
-    Ok(all)
+    Ok(())
 }
 
 // The batches of 128 Reads.
@@ -45,7 +51,6 @@ fn nth(place: usize) -> Sent {
 // By submission queue; each call that ends frees its own.
 #[test]
 fn the_least_free_ones_are_drawn(rt: HostRuntime) -> Result<(), Fail> {
-    let driver = driver_of(rt.alloc(), &[1, 2], &[], &[good(1, 3), good(2, 5)])?;
     let acts = [
         Act::Begin(128, READ),
         Act::Refused(READ, FULL),
@@ -57,29 +62,37 @@ fn the_least_free_ones_are_drawn(rt: HostRuntime) -> Result<(), Fail> {
         Act::Begin(1, READ),
         Act::Refused(READ, FULL),
     ];
-    let all = publishes(&rt, rt.alloc(), driver, &acts, 130, &[one(2, 5), one(1, 3)])?;
-    for (place, sent) in all.as_slice().iter().take(128).enumerate() {
-        assert_eq!(rt; *sent, nth(place), "batch {place}");
+    let mut all = Vec::new(rt.alloc());
+    for place in 0..128 {
+        all.push(nth(place))?;
     }
-    Ok(())
+    all.push(one(2, 5))?;
+    all.push(one(1, 3))?;
+    let reaps = [good(1, 3), good(2, 5)];
+    publishes(
+        &rt,
+        rt.alloc(),
+        &[1, 2],
+        (&[], &reaps),
+        &acts,
+        130,
+        all.as_slice(),
+    )
 }
 
 #[test]
 fn sixty_three_leave_room_for_a_read(rt: HostRuntime) -> Result<(), Fail> {
-    let driver = driver_of(rt.alloc(), &[1], &[], &[])?;
     let acts = [
         Act::Begin(63, READ),
         Act::Refused(PAIR, FULL),
         Act::Begin(1, READ),
         Act::Refused(READ, FULL),
     ];
-    publishes(&rt, rt.alloc(), driver, &acts, 64, &[one(1, 63)])?;
-    Ok(())
+    publishes(&rt, rt.alloc(), &[1], (&[], &[]), &acts, 64, &[one(1, 63)])
 }
 
 #[test]
 fn a_pair_takes_two(rt: HostRuntime) -> Result<(), Fail> {
-    let driver = driver_of(rt.alloc(), &[1], &[], &[good(1, 9), good(1, 7)])?;
     let acts = [
         Act::Begin(63, READ),
         Act::Refused(PAIR, FULL),
@@ -94,31 +107,28 @@ fn a_pair_takes_two(rt: HostRuntime) -> Result<(), Fail> {
     publishes(
         &rt,
         rt.alloc(),
-        driver,
+        &[1],
+        (&[], &[good(1, 9), good(1, 7)]),
         &acts,
         65,
         &[two(1, 7, 63), one(1, 9)],
-    )?;
-    Ok(())
+    )
 }
 
 #[test]
 fn a_pair_goes_where_two_are_free(rt: HostRuntime) -> Result<(), Fail> {
-    let driver = driver_of(rt.alloc(), &[1, 2], &[], &[])?;
     let acts = [
         Act::Begin(63, READ),
         Act::Begin(1, PAIR),
         Act::Begin(2, READ),
     ];
     let last = [two(2, 0, 1), one(1, 63), one(2, 2)];
-    publishes(&rt, rt.alloc(), driver, &acts, 66, &last)?;
-    Ok(())
+    publishes(&rt, rt.alloc(), &[1, 2], (&[], &[]), &acts, 66, &last)
 }
 
 // Its completion is dropped.
 #[test]
 fn a_dropped_call_keeps_its_own(rt: HostRuntime) -> Result<(), Fail> {
-    let driver = driver_of(rt.alloc(), &[1], &[], &[good(1, 1), good(1, 0)])?;
     let acts = [
         Act::Begin(1, READ),
         Act::End(0, 0, Told::Pending),
@@ -127,14 +137,20 @@ fn a_dropped_call_keeps_its_own(rt: HostRuntime) -> Result<(), Fail> {
         Act::Begin(3, READ),
     ];
     let all = [one(1, 0), one(1, 1), one(1, 1), one(1, 2), one(1, 3)];
-    publishes(&rt, rt.alloc(), driver, &acts, 5, &all)?;
-    Ok(())
+    publishes(
+        &rt,
+        rt.alloc(),
+        &[1],
+        (&[], &[good(1, 1), good(1, 0)]),
+        &acts,
+        5,
+        &all,
+    )
 }
 
 // One whose completion came with the poll of another call, which is dropped.
 #[test]
 fn a_call_keeps_its_own_till_it_is_polled(rt: HostRuntime) -> Result<(), Fail> {
-    let driver = driver_of(rt.alloc(), &[1], &[], &[good(1, 0)])?;
     let acts = [
         Act::Begin(64, READ),
         Act::End(1, 1, Told::Pending),
@@ -143,14 +159,20 @@ fn a_call_keeps_its_own_till_it_is_polled(rt: HostRuntime) -> Result<(), Fail> {
         Act::Begin(1, READ),
         Act::Refused(READ, FULL),
     ];
-    publishes(&rt, rt.alloc(), driver, &acts, 65, &[one(1, 0)])?;
-    Ok(())
+    publishes(
+        &rt,
+        rt.alloc(),
+        &[1],
+        (&[], &[good(1, 0)]),
+        &acts,
+        65,
+        &[one(1, 0)],
+    )
 }
 
 // The completion of its first comes with the poll of another call, which is dropped.
 #[test]
 fn a_pair_keeps_both_till_both_have_ended(rt: HostRuntime) -> Result<(), Fail> {
-    let driver = driver_of(rt.alloc(), &[1], &[], &[good(1, 1), good(1, 0)])?;
     let acts = [
         Act::Begin(1, PAIR),
         Act::Begin(62, READ),
@@ -160,36 +182,48 @@ fn a_pair_keeps_both_till_both_have_ended(rt: HostRuntime) -> Result<(), Fail> {
         Act::Begin(1, PAIR),
         Act::Refused(READ, FULL),
     ];
-    publishes(&rt, rt.alloc(), driver, &acts, 64, &[two(1, 0, 1)])?;
-    Ok(())
+    publishes(
+        &rt,
+        rt.alloc(),
+        &[1],
+        (&[], &[good(1, 1), good(1, 0)]),
+        &acts,
+        64,
+        &[two(1, 0, 1)],
+    )
+}
+
+// That a driver of two submission queues, whose port refuses so, publishes these.
+fn tries<R: Abort>(
+    rt: &R,
+    alloc: Global,
+    refusals: &[PortFault],
+    acts: &[Act],
+    all: &[Sent],
+) -> Result<(), Fail> {
+    publishes(rt, alloc, &[1, 2], (refusals, &[]), acts, all.len(), all)
 }
 
 // RingFull at the first of its submission queues, at both, and at the first before Busy at the second; Busy and
 // NoMemory at the first, where the second would have answered RingFull.
 #[test]
 fn the_next_queue_is_tried_after_ring_full(rt: HostRuntime) -> Result<(), Fail> {
-    let alloc = rt.alloc();
-    let first = driver_of(alloc, &[1, 2], &[PortFault::RingFull], &[])?;
     let acts = [Act::Begin(2, READ)];
-    publishes(&rt, alloc, first, &acts, 2, &[one(2, 0), one(1, 0)])?;
-    let both = driver_of(
-        alloc,
-        &[1, 2],
-        &[PortFault::RingFull, PortFault::RingFull],
-        &[],
-    )?;
+    let all = [one(2, 0), one(1, 0)];
+    tries(&rt, rt.alloc(), &[PortFault::RingFull], &acts, &all)?;
     let acts = [Act::Refused(READ, FULL), Act::Begin(1, PAIR)];
-    publishes(&rt, alloc, both, &acts, 1, &[two(1, 0, 1)])?;
-    let second = driver_of(alloc, &[1, 2], &[PortFault::Busy, PortFault::RingFull], &[])?;
+    let both = [PortFault::RingFull, PortFault::RingFull];
+    tries(&rt, rt.alloc(), &both, &acts, &[two(1, 0, 1)])?;
     let acts = [Act::Refused(PAIR, Fault::Busy), Act::Begin(1, READ)];
-    publishes(&rt, alloc, second, &acts, 1, &[one(1, 0)])?;
+    let second = [PortFault::Busy, PortFault::RingFull];
+    tries(&rt, rt.alloc(), &second, &acts, &[one(1, 0)])?;
     for (refusal, fault) in [
         (PortFault::Busy, Fault::Busy),
         (PortFault::NoMemory, Fault::NoMemory),
     ] {
-        let stopped = driver_of(alloc, &[1, 2], &[PortFault::RingFull, refusal], &[])?;
         let acts = [Act::Refused(READ, fault), Act::Begin(1, PAIR)];
-        publishes(&rt, alloc, stopped, &acts, 1, &[two(2, 0, 1)])?;
+        let first = [PortFault::RingFull, refusal];
+        tries(&rt, rt.alloc(), &first, &acts, &[two(2, 0, 1)])?;
     }
     Ok(())
 }

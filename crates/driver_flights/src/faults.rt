@@ -61,6 +61,23 @@ fn one_alike(one: Driver<Fake>, two: Driver<Fake>) -> bool {
     queue == other && same_items(batch.as_slice(), same.as_slice())
 }
 
+// A driver that began the call after these faults; a claim gets serial 1.
+fn begins_after<R: Abort>(
+    rt: &R,
+    alloc: Global,
+    start: Start,
+    refusals: &[PortFault],
+    faults: &[Fault],
+) -> Result<Driver<Fake>, Fail> {
+    let mut driver = driver_of(alloc, &[1], refusals, &[])?;
+    for fault in faults {
+        assert_eq!(rt; starts(&mut driver, start), Err(*fault), "{start:?}");
+    }
+    let serial = if matches!(start, Start::Claims) { 1 } else { 0 };
+    assert_eq!(rt; starts(&mut driver, start), Ok(serial), "{start:?}");
+    Ok(driver)
+}
+
 // That it is refused so, and then begun as by a driver that wasn't refused.
 fn as_before<R: Abort>(
     rt: &R,
@@ -69,12 +86,8 @@ fn as_before<R: Abort>(
     refusal: PortFault,
     fault: Fault,
 ) -> Result<(), Fail> {
-    let mut driver = driver_of(alloc, &[1], &[refusal], &[])?;
-    let mut other = driver_of(alloc, &[1], &[], &[])?;
-    let serial = if matches!(start, Start::Claims) { 1 } else { 0 };
-    assert_eq!(rt; starts(&mut driver, start), Err(fault), "{start:?}");
-    assert_eq!(rt; starts(&mut driver, start), Ok(serial), "{start:?}");
-    assert_eq!(rt; starts(&mut other, start), Ok(serial), "{start:?}");
+    let driver = begins_after(rt, alloc, start, &[refusal], &[fault])?;
+    let other = begins_after(rt, alloc, start, &[], &[])?;
     assert!(rt; one_alike(driver, other), "{start:?}");
     Ok(())
 }
@@ -93,17 +106,30 @@ fn after_a_fault_the_driver_is_as_before(rt: HostRuntime) -> Result<(), Fail> {
     Ok(())
 }
 
+// How each of these is begun.
+fn all_begin<R: Abort>(rt: &R, driver: &mut Driver<Fake>, all: &[(u8, Start, Result<u64, Fault>)])
+    requires { area_of driver.old ≡ record { slba = 0; blocks = 1 } }
+    ensures { area_of driver.new ≡ record { slba = 0; blocks = 1 } }
+{
+    for (count, start, want) in all {
+        for _ in 0..*count {
+            assert_eq!(rt; starts(driver, *start), *want, "{start:?}");
+        }
+    }
+}
+
 // No serial is used up.
 #[test]
 fn a_claim_needs_two_identifiers(rt: HostRuntime) -> Result<(), Fail> {
     let mut driver = driver_of(rt.alloc(), &[1], &[], &[])?;
-    assert_eq!(rt; starts(&mut driver, Start::Claims), Ok(1));
-    for _ in 0..61 {
-        assert_eq!(rt; starts(&mut driver, STARTS[0]), Ok(0));
-    }
-    assert_eq!(rt; starts(&mut driver, Start::Claims), Err(Fault::RingFull));
-    assert_eq!(rt; starts(&mut driver, Start::Releases), Err(Fault::RingFull));
-    assert_eq!(rt; starts(&mut driver, STARTS[0]), Ok(0));
-    assert_eq!(rt; starts(&mut driver, STARTS[0]), Err(Fault::RingFull));
+    let all = [
+        (1, Start::Claims, Ok(1)),
+        (61, STARTS[0], Ok(0)),
+        (1, Start::Claims, Err(Fault::RingFull)),
+        (1, Start::Releases, Err(Fault::RingFull)),
+        (1, STARTS[0], Ok(0)),
+        (1, STARTS[0], Err(Fault::RingFull)),
+    ];
+    all_begin(&rt, &mut driver, &all);
     Ok(())
 }

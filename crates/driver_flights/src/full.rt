@@ -1,21 +1,23 @@
 //! Submission queues that are full.
 
-ghost use Rattle.std.specs.Prelude.{◌≡◌, IfOk};
+ghost use Rattle.std.specs.Prelude.{◌≡◌, ◌≤◌, IfOk, true};
 ghost use Rattle.history.specs.Config.{numbers};
-ghost use Rattle.driver_rows.specs.Benches.{AreOf};
+ghost use Rattle.work_queue.specs.Engines.{IsOf};
+ghost use Rattle.driver_rows.specs.Benches.{AreOf, uses};
 
-use crate::closing::closes;
-use crate::hands::on_both;
+use crate::hands::{on_both, server_of};
 use crate::sent::{Sent, one, published_in, two};
 use crate::turns::{Turn, turns_all};
 use crate::under_way::pass_of;
 use driver_cas::Fault;
-use driver_rows::{Ask, Bench, Fill, Spares, Told, bench_of, hand_of};
+use driver_rows::{Ask, Bench, Fill, Spares, Told, bench_of};
 use history::Config;
+use meet_lock::Pass;
 use std::alloc::Global;
 use std::process::Abort;
 use std::sync::Wait;
 use std::test::Fail;
+use step_core::Core;
 
 const READ: Ask = Ask::Read(1, 1);
 
@@ -36,7 +38,44 @@ fn narrow(alloc: Global, sq: u16) -> Result<(Bench, Spares), Fail>
     Ok(bench_of(alloc, config, 8, 2)?)
 }
 
-// That these turns publish these batches, where a submission queue has room for one entry less than `sq`.
+// The pass of host 1 on both submission queues, after these turns.
+fn pass_after<R: Abort + Wait>(
+    rt: &R,
+    alloc: Global,
+    bench: &Bench,
+    spares: &mut Spares,
+    turns: &[Turn],
+) -> Result<Pass<Core>, Fail>
+    requires own { AreOf bench.now spares.old }
+    requires some { 1 ≤ bench.now.config.cqs }
+    requires one { uses bench.now.config 1 1 ≡ true }
+    requires two { uses bench.now.config 1 2 ≡ true }
+    ensures { IfOk result (IsOf bench.now.engine) }
+{
+    let mut server = server_of(bench, spares)?;
+    let mut flight = on_both(alloc, bench, spares)?;
+    turns_all(rt, bench, &mut server, &mut flight, turns);
+    Ok(pass_of(bench, flight))
+}
+
+/// The controller after these turns of a host and a server, where a submission queue has room for one entry less than
+/// `sq`.
+pub(crate) fn core_after<R: Abort + Wait>(
+    rt: &R,
+    alloc: Global,
+    sq: u16,
+    turns: &[Turn],
+) -> Result<Core, Fail> {
+    let (bench, mut spares) = narrow(alloc, sq)?;
+    let pass = pass_after(rt, alloc, &bench, &mut spares, turns)?;
+    let Bench { engine, .. } = bench;
+    match engine.close(pass) {
+        Some(core) => Ok(core),
+        None => Err(Fail::from("the lock isn't free")),
+    }
+}
+
+// That these turns publish these batches.
 fn publishes<R: Abort + Wait>(
     rt: &R,
     alloc: Global,
@@ -44,13 +83,7 @@ fn publishes<R: Abort + Wait>(
     turns: &[Turn],
     all: &[Sent],
 ) -> Result<(), Fail> {
-    let (bench, mut spares) = narrow(alloc, sq)?;
-    let mut server = hand_of(&bench, &mut spares).ok_or("a server")?;
-    let hand = hand_of(&bench, &mut spares).ok_or("a host")?;
-    let mut flight = on_both(alloc, &bench, hand)?;
-    turns_all(rt, &bench, &mut server, &mut flight, turns);
-    let pass = pass_of(&bench, flight);
-    let core = closes(bench, pass)?;
+    let core = core_after(rt, alloc, sq, turns)?;
     let sent = published_in(alloc, core.history().as_slice())?;
     assert_eq!(rt; sent.as_slice(), all);
     Ok(())

@@ -5,13 +5,14 @@ ghost use Rattle.history.specs.Config.{numbers};
 ghost use Rattle.driver_rows.specs.Benches.{AreOf, IsServerOf};
 ghost use Rattle.driver_flights.specs.Flights.{IsFlightOf};
 
-use crate::closing::closes;
-use crate::hands::{on_first, on_second};
-use crate::turns::{Turn, turns_all};
-use crate::under_way::{Flight, meets, pass_of};
-use driver_rows::{Ask, Bench, Fill, Server, Spares, Told, bench_of, hand_of};
-use history::{Config, Entry, write_line};
+use crate::full::core_after;
+use crate::hands::{on_first, on_second, server_of};
+use crate::turns::{Turn, turns};
+use crate::under_way::{Flight, meets};
+use driver_rows::{Ask, Bench, Fill, Server, Spares, Told, bench_of};
+use history::Config;
 use history_check::check;
+use lock_rows::text;
 use std::alloc::Global;
 use std::process::Abort;
 use std::sync::Wait;
@@ -32,146 +33,142 @@ fn small(alloc: Global) -> Result<(Bench, Spares), Fail>
     Ok(bench_of(alloc, config, 4, 3)?)
 }
 
-// One of them writes, the other reads what it wrote, and they meet between all that; neither is Busy.
-fn work_and_meet<R: Abort + Wait>(
-    rt: &R,
-    bench: &Bench,
-    server: &mut Server,
-    one: &mut Flight<'_>,
-    two: &mut Flight<'_>,
-    byte: u8,
-)
-    requires { IsServerOf bench.now server.old × IsFlightOf bench.now one.old × IsFlightOf bench.now two.old }
-    ensures { IsServerOf bench.now server.new × IsFlightOf bench.now one.new × IsFlightOf bench.now two.new }
-{
-    let write = [Turn::Begin(Ask::Write(2, Fill(byte, 512)))];
-    turns_all(rt, bench, server, one, &write);
-    assert!(rt; meets(bench, one, two));
-    let end = [
-        Turn::Serve(1),
-        Turn::Listen(true),
-        Turn::End(0, 1, Told::Written),
-    ];
-    turns_all(rt, bench, server, one, &end);
-    assert!(rt; meets(bench, two, one));
-    let read = [
-        Turn::Begin(READ),
-        Turn::Serve(2),
-        Turn::Listen(true),
-        Turn::End(0, 1, Told::Read(512, byte)),
-    ];
-    turns_all(rt, bench, server, two, &read);
-    assert!(rt; meets(bench, one, two));
-    assert!(rt; meets(bench, one, two));
+/// What one of two hosts does with a server, or both.
+#[derive(Clone, Copy)]
+enum Deed {
+    One(Turn),
+    Two(Turn),
+    /// They meet, and neither is Busy.
+    Meet,
 }
 
-// So with each of these bytes.
-fn all_meet<R: Abort + Wait>(
+// Does so.
+fn does<R: Abort + Wait>(
     rt: &R,
     bench: &Bench,
     server: &mut Server,
     one: &mut Flight<'_>,
     two: &mut Flight<'_>,
+    deed: Deed,
 )
     requires { IsServerOf bench.now server.old × IsFlightOf bench.now one.old × IsFlightOf bench.now two.old }
     ensures { IsServerOf bench.now server.new × IsFlightOf bench.now one.new × IsFlightOf bench.now two.new }
 {
-    for byte in 1..9 {
-        work_and_meet(rt, bench, server, one, two, byte);
+    match deed {
+        Deed::One(turn) => turns(rt, bench, server, one, turn),
+        Deed::Two(turn) => turns(rt, bench, server, two, turn),
+        Deed::Meet => assert!(rt; meets(bench, one, two)),
     }
+}
+
+// Does them all.
+fn does_all<R: Abort + Wait>(
+    rt: &R,
+    bench: &Bench,
+    server: &mut Server,
+    one: &mut Flight<'_>,
+    two: &mut Flight<'_>,
+    all: &[Deed],
+)
+    requires { IsServerOf bench.now server.old × IsFlightOf bench.now one.old × IsFlightOf bench.now two.old }
+    ensures { IsServerOf bench.now server.new × IsFlightOf bench.now one.new × IsFlightOf bench.now two.new }
+{
+    for deed in all {
+        does(rt, bench, server, one, two, *deed);
+    }
+}
+
+// So with host 1 and host 2.
+fn both_do<R: Abort + Wait>(
+    rt: &R,
+    alloc: Global,
+    bench: &Bench,
+    spares: &mut Spares,
+    all: &[Deed],
+) -> Result<(), Fail>
+    requires own { AreOf bench.now spares.old }
+    requires config { bench.now.config ≡ numbers 8 1 1 0 0 2 4 4 8 2 }
+{
+    let mut server = server_of(bench, spares)?;
+    let mut one = on_first(alloc, bench, server_of(bench, spares)?)?;
+    let mut two = on_second(alloc, bench, server_of(bench, spares)?)?;
+    does_all(rt, bench, &mut server, &mut one, &mut two, all);
+    Ok(())
+}
+
+// On a bench of their own.
+fn hosts_do<R: Abort + Wait>(rt: &R, alloc: Global, all: &[Deed]) -> Result<(), Fail> {
+    let (bench, mut spares) = small(alloc)?;
+    both_do(rt, alloc, &bench, &mut spares, all)
+}
+
+// Host 1 writes, host 2 reads what it wrote, and they meet between all that.
+fn round(byte: u8) -> [Deed; 12] {
+    [
+        Deed::One(Turn::Begin(Ask::Write(2, Fill(byte, 512)))),
+        Deed::Meet,
+        Deed::One(Turn::Serve(1)),
+        Deed::One(Turn::Listen(true)),
+        Deed::One(Turn::End(0, 1, Told::Written)),
+        Deed::Meet,
+        Deed::Two(Turn::Begin(READ)),
+        Deed::Two(Turn::Serve(2)),
+        Deed::Two(Turn::Listen(true)),
+        Deed::Two(Turn::End(0, 1, Told::Read(512, byte))),
+        Deed::Meet,
+        Deed::Meet,
+    ]
 }
 
 #[test]
 fn hosts_that_work_meet(rt: HostRuntime) -> Result<(), Fail> {
-    let alloc = rt.alloc();
-    let (bench, mut spares) = small(alloc)?;
-    let mut server = hand_of(&bench, &mut spares).ok_or("a server")?;
-    let hand = hand_of(&bench, &mut spares).ok_or("a host")?;
-    let mut one = on_first(alloc, &bench, hand)?;
-    let hand = hand_of(&bench, &mut spares).ok_or("another host")?;
-    let mut two = on_second(alloc, &bench, hand)?;
-    all_meet(&rt, &bench, &mut server, &mut one, &mut two);
-    Ok(())
+    let mut all = Vec::new(rt.alloc());
+    for byte in 1..9 {
+        for deed in round(byte) {
+            all.push(deed)?;
+        }
+    }
+    hosts_do(&rt, rt.alloc(), all.as_slice())
 }
 
 // An empty queue tells of no completion, so that none is reaped, though one is posted; and meeting doesn't either.
 #[test]
 fn only_notices_are_counted(rt: HostRuntime) -> Result<(), Fail> {
-    let alloc = rt.alloc();
-    let (bench, mut spares) = small(alloc)?;
-    let mut server = hand_of(&bench, &mut spares).ok_or("a server")?;
-    let hand = hand_of(&bench, &mut spares).ok_or("a host")?;
-    let mut one = on_first(alloc, &bench, hand)?;
-    let hand = hand_of(&bench, &mut spares).ok_or("another host")?;
-    let mut two = on_second(alloc, &bench, hand)?;
-    let before = [
-        Turn::Begin(READ),
-        Turn::Begin(READ),
-        Turn::Listen(false),
-        Turn::Serve(1),
+    let all = [
+        Deed::One(Turn::Begin(READ)),
+        Deed::One(Turn::Begin(READ)),
+        Deed::One(Turn::Listen(false)),
+        Deed::One(Turn::Serve(1)),
+        Deed::Meet,
+        Deed::One(Turn::End(0, 1, Told::Pending)),
+        Deed::One(Turn::Listen(true)),
+        Deed::One(Turn::Listen(true)),
+        Deed::One(Turn::Listen(false)),
+        Deed::One(Turn::End(0, 2, ZEROS)),
+        Deed::One(Turn::Begin(READ)),
+        Deed::One(Turn::End(0, 1, Told::Pending)),
     ];
-    turns_all(&rt, &bench, &mut server, &mut one, &before);
-    assert!(rt; meets(&bench, &mut one, &mut two));
-    let after = [
-        Turn::End(0, 1, Told::Pending),
-        Turn::Listen(true),
-        Turn::Listen(true),
-        Turn::Listen(false),
-        Turn::End(0, 2, ZEROS),
-        Turn::Begin(READ),
-        Turn::End(0, 1, Told::Pending),
-    ];
-    turns_all(&rt, &bench, &mut server, &mut one, &after);
-    Ok(())
+    hosts_do(&rt, rt.alloc(), &all)
 }
 
 // The notices of the other completion queue come first.
 #[test]
 fn a_notice_of_another_queue_is_not_counted(rt: HostRuntime) -> Result<(), Fail> {
-    let alloc = rt.alloc();
-    let (bench, mut spares) = small(alloc)?;
-    let mut server = hand_of(&bench, &mut spares).ok_or("a server")?;
-    let hand = hand_of(&bench, &mut spares).ok_or("a host")?;
-    let mut one = on_first(alloc, &bench, hand)?;
-    let hand = hand_of(&bench, &mut spares).ok_or("another host")?;
-    let mut two = on_second(alloc, &bench, hand)?;
-    turns_all(
-        &rt,
-        &bench,
-        &mut server,
-        &mut two,
-        &[Turn::Begin(READ), Turn::Serve(2)],
-    );
-    let turns = [
-        Turn::Begin(READ),
-        Turn::Begin(READ),
-        Turn::Serve(1),
-        Turn::Listen(true),
-        Turn::End(0, 1, Told::Pending),
-        Turn::Listen(true),
-        Turn::Listen(true),
-        Turn::Listen(false),
-        Turn::End(0, 2, ZEROS),
+    let all = [
+        Deed::Two(Turn::Begin(READ)),
+        Deed::Two(Turn::Serve(2)),
+        Deed::One(Turn::Begin(READ)),
+        Deed::One(Turn::Begin(READ)),
+        Deed::One(Turn::Serve(1)),
+        Deed::One(Turn::Listen(true)),
+        Deed::One(Turn::End(0, 1, Told::Pending)),
+        Deed::One(Turn::Listen(true)),
+        Deed::One(Turn::Listen(true)),
+        Deed::One(Turn::Listen(false)),
+        Deed::One(Turn::End(0, 2, ZEROS)),
+        Deed::Two(Turn::End(0, 1, Told::Pending)),
     ];
-    turns_all(&rt, &bench, &mut server, &mut one, &turns);
-    turns_all(
-        &rt,
-        &bench,
-        &mut server,
-        &mut two,
-        &[Turn::End(0, 1, Told::Pending)],
-    );
-    Ok(())
-}
-
-// The lines of these entries.
-fn text(alloc: Global, entries: &[Entry]) -> Result<Vec<u8>, Fail> {
-    let mut bytes = Vec::new(alloc);
-    for entry in entries {
-        write_line(entry, &mut bytes)?;
-        bytes.push(b'\n')?;
-    }
-    Ok(bytes)
+    hosts_do(&rt, rt.alloc(), &all)
 }
 
 // The lines of a Write of A1 to block 2 under identifier 0.
@@ -186,23 +183,15 @@ reap 1 00000000000000000100010000000100
 
 #[test]
 fn the_pass_comes_back(rt: HostRuntime) -> Result<(), Fail> {
-    let alloc = rt.alloc();
-    let (bench, mut spares) = small(alloc)?;
-    let mut server = hand_of(&bench, &mut spares).ok_or("a server")?;
-    let hand = hand_of(&bench, &mut spares).ok_or("a host")?;
-    let mut flight = on_first(alloc, &bench, hand)?;
     let turns = [
         Turn::Begin(Ask::Write(2, Fill(0xa1, 512))),
         Turn::Serve(1),
         Turn::Listen(true),
         Turn::End(0, 1, Told::Written),
     ];
-    turns_all(&rt, &bench, &mut server, &mut flight, &turns);
-    let config = bench.config;
-    let pass = pass_of(&bench, flight);
-    let core = closes(bench, pass)?;
+    let core = core_after(&rt, rt.alloc(), 4, &turns)?;
     let entries = core.history().as_slice();
-    assert!(rt; check(alloc, &config, entries).is_ok());
-    assert!(rt; text(alloc, entries)?.as_slice() == LINES);
+    assert!(rt; check(rt.alloc(), &core.config(), entries).is_ok());
+    assert!(rt; text(rt.alloc(), entries)?.as_slice() == LINES);
     Ok(())
 }

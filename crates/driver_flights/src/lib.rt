@@ -6,8 +6,6 @@ mod acts;
 #[cfg(test)]
 mod cids;
 #[cfg(test)]
-mod closing;
-#[cfg(test)]
 mod faults;
 mod flights;
 #[cfg(test)]

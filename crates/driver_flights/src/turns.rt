@@ -24,8 +24,8 @@ pub(crate) enum Turn {
     End(usize, u32, Told),
 }
 
-// Makes it.
-fn turns<R: Abort + Wait>(
+/// Makes it.
+pub(crate) fn turns<R: Abort + Wait>(
     rt: &R,
     bench: &Bench,
     server: &mut Server,

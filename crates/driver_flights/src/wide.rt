@@ -5,12 +5,12 @@ ghost use Rattle.history.specs.Config.{numbers};
 ghost use Rattle.driver_rows.specs.Benches.{AreOf, IsServerOf};
 ghost use Rattle.driver_flights.specs.Flights.{IsFlightOf};
 
-use crate::hands::on_both;
+use crate::hands::{on_both, server_of};
 use crate::under_way::{Flight, ends_newest, fetches_all, hears_all, lands, launches};
 use driver_cas::Fault;
-use driver_rows::{Ask, Bench, Fill, Server, Spares, Told, bench_of, hand_of};
+use driver_rows::{Ask, Bench, Fill, Server, Spares, Told, bench_of};
 use history::Config;
-use std::alloc::Global;
+use std::alloc::{AllocError as NoMemory, Global};
 use std::process::Abort;
 use std::sync::Wait;
 use std::test::Fail;
@@ -58,8 +58,40 @@ fn wide(alloc: Global) -> Result<(Bench, Spares), Fail>
     Ok(bench_of(alloc, config, 128, 2)?)
 }
 
-// Begins all calls, and one too many; 64 of them are fetched from each submission queue, and served from the newest to
-// the oldest.
+// Begins all calls, and one too many.
+fn all_begun<R: Abort>(rt: &R, bench: &Bench, flight: &mut Flight<'_>, kind: Kind)
+    requires { IsFlightOf bench.now flight.old }
+    ensures { IsFlightOf bench.now flight.new }
+{
+    for number in 1..=CALLS {
+        let begun = launches(bench, flight, ask_of(kind, number));
+        assert_eq!(rt; begun, Ok(()), "{number}");
+    }
+    let begun = launches(bench, flight, ask_of(kind, 1));
+    assert_eq!(rt; begun, Err(Fault::RingFull));
+}
+
+// 64 are fetched from each submission queue, and served from the newest to the oldest.
+fn all_ended<R: Abort + Wait>(
+    rt: &R,
+    alloc: Global,
+    bench: &Bench,
+    server: &mut Server,
+) -> Result<(), NoMemory>
+    requires { IsServerOf bench.now server.old }
+    ensures { IsServerOf bench.now server.new }
+{
+    let mut works = Vec::new(alloc);
+    for queue in 1..3 {
+        assert_eq!(rt; fetches_all(bench, server, queue, &mut works)?, 64);
+    }
+    for _ in 0..CALLS {
+        assert!(rt; ends_newest(rt, bench, server, &mut works));
+    }
+    Ok(())
+}
+
+// Both, and the host learns of all.
 fn all_served<R: Abort + Wait>(
     rt: &R,
     alloc: Global,
@@ -67,27 +99,12 @@ fn all_served<R: Abort + Wait>(
     server: &mut Server,
     flight: &mut Flight<'_>,
     kind: Kind,
-) -> Result<(), Fail>
+) -> Result<(), NoMemory>
     requires { IsServerOf bench.now server.old × IsFlightOf bench.now flight.old }
     ensures { IsServerOf bench.now server.new × IsFlightOf bench.now flight.new }
 {
-    for number in 1..=CALLS {
-        assert_eq!(rt;
-            launches(bench, flight, ask_of(kind, number)),
-            Ok(()),
-            "{number}"
-        );
-    }
-    assert_eq!(rt;
-        launches(bench, flight, ask_of(kind, 1)),
-        Err(Fault::RingFull)
-    );
-    let mut works = Vec::new(alloc);
-    assert_eq!(rt; fetches_all(bench, server, 1, &mut works)?, 64);
-    assert_eq!(rt; fetches_all(bench, server, 2, &mut works)?, 64);
-    for _ in 0..CALLS {
-        assert!(rt; ends_newest(rt, bench, server, &mut works));
-    }
+    all_begun(rt, bench, flight, kind);
+    all_ended(rt, alloc, bench, server)?;
     assert_eq!(rt; hears_all(rt, bench, flight), u32::from(CALLS));
     Ok(())
 }
@@ -138,11 +155,23 @@ fn all_kinds<R: Abort + Wait>(
     Ok(())
 }
 
+// That by a server and host 1.
+fn both_do<R: Abort + Wait>(
+    rt: &R,
+    alloc: Global,
+    bench: &Bench,
+    spares: &mut Spares,
+) -> Result<(), Fail>
+    requires own { AreOf bench.now spares.old }
+    requires config { bench.now.config ≡ numbers 128 1 1 0 0 2 65 129 128 1 }
+{
+    let mut server = server_of(bench, spares)?;
+    let mut flight = on_both(alloc, bench, spares)?;
+    all_kinds(rt, alloc, bench, &mut server, &mut flight)
+}
+
 #[test]
 fn each_is_answered_by_its_own(rt: HostRuntime) -> Result<(), Fail> {
     let (bench, mut spares) = wide(rt.alloc())?;
-    let mut server = hand_of(&bench, &mut spares).ok_or("a server")?;
-    let hand = hand_of(&bench, &mut spares).ok_or("a host")?;
-    let mut flight = on_both(rt.alloc(), &bench, hand)?;
-    all_kinds(&rt, rt.alloc(), &bench, &mut server, &mut flight)
+    both_do(&rt, rt.alloc(), &bench, &mut spares)
 }

@@ -140,13 +140,34 @@ fn insist(shared: &Shared<Core>, pass: &mut Pass<Core>, step: Step) -> Result<An
     Err(Stop::Late)
 }
 
-/// The Grant, asked for again while an open unit of another caller has the block, too.
-fn insist_grant(shared: &Shared<Core>, pass: &mut Pass<Core>, ticket: u64) -> Result<Answer, Stop>
+/// The step, and its entry.
+fn makes(
+    alloc: Global,
+    shared: &Shared<Core>,
+    pass: &mut Pass<Core>,
+    account: &mut Account,
+    step: Step,
+) -> Result<(), Stop>
     requires { IsOf shared.now pass.old }
     ensures { IsSame pass.old pass.new }
 {
+    let answer = insist(shared, pass, step)?;
+    account.note(alloc, &answer)
+}
+
+/// The Grant, asked for again while an open unit of another caller has the block, too.
+fn grants(
+    alloc: Global,
+    shared: &Shared<Core>,
+    pass: &mut Pass<Core>,
+    account: &mut Account,
+) -> Result<(), Stop>
+    requires { IsOf shared.now pass.old }
+    ensures { IsSame pass.old pass.new }
+{
+    let ticket = account.ticket;
     for _ in 0..TRIES {
-        match insist(shared, pass, Step::Grant(ticket)) {
+        match makes(alloc, shared, pass, account, Step::Grant(ticket)) {
             Err(Stop::Refused(Why::Conflict)) => yield_now(),
             end => return end,
         }
@@ -197,7 +218,7 @@ fn publish(
 }
 
 /// Makes the Write, from its Publish to its Reap.
-pub(crate) fn makes(
+pub(crate) fn writes_one(
     alloc: Global,
     shared: &Shared<Core>,
     pass: &mut Pass<Core>,
@@ -207,16 +228,12 @@ pub(crate) fn makes(
     requires { IsOf shared.now pass.old }
     ensures { IsSame pass.old pass.new }
 {
-    publish(alloc, shared, pass, account, write)?;
     let queue = account.queue;
-    let answer = insist(shared, pass, Step::Fetch(queue))?;
-    account.note(alloc, &answer)?;
+    publish(alloc, shared, pass, account, write)?;
+    makes(alloc, shared, pass, account, Step::Fetch(queue))?;
     let ticket = account.ticket;
-    let answer = insist_grant(shared, pass, ticket)?;
-    account.note(alloc, &answer)?;
-    for step in [Step::Block(ticket), Step::Post(ticket), Step::Reap(queue)] {
-        let answer = insist(shared, pass, step)?;
-        account.note(alloc, &answer)?;
-    }
-    Ok(())
+    grants(alloc, shared, pass, account)?;
+    makes(alloc, shared, pass, account, Step::Block(ticket))?;
+    makes(alloc, shared, pass, account, Step::Post(ticket))?;
+    makes(alloc, shared, pass, account, Step::Reap(queue))
 }

@@ -67,8 +67,21 @@ pub(crate) fn closed(shared: Shared<Core>, pass: Pass<Core>) -> Result<Core, Fai
 }
 
 /// The lines of its history, which is legal.
-pub(crate) fn lines_of<R: Abort>(rt: &R, alloc: Global, core: &Core) -> Result<Vec<u8>, Fail> {
+fn lines_of<R: Abort>(rt: &R, alloc: Global, core: &Core) -> Result<Vec<u8>, Fail> {
     let history = core.history().as_slice();
     assert!(rt; check(alloc, &core.config(), history).is_ok());
     Ok(text(alloc, history)?)
+}
+
+/// The same, of a controller that nobody else has.
+pub(crate) fn closes<R: Abort>(
+    rt: &R,
+    alloc: Global,
+    shared: Shared<Core>,
+    pass: Pass<Core>,
+) -> Result<Vec<u8>, Fail>
+    requires { IsOf shared pass }
+{
+    let core = closed(shared, pass)?;
+    lines_of(rt, alloc, &core)
 }

@@ -1,5 +1,7 @@
 //! Worked runs made of steps, by one pass, and by two and three in turn that meet.
 
+ghost use Rattle.std.specs.Prelude.{◌<◌};
+
 use crate::runs::check;
 use crate::table::{CONFIG, LARGE, LARGE_PAIR, ROWS};
 use std::alloc::Global;
@@ -17,9 +19,11 @@ fn long_write(alloc: Global, slba: u32) -> Result<String, Fail> {
 }
 
 /// That so many passes make all rows.
-fn check_rows<R: Abort>(rt: &R, alloc: Global, passes: u8) -> Result<(), Fail> {
+fn check_rows<R: Abort>(rt: &R, alloc: Global, count: usize) -> Result<(), Fail>
+    requires { 0 < count }
+{
     for (config, script) in ROWS {
-        check(rt, alloc, config, script, passes)?;
+        check(rt, alloc, config, script, count)?;
     }
     Ok(())
 }

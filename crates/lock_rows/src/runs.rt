@@ -1,8 +1,9 @@
 //! The steps of a worked run, made by a controller of one caller, by one pass, and by two and three in turn that meet.
 
+ghost use Rattle.std.specs.Prelude.{◌<◌, All, IfOk};
 ghost use Rattle.meet_lock.specs.Passes.{IsOf, IsSame};
 
-use crate::passes::{closed, lines_of, one_pass, shared_of, two_passes};
+use crate::passes::{closes, one_pass, shared_of, two_passes};
 use crate::plain::{Run, config_of, number, run_of};
 use history::Config;
 use meet_lock::{Declined, Pass, Shared};
@@ -108,40 +109,42 @@ fn run_three(
     Ok(answers)
 }
 
-/// What the steps were answered, and the lines of the history.
-type Made = (Vec<u8>, Vec<u8>);
-
-/// The steps by one pass.
-fn by_one<R: Abort>(rt: &R, alloc: Global, config: Config, steps: Vec<Step>) -> Result<Made, Fail> {
-    let (shared, mut passes) = shared_of(alloc, config, 1)?;
-    let mut one = one_pass(&shared, &mut passes)?;
-    let answers = run_one(alloc, &shared, &mut one, steps)?;
-    let core = closed(shared, one)?;
-    Ok((answers, lines_of(rt, alloc, &core)?))
+/// The steps by so many of these passes, up to three: how each was answered, and one of the passes.
+fn run_by(
+    alloc: Global,
+    shared: &Shared<Core>,
+    passes: &mut Vec<Pass<Core>>,
+    steps: Vec<Step>,
+    count: usize,
+) -> Result<(Vec<u8>, Pass<Core>), Fail>
+    requires { All (IsOf shared.now) passes.old.items }
+    ensures { IfOk result (λ made. IsOf shared.now made.1) }
+{
+    let mut last = one_pass(shared, passes)?;
+    let answers = match count {
+        1 => run_one(alloc, shared, &mut last, steps)?,
+        2 => run_two(alloc, shared, one_pass(shared, passes)?, &mut last, steps)?,
+        _ => {
+            let (one, two) = two_passes(shared, passes)?;
+            run_three(alloc, shared, one, two, &mut last, steps)?
+        }
+    };
+    Ok((answers, last))
 }
 
-/// The same by two.
-fn by_two<R: Abort>(rt: &R, alloc: Global, config: Config, steps: Vec<Step>) -> Result<Made, Fail> {
-    let (shared, mut passes) = shared_of(alloc, config, 2)?;
-    let (one, mut two) = two_passes(&shared, &mut passes)?;
-    let answers = run_two(alloc, &shared, one, &mut two, steps)?;
-    let core = closed(shared, two)?;
-    Ok((answers, lines_of(rt, alloc, &core)?))
-}
-
-/// The same by three.
-fn by_three<R: Abort>(
+/// How each of the steps by so many passes was answered, and the lines of the history.
+fn made_by<R: Abort>(
     rt: &R,
     alloc: Global,
     config: Config,
     steps: Vec<Step>,
-) -> Result<Made, Fail> {
-    let (shared, mut passes) = shared_of(alloc, config, 3)?;
-    let (one, two) = two_passes(&shared, &mut passes)?;
-    let mut three = one_pass(&shared, &mut passes)?;
-    let answers = run_three(alloc, &shared, one, two, &mut three, steps)?;
-    let core = closed(shared, three)?;
-    Ok((answers, lines_of(rt, alloc, &core)?))
+    count: usize,
+) -> Result<(Vec<u8>, Vec<u8>), Fail>
+    requires { 0 < count }
+{
+    let (shared, mut passes) = shared_of(alloc, config, count)?;
+    let (answers, last) = run_by(alloc, &shared, &mut passes, steps, count)?;
+    Ok((answers, closes(rt, alloc, shared, last)?))
 }
 
 /// That so many passes, up to three, make the run of the controller of one caller, answer for answer and line for line;
@@ -151,19 +154,17 @@ pub(crate) fn check<R: Abort>(
     alloc: Global,
     line: &str,
     script: &str,
-    passes: u8,
-) -> Result<Vec<u8>, Fail> {
+    count: usize,
+) -> Result<Vec<u8>, Fail>
+    requires { 0 < count }
+{
     let config = config_of(alloc, line).ok_or("no configuration")?;
     let Run {
         steps,
         answers,
         lines,
     } = run_of(alloc, config, script).ok_or("memory")?;
-    let (got, made) = match passes {
-        1 => by_one(rt, alloc, config, steps)?,
-        2 => by_two(rt, alloc, config, steps)?,
-        _ => by_three(rt, alloc, config, steps)?,
-    };
+    let (got, made) = made_by(rt, alloc, config, steps, count)?;
     assert!(rt; got.as_slice() == answers.as_slice());
     assert!(rt; made.as_slice() == lines.as_slice());
     Ok(got)

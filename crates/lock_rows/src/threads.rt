@@ -2,7 +2,7 @@
 
 ghost use Rattle.meet_lock.specs.Passes.{IsOf};
 
-use crate::accounts::{Account, Stop, TRIES, Write, makes};
+use crate::accounts::{Account, Stop, TRIES, Write, writes_one};
 use crate::passes::{closed, one_pass, shared_of, two_passes};
 use crate::plain::text;
 use history::{Config, Entry, ReapLine, write_line};
@@ -47,7 +47,7 @@ fn writes(
     for cid in 0..WRITES {
         let byte = queue.wrapping_mul(WRITES).wrapping_add(cid);
         let block = cid % 2;
-        makes(
+        writes_one(
             alloc,
             shared,
             &mut pass,
@@ -211,10 +211,12 @@ fn check_core<R: Abort>(
     rt: &R,
     alloc: Global,
     core: &Core,
-    low: (Vec<Entry>, Vec<Entry>),
-    high: (Vec<Entry>, Vec<Entry>),
+    low: (Made, Made),
+    high: (Made, Made),
 ) -> Result<(), Fail> {
     let history = core.history().as_slice();
+    let low = both(low)?;
+    let high = both(high)?;
     check_history(rt, alloc, history, &low, &high)?;
     check_refuses(rt, alloc, history, low.0)?;
     assert!(rt; check(alloc, &core.config(), history).is_ok());
@@ -223,7 +225,6 @@ fn check_core<R: Abort>(
 
 #[test]
 fn four_threads_write_on_queues_of_their_own(rt: HostRuntime) -> Result<(), Fail> {
-    let alloc = rt.alloc();
-    let (core, low, high) = written(&rt, alloc)?;
-    check_core(&rt, alloc, &core, both(low)?, both(high)?)
+    let (core, low, high) = written(&rt, rt.alloc())?;
+    check_core(&rt, rt.alloc(), &core, low, high)
 }
