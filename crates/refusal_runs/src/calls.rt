@@ -9,19 +9,16 @@ ghost use Rattle.driver_rows.specs.Benches.{AreOf, IsHostOf, IsServerOf};
 use crate::runs::TURNS;
 use driver_cas::{Call, Fault, SharedPort};
 use driver_rows::{
-    Ask, Bench, Fill, Host, Server, Spares, Told, bench_of, fetches, hand_of, hears, host_of,
-    makes, polls, starts,
+    Ask, Bench, Fill, Host, Server, Spares, Told, fetches, hand_of, hears, host_of, makes, polls,
+    starts,
 };
-use history::Config;
 use nvme_model::array::Range;
 use std::alloc::Global;
 use std::sync::Wait;
-use step_core::Core;
 use work_queue::Work;
 
-/// How many completions are told of at once, and how many passes there are: a host that isn't made leaves its own
-/// unused.
-const MOST: usize = 8;
+/// How often a host is asked for.
+const HOSTS: u32 = 7;
 
 /// How often a Fetch is asked for, where one command waits at most.
 const FETCHES: u32 = 3;
@@ -45,20 +42,6 @@ const CALLS: [(Ask, Told); 10] = [
     (Ask::Read(1, 3), Told::Read(1536, 0)),
     (Ask::Read(8, 1), Told::Failed(0, 0x80)),
 ];
-
-/// A controller, and passes for its callers.
-pub(crate) fn bench(alloc: Global, config: Config, told: &mut u64) -> Option<(Bench, Spares)>
-    ensures own { IfSome result (λ b. AreOf b.0 b.1) }
-    ensures config { IfSome result (λ b. b.0.config ≡ config) }
-{
-    for _ in 0..TURNS {
-        match bench_of(alloc, config, MOST, MOST) {
-            Ok(made) => return Some(made),
-            Err(_) => *told = told.wrapping_add(1),
-        }
-    }
-    None
-}
 
 // Makes all tasks of a Work.
 fn ends<R: Wait>(rt: &R, bench: &Bench, server: &mut Server, work: Work, told: &mut u64)
@@ -156,6 +139,25 @@ fn served<R: Wait>(
     answers(bench, host, call, told)
 }
 
+// The same by a host.
+fn makes_all<R: Wait>(
+    rt: &R,
+    bench: &Bench,
+    server: &mut Server,
+    host: &mut Host<'_>,
+    told: &mut u64,
+) -> bool
+    requires { IsServerOf bench.now server.old × IsHostOf bench.now host.old }
+    ensures { IsServerOf bench.now server.new }
+{
+    for (ask, wanted) in CALLS {
+        if served(rt, bench, server, host, ask, told) != Some(wanted) {
+            return false;
+        }
+    }
+    true
+}
+
 // Host 1, on submission queue 1.
 fn host<'a>(
     alloc: Global,
@@ -167,7 +169,7 @@ fn host<'a>(
     requires config { bench.now.config ≡ numbers 8 1 1 0 0 2 4 4 8 2 }
     ensures { IfSome result (IsHostOf bench.entry.now) }
 {
-    for _ in 0..MOST {
+    for _ in 0..HOSTS {
         if let Ok(queues) = [1].to_vec(alloc) {
             let hand = hand_of(bench, spares)?;
             let host = host_of(alloc, bench, hand, 1, SLOTS, 1, queues);
@@ -180,42 +182,21 @@ fn host<'a>(
     None
 }
 
-// Makes all calls; who served them. None where one was told something else.
-fn all_served<R: Wait>(
+/// Makes all calls; whether each is told what is wanted.
+pub(crate) fn are_answered<R: Wait>(
     rt: &R,
     alloc: Global,
     bench: &Bench,
-    mut spares: Spares,
+    server: &mut Server,
+    spares: &mut Spares,
     told: &mut u64,
-) -> Option<Server>
-    requires own { AreOf bench.now spares }
+) -> bool
+    requires own { AreOf bench.now spares.old × IsServerOf bench.now server.old }
     requires config { bench.now.config ≡ numbers 8 1 1 0 0 2 4 4 8 2 }
-    ensures { IfSome result (IsServerOf bench.now) }
+    ensures { IsServerOf bench.now server.new }
 {
-    let mut server = hand_of(bench, &mut spares)?;
-    let mut host = host(alloc, bench, &mut spares, told)?;
-    for (ask, wanted) in CALLS {
-        if served(rt, bench, &mut server, &mut host, ask, told)? != wanted {
-            return None;
-        }
+    match host(alloc, bench, spares, told) {
+        Some(mut host) => makes_all(rt, bench, server, &mut host, told),
+        None => false,
     }
-    Some(server)
-}
-
-/// The controller of a bench whose hosts are gone.
-pub(crate) fn closes(bench: Bench, server: Server) -> Option<Core>
-    requires { IsServerOf bench server }
-{
-    let Bench { engine, .. } = bench;
-    engine.close(server.pass)
-}
-
-/// The controller after all calls.
-pub(crate) fn by_calls<R: Wait>(rt: &R, alloc: Global, told: &mut u64) -> Option<Core> {
-    let Ok(config) = Config::new(8, 1, 1, 0, 0, 2, 4, 4, 8) else {
-        return None;
-    };
-    let (bench, spares) = bench(alloc, config, told)?;
-    let server = all_served(rt, alloc, &bench, spares, told)?;
-    closes(bench, server)
 }

@@ -34,25 +34,43 @@ fn publish_of(alloc: Global, blocks: usize) -> Option<Step> {
     }
 }
 
+// Whether a step is made.
+fn makes(core: &mut Core, step: Step) -> bool {
+    core.step(step).is_ok()
+}
+
+// Publishes so many blocks, or only makes the step.
+fn publishes(alloc: Global, core: &mut Core, blocks: usize, is_first: bool) -> bool {
+    match publish_of(alloc, blocks) {
+        Some(step) => is_first || makes(core, step),
+        None => false,
+    }
+}
+
 /// Publishes so many blocks at once.
 pub(crate) fn publish_long(alloc: Global, blocks: usize, is_first: bool) -> Option<()> {
     let mut core = controller(alloc)?;
-    let step = publish_of(alloc, blocks)?;
-    if is_first {
-        return Some(());
+    publishes(alloc, &mut core, blocks, is_first).then_some(())
+}
+
+// So many blocks of a unit of the most there are.
+fn writes(alloc: Global, core: &mut Core, blocks: usize) -> bool {
+    if !publishes(alloc, core, MOST, false) {
+        return false;
     }
-    core.step(step).ok()?;
-    Some(())
+    if !makes(core, Step::Fetch(1)) || !makes(core, Step::Grant(1)) {
+        return false;
+    }
+    for _ in 0..blocks {
+        if !makes(core, Step::Block(1)) {
+            return false;
+        }
+    }
+    true
 }
 
 /// Writes so many blocks of a unit of the most there are.
 pub(crate) fn write_long(alloc: Global, blocks: usize) -> Option<()> {
     let mut core = controller(alloc)?;
-    core.step(publish_of(alloc, MOST)?).ok()?;
-    core.step(Step::Fetch(1)).ok()?;
-    core.step(Step::Grant(1)).ok()?;
-    for _ in 0..blocks {
-        core.step(Step::Block(1)).ok()?;
-    }
-    Some(())
+    writes(alloc, &mut core, blocks).then_some(())
 }

@@ -12,6 +12,7 @@
 #![tactic(auto)]
 
 mod calls;
+mod drivers;
 mod long;
 mod many;
 mod promises;

@@ -78,34 +78,59 @@ fn may_follow(checker: &mut Checker, entry: &Entry, told: &mut u64) -> bool {
     false
 }
 
-// Shows a history, and whether it is legal.
-fn judge<W: Write>(alloc: Global, core: &Core, out: &mut W, told: &mut u64) -> Option<()> {
-    let mut checker = checker_of(alloc, &core.config(), told)?;
+// Shows entries; whether the last of them may follow.
+fn show<W: Write>(
+    checker: &mut Checker,
+    entries: &[Entry],
+    out: &mut W,
+    told: &mut u64,
+) -> Option<bool> {
     let mut is_legal = true;
-    for entry in core.history().as_slice() {
-        is_legal = may_follow(&mut checker, entry, told);
+    for entry in entries {
+        is_legal = may_follow(checker, entry, told);
         write_line(entry, out).ok()?;
         out.write_all(b"\n").ok()?;
     }
-    out.write_all(if is_legal {
+    Some(is_legal)
+}
+
+// Shows a history, and whether it is legal.
+fn judge<W: Write>(alloc: Global, core: &Core, out: &mut W, told: &mut u64) -> Option<()> {
+    let mut checker = checker_of(alloc, &core.config(), told)?;
+    let words = if show(&mut checker, core.history().as_slice(), out, told)? {
         b"legal\n".as_slice()
     } else {
         b"not legal\n".as_slice()
-    })
-    .ok()
+    };
+    out.write_all(words).ok()
+}
+
+// Makes what lines ask for, up to one that asks for nothing.
+fn make_lines(alloc: Global, core: &mut Core, lines: &str, told: &mut u64) {
+    for line in lines.split("\n") {
+        if make_line(alloc, core, line.as_bytes(), told).is_none() {
+            return;
+        }
+    }
 }
 
 // Runs a script up to its end, or to a line that asks for nothing, and judges its history.
 fn run_one<W: Write>(alloc: Global, script: &str, out: &mut W, told: &mut u64) -> Option<()> {
-    let mut lines = script.split("\n");
-    let config = config_of(alloc, lines.next()?.as_bytes(), told)?;
+    let (first, lines) = script.split_once('\n').unwrap_or((script, ""));
+    let config = config_of(alloc, first.as_bytes(), told)?;
     let mut core = controller(alloc, config, told)?;
-    for line in lines {
-        if make_line(alloc, &mut core, line.as_bytes(), told).is_none() {
-            break;
+    make_lines(alloc, &mut core, lines, told);
+    judge(alloc, &core, out, told)
+}
+
+// Runs all scripts; whether each could be shown.
+fn run_all<W: Write>(alloc: Global, text: &str, out: &mut W, told: &mut u64) -> bool {
+    for script in text.split("\n\n") {
+        if run_one(alloc, script, out, told).is_none() {
+            return false;
         }
     }
-    judge(alloc, &core, out, told)
+    out.flush().is_ok()
 }
 
 /// Runs the scripts of a file, which an empty line parts; how often want of memory was told.
@@ -117,12 +142,5 @@ pub(crate) fn run_many<R: Files + Print + AllocGlobal>(
     let text = fs::read_to_string(rt, file).ok()?;
     let mut out = BufWriter::new(rt.alloc(), io::writer(rt)).ok()?;
     let mut told = 0;
-    if is_first {
-        return Some(told);
-    }
-    for script in text.split("\n\n") {
-        run_one(rt.alloc(), script, &mut out, &mut told)?;
-    }
-    out.flush().ok()?;
-    Some(told)
+    (is_first || run_all(rt.alloc(), text.as_str(), &mut out, &mut told)).then_some(told)
 }

@@ -1,8 +1,6 @@
 //! Steps that room was made for.
 
-use crate::script::Run;
 use nvme_model::refusal::Why;
-use std::alloc::Global;
 use step_core::{Core, Refused, Step};
 
 fn is_promised(step: &Step) -> bool {
@@ -21,30 +19,46 @@ fn promised_from(steps: &[Step], place: usize) -> usize {
     count
 }
 
-// Makes so many steps, and room for so many more; the controller and the steps that are left, the last one first.
-pub(crate) fn make_room(alloc: Global, run: Run, place: usize) -> Option<(Core, Vec<Step>, usize)> {
-    let mut core = Core::new(alloc, run.config).ok()?;
-    let count = promised_from(run.steps.as_slice(), place);
-    let mut rest = run.steps;
-    rest.reverse();
-    for _ in 0..place {
-        let _ = core.step(rest.pop()?);
+// The next step is made, and may be refused; whether there is one and memory wasn't wanting.
+fn makes_next(core: &mut Core, rest: &mut Vec<Step>) -> bool {
+    match rest.pop() {
+        Some(step) => !matches!(core.step(step), Err(Refused::Step(Why::NoMemory))),
+        None => false,
     }
-    core.reserve(count).ok()?;
-    Some((core, rest, count))
+}
+
+// Makes so many of the steps, the last one first, and room for so many more.
+fn make_room(core: &mut Core, rest: &mut Vec<Step>, place: usize, count: usize) -> bool {
+    if place > rest.len() {
+        return false;
+    }
+    for _ in 0..place {
+        makes_next(core, rest);
+    }
+    core.reserve(count).is_ok()
 }
 
 // Makes the steps that room was made for, with calls between them that take no memory; whether none of them wants any.
-pub(crate) fn make_promised(core: &mut Core, mut rest: Vec<Step>, count: usize) -> bool {
+fn make_promised(core: &mut Core, rest: &mut Vec<Step>, count: usize) -> bool {
     for _ in 0..count {
-        let Some(step) = rest.pop() else {
-            return false;
-        };
-        if let Err(Refused::Step(Why::NoMemory)) = core.step(step) {
+        if !makes_next(core, rest) {
             return false;
         }
         let _ = core.ready();
         let _ = core.medium(0);
     }
     true
+}
+
+/// Makes so many steps, room for those behind them that are promised, and those; whether none of these wants memory.
+pub(crate) fn keep_promise(
+    core: &mut Core,
+    steps: Vec<Step>,
+    place: usize,
+    is_first: bool,
+) -> bool {
+    let count = promised_from(steps.as_slice(), place);
+    let mut rest = steps;
+    rest.reverse();
+    make_room(core, &mut rest, place, count) && (is_first || make_promised(core, &mut rest, count))
 }

@@ -4,8 +4,8 @@ ghost use Rattle.std.specs.Prelude.{IfSome};
 ghost use Rattle.engine_rows.specs.Hands.{IsCrewOf, IsFreshWork};
 
 use crate::script::{Run, run_of};
-use crate::works::{closes, ends, fetched, hall, publishes};
-use engine_rows::{Crew, Hall, crew_of, learns, pops, pushes};
+use crate::works::{closes, ends, fetched, manned, publishes};
+use engine_rows::{Crew, Hall, learns, pops, pushes};
 use lock_rows::CONFIG;
 use std::alloc::Global;
 use std::sync::Wait;
@@ -47,17 +47,32 @@ fn quiet_calls<R: Wait>(rt: &R, hall: &Hall, crew: &mut Crew, work: Work) -> Opt
         .ok()
 }
 
-/// Makes them, and closes the engine, whose controller has the history; None where one didn't go as with memory.
-pub(crate) fn make_quiet<R: Wait>(rt: &R, alloc: Global, is_first: bool) -> Option<()> {
-    let Run { config, steps } = run_of(alloc, CONFIG, LINES)?;
-    let mut told = 0;
-    let (hall, mut hands) = hall(alloc, config, &mut told)?;
-    let mut crew = crew_of(alloc, &hall, &mut hands)?;
-    let work = begins(rt, &hall, &mut crew, steps)?;
+// Makes what stands before, and then them.
+fn calls<R: Wait>(
+    rt: &R,
+    hall: &Hall,
+    crew: &mut Crew,
+    steps: Vec<Step>,
+    is_first: bool,
+) -> Option<()>
+    requires { IsCrewOf hall.now crew.old }
+    ensures { IsCrewOf hall.now crew.new }
+{
+    let work = begins(rt, hall, crew, steps)?;
     if is_first {
         return Some(());
     }
-    quiet_calls(rt, &hall, &mut crew, work)?;
+    quiet_calls(rt, hall, crew, work)
+}
+
+/// Makes them, and closes the engine, whose controller has the history; None where one didn't go as with memory.
+pub(crate) fn make_quiet<R: Wait>(rt: &R, alloc: Global, is_first: bool) -> Option<()> {
+    let Run { config, steps } = run_of(alloc, CONFIG, LINES)?;
+    let (hall, mut crew) = manned(alloc, config, &mut 0)?;
+    let made = calls(rt, &hall, &mut crew, steps, is_first);
+    if is_first || made.is_none() {
+        return made;
+    }
     let core = closes(hall, crew)?;
     (core.history().len() == 5).then_some(())
 }

@@ -24,21 +24,52 @@ fn step_of(alloc: Global, core: &Core, line: &[u8]) -> Option<Step> {
     }
 }
 
+// Keeps a line's step; None where it has none. Whether memory wasn't wanting.
+fn keep(alloc: Global, core: &Core, line: &[u8], steps: &mut Vec<Step>) -> Option<bool> {
+    let step = step_of(alloc, core, line)?;
+    Some(steps.push(step).is_ok())
+}
+
 // Makes what a line asks for, and keeps its steps.
-fn make_line(alloc: Global, core: &mut Core, line: &[u8], steps: &mut Vec<Step>) -> Option<()> {
+fn make_line(alloc: Global, core: &mut Core, line: &[u8], steps: &mut Vec<Step>) -> bool {
     let turns = if line == b"settle".as_slice() {
         STEPS
     } else {
         1
     };
     for _ in 0..turns {
-        let Some(step) = step_of(alloc, core, line) else {
-            return Some(());
-        };
-        steps.push(step_of(alloc, core, line)?).ok()?;
-        let _ = core.step(step);
+        match keep(alloc, core, line, steps) {
+            None => return true,
+            Some(false) => return false,
+            Some(true) => {}
+        }
+        match step_of(alloc, core, line) {
+            Some(step) => {
+                let _ = core.step(step);
+            }
+            None => return false,
+        }
     }
-    Some(())
+    true
+}
+
+// The same of lines that are parted by ` / `.
+fn make_lines(alloc: Global, core: &mut Core, lines: &str, steps: &mut Vec<Step>) -> bool {
+    for line in lines.split(" / ") {
+        if !make_line(alloc, core, line.as_bytes(), steps) {
+            return false;
+        }
+    }
+    true
+}
+
+// The steps of lines, by a controller.
+fn steps_of(alloc: Global, core: &mut Core, lines: &str) -> Option<Vec<Step>> {
+    let mut steps = Vec::new(alloc);
+    if !make_lines(alloc, core, lines, &mut steps) {
+        return None;
+    }
+    Some(steps)
 }
 
 /// The run of a configuration line and lines that are parted by ` / `.
@@ -46,9 +77,6 @@ pub(crate) fn run_of(alloc: Global, first: &str, lines: &str) -> Option<Run> {
     let numbers = read_config_line(alloc, first.as_bytes()).ok()?;
     let config = Config::from_numbers(&numbers).ok()?;
     let mut core = Core::new(alloc, config).ok()?;
-    let mut steps = Vec::new(alloc);
-    for line in lines.split(" / ") {
-        make_line(alloc, &mut core, line.as_bytes(), &mut steps)?;
-    }
+    let steps = steps_of(alloc, &mut core, lines)?;
     Some(Run { config, steps })
 }

@@ -6,16 +6,14 @@ ghost use Rattle.driver_rows.specs.Benches.{AreOf, IsServerOf};
 ghost use Rattle.slot_alloc.specs.Areas.{area};
 ghost use Rattle.slot_rows.specs.Claimants.{IsClaimant};
 
-use crate::calls::{bench, closes, serves};
+use crate::calls::serves;
 use crate::runs::TURNS;
 use driver_cas::Fault;
 use driver_rows::{Bench, Server, Spares, hand_of};
-use history::Config;
 use slot_alloc::Slots;
 use slot_rows::{Came, Claimant, asks, claimant_of, gives_back, is_served, polls};
 use std::alloc::Global;
 use std::sync::Wait;
-use step_core::Core;
 
 /// How many slots there are, from block 0 on.
 const COUNT: u32 = 2;
@@ -32,6 +30,16 @@ enum Wish {
     /// To give back the slot that it holds.
     Release,
 }
+
+/// Which host asks for what, and what comes of it.
+const TURN: [(u16, Wish, Came); 6] = [
+    (1, Wish::First, Came::Held(0)),
+    (2, Wish::First, Came::Taken),
+    (2, Wish::Any, Came::Held(1)),
+    (1, Wish::Release, Came::Released),
+    (1, Wish::Any, Came::Held(0)),
+    (2, Wish::Release, Came::Released),
+];
 
 // The host of this number.
 fn claimant<'a>(
@@ -117,81 +125,106 @@ fn ends<'a, R: Wait>(
     (claimant, Came::Nothing)
 }
 
-// The host after what it wanted; None where something else came of it.
+// The host after what it wanted, and whether that came of it.
 fn grants<'a, R: Wait>(
     rt: &R,
     bench: &Bench,
     server: &mut Server,
     slots: &Slots,
     claimant: Claimant<'a>,
-    wish: Wish,
-    wanted: Came,
+    want: (Wish, Came),
     told: &mut u64,
-) -> Option<Claimant<'a>>
+) -> (Claimant<'a>, bool)
     requires server { IsServerOf bench.now server.old }
     requires claimant { IsClaimant bench.now slots.now claimant }
     requires slots { 0 < (area slots.now).blocks }
     ensures server { IsServerOf bench.now server.new }
-    ensures claimant { IfSome result (IsClaimant bench.now slots.now) }
+    ensures claimant { IsClaimant bench.now slots.now result.0 }
 {
-    let (claimant, begun) = begins(bench, slots, claimant, wish, told);
+    let (claimant, begun) = begins(bench, slots, claimant, want.0, told);
     if begun != Came::Begun {
-        return None;
+        return (claimant, false);
     }
     let (claimant, came) = ends(rt, bench, server, slots, claimant, told);
-    (came == wanted).then_some(claimant)
+    (claimant, came == want.1)
 }
 
-// Two hosts in turn; who served them.
-fn all_served<R: Wait>(
+// Host 1 or host 2 in its turn; the other waits.
+fn turn<'a, R: Wait>(
+    rt: &R,
+    bench: &Bench,
+    server: &mut Server,
+    slots: &Slots,
+    hosts: (Claimant<'a>, Claimant<'a>),
+    asked: (u16, Wish, Came),
+    told: &mut u64,
+) -> (Claimant<'a>, Claimant<'a>, bool)
+    requires server { IsServerOf bench.now server.old }
+    requires one { IsClaimant bench.now slots.now hosts.0 }
+    requires two { IsClaimant bench.now slots.now hosts.1 }
+    requires slots { 0 < (area slots.now).blocks }
+    ensures server { IsServerOf bench.now server.new }
+    ensures one { IsClaimant bench.now slots.now result.0 }
+    ensures two { IsClaimant bench.now slots.now result.1 }
+{
+    let (one, two) = hosts;
+    let want = (asked.1, asked.2);
+    if asked.0 == 1 {
+        let (one, is_so) = grants(rt, bench, server, slots, one, want, told);
+        return (one, two, is_so);
+    }
+    let (two, is_so) = grants(rt, bench, server, slots, two, want, told);
+    (one, two, is_so)
+}
+
+// Both in turn; whether all came of it that is wanted.
+fn turns<'a, R: Wait>(
+    rt: &R,
+    bench: &Bench,
+    server: &mut Server,
+    slots: &Slots,
+    one: Claimant<'a>,
+    two: Claimant<'a>,
+    told: &mut u64,
+) -> bool
+    requires server { IsServerOf bench.now server.old }
+    requires one { IsClaimant bench.now slots.now one }
+    requires two { IsClaimant bench.now slots.now two }
+    requires slots { 0 < (area slots.now).blocks }
+    ensures { IsServerOf bench.now server.new }
+{
+    let mut first = one;
+    let mut second = two;
+    for asked in TURN {
+        let (one, two, is_so) = turn(rt, bench, server, slots, (first, second), asked, told);
+        if !is_so {
+            return false;
+        }
+        first = one;
+        second = two;
+    }
+    true
+}
+
+/// Two hosts in turn; whether all came of it that is wanted.
+pub(crate) fn are_granted<R: Wait>(
     rt: &R,
     alloc: Global,
     bench: &Bench,
-    mut spares: Spares,
+    server: &mut Server,
+    spares: &mut Spares,
     told: &mut u64,
-) -> Option<Server>
-    requires own { AreOf bench.now spares }
+) -> bool
+    requires own { AreOf bench.now spares.old × IsServerOf bench.now server.old }
     requires config { bench.now.config ≡ numbers 8 1 1 0 0 2 4 4 8 2 }
-    ensures { IfSome result (IsServerOf bench.now) }
+    ensures { IsServerOf bench.now server.new }
 {
     let slots = Slots::new(0, COUNT);
-    let mut server = hand_of(bench, &mut spares)?;
-    let one = claimant(alloc, bench, &mut spares, 1, &slots, told)?;
-    let two = claimant(alloc, bench, &mut spares, 2, &slots, told)?;
-    let (own, all) = (&mut server, &slots);
-    let one = grants(rt, bench, own, all, one, Wish::First, Came::Held(0), told)?;
-    let two = grants(rt, bench, own, all, two, Wish::First, Came::Taken, told)?;
-    let two = grants(rt, bench, own, all, two, Wish::Any, Came::Held(1), told)?;
-    let one = grants(
-        rt,
-        bench,
-        own,
-        all,
-        one,
-        Wish::Release,
-        Came::Released,
-        told,
-    )?;
-    grants(rt, bench, own, all, one, Wish::Any, Came::Held(0), told)?;
-    grants(
-        rt,
-        bench,
-        own,
-        all,
-        two,
-        Wish::Release,
-        Came::Released,
-        told,
-    )?;
-    Some(server)
-}
-
-/// The controller after all that.
-pub(crate) fn by_slots<R: Wait>(rt: &R, alloc: Global, told: &mut u64) -> Option<Core> {
-    let Ok(config) = Config::new(8, 1, 1, 0, 0, 2, 4, 4, 8) else {
-        return None;
+    let Some(one) = claimant(alloc, bench, spares, 1, &slots, told) else {
+        return false;
     };
-    let (bench, spares) = bench(alloc, config, told)?;
-    let server = all_served(rt, alloc, &bench, spares, told)?;
-    closes(bench, server)
+    let Some(two) = claimant(alloc, bench, spares, 2, &slots, told) else {
+        return false;
+    };
+    turns(rt, bench, server, &slots, one, two, told)
 }

@@ -1,15 +1,14 @@
 //! The ways to make a run.
 
-use crate::calls::by_calls;
+use crate::drivers::by_driver;
 use crate::long::{publish_long, write_long};
 use crate::many::run_many;
-use crate::promises::{make_promised, make_room};
+use crate::promises::keep_promise;
 use crate::quiet::make_quiet;
 use crate::runs::{by_a_pass, by_steps, wants};
 use crate::script::{Run, run_of};
-use crate::slots::by_slots;
 use crate::works::by_works;
-use history::write_line;
+use history::{Config, write_line};
 use lock_rows::ROWS;
 use std::alloc::Global;
 use std::io::Write;
@@ -17,7 +16,7 @@ use std::process::ExitCode;
 use std::rt::{Env, Files};
 use std::sync::Wait;
 use std::{env, io};
-use step_core::Core;
+use step_core::{Answer, Core, Refused, Step};
 
 /// What came of it.
 #[derive(Drop)]
@@ -67,8 +66,8 @@ fn core_of<R: Wait>(rt: &R, alloc: Global, way: &str, run: Run, told: &mut u64) 
         "steps" => by_steps(alloc, run, told),
         "attempts" => by_a_pass(alloc, run, told),
         "works" => by_works(rt, alloc, run, told),
-        "calls" => by_calls(rt, alloc, told),
-        "slots" => by_slots(rt, alloc, told),
+        "calls" => by_driver(rt, alloc, false, told),
+        "slots" => by_driver(rt, alloc, true, told),
         _ => None,
     }
 }
@@ -88,23 +87,37 @@ fn one_by_one<R: Print + AllocGlobal + Wait>(rt: &R, asked: &Asked<'_>, run: Run
     Some(End::Done(told))
 }
 
-// All steps in one call: an answer for each, or all come back and nothing has changed.
-fn together(alloc: Global, run: Run, is_first: bool) -> Option<End> {
-    let mut core = Core::new(alloc, run.config).ok()?;
-    if is_first {
-        return Some(End::Done(0));
+// Makes all steps in one call; how many come back, if they do.
+fn run_all(
+    core: &mut Core,
+    steps: Vec<Step>,
+    answers: &mut Vec<Result<Answer, Refused>>,
+) -> Option<usize> {
+    match core.run_steps(steps, answers) {
+        Ok(()) => None,
+        Err((back, _)) => Some(back.len()),
     }
-    let count = run.steps.len();
+}
+
+// An answer for each step, or all come back and nothing has changed.
+fn answered(alloc: Global, core: &mut Core, steps: Vec<Step>) -> Option<End> {
+    let count = steps.len();
     let mut answers = Vec::new(alloc);
-    match core.run_steps(run.steps, &mut answers) {
-        Ok(()) => {
-            let is_whole = answers.len() == count;
-            is_whole.then_some(End::Done(wants(answers.as_slice())))
-        }
-        Err((back, _)) => {
-            let is_same = back.len() == count && answers.is_empty() && core.history().len() == 0;
+    match run_all(core, steps, &mut answers) {
+        None => (answers.len() == count).then_some(End::Done(wants(answers.as_slice()))),
+        Some(back) => {
+            let is_same = back == count && answers.is_empty() && core.history().len() == 0;
             is_same.then_some(End::NoMemory)
         }
+    }
+}
+
+// All steps in one call.
+fn together(alloc: Global, config: Config, steps: Vec<Step>, is_first: bool) -> Option<End> {
+    match Core::new(alloc, config) {
+        Ok(_) if is_first => Some(End::Done(0)),
+        Ok(mut core) => answered(alloc, &mut core, steps),
+        Err(_) => None,
     }
 }
 
@@ -112,18 +125,17 @@ fn together(alloc: Global, run: Run, is_first: bool) -> Option<End> {
 fn all_together(alloc: Global, asked: &Asked<'_>, run: Run) -> Option<End> {
     for _ in 0..asked.place {
         let before = run_of(alloc, asked.first, asked.lines)?;
-        together(alloc, before, false)?;
+        together(alloc, before.config, before.steps, false)?;
     }
-    together(alloc, run, asked.is_first)
+    together(alloc, run.config, run.steps, asked.is_first)
 }
 
 // The steps that room was made for.
 fn promised(alloc: Global, run: Run, place: usize, is_first: bool) -> Option<End> {
-    let (mut core, rest, count) = make_room(alloc, run, place)?;
-    if is_first || make_promised(&mut core, rest, count) {
-        return Some(End::Done(0));
+    match Core::new(alloc, run.config) {
+        Ok(mut core) => keep_promise(&mut core, run.steps, place, is_first).then_some(End::Done(0)),
+        Err(_) => None,
     }
-    None
 }
 
 fn done(done: Option<()>) -> Option<End> {

@@ -30,7 +30,7 @@ fn single(config: Config) -> Option<Config> {
 }
 
 // The engine, its queues, and three hands.
-pub(crate) fn hall(alloc: Global, config: Config, told: &mut u64) -> Option<(Hall, Spares)>
+fn hall(alloc: Global, config: Config, told: &mut u64) -> Option<(Hall, Spares)>
     ensures { IfSome result (λ h. AreOf h.0 h.1) }
 {
     let config = single(config)?;
@@ -148,13 +148,29 @@ fn make<R: Wait>(rt: &R, hall: &Hall, crew: &mut Crew, step: Step, told: &mut u6
     }
 }
 
+// All steps, each by the caller whose it is.
+fn make_each<R: Wait>(rt: &R, hall: &Hall, crew: &mut Crew, steps: Vec<Step>, told: &mut u64)
+    requires { IsCrewOf hall.now crew.old }
+    ensures { IsCrewOf hall.now crew.new }
+{
+    for step in steps {
+        make(rt, hall, crew, step, told);
+    }
+}
+
+/// The engine, its queues, and who steps.
+pub(crate) fn manned(alloc: Global, config: Config, told: &mut u64) -> Option<(Hall, Crew)>
+    ensures { IfSome result (λ h. IsCrewOf h.0 h.1) }
+{
+    let (hall, mut hands) = hall(alloc, config, told)?;
+    let crew = crew_of(alloc, &hall, &mut hands)?;
+    Some((hall, crew))
+}
+
 /// The controller after the run.
 pub(crate) fn by_works<R: Wait>(rt: &R, alloc: Global, run: Run, told: &mut u64) -> Option<Core> {
-    let (hall, mut hands) = hall(alloc, run.config, told)?;
-    let mut crew = crew_of(alloc, &hall, &mut hands)?;
-    for step in run.steps {
-        make(rt, &hall, &mut crew, step, told);
-    }
+    let (hall, mut crew) = manned(alloc, run.config, told)?;
+    make_each(rt, &hall, &mut crew, run.steps, told);
     closes(hall, crew)
 }
 

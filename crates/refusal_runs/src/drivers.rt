@@ -1,0 +1,77 @@
+//! Hosts of one controller and its server: one that makes calls, or two that claim slots.
+
+ghost use Rattle.std.specs.Prelude.{◌≡◌, IfSome};
+ghost use Rattle.history.specs.Config.{numbers};
+ghost use Rattle.driver_rows.specs.Benches.{AreOf, IsServerOf};
+
+use crate::calls::are_answered;
+use crate::runs::TURNS;
+use crate::slots::are_granted;
+use driver_rows::{Bench, Server, Spares, bench_of, hand_of};
+use history::Config;
+use std::alloc::Global;
+use std::sync::Wait;
+use step_core::Core;
+
+/// How many completions are told of at once, and how many passes there are: a host that isn't made leaves its own
+/// unused.
+const MOST: usize = 8;
+
+// A controller, and passes for its callers.
+fn bench(alloc: Global, config: Config, told: &mut u64) -> Option<(Bench, Spares)>
+    ensures own { IfSome result (λ b. AreOf b.0 b.1) }
+    ensures config { IfSome result (λ b. b.0.config ≡ config) }
+{
+    for _ in 0..TURNS {
+        match bench_of(alloc, config, MOST, MOST) {
+            Ok(made) => return Some(made),
+            Err(_) => *told = told.wrapping_add(1),
+        }
+    }
+    None
+}
+
+// Who served all calls, or all claims; None where one was told something else.
+fn all_served<R: Wait>(
+    rt: &R,
+    alloc: Global,
+    bench: &Bench,
+    mut spares: Spares,
+    is_slots: bool,
+    told: &mut u64,
+) -> Option<Server>
+    requires own { AreOf bench.now spares }
+    requires config { bench.now.config ≡ numbers 8 1 1 0 0 2 4 4 8 2 }
+    ensures { IfSome result (IsServerOf bench.now) }
+{
+    let mut server = hand_of(bench, &mut spares)?;
+    let is_served = if is_slots {
+        are_granted(rt, alloc, bench, &mut server, &mut spares, told)
+    } else {
+        are_answered(rt, alloc, bench, &mut server, &mut spares, told)
+    };
+    is_served.then_some(server)
+}
+
+// The controller of a bench whose hosts are gone.
+fn closes(bench: Bench, server: Server) -> Option<Core>
+    requires { IsServerOf bench server }
+{
+    let Bench { engine, .. } = bench;
+    engine.close(server.pass)
+}
+
+/// The controller after all calls, or all claims.
+pub(crate) fn by_driver<R: Wait>(
+    rt: &R,
+    alloc: Global,
+    is_slots: bool,
+    told: &mut u64,
+) -> Option<Core> {
+    let Ok(config) = Config::new(8, 1, 1, 0, 0, 2, 4, 4, 8) else {
+        return None;
+    };
+    let (bench, spares) = bench(alloc, config, told)?;
+    let server = all_served(rt, alloc, &bench, spares, is_slots, told)?;
+    closes(bench, server)
+}
