@@ -1,10 +1,6 @@
 -- What becomes of a host's calls, what is fetched, and that there are completion queues.
-use Rattle.std.proofs.Common.{[], ◌≡◌, ℕ, ◌<◌, ◌+◌, ◌-◌, ◌∙◌, All, Err, List, None, Ok, Option, Result, Some, ap, arith, eqb, false, inl, is_none, length, refl, slice_get, subst, sym, take}
+use Rattle.std.proofs.Common.{[], ◌≡◌, ℕ, ◌<◌, ◌-◌, ◌∙◌, Err, List, None, Ok, Option, Result, Some, ap, arith, eqb, false, inl, is_none, length, refl, subst, sym, take}
 use Rattle.std.specs.Prelude.{IfOk, IfSome}
-use Rattle.std.proofs.Math.ListN.{get_or}
-use Rattle.std.proofs.lemmas.Option.{slice_get-get_or}
-use Rattle.nvme_model.specs.History.{Past}
-use Rattle.meet_lock.specs.Passes.{IsNew, config_of}
 use Rattle.std.proofs.lemmas.Bool.{or_parts}
 use Rattle.std.proofs.lemmas.Bool.Decides.{nat_tests}
 use Rattle.nvme_model.specs.Config.{config_fault, config_faults}
@@ -12,7 +8,7 @@ use Rattle.nvme_model.specs.declared.config.ConfigNumbers.{ConfigNumbers}
 use Rattle.nvme_model.specs.declared.entry.Entry.{Entry}
 use Rattle.nvme_model.proofs.Rules.{none_holds}
 use Rattle.step_core.specs.declared.answer.Answer.{Answer}
-use Rattle.work_queue.specs.Engines.{EnginePass, IsOf, IsOpened, IsWorkOf, OpenedAs}
+use Rattle.work_queue.specs.Engines.{EnginePass, IsOpened, IsWorkOf, OpenedAs}
 use Rattle.work_queue.specs.declared.engine.Engine.{Engine}
 use Rattle.work_queue.specs.declared.engine.Open.{Open}
 use Rattle.work_queue.specs.declared.engine.Opened.TheVariants as opened
@@ -95,11 +91,6 @@ some_queues c e = not_zero c.cqs (or_parts _ _ (none_holds (config_faults c) (ap
   where
     not_zero : (n : ℕ) → eqb n 0 ≡ false → 0 < n
     not_zero n e = grind (arith, nat_tests)
-
--- ---- new passes
-
-pub config_kept : (e : Engine) (n : ℕ) (c d : ConfigNumbers) (past : Past) (ps : List EnginePass) → c ≡ d → ((k : ℕ) (p : EnginePass) → slice_get ps k ≡ Some p → IsOf e p × IsNew n c past (k + 1) p) → All (λ p. config_of p ≡ d) ps
-config_kept e n c d past ps same each = λ k x within. (each k (get_or ps k x) (slice_get-get_or ps k x within)).1.2 ∙ same
 
 -- ---- calls of any port
 

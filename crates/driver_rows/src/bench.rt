@@ -3,12 +3,11 @@
 ghost use Rattle.std.specs.List.Sorted.{IsStrictlyIncreasing};
 ghost use Rattle.std.specs.Prelude.{◌≡◌, ◌<◌, ◌≤◌, ◌+◌, All, IfOk, IfSome, [], length, true};
 ghost use Rattle.driver_cas.specs.Drivers.{area_of, made};
-ghost use Rattle.meet_lock.specs.Passes.{config_of};
-ghost use Rattle.work_queue.specs.Engines as engine;
 ghost use Rattle.driver_rows.specs.Benches.{AreOf, IsHostOf, IsServerOf, uses};
 
 use driver_cas::{Driver, SharedPort};
 use history::Config;
+use lock_rows::engine_of;
 use meet_lock::Pass;
 use nvme_model::array::Range;
 use std::alloc::{AllocError as NoMemory, Global};
@@ -43,23 +42,6 @@ pub struct Server {
 pub struct Host<'a> {
     pub driver: Driver<SharedPort<'a>>,
     pub place: QueuePass<Notice>,
-}
-
-// An engine of a new controller, and so many passes.
-fn engine_of(
-    alloc: Global,
-    config: Config,
-    count: usize,
-) -> Result<(Engine, Vec<Pass<Core>>), NoMemory>
-    requires { 0 < count }
-    ensures own { IfOk result (λ e. All (engine.IsOf e.0) e.1.items) }
-    ensures config { IfOk result (λ e. All (λ p. config_of p ≡ config) e.1.items) }
-{
-    let core = Core::new(alloc, config)?;
-    let Ok((engine, passes)) = Engine::new(alloc, core, count) else {
-        return Err(NoMemory);
-    };
-    Ok((engine, passes))
 }
 
 /// A new controller, with so many passes. The queue of notices holds `capacity` of them.
