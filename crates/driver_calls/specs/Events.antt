@@ -24,7 +24,7 @@ event_at c n past (Entry.Publish p) =
 event_at c n past (Entry.Reap r) =
     if r.queue == n
     then PortEvent.Got r.cqe
-        (payload_of (slice_get (posted_completions c past r.queue) (reaped_count past r.queue))) ∷ []
+    (payload_of (slice_get (posted_completions c past r.queue) (reaped_count past r.queue))) ∷ []
     else []
 event_at c n past _ = []
 

@@ -70,7 +70,7 @@ pub fn others_leave_a_queue_alone()
 pub fn a_publish_takes_the_next_numbers()
     ensures numbers { (past : Past) (p : PublishLine) (i : ℕ) (s : Submission) → slice_get p.batch i ≡ Some s →
         slice_get (published_entries (Entry.Publish p ∷ past) p.queue)
-            (length (published_entries past p.queue) + i) ≡ Some s }
+        (length (published_entries past p.queue) + i) ≡ Some s }
     ensures others { (past : Past) (p : PublishLine) (q : ℕ) → q ≢ p.queue →
         published_entries (Entry.Publish p ∷ past) q ≡ published_entries past q }
     ensures unreaped { (c : ConfigNumbers) (past : Past) (q j : ℕ) → IsLegal c past →
