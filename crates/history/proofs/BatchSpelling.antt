@@ -16,19 +16,20 @@ unfolding behind
 behind_append c [] ys = refl
 behind_append c (x ∷ xs) ys = ap (λ l. (c ∷ x) ++ l) (behind_append c xs ys) ∙ sym (append_assoc (c ∷ x) (behind c xs) (behind c ys))
 
+-- the words of a line, and more of them
+pub line_more : (kind : List ℕ) (front more : List (List ℕ)) → join_with_byte 32 (kind ∷ (front ++ more)) ≡ join_with_byte 32 (kind ∷ front) ++ behind 32 more
+line_more kind front more =
+    join_behind 32 kind (front ++ more)
+    ∙ ap (λ l. kind ++ l) (behind_append 32 front more)
+    ∙ sym (append_assoc kind (behind 32 front) (behind 32 more))
+    ∙ ap (λ l. l ++ behind 32 more) (sym (join_behind 32 kind front))
+
 -- the first entry of a Publish, and the others
 pub publish_first : (q : ℕ) (x : Submission) (others : List Submission)
     → join_with_byte 32 (publish_words q (x ∷ others)) ≡ join_with_byte 32 (codes "publish" ∷ decimal q ∷ encode_upper x.entry ∷ data_text 512 x.payload ∷ []) ++ behind 32 (more_words others)
 unfolding publish_words
 publish_first q x others =
-    let e : List ℕ = encode_upper x.entry in
-    let p : List ℕ = data_text 512 x.payload in
-    let front : List (List ℕ) = decimal q ∷ e ∷ p ∷ [] in
-    let more : List (List ℕ) = more_words others in
-    join_behind 32 (codes "publish") (decimal q ∷ e ∷ p ∷ more)
-    ∙ ap (λ l. codes "publish" ++ l) (behind_append 32 front more)
-    ∙ sym (append_assoc (codes "publish") (behind 32 front) (behind 32 more))
-    ∙ ap (λ l. l ++ behind 32 more) (sym (join_behind 32 (codes "publish") front))
+    line_more (codes "publish") (decimal q ∷ encode_upper x.entry ∷ data_text 512 x.payload ∷ []) (more_words others)
 
 -- the entry at place i
 pub more_next : (xs : List Submission) (i : ℕ) (d : Submission) → i < length xs

@@ -12,7 +12,7 @@ ghost use Rattle.history.specs.ConfigLine.{ten_words_in, with_queues};
 ghost use Rattle.history.specs.Gives.{Gives};
 
 use crate::line_fault::LineFault;
-use line_text::{Word, read_u16, read_u32, send_words, split_words};
+use line_text::{Word, read_u16, read_u32, send_behind, send_words, split_words};
 use nvme_model::config::{AtomicParameters, ConfigNumbers};
 use std::alloc::Global;
 use std::io::{Result as IoResult, Write};
@@ -152,26 +152,26 @@ pub fn write_config_line<W: Write>(numbers: &ConfigNumbers, writer: &mut W) -> I
 {
     let c = numbers;
     if c.cqs == c.pairs {
-        write_nine(c, writer)
+        write_nine(writer, b"config", c)
     } else {
-        write_ten(c, writer)
+        write_ten(writer, c)
     }
 }
 
-// Writes the line of nine numbers.
-fn write_nine<W: Write>(numbers: &ConfigNumbers, writer: &mut W) -> IoResult<()>
+// Writes this word and the nine numbers.
+fn write_nine<'a, W: Write>(writer: &mut W, kind: &'a [u8], numbers: &ConfigNumbers) -> IoResult<()>
     ensures whole { OnOk result
         (Appends (W.contents writer.old) (W.contents writer.new)
-        (join_with_byte 32 (codes "config" ∷ nine_words numbers.now))) }
+        (join_with_byte 32 (kind.now ∷ nine_words numbers.now))) }
     ensures front { OnErr result
         (AppendsFront (W.contents writer.old) (W.contents writer.new)
-        (join_with_byte 32 (codes "config" ∷ nine_words numbers.now))) }
+        (join_with_byte 32 (kind.now ∷ nine_words numbers.now))) }
 {
     let c = numbers;
     send_words(
         writer,
         &[
-            Word::Text(b"config"),
+            Word::Text(kind),
             Word::Number(u64::from(c.blocks)),
             Word::Number(u64::from(c.atomic.awun)),
             Word::Number(u64::from(c.atomic.acwu)),
@@ -186,7 +186,7 @@ fn write_nine<W: Write>(numbers: &ConfigNumbers, writer: &mut W) -> IoResult<()>
 }
 
 // Writes the line of ten numbers.
-fn write_ten<W: Write>(numbers: &ConfigNumbers, writer: &mut W) -> IoResult<()>
+fn write_ten<W: Write>(writer: &mut W, numbers: &ConfigNumbers) -> IoResult<()>
     ensures whole { OnOk result
         (Appends (W.contents writer.old) (W.contents writer.new)
         (join_with_byte 32 (codes "config2" ∷ ten_words numbers.now))) }
@@ -194,21 +194,6 @@ fn write_ten<W: Write>(numbers: &ConfigNumbers, writer: &mut W) -> IoResult<()>
         (AppendsFront (W.contents writer.old) (W.contents writer.new)
         (join_with_byte 32 (codes "config2" ∷ ten_words numbers.now))) }
 {
-    let c = numbers;
-    send_words(
-        writer,
-        &[
-            Word::Text(b"config2"),
-            Word::Number(u64::from(c.blocks)),
-            Word::Number(u64::from(c.atomic.awun)),
-            Word::Number(u64::from(c.atomic.acwu)),
-            Word::Number(u64::from(c.atomic.nabsn)),
-            Word::Number(u64::from(c.atomic.nabo)),
-            Word::Number(u64::from(c.pairs)),
-            Word::Number(u64::from(c.sq_size)),
-            Word::Number(u64::from(c.cq_size)),
-            Word::Number(u64::from(c.jobs)),
-            Word::Number(u64::from(c.cqs)),
-        ],
-    )
+    write_nine(writer, b"config2", numbers)?;
+    send_behind(writer, &[Word::Number(u64::from(numbers.cqs))])
 }

@@ -7,7 +7,7 @@ use Rattle.nvme_model.specs.declared.step.Step.{Step}
 use Rattle.nvme_model.specs.History.{Past}
 use Rattle.nvme_model.specs.Refusals.{refusal}
 use Rattle.nvme_model.specs.Steps.{next_entry}
-use Rattle.step_core.specs.State.{Does, Room, State, TakesRoom, WantsMemory, answer_of, promised_after}
+use Rattle.step_core.specs.State.{Does, Room, State, TakesRoom, WantsMemory, answer_of, promised_after, refused_as}
 use Rattle.step_core.specs.declared.answer.Answer.{Answer}
 
 -- a call whose error nothing allows answers Ok
@@ -29,8 +29,7 @@ pub does_accepted : (inside old : State) (step : Step) (a : Answer) (e : Entry) 
     → Does old step (Ok a) (record { config = inside.config; past = p; promised = n; room = room })
 does_accepted inside old step a e p n room same none entry answer past promised takes =
     subst (λ (x : State). Does x step (Ok a) (record { config = inside.config; past = p; promised = n; room = room })) same (
-      none,
-      answer,
+      (none, refl, answer),
       (λ i. record {
         config = inside.config;
         past = (past ∙ ap (λ (y : Entry). y ∷ inside.past) entry) i;
@@ -45,7 +44,7 @@ pub does_wanting : (inside old : State) (step : Step) → inside ≡ old → ref
     → Does old step (Err Why.NoMemory) old
 does_wanting inside old step same none wants =
     subst (λ (x : State). Does x step (Err Why.NoMemory) x) same
-    (ap (λ (o : Option Why). unwrap_or o Why.NoMemory) (sym none), refl, record { entries = omega arith; ranges = omega arith }, wants)
+    (ap (λ (o : Option Why). refused_as step (unwrap_or o Why.NoMemory)) (sym none), refl, record { entries = omega arith; ranges = omega arith }, wants)
 
 -- the history with one more entry, where making room left it as it was
 pub one_more : (e : Entry) (p made old : Past) → made ≡ old → p ≡ e ∷ made → p ≡ e ∷ old

@@ -155,7 +155,7 @@ module _ (c : ConfigNumbers) (past : Past) (fields : CoreFields) (k : IsKept c p
           → Does x (Step.Block t) (Ok (Answer.Blocked d)) (record { config = c; past = past'; promised = p'; room = w' })
       block_does x p p' w w' h past' view same_past is_past is_left takes =
           subst (λ (y : State). Does y (Step.Block t) (Ok (Answer.Blocked d)) (record { config = c; past = past'; promised = p'; room = w' })) view
-          (none, answer_is, (λ z. record { config = c; past = (is_past ∙ ap₂ (λ (e : Entry) (w : Past). e ∷ w) next_is same_past) z; promised = is_left z; room = w' }), takes)
+          ((none, refl, answer_is), (λ z. record { config = c; past = (is_past ∙ ap₂ (λ (e : Entry) (w : Past). e ∷ w) next_is same_past) z; promised = is_left z; room = w' }), takes)
 
       -- the fields after it
       pub kept : (h past' : Past) (r' : List Held) → h ≡ past → past' ≡ Entry.Block (record { ticket = t; unit = n'; lba = d.lba; found = d.found; effect = d.effect }) ∷ h → r' ≡ cond d.ended (held_beside r t) r

@@ -367,4 +367,4 @@ module _ (c : ConfigNumbers) (past : Past) (fields : CoreFields) (k : IsKept c p
       let past_is : then ≡ next_entry c past (Step.Fetch t) ∷ past =
       pushed ∙ (λ i. Entry.Fetch (record { queue = t; ticket = k.count i + 1; verdict = says i }) ∷ same i) ∙ ap (λ (e : Entry). e ∷ past) entry_is in
       subst (λ (z : State). Does z (Step.Fetch t) (Ok (Answer.Fetched work)) (record { config = c; past = then; promised = p; room = left })) view
-      (a.0, ap (λ (v : TicketWork). Answer.Fetched v) work_is, (λ i. record { config = c; past = past_is i; promised = p; room = left }), takes)
+      ((a.0, refl, ap (λ (v : TicketWork). Answer.Fetched v) work_is), (λ i. record { config = c; past = past_is i; promised = p; room = left }), takes)

@@ -1,9 +1,9 @@
 -- What a Fetch finds, and the job that it makes.
-use Rattle.std.specs.Prelude.{List, Option, [], get_or, if◌then◌else◌, length, map, replicate, take, ℕ, ◌*◌, ◌<◌, ◌≡◌}
+use Rattle.std.specs.Prelude.{List, Option, [], get_or, length, map, replicate, take, ℕ, ◌*◌, ◌<◌, ◌≡◌}
 use Rattle.std.specs.Prelude.{◌≤◌}
 use Rattle.nvme_model.specs.EntryBytes.{slba}
 use Rattle.nvme_model.specs.History.{Past}
-use Rattle.nvme_model.specs.Operations.{has_compare, op_by}
+use Rattle.nvme_model.specs.Operations.{op_by}
 use Rattle.nvme_model.specs.Tickets.{cids, fetched_ticket, first_fields, next_verdict}
 use Rattle.nvme_model.specs.Verdict.{Item, taken}
 use Rattle.nvme_model.specs.declared.config.ConfigNumbers.{ConfigNumbers}
@@ -15,6 +15,7 @@ use Rattle.fused_match.specs.declared.judged.Judged.TheVariants as judged
 use Rattle.block_exec.specs.Bytes.{blocks_in}
 use Rattle.job_table.specs.Keeping.{Keeping}
 use Rattle.ticket_course.specs.Stages.{first_stage}
+use Rattle.step_core.specs.Fields.{compare_by}
 use Rattle.step_core.specs.declared.machine.fetch.Front.{Front}
 use Rattle.step_core.specs.declared.work.Kind.{Kind}
 
@@ -49,10 +50,6 @@ read_first _ = []
 -- the CIDs of those of one or two entries that are taken
 abbrev pub cids_taken : Judged → Item → Option Item → List ℕ
 cids_taken j first second = map (λ i. i.fields.cid) (take (taken (verdict_by j)) (waiting_items first second))
-
--- the Compare's data, by the operation
-abbrev pub compare_by : Option Op → Submission → List ℕ
-compare_by o first = if has_compare o then first.payload else []
 
 -- the data beside the i-th of these entries
 abbrev pub payload_at : List Submission → ℕ → List ℕ

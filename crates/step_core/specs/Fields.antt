@@ -11,6 +11,7 @@ use Rattle.nvme_model.specs.Tickets.{Ticket, cids, command, first_fields}
 use Rattle.nvme_model.specs.declared.config.ConfigNumbers.{ConfigNumbers}
 use Rattle.nvme_model.specs.declared.entry.PostLine.{PostLine}
 use Rattle.nvme_model.specs.declared.operation.Op.{Op}
+use Rattle.nvme_model.specs.declared.submission.Submission.{Submission}
 use Rattle.block_exec.specs.Bytes.{blocks_in}
 use Rattle.rings.specs.Completions.{CompletionRing}
 use Rattle.rings.specs.Submissions.{SubmissionRing}
@@ -43,9 +44,13 @@ completion_ring c past q =
 
 -- ---- tickets in flight
 
--- the Compare's data of a ticket
+-- the Compare's data, by the operation
+abbrev pub compare_by : Option Op → Submission → List ℕ
+compare_by o first = if has_compare o then first.payload else []
+
+-- that of a ticket
 abbrev pub compare_bytes : Ticket → List ℕ
-compare_bytes k = if has_compare (op k) then (command k 0).payload else []
+compare_bytes k = compare_by (op k) (command k 0)
 
 -- the blocks that it writes from its data, by the operation
 abbrev pub write_blocks_by : Option Op → Ticket → List (List ℕ)

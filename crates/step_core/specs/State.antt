@@ -175,12 +175,11 @@ Serves old step (Err r) new =
     Refuses old.config old.past step r
     × (new ≡ record old { room = new.room }) × KeepsRoom old.room new.room × WantsMemory old step
 
--- the same of a step whose refusal hands nothing back
+-- a result whose refusal hands nothing back
+abbrev pub told : Step → Result Answer Why → Result Answer Refused
+told step (Ok a) = Ok a
+told step (Err why) = Err (refused_as step why)
+
+-- the same of a step with such a result
 abbrev pub Does : State → Step → Result Answer Why → State → Type 0
-Does old step (Ok a) new =
-    (refusal old.config old.past step ≡ None)
-    × (a ≡ answer_of old.config old.past (next_entry old.config old.past step))
-    × (new ≡ after old step new.room) × TakesRoom step old.room new.room
-Does old step (Err why) new =
-    (why ≡ unwrap_or (refusal old.config old.past step) Why.NoMemory)
-    × (new ≡ record old { room = new.room }) × KeepsRoom old.room new.room × WantsMemory old step
+Does old step r new = Serves old step (told step r) new
