@@ -1,6 +1,6 @@
-//! The statuses' bytes, and the order in which they are owed.
+//! The bytes of each status in a completion.
 
-use completions::{Owed, cqe_of};
+use completions::cqe_of;
 use entry_codec::{decode_cqe, encode_cqe};
 use nvme_model::status::Status;
 
@@ -36,23 +36,4 @@ fn whole_write(rt: HostRuntime) {
     let success = Status::new(0, 0x00);
     let want = [0, 0, 0, 0, 0, 0, 0, 0, 1, 0, 1, 0, 1, 0, 1, 0];
     assert_eq!(rt; encode_cqe(&cqe_of(success, 1, 1, 1, true)), want);
-}
-
-#[test]
-fn first_is_owed_first(rt: HostRuntime) {
-    let differs = Status::new(2, 0x85);
-    let failed = Status::new(0, 0x09);
-    let mut owed = Owed::two(differs, failed);
-    assert_eq!(rt; owed.len(), 2);
-    assert_eq!(rt; owed.front(), Some(differs));
-    assert_eq!(rt; owed.pop(), Some(differs));
-    assert_eq!(rt; owed, Owed::one(failed));
-    assert_eq!(rt; owed.len(), 1);
-    assert_eq!(rt; owed.front(), Some(failed));
-    assert_eq!(rt; owed.pop(), Some(failed));
-    assert_eq!(rt; owed, Owed::none());
-    assert!(rt; owed.is_empty());
-    assert_eq!(rt; owed.len(), 0);
-    assert_eq!(rt; owed.front(), None);
-    assert_eq!(rt; owed.pop(), None);
 }
