@@ -1,6 +1,7 @@
 //! Promised steps, many steps in one call, the step that is ready, and what a Work says.
 //! What each step does is told by contracts, and shown by scripts.
 
+use atomic_units::UnitIter;
 use history::Config;
 use nvme_model::submission::{Payload, Submission};
 use std::alloc::{AllocError, Global};
@@ -121,16 +122,23 @@ fn what_is_ready_is_made_until_nothing_is(rt: HostRuntime) -> Result<(), Fail> {
     gives(&rt, rt.alloc(), &mut core, &[0xa1, 0xa1, 0xa1, 0xa1])
 }
 
+/// Whether the next unit is of these blocks, or there is none.
+fn next_is(units: &mut UnitIter, want: Option<(u64, u32)>) -> bool {
+    match (units.next(), want) {
+        (Some(unit), Some((slba, blocks))) => unit.slba == slba && unit.blocks == blocks,
+        (None, None) => true,
+        _ => false,
+    }
+}
+
 /// Whether these are its units.
 fn has_units(work: &Work, first: (u64, u32), second: (u64, u32)) -> bool {
     let Some(mut units) = work.units() else {
         return false;
     };
-    let mut next = [None; 3];
-    for unit in &mut next {
-        *unit = units.next().map(|unit| (unit.slba, unit.blocks));
-    }
-    next == [Some(first), Some(second), None]
+    next_is(&mut units, Some(first))
+        && next_is(&mut units, Some(second))
+        && next_is(&mut units, None)
 }
 
 /// Whether an answer is that ticket 1 is fetched, with two units of two blocks.
