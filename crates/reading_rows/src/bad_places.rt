@@ -1,5 +1,5 @@
 //! A list of entries by `check`, and one entry after the other by a `Checker`. What is wrong with which history is
-//! shown by the tables of `check_rows`, over texts.
+//! shown by the built program on the rows of `scenes/`.
 
 use crate::worked::{PAIR, keep};
 use history::{Config, Entry, parse_line};

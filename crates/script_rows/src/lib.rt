@@ -1,33 +1,10 @@
-//! Scripts beside the lines that they print, and runs and checks whose reader or writer fails, as tests of
-//! `casdisk_script` over its neighbours; and what other tests of texts use.
+//! Runs and checks of texts whose reader or writer fails at one of its calls, as tests of `casdisk_script`. What
+//! scripts print and what is answered of histories is shown by the built program, on the rows of `scenes/`.
 #![tactic(auto)]
 
-#[cfg(test)]
-mod commands;
-#[cfg(test)]
-mod configurations;
-#[cfg(test)]
-mod entries;
 #[cfg(test)]
 mod failing;
 #[cfg(test)]
 mod faults;
-pub mod files;
 #[cfg(test)]
-mod kinds;
-#[cfg(test)]
-mod lines;
-#[cfg(test)]
-mod long;
-#[cfg(test)]
-mod pairs;
-#[cfg(test)]
-mod queues;
-#[cfg(test)]
-mod refusals;
-#[cfg(test)]
-mod runs;
-#[cfg(test)]
-mod texts;
-#[cfg(test)]
-mod units;
+mod files;

@@ -1,14 +1,13 @@
-//! Words, lines of histories and of scripts, numbers of configurations and of races: worked rows of each, as tests.
+//! Words, lines of readers and writers, entries of histories, and numbers of races: what only calls show, as tests.
+//! Which lines are read and which are none is shown by the built program, on the rows of `scenes/`.
 #![tactic(auto)]
 
 #[cfg(test)]
-mod configurations;
+mod histories;
 #[cfg(test)]
 mod history_lines;
 #[cfg(test)]
 mod races;
-#[cfg(test)]
-mod steps;
 #[cfg(test)]
 mod streams;
 #[cfg(test)]
