@@ -11,6 +11,7 @@ use work_queue::{Open, Work};
 
 /// Opcodes.
 pub(crate) const FLUSH: u8 = 0;
+
 pub(crate) const WRITE: u8 = 1;
 
 /// A Flush, or a Write of one block of these bytes.

@@ -4,9 +4,7 @@ ghost use Rattle.std.specs.Prelude.{All, IfOk, IfSome};
 ghost use Rattle.lock_rows.specs.Hands.{IsCrewOf, IsFreshWork, IsOf, IsWorkOf};
 
 use crate::passes::BUSY;
-use lock_rows::{
-    Crew, Hall, Hand, NO_MEMORY, attempt, learns, number, open, pops, pushes, tells,
-};
+use lock_rows::{Crew, Hall, Hand, NO_MEMORY, attempt, learns, number, open, pops, pushes, tells};
 use meet_lock::Declined;
 use std::alloc::{AllocError, Global};
 use std::sync::Wait;

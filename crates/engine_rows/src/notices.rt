@@ -15,13 +15,7 @@ use std::test::Fail;
 use work_queue::{Notice, Open, Opened};
 
 /// The notice of a Flush with this identifier, which is published, fetched and posted.
-fn posts<R: Wait>(
-    rt: &R,
-    alloc: Global,
-    hall: &Hall,
-    hand: &mut Hand,
-    cid: u16,
-) -> Option<Notice>
+fn posts<R: Wait>(rt: &R, alloc: Global, hall: &Hall, hand: &mut Hand, cid: u16) -> Option<Notice>
     requires { IsOf hall.now hand.old }
     ensures same { IsOf hall.now hand.new }
     ensures notice { IfSome result (IsNoticeOf hall.now.engine) }

@@ -77,12 +77,7 @@ fn attempted(shared: &Shared<Core>, pass: &mut Pass<Core>, step: Step) -> u8
 }
 
 /// A step by a pass, which then meets another.
-fn take_turn(
-    shared: &Shared<Core>,
-    pass: &mut Pass<Core>,
-    other: &mut Pass<Core>,
-    step: Step,
-) -> u8
+fn take_turn(shared: &Shared<Core>, pass: &mut Pass<Core>, other: &mut Pass<Core>, step: Step) -> u8
     requires { IsOf shared.now pass.old × IsOf shared.now other.old }
     ensures { IsSame pass.old pass.new × IsSame other.old other.new }
 {

@@ -3,8 +3,8 @@
 ghost use Rattle.std.specs.Prelude.{◌<◌, IfOk, IfSome};
 ghost use Rattle.lock_rows.specs.Hands.{AreOf, IsCrewOf, IsOf};
 
-use history::Config;
 use crate::engines::engine_of;
+use history::Config;
 use meet_lock::Pass;
 use std::alloc::{AllocError as NoMemory, Global};
 use step_core::Core;

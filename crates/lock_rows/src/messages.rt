@@ -146,13 +146,7 @@ pub fn noted(
 }
 
 /// That Notice, put into the queue; whether there was room and memory for it.
-pub fn tells<R: Wait>(
-    rt: &R,
-    hall: &Hall,
-    hand: &mut Hand,
-    _work: &Work,
-    answer: &Answer,
-) -> bool
+pub fn tells<R: Wait>(rt: &R, hall: &Hall, hand: &mut Hand, _work: &Work, answer: &Answer) -> bool
     requires own { IsOf hall.now hand.old }
     requires posted { IsAnswerPosted (config_of hand.old.pass) (entries (seen hand.old.pass)) _work.now.queue
         answer.now }

@@ -83,7 +83,10 @@ fn claims_of<R: Threads + Wait + Sync + Abort>(
 fn races_keep_the_rules_of_slots(rt: HostRuntime) -> Result<(), Fail> {
     for (numbers, first, (least, most), made) in RACES {
         let claims = claims_of(&rt, rt.alloc(), numbers, first)?;
-        assert!(rt; least <= claims.won && claims.won <= most, "{first}: {claims:?}");
+        assert!(rt;
+            least <= claims.won && claims.won <= most,
+            "{first}: {claims:?}"
+        );
         if let Some(all) = made {
             assert_eq!(rt; claims.won.saturating_add(claims.lost), all, "{first}");
         }
