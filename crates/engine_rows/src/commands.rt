@@ -1,32 +1,83 @@
-//! Batches of one command.
+//! Commands that are published, and fetched.
 
+ghost use Rattle.std.specs.Prelude.{◌≡◌, IfOk, vec_len};
+ghost use Rattle.lock_rows.specs.Hands.{IsFreshWork, IsOf};
+
+use lock_rows::{Hall, Hand, NO_MEMORY, fetches, opens};
 use nvme_model::submission::{Payload, Submission, Submissions};
 use std::alloc::{AllocError, Global};
+use std::sync::Wait;
+use work_queue::{Open, Work};
 
-/// The batch of one command with this opcode, CID and block; a Write has one block of A1.
-pub(crate) fn one_command(
-    alloc: Global,
-    opcode: u8,
-    cid: u16,
-    block: u8,
-) -> Result<Submissions, AllocError> {
+/// Opcodes.
+pub(crate) const FLUSH: u8 = 0;
+
+pub(crate) const WRITE: u8 = 1;
+
+/// A Flush, or a Write of one block of these bytes.
+#[derive(Clone, Copy)]
+pub(crate) struct Command {
+    pub opcode: u8,
+    pub queue: u16,
+    pub cid: u16,
+    pub block: u8,
+    pub byte: u8,
+}
+
+/// A Flush on this queue.
+pub(crate) fn flush(queue: u16, cid: u16) -> Command {
+    Command {
+        opcode: FLUSH,
+        queue,
+        cid,
+        block: 0,
+        byte: 0,
+    }
+}
+
+fn data_of(alloc: Global, command: Command) -> Result<Vec<u8>, AllocError> {
+    let mut bytes = Vec::new(alloc);
+    if command.opcode == WRITE {
+        for _ in 0..512 {
+            bytes.push(command.byte)?;
+        }
+    }
+    Ok(bytes)
+}
+
+/// Its one entry, with its data.
+pub(crate) fn items_of(alloc: Global, command: Command) -> Result<Vec<Submission>, AllocError>
+    ensures { IfOk result (λ v. vec_len v ≡ 1) }
+{
     let mut entry = [0; 64];
-    let cid = cid.to_le_bytes();
-    entry[0] = opcode;
+    let cid = command.cid.to_le_bytes();
+    entry[0] = command.opcode;
     entry[2] = cid[0];
     entry[3] = cid[1];
     entry[4] = 1;
-    let mut bytes = Vec::new(alloc);
-    if opcode == 1 {
-        entry[40] = block;
-        for _ in 0..512 {
-            bytes.push(0xa1)?;
-        }
-    }
+    entry[40] = command.block;
+    let payload = Payload::new(data_of(alloc, command)?);
     let mut items = Vec::new(alloc);
-    items.push(Submission {
-        entry,
-        payload: Payload::new(bytes),
-    })?;
-    Ok(Submissions::new(items))
+    items.push(Submission { entry, payload })?;
+    Ok(items)
+}
+
+/// The command, published and fetched by one caller.
+pub(crate) fn begun<R: Wait>(
+    rt: &R,
+    alloc: Global,
+    hall: &Hall,
+    hand: &mut Hand,
+    command: Command,
+) -> Result<Work, u8>
+    requires { IsOf hall.now hand.old }
+    ensures same { IsOf hall.now hand.new }
+    ensures fresh { IfOk result (IsFreshWork hall.now) }
+{
+    let Ok(items) = items_of(alloc, command) else {
+        return Err(NO_MEMORY);
+    };
+    let request = Open::Publish(command.queue, Submissions::new(items));
+    opens(rt, hall, hand, request)?;
+    fetches(rt, hall, hand, command.queue)
 }

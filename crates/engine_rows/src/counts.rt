@@ -1,69 +1,69 @@
 //! What pushers and poppers of one queue have begun and done.
 
-use std::sync::atomic::{AtomicU64, Ordering};
+use std::sync::atomic::{AtomicU16, AtomicU64, Ordering};
 
-/// Counts of the calls of one queue by all threads. One that came back or found nothing is no longer counted as begun.
+/// Calls of one kind by all threads. One that came back or found nothing is no longer counted as begun.
+#[derive(Drop)]
+pub(crate) struct Calls {
+    begun: AtomicU64,
+    done: AtomicU64,
+}
+
+impl Calls {
+    fn new() -> Calls {
+        Calls {
+            begun: AtomicU64::new(0),
+            done: AtomicU64::new(0),
+        }
+    }
+
+    /// A call begins; how many of the other kind are done by now.
+    pub(crate) fn begins(&self, other: &Calls) -> u64 {
+        let done = other.done.load(Ordering::SeqCst);
+        self.begun.fetch_add(1, Ordering::SeqCst);
+        done
+    }
+
+    pub(crate) fn ends(&self) {
+        self.done.fetch_add(1, Ordering::SeqCst);
+    }
+
+    /// The call got nothing done; whether that can have been, where so many of the other kind were done when it began.
+    /// A push comes back from a queue that is full: as many other pushes had begun as had been popped and there is room
+    /// for. A pop finds nothing in one that is empty: as many other pops had begun as had been pushed.
+    pub(crate) fn fails(&self, done: u64, room: u64) -> bool {
+        self.begun.fetch_sub(1, Ordering::SeqCst) > done.saturating_add(room)
+    }
+}
+
+/// So many Works in all, through a queue of so many places.
 #[derive(Drop)]
 pub(crate) struct Counts {
-    total: u64,
-    capacity: u64,
-    pushing: AtomicU64,
-    pushed: AtomicU64,
-    popping: AtomicU64,
-    popped: AtomicU64,
+    pub total: u64,
+    pub capacity: u64,
+    pub pushes: Calls,
+    pub pops: Calls,
+    come: AtomicU16,
 }
 
 impl Counts {
-    /// For so many messages in all, through a queue of so many places.
     pub(crate) fn new(total: u64, capacity: u64) -> Counts {
         Counts {
             total,
             capacity,
-            pushing: AtomicU64::new(0),
-            pushed: AtomicU64::new(0),
-            popping: AtomicU64::new(0),
-            popped: AtomicU64::new(0),
+            pushes: Calls::new(),
+            pops: Calls::new(),
+            come: AtomicU16::new(0),
         }
     }
 
-    /// A push begins; how many pops are done by now.
-    pub(crate) fn begins_push(&self) -> u64 {
-        let popped = self.popped.load(Ordering::SeqCst);
-        self.pushing.fetch_add(1, Ordering::SeqCst);
-        popped
+    /// How many threads came before this one.
+    pub(crate) fn comes(&self) -> u16 {
+        self.come.fetch_add(1, Ordering::SeqCst)
     }
 
-    pub(crate) fn ends_push(&self) {
-        self.pushed.fetch_add(1, Ordering::SeqCst);
-    }
-
-    /// The push came back; whether the queue can have been full. Where it was, as many other pushes had begun as had
-    /// been popped and there are places.
-    pub(crate) fn came_back(&self, popped: u64) -> bool {
-        let begun = self.pushing.fetch_sub(1, Ordering::SeqCst);
-        begun > popped.saturating_add(self.capacity)
-    }
-
-    /// A pop begins; how many pushes are done by now.
-    pub(crate) fn begins_pop(&self) -> u64 {
-        let pushed = self.pushed.load(Ordering::SeqCst);
-        self.popping.fetch_add(1, Ordering::SeqCst);
-        pushed
-    }
-
-    pub(crate) fn ends_pop(&self) {
-        self.popped.fetch_add(1, Ordering::SeqCst);
-    }
-
-    /// The pop found nothing; whether the queue can have been empty. Where it was, as many other pops had begun as had
-    /// been pushed.
-    pub(crate) fn found_none(&self, pushed: u64) -> bool {
-        let begun = self.popping.fetch_sub(1, Ordering::SeqCst);
-        begun > pushed
-    }
-
-    /// Whether all messages are popped.
+    /// Whether all are popped.
     pub(crate) fn is_done(&self) -> bool {
-        self.popped.load(Ordering::SeqCst) == self.total
+        self.pops.done.load(Ordering::SeqCst) == self.total
     }
 }

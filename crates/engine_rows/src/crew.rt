@@ -1,20 +1,16 @@
 //! The steps of a run through an engine, its works and its notices, by three callers of one thread.
 
 ghost use Rattle.std.specs.Prelude.{All, IfOk, IfSome};
-ghost use Rattle.engine_rows.specs.Hands.{IsCrewOf, IsFreshWork, IsOf, IsWorkOf};
+ghost use Rattle.lock_rows.specs.Hands.{IsCrewOf, IsFreshWork, IsOf, IsWorkOf};
 
-use crate::hall::{Crew, Hall, Hand};
-use crate::messages::{NO_MEMORY, attempt, learns, open, pops, pushes, tells};
-use lock_rows::number;
+use crate::passes::BUSY;
+use lock_rows::{Crew, Hall, Hand, NO_MEMORY, attempt, learns, number, open, pops, pushes, tells};
 use meet_lock::Declined;
 use std::alloc::{AllocError, Global};
 use std::sync::Wait;
 use std::test::Fail;
 use step_core::Step;
 use work_queue::{Open, Opened, Task, Work};
-
-/// The number of a lock that another caller had.
-const BUSY: u8 = 12;
 
 /// How an opening was answered: 0 or the number of its refusal, and the Work of a Fetch.
 pub(crate) fn opened(hall: &Hall, hand: &mut Hand, request: Open) -> (u8, Option<Work>)
@@ -30,22 +26,29 @@ pub(crate) fn opened(hall: &Hall, hand: &mut Hand, request: Open) -> (u8, Option
     }
 }
 
-/// A Fetch. Its Work goes through the queue to the worker.
+/// The Work goes through the queue to the worker.
+fn hands_over<R: Wait>(rt: &R, hall: &Hall, crew: &mut Crew, work: Work) -> Result<(), Fail>
+    requires { IsCrewOf hall.now crew.old × IsFreshWork hall.now work }
+    ensures { IfOk result (λ _. IsCrewOf hall.now crew.new) }
+{
+    if pushes(rt, hall, &mut crew.fetcher, work).is_err() {
+        return Err(Fail::from("no place for a Work"));
+    }
+    match pops(rt, hall, &mut crew.worker) {
+        Some(work) => Ok(crew.works.push(work)?),
+        None => Err(Fail::from("no Work")),
+    }
+}
+
+/// A Fetch. Its Work goes to the worker.
 fn fetch<R: Wait>(rt: &R, hall: &Hall, crew: &mut Crew, queue: u16) -> Result<u8, Fail>
     requires { IsCrewOf hall.now crew.old }
     ensures { IfOk result (λ _. IsCrewOf hall.now crew.new) }
 {
     let (answer, fetched) = opened(hall, &mut crew.fetcher, Open::Fetch(queue));
-    let Some(work) = fetched else {
-        return Ok(answer);
-    };
-    if pushes(rt, hall, &mut crew.fetcher, work).is_err() {
-        return Err(Fail::from("no place for a Work"));
+    if let Some(work) = fetched {
+        hands_over(rt, hall, crew, work)?;
     }
-    let Some(work) = pops(rt, hall, &mut crew.worker) else {
-        return Err(Fail::from("no Work"));
-    };
-    crew.works.push(work)?;
     Ok(answer)
 }
 
@@ -70,6 +73,27 @@ fn put_by(
     Ok(())
 }
 
+// The same of all Works.
+fn put_all(
+    hall: &Hall,
+    works: &mut Vec<Work>,
+    ticket: u64,
+    found: &mut Option<Work>,
+    others: &mut Vec<Work>,
+) -> Result<(), AllocError>
+    requires works { All (IsWorkOf hall.now) works.old.items }
+    requires both { IfSome found.old (IsWorkOf hall.now) × All (IsWorkOf hall.now) others.old.items }
+    ensures found { IfSome found.new (IsWorkOf hall.now) }
+    ensures others { All (IsWorkOf hall.now) others.new.items }
+{
+    for _ in 0..works.len() {
+        if let Some(work) = works.pop() {
+            put_by(hall, work, ticket, found, others)?;
+        }
+    }
+    Ok(())
+}
+
 /// The Work of this ticket, out of these.
 fn take_work(
     alloc: Global,
@@ -83,14 +107,9 @@ fn take_work(
 {
     let mut found = None;
     let mut others = Vec::new(alloc);
-    for _ in 0..works.len() {
-        let Some(work) = works.pop() else {
-            break;
-        };
-        put_by(hall, work, ticket, &mut found, &mut others)?;
-    }
+    let end = put_all(hall, works, ticket, &mut found, &mut others);
     *works = others;
-    Ok(found)
+    end.and(Ok(found))
 }
 
 /// The task, where it is the one that is next; None where it isn't.

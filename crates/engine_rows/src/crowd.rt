@@ -1,20 +1,22 @@
 //! Works through one queue, from four threads to four.
 
-ghost use Rattle.std.specs.Prelude.{◌<◌, IfOk, IfSome};
-ghost use Rattle.engine_rows.specs.Hands.{AreOf, IsFreshWork, IsOf, IsWorkOf};
+ghost use Rattle.std.specs.Prelude.{All, IfOk, IfSome};
+ghost use Rattle.lock_rows.specs.Hands.{IsFreshWork, IsOf, IsWorkOf};
 
-use crate::commands::one_command;
+use crate::commands::{begun, flush};
 use crate::counts::Counts;
-use crate::hall::{Hall, Hand, Spares, take_hand};
-use crate::messages::{NO_MEMORY, STRANGE, fetches, opens, pops, pushes, works};
-use std::alloc::Global;
+use lock_rows::{Hall, Hand, NO_MEMORY, STRANGE, opens, pops, pushes, works};
+use std::alloc::{AllocError, Global};
 use std::sync::Wait;
-use std::thread::{Threads, join, yield_now};
+use std::thread::{Threads, map_vec, yield_now};
 use step_core::Answer;
 use work_queue::{Open, Opened, Work};
 
+/// How many Works each of the four pushers has.
+pub(crate) const WORKS: u16 = 25_000;
+
 /// A number of no refusal: a push came back from a queue with room, or a pop found nothing where something was.
-pub(crate) const WRONG: u8 = 98;
+const WRONG: u8 = 98;
 
 /// A number of no refusal: a wait that was too long.
 pub(crate) const LATE: u8 = 97;
@@ -29,31 +31,31 @@ pub(crate) struct Ended {
     pub cid: u16,
 }
 
-/// All were pushed, or the number of a refusal.
-pub(crate) type Put = Result<(), u8>;
-
-/// What was popped, in order, or the number of a refusal.
+/// What one thread popped, in order, or the number of a refusal.
 pub(crate) type Got = Result<Vec<Ended>, u8>;
 
-/// What two pushers put, and what two poppers got.
-pub(crate) type Half = ([Put; 2], [Got; 2]);
-
 /// The Work, put at the back, again while it comes back.
-fn puts<R: Wait>(rt: &R, hall: &Hall, counts: &Counts, hand: &mut Hand, work: Work) -> Put
+fn puts<R: Wait>(
+    rt: &R,
+    hall: &Hall,
+    counts: &Counts,
+    hand: &mut Hand,
+    work: Work,
+) -> Result<(), u8>
     requires { IsOf hall.now hand.old × IsFreshWork hall.now work }
     ensures { IsOf hall.now hand.new }
 {
     let mut next = work;
     for _ in 0..TRIES {
-        let popped = counts.begins_push();
+        let popped = counts.pushes.begins(&counts.pops);
         match pushes(rt, hall, hand, next) {
             Ok(()) => {
-                counts.ends_push();
+                counts.pushes.ends();
                 return Ok(());
             }
             Err(same) => next = same,
         }
-        if !counts.came_back(popped) {
+        if !counts.pushes.fails(popped, counts.capacity) {
             return Err(WRONG);
         }
         yield_now();
@@ -71,12 +73,12 @@ fn takes<R: Wait>(rt: &R, hall: &Hall, counts: &Counts, hand: &mut Hand) -> Resu
         if counts.is_done() {
             return Ok(None);
         }
-        let pushed = counts.begins_pop();
+        let pushed = counts.pops.begins(&counts.pushes);
         if let Some(work) = pops(rt, hall, hand) {
-            counts.ends_pop();
+            counts.pops.ends();
             return Ok(Some(work));
         }
-        if !counts.found_none(pushed) {
+        if !counts.pops.fails(pushed, 0) {
             return Err(WRONG);
         }
         yield_now();
@@ -84,71 +86,66 @@ fn takes<R: Wait>(rt: &R, hall: &Hall, counts: &Counts, hand: &mut Hand) -> Resu
     Err(LATE)
 }
 
-/// A Flush with this identifier, published, fetched and pushed.
-fn sends<R: Wait>(
-    rt: &R,
-    alloc: Global,
-    hall: &Hall,
-    counts: &Counts,
-    hand: &mut Hand,
-    command: Ended,
-) -> Put
-    requires { IsOf hall.now hand.old }
-    ensures { IsOf hall.now hand.new }
-{
-    let Ok(batch) = one_command(alloc, 0, command.cid, 0) else {
-        return Err(NO_MEMORY);
-    };
-    opens(rt, hall, hand, Open::Publish(command.queue, batch))?;
-    let work = fetches(rt, hall, hand, command.queue)?;
-    puts(rt, hall, counts, hand, work)
-}
-
-/// So many Works of this queue, with identifiers from 1 on.
+/// The Works of this queue, Flushes with identifiers from 1 on, each fetched and pushed.
 fn pusher<R: Wait>(
     rt: &R,
     alloc: Global,
     hall: &Hall,
     counts: &Counts,
-    mut hand: Hand,
+    hand: &mut Hand,
     queue: u16,
-    count: u16,
-) -> Put
-    requires { IsOf hall.now hand }
+) -> Result<(), u8>
+    requires { IsOf hall.now hand.old }
 {
-    for k in 0..count {
-        let cid = k.wrapping_add(1);
-        sends(rt, alloc, hall, counts, &mut hand, Ended { queue, cid })?;
+    for cid in 1..=WORKS {
+        let work = begun(rt, alloc, hall, hand, flush(queue, cid))?;
+        puts(rt, hall, counts, hand, work)?;
     }
     Ok(())
 }
 
-/// Posts the Work's one completion, and reaps one of that queue; the command that was posted.
-fn ends<R: Wait>(rt: &R, hall: &Hall, hand: &mut Hand, mut work: Work) -> Result<Ended, u8>
+/// Posts the Work's one completion.
+fn posted<R: Wait>(rt: &R, hall: &Hall, hand: &mut Hand, mut work: Work) -> Result<[u8; 16], u8>
     requires { IsOf hall.now hand.old × IsWorkOf hall.now work }
     ensures { IsOf hall.now hand.new }
 {
-    let Some(Answer::Posted(cqe)) = works(rt, hall, hand, &mut work)? else {
-        return Err(STRANGE);
-    };
+    match works(rt, hall, hand, &mut work) {
+        Ok(Some(Answer::Posted(cqe))) => Ok(cqe),
+        Ok(_) => Err(STRANGE),
+        Err(why) => Err(why),
+    }
+}
+
+/// Posts the Work's one completion, and reaps one of that queue; the command that was posted.
+fn ends<R: Wait>(rt: &R, hall: &Hall, hand: &mut Hand, work: Work) -> Result<Ended, u8>
+    requires { IsOf hall.now hand.old × IsWorkOf hall.now work }
+    ensures { IsOf hall.now hand.new }
+{
+    let cqe = posted(rt, hall, hand, work)?;
     let queue = u16::from_le_bytes([cqe[10], cqe[11]]);
     let cid = u16::from_le_bytes([cqe[12], cqe[13]]);
-    match opens(rt, hall, hand, Open::Reap(queue))? {
-        Opened::Reaped { .. } => Ok(Ended { queue, cid }),
-        _ => Err(STRANGE),
+    match opens(rt, hall, hand, Open::Reap(queue)) {
+        Ok(Opened::Reaped { .. }) => Ok(Ended { queue, cid }),
+        Ok(_) => Err(STRANGE),
+        Err(why) => Err(why),
     }
 }
 
 /// Ends Works until all are popped; their commands.
-fn popper<R: Wait>(rt: &R, alloc: Global, hall: &Hall, counts: &Counts, mut hand: Hand) -> Got
-    requires { IsOf hall.now hand }
+fn popper<R: Wait>(
+    rt: &R,
+    hall: &Hall,
+    counts: &Counts,
+    hand: &mut Hand,
+    popped: &mut Vec<Ended>,
+) -> Result<(), u8>
+    requires { IsOf hall.now hand.old }
 {
-    let mut popped = Vec::new(alloc);
     for _ in 0..TRIES {
-        let Some(work) = takes(rt, hall, counts, &mut hand)? else {
-            return Ok(popped);
+        let Some(work) = takes(rt, hall, counts, hand)? else {
+            return Ok(());
         };
-        let ended = ends(rt, hall, &mut hand, work)?;
+        let ended = ends(rt, hall, hand, work)?;
         if popped.push(ended).is_err() {
             return Err(NO_MEMORY);
         }
@@ -156,114 +153,35 @@ fn popper<R: Wait>(rt: &R, alloc: Global, hall: &Hall, counts: &Counts, mut hand
     Err(LATE)
 }
 
-/// Two hands of these; None where there are fewer.
-fn take_two(hall: &Hall, hands: &mut Spares) -> Option<(Hand, Hand)>
-    requires { AreOf hall.now hands.old }
-    ensures rest { AreOf hall.now hands.new }
-    ensures two { IfSome result (λ h. IsOf hall.now h.0 × IsOf hall.now h.1) }
+/// One thread: each second that comes pushes, on a queue of its own, and the others pop.
+fn plays<R: Wait>(rt: &R, alloc: Global, hall: &Hall, counts: &Counts, mut hand: Hand) -> Got
+    requires { IsOf hall.now hand }
 {
-    let one = take_hand(hall, hands)?;
-    let two = take_hand(hall, hands)?;
-    Some((one, two))
+    let mut popped = Vec::new(alloc);
+    let place = counts.comes();
+    let end = if place % 2 == 0 {
+        pusher(rt, alloc, hall, counts, &mut hand, place / 2 + 1)
+    } else {
+        popper(rt, hall, counts, &mut hand, &mut popped)
+    };
+    end.and(Ok(popped))
 }
 
-/// Two pushers, of this queue and the next.
-fn two_pushers<R: Threads + Wait + Sync>(
-    rt: &R,
-    alloc: Global,
-    hall: &Hall,
-    counts: &Counts,
-    hands: (Hand, Hand),
-    queue: u16,
-    count: u16,
-) -> [Put; 2]
-    requires { IsOf hall.now hands.0 × IsOf hall.now hands.1 }
-{
-    let (one, two) = hands;
-    let (first, second) = join(
-        rt,
-        move || -> Put
-            requires { IsOf hall.now one }
-        { pusher(rt, alloc, hall, counts, one, queue, count) },
-        move || -> Put
-            requires { IsOf hall.now two }
-        { pusher(rt, alloc, hall, counts, two, queue.wrapping_add(1), count) },
-    );
-    [first, second]
-}
-
-fn two_poppers<R: Threads + Wait + Sync>(
-    rt: &R,
-    alloc: Global,
-    hall: &Hall,
-    counts: &Counts,
-    hands: (Hand, Hand),
-) -> [Got; 2]
-    requires { IsOf hall.now hands.0 × IsOf hall.now hands.1 }
-{
-    let (one, two) = hands;
-    let (first, second) = join(
-        rt,
-        move || -> Got
-            requires { IsOf hall.now one }
-        { popper(rt, alloc, hall, counts, one) },
-        move || -> Got
-            requires { IsOf hall.now two }
-        { popper(rt, alloc, hall, counts, two) },
-    );
-    [first, second]
-}
-
-/// What two pushers put beside what two poppers got.
-fn half<R: Threads + Wait + Sync>(
-    rt: &R,
-    alloc: Global,
-    hall: &Hall,
-    counts: &Counts,
-    pushers: (Hand, Hand),
-    poppers: (Hand, Hand),
-    queue: u16,
-    count: u16,
-) -> Half
-    requires push { IsOf hall.now pushers.0 × IsOf hall.now pushers.1 }
-    requires pop { IsOf hall.now poppers.0 × IsOf hall.now poppers.1 }
-{
-    join(
-        rt,
-        move || -> [Put; 2]
-            requires { IsOf hall.now pushers.0 × IsOf hall.now pushers.1 }
-        { two_pushers(rt, alloc, hall, counts, pushers, queue, count) },
-        move || -> [Got; 2]
-            requires { IsOf hall.now poppers.0 × IsOf hall.now poppers.1 }
-        { two_poppers(rt, alloc, hall, counts, poppers) },
-    )
-}
-
-/// What four pushers put beside what four poppers got, each on a thread of its own; None where hands are wanting.
+/// What each got, on a thread for each hand.
 pub(crate) fn crowd<R: Threads + Wait + Sync>(
     rt: &R,
     alloc: Global,
     hall: &Hall,
     counts: &Counts,
-    hands: &mut Spares,
-    count: u16,
-) -> Option<(Half, Half)>
-    requires { AreOf hall.now hands.old }
-    ensures { AreOf hall.now hands.new }
+    hands: Vec<Hand>,
+) -> Result<Vec<Got>, AllocError>
+    requires { All (IsOf hall.now) hands.items }
 {
-    let one = take_two(hall, hands)?;
-    let two = take_two(hall, hands)?;
-    let three = take_two(hall, hands)?;
-    let four = take_two(hall, hands)?;
-    Some(join(
+    map_vec(
         rt,
-        move || -> Half
-            requires push { IsOf hall.now one.0 × IsOf hall.now one.1 }
-            requires pop { IsOf hall.now two.0 × IsOf hall.now two.1 }
-        { half(rt, alloc, hall, counts, one, two, 1, count) },
-        move || -> Half
-            requires push { IsOf hall.now three.0 × IsOf hall.now three.1 }
-            requires pop { IsOf hall.now four.0 × IsOf hall.now four.1 }
-        { half(rt, alloc, hall, counts, three, four, 3, count) },
-    ))
+        hands,
+        &|hand| -> Got
+            requires { IsOf hall.now hand }
+        { plays(rt, alloc, hall, counts, hand) },
+    )
 }

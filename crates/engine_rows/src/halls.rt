@@ -1,49 +1,26 @@
-//! A hall of one queue pair, and the end of a hall.
+//! A hall and its crew, and the end of a hall.
 
 ghost use Rattle.std.specs.Prelude.{◌<◌, IfOk};
-ghost use Rattle.engine_rows.specs.Hands.{AreOf, IsOf};
+ghost use Rattle.lock_rows.specs.Hands.{IsCrewOf, IsOf};
 
-use crate::hall::{Hall, Hand, Spares, hall_of, take_hand};
 use history::Config;
-use std::alloc::Global;
+use lock_rows::{Crew, Hall, Hand, crew_of, hall_of, text};
+use std::alloc::{AllocError, Global};
 use std::test::Fail;
 use step_core::Core;
 
-/// A hall of one queue pair, whose queues have so many places.
-pub(crate) fn one_queue(
-    alloc: Global,
-    capacity: usize,
-    count: usize,
-) -> Result<(Hall, Spares), Fail>
-    requires { (0 < capacity) × (0 < count) }
-    ensures { IfOk result (λ h. AreOf h.0 h.1) }
-{
-    let Ok(config) = Config::new(8, 1, 1, 0, 0, 1, 4, 4, 32) else {
-        return Err(Fail::from("the configuration is refused"));
-    };
-    Ok(hall_of(alloc, config, capacity, count)?)
-}
+/// One queue pair, and 32 tickets in flight.
+pub(crate) const ONE_QUEUE: &str = "config 8 1 1 0 0 1 4 4 32";
 
-/// The next hand of these.
-pub(crate) fn next_hand(hall: &Hall, hands: &mut Spares) -> Result<Hand, Fail>
-    requires { AreOf hall.now hands.old }
-    ensures rest { AreOf hall.now hands.new }
-    ensures hand { IfOk result (IsOf hall.now) }
+/// A hall of a new controller, whose queues have so many places, and its crew.
+pub(crate) fn crewed(alloc: Global, config: Config, capacity: usize) -> Result<(Hall, Crew), Fail>
+    requires { 0 < capacity }
+    ensures { IfOk result (λ h. IsCrewOf h.0 h.1) }
 {
-    match take_hand(hall, hands) {
-        Some(hand) => Ok(hand),
-        None => Err(Fail::from("a hand")),
-    }
-}
-
-/// A hall of one queue pair, whose queues have one place, and its one hand.
-pub(crate) fn one_hand(alloc: Global) -> Result<(Hall, Hand), Fail>
-    ensures { IfOk result (λ h. IsOf h.0 h.1) }
-{
-    let (hall, mut hands) = one_queue(alloc, 1, 1)?;
-    match take_hand(&hall, &mut hands) {
-        Some(hand) => Ok((hall, hand)),
-        None => Err(Fail::from("one hand")),
+    let (hall, mut hands) = hall_of(alloc, config, capacity, 3)?;
+    match crew_of(alloc, &hall, &mut hands) {
+        Some(crew) => Ok((hall, crew)),
+        None => Err(Fail::from("three hands")),
     }
 }
 
@@ -64,4 +41,9 @@ pub(crate) fn entries_of(hall: Hall, hand: Hand) -> Result<usize, Fail>
 {
     let core = closed(hall, hand)?;
     Ok(core.history().len())
+}
+
+/// The lines of a controller's history.
+pub(crate) fn lines_in(alloc: Global, core: Core) -> Result<Vec<u8>, AllocError> {
+    text(alloc, core.history().as_slice())
 }

@@ -1,6 +1,14 @@
-//! A controller whose works and notices travel: worked runs of one thread and of several, as tests.
+//! A controller that callers share, as tests of `meet_lock` and `work_queue`.
+//!
+//! - `rows`: worked runs by passes of a lock, and by works and notices on one thread.
+//! - `threads`: four threads write through one lock, and the history has what each was told.
+//! - `capacity`, `notices`: queues hold as many works and notices as they have places.
+//! - `carries`: works through one queue, from four threads to four.
+//! - `travels`: a work ends on another thread than its fetcher's.
 #![tactic(auto)]
 
+#[cfg(test)]
+mod accounts;
 #[cfg(test)]
 mod capacity;
 #[cfg(test)]
@@ -13,16 +21,15 @@ mod counts;
 mod crew;
 #[cfg(test)]
 mod crowd;
-mod hall;
 #[cfg(test)]
 mod halls;
-mod messages;
 #[cfg(test)]
 mod notices;
 #[cfg(test)]
+mod passes;
+#[cfg(test)]
 mod rows;
 #[cfg(test)]
+mod threads;
+#[cfg(test)]
 mod travels;
-
-pub use crate::hall::{Crew, Hall, Hand, Spares, crew_of, hall_of, take_hand};
-pub use crate::messages::{NO_MEMORY, fetches, learns, open, opens, pops, pushes, works};

@@ -1,13 +1,13 @@
-//! A queue of one notice.
+//! A queue of one notice, and a batch of no entry.
 
-ghost use Rattle.std.specs.Prelude.{IfErr, IfOk, IfSome};
+ghost use Rattle.std.specs.Prelude.{IfErr, IfSome};
 ghost use Rattle.work_queue.specs.Notices.{IsNoticeOf};
-ghost use Rattle.engine_rows.specs.Hands.{IsOf};
+ghost use Rattle.lock_rows.specs.Hands.{IsOf};
 
-use crate::capacity::flush;
-use crate::hall::{Hall, Hand};
-use crate::halls::one_hand;
-use crate::messages::{attempt, noted, opens};
+use crate::commands::{begun, flush};
+use crate::halls::{ONE_QUEUE, crewed};
+use lock_rows::{Hall, Hand, attempt, config_of, noted, opens};
+use nvme_model::submission::Submissions;
 use std::alloc::Global;
 use std::process::Abort;
 use std::sync::Wait;
@@ -15,28 +15,15 @@ use std::test::Fail;
 use work_queue::{Notice, Open, Opened};
 
 /// The notice of a Flush with this identifier, which is published, fetched and posted.
-fn posts<R: Abort + Wait>(
-    rt: &R,
-    alloc: Global,
-    hall: &Hall,
-    hand: &mut Hand,
-    cid: u16,
-) -> Result<Notice, Fail>
+fn posts<R: Wait>(rt: &R, alloc: Global, hall: &Hall, hand: &mut Hand, cid: u16) -> Option<Notice>
     requires { IsOf hall.now hand.old }
-    ensures same { IfOk result (λ _. IsOf hall.now hand.new) }
-    ensures notice { IfOk result (IsNoticeOf hall.now.engine) }
+    ensures same { IsOf hall.now hand.new }
+    ensures notice { IfSome result (IsNoticeOf hall.now.engine) }
 {
-    let mut work = flush(rt, alloc, hall, hand, cid)?;
-    let Some(task) = work.next_task() else {
-        return Err(Fail::from("a task"));
-    };
-    let Ok(answer) = attempt(hall, hand, &mut work, task) else {
-        return Err(Fail::from("a completion"));
-    };
-    match noted(hall, hand, &work, &answer) {
-        Ok(Some(notice)) => Ok(notice),
-        _ => Err(Fail::from("a notice")),
-    }
+    let mut work = begun(rt, alloc, hall, hand, flush(1, cid)).ok()?;
+    let task = work.next_task()?;
+    let answer = attempt(hall, hand, &mut work, task).ok()?;
+    noted(hall, hand, &work, &answer).ok()?
 }
 
 /// The notice, put at the back; or it comes back.
@@ -70,24 +57,18 @@ fn hears<R: Abort + Wait>(rt: &R, hall: &Hall, hand: &mut Hand) -> u16
     cid_of(&notice)
 }
 
-/// Two notices, of which there is room for one.
-fn overfills<R: Abort + Wait>(
-    rt: &R,
-    alloc: Global,
-    hall: &Hall,
-    hand: &mut Hand,
-) -> Result<Notice, Fail>
+/// Two notices, of which there is room for one; the one that comes back.
+fn overfills<R: Wait>(rt: &R, alloc: Global, hall: &Hall, hand: &mut Hand) -> Option<Notice>
     requires { IsOf hall.now hand.old }
-    ensures same { IfOk result (λ _. IsOf hall.now hand.new) }
-    ensures notice { IfOk result (IsNoticeOf hall.now.engine) }
+    ensures same { IsOf hall.now hand.new }
+    ensures notice { IfSome result (IsNoticeOf hall.now.engine) }
 {
     let first = posts(rt, alloc, hall, hand, 1)?;
-    let second = posts(rt, alloc, hall, hand, 2)?;
-    assert!(rt; tells(rt, hall, hand, first).is_ok());
-    match tells(rt, hall, hand, second) {
-        Ok(()) => Err(Fail::from("room for two")),
-        Err(back) => Ok(back),
+    if let Err(back) = tells(rt, hall, hand, first) {
+        return Some(back);
     }
+    let second = posts(rt, alloc, hall, hand, 2)?;
+    tells(rt, hall, hand, second).err()
 }
 
 /// That this notice is the only one.
@@ -100,24 +81,36 @@ fn hears_one<R: Abort + Wait>(rt: &R, hall: &Hall, hand: &mut Hand, cid: u16)
 }
 
 /// That the second notice comes back, and an empty queue gives none.
-fn holds_one<R: Abort + Wait>(
-    rt: &R,
-    alloc: Global,
-    hall: &Hall,
-    hand: &mut Hand,
-) -> Result<(), Fail>
+fn holds_one<R: Abort + Wait>(rt: &R, alloc: Global, hall: &Hall, hand: &mut Hand)
     requires { IsOf hall.now hand.old }
+    ensures { IsOf hall.now hand.new }
 {
-    let back = overfills(rt, alloc, hall, hand)?;
+    let Some(back) = overfills(rt, alloc, hall, hand) else {
+        panic!(rt; "a notice that comes back")
+    };
     assert_eq!(rt; cid_of(&back), 2);
     hears_one(rt, hall, hand, 1);
     assert!(rt; tells(rt, hall, hand, back).is_ok());
     hears_one(rt, hall, hand, 2);
-    Ok(())
+}
+
+/// That a batch of no entry is refused; it has no script.
+fn refuses_none<R: Abort + Wait>(rt: &R, alloc: Global, hall: &Hall, hand: &mut Hand)
+    requires { IsOf hall.now hand.old }
+    ensures { IsOf hall.now hand.new }
+{
+    let batch = Submissions::new(Vec::new(alloc));
+    let Err(why) = opens(rt, hall, hand, Open::Publish(1, batch)) else {
+        panic!(rt; "a refusal")
+    };
+    assert_eq!(rt; why, 10);
 }
 
 #[test]
-fn one_place_holds_one_notice(rt: HostRuntime) -> Result<(), Fail> {
-    let (hall, mut hand) = one_hand(rt.alloc())?;
-    holds_one(&rt, rt.alloc(), &hall, &mut hand)
+fn one_place_holds_one_notice_and_an_empty_batch_is_refused(rt: HostRuntime) -> Result<(), Fail> {
+    let config = config_of(rt.alloc(), ONE_QUEUE).ok_or("no configuration")?;
+    let (hall, mut crew) = crewed(rt.alloc(), config, 1)?;
+    holds_one(&rt, rt.alloc(), &hall, &mut crew.host);
+    refuses_none(&rt, rt.alloc(), &hall, &mut crew.host);
+    Ok(())
 }

@@ -1,23 +1,31 @@
-//! Worked runs through an engine, answer for answer and line for line as by a controller of one caller.
+//! Worked runs by passes of a lock and by an engine's crew, answer for answer and line for line as by a controller of
+//! one caller.
 
-ghost use Rattle.std.specs.Prelude.{IfOk};
-ghost use Rattle.engine_rows.specs.Hands.{IsCrewOf};
+ghost use Rattle.lock_rows.specs.Hands.{IsCrewOf, IsOf};
 
-use crate::crew::{make_all, opened};
-use crate::hall::{Crew, Hall, crew_of, hall_of};
-use crate::halls::{closed, one_hand};
+use crate::crew::make_all;
+use crate::halls::{closed, crewed, lines_in};
+use crate::passes::made_by_passes;
 use history::Config;
-use lock_rows::{CONFIG, LARGE, LARGE_PAIR, ROWS, Run, config_of, run_of, text};
+use lock_rows::{CONFIG, Crew, Hall, Hand, LARGE, LARGE_PAIR, ROWS, Run, config_of, run_of};
 use std::alloc::Global;
 use std::process::Abort;
 use std::sync::Wait;
 use std::test::Fail;
-use step_core::{Step, Submissions};
-use work_queue::Open;
+use step_core::Step;
+
+/// Who makes a run: so many passes, or at 0 the crew; and whether there is one completion queue, whatever the row says.
+const WAYS: [(u8, bool); 5] = [(1, false), (2, false), (3, false), (0, false), (0, true)];
 
 /// Runs that are refused: the configuration, the script and how each step is answered. Tasks that their tickets don't
 /// allow are answered 5 or 7.
-const REFUSED: [(&str, &str, &[u8]); 6] = [
+const REFUSED: [(&str, &str, &[u8]); 7] = [
+    // What was reaped is there no more.
+    (
+        CONFIG,
+        "publish 1 write 0 1 3 0 A1 / fetch 1 / grant 1 / block 1 / post 1 / reap 1 / reap 1",
+        &[0, 0, 0, 0, 0, 0, 9],
+    ),
     // There is no such queue, no entry and no completion.
     (
         CONFIG,
@@ -94,60 +102,82 @@ fn config_for(alloc: Global, line: &str, is_single: bool) -> Option<Config> {
     Config::from_numbers(&numbers).ok()
 }
 
-/// A hall of a new controller, and its crew.
-fn crewed(alloc: Global, config: Config) -> Result<(Hall, Crew), Fail>
-    ensures { IfOk result (λ h. IsCrewOf h.0 h.1) }
+/// How each step of a run was answered, None where it wasn't asked for, and the lines of the history.
+type Made = (Vec<Option<u8>>, Vec<u8>);
+
+/// The host's hand.
+fn host_of(_hall: &Hall, crew: Crew) -> Hand
+    requires { IsCrewOf _hall.now crew }
+    ensures { IsOf _hall.now result }
 {
-    let (hall, mut hands) = hall_of(alloc, config, 16, 3)?;
-    match crew_of(alloc, &hall, &mut hands) {
-        Some(crew) => Ok((hall, crew)),
-        None => Err(Fail::from("three hands")),
-    }
+    crew.host
 }
 
-/// Closes the lock; the lines of its history, and how many notices were learnt.
-fn closes(alloc: Global, hall: Hall, crew: Crew) -> Result<(Vec<u8>, u64), Fail>
-    requires { IsCrewOf hall crew }
-{
-    let Crew { host, learnt, .. } = crew;
-    let core = closed(hall, host)?;
-    Ok((text(alloc, core.history().as_slice())?, learnt))
-}
-
-/// The steps made by one thread: how each was answered, the lines of the history, and how many notices were learnt.
-fn made_of<R: Wait>(
+/// The steps made by a crew on one thread, and how many notices were learnt.
+fn made_by_crew<R: Wait>(
     rt: &R,
     alloc: Global,
     config: Config,
     steps: Vec<Step>,
-) -> Result<(Vec<Option<u8>>, (Vec<u8>, u64)), Fail> {
-    let (hall, mut crew) = crewed(alloc, config)?;
+) -> Result<(Made, u64), Fail> {
+    let (hall, mut crew) = crewed(alloc, config, 16)?;
     let answers = make_all(rt, alloc, &hall, &mut crew, steps)?;
-    Ok((answers, closes(alloc, hall, crew)?))
+    let learnt = crew.learnt;
+    let host = host_of(&hall, crew);
+    let core = closed(hall, host)?;
+    Ok(((answers, lines_in(alloc, core)?), learnt))
 }
 
-/// That one thread makes the run of the controller of one caller, a host that learns of each Post where one completion
+/// The steps made by so many passes, which get no notices, or by the crew.
+fn made_by<R: Wait>(
+    rt: &R,
+    alloc: Global,
+    config: Config,
+    steps: Vec<Step>,
+    passes: u8,
+) -> Result<(Made, u64), Fail> {
+    if passes == 0 {
+        return made_by_crew(rt, alloc, config, steps);
+    }
+    Ok((made_by_passes(alloc, config, steps, passes)?, 0))
+}
+
+/// That the run of the controller of one caller is made, and the crew's host learns of each Post where one completion
 /// queue is there. How its steps were answered, and how many weren't asked for.
 fn check<R: Abort + Wait>(
     rt: &R,
     alloc: Global,
-    line: &str,
+    config: Config,
     script: &str,
-    is_single: bool,
+    passes: u8,
 ) -> Result<(Vec<u8>, usize), Fail> {
-    let config = config_for(alloc, line, is_single).ok_or("no configuration")?;
     let Run {
         steps,
         answers,
         lines,
     } = run_of(alloc, config, script).ok_or("memory")?;
     let posts = posts_of(steps.as_slice(), answers.as_slice());
-    let (made, (written, learnt)) = made_of(rt, alloc, config, steps)?;
+    let ((made, written), learnt) = made_by(rt, alloc, config, steps, passes)?;
     let skipped = agrees(rt, made.as_slice(), answers.as_slice());
-    let told = if config.numbers().cqs == 1 { posts } else { 0 };
-    assert_eq!(rt; learnt, told);
+    let is_told = passes == 0 && config.numbers().cqs == 1;
+    assert_eq!(rt; learnt, if is_told { posts } else { 0 });
     assert!(rt; written.as_slice() == lines.as_slice());
     Ok((answers, skipped))
+}
+
+/// That a run is made in each way. No step of it is one that a ticket's own entries forbid, so each is asked for.
+fn check_ways<R: Abort + Wait>(
+    rt: &R,
+    alloc: Global,
+    line: &str,
+    script: &str,
+) -> Result<(), Fail> {
+    for (passes, is_single) in WAYS {
+        let config = config_for(alloc, line, is_single).ok_or("no configuration")?;
+        let (_, skipped) = check(rt, alloc, config, script, passes)?;
+        assert_eq!(rt; skipped, 0, "{script}");
+    }
+    Ok(())
 }
 
 /// A Write of 256 blocks from this block on.
@@ -160,58 +190,49 @@ fn long_write(alloc: Global, slba: u32) -> Result<String, Fail> {
     Ok(script)
 }
 
-/// How many steps of a run weren't asked for, at the configuration's completion queues and at one.
-fn check_both<R: Abort + Wait>(
+fn check_rows<R: Abort + Wait>(rt: &R, alloc: Global, rows: &[(&str, &str)]) -> Result<(), Fail> {
+    for (line, script) in rows {
+        check_ways(rt, alloc, line, script)?;
+    }
+    Ok(())
+}
+
+#[test]
+fn passes_and_works_make_the_rows(rt: HostRuntime) -> Result<(), Fail> {
+    check_rows(&rt, rt.alloc(), &ROWS)
+}
+
+// A pair doesn't fit a queue of two slots. The last 256 blocks of the largest volume are one unit; one block further
+// none is written.
+#[test]
+fn they_make_the_rows_of_the_largest_volume(rt: HostRuntime) -> Result<(), Fail> {
+    check_ways(&rt, rt.alloc(), LARGE, LARGE_PAIR)?;
+    for slba in [65280, 65281] {
+        let script = long_write(rt.alloc(), slba)?;
+        check_ways(&rt, rt.alloc(), LARGE, script.as_str())?;
+    }
+    Ok(())
+}
+
+/// That the steps are answered so; how many weren't asked for.
+fn check_answers<R: Abort + Wait>(
     rt: &R,
     alloc: Global,
-    line: &str,
-    script: &str,
+    (line, script, wanted): (&str, &str, &[u8]),
+    passes: u8,
 ) -> Result<usize, Fail> {
-    let (_, several) = check(rt, alloc, line, script, false)?;
-    let (_, single) = check(rt, alloc, line, script, true)?;
-    assert_eq!(rt; several, single);
-    Ok(several)
-}
-
-// No step of the rows is one that a ticket's own entries forbid, so each is asked for.
-#[test]
-fn one_thread_makes_the_rows(rt: HostRuntime) -> Result<(), Fail> {
-    for (line, script) in ROWS {
-        assert_eq!(rt; check_both(&rt, rt.alloc(), line, script)?, 0, "{script}");
-    }
-    Ok(())
-}
-
-#[test]
-fn one_thread_makes_the_rows_of_the_largest_volume(rt: HostRuntime) -> Result<(), Fail> {
-    let alloc = rt.alloc();
-    for script in [
-        String::from_str(alloc, LARGE_PAIR)?,
-        long_write(alloc, 65280)?,
-        long_write(alloc, 65281)?,
-    ] {
-        assert_eq!(rt; check_both(&rt, alloc, LARGE, script.as_str())?, 0);
-    }
-    Ok(())
+    let config = config_for(alloc, line, true).ok_or("no configuration")?;
+    let (answers, skipped) = check(rt, alloc, config, script, passes)?;
+    assert_eq!(rt; answers.as_slice(), wanted, "{script}");
+    Ok(skipped)
 }
 
 #[test]
 fn refusals_keep_their_numbers(rt: HostRuntime) -> Result<(), Fail> {
-    for (line, script, wanted) in REFUSED {
-        let (answers, skipped) = check(&rt, rt.alloc(), line, script, true)?;
-        assert_eq!(rt; answers.as_slice(), wanted, "{script}");
-        let forbidden = wanted.iter().filter(|why| matches!(**why, 5 | 7)).count();
-        assert_eq!(rt; skipped, forbidden, "{script}");
+    for row in REFUSED {
+        let forbidden = row.2.iter().filter(|why| matches!(**why, 5 | 7)).count();
+        assert_eq!(rt; check_answers(&rt, rt.alloc(), row, 0)?, forbidden);
+        assert_eq!(rt; check_answers(&rt, rt.alloc(), row, 2)?, 0);
     }
-    Ok(())
-}
-
-// A batch of no entry has no script.
-#[test]
-fn an_empty_batch_is_refused(rt: HostRuntime) -> Result<(), Fail> {
-    let (hall, mut hand) = one_hand(rt.alloc())?;
-    let batch = Submissions::new(Vec::new(rt.alloc()));
-    let (answer, _) = opened(&hall, &mut hand, Open::Publish(1, batch));
-    assert_eq!(rt; answer, 10);
     Ok(())
 }

@@ -1,18 +1,18 @@
 //! A Work on another thread than its fetcher's.
 
-ghost use Rattle.std.specs.Prelude.{◌≡◌, IfOk};
+ghost use Rattle.std.specs.Prelude.{◌≡◌};
 ghost use Rattle.meet_lock.specs.Passes.{seen};
-ghost use Rattle.engine_rows.specs.Hands.{AreOf, IsOf, IsWorkOf};
+ghost use Rattle.lock_rows.specs.Hands.{IsCrewOf, IsOf, IsWorkOf};
 
-use crate::commands::one_command;
-use crate::hall::{Hall, Hand, Spares};
-use crate::halls::{entries_of, next_hand, one_queue};
-use crate::messages::{fetches, learns, opens, pops, pushes, works};
+use crate::commands::{Command, WRITE, begun};
+use crate::halls::{ONE_QUEUE, crewed, entries_of};
+use lock_rows::{Crew, Hall, Hand, config_of, learns, opens, pops, pushes, works};
 use std::alloc::Global;
 use std::process::Abort;
 use std::sync::Wait;
 use std::test::Fail;
 use std::thread::{Threads, join, yield_now};
+use step_core::Kind;
 use work_queue::{Open, Opened, Work};
 
 /// Makes each task of the Work, to its last Post; how many. What is refused for now is asked again.
@@ -111,36 +111,32 @@ fn meets<R: Abort>(rt: &R, hall: &Hall, one: &mut Hand, two: &mut Hand)
 }
 
 // A Write, published, fetched and pushed.
-fn sends<R: Abort + Wait>(
-    rt: &R,
-    alloc: Global,
-    hall: &Hall,
-    hands: &mut Spares,
-) -> Result<(), Fail>
-    requires { AreOf hall.now hands.old }
-    ensures { IfOk result (λ _. AreOf hall.now hands.new) }
+fn sends<R: Abort + Wait>(rt: &R, alloc: Global, hall: &Hall, hand: &mut Hand)
+    requires { IsOf hall.now hand.old }
+    ensures { IsOf hall.now hand.new }
 {
-    let mut hand = next_hand(hall, hands)?;
-    let batch = one_command(alloc, 1, 1, 3)?;
-    assert!(rt; opens(rt, hall, &mut hand, Open::Publish(1, batch)).is_ok());
-    match fetches(rt, hall, &mut hand, 1) {
-        Ok(work) => assert!(rt; pushes(rt, hall, &mut hand, work).is_ok()),
-        Err(why) => panic!(rt; "no Work: {why}"),
-    }
-    Ok(())
+    let write = Command {
+        opcode: WRITE,
+        queue: 1,
+        cid: 1,
+        block: 3,
+        byte: 0xa1,
+    };
+    let Ok(work) = begun(rt, alloc, hall, hand, write) else {
+        panic!(rt; "a Work")
+    };
+    assert_eq!(rt; work.ticket(), 1);
+    assert!(rt; matches!(work.kind(), Kind::Units(_, _)));
+    assert!(rt; pushes(rt, hall, hand, work).is_ok());
 }
 
 // Its three tasks are made there, and the host that learnt of the Post reaps at once. After their run the two passes
-// meet.
-fn ends_there<R: Abort + Threads + Wait + Sync>(
-    rt: &R,
-    hall: &Hall,
-    worker: Hand,
-    host: Hand,
-) -> Hand
-    requires { IsOf hall.now worker × IsOf hall.now host }
+// meet. The host's hand.
+fn travels<R: Abort + Threads + Wait + Sync>(rt: &R, hall: &Hall, crew: Crew) -> Hand
+    requires { IsCrewOf hall.now crew }
     ensures { IsOf hall.now result }
 {
+    let Crew { host, worker, .. } = crew;
     let ((made, mut worker), (heard, mut host)) = both(rt, hall, worker, host);
     meets(rt, hall, &mut worker, &mut host);
     assert_eq!(rt; made, Ok(3));
@@ -148,26 +144,12 @@ fn ends_there<R: Abort + Threads + Wait + Sync>(
     host
 }
 
-// Made by three hands; the host's.
-fn travels<R: Abort + Threads + Wait + Sync>(
-    rt: &R,
-    alloc: Global,
-    hall: &Hall,
-    hands: &mut Spares,
-) -> Result<Hand, Fail>
-    requires { AreOf hall.now hands.old }
-    ensures { IfOk result (IsOf hall.now) }
-{
-    sends(rt, alloc, hall, hands)?;
-    let worker = next_hand(hall, hands)?;
-    let host = next_hand(hall, hands)?;
-    Ok(ends_there(rt, hall, worker, host))
-}
-
 #[test]
 fn a_work_ends_on_another_thread(rt: HostRuntime) -> Result<(), Fail> {
-    let (hall, mut hands) = one_queue(rt.alloc(), 4, 3)?;
-    let host = travels(&rt, rt.alloc(), &hall, &mut hands)?;
+    let config = config_of(rt.alloc(), ONE_QUEUE).ok_or("no configuration")?;
+    let (hall, mut crew) = crewed(rt.alloc(), config, 4)?;
+    sends(&rt, rt.alloc(), &hall, &mut crew.fetcher);
+    let host = travels(&rt, &hall, crew);
     assert_eq!(rt; entries_of(hall, host)?, 6);
     Ok(())
 }

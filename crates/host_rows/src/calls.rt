@@ -1,13 +1,12 @@
 //! What tests publish and reap, and what they close.
 
-ghost use Rattle.std.specs.Prelude.{All, IfOk, IfSome};
+ghost use Rattle.std.specs.Prelude.{IfOk, IfSome};
 ghost use Rattle.meet_lock.specs.Passes.{IsSame};
 ghost use Rattle.work_queue.specs.Engines as engine;
 ghost use Rattle.work_queue.specs.Notices.{IsNoticeOf};
-ghost use Rattle.hosts.specs.Hands.{IsHostOf, IsOf};
+ghost use Rattle.hosts.specs.Hands.{IsOf};
 ghost use Rattle.host_rows.specs.Listening.{IsListening};
 
-use history::Config;
 use history_check::check;
 use hosts::{Hall, Hand, HostHand};
 use meet_lock::{Declined, Pass};
@@ -22,21 +21,11 @@ use work_queue::{Notice, Open, Opened};
 /// How often a host looks for a notice.
 const TURNS: u32 = 20_000_000;
 
-/// `config2 8 1 1 0 0 2 4 4 8` with so many completion queues.
-pub(crate) fn config_of(cqs: u16) -> Result<Config, Fail> {
-    match Config::with_cqs(8, 1, 1, 0, 0, 2, 4, 4, 8, cqs) {
-        Ok(config) => Ok(config),
-        Err(_) => Err(Fail::from("the configuration is refused")),
-    }
-}
+/// A Write of A1: its identifier, its first block and how many.
+pub(crate) type Write = (u8, u8, u8);
 
-/// A Write of A1 to so many blocks from this one on.
-pub(crate) fn write_command(
-    alloc: Global,
-    cid: u8,
-    block: u8,
-    blocks: u8,
-) -> Result<Submission, NoMemory> {
+fn adds(alloc: Global, batch: &mut Vec<Submission>, write: Write) -> Result<(), NoMemory> {
+    let (cid, block, blocks) = write;
     let mut entry = [0; 64];
     entry[0] = 1;
     entry[2] = cid;
@@ -44,15 +33,25 @@ pub(crate) fn write_command(
     entry[40] = block;
     entry[48] = blocks.saturating_sub(1);
     let mut bytes = Vec::new(alloc);
-    for _ in 0..blocks {
-        for _ in 0..512 {
-            bytes.push(0xa1)?;
-        }
+    for _ in 0..512 * u32::from(blocks) {
+        bytes.push(0xa1)?;
     }
-    Ok(Submission {
+    Ok(batch.push(Submission {
         entry,
         payload: Payload::new(bytes),
-    })
+    })?)
+}
+
+/// Puts the Writes into a batch.
+pub(crate) fn adds_all(
+    alloc: Global,
+    batch: &mut Vec<Submission>,
+    writes: &[Write],
+) -> Result<(), NoMemory> {
+    for write in writes {
+        adds(alloc, batch, *write)?;
+    }
+    Ok(())
 }
 
 /// Whether the batch is published on this submission queue.
@@ -138,30 +137,14 @@ pub(crate) fn reaps<R: Wait, G>(rt: &R, hall: &Hall<G>, host: &mut HostHand, cou
     good
 }
 
-/// The last of these hosts, whatever it will have seen.
-#[tactic(auto, using(crate::proofs::Listening::hosts_listen))]
-pub(crate) fn one_host<G>(
-    _hall: &Hall<G>,
-    _config: &Config,
-    mut hosts: Vec<HostHand>,
-) -> Result<HostHand, Fail>
-    requires { All (IsHostOf _hall.now _config.now) hosts.items }
-    ensures { IfOk result (IsListening _hall.now) }
-{
-    match hosts.pop() {
-        Some(host) => Ok(host),
-        None => Err(Fail::from("a host")),
-    }
-}
-
-/// The controller, once all threads have ended.
-pub(crate) fn closed<G: Drop>(hall: Hall<G>, hand: Hand) -> Result<Core, Fail>
+/// The controller, once all threads have ended, and the gate.
+pub(crate) fn closed<G: Drop>(hall: Hall<G>, hand: Hand) -> Result<(Core, G), Fail>
     requires { IsOf hall hand }
 {
-    let Hall { engine, .. } = hall;
+    let Hall { engine, gate, .. } = hall;
     let Hand { pass, .. } = hand;
     match engine.close(pass) {
-        Some(core) => Ok(core),
+        Some(core) => Ok((core, gate)),
         None => Err(Fail::from("the lock isn't free")),
     }
 }

@@ -8,4 +8,6 @@ mod full;
 #[cfg(test)]
 mod held;
 #[cfg(test)]
+mod played;
+#[cfg(test)]
 mod served;

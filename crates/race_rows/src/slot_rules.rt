@@ -3,6 +3,7 @@
 ghost use Rattle.std.specs.Prelude.{◌≡◌, ◌<◌, IfSome, true, vec_len};
 
 use crate::names::{Contents, Name, contents_of, number};
+use history::parse_line;
 use nvme_model::entry::{BlockLine, Entry, FetchLine, PublishLine, ReapLine};
 use nvme_model::operation::Found;
 use nvme_model::submission::Submission;
@@ -11,6 +12,8 @@ use std::alloc::{AllocError as NoMemory, Global};
 /// What a history does that no race may do.
 #[derive(Clone, Copy, Debug, PartialEq, Eq)]
 pub(crate) enum Broken {
+    /// What is no line of a history.
+    Line,
     /// A batch that is neither a claim nor a release of a slot.
     Batch,
     /// A release of a slot by somebody who isn't its believer.
@@ -319,11 +322,33 @@ impl Reading {
     }
 }
 
-/// How many claims were won and lost, where no rule of so many slots from block 0 on is broken.
-pub(crate) fn read_slots(alloc: Global, entries: &[Entry], slots: usize) -> Result<Counts, Broken> {
-    let mut reading = Reading::new(alloc, slots)?;
-    for entry in entries {
-        reading.take(entry)?;
+// The entry of a line.
+fn take_line(alloc: Global, reading: &mut Reading, line: &[u8]) -> Result<(), Broken> {
+    let Ok(entry) = parse_line(alloc, line) else {
+        return Err(Broken::Line);
+    };
+    reading.take(&entry)
+}
+
+// The entries of a history's text, which stand after its first line.
+fn take_lines(alloc: Global, reading: &mut Reading, text: &[u8]) -> Result<(), Broken> {
+    let mut rest = text;
+    for turn in 0..u64::MAX {
+        let Some(end) = rest.iter().position(|byte| *byte == b'\n') else {
+            return Ok(());
+        };
+        if turn > 0 {
+            take_line(alloc, reading, &rest[..end])?;
+        }
+        rest = &rest[end + 1..];
     }
+    Ok(())
+}
+
+/// How many claims were won and lost in the history of this text, where no rule of so many slots from block 0 on is
+/// broken.
+pub(crate) fn read_slots(alloc: Global, text: &[u8], slots: usize) -> Result<Counts, Broken> {
+    let mut reading = Reading::new(alloc, slots)?;
+    take_lines(alloc, &mut reading, text)?;
     reading.end()
 }

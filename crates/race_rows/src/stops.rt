@@ -13,6 +13,7 @@ use std::alloc::{AllocError as NoMemory, Global};
 use std::sync::Wait;
 use std::test::Fail;
 use std::thread::{Threads, join, yield_now};
+use step_core::Core;
 
 /// More rounds than a test has time for.
 const ROUNDS: u32 = u32::MAX;
@@ -78,25 +79,25 @@ fn all<R: Threads + Wait + Sync>(
     Ok(hand)
 }
 
-#[test]
-fn a_stop_flag_ends_all_loops(rt: HostRuntime) -> Result<(), Fail> {
-    let alloc = rt.alloc();
-    let Ok(config) = Config::new(64, 1, 1, 0, 0, 2, 8, 8, 16) else {
-        return Err(Fail::from("the configuration is refused"));
-    };
+// The controller of a race that is stopped.
+fn stopped<R: Threads + Wait + Sync>(rt: &R, alloc: Global, config: Config) -> Result<Core, Fail> {
     let (hall, hands) = hall_of(alloc, config, OpenGate, 2)?;
     let play = Play {
         config,
         slots: Range { slba: 0, blocks: 2 },
         rounds: ROUNDS,
     };
-    let hand = all(&rt, alloc, &hall, &play, hands)?;
+    let hand = all(rt, alloc, &hall, &play, hands)?;
     let Hall { engine, .. } = hall;
-    let core = engine.close(hand.pass).ok_or("the lock isn't free")?;
+    Ok(engine.close(hand.pass).ok_or("the lock isn't free")?)
+}
+
+#[test]
+fn a_stop_flag_ends_all_loops(rt: HostRuntime) -> Result<(), Fail> {
+    let config = Config::new(64, 1, 1, 0, 0, 2, 8, 8, 16)?;
+    let core = stopped(&rt, rt.alloc(), config)?;
     let history = core.history().as_slice();
     assert!(rt; !history.is_empty());
-    if check(alloc, &core.config(), history).is_err() {
-        return Err(Fail::from("the history isn't legal"));
-    }
+    assert!(rt; check(rt.alloc(), &core.config(), history).is_ok());
     Ok(())
 }

@@ -1,12 +1,11 @@
 //! Calls of an engine and its queues that take no memory.
 
 ghost use Rattle.std.specs.Prelude.{IfSome};
-ghost use Rattle.engine_rows.specs.Hands.{IsCrewOf, IsFreshWork};
+ghost use Rattle.lock_rows.specs.Hands.{IsCrewOf, IsFreshWork};
 
 use crate::script::{Run, run_of};
 use crate::works::{closes, ends, fetched, manned, publishes};
-use engine_rows::{Crew, Hall, learns, pops, pushes};
-use lock_rows::CONFIG;
+use lock_rows::{CONFIG, Crew, Hall, learns, pops, pushes};
 use std::alloc::Global;
 use std::sync::Wait;
 use step_core::Step;

@@ -2,15 +2,15 @@
 //! Work asks for and tells of it. What is refused for want of memory is asked for again.
 
 ghost use Rattle.std.specs.Prelude.{IfSome};
-ghost use Rattle.engine_rows.specs.Hands.{AreOf, IsCrewOf, IsFreshWork, IsOf, IsWorkOf};
+ghost use Rattle.lock_rows.specs.Hands.{AreOf, IsCrewOf, IsFreshWork, IsOf, IsWorkOf};
 
 use crate::runs::TURNS;
 use crate::script::Run;
-use engine_rows::{
+use history::Config;
+use lock_rows::{
     Crew, Hall, Hand, NO_MEMORY, Spares, crew_of, fetches, hall_of, learns, open, opens, pops,
     pushes, works,
 };
-use history::Config;
 use meet_lock::Declined;
 use nvme_model::refusal::Why;
 use nvme_model::submission::Submissions;

@@ -1,4 +1,4 @@
-use Rattle.engine_rows.specs.Hands.{IsOf}
+use Rattle.lock_rows.specs.Hands.{IsOf}
 use Rattle.engine_rows.proofs.capacity.overfills.Given as goal
 
 abbrev pub invariant-loop-cid : goal.invariant-loop-cid

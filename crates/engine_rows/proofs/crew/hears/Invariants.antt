@@ -1,4 +1,4 @@
-use Rattle.engine_rows.specs.Hands.{IsCrewOf}
+use Rattle.lock_rows.specs.Hands.{IsCrewOf}
 use Rattle.engine_rows.proofs.crew.hears.Given as goal
 
 abbrev pub invariant-loop : goal.invariant-loop

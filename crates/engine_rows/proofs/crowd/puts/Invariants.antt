@@ -1,4 +1,4 @@
-use Rattle.engine_rows.specs.Hands.{IsFreshWork, IsOf}
+use Rattle.lock_rows.specs.Hands.{IsFreshWork, IsOf}
 use Rattle.engine_rows.proofs.crowd.puts.Given as goal
 
 abbrev pub invariant-loop : goal.invariant-loop

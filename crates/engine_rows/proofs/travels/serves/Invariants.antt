@@ -1,4 +1,4 @@
-use Rattle.engine_rows.specs.Hands.{IsOf}
+use Rattle.lock_rows.specs.Hands.{IsOf}
 use Rattle.engine_rows.proofs.travels.serves.Given as goal
 
 abbrev pub invariant-loop : goal.invariant-loop

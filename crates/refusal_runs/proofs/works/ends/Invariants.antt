@@ -1,4 +1,4 @@
-use Rattle.engine_rows.specs.Hands.{IsOf, IsWorkOf}
+use Rattle.lock_rows.specs.Hands.{IsOf, IsWorkOf}
 use Rattle.refusal_runs.proofs.works.ends.Given as goal
 
 abbrev pub invariant-loop : goal.invariant-loop

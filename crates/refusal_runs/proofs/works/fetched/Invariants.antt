@@ -1,4 +1,4 @@
-use Rattle.engine_rows.specs.Hands.{IsCrewOf}
+use Rattle.lock_rows.specs.Hands.{IsCrewOf}
 use Rattle.refusal_runs.proofs.works.fetched.Given as goal
 
 abbrev pub invariant-loop : goal.invariant-loop

@@ -1,4 +1,4 @@
-use Rattle.engine_rows.specs.Hands.{IsCrewOf}
+use Rattle.lock_rows.specs.Hands.{IsCrewOf}
 use Rattle.refusal_runs.proofs.works.make_each.Given as goal
 
 abbrev pub invariant-loop-step : goal.invariant-loop-step

@@ -1,0 +1,212 @@
+//! Steps of one caller, and messages from one to another.
+
+ghost use Rattle.std.specs.Prelude.{◌≡◌, IfErr, IfOk, IfSome, None};
+ghost use Rattle.meet_lock.specs.Passes.{config_of, seen};
+ghost use Rattle.nvme_model.specs.Passes.{entries};
+ghost use Rattle.ticket_entries.specs.Tasks.{task_fault};
+ghost use Rattle.work_queue.specs.Duties.{duty_of, task_step};
+ghost use Rattle.work_queue.specs.Engines.{its};
+ghost use Rattle.work_queue.specs.Notices.{IsNoticeOf};
+ghost use Rattle.work_queue.specs.Posted.{IsAnswerPosted};
+ghost use Rattle.lock_rows.specs.Hands.{IsFresh, IsFreshWork, IsOf, IsWorkOf};
+
+use crate::hall::{Hall, Hand};
+use crate::plain::number;
+use meet_lock::Declined;
+use std::sync::Wait;
+use std::thread::yield_now;
+use step_core::{Answer, Step};
+use work_queue::{Notice, Open, Opened, Task, Work};
+
+/// The number of want of memory.
+pub const NO_MEMORY: u8 = 11;
+
+/// A number of no refusal: another step came back, or another message was there.
+pub const STRANGE: u8 = 99;
+
+/// A Publish, a Fetch or a Reap.
+#[tactic(auto, using(crate::proofs::Hands::fetched_fresh))]
+pub fn open(hall: &Hall, hand: &mut Hand, request: Open) -> Result<Opened, Declined>
+    requires { IsOf hall.now hand.old }
+    ensures same { IsOf hall.now hand.new }
+    ensures fresh { IfOk result (IsFresh hall.now) }
+{
+    hall.engine.attempt_open(&mut hand.pass, request)
+}
+
+/// The opening, asked again while another caller has the lock.
+///
+/// # Errors
+///
+/// The number of its refusal.
+pub fn opens<R: Wait>(rt: &R, hall: &Hall, hand: &mut Hand, request: Open) -> Result<Opened, u8>
+    requires { IsOf hall.now hand.old }
+    ensures same { IsOf hall.now hand.new }
+    ensures fresh { IfOk result (IsFresh hall.now) }
+{
+    let mut next = request;
+    for _ in rt.forever() {
+        match open(hall, hand, next) {
+            Ok(opened) => return Ok(opened),
+            Err(Declined::Busy(Step::Publish(queue, batch))) => next = Open::Publish(queue, batch),
+            Err(Declined::Busy(Step::Fetch(queue))) => next = Open::Fetch(queue),
+            Err(Declined::Busy(Step::Reap(queue))) => next = Open::Reap(queue),
+            Err(Declined::Busy(_)) => return Err(STRANGE),
+            Err(Declined::Refused(refused)) => return Err(number(refused)),
+        }
+        yield_now();
+    }
+    unreachable!()
+}
+
+/// A Fetch.
+///
+/// # Errors
+///
+/// The number of its refusal.
+pub fn fetches<R: Wait>(rt: &R, hall: &Hall, hand: &mut Hand, queue: u16) -> Result<Work, u8>
+    requires { IsOf hall.now hand.old }
+    ensures same { IsOf hall.now hand.new }
+    ensures fresh { IfOk result (IsFreshWork hall.now) }
+{
+    match opens(rt, hall, hand, Open::Fetch(queue)) {
+        Ok(Opened::Fetched(work)) => Ok(work),
+        Ok(_) => Err(STRANGE),
+        Err(why) => Err(why),
+    }
+}
+
+/// The Work, put at the back; or it comes back.
+pub fn pushes<R: Wait>(rt: &R, hall: &Hall, hand: &mut Hand, work: Work) -> Result<(), Work>
+    requires own { IsOf hall.now hand.old }
+    requires fresh { IsFreshWork hall.now work }
+    ensures same { IsOf hall.now hand.new }
+    ensures back { IfErr result (IsFreshWork hall.now) }
+{
+    hall.works.push(rt, &mut hand.works, work)
+}
+
+/// The Work at the front.
+pub fn pops<R: Wait>(rt: &R, hall: &Hall, hand: &mut Hand) -> Option<Work>
+    requires { IsOf hall.now hand.old }
+    ensures same { IsOf hall.now hand.new }
+    ensures work { IfSome result (IsFreshWork hall.now) }
+{
+    hall.works.pop(rt, &mut hand.works)
+}
+
+/// The task, if no other caller has the lock.
+///
+/// # Errors
+///
+/// As `Engine::attempt_work`.
+pub fn attempt(
+    hall: &Hall,
+    hand: &mut Hand,
+    work: &mut Work,
+    task: Task,
+) -> Result<Answer, Declined>
+    requires own { IsOf hall.now hand.old × IsWorkOf hall.now work.old }
+    requires allowed { task_fault (duty_of work.old.work) work.old.work.ticket (its work.old)
+        (task_step task work.old.work.ticket) ≡ None }
+    ensures same { IsOf hall.now hand.new × IsWorkOf hall.now work.new }
+    ensures posted { IfOk result (IsAnswerPosted (config_of hand.new.pass) (entries (seen hand.new.pass))
+        work.new.queue) }
+{
+    hall.engine.attempt_work(&mut hand.pass, work, task)
+}
+
+/// A Notice of what was posted, where that is a completion and there is one completion queue.
+///
+/// # Errors
+///
+/// The number of want of memory.
+pub fn noted(
+    hall: &Hall,
+    hand: &mut Hand,
+    _work: &Work,
+    answer: &Answer,
+) -> Result<Option<Notice>, u8>
+    requires own { IsOf hall.now hand.old }
+    requires posted { IsAnswerPosted (config_of hand.old.pass) (entries (seen hand.old.pass)) _work.now.queue
+        answer.now }
+    ensures same { IsOf hall.now hand.new }
+    ensures notice { IfOk result (λ n. IfSome n (IsNoticeOf hall.now.engine)) }
+{
+    let Answer::Posted(cqe) = answer else {
+        return Ok(None);
+    };
+    if hall.config.numbers().cqs != 1 {
+        return Ok(None);
+    }
+    match Notice::new(&hall.engine, &mut hand.pass, 1, *cqe) {
+        Ok(notice) => Ok(Some(notice)),
+        Err(_) => Err(NO_MEMORY),
+    }
+}
+
+/// That Notice, put into the queue; whether there was room and memory for it.
+pub fn tells<R: Wait>(rt: &R, hall: &Hall, hand: &mut Hand, _work: &Work, answer: &Answer) -> bool
+    requires own { IsOf hall.now hand.old }
+    requires posted { IsAnswerPosted (config_of hand.old.pass) (entries (seen hand.old.pass)) _work.now.queue
+        answer.now }
+    ensures { IsOf hall.now hand.new }
+{
+    match noted(hall, hand, _work, answer) {
+        Ok(Some(notice)) => hall.notices.push(rt, &mut hand.notices, notice).is_ok(),
+        Ok(None) => true,
+        Err(_) => false,
+    }
+}
+
+/// The answer to the task that is next, asked again while another caller has the lock; None where there is none. What
+/// was posted is told.
+///
+/// # Errors
+///
+/// The number of its refusal.
+pub fn works<R: Wait>(
+    rt: &R,
+    hall: &Hall,
+    hand: &mut Hand,
+    work: &mut Work,
+) -> Result<Option<Answer>, u8>
+    requires { IsOf hall.now hand.old × IsWorkOf hall.now work.old }
+    ensures { IsOf hall.now hand.new × IsWorkOf hall.now work.new }
+{
+    for _ in rt.forever() {
+        let Some(task) = work.next_task() else {
+            return Ok(None);
+        };
+        match attempt(hall, hand, work, task) {
+            Ok(answer) => {
+                if !tells(rt, hall, hand, work, &answer) {
+                    return Err(NO_MEMORY);
+                }
+                return Ok(Some(answer));
+            }
+            Err(Declined::Refused(refused)) => return Err(number(refused)),
+            Err(Declined::Busy(_)) => {}
+        }
+        yield_now();
+    }
+    unreachable!()
+}
+
+/// Learns one notice, if one is there; whether there was.
+///
+/// # Errors
+///
+/// A number, where another caller had the lock.
+pub fn learns<R: Wait>(rt: &R, hall: &Hall, hand: &mut Hand) -> Result<bool, u8>
+    requires { IsOf hall.now hand.old }
+    ensures { IsOf hall.now hand.new }
+{
+    let Some(mut notice) = hall.notices.pop(rt, &mut hand.notices) else {
+        return Ok(false);
+    };
+    match hall.engine.learn(&mut hand.pass, &mut notice) {
+        Ok(()) => Ok(true),
+        Err(_) => Err(STRANGE),
+    }
+}
