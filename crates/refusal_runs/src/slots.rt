@@ -142,6 +142,32 @@ fn grants<R: Wait>(
         && ends(rt, bench, server, slots, claimant, told) == want.1
 }
 
+// Host 1 or host 2 in its turn; the other waits.
+fn turn<R: Wait>(
+    rt: &R,
+    bench: &Bench,
+    server: &mut Server,
+    slots: &Slots,
+    one: &mut Claimant<'_>,
+    two: &mut Claimant<'_>,
+    asked: (u16, Wish, Came),
+    told: &mut u64,
+) -> bool
+    requires server { IsServerOf bench.now server.old }
+    requires one { IsClaimant bench.now slots.now one.old }
+    requires two { IsClaimant bench.now slots.now two.old }
+    requires slots { 0 < (area slots.now).blocks }
+    ensures server { IsServerOf bench.now server.new }
+    ensures one { IsClaimant bench.now slots.now one.new }
+    ensures two { IsClaimant bench.now slots.now two.new }
+{
+    let want = (asked.1, asked.2);
+    if asked.0 == 1 {
+        return grants(rt, bench, server, slots, one, want, told);
+    }
+    grants(rt, bench, server, slots, two, want, told)
+}
+
 // Both in turn; whether all came of it that is wanted.
 fn turns<R: Wait>(
     rt: &R,
@@ -158,12 +184,8 @@ fn turns<R: Wait>(
     requires slots { 0 < (area slots.now).blocks }
     ensures { IsServerOf bench.now server.new }
 {
-    for (host, wish, came) in TURN {
-        let is_so = match host {
-            1 => grants(rt, bench, server, slots, one, (wish, came), told),
-            _ => grants(rt, bench, server, slots, two, (wish, came), told),
-        };
-        if !is_so {
+    for asked in TURN {
+        if !turn(rt, bench, server, slots, one, two, asked, told) {
             return false;
         }
     }

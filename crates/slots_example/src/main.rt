@@ -4,7 +4,6 @@
 use driver_rows::{Came, claimants_of, claims, leaves, releases, small_bench};
 use slot_alloc::Slots;
 use std::io;
-use std::process::ExitCode;
 use std::sync::Wait;
 
 // What comes of the claims and the release, and what host 2 leaves: a slot and a serial.
@@ -31,9 +30,9 @@ fn says<R: Print>(rt: &R, came: [Came; 4], left: Option<(u32, u64)>) -> io::Resu
     println!(rt; "host 2 leaves it held, slot and serial: {left:?}")
 }
 
-fn main(rt: HostRuntime) -> ExitCode {
+fn main(rt: HostRuntime) -> io::Result<()> {
     match runs(&rt) {
-        Some((came, left)) if says(&rt, came, left).is_ok() => ExitCode::SUCCESS,
-        _ => ExitCode::FAILURE,
+        Some((came, left)) => says(&rt, came, left),
+        None => println!(rt; "no memory"),
     }
 }

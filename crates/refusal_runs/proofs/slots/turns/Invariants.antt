@@ -2,5 +2,5 @@ use Rattle.driver_rows.specs.Benches.{IsServerOf}
 use Rattle.driver_rows.specs.Claimants.{IsClaimant}
 use Rattle.refusal_runs.proofs.slots.turns.Given as goal
 
-abbrev pub invariant-loop-host : goal.invariant-loop-host
-invariant-loop-host g l = IsServerOf l.bench l.server × IsClaimant l.bench l.slots l.one × IsClaimant l.bench l.slots l.two
+abbrev pub invariant-loop-asked : goal.invariant-loop-host
+invariant-loop-asked g l = IsServerOf l.bench l.server × IsClaimant l.bench l.slots l.one × IsClaimant l.bench l.slots l.two
