@@ -7,8 +7,8 @@ use std::sync::Wait;
 
 // Writes A1 to block 2, and then, where that is there, B2.
 fn runs<R: AllocGlobal + Print + Wait>(rt: &R) -> Option<()> {
-    let (bench, mut spares) = small_bench(rt.alloc())?;
-    let (mut server, mut host) = desk_of(rt.alloc(), &bench, &mut spares)?;
+    let (bench, mut spares) = small_bench(rt.alloc(), 4, 2)?;
+    let (mut server, mut host) = desk_of(rt.alloc(), &bench, &mut spares, 2)?;
     let Ok(write) = host.driver.start_write(2, &[0xa1; 512]) else {
         return None;
     };

@@ -8,7 +8,7 @@ use driver_rows::{Ask, Fake, Told};
 use std::alloc::Global;
 use std::process::Abort;
 
-#[derive(Clone, Copy, Debug)]
+#[derive(Clone, Copy)]
 pub(crate) enum Act {
     /// Begins so many of these calls. Each is begun, and is in flight behind the others.
     Begin(u16, Ask),

@@ -4,9 +4,9 @@ ghost use Rattle.std.specs.List.Sorted.{IsStrictlyIncreasing};
 ghost use Rattle.std.specs.Prelude.{◌≤◌, length};
 
 use crate::acts::{Act, acts_all};
-use crate::sent::{Sent, driver_of, good, one, published, two};
+use crate::sent::{Sent, one, published, two};
 use driver_cas::{Fault, PortFault};
-use driver_rows::{Ask, Fill, Script, Told};
+use driver_rows::{Ask, Fill, Script, Told, driver_of, good};
 use std::alloc::Global;
 use std::process::Abort;
 use std::test::Fail;
@@ -23,7 +23,7 @@ fn publishes<R: Abort>(
     rt: &R,
     alloc: Global,
     queues: &[u16],
-    answers: (&[PortFault], &[Script]),
+    answers: (&[Option<PortFault>], &[Script]),
     acts: &[Act],
     count: usize,
     last: &[Sent],
@@ -31,7 +31,7 @@ fn publishes<R: Abort>(
     requires some { 1 ≤ length queues.now }
     requires rising { IsStrictlyIncreasing queues.now }
 {
-    let mut driver = driver_of(alloc, queues, answers.0, answers.1)?;
+    let mut driver = driver_of(alloc, queues, 1, answers.0, answers.1).ok_or("memory")?;
     acts_all(rt, alloc, &mut driver, acts);
     let all = published(alloc, driver)?;
     assert_eq!(rt; all.len(), count);
@@ -197,7 +197,7 @@ fn a_pair_keeps_both_till_both_have_ended(rt: HostRuntime) -> Result<(), Fail> {
 fn tries<R: Abort>(
     rt: &R,
     alloc: Global,
-    refusals: &[PortFault],
+    refusals: &[Option<PortFault>],
     acts: &[Act],
     all: &[Sent],
 ) -> Result<(), Fail> {
@@ -210,19 +210,19 @@ fn tries<R: Abort>(
 fn the_next_queue_is_tried_after_ring_full(rt: HostRuntime) -> Result<(), Fail> {
     let acts = [Act::Begin(2, READ)];
     let all = [one(2, 0), one(1, 0)];
-    tries(&rt, rt.alloc(), &[PortFault::RingFull], &acts, &all)?;
+    tries(&rt, rt.alloc(), &[Some(PortFault::RingFull)], &acts, &all)?;
     let acts = [Act::Refused(READ, FULL), Act::Begin(1, PAIR)];
-    let both = [PortFault::RingFull, PortFault::RingFull];
+    let both = [Some(PortFault::RingFull), Some(PortFault::RingFull)];
     tries(&rt, rt.alloc(), &both, &acts, &[two(1, 0, 1)])?;
     let acts = [Act::Refused(PAIR, Fault::Busy), Act::Begin(1, READ)];
-    let second = [PortFault::Busy, PortFault::RingFull];
+    let second = [Some(PortFault::Busy), Some(PortFault::RingFull)];
     tries(&rt, rt.alloc(), &second, &acts, &[one(1, 0)])?;
     for (refusal, fault) in [
         (PortFault::Busy, Fault::Busy),
         (PortFault::NoMemory, Fault::NoMemory),
     ] {
         let acts = [Act::Refused(READ, fault), Act::Begin(1, PAIR)];
-        let first = [PortFault::RingFull, refusal];
+        let first = [Some(PortFault::RingFull), Some(refusal)];
         tries(&rt, rt.alloc(), &first, &acts, &[two(2, 0, 1)])?;
     }
     Ok(())

@@ -3,9 +3,8 @@
 ghost use Rattle.std.specs.Prelude.{◌≡◌};
 ghost use Rattle.driver_cas.specs.Drivers.{area_of};
 
-use crate::sent::driver_of;
 use driver_cas::{Driver, Fault, PortFault};
-use driver_rows::{Ask, Did, Fake, Fill, begins};
+use driver_rows::{Ask, Did, Fake, Fill, begins, driver_of};
 use nvme_model::submission::Submission;
 use std::alloc::Global;
 use std::process::Abort;
@@ -61,20 +60,31 @@ fn one_alike(one: Driver<Fake>, two: Driver<Fake>) -> bool {
     queue == other && same_items(batch.as_slice(), same.as_slice())
 }
 
-// A driver that began the call after these faults; a claim gets serial 1.
-fn begins_after<R: Abort>(
+// Begins the call after these faults; a claim gets serial 1.
+fn begins_after<R: Abort>(rt: &R, driver: &mut Driver<Fake>, start: Start, faults: &[Fault])
+    requires { area_of driver.old ≡ record { slba = 0; blocks = 1 } }
+{
+    for fault in faults {
+        let begun = starts(driver, start);
+        assert_eq!(rt; begun, Err(*fault), "{start:?}");
+    }
+    let serial = if matches!(start, Start::Claims) { 1 } else { 0 };
+    let begun = starts(driver, start);
+    assert_eq!(rt; begun, Ok(serial), "{start:?}");
+}
+
+// A driver that began the call after these refusals.
+fn begun<R: Abort>(
     rt: &R,
     alloc: Global,
     start: Start,
-    refusals: &[PortFault],
+    refusals: &[Option<PortFault>],
     faults: &[Fault],
 ) -> Result<Driver<Fake>, Fail> {
-    let mut driver = driver_of(alloc, &[1], refusals, &[])?;
-    for fault in faults {
-        assert_eq!(rt; starts(&mut driver, start), Err(*fault), "{start:?}");
-    }
-    let serial = if matches!(start, Start::Claims) { 1 } else { 0 };
-    assert_eq!(rt; starts(&mut driver, start), Ok(serial), "{start:?}");
+    let Some(mut driver) = driver_of(alloc, &[1], 1, refusals, &[]) else {
+        return Err(Fail::from("a driver"));
+    };
+    begins_after(rt, &mut driver, start, faults);
     Ok(driver)
 }
 
@@ -86,8 +96,8 @@ fn as_before<R: Abort>(
     refusal: PortFault,
     fault: Fault,
 ) -> Result<(), Fail> {
-    let driver = begins_after(rt, alloc, start, &[refusal], &[fault])?;
-    let other = begins_after(rt, alloc, start, &[], &[])?;
+    let driver = begun(rt, alloc, start, &[Some(refusal)], &[fault])?;
+    let other = begun(rt, alloc, start, &[], &[])?;
     assert!(rt; one_alike(driver, other), "{start:?}");
     Ok(())
 }
@@ -121,7 +131,7 @@ fn all_begin<R: Abort>(rt: &R, driver: &mut Driver<Fake>, all: &[(u8, Start, Res
 // No serial is used up.
 #[test]
 fn a_claim_needs_two_identifiers(rt: HostRuntime) -> Result<(), Fail> {
-    let mut driver = driver_of(rt.alloc(), &[1], &[], &[])?;
+    let mut driver = driver_of(rt.alloc(), &[1], 1, &[], &[]).ok_or("memory")?;
     let all = [
         (1, Start::Claims, Ok(1)),
         (61, STARTS[0], Ok(0)),

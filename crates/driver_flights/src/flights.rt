@@ -9,7 +9,7 @@ use driver_rows::{Ask, Told, begins, polled};
 use std::alloc::Global;
 
 /// No calls.
-pub fn no_calls<P: Port>(alloc: Global, driver: &Driver<P>) -> Vec<Call<P>>
+pub(crate) fn no_calls<P: Port>(alloc: Global, driver: &Driver<P>) -> Vec<Call<P>>
     ensures { AreCallsOf driver.now result.items }
 {
     let _ = driver;
@@ -21,7 +21,7 @@ pub fn no_calls<P: Port>(alloc: Global, driver: &Driver<P>) -> Vec<Call<P>>
 /// # Errors
 ///
 /// What the driver answers, and `NoMemory` where there is no room for one call more; the others stay.
-pub fn begins_one<P: Port>(
+pub(crate) fn begins_one<P: Port>(
     driver: &mut Driver<P>,
     calls: &mut Vec<Call<P>>,
     ask: Ask,
@@ -54,7 +54,7 @@ fn takes<P: Port>(driver: &Driver<P>, calls: &mut Vec<Call<P>>, place: usize) ->
 /// Polls the call at a place, the first at 0, until it is answered, at most so many times: what it was told, and how
 /// often it was polled. It is in flight no longer, and one that wasn't answered keeps its identifiers. None where there
 /// is no such call.
-pub fn ends_one<P: Port>(
+pub(crate) fn ends_one<P: Port>(
     driver: &mut Driver<P>,
     calls: &mut Vec<Call<P>>,
     place: usize,

@@ -3,7 +3,7 @@
 ghost use Rattle.std.specs.Prelude.{◌≡◌, ◌≤◌, IfOk, IfSome, true};
 ghost use Rattle.history.specs.Config.{numbers};
 ghost use Rattle.driver_rows.specs.Benches.{AreOf, IsHostOf, IsServerOf, uses};
-ghost use Rattle.driver_flights.specs.Flights.{IsFlightOf};
+ghost use Rattle.driver_flights.specs.Flights.{AreInFlight};
 
 use crate::under_way::{Flight, flight_of};
 use driver_rows::{Bench, Host, Server, Spares, hand_of, host_of};
@@ -28,7 +28,7 @@ pub(crate) fn server_of(bench: &Bench, spares: &mut Spares) -> Result<Server, Fa
 // With no call in flight, where it was made.
 fn flying<'a>(alloc: Global, bench: &'a Bench, made: Option<Host<'a>>) -> Result<Flight<'a>, Fail>
     requires { IfSome made (IsHostOf bench.now) }
-    ensures { IfOk result (IsFlightOf bench.entry.now) }
+    ensures { IfOk result (λ f. AreInFlight bench.entry.now f.host f.calls.items) }
 {
     match made {
         Some(host) => Ok(flight_of(alloc, bench, host)),
@@ -46,7 +46,7 @@ pub(crate) fn on_both<'a>(
     requires some { 1 ≤ bench.now.config.cqs }
     requires one { uses bench.now.config 1 1 ≡ true }
     requires two { uses bench.now.config 1 2 ≡ true }
-    ensures { IfOk result (IsFlightOf bench.entry.now) }
+    ensures { IfOk result (λ f. AreInFlight bench.entry.now f.host f.calls.items) }
 {
     let queues = [1, 2].to_vec(alloc)?;
     let hand = server_of(bench, spares)?;
@@ -65,7 +65,7 @@ pub(crate) fn on_first<'a>(
 ) -> Result<Flight<'a>, Fail>
     requires hand { IsServerOf bench.now hand }
     requires config { bench.now.config ≡ numbers 8 1 1 0 0 2 4 4 8 2 }
-    ensures { IfOk result (IsFlightOf bench.entry.now) }
+    ensures { IfOk result (λ f. AreInFlight bench.entry.now f.host f.calls.items) }
 {
     let queues = [1].to_vec(alloc)?;
     flying(
@@ -83,7 +83,7 @@ pub(crate) fn on_second<'a>(
 ) -> Result<Flight<'a>, Fail>
     requires hand { IsServerOf bench.now hand }
     requires config { bench.now.config ≡ numbers 8 1 1 0 0 2 4 4 8 2 }
-    ensures { IfOk result (IsFlightOf bench.entry.now) }
+    ensures { IfOk result (λ f. AreInFlight bench.entry.now f.host f.calls.items) }
 {
     let queues = [2].to_vec(alloc)?;
     flying(

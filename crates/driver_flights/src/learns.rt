@@ -1,37 +1,26 @@
 //! What hosts learn of others: by meeting them, and by notices.
 
-ghost use Rattle.std.specs.Prelude.{◌≡◌, IfOk};
+ghost use Rattle.std.specs.Prelude.{◌≡◌};
 ghost use Rattle.history.specs.Config.{numbers};
 ghost use Rattle.driver_rows.specs.Benches.{AreOf, IsServerOf};
-ghost use Rattle.driver_flights.specs.Flights.{IsFlightOf};
+ghost use Rattle.driver_flights.specs.Flights.{AreInFlight};
 
 use crate::full::core_after;
 use crate::hands::{on_first, on_second, server_of};
 use crate::turns::{Turn, turns};
 use crate::under_way::{Flight, meets};
-use driver_rows::{Ask, Bench, Fill, Server, Spares, Told, bench_of};
-use history::Config;
+use driver_rows::{Ask, Bench, Fill, Server, Spares, Told, small_bench};
 use history_check::check;
 use lock_rows::text;
 use std::alloc::Global;
 use std::process::Abort;
 use std::sync::Wait;
 use std::test::Fail;
+use step_core::Core;
 
 const READ: Ask = Ask::Read(2, 1);
 
 const ZEROS: Told = Told::Read(512, 0);
-
-// A bench of `config 8 1 1 0 0 2 4 4 8` with three passes.
-fn small(alloc: Global) -> Result<(Bench, Spares), Fail>
-    ensures own { IfOk result (λ b. AreOf b.0 b.1) }
-    ensures config { IfOk result (λ b. b.0.config ≡ numbers 8 1 1 0 0 2 4 4 8 2) }
-{
-    let Ok(config) = Config::new(8, 1, 1, 0, 0, 2, 4, 4, 8) else {
-        return Err(Fail::from("the configuration is refused"));
-    };
-    Ok(bench_of(alloc, config, 4, 3)?)
-}
 
 /// What one of two hosts does with a server, or both.
 #[derive(Clone, Copy)]
@@ -51,8 +40,12 @@ fn does<R: Abort + Wait>(
     two: &mut Flight<'_>,
     deed: Deed,
 )
-    requires { IsServerOf bench.now server.old × IsFlightOf bench.now one.old × IsFlightOf bench.now two.old }
-    ensures { IsServerOf bench.now server.new × IsFlightOf bench.now one.new × IsFlightOf bench.now two.new }
+    requires server { IsServerOf bench.now server.old }
+    requires one { AreInFlight bench.now one.old.host one.old.calls.items }
+    requires two { AreInFlight bench.now two.old.host two.old.calls.items }
+    ensures server { IsServerOf bench.now server.new }
+    ensures one { AreInFlight bench.now one.new.host one.new.calls.items }
+    ensures two { AreInFlight bench.now two.new.host two.new.calls.items }
 {
     match deed {
         Deed::One(turn) => turns(rt, bench, server, one, turn),
@@ -70,8 +63,12 @@ fn does_all<R: Abort + Wait>(
     two: &mut Flight<'_>,
     all: &[Deed],
 )
-    requires { IsServerOf bench.now server.old × IsFlightOf bench.now one.old × IsFlightOf bench.now two.old }
-    ensures { IsServerOf bench.now server.new × IsFlightOf bench.now one.new × IsFlightOf bench.now two.new }
+    requires server { IsServerOf bench.now server.old }
+    requires one { AreInFlight bench.now one.old.host one.old.calls.items }
+    requires two { AreInFlight bench.now two.old.host two.old.calls.items }
+    ensures server { IsServerOf bench.now server.new }
+    ensures one { AreInFlight bench.now one.new.host one.new.calls.items }
+    ensures two { AreInFlight bench.now two.new.host two.new.calls.items }
 {
     for deed in all {
         does(rt, bench, server, one, two, *deed);
@@ -98,7 +95,7 @@ fn both_do<R: Abort + Wait>(
 
 // On a bench of their own.
 fn hosts_do<R: Abort + Wait>(rt: &R, alloc: Global, all: &[Deed]) -> Result<(), Fail> {
-    let (bench, mut spares) = small(alloc)?;
+    let (bench, mut spares) = small_bench(alloc, 4, 3).ok_or("memory")?;
     both_do(rt, alloc, &bench, &mut spares, all)
 }
 
@@ -181,6 +178,14 @@ post 1 00000000000000000100010000000100 -
 reap 1 00000000000000000100010000000100
 ";
 
+// That the history of a controller is these lines, and legal.
+fn is_written<R: Abort>(rt: &R, alloc: Global, core: &Core) -> Result<(), Fail> {
+    let entries = core.history().as_slice();
+    assert!(rt; check(alloc, &core.config(), entries).is_ok());
+    assert!(rt; text(alloc, entries)?.as_slice() == LINES);
+    Ok(())
+}
+
 #[test]
 fn the_pass_comes_back(rt: HostRuntime) -> Result<(), Fail> {
     let turns = [
@@ -190,8 +195,5 @@ fn the_pass_comes_back(rt: HostRuntime) -> Result<(), Fail> {
         Turn::End(0, 1, Told::Written),
     ];
     let core = core_after(&rt, rt.alloc(), 4, &turns)?;
-    let entries = core.history().as_slice();
-    assert!(rt; check(rt.alloc(), &core.config(), entries).is_ok());
-    assert!(rt; text(rt.alloc(), entries)?.as_slice() == LINES);
-    Ok(())
+    is_written(&rt, rt.alloc(), &core)
 }

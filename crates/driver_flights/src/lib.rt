@@ -1,4 +1,5 @@
-//! Many calls of one driver in flight, its command identifiers, and what it learns of others, as tests.
+//! Tests of a driver: what its calls are answered, by a controller and by a port that answers what it is told to; many
+//! calls in flight; command identifiers; and what hosts learn of others.
 #![tactic(auto)]
 
 #[cfg(test)]
@@ -7,23 +8,23 @@ mod acts;
 mod cids;
 #[cfg(test)]
 mod faults;
+#[cfg(test)]
 mod flights;
 #[cfg(test)]
 mod full;
 #[cfg(test)]
 mod hands;
 #[cfg(test)]
+mod hostile;
+#[cfg(test)]
 mod learns;
+#[cfg(test)]
+mod rows;
 #[cfg(test)]
 mod sent;
 #[cfg(test)]
 mod turns;
+#[cfg(test)]
 mod under_way;
 #[cfg(test)]
 mod wide;
-
-pub use flights::{begins_one, ends_one, no_calls};
-pub use under_way::{
-    Flight, ends_newest, fetches_all, flight_of, hears_all, lands, launches, listens, meets,
-    pass_of,
-};

@@ -1,7 +1,7 @@
 //! What a test has a host and a server do, in turn.
 
 ghost use Rattle.driver_rows.specs.Benches.{IsServerOf};
-ghost use Rattle.driver_flights.specs.Flights.{IsFlightOf};
+ghost use Rattle.driver_flights.specs.Flights.{AreInFlight};
 
 use crate::under_way::{Flight, lands, launches, listens};
 use driver_cas::Fault;
@@ -9,7 +9,7 @@ use driver_rows::{Ask, Bench, Server, Told, serves};
 use std::process::Abort;
 use std::sync::Wait;
 
-#[derive(Clone, Copy, Debug)]
+#[derive(Clone, Copy)]
 pub(crate) enum Turn {
     /// The host begins a call. It is in flight behind the others.
     Begin(Ask),
@@ -32,8 +32,8 @@ pub(crate) fn turns<R: Abort + Wait>(
     flight: &mut Flight<'_>,
     turn: Turn,
 )
-    requires { IsServerOf bench.now server.old × IsFlightOf bench.now flight.old }
-    ensures { IsServerOf bench.now server.new × IsFlightOf bench.now flight.new }
+    requires { IsServerOf bench.now server.old × AreInFlight bench.now flight.old.host flight.old.calls.items }
+    ensures { IsServerOf bench.now server.new × AreInFlight bench.now flight.new.host flight.new.calls.items }
 {
     match turn {
         Turn::Begin(ask) => {
@@ -66,8 +66,8 @@ pub(crate) fn turns_all<R: Abort + Wait>(
     flight: &mut Flight<'_>,
     all: &[Turn],
 )
-    requires { IsServerOf bench.now server.old × IsFlightOf bench.now flight.old }
-    ensures { IsServerOf bench.now server.new × IsFlightOf bench.now flight.new }
+    requires { IsServerOf bench.now server.old × AreInFlight bench.now flight.old.host flight.old.calls.items }
+    ensures { IsServerOf bench.now server.new × AreInFlight bench.now flight.new.host flight.new.calls.items }
 {
     for turn in all {
         turns(rt, bench, server, flight, *turn);

@@ -1,9 +1,9 @@
 //! A host with its calls in flight, and the Works of a server that aren't begun.
 
-ghost use Rattle.std.specs.Prelude.{◌≡◌, All, true};
+ghost use Rattle.std.specs.Prelude.{All};
 ghost use Rattle.work_queue.specs.Engines.{IsOf, IsWorkOf};
 ghost use Rattle.driver_rows.specs.Benches.{IsHostOf, IsServerOf};
-ghost use Rattle.driver_flights.specs.Flights.{HaveMet, IsFlightOf};
+ghost use Rattle.driver_flights.specs.Flights.{AreInFlight};
 
 use crate::flights::{begins_one, ends_one, no_calls};
 use driver_cas::{Call, Fault, SharedPort};
@@ -16,15 +16,15 @@ use work_queue::Work;
 
 /// A host with its calls in flight.
 #[derive(Drop)]
-pub struct Flight<'a> {
-    pub host: Host<'a>,
-    pub calls: Vec<Call<SharedPort<'a>>>,
+pub(crate) struct Flight<'a> {
+    pub(crate) host: Host<'a>,
+    pub(crate) calls: Vec<Call<SharedPort<'a>>>,
 }
 
 /// A host with no call in flight.
-pub fn flight_of<'a>(alloc: Global, bench: &Bench, host: Host<'a>) -> Flight<'a>
+pub(crate) fn flight_of<'a>(alloc: Global, bench: &Bench, host: Host<'a>) -> Flight<'a>
     requires { IsHostOf bench.now host }
-    ensures { IsFlightOf bench.now result }
+    ensures { AreInFlight bench.now result.host result.calls.items }
 {
     let _ = bench;
     let calls = no_calls(alloc, &host.driver);
@@ -36,9 +36,9 @@ pub fn flight_of<'a>(alloc: Global, bench: &Bench, host: Host<'a>) -> Flight<'a>
 /// # Errors
 ///
 /// What the driver answers, and `NoMemory` where there is no room for one call more; the others stay.
-pub fn launches(bench: &Bench, flight: &mut Flight<'_>, ask: Ask) -> Result<(), Fault>
-    requires { IsFlightOf bench.now flight.old }
-    ensures { IsFlightOf bench.now flight.new }
+pub(crate) fn launches(bench: &Bench, flight: &mut Flight<'_>, ask: Ask) -> Result<(), Fault>
+    requires { AreInFlight bench.now flight.old.host flight.old.calls.items }
+    ensures { AreInFlight bench.now flight.new.host flight.new.calls.items }
 {
     let _ = bench;
     begins_one(&mut flight.host.driver, &mut flight.calls, ask)
@@ -46,44 +46,50 @@ pub fn launches(bench: &Bench, flight: &mut Flight<'_>, ask: Ask) -> Result<(), 
 
 /// Polls the call at a place, the first at 0, until it is answered, at most so many times: what it was told, and how
 /// often it was polled. It is in flight no longer. None where there is no such call.
-pub fn lands(bench: &Bench, flight: &mut Flight<'_>, place: usize, most: u32) -> Option<(Told, u32)>
-    requires { IsFlightOf bench.now flight.old }
-    ensures { IsFlightOf bench.now flight.new }
+pub(crate) fn lands(
+    bench: &Bench,
+    flight: &mut Flight<'_>,
+    place: usize,
+    most: u32,
+) -> Option<(Told, u32)>
+    requires { AreInFlight bench.now flight.old.host flight.old.calls.items }
+    ensures { AreInFlight bench.now flight.new.host flight.new.calls.items }
 {
     let _ = bench;
     ends_one(&mut flight.host.driver, &mut flight.calls, place, most)
 }
 
 /// Learns all notices that are there; how many.
-pub fn hears_all<R: Wait>(rt: &R, bench: &Bench, flight: &mut Flight<'_>) -> u32
-    requires { IsFlightOf bench.now flight.old }
-    ensures { IsFlightOf bench.now flight.new }
+pub(crate) fn hears_all<R: Wait>(rt: &R, bench: &Bench, flight: &mut Flight<'_>) -> u32
+    requires { AreInFlight bench.now flight.old.host flight.old.calls.items }
+    ensures { AreInFlight bench.now flight.new.host flight.new.calls.items }
 {
     hears(rt, bench, &mut flight.host)
 }
 
 /// Takes at most one notice; whether it took one.
-pub fn listens<R: Wait>(rt: &R, bench: &Bench, flight: &mut Flight<'_>) -> bool
-    requires { IsFlightOf bench.now flight.old }
-    ensures { IsFlightOf bench.now flight.new }
+pub(crate) fn listens<R: Wait>(rt: &R, bench: &Bench, flight: &mut Flight<'_>) -> bool
+    requires { AreInFlight bench.now flight.old.host flight.old.calls.items }
+    ensures { AreInFlight bench.now flight.new.host flight.new.calls.items }
 {
     let host = &mut flight.host;
     host.driver.listen(rt, &bench.notices, &mut host.place)
 }
 
 /// Both hosts have seen the whole history so far; false where another caller had the controller.
-pub fn meets(bench: &Bench, one: &mut Flight<'_>, two: &mut Flight<'_>) -> bool
-    requires { IsFlightOf bench.now one.old × IsFlightOf bench.now two.old }
-    ensures same { IsFlightOf bench.now one.new × IsFlightOf bench.now two.new }
-    ensures met { result ≡ true → HaveMet one.old two.old one.new two.new }
+pub(crate) fn meets(bench: &Bench, one: &mut Flight<'_>, two: &mut Flight<'_>) -> bool
+    requires one { AreInFlight bench.now one.old.host one.old.calls.items }
+    requires two { AreInFlight bench.now two.old.host two.old.calls.items }
+    ensures one { AreInFlight bench.now one.new.host one.new.calls.items }
+    ensures two { AreInFlight bench.now two.new.host two.new.calls.items }
 {
     let _ = bench;
     one.host.driver.meet(&mut two.host.driver).is_ok()
 }
 
 /// The host's pass, given back.
-pub fn pass_of(bench: &Bench, flight: Flight<'_>) -> Pass<Core>
-    requires { IsFlightOf bench.now flight }
+pub(crate) fn pass_of(bench: &Bench, flight: Flight<'_>) -> Pass<Core>
+    requires { AreInFlight bench.now flight.host flight.calls.items }
     ensures { IsOf bench.now.engine result }
 {
     let _ = bench;
@@ -96,7 +102,7 @@ pub fn pass_of(bench: &Bench, flight: Flight<'_>) -> Pass<Core>
 /// # Errors
 ///
 /// `NoMemory`; a Work that there is no room for is dropped.
-pub fn fetches_all(
+pub(crate) fn fetches_all(
     bench: &Bench,
     server: &mut Server,
     queue: u16,
@@ -119,7 +125,7 @@ pub fn fetches_all(
 }
 
 /// Makes all tasks of the newest Work; whether there was one and none was refused.
-pub fn ends_newest<R: Wait>(
+pub(crate) fn ends_newest<R: Wait>(
     rt: &R,
     bench: &Bench,
     server: &mut Server,

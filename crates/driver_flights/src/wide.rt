@@ -3,7 +3,7 @@
 ghost use Rattle.std.specs.Prelude.{◌≡◌, IfOk};
 ghost use Rattle.history.specs.Config.{numbers};
 ghost use Rattle.driver_rows.specs.Benches.{AreOf, IsServerOf};
-ghost use Rattle.driver_flights.specs.Flights.{IsFlightOf};
+ghost use Rattle.driver_flights.specs.Flights.{AreInFlight};
 
 use crate::hands::{on_both, server_of};
 use crate::under_way::{Flight, ends_newest, fetches_all, hears_all, lands, launches};
@@ -60,8 +60,8 @@ fn wide(alloc: Global) -> Result<(Bench, Spares), Fail>
 
 // Begins all calls, and one too many.
 fn all_begun<R: Abort>(rt: &R, bench: &Bench, flight: &mut Flight<'_>, kind: Kind)
-    requires { IsFlightOf bench.now flight.old }
-    ensures { IsFlightOf bench.now flight.new }
+    requires { AreInFlight bench.now flight.old.host flight.old.calls.items }
+    ensures { AreInFlight bench.now flight.new.host flight.new.calls.items }
 {
     for number in 1..=CALLS {
         let begun = launches(bench, flight, ask_of(kind, number));
@@ -100,8 +100,8 @@ fn all_served<R: Abort + Wait>(
     flight: &mut Flight<'_>,
     kind: Kind,
 ) -> Result<(), NoMemory>
-    requires { IsServerOf bench.now server.old × IsFlightOf bench.now flight.old }
-    ensures { IsServerOf bench.now server.new × IsFlightOf bench.now flight.new }
+    requires { IsServerOf bench.now server.old × AreInFlight bench.now flight.old.host flight.old.calls.items }
+    ensures { IsServerOf bench.now server.new × AreInFlight bench.now flight.new.host flight.new.calls.items }
 {
     all_begun(rt, bench, flight, kind);
     all_ended(rt, alloc, bench, server)?;
@@ -111,8 +111,8 @@ fn all_served<R: Abort + Wait>(
 
 // Each is answered by its first poll, from the newest to the oldest, which is the order of their completions.
 fn newest_first<R: Abort>(rt: &R, bench: &Bench, flight: &mut Flight<'_>, kind: Kind)
-    requires { IsFlightOf bench.now flight.old }
-    ensures { IsFlightOf bench.now flight.new }
+    requires { AreInFlight bench.now flight.old.host flight.old.calls.items }
+    ensures { AreInFlight bench.now flight.new.host flight.new.calls.items }
 {
     for number in (1..=CALLS).rev() {
         let want = Some((told_of(kind, number), 1));
@@ -126,8 +126,8 @@ fn newest_first<R: Abort>(rt: &R, bench: &Bench, flight: &mut Flight<'_>, kind: 
 
 // The oldest is answered by its poll that reaps the last completion, and each other then by its first.
 fn oldest_first<R: Abort>(rt: &R, bench: &Bench, flight: &mut Flight<'_>, kind: Kind)
-    requires { IsFlightOf bench.now flight.old }
-    ensures { IsFlightOf bench.now flight.new }
+    requires { AreInFlight bench.now flight.old.host flight.old.calls.items }
+    ensures { AreInFlight bench.now flight.new.host flight.new.calls.items }
 {
     for number in 1..=CALLS {
         let polls = if number == 1 { u32::from(CALLS) } else { 1 };
@@ -144,7 +144,7 @@ fn all_kinds<R: Abort + Wait>(
     server: &mut Server,
     flight: &mut Flight<'_>,
 ) -> Result<(), Fail>
-    requires { IsServerOf bench.now server.old × IsFlightOf bench.now flight.old }
+    requires { IsServerOf bench.now server.old × AreInFlight bench.now flight.old.host flight.old.calls.items }
 {
     for kind in [Kind::Writes, Kind::Reads, Kind::Compares] {
         all_served(rt, alloc, bench, server, flight, kind)?;

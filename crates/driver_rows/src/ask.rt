@@ -11,8 +11,8 @@ use crate::bench::{Bench, Host};
 use driver_cas::{Call, Driver, Fault, Poll, Port, Reply, SharedPort};
 use std::sync::Wait;
 
-/// The most bytes of a call here.
-pub const MOST: usize = 1536;
+// The most bytes of a call here.
+const MOST: usize = 1536;
 
 /// So many bytes, at most `MOST`, all of which are this one.
 #[derive(Clone, Copy, Debug)]
@@ -72,8 +72,8 @@ fn fault_in_words(fault: Fault) -> Told {
     }
 }
 
-/// A poll in words, and the call where it comes back.
-pub fn poll_in_words<P>(poll: Poll<P>) -> (Told, Option<Call<P>>)
+// A poll in words, and the call where it comes back.
+fn poll_in_words<P>(poll: Poll<P>) -> (Told, Option<Call<P>>)
     ensures { result.1 ≡ given_back poll }
 {
     match poll {

@@ -1,7 +1,8 @@
 //! One host and one server, on one queue of a small controller.
 
-ghost use Rattle.std.specs.Prelude.{◌≡◌, ◌≤◌, IfSome, true};
+ghost use Rattle.std.specs.Prelude.{◌≡◌, ◌<◌, ◌≤◌, IfSome, true};
 ghost use Rattle.driver_cas.specs.Drivers.{IsCallOf};
+ghost use Rattle.history.specs.Config.{numbers};
 ghost use Rattle.driver_rows.specs.Benches.{AreOf, IsHostOf, IsServerOf, uses};
 
 use crate::ask::{Told, answers, hears};
@@ -13,32 +14,39 @@ use nvme_model::array::Range;
 use std::alloc::Global;
 use std::sync::Wait;
 
-/// A controller of 8 blocks and one queue pair, with passes for two; None where memory is refused.
-pub fn small_bench(alloc: Global) -> Option<(Bench, Spares)>
+/// A controller of 8 blocks and two queue pairs with one completion queue each, of `cq` places, with passes for so
+/// many; None where memory is refused.
+pub fn small_bench(alloc: Global, cq: u16, count: usize) -> Option<(Bench, Spares)>
+    requires { 0 < count }
     ensures own { IfSome result (λ b. AreOf b.0 b.1) }
-    ensures queue { IfSome result (λ b. (uses b.0.config 1 1 ≡ true) × (1 ≤ b.0.config.cqs)) }
+    ensures config { IfSome result (λ b. b.0.config ≡ numbers 8 1 1 0 0 2 4 cq 8 2) }
 {
-    let config = Config::new(8, 1, 1, 0, 0, 2, 4, 4, 8).ok()?;
-    bench_of(alloc, config, 4, 2).ok()
+    let config = Config::new(8, 1, 1, 0, 0, 2, 4, cq, 8).ok()?;
+    bench_of(alloc, config, 4, count).ok()
 }
 
-/// A server, and the host with number 1 on submission queue 1, whose slots are blocks 0 and 1; None where memory is
-/// refused or no pass is left.
+/// A server, and the host with number 1 on submission queue 1, with so many slots from block 0 on; None where memory
+/// is refused or no pass is left.
 pub fn desk_of<'a>(
     alloc: Global,
     bench: &'a Bench,
     spares: &mut Spares,
+    slots: u32,
 ) -> Option<(Server, Host<'a>)>
     requires own { AreOf bench.now spares.old }
     requires queue { (uses bench.now.config 1 1 ≡ true) × (1 ≤ bench.now.config.cqs) }
+    requires slots { slots ≤ 65536 }
     ensures server { IfSome result (λ d. IsServerOf bench.entry.now d.0) }
     ensures host { IfSome result (λ d. IsHostOf bench.entry.now d.1) }
 {
     let server = hand_of(bench, spares)?;
     let hand = hand_of(bench, spares)?;
-    let slots = Range { slba: 0, blocks: 2 };
     let queues = [1].to_vec(alloc).ok()?;
-    let host = host_of(alloc, bench, hand, 1, slots, 1, queues)?;
+    let area = Range {
+        slba: 0,
+        blocks: slots,
+    };
+    let host = host_of(alloc, bench, hand, 1, area, 1, queues)?;
     Some((server, host))
 }
 

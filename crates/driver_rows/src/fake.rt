@@ -1,8 +1,11 @@
 //! A port of the tests' own, which answers what it was told to.
 
-ghost use Rattle.std.specs.Prelude.{◌≡◌, ◌∷◌, [], IfOk};
+ghost use Rattle.std.specs.List.Sorted.{IsStrictlyIncreasing};
+ghost use Rattle.std.specs.Prelude.{◌≡◌, ◌∷◌, ◌≤◌, [], IfOk, IfSome, length};
+ghost use Rattle.driver_cas.specs.Drivers.{area_of};
 
-use driver_cas::{Port, PortFault, Reaped};
+use driver_cas::{Driver, Port, PortFault, Reaped};
+use nvme_model::array::Range;
 use nvme_model::submission::{Payload, Submissions};
 use std::alloc::{AllocError as NoMemory, Global};
 
@@ -30,6 +33,44 @@ pub struct Fake {
     pub did: Vec<Did>,
     pub refusals: Vec<Option<PortFault>>,
     pub reaps: Vec<Script>,
+}
+
+/// A completion with success for the command with this identifier of a submission queue.
+pub fn good(queue: u8, cid: u8) -> Script {
+    Script::Posted([0, 0, 0, 0, 0, 0, 0, 0, 1, 0, queue, 0, cid, 0, 1, 0])
+}
+
+/// A driver of host 1 on these submission queues, with so many slots from block 0 on, over a port that is to answer
+/// so, the next last; None where memory is refused.
+pub fn driver_of(
+    alloc: Global,
+    queues: &[u16],
+    slots: u32,
+    refusals: &[Option<PortFault>],
+    reaps: &[Script],
+) -> Option<Driver<Fake>>
+    requires some { 1 ≤ length queues.now }
+    requires rising { IsStrictlyIncreasing queues.now }
+    requires slots { slots ≤ 65536 }
+    ensures { IfSome result (λ d. area_of d ≡ record { slba = 0; blocks = slots }) }
+{
+    let queues = queues.to_vec(alloc).ok()?;
+    let refusals = refusals.to_vec(alloc).ok()?;
+    let reaps = reaps.to_vec(alloc).ok()?;
+    let port = Fake {
+        alloc,
+        did: Vec::new(alloc),
+        refusals,
+        reaps,
+    };
+    let area = Range {
+        slba: 0,
+        blocks: slots,
+    };
+    match Driver::new(alloc, port, 1, 1, area, queues) {
+        Ok(driver) => Some(driver),
+        Err(_) => None,
+    }
 }
 
 fn one_byte(alloc: Global, byte: u8) -> Result<Payload, NoMemory>

@@ -1,20 +1,21 @@
-//! A host's driver and a server of its controller on one thread, and what the driver's calls are answered, as tests.
+//! What tests of drivers and of slots, and the programs of pages, share: a host or two with a server of their
+//! controller on one thread, hosts that claim slots, and a port that answers what it is told to.
 #![tactic(auto)]
 
 mod ask;
 mod bench;
+mod claimant;
 mod desk;
 mod fake;
-#[cfg(test)]
-mod hostile;
-#[cfg(test)]
-mod rows;
 mod serve;
+mod service;
 
-pub use ask::{
-    Ask, Fill, MOST, Told, answers, begins, hears, poll_in_words, polled, polls, starts,
-};
+pub use ask::{Ask, Fill, Told, answers, begins, hears, polled, polls, starts};
 pub use bench::{Bench, Host, Server, Spares, bench_of, hand_of, host_of};
+pub use claimant::{
+    Came, Claimant, Stage, asks, claimant_of, claimants_of, gives_back, leaves, polls_begun,
+};
 pub use desk::{desk_of, served, small_bench};
-pub use fake::{Did, Fake, Script};
+pub use fake::{Did, Fake, Script, driver_of, good};
 pub use serve::{ends, fetches, makes, serves};
+pub use service::{Contents, answered, claims, is_served, reads, releases};

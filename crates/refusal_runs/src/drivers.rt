@@ -31,26 +31,46 @@ fn bench(alloc: Global, config: Config, told: &mut u64) -> Option<(Bench, Spares
     None
 }
 
-// Who served all calls, or all claims; None where one was told something else.
+// Whether all calls, or all claims, are told what is wanted.
+fn are_served<R: Wait>(
+    rt: &R,
+    alloc: Global,
+    bench: &Bench,
+    server: &mut Server,
+    spares: &mut Spares,
+    is_slots: bool,
+    told: &mut u64,
+) -> bool
+    requires own { AreOf bench.now spares.old × IsServerOf bench.now server.old }
+    requires config { bench.now.config ≡ numbers 8 1 1 0 0 2 4 4 8 2 }
+    ensures { IsServerOf bench.now server.new }
+{
+    if is_slots {
+        are_granted(rt, alloc, bench, server, spares, told)
+    } else {
+        are_answered(rt, alloc, bench, server, spares, told)
+    }
+}
+
+// Who served them; None where one was told something else.
 fn all_served<R: Wait>(
     rt: &R,
     alloc: Global,
     bench: &Bench,
-    mut spares: Spares,
+    spares: &mut Spares,
     is_slots: bool,
     told: &mut u64,
 ) -> Option<Server>
-    requires own { AreOf bench.now spares }
+    requires own { AreOf bench.now spares.old }
     requires config { bench.now.config ≡ numbers 8 1 1 0 0 2 4 4 8 2 }
     ensures { IfSome result (IsServerOf bench.now) }
 {
-    let mut server = hand_of(bench, &mut spares)?;
-    let is_served = if is_slots {
-        are_granted(rt, alloc, bench, &mut server, &mut spares, told)
+    let mut server = hand_of(bench, spares)?;
+    if are_served(rt, alloc, bench, &mut server, spares, is_slots, told) {
+        Some(server)
     } else {
-        are_answered(rt, alloc, bench, &mut server, &mut spares, told)
-    };
-    is_served.then_some(server)
+        None
+    }
 }
 
 // The controller of a bench whose hosts are gone.
@@ -71,7 +91,7 @@ pub(crate) fn by_driver<R: Wait>(
     let Ok(config) = Config::new(8, 1, 1, 0, 0, 2, 4, 4, 8) else {
         return None;
     };
-    let (bench, spares) = bench(alloc, config, told)?;
-    let server = all_served(rt, alloc, &bench, spares, is_slots, told)?;
+    let (bench, mut spares) = bench(alloc, config, told)?;
+    let server = all_served(rt, alloc, &bench, &mut spares, is_slots, told)?;
     closes(bench, server)
 }

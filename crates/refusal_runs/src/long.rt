@@ -47,12 +47,6 @@ fn publishes(alloc: Global, core: &mut Core, blocks: usize, is_first: bool) -> b
     }
 }
 
-/// Publishes so many blocks at once.
-pub(crate) fn publish_long(alloc: Global, blocks: usize, is_first: bool) -> Option<()> {
-    let mut core = controller(alloc)?;
-    publishes(alloc, &mut core, blocks, is_first).then_some(())
-}
-
 // So many blocks of a unit of the most there are.
 fn writes(alloc: Global, core: &mut Core, blocks: usize) -> bool {
     if !publishes(alloc, core, MOST, false) {
@@ -69,8 +63,18 @@ fn writes(alloc: Global, core: &mut Core, blocks: usize) -> bool {
     true
 }
 
-/// Writes so many blocks of a unit of the most there are.
-pub(crate) fn write_long(alloc: Global, blocks: usize) -> Option<()> {
+/// Publishes so many blocks at once, or writes so many of a unit of the most there are.
+pub(crate) fn make_long(
+    alloc: Global,
+    blocks: usize,
+    is_write: bool,
+    is_first: bool,
+) -> Option<()> {
     let mut core = controller(alloc)?;
-    writes(alloc, &mut core, blocks).then_some(())
+    let is_done = if is_write {
+        writes(alloc, &mut core, blocks)
+    } else {
+        publishes(alloc, &mut core, blocks, is_first)
+    };
+    is_done.then_some(())
 }

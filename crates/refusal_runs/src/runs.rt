@@ -125,21 +125,29 @@ fn make_each(shared: &Shared<Core>, pass: &mut Pass<Core>, steps: Vec<Step>, tol
     }
 }
 
-/// All steps by the one pass of a lock, which is asked for again after want of memory.
-pub(crate) fn by_a_pass(alloc: Global, run: Run, told: &mut u64) -> Option<Core> {
-    let mut core = controller(alloc, run.config, told)?;
+// A lock of a new controller and its one pass, asked for again after want of memory.
+fn locked(alloc: Global, config: Config, told: &mut u64) -> Option<(Shared<Core>, Pass<Core>)>
+    ensures { IfSome result (λ l. IsOf l.0 l.1) }
+{
+    let mut core = controller(alloc, config, told)?;
     for _ in 0..TURNS {
         match Shared::new(alloc, core, 1) {
             Ok((shared, mut passes)) => {
-                let mut pass = passes.pop()?;
-                make_each(&shared, &mut pass, run.steps, told);
-                return shared.close(pass);
+                let pass = passes.pop()?;
+                return Some((shared, pass));
             }
             Err((back, _)) => core = back,
         }
         *told = told.wrapping_add(1);
     }
     None
+}
+
+/// All steps by the one pass of a lock.
+pub(crate) fn by_a_pass(alloc: Global, run: Run, told: &mut u64) -> Option<Core> {
+    let (shared, mut pass) = locked(alloc, run.config, told)?;
+    make_each(&shared, &mut pass, run.steps, told);
+    shared.close(pass)
 }
 
 /// How many of these answers are want of memory.

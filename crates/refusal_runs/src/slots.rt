@@ -3,15 +3,17 @@
 ghost use Rattle.std.specs.Prelude.{◌≡◌, ◌<◌, ◌≤◌, IfSome};
 ghost use Rattle.history.specs.Config.{numbers};
 ghost use Rattle.driver_rows.specs.Benches.{AreOf, IsServerOf};
+ghost use Rattle.driver_rows.specs.Claimants.{IsClaimant};
 ghost use Rattle.slot_alloc.specs.Areas.{area};
-ghost use Rattle.slot_rows.specs.Claimants.{IsClaimant};
 
 use crate::calls::serves;
 use crate::runs::TURNS;
 use driver_cas::Fault;
-use driver_rows::{Bench, Server, Spares, hand_of};
+use driver_rows::{
+    Bench, Came, Claimant, Server, Spares, asks, claimant_of, gives_back, hand_of, is_served,
+    polls_begun,
+};
 use slot_alloc::Slots;
-use slot_rows::{Came, Claimant, asks, claimant_of, gives_back, is_served, polls};
 use std::alloc::Global;
 use std::sync::Wait;
 
@@ -69,139 +71,123 @@ fn claimant<'a>(
 }
 
 // Begins what a host wants.
-fn begins<'a>(
+fn begins(
     bench: &Bench,
     slots: &Slots,
-    claimant: Claimant<'a>,
+    claimant: &mut Claimant<'_>,
     wish: Wish,
     told: &mut u64,
-) -> (Claimant<'a>, Came)
-    requires claimant { IsClaimant bench.now slots.now claimant }
+) -> Came
+    requires claimant { IsClaimant bench.now slots.now claimant.old }
     requires slots { 0 < (area slots.now).blocks }
-    ensures { IsClaimant bench.now slots.now result.0 }
+    ensures { IsClaimant bench.now slots.now claimant.new }
 {
-    let mut claimant = claimant;
     for _ in 0..TURNS {
-        let (now, came) = match wish {
+        let came = match wish {
             Wish::First => asks(bench, slots, claimant, Some(0)),
             Wish::Any => asks(bench, slots, claimant, None),
             Wish::Release => gives_back(bench, slots, claimant),
         };
         if came != Came::Refused(Fault::NoMemory) {
-            return (now, came);
+            return came;
         }
         *told = told.wrapping_add(1);
-        claimant = now;
     }
-    (claimant, Came::Nothing)
+    Came::Nothing
 }
 
 // What comes of what was begun.
-fn ends<'a, R: Wait>(
+fn ends<R: Wait>(
     rt: &R,
     bench: &Bench,
     server: &mut Server,
     slots: &Slots,
-    claimant: Claimant<'a>,
+    claimant: &mut Claimant<'_>,
     told: &mut u64,
-) -> (Claimant<'a>, Came)
+) -> Came
     requires server { IsServerOf bench.now server.old }
-    requires claimant { IsClaimant bench.now slots.now claimant }
+    requires claimant { IsClaimant bench.now slots.now claimant.old }
     ensures server { IsServerOf bench.now server.new }
-    ensures claimant { IsClaimant bench.now slots.now result.0 }
+    ensures claimant { IsClaimant bench.now slots.now claimant.new }
 {
-    let mut claimant = claimant;
     for _ in 0..TURNS {
         serves(rt, bench, server, claimant.queue, told);
-        let (heard, _) = is_served(rt, bench, server, slots, claimant);
-        let (now, came) = polls(bench, slots, heard);
-        match came {
+        is_served(rt, bench, server, slots, claimant);
+        match polls_begun(bench, slots, claimant) {
             Came::Pending => {}
             Came::Later(Fault::NoMemory) => *told = told.wrapping_add(1),
-            _ => return (now, came),
+            came => return came,
         }
-        claimant = now;
     }
-    (claimant, Came::Nothing)
+    Came::Nothing
 }
 
-// The host after what it wanted, and whether that came of it.
-fn grants<'a, R: Wait>(
+// Whether that comes of what a host wants.
+fn grants<R: Wait>(
     rt: &R,
     bench: &Bench,
     server: &mut Server,
     slots: &Slots,
-    claimant: Claimant<'a>,
+    claimant: &mut Claimant<'_>,
     want: (Wish, Came),
-    told: &mut u64,
-) -> (Claimant<'a>, bool)
-    requires server { IsServerOf bench.now server.old }
-    requires claimant { IsClaimant bench.now slots.now claimant }
-    requires slots { 0 < (area slots.now).blocks }
-    ensures server { IsServerOf bench.now server.new }
-    ensures claimant { IsClaimant bench.now slots.now result.0 }
-{
-    let (claimant, begun) = begins(bench, slots, claimant, want.0, told);
-    if begun != Came::Begun {
-        return (claimant, false);
-    }
-    let (claimant, came) = ends(rt, bench, server, slots, claimant, told);
-    (claimant, came == want.1)
-}
-
-// Host 1 or host 2 in its turn; the other waits.
-fn turn<'a, R: Wait>(
-    rt: &R,
-    bench: &Bench,
-    server: &mut Server,
-    slots: &Slots,
-    hosts: (Claimant<'a>, Claimant<'a>),
-    asked: (u16, Wish, Came),
-    told: &mut u64,
-) -> (Claimant<'a>, Claimant<'a>, bool)
-    requires server { IsServerOf bench.now server.old }
-    requires one { IsClaimant bench.now slots.now hosts.0 }
-    requires two { IsClaimant bench.now slots.now hosts.1 }
-    requires slots { 0 < (area slots.now).blocks }
-    ensures server { IsServerOf bench.now server.new }
-    ensures one { IsClaimant bench.now slots.now result.0 }
-    ensures two { IsClaimant bench.now slots.now result.1 }
-{
-    let (one, two) = hosts;
-    let want = (asked.1, asked.2);
-    if asked.0 == 1 {
-        let (one, is_so) = grants(rt, bench, server, slots, one, want, told);
-        return (one, two, is_so);
-    }
-    let (two, is_so) = grants(rt, bench, server, slots, two, want, told);
-    (one, two, is_so)
-}
-
-// Both in turn; whether all came of it that is wanted.
-fn turns<'a, R: Wait>(
-    rt: &R,
-    bench: &Bench,
-    server: &mut Server,
-    slots: &Slots,
-    one: Claimant<'a>,
-    two: Claimant<'a>,
     told: &mut u64,
 ) -> bool
     requires server { IsServerOf bench.now server.old }
-    requires one { IsClaimant bench.now slots.now one }
-    requires two { IsClaimant bench.now slots.now two }
+    requires claimant { IsClaimant bench.now slots.now claimant.old }
+    requires slots { 0 < (area slots.now).blocks }
+    ensures server { IsServerOf bench.now server.new }
+    ensures claimant { IsClaimant bench.now slots.now claimant.new }
+{
+    begins(bench, slots, claimant, want.0, told) == Came::Begun
+        && ends(rt, bench, server, slots, claimant, told) == want.1
+}
+
+// Host 1 or host 2 in its turn; the other waits.
+fn turn<R: Wait>(
+    rt: &R,
+    bench: &Bench,
+    server: &mut Server,
+    slots: &Slots,
+    one: &mut Claimant<'_>,
+    two: &mut Claimant<'_>,
+    asked: (u16, Wish, Came),
+    told: &mut u64,
+) -> bool
+    requires server { IsServerOf bench.now server.old }
+    requires one { IsClaimant bench.now slots.now one.old }
+    requires two { IsClaimant bench.now slots.now two.old }
+    requires slots { 0 < (area slots.now).blocks }
+    ensures server { IsServerOf bench.now server.new }
+    ensures one { IsClaimant bench.now slots.now one.new }
+    ensures two { IsClaimant bench.now slots.now two.new }
+{
+    let want = (asked.1, asked.2);
+    if asked.0 == 1 {
+        return grants(rt, bench, server, slots, one, want, told);
+    }
+    grants(rt, bench, server, slots, two, want, told)
+}
+
+// Both in turn; whether all came of it that is wanted.
+fn turns<R: Wait>(
+    rt: &R,
+    bench: &Bench,
+    server: &mut Server,
+    slots: &Slots,
+    one: &mut Claimant<'_>,
+    two: &mut Claimant<'_>,
+    told: &mut u64,
+) -> bool
+    requires server { IsServerOf bench.now server.old }
+    requires one { IsClaimant bench.now slots.now one.old }
+    requires two { IsClaimant bench.now slots.now two.old }
     requires slots { 0 < (area slots.now).blocks }
     ensures { IsServerOf bench.now server.new }
 {
-    let mut first = one;
-    let mut second = two;
     for asked in TURN {
-        let (one, two, is_so) = turn(rt, bench, server, slots, (first, second), asked, told);
-        if !is_so {
+        if !turn(rt, bench, server, slots, one, two, asked, told) {
             return false;
         }
-        first = one;
-        second = two;
     }
     true
 }
@@ -220,11 +206,11 @@ pub(crate) fn are_granted<R: Wait>(
     ensures { IsServerOf bench.now server.new }
 {
     let slots = Slots::new(0, COUNT);
-    let Some(one) = claimant(alloc, bench, spares, 1, &slots, told) else {
+    let Some(mut one) = claimant(alloc, bench, spares, 1, &slots, told) else {
         return false;
     };
-    let Some(two) = claimant(alloc, bench, spares, 2, &slots, told) else {
+    let Some(mut two) = claimant(alloc, bench, spares, 2, &slots, told) else {
         return false;
     };
-    turns(rt, bench, server, &slots, one, two, told)
+    turns(rt, bench, server, &slots, &mut one, &mut two, told)
 }

@@ -1,7 +1,7 @@
 //! The ways to make a run.
 
 use crate::drivers::by_driver;
-use crate::long::{publish_long, write_long};
+use crate::long::make_long;
 use crate::many::run_many;
 use crate::promises::keep_promise;
 use crate::quiet::make_quiet;
@@ -72,18 +72,34 @@ fn core_of<R: Wait>(rt: &R, alloc: Global, way: &str, run: Run, told: &mut u64) 
     }
 }
 
+// One run, which isn't shown.
+fn makes<R: AllocGlobal + Wait>(rt: &R, asked: &Asked<'_>, told: &mut u64) -> Option<()> {
+    let run = run_of(rt.alloc(), asked.first, asked.lines)?;
+    core_of(rt, rt.alloc(), asked.way, run, told)?;
+    Some(())
+}
+
+// So many.
+fn makes_all<R: AllocGlobal + Wait>(rt: &R, asked: &Asked<'_>, told: &mut u64) -> Option<()> {
+    for _ in 0..asked.place {
+        makes(rt, asked, told)?;
+    }
+    Some(())
+}
+
+// One that is shown.
+fn shows<R: Print + AllocGlobal + Wait>(rt: &R, way: &str, run: Run, told: &mut u64) -> Option<()> {
+    let core = core_of(rt, rt.alloc(), way, run, told)?;
+    show_history(rt, &core)
+}
+
 // All steps, each asked for again, in the last of so many runs and one.
 fn one_by_one<R: Print + AllocGlobal + Wait>(rt: &R, asked: &Asked<'_>, run: Run) -> Option<End> {
     let mut told = 0;
-    if asked.is_first {
-        return Some(End::Done(0));
+    if !asked.is_first {
+        makes_all(rt, asked, &mut told)?;
+        shows(rt, asked.way, run, &mut told)?;
     }
-    for _ in 0..asked.place {
-        let before = run_of(rt.alloc(), asked.first, asked.lines)?;
-        core_of(rt, rt.alloc(), asked.way, before, &mut told)?;
-    }
-    let core = core_of(rt, rt.alloc(), asked.way, run, &mut told)?;
-    show_history(rt, &core)?;
     Some(End::Done(told))
 }
 
@@ -159,8 +175,8 @@ fn make<R: Print + AllocGlobal + Wait>(rt: &R, asked: &Asked<'_>) -> Option<End>
     match asked.way {
         "script" => show_script(rt, asked),
         "quiet" => done(make_quiet(rt, alloc, asked.is_first)),
-        "publish" => done(publish_long(alloc, asked.place, asked.is_first)),
-        "write" => done(write_long(alloc, asked.place)),
+        "publish" => done(make_long(alloc, asked.place, false, asked.is_first)),
+        "write" => done(make_long(alloc, asked.place, true, asked.is_first)),
         _ => by_row(rt, asked),
     }
 }

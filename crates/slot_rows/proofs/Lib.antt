@@ -1,1 +1,1 @@
-pub mod Claimants
+pub mod Lists

@@ -2,13 +2,14 @@
 
 ghost use Rattle.std.specs.Prelude.{◌≡◌, ◌<◌, ◌≤◌, All, IfOk, IfSome};
 ghost use Rattle.driver_rows.specs.Benches.{AreOf, IsServerOf};
+ghost use Rattle.driver_rows.specs.Claimants.{IsClaimant};
 ghost use Rattle.slot_alloc.specs.Areas.{area};
-ghost use Rattle.slot_rows.specs.Claimants.{IsClaimant};
 
-use crate::claimant::{Came, Claimant, Stage, asks, claimant_of, gives_back};
 use crate::rows::closes;
-use crate::service::answered;
-use driver_rows::{Bench, Server, Spares, bench_of, hand_of};
+use driver_rows::{
+    Bench, Came, Claimant, Server, Spares, Stage, answered, asks, bench_of, claimant_of,
+    gives_back, hand_of,
+};
 use history::Config;
 use slot_alloc::Slots;
 use std::alloc::Global;
@@ -118,21 +119,21 @@ fn crowd<'a>(
 
 // What a host does at its turn: it begins a claim, or the release of the slot that it holds, or is served until it is
 // told what came of that.
-fn turn<'a, R: Abort + Wait>(
+fn turn<R: Abort + Wait>(
     rt: &R,
     bench: &Bench,
     server: &mut Server,
     slots: &Slots,
-    claimant: Claimant<'a>,
+    claimant: &mut Claimant<'_>,
     tally: &mut Tally,
-) -> Claimant<'a>
+)
     requires server { IsServerOf bench.now server.old }
-    requires claimant { IsClaimant bench.now slots.now claimant }
+    requires claimant { IsClaimant bench.now slots.now claimant.old }
     requires slots { area slots.now ≡ record { slba = 0; blocks = 1 } }
     ensures server { IsServerOf bench.now server.new }
-    ensures claimant { IsClaimant bench.now slots.now result }
+    ensures claimant { IsClaimant bench.now slots.now claimant.new }
 {
-    let (claimant, came) = match claimant.stage {
+    let came = match claimant.stage {
         Stage::Idle => asks(bench, slots, claimant, Some(0)),
         Stage::Holding(_) => {
             tally.holders = tally.holders.saturating_sub(1);
@@ -153,56 +154,55 @@ fn turn<'a, R: Abort + Wait>(
         _ => panic!(rt; "told {came:?}"),
     }
     assert!(rt; tally.holders <= 1, "two hosts hold the slot");
-    claimant
 }
 
-// Each host has its turn once, in a random order.
+// Each host that waits has its turn once, in a random order, and is then with those that are done.
 fn round<'a, R: Abort + Wait>(
     rt: &R,
-    alloc: Global,
     bench: &Bench,
     server: &mut Server,
     slots: &Slots,
-    all: Vec<Claimant<'a>>,
+    waiting: &mut Vec<Claimant<'a>>,
+    done: &mut Vec<Claimant<'a>>,
     random: &mut Random,
     tally: &mut Tally,
-) -> Result<Vec<Claimant<'a>>, Fail>
+) -> Result<(), Fail>
     requires server { IsServerOf bench.now server.old }
-    requires all { All (IsClaimant bench.now slots.now) all.items }
+    requires waiting { All (IsClaimant bench.now slots.now) waiting.old.items }
+    requires done { All (IsClaimant bench.now slots.now) done.old.items }
     requires slots { area slots.now ≡ record { slba = 0; blocks = 1 } }
     ensures server { IsServerOf bench.now server.new }
-    ensures all { IfOk result (λ a. All (IsClaimant bench.now slots.now) a.items) }
+    ensures waiting { All (IsClaimant bench.now slots.now) waiting.new.items }
+    ensures done { All (IsClaimant bench.now slots.now) done.new.items }
 {
-    let mut waiting = all;
-    let mut done = Vec::new(alloc);
     for _ in 0..HOSTS {
         let place = random.below(waiting.len());
-        let Some(claimant) = leaves(bench, slots, &mut waiting, place) else {
+        let Some(mut claimant) = leaves(bench, slots, waiting, place) else {
             return Err(Fail::from("a host"));
         };
-        let after = turn(rt, bench, server, slots, claimant, tally);
-        joins(bench, slots, &mut done, after)?;
+        turn(rt, bench, server, slots, &mut claimant, tally);
+        joins(bench, slots, done, claimant)?;
     }
-    Ok(done)
+    Ok(())
 }
 
-// So many rounds.
+// Twice so many rounds.
 fn plays<'a, R: Abort + Wait>(
     rt: &R,
-    alloc: Global,
     bench: &Bench,
     server: &mut Server,
     slots: &Slots,
-    hosts: Vec<Claimant<'a>>,
+    some: &mut Vec<Claimant<'a>>,
+    others: &mut Vec<Claimant<'a>>,
     random: &mut Random,
     count: u32,
 ) -> Result<Tally, Fail>
     requires server { IsServerOf bench.now server.old }
-    requires all { All (IsClaimant bench.now slots.now) hosts.items }
+    requires some { All (IsClaimant bench.now slots.now) some.old.items }
+    requires others { All (IsClaimant bench.now slots.now) others.old.items }
     requires slots { area slots.now ≡ record { slba = 0; blocks = 1 } }
     ensures { IsServerOf bench.now server.new }
 {
-    let mut all = hosts;
     let mut tally = Tally {
         holders: 0,
         held: 0,
@@ -210,36 +210,54 @@ fn plays<'a, R: Abort + Wait>(
         released: 0,
     };
     for _ in 0..count {
-        all = round(rt, alloc, bench, server, slots, all, random, &mut tally)?;
+        round(rt, bench, server, slots, some, others, random, &mut tally)?;
+        round(rt, bench, server, slots, others, some, random, &mut tally)?;
     }
     Ok(tally)
 }
 
-// So many rounds: never two hosts hold the slot, and the history is legal.
-fn rounds<R: Abort + Wait>(rt: &R, alloc: Global, seed: u64, count: u32) -> Result<(), Fail> {
-    let (bench, mut spares) = wide(alloc)?;
-    let mut server = hand_of(&bench, &mut spares).ok_or("a server")?;
+// The server after twice so many rounds, and what came of them.
+fn served<R: Abort + Wait>(
+    rt: &R,
+    alloc: Global,
+    bench: &Bench,
+    spares: &mut Spares,
+    seed: u64,
+    count: u32,
+) -> Result<(Server, Tally), Fail>
+    requires own { AreOf bench.now spares.old }
+    requires queues { (bench.now.config.pairs ≡ 16) × (bench.now.config.cqs ≡ 16) }
+    ensures { IfOk result (λ s. IsServerOf bench.now s.0) }
+{
+    let Some(mut server) = hand_of(bench, spares) else {
+        return Err(Fail::from("a server"));
+    };
     let slots = Slots::new(0, 1);
-    let all = crowd(alloc, &bench, &mut spares, &slots)?;
+    let mut all = crowd(alloc, bench, spares, &slots)?;
+    let mut none = Vec::new(alloc);
     let mut random = Random { state: seed };
     let tally = plays(
         rt,
-        alloc,
-        &bench,
+        bench,
         &mut server,
         &slots,
-        all,
+        &mut all,
+        &mut none,
         &mut random,
         count,
     )?;
+    Ok((server, tally))
+}
+
+// A thousand rounds: never two hosts hold the slot, and the history is legal.
+#[test]
+fn one_of_sixteen_hosts_holds_the_slot(rt: HostRuntime) -> Result<(), Fail> {
+    let (bench, mut spares) = wide(rt.alloc())?;
+    let seed = 0x9e37_79b9_7f4a_7c15;
+    let (server, tally) = served(&rt, rt.alloc(), &bench, &mut spares, seed, 500)?;
     assert!(rt;
         tally.held > 0 && tally.taken > 0 && tally.released > 0,
         "{tally:?}"
     );
-    closes(rt, alloc, bench, server, &[])
-}
-
-#[test]
-fn one_of_sixteen_hosts_holds_the_slot(rt: HostRuntime) -> Result<(), Fail> {
-    rounds(&rt, rt.alloc(), 0x9e37_79b9_7f4a_7c15, 1000)
+    closes(&rt, rt.alloc(), bench, server, &[])
 }

@@ -6,57 +6,27 @@ ghost use Rattle.driver_cas.specs.Drivers.{area_of};
 ghost use Rattle.slot_alloc.specs.Areas.{area};
 ghost use Rattle.slot_alloc.specs.Claims.{IsClaimingOf};
 
-use crate::claimant::Came;
 use crate::rows::named;
-use crate::service::Contents;
 use driver_cas::{Driver, Fault, PortFault};
-use driver_rows::{Did, Fake, Script};
-use nvme_model::array::Range;
+use driver_rows::{Came, Contents, Did, Fake, Script, driver_of, good};
 use nvme_model::submission::Submission;
 use slot_alloc::{Claiming, Progress, Slots, poll_claim};
 use std::alloc::Global;
 use std::process::Abort;
 use std::test::Fail;
 
-// A completion on submission queue 1 with this CID and status field.
+// A completion on submission queue 1 with this CID and status field, whose phase is 1.
 fn completion(cid: u8, low: u8, high: u8) -> Script {
     Script::Posted([0, 0, 0, 0, 0, 0, 0, 0, 1, 0, 1, 0, cid, 0, low, high])
 }
 
-// Success; Compare Failure; Command Aborted due to Failed Fused Command. Each with the phase 1.
-fn success(cid: u8) -> Script {
-    completion(cid, 0x01, 0)
-}
-
+// Compare Failure; Command Aborted due to Failed Fused Command.
 fn compare_failure(cid: u8) -> Script {
     completion(cid, 0x0b, 0x05)
 }
 
 fn failed_fused(cid: u8) -> Script {
     completion(cid, 0x13, 0)
-}
-
-// A driver of host 1 on submission queue 1 with two slots, over a port that is to answer so, the next last.
-fn driver_of(
-    alloc: Global,
-    refusals: Vec<Option<PortFault>>,
-    reaps: Vec<Script>,
-) -> Result<Driver<Fake>, Fail>
-    ensures { IfOk result (λ d. area_of d ≡ record { slba = 0; blocks = 2 }) }
-{
-    let mut queues = Vec::new(alloc);
-    queues.push(1)?;
-    let port = Fake {
-        alloc,
-        did: Vec::new(alloc),
-        refusals,
-        reaps,
-    };
-    let slots = Range { slba: 0, blocks: 2 };
-    match Driver::new(alloc, port, 1, 1, slots, queues) {
-        Ok(driver) => Ok(driver),
-        Err(_) => Err(Fail::from("memory")),
-    }
 }
 
 // Begins to claim any slot.
@@ -68,21 +38,17 @@ fn begins(slots: &Slots, driver: &mut Driver<Fake>) -> Result<Claiming<Fake>, Fa
     slots.claim_any(driver)
 }
 
-// That no claim is begun, for this cause.
-fn is_refused<R: Abort>(
-    rt: &R,
-    slots: &Slots,
-    driver: &mut Driver<Fake>,
-    want: Fault,
-) -> Result<(), Fail>
+// That claims are refused, for these causes.
+fn are_refused<R: Abort>(rt: &R, slots: &Slots, driver: &mut Driver<Fake>, wants: &[Fault])
     requires { area_of driver.old ≡ area slots.now }
     ensures { area_of driver.new ≡ area slots.now }
 {
-    match begins(slots, driver) {
-        Ok(_) => return Err(Fail::from("a refused claim")),
-        Err(fault) => assert_eq!(rt; fault, want),
+    for want in wants {
+        match begins(slots, driver) {
+            Ok(_) => panic!(rt; "a claim in place of {want:?}"),
+            Err(fault) => assert_eq!(rt; fault, *want),
+        }
     }
-    Ok(())
 }
 
 // What a poll tells, and the claim where it goes on.
@@ -160,52 +126,67 @@ fn has_published<R: Abort>(rt: &R, port: &Fake, wants: &[(u8, u8)]) {
     assert_eq!(rt; count, wants.len());
 }
 
-// A claim of a free slot is one pair; those that were refused before used up no serial.
-#[test]
-fn a_claim_is_one_pair(rt: HostRuntime) -> Result<(), Fail> {
-    let alloc = rt.alloc();
-    let mut refusals = Vec::new(alloc);
-    refusals.push(Some(PortFault::NoMemory))?;
-    refusals.push(Some(PortFault::Busy))?;
-    refusals.push(Some(PortFault::RingFull))?;
-    let mut reaps = Vec::new(alloc);
-    reaps.push(success(1))?;
-    reaps.push(success(0))?;
+// That a driver of two slots, whose port answers so, the next last, is refused for these causes; that its next claim is
+// told these; and that these are all that it published.
+fn claims<R: Abort>(
+    rt: &R,
+    alloc: Global,
+    answers: (&[Option<PortFault>], &[Script]),
+    faults: &[Fault],
+    told: &[Came],
+    sent: &[(u8, u8)],
+) -> Result<(), Fail> {
     let slots = Slots::new(0, 2);
-    let mut driver = driver_of(alloc, refusals, reaps)?;
-    is_refused(&rt, &slots, &mut driver, Fault::RingFull)?;
-    is_refused(&rt, &slots, &mut driver, Fault::Busy)?;
-    is_refused(&rt, &slots, &mut driver, Fault::NoMemory)?;
+    let Some(mut driver) = driver_of(alloc, &[1], 2, answers.0, answers.1) else {
+        return Err(Fail::from("a driver"));
+    };
+    are_refused(rt, &slots, &mut driver, faults);
     let Ok(claiming) = begins(&slots, &mut driver) else {
         return Err(Fail::from("a claim"));
     };
-    let wants = [Came::Pending, Came::Held(0)];
-    is_told(&rt, &mut driver, claiming, &wants);
-    has_published(&rt, &driver.into_port(), &[(0, 1)]);
+    is_told(rt, &mut driver, claiming, told);
+    has_published(rt, &driver.into_port(), sent);
     Ok(())
+}
+
+// A claim of a free slot is one pair; those that were refused before used up no serial.
+#[test]
+fn a_claim_is_one_pair(rt: HostRuntime) -> Result<(), Fail> {
+    let refusals = [
+        Some(PortFault::NoMemory),
+        Some(PortFault::Busy),
+        Some(PortFault::RingFull),
+    ];
+    let reaps = [good(1, 1), good(1, 0)];
+    let faults = [Fault::RingFull, Fault::Busy, Fault::NoMemory];
+    let told = [Came::Pending, Came::Held(0)];
+    claims(
+        &rt,
+        rt.alloc(),
+        (&refusals, &reaps),
+        &faults,
+        &told,
+        &[(0, 1)],
+    )
 }
 
 // The next slot's pair is begun only once the one before was answered, and again where it was refused.
 #[test]
 fn the_next_slot_is_tried_until_its_pair_is_taken(rt: HostRuntime) -> Result<(), Fail> {
-    let alloc = rt.alloc();
-    let mut refusals = Vec::new(alloc);
-    refusals.push(Some(PortFault::RingFull))?;
-    refusals.push(Some(PortFault::NoMemory))?;
-    refusals.push(Some(PortFault::Busy))?;
-    refusals.push(None)?;
-    let mut reaps = Vec::new(alloc);
-    reaps.push(success(1))?;
-    reaps.push(success(0))?;
-    reaps.push(failed_fused(1))?;
-    reaps.push(Script::Busy)?;
-    reaps.push(compare_failure(0))?;
-    let slots = Slots::new(0, 2);
-    let mut driver = driver_of(alloc, refusals, reaps)?;
-    let Ok(claiming) = begins(&slots, &mut driver) else {
-        return Err(Fail::from("a claim"));
-    };
-    let wants = [
+    let refusals = [
+        Some(PortFault::RingFull),
+        Some(PortFault::NoMemory),
+        Some(PortFault::Busy),
+        None,
+    ];
+    let reaps = [
+        good(1, 1),
+        good(1, 0),
+        failed_fused(1),
+        Script::Busy,
+        compare_failure(0),
+    ];
+    let told = [
         Came::Pending,
         Came::Later(Fault::Busy),
         Came::Later(Fault::Busy),
@@ -215,27 +196,20 @@ fn the_next_slot_is_tried_until_its_pair_is_taken(rt: HostRuntime) -> Result<(),
         Came::Pending,
         Came::Held(1),
     ];
-    is_told(&rt, &mut driver, claiming, &wants);
-    has_published(&rt, &driver.into_port(), &[(0, 1), (1, 2)]);
-    Ok(())
+    let sent = [(0, 1), (1, 2)];
+    claims(&rt, rt.alloc(), (&refusals, &reaps), &[], &told, &sent)
 }
 
 // Both of two slots are somebody else's: each was claimed once, under a serial of its own.
 #[test]
 fn each_slot_is_claimed_under_the_next_serial(rt: HostRuntime) -> Result<(), Fail> {
-    let alloc = rt.alloc();
-    let mut reaps = Vec::new(alloc);
-    reaps.push(failed_fused(1))?;
-    reaps.push(compare_failure(0))?;
-    reaps.push(failed_fused(1))?;
-    reaps.push(compare_failure(0))?;
-    let slots = Slots::new(0, 2);
-    let mut driver = driver_of(alloc, Vec::new(alloc), reaps)?;
-    let Ok(claiming) = begins(&slots, &mut driver) else {
-        return Err(Fail::from("a claim"));
-    };
-    let wants = [Came::Pending, Came::Pending, Came::Pending, Came::AllTaken];
-    is_told(&rt, &mut driver, claiming, &wants);
-    has_published(&rt, &driver.into_port(), &[(0, 1), (1, 2)]);
-    Ok(())
+    let reaps = [
+        failed_fused(1),
+        compare_failure(0),
+        failed_fused(1),
+        compare_failure(0),
+    ];
+    let told = [Came::Pending, Came::Pending, Came::Pending, Came::AllTaken];
+    let sent = [(0, 1), (1, 2)];
+    claims(&rt, rt.alloc(), (&[], &reaps), &[], &told, &sent)
 }

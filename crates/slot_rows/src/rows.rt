@@ -1,52 +1,37 @@
 //! Two hosts and one or two slots, every call served before the next, and the blocks' bytes.
 
-ghost use Rattle.std.specs.Prelude.{◌≡◌, ◌≤◌, IfOk};
+ghost use Rattle.std.specs.Prelude.{◌≡◌, ◌<◌, ◌≤◌, IfOk};
 ghost use Rattle.driver_rows.specs.Benches.{AreOf, IsServerOf};
+ghost use Rattle.driver_rows.specs.Claimants.{IsClaimant};
 ghost use Rattle.slot_alloc.specs.Areas.{area};
-ghost use Rattle.slot_rows.specs.Claimants.{IsClaimant};
 
-use crate::claimant::{Came, Claimant, claimant_of, idle, leaves};
-use crate::service::{Contents, claims, reads, releases};
-use driver_rows::{Bench, Server, Spares, bench_of, hand_of};
-use history::Config;
+use driver_rows::{
+    Bench, Came, Claimant, Contents, Server, Spares, asks, claimants_of, claims, is_served, leaves,
+    reads, releases, serves, small_bench,
+};
 use history_check::check;
 use slot_alloc::Slots;
 use std::alloc::Global;
 use std::process::Abort;
+use std::sync::Wait;
 use std::test::Fail;
 
-// A bench of `config 8 1 1 0 0 2 4 CQ 8`, with passes for a server and two hosts.
-pub(crate) fn small(alloc: Global, cq: u16) -> Result<(Bench, Spares), Fail>
-    ensures own { IfOk result (λ b. AreOf b.0 b.1) }
-    ensures queues { IfOk result (λ b. (b.0.config.pairs ≡ 2) × (b.0.config.cqs ≡ 2)) }
-{
-    let Ok(config) = Config::new(8, 1, 1, 0, 0, 2, 4, cq, 8) else {
-        return Err(Fail::from("the configuration is refused"));
-    };
-    Ok(bench_of(alloc, config, 8, 3)?)
-}
-
-// Hosts 1 and 2, and a server.
-pub(crate) fn hosts<'a>(
-    alloc: Global,
-    bench: &'a Bench,
-    spares: &mut Spares,
-    slots: &Slots,
-    count: u32,
-) -> Result<(Server, Claimant<'a>, Claimant<'a>), Fail>
-    requires own { AreOf bench.now spares.old }
-    requires queues { (bench.now.config.pairs ≡ 2) × (bench.now.config.cqs ≡ 2) }
-    requires slots { (area slots.now ≡ record { slba = 0; blocks = count }) × (count ≤ 2) }
-    ensures server { IfOk result (λ h. IsServerOf bench.entry.now h.0) }
-    ensures one { IfOk result (λ h. IsClaimant bench.entry.now slots.now h.1) }
-    ensures two { IfOk result (λ h. IsClaimant bench.entry.now slots.now h.2) }
-{
-    let server = hand_of(bench, spares).ok_or("a server")?;
-    let one = hand_of(bench, spares).ok_or("host 1")?;
-    let two = hand_of(bench, spares).ok_or("host 2")?;
-    let one = claimant_of(alloc, bench, one, 1, slots, count).ok_or("host 1")?;
-    let two = claimant_of(alloc, bench, two, 2, slots, count).ok_or("host 2")?;
-    Ok((server, one, two))
+/// What a host does, and what comes of it.
+#[derive(Clone, Copy)]
+enum Act {
+    /// Claims slot 0.
+    First(Came),
+    /// Claims any slot.
+    Any(Came),
+    /// Begins to claim slot 0, and isn't served.
+    Asks,
+    /// Is served.
+    Waits,
+    Releases(Came),
+    /// Drops what it has begun; the slot and the serial of a claim that it held.
+    Leaves(Option<(u32, u64)>),
+    /// Reads this block, which is the name of this host and serial; zeros where both are 0.
+    Reads(u64, u8, u8),
 }
 
 // The block of a slot that this host holds under this serial.
@@ -55,6 +40,98 @@ pub(crate) fn named(host: u8, serial: u8) -> Contents {
     contents[0] = host;
     contents[8] = serial;
     contents
+}
+
+// Does so.
+fn does<R: Abort + Wait>(
+    rt: &R,
+    bench: &Bench,
+    server: &mut Server,
+    slots: &Slots,
+    host: &mut Claimant<'_>,
+    act: Act,
+)
+    requires server { IsServerOf bench.now server.old }
+    requires host { IsClaimant bench.now slots.now host.old }
+    requires slots { 0 < (area slots.now).blocks }
+    ensures server { IsServerOf bench.now server.new }
+    ensures host { IsClaimant bench.now slots.now host.new }
+{
+    match act {
+        Act::First(want) => {
+            let came = claims(rt, bench, server, slots, host, Some(0));
+            assert_eq!(rt; came, want);
+        }
+        Act::Any(want) => {
+            let came = claims(rt, bench, server, slots, host, None);
+            assert_eq!(rt; came, want);
+        }
+        Act::Asks => {
+            let came = asks(bench, slots, host, Some(0));
+            assert_eq!(rt; came, Came::Begun);
+        }
+        Act::Waits => assert!(rt; is_served(rt, bench, server, slots, host)),
+        Act::Releases(want) => {
+            let came = releases(rt, bench, server, slots, host);
+            assert_eq!(rt; came, want);
+        }
+        Act::Leaves(want) => {
+            let left = leaves(bench, slots, host);
+            assert_eq!(rt; left, want);
+        }
+        Act::Reads(lba, number, serial) => {
+            let contents = reads(rt, bench, server, slots, host, lba);
+            assert!(rt; contents == Some(named(number, serial)));
+        }
+    }
+}
+
+// Host 1 and host 2 do so, each act beside the number of its host.
+fn does_all<R: Abort + Wait>(
+    rt: &R,
+    bench: &Bench,
+    server: &mut Server,
+    slots: &Slots,
+    one: &mut Claimant<'_>,
+    two: &mut Claimant<'_>,
+    acts: &[(u8, Act)],
+)
+    requires server { IsServerOf bench.now server.old }
+    requires one { IsClaimant bench.now slots.now one.old }
+    requires two { IsClaimant bench.now slots.now two.old }
+    requires slots { 0 < (area slots.now).blocks }
+    ensures { IsServerOf bench.now server.new }
+{
+    for (host, act) in acts {
+        match *host {
+            1 => does(rt, bench, server, slots, one, *act),
+            _ => does(rt, bench, server, slots, two, *act),
+        }
+    }
+}
+
+// The server, when hosts 1 and 2 have done so.
+fn served<R: Abort + Wait>(
+    rt: &R,
+    alloc: Global,
+    bench: &Bench,
+    spares: &mut Spares,
+    slots: &Slots,
+    count: u32,
+    acts: &[(u8, Act)],
+) -> Result<Server, Fail>
+    requires own { AreOf bench.now spares.old }
+    requires queues { (bench.now.config.pairs ≡ 2) × (bench.now.config.cqs ≡ 2) }
+    requires slots { area slots.now ≡ record { slba = 0; blocks = count } }
+    requires count { (0 < count) × (count ≤ 2) }
+    ensures { IfOk result (IsServerOf bench.now) }
+{
+    let Some((mut server, mut one, mut two)) = claimants_of(alloc, bench, spares, slots, count)
+    else {
+        return Err(Fail::from("two hosts"));
+    };
+    does_all(rt, bench, &mut server, slots, &mut one, &mut two, acts);
+    Ok(server)
 }
 
 // The controller closes; its blocks hold these bytes, and its history is legal.
@@ -76,66 +153,126 @@ pub(crate) fn closes<R: Abort>(
     Ok(())
 }
 
+// That hosts of so many slots do so, where completion queues have so many places, and what the blocks hold then.
+fn plays<R: Abort + Wait>(
+    rt: &R,
+    alloc: Global,
+    cq: u16,
+    count: u32,
+    acts: &[(u8, Act)],
+    wants: &[(u64, Contents)],
+) -> Result<(), Fail>
+    requires { (0 < count) × (count ≤ 2) }
+{
+    let Some((bench, mut spares)) = small_bench(alloc, cq, 3) else {
+        return Err(Fail::from("a bench"));
+    };
+    let slots = Slots::new(0, count);
+    let server = served(rt, alloc, &bench, &mut spares, &slots, count, acts)?;
+    closes(rt, alloc, bench, server, wants)
+}
+
 #[test]
 fn one_slot_goes_from_host_to_host(rt: HostRuntime) -> Result<(), Fail> {
-    let (bench, mut spares) = small(rt.alloc(), 4)?;
-    let slots = Slots::new(0, 1);
-    let (mut server, one, two) = hosts(rt.alloc(), &bench, &mut spares, &slots, 1)?;
-    let (one, came) = claims(&rt, &bench, &mut server, &slots, one, Some(0));
-    assert_eq!(rt; came, Came::Held(0));
-    let (two, came) = claims(&rt, &bench, &mut server, &slots, two, Some(0));
-    assert_eq!(rt; came, Came::Taken);
-    let (one, came) = releases(&rt, &bench, &mut server, &slots, one);
-    assert_eq!(rt; came, Came::Released);
-    let (mut one, _) = leaves(&bench, &slots, one);
-    let contents = reads(&rt, &bench, &mut server, &slots, &mut one, 1, 0);
-    assert!(rt; contents == Some([0; 512]));
-    let (two, came) = claims(&rt, &bench, &mut server, &slots, two, Some(0));
-    assert_eq!(rt; came, Came::Held(0));
-    let contents = reads(&rt, &bench, &mut server, &slots, &mut one, 1, 0);
-    assert!(rt; contents == Some(named(2, 2)));
-    let (two, left) = leaves(&bench, &slots, two);
-    assert_eq!(rt; left, Some((0, 2)));
-    drop(one);
-    drop(two);
-    closes(&rt, rt.alloc(), bench, server, &[(0, named(2, 2))])
+    let acts = [
+        (1, Act::First(Came::Held(0))),
+        (2, Act::First(Came::Taken)),
+        (1, Act::Releases(Came::Released)),
+        (1, Act::Reads(0, 0, 0)),
+        (2, Act::First(Came::Held(0))),
+        (1, Act::Reads(0, 2, 2)),
+        (2, Act::Leaves(Some((0, 2)))),
+    ];
+    plays(&rt, rt.alloc(), 4, 1, &acts, &[(0, named(2, 2))])
 }
 
 #[test]
 fn any_of_two_slots_is_claimed(rt: HostRuntime) -> Result<(), Fail> {
-    let (bench, mut spares) = small(rt.alloc(), 4)?;
-    let slots = Slots::new(0, 2);
-    let (mut server, one, two) = hosts(rt.alloc(), &bench, &mut spares, &slots, 2)?;
-    let (one, came) = claims(&rt, &bench, &mut server, &slots, one, None);
-    assert_eq!(rt; came, Came::Held(0));
-    let (mut one, left) = leaves(&bench, &slots, one);
-    assert_eq!(rt; left, Some((0, 1)));
-    let (two, came) = claims(&rt, &bench, &mut server, &slots, two, None);
-    assert_eq!(rt; came, Came::Held(1));
-    let contents = reads(&rt, &bench, &mut server, &slots, &mut one, 1, 1);
-    assert!(rt; contents == Some(named(2, 2)));
-    let (one, came) = claims(
-        &rt,
+    let acts = [
+        (1, Act::Any(Came::Held(0))),
+        (1, Act::Leaves(Some((0, 1)))),
+        (2, Act::Any(Came::Held(1))),
+        (1, Act::Reads(1, 2, 2)),
+        (1, Act::Any(Came::AllTaken)),
+        (2, Act::Releases(Came::Released)),
+        (1, Act::Any(Came::Held(1))),
+        (2, Act::Reads(0, 1, 1)),
+        (2, Act::Reads(1, 1, 5)),
+        (1, Act::Leaves(Some((1, 5)))),
+    ];
+    let wants = [(0, named(1, 1)), (1, named(1, 5))];
+    plays(&rt, rt.alloc(), 4, 2, &acts, &wants)
+}
+
+// A claim that is dropped is served all the same, and its slot stays with its name, whoever asks.
+#[test]
+fn a_dropped_claim_keeps_its_slot(rt: HostRuntime) -> Result<(), Fail> {
+    let acts = [
+        (1, Act::Asks),
+        (1, Act::Leaves(None)),
+        (1, Act::Waits),
+        (2, Act::First(Came::Taken)),
+        (1, Act::First(Came::Taken)),
+        (2, Act::Any(Came::AllTaken)),
+        (1, Act::Reads(0, 1, 1)),
+    ];
+    plays(&rt, rt.alloc(), 8, 1, &acts, &[(0, named(1, 1))])
+}
+
+// A slot that is left stays held: nobody has a claim to release it by, its host neither.
+#[test]
+fn a_slot_that_is_left_stays_held(rt: HostRuntime) -> Result<(), Fail> {
+    let acts = [
+        (1, Act::First(Came::Held(0))),
+        (1, Act::Leaves(Some((0, 1)))),
+        (1, Act::Releases(Came::Nothing)),
+        (2, Act::Releases(Came::Nothing)),
+        (1, Act::Any(Came::AllTaken)),
+        (2, Act::First(Came::Taken)),
+    ];
+    plays(&rt, rt.alloc(), 8, 1, &acts, &[(0, named(1, 1))])
+}
+
+// The driver of host 1 releases what it left, by the serial that it was told, and host 2 claims it.
+fn frees<R: Abort + Wait>(
+    rt: &R,
+    bench: &Bench,
+    server: &mut Server,
+    slots: &Slots,
+    one: &mut Claimant<'_>,
+    two: &mut Claimant<'_>,
+)
+    requires server { IsServerOf bench.now server.old }
+    requires one { IsClaimant bench.now slots.now one.old }
+    requires two { IsClaimant bench.now slots.now two.old }
+    requires slots { area slots.now ≡ record { slba = 0; blocks = 1 } }
+    ensures { IsServerOf bench.now server.new }
+{
+    does(rt, bench, server, slots, one, Act::First(Came::Held(0)));
+    does(rt, bench, server, slots, one, Act::Leaves(Some((0, 1))));
+    assert!(rt; one.host.driver.start_release(0, 1).is_ok());
+    serves(rt, bench, server, 1);
+    does(rt, bench, server, slots, two, Act::First(Came::Held(0)));
+}
+
+// Whoever was told the slot and the serial frees it by other means.
+#[test]
+fn a_slot_that_is_left_is_freed_by_its_name(rt: HostRuntime) -> Result<(), Fail> {
+    let Some((bench, mut spares)) = small_bench(rt.alloc(), 8, 3) else {
+        return Err(Fail::from("a bench"));
+    };
+    let slots = Slots::new(0, 1);
+    let Some((mut server, mut one, mut two)) = claimants_of(
+        rt.alloc(),
         &bench,
-        &mut server,
+        &mut spares,
         &slots,
-        idle(&bench, &slots, one, 1),
-        None,
-    );
-    assert_eq!(rt; came, Came::AllTaken);
-    let (two, came) = releases(&rt, &bench, &mut server, &slots, two);
-    assert_eq!(rt; came, Came::Released);
-    let (one, came) = claims(&rt, &bench, &mut server, &slots, one, None);
-    assert_eq!(rt; came, Came::Held(1));
-    let (mut two, _) = leaves(&bench, &slots, two);
-    let first = reads(&rt, &bench, &mut server, &slots, &mut two, 2, 0);
-    assert!(rt; first == Some(named(1, 1)));
-    let second = reads(&rt, &bench, &mut server, &slots, &mut two, 2, 1);
-    assert!(rt; second == Some(named(1, 5)));
-    let (one, left) = leaves(&bench, &slots, one);
-    assert_eq!(rt; left, Some((1, 5)));
+        1,
+    ) else {
+        return Err(Fail::from("two hosts"));
+    };
+    frees(&rt, &bench, &mut server, &slots, &mut one, &mut two);
     drop(one);
     drop(two);
-    let wants = [(0, named(1, 1)), (1, named(1, 5))];
-    closes(&rt, rt.alloc(), bench, server, &wants)
+    closes(&rt, rt.alloc(), bench, server, &[(0, named(2, 1))])
 }

@@ -1,43 +1,38 @@
 //! Two hosts and one slot, on one thread with the server of their controller.
 #![tactic(auto)]
 
-use driver_rows::{bench_of, hand_of};
-use history::Config;
+use driver_rows::{Came, claimants_of, claims, leaves, releases, small_bench};
 use slot_alloc::Slots;
-use slot_rows::{claimant_of, claims, leaves, releases};
 use std::io;
+use std::sync::Wait;
 
-fn main(rt: HostRuntime) -> io::Result<()> {
-    let alloc = rt.alloc();
+// What comes of the claims and the release, and what host 2 leaves: a slot and a serial.
+fn runs<R: AllocGlobal + Wait>(rt: &R) -> Option<([Came; 4], Option<(u32, u64)>)> {
     // One slot, block 0, of a controller of two queue pairs; host h uses queue h.
     let slots = Slots::new(0, 1);
-    let Ok(config) = Config::new(8, 1, 1, 0, 0, 2, 4, 4, 8) else {
-        return println!(rt; "no such controller");
-    };
-    let Ok((bench, mut spares)) = bench_of(alloc, config, 4, 3) else {
-        return println!(rt; "no memory");
-    };
-    let (Some(mut server), Some(one), Some(two)) = (
-        hand_of(&bench, &mut spares),
-        hand_of(&bench, &mut spares),
-        hand_of(&bench, &mut spares),
-    ) else {
-        return println!(rt; "no pass");
-    };
-    let (Some(one), Some(two)) = (
-        claimant_of(alloc, &bench, one, 1, &slots, 1),
-        claimant_of(alloc, &bench, two, 2, &slots, 1),
-    ) else {
-        return println!(rt; "no memory");
-    };
-    let (one, came) = claims(&rt, &bench, &mut server, &slots, one, Some(0));
-    println!(rt; "host 1 claims slot 0: {came:?}")?;
-    let (two, came) = claims(&rt, &bench, &mut server, &slots, two, Some(0));
-    println!(rt; "host 2 claims slot 0: {came:?}")?;
-    let (_, came) = releases(&rt, &bench, &mut server, &slots, one);
-    println!(rt; "host 1 releases it: {came:?}")?;
-    let (two, came) = claims(&rt, &bench, &mut server, &slots, two, Some(0));
-    println!(rt; "host 2 claims slot 0: {came:?}")?;
-    let (_, left) = leaves(&bench, &slots, two);
+    let (bench, mut spares) = small_bench(rt.alloc(), 4, 3)?;
+    let (mut server, mut one, mut two) = claimants_of(rt.alloc(), &bench, &mut spares, &slots, 1)?;
+    let came = [
+        claims(rt, &bench, &mut server, &slots, &mut one, Some(0)),
+        claims(rt, &bench, &mut server, &slots, &mut two, Some(0)),
+        releases(rt, &bench, &mut server, &slots, &mut one),
+        claims(rt, &bench, &mut server, &slots, &mut two, Some(0)),
+    ];
+    Some((came, leaves(&bench, &slots, &mut two)))
+}
+
+// Says so.
+fn says<R: Print>(rt: &R, came: [Came; 4], left: Option<(u32, u64)>) -> io::Result<()> {
+    println!(rt; "host 1 claims slot 0: {:?}", came[0])?;
+    println!(rt; "host 2 claims slot 0: {:?}", came[1])?;
+    println!(rt; "host 1 releases it: {:?}", came[2])?;
+    println!(rt; "host 2 claims slot 0: {:?}", came[3])?;
     println!(rt; "host 2 leaves it held, slot and serial: {left:?}")
+}
+
+fn main(rt: HostRuntime) -> io::Result<()> {
+    match runs(&rt) {
+        Some((came, left)) => says(&rt, came, left),
+        None => println!(rt; "no memory"),
+    }
 }

@@ -1,6 +1,6 @@
 use Rattle.driver_rows.specs.Benches.{IsServerOf}
-use Rattle.slot_rows.specs.Claimants.{IsClaimant}
+use Rattle.driver_rows.specs.Claimants.{IsClaimant}
 use Rattle.refusal_runs.proofs.slots.turns.Given as goal
 
-abbrev pub invariant-loop-asked : goal.invariant-loop-asked
-invariant-loop-asked g l = IsServerOf l.bench l.server × IsClaimant l.bench l.slots l.first × IsClaimant l.bench l.slots l.second
+abbrev pub invariant-loop-asked : goal.invariant-loop-host
+invariant-loop-asked g l = IsServerOf l.bench l.server × IsClaimant l.bench l.slots l.one × IsClaimant l.bench l.slots l.two

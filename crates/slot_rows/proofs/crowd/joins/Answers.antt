@@ -1,5 +1,5 @@
-use Rattle.slot_rows.proofs.Claimants.{all_more}
-use Rattle.slot_rows.specs.Claimants.{IsClaimant}
+use Rattle.slot_rows.proofs.Lists.{all_more}
+use Rattle.driver_rows.specs.Claimants.{IsClaimant}
 use Rattle.slot_rows.proofs.crowd.joins.Goals as goal
 
 pub returns-in_err-push : goal.returns-in_err-push

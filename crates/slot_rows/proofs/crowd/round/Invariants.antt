@@ -1,6 +1,6 @@
 use Rattle.std.specs.Prelude.{All}
 use Rattle.driver_rows.specs.Benches.{IsServerOf}
-use Rattle.slot_rows.specs.Claimants.{IsClaimant}
+use Rattle.driver_rows.specs.Claimants.{IsClaimant}
 use Rattle.slot_rows.proofs.crowd.round.Given as goal
 
 abbrev pub invariant-loop : goal.invariant-loop

@@ -1,4 +1,4 @@
-use Rattle.driver_rows.proofs.hostile.a_completion_counts_once.Goals as goal
+use Rattle.driver_flights.proofs.hostile.a_completion_counts_once.Goals as goal
 
 pub is_told-requires : goal.is_told-requires
 is_told-requires g c =

@@ -10,8 +10,8 @@ use Rattle.slot_alloc.specs.Areas.{area}
 use Rattle.slot_alloc.specs.Careful.{IsCareful}
 use Rattle.slot_alloc.specs.Claims.{IsClaimingOf, IsHeldBy, IsReleasingOf, IsUnreleased}
 use Rattle.slot_alloc.specs.declared.slots.Slots.{Slots}
-use Rattle.slot_rows.specs.declared.claimant.Claimant.{Claimant}
-use Rattle.slot_rows.specs.declared.claimant.Stage.{Stage}
+use Rattle.driver_rows.specs.declared.claimant.Claimant.{Claimant}
+use Rattle.driver_rows.specs.declared.claimant.Stage.{Stage}
 
 -- It is a host of the bench with these slots, and its driver is careful.
 pub record IsReady (b : Bench) (s : Slots) (h : Host) : Type 0 where

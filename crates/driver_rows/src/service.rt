@@ -6,11 +6,13 @@ ghost use Rattle.driver_cas.specs.Starts.{IsUntouched};
 ghost use Rattle.driver_rows.specs.Benches.{IsServerOf};
 ghost use Rattle.driver_rows.specs.Calls.{Keeps};
 ghost use Rattle.slot_alloc.specs.Areas.{area};
-ghost use Rattle.slot_rows.specs.Claimants.{IsClaimant, IsReady};
+ghost use Rattle.driver_rows.specs.Claimants.{IsClaimant, IsReady};
 
-use crate::claimant::{Came, Claimant, asks, gives_back, polls};
+use crate::ask::hears;
+use crate::bench::{Bench, Host, Server};
+use crate::claimant::{Came, Claimant, Stage, asks, gives_back, polls_begun};
+use crate::serve::serves;
 use driver_cas::{Call, Poll, Reply, SharedPort};
-use driver_rows::{Bench, Host, Server, hears, serves};
 use slot_alloc::Slots;
 use std::sync::Wait;
 
@@ -18,91 +20,85 @@ use std::sync::Wait;
 pub type Contents = [u8; 512];
 
 /// What is in the host's submission queue is served, and it hears of each completion; whether nothing was refused.
-pub fn is_served<'a, R: Wait>(
+pub fn is_served<R: Wait>(
     rt: &R,
     bench: &Bench,
     server: &mut Server,
     slots: &Slots,
-    claimant: Claimant<'a>,
-) -> (Claimant<'a>, bool)
+    claimant: &mut Claimant<'_>,
+) -> bool
     requires server { IsServerOf bench.now server.old }
-    requires claimant { IsClaimant bench.now slots.now claimant }
+    requires claimant { IsClaimant bench.now slots.now claimant.old }
     ensures server { IsServerOf bench.now server.new }
-    ensures claimant { IsClaimant bench.now slots.now result.0 }
+    ensures claimant { IsClaimant bench.now slots.now claimant.new }
 {
-    let Claimant { host, queue, stage } = claimant;
-    let mut host = host;
-    let done = serves(rt, bench, server, queue);
-    listens(rt, bench, slots, &mut host);
-    (Claimant { host, queue, stage }, done)
+    let done = serves(rt, bench, server, claimant.queue);
+    listens(rt, bench, slots, &mut claimant.host);
+    done
 }
 
 /// What comes in the end of what is begun, each time served and polled, at most so many times.
-pub fn answered<'a, R: Wait>(
+pub fn answered<R: Wait>(
     rt: &R,
     bench: &Bench,
     server: &mut Server,
     slots: &Slots,
-    claimant: Claimant<'a>,
+    claimant: &mut Claimant<'_>,
     most: u32,
-) -> (Claimant<'a>, Came)
+) -> Came
     requires server { IsServerOf bench.now server.old }
-    requires claimant { IsClaimant bench.now slots.now claimant }
+    requires claimant { IsClaimant bench.now slots.now claimant.old }
     ensures server { IsServerOf bench.now server.new }
-    ensures claimant { IsClaimant bench.now slots.now result.0 }
+    ensures claimant { IsClaimant bench.now slots.now claimant.new }
 {
-    let mut claimant = claimant;
     for _ in 0..most {
-        let (served, _) = is_served(rt, bench, server, slots, claimant);
-        let (polled, came) = polls(bench, slots, served);
+        is_served(rt, bench, server, slots, claimant);
+        let came = polls_begun(bench, slots, claimant);
         if came != Came::Pending {
-            return (polled, came);
+            return came;
         }
-        claimant = polled;
     }
-    (claimant, Came::Pending)
+    Came::Pending
 }
 
 /// What comes of a claim of this slot, or of any: it is begun, served and polled until it is answered.
-pub fn claims<'a, R: Wait>(
+pub fn claims<R: Wait>(
     rt: &R,
     bench: &Bench,
     server: &mut Server,
     slots: &Slots,
-    claimant: Claimant<'a>,
+    claimant: &mut Claimant<'_>,
     slot: Option<u32>,
-) -> (Claimant<'a>, Came)
+) -> Came
     requires server { IsServerOf bench.now server.old }
-    requires claimant { IsClaimant bench.now slots.now claimant }
+    requires claimant { IsClaimant bench.now slots.now claimant.old }
     requires slot { IfSome slot (λ i. i < (area slots.now).blocks) }
     ensures server { IsServerOf bench.now server.new }
-    ensures claimant { IsClaimant bench.now slots.now result.0 }
+    ensures claimant { IsClaimant bench.now slots.now claimant.new }
 {
-    let (claimant, came) = asks(bench, slots, claimant, slot);
-    if came != Came::Begun {
-        return (claimant, came);
+    match asks(bench, slots, claimant, slot) {
+        Came::Begun => answered(rt, bench, server, slots, claimant, 8),
+        came => came,
     }
-    answered(rt, bench, server, slots, claimant, 8)
 }
 
 /// What comes of the release of the slot that is held.
-pub fn releases<'a, R: Wait>(
+pub fn releases<R: Wait>(
     rt: &R,
     bench: &Bench,
     server: &mut Server,
     slots: &Slots,
-    claimant: Claimant<'a>,
-) -> (Claimant<'a>, Came)
+    claimant: &mut Claimant<'_>,
+) -> Came
     requires server { IsServerOf bench.now server.old }
-    requires claimant { IsClaimant bench.now slots.now claimant }
+    requires claimant { IsClaimant bench.now slots.now claimant.old }
     ensures server { IsServerOf bench.now server.new }
-    ensures claimant { IsClaimant bench.now slots.now result.0 }
+    ensures claimant { IsClaimant bench.now slots.now claimant.new }
 {
-    let (claimant, came) = gives_back(bench, slots, claimant);
-    if came != Came::Begun {
-        return (claimant, came);
+    match gives_back(bench, slots, claimant) {
+        Came::Begun => answered(rt, bench, server, slots, claimant, 8),
+        came => came,
     }
-    answered(rt, bench, server, slots, claimant, 8)
 }
 
 // The bytes of a Read of one block.
@@ -163,23 +159,24 @@ fn listens<'a, R: Wait>(rt: &R, bench: &Bench, _slots: &Slots, host: &mut Host<'
     hears(rt, bench, host);
 }
 
-/// The bytes of a block, by a Read that is served; None where it isn't answered by success.
-pub fn reads<'a, R: Wait>(
+/// The bytes of a block, by a Read that is served; None where it isn't answered by success. What the host had begun is
+/// dropped.
+pub fn reads<R: Wait>(
     rt: &R,
     bench: &Bench,
     server: &mut Server,
     slots: &Slots,
-    host: &mut Host<'a>,
-    queue: u16,
+    claimant: &mut Claimant<'_>,
     lba: u64,
 ) -> Option<Contents>
     requires server { IsServerOf bench.now server.old }
-    requires host { IsReady bench.now slots.now host.old }
+    requires claimant { IsClaimant bench.now slots.now claimant.old }
     ensures server { IsServerOf bench.now server.new }
-    ensures host { IsReady bench.now slots.now host.new }
+    ensures claimant { IsClaimant bench.now slots.now claimant.new }
 {
-    let call = begins_read(bench, slots, host, lba)?;
-    serves(rt, bench, server, queue);
-    listens(rt, bench, slots, host);
-    polled_read(bench, slots, host, call)
+    claimant.stage = Stage::Idle;
+    let call = begins_read(bench, slots, &mut claimant.host, lba)?;
+    serves(rt, bench, server, claimant.queue);
+    listens(rt, bench, slots, &mut claimant.host);
+    polled_read(bench, slots, &mut claimant.host, call)
 }

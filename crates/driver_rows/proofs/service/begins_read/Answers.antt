@@ -4,8 +4,8 @@ use Rattle.driver_commands.specs.declared.request.CallData.{CallData}
 use Rattle.driver_cas.specs.Drivers.{area_of}
 use Rattle.driver_cas.specs.Requests.{request_of}
 use Rattle.slot_alloc.proofs.Keeping.{request_sound}
-use Rattle.slot_rows.proofs.Claimants.{read_ready}
-use Rattle.slot_rows.proofs.service.begins_read.Goals as goal
+use Rattle.driver_rows.proofs.Claimants.{read_ready}
+use Rattle.driver_rows.proofs.service.begins_read.Goals as goal
 
 pub returns-in-Ok-clause-ready : goal.returns-in-Ok-clause-ready
 returns-in-Ok-clause-ready c =

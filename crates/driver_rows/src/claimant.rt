@@ -1,16 +1,17 @@
 //! A host that claims slots, and what it has begun.
 
 ghost use Rattle.std.specs.Prelude.{◌≡◌, ◌<◌, ◌≤◌, ◌∷◌, [], IfOk, IfSome};
-ghost use Rattle.driver_rows.specs.Benches.{IsServerOf};
+ghost use Rattle.driver_rows.specs.Benches.{AreOf, IsServerOf};
 ghost use Rattle.slot_alloc.specs.Areas.{area};
 ghost use Rattle.slot_alloc.specs.Claims.{IsClaimingOf, IsReleasingOf, IsUnreleased};
-ghost use Rattle.slot_rows.specs.Claimants.{IsBegun, IsClaimant, IsReady};
+ghost use Rattle.driver_rows.specs.Claimants.{IsBegun, IsClaimant, IsReady};
 
+use crate::bench::{Bench, Host, Server, Spares, hand_of, host_of};
 use driver_cas::{Fault, SharedPort};
-use driver_rows::{Bench, Host, Server, host_of};
 use nvme_model::array::Range;
 use slot_alloc::{Claim, Claiming, Progress, Released, Releasing, Slots, poll_claim, poll_release};
 use std::alloc::{AllocError as NoMemory, Global};
+use std::mem;
 
 /// A claim that may be dropped: its slot then stays held.
 pub struct Kept {
@@ -50,7 +51,7 @@ pub struct Claimant<'a> {
     pub stage: Stage<'a>,
 }
 
-/// Host h, on queue h, with so many slots from block 0 on; None where memory is refused.
+/// Host h, on queue h, with so many slots from block 0 on, which has begun nothing; None where memory is refused.
 pub fn claimant_of<'a>(
     alloc: Global,
     bench: &'a Bench,
@@ -73,7 +74,34 @@ pub fn claimant_of<'a>(
         blocks: count,
     };
     let host = host_of(alloc, bench, hand, u32::from(h), range, h, queues)?;
-    Some(idle(bench, _slots, host, h))
+    Some(Claimant {
+        host,
+        queue: h,
+        stage: Stage::Idle,
+    })
+}
+
+/// A server, and hosts 1 and 2 with so many slots from block 0 on; None where memory is refused or no pass is left.
+pub fn claimants_of<'a>(
+    alloc: Global,
+    bench: &'a Bench,
+    spares: &mut Spares,
+    slots: &Slots,
+    count: u32,
+) -> Option<(Server, Claimant<'a>, Claimant<'a>)>
+    requires own { AreOf bench.now spares.old }
+    requires queues { (bench.now.config.pairs ≡ 2) × (bench.now.config.cqs ≡ 2) }
+    requires slots { (area slots.now ≡ record { slba = 0; blocks = count }) × (count ≤ 65536) }
+    ensures server { IfSome result (λ h. IsServerOf bench.entry.now h.0) }
+    ensures one { IfSome result (λ h. IsClaimant bench.entry.now slots.now h.1) }
+    ensures two { IfSome result (λ h. IsClaimant bench.entry.now slots.now h.2) }
+{
+    let server = hand_of(bench, spares)?;
+    let one = hand_of(bench, spares)?;
+    let two = hand_of(bench, spares)?;
+    let one = claimant_of(alloc, bench, one, 1, slots, count)?;
+    let two = claimant_of(alloc, bench, two, 2, slots, count)?;
+    Some((server, one, two))
 }
 
 // A list of one queue.
@@ -83,18 +111,6 @@ fn queues_of(alloc: Global, queue: u16) -> Result<Vec<u16>, NoMemory>
     let mut queues = Vec::new(alloc);
     queues.push(queue)?;
     Ok(queues)
-}
-
-/// A host that has begun nothing.
-pub fn idle<'a>(_bench: &Bench, _slots: &Slots, host: Host<'a>, queue: u16) -> Claimant<'a>
-    requires { IsReady _bench.now _slots.now host }
-    ensures { IsClaimant _bench.now _slots.now result }
-{
-    Claimant {
-        host,
-        queue,
-        stage: Stage::Idle,
-    }
 }
 
 /// What came of a call.
@@ -135,37 +151,31 @@ fn begins<'a>(
 }
 
 /// Begins to claim this slot, or any, where nothing is begun.
-pub fn asks<'a>(
-    bench: &Bench,
-    slots: &Slots,
-    claimant: Claimant<'a>,
-    slot: Option<u32>,
-) -> (Claimant<'a>, Came)
-    requires claimant { IsClaimant bench.now slots.now claimant }
+pub fn asks(bench: &Bench, slots: &Slots, claimant: &mut Claimant<'_>, slot: Option<u32>) -> Came
+    requires claimant { IsClaimant bench.now slots.now claimant.old }
     requires slot { IfSome slot (λ i. i < (area slots.now).blocks) }
-    ensures { IsClaimant bench.now slots.now result.0 }
+    ensures { IsClaimant bench.now slots.now claimant.new }
 {
-    let Claimant { host, queue, stage } = claimant;
-    let Stage::Idle = stage else {
-        return (Claimant { host, queue, stage }, Came::Nothing);
+    let (stage, came) = match mem::replace(&mut claimant.stage, Stage::Idle) {
+        Stage::Idle => match begins(bench, slots, &mut claimant.host, slot) {
+            Ok(claiming) => (Stage::Claiming(claiming), Came::Begun),
+            Err(fault) => (Stage::Idle, Came::Refused(fault)),
+        },
+        Stage::Claiming(claiming) => (Stage::Claiming(claiming), Came::Nothing),
+        Stage::Holding(kept) => (Stage::Holding(kept), Came::Nothing),
+        Stage::Releasing(releasing) => (Stage::Releasing(releasing), Came::Nothing),
     };
-    let mut host = host;
-    let (stage, came) = match begins(bench, slots, &mut host, slot) {
-        Ok(claiming) => (Stage::Claiming(claiming), Came::Begun),
-        Err(fault) => (Stage::Idle, Came::Refused(fault)),
-    };
-    (Claimant { host, queue, stage }, came)
+    claimant.stage = stage;
+    came
 }
 
 /// Begins to release the slot that is held, if one is.
-pub fn gives_back<'a>(_bench: &Bench, slots: &Slots, claimant: Claimant<'a>) -> (Claimant<'a>, Came)
-    requires { IsClaimant _bench.now slots.now claimant }
-    ensures { IsClaimant _bench.now slots.now result.0 }
+pub fn gives_back(_bench: &Bench, slots: &Slots, claimant: &mut Claimant<'_>) -> Came
+    requires { IsClaimant _bench.now slots.now claimant.old }
+    ensures { IsClaimant _bench.now slots.now claimant.new }
 {
-    let Claimant { host, queue, stage } = claimant;
-    let mut host = host;
-    let (stage, came) = match stage {
-        Stage::Holding(kept) => match slots.release(&mut host.driver, kept.into_claim()) {
+    let (stage, came) = match mem::replace(&mut claimant.stage, Stage::Idle) {
+        Stage::Holding(kept) => match slots.release(&mut claimant.host.driver, kept.into_claim()) {
             Ok(releasing) => (Stage::Releasing(releasing), Came::Begun),
             Err((claim, fault)) => (Stage::Holding(Kept { claim }), Came::Refused(fault)),
         },
@@ -173,7 +183,8 @@ pub fn gives_back<'a>(_bench: &Bench, slots: &Slots, claimant: Claimant<'a>) -> 
         Stage::Claiming(claiming) => (Stage::Claiming(claiming), Came::Nothing),
         Stage::Releasing(releasing) => (Stage::Releasing(releasing), Came::Nothing),
     };
-    (Claimant { host, queue, stage }, came)
+    claimant.stage = stage;
+    came
 }
 
 // What has come of a claim.
@@ -222,38 +233,28 @@ fn polled_release<'a>(
 }
 
 /// Polls what is begun, once.
-pub fn polls<'a>(_bench: &Bench, _slots: &Slots, claimant: Claimant<'a>) -> (Claimant<'a>, Came)
-    requires { IsClaimant _bench.now _slots.now claimant }
-    ensures { IsClaimant _bench.now _slots.now result.0 }
+pub fn polls_begun(bench: &Bench, slots: &Slots, claimant: &mut Claimant<'_>) -> Came
+    requires { IsClaimant bench.now slots.now claimant.old }
+    ensures { IsClaimant bench.now slots.now claimant.new }
 {
-    let Claimant { host, queue, stage } = claimant;
-    let mut host = host;
-    let (stage, came) = match stage {
-        Stage::Claiming(claiming) => polled_claim(_bench, _slots, &mut host, claiming),
-        Stage::Releasing(releasing) => polled_release(_bench, _slots, &mut host, releasing),
+    let (stage, came) = match mem::replace(&mut claimant.stage, Stage::Idle) {
+        Stage::Claiming(claiming) => polled_claim(bench, slots, &mut claimant.host, claiming),
+        Stage::Releasing(releasing) => polled_release(bench, slots, &mut claimant.host, releasing),
         Stage::Idle => (Stage::Idle, Came::Nothing),
         Stage::Holding(kept) => (Stage::Holding(kept), Came::Nothing),
     };
-    (Claimant { host, queue, stage }, came)
+    claimant.stage = stage;
+    came
 }
 
-/// The host, with the slot that it held and the serial of its claim, if it held one, which stays held. What was begun
-/// is dropped.
-pub fn leaves<'a>(
-    _bench: &Bench,
-    _slots: &Slots,
-    claimant: Claimant<'a>,
-) -> (Host<'a>, Option<(u32, u64)>)
-    requires { IsClaimant _bench.now _slots.now claimant }
-    ensures { IsReady _bench.now _slots.now result.0 }
+/// The slot that the host held and the serial of its claim, if it held one, which stays held. What was begun is
+/// dropped.
+pub fn leaves(_bench: &Bench, _slots: &Slots, claimant: &mut Claimant<'_>) -> Option<(u32, u64)>
+    requires { IsClaimant _bench.now _slots.now claimant.old }
+    ensures { IsClaimant _bench.now _slots.now claimant.new }
 {
-    let Claimant {
-        host,
-        queue: _,
-        stage,
-    } = claimant;
-    match stage {
-        Stage::Holding(kept) => (host, Some(kept.into_claim().leave())),
-        Stage::Idle | Stage::Claiming(_) | Stage::Releasing(_) => (host, None),
+    match mem::replace(&mut claimant.stage, Stage::Idle) {
+        Stage::Holding(kept) => Some(kept.into_claim().leave()),
+        Stage::Idle | Stage::Claiming(_) | Stage::Releasing(_) => None,
     }
 }

@@ -39,8 +39,8 @@ use Rattle.slot_alloc.specs.declared.claim.Claim.{Claim}
 use Rattle.slot_alloc.specs.declared.claiming.Reach.{Reach}
 use Rattle.slot_alloc.specs.declared.claiming.Stage.{Stage as Turn}
 use Rattle.slot_alloc.specs.declared.slots.Slots.{Slots}
-use Rattle.slot_rows.specs.Claimants.{IsBegun, IsReady}
-use Rattle.slot_rows.specs.declared.claimant.Stage.{Stage}
+use Rattle.driver_rows.specs.Claimants.{IsBegun, IsReady}
+use Rattle.driver_rows.specs.declared.claimant.Stage.{Stage}
 
 -- ---- the submission queue of a host
 
@@ -52,17 +52,6 @@ pub uses_own : (c : ConfigNumbers) (h : ℕ) (qs : List ℕ) → 1 ≤ h → h �
 uses_own c h qs l m e is =
     All-same (λ q. uses c h q ≡ true) qs (h ∷ []) is
     (All-cons (λ q. uses c h q ≡ true) h [] (three _ _ _ (le-leb 1 h l) (le-leb h c.pairs m) (eq-eqb (completion_queue c h) h (own_queue c h e l m))) (All-nil (λ q. uses c h q ≡ true)))
-
--- ---- a list without one of its elements
-
-pub all_but : {X : Type 0} (P : X → Type 0) (xs : List X) (i : ℕ) (d : X) → i < length xs → All P xs → All P (swap_remove xs i d)
-all_but P xs i d less all =
-    All-take P (length xs - 1) (slice_set xs i (slice_index_or xs (length xs - 1) d)) (All-set P xs i (slice_index_or xs (length xs - 1) d) (All-get_or P xs (length xs - 1) d (omega (arith, less)) all) all)
-
--- and with one more, if it was put there
-pub all_more : {X : Type 0} (P : X → Type 0) (b : Bool) (xs ys : List X) (x : X) → ys ≡ (if b then xs ++ x ∷ [] else xs) → All P xs → P x → All P ys
-all_more P true xs ys x e all one = All-same P ys (xs ++ x ∷ []) e (All-push P xs x all one)
-all_more P false xs ys x e all one = All-same P ys xs e all
 
 -- ---- after a Read was begun, after a poll, after notices
 

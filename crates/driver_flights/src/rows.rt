@@ -1,49 +1,16 @@
 //! What each call is answered, served before the next.
 
-ghost use Rattle.std.specs.Prelude.{◌≡◌, ◌≤◌, ◌+◌, IfOk};
-ghost use Rattle.history.specs.Config.{numbers};
-ghost use Rattle.driver_rows.specs.Benches.{AreOf, IsHostOf, IsServerOf};
+ghost use Rattle.std.specs.Prelude.{◌≤◌};
+ghost use Rattle.driver_rows.specs.Benches.{IsHostOf, IsServerOf};
 
-use crate::ask::{Ask, Fill, Told, answers, hears, starts};
-use crate::bench::{Bench, Host, Server, Spares, bench_of, hand_of, host_of};
-use crate::serve::serves;
 use driver_cas::Fault;
-use history::Config;
-use nvme_model::array::Range;
+use driver_rows::{
+    Ask, Bench, Fill, Host, Server, Told, answers, desk_of, hears, serves, small_bench, starts,
+};
 use std::alloc::Global;
 use std::process::Abort;
 use std::sync::Wait;
 use std::test::Fail;
-
-// A bench of `config 8 1 1 0 0 2 4 4 8`.
-fn small(alloc: Global) -> Result<(Bench, Spares), Fail>
-    ensures own { IfOk result (λ b. AreOf b.0 b.1) }
-    ensures config { IfOk result (λ b. b.0.config ≡ numbers 8 1 1 0 0 2 4 4 8 2) }
-{
-    let Ok(config) = Config::new(8, 1, 1, 0, 0, 2, 4, 4, 8) else {
-        return Err(Fail::from("the configuration is refused"));
-    };
-    Ok(bench_of(alloc, config, 4, 2)?)
-}
-
-// Host 1, on submission queue 1, with so many slots from block 0 on.
-fn host<'a>(alloc: Global, bench: &'a Bench, hand: Server, slots: u32) -> Result<Host<'a>, Fail>
-    requires hand { IsServerOf bench.now hand }
-    requires config { bench.now.config ≡ numbers 8 1 1 0 0 2 4 4 8 2 }
-    requires slots { slots ≤ 2 }
-    ensures { IfOk result (IsHostOf bench.entry.now) }
-{
-    let mut queues = Vec::new(alloc);
-    queues.push(1)?;
-    let slots = Range {
-        slba: 0,
-        blocks: slots,
-    };
-    match host_of(alloc, bench, hand, 1, slots, 1, queues) {
-        Some(host) => Ok(host),
-        None => Err(Fail::from("a host")),
-    }
-}
 
 // How a call is answered, once its queue is served.
 fn served<R: Wait>(
@@ -79,12 +46,27 @@ fn all_answered<R: Abort + Wait>(
     }
 }
 
+// That each call of a host with so many slots is answered so.
+fn answers_all<R: Abort + Wait>(
+    rt: &R,
+    alloc: Global,
+    slots: u32,
+    rows: &[(Ask, Result<Told, Fault>)],
+) -> Result<(), Fail>
+    requires { slots ≤ 65536 }
+{
+    let Some((bench, mut spares)) = small_bench(alloc, 4, 2) else {
+        return Err(Fail::from("a bench"));
+    };
+    let Some((mut server, mut host)) = desk_of(alloc, &bench, &mut spares, slots) else {
+        return Err(Fail::from("a host"));
+    };
+    all_answered(rt, &bench, &mut server, &mut host, rows);
+    Ok(())
+}
+
 #[test]
 fn calls_are_answered(rt: HostRuntime) -> Result<(), Fail> {
-    let (bench, mut spares) = small(rt.alloc())?;
-    let mut server = hand_of(&bench, &mut spares).ok_or("a server")?;
-    let hand = hand_of(&bench, &mut spares).ok_or("a host")?;
-    let mut host = host(rt.alloc(), &bench, hand, 2)?;
     let rows = [
         (Ask::Read(2, 0), Err(Fault::Length)),
         (Ask::Write(2, Fill(0xa1, 511)), Err(Fault::Length)),
@@ -124,16 +106,11 @@ fn calls_are_answered(rt: HostRuntime) -> Result<(), Fail> {
             Ok(Told::Failed(0, 0x80)),
         ),
     ];
-    all_answered(&rt, &bench, &mut server, &mut host, &rows);
-    Ok(())
+    answers_all(&rt, rt.alloc(), 2, &rows)
 }
 
 #[test]
 fn zeros_are_written(rt: HostRuntime) -> Result<(), Fail> {
-    let (bench, mut spares) = small(rt.alloc())?;
-    let mut server = hand_of(&bench, &mut spares).ok_or("a server")?;
-    let hand = hand_of(&bench, &mut spares).ok_or("a host")?;
-    let mut host = host(rt.alloc(), &bench, hand, 0)?;
     let rows = [
         (Ask::Write(0, Fill(0xa1, 1024)), Ok(Told::Written)),
         (Ask::Read(0, 2), Ok(Told::Read(1024, 0xa1))),
@@ -145,6 +122,5 @@ fn zeros_are_written(rt: HostRuntime) -> Result<(), Fail> {
         (Ask::WriteZeroes(2, 0), Err(Fault::Length)),
         (Ask::WriteZeroes(2, 257), Err(Fault::TooLong)),
     ];
-    all_answered(&rt, &bench, &mut server, &mut host, &rows);
-    Ok(())
+    answers_all(&rt, rt.alloc(), 0, &rows)
 }

@@ -1,6 +1,6 @@
 use Rattle.driver_rows.specs.Benches.{IsServerOf}
-use Rattle.slot_rows.specs.Claimants.{IsClaimant}
-use Rattle.slot_rows.proofs.service.answered.Given as goal
+use Rattle.driver_rows.specs.Claimants.{IsClaimant}
+use Rattle.driver_rows.proofs.service.answered.Given as goal
 
 abbrev pub invariant-loop : goal.invariant-loop
 invariant-loop g l = IsServerOf l.bench l.server × IsClaimant l.bench l.slots l.claimant

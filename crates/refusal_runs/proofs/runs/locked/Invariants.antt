@@ -1,5 +1,5 @@
 use Rattle.std.specs.Prelude.{[], ◌≡◌}
-use Rattle.refusal_runs.proofs.runs.by_a_pass.Given as goal
+use Rattle.refusal_runs.proofs.runs.locked.Given as goal
 
 abbrev pub invariant-loop : goal.invariant-loop
 invariant-loop l = l.core.past ≡ []

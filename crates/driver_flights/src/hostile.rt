@@ -2,10 +2,8 @@
 
 ghost use Rattle.driver_cas.specs.Drivers.{IsCallOf};
 
-use crate::ask::{Ask, Told, begins, polled};
-use crate::fake::{Fake, Script};
 use driver_cas::{Call, Driver, Fault, PortFault};
-use nvme_model::array::Range;
+use driver_rows::{Ask, Fake, Script, Told, begins, driver_of, good, polled};
 use std::alloc::Global;
 use std::process::Abort;
 use std::test::Fail;
@@ -14,34 +12,6 @@ const READ: Ask = Ask::Read(0, 1);
 
 /// Success for the command with CID 0 of submission queue 1.
 const GOOD: [u8; 16] = [0, 0, 0, 0, 0, 0, 0, 0, 1, 0, 1, 0, 0, 0, 1, 0];
-
-/// The same, with this CID.
-fn good(cid: u8) -> [u8; 16] {
-    let mut cqe = GOOD;
-    cqe[12] = cid;
-    cqe
-}
-
-// A driver of submission queue 1 over a port that is to answer so, the next last.
-fn driver_of(
-    alloc: Global,
-    refusals: Vec<Option<PortFault>>,
-    reaps: Vec<Script>,
-) -> Result<Driver<Fake>, Fail> {
-    let mut queues = Vec::new(alloc);
-    queues.push(1)?;
-    let port = Fake {
-        alloc,
-        did: Vec::new(alloc),
-        refusals,
-        reaps,
-    };
-    let slots = Range { slba: 0, blocks: 0 };
-    match Driver::new(alloc, port, 1, 1, slots, queues) {
-        Ok(driver) => Ok(driver),
-        Err(_) => Err(Fail::from("memory")),
-    }
-}
 
 // That polling a call gives these, the last of which is its answer.
 fn is_told<R: Abort>(
@@ -70,10 +40,8 @@ fn changed(alloc: Global, bit: usize) -> Result<(Told, Told), Fail> {
     if let Some(byte) = bad.get_mut(bit / 8) {
         *byte ^= 1 << (bit % 8);
     }
-    let mut reaps = Vec::new(alloc);
-    reaps.push(Script::Posted(GOOD))?;
-    reaps.push(Script::Posted(bad))?;
-    let mut driver = driver_of(alloc, Vec::new(alloc), reaps)?;
+    let reaps = [good(1, 0), Script::Posted(bad)];
+    let mut driver = driver_of(alloc, &[1], 0, &[], &reaps).ok_or("memory")?;
     let Ok(call) = begins(&mut driver, READ) else {
         return Err(Fail::from("a Read"));
     };
@@ -118,12 +86,8 @@ fn each_bit_of_a_completion_counts(rt: HostRuntime) -> Result<(), Fail> {
 // Two Reads; the completion of the second comes twice.
 #[test]
 fn a_completion_counts_once(rt: HostRuntime) -> Result<(), Fail> {
-    let mut reaps = Vec::new(rt.alloc());
-    reaps.push(Script::Posted(good(0)))?;
-    reaps.push(Script::Posted(good(9)))?;
-    reaps.push(Script::Posted(good(1)))?;
-    reaps.push(Script::Posted(good(1)))?;
-    let mut driver = driver_of(rt.alloc(), Vec::new(rt.alloc()), reaps)?;
+    let reaps = [good(1, 0), good(1, 9), good(1, 1), good(1, 1)];
+    let mut driver = driver_of(rt.alloc(), &[1], 0, &[], &reaps).ok_or("memory")?;
     let Ok(one) = begins(&mut driver, READ) else {
         return Err(Fail::from("a Read"));
     };
@@ -142,13 +106,8 @@ fn a_completion_counts_once(rt: HostRuntime) -> Result<(), Fail> {
 
 // That a Read is refused so, and then begun; that its completion comes later, and then comes.
 fn is_later<R: Abort>(rt: &R, alloc: Global, fault: PortFault, want: Fault) -> Result<(), Fail> {
-    let mut refusals = Vec::new(alloc);
-    refusals.push(Some(fault))?;
-    let mut reaps = Vec::new(alloc);
-    reaps.push(Script::Posted(GOOD))?;
-    reaps.push(Script::NoMemory)?;
-    reaps.push(Script::Busy)?;
-    let mut driver = driver_of(alloc, refusals, reaps)?;
+    let reaps = [good(1, 0), Script::NoMemory, Script::Busy];
+    let mut driver = driver_of(alloc, &[1], 0, &[Some(fault)], &reaps).ok_or("memory")?;
     match begins(&mut driver, READ) {
         Ok(_) => return Err(Fail::from("a refused Read")),
         Err(fault) => assert_eq!(rt; fault, want),
