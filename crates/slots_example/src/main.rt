@@ -4,10 +4,19 @@
 use driver_rows::{Came, claimants_of, claims, leaves, releases, small_bench};
 use slot_alloc::Slots;
 use std::io;
+use std::process::ExitCode;
 use std::sync::Wait;
 
-// What comes of the claims and the release, and what host 2 leaves: a slot and a serial.
-fn runs<R: AllocGlobal + Wait>(rt: &R) -> Option<([Came; 4], Option<(u32, u64)>)> {
+// Says what came of the claims and of the release, and what was left: a slot and a serial.
+fn says<R: Print>(rt: &R, came: [Came; 4], left: Option<(u32, u64)>) -> io::Result<()> {
+    println!(rt; "host 1 claims slot 0: {:?}", came[0])?;
+    println!(rt; "host 2 claims slot 0: {:?}", came[1])?;
+    println!(rt; "host 1 releases it: {:?}", came[2])?;
+    println!(rt; "host 2 claims slot 0: {:?}", came[3])?;
+    println!(rt; "host 2 leaves it held, slot and serial: {left:?}")
+}
+
+fn runs<R: AllocGlobal + Print + Wait>(rt: &R) -> Option<()> {
     // One slot, block 0, of a controller of two queue pairs; host h uses queue h.
     let slots = Slots::new(0, 1);
     let (bench, mut spares) = small_bench(rt.alloc(), 4, 3)?;
@@ -18,21 +27,13 @@ fn runs<R: AllocGlobal + Wait>(rt: &R) -> Option<([Came; 4], Option<(u32, u64)>)
         releases(rt, &bench, &mut server, &slots, &mut one),
         claims(rt, &bench, &mut server, &slots, &mut two, Some(0)),
     ];
-    Some((came, leaves(&bench, &slots, &mut two)))
+    let left = leaves(&bench, &slots, &mut two);
+    says(rt, came, left).ok()
 }
 
-// Says so.
-fn says<R: Print>(rt: &R, came: [Came; 4], left: Option<(u32, u64)>) -> io::Result<()> {
-    println!(rt; "host 1 claims slot 0: {:?}", came[0])?;
-    println!(rt; "host 2 claims slot 0: {:?}", came[1])?;
-    println!(rt; "host 1 releases it: {:?}", came[2])?;
-    println!(rt; "host 2 claims slot 0: {:?}", came[3])?;
-    println!(rt; "host 2 leaves it held, slot and serial: {left:?}")
-}
-
-fn main(rt: HostRuntime) -> io::Result<()> {
+fn main(rt: HostRuntime) -> ExitCode {
     match runs(&rt) {
-        Some((came, left)) => says(&rt, came, left),
-        None => println!(rt; "no memory"),
+        Some(()) => ExitCode::SUCCESS,
+        None => ExitCode::FAILURE,
     }
 }
