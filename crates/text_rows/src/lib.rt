@@ -1,5 +1,5 @@
-//! Words, lines of readers and writers, entries and kinds of lines of histories, and numbers of races: what only calls show, as tests.
-//! Which lines are read and which are none is shown by the built program, on the rows of `scenes/`.
+//! Words, lines of readers and writers, entries and kinds of lines of histories, and numbers of races: what only calls
+//! show, as tests. Which lines are read and which are none is shown by the built program, on the rows of `scenes/`.
 #![tactic(auto)]
 
 #[cfg(test)]
