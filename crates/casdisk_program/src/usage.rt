@@ -1,10 +1,10 @@
 //! The command line.
 
-ghost use Rattle.std.specs.Prelude.{◌≡◌, IfErr, IfOk, codes, map, option_map, string_bytes};
-ghost use Rattle.clap.specs.Words.{app_of, first_of, found_of, rows_of, rule_of};
+ghost use Rattle.std.specs.Prelude.{◌≡◌, IfErr, IfOk, IsOkAnd, codes, map, option_map, string_bytes, true};
+ghost use Rattle.clap.specs.Words.{app_of, first_of, found_of, rows_of, rule_of, with_rule, with_subcommand};
 ghost use Rattle.casdisk_program.specs.Asking.{AreRefused, Asks, AsksBy, IsRaceInRange, IsRefusedBy, kinds_asked};
-ghost use Rattle.casdisk_program.specs.CommandLine.{casdisk_app, check_app, explain_app, number_rule, race_app};
-ghost use Rattle.casdisk_program.specs.CommandLine.{run_app};
+ghost use Rattle.casdisk_program.specs.CommandLine.{casdisk_app, check_app, default_rule, explain_app, needed_rule};
+ghost use Rattle.casdisk_program.specs.CommandLine.{number_rule, race_app, run_app};
 
 use crate::request::{Asked, UsageFault};
 use casdisk_script::kinds_of;
@@ -128,47 +128,85 @@ fn number_option<'a>(
         .action(ArgAction::Set)
 }
 
+// The command with one more of its numbers, which has to be there.
+fn with_needed<'a>(
+    alloc: Global,
+    command: Command<'a>,
+    name: &'static str,
+    value: &'static str,
+    help: &'static str,
+) -> Result<Command<'a>, AllocError>
+    ensures { IfOk result (λ c. app_of c ≡ with_rule (app_of command.entry) (needed_rule name.entry.now)) }
+{
+    command.arg(number_option(alloc, name, value, help).required(true))
+}
+
+// The command with one more of its numbers, which is `default` where it isn't there.
+fn with_default<'a>(
+    alloc: Global,
+    command: Command<'a>,
+    name: &'static str,
+    value: &'static str,
+    help: &'static str,
+    default: &'static str,
+) -> Result<Command<'a>, AllocError>
+    ensures { IfOk result
+        (λ c. app_of c ≡ with_rule (app_of command.entry) (default_rule name.entry.now default.entry.now)) }
+{
+    command.arg(number_option(alloc, name, value, help).default_value(default))
+}
+
 fn race_command<'a>(alloc: Global) -> Result<Command<'a>, AllocError>
     ensures { IfOk result (λ c. app_of c ≡ race_app) }
 {
-    let hosts = number_option(alloc, "hosts", "H", "Hosts, 1 to 16").required(true);
-    let workers = number_option(alloc, "workers", "W", "Workers, 1 to 16").required(true);
-    let slots = number_option(alloc, "slots", "S", "Slots, 1 to 64").required(true);
-    let rounds = number_option(
+    let command = Command::new(alloc, "race")
+        .about("Lets hosts race for slots on threads and prints the controller's history")
+        .after_help(ABOUT_RACES);
+    let command = with_needed(alloc, command, "hosts", "H", "Hosts, 1 to 16")?;
+    let command = with_needed(alloc, command, "workers", "W", "Workers, 1 to 16")?;
+    let command = with_needed(alloc, command, "slots", "S", "Slots, 1 to 64")?;
+    let command = with_default(
         alloc,
+        command,
         "rounds",
         "R",
         "Rounds of each host, 1 to 1000",
-    ).default_value("10");
-    let queues = number_option(
+        "10",
+    )?;
+    with_default(
         alloc,
+        command,
         "queues",
         "Z",
         "Submission queues of each host, 1 to 16",
+        "1",
     )
-    .default_value("1");
-    Command::new(alloc, "race")
-        .about("Lets hosts race for slots on threads and prints the controller's history")
-        .after_help(ABOUT_RACES)
-        .arg(hosts)?
-        .arg(workers)?
-        .arg(slots)?
-        .arg(rounds)?
-        .arg(queues)
+}
+
+// The command with this one below it, which has no options for those below itself.
+fn with_command<'a>(
+    command: Command<'a>,
+    below: Result<Command<'a>, AllocError>,
+) -> Result<Command<'a>, AllocError>
+    requires plain { IfOk below (λ b. (app_of b).top.is_plain ≡ true) }
+    ensures { IfOk result
+        (λ c. IsOkAnd below.entry (λ b. app_of c ≡ with_subcommand (app_of command.entry) (app_of b).top)) }
+{
+    command.subcommand(below?)
 }
 
 fn command<'a>(alloc: Global) -> Result<Command<'a>, AllocError>
     ensures { IfOk result (λ c. app_of c ≡ casdisk_app) }
 {
-    Command::new(alloc, "casdisk")
+    let command = Command::new(alloc, "casdisk")
         .version("0.1.0")
         .about("An NVM Express controller in software, around the fused Compare and Write")
         .after_help(ABOUT_SCRIPTS)
-        .subcommand_required(true)
-        .subcommand(run_command(alloc)?)?
-        .subcommand(check_command(alloc)?)?
-        .subcommand(explain_command(alloc)?)?
-        .subcommand(race_command(alloc)?)
+        .subcommand_required(true);
+    let command = with_command(command, run_command(alloc))?;
+    let command = with_command(command, check_command(alloc))?;
+    let command = with_command(command, explain_command(alloc))?;
+    with_command(command, race_command(alloc))
 }
 
 fn text_of(alloc: Global, words: &str) -> UsageFault {

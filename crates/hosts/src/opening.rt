@@ -4,7 +4,8 @@ ghost use Rattle.std.specs.Prelude.{◌≡◌, ◌<◌, ◌≤◌, ◌+◌, ◌-
 ghost use Rattle.std.specs.Vec.{vec_capacity};
 ghost use Rattle.work_queue.specs.QueuePasses as queue;
 ghost use Rattle.hosts.specs.Hands.{AreFirstPlaces, AreHandsOf, AreHostsOf, AreLastHosts, ArePlaces, AreSpares};
-ghost use Rattle.hosts.specs.Hands.{IsFreshPass, IsHostOf, IsPlaceAt, IsWorkerOf};
+ghost use Rattle.meet_lock.specs.Passes.{config_of};
+ghost use Rattle.hosts.specs.Hands.{IsFreshPass, IsHostOf, IsOf, IsPlaceAt, IsWorkerOf};
 
 use crate::hall::{Hall, Hand, Hands, HostHand, WorkerHand};
 use crate::rows::{Row, notice_queues};
@@ -60,6 +61,35 @@ fn put_host<G>(_hall: &Hall<G>, _config: &Config, hosts: &mut Vec<HostHand>, hos
     hosts.push_reserved(host);
 }
 
+// The host of this completion queue, with the last pass of each kind; None where none is left.
+fn next_host<G>(
+    hall: &Hall<G>,
+    _config: &Config,
+    passes: &mut Vec<Pass<Core>>,
+    places: &mut Row,
+    queue: u16,
+) -> Option<HostHand>
+    requires passes { All (IsFreshPass hall.now.engine _config.now) passes.old.items }
+    requires places { AreFirstPlaces hall.now places.old.items }
+    requires queue { (vec_len places.old ≡ queue) × (1 ≤ queue) × (queue ≤ _config.now.cqs) }
+    requires queues { length hall.now.notices.items ≡ _config.now.cqs }
+    ensures passes { All (IsFreshPass hall.now.engine _config.now) passes.new.items }
+    ensures places { AreFirstPlaces hall.now places.new.items }
+    ensures host { IfSome result (λ h. IsHostOf hall.now _config.now h × (h.queue ≡ queue)) }
+    ensures count { MatchOption result (vec_len passes.old ≡ 0) (λ _. (vec_len passes.new + 1 ≡ vec_len passes.old)
+        × (vec_len places.new + 1 ≡ vec_len places.old)) }
+{
+    let pass = passes.pop()?;
+    let Some(notices) = last_place(hall, places) else {
+        unreachable!();
+    };
+    Some(HostHand {
+        pass,
+        queue,
+        notices,
+    })
+}
+
 // A host for each completion queue, from the last to the first.
 #[tactic(auto, using(crate::proofs::Halls::first_places, crate::proofs::Halls::places_count))]
 fn hosts_of<G>(
@@ -80,20 +110,10 @@ fn hosts_of<G>(
     let count = config.numbers().cqs;
     let mut hosts = Vec::with_capacity(alloc, usize::from(count))?;
     for k in 0..count {
-        let (Some(pass), Some(notices)) = (passes.pop(), last_place(hall, &mut places)) else {
+        let Some(host) = next_host(hall, config, passes, &mut places, count - k) else {
             unreachable!();
         };
-        let queue = count - k;
-        put_host(
-            hall,
-            config,
-            &mut hosts,
-            HostHand {
-                pass,
-                queue,
-                notices,
-            },
-        );
+        put_host(hall, config, &mut hosts, host);
     }
     Ok(hosts)
 }
@@ -146,6 +166,29 @@ fn workers_of<G>(
     Ok(workers)
 }
 
+// What the fetcher is to own, the last of each kind.
+fn take_fetcher<G>(
+    _hall: &Hall<G>,
+    _config: &Config,
+    passes: &mut Vec<Pass<Core>>,
+    works: &mut Vec<QueuePass<Work>>,
+) -> Option<Hand>
+    requires passes { All (IsFreshPass _hall.now.engine _config.now) passes.old.items }
+    requires works { All (queue.IsPlaceOf _hall.now.engine _hall.now.works) works.old.items }
+    requires count { vec_len passes.old ≡ vec_len works.old }
+    ensures passes { All (IsFreshPass _hall.now.engine _config.now) passes.new.items }
+    ensures works { All (queue.IsPlaceOf _hall.now.engine _hall.now.works) works.new.items }
+    ensures hand { IfSome result (λ h. IsOf _hall.now h × (config_of h.pass ≡ _config.now)) }
+    ensures count { MatchOption result (vec_len works.old ≡ 0) (λ _. (vec_len works.new + 1 ≡ vec_len works.old)
+        × (vec_len passes.new ≡ vec_len works.new)) }
+{
+    let works = works.pop()?;
+    let Some(pass) = passes.pop() else {
+        unreachable!();
+    };
+    Some(Hand { pass, works })
+}
+
 // Hands for a fetcher, a worker for each row but the last, and hosts.
 fn hands_of<G>(
     alloc: Global,
@@ -163,17 +206,19 @@ fn hands_of<G>(
     requires count { (vec_len passes ≡ vec_len rows + config.now.cqs) × (vec_len works ≡ vec_len rows) }
     ensures { IfOk result (AreHandsOf hall.now config.now (vec_len rows - 1)) }
 {
-    let (Some(row), Some(pass), Some(place)) = (rows.pop(), passes.pop(), works.pop()) else {
+    let Some(row) = rows.pop() else {
         unreachable!();
     };
     let hosts = hosts_of(alloc, hall, config, &mut passes, row)?;
+    let Some(fetcher) = take_fetcher(hall, config, &mut passes, &mut works) else {
+        unreachable!();
+    };
     let spares = Spares {
         passes,
         works,
         rows,
     };
     let workers = workers_of(alloc, hall, config, spares)?;
-    let fetcher = Hand { pass, works: place };
     Ok(Hands {
         fetcher,
         workers,

@@ -1,6 +1,6 @@
 //! Queues of notices, and a row of a pass of each for every caller.
 
-ghost use Rattle.std.specs.Prelude.{◌≡◌, ◌<◌, ◌∷◌, ◌++◌, [], All, IfOk, vec_len};
+ghost use Rattle.std.specs.Prelude.{◌≡◌, ◌<◌, ◌+◌, ◌∷◌, ◌++◌, [], All, IfOk, vec_len};
 ghost use Rattle.work_queue.specs.QueuePasses as queue;
 ghost use Rattle.hosts.specs.Hands.{ArePlaces};
 
@@ -39,6 +39,28 @@ fn longer_row(
     Ok(row)
 }
 
+// The last row with the last pass, of this queue behind those that it has; both are taken away.
+fn next_row(
+    engine: &Engine,
+    made: &Vec<NoticeQueue>,
+    more: &NoticeQueue,
+    places: &mut Row,
+    rows: &mut Vec<Row>,
+) -> Result<Row, NoMemory>
+    requires places { All (queue.IsPlaceOf engine.now more.now) places.old.items }
+    requires rows { All (λ row. ArePlaces engine.now made.now.items row.items) rows.old.items }
+    requires some { (0 < vec_len rows.old) × (vec_len places.old ≡ vec_len rows.old) }
+    ensures places { All (queue.IsPlaceOf engine.now more.now) places.new.items }
+    ensures rows { All (λ row. ArePlaces engine.now made.now.items row.items) rows.new.items }
+    ensures count { (vec_len rows.new + 1 ≡ vec_len rows.old) × (vec_len places.new ≡ vec_len rows.new) }
+    ensures row { IfOk result (λ r. ArePlaces engine.now (made.now.items ++ more.now ∷ []) r.items) }
+{
+    let (Some(row), Some(place)) = (rows.pop(), places.pop()) else {
+        unreachable!();
+    };
+    longer_row(engine, made, more, row, place)
+}
+
 // Each row with one pass more, of this queue behind those that it has.
 fn longer_rows(
     alloc: Global,
@@ -58,10 +80,7 @@ fn longer_rows(
     let count = rows.len();
     let mut longer = Vec::with_capacity(alloc, count)?;
     for _ in 0..count {
-        let (Some(row), Some(place)) = (rows.pop(), places.pop()) else {
-            unreachable!();
-        };
-        longer.push_reserved(longer_row(engine, made, more, row, place)?);
+        longer.push_reserved(next_row(engine, made, more, &mut places, &mut rows)?);
     }
     Ok(longer)
 }

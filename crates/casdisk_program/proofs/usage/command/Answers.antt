@@ -1,14 +1,14 @@
-use Rattle.std.proofs.Common.{ap, ap₂, rules, ◌≡◌, ◌∙◌}
+use Rattle.std.proofs.Common.{rules, ◌≡◌}
 use Rattle.std.proofs.lemmas.Result.{IfOk-weaker}
-use Rattle.clap.specs.Words.{App, app_of, with_subcommand}
+use Rattle.clap.specs.Words.{app_of}
 use Rattle.casdisk_program.specs.CommandLine.{top_app}
-use Rattle.casdisk_program.proofs.Apps.{third_fails}
+use Rattle.casdisk_program.proofs.Apps.{below_adds}
 use Rattle.casdisk_program.proofs.usage.command.Goals as goal
 
 pub returns : goal.returns
 returns c =
-    let top_is : app_of c.subcommand_required.result ≡ top_app = search rules in
-    let one = c.in_ok-subcommand.ensures.shape (third_fails _ _ _ _ (ap (λ (a : App). a.top.is_plain) c.in_ok-run_command.ensures)) ∙ ap₂ with_subcommand top_is (ap (λ (a : App). a.top) c.in_ok-run_command.ensures) in
-    let two = c.in_ok-subcommand-2.ensures.shape (third_fails _ _ _ _ (ap (λ (a : App). a.top.is_plain) c.in_ok-check_command.ensures)) ∙ ap₂ with_subcommand one (ap (λ (a : App). a.top) c.in_ok-check_command.ensures) in
-    let three = c.in_ok-subcommand-3.ensures.shape (third_fails _ _ _ _ (ap (λ (a : App). a.top.is_plain) c.in_ok-explain_command.ensures)) ∙ ap₂ with_subcommand two (ap (λ (a : App). a.top) c.in_ok-explain_command.ensures) in
-    IfOk-weaker c.subcommand-4.result _ _ (λ m h. h.shape (third_fails _ _ _ _ (ap (λ (a : App). a.top.is_plain) c.in_ok-race_command.ensures)) ∙ ap₂ with_subcommand three (ap (λ (a : App). a.top) c.in_ok-race_command.ensures)) c.subcommand-4.ensures
+    let top_is : app_of c.subcommand_required-command.result ≡ top_app = search rules in
+    let one = below_adds c.run_command.result _ _ _ _ top_is c.run_command.ensures c.in_ok-command.ensures in
+    let two = below_adds c.check_command.result _ _ _ _ one c.check_command.ensures c.in_ok-command-2.ensures in
+    let three = below_adds c.explain_command.result _ _ _ _ two c.explain_command.ensures c.in_ok-command-3.ensures in
+    IfOk-weaker c.with_command-4.result _ _ (λ m h. below_adds c.race_command.result _ _ _ _ three c.race_command.ensures h) c.with_command-4.ensures

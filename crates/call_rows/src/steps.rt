@@ -92,11 +92,16 @@ fn gives(rt: &impl Abort, alloc: Global, core: &mut Core, fill: &[u8]) -> Result
     Ok(())
 }
 
+// The Read beside the Write finds its first unit written, and its second one not yet.
+fn reads_beside(rt: &impl Abort, alloc: Global, core: &mut Core) -> Result<(), Fail> {
+    run(rt, alloc, core, fourteen_steps(alloc)?)?;
+    gives(rt, alloc, core, &[0xa1, 0xa1, 0, 0])
+}
+
 #[test]
 fn a_read_beside_a_write_sees_each_unit_at_one_moment(rt: HostRuntime) -> Result<(), Fail> {
     let mut core = small(rt.alloc())?;
-    run(&rt, rt.alloc(), &mut core, fourteen_steps(rt.alloc())?)?;
-    gives(&rt, rt.alloc(), &mut core, &[0xa1, 0xa1, 0, 0])
+    reads_beside(&rt, rt.alloc(), &mut core)
 }
 
 /// Makes what is ready until nothing is, and counts it; None where a step is refused.
@@ -113,13 +118,17 @@ fn settled(core: &mut Core) -> Option<u32> {
 }
 
 // The Write's unit begins first, so its two Grants, four Blocks and Post come before the Read's.
+fn settles(rt: &impl Abort, alloc: Global, core: &mut Core) -> Result<(), Fail> {
+    run(rt, alloc, core, beginning(alloc)?)?;
+    assert!(rt; settled(core) == Some(14));
+    assert!(rt; core.ready().is_none());
+    gives(rt, alloc, core, &[0xa1, 0xa1, 0xa1, 0xa1])
+}
+
 #[test]
 fn what_is_ready_is_made_until_nothing_is(rt: HostRuntime) -> Result<(), Fail> {
     let mut core = small(rt.alloc())?;
-    run(&rt, rt.alloc(), &mut core, beginning(rt.alloc())?)?;
-    assert!(rt; settled(&mut core) == Some(14));
-    assert!(rt; core.ready().is_none());
-    gives(&rt, rt.alloc(), &mut core, &[0xa1, 0xa1, 0xa1, 0xa1])
+    settles(&rt, rt.alloc(), &mut core)
 }
 
 /// Whether the next unit is of these blocks, or there is none.
@@ -149,14 +158,25 @@ fn has_two_units(answer: &Result<Answer, Refused>) -> bool {
     }
 }
 
-#[test]
-fn a_work_says_what_its_ticket_has_to_do(rt: HostRuntime) -> Result<(), Fail> {
-    let mut core = small(rt.alloc())?;
-    let write = batch(rt.alloc(), WRITE, 1, &[1, 2, 3, 4])?;
-    assert!(rt; core.step(Step::Publish(1, write)).is_ok());
+// Whether a Write of four blocks is published on queue 1.
+fn publishes(alloc: Global, core: &mut Core) -> Result<bool, AllocError> {
+    let write = batch(alloc, WRITE, 1, &[1, 2, 3, 4])?;
+    Ok(core.step(Step::Publish(1, write)).is_ok())
+}
+
+// Its Work has two units, and is a copy: the ticket goes on without it.
+fn tells_its_units(rt: &impl Abort, core: &mut Core) {
     let answer = core.step(Step::Fetch(1));
     assert!(rt; has_two_units(&answer));
     assert!(rt; core.step(Step::Grant(1)).is_ok());
     assert!(rt; core.step(Step::Block(1)).is_ok());
+}
+
+#[test]
+fn a_work_says_what_its_ticket_has_to_do(rt: HostRuntime) -> Result<(), Fail> {
+    let mut core = small(rt.alloc())?;
+    let is_published = publishes(rt.alloc(), &mut core);
+    assert!(rt; is_published == Ok(true));
+    tells_its_units(&rt, &mut core);
     Ok(())
 }
