@@ -1,6 +1,3 @@
-mod Apps
-mod Parsed
 mod Feeds
 mod ReadBack
 mod Telling
-mod Refused

@@ -1,3 +1,1 @@
-pub mod CommandLine
-pub mod Asking
 pub mod Told

@@ -1,8 +1,7 @@
 //! The whole program, over any runtime.
 
-use crate::request::{Asked, UsageFault};
-use crate::usage::asked;
 use casdisk_script::{Explained, RunFault, check_text, explain_text, run_script};
+use command_line::{Asked, UsageFault, asked};
 use history::Kinds;
 use nvme_model::config::ConfigFault;
 use race_numbers::Race;

@@ -2,7 +2,7 @@
 
 use crate::words::words;
 use bitflags::Flags;
-use casdisk_program::{Asked, asked};
+use command_line::{Asked, asked};
 use std::alloc::Global;
 use std::test::Fail;
 

@@ -1,7 +1,7 @@
 //! Command lines that are refused.
 
 use crate::words::words;
-use casdisk_program::{Asked, UsageFault, asked};
+use command_line::{Asked, UsageFault, asked};
 use std::alloc::{AllocError, Global};
 use std::test::Fail;
 

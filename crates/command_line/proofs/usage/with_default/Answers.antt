@@ -1,9 +1,9 @@
 use Rattle.std.proofs.Common.{ap, [], ◌≡◌, ◌∙◌, ◌∷◌}
 use Rattle.std.proofs.lemmas.Result.{IfOk-weaker}
 use Rattle.clap.specs.Words.{Rule, app_of, rule_of, with_rule}
-use Rattle.casdisk_program.specs.CommandLine.{default_rule}
-use Rattle.casdisk_program.proofs.Apps.{not_global}
-use Rattle.casdisk_program.proofs.usage.with_default.Goals as goal
+use Rattle.command_line.specs.CommandLine.{default_rule}
+use Rattle.command_line.proofs.Apps.{not_global}
+use Rattle.command_line.proofs.usage.with_default.Goals as goal
 
 pub returns : goal.returns
 returns c =

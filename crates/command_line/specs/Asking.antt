@@ -6,9 +6,9 @@ use Rattle.clap.specs.Words.{Row, Text, first_of, one_of}
 use Rattle.casdisk_script.specs.Kinds.{kinds_in}
 use Rattle.race_numbers.specs.Races.{usage_of}
 use Rattle.race_numbers.specs.declared.race.Race.{Race}
-use Rattle.casdisk_program.specs.CommandLine.{command_in, is_taken}
-use Rattle.casdisk_program.specs.declared.request.Asked.{Asked}
-use Rattle.casdisk_program.specs.declared.request.UsageFault.{UsageFault}
+use Rattle.command_line.specs.CommandLine.{command_in, is_taken}
+use Rattle.command_line.specs.declared.request.Asked.{Asked}
+use Rattle.command_line.specs.declared.request.UsageFault.{UsageFault}
 
 -- the numbers of a race that is asked for are in their ranges
 abbrev pub IsRaceInRange : Asked → Type 0

@@ -2,8 +2,8 @@ use Rattle.std.proofs.Common.{ap₂, rules, ◌≡◌, ◌∙◌}
 use Rattle.std.proofs.lemmas.Result.{IfOk-weaker}
 use Rattle.clap.specs.Words.{app_of, new_app, rule_of, with_rule}
 use Rattle.std.specs.Prelude.{codes}
-use Rattle.casdisk_program.specs.CommandLine.{file_rule, show_rule}
-use Rattle.casdisk_program.proofs.usage.run_command.Goals as goal
+use Rattle.command_line.specs.CommandLine.{file_rule, show_rule}
+use Rattle.command_line.proofs.usage.run_command.Goals as goal
 
 pub returns : goal.returns
 returns c =

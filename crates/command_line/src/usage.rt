@@ -2,9 +2,9 @@
 
 ghost use Rattle.std.specs.Prelude.{◌≡◌, IfErr, IfOk, IsOkAnd, codes, map, option_map, string_bytes, true};
 ghost use Rattle.clap.specs.Words.{app_of, first_of, found_of, rows_of, rule_of, with_rule, with_subcommand};
-ghost use Rattle.casdisk_program.specs.Asking.{AreRefused, Asks, AsksBy, IsRaceInRange, IsRefusedBy, kinds_asked};
-ghost use Rattle.casdisk_program.specs.CommandLine.{casdisk_app, check_app, default_rule, explain_app, needed_rule};
-ghost use Rattle.casdisk_program.specs.CommandLine.{number_rule, race_app, run_app};
+ghost use Rattle.command_line.specs.Asking.{AreRefused, Asks, AsksBy, IsRaceInRange, IsRefusedBy, kinds_asked};
+ghost use Rattle.command_line.specs.CommandLine.{casdisk_app, check_app, default_rule, explain_app, needed_rule};
+ghost use Rattle.command_line.specs.CommandLine.{number_rule, race_app, run_app};
 
 use crate::request::{Asked, UsageFault};
 use casdisk_script::kinds_of;

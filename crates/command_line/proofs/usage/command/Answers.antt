@@ -1,9 +1,9 @@
 use Rattle.std.proofs.Common.{rules, ◌≡◌}
 use Rattle.std.proofs.lemmas.Result.{IfOk-weaker}
 use Rattle.clap.specs.Words.{app_of}
-use Rattle.casdisk_program.specs.CommandLine.{top_app}
-use Rattle.casdisk_program.proofs.Apps.{below_adds}
-use Rattle.casdisk_program.proofs.usage.command.Goals as goal
+use Rattle.command_line.specs.CommandLine.{top_app}
+use Rattle.command_line.proofs.Apps.{below_adds}
+use Rattle.command_line.proofs.usage.command.Goals as goal
 
 pub returns : goal.returns
 returns c =

@@ -4,9 +4,9 @@ use Rattle.std.specs.declared.num.ParseIntError.{ParseIntError}
 use Rattle.clap.specs.Words.{Text, found_of, rows_of}
 use Rattle.clap.proofs.WalkLemmas.{one_text-rows}
 use Rattle.std.specs.Str.Parse.{ParsesUnsigned, ExplainsUnsignedError, HasUnsignedDigitsIfOk}
-use Rattle.casdisk_program.specs.Asking.{SaysNumber}
-use Rattle.casdisk_program.proofs.Parsed.{says_number}
-use Rattle.casdisk_program.proofs.usage.race_asked.Goals as goal
+use Rattle.command_line.specs.Asking.{SaysNumber}
+use Rattle.command_line.proofs.Parsed.{says_number}
+use Rattle.command_line.proofs.usage.race_asked.Goals as goal
 
 -- how a number of 64 bits is read
 abbrev gives : Text → Result ℕ ParseIntError → Type 0

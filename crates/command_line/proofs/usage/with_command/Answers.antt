@@ -1,6 +1,6 @@
 use Rattle.std.proofs.lemmas.Result.{IfOk-weaker}
-use Rattle.casdisk_program.proofs.Apps.{below_is}
-use Rattle.casdisk_program.proofs.usage.with_command.Goals as goal
+use Rattle.command_line.proofs.Apps.{below_is}
+use Rattle.command_line.proofs.usage.with_command.Goals as goal
 
 pub returns : goal.returns
 returns c =

@@ -3,14 +3,14 @@ use Rattle.std.specs.Prelude.{IfErr, Result, Some}
 use Rattle.std.proofs.lemmas.Result.{IfErr-weaker, IfOk-weaker}
 use Rattle.clap.specs.Words.{App, Text, found_of, is_simple, rows_of, subcommand_of, takes}
 use Rattle.clap.specs.declared.error.kind.ErrorKind.{ErrorKind}
-use Rattle.casdisk_program.specs.Asking.{AreRefused}
-use Rattle.casdisk_program.specs.CommandLine.{command_in, is_taken}
-use Rattle.casdisk_program.specs.declared.request.Asked.{Asked}
-use Rattle.casdisk_program.specs.declared.request.UsageFault.{UsageFault}
-use Rattle.casdisk_program.proofs.Parsed.{both_parts, by_command, casdisk_is_simple, named}
-use Rattle.casdisk_program.proofs.Refused.{by_no_command, by_options, by_words, names_none, no_parts, not_true, taken}
-use Rattle.casdisk_program.proofs.usage.asked.Goals as goal
-use Rattle.casdisk_program.proofs.usage.asked.Goals.{in-OutOfMemory, in-DisplayHelp+in_ok-to_string-in-DisplayHelp, in_default+in_ok-to_string-in_default}
+use Rattle.command_line.specs.Asking.{AreRefused}
+use Rattle.command_line.specs.CommandLine.{command_in, is_taken}
+use Rattle.command_line.specs.declared.request.Asked.{Asked}
+use Rattle.command_line.specs.declared.request.UsageFault.{UsageFault}
+use Rattle.command_line.proofs.Parsed.{both_parts, by_command, casdisk_is_simple, named}
+use Rattle.command_line.proofs.Refused.{by_no_command, by_options, by_words, names_none, no_parts, not_true, taken}
+use Rattle.command_line.proofs.usage.asked.Goals as goal
+use Rattle.command_line.proofs.usage.asked.Goals.{in-OutOfMemory, in-DisplayHelp+in_ok-to_string-in-DisplayHelp, in_default+in_ok-to_string-in_default}
 
 pub returns-in-Some-clause-asks : goal.returns-in-Some-clause-asks
 returns-in-Some-clause-asks c =

@@ -1,8 +1,8 @@
 use Rattle.std.proofs.Common.{Some, ap, codes, ◌∙◌}
 use Rattle.clap.specs.Words.{found_of}
 use Rattle.clap.proofs.WalkLemmas.{first_value-rows}
-use Rattle.casdisk_program.specs.Asking.{kinds_asked}
-use Rattle.casdisk_program.proofs.usage.kinds_shown.Goals as goal
+use Rattle.command_line.specs.Asking.{kinds_asked}
+use Rattle.command_line.proofs.usage.kinds_shown.Goals as goal
 
 pub returns-in-Some : goal.returns-in-Some
 returns-in-Some c = c.kinds_of.ensures.value ∙ ap kinds_asked (c.in-Some.ensures ∙ first_value-rows (found_of c.args.matches.now) (codes "show"))

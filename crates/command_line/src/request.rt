@@ -1,7 +1,7 @@
 //! What the command line asks for.
 
 ghost use Rattle.std.specs.Prelude.{◌≡◌};
-ghost use Rattle.casdisk_program.specs.declared.request.UsageFault.TheVariants.{NoMemory};
+ghost use Rattle.command_line.specs.declared.request.UsageFault.TheVariants.{NoMemory};
 
 use history::Kinds;
 use race_numbers::Race;

@@ -2,9 +2,9 @@
 use Rattle.std.proofs.Common.{◌≡◌, Bool, true, false, List, Option, Some, None, inl, inr, refl}
 use Rattle.std.specs.Prelude.{option_map}
 use Rattle.clap.specs.Words.{Row, Text, subcommand_of, takes}
-use Rattle.casdisk_program.specs.Asking.{AreRefused, AskNothing, IsRefusedBy}
-use Rattle.casdisk_program.specs.CommandLine.{casdisk_app, command_in, is_taken}
-use Rattle.casdisk_program.specs.declared.request.UsageFault.{UsageFault}
+use Rattle.command_line.specs.Asking.{AreRefused, AskNothing, IsRefusedBy}
+use Rattle.command_line.specs.CommandLine.{casdisk_app, command_in, is_taken}
+use Rattle.command_line.specs.declared.request.UsageFault.{UsageFault}
 
 -- options that ask for nothing may be refused
 pub refused_by : (name : Text) (rows : List Row) (f : UsageFault) → AskNothing name rows → IsRefusedBy name rows f

@@ -6,9 +6,9 @@ use Rattle.std.specs.declared.num.ParseIntError.{ParseIntError}
 use Rattle.clap.specs.Words.{ReadsOne, Row, Text, one_of}
 use Rattle.clap.proofs.OnLiterals.{clap_on_literals}
 use Rattle.clap.specs.Words.{is_simple, subcommand_of}
-use Rattle.casdisk_program.specs.Asking.{Asks, AsksBy, SaysNumber}
-use Rattle.casdisk_program.specs.CommandLine.{casdisk_app, command_in}
-use Rattle.casdisk_program.specs.declared.request.Asked.{Asked}
+use Rattle.command_line.specs.Asking.{Asks, AsksBy, SaysNumber}
+use Rattle.command_line.specs.CommandLine.{casdisk_app, command_in}
+use Rattle.command_line.specs.declared.request.Asked.{Asked}
 
 -- a number that was read is what the option says
 pub says_number : (G : Text → Result ℕ ParseIntError → Type 0) (o : Option Text) (name : Text) (rows : List Row) (n : ℕ) → o ≡ one_of name rows

@@ -1,0 +1,8 @@
+//! The command line of the program: what it asks for, by `clap`'s own definitions.
+#![tactic(auto)]
+
+mod request;
+mod usage;
+
+pub use crate::request::{Asked, UsageFault};
+pub use crate::usage::asked;
