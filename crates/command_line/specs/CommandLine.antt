@@ -33,11 +33,9 @@ default_rule name value = record (number_rule name) { defaults = value ∷ [] }
 abbrev pub run_app : App
 run_app = with_rule (with_rule (new_app (codes "run")) show_rule) file_rule
 
-abbrev pub check_app : App
-check_app = with_rule (new_app (codes "check")) file_rule
-
-abbrev pub explain_app : App
-explain_app = with_rule (new_app (codes "explain")) file_rule
+-- one that reads a history
+abbrev pub history_app : Text → App
+history_app name = with_rule (new_app name) file_rule
 
 abbrev pub race_app : App
 race_app =
@@ -52,8 +50,8 @@ top_app = let a = new_app (codes "casdisk") in
 
 -- the whole program
 abbrev pub casdisk_app : App
-casdisk_app = with_subcommand
-    (with_subcommand (with_subcommand (with_subcommand top_app run_app.top) check_app.top) explain_app.top) race_app.top
+casdisk_app = with_subcommand (with_subcommand (with_subcommand (with_subcommand top_app run_app.top)
+    (history_app (codes "check")).top) (history_app (codes "explain")).top) race_app.top
 
 -- the command that the words name, and what they give its options
 unfoldable pub command_in : List Text → Option (Text × List Row)

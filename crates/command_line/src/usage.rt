@@ -3,7 +3,7 @@
 ghost use Rattle.std.specs.Prelude.{◌≡◌, IfErr, IfOk, IsOkAnd, codes, map, option_map, string_bytes, true};
 ghost use Rattle.clap.specs.Words.{app_of, first_of, found_of, rows_of, rule_of, with_rule, with_subcommand};
 ghost use Rattle.command_line.specs.Asking.{AreRefused, Asks, AsksBy, IsRaceInRange, IsRefusedBy, kinds_asked};
-ghost use Rattle.command_line.specs.CommandLine.{casdisk_app, check_app, default_rule, explain_app, needed_rule};
+ghost use Rattle.command_line.specs.CommandLine.{casdisk_app, default_rule, history_app, needed_rule};
 ghost use Rattle.command_line.specs.CommandLine.{number_rule, race_app, run_app};
 
 use crate::request::{Asked, UsageFault};
@@ -45,6 +45,12 @@ it is raw HEX DATA. DATA is - for none, A1 for a block of such bytes, or blocks 
 Kinds of lines, each named by the word that it begins with:
   publish, fetch, grant, block, post, reap, refused, medium";
 
+const ABOUT_CHECK: &str = "\
+Checks a history: prints 'legal', or 'bad at K' with its first bad line, from 1 behind the configuration";
+
+const ABOUT_EXPLAIN: &str = "\
+Checks a history like 'check', and says behind 'bad at K' which rule its line breaks";
+
 const ABOUT_HISTORIES: &str = "\
 A history is what 'casdisk run --show publish,fetch,grant,block,post,reap' prints: a configuration
 line, and then a line for each step that a controller made. Any controller may have made it: see
@@ -81,32 +87,20 @@ fn run_command<'a>(alloc: Global) -> Result<Command<'a>, AllocError>
         .arg(file)
 }
 
-fn check_command<'a>(alloc: Global) -> Result<Command<'a>, AllocError>
-    ensures { IfOk result (λ c. app_of c ≡ check_app) }
+// The command of this name, which reads a history.
+fn history_command<'a>(
+    alloc: Global,
+    name: &'static str,
+    about: &'static str,
+) -> Result<Command<'a>, AllocError>
+    ensures { IfOk result (λ c. app_of c ≡ history_app name.entry.now) }
 {
     let file = Arg::new(alloc, "FILE")
         .help("The history")
         .required(true)
         .action(ArgAction::Set);
-    Command::new(alloc, "check")
-        .about(
-            "Checks a history: prints 'legal', or 'bad at K' with its first bad line, from 1 behind the configuration",
-        )
-        .after_help(ABOUT_HISTORIES)
-        .arg(file)
-}
-
-fn explain_command<'a>(alloc: Global) -> Result<Command<'a>, AllocError>
-    ensures { IfOk result (λ c. app_of c ≡ explain_app) }
-{
-    let file = Arg::new(alloc, "FILE")
-        .help("The history")
-        .required(true)
-        .action(ArgAction::Set);
-    Command::new(alloc, "explain")
-        .about(
-            "Checks a history like 'check', and says behind 'bad at K' which rule its line breaks",
-        )
+    Command::new(alloc, name)
+        .about(about)
         .after_help(ABOUT_HISTORIES)
         .arg(file)
 }
@@ -204,8 +198,8 @@ fn command<'a>(alloc: Global) -> Result<Command<'a>, AllocError>
         .after_help(ABOUT_SCRIPTS)
         .subcommand_required(true);
     let command = with_command(command, run_command(alloc))?;
-    let command = with_command(command, check_command(alloc))?;
-    let command = with_command(command, explain_command(alloc))?;
+    let command = with_command(command, history_command(alloc, "check", ABOUT_CHECK))?;
+    let command = with_command(command, history_command(alloc, "explain", ABOUT_EXPLAIN))?;
     with_command(command, race_command(alloc))
 }
 

@@ -1,7 +1,7 @@
 -- What becomes of the entries that a Fetch takes, by the definitions of the verdict and of operations.
-use Rattle.std.specs.Prelude.{◌≡◌, List, [], ◌∷◌, Option, Some, None}
+use Rattle.std.specs.Prelude.{List, None, Option, Some, [], map, take, ℕ, ◌∷◌, ◌≡◌}
 use Rattle.nvme_model.specs.EntryBytes.{Sqe, blocks, slba}
-use Rattle.nvme_model.specs.Verdict.{Item}
+use Rattle.nvme_model.specs.Verdict.{Item, taken}
 use Rattle.nvme_model.specs.declared.operation.Op.{Op}
 use Rattle.nvme_model.specs.declared.status.Verdict.{Verdict}
 use Rattle.fused_match.specs.declared.judged.Judged.{Judged}
@@ -31,3 +31,7 @@ NamesBlocks _ e = Unit {0}
 abbrev pub waiting_items : Item → Option Item → List Item
 waiting_items first None = first ∷ []
 waiting_items first (Some next) = first ∷ next ∷ []
+
+-- the CIDs of those of one or two entries that are taken
+abbrev pub cids_taken : Judged → Item → Option Item → List ℕ
+cids_taken j first second = map (λ i. i.fields.cid) (take (taken (verdict_by j)) (waiting_items first second))

@@ -3,3 +3,5 @@ pub mod Keeping
 pub mod Jobs
 pub mod Slots
 pub mod Lends
+pub mod Tickets
+pub mod Beginning

@@ -8,7 +8,7 @@ ghost use Rattle.nvme_model.specs.Legal.{IsLegal};
 ghost use Rattle.nvme_model.specs.Medium.{medium};
 ghost use Rattle.nvme_model.specs.Passes.{entries};
 ghost use Rattle.nvme_model.specs.Value.{value};
-ghost use Rattle.step_core.specs.OneAtATime.{IsOneAtATime};
+ghost use Rattle.nvme_model.specs.OneAtATime.{IsOneAtATime};
 
 use crate::pass::Pass;
 use step_core::Core;

@@ -1,10 +1,9 @@
 //! What holds of the definitions, each as the contract of a function that does nothing.
 
 ghost use Rattle.std.specs.Prelude.{◌≡◌, slice_get, ◌+◌, ◌<◌, ◌≤◌, ◌↔◌, is_some, ℕ, List, Some, None, true, false};
-ghost use Rattle.std.specs.Prelude.{take, map, length, suc, ◌∷◌, []};
+ghost use Rattle.std.specs.Prelude.{take, length, suc, ◌∷◌, []};
 ghost use Rattle.std.specs.List.{list_any, sum_by};
 ghost use Rattle.nvme_model.specs.Config.{completion_queue};
-ghost use Rattle.nvme_model.specs.Array.{blocks_from};
 ghost use Rattle.nvme_model.specs.Cells.{is_atomic};
 ghost use Rattle.nvme_model.specs.Cut.{IsCut, cut};
 ghost use Rattle.nvme_model.specs.EntryBytes.{blocks};
@@ -23,14 +22,13 @@ ghost use Rattle.nvme_model.specs.Legal.{IsLegal, IsLegalFile};
 ghost use Rattle.nvme_model.specs.FirstBad.{first_bad, IsFirstBad};
 ghost use Rattle.nvme_model.specs.Kept.{Kept};
 ghost use Rattle.nvme_model.specs.Steps.{after, next_entry, ready, run};
-ghost use Rattle.nvme_model.specs.Sequential.{sequential, answers, IsPosted, IsReaped};
+ghost use Rattle.nvme_model.specs.OneAtATime.{IsOneAtATime};
 ghost use Rattle.nvme_model.specs.Laws.{Apart, MarkedRight, is_held, OwesToFull, IsNumber};
 ghost use Rattle.nvme_model.specs.declared.array.Range.{Range};
 ghost use Rattle.nvme_model.specs.declared.config.AtomicParameters.{AtomicParameters};
 ghost use Rattle.nvme_model.specs.declared.config.ConfigNumbers.{ConfigNumbers};
 ghost use Rattle.nvme_model.specs.declared.entry.BlockLine.{BlockLine};
 ghost use Rattle.nvme_model.specs.declared.entry.PostLine.{PostLine};
-ghost use Rattle.nvme_model.specs.declared.entry.ReapLine.{ReapLine};
 ghost use Rattle.nvme_model.specs.declared.entry.Entry.{Entry};
 ghost use Rattle.nvme_model.specs.declared.step.Step.{Step};
 
@@ -57,13 +55,7 @@ pub fn what_a_controller_keeps()
 /// its contents are the value, its answers are those of the history, and each completion that is posted or reaped is
 /// what they make of it.
 pub fn one_operation_at_a_time()
-    ensures contents { (c : ConfigNumbers) (past : Past) →
-        IsLegal c past → (sequential c past).contents ≡ map (value past) (blocks_from 0 c.blocks) }
-    ensures answers { (c : ConfigNumbers) (past : Past) → IsLegal c past → (sequential c past).replies ≡ answers past }
-    ensures posted { (c : ConfigNumbers) (past : Past) (p : PostLine) →
-        IsLegal c (Entry.Post p ∷ past) → IsPosted c past p }
-    ensures reaped { (c : ConfigNumbers) (past : Past) (r : ReapLine) →
-        IsLegal c (Entry.Reap r ∷ past) → IsReaped c past r }
+    ensures array { (c : ConfigNumbers) (past : Past) → IsLegal c past → IsOneAtATime c past }
 {}
 
 /// Each unit of a ticket that passed its checks and has posted, up to the first that says no, has exactly one effect;

@@ -1,3 +1,4 @@
 pub mod Slots
 pub mod Submissions
 pub mod Completions
+pub mod Queues

@@ -15,7 +15,7 @@ use Rattle.nvme_model.proofs.Rules.{none_holds}
 use Rattle.rings.specs.Completions.{CompletionRing}
 use Rattle.rings.specs.Slots.{IsSize}
 use Rattle.rings.specs.Submissions.{SubmissionRing}
-use Rattle.step_core.specs.Fields.{completion_ring, submission_ring}
+use Rattle.rings.specs.Queues.{completion_ring, submission_ring}
 use Rattle.cids_in_use.specs.Used.{UsedCids}
 use Rattle.std.proofs.lemmas.List.{get_or-replicate, length-replicate}
 use Rattle.step_core.specs.Kept.{AreInUse, AreUsed, CoreFields, IsKept}

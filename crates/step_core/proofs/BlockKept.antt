@@ -26,7 +26,7 @@ use Rattle.block_exec.specs.Progress.{Progress, found_by, needed, next_block}
 use Rattle.block_exec.specs.Units.{progress_of}
 use Rattle.job_table.specs.Keeping.{read_of}
 use Rattle.job_table.specs.Parts.{part_of, with_part}
-use Rattle.step_core.specs.Fields.{job_at, job_by, read_bytes_by, still_written}
+use Rattle.job_table.specs.Tickets.{job_at, job_by, read_bytes_by, still_written}
 use Rattle.step_core.specs.Kept.{IsTable}
 use Rattle.step_core.proofs.BlockData.{IsUnit, place_within, range_inside, unended}
 use Rattle.step_core.proofs.Blocked.{done_now, is_equal, line_now}

@@ -36,7 +36,8 @@ use Rattle.job_table.specs.Keeping.{CanMake, Keeping, finds_equal, noted_job, re
 use Rattle.ticket_course.specs.Stages.{IfOpen, is_open, unit_in}
 use Rattle.ticket_course.specs.declared.course.Stage.{Stage}
 use Rattle.ticket_course.specs.declared.course.Stage.TheVariants.{Open}
-use Rattle.step_core.specs.Fields.{completion_ring, job_at, submission_ring}
+use Rattle.rings.specs.Queues.{completion_ring, submission_ring}
+use Rattle.job_table.specs.Tickets.{job_at}
 use Rattle.step_core.proofs.InUse.{used_same}
 use Rattle.step_core.specs.Kept.{CoreFields, IsKept, IsTable}
 use Rattle.step_core.specs.State.{Does, Room, State, TakesRoom, answer_of}

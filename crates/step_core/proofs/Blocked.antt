@@ -29,7 +29,7 @@ use Rattle.block_exec.proofs.Histories.{block_entry-next_done, has_ended-progres
 use Rattle.ticket_course.specs.Shown.{stage_of}
 use Rattle.ticket_course.specs.Stages.{noted_in}
 use Rattle.ticket_course.proofs.Blocked.{blocked}
-use Rattle.step_core.specs.Fields.{compare_bytes, job_at, job_by, read_bytes_by, still_written}
+use Rattle.job_table.specs.Tickets.{compare_bytes, job_at, job_by, read_bytes_by, still_written}
 use Rattle.step_core.specs.State.{done_of}
 use Rattle.step_core.proofs.BlockData.{IsUnit, unended}
 

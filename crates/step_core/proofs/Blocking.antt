@@ -19,8 +19,8 @@ use Rattle.ticket_course.specs.declared.course.Stage.{Stage}
 use Rattle.ticket_course.specs.declared.course.Stage.TheVariants.{Owing, Waiting}
 use Rattle.ticket_course.proofs.Granted.{none_found}
 use Rattle.job_table.specs.Keeping.{Keeping}
-use Rattle.step_core.specs.Fields.{job_at}
-use Rattle.step_core.specs.Kept.{IsJob}
+use Rattle.job_table.specs.Tickets.{job_at}
+use Rattle.step_core.specs.Found.{IsJob}
 use Rattle.step_core.proofs.BlockData.{stage_is, unit_there}
 use Rattle.step_core.proofs.Granting.{job_stage}
 

@@ -43,10 +43,12 @@ use Rattle.range_reserve.specs.declared.held.Held.{Held}
 use Rattle.ticket_course.specs.Stages.{IsSound}
 use Rattle.rings.specs.Completions.{CompletionRing}
 use Rattle.rings.specs.Submissions.{SubmissionRing, advanced}
-use Rattle.step_core.specs.Fetches.{HasBlocks, IsFront, first_job, kind_in, read_first, write_first}
+use Rattle.job_table.specs.Beginning.{HasBlocks, read_first, write_first}
+use Rattle.step_core.specs.Found.{IsFront, IsSqRing, first_job, kind_in}
 use Rattle.step_core.specs.declared.machine.fetch.Front.{Front}
-use Rattle.step_core.specs.Fields.{completion_ring, job_at, job_by, job_table, submission_ring, write_blocks}
-use Rattle.step_core.specs.Kept.{AreInUse, AreUsed, CoreFields, IsKept, IsSqRing}
+use Rattle.rings.specs.Queues.{completion_ring, submission_ring}
+use Rattle.job_table.specs.Tickets.{job_at, job_by, job_table, write_blocks}
+use Rattle.step_core.specs.Kept.{AreInUse, AreUsed, CoreFields, IsKept}
 use Rattle.cids_in_use.specs.Used.{UsedCids}
 use Rattle.step_core.specs.State.{Does, Room, State, TakesRoom, work_of}
 use Rattle.step_core.specs.Works.{IsKind, TicketWork}
@@ -144,7 +146,7 @@ module _ (c : ConfigNumbers) (past : Past) (fields : CoreFields) (k : IsKept c p
 
   -- the entry that it adds
   entry_is : Entry.Fetch (fetch_line past t x) ≡ next_entry c past (Step.Fetch t)
-  entry_is = ap (λ (w : Verdict). Entry.Fetch (record { queue = t; ticket = Tickets.tickets past + 1; verdict = w })) a.1.judged.verdict
+  entry_is = ap (λ (w : Verdict). Entry.Fetch (record { queue = t; ticket = Tickets.tickets past + 1; verdict = w })) a.1.verdict
 
   -- which may follow
   legal : IsLegal c (Entry.Fetch (fetch_line past t x) ∷ past)
@@ -157,7 +159,7 @@ module _ (c : ConfigNumbers) (past : Past) (fields : CoreFields) (k : IsKept c p
       let some = more _ _ (fetched_within c past t k.run.legal) rows.1.0 in
       let items = length-map (waiting past t) item_of in
       let most = taken_within c.atomic c.blocks (cids_in_use past t) (map item_of (waiting past t)) (omega (arith, some, items, length-drop (fetched_count past t) (published_entries past t))) in
-      omega (arith, most, items, ap taken a.1.judged.verdict)
+      omega (arith, most, items, ap taken a.1.verdict)
     where
       more : (m f : ℕ) → f ≤ m → (m == f) ≡ false → f < m
       more m f l e = grind (arith, nat_tests)
@@ -186,7 +188,7 @@ module _ (c : ConfigNumbers) (past : Past) (fields : CoreFields) (k : IsKept c p
 
   -- what is judged is of the ticket
   names : Names x.judged (ticket_by t x.judged (take (taken (verdict_by x.judged)) (waiting past t)))
-  names = record { operation = a.1.judged.operation; range = a.1.judged.range }
+  names = record { operation = a.1.operation; range = a.1.range }
 
   -- each of them has a CID
   pub cids_are : length x.cids ≡ taken (verdict_by x.judged)
@@ -363,7 +365,7 @@ module _ (c : ConfigNumbers) (past : Past) (fields : CoreFields) (k : IsKept c p
   fetch_done y p room left w now then work u kind view says same pushed units does made takes =
       let work_is : work ≡ work_of c (Tickets.tickets past + 1) (fetched_ticket past t (next_verdict c past t)) =
       made ∙ (λ i. record { ticket = k.count i + 1; atomic = units i; kind = (does ∙ kind_is t x.judged (take (taken (verdict_by x.judged)) (waiting past t)) names) i })
-      ∙ ap (λ (v : Verdict). work_of c (Tickets.tickets past + 1) (fetched_ticket past t v)) a.1.judged.verdict in
+      ∙ ap (λ (v : Verdict). work_of c (Tickets.tickets past + 1) (fetched_ticket past t v)) a.1.verdict in
       let past_is : then ≡ next_entry c past (Step.Fetch t) ∷ past =
       pushed ∙ (λ i. Entry.Fetch (record { queue = t; ticket = k.count i + 1; verdict = says i }) ∷ same i) ∙ ap (λ (e : Entry). e ∷ past) entry_is in
       subst (λ (z : State). Does z (Step.Fetch t) (Ok (Answer.Fetched work)) (record { config = c; past = then; promised = p; room = left })) view

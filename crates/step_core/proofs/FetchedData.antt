@@ -12,8 +12,8 @@ use Rattle.block_exec.specs.Bytes.{blocks_in}
 use Rattle.fused_match.specs.Judged.{operation_in, verdict_by}
 use Rattle.fused_match.specs.declared.judged.Judged.{Judged}
 use Rattle.fused_match.specs.declared.judged.Judged.TheVariants as judged
-use Rattle.step_core.specs.Fetches.{HasBlocks, payload_at, write_first}
-use Rattle.step_core.specs.Fields.{write_blocks, write_blocks_by}
+use Rattle.job_table.specs.Beginning.{HasBlocks, payload_at, write_first}
+use Rattle.job_table.specs.Tickets.{write_blocks, write_blocks_by}
 use Rattle.step_core.proofs.FetchedJob.{Names, no_pair, ticket_by}
 
 -- the data beside the i-th of the entries that are taken

@@ -19,9 +19,10 @@ use Rattle.fused_match.specs.declared.judged.Judged.{Judged}
 use Rattle.fused_match.specs.declared.judged.Judged.TheVariants as judged
 use Rattle.ticket_course.specs.Stages.{IsSound, commands_in}
 use Rattle.ticket_course.proofs.Fetched.{fetched}
-use Rattle.step_core.specs.Fetches.{first_job, kind_in, read_first}
+use Rattle.step_core.specs.Found.{first_job, kind_in}
+use Rattle.job_table.specs.Beginning.{read_first}
 use Rattle.step_core.specs.declared.machine.fetch.Front.{Front}
-use Rattle.step_core.specs.Fields.{job_by, read_bytes_by, write_blocks}
+use Rattle.job_table.specs.Tickets.{job_by, read_bytes_by, write_blocks}
 use Rattle.step_core.specs.State.{kind_by, kind_of, ticket_range}
 use Rattle.step_core.specs.Works.{IsKind}
 use Rattle.step_core.specs.declared.work.Kind.{Kind}

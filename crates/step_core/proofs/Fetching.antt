@@ -22,15 +22,16 @@ use Rattle.ticket_standing.proofs.Counts.{flying_count}
 use Rattle.ticket_standing.proofs.InUse.{verdict_same}
 use Rattle.nvme_model.proofs.Rules.{none_holds}
 use Rattle.cids_in_use.specs.Used.{UsedCids}
-use Rattle.fused_match.specs.Judged.{NamesBlocks, operation_in, verdict_by, waiting_items}
+use Rattle.fused_match.specs.Judged.{NamesBlocks, cids_taken, operation_in, verdict_by, waiting_items}
 use Rattle.fused_match.specs.declared.judged.Judged.{Judged}
 use Rattle.job_table.specs.Jobs.{JobTable}
 use Rattle.job_table.proofs.Tables.{length-jobs_by}
 use Rattle.rings.specs.Submissions.{SubmissionRing}
-use Rattle.step_core.specs.Fetches.{IsFront, cids_taken}
+use Rattle.step_core.specs.Found.{IsFront, IsSqRing}
 use Rattle.step_core.specs.declared.machine.fetch.Front.{Front}
-use Rattle.step_core.specs.Fields.{job_at, submission_ring}
-use Rattle.step_core.specs.Kept.{AreUsed, CoreFields, IsKept, IsSqRing}
+use Rattle.job_table.specs.Tickets.{job_at}
+use Rattle.rings.specs.Queues.{submission_ring}
+use Rattle.step_core.specs.Kept.{AreUsed, CoreFields, IsKept}
 use Rattle.step_core.proofs.InUse.{same_in}
 
 -- ---- the limits of a configuration
@@ -163,12 +164,10 @@ front_is c past q r f first second s there behind verdict operation range ids st
     let next : second ≡ option_map item_of (slice_get (waiting past q) 1) = behind ∙ ap (λ (ws : List Submission). option_map item_of (slice_get ws 1)) waits in
     let names = ap (λ (x : Submission). sqe_fields x.entry) (front_command (waiting past q) q (verdict_by f.judged) first front) in
     record {
-      judged = record {
-        verdict = verdict ∙ ap (λ (o : Option Item). verdict_of c.atomic c.blocks (cids_in_use past q) (waiting_items (item_of first) o)) next
-            ∙ front_verdict c.atomic c.blocks (cids_in_use past q) (waiting past q) first front;
-        operation = operation ∙ ap (op_by (verdict_by f.judged)) names;
-        range = subst (NamesBlocks f.judged) names range;
-      };
+      verdict = verdict ∙ ap (λ (o : Option Item). verdict_of c.atomic c.blocks (cids_in_use past q) (waiting_items (item_of first) o)) next
+          ∙ front_verdict c.atomic c.blocks (cids_in_use past q) (waiting past q) first front;
+      operation = operation ∙ ap (op_by (verdict_by f.judged)) names;
+      range = subst (NamesBlocks f.judged) names range;
       cids = ids ∙ ap (cids_taken f.judged (item_of first)) next ∙ front_cids (waiting past q) f.judged first front;
       slba = start ∙ ap slba names;
     }

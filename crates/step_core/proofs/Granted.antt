@@ -40,10 +40,11 @@ use Rattle.ticket_course.specs.Stages.{IsFirst, opened_in}
 use Rattle.ticket_course.specs.declared.course.Stage.{Stage}
 use Rattle.ticket_course.proofs.Granted.{granted, none_found}
 use Rattle.ticket_course.proofs.Waits.{Waits, first_of, opens}
-use Rattle.step_core.specs.Fields.{compare_bytes, completion_ring, job_at, job_by, read_bytes_by, still_written, submission_ring}
+use Rattle.job_table.specs.Tickets.{compare_bytes, job_at, job_by, read_bytes_by, still_written}
+use Rattle.rings.specs.Queues.{completion_ring, submission_ring}
 use Rattle.step_core.proofs.InUse.{used_same}
 use Rattle.step_core.specs.Kept.{CoreFields, IsKept}
-use Rattle.step_core.specs.Ready.{IsNext}
+use Rattle.step_core.specs.Found.{IsNext}
 use Rattle.step_core.specs.declared.machine.next.Next.{Next}
 use Rattle.step_core.proofs.Bounds.{unit_range_is}
 use Rattle.step_core.proofs.Granting.{job_stage}

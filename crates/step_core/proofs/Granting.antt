@@ -25,8 +25,9 @@ use Rattle.ticket_course.specs.Shown.{stage_of}
 use Rattle.ticket_course.specs.Stages.{mode_in, next_in, unit_in}
 use Rattle.ticket_course.specs.declared.course.Stage.TheVariants.{Waiting}
 use Rattle.ticket_course.proofs.Waits.{Waits, no_next, waits}
-use Rattle.step_core.specs.Fields.{job_by}
-use Rattle.step_core.specs.Kept.{CoreFields, IsJob, IsKept}
+use Rattle.job_table.specs.Tickets.{job_by}
+use Rattle.step_core.specs.Kept.{CoreFields, IsKept}
+use Rattle.step_core.specs.Found.{IsJob}
 use Rattle.step_core.specs.State.{Room, State}
 use Rattle.step_core.proofs.Bounds.{left_short}
 

@@ -28,4 +28,3 @@ pub mod PostKeeps
 pub mod Reaping
 pub mod Next
 pub mod Whole
-pub mod OneAtATime

@@ -15,8 +15,10 @@ use Rattle.std.proofs.lemmas.Bool.{cases_eq, or_from}
 use Rattle.std.proofs.lemmas.Bool.Decides.{nat_tests}
 use Rattle.ticket_standing.proofs.Counts.{fetched_within}
 use Rattle.nvme_model.proofs.Runs.{reaped_posted}
-use Rattle.step_core.specs.Fields.{completion_ring, job_at, submission_ring}
-use Rattle.step_core.specs.Kept.{CoreFields, IsCqRing, IsJob, IsKept, IsSqRing}
+use Rattle.rings.specs.Queues.{completion_ring, submission_ring}
+use Rattle.job_table.specs.Tickets.{job_at}
+use Rattle.step_core.specs.Kept.{CoreFields, IsKept}
+use Rattle.step_core.specs.Found.{IsCqRing, IsJob, IsSqRing}
 use Rattle.step_core.proofs.Moves.{job_found}
 
 -- what is among those that pass passes

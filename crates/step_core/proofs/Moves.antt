@@ -15,7 +15,7 @@ use Rattle.nvme_model.specs.Kept.{Kept}
 use Rattle.ticket_standing.proofs.Flying.{has_flying}
 use Rattle.job_table.specs.Jobs.{jobs_by, job_of, replaced}
 use Rattle.job_table.proofs.Tables.{jobs_by_agree, replaced-jobs_by_agree, job_of-jobs_by}
-use Rattle.step_core.specs.Fields.{job_by, job_at}
+use Rattle.job_table.specs.Tickets.{job_by, job_at}
 
 -- an accepted step keeps the history legal and its marks right
 pub stepped : (c : ConfigNumbers) (past : Past) (step : Step) → Kept c past → refusal c past step ≡ None → Kept c (next_entry c past step ∷ past)

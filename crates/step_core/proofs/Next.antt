@@ -17,9 +17,9 @@ use Rattle.job_table.specs.Jobs.{JobTable}
 use Rattle.job_table.specs.Keeping.{Keeping}
 use Rattle.job_table.specs.declared.jobs.InFlight.{InFlight}
 use Rattle.job_table.proofs.Tables.{length-jobs_by, slice_get-jobs_by}
-use Rattle.step_core.specs.Fields.{job_at, job_table}
+use Rattle.job_table.specs.Tickets.{job_at, job_table}
 use Rattle.step_core.specs.State.{Room, State}
-use Rattle.step_core.specs.Ready.{next_step}
+use Rattle.step_core.specs.Found.{next_step}
 
 -- the steps of a ticket beside its Fetch
 abbrev pub steps_of : ℕ → List Step

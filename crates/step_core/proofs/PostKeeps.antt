@@ -34,9 +34,10 @@ use Rattle.ticket_course.specs.Shown.{stage_of}
 use Rattle.ticket_course.specs.Stages.{owed_in}
 use Rattle.ticket_course.proofs.Owes.{owes as stage_owes}
 use Rattle.job_table.proofs.Tables.{has_ticket-jobs_by}
-use Rattle.step_core.specs.Fields.{completion_ring, job_at, job_by, read_bytes_by, submission_ring}
+use Rattle.rings.specs.Queues.{completion_ring, submission_ring}
+use Rattle.job_table.specs.Tickets.{job_at, job_by, read_bytes_by}
 use Rattle.step_core.specs.Kept.{AreInUse, AreUsed, CoreFields, IsKept}
-use Rattle.step_core.specs.Ready.{IsNext}
+use Rattle.step_core.specs.Found.{IsNext}
 use Rattle.step_core.specs.declared.machine.next.Next.{Next}
 use Rattle.step_core.specs.declared.machine.post.Due.{Due}
 use Rattle.step_core.proofs.Moves.{job_found, stepped}

@@ -26,7 +26,7 @@ use Rattle.ticket_standing.proofs.Owing.{has_run_is, no_is_differed}
 use Rattle.ticket_standing.proofs.ReadPlace.{read_length, read_placed, rest_of}
 use Rattle.nvme_model.proofs.StepCounts.{cut_sum}
 use Rattle.ticket_standing.proofs.WholeRead.{read_is}
-use Rattle.step_core.specs.Fields.{job_at, job_by, read_bytes_by}
+use Rattle.job_table.specs.Tickets.{job_at, job_by, read_bytes_by}
 
 -- ---- a Read has no difference
 

@@ -20,7 +20,7 @@ use Rattle.ticket_course.specs.Stages.{owed_in}
 use Rattle.ticket_course.specs.declared.course.Stage.{Stage}
 use Rattle.ticket_course.specs.declared.course.Stage.TheVariants.{Open, Owing, Waiting}
 use Rattle.ticket_course.proofs.Posted.{posted}
-use Rattle.step_core.specs.Fields.{job_at, job_by, job_table}
+use Rattle.job_table.specs.Tickets.{job_at, job_by, job_table}
 use Rattle.step_core.proofs.Moves.{jobs_moved}
 
 -- a ticket that owes something stands there

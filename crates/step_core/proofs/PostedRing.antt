@@ -14,7 +14,7 @@ use Rattle.entry_codec.specs.Cqe.{phase_bit}
 use Rattle.rings.specs.Completions.{Completed, CompletionRing, ShowsCompleted, posted_ring}
 use Rattle.rings.specs.declared.completion_ring.Completion.{Completion}
 use Rattle.rings.proofs.Counts.{completed_more}
-use Rattle.step_core.specs.Fields.{completion_of, completion_ring}
+use Rattle.rings.specs.Queues.{completion_of, completion_ring}
 
 -- the ring of m slots that shows these Posts, k of them reaped
 abbrev pub ring_of : ℕ → List PostLine → ℕ → CompletionRing

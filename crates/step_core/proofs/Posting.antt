@@ -28,8 +28,10 @@ use Rattle.entry_codec.specs.Cqe.{completion_bytes, phase_bit}
 use Rattle.entry_codec.specs.declared.cqe.Cqe.{Cqe}
 use Rattle.completions.proofs.CompletionLemmas.{completion_bytes-completion}
 use Rattle.step_core.specs.declared.machine.post.Due.{Due}
-use Rattle.step_core.specs.Fields.{completion_of, completion_ring, job_by, submission_ring}
-use Rattle.step_core.specs.Kept.{CoreFields, IsDue, IsJob, IsKept}
+use Rattle.rings.specs.Queues.{completion_of, completion_ring, submission_ring}
+use Rattle.job_table.specs.Tickets.{job_by}
+use Rattle.step_core.specs.Kept.{CoreFields, IsKept}
+use Rattle.step_core.specs.Found.{IsDue, IsJob}
 use Rattle.step_core.specs.State.{Room, State}
 use Rattle.std.proofs.Math.Nat.{mod-lt}
 

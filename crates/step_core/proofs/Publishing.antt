@@ -18,9 +18,10 @@ use Rattle.range_reserve.specs.declared.held.Held.{Held}
 use Rattle.rings.specs.Completions.{CompletionRing}
 use Rattle.rings.specs.Submissions.{SubmissionRing, batch_fault, batch_faults}
 use Rattle.job_table.specs.Jobs.{JobTable}
-use Rattle.step_core.specs.Fields.{completion_ring, submission_ring}
+use Rattle.rings.specs.Queues.{completion_ring, submission_ring}
 use Rattle.step_core.proofs.InUse.{used_same}
-use Rattle.step_core.specs.Kept.{CoreFields, IsKept, IsSqRing}
+use Rattle.step_core.specs.Kept.{CoreFields, IsKept}
+use Rattle.step_core.specs.Found.{IsSqRing}
 use Rattle.step_core.proofs.Lookups.{sq_read}
 use Rattle.step_core.proofs.Moves.{stepped}
 use Rattle.step_core.proofs.Tables.{IsTable-same, IsTable-set}

@@ -22,9 +22,10 @@ use Rattle.rings.specs.Completions.{CompletionRing}
 use Rattle.rings.specs.Submissions.{SubmissionRing}
 use Rattle.rings.specs.declared.completion_ring.Completion.{Completion}
 use Rattle.job_table.specs.Jobs.{JobTable}
-use Rattle.step_core.specs.Fields.{completion_of, completion_ring, submission_ring}
+use Rattle.rings.specs.Queues.{completion_of, completion_ring, submission_ring}
 use Rattle.step_core.proofs.InUse.{used_same}
-use Rattle.step_core.specs.Kept.{CoreFields, IsCqRing, IsKept}
+use Rattle.step_core.specs.Kept.{CoreFields, IsKept}
+use Rattle.step_core.specs.Found.{IsCqRing}
 use Rattle.step_core.specs.State.{answer_of, payload_of}
 use Rattle.step_core.specs.declared.answer.Answer.{Answer}
 use Rattle.step_core.proofs.Lookups.{cq_read}

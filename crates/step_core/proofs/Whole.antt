@@ -6,7 +6,7 @@ use Rattle.nvme_model.specs.declared.step.Step.{Step}
 use Rattle.nvme_model.specs.Kept.{Kept}
 use Rattle.step_core.specs.declared.answer.Answer.{Answer}
 use Rattle.step_core.specs.declared.answer.Refused.{Refused}
-use Rattle.step_core.specs.Runs.{Runs, RunsOnto}
+use Rattle.step_core.specs.State.{Runs, RunsOnto}
 use Rattle.step_core.specs.State.{Serves, State}
 use Rattle.step_core.proofs.Moves.{stepped}
 

@@ -24,7 +24,7 @@ use Rattle.block_exec.specs.Bytes.{block_at, blocks_in, data_at, needs_box_by, w
 use Rattle.block_exec.specs.Progress.{compared_as, found_by, needed, next_block}
 use Rattle.block_exec.specs.Units.{progress_of}
 use Rattle.job_table.specs.Keeping.{CanMake}
-use Rattle.step_core.specs.Fields.{job_at, job_by, left_in, pair_written, still_written, write_blocks, write_blocks_by, written_so_far}
+use Rattle.job_table.specs.Tickets.{job_at, job_by, left_in, pair_written, still_written, write_blocks, write_blocks_by, written_so_far}
 use Rattle.step_core.proofs.BlockData.{IsUnit, compare_long, compare_there, range_inside, read_long, unended}
 use Rattle.step_core.proofs.Granting.{any_found}
 use Rattle.step_core.proofs.ReadBytes.{cut_place}

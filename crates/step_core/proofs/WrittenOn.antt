@@ -16,7 +16,7 @@ use Rattle.ticket_standing.proofs.Standings.{after_block}
 use Rattle.block_exec.specs.Progress.{compared_as, next_block}
 use Rattle.block_exec.specs.Units.{progress_of}
 use Rattle.job_table.specs.Keeping.{written_on}
-use Rattle.step_core.specs.Fields.{job_at, job_by, still_written, write_blocks_by, written_so_far}
+use Rattle.job_table.specs.Tickets.{job_at, job_by, still_written, write_blocks_by, written_so_far}
 use Rattle.step_core.proofs.BlockData.{IsUnit}
 use Rattle.step_core.proofs.Blocked.{done_now, is_equal, line_now, unit_now}
 use Rattle.step_core.proofs.Written.{calm, goes_on, had_is, made_is, pair_count, pair_had, starts, write_count}

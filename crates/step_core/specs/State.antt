@@ -1,6 +1,7 @@
 -- What a controller is, and what a step does to it.
+use Rattle.std.specs.Result.{result_map_both}
 use Rattle.std.specs.Prelude.{Bool, Err, List, None, Ok, Option, Result, Some, false, slice_get, true, unwrap_or}
-use Rattle.std.specs.Prelude.{ℕ, [], ◌+◌, ◌-◌, ◌^◌, ◌<◌, ◌≤◌, ◌∷◌, ◌≡◌, ◌⊎◌}
+use Rattle.std.specs.Prelude.{ℕ, [], ◌+◌, ◌++◌, ◌-◌, ◌^◌, ◌<◌, ◌≤◌, ◌∷◌, ◌≡◌, ◌⊎◌}
 use Rattle.nvme_model.specs.Completions.{posted_completions, reaped_count}
 use Rattle.nvme_model.specs.EntryBytes.{blocks, slba}
 use Rattle.nvme_model.specs.History.{Past}
@@ -175,11 +176,18 @@ Serves old step (Err r) new =
     Refuses old.config old.past step r
     × (new ≡ record old { room = new.room }) × KeepsRoom old.room new.room × WantsMemory old step
 
--- a result whose refusal hands nothing back
-abbrev pub told : Step → Result Answer Why → Result Answer Refused
-told step (Ok a) = Ok a
-told step (Err why) = Err (refused_as step why)
-
--- the same of a step with such a result
+-- the same of a step whose refusal hands nothing back
 abbrev pub Does : State → Step → Result Answer Why → State → Type 0
-Does old step r new = Serves old step (told step r) new
+Does old step r new = Serves old step (result_map_both (λ a. a) (refused_as step) r) new
+
+-- these answers, one for each step in order, lead from one controller to the other
+abbrev pub Runs : State → List Step → List (Result Answer Refused) → State → Type 0
+Runs old [] [] new = new ≡ old
+Runs old (step ∷ steps) (r ∷ rs) new = (mid : State) × Serves old step r mid × Runs mid steps rs new
+Runs old [] (r ∷ rs) new = ⊥
+Runs old (step ∷ steps) [] new = ⊥
+
+-- the list of answers has grown by one for each step
+abbrev pub RunsOnto : State → List Step → List (Result Answer Refused) → List (Result Answer Refused) → State → Type 0
+RunsOnto old steps before out new =
+    (answers : List (Result Answer Refused)) × (out ≡ before ++ answers) × Runs old steps answers new

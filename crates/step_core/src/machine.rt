@@ -11,7 +11,7 @@ ghost use Rattle.nvme_model.specs.Laws.{is_held};
 ghost use Rattle.nvme_model.specs.Value.{value};
 ghost use Rattle.nvme_model.specs.declared.refusal.Why.{Why as TheWhy};
 ghost use Rattle.rings.specs.Slots.{IsSize};
-ghost use Rattle.step_core.specs.Kept.{IsCqRing, IsJob, IsSqRing};
+ghost use Rattle.step_core.specs.Found.{IsCqRing, IsJob, IsSqRing};
 ghost use Rattle.step_core.specs.State.{HasPromised, KeepsRoom, LacksRoom};
 
 mod block;

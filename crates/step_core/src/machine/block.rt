@@ -4,8 +4,7 @@ ghost use Rattle.std.specs.Prelude.{◌≡◌, ◌≤◌, MatchResult, Some, if�
 ghost use Rattle.nvme_model.specs.Refusals.{refusal};
 ghost use Rattle.nvme_model.specs.declared.step.Step.{Step};
 ghost use Rattle.range_reserve.specs.Reserved.{held_beside};
-ghost use Rattle.step_core.specs.Kept.{IsJob};
-ghost use Rattle.step_core.specs.Ready.{IsNext};
+ghost use Rattle.step_core.specs.Found.{IsJob, IsNext};
 ghost use Rattle.step_core.specs.State.{Does};
 ghost use Rattle.step_core.specs.declared.machine.next.Next.{Next};
 

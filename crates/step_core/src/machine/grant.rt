@@ -3,8 +3,7 @@
 ghost use Rattle.std.specs.Prelude.{◌≡◌, MatchResult, Some};
 ghost use Rattle.nvme_model.specs.Refusals.{refusal};
 ghost use Rattle.nvme_model.specs.declared.step.Step.{Step};
-ghost use Rattle.step_core.specs.Kept.{IsJob};
-ghost use Rattle.step_core.specs.Ready.{IsNext};
+ghost use Rattle.step_core.specs.Found.{IsJob, IsNext};
 ghost use Rattle.step_core.specs.State.{Does};
 ghost use Rattle.step_core.specs.declared.machine.next.Next.{Next};
 

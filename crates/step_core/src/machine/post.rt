@@ -5,8 +5,7 @@ ghost use Rattle.job_table.specs.Jobs.{has_ticket, job_of, jobs_beside, replaced
 ghost use Rattle.job_table.specs.Keeping.{Keeping, posted_job};
 ghost use Rattle.nvme_model.specs.Refusals.{refusal};
 ghost use Rattle.nvme_model.specs.declared.step.Step.{Step};
-ghost use Rattle.step_core.specs.Kept.{IsJob};
-ghost use Rattle.step_core.specs.Ready.{IsNext};
+ghost use Rattle.step_core.specs.Found.{IsJob, IsNext};
 ghost use Rattle.step_core.specs.State.{Does};
 ghost use Rattle.step_core.specs.declared.machine.next.Next.{Next};
 ghost use Rattle.ticket_course.specs.Stages.{owed_in};

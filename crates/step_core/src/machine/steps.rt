@@ -2,8 +2,8 @@
 
 ghost use Rattle.std.specs.Prelude.{◌≡◌, IfErr, OnErr, OnOk};
 ghost use Rattle.nvme_model.specs.Legal.{IsLegal};
-ghost use Rattle.step_core.specs.OneAtATime.{IsOneAtATime};
-ghost use Rattle.step_core.specs.Runs.{RunsOnto};
+ghost use Rattle.nvme_model.specs.OneAtATime.{IsOneAtATime};
+ghost use Rattle.step_core.specs.State.{RunsOnto};
 ghost use Rattle.step_core.specs.State.{Serves};
 
 use crate::answer::{Answer, Refused};

@@ -1,4 +1,4 @@
-use Rattle.meet_lock.proofs.OneAtATime.{one_at_a_time}
+use Rattle.nvme_model.proofs.OneAtATime.{one_at_a_time}
 use Rattle.meet_lock.specs.Passes.{config_of, seen}
 use Rattle.nvme_model.proofs.Medium.{medium_is_value}
 use Rattle.nvme_model.specs.Passes.{entries}

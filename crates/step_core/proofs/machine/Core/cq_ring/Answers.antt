@@ -1,6 +1,6 @@
 use Rattle.std.proofs.Common.{ap, arith, subst}
 use Rattle.nvme_model.specs.declared.config.ConfigNumbers.{ConfigNumbers}
-use Rattle.step_core.specs.Kept.{IsCqRing}
+use Rattle.step_core.specs.Found.{IsCqRing}
 use Rattle.step_core.specs.State.{State}
 use Rattle.step_core.proofs.Lookups.{cq_read}
 use Rattle.step_core.proofs.machine.Core.cq_ring.Goals as goal

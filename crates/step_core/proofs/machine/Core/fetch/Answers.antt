@@ -2,7 +2,7 @@ use Rattle.std.proofs.Common.{◌≡◌, arith, subst, sym}
 use Rattle.block_array.specs.Blocks.{contents_of}
 use Rattle.fused_match.specs.Judged.{verdict_by}
 use Rattle.nvme_model.specs.Tickets.{fetched_ticket}
-use Rattle.step_core.specs.Fields.{write_blocks}
+use Rattle.job_table.specs.Tickets.{write_blocks}
 use Rattle.step_core.specs.State.{State}
 use Rattle.step_core.proofs.Fetched.{IsFetched, ticket_fits, can_take, cids_are, is_above, sound_is, not_full, used_room, work_fits, fetch_kept, fetch_done}
 use Rattle.step_core.proofs.machine.Core.fetch.Goals as goal

@@ -1,11 +1,10 @@
 use Rattle.std.proofs.Common.{ap, subst, sym, true, false, ◌∙◌}
 use Rattle.std.specs.Option.{option_copied}
-use Rattle.fused_match.specs.Judged.{NamesBlocks, verdict_by, waiting_items}
+use Rattle.fused_match.specs.Judged.{NamesBlocks, cids_taken, verdict_by, waiting_items}
 use Rattle.nvme_model.specs.EntryBytes.{slba}
 use Rattle.nvme_model.specs.Operations.{op_by}
 use Rattle.nvme_model.specs.Tickets.{cids_in_use}
 use Rattle.nvme_model.specs.Verdict.{Item, verdict_of}
-use Rattle.step_core.specs.Fetches.{cids_taken}
 use Rattle.step_core.proofs.Fetching.{fetch_by_jobs, fetch_no_entry, front_is}
 use Rattle.step_core.proofs.machine.Core.fetch_front.Goals as goal
 

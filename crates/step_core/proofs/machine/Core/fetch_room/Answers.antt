@@ -3,9 +3,9 @@ use Rattle.std.specs.Prelude.{IfOk}
 use Rattle.block_array.specs.Blocks.{contents_of}
 use Rattle.fused_match.specs.Judged.{verdict_by}
 use Rattle.nvme_model.specs.Tickets.{fetched_ticket}
-use Rattle.step_core.specs.Fetches.{write_first}
-use Rattle.step_core.specs.Fields.{write_blocks}
-use Rattle.step_core.specs.Kept.{IsSqRing}
+use Rattle.job_table.specs.Beginning.{write_first}
+use Rattle.job_table.specs.Tickets.{write_blocks}
+use Rattle.step_core.specs.Found.{IsSqRing}
 use Rattle.step_core.specs.State.{State}
 use Rattle.step_core.proofs.Fetched.{IsFetched, data_has, data_is}
 use Rattle.step_core.proofs.machine.Core.fetch_room.Goals as goal

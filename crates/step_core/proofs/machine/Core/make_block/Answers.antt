@@ -1,6 +1,6 @@
 use Rattle.std.proofs.Common.{ap, arith, subst, sym, ◌∙◌}
 use Rattle.std.specs.Option.{option_copied_mut}
-use Rattle.step_core.specs.Ready.{IsNext}
+use Rattle.step_core.specs.Found.{IsNext}
 use Rattle.step_core.specs.declared.machine.next.Next.{Next}
 use Rattle.step_core.specs.State.{State}
 use Rattle.step_core.proofs.BlockMade.{block_does, has_job, kept, opened, ready}

@@ -2,7 +2,7 @@ use Rattle.std.proofs.Common.{◌≡◌, List, ap, arith, false, subst, sym, tru
 use Rattle.std.specs.Option.{option_copied_mut}
 use Rattle.range_reserve.specs.Reserved.{has_conflict, has_ticket, insert_held}
 use Rattle.range_reserve.specs.declared.held.Held.{Held}
-use Rattle.step_core.specs.Ready.{IsNext}
+use Rattle.step_core.specs.Found.{IsNext}
 use Rattle.step_core.specs.declared.machine.next.Next.{Next}
 use Rattle.step_core.specs.State.{State}
 use Rattle.step_core.proofs.Granted.{apart, first, free, has_job, held_ok, kept, range_is}

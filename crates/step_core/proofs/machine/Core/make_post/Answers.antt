@@ -1,7 +1,7 @@
 use Rattle.std.proofs.Common.{◌≡◌, ◌++◌, arith, ap, false, inr, length, refl, subst, sym, true, ◌∙◌}
 use Rattle.nvme_model.proofs.Written.{clash}
 use Rattle.nvme_model.specs.declared.step.Step.{Step}
-use Rattle.step_core.specs.Ready.{IsNext}
+use Rattle.step_core.specs.Found.{IsNext}
 use Rattle.step_core.specs.declared.machine.next.Next.{Next}
 use Rattle.step_core.specs.State.{State, answer_of}
 use Rattle.step_core.proofs.Accepted.{does_accepted, does_wanting, ok_unless, one_more}

@@ -1,6 +1,6 @@
 use Rattle.std.proofs.Common.{ap, arith, subst}
 use Rattle.nvme_model.specs.declared.config.ConfigNumbers.{ConfigNumbers}
-use Rattle.step_core.specs.Kept.{IsSqRing}
+use Rattle.step_core.specs.Found.{IsSqRing}
 use Rattle.step_core.specs.State.{State}
 use Rattle.step_core.proofs.Lookups.{sq_read}
 use Rattle.step_core.proofs.machine.Core.sq_ring.Goals as goal

@@ -1,6 +1,6 @@
 use Rattle.std.proofs.Common.{subst}
 use Rattle.step_core.proofs.Whole.{KeptBy, kept_served}
-use Rattle.step_core.proofs.OneAtATime.{one_at_a_time}
+use Rattle.nvme_model.proofs.OneAtATime.{one_at_a_time}
 use Rattle.step_core.proofs.machine.Core.step.Goals as goal
 
 pub returns-clause-legal : goal.returns-clause-legal

@@ -1,5 +1,5 @@
-use Rattle.step_core.specs.Ready.{step_of}
-use Rattle.step_core.proofs.OneAtATime.{one_at_a_time}
+use Rattle.step_core.specs.Found.{step_of}
+use Rattle.nvme_model.proofs.OneAtATime.{one_at_a_time}
 use Rattle.step_core.proofs.Whole.{kept_served}
 use Rattle.step_core.proofs.machine.Core.step_ready.Goals as goal
 

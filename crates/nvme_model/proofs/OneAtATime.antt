@@ -7,7 +7,7 @@ use Rattle.nvme_model.specs.Legal.{IsLegal}
 use Rattle.nvme_model.proofs.Beginnings.{earlier}
 use Rattle.nvme_model.proofs.Posted.{posted_by_machine, reaped_is_posted}
 use Rattle.nvme_model.proofs.Sequential.{answers_are, contents_are}
-use Rattle.step_core.specs.OneAtATime.{IsOneAtATime}
+use Rattle.nvme_model.specs.OneAtATime.{IsOneAtATime}
 
 -- by the laws of the definitions
 pub one_at_a_time : (c : ConfigNumbers) (past : Past) → IsLegal c past → IsOneAtATime c past

@@ -1,48 +1,17 @@
--- What the fields of a core are: what the definitions compute from its history.
-use Rattle.std.specs.Prelude.{List, None, Option, Some, [], drop, if◌then◌else◌, length, map, replicate}
-use Rattle.std.specs.Prelude.{ℕ, ◌%◌, ◌*◌, ◌++◌, ◌-◌, ◌/◌, ◌==◌}
-use Rattle.nvme_model.specs.Completions.{posted_completions, reaped_count}
+-- What is kept of the tickets in flight of a history.
+use Rattle.std.specs.Prelude.{List, None, Option, Some, [], drop, if◌then◌else◌, length, replicate, ℕ, ◌*◌, ◌++◌, ◌-◌}
 use Rattle.nvme_model.specs.EntryBytes.{blocks, slba}
 use Rattle.nvme_model.specs.History.{Past}
 use Rattle.nvme_model.specs.Operations.{has_compare, op}
-use Rattle.nvme_model.specs.Queues.{fetched_count, waiting}
-use Rattle.ticket_standing.specs.Standing.{OpenUnit, Standing, flying, had, standing}
 use Rattle.nvme_model.specs.Tickets.{Ticket, cids, command, first_fields}
 use Rattle.nvme_model.specs.declared.config.ConfigNumbers.{ConfigNumbers}
-use Rattle.nvme_model.specs.declared.entry.PostLine.{PostLine}
 use Rattle.nvme_model.specs.declared.operation.Op.{Op}
 use Rattle.nvme_model.specs.declared.submission.Submission.{Submission}
+use Rattle.ticket_standing.specs.Standing.{OpenUnit, Standing, flying, had, standing}
 use Rattle.block_exec.specs.Bytes.{blocks_in}
-use Rattle.rings.specs.Completions.{CompletionRing}
-use Rattle.rings.specs.Submissions.{SubmissionRing}
-use Rattle.rings.specs.declared.completion_ring.Completion.{Completion}
+use Rattle.ticket_course.specs.Shown.{stage_of}
 use Rattle.job_table.specs.Jobs.{JobTable, jobs_by}
 use Rattle.job_table.specs.Keeping.{Keeping}
-use Rattle.ticket_course.specs.Shown.{stage_of}
-
--- ---- queues
-
--- the ring of submission queue q
-unfoldable pub submission_ring : ConfigNumbers → Past → ℕ → SubmissionRing
-submission_ring c past q =
-    record { size = c.sq_size; head = fetched_count past q % c.sq_size; waiting = waiting past q }
-
--- a completion without its ticket
-abbrev pub completion_of : PostLine → Completion
-completion_of p = record { cqe = p.cqe; payload = p.payload }
-
--- the ring of completion queue q
-unfoldable pub completion_ring : ConfigNumbers → Past → ℕ → CompletionRing
-completion_ring c past q =
-    let n = length (posted_completions c past q) in
-    record {
-      size = c.cq_size;
-      tail = n % c.cq_size;
-      phase = (n / c.cq_size) % 2 == 0;
-      waiting = map completion_of (drop (reaped_count past q) (posted_completions c past q));
-    }
-
--- ---- tickets in flight
 
 -- the Compare's data, by the operation
 abbrev pub compare_by : Option Op → Submission → List ℕ

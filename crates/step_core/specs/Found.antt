@@ -1,0 +1,108 @@
+-- What is found before a step: of the queue or the ticket that it names, and of what waits there.
+use Rattle.std.specs.List.{find}
+use Rattle.std.specs.Prelude.{List, None, Option, Some, [], false, length, slice_get, true, ℕ, ◌==◌, ◌∷◌, ◌≡◌, ◌≤◌}
+use Rattle.nvme_model.specs.Completions.{completion, posted_completions, reaped_count}
+use Rattle.nvme_model.specs.Config.{completion_queue}
+use Rattle.nvme_model.specs.EntryBytes.{slba}
+use Rattle.nvme_model.specs.History.{Past}
+use Rattle.nvme_model.specs.Legal.{IsLegal}
+use Rattle.nvme_model.specs.Operations.{op_by}
+use Rattle.nvme_model.specs.Owed.{owed}
+use Rattle.nvme_model.specs.Queues.{fetched_count, published_entries}
+use Rattle.nvme_model.specs.Refusals.{no_completion_queue, no_queue, refusal}
+use Rattle.nvme_model.specs.Steps.{is_ready, next_entry}
+use Rattle.nvme_model.specs.Tickets.{cids, fetched_ticket, first_fields, in_flight, next_verdict, posts_of, ticket}
+use Rattle.nvme_model.specs.declared.config.ConfigNumbers.{ConfigNumbers}
+use Rattle.nvme_model.specs.declared.entry.Entry.{Entry}
+use Rattle.nvme_model.specs.declared.status.Status.{Status}
+use Rattle.nvme_model.specs.declared.step.Step.{Step}
+use Rattle.nvme_model.specs.declared.submission.Submission.{Submission}
+use Rattle.rings.specs.Completions.{CompletionRing}
+use Rattle.rings.specs.Queues.{completion_ring, submission_ring}
+use Rattle.rings.specs.Submissions.{SubmissionRing}
+use Rattle.fused_match.specs.Judged.{NamesBlocks, operation_in, verdict_by}
+use Rattle.fused_match.specs.declared.judged.Judged.{Judged}
+use Rattle.fused_match.specs.declared.judged.Judged.TheVariants as judged
+use Rattle.ticket_course.specs.Stages.{first_stage, unit_in}
+use Rattle.job_table.specs.Keeping.{Keeping}
+use Rattle.job_table.specs.Tickets.{compare_by, job_at}
+use Rattle.step_core.specs.declared.machine.fetch.Front.{Front}
+use Rattle.step_core.specs.declared.machine.next.Next.{Next}
+use Rattle.step_core.specs.declared.machine.post.Due.{Due}
+use Rattle.step_core.specs.declared.work.Kind.{Kind}
+
+-- a submission queue and its ring
+pub record IsSqRing (c : ConfigNumbers) (past : Past) (q : ℕ) (r : SubmissionRing) : Type 0 where
+  pub there : no_queue c q ≡ false
+  pub is : r ≡ submission_ring c past q
+  pub within : fetched_count past q ≤ length (published_entries past q)
+
+-- a completion queue and its ring
+pub record IsCqRing (c : ConfigNumbers) (past : Past) (q : ℕ) (r : CompletionRing) : Type 0 where
+  pub there : no_completion_queue c q ≡ false
+  pub is : r ≡ completion_ring c past q
+  pub within : reaped_count past q ≤ length (posted_completions c past q)
+
+-- a ticket in flight of a legal history, and what is kept of it
+pub record IsJob (c : ConfigNumbers) (past : Past) (t : ℕ) (j : Keeping) : Type 0 where
+  pub legal : IsLegal c past
+  pub flies : in_flight past t ≡ true
+  pub is : j ≡ job_at c past t
+
+-- the completion that a Post of its ticket gives, and the queue that it goes to
+pub record IsDue (c : ConfigNumbers) (past : Past) (d : Due) : Type 0 where
+  pub status : Status
+  pub owed : slice_get (owed c past d.ticket) (posts_of past d.ticket) ≡ Some status
+  pub from : d.from ≡ (ticket past d.ticket).queue
+  pub queue : d.queue ≡ completion_queue c (ticket past d.ticket).queue
+  pub cid : slice_get (job_at c past d.ticket).course.cids 0 ≡ Some d.cid
+  pub cqe : d.cqe ≡ completion c past d.ticket status
+  pub bytes : d.bytes ≡ length (job_at c past d.ticket).read
+  pub last : d.last ≡ (length (job_at c past d.ticket).course.cids == 1)
+
+-- what a Fetch of queue q finds: what becomes of the entries at its front, the CIDs of those that it takes, and the
+-- first block that the first of them names
+pub record IsFront (c : ConfigNumbers) (past : Past) (q : ℕ) (f : Front) : Type 0 where
+  pub verdict : verdict_by f.judged ≡ next_verdict c past q
+  pub operation :
+      operation_in f.judged ≡ op_by (verdict_by f.judged) (first_fields (fetched_ticket past q (verdict_by f.judged)))
+  pub range : NamesBlocks f.judged (first_fields (fetched_ticket past q (verdict_by f.judged)))
+  pub cids : f.cids ≡ cids (fetched_ticket past q (verdict_by f.judged))
+  pub slba : f.slba ≡ slba (first_fields (fetched_ticket past q (verdict_by f.judged)))
+
+-- what a ticket that was judged so has to do
+abbrev pub kind_in : Judged → Kind
+kind_in judged.Flush = Kind.Flush
+kind_in (judged.Single o r) = Kind.Units o r
+kind_in (judged.Pair r) = Kind.Pair r
+kind_in (judged.Failed s) = Kind.Failed 1
+kind_in (judged.FailedPair s r) = Kind.Failed 2
+
+-- what is kept of a ticket that begins, with these blocks to write and this room for what it reads
+abbrev pub first_job : ℕ → Front → Submission → List (List ℕ) → List ℕ → Keeping
+first_job q f first write read =
+    record {
+      queue = q;
+      course = record { stage = first_stage f.judged; cids = f.cids };
+      slba = f.slba;
+      compare = compare_by (operation_in f.judged) first;
+      write = write;
+      read = read;
+    }
+
+-- the step of a ticket, beside its Fetch, that nothing refuses
+abbrev pub next_step : ConfigNumbers → Past → ℕ → Option Step
+next_step c past t = find (is_ready c past) (Step.Grant t ∷ Step.Block t ∷ Step.Post t ∷ [])
+
+-- the step that was found
+abbrev pub step_of : Next → Step
+step_of (Next.Grant g) = Step.Grant g.ticket
+step_of (Next.Block t u) = Step.Block t
+step_of (Next.Post d) = Step.Post d.ticket
+
+-- nothing refuses it, and it adds this line, is of this unit, or gives this completion
+abbrev pub IsNext : ConfigNumbers → Past → Next → Type 0
+IsNext c past (Next.Grant g) =
+    (refusal c past (Step.Grant g.ticket) ≡ None) × (Entry.Grant g ≡ next_entry c past (Step.Grant g.ticket))
+IsNext c past (Next.Block t u) = (refusal c past (Step.Block t) ≡ None) × (u ≡ unit_in (job_at c past t).course.stage)
+IsNext c past (Next.Post d) = (refusal c past (Step.Post d.ticket) ≡ None) × IsDue c past d
