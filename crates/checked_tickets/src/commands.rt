@@ -85,8 +85,8 @@ impl Commands {
         ensures value { result ≡ get_or (cids self.now) number 0 }
     {
         match (&self.second, number) {
-            (_, 0) => decode_sqe(&self.first.entry).cid(),
-            (Some(second), 1) => decode_sqe(&second.entry).cid(),
+            (_, 0) => decode_sqe(&self.first.entry).cid,
+            (Some(second), 1) => decode_sqe(&second.entry).cid,
             _ => 0,
         }
     }

@@ -19,21 +19,34 @@ pub use crate::sqe::codec::{decode_sqe, encode_sqe};
 /// A submission queue entry of 64 bytes (Base 2.0, Submission Queue Entry).
 #[derive(Clone, Copy, Debug, PartialEq, Eq)]
 pub struct Sqe {
-    opcode: u8,
+    /// The opcode, bits 7:0 of CDW0.
+    pub opcode: u8,
     // bits 15:8 of CDW0: FUSE, four reserved bits and PSDT
     flags: u8,
-    cid: u16,
-    nsid: u32,
-    cdw2: u32,
-    cdw3: u32,
-    mptr: u64,
-    dptr: u128,
-    cdw10: u32,
-    cdw11: u32,
-    cdw12: u32,
-    cdw13: u32,
-    cdw14: u32,
-    cdw15: u32,
+    /// The command's identifier, bits 31:16 of CDW0.
+    pub cid: u16,
+    /// The number of the namespace.
+    pub nsid: u32,
+    /// CDW2, which is reserved.
+    pub cdw2: u32,
+    /// CDW3, which is reserved.
+    pub cdw3: u32,
+    /// MPTR, the pointer to metadata.
+    pub mptr: u64,
+    /// DPTR, the pointer to data.
+    pub dptr: u128,
+    /// CDW10: SLBA's low half, where the command has one.
+    pub cdw10: u32,
+    /// CDW11: SLBA's high half, where the command has one.
+    pub cdw11: u32,
+    /// CDW12: NLB in its low half, where the command has one.
+    pub cdw12: u32,
+    /// CDW13.
+    pub cdw13: u32,
+    /// CDW14.
+    pub cdw14: u32,
+    /// CDW15.
+    pub cdw15: u32,
 }
 
 impl Model for Sqe {
@@ -104,13 +117,6 @@ impl Sqe {
         }
     }
 
-    /// The opcode, bits 7:0 of CDW0.
-    pub fn opcode(&self) -> u8
-        ensures value { result ≡ self.now.opcode }
-    {
-        self.opcode
-    }
-
     /// FUSE, bits 9:8 of CDW0.
     pub fn fuse(&self) -> u8
         ensures value { result ≡ self.now.fuse }
@@ -133,90 +139,6 @@ impl Sqe {
         ensures width { result < 4 }
     {
         self.flags / 64
-    }
-
-    /// The command's identifier, bits 31:16 of CDW0.
-    pub fn cid(&self) -> u16
-        ensures value { result ≡ self.now.cid }
-    {
-        self.cid
-    }
-
-    /// The number of the namespace.
-    pub fn nsid(&self) -> u32
-        ensures value { result ≡ self.now.nsid }
-    {
-        self.nsid
-    }
-
-    /// CDW2, which is reserved.
-    pub fn cdw2(&self) -> u32
-        ensures value { result ≡ self.now.cdw2 }
-    {
-        self.cdw2
-    }
-
-    /// CDW3, which is reserved.
-    pub fn cdw3(&self) -> u32
-        ensures value { result ≡ self.now.cdw3 }
-    {
-        self.cdw3
-    }
-
-    /// MPTR, the pointer to metadata.
-    pub fn mptr(&self) -> u64
-        ensures value { result ≡ self.now.mptr }
-    {
-        self.mptr
-    }
-
-    /// DPTR, the pointer to data.
-    pub fn dptr(&self) -> u128
-        ensures value { result ≡ self.now.dptr }
-    {
-        self.dptr
-    }
-
-    /// CDW10: SLBA's low half, where the command has one.
-    pub fn cdw10(&self) -> u32
-        ensures value { result ≡ self.now.cdw10 }
-    {
-        self.cdw10
-    }
-
-    /// CDW11: SLBA's high half, where the command has one.
-    pub fn cdw11(&self) -> u32
-        ensures value { result ≡ self.now.cdw11 }
-    {
-        self.cdw11
-    }
-
-    /// CDW12: NLB in its low half, where the command has one.
-    pub fn cdw12(&self) -> u32
-        ensures value { result ≡ self.now.cdw12 }
-    {
-        self.cdw12
-    }
-
-    /// CDW13.
-    pub fn cdw13(&self) -> u32
-        ensures value { result ≡ self.now.cdw13 }
-    {
-        self.cdw13
-    }
-
-    /// CDW14.
-    pub fn cdw14(&self) -> u32
-        ensures value { result ≡ self.now.cdw14 }
-    {
-        self.cdw14
-    }
-
-    /// CDW15.
-    pub fn cdw15(&self) -> u32
-        ensures value { result ≡ self.now.cdw15 }
-    {
-        self.cdw15
     }
 
     /// SLBA of a Read, Write, Compare or Write Zeroes: its first block.

@@ -81,10 +81,10 @@ pub(crate) fn command_fault(item: &Item, in_use: &[u16], size: u32) -> Option<St
     if sqe.has_invalid_field() {
         return Some(generic(INVALID_FIELD));
     }
-    if is_in_use(sqe.cid(), in_use) {
+    if is_in_use(sqe.cid, in_use) {
         return Some(generic(CID_CONFLICT));
     }
-    if sqe.nsid() != 1 {
+    if sqe.nsid != 1 {
         return Some(generic(INVALID_NAMESPACE));
     }
     if is_too_long(&sqe) {
@@ -114,7 +114,7 @@ pub(crate) fn pair_fault(
     if !is_compare_and_write(&one, &other) {
         return Some((generic(INVALID_FIELD), generic(INVALID_FIELD)));
     }
-    if has_conflict(one.cid(), other.cid(), in_use) {
+    if has_conflict(one.cid, other.cid, in_use) {
         return Some((generic(CID_CONFLICT), generic(CID_CONFLICT)));
     }
     if let Some(status) = command_fault(first, in_use, size) {

@@ -27,22 +27,22 @@ const FIELDS: [(usize, usize); 16] = [
 
 fn fields(sqe: &Sqe) -> [u128; 16] {
     [
-        u128::from(sqe.opcode()),
+        u128::from(sqe.opcode),
         u128::from(sqe.fuse()),
         u128::from(sqe.reserved()),
         u128::from(sqe.psdt()),
-        u128::from(sqe.cid()),
-        u128::from(sqe.nsid()),
-        u128::from(sqe.cdw2()),
-        u128::from(sqe.cdw3()),
-        u128::from(sqe.mptr()),
-        sqe.dptr(),
-        u128::from(sqe.cdw10()),
-        u128::from(sqe.cdw11()),
-        u128::from(sqe.cdw12()),
-        u128::from(sqe.cdw13()),
-        u128::from(sqe.cdw14()),
-        u128::from(sqe.cdw15()),
+        u128::from(sqe.cid),
+        u128::from(sqe.nsid),
+        u128::from(sqe.cdw2),
+        u128::from(sqe.cdw3),
+        u128::from(sqe.mptr),
+        sqe.dptr,
+        u128::from(sqe.cdw10),
+        u128::from(sqe.cdw11),
+        u128::from(sqe.cdw12),
+        u128::from(sqe.cdw13),
+        u128::from(sqe.cdw14),
+        u128::from(sqe.cdw15),
     ]
 }
 

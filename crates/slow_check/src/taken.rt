@@ -206,8 +206,8 @@ pub(crate) fn cid_at(k: &Taken, number: u64) -> u16
     ensures value { result ≡ get_or (cids k.now) number 0 }
 {
     match (k.first, k.second, number) {
-        (Some(first), _, 0) => decode_sqe(&first.entry).cid(),
-        (Some(_), Some(second), 1) => decode_sqe(&second.entry).cid(),
+        (Some(first), _, 0) => decode_sqe(&first.entry).cid,
+        (Some(_), Some(second), 1) => decode_sqe(&second.entry).cid,
         _ => 0,
     }
 }

@@ -71,8 +71,8 @@ fn taken_cids(judged: &Judged, first: &Item, second: Option<&Item>) -> Cids
     ensures value { result ≡ cids_taken judged.now first.now (option_copied second.entry) }
 {
     match second {
-        Some(second) if judged.taken() == 2 => Cids::two(first.sqe().cid(), second.sqe().cid()),
-        _ => Cids::one(first.sqe().cid()),
+        Some(second) if judged.taken() == 2 => Cids::two(first.sqe().cid, second.sqe().cid),
+        _ => Cids::one(first.sqe().cid),
     }
 }
 
