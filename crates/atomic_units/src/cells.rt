@@ -1,6 +1,6 @@
 //! Cells between boundaries, by arithmetic.
 
-ghost use Rattle.std.specs.Prelude.{◌≡◌, ◌+◌, ◌≤◌};
+ghost use Rattle.std.specs.Prelude.{◌≡◌, ◌+◌, ◌<◌, ◌≤◌, ◌^◌};
 ghost use Rattle.nvme_model.specs.Cells.{cell, in_one_cell};
 ghost use Rattle.nvme_model.specs.Cut.{longest};
 ghost use Rattle.atomic_units.specs.Room.{cell_room};
@@ -9,7 +9,6 @@ use nvme_model::config::AtomicParameters;
 
 /// The cell of a block.
 fn cell(parameters: &AtomicParameters, lba: u64) -> u64
-    requires within { lba ≤ 65536 }
     ensures value { result ≡ cell parameters.now lba }
 {
     let size = u64::from(parameters.nabsn) + 1;
@@ -24,7 +23,7 @@ fn cell(parameters: &AtomicParameters, lba: u64) -> u64
 #[tactic(auto, using(crate::proofs::Ends::in_one_cell_ends))]
 pub fn in_one_cell(parameters: &AtomicParameters, slba: u64, blocks: u32) -> bool
     requires some { 1 ≤ blocks }
-    requires within { slba + blocks ≤ 65536 }
+    requires within { slba + blocks < 2 ^ 64 }
     ensures value { result ≡ in_one_cell parameters.now slba blocks }
 {
     cell(parameters, slba + u64::from(blocks) - 1) == cell(parameters, slba)

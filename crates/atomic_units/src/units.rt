@@ -1,6 +1,6 @@
 //! The numbers of the cut, without a fault.
 
-ghost use Rattle.std.specs.Prelude.{◌≡◌, ◌≢◌, ◌↔◌, ◌+◌, ◌-◌, ◌≤◌, IfErr, IfOk, IsTrue, None, OnOk, Some, not};
+ghost use Rattle.std.specs.Prelude.{◌≡◌, ◌≢◌, ◌↔◌, ◌+◌, ◌-◌, ◌<◌, ◌≤◌, ◌^◌, IfErr, IfOk, IsTrue, None, OnOk, Some, not};
 ghost use Rattle.nvme_model.specs.Cells.{cell, in_one_cell, pair_fits};
 ghost use Rattle.nvme_model.specs.Config.{unit_fault};
 ghost use Rattle.nvme_model.specs.Cut.{IsCut, cut};
@@ -109,7 +109,7 @@ impl Units {
     #[tactic(auto, using(crate::proofs::Ends::ends_cross))]
     pub fn crosses(&self, slba: u64, blocks: u32) -> bool
         requires some { 1 ≤ blocks }
-        requires within { slba + blocks ≤ 65536 }
+        requires within { slba + blocks < 2 ^ 64 }
         ensures crosses { result ≡ not (in_one_cell self.now slba blocks) }
         ensures ends { IsTrue result ↔ (cell self.now (slba + blocks - 1) ≢ cell self.now slba) }
     {
@@ -119,7 +119,7 @@ impl Units {
     /// Whether these blocks fit a fused pair: at most ACWU + 1, with no boundary between them.
     pub fn pair_fits(&self, slba: u64, blocks: u32) -> bool
         requires some { 1 ≤ blocks }
-        requires within { slba + blocks ≤ 65536 }
+        requires within { slba + blocks < 2 ^ 64 }
         ensures fits { result ≡ pair_fits self.now slba blocks }
     {
         blocks <= u32::from(self.parameters.acwu) + 1 && in_one_cell(&self.parameters, slba, blocks)

@@ -47,6 +47,7 @@ impl CqeFault {
 pub fn encode_cqe(cqe: &Cqe) -> [u8; 16]
     ensures value { result ≡ completion_bytes cqe.now }
     ensures is { IsCqe result (completion_fields cqe.now) }
+    ensures fits { FitsCqe cqe.now }
 {
     let code = 2 * u16::from(cqe.status.sc()) + 512 * u16::from(cqe.status.sct());
     let mut bytes = [0; 16];

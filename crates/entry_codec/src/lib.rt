@@ -10,3 +10,4 @@ mod sqe;
 pub use crate::cqe::{Cqe, CqeFault, decode_cqe, encode_cqe};
 pub use crate::fuse::Fuse;
 pub use crate::sqe::{Sqe, decode_sqe, encode_sqe};
+pub use nvme_model::status::Status;

@@ -5,34 +5,10 @@ ghost use Rattle.nvme_model.specs.Commands.{is_compare, is_flush, is_read, is_wr
 ghost use Rattle.nvme_model.specs.EntryBytes.{blocks, slba};
 ghost use Rattle.nvme_model.specs.Verdict.{command_fault, is_in, pair_fault};
 
-use crate::cells::pair_fits;
 use crate::item::Item;
 use atomic_units::Units;
 use entry_codec::Sqe;
 use nvme_model::status::Status;
-
-const INVALID_OPCODE: u8 = 0x01;
-
-const INVALID_FIELD: u8 = 0x02;
-
-const CID_CONFLICT: u8 = 0x03;
-
-const DATA_TRANSFER_ERROR: u8 = 0x04;
-
-const FAILED_FUSED: u8 = 0x09;
-
-const INVALID_NAMESPACE: u8 = 0x0b;
-
-const UNIT_EXCEEDED: u8 = 0x14;
-
-const OUT_OF_RANGE: u8 = 0x80;
-
-// A generic status.
-fn generic(sc: u8) -> Status
-    ensures value { result ≡ record { sct = 0; sc = sc } }
-{
-    Status::new(0, sc)
-}
 
 fn is_known(sqe: &Sqe) -> bool
     ensures value { result ≡
@@ -76,25 +52,25 @@ pub(crate) fn command_fault(item: &Item, in_use: &[u16], size: u32) -> Option<St
 {
     let sqe = item.sqe();
     if !is_known(&sqe) {
-        return Some(generic(INVALID_OPCODE));
+        return Some(Status::INVALID_OPCODE);
     }
     if sqe.has_invalid_field() {
-        return Some(generic(INVALID_FIELD));
+        return Some(Status::INVALID_FIELD);
     }
     if is_in_use(sqe.cid, in_use) {
-        return Some(generic(CID_CONFLICT));
+        return Some(Status::CID_CONFLICT);
     }
     if sqe.nsid != 1 {
-        return Some(generic(INVALID_NAMESPACE));
+        return Some(Status::INVALID_NAMESPACE);
     }
     if is_too_long(&sqe) {
-        return Some(generic(INVALID_FIELD));
+        return Some(Status::INVALID_FIELD);
     }
     if is_out_of_range(&sqe, size) {
-        return Some(generic(OUT_OF_RANGE));
+        return Some(Status::OUT_OF_RANGE);
     }
     if item.length() != sqe.data_length() {
-        return Some(generic(DATA_TRANSFER_ERROR));
+        return Some(Status::DATA_TRANSFER_ERROR);
     }
     None
 }
@@ -112,22 +88,22 @@ pub(crate) fn pair_fault(
     let one = first.sqe();
     let other = second.sqe();
     if !is_compare_and_write(&one, &other) {
-        return Some((generic(INVALID_FIELD), generic(INVALID_FIELD)));
+        return Some((Status::INVALID_FIELD, Status::INVALID_FIELD));
     }
     if has_conflict(one.cid, other.cid, in_use) {
-        return Some((generic(CID_CONFLICT), generic(CID_CONFLICT)));
+        return Some((Status::CID_CONFLICT, Status::CID_CONFLICT));
     }
     if let Some(status) = command_fault(first, in_use, size) {
-        return Some((status, generic(FAILED_FUSED)));
+        return Some((status, Status::FAILED_FUSED));
     }
     if let Some(status) = command_fault(second, in_use, size) {
-        return Some((generic(FAILED_FUSED), status));
+        return Some((Status::FAILED_FUSED, status));
     }
     if !is_same_range(&one, &other) {
-        return Some((generic(INVALID_FIELD), generic(INVALID_FIELD)));
+        return Some((Status::INVALID_FIELD, Status::INVALID_FIELD));
     }
-    if !pair_fits(units, one.slba(), one.blocks()) {
-        return Some((generic(UNIT_EXCEEDED), generic(UNIT_EXCEEDED)));
+    if !units.pair_fits(one.slba(), one.blocks()) {
+        return Some((Status::UNIT_EXCEEDED, Status::UNIT_EXCEEDED));
     }
     None
 }

@@ -1,7 +1,6 @@
 //! What a Fetch says of the entries at the front of a submission queue: matching, and the checks of both tables.
 #![tactic(auto)]
 
-mod cells;
 mod checks;
 mod item;
 mod judged;

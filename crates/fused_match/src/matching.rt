@@ -66,17 +66,15 @@ pub fn judge(first: &Item, next: Option<&Item>, in_use: &[u16], units: &Units, s
     let sqe = first.sqe();
     if sqe.fuse() == 1 {
         let Some(second) = next else {
-            return Judged::Failed(Status::new(0, MISSING_FUSED));
+            return Judged::Failed(Status::MISSING_FUSED);
         };
         if second.sqe().fuse() != 2 {
-            return Judged::Failed(Status::new(0, MISSING_FUSED));
+            return Judged::Failed(Status::MISSING_FUSED);
         }
         return pair(&sqe, pair_fault(first, second, in_use, units, size));
     }
     if sqe.fuse() == 2 {
-        return Judged::Failed(Status::new(0, MISSING_FUSED));
+        return Judged::Failed(Status::MISSING_FUSED);
     }
     single(&sqe, command_fault(first, in_use, size))
 }
-
-const MISSING_FUSED: u8 = 0x0a;

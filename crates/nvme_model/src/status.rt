@@ -27,6 +27,39 @@ impl Model for Status {
 impl Status {
     ghost use Rattle.nvme_model.specs.Statuses.{status};
 
+    /// Successful Completion (this and the others without a source: Base 2.0, Generic Command Status).
+    pub const SUCCESS: Status = Status { sct: 0, sc: 0x00 };
+
+    /// Invalid Command Opcode.
+    pub const INVALID_OPCODE: Status = Status { sct: 0, sc: 0x01 };
+
+    /// Invalid Field in Command.
+    pub const INVALID_FIELD: Status = Status { sct: 0, sc: 0x02 };
+
+    /// Command ID Conflict.
+    pub const CID_CONFLICT: Status = Status { sct: 0, sc: 0x03 };
+
+    /// Data Transfer Error.
+    pub const DATA_TRANSFER_ERROR: Status = Status { sct: 0, sc: 0x04 };
+
+    /// Command Aborted due to Failed Fused Command.
+    pub const FAILED_FUSED: Status = Status { sct: 0, sc: 0x09 };
+
+    /// Command Aborted due to Missing Fused Command.
+    pub const MISSING_FUSED: Status = Status { sct: 0, sc: 0x0a };
+
+    /// Invalid Namespace or Format.
+    pub const INVALID_NAMESPACE: Status = Status { sct: 0, sc: 0x0b };
+
+    /// Atomic Write Unit Exceeded.
+    pub const UNIT_EXCEEDED: Status = Status { sct: 0, sc: 0x14 };
+
+    /// LBA Out of Range (NVM 1.0, Generic Command Status Values).
+    pub const OUT_OF_RANGE: Status = Status { sct: 0, sc: 0x80 };
+
+    /// Compare Failure (NVM 1.0, Compare command).
+    pub const COMPARE_FAILURE: Status = Status { sct: 2, sc: 0x85 };
+
     /// The status of this type and code.
     pub fn new(sct: u8, sc: u8) -> Status
         requires { sct < 8 }

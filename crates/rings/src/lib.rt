@@ -6,4 +6,5 @@ mod slots;
 mod submission_ring;
 
 pub use completion_ring::{Completion, CqRing};
+pub use nvme_model::submission::{Payload, Submission, Submissions};
 pub use submission_ring::SqRing;

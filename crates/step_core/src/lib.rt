@@ -7,6 +7,7 @@ mod work;
 
 pub use answer::{Answer, Refused};
 pub use block_exec::Done;
+pub use history::{Config, Entry, History, write_line};
 pub use machine::Core;
 pub use nvme_model::step::Step;
 pub use nvme_model::submission::{Payload, Submission, Submissions};

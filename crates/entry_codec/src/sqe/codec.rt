@@ -13,6 +13,7 @@ use crate::sqe::Sqe;
 /// The entry with these bytes. Any 64 bytes are an entry.
 pub fn decode_sqe(bytes: &[u8; 64]) -> Sqe
     ensures value { result ≡ sqe_fields bytes.now }
+    ensures back { bytes.now ≡ sqe_bytes result }
 {
     Sqe {
         opcode: u8_at(bytes, 0),
