@@ -299,8 +299,8 @@ impl Flight {
         ensures value { (c : ConfigNumbers) →
             count ≡ length (units c self.now.ticket) → result ≡ owed_running c self.now op }
     {
-        let success = Status::new(0, 0);
-        let failure = Status::new(2, 0x85);
+        let success = Status::SUCCESS;
+        let failure = Status::COMPARE_FAILURE;
         let Some(op) = op else {
             return Owed::one(success);
         };
@@ -308,7 +308,7 @@ impl Flight {
         let is_done = has_run && count <= self.placed;
         if op == Op::Pair {
             if self.no && has_run {
-                return Owed::two(failure, Status::new(0, 0x09));
+                return Owed::two(failure, Status::FAILED_FUSED);
             }
             if is_done {
                 return Owed::two(success, success);
@@ -373,7 +373,7 @@ impl Flight {
     pub(crate) fn data(&self, status: Status) -> &[u8]
         ensures value { result.now ≡ data_by self.now status }
     {
-        if status.sct() == 0 && status.sc() == 0 && self.ticket.op() == Some(Op::Read) {
+        if status == Status::SUCCESS && self.ticket.op() == Some(Op::Read) {
             return self.found.as_slice();
         }
         &[]

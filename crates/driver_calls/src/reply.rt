@@ -27,13 +27,13 @@ pub enum Reply {
 fn is_success(status: Status) -> bool
     ensures value { result ≡ is_success_of status }
 {
-    status.sct() == 0 && status.sc() == 0
+    status == Status::SUCCESS
 }
 
 fn is_compare_failure(status: Status) -> bool
     ensures value { result ≡ same_status status compare_failure_status }
 {
-    status.sct() == 2 && status.sc() == 0x85
+    status == Status::COMPARE_FAILURE
 }
 
 /// What a command by itself is answered: its reply, where the status is success, or Compare Failure of a Compare.

@@ -7,7 +7,7 @@ ghost use Rattle.driver_commands.specs.Entries.{IsBatch, IsCommand, entry_count,
 ghost use Rattle.driver_commands.specs.declared.request.CallData.{CallData};
 
 use crate::request::{CallData, Request};
-use entry_codec::{Fuse, Sqe, encode_sqe};
+use entry_codec::{Fuse, Sqe, encode_sqe, opcode};
 use nvme_model::operation::Op;
 use nvme_model::submission::{Payload, Submission, Submissions};
 use std::alloc::{AllocError as NoMemory, Global};
@@ -29,10 +29,10 @@ fn opcode_of(op: Op) -> u8
     ensures value { result ≡ first_opcode op }
 {
     match op {
-        Op::Read => 0x02,
-        Op::Compare | Op::Pair => 0x05,
-        Op::Write => 0x01,
-        Op::WriteZeroes => 0x08,
+        Op::Read => opcode::READ,
+        Op::Compare | Op::Pair => opcode::COMPARE,
+        Op::Write => opcode::WRITE,
+        Op::WriteZeroes => opcode::WRITE_ZEROES,
     }
 }
 
@@ -74,8 +74,8 @@ pub fn batch_of(
             Submissions::new(room)
         }
         CallData::Two(expected, desired) => {
-            room.push_reserved(entry_of(0x05, Fuse::First, first, request, expected));
-            room.push_reserved(entry_of(0x01, Fuse::Second, second, request, desired));
+            room.push_reserved(entry_of(opcode::COMPARE, Fuse::First, first, request, expected));
+            room.push_reserved(entry_of(opcode::WRITE, Fuse::Second, second, request, desired));
             Submissions::new(room)
         }
     }

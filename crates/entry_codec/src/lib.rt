@@ -5,6 +5,7 @@ mod cqe;
 mod fuse;
 pub mod laws;
 mod little;
+pub mod opcode;
 mod sqe;
 
 pub use crate::cqe::{Cqe, CqeFault, decode_cqe, encode_cqe};

@@ -9,6 +9,7 @@ ghost use Rattle.entry_codec.specs.Fuse.{fuse_number};
 ghost use Rattle.entry_codec.specs.Sqe.{command_fields, unused};
 
 use crate::fuse::Fuse;
+use crate::opcode;
 use nvme_model::operation::Op;
 use std::marker::Model;
 
@@ -161,35 +162,35 @@ impl Sqe {
     pub fn is_flush(&self) -> bool
         ensures value { result ≡ is_flush self.now }
     {
-        self.opcode == 0x00
+        self.opcode == opcode::FLUSH
     }
 
     /// Whether the command is Write, opcode 01h.
     pub fn is_write(&self) -> bool
         ensures value { result ≡ is_write self.now }
     {
-        self.opcode == 0x01
+        self.opcode == opcode::WRITE
     }
 
     /// Whether the command is Read, opcode 02h.
     pub fn is_read(&self) -> bool
         ensures value { result ≡ is_read self.now }
     {
-        self.opcode == 0x02
+        self.opcode == opcode::READ
     }
 
     /// Whether the command is Compare, opcode 05h.
     pub fn is_compare(&self) -> bool
         ensures value { result ≡ is_compare self.now }
     {
-        self.opcode == 0x05
+        self.opcode == opcode::COMPARE
     }
 
     /// Whether the command is Write Zeroes, opcode 08h.
     pub fn is_write_zeroes(&self) -> bool
         ensures value { result ≡ is_write_zeroes self.now }
     {
-        self.opcode == 0x08
+        self.opcode == opcode::WRITE_ZEROES
     }
 
     /// What a single command that passed its checks does; None for a Flush.

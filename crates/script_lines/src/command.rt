@@ -6,7 +6,7 @@ ghost use Rattle.history.specs.BatchWords.{item_from};
 ghost use Rattle.history.specs.Gives.{Gives};
 ghost use Rattle.script_lines.specs.Commands.{command_in, fuse_in, item_in, opcode_in, raw_in};
 
-use entry_codec::{Fuse, Sqe, encode_sqe};
+use entry_codec::{Fuse, Sqe, encode_sqe, opcode};
 use history::LineFault;
 use line_text::{read_data, read_fixed, read_u16, read_u64};
 use nvme_model::submission::{Payload, Submission};
@@ -17,19 +17,19 @@ fn opcode_of(name: &[u8]) -> Option<u8>
     ensures { result ≡ opcode_in name.now }
 {
     if name == b"flush".as_slice() {
-        return Some(0x00);
+        return Some(opcode::FLUSH);
     }
     if name == b"write".as_slice() {
-        return Some(0x01);
+        return Some(opcode::WRITE);
     }
     if name == b"read".as_slice() {
-        return Some(0x02);
+        return Some(opcode::READ);
     }
     if name == b"compare".as_slice() {
-        return Some(0x05);
+        return Some(opcode::COMPARE);
     }
     if name == b"zeroes".as_slice() {
-        return Some(0x08);
+        return Some(opcode::WRITE_ZEROES);
     }
     None
 }

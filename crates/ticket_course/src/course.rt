@@ -194,7 +194,7 @@ fn first_stage(judged: &Judged) -> Stage
     ensures value { result ≡ first_stage judged.now }
 {
     match judged {
-        Judged::Flush => Stage::Owing(Owed::one(Status::new(0, 0))),
+        Judged::Flush => Stage::Owing(Owed::one(Status::SUCCESS)),
         Judged::Single(op, range) => Stage::Waiting(*op, 0, *range),
         Judged::Pair(range) => Stage::Waiting(Op::Pair, 0, *range),
         Judged::Failed(status) => Stage::Owing(Owed::one(*status)),
@@ -216,10 +216,9 @@ fn mode_of(op: Op) -> Mode
 fn owed_on_differs(op: Op) -> Owed
     ensures value { result ≡ on_differs op }
 {
-    let failure = Status::new(2, 0x85);
     match op {
-        Op::Pair => Owed::two(failure, Status::new(0, 0x09)),
-        _ => Owed::one(failure),
+        Op::Pair => Owed::two(Status::COMPARE_FAILURE, Status::FAILED_FUSED),
+        _ => Owed::one(Status::COMPARE_FAILURE),
     }
 }
 
@@ -227,9 +226,8 @@ fn owed_on_differs(op: Op) -> Owed
 fn owed_on_success(op: Op) -> Owed
     ensures value { result ≡ on_success op }
 {
-    let success = Status::new(0, 0);
     match op {
-        Op::Pair => Owed::two(success, success),
-        _ => Owed::one(success),
+        Op::Pair => Owed::two(Status::SUCCESS, Status::SUCCESS),
+        _ => Owed::one(Status::SUCCESS),
     }
 }
