@@ -12,6 +12,7 @@ ghost use Rattle.history.specs.ConfigLine.{ten_words_in, with_queues};
 ghost use Rattle.history.specs.Gives.{Gives};
 
 use crate::line_fault::LineFault;
+use crate::lines_there::config_fits;
 use line_text::{Word, read_u16, read_u32, send_behind, send_words, split_words};
 use nvme_model::config::{AtomicParameters, ConfigNumbers};
 use std::alloc::Global;
@@ -149,7 +150,9 @@ pub fn write_config_line<W: Write>(numbers: &ConfigNumbers, writer: &mut W) -> I
         (Appends (W.contents writer.old) (W.contents writer.new) (config_line numbers.now)) }
     ensures front { OnErr result
         (AppendsFront (W.contents writer.old) (W.contents writer.new) (config_line numbers.now)) }
+    ensures line { HasConfigLine numbers.now }
 {
+    config_fits(numbers);
     let c = numbers;
     if c.cqs == c.pairs {
         write_nine(writer, b"config", c)

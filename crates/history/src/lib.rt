@@ -7,6 +7,7 @@ mod config_line;
 mod kinds;
 mod laws;
 mod line_fault;
+mod lines_there;
 mod marks;
 mod past;
 mod reading;

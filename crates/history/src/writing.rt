@@ -5,9 +5,10 @@ ghost use Rattle.std.specs.Io.KnownBytes.{Appends};
 ghost use Rattle.std.specs.List.{join_with_byte};
 ghost use Rattle.line_text.specs.Known.{AppendsFront};
 ghost use Rattle.nvme_model.specs.declared.entry.Entry.{Entry};
-ghost use Rattle.history.specs.Lines.{entry_line};
+ghost use Rattle.history.specs.Lines.{HasLine, entry_line};
 
 use crate::batch::write_batch;
+use crate::lines_there::fits;
 use crate::marks::{found_text, mark_text, mode_text};
 use crate::status_word::status_text;
 use line_text::{Word, send_words};
@@ -166,7 +167,9 @@ pub fn write_line<W: Write>(entry: &Entry, writer: &mut W) -> IoResult<()>
         (Appends (W.contents writer.old) (W.contents writer.new) (entry_line entry.now)) }
     ensures front { OnErr result
         (AppendsFront (W.contents writer.old) (W.contents writer.new) (entry_line entry.now)) }
+    ensures line { HasLine entry.now }
 {
+    fits(entry);
     match entry {
         Entry::Publish(line) => write_publish(line, writer),
         Entry::Fetch(line) => write_fetch(line, writer),

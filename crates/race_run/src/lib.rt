@@ -2,7 +2,6 @@
 #![tactic(auto)]
 
 mod fault;
-mod lines_there;
 mod printing;
 mod racing;
 mod run;

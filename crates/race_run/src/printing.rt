@@ -1,10 +1,10 @@
 //! A history as a text.
 
-ghost use Rattle.std.specs.Prelude.{◌++◌, ◌∷◌, [], OnErr, OnOk};
+ghost use Rattle.std.specs.Prelude.{◌++◌, ◌∷◌, [], All, OnErr, OnOk};
 ghost use Rattle.std.specs.Io.KnownBytes.{Appends};
 ghost use Rattle.line_text.specs.Known.{AppendsFront};
 ghost use Rattle.history.specs.ConfigLine.{config_line};
-ghost use Rattle.history.specs.Lines.{entry_line};
+ghost use Rattle.history.specs.Lines.{HasLine, entry_line};
 ghost use Rattle.race_run.specs.Texts.{history_text};
 
 use history::{Config, Entry, write_config_line, write_line};
@@ -64,6 +64,7 @@ fn print_entry<W: Write>(
         (Appends (W.contents writer.old) (W.contents writer.new) (entry_line entry.now ++ 10 ∷ [])) }
     ensures front { OnErr result
         (AppendsFront (W.contents writer.old) (W.contents writer.new) (entry_line entry.now ++ 10 ∷ [])) }
+    ensures line { HasLine entry.now }
 {
     line.clear();
     if write_line(entry, line).is_err() {
@@ -87,6 +88,7 @@ pub fn print_history<W: Write>(
         (Appends (W.contents writer.old) (W.contents writer.new) (history_text config.now entries.now)) }
     ensures front { OnErr result
         (AppendsFront (W.contents writer.old) (W.contents writer.new) (history_text config.now entries.now)) }
+    ensures lines { OnOk result (All HasLine entries.now) }
 {
     let mut line = Vec::new(alloc);
     print_config(config, &mut line, writer)?;

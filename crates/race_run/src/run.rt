@@ -1,13 +1,13 @@
 //! A race, its text, and its check.
 
-ghost use Rattle.std.specs.Prelude.{◌≡◌, IfErr};
+ghost use Rattle.std.specs.Prelude.{◌≡◌, All, IfErr, OnOk};
+ghost use Rattle.history.specs.Lines.{HasLine};
 ghost use Rattle.nvme_model.specs.Legal.{IsLegalFile};
 ghost use Rattle.race_numbers.specs.Races.{config_of};
 ghost use Rattle.race_run.specs.Races.{Races, Tells};
 ghost use Rattle.race_run.specs.declared.fault.RaceFault.{RaceFault};
 
 use crate::fault::RaceFault;
-use crate::lines_there::have_lines;
 use crate::printing::{PrintFault, print_history};
 use crate::racing::raced;
 use history::{Config, Entry};
@@ -25,7 +25,8 @@ fn tell<W: Write>(
     entries: &[Entry],
     writer: &mut W,
 ) -> Result<(), RaceFault>
-    ensures { Tells config.now entries.now result (W.contents writer.old) (W.contents writer.new) }
+    ensures tells { Tells config.now entries.now result (W.contents writer.old) (W.contents writer.new) }
+    ensures lines { OnOk result (All HasLine entries.now) }
 {
     match print_history(alloc, config, entries, writer) {
         Ok(()) => Ok(()),
@@ -57,7 +58,6 @@ fn finish<W: Write>(
     requires legal { IsLegalFile config.now entries.now }
     ensures races { Races config.now result (W.contents writer.old) (W.contents writer.new) }
 {
-    have_lines(entries);
     tell(alloc, config, entries, writer)?;
     judge(alloc, config, entries)?;
     Ok(())

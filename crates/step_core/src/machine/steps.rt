@@ -1,10 +1,10 @@
 //! Steps: one and many.
 
-ghost use Rattle.std.specs.Prelude.{◌≡◌, IfErr, OnErr, OnOk};
+ghost use Rattle.std.specs.Prelude.{◌≡◌, ◌+◌, ◌<◌, IfErr, OnErr, OnOk, vec_len};
+ghost use Rattle.std.specs.Vec.{vec_capacity};
 ghost use Rattle.nvme_model.specs.Legal.{IsLegal};
 ghost use Rattle.nvme_model.specs.OneAtATime.{IsOneAtATime};
-ghost use Rattle.step_core.specs.State.{RunsOnto};
-ghost use Rattle.step_core.specs.State.{Serves};
+ghost use Rattle.step_core.specs.State.{RunsOnto, Serves};
 
 use crate::answer::{Answer, Refused};
 use crate::machine::Core;
@@ -41,6 +41,7 @@ impl Core {
         ensures legal { IsLegal self.new.config self.new.past }
         ensures array { IsOneAtATime self.new.config self.new.past }
         ensures err { OnErr result ((self.new ≡ self.old) × (out.new.items ≡ out.old.items)) }
+        ensures full { OnErr result (vec_capacity out.old < vec_len out.old + vec_len steps) }
         ensures back { IfErr result (λ back. back.0.items ≡ steps.items) }
     {
         let _ = &self.alloc;

@@ -1,17 +1,25 @@
-//! That each entry has a line: what its types keep.
+//! That an entry has a line, and a configuration: what their types keep.
 
 ghost use Rattle.std.specs.Prelude.{ℕ, ◌<◌, ◌^◌, All, slice_index};
+ghost use Rattle.history.specs.ConfigLine.{HasConfigLine};
 ghost use Rattle.history.specs.Lines.{HasItem, HasLine, HasStatus, HasVerdict};
 ghost use Rattle.nvme_model.specs.declared.entry.Entry.{Entry};
 
-use history::Entry;
-use nvme_model::entry::{BlockLine, FetchLine, GrantLine, PostLine, PublishLine, ReapLine};
+use nvme_model::config::ConfigNumbers;
+use nvme_model::entry::{BlockLine, Entry, FetchLine, GrantLine, PostLine, PublishLine, ReapLine};
 use nvme_model::status::{Status, Verdict};
 use nvme_model::submission::Submission;
 
 // A number of 16 bits.
 fn short_fits(number: u16)
     ensures { number < 2 ^ 16 }
+{
+    let _ = number;
+}
+
+// A number of 32 bits.
+fn word_fits(number: u32)
+    ensures { number < 2 ^ 32 }
 {
     let _ = number;
 }
@@ -111,8 +119,8 @@ fn reap_fits(line: &ReapLine)
     bytes_fit(&line.cqe);
 }
 
-// What an entry's types keep.
-fn fits(entry: &Entry)
+/// An entry has a line: that is what its types keep. Does nothing.
+pub(crate) fn fits(entry: &Entry)
     ensures { HasLine entry.now }
 {
     match entry {
@@ -125,11 +133,19 @@ fn fits(entry: &Entry)
     }
 }
 
-/// Each entry has a line: that is what their types keep.
-pub(crate) fn have_lines(entries: &[Entry])
-    ensures { All HasLine entries.now }
+/// Numbers of a configuration have a line: that is what their types keep. Does nothing.
+pub(crate) fn config_fits(numbers: &ConfigNumbers)
+    ensures { HasConfigLine numbers.now }
 {
-    for k in 0..entries.len() {
-        fits(&entries[k]);
-    }
+    let atomic = &numbers.atomic;
+    word_fits(numbers.blocks);
+    short_fits(atomic.awun);
+    short_fits(atomic.acwu);
+    short_fits(atomic.nabsn);
+    short_fits(atomic.nabo);
+    short_fits(numbers.pairs);
+    short_fits(numbers.sq_size);
+    short_fits(numbers.cq_size);
+    short_fits(numbers.jobs);
+    short_fits(numbers.cqs);
 }

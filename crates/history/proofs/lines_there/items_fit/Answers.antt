@@ -3,7 +3,7 @@ use Rattle.std.proofs.lemmas.List.{get_or_default}
 use borrow.Author.Count.{below_more}
 use Rattle.history.specs.Lines.{HasItem}
 use Rattle.nvme_model.specs.declared.submission.Submission.{Submission}
-use Rattle.race_run.proofs.lines_there.items_fit.Goals as goal
+use Rattle.history.proofs.lines_there.items_fit.Goals as goal
 
 pub loop-k-preserved : goal.loop-k-preserved
 loop-k-preserved c =
