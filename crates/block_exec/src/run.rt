@@ -6,7 +6,8 @@ ghost use Rattle.nvme_model.specs.Steps.{marked};
 ghost use Rattle.block_array.specs.Blocks.{contents_of};
 ghost use Rattle.block_exec.specs.Bytes.{block_at, boxes_after, compare_length, needs_box, next_equal, read_after};
 ghost use Rattle.block_exec.specs.Bytes.{read_length, volume_after, volume_with, write_count};
-ghost use Rattle.block_exec.specs.Progress.{IsRange, has_ended, needed, next_block, next_found, next_place};
+ghost use Rattle.nvme_model.specs.Array.{IsRange};
+ghost use Rattle.block_exec.specs.Progress.{has_ended, needed, next_block, next_found, next_place};
 
 use crate::blocks::{block_of, clear_block, compared, hand_over, put_block};
 use block_array::Volume;
@@ -25,7 +26,8 @@ pub struct Run {
 
 impl Model for Run {
     ghost use Rattle.std.specs.Prelude.{◌≤◌};
-    ghost use Rattle.block_exec.specs.Progress.{Progress, IsRange, needed};
+    ghost use Rattle.nvme_model.specs.Array.{IsRange};
+    ghost use Rattle.block_exec.specs.Progress.{Progress, needed};
 
     ghost Value = { Progress };
 

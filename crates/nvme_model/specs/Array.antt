@@ -1,5 +1,5 @@
 -- Blocks, ranges of blocks, and the block that a volume begins with.
-use Rattle.std.specs.Prelude.{Bool, List, [], nat_le, nat_lt, replicate, suc, zero, ℕ, ◌&&◌, ◌+◌, ◌∷◌}
+use Rattle.std.specs.Prelude.{Bool, List, [], nat_le, nat_lt, replicate, suc, zero, ℕ, ◌&&◌, ◌+◌, ◌∷◌, ◌≤◌}
 use Rattle.nvme_model.specs.declared.array.Range.{Range}
 
 -- the block that a volume begins with: 512 zeros (this profile's)
@@ -14,6 +14,10 @@ blocks_from s (suc n) = s ∷ blocks_from (suc s) n
 -- the range has block l
 abbrev pub has_block : Range → ℕ → Bool
 has_block r l = nat_le r.slba l && nat_lt l (r.slba + r.blocks)
+
+-- it has a block, and each block of it can be one of a volume
+abbrev pub IsRange : Range → Type 0
+IsRange r = (1 ≤ r.blocks) × (r.slba + r.blocks ≤ 65536)
 
 -- the ranges share a block: both have one, and each begins before the other ends
 abbrev pub overlap : Range → Range → Bool

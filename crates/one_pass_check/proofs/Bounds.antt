@@ -21,7 +21,7 @@ use Rattle.ticket_standing.proofs.Lengths.{units_lie}
 use Rattle.nvme_model.proofs.Lists.{Each, each_get}
 use Rattle.nvme_model.proofs.Rules.{none_holds}
 use Rattle.nvme_model.proofs.StepCounts.{cut_sum, grants_within}
-use Rattle.range_reserve.specs.Reserved.{IsRange}
+use Rattle.nvme_model.specs.Array.{IsRange}
 
 -- a volume has 65,536 blocks at most
 pub volume_few : (c : ConfigNumbers) → config_fault c ≡ None → c.blocks ≤ 65536

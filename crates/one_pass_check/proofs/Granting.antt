@@ -19,7 +19,8 @@ use Rattle.nvme_model.specs.declared.entry.Entry.{Entry}
 use Rattle.nvme_model.specs.declared.entry.GrantLine.{GrantLine}
 use Rattle.nvme_model.specs.declared.refusal.Why.{Why}
 use Rattle.nvme_model.proofs.Rules.{MayGrant, may_grant}
-use Rattle.range_reserve.specs.Reserved.{IsRange, by_ticket, has_conflict, has_ticket, held_of, insert_held}
+use Rattle.range_reserve.specs.Reserved.{by_ticket, has_conflict, has_ticket, held_of, insert_held}
+use Rattle.nvme_model.specs.Array.{IsRange}
 use Rattle.range_reserve.specs.declared.held.Held.{Held}
 use Rattle.range_reserve.proofs.Granted.{has_conflict-map, has_ticket-map}
 use Rattle.range_reserve.proofs.Rising.{list_any-by_ticket}

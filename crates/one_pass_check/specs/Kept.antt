@@ -11,7 +11,8 @@ use Rattle.range_reserve.specs.Reserved.{by_ticket, held_of}
 use Rattle.range_reserve.specs.declared.held.Held.{Held}
 use Rattle.rings.specs.Completions.{CompletionRing}
 use Rattle.rings.specs.Submissions.{SubmissionRing}
-use Rattle.one_pass_check.specs.Rings.{IsTable, completion_ring, submission_ring}
+use Rattle.one_pass_check.specs.Rings.{completion_ring, submission_ring}
+use Rattle.rings.specs.Tables.{IsTable}
 use Rattle.one_pass_check.specs.declared.fields.Fields.{Fields}
 use Rattle.one_pass_check.specs.declared.fields.InFlight.{InFlight}
 

@@ -1,5 +1,5 @@
 -- The rings of the queues, as tables.
-use Rattle.std.specs.Prelude.{List, [], get_or, length, map, ℕ, ◌%◌, ◌/◌, ◌<◌, ◌==◌, ◌≡◌}
+use Rattle.std.specs.Prelude.{[], map, ℕ, ◌%◌, ◌/◌, ◌==◌}
 use Rattle.checker_tables.specs.Tables.{Tables}
 use Rattle.nvme_model.specs.declared.config.ConfigNumbers.{ConfigNumbers}
 use Rattle.nvme_model.specs.declared.entry.PostLine.{PostLine}
@@ -24,8 +24,3 @@ completion_ring c s q =
       phase = (s.posts q / c.cq_size) % 2 == 0;
       waiting = map bare (s.unreaped q);
     }
-
--- the list is what f says of each place below n
-pub record IsTable {X : Type 0} (f : ℕ → X) (n : ℕ) (xs : List X) : Type 0 where
-  pub size : length xs ≡ n
-  pub at : (k : ℕ) (d : X) → k < n → get_or xs k d ≡ f k

@@ -1,14 +1,13 @@
 //! What a checker keeps.
 
-ghost use Rattle.std.specs.Prelude.{◌≡◌, [], IfOk, replicate, true};
-ghost use Rattle.rings.specs.Slots.{IsSize};
+ghost use Rattle.std.specs.Prelude.{◌≡◌, [], IfOk};
 
 use block_array::{NoMemory, Volume};
 use checked_tickets::Flight;
 use history::Config;
 use nvme_model::array::Range;
 use range_reserve::Ranges;
-use rings::{CqRing, SqRing};
+use rings::{CqRing, SqRing, cq_rings, sq_rings};
 use std::alloc::Global;
 use std::marker::Model;
 
@@ -63,32 +62,6 @@ pub struct Fields {
     /// Of the open units.
     pub ranges: Ranges,
     pub tickets: u64,
-}
-
-// So many submission rings of this size.
-fn sq_rings(alloc: Global, count: u16, size: u16) -> Result<Vec<SqRing>, NoMemory>
-    requires size { IsSize size }
-    ensures value { IfOk result
-        (λ rings. rings.items ≡ replicate count (record { size = size; head = 0; waiting = [] })) }
-{
-    let mut rings = Vec::with_capacity(alloc, count as usize)?;
-    for _ in 0..count {
-        rings.push_reserved(SqRing::new(alloc, size)?);
-    }
-    Ok(rings)
-}
-
-// So many completion rings of this size.
-fn cq_rings(alloc: Global, count: u16, size: u16) -> Result<Vec<CqRing>, NoMemory>
-    requires size { IsSize size }
-    ensures value { IfOk result
-        (λ rings. rings.items ≡ replicate count (record { size = size; tail = 0; phase = true; waiting = [] })) }
-{
-    let mut rings = Vec::with_capacity(alloc, count as usize)?;
-    for _ in 0..count {
-        rings.push_reserved(CqRing::new(alloc, size)?);
-    }
-    Ok(rings)
 }
 
 impl Fields {

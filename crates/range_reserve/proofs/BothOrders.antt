@@ -6,7 +6,8 @@ use Rattle.nvme_model.specs.Open.{conflict}
 use Rattle.nvme_model.specs.declared.array.Mode.{Mode}
 use Rattle.nvme_model.specs.declared.array.Range.{Range}
 use Rattle.range_reserve.specs.declared.held.Held.{Held}
-use Rattle.range_reserve.specs.Reserved.{AreApart, AreRising, IsRange, by_ticket, has_conflict, has_ticket, held_beside, insert_held}
+use Rattle.range_reserve.specs.Reserved.{AreApart, AreRising, by_ticket, has_conflict, has_ticket, held_beside, insert_held}
+use Rattle.nvme_model.specs.Array.{IsRange}
 use Rattle.range_reserve.specs.Sorted.{AreByStart, IsRisingBy, fits, has_conflict_before_end, held_key, place_by, start_key}
 use Rattle.range_reserve.proofs.Kept.{apart_filter}
 use Rattle.range_reserve.proofs.Orders.{all_filter, all_found, all_insert, all_true, all_with, found_has, insert_in_place, removed_in_place, rises_filter, rises_insert, rising_tickets}

@@ -6,7 +6,8 @@ use Rattle.nvme_model.specs.Open.{conflict}
 use Rattle.nvme_model.specs.declared.array.Mode.{Mode}
 use Rattle.nvme_model.specs.declared.array.Range.{Range}
 use Rattle.range_reserve.specs.declared.held.Held.{Held}
-use Rattle.range_reserve.specs.Reserved.{AreApart, IsRange, has_conflict, has_ticket, held_beside, held_by}
+use Rattle.range_reserve.specs.Reserved.{AreApart, has_conflict, has_ticket, held_beside, held_by}
+use Rattle.nvme_model.specs.Array.{IsRange}
 use Rattle.std.specs.Option.{option_map}
 
 list_any_kept : {X : Type 0} (p : X → Bool) (b : Bool) (x : X) (ys : List X) → p x ≡ false → list_any p ys ≡ false → list_any p (cond b (x ∷ ys) ys) ≡ false

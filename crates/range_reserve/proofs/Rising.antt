@@ -4,7 +4,8 @@ use Rattle.std.specs.List.{filter, find, list_any}
 use Rattle.std.proofs.lemmas.Bool.{and_from, and_parts, cases_Bool, cond-false, cond-true, or_from, or_parts}
 use Rattle.nvme_model.specs.Open.{conflict}
 use Rattle.range_reserve.specs.declared.held.Held.{Held}
-use Rattle.range_reserve.specs.Reserved.{AreApart, AreRising, IsRange, by_ticket, has_conflict, has_ticket, insert_held, none_below}
+use Rattle.range_reserve.specs.Reserved.{AreApart, AreRising, by_ticket, has_conflict, has_ticket, insert_held, none_below}
+use Rattle.nvme_model.specs.Array.{IsRange}
 use Rattle.range_reserve.proofs.Pairs.{conflict-turned}
 
 -- ---- which are there

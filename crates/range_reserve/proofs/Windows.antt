@@ -5,12 +5,12 @@ use Rattle.std.proofs.lemmas.Bool.{and_left, and_parts, and_right, cases_Bool, c
 use Rattle.std.proofs.lemmas.Bool.Decides.{nat_tests}
 use Rattle.std.proofs.lemmas.List.Sorted.{IsPermutation-insert, list_any-IsPermutation}
 use Rattle.std.proofs.lemmas.List.Sums.{take_while-cons}
-use Rattle.nvme_model.specs.Array.{overlap}
+use Rattle.nvme_model.specs.Array.{IsRange, overlap}
 use Rattle.nvme_model.specs.Open.{conflict}
 use Rattle.nvme_model.specs.declared.array.Mode.{Mode}
 use Rattle.nvme_model.specs.declared.array.Range.{Range}
 use Rattle.range_reserve.specs.declared.held.Held.{Held}
-use Rattle.range_reserve.specs.Reserved.{AreApart, IsRange, by_ticket, has_conflict, has_ticket, insert_held}
+use Rattle.range_reserve.specs.Reserved.{AreApart, by_ticket, has_conflict, has_ticket, insert_held}
 use Rattle.range_reserve.specs.Sorted.{IsRisingBy, fits, has_conflict_before_end, held_key, place_by, start_key, starts_before_end}
 use Rattle.range_reserve.proofs.Pairs.{conflict-turned}
 use Rattle.range_reserve.proofs.Orders.{place_no, place_yes}

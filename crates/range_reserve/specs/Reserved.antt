@@ -3,6 +3,7 @@ use Rattle.std.specs.List.{filter, find, list_all, list_any}
 use Rattle.std.specs.Option.{option_map}
 use Rattle.std.specs.Prelude.{Bool, List, Option, Some, [], false, if◌then◌else◌, nat_le, nat_lt, not, slice_get, true}
 use Rattle.std.specs.Prelude.{ℕ, ◌+◌, ◌==◌, ◌∷◌, ◌≡◌, ◌≢◌, ◌≤◌}
+use Rattle.nvme_model.specs.Array.{IsRange}
 use Rattle.nvme_model.specs.Open.{conflict}
 use Rattle.nvme_model.specs.declared.array.Mode.{Mode}
 use Rattle.nvme_model.specs.declared.array.Range.{Range}
@@ -48,10 +49,6 @@ none_below n held = list_all (λ h. nat_le n h.ticket) held
 abbrev pub AreRising : List Held → Type 0
 AreRising [] = Unit {0}
 AreRising (h ∷ hs) = (none_below h.ticket hs ≡ true) × AreRising hs
-
--- it has a block, and each block of it can be one of a volume
-abbrev pub IsRange : Range → Type 0
-IsRange r = (1 ≤ r.blocks) × (r.slba + r.blocks ≤ 65536)
 
 -- each ticket holds one range, and no range conflicts with another
 abbrev pub AreApart : List Held → Type 0

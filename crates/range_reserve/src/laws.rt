@@ -1,12 +1,12 @@
 //! What holds of the ranges that tickets hold, each as the contract of a function that does nothing.
 
 ghost use Rattle.std.specs.Prelude.{◌≡◌, ◌≢◌, ◌+◌, ◌↔◌, IsTrue, List, false, true, ℕ};
-ghost use Rattle.nvme_model.specs.Array.{has_block, overlap};
+ghost use Rattle.nvme_model.specs.Array.{IsRange, has_block, overlap};
 ghost use Rattle.nvme_model.specs.Open.{conflict};
 ghost use Rattle.nvme_model.specs.Operations.{is_exclusive};
 ghost use Rattle.nvme_model.specs.declared.array.Range.{Range};
 ghost use Rattle.range_reserve.specs.declared.held.Held.{Held};
-ghost use Rattle.range_reserve.specs.Reserved.{AreApart, AreTwo, IsRange};
+ghost use Rattle.range_reserve.specs.Reserved.{AreApart, AreTwo};
 
 /// Of any two that are held, the ranges don't conflict and the tickets differ; and a block of an Exclusive range is in
 /// no other.

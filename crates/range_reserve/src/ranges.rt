@@ -2,7 +2,8 @@
 
 ghost use Rattle.std.specs.Prelude.{◌≡◌, ◌+◌, ◌-◌, ◌≤◌, ◌<◌, ◌↔◌, ◌⊎◌, [], ◌∷◌, IfErr, IsTrue, OnErr, OnOk, false};
 ghost use Rattle.std.specs.Prelude.{is_some, reverse, vec_capacity, vec_len};
-ghost use Rattle.range_reserve.specs.Reserved.{AreApart, AreRising, IsRange, has_conflict, has_ticket, held_beside};
+ghost use Rattle.nvme_model.specs.Array.{IsRange};
+ghost use Rattle.range_reserve.specs.Reserved.{AreApart, AreRising, has_conflict, has_ticket, held_beside};
 ghost use Rattle.range_reserve.specs.Reserved.{held_by, insert_held};
 
 use crate::conflicts::has_conflict_before_end;

@@ -2,3 +2,4 @@ pub mod Slots
 pub mod Submissions
 pub mod Completions
 pub mod Queues
+pub mod Tables

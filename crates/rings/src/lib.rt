@@ -2,9 +2,11 @@
 #![tactic(auto)]
 
 mod completion_ring;
+mod of_queues;
 mod slots;
 mod submission_ring;
 
 pub use completion_ring::{Completion, CqRing};
 pub use nvme_model::submission::{Payload, Submission, Submissions};
+pub use of_queues::{cq_rings, sq_rings};
 pub use submission_ring::SqRing;

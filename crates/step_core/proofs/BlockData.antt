@@ -45,7 +45,7 @@ use Rattle.job_table.specs.Parts.{HasPart, part_end, part_of}
 use Rattle.ticket_course.specs.Shown.{stage_by}
 use Rattle.ticket_course.specs.declared.course.Stage.TheVariants.{Open}
 use Rattle.job_table.specs.Tickets.{compare_bytes, job_at, job_by, read_bytes_by}
-use Rattle.step_core.specs.Kept.{IsTable}
+use Rattle.rings.specs.Tables.{IsTable}
 use Rattle.step_core.proofs.Granting.{any_found, job_stage}
 
 -- ---- the unit that a Block is of

@@ -27,7 +27,7 @@ use Rattle.block_exec.specs.Units.{progress_of}
 use Rattle.job_table.specs.Keeping.{read_of}
 use Rattle.job_table.specs.Parts.{part_of, with_part}
 use Rattle.job_table.specs.Tickets.{job_at, job_by, read_bytes_by, still_written}
-use Rattle.step_core.specs.Kept.{IsTable}
+use Rattle.rings.specs.Tables.{IsTable}
 use Rattle.step_core.proofs.BlockData.{IsUnit, place_within, range_inside, unended}
 use Rattle.step_core.proofs.Blocked.{done_now, is_equal, line_now}
 use Rattle.step_core.proofs.ReadBytes.{cut_place, read_next, zeros_left}

@@ -39,7 +39,8 @@ use Rattle.ticket_course.specs.declared.course.Stage.TheVariants.{Open}
 use Rattle.rings.specs.Queues.{completion_ring, submission_ring}
 use Rattle.job_table.specs.Tickets.{job_at}
 use Rattle.step_core.proofs.InUse.{used_same}
-use Rattle.step_core.specs.Kept.{CoreFields, IsKept, IsTable}
+use Rattle.step_core.specs.Kept.{CoreFields, IsKept}
+use Rattle.rings.specs.Tables.{IsTable}
 use Rattle.step_core.specs.State.{Does, Room, State, TakesRoom, answer_of}
 use Rattle.step_core.specs.declared.answer.Answer.{Answer}
 use Rattle.step_core.proofs.BlockData.{IsUnit, done_same, finds_same, not_false, stage_is, unit_found}

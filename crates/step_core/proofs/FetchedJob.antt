@@ -13,7 +13,7 @@ use Rattle.nvme_model.specs.declared.operation.Op.{Op}
 use Rattle.nvme_model.specs.declared.submission.Submission.{Submission}
 use Rattle.nvme_model.proofs.Checked.{TicketChecked}
 use Rattle.nvme_model.proofs.Written.{clash}
-use Rattle.block_exec.specs.Progress.{IsRange}
+use Rattle.nvme_model.specs.Array.{IsRange}
 use Rattle.fused_match.specs.Judged.{NamesBlocks, operation_in, verdict_by}
 use Rattle.fused_match.specs.declared.judged.Judged.{Judged}
 use Rattle.fused_match.specs.declared.judged.Judged.TheVariants as judged

@@ -29,7 +29,7 @@ use Rattle.range_reserve.specs.Reserved.{by_ticket, has_conflict, has_ticket, he
 use Rattle.range_reserve.proofs.Rising.{list_any-by_ticket}
 use Rattle.range_reserve.specs.declared.held.Held.{Held}
 use Rattle.range_reserve.proofs.Granted.{has_conflict-map, has_ticket-map}
-use Rattle.block_exec.specs.Progress.{IsRange}
+use Rattle.nvme_model.specs.Array.{IsRange}
 use Rattle.rings.specs.Completions.{CompletionRing}
 use Rattle.rings.specs.Submissions.{SubmissionRing}
 use Rattle.job_table.specs.Jobs.{JobTable, has_ticket as has_ticket_in, job_of, replaced}

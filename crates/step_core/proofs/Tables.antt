@@ -2,7 +2,7 @@
 use Rattle.std.proofs.Common.{◌≡◌, ◌≢◌, ℕ, ◌<◌, List, length, get_or, set, replicate, sym, ap, ◌∙◌, inl, inr, arith}
 use Rattle.std.proofs.lemmas.Bool.{cases_eq}
 use Rattle.std.proofs.lemmas.List.{get_or-set_same, get_or-set_other, length-set, length-replicate, get_or-replicate}
-use Rattle.step_core.specs.Kept.{IsTable}
+use Rattle.rings.specs.Tables.{IsTable}
 
 -- a table after one place has changed
 pub IsTable-set : {X : Type 0} (f g : ℕ → X) (n i : ℕ) (xs : List X) (y : X) → IsTable f n xs → i < n → y ≡ g i → ((k : ℕ) → k ≢ i → g k ≡ f k) → IsTable g n (set xs i y)

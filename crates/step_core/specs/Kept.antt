@@ -14,13 +14,9 @@ use Rattle.range_reserve.specs.declared.held.Held.{Held}
 use Rattle.rings.specs.Completions.{CompletionRing}
 use Rattle.rings.specs.Queues.{completion_ring, submission_ring}
 use Rattle.rings.specs.Submissions.{SubmissionRing}
+use Rattle.rings.specs.Tables.{IsTable}
 use Rattle.job_table.specs.Jobs.{JobTable}
 use Rattle.job_table.specs.Tickets.{job_table}
-
--- the list is what f says of each place below n
-pub record IsTable {X : Type 0} (f : ℕ → X) (n : ℕ) (xs : List X) : Type 0 where
-  pub size : length xs ≡ n
-  pub at : (k : ℕ) (d : X) → k < n → get_or xs k d ≡ f k
 
 -- the CIDs kept for a submission queue are those in use on it, in whatever order, each as often; and there is room for
 -- two of each ticket that may be in flight

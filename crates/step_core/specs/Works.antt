@@ -4,7 +4,7 @@ use Rattle.nvme_model.specs.Cells.{pair_fits}
 use Rattle.nvme_model.specs.Cut.{cut}
 use Rattle.nvme_model.specs.declared.array.Range.{Range}
 use Rattle.nvme_model.specs.declared.config.AtomicParameters.{AtomicParameters}
-use Rattle.block_exec.specs.Progress.{IsRange}
+use Rattle.nvme_model.specs.Array.{IsRange}
 use Rattle.step_core.specs.declared.work.Kind.{Kind}
 
 -- the ticket, how its commands are cut into units, and what it has to do

@@ -10,7 +10,6 @@ ghost use Rattle.nvme_model.specs.Tickets.{in_flight};
 ghost use Rattle.nvme_model.specs.Laws.{is_held};
 ghost use Rattle.nvme_model.specs.Value.{value};
 ghost use Rattle.nvme_model.specs.declared.refusal.Why.{Why as TheWhy};
-ghost use Rattle.rings.specs.Slots.{IsSize};
 ghost use Rattle.step_core.specs.Found.{IsCqRing, IsJob, IsSqRing};
 ghost use Rattle.step_core.specs.State.{HasPromised, KeepsRoom, LacksRoom};
 
@@ -31,7 +30,7 @@ use history::{Config, History};
 use job_table::{Job, Jobs};
 use nvme_model::refusal::Why;
 use range_reserve::Ranges;
-use rings::{CqRing, SqRing};
+use rings::{CqRing, SqRing, cq_rings, sq_rings};
 use std::alloc::{AllocError as NoMemory, Global};
 use std::marker::Model;
 
@@ -77,32 +76,6 @@ impl Model for Core {
           tickets = c.tickets;
         })
         × (c.promised ≤ c.history.room) × (c.promised ≤ c.ranges.room) × (c.promised + 1 < 2 ^ 64) };
-}
-
-// So many submission rings of this size.
-fn sq_rings(alloc: Global, count: u16, size: u16) -> Result<Vec<SqRing>, NoMemory>
-    requires size { IsSize size }
-    ensures value { IfOk result (λ rings.
-        rings.items ≡ replicate count (record { size = size; head = 0; waiting = [] })) }
-{
-    let mut rings = Vec::with_capacity(alloc, count as usize)?;
-    for _ in 0..count {
-        rings.push_reserved(SqRing::new(alloc, size)?);
-    }
-    Ok(rings)
-}
-
-// So many completion rings of this size.
-fn cq_rings(alloc: Global, count: u16, size: u16) -> Result<Vec<CqRing>, NoMemory>
-    requires size { IsSize size }
-    ensures value { IfOk result (λ rings.
-        rings.items ≡ replicate count (record { size = size; tail = 0; phase = true; waiting = [] })) }
-{
-    let mut rings = Vec::with_capacity(alloc, count as usize)?;
-    for _ in 0..count {
-        rings.push_reserved(CqRing::new(alloc, size)?);
-    }
-    Ok(rings)
 }
 
 // What is in use on so many submission queues, none yet, with room for so many CIDs on each.
@@ -178,11 +151,11 @@ impl Core {
         ensures kept { Kept self.new.config self.new.past }
     {
         let count = self.promised.max(more);
+        self.history.reserve(count)?;
+        self.ranges.reserve(count)?;
         if count == usize::MAX {
             return Err(NoMemory);
         }
-        self.history.reserve(count)?;
-        self.ranges.reserve(count)?;
         self.promised = count;
         Ok(())
     }

@@ -13,7 +13,8 @@ use Rattle.ticket_standing.specs.Standing.{next_of, on_differs, on_success, with
 use Rattle.fused_match.specs.declared.judged.Judged.{Judged}
 use Rattle.fused_match.specs.declared.judged.Judged.TheVariants as judged
 use Rattle.block_exec.specs.Course.{begun, noted}
-use Rattle.block_exec.specs.Progress.{IsRange, Progress, has_ended}
+use Rattle.block_exec.specs.Progress.{Progress, has_ended}
+use Rattle.nvme_model.specs.Array.{IsRange}
 use Rattle.ticket_course.specs.declared.course.Stage.{Stage}
 use Rattle.ticket_course.specs.declared.course.Stage.TheVariants.{Waiting, Open, Owing}
 

@@ -6,7 +6,7 @@ ghost use Rattle.nvme_model.specs.Verdict.{taken};
 ghost use Rattle.ticket_standing.specs.Standing.{on_differs, on_success};
 ghost use Rattle.fused_match.specs.Judged.{verdict_by};
 ghost use Rattle.block_exec.specs.Course.{done_by};
-ghost use Rattle.block_exec.specs.Progress.{IsRange};
+ghost use Rattle.nvme_model.specs.Array.{IsRange};
 ghost use Rattle.ticket_course.specs.Stages.{first_stage, mode_by};
 
 use crate::cids::Cids;

@@ -1,5 +1,0 @@
-use Rattle.std.proofs.Common.{[], replicate, vec_capacity, ◌≡◌, ◌≤◌}
-use Rattle.one_pass_check.proofs.fields.sq_rings.Given as goal
-
-abbrev pub invariant-loop : goal.invariant-loop
-invariant-loop l = (l.rings.items ≡ replicate l.counter (record { size = l.size; head = 0; waiting = [] })) × (l.count ≤ vec_capacity l.rings)
