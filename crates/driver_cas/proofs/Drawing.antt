@@ -17,6 +17,7 @@ use Rattle.driver_cas.specs.SlotStarts.{IsClaimStart, claim_data, last_serial, s
 use Rattle.driver_cas.specs.Starts.{IsStarted, IsTaken}
 use Rattle.driver_cas.specs.Tables.{IsHeld}
 use Rattle.driver_cas.specs.Tries.{IsBegun}
+use Rattle.driver_cas.specs.Turns.{IsTurn}
 use Rattle.driver_cas.specs.declared.call.Call.{Call}
 use Rattle.driver_cas.specs.declared.driver.Driver.{Driver}
 use Rattle.driver_cas.specs.declared.fault.Fault.{Fault}
@@ -54,6 +55,7 @@ module _ {P : Type 0} (g : Ghosts P) where
         batch = s.batch;
         is = subst (λ (n : ℕ). IsBatch Op.Pair lba 1 k.first k.second (claim_data d.host n) s.batch) (sym next) s.is;
         does = s.does;
+        turn = subst (λ (n : ℕ). IsTurn d k.start.value (swap_request lba) (claim_data d.host n) k.queue) (sym next) s.turn;
         free = s.free;
         since = s.since;
         accepted = subst (λ (q : P). g.accepts k.start.value q k.queue s.batch) (sym p) s.accepted;

@@ -1,4 +1,5 @@
 pub mod Ports
+pub mod Following
 pub mod Listening
 pub mod Tables
 pub mod Drivers

@@ -1,5 +1,5 @@
 -- A pass, a port and a driver that saw more.
-use Rattle.std.proofs.Common.{◌≡◌, ℕ, [], Err, List, Ok, Result, ap, ap₂, inl, refl, sym, ◌∙◌}
+use Rattle.std.proofs.Common.{◌≡◌, ℕ, [], Err, List, Ok, Result, ap, ap₂, inl, length, refl, sym, ◌∙◌}
 use Rattle.std.specs.Prelude.{IfErr}
 use Rattle.std.specs.declared.snapshot.Snapshot.{Snapshot}
 use Rattle.cid_table.specs.Cids.{Cids, held}
@@ -7,18 +7,19 @@ use Rattle.nvme_model.specs.Passes.{IsBeginning}
 use Rattle.meet_lock.specs.Passes.{IsSame, mine, seen}
 use Rattle.work_queue.specs.Engines.{EnginePass}
 use Rattle.driver_calls.proofs.Views.{begins_on, follows_on}
-use Rattle.driver_calls.specs.Views.{since}
+use Rattle.driver_calls.specs.Views.{log_of, since}
 use Rattle.driver_calls.specs.declared.event.PortEvent.{PortEvent}
 use Rattle.driver_cas.specs.Drivers.{IsCallOf, IsSame as IsDriver}
 use Rattle.driver_cas.specs.Listening.{SawMore}
 use Rattle.driver_cas.specs.Passes.{SawOn, log_at}
-use Rattle.driver_cas.specs.Ports.{Follows, view_of}
+use Rattle.driver_cas.specs.Ports.{Follows, steps_of, view_of}
 use Rattle.driver_cas.specs.Tables.{is_free}
 use Rattle.driver_cas.specs.declared.call.Call.{Call}
 use Rattle.driver_cas.specs.declared.driver.Driver.{Driver}
 use Rattle.driver_cas.specs.declared.port.Port.{Ghosts}
 use Rattle.driver_cas.specs.declared.shared_port.SharedPort.{SharedPort}
 use Rattle.driver_cas.proofs.Drivers.{reaped_calls}
+use Rattle.driver_cas.proofs.Following.{port_idle, sole_later}
 use Rattle.driver_cas.proofs.Ports.{log_declined}
 
 -- ---- passes
@@ -37,11 +38,15 @@ saw_on p q r x s m b = record { same = same_on p q r x.same s; mine_stay = m ∙
 
 -- ---- ports
 
+idle_log : (a b : SharedPort) → b.queue ≡ a.queue → SawOn a.pass b.pass → log_of (view_of b) ≡ log_of (view_of a)
+idle_log a b queue s = ap (λ (n : ℕ). log_at n b.pass) queue ∙ log_declined a.queue a.pass b.pass s.same s.mine_stay s.goes_on
+
 pub saw_more : (a b : SharedPort) → b.queue ≡ a.queue → SawOn a.pass b.pass → SawMore a b
 saw_more a b queue s =
     record {
-      follows = record { same_lock = s.same.0; view = record { same_config = s.same.3; same_queue = queue; same_pass = s.same.1; goes_on = s.goes_on } };
-      log = ap (λ (n : ℕ). log_at n b.pass) queue ∙ log_declined a.queue a.pass b.pass s.same s.mine_stay s.goes_on;
+      follows = port_idle a b queue s.same s.goes_on s.mine_stay (idle_log a b queue s);
+      mine_stay = s.mine_stay;
+      log = idle_log a b queue s;
     }
 
 -- where nothing has changed
@@ -62,4 +67,9 @@ module _ {P : Type 0} (g : Ghosts P) where
 
 -- a later port of an engine is one of what is later than it
 pub follows_later : (a b c : SharedPort) → Follows a b → Follows b c → Follows a c
-follows_later a b c x y = record { same_lock = y.same_lock ∙ x.same_lock; view = follows_on (view_of a) (view_of b) (view_of c) x.view y.view }
+follows_later a b c x y =
+    record {
+      same_lock = y.same_lock ∙ x.same_lock;
+      view = follows_on (view_of a) (view_of b) (view_of c) x.view y.view;
+      sole = sole_later (steps_of a) (steps_of b) (steps_of c) (length (log_of (view_of a))) (length (log_of (view_of b))) (length (log_of (view_of c))) x.sole y.sole;
+    }

@@ -1,12 +1,15 @@
 -- What a step of the port's pass adds to its events.
-use Rattle.std.proofs.Common.{◌≡◌, ℕ, true, List, [], ◌∷◌, ◌++◌, ◌&&◌, eqb, eq-eqb, nat_le, refl, sym, ap, ap₂, ◌∙◌, length, subst, Option, Some, None}
-use Rattle.std.proofs.lemmas.Bool.{and_parts, cond-true}
+use Rattle.std.proofs.Common.{◌≡◌, ℕ, Bool, true, false, List, [], ◌∷◌, ◌++◌, ◌&&◌, ◌||◌, eqb, eq-eqb, nat_le, nat_lt, refl, sym, ap, ap₂, ◌∙◌, length, subst, Option, Some, None, Result, Ok, Err, inl, inr, arith, ◌<◌, ◌≤◌, ◌+◌, ◌-◌, ◌⊎◌, ◌≢◌}
+use Rattle.std.proofs.lemmas.Bool.{and_parts, cond-true, leb-true}
+use Rattle.std.proofs.lemmas.Bool.Decides.{nat_tests}
+use Rattle.nvme_model.specs.Queues.{fetched_count, published_entries}
+use Rattle.nvme_model.specs.Tables.{first_row}
 use Rattle.std.specs.Prelude.{unwrap_or, slice_get}
 use Rattle.nvme_model.specs.Completions.{posted_completions, reaped_count}
 use Rattle.nvme_model.specs.Config.{completion_queue}
 use Rattle.nvme_model.specs.History.{Past}
 use Rattle.nvme_model.specs.Passes.{IsBeginning, SharedPast, entries, places}
-use Rattle.nvme_model.specs.Refusals.{refusal}
+use Rattle.nvme_model.specs.Refusals.{no_completion_queue, no_queue, refusal}
 use Rattle.nvme_model.specs.declared.config.ConfigNumbers.{ConfigNumbers}
 use Rattle.nvme_model.specs.declared.entry.Entry.{Entry}
 use Rattle.nvme_model.specs.declared.entry.ReapLine.{ReapLine}
@@ -15,13 +18,17 @@ use Rattle.nvme_model.specs.declared.step.Step.{Step}
 use Rattle.nvme_model.specs.declared.submission.Submission.{Submission}
 use Rattle.nvme_model.specs.Steps.{reap_entry}
 use Rattle.nvme_model.specs.declared.entry.PostLine.{PostLine}
-use Rattle.meet_lock.specs.Passes.{Declines, IsSame, config_of, mine, number, seen}
+use Rattle.meet_lock.specs.Passes.{Declines, IsNotBusy, IsSame, config_of, mine, number, passes_of, seen}
 use Rattle.meet_lock.specs.declared.pass.Declined.{Declined}
 use Rattle.work_queue.specs.Engines.{IsOpened}
 use Rattle.work_queue.specs.declared.engine.Engine.{Engine}
 use Rattle.work_queue.specs.declared.engine.Opened.{Opened}
 use Rattle.work_queue.specs.declared.engine.Opened.TheVariants as opened
-use Rattle.driver_cas.specs.Passes.{log_at}
+use Rattle.driver_cas.specs.Passes.{log_at, view_at}
+use Rattle.driver_cas.specs.Ports.{IsRefused}
+use Rattle.driver_cas.specs.Reaps.{IsReapDeclined, IsReapFault, IsReapedAs, cause_of}
+use Rattle.driver_cas.specs.declared.fault.PortFault.{PortFault}
+use Rattle.driver_cas.specs.declared.port.Reaped.{Reaped}
 use Rattle.work_queue.specs.Engines.{EnginePass}
 use Rattle.step_core.specs.State.{Accepts, Refuses, answer_of, payload_of}
 use Rattle.step_core.specs.declared.answer.Answer.{Answer}
@@ -112,11 +119,6 @@ pub declined_mine : (refuses : ConfigNumbers → Past → Step → Refused → T
 declined_mine refuses p q step (Declined.Busy s) h = h.2
 declined_mine refuses p q step (Declined.Refused r) h = h.0
 
--- a refusal that is answered no room is that of the table
-pub no_room : (o : Option Why) → unwrap_or o Why.NoMemory ≡ Why.NoRoom → o ≡ Some Why.NoRoom
-no_room None h = absurd (let g : Why.NoMemory ≡ Why.NoRoom = h in cc)
-no_room (Some w) h = ap Some h
-
 -- the parts of a refused batch
 refused_why : Refused → Why
 refused_why (Refused.Publish why batch) = why
@@ -141,3 +143,99 @@ pub refused_publish : (p q : EnginePass) (queue : ℕ) (batch : List Submission)
 refused_publish p q queue batch d r why b is of h =
     let g = subst (λ (x : Declined). Declines Refuses p q (Step.Publish queue batch) x) is h in
     (g.0, sym of ∙ g.1)
+
+-- ---- why a step that the port asks for is refused
+
+-- a batch that it may publish is refused for want of room alone
+rows_publish : (c : ConfigNumbers) (past : Past) (q : ℕ) (batch : List Submission) → no_queue c q ≡ false → eqb (length batch) 0 ≡ false
+    → (refusal c past (Step.Publish q batch) ≡ Some Why.NoRoom) ⊎ (refusal c past (Step.Publish q batch) ≡ None)
+rows_publish c past q batch a b =
+    go (no_queue c q) (eqb (length batch) 0) (nat_lt (c.sq_size - 1) (length (published_entries past q) - fetched_count past q + length batch)) a b
+  where
+    go : (x y z : Bool) → x ≡ false → y ≡ false
+        → (first_row ((x, Why.NoQueue) ∷ (y, Why.BadBatch) ∷ (z, Why.NoRoom) ∷ []) ≡ Some Why.NoRoom) ⊎ (first_row ((x, Why.NoQueue) ∷ (y, Why.BadBatch) ∷ (z, Why.NoRoom) ∷ []) ≡ None)
+    go true y z a b = absurd (let h : true ≡ false = a in cc)
+    go false true z a b = absurd (let h : true ≡ false = b in cc)
+    go false false true a b = inl refl
+    go false false false a b = inr refl
+
+-- and a Reap of a completion queue that is there for want of a completion
+rows_reap : (c : ConfigNumbers) (past : Past) (q : ℕ) → no_completion_queue c q ≡ false
+    → (refusal c past (Step.Reap q) ≡ Some Why.NoCompletion) ⊎ (refusal c past (Step.Reap q) ≡ None)
+rows_reap c past q a =
+    go (no_completion_queue c q) (eqb (length (posted_completions c past q)) (reaped_count past q)) a
+  where
+    go : (x y : Bool) → x ≡ false → (first_row ((x, Why.NoQueue) ∷ (y, Why.NoCompletion) ∷ []) ≡ Some Why.NoCompletion) ⊎ (first_row ((x, Why.NoQueue) ∷ (y, Why.NoCompletion) ∷ []) ≡ None)
+    go true y a = absurd (let h : true ≡ false = a in cc)
+    go false true a = inl refl
+    go false false a = inr refl
+
+none_before : (q last : ℕ) → 1 ≤ q → q ≤ last → (eqb q 0 || nat_lt last q) ≡ false
+none_before q last few most = grind (arith, nat_tests)
+
+not_none : (n : ℕ) → 0 < n → eqb n 0 ≡ false
+not_none n some = grind (arith, nat_tests)
+
+pub owned_publish : (v : PortView) (past : Past) (q : ℕ) (batch : List Submission) → owns v q ≡ true → 0 < length batch
+    → (refusal v.config past (Step.Publish q batch) ≡ Some Why.NoRoom) ⊎ (refusal v.config past (Step.Publish q batch) ≡ None)
+owned_publish v past q batch own some =
+    let there = and_parts (nat_le 1 q) (nat_le q v.config.pairs) (and_parts (nat_le 1 q && nat_le q v.config.pairs) (eqb (completion_queue v.config q) v.queue) own).0 in
+    rows_publish v.config past q batch (none_before q v.config.pairs (leb-true 1 q there.0) (leb-true q v.config.pairs there.1)) (not_none (length batch) some)
+
+pub owned_reap : (c : ConfigNumbers) (past : Past) (q : ℕ) → 1 ≤ q → q ≤ c.cqs → (refusal c past (Step.Reap q) ≡ Some Why.NoCompletion) ⊎ (refusal c past (Step.Reap q) ≡ None)
+owned_reap c past q few most = rows_reap c past q (none_before q c.cqs few most)
+
+-- why it is refused is one of two causes
+pub two_causes : (o : Option Why) (why : Why) → why ≡ unwrap_or o Why.NoMemory → (o ≡ Some Why.NoRoom) ⊎ (o ≡ None) → (why ≡ Why.NoRoom) ⊎ (why ≡ Why.NoMemory)
+two_causes o why h (inl e) = inl (h ∙ ap (λ (x : Option Why). unwrap_or x Why.NoMemory) e)
+two_causes o why h (inr e) = inr (h ∙ ap (λ (x : Option Why). unwrap_or x Why.NoMemory) e)
+
+-- and the fault that is answered tells which
+pub fault_tells : (passes : ℕ) (a b : PortView) (q : ℕ) (batch : List Submission) (f : PortFault) → cause_of f ≡ unwrap_or (refusal b.config (entries b.seen) (Step.Publish q batch)) Why.NoMemory
+    → (refusal b.config (entries b.seen) (Step.Publish q batch) ≡ Some Why.NoRoom) ⊎ (refusal b.config (entries b.seen) (Step.Publish q batch) ≡ None) → IsRefused passes a b q batch f
+fault_tells passes a b q batch PortFault.RingFull h (inl e) = e
+fault_tells passes a b q batch PortFault.RingFull h (inr e) = absurd (let x : Why.NoRoom ≡ Why.NoMemory = h ∙ ap (λ (o : Option Why). unwrap_or o Why.NoMemory) e in cc)
+fault_tells passes a b q batch PortFault.Busy h (inl e) = absurd (let x : Why.Busy ≡ Why.NoRoom = h ∙ ap (λ (o : Option Why). unwrap_or o Why.NoMemory) e in cc)
+fault_tells passes a b q batch PortFault.Busy h (inr e) = absurd (let x : Why.Busy ≡ Why.NoMemory = h ∙ ap (λ (o : Option Why). unwrap_or o Why.NoMemory) e in cc)
+fault_tells passes a b q batch PortFault.NoMemory h (inl e) = absurd (let x : Why.NoMemory ≡ Why.NoRoom = h ∙ ap (λ (o : Option Why). unwrap_or o Why.NoMemory) e in cc)
+fault_tells passes a b q batch PortFault.NoMemory h (inr e) = e
+
+-- what declines a Reap of a completion queue that is there
+pub declined_reap : (p q : EnginePass) (n : ℕ) (d : Declined) → IsSame p q → 1 ≤ n → n ≤ (config_of p).cqs → Declines Refuses p q (Step.Reap n) d → IsReapDeclined d
+declined_reap p q n (Declined.Busy s) same few most h = tt
+declined_reap p q n (Declined.Refused r) same few most h =
+    let why = unwrap_or (refusal (config_of p) (entries (seen q)) (Step.Reap n)) Why.NoMemory in
+    subst (λ (x : Refused). IsReapDeclined (Declined.Refused x)) (sym h.1) (elim (owned_reap (config_of p) (entries (seen q)) n few most) [
+      | inl e ↦ subst (λ (o : Option Why). IsReapDeclined (Declined.Refused (Refused.Step (unwrap_or o Why.NoMemory)))) (sym e) tt
+      | inr e ↦ subst (λ (o : Option Why). IsReapDeclined (Declined.Refused (Refused.Step (unwrap_or o Why.NoMemory)))) (sym e) tt
+    ])
+
+-- and what is known where the port then answers so
+abbrev reap_result : Option PortFault → Result (Option Reaped) PortFault
+reap_result None = Ok None
+reap_result (Some f) = Err f
+
+pub reap_told : (p q : EnginePass) (n : ℕ) (d : Declined) (o : Option PortFault) → IsSame p q → 1 ≤ n → n ≤ (config_of p).cqs → Declines Refuses p q (Step.Reap n) d → (passes_of p ≡ 1 → IsNotBusy {A = Opened} (Err d)) → IsReapFault d o
+    → IsReapedAs (passes_of p) (view_at n p) (view_at n q) (reap_result o)
+reap_told p q n (Declined.Busy s) o same few most h alone f =
+    subst (λ (x : Option PortFault). IsReapedAs (passes_of p) (view_at n p) (view_at n q) (reap_result x)) (sym f)
+    (alone, λ i. record { config = same.3 i; queue = n; pass = same.1 i; seen = h.1 i })
+reap_told p q n (Declined.Refused r) o same few most h alone f =
+    go (refusal (config_of p) (entries (seen q)) (Step.Reap n)) refl (owned_reap (config_of p) (entries (seen q)) n few most)
+  where
+    same_refusal : refusal (config_of q) (entries (seen q)) (Step.Reap n) ≡ refusal (config_of p) (entries (seen q)) (Step.Reap n)
+    same_refusal = ap (λ (c : ConfigNumbers). refusal c (entries (seen q)) (Step.Reap n)) same.3
+
+    go : (w : Option Why) → refusal (config_of p) (entries (seen q)) (Step.Reap n) ≡ w → (w ≡ Some Why.NoCompletion) ⊎ (w ≡ None) → IsReapedAs (passes_of p) (view_at n p) (view_at n q) (reap_result o)
+    go w is (inl e) =
+        let told : IsReapFault (Declined.Refused (Refused.Step Why.NoCompletion)) o = subst (λ (x : Refused). IsReapFault (Declined.Refused x) o) (h.1 ∙ ap (λ (x : Option Why). Refused.Step (unwrap_or x Why.NoMemory)) (is ∙ e)) f in
+        subst (λ (x : Option PortFault). IsReapedAs (passes_of p) (view_at n p) (view_at n q) (reap_result x)) (sym told) (same_refusal ∙ is ∙ e)
+    go w is (inr e) =
+        let told : IsReapFault (Declined.Refused (Refused.Step Why.NoMemory)) o = subst (λ (x : Refused). IsReapFault (Declined.Refused x) o) (h.1 ∙ ap (λ (x : Option Why). Refused.Step (unwrap_or x Why.NoMemory)) (is ∙ e)) f in
+        subst (λ (x : Option PortFault). IsReapedAs (passes_of p) (view_at n p) (view_at n q) (reap_result x)) (sym told) (same_refusal ∙ is ∙ e)
+
+-- no fault of a Reap is want of room
+pub reap_room : (passes : ℕ) (a b : PortView) (f : PortFault) → IsReapedAs passes a b (Err f) → f ≢ PortFault.RingFull
+reap_room passes a b PortFault.RingFull h = absurd h
+reap_room passes a b PortFault.Busy h = λ e. absurd (let x : PortFault.Busy ≡ PortFault.RingFull = e in cc)
+reap_room passes a b PortFault.NoMemory h = λ e. absurd (let x : PortFault.NoMemory ≡ PortFault.RingFull = e in cc)

@@ -18,8 +18,9 @@ use Rattle.driver_commands.specs.Entries.{IsBatch, IsCommand, entry_count, first
 use Rattle.driver_commands.specs.declared.request.CallData.{CallData}
 use Rattle.driver_commands.proofs.Calls.{by_call, call_fused, call_single, one_made}
 use Rattle.driver_commands.proofs.Commands.{command_cid}
-use Rattle.driver_cas.specs.Starts.{AreFree, IsSent, IsTaken}
+use Rattle.driver_cas.specs.Starts.{IsSent, IsTaken}
 use Rattle.driver_cas.specs.Tables.{Matches, fits, is_its_cid}
+use Rattle.driver_cas.specs.Turns.{AreFree}
 use Rattle.driver_cas.proofs.Tables.{since_more}
 
 -- ---- which CIDs a call's entries have

@@ -15,9 +15,12 @@ use Rattle.driver_calls.specs.Views.{since}
 use Rattle.driver_calls.specs.declared.event.PortEvent.{PortEvent}
 use Rattle.driver_commands.specs.Entries.{IsBatch}
 use Rattle.driver_commands.specs.declared.request.CallData.{CallData}
+use Rattle.driver_commands.specs.declared.request.Request.{Request}
 use Rattle.driver_cas.specs.Drivers.{IsApart, IsCallOf, IsSame, made, number_of}
-use Rattle.driver_cas.specs.Starts.{AreFree, IsAsBefore, IsStarted, IsTaken, IsUntouched}
+use Rattle.driver_cas.specs.Starts.{IsAsBefore, IsStarted, IsTaken, IsUntouched}
 use Rattle.driver_cas.specs.Tables.{IsHeld, is_free, is_its_cid}
+use Rattle.driver_cas.specs.Tries.{Sends}
+use Rattle.driver_cas.specs.Turns.{AreFree, IsTurn}
 use Rattle.driver_cas.specs.declared.call.Call.{Call}
 use Rattle.driver_cas.specs.declared.driver.Driver.{Driver}
 use Rattle.driver_cas.specs.declared.port.Port.{Ghosts}
@@ -62,18 +65,6 @@ kept_held old new o queue first second q i taken free h =
     ap is_free (taken q i ∙ cond-false (is_its_cid o queue first second q i) Held.Waiting (held old q i) (not_taken old o queue first second q i free h)) ∙ h
 
 module _ {P : Type 0} (g : Ghosts P) where
-  -- what its Publish did
-  pub record Sends (d e : Driver P g) (k : Call P) (l n : ℕ) (contents : CallData) (batch : List Submission) : Type 0 where
-    pub start : k.start.value ≡ d.port
-    pub same : IsSame d e
-    pub known : Contains (queues_of d.cids) k.queue
-    pub later : g.follows d.port e.port
-    pub accepted : g.accepts d.port e.port k.queue batch
-    pub log : g.log e.port ≡ PortEvent.Sent k.queue batch ∷ g.log d.port
-    pub is : IsBatch k.op l n k.first k.second contents batch
-    pub free : AreFree d.cids k.op k.queue k.first k.second
-    pub taken : IsTaken d.cids e.cids k.op k.queue k.first k.second
-
   now_made : (d e : Driver P g) (k : Call P) (l n : ℕ) (contents : CallData) (batch : List Submission) → Sends d e k l n contents batch → made e ≡ PortEvent.Sent k.queue batch ∷ made d
   now_made d e k l n contents batch s =
       ap₂ (λ (x : Snapshot P) (log : List PortEvent). since (g.log x.value) log) s.same.began s.log ∙ since_more (g.log d.began.value) (g.log d.port) (PortEvent.Sent k.queue batch) d.grows
@@ -114,23 +105,6 @@ module _ {P : Type 0} (g : Ghosts P) where
         ],
       )
 
-  -- the call is begun
-  pub started : ((a : P) → g.follows a a) → ((a b c : P) → g.follows a b → g.follows b c → g.follows a c) → (d e : Driver P g) (k : Call P) (l n : ℕ) (contents : CallData) (batch : List Submission) → Sends d e k l n contents batch
-      → IsStarted d e k k.op l n contents
-  started stays on d e k l n contents batch s =
-      record {
-        batch = batch;
-        is = s.is;
-        does = refl;
-        free = s.free;
-        since = subst (λ (p : P). g.follows d.port p) (sym s.start) (stays d.port);
-        accepted = subst (λ (p : P). g.accepts p e.port k.queue batch) (sym s.start) s.accepted;
-        published = now_made d e k l n contents batch s;
-        taken = s.taken;
-        of = now_of d e k l n contents batch s;
-        others = now_others on d e k l n contents batch s;
-      }
-
   -- ---- over queues that had no room
 
   pub untouched_self : ((a : P) → g.follows a a) → (d : Driver P g) → IsUntouched d d
@@ -158,18 +132,28 @@ module _ {P : Type 0} (g : Ghosts P) where
   pub untouched_same : (d e f : Driver P g) → IsUntouched d e → IsSame e f → IsSame d f
   untouched_same d e f x same = same_on d e f x.same same
 
-  pub started_over : ((a b c : P) → g.follows a b → g.follows b c → g.follows a c) → (d e f : Driver P g) (k : Call P) (o : Op) (l n : ℕ) (contents : CallData) → IsUntouched d e → IsStarted e f k o l n contents
-      → IsStarted d f k o l n contents
-  started_over on d e f k o l n contents x s =
+  -- the call is begun
+  pub started : ((a b c : P) → g.follows a b → g.follows b c → g.follows a c) → (d e f : Driver P g) (k : Call P) (l n : ℕ) (contents : CallData) (batch : List Submission) → IsUntouched d e
+      → IsTurn d e.port (record { op = k.op; slba = l; blocks = n }) contents k.queue → Sends e f k l n contents batch → IsStarted d f k k.op l n contents
+  started on d e f k l n contents batch x turn s =
       record {
-        batch = s.batch;
+        batch = batch;
         is = s.is;
-        does = s.does;
-        free = subst (λ (c : Cids). AreFree c o k.queue k.first k.second) x.as_before.1 s.free;
-        since = on d.port e.port k.start.value x.later s.since;
-        accepted = s.accepted;
-        published = s.published ∙ ap (λ (log : List PortEvent). PortEvent.Sent k.queue s.batch ∷ log) x.as_before.0;
-        taken = subst (λ (c : Cids). IsTaken c f.cids o k.queue k.first k.second) x.as_before.1 s.taken;
-        of = s.of;
-        others = λ other of. s.others other (reaped_calls g on d e other x.same x.later (inl x.as_before.0) (λ q i. ap (λ (c : Cids). is_free (held c q i)) x.as_before.1) of);
+        does = refl;
+        turn = subst (λ (p : P). IsTurn d p (record { op = k.op; slba = l; blocks = n }) contents k.queue) (sym s.start) turn;
+        free = subst (λ (c : Cids). AreFree c k.op k.queue k.first k.second) x.as_before.1 s.free;
+        since = subst (λ (p : P). g.follows d.port p) (sym s.start) x.later;
+        accepted = subst (λ (p : P). g.accepts p f.port k.queue batch) (sym s.start) s.accepted;
+        published = now_made e f k l n contents batch s ∙ ap (λ (log : List PortEvent). PortEvent.Sent k.queue batch ∷ log) x.as_before.0;
+        taken = subst (λ (c : Cids). IsTaken c f.cids k.op k.queue k.first k.second) x.as_before.1 s.taken;
+        of = now_of e f k l n contents batch s;
+        others = λ other of. now_others on e f k l n contents batch s other
+            (reaped_calls g on d e other x.same x.later (inl x.as_before.0) (λ q i. ap (λ (c : Cids). is_free (held c q i)) x.as_before.1) of);
       }
+
+  pub begun : ((a b c : P) → g.follows a b → g.follows b c → g.follows a c) → (d e f : Driver P g) (k : Call P) (r : Request) (contents same : CallData) (batch : List Submission) → IsUntouched d e → k.op ≡ r.op → same ≡ contents
+      → IsTurn d e.port r contents k.queue → Sends e f k r.slba r.blocks same batch → IsStarted d f k r.op r.slba r.blocks contents
+  begun on d e f k r contents same batch x does is turn s =
+      subst (λ (o : Op). IsStarted d f k o r.slba r.blocks contents) does
+      (started on d e f k r.slba r.blocks contents batch x (subst (λ (o : Op). IsTurn d e.port (record { op = o; slba = r.slba; blocks = r.blocks }) contents k.queue) (sym does) turn)
+      (subst (λ (c : CallData). Sends e f k r.slba r.blocks c batch) is s))

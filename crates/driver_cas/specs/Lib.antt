@@ -1,9 +1,11 @@
 pub mod Made
 pub mod Passes
 pub mod Ports
+pub mod Reaps
 pub mod Listening
 pub mod Tables
 pub mod Drivers
+pub mod Turns
 pub mod Starts
 pub mod Tries
 pub mod Requests

@@ -1,7 +1,7 @@
 -- What contracts say of ports and drivers that meet, and of notices that they learn.
 use Rattle.std.specs.Prelude.{Bool, None, Option, Some, false, if◌then◌else◌, min, true, ℕ, ◌+◌, ◌-◌, ◌==◌, ◌^◌, ◌≡◌}
 use Rattle.nvme_model.specs.Passes.{IsBeginning}
-use Rattle.meet_lock.specs.Passes.{seen}
+use Rattle.meet_lock.specs.Passes.{mine, seen}
 use Rattle.work_queue.specs.Notices.{ReapFinds, notice_seen}
 use Rattle.work_queue.specs.QueuePasses.{IsOf, IsPopped, lock_of_pass}
 use Rattle.work_queue.specs.declared.notice.Notice.{Notice}
@@ -19,9 +19,10 @@ IsBeside a b = b.pass.seat.table_id ≡ a.pass.seat.table_id
 abbrev pub IsNoticeFor : SharedPort → Notice → Type 0
 IsNoticeFor p n = n.note.seat.table_id ≡ p.pass.seat.table_id
 
--- The second is the first at a later time, which published and reaped nothing since.
+-- The second is the first at a later time, whose pass made no step since, so that it published and reaped nothing.
 pub record SawMore (a b : SharedPort) : Type 0 where
   pub follows : Follows a b
+  pub mine_stay : mine b.pass ≡ mine a.pass
   pub log : log_of (view_of b) ≡ log_of (view_of a)
 
 -- how many notices are counted after one of this completion queue: one more, but 2^64 - 1 at most, where it is the

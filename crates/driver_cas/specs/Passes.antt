@@ -4,7 +4,12 @@ use Rattle.nvme_model.specs.Passes.{IsBeginning}
 use Rattle.meet_lock.specs.Passes.{IsSame, config_of, mine, number, seen}
 use Rattle.work_queue.specs.Engines.{EnginePass}
 use Rattle.driver_calls.specs.Events.{events}
+use Rattle.driver_calls.specs.Views.{PortView}
 use Rattle.driver_calls.specs.declared.event.PortEvent.{PortEvent}
+
+-- what is known of the port of this completion queue with this pass
+abbrev pub view_at : ℕ → EnginePass → PortView
+view_at n p = record { config = config_of p; queue = n; pass = number p; seen = seen p }
 
 -- what the pass published to the submission queues of completion queue n and reaped there, the newest first
 abbrev pub log_at : ℕ → EnginePass → List PortEvent

@@ -1,16 +1,34 @@
 -- What contracts say of the port of a shared controller.
-use Rattle.std.specs.Prelude.{◌≡◌}
+use Rattle.std.specs.Prelude.{List, None, length, ℕ, ◌+◌, ◌≡◌, ◌≢◌}
+use Rattle.nvme_model.specs.Passes.{entries}
+use Rattle.nvme_model.specs.Refusals.{refusal}
+use Rattle.nvme_model.specs.declared.step.Step.{Step}
+use Rattle.nvme_model.specs.declared.submission.Submission.{Submission}
 use Rattle.meet_lock.specs.Passes as passes
 use Rattle.driver_calls.specs.Views
-use Rattle.driver_calls.specs.Views.{PortView}
+use Rattle.driver_calls.specs.Views.{IsFull, PortView, log_of}
+use Rattle.driver_cas.specs.Passes.{view_at}
+use Rattle.driver_cas.specs.declared.fault.PortFault.{PortFault}
 use Rattle.driver_cas.specs.declared.shared_port.SharedPort.{SharedPort}
 
 -- what is known of it
 abbrev pub view_of : SharedPort → PortView
-view_of p =
-    record { config = passes.config_of p.pass; queue = p.queue; pass = passes.number p.pass; seen = passes.seen p.pass }
+view_of p = view_at p.queue p.pass
 
--- the second is the first at a later time, of the same engine
+-- how many steps its pass has made
+abbrev pub steps_of : SharedPort → ℕ
+steps_of p = length (passes.mine p.pass)
+
+-- The second is the first at a later time, of the same engine, and its pass has made no steps but those of its log.
 pub record Follows (a b : SharedPort) : Type 0 where
   pub same_lock : b.pass.seat.table_id ≡ a.pass.seat.table_id
   pub view : Views.Follows (view_of a) (view_of b)
+  pub sole : steps_of b + length (log_of (view_of a)) ≡ steps_of a + length (log_of (view_of b))
+
+-- What is known where a port answers a Publish of this batch so, by the number of the engine's passes, and by what was
+-- known of it before and is since: there is no room at what was seen. Or another caller had the controller, which one
+-- pass alone never meets, and nothing has changed. Or nothing but want of memory refuses it.
+abbrev pub IsRefused : ℕ → PortView → PortView → ℕ → List Submission → PortFault → Type 0
+IsRefused passes a b q batch PortFault.RingFull = IsFull b q batch
+IsRefused passes a b q batch PortFault.Busy = (passes ≢ 1) × (b ≡ a)
+IsRefused passes a b q batch PortFault.NoMemory = refusal b.config (entries b.seen) (Step.Publish q batch) ≡ None

@@ -1,6 +1,5 @@
 -- What contracts say of the start of a call.
-use Rattle.std.specs.Prelude.{List, Some, if◌then◌else◌, true, ℕ, ◌<◌, ◌∷◌, ◌≡◌, ◌⊎◌}
-use Rattle.nvme_model.specs.Operations.{is_pair}
+use Rattle.std.specs.Prelude.{List, if◌then◌else◌, ℕ, ◌∷◌, ◌≡◌, ◌⊎◌}
 use Rattle.nvme_model.specs.declared.operation.Op.{Op}
 use Rattle.nvme_model.specs.declared.submission.Submission.{Submission}
 use Rattle.cid_table.specs.Cids.{Cids, held}
@@ -10,18 +9,10 @@ use Rattle.driver_commands.specs.Entries.{IsBatch}
 use Rattle.driver_commands.specs.declared.request.CallData.{CallData}
 use Rattle.driver_cas.specs.Drivers.{IsApart, IsCallOf, IsSame, made}
 use Rattle.driver_cas.specs.Tables.{is_its_cid}
+use Rattle.driver_cas.specs.Turns.{AreFree, IsTurn}
 use Rattle.driver_cas.specs.declared.call.Call.{Call}
 use Rattle.driver_cas.specs.declared.driver.Driver.{Driver}
 use Rattle.driver_cas.specs.declared.port.Port.{Ghosts}
-
--- Two CIDs that a call of this operation may use: both are free, and those of a pair are unlike. Of any other operation
--- only the first counts.
-pub record AreFree (cids : Cids) (o : Op) (queue first second : ℕ) : Type 0 where
-  pub first_free : held cids queue first ≡ Held.Free
-  pub second_free : held cids queue second ≡ Held.Free
-  pub first_below : first < 64
-  pub second_below : second < 64
-  pub unlike : is_pair (Some o) ≡ true → first < second
 
 -- the call waits under its CIDs, all others are used as before
 abbrev pub IsTaken : Cids → Cids → Op → ℕ → ℕ → ℕ → Type 0
@@ -39,11 +30,13 @@ module _ {P : Type 0} {g : Ghosts P} where
   abbrev pub IsAsBefore : Driver P g → Driver P g → Type 0
   IsAsBefore d e = (made e ≡ made d) × (e.cids ≡ d.cids)
 
-  -- The call is begun: its entries are those asked for, under CIDs that were free, and its port published just these.
+  -- The call is begun: its entries are those asked for, under CIDs that were free, and its port published just these,
+  -- to the submission queue whose turn it was.
   pub record IsStarted (d e : Driver P g) (k : Call P) (o : Op) (slba blocks : ℕ) (contents : CallData) : Type 0 where
     pub batch : List Submission
     pub is : IsBatch o slba blocks k.first k.second contents batch
     pub does : k.op ≡ o
+    pub turn : IsTurn d k.start.value (record { op = o; slba = slba; blocks = blocks }) contents k.queue
     pub free : AreFree d.cids o k.queue k.first k.second
     pub since : g.follows d.port k.start.value
     pub accepted : g.accepts k.start.value e.port k.queue batch

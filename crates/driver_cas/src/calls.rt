@@ -1,6 +1,6 @@
 //! Starting a call.
 
-ghost use Rattle.std.specs.Prelude.{[], ◌*◌, ◌+◌, ◌≡◌, ◌≤◌, All, false, length};
+ghost use Rattle.std.specs.Prelude.{[], ◌*◌, ◌+◌, ◌≡◌, ◌≤◌, All, false, length, true};
 ghost use Rattle.cid_table.specs.Cids.{queues_of};
 ghost use Rattle.driver_commands.specs.Entries.{entry_count};
 ghost use Rattle.driver_commands.specs.declared.request.CallData.{CallData};
@@ -10,7 +10,8 @@ ghost use Rattle.nvme_model.specs.declared.operation.Op.{Op};
 ghost use Rattle.std.specs.Prelude.{Some};
 ghost use Rattle.driver_cas.specs.Drivers.{IsSame};
 ghost use Rattle.driver_cas.specs.Requests.{IsStart, pair_request_of, request_of};
-ghost use Rattle.driver_cas.specs.Tries.{HasTooFew, IsBegun};
+ghost use Rattle.driver_cas.specs.Tries.{IsBegun};
+ghost use Rattle.driver_cas.specs.Turns.{HasEnough, HasTooFew};
 
 use crate::call::Call;
 use crate::driver::Driver;
@@ -69,6 +70,7 @@ fn request(acwu: u16, slots: Range, op: Op, slba: u64, bytes: usize) -> Result<R
 impl<P: Port> Driver<P> {
     // Whether one of the submission queues has CIDs for a call of this operation.
     fn has_free(&self, op: Op) -> bool
+        ensures some { result ≡ true → HasEnough self.now.cids op }
         ensures none { result ≡ false → All (HasTooFew self.now.cids op) (queues_of self.now.cids) }
     {
         for queue in self.cids.queues() {

@@ -27,6 +27,7 @@ pub struct Driver<P: Port> {
     // The last that was drawn, 0 for none.
     pub(crate) serial: u64,
     pub(crate) cids: CidTable,
+    ghost sole: { P.steps port + length (P.log began.value) ≡ P.steps began.value + length (P.log port) },
     ghost grows: { length (P.log began.value) ≤ length (P.log port) },
     ghost tidy: { is_tidy (since (P.log began.value) (P.log port)) ≡ true },
     ghost own: { (q : ℕ) → Contains (queues_of cids) q → P.owns port q ≡ true },

@@ -6,6 +6,7 @@ mod calls;
 mod claims;
 mod driver;
 mod fault;
+pub mod laws;
 mod listen;
 mod messages;
 mod poll;

@@ -3,7 +3,7 @@
 ghost use Rattle.std.specs.Prelude.{◌≡◌, IfErr, IfOk};
 ghost use Rattle.meet_lock.specs.Passes.{seen};
 ghost use Rattle.driver_cas.specs.Drivers.{IsCallOf};
-ghost use Rattle.driver_cas.specs.Listening.{IsBeside, IsPlaceFor, Listens};
+ghost use Rattle.driver_cas.specs.Listening.{IsBeside, IsPlaceFor, Listens, SawMore};
 ghost use Rattle.driver_cas.specs.Ports.{view_of};
 ghost use Rattle.driver_cas.specs.Starts.{IsUntouched};
 ghost use Rattle.driver_cas.specs.declared.call.Call.{Call};
@@ -25,6 +25,9 @@ impl<'a> Driver<SharedPort<'a>> {
         requires { IsBeside self.old.port other.old.port }
         ensures first { IsUntouched self.old self.new }
         ensures second { IsUntouched other.old other.new }
+        ensures saw { SawMore self.old.port self.new.port × SawMore other.old.port other.new.port }
+        ensures counted { (self.new.port.counted ≡ self.old.port.counted)
+            × (other.new.port.counted ≡ other.old.port.counted) }
         ensures calls { (k : Call SharedPort) → IsCallOf self.old k → IsCallOf self.new k }
         ensures others { (k : Call SharedPort) → IsCallOf other.old k → IsCallOf other.new k }
         ensures met { IfOk result (λ _. seen self.new.port.pass ≡ seen other.new.port.pass) }

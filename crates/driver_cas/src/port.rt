@@ -1,6 +1,6 @@
 //! The way of a driver's entries to a controller, and of its completions back.
 
-ghost use Rattle.std.specs.Prelude.{Bool, ◌≡◌, ◌≢◌, ◌<◌, ◌∷◌, IfErr, IfOk, List, Option, Result, length, true, ℕ};
+ghost use Rattle.std.specs.Prelude.{Bool, ◌+◌, ◌≡◌, ◌≢◌, ◌<◌, ◌∷◌, IfErr, IfOk, List, Option, Result, length, true, ℕ};
 ghost use Rattle.nvme_model.specs.declared.operation.Op.{Op};
 ghost use Rattle.nvme_model.specs.declared.status.Status.{Status};
 ghost use Rattle.nvme_model.specs.declared.submission.Submission.{Submission};
@@ -29,6 +29,9 @@ pub trait Port: Drop {
     /// What it published and reaped, the newest first.
     ghost log: { Self → List PortEvent };
 
+    /// How many steps it has made.
+    ghost steps: { Self → ℕ };
+
     /// The submission queue is one of its own.
     ghost owns: { Self → ℕ → Bool };
 
@@ -38,8 +41,8 @@ pub trait Port: Drop {
     /// What is known of a port that published this batch, and of what it was just before.
     ghost accepts: { Self → Self → ℕ → List Submission → Type 0 };
 
-    /// What is known of one that had no room for this batch.
-    ghost is_full: { Self → Self → ℕ → List Submission → Type 0 };
+    /// What is known of one that answered this batch so, and of what it was just before.
+    ghost refuses: { Self → Self → ℕ → List Submission → PortFault → Type 0 };
 
     /// What is known where a call was answered so, or not yet: by what the port did before its driver was made, the
     /// port just before the call's Publish and now, the call's submission queue, the number of its first entry there,
@@ -58,7 +61,7 @@ pub trait Port: Drop {
         ensures sent { IfOk result (λ _. log self.new ≡ PortEvent.Sent queue batch ∷ log self.old) }
         ensures accepted { IfOk result (λ _. accepts self.old self.new queue batch) }
         ensures back { IfErr result (λ e. (e.1 ≡ batch) × (log self.new ≡ log self.old)) }
-        ensures full { IfErr result (λ e. e.0 ≡ PortFault.RingFull → is_full self.old self.new queue batch) };
+        ensures refused { IfErr result (λ e. refuses self.old self.new queue batch e.0) };
 
     /// Reaps the next completion; None where there is none, or none is known of.
     ///
@@ -74,6 +77,9 @@ pub trait Port: Drop {
     ghost stays: { (a : Self) → follows a a };
 
     ghost goes_on: { (a b c : Self) → follows a b → follows b c → follows a c };
+
+    /// It makes no step that isn't in its log.
+    ghost sole: { (a b : Self) → follows a b → steps b + length (log a) ≡ steps a + length (log b) };
 
     /// No call changes which submission queues are its own.
     ghost keeps_own: { (a b : Self) (q : ℕ) → follows a b → owns b q ≡ owns a q };

@@ -1,13 +1,14 @@
 //! The port of one completion queue of a controller that callers share.
 
-ghost use Rattle.std.specs.Prelude.{◌≡◌, ◌≢◌, ◌≤◌, IfErr, IfOk, IfSome};
+ghost use Rattle.std.specs.Prelude.{◌≡◌, ◌≢◌, ◌≤◌, ◌⊎◌, IfErr, IfOk, None, Ok, length};
 ghost use Rattle.nvme_model.specs.Kept.{Kept};
 ghost use Rattle.nvme_model.specs.Legal.{IsLegal};
 ghost use Rattle.nvme_model.specs.Passes.{entries};
-ghost use Rattle.meet_lock.specs.Passes.{IsSame, Knows};
+ghost use Rattle.meet_lock.specs.Passes.{IsSame, Knows, config_of, mine, passes_of};
 ghost use Rattle.work_queue.specs.Engines.{IsOf};
 ghost use Rattle.driver_cas.specs.Made.{after_reap};
-ghost use Rattle.driver_cas.specs.Passes.{log_at};
+ghost use Rattle.driver_cas.specs.Passes.{log_at, view_at};
+ghost use Rattle.driver_cas.specs.Reaps.{IsCounted, IsReapDeclined, IsReapFault, IsReapedAs, cause_of, steps_with};
 
 use crate::fault::PortFault;
 use crate::port::{Port, Reaped};
@@ -31,7 +32,7 @@ pub struct SharedPort<'a> {
 }
 
 impl<'a> SharedPort<'a> {
-    ghost use Rattle.meet_lock.specs.Passes.{config_of, seen};
+    ghost use Rattle.meet_lock.specs.Passes.{seen};
 
     /// The port of this completion queue, with a pass of the engine.
     pub fn new(engine: &'a Engine, pass: Pass<Core>, queue: u16) -> SharedPort<'a>
@@ -59,34 +60,42 @@ impl<'a> SharedPort<'a> {
     }
 }
 
-// Why a batch was refused that its port may publish.
+// What is answered where the table refuses a batch so that its port may publish.
 fn publish_fault(why: Why) -> PortFault
-    ensures { result ≡ PortFault.RingFull → why ≡ Why.NoRoom }
+    requires { (why ≡ Why.NoRoom) ⊎ (why ≡ Why.NoMemory) }
+    ensures { cause_of result ≡ why }
 {
     match why {
         Why::NoRoom => PortFault::RingFull,
-        _ => PortFault::NoMemory,
+        Why::NoMemory => PortFault::NoMemory,
+        _ => unreachable!(),
     }
 }
 
 // Why a Reap wasn't made; None where there is no completion.
 fn reap_fault(declined: &Declined) -> Option<PortFault>
-    ensures { IfSome result (λ f. f ≢ PortFault.RingFull) }
+    requires { IsReapDeclined declined.now }
+    ensures { IsReapFault declined.now result }
 {
     match declined {
         Declined::Busy(_) => Some(PortFault::Busy),
         Declined::Refused(Refused::Step(Why::NoCompletion)) => None,
-        Declined::Refused(_) => Some(PortFault::NoMemory),
+        Declined::Refused(Refused::Step(Why::NoMemory)) => Some(PortFault::NoMemory),
+        Declined::Refused(_) => unreachable!(),
     }
 }
 
 // Reaps the next completion of this completion queue.
 fn try_reap(engine: &Engine, pass: &mut Pass<Core>, queue: u16) -> Result<Option<Reaped>, PortFault>
-    requires { IsOf engine.now pass.old }
+    requires own { IsOf engine.now pass.old }
+    requires there { (1 ≤ queue) × (queue ≤ (config_of pass.old).cqs) }
     ensures same { IsSame pass.old pass.new }
     ensures knows { Knows Kept pass.old pass.new }
     ensures got { IfOk result (λ o. log_at queue pass.new ≡ after_reap o (log_at queue pass.old)) }
+    ensures steps { IfOk result (λ o. length (mine pass.new) ≡ steps_with o (length (mine pass.old))) }
     ensures fault { IfErr result (λ f. (log_at queue pass.new ≡ log_at queue pass.old) × (f ≢ PortFault.RingFull)) }
+    ensures none { IfErr result (λ _. mine pass.new ≡ mine pass.old) }
+    ensures cause { IsReapedAs (passes_of pass.old) (view_at queue pass.old) (view_at queue pass.new) result }
 {
     match engine.attempt_open(pass, Open::Reap(queue)) {
         Ok(opened) => {
@@ -102,13 +111,43 @@ fn try_reap(engine: &Engine, pass: &mut Pass<Core>, queue: u16) -> Result<Option
     }
 }
 
+impl<'a> SharedPort<'a> {
+    ghost use Rattle.driver_calls.specs.Views.{log_of};
+    ghost use Rattle.driver_cas.specs.Ports.{Follows, view_of};
+
+    // Reaps the next completion where a notice is counted whose completion isn't reaped; else it asks nothing.
+    fn reap_counted(&mut self) -> Result<Option<Reaped>, PortFault>
+        ensures later { Follows self.old self.new }
+        ensures got { IfOk result (λ o. log_of (view_of self.new) ≡ after_reap o (log_of (view_of self.old))) }
+        ensures fault { IfErr result (λ f. (log_of (view_of self.new) ≡ log_of (view_of self.old))
+            × (f ≢ PortFault.RingFull)) }
+        ensures cause { self.old.counted ≢ 0 →
+            IsReapedAs (passes_of self.old.pass) (view_of self.old) (view_of self.new) result }
+        ensures idle { self.old.counted ≡ 0 → (result ≡ Ok None) × (self.new ≡ self.old) }
+        ensures counted { IsCounted self.old.counted self.new.counted result }
+    {
+        if self.counted == 0 {
+            return Ok(None);
+        }
+        let reaped = try_reap(self.engine, &mut self.pass, self.queue)?;
+        self.counted = if reaped.is_some() {
+            self.counted - 1
+        } else {
+            0
+        };
+        Ok(reaped)
+    }
+}
+
 impl<'a> Port for SharedPort<'a> {
     ghost use Rattle.driver_calls.proofs.Views.{follows_on, follows_self, owns_same, view_tells};
-    ghost use Rattle.driver_calls.specs.Views.{AnswerSays, IsFull, Publishes, log_of, owns as view_owns};
-    ghost use Rattle.driver_cas.specs.Ports.{Follows, view_of};
-    ghost use Rattle.std.proofs.Common.{refl, ◌∙◌};
+    ghost use Rattle.driver_calls.specs.Views.{AnswerSays, Publishes, log_of, owns as view_owns};
+    ghost use Rattle.driver_cas.specs.Ports.{Follows, IsRefused, steps_of, view_of};
+    ghost use Rattle.std.proofs.Common.{arith, refl, ◌∙◌};
 
     ghost log = { λ p. log_of (view_of p) };
+
+    ghost steps = { steps_of };
 
     ghost owns = { λ p. view_owns (view_of p) };
 
@@ -116,7 +155,7 @@ impl<'a> Port for SharedPort<'a> {
 
     ghost accepts = { λ a b. Publishes (view_of a) (view_of b) };
 
-    ghost is_full = { λ a b. IsFull (view_of b) };
+    ghost refuses = { λ a b. IsRefused (passes_of a.pass) (view_of a) (view_of b) };
 
     ghost says = { λ before start now. AnswerSays before (view_of start) (view_of now) };
 
@@ -136,24 +175,18 @@ impl<'a> Port for SharedPort<'a> {
     }
 
     fn reap(&mut self) -> Result<Option<Reaped>, PortFault> {
-        if self.counted == 0 {
-            return Ok(None);
-        }
-        let reaped = try_reap(self.engine, &mut self.pass, self.queue)?;
-        self.counted = if reaped.is_some() {
-            self.counted - 1
-        } else {
-            0
-        };
-        Ok(reaped)
+        self.reap_counted()
     }
 
-    ghost stays = { λ a. record { same_lock = refl; view = follows_self (view_of a) } };
+    ghost stays = { λ a. record { same_lock = refl; view = follows_self (view_of a); sole = refl } };
 
     ghost goes_on = { λ a b c x y. record {
       same_lock = y.same_lock ∙ x.same_lock;
       view = follows_on (view_of a) (view_of b) (view_of c) x.view y.view;
+      sole = let h = x.sole in let k = y.sole in omega arith;
     } };
+
+    ghost sole = { λ a b x. x.sole };
 
     ghost keeps_own = { λ a b q x. owns_same (view_of a) (view_of b) q x.view };
 

@@ -4,11 +4,11 @@ ghost use Rattle.std.specs.Prelude.{[], ◌∷◌, ◌≡◌, ◌≤◌, ◌<◌
 ghost use Rattle.std.specs.Prelude.{true, vec_capacity};
 ghost use Rattle.driver_commands.specs.Entries.{entry_count, payloads_of};
 ghost use Rattle.driver_cas.specs.Drivers.{IsSame};
-ghost use Rattle.driver_cas.specs.Tries.{HasTooFew, IsBegun, IsNotSent, IsTried};
+ghost use Rattle.driver_cas.specs.Tries.{IsBegun, IsNotSent, IsTried};
 ghost use Rattle.cid_table.specs.Cids.{queues_of};
 ghost use Rattle.driver_calls.specs.declared.event.PortEvent.{PortEvent};
-ghost use Rattle.driver_cas.specs.declared.fault.PortFault.{PortFault};
-ghost use Rattle.driver_cas.specs.Starts.{AreFree, IsSent, IsTaken};
+ghost use Rattle.driver_cas.specs.Starts.{IsSent, IsTaken};
+ghost use Rattle.driver_cas.specs.Turns.{AreFree, HasTooFew};
 
 use crate::call::Call;
 use crate::driver::Driver;
@@ -78,7 +78,7 @@ fn send<P: Port>(
     ensures sent { IfOk result (λ _. (P.log port.new ≡ PortEvent.Sent queue batch ∷ P.log port.old)
         × IsTaken cids.old cids.new op queue two.first two.second × P.accepts port.old port.new queue batch) }
     ensures back { IfErr result (λ e. (e.1 ≡ batch) × (P.log port.new ≡ P.log port.old) × (cids.new ≡ cids.old)) }
-    ensures full { IfErr result (λ e. e.0 ≡ PortFault.RingFull → P.is_full port.old port.new queue batch) }
+    ensures refused { IfErr result (λ e. P.refuses port.old port.new queue batch e.0) }
 {
     port.publish(queue, batch)?;
     hold_cids(cids, op, queue, two);

@@ -62,7 +62,7 @@ untouched_on h i m x y =
 
 pub untouched_self : (h : Host) → IsUntouched h.driver h.driver
 untouched_self h =
-    record { same = record { began = refl; host = refl; acwu = refl; slots = refl; serial = refl; queues = refl }; later = record { same_lock = refl; view = follows_self (view_of h.driver.port) }; as_before = (refl, refl) }
+    record { same = record { began = refl; host = refl; acwu = refl; slots = refl; serial = refl; queues = refl }; later = record { same_lock = refl; view = follows_self (view_of h.driver.port); sole = refl }; as_before = (refl, refl) }
 
 -- nothing was done by a driver that was made just now
 pub nothing_since : (xs : List PortEvent) → since xs xs ≡ []

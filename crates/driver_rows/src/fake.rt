@@ -83,10 +83,12 @@ fn one_byte(alloc: Global, byte: u8) -> Result<Payload, NoMemory>
 
 impl Port for Fake {
     ghost use Rattle.std.specs.Prelude.{true};
-    ghost use Rattle.std.proofs.Common.{refl};
+    ghost use Rattle.std.proofs.Common.{add_comm, refl};
     ghost use Rattle.driver_rows.specs.Fakes.{log_onto};
 
     ghost log = { λ p. log_onto [] p.did.items };
+
+    ghost steps = { λ p. length (log_onto [] p.did.items) };
 
     ghost owns = { λ p q. true };
 
@@ -94,7 +96,7 @@ impl Port for Fake {
 
     ghost accepts = { λ a b q batch. Unit {0} };
 
-    ghost is_full = { λ a b q batch. Unit {0} };
+    ghost refuses = { λ a b q batch fault. Unit {0} };
 
     ghost says = { λ before start now q j o r. Unit {0} };
 
@@ -134,6 +136,8 @@ impl Port for Fake {
     ghost stays = { λ a. tt };
 
     ghost goes_on = { λ a b c x y. tt };
+
+    ghost sole = { λ a b x. add_comm (length (log_onto [] b.did.items)) (length (log_onto [] a.did.items)) };
 
     ghost keeps_own = { λ a b q x. refl };
 

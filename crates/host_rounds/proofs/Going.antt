@@ -60,7 +60,7 @@ module _ {G : Type 0} where
         settings = record { began = refl; host = refl; acwu = refl; slots = refl; queues = refl };
         slots = refl;
         queue = refl;
-        later = record { same_lock = refl; view = follows_self (view_of h.driver.port) };
+        later = record { same_lock = refl; view = follows_self (view_of h.driver.port); sole = refl };
       }
 
   pub goes_far : (hall : Hall G) (h k m : Host) → Goes hall h k → Goes hall k m → Goes hall h m

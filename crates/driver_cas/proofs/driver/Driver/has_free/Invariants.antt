@@ -1,5 +1,5 @@
 use Rattle.std.proofs.Common.{◌<◌, slice_index_or, ℕ}
-use Rattle.driver_cas.specs.Tries.{HasTooFew}
+use Rattle.driver_cas.specs.Turns.{HasTooFew}
 use Rattle.driver_cas.proofs.driver.Driver.has_free.Given as goal
 
 -- none of the queues so far has enough

@@ -1,7 +1,8 @@
-use Rattle.std.proofs.Common.{◌∙◌, List, ℕ, refl, subst}
+use Rattle.std.proofs.Common.{◌∙◌, List, ℕ, length, refl, subst}
 use Rattle.std.specs.List.{Contains}
 use Rattle.driver_cas.proofs.Tables.{reaps_keep}
 use Rattle.driver_cas.proofs.Drivers.{one_more, reaped_calls}
+use Rattle.driver_cas.proofs.Following.{sole_later}
 use Rattle.driver_cas.proofs.driver.Driver.reap.Goals as goal
 
 pub invariant_of-self : goal.invariant_of-self
@@ -9,6 +10,7 @@ invariant_of-self g c =
     let d = c.args.self.now in
     let r = reaps_keep (g.P.Port.log d.began.value) (g.P.Port.log d.port) (g.P.Port.log c.reap_one.new.port) d.cids c.reap_one.new.cids c.reap_one.ensures.reaped d.grows d.tidy d.matches in
     record {
+      sole = sole_later (g.P.Port.steps d.began.value) (g.P.Port.steps d.port) (g.P.Port.steps c.reap_one.new.port) (length (g.P.Port.log d.began.value)) (length (g.P.Port.log d.port)) (length (g.P.Port.log c.reap_one.new.port)) d.sole (g.met.P.Port.sole d.port c.reap_one.new.port c.reap_one.ensures.later);
       grows = r.0;
       tidy = r.1;
       own = λ q k. g.met.P.Port.keeps_own d.port c.reap_one.new.port q c.reap_one.ensures.later ∙ d.own q (subst (λ (qs : List ℕ). Contains qs q) c.reap_one.ensures.queues k);

@@ -1,10 +1,10 @@
-use Rattle.std.proofs.Common.{List, ℕ, get_or, rules, ◌<◌, ◌∙◌, ap, arith, length, refl, subst}
+use Rattle.std.proofs.Common.{List, ℕ, get_or, rules, ◌<◌, ◌≡◌, ◌∙◌, ap, arith, length, refl, subst, sym}
+use Rattle.std.specs.List.Sorted.{IsStrictlyIncreasing}
 use Rattle.std.specs.Prelude.{Contains}
-use Rattle.cid_table.specs.Cids.{queues_of}
-use Rattle.driver_commands.specs.declared.request.CallData.{CallData}
-use Rattle.driver_cas.specs.Starts.{IsStarted}
-use Rattle.driver_cas.proofs.Starting.{started_over, untouched_on, untouched_self}
-use Rattle.driver_cas.proofs.Passing.{contained, no_room, one_more_passed, too_few}
+use Rattle.cid_table.specs.Cids.{Cids, queues_of}
+use Rattle.driver_cas.specs.Turns.{IsTurn}
+use Rattle.driver_cas.proofs.Starting.{begun, untouched_on, untouched_self}
+use Rattle.driver_cas.proofs.Passing.{contained, no_room, one_more_passed, stopped, too_few, turn_now}
 use Rattle.driver_cas.proofs.driver.Driver.start.Goals as goal
 
 pub loop-k-init : goal.loop-k-init
@@ -28,7 +28,7 @@ loop-k-preserved-in_default g c =
       contents = i.contents;
       empty = i.empty;
       capacity = i.capacity;
-      passed = one_more_passed g.P.Port g.met.P.Port.goes_on d e e c.args.request c.args.contents k (get_or c.queues.result.now k 0) (g.met.P.Port.stays e.port) (subst (λ (xs : List ℕ). k < length xs) c.queues-k-end.ensures.value c.loop-k-test.true)
+      passed = one_more_passed g.P.Port g.met.P.Port.goes_on d e.port e.port c.args.request c.args.contents k (get_or c.queues.result.now k 0) (g.met.P.Port.stays e.port) (subst (λ (xs : List ℕ). k < length xs) c.queues-k-end.ensures.value c.loop-k-test.true)
           (ap (λ (xs : List ℕ). get_or xs k 0) (c.queues.ensures.value ∙ ap queues_of i.untouched.as_before.1)) i.passed
           (too_few g.P.Port d e c.args.request c.args.contents (get_or c.queues.result.now k 0) i.untouched
           (c.in_default.ensures.none (subst (λ (xs : List ℕ). Contains xs (get_or c.queues.result.now k 0)) c.queues.ensures.value (contained c.queues.result.now k within))));
@@ -39,9 +39,31 @@ returns-in-Started-clause-later g c = g.met.P.Port.goes_on _ _ _ c.loop-k.invari
 
 pub returns-in-Started-clause-is : goal.returns-in-Started-clause-is
 returns-in-Started-clause-is g c =
+    let i = c.loop-k.invariant in
+    let t = c.in-Started.ensures.tried in
+    let d = c.args.self.now in
+    let e = c.loop-k.self in
+    let k = c.in-Started.call in
     let r = c.args.request in
-    subst (λ (x : CallData). IsStarted c.args.self.now c.publish_to.new.self c.in-Started.call r.op r.slba r.blocks x) c.loop-k.invariant.contents
-    (started_over g.P.Port g.met.P.Port.goes_on c.args.self.now c.loop-k.self c.publish_to.new.self c.in-Started.call r.op r.slba r.blocks c.loop-k.contents c.loop-k.invariant.untouched c.in-Started.ensures.tried.1)
+    begun g.P.Port g.met.P.Port.goes_on d e c.publish_to.new.self k r c.args.contents c.loop-k.contents t.2.0 i.untouched t.1 i.contents
+    (subst (λ (q : ℕ). IsTurn d e.port r c.args.contents q) (sym t.0)
+    (turn_now g.P.Port d e.port r c.args.contents c.loop-k.k (get_or c.queues.result.now c.loop-k.k 0) (subst (λ (x : Cids). IsStrictlyIncreasing (queues_of x)) i.untouched.as_before.1 c.queues.ensures.law)
+    (subst (λ (xs : List ℕ). c.loop-k.k < length xs) c.queues-k-end.ensures.value c.loop-k-test.true) (ap (λ (xs : List ℕ). get_or xs c.loop-k.k 0) (c.queues.ensures.value ∙ ap queues_of i.untouched.as_before.1)) i.passed))
+    t.2.1
+
+pub returns-in-Stopped-clause-is : goal.returns-in-Stopped-clause-is
+returns-in-Stopped-clause-is g c =
+    let i = c.loop-k.invariant in
+    let d = c.args.self.now in
+    let e = c.loop-k.self in
+    let r = c.args.request in
+    let within : c.loop-k.k < length c.queues.result.now = search rules in
+    let same : c.queues.result.now ≡ queues_of d.cids = c.queues.ensures.value ∙ ap queues_of i.untouched.as_before.1 in
+    stopped g.P.Port d e c.publish_to.new.self r c.args.contents c.loop-k.contents (get_or c.queues.result.now c.loop-k.k 0) c.in-Stopped.fault
+    (subst (λ (xs : List ℕ). Contains xs (get_or c.queues.result.now c.loop-k.k 0)) same (contained c.queues.result.now c.loop-k.k within))
+    (turn_now g.P.Port d e.port r c.args.contents c.loop-k.k (get_or c.queues.result.now c.loop-k.k 0) (subst (λ (x : Cids). IsStrictlyIncreasing (queues_of x)) i.untouched.as_before.1 c.queues.ensures.law)
+    (subst (λ (xs : List ℕ). c.loop-k.k < length xs) c.queues-k-end.ensures.value c.loop-k-test.true) (ap (λ (xs : List ℕ). get_or xs c.loop-k.k 0) same) i.passed)
+    i.untouched i.contents c.in-Stopped.ensures.tried
 
 pub loop-k-preserved : goal.loop-k-preserved
 loop-k-preserved g c =
@@ -56,7 +78,7 @@ loop-k-preserved g c =
       contents = t.1 ∙ i.contents;
       empty = t.2;
       capacity = t.3;
-      passed = one_more_passed g.P.Port g.met.P.Port.goes_on d e f c.args.request c.args.contents k (get_or c.queues.result.now k 0) c.publish_to.ensures.later (subst (λ (xs : List ℕ). k < length xs) c.queues-k-end.ensures.value c.loop-k-test.true)
+      passed = one_more_passed g.P.Port g.met.P.Port.goes_on d e.port f.port c.args.request c.args.contents k (get_or c.queues.result.now k 0) c.publish_to.ensures.later (subst (λ (xs : List ℕ). k < length xs) c.queues-k-end.ensures.value c.loop-k-test.true)
           (ap (λ (xs : List ℕ). get_or xs k 0) (c.queues.ensures.value ∙ ap queues_of i.untouched.as_before.1)) i.passed
-          (no_room g.P.Port g.met.P.Port.stays d e f c.args.request c.args.contents c.loop-k.contents (get_or c.queues.result.now k 0) i.untouched i.contents t.4);
+          (no_room g.P.Port g.met.P.Port.stays d e f.port c.args.request c.args.contents c.loop-k.contents (get_or c.queues.result.now k 0) i.untouched i.contents t.4);
     }

@@ -11,5 +11,5 @@ invariant-loop-k g l = record {
   contents : l.contents ≡ l.fn.contents;
   empty : l.room.items ≡ [];
   capacity : entry_count l.fn.request.op ≤ vec_capacity l.room;
-  passed : PassedBelow g.P.Port l.fn.self l.self l.fn.request l.fn.contents l.k;
+  passed : PassedBelow g.P.Port l.fn.self l.self.port l.fn.request l.fn.contents l.k;
 }

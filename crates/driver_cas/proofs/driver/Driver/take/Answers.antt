@@ -10,6 +10,7 @@ invariant_of-self g c =
     let d = c.args.self.now in
     let k = c.args.call.now in
     record {
+      sole = d.sole;
       grows = d.grows;
       tidy = d.tidy;
       own = λ q h. d.own q (subst (λ (qs : List ℕ). Contains qs q) c.take_answer.ensures.queues h);

@@ -1,0 +1,54 @@
+-- What the engine answers a port's steps, and what the port makes of it.
+use Rattle.std.specs.Prelude.{Err, None, Ok, Option, Result, Some, suc, ℕ, ◌≡◌, ◌≢◌}
+use Rattle.nvme_model.specs.Passes.{entries}
+use Rattle.nvme_model.specs.Refusals.{refusal}
+use Rattle.nvme_model.specs.declared.refusal.Why.{Why}
+use Rattle.nvme_model.specs.declared.step.Step.{Step}
+use Rattle.meet_lock.specs.declared.pass.Declined.{Declined}
+use Rattle.step_core.specs.declared.answer.Refused.{Refused}
+use Rattle.driver_calls.specs.Views.{PortView}
+use Rattle.driver_cas.specs.declared.fault.PortFault.{PortFault}
+use Rattle.driver_cas.specs.declared.port.Reaped.{Reaped}
+
+-- the cause of a port's fault
+abbrev pub cause_of : PortFault → Why
+cause_of PortFault.RingFull = Why.NoRoom
+cause_of PortFault.Busy = Why.Busy
+cause_of PortFault.NoMemory = Why.NoMemory
+
+-- a Reap of a completion queue that is there isn't made for these causes alone
+abbrev pub IsReapDeclined : Declined → Type 0
+IsReapDeclined (Declined.Busy s) = Unit {0}
+IsReapDeclined (Declined.Refused (Refused.Step Why.NoCompletion)) = Unit {0}
+IsReapDeclined (Declined.Refused (Refused.Step Why.NoMemory)) = Unit {0}
+IsReapDeclined _ = ⊥
+
+-- what the port then answers: no fault where there is no completion
+abbrev pub IsReapFault : Declined → Option PortFault → Type 0
+IsReapFault (Declined.Busy s) o = o ≡ Some PortFault.Busy
+IsReapFault (Declined.Refused (Refused.Step Why.NoCompletion)) o = o ≡ None
+IsReapFault (Declined.Refused (Refused.Step Why.NoMemory)) o = o ≡ Some PortFault.NoMemory
+IsReapFault _ o = ⊥
+
+-- how many steps there are after a Reap that found this
+abbrev pub steps_with : Option Reaped → ℕ → ℕ
+steps_with None n = n
+steps_with (Some r) n = suc n
+
+-- What is known where the engine was asked for a port's completion and the port answers so, by the number of the
+-- engine's passes, and by what was known of the port before and is since: no completion was there. Or another caller
+-- had the controller, which one pass alone never meets, and nothing has changed. Or nothing but want of memory refuses
+-- it.
+abbrev pub IsReapedAs : ℕ → PortView → PortView → Result (Option Reaped) PortFault → Type 0
+IsReapedAs passes a b (Ok (Some r)) = Unit {0}
+IsReapedAs passes a b (Ok None) = refusal b.config (entries b.seen) (Step.Reap b.queue) ≡ Some Why.NoCompletion
+IsReapedAs passes a b (Err PortFault.RingFull) = ⊥
+IsReapedAs passes a b (Err PortFault.Busy) = (passes ≢ 1) × (b ≡ a)
+IsReapedAs passes a b (Err PortFault.NoMemory) = refusal b.config (entries b.seen) (Step.Reap b.queue) ≡ None
+
+-- How many notices are counted whose completions aren't reaped, before a Reap and after: one less where a completion
+-- came, none where none was there, and as many as before after a fault.
+abbrev pub IsCounted : ℕ → ℕ → Result (Option Reaped) PortFault → Type 0
+IsCounted before after (Ok (Some r)) = before ≡ suc after
+IsCounted before after (Ok None) = after ≡ 0
+IsCounted before after (Err f) = after ≡ before

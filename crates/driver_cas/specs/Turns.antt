@@ -1,0 +1,69 @@
+-- Which submission queue a call is tried on, and why others are passed over.
+use Rattle.std.specs.Prelude.{Contains, List, Some, true, ℕ, ◌<◌, ◌≡◌, ◌⊎◌}
+use Rattle.nvme_model.specs.Operations.{is_pair}
+use Rattle.nvme_model.specs.declared.operation.Op.{Op}
+use Rattle.nvme_model.specs.declared.submission.Submission.{Submission}
+use Rattle.cid_table.specs.Cids.{AtMostOneFree, Cids, NoneFreeBelow, held, queues_of}
+use Rattle.cid_table.specs.declared.held.Held.{Held}
+use Rattle.driver_commands.specs.Entries.{IsBatch}
+use Rattle.driver_commands.specs.declared.request.CallData.{CallData}
+use Rattle.driver_commands.specs.declared.request.Request.{Request}
+use Rattle.driver_cas.specs.declared.driver.Driver.{Driver}
+use Rattle.driver_cas.specs.declared.fault.PortFault.{PortFault}
+use Rattle.driver_cas.specs.declared.port.Port.{Ghosts}
+
+-- Two CIDs that a call of this operation may use: both are free, and those of a pair are unlike. Of any other operation
+-- only the first counts.
+pub record AreFree (cids : Cids) (o : Op) (queue first second : ℕ) : Type 0 where
+  pub first_free : held cids queue first ≡ Held.Free
+  pub second_free : held cids queue second ≡ Held.Free
+  pub first_below : first < 64
+  pub second_below : second < 64
+  pub unlike : is_pair (Some o) ≡ true → first < second
+
+-- too few CIDs of the submission queue are free for a call of this operation: none, or of a pair at most one
+abbrev pub HasTooFew : Cids → Op → ℕ → Type 0
+HasTooFew cids Op.Pair queue = AtMostOneFree cids queue
+HasTooFew cids _ queue = NoneFreeBelow cids queue 64
+
+-- enough of one of the submission queues are
+pub record HasEnough (cids : Cids) (o : Op) : Type 0 where
+  pub queue : ℕ
+  pub first : ℕ
+  pub second : ℕ
+  pub known : Contains (queues_of cids) queue
+  pub free : AreFree cids o queue first second
+
+module _ {P : Type 0} {g : Ghosts P} where
+  -- the port answered so, of these entries under CIDs that are free
+  abbrev pub IsRefusedFor : Driver P g → P → P → ℕ → Request → CallData → PortFault → Type 0
+  IsRefusedFor d before after queue r contents fault =
+      (first : ℕ) × (second : ℕ) × (batch : List Submission) × AreFree d.cids r.op queue first second
+      × IsBatch r.op r.slba r.blocks first second contents batch × g.refuses before after queue batch fault
+
+  -- it had no room for them at some moment after the driver and before a later port
+  pub record WasFull (d : Driver P g) (now : P) (queue : ℕ) (r : Request) (contents : CallData) : Type 0 where
+    pub before : P
+    pub after : P
+    pub later : g.follows d.port before
+    pub full : IsRefusedFor d before after queue r contents PortFault.RingFull
+    pub still_later : g.follows after now
+
+  -- too few CIDs of the submission queue are free, or the port had no room there
+  abbrev pub IsPassed : Driver P g → P → Request → CallData → ℕ → Type 0
+  IsPassed d now r contents queue = HasTooFew d.cids r.op queue ⊎ WasFull d now queue r contents
+
+  -- It is this submission queue's turn: each of the driver's that comes before it, which are in rising order, was
+  -- passed over.
+  abbrev pub IsTurn : Driver P g → P → Request → CallData → ℕ → Type 0
+  IsTurn d now r contents queue =
+      (other : ℕ) → Contains (queues_of d.cids) other → other < queue → IsPassed d now r contents other
+
+  -- On the submission queue whose turn it was the port answered so, last of all.
+  pub record IsEndedBy (d e : Driver P g) (r : Request) (contents : CallData) (fault : PortFault) : Type 0 where
+    pub queue : ℕ
+    pub before : P
+    pub known : Contains (queues_of d.cids) queue
+    pub turn : IsTurn d before r contents queue
+    pub later : g.follows d.port before
+    pub refused : IsRefusedFor d before e.port queue r contents fault
