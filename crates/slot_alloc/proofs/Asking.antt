@@ -1,6 +1,6 @@
 -- A claim at a later moment of its driver.
-use Rattle.std.proofs.Common.{None, Option, arith, ap, false, inl, inr, le-leb, lt-ltb, refl, subst, suc, sym, true, ℕ, ◌+◌, ◌<◌, ◌∙◌, ◌≡◌, ◌≢◌, ◌≤◌, ◌⊎◌}
-use Rattle.std.specs.Prelude.{Ok, Result}
+use Rattle.std.proofs.Common.{List, None, Option, Some, [], arith, ap, false, inl, le-leb, lt-ltb, refl, subst, sym, true, ℕ, ◌+◌, ◌<◌, ◌∙◌, ◌≡◌, ◌≢◌, ◌≤◌}
+use Rattle.std.specs.Prelude.{Err, Ok, Result}
 use Rattle.std.specs.declared.snapshot.Snapshot.{Snapshot}
 use Rattle.std.proofs.lemmas.Bool.{and_from}
 use Rattle.nvme_model.specs.Array.{has_block}
@@ -8,14 +8,11 @@ use Rattle.nvme_model.specs.declared.array.Range.{Range}
 use Rattle.nvme_model.specs.declared.status.Status.{Status}
 use Rattle.driver_calls.specs.declared.reply.Reply.{Reply}
 use Rattle.cid_table.specs.Cids.{Cids, held}
-use Rattle.driver_commands.specs.declared.request.CallData.{CallData}
-use Rattle.driver_commands.specs.declared.request.Request.{Request}
 use Rattle.driver_cas.proofs.Drivers.{reaped_calls}
 use Rattle.driver_cas.specs.Drivers.{HasSettings, IsCallOf, area_of, host_of, made, serial_of}
-use Rattle.driver_cas.specs.SlotStarts.{IsClaimFault, IsClaimStart, claim_data, swap_request}
+use Rattle.driver_cas.specs.SlotStarts.{IsClaimStart}
 use Rattle.driver_cas.specs.Starts.{IsAsBefore}
 use Rattle.driver_cas.specs.Tables.{is_free}
-use Rattle.driver_cas.specs.Tries.{IsPortFault}
 use Rattle.driver_cas.specs.declared.call.Call.{Call}
 use Rattle.driver_cas.specs.declared.driver.Driver.{Driver}
 use Rattle.driver_cas.specs.declared.fault.Fault.{Fault}
@@ -23,11 +20,13 @@ use Rattle.driver_cas.specs.declared.port.Port.{Ghosts}
 use Rattle.slot_calls.specs.Swaps.{log_released}
 use Rattle.slot_alloc.specs.Areas.{area, block_of}
 use Rattle.slot_alloc.specs.Careful.{GoesOn, IsCareful, ReleasedName, own_name}
-use Rattle.slot_alloc.specs.Claims.{AreTaken, ClaimSays, IsAsking, IsClaimingOf, IsStageUnreleased}
-use Rattle.slot_alloc.specs.Progresses.{IsSameClaiming, IsTried}
+use Rattle.slot_alloc.specs.Claims.{AreTaken, ClaimSays, IsAsking, IsClaimingOf, IsStageUnreleased, claims_in}
+use Rattle.slot_alloc.specs.Progresses.{told_of}
 use Rattle.slot_alloc.specs.declared.claiming.Claiming.{Claiming}
+use Rattle.slot_alloc.specs.declared.claiming.Lower.{Lower}
 use Rattle.slot_alloc.specs.declared.claiming.Reach.{Reach}
 use Rattle.slot_alloc.specs.declared.claiming.Stage.{Stage}
+use Rattle.slot_alloc.specs.declared.progress.Progress.{Progress}
 use Rattle.slot_alloc.specs.declared.slots.Slots.{Slots}
 use Rattle.slot_alloc.proofs.Starting.{Claims, asking_claimed, goes_on_claimed, unreleased_claimed}
 
@@ -42,12 +41,11 @@ module _ {P : Type 0} (g : Ghosts P) where
       record { began = y.began ∙ sym x.began; host = y.host ∙ sym x.host; acwu = y.acwu ∙ sym x.acwu; slots = y.slots ∙ sym x.slots; queues = y.queues ∙ sym x.queues }
 
   -- what a claim's answer said it goes on to say
-  pub says_on : ((a b c : P) → g.follows a b → g.follows b c → g.follows a c) → (d e began : Driver P g) (l : ℕ) (r : Result Reply Status) (released : Option ReleasedName) → GoesOn d e released → ClaimSays d began l r → ClaimSays e began l r
-  says_on on d e began l r released x s =
+  pub says_on : ((a b c : P) → g.follows a b → g.follows b c → g.follows a c) → (d e began : Driver P g) (l : ℕ) (k : Call P) (serial : ℕ) (r : Result Reply Status) (released : Option ReleasedName) → GoesOn d e released → ClaimSays d began l k serial r
+      → ClaimSays e began l k serial r
+  says_on on d e began l k serial r released x s =
       record {
         at = s.at;
-        call = s.call;
-        serial = s.serial;
         same = settings_from d e s.at x.settings s.same;
         begun = s.begun;
         later = on s.at.port d.port e.port s.later x.later;
@@ -57,9 +55,19 @@ module _ {P : Type 0} (g : Ghosts P) where
         says = s.says;
       }
 
-  pub taken_on : ((a b c : P) → g.follows a b → g.follows b c → g.follows a c) → (d e began : Driver P g) (n : ℕ) (released : Option ReleasedName) → GoesOn d e released → AreTaken d began n → AreTaken e began n
-  taken_on on d e began n released x h i less =
-      subst (λ (r : Range). ClaimSays e began (block_of r i) (Ok Reply.Differs)) (sym x.settings.slots) (says_on on d e began (block_of (area_of d) i) (Ok Reply.Differs) released x (h i less))
+  -- no slot lies below the first
+  pub none_taken : (d began : Driver P g) → AreTaken d began 0 []
+  none_taken d began = record { count = refl; says = λ i c there. absurd (let e : None ≡ Some c = there in cc) }
+
+  pub taken_on : ((a b c : P) → g.follows a b → g.follows b c → g.follows a c) → (d e began : Driver P g) (n : ℕ) (claims : List (Call P × ℕ)) (released : Option ReleasedName) → GoesOn d e released → AreTaken d began n claims
+      → AreTaken e began n claims
+  taken_on on d e began n claims released x h =
+      record {
+        count = h.count;
+        says = λ i c there.
+            subst (λ (r : Range). ClaimSays e began (block_of r i) c.0 c.1 (Ok Reply.Differs)) (sym x.settings.slots)
+            (says_on on d e began (block_of (area_of d) i) c.0 c.1 (Ok Reply.Differs) released x (h.says i c there));
+      }
 
   -- what is known of a claim that was begun
   pub claims_of : (d e : Driver P g) (slots : Slots) (slot l : ℕ) (k : Call P) (serial : ℕ) → l ≡ block_of (area slots) slot → HasSettings d e → g.follows d.port e.port → IsClaimStart d e l (Ok (k, serial))
@@ -77,9 +85,10 @@ module _ {P : Type 0} (g : Ghosts P) where
 
   -- the claim of the slot at hand was begun
   pub claiming_now : ((a b c : P) → g.follows a b → g.follows b c → g.follows a c) → (d e : Driver P g) (began : Snapshot (Driver P g)) (slots : Slots) (reach : Reach) (slot : ℕ) (k : Call P) (serial : ℕ)
-      → Claims g d e (block_of (area_of d) slot) k serial → area_of d ≡ area slots → slot < slots.count → g.follows began.value.port d.port → (reach ≡ Reach.Any → AreTaken d began.value slot)
-      → IsClaimingOf e (record { slots = slots; reach = reach; slot = slot; stage = Stage.Asked k serial; began = began })
-  claiming_now on d e began slots reach slot k serial c area_is inside since lower =
+      (claims : Snapshot (Lower P)) → Claims g d e (block_of (area_of d) slot) k serial → area_of d ≡ area slots → slot < slots.count → g.follows began.value.port d.port
+      → (reach ≡ Reach.Any → AreTaken d began.value slot (claims_in claims.value))
+      → IsClaimingOf e (record { slots = slots; reach = reach; slot = slot; stage = Stage.Asked k serial; began = began; lower = claims })
+  claiming_now on d e began slots reach slot k serial claims c area_is inside since lower =
       let x = goes_on_claimed g d e (block_of (area_of d) slot) k serial c in
       record {
         area_is = x.settings.slots ∙ area_is;
@@ -89,12 +98,12 @@ module _ {P : Type 0} (g : Ghosts P) where
           subst (λ (r : Range). IsAsking e (block_of r slot) k serial) (sym x.settings.slots) (asking_claimed g d e (block_of (area_of d) slot) k serial c),
           on began.value.port d.port k.start.value since c.start.2.since,
         );
-        lower = λ any. taken_on on d e began.value slot None x (lower any);
+        lower = λ any. taken_on on d e began.value slot (claims_in claims.value) None x (lower any);
       }
 
-  -- the pair of the slot at hand was tried
-  pub tried_of : (d e : Driver P g) (slots : Slots) (slot l : ℕ) (r : Result (Call P × ℕ) Fault) → l ≡ block_of (area slots) slot → area_of d ≡ area slots → IsClaimStart d e l r → IsTried d e slot
-  tried_of d e slots slot l r at is start = (r, subst (λ (b : ℕ). IsClaimStart d e b r) (at ∙ ap (λ (x : Range). block_of x slot) (sym is)) start)
+  -- the start of the claim of the slot at hand
+  pub start_of : (d e : Driver P g) (slots : Slots) (slot l : ℕ) (r : Result (Call P × ℕ) Fault) → l ≡ block_of (area slots) slot → area_of d ≡ area slots → IsClaimStart d e l r → IsClaimStart d e (block_of (area_of d) slot) r
+  start_of d e slots slot l r at is start = subst (λ (b : ℕ). IsClaimStart d e b r) (at ∙ ap (λ (x : Range). block_of x slot) (sym is)) start
 
   -- no release of its name was published
   pub unreleased_now : (d e : Driver P g) (slot : ℕ) (k : Call P) (serial : ℕ) → Claims g d e (block_of (area_of d) slot) k serial → IsCareful d → IsStageUnreleased e (block_of (area_of e) slot) (Stage.Asked k serial)
@@ -103,14 +112,14 @@ module _ {P : Type 0} (g : Ghosts P) where
 
   -- it is due
   pub claiming_due : ((a b c : P) → g.follows a b → g.follows b c → g.follows a c) → (d e : Driver P g) (k : Claiming P g) → IsClaimingOf d k → k.reach ≡ Reach.Any → GoesOn d e None
-      → IsClaimingOf e (record { slots = k.slots; reach = k.reach; slot = k.slot; stage = Stage.Due; began = k.began })
+      → IsClaimingOf e (record { slots = k.slots; reach = k.reach; slot = k.slot; stage = Stage.Due; began = k.began; lower = k.lower })
   claiming_due on d e k of any x =
       record {
         area_is = x.settings.slots ∙ of.area_is;
         inside = of.inside;
         since = on k.began.value.port d.port e.port of.since x.later;
         at = any;
-        lower = λ y. taken_on on d e k.began.value k.slot None x (of.lower y);
+        lower = λ y. taken_on on d e k.began.value k.slot (claims_in k.lower.value) None x (of.lower y);
       }
 
   -- a call after a fault
@@ -118,21 +127,17 @@ module _ {P : Type 0} (g : Ghosts P) where
   call_kept on d e k s drawn later x of =
       reaped_calls g on d e k (record { began = s.began; host = s.host; acwu = s.acwu; slots = s.slots; serial = drawn; queues = s.queues }) later (inl x.0) (λ q i. ap (λ (c : Cids). is_free (held c q i)) x.1) of
 
-  -- the same claim at the same slot
-  pub same_claiming : (k : Claiming P g) (stage : Stage P) → IsSameClaiming k (record { slots = k.slots; reach = k.reach; slot = k.slot; stage = stage; began = k.began })
-  same_claiming k stage = record { slots = refl; reach = refl; began = refl; slot = omega arith; alone = λ one. refl }
+  -- what is told of a start that was refused for another cause than want of serials or of room
+  pub told_later : (k : Claiming P g) (f : Fault) → f ≢ Fault.NoSerial → f ≢ Fault.RingFull → Progress.Later f (record k { stage = Stage.Due }) ≡ told_of k (Err f)
+  told_later k Fault.RingFull n m = absurd (m refl)
+  told_later k Fault.NoSerial n m = absurd (n refl)
+  told_later k Fault.Busy n m = refl
+  told_later k Fault.NoMemory n m = refl
+  told_later k Fault.Length n m = refl
+  told_later k Fault.TooLong n m = refl
+  told_later k (Fault.Status s) n m = refl
+  told_later k Fault.SlotArea n m = refl
 
-  -- why a claim isn't begun now, where neither serials nor CIDs nor room are lacking
-  pub later_cause : (d e : Driver P g) (r : Request) (contents : CallData) (f : Fault) → IsPortFault d e r contents f → f ≢ Fault.RingFull → (f ≡ Fault.Busy) ⊎ (f ≡ Fault.NoMemory)
-  later_cause d e r contents Fault.RingFull h n = absurd (n refl)
-  later_cause d e r contents Fault.Busy h n = inl refl
-  later_cause d e r contents Fault.NoMemory h n = inr refl
-  later_cause d e r contents Fault.Length h n = absurd h
-  later_cause d e r contents Fault.TooLong h n = absurd h
-  later_cause d e r contents (Fault.Status s) h n = absurd h
-  later_cause d e r contents Fault.SlotArea h n = absurd h
-  later_cause d e r contents Fault.NoSerial h n = absurd h
-
-  pub claim_cause : (d e : Driver P g) (l : ℕ) (f : Fault) → IsClaimFault d e l f → f ≢ Fault.NoSerial → f ≢ Fault.RingFull → (f ≡ Fault.Busy) ⊎ (f ≡ Fault.NoMemory)
-  claim_cause d e l f (inl x) n m = absurd (n x.0)
-  claim_cause d e l f (inr x) n m = later_cause d e (swap_request l) (claim_data (host_of d) (suc (serial_of d))) f x.1 m
+  -- for want of room
+  pub told_full : (k : Claiming P g) (f : Fault) → f ≡ Fault.RingFull → Progress.Pending (record k { stage = Stage.Due }) ≡ told_of k (Err f)
+  told_full k f full = ap (λ (x : Fault). told_of k (Err x)) (sym full)

@@ -5,6 +5,7 @@ use Rattle.nvme_model.specs.Array.{has_block}
 use Rattle.nvme_model.specs.Slots.{Name}
 use Rattle.nvme_model.specs.declared.array.Range.{Range}
 use Rattle.nvme_model.specs.declared.operation.Op.{Op}
+use Rattle.nvme_model.specs.declared.status.Status.{Status}
 use Rattle.driver_calls.specs.Says.{outcome}
 use Rattle.driver_calls.specs.declared.event.PortEvent.{PortEvent}
 use Rattle.driver_calls.specs.declared.reply.Reply.{Reply}
@@ -24,13 +25,14 @@ use Rattle.slot_calls.specs.Swaps.{log_believed}
 use Rattle.slot_alloc.specs.Areas.{block_of, serial_of, slot_of}
 use Rattle.slot_alloc.specs.Careful.{GoesOn, IsCareful, LogGoesOn, own_name}
 use Rattle.slot_alloc.specs.Claims.{IsHeldBy, IsReleasingOf}
+use Rattle.slot_alloc.specs.Progresses.{IsQuiet}
 use Rattle.slot_alloc.specs.Releases.{IsReleased}
 use Rattle.slot_alloc.specs.declared.claim.Claim.{Claim}
 use Rattle.slot_alloc.specs.declared.progress.Released.{Released}
 use Rattle.slot_alloc.specs.declared.release.Releasing.{Releasing}
 use Rattle.slot_alloc.proofs.Asking.{inside_of}
 use Rattle.slot_alloc.proofs.Logs.{release_on}
-use Rattle.slot_alloc.proofs.Polling.{Polls, pair_reply}
+use Rattle.slot_alloc.proofs.Polling.{Polls, pair_reply, quiet_polled}
 use Rattle.slot_alloc.proofs.Starting.{careful_same, goes_on_any, goes_on_same, number_now, number_same, settings_of}
 
 module _ {P : Type 0} (g : Ghosts P) where
@@ -102,16 +104,21 @@ module _ {P : Type 0} (g : Ghosts P) where
   release_more log more q first second j l n (inr e) c =
       subst (λ (xs : List PortEvent). IsReleaseIn xs q first second j l n) (sym e.2) (release_in_later (PortEvent.Got e.0 e.1 ∷ []) log q first second j l n c c.call)
 
+  -- the release stands in the log after a poll
+  pub release_there : (d e : Driver P g) (k : Releasing P) → IsReleasingOf d k → IsQuiet d e
+      → IsReleaseIn (made e) k.call.queue k.call.first k.call.second (number_of e k.call) (block_of (area_of e) k.slot) (own_name e k.serial)
+  release_there d e k of x =
+      subst (λ (z : ℕ × ℕ × Range). IsReleaseIn (made e) k.call.queue k.call.first k.call.second z.0 (block_of z.2 k.slot) (record { host = z.1; serial = k.serial }))
+      (λ i. (sym (number_same g d e k.call (settings_of g d e x.same)) i, sym x.same.host i, sym x.same.slots i))
+      (release_more (made d) (made e) k.call.queue k.call.first k.call.second (number_of d k.call) (block_of (area_of d) k.slot) (own_name d k.serial) x.one of.release)
+
+  pub inside_there : (d e : Driver P g) (k : Releasing P) → IsReleasingOf d k → IsQuiet d e → k.slot < (area_of e).blocks
+  inside_there d e k of x = subst (λ (r : Range). k.slot < r.blocks) (sym x.same.slots) of.inside
+
   pub releasing_polled : (d e : Driver P g) (k : Releasing P) → IsReleasingOf d k → Polls g d e → IsCallOf e k.call → IsReleasingOf e k
   releasing_polled d e k of x call_of =
-      record {
-        of = call_of;
-        does = of.does;
-        inside = subst (λ (r : Range). k.slot < r.blocks) (sym x.same.slots) of.inside;
-        release = subst (λ (z : ℕ × ℕ × Range). IsReleaseIn (made e) k.call.queue k.call.first k.call.second z.0 (block_of z.2 k.slot) (record { host = z.1; serial = k.serial }))
-            (λ i. (sym (number_same g d e k.call (settings_of g d e x.same)) i, sym x.same.host i, sym x.same.slots i))
-            (release_more (made d) (made e) k.call.queue k.call.first k.call.second (number_of d k.call) (block_of (area_of d) k.slot) (own_name d k.serial) x.one of.release);
-      }
+      let quiet = quiet_polled g d e x in
+      record { of = call_of; does = of.does; inside = inside_there d e k of quiet; release = release_there d e k of quiet }
 
   -- the release's call comes back
   pub same_releasing : (k : Releasing P) (call : Call P) → call ≡ k.call → (let j : Releasing P = record { slot = k.slot; serial = k.serial; call = call } in j) ≡ k
@@ -130,3 +137,17 @@ module _ {P : Type 0} (g : Ghosts P) where
   failed_release e k Fault.NoMemory back answer says = absurd back
   failed_release e k Fault.SlotArea back answer says = absurd back
   failed_release e k Fault.NoSerial back answer says = absurd back
+
+  -- what is answered by success alone isn't told as failed
+  pub never_failed : (e : Driver P g) (k : Releasing P) (f : Fault) → ((r : Result Reply Status) → answer_to e k.call ≡ Some r → r ≡ Ok Reply.Swapped) → IsReleased e k (Released.Failed f) → ⊥
+  never_failed e k (Fault.Status s) only h = elim h [
+    | inl a ↦ let is : Err s ≡ Ok Reply.Swapped = only (Err s) a.0 in absurd (cc)
+    | inr b ↦ let is : Ok Reply.Differs ≡ Ok Reply.Swapped = only (Ok Reply.Differs) b.1.0 in absurd (cc)
+  ]
+  never_failed e k Fault.Length only h = h
+  never_failed e k Fault.TooLong only h = h
+  never_failed e k Fault.RingFull only h = h
+  never_failed e k Fault.Busy only h = h
+  never_failed e k Fault.NoMemory only h = h
+  never_failed e k Fault.SlotArea only h = h
+  never_failed e k Fault.NoSerial only h = h

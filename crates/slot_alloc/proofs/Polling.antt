@@ -1,7 +1,9 @@
 -- A claim after a poll of its call.
-use Rattle.std.proofs.Common.{Bool, List, None, Some, [], arith, cond, false, inl, inr, refl, subst, sym, true, ℕ, ◌+◌, ◌<◌, ◌∙◌, ◌∷◌, ◌≡◌, ◌≢◌, ap}
+use Rattle.std.proofs.Common.{Bool, List, None, Some, [], arith, cond, false, inl, inr, length, refl, subst, suc, sym, true, ℕ, ◌+◌, ◌++◌, ◌<◌, ◌∙◌, ◌∷◌, ◌≡◌, ◌≢◌, ◌⊎◌, ap, zero}
+use Rattle.std.proofs.lemmas.List.{length-append}
+use Rattle.std.specs.List.{slice_get}
 use Rattle.std.specs.Prelude.{Err, Ok, Result}
-use Rattle.std.proofs.lemmas.Bool.{cases_lt}
+use Rattle.std.specs.declared.snapshot.Snapshot.{Snapshot}
 use Rattle.nvme_model.specs.Statuses.{compare_failure, is_success, same_status}
 use Rattle.nvme_model.specs.Slots.{Name}
 use Rattle.nvme_model.specs.declared.array.Range.{Range}
@@ -11,7 +13,7 @@ use Rattle.host_laws.specs.Calls.{status_in}
 use Rattle.driver_calls.specs.Says.{outcome}
 use Rattle.driver_calls.specs.declared.event.PortEvent.{PortEvent}
 use Rattle.driver_calls.specs.declared.reply.Reply.{Reply}
-use Rattle.driver_cas.specs.Drivers.{IsBack, IsCallOf, IsOneMore, IsSame, Says, answer_to, area_of, made, number_of, told}
+use Rattle.driver_cas.specs.Drivers.{IsBack, IsCallOf, IsOneMore, IsSame, Says, answer_to, area_of, made, number_of, told as told_by}
 use Rattle.driver_cas.specs.declared.call.Call.{Call}
 use Rattle.driver_cas.specs.declared.call.Poll.{Poll}
 use Rattle.driver_cas.specs.declared.driver.Driver.{Driver}
@@ -23,9 +25,10 @@ use Rattle.slot_calls.specs.Careful.{is_careful}
 use Rattle.slot_calls.specs.Swaps.{log_released}
 use Rattle.slot_alloc.specs.Areas.{block_of}
 use Rattle.slot_alloc.specs.Careful.{GoesOn, IsCareful, own_name}
-use Rattle.slot_alloc.specs.Claims.{AreTaken, ClaimSays, IsAsking, IsClaimingOf, IsAt, IsHeldBy, IsStageUnreleased, IsUnreleased, IsWonBy}
-use Rattle.slot_alloc.specs.Progresses.{IsAsked, IsHeldOn, IsLost, IsNext, IsProgress, IsQuiet, IsSameClaiming, IsTurn}
+use Rattle.slot_alloc.specs.Claims.{AreTaken, ClaimSays, IsAsking, IsClaimingOf, IsAt, IsHeldBy, IsStageUnreleased, IsUnreleased, IsWonBy, claims_in, lower_of}
+use Rattle.slot_alloc.specs.Progresses.{AreAllTaken, GoesToNext, IsEnded, IsHeldOn, IsLost, IsLostOn, IsNext, IsPolled, IsProgress, IsQuiet, IsWaiting, told_of}
 use Rattle.slot_alloc.specs.declared.claiming.Claiming.{Claiming}
+use Rattle.slot_alloc.specs.declared.claiming.Lower.{Lower}
 use Rattle.slot_alloc.specs.declared.claiming.Reach.{Reach}
 use Rattle.slot_alloc.specs.declared.claiming.Stage.{Stage}
 use Rattle.slot_alloc.specs.declared.progress.Progress.{Progress}
@@ -59,6 +62,22 @@ any_reach Reach.Any h = refl
 careful_more : (slots : Range) (host last : ℕ) (log more : List PortEvent) → IsOneMore log more → is_careful slots host last more ≡ is_careful slots host last log
 careful_more slots host last log more (inl e) = ap (is_careful slots host last) e
 careful_more slots host last log more (inr e) = ap (is_careful slots host last) e.2
+
+some_one : {A : Type 0} (x y : A) → Some x ≡ Some y → x ≡ y
+some_one x y h = cc
+
+-- one of a longer list is one of the shorter, or the last
+last_or_lower : {A : Type 0} (xs : List A) (x y : A) (i : ℕ) → slice_get (xs ++ x ∷ []) i ≡ Some y → (slice_get xs i ≡ Some y) ⊎ ((length xs ≡ i) × (x ≡ y))
+last_or_lower [] x y zero h = inr (refl, some_one x y h)
+last_or_lower [] x y (suc i) h = absurd (let e : None ≡ Some y = h in cc)
+last_or_lower (z ∷ xs) x y zero h = inl h
+last_or_lower (z ∷ xs) x y (suc i) h = elim (last_or_lower xs x y i h) [
+  | inl a ↦ inl a
+  | inr b ↦ inr (ap (λ (n : ℕ). suc n) b.0, b.1)
+]
+
+one_more : {A : Type 0} (xs : List A) (x : A) (n : ℕ) → length xs ≡ n → length (xs ++ x ∷ []) ≡ n + 1
+one_more xs x n is = length-append xs (x ∷ []) ∙ ap (λ (m : ℕ). m + 1) is
 
 module _ {P : Type 0} (g : Ghosts P) where
   -- what came of a call by a poll
@@ -105,7 +124,7 @@ module _ {P : Type 0} (g : Ghosts P) where
   within d k of = subst (λ (r : Range). k.slot < r.blocks) (sym of.area_is) of.inside
 
   pub claiming_polled : ((a b c : P) → g.follows a b → g.follows b c → g.follows a c) → (d e : Driver P g) (k : Claiming P g) (call : Call P) (serial : ℕ) → IsClaimingOf d k → k.stage ≡ Stage.Asked call serial → Polls d e → IsCallOf e call
-      → IsClaimingOf e (record { slots = k.slots; reach = k.reach; slot = k.slot; stage = Stage.Asked call serial; began = k.began })
+      → IsClaimingOf e (record { slots = k.slots; reach = k.reach; slot = k.slot; stage = Stage.Asked call serial; began = k.began; lower = k.lower })
   claiming_polled on d e k call serial of is x call_of =
       let a = asked d k call serial of is in
       let gone = goes_on_polled d e x in
@@ -121,7 +140,7 @@ module _ {P : Type 0} (g : Ghosts P) where
           }),
           a.1,
         );
-        lower = λ any. taken_on g on d e k.began.value k.slot None gone (of.lower any);
+        lower = λ any. taken_on g on d e k.began.value k.slot (lower_of k) None gone (of.lower any);
       }
 
   -- the claim of the slot at hand is one of the name that the driver has for this serial
@@ -138,13 +157,11 @@ module _ {P : Type 0} (g : Ghosts P) where
       unreleased_polled d e k.slot call serial x (within d k of) (subst (λ (s : Stage P). IsStageUnreleased d (block_of (area_of d) k.slot) s) is h)
 
   pub says_polled : ((a : P) → g.follows a a) → (d e : Driver P g) (k : Claiming P g) (call : Call P) (serial : ℕ) (r : Result Reply Status) → IsClaimingOf d k → k.stage ≡ Stage.Asked call serial → Polls d e → answer_to e call ≡ Some r → Says e call (Some r)
-      → ClaimSays e k.began.value (block_of (area_of e) k.slot) r
+      → ClaimSays e k.began.value (block_of (area_of e) k.slot) call serial r
   says_polled stays d e k call serial r of is x answer says =
       let a = asked d k call serial of is in
       record {
         at = e;
-        call = call;
-        serial = serial;
         same = record { began = refl; host = refl; acwu = refl; slots = refl; queues = refl };
         begun = a.1;
         later = stays e.port;
@@ -154,22 +171,33 @@ module _ {P : Type 0} (g : Ghosts P) where
         says = says;
       }
 
-  pub won_polled : ((a : P) → g.follows a a) → (d e : Driver P g) (k : Claiming P g) (call : Call P) (serial : ℕ) → IsClaimingOf d k → k.stage ≡ Stage.Asked call serial → Polls d e → answer_to e call ≡ Some (Ok Reply.Swapped)
-      → Says e call (Some (Ok Reply.Swapped)) → IsWonBy e k.began.value (record { slot = k.slot; serial = serial })
-  unfolding says_polled
-  won_polled stays d e k call serial of is x answer says =
+  pub quiet_polled : (d e : Driver P g) → Polls d e → IsQuiet d e
+  quiet_polled d e x = record { same = x.same; one = x.one }
+
+  pub ended_polled : ((a : P) → g.follows a a) → (d e : Driver P g) (k : Claiming P g) (call : Call P) (serial : ℕ) (r : Result Reply Status) → IsClaimingOf d k → k.stage ≡ Stage.Asked call serial → Polls d e → answer_to e call ≡ Some r → Says e call (Some r)
+      → IsEnded d e k call serial r
+  ended_polled stays d e k call serial r of is x answer says = record { quiet = quiet_polled d e x; answer = answer; says = says_polled stays d e k call serial r of is x answer says }
+
+  -- it goes on as it is
+  pub waiting_polled : (d e : Driver P g) (k : Claiming P g) (call back : Call P) (serial : ℕ) → k.stage ≡ Stage.Asked call serial → back ≡ call → Polls d e → None ≡ answer_to e call
+      → IsWaiting d e k call (record { slots = k.slots; reach = k.reach; slot = k.slot; stage = Stage.Asked back serial; began = k.began; lower = k.lower })
+  waiting_polled d e k call back serial is same x waits =
+      let stage : Stage.Asked back serial ≡ k.stage = ap (λ (c : Call P). Stage.Asked c serial) same ∙ sym is in
+      record { quiet = quiet_polled d e x; waits = sym waits; same = ap (λ (s : Stage P). record { slots = k.slots; reach = k.reach; slot = k.slot; stage = s; began = k.began; lower = k.lower }) stage }
+
+  pub won_polled : (d e : Driver P g) (k : Claiming P g) (call : Call P) (serial : ℕ) → IsClaimingOf d k → k.stage ≡ Stage.Asked call serial → Polls d e → answer_to e call ≡ Some (Ok Reply.Swapped)
+      → IsWonBy e (record { slot = k.slot; serial = serial })
+  won_polled d e k call serial of is x answer =
       let there = claim_there d e k call serial of is x in
       record {
         inside = subst (λ (r : Range). k.slot < r.blocks) (sym x.same.slots) (within d k of);
-        won = says_polled stays d e k call serial (Ok Reply.Swapped) of is x answer says;
-        serial = refl;
         name = there.name;
         believed = won_by_log (made e) call.queue call.first call.second (number_of e call) (block_of (area_of e) k.slot) (own_name e serial) there
             (subst (λ (o : Op). outcome (made e) call.queue o call.first call.second ≡ Some (Ok Reply.Swapped)) (asked d k call serial of is).0.does answer);
       }
 
   pub held_polled : (d e : Driver P g) (k : Claiming P g) (call : Call P) (serial : ℕ) → IsClaimingOf d k → k.stage ≡ Stage.Asked call serial → Polls d e
-      → IsWonBy e k.began.value (record { slot = k.slot; serial = serial }) → IsUnreleased d k → IsHeldBy e (record { slot = k.slot; serial = serial })
+      → IsWonBy e (record { slot = k.slot; serial = serial }) → IsUnreleased d k → IsHeldBy e (record { slot = k.slot; serial = serial })
   held_polled d e k call serial of is x won h =
       record {
         inside = won.inside;
@@ -178,8 +206,8 @@ module _ {P : Type 0} (g : Ghosts P) where
       }
 
   pub failed_polled : ((a : P) → g.follows a a) → (d e : Driver P g) (k : Claiming P g) (call : Call P) (serial : ℕ) (f : Fault) → IsClaimingOf d k → k.stage ≡ Stage.Asked call serial → Polls d e
-      → IsBack call (Poll.Failed f) → told {P = P} (Poll.Failed f) ≡ answer_to e call → Says e call (told {P = P} (Poll.Failed f)) → IsProgress e k (Progress.Failed f)
-  failed_polled stays d e k call serial (Fault.Status s) of is x back answer says = says_polled stays d e k call serial (Err s) of is x (sym answer) says
+      → IsBack call (Poll.Failed f) → told_by {P = P} (Poll.Failed f) ≡ answer_to e call → Says e call (told_by {P = P} (Poll.Failed f)) → IsPolled d e k call serial (Progress.Failed f)
+  failed_polled stays d e k call serial (Fault.Status s) of is x back answer says = ended_polled stays d e k call serial (Err s) of is x (sym answer) says
   failed_polled stays d e k call serial Fault.Length of is x back answer says = absurd back
   failed_polled stays d e k call serial Fault.TooLong of is x back answer says = absurd back
   failed_polled stays d e k call serial Fault.RingFull of is x back answer says = absurd back
@@ -188,60 +216,116 @@ module _ {P : Type 0} (g : Ghosts P) where
   failed_polled stays d e k call serial Fault.SlotArea of is x back answer says = absurd back
   failed_polled stays d e k call serial Fault.NoSerial of is x back answer says = absurd back
 
-  pub lost_polled : ((a : P) → g.follows a a) → ((a b c : P) → g.follows a b → g.follows b c → g.follows a c) → (d e : Driver P g) (k : Claiming P g) (call : Call P) (serial : ℕ) (reply : Reply) → IsClaimingOf d k → k.stage ≡ Stage.Asked call serial
-      → Polls d e → reply ≢ Reply.Swapped → answer_to e call ≡ Some (Ok reply) → Says e call (Some (Ok reply)) → IsLost e (record { slots = k.slots; reach = k.reach; slot = k.slot; stage = Stage.Due; began = k.began })
-  lost_polled stays on d e k call serial reply of is x other answer says =
+  -- somebody else has the slot
+  pub differs_ended : ((a : P) → g.follows a a) → (d e : Driver P g) (k : Claiming P g) (call : Call P) (serial : ℕ) (reply : Reply) → IsClaimingOf d k → k.stage ≡ Stage.Asked call serial
+      → Polls d e → reply ≢ Reply.Swapped → answer_to e call ≡ Some (Ok reply) → Says e call (Some (Ok reply)) → IsEnded d e k call serial (Ok Reply.Differs)
+  differs_ended stays d e k call serial reply of is x other answer says =
       let a = asked d k call serial of is in
       let differs = pair_reply (made e) call.queue call.first call.second reply (subst (λ (o : Op). outcome (made e) call.queue o call.first call.second ≡ Some (Ok reply)) a.0.does answer) other in
+      subst (λ (y : Reply). IsEnded d e k call serial (Ok y)) differs (ended_polled stays d e k call serial (Ok reply) of is x answer says)
+
+  pub lost_polled : ((a b c : P) → g.follows a b → g.follows b c → g.follows a c) → (d e : Driver P g) (k : Claiming P g) (call : Call P) (serial : ℕ) → IsClaimingOf d k → Polls d e → IsEnded d e k call serial (Ok Reply.Differs)
+      → IsLost e (record { slots = k.slots; reach = k.reach; slot = k.slot; stage = Stage.Due; began = k.began; lower = k.lower }) call serial
+  lost_polled on d e k call serial of x ended =
       record {
         area_is = x.same.slots ∙ of.area_is;
         inside = of.inside;
         since = on k.began.value.port d.port e.port of.since x.later;
-        taken = subst (λ (y : Reply). ClaimSays e k.began.value (block_of (area_of e) k.slot) (Ok y)) differs (says_polled stays d e k call serial (Ok reply) of is x answer says);
-        lower = λ any. taken_on g on d e k.began.value k.slot None (goes_on_polled d e x) (of.lower any);
+        taken = ended.says;
+        lower = λ any. taken_on g on d e k.began.value k.slot (lower_of k) None (goes_on_polled d e x) (of.lower any);
       }
 
   -- ---- the next slot
 
-  pub taken_more : (d began : Driver P g) (n : ℕ) → AreTaken d began n → ClaimSays d began (block_of (area_of d) n) (Ok Reply.Differs) → AreTaken d began (n + 1)
-  taken_more d began n below here i less = elim (cases_lt i n) [
-    | inl before ↦ below i before
-    | inr not_before ↦
-        let same : n ≡ i = omega arith in
-        subst (λ (j : ℕ). ClaimSays d began (block_of (area_of d) j) (Ok Reply.Differs)) same here
-  ]
+  taken_more : (d began : Driver P g) (n : ℕ) (claims : List (Call P × ℕ)) (call : Call P) (serial : ℕ) → AreTaken d began n claims → ClaimSays d began (block_of (area_of d) n) call serial (Ok Reply.Differs)
+      → AreTaken d began (n + 1) (claims ++ (call, serial) ∷ [])
+  taken_more d began n claims call serial below here =
+      record {
+        count = one_more claims (call, serial) n below.count;
+        says = λ i c there. elim (last_or_lower claims (call, serial) c i there) [
+          | inl before ↦ below.says i c before
+          | inr last ↦
+              let at : n ≡ i = sym below.count ∙ last.0 in
+              subst (λ (z : ℕ × (Call P × ℕ)). ClaimSays d began (block_of (area_of d) z.0) z.1.0 z.1.1 (Ok Reply.Differs)) (λ j. (at j, last.1 j)) here
+        ];
+      }
 
-  pub all_taken : (d : Driver P g) (k : Claiming P g) → IsLost d k → k.reach ≡ Reach.Any → k.slot + 1 ≡ k.slots.count → AreTaken d k.began.value (area_of d).blocks
-  all_taken d k lost any last =
-      subst (λ (n : ℕ). AreTaken d k.began.value n) (last ∙ ap (λ (r : Range). r.blocks) (sym lost.area_is)) (taken_more d k.began.value k.slot (lost.lower any) lost.taken)
+  pub all_taken : (d : Driver P g) (k : Claiming P g) (call : Call P) (serial : ℕ) → IsLost d k call serial → k.reach ≡ Reach.Any → k.slot + 1 ≡ k.slots.count → AreAllTaken d k call serial
+  all_taken d k call serial lost any last = (
+    any,
+    subst (λ (n : ℕ). AreTaken d k.began.value n (lower_of k ++ (call, serial) ∷ [])) (last ∙ ap (λ (r : Range). r.blocks) (sym lost.area_is))
+        (taken_more d k.began.value k.slot (lower_of k) call serial (lost.lower any) lost.taken),
+  )
 
-  pub next_claiming : (d : Driver P g) (k : Claiming P g) → IsLost d k → k.reach ≡ Reach.Any → k.slot + 1 ≢ k.slots.count
-      → IsClaimingOf d (record { slots = k.slots; reach = k.reach; slot = k.slot + 1; stage = Stage.Due; began = k.began })
-  next_claiming d k lost any more =
+  pub next_claiming : (d : Driver P g) (k : Claiming P g) (call : Call P) (serial : ℕ) (more : Snapshot (Lower P)) → IsLost d k call serial → k.reach ≡ Reach.Any → k.slot + 1 ≢ k.slots.count → claims_in more.value ≡ lower_of k ++ (call, serial) ∷ []
+      → IsClaimingOf d (record { slots = k.slots; reach = k.reach; slot = k.slot + 1; stage = Stage.Due; began = k.began; lower = more })
+  next_claiming d k call serial more lost any room is =
       let inside = lost.inside in
       record {
         area_is = lost.area_is;
-        inside = omega (arith, inside, more);
+        inside = omega (arith, inside, room);
         since = lost.since;
         at = any;
-        lower = λ y. taken_more d k.began.value k.slot (lost.lower any) lost.taken;
+        lower = λ y.
+            subst (λ (claims : List (Call P × ℕ)). AreTaken d k.began.value (k.slot + 1) claims) (sym is)
+            (taken_more d k.began.value k.slot (lower_of k) call serial (lost.lower any) lost.taken);
       }
 
-  same_next : (k j : Claiming P g) → k.reach ≡ Reach.Any → IsSameClaiming (record { slots = k.slots; reach = k.reach; slot = k.slot + 1; stage = Stage.Due; began = k.began }) j → IsSameClaiming k j
-  same_next k j any x =
-      let slot = x.slot in
-      record { slots = x.slots; reach = x.reach; began = x.began; slot = omega (arith, slot); alone = λ one. absurd (let e : Reach.One ≡ Reach.Any = sym one ∙ any in cc) }
+  pub next_of : (d : Driver P g) (k : Claiming P g) (call : Call P) (serial : ℕ) (more : Snapshot (Lower P)) → IsLost d k call serial → k.reach ≡ Reach.Any → k.slot + 1 ≢ k.slots.count → claims_in more.value ≡ lower_of k ++ (call, serial) ∷ []
+      → IsNext k (record { slots = k.slots; reach = k.reach; slot = k.slot + 1; stage = Stage.Due; began = k.began; lower = more }) call serial
+  next_of d k call serial more lost any room is =
+      let inside = lost.inside in
+      record { any = any; slots = refl; reach = refl; slot = refl; inside = omega (arith, inside, room); began = refl; lower = is }
 
-  due_same : (k j : Claiming P g) → IsSameClaiming (record { slots = k.slots; reach = k.reach; slot = k.slot; stage = Stage.Due; began = k.began }) j → IsSameClaiming k j
-  due_same k j x = record { slots = x.slots; reach = x.reach; began = x.began; slot = x.slot; alone = x.alone }
+  -- where the claim of the slot at hand was lost nothing is held yet
+  pub lost_held : (d e : Driver P g) (k : Claiming P g) (call : Call P) (serial : ℕ) (r : Progress P g) → IsLostOn d e k call serial r → IsHeldOn e r
+  lost_held d e k call serial r on = elim on [
+    | inl taken ↦ subst (λ (x : Progress P g). IsHeldOn e x) (sym taken.0) tt
+    | inr more ↦ elim more [
+      | inl all ↦ subst (λ (x : Progress P g). IsHeldOn e x) (sym all.0) tt
+      | inr next ↦ subst (λ (x : Progress P g). IsHeldOn e x) (sym next.2.told) (told_held next.0 next.2.start)
+    ]
+  ]
+    where
+      told_held : (j : Claiming P g) (start : Result (Call P × ℕ) Fault) → IsHeldOn e (told_of j start)
+      told_held j (Ok x) = tt
+      told_held j (Err Fault.RingFull) = tt
+      told_held j (Err Fault.NoSerial) = tt
+      told_held j (Err Fault.Busy) = tt
+      told_held j (Err Fault.NoMemory) = tt
+      told_held j (Err Fault.Length) = tt
+      told_held j (Err Fault.TooLong) = tt
+      told_held j (Err (Fault.Status s)) = tt
+      told_held j (Err Fault.SlotArea) = tt
 
-  pub due_progress : (e : Driver P g) (k : Claiming P g) (r : Progress P g) → IsProgress e (record { slots = k.slots; reach = k.reach; slot = k.slot; stage = Stage.Due; began = k.began }) r → IsProgress e k r
-  due_progress e k (Progress.Pending j) h = (due_same k j h.0, h.1)
-  due_progress e k (Progress.Later f j) h = (due_same k j h.0, h.1, h.2)
-  due_progress e k (Progress.Held c) h = h
-  due_progress e k Progress.Taken h = h
-  due_progress e k Progress.AllTaken h = h
-  due_progress e k (Progress.Failed f) h = h
+  -- what a poll gives then
+  pub polled_lost : (d e f : Driver P g) (k : Claiming P g) (call : Call P) (serial : ℕ) (r : Progress P g) → IsEnded d e k call serial (Ok Reply.Differs)
+      → IsLostOn e f (record { slots = k.slots; reach = k.reach; slot = k.slot; stage = Stage.Due; began = k.began; lower = k.lower }) call serial r → IsPolled d f k call serial r
+  polled_lost d e f k call serial r ended on = elim on [
+    | inl taken ↦ subst (λ (x : Progress P g). IsPolled d f k call serial x) (sym taken.0) (taken.2, same taken.1)
+    | inr more ↦ elim more [
+      | inl all ↦ subst (λ (x : Progress P g). IsPolled d f k call serial x) (sym all.0) (same all.1, subst (λ (x : Driver P g). AreAllTaken x k call serial) (sym all.1) all.2)
+      | inr next ↦
+          let is : IsNext k next.0 call serial =
+          record { any = next.1.any; slots = next.1.slots; reach = next.1.reach; slot = next.1.slot; inside = next.1.inside; began = next.1.began; lower = next.1.lower } in
+          subst (λ (x : Progress P g). IsPolled d f k call serial x) (sym next.2.told)
+          (told next.0 next.2.start (record { at = e; lost = ended; tries = (next.0, is, record { start = next.2.start; is = next.2.is; told = refl }) }))
+    ]
+  ]
+    where
+      same : f ≡ e → IsEnded d f k call serial (Ok Reply.Differs)
+      same is = subst (λ (x : Driver P g). IsEnded d x k call serial (Ok Reply.Differs)) (sym is) ended
+
+      told : (j : Claiming P g) (start : Result (Call P × ℕ) Fault) → GoesToNext d f k call serial (told_of j start) → IsPolled d f k call serial (told_of j start)
+      told j (Ok x) h = inr h
+      told j (Err Fault.RingFull) h = inr h
+      told j (Err Fault.NoSerial) h = h
+      told j (Err Fault.Busy) h = inr h
+      told j (Err Fault.NoMemory) h = inr h
+      told j (Err Fault.Length) h = inr h
+      told j (Err Fault.TooLong) h = inr h
+      told j (Err (Fault.Status s)) h = inr h
+      told j (Err Fault.SlotArea) h = inr h
 
   -- one moment after the other
   pub goes_on_on : ((a b c : P) → g.follows a b → g.follows b c → g.follows a c) → (d e f : Driver P g) → GoesOn d e None → GoesOn e f None → GoesOn d f None
@@ -257,46 +341,6 @@ module _ {P : Type 0} (g : Ghosts P) where
         log = on_on (area_of d) (made d) (made e) (made f) x.log (on_same (area_of e) (area_of d) (made e) (made f) None (sym s.slots) y.log);
       }
 
-  pub asked_progress : (e : Driver P g) (k : Claiming P g) (r : Progress P g) → k.reach ≡ Reach.Any
-      → IsAsked e (record { slots = k.slots; reach = k.reach; slot = k.slot + 1; stage = Stage.Due; began = k.began }) r → IsProgress e k r
-  asked_progress e k (Progress.Pending j) any h = (same_next k j any h.0, h.1)
-  asked_progress e k (Progress.Later f j) any h = (same_next k j any h.0, h.1, h.2)
-  asked_progress e k (Progress.Held c) any h = absurd h
-  asked_progress e k Progress.Taken any h = absurd h
-  asked_progress e k Progress.AllTaken any h = absurd h
-  asked_progress e k (Progress.Failed Fault.NoSerial) any h = h
-  asked_progress e k (Progress.Failed (Fault.Status s)) any h = absurd h
-  asked_progress e k (Progress.Failed Fault.Length) any h = absurd h
-  asked_progress e k (Progress.Failed Fault.TooLong) any h = absurd h
-  asked_progress e k (Progress.Failed Fault.RingFull) any h = absurd h
-  asked_progress e k (Progress.Failed Fault.Busy) any h = absurd h
-  asked_progress e k (Progress.Failed Fault.NoMemory) any h = absurd h
-  asked_progress e k (Progress.Failed Fault.SlotArea) any h = absurd h
-
-  -- beginning the next claim holds nothing yet
-  pub asked_held : (e : Driver P g) (k : Claiming P g) (r : Progress P g) → IsAsked e k r → IsHeldOn e r
-  asked_held e k (Progress.Held c) h = absurd h
-  asked_held e k (Progress.Pending j) h = tt
-  asked_held e k (Progress.Later f j) h = tt
-  asked_held e k Progress.Taken h = tt
-  asked_held e k Progress.AllTaken h = tt
-  asked_held e k (Progress.Failed f) h = tt
-
-  -- ---- what was published
-
-  pub quiet_polled : (d e : Driver P g) → Polls d e → IsQuiet d e
-  quiet_polled d e x = record { same = x.same; one = x.one }
-
-  pub turn_quiet : (d e : Driver P g) (k : Claiming P g) (call : Call P) (serial : ℕ) → k.stage ≡ Stage.Asked call serial → Polls d e → IsTurn d e k k.stage
-  turn_quiet d e k call serial is x = subst (λ (s : Stage P). IsTurn d e k s) (sym is) (inl (quiet_polled d e x))
-
-  -- the slot at hand is somebody else's
-  pub turn_lost : (d e f : Driver P g) (k : Claiming P g) (call : Call P) (serial : ℕ) (reply : Reply) → IsClaimingOf d k → k.stage ≡ Stage.Asked call serial → Polls d e → reply ≢ Reply.Swapped → answer_to e call ≡ Some (Ok reply)
-      → IsNext e f (record { slots = k.slots; reach = k.reach; slot = k.slot; stage = Stage.Due; began = k.began }) → IsTurn d f k k.stage
-  turn_lost d e f k call serial reply of is x other answer (inl same) =
-      subst (λ (s : Stage P). IsTurn d f k s) (sym is) (inl (subst (λ (h : Driver P g). IsQuiet d h) (sym same) (quiet_polled d e x)))
-  turn_lost d e f k call serial reply of is x other answer (inr next) =
-      let a = asked d k call serial of is in
-      let differs = pair_reply (made e) call.queue call.first call.second reply (subst (λ (o : Op). outcome (made e) call.queue o call.first call.second ≡ Some (Ok reply)) a.0.does answer) other in
-      subst (λ (s : Stage P). IsTurn d f k s) (sym is)
-      (inr (record { at = e; quiet = quiet_polled d e x; answer = answer ∙ ap (λ (r : Reply). Some (Ok r)) differs; any = next.0; tried = next.1 }))
+  -- by the claim's stage
+  pub by_stage : (d e : Driver P g) (k : Claiming P g) (call : Call P) (serial : ℕ) (r : Progress P g) → k.stage ≡ Stage.Asked call serial → IsPolled d e k call serial r → IsProgress d e k k.stage r
+  by_stage d e k call serial r is h = subst (λ (s : Stage P). IsProgress d e k s r) (sym is) h

@@ -14,7 +14,7 @@ use Rattle.slot_calls.specs.Calls.{IsClaimIn, IsReleaseIn}
 use Rattle.slot_calls.specs.Swaps.{log_released}
 use Rattle.slot_alloc.specs.Areas.{block_of}
 use Rattle.slot_alloc.specs.Careful.{GoesOn, ReleasedName, own_name}
-use Rattle.slot_alloc.specs.Claims.{IsAsking, IsAt, IsCallKept, IsClaimingOf, IsReleasingOf, IsStageUnreleased, IsUnreleased, is_other_claim, is_other_stage}
+use Rattle.slot_alloc.specs.Claims.{IsAsking, IsAt, IsCallKept, IsClaimingOf, IsReleasingOf, IsStageUnreleased, IsUnreleased, is_other_claim, is_other_stage, lower_of}
 use Rattle.slot_alloc.specs.declared.claiming.Claiming.{Claiming}
 use Rattle.slot_alloc.specs.declared.claiming.Reach.{Reach}
 use Rattle.slot_alloc.specs.declared.claiming.Stage.{Stage}
@@ -51,7 +51,7 @@ module _ {P : Type 0} (g : Ghosts P) where
         inside = of.inside;
         since = on k.began.value.port d.port e.port of.since x.later;
         at = at_on d e k.began.value k.slot k.reach k.stage released x kept of.at;
-        lower = λ any. taken_on g on d e k.began.value k.slot released x (of.lower any);
+        lower = λ any. taken_on g on d e k.began.value k.slot (lower_of k) released x (of.lower any);
       }
 
   -- a name that wasn't released isn't, where another was

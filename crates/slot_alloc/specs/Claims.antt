@@ -1,5 +1,6 @@
 -- What contracts say of claims and releases.
-use Rattle.std.specs.Prelude.{Bool, None, Ok, Option, Result, Some, false, true, ℕ, ◌<◌, ◌≡◌}
+use Rattle.std.specs.Prelude.{Bool, List, None, Ok, Option, Result, Some, [], false, length, slice_get, true, ℕ, ◌++◌}
+use Rattle.std.specs.Prelude.{◌<◌, ◌∷◌, ◌≡◌}
 use Rattle.nvme_model.specs.declared.operation.Op.{Op}
 use Rattle.nvme_model.specs.declared.status.Status.{Status}
 use Rattle.driver_calls.specs.declared.reply.Reply.{Reply}
@@ -11,6 +12,7 @@ use Rattle.slot_alloc.specs.Areas.{area, block_of, serial_of, slot_of}
 use Rattle.slot_alloc.specs.Careful.{ReleasedName, is_another, own_name}
 use Rattle.slot_alloc.specs.declared.claim.Claim.{Claim}
 use Rattle.slot_alloc.specs.declared.claiming.Claiming.{Claiming}
+use Rattle.slot_alloc.specs.declared.claiming.Lower.{And', Lower, Nothing}
 use Rattle.slot_alloc.specs.declared.claiming.Reach.{Reach}
 use Rattle.slot_alloc.specs.declared.claiming.Stage.{Stage}
 use Rattle.slot_alloc.specs.declared.release.Releasing.{Releasing}
@@ -20,6 +22,11 @@ use Rattle.slot_calls.specs.Swaps.{log_believed, log_released}
 -- the call of a release
 abbrev pub release_call : {P : Type 0} → Releasing P → Call P
 release_call k = k.call
+
+-- the claims that were kept, each by its call and its serial, the first begun first
+abbrev pub claims_in : {P : Type 0} → Lower P → List (Call P × ℕ)
+claims_in Nothing = []
+claims_in (And' marker lower call serial) = claims_in lower ++ (call.value, serial) ∷ []
 
 module _ {P : Type 0} {g : Ghosts P} where
   -- By its log the driver's host holds the slot, under this claim's serial: its claim was answered by success, and no
@@ -40,12 +47,11 @@ module _ {P : Type 0} {g : Ghosts P} where
   IsAt d began lba reach (Stage.Asked call serial) = IsAsking d lba call serial × g.follows began.port call.start.value
   IsAt d began lba reach Stage.Due = reach ≡ Reach.Any
 
-  -- Since this moment the driver began a claim of the slot at this block that was answered so, and at the moment of its
-  -- answer this said what it says.
-  pub record ClaimSays (d began : Driver P g) (lba : ℕ) (r : Result Reply Status) : Type 0 where
+  -- Since this moment the driver began this claim of the slot at this block, under this serial, which was answered so,
+  -- and at the moment of its answer this said what it says.
+  pub record ClaimSays (d began : Driver P g) (lba : ℕ) (call : Call P) (serial : ℕ) (r : Result Reply Status)
+      : Type 0 where
     pub at : Driver P g
-    pub call : Call P
-    pub serial : ℕ
     pub same : HasSettings d at
     pub begun : g.follows began.port call.start.value
     pub later : g.follows at.port d.port
@@ -54,19 +60,23 @@ module _ {P : Type 0} {g : Ghosts P} where
     pub answer : answer_to at call ≡ Some r
     pub says : Says at call (Some r)
 
-  -- The claim was begun since this moment and answered by success. So the driver's log believes its name, unless a
-  -- release of it was published.
-  pub record IsWonBy (d began : Driver P g) (c : Claim) : Type 0 where
+  -- By the driver's log a claim of this name was answered by success: it believes the name, unless a release of it was
+  -- published.
+  pub record IsWonBy (d : Driver P g) (c : Claim) : Type 0 where
     pub inside : slot_of c < (area_of d).blocks
-    pub won : ClaimSays d began (block_of (area_of d) (slot_of c)) (Ok Reply.Swapped)
-    pub serial : won.serial ≡ serial_of c
     pub name : IsName (own_name d (serial_of c))
     pub believed : log_released (made d) (block_of (area_of d) (slot_of c)) (own_name d (serial_of c)) ≡ false
         → log_believed (made d) (block_of (area_of d) (slot_of c)) (own_name d (serial_of c)) ≡ true
 
-  -- each slot below the one at hand was had by somebody else
-  abbrev pub AreTaken : Driver P g → Driver P g → ℕ → Type 0
-  AreTaken d began n = (i : ℕ) → i < n → ClaimSays d began (block_of (area_of d) i) (Ok Reply.Differs)
+  -- So many claims, one of each slot from 0 on, were answered that somebody else has the slot.
+  pub record AreTaken (d began : Driver P g) (n : ℕ) (claims : List (Call P × ℕ)) : Type 0 where
+    pub count : length claims ≡ n
+    pub says : (i : ℕ) (c : Call P × ℕ) → slice_get claims i ≡ Some c
+        → ClaimSays d began (block_of (area_of d) i) c.0 c.1 (Ok Reply.Differs)
+
+  -- the claims of the slots below the one at hand, that of slot 0 first
+  abbrev pub lower_of : Claiming P g → List (Call P × ℕ)
+  lower_of k = claims_in k.lower.value
 
   -- The driver began the claim, which hasn't ended: that of the slot at hand is begun or is due, and where any slot
   -- will do the lower ones were taken.
@@ -75,7 +85,7 @@ module _ {P : Type 0} {g : Ghosts P} where
     pub inside : k.slot < k.slots.count
     pub since : g.follows k.began.value.port d.port
     pub at : IsAt d k.began.value (block_of (area_of d) k.slot) k.reach k.stage
-    pub lower : k.reach ≡ Reach.Any → AreTaken d k.began.value k.slot
+    pub lower : k.reach ≡ Reach.Any → AreTaken d k.began.value k.slot (lower_of k)
 
   -- no release of the name was published
   abbrev pub IsStageUnreleased : Driver P g → ℕ → Stage P → Type 0

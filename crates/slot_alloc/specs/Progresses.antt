@@ -1,15 +1,15 @@
 -- What contracts say of what polling gives.
-use Rattle.std.specs.Prelude.{Err, Ok, Result, Some, ℕ, ◌+◌, ◌<◌, ◌≡◌, ◌≤◌, ◌⊎◌}
+use Rattle.std.specs.Prelude.{Err, None, Ok, Result, Some, [], ℕ, ◌++◌, ◌+◌, ◌<◌, ◌∷◌, ◌≡◌, ◌⊎◌}
+use Rattle.nvme_model.specs.declared.status.Status.{Status}
 use Rattle.driver_calls.specs.declared.reply.Reply.{Reply}
-use Rattle.driver_cas.specs.Drivers.{IsApart, IsCallOf, IsOneMore, IsSame, answer_to, area_of, made}
-use Rattle.driver_cas.specs.Drivers as drivers
-use Rattle.driver_cas.specs.SlotStarts.{IsClaimStart, last_serial}
+use Rattle.driver_cas.specs.Drivers.{IsApart, IsOneMore, IsSame, answer_to, area_of, made}
+use Rattle.driver_cas.specs.SlotStarts.{IsClaimStart}
 use Rattle.driver_cas.specs.declared.call.Call.{Call}
 use Rattle.driver_cas.specs.declared.driver.Driver.{Driver}
 use Rattle.driver_cas.specs.declared.fault.Fault.{Fault}
 use Rattle.driver_cas.specs.declared.port.Port.{Ghosts}
-use Rattle.slot_alloc.specs.Areas.{area, block_of, slot_of}
-use Rattle.slot_alloc.specs.Claims.{AreTaken, ClaimSays, IsClaimingOf, IsHeldBy, IsUnreleased, IsWonBy}
+use Rattle.slot_alloc.specs.Areas.{area, block_of, serial_of, slot_of}
+use Rattle.slot_alloc.specs.Claims.{AreTaken, ClaimSays, IsClaimingOf, IsHeldBy, IsUnreleased, IsWonBy, lower_of}
 use Rattle.slot_alloc.specs.declared.claiming.Claiming.{Claiming}
 use Rattle.slot_alloc.specs.declared.claiming.Reach.{Reach}
 use Rattle.slot_alloc.specs.declared.claiming.Stage.{Stage}
@@ -31,44 +31,111 @@ module _ {P : Type 0} {g : Ghosts P} where
   -- what `claim` and `claim_any` give: the claim of slot i is begun, or nothing has changed and it is told why
   abbrev pub IsFirstClaim : Driver P g → Driver P g → Slots → Reach → ℕ → Result (Claiming P g) Fault → Type 0
   IsFirstClaim d e slots reach i (Ok k) =
-      (k.slots ≡ slots) × (k.reach ≡ reach) × (k.slot ≡ i) × (k.began.value ≡ d) × IsAskedFirst d e i k.stage
+      (k.slots ≡ slots) × (k.reach ≡ reach) × (k.slot ≡ i) × (k.began.value ≡ d) × (lower_of k ≡ [])
+      × IsAskedFirst d e i k.stage
   IsFirstClaim d e slots reach i (Err f) = IsClaimStart d e (block_of (area_of d) i) (Err f)
 
-  -- the same claim at this slot or, where any will do, at a later one
-  pub record IsSameClaiming (k j : Claiming P g) : Type 0 where
-    pub slots : j.slots ≡ k.slots
-    pub reach : j.reach ≡ k.reach
-    pub began : j.began.value ≡ k.began.value
-    pub slot : k.slot ≤ j.slot
-    pub alone : k.reach ≡ Reach.One → j.slot ≡ k.slot
+  -- what is told of the start of the claim at hand: it goes on as it was begun, or is due. The faults that come last
+  -- are Busy and NoMemory, since a start answers no others.
+  abbrev pub told_of : Claiming P g → Result (Call P × ℕ) Fault → Progress P g
+  told_of k (Ok c) = Progress.Pending (record k { stage = Stage.Asked c.0 c.1 })
+  told_of k (Err Fault.RingFull) = Progress.Pending (record k { stage = Stage.Due })
+  told_of k (Err Fault.NoSerial) = Progress.Failed Fault.NoSerial
+  told_of k (Err f) = Progress.Later f (record k { stage = Stage.Due })
 
-  -- what beginning the claim of the slot at hand gives
-  abbrev pub IsAsked : Driver P g → Claiming P g → Progress P g → Type 0
-  IsAsked e k (Progress.Pending j) = IsSameClaiming k j × IsClaimingOf e j
-  IsAsked e k (Progress.Later f j) = IsSameClaiming k j × IsClaimingOf e j × ((f ≡ Fault.Busy) ⊎ (f ≡ Fault.NoMemory))
-  IsAsked e k (Progress.Failed Fault.NoSerial) = (k.reach ≡ Reach.Any) × (drivers.serial_of e ≡ last_serial)
-  IsAsked e k _ = ⊥
+  -- The pair of the slot at hand is published, or nothing is, and just that is told.
+  pub record IsAsked (d e : Driver P g) (k : Claiming P g) (r : Progress P g) : Type 0 where
+    pub start : Result (Call P × ℕ) Fault
+    pub is : IsClaimStart d e (block_of (area_of d) k.slot) start
+    pub told : r ≡ told_of k start
+
+  -- Nothing was published, and at most one completion was reaped.
+  pub record IsQuiet (d e : Driver P g) : Type 0 where
+    pub same : IsSame d e
+    pub one : IsOneMore (made d) (made e)
+
+  -- Nothing was published, the call isn't answered, and the claim goes on as it is.
+  pub record IsWaiting (d e : Driver P g) (k : Claiming P g) (call : Call P) (j : Claiming P g) : Type 0 where
+    pub quiet : IsQuiet d e
+    pub waits : answer_to e call ≡ None
+    pub same : j ≡ k
+
+  -- Nothing was published, and the call, which claims the slot at hand under this serial, is answered so.
+  pub record IsEnded (d e : Driver P g) (k : Claiming P g) (call : Call P) (serial : ℕ) (r : Result Reply Status)
+      : Type 0 where
+    pub quiet : IsQuiet d e
+    pub answer : answer_to e call ≡ Some r
+    pub says : ClaimSays e k.began.value (block_of (area_of e) k.slot) call serial r
+
+  -- It is the same claim of any slot at the next slot, if there is one; that of the one before was this.
+  pub record IsNext (k next : Claiming P g) (call : Call P) (serial : ℕ) : Type 0 where
+    pub any : k.reach ≡ Reach.Any
+    pub slots : next.slots ≡ k.slots
+    pub reach : next.reach ≡ k.reach
+    pub slot : next.slot ≡ k.slot + 1
+    pub inside : next.slot < k.slots.count
+    pub began : next.began.value ≡ k.began.value
+    pub lower : lower_of next ≡ lower_of k ++ (call, serial) ∷ []
+
+  -- where any slot will do the next one's claim is tried, and just that is told
+  abbrev pub TriesNext : Driver P g → Driver P g → Claiming P g → Call P → ℕ → Progress P g → Type 0
+  TriesNext d e k call serial r = (next : Claiming P g) × IsNext k next call serial × IsAsked d e next r
+
+  -- The call was answered that somebody else has the slot at hand, and then the next one's claim was tried.
+  pub record GoesToNext (d e : Driver P g) (k : Claiming P g) (call : Call P) (serial : ℕ) (r : Progress P g)
+      : Type 0 where
+    pub at : Driver P g
+    pub lost : IsEnded d at k call serial (Ok Reply.Differs)
+    pub tries : TriesNext at e k call serial r
+
+  -- each slot was had by somebody else: those below the one at hand, which is the last, and that one
+  abbrev pub AreAllTaken : Driver P g → Claiming P g → Call P → ℕ → Type 0
+  AreAllTaken d k call serial =
+      (k.reach ≡ Reach.Any) × AreTaken d k.began.value (area_of d).blocks (lower_of k ++ (call, serial) ∷ [])
+
+  -- what a poll gives while the call claims the slot at hand, under this serial
+  abbrev pub IsPolled : Driver P g → Driver P g → Claiming P g → Call P → ℕ → Progress P g → Type 0
+  IsPolled d e k call serial (Progress.Pending j) =
+      IsWaiting d e k call j ⊎ GoesToNext d e k call serial (Progress.Pending j)
+  IsPolled d e k call serial (Progress.Later f j) =
+      (IsWaiting d e k call j × ((f ≡ Fault.Busy) ⊎ (f ≡ Fault.NoMemory)))
+      ⊎ GoesToNext d e k call serial (Progress.Later f j)
+  IsPolled d e k call serial (Progress.Held c) =
+      (slot_of c ≡ k.slot) × (serial_of c ≡ serial) × IsEnded d e k call serial (Ok Reply.Swapped) × IsWonBy e c
+  IsPolled d e k call serial Progress.Taken =
+      (k.reach ≡ Reach.One) × IsEnded d e k call serial (Ok Reply.Differs)
+  IsPolled d e k call serial Progress.AllTaken =
+      IsEnded d e k call serial (Ok Reply.Differs) × AreAllTaken e k call serial
+  IsPolled d e k call serial (Progress.Failed (Fault.Status s)) = IsEnded d e k call serial (Err s)
+  IsPolled d e k call serial (Progress.Failed Fault.NoSerial) =
+      GoesToNext d e k call serial (Progress.Failed Fault.NoSerial)
+  IsPolled d e k call serial (Progress.Failed _) = ⊥
+
+  -- what `poll_claim` gives: while the slot at hand is claimed, by what that call is answered; where its claim is due,
+  -- that is tried
+  abbrev pub IsProgress : Driver P g → Driver P g → Claiming P g → Stage P → Progress P g → Type 0
+  IsProgress d e k (Stage.Asked call serial) r = IsPolled d e k call serial r
+  IsProgress d e k Stage.Due r = IsAsked d e k r
 
   -- The claim of the slot at hand was answered: somebody else has it.
-  pub record IsLost (d : Driver P g) (k : Claiming P g) : Type 0 where
+  pub record IsLost (d : Driver P g) (k : Claiming P g) (call : Call P) (serial : ℕ) : Type 0 where
     pub area_is : area_of d ≡ area k.slots
     pub inside : k.slot < k.slots.count
     pub since : g.follows k.began.value.port d.port
-    pub taken : ClaimSays d k.began.value (block_of (area_of d) k.slot) (Ok Reply.Differs)
-    pub lower : k.reach ≡ Reach.Any → AreTaken d k.began.value k.slot
+    pub taken : ClaimSays d k.began.value (block_of (area_of d) k.slot) call serial (Ok Reply.Differs)
+    pub lower : k.reach ≡ Reach.Any → AreTaken d k.began.value k.slot (lower_of k)
 
-  -- what `poll_claim` gives
-  abbrev pub IsProgress : Driver P g → Claiming P g → Progress P g → Type 0
-  IsProgress e k (Progress.Pending j) = IsSameClaiming k j × IsClaimingOf e j
-  IsProgress e k (Progress.Later f j) =
-      IsSameClaiming k j × IsClaimingOf e j × ((f ≡ Fault.Busy) ⊎ (f ≡ Fault.NoMemory))
-  IsProgress e k (Progress.Held c) = (slot_of c ≡ k.slot) × IsWonBy e k.began.value c
-  IsProgress e k Progress.Taken =
-      (k.reach ≡ Reach.One) × ClaimSays e k.began.value (block_of (area_of e) k.slot) (Ok Reply.Differs)
-  IsProgress e k Progress.AllTaken = (k.reach ≡ Reach.Any) × AreTaken e k.began.value (area_of e).blocks
-  IsProgress e k (Progress.Failed (Fault.Status s)) = ClaimSays e k.began.value (block_of (area_of e) k.slot) (Err s)
-  IsProgress e k (Progress.Failed Fault.NoSerial) = (k.reach ≡ Reach.Any) × (drivers.serial_of e ≡ last_serial)
-  IsProgress e k (Progress.Failed _) = ⊥
+  -- what is told then: nothing has changed where the slot was the only one or the last, else the next one's is tried
+  abbrev pub IsLostOn : Driver P g → Driver P g → Claiming P g → Call P → ℕ → Progress P g → Type 0
+  IsLostOn d e k call serial r =
+      ((r ≡ Progress.Taken) × (e ≡ d) × (k.reach ≡ Reach.One))
+      ⊎ (((r ≡ Progress.AllTaken) × (e ≡ d) × AreAllTaken d k call serial) ⊎ TriesNext d e k call serial r)
+
+  -- the claim that goes on is the driver's
+  abbrev pub IsClaimingOn : Driver P g → Progress P g → Type 0
+  IsClaimingOn e (Progress.Pending j) = IsClaimingOf e j
+  IsClaimingOn e (Progress.Later f j) = IsClaimingOf e j
+  IsClaimingOn e _ = Unit {0}
 
   -- a slot that is held is believed by the driver's log
   abbrev pub IsHeldOn : Driver P g → Progress P g → Type 0
@@ -80,33 +147,6 @@ module _ {P : Type 0} {g : Ghosts P} where
   IsUnreleasedOn e (Progress.Pending j) = IsUnreleased e j
   IsUnreleasedOn e (Progress.Later f j) = IsUnreleased e j
   IsUnreleasedOn e _ = Unit {0}
-
-  -- Nothing was published, and at most one completion was reaped.
-  pub record IsQuiet (d e : Driver P g) : Type 0 where
-    pub same : IsSame d e
-    pub one : IsOneMore (made d) (made e)
-
-  -- the pair of slot i is published, or nothing is
-  abbrev pub IsTried : Driver P g → Driver P g → ℕ → Type 0
-  IsTried d e i = (r : Result (Call P × ℕ) Fault) × IsClaimStart d e (block_of (area_of d) i) r
-
-  -- nothing is done, or where any slot will do the next one's pair is published, or nothing is
-  abbrev pub IsNext : Driver P g → Driver P g → Claiming P g → Type 0
-  IsNext d e k = (e ≡ d) ⊎ ((k.reach ≡ Reach.Any) × IsTried d e (k.slot + 1))
-
-  -- The call was answered that somebody else has the slot at hand, and then the next one's pair was tried.
-  pub record GoesToNext (d e : Driver P g) (k : Claiming P g) (call : Call P) : Type 0 where
-    pub at : Driver P g
-    pub quiet : IsQuiet d at
-    pub answer : answer_to at call ≡ Some (Ok Reply.Differs)
-    pub any : k.reach ≡ Reach.Any
-    pub tried : IsTried at e (k.slot + 1)
-
-  -- What a poll does. While the slot at hand is claimed it publishes nothing, but for the next slot's pair once that
-  -- claim was answered; and where its claim is due, it tries that.
-  abbrev pub IsTurn : Driver P g → Driver P g → Claiming P g → Stage P → Type 0
-  IsTurn d e k (Stage.Asked call serial) = IsQuiet d e ⊎ GoesToNext d e k call
-  IsTurn d e k Stage.Due = IsTried d e k.slot
 
   -- the call has no CID in common with that of the claim that goes on
   abbrev pub IsBesideOn : Progress P g → Call P → Type 0

@@ -1,11 +1,11 @@
 //! Claims that were begun.
 
-ghost use Rattle.std.specs.Prelude.{◌≡◌, ◌<◌, IfOk, None};
+ghost use Rattle.std.specs.Prelude.{[], ◌≡◌, ◌<◌, ◌++◌, ◌∷◌, IfOk, None};
 ghost use Rattle.driver_cas.specs.Drivers.{IsCallOf, area_of};
 ghost use Rattle.slot_alloc.specs.Areas.{area};
 ghost use Rattle.slot_alloc.specs.Careful.{GoesOn, IsCareful};
-ghost use Rattle.slot_alloc.specs.Claims.{IsClaimingOf, IsUnreleased};
-ghost use Rattle.slot_alloc.specs.Progresses.{IsAsked, IsBesideOn, IsFirstClaim, IsTried, IsUnreleasedOn};
+ghost use Rattle.slot_alloc.specs.Claims.{IsClaimingOf, IsUnreleased, claims_in};
+ghost use Rattle.slot_alloc.specs.Progresses.{IsAsked, IsBesideOn, IsClaimingOn, IsFirstClaim, IsUnreleasedOn};
 ghost use Rattle.slot_alloc.specs.declared.claiming.Reach.{Reach};
 ghost use Rattle.driver_cas.specs.declared.call.Call.{Call};
 
@@ -32,6 +32,33 @@ pub(crate) enum Stage<P> {
     Due,
 }
 
+/// The claims of a call that were answered, for contracts alone.
+#[derive(Drop)]
+pub(crate) enum Lower<P> {
+    Nothing,
+    /// These, and then this call, under this serial.
+    And(Snapshot<Lower<P>>, Snapshot<Call<P>>, u64),
+}
+
+// No claims.
+pub(crate) fn no_claims<P>() -> Snapshot<Lower<P>>
+    ensures { claims_in result.value ≡ [] }
+{
+    Snapshot::of(&Lower::Nothing)
+}
+
+// One more claim.
+pub(crate) fn with<P>(
+    lower: Snapshot<Lower<P>>,
+    call: Snapshot<Call<P>>,
+    serial: u64,
+) -> Snapshot<Lower<P>>
+    ensures { claims_in result.value ≡ claims_in lower.value ++ (call.value, serial) ∷ [] }
+{
+    let more = Lower::And(lower, call, serial);
+    Snapshot::of(&more)
+}
+
 /// A claim that was begun. It can't be copied, and one that is dropped keeps its CIDs, and its slot if it is won.
 #[derive(Drop)]
 pub struct Claiming<P: Port> {
@@ -42,6 +69,8 @@ pub struct Claiming<P: Port> {
     pub(crate) stage: Stage<P>,
     // The driver when the first claim was begun.
     pub(crate) began: Snapshot<Driver<P>>,
+    // The claims of the lower slots, where any will do.
+    pub(crate) lower: Snapshot<Lower<P>>,
 }
 
 impl Slots {
@@ -69,6 +98,7 @@ impl Slots {
             slot,
             stage: Stage::Asked(call, serial),
             began,
+            lower: no_claims(),
         })
     }
 
@@ -113,40 +143,25 @@ pub(crate) fn ask<P: Port>(driver: &mut Driver<P>, claiming: Claiming<P>) -> Pro
     requires any { claiming.reach ≡ Reach.Any }
     ensures careful { IsCareful driver.old → IsCareful driver.new }
     ensures goes_on { GoesOn driver.old driver.new None }
-    ensures is { IsAsked driver.new claiming result }
-    ensures tried { IsTried driver.old driver.new claiming.slot }
+    ensures is { IsAsked driver.old driver.new claiming result }
+    ensures of { IsClaimingOn driver.new result }
     ensures unreleased { IsCareful driver.old → IsUnreleasedOn driver.new result }
     ensures others { (other : Call P) →
         IsCallOf driver.old other → IsCallOf driver.new other × IsBesideOn result other }
 {
-    let Claiming {
-        slots,
-        reach,
-        slot,
-        stage: _,
-        began,
-    } = claiming;
-    match driver.start_claim(slots.block(slot)) {
-        Ok((call, serial)) => Progress::Pending(Claiming {
-            slots,
-            reach,
-            slot,
-            stage: Stage::Asked(call, serial),
-            began,
-        }),
+    let mut claiming = claiming;
+    match driver.start_claim(claiming.slots.block(claiming.slot)) {
+        Ok((call, serial)) => {
+            claiming.stage = Stage::Asked(call, serial);
+            Progress::Pending(claiming)
+        }
         Err(Fault::NoSerial) => Progress::Failed(Fault::NoSerial),
         Err(fault) => {
-            let due = Claiming {
-                slots,
-                reach,
-                slot,
-                stage: Stage::Due,
-                began,
-            };
+            claiming.stage = Stage::Due;
             if fault == Fault::RingFull {
-                return Progress::Pending(due);
+                return Progress::Pending(claiming);
             }
-            Progress::Later(fault, due)
+            Progress::Later(fault, claiming)
         }
     }
 }

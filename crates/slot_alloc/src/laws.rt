@@ -16,6 +16,7 @@ ghost use Rattle.driver_cas.specs.SlotStarts.{IsReleaseStart};
 ghost use Rattle.driver_cas.specs.Requests.{IsStart, pair_request_of, request_of};
 ghost use Rattle.driver_cas.specs.declared.call.Call.{Call};
 ghost use Rattle.driver_cas.specs.declared.fault.Fault.{Fault};
+ghost use Rattle.driver_cas.specs.declared.shared_port.SharedPort.{SharedPort};
 ghost use Rattle.driver_commands.specs.declared.request.CallData.{CallData};
 ghost use Rattle.nvme_model.specs.declared.operation.Op.{Op};
 ghost use Rattle.slot_calls.specs.Calls.{IsName};
@@ -25,6 +26,7 @@ ghost use Rattle.slot_alloc.specs.Areas.{block_of, serial_of, slot_of};
 ghost use Rattle.slot_alloc.specs.Careful.{GoesOn, IsCareful, ReleasedName, is_another, own_name};
 ghost use Rattle.slot_alloc.specs.Claims.{ClaimSays, IsCallKept, IsClaimingOf, IsHeldBy, IsReleasingOf, IsUnreleased};
 ghost use Rattle.slot_alloc.specs.Claims.{is_other_claim, release_call, stage_of};
+ghost use Rattle.slot_alloc.specs.Progresses.{IsQuiet};
 ghost use Rattle.slot_alloc.specs.Releases.{IsReleased};
 ghost use Rattle.slot_alloc.specs.declared.progress.Released.{Released};
 
@@ -124,8 +126,9 @@ pub fn a_won_slot_was_free(
     began: &Snapshot<Driver<SharedPort<'_>>>,
 )
     requires { IsAlone (before driver.now) (view_of driver.now.port) }
-    ensures { (lba : ℕ) (s : ClaimSays driver.now began.now.value lba (Ok Reply.Swapped)) →
-        PairSwaps (entries (view_of driver.now.port).seen) s.call.queue (number_of s.at s.call) }
+    ensures { (lba serial : ℕ) (call : Call SharedPort)
+        (s : ClaimSays driver.now began.now.value lba call serial (Ok Reply.Swapped)) →
+        PairSwaps (entries (view_of driver.now.port).seen) call.queue (number_of s.at call) }
 {
     let _ = driver;
     let _ = began;
@@ -137,9 +140,10 @@ pub fn a_failed_claim_was_told_so(
     began: &Snapshot<Driver<SharedPort<'_>>>,
 )
     requires { IsAlone (before driver.now) (view_of driver.now.port) }
-    ensures { (lba : ℕ) (status : Status) (s : ClaimSays driver.now began.now.value lba (Err status)) →
+    ensures { (lba serial : ℕ) (status : Status) (call : Call SharedPort)
+        (s : ClaimSays driver.now began.now.value lba call serial (Err status)) →
         let v = view_of driver.now.port in
-        FailedSays v.config (entries v.seen) s.call.queue (number_of s.at s.call) Op.Pair status }
+        FailedSays v.config (entries v.seen) call.queue (number_of s.at call) Op.Pair status }
 {
     let _ = driver;
     let _ = began;
@@ -169,8 +173,9 @@ pub fn a_taken_slot_was_anothers(
     began: &Snapshot<Driver<SharedPort<'_>>>,
 )
     requires { IsAlone (before driver.now) (view_of driver.now.port) }
-    ensures { (lba : ℕ) (s : ClaimSays driver.now began.now.value lba (Ok Reply.Differs)) →
-        PairDiffers (entries (view_of driver.now.port).seen) s.call.queue (number_of s.at s.call) }
+    ensures { (lba serial : ℕ) (call : Call SharedPort)
+        (s : ClaimSays driver.now began.now.value lba call serial (Ok Reply.Differs)) →
+        PairDiffers (entries (view_of driver.now.port).seen) call.queue (number_of s.at call) }
 {
     let _ = driver;
     let _ = began;
@@ -192,14 +197,22 @@ pub fn a_claim_holds_its_slot(driver: &Driver<SharedPort<'_>>, claim: &Claim)
     let _ = claim;
 }
 
-/// Then a release that was begun is answered by success, if it is answered.
-pub fn a_release_never_fails(driver: &Driver<SharedPort<'_>>, releasing: &Releasing<SharedPort<'_>>)
-    requires of { IsReleasingOf driver.now releasing.now }
+/// Then a release that was begun is answered by success, if it is answered, and a poll of it never gives that it
+/// failed.
+pub fn a_release_never_fails(
+    old: &Snapshot<Driver<SharedPort<'_>>>,
+    driver: &Driver<SharedPort<'_>>,
+    releasing: &Snapshot<Releasing<SharedPort<'_>>>,
+)
+    requires of { IsReleasingOf old.now.value releasing.now.value }
+    requires quiet { IsQuiet old.now.value driver.now }
     requires careful { IsCareful driver.now }
     requires host { IsSlotHost (before driver.now) (area_of driver.now) (host_of driver.now) (view_of driver.now.port) }
-    ensures { (r : Result Reply Status) →
-        answer_to driver.now (release_call releasing.now) ≡ Some r → r ≡ Ok Reply.Swapped }
+    ensures answer { (r : Result Reply Status) →
+        answer_to driver.now (release_call releasing.now.value) ≡ Some r → r ≡ Ok Reply.Swapped }
+    ensures never { (fault : Fault) → ¬ (IsReleased driver.now releasing.now.value (Released.Failed fault)) }
 {
+    let _ = old;
     let _ = driver;
     let _ = releasing;
 }

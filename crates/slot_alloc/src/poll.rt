@@ -6,14 +6,15 @@ ghost use Rattle.driver_cas.specs.Drivers.{IsCallOf};
 ghost use Rattle.driver_cas.specs.declared.call.Call.{Call};
 ghost use Rattle.slot_alloc.specs.Careful.{GoesOn, IsCareful};
 ghost use Rattle.slot_alloc.specs.Claims.{IsClaimingOf, IsUnreleased};
-ghost use Rattle.slot_alloc.specs.Progresses.{IsBeside, IsBesideOn, IsHeldOn, IsLost, IsNext, IsProgress, IsTurn};
-ghost use Rattle.slot_alloc.specs.Progresses.{IsUnreleasedOn};
+ghost use Rattle.slot_alloc.specs.Progresses.{IsBeside, IsBesideOn, IsClaimingOn, IsHeldOn, IsLost, IsLostOn};
+ghost use Rattle.slot_alloc.specs.Progresses.{IsProgress, IsUnreleasedOn};
 
 use crate::claim::Claim;
-use crate::claiming::{Claiming, Reach, Stage, ask};
+use crate::claiming::{Claiming, Reach, Stage, ask, with};
 use crate::progress::Progress;
-use driver_cas::{Driver, Poll, Port, Reply};
+use driver_cas::{Call, Driver, Poll, Port, Reply};
 use std::mem;
+use std::snapshot::Snapshot;
 
 // Whether a pair's effect said yes.
 pub(crate) fn is_swapped(reply: Reply) -> bool
@@ -26,14 +27,18 @@ pub(crate) fn is_swapped(reply: Reply) -> bool
     }
 }
 
-// Goes on to the next slot where any will do: somebody else has the one at hand.
-fn next<P: Port>(driver: &mut Driver<P>, claiming: Claiming<P>) -> Progress<P>
-    requires lost { IsLost driver.old claiming }
+// Goes on to the next slot where any will do: somebody else has the one at hand, as its claim was told.
+fn next<P: Port>(
+    driver: &mut Driver<P>,
+    claiming: Claiming<P>,
+    call: Snapshot<Call<P>>,
+    serial: u64,
+) -> Progress<P>
+    requires lost { IsLost driver.old claiming call.value serial }
     ensures careful { IsCareful driver.old → IsCareful driver.new }
     ensures goes_on { GoesOn driver.old driver.new None }
-    ensures is { IsProgress driver.new claiming result }
-    ensures next { IsNext driver.old driver.new claiming }
-    ensures held { IsHeldOn driver.new result }
+    ensures is { IsLostOn driver.old driver.new claiming call.value serial result }
+    ensures of { IsClaimingOn driver.new result }
     ensures unreleased { IsCareful driver.old → IsUnreleasedOn driver.new result }
     ensures others { (other : Call P) →
         IsCallOf driver.old other → IsCallOf driver.new other × IsBesideOn result other }
@@ -44,6 +49,7 @@ fn next<P: Port>(driver: &mut Driver<P>, claiming: Claiming<P>) -> Progress<P>
         slot,
         stage: _,
         began,
+        lower,
     } = claiming;
     if reach == Reach::One {
         return Progress::Taken;
@@ -53,16 +59,16 @@ fn next<P: Port>(driver: &mut Driver<P>, claiming: Claiming<P>) -> Progress<P>
         return Progress::AllTaken;
     }
     let stage = Stage::Due;
-    ask(
-        driver,
-        Claiming {
-            slots,
-            reach,
-            slot,
-            stage,
-            began,
-        },
-    )
+    let lower = with(lower, call, serial);
+    let due = Claiming {
+        slots,
+        reach,
+        slot,
+        stage,
+        began,
+        lower,
+    };
+    ask(driver, due)
 }
 
 /// What has come of a claim. Reaps at most one completion; where the slot at hand is somebody else's and any will do,
@@ -71,8 +77,8 @@ pub fn poll_claim<P: Port>(driver: &mut Driver<P>, claiming: Claiming<P>) -> Pro
     requires of { IsClaimingOf driver.old claiming }
     ensures careful { IsCareful driver.old → IsCareful driver.new }
     ensures goes_on { GoesOn driver.old driver.new None }
-    ensures is { IsProgress driver.new claiming result }
-    ensures turn { IsTurn driver.old driver.new claiming claiming.stage }
+    ensures is { IsProgress driver.old driver.new claiming claiming.stage result }
+    ensures of { IsClaimingOn driver.new result }
     ensures held { IsUnreleased driver.old claiming → IsHeldOn driver.new result }
     ensures unreleased { IsCareful driver.old → IsUnreleased driver.old claiming → IsUnreleasedOn driver.new result }
     ensures others { (other : Call P) → IsCallOf driver.old other → IsBeside claiming.stage other →
@@ -82,6 +88,7 @@ pub fn poll_claim<P: Port>(driver: &mut Driver<P>, claiming: Claiming<P>) -> Pro
     let Stage::Asked(call, serial) = mem::replace(&mut claiming.stage, Stage::Due) else {
         return ask(driver, claiming);
     };
+    let asked = Snapshot::of(&call);
     match driver.poll(call) {
         Poll::Pending(call) => {
             claiming.stage = Stage::Asked(call, serial);
@@ -96,7 +103,7 @@ pub fn poll_claim<P: Port>(driver: &mut Driver<P>, claiming: Claiming<P>) -> Pro
                 let slot = claiming.slot;
                 return Progress::Held(Claim { slot, serial });
             }
-            next(driver, claiming)
+            next(driver, claiming, asked, serial)
         }
         Poll::Failed(fault) => Progress::Failed(fault),
     }

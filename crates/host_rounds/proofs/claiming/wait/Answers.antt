@@ -24,8 +24,8 @@ pub loop-preserved : goal.loop-preserved
 loop-preserved g c =
     let of : IsClaimingOf c.poll_claim.new.driver c.match-poll_claim.claiming =
     elim c.match-poll_claim.branch [
-      | in-Pending w ↦ rw w.claiming-is w.in-Pending.ensures.is.1
-      | in-Later+else-eq w ↦ rw w.claiming-is w.in-Later.ensures.is.1
+      | in-Pending w ↦ rw w.claiming-is w.in-Pending.ensures.of
+      | in-Later+else-eq w ↦ rw w.claiming-is w.in-Later.ensures.of
     ] in
     let free : IsUnreleased c.poll_claim.new.driver c.match-poll_claim.claiming =
     elim c.match-poll_claim.branch [

@@ -1,10 +1,9 @@
-use Rattle.std.proofs.Common.{Err, rules, ◌≢◌}
+use Rattle.std.proofs.Common.{Err, Ok, refl, rules, ◌≡◌, ◌≢◌}
 use Rattle.driver_cas.specs.Drivers.{area_of}
 use Rattle.driver_cas.specs.declared.fault.Fault.{Fault}
 use Rattle.slot_alloc.specs.Areas.{block_of}
-use Rattle.slot_alloc.proofs.Asking.{call_kept, claim_cause, claiming_due, claiming_now, claims_of, same_claiming, tried_of, unreleased_now}
+use Rattle.slot_alloc.proofs.Asking.{call_kept, claiming_due, claiming_now, claims_of, start_of, told_full, told_later, unreleased_now}
 use Rattle.slot_alloc.proofs.Starting.{careful_claimed, careful_same, goes_on_claimed, goes_on_same}
-use Rattle.slot_alloc.specs.declared.claiming.Stage.{Stage}
 use Rattle.slot_alloc.proofs.claiming.ask.Goals as goal
 
 pub returns-in-Ok-clause-careful : goal.returns-in-Ok-clause-careful
@@ -36,25 +35,23 @@ returns-in-Ok-clause-goes_on g c =
 
 pub returns-in-Ok-clause-is : goal.returns-in-Ok-clause-is
 returns-in-Ok-clause-is g c =
+    let k = c.args.claiming in
+    let x = c.in-Ok in
+    record {
+      start = Ok (x.call, x.serial);
+      is = start_of g.P.Port c.args.driver.now c.start_claim.new.self k.slots k.slot c.block.result (Ok (x.call, x.serial)) c.block.ensures c.requires.of.area_is x.ensures.is;
+      told = refl;
+    }
+
+pub returns-in-Ok-clause-of : goal.returns-in-Ok-clause-of
+returns-in-Ok-clause-of g c =
     let d = c.args.driver.now in
     let e = c.start_claim.new.self in
     let k = c.args.claiming in
-    let x = c.in-Ok in (
-      same_claiming g.P.Port k (Stage.Asked x.call x.serial),
-      claiming_now g.P.Port g.met.P.Port.goes_on d e k.began k.slots k.reach k.slot x.call x.serial
-          (claims_of g.P.Port d e k.slots k.slot c.block.result x.call x.serial c.block.ensures x.ensures.settings x.ensures.later x.ensures.is x.ensures.law.0 x.ensures.law.1 x.ensures.law.2 c.requires.of.area_is c.requires.of.inside)
-          c.requires.of.area_is c.requires.of.inside c.requires.of.since c.requires.of.lower,
-    )
-
-pub returns-then-eq-clause-tried : goal.returns-then-eq-clause-tried
-returns-then-eq-clause-tried g c =
-    let k = c.args.claiming in
-    tried_of g.P.Port c.args.driver.now c.start_claim.new.self k.slots k.slot c.block.result (Err c.in-Err.fault) c.block.ensures c.requires.of.area_is c.in-Err.ensures.is
-
-pub returns-clause-tried : goal.returns-clause-tried
-returns-clause-tried g c =
-    let k = c.args.claiming in
-    tried_of g.P.Port c.args.driver.now c.start_claim.new.self k.slots k.slot c.block.result (Err c.in-Err.fault) c.block.ensures c.requires.of.area_is c.in-Err.ensures.is
+    let x = c.in-Ok in
+    claiming_now g.P.Port g.met.P.Port.goes_on d e k.began k.slots k.reach k.slot x.call x.serial k.lower
+    (claims_of g.P.Port d e k.slots k.slot c.block.result x.call x.serial c.block.ensures x.ensures.settings x.ensures.later x.ensures.is x.ensures.law.0 x.ensures.law.1 x.ensures.law.2 c.requires.of.area_is c.requires.of.inside)
+    c.requires.of.area_is c.requires.of.inside c.requires.of.since c.requires.of.lower
 
 pub returns-in-Ok-clause-others : goal.returns-in-Ok-clause-others
 returns-in-Ok-clause-others g c = c.in-Ok.ensures.is.2.others
@@ -71,42 +68,57 @@ returns-then-eq-clause-goes_on g c =
 
 pub returns-then-eq-clause-is : goal.returns-then-eq-clause-is
 returns-then-eq-clause-is g c =
+    let k = c.args.claiming in
+    let f = c.in-Err.fault in
+    let full : f ≡ Fault.RingFull = search rules in
+    record {
+      start = Err f;
+      is = start_of g.P.Port c.args.driver.now c.start_claim.new.self k.slots k.slot c.block.result (Err f) c.block.ensures c.requires.of.area_is c.in-Err.ensures.is;
+      told = told_full g.P.Port k f full;
+    }
+
+pub returns-then-eq-clause-of : goal.returns-then-eq-clause-of
+returns-then-eq-clause-of g c =
     let d = c.args.driver.now in
     let e = c.start_claim.new.self in
-    let k = c.args.claiming in
     let x = c.in-Err.ensures in
-    (same_claiming g.P.Port k Stage.Due, claiming_due g.P.Port g.met.P.Port.goes_on d e k c.requires.of c.requires.any (goes_on_same g.P.Port d e x.settings x.is.0 x.later x.is.1.0))
+    claiming_due g.P.Port g.met.P.Port.goes_on d e c.args.claiming c.requires.of c.requires.any (goes_on_same g.P.Port d e x.settings x.is.0 x.later x.is.1.0)
 
 pub returns-then-eq-clause-others : goal.returns-then-eq-clause-others
 returns-then-eq-clause-others g c =
     let x = c.in-Err.ensures in
     λ other of. (call_kept g.P.Port g.met.P.Port.goes_on c.args.driver.now c.start_claim.new.self other x.settings x.is.0 x.later x.is.1 of, tt)
 
-pub returns-clause-careful : goal.returns-clause-careful
-returns-clause-careful g c =
+pub returns-else-eq-clause-careful : goal.returns-else-eq-clause-careful
+returns-else-eq-clause-careful g c =
     let x = c.in-Err.ensures in
     careful_same g.P.Port c.args.driver.now c.start_claim.new.self x.settings x.is.0 x.is.1.0
 
-pub returns-clause-goes_on : goal.returns-clause-goes_on
-returns-clause-goes_on g c =
+pub returns-else-eq-clause-goes_on : goal.returns-else-eq-clause-goes_on
+returns-else-eq-clause-goes_on g c =
     let x = c.in-Err.ensures in
     goes_on_same g.P.Port c.args.driver.now c.start_claim.new.self x.settings x.is.0 x.later x.is.1.0
 
-pub returns-clause-is : goal.returns-clause-is
-returns-clause-is g c =
+pub returns-else-eq-clause-is : goal.returns-else-eq-clause-is
+returns-else-eq-clause-is g c =
+    let k = c.args.claiming in
+    let f = c.in-Err.fault in
+    let other : f ≢ Fault.NoSerial = search rules in
+    let room : f ≢ Fault.RingFull = search rules in
+    record {
+      start = Err f;
+      is = start_of g.P.Port c.args.driver.now c.start_claim.new.self k.slots k.slot c.block.result (Err f) c.block.ensures c.requires.of.area_is c.in-Err.ensures.is;
+      told = told_later g.P.Port k f other room;
+    }
+
+pub returns-else-eq-clause-of : goal.returns-else-eq-clause-of
+returns-else-eq-clause-of g c =
     let d = c.args.driver.now in
     let e = c.start_claim.new.self in
-    let k = c.args.claiming in
     let x = c.in-Err.ensures in
-    let one = c.in-Err.fault-is in
-    let other : c.in-Err.fault ≢ Fault.NoSerial = search rules in
-    let full : c.in-Err.fault ≢ Fault.RingFull = search rules in (
-      same_claiming g.P.Port k Stage.Due,
-      claiming_due g.P.Port g.met.P.Port.goes_on d e k c.requires.of c.requires.any (goes_on_same g.P.Port d e x.settings x.is.0 x.later x.is.1.0),
-      claim_cause g.P.Port d e c.block.result c.in-Err.fault x.is.2 other full,
-    )
+    claiming_due g.P.Port g.met.P.Port.goes_on d e c.args.claiming c.requires.of c.requires.any (goes_on_same g.P.Port d e x.settings x.is.0 x.later x.is.1.0)
 
-pub returns-clause-others : goal.returns-clause-others
-returns-clause-others g c =
+pub returns-else-eq-clause-others : goal.returns-else-eq-clause-others
+returns-else-eq-clause-others g c =
     let x = c.in-Err.ensures in
     λ other of. (call_kept g.P.Port g.met.P.Port.goes_on c.args.driver.now c.start_claim.new.self other x.settings x.is.0 x.later x.is.1 of, tt)

@@ -1,19 +1,27 @@
-use Rattle.std.proofs.Common.{Some, subst, ◌≡◌}
+use Rattle.std.proofs.Common.{Ok, Some, subst, ◌≡◌}
+use Rattle.std.specs.Prelude.{Result}
 use Rattle.nvme_model.specs.declared.operation.Op.{Op}
+use Rattle.nvme_model.specs.declared.status.Status.{Status}
 use Rattle.driver_calls.specs.Says.{outcome}
-use Rattle.driver_cas.specs.Drivers.{area_of, before, host_of, made, number_of, serial_of as last_of}
+use Rattle.driver_calls.specs.declared.reply.Reply.{Reply}
+use Rattle.driver_cas.specs.Drivers.{answer_to, area_of, before, host_of, made, number_of, serial_of as last_of}
 use Rattle.driver_cas.specs.Ports.{view_of}
 use Rattle.slot_calls.proofs.Releasing.{release_answer}
 use Rattle.slot_alloc.specs.Areas.{block_of}
 use Rattle.slot_alloc.specs.Careful.{own_name}
 use Rattle.slot_alloc.proofs.Asking.{inside_of}
+use Rattle.slot_alloc.proofs.GivingBack.{inside_there, never_failed, release_there}
 use Rattle.slot_alloc.proofs.laws.a_release_never_fails.Goals as goal
 
 pub returns : goal.returns
-returns c = λ r answer.
+returns c =
+    let old = c.args.old.now.value in
     let d = c.args.driver.now in
-    let k = c.args.releasing.now in
+    let k = c.args.releasing.now.value in
     let of = c.requires.of in
+    let quiet = c.requires.quiet in
+    let only : (r : Result Reply Status) → answer_to d k.call ≡ Some r → r ≡ Ok Reply.Swapped = λ r answer.
     release_answer (before d) (area_of d) (host_of d) (last_of d) (view_of d.port) k.call.queue k.call.first k.call.second (number_of d k.call) (block_of (area_of d) k.slot) (own_name d k.serial) r
-    (record { legal = d.port.legal; premises = c.requires.host; tidy = d.tidy; careful = c.requires.careful }) of.release (inside_of (area_of d) k.slot of.inside)
-    (subst (λ (o : Op). outcome (made d) k.call.queue o k.call.first k.call.second ≡ Some r) of.does answer)
+    (record { legal = d.port.legal; premises = c.requires.host; tidy = d.tidy; careful = c.requires.careful }) (release_there _ old d k of quiet) (inside_of (area_of d) k.slot (inside_there _ old d k of quiet))
+    (subst (λ (o : Op). outcome (made d) k.call.queue o k.call.first k.call.second ≡ Some r) of.does answer) in
+    record { answer = only; never = λ fault h. never_failed _ d k fault only h }

@@ -1,4 +1,4 @@
-use Rattle.std.proofs.Common.{List, ap, subst, sym}
+use Rattle.std.proofs.Common.{List, ap, subst}
 use Rattle.std.specs.declared.snapshot.Snapshot.{Snapshot}
 use Rattle.driver_calls.specs.Views.{IsAlone, log_of}
 use Rattle.driver_calls.specs.declared.event.PortEvent.{PortEvent}

@@ -1,11 +1,13 @@
-use Rattle.std.proofs.Common.{Err, ap, arith, refl, subst, sym, ℕ, ◌≡◌, ◌∙◌}
+use Rattle.std.proofs.Common.{Err, List, ap, refl, subst, sym, ℕ, ◌≡◌, ◌∙◌}
 use Rattle.std.proofs.lemmas.Result.{err_from_is_err_and}
 use Rattle.nvme_model.specs.declared.array.Range.{Range}
 use Rattle.driver_cas.specs.Drivers.{area_of}
 use Rattle.driver_cas.specs.SlotStarts.{IsClaimStart}
+use Rattle.driver_cas.specs.declared.call.Call.{Call}
 use Rattle.driver_cas.specs.declared.driver.Driver.{Driver}
 use Rattle.slot_alloc.specs.Areas.{block_of}
-use Rattle.slot_alloc.proofs.Asking.{claiming_now, claims_of, unreleased_now}
+use Rattle.slot_alloc.specs.Claims.{AreTaken, claims_in}
+use Rattle.slot_alloc.proofs.Asking.{claiming_now, claims_of, none_taken, unreleased_now}
 use Rattle.slot_alloc.proofs.Starting.{careful_claimed, goes_on_claimed, goes_on_same}
 use Rattle.slot_alloc.proofs.slots.Slots.begin.Goals as goal
 
@@ -55,6 +57,7 @@ returns-clause-is g c =
       refl,
       refl,
       c.of-began.ensures,
+      c.no_claims.ensures,
       (claims_of g.P.Port d e c.args.self.now c.args.slot c.block.result x.call x.serial c.block.ensures x.ensures.settings x.ensures.later x.ensures.is x.ensures.law.0 x.ensures.law.1 x.ensures.law.2 c.requires.area c.requires.slot).start,
     )
 
@@ -64,7 +67,10 @@ returns-clause-of g c =
     let e = c.start_claim.new.self in
     let x = c.in_ok-call in
     let began = c.of-began.result in
-    claiming_now g.P.Port g.met.P.Port.goes_on d e began c.args.self.now c.args.reach c.args.slot x.call x.serial
+    claiming_now g.P.Port g.met.P.Port.goes_on d e began c.args.self.now c.args.reach c.args.slot x.call x.serial c.no_claims.result
     (claims_of g.P.Port d e c.args.self.now c.args.slot c.block.result x.call x.serial c.block.ensures x.ensures.settings x.ensures.later x.ensures.is x.ensures.law.0 x.ensures.law.1 x.ensures.law.2 c.requires.area c.requires.slot)
     c.requires.area c.requires.slot (subst (λ (b : Driver _ _). g.P.Port.follows b.port d.port) (sym c.of-began.ensures) (g.met.P.Port.stays d.port))
-    (λ any i less. absurd (let none : c.args.slot ≡ 0 = c.requires.lower any in omega (arith, none, less)))
+    (λ any.
+    let none : c.args.slot ≡ 0 = c.requires.lower any in
+    subst (λ (n : ℕ). AreTaken d began.value n (claims_in c.no_claims.result.value)) (sym none)
+    (subst (λ (claims : List (Call _ × ℕ)). AreTaken d began.value 0 claims) (sym c.no_claims.ensures) (none_taken g.P.Port d began.value)))
