@@ -1,10 +1,7 @@
-//! A controller by calls, the entries of a driver's calls by the layout of the standards, and what those calls are
-//! answered, as tests.
+//! A controller and a checker by calls, as tests of what no text brings about.
 #![tactic(auto)]
 
 #[cfg(test)]
-mod answers;
-#[cfg(test)]
-mod entries;
-#[cfg(test)]
 mod steps;
+#[cfg(test)]
+mod takes;

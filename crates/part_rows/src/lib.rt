@@ -1,25 +1,12 @@
-//! The parts below a controller, by vectors of the standards and beside slow walks: what no clause says is whether the
-//! definitions mean what they should.
+//! The parts below a controller, as tests of what no clause and no text shows.
 //!
 //! | Test | Shows |
 //! |---|---|
-//! | `cuts` | units, crossings and pairs that fit, beside a walk from block to block |
-//! | `conflicts` | which ranges conflict, beside a walk over their blocks |
-//! | `entry_bytes` | each field and each bit of an entry and of a completion |
-//! | `statuses` | the bytes of each status |
-//! | `queues` | phases and heads, pass by pass |
-//! | `numbers` | the numbers of refusals and faults |
+//! | `entry_bytes` | that the definitions of entries and completions mean the standards' layouts: each bit of both |
+//! | `ample` | that calls answer where there is memory enough, and the numbers of refusals that no text has |
 #![tactic(auto)]
 
 #[cfg(test)]
-mod conflicts;
-#[cfg(test)]
-mod cuts;
+mod ample;
 #[cfg(test)]
 mod entry_bytes;
-#[cfg(test)]
-mod numbers;
-#[cfg(test)]
-mod queues;
-#[cfg(test)]
-mod statuses;

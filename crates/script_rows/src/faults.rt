@@ -226,3 +226,52 @@ fn a_fault_names_what_failed(rt: HostRuntime) -> Result<(), Fail> {
     }
     Ok(())
 }
+
+/// That a call that is interrupted is made again, each of a reader and each of a writer.
+fn go_on(rt: &impl Abort, alloc: Global, work: Work, text: &[u8], width: u64) {
+    let whole = whole(alloc, work, text);
+    for at in 1..10_000u64 {
+        let calls = Calls {
+            read: at,
+            write: at,
+            read_width: width,
+            write_width: width,
+        };
+        let made = made_with(alloc, work, text, calls, ErrorKind::Interrupted);
+        assert_eq!(rt; made.answer, whole.answer, "{at}");
+        assert_eq!(rt; made.output.as_slice(), whole.output.as_slice(), "{at}");
+        if !made.reader && !made.writer {
+            assert!(rt; at > 1 && at.saturating_mul(width) > whole.output.len() as u64);
+            return;
+        }
+    }
+    panic!(rt; "no end")
+}
+
+#[test]
+fn an_interrupted_call_is_made_again(rt: HostRuntime) -> Result<(), Fail> {
+    for (work, text) in ENDED {
+        let file = file_of(rt.alloc(), text)?;
+        for width in [1, 7, 100_000u64] {
+            go_on(&rt, rt.alloc(), *work, file.as_bytes(), width);
+        }
+    }
+    Ok(())
+}
+
+#[test]
+fn a_writer_that_takes_nothing_fails(rt: HostRuntime) -> Result<(), Fail> {
+    let calls = Calls {
+        read: 0,
+        write: 0,
+        read_width: 7,
+        write_width: 0,
+    };
+    for (work, text) in ENDED {
+        let file = file_of(rt.alloc(), text)?;
+        let made = made_with(rt.alloc(), *work, file.as_bytes(), calls, ErrorKind::Other);
+        assert_eq!(rt; made.answer, Err(RunFault::Output));
+        assert_eq!(rt; made.output.len(), 0);
+    }
+    Ok(())
+}

@@ -1,5 +1,6 @@
-//! Runs and checks of texts whose reader or writer fails at one of its calls, as tests of `casdisk_script`. What
-//! scripts print and what is answered of histories is shown by the built program, on the rows of `scenes/`.
+//! Runs and checks of texts whose reader or writer fails or is interrupted at one of its calls, and the kinds of lines,
+//! as tests. What scripts print and what is answered of histories is shown by the built program, on the rows of
+//! `scenes/`.
 #![tactic(auto)]
 
 #[cfg(test)]
@@ -8,3 +9,5 @@ mod failing;
 mod faults;
 #[cfg(test)]
 mod files;
+#[cfg(test)]
+mod kinds;

@@ -101,9 +101,9 @@ impl Program {
         }
     }
 
-    /// Runs the program as it is.
-    pub fn run(&self, words: &[&str]) -> (i32, Vec<u8>) {
+    /// Runs the program as it is: its exit status, its output, its words on standard error.
+    pub fn run(&self, words: &[&str]) -> (i32, Vec<u8>, String) {
         let ran = Command::new(&self.file).args(words).env_clear().stdin(Stdio::null()).output().expect("the program");
-        (ran.status.code().unwrap_or(-1), ran.stdout)
+        (ran.status.code().unwrap_or(-1), ran.stdout, String::from_utf8_lossy(&ran.stderr).into_owned())
     }
 }

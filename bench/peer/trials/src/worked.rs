@@ -158,7 +158,7 @@ fn is_legal(bench: &Bench, output: &[u8]) -> bool {
         return true;
     }
     let file = bench.casdisk.put("history", &output[..length]);
-    bench.casdisk.run(&["check", &file]) == (0, b"legal\n".to_vec())
+    bench.casdisk.run(&["check", &file]) == (0, b"legal\n".to_vec(), String::new())
 }
 
 /// How many allocations a small race asks for: that differs from race to race.

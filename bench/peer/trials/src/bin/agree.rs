@@ -1,31 +1,36 @@
-//! Whether the product and the peer agree on random scripts, and of every third one on checks of its history, right and
-//! wrong: agree CASDISK FOLDER FIRST-SEED HOW-MANY. What differs is left in the folder.
+//! Whether the product and the peer agree on random scripts, and on checks of the history of each, as it is and edited
+//! in each way: agree CASDISK FOLDER FIRST-SEED HOW-MANY. What differs is left in the folder.
 
 use peer::script::{Kinds, RunFault, check_text, run_script};
 use std::path::Path;
 use std::sync::atomic::{AtomicU64, Ordering::Relaxed};
-use trials::edits::{edited, history_of};
+use trials::edits::{Edit, edited, history_of};
 use trials::lists::{List, Random, in_flight, many_open, mixed, numbers, pairs, random_list, reads, writes};
 use trials::program::Program;
 
 static LINES: AtomicU64 = AtomicU64::new(0);
-static CHECKS: AtomicU64 = AtomicU64::new(0);
-static BAD: AtomicU64 = AtomicU64::new(0);
 
-fn status_of(done: &Result<bool, RunFault>) -> i32 {
-    match done {
-        Ok(true) => 0,
-        Ok(false) => 1,
-        Err(fault) => fault.status().into(),
-    }
+/// Of each way of editing how many histories were checked, and of how many of them was said that they aren't legal, and
+/// that a line is none.
+static EDITED: [[AtomicU64; 3]; Edit::ALL.len()] = [const { [const { AtomicU64::new(0) }; 3] }; Edit::ALL.len()];
+
+// The exit status, and the words on standard error.
+fn end_of(done: &Result<bool, RunFault>) -> (i32, String) {
+    let words = match done {
+        Ok(_) => String::new(),
+        Err(RunFault::BadLine(line)) => format!("bad line {line}\n"),
+        Err(RunFault::BadConfig(number)) => format!("bad config {number}\n"),
+        Err(fault) => format!("{fault:?}\n"),
+    };
+    (done.as_ref().map_or_else(|fault| fault.status().into(), |well| (!well).into()), words)
 }
 
 fn same_script(program: &Program, script: &[u8], seed: u64) -> Vec<u8> {
     let mut theirs = Vec::new();
     let done = run_script(script, &mut theirs, Kinds::ALL).map(|()| true);
     let file = program.put("script", script);
-    let (status, ours) = program.run(&["run", &file]);
-    assert!(status == status_of(&done) && ours == theirs, "scripts differ at seed {seed}: {file}");
+    let (status, ours, words) = program.run(&["run", &file]);
+    assert!((status, words) == end_of(&done) && ours == theirs, "scripts differ at seed {seed}: {file}");
     LINES.fetch_add(ours.split(|byte| *byte == b'\n').count() as u64, Relaxed);
     ours
 }
@@ -34,26 +39,31 @@ fn same_check(program: &Program, history: &[u8], seed: u64) -> i32 {
     let mut theirs = Vec::new();
     let done = check_text(history, &mut theirs);
     let file = program.put("history", history);
-    let (status, ours) = program.run(&["check", &file]);
-    assert!(status == status_of(&done) && ours == theirs, "checks differ at seed {seed}: {file}");
-    CHECKS.fetch_add(1, Relaxed);
-    BAD.fetch_add(u64::from(status != 0), Relaxed);
+    let (status, ours, words) = program.run(&["check", &file]);
+    assert!((status, words) == end_of(&done) && ours == theirs, "checks differ at seed {seed}: {file}");
     status
+}
+
+// The history of a script, as it is and edited in each way.
+fn same_checks(program: &Program, output: &[u8], seed: u64) {
+    let history = history_of(output);
+    assert_eq!(same_check(program, &history.concat(), seed), 0, "a history that isn't legal at seed {seed}");
+    for (edit, counts) in Edit::ALL.iter().zip(&EDITED) {
+        let random = Random::new(seed ^ 0xABCD ^ (*edit as u64 + 1) << 32);
+        if let Some(other) = edited(*edit, &history, &random) {
+            let status = same_check(program, &other.concat(), seed) as usize;
+            counts[0].fetch_add(1, Relaxed);
+            if status > 0 {
+                counts[status].fetch_add(1, Relaxed);
+            }
+        }
+    }
 }
 
 fn compare(program: &Program, seed: u64) {
     let random = Random::new(seed ^ 0xABCD);
     let output = same_script(program, &random_list(seed).script(Some(&random)), seed);
-    if seed % 3 != 0 {
-        return;
-    }
-    let history = history_of(&output);
-    assert_eq!(same_check(program, &history.concat(), seed), 0, "a history that isn't legal at seed {seed}");
-    if history.len() > 3 {
-        for _ in 0..3 {
-            same_check(program, &edited(&history, &random).concat(), seed);
-        }
-    }
+    same_checks(program, &output, seed);
 }
 
 fn long_lists() -> [List; 7] {
@@ -86,8 +96,12 @@ fn main() {
     let program = Program::new(Path::new(casdisk), Path::new(""), &Path::new(folder).join("long"));
     for list in long_lists() {
         let output = same_script(&program, &list.script(None), 0);
-        assert_eq!(same_check(&program, &history_of(&output).concat(), 0), 0, "a history that isn't legal");
+        same_checks(&program, &output, 0);
     }
-    let (lines, checks, bad) = (LINES.load(Relaxed), CHECKS.load(Relaxed), BAD.load(Relaxed));
-    println!("{} scripts, {lines} lines of text, {checks} checks ({bad} not legal): all agree", many + 7);
+    println!("{} scripts, {} lines of text, and the checks of their histories: all agree", many + 7, LINES.load(Relaxed));
+    for (edit, counts) in Edit::ALL.iter().zip(&EDITED) {
+        let [made, bad, none] = counts.each_ref().map(|count| count.load(Relaxed));
+        println!("{}: {made} histories, not legal {bad}, a bad line in {none}: all agree", edit.name());
+        assert!(bad > 0, "no history is bad by this edit");
+    }
 }

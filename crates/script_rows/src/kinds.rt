@@ -1,7 +1,7 @@
-//! Kinds of lines.
+//! Kinds of lines by their names and bits, and the faults of a line by their numbers.
 
 use bitflags::Flags;
-use history::{Kinds, all_kinds, shows};
+use history::{Kinds, LineFault, all_kinds, shows};
 
 #[test]
 fn kinds_have_names(rt: HostRuntime) {
@@ -23,4 +23,11 @@ fn kinds_have_names(rt: HostRuntime) {
     }
     assert_eq!(rt; Kinds::from_name(""), None);
     assert_eq!(rt; Kinds::from_name("Publish"), None);
+}
+
+// No text shows them: a program says which line is bad.
+#[test]
+fn faults_of_lines_have_numbers(rt: HostRuntime) {
+    assert_eq!(rt; LineFault::Malformed.number(), 51);
+    assert_eq!(rt; LineFault::NoMemory.number(), 11);
 }

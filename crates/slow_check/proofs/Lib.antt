@@ -1,9 +1,0 @@
-mod Followed
-mod Fronts
-mod Judging
-mod Limits
-mod Noted
-mod Opened
-mod ReadBack
-mod Skipped
-mod Ticketed

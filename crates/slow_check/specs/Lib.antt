@@ -1,4 +1,0 @@
-pub mod Answers
-pub mod Last
-pub mod Notes
-pub mod Taken
