@@ -13,7 +13,7 @@ const WRITE: u8 = 1;
 
 const READ: u8 = 2;
 
-/// What the steps add to the history: the Read beside the Write finds its first unit written, and its second one not yet.
+/// The history of the steps: the Read beside the Write finds its first unit written, and its second one not yet.
 const LINES: [&[u8]; 14] = [
     b"publish 1 01000100010000000000000000000000000000000000000000000000000000000000000000000000000000000000000003000000000000000000000000000000 A1.A1.A1.A1",
     b"publish 2 02000200010000000000000000000000000000000000000000000000000000000000000000000000000000000000000003000000000000000000000000000000 -",
