@@ -36,6 +36,7 @@ impl Flight {
         let Some(unit) = self.unit() else {
             return Ok(Some(Broken::Refused(Why::WrongState)));
         };
+        // A read tells the proof that the blocks are few enough for their numbers.
         let _count = volume.len();
         let (_posts, placed) = self.counts();
         if block.effect {

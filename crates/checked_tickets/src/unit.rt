@@ -129,6 +129,7 @@ pub(crate) fn answers_at(
     if !has_compare(ticket.op()) {
         return Ok(Vec::new(alloc));
     }
+    // A read tells the proof that the blocks are few enough for their numbers.
     let _count = volume.len();
     let mut answers = Vec::with_capacity(alloc, range.blocks as usize)?;
     for place in 0..range.blocks {
@@ -167,6 +168,7 @@ pub(crate) fn read_at(
     if ticket.op() != Some(Op::Read) {
         return Ok(bytes);
     }
+    // A read tells the proof that the blocks are few enough for their numbers.
     let _count = volume.len();
     for place in 0..range.blocks {
         let lba = range.slba + u64::from(place);

@@ -17,6 +17,7 @@ pub fn write_range(volume: &mut Volume, ticket: &Commands, range: Range)
     ensures value { (l : ℕ) →
         l < length volume.old → contents_in volume.new l ≡ written_in (contents_in volume.old) ticket.now range l }
 {
+    // A read tells the proof that the blocks are few enough for their numbers.
     let _count = volume.len();
     for place in 0..range.blocks {
         let lba = range.slba + u64::from(place);

@@ -59,6 +59,10 @@ pub fn encode_cqe(cqe: &Cqe) -> [u8; 16]
 }
 
 /// The completion with these bytes, or that they aren't one.
+///
+/// # Errors
+///
+/// `ReservedNotZero`, 31, where one of DW0, DW1, CRD, More and DNR isn't zero.
 pub fn decode_cqe(bytes: &[u8; 16]) -> Result<Cqe, CqeFault>
     ensures fault { IsErr result ↔ SetsReserved (cqe_fields bytes.now) }
     ensures fields { IfOk result (λ cqe. completion_fields cqe ≡ cqe_fields bytes.now) }

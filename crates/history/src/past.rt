@@ -38,6 +38,10 @@ impl History {
     }
 
     /// Makes room for `more` entries.
+    ///
+    /// # Errors
+    ///
+    /// `NoMemory` where the room was less and a growth is refused.
     pub fn reserve(&mut self, more: usize) -> Result<(), NoMemory>
         ensures past { self.new.past ≡ self.old.past }
         ensures room { OnOk result (more ≤ self.new.room) }
@@ -46,6 +50,7 @@ impl History {
         ensures few { OnOk result (length self.new.past + more < 2 ^ 64) }
     {
         self.entries.reserve(more)?;
+        // A read tells the proof that the room fits a number of 64 bits.
         let _most = self.entries.capacity();
         Ok(())
     }
@@ -60,6 +65,10 @@ impl History {
     }
 
     /// Adds an entry, or gives it back where a growth was refused.
+    ///
+    /// # Errors
+    ///
+    /// The entry, where a growth is refused.
     pub fn push(&mut self, entry: Entry) -> Result<(), Entry>
         ensures ok { OnOk result (self.new.past ≡ entry ∷ self.old.past) }
         ensures err { OnErr result ((self.new.past ≡ self.old.past) × (self.old.room ≡ 0)) }

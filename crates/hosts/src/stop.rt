@@ -17,10 +17,12 @@ impl Stop {
         }
     }
 
+    /// Sets it.
     pub fn set(&self) {
         self.flag.store(true, Ordering::SeqCst);
     }
 
+    /// Whether it is set.
     pub fn is_set(&self) -> bool {
         self.flag.load(Ordering::SeqCst)
     }

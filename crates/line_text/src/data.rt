@@ -21,7 +21,11 @@ pub const BLOCK: usize = 512;
 ///   and any other block 1,024;
 /// - any other list is `x` and then two digits a byte.
 ///
-/// The answer is `None` where the word is no such spelling. The only error is that memory ran out.
+/// The answer is `None` where the word is no such spelling.
+///
+/// # Errors
+///
+/// `AllocError` where a growth is refused.
 pub fn read_data(alloc: Global, word: &[u8]) -> Result<Option<Vec<u8>>, AllocError>
     ensures value { IfOk result (λ read. option_map (λ v. v.items) read ≡ data_in 512 word.now) }
     ensures found { IfOk result (λ read. IfSome read (λ v. word.now ≡ data_text 512 v.items)) }

@@ -10,7 +10,9 @@ use std::io::{Result as IoResult, Write};
 
 /// Writes the one spelling of the bytes as DATA, which `read_data` describes.
 ///
-/// After an `Err` the writer has some beginning of it.
+/// # Errors
+///
+/// What the writer answered; it has some beginning of it.
 pub fn send_data<W: Write>(writer: &mut W, bytes: &[u8]) -> IoResult<()>
     ensures whole { OnOk result
         (Appends (W.contents writer.old) (W.contents writer.new) (data_text 512 bytes.now)) }

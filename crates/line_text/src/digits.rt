@@ -19,7 +19,11 @@ const PIECE: usize = 512;
 /// Reads bytes from two upper-case hexadecimal digits each; the empty word spells no bytes.
 ///
 /// The answer is `None` where the word spells no list of bytes so, as in lower case or with an odd
-/// number of digits. The only error is that memory ran out.
+/// number of digits.
+///
+/// # Errors
+///
+/// `AllocError` where a growth is refused.
 pub fn read_hex(alloc: Global, word: &[u8]) -> Result<Option<Vec<u8>>, AllocError>
     ensures value { IfOk result (λ read. option_map (λ v. v.items) read ≡ bytes_in word.now) }
     ensures found { IfOk result (λ read. IfSome read (λ v. word.now ≡ encode_upper v.items)) }
@@ -62,7 +66,9 @@ fn is_upper(word: &[u8]) -> bool
 
 /// Writes each byte as two upper-case hexadecimal digits.
 ///
-/// After an `Err` the writer has some beginning of them.
+/// # Errors
+///
+/// What the writer answered; it has some beginning of them.
 pub fn send_hex<W: Write>(writer: &mut W, bytes: &[u8]) -> IoResult<()>
     ensures whole { OnOk result
         (Appends (W.contents writer.old) (W.contents writer.new) (encode_upper bytes.now)) }

@@ -63,7 +63,11 @@ impl Model for Lines {
 }
 
 impl Lines {
-    /// Makes the room that reads go into. The only error is that memory ran out.
+    /// Makes the room that reads go into.
+    ///
+    /// # Errors
+    ///
+    /// `AllocError` where a growth is refused.
     pub fn new(alloc: Global) -> Result<Lines, AllocError>
         ensures { IfOk result (λ s. s ≡ []) }
     {

@@ -57,7 +57,9 @@ pub fn read_u64(word: &[u8]) -> Option<u64>
 
 /// Writes the number's decimal digits.
 ///
-/// After an `Err` the writer has some beginning of them.
+/// # Errors
+///
+/// What the writer answered; it has some beginning of them.
 pub fn send_number<W: Write>(writer: &mut W, n: u64) -> IoResult<()>
     ensures whole { OnOk result
         (Appends (W.contents writer.old) (W.contents writer.new) (decimal n)) }

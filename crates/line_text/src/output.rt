@@ -6,8 +6,10 @@ use std::io::{Error, ErrorKind, Result, Write};
 
 /// Writes the bytes, as `write_all` does, which says nothing of a writer that failed.
 ///
-/// After an `Err` the writer has some beginning of them. A writer that takes none is an error, of kind
-/// `WriteZero`; a write that was interrupted is tried again.
+/// # Errors
+///
+/// What the writer answered; it has some beginning of them. A writer that takes none is an error, of kind `WriteZero`; a
+/// write that was interrupted is tried again.
 pub fn send<W: Write>(writer: &mut W, bytes: &[u8]) -> Result<()>
     ensures whole { OnOk result
         (Appends (W.contents writer.old) (W.contents writer.new) bytes.now) }
@@ -34,7 +36,9 @@ pub fn send<W: Write>(writer: &mut W, bytes: &[u8]) -> Result<()>
 
 /// Writes the line, which has no line feed in it, and then a line feed.
 ///
-/// After an `Err` the writer has some beginning of both.
+/// # Errors
+///
+/// What the writer answered; it has some beginning of both.
 pub fn send_line<W: Write>(writer: &mut W, line: &[u8]) -> Result<()>
     ensures whole { OnOk result
         (Appends (W.contents writer.old) (W.contents writer.new) (line.now ++ 10 ∷ [])) }

@@ -26,7 +26,9 @@ pub enum Word<'a> {
 
 /// Splits the line at each byte `at`: a line with n of them has n + 1 words, some maybe empty.
 ///
-/// The only error is that memory ran out.
+/// # Errors
+///
+/// `AllocError` where a growth is refused.
 pub fn split_words<'a>(alloc: Global, line: &'a [u8], at: u8) -> Result<Vec<&'a [u8]>, AllocError>
     ensures { IfOk result
         (λ words. map (λ word. word.now) words.items ≡ slice_split (λ b. b == at) line.now) }
@@ -36,7 +38,9 @@ pub fn split_words<'a>(alloc: Global, line: &'a [u8], at: u8) -> Result<Vec<&'a 
 
 /// Writes the words, with one space between each two.
 ///
-/// After an `Err` the writer has some beginning of that.
+/// # Errors
+///
+/// What the writer answered; it has some beginning of that.
 pub fn send_words<W: Write>(writer: &mut W, words: &[Word<'_>]) -> IoResult<()>
     ensures whole { OnOk result
         (Appends (W.contents writer.old) (W.contents writer.new) (join_with_byte 32 (map word_text words.now))) }
@@ -52,7 +56,9 @@ pub fn send_words<W: Write>(writer: &mut W, words: &[Word<'_>]) -> IoResult<()>
 
 /// Writes each word behind a space, as what follows the words that are written already.
 ///
-/// After an `Err` the writer has some beginning of that.
+/// # Errors
+///
+/// What the writer answered; it has some beginning of that.
 pub fn send_behind<W: Write>(writer: &mut W, words: &[Word<'_>]) -> IoResult<()>
     ensures whole { OnOk result
         (Appends (W.contents writer.old) (W.contents writer.new) (behind 32 (map word_text words.now))) }

@@ -81,6 +81,7 @@ fn put_in_use(used: &mut CidsInUse, cids: Cids)
     requires room { length used.old.cids + length cids ≤ used.old.room }
     ensures more { used.new ≡ record used.old { cids = used.old.cids ++ cids } }
 {
+    // A read tells the proof that there are two at most.
     let _most = cids.len();
     let Some(first) = cids.get(0) else {
         return;

@@ -23,6 +23,7 @@ impl Core {
         ensures legal { IsLegal self.new.config self.new.past }
         ensures array { IsOneAtATime self.new.config self.new.past }
     {
+        // A read tells the proof what the type keeps.
         let _ = &self.alloc;
         self.serve(step)
     }
@@ -44,6 +45,7 @@ impl Core {
         ensures full { OnErr result (vec_capacity out.old < vec_len out.old + vec_len steps) }
         ensures back { IfErr result (λ back. back.0.items ≡ steps.items) }
     {
+        // A read tells the proof what the type keeps.
         let _ = &self.alloc;
         let mut rest = steps;
         if let Err(error) = out.reserve(rest.len()) {
