@@ -6,7 +6,7 @@ use Rattle.nvme_model.specs.declared.step.Step.{Step}
 use Rattle.nvme_model.specs.declared.submission.Submission.{Submission}
 use Rattle.meet_lock.specs.Passes as passes
 use Rattle.driver_calls.specs.Views
-use Rattle.driver_calls.specs.Views.{IsFull, PortView, log_of}
+use Rattle.driver_calls.specs.Views.{IsFull, PortView, Publishes, log_of}
 use Rattle.driver_cas.specs.Passes.{view_at}
 use Rattle.driver_cas.specs.declared.fault.PortFault.{PortFault}
 use Rattle.driver_cas.specs.declared.shared_port.SharedPort.{SharedPort}
@@ -32,3 +32,8 @@ abbrev pub IsRefused : ℕ → PortView → PortView → ℕ → List Submission
 IsRefused passes a b q batch PortFault.RingFull = IsFull b q batch
 IsRefused passes a b q batch PortFault.Busy = (passes ≢ 1) × (b ≡ a)
 IsRefused passes a b q batch PortFault.NoMemory = refusal b.config (entries b.seen) (Step.Publish q batch) ≡ None
+
+-- After a batch was published what was seen ends with its Publish, and as many notices are counted as before.
+pub record IsPublished (a b : SharedPort) (q : ℕ) (batch : List Submission) : Type 0 where
+  pub publishes : Publishes (view_of a) (view_of b) q batch
+  pub counted : b.counted ≡ a.counted

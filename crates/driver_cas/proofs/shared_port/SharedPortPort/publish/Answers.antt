@@ -26,9 +26,12 @@ returns-in-Ok-clause-accepted c =
     let k = c.in-Ok.ensures in
     let a = k.accepted.by in
     record {
-      before = a.before;
-      begins = before_accepted c.args.self.now.pass c.attempt_open.new.pass a.entry a.before k.same a.ends a.adds k.knows.1;
-      ends = a.ends ∙ ap₂ (λ (n : ℕ) (e : Entry). (n, e) ∷ a.before) (sym k.same.1) a.says.1;
+      publishes = record {
+        before = a.before;
+        begins = before_accepted c.args.self.now.pass c.attempt_open.new.pass a.entry a.before k.same a.ends a.adds k.knows.1;
+        ends = a.ends ∙ ap₂ (λ (n : ℕ) (e : Entry). (n, e) ∷ a.before) (sym k.same.1) a.says.1;
+      };
+      counted = refl;
     }
 
 pub returns-in-Err-Refused-Publish-clause-back : goal.returns-in-Err-Refused-Publish-clause-back
@@ -46,10 +49,12 @@ returns-in-Err-Refused-Publish-clause-refused c =
     let q = c.attempt_open.new.pass in
     let r = refused_publish a.pass q c.args.queue c.args.batch e.field-0 e.field-0-0 e.why e.batch e.field-0-is e.field-0-0-is d.declined in
     let past = entries (seen q) in
-    let step = Step.Publish c.args.queue c.args.batch in
-    fault_tells (passes_of a.pass) (view_of a) (record { config = config_of q; queue = a.queue; pass = number q; seen = seen q }) c.args.queue c.args.batch c.publish_fault.result
-    (c.publish_fault.ensures ∙ same_why _ _ _ _ r.1 ∙ ap (λ (g : ConfigNumbers). unwrap_or (refusal g past step) Why.NoMemory) (sym d.same.3))
-    (subst (λ (g : ConfigNumbers). (refusal g past step ≡ Some Why.NoRoom) ⊎ (refusal g past step ≡ None)) (sym d.same.3) (owned_publish (view_of a) past c.args.queue c.args.batch c.requires.own c.requires.some))
+    let step = Step.Publish c.args.queue c.args.batch in (
+      fault_tells (passes_of a.pass) (view_of a) (record { config = config_of q; queue = a.queue; pass = number q; seen = seen q }) c.args.queue c.args.batch c.publish_fault.result
+          (c.publish_fault.ensures ∙ same_why _ _ _ _ r.1 ∙ ap (λ (g : ConfigNumbers). unwrap_or (refusal g past step) Why.NoMemory) (sym d.same.3))
+          (subst (λ (g : ConfigNumbers). (refusal g past step ≡ Some Why.NoRoom) ⊎ (refusal g past step ≡ None)) (sym d.same.3) (owned_publish (view_of a) past c.args.queue c.args.batch c.requires.own c.requires.some)),
+      refl,
+    )
 
 pub returns-in-Ok-clause-later : goal.returns-in-Ok-clause-later
 returns-in-Ok-clause-later c =
