@@ -8,8 +8,8 @@ use std::io::{Error, ErrorKind, Result, Write};
 ///
 /// # Errors
 ///
-/// What the writer answered; it has some beginning of them. A writer that takes none is an error, of kind `WriteZero`; a
-/// write that was interrupted is tried again.
+/// What the writer answered; it has some beginning of them. A writer that takes none is an error, of kind `WriteZero`;
+/// a write that was interrupted is tried again.
 pub fn send<W: Write>(writer: &mut W, bytes: &[u8]) -> Result<()>
     ensures whole { OnOk result
         (Appends (W.contents writer.old) (W.contents writer.new) bytes.now) }
