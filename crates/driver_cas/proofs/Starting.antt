@@ -7,13 +7,12 @@ use Rattle.nvme_model.specs.Operations.{is_pair}
 use Rattle.nvme_model.specs.declared.operation.Op.{Op}
 use Rattle.nvme_model.specs.declared.submission.Submission.{Submission}
 use Rattle.nvme_model.proofs.Written.{clash}
-use Rattle.cid_table.specs.Cids.{Cids, held, queues_of}
+use Rattle.cid_table.specs.Cids.{Cids, held}
 use Rattle.cid_table.specs.declared.held.Held.{Held}
 use Rattle.driver_calls.specs.Log.{has_cid, sent}
 use Rattle.driver_calls.specs.Says.{IsCallIn}
 use Rattle.driver_calls.specs.Views.{since}
 use Rattle.driver_calls.specs.declared.event.PortEvent.{PortEvent}
-use Rattle.driver_commands.specs.Entries.{IsBatch}
 use Rattle.driver_commands.specs.declared.request.CallData.{CallData}
 use Rattle.driver_commands.specs.declared.request.Request.{Request}
 use Rattle.driver_cas.specs.Drivers.{IsApart, IsCallOf, IsSame, made, number_of}
