@@ -49,7 +49,7 @@ module _ (c : ConfigNumbers) (entries : List Entry) (k : ℕ) (old mid new : Opt
   printed_next line h =
       record {
         lines = below_more (λ (j : ℕ). (d : Entry) → HasLine (slice_index_or entries j d)) k p.lines
-        (λ d. subst HasLine (at ∙ get_or_default entries k e d low) line);
+            (λ d. subst HasLine (at ∙ get_or_default entries k e d low) line);
         done = p.done ++ (entry_line e ++ 10 ∷ []);
         whole = behind ∙ sym (append_assoc p.done (entry_line e ++ 10 ∷ []) (with_feeds (map entry_line (drop (k + 1) entries))));
         written = Appends-trans old mid new p.done (entry_line e ++ 10 ∷ []) p.written h;
