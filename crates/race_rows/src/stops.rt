@@ -7,10 +7,11 @@ ghost use Rattle.host_rounds.specs.Hosts.{IsSlotArea};
 use history::Config;
 use history_check::check;
 use host_rounds::{Play, run_hosts};
-use hosts::{Hall, Hand, Hands, HostHand, OpenGate, WorkerHand, hall_of, run_crew};
+use hosts::{Gate, Hall, Hand, Hands, HostHand, Point, WorkerHand, hall_of, run_crew};
 use nvme_model::array::Range;
 use std::alloc::{AllocError as NoMemory, Global};
 use std::sync::Wait;
+use std::sync::atomic::{AtomicUsize, Ordering};
 use std::test::Fail;
 use std::thread::{Threads, join, yield_now};
 use step_core::Core;
@@ -18,19 +19,55 @@ use step_core::Core;
 /// More rounds than a test has time for.
 const ROUNDS: u32 = u32::MAX;
 
-// Sets the stop flag after a while.
-fn stops_late(hall: &Hall<OpenGate>) {
-    for _ in 0..2000 {
+/// How many Fetches, Grants and Blocks are made before the hosts are stopped.
+const ENOUGH: usize = 500;
+
+/// Counts Fetches, Grants and Blocks.
+#[derive(Drop)]
+struct Steps {
+    made: AtomicUsize,
+}
+
+impl Gate for Steps {
+    fn pass(&self, point: Point, _ticket: u64) {
+        if point != Point::Posting {
+            self.made.fetch_add(1, Ordering::SeqCst);
+        }
+    }
+}
+
+// Sets the stop flag once enough steps were made, or the hosts have ended.
+fn stops_late(hall: &Hall<Steps>) {
+    for _ in 0..u64::MAX {
+        if hall.stop.is_set() || hall.gate.made.load(Ordering::SeqCst) >= ENOUGH {
+            break;
+        }
         yield_now();
     }
     hall.stop.set();
+}
+
+// The hosts, and the stop flag behind them.
+fn hosts_to_the_end<R: Threads + Wait + Sync>(
+    rt: &R,
+    alloc: Global,
+    hall: &Hall<Steps>,
+    play: &Play,
+    hands: Vec<HostHand>,
+) -> Result<(), NoMemory>
+    requires hands { All (IsHostOf hall.now play.now.config) hands.items }
+    requires slots { IsSlotArea play.now.slots }
+{
+    let ended = run_hosts(rt, alloc, hall, play, hands);
+    hall.stop.set();
+    ended
 }
 
 // The hosts, and who stops them.
 fn guests<R: Threads + Wait + Sync>(
     rt: &R,
     alloc: Global,
-    hall: &Hall<OpenGate>,
+    hall: &Hall<Steps>,
     play: &Play,
     hands: Vec<HostHand>,
 ) -> Result<(), NoMemory>
@@ -41,7 +78,7 @@ fn guests<R: Threads + Wait + Sync>(
         rt,
         move || -> Result<(), NoMemory>
             requires { All (IsHostOf hall.now play.now.config) hands.items × IsSlotArea play.now.slots }
-        { run_hosts(rt, alloc, hall, play, hands) },
+        { hosts_to_the_end(rt, alloc, hall, play, hands) },
         || stops_late(hall),
     );
     ended
@@ -51,7 +88,7 @@ fn guests<R: Threads + Wait + Sync>(
 fn all<R: Threads + Wait + Sync>(
     rt: &R,
     alloc: Global,
-    hall: &Hall<OpenGate>,
+    hall: &Hall<Steps>,
     play: &Play,
     hands: Hands,
 ) -> Result<Hand, NoMemory>
@@ -81,7 +118,10 @@ fn all<R: Threads + Wait + Sync>(
 
 // The controller of a race that is stopped.
 fn stopped<R: Threads + Wait + Sync>(rt: &R, alloc: Global, config: Config) -> Result<Core, Fail> {
-    let (hall, hands) = hall_of(alloc, config, OpenGate, 2)?;
+    let gate = Steps {
+        made: AtomicUsize::new(0),
+    };
+    let (hall, hands) = hall_of(alloc, config, gate, 2)?;
     let play = Play {
         config,
         slots: Range { slba: 0, blocks: 2 },
@@ -97,7 +137,7 @@ fn a_stop_flag_ends_all_loops(rt: HostRuntime) -> Result<(), Fail> {
     let config = Config::new(64, 1, 1, 0, 0, 2, 8, 8, 16)?;
     let core = stopped(&rt, rt.alloc(), config)?;
     let history = core.history().as_slice();
-    assert!(rt; !history.is_empty());
+    assert!(rt; history.len() >= ENOUGH);
     assert!(rt; check(rt.alloc(), &core.config(), history).is_ok());
     Ok(())
 }
