@@ -1,3 +1,4 @@
 mod Apps
 mod Parsed
+mod Races
 mod Refused

@@ -1,6 +1,6 @@
 -- What clap's matches say of a command line.
 use Rattle.std.proofs.Common.{◌≡◌, ℕ, true, List, Option, Some, None, ap, refl, sym, ◌∙◌}
-use Rattle.std.specs.Prelude.{Ok, Result, option_map}
+use Rattle.std.specs.Prelude.{Err, IfSome, Ok, Result, option_map}
 use Rattle.std.specs.Str.Parse.{ParsesUnsigned}
 use Rattle.std.specs.declared.num.ParseIntError.{ParseIntError}
 use Rattle.clap.specs.Words.{ReadsOne, Row, Text, one_of}
@@ -16,6 +16,26 @@ pub says_number : (G : Text → Result ℕ ParseIntError → Type 0) (o : Option
     → (o ≡ None → Some n ≡ None) → ((t : Text) → o ≡ Some t → ReadsOne G t (Some n)) → SaysNumber name rows n
 says_number G None name rows n is only none value = let bad : Some n ≡ None = none refl in absurd cc
 says_number G (Some t) name rows n is only none value = (t, sym is, only t (Ok n) (value t refl))
+
+-- where one was read
+pub says_it : (G : Text → Result ℕ ParseIntError → Type 0) (o : Option Text) (name : Text) (rows : List Row) (r : Option ℕ) → o ≡ one_of name rows
+    → ((u : Text) (x : Result ℕ ParseIntError) → G u x → ParsesUnsigned 64 10 u x)
+    → (o ≡ None → r ≡ None) → ((t : Text) → o ≡ Some t → ReadsOne G t r) → IfSome r (SaysNumber name rows)
+says_it G o name rows None is only none value = tt
+says_it G o name rows (Some n) is only none value = says_number G o name rows n is only none value
+
+-- what is read of a text is the number that it says
+pub same_number : (G : Text → Result ℕ ParseIntError → Type 0) (t : Text) (r : Option ℕ)
+    → ((x : Result ℕ ParseIntError) → G t x → ParsesUnsigned 64 10 t x) → ReadsOne G t r
+    → (n : ℕ) → ParsesUnsigned {E = ParseIntError} 64 10 t (Ok n) → r ≡ Some n
+same_number G t (Some v) only reads n says = let read = only (Ok v) reads in ap Some (read.1 ∙ sym says.1)
+same_number G t None only reads n says = absurd (only (Err reads.0) reads.1 says.0)
+
+-- the number that an option says is the one that is read
+pub reads_it : (G : Text → Result ℕ ParseIntError → Type 0) (o : Option Text) (name : Text) (rows : List Row) (r : Option ℕ) → o ≡ one_of name rows
+    → ((u : Text) (x : Result ℕ ParseIntError) → G u x → ParsesUnsigned 64 10 u x) → ((t : Text) → o ≡ Some t → ReadsOne G t r)
+    → (n : ℕ) → SaysNumber name rows n → r ≡ Some n
+reads_it G o name rows r is only value n says = same_number G says.0 r (λ x. only says.0 x) (value says.0 (is ∙ says.1)) n says.2
 
 -- a command's name and its matches, from both parts
 pub both_parts : {X : Type 0} (s : Option X) (g : X → Text) (h : X → List Row) (name : Text) (rows : List Row)
@@ -41,4 +61,4 @@ by_command words name rows e (Asked.Run kinds file) h = (name, rows, e, h)
 by_command words name rows e (Asked.Check file) h = (name, rows, e, h)
 by_command words name rows e (Asked.Explain file) h = (name, rows, e, h)
 by_command words name rows e (Asked.Race r) h = (name, rows, e, h)
-by_command words name rows e (Asked.Show text) h = tt
+by_command words name rows e (Asked.Show text) h = absurd h

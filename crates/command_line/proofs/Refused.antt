@@ -1,7 +1,8 @@
 -- What is said of a command line that is refused.
-use Rattle.std.proofs.Common.{◌≡◌, Bool, true, false, List, Option, Some, None, inl, inr, refl}
+use Rattle.std.proofs.Common.{◌≡◌, ◌∙◌, ◌⊎◌, Bool, true, false, List, Option, Some, None, inl, inr, refl, sym}
 use Rattle.std.specs.Prelude.{option_map}
 use Rattle.clap.specs.Words.{Row, Text, subcommand_of, takes}
+use Rattle.clap.specs.declared.error.kind.ErrorKind.{ErrorKind}
 use Rattle.command_line.specs.Asking.{AreRefused, AskNothing, IsRefusedBy}
 use Rattle.command_line.specs.CommandLine.{casdisk_app, command_in, is_taken}
 use Rattle.command_line.specs.declared.request.UsageFault.{UsageFault}
@@ -39,6 +40,11 @@ module _ (words : List Text) where
 pub not_true : (b : Bool) (P : Type 0) → (b ≡ true → P) → (P → ⊥) → b ≡ false
 not_true false P f n = refl
 not_true true P f n = absurd (n (f refl))
+
+-- a text that is asked for isn't want of memory
+pub shown : (k : ErrorKind) → (k ≡ ErrorKind.DisplayHelp) ⊎ (k ≡ ErrorKind.DisplayVersion) → k ≡ ErrorKind.OutOfMemory → ⊥
+shown k (inl h) o = let e : ErrorKind.DisplayHelp ≡ ErrorKind.OutOfMemory = sym h ∙ o in absurd cc
+shown k (inr h) o = let e : ErrorKind.DisplayVersion ≡ ErrorKind.OutOfMemory = sym h ∙ o in absurd cc
 
 -- nothing has no parts
 pub no_parts : {X : Type 0} (s : Option X) (g : X → Text) (h : X → List Row) → option_map g s ≡ None → option_map {U = Text × List Row} (λ b. (g b, h b)) s ≡ None

@@ -25,13 +25,22 @@ abbrev pub SaysNumber : Text → List Row → ℕ → Type 0
 SaysNumber name rows n =
     (digits : Text) × (one_of name rows ≡ Some digits) × ParsesUnsigned {E = ParseIntError} 64 10 digits (Ok n)
 
+-- the numbers that the options of a race say
+pub record SaysNumbers (rows : List Row) (hosts workers slots rounds queues : ℕ) : Type 0 where
+  pub of_hosts : SaysNumber (codes "hosts") rows hosts
+  pub of_workers : SaysNumber (codes "workers") rows workers
+  pub of_slots : SaysNumber (codes "slots") rows slots
+  pub of_rounds : SaysNumber (codes "rounds") rows rounds
+  pub of_queues : SaysNumber (codes "queues") rows queues
+
 -- the numbers of a race
-pub record SaysRace (rows : List Row) (r : Race) : Type 0 where
-  pub hosts : SaysNumber (codes "hosts") rows r.hosts
-  pub workers : SaysNumber (codes "workers") rows r.workers
-  pub slots : SaysNumber (codes "slots") rows r.slots
-  pub rounds : SaysNumber (codes "rounds") rows r.rounds
-  pub queues : SaysNumber (codes "queues") rows r.queues
+abbrev pub SaysRace : List Row → Race → Type 0
+SaysRace rows r = SaysNumbers rows r.hosts r.workers r.slots r.rounds r.queues
+
+-- a number of a race is missing, or one is out of its range
+abbrev pub IsNoRace : List Row → Type 0
+IsNoRace rows = (hosts workers slots rounds queues : ℕ) → SaysNumbers rows hosts workers slots rounds queues
+    → usage_of hosts workers slots rounds queues ≢ None
 
 -- what the options of a command of this name ask for
 abbrev pub AsksBy : Text → List Row → Asked → Type 0
@@ -47,21 +56,31 @@ abbrev pub AsksByCommand : List Text → Asked → Type 0
 AsksByCommand words asked =
     (name : Text) × (rows : List Row) × (command_in words ≡ Some (name, rows)) × AsksBy name rows asked
 
--- the words ask for it; of a text that is shown nothing is said
+-- the words ask for it; a text is shown only where clap takes them for no command line, as where they ask for help
 abbrev pub Asks : List Text → Asked → Type 0
-Asks words (Asked.Show text) = Unit {0}
+Asks words (Asked.Show text) = is_taken words ≡ false
 Asks words asked = AsksByCommand words asked
 
 -- no command has this name
 abbrev pub IsOther : Text → Type 0
 IsOther name = (name ≢ codes "run") × (name ≢ codes "check") × (name ≢ codes "explain") × (name ≢ codes "race")
 
--- The options of a command of this name ask for nothing: no file is named, or the kinds of lines are unknown or none.
--- Of the numbers of a race it isn't said which are refused. There is no other command.
+-- no file is named
+abbrev pub IsNoFile : List Row → Type 0
+IsNoFile rows = first_of (codes "FILE") rows ≡ None
+
+-- no kinds of lines to show are named, or unknown ones
+abbrev pub IsNoKind : List Row → Type 0
+IsNoKind rows = kinds_asked (first_of (codes "show") rows) ≡ None
+
+-- The options of a command of this name ask for nothing: no file is named where one has to be, the kinds of lines are
+-- unknown or none, or the numbers are those of no race. There is no other command.
 abbrev pub AskNothing : Text → List Row → Type 0
 AskNothing name rows =
-    (first_of (codes "FILE") rows ≡ None) ⊎ (kinds_asked (first_of (codes "show") rows) ≡ None)
-    ⊎ (name ≡ codes "race") ⊎ IsOther name
+    ((name ≡ codes "run") × (IsNoFile rows ⊎ IsNoKind rows))
+    ⊎ (((name ≡ codes "check") ⊎ (name ≡ codes "explain")) × IsNoFile rows)
+    ⊎ ((name ≡ codes "race") × IsNoRace rows)
+    ⊎ IsOther name
 
 -- a text says why options are refused only where they ask for nothing
 abbrev pub IsRefusedBy : Text → List Row → UsageFault → Type 0

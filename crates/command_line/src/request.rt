@@ -6,6 +6,7 @@ ghost use Rattle.command_line.specs.declared.request.UsageFault.TheVariants.{NoM
 use history::Kinds;
 use race_numbers::Race;
 use std::alloc::AllocError;
+use thiserror::Error;
 
 /// What the words of the command line ask for.
 #[derive(Drop)]
@@ -23,11 +24,13 @@ pub enum Asked<'a> {
 }
 
 /// Why the words ask for nothing.
-#[derive(Debug, Drop)]
+#[derive(Debug, Drop, Error)]
 pub enum UsageFault {
     /// They are a bad command line, for this reason.
+    #[error("{0}")]
     Text(String),
     /// A growth was refused.
+    #[error("no memory")]
     NoMemory,
 }
 

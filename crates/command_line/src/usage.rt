@@ -1,8 +1,10 @@
 //! The command line.
 
-ghost use Rattle.std.specs.Prelude.{◌≡◌, IfErr, IfOk, IsOkAnd, codes, map, option_map, string_bytes, true};
+ghost use Rattle.std.specs.Prelude.{◌≡◌, IfErr, IfOk, IfSome, IsOkAnd, Some, codes, map, option_map};
+ghost use Rattle.std.specs.Prelude.{string_bytes, true, ℕ};
 ghost use Rattle.clap.specs.Words.{app_of, first_of, found_of, rows_of, rule_of, with_rule, with_subcommand};
-ghost use Rattle.command_line.specs.Asking.{AreRefused, Asks, AsksBy, IsRaceInRange, IsRefusedBy, kinds_asked};
+ghost use Rattle.command_line.specs.Asking.{AreRefused, Asks, AsksBy, IsRaceInRange, IsRefusedBy, SaysNumber};
+ghost use Rattle.command_line.specs.Asking.{SaysNumbers, kinds_asked};
 ghost use Rattle.command_line.specs.CommandLine.{casdisk_app, default_rule, history_app, needed_rule};
 ghost use Rattle.command_line.specs.CommandLine.{number_rule, race_app, run_app};
 
@@ -258,18 +260,34 @@ fn run_asked<'a>(alloc: Global, matches: &ArgMatches<'a>) -> Result<Asked<'a>, U
     }
 }
 
+// The number that this option says.
+fn number_asked(matches: &ArgMatches<'_>, name: &'static str) -> Option<u64>
+    ensures says { IfSome result (SaysNumber name.entry.now (rows_of (found_of matches.now))) }
+    ensures only { (n : ℕ) → SaysNumber name.entry.now (rows_of (found_of matches.now)) n → result ≡ Some n }
+{
+    matches.get_one::<u64>(name)
+}
+
+// The numbers of a race, where its options say all of them.
+fn numbers_asked(matches: &ArgMatches<'_>) -> Option<(u64, u64, u64, u64, u64)>
+    ensures says { IfSome result (λ n. SaysNumbers (rows_of (found_of matches.now)) n.0 n.1 n.2 n.3 n.4) }
+    ensures only { (h w s r q : ℕ) → SaysNumbers (rows_of (found_of matches.now)) h w s r q
+        → result ≡ Some (h, w, s, r, q) }
+{
+    let hosts = number_asked(matches, "hosts")?;
+    let workers = number_asked(matches, "workers")?;
+    let slots = number_asked(matches, "slots")?;
+    let rounds = number_asked(matches, "rounds")?;
+    let queues = number_asked(matches, "queues")?;
+    Some((hosts, workers, slots, rounds, queues))
+}
+
 fn race_asked<'a>(alloc: Global, matches: &ArgMatches<'a>) -> Result<Asked<'a>, UsageFault>
     ensures asks { IfOk result (AsksBy (codes "race") (rows_of (found_of matches.now))) }
     ensures race { IfOk result IsRaceInRange }
     ensures refuses { IfErr result (IsRefusedBy (codes "race") (rows_of (found_of matches.now))) }
 {
-    let (Some(hosts), Some(workers), Some(slots), Some(rounds), Some(queues)) = (
-        matches.get_one::<u64>("hosts"),
-        matches.get_one::<u64>("workers"),
-        matches.get_one::<u64>("slots"),
-        matches.get_one::<u64>("rounds"),
-        matches.get_one::<u64>("queues"),
-    ) else {
+    let Some((hosts, workers, slots, rounds, queues)) = numbers_asked(matches) else {
         return Err(text_of(alloc, "error: a number is missing"));
     };
     match Race::new(hosts, workers, slots, rounds, queues) {

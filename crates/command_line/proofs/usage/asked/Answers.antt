@@ -1,14 +1,14 @@
 use Rattle.std.proofs.Common.{List, ap, map, string_bytes, subst, sym, ◌≡◌, ◌∙◌}
-use Rattle.std.specs.Prelude.{IfErr, Result, Some}
+use Rattle.std.specs.Prelude.{IfErr, IfOk, Result, Some}
 use Rattle.std.proofs.lemmas.Result.{IfErr-weaker, IfOk-weaker}
 use Rattle.clap.specs.Words.{App, Text, found_of, is_simple, rows_of, subcommand_of, takes}
 use Rattle.clap.specs.declared.error.kind.ErrorKind.{ErrorKind}
-use Rattle.command_line.specs.Asking.{AreRefused}
+use Rattle.command_line.specs.Asking.{AreRefused, Asks}
 use Rattle.command_line.specs.CommandLine.{command_in, is_taken}
 use Rattle.command_line.specs.declared.request.Asked.{Asked}
 use Rattle.command_line.specs.declared.request.UsageFault.{UsageFault}
 use Rattle.command_line.proofs.Parsed.{both_parts, by_command, casdisk_is_simple, named}
-use Rattle.command_line.proofs.Refused.{by_no_command, by_options, by_words, names_none, no_parts, not_true, taken}
+use Rattle.command_line.proofs.Refused.{by_no_command, by_options, by_words, names_none, no_parts, not_true, shown, taken}
 use Rattle.command_line.proofs.usage.asked.Goals as goal
 use Rattle.command_line.proofs.usage.asked.Goals.{in-OutOfMemory, in-DisplayHelp+in_ok-to_string-in-DisplayHelp, in_default+in_ok-to_string-in_default}
 
@@ -50,4 +50,16 @@ returns-in-Err-clause-refuses c =
       | in_default+in_ok-to_string-in_default w ↦
           let not_taken = not_true (is_taken words) (c.kind.result ≡ ErrorKind.OutOfMemory) (λ h. c.kind.ensures ∙ c.in-Err.ensures.passes (ap (λ (a : App). takes a words) app_is ∙ sym (taken words) ∙ h)) (λ k. w.in_default.not-OutOfMemory k) in
           subst (λ (r : Result Asked UsageFault). IfErr r (AreRefused words)) (sym w.result-is) (by_words words not_taken (UsageFault.Text w.in_ok-to_string-in_default.field-0))
+    ]
+
+pub returns-in-Err-clause-asks : goal.returns-in-Err-clause-asks
+returns-in-Err-clause-asks c =
+    let words : List Text = map string_bytes c.args.words.now in
+    let app_is = c.in_ok-command.ensures in
+    elim c.match-kind.branch [
+      | in-OutOfMemory w ↦ subst (λ (r : Result Asked UsageFault). IfOk r (Asks words)) (sym w.result-is) tt
+      | in-DisplayHelp+in_ok-to_string-in-DisplayHelp w ↦
+          let not_taken = not_true (is_taken words) (c.kind.result ≡ ErrorKind.OutOfMemory) (λ h. c.kind.ensures ∙ c.in-Err.ensures.passes (ap (λ (a : App). takes a words) app_is ∙ sym (taken words) ∙ h)) (shown _ w.in-DisplayHelp.is) in
+          subst (λ (r : Result Asked UsageFault). IfOk r (Asks words)) (sym w.result-is) not_taken
+      | in_default+in_ok-to_string-in_default w ↦ subst (λ (r : Result Asked UsageFault). IfOk r (Asks words)) (sym w.result-is) tt
     ]

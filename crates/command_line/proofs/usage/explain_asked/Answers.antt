@@ -1,4 +1,4 @@
-use Rattle.std.proofs.Common.{codes, inl, refl, sym, ◌∙◌}
+use Rattle.std.proofs.Common.{codes, inl, inr, refl, sym, ◌∙◌}
 use Rattle.clap.specs.Words.{found_of, rows_of}
 use Rattle.clap.proofs.WalkLemmas.{first_value-rows}
 use Rattle.command_line.proofs.Refused.{refused_by}
@@ -9,4 +9,4 @@ returns-in-Some-clause-asks c = (refl, sym (c.in-Some.ensures ∙ first_value-ro
 
 pub returns-in-None-clause-refuses : goal.returns-in-None-clause-refuses
 returns-in-None-clause-refuses c =
-    refused_by (codes "explain") (rows_of (found_of c.args.matches.now)) c.text_of.result (inl (sym (c.in-None.ensures ∙ first_value-rows (found_of c.args.matches.now) (codes "FILE"))))
+    refused_by (codes "explain") (rows_of (found_of c.args.matches.now)) c.text_of.result (inr (inl (inr refl, sym (c.in-None.ensures ∙ first_value-rows (found_of c.args.matches.now) (codes "FILE")))))
