@@ -11,7 +11,7 @@ use Rattle.nvme_model.specs.Legal.{IsLegal, may_follow}
 use Rattle.nvme_model.specs.declared.config.ConfigNumbers.{ConfigNumbers}
 use Rattle.nvme_model.specs.declared.entry.Entry.{Entry}
 use Rattle.nvme_model.proofs.FirstBad.{some_is_first}
-use Rattle.one_pass_check.specs.Kept.{Stands, State}
+use Rattle.one_pass_check.specs.Kept.{State}
 use Rattle.casdisk_script.specs.Explained.{EndsSo, ExplainsText, HasExplained, IsExplained, earlier_step, explained_of, first_step}
 use Rattle.casdisk_script.specs.Files.{entry_added}
 use Rattle.casdisk_script.specs.Running.{Makes, PrintsAll, Runs}
@@ -60,29 +60,6 @@ module _ (c : ConfigNumbers) (past : Past) (e : Entry) (x y : State) (count : �
         step = ap (λ o. earlier_step o (option_map (λ b. record { place = length past + 1; broken = b }) (first_broken c past e))) h.step;
         stands = λ f. absurd (let g : Some s ≡ None = f in cc);
       }
-
-  step_is : (bad : Option BadStep) → is_some bad ≡ false → HasExplained c past x count bad → (o : Option Broken) → o ≡ first_broken c past e → option_map (λ b. record { place = count + 1; broken = b }) o ≡ first_step c (e ∷ past)
-  step_is (Some s) none h o is = absurd (let f : true ≡ false = none in cc)
-  step_is None none h o is =
-      (λ i. option_map (λ b. record { place = h.counted i + 1; broken = b }) (is i))
-      ∙ ap (λ p. earlier_step p (option_map (λ b. record { place = length past + 1; broken = b }) (first_broken c past e))) h.step
-
-  -- the rule that it breaks, if there is one
-  pub own : (bad : Option BadStep) → is_some bad ≡ false → HasExplained c past x count bad → Stands c past x
-  own (Some s) none h = absurd (let f : true ≡ false = none in cc)
-  own None none h = h.stands refl
-
-  pub own_config : (bad : Option BadStep) → is_some bad ≡ false → HasExplained c past x count bad → x.config ≡ c
-  own_config bad none h = (own bad none h).same
-
-  pub explained_bad : (bad : Option BadStep) → is_some bad ≡ false → HasExplained c past x count bad → (b : Broken) → Some b ≡ first_broken c past e
-      → HasExplained c (e ∷ past) x (count + 1) (Some (record { place = count + 1; broken = b }))
-  explained_bad bad none h b is =
-      record { counted = omega (arith, h.counted); step = step_is bad none h (Some b) is; stands = λ f. absurd (let g : Some (record { place = count + 1; broken = b }) ≡ None = f in cc) }
-
-  pub explained_next : (bad : Option BadStep) → is_some bad ≡ false → HasExplained c past x count bad → None ≡ first_broken c past e → Stands c (e ∷ past) y → HasExplained c (e ∷ past) y (count + 1) bad
-  explained_next (Some s) none h is s' = absurd (let f : true ≡ false = none in cc)
-  explained_next None none h is s' = record { counted = omega (arith, h.counted); step = step_is None none h None is; stands = λ f. s' }
 
 -- ---- of a file
 

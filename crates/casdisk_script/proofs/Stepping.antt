@@ -21,7 +21,7 @@ use Rattle.casdisk_script.specs.declared.meaning.WriteFault.{WriteFault}
 pub silent_front : (w v : Option (List ℕ)) (text : List ℕ) → Appends w v [] → AppendsFront w v text
 silent_front w v text h = record { front = []; rest = text; whole = refl; written = h }
 
--- why the machine refused a step
+-- why the controller refused a step
 pub why_refused : (step : Step) (why : Why) → why_of (refused_as step why) ≡ why
 why_refused (Step.Publish q batch) why = refl
 why_refused (Step.Fetch q) why = refl

@@ -40,17 +40,17 @@ pub(crate) fn write_fault(fault: WriteFault) -> RunFault
 /// `Input`, where no line that was read is bad, after their whole text; `Output` and `NoMemory` after a beginning of
 /// it. A line whose number doesn't fit 64 bits is `NoMemory` too.
 pub fn run_lines<M: LineMeaning, R: Read, W: Write>(
-    machine: &mut M,
+    actor: &mut M,
     lines: &mut Lines,
     line: &mut Vec<u8>,
     reader: &mut R,
     writer: &mut W,
 ) -> Result<(), RunFault>
     ensures runs { (c : ConfigNumbers) (past : Past) →
-        M.stands machine.old c past → Runs (lines_from (M.meaning machine.old) past 2 lines.old) result
+        M.stands actor.old c past → Runs (lines_from (M.meaning actor.old) past 2 lines.old) result
         (R.remaining reader.old) (R.remaining reader.new) (W.contents writer.old) (W.contents writer.new) }
-    ensures makes { (c : ConfigNumbers) (past : Past) → M.stands machine.old c past → Makes
-        (lines_from (M.meaning machine.old) past 2 lines.old) result (R.remaining reader.old) (M.stands machine.new c) }
+    ensures makes { (c : ConfigNumbers) (past : Past) → M.stands actor.old c past → Makes
+        (lines_from (M.meaning actor.old) past 2 lines.old) result (R.remaining reader.old) (M.stands actor.new c) }
 {
     for number in 2..u64::MAX {
         match lines.next_line(reader, line) {
@@ -61,7 +61,7 @@ pub fn run_lines<M: LineMeaning, R: Read, W: Write>(
                 }
                 return Err(RunFault::BadLine(number));
             }
-            Ok(NextLine::Whole) => match machine.take_line(line, writer) {
+            Ok(NextLine::Whole) => match actor.take_line(line, writer) {
                 Err(fault) => return Err(write_fault(fault)),
                 Ok(Taken::Bad) => return Err(RunFault::BadLine(number)),
                 Ok(Taken::Done) => {}

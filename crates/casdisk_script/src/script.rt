@@ -7,7 +7,7 @@ ghost use Rattle.casdisk_script.specs.Script.{outcome};
 
 use crate::fault::RunFault;
 use crate::first_line::read_first;
-use crate::machine::Machine;
+use crate::performing::Performer;
 use crate::running::run_lines;
 use history::Kinds;
 use line_text::{Lines, send_line};
@@ -42,11 +42,11 @@ pub fn run_script<R: Read, W: Write>(
     let Ok(()) = send_line(writer, line.as_slice()) else {
         return Err(RunFault::Output);
     };
-    let mut machine = Machine {
+    let mut performer = Performer {
         alloc,
         core,
         kinds,
         text: Vec::new(alloc),
     };
-    run_lines(&mut machine, &mut lines, &mut line, reader, writer)
+    run_lines(&mut performer, &mut lines, &mut line, reader, writer)
 }

@@ -31,6 +31,6 @@ returns g c =
     let ran = c.in_ok-run_lines.ensures.runs c.in_ok-config.config [] c.in-Ok-new.ensures.begun in
     let made = c.in_ok-run_lines.ensures.makes c.in_ok-config.config [] c.in-Ok-new.ensures.begun in
     let all = runs_after (outcome (λ c'. entry_added)) entry_added [] 2 _ _ _ None none some _ (Ok tt) begun ran in
-    let judge = c.run_lines.new.machine in
+    let judge = c.run_lines.new.actor in
     let makes = makes_after (outcome (λ c'. entry_added)) entry_added [] 2 _ _ None none _ (Ok tt) (λ past. HasJudged c.in_ok-config.config past judge.checker judge.count judge.bad) begun made in
     record { checks = answered c.in_ok-config.config judge.checker judge.count judge.bad _ None some _ _ c.tell_answer.result _ all makes c.in_ok-config.ensures.config c.tell_answer.ensures.told }

@@ -31,6 +31,6 @@ returns g c =
     let ran = c.in_ok-run_lines.ensures.runs c.in_ok-config.config [] c.in-Ok-new.ensures.begun in
     let made = c.in_ok-run_lines.ensures.makes c.in_ok-config.config [] c.in-Ok-new.ensures.begun in
     let all = runs_after (outcome (λ c'. entry_added)) entry_added [] 2 _ _ _ None none some _ (Ok tt) begun ran in
-    let x = c.run_lines.new.machine in
+    let x = c.run_lines.new.actor in
     let makes = makes_after (outcome (λ c'. entry_added)) entry_added [] 2 _ _ None none _ (Ok tt) (λ past. HasExplained c.in_ok-config.config past x.checker x.count x.bad) begun made in
     rw c.explained_by.ensures.value (record { explains = explained c.in_ok-config.config x.checker x.count x.bad _ _ None some all makes c.in_ok-config.ensures.config })

@@ -11,7 +11,7 @@ loop-number-init g c = λ k past h. (refl, record { past = past; stands = h; rea
 
 pub returns-in-Err-clause-runs : goal.returns-in-Err-clause-runs
 returns-in-Err-clause-runs g c k past h =
-    let outcome = lines_from (g.M.LineMeaning.meaning c.args.machine.now) past 2 c.args.lines.now in
+    let outcome = lines_from (g.M.LineMeaning.meaning c.args.actor.now) past 2 c.args.lines.now in
     let reached = (c.loop-number.invariant k past h).1.reached in
     rw c.read_fault.ensures.cause (runs_unread outcome c.in-Err.fault _ _ _ _
     (λ e. all_read _ _ _ _ _ _ _ _ _ _ reached _ _ c.in-Err.ensures.err (c.in-Err.ensures.input (ap Err e)))
@@ -30,7 +30,7 @@ returns-then-is_empty-clause-makes g c k past h =
     let x = rw c.in-Ok-Rest.field-0-is at c.in-Ok-Rest.ensures.line in
     let none : line.items ≡ [] = nil_from_length line.items (sym line.ok.0 ∙ eqb-true (vec_len line) 0 (sym c.is_empty.ensures ∙ c.if-is_empty.true)) in
     let at = (c.loop-number.invariant k past h).1 in
-    makes_last _ _ _ _ _ _ _ _ _ _ at.reached _ line.items done (g.M.LineMeaning.stands c.loop-number.machine k) at.stands x.0 x.1 x.2 x.3 (print_none _ _ _ line.items none)
+    makes_last _ _ _ _ _ _ _ _ _ _ at.reached _ line.items done (g.M.LineMeaning.stands c.loop-number.actor k) at.stands x.0 x.1 x.2 x.3 (print_none _ _ _ line.items none)
 
 pub returns-in-Ok-Rest-clause-runs : goal.returns-in-Ok-Rest-clause-runs
 returns-in-Ok-Rest-clause-runs g c k past h =
@@ -44,7 +44,7 @@ returns-in-Err-take_line-clause-runs g c k past h =
     let x = rw c.in-Ok-Whole.field-0-is at c.in-Ok-Whole.ensures.line in
     let inv = c.loop-number.invariant k past h in
     let t = rw (c.deref.ensures.value, inv.0) at (c.in-Err-take_line.ensures.stopped k inv.1.past inv.1.stands) in
-    let outcome = lines_from (g.M.LineMeaning.meaning c.args.machine.now) past 2 c.args.lines.now in
+    let outcome = lines_from (g.M.LineMeaning.meaning c.args.actor.now) past 2 c.args.lines.now in
     rw c.write_fault.ensures.cause (runs_stopped outcome c.in-Err-take_line.fault _ _ _ _
     (front_stopped _ _ _ _ _ _ _ _ _ _ inv.1.reached _ c.next_line.new.line.items _ x.0 x.1 t))
 

@@ -27,7 +27,7 @@ use step_core::{Answer, Core, Refused};
 
 /// A controller that does what the lines of a script say, and prints the lines of these kinds.
 #[derive(Drop)]
-pub(crate) struct Machine {
+pub(crate) struct Performer {
     pub(crate) alloc: Global,
     pub(crate) core: Core,
     pub(crate) kinds: Kinds,
@@ -55,7 +55,7 @@ fn send_text<W: Write>(text: &[u8], writer: &mut W) -> Result<(), WriteFault>
     }
 }
 
-impl Machine {
+impl Performer {
     // Prints that a step was refused, or stops where it was for want of memory.
     fn tell_refusal<W: Write>(&mut self, why: Why, writer: &mut W) -> Result<(), WriteFault>
         ensures same { (self.new.core ≡ self.old.core) × (self.new.kinds ≡ self.old.kinds) }
@@ -160,7 +160,7 @@ impl Machine {
     }
 }
 
-impl LineMeaning for Machine {
+impl LineMeaning for Performer {
     ghost stands = { λ m c past. m.core.past ≡ past };
 
     ghost meaning = { λ m. script_line m.core.config m.kinds.0 };

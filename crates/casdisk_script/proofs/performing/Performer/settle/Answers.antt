@@ -3,7 +3,7 @@ use Rattle.line_text.proofs.Known.{on_err}
 use Rattle.step_core.specs.State.{State}
 use Rattle.casdisk_script.proofs.Settling.{settled_none, settled_ready, settled_all, settled_next, settled_stopped}
 use Rattle.casdisk_script.proofs.Stepping.{config_served}
-use Rattle.casdisk_script.proofs.machine.Machine.settle.Goals as goal
+use Rattle.casdisk_script.proofs.performing.Performer.settle.Goals as goal
 
 pub loop-turn-init : goal.loop-turn-init
 loop-turn-init g c = record { config = refl; kinds = refl; settled = settled_none _ _ _ _ }

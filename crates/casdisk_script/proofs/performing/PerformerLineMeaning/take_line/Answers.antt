@@ -2,7 +2,7 @@ use Rattle.std.proofs.Common.{[], refl, ap}
 use Rattle.std.specs.Prelude.{option_map}
 use Rattle.std.proofs.KnownBytes.{Appends-nil}
 use Rattle.casdisk_script.specs.Said.{line_says, medium_text}
-use Rattle.casdisk_script.proofs.machine.MachineLineMeaning.take_line.Goals as goal
+use Rattle.casdisk_script.proofs.performing.PerformerLineMeaning.take_line.Goals as goal
 
 pub returns-in-Ok-Comment-clause-taken : goal.returns-in-Ok-Comment-clause-taken
 returns-in-Ok-Comment-clause-taken g c k now e =

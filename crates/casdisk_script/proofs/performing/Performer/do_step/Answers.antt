@@ -1,7 +1,7 @@
 use Rattle.std.proofs.Common.{ap, ◌∙◌}
 use Rattle.step_core.specs.State.{State}
 use Rattle.casdisk_script.proofs.Stepping.{config_served}
-use Rattle.casdisk_script.proofs.machine.Machine.do_step.Goals as goal
+use Rattle.casdisk_script.proofs.performing.Performer.do_step.Goals as goal
 
 pub returns-clause-same : goal.returns-clause-same
 returns-clause-same g c =

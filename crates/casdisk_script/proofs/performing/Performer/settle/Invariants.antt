@@ -1,7 +1,7 @@
 -- Some steps were done, and the rest is what is said of the history by now.
 use Rattle.std.proofs.Common.{◌≡◌}
 use Rattle.casdisk_script.proofs.Settling.{Settled}
-use Rattle.casdisk_script.proofs.machine.Machine.settle.Given as goal
+use Rattle.casdisk_script.proofs.performing.Performer.settle.Given as goal
 
 abbrev pub invariant-loop-turn : goal.invariant-loop-turn
 invariant-loop-turn g l =
