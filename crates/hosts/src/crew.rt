@@ -1,6 +1,6 @@
 //! The threads round one engine.
 
-ghost use Rattle.std.specs.Prelude.{◌+◌, ◌≤◌, All, IfOk, vec_len};
+ghost use Rattle.std.specs.Prelude.{◌+◌, ◌≡◌, ◌≤◌, All, IfOk, vec_len};
 ghost use Rattle.std.specs.Vec.{vec_capacity};
 ghost use Rattle.hosts.specs.Hands.{Goes, IsOf, IsWorkerOf};
 
@@ -12,7 +12,7 @@ use std::alloc::{AllocError as NoMemory, Global};
 use std::snapshot::Snapshot;
 use std::sync::Wait;
 use std::thread;
-use std::thread::{JoinHandle, Promise, Scope, Threads};
+use std::thread::{JoinHandle, Promise, PromisedHandle, Scope, Threads};
 
 /// The hand comes back, of the same hall, and its pass has seen no less.
 #[derive(Drop)]
@@ -43,6 +43,35 @@ fn works<R: Wait, G: Gate>(rt: &R, hall: &Hall<G>, mut own: WorkerHand) -> Resul
     requires { IsWorkerOf hall.now own }
 {
     worker(rt, hall, &mut own.hand, &mut own.notices)
+}
+
+// What the fetcher's thread gives back.
+type Fetching<G> = PromisedHandle<(Hand, Result<(), NoMemory>), ComesBack<G>>;
+
+// Starts the fetcher.
+fn start_fetcher<'s, E, R: Threads + Wait + Sync, G: Gate + Sync>(
+    rt: &'s R,
+    scope: &Scope<'s, E>,
+    hall: &'s Hall<G>,
+    hand: Hand,
+    queues: u16,
+) -> Result<Fetching<G>, NoMemory>
+    requires own { IsOf hall.now hand }
+    requires some { 1 ≤ queues }
+    ensures comes { IfOk result (λ h. (h.promise.hall.value ≡ hall.now) × (h.promise.hand.value ≡ hand)) }
+{
+    let promise = ComesBack {
+        hall: Snapshot::of(hall),
+        hand: Snapshot::of(&hand),
+    };
+    let child = scope.spawn_with(
+        promise,
+        move || -> (Hand, Result<(), NoMemory>)
+            requires { IsOf hall.now hand × (1 ≤ queues) }
+            ensures { Goes hall.entry.now hand result.0 }
+        { fetches(rt, hall, hand, queues) },
+    )?;
+    Ok(child)
 }
 
 /// The handles of threads that were started.
@@ -86,6 +115,16 @@ pub fn join_each<R: Threads>(rt: &R, started: Handles) -> Result<(), NoMemory> {
     ends
 }
 
+// The same; the stop flag is set where it is none.
+fn or_stop<T: Drop, G: Gate>(hall: &Hall<G>, made: Result<T, NoMemory>) -> Result<T, NoMemory>
+    ensures { result ≡ made }
+{
+    if made.is_err() {
+        hall.stop.set();
+    }
+    made
+}
+
 /// A fetcher of the submission queues from 1 to `queues`, and the workers, each on a thread of its own, while `beside`
 /// runs on this one. When that has ended the stop flag is set, and all threads are joined. The fetcher's hand comes
 /// back, and what `beside` gave.
@@ -113,13 +152,7 @@ pub fn run_crew<
     requires beside { F.IsAlwaysCallable beside }
     ensures goes { IfOk result (λ r. Goes hall.now hand r.0) }
 {
-    let mut helpers: Handles = match Vec::with_capacity(alloc, workers.len()) {
-        Ok(room) => room,
-        Err(why) => {
-            hall.stop.set();
-            return Err(why);
-        }
-    };
+    let mut helpers: Handles = or_stop(hall, Vec::with_capacity(alloc, workers.len()))?;
     thread::scope(
         thread::scope_env(),
         rt,
@@ -130,23 +163,7 @@ pub fn run_crew<
             requires beside { F.IsAlwaysCallable beside }
             ensures { IfOk result (λ r. Goes hall.entry.now hand r.0) }
         {
-            let promise = ComesBack {
-                hall: Snapshot::of(hall),
-                hand: Snapshot::of(&hand),
-            };
-            let fetching = match scope.spawn_with(
-                promise,
-                move || -> (Hand, Result<(), NoMemory>)
-                    requires { IsOf hall.now hand × (1 ≤ queues) }
-                    ensures { Goes hall.entry.now hand result.0 }
-                { fetches(rt, hall, hand, queues) },
-            ) {
-                Ok(child) => child,
-                Err(_) => {
-                    hall.stop.set();
-                    return Err(NoMemory);
-                }
-            };
+            let fetching = or_stop(hall, start_fetcher(rt, scope, hall, hand, queues))?;
             let given = match start_workers(rt, scope, hall, workers, &mut helpers) {
                 Ok(()) => beside(),
                 Err(why) => Err(why),
