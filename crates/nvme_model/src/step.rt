@@ -3,7 +3,7 @@
 use crate::submission::Submissions;
 
 /// What a caller asks for: queues are numbered from 1, and the n-th Fetch makes ticket n.
-#[derive(Drop)]
+#[derive(Debug, Drop)]
 pub enum Step {
     /// Put these entries at the end of a submission queue.
     Publish(u16, Submissions),

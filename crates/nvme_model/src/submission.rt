@@ -7,7 +7,7 @@ use std::alloc::{AllocError as NoMemory, Global};
 use std::marker::Model;
 
 /// A list of bytes of any length.
-#[derive(Drop)]
+#[derive(Debug, Drop)]
 pub struct Payload {
     bytes: Vec<u8>,
 }
@@ -66,7 +66,7 @@ impl Payload {
 }
 
 /// A submission queue entry of 64 bytes, and the data beside it.
-#[derive(Drop)]
+#[derive(Debug, Drop)]
 pub struct Submission {
     pub entry: [u8; 64],
     pub payload: Payload,
@@ -91,7 +91,7 @@ pub fn copies_of(alloc: Global, entries: &[Submission]) -> Result<Vec<Submission
 }
 
 /// A list of entries in order, maybe none.
-#[derive(Drop)]
+#[derive(Debug, Drop)]
 pub struct Submissions {
     items: Vec<Submission>,
 }

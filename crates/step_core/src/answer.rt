@@ -5,6 +5,7 @@ use block_exec::Done;
 use nvme_model::array::{Mode, Range};
 use nvme_model::refusal::Why;
 use nvme_model::submission::{Payload, Submissions};
+use thiserror::Error;
 
 /// The answer to an accepted step.
 #[derive(Drop)]
@@ -22,8 +23,10 @@ pub enum Answer {
 }
 
 /// Why a step is refused; a refused Publish hands its batch back.
-#[derive(Drop)]
+#[derive(Debug, Drop, Error)]
 pub enum Refused {
+    #[error("{0}")]
     Publish(Why, Submissions),
+    #[error("{0}")]
     Step(Why),
 }
