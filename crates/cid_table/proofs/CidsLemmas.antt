@@ -1,11 +1,11 @@
 -- What CIDs are used for, and what a write leaves.
-use Rattle.std.proofs.Common.{Bool, Contains, List, None, Option, Some, ap, arith, cond, eq-eqb, eqb-true, false, get_or, inl, inr, le-ltb, length, refl, replicate, set, sym, true, true≢false, ℕ, ◌&&◌, ◌<◌, ◌==◌, ◌≡◌, ◌≢◌, ◌≤◌, ◌∙◌}
-use Rattle.std.proofs.lemmas.Bool.{and_from, and_parts, cases_lt, cond-false}
+use Rattle.std.proofs.Common.{Bool, List, None, Option, Some, ap, arith, cond, eq-eqb, eqb-true, false, get_or, inl, inr, length, refl, replicate, set, sym, true, true≢false, ℕ, ◌&&◌, ◌<◌, ◌==◌, ◌≡◌, ◌≢◌, ◌∙◌}
+use Rattle.std.proofs.lemmas.Bool.{and_from, and_parts, cases_lt}
 use Rattle.std.proofs.lemmas.List.{get_or_read, get_or-replicate, get_or-set_other, get_or-set_same, get_or_past, length-replicate}
 use Rattle.cid_table.specs.Cids.{ChangesOnly, Cids, IsKept, held, held_at, place_of}
 use Rattle.cid_table.specs.declared.held.Held.{Held}
 use Rattle.cid_table.specs.declared.held.Held.TheVariants.{Free}
-use Rattle.cid_table.proofs.Places.{place_known, place_parts, place_unlike, place_within}
+use Rattle.cid_table.proofs.Places.{place_parts, place_unlike, place_within}
 
 -- ---- what is held
 
@@ -29,18 +29,6 @@ held_read t queue cid place h kept e r =
 pub held_nowhere : (t : Cids) (queue cid : ℕ) → place_of t.queues queue cid ≡ None → held t queue cid ≡ Free
 unfolding held
 held_nowhere t queue cid e = ap (held_at t.cids) e
-
--- a queue has no CID from 64 on
-pub held_past : (t : Cids) (queue cid : ℕ) → 64 ≤ cid → held t queue cid ≡ Free
-held_past t queue cid h = held_nowhere t queue cid (cond-false _ _ _ (le-ltb cid 64 h))
-
--- a queue that isn't in the table has no CID
-pub held_unknown : (t : Cids) (queue cid : ℕ) → ¬ Contains t.queues queue → held t queue cid ≡ Free
-held_unknown t queue cid h = go (place_of t.queues queue cid) refl
-  where
-    go : (o : Option ℕ) → place_of t.queues queue cid ≡ o → held t queue cid ≡ Free
-    go None e = held_nowhere t queue cid e
-    go (Some place) e = absurd (h (place_known t.queues queue cid place e))
 
 -- where all are free, each is
 pub held_free : (queues : List ℕ) (n queue cid : ℕ) → held (record { queues = queues; cids = replicate n Free }) queue cid ≡ Free

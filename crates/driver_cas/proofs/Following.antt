@@ -1,9 +1,8 @@
 -- A port at a later time, whose pass made the steps of its log alone.
-use Rattle.std.proofs.Common.{◌≡◌, ℕ, ◌∷◌, List, ap, length, arith, ◌+◌, ◌-◌, ◌≤◌}
-use Rattle.std.proofs.lemmas.List.{length-take-le}
+use Rattle.std.proofs.Common.{◌≡◌, ℕ, ◌∷◌, ap, length, arith, ◌+◌}
 use Rattle.nvme_model.specs.Passes.{IsBeginning}
 use Rattle.meet_lock.specs.Passes.{IsSame, mine, seen}
-use Rattle.driver_calls.specs.Views.{log_of, since}
+use Rattle.driver_calls.specs.Views.{log_of}
 use Rattle.driver_calls.specs.declared.event.PortEvent.{PortEvent}
 use Rattle.driver_cas.specs.Ports.{Follows, steps_of, view_of}
 use Rattle.driver_cas.specs.declared.shared_port.SharedPort.{SharedPort}
@@ -28,8 +27,3 @@ port_idle a b queue same on steps log = moved a b queue same on (omega (arith, a
 -- a later port of it
 pub sole_later : (began old new x y z : ℕ) → old + x ≡ began + y → new + y ≡ old + z → new + x ≡ began + z
 sole_later began old new x y z h k = omega arith
-
-pub steps_made : (began now : ℕ) (old new : List PortEvent) → length old ≤ length new → now + length old ≡ began + length new → now ≡ began + length (since old new)
-steps_made began now old new few sole =
-    let more : length (since old new) ≡ length new - length old = length-take-le (length new - length old) new (omega arith) in
-    omega arith

@@ -1,6 +1,5 @@
 -- A pass, a port and a driver that saw more.
-use Rattle.std.proofs.Common.{◌≡◌, ℕ, [], Err, List, Ok, Result, ap, ap₂, inl, length, refl, sym, ◌∙◌}
-use Rattle.std.specs.Prelude.{IfErr}
+use Rattle.std.proofs.Common.{◌≡◌, ℕ, List, ap, ap₂, inl, length, ◌∙◌}
 use Rattle.std.specs.declared.snapshot.Snapshot.{Snapshot}
 use Rattle.cid_table.specs.Cids.{Cids, held}
 use Rattle.nvme_model.specs.Passes.{IsBeginning}
@@ -27,12 +26,6 @@ use Rattle.driver_cas.proofs.Ports.{log_declined}
 same_on : (p q r : EnginePass) → IsSame p q → IsSame q r → IsSame p r
 same_on p q r x y = (y.0 ∙ x.0, y.1 ∙ x.1, y.2 ∙ x.2, y.3 ∙ x.3)
 
-pub saw_self : (p : EnginePass) → SawOn p p
-saw_self p = record { same = (refl, refl, refl, refl); mine_stay = refl; goes_on = ([], refl) }
-
-pub saw_same : (p q r : EnginePass) → SawOn p q → IsSame q r → mine r ≡ mine q → seen r ≡ seen q → SawOn p r
-saw_same p q r x s m e = record { same = same_on p q r x.same s; mine_stay = m ∙ x.mine_stay; goes_on = (x.goes_on.0, x.goes_on.1 ∙ sym e) }
-
 pub saw_on : (p q r : EnginePass) → SawOn p q → IsSame q r → mine r ≡ mine q → IsBeginning (seen q) (seen r) → SawOn p r
 saw_on p q r x s m b = record { same = same_on p q r x.same s; mine_stay = m ∙ x.mine_stay; goes_on = begins_on (seen p) (seen q) (seen r) x.goes_on b }
 
@@ -48,14 +41,6 @@ saw_more a b queue s =
       mine_stay = s.mine_stay;
       log = idle_log a b queue s;
     }
-
--- where nothing has changed
-pub same_view : (a b : SharedPort) → b.queue ≡ a.queue → SawOn a.pass b.pass → seen b.pass ≡ seen a.pass → view_of b ≡ view_of a
-same_view a b queue s e = λ i. record { config = s.same.3 i; queue = queue i; pass = s.same.1 i; seen = e i }
-
-pub if_err : {A E : Type 0} (P Q : Type 0) (r : Result A E) → (P → Q) → IfErr r (λ x. P) → IfErr r (λ x. Q)
-if_err P Q (Ok a) f h = tt
-if_err P Q (Err e) f h = f h
 
 -- ---- drivers
 

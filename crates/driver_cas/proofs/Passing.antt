@@ -1,7 +1,7 @@
 -- Submission queues that didn't take a call's entries.
-use Rattle.std.proofs.Common.{List, ◌≡◌, ◌≢◌, refl, ℕ, Option, Some, None, is_some, false, true, length, inl, inr, ◌<◌, ◌+◌, ◌∙◌, get_or, arith, subst, sym, ap}
+use Rattle.std.proofs.Common.{List, ◌≡◌, ◌≢◌, refl, ℕ, length, inl, inr, ◌<◌, ◌+◌, ◌∙◌, get_or, arith, subst, sym, ap}
 use Rattle.std.specs.List.Sorted.{IsStrictlyIncreasing}
-use Rattle.std.specs.Prelude.{Contains, Err, IfNone}
+use Rattle.std.specs.Prelude.{Contains, Err}
 use Rattle.std.proofs.lemmas.Bool.{cases_lt, cases_order}
 use Rattle.std.proofs.lemmas.List.Kept.{AllPairs-from_increasing}
 use Rattle.std.proofs.lemmas.List.{get_or_default}
@@ -18,11 +18,6 @@ use Rattle.driver_cas.specs.declared.fault.Fault.{Fault}
 use Rattle.driver_cas.specs.declared.fault.PortFault.{PortFault}
 use Rattle.driver_cas.specs.declared.port.Port.{Ghosts}
 use Rattle.driver_cas.specs.declared.start.Tried.{Tried}
-
--- what holds where there is nothing
-pub none_of : {T : Type 0} (o : Option T) (P : Type 0) → is_some o ≡ false → IfNone o P → P
-none_of None P h p = p
-none_of (Some x) P h p = absurd (let g : true ≡ false = h in cc)
 
 -- where no CID is free there are too few for a command by itself
 pub few_single : (cids : Cids) (o : Op) (queue : ℕ) → o ≢ Op.Pair → NoneFreeBelow cids queue 64 → HasTooFew cids o queue

@@ -185,11 +185,6 @@ owned_publish v past q batch own some =
 pub owned_reap : (c : ConfigNumbers) (past : Past) (q : ℕ) → 1 ≤ q → q ≤ c.cqs → (refusal c past (Step.Reap q) ≡ Some Why.NoCompletion) ⊎ (refusal c past (Step.Reap q) ≡ None)
 owned_reap c past q few most = rows_reap c past q (none_before q c.cqs few most)
 
--- why it is refused is one of two causes
-pub two_causes : (o : Option Why) (why : Why) → why ≡ unwrap_or o Why.NoMemory → (o ≡ Some Why.NoRoom) ⊎ (o ≡ None) → (why ≡ Why.NoRoom) ⊎ (why ≡ Why.NoMemory)
-two_causes o why h (inl e) = inl (h ∙ ap (λ (x : Option Why). unwrap_or x Why.NoMemory) e)
-two_causes o why h (inr e) = inr (h ∙ ap (λ (x : Option Why). unwrap_or x Why.NoMemory) e)
-
 -- and the fault that is answered tells which
 pub fault_tells : (passes : ℕ) (a b : PortView) (q : ℕ) (batch : List Submission) (f : PortFault) → cause_of f ≡ unwrap_or (refusal b.config (entries b.seen) (Step.Publish q batch)) Why.NoMemory
     → (refusal b.config (entries b.seen) (Step.Publish q batch) ≡ Some Why.NoRoom) ⊎ (refusal b.config (entries b.seen) (Step.Publish q batch) ≡ None) → IsRefused passes a b q batch f

@@ -128,9 +128,6 @@ module _ {P : Type 0} (g : Ghosts P) where
         as_before = (before.0 ∙ x.as_before.0, before.1 ∙ x.as_before.1);
       }
 
-  pub untouched_same : (d e f : Driver P g) → IsUntouched d e → IsSame e f → IsSame d f
-  untouched_same d e f x same = same_on d e f x.same same
-
   -- the call is begun
   pub started : ((a b c : P) → g.follows a b → g.follows b c → g.follows a c) → (d e f : Driver P g) (k : Call P) (l n : ℕ) (contents : CallData) (batch : List Submission) → IsUntouched d e
       → IsTurn d e.port (record { op = k.op; slba = l; blocks = n }) contents k.queue → Sends e f k l n contents batch → IsStarted d f k k.op l n contents

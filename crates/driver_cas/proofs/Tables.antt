@@ -155,18 +155,6 @@ pair_answered (Held.Answered t q) Held.Free = refl
 pair_answered (Held.Answered t q) Held.Waiting = refl
 pair_answered (Held.Answered t q) (Held.Answered s p) = refl
 
-one_answered : (o : Op) (h : Held) → is_some (status_of h) ≡ is_some (one_answer o h)
-one_answered o Held.Free = refl
-one_answered o Held.Waiting = refl
-one_answered o (Held.Answered s p) = refl
-
-pub single_answered : (o : Op) (h k : Held) → (o ≡ Op.Pair → ⊥) → is_some (status_of h) ≡ is_some (table_outcome o h k)
-single_answered Op.Pair h k n = absurd (n refl)
-single_answered Op.Read h k n = one_answered Op.Read h
-single_answered Op.Compare h k n = one_answered Op.Compare h
-single_answered Op.Write h k n = one_answered Op.Write h
-single_answered Op.WriteZeroes h k n = one_answered Op.WriteZeroes h
-
 -- ---- an answer that is taken
 
 -- where there is an answer the first CID, and a pair's second, was answered

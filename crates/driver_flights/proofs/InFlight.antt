@@ -37,12 +37,6 @@ module _ {P : Type 0} where
       ]
 
 module _ {P : Type 0} {g : Ghosts P} where
-  pub none_of : (d : Driver P g) (ks : List (Call P)) → ks ≡ [] → AreCallsOf d ks
-  none_of d ks e = subst (λ (xs : List (Call P)). AreCallsOf d xs) (sym e) (record { all = λ k x lt. absurd (omega arith); apart = λ i j x lt within. absurd (omega arith) })
-
-  pub all_kept : (d e : Driver P g) (ks : List (Call P)) → StayCalls d e → AreCallsOf d ks → AreCallsOf e ks
-  all_kept d e ks keeps h = record { all = λ i x lt. keeps (get_or ks i x) (h.all i x lt); apart = h.apart }
-
   pub one_more : (d e : Driver P g) (ks : List (Call P)) (k : Call P) → StayCalls d e → IsNewCall d e k → AreCallsOf d ks → AreCallsOf e (ks ++ k ∷ [])
   one_more d e ks k keeps new h =
       record {

@@ -1,5 +1,5 @@
 -- What becomes of a host's calls, what is fetched, and that there are completion queues.
-use Rattle.std.proofs.Common.{[], ◌≡◌, ℕ, ◌<◌, ◌-◌, ◌∙◌, Err, List, None, Ok, Option, Result, Some, ap, arith, eqb, false, inl, is_none, length, refl, subst, sym, take}
+use Rattle.std.proofs.Common.{◌≡◌, ℕ, ◌<◌, ◌∙◌, Err, None, Ok, Option, Result, ap, arith, eqb, false, inl, is_none, subst, sym}
 use Rattle.std.specs.Prelude.{IfOk, IfSome}
 use Rattle.std.proofs.lemmas.Bool.{or_parts}
 use Rattle.std.proofs.lemmas.Bool.Decides.{nat_tests}
@@ -17,10 +17,6 @@ use Rattle.cid_table.specs.Cids.{Cids, held}
 use Rattle.driver_commands.specs.declared.request.CallData.{CallData}
 use Rattle.driver_commands.specs.declared.request.Request.{Request}
 use Rattle.driver_cas.specs.Drivers.{IsApart, IsBack, IsCallBack, IsCallOf, IsSame}
-use Rattle.driver_cas.specs.Ports.{Follows, view_of}
-use Rattle.driver_calls.proofs.Views.{follows_self}
-use Rattle.driver_calls.specs.Views.{since}
-use Rattle.driver_calls.specs.declared.event.PortEvent.{PortEvent}
 use Rattle.driver_cas.specs.Requests.{IsStart}
 use Rattle.driver_cas.specs.Starts.{IsAsBefore, IsUntouched}
 use Rattle.driver_cas.specs.Tables.{is_free}
@@ -59,17 +55,6 @@ untouched_on h i m x y =
       later = follows_later h.driver.port i.driver.port m.driver.port x.later y.later;
       as_before = (y.as_before.0 ∙ x.as_before.0, y.as_before.1 ∙ x.as_before.1);
     }
-
-pub untouched_self : (h : Host) → IsUntouched h.driver h.driver
-untouched_self h =
-    record { same = record { began = refl; host = refl; acwu = refl; slots = refl; serial = refl; queues = refl }; later = record { same_lock = refl; view = follows_self (view_of h.driver.port); sole = refl }; as_before = (refl, refl) }
-
--- nothing was done by a driver that was made just now
-pub nothing_since : (xs : List PortEvent) → since xs xs ≡ []
-nothing_since xs = ap (λ (n : ℕ). take n xs) (less (length xs))
-  where
-    less : (n : ℕ) → n - n ≡ 0
-    less n = omega arith
 
 -- ---- what is fetched
 

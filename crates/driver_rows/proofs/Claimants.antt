@@ -1,8 +1,7 @@
 -- A host that claims slots, at a later moment.
-use Rattle.std.proofs.Common.{◌≡◌, ◌≤◌, ◌<◌, ℕ, Bool, true, ◌&&◌, List, [], ◌∷◌, All, None, ap, arith, eq-eqb, false, le-leb, length, ◌-◌, refl, slice_index_or, slice_set, subst, sym, ◌∙◌}
-use Rattle.std.specs.Prelude.{Result, if◌then◌else◌, ◌++◌}
-use Rattle.std.specs.List.{swap_remove}
-use Rattle.std.proofs.lemmas.List.Elements.{All-cons, All-get_or, All-nil, All-push, All-same, All-set, All-take}
+use Rattle.std.proofs.Common.{◌≡◌, ◌≤◌, ◌<◌, ℕ, Bool, true, ◌&&◌, List, [], ◌∷◌, All, None, ap, eq-eqb, le-leb, refl, subst, sym, ◌∙◌}
+use Rattle.std.specs.Prelude.{Result}
+use Rattle.std.proofs.lemmas.List.Elements.{All-cons, All-nil, All-same}
 use Rattle.nvme_model.specs.Config.{completion_queue}
 use Rattle.nvme_model.specs.declared.array.Range.{Range}
 use Rattle.nvme_model.specs.declared.config.ConfigNumbers.{ConfigNumbers}
@@ -10,7 +9,7 @@ use Rattle.nvme_model.proofs.Numbers.{own_queue}
 use Rattle.driver_commands.specs.declared.request.CallData.{CallData}
 use Rattle.driver_commands.specs.declared.request.Request.{Request}
 use Rattle.driver_cas.proofs.Listening.{follows_later}
-use Rattle.driver_cas.specs.Drivers.{IsCallOf, IsOneMore, IsSame, area_of, made}
+use Rattle.driver_cas.specs.Drivers.{IsSame, area_of, made}
 use Rattle.driver_cas.specs.Ports.{Follows}
 use Rattle.driver_cas.specs.Requests.{IsStart}
 use Rattle.driver_cas.specs.Starts.{IsUntouched}
@@ -28,8 +27,7 @@ use Rattle.slot_calls.specs.Calls.{IsName}
 use Rattle.slot_calls.specs.Swaps.{log_believed}
 use Rattle.slot_alloc.proofs.Asking.{inside_of}
 use Rattle.slot_alloc.proofs.Keeping.{Sound, start_kept}
-use Rattle.slot_alloc.proofs.Polling.{careful_polled}
-use Rattle.slot_alloc.proofs.Starting.{careful_same, goes_on_same, settings_of}
+use Rattle.slot_alloc.proofs.Starting.{goes_on_same, settings_of}
 use Rattle.slot_alloc.proofs.Staying.{claiming_on, releasing_on, unreleased_on}
 use Rattle.slot_alloc.specs.Areas.{block_of, serial_of, slot_of}
 use Rattle.slot_alloc.specs.Careful.{GoesOn, own_name}
@@ -66,22 +64,6 @@ read_ready b s h i q c r ready same later place sound start =
   where
     moved : (b : Bench) (h i : Host) → Follows h.driver.port i.driver.port → i.place ≡ h.place → IsHostOf b h → IsHostOf b i
     moved b h i later place of = ((subst (λ (p : QueuePass Notice). IsOf b.notices p) (sym place) of.0.0, ap lock_of_pass place ∙ (of.0.1 ∙ sym later.same_lock)), later.same_lock ∙ of.1)
-
-pub poll_ready : (b : Bench) (s : Slots) (h i : Host) → IsReady b s h → IsHostOf b i → IsSame h.driver i.driver → Follows h.driver.port i.driver.port → IsOneMore (made h.driver) (made i.driver) → IsReady b s i
-poll_ready b s h i ready host same later one =
-    record {
-      host = host;
-      area_is = same.slots ∙ ready.area_is;
-      careful = careful_polled _ h.driver i.driver (record { same = same; later = later; one = one }) ready.careful;
-    }
-
-pub heard_ready : (b : Bench) (s : Slots) (h i : Host) → IsReady b s h → IsHostOf b i → IsUntouched h.driver i.driver → IsReady b s i
-heard_ready b s h i ready host u =
-    record {
-      host = host;
-      area_is = u.same.slots ∙ ready.area_is;
-      careful = careful_same _ h.driver i.driver (settings_of _ h.driver i.driver u.same) u.same.serial u.as_before.0 ready.careful;
-    }
 
 -- ---- what was begun
 

@@ -1,8 +1,6 @@
 -- What contracts say of a host that claims slots.
 use Rattle.std.specs.Prelude.{◌≡◌}
 use Rattle.driver_cas.specs.Drivers.{area_of}
-use Rattle.driver_cas.specs.declared.driver.Driver.{Driver}
-use Rattle.driver_cas.specs.declared.shared_port.SharedPort.{SharedPort}
 use Rattle.driver_rows.specs.Benches.{IsHostOf}
 use Rattle.driver_rows.specs.declared.bench.Bench.{Bench}
 use Rattle.driver_rows.specs.declared.bench.Host.{Host}

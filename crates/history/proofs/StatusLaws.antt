@@ -17,11 +17,6 @@ use Rattle.nvme_model.specs.declared.status.Verdict.{Verdict}
 use Rattle.history.specs.StatusWord.{status_word, status_from, status_in, verdict_words, single_failed, pair_failed, short_verdict_in, verdict_in}
 use Rattle.history.specs.Lines.{HasStatus, HasVerdict}
 
--- what an `and` that holds shows
-both_true : (a b : Bool) → (a && b) ≡ true → (a ≡ true) × (b ≡ true)
-both_true true b h = (refl, h)
-both_true false b h = absurd cc
-
 -- a test that let an answer through held
 pub chosen : {A : Type 0} (b : Bool) (o : Option A) (x : A) → cond b o None ≡ Some x → (b ≡ true) × (o ≡ Some x)
 chosen true o x h = (refl, h)

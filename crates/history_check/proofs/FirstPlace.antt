@@ -1,10 +1,9 @@
 -- The first place at which a list of entries is no longer legal.
 use Rattle.std.proofs.Common.{◌≡◌, ℕ, zero, suc, ◌+◌, ◌<◌, ◌≤◌, Bool, false, true, List, [], ◌∷◌, get_or, length, reverse, take, refl, sym, ap, ◌∙◌, subst, arith}
-use Rattle.std.proofs.lemmas.Bool.{and_right}
 use Rattle.std.proofs.lemmas.List.{reverse-append, take_more}
 use Rattle.nvme_model.specs.FirstBad.{IsFirstBad}
 use Rattle.nvme_model.specs.History.{Past}
-use Rattle.nvme_model.specs.Legal.{IsLegal, IsLegalFile, legal, may_follow}
+use Rattle.nvme_model.specs.Legal.{IsLegal, IsLegalFile, legal}
 use Rattle.nvme_model.specs.declared.config.ConfigNumbers.{ConfigNumbers}
 use Rattle.nvme_model.specs.declared.entry.Entry.{Entry}
 use Rattle.nvme_model.proofs.Beginnings.{beginning}
@@ -31,13 +30,6 @@ first_bad c entries i e l there h f = (
   ap (legal c) (one_more entries i e l there) ∙ f,
   λ k m. subst (λ (xs : List Entry). IsLegalFile c xs) (take_fewer k i entries (omega (arith, m))) (beginning c (take i entries) k h),
 )
-
--- the same where it may not follow them
-pub first_place : (c : ConfigNumbers) (entries : List Entry) (i : ℕ) (past : Past) (e : Entry) → i < length entries → e ≡ get_or entries i e → past ≡ reverse (take i entries)
-    → IsLegal c (reverse (take i entries)) → may_follow c past e ≡ false → IsFirstBad c entries (i + 1)
-first_place c entries i past e l there before h f =
-    first_bad c entries i e l there h
-    (and_right (legal c (reverse (take i entries))) (may_follow c (reverse (take i entries)) e) (subst (λ (p : Past). may_follow c p e ≡ false) before f))
 
 -- ---- by a checker
 

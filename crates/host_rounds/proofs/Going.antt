@@ -1,29 +1,22 @@
 -- A host goes on from what it was.
-use Rattle.std.proofs.Common.{◌≡◌, ◌≤◌, ◌<◌, ℕ, List, None, Option, Some, [], arith, length, slice_get, take, true, ◌-◌, ◌∙◌, refl, sym, subst, ap}
-use Rattle.driver_calls.specs.Views.{since}
-use Rattle.driver_calls.specs.declared.event.PortEvent.{PortEvent}
-use Rattle.slot_calls.specs.Careful.{is_careful}
+use Rattle.std.proofs.Common.{◌≡◌, ◌≤◌, ◌<◌, ℕ, None, Option, length, ◌-◌, ◌∙◌, refl, sym, subst, ap}
 use Rattle.nvme_model.specs.declared.array.Range.{Range}
 use Rattle.slot_calls.specs.Calls.{IsName}
 use Rattle.slot_calls.specs.Swaps.{log_believed}
-use Rattle.work_queue.specs.QueuePasses.{IsPlaceOf, engine_lock}
 use Rattle.work_queue.specs.declared.notice.Notice.{Notice}
-use Rattle.work_queue.specs.declared.queue.MessageQueue.{MessageQueue}
 use Rattle.work_queue.specs.declared.queue.QueuePass.{QueuePass}
 use Rattle.hosts.specs.Hands.{IsPlaceAt}
 use Rattle.hosts.specs.declared.hall.Hall.{Hall}
 use Rattle.driver_calls.proofs.Views.{follows_self}
 use Rattle.driver_cas.proofs.Listening.{follows_later}
-use Rattle.driver_cas.specs.Drivers.{HasSettings, IsCallOf, IsSame, area_of, host_of, made, serial_of as last_of}
-use Rattle.driver_cas.specs.Listening.{IsPlaceFor}
-use Rattle.driver_cas.specs.Ports.{Follows, view_of}
+use Rattle.driver_cas.specs.Drivers.{HasSettings, IsCallOf, area_of, made}
+use Rattle.driver_cas.specs.Ports.{view_of}
 use Rattle.driver_cas.specs.Starts.{IsUntouched}
 use Rattle.driver_cas.specs.declared.call.Call.{Call}
 use Rattle.driver_cas.specs.declared.driver.Driver.{Driver}
 use Rattle.driver_cas.specs.declared.port.Port.{Ghosts}
-use Rattle.driver_cas.specs.declared.shared_port.SharedPort.{SharedPort}
 use Rattle.slot_alloc.proofs.Asking.{inside_of}
-use Rattle.slot_alloc.proofs.Starting.{careful_same, goes_on_same, settings_of}
+use Rattle.slot_alloc.proofs.Starting.{goes_on_same, settings_of}
 use Rattle.slot_alloc.proofs.Staying.{claiming_on, releasing_on, unreleased_on}
 use Rattle.slot_alloc.specs.Areas.{area, block_of, serial_of, slot_of}
 use Rattle.slot_alloc.specs.Careful as careful
@@ -35,15 +28,6 @@ use Rattle.slot_alloc.specs.declared.claiming.Stage.{Stage}
 use Rattle.slot_alloc.specs.declared.release.Releasing.{Releasing}
 use Rattle.host_rounds.specs.Hosts.{Goes, IsHosting}
 use Rattle.host_rounds.specs.declared.owned.Host.{Host}
-
-minus_self : (n : ℕ) → n - n ≡ 0
-minus_self n = omega arith
-
-some_one : {A : Type 0} (a b : A) → Some a ≡ Some b → a ≡ b
-some_one a b h = cc
-
-one_of : {A : Type 0} (o : Option A) (a b : A) → o ≡ Some a → o ≡ Some b → a ≡ b
-one_of o a b x y = some_one a b (sym x ∙ y)
 
 -- ---- hosts
 
@@ -93,34 +77,6 @@ module _ {G : Type 0} where
         later = x.later;
       })
 
-  -- ---- listening
-
-  place_for : (hall : Hall G) (h : Host) (q : MessageQueue Notice) → IsHosting hall h → slice_get hall.notices.items (h.queue - 1) ≡ Some q → IsPlaceFor h.driver.port q h.notices
-  place_for hall h q of at = let p = of.place q at in (p.0, p.1 ∙ sym of.of)
-
-  -- the pass of its queue stays one
-  place_at : (hall : Hall G) (k : ℕ) (q : MessageQueue Notice) (p : QueuePass Notice) → slice_get hall.notices.items k ≡ Some q → IsPlaceOf hall.engine q p → IsPlaceAt hall k p
-  place_at hall k q p at of = λ r other. subst (λ (x : MessageQueue Notice). IsPlaceOf hall.engine x p) (one_of (slice_get hall.notices.items k) q r at other) of
-
-  pub goes_heard : (hall : Hall G) (h k : Host) (q : MessageQueue Notice) → k.slots ≡ h.slots → k.queue ≡ h.queue → IsHosting hall h → slice_get hall.notices.items (h.queue - 1) ≡ Some q → IsUntouched h.driver k.driver → IsPlaceFor k.driver.port q k.notices
-      → Goes hall h k
-  goes_heard hall h k q slots queue of at u place =
-      let same = u.later.same_lock ∙ of.of in
-      record {
-        of =
-            record {
-              of = same;
-              slots = u.same.slots ∙ of.slots ∙ ap area (sym slots);
-              careful = careful_same _ h.driver k.driver (settings_of _ h.driver k.driver u.same) u.same.serial u.as_before.0 of.careful;
-              queue = subst (λ (n : ℕ). (1 ≤ n) × (n ≤ length hall.notices.items)) (sym queue) of.queue;
-              place = subst (λ (n : ℕ). IsPlaceAt hall (n - 1) k.notices) (sym queue) (place_at hall (h.queue - 1) q k.notices at (place.0, place.1 ∙ same));
-            };
-        settings = settings_of _ h.driver k.driver u.same;
-        slots = slots;
-        queue = queue;
-        later = u.later;
-      }
-
 -- ---- what was begun or is held stays so
 
 module _ {P : Type 0} {g : Ghosts P} where
@@ -158,10 +114,3 @@ module _ {P : Type 0} {g : Ghosts P} where
 
   pub held_heard : (d e : Driver P g) (c : Claim) → IsUntouched d e → IsHeldBy d c → IsHeldBy e c
   held_heard d e c u of = held_on d e c (on_of d e u) of
-
-  -- a driver that was made just now
-  pub new_is_careful : (d : Driver P g) (p : P) → d.port ≡ p → d.began.value ≡ p → IsCareful d
-  new_is_careful d p port began =
-      let log : made d ≡ since (g.log p) (g.log p) = λ i. since (g.log (began i)) (g.log (port i)) in
-      let none : since (g.log p) (g.log p) ≡ [] = ap (λ (n : ℕ). take n (g.log p)) (minus_self (length (g.log p))) in
-      subst (λ (l : List PortEvent). is_careful (area_of d) (host_of d) (last_of d) l ≡ true) (sym (log ∙ none)) refl

@@ -1,5 +1,5 @@
 -- The submission queues of a completion queue.
-use Rattle.std.proofs.Common.{All, List, None, [], arith, ap, eqb, false, get_or, inl, inr, is_none, le-leb, length, length-append, mod-eq_of_lt, slice_index, subst, suc, sym, true, zero, ℕ, ◌%◌, ◌+◌, ◌-◌, ◌++◌, ◌<◌, ◌∙◌, ◌∷◌, ◌≡◌, ◌≤◌}
+use Rattle.std.proofs.Common.{All, List, None, [], arith, ap, eqb, false, inl, inr, is_none, le-leb, length, length-append, mod-eq_of_lt, slice_index, suc, true, zero, ℕ, ◌%◌, ◌+◌, ◌-◌, ◌++◌, ◌<◌, ◌∙◌, ◌∷◌, ◌≡◌, ◌≤◌}
 use Rattle.std.proofs.Math.ListN.{get_or-append}
 use Rattle.std.proofs.Math.Seq.{get_or-append_seam}
 use Rattle.std.proofs.lemmas.Bool.{and_from, cases_lt, eq-eqb, ltb-false, or_parts}

@@ -1,5 +1,5 @@
 -- Numbers that rise, and tickets by rising number: what a change leaves, and where a ticket stands.
-use Rattle.std.proofs.Common.{Bool, List, None, Some, [], arith, cond, false, is_some, length, nat_lt, not, refl, slice_get, subst, suc, sym, true, zero, ℕ, ◌++◌, ◌<◌, ◌==◌, ◌∙◌, ◌∷◌, ◌≡◌}
+use Rattle.std.proofs.Common.{Bool, List, None, Some, [], arith, cond, false, is_some, nat_lt, not, refl, slice_get, subst, suc, sym, true, zero, ℕ, ◌++◌, ◌<◌, ◌==◌, ◌∙◌, ◌∷◌, ◌≡◌}
 use Rattle.std.proofs.lemmas.Bool.{and_from, and_parts}
 use Rattle.std.proofs.lemmas.Bool.Decides.{nat_tests}
 use Rattle.std.proofs.lemmas.List.{map-append}
@@ -84,12 +84,6 @@ pub IsRising-beside : (ks : List Keyed) (t : ℕ) → IsRising ks → IsRising (
 IsRising-beside ks t r = subst AreRising (sym (tickets-beside ks t)) (AreRising-filter (λ u. not (u == t)) (tickets_of ks) r)
 
 -- ---- a place
-
--- a place is one of them
-pub place_within : (ks : List Keyed) (t i : ℕ) → IsPlaceOf ks t i → i < length ks
-place_within [] t i p = absurd (let q : None ≡ Some t = p in cc)
-place_within (x ∷ xs) t zero p = omega arith
-place_within (x ∷ xs) t (suc i) p = omega (arith, place_within xs t i p)
 
 -- a ticket with a place is there
 pub has_ticket_at : (ks : List Keyed) (t i : ℕ) → IsPlaceOf ks t i → has_ticket ks t ≡ true

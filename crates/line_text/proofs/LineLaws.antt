@@ -1,11 +1,10 @@
 -- The lines of an input, and how a caller of `next_line` walks them.
-use Rattle.std.proofs.Common.{◌≡◌, ◌≢◌, ℕ, Bool, true, false, cond, List, [], ◌∷◌, ◌++◌, None, Some, refl, sym, ap, ◌∙◌, append_assoc, append-nil}
+use Rattle.std.proofs.Common.{◌≡◌, ◌≢◌, ℕ, Bool, true, false, cond, List, [], ◌∷◌, ◌++◌, refl, sym, ap, ◌∙◌, append_assoc, append-nil}
 use Rattle.std.specs.Prelude.{Option}
 use Rattle.std.specs.List.{AllByRecursion}
 use Rattle.std.proofs.Math.Dec.{eqb}
 use Rattle.std.proofs.lemmas.Bool.{eqb-true, eqb-false}
-use Rattle.line_text.specs.declared.lines.NextLine.TheVariants.{Whole, Rest}
-use Rattle.line_text.specs.Lines.{NoFeed, lines_after, rest_after, whole_lines, rest_line, with_feeds, Gives, GivesLine}
+use Rattle.line_text.specs.Lines.{NoFeed, lines_after, rest_after, whole_lines, rest_line, with_feeds, Gives}
 
 -- a byte that is no line feed
 not_feed : (b : Bool) (x : ℕ) → eqb x 10 ≡ b → x ≢ 10 → b ≡ false
@@ -71,25 +70,6 @@ pub rest_is_last : (old new : Option (List ℕ)) (before after line : List ℕ) 
 rest_is_last old new before after line g plain none =
     let all : before ++ g.bytes ≡ line = g.moved ∙ ap (λ l. line ++ l) none ∙ append-nil line in
     (ap whole_lines all ∙ whole_lines-rest line plain, ap rest_line all ∙ rest_line-rest line plain)
-
--- at a reader whose bytes are known, `Whole` gives the first line of what was left and leaves the others
-pub next_whole : (x : List ℕ) (new : Option (List ℕ)) (before after line : List ℕ) → GivesLine Whole (Some x) new before after line
-    → (y : List ℕ) × (new ≡ Some y) × (whole_lines (before ++ x) ≡ line ∷ whole_lines (after ++ y)) × (rest_line (before ++ x) ≡ rest_line (after ++ y))
-next_whole x None before after line h = absurd h.0.consumed
-next_whole x (Some y) before after line h =
-    let first = whole_is_first (Some x) (Some y) before after line y h.0 h.1 in
-    let all : before ++ x ≡ before ++ (h.0.bytes ++ y) = ap (λ l. before ++ l) h.0.consumed in
-    (y, refl, ap whole_lines all ∙ first.0, ap rest_line all ∙ first.1)
-
--- and `Rest` says that no whole line was left, and gives what stood behind the last line feed
-pub next_rest : (x : List ℕ) (new : Option (List ℕ)) (before after line : List ℕ) → GivesLine Rest (Some x) new before after line
-    → (new ≡ Some []) × (after ≡ []) × (whole_lines (before ++ x) ≡ []) × (rest_line (before ++ x) ≡ line)
-next_rest x None before after line h = absurd h.0.consumed
-next_rest x (Some y) before after line h =
-    let last = rest_is_last (Some x) (Some y) before after line h.0 h.1 h.2 in
-    let read : x ≡ h.0.bytes = h.0.consumed ∙ ap (λ l. h.0.bytes ++ l) h.3 ∙ append-nil h.0.bytes in
-    let all : before ++ x ≡ before ++ h.0.bytes = ap (λ l. before ++ l) read in
-    (ap Some h.3, h.2, ap whole_lines all ∙ last.0, ap rest_line all ∙ last.1)
 
 -- ---- lines and input are one another's
 

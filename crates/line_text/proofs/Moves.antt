@@ -3,7 +3,7 @@ use Rattle.std.proofs.Common.{◌≡◌, ℕ, List, [], ◌∷◌, ◌++◌, sym
 use Rattle.std.specs.Prelude.{Option}
 use Rattle.std.specs.Io.KnownBytes.{Consumes, Keeps}
 use Rattle.std.proofs.KnownBytes.{Consumes-trans, Consumes-kept}
-use Rattle.line_text.specs.Lines.{NoFeed, Gives, GivesFront, Loses}
+use Rattle.line_text.specs.Lines.{NoFeed, Gives}
 
 -- two lists without a line feed have none when joined
 pub no_feed_append : (xs ys : List ℕ) → NoFeed xs → NoFeed ys → NoFeed (xs ++ ys)
@@ -41,7 +41,3 @@ gives_read a b c before line new held g none q =
 pub gives_kept : (a b c : Option (List ℕ)) (before line new held : List ℕ) → Gives a b before held line → held ≡ [] → new ≡ [] → Keeps b c → Gives a c before new line
 gives_kept a b c before line new held g none none' q =
     record { bytes = g.bytes; consumed = Consumes-kept a b c g.bytes g.consumed q; moved = g.moved ∙ ap (λ l. line ++ l) (none ∙ sym none') }
-
--- a call that gave a beginning of a line has taken some bytes of the reader
-pub loses_front : (old new : Option (List ℕ)) (before after line : List ℕ) → GivesFront old new before after line → Loses old new
-loses_front old new before after line h = (h.0.bytes, h.0.consumed)

@@ -1,13 +1,10 @@
 -- What a fetched Work is, and to which queue a completion is posted where there is one.
-use Rattle.std.proofs.Common.{ap, arith, subst, ℕ, ◌%◌, ◌+◌, ◌-◌, ◌∙◌, ◌≡◌, List}
-use Rattle.nvme_model.specs.History.{Past}
-use Rattle.nvme_model.specs.declared.config.ConfigNumbers.{ConfigNumbers}
+use Rattle.std.proofs.Common.{ap, ◌∙◌}
 use Rattle.nvme_model.specs.declared.entry.Entry.{Entry}
 use Rattle.step_core.specs.declared.answer.Answer.{Answer}
 use Rattle.step_core.specs.declared.work.Work.{Work as Duty}
 use Rattle.work_queue.specs.Duties.{is_only_fetch}
 use Rattle.work_queue.specs.Engines as engine
-use Rattle.work_queue.specs.Posted.{IsAnswerPosted, IsPostedTo}
 use Rattle.work_queue.specs.declared.engine.Open.{Open}
 use Rattle.work_queue.specs.declared.engine.Opened.{Opened}
 use Rattle.work_queue.specs.declared.engine.Opened.TheVariants as opened
@@ -26,10 +23,3 @@ by_answer hall q entry (Answer.Reaped c p) (opened.Fetched w) h = absurd h
 
 pub fetched_fresh : (hall : Hall) (p q : engine.EnginePass) (o : Open) (r : Opened) → engine.OpenedAs hall.engine p q o r → IsFresh hall r
 fetched_fresh hall p q o r h = by_answer hall q h.by.entry h.answer r h.is
-
-mod_one : (n : ℕ) → n % 1 + 1 ≡ 1
-mod_one n = omega arith
-
-pub posted_one : (c : ConfigNumbers) (past : Past) (q : ℕ) (cqe : List ℕ) → c.cqs ≡ 1 → IsAnswerPosted c past q (Answer.Posted cqe) → IsPostedTo c past 1 cqe
-posted_one c past q cqe one h =
-    subst (λ n. IsPostedTo c past n cqe) (ap (λ k. (q - 1) % k + 1) one ∙ mod_one (q - 1)) h

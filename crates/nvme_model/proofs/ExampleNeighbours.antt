@@ -1,5 +1,5 @@
 -- Of each two neighbouring rows of each table one input that both hold of: the first of them gives the answer.
-use Rattle.std.specs.Prelude.{[], Option, Some, length, refl, replicate, take, ℕ, ◌%◌, ◌/◌, ◌++◌, ◌∷◌, ◌≡◌}
+use Rattle.std.specs.Prelude.{[], Option, Some, length, refl, replicate, take, ℕ, ◌++◌, ◌∷◌, ◌≡◌}
 use Rattle.nvme_model.specs.Config.{config_fault}
 use Rattle.nvme_model.specs.EntryBytes.{two_bytes}
 use Rattle.nvme_model.specs.Examples.{default, fetch, one, pair_on_3, submit}
@@ -8,7 +8,6 @@ use Rattle.nvme_model.specs.Refusals.{refusal}
 use Rattle.nvme_model.specs.Statuses.{cid_conflict, data_transfer_error, failed_fused, invalid_field, invalid_namespace, invalid_opcode, out_of_range, unit_exceeded}
 use Rattle.nvme_model.specs.Steps.{run}
 use Rattle.nvme_model.specs.declared.config.ConfigFault.{ConfigFault}
-use Rattle.nvme_model.specs.declared.config.ConfigNumbers.{ConfigNumbers}
 use Rattle.nvme_model.specs.declared.entry.Entry.{Entry}
 use Rattle.nvme_model.specs.declared.refusal.Why.{Why}
 use Rattle.nvme_model.specs.declared.status.Status.{Status}

@@ -78,9 +78,6 @@ newest c (e ∷ past) h = same (newest c past (follows c past e h).before)
 
 -- ---- a ticket that a `differs` ended has no open unit
 
-each_open : (P : GrantLine → Type 0) (past : Past) → Each P (granted past) → Each P (open_units past)
-each_open P past h = each_filter P P (is_open past) (λ x p o. p) (granted past) h
-
 ended_here : (past : Past) (b : BlockLine) (x : GrantLine) → b.ticket ≡ x.ticket → b.unit ≡ x.unit → is_differs b.found ≡ true → is_open (Entry.Block b ∷ past) x ≡ false
 ended_here past b x e u d =
     ap not (or_right (nat_le (steps_needed (Tickets.ticket past x.ticket) x.range.blocks) (length (blocks_made (Entry.Block b ∷ past) x.ticket x.unit))) _

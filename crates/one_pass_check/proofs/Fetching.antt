@@ -1,5 +1,5 @@
 -- What a Fetch finds, and what is kept after it.
-use Rattle.std.proofs.Common.{◌≡◌, ◌≢◌, ℕ, suc, ◌+◌, ◌%◌, ◌≤◌, ◌<◌, ◌==◌, ◌&&◌, Bool, true, false, cond, List, [], ◌∷◌, ◌++◌, drop, length, get_or, map, set, slice_get, take, Option, Some, None, is_none, is_some, option_map, refl, sym, ap, ap₂, ◌∙◌, subst, arith, eqb-true, eq-eqb, ne_eqb, nat_le, le-leb}
+use Rattle.std.proofs.Common.{◌≡◌, ◌≢◌, ℕ, suc, ◌+◌, ◌%◌, ◌≤◌, ◌<◌, ◌==◌, ◌&&◌, Bool, true, false, cond, List, [], ◌∷◌, ◌++◌, drop, length, get_or, map, set, slice_get, take, Option, Some, None, is_none, is_some, option_map, refl, sym, ap, ap₂, ◌∙◌, subst, arith, eqb-true, eq-eqb, ne_eqb, nat_le}
 use Rattle.std.specs.List.{flat_map}
 use Rattle.std.proofs.lemmas.Bool.{and_parts, lt-leb}
 use Rattle.std.proofs.lemmas.List.{length-map}
@@ -163,10 +163,6 @@ units_fit c (judgement.Single x r) k o n t l =
 abbrev fetch_form : Bool → Bool → Bool → Bool → Bool
 fetch_form gone none full fits = is_none (cond gone (Some Why.NoQueue) (cond none (Some Why.NoEntry) (cond full (Some Why.JobsFull) None))) && fits
 
-form_full : (none fits : Bool) → fetch_form false none true fits ≡ false
-form_full true fits = refl
-form_full false fits = refl
-
 form_unfit : (none full : Bool) → fetch_form false none full false ≡ false
 form_unfit true full = refl
 form_unfit false true = refl
@@ -191,13 +187,6 @@ module _ (c : ConfigNumbers) (past : Past) (k : Kept) (keeps : Keeps c past k) (
 
   pub count_is : length k.flights ≡ length (flying past)
   count_is = ap length keeps.shows.in_flight ∙ length-map (flying past) (flight_in c (tables c past))
-
-  -- as many are in flight as may be
-  pub fetch_full : (after : Kept) → c.jobs ≤ length k.flights → Took c past (Entry.Fetch l) false after
-  fetch_full after e =
-      let full : nat_le c.jobs (length (flying past)) ≡ true = le-leb c.jobs (length (flying past)) (omega (arith, e, count_is)) in
-      took_not c past (Entry.Fetch l) after (rule_is ∙ ap (λ b. fetch_form false (length ((tables c past).waiting l.queue) == 0) b ((l.ticket == Tickets.tickets past + 1) && same_verdict l.verdict (verdict_by c (tables c past) l.queue))) full
-      ∙ form_full (length ((tables c past).waiting l.queue) == 0) ((l.ticket == Tickets.tickets past + 1) && same_verdict l.verdict (verdict_by c (tables c past) l.queue)))
 
   module _ (first : Submission) (waits : slice_get r.waiting 0 ≡ Some first) (next : Option Item) (behind : next ≡ option_map item_of (slice_get r.waiting 1)) (room : length k.flights < c.jobs) (j : Judged)
       (all : List InFlight) (all_are : all ≡ k.flights) (verdict : matched.verdict_by j ≡ verdict_of c.atomic c.blocks (flat_map (λ e. cids_left l.queue e.flight) all) (waiting_items (item_of first) next))

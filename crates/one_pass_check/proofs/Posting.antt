@@ -121,9 +121,6 @@ ring_next m n d xs some =
 abbrev post_form : Bool → Bool → Bool → Bool → Bool
 post_form flies nothing full fits = is_none (cond (not flies) (Some Why.NoTicket) (cond nothing (Some Why.WrongState) (cond full (Some Why.CqFull) None))) && fits
 
-form_nothing : (full fits : Bool) → post_form true true full fits ≡ false
-form_nothing full fits = refl
-
 form_unfit : (nothing full : Bool) → post_form true nothing full false ≡ false
 form_unfit true full = refl
 form_unfit false true = refl

@@ -18,10 +18,6 @@ IsTable-set f g n i xs y t lt e others =
       ];
     }
 
--- the same table by another function
-pub IsTable-same : {X : Type 0} (f g : ℕ → X) (n : ℕ) (xs : List X) → IsTable f n xs → ((k : ℕ) → g k ≡ f k) → IsTable g n xs
-IsTable-same f g n xs t same = record { size = t.size; at = λ k d below. t.at k d below ∙ sym (same k) }
-
 -- a table of one value
 pub IsTable-replicate : {X : Type 0} (f : ℕ → X) (n : ℕ) (x : X) (xs : List X) → xs ≡ replicate n x → ((k : ℕ) → f k ≡ x) → IsTable f n xs
 IsTable-replicate f n x xs is same = record { size = ap length is ∙ length-replicate n x; at = λ k d lt. ap (λ ys. get_or ys k d) is ∙ get_or-replicate n k x d lt ∙ sym (same k) }

@@ -1,5 +1,5 @@
 -- Which history a checker stands for.
-use Rattle.std.proofs.Common.{◌≡◌, ℕ, suc, ◌%◌, ◌==◌, ◌&&◌, Bool, true, false, List, [], ◌∷◌, length, replicate, None, is_none, refl, sym, ap, ◌∙◌, subst, ltb-false}
+use Rattle.std.proofs.Common.{◌≡◌, ℕ, suc, ◌%◌, ◌==◌, ◌&&◌, Bool, true, List, [], ◌∷◌, length, replicate, None, is_none, refl, sym, ap, ◌∙◌, subst, ltb-false}
 use Rattle.std.proofs.Math.Nat.{zero-div, zero-mod}
 use Rattle.std.proofs.lemmas.Bool.{or_parts}
 use Rattle.std.proofs.lemmas.List.{get_or-replicate, length-replicate}
@@ -26,12 +26,6 @@ use Rattle.one_pass_check.proofs.Following.{legal_next}
 use Rattle.one_pass_check.proofs.Rings.{IsTable-replicate}
 
 -- ---- no entry
-
--- the sizes of the queues
-pub sq_is_size : (c : ConfigNumbers) → config_fault c ≡ None → IsSize c.sq_size
-sq_is_size c none =
-    let p = or_parts _ _ (none_holds (config_faults c) (ap is_none none)).1.1.1.1.1.1.0 in
-    (ltb-false _ _ p.0, ltb-false _ _ p.1)
 
 pub cq_is_size : (c : ConfigNumbers) → config_fault c ≡ None → IsSize c.cq_size
 cq_is_size c none =
@@ -71,12 +65,6 @@ keeps_none c m v s q fs r same accepted vs ss qs none free =
     })
 
 -- ---- one more entry
-
--- behind entries that aren't legal
-pub stands_false : (c : ConfigNumbers) (past : Past) (x : State) (e : Entry) → Stands c past x → x.is_legal ≡ false → (false ≡ legal c (e ∷ past)) × Stands c (e ∷ past) x
-stands_false c past x e s bad =
-    let answer : false ≡ legal c (e ∷ past) = sym (ap (λ b. b && may_follow c past e) (sym s.answer ∙ bad)) in
-    (answer, record { same = s.same; answer = bad ∙ answer; keeps = λ good. absurd (let f : false ≡ true = sym bad ∙ good in cc) })
 
 -- and behind legal ones
 pub stands_next : (c : ConfigNumbers) (past : Past) (x : State) (e : Entry) (b : Bool) (k : Kept) → Stands c past x → x.is_legal ≡ true → Took c past e b k

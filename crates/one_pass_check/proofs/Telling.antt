@@ -177,9 +177,6 @@ module _ (c : ConfigNumbers) (past : Past) (k : Kept) (keeps : Keeps c past k) (
     posted_is : x.flight ≡ flight past p.ticket
     posted_is = ap (λ (y : InFlight). y.flight) there.is
 
-    full_by : Bool
-    full_by = length ((tables c past).unreaped (completion_queue c (flight past p.ticket).ticket.queue)) == c.cq_size - 1
-
     pub tell_nothing : owes_nothing c x.flight ≡ true → Some (Broken.Refused Why.WrongState) ≡ broken_by c (tables c past) (Entry.Post p)
     tell_nothing e = (λ z. post_form (sym there.flies z) ((sym e ∙ ap (owes_nothing c) posted_is) z) (length ((tables c past).unreaped (completion_queue c (flight past p.ticket).ticket.queue)) == c.cq_size - 1) (wrong_by c (tables c past) (Entry.Post p)))
 

@@ -24,11 +24,6 @@ items_end : items_in [] ≡ Some []
 unfolding items_in
 items_end = refl
 
--- nothing before
-pub joined-nil : (o : Option (List Submission)) → joined [] o ≡ o
-joined-nil None = refl
-joined-nil (Some xs) = refl
-
 -- one more entry
 joined-then : (front : List Submission) (x : Submission) (o : Option (List Submission))
     → joined (front ++ x ∷ []) o ≡ joined front (then_item (Some x) o)

@@ -14,7 +14,7 @@ use Rattle.nvme_model.proofs.EveryRun.{after_kept}
 use Rattle.nvme_model.specs.Kept.{Kept}
 use Rattle.ticket_standing.proofs.Flying.{has_flying}
 use Rattle.job_table.specs.Jobs.{jobs_by, job_of, replaced}
-use Rattle.job_table.proofs.Tables.{jobs_by_agree, replaced-jobs_by_agree, job_of-jobs_by}
+use Rattle.job_table.proofs.Tables.{replaced-jobs_by_agree, job_of-jobs_by}
 use Rattle.job_table.specs.Tickets.{job_by, job_at}
 
 -- an accepted step keeps the history legal and its marks right
@@ -35,7 +35,3 @@ pub jobs_moved : (c : ConfigNumbers) (past : Past) (e : Entry) (t : ℕ) → ((s
 jobs_moved c past e t move =
     replaced-jobs_by_agree (job_at c past) (job_at c (e ∷ past)) (flying past) t
     (record { at = λ u k n. ap (job_by c) (sym (move u (λ q. absurd (let x : true ≡ false = sym (eq-eqb u t q) ∙ n in cc)))) })
-
--- and where it moves none the same jobs
-pub jobs_kept : (c : ConfigNumbers) (past : Past) (e : Entry) → ((s : ℕ) → standing (e ∷ past) s ≡ standing past s) → jobs_by (job_at c past) (flying past) ≡ jobs_by (job_at c (e ∷ past)) (flying past)
-jobs_kept c past e move = jobs_by_agree (job_at c past) (job_at c (e ∷ past)) (flying past) (record { at = λ u k. ap (job_by c) (sym (move u)) })

@@ -113,22 +113,12 @@ ticket_of (Some t) g e h = ap (λ (y : InFlight). Some y.ticket) (some_inj h)
     some_inj : {x y : InFlight} → Some x ≡ Some y → x ≡ y
     some_inj h = cc
 
-no_ticket : (o : Option ℕ) (g : ℕ → Keeping) → option_map {U = InFlight} (λ t. record { ticket = t; job = g t }) o ≡ None → o ≡ None
-no_ticket None g h = refl
-no_ticket (Some t) g h = absurd cc
-
 module _ (x : State) (j : JobTable) (c : ConfigNumbers) (past : Past) (m : ℕ) {w : Room} (view : record { config = c; past = past; promised = m; room = w } ≡ x) (table : j ≡ job_table c past) where
   -- the ticket at this place
   pub nth_ticket : (i : ℕ) (e : InFlight) → slice_get j.jobs i ≡ Some e → slice_get (flying x.past) i ≡ Some e.ticket
   nth_ticket i e h =
       subst (λ (y : State). slice_get (flying y.past) i ≡ Some e.ticket) view
       (ticket_of (slice_get (flying past) i) (job_at c past) e (sym (slice_get-jobs_by (job_at c past) (flying past) i) ∙ ap (λ (y : JobTable). slice_get y.jobs i) (sym table) ∙ h))
-
-  -- none is behind the last
-  pub nth_none : (i : ℕ) → slice_get j.jobs i ≡ None → slice_get (flying x.past) i ≡ None
-  nth_none i h =
-      subst (λ (y : State). slice_get (flying y.past) i ≡ None) view
-      (no_ticket (slice_get (flying past) i) (job_at c past) (sym (slice_get-jobs_by (job_at c past) (flying past) i) ∙ ap (λ (y : JobTable). slice_get y.jobs i) (sym table) ∙ h))
 
   -- and how many there are
   pub count_tickets : length j.jobs ≡ length (flying x.past)

@@ -12,7 +12,7 @@ use Rattle.nvme_model.specs.Tickets.{Ticket, in_flight, posts_of}
 use Rattle.nvme_model.specs.Legal.{IsLegal}
 use Rattle.ticket_standing.specs.Standing.{rising, flying}
 use Rattle.nvme_model.proofs.Lists.{Each, each_map, each_filter}
-use Rattle.ticket_standing.proofs.TicketLists.{has, IsApart, each_append, rising_each}
+use Rattle.ticket_standing.proofs.TicketLists.{has, each_append, rising_each}
 use Rattle.nvme_model.proofs.Rules.{follows, fetch_number}
 use Rattle.nvme_model.proofs.Apart.{fetched_if}
 
@@ -96,12 +96,3 @@ filter_rises p (t ∷ ts) r = go (p t) (filter_rises p ts r.1)
 -- so do those in flight
 pub flying_rises : (past : Past) → Rising (flying past)
 flying_rises past = filter_rises (in_flight past) (rising (Tickets.tickets past)) (rising_rises (Tickets.tickets past))
-
--- and no number stands twice
-pub rises_apart : (ts : List ℕ) → Rising ts → IsApart ts
-rises_apart [] r = tt
-rises_apart (t ∷ ts) r = (go ts r.0, rises_apart ts r.1)
-  where
-    go : (ss : List ℕ) → Each (λ s. t < s) ss → has t ss ≡ false
-    go [] e = refl
-    go (s ∷ ss) e = (λ i. ne_eqb s t (λ (q : s ≡ t). omega (arith, q, e.0)) i || go ss e.1 i)

@@ -6,9 +6,7 @@ use Rattle.std.proofs.lemmas.Bool.{cond-true, cond-false, cases_Bool}
 use Rattle.nvme_model.specs.declared.config.ConfigNumbers.{ConfigNumbers}
 use Rattle.nvme_model.specs.declared.entry.GrantLine.{GrantLine}
 use Rattle.nvme_model.specs.declared.entry.BlockLine.{BlockLine}
-use Rattle.nvme_model.specs.declared.entry.PublishLine.{PublishLine}
 use Rattle.nvme_model.specs.declared.entry.PostLine.{PostLine}
-use Rattle.nvme_model.specs.declared.entry.ReapLine.{ReapLine}
 use Rattle.nvme_model.specs.declared.entry.Entry.{Entry}
 use Rattle.nvme_model.specs.History.{Past}
 use Rattle.nvme_model.specs.Tickets
@@ -22,13 +20,6 @@ use Rattle.ticket_standing.proofs.TicketLists.{filter_each, filter_twice, find_f
 use Rattle.nvme_model.proofs.Rules.{follows, may_grant}
 use Rattle.nvme_model.proofs.Blocks.{MayBlock, not_made, same_made, no_blocks}
 use Rattle.ticket_standing.proofs.Opening.{grant_open, ends_with, block_open_on, block_open_beside}
-
--- a Publish and a Reap leave each ticket where it stood
-pub publish_stands : (past : Past) (p : PublishLine) (t : ℕ) → standing (Entry.Publish p ∷ past) t ≡ standing past t
-publish_stands past p t = refl
-
-pub reap_stands : (past : Past) (r : ReapLine) (t : ℕ) → standing (Entry.Reap r ∷ past) t ≡ standing past t
-reap_stands past r t = refl
 
 -- ---- a Grant
 

@@ -24,11 +24,6 @@ pub filter_each : {X : Type 0} (p q : X → Bool) (xs : List X) → Each (λ x. 
 filter_each p q [] h = refl
 filter_each p q (x ∷ xs) h = (λ i. cond (h.0 i) (x ∷ filter_each p q xs h.1 i) (filter_each p q xs h.1 i))
 
--- functions that agree on each element
-pub map_each : {X Y : Type 0} (f g : X → Y) (xs : List X) → Each (λ x. f x ≡ g x) xs → map f xs ≡ map g xs
-map_each f g [] h = refl
-map_each f g (x ∷ xs) h = (λ i. h.0 i ∷ map_each f g xs h.1 i)
-
 -- what holds of each element of both holds of each of their join
 pub each_append : {X : Type 0} (P : X → Type 0) (xs ys : List X) → Each P xs → Each P ys → Each P (xs ++ ys)
 each_append P [] ys h k = k

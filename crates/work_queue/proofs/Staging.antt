@@ -22,7 +22,7 @@ use Rattle.nvme_model.specs.declared.step.Step.{Step}
 use Rattle.step_core.specs.State.{answer_of}
 use Rattle.step_core.specs.declared.answer.Answer.{Answer}
 use Rattle.ticket_entries.specs.Entries.{of_ticket, ticket_in}
-use Rattle.ticket_entries.specs.Tasks.{Duty, duty_at, first_stage, own_all_ended, own_done, own_open, own_stage, task_fault}
+use Rattle.ticket_entries.specs.Tasks.{Duty, duty_at, first_stage, own_all_ended, own_open, own_stage, task_fault}
 use Rattle.ticket_entries.specs.declared.stage.Stage.{Stage}
 use Rattle.ticket_entries.proofs.NewEntries.{named_entry, of_ticket-own}
 use Rattle.ticket_entries.proofs.OwnEntries.{own_differed}
@@ -115,9 +115,6 @@ some_left m n e = grind (arith, nat_tests)
 none_left : (m n : ℕ) → ((m - n) == 0) ≡ true → nat_le m n ≡ true
 none_left m n e = grind (arith, nat_tests)
 
-landed : (s p : ℕ) → ((s - p) == 0) ≡ true → not (nat_lt p s) ≡ true
-landed s p e = grind (arith, nat_tests)
-
 rows : (x y : Bool) → x ≡ false → y ≡ false → cond x (Some Why.NoTicket) (cond y (Some Why.WrongState) None) ≡ None
 rows x y ex ey = λ i. cond (ex i) (Some Why.NoTicket) (cond (ey i) (Some Why.WrongState) None)
 
@@ -158,15 +155,3 @@ module _ (c : ConfigNumbers) (past : Past) (t : ℕ) (h : IsLegal c past) where
 
   pub next_allowed : (k : Task) → next_task (own_stage D t I) ≡ Some k → task_fault D t I (task_step k t) ≡ None
   next_allowed k is = by_tests k _ _ _ _ refl refl refl refl is
-
-  by_owing : (a : Bool) (o : Option Task) → ((own_stage D t I).owing == 0) ≡ a → (o ≡ None → ⊥) → cond a None o ≡ None → own_done D I t ≡ true
-  by_owing true o ea some is = landed D.statuses (posts_of I t) ea
-  by_owing false o ea some is = absurd (some is)
-
-  some_task : (b e : Bool) → cond b (Some task.Block) (cond e (Some task.Post) (Some task.Grant)) ≡ None → ⊥
-  some_task true e is = cc
-  some_task false true is = cc
-  some_task false false is = cc
-
-  pub none_next : next_task (own_stage D t I) ≡ None → own_done D I t ≡ true
-  none_next is = by_owing _ _ refl (some_task (own_open D.op I t) (differed I t || ((own_stage D t I).left == 0))) is

@@ -1,4 +1,4 @@
-use Rattle.std.proofs.Common.{None, refl}
+use Rattle.std.proofs.Common.{refl}
 use Rattle.host_rounds.proofs.Going.{back_held, goes_called, goes_far, held_heard}
 use Rattle.host_rounds.proofs.releasing.begin.Goals as goal
 
