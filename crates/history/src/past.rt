@@ -71,6 +71,7 @@ impl History {
     /// The entry, where a growth is refused.
     pub fn push(&mut self, entry: Entry) -> Result<(), Entry>
         ensures ok { OnOk result (self.new.past ≡ entry ∷ self.old.past) }
+        ensures room { OnOk result (self.old.room ≤ self.new.room + 1) }
         ensures err { OnErr result ((self.new.past ≡ self.old.past) × (self.old.room ≡ 0)) }
         ensures back { (e : Entry) → result ≡ Err e → e ≡ entry }
     {
