@@ -1,7 +1,7 @@
 -- What a check says of the text of a legal history.
-use Rattle.std.proofs.Common.{◌≡◌, ◌≢◌, ℕ, Bool, true, false, List, [], Option, Some, None, inl, inr, refl, sym, ap, subst, ◌∙◌, append-nil, reverse}
+use Rattle.std.proofs.Common.{◌≡◌, ◌≢◌, ℕ, Bool, true, false, List, [], Option, Some, None, inl, inr, refl, sym, ap, subst, ◌∙◌, reverse}
 use Rattle.std.specs.Prelude.{All, Result, Ok, Err}
-use Rattle.std.specs.Io.KnownBytes.{Appends, Keeps}
+use Rattle.std.specs.Io.KnownBytes.{Appends}
 use Rattle.std.proofs.lemmas.List.{reverse-reverse}
 use Rattle.std.proofs.lemmas.List.Elements.{recursion_from_All}
 use Rattle.line_text.specs.Known.{AppendsFront}
@@ -50,17 +50,11 @@ module _ (c : ConfigNumbers) (past : Past) (is : HasConfigLine c) (accepted : co
     no_end : (e : End) (old new : Option (List ℕ)) → (e ≢ done) → EndsUnsaid e (Some (history_text c (reverse past))) old new → ⊥
     no_end e old new other h = other (sym h.0 ∙ ended)
 
-    nothing : (old new : Option (List ℕ)) → Keeps old new → AppendsFront old new legal_text
-    nothing None new h = record { front = []; rest = legal_text; whole = refl; written = tt }
-    nothing (Some xs) None h = absurd h
-    nothing (Some xs) (Some ys) h = record { front = []; rest = legal_text; whole = refl; written = h ∙ sym (append-nil xs) }
-
     pub says : (res : Result Bool RunFault) (left old new : Option (List ℕ)) → ChecksText res (Some (history_text c (reverse past))) left old new → SaysLegal res old new
     says (Ok answer) left old new h =
         let one = only answer h.1.0 h.1.1 in
         (one.0, subst (λ t. Appends old new t) one.1 h.1.2)
-    says (Err Output) left old new (inl h) = nothing old new h
-    says (Err Output) left old new (inr h) = subst (λ t. AppendsFront old new t) (only h.0 h.1 h.2).1 h.3
+    says (Err Output) left old new h = subst (λ t. AppendsFront old new t) (only h.0 h.1 h.2).1 h.3
     says (Err Input) left old new h = h.3
     says (Err NoMemory) left old new h = h
     says (Err (BadLine n)) left old new (inl h) = no_end (bad_line n) old new (λ e. cc) h

@@ -7,6 +7,7 @@ use Rattle.line_text.specs.Known.{AppendsFront}
 use Rattle.line_text.specs.Lines.{whole_lines}
 use Rattle.nvme_model.specs.declared.config.ConfigNumbers.{ConfigNumbers}
 use Rattle.one_pass_check.specs.Kept.{State}
+use Rattle.casdisk_script.specs.Fault.{fault_in_memory}
 use Rattle.casdisk_script.specs.Files.{ChecksText, EndsUnsaid, IsAnswerOf, entry_added}
 use Rattle.casdisk_script.specs.Judged.{HasJudged, Tells, answer_text}
 use Rattle.casdisk_script.specs.Running.{Makes, PrintsAll, Runs}
@@ -21,12 +22,12 @@ module _ (t w u v : Option (List ℕ)) where
   unsaid_of e None p = tt
   unsaid_of e (Some x) p = (p.0, Keeps-refl v)
 
-  pub stopped : (f : RunFault) (r : Option (List ℕ)) → Runs (outcome (λ c. entry_added)) (Err f) r t w u → ChecksText (Err f) r t v v
+  pub stopped : (f : RunFault) (r : Option (List ℕ)) → Runs (outcome (λ c. entry_added)) (Err f) r t w u → ChecksText (Err (fault_in_memory f)) r t v v
   stopped (BadLine n) r (inl h) = inl (unsaid_of (bad_line n) r h)
   stopped (BadLine n) r (inr h) = inr (unsaid_of (cut n) r h)
   stopped (BadConfig n) r h = unsaid_of (bad_config n) r h
   stopped Input r h = (h.0, h.1, h.2, Keeps-refl v)
-  stopped Output r h = inl (Keeps-refl v)
+  stopped Output r h = Keeps-refl v
   stopped NoMemory r h = Keeps-refl v
 
 -- they were
@@ -53,5 +54,5 @@ module _ (c : ConfigNumbers) (checker : State) (count : ℕ) (bad : Option ℕ) 
   answered (Err (BadLine n)) r ran makes known told = absurd told
   answered (Err (BadConfig n)) r ran makes known told = absurd told
   answered (Err Input) r ran makes known told = absurd told
-  answered (Err Output) r ran makes known told = inr (with_front r (is_none bad) (answer_text bad) (whole r ran makes known) told)
+  answered (Err Output) r ran makes known told = with_front r (is_none bad) (answer_text bad) (whole r ran makes known) told
   answered (Err NoMemory) r ran makes known told = absurd told

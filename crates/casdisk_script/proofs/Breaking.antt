@@ -13,6 +13,7 @@ use Rattle.nvme_model.specs.declared.entry.Entry.{Entry}
 use Rattle.nvme_model.proofs.FirstBad.{some_is_first}
 use Rattle.one_pass_check.specs.Kept.{State}
 use Rattle.casdisk_script.specs.Explained.{EndsSo, ExplainsText, HasExplained, IsExplained, earlier_step, explained_of, first_step}
+use Rattle.casdisk_script.specs.Fault.{fault_in_memory}
 use Rattle.casdisk_script.specs.Files.{entry_added}
 use Rattle.casdisk_script.specs.Running.{Makes, PrintsAll, Runs}
 use Rattle.casdisk_script.specs.Script.{End, bad_config, bad_line, cut, first_config, outcome}
@@ -67,7 +68,7 @@ ends_of : (e : End) (r w u : Option (List ℕ)) → PrintsAll (outcome (λ c. en
 ends_of e None w u p = tt
 ends_of e (Some bytes) w u p = p.0
 
-pub stopped : (f : RunFault) (r t w u : Option (List ℕ)) → Runs (outcome (λ c. entry_added)) (Err f) r t w u → ExplainsText (Err f) r t
+pub stopped : (f : RunFault) (r t w u : Option (List ℕ)) → Runs (outcome (λ c. entry_added)) (Err f) r t w u → ExplainsText (Err (fault_in_memory f)) r t
 stopped (BadLine n) r t w u (inl h) = inl (ends_of (bad_line n) r w u h)
 stopped (BadLine n) r t w u (inr h) = inr (ends_of (cut n) r w u h)
 stopped (BadConfig n) r t w u h = ends_of (bad_config n) r w u h

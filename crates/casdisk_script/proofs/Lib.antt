@@ -2,6 +2,7 @@ pub mod Beginning
 mod Answering
 mod KindsLemmas
 mod Breaking
+mod Faults
 mod Placing
 mod Printed
 mod Settling

@@ -46,7 +46,7 @@ ExplainsText (Ok x) input left =
 ExplainsText (Err (BadLine n)) input left = EndsSo (bad_line n) input ⊎ EndsSo (cut n) input
 ExplainsText (Err (BadConfig c)) input left = EndsSo (bad_config c) input
 ExplainsText (Err Input) input left = (bytes : List ℕ) × Consumes input left bytes × IsOpen (file_of bytes).end
-ExplainsText (Err Output) input left = Unit {0}
+ExplainsText (Err Output) input left = ⊥
 ExplainsText (Err NoMemory) input left = Unit {0}
 
 -- so many entries were explained, this is the first that breaks a rule, and where there is none the checker stands for

@@ -15,6 +15,11 @@ abbrev pub fault_of_write : WriteFault → RunFault
 fault_of_write WriteFault.Output = Output
 fault_of_write WriteFault.NoMemory = NoMemory
 
+-- the same cause, where all that was written went into memory, which fails only for want of it
+abbrev pub fault_in_memory : RunFault → RunFault
+fault_in_memory Output = NoMemory
+fault_in_memory f = f
+
 -- the status after a run that ended early
 abbrev pub status_of : RunFault → ℕ
 status_of (BadLine n) = 2

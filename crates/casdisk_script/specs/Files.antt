@@ -46,7 +46,7 @@ IsAnswerOf input answer text =
 abbrev pub EndsUnsaid : End → Option (List ℕ) → Option (List ℕ) → Option (List ℕ) → Type 0
 EndsUnsaid e input old new = IfSome input (λ bytes. ((file_of bytes).end ≡ e) × Keeps old new)
 
--- By what a check of a file answered: its one line, and the reader at its end; or nothing, or a beginning of that line.
+-- By what a check of a file answered: its one line, and the reader at its end; nothing; or a beginning of that line.
 abbrev pub ChecksText : Result Bool RunFault → Option (List ℕ) → Option (List ℕ) → Option (List ℕ) →
     Option (List ℕ) → Type 0
 ChecksText (Ok answer) input left old new =
@@ -58,5 +58,4 @@ ChecksText (Err Input) input left old new =
     (bytes : List ℕ) × Consumes input left bytes × IsOpen (file_of bytes).end × Keeps old new
 ChecksText (Err NoMemory) input left old new = Keeps old new
 ChecksText (Err Output) input left old new =
-    Keeps old new ⊎ IfSome input
-    (λ bytes. (answer : Bool) × (text : List ℕ) × IsAnswerOf bytes answer text × AppendsFront old new text)
+    IfSome input (λ bytes. (answer : Bool) × (text : List ℕ) × IsAnswerOf bytes answer text × AppendsFront old new text)

@@ -48,8 +48,8 @@ fn tell_answer<W: Write>(bad: Option<u64>, writer: &mut W) -> Result<bool, RunFa
 /// # Errors
 ///
 /// `BadLine` with the number of the first line that may not stand there, `BadConfig` with the number of the fault,
-/// `Input`, where no line that was read is bad, and `NoMemory`, all after nothing was written; `Output` after a
-/// beginning of the line.
+/// `Input`, where no line that was read is bad, and `NoMemory`, all after nothing was written; `Output`,
+/// where all was read, after a beginning of the line.
 pub fn check_text<R: Read, W: Write>(
     alloc: Global,
     reader: &mut R,
@@ -67,6 +67,8 @@ pub fn check_text<R: Read, W: Write>(
         return Err(RunFault::NoMemory);
     };
     let mut unprinted: Vec<u8> = Vec::new(alloc);
-    run_lines(&mut judge, &mut lines, &mut line, reader, &mut unprinted)?;
+    if let Err(fault) = run_lines(&mut judge, &mut lines, &mut line, reader, &mut unprinted) {
+        return Err(fault.in_memory());
+    }
     tell_answer(judge.bad, writer)
 }

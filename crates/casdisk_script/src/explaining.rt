@@ -141,12 +141,14 @@ pub fn explain_text<R: Read>(alloc: Global, reader: &mut R) -> Result<Explained,
         return Err(RunFault::NoMemory);
     };
     let mut unprinted: Vec<u8> = Vec::new(alloc);
-    run_lines(
+    if let Err(fault) = run_lines(
         &mut explainer,
         &mut lines,
         &mut line,
         reader,
         &mut unprinted,
-    )?;
+    ) {
+        return Err(fault.in_memory());
+    }
     Ok(explained_by(explainer.bad))
 }

@@ -1,6 +1,6 @@
 //! The first line of a script or of a history.
 
-ghost use Rattle.std.specs.Prelude.{◌≡◌, ◌++◌, ◌∷◌, [], Err, IfErr, IfOk, IfSome, List, Option, Some, ℕ};
+ghost use Rattle.std.specs.Prelude.{◌≡◌, ◌≢◌, ◌++◌, ◌∷◌, [], Err, IfErr, IfOk, IfSome, List, Option, Some, ℕ};
 ghost use Rattle.std.specs.Io.KnownBytes.{Appends};
 ghost use Rattle.line_text.specs.Known.{AppendsFront};
 ghost use Rattle.line_text.specs.Lines.{whole_lines};
@@ -34,6 +34,7 @@ pub(crate) fn read_first<R: Read>(
         Reached (outcome meaning) (meaning c) [] 2 (R.remaining reader.old) (R.remaining reader.new) w u lines.new) }
     ensures config { IfOk result
         (λ c. IfSome (R.remaining reader.old) (λ bytes. first_config (whole_lines bytes) ≡ Some c)) }
+    ensures read { IfErr result (λ f. f ≢ RunFault.Output) }
 {
     match lines.next_line(reader, line) {
         Err(fault) => return Err(read_fault(fault)),

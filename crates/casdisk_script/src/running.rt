@@ -1,6 +1,6 @@
 //! The lines of a script, one after the other.
 
-ghost use Rattle.std.specs.Prelude.{◌≡◌};
+ghost use Rattle.std.specs.Prelude.{◌≡◌, ◌≢◌};
 ghost use Rattle.nvme_model.specs.History.{Past};
 ghost use Rattle.nvme_model.specs.declared.config.ConfigNumbers.{ConfigNumbers};
 ghost use Rattle.casdisk_script.specs.Fault.{fault_of_read, fault_of_write};
@@ -14,6 +14,7 @@ use std::io::{Read, Write};
 // Why the run ends where no line was read.
 pub(crate) fn read_fault(fault: ReadFault) -> RunFault
     ensures cause { result ≡ fault_of_read fault }
+    ensures read { result ≢ RunFault.Output }
 {
     match fault {
         ReadFault::Input => RunFault::Input,

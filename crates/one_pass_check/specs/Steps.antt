@@ -25,6 +25,14 @@ pub record Took (c : ConfigNumbers) (past : Past) (e : Entry) (b : Bool) (k : Ke
   pub answer : b ≡ rules.judged c (tables c past) e
   pub shows : b ≡ true → Shows c (taken c (tables c past) e) k
 
+-- ---- memory
+
+-- an entry of this kind may need memory to be taken
+abbrev pub needs_memory : Entry → Bool
+needs_memory (Entry.Post p) = false
+needs_memory (Entry.Reap r) = false
+needs_memory _ = true
+
 -- ---- a Grant
 
 -- a Grant of a ticket that has this unit next, where these ranges are held

@@ -1,5 +1,6 @@
 -- The first rule that an entry breaks, by the tables.
-use Rattle.std.specs.Prelude.{List, None, Option, Some, if◌then◌else◌, is_some, option_map, slice_get, ◌%◌, ◌||◌}
+use Rattle.std.specs.Prelude.{Bool, List, None, Option, Some, false, if◌then◌else◌, is_some, option_map, slice_get}
+use Rattle.std.specs.Prelude.{true, ◌%◌, ◌||◌}
 use Rattle.broken_rules.specs.Broken.{refused_or}
 use Rattle.broken_rules.specs.Rows.{fetch_broken, grant_broken, reap_broken}
 use Rattle.broken_rules.specs.declared.broken.Broken.{Broken}
@@ -36,6 +37,12 @@ wrong_by c s (Entry.Reap r) = reap_broken r (option_map (λ (p : PostLine). p.cq
 -- its refusal, or that
 abbrev pub broken_by : ConfigNumbers → Tables → Entry → Option Broken
 broken_by c s e = refused_or (refusal_by c s (step_of e)) (wrong_by c s e)
+
+-- an entry of this kind may need memory to be explained
+abbrev pub why_needs_memory : Entry → Bool
+why_needs_memory (Entry.Fetch f) = true
+why_needs_memory (Entry.Block b) = true
+why_needs_memory _ = false
 
 -- a Grant of a ticket in flight that has this unit next, where these ranges are held
 abbrev pub grant_why : Flight → Option Range → List Held → GrantLine → Option Broken

@@ -1,11 +1,12 @@
 //! The checker.
 
-ghost use Rattle.std.specs.Prelude.{◌≡◌, ◌∷◌, [], IfOk, OnErr, is_none};
+ghost use Rattle.std.specs.Prelude.{◌≡◌, ◌∷◌, [], IfOk, OnErr, is_none, true};
 ghost use Rattle.nvme_model.specs.History.{Past};
 ghost use Rattle.nvme_model.specs.Legal.{legal};
 ghost use Rattle.broken_rules.specs.Broken.{first_broken};
 ghost use Rattle.one_pass_check.specs.Kept.{Keeps, Stands, kept_in};
-ghost use Rattle.one_pass_check.specs.Steps.{Took};
+ghost use Rattle.one_pass_check.specs.Steps.{Took, needs_memory};
+ghost use Rattle.one_pass_check.specs.Whys.{why_needs_memory};
 
 use crate::block::take_block;
 use crate::fetch::take_fetch;
@@ -56,6 +57,7 @@ fn take_entry(
     ensures took { (past : Past) → Keeps config.now past (kept_in fields.old) →
         IfOk result (λ b. Took config.now past entry.now b (kept_in fields.new)) }
     ensures err { OnErr result (kept_in fields.new ≡ kept_in fields.old) }
+    ensures wants { OnErr result (needs_memory entry.now ≡ true) }
 {
     match entry {
         Entry::Publish(line) => take_publish(alloc, fields, line),
@@ -88,12 +90,14 @@ impl Checker {
     ///
     /// # Errors
     ///
-    /// `NoMemory` where a growth is refused; the entry isn't taken, and nothing has changed.
+    /// `NoMemory` where a growth is refused; the entry isn't taken, and nothing has changed. Never for a Post or a
+    /// Reap, nor where the entries so far aren't legal.
     pub fn take(&mut self, entry: &Entry) -> Result<bool, NoMemory>
         ensures ok { (past : Past) → Stands self.old.config past self.old →
             IfOk result (λ b. (b ≡ legal self.old.config (entry.now ∷ past))
             × Stands self.old.config (entry.now ∷ past) self.new) }
         ensures err { OnErr result (self.new ≡ self.old) }
+        ensures wants { OnErr result ((self.old.is_legal ≡ true) × (needs_memory entry.now ≡ true)) }
     {
         if !self.legal {
             return Ok(false);
@@ -108,12 +112,13 @@ impl Checker {
     ///
     /// # Errors
     ///
-    /// `NoMemory` where a growth is refused.
+    /// `NoMemory` where a growth is refused. Only for a Fetch or a Block, behind legal entries.
     pub fn why(&self, entry: &Entry) -> Result<Option<Broken>, NoMemory>
         ensures first { (past : Past) →
             Stands self.now.config past self.now → IfOk result (λ b. b ≡ first_broken self.now.config past entry.now) }
         ensures none { (past : Past) → Stands self.now.config past self.now →
             IfOk result (λ b. is_none b ≡ legal self.now.config (entry.now ∷ past)) }
+        ensures wants { OnErr result ((self.now.is_legal ≡ true) × (why_needs_memory entry.now ≡ true)) }
     {
         if !self.legal {
             return Ok(Some(Broken::Earlier));

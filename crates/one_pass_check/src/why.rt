@@ -1,12 +1,12 @@
 //! Which rule an entry breaks.
 
-ghost use Rattle.std.specs.Prelude.{◌≡◌, IfOk, slice_get};
+ghost use Rattle.std.specs.Prelude.{◌≡◌, IfOk, OnErr, slice_get, true};
 ghost use Rattle.nvme_model.specs.History.{Past};
 ghost use Rattle.nvme_model.specs.declared.config.ConfigNumbers.{ConfigNumbers};
 ghost use Rattle.nvme_model.specs.declared.entry.Entry.{Entry};
 ghost use Rattle.checker_tables.specs.Tables.{tables};
 ghost use Rattle.one_pass_check.specs.Kept.{Keeps, kept_in};
-ghost use Rattle.one_pass_check.specs.Whys.{broken_by, grant_why};
+ghost use Rattle.one_pass_check.specs.Whys.{broken_by, grant_why, why_needs_memory};
 
 use crate::fetch::{judge_front, next_item};
 use crate::fields::{Fields, InFlight};
@@ -146,6 +146,7 @@ pub fn why_broken(
     requires keeps { (past : Past) × Keeps config.now past (kept_in fields.now) }
     ensures value { (past : Past) → Keeps config.now past (kept_in fields.now) →
         IfOk result (λ b. b ≡ broken_by config.now (tables config.now past) entry.now) }
+    ensures wants { OnErr result (why_needs_memory entry.now ≡ true) }
 {
     match entry {
         Entry::Publish(line) => Ok(why_publish(fields, line)),

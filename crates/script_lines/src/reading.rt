@@ -1,6 +1,7 @@
 //! What a line of a script says.
 
-ghost use Rattle.std.specs.Prelude.{◌≡◌, map};
+ghost use Rattle.std.specs.Prelude.{◌≡◌, Ok, codes, map, take, true};
+ghost use Rattle.std.specs.Str.{bytes_eq};
 ghost use Rattle.history.specs.Gives.{Gives};
 ghost use Rattle.script_lines.specs.ScriptLines.{one_number_in, publish_in, script_line_in, script_words_in, settle_in};
 ghost use Rattle.script_lines.specs.ScriptLines.{short_in};
@@ -129,10 +130,12 @@ fn line_of(alloc: Global, words: &[&[u8]]) -> Result<ScriptLine, LineFault>
 ///
 /// # Errors
 ///
-/// `Malformed` for whatever isn't such a line; `NoMemory` where a growth was refused.
+/// `Malformed` for whatever isn't such a line; `NoMemory` where a growth was refused, which no
+/// comment needs.
 #[tactic(auto, unfolding(crate::specs::ScriptLines::script_line_in))]
 pub fn read_script_line(alloc: Global, line: &[u8]) -> Result<ScriptLine, LineFault>
     ensures value { Gives result (script_line_in line.now) }
+    ensures comment { bytes_eq (codes "#") (take 1 line.now) ≡ true → result ≡ Ok ScriptLine.Comment }
 {
     if line.starts_with(b"#") {
         return Ok(ScriptLine::Comment);
