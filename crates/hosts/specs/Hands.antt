@@ -32,6 +32,16 @@ ArePlaces e qs ps = AllZip (queue.IsPlaceOf e) qs ps
 abbrev pub IsWordOf : ℕ → Notice → Type 0
 IsWordOf q n = n.queue ≡ q
 
+-- no Work came of it
+abbrev pub IsNoWork : Fetched → Type 0
+IsNoWork (Fetched.Work w) = ⊥
+IsNoWork _ = Unit {0}
+
+-- the task wasn't made
+abbrev pub IsNotMade : Tried → Type 0
+IsNotMade (Tried.Made a) = ⊥
+IsNotMade _ = Unit {0}
+
 module _ {G : Type 0} where
   -- both its passes are of what the hall shares
   abbrev pub IsOf : Hall G → Hand → Type 0

@@ -1,7 +1,8 @@
 //! Who fetches.
 
 ghost use Rattle.std.specs.Prelude.{◌≤◌};
-ghost use Rattle.hosts.specs.Hands.{Goes, IsOf, IsReady};
+ghost use Rattle.hosts.specs.Declining.{IsFetchDeclined};
+ghost use Rattle.hosts.specs.Hands.{Goes, IsNoWork, IsOf, IsReady};
 
 use crate::gate::{Gate, Point};
 use crate::hall::{Hall, Hand};
@@ -23,6 +24,23 @@ enum Fetched {
     NoMemory,
 }
 
+// What comes of a Fetch that was declined.
+fn unfetched(declined: Declined) -> Fetched
+    requires { IsFetchDeclined declined }
+    ensures ready { IsNoWork result }
+{
+    match declined {
+        Declined::Busy(_) => Fetched::Again,
+        Declined::Refused(Refused::Step(why)) => match why {
+            Why::NoQueue | Why::NoEntry => Fetched::Nothing,
+            Why::JobsFull => Fetched::Again,
+            Why::NoMemory => Fetched::NoMemory,
+            _ => unreachable!(),
+        },
+        Declined::Refused(Refused::Publish(..)) => unreachable!(),
+    }
+}
+
 // Asks for one Fetch of this submission queue.
 #[tactic(auto, using(crate::proofs::Going::goes_step, crate::proofs::Going::fetched_ready))]
 fn fetch<G: Gate>(hall: &Hall<G>, hand: &mut Hand, queue: u16) -> Fetched
@@ -32,10 +50,8 @@ fn fetch<G: Gate>(hall: &Hall<G>, hand: &mut Hand, queue: u16) -> Fetched
 {
     match hall.engine.attempt_open(&mut hand.pass, Open::Fetch(queue)) {
         Ok(Opened::Fetched(work)) => Fetched::Work(work),
-        Err(Declined::Refused(Refused::Step(Why::NoQueue))) => Fetched::Nothing,
-        Err(Declined::Refused(Refused::Step(Why::NoEntry))) => Fetched::Nothing,
-        Err(Declined::Refused(Refused::Step(Why::NoMemory))) => Fetched::NoMemory,
-        _ => Fetched::Again,
+        Ok(_) => unreachable!(),
+        Err(declined) => unfetched(declined),
     }
 }
 

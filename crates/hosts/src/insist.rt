@@ -6,7 +6,8 @@ ghost use Rattle.meet_lock.specs.Passes.{config_of, seen};
 ghost use Rattle.ticket_entries.specs.Tasks.{task_fault};
 ghost use Rattle.work_queue.specs.Duties.{duty_of, task_step};
 ghost use Rattle.work_queue.specs.Engines as engine;
-ghost use Rattle.hosts.specs.Hands.{Goes, IsAnswered, IsOf, IsTold};
+ghost use Rattle.hosts.specs.Declining.{IsTaskDeclined};
+ghost use Rattle.hosts.specs.Hands.{Goes, IsAnswered, IsNotMade, IsOf, IsTold};
 
 use crate::gate::Gate;
 use crate::hall::{Hall, Hand};
@@ -26,6 +27,22 @@ pub(crate) enum Tried {
     NoMemory,
 }
 
+// What comes of a task in its place that was declined.
+fn unmade(declined: Declined) -> Tried
+    requires { IsTaskDeclined declined }
+    ensures { IsNotMade result }
+{
+    match declined {
+        Declined::Busy(_) => Tried::Again,
+        Declined::Refused(Refused::Step(why)) => match why {
+            Why::Conflict | Why::CqFull => Tried::Again,
+            Why::NoMemory => Tried::NoMemory,
+            _ => unreachable!(),
+        },
+        Declined::Refused(Refused::Publish(..)) => unreachable!(),
+    }
+}
+
 // Asks for a task that is in its place.
 #[tactic(auto, using(crate::proofs::Going::goes_step))]
 fn attempt<G: Gate>(hall: &Hall<G>, hand: &mut Hand, work: &mut Work, task: Task) -> Tried
@@ -38,8 +55,7 @@ fn attempt<G: Gate>(hall: &Hall<G>, hand: &mut Hand, work: &mut Work, task: Task
 {
     match hall.engine.attempt_work(&mut hand.pass, work, task) {
         Ok(answer) => Tried::Made(answer),
-        Err(Declined::Refused(Refused::Step(Why::NoMemory))) => Tried::NoMemory,
-        Err(_) => Tried::Again,
+        Err(declined) => unmade(declined),
     }
 }
 

@@ -3,6 +3,7 @@
 ghost use Rattle.std.specs.Prelude.{◌≡◌, ◌<◌, ◌≤◌, ◌+◌, ◌-◌, All, IfOk, IfSome, MatchOption, length, vec_len};
 ghost use Rattle.std.specs.Vec.{vec_capacity};
 ghost use Rattle.work_queue.specs.QueuePasses as queue;
+ghost use Rattle.hosts.specs.Capacities.{HasCapacities};
 ghost use Rattle.hosts.specs.Hands.{AreFirstPlaces, AreHandsOf, AreHostsOf, AreLastHosts, ArePlaces, AreSpares};
 ghost use Rattle.meet_lock.specs.Passes.{config_of};
 ghost use Rattle.hosts.specs.Hands.{IsFreshPass, IsHostOf, IsOf, IsPlaceAt, IsWorkerOf};
@@ -240,6 +241,7 @@ pub fn hall_of<G: Drop>(
     workers: u16,
 ) -> Result<(Hall<G>, Hands), NoMemory>
     ensures hands { IfOk result (λ h. AreHandsOf h.0 config workers h.1) }
+    ensures capacities { IfOk result (λ h. HasCapacities h.0 config) }
 {
     let numbers = config.numbers();
     let count = usize::from(workers) + 1;

@@ -2,6 +2,7 @@
 
 ghost use Rattle.std.specs.Prelude.{◌≡◌, ◌<◌, ◌+◌, ◌∷◌, ◌++◌, [], All, IfOk, vec_len};
 ghost use Rattle.work_queue.specs.QueuePasses as queue;
+ghost use Rattle.hosts.specs.Capacities.{Holds};
 ghost use Rattle.hosts.specs.Hands.{ArePlaces};
 
 use std::alloc::{AllocError as NoMemory, Global};
@@ -95,6 +96,7 @@ pub(crate) fn notice_queues(
 ) -> Result<(Vec<NoticeQueue>, Vec<Row>), NoMemory>
     requires some { (0 < capacity) × (0 < count) }
     ensures queues { IfOk result (λ n. vec_len n.0 ≡ queues) }
+    ensures capacity { IfOk result (λ n. All (Holds capacity) n.0.items) }
     ensures rows { IfOk result (λ n. All (λ row. ArePlaces engine.now n.0.items row.items) n.1.items) }
     ensures count { IfOk result (λ n. vec_len n.1 ≡ count) }
 {
