@@ -71,7 +71,7 @@ pub fn poll_release<P: Port>(driver: &mut Driver<P>, releasing: Releasing<P>) ->
             if is_swapped(reply) {
                 return Released::Released;
             }
-            Released::Failed(Fault::Status(Status::new(2, 0x85)))
+            Released::Failed(Fault::Status(Status::COMPARE_FAILURE))
         }
         Poll::Failed(fault) => Released::Failed(fault),
     }
