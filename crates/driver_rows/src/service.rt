@@ -37,6 +37,28 @@ pub fn is_served<R: Wait>(
     done
 }
 
+// They meet; whether no other caller had the controller.
+fn met(_bench: &Bench, _slots: &Slots, one: &mut Host<'_>, two: &mut Host<'_>) -> bool
+    requires one { IsReady _bench.now _slots.now one.old }
+    requires two { IsReady _bench.now _slots.now two.old }
+    ensures one { IsReady _bench.now _slots.now one.new }
+    ensures two { IsReady _bench.now _slots.now two.new }
+    ensures first { Keeps one.old one.new × IsUntouched one.old.driver one.new.driver }
+    ensures second { Keeps two.old two.new × IsUntouched two.old.driver two.new.driver }
+{
+    one.driver.meet(&mut two.driver).is_ok()
+}
+
+/// Both hosts have seen the whole history so far; false where another caller had the controller.
+pub fn meets(bench: &Bench, slots: &Slots, one: &mut Claimant<'_>, two: &mut Claimant<'_>) -> bool
+    requires one { IsClaimant bench.now slots.now one.old }
+    requires two { IsClaimant bench.now slots.now two.old }
+    ensures one { IsClaimant bench.now slots.now one.new }
+    ensures two { IsClaimant bench.now slots.now two.new }
+{
+    met(bench, slots, &mut one.host, &mut two.host)
+}
+
 /// What comes in the end of what is begun, each time served and polled, at most so many times.
 pub fn answered<R: Wait>(
     rt: &R,

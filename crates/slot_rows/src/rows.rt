@@ -7,7 +7,7 @@ ghost use Rattle.slot_alloc.specs.Areas.{area};
 
 use driver_rows::{
     Bench, Came, Claimant, Contents, Server, Spares, asks, claimants_of, claims, is_served, leaves,
-    reads, releases, serves, small_bench,
+    meets, polls_begun, reads, releases, serves, small_bench,
 };
 use history_check::check;
 use slot_alloc::Slots;
@@ -27,6 +27,10 @@ enum Act {
     Asks,
     /// Is served.
     Waits,
+    /// Polls what it has begun.
+    Polls(Came),
+    /// Meets the other host, and isn't Busy.
+    Meets,
     Releases(Came),
     /// Drops what it has begun; the slot and the serial of a claim that it held.
     Leaves(Option<(u32, u64)>),
@@ -42,20 +46,23 @@ pub(crate) fn named(host: u8, serial: u8) -> Contents {
     contents
 }
 
-// Does so.
+// Does so, beside the other host.
 fn does<R: Abort + Wait>(
     rt: &R,
     bench: &Bench,
     server: &mut Server,
     slots: &Slots,
     host: &mut Claimant<'_>,
+    other: &mut Claimant<'_>,
     act: Act,
 )
     requires server { IsServerOf bench.now server.old }
     requires host { IsClaimant bench.now slots.now host.old }
+    requires other { IsClaimant bench.now slots.now other.old }
     requires slots { 0 < (area slots.now).blocks }
     ensures server { IsServerOf bench.now server.new }
     ensures host { IsClaimant bench.now slots.now host.new }
+    ensures other { IsClaimant bench.now slots.now other.new }
 {
     match act {
         Act::First(want) => {
@@ -71,6 +78,11 @@ fn does<R: Abort + Wait>(
             assert_eq!(rt; came, Came::Begun);
         }
         Act::Waits => assert!(rt; is_served(rt, bench, server, slots, host)),
+        Act::Polls(want) => {
+            let came = polls_begun(bench, slots, host);
+            assert_eq!(rt; came, want);
+        }
+        Act::Meets => assert!(rt; meets(bench, slots, host, other)),
         Act::Releases(want) => {
             let came = releases(rt, bench, server, slots, host);
             assert_eq!(rt; came, want);
@@ -104,8 +116,8 @@ fn does_all<R: Abort + Wait>(
 {
     for (host, act) in acts {
         match *host {
-            1 => does(rt, bench, server, slots, one, *act),
-            _ => does(rt, bench, server, slots, two, *act),
+            1 => does(rt, bench, server, slots, one, two, *act),
+            _ => does(rt, bench, server, slots, two, one, *act),
         }
     }
 }
@@ -204,6 +216,34 @@ fn any_of_two_slots_is_claimed(rt: HostRuntime) -> Result<(), Fail> {
     plays(&rt, rt.alloc(), 4, 2, &acts, &wants)
 }
 
+// Whatever is under way, hosts of one thread meet, and nobody is Busy.
+#[test]
+fn hosts_that_claim_meet(rt: HostRuntime) -> Result<(), Fail> {
+    let acts = [
+        (1, Act::Meets),
+        (1, Act::Asks),
+        (1, Act::Meets),
+        (1, Act::Waits),
+        (1, Act::Meets),
+        (1, Act::Polls(Came::Pending)),
+        (1, Act::Meets),
+        (1, Act::Polls(Came::Held(0))),
+        (1, Act::Meets),
+        (2, Act::First(Came::Taken)),
+        (2, Act::Meets),
+        (2, Act::Any(Came::AllTaken)),
+        (1, Act::Releases(Came::Released)),
+        (1, Act::Meets),
+        (2, Act::Any(Came::Held(0))),
+        (2, Act::Meets),
+        (1, Act::Reads(0, 2, 3)),
+        (2, Act::Releases(Came::Released)),
+        (2, Act::Meets),
+        (2, Act::Reads(0, 0, 0)),
+    ];
+    plays(&rt, rt.alloc(), 4, 1, &acts, &[(0, named(0, 0))])
+}
+
 // A claim that is dropped is served all the same, and its slot stays with its name, whoever asks.
 #[test]
 fn a_dropped_claim_keeps_its_slot(rt: HostRuntime) -> Result<(), Fail> {
@@ -248,11 +288,35 @@ fn frees<R: Abort + Wait>(
     requires slots { area slots.now ≡ record { slba = 0; blocks = 1 } }
     ensures { IsServerOf bench.now server.new }
 {
-    does(rt, bench, server, slots, one, Act::First(Came::Held(0)));
-    does(rt, bench, server, slots, one, Act::Leaves(Some((0, 1))));
+    does(
+        rt,
+        bench,
+        server,
+        slots,
+        one,
+        two,
+        Act::First(Came::Held(0)),
+    );
+    does(
+        rt,
+        bench,
+        server,
+        slots,
+        one,
+        two,
+        Act::Leaves(Some((0, 1))),
+    );
     assert!(rt; one.host.driver.start_release(0, 1).is_ok());
     serves(rt, bench, server, 1);
-    does(rt, bench, server, slots, two, Act::First(Came::Held(0)));
+    does(
+        rt,
+        bench,
+        server,
+        slots,
+        two,
+        one,
+        Act::First(Came::Held(0)),
+    );
 }
 
 // Whoever was told the slot and the serial frees it by other means.
