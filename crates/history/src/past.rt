@@ -64,13 +64,15 @@ impl History {
         self.entries.push_reserved(entry);
     }
 
-    /// Adds an entry, or gives it back where a growth was refused.
+    /// Adds an entry, or gives it back where a growth was refused. It takes room for one at most: where there was room
+    /// for n entries, n of these calls are Ok.
     ///
     /// # Errors
     ///
     /// The entry, where a growth is refused.
     pub fn push(&mut self, entry: Entry) -> Result<(), Entry>
         ensures ok { OnOk result (self.new.past ≡ entry ∷ self.old.past) }
+        ensures room { OnOk result (self.old.room ≤ self.new.room + 1) }
         ensures err { OnErr result ((self.new.past ≡ self.old.past) × (self.old.room ≡ 0)) }
         ensures back { (e : Entry) → result ≡ Err e → e ≡ entry }
     {
