@@ -64,8 +64,7 @@ impl History {
         self.entries.push_reserved(entry);
     }
 
-    /// Adds an entry, or gives it back where a growth was refused. It takes room for one at most: where there was room
-    /// for n entries, n of these calls are Ok.
+    /// Adds an entry, or gives it back where a growth was refused.
     ///
     /// # Errors
     ///
