@@ -4,7 +4,7 @@ use crate::calls::Write;
 use crate::played::{Numbers, played};
 use history::Config;
 use hosts::{Gate, Point};
-use std::sync::atomic::{AtomicU64, Ordering};
+use std::sync::atomic::{AtomicBool, AtomicU64, Ordering};
 use std::test::Fail;
 use std::thread::yield_now;
 
@@ -14,10 +14,13 @@ const ONE_TOO_MANY: u64 = 18;
 /// How long a worker waits for it.
 const TURNS: u32 = 1_000_000;
 
-/// Counts Fetches, and holds the worker after its first Grant until a Work has found the queue full.
+/// Counts Fetches, and holds the worker after its first Grant until a Work has found the queue full, or so many turns
+/// have passed.
 #[derive(Drop)]
 struct Fetches {
     made: AtomicU64,
+    /// The worker was held no longer than until enough were made.
+    enough: AtomicBool,
 }
 
 impl Gate for Fetches {
@@ -34,6 +37,7 @@ impl Fetches {
     fn hold(&self) {
         for _ in 0..TURNS {
             if self.made.load(Ordering::SeqCst) >= ONE_TOO_MANY {
+                self.enough.store(true, Ordering::SeqCst);
                 break;
             }
             yield_now();
@@ -54,6 +58,7 @@ fn a_full_queue_keeps_each_work(rt: HostRuntime) -> Result<(), Fail> {
     }
     let gate = Fetches {
         made: AtomicU64::new(0),
+        enough: AtomicBool::new(false),
     };
     let numbers = Numbers {
         queues: 1,
@@ -61,7 +66,7 @@ fn a_full_queue_keeps_each_work(rt: HostRuntime) -> Result<(), Fail> {
         count: 20,
     };
     let (good, length, gate) = played(&rt, rt.alloc(), &config, gate, numbers, &writes)?;
-    assert!(rt; gate.made.load(Ordering::SeqCst) >= ONE_TOO_MANY);
+    assert!(rt; gate.enough.load(Ordering::SeqCst));
     assert_eq!(rt; (good, length), (20, 101));
     Ok(())
 }

@@ -5,7 +5,7 @@ use history::Config;
 use hosts::{Gate, Point};
 use std::alloc::Global;
 use std::sync::Wait;
-use std::sync::atomic::{AtomicBool, Ordering};
+use std::sync::atomic::{AtomicBool, AtomicU64, Ordering};
 use std::test::Fail;
 use std::thread::{Threads, yield_now};
 
@@ -19,17 +19,20 @@ const TURNS: u32 = 1_000_000;
 const FEW_TURNS: u32 = 1_000;
 
 /// Holds the worker that has the first ticket, after its first Block, until a Block of another ticket was made or so
-/// many turns have passed.
+/// many turns have passed; and counts how often a worker was about to make a Post.
 #[derive(Drop)]
 struct Holds {
     turns: u32,
     another: AtomicBool,
     late: AtomicBool,
+    posting: AtomicU64,
 }
 
 impl Gate for Holds {
     fn pass(&self, point: Point, ticket: u64) {
-        if point == Point::Blocked {
+        if point == Point::Posting {
+            self.posting.fetch_add(1, Ordering::SeqCst);
+        } else if point == Point::Blocked {
             if ticket == FIRST {
                 self.hold();
             } else {
@@ -51,19 +54,21 @@ impl Holds {
     }
 }
 
-// A Write of two blocks and one of another block, by so many workers: whether the gate was late, how many completions
-// say success, and how many entries the history has, which is legal.
+// A Write of two blocks and one of another block, by so many workers: whether the gate was late, how often a worker
+// went through it before a Post, how many completions say success, and how many entries the history has, which is
+// legal.
 fn held<R: Threads + Wait + Sync>(
     rt: &R,
     alloc: Global,
     workers: u16,
     turns: u32,
-) -> Result<(bool, u16, usize), Fail> {
+) -> Result<(bool, u64, u16, usize), Fail> {
     let config = Config::with_cqs(8, 1, 1, 0, 0, 2, 4, 4, 8, 1)?;
     let gate = Holds {
         turns,
         another: AtomicBool::new(false),
         late: AtomicBool::new(false),
+        posting: AtomicU64::new(0),
     };
     let numbers = Numbers {
         queues: 1,
@@ -71,18 +76,19 @@ fn held<R: Threads + Wait + Sync>(
         count: 2,
     };
     let (good, length, gate) = played(rt, alloc, &config, gate, numbers, &[(1, 0, 2), (2, 3, 1)])?;
-    Ok((gate.late.load(Ordering::SeqCst), good, length))
+    let posting = gate.posting.load(Ordering::SeqCst);
+    Ok((gate.late.load(Ordering::SeqCst), posting, good, length))
 }
 
 #[test]
 fn a_held_worker_does_not_hold_another(rt: HostRuntime) -> Result<(), Fail> {
-    assert_eq!(rt; held(&rt, rt.alloc(), 2, TURNS)?, (false, 2, 12));
+    assert_eq!(rt; held(&rt, rt.alloc(), 2, TURNS)?, (false, 2, 2, 12));
     Ok(())
 }
 
 // What the test above would say of workers that take turns.
 #[test]
 fn a_worker_alone_is_late_at_the_gate(rt: HostRuntime) -> Result<(), Fail> {
-    assert_eq!(rt; held(&rt, rt.alloc(), 1, FEW_TURNS)?, (true, 2, 12));
+    assert_eq!(rt; held(&rt, rt.alloc(), 1, FEW_TURNS)?, (true, 2, 2, 12));
     Ok(())
 }
