@@ -1,15 +1,16 @@
 -- The submission queues of a completion queue.
-use Rattle.std.proofs.Common.{All, List, None, [], arith, ap, eqb, false, inl, inr, is_none, le-leb, length, length-append, mod-eq_of_lt, slice_index, suc, true, zero, ℕ, ◌%◌, ◌+◌, ◌-◌, ◌++◌, ◌<◌, ◌∙◌, ◌∷◌, ◌≡◌, ◌≤◌}
+use Rattle.std.proofs.Common.{All, Contains, List, None, [], arith, ap, eqb, false, inl, inr, is_none, le-leb, length, length-append, mod-eq_of_lt, slice_index, subst, suc, sym, true, true≢false, zero, ℕ, ◌%◌, ◌+◌, ◌-◌, ◌++◌, ◌<◌, ◌∙◌, ◌∷◌, ◌≡◌, ◌≤◌}
 use Rattle.std.proofs.Math.ListN.{get_or-append}
+use Rattle.std.proofs.Math.Nat.{mod-le}
 use Rattle.std.proofs.Math.Seq.{get_or-append_seam}
-use Rattle.std.proofs.lemmas.Bool.{and_from, cases_lt, eq-eqb, ltb-false, or_parts}
+use Rattle.std.proofs.lemmas.Bool.{and_from, and_parts, cases_lt, eq-eqb, eqb-true, leb-true, ltb-false, or_parts}
 use Rattle.std.proofs.lemmas.Bool.Decides.{nat_tests}
-use Rattle.std.proofs.lemmas.List.Elements.{All-append}
+use Rattle.std.proofs.lemmas.List.Elements.{All-append, Contains-append_left, Contains-push}
 use Rattle.std.specs.List.Sorted.{IsStrictlyIncreasing}
 use Rattle.nvme_model.specs.Config.{completion_queue, config_fault, config_faults}
 use Rattle.nvme_model.specs.declared.config.ConfigNumbers.{ConfigNumbers}
 use Rattle.nvme_model.proofs.Rules.{none_holds}
-use Rattle.host_rounds.specs.Hosts.{uses}
+use Rattle.host_rounds.specs.Hosts.{HasEach, HasEachBelow, uses}
 
 -- a greater number behind rising ones
 pub rising_on : (xs : List ℕ) (n : ℕ) → IsStrictlyIncreasing xs → All (λ x. x < n) xs → IsStrictlyIncreasing (xs ++ n ∷ [])
@@ -37,6 +38,9 @@ one P n h (suc k) x within = absurd (omega (arith, within))
 -- so all are below the number after it
 pub below_on : (xs : List ℕ) (n : ℕ) → All (λ x. x < n) xs → All (λ x. x < n + 1) (xs ++ n ∷ [])
 below_on xs n below = All-append (λ x. x < n + 1) xs (n ∷ []) (λ k x within. let c = below k x within in omega (arith, c)) (one (λ x. x < n + 1) n (omega arith))
+
+pub below_later : (xs : List ℕ) (n : ℕ) → All (λ x. x < n) xs → All (λ x. x < n + 1) xs
+below_later xs n below k x within = let c = below k x within in omega (arith, c)
 
 pub use_on : (c : ConfigNumbers) (queue : ℕ) (xs : List ℕ) (n : ℕ) → All (λ x. uses c queue x ≡ true) xs → uses c queue n ≡ true → All (λ x. uses c queue x ≡ true) (xs ++ n ∷ [])
 use_on c queue xs n all h = All-append (λ x. uses c queue x ≡ true) xs (n ∷ []) all (one (λ x. uses c queue x ≡ true) n h)
@@ -69,3 +73,46 @@ next_use c queue k some few at =
     let same : (k + 1) - 1 ≡ k = omega arith in
     let rest : ((k + 1) - 1) % c.cqs ≡ k % c.cqs = ap (λ (n : ℕ). n % c.cqs) same in
     used c queue (k + 1) (omega arith) (omega (arith, few)) (omega (arith, rest, at, some))
+
+-- ---- each of them
+
+-- it is there, and the one before it leaves the remainder of its completion queue
+its_use : (c : ConfigNumbers) (queue n : ℕ) → uses c queue n ≡ true → (1 ≤ n) × (n ≤ c.pairs) × ((n - 1) % c.cqs + 1 ≡ queue)
+its_use c queue n e =
+    let p = and_parts _ _ e in
+    let q = and_parts _ _ p.0 in
+    (leb-true 1 n q.0, leb-true n c.pairs q.1, eqb-true (completion_queue c n) queue p.1)
+
+-- none below the first of its number
+pub none_below : (c : ConfigNumbers) (queue : ℕ) → HasEachBelow c queue queue []
+none_below c queue n e low = let u = its_use c queue n e in
+    let small : (n - 1) % c.cqs ≤ n - 1 = mod-le _ _ in
+    absurd (omega (arith, u.0, u.2, small, low))
+
+pub each_on : (c : ConfigNumbers) (queue : ℕ) (xs : List ℕ) (next : ℕ) → HasEachBelow c queue next xs → HasEachBelow c queue (next + 1) (xs ++ next ∷ [])
+each_on c queue xs next each n e low =
+    elim (cases_lt n next) [
+      | inl below ↦ Contains-append_left xs (next ∷ []) n (each n e below)
+      | inr above ↦
+          let same : next ≡ n = omega (arith, above, low) in
+          subst (Contains (xs ++ next ∷ [])) same (Contains-push xs next)
+    ]
+
+-- what holds of queues and one more
+pub ruleset one_more = (rising_on, below_on, use_on, each_on)
+
+-- by another remainder it isn't one
+pub each_past : (c : ConfigNumbers) (queue : ℕ) (xs : List ℕ) (k : ℕ) → eqb (k % c.cqs) (queue - 1) ≡ false → HasEachBelow c queue (k + 1) xs → HasEachBelow c queue (k + 1 + 1) xs
+each_past c queue xs k other each n e low =
+    elim (cases_lt n (k + 1)) [
+      | inl below ↦ each n e below
+      | inr above ↦
+          let u = its_use c queue n e in
+          let same : n - 1 ≡ k = omega (arith, above, low) in
+          let rest : (n - 1) % c.cqs ≡ k % c.cqs = ap (λ (m : ℕ). m % c.cqs) same in
+          let at : k % c.cqs ≡ queue - 1 = omega (arith, rest, u.2) in
+          absurd (true≢false (sym (eq-eqb (k % c.cqs) (queue - 1) at) ∙ other))
+    ]
+
+pub each_all : (c : ConfigNumbers) (queue : ℕ) (xs : List ℕ) (m : ℕ) → c.pairs < m → HasEachBelow c queue m xs → HasEach c queue xs
+each_all c queue xs m all each n e = let u = its_use c queue n e in each n e (omega (arith, u.1, all))

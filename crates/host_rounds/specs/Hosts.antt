@@ -1,5 +1,5 @@
 -- What contracts say of a host.
-use Rattle.std.specs.Prelude.{Bool, length, nat_le, ℕ, ◌&&◌, ◌+◌, ◌-◌, ◌==◌, ◌≡◌, ◌≤◌}
+use Rattle.std.specs.Prelude.{Bool, Contains, List, length, nat_le, true, ℕ, ◌&&◌, ◌+◌, ◌-◌, ◌<◌, ◌==◌, ◌≡◌, ◌≤◌}
 use Rattle.nvme_model.specs.Config.{completion_queue}
 use Rattle.nvme_model.specs.declared.array.Range.{Range}
 use Rattle.nvme_model.specs.declared.config.ConfigNumbers.{ConfigNumbers}
@@ -15,6 +15,21 @@ use Rattle.host_rounds.specs.declared.owned.Host.{Host}
 -- the submission queue is there, and uses this completion queue
 abbrev pub uses : ConfigNumbers → ℕ → ℕ → Bool
 uses c queue n = nat_le 1 n && nat_le n c.pairs && (completion_queue c n == queue)
+
+-- each submission queue that uses this completion queue is one of these
+abbrev pub HasEach : ConfigNumbers → ℕ → List ℕ → Type 0
+HasEach c queue qs = (n : ℕ) → uses c queue n ≡ true → Contains qs n
+
+-- each of those below m
+abbrev pub HasEachBelow : ConfigNumbers → ℕ → ℕ → List ℕ → Type 0
+HasEachBelow c queue m qs = (n : ℕ) → uses c queue n ≡ true → n < m → Contains qs n
+
+-- the completion queue of the port of a host's driver, and the submission queues that the driver uses
+abbrev pub port_queue : Host → ℕ
+port_queue h = h.driver.port.queue
+
+abbrev pub queues_used : Host → List ℕ
+queues_used h = h.driver.cids.queues
 
 -- some blocks, which lie among the first 65,536
 abbrev pub IsSlotArea : Range → Type 0

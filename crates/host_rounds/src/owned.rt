@@ -3,7 +3,9 @@
 ghost use Rattle.std.specs.List.Sorted.{IsStrictlyIncreasing};
 ghost use Rattle.std.specs.Prelude.{◌≡◌, ◌≤◌, ◌<◌, ◌+◌, All, IfOk, OnOk, length, true, vec_len};
 ghost use Rattle.hosts.specs.Hands.{IsHostOf};
-ghost use Rattle.host_rounds.specs.Hosts.{IsHosting, IsSlotArea, uses};
+ghost use Rattle.driver_cas.specs.Drivers as driver;
+ghost use Rattle.slot_alloc.specs.Areas.{area};
+ghost use Rattle.host_rounds.specs.Hosts.{HasEach, HasEachBelow, IsHosting, IsSlotArea, port_queue, queues_used, uses};
 
 use driver_cas::{Driver, SharedPort};
 use history::Config;
@@ -26,7 +28,7 @@ pub struct Host<'a> {
 }
 
 // One more submission queue, behind lower ones.
-#[tactic(auto, using(crate::proofs::Queues::rising_on, crate::proofs::Queues::below_on, crate::proofs::Queues::use_on))]
+#[tactic(auto, using(crate::proofs::Queues::one_more))]
 fn put_queue(
     _config: &Config,
     _queue: u16,
@@ -37,10 +39,12 @@ fn put_queue(
     requires below { All (λ n. n < next) queues.old.items }
     requires all { All (λ n. uses _config.now _queue n ≡ true) queues.old.items }
     requires uses { uses _config.now _queue next ≡ true }
+    requires each { HasEachBelow _config.now _queue next queues.old.items }
     ensures rising { OnOk result (IsStrictlyIncreasing queues.new.items) }
     ensures below { OnOk result (All (λ n. n < next + 1) queues.new.items) }
     ensures all { OnOk result (All (λ n. uses _config.now _queue n ≡ true) queues.new.items) }
     ensures some { OnOk result (1 ≤ vec_len queues.new) }
+    ensures each { OnOk result (HasEachBelow _config.now _queue (next + 1) queues.new.items) }
 {
     queues.push(next)?;
     Ok(())
@@ -53,6 +57,7 @@ fn submission_queues(alloc: Global, config: &Config, queue: u16) -> Result<Vec<u
     ensures some { IfOk result (λ q. 1 ≤ vec_len q) }
     ensures rising { IfOk result (λ q. IsStrictlyIncreasing q.items) }
     ensures all { IfOk result (λ q. All (λ n. uses config.now queue n ≡ true) q.items) }
+    ensures each { IfOk result (λ q. HasEach config.now queue q.items) }
 {
     let numbers = config.numbers();
     let mut queues = Vec::new(alloc);
@@ -80,7 +85,11 @@ pub fn host_of<'a, G>(
 ) -> Result<Host<'a>, NoMemory>
     requires hand { IsHostOf hall.now config.now hand }
     requires slots { IsSlotArea slots }
-    ensures { IfOk result (IsHosting hall.entry.now) }
+    ensures hosting { IfOk result (IsHosting hall.entry.now) }
+    ensures queue { IfOk result (λ h. (h.queue ≡ hand.queue) × (port_queue h ≡ hand.queue)) }
+    ensures host { IfOk result (λ h. driver.host_of h.driver ≡ hand.queue) }
+    ensures slots { IfOk result (λ h. (driver.area_of h.driver ≡ slots) × (area h.slots ≡ slots)) }
+    ensures queues { IfOk result (λ h. HasEach config.now hand.queue (queues_used h)) }
 {
     let HostHand {
         pass,
