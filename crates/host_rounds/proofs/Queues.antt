@@ -1,7 +1,6 @@
 -- The submission queues of a completion queue.
 use Rattle.std.proofs.Common.{All, Contains, List, None, [], arith, ap, eqb, false, inl, inr, is_none, le-leb, length, length-append, mod-eq_of_lt, slice_index, subst, suc, sym, true, true≢false, zero, ℕ, ◌%◌, ◌+◌, ◌-◌, ◌++◌, ◌<◌, ◌∙◌, ◌∷◌, ◌≡◌, ◌≤◌}
 use Rattle.std.proofs.Math.ListN.{get_or-append}
-use Rattle.std.proofs.Math.Nat.{mod-le}
 use Rattle.std.proofs.Math.Seq.{get_or-append_seam}
 use Rattle.std.proofs.lemmas.Bool.{and_from, and_parts, cases_lt, eq-eqb, eqb-true, leb-true, ltb-false, or_parts}
 use Rattle.std.proofs.lemmas.Bool.Decides.{nat_tests}
@@ -82,12 +81,6 @@ its_use c queue n e =
     let p = and_parts _ _ e in
     let q = and_parts _ _ p.0 in
     (leb-true 1 n q.0, leb-true n c.pairs q.1, eqb-true (completion_queue c n) queue p.1)
-
--- none below the first of its number
-pub none_below : (c : ConfigNumbers) (queue : ℕ) → HasEachBelow c queue queue []
-none_below c queue n e low = let u = its_use c queue n e in
-    let small : (n - 1) % c.cqs ≤ n - 1 = mod-le _ _ in
-    absurd (omega (arith, u.0, u.2, small, low))
 
 pub each_on : (c : ConfigNumbers) (queue : ℕ) (xs : List ℕ) (next : ℕ) → HasEachBelow c queue next xs → HasEachBelow c queue (next + 1) (xs ++ next ∷ [])
 each_on c queue xs next each n e low =
