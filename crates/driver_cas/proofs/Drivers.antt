@@ -94,12 +94,15 @@ module _ {P : Type 0} (g : Ghosts P) where
   asks_over a d e k x y (inl h) port is = inl (h.0, port ∙ h.1, is ∙ h.2)
   asks_over a d e k x y (inr h) port is =
       let r = h.1 in
-      inr (h.0, record {
-        answer = r.answer;
-        is = subst (λ (p : P). g.reaps a.port p r.answer) (sym port) r.is;
-        log = ap g.log port ∙ r.log;
-        told = is ∙ r.told;
-      })
+      inr (
+        h.0,
+        record {
+          answer = r.answer;
+          is = subst (λ (p : P). g.reaps a.port p r.answer) (sym port) r.is;
+          log = ap g.log port ∙ r.log;
+          told = is ∙ r.told;
+        },
+      )
 
 module _ {P : Type 0} where
   -- where an answer is told the poll isn't put off
