@@ -1,6 +1,6 @@
 -- A driver's calls after a Reap, and after an answer to one of them.
 use Rattle.std.proofs.Common.{◌≡◌, ℕ, true, false, ◌&&◌, eqb, List, ◌∷◌, Option, Some, None, is_some, refl, sym, ap, ap₂, ◌∙◌, subst, inl, inr, eq-eqb, Result, length, ◌≤◌}
-use Rattle.std.specs.Prelude.{IfNone, IfSome}
+use Rattle.std.specs.Prelude.{Err, IfErr, IfNone, IfOk, IfSome, Ok, ◌≢◌}
 use Rattle.std.specs.List.{Contains}
 use Rattle.std.proofs.lemmas.Bool.{and_from, cases_Bool, cond-true, cond-false, or_left, or_right}
 use Rattle.std.specs.declared.snapshot.Snapshot.{Snapshot}
@@ -15,14 +15,17 @@ use Rattle.driver_calls.specs.Says.{IsCallIn}
 use Rattle.driver_calls.specs.Views.{since}
 use Rattle.driver_calls.specs.declared.event.PortEvent.{PortEvent}
 use Rattle.driver_calls.specs.declared.reply.Reply.{Reply}
-use Rattle.driver_cas.specs.Drivers.{IsApart, IsBack, IsCallOf, IsFreed, IsOneMore, IsSame, Says, answer_to, made, number_of, told}
+use Rattle.driver_cas.specs.Drivers.{AsksPort, IsApart, IsBack, IsCallOf, IsFreed, IsOneMore, IsSame, Says, answer_to, later_by, later_told, made, number_of, told}
+use Rattle.driver_cas.specs.Made.{after_reap}
 use Rattle.driver_cas.specs.Tables.{GoesOn, IsHeld, IsReleased, Reaps, is_free, is_its_cid}
 use Rattle.driver_cas.proofs.Tables.{since_more}
 use Rattle.driver_cas.specs.declared.call.Call.{Call}
 use Rattle.driver_cas.specs.declared.call.Poll.{Poll}
 use Rattle.driver_cas.specs.declared.driver.Driver.{Driver}
 use Rattle.driver_cas.specs.declared.fault.Fault.{Fault}
+use Rattle.driver_cas.specs.declared.fault.PortFault.{PortFault}
 use Rattle.driver_cas.specs.declared.port.Port.{Ghosts}
+use Rattle.driver_cas.specs.declared.port.Reaped.{Reaped}
 
 -- what a Reap adds since the driver was made
 pub one_more : (began before after : List PortEvent) (old new : Cids) → length began ≤ length before → Reaps before after old new → IsOneMore (since began before) (since began after)
@@ -40,6 +43,15 @@ got_call cqe payload log q Op.WriteZeroes first second j h = h
 more_call : (log more : List PortEvent) (q : ℕ) (o : Op) (first second j : ℕ) → IsOneMore log more → IsCallIn log q o first second j → IsCallIn more q o first second j
 more_call log more q o first second j (inl e) h = subst (λ (xs : List PortEvent). IsCallIn xs q o first second j) (sym e) h
 more_call log more q o first second j (inr e) h = subst (λ (xs : List PortEvent). IsCallIn xs q o first second j) (sym e.2) (got_call e.0 e.1 log q o first second j h)
+
+is_none : {A : Type 0} → (o : Option A) → is_some o ≡ false → o ≡ None
+is_none None h = refl
+is_none (Some x) h = absurd (let e : true ≡ false = h in cc)
+
+-- a poll isn't put off but for a fault
+pub later_none : {A : Type 0} → (r : Result A PortFault) → ((f : PortFault) → r ≡ Err f → ⊥) → later_by r ≡ None
+later_none (Ok x) h = refl
+later_none (Err f) h = absurd (h f refl)
 
 module _ {P : Type 0} (g : Ghosts P) where
   pub same_number : (d e : Driver P g) (k : Call P) → e.began ≡ d.began → number_of e k ≡ number_of d k
@@ -76,7 +88,35 @@ module _ {P : Type 0} (g : Ghosts P) where
   pub one_over : (a d e : Driver P g) → IsOneMore (made a) (made d) → IsSame d e → e.port ≡ d.port → IsOneMore (made a) (made e)
   one_over a d e h s port = subst (λ (log : List PortEvent). IsOneMore (made a) log) (sym (same_made d e s.began port)) h
 
+  -- where the call's completions weren't all reaped the port is asked once
+  pub asked_once : {A : Type 0} → (d e : Driver P g) (k : Call P) (r : Result A PortFault) → is_some (answer_to d k) ≡ false → IfOk r (λ x. (o : Option Reaped) × g.reaps d.port e.port (Ok o) × (g.log e.port ≡ after_reap o (g.log d.port)))
+      → IfErr r (λ f. g.reaps d.port e.port (Err f)) → IfErr r (λ f. (g.log e.port ≡ g.log d.port) × (f ≢ PortFault.RingFull)) → AsksPort d e k (later_by r)
+  asked_once d e k (Ok x) few got declined fault = inr (is_none (answer_to d k) few, record { answer = Ok got.0; is = got.1; log = got.2; told = refl })
+  asked_once d e k (Err f) few got declined fault = inr (is_none (answer_to d k) few, record { answer = Err f; is = declined; log = fault.0; told = refl })
+
+  -- what a poll asks of the port, where another driver has the same port after it, and the same is told
+  pub asks_over : (a d e : Driver P g) (k : Call P) (x y : Option Fault) → AsksPort a d k x → e.port ≡ d.port → y ≡ x → AsksPort a e k y
+  asks_over a d e k x y (inl h) port is = inl (h.0, port ∙ h.1, is ∙ h.2)
+  asks_over a d e k x y (inr h) port is =
+      let r = h.1 in
+      inr (
+        h.0,
+        record {
+          answer = r.answer;
+          is = subst (λ (p : P). g.reaps a.port p r.answer) (sym port) r.is;
+          log = ap g.log port ∙ r.log;
+          told = is ∙ r.told;
+        },
+      )
+
 module _ {P : Type 0} where
+  -- where an answer is told the poll isn't put off
+  pub later_ended : (r : Poll P) (x : Result Reply Status) → told r ≡ Some x → later_told r ≡ None
+  later_ended (Poll.Pending j) x h = refl
+  later_ended (Poll.Later f j) x h = absurd (let e : None ≡ Some x = h in cc)
+  later_ended (Poll.Done r) x h = refl
+  later_ended (Poll.Failed f) x h = refl
+
   -- what is told is an answer
   pub told_back : (k : Call P) (r : Poll P) (x : Result Reply Status) → told r ≡ Some x → IsBack k r
   told_back k (Poll.Pending j) x h = absurd (let e : None ≡ Some x = h in cc)

@@ -9,12 +9,26 @@ use Rattle.driver_calls.specs.Says.{IsCallIn, outcome}
 use Rattle.driver_calls.specs.Views.{since}
 use Rattle.driver_calls.specs.declared.event.PortEvent.{PortEvent}
 use Rattle.driver_calls.specs.declared.reply.Reply.{Reply}
+use Rattle.driver_cas.specs.Made.{after_answer}
 use Rattle.driver_cas.specs.Tables.{IsHeld, is_free, is_its_cid}
 use Rattle.driver_cas.specs.declared.call.Call.{Call}
 use Rattle.driver_cas.specs.declared.call.Poll.{Poll}
 use Rattle.driver_cas.specs.declared.driver.Driver.{Driver}
 use Rattle.driver_cas.specs.declared.fault.Fault.{Fault}
+use Rattle.driver_cas.specs.declared.fault.PortFault.{PortFault}
 use Rattle.driver_cas.specs.declared.port.Port.{Ghosts}
+use Rattle.driver_cas.specs.declared.port.Reaped.{Reaped}
+
+-- what a poll tells of a port's fault
+abbrev pub fault_told : PortFault → Fault
+fault_told PortFault.RingFull = Fault.RingFull
+fault_told PortFault.Busy = Fault.Busy
+fault_told PortFault.NoMemory = Fault.NoMemory
+
+-- the fault for which a poll is put off, if for one, where the port answered so
+abbrev pub later_by : {A : Type 0} → Result A PortFault → Option Fault
+later_by (Ok x) = None
+later_by (Err f) = Some (fault_told f)
 
 module _ {P : Type 0} {g : Ghosts P} where
   -- what the port did before its driver was made, and since
@@ -42,6 +56,20 @@ module _ {P : Type 0} {g : Ghosts P} where
   -- what a call is answered by what the port did since the driver was made
   abbrev pub answer_to : Driver P g → Call P → Option (Result Reply Status)
   answer_to d k = outcome (made d) k.queue k.op k.first k.second
+
+  -- The port was asked once for a completion, and answered so that a poll is put off for this fault, if for one.
+  pub record ReapsOnce (d e : Driver P g) (later : Option Fault) : Type 0 where
+    pub answer : Result (Option Reaped) PortFault
+    pub is : g.reaps d.port e.port answer
+    pub log : g.log e.port ≡ after_answer answer (g.log d.port)
+    pub told : later ≡ later_by answer
+
+  -- What a poll of the call asks of the port, and for which fault it is put off, if for one: where the call's
+  -- completions were all reaped before it asks nothing, and the port is as it was; else it asks once.
+  abbrev pub AsksPort : Driver P g → Driver P g → Call P → Option Fault → Type 0
+  AsksPort d e k later =
+      ((is_some (answer_to d k) ≡ true) × (e.port ≡ d.port) × (later ≡ None))
+      ⊎ ((answer_to d k ≡ None) × ReapsOnce d e later)
 
   -- the slot area, the host number, and the last serial that was drawn
   abbrev pub area_of : Driver P g → Range
@@ -76,6 +104,11 @@ module _ {P : Type 0} where
   told (Poll.Done r) = Some (Ok r)
   told (Poll.Failed (Fault.Status s)) = Some (Err s)
   told _ = None
+
+  -- the fault for which it is put off, if for one
+  abbrev pub later_told : Poll P → Option Fault
+  later_told (Poll.Later f j) = Some f
+  later_told _ = None
 
   -- the call comes back, it may be for this cause; else it is answered, as failed with a status alone
   abbrev pub IsBack : Call P → Poll P → Type 0

@@ -1,5 +1,5 @@
 -- What contracts say of the port of a shared controller.
-use Rattle.std.specs.Prelude.{List, None, length, ℕ, ◌+◌, ◌≡◌, ◌≢◌}
+use Rattle.std.specs.Prelude.{List, None, Ok, Option, Result, length, ℕ, ◌+◌, ◌≡◌, ◌≢◌}
 use Rattle.nvme_model.specs.Passes.{entries}
 use Rattle.nvme_model.specs.Refusals.{refusal}
 use Rattle.nvme_model.specs.declared.step.Step.{Step}
@@ -8,7 +8,9 @@ use Rattle.meet_lock.specs.Passes as passes
 use Rattle.driver_calls.specs.Views
 use Rattle.driver_calls.specs.Views.{IsFull, PortView, Publishes, log_of}
 use Rattle.driver_cas.specs.Passes.{view_at}
+use Rattle.driver_cas.specs.Reaps.{IsCounted, IsReapedAs}
 use Rattle.driver_cas.specs.declared.fault.PortFault.{PortFault}
+use Rattle.driver_cas.specs.declared.port.Reaped.{Reaped}
 use Rattle.driver_cas.specs.declared.shared_port.SharedPort.{SharedPort}
 
 -- what is known of it
@@ -37,3 +39,10 @@ IsRefused passes a b q batch PortFault.NoMemory = refusal b.config (entries b.se
 pub record IsPublished (a b : SharedPort) (q : ℕ) (batch : List Submission) : Type 0 where
   pub publishes : Publishes (view_of a) (view_of b) q batch
   pub counted : b.counted ≡ a.counted
+
+-- What is known of a port whose Reap was answered so. Where no notice was counted it asked nothing, None is answered,
+-- and it is as it was; else the engine was asked. Notices are counted as its answer leaves them.
+pub record IsReapAnswer (a b : SharedPort) (r : Result (Option Reaped) PortFault) : Type 0 where
+  pub idle : a.counted ≡ 0 → (r ≡ Ok None) × (b ≡ a)
+  pub asked : a.counted ≢ 0 → IsReapedAs (passes.passes_of a.pass) (view_of a) (view_of b) r
+  pub counted : IsCounted a.counted b.counted r

@@ -1,9 +1,8 @@
 //! Polling a call.
 
 ghost use Rattle.std.specs.Prelude.{◌≡◌, ◌≢◌, ◌⊎◌, IfErr, IfNone, IfSome, None, Some, is_some};
-ghost use Rattle.driver_cas.specs.Drivers.{IsApart, IsBack, IsCallBack, IsCallOf, IsFreed, IsOneMore, IsSame};
-ghost use Rattle.driver_cas.specs.Drivers.{answer_to};
-ghost use Rattle.driver_cas.specs.Drivers.{before, made, number_of, told};
+ghost use Rattle.driver_cas.specs.Drivers.{AsksPort, IsApart, IsBack, IsCallBack, IsCallOf, IsFreed, IsOneMore, IsSame};
+ghost use Rattle.driver_cas.specs.Drivers.{answer_to, before, fault_told, later_by, later_told, made, number_of, told};
 ghost use Rattle.driver_cas.specs.Tables.{GoesOn, IsReleased};
 ghost use Rattle.driver_cas.specs.declared.call.Call.{Call};
 ghost use Rattle.driver_cas.specs.declared.fault.Fault.{Fault};
@@ -31,7 +30,8 @@ fn ended<P>(answer: Result<Reply, Status>) -> Poll<P>
 // Why nothing was reaped.
 fn later_fault(fault: PortFault) -> Fault
     requires { fault ≢ PortFault.RingFull }
-    ensures { (result ≡ Fault.Busy) ⊎ (result ≡ Fault.NoMemory) }
+    ensures told { result ≡ fault_told fault }
+    ensures cause { (result ≡ Fault.Busy) ⊎ (result ≡ Fault.NoMemory) }
 {
     match fault {
         PortFault::Busy => Fault::Busy,
@@ -78,6 +78,7 @@ impl<P: Port> Driver<P> {
         ensures made { IsOneMore (made self.old) (made self.new) }
         ensures in_use { GoesOn self.old.cids self.new.cids }
         ensures calls { (one : Call P) → IsCallOf self.old one → IsCallOf self.new one }
+        ensures asks { AsksPort self.old self.new call.now (later_by result) }
         ensures fault { IfErr result (λ f. (made self.new ≡ made self.old) × (f ≢ PortFault.RingFull)) }
         ensures waits { IfErr result (λ f. answer_to self.new call.now ≡ None) }
     {
@@ -96,6 +97,7 @@ impl<P: Port> Driver<P> {
         ensures one { IsOneMore (made self.old) (made self.new) }
         ensures answer { told result ≡ answer_to self.new call }
         ensures back { IsBack call result }
+        ensures asks { AsksPort self.old self.new call (later_told result) }
         ensures stays { IsCallBack self.new result }
         ensures others { (other : Call P) → IsCallOf self.old other → IsApart call other → IsCallOf self.new other }
         ensures freed { IsFreed self.old.cids self.new.cids call result }

@@ -11,6 +11,7 @@ ghost use Rattle.driver_calls.specs.declared.reply.Reply.{Reply};
 ghost use Rattle.driver_calls.specs.Views.{since};
 ghost use Rattle.driver_cas.specs.Made.{after_reap};
 ghost use Rattle.driver_cas.specs.declared.fault.PortFault.{PortFault};
+ghost use Rattle.driver_cas.specs.declared.port.Reaped.{Reaped};
 
 use crate::fault::PortFault;
 use nvme_model::submission::{Payload, Submissions};
@@ -44,6 +45,9 @@ pub trait Port: Drop {
     /// What is known of one that answered this batch so, and of what it was just before.
     ghost refuses: { Self → Self → ℕ → List Submission → PortFault → Type 0 };
 
+    /// What is known of one whose Reap was answered so, and of what it was just before.
+    ghost reaps: { Self → Self → Result (Option Reaped) PortFault → Type 0 };
+
     /// What is known where a call was answered so, or not yet: by what the port did before its driver was made, the
     /// port just before the call's Publish and now, the call's submission queue, the number of its first entry there,
     /// and what it does.
@@ -70,6 +74,7 @@ pub trait Port: Drop {
     /// `Busy` or `NoMemory`; nothing was reaped.
     fn reap(&mut self) -> Result<Option<Reaped>, PortFault>
         ensures later { follows self.old self.new }
+        ensures answered { reaps self.old self.new result }
         ensures got { IfOk result (λ o. log self.new ≡ after_reap o (log self.old)) }
         ensures fault { IfErr result (λ f. (log self.new ≡ log self.old) × (f ≢ PortFault.RingFull)) };
 

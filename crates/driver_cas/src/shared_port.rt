@@ -142,7 +142,7 @@ impl<'a> SharedPort<'a> {
 impl<'a> Port for SharedPort<'a> {
     ghost use Rattle.driver_calls.proofs.Views.{follows_on, follows_self, owns_same, view_tells};
     ghost use Rattle.driver_calls.specs.Views.{AnswerSays, log_of, owns as view_owns};
-    ghost use Rattle.driver_cas.specs.Ports.{Follows, IsPublished, IsRefused, steps_of, view_of};
+    ghost use Rattle.driver_cas.specs.Ports.{Follows, IsPublished, IsReapAnswer, IsRefused, steps_of, view_of};
     ghost use Rattle.std.proofs.Common.{arith, refl, ◌∙◌};
 
     ghost log = { λ p. log_of (view_of p) };
@@ -157,6 +157,8 @@ impl<'a> Port for SharedPort<'a> {
 
     ghost refuses = { λ a b q batch fault.
         IsRefused (passes_of a.pass) (view_of a) (view_of b) q batch fault × (b.counted ≡ a.counted) };
+
+    ghost reaps = { IsReapAnswer };
 
     ghost says = { λ before start now. AnswerSays before (view_of start) (view_of now) };
 

@@ -1,10 +1,11 @@
 //! What a driver's table of CIDs becomes by completions and by answers.
 
-ghost use Rattle.std.specs.Prelude.{◌≡◌, ◌≢◌, ℕ, IfErr, IfNone, IfOk, IfSome, List, ◌∷◌};
+ghost use Rattle.std.specs.Prelude.{◌≡◌, ◌≢◌, ℕ, Err, IfErr, IfNone, IfOk, IfSome, List, Ok, Option, ◌∷◌};
 ghost use Rattle.cid_table.specs.Cids.{held, queues_of};
 ghost use Rattle.driver_calls.specs.declared.event.PortEvent.{PortEvent};
 ghost use Rattle.driver_cas.specs.Made.{after_reap};
 ghost use Rattle.driver_cas.specs.Tables.{GoesOn, IsReleased, Matches, Reaps, table_outcome};
+ghost use Rattle.driver_cas.specs.declared.port.Reaped.{Reaped};
 
 use crate::fault::PortFault;
 use crate::port::{Port, Reaped};
@@ -33,6 +34,9 @@ pub(crate) fn reap_one<P: Port>(port: &mut P, cids: &mut CidTable) -> Result<(),
     ensures queues { queues_of cids.new ≡ queues_of cids.old }
     ensures goes_on { GoesOn cids.old cids.new }
     ensures reaped { Reaps (P.log port.old) (P.log port.new) cids.old cids.new }
+    ensures got { IfOk result (λ _. (o : Option Reaped) × P.reaps port.old port.new (Ok o)
+        × (P.log port.new ≡ after_reap o (P.log port.old))) }
+    ensures declined { IfErr result (λ f. P.reaps port.old port.new (Err f)) }
     ensures fault { IfErr result (λ f. (P.log port.new ≡ P.log port.old) × (f ≢ PortFault.RingFull)) }
 {
     if let Some(reaped) = port.reap()? {

@@ -98,6 +98,8 @@ impl Port for Fake {
 
     ghost refuses = { λ a b q batch fault. Unit {0} };
 
+    ghost reaps = { λ a b r. Unit {0} };
+
     ghost says = { λ before start now q j o r. Unit {0} };
 
     #[tactic(auto, using(crate::proofs::Fakes::log_more))]

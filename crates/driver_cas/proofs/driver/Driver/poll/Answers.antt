@@ -3,7 +3,7 @@ use Rattle.nvme_model.specs.declared.status.Status.{Status}
 use Rattle.driver_calls.specs.declared.reply.Reply.{Reply}
 use Rattle.driver_cas.specs.declared.call.Poll.{Poll}
 use Rattle.driver_cas.specs.Drivers.{Says, before, number_of}
-use Rattle.driver_cas.proofs.Drivers.{freed_some, one_over, says_over, told_back}
+use Rattle.driver_cas.proofs.Drivers.{asks_over, freed_some, later_ended, later_none, one_over, says_over, told_back}
 use Rattle.driver_cas.proofs.driver.Driver.poll.Goals as goal
 
 pub returns-in-Some-clause-one : goal.returns-in-Some-clause-one
@@ -49,3 +49,6 @@ returns-in-Err-clause-says g c =
     let of = c.reap.ensures.calls k c.requires in
     subst (λ (r : Option (Result Reply Status)). Says d k r) c.in-Err.ensures.waits
     (g.met.P.Port.tells (before d) k.start.value d.port k.queue (number_of d k) k.first k.second k.op of.later (d.own k.queue of.known) d.tidy refl of.published)
+
+pub returns-in-Some-clause-asks : goal.returns-in-Some-clause-asks
+returns-in-Some-clause-asks g c = asks_over g.P.Port c.args.self.now c.reap.new.self c.take.new.self c.args.call _ _ c.reap.ensures.asks c.take.ensures.port (later_ended _ _ c.ended.ensures ∙ sym (later_none c.reap.result c.in_default.not-Err))

@@ -1,7 +1,7 @@
-use Rattle.std.proofs.Common.{◌∙◌, List, ℕ, length, refl, subst}
+use Rattle.std.proofs.Common.{◌∙◌, List, ℕ, length, refl, subst, sym}
 use Rattle.std.specs.List.{Contains}
 use Rattle.driver_cas.proofs.Tables.{reaps_keep}
-use Rattle.driver_cas.proofs.Drivers.{one_more, reaped_calls}
+use Rattle.driver_cas.proofs.Drivers.{asked_once, one_more, reaped_calls}
 use Rattle.driver_cas.proofs.Following.{sole_later}
 use Rattle.driver_cas.proofs.driver.Driver.reap.Goals as goal
 
@@ -24,3 +24,6 @@ returns-clause-calls g c = λ k of. reaped_calls g.P.Port g.met.P.Port.goes_on c
 
 pub returns-clause-made : goal.returns-clause-made
 returns-clause-made g c = one_more (g.P.Port.log c.args.self.now.began.value) (g.P.Port.log c.args.self.now.port) (g.P.Port.log c.reap_one.new.port) c.args.self.now.cids c.reap_one.new.cids c.args.self.now.grows c.reap_one.ensures.reaped
+
+pub returns-clause-asks : goal.returns-clause-asks
+returns-clause-asks g c = asked_once g.P.Port c.args.self.now _ c.args.call.now c.reap_one.result (sym c.is_answered.ensures.value ∙ c.if-is_answered.false) c.reap_one.ensures.got c.reap_one.ensures.declined c.reap_one.ensures.fault
