@@ -1,5 +1,5 @@
 -- A claim after a poll of its call.
-use Rattle.std.proofs.Common.{Bool, List, None, Some, [], arith, cond, false, inl, inr, length, refl, subst, suc, sym, true, ℕ, ◌+◌, ◌++◌, ◌<◌, ◌∙◌, ◌∷◌, ◌≡◌, ◌≢◌, ◌⊎◌, ap, zero}
+use Rattle.std.proofs.Common.{Bool, List, None, Option, Some, [], arith, cond, false, inl, inr, length, refl, subst, suc, sym, true, ℕ, ◌+◌, ◌++◌, ◌<◌, ◌∙◌, ◌∷◌, ◌≡◌, ◌≢◌, ◌⊎◌, ap, zero}
 use Rattle.std.proofs.lemmas.List.{length-append}
 use Rattle.std.specs.List.{slice_get}
 use Rattle.std.specs.Prelude.{Err, Ok, Result}
@@ -13,7 +13,7 @@ use Rattle.host_laws.specs.Calls.{status_in}
 use Rattle.driver_calls.specs.Says.{outcome}
 use Rattle.driver_calls.specs.declared.event.PortEvent.{PortEvent}
 use Rattle.driver_calls.specs.declared.reply.Reply.{Reply}
-use Rattle.driver_cas.specs.Drivers.{IsBack, IsCallOf, IsOneMore, IsSame, Says, answer_to, area_of, made, number_of, told as told_by}
+use Rattle.driver_cas.specs.Drivers.{AsksPort, IsBack, IsCallOf, IsOneMore, IsSame, Says, answer_to, area_of, made, number_of, told as told_by}
 use Rattle.driver_cas.specs.declared.call.Call.{Call}
 use Rattle.driver_cas.specs.declared.call.Poll.{Poll}
 use Rattle.driver_cas.specs.declared.driver.Driver.{Driver}
@@ -174,16 +174,16 @@ module _ {P : Type 0} (g : Ghosts P) where
   pub quiet_polled : (d e : Driver P g) → Polls d e → IsQuiet d e
   quiet_polled d e x = record { same = x.same; one = x.one }
 
-  pub ended_polled : ((a : P) → g.follows a a) → (d e : Driver P g) (k : Claiming P g) (call : Call P) (serial : ℕ) (r : Result Reply Status) → IsClaimingOf d k → k.stage ≡ Stage.Asked call serial → Polls d e → answer_to e call ≡ Some r → Says e call (Some r)
+  pub ended_polled : ((a : P) → g.follows a a) → (d e : Driver P g) (k : Claiming P g) (call : Call P) (serial : ℕ) (r : Result Reply Status) → IsClaimingOf d k → k.stage ≡ Stage.Asked call serial → Polls d e → AsksPort d e call None → answer_to e call ≡ Some r → Says e call (Some r)
       → IsEnded d e k call serial r
-  ended_polled stays d e k call serial r of is x answer says = record { quiet = quiet_polled d e x; answer = answer; says = says_polled stays d e k call serial r of is x answer says }
+  ended_polled stays d e k call serial r of is x asks answer says = record { quiet = quiet_polled d e x; asks = asks; answer = answer; says = says_polled stays d e k call serial r of is x answer says }
 
   -- it goes on as it is
-  pub waiting_polled : (d e : Driver P g) (k : Claiming P g) (call back : Call P) (serial : ℕ) → k.stage ≡ Stage.Asked call serial → back ≡ call → Polls d e → None ≡ answer_to e call
-      → IsWaiting d e k call (record { slots = k.slots; reach = k.reach; slot = k.slot; stage = Stage.Asked back serial; began = k.began; lower = k.lower })
-  waiting_polled d e k call back serial is same x waits =
+  pub waiting_polled : (d e : Driver P g) (k : Claiming P g) (call back : Call P) (serial : ℕ) (later : Option Fault) → k.stage ≡ Stage.Asked call serial → back ≡ call → Polls d e → AsksPort d e call later → None ≡ answer_to e call
+      → IsWaiting d e k call later (record { slots = k.slots; reach = k.reach; slot = k.slot; stage = Stage.Asked back serial; began = k.began; lower = k.lower })
+  waiting_polled d e k call back serial later is same x asks waits =
       let stage : Stage.Asked back serial ≡ k.stage = ap (λ (c : Call P). Stage.Asked c serial) same ∙ sym is in
-      record { quiet = quiet_polled d e x; waits = sym waits; same = ap (λ (s : Stage P). record { slots = k.slots; reach = k.reach; slot = k.slot; stage = s; began = k.began; lower = k.lower }) stage }
+      record { quiet = quiet_polled d e x; asks = asks; waits = sym waits; same = ap (λ (s : Stage P). record { slots = k.slots; reach = k.reach; slot = k.slot; stage = s; began = k.began; lower = k.lower }) stage }
 
   pub won_polled : (d e : Driver P g) (k : Claiming P g) (call : Call P) (serial : ℕ) → IsClaimingOf d k → k.stage ≡ Stage.Asked call serial → Polls d e → answer_to e call ≡ Some (Ok Reply.Swapped)
       → IsWonBy e (record { slot = k.slot; serial = serial })
@@ -206,23 +206,23 @@ module _ {P : Type 0} (g : Ghosts P) where
       }
 
   pub failed_polled : ((a : P) → g.follows a a) → (d e : Driver P g) (k : Claiming P g) (call : Call P) (serial : ℕ) (f : Fault) → IsClaimingOf d k → k.stage ≡ Stage.Asked call serial → Polls d e
-      → IsBack call (Poll.Failed f) → told_by {P = P} (Poll.Failed f) ≡ answer_to e call → Says e call (told_by {P = P} (Poll.Failed f)) → IsPolled d e k call serial (Progress.Failed f)
-  failed_polled stays d e k call serial (Fault.Status s) of is x back answer says = ended_polled stays d e k call serial (Err s) of is x (sym answer) says
-  failed_polled stays d e k call serial Fault.Length of is x back answer says = absurd back
-  failed_polled stays d e k call serial Fault.TooLong of is x back answer says = absurd back
-  failed_polled stays d e k call serial Fault.RingFull of is x back answer says = absurd back
-  failed_polled stays d e k call serial Fault.Busy of is x back answer says = absurd back
-  failed_polled stays d e k call serial Fault.NoMemory of is x back answer says = absurd back
-  failed_polled stays d e k call serial Fault.SlotArea of is x back answer says = absurd back
-  failed_polled stays d e k call serial Fault.NoSerial of is x back answer says = absurd back
+      → AsksPort d e call None → IsBack call (Poll.Failed f) → told_by {P = P} (Poll.Failed f) ≡ answer_to e call → Says e call (told_by {P = P} (Poll.Failed f)) → IsPolled d e k call serial (Progress.Failed f)
+  failed_polled stays d e k call serial (Fault.Status s) of is x asks back answer says = ended_polled stays d e k call serial (Err s) of is x asks (sym answer) says
+  failed_polled stays d e k call serial Fault.Length of is x asks back answer says = absurd back
+  failed_polled stays d e k call serial Fault.TooLong of is x asks back answer says = absurd back
+  failed_polled stays d e k call serial Fault.RingFull of is x asks back answer says = absurd back
+  failed_polled stays d e k call serial Fault.Busy of is x asks back answer says = absurd back
+  failed_polled stays d e k call serial Fault.NoMemory of is x asks back answer says = absurd back
+  failed_polled stays d e k call serial Fault.SlotArea of is x asks back answer says = absurd back
+  failed_polled stays d e k call serial Fault.NoSerial of is x asks back answer says = absurd back
 
   -- somebody else has the slot
   pub differs_ended : ((a : P) → g.follows a a) → (d e : Driver P g) (k : Claiming P g) (call : Call P) (serial : ℕ) (reply : Reply) → IsClaimingOf d k → k.stage ≡ Stage.Asked call serial
-      → Polls d e → reply ≢ Reply.Swapped → answer_to e call ≡ Some (Ok reply) → Says e call (Some (Ok reply)) → IsEnded d e k call serial (Ok Reply.Differs)
-  differs_ended stays d e k call serial reply of is x other answer says =
+      → Polls d e → AsksPort d e call None → reply ≢ Reply.Swapped → answer_to e call ≡ Some (Ok reply) → Says e call (Some (Ok reply)) → IsEnded d e k call serial (Ok Reply.Differs)
+  differs_ended stays d e k call serial reply of is x asks other answer says =
       let a = asked d k call serial of is in
       let differs = pair_reply (made e) call.queue call.first call.second reply (subst (λ (o : Op). outcome (made e) call.queue o call.first call.second ≡ Some (Ok reply)) a.0.does answer) other in
-      subst (λ (y : Reply). IsEnded d e k call serial (Ok y)) differs (ended_polled stays d e k call serial (Ok reply) of is x answer says)
+      subst (λ (y : Reply). IsEnded d e k call serial (Ok y)) differs (ended_polled stays d e k call serial (Ok reply) of is x asks answer says)
 
   pub lost_polled : ((a b c : P) → g.follows a b → g.follows b c → g.follows a c) → (d e : Driver P g) (k : Claiming P g) (call : Call P) (serial : ℕ) → IsClaimingOf d k → Polls d e → IsEnded d e k call serial (Ok Reply.Differs)
       → IsLost e (record { slots = k.slots; reach = k.reach; slot = k.slot; stage = Stage.Due; began = k.began; lower = k.lower }) call serial

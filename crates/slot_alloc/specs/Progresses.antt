@@ -1,8 +1,8 @@
 -- What contracts say of what polling gives.
-use Rattle.std.specs.Prelude.{Err, None, Ok, Result, Some, [], ℕ, ◌++◌, ◌+◌, ◌<◌, ◌∷◌, ◌≡◌, ◌⊎◌}
+use Rattle.std.specs.Prelude.{Err, None, Ok, Option, Result, Some, [], ℕ, ◌++◌, ◌+◌, ◌<◌, ◌∷◌, ◌≡◌, ◌⊎◌}
 use Rattle.nvme_model.specs.declared.status.Status.{Status}
 use Rattle.driver_calls.specs.declared.reply.Reply.{Reply}
-use Rattle.driver_cas.specs.Drivers.{IsApart, IsOneMore, IsSame, answer_to, area_of, made}
+use Rattle.driver_cas.specs.Drivers.{AsksPort, IsApart, IsOneMore, IsSame, answer_to, area_of, made}
 use Rattle.driver_cas.specs.SlotStarts.{IsClaimStart}
 use Rattle.driver_cas.specs.declared.call.Call.{Call}
 use Rattle.driver_cas.specs.declared.driver.Driver.{Driver}
@@ -54,9 +54,12 @@ module _ {P : Type 0} {g : Ghosts P} where
     pub same : IsSame d e
     pub one : IsOneMore (made d) (made e)
 
-  -- Nothing was published, the call isn't answered, and the claim goes on as it is.
-  pub record IsWaiting (d e : Driver P g) (k : Claiming P g) (call : Call P) (j : Claiming P g) : Type 0 where
+  -- Nothing was published, the call isn't answered, and the claim goes on as it is; the poll is put off for this fault,
+  -- if for one, as the port answered.
+  pub record IsWaiting (d e : Driver P g) (k : Claiming P g) (call : Call P) (later : Option Fault) (j : Claiming P g)
+      : Type 0 where
     pub quiet : IsQuiet d e
+    pub asks : AsksPort d e call later
     pub waits : answer_to e call ≡ None
     pub same : j ≡ k
 
@@ -64,6 +67,7 @@ module _ {P : Type 0} {g : Ghosts P} where
   pub record IsEnded (d e : Driver P g) (k : Claiming P g) (call : Call P) (serial : ℕ) (r : Result Reply Status)
       : Type 0 where
     pub quiet : IsQuiet d e
+    pub asks : AsksPort d e call None
     pub answer : answer_to e call ≡ Some r
     pub says : ClaimSays e k.began.value (block_of (area_of e) k.slot) call serial r
 
@@ -96,9 +100,9 @@ module _ {P : Type 0} {g : Ghosts P} where
   -- what a poll gives while the call claims the slot at hand, under this serial
   abbrev pub IsPolled : Driver P g → Driver P g → Claiming P g → Call P → ℕ → Progress P g → Type 0
   IsPolled d e k call serial (Progress.Pending j) =
-      IsWaiting d e k call j ⊎ GoesToNext d e k call serial (Progress.Pending j)
+      IsWaiting d e k call None j ⊎ GoesToNext d e k call serial (Progress.Pending j)
   IsPolled d e k call serial (Progress.Later f j) =
-      (IsWaiting d e k call j × ((f ≡ Fault.Busy) ⊎ (f ≡ Fault.NoMemory)))
+      (IsWaiting d e k call (Some f) j × ((f ≡ Fault.Busy) ⊎ (f ≡ Fault.NoMemory)))
       ⊎ GoesToNext d e k call serial (Progress.Later f j)
   IsPolled d e k call serial (Progress.Held c) =
       (slot_of c ≡ k.slot) × (serial_of c ≡ serial) × IsEnded d e k call serial (Ok Reply.Swapped) × IsWonBy e c

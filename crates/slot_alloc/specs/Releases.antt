@@ -16,6 +16,12 @@ use Rattle.slot_alloc.specs.declared.claim.Claim.{Claim}
 use Rattle.slot_alloc.specs.declared.progress.Released.{Released}
 use Rattle.slot_alloc.specs.declared.release.Releasing.{Releasing}
 
+module _ {P : Type 0} where
+  -- the fault for which a poll of a release is put off, if for one
+  abbrev pub later_released : Released P → Option Fault
+  later_released (Released.Later f j) = Some f
+  later_released _ = None
+
 module _ {P : Type 0} {g : Ghosts P} where
   -- the name that is released, where it is
   abbrev pub released_by : Driver P g → Claim → Result (Releasing P) (Claim × Fault) → Option ReleasedName

@@ -1,13 +1,13 @@
 //! Releases.
 
 ghost use Rattle.std.specs.Prelude.{◌≡◌, IfOk, None};
-ghost use Rattle.driver_cas.specs.Drivers.{IsApart, IsCallOf, area_of};
+ghost use Rattle.driver_cas.specs.Drivers.{AsksPort, IsApart, IsCallOf, area_of};
 ghost use Rattle.driver_cas.specs.declared.call.Call.{Call};
 ghost use Rattle.slot_alloc.specs.Areas.{area};
 ghost use Rattle.slot_alloc.specs.Careful.{GoesOn, IsCareful};
 ghost use Rattle.slot_alloc.specs.Claims.{IsHeldBy, IsReleasingOf};
 ghost use Rattle.slot_alloc.specs.Progresses.{IsQuiet};
-ghost use Rattle.slot_alloc.specs.Releases.{IsReleaseBegun, IsReleased, released_by};
+ghost use Rattle.slot_alloc.specs.Releases.{IsReleaseBegun, IsReleased, later_released, released_by};
 
 use crate::claim::Claim;
 use crate::poll::is_swapped;
@@ -60,6 +60,7 @@ pub fn poll_release<P: Port>(driver: &mut Driver<P>, releasing: Releasing<P>) ->
     ensures goes_on { GoesOn driver.old driver.new None }
     ensures is { IsReleased driver.new releasing result }
     ensures quiet { IsQuiet driver.old driver.new }
+    ensures asks { AsksPort driver.old driver.new releasing.call (later_released result) }
     ensures others { (other : Call P) →
         IsCallOf driver.old other → IsApart releasing.call other → IsCallOf driver.new other }
 {

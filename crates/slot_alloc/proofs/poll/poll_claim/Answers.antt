@@ -1,4 +1,4 @@
-use Rattle.std.proofs.Common.{subst, Ok, Some, ap, inl, refl, ◌≡◌, sym, ◌∙◌}
+use Rattle.std.proofs.Common.{None, subst, Ok, Some, ap, inl, refl, ◌≡◌, sym, ◌∙◌}
 use Rattle.driver_calls.specs.declared.reply.Reply.{Reply}
 use Rattle.driver_cas.specs.Drivers.{Says}
 use Rattle.driver_cas.specs.declared.call.Call.{Call}
@@ -20,7 +20,7 @@ returns-in-Pending-clause-is g c =
     let call = c.in-Asked.call in
     let serial = c.in-Asked.serial in
     by_stage g.P.Port c.args.driver.now c.poll.new.self k call serial _ (sym c.replace.ensures.value ∙ c.in-Asked.is)
-    (inl (waiting_polled g.P.Port c.args.driver.now c.poll.new.self k call y.call serial (sym c.replace.ensures.value ∙ c.in-Asked.is) y.ensures.back (record { same = x.same; later = x.later; one = x.one }) y.ensures.answer))
+    (inl (waiting_polled g.P.Port c.args.driver.now c.poll.new.self k call y.call serial None (sym c.replace.ensures.value ∙ c.in-Asked.is) y.ensures.back (record { same = x.same; later = x.later; one = x.one }) y.ensures.asks y.ensures.answer))
 
 pub returns-in-Pending-clause-of : goal.returns-in-Pending-clause-of
 returns-in-Pending-clause-of g c =
@@ -57,7 +57,7 @@ returns-in-Later-clause-is g c =
     let call = c.in-Asked.call in
     let serial = c.in-Asked.serial in
     by_stage g.P.Port c.args.driver.now c.poll.new.self k call serial _ (sym c.replace.ensures.value ∙ c.in-Asked.is)
-    (inl ((waiting_polled g.P.Port c.args.driver.now c.poll.new.self k call y.call serial (sym c.replace.ensures.value ∙ c.in-Asked.is) y.ensures.back.0 (record { same = x.same; later = x.later; one = x.one }) y.ensures.answer), y.ensures.back.1))
+    (inl ((waiting_polled g.P.Port c.args.driver.now c.poll.new.self k call y.call serial (Some y.fault) (sym c.replace.ensures.value ∙ c.in-Asked.is) y.ensures.back.0 (record { same = x.same; later = x.later; one = x.one }) y.ensures.asks y.ensures.answer), y.ensures.back.1))
 
 pub returns-in-Later-clause-of : goal.returns-in-Later-clause-of
 returns-in-Later-clause-of g c =
@@ -78,7 +78,7 @@ next-requires g c =
     record {
       lost = subst (λ (z : Stage _ × Call _). IsLost c.poll.new.self (record { slots = k.slots; reach = k.reach; slot = k.slot; stage = z.0; began = k.began; lower = k.lower }) z.1 serial) (λ i. (sym c.replace.ensures.after i, sym c.of-asked.ensures i))
           (lost_polled g.P.Port g.met.P.Port.goes_on c.args.driver.now c.poll.new.self k call serial c.requires.of polls
-          (differs_ended g.P.Port g.met.P.Port.stays c.args.driver.now c.poll.new.self k call serial y.reply c.requires.of (sym c.replace.ensures.value ∙ c.in-Asked.is) polls
+          (differs_ended g.P.Port g.met.P.Port.stays c.args.driver.now c.poll.new.self k call serial y.reply c.requires.of (sym c.replace.ensures.value ∙ c.in-Asked.is) polls y.ensures.asks
           (c.is_swapped.ensures.no_other c.if-is_swapped.false) (sym y.ensures.answer) y.ensures.says));
     }
 
@@ -93,7 +93,7 @@ returns-in-Failed-clause-is g c =
     let y = c.in-Failed in
     let is = sym c.replace.ensures.value ∙ c.in-Asked.is in
     by_stage g.P.Port c.args.driver.now c.poll.new.self c.args.claiming c.in-Asked.call c.in-Asked.serial _ is
-    (failed_polled g.P.Port g.met.P.Port.stays c.args.driver.now c.poll.new.self c.args.claiming c.in-Asked.call c.in-Asked.serial y.fault c.requires.of is (record { same = x.same; later = x.later; one = x.one }) y.ensures.back y.ensures.answer y.ensures.says)
+    (failed_polled g.P.Port g.met.P.Port.stays c.args.driver.now c.poll.new.self c.args.claiming c.in-Asked.call c.in-Asked.serial y.fault c.requires.of is (record { same = x.same; later = x.later; one = x.one }) y.ensures.asks y.ensures.back y.ensures.answer y.ensures.says)
 
 pub returns-then-is_swapped-clause-goes_on : goal.returns-then-is_swapped-clause-goes_on
 returns-then-is_swapped-clause-goes_on g c =
@@ -114,7 +114,7 @@ returns-then-is_swapped-clause-is g c =
     by_stage g.P.Port c.args.driver.now c.poll.new.self k call serial _ is (
       refl,
       refl,
-      ended_polled g.P.Port g.met.P.Port.stays c.args.driver.now c.poll.new.self k call serial (Ok Reply.Swapped) c.requires.of is polls answer (subst (λ (r : Reply). Says c.poll.new.self call (Some (Ok r))) yes y.ensures.says),
+      ended_polled g.P.Port g.met.P.Port.stays c.args.driver.now c.poll.new.self k call serial (Ok Reply.Swapped) c.requires.of is polls y.ensures.asks answer (subst (λ (r : Reply). Says c.poll.new.self call (Some (Ok r))) yes y.ensures.says),
       won_polled g.P.Port c.args.driver.now c.poll.new.self k call serial c.requires.of is polls answer,
     )
 
@@ -152,6 +152,6 @@ returns-else-is_swapped-clause-is g c =
     let is = sym c.replace.ensures.value ∙ c.in-Asked.is in
     by_stage g.P.Port c.args.driver.now f k call serial c.next.result is
     (polled_lost g.P.Port c.args.driver.now e f k call serial c.next.result
-    (differs_ended g.P.Port g.met.P.Port.stays c.args.driver.now e k call serial y.reply c.requires.of is (record { same = x.same; later = x.later; one = x.one })
+    (differs_ended g.P.Port g.met.P.Port.stays c.args.driver.now e k call serial y.reply c.requires.of is (record { same = x.same; later = x.later; one = x.one }) y.ensures.asks
     (c.is_swapped.ensures.no_other c.if-is_swapped.false) (sym y.ensures.answer) y.ensures.says)
     (subst (λ (z : Stage _ × Call _). IsLostOn e f (record { slots = k.slots; reach = k.reach; slot = k.slot; stage = z.0; began = k.began; lower = k.lower }) z.1 serial c.next.result) (λ i. (c.replace.ensures.after i, c.of-asked.ensures i)) c.next.ensures.is))
