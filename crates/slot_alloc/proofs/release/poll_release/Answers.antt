@@ -1,4 +1,4 @@
-use Rattle.std.proofs.Common.{Ok, Some, ap, inr, subst, sym, ◌∙◌}
+use Rattle.std.proofs.Common.{Ok, Some, ap, inr, refl, subst, sym, ◌∙◌}
 use Rattle.driver_calls.specs.declared.reply.Reply.{Reply}
 use Rattle.driver_cas.specs.Drivers.{IsCallOf, Says}
 use Rattle.driver_cas.specs.declared.call.Call.{Call}
@@ -70,6 +70,6 @@ returns-else-is_swapped-clause-is g c =
     let y = c.in-Done in
     let differs = differs_polled g.P.Port c.args.driver.now e k y.reply c.requires.of (c.is_swapped.ensures.no_other c.if-is_swapped.false) (sym y.ensures.answer) in
     inr (
-      c.new.ensures,
+      refl,
       (sym y.ensures.answer ∙ ap (λ (r : Reply). Some (Ok r)) differs, subst (λ (r : Reply). Says e k.call (Some (Ok r))) differs y.ensures.says),
     )
