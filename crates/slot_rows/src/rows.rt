@@ -308,15 +308,8 @@ fn frees<R: Abort + Wait>(
     );
     assert!(rt; one.host.driver.start_release(0, 1).is_ok());
     serves(rt, bench, server, 1);
-    does(
-        rt,
-        bench,
-        server,
-        slots,
-        two,
-        one,
-        Act::First(Came::Held(0)),
-    );
+    let came = claims(rt, bench, server, slots, two, Some(0));
+    assert_eq!(rt; came, Came::Held(0));
 }
 
 // Whoever was told the slot and the serial frees it by other means.
