@@ -2,8 +2,7 @@
 
 ghost use Rattle.std.specs.Option.{option_copied, option_map};
 ghost use Rattle.std.specs.List.{flat_map};
-ghost use Rattle.std.specs.Prelude.{◌≡◌, ◌≤◌, ◌+◌, ◌==◌, ◌&&◌, ◌∷◌, IfOk, OnErr, length, option_to_list, slice_get};
-ghost use Rattle.std.specs.Prelude.{take};
+ghost use Rattle.std.specs.Prelude.{◌≡◌, ◌+◌, ◌==◌, ◌&&◌, IfOk, OnErr, slice_get};
 ghost use Rattle.nvme_model.specs.History.{Past};
 ghost use Rattle.nvme_model.specs.declared.config.ConfigNumbers.{ConfigNumbers};
 ghost use Rattle.nvme_model.specs.declared.entry.Entry.{Entry};
@@ -15,7 +14,6 @@ ghost use Rattle.nvme_model.specs.EntryBytes.{sqe_fields};
 ghost use Rattle.nvme_model.specs.Operations.{op_by};
 ghost use Rattle.nvme_model.specs.Verdict.{item_of, same_verdict, verdict_of};
 ghost use Rattle.one_pass_check.specs.Steps.{HasUnits, units_in};
-ghost use Rattle.rings.specs.Submissions.{advanced};
 
 use crate::fields::{Fields, InFlight, TicketUnits};
 use crate::places::ring_place;
@@ -89,21 +87,6 @@ fn units_of(alloc: Global, config: &Config, judged: &Judged) -> Result<Vec<Range
     }
 }
 
-// Takes the next one or two entries out of a ring.
-fn take_commands(ring: &mut SqRing, count: u8) -> (Submission, Option<Submission>)
-    requires some { 1 ≤ count }
-    requires few { count ≤ 2 }
-    requires within { count ≤ length ring.old.waiting }
-    ensures taken { result.0 ∷ option_to_list result.1 ≡ take count ring.old.waiting }
-    ensures rest { ring.new ≡ advanced ring.old count }
-{
-    let first = ring.take();
-    if count == 1 {
-        return (first, None);
-    }
-    (first, Some(ring.take()))
-}
-
 // Whether a Fetch says the next ticket, and what became of its entries.
 fn fetch_fits(line: &FetchLine, tickets: u64, judged: &Judged) -> bool
     ensures value { result ≡
@@ -146,7 +129,7 @@ pub fn take_fetch(
     }
     let units = TicketUnits::new(units_of(alloc, config, &judged)?);
     fields.flights.reserve(1)?;
-    let (first, second) = take_commands(&mut fields.submission[place], judged.taken());
+    let (first, second) = fields.submission[place].take_commands(judged.taken());
     let commands = Commands::new(line.queue, line.verdict, first, second);
     fields.flights.push_reserved(InFlight {
         ticket: line.ticket,

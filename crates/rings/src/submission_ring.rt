@@ -1,7 +1,7 @@
 //! The ring of a submission queue.
 
-ghost use Rattle.std.specs.Prelude.{◌≡◌, ◌+◌, ◌-◌, ◌%◌, ◌≤◌, ◌<◌, ◌++◌, ◌==◌, [], IfErr, IfOk, OnErr, OnOk, None, Some};
-ghost use Rattle.std.specs.Prelude.{length, option_copied, slice_get};
+ghost use Rattle.std.specs.Prelude.{◌≡◌, ◌+◌, ◌-◌, ◌%◌, ◌≤◌, ◌<◌, ◌++◌, ◌==◌, ◌∷◌, [], IfErr, IfOk, OnErr};
+ghost use Rattle.std.specs.Prelude.{None, OnOk, Some, length, option_copied, option_to_list, slice_get, take};
 ghost use Rattle.nvme_model.specs.Tables.{first_row};
 ghost use Rattle.rings.specs.Slots.{IsSize};
 ghost use Rattle.rings.specs.Submissions.{ShowsSubmitted, Submitted, advanced, batch_fault, batch_faults};
@@ -138,6 +138,24 @@ impl SqRing {
             ShowsSubmitted s self.old → ShowsSubmitted (record s { fetched = s.fetched + 1 }) self.new }
     {
         self.slots.pop()
+    }
+
+    /// Takes the next one or two entries out, of which as many have to wait.
+    pub fn take_commands(&mut self, count: u8) -> (Submission, Option<Submission>)
+        requires some { 1 ≤ count }
+        requires few { count ≤ 2 }
+        requires within { count ≤ length self.old.waiting }
+        ensures taken { result.0 ∷ option_to_list result.1 ≡ take count self.old.waiting }
+        ensures rest { self.new ≡ advanced self.old count }
+        ensures counts { (s : Submitted) →
+            ShowsSubmitted s self.old → ShowsSubmitted (record s { fetched = s.fetched + count }) self.new }
+    {
+        let first = self.take();
+        if count == 1 {
+            return (first, None);
+        }
+        let second = self.take();
+        (first, Some(second))
     }
 
     /// Drops the next `k` entries.

@@ -10,7 +10,6 @@ ghost use Rattle.nvme_model.specs.Refusals.{jobs_full, no_queue, refusal};
 ghost use Rattle.nvme_model.specs.Tickets.{cids_in_use, fetched_ticket};
 ghost use Rattle.nvme_model.specs.Verdict.{item_of, taken, verdict_of};
 ghost use Rattle.nvme_model.specs.declared.step.Step.{Step};
-ghost use Rattle.rings.specs.Submissions.{advanced};
 ghost use Rattle.step_core.specs.Found.{IsFront, first_job, kind_in};
 ghost use Rattle.job_table.specs.Beginning.{read_first};
 ghost use Rattle.job_table.specs.Tickets.{compare_by, write_blocks};
@@ -120,21 +119,6 @@ fn new_job(alloc: Global, queue: u16, front: Front, first: Submission, room: Dat
     Job::new(queue, &judged, cids, all)
 }
 
-// Takes the next one or two entries out of a ring, and gives the first.
-fn take_commands(ring: &mut SqRing, count: u8) -> Submission
-    requires some { 1 ≤ count }
-    requires few { count ≤ 2 }
-    requires within { count ≤ length ring.old.waiting }
-    ensures first { slice_get ring.old.waiting 0 ≡ Some result }
-    ensures rest { ring.new ≡ advanced ring.old count }
-{
-    let first = ring.take();
-    if count == 2 {
-        let _second = ring.take();
-    }
-    first
-}
-
 // What a check sees of the entry behind the first of a ring, if there is one.
 fn next_item(ring: &SqRing) -> Option<Item>
     ensures value { result ≡ option_map item_of (slice_get ring.now.waiting 1) }
@@ -218,7 +202,7 @@ impl Core {
         let judged = front.judged;
         let ticket = self.tickets + 1;
         let place = queue as usize - 1;
-        let first = take_commands(&mut self.submission[place], judged.taken());
+        let (first, _) = self.submission[place].take_commands(judged.taken());
         put_in_use(&mut self.in_use[place], front.cids);
         let job = new_job(self.alloc, queue, front, first, room);
         let Ok(()) = self.jobs.insert(ticket, job) else {

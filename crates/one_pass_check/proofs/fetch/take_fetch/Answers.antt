@@ -49,7 +49,7 @@ returns-clause-took c = λ past k.
     let room : length c.args.fields.now.flights.items < c.args.config.now.jobs = omega (arith, c.if-len-from.false, c.len-2.ensures, c.from.ensures, ap (λ (n : ConfigNumbers). n.jobs) c.numbers.ensures.value) in
     let same = one_ring (submission_ring c.args.config.now (tables c.args.config.now past)) c.args.config.now.pairs c.args.line.now.queue c.in-Some.place c.args.fields.now.submission.items c.index_mut.result.now c.index-ring.result.now k.shows.sq_rings place c.index_mut.ensures.value c.index-ring.ensures in
     fetch_yes _ past _ k c.args.line.now c.in-Some.place place c.index-ring.result.now c.index-ring.ensures c.in-Some-peek.first.now waits (option_copied c.as_ref.result) behind room c.in_ok-judged.judged c.as_slice-flights.result.now c.as_slice-flights.ensures.value c.in_ok-judged.ensures.verdict c.in_ok-judged.ensures.operation c.in_ok-judged.ensures.range (sym c.fetch_fits.ensures.value ∙ c.if-not-fetch_fits.false)
-    c.taken.result c.taken.ensures.value c.take_commands-first.new.ring (c.take_commands-first.ensures.rest ∙ ap (λ (r : SubmissionRing). advanced r c.taken.result) same)
+    c.taken.result c.taken.ensures.value c.take_commands-first.new.self (c.take_commands-first.ensures.rest ∙ ap (λ (r : SubmissionRing). advanced r c.taken.result) same)
     _ (c.take_commands-first.ensures.taken ∙ ap (λ (r : SubmissionRing). take c.taken.result r.waiting) same)
     (record { ticket = c.args.line.now.ticket; flight = c.new.result; units = c.new-units.result })
     (λ i. record { ticket = c.args.line.now.ticket; flight = (c.new.ensures.value ∙ ap fresh c.new-commands.ensures.value) i; units = (c.new-units.ensures ∙ c.in_ok-units_of.ensures.value) i })

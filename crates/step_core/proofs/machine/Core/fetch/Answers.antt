@@ -1,11 +1,18 @@
-use Rattle.std.proofs.Common.{◌≡◌, arith, subst, sym}
+use Rattle.std.proofs.Common.{List, Some, [], arith, slice_get, subst, suc, sym, take, zero, ℕ, ◌∷◌, ◌≡◌}
 use Rattle.block_array.specs.Blocks.{contents_of}
 use Rattle.fused_match.specs.Judged.{verdict_by}
 use Rattle.nvme_model.specs.Tickets.{fetched_ticket}
+use Rattle.nvme_model.specs.declared.submission.Submission.{Submission}
 use Rattle.job_table.specs.Tickets.{write_blocks}
 use Rattle.step_core.specs.State.{State}
 use Rattle.step_core.proofs.Fetched.{IsFetched, ticket_fits, can_take, cids_are, is_above, sound_is, not_full, used_room, work_fits, fetch_kept, fetch_done}
 use Rattle.step_core.proofs.machine.Core.fetch.Goals as goal
+
+-- the first of those that are taken waits first
+first_taken : (n : ℕ) (x : Submission) (xs ys : List Submission) → x ∷ ys ≡ take n xs → slice_get xs 0 ≡ Some x
+first_taken zero x xs ys e = absurd cc
+first_taken (suc n) x [] ys e = absurd cc
+first_taken (suc n) x (z ∷ zs) ys e = cc
 
 pub overflow_add-ticket : goal.overflow_add-ticket
 overflow_add-ticket c =
@@ -46,7 +53,7 @@ pub invariant_of-self-2 : goal.invariant_of-self-2
 invariant_of-self-2 c =
     let a = subst (λ (x : State). IsFetched x.config x.past c.args.queue c.in_ok-front.front) (sym c.self.view_is) c.in_ok-front.ensures.value in
     let wrote = subst (λ (x : State). contents_of c.in-Ok.room.write.items ≡ write_blocks (fetched_ticket x.past c.args.queue (verdict_by c.in_ok-front.front.judged))) (sym c.self.view_is) c.in-Ok.ensures.write in (
-      fetch_kept _ _ _ c.self.invariant.0 _ _ a _ _ _ _ _ _ _ _ _ _ _ _ _ c.index_mut.ensures.value c.taken.ensures.value c.take_commands-first.ensures.first c.take_commands-first.ensures.rest
+      fetch_kept _ _ _ c.self.invariant.0 _ _ a _ _ _ _ _ _ _ _ _ _ _ _ _ c.index_mut.ensures.value c.taken.ensures.value (first_taken _ _ _ _ c.take_commands-first.ensures.taken) c.take_commands-first.ensures.rest
           c.index_mut-2.ensures.value c.put_in_use.ensures.more
           wrote c.in-Ok.ensures.read c.new_job-job.ensures.value c.in-Ok-insert.ensures.ok c.verdict.ensures.value c.keep_room.ensures.past c.push_reserved.ensures.past,
       omega (arith, c.in_ok-keep_room.ensures.ok, c.push_reserved.ensures.room),
