@@ -2,7 +2,7 @@
 use Rattle.nvme_model.specs.Tickets
 use Rattle.std.proofs.Common.{subst₂, ◌≡◌, ℕ, suc, Bool, true, false, not, ◌&&◌, cond, [], ◌∷◌, refl, sym, ap, ◌∙◌, subst, Option, Some, None, inl, inr, ◌⊎◌, arith, eqb, slice_get}
 use Rattle.std.proofs.lemmas.Bool.{and_parts, cases_lt}
-use Rattle.nvme_model.specs.Answered.{no_at}
+use Rattle.nvme_model.specs.Answered.{no_at, says_no}
 use Rattle.nvme_model.specs.EntryBytes.{Sqe}
 use Rattle.nvme_model.specs.History.{Past}
 use Rattle.nvme_model.specs.Legal.{IsLegal}
@@ -12,7 +12,7 @@ use Rattle.nvme_model.specs.Owed.{all_done, all_ended, owed, owed_after, owed_by
 use Rattle.nvme_model.specs.Placed.{effect}
 use Rattle.nvme_model.specs.Queues.{published_entries}
 use Rattle.nvme_model.specs.Slots.{fetched_before}
-use Rattle.nvme_model.specs.Statuses.{compare_failure, failed_fused, success}
+use Rattle.nvme_model.specs.Statuses.{compare_failure, failed_fused, is_success, success}
 use Rattle.nvme_model.specs.Tickets.{Ticket, command, first_fields}
 use Rattle.nvme_model.specs.Value.{all_equal, value}
 use Rattle.nvme_model.specs.Verdict.{taken}
@@ -27,11 +27,11 @@ use Rattle.nvme_model.specs.declared.submission.Submission.{Submission}
 use Rattle.nvme_model.proofs.Written.{clash}
 use Rattle.host_laws.specs.Calls.{IsFused, reaped_post, says_yes, status_in, takes, yes_at}
 use Rattle.host_laws.proofs.Bools.{not_true}
-use Rattle.host_laws.proofs.Calls.{post_of, second_fuse, seen, takes_parts, which}
+use Rattle.host_laws.proofs.Calls.{PostOf, post_of, second_fuse, seen, takes_parts, which}
 use Rattle.host_laws.proofs.Elements.{same_some}
-use Rattle.host_laws.proofs.Later.{yes_later}
-use Rattle.host_laws.proofs.Outcomes.{pair_says_yes}
-use Rattle.host_laws.proofs.PairCalls.{pair_differs}
+use Rattle.host_laws.proofs.Later.{no_later, yes_later}
+use Rattle.host_laws.proofs.Outcomes.{pair_says_no, pair_says_yes}
+use Rattle.host_laws.proofs.PairCalls.{first_swaps, pair_differs}
 use Rattle.host_laws.proofs.Taken.{ticket_taken}
 use Rattle.host_laws.proofs.TicketsApart.{not_inside, one_ticket, taken_some}
 use Rattle.host_laws.proofs.Verdicts.{fuse, not_pair, one_not_two, taken_two}
@@ -80,29 +80,65 @@ pair_passed Verdict.Single e h = clash (is_pair (op_by Verdict.Single e)) (ap is
 pair_passed (Verdict.SingleFailed s) e h = absurd (let f : None ≡ Some Op.Pair = h in cc)
 pair_passed (Verdict.PairFailed s r) e h = absurd (let f : None ≡ Some Op.Pair = h in cc)
 
+-- ---- the second behind its first
+
+-- the second completion of a pair that passed its checks, and the ticket that owes it
+record SecondOf (c : ConfigNumbers) (past : Past) (q j : ℕ) (r : PostLine) (t : ℕ) : Type 0 where
+  is : PostOf c past q (suc j) r
+  same : r.ticket ≡ t
+  verdict : (Tickets.ticket is.at.before r.ticket).verdict ≡ Verdict.Pair
+  owes : slice_get (owed c is.at.before r.ticket) 1 ≡ Some (status_in r.cqe)
+
+-- it is of the ticket that takes the first
+second_of : (c : ConfigNumbers) (past : Past) (q j t : ℕ) (r : PostLine) → IsLegal c past → IsFused past q j → takes past t q j ≡ true → op (Tickets.ticket past t) ≡ Some Op.Pair → reaped_post c past q (suc j) ≡ Some r
+    → SecondOf c past q j r t
+second_of c past q j t r h x taken_by pair b =
+    let f = post_of c past q (suc j) r h b in
+    let there = seen c past q (suc j) r f h in
+    let k = takes_parts past t q j taken_by in
+    let verdict = pair_passed (Tickets.ticket past t).verdict (first_fields (Tickets.ticket past t)) pair in
+    let at = first_number c past t q j x.first h taken_by x.first_published x.first_fuse in
+    let queues : (Tickets.ticket past r.ticket).queue ≡ (Tickets.ticket past t).queue = there.queue ∙ sym k.queue in
+    elim (which c past q (suc j) r x.second f x.second_published) [
+      | inl y ↦ absurd (not_inside c past r.ticket t h f.is.some there.known k.some k.known queues (omega (arith, at, there.number, y.number)) (omega (arith, at, there.number, y.number, ap taken verdict)))
+      | inr y ↦
+          let same = one_ticket c past r.ticket t h f.is.some there.known k.some k.known queues (omega (arith, at, there.number, y.number)) in
+          record {
+            is = f;
+            same = same;
+            verdict = sym (ap (λ (z : Ticket). z.verdict) there.ticket) ∙ (ap (λ (n : ℕ). (Tickets.ticket past n).verdict) same ∙ verdict);
+            owes = subst (λ (i : ℕ). slice_get (owed c f.at.before r.ticket) i ≡ Some (status_in r.cqe)) y.posts f.is.owed;
+          }
+    ]
+
 -- Compare Failure for the first: the second fails with it
 pub second_fails : (c : ConfigNumbers) (past : Past) (q j : ℕ) (p r : PostLine) → IsLegal c past → IsFused past q j → reaped_post c past q j ≡ Some p → status_in p.cqe ≡ compare_failure
     → reaped_post c past q (suc j) ≡ Some r → status_in r.cqe ≡ failed_fused
 second_fails c past q j p r h x a e b =
     let d = pair_differs c past q j p x.first h x.first_published x.first_fuse a e in
-    let f = post_of c past q (suc j) r h b in
-    let there = seen c past q (suc j) r f h in
-    let k = takes_parts past d.ticket q j d.takes in
-    let verdict = pair_passed (Tickets.ticket past d.ticket).verdict (first_fields (Tickets.ticket past d.ticket)) d.pair in
-    let at = first_number c past d.ticket q j x.first h d.takes x.first_published x.first_fuse in
-    let queues : (Tickets.ticket past r.ticket).queue ≡ (Tickets.ticket past d.ticket).queue = there.queue ∙ sym k.queue in
-    elim (which c past q (suc j) r x.second f x.second_published) [
-      | inl y ↦ absurd (not_inside c past r.ticket d.ticket h f.is.some there.known k.some k.known queues (omega (arith, at, there.number, y.number)) (omega (arith, at, there.number, y.number, ap taken verdict)))
-      | inr y ↦
-          let same = one_ticket c past r.ticket d.ticket h f.is.some there.known k.some k.known queues (omega (arith, at, there.number, y.number)) in
-          let before : (Tickets.ticket f.at.before r.ticket).verdict ≡ Verdict.Pair = sym (ap (λ (z : Ticket). z.verdict) there.ticket) ∙ (ap (λ (t : ℕ). (Tickets.ticket past t).verdict) same ∙ verdict) in
-          let owes = subst (λ (i : ℕ). slice_get (owed c f.at.before r.ticket) i ≡ Some (status_in r.cqe)) y.posts f.is.owed in
-          elim (second_owed c f.at.before r.ticket (status_in r.cqe) before owes) [
-            | inr z ↦ z
-            | inl z ↦
-                let yes = pair_says_yes c f.at.before r.ticket 1 before (owes ∙ ap Some z) in
-                let all = yes_later c f.at.later (Entry.Post r ∷ f.at.before) r.ticket 0 (subst (λ (w : Past). IsLegal c w) f.at.is h) f.legal yes in
-                let late = subst (λ (t : ℕ). says_yes past t 0 ≡ true) same (subst (λ (w : Past). says_yes w r.ticket 0 ≡ true) (sym f.at.is) all) in
-                absurd (yes_or_no (effect past d.ticket 0) (Tickets.ticket past d.ticket) (unit_range past d.ticket 0) late d.no)
-          ]
+    let g = second_of c past q j d.ticket r h x d.takes d.pair b in
+    let f = g.is in
+    elim (second_owed c f.at.before r.ticket (status_in r.cqe) g.verdict g.owes) [
+      | inr z ↦ z
+      | inl z ↦
+          let yes = pair_says_yes c f.at.before r.ticket 1 g.verdict (g.owes ∙ ap Some z) in
+          let all = yes_later c f.at.later (Entry.Post r ∷ f.at.before) r.ticket 0 (subst (λ (w : Past). IsLegal c w) f.at.is h) f.legal yes in
+          let late = subst (λ (t : ℕ). says_yes past t 0 ≡ true) g.same (subst (λ (w : Past). says_yes w r.ticket 0 ≡ true) (sym f.at.is) all) in
+          absurd (yes_or_no (effect past d.ticket 0) (Tickets.ticket past d.ticket) (unit_range past d.ticket 0) late d.no)
+    ]
+
+-- success for the first: the second succeeds with it
+pub second_succeeds : (c : ConfigNumbers) (past : Past) (q j : ℕ) (p r : PostLine) → IsLegal c past → IsFused past q j → reaped_post c past q j ≡ Some p → is_success (status_in p.cqe) ≡ true
+    → reaped_post c past q (suc j) ≡ Some r → is_success (status_in r.cqe) ≡ true
+second_succeeds c past q j p r h x a e b =
+    let d = first_swaps c past q j p x.first h x.first_published x.first_fuse a e in
+    let g = second_of c past q j d.ticket r h x d.takes d.pair b in
+    let f = g.is in
+    elim (second_owed c f.at.before r.ticket (status_in r.cqe) g.verdict g.owes) [
+      | inl z ↦ ap is_success z
+      | inr z ↦
+          let no = pair_says_no c f.at.before r.ticket 1 failed_fused g.verdict (inr refl) (g.owes ∙ ap Some z) in
+          let all = no_later c f.at.later (Entry.Post r ∷ f.at.before) r.ticket 0 (subst (λ (w : Past). IsLegal c w) f.at.is h) f.legal no in
+          let late = subst (λ (t : ℕ). says_no past t 0 ≡ true) g.same (subst (λ (w : Past). says_no w r.ticket 0 ≡ true) (sym f.at.is) all) in
+          absurd (yes_or_no (effect past d.ticket 0) (Tickets.ticket past d.ticket) (unit_range past d.ticket 0) d.yes late)
     ]

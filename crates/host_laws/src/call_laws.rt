@@ -60,6 +60,13 @@ pub fn a_second_fails_with_its_first()
         status_in r.cqe ≡ failed_fused }
 {}
 
+/// Where success was reaped for the first entry of a pair, its second is answered by success too.
+pub fn a_second_succeeds_with_its_first()
+    ensures { (c : ConfigNumbers) (past : Past) (q j : ℕ) (p r : PostLine) → IsLegal c past → IsFused past q j →
+        reaped_post c past q j ≡ Some p → is_success (status_in p.cqe) ≡ true →
+        reaped_post c past q (suc j) ≡ Some r → is_success (status_in r.cqe) ≡ true }
+{}
+
 /// Where success was reaped for a Read, Write, Write Zeroes or Compare by itself, its ticket does that, each of its
 /// units has its effect, none of them says no, and its data is what the ticket owes. Compare Failure is answered to a
 /// Compare alone, of which an effect says no.
