@@ -91,13 +91,13 @@ one_call c start past n q j first o log P x call k =
 call_says : (c : ConfigNumbers) (start past : Past) (n q j first second : ℕ) (o : Op) (log : List PortEvent) → Asked c start past n q j log → IsCallIn log q o first second j
     → CallSays c start past q j o (outcome log q o first second)
 call_says c start past n q j first second Op.Read log x call =
-    one_call c start past n q j first Op.Read log (CallSays c start past q j Op.Read) x call (record { none = λ h. h; ok = λ r h y. (h, y); err = λ s h f d y. ((h, f, d), y) })
+    one_call c start past n q j first Op.Read log (CallSays c start past q j Op.Read) x call (record { none = λ h. h; ok = λ r h y. (h, y); err = λ s h y. (h, y) })
 call_says c start past n q j first second Op.Write log x call =
-    one_call c start past n q j first Op.Write log (CallSays c start past q j Op.Write) x call (record { none = λ h. h; ok = λ r h y. (h, y); err = λ s h f d y. ((h, f, d), y) })
+    one_call c start past n q j first Op.Write log (CallSays c start past q j Op.Write) x call (record { none = λ h. h; ok = λ r h y. (h, y); err = λ s h y. (h, y) })
 call_says c start past n q j first second Op.WriteZeroes log x call =
-    one_call c start past n q j first Op.WriteZeroes log (CallSays c start past q j Op.WriteZeroes) x call (record { none = λ h. h; ok = λ r h y. (h, y); err = λ s h f d y. ((h, f, d), y) })
+    one_call c start past n q j first Op.WriteZeroes log (CallSays c start past q j Op.WriteZeroes) x call (record { none = λ h. h; ok = λ r h y. (h, y); err = λ s h y. (h, y) })
 call_says c start past n q j first second Op.Compare log x call =
-    one_call c start past n q j first Op.Compare log (CallSays c start past q j Op.Compare) x call (record { none = λ h. h; ok = λ r h y. (h, y); err = λ s h f d y. ((h, f, d), y) })
+    one_call c start past n q j first Op.Compare log (CallSays c start past q j Op.Compare) x call (record { none = λ h. h; ok = λ r h y. (h, y); err = λ s h y. (h, y) })
 call_says c start past n q j first second Op.Pair log x call =
     let of : PairCall c start past q j = record { legal = x.legal; fused = fused_in c past n q j log x.told x.own call.0; after = x.after } in
     pair_says c start past q j (state_of log q first) (state_of log q second) of (state_says c past n q first j log x.told x.own call.1) (state_says c past n q second (suc j) log x.told x.own call.2)

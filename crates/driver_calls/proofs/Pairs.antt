@@ -8,9 +8,11 @@ use Rattle.nvme_model.specs.declared.config.ConfigNumbers.{ConfigNumbers}
 use Rattle.nvme_model.specs.declared.entry.PostLine.{PostLine}
 use Rattle.nvme_model.specs.declared.operation.Op.{Op}
 use Rattle.nvme_model.proofs.Unwritten.{unwritten}
+use Rattle.nvme_model.proofs.Written.{clash}
 use Rattle.host_laws.specs.Calls.{IsFused, reaped_post, status_in, takes}
 use Rattle.host_laws.proofs.FailedCalls.{failed_checks}
 use Rattle.host_laws.proofs.PairCalls.{pair_differs, pair_swaps}
+use Rattle.host_laws.proofs.Seconds.{second_succeeds}
 use Rattle.host_laws.proofs.Verdicts.{fuse, one_not_two, status_eq}
 use Rattle.driver_calls.specs.Answers.{pair_answer_of}
 use Rattle.driver_calls.specs.Says.{CallSays, IsAfter, pair_outcome}
@@ -34,13 +36,13 @@ both_say c start past q j p r x y z = go (is_success (status_in p.cqe)) (is_succ
     go true true d e f g =
         let w = pair_swaps c past q j r x.fused.second x.legal x.fused.second_published x.fused.second_fuse z f in
         ((w, x.after w.ticket w.takes), ((p, y), (r, z)))
-    go true false d e f g = (inr ((p, y, e), (r, z, refl, f)), ((p, y), (r, z)))
+    go true false d e f g = clash (is_success (status_in r.cqe)) (second_succeeds c past q j p r x.legal x.fused y e z) f
     go false b true e f g =
         let w = pair_differs c past q j p x.fused.first x.legal x.fused.first_published x.fused.first_fuse y (status_eq (status_in p.cqe) compare_failure g) in
         ((w, unwritten c past w.ticket 0 x.legal (ap is_pair w.pair) w.no, x.after w.ticket w.takes), ((p, y), (r, z)))
     go false b false e f g =
         let failed = failed_checks c past q j p x.fused.first x.legal x.fused.first_published (one_not_two (fuse x.fused.first) x.fused.first_fuse) y e g in
-        (inl ((p, y, refl, e), g, failed), ((p, y), (r, z)))
+        (((p, y, refl, e), g, failed), ((p, y), (r, z)))
 
 -- so is the answer by its CIDs' states
 pub pair_says : (c : ConfigNumbers) (start past : Past) (q j : ℕ) (s r : CidState) → PairCall c start past q j → IsStateOf c past q j s → IsStateOf c past q (suc j) r → CallSays c start past q j Op.Pair (pair_outcome s r)

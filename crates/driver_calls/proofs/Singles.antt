@@ -8,13 +8,13 @@ use Rattle.nvme_model.specs.declared.entry.PostLine.{PostLine}
 use Rattle.nvme_model.specs.declared.operation.Op.{Op}
 use Rattle.nvme_model.specs.declared.status.Status.{Status}
 use Rattle.nvme_model.proofs.Written.{clash}
-use Rattle.host_laws.specs.Calls.{FailsChecks, IsDone, IsSingle, reaped_post, status_in, takes}
+use Rattle.host_laws.specs.Calls.{IsDone, IsSingle, reaped_post, status_in, takes}
 use Rattle.host_laws.proofs.FailedCalls.{failed_checks}
 use Rattle.host_laws.proofs.SingleCalls.{compare_differs, done, only_compares}
 use Rattle.host_laws.proofs.Units.{equal_units}
 use Rattle.host_laws.proofs.Verdicts.{no_pair, status_eq}
 use Rattle.driver_calls.specs.Answers.{answer_of, is_compare_op, reply_of}
-use Rattle.driver_calls.specs.Says.{IsAfter, IsReaped, IsReapedAs, ReplySays, one_outcome}
+use Rattle.driver_calls.specs.Says.{FailedSays, IsAfter, IsReaped, ReplySays, one_outcome}
 use Rattle.driver_calls.specs.declared.event.CidState.{CidState}
 use Rattle.driver_calls.specs.declared.reply.Reply.{Reply}
 
@@ -67,7 +67,7 @@ difference_says c start past q j Op.Pair p x r y k = absurd (let f : false ≡ t
 pub record OneSays (c : ConfigNumbers) (start past : Past) (q j : ℕ) (o : Op) (P : Option (Result Reply Status) → Type 0) : Type 0 where
   pub none : reaped_post c past q j ≡ None → P None
   pub ok : (r : Reply) → ReplySays c start past q j o r → IsReaped c past q j → P (Some (Ok r))
-  pub err : (s : Status) → IsReapedAs c past q j s → same_status s compare_failure ≡ false → FailsChecks past q j → IsReaped c past q j → P (Some (Err s))
+  pub err : (s : Status) → FailedSays c past q j s → IsReaped c past q j → P (Some (Err s))
 
 -- so is the answer to any completion
 answered_says : (c : ConfigNumbers) (start past : Past) (q j : ℕ) (o : Op) (P : Option (Result Reply Status) → Type 0) (p : PostLine) → SingleCall c start past q j o → OneSays c start past q j o P
@@ -84,7 +84,7 @@ answered_says c start past q j o P p x k r = go (is_success (status_in p.cqe)) (
         clash (is_compare_op o) (ap is_compare_op compares) g
     go false false d e f g =
         let s = x.single in
-        k.err (status_in p.cqe) (p, r, refl, e) f (failed_checks c past q j p s.entry x.legal s.published s.not_second r e f) (p, r)
+        k.err (status_in p.cqe) ((p, r, refl, e), f, failed_checks c past q j p s.entry x.legal s.published s.not_second r e f) (p, r)
 
 -- so is the answer by its CID's state
 pub single_says : (c : ConfigNumbers) (start past : Past) (q j : ℕ) (o : Op) (P : Option (Result Reply Status) → Type 0) (s : CidState) → SingleCall c start past q j o → OneSays c start past q j o P → IsStateOf c past q j s

@@ -93,14 +93,10 @@ IsReapedAs c past q j s =
 abbrev pub IsReaped : ConfigNumbers → Past → ℕ → ℕ → Type 0
 IsReaped c past q j = (p : PostLine) × (reaped_post c past q j ≡ Some p)
 
--- A completion of the call has this status: of a pair the first that isn't success. A command that is answered so
--- failed its checks, unless it is a pair's second, whose first succeeded.
-abbrev pub FailedSays : ConfigNumbers → Past → ℕ → ℕ → Op → Status → Type 0
-FailedSays c past q j Op.Pair s =
-    (IsReapedAs c past q j s × (same_status s compare_failure ≡ false) × FailsChecks past q j)
-    ⊎ (((p : PostLine) × (reaped_post c past q j ≡ Some p) × (is_success (status_in p.cqe) ≡ true))
-    × IsReapedAs c past q (suc j) s)
-FailedSays c past q j o s = IsReapedAs c past q j s × (same_status s compare_failure ≡ false) × FailsChecks past q j
+-- the completion of the call, of a pair that of its first, was reaped with this status, which isn't Compare Failure
+-- either, and the command or the pair failed its checks
+abbrev pub FailedSays : ConfigNumbers → Past → ℕ → ℕ → Status → Type 0
+FailedSays c past q j s = IsReapedAs c past q j s × (same_status s compare_failure ≡ false) × FailsChecks past q j
 
 abbrev pub AllReaped : ConfigNumbers → Past → ℕ → ℕ → Op → Type 0
 AllReaped c past q j Op.Pair = IsReaped c past q j × IsReaped c past q (suc j)
@@ -114,4 +110,4 @@ NotAllReaped c past q j o = reaped_post c past q j ≡ None
 abbrev pub CallSays : ConfigNumbers → Past → Past → ℕ → ℕ → Op → Option (Result Reply Status) → Type 0
 CallSays c start past q j o None = NotAllReaped c past q j o
 CallSays c start past q j o (Some (Ok r)) = ReplySays c start past q j o r × AllReaped c past q j o
-CallSays c start past q j o (Some (Err s)) = FailedSays c past q j o s × AllReaped c past q j o
+CallSays c start past q j o (Some (Err s)) = FailedSays c past q j s × AllReaped c past q j o

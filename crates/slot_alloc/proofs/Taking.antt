@@ -1,5 +1,5 @@
 -- What the answer to a claim said of what was seen then, in what is seen now.
-use Rattle.std.proofs.Common.{List, Some, inl, inr, subst, suc, sym, ℕ, ◌++◌, ◌∙◌, ◌≡◌}
+use Rattle.std.proofs.Common.{List, Some, subst, sym, ℕ, ◌++◌, ◌∙◌, ◌≡◌}
 use Rattle.std.specs.Prelude.{Err, Ok}
 use Rattle.nvme_model.specs.History.{Past}
 use Rattle.nvme_model.specs.Legal.{IsLegal}
@@ -59,15 +59,12 @@ swaps_on before start a b q j o f legal says h =
     subst (λ (past : Past). PairSwaps past q j) (sym (grown a b f)) (pair_swaps_later b.config (entries f.goes_on.0) (entries a.seen) q j (legal_grown a b f legal) was)
 
 -- what was reaped goes on to be
-failed_grown : (c : ConfigNumbers) (later past : Past) (q j : ℕ) (s : Status) → IsLegal c (later ++ past) → FailedSays c past q j Op.Pair s → FailedSays c (later ++ past) q j Op.Pair s
-failed_grown c later past q j s legal (inl x) =
-    inl ((x.0.0, reaped_later c later past q j x.0.0 legal x.0.1, x.0.2, x.0.3), x.1, failed_later c later past q j legal x.2)
-failed_grown c later past q j s legal (inr x) =
-    inr ((x.0.0, reaped_later c later past q j x.0.0 legal x.0.1, x.0.2), (x.1.0, reaped_later c later past q (suc j) x.1.0 legal x.1.1, x.1.2, x.1.3))
+failed_grown : (c : ConfigNumbers) (later past : Past) (q j : ℕ) (s : Status) → IsLegal c (later ++ past) → FailedSays c past q j s → FailedSays c (later ++ past) q j s
+failed_grown c later past q j s legal x = ((x.0.0, reaped_later c later past q j x.0.0 legal x.0.1, x.0.2, x.0.3), x.1, failed_later c later past q j legal x.2)
 
-pub failed_on : (before : List PortEvent) (start a b : PortView) (q j : ℕ) (o : Op) (s : Status) → Follows a b → IsLegal b.config (entries b.seen) → o ≡ Op.Pair
-    → (IsAlone before a → CallSays a.config (entries start.seen) (entries a.seen) q j o (Some (Err s))) → IsAlone before b → FailedSays b.config (entries b.seen) q j Op.Pair s
-failed_on before start a b q j o s f legal pair says h =
-    let was = subst (λ (p : Op). CallSays a.config (entries start.seen) (entries a.seen) q j p (Some (Err s))) pair (says (alone_before before a b f h)) in
-    let here = subst (λ (c : ConfigNumbers). FailedSays c (entries a.seen) q j Op.Pair s) (sym f.same_config) was.0 in
-    subst (λ (past : Past). FailedSays b.config past q j Op.Pair s) (sym (grown a b f)) (failed_grown b.config (entries f.goes_on.0) (entries a.seen) q j s (legal_grown a b f legal) here)
+pub failed_on : (before : List PortEvent) (start a b : PortView) (q j : ℕ) (o : Op) (s : Status) → Follows a b → IsLegal b.config (entries b.seen)
+    → (IsAlone before a → CallSays a.config (entries start.seen) (entries a.seen) q j o (Some (Err s))) → IsAlone before b → FailedSays b.config (entries b.seen) q j s
+failed_on before start a b q j o s f legal says h =
+    let was = says (alone_before before a b f h) in
+    let here = subst (λ (c : ConfigNumbers). FailedSays c (entries a.seen) q j s) (sym f.same_config) was.0 in
+    subst (λ (past : Past). FailedSays b.config past q j s) (sym (grown a b f)) (failed_grown b.config (entries f.goes_on.0) (entries a.seen) q j s (legal_grown a b f legal) here)

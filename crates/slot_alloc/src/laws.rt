@@ -134,7 +134,8 @@ pub fn a_won_slot_was_free(
     let _ = began;
 }
 
-/// Where a claim failed, a completion of its pair with that status was reaped, the first that isn't success.
+/// Where a claim failed, the first completion of its pair was reaped with that status: the pair failed its checks and
+/// did nothing.
 pub fn a_failed_claim_was_told_so(
     driver: &Driver<SharedPort<'_>>,
     began: &Snapshot<Driver<SharedPort<'_>>>,
@@ -143,7 +144,7 @@ pub fn a_failed_claim_was_told_so(
     ensures { (lba serial : ℕ) (status : Status) (call : Call SharedPort)
         (s : ClaimSays driver.now began.now.value lba call serial (Err status)) →
         let v = view_of driver.now.port in
-        FailedSays v.config (entries v.seen) call.queue (number_of s.at call) Op.Pair status }
+        FailedSays v.config (entries v.seen) call.queue (number_of s.at call) status }
 {
     let _ = driver;
     let _ = began;
