@@ -129,8 +129,8 @@ impl SqRing {
         self.slots.get(k)
     }
 
-    /// Takes the next entry out.
-    pub fn take(&mut self) -> Submission
+    // Takes the next entry out.
+    fn take(&mut self) -> Submission
         requires some { 0 < length self.old.waiting }
         ensures taken { slice_get self.old.waiting 0 ≡ Some result }
         ensures rest { self.new ≡ advanced self.old 1 }
