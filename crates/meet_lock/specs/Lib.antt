@@ -1,3 +1,4 @@
 pub mod Lock
 pub mod SeatSteps
+pub mod MachineSteps
 pub mod Passes

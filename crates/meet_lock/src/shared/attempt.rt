@@ -25,18 +25,12 @@ impl<M: Machine> Shared<M, AnyPass> {
         ensures declined { IfErr result (Declines M.refuses pass.old pass.new step) }
         ensures alone { passes_of pass.old ≡ 1 → IsNotBusy result }
     {
-        let Some(mut machine) = self.take(&mut pass.seat) else {
+        let Some(machine) = self.take(&mut pass.seat) else {
             return Err(Declined::Busy(step));
         };
-        match machine.step(step) {
-            Ok(a) => {
-                self.give_more(&mut pass.seat, machine);
-                Ok(a)
-            }
-            Err(r) => {
-                self.give_same(&mut pass.seat, machine);
-                Err(Declined::Refused(r))
-            }
+        match self.step_out(&mut pass.seat, machine, step) {
+            Ok(answer) => Ok(answer),
+            Err(refusal) => Err(Declined::Refused(refusal)),
         }
     }
 }

@@ -1,15 +1,19 @@
 //! The steps on the lock word, and those that take the machine out of its slot and put it back.
 
-ghost use Rattle.std.specs.Prelude.{◌≡◌, [], ◌∷◌, MatchOption};
+ghost use Rattle.std.specs.Prelude.{◌≡◌, [], ◌∷◌, IfErr, IfOk, MatchOption};
 ghost use Rattle.nvme_model.specs.Passes.{entries};
 ghost use Rattle.nvme_model.specs.declared.entry.Entry.{Entry};
+ghost use Rattle.step_core.specs.declared.answer.Answer.{Answer};
 ghost use Rattle.meet_lock.specs.Lock.{grown, shown};
-ghost use Rattle.meet_lock.specs.SeatSteps.{IsIdle, IsSameSeat, KnowsTicket, Missed, Out, OutMore, OutSame, SawAll};
+ghost use Rattle.meet_lock.specs.MachineSteps.{Made, MadeNone};
+ghost use Rattle.meet_lock.specs.SeatSteps.{IsIdle, IsSameSeat, KnowsTicket, MayTell, Missed};
+ghost use Rattle.meet_lock.specs.SeatSteps.{Out, OutMore, OutSame, SawAll};
 
 use crate::machine::Machine;
 use crate::owner::StepRight;
 use crate::plays::{Leave, Take, Write};
 use crate::shared::{Place, Shared};
+use step_core::{Answer, Refused, Step};
 
 impl<M: Machine, K: StepRight> Shared<M, K> {
     // Takes the lock, and the machine out of its slot.
@@ -25,6 +29,35 @@ impl<M: Machine, K: StepRight> Shared<M, K> {
             return None;
         }
         shared.exchange(seat, 0, None)
+    }
+
+    // Makes the step of the machine that the seat took out, and gives it back.
+    pub(crate) fn step_out(
+        &self,
+        seat: &mut Place<M>,
+        mut machine: M,
+        step: Step,
+    ) -> Result<Answer, Refused>
+        requires own { seat.old.table_id ≡ self.now.table.shared.table_id }
+        requires out { OutSame M.config M.history M.legal machine seat.old.me }
+        requires may { (e : Entry) (a : Answer) → M.accepts seat.old.me.0.config (entries seat.old.me.0.held) step e a
+            → MayTell K.owned seat.old.me.0 (entries seat.old.me.0.held) e }
+        ensures same { IsSameSeat seat.old seat.new }
+        ensures made { IfOk result (Made M.legal M.accepts K.owned step seat.old.me seat.new.me) }
+        ensures refused { IfErr result (MadeNone M.refuses step seat.old.me seat.new.me) }
+        ensures told { SawAll seat.old.me.0 }
+        ensures whole { KnowsTicket seat.new.me.0 }
+    {
+        match machine.step(step) {
+            Ok(answer) => {
+                self.give_more(seat, machine);
+                Ok(answer)
+            }
+            Err(refusal) => {
+                self.give_same(seat, machine);
+                Err(refusal)
+            }
+        }
     }
 
     // Puts the machine, which has one entry more, back into its slot, and gives the lock back.

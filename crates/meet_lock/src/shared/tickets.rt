@@ -33,19 +33,15 @@ impl<M: Machine> Shared<M, TicketOwner> {
         ensures declined { IfErr result (Declines M.refuses pass.old pass.new step) }
         ensures alone { passes_of pass.old ≡ 1 → IsNotBusy result }
     {
-        let Some(mut machine) = self.take(&mut pass.seat) else {
+        let Some(machine) = self.take(&mut pass.seat) else {
             return Err(Declined::Busy(step));
         };
-        match machine.step(step) {
-            Ok(a) => {
-                self.give_more(&mut pass.seat, machine);
+        match self.step_out(&mut pass.seat, machine, step) {
+            Ok(answer) => {
                 let seat = self.unload(&mut pass.seat);
-                Ok((a, TicketSeat { seat }))
+                Ok((answer, TicketSeat { seat }))
             }
-            Err(r) => {
-                self.give_same(&mut pass.seat, machine);
-                Err(Declined::Refused(r))
-            }
+            Err(refusal) => Err(Declined::Refused(refusal)),
         }
     }
 
@@ -73,22 +69,16 @@ impl<M: Machine> Shared<M, TicketOwner> {
         ensures saw { Saw pass.new owner.old owner.new result }
         ensures alone { passes_of pass.old ≡ 1 → IsNotBusy result }
     {
-        let Some(mut machine) = self.take(&mut pass.seat) else {
+        let Some(machine) = self.take(&mut pass.seat) else {
             return Err(Declined::Busy(step));
         };
         let seat = self.unload(&mut owner.seat);
         self.load(&mut pass.seat, seat);
-        match machine.step(step) {
-            Ok(a) => {
-                self.give_more(&mut pass.seat, machine);
-                owner.seat = self.unload(&mut pass.seat);
-                Ok(a)
-            }
-            Err(r) => {
-                self.give_same(&mut pass.seat, machine);
-                owner.seat = self.unload(&mut pass.seat);
-                Err(Declined::Refused(r))
-            }
+        let stepped = self.step_out(&mut pass.seat, machine, step);
+        owner.seat = self.unload(&mut pass.seat);
+        match stepped {
+            Ok(answer) => Ok(answer),
+            Err(refusal) => Err(Declined::Refused(refusal)),
         }
     }
 }
