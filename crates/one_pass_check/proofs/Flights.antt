@@ -1,17 +1,19 @@
 -- The tickets in flight, as a table.
-use Rattle.std.proofs.Common.{◌≡◌, ◌≢◌, ℕ, zero, suc, ◌<◌, ◌==◌, ◌||◌, Bool, true, false, not, cond, List, [], ◌∷◌, ◌++◌, get_or, length, map, set, slice_get, Option, Some, None, refl, sym, ap, ap₂, ◌∙◌, subst, arith, eqb-true, nat_lt}
-use Rattle.std.specs.List.{filter, list_any, position, position_or_len}
-use Rattle.std.proofs.lemmas.Bool.{eqb-false}
+use Rattle.std.proofs.Common.{◌≡◌, ◌≢◌, ℕ, zero, suc, ◌<◌, ◌==◌, ◌||◌, Bool, true, false, not, List, [], ◌∷◌, ◌++◌, get_or, length, map, set, slice_get, Option, Some, None, refl, sym, ap, ap₂, ◌∙◌, subst, arith, cond, eq-eqb, eqb-true, inl, inr, le-ltb, lt-ltb, ltb-false, ltb-true, nat_lt, ne_eqb, ◌≤◌}
+use Rattle.std.specs.List.{filter, list_any, position, position_or_len, remove}
+use Rattle.std.specs.List.Sorted.{IsNonDecreasingBy, IsPartitionPoint}
+use Rattle.std.proofs.lemmas.Bool.{cases_lt, cond-false, cond-true}
 use Rattle.std.proofs.lemmas.Bool.Decides.{nat_tests}
 use Rattle.std.proofs.lemmas.List.{map-append}
 use Rattle.std.proofs.lemmas.List.Quantifiers.{position-Some}
+use Rattle.std.proofs.lemmas.List.Sums.{position_or_len_is}
 use Rattle.checker_tables.specs.Judged.{flies}
 use Rattle.checker_tables.specs.Tables.{Tables, tables}
 use Rattle.nvme_model.specs.History.{Past}
 use Rattle.nvme_model.specs.declared.config.ConfigNumbers.{ConfigNumbers}
 use Rattle.nvme_model.proofs.Lists.{Each, each_get, each_map}
 use Rattle.ticket_standing.specs.Standing.{flying}
-use Rattle.ticket_standing.proofs.Flying.{Rising, has_flying}
+use Rattle.ticket_standing.proofs.Flying.{Rising, flying_rises, has_flying}
 use Rattle.one_pass_check.specs.Kept.{Keeps, Kept, flight_in}
 use Rattle.one_pass_check.specs.declared.fields.InFlight.{InFlight}
 
@@ -48,6 +50,51 @@ some_placed : (b : Bool) (i j : ℕ) → cond b (Some i) None ≡ Some j → b �
 some_placed true i j e = refl
 some_placed false i j e = absurd cc
 
+-- ---- by halves
+
+-- the tickets of a table rise
+all_above : (g : ℕ → InFlight) (u : ℕ) (ts : List ℕ) (j : ℕ) (d : InFlight) → IsOwn g → Each (λ v. u < v) ts → j < length (map g ts) → u < (get_or (map g ts) j d).ticket
+all_above g u [] j d o a l = absurd (omega (arith, l))
+all_above g u (v ∷ vs) zero d o a l = omega (arith, a.0, o.ticket v)
+all_above g u (v ∷ vs) (suc j) d o a l = all_above g u vs j d o a.1 (omega (arith, l))
+
+rises_far : (g : ℕ → InFlight) (ts : List ℕ) → IsOwn g → Rising ts → IsNonDecreasingBy (λ (e : InFlight). e.ticket) (map g ts)
+rises_far g [] o r i j d le l = absurd (omega (arith, l))
+rises_far g (u ∷ us) o r zero zero d le l = omega arith
+rises_far g (u ∷ us) o r zero (suc j) d le l = omega (arith, o.ticket u, all_above g u us j d o r.0 (omega (arith, l)))
+rises_far g (u ∷ us) o r (suc i) zero d le l = absurd (omega (arith, le))
+rises_far g (u ∷ us) o r (suc i) (suc j) d le l = rises_far g us o r.1 i j d (omega (arith, le)) (omega (arith, l))
+
+-- none is this one
+nowhere : (t : ℕ) (xs : List InFlight) (d : InFlight) → ((k : ℕ) → k < length xs → (get_or xs k d).ticket ≢ t) → None ≡ position (λ (e : InFlight). e.ticket == t) xs
+nowhere t xs d others =
+    let at : position_or_len (λ (e : InFlight). e.ticket == t) xs ≡ length xs = position_or_len_is (λ (e : InFlight). e.ticket == t) xs (length xs) d (omega arith) (λ k l. ne_eqb _ t (others k l)) (λ l. absurd (omega (arith, l))) in
+    sym (cond-false _ (Some (position_or_len (λ (e : InFlight). e.ticket == t) xs)) None (le-ltb _ _ (omega (arith, at))))
+
+-- where they stop being below one
+abbrev pub IsPoint : ℕ → List InFlight → ℕ → Type 0
+IsPoint t xs i = IsPartitionPoint (λ (e : InFlight). nat_lt e.ticket t ≡ true) (λ (e : InFlight). nat_lt e.ticket t ≡ false) xs i
+
+-- it stands there
+pub halves_some : (t : ℕ) (xs : List InFlight) (i : ℕ) (d : InFlight) → IsPoint t xs i → i < length xs → (get_or xs i d).ticket ≡ t → Some i ≡ position (λ (e : InFlight). e.ticket == t) xs
+halves_some t xs i d point within e =
+    let at : position_or_len (λ (x : InFlight). x.ticket == t) xs ≡ i = position_or_len_is (λ (x : InFlight). x.ticket == t) xs i d (omega (arith, within))
+    (λ k l. ne_eqb _ t (λ (q : (get_or xs k d).ticket ≡ t). omega (arith, q, ltb-true _ t (point.0 k d (omega arith) l)))) (λ l. eq-eqb _ t e) in
+    sym (cond-true _ (Some (position_or_len (λ (x : InFlight). x.ticket == t) xs)) None (lt-ltb _ _ (omega (arith, at, within))) ∙ ap (λ n. Some n) at)
+
+-- or another does
+pub halves_none : (t : ℕ) (xs : List InFlight) (i : ℕ) (d : InFlight) → IsPoint t xs i → IsNonDecreasingBy (λ (e : InFlight). e.ticket) xs → i < length xs → (get_or xs i d).ticket ≢ t
+    → None ≡ position (λ (e : InFlight). e.ticket == t) xs
+halves_none t xs i d point rises within isnt = nowhere t xs d (λ k l q. elim (cases_lt k i) [
+  | inl below ↦ omega (arith, q, ltb-true _ t (point.0 k d (omega arith) below))
+  | inr above ↦ isnt (omega (arith, q, rises i k d above l, ltb-false _ t (point.1 i d (omega arith) within)))
+])
+
+-- or none
+pub halves_past : (t : ℕ) (xs : List InFlight) (i : ℕ) → IsPoint t xs i → length xs ≤ i → None ≡ position (λ (e : InFlight). e.ticket == t) xs
+halves_past t [] i point past = refl
+halves_past t (x ∷ xs) i point past = nowhere t (x ∷ xs) x (λ k l q. omega (arith, q, ltb-true _ t (point.0 k x (omega arith) (omega (arith, l, past)))))
+
 -- ---- what a change of one leaves
 
 same_map : (g h : ℕ → InFlight) (ts : List ℕ) → Each (λ u. h u ≡ g u) ts → map g ts ≡ map h ts
@@ -73,17 +120,29 @@ set_same [] i x l e = absurd (omega (arith, l))
 set_same (y ∷ ys) zero x l e = ap (λ (z : InFlight). z ∷ ys) e
 set_same (y ∷ ys) (suc i) x l e = ap (λ (zs : List InFlight). y ∷ zs) (set_same ys i x (omega (arith, l)) e)
 
--- one fewer
-pub less_one : (g h : ℕ → InFlight) (ts : List ℕ) (t : ℕ) → IsOwn g → ((u : ℕ) → u ≢ t → h u ≡ g u) → filter (λ (e : InFlight). not (e.ticket == t)) (map g ts) ≡ map h (filter (λ u. not (u == t)) ts)
-less_one g h [] t o s = refl
-less_one g h (u ∷ us) t o s =
-    ap (λ n. cond (not (n == t)) (g u ∷ filter (λ (e : InFlight). not (e.ticket == t)) (map g us)) (filter (λ (e : InFlight). not (e.ticket == t)) (map g us))) (o.ticket u)
-    ∙ go (u == t) refl (less_one g h us t o s)
+-- one fewer, at its place
+none_above : (t : ℕ) (ts : List ℕ) → Each (λ u. t < u) ts → filter (λ u. not (u == t)) ts ≡ ts
+none_above t [] a = refl
+none_above t (u ∷ us) a =
+    cond-true (not (u == t)) (u ∷ filter (λ v. not (v == t)) us) (filter (λ v. not (v == t)) us) (ap not (ne_eqb u t (λ (q : u ≡ t). omega (arith, q, a.0))))
+    ∙ ap (λ (ys : List ℕ). u ∷ ys) (none_above t us a.1)
+
+pub less_one : (g h : ℕ → InFlight) (ts : List ℕ) (i t : ℕ) → Rising ts → slice_get ts i ≡ Some t → ((u : ℕ) → u ≢ t → h u ≡ g u) → remove (map g ts) i ≡ map h (filter (λ u. not (u == t)) ts)
+less_one g h [] i t r s o = absurd (let f : None ≡ Some t = s in cc)
+less_one g h (u ∷ us) zero t r s o =
+    let same : u ≡ t = some_inj s in
+    same_map g h us (each_map (λ v. u < v) (λ v. h v ≡ g v) (λ v l. o v (λ q. omega (arith, q, same, l))) us r.0)
+    ∙ ap (map h) (sym (
+    cond-false (not (u == t)) (u ∷ filter (λ v. not (v == t)) us) (filter (λ v. not (v == t)) us) (ap not (eq-eqb u t same))
+    ∙ none_above t us (each_map (λ v. u < v) (λ v. t < v) (λ v l. omega (arith, same, l)) us r.0)
+    ))
   where
-    go : (b : Bool) → (u == t) ≡ b → filter (λ (e : InFlight). not (e.ticket == t)) (map g us) ≡ map h (filter (λ v. not (v == t)) us)
-        → cond (not b) (g u ∷ filter (λ (e : InFlight). not (e.ticket == t)) (map g us)) (filter (λ (e : InFlight). not (e.ticket == t)) (map g us)) ≡ map h (cond (not b) (u ∷ filter (λ v. not (v == t)) us) (filter (λ v. not (v == t)) us))
-    go true q ih = ih
-    go false q ih = ap₂ (λ (y : InFlight) (ys : List InFlight). y ∷ ys) (sym (s u (eqb-false u t q))) ih
+    some_inj : Some u ≡ Some t → u ≡ t
+    some_inj w = cc
+less_one g h (u ∷ us) (suc i) t r s o =
+    let below : u < t = each_get (λ v. u < v) us i t r.0 s in
+    ap₂ (λ (y : InFlight) (ys : List InFlight). y ∷ ys) (sym (o u (λ q. omega (arith, q, below)))) (less_one g h us i t r.1 s o)
+    ∙ ap (map h) (sym (cond-true (not (u == t)) (u ∷ filter (λ v. not (v == t)) us) (filter (λ v. not (v == t)) us) (ap not (ne_eqb u t (λ (q : u ≡ t). omega (arith, q, below))))))
 
 -- one more
 pub more_one : (g h : ℕ → InFlight) (ts : List ℕ) (t : ℕ) (x : InFlight) → Each (λ u. h u ≡ g u) ts → x ≡ h t → map g ts ++ x ∷ [] ≡ map h (ts ++ t ∷ [])
@@ -122,6 +181,12 @@ module _ (c : ConfigNumbers) (past : Past) (k : Kept) (keeps : Keeps c past k) (
   -- and its place
   pub placed : (i : ℕ) → position (λ (e : InFlight). e.ticket == t) k.flights ≡ Some i → i < length k.flights
   placed i e = (position-Some (λ (e : InFlight). e.ticket == t) k.flights i (flight_in c (tables c past) 0) e).0
+
+  -- its tickets rise
+  pub rises_by : (xs : List InFlight) → xs ≡ k.flights → IsNonDecreasingBy (λ (e : InFlight). e.ticket) xs
+  rises_by xs same =
+      subst (IsNonDecreasingBy (λ (e : InFlight). e.ticket)) (sym (same ∙ keeps.shows.in_flight))
+      (rises_far (flight_in c (tables c past)) (flying past) (own_flight c (tables c past)) (flying_rises past))
 
   -- the same by what a search of the table gave
   pub missing_by : (xs : List InFlight) (o : Option ℕ) → xs ≡ k.flights → o ≡ position (λ (e : InFlight). e.ticket == t) xs → o ≡ None → flies ((tables c past).flight t) ≡ false

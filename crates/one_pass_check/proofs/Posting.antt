@@ -1,6 +1,6 @@
 -- What a Post finds, and what is kept after it.
 use Rattle.std.proofs.Common.{◌≡◌, ◌≢◌, ℕ, zero, suc, ◌+◌, ◌-◌, ◌%◌, ◌/◌, ◌≤◌, ◌<◌, ◌^◌, ◌==◌, ◌&&◌, Bool, true, false, not, cond, List, [], ◌∷◌, ◌++◌, length, get_or, map, replicate, set, slice_get, Some, None, is_none, refl, sym, ap, ◌∙◌, subst, arith, eqb, eq-eqb, ne_eqb, ltb-true, ltb-false, nat_lt, add-one}
-use Rattle.std.specs.List.{filter}
+use Rattle.std.specs.List.{filter, remove}
 use Rattle.std.proofs.lemmas.Bool.{or_parts}
 use Rattle.std.proofs.lemmas.List.{append-nil, length-map, length-replicate, length_push, map-append}
 use Rattle.std.proofs.Math.Nat.{mod-lt}
@@ -34,7 +34,7 @@ use Rattle.one_pass_check.specs.Kept.{Keeps, Kept, flight_in}
 use Rattle.one_pass_check.specs.Rings.{bare, completion_ring, submission_ring}
 use Rattle.one_pass_check.specs.Steps.{Took}
 use Rattle.one_pass_check.specs.declared.fields.InFlight.{InFlight}
-use Rattle.one_pass_check.proofs.Flights.{IsThere, less_one, own_flight, set_place}
+use Rattle.one_pass_check.proofs.Flights.{IsThere, less_one, set_place}
 use Rattle.one_pass_check.proofs.Following.{none_flies, took_not}
 use Rattle.one_pass_check.proofs.Rings.{IsPlace, IsTable-set, apart, ring_at}
 
@@ -281,10 +281,10 @@ module _ (c : ConfigNumbers) (past : Past) (k : Kept) (keeps : Keeps c past k) (
             ∙ ap (λ b. map (flight_in c (taken c (tables c past) (Entry.Post p))) (cond b (flying past) (filter (λ t. not (t == p.ticket)) (flying past)))) (sym (ap flies_on (sym flight_is) ∙ on)))
 
         -- or has its last
-        pub post_off : (fs : List InFlight) → flies_on x.flight ≡ false → fs ≡ filter (λ (e : InFlight). not (e.ticket == p.ticket)) k.flights
+        pub post_off : (fs : List InFlight) → flies_on x.flight ≡ false → fs ≡ remove k.flights i
             → Took c past (Entry.Post p) true (record k { completion = set k.completion ((x.flight.ticket.queue - 1) % c.cqs) y; flights = fs })
         post_off fs off is_fs =
             took fs
-            (is_fs ∙ ap (filter (λ (e : InFlight). not (e.ticket == p.ticket))) keeps.shows.in_flight
-            ∙ less_one (flight_in c (tables c past)) (flight_in c (taken c (tables c past) (Entry.Post p))) (flying past) p.ticket (own_flight c (tables c past)) flight_others
+            (is_fs ∙ ap (λ (xs : List InFlight). remove xs i) keeps.shows.in_flight
+            ∙ less_one (flight_in c (tables c past)) (flight_in c (taken c (tables c past) (Entry.Post p))) (flying past) i p.ticket (flying_rises past) there.place flight_others
             ∙ ap (λ b. map (flight_in c (taken c (tables c past) (Entry.Post p))) (cond b (flying past) (filter (λ t. not (t == p.ticket)) (flying past)))) (sym (ap flies_on (sym flight_is) ∙ off)))

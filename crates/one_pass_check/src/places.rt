@@ -1,6 +1,8 @@
 //! Where a queue and a ticket stand in what is kept.
 
+ghost use Rattle.std.specs.List.Sorted.{IsNonDecreasingBy};
 ghost use Rattle.std.specs.Prelude.{◌≡◌, ◌+◌, ◌<◌, ◌==◌, ◌||◌, MatchOption, nat_lt, position, true};
+ghost use Rattle.one_pass_check.specs.declared.fields.InFlight.{InFlight};
 
 use crate::fields::InFlight;
 
@@ -15,9 +17,14 @@ pub fn ring_place(queue: u16, count: usize) -> Option<usize>
     Some(usize::from(queue) - 1)
 }
 
-/// The place of a ticket in flight.
+/// The place of a ticket in flight, found by halves among those by rising ticket.
 pub fn ticket_place(flights: &[InFlight], ticket: u64) -> Option<usize>
+    requires rising { IsNonDecreasingBy (λ (e : InFlight). e.ticket) flights.now }
     ensures value { result ≡ position (λ e. e.ticket == ticket) flights.now }
 {
-    flights.iter().position(|one| one.ticket == ticket)
+    let place = flights.partition_point(|one| one.ticket < ticket);
+    if place < flights.len() && flights[place].ticket == ticket {
+        return Some(place);
+    }
+    None
 }

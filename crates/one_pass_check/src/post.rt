@@ -1,26 +1,18 @@
 //! Post: a ticket's next completion goes into its completion queue.
 
-ghost use Rattle.std.specs.List.{filter};
-ghost use Rattle.std.specs.Prelude.{◌≡◌, ◌==◌, not};
+ghost use Rattle.std.specs.Prelude.{◌≡◌};
 ghost use Rattle.nvme_model.specs.History.{Past};
 ghost use Rattle.nvme_model.specs.declared.config.ConfigNumbers.{ConfigNumbers};
 ghost use Rattle.nvme_model.specs.declared.entry.Entry.{Entry};
 ghost use Rattle.one_pass_check.specs.Kept.{Keeps, kept_in};
 ghost use Rattle.one_pass_check.specs.Steps.{Took};
 
-use crate::fields::{Fields, InFlight};
+use crate::fields::Fields;
 use crate::places::ticket_place;
 use history::Config;
 use nvme_model::entry::PostLine;
 use nvme_model::submission::Payload;
 use std::alloc::Global;
-
-// Takes a ticket out of flight.
-fn remove_ticket(flights: &mut Vec<InFlight>, ticket: u64)
-    ensures value { flights.new.items ≡ filter (λ e. not (e.ticket == ticket)) flights.old.items }
-{
-    flights.retain(|one| one.ticket != ticket);
-}
 
 /// Takes a Post, and says whether it may follow. Takes no memory.
 pub fn take_post(alloc: Global, config: &Config, fields: &mut Fields, line: &PostLine) -> bool
@@ -52,6 +44,6 @@ pub fn take_post(alloc: Global, config: &Config, fields: &mut Fields, line: &Pos
         fields.flights[place].flight.post();
         return true;
     }
-    remove_ticket(&mut fields.flights, line.ticket);
+    fields.flights.remove(place);
     true
 }

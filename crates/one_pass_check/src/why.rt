@@ -75,6 +75,7 @@ fn why_not_granted(one: &InFlight, ranges: &Ranges, line: &GrantLine) -> Option<
 }
 
 fn why_grant(fields: &Fields, line: &GrantLine) -> Option<Broken>
+    requires keeps { (c : ConfigNumbers) × (past : Past) × Keeps c past (kept_in fields.now) }
     ensures value { (c : ConfigNumbers) (past : Past) →
         Keeps c past (kept_in fields.now) → result ≡ broken_by c (tables c past) (Entry.Grant line.now) }
 {

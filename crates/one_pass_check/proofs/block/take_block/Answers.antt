@@ -8,8 +8,11 @@ use Rattle.nvme_model.specs.Tickets.{Ticket}
 use Rattle.one_pass_check.specs.Kept.{kept_in}
 use Rattle.one_pass_check.specs.declared.fields.InFlight.{InFlight}
 use Rattle.one_pass_check.proofs.Blocking.{block_few, block_missing, block_no, block_one, block_open, block_range, block_whole, block_within, block_yes, moved_by, ticket_stays}
-use Rattle.one_pass_check.proofs.Flights.{found_by, missing_by, placed_by, set_same}
+use Rattle.one_pass_check.proofs.Flights.{found_by, missing_by, placed_by, rises_by, set_same}
 use Rattle.one_pass_check.proofs.block.take_block.Goals as goal
+
+pub ticket_place-requires : goal.ticket_place-requires
+ticket_place-requires c = record { rising = rises_by _ _ _ c.requires.keeps.2 c.args.line.now.ticket _ c.as_slice.ensures.value }
 
 pub returns-in_default-clause-took : goal.returns-in_default-clause-took
 returns-in_default-clause-took c = λ n past k.

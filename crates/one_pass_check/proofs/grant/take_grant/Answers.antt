@@ -4,9 +4,12 @@ use Rattle.range_reserve.specs.declared.held.Held.{Held}
 use Rattle.checker_tables.specs.Tables.{Flight}
 use Rattle.checker_tables.specs.Taken.{opened_flight}
 use Rattle.one_pass_check.specs.declared.fields.InFlight.{InFlight}
-use Rattle.one_pass_check.proofs.Flights.{found_by, missing_by}
+use Rattle.one_pass_check.proofs.Flights.{found_by, missing_by, rises_by}
 use Rattle.one_pass_check.proofs.Granting.{grant_apart, grant_few, grant_free, grant_missing, grant_no, grant_range, grant_yes}
 use Rattle.one_pass_check.proofs.grant.take_grant.Goals as goal
+
+pub ticket_place-requires : goal.ticket_place-requires
+ticket_place-requires c = record { rising = rises_by _ _ _ c.requires.keeps.2 c.args.line.now.ticket _ c.as_slice.ensures.value }
 
 pub returns-in_default-clause-took : goal.returns-in_default-clause-took
 returns-in_default-clause-took c = λ n past k.

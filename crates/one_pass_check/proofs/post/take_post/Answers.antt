@@ -8,12 +8,15 @@ use Rattle.one_pass_check.specs.Kept.{kept_in}
 use Rattle.one_pass_check.specs.Steps.{Took}
 use Rattle.one_pass_check.specs.declared.fields.InFlight.{InFlight}
 use Rattle.nvme_model.specs.declared.config.ConfigNumbers.{ConfigNumbers}
-use Rattle.one_pass_check.proofs.Flights.{found_by, missing_by}
+use Rattle.one_pass_check.proofs.Flights.{found_by, missing_by, placed_by, rises_by}
 use Rattle.one_pass_check.proofs.Posting.{post_count, post_cq_place, post_few, post_full, post_low, post_missing, post_nothing, post_off, post_on, post_same, post_sq_place, post_unfit}
 use Rattle.checked_tickets.specs.Contents.{post_fits_at}
 use Rattle.checker_tables.specs.Judged.{owed_by}
 use Rattle.entry_codec.specs.Cqe.{phase_bit}
 use Rattle.one_pass_check.proofs.post.take_post.Goals as goal
+
+pub ticket_place-requires : goal.ticket_place-requires
+ticket_place-requires c = record { rising = rises_by _ _ _ c.requires.keeps.1 c.args.line.now.ticket _ c.as_slice.ensures.value }
 
 pub returns-in_default : goal.returns-in_default
 returns-in_default c = record {
@@ -106,6 +109,9 @@ returns-then-flies_on c = record {
       (ap (λ (f : Flight). record c.index_mut-then-flies_on.result.now { flight = f }) c.post-then-flies_on.ensures.value ∙ ap (λ (x : InFlight). record x { flight = posted_flight x.flight }) (here.is ∙ sym there.is)));
 }
 
+pub remove-requires : goal.remove-requires
+remove-requires c = omega (arith, placed_by _ _ _ c.requires.keeps.1 c.args.line.now.ticket c.in-Some.place _ _ c.as_slice.ensures.value c.ticket_place.ensures.value c.in-Some.is)
+
 pub returns : goal.returns
 returns c = record {
   took = λ past k.
@@ -121,7 +127,7 @@ returns c = record {
       let fits = (λ i. post_fits_at (sym c.head-head.ensures.value i) (phase_bit ((ap (λ (r : CompletionRing). r.phase) same ∙ sym c.phase-phase.ensures.value) i)) c.index-one.result.now.flight c.args.line.now (slice_get (owed_by c.args.config.now c.index-one.result.now.flight) c.index-one.result.now.flight.posts))
       ∙ sym (c.post_fits.ensures.value c.args.config.now count) ∙ c.if-not-post_fits.false in
       let more = c.in-Ok.ensures.ok ∙ ap (λ (xs : List ℕ). posted_ring c.index_mut.result.now (record { cqe = c.args.line.now.cqe; payload = xs })) (c.new-nothing.ensures ∙ c.new.ensures.items) in
-      subst (λ (n : ℕ). Took c.args.config.now past (Entry.Post c.args.line.now) true (record (kept_in c.args.fields.now) { completion = set c.args.fields.now.completion.items n c.post.new.self; flights = c.remove_ticket.new.flights.items })) (sym at)
+      subst (λ (n : ℕ). Took c.args.config.now past (Entry.Post c.args.line.now) true (record (kept_in c.args.fields.now) { completion = set c.args.fields.now.completion.items n c.post.new.self; flights = c.remove.new.self.items })) (sym at)
       (post_off _ past _ k c.args.line.now c.in-Some.place c.index-one.result.now there c.index.result.now c.index_mut.result.now sq own owes fits c.in-Ok.ensures.room c.post.new.self more _
-      (sym c.flies_on-flies_on.ensures.value ∙ c.if-flies_on.false) c.remove_ticket.ensures.value);
+      (sym c.flies_on-flies_on.ensures.value ∙ c.if-flies_on.false) c.remove.ensures.items);
 }

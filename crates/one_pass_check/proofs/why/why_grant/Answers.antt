@@ -1,7 +1,10 @@
 use Rattle.std.proofs.Common.{◌∙◌}
-use Rattle.one_pass_check.proofs.Flights.{found_by, missing_by}
+use Rattle.one_pass_check.proofs.Flights.{found_by, missing_by, rises_by}
 use Rattle.one_pass_check.proofs.Telling.{tell_grant, tell_no_grant}
 use Rattle.one_pass_check.proofs.why.why_grant.Goals as goal
+
+pub ticket_place-requires : goal.ticket_place-requires
+ticket_place-requires c = record { rising = rises_by _ _ _ c.requires.keeps.2 c.args.line.now.ticket _ c.as_slice.ensures.value }
 
 pub returns-in_default : goal.returns-in_default
 returns-in_default c = record {

@@ -4,10 +4,13 @@ use Rattle.checker_tables.specs.Judged.{owed_by}
 use Rattle.entry_codec.specs.Cqe.{phase_bit}
 use Rattle.nvme_model.specs.Tickets.{Ticket}
 use Rattle.nvme_model.specs.declared.config.ConfigNumbers.{ConfigNumbers}
-use Rattle.one_pass_check.proofs.Flights.{found_by, missing_by}
+use Rattle.one_pass_check.proofs.Flights.{found_by, missing_by, rises_by}
 use Rattle.one_pass_check.proofs.Posting.{post_count, post_cq_place, post_low, post_sq_place}
 use Rattle.one_pass_check.proofs.Telling.{tell_cq_full, tell_no_post, tell_nothing, tell_post}
 use Rattle.one_pass_check.proofs.why.why_post.Goals as goal
+
+pub ticket_place-requires : goal.ticket_place-requires
+ticket_place-requires c = record { rising = rises_by _ _ _ c.requires.keeps.1 c.args.line.now.ticket _ c.as_slice.ensures.value }
 
 pub returns-in_default : goal.returns-in_default
 returns-in_default c = record {

@@ -1,6 +1,0 @@
-use Rattle.std.proofs.Common.{rules}
-use Rattle.std.proofs.lemmas.Fn.{filter_same}
-use Rattle.one_pass_check.proofs.post.remove_ticket.Goals as goal
-
-pub returns : goal.returns
-returns c = record { value = filter_same _ _ _ (λ x b f' k. search rules) _ _ c.retain.ensures.filtered }
