@@ -15,7 +15,7 @@ use Rattle.history.specs.Lines.{HasLine}
 use Rattle.race_run.specs.Races.{PrintsLegal}
 use Rattle.race_run.specs.Texts.{history_text}
 use Rattle.race_run.proofs.Judging.{none_bad}
-use Rattle.casdisk_script.specs.Files.{ChecksText, EndsUnsaid, IsAnswer, IsAnswerOf, file_of, legal_text}
+use Rattle.casdisk_script.specs.Files.{ChecksText, EndsSo, IsAnswer, IsAnswerOf, IsUnread, file_of, legal_text}
 use Rattle.casdisk_script.specs.Script.{End, Outcome, bad_config, bad_line, cut, done, first_config}
 use Rattle.casdisk_script.specs.declared.fault.RunFault.{RunFault}
 use Rattle.casdisk_script.specs.declared.fault.RunFault.TheVariants.{BadConfig, BadLine, Input, NoMemory, Output}
@@ -47,19 +47,22 @@ module _ (c : ConfigNumbers) (past : Past) (is : HasConfigLine c) (accepted : co
         told answer said (subst (λ d. IsAnswer d past answer said) same (subst (λ p. IsAnswer h.1.0 p answer said) made h.1.2))
 
     -- it has no other end
-    no_end : (e : End) (old new : Option (List ℕ)) → (e ≢ done) → EndsUnsaid e (Some (history_text c (reverse past))) old new → ⊥
-    no_end e old new other h = other (sym h.0 ∙ ended)
+    no_end : (e : End) → (e ≢ done) → EndsSo e (Some (history_text c (reverse past))) → ⊥
+    no_end e other h = other (sym h ∙ ended)
+
+    no_bad_line : (n : ℕ) (left : Option (List ℕ)) → IsUnread (BadLine n) (Some (history_text c (reverse past))) left → ⊥
+    no_bad_line n left (inl h) = no_end (bad_line n) (λ e. cc) h
+    no_bad_line n left (inr h) = no_end (cut n) (λ e. cc) h
 
     pub says : (res : Result Bool RunFault) (left old new : Option (List ℕ)) → ChecksText res (Some (history_text c (reverse past))) left old new → SaysLegal res old new
     says (Ok answer) left old new h =
         let one = only answer h.1.0 h.1.1 in
         (one.0, subst (λ t. Appends old new t) one.1 h.1.2)
     says (Err Output) left old new h = subst (λ t. AppendsFront old new t) (only h.0 h.1 h.2).1 h.3
-    says (Err Input) left old new h = h.3
-    says (Err NoMemory) left old new h = h
-    says (Err (BadLine n)) left old new (inl h) = no_end (bad_line n) old new (λ e. cc) h
-    says (Err (BadLine n)) left old new (inr h) = no_end (cut n) old new (λ e. cc) h
-    says (Err (BadConfig n)) left old new h = no_end (bad_config n) old new (λ e. cc) h
+    says (Err Input) left old new h = h.1
+    says (Err NoMemory) left old new h = h.1
+    says (Err (BadLine n)) left old new h = absurd (no_bad_line n left h.0)
+    says (Err (BadConfig n)) left old new h = absurd (no_end (bad_config n) (λ e. cc) h.0)
 
 -- what a race wrote
 pub race_says : (c : ConfigNumbers) → HasConfigLine c → config_fault c ≡ None → (written : List ℕ) (res : Result Bool RunFault) (left old new : Option (List ℕ))

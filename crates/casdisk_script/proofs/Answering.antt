@@ -1,58 +1,65 @@
--- A check of a file, from what the reading of its lines gave.
-use Rattle.std.proofs.Common.{◌≡◌, ℕ, List, None, Some, inl, inr, sym, subst}
+-- What is said of a file, from what the reading of its lines gave.
+use Rattle.std.proofs.Common.{◌≡◌, ℕ, List, None, Some, true, false, inl, inr, refl, sym, subst}
 use Rattle.std.specs.Prelude.{Bool, IfSome, Option, Result, Ok, Err, is_none}
-use Rattle.std.specs.Io.KnownBytes.{Appends}
+use Rattle.std.specs.Io.KnownBytes.{IsAtEnd}
 use Rattle.std.proofs.KnownBytes.{Keeps-refl}
-use Rattle.line_text.specs.Known.{AppendsFront}
 use Rattle.line_text.specs.Lines.{whole_lines}
 use Rattle.nvme_model.specs.declared.config.ConfigNumbers.{ConfigNumbers}
 use Rattle.one_pass_check.specs.Kept.{State}
+use Rattle.casdisk_script.specs.Explained.{IsExplained, explained_of}
 use Rattle.casdisk_script.specs.Fault.{fault_in_memory}
-use Rattle.casdisk_script.specs.Files.{ChecksText, EndsUnsaid, IsAnswerOf, entry_added}
-use Rattle.casdisk_script.specs.Judged.{HasJudged, Tells, answer_text}
+use Rattle.casdisk_script.specs.Files.{ChecksText, EndsSo, HasHistory, IsAnswerOf, IsUnread, entry_added, file_of}
+use Rattle.casdisk_script.specs.Judged.{HasFirstBad, HasJudged, Tells, answer_text}
 use Rattle.casdisk_script.specs.Running.{Makes, PrintsAll, Runs}
-use Rattle.casdisk_script.proofs.Placing.{answered_by}
 use Rattle.casdisk_script.specs.Script.{End, bad_config, bad_line, cut, first_config, outcome}
 use Rattle.casdisk_script.specs.declared.fault.RunFault.{RunFault}
 use Rattle.casdisk_script.specs.declared.fault.RunFault.TheVariants.{BadLine, BadConfig, Input, Output, NoMemory}
+use Rattle.casdisk_script.specs.declared.judging.FirstBad.{FirstBad}
+use Rattle.casdisk_script.proofs.Placing.{answered_by, explained_by}
 
--- the lines weren't all read
-module _ (t w u v : Option (List ℕ)) where
-  unsaid_of : (e : End) (r : Option (List ℕ)) → PrintsAll (outcome (λ c. entry_added)) e r w u → EndsUnsaid e r v v
-  unsaid_of e None p = tt
-  unsaid_of e (Some x) p = (p.0, Keeps-refl v)
+-- ---- the lines weren't all read
 
-  pub stopped : (f : RunFault) (r : Option (List ℕ)) → Runs (outcome (λ c. entry_added)) (Err f) r t w u → ChecksText (Err (fault_in_memory f)) r t v v
-  stopped (BadLine n) r (inl h) = inl (unsaid_of (bad_line n) r h)
-  stopped (BadLine n) r (inr h) = inr (unsaid_of (cut n) r h)
-  stopped (BadConfig n) r h = unsaid_of (bad_config n) r h
-  stopped Input r h = (h.0, h.1, h.2, Keeps-refl v)
-  stopped Output r h = Keeps-refl v
-  stopped NoMemory r h = Keeps-refl v
+ends_of : (e : End) (r w u : Option (List ℕ)) → PrintsAll (outcome (λ c. entry_added)) e r w u → EndsSo e r
+ends_of e None w u p = tt
+ends_of e (Some bytes) w u p = p.0
 
--- they were
-module _ (c : ConfigNumbers) (checker : State) (count : ℕ) (bad : Option ℕ) (t w u v x : Option (List ℕ)) where
-  whole : (r : Option (List ℕ)) → Runs (outcome (λ c. entry_added)) (Ok tt) r t w u → Makes (outcome (λ c. entry_added)) (Ok tt) r (λ past. HasJudged c past checker count bad)
-      → IfSome r (λ bytes. first_config (whole_lines bytes) ≡ Some c) → IfSome r (λ bytes. IsAnswerOf bytes (is_none bad) (answer_text bad))
-  whole None ran makes known = tt
-  whole (Some bytes) ran makes known = (ran.0.0, (c, known, answered_by c (outcome (λ c. entry_added) bytes).past bad makes.place))
+pub unread : (f : RunFault) (r t w u : Option (List ℕ)) → Runs (outcome (λ c. entry_added)) (Err f) r t w u → IsUnread (fault_in_memory f) r t
+unread (BadLine n) r t w u (inl h) = inl (ends_of (bad_line n) r w u h)
+unread (BadLine n) r t w u (inr h) = inr (ends_of (cut n) r w u h)
+unread (BadConfig n) r t w u h = ends_of (bad_config n) r w u h
+unread Input r t w u h = (h.0, h.1, h.2)
+unread Output r t w u h = tt
+unread NoMemory r t w u h = tt
 
-  with_text : (r : Option (List ℕ)) (answer : Bool) (text : List ℕ) → IfSome r (λ bytes. IsAnswerOf bytes answer text) → Appends v x text
-      → IfSome r (λ bytes. (text : List ℕ) × IsAnswerOf bytes answer text × Appends v x text)
-  with_text None answer text is p = tt
-  with_text (Some bytes) answer text is p = (text, is, p)
+pub unsaid : (f : RunFault) (r t v : Option (List ℕ)) → IsUnread f r t → ChecksText (Err f) r t v v
+unsaid (BadLine n) r t v h = (h, Keeps-refl v)
+unsaid (BadConfig n) r t v h = (h, Keeps-refl v)
+unsaid Input r t v h = (h, Keeps-refl v)
+unsaid Output r t v h = absurd h
+unsaid NoMemory r t v h = (h, Keeps-refl v)
 
-  with_front : (r : Option (List ℕ)) (answer : Bool) (text : List ℕ) → IfSome r (λ bytes. IsAnswerOf bytes answer text) → AppendsFront v x text
-      → IfSome r (λ bytes. (answer : Bool) × (text : List ℕ) × IsAnswerOf bytes answer text × AppendsFront v x text)
-  with_front None answer text is p = tt
-  with_front (Some bytes) answer text is p = (answer, text, is, p)
+-- ---- they were
 
-  pub answered : (res : Result Bool RunFault) (r : Option (List ℕ)) → Runs (outcome (λ c. entry_added)) (Ok tt) r t w u → Makes (outcome (λ c. entry_added)) (Ok tt) r (λ past. HasJudged c past checker count bad)
-      → IfSome r (λ bytes. first_config (whole_lines bytes) ≡ Some c) → Tells bad res v x → ChecksText res r t v x
-  answered (Ok answer) r ran makes known told =
-      (ran.1, with_text r answer (answer_text bad) (subst (λ b. IfSome r (λ bytes. IsAnswerOf bytes b (answer_text bad))) (sym told.0) (whole r ran makes known)) told.1)
-  answered (Err (BadLine n)) r ran makes known told = absurd told
-  answered (Err (BadConfig n)) r ran makes known told = absurd told
-  answered (Err Input) r ran makes known told = absurd told
-  answered (Err Output) r ran makes known told = with_front r (is_none bad) (answer_text bad) (whole r ran makes known) told
-  answered (Err NoMemory) r ran makes known told = absurd told
+pub whole : (why : Bool) (c : ConfigNumbers) (checker : State) (count : ℕ) (bad : FirstBad) (r t w u : Option (List ℕ)) → Runs (outcome (λ c. entry_added)) (Ok tt) r t w u
+    → Makes (outcome (λ c. entry_added)) (Ok tt) r (λ past. HasJudged why c past checker count bad) → IfSome r (λ bytes. first_config (whole_lines bytes) ≡ Some c)
+    → IsAtEnd t × IfSome r (HasHistory (λ c past. HasFirstBad why c past bad))
+whole why c checker count bad None t w u ran makes known = (ran.1, tt)
+whole why c checker count bad (Some bytes) t w u ran makes known = (ran.1, (ran.0.0, (c, known, makes.first)))
+
+module _ (bad : FirstBad) where
+  pub explained : (r : Option (List ℕ)) → IfSome r (HasHistory (λ c past. HasFirstBad true c past bad)) → IfSome r (HasHistory (λ c past. IsExplained c past (explained_of bad.place bad.broken)))
+  explained None h = tt
+  explained (Some bytes) h = (h.0, (h.1.0, h.1.1, explained_by h.1.0 (file_of bytes).past bad.place bad.broken h.1.2.place (h.1.2.rule refl)))
+
+  answer_of : (bytes : List ℕ) → HasHistory (λ c past. HasFirstBad false c past bad) bytes → IsAnswerOf bytes (is_none bad.place) (answer_text bad.place)
+  answer_of bytes h = (h.0, (h.1.0, h.1.1, answered_by h.1.0 (file_of bytes).past bad.place h.1.2.place))
+
+  pub answered : (res : Result Bool RunFault) (r t v x : Option (List ℕ)) → IsAtEnd t → IfSome r (HasHistory (λ c past. HasFirstBad false c past bad)) → Tells bad.place res v x → ChecksText res r t v x
+  answered (Ok answer) None t v x end h told = (end, tt)
+  answered (Ok answer) (Some bytes) t v x end h told = (end, (answer_text bad.place, subst (λ b. IsAnswerOf bytes b (answer_text bad.place)) (sym told.0) (answer_of bytes h), told.1))
+  answered (Err (BadLine n)) r t v x end h told = absurd told
+  answered (Err (BadConfig n)) r t v x end h told = absurd told
+  answered (Err Input) r t v x end h told = absurd told
+  answered (Err Output) None t v x end h told = tt
+  answered (Err Output) (Some bytes) t v x end h told = (is_none bad.place, answer_text bad.place, answer_of bytes h, told)
+  answered (Err NoMemory) r t v x end h told = absurd told

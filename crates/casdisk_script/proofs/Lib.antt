@@ -1,7 +1,6 @@
 pub mod Beginning
 mod Answering
 mod KindsLemmas
-mod Breaking
 mod Faults
 mod Placing
 mod Printed

@@ -36,26 +36,33 @@ IsAnswer c past true text = IsLegal c past × (text ≡ legal_text)
 IsAnswer c past false text =
     (place : ℕ) × IsFirstBad c (reverse past) place × (text ≡ bad_text place)
 
--- the same of a file whose lines are all read
-abbrev pub IsAnswerOf : List ℕ → Bool → List ℕ → Type 0
-IsAnswerOf input answer text =
+-- the lines of a file are all read, and this holds of its configuration and its history
+abbrev pub HasHistory : (ConfigNumbers → Past → Type 0) → List ℕ → Type 0
+HasHistory Holds input =
     ((file_of input).end ≡ done)
-    × ((c : ConfigNumbers) × (first_config (whole_lines input) ≡ Some c) × IsAnswer c (file_of input).past answer text)
+    × ((c : ConfigNumbers) × (first_config (whole_lines input) ≡ Some c) × Holds c (file_of input).past)
 
--- the file ends so, and nothing was written
-abbrev pub EndsUnsaid : End → Option (List ℕ) → Option (List ℕ) → Option (List ℕ) → Type 0
-EndsUnsaid e input old new = IfSome input (λ bytes. ((file_of bytes).end ≡ e) × Keeps old new)
+-- the answer on the history of a file, and its line
+abbrev pub IsAnswerOf : List ℕ → Bool → List ℕ → Type 0
+IsAnswerOf input answer text = HasHistory (λ c past. IsAnswer c past answer text) input
+
+-- the file ends so
+abbrev pub EndsSo : End → Option (List ℕ) → Type 0
+EndsSo e input = IfSome input (λ bytes. (file_of bytes).end ≡ e)
+
+-- By why the lines of a file weren't all read: how it ends, or that no line of what was read is bad.
+abbrev pub IsUnread : RunFault → Option (List ℕ) → Option (List ℕ) → Type 0
+IsUnread (BadLine n) input left = EndsSo (bad_line n) input ⊎ EndsSo (cut n) input
+IsUnread (BadConfig c) input left = EndsSo (bad_config c) input
+IsUnread Input input left = (bytes : List ℕ) × Consumes input left bytes × IsOpen (file_of bytes).end
+IsUnread Output input left = ⊥
+IsUnread NoMemory input left = Unit {0}
 
 -- By what a check of a file answered: its one line, and the reader at its end; nothing; or a beginning of that line.
 abbrev pub ChecksText : Result Bool RunFault → Option (List ℕ) → Option (List ℕ) → Option (List ℕ) →
     Option (List ℕ) → Type 0
 ChecksText (Ok answer) input left old new =
     IsAtEnd left × IfSome input (λ bytes. (text : List ℕ) × IsAnswerOf bytes answer text × Appends old new text)
-ChecksText (Err (BadLine n)) input left old new =
-    EndsUnsaid (bad_line n) input old new ⊎ EndsUnsaid (cut n) input old new
-ChecksText (Err (BadConfig c)) input left old new = EndsUnsaid (bad_config c) input old new
-ChecksText (Err Input) input left old new =
-    (bytes : List ℕ) × Consumes input left bytes × IsOpen (file_of bytes).end × Keeps old new
-ChecksText (Err NoMemory) input left old new = Keeps old new
 ChecksText (Err Output) input left old new =
     IfSome input (λ bytes. (answer : Bool) × (text : List ℕ) × IsAnswerOf bytes answer text × AppendsFront old new text)
+ChecksText (Err f) input left old new = IsUnread f input left × Keeps old new

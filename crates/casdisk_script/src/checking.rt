@@ -7,10 +7,8 @@ ghost use Rattle.casdisk_script.specs.Files.{ChecksText, bad_text};
 ghost use Rattle.casdisk_script.specs.Judged.{Tells};
 
 use crate::fault::RunFault;
-use crate::first_line::read_first;
-use crate::judging::Judge;
-use crate::running::run_lines;
-use line_text::{Lines, Word, send, send_words};
+use crate::judging::judge_text;
+use line_text::{Word, send, send_words};
 use std::alloc::Global;
 use std::io::{Read, Result as IoResult, Write};
 
@@ -58,17 +56,6 @@ pub fn check_text<R: Read, W: Write>(
     ensures checks { ChecksText result (R.remaining reader.old) (R.remaining reader.new) (W.contents writer.old)
         (W.contents writer.new) }
 {
-    let Ok(mut lines) = Lines::new(alloc) else {
-        return Err(RunFault::NoMemory);
-    };
-    let mut line = Vec::new(alloc);
-    let config = read_first(alloc, &mut lines, &mut line, reader)?;
-    let Ok(mut judge) = Judge::new(alloc, &config) else {
-        return Err(RunFault::NoMemory);
-    };
-    let mut unprinted: Vec<u8> = Vec::new(alloc);
-    if let Err(fault) = run_lines(&mut judge, &mut lines, &mut line, reader, &mut unprinted) {
-        return Err(fault.in_memory());
-    }
-    tell_answer(judge.bad, writer)
+    let bad = judge_text::<false, R>(alloc, reader)?;
+    tell_answer(bad.place, writer)
 }

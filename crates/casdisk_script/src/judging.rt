@@ -1,27 +1,41 @@
 //! The entries of a file, one a line, judged as they come.
 
-ghost use Rattle.std.specs.Prelude.{◌≡◌, ◌∷◌, [], IfOk, None, OnOk, Some, if◌then◌else◌};
+ghost use Rattle.std.specs.Prelude.{◌≡◌, ◌∷◌, [], IfErr, IfOk, IfSome, None, OnOk, Some, if◌then◌else◌, true};
+ghost use Rattle.std.specs.Io.KnownBytes.{IsAtEnd};
 ghost use Rattle.nvme_model.specs.History.{Past};
 ghost use Rattle.nvme_model.specs.declared.config.ConfigNumbers.{ConfigNumbers};
-ghost use Rattle.casdisk_script.specs.Files.{entry_added};
-ghost use Rattle.casdisk_script.specs.Judged.{HasJudged};
+ghost use Rattle.broken_rules.specs.Broken.{first_broken};
+ghost use Rattle.one_pass_check.specs.Kept.{Stands};
+ghost use Rattle.casdisk_script.specs.Files.{HasHistory, IsUnread, entry_added};
+ghost use Rattle.casdisk_script.specs.Judged.{HasFirstBad, HasJudged};
 
+use crate::fault::RunFault;
+use crate::first_line::read_first;
 use crate::meaning::{LineMeaning, Taken, WriteFault};
+use crate::running::run_lines;
 use block_array::NoMemory;
+use broken_rules::Broken;
 use history::{Config, Entry, LineFault, parse_line};
 use history_check::Checker;
+use line_text::Lines;
 use std::alloc::Global;
-use std::io::Write;
+use std::io::{Read, Write};
 
-/// Judges the entries of lines, and keeps none of them.
+/// The first entry that may not follow: its place, from 1, and the rule that it breaks first, where that was asked.
+#[derive(Clone, Copy)]
+pub struct FirstBad {
+    pub place: Option<u64>,
+    pub broken: Option<Broken>,
+}
+
+// Judges the entries of lines, and keeps none of them. Which rule a bad one breaks is asked for where `WHY` is true.
 #[derive(Drop)]
-pub(crate) struct Judge {
-    pub(crate) alloc: Global,
-    pub(crate) checker: Checker,
+struct Judge<const WHY: bool> {
+    alloc: Global,
+    checker: Checker,
     // how many there were
-    pub(crate) count: u64,
-    // the first place, from 1, at which they are no longer legal
-    pub(crate) bad: Option<u64>,
+    count: u64,
+    bad: FirstBad,
 }
 
 // The place of an entry that may not follow.
@@ -31,41 +45,61 @@ fn bad_place(follows: bool, place: u64) -> Option<u64>
     if follows { None } else { Some(place) }
 }
 
-impl Judge {
+impl<const WHY: bool> Judge<WHY> {
     // One that has judged no entry.
-    pub(crate) fn new(alloc: Global, config: &Config) -> Result<Judge, NoMemory>
-        ensures begun { IfOk result (λ judge. HasJudged config.now [] judge.checker judge.count judge.bad) }
+    fn new(alloc: Global, config: &Config) -> Result<Judge<WHY>, NoMemory>
+        ensures begun { IfOk result (λ judge. HasJudged WHY config.now [] judge.checker judge.count judge.bad) }
     {
         Ok(Judge {
             alloc,
             checker: Checker::new(alloc, config)?,
             count: 0,
-            bad: None,
+            bad: FirstBad {
+                place: None,
+                broken: None,
+            },
         })
+    }
+
+    // The rule that the next entry breaks, where that is asked.
+    fn why(&self, entry: &Entry) -> Result<Option<Broken>, NoMemory>
+        ensures first { (past : Past) →
+            Stands self.now.checker.config past self.now.checker → WHY ≡ true →
+            IfOk result (λ b. b ≡ first_broken self.now.checker.config past entry.now) }
+    {
+        if WHY {
+            self.checker.why(entry)
+        } else {
+            Ok(None)
+        }
     }
 
     // Judges the next entry.
     fn judge(&mut self, entry: &Entry) -> Result<(), NoMemory>
         ensures judged { (c : ConfigNumbers) (past : Past) →
-            HasJudged c past self.old.checker self.old.count self.old.bad →
-            OnOk result (HasJudged c (entry.now ∷ past) self.new.checker self.new.count self.new.bad) }
+            HasJudged WHY c past self.old.checker self.old.count self.old.bad →
+            OnOk result (HasJudged WHY c (entry.now ∷ past) self.new.checker self.new.count self.new.bad) }
     {
         let Some(count) = self.count.checked_add(1) else {
             return Err(NoMemory);
         };
-        if self.bad.is_some() {
+        if self.bad.place.is_some() {
             self.count = count;
             return Ok(());
         }
+        let broken = self.why(entry)?;
         let follows = self.checker.take(entry)?;
         self.count = count;
-        self.bad = bad_place(follows, count);
+        self.bad = FirstBad {
+            place: bad_place(follows, count),
+            broken,
+        };
         Ok(())
     }
 }
 
-impl LineMeaning for Judge {
-    ghost stands = { λ m c past. HasJudged c past m.checker m.count m.bad };
+impl<const WHY: bool> LineMeaning for Judge<WHY> {
+    ghost stands = { λ m c past. HasJudged WHY c past m.checker m.count m.bad };
 
     ghost meaning = { λ _. entry_added };
 
@@ -79,5 +113,29 @@ impl LineMeaning for Judge {
             Ok(()) => Ok(Taken::Done),
             Err(_) => Err(WriteFault::NoMemory),
         }
+    }
+}
+
+// Reads a configuration line and the lines of a history to the reader's end, and judges the history.
+pub(crate) fn judge_text<const WHY: bool, R: Read>(
+    alloc: Global,
+    reader: &mut R,
+) -> Result<FirstBad, RunFault>
+    ensures whole { IfOk result (λ bad. IsAtEnd (R.remaining reader.new)
+        × IfSome (R.remaining reader.old) (HasHistory (λ c past. HasFirstBad WHY c past bad))) }
+    ensures unread { IfErr result (λ fault. IsUnread fault (R.remaining reader.old) (R.remaining reader.new)) }
+{
+    let Ok(mut lines) = Lines::new(alloc) else {
+        return Err(RunFault::NoMemory);
+    };
+    let mut line = Vec::new(alloc);
+    let config = read_first(alloc, &mut lines, &mut line, reader)?;
+    let Ok(mut judge) = Judge::<WHY>::new(alloc, &config) else {
+        return Err(RunFault::NoMemory);
+    };
+    let mut unprinted: Vec<u8> = Vec::new(alloc);
+    match run_lines(&mut judge, &mut lines, &mut line, reader, &mut unprinted) {
+        Ok(()) => Ok(judge.bad),
+        Err(fault) => Err(fault.in_memory()),
     }
 }
