@@ -12,6 +12,7 @@ use std::alloc::Global;
 pub(crate) fn no_calls<P: Port>(alloc: Global, driver: &Driver<P>) -> Vec<Call<P>>
     ensures { AreCallsOf driver.now result.items }
 {
+    // (named by the contract alone)
     let _ = driver;
     Vec::new(alloc)
 }
@@ -43,6 +44,7 @@ fn takes<P: Port>(driver: &Driver<P>, calls: &mut Vec<Call<P>>, place: usize) ->
     requires { AreCallsOf driver.now calls.old.items }
     ensures { MatchOption result (calls.new ≡ calls.old) (λ k. AreCallsOf driver.now (k ∷ calls.new.items)) }
 {
+    // (named by the contract alone)
     let _ = driver;
     if place < calls.len() {
         Some(calls.remove(place))

@@ -1,7 +1,6 @@
 //! Hosts on the completion queues of a bench.
 
 ghost use Rattle.std.specs.Prelude.{◌≡◌, ◌≤◌, IfOk, IfSome, true};
-ghost use Rattle.history.specs.Config.{numbers};
 ghost use Rattle.driver_rows.specs.Benches.{AreOf, IsHostOf, IsServerOf, uses};
 ghost use Rattle.driver_flights.specs.Flights.{AreInFlight};
 
@@ -57,38 +56,22 @@ pub(crate) fn on_both<'a>(
     )
 }
 
-/// Host 1, on submission queue 1 of a bench of `config 8 1 1 0 0 2 4 4 8`.
-pub(crate) fn on_first<'a>(
+/// Host h, on submission queue h, which uses completion queue h.
+pub(crate) fn on_own<'a>(
     alloc: Global,
     bench: &'a Bench,
     hand: Server,
+    h: u16,
 ) -> Result<Flight<'a>, Fail>
     requires hand { IsServerOf bench.now hand }
-    requires config { bench.now.config ≡ numbers 8 1 1 0 0 2 4 4 8 2 }
+    requires there { (1 ≤ h) × (h ≤ bench.now.config.cqs) }
+    requires own { uses bench.now.config h h ≡ true }
     ensures { IfOk result (λ f. AreInFlight bench.entry.now f.host f.calls.items) }
 {
-    let queues = [1].to_vec(alloc)?;
+    let queues = [h].to_vec(alloc)?;
     flying(
         alloc,
         bench,
-        host_of(alloc, bench, hand, 1, NO_SLOTS, 1, queues),
-    )
-}
-
-/// Host 2, on submission queue 2, which uses completion queue 2 there.
-pub(crate) fn on_second<'a>(
-    alloc: Global,
-    bench: &'a Bench,
-    hand: Server,
-) -> Result<Flight<'a>, Fail>
-    requires hand { IsServerOf bench.now hand }
-    requires config { bench.now.config ≡ numbers 8 1 1 0 0 2 4 4 8 2 }
-    ensures { IfOk result (λ f. AreInFlight bench.entry.now f.host f.calls.items) }
-{
-    let queues = [2].to_vec(alloc)?;
-    flying(
-        alloc,
-        bench,
-        host_of(alloc, bench, hand, 2, NO_SLOTS, 2, queues),
+        host_of(alloc, bench, hand, u32::from(h), NO_SLOTS, h, queues),
     )
 }

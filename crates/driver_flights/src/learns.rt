@@ -6,7 +6,7 @@ ghost use Rattle.driver_rows.specs.Benches.{AreOf, IsServerOf};
 ghost use Rattle.driver_flights.specs.Flights.{AreInFlight};
 
 use crate::full::core_after;
-use crate::hands::{on_first, on_second, server_of};
+use crate::hands::{on_own, server_of};
 use crate::turns::{Turn, turns};
 use crate::under_way::{Flight, meets};
 use driver_rows::{Ask, Bench, Fill, Server, Spares, Told, small_bench};
@@ -87,8 +87,8 @@ fn both_do<R: Abort + Wait>(
     requires config { bench.now.config ≡ numbers 8 1 1 0 0 2 4 4 8 2 }
 {
     let mut server = server_of(bench, spares)?;
-    let mut one = on_first(alloc, bench, server_of(bench, spares)?)?;
-    let mut two = on_second(alloc, bench, server_of(bench, spares)?)?;
+    let mut one = on_own(alloc, bench, server_of(bench, spares)?, 1)?;
+    let mut two = on_own(alloc, bench, server_of(bench, spares)?, 2)?;
     does_all(rt, bench, &mut server, &mut one, &mut two, all);
     Ok(())
 }

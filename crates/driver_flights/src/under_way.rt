@@ -26,6 +26,7 @@ pub(crate) fn flight_of<'a>(alloc: Global, bench: &Bench, host: Host<'a>) -> Fli
     requires { IsHostOf bench.now host }
     ensures { AreInFlight bench.now result.host result.calls.items }
 {
+    // (named by the contract alone)
     let _ = bench;
     let calls = no_calls(alloc, &host.driver);
     Flight { host, calls }
@@ -40,6 +41,7 @@ pub(crate) fn launches(bench: &Bench, flight: &mut Flight<'_>, ask: Ask) -> Resu
     requires { AreInFlight bench.now flight.old.host flight.old.calls.items }
     ensures { AreInFlight bench.now flight.new.host flight.new.calls.items }
 {
+    // (named by the contract alone)
     let _ = bench;
     begins_one(&mut flight.host.driver, &mut flight.calls, ask)
 }
@@ -55,6 +57,7 @@ pub(crate) fn lands(
     requires { AreInFlight bench.now flight.old.host flight.old.calls.items }
     ensures { AreInFlight bench.now flight.new.host flight.new.calls.items }
 {
+    // (named by the contract alone)
     let _ = bench;
     ends_one(&mut flight.host.driver, &mut flight.calls, place, most)
 }
@@ -83,6 +86,7 @@ pub(crate) fn meets(bench: &Bench, one: &mut Flight<'_>, two: &mut Flight<'_>) -
     ensures one { AreInFlight bench.now one.new.host one.new.calls.items }
     ensures two { AreInFlight bench.now two.new.host two.new.calls.items }
 {
+    // (named by the contract alone)
     let _ = bench;
     one.host.driver.meet(&mut two.host.driver).is_ok()
 }
@@ -92,6 +96,7 @@ pub(crate) fn pass_of(bench: &Bench, flight: Flight<'_>) -> Pass<Core>
     requires { AreInFlight bench.now flight.host flight.calls.items }
     ensures { IsOf bench.now.engine result }
 {
+    // (named by the contract alone)
     let _ = bench;
     let Flight { host, calls: _ } = flight;
     host.driver.into_port().into_pass()
