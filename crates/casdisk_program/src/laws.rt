@@ -41,5 +41,6 @@ pub fn what_a_race_wrote_is_legal(race: &Race)
         PrintsLegal (config_of race.now) (Some []) (Some text) → ChecksText told (Some text) left old new →
         SaysLegal told old new }
 {
+    // (what a race keeps of its numbers is known where they are asked for)
     let _ = race.config().numbers();
 }

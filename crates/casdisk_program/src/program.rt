@@ -43,7 +43,7 @@ pub fn run_program<R: Threads + Wait + Sync + Files + Env + Print + Eprint + All
     }
 }
 
-// Says these words in a line of their own, and gives this status.
+// Says these words in a line of their own, and gives this status: where standard error takes no words, that alone.
 fn end_with<R: Eprint>(rt: &R, status: u8, words: &str) -> ExitCode {
     let _ = rt.eprintln(words.trim_end());
     ExitCode::from(status)
@@ -67,6 +67,7 @@ fn finish<R: Threads + Wait + Sync + Files + Print + Eprint + AllocGlobal>(
         Ok(status) => ExitCode::from(status),
         Err(fault) => {
             let status = fault.status();
+            // (where standard error takes no words, the status says it alone; so below)
             let _ = rt.eprintln(fault);
             ExitCode::from(status)
         }
