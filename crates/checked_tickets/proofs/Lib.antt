@@ -1,6 +1,5 @@
 pub mod Agreeing
 pub mod Answering
 pub mod Fronts
-pub mod Identifiers
 pub mod Writing
 pub mod Posting

@@ -56,7 +56,7 @@ impl Commands {
     }
 
     /// How many commands there are, 1 or 2.
-    pub(crate) fn len(&self) -> u8
+    pub fn len(&self) -> u8
         ensures value { result ≡ length self.now.commands }
         ensures most { result ≤ 2 }
     {
@@ -81,7 +81,7 @@ impl Commands {
     }
 
     /// The identifier of a command by its number, from 0; 0 where there is none.
-    pub(crate) fn cid_at(&self, number: u8) -> u16
+    pub fn cid_at(&self, number: u8) -> u16
         ensures value { result ≡ get_or (cids self.now) number 0 }
     {
         match (&self.second, number) {

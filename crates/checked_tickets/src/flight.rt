@@ -14,7 +14,7 @@ ghost use Rattle.checker_tables.specs.Tables.{fresh};
 ghost use Rattle.nvme_model.specs.Value.{writes};
 ghost use Rattle.nvme_model.specs.declared.config.ConfigNumbers.{ConfigNumbers};
 ghost use Rattle.checked_tickets.specs.Contents.{contents_in, first_some, post_fits_at};
-ghost use Rattle.checker_tables.specs.Judged.{block_fits_by, cids_left, data_by, owed_by, owed_running, owes_nothing};
+ghost use Rattle.checker_tables.specs.Judged.{block_fits_by, data_by, owed_by, owed_running, owes_nothing};
 
 use crate::commands::Commands;
 use crate::unit::{Effect, OpenUnit, answers_at, block_fits, effect_at, word_of};
@@ -128,25 +128,11 @@ impl Flight {
         self.differs
     }
 
-    /// Puts the identifiers that it still owes a completion for, if it is on this queue, behind the others.
-    ///
-    /// # Errors
-    ///
-    /// `NoMemory` where a growth is refused; some of them are there then.
-    #[tactic(auto, using(crate::proofs::Identifiers::cids_next, crate::proofs::Identifiers::cids_done))]
-    pub fn put_cids(&self, queue: u16, in_use: &mut Vec<u16>) -> Result<(), NoMemory>
-        ensures value { OnOk result (in_use.new.items ≡ in_use.old.items ++ cids_left queue self.now) }
+    /// The identifier that its next completion is for; 0 where each has one.
+    pub fn next_cid(&self) -> u16
+        ensures value { result ≡ get_or (cids self.now.ticket) self.now.posts 0 }
     {
-        if self.ticket.queue() != queue {
-            return Ok(());
-        }
-        let count = self.ticket.len();
-        let mut place = self.posts;
-        while place < count {
-            in_use.push(self.ticket.cid_at(place))?;
-            place += 1;
-        }
-        Ok(())
+        self.ticket.cid_at(self.posts)
     }
 
     /// Opens the unit of this line. Takes no memory.
@@ -340,8 +326,7 @@ impl Flight {
         ensures value { result ≡ cqe_bytes head self.now.ticket.queue (get_or (cids self.now.ticket) self.now.posts 0)
             (phase_bit phase) status }
     {
-        let cid = self.ticket.cid_at(self.posts);
-        encode_cqe(&cqe_of(status, cid, self.ticket.queue(), head, phase))
+        encode_cqe(&cqe_of(status, self.next_cid(), self.ticket.queue(), head, phase))
     }
 
     /// Whether a Post says what is owed next, where the ticket has so many units.

@@ -8,6 +8,7 @@ use Rattle.checked_tickets.specs.Contents.{contents_in, written_in}
 use Rattle.checked_tickets.specs.declared.flight.TakenBlock.{TakenBlock}
 use Rattle.checker_tables.specs.Effects.{placed, reads, word_of}
 use Rattle.checker_tables.specs.Judged.{block_fits_by, flies, judged}
+use Rattle.cids_in_use.specs.Used.{AreInUse}
 use Rattle.checker_tables.specs.Tables.{Flight, OpenUnit, Tables, flight, tables, unit_of}
 use Rattle.checker_tables.specs.Taken.{SameIn, blocked, blocked_flight, ends_by, taken, value_after}
 use Rattle.checker_tables.proofs.Placing.{effect_granted, effect_placed}
@@ -47,6 +48,7 @@ use Rattle.one_pass_check.specs.Steps.{Took}
 use Rattle.one_pass_check.specs.declared.fields.InFlight.{InFlight}
 use Rattle.one_pass_check.proofs.Bounds.{opened_few, volume_few}
 use Rattle.one_pass_check.proofs.Flights.{IsThere, set_place}
+use Rattle.one_pass_check.proofs.InUse.{in_use_with}
 use Rattle.one_pass_check.proofs.Following.{legal_next, none_flies, took_not}
 
 -- ---- an open unit
@@ -258,6 +260,7 @@ module _ (c : ConfigNumbers) (past : Past) (k : Kept) (keeps : Keeps c past k) (
             blocks = size ∙ keeps.shows.blocks;
             values = values_are;
             sq_rings = keeps.shows.sq_rings;
+            in_use = subst (λ cids. AreInUse c.pairs (2 * c.jobs) cids k.in_use) (sym (in_use_with (tables c past) b.ticket (blocked_flight (value past) (flight past b.ticket) b (unit_of past may.0)) (λ q. refl))) keeps.shows.in_use;
             cq_rings = keeps.shows.cq_rings;
             in_flight =
                 ap (λ (xs : List InFlight). set xs i y) keeps.shows.in_flight

@@ -1,12 +1,14 @@
 -- What a Fetch finds, and what is kept after it.
-use Rattle.std.proofs.Common.{◌≡◌, ◌≢◌, ℕ, suc, ◌+◌, ◌%◌, ◌≤◌, ◌<◌, ◌==◌, ◌&&◌, Bool, true, false, cond, List, [], ◌∷◌, ◌++◌, drop, length, get_or, map, set, slice_get, take, Option, Some, None, is_none, is_some, option_map, refl, sym, ap, ap₂, ◌∙◌, subst, arith, eqb-true, eq-eqb, ne_eqb, nat_le}
-use Rattle.std.specs.List.{flat_map}
+use Rattle.std.proofs.Common.{◌≡◌, ◌≢◌, ℕ, suc, ◌*◌, ◌+◌, ◌%◌, ◌≤◌, ◌<◌, ◌==◌, ◌&&◌, Bool, true, false, cond, List, [], ◌∷◌, ◌++◌, drop, length, get_or, map, set, slice_get, take, Option, Some, None, is_none, is_some, option_map, refl, sym, ap, ap₂, ◌∙◌, subst, arith, eqb-true, eq-eqb, ne_eqb, nat_le}
+use Rattle.std.specs.List.{count_by}
 use Rattle.std.proofs.lemmas.Bool.{and_parts, lt-leb}
-use Rattle.std.proofs.lemmas.List.{length-map}
+use Rattle.std.proofs.lemmas.List.{append-nil, length-map, length-take}
 use Rattle.std.proofs.Math.Nat.{mod-add-mod}
-use Rattle.checker_tables.specs.Judged.{cids_left, in_use, judged, verdict_by}
+use Rattle.checker_tables.specs.Judged.{in_use, judged, verdict_by}
 use Rattle.checker_tables.specs.Tables.{flight, fresh, tables}
 use Rattle.checker_tables.specs.Taken.{fetched_by, taken}
+use Rattle.cids_in_use.specs.Used.{AreUsed, UsedCids}
+use Rattle.cids_in_use.proofs.Counts.{count_append, same_in, same_length, used_at, used_set}
 use Rattle.fused_match.specs.Judged as matched
 use Rattle.fused_match.specs.Judged.{NamesBlocks, operation_in, waiting_items}
 use Rattle.fused_match.specs.declared.judged.Judged.{Judged}
@@ -18,7 +20,7 @@ use Rattle.nvme_model.specs.History.{Past}
 use Rattle.nvme_model.specs.Legal.{IsLegal}
 use Rattle.nvme_model.specs.Operations.{is_pair, op, op_by, op_of_fields, units, units_by}
 use Rattle.nvme_model.specs.Tickets
-use Rattle.nvme_model.specs.Tickets.{Ticket, command, fetched_ticket, first_fields}
+use Rattle.nvme_model.specs.Tickets.{Ticket, cids, command, fetched_ticket, first_fields}
 use Rattle.nvme_model.specs.Verdict
 use Rattle.nvme_model.specs.Verdict.{Item, item_of, same_verdict, verdict_of}
 use Rattle.nvme_model.specs.declared.config.AtomicParameters.{AtomicParameters}
@@ -30,10 +32,11 @@ use Rattle.nvme_model.specs.declared.refusal.Why.{Why}
 use Rattle.nvme_model.specs.declared.status.Verdict.{Verdict as Said}
 use Rattle.nvme_model.specs.declared.submission.Submission.{Submission}
 use Rattle.nvme_model.proofs.Checked.{TicketChecked, ticket_checked}
-use Rattle.nvme_model.proofs.Lists.{each_map}
+use Rattle.nvme_model.proofs.Lists.{Each, each_map}
 use Rattle.rings.specs.Submissions.{SubmissionRing, advanced}
 use Rattle.ticket_standing.specs.Standing.{flying}
 use Rattle.ticket_standing.proofs.Counts.{taken_some, taken_within}
+use Rattle.ticket_standing.proofs.InUse.{verdict_same}
 use Rattle.ticket_standing.proofs.Unfetched.{flying_known}
 use Rattle.one_pass_check.specs.Kept.{Keeps, Kept, flight_in}
 use Rattle.one_pass_check.specs.Rings.{submission_ring}
@@ -41,6 +44,7 @@ use Rattle.one_pass_check.specs.Steps.{HasUnits, Took, units_in}
 use Rattle.one_pass_check.specs.declared.fields.InFlight.{InFlight}
 use Rattle.one_pass_check.proofs.Bounds.{volume_few}
 use Rattle.one_pass_check.proofs.Flights.{more_one}
+use Rattle.one_pass_check.proofs.InUse.{in_use_few, in_use_fetched}
 use Rattle.one_pass_check.proofs.Following.{legal_next, took_not}
 use Rattle.one_pass_check.proofs.Rings.{IsPlace, IsTable-set, apart, ring_at, there}
 
@@ -113,11 +117,6 @@ pub front_none : (ws : List Submission) → slice_get ws 0 ≡ None → length w
 front_none [] e = refl
 front_none (x ∷ ws) e = absurd (let f : Some x ≡ None = e in cc)
 
--- the identifiers of all in flight, by the table
-cids_by : (g : ℕ → InFlight) (f : InFlight → List ℕ) (ts : List ℕ) → flat_map f (map g ts) ≡ flat_map (λ t. f (g t)) ts
-cids_by g f [] = refl
-cids_by g f (t ∷ ts) = ap (λ (xs : List ℕ). f (g t) ++ xs) (cids_by g f ts)
-
 -- ---- units
 
 not_pair : (e : Sqe) → is_pair (op_of_fields e) ≡ false
@@ -188,18 +187,23 @@ module _ (c : ConfigNumbers) (past : Past) (k : Kept) (keeps : Keeps c past k) (
   pub count_is : length k.flights ≡ length (flying past)
   count_is = ap length keeps.shows.in_flight ∙ length-map (flying past) (flight_in c (tables c past))
 
+  -- the identifiers that are kept of its queue are those in use on it
+  used_here : (u : UsedCids) → u ≡ get_or k.in_use i u → AreUsed (2 * c.jobs) (in_use (tables c past) l.queue) u
+  used_here u used = used_at c.pairs (2 * c.jobs) (in_use (tables c past)) k.in_use i l.queue u keeps.shows.in_use place.next place.within used
+
   module _ (first : Submission) (waits : slice_get r.waiting 0 ≡ Some first) (next : Option Item) (behind : next ≡ option_map item_of (slice_get r.waiting 1)) (room : length k.flights < c.jobs) (j : Judged)
-      (all : List InFlight) (all_are : all ≡ k.flights) (verdict : matched.verdict_by j ≡ verdict_of c.atomic c.blocks (flat_map (λ e. cids_left l.queue e.flight) all) (waiting_items (item_of first) next))
+      (u : UsedCids) (used : u ≡ get_or k.in_use i u) (ones : List ℕ) (ones_are : ones ≡ u.cids) (verdict : matched.verdict_by j ≡ verdict_of c.atomic c.blocks ones (waiting_items (item_of first) next))
       (operation : operation_in j ≡ op_by (matched.verdict_by j) (sqe_fields first.entry)) (names : NamesBlocks j (sqe_fields first.entry)) where
     pub front : slice_get ((tables c past).waiting l.queue) 0 ≡ Some first
     front = ap (λ (xs : List Submission). slice_get xs 0) (sym waiting_is) ∙ waits
 
     pub verdict_is : matched.verdict_by j ≡ verdict_by c (tables c past) l.queue
     verdict_is =
+        let items = waiting_items (item_of first) (option_map item_of (slice_get ((tables c past).waiting l.queue) 1)) in
         verdict
-        ∙ ap₂ (λ (cids : List ℕ) (o : Option Item). verdict_of c.atomic c.blocks cids (waiting_items (item_of first) o))
-        (ap (flat_map (λ (e : InFlight). cids_left l.queue e.flight)) (all_are ∙ keeps.shows.in_flight) ∙ cids_by (flight_in c (tables c past)) (λ (e : InFlight). cids_left l.queue e.flight) (flying past))
+        ∙ ap₂ (λ (cids : List ℕ) (o : Option Item). verdict_of c.atomic c.blocks cids (waiting_items (item_of first) o)) ones_are
         (behind ∙ ap (λ (xs : List Submission). option_map item_of (slice_get xs 1)) waiting_is)
+        ∙ verdict_same c.atomic c.blocks u.cids (in_use (tables c past) l.queue) items (same_in u.cids (in_use (tables c past) l.queue) (used_here u used).cids)
         ∙ front_verdict c.atomic c.blocks (in_use (tables c past) l.queue) ((tables c past).waiting l.queue) first front
 
     fits_is : ((l.ticket == k.tickets + 1) && same_verdict l.verdict (matched.verdict_by j)) ≡ ((l.ticket == Tickets.tickets past + 1) && same_verdict l.verdict (verdict_by c (tables c past) l.queue))
@@ -218,6 +222,24 @@ module _ (c : ConfigNumbers) (past : Past) (k : Kept) (keeps : Keeps c past k) (
         let least = front_some ((tables c past).waiting l.queue) first front in
         let within = taken_within c.atomic c.blocks (in_use (tables c past) l.queue) (map item_of ((tables c past).waiting l.queue)) (omega (arith, least, length-map ((tables c past).waiting l.queue) item_of)) in
         (omega (arith, some.0, e), omega (arith, some.1, e), omega (arith, e, within, ap Verdict.taken verdict_is, length-map ((tables c past).waiting l.queue) item_of, ap length waiting_is))
+
+    -- there is room for the identifiers of the ticket
+    pub fetch_room : (n : ℕ) → n ≡ Verdict.taken (matched.verdict_by j) → (commands : List Submission) → commands ≡ take n r.waiting → (t : Ticket) → t.commands ≡ commands → (w : UsedCids) → w ≡ get_or k.in_use i w
+        → length w.cids + length (cids t) ≤ w.room
+    fetch_room n is_n commands is_commands t is_t w is_w =
+        omega (
+          arith,
+          same_length w.cids (in_use (tables c past) l.queue) (used_here w is_w).cids,
+          in_use_few c past l.queue,
+          (used_here w is_w).room,
+          count_is,
+          room,
+          (fetch_some n is_n).1,
+          length-map t.commands (λ s. (sqe_fields s.entry).cid),
+          ap length is_t,
+          ap length is_commands,
+          length-take n r.waiting,
+        )
 
     module _ (fits : ((l.ticket == k.tickets + 1) && same_verdict l.verdict (matched.verdict_by j)) ≡ true) where
       answer_is : judged c (tables c past) (Entry.Fetch l) ≡ true
@@ -259,16 +281,19 @@ module _ (c : ConfigNumbers) (past : Past) (k : Kept) (keeps : Keeps c past k) (
 
       pub fetch_yes : (n : ℕ) → n ≡ Verdict.taken (matched.verdict_by j) → (y : SubmissionRing) → y ≡ advanced r n → (commands : List Submission) → commands ≡ take n r.waiting → (x : InFlight)
           → x ≡ record { ticket = l.ticket; flight = fresh (record { queue = l.queue; commands = commands; verdict = l.verdict }); units = units_in c.atomic j }
-          → (fs : List InFlight) → fs ≡ k.flights ++ x ∷ [] → Took c past (Entry.Fetch l) true (record k { submission = set k.submission i y; flights = fs; tickets = l.ticket })
-      fetch_yes n is_n y is_y commands is_commands x is_x fs is_fs = record {
+          → (fs : List InFlight) → fs ≡ k.flights ++ x ∷ [] → (w v : UsedCids) → w ≡ get_or k.in_use i w
+          → v ≡ record w { cids = w.cids ++ cids (record { queue = l.queue; commands = commands; verdict = l.verdict }) }
+          → Took c past (Entry.Fetch l) true (record k { submission = set k.submission i y; in_use = set k.in_use i v; flights = fs; tickets = l.ticket })
+      fetch_yes n is_n y is_y commands is_commands x is_x fs is_fs w v is_w is_v = record {
         answer = sym answer_is;
         shows = λ _. record {
           blocks = keeps.shows.blocks;
           values = keeps.shows.values;
           sq_rings = IsTable-set _ (λ q. submission_ring c (taken c (tables c past) (Entry.Fetch l)) (suc q)) c.pairs i k.submission y keeps.shows.sq_rings place.within own others;
+          in_use = used_set c.pairs (2 * c.jobs) (in_use (tables c past)) (in_use (taken c (tables c past) (Entry.Fetch l))) k.in_use i v keeps.shows.in_use place.within used_own used_others;
           cq_rings = keeps.shows.cq_rings;
           in_flight = is_fs ∙ ap (λ (xs : List InFlight). xs ++ x ∷ []) keeps.shows.in_flight
-              ∙ more_one (flight_in c (tables c past)) (flight_in c (taken c (tables c past) (Entry.Fetch l))) (flying past) l.ticket x (each_map (λ t. t ≤ Tickets.tickets past) _ (λ u low. flight_others u (λ e. omega (arith, e, low, ticket_next))) (flying past) (flying_known past)) flight_own;
+              ∙ more_one (flight_in c (tables c past)) (flight_in c (taken c (tables c past) (Entry.Fetch l))) (flying past) l.ticket x (each_map (λ t. t ≢ l.ticket) _ flight_others (flying past) all_others) flight_own;
           ranges = keeps.shows.ranges;
           count = ticket_next;
         };
@@ -276,6 +301,38 @@ module _ (c : ConfigNumbers) (past : Past) (k : Kept) (keeps : Keeps c past k) (
         where
           count : n ≡ Verdict.taken l.verdict
           count = is_n ∙ ap Verdict.taken (sym same)
+
+          all_others : Each (λ t. t ≢ l.ticket) (flying past)
+          all_others = each_map (λ t. t ≤ Tickets.tickets past) (λ t. t ≢ l.ticket) (λ t low e. omega (arith, e, low, ticket_next)) (flying past) (flying_known past)
+
+          ticket_is : cids (record { queue = l.queue; commands = commands; verdict = l.verdict }) ≡ cids (fetched_by (tables c past) l)
+          ticket_is = ap (λ (xs : List Submission). cids (record { queue = l.queue; commands = xs; verdict = l.verdict })) (is_commands ∙ (λ w. take (count w) (waiting_is w)))
+
+          used_own : AreUsed (2 * c.jobs) (in_use (taken c (tables c past) (Entry.Fetch l)) (suc i)) v
+          used_own =
+              let here : l.queue ≡ suc i = omega (arith, place.next) in
+              subst (λ (q : ℕ). AreUsed (2 * c.jobs) (in_use (taken c (tables c past) (Entry.Fetch l)) q) v) here
+              (subst (AreUsed (2 * c.jobs) (in_use (taken c (tables c past) (Entry.Fetch l)) l.queue)) (sym is_v) (record {
+                cids = λ p.
+                    let more = ap (count_by p) (in_use_fetched c (tables c past) l l.queue all_others
+                    ∙ ap (λ b. in_use (tables c past) l.queue ++ cond b (cids (fetched_by (tables c past) l)) []) (eq-eqb l.queue l.queue refl)) in
+                    omega (
+                      arith,
+                      count_append p w.cids (cids (record { queue = l.queue; commands = commands; verdict = l.verdict })),
+                      (used_here w is_w).cids p,
+                      ap (count_by p) ticket_is,
+                      more,
+                      count_append p (in_use (tables c past) l.queue) (cids (fetched_by (tables c past) l)),
+                    );
+                room = (used_here w is_w).room;
+              }))
+
+          used_others : (q : ℕ) → q ≢ i → (p : ℕ → Bool) → count_by p (in_use (taken c (tables c past) (Entry.Fetch l)) (suc q)) ≡ count_by p (in_use (tables c past) (suc q))
+          used_others q ne p = ap (count_by p) (
+              in_use_fetched c (tables c past) l (suc q) all_others
+              ∙ ap (λ b. in_use (tables c past) (suc q) ++ cond b (cids (fetched_by (tables c past) l)) []) (ne_eqb l.queue (suc q) (apart c.pairs l.queue i q place ne))
+              ∙ append-nil (in_use (tables c past) (suc q))
+              )
 
           own : y ≡ submission_ring c (taken c (tables c past) (Entry.Fetch l)) (suc i)
           own =

@@ -1,8 +1,9 @@
 -- What a Grant finds, and what is kept after it.
-use Rattle.std.proofs.Common.{◌≡◌, ◌≢◌, ℕ, zero, suc, ◌<◌, ◌^◌, ◌==◌, ◌&&◌, ◌||◌, Bool, true, false, not, cond, List, [], ◌∷◌, length, map, set, slice_get, Option, Some, None, is_none, is_some, nat_le, refl, sym, ap, ◌∙◌, subst, arith, ne_eqb, eq-eqb}
+use Rattle.std.proofs.Common.{◌≡◌, ◌≢◌, ℕ, zero, suc, ◌*◌, ◌<◌, ◌^◌, ◌==◌, ◌&&◌, ◌||◌, Bool, true, false, not, cond, List, [], ◌∷◌, length, map, set, slice_get, Option, Some, None, is_none, is_some, nat_le, refl, sym, ap, ◌∙◌, subst, arith, ne_eqb, eq-eqb}
 use Rattle.std.specs.Bool.{beq}
 use Rattle.std.proofs.lemmas.Bool.Decides.{nat_tests}
 use Rattle.checker_tables.specs.Judged.{conflicts_by, flies, judged}
+use Rattle.cids_in_use.specs.Used.{AreInUse}
 use Rattle.checker_tables.specs.Tables.{Flight, Tables, flight, tables}
 use Rattle.checker_tables.specs.Taken.{opened_flight, taken}
 use Rattle.nvme_model.specs.History.{Past}
@@ -31,6 +32,7 @@ use Rattle.one_pass_check.specs.Steps.{Took, grant_by}
 use Rattle.one_pass_check.specs.declared.fields.InFlight.{InFlight}
 use Rattle.one_pass_check.proofs.Bounds.{has_op, opened_few, unit_range_is}
 use Rattle.one_pass_check.proofs.Flights.{IsThere, set_place}
+use Rattle.one_pass_check.proofs.InUse.{in_use_with}
 use Rattle.one_pass_check.proofs.Following.{legal_next, none_flies, took_not}
 
 -- ---- the rule
@@ -140,6 +142,7 @@ module _ (c : ConfigNumbers) (past : Past) (k : Kept) (keeps : Keeps c past k) (
           blocks = keeps.shows.blocks;
           values = keeps.shows.values;
           sq_rings = keeps.shows.sq_rings;
+          in_use = subst (λ cids. AreInUse c.pairs (2 * c.jobs) cids k.in_use) (sym (in_use_with (tables c past) g.ticket (opened_flight (flight past g.ticket) g) (λ q. refl))) keeps.shows.in_use;
           cq_rings = keeps.shows.cq_rings;
           in_flight =
               ap (λ (xs : List InFlight). set xs i y) keeps.shows.in_flight

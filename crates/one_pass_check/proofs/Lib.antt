@@ -1,5 +1,6 @@
 pub mod Rings
 pub mod Flights
+pub mod InUse
 pub mod Following
 pub mod Bounds
 pub mod Publishing

@@ -1,12 +1,15 @@
 -- What a Post finds, and what is kept after it.
-use Rattle.std.proofs.Common.{◌≡◌, ◌≢◌, ℕ, zero, suc, ◌+◌, ◌-◌, ◌%◌, ◌/◌, ◌≤◌, ◌<◌, ◌^◌, ◌==◌, ◌&&◌, Bool, true, false, not, cond, List, [], ◌∷◌, ◌++◌, length, get_or, map, replicate, set, slice_get, Some, None, is_none, refl, sym, ap, ◌∙◌, subst, arith, eqb, eq-eqb, ne_eqb, ltb-true, ltb-false, nat_lt, add-one}
-use Rattle.std.specs.List.{filter, remove}
+use Rattle.std.proofs.Common.{◌≡◌, ◌≢◌, ℕ, zero, suc, ◌*◌, ◌+◌, ◌-◌, ◌%◌, ◌/◌, ◌≤◌, ◌<◌, ◌^◌, ◌==◌, ◌&&◌, Bool, true, false, not, cond, List, [], ◌∷◌, ◌++◌, length, get_or, map, replicate, set, slice_get, Some, None, is_none, refl, sym, ap, ◌∙◌, subst, arith, eqb, eq-eqb, ne_eqb, ltb-true, ltb-false, nat_lt, add-one}
+use Rattle.std.specs.List.{count_by, filter, remove}
+use Rattle.std.specs.List.Sorted.{IsPermutation}
 use Rattle.std.proofs.lemmas.Bool.{or_parts}
 use Rattle.std.proofs.lemmas.List.{append-nil, length-map, length-replicate, length_push, map-append}
 use Rattle.std.proofs.Math.Nat.{mod-lt}
 use Rattle.checked_tickets.specs.Contents.{post_fits_at}
 use Rattle.checked_tickets.proofs.Posting.{by_rings}
-use Rattle.checker_tables.specs.Judged.{flies, judged, owed_by, owes_nothing, post_fits_by}
+use Rattle.cids_in_use.specs.Used.{AreInUse, AreUsed, UsedCids, is_used}
+use Rattle.cids_in_use.proofs.Counts.{count_append, count_cons, is_among, one_less, used_at, used_set}
+use Rattle.checker_tables.specs.Judged.{flies, in_use, judged, owed_by, owes_nothing, post_fits_by}
 use Rattle.checker_tables.specs.Tables.{Flight, flight, tables}
 use Rattle.checker_tables.specs.Taken.{flies_on, posted_flight, taken}
 use Rattle.entry_codec.specs.Cqe.{phase_bit}
@@ -17,6 +20,7 @@ use Rattle.nvme_model.specs.Legal.{IsLegal}
 use Rattle.nvme_model.specs.Operations.{units}
 use Rattle.nvme_model.specs.Refusals.{no_queue}
 use Rattle.nvme_model.specs.Tickets
+use Rattle.nvme_model.specs.Tickets.{cids}
 use Rattle.nvme_model.specs.declared.config.ConfigNumbers.{ConfigNumbers}
 use Rattle.nvme_model.specs.declared.entry.Entry.{Entry}
 use Rattle.nvme_model.specs.declared.entry.PostLine.{PostLine}
@@ -35,6 +39,7 @@ use Rattle.one_pass_check.specs.Rings.{bare, completion_ring, submission_ring}
 use Rattle.one_pass_check.specs.Steps.{Took}
 use Rattle.one_pass_check.specs.declared.fields.InFlight.{InFlight}
 use Rattle.one_pass_check.proofs.Flights.{IsThere, less_one, set_place}
+use Rattle.one_pass_check.proofs.InUse.{in_use_posted}
 use Rattle.one_pass_check.proofs.Following.{none_flies, took_not}
 use Rattle.one_pass_check.proofs.Rings.{IsPlace, IsTable-set, apart, ring_at}
 
@@ -209,7 +214,8 @@ module _ (c : ConfigNumbers) (past : Past) (k : Kept) (keeps : Keeps c past k) (
           ∙ form_full (owes_nothing c (flight past p.ticket)) (post_fits_by c (tables c past) p (slice_get (owed_by c (flight past p.ticket)) (flight past p.ticket).posts)))
 
       module _ (owes : owes_nothing c x.flight ≡ false) (fits : post_fits_at sr.head (phase_bit cr.phase) x.flight p (slice_get (owed_by c x.flight) x.flight.posts) ≡ true) (room : is_full cr ≡ false) (y : CompletionRing)
-          (more : y ≡ posted_ring cr (bare p)) where
+          (more : y ≡ posted_ring cr (bare p)) (cid : ℕ) (cid_is : cid ≡ get_or (cids x.flight.ticket) x.flight.posts 0) (u v : UsedCids) (used : u ≡ get_or k.in_use (x.flight.ticket.queue - 1) u)
+          (less : is_used cid u.cids ≡ true → IsPermutation u.cids (cid ∷ v.cids)) (kept_room : v.room ≡ u.room) where
         answer_is : judged c (tables c past) (Entry.Post p) ≡ true
         answer_is = rule_is ∙ (λ z. post_form true ((sym (ap (owes_nothing c) flight_is) ∙ owes) z) ((sym full_is ∙ room) z) ((sym fits_is ∙ fits) z))
 
@@ -255,15 +261,50 @@ module _ (c : ConfigNumbers) (past : Past) (k : Kept) (keeps : Keeps c past k) (
         flight_others : (u : ℕ) → u ≢ p.ticket → flight_in c (taken c (tables c past) (Entry.Post p)) u ≡ flight_in c (tables c past) u
         flight_others u ne = ap (λ b. record { ticket = u; flight = cond b (posted_flight (flight past p.ticket)) (flight past u); units = units c (cond b (posted_flight (flight past p.ticket)) (flight past u)).ticket }) (ne_eqb u p.ticket ne)
 
+        -- the identifiers in use on its queue, without its first
+        fewer : (q : ℕ) (m : ℕ → Bool) → count_by m (in_use (tables c past) q) ≡ count_by m (cond (x.flight.ticket.queue == q) (cid ∷ []) []) + count_by m (in_use (taken c (tables c past) (Entry.Post p)) q)
+        fewer q m =
+            in_use_posted c past p i there.place there.flies q m
+            ∙ (λ z. count_by m (cond ((sym flight_is z).ticket.queue == q) (((λ w. get_or (cids (sym flight_is w).ticket) (sym flight_is w).posts 0) ∙ sym cid_is) z ∷ []) []) + count_by m (in_use (taken c (tables c past) (Entry.Post p)) q))
+
+        used_own : AreUsed (2 * c.jobs) (in_use (tables c past) x.flight.ticket.queue) u
+        used_own = used_at c.pairs (2 * c.jobs) (in_use (tables c past)) k.in_use (x.flight.ticket.queue - 1) x.flight.ticket.queue u keeps.shows.in_use post_sq_place.next post_sq_place.within used
+
+        one_fewer : (m : ℕ → Bool) → count_by m u.cids ≡ cond (m cid) 1 0 + count_by m (in_use (taken c (tables c past) (Entry.Post p)) x.flight.ticket.queue)
+        one_fewer m =
+            used_own.cids m ∙ fewer x.flight.ticket.queue m
+            ∙ ap (λ b. count_by m (cond b (cid ∷ []) []) + count_by m (in_use (taken c (tables c past) (Entry.Post p)) x.flight.ticket.queue)) (eq-eqb x.flight.ticket.queue x.flight.ticket.queue refl)
+            ∙ sym (count_append m (cid ∷ []) (in_use (taken c (tables c past) (Entry.Post p)) x.flight.ticket.queue))
+            ∙ count_cons m cid (in_use (taken c (tables c past) (Entry.Post p)) x.flight.ticket.queue)
+
+        used_after : AreInUse c.pairs (2 * c.jobs) (in_use (taken c (tables c past) (Entry.Post p))) (set k.in_use (x.flight.ticket.queue - 1) v)
+        used_after =
+            used_set c.pairs (2 * c.jobs) (in_use (tables c past)) (in_use (taken c (tables c past) (Entry.Post p))) k.in_use (x.flight.ticket.queue - 1) v keeps.shows.in_use post_sq_place.within
+            here others
+          where
+            here : AreUsed (2 * c.jobs) (in_use (taken c (tables c past) (Entry.Post p)) (suc (x.flight.ticket.queue - 1))) v
+            here =
+                let same : x.flight.ticket.queue ≡ suc (x.flight.ticket.queue - 1) = omega (arith, post_low) in
+                subst (λ (q : ℕ). AreUsed (2 * c.jobs) (in_use (taken c (tables c past) (Entry.Post p)) q) v) same (record {
+                  cids = λ m. omega (arith, one_fewer m, one_less cid u.cids v.cids (less (is_among u cid _ (one_fewer (λ one. one == cid)))) m);
+                  room = kept_room ∙ used_own.room;
+                })
+
+            others : (n : ℕ) → n ≢ x.flight.ticket.queue - 1 → (m : ℕ → Bool) → count_by m (in_use (taken c (tables c past) (Entry.Post p)) (suc n)) ≡ count_by m (in_use (tables c past) (suc n))
+            others n ne m =
+                let off = ap (λ b. count_by m (cond b (cid ∷ []) [])) (ne_eqb x.flight.ticket.queue (suc n) (λ (e : x.flight.ticket.queue ≡ suc n). ne (omega (arith, e)))) in
+                omega (arith, fewer (suc n) m, off)
+
         -- what is kept then, with these tickets in flight
         took : (fs : List InFlight) → fs ≡ map (flight_in c (taken c (tables c past) (Entry.Post p))) (taken c (tables c past) (Entry.Post p)).flying
-            → Took c past (Entry.Post p) true (record k { completion = set k.completion ((x.flight.ticket.queue - 1) % c.cqs) y; flights = fs })
+            → Took c past (Entry.Post p) true (record k { in_use = set k.in_use (x.flight.ticket.queue - 1) v; completion = set k.completion ((x.flight.ticket.queue - 1) % c.cqs) y; flights = fs })
         took fs e = record {
           answer = sym answer_is;
           shows = λ _. record {
             blocks = keeps.shows.blocks;
             values = keeps.shows.values;
             sq_rings = keeps.shows.sq_rings;
+            in_use = used_after;
             cq_rings = IsTable-set _ (λ q. completion_ring c (taken c (tables c past) (Entry.Post p)) (suc q)) c.cqs ((x.flight.ticket.queue - 1) % c.cqs) k.completion y keeps.shows.cq_rings post_cq_place.within ring_own ring_others;
             in_flight = e;
             ranges = keeps.shows.ranges;
@@ -273,7 +314,7 @@ module _ (c : ConfigNumbers) (past : Past) (k : Kept) (keeps : Keeps c past k) (
 
         -- it flies on
         pub post_on : (z : InFlight) → flies_on x.flight ≡ true → z ≡ record x { flight = posted_flight x.flight }
-            → Took c past (Entry.Post p) true (record k { completion = set k.completion ((x.flight.ticket.queue - 1) % c.cqs) y; flights = set k.flights i z })
+            → Took c past (Entry.Post p) true (record k { in_use = set k.in_use (x.flight.ticket.queue - 1) v; completion = set k.completion ((x.flight.ticket.queue - 1) % c.cqs) y; flights = set k.flights i z })
         post_on z on is_z =
             took (set k.flights i z)
             (ap (λ (xs : List InFlight). set xs i z) keeps.shows.in_flight
@@ -282,7 +323,7 @@ module _ (c : ConfigNumbers) (past : Past) (k : Kept) (keeps : Keeps c past k) (
 
         -- or has its last
         pub post_off : (fs : List InFlight) → flies_on x.flight ≡ false → fs ≡ remove k.flights i
-            → Took c past (Entry.Post p) true (record k { completion = set k.completion ((x.flight.ticket.queue - 1) % c.cqs) y; flights = fs })
+            → Took c past (Entry.Post p) true (record k { in_use = set k.in_use (x.flight.ticket.queue - 1) v; completion = set k.completion ((x.flight.ticket.queue - 1) % c.cqs) y; flights = fs })
         post_off fs off is_fs =
             took fs
             (is_fs ∙ ap (λ (xs : List InFlight). remove xs i) keeps.shows.in_flight

@@ -49,6 +49,7 @@ module _ (c : ConfigNumbers) (past : Past) (k : Kept) (keeps : Keeps c past k) (
       blocks = keeps.shows.blocks;
       values = keeps.shows.values;
       sq_rings = IsTable-set _ (λ q. submission_ring c (taken c (tables c past) (Entry.Publish p)) (suc q)) c.pairs i k.submission y keeps.shows.sq_rings place.within own others;
+      in_use = keeps.shows.in_use;
       cq_rings = keeps.shows.cq_rings;
       in_flight = keeps.shows.in_flight;
       ranges = keeps.shows.ranges;

@@ -61,6 +61,7 @@ module _ (c : ConfigNumbers) (past : Past) (k : Kept) (keeps : Keeps c past k) (
       blocks = keeps.shows.blocks;
       values = keeps.shows.values;
       sq_rings = keeps.shows.sq_rings;
+      in_use = keeps.shows.in_use;
       cq_rings = IsTable-set _ (λ q. completion_ring c (taken c (tables c past) (Entry.Reap l)) (suc q)) c.cqs i k.completion y keeps.shows.cq_rings place.within own others;
       in_flight = keeps.shows.in_flight;
       ranges = keeps.shows.ranges;

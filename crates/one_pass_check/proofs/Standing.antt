@@ -1,10 +1,13 @@
 -- Which history a checker stands for.
-use Rattle.std.proofs.Common.{◌≡◌, ℕ, suc, ◌%◌, ◌==◌, ◌&&◌, Bool, true, List, [], ◌∷◌, length, replicate, None, is_none, refl, sym, ap, ◌∙◌, subst, ltb-false}
+use Rattle.std.proofs.Common.{◌≡◌, ℕ, suc, ◌%◌, ◌*◌, ◌==◌, ◌&&◌, Bool, true, List, [], ◌∷◌, length, replicate, None, is_none, refl, sym, ap, ◌∙◌, subst, ltb-false}
 use Rattle.std.proofs.Math.Nat.{zero-div, zero-mod}
 use Rattle.std.proofs.lemmas.Bool.{or_parts}
 use Rattle.std.proofs.lemmas.List.{get_or-replicate, length-replicate}
 use Rattle.checked_tickets.specs.Contents.{contents_in}
+use Rattle.checker_tables.specs.Judged.{in_use}
 use Rattle.checker_tables.specs.Tables.{Tables, tables}
+use Rattle.cids_in_use.specs.Used.{UsedCids}
+use Rattle.cids_in_use.proofs.Counts.{none_used}
 use Rattle.checker_tables.proofs.Judging.{judged_is}
 use Rattle.checker_tables.proofs.Taking.{taken_is}
 use Rattle.nvme_model.specs.Array.{zeros}
@@ -45,11 +48,11 @@ completion_begins : (c : ConfigNumbers) (k : ℕ) → completion_ring c (tables 
 completion_begins c k = (λ i. record (completion_empty c.cq_size) { tail = zero-mod c.cq_size i; phase = zero-div c.cq_size i % 2 == 0 })
 
 -- what is kept of none
-pub keeps_none : (c m : ConfigNumbers) (v : List (List ℕ)) (s : List SubmissionRing) (q : List CompletionRing) (fs : List InFlight) (r : List Held)
-    → m ≡ c → config_fault m ≡ None → v ≡ replicate m.blocks zeros → s ≡ replicate m.pairs (submission_empty m.sq_size) → q ≡ replicate m.cqs (completion_empty m.cq_size) → fs ≡ [] → r ≡ []
-    → Keeps c [] (record { volume = v; submission = s; completion = q; flights = fs; held = r; tickets = 0 })
-keeps_none c m v s q fs r same accepted vs ss qs none free =
-    subst (λ (x : ConfigNumbers). Keeps x [] (record { volume = v; submission = s; completion = q; flights = fs; held = r; tickets = 0 })) same
+pub keeps_none : (c m : ConfigNumbers) (v : List (List ℕ)) (s : List SubmissionRing) (us : List UsedCids) (q : List CompletionRing) (fs : List InFlight) (r : List Held)
+    → m ≡ c → config_fault m ≡ None → v ≡ replicate m.blocks zeros → s ≡ replicate m.pairs (submission_empty m.sq_size) → us ≡ replicate m.pairs (record { room = 2 * m.jobs; cids = [] }) → q ≡ replicate m.cqs (completion_empty m.cq_size) → fs ≡ [] → r ≡ []
+    → Keeps c [] (record { volume = v; submission = s; in_use = us; completion = q; flights = fs; held = r; tickets = 0 })
+keeps_none c m v s us q fs r same accepted vs ss empty qs none free =
+    subst (λ (x : ConfigNumbers). Keeps x [] (record { volume = v; submission = s; in_use = us; completion = q; flights = fs; held = r; tickets = 0 })) same
     (record {
       accepted = accepted;
       legal_so_far = refl;
@@ -57,6 +60,7 @@ keeps_none c m v s q fs r same accepted vs ss qs none free =
         blocks = ap length vs ∙ length-replicate m.blocks zeros;
         values = λ l below. ap (λ (xs : List (List ℕ)). contents_in xs l) vs ∙ get_or-replicate m.blocks l zeros [] below;
         sq_rings = IsTable-replicate _ m.pairs _ s ss (λ k. submission_begins m (suc k));
+        in_use = none_used m.pairs (2 * m.jobs) (in_use (tables m [])) us (λ k. refl) empty;
         cq_rings = IsTable-replicate _ m.cqs _ q qs (λ k. completion_begins m (suc k));
         in_flight = none;
         ranges = free;

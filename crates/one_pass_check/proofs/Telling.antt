@@ -1,6 +1,6 @@
 -- The first rule that an entry breaks, by what is kept.
 use Rattle.std.proofs.Common.{◌≡◌, ℕ, suc, ◌-◌, ◌%◌, ◌≤◌, ◌<◌, ◌==◌, ◌||◌, Bool, true, false, not, cond, List, [], ◌∷◌, get_or, length, map, slice_get, Option, Some, None, is_some, option_map, refl, sym, ap, ap₂, ◌∙◌, subst, arith, eq-eqb, ne_eqb, nat_le, le-leb}
-use Rattle.std.specs.List.{find, flat_map}
+use Rattle.std.specs.List.{find}
 use Rattle.std.specs.Prelude.{Err, IfOk, IfSome, Ok, Result, is_none}
 use Rattle.std.proofs.lemmas.Bool.{lt-leb}
 use Rattle.broken_rules.specs.Broken.{first_broken, refused_or}
@@ -9,7 +9,8 @@ use Rattle.broken_rules.specs.declared.broken.Broken.{Broken}
 use Rattle.broken_rules.proofs.Exactly.{exactly}
 use Rattle.checked_tickets.specs.Contents.{contents_in}
 use Rattle.checked_tickets.specs.Explained.{block_wrong_by, due_in, post_wrong_at}
-use Rattle.checker_tables.specs.Judged.{cids_left, conflicts_by, flies, next_by, owed_by, owes_nothing}
+use Rattle.checker_tables.specs.Judged.{conflicts_by, flies, next_by, owed_by, owes_nothing}
+use Rattle.cids_in_use.specs.Used.{UsedCids}
 use Rattle.checker_tables.specs.Tables.{Flight, flight, tables, unit_of}
 use Rattle.checker_tables.proofs.Within.{right_same}
 use Rattle.entry_codec.specs.Cqe.{phase_bit}
@@ -86,12 +87,12 @@ module _ (c : ConfigNumbers) (past : Past) (k : Kept) (keeps : Keeps c past k) (
         sym (form_is ∙ ap₂ (λ a b. fetch_form false a b (wrong_by c (tables c past) (Entry.Fetch l))) some_waits full)
 
     module _ (next : Option Item) (behind : next ≡ option_map item_of (slice_get r.waiting 1)) (room : length k.flights < c.jobs) (j : Judged)
-        (all : List InFlight) (all_are : all ≡ k.flights) (verdict : matched.verdict_by j ≡ verdict_of c.atomic c.blocks (flat_map (λ e. cids_left l.queue e.flight) all) (waiting_items (item_of first) next))
+        (u : UsedCids) (used : u ≡ get_or k.in_use i u) (ones : List ℕ) (ones_are : ones ≡ u.cids) (verdict : matched.verdict_by j ≡ verdict_of c.atomic c.blocks ones (waiting_items (item_of first) next))
         (operation : operation_in j ≡ op_by (matched.verdict_by j) (sqe_fields first.entry)) (names : NamesBlocks j (sqe_fields first.entry)) where
       pub tell_fetch : fetch_broken l k.tickets (matched.verdict_by j) ≡ broken_by c (tables c past) (Entry.Fetch l)
       tell_fetch =
           let free : nat_le c.jobs (length (flying past)) ≡ false = lt-leb c.jobs (length (flying past)) (omega (arith, room, Fetching.count_is c past k keeps l i place r is)) in
-          ap₂ (λ (n : ℕ) (v : Said). fetch_broken l n v) keeps.shows.count (Fetching.verdict_is c past k keeps l i place r is first waits next behind room j all all_are verdict operation names)
+          ap₂ (λ (n : ℕ) (v : Said). fetch_broken l n v) keeps.shows.count (Fetching.verdict_is c past k keeps l i place r is first waits next behind room j u used ones ones_are verdict operation names)
           ∙ sym (form_is ∙ ap₂ (λ a b. fetch_form false a b (wrong_by c (tables c past) (Entry.Fetch l))) some_waits free)
 
 -- ---- a Grant

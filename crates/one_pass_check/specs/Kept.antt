@@ -1,7 +1,9 @@
 -- What a checker keeps, and of which history.
-use Rattle.std.specs.Prelude.{Bool, List, None, length, map, suc, true, ℕ, ◌<◌, ◌≡◌}
+use Rattle.std.specs.Prelude.{Bool, List, None, length, map, suc, true, ℕ, ◌*◌, ◌<◌, ◌≡◌}
 use Rattle.checked_tickets.specs.Contents.{contents_in}
+use Rattle.checker_tables.specs.Judged.{in_use}
 use Rattle.checker_tables.specs.Tables.{Tables, tables}
+use Rattle.cids_in_use.specs.Used.{AreInUse, UsedCids}
 use Rattle.nvme_model.specs.Config.{config_fault}
 use Rattle.nvme_model.specs.History.{Past}
 use Rattle.nvme_model.specs.Legal.{IsLegal, legal}
@@ -16,11 +18,12 @@ use Rattle.rings.specs.Tables.{IsTable}
 use Rattle.one_pass_check.specs.declared.fields.Fields.{Fields}
 use Rattle.one_pass_check.specs.declared.fields.InFlight.{InFlight}
 
--- what each block is, the rings of the queues, the tickets in flight, the ranges of open units, and how many tickets
--- there are
+-- what each block is, the rings of the queues, the identifiers in use, the tickets in flight, the ranges of open units,
+-- and how many tickets there are
 pub record Kept : Type 0 where
   pub volume : List (List ℕ)
   pub submission : List SubmissionRing
+  pub in_use : List UsedCids
   pub completion : List CompletionRing
   pub flights : List InFlight
   pub held : List Held
@@ -32,6 +35,7 @@ kept_in f =
     record {
       volume = f.volume;
       submission = f.submission.items;
+      in_use = f.in_use.items;
       completion = f.completion.items;
       flights = f.flights.items;
       held = f.ranges.held;
@@ -42,11 +46,12 @@ kept_in f =
 abbrev pub flight_in : ConfigNumbers → Tables → ℕ → InFlight
 flight_in c s t = record { ticket = t; flight = s.flight t; units = units c (s.flight t).ticket }
 
--- it shows these tables
+-- it shows these tables, with room for two identifiers of each ticket that may be in flight
 pub record Shows (c : ConfigNumbers) (s : Tables) (k : Kept) : Type 0 where
   pub blocks : length k.volume ≡ c.blocks
   pub values : (l : ℕ) → l < c.blocks → contents_in k.volume l ≡ s.value l
   pub sq_rings : IsTable (λ q. submission_ring c s (suc q)) c.pairs k.submission
+  pub in_use : AreInUse c.pairs (2 * c.jobs) (in_use s) k.in_use
   pub cq_rings : IsTable (λ q. completion_ring c s (suc q)) c.cqs k.completion
   pub in_flight : k.flights ≡ map (flight_in c s) s.flying
   pub ranges : k.held ≡ by_ticket (map held_of s.opens)

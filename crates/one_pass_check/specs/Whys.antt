@@ -40,7 +40,6 @@ broken_by c s e = refused_or (refusal_by c s (step_of e)) (wrong_by c s e)
 
 -- an entry of this kind may need memory to be explained
 abbrev pub why_needs_memory : Entry → Bool
-why_needs_memory (Entry.Fetch f) = true
 why_needs_memory (Entry.Block b) = true
 why_needs_memory _ = false
 

@@ -24,7 +24,8 @@ use std::marker::Model;
 
 /// Says of each entry that it takes whether the entries so far, the oldest first, are a legal history of its
 /// configuration, whoever made them. It keeps what later entries are judged by, and no entry: how much that is, and how
-/// long an entry takes, doesn't grow with the history.
+/// long an entry takes, doesn't grow with the history. A ticket in flight is found by halves; a Fetch and a Post go
+/// through the identifiers in use on their queue, and a ticket's last Post moves up those in flight behind it.
 #[derive(Drop)]
 pub struct Checker {
     alloc: Global,
@@ -112,7 +113,7 @@ impl Checker {
     ///
     /// # Errors
     ///
-    /// `NoMemory` where a growth is refused. Only for a Fetch or a Block, behind legal entries.
+    /// `NoMemory` where a growth is refused. Only for a Block, behind legal entries.
     pub fn why(&self, entry: &Entry) -> Result<Option<Broken>, NoMemory>
         ensures first { (past : Past) →
             Stands self.now.config past self.now → IfOk result (λ b. b ≡ first_broken self.now.config past entry.now) }

@@ -1,17 +1,16 @@
 //! Fetch: the next command, or the next fused pair, of a submission queue becomes a ticket.
 
 ghost use Rattle.std.specs.Option.{option_copied, option_map};
-ghost use Rattle.std.specs.List.{flat_map};
-ghost use Rattle.std.specs.Prelude.{◌≡◌, ◌+◌, ◌==◌, ◌&&◌, IfOk, OnErr, slice_get};
+ghost use Rattle.std.specs.Prelude.{◌≡◌, ◌+◌, ◌++◌, ◌≤◌, ◌==◌, ◌&&◌, IfOk, OnErr, length, slice_get};
 ghost use Rattle.nvme_model.specs.History.{Past};
 ghost use Rattle.nvme_model.specs.declared.config.ConfigNumbers.{ConfigNumbers};
 ghost use Rattle.nvme_model.specs.declared.entry.Entry.{Entry};
 ghost use Rattle.one_pass_check.specs.Kept.{Keeps, kept_in};
 ghost use Rattle.one_pass_check.specs.Steps.{Took};
-ghost use Rattle.checker_tables.specs.Judged.{cids_left};
 ghost use Rattle.fused_match.specs.Judged.{NamesBlocks, operation_in, verdict_by, waiting_items};
 ghost use Rattle.nvme_model.specs.EntryBytes.{sqe_fields};
 ghost use Rattle.nvme_model.specs.Operations.{op_by};
+ghost use Rattle.nvme_model.specs.Tickets.{cids};
 ghost use Rattle.nvme_model.specs.Verdict.{item_of, same_verdict, verdict_of};
 ghost use Rattle.one_pass_check.specs.Steps.{HasUnits, units_in};
 
@@ -20,6 +19,7 @@ use crate::places::ring_place;
 use block_array::NoMemory;
 use broken_rules::same_verdict;
 use checked_tickets::{Commands, Flight};
+use cids_in_use::CidsInUse;
 use fused_match::{Item, Judged, judge};
 use history::Config;
 use nvme_model::array::Range;
@@ -28,17 +28,6 @@ use nvme_model::submission::Submission;
 use rings::SqRing;
 use std::alloc::Global;
 
-// The identifiers that tickets in flight on this queue still owe a completion for.
-fn cids_in_use(alloc: Global, flights: &[InFlight], queue: u16) -> Result<Vec<u16>, NoMemory>
-    ensures value { IfOk result (λ in_use. in_use.items ≡ flat_map (λ e. cids_left queue e.flight) flights.now) }
-{
-    let mut in_use = Vec::new(alloc);
-    for one in flights {
-        one.flight.put_cids(queue, &mut in_use)?;
-    }
-    Ok(in_use)
-}
-
 // What a check sees of the entry behind the first of a ring, if there is one.
 pub(crate) fn next_item(ring: &SqRing) -> Option<Item>
     ensures value { result ≡ option_map item_of (slice_get ring.now.waiting 1) }
@@ -46,29 +35,20 @@ pub(crate) fn next_item(ring: &SqRing) -> Option<Item>
     ring.peek(1).map(Item::of)
 }
 
-// What becomes of the entries at the front of a ring, where these tickets are in flight.
+// What becomes of the entries at the front of a ring, where these identifiers are in use.
 pub(crate) fn judge_front(
-    alloc: Global,
     config: &Config,
-    flights: &[InFlight],
-    queue: u16,
+    in_use: &[u16],
     first: &Submission,
     next: Option<&Item>,
-) -> Result<Judged, NoMemory>
-    ensures verdict { IfOk result (λ j. verdict_by j ≡
-        verdict_of config.now.atomic config.now.blocks (flat_map (λ e. cids_left queue e.flight) flights.now)
-        (waiting_items (item_of first.now) (option_copied next.entry))) }
-    ensures operation { IfOk result (λ j. operation_in j ≡ op_by (verdict_by j) (sqe_fields first.now.entry)) }
-    ensures range { IfOk result (λ j. NamesBlocks j (sqe_fields first.now.entry)) }
+) -> Judged
+    ensures verdict { verdict_by result ≡ verdict_of config.now.atomic config.now.blocks in_use.now
+        (waiting_items (item_of first.now) (option_copied next.entry)) }
+    ensures operation { operation_in result ≡ op_by (verdict_by result) (sqe_fields first.now.entry) }
+    ensures range { NamesBlocks result (sqe_fields first.now.entry) }
 {
-    let in_use = cids_in_use(alloc, flights, queue)?;
-    Ok(judge(
-        &Item::of(first),
-        next,
-        in_use.as_slice(),
-        &config.units(),
-        config.numbers().blocks,
-    ))
+    let blocks = config.numbers().blocks;
+    judge(&Item::of(first), next, in_use, &config.units(), blocks)
 }
 
 // The units of a ticket.
@@ -84,6 +64,16 @@ fn units_of(alloc: Global, config: &Config, judged: &Judged) -> Result<Vec<Range
             Ok(units)
         }
         _ => Ok(Vec::new(alloc)),
+    }
+}
+
+// Puts the identifiers of a ticket in use.
+fn put_in_use(used: &mut CidsInUse, commands: &Commands)
+    requires room { length used.old.cids + length (cids commands.now) ≤ used.old.room }
+    ensures more { used.new ≡ record used.old { cids = used.old.cids ++ cids commands.now } }
+{
+    for place in 0..commands.len() {
+        used.add(commands.cid_at(place));
     }
 }
 
@@ -122,8 +112,8 @@ pub fn take_fetch(
         return Ok(false);
     }
     let next = next_item(ring);
-    let flights = fields.flights.as_slice();
-    let judged = judge_front(alloc, config, flights, line.queue, first, next.as_ref())?;
+    let in_use = fields.in_use[place].as_slice();
+    let judged = judge_front(config, in_use, first, next.as_ref());
     if !fetch_fits(line, fields.tickets, &judged) {
         return Ok(false);
     }
@@ -131,6 +121,7 @@ pub fn take_fetch(
     fields.flights.reserve(1)?;
     let (first, second) = fields.submission[place].take_commands(judged.taken());
     let commands = Commands::new(line.queue, line.verdict, first, second);
+    put_in_use(&mut fields.in_use[place], &commands);
     fields.flights.push_reserved(InFlight {
         ticket: line.ticket,
         flight: Flight::new(alloc, commands),

@@ -4,6 +4,7 @@ ghost use Rattle.std.specs.Prelude.{◌≡◌, [], IfOk};
 
 use block_array::{NoMemory, Volume};
 use checked_tickets::Flight;
+use cids_in_use::{CidsInUse, none_in_use};
 use history::Config;
 use nvme_model::array::Range;
 use range_reserve::Ranges;
@@ -55,6 +56,8 @@ pub struct Fields {
     pub volume: Volume,
     /// By submission queue.
     pub submission: Vec<SqRing>,
+    /// By submission queue, with room for two of each ticket that may be in flight.
+    pub in_use: Vec<CidsInUse>,
     /// By completion queue; without the data, which no later entry is judged by.
     pub completion: Vec<CqRing>,
     /// By rising ticket.
@@ -79,6 +82,7 @@ impl Fields {
         Ok(Fields {
             volume: Volume::new(alloc, numbers.blocks)?,
             submission: sq_rings(alloc, numbers.pairs, numbers.sq_size)?,
+            in_use: none_in_use(alloc, numbers.pairs, 2 * numbers.jobs as usize)?,
             completion: cq_rings(alloc, numbers.cqs, numbers.cq_size)?,
             flights: Vec::new(alloc),
             ranges: Ranges::new(alloc),

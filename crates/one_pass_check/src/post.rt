@@ -1,6 +1,5 @@
 //! Post: a ticket's next completion goes into its completion queue.
 
-ghost use Rattle.std.specs.Prelude.{◌≡◌};
 ghost use Rattle.nvme_model.specs.History.{Past};
 ghost use Rattle.nvme_model.specs.declared.config.ConfigNumbers.{ConfigNumbers};
 ghost use Rattle.nvme_model.specs.declared.entry.Entry.{Entry};
@@ -36,10 +35,12 @@ pub fn take_post(alloc: Global, config: &Config, fields: &mut Fields, line: &Pos
         return false;
     }
     let flies_on = one.flight.flies_on();
+    let cid = one.flight.next_cid();
     let nothing = Payload::new(Vec::new(alloc));
     let Ok(()) = fields.completion[at].post(line.cqe, nothing) else {
         return false;
     };
+    fields.in_use[usize::from(queue) - 1].remove(cid);
     if flies_on {
         fields.flights[place].flight.post();
         return true;

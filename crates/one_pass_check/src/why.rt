@@ -31,29 +31,25 @@ fn why_publish(fields: &Fields, line: &PublishLine) -> Option<Broken>
     Some(Broken::Refused(why))
 }
 
-fn why_fetch(
-    alloc: Global,
-    config: &Config,
-    fields: &Fields,
-    line: &FetchLine,
-) -> Result<Option<Broken>, NoMemory>
+fn why_fetch(config: &Config, fields: &Fields, line: &FetchLine) -> Option<Broken>
+    requires keeps { (past : Past) × Keeps config.now past (kept_in fields.now) }
     ensures value { (past : Past) → Keeps config.now past (kept_in fields.now) →
-        IfOk result (λ b. b ≡ broken_by config.now (tables config.now past) (Entry.Fetch line.now)) }
+        result ≡ broken_by config.now (tables config.now past) (Entry.Fetch line.now) }
 {
     let Some(place) = ring_place(line.queue, fields.submission.len()) else {
-        return Ok(Some(Broken::Refused(Why::NoQueue)));
+        return Some(Broken::Refused(Why::NoQueue));
     };
     let ring = &fields.submission[place];
     let Some(first) = ring.peek(0) else {
-        return Ok(Some(Broken::Refused(Why::NoEntry)));
+        return Some(Broken::Refused(Why::NoEntry));
     };
     if fields.flights.len() >= usize::from(config.numbers().jobs) {
-        return Ok(Some(Broken::Refused(Why::JobsFull)));
+        return Some(Broken::Refused(Why::JobsFull));
     }
     let next = next_item(ring);
-    let flights = fields.flights.as_slice();
-    let judged = judge_front(alloc, config, flights, line.queue, first, next.as_ref())?;
-    Ok(fetch_broken(line, fields.tickets, &judged.verdict()))
+    let in_use = fields.in_use[place].as_slice();
+    let judged = judge_front(config, in_use, first, next.as_ref());
+    fetch_broken(line, fields.tickets, &judged.verdict())
 }
 
 // A Grant of a ticket in flight.
@@ -151,7 +147,7 @@ pub fn why_broken(
 {
     match entry {
         Entry::Publish(line) => Ok(why_publish(fields, line)),
-        Entry::Fetch(line) => why_fetch(alloc, config, fields, line),
+        Entry::Fetch(line) => Ok(why_fetch(config, fields, line)),
         Entry::Grant(line) => Ok(why_grant(fields, line)),
         Entry::Block(line) => why_block(alloc, fields, line),
         Entry::Post(line) => Ok(why_post(config, fields, line)),

@@ -8,6 +8,7 @@ use Rattle.nvme_model.specs.Config.{config_fault, config_faults}
 use Rattle.nvme_model.specs.History.{Past}
 use Rattle.nvme_model.specs.Laws.{is_held}
 use Rattle.nvme_model.specs.Medium.{medium}
+use Rattle.nvme_model.specs.Tickets.{cids_in_use}
 use Rattle.nvme_model.specs.Value.{value}
 use Rattle.nvme_model.specs.declared.config.ConfigNumbers.{ConfigNumbers}
 use Rattle.nvme_model.proofs.Medium.{medium_is_value}
@@ -16,9 +17,8 @@ use Rattle.rings.specs.Completions.{CompletionRing}
 use Rattle.rings.specs.Slots.{IsSize}
 use Rattle.rings.specs.Submissions.{SubmissionRing}
 use Rattle.rings.specs.Queues.{completion_ring, submission_ring}
-use Rattle.cids_in_use.specs.Used.{UsedCids}
-use Rattle.std.proofs.lemmas.List.{get_or-replicate, length-replicate}
-use Rattle.step_core.specs.Kept.{AreInUse, AreUsed, CoreFields, IsKept}
+use Rattle.cids_in_use.proofs.Counts.{none_used}
+use Rattle.step_core.specs.Kept.{CoreFields, IsKept}
 use Rattle.step_core.proofs.Tables.{IsTable-replicate}
 
 -- the size of a completion queue that is accepted
@@ -45,16 +45,6 @@ completion_begins : (c : ConfigNumbers) (k : ℕ) → completion_ring c [] k ≡
 unfolding completion_ring
 completion_begins c k = (λ i. record (completion_empty c.cq_size) { tail = zero-mod c.cq_size i; phase = zero-div c.cq_size i % 2 == 0 })
 
--- nothing is in use
-none_used : (c : ConfigNumbers) (k : ℕ) → AreUsed c [] (suc k) (record { room = 2 * c.jobs; cids = [] })
-none_used c k = record { cids = λ p. refl; room = refl }
-
-used_begins : (c : ConfigNumbers) (us : List UsedCids) → us ≡ replicate c.pairs (record { room = 2 * c.jobs; cids = [] }) → AreInUse c [] us
-used_begins c us e = subst (AreInUse c []) (sym e) (record {
-  size = length-replicate c.pairs _;
-  at = λ k d below. subst (AreUsed c [] (suc k)) (sym (get_or-replicate c.pairs k (record { room = 2 * c.jobs; cids = [] }) d below)) (none_used c k);
-})
-
 -- the fields of a controller that is just made
 pub begins : (c m : ConfigNumbers) (p : Past) (f : CoreFields) → m ≡ c → config_fault m ≡ None → p ≡ [] → f.volume ≡ replicate m.blocks zeros
     → f.submission ≡ replicate m.pairs (submission_empty m.sq_size) → f.in_use ≡ replicate m.pairs (record { room = 2 * m.jobs; cids = [] })
@@ -65,7 +55,7 @@ begins c m p f same accepted none vs ss us qs js rs ns =
       accepted = accepted;
       volume = IsTable-replicate (medium []) m.blocks zeros f.volume vs (λ k. refl);
       submission = IsTable-replicate _ m.pairs _ f.submission ss (λ k. submission_begins m (suc k));
-      in_use = used_begins m f.in_use us;
+      in_use = none_used m.pairs (2 * m.jobs) (cids_in_use []) f.in_use (λ q. refl) us;
       completion = IsTable-replicate _ m.cqs _ f.completion qs (λ k. completion_begins m (suc k));
       jobs = js;
       held = rs;

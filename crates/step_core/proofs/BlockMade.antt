@@ -38,7 +38,6 @@ use Rattle.ticket_course.specs.declared.course.Stage.{Stage}
 use Rattle.ticket_course.specs.declared.course.Stage.TheVariants.{Open}
 use Rattle.rings.specs.Queues.{completion_ring, submission_ring}
 use Rattle.job_table.specs.Tickets.{job_at}
-use Rattle.step_core.proofs.InUse.{used_same}
 use Rattle.step_core.specs.Kept.{CoreFields, IsKept}
 use Rattle.rings.specs.Tables.{IsTable}
 use Rattle.step_core.specs.State.{Does, Room, State, TakesRoom, answer_of}
@@ -172,7 +171,7 @@ module _ (c : ConfigNumbers) (past : Past) (fields : CoreFields) (k : IsKept c p
                 accepted = k.accepted;
                 volume = subst (IsTable (medium (Entry.Block (line_now past t g o) ∷ past)) c.blocks) (sym (written g o u)) (volume_now c past t g o u k.run.legal v k.volume);
                 submission = IsTable-same (λ i. submission_ring c past (suc i)) (λ i. submission_ring c (Entry.Block (line_now past t g o) ∷ past) (suc i)) c.pairs s k.submission (λ i. submission_kept c past (line_now past t g o) (suc i));
-                in_use = used_same c past (Entry.Block (line_now past t g o) ∷ past) fields.in_use k.in_use (λ i p. refl);
+                in_use = k.in_use;
                 completion = IsTable-same (λ i. completion_ring c past (suc i)) (λ i. completion_ring c (Entry.Block (line_now past t g o) ∷ past) (suc i)) c.cqs q k.completion (λ i. completion_kept c past (line_now past t g o) (suc i));
                 jobs =
                     (λ z. record { limit = (k.jobs z).limit; jobs = replaced (k.jobs z).jobs t (own g o u z) })

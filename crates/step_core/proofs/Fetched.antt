@@ -1,5 +1,5 @@
 -- What a Fetch requires and what it leaves.
-use Rattle.std.proofs.Common.{◌≡◌, ◌≢◌, ℕ, zero, suc, ◌+◌, ◌-◌, ◌%◌, ◌≤◌, ◌<◌, ◌^◌, ◌==◌, ◌||◌, true, false, cond, List, [], ◌∷◌, ◌++◌, drop, get_or, length, map, set, take, None, Some, Ok, Bool, slice_get, nat_le, is_none, is_some, refl, sym, ap, ap₂, ◌∙◌, subst, subst₂, arith, inl, inr, add-zero, eqb, eqb-true, eq-eqb, ne_eqb, nat_lt, ltb-false}
+use Rattle.std.proofs.Common.{◌≡◌, ◌≢◌, ℕ, zero, suc, ◌*◌, ◌+◌, ◌-◌, ◌%◌, ◌≤◌, ◌<◌, ◌^◌, ◌==◌, ◌||◌, true, false, cond, List, [], ◌∷◌, ◌++◌, drop, get_or, length, map, set, take, None, Some, Ok, Bool, slice_get, nat_le, is_none, is_some, refl, sym, ap, ap₂, ◌∙◌, subst, subst₂, arith, inl, inr, add-zero, eqb, eqb-true, eq-eqb, ne_eqb, nat_lt, ltb-false}
 use Rattle.std.specs.List.{count_by, list_all, list_any}
 use Rattle.std.proofs.Math.Nat.{mod-add-mod}
 use Rattle.std.proofs.lemmas.Bool.{cases_Bool, cond-true, or_parts}
@@ -57,7 +57,8 @@ use Rattle.step_core.specs.declared.work.Kind.{Kind}
 use Rattle.step_core.proofs.FetchedJob.{Names, fresh_job, kind_fits, kind_is, sound, ticket_by}
 use Rattle.step_core.proofs.FetchedData.{blocks_are, has_blocks}
 use Rattle.step_core.proofs.Fetching.{blocks_most, front_command, full_is}
-use Rattle.step_core.proofs.InUse.{count_append, count_fetched, same_length, two_each, used_set}
+use Rattle.cids_in_use.proofs.Counts.{count_append, same_length, used_at, used_set}
+use Rattle.step_core.proofs.InUse.{count_fetched, two_each}
 use Rattle.step_core.proofs.Moves.{legal_after, stepped}
 use Rattle.step_core.proofs.Tables.{IsTable-same, IsTable-set}
 
@@ -276,9 +277,7 @@ module _ (c : ConfigNumbers) (past : Past) (fields : CoreFields) (k : IsKept c p
 
   -- the CIDs in use on its queue, without it
   own_used : (u : UsedCids) → u ≡ get_or fields.in_use (t - 1) u → AreUsed c past t u
-  own_used u there =
-      subst (λ (m : ℕ). AreUsed c past m u) queue_place.0
-      (subst (AreUsed c past (suc (t - 1))) (sym there) (k.in_use.at (t - 1) u queue_place.1))
+  own_used u there = used_at c.pairs (2 * c.jobs) (cids_in_use past) fields.in_use (t - 1) t u k.in_use (omega (arith, queue_place.0)) queue_place.1 there
 
   -- there is room for its own
   pub used_room : (u : UsedCids) → u ≡ get_or fields.in_use (t - 1) u → length u.cids + length x.cids ≤ u.room
@@ -306,7 +305,7 @@ module _ (c : ConfigNumbers) (past : Past) (fields : CoreFields) (k : IsKept c p
 
   -- they are in use with it
   used_after : (u y : UsedCids) → u ≡ get_or fields.in_use (t - 1) u → y ≡ record u { cids = u.cids ++ x.cids } → AreInUse c (Entry.Fetch (fetch_line past t x) ∷ past) (set fields.in_use (t - 1) y)
-  used_after u y there more = used_set c past (Entry.Fetch (fetch_line past t x) ∷ past) fields.in_use (t - 1) y k.in_use queue_place.1 here others
+  used_after u y there more = used_set c.pairs (2 * c.jobs) (cids_in_use past) (cids_in_use (Entry.Fetch (fetch_line past t x) ∷ past)) fields.in_use (t - 1) y k.in_use queue_place.1 here others
     where
       own : AreUsed c past t u
       own = own_used u there

@@ -32,7 +32,7 @@ use Rattle.step_core.specs.declared.machine.fetch.Front.{Front}
 use Rattle.job_table.specs.Tickets.{job_at}
 use Rattle.rings.specs.Queues.{submission_ring}
 use Rattle.step_core.specs.Kept.{AreUsed, CoreFields, IsKept}
-use Rattle.step_core.proofs.InUse.{same_in}
+use Rattle.cids_in_use.proofs.Counts.{same_in}
 
 -- ---- the limits of a configuration
 

@@ -42,7 +42,6 @@ use Rattle.ticket_course.proofs.Granted.{granted, none_found}
 use Rattle.ticket_course.proofs.Waits.{Waits, first_of, opens}
 use Rattle.job_table.specs.Tickets.{compare_bytes, job_at, job_by, read_bytes_by, still_written}
 use Rattle.rings.specs.Queues.{completion_ring, submission_ring}
-use Rattle.step_core.proofs.InUse.{used_same}
 use Rattle.step_core.specs.Kept.{CoreFields, IsKept}
 use Rattle.step_core.specs.Found.{IsNext}
 use Rattle.step_core.specs.declared.machine.next.Next.{Next}
@@ -200,7 +199,7 @@ module _ (c : ConfigNumbers) (past : Past) (fields : CoreFields) (k : IsKept c p
           accepted = k.accepted;
           volume = IsTable-same (medium past) (medium (Entry.Grant g ∷ past)) c.blocks v k.volume (λ l. refl);
           submission = IsTable-same (λ i. submission_ring c past (suc i)) (λ i. submission_ring c (Entry.Grant g ∷ past) (suc i)) c.pairs s k.submission (λ i. submission_kept c past g (suc i));
-          in_use = used_same c past (Entry.Grant g ∷ past) fields.in_use k.in_use (λ i p. refl);
+          in_use = k.in_use;
           completion = IsTable-same (λ i. completion_ring c past (suc i)) (λ i. completion_ring c (Entry.Grant g ∷ past) (suc i)) c.cqs q k.completion (λ i. completion_kept c past g (suc i));
           jobs =
               (λ z. record { limit = (k.jobs z).limit; jobs = replaced (k.jobs z).jobs g.ticket ((is_y ∙ own) z) })

@@ -1,14 +1,9 @@
 -- The CIDs in use of a history, counted: what a Fetch adds to them, and what a Post takes away.
-use Rattle.std.proofs.Common.{◌≡◌, ◌≢◌, ℕ, zero, suc, ◌+◌, ◌*◌, ◌-◌, ◌≤◌, ◌<◌, ◌||◌, Bool, true, false, cond, List, [], ◌∷◌, ◌++◌, add-one, ap, ap₂, arith, drop, eqb, eq-eqb, get_or, inl, inr, length, lt-ltb, ltb-false, nat_lt, ne_eqb, refl, set, slice_get, subst, Some, sym, ◌∙◌}
-use Rattle.std.specs.List.{count_by, flat_map, list_any}
-use Rattle.std.specs.List.Sorted.{IsPermutation}
+use Rattle.std.proofs.Common.{◌≡◌, ℕ, zero, suc, ◌+◌, ◌*◌, ◌≤◌, ◌<◌, Bool, true, false, cond, List, [], ◌∷◌, ◌++◌, add-one, ap, ap₂, arith, drop, eqb, eq-eqb, inl, inr, length, ltb-false, ne_eqb, refl, slice_get, Some, sym, ◌∙◌}
+use Rattle.std.specs.List.{count_by, flat_map}
 use Rattle.std.proofs.lemmas.Bool.{cases_Bool, cases_eq, cond-false, cond-true}
-use Rattle.std.proofs.lemmas.Bool.Decides.{nat_tests}
-use Rattle.std.proofs.lemmas.List.{get_or-set_other, get_or-set_same, length-append, length-drop, length-map, length-set}
-use Rattle.std.proofs.lemmas.List.Sorted.{sum_by-IsPermutation}
-use Rattle.std.proofs.lemmas.List.Sums.{sum_by-append, sum_by-cons}
-use Rattle.cids_in_use.specs.Used.{UsedCids, is_used}
-use Rattle.step_core.specs.Kept.{AreInUse, AreUsed}
+use Rattle.std.proofs.lemmas.List.{length-append, length-drop, length-map}
+use Rattle.cids_in_use.proofs.Counts.{count_append, count_cons}
 use Rattle.nvme_model.specs.EntryBytes.{sqe_fields}
 use Rattle.nvme_model.specs.History.{Past}
 use Rattle.nvme_model.specs.Legal.{IsLegal}
@@ -22,39 +17,7 @@ use Rattle.nvme_model.specs.declared.entry.PostLine.{PostLine}
 use Rattle.nvme_model.specs.declared.status.Verdict.{Verdict}
 use Rattle.nvme_model.proofs.NextPost.{commands_few}
 use Rattle.nvme_model.proofs.Rules.{fetch_number, follows}
-use Rattle.ticket_standing.proofs.InUse.{SameIn}
 use Rattle.ticket_standing.proofs.Unfetched.{no_posts}
-
--- ---- counts
-
--- how many of two lists
-pub count_append : (p : ℕ → Bool) (xs ys : List ℕ) → count_by p (xs ++ ys) ≡ count_by p xs + count_by p ys
-count_append p xs ys = sum_by-append (λ x. cond (p x) 1 0) xs ys
-
--- and of one more
-pub count_cons : (p : ℕ → Bool) (x : ℕ) (xs : List ℕ) → count_by p (x ∷ xs) ≡ cond (p x) 1 0 + count_by p xs
-count_cons p x xs = sum_by-cons (λ y. cond (p y) 1 0) x xs
-
--- one passes exactly where some are counted
-any_count : (p : ℕ → Bool) (xs : List ℕ) → list_any p xs ≡ nat_lt 0 (count_by p xs)
-any_count p [] = refl
-any_count p (x ∷ xs) = by (p x) (any_count p xs) ∙ ap (nat_lt 0) (sym (count_cons p x xs))
-  where
-    by : (b : Bool) → list_any p xs ≡ nat_lt 0 (count_by p xs) → (b || list_any p xs) ≡ nat_lt 0 (cond b 1 0 + count_by p xs)
-    by true h = grind (arith, nat_tests)
-    by false h = grind (arith, nat_tests)
-
--- lists of the same counts have the same CIDs
-pub same_in : (xs ys : List ℕ) → ((p : ℕ → Bool) → count_by p xs ≡ count_by p ys) → SameIn xs ys
-same_in xs ys h cid = any_count _ xs ∙ ap (nat_lt 0) (h _) ∙ sym (any_count _ ys)
-
--- and the same length
-all_counted : (xs : List ℕ) → count_by (λ _. true) xs ≡ length xs
-all_counted [] = refl
-all_counted (x ∷ xs) = count_cons (λ _. true) x xs ∙ omega (arith, all_counted xs)
-
-pub same_length : (xs ys : List ℕ) → ((p : ℕ → Bool) → count_by p xs ≡ count_by p ys) → length xs ≡ length ys
-same_length xs ys h = sym (all_counted xs) ∙ h (λ _. true) ∙ all_counted ys
 
 -- ---- the CIDs of one ticket
 
@@ -206,42 +169,3 @@ two_each past q = go (Tickets.tickets past)
           go m,
           count_cons (in_flight past) (suc m) (numbers m),
         )
-
--- ---- what is kept of them
-
--- a step that leaves them all
-pub used_same : (c : ConfigNumbers) (past later : Past) (us : List UsedCids) → AreInUse c past us → ((n : ℕ) (p : ℕ → Bool) → count_by p (cids_in_use later n) ≡ count_by p (cids_in_use past n)) → AreInUse c later us
-used_same c past later us a same =
-    record { size = a.size; at = λ n d below. let before = a.at n d below in record { cids = λ p. before.cids p ∙ sym (same (suc n) p); room = before.room } }
-
--- a list of them where one has changed, and the counts of the others have not
-pub used_set : (c : ConfigNumbers) (past later : Past) (us : List UsedCids) (i : ℕ) (y : UsedCids) → AreInUse c past us → i < c.pairs → AreUsed c later (suc i) y
-    → ((n : ℕ) → n ≢ i → (p : ℕ → Bool) → count_by p (cids_in_use later (suc n)) ≡ count_by p (cids_in_use past (suc n))) → AreInUse c later (set us i y)
-used_set c past later us i y a within here others = record {
-  size = length-set us i y ∙ a.size;
-  at = λ n d below. elim (cases_eq n i) [
-    | inl same ↦
-        subst (λ (m : ℕ). AreUsed c later (suc m) (get_or (set us i y) m d)) (sym same)
-        (subst (AreUsed c later (suc i)) (sym (get_or-set_same us i y d (let there : i < length us = omega (arith, a.size, within) in there))) here)
-    | inr apart ↦
-        let before = a.at n d below in
-        subst (AreUsed c later (suc n)) (sym (get_or-set_other us i n y d apart))
-        (record { cids = λ p. before.cids p ∙ sym (others n apart p); room = before.room })
-  ];
-}
-
--- those of a queue that is there
-pub used_at : (c : ConfigNumbers) (past : Past) (us : List UsedCids) (t : ℕ) (u : UsedCids) → AreInUse c past us → 1 ≤ t → t ≤ c.pairs → u ≡ get_or us (t - 1) u → AreUsed c past t u
-used_at c past us t u a low high there =
-    subst (λ (m : ℕ). AreUsed c past m u) (let one : suc (t - 1) ≡ t = omega (arith, low) in one)
-    (subst (AreUsed c past (suc (t - 1))) (sym there) (a.at (t - 1) u (omega (arith, low, high))))
-
--- one that is counted is in use
-pub is_among : (u : UsedCids) (cid n : ℕ) → count_by (λ one. eqb one cid) u.cids ≡ cond (eqb cid cid) 1 0 + n → is_used cid u.cids ≡ true
-is_among u cid n e =
-    let one = ap (λ b. cond b 1 0 + n) (eq-eqb cid cid refl) in
-    any_count (λ x. eqb x cid) u.cids ∙ lt-ltb 0 _ (omega (arith, e, one))
-
--- without one of them
-pub one_less : (cid : ℕ) (xs ys : List ℕ) → IsPermutation xs (cid ∷ ys) → (p : ℕ → Bool) → count_by p xs ≡ cond (p cid) 1 0 + count_by p ys
-one_less cid xs ys same p = sym (sum_by-IsPermutation (λ x. cond (p x) 1 0) xs (cid ∷ ys) same) ∙ count_cons p cid ys

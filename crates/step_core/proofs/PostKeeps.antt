@@ -1,5 +1,5 @@
 -- What a Post leaves.
-use Rattle.std.proofs.Common.{◌≡◌, ◌≢◌, ℕ, zero, suc, drop, ◌+◌, ◌-◌, ◌%◌, ◌≤◌, ◌<◌, Bool, true, false, cond, List, [], ◌∷◌, length, get_or, set, slice_get, Option, Some, None, refl, sym, ap, ◌∙◌, subst, arith, inl, inr, eqb, eq-eqb, ltb-true, ltb-false, ne_eqb, nat_lt, is_none}
+use Rattle.std.proofs.Common.{◌≡◌, ◌≢◌, ℕ, zero, suc, drop, ◌*◌, ◌+◌, ◌-◌, ◌%◌, ◌≤◌, ◌<◌, Bool, true, false, cond, List, [], ◌∷◌, length, get_or, set, slice_get, Option, Some, None, refl, sym, ap, ◌∙◌, subst, arith, inl, inr, eqb, eq-eqb, ltb-true, ltb-false, ne_eqb, nat_lt, is_none}
 use Rattle.std.proofs.lemmas.Bool.{cases_eq, or_parts}
 use Rattle.std.proofs.lemmas.List.{length-drop, length-map}
 use Rattle.std.proofs.Math.Nat.{mod-lt}
@@ -43,7 +43,8 @@ use Rattle.step_core.specs.declared.machine.post.Due.{Due}
 use Rattle.step_core.proofs.Moves.{job_found, stepped}
 use Rattle.step_core.proofs.Tables.{IsTable-same, IsTable-set}
 use Rattle.step_core.proofs.Posting.{cqs_some, due_full, flies_some, queue_there, ticket_queue}
-use Rattle.step_core.proofs.InUse.{count_cons, is_among, one_less, count_posted, ticket_zero, used_set}
+use Rattle.cids_in_use.proofs.Counts.{count_cons, is_among, one_less, used_at, used_set}
+use Rattle.step_core.proofs.InUse.{count_posted, ticket_zero}
 use Rattle.nvme_model.proofs.Apart.{fetched_if}
 use Rattle.cids_in_use.specs.Used.{UsedCids, is_used}
 use Rattle.std.specs.List.{count_by}
@@ -256,8 +257,7 @@ module _ (c : ConfigNumbers) (past : Past) (fields : CoreFields) (k : IsKept c p
 
   own_used : (u : UsedCids) → u ≡ get_or fields.in_use (d.from - 1) u → AreUsed c past d.from u
   own_used u e =
-      subst (λ (m : ℕ). AreUsed c past m u) (let one : suc (d.from - 1) ≡ d.from = omega (arith, from_there.0) in one)
-      (subst (AreUsed c past (suc (d.from - 1))) (sym e) (k.in_use.at (d.from - 1) u (omega (arith, from_there.0, from_there.1))))
+      used_at c.pairs (2 * c.jobs) (cids_in_use past) fields.in_use (d.from - 1) d.from u k.in_use (omega (arith, from_there.0)) (omega (arith, from_there.0, from_there.1)) e
 
   next_cid : slice_get (drop (posts_of past d.ticket) (cids (Tickets.ticket past d.ticket))) 0 ≡ Some d.cid
   unfolding job_by
@@ -287,7 +287,7 @@ module _ (c : ConfigNumbers) (past : Past) (fields : CoreFields) (k : IsKept c p
   -- and afterwards once less
   used_after : (u y : UsedCids) (copy : List ℕ) → u ≡ get_or fields.in_use (d.from - 1) u → IsPermutation u.cids (d.cid ∷ y.cids) → y.room ≡ u.room
       → AreInUse c (Entry.Post (post_line copy) ∷ past) (set fields.in_use (d.from - 1) y)
-  used_after u y copy e less room = used_set c past (Entry.Post (post_line copy) ∷ past) fields.in_use (d.from - 1) y k.in_use within_from here others
+  used_after u y copy e less room = used_set c.pairs (2 * c.jobs) (cids_in_use past) (cids_in_use (Entry.Post (post_line copy) ∷ past)) fields.in_use (d.from - 1) y k.in_use within_from here others
     where
       within_from : d.from - 1 < c.pairs
       within_from = omega (arith, from_there.0, from_there.1)

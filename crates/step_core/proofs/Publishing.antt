@@ -19,7 +19,6 @@ use Rattle.rings.specs.Completions.{CompletionRing}
 use Rattle.rings.specs.Submissions.{SubmissionRing, batch_fault, batch_faults}
 use Rattle.job_table.specs.Jobs.{JobTable}
 use Rattle.rings.specs.Queues.{completion_ring, submission_ring}
-use Rattle.step_core.proofs.InUse.{used_same}
 use Rattle.step_core.specs.Kept.{CoreFields, IsKept}
 use Rattle.step_core.specs.Found.{IsSqRing}
 use Rattle.step_core.proofs.Lookups.{sq_read}
@@ -115,7 +114,7 @@ module _ (c : ConfigNumbers) (past : Past) (fields : CoreFields)
       accepted = k.accepted;
       volume = k.volume;
       submission = IsTable-set _ _ c.pairs (t - 1) s y k.submission within ring (λ i apart. ring_stays c past t batch (suc i) k.run (other i apart));
-      in_use = used_same c past (published_entry t batch ∷ past) fields.in_use k.in_use (λ i p. refl);
+      in_use = k.in_use;
       completion = IsTable-same _ _ c.cqs q k.completion (λ i. completion_stays c past t batch (suc i));
       jobs = k.jobs;
       held = k.held;

@@ -23,7 +23,6 @@ use Rattle.rings.specs.Submissions.{SubmissionRing}
 use Rattle.rings.specs.declared.completion_ring.Completion.{Completion}
 use Rattle.job_table.specs.Jobs.{JobTable}
 use Rattle.rings.specs.Queues.{completion_of, completion_ring, submission_ring}
-use Rattle.step_core.proofs.InUse.{used_same}
 use Rattle.step_core.specs.Kept.{CoreFields, IsKept}
 use Rattle.step_core.specs.Found.{IsCqRing}
 use Rattle.step_core.specs.State.{answer_of, payload_of}
@@ -190,7 +189,7 @@ module _ (c : ConfigNumbers) (past : Past) (fields : CoreFields)
         accepted = k.accepted;
         volume = k.volume;
         submission = IsTable-same _ _ c.pairs s k.submission (λ i. submission_stays c past t d (suc i));
-        in_use = used_same c past (reaped_entry t d ∷ past) fields.in_use k.in_use (λ i p. refl);
+        in_use = k.in_use;
         completion = IsTable-set _ _ c.cqs (t - 1) q y k.completion within ring (λ i apart. ring_stays c past t d (suc i) (other i apart));
         jobs = k.jobs;
         held = k.held;

@@ -1,6 +1,5 @@
 -- The refinement: each field of a core is what its history says.
-use Rattle.std.specs.List.{count_by}
-use Rattle.std.specs.Prelude.{Bool, List, None, get_or, length, map, suc, ℕ, ◌*◌, ◌<◌, ◌≡◌}
+use Rattle.std.specs.Prelude.{List, None, map, suc, ℕ, ◌*◌, ◌≡◌}
 use Rattle.nvme_model.specs.Config.{config_fault}
 use Rattle.nvme_model.specs.History.{Past}
 use Rattle.nvme_model.specs.Kept.{Kept}
@@ -8,6 +7,7 @@ use Rattle.nvme_model.specs.Medium.{medium}
 use Rattle.nvme_model.specs.Open.{open_units}
 use Rattle.nvme_model.specs.Tickets.{cids_in_use, tickets}
 use Rattle.nvme_model.specs.declared.config.ConfigNumbers.{ConfigNumbers}
+use Rattle.cids_in_use.specs.Used as used
 use Rattle.cids_in_use.specs.Used.{UsedCids}
 use Rattle.range_reserve.specs.Reserved.{by_ticket, held_of}
 use Rattle.range_reserve.specs.declared.held.Held.{Held}
@@ -18,16 +18,14 @@ use Rattle.rings.specs.Tables.{IsTable}
 use Rattle.job_table.specs.Jobs.{JobTable}
 use Rattle.job_table.specs.Tickets.{job_table}
 
--- the CIDs kept for a submission queue are those in use on it, in whatever order, each as often; and there is room for
--- two of each ticket that may be in flight
-pub record AreUsed (c : ConfigNumbers) (past : Past) (q : ℕ) (u : UsedCids) : Type 0 where
-  pub cids : (p : ℕ → Bool) → count_by p u.cids ≡ count_by p (cids_in_use past q)
-  pub room : u.room ≡ 2 * c.jobs
+-- the CIDs kept for submission queue q are those in use on it, and there is room for two of each ticket that may be in
+-- flight
+abbrev pub AreUsed : ConfigNumbers → Past → ℕ → UsedCids → Type 0
+AreUsed c past q u = used.AreUsed (2 * c.jobs) (cids_in_use past q) u
 
 -- so it is of each submission queue
-pub record AreInUse (c : ConfigNumbers) (past : Past) (us : List UsedCids) : Type 0 where
-  pub size : length us ≡ c.pairs
-  pub at : (k : ℕ) (d : UsedCids) → k < c.pairs → AreUsed c past (suc k) (get_or us k d)
+abbrev pub AreInUse : ConfigNumbers → Past → List UsedCids → Type 0
+AreInUse c past us = used.AreInUse c.pairs (2 * c.jobs) (cids_in_use past) us
 
 -- what a core has beside its configuration, its history and its room
 pub record CoreFields : Type 0 where

@@ -1,7 +1,7 @@
 //! The controller: its fields, and how a step reads and changes them.
 
 ghost use Rattle.std.specs.Prelude.{◌≡◌, ◌≤◌, ◌<◌, [], IfOk, IfSome, MatchOption, MatchResult, OnErr, OnOk};
-ghost use Rattle.std.specs.Prelude.{false, max, replicate, true};
+ghost use Rattle.std.specs.Prelude.{false, max, true};
 ghost use Rattle.nvme_model.specs.Kept.{Kept};
 ghost use Rattle.nvme_model.specs.Legal.{IsLegal};
 ghost use Rattle.nvme_model.specs.Medium.{medium};
@@ -25,7 +25,7 @@ mod room;
 mod steps;
 
 use block_array::Volume;
-use cids_in_use::CidsInUse;
+use cids_in_use::{CidsInUse, none_in_use};
 use history::{Config, History};
 use job_table::{Job, Jobs};
 use nvme_model::refusal::Why;
@@ -76,17 +76,6 @@ impl Model for Core {
           tickets = c.tickets;
         })
         × (c.promised ≤ c.history.room) × (c.promised ≤ c.ranges.room) × (c.promised + 1 < 2 ^ 64) };
-}
-
-// What is in use on so many submission queues, none yet, with room for so many CIDs on each.
-fn none_in_use(alloc: Global, count: u16, room: usize) -> Result<Vec<CidsInUse>, NoMemory>
-    ensures value { IfOk result (λ used. used.items ≡ replicate count (record { room = room; cids = [] })) }
-{
-    let mut used = Vec::with_capacity(alloc, count as usize)?;
-    for _ in 0..count {
-        used.push_reserved(CidsInUse::new(alloc, room)?);
-    }
-    Ok(used)
 }
 
 impl Core {

@@ -56,6 +56,18 @@ index-requires-2 c =
     let at = c.from-at.ensures ∙ (λ i. ((c.queue-queue.ensures.value ∙ ap (λ (t : Ticket). t.queue) c.ticket.ensures.value) i - 1) % (ap (λ (n : ConfigNumbers). n.cqs) c.numbers.ensures.value) i) in
     omega (arith, (post_cq_place _ _ _ k c.args.line.now c.in-Some.place c.index-one.result.now there).within, k.shows.cq_rings.size, at)
 
+pub overflow_sub-from-2 : goal.overflow_sub-from-2
+overflow_sub-from-2 c =
+    let k = c.requires.keeps.1 in
+    let there = found_by _ _ _ k c.args.line.now.ticket c.in-Some.place c.index-one.result.now _ _ c.as_slice.ensures.value c.ticket_place.ensures.value c.in-Some.is c.index-one.ensures in
+    omega (arith, post_low _ _ _ k c.args.line.now c.in-Some.place c.index-one.result.now there, c.from-2.ensures, c.queue-queue.ensures.value, ap (λ (t : Ticket). t.queue) c.ticket.ensures.value)
+
+pub index_mut-requires-2 : goal.index_mut-requires-2
+index_mut-requires-2 c =
+    let k = c.requires.keeps.1 in
+    let there = found_by _ _ _ k c.args.line.now.ticket c.in-Some.place c.index-one.result.now _ _ c.as_slice.ensures.value c.ticket_place.ensures.value c.in-Some.is c.index-one.ensures in
+    omega (arith, (post_sq_place _ _ _ k c.args.line.now c.in-Some.place c.index-one.result.now there).within, k.shows.in_use.size, c.from-2.ensures, c.queue-queue.ensures.value, ap (λ (t : Ticket). t.queue) c.ticket.ensures.value, c.args.fields.now.in_use.ok.0)
+
 pub returns-then-not-post_fits : goal.returns-then-not-post_fits
 returns-then-not-post_fits c = record {
   took = λ past k.
@@ -103,10 +115,13 @@ returns-then-flies_on c = record {
       let more = c.in-Ok.ensures.ok ∙ ap (λ (xs : List ℕ). posted_ring c.index_mut.result.now (record { cqe = c.args.line.now.cqe; payload = xs })) (c.new-nothing.ensures ∙ c.new.ensures.items) in
       let here = found_by _ past _ k c.args.line.now.ticket c.in-Some.place c.index_mut-then-flies_on.result.now _ _ c.as_slice.ensures.value c.ticket_place.ensures.value c.in-Some.is c.index_mut-then-flies_on.ensures.value in
       let fs = set c.args.fields.now.flights.items c.in-Some.place (record { ticket = c.index_mut-then-flies_on.result.now.ticket; flight = c.post-then-flies_on.new.self; units = c.index_mut-then-flies_on.result.now.units }) in
-      subst (λ (n : ℕ). Took c.args.config.now past (Entry.Post c.args.line.now) true (record (kept_in c.args.fields.now) { completion = set c.args.fields.now.completion.items n c.post.new.self; flights = fs })) (sym at)
-      (post_on _ past _ k c.args.line.now c.in-Some.place c.index-one.result.now there c.index.result.now c.index_mut.result.now sq own owes fits c.in-Ok.ensures.room c.post.new.self more _
+      let from = c.from-2.ensures ∙ queue in
+      let used = c.index_mut-2.ensures.value ∙ (λ i. get_or c.args.fields.now.in_use.items (from i - 1) c.index_mut-2.result.now) in
+      subst (λ (n : ℕ). Took c.args.config.now past (Entry.Post c.args.line.now) true (record (kept_in c.args.fields.now) { in_use = set c.args.fields.now.in_use.items (c.from-2.result - 1) c.remove.new.self; completion = set c.args.fields.now.completion.items n c.post.new.self; flights = fs })) (sym at)
+      (subst (λ (n : ℕ). Took c.args.config.now past (Entry.Post c.args.line.now) true (record (kept_in c.args.fields.now) { in_use = set c.args.fields.now.in_use.items (n - 1) c.remove.new.self; completion = set c.args.fields.now.completion.items ((c.index-one.result.now.flight.ticket.queue - 1) % c.args.config.now.cqs) c.post.new.self; flights = fs })) (sym from)
+      (post_on _ past _ k c.args.line.now c.in-Some.place c.index-one.result.now there c.index.result.now c.index_mut.result.now sq own owes fits c.in-Ok.ensures.room c.post.new.self more c.next_cid-cid.result c.next_cid-cid.ensures.value c.index_mut-2.result.now c.remove.new.self used c.remove.ensures.one c.remove.ensures.room _
       (sym c.flies_on-flies_on.ensures.value ∙ c.if-flies_on.true)
-      (ap (λ (f : Flight). record c.index_mut-then-flies_on.result.now { flight = f }) c.post-then-flies_on.ensures.value ∙ ap (λ (x : InFlight). record x { flight = posted_flight x.flight }) (here.is ∙ sym there.is)));
+      (ap (λ (f : Flight). record c.index_mut-then-flies_on.result.now { flight = f }) c.post-then-flies_on.ensures.value ∙ ap (λ (x : InFlight). record x { flight = posted_flight x.flight }) (here.is ∙ sym there.is))));
 }
 
 pub remove-requires : goal.remove-requires
@@ -127,7 +142,10 @@ returns c = record {
       let fits = (λ i. post_fits_at (sym c.head-head.ensures.value i) (phase_bit ((ap (λ (r : CompletionRing). r.phase) same ∙ sym c.phase-phase.ensures.value) i)) c.index-one.result.now.flight c.args.line.now (slice_get (owed_by c.args.config.now c.index-one.result.now.flight) c.index-one.result.now.flight.posts))
       ∙ sym (c.post_fits.ensures.value c.args.config.now count) ∙ c.if-not-post_fits.false in
       let more = c.in-Ok.ensures.ok ∙ ap (λ (xs : List ℕ). posted_ring c.index_mut.result.now (record { cqe = c.args.line.now.cqe; payload = xs })) (c.new-nothing.ensures ∙ c.new.ensures.items) in
-      subst (λ (n : ℕ). Took c.args.config.now past (Entry.Post c.args.line.now) true (record (kept_in c.args.fields.now) { completion = set c.args.fields.now.completion.items n c.post.new.self; flights = c.remove.new.self.items })) (sym at)
-      (post_off _ past _ k c.args.line.now c.in-Some.place c.index-one.result.now there c.index.result.now c.index_mut.result.now sq own owes fits c.in-Ok.ensures.room c.post.new.self more _
-      (sym c.flies_on-flies_on.ensures.value ∙ c.if-flies_on.false) c.remove.ensures.items);
+      let from = c.from-2.ensures ∙ queue in
+      let used = c.index_mut-2.ensures.value ∙ (λ i. get_or c.args.fields.now.in_use.items (from i - 1) c.index_mut-2.result.now) in
+      subst (λ (n : ℕ). Took c.args.config.now past (Entry.Post c.args.line.now) true (record (kept_in c.args.fields.now) { in_use = set c.args.fields.now.in_use.items (c.from-2.result - 1) c.remove.new.self; completion = set c.args.fields.now.completion.items n c.post.new.self; flights = c.remove-2.new.self.items })) (sym at)
+      (subst (λ (n : ℕ). Took c.args.config.now past (Entry.Post c.args.line.now) true (record (kept_in c.args.fields.now) { in_use = set c.args.fields.now.in_use.items (n - 1) c.remove.new.self; completion = set c.args.fields.now.completion.items ((c.index-one.result.now.flight.ticket.queue - 1) % c.args.config.now.cqs) c.post.new.self; flights = c.remove-2.new.self.items })) (sym from)
+      (post_off _ past _ k c.args.line.now c.in-Some.place c.index-one.result.now there c.index.result.now c.index_mut.result.now sq own owes fits c.in-Ok.ensures.room c.post.new.self more c.next_cid-cid.result c.next_cid-cid.ensures.value c.index_mut-2.result.now c.remove.new.self used c.remove.ensures.one c.remove.ensures.room _
+      (sym c.flies_on-flies_on.ensures.value ∙ c.if-flies_on.false) c.remove-2.ensures.items));
 }

@@ -22,6 +22,11 @@ returns-then-len-from c = record {
       tell_full _ past _ k c.args.line.now c.in-Some.place place c.index-ring.result.now c.index-ring.ensures c.in-Some-peek.first.now waits full;
 }
 
+pub index-requires : goal.index-requires
+index-requires c =
+    let k = c.requires.keeps.1 in
+    omega (arith, c.in-Some.ensures.value.1, c.len.ensures, k.shows.sq_rings.size, k.shows.in_use.size)
+
 pub returns : goal.returns
 returns c = record {
   value = λ past k.
@@ -31,5 +36,5 @@ returns c = record {
       let room : length c.args.fields.now.flights.items < c.args.config.now.jobs = omega (arith, c.if-len-from.false, c.len-2.ensures, c.from.ensures, ap (λ (n : ConfigNumbers). n.jobs) c.numbers.ensures.value) in
       c.fetch_broken.ensures.value
       ∙ ap (fetch_broken c.args.line.now c.args.fields.now.tickets) c.verdict.ensures.value
-      ∙ tell_fetch _ past _ k c.args.line.now c.in-Some.place place c.index-ring.result.now c.index-ring.ensures c.in-Some-peek.first.now waits (option_copied c.as_ref.result) behind room c.in_ok-judged.judged c.as_slice-flights.result.now c.as_slice-flights.ensures.value c.in_ok-judged.ensures.verdict c.in_ok-judged.ensures.operation c.in_ok-judged.ensures.range;
+      ∙ tell_fetch _ past _ k c.args.line.now c.in-Some.place place c.index-ring.result.now c.index-ring.ensures c.in-Some-peek.first.now waits (option_copied c.as_ref.result) behind room c.judge_front-judged.result c.index.result.now c.index.ensures c.as_slice-in_use.result.now c.as_slice-in_use.ensures.value c.judge_front-judged.ensures.verdict c.judge_front-judged.ensures.operation c.judge_front-judged.ensures.range;
 }
