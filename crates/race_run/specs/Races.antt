@@ -17,8 +17,8 @@ PrintsLegal c old new =
     (past : Past) × IsLegal c past × All HasLine (reverse past) × Appends old new (history_text c (reverse past))
 
 -- or a beginning of it, maybe nothing
-abbrev pub PrintsFront : ConfigNumbers → Option (List ℕ) → Option (List ℕ) → Type 0
-PrintsFront c old new = (past : Past) × IsLegal c past × AppendsFront old new (history_text c (reverse past))
+abbrev pub PrintsBeginning : ConfigNumbers → Option (List ℕ) → Option (List ℕ) → Type 0
+PrintsBeginning c old new = (past : Past) × IsLegal c past × AppendsFront old new (history_text c (reverse past))
 
 -- by what printing a history answered: its whole text was written, or a beginning of it
 abbrev pub Tells : ConfigNumbers → List Entry → Result (Unit {0}) RaceFault → Option (List ℕ) → Option (List ℕ) → Type 0
@@ -31,7 +31,7 @@ Tells c entries (Err (BadAt k)) old new = ⊥
 -- By what a race answered. That its history isn't legal it never answers.
 abbrev pub Races : ConfigNumbers → Result (Unit {0}) RaceFault → Option (List ℕ) → Option (List ℕ) → Type 0
 Races c (Ok x) old new = PrintsLegal c old new
-Races c (Err Output) old new = PrintsFront c old new
-Races c (Err NoMemory) old new = PrintsFront c old new
+Races c (Err Output) old new = PrintsBeginning c old new
+Races c (Err NoMemory) old new = PrintsBeginning c old new
 Races c (Err NoHistory) old new = Keeps old new
 Races c (Err (BadAt k)) old new = ⊥
