@@ -6,7 +6,7 @@ ghost use Rattle.host_rows.specs.Listening.{IsListening};
 
 use crate::calls::{Write, adds_all, closed, legal_length, publishes, reaps};
 use history::Config;
-use hosts::{Gate, Hall, Hand, Hands, HostHand, WorkerHand, hall_of, run_crew};
+use hosts::{Gate, Hall, Hand, Hands, HostHand, hall_of, run_crew};
 use std::alloc::{AllocError as NoMemory, Global};
 use std::sync::Wait;
 use std::test::Fail;
@@ -106,13 +106,11 @@ fn both<R: Threads + Wait + Sync, G: Gate + Sync>(
     rt: &R,
     alloc: Global,
     hall: &Hall<G>,
-    fetcher: Hand,
-    workers: Vec<WorkerHand>,
-    hosts: Vec<HostHand>,
+    hands: Hands,
     numbers: Numbers,
 ) -> Result<(Hand, u16), NoMemory>
-    requires crew { IsOf hall.now fetcher × All (IsWorkerOf hall.now) workers.items }
-    requires hosts { All (IsListening hall.now) hosts.items }
+    requires crew { IsOf hall.now hands.fetcher × All (IsWorkerOf hall.now) hands.workers.items }
+    requires hosts { All (IsListening hall.now) hands.hosts.items }
     ensures { IfOk result (λ r. IsOf hall.now r.0) }
 {
     run_crew(
@@ -120,9 +118,8 @@ fn both<R: Threads + Wait + Sync, G: Gate + Sync>(
         alloc,
         hall,
         numbers.queues.max(1),
-        fetcher,
-        workers,
-        move || -> Result<u16, NoMemory>
+        hands,
+        |hosts: Vec<HostHand>| -> Result<u16, NoMemory>
             requires { All (IsListening hall.now) hosts.items }
         { Ok(ends(rt, hall, hosts, numbers.count)) },
     )
@@ -151,7 +148,12 @@ fn plays<R: Threads + Wait + Sync, G: Gate + Sync>(
     if sent(alloc, hall, &mut hosts, numbers.queues, writes).is_none() {
         return Err(NoMemory);
     }
-    both(rt, alloc, hall, fetcher, workers, hosts, numbers)
+    let hands = Hands {
+        fetcher,
+        workers,
+        hosts,
+    };
+    both(rt, alloc, hall, hands, numbers)
 }
 
 /// The Writes on each submission queue: how many completions say success, how many entries the history has, which is

@@ -6,7 +6,7 @@ ghost use Rattle.hosts.specs.Hands.{Goes, IsOf, IsWorkerOf};
 
 use crate::fetching::fetcher;
 use crate::gate::Gate;
-use crate::hall::{Hall, Hand, WorkerHand};
+use crate::hall::{Hall, Hand, Hands, HostHand, WorkerHand};
 use crate::working::worker;
 use std::alloc::{AllocError as NoMemory, Global};
 use std::snapshot::Snapshot;
@@ -126,8 +126,8 @@ fn or_stop<T: Drop, G: Gate>(hall: &Hall<G>, made: Result<T, NoMemory>) -> Resul
 }
 
 /// A fetcher of the submission queues from 1 to `queues`, and the workers, each on a thread of its own, while `beside`
-/// runs on this one. When that has ended the stop flag is set, and all threads are joined. The fetcher's hand comes
-/// back, and what `beside` gave.
+/// runs on this one with the hands of the hosts. When that has ended the stop flag is set, and all threads are joined.
+/// The fetcher's hand comes back, and what `beside` gave.
 ///
 /// # Errors
 ///
@@ -136,36 +136,39 @@ pub fn run_crew<
     R: Threads + Wait + Sync,
     G: Gate + Sync,
     T: Drop,
-    F: FnOnce() -> Result<T, NoMemory> + Drop,
+    F: FnOnce(Vec<HostHand>) -> Result<T, NoMemory> + Drop,
 >(
     rt: &R,
     alloc: Global,
     hall: &Hall<G>,
     queues: u16,
-    hand: Hand,
-    workers: Vec<WorkerHand>,
+    hands: Hands,
     beside: F,
 ) -> Result<(Hand, T), NoMemory>
     requires some { 1 ≤ queues }
-    requires hand { IsOf hall.now hand }
-    requires workers { All (IsWorkerOf hall.now) workers.items }
-    requires beside { F.IsAlwaysCallable beside }
-    ensures goes { IfOk result (λ r. Goes hall.now hand r.0) }
+    requires crew { IsOf hall.now hands.fetcher × All (IsWorkerOf hall.now) hands.workers.items }
+    requires beside { F.pre beside hands.hosts }
+    ensures goes { IfOk result (λ r. Goes hall.now hands.fetcher r.0) }
 {
+    let Hands {
+        fetcher,
+        workers,
+        hosts,
+    } = hands;
     let mut helpers: Handles = or_stop(hall, Vec::with_capacity(alloc, workers.len()))?;
     thread::scope(
         thread::scope_env(),
         rt,
         |scope| -> Result<(Hand, T), NoMemory>
             requires some { 1 ≤ queues }
-            requires own { IsOf hall.now hand × All (IsWorkerOf hall.now) workers.items }
+            requires crew { IsOf hall.now fetcher × All (IsWorkerOf hall.now) workers.items }
             requires room { vec_len helpers + vec_len workers ≤ vec_capacity helpers }
-            requires beside { F.IsAlwaysCallable beside }
-            ensures { IfOk result (λ r. Goes hall.entry.now hand r.0) }
+            requires beside { F.pre beside hosts }
+            ensures { IfOk result (λ r. Goes hall.entry.now fetcher r.0) }
         {
-            let fetching = or_stop(hall, start_fetcher(rt, scope, hall, hand, queues))?;
+            let fetching = or_stop(hall, start_fetcher(rt, scope, hall, fetcher, queues))?;
             let given = match start_workers(rt, scope, hall, workers, &mut helpers) {
-                Ok(()) => beside(),
+                Ok(()) => beside(hosts),
                 Err(why) => Err(why),
             };
             hall.stop.set();

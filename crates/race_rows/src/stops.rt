@@ -7,7 +7,7 @@ ghost use Rattle.host_rounds.specs.Hosts.{IsSlotArea};
 use history::Config;
 use history_check::check;
 use host_rounds::{Play, run_hosts};
-use hosts::{Gate, Hall, Hand, Hands, HostHand, Point, WorkerHand, hall_of, run_crew};
+use hosts::{Gate, Hall, Hand, Hands, HostHand, Point, hall_of, run_crew};
 use nvme_model::array::Range;
 use std::alloc::{AllocError as NoMemory, Global};
 use std::sync::Wait;
@@ -97,19 +97,13 @@ fn all<R: Threads + Wait + Sync>(
     requires slots { IsSlotArea play.now.slots }
     ensures { IfOk result (IsOf hall.now) }
 {
-    let Hands {
-        fetcher,
-        workers,
-        hosts,
-    } = hands;
     let (hand, ()) = run_crew(
         rt,
         alloc,
         hall,
         2,
-        fetcher,
-        workers,
-        move || -> Result<(), NoMemory>
+        hands,
+        |hosts: Vec<HostHand>| -> Result<(), NoMemory>
             requires { All (IsHostOf hall.now play.now.config) hosts.items × IsSlotArea play.now.slots }
         { guests(rt, alloc, hall, play, hosts) },
     )?;

@@ -8,7 +8,7 @@ ghost use Rattle.race_run.specs.Faults.{IsEarly};
 
 use crate::fault::RaceFault;
 use host_rounds::{Play, run_hosts};
-use hosts::{Hall, Hand, Hands, OpenGate, hall_of, run_crew};
+use hosts::{Hall, Hand, Hands, HostHand, OpenGate, hall_of, run_crew};
 use nvme_model::array::Range;
 use race_numbers::Race;
 use std::alloc::{AllocError as NoMemory, Global};
@@ -31,19 +31,13 @@ fn all_threads<R: Threads + Wait + Sync>(
     requires queues { 1 ≤ queues }
     ensures goes { IfOk result (Goes hall.now hands.fetcher) }
 {
-    let Hands {
-        fetcher,
-        workers,
-        hosts,
-    } = hands;
     let (hand, ()) = run_crew(
         rt,
         alloc,
         hall,
         queues,
-        fetcher,
-        workers,
-        move || -> Result<(), NoMemory>
+        hands,
+        |hosts: Vec<HostHand>| -> Result<(), NoMemory>
             requires { All (IsHostOf hall.now play.now.config) hosts.items × IsSlotArea play.now.slots }
         { run_hosts(rt, alloc, hall, play, hosts) },
     )?;
