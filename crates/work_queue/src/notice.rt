@@ -1,6 +1,6 @@
 //! The word that a completion was posted.
 
-ghost use Rattle.std.specs.Prelude.{◌≡◌, IfErr, IfOk};
+ghost use Rattle.std.specs.Prelude.{◌≡◌, IfErr, IfOk, IsOk};
 ghost use Rattle.nvme_model.specs.Passes.{IsBeginning, entries};
 ghost use Rattle.nvme_model.specs.Kept.{Kept};
 ghost use Rattle.meet_lock.specs.Passes.{told, told_config};
@@ -25,11 +25,12 @@ impl Notice {
     ghost use Rattle.work_queue.specs.Engines.{IsOf};
     ghost use Rattle.work_queue.specs.Notices.{IsNoticeOf, notice_config, notice_seen};
 
-    /// What the pass has seen, where this completion is posted to this completion queue. Takes no memory today.
+    /// What the pass has seen, where this completion is posted to this completion queue. It takes no memory, and never
+    /// fails.
     ///
     /// # Errors
     ///
-    /// `NoMemory` where a growth is refused.
+    /// `NoMemory` stands in the signature alone: no call answers it.
     pub fn new(
         engine: &Engine,
         pass: &mut Pass<Core>,
@@ -41,6 +42,7 @@ impl Notice {
         ensures same { IsSame pass.old pass.new × (seen pass.new ≡ seen pass.old) }
         ensures notice { IfOk result (λ n. IsNoticeOf engine.now n × (notice_seen n ≡ seen pass.old)
             × (notice_config n ≡ config_of pass.old) × (n.queue ≡ queue) × (n.cqe ≡ cqe)) }
+        ensures always { IsOk result }
     {
         let note = engine.shared.note(pass);
         Ok(Notice { queue, cqe, note })
@@ -66,11 +68,11 @@ impl Engine {
     ghost use Rattle.work_queue.specs.Engines.{IsOf};
     ghost use Rattle.work_queue.specs.Notices.{IsNoticeOf, ReapFinds, notice_seen};
 
-    /// The pass sees what the notice had seen, too. It takes neither lock nor memory, and is never Busy today.
+    /// The pass sees what the notice had seen, too. It takes neither lock nor memory, and is never Busy.
     ///
     /// # Errors
     ///
-    /// `Busy` where another caller had the lock; nothing has changed.
+    /// `Busy` stands in the signature alone: no call answers it.
     pub fn learn(&self, pass: &mut Pass<Core>, notice: &mut Notice) -> Result<(), Busy>
         requires pass { IsOf self.now pass.old }
         requires notice { IsNoticeOf self.now notice.old }
@@ -81,6 +83,7 @@ impl Engine {
         ensures busy { IfErr result (λ _. seen pass.new ≡ seen pass.old) }
         ensures notice { IsNoticeOf self.now notice.new × (notice_seen notice.new ≡ notice_seen notice.old)
             × (notice.new.queue ≡ notice.old.queue) × (notice.new.cqe ≡ notice.old.cqe) }
+        ensures always { IsOk result }
     {
         self.shared.learn(pass, &mut notice.note);
         Ok(())
