@@ -25,6 +25,5 @@ IsHostOf b h = IsPlaceFor h.driver.port b.notices h.place × engine.IsOf b.engin
 
 -- so are these, that nobody has yet
 pub record AreOf (b : Bench) (s : Spares) : Type 0 where
-  pub passes : All (engine.IsOf b.engine) s.passes.items
+  pub passes : All (engine.IsFreshPass b.engine b.config) s.passes.items
   pub places : All (queue.IsPlaceOf b.engine b.notices) s.places.items
-  pub config : All (λ p. config_of p ≡ b.config) s.passes.items

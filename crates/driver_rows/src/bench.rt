@@ -7,7 +7,6 @@ ghost use Rattle.driver_rows.specs.Benches.{AreOf, IsHostOf, IsServerOf, uses};
 
 use driver_cas::{Driver, SharedPort};
 use history::Config;
-use lock_rows::engine_of;
 use meet_lock::Pass;
 use nvme_model::array::Range;
 use std::alloc::{AllocError as NoMemory, Global};
@@ -59,7 +58,7 @@ pub fn bench_of(
     ensures own { IfOk result (λ b. AreOf b.0 b.1) }
     ensures config { IfOk result (λ b. b.0.config ≡ config) }
 {
-    let (engine, passes) = engine_of(alloc, config, count)?;
+    let (engine, passes) = Engine::of_config(alloc, config, count)?;
     let (notices, places) = MessageQueue::<Notice>::new(alloc, &engine, capacity, count)?;
     let bench = Bench {
         engine,

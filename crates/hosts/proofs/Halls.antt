@@ -5,11 +5,8 @@ use Rattle.std.proofs.lemmas.Bool.Decides.{nat_tests}
 use Rattle.std.proofs.lemmas.Bool.{ltb-false}
 use Rattle.std.proofs.lemmas.Option.{slice_get-get_or}
 use Rattle.nvme_model.specs.Config.{config_fault, config_faults}
-use Rattle.nvme_model.specs.History.{Past}
 use Rattle.nvme_model.specs.declared.config.ConfigNumbers.{ConfigNumbers}
 use Rattle.nvme_model.proofs.Rules.{none_holds}
-use Rattle.meet_lock.specs.Lock.{unmade}
-use Rattle.meet_lock.specs.Passes.{IsNew}
 use Rattle.work_queue.specs.Engines as engine
 use Rattle.work_queue.specs.QueuePasses as queue
 use Rattle.work_queue.specs.declared.engine.Engine.{Engine}
@@ -17,7 +14,7 @@ use Rattle.work_queue.specs.declared.notice.Notice.{Notice}
 use Rattle.work_queue.specs.declared.queue.MessageQueue.{MessageQueue}
 use Rattle.work_queue.specs.declared.queue.QueuePass.{QueuePass}
 use Rattle.work_queue.specs.declared.work.Work.{Work}
-use Rattle.hosts.specs.Hands.{AreFirstPlaces, AreHostsOf, AreLastHosts, AreNoticesOf, ArePlaces, IsFreshPass, IsHostOf, IsPlaceAt, IsWorkerOf}
+use Rattle.hosts.specs.Hands.{AreFirstPlaces, AreHostsOf, AreLastHosts, AreNoticesOf, ArePlaces, IsHostOf, IsPlaceAt, IsWorkerOf}
 use Rattle.hosts.specs.declared.hall.Hall.{Hall}
 use Rattle.hosts.specs.declared.hall.HostHand.{HostHand}
 
@@ -33,14 +30,6 @@ some_queues c e = not_zero c.cqs (or_parts _ _ (none_holds (config_faults c) (ap
   where
     not_zero : (n : ℕ) → eqb n 0 ≡ false → 1 ≤ n
     not_zero n e = grind (arith, nat_tests)
-
--- ---- the passes of an engine
-
--- those that are given out of a new controller have seen nothing
-pub all_fresh : (e : Engine) (n : ℕ) (c d : ConfigNumbers) (past : Past) (ps : List engine.EnginePass) → c ≡ d → past ≡ [] → ((k : ℕ) (p : engine.EnginePass) → slice_get ps k ≡ Some p → engine.IsOf e p × IsNew n c past (k + 1) p) → All (IsFreshPass e d) ps
-all_fresh e n c d past ps same none each = λ k x within.
-    let new = each k (get_or ps k x) (slice_get-get_or ps k x within) in
-    record { of = new.0; config = new.1.2 ∙ same; seen = new.1.3 ∙ ap unmade none }
 
 -- ---- the passes of queues of notices
 
@@ -123,7 +112,7 @@ module _ {G : Type 0} where
   pub first_places : (hall : Hall G) (ps : List (QueuePass Notice)) → ArePlaces hall.engine hall.notices.items ps → AreFirstPlaces hall ps
   first_places hall ps a = λ k p f q g. place_at hall.engine hall.notices.items ps a k p q f g
 
-  pub worker_is : (hall : Hall G) (c : ConfigNumbers) (p : engine.EnginePass) (q : QueuePass Work) (row : Vec (QueuePass Notice) Global) → IsFreshPass hall.engine c p → queue.IsPlaceOf hall.engine hall.works q → 1 ≤ c.cqs → length hall.notices.items ≡ c.cqs → ArePlaces hall.engine hall.notices.items row.items → IsWorkerOf hall (record { hand = record { pass = p; works = q }; notices = row })
+  pub worker_is : (hall : Hall G) (c : ConfigNumbers) (p : engine.EnginePass) (q : QueuePass Work) (row : Vec (QueuePass Notice) Global) → engine.IsFreshPass hall.engine c p → queue.IsPlaceOf hall.engine hall.works q → 1 ≤ c.cqs → length hall.notices.items ≡ c.cqs → ArePlaces hall.engine hall.notices.items row.items → IsWorkerOf hall (record { hand = record { pass = p; works = q }; notices = row })
   worker_is hall c p q row fresh place some count are =
       record {
         hand = (fresh.of, place);

@@ -1,6 +1,6 @@
 -- What contracts say of what a thread owns.
 use Rattle.std.specs.List.{AllZip}
-use Rattle.std.specs.Prelude.{All, List, Ok, Option, Result, Some, [], length, slice_get, true, vec_len, ℕ, ◌+◌, ◌-◌}
+use Rattle.std.specs.Prelude.{All, List, Ok, Option, Result, Some, length, slice_get, true, vec_len, ℕ, ◌+◌, ◌-◌}
 use Rattle.std.specs.Prelude.{◌≡◌, ◌≤◌}
 use Rattle.nvme_model.specs.Passes.{IsBeginning, entries}
 use Rattle.nvme_model.specs.declared.config.ConfigNumbers.{ConfigNumbers}
@@ -79,16 +79,9 @@ module _ {G : Type 0} where
     pub hand : IsOf hall w.hand
     pub notices : AreNoticesOf hall (config_of w.hand.pass).cqs w.notices.items
 
--- a pass of the engine that has seen nothing
-pub record IsFreshPass (e : Engine) (c : ConfigNumbers) (p : engine.EnginePass) : Type 0 where
-  pub of : engine.IsOf e p
-  pub config : config_of p ≡ c
-  pub seen : seen p ≡ []
-
-module _ {G : Type 0} where
   -- the passes of the host of a completion queue, which have seen nothing
   pub record IsHostOf (hall : Hall G) (c : ConfigNumbers) (h : HostHand) : Type 0 where
-    pub pass : IsFreshPass hall.engine c h.pass
+    pub pass : engine.IsFreshPass hall.engine c h.pass
     pub queue : (1 ≤ h.queue) × (h.queue ≤ c.cqs)
     pub told : h.queue ≤ length hall.notices.items
     pub notices : IsPlaceAt hall (h.queue - 1) h.notices
@@ -109,7 +102,7 @@ module _ {G : Type 0} where
 
   -- passes that no worker has yet, as many of each kind
   pub record AreSpares (hall : Hall G) (c : ConfigNumbers) (s : Spares) : Type 0 where
-    pub passes : All (IsFreshPass hall.engine c) s.passes.items
+    pub passes : All (engine.IsFreshPass hall.engine c) s.passes.items
     pub works : All (queue.IsPlaceOf hall.engine hall.works) s.works.items
     pub rows : All (λ row. ArePlaces hall.engine hall.notices.items row.items) s.rows.items
     pub queues : (1 ≤ c.cqs) × (length hall.notices.items ≡ c.cqs)

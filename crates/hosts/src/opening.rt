@@ -2,11 +2,12 @@
 
 ghost use Rattle.std.specs.Prelude.{◌≡◌, ◌<◌, ◌≤◌, ◌+◌, ◌-◌, All, IfOk, IfSome, MatchOption, length, vec_len};
 ghost use Rattle.std.specs.Vec.{vec_capacity};
+ghost use Rattle.work_queue.specs.Engines.{IsFreshPass};
 ghost use Rattle.work_queue.specs.QueuePasses as queue;
 ghost use Rattle.hosts.specs.Capacities.{HasCapacities};
 ghost use Rattle.hosts.specs.Hands.{AreFirstPlaces, AreHandsOf, AreHostsOf, AreLastHosts, ArePlaces, AreSpares};
 ghost use Rattle.meet_lock.specs.Passes.{config_of};
-ghost use Rattle.hosts.specs.Hands.{IsFreshPass, IsHostOf, IsOf, IsPlaceAt, IsWorkerOf};
+ghost use Rattle.hosts.specs.Hands.{IsHostOf, IsOf, IsPlaceAt, IsWorkerOf};
 
 use crate::hall::{Hall, Hand, Hands, HostHand, WorkerHand};
 use crate::rows::{Row, notice_queues};
@@ -19,23 +20,6 @@ use work_queue::{Engine, MessageQueue, Notice, QueuePass, Work};
 
 /// How many Works wait for a worker at most.
 const WORKS: usize = 16;
-
-// An engine of a new controller, and so many passes.
-fn engine_of(
-    alloc: Global,
-    config: Config,
-    count: usize,
-) -> Result<(Engine, Vec<Pass<Core>>), NoMemory>
-    requires some { 0 < count }
-    ensures passes { IfOk result (λ e. All (IsFreshPass e.0 config) e.1.items) }
-    ensures count { IfOk result (λ e. vec_len e.1 ≡ count) }
-{
-    let core = Core::new(alloc, config)?;
-    let Ok((engine, passes)) = Engine::new(alloc, core, count) else {
-        return Err(NoMemory);
-    };
-    Ok((engine, passes))
-}
 
 // The last of these passes, which are of the first queues of notices.
 #[tactic(auto, using(crate::proofs::Halls::place_last, crate::proofs::Halls::places_rest))]
@@ -245,7 +229,7 @@ pub fn hall_of<G: Drop>(
 {
     let numbers = config.numbers();
     let count = usize::from(workers) + 1;
-    let (engine, passes) = engine_of(alloc, config, count + usize::from(numbers.cqs))?;
+    let (engine, passes) = Engine::of_config(alloc, config, count + usize::from(numbers.cqs))?;
     let (works, places) = MessageQueue::<Work>::new(alloc, &engine, WORKS, count)?;
     let (notices, rows) = notice_queues(alloc, &engine, numbers.cqs, numbers.cq_size, count)?;
     let hall = Hall {

@@ -22,10 +22,9 @@ IsOf hall h =
 
 -- so are these, that nobody has yet
 pub record AreOf (hall : Hall) (h : Spares) : Type 0 where
-  pub passes : All (engine.IsOf hall.engine) h.passes.items
+  pub passes : All (engine.IsFreshPass hall.engine hall.config) h.passes.items
   pub works : All (queue.IsPlaceOf hall.engine hall.works) h.works.items
   pub notices : All (queue.IsPlaceOf hall.engine hall.notices) h.notices.items
-  pub config : All (λ p. config_of p ≡ hall.config) h.passes.items
 
 -- a Work of the hall's engine
 abbrev pub IsWorkOf : Hall → Work → Type 0

@@ -3,7 +3,6 @@
 ghost use Rattle.std.specs.Prelude.{◌<◌, IfOk, IfSome};
 ghost use Rattle.lock_rows.specs.Hands.{AreOf, IsCrewOf, IsOf};
 
-use crate::engines::engine_of;
 use history::Config;
 use meet_lock::Pass;
 use std::alloc::{AllocError as NoMemory, Global};
@@ -95,7 +94,7 @@ pub fn hall_of(
     requires { (0 < capacity) × (0 < count) }
     ensures { IfOk result (λ h. AreOf h.0 h.1) }
 {
-    let (engine, passes) = engine_of(alloc, config, count)?;
+    let (engine, passes) = Engine::of_config(alloc, config, count)?;
     let (works, work_places) = MessageQueue::<Work>::new(alloc, &engine, capacity, count)?;
     let (notices, notice_places) = MessageQueue::<Notice>::new(alloc, &engine, capacity, count)?;
     let hall = Hall {

@@ -2,13 +2,11 @@
 //! them, and an engine with its queues of works and notices, whose callers each own a hand of passes.
 #![tactic(auto)]
 
-mod engines;
 mod hall;
 mod messages;
 mod plain;
 mod table;
 
-pub use crate::engines::engine_of;
 pub use crate::hall::{Crew, Hall, Hand, Spares, crew_of, hall_of, take_hand};
 pub use crate::messages::{
     NO_MEMORY, STRANGE, attempt, fetches, learns, noted, open, opens, pops, pushes, tells, works,

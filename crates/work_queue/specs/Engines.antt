@@ -2,6 +2,7 @@
 use Rattle.std.specs.Prelude.{[], true, ◌≡◌, ◌∷◌}
 use Rattle.nvme_model.specs.History.{Past}
 use Rattle.nvme_model.specs.Passes.{SharedPast}
+use Rattle.nvme_model.specs.declared.config.ConfigNumbers.{ConfigNumbers}
 use Rattle.nvme_model.specs.declared.entry.Entry.{Entry}
 use Rattle.nvme_model.specs.declared.refusal.Why.{Why}
 use Rattle.nvme_model.specs.declared.step.Step.{Step}
@@ -29,6 +30,12 @@ IsOf e p = Passes.IsOf e.shared p
 
 abbrev pub IsWorkOf : Engine → Work → Type 0
 IsWorkOf e w = Passes.IsTicketOf e.shared w.owner
+
+-- a pass of the engine that has seen nothing
+pub record IsFreshPass (e : Engine) (c : ConfigNumbers) (p : EnginePass) : Type 0 where
+  pub of : IsOf e p
+  pub config : Passes.config_of p ≡ c
+  pub seen : Passes.seen p ≡ []
 
 -- the ticket's entries, the newest first
 abbrev pub its : Work → Past

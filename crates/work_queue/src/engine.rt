@@ -1,12 +1,14 @@
 //! A controller that callers share, each ticket stepped only with its Work.
 
-ghost use Rattle.std.specs.Prelude.{◌≡◌, ◌<◌, ◌+◌, All, None, Some, ℕ, IfErr, IfOk, IfSome, IsSome, slice_get, vec_len};
+ghost use Rattle.std.specs.Prelude.{◌≡◌, ◌<◌, ◌+◌, All, None, Some, ℕ, IfErr, IfOk, IfSome, IsSome};
+ghost use Rattle.std.specs.Prelude.{[], slice_get, vec_len};
 ghost use Rattle.nvme_model.specs.Passes.{IsBeginning, SharedPast, entries};
 ghost use Rattle.nvme_model.specs.Kept.{Kept};
 
 use crate::stages::{stage_after, start_of};
 use crate::task::Task;
 use crate::work::Work;
+use history::Config;
 use meet_lock::{Busy, Declined, Pass, Shared, TicketOwner};
 use nvme_model::submission::{Payload, Submissions};
 use std::alloc::{AllocError as NoMemory, Global};
@@ -48,7 +50,7 @@ impl Engine {
     ghost use Rattle.ticket_entries.specs.Tasks.{task_fault};
     ghost use Rattle.work_queue.specs.Duties.{duty_of, task_step};
     ghost use Rattle.work_queue.specs.Posted.{IsAnswerPosted};
-    ghost use Rattle.work_queue.specs.Engines.{IsNoTaskFault, IsOf, IsWorkOf, OpenedAs, its, open_step, work_seen};
+    ghost use Rattle.work_queue.specs.Engines.{IsFreshPass, IsNoTaskFault, IsOf, IsWorkOf, OpenedAs, its, open_step};
 
     /// The controller with a lock round it, and as many passes as asked for, numbered from 1 in order.
     ///
@@ -70,6 +72,30 @@ impl Engine {
     {
         let (shared, passes) = Shared::new(alloc, core, passes)?;
         Ok((Engine { shared }, passes))
+    }
+
+    /// An engine of a new controller, and as many passes as asked for, numbered from 1 in order, which have seen
+    /// nothing.
+    ///
+    /// # Errors
+    ///
+    /// `NoMemory` where a growth is refused.
+    pub fn of_config(
+        alloc: Global,
+        config: Config,
+        count: usize,
+    ) -> Result<(Engine, Vec<Pass<Core>>), NoMemory>
+        requires { 0 < count }
+        ensures count { IfOk result (λ e. vec_len e.1 ≡ count) }
+        ensures each { IfOk result (λ e. (k : ℕ) (p : Pass State) → slice_get e.1.items k ≡ Some p
+            → IsOf e.0 p × IsNew count config [] (k + 1) p) }
+        ensures fresh { IfOk result (λ e. All (IsFreshPass e.0 config) e.1.items) }
+    {
+        let core = Core::new(alloc, config)?;
+        let Ok((engine, passes)) = Engine::new(alloc, core, count) else {
+            return Err(NoMemory);
+        };
+        Ok((engine, passes))
     }
 
     /// Makes a Publish, a Fetch or a Reap, if no other caller has the lock.

@@ -1,6 +1,7 @@
 use Rattle.std.proofs.Common.{All, vec_len, ◌≡◌, ◌≤◌, ◌+◌}
 use Rattle.std.specs.Vec.{vec_capacity}
-use Rattle.hosts.specs.Hands.{AreFirstPlaces, AreLastHosts, IsFreshPass}
+use Rattle.work_queue.specs.Engines.{IsFreshPass}
+use Rattle.hosts.specs.Hands.{AreFirstPlaces, AreLastHosts}
 use Rattle.hosts.proofs.opening.hosts_of.Given as goal
 
 abbrev pub invariant-loop-k : goal.invariant-loop-k

@@ -1,8 +1,9 @@
 use Rattle.std.proofs.Common.{Global, Vec}
+use Rattle.work_queue.specs.Engines.{IsFreshPass}
 use Rattle.work_queue.specs.QueuePasses as queue
 use Rattle.work_queue.specs.declared.notice.Notice.{Notice}
 use Rattle.work_queue.specs.declared.queue.QueuePass.{QueuePass}
-use Rattle.hosts.specs.Hands.{ArePlaces, IsFreshPass}
+use Rattle.hosts.specs.Hands.{ArePlaces}
 use Rattle.hosts.proofs.Halls.{all_last, worker_is}
 use Rattle.hosts.proofs.opening.take_worker.Goals as goal
 
