@@ -33,8 +33,7 @@ bad_text place = join_with_byte 32 (codes "bad" ∷ codes "at" ∷ decimal place
 -- the answer on a history, and its line: `legal`, or `bad at K` with the first place, from 1, at which it isn't
 abbrev pub IsAnswer : ConfigNumbers → Past → Bool → List ℕ → Type 0
 IsAnswer c past true text = IsLegal c past × (text ≡ legal_text)
-IsAnswer c past false text =
-    (place : ℕ) × IsFirstBad c (reverse past) place × (text ≡ bad_text place)
+IsAnswer c past false text = (place : ℕ) × IsFirstBad c (reverse past) place × (text ≡ bad_text place)
 
 -- the lines of a file are all read, and this holds of its configuration and its history
 abbrev pub HasHistory : (ConfigNumbers → Past → Type 0) → List ℕ → Type 0
@@ -59,8 +58,7 @@ IsUnread Output input left = ⊥
 IsUnread NoMemory input left = Unit {0}
 
 -- By what a check of a file answered: its one line, and the reader at its end; nothing; or a beginning of that line.
-abbrev pub ChecksText : Result Bool RunFault → Option (List ℕ) → Option (List ℕ) → Option (List ℕ) →
-    Option (List ℕ) → Type 0
+abbrev pub ChecksText : Result Bool RunFault → (input left old new : Option (List ℕ)) → Type 0
 ChecksText (Ok answer) input left old new =
     IsAtEnd left × IfSome input (λ bytes. (text : List ℕ) × IsAnswerOf bytes answer text × Appends old new text)
 ChecksText (Err Output) input left old new =

@@ -15,21 +15,18 @@ PrintsAll outcome e input old new =
     IfSome input (λ bytes. ((outcome bytes).end ≡ e) × Appends old new (outcome bytes).text)
 
 -- a beginning of the text of what was read was written
-abbrev pub PrintsFront : (List ℕ → Outcome) → Option (List ℕ) → Option (List ℕ) → Option (List ℕ) →
-    Option (List ℕ) → Type 0
+abbrev pub PrintsFront : (List ℕ → Outcome) → (input left old new : Option (List ℕ)) → Type 0
 PrintsFront outcome input left old new =
     (bytes : List ℕ) × Consumes input left bytes × AppendsFront old new (outcome bytes).text
 
 -- all that was read is done: no line of it is bad, and its whole text was written
-abbrev pub PrintsRead : (List ℕ → Outcome) → Option (List ℕ) → Option (List ℕ) → Option (List ℕ) →
-    Option (List ℕ) → Type 0
+abbrev pub PrintsRead : (List ℕ → Outcome) → (input left old new : Option (List ℕ)) → Type 0
 PrintsRead outcome input left old new =
     (bytes : List ℕ) × Consumes input left bytes × IsOpen (outcome bytes).end × Appends old new (outcome bytes).text
 
 -- By what the run answered: the whole text and the reader at its end; the text before the bad line, or none; the whole
 -- text of what was read, where reading failed; or a beginning of that.
-abbrev pub Runs : (List ℕ → Outcome) → Result (Unit {0}) RunFault → Option (List ℕ) → Option (List ℕ) →
-    Option (List ℕ) → Option (List ℕ) → Type 0
+abbrev pub Runs : (List ℕ → Outcome) → Result (Unit {0}) RunFault → (input left old new : Option (List ℕ)) → Type 0
 Runs outcome (Ok x) input left old new = PrintsAll outcome done input old new × IsAtEnd left
 Runs outcome (Err (BadLine n)) input left old new =
     PrintsAll outcome (bad_line n) input old new ⊎ PrintsAll outcome (cut n) input old new
