@@ -5,15 +5,15 @@ use Rattle.nvme_model.specs.Verdict.{Item, taken}
 use Rattle.nvme_model.specs.declared.operation.Op.{Op}
 use Rattle.nvme_model.specs.declared.status.Verdict.{Verdict}
 use Rattle.fused_match.specs.declared.judged.Judged.{Judged}
-use Rattle.fused_match.specs.declared.judged.Judged.TheVariants.{Flush, Single, Pair, Failed, FailedPair}
+use Rattle.fused_match.specs.declared.judged.Judged.TheVariants.{Flush, Single, Pair, SingleFailed, PairFailed}
 
 -- the verdict that it is
 abbrev pub verdict_by : Judged → Verdict
 verdict_by Flush = Verdict.Single
 verdict_by (Single o r) = Verdict.Single
 verdict_by (Pair r) = Verdict.Pair
-verdict_by (Failed s) = Verdict.SingleFailed s
-verdict_by (FailedPair s t) = Verdict.PairFailed s t
+verdict_by (SingleFailed s) = Verdict.SingleFailed s
+verdict_by (PairFailed s t) = Verdict.PairFailed s t
 
 -- what is then done
 abbrev pub operation_in : Judged → Option Op

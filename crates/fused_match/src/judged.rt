@@ -16,9 +16,9 @@ pub enum Judged {
     /// A fused pair, and the blocks that it is for.
     Pair(Range),
     /// One command, which failed so.
-    Failed(Status),
+    SingleFailed(Status),
     /// A fused pair, whose first and second failed so.
-    FailedPair(Status, Status),
+    PairFailed(Status, Status),
 }
 
 impl Judged {
@@ -29,8 +29,8 @@ impl Judged {
         ensures value { result ≡ taken (verdict_by self.now) }
     {
         match self {
-            Judged::Flush | Judged::Single(_, _) | Judged::Failed(_) => 1,
-            Judged::Pair(_) | Judged::FailedPair(_, _) => 2,
+            Judged::Flush | Judged::Single(_, _) | Judged::SingleFailed(_) => 1,
+            Judged::Pair(_) | Judged::PairFailed(_, _) => 2,
         }
     }
 
@@ -41,8 +41,8 @@ impl Judged {
         match self {
             Judged::Flush | Judged::Single(_, _) => Verdict::Single,
             Judged::Pair(_) => Verdict::Pair,
-            Judged::Failed(status) => Verdict::SingleFailed(*status),
-            Judged::FailedPair(first, second) => Verdict::PairFailed(*first, *second),
+            Judged::SingleFailed(status) => Verdict::SingleFailed(*status),
+            Judged::PairFailed(first, second) => Verdict::PairFailed(*first, *second),
         }
     }
 }

@@ -32,7 +32,7 @@ fn single(sqe: &Sqe, fault: Option<Status>) -> Judged
     ensures range { NamesBlocks result sqe.now }
 {
     if let Some(status) = fault {
-        return Judged::Failed(status);
+        return Judged::SingleFailed(status);
     }
     match sqe.operation() {
         Some(op) => Judged::Single(op, range_of(sqe)),
@@ -47,7 +47,7 @@ fn pair(sqe: &Sqe, fault: Option<(Status, Status)>) -> Judged
     ensures range { NamesBlocks result sqe.now }
 {
     match fault {
-        Some((first, second)) => Judged::FailedPair(first, second),
+        Some((first, second)) => Judged::PairFailed(first, second),
         None => Judged::Pair(range_of(sqe)),
     }
 }
@@ -66,15 +66,15 @@ pub fn judge(first: &Item, next: Option<&Item>, in_use: &[u16], units: &Units, s
     let sqe = first.sqe();
     if sqe.fuse() == 1 {
         let Some(second) = next else {
-            return Judged::Failed(Status::MISSING_FUSED);
+            return Judged::SingleFailed(Status::MISSING_FUSED);
         };
         if second.sqe().fuse() != 2 {
-            return Judged::Failed(Status::MISSING_FUSED);
+            return Judged::SingleFailed(Status::MISSING_FUSED);
         }
         return pair(&sqe, pair_fault(first, second, in_use, units, size));
     }
     if sqe.fuse() == 2 {
-        return Judged::Failed(Status::MISSING_FUSED);
+        return Judged::SingleFailed(Status::MISSING_FUSED);
     }
     single(&sqe, command_fault(first, in_use, size))
 }

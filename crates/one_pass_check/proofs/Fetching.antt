@@ -132,8 +132,8 @@ not_pair e = go (is_write e) (is_read e) (is_compare e) (is_write_zeroes e)
 -- what was judged names the units
 units_named : (u : AtomicParameters) (j : Judged) (e : Sqe) → operation_in j ≡ op_by (matched.verdict_by j) e → NamesBlocks j e → units_in u j ≡ units_by u (op_by (matched.verdict_by j) e) (slba e) (blocks e)
 units_named u judgement.Flush e o n = ap (λ x. units_by u x (slba e) (blocks e)) o
-units_named u (judgement.Failed s) e o n = refl
-units_named u (judgement.FailedPair s t) e o n = refl
+units_named u (judgement.SingleFailed s) e o n = refl
+units_named u (judgement.PairFailed s t) e o n = refl
 units_named u (judgement.Pair r) e o n = ap₂ (λ (a b : ℕ). record { slba = a; blocks = b } ∷ []) n.0 n.1
 units_named u (judgement.Single x r) e o n = go x o ∙ ap (λ y. units_by u y (slba e) (blocks e)) o
   where
@@ -150,8 +150,8 @@ units_named u (judgement.Single x r) e o n = go x o ∙ ap (λ y. units_by u y (
 -- they lie in a volume
 units_fit : (c : ConfigNumbers) (j : Judged) (k : Ticket) → operation_in j ≡ op k → NamesBlocks j (first_fields k) → (is_some (op k) ≡ true → TicketChecked c k) → c.blocks ≤ 65536 → HasUnits j
 units_fit c judgement.Flush k o n t l = tt
-units_fit c (judgement.Failed s) k o n t l = tt
-units_fit c (judgement.FailedPair s r) k o n t l = tt
+units_fit c (judgement.SingleFailed s) k o n t l = tt
+units_fit c (judgement.PairFailed s r) k o n t l = tt
 units_fit c (judgement.Pair r) k o n t l = tt
 units_fit c (judgement.Single x r) k o n t l =
     let inside = (t (ap is_some (sym o))).first.inside in

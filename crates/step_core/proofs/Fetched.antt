@@ -45,7 +45,7 @@ use Rattle.rings.specs.Completions.{CompletionRing}
 use Rattle.rings.specs.Submissions.{SubmissionRing, advanced}
 use Rattle.job_table.specs.Beginning.{HasBlocks, read_first, write_first}
 use Rattle.step_core.specs.Found.{IsFront, IsSqRing, first_job, kind_in}
-use Rattle.step_core.specs.declared.machine.fetch.Front.{Front}
+use Rattle.step_core.specs.declared.controller.fetch.Front.{Front}
 use Rattle.rings.specs.Queues.{completion_ring, submission_ring}
 use Rattle.job_table.specs.Tickets.{job_at, job_by, job_table, write_blocks}
 use Rattle.step_core.specs.Kept.{AreInUse, AreUsed, CoreFields, IsKept}

@@ -34,8 +34,8 @@ has_blocks c q (judged.Single Op.Write r) ws h l check =
 has_blocks c q (judged.Pair r) ws h l check =
     let has = has_data_if c (ticket_by q (judged.Pair r) (take 2 ws)) (check (sym (ap is_some h.operation))) in
     (omega (arith, l), omega (arith, has.pair (sym h.operation), h.range.1, ap length (data_beside ws 2 1 (omega arith))))
-has_blocks c q (judged.Failed s) ws h l check = tt
-has_blocks c q (judged.FailedPair s r) ws h l check = tt
+has_blocks c q (judged.SingleFailed s) ws h l check = tt
+has_blocks c q (judged.PairFailed s r) ws h l check = tt
 
 -- and they are those
 pub blocks_are : (q : ℕ) (j : Judged) (ws : List Submission) → Names j (ticket_by q j (take (taken (verdict_by j)) ws)) → write_first j ws ≡ write_blocks (ticket_by q j (take (taken (verdict_by j)) ws))
@@ -49,5 +49,5 @@ blocks_are q j ws h = by j h ∙ ap (λ o. write_blocks_by o (ticket_by q j (tak
     by (judged.Single Op.Write r) h = ap₂ blocks_in h.range.1 (sym (data_beside ws 1 0 (omega arith)))
     by (judged.Single Op.Pair r) h = absurd (no_pair q r (take 1 ws) h)
     by (judged.Pair r) h = ap₂ blocks_in h.range.1 (sym (data_beside ws 2 1 (omega arith)))
-    by (judged.Failed s) h = refl
-    by (judged.FailedPair s r) h = refl
+    by (judged.SingleFailed s) h = refl
+    by (judged.PairFailed s r) h = refl

@@ -21,7 +21,7 @@ use Rattle.ticket_course.specs.Stages.{IsSound, commands_in}
 use Rattle.ticket_course.proofs.Fetched.{fetched}
 use Rattle.step_core.specs.Found.{first_job, kind_in}
 use Rattle.job_table.specs.Beginning.{read_first}
-use Rattle.step_core.specs.declared.machine.fetch.Front.{Front}
+use Rattle.step_core.specs.declared.controller.fetch.Front.{Front}
 use Rattle.job_table.specs.Tickets.{job_by, read_bytes_by, write_blocks}
 use Rattle.step_core.specs.State.{kind_by, kind_of, ticket_range}
 use Rattle.step_core.specs.Works.{IsKind}
@@ -69,8 +69,8 @@ kind_is q (judged.Single o r) cs h =
     let k = ticket_by q (judged.Single o r) cs in
     units_kind k o r (ap is_pair h.operation ∙ alone (first_fields k)) (same_range r _ _ h.range.0 h.range.1) ∙ ap (kind_by k) h.operation
 kind_is q (judged.Pair r) cs h = ap (λ (x : Range). Kind.Pair x) (same_range r _ _ h.range.0 h.range.1)
-kind_is q (judged.Failed s) cs h = refl
-kind_is q (judged.FailedPair s r) cs h = refl
+kind_is q (judged.SingleFailed s) cs h = refl
+kind_is q (judged.PairFailed s r) cs h = refl
 
 -- one command alone does no pair's work
 pub no_pair : (q : ℕ) (r : Range) (cs : List Submission) → Names (judged.Single Op.Pair r) (ticket_by q (judged.Single Op.Pair r) cs) → ⊥
@@ -84,8 +84,8 @@ range_fits r s n m a b l most = (omega (arith, b), omega (arith, a, b, l, most))
 pub kind_fits : (c : ConfigNumbers) (q : ℕ) (j : Judged) (cs : List Submission) → c.blocks ≤ 65536 → Names j (ticket_by q j cs)
     → (is_some (op (ticket_by q j cs)) ≡ true → TicketChecked c (ticket_by q j cs)) → IsKind c.atomic (kind_in j)
 kind_fits c q judged.Flush cs most h check = tt
-kind_fits c q (judged.Failed s) cs most h check = inl refl
-kind_fits c q (judged.FailedPair s r) cs most h check = inr refl
+kind_fits c q (judged.SingleFailed s) cs most h check = inl refl
+kind_fits c q (judged.PairFailed s r) cs most h check = inr refl
 kind_fits c q (judged.Single o r) cs most h check =
     let k = ticket_by q (judged.Single o r) cs in
     range_fits r (slba (first_fields k)) _ c.blocks h.range.0 h.range.1 (check (sym (ap is_some h.operation))).first.inside most
@@ -108,8 +108,8 @@ sound u q (judged.Single o r) cs h fits = (one_command o (ap is_pair h.operation
     one_command Op.WriteZeroes e = refl
     one_command Op.Pair e = absurd cc
 sound u q (judged.Pair r) cs h fits = fits.0
-sound u q (judged.Failed s) cs h fits = tt
-sound u q (judged.FailedPair s r) cs h fits = tt
+sound u q (judged.SingleFailed s) cs h fits = tt
+sound u q (judged.PairFailed s r) cs h fits = tt
 
 -- ---- its job
 
@@ -129,8 +129,8 @@ read_is : (q : ℕ) (j : Judged) (cs : List Submission) → Names j (ticket_by q
 read_is q judged.Flush cs h = let k = ticket_by q judged.Flush cs in ap (λ o. read_bytes_by o k []) h.operation
 read_is q (judged.Single o r) cs h = let k = ticket_by q (judged.Single o r) cs in read_op k o r h.range.1 ∙ ap (λ x. read_bytes_by x k []) h.operation
 read_is q (judged.Pair r) cs h = refl
-read_is q (judged.Failed s) cs h = refl
-read_is q (judged.FailedPair s r) cs h = refl
+read_is q (judged.SingleFailed s) cs h = refl
+read_is q (judged.PairFailed s r) cs h = refl
 
 -- the job that is made is that of a ticket that has begun nothing
 pub fresh_job : (c : ConfigNumbers) (q : ℕ) (f : Front) (cs : List Submission) (first : Submission) (write : List (List ℕ)) (read : List ℕ) → Names f.judged (ticket_by q f.judged cs)

@@ -28,7 +28,7 @@ use Rattle.job_table.specs.Jobs.{JobTable}
 use Rattle.job_table.proofs.Tables.{length-jobs_by}
 use Rattle.rings.specs.Submissions.{SubmissionRing}
 use Rattle.step_core.specs.Found.{IsFront, IsSqRing}
-use Rattle.step_core.specs.declared.machine.fetch.Front.{Front}
+use Rattle.step_core.specs.declared.controller.fetch.Front.{Front}
 use Rattle.job_table.specs.Tickets.{job_at}
 use Rattle.rings.specs.Queues.{submission_ring}
 use Rattle.step_core.specs.Kept.{AreUsed, CoreFields, IsKept}

@@ -44,7 +44,7 @@ use Rattle.job_table.specs.Tickets.{compare_bytes, job_at, job_by, read_bytes_by
 use Rattle.rings.specs.Queues.{completion_ring, submission_ring}
 use Rattle.step_core.specs.Kept.{CoreFields, IsKept}
 use Rattle.step_core.specs.Found.{IsNext}
-use Rattle.step_core.specs.declared.machine.next.Next.{Next}
+use Rattle.step_core.specs.declared.controller.next.Next.{Next}
 use Rattle.step_core.proofs.Bounds.{unit_range_is}
 use Rattle.step_core.proofs.Granting.{job_stage}
 use Rattle.step_core.proofs.Moves.{job_found, jobs_moved, legal_after, stepped}

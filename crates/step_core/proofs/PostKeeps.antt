@@ -38,8 +38,8 @@ use Rattle.rings.specs.Queues.{completion_ring, submission_ring}
 use Rattle.job_table.specs.Tickets.{job_at, job_by, read_bytes_by}
 use Rattle.step_core.specs.Kept.{AreInUse, AreUsed, CoreFields, IsKept}
 use Rattle.step_core.specs.Found.{IsNext}
-use Rattle.step_core.specs.declared.machine.next.Next.{Next}
-use Rattle.step_core.specs.declared.machine.post.Due.{Due}
+use Rattle.step_core.specs.declared.controller.next.Next.{Next}
+use Rattle.step_core.specs.declared.controller.post.Due.{Due}
 use Rattle.step_core.proofs.Moves.{job_found, stepped}
 use Rattle.step_core.proofs.Tables.{IsTable-same, IsTable-set}
 use Rattle.step_core.proofs.Posting.{cqs_some, due_full, flies_some, queue_there, ticket_queue}

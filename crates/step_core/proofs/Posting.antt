@@ -27,7 +27,7 @@ use Rattle.rings.specs.Submissions.{SubmissionRing}
 use Rattle.entry_codec.specs.Cqe.{completion_bytes, phase_bit}
 use Rattle.entry_codec.specs.declared.cqe.Cqe.{Cqe}
 use Rattle.completions.proofs.CompletionLemmas.{completion_bytes-completion}
-use Rattle.step_core.specs.declared.machine.post.Due.{Due}
+use Rattle.step_core.specs.declared.controller.post.Due.{Due}
 use Rattle.rings.specs.Queues.{completion_of, completion_ring, submission_ring}
 use Rattle.job_table.specs.Tickets.{job_by}
 use Rattle.step_core.specs.Kept.{CoreFields, IsKept}

@@ -26,9 +26,9 @@ use Rattle.fused_match.specs.declared.judged.Judged.TheVariants as judged
 use Rattle.ticket_course.specs.Stages.{first_stage, unit_in}
 use Rattle.job_table.specs.Keeping.{Keeping}
 use Rattle.job_table.specs.Tickets.{compare_by, job_at}
-use Rattle.step_core.specs.declared.machine.fetch.Front.{Front}
-use Rattle.step_core.specs.declared.machine.next.Next.{Next}
-use Rattle.step_core.specs.declared.machine.post.Due.{Due}
+use Rattle.step_core.specs.declared.controller.fetch.Front.{Front}
+use Rattle.step_core.specs.declared.controller.next.Next.{Next}
+use Rattle.step_core.specs.declared.controller.post.Due.{Due}
 use Rattle.step_core.specs.declared.work.Kind.{Kind}
 
 -- a submission queue and its ring
@@ -75,8 +75,8 @@ abbrev pub kind_in : Judged → Kind
 kind_in judged.Flush = Kind.Flush
 kind_in (judged.Single o r) = Kind.Units o r
 kind_in (judged.Pair r) = Kind.Pair r
-kind_in (judged.Failed s) = Kind.Failed 1
-kind_in (judged.FailedPair s r) = Kind.Failed 2
+kind_in (judged.SingleFailed s) = Kind.Failed 1
+kind_in (judged.PairFailed s r) = Kind.Failed 2
 
 -- what is kept of a ticket that begins, with these blocks to write and this room for what it reads
 abbrev pub first_job : ℕ → Front → Submission → List (List ℕ) → List ℕ → Keeping

@@ -48,5 +48,5 @@ module _ (c : ConfigNumbers) (k : Ticket) where
       does_nothing judged.Flush (success ∷ []) e refl (ap (λ (x : Verdict). owed_by_standing c (fresh k) x) (sym v) ∙ ap (λ (x : Option Op). owed_running c (fresh k) x) (sym e))
   fetched (judged.Single o r) v e n = works o r e n.0 n.1
   fetched (judged.Pair r) v e n = works Op.Pair r e n.0 n.1
-  fetched (judged.Failed s) v e n = does_nothing (judged.Failed s) (s ∷ []) e refl (ap (λ (x : Verdict). owed_by_standing c (fresh k) x) (sym v))
-  fetched (judged.FailedPair s r) v e n = does_nothing (judged.FailedPair s r) (s ∷ r ∷ []) e refl (ap (λ (x : Verdict). owed_by_standing c (fresh k) x) (sym v))
+  fetched (judged.SingleFailed s) v e n = does_nothing (judged.SingleFailed s) (s ∷ []) e refl (ap (λ (x : Verdict). owed_by_standing c (fresh k) x) (sym v))
+  fetched (judged.PairFailed s r) v e n = does_nothing (judged.PairFailed s r) (s ∷ r ∷ []) e refl (ap (λ (x : Verdict). owed_by_standing c (fresh k) x) (sym v))

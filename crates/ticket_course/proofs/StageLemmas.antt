@@ -11,5 +11,5 @@ pub first_is : (j : Judged) (cids : List ℕ) → length cids ≡ taken (verdict
 first_is judged.Flush cids e s = sym e
 first_is (judged.Single o r) cids e s = record { range = s.1; few = omega (arith, s.1.1); each = e ∙ sym s.0 }
 first_is (judged.Pair r) cids e s = record { range = s; few = omega (arith, s.1); each = e }
-first_is (judged.Failed f) cids e s = sym e
-first_is (judged.FailedPair f g) cids e s = sym e
+first_is (judged.SingleFailed f) cids e s = sym e
+first_is (judged.PairFailed f g) cids e s = sym e

@@ -107,8 +107,8 @@ abbrev pub first_stage : Judged → Stage
 first_stage judged.Flush = Owing (success ∷ [])
 first_stage (judged.Single o r) = Waiting o 0 r
 first_stage (judged.Pair r) = Waiting Op.Pair 0 r
-first_stage (judged.Failed s) = Owing (s ∷ [])
-first_stage (judged.FailedPair s r) = Owing (s ∷ r ∷ [])
+first_stage (judged.SingleFailed s) = Owing (s ∷ [])
+first_stage (judged.PairFailed s r) = Owing (s ∷ r ∷ [])
 
 -- with this unit opened
 abbrev pub opened_in : Stage → Range → Stage

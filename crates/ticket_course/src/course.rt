@@ -197,8 +197,8 @@ fn first_stage(judged: &Judged) -> Stage
         Judged::Flush => Stage::Owing(Owed::one(Status::SUCCESS)),
         Judged::Single(op, range) => Stage::Waiting(*op, 0, *range),
         Judged::Pair(range) => Stage::Waiting(Op::Pair, 0, *range),
-        Judged::Failed(status) => Stage::Owing(Owed::one(*status)),
-        Judged::FailedPair(first, second) => Stage::Owing(Owed::two(*first, *second)),
+        Judged::SingleFailed(status) => Stage::Owing(Owed::one(*status)),
+        Judged::PairFailed(first, second) => Stage::Owing(Owed::two(*first, *second)),
     }
 }
 

@@ -6,11 +6,11 @@ ghost use Rattle.nvme_model.specs.declared.step.Step.{Step};
 ghost use Rattle.range_reserve.specs.Reserved.{held_beside};
 ghost use Rattle.step_core.specs.Found.{IsJob, IsNext};
 ghost use Rattle.step_core.specs.State.{Does};
-ghost use Rattle.step_core.specs.declared.machine.next.Next.{Next};
+ghost use Rattle.step_core.specs.declared.controller.next.Next.{Next};
 
 use crate::answer::Answer;
-use crate::machine::Core;
-use crate::machine::room::take_room;
+use crate::controller::Core;
+use crate::controller::room::take_room;
 use job_table::Job;
 use nvme_model::entry::{BlockLine, Entry};
 use nvme_model::refusal::Why;

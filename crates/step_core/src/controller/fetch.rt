@@ -17,9 +17,9 @@ ghost use Rattle.step_core.specs.State.{Does, needs_data};
 ghost use Rattle.ticket_course.specs.Stages.{IsSound};
 
 use crate::answer::Answer;
-use crate::machine::Core;
-use crate::machine::data::{DataRoom, data_room};
-use crate::machine::room::keep_room;
+use crate::controller::Core;
+use crate::controller::data::{DataRoom, data_room};
+use crate::controller::room::keep_room;
 use crate::work::{Kind, Work};
 use cids_in_use::CidsInUse;
 use fused_match::{Item, Judged, judge};
@@ -49,8 +49,8 @@ fn kind_of(judged: &Judged) -> Kind
         Judged::Flush => Kind::Flush,
         Judged::Single(op, range) => Kind::Units(*op, *range),
         Judged::Pair(range) => Kind::Pair(*range),
-        Judged::Failed(_) => Kind::Failed(1),
-        Judged::FailedPair(_, _) => Kind::Failed(2),
+        Judged::SingleFailed(_) => Kind::Failed(1),
+        Judged::PairFailed(_, _) => Kind::Failed(2),
     }
 }
 

@@ -5,11 +5,11 @@ ghost use Rattle.nvme_model.specs.Refusals.{refusal};
 ghost use Rattle.nvme_model.specs.declared.step.Step.{Step};
 ghost use Rattle.step_core.specs.Found.{IsJob, IsNext};
 ghost use Rattle.step_core.specs.State.{Does};
-ghost use Rattle.step_core.specs.declared.machine.next.Next.{Next};
+ghost use Rattle.step_core.specs.declared.controller.next.Next.{Next};
 
 use crate::answer::Answer;
-use crate::machine::Core;
-use crate::machine::room::take_both;
+use crate::controller::Core;
+use crate::controller::room::take_both;
 use job_table::Job;
 use nvme_model::entry::{Entry, GrantLine, UnitRange};
 use nvme_model::refusal::Why;

@@ -13,8 +13,8 @@ ghost use Rattle.nvme_model.specs.OneAtATime.{IsOneAtATime};
 ghost use Rattle.step_core.specs.State.{Serves};
 
 use crate::answer::{Answer, Refused};
-use crate::machine::Core;
-use crate::machine::post::Due;
+use crate::controller::Core;
+use crate::controller::post::Due;
 use job_table::Job;
 use nvme_model::entry::GrantLine;
 use nvme_model::step::Step;

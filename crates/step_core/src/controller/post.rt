@@ -7,12 +7,12 @@ ghost use Rattle.nvme_model.specs.Refusals.{refusal};
 ghost use Rattle.nvme_model.specs.declared.step.Step.{Step};
 ghost use Rattle.step_core.specs.Found.{IsJob, IsNext};
 ghost use Rattle.step_core.specs.State.{Does};
-ghost use Rattle.step_core.specs.declared.machine.next.Next.{Next};
+ghost use Rattle.step_core.specs.declared.controller.next.Next.{Next};
 ghost use Rattle.ticket_course.specs.Stages.{owed_in};
 
 use crate::answer::Answer;
-use crate::machine::Core;
-use crate::machine::room::keep_room;
+use crate::controller::Core;
+use crate::controller::room::keep_room;
 use completions::cqe_of;
 use entry_codec::encode_cqe;
 use job_table::{Job, Jobs};

@@ -6,8 +6,8 @@ ghost use Rattle.nvme_model.specs.declared.step.Step.{Step};
 ghost use Rattle.step_core.specs.State.{Serves};
 
 use crate::answer::{Answer, Refused};
-use crate::machine::Core;
-use crate::machine::room::keep_room;
+use crate::controller::Core;
+use crate::controller::room::keep_room;
 use nvme_model::entry::{Entry, PublishLine};
 use nvme_model::refusal::Why;
 use nvme_model::submission::{Batch, Submissions, copies_of};

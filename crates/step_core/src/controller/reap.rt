@@ -6,8 +6,8 @@ ghost use Rattle.nvme_model.specs.declared.step.Step.{Step};
 ghost use Rattle.step_core.specs.State.{Does};
 
 use crate::answer::Answer;
-use crate::machine::Core;
-use crate::machine::room::take_room;
+use crate::controller::Core;
+use crate::controller::room::take_room;
 use nvme_model::entry::{Entry, ReapLine};
 use nvme_model::refusal::Why;
 use rings::Completion;

@@ -7,7 +7,7 @@ ghost use Rattle.nvme_model.specs.OneAtATime.{IsOneAtATime};
 ghost use Rattle.step_core.specs.State.{RunsOnto, Serves};
 
 use crate::answer::{Answer, Refused};
-use crate::machine::Core;
+use crate::controller::Core;
 use nvme_model::step::Step;
 use std::alloc::AllocError as NoMemory;
 

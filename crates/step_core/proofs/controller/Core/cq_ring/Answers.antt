@@ -3,7 +3,7 @@ use Rattle.nvme_model.specs.declared.config.ConfigNumbers.{ConfigNumbers}
 use Rattle.step_core.specs.Found.{IsCqRing}
 use Rattle.step_core.specs.State.{State}
 use Rattle.step_core.proofs.Lookups.{cq_read}
-use Rattle.step_core.proofs.machine.Core.cq_ring.Goals as goal
+use Rattle.step_core.proofs.controller.Core.cq_ring.Goals as goal
 
 pub returns : goal.returns
 returns c = record {

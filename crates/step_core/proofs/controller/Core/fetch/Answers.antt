@@ -6,7 +6,7 @@ use Rattle.nvme_model.specs.declared.submission.Submission.{Submission}
 use Rattle.job_table.specs.Tickets.{write_blocks}
 use Rattle.step_core.specs.State.{State}
 use Rattle.step_core.proofs.Fetched.{IsFetched, ticket_fits, can_take, cids_are, is_above, sound_is, not_full, used_room, work_fits, fetch_kept, fetch_done}
-use Rattle.step_core.proofs.machine.Core.fetch.Goals as goal
+use Rattle.step_core.proofs.controller.Core.fetch.Goals as goal
 
 -- the first of those that are taken waits first
 first_taken : (n : ℕ) (x : Submission) (xs ys : List Submission) → x ∷ ys ≡ take n xs → slice_get xs 0 ≡ Some x

@@ -6,7 +6,7 @@ use Rattle.nvme_model.specs.Operations.{op_by}
 use Rattle.nvme_model.specs.Tickets.{cids_in_use}
 use Rattle.nvme_model.specs.Verdict.{Item, verdict_of}
 use Rattle.step_core.proofs.Fetching.{fetch_by_jobs, fetch_no_entry, front_is}
-use Rattle.step_core.proofs.machine.Core.fetch_front.Goals as goal
+use Rattle.step_core.proofs.controller.Core.fetch_front.Goals as goal
 
 pub returns-in_default-peek : goal.returns-in_default-peek
 returns-in_default-peek c = record {

@@ -8,7 +8,7 @@ use Rattle.job_table.specs.Tickets.{write_blocks}
 use Rattle.step_core.specs.Found.{IsSqRing}
 use Rattle.step_core.specs.State.{State}
 use Rattle.step_core.proofs.Fetched.{IsFetched, data_has, data_is}
-use Rattle.step_core.proofs.machine.Core.fetch_room.Goals as goal
+use Rattle.step_core.proofs.controller.Core.fetch_room.Goals as goal
 
 pub data_room-requires : goal.data_room-requires
 data_room-requires c =

@@ -4,7 +4,7 @@ use Rattle.nvme_model.specs.Tickets.{in_flight}
 use Rattle.step_core.specs.Found.{IsJob}
 use Rattle.step_core.specs.State.{State}
 use Rattle.step_core.proofs.Lookups.{job_absent, job_there}
-use Rattle.step_core.proofs.machine.Core.job.Goals as goal
+use Rattle.step_core.proofs.controller.Core.job.Goals as goal
 
 pub returns-in-Some : goal.returns-in-Some
 returns-in-Some c = record {

@@ -2,7 +2,7 @@ use Rattle.std.proofs.Common.{ap, ◌∙◌}
 use Rattle.nvme_model.specs.Refusals.{jobs_full}
 use Rattle.step_core.specs.State.{State}
 use Rattle.step_core.proofs.Fetching.{full_is}
-use Rattle.step_core.proofs.machine.Core.jobs_full.Goals as goal
+use Rattle.step_core.proofs.controller.Core.jobs_full.Goals as goal
 
 pub returns : goal.returns
 returns c = record {

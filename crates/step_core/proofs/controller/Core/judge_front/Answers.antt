@@ -9,7 +9,7 @@ use Rattle.step_core.specs.State.{State}
 use Rattle.step_core.proofs.Fetching.{judged_by}
 use Rattle.cids_in_use.proofs.Counts.{used_at}
 use Rattle.step_core.proofs.Posting.{queue_there}
-use Rattle.step_core.proofs.machine.Core.judge_front.Goals as goal
+use Rattle.step_core.proofs.controller.Core.judge_front.Goals as goal
 
 pub returns-clause-verdict : goal.returns-clause-verdict
 returns-clause-verdict c =

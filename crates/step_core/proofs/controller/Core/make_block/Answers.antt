@@ -1,10 +1,10 @@
 use Rattle.std.proofs.Common.{ap, arith, subst, sym, ◌∙◌}
 use Rattle.std.specs.Option.{option_copied_mut}
 use Rattle.step_core.specs.Found.{IsNext}
-use Rattle.step_core.specs.declared.machine.next.Next.{Next}
+use Rattle.step_core.specs.declared.controller.next.Next.{Next}
 use Rattle.step_core.specs.State.{State}
 use Rattle.step_core.proofs.BlockMade.{block_does, has_job, kept, opened, ready}
-use Rattle.step_core.proofs.machine.Core.make_block.Goals as goal
+use Rattle.step_core.proofs.controller.Core.make_block.Goals as goal
 
 pub unwrap-job-requires : goal.unwrap-job-requires
 unwrap-job-requires c =

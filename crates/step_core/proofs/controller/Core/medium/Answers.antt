@@ -4,7 +4,7 @@ use Rattle.nvme_model.specs.Value.{value}
 use Rattle.nvme_model.specs.declared.config.ConfigNumbers.{ConfigNumbers}
 use Rattle.step_core.specs.State.{State}
 use Rattle.step_core.proofs.Beginning.{block_is_value}
-use Rattle.step_core.proofs.machine.Core.medium.Goals as goal
+use Rattle.step_core.proofs.controller.Core.medium.Goals as goal
 
 pub returns-clause-contents : goal.returns-clause-contents
 returns-clause-contents c =

@@ -1,6 +1,6 @@
 use Rattle.std.proofs.Common.{arith, refl}
 use Rattle.step_core.proofs.Beginning.{begins, cq_is_size}
-use Rattle.step_core.proofs.machine.Core.new.Goals as goal
+use Rattle.step_core.proofs.controller.Core.new.Goals as goal
 
 pub cq_rings-requires : goal.cq_rings-requires
 cq_rings-requires c = record { size = cq_is_size c.numbers-numbers.result c.numbers-numbers.ensures.accepted }

@@ -2,7 +2,7 @@ use Rattle.std.proofs.Common.{◌+◌, ap, sym, ◌∙◌, subst, arith, drop}
 use Rattle.ticket_standing.specs.Standing.{flying}
 use Rattle.step_core.proofs.Next.{count_tickets, or_else, ready_among, ready_is, ready_past, step_at}
 use Rattle.step_core.proofs.Whole.{KeptBy}
-use Rattle.step_core.proofs.machine.Core.next.Goals as goal
+use Rattle.step_core.proofs.controller.Core.next.Goals as goal
 
 pub loop-place-init : goal.loop-place-init
 loop-place-init c = ready_is c.args.self.now.config c.args.self.now.past

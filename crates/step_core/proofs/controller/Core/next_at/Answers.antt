@@ -4,7 +4,7 @@ use Rattle.step_core.specs.Found.{IsJob, next_step}
 use Rattle.step_core.specs.State.{State}
 use Rattle.step_core.proofs.Lookups.{job_nth}
 use Rattle.step_core.proofs.Next.{nth_ticket}
-use Rattle.step_core.proofs.machine.Core.next_at.Goals as goal
+use Rattle.step_core.proofs.controller.Core.next_at.Goals as goal
 
 pub next_of-requires : goal.next_of-requires
 next_of-requires c = record {

@@ -2,7 +2,7 @@ use Rattle.std.proofs.Common.{ap, sym, Some, ◌∙◌}
 use Rattle.nvme_model.specs.Refusals.{refusal}
 use Rattle.nvme_model.specs.declared.step.Step.{Step}
 use Rattle.step_core.proofs.Next.{next_by}
-use Rattle.step_core.proofs.machine.Core.next_of.Goals as goal
+use Rattle.step_core.proofs.controller.Core.next_of.Goals as goal
 
 pub returns-in-Ok-post_due-clause-step : goal.returns-in-Ok-post_due-clause-step
 returns-in-Ok-post_due-clause-step c =

@@ -2,7 +2,7 @@ use Rattle.std.proofs.Common.{ap, is_some, sym, true, false, ◌∙◌}
 use Rattle.job_table.specs.Keeping.{Keeping}
 use Rattle.ticket_course.specs.Stages.{Ticking, is_open, unit_in}
 use Rattle.step_core.proofs.Blocking.{block_tested, told}
-use Rattle.step_core.proofs.machine.Core.open_unit.Goals as goal
+use Rattle.step_core.proofs.controller.Core.open_unit.Goals as goal
 
 pub returns-in-Some : goal.returns-in-Some
 returns-in-Some c =

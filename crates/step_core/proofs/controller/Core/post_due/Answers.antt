@@ -2,7 +2,7 @@ use Rattle.std.proofs.Common.{◌-◌, ◌%◌, ◌+◌, arith, ap, refl, sym, �
 use Rattle.nvme_model.specs.declared.config.ConfigNumbers.{ConfigNumbers}
 use Rattle.ticket_course.specs.Stages.{Ticking, owed_in}
 use Rattle.step_core.proofs.Posting.{fields_by, post_nothing, post_queue, post_some, post_place, post_head, post_full, post_is}
-use Rattle.step_core.proofs.machine.Core.post_due.Goals as goal
+use Rattle.step_core.proofs.controller.Core.post_due.Goals as goal
 
 pub returns-in_default : goal.returns-in_default
 returns-in_default c = record {

@@ -2,7 +2,7 @@ use Rattle.std.proofs.Common.{◌∙◌, arith}
 use Rattle.nvme_model.specs.declared.step.Step.{Step}
 use Rattle.step_core.proofs.Accepted.{accepted, ok_unless, one_more}
 use Rattle.step_core.proofs.Publishing.{publish_keeps, publish_taken}
-use Rattle.step_core.proofs.machine.Core.publish.Goals as goal
+use Rattle.step_core.proofs.controller.Core.publish.Goals as goal
 
 pub unwrap-requires : goal.unwrap-requires
 unwrap-requires c =

@@ -1,7 +1,7 @@
 use Rattle.std.proofs.Common.{◌∙◌, ap}
 use Rattle.rings.specs.Submissions.{batch_fault}
 use Rattle.step_core.proofs.Publishing.{publish_refused}
-use Rattle.step_core.proofs.machine.Core.publish_refusal.Goals as goal
+use Rattle.step_core.proofs.controller.Core.publish_refusal.Goals as goal
 
 pub returns-in-Some : goal.returns-in-Some
 returns-in-Some c = record {

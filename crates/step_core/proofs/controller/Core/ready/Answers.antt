@@ -1,6 +1,6 @@
 use Rattle.std.proofs.Common.{sym}
 use Rattle.nvme_model.proofs.NeverStuck.{never_stuck}
-use Rattle.step_core.proofs.machine.Core.ready.Goals as goal
+use Rattle.step_core.proofs.controller.Core.ready.Goals as goal
 
 pub returns-in-None-clause-stuck : goal.returns-in-None-clause-stuck
 returns-in-None-clause-stuck c =

@@ -2,7 +2,7 @@ use Rattle.std.proofs.Common.{arith}
 use Rattle.nvme_model.specs.declared.step.Step.{Step}
 use Rattle.step_core.proofs.Accepted.{accepted, does_accepted, ok_unless, one_more}
 use Rattle.step_core.proofs.Reaping.{reap_adds, reap_answers, reap_keeps, reap_waiting}
-use Rattle.step_core.proofs.machine.Core.reap.Goals as goal
+use Rattle.step_core.proofs.controller.Core.reap.Goals as goal
 
 pub unwrap-completion-requires : goal.unwrap-completion-requires
 unwrap-completion-requires c =

@@ -1,6 +1,6 @@
 use Rattle.std.proofs.Common.{true, false, sym, ◌∙◌}
 use Rattle.step_core.proofs.Reaping.{reap_refused}
-use Rattle.step_core.proofs.machine.Core.reap_refusal.Goals as goal
+use Rattle.step_core.proofs.controller.Core.reap_refusal.Goals as goal
 
 pub returns-then-is_empty : goal.returns-then-is_empty
 returns-then-is_empty c = record {

@@ -3,7 +3,7 @@ use mathlib.Core.List.{reverse}
 use Rattle.std.proofs.lemmas.List.{append-nil, reverse-reverse}
 use Rattle.step_core.proofs.Whole.{KeptBy, RunsOnto-push, kept_runs, reverse_push}
 use Rattle.nvme_model.proofs.OneAtATime.{one_at_a_time}
-use Rattle.step_core.proofs.machine.Core.run_steps.Goals as goal
+use Rattle.step_core.proofs.controller.Core.run_steps.Goals as goal
 
 pub loop-step-preserved : goal.loop-step-preserved
 loop-step-preserved c =

@@ -3,7 +3,7 @@ use mathlib.Core.List.{reverse}
 use Rattle.std.specs.Vec.{vec_capacity}
 use Rattle.nvme_model.specs.declared.step.Step.{Step}
 use Rattle.step_core.specs.State.{RunsOnto}
-use Rattle.step_core.proofs.machine.Core.run_steps.Given as goal
+use Rattle.step_core.proofs.controller.Core.run_steps.Given as goal
 
 abbrev pub invariant-loop-step : goal.invariant-loop-step
 invariant-loop-step l = record {

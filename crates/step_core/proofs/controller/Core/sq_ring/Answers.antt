@@ -3,7 +3,7 @@ use Rattle.nvme_model.specs.declared.config.ConfigNumbers.{ConfigNumbers}
 use Rattle.step_core.specs.Found.{IsSqRing}
 use Rattle.step_core.specs.State.{State}
 use Rattle.step_core.proofs.Lookups.{sq_read}
-use Rattle.step_core.proofs.machine.Core.sq_ring.Goals as goal
+use Rattle.step_core.proofs.controller.Core.sq_ring.Goals as goal
 
 pub returns : goal.returns
 returns c = record {

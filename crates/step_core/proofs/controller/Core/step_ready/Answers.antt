@@ -1,7 +1,7 @@
 use Rattle.step_core.specs.Found.{step_of}
 use Rattle.nvme_model.proofs.OneAtATime.{one_at_a_time}
 use Rattle.step_core.proofs.Whole.{kept_served}
-use Rattle.step_core.proofs.machine.Core.step_ready.Goals as goal
+use Rattle.step_core.proofs.controller.Core.step_ready.Goals as goal
 
 pub returns-in_err-next-clause-legal : goal.returns-in_err-next-clause-legal
 returns-in_err-next-clause-legal c = c.next.ensures.kept.legal

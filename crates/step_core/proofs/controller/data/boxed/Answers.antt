@@ -2,7 +2,7 @@ use Rattle.std.proofs.Common.{List, [], add-one, ap, arith, drop, sym, take, ℕ
 use Rattle.block_array.specs.Blocks.{contents_of}
 use Rattle.block_array.proofs.Contents.{contents_more}
 use Rattle.block_exec.specs.Bytes.{blocks_in, data_at}
-use Rattle.step_core.proofs.machine.data.boxed.Goals as goal
+use Rattle.step_core.proofs.controller.data.boxed.Goals as goal
 
 pub loop-place-preserved : goal.loop-place-preserved
 loop-place-preserved c =
