@@ -10,9 +10,9 @@ use Rattle.nvme_model.specs.Steps.{next_entry}
 use Rattle.nvme_model.specs.declared.entry.Entry.{Entry}
 use Rattle.nvme_model.specs.declared.refusal.Why.{Why}
 use Rattle.nvme_model.specs.declared.step.Step.{Step}
-use Rattle.step_core.specs.State.{Serves, State, after, refused_as}
-use Rattle.step_core.specs.declared.answer.Answer.{Answer}
-use Rattle.step_core.specs.declared.answer.Refused.{Refused}
+use Rattle.controller_steps.specs.State.{Serves, State, after, refused_as}
+use Rattle.controller_steps.specs.declared.answer.Answer.{Answer}
+use Rattle.controller_steps.specs.declared.answer.Refused.{Refused}
 use Rattle.casdisk_script.specs.Doing.{Says, why_of}
 use Rattle.casdisk_script.specs.Said.{entry_text, refusal_text, step_by, step_says}
 use Rattle.casdisk_script.specs.declared.meaning.WriteFault.{WriteFault}

@@ -3,7 +3,7 @@ use Rattle.std.specs.Prelude.{◌≡◌, ℕ, List, Option}
 use Rattle.std.specs.Io.KnownBytes.{Appends}
 use Rattle.nvme_model.specs.History.{Past}
 use Rattle.nvme_model.specs.declared.refusal.Why.{Why}
-use Rattle.step_core.specs.declared.answer.Refused.{Refused}
+use Rattle.controller_steps.specs.declared.answer.Refused.{Refused}
 
 -- all of it: the history is as it has to be, and the text is written
 abbrev pub Says : Past × List ℕ → Past → Option (List ℕ) → Option (List ℕ) → Type 0

@@ -7,7 +7,7 @@ ghost use Rattle.std.specs.Io.KnownBytes.{Appends};
 ghost use Rattle.line_text.specs.Known.{AppendsFront};
 ghost use Rattle.nvme_model.specs.declared.refusal.Why.{Why as TheWhy};
 ghost use Rattle.nvme_model.specs.declared.step.Step.{Step as TheStep};
-ghost use Rattle.step_core.specs.State.{Serves, State};
+ghost use Rattle.controller_steps.specs.State.{Serves, State};
 ghost use Rattle.casdisk_script.specs.Doing.{Says};
 ghost use Rattle.casdisk_script.specs.Doing.{why_of as the_why_of};
 ghost use Rattle.casdisk_script.specs.Said.{all_ready, entry_text, medium_text, refusal_text, script_line, settle_says};

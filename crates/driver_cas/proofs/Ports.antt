@@ -30,9 +30,9 @@ use Rattle.driver_cas.specs.Reaps.{IsReapDeclined, IsReapFault, IsReapedAs, caus
 use Rattle.driver_cas.specs.declared.fault.PortFault.{PortFault}
 use Rattle.driver_cas.specs.declared.port.Reaped.{Reaped}
 use Rattle.work_queue.specs.Engines.{EnginePass}
-use Rattle.step_core.specs.State.{Accepts, Refuses, answer_of, payload_of}
-use Rattle.step_core.specs.declared.answer.Answer.{Answer}
-use Rattle.step_core.specs.declared.answer.Refused.{Refused}
+use Rattle.controller_steps.specs.State.{Accepts, Refuses, answer_of, payload_of}
+use Rattle.controller_steps.specs.declared.answer.Answer.{Answer}
+use Rattle.controller_steps.specs.declared.answer.Refused.{Refused}
 use Rattle.driver_calls.specs.Events.{event_at, events}
 use Rattle.driver_calls.specs.Views.{PortView, owns}
 use Rattle.driver_calls.specs.declared.event.PortEvent.{PortEvent}

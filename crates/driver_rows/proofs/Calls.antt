@@ -7,7 +7,7 @@ use Rattle.nvme_model.specs.Config.{config_fault, config_faults}
 use Rattle.nvme_model.specs.declared.config.ConfigNumbers.{ConfigNumbers}
 use Rattle.nvme_model.specs.declared.entry.Entry.{Entry}
 use Rattle.nvme_model.proofs.Rules.{none_holds}
-use Rattle.step_core.specs.declared.answer.Answer.{Answer}
+use Rattle.controller_steps.specs.declared.answer.Answer.{Answer}
 use Rattle.work_queue.specs.Engines.{EnginePass, IsOpened, IsWorkOf, OpenedAs}
 use Rattle.work_queue.specs.declared.engine.Engine.{Engine}
 use Rattle.work_queue.specs.declared.engine.Open.{Open}

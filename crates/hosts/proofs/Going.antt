@@ -4,8 +4,8 @@ use Rattle.nvme_model.specs.Passes.{IsBeginning, SharedPast}
 use Rattle.nvme_model.specs.declared.config.ConfigNumbers.{ConfigNumbers}
 use Rattle.nvme_model.specs.declared.entry.Entry.{Entry}
 use Rattle.nvme_model.specs.Kept.{Kept}
-use Rattle.step_core.specs.declared.answer.Answer.{Answer}
-use Rattle.step_core.specs.declared.work.Work.{Work as Duty}
+use Rattle.controller_steps.specs.declared.answer.Answer.{Answer}
+use Rattle.controller_steps.specs.declared.work.Work.{Work as Duty}
 use Rattle.meet_lock.specs.Passes.{IsSame, Knows, config_of, seen}
 use Rattle.work_queue.specs.Duties.{is_only_fetch}
 use Rattle.work_queue.specs.Engines as engine

@@ -5,7 +5,7 @@ use Rattle.std.specs.Prelude.{◌≡◌, ◌≤◌}
 use Rattle.nvme_model.specs.Passes.{IsBeginning, entries}
 use Rattle.nvme_model.specs.declared.config.ConfigNumbers.{ConfigNumbers}
 use Rattle.meet_lock.specs.Passes.{config_of, seen}
-use Rattle.step_core.specs.declared.answer.Answer.{Answer}
+use Rattle.controller_steps.specs.declared.answer.Answer.{Answer}
 use Rattle.work_queue.specs.Duties.{is_only_fetch}
 use Rattle.work_queue.specs.Engines as engine
 use Rattle.work_queue.specs.Posted.{IsAnswerPosted}

@@ -1,8 +1,8 @@
 -- What a fetched Work is, and to which queue a completion is posted where there is one.
 use Rattle.std.proofs.Common.{ap, ◌∙◌}
 use Rattle.nvme_model.specs.declared.entry.Entry.{Entry}
-use Rattle.step_core.specs.declared.answer.Answer.{Answer}
-use Rattle.step_core.specs.declared.work.Work.{Work as Duty}
+use Rattle.controller_steps.specs.declared.answer.Answer.{Answer}
+use Rattle.controller_steps.specs.declared.work.Work.{Work as Duty}
 use Rattle.work_queue.specs.Duties.{is_only_fetch}
 use Rattle.work_queue.specs.Engines as engine
 use Rattle.work_queue.specs.declared.engine.Open.{Open}

@@ -11,13 +11,13 @@ ghost use Rattle.nvme_model.specs.Value.{value};
 ghost use Rattle.nvme_model.specs.OneAtATime.{IsOneAtATime};
 
 use crate::pass::Pass;
-use step_core::Core;
+use controller_steps::Machine;
 
 /// What a pass of a controller has seen is legal; what callers got there is what an array of blocks gives that serves
 /// one operation at a time; and where no open unit writes a block, the volume then held its value.
 ///
 /// What is asked of the pass is what `new`, `attempt`, `meet` and `learn` ensure of it.
-pub fn what_a_pass_has_seen(pass: &Pass<Core>)
+pub fn what_a_pass_has_seen<M: Machine>(pass: &Pass<M>)
     requires knows { Kept (config_of pass.now) (entries (seen pass.now)) }
     ensures legal { IsLegal (config_of pass.now) (entries (seen pass.now)) }
     ensures array { IsOneAtATime (config_of pass.now) (entries (seen pass.now)) }

@@ -4,9 +4,7 @@
 //! Busy.
 #![tactic(auto)]
 
-mod core_machine;
 mod laws;
-mod machine;
 mod owner;
 mod pass;
 mod plays;
@@ -14,8 +12,8 @@ mod seats;
 mod shared;
 mod view;
 
+pub use controller_steps::Machine;
 pub use laws::what_a_pass_has_seen;
-pub use machine::Machine;
 pub use owner::{AnyPass, StepRight, TicketOwner};
 pub use pass::{Busy, Declined, Pass};
 pub use seats::{NoteSeat, TicketSeat};

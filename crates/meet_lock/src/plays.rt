@@ -4,10 +4,10 @@ ghost use Rattle.meet_lock.specs.Lock.{IsOneHistory, start, gives_left, gives_ri
 ghost use Rattle.meet_lock.specs.Lock.{hearing, spent, unladen, laden, lading};
 ghost use Rattle.meet_lock.specs.SeatSteps.{took, wrote, left, looked};
 
-use crate::machine::Machine;
 use crate::owner::StepRight;
 use crate::view::{Start, View};
 use atomic_table::{Join, Play, Split, TableRule};
+use controller_steps::Machine;
 use std::marker::PhantomData;
 
 pub(crate) struct Lock<M, K> {

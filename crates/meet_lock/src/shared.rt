@@ -11,12 +11,12 @@ mod meet;
 mod notes;
 mod tickets;
 
-use crate::machine::Machine;
 use crate::owner::{AnyPass, StepRight};
 use crate::pass::Pass;
 use crate::plays::{Give, Lock};
 use crate::view::{Start, View};
 use atomic_table::{Refused as TableRefused, Seat, Table};
+use controller_steps::Machine;
 use std::alloc::{AllocError as NoMemory, Global};
 use std::snapshot::Snapshot;
 

@@ -7,8 +7,8 @@ use Rattle.nvme_model.specs.declared.step.Step.{Step}
 use Rattle.nvme_model.specs.History.{Past}
 use Rattle.nvme_model.specs.Refusals.{refusal}
 use Rattle.nvme_model.specs.Steps.{next_entry}
-use Rattle.step_core.specs.State.{Does, Room, State, TakesRoom, WantsMemory, answer_of, promised_after, refused_as}
-use Rattle.step_core.specs.declared.answer.Answer.{Answer}
+use Rattle.controller_steps.specs.State.{Does, Room, State, TakesRoom, WantsMemory, answer_of, promised_after, refused_as}
+use Rattle.controller_steps.specs.declared.answer.Answer.{Answer}
 
 -- a call whose error nothing allows answers Ok
 pub ok_unless : {A E : Type 0} {P : E → Type 0} (r : Result A E) → IfErr r P → ((e : E) → P e → ⊥) → is_ok r ≡ true

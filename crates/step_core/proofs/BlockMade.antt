@@ -40,8 +40,8 @@ use Rattle.rings.specs.Queues.{completion_ring, submission_ring}
 use Rattle.job_table.specs.Tickets.{job_at}
 use Rattle.step_core.specs.Kept.{CoreFields, IsKept}
 use Rattle.rings.specs.Tables.{IsTable}
-use Rattle.step_core.specs.State.{Does, Room, State, TakesRoom, answer_of}
-use Rattle.step_core.specs.declared.answer.Answer.{Answer}
+use Rattle.controller_steps.specs.State.{Does, Room, State, TakesRoom, answer_of}
+use Rattle.controller_steps.specs.declared.answer.Answer.{Answer}
 use Rattle.step_core.proofs.BlockData.{IsUnit, done_same, finds_same, not_false, stage_is, unit_found}
 use Rattle.step_core.proofs.BlockKept.{read_now, volume_now}
 use Rattle.step_core.proofs.Blocked.{done_is, done_now, ended_is, entry_is, is_equal, job_now, line_now}

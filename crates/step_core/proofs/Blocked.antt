@@ -30,7 +30,7 @@ use Rattle.ticket_course.specs.Shown.{stage_of}
 use Rattle.ticket_course.specs.Stages.{noted_in}
 use Rattle.ticket_course.proofs.Blocked.{blocked}
 use Rattle.job_table.specs.Tickets.{compare_bytes, job_at, job_by, read_bytes_by, still_written}
-use Rattle.step_core.specs.State.{done_of}
+use Rattle.controller_steps.specs.State.{done_of}
 use Rattle.step_core.proofs.BlockData.{IsUnit, unended}
 
 -- ---- what a Block of an open unit says

@@ -50,10 +50,10 @@ use Rattle.rings.specs.Queues.{completion_ring, submission_ring}
 use Rattle.job_table.specs.Tickets.{job_at, job_by, job_table, write_blocks}
 use Rattle.step_core.specs.Kept.{AreInUse, AreUsed, CoreFields, IsKept}
 use Rattle.cids_in_use.specs.Used.{UsedCids}
-use Rattle.step_core.specs.State.{Does, Room, State, TakesRoom, work_of}
-use Rattle.step_core.specs.Works.{IsKind, TicketWork}
-use Rattle.step_core.specs.declared.answer.Answer.{Answer}
-use Rattle.step_core.specs.declared.work.Kind.{Kind}
+use Rattle.controller_steps.specs.State.{Does, Room, State, TakesRoom, work_of}
+use Rattle.controller_steps.specs.Works.{IsKind, TicketWork}
+use Rattle.controller_steps.specs.declared.answer.Answer.{Answer}
+use Rattle.controller_steps.specs.declared.work.Kind.{Kind}
 use Rattle.step_core.proofs.FetchedJob.{Names, fresh_job, kind_fits, kind_is, sound, ticket_by}
 use Rattle.step_core.proofs.FetchedData.{blocks_are, has_blocks}
 use Rattle.step_core.proofs.Fetching.{blocks_most, front_command, full_is}

@@ -23,9 +23,9 @@ use Rattle.step_core.specs.Found.{first_job, kind_in}
 use Rattle.job_table.specs.Beginning.{read_first}
 use Rattle.step_core.specs.declared.controller.fetch.Front.{Front}
 use Rattle.job_table.specs.Tickets.{job_by, read_bytes_by, write_blocks}
-use Rattle.step_core.specs.State.{kind_by, kind_of, ticket_range}
-use Rattle.step_core.specs.Works.{IsKind}
-use Rattle.step_core.specs.declared.work.Kind.{Kind}
+use Rattle.controller_steps.specs.State.{kind_by, kind_of, ticket_range}
+use Rattle.controller_steps.specs.Works.{IsKind}
+use Rattle.controller_steps.specs.declared.work.Kind.{Kind}
 use Rattle.step_core.proofs.Written.{fresh_blocks}
 
 -- the ticket of these commands

@@ -28,7 +28,7 @@ use Rattle.ticket_course.proofs.Waits.{Waits, no_next, waits}
 use Rattle.job_table.specs.Tickets.{job_by}
 use Rattle.step_core.specs.Kept.{CoreFields, IsKept}
 use Rattle.step_core.specs.Found.{IsJob}
-use Rattle.step_core.specs.State.{Room, State}
+use Rattle.controller_steps.specs.State.{Room, State}
 use Rattle.step_core.proofs.Bounds.{left_short}
 
 -- what is kept is so of the value that contracts see

@@ -32,7 +32,7 @@ use Rattle.rings.specs.Queues.{completion_of, completion_ring, submission_ring}
 use Rattle.job_table.specs.Tickets.{job_by}
 use Rattle.step_core.specs.Kept.{CoreFields, IsKept}
 use Rattle.step_core.specs.Found.{IsDue, IsJob}
-use Rattle.step_core.specs.State.{Room, State}
+use Rattle.controller_steps.specs.State.{Room, State}
 use Rattle.std.proofs.Math.Nat.{mod-lt}
 
 -- ---- the queue of a ticket

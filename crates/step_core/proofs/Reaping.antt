@@ -25,8 +25,8 @@ use Rattle.job_table.specs.Jobs.{JobTable}
 use Rattle.rings.specs.Queues.{completion_of, completion_ring, submission_ring}
 use Rattle.step_core.specs.Kept.{CoreFields, IsKept}
 use Rattle.step_core.specs.Found.{IsCqRing}
-use Rattle.step_core.specs.State.{answer_of, payload_of}
-use Rattle.step_core.specs.declared.answer.Answer.{Answer}
+use Rattle.controller_steps.specs.State.{answer_of, payload_of}
+use Rattle.controller_steps.specs.declared.answer.Answer.{Answer}
 use Rattle.step_core.proofs.Lookups.{cq_read}
 use Rattle.step_core.proofs.Moves.{stepped}
 use Rattle.step_core.proofs.Tables.{IsTable-same, IsTable-set}

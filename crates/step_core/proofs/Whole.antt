@@ -4,10 +4,10 @@ use mathlib.Core.List.{reverse}
 use Rattle.std.proofs.lemmas.List.{reverse-append}
 use Rattle.nvme_model.specs.declared.step.Step.{Step}
 use Rattle.nvme_model.specs.Kept.{Kept}
-use Rattle.step_core.specs.declared.answer.Answer.{Answer}
-use Rattle.step_core.specs.declared.answer.Refused.{Refused}
-use Rattle.step_core.specs.State.{Runs, RunsOnto}
-use Rattle.step_core.specs.State.{Serves, State}
+use Rattle.controller_steps.specs.declared.answer.Answer.{Answer}
+use Rattle.controller_steps.specs.declared.answer.Refused.{Refused}
+use Rattle.controller_steps.specs.State.{Runs, RunsOnto}
+use Rattle.controller_steps.specs.State.{Serves, State}
 use Rattle.step_core.proofs.Moves.{stepped}
 
 -- the history of a controller is legal, and its marks are right

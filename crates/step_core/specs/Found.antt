@@ -29,7 +29,7 @@ use Rattle.job_table.specs.Tickets.{compare_by, job_at}
 use Rattle.step_core.specs.declared.controller.fetch.Front.{Front}
 use Rattle.step_core.specs.declared.controller.next.Next.{Next}
 use Rattle.step_core.specs.declared.controller.post.Due.{Due}
-use Rattle.step_core.specs.declared.work.Kind.{Kind}
+use Rattle.controller_steps.specs.declared.work.Kind.{Kind}
 
 -- a submission queue and its ring
 pub record IsSqRing (c : ConfigNumbers) (past : Past) (q : ℕ) (r : SubmissionRing) : Type 0 where

@@ -1,4 +1,2 @@
-pub mod Works
-pub mod State
 pub mod Kept
 pub mod Found

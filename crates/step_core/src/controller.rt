@@ -11,7 +11,7 @@ ghost use Rattle.nvme_model.specs.Laws.{is_held};
 ghost use Rattle.nvme_model.specs.Value.{value};
 ghost use Rattle.nvme_model.specs.declared.refusal.Why.{Why as TheWhy};
 ghost use Rattle.step_core.specs.Found.{IsCqRing, IsJob, IsSqRing};
-ghost use Rattle.step_core.specs.State.{HasPromised, KeepsRoom, LacksRoom};
+ghost use Rattle.controller_steps.specs.State.{HasPromised, KeepsRoom, LacksRoom};
 
 mod block;
 mod data;
@@ -54,7 +54,7 @@ pub struct Core {
 impl Model for Core {
     ghost use Rattle.std.specs.Prelude.{◌+◌, ◌^◌, ◌<◌, ◌≤◌};
     ghost use Rattle.step_core.specs.Kept.{IsKept};
-    ghost use Rattle.step_core.specs.State.{State};
+    ghost use Rattle.controller_steps.specs.State.{State};
 
     ghost Value = { State };
 

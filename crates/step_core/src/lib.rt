@@ -1,14 +1,12 @@
 //! The controller: a machine of six steps.
 #![tactic(auto)]
 
-mod answer;
 mod controller;
-mod work;
+mod core_machine;
 
-pub use answer::{Answer, Refused};
 pub use block_exec::Done;
 pub use controller::Core;
+pub use controller_steps::{Answer, Kind, Refused, Work};
 pub use history::{Config, Entry, History, write_line};
 pub use nvme_model::step::Step;
 pub use nvme_model::submission::{Payload, Submission, Submissions};
-pub use work::{Kind, Work};

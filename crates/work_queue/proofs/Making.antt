@@ -20,14 +20,14 @@ use Rattle.nvme_model.specs.declared.operation.Op.{Op}
 use Rattle.nvme_model.specs.declared.status.Verdict.{Verdict}
 use Rattle.nvme_model.specs.declared.step.Step.{Step}
 use Rattle.nvme_model.specs.declared.submission.Submission.{Submission}
-use Rattle.step_core.specs.State.{answer_of, kind_by, work_of}
-use Rattle.step_core.specs.Works.{TicketWork}
-use Rattle.step_core.specs.declared.answer.Answer.{Answer}
+use Rattle.controller_steps.specs.State.{answer_of, kind_by, work_of}
+use Rattle.controller_steps.specs.Works.{TicketWork}
+use Rattle.controller_steps.specs.declared.answer.Answer.{Answer}
 use Rattle.ticket_entries.specs.Entries.{ticket_in}
 use Rattle.ticket_entries.specs.Tasks.{first_stage, own_stage}
 use Rattle.work_queue.proofs.Staging.{fetched_stage}
 use Rattle.ticket_entries.proofs.Later.{fetched_commands}
-use Rattle.step_core.specs.State.{Accepts}
+use Rattle.controller_steps.specs.State.{Accepts}
 use Rattle.work_queue.specs.Duties.{IsWorkAt, duty_of, is_fetch_of}
 
 -- ---- what a ticket has to do is what its Work says

@@ -11,16 +11,16 @@ use Rattle.nvme_model.specs.declared.config.ConfigNumbers.{ConfigNumbers}
 use Rattle.nvme_model.specs.declared.refusal.Why.{Why}
 use Rattle.nvme_model.specs.declared.step.Step.{Step}
 use Rattle.nvme_model.specs.Kept.{Kept}
-use Rattle.step_core.specs.State.{State, refused_as}
-use Rattle.step_core.specs.Works.{TicketWork}
-use Rattle.step_core.specs.declared.answer.Answer.{Answer}
-use Rattle.step_core.specs.declared.answer.Refused.{Refused}
+use Rattle.controller_steps.specs.State.{State, refused_as}
+use Rattle.controller_steps.specs.Works.{TicketWork}
+use Rattle.controller_steps.specs.declared.answer.Answer.{Answer}
+use Rattle.controller_steps.specs.declared.answer.Refused.{Refused}
 use Rattle.ticket_entries.specs.Entries.{of_ticket}
 use Rattle.ticket_entries.specs.Tasks.{Duty, IsInPlace, duty_at, own_stage, task_fault}
 use Rattle.ticket_entries.specs.declared.stage.Stage.{Stage}
 use Rattle.ticket_entries.proofs.Allowed.{block_in_place, grant_in_place, post_in_place}
 use Rattle.ticket_entries.proofs.Later.{duty_later, ticket_later, tickets_later}
-use Rattle.step_core.specs.State.{Accepts, Refuses}
+use Rattle.controller_steps.specs.State.{Accepts, Refuses}
 use Rattle.meet_lock.specs.Passes.{Declines, IsNotBusy, Learned, Saw, Worked, config_of, its, seen, ticket_config, ticket_seen}
 use Rattle.meet_lock.specs.declared.pass.Declined.{Declined}
 use Rattle.meet_lock.specs.declared.pass.Pass.{Pass}

@@ -41,11 +41,11 @@ pub struct Engine {
 }
 
 impl Engine {
-    ghost use Rattle.step_core.specs.State.{Accepts, Refuses};
+    ghost use Rattle.controller_steps.specs.State.{Accepts, Refuses};
     ghost use Rattle.meet_lock.specs.Passes.{Declines, IsNew, IsNotBusy, IsSame, Knows, Met, Saw, Worked, config_of};
     ghost use Rattle.meet_lock.specs.Passes.{mine, passes_of, seen};
     ghost use Rattle.meet_lock.specs.declared.pass.Pass.{Pass};
-    ghost use Rattle.step_core.specs.State.{State};
+    ghost use Rattle.controller_steps.specs.State.{State};
     ghost use Rattle.ticket_entries.specs.Entries.{of_ticket};
     ghost use Rattle.ticket_entries.specs.Tasks.{task_fault};
     ghost use Rattle.work_queue.specs.Duties.{duty_of, task_step};

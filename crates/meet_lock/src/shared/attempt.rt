@@ -2,11 +2,10 @@
 
 ghost use Rattle.std.specs.Prelude.{◌≡◌, IfErr, IfOk};
 
-use crate::machine::Machine;
 use crate::owner::AnyPass;
 use crate::pass::{Declined, Pass};
 use crate::shared::Shared;
-use step_core::{Answer, Step};
+use controller_steps::{Answer, Machine, Step};
 
 impl<M: Machine> Shared<M, AnyPass> {
     ghost use Rattle.meet_lock.specs.Passes.{Accepted, Declines, IsNotBusy, IsOf, IsSame, Knows, passes_of};

@@ -3,17 +3,16 @@
 ghost use Rattle.std.specs.Prelude.{◌≡◌, [], ◌∷◌, IfErr, IfOk, MatchOption};
 ghost use Rattle.nvme_model.specs.Passes.{entries};
 ghost use Rattle.nvme_model.specs.declared.entry.Entry.{Entry};
-ghost use Rattle.step_core.specs.declared.answer.Answer.{Answer};
+ghost use Rattle.controller_steps.specs.declared.answer.Answer.{Answer};
 ghost use Rattle.meet_lock.specs.Lock.{grown, shown};
 ghost use Rattle.meet_lock.specs.MachineSteps.{Made, MadeNone};
 ghost use Rattle.meet_lock.specs.SeatSteps.{IsIdle, IsSameSeat, KnowsTicket, MayTell, Missed};
 ghost use Rattle.meet_lock.specs.SeatSteps.{Out, OutMore, OutSame, SawAll};
 
-use crate::machine::Machine;
 use crate::owner::StepRight;
 use crate::plays::{Leave, Take, Write};
 use crate::shared::{Place, Shared};
-use step_core::{Answer, Refused, Step};
+use controller_steps::{Answer, Machine, Refused, Step};
 
 impl<M: Machine, K: StepRight> Shared<M, K> {
     // Takes the lock, and the machine out of its slot.

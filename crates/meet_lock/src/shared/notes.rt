@@ -6,12 +6,12 @@ ghost use Rattle.meet_lock.specs.Lock.{IsLive, hearing, informed, laden, lading,
 ghost use Rattle.meet_lock.specs.Lock.{message, message_held, unladen};
 ghost use Rattle.meet_lock.specs.SeatSteps.{IsMessage, IsSameSeat};
 
-use crate::machine::Machine;
 use crate::owner::StepRight;
 use crate::pass::Pass;
 use crate::plays::{Hear, Load, Look, Tell, TellHeld, Unload};
 use crate::seats::NoteSeat;
 use crate::shared::{Place, Shared};
+use controller_steps::Machine;
 
 impl<M: Machine, K: StepRight> Shared<M, K> {
     ghost use Rattle.meet_lock.specs.Passes.{IsNoteOf, IsOf, IsSame, Knows, config_of, mine, seen, told, told_config};

@@ -4,12 +4,11 @@ ghost use Rattle.std.specs.Prelude.{◌≡◌, ◌<◌, IfErr, IfOk, true};
 ghost use Rattle.nvme_model.specs.Passes.{entries};
 ghost use Rattle.ticket_entries.specs.Entries.{named_ticket, names_queue, of_ticket};
 
-use crate::machine::Machine;
 use crate::owner::TicketOwner;
 use crate::pass::{Declined, Pass};
 use crate::seats::TicketSeat;
 use crate::shared::Shared;
-use step_core::{Answer, Step};
+use controller_steps::{Answer, Machine, Step};
 
 impl<M: Machine> Shared<M, TicketOwner> {
     ghost use Rattle.meet_lock.specs.Passes.{Declines, IsNotBusy, IsOf, IsSame, IsTicketOf, Knows, Opened, Saw, Worked};

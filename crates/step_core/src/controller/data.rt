@@ -6,7 +6,7 @@ ghost use Rattle.block_exec.specs.Bytes.{blocks_in};
 ghost use Rattle.fused_match.specs.Judged.{operation_in};
 ghost use Rattle.nvme_model.specs.declared.operation.Op.{Op as Operation};
 ghost use Rattle.job_table.specs.Beginning.{HasBlocks, payload_at, read_first, write_first};
-ghost use Rattle.step_core.specs.State.{needs_data};
+ghost use Rattle.controller_steps.specs.State.{needs_data};
 
 use block_array::BLOCK;
 use fused_match::Judged;

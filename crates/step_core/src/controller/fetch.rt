@@ -13,15 +13,14 @@ ghost use Rattle.nvme_model.specs.declared.step.Step.{Step};
 ghost use Rattle.step_core.specs.Found.{IsFront, first_job, kind_in};
 ghost use Rattle.job_table.specs.Beginning.{read_first};
 ghost use Rattle.job_table.specs.Tickets.{compare_by, write_blocks};
-ghost use Rattle.step_core.specs.State.{Does, needs_data};
+ghost use Rattle.controller_steps.specs.State.{Does, needs_data};
 ghost use Rattle.ticket_course.specs.Stages.{IsSound};
 
-use crate::answer::Answer;
 use crate::controller::Core;
 use crate::controller::data::{DataRoom, data_room};
 use crate::controller::room::keep_room;
-use crate::work::{Kind, Work};
 use cids_in_use::CidsInUse;
+use controller_steps::{Answer, Kind, Work};
 use fused_match::{Item, Judged, judge};
 use job_table::{Data, Job};
 use nvme_model::entry::{Entry, FetchLine};

@@ -10,11 +10,11 @@ ghost use Rattle.nvme_model.specs.Tickets.{in_flight};
 ghost use Rattle.ticket_standing.specs.Standing.{flying};
 ghost use Rattle.step_core.specs.Found.{IsJob, IsNext, next_step, step_of};
 ghost use Rattle.nvme_model.specs.OneAtATime.{IsOneAtATime};
-ghost use Rattle.step_core.specs.State.{Serves};
+ghost use Rattle.controller_steps.specs.State.{Serves};
 
-use crate::answer::{Answer, Refused};
 use crate::controller::Core;
 use crate::controller::post::Due;
+use controller_steps::{Answer, Refused};
 use job_table::Job;
 use nvme_model::entry::GrantLine;
 use nvme_model::step::Step;

@@ -6,14 +6,14 @@ ghost use Rattle.job_table.specs.Keeping.{Keeping, posted_job};
 ghost use Rattle.nvme_model.specs.Refusals.{refusal};
 ghost use Rattle.nvme_model.specs.declared.step.Step.{Step};
 ghost use Rattle.step_core.specs.Found.{IsJob, IsNext};
-ghost use Rattle.step_core.specs.State.{Does};
+ghost use Rattle.controller_steps.specs.State.{Does};
 ghost use Rattle.step_core.specs.declared.controller.next.Next.{Next};
 ghost use Rattle.ticket_course.specs.Stages.{owed_in};
 
-use crate::answer::Answer;
 use crate::controller::Core;
 use crate::controller::room::keep_room;
 use completions::cqe_of;
+use controller_steps::Answer;
 use entry_codec::encode_cqe;
 use job_table::{Job, Jobs};
 use nvme_model::entry::{Entry, PostLine};

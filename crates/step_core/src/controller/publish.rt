@@ -3,11 +3,11 @@
 ghost use Rattle.std.specs.Prelude.{◌≡◌};
 ghost use Rattle.nvme_model.specs.Refusals.{refusal};
 ghost use Rattle.nvme_model.specs.declared.step.Step.{Step};
-ghost use Rattle.step_core.specs.State.{Serves};
+ghost use Rattle.controller_steps.specs.State.{Serves};
 
-use crate::answer::{Answer, Refused};
 use crate::controller::Core;
 use crate::controller::room::keep_room;
+use controller_steps::{Answer, Refused};
 use nvme_model::entry::{Entry, PublishLine};
 use nvme_model::refusal::Why;
 use nvme_model::submission::{Batch, Submissions, copies_of};

@@ -1,7 +1,7 @@
 use Rattle.std.proofs.Common.{[], ap}
 use Rattle.casdisk_script.specs.Said.{script_line}
 use Rattle.casdisk_script.specs.Script.{outcome}
-use Rattle.step_core.specs.State.{State}
+use Rattle.controller_steps.specs.State.{State}
 use Rattle.casdisk_script.proofs.Reaching.{runs_after}
 use Rattle.casdisk_script.proofs.script.run_script.Goals as goal
 

@@ -1,5 +1,5 @@
 use Rattle.std.proofs.Common.{ap, ◌∙◌}
-use Rattle.step_core.specs.State.{State}
+use Rattle.controller_steps.specs.State.{State}
 use Rattle.casdisk_script.proofs.Stepping.{config_served}
 use Rattle.casdisk_script.proofs.performing.Performer.do_step.Goals as goal
 

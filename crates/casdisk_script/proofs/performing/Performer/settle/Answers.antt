@@ -1,6 +1,6 @@
 use Rattle.std.proofs.Common.{ap, option_map, refl, sym, ◌∙◌, arith}
 use Rattle.line_text.proofs.Known.{on_err}
-use Rattle.step_core.specs.State.{State}
+use Rattle.controller_steps.specs.State.{State}
 use Rattle.casdisk_script.proofs.Settling.{settled_none, settled_ready, settled_all, settled_next, settled_stopped}
 use Rattle.casdisk_script.proofs.Stepping.{config_served}
 use Rattle.casdisk_script.proofs.performing.Performer.settle.Goals as goal

@@ -1,5 +1,5 @@
 use Rattle.std.proofs.Common.{ap, subst, ◌∙◌}
-use Rattle.step_core.specs.State.{Serves}
+use Rattle.controller_steps.specs.State.{Serves}
 use Rattle.casdisk_script.specs.Doing.{why_of}
 use Rattle.casdisk_script.proofs.Stepping.{made_done, made_stopped, refused_done, refused_stopped, why_refused}
 use Rattle.casdisk_script.proofs.performing.Performer.tell_answer.Goals as goal

@@ -1,6 +1,6 @@
 use Rattle.std.proofs.Common.{ap, ◌∙◌}
 use Rattle.nvme_model.specs.Refusals.{jobs_full}
-use Rattle.step_core.specs.State.{State}
+use Rattle.controller_steps.specs.State.{State}
 use Rattle.step_core.proofs.Fetching.{full_is}
 use Rattle.step_core.proofs.controller.Core.jobs_full.Goals as goal
 

@@ -5,7 +5,7 @@ use Rattle.nvme_model.specs.Refusals.{no_queue}
 use Rattle.nvme_model.specs.Tickets.{cids_in_use}
 use Rattle.nvme_model.specs.Verdict.{verdict_of}
 use Rattle.nvme_model.specs.declared.config.ConfigNumbers.{ConfigNumbers}
-use Rattle.step_core.specs.State.{State}
+use Rattle.controller_steps.specs.State.{State}
 use Rattle.step_core.proofs.Fetching.{judged_by}
 use Rattle.cids_in_use.proofs.Counts.{used_at}
 use Rattle.step_core.proofs.Posting.{queue_there}

@@ -4,7 +4,7 @@ use Rattle.range_reserve.specs.Reserved.{has_conflict, has_ticket, insert_held}
 use Rattle.range_reserve.specs.declared.held.Held.{Held}
 use Rattle.step_core.specs.Found.{IsNext}
 use Rattle.step_core.specs.declared.controller.next.Next.{Next}
-use Rattle.step_core.specs.State.{State}
+use Rattle.controller_steps.specs.State.{State}
 use Rattle.step_core.proofs.Granted.{apart, first, free, has_job, held_ok, kept, range_is}
 use Rattle.step_core.proofs.controller.Core.make_grant.Goals as goal
 

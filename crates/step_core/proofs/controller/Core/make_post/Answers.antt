@@ -3,7 +3,7 @@ use Rattle.nvme_model.proofs.Written.{clash}
 use Rattle.nvme_model.specs.declared.step.Step.{Step}
 use Rattle.step_core.specs.Found.{IsNext}
 use Rattle.step_core.specs.declared.controller.next.Next.{Next}
-use Rattle.step_core.specs.State.{State, answer_of}
+use Rattle.controller_steps.specs.State.{State, answer_of}
 use Rattle.step_core.proofs.Accepted.{does_accepted, does_wanting, ok_unless, one_more}
 use Rattle.step_core.proofs.PostKeeps.{from_place, from_there, left, owes, place_there, not_full, post_entry_is, post_keeps, reads, taken_is, there, uses}
 use Rattle.step_core.proofs.controller.Core.make_post.Goals as goal

@@ -1,7 +1,7 @@
 use Rattle.std.proofs.Common.{ap, sym, ◌∙◌, subst}
 use Rattle.std.specs.Option.{option_and_then}
 use Rattle.step_core.specs.Found.{IsJob, next_step}
-use Rattle.step_core.specs.State.{State}
+use Rattle.controller_steps.specs.State.{State}
 use Rattle.step_core.proofs.Lookups.{job_nth}
 use Rattle.step_core.proofs.Next.{nth_ticket}
 use Rattle.step_core.proofs.controller.Core.next_at.Goals as goal
