@@ -5,8 +5,8 @@ ghost use Rattle.std.specs.Prelude.{string_bytes, true, ℕ};
 ghost use Rattle.clap.specs.Words.{app_of, first_of, found_of, rows_of, rule_of, with_rule, with_subcommand};
 ghost use Rattle.command_line.specs.Asking.{AreRefused, Asks, AsksBy, IsRaceInRange, IsRefusedBy, SaysNumber};
 ghost use Rattle.command_line.specs.Asking.{SaysNumbers, kinds_asked};
-ghost use Rattle.command_line.specs.CommandLine.{casdisk_app, default_rule, history_app, needed_rule};
-ghost use Rattle.command_line.specs.CommandLine.{number_rule, race_app, run_app};
+ghost use Rattle.command_line.specs.CommandLine.{casdisk_app, default_rule, file_rule, history_app, needed_rule};
+ghost use Rattle.command_line.specs.CommandLine.{number_rule, race_app, run_app, show_rule};
 
 use crate::request::{Asked, UsageFault};
 use casdisk_script::kinds_of;
@@ -70,23 +70,35 @@ All hosts have at most 16 submission queues.
 Exit status: 0 where all is done, 1 where there is no history, or it isn't legal, 2 after a bad
 command line, 3 after a failed output, 4 without memory or threads.";
 
-fn run_command<'a>(alloc: Global) -> Result<Command<'a>, AllocError>
-    ensures { IfOk result (λ c. app_of c ≡ run_app) }
+// The file that a command reads, which has to be named.
+fn file_argument<'a>(alloc: Global, help: &'static str) -> Arg<'a>
+    ensures { rule_of result ≡ file_rule }
 {
-    let show = Arg::new(alloc, "show")
+    Arg::new(alloc, "FILE")
+        .help(help)
+        .required(true)
+        .action(ArgAction::Set)
+}
+
+// The option with kinds of lines.
+fn show_option<'a>(alloc: Global) -> Arg<'a>
+    ensures { rule_of result ≡ show_rule }
+{
+    Arg::new(alloc, "show")
         .long("show")
         .value_name("KINDS")
         .help(KINDS)
-        .action(ArgAction::Set);
-    let file = Arg::new(alloc, "FILE")
-        .help("The script")
-        .required(true)
-        .action(ArgAction::Set);
-    Command::new(alloc, "run")
+        .action(ArgAction::Set)
+}
+
+fn run_command<'a>(alloc: Global) -> Result<Command<'a>, AllocError>
+    ensures { IfOk result (λ c. app_of c ≡ run_app) }
+{
+    let command = Command::new(alloc, "run")
         .about("Runs a script over one controller and prints what each step did")
-        .after_help(ABOUT_LINES)
-        .arg(show)?
-        .arg(file)
+        .after_help(ABOUT_LINES);
+    let command = command.arg(show_option(alloc))?;
+    command.arg(file_argument(alloc, "The script"))
 }
 
 // The command of this name, which reads a history.
@@ -97,14 +109,10 @@ fn history_command<'a>(
 ) -> Result<Command<'a>, AllocError>
     ensures { IfOk result (λ c. app_of c ≡ history_app name.entry.now) }
 {
-    let file = Arg::new(alloc, "FILE")
-        .help("The history")
-        .required(true)
-        .action(ArgAction::Set);
     Command::new(alloc, name)
         .about(about)
         .after_help(ABOUT_HISTORIES)
-        .arg(file)
+        .arg(file_argument(alloc, "The history"))
 }
 
 // An option with a number.
