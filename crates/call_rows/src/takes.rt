@@ -35,3 +35,20 @@ fn behind_a_bad_entry_all_are_bad(rt: HostRuntime) -> Result<(), Fail> {
     assert_eq!(rt; answers.as_slice(), wanted.as_slice());
     Ok(())
 }
+
+#[test]
+fn a_bad_step_before_is_told_in_words(rt: HostRuntime) -> Result<(), Fail> {
+    let config = Config::new(8, 1, 1, 0, 0, 2, 4, 4, 8)?;
+    let mut checker = Checker::new(rt.alloc(), &config)?;
+    // A Block of no ticket.
+    let Ok(entry) = parse_line(rt.alloc(), b"block 1 0 3 written *") else {
+        return Err(Fail::from("not read"));
+    };
+    assert!(rt; !checker.take(&entry)?);
+    let Some(broken) = checker.why(&entry)? else {
+        return Err(Fail::from("nothing is broken"));
+    };
+    let text = broken.to_string(rt.alloc())?;
+    assert_eq!(rt; text.as_str(), "an earlier step is bad");
+    Ok(())
+}

@@ -1,3 +1,4 @@
+pub mod Faults
 pub mod Made
 pub mod Passes
 pub mod Ports

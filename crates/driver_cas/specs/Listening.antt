@@ -2,6 +2,7 @@
 use Rattle.std.specs.Prelude.{Bool, None, Option, Some, false, if◌then◌else◌, min, true, ℕ, ◌+◌, ◌-◌, ◌==◌, ◌^◌, ◌≡◌}
 use Rattle.nvme_model.specs.Passes.{IsBeginning}
 use Rattle.meet_lock.specs.Passes.{mine, seen}
+use Rattle.work_queue.specs.Engines.{EnginePass}
 use Rattle.work_queue.specs.Notices.{ReapFinds, notice_seen}
 use Rattle.work_queue.specs.QueuePasses.{IsOf, IsPopped, lock_of_pass}
 use Rattle.work_queue.specs.declared.notice.Notice.{Notice}
@@ -14,6 +15,10 @@ use Rattle.driver_cas.specs.declared.shared_port.SharedPort.{SharedPort}
 -- the two are of one engine
 abbrev pub IsBeside : SharedPort → SharedPort → Type 0
 IsBeside a b = b.pass.seat.table_id ≡ a.pass.seat.table_id
+
+-- the pass is of the port's engine
+abbrev pub IsPassBeside : SharedPort → EnginePass → Type 0
+IsPassBeside a p = p.seat.table_id ≡ a.pass.seat.table_id
 
 -- the notice is of the port's engine
 abbrev pub IsNoticeFor : SharedPort → Notice → Type 0

@@ -1,5 +1,7 @@
 //! Why a port, or a call, doesn't do what it is asked.
 
+ghost use Rattle.std.specs.Prelude.{◌≡◌};
+
 use nvme_model::status::Status;
 use thiserror::Error;
 
@@ -45,4 +47,24 @@ pub enum Fault {
     /// The driver has drawn the last serial.
     #[error("no serial is left")]
     NoSerial,
+}
+
+impl Fault {
+    ghost use Rattle.driver_cas.specs.Faults.{fault_number};
+
+    /// Its number, 41 to 48, behind those of refusals and of faults of configurations, units and completions.
+    pub fn number(&self) -> u8
+        ensures { result ≡ fault_number self.now }
+    {
+        match self {
+            Fault::Length => 41,
+            Fault::TooLong => 42,
+            Fault::RingFull => 43,
+            Fault::Status(_) => 44,
+            Fault::Busy => 45,
+            Fault::NoMemory => 46,
+            Fault::SlotArea => 47,
+            Fault::NoSerial => 48,
+        }
+    }
 }

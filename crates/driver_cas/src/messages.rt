@@ -6,7 +6,7 @@ ghost use Rattle.nvme_model.specs.Passes.{IsBeginning, entries};
 ghost use Rattle.meet_lock.specs.Passes.{config_of, seen};
 ghost use Rattle.work_queue.specs.Engines.{IsOf};
 ghost use Rattle.work_queue.specs.Notices.{IsNoticeOf, ReapFinds, notice_seen};
-ghost use Rattle.driver_cas.specs.Listening.{IsBeside, IsNoticeFor, SawMore, counted_with};
+ghost use Rattle.driver_cas.specs.Listening.{IsBeside, IsNoticeFor, IsPassBeside, SawMore, counted_with};
 ghost use Rattle.driver_cas.specs.Passes.{SawOn};
 ghost use Rattle.driver_cas.specs.Ports.{view_of};
 
@@ -21,11 +21,11 @@ use work_queue::{Engine, Notice};
 fn meet_passes(engine: &Engine, first: &mut Pass<Core>, second: &mut Pass<Core>) -> Result<(), Busy>
     requires own { IsOf engine.now first.old × IsOf engine.now second.old }
     requires first { IsLegal (config_of first.old) (entries (seen first.old)) }
-    requires second { IsLegal (config_of second.old) (entries (seen second.old)) }
     ensures first { SawOn first.old first.new }
     ensures second { SawOn second.old second.new }
-    ensures legal { IsLegal (config_of first.new) (entries (seen first.new))
-        × IsLegal (config_of second.new) (entries (seen second.new)) }
+    ensures legal { IsLegal (config_of first.new) (entries (seen first.new)) }
+    ensures other { IsLegal (config_of second.old) (entries (seen second.old))
+        → IsLegal (config_of second.new) (entries (seen second.new)) }
     ensures met { IfOk result (λ _. seen first.new ≡ seen second.new) }
     ensures busy { IfErr result (λ _. (seen first.new ≡ seen first.old) × (seen second.new ≡ seen second.old)) }
 {
@@ -67,6 +67,25 @@ impl<'a> SharedPort<'a> {
             (λ _. (view_of self.new ≡ view_of self.old) × (view_of other.new ≡ view_of other.old)) }
     {
         meet_passes(self.engine, &mut self.pass, &mut other.pass)
+    }
+
+    /// The port's pass and this one of its engine see the whole history so far, if no other caller has the controller.
+    /// Takes no memory.
+    ///
+    /// # Errors
+    ///
+    /// `Busy` where another caller had the controller; nothing has changed.
+    pub fn meet_pass(&mut self, pass: &mut Pass<Core>) -> Result<(), Busy>
+        requires own { IsPassBeside self.old pass.old }
+        ensures saw { SawMore self.old self.new }
+        ensures pass { SawOn pass.old pass.new }
+        ensures legal { IsLegal (config_of pass.old) (entries (seen pass.old))
+            → IsLegal (config_of pass.new) (entries (seen pass.new)) }
+        ensures counted { self.new.counted ≡ self.old.counted }
+        ensures met { IfOk result (λ _. seen self.new.pass ≡ seen pass.new) }
+        ensures busy { IfErr result (λ _. (view_of self.new ≡ view_of self.old) × (seen pass.new ≡ seen pass.old)) }
+    {
+        meet_passes(self.engine, &mut self.pass, pass)
     }
 
     /// Learns a notice, again while another caller has the controller, and counts it where it is of this completion

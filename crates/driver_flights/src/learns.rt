@@ -8,7 +8,7 @@ ghost use Rattle.driver_flights.specs.Flights.{AreInFlight};
 use crate::full::core_after;
 use crate::hands::{on_own, server_of};
 use crate::turns::{Turn, turns};
-use crate::under_way::{Flight, meets};
+use crate::under_way::{Flight, meets, meets_server};
 use driver_rows::{Ask, Bench, Fill, Server, Spares, Told, small_bench};
 use history_check::check;
 use lock_rows::text;
@@ -29,6 +29,8 @@ enum Deed {
     Two(Turn),
     /// They meet, and neither is Busy.
     Meet,
+    /// The first meets the server, and neither is Busy.
+    MeetServer,
 }
 
 // Does so.
@@ -51,6 +53,7 @@ fn does<R: Abort + Wait>(
         Deed::One(turn) => turns(rt, bench, server, one, turn),
         Deed::Two(turn) => turns(rt, bench, server, two, turn),
         Deed::Meet => assert!(rt; meets(bench, one, two)),
+        Deed::MeetServer => assert!(rt; meets_server(bench, one, server)),
     }
 }
 
@@ -100,7 +103,7 @@ fn hosts_do<R: Abort + Wait>(rt: &R, alloc: Global, all: &[Deed]) -> Result<(), 
 }
 
 // Host 1 writes, host 2 reads what it wrote, and they meet between all that.
-fn round(byte: u8) -> [Deed; 12] {
+fn round(byte: u8) -> [Deed; 13] {
     [
         Deed::One(Turn::Begin(Ask::Write(2, Fill(byte, 512)))),
         Deed::Meet,
@@ -108,6 +111,7 @@ fn round(byte: u8) -> [Deed; 12] {
         Deed::One(Turn::Listen(true)),
         Deed::One(Turn::End(0, 1, Told::Written)),
         Deed::Meet,
+        Deed::MeetServer,
         Deed::Two(Turn::Begin(READ)),
         Deed::Two(Turn::Serve(2)),
         Deed::Two(Turn::Listen(true)),

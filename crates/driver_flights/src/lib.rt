@@ -28,3 +28,5 @@ mod turns;
 mod under_way;
 #[cfg(test)]
 mod wide;
+#[cfg(test)]
+mod words;

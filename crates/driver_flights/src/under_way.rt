@@ -91,6 +91,18 @@ pub(crate) fn meets(bench: &Bench, one: &mut Flight<'_>, two: &mut Flight<'_>) -
     one.host.driver.meet(&mut two.host.driver).is_ok()
 }
 
+/// The host and a server have seen the whole history so far; false where another caller had the controller.
+pub(crate) fn meets_server(bench: &Bench, one: &mut Flight<'_>, server: &mut Server) -> bool
+    requires one { AreInFlight bench.now one.old.host one.old.calls.items }
+    requires server { IsServerOf bench.now server.old }
+    ensures one { AreInFlight bench.now one.new.host one.new.calls.items }
+    ensures server { IsServerOf bench.now server.new }
+{
+    // (named by the contract alone)
+    let _ = bench;
+    one.host.driver.meet_pass(&mut server.pass).is_ok()
+}
+
 /// The host's pass, given back.
 pub(crate) fn pass_of(bench: &Bench, flight: Flight<'_>) -> Pass<Core>
     requires { AreInFlight bench.now flight.host flight.calls.items }
