@@ -17,6 +17,10 @@ pub at_mid : {A : Type 0} (xs ys : List A) (a : A) → slice_get (xs ++ a ∷ ys
 at_mid [] ys a = refl
 at_mid (x ∷ xs) ys a = at_mid xs ys a
 
+pub each_front : {A : Type 0} (P : A → Type 0) (x : A) (xs : List A) → P x → ((k : ℕ) (a : A) → slice_get xs k ≡ Some a → P a) → (k : ℕ) (a : A) → slice_get (x ∷ xs) k ≡ Some a → P a
+each_front P x xs first others zero a e = let same : x ≡ a = cc in subst P same first
+each_front P x xs first others (suc k) a e = others k a e
+
 module _ {M : Type 0} where
   saw_at : (n : ℕ) (held : SharedPast) (ps : List (Pass M)) → AllSaw n held ps → (k : ℕ) (p : Pass M) → slice_get ps k ≡ Some p → GoesOn n (seen p) held × (places (number p) held ≡ mine p)
   saw_at n held [] all k p e = cc

@@ -1,6 +1,6 @@
 //! Closing with all passes.
 
-ghost use Rattle.std.specs.Prelude.{◌≡◌, ◌+◌, IfSome, Some, ℕ, slice_get, true, vec_len};
+ghost use Rattle.std.specs.Prelude.{◌≡◌, ◌+◌, IfSome, IsSome, Some, ℕ, slice_get, true, vec_len};
 ghost use Rattle.nvme_model.specs.Passes.{places};
 ghost use Rattle.meet_lock.specs.Lock.{GoesOn};
 ghost use Rattle.meet_lock.specs.SeatSteps.{IsSameSeat, SawAll};
@@ -12,7 +12,7 @@ use crate::shared::{Place, Shared};
 use controller_steps::Machine;
 
 impl<M: Machine, K: StepRight> Shared<M, K> {
-    ghost use Rattle.meet_lock.specs.Passes.{IsOf, IsSeenWhole, mine, number, passes_of, seen};
+    ghost use Rattle.meet_lock.specs.Passes.{IsOf, IsSeenWhole, config_of, mine, number, passes_of, seen};
     ghost use Rattle.meet_lock.specs.declared.pass.Pass.{Pass};
 
     // What the seat that holds the lock was told doesn't go beyond what it holds.
@@ -30,7 +30,9 @@ impl<M: Machine, K: StepRight> Shared<M, K> {
         requires own { (seat.old.table_id ≡ self.now.table.shared.table_id) × IsOf self.now pass }
         requires holds { seat.old.me.0.holds ≡ true }
         ensures same { IsSameSeat seat.old seat.new × (seat.new.me.0.holds ≡ true)
-            × (seat.new.me.0.held ≡ seat.old.me.0.held) × (seat.new.me.0.passes ≡ seat.old.me.0.passes) }
+            × (seat.new.me.0.held ≡ seat.old.me.0.held) × (seat.new.me.0.passes ≡ seat.old.me.0.passes)
+            × (seat.new.me.0.config ≡ seat.old.me.0.config) }
+        ensures config { config_of pass ≡ seat.old.me.0.config }
         ensures saw { GoesOn seat.old.me.0.passes (seen pass) seat.old.me.0.held
             × (places (number pass) seat.old.me.0.held ≡ mine pass) }
     {
@@ -42,12 +44,18 @@ impl<M: Machine, K: StepRight> Shared<M, K> {
         self.look(&mut pass.seat);
     }
 
-    /// The machine, where no pass had the lock, closed with all passes, in the order in which `new` gave them. Its
-    /// history is what one of them has seen.
+    /// The machine, closed with all its passes, in the order in which `new` gave them: its history is what one of them
+    /// has seen.
+    ///
+    /// None where the lock wasn't free, and where no pass is given.
     pub fn close_all(self, passes: Vec<Pass<M>>) -> Option<M>
         requires all { (k : ℕ) (p : Pass M) → slice_get passes.items k ≡ Some p
             → IsOf self p × (number p ≡ k + 1) × (passes_of p ≡ vec_len passes) }
+        ensures config { IfSome result (λ m. (k : ℕ) (p : Pass M) → slice_get passes.items k ≡ Some p
+            → M.config m ≡ config_of p) }
+        ensures legal { IfSome result (λ m. M.legal (M.config m) (M.history m)) }
         ensures whole { IfSome result (λ m. IsSeenWhole passes.items (M.history m)) }
+        ensures alone { vec_len passes ≡ 1 → IsSome result }
     {
         let mut rest = passes;
         let Some(first) = rest.pop() else {

@@ -20,3 +20,9 @@ returns-clause-saw g c =
     let seen2 : c.look.new.seat.me.0.seen ≡ v.held = ap (λ (z : View). z.seen) is ∙ (ap (λ (z : View). longer z.seen z.told) heard ∙ (ap (longer w.seen) told ∙ longer_end v.passes w.seen v.held begins)) in
     let number2 = ap (λ (z : View). z.number) is ∙ ap (λ (z : View). z.number) heard in
     (begins, (λ i. places (sym number2 i) (sym seen2 i)) ∙ (c.look.ensures.informed.1 ∙ ap (λ (z : View). places z.number z.seen) heard))
+
+pub returns-clause-config : goal.returns-clause-config
+returns-clause-config g c =
+    let v : View = c.args.seat.now.me.0 in
+    let saw = (subst (λ (z : Me (Option g.row.M.Denot) View). SawAll z.0) c.hear.ensures.1 c.peek.ensures.told) refl in
+    subst (λ (z : Me (Option g.row.M.Denot) View). z.0.config ≡ v.config) c.tell-from_pass.ensures.message.1 saw.1
