@@ -1,16 +1,17 @@
 -- The table as it is made, and what a closed one tells.
-use Rattle.std.proofs.Common.{Bool, List, Option, Some, [], ap, arith, false, get_or, inl, inr, refl, subst, sym, true, ℕ, ◌<◌, ◌∙◌, ◌≡◌, ◌≢◌, ◌≤◌, ◌⊎◌, ◌∷◌}
+use Rattle.std.proofs.Common.{Bool, List, Option, Some, [], ap, arith, false, get_or, inl, inr, refl, subst, sym, true, ⊎_elim, ℕ, ◌<◌, ◌∙◌, ◌≡◌, ◌≢◌, ◌≤◌, ◌⊎◌, ◌∷◌}
 use mathlib.Core.Logic.{dite}
 use mathlib.Core.Option.{some, some-injective}
 use native.Mathlib.Decide.{ℕ_discrete}
 use lib.ListN.{get_elem?}
 use Rattle.atomic_table.specs.Table.{Final, Seen, State, opening}
 use Rattle.nvme_model.specs.History.{Past}
-use Rattle.nvme_model.specs.Passes.{IsBeginning, SharedPast, entries}
+use Rattle.nvme_model.specs.Passes.{IsBeginning, SharedPast, entries, places}
 use Rattle.nvme_model.specs.declared.config.ConfigNumbers.{ConfigNumbers}
-use Rattle.meet_lock.specs.Lock.{Fits, IsOneHistory, OwnsTicket, start, unmade}
+use Rattle.meet_lock.specs.Lock.{AreOfPasses, Fits, GoesOn, IsOneHistory, OwnsTicket, start, unmade}
 use Rattle.meet_lock.specs.declared.view.View.{View}
 use Rattle.meet_lock.proofs.Beginnings.{begins-same}
+use Rattle.meet_lock.proofs.Others.{only_own}
 use Rattle.meet_lock.proofs.Places.{entries-unmade, places-unmade}
 use Rattle.meet_lock.proofs.Taking.{only_one}
 use Rattle.meet_lock.proofs.Views.{only_view, read_first}
@@ -36,7 +37,7 @@ module _ {M : Type 0} (config : M → ConfigNumbers) (history : M → Past) (leg
         right = right';
         free = λ _. (m, refl, (is, sym same));
         taken = λ ne. absurd (ne refl);
-        each = only (λ j u. Fits legal c passes log u) (record { of = λ _. refl; sees = begins-same log; right = λ _. (refl, right'); mine = λ _. refl; heard = λ e. cc });
+        each = only (λ j u. Fits legal c passes log u) (record { of = λ _. refl; sees = λ _. begins-same passes log; right = λ _. (refl, right'); mine = λ _. refl; heard = λ e. cc });
         holding = only (λ j u. u.holds ≡ true → (j ≡ 0) × (0 ≢ 0) × (u.held ≡ log) × (0 < u.number)) (λ e. cc);
         numbered = only (λ j u. 0 < u.number → (0 ≡ j) × ((u.number ≤ 0) ⊎ (u.number ≡ passes))) (λ _. (refl, inr refl));
         first = λ u a. only (λ j u. (u.top ≡ 0) × (0 < u.number)) (refl, positive) 0 u a;
@@ -51,22 +52,30 @@ module _ {M : Type 0} (config : M → ConfigNumbers) (history : M → Past) (leg
     pub is : x ≡ Some machine
     pub configured : config machine ≡ c
     pub right : legal (config machine) (history machine)
-    pub begins : (whole : SharedPast) × (history machine ≡ entries whole) × IsBeginning v.seen whole
+    pub begins : (whole : SharedPast) × (history machine ≡ entries whole) × (b : IsBeginning v.seen whole) × AreOfPasses v.passes b.0 × (places v.number whole ≡ places v.number v.seen)
+    pub whole : v.passes ≡ 1 → history machine ≡ entries v.seen
 
-  pub closes : (id : ℕ) (v : View) (n : ℕ) (x : Option M) (ws : List ℕ) (xs : List (Option M)) → Final (Seen Rule id v) ws xs → get_elem? ws 0 ≡ some n → get_elem? xs 0 ≡ some x → n ≡ 0 → Closed v x
-  closes id v n x ws xs final word slot free_is =
+  pub closes : (id : ℕ) (v : View) (n : ℕ) (x : Option M) (ws : List ℕ) (xs : List (Option M)) → Final (Seen Rule id v) ws xs → 0 < v.number → get_elem? ws 0 ≡ some n → get_elem? xs 0 ≡ some x → n ≡ 0 → Closed v x
+  closes id v n x ws xs final named word slot free_is =
       let s : State (Option M) View = final.0 in
       let r : Rule s = final.1.0 in
       let zero_word : get_or s.words 0 0 ≡ 0 = ap (λ l. get_or l 0 0) final.2 ∙ (read_first ws n word ∙ free_is) in
       let h = r.free zero_word in
       let f = r.each id v final.1.1 in
+      let g : GoesOn v.passes v.seen r.log = subst (λ k. GoesOn k v.seen r.log) (sym (f.of named)) (f.sees (inl named)) in
+      let number_is = (r.numbered id v final.1.1 named).1 in
       let at : get_elem? xs 0 ≡ some (Some h.0) = final.4 0 (Some h.0) h.1 in
       record {
         machine = h.0;
         is = some-injective x (Some h.0) (sym slot ∙ at);
         configured = h.2.0;
         right = subst (λ (p : ConfigNumbers × Past). legal p.0 p.1) (λ i. (sym h.2.0 i, sym h.2.1 i)) r.right;
-        begins = (r.log, h.2.1, f.sees);
+        begins = (r.log, h.2.1, g.0, g.1, f.mine named);
+        whole = λ one.
+            let below = r.below in
+            let count = f.of named in
+            let first : v.number ≡ 1 = ⊎_elim (λ (le : v.number ≤ r.top). absurd (omega arith)) (λ (e : v.number ≡ passes). omega arith) number_is in
+            h.2.1 ∙ ap entries (only_own v.passes v.number v.seen r.log one first g (f.mine named));
       }
 
   -- and how it is configured, by the view of a pass

@@ -5,10 +5,10 @@ use lib.ListN.{get_elem?}
 use Rattle.atomic_table.specs.Table.{Allows, Me, State, gives, step, stepped}
 use Rattle.atomic_table.proofs.Lists.{set_here}
 use Rattle.nvme_model.specs.History.{Past}
-use Rattle.nvme_model.specs.Passes.{IsBeginning, SharedPast, entries, places}
+use Rattle.nvme_model.specs.Passes.{SharedPast, entries, places}
 use Rattle.nvme_model.specs.declared.config.ConfigNumbers.{ConfigNumbers}
 use Rattle.nvme_model.specs.declared.entry.Entry.{Entry}
-use Rattle.meet_lock.specs.Lock.{Fits, IsAt, IsOneHistory, OwnsTicket, grown, noted, shown}
+use Rattle.meet_lock.specs.Lock.{Fits, GoesOn, IsAt, IsOneHistory, OwnsTicket, grown, noted, shown}
 use Rattle.meet_lock.specs.SeatSteps.{MayTell, left, wrote}
 use Rattle.ticket_entries.specs.Entries.{ticket_in}
 use Rattle.meet_lock.specs.declared.view.View.{View}
@@ -48,7 +48,7 @@ module _ {M : Type 0} (config : M → ConfigNumbers) (history : M → Past) (leg
 
   -- the history is then more than it was, by entries of the holder's
   gives_back : (s : St) (r : Rule s) (id : ℕ) (v w : View) (machine : M) (log : SharedPast) → length s.homes ≡ 1 → get_elem? s.views id ≡ some v → v.holds ≡ true → Gives v w log
-      → IsBeginning r.log log → legal c (entries log) → IsAt config history c (entries log) machine → ((by : ℕ) → by ≢ v.number → places by log ≡ places by r.log)
+      → GoesOn passes r.log log → legal c (entries log) → IsAt config history c (entries log) machine → ((by : ℕ) → by ≢ v.number → places by log ≡ places by r.log)
       → (owner : ℕ → ℕ) → OwnsTicket owned owner log id w → ((j : ℕ) (u : View) → j ≢ id → get_elem? s.views j ≡ some u → OwnsTicket owned owner log j u)
       → Rule (stepped s 0 0 id ((0, Some machine) ∷ []) w gives)
   gives_back s r id v w machine log wide at holds is more right shows others owner own_ticket other_tickets =
@@ -70,17 +70,17 @@ module _ {M : Type 0} (config : M → ConfigNumbers) (history : M → Past) (leg
         each = views_stay (λ j u. Fits legal c passes log u) s.views id w
             (record {
               of = λ _. is.count ∙ own.of h.3;
-              sees = subst (λ l. IsBeginning l log) (sym is.seen) (begins-same log);
+              sees = λ _. subst (λ l. GoesOn passes l log) (sym is.seen) (begins-same passes log);
               right = λ _. (is.configured ∙ (own.right (inl h.3)).0, subst (λ l. legal c (entries l)) (sym is.seen) right);
               mine = λ _. ap (places w.number) (sym is.seen);
               heard = λ e. let clash : true ≡ false = sym e ∙ is.deaf in cc;
             })
             (λ j u ne a. let f = r.each j u a in record {
               of = f.of;
-              sees = begins-more u.seen r.log log f.sees more;
+              sees = λ live. begins-more passes u.seen r.log log (f.sees live) more;
               right = f.right;
               mine = λ named. others u.number (λ e. unlike s r j id u v ne a at named h.3 (sym e)) ∙ f.mine named;
-              heard = λ e. let t = f.heard e in (begins-more u.told r.log log t.0 more, t.1, t.2);
+              heard = λ e. let t = f.heard e in (begins-more passes u.told r.log log t.0 more, t.1, t.2);
             });
         holding = views_stay (λ j u. u.holds ≡ true → (j ≡ id) × (get_or (set s.words 0 0) 0 0 ≢ 0) × (u.held ≡ log) × (0 < u.number)) s.views id w
             (λ e. let clash : true ≡ false = sym e ∙ is.idle in cc)
@@ -102,6 +102,8 @@ module _ {M : Type 0} (config : M → ConfigNumbers) (history : M → Past) (leg
       (λ s r wide at small.
       let h = r.holding id v at holds in
       let here = (r.each id v at).right (inl h.3) in
+      let below = r.below in
+      let small_number : v.number ≤ passes = ⊎_elim (λ (le : v.number ≤ r.top). omega arith) (λ (is : v.number ≡ passes). omega arith) (r.numbered id v at h.3).1 in
       let w : View = grown owned v e in
       let log : SharedPast = noted v.number e ∷ v.held in
       let owner : ℕ → ℕ = with_owner r.owner (ticket_in e) id in
@@ -111,7 +113,7 @@ module _ {M : Type 0} (config : M → ConfigNumbers) (history : M → Past) (leg
         w,
         gives,
         tt,
-        gives_back s r id v w machine log (wide ∙ one) at holds (record { number = refl; count = refl; configured = refl; top = refl; idle = refl; deaf = refl; seen = refl }) (noted v.number e ∷ [], ap (λ l. noted v.number e ∷ l) (sym h.2))
+        gives_back s r id v w machine log (wide ∙ one) at holds (record { number = refl; count = refl; configured = refl; top = refl; idle = refl; deaf = refl; seen = refl }) ((noted v.number e ∷ [], ap (λ l. noted v.number e ∷ l) (sym h.2)), ((h.3, small_number), tt))
             (subst (λ x. legal x (entries log)) here.0 right) (shows.0 ∙ here.0, shows.1) (λ by ne. places-other by v.number v.held e (λ z. ne (sym z)) ∙ ap (places by) h.2)
             owner own_ticket (λ j u ne a. others_own owned r.owner id j v u e ne may (had id v at) (had j u a)),
         (
@@ -120,7 +122,7 @@ module _ {M : Type 0} (config : M → ConfigNumbers) (history : M → Past) (leg
               let lists : e ∷ entries v.held ≡ e' ∷ entries v.held = sym shows.1 ∙ (ap history same_machine ∙ shows') in
               let entry : e ≡ e' = cc in
               ap (λ x. (grown owned v x, [])) entry),
-          (λ z. let t = (r.each id v at).heard z in (subst (λ l. IsBeginning v.told l) (sym h.2) t.0, t.2 ∙ sym here.0)),
+          (λ z. let t = (r.each id v at).heard z in (subst (λ l. GoesOn v.passes v.told l) (sym h.2) (subst (λ n. GoesOn n v.told r.log) (sym ((r.each id v at).of h.3)) t.0), t.2 ∙ sym here.0)),
           λ has. (own_ticket.1 has).1,
         ),
       ))
@@ -137,7 +139,7 @@ module _ {M : Type 0} (config : M → ConfigNumbers) (history : M → Past) (leg
         shown v,
         gives,
         tt,
-        gives_back s r id v (shown v) machine v.held (wide ∙ one) at holds (record { number = refl; count = refl; configured = refl; top = refl; idle = refl; deaf = refl; seen = refl }) (subst (λ l. IsBeginning r.log l) (sym h.2) (begins-same r.log))
+        gives_back s r id v (shown v) machine v.held (wide ∙ one) at holds (record { number = refl; count = refl; configured = refl; top = refl; idle = refl; deaf = refl; seen = refl }) (subst (λ l. GoesOn passes r.log l) (sym h.2) (begins-same passes r.log))
             (subst (λ x. legal x (entries v.held)) here.0 right) (shows.0 ∙ here.0, shows.1) (λ by _. ap (places by) h.2) r.owner (had id v at) (λ j u _ a. had j u a),
-        (refl, (λ e. let t = (r.each id v at).heard e in (subst (λ l. IsBeginning v.told l) (sym h.2) t.0, t.2 ∙ sym here.0)), λ has. ((had id v at).1 has).1),
+        (refl, (λ e. let t = (r.each id v at).heard e in (subst (λ l. GoesOn v.passes v.told l) (sym h.2) (subst (λ n. GoesOn n v.told r.log) (sym ((r.each id v at).of h.3)) t.0), t.2 ∙ sym here.0)), λ has. ((had id v at).1 has).1),
       ))

@@ -32,7 +32,7 @@ module _ {M : Type 0} (config : M → ConfigNumbers) (history : M → Past) (leg
       owner ((λ _. refl), λ has. absurd (omega arith)) (λ j u ne a. moved_other owned r.owner r.log id j n v u ne own (r.owners j u a)) in
       let s1 : St = record { words = s.words; homes = s.homes; views = set s.views id l } in
       let long : length (set s.views id l) ≡ n = length-set s.views id l in
-      comes config history legal owned c passes s1 r1 (laden v) refl refl (record { of = λ z. absurd (omega arith); sees = f.sees; right = λ _. f.right live; mine = λ z. absurd (omega arith); heard = λ e. cc })
+      comes config history legal owned c passes s1 r1 (laden v) refl refl (record { of = λ z. absurd (omega arith); sees = λ _. f.sees live; right = λ _. f.right live; mine = λ z. absurd (omega arith); heard = λ e. cc })
       (λ z. some_seat s.views id v at (sym long ∙ z)) owner r1.owners (subst (λ j. OwnsTicket owned owner r.log j (laden v)) (sym long) (moved_to owned r.owner r.log id n v own))
 
   -- a seat takes in a message, with its ticket
@@ -54,5 +54,5 @@ module _ {M : Type 0} (config : M → ConfigNumbers) (history : M → Past) (leg
       ⊎_elim (λ (t : (j ≡ other) × (spent ≡ u)). subst (OwnsTicket owned owner r.log j) t.1 (none j))
       (λ (t : (j ≢ other) × (get_elem? s.views j ≡ some u)). moved_other owned r.owner r.log other j id m u t.0 its (r.owners j u t.1)) (at_set s.views other j spent u a) in
       let r2 = turns_view config history legal owned c passes s1 r1 id v w here (record { number = refl; holds = refl; held = λ _. refl; top = λ _. refl })
-      (record { of = f.of; sees = f.sees; right = f.right; mine = f.mine; heard = λ _. (told.sees, (told.right (inr live)).1, (told.right (inr live)).0) }) owner (moved_to owned r.owner r.log other id m its) others in
+      (record { of = f.of; sees = f.sees; right = f.right; mine = f.mine; heard = λ _. (told.sees (inr live), (told.right (inr live)).1, (told.right (inr live)).0) }) owner (moved_to owned r.owner r.log other id m its) others in
       subst (λ l. Rule record { words = s.words; homes = s.homes; views = l }) (set_comm s.views other id spent w ne) r2

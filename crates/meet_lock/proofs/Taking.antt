@@ -11,7 +11,7 @@ use Rattle.atomic_table.proofs.Lists.{set_again}
 use Rattle.nvme_model.specs.History.{Past}
 use Rattle.nvme_model.specs.Passes.{entries}
 use Rattle.nvme_model.specs.declared.config.ConfigNumbers.{ConfigNumbers}
-use Rattle.meet_lock.specs.Lock.{Fits, IsOneHistory, OwnsTicket, holding}
+use Rattle.meet_lock.specs.Lock.{Fits, GoesOn, IsOneHistory, OwnsTicket, holding}
 use Rattle.meet_lock.specs.SeatSteps.{took}
 use Rattle.meet_lock.specs.declared.view.View.{View}
 use Rattle.meet_lock.proofs.Views.{set_at, views_stay}
@@ -72,6 +72,9 @@ module _ {M : Type 0} (config : M → ConfigNumbers) (history : M → Past) (leg
       let x : ℕ = get_or s.words 0 0 in
       let own = r.each id v at in
       let here = own.right (inl named) in
+      let below = r.below in
+      let count = own.of named in
+      let counted : v.number ≤ v.passes = ⊎_elim (λ (le : v.number ≤ r.top). omega arith) (λ (is : v.number ≡ passes). omega arith) (r.numbered id v at named).1 in
       dite (ℕ_discrete x 0)
       (λ e. let h = r.free e in (
         holding v r.log,
@@ -79,7 +82,7 @@ module _ {M : Type 0} (config : M → ConfigNumbers) (history : M → Past) (leg
         h.1,
         subst (λ b. Rule (stepped s 0 (either b 1 x) id [] (holding v r.log) (takes 0 (Some h.0)))) (sym (eq-eqb x 0 e)) (takes_it s r slots id v at named e),
         (
-          (λ _. record { log = r.log; machine = h.0; is = refl; at = (h.2.0 ∙ sym here.0, h.2.1); right = subst (λ x. legal x (entries r.log)) (sym here.0) r.right; begins = own.sees; mine = own.mine named }),
+          (λ _. record { log = r.log; machine = h.0; is = refl; at = (h.2.0 ∙ sym here.0, h.2.1); right = subst (λ x. legal x (entries r.log)) (sym here.0) r.right; begins = subst (λ n. GoesOn n v.seen r.log) (sym (own.of named)) (own.sees (inl named)); counted = (named, counted); mine = own.mine named }),
           λ ne. absurd (ne e),
         ),
       ))

@@ -8,10 +8,10 @@ use lib.Seq.{set-get_or}
 use Rattle.atomic_table.specs.Table.{Allows, Joins, Me, Splits, State, keeps, step}
 use Rattle.atomic_table.proofs.Lists.{at_longer, set_again, set_else}
 use Rattle.nvme_model.specs.History.{Past}
-use Rattle.nvme_model.specs.Passes.{IsBeginning, SharedPast, entries, places}
+use Rattle.nvme_model.specs.Passes.{SharedPast, entries, places}
 use Rattle.nvme_model.specs.declared.config.ConfigNumbers.{ConfigNumbers}
-use Rattle.meet_lock.specs.Lock.{Fits, IsLive, IsOneHistory, OwnsTicket, hearing, informed, longer, message, message_held, spent}
-use Rattle.meet_lock.specs.SeatSteps.{looked}
+use Rattle.meet_lock.specs.Lock.{Fits, GoesOn, IsLive, IsOneHistory, OwnsTicket, hearing, informed, longer, message, message_held, spent}
+use Rattle.meet_lock.specs.SeatSteps.{looked, peeked}
 use Rattle.meet_lock.specs.declared.view.View.{View}
 use Rattle.meet_lock.proofs.Beginnings.{begins-same, longer_is, places_between, shorter}
 use Rattle.meet_lock.proofs.Views.{set_at, some_seat, views_come, views_stay}
@@ -28,7 +28,7 @@ module _ {M : Type 0} (config : M → ConfigNumbers) (history : M → Past) (leg
   spent_fits log =
       record {
         of = λ n. absurd (omega arith);
-        sees = (log, Rattle.std.proofs.lemmas.List.append-nil log);
+        sees = λ live. ⊎_elim (λ (n : 0 < 0). absurd (omega arith)) (λ (e : false ≡ true). cc) live;
         right = λ live. ⊎_elim (λ (n : 0 < 0). absurd (omega arith)) (λ (e : false ≡ true). cc) live;
         mine = λ n. absurd (omega arith);
         heard = λ e. cc;
@@ -104,14 +104,14 @@ module _ {M : Type 0} (config : M → ConfigNumbers) (history : M → Past) (leg
   -- a message with what the seat has seen
   pub tells : (id : ℕ) (v : View) → IsLive v → Splits Rule id v v (message v)
   tells id v live = splits id v (message v) refl refl refl (λ s r at. let f = r.each id v at in
-      record { of = λ n. absurd (omega arith); sees = f.sees; right = λ _. f.right live; mine = λ n. absurd (omega arith); heard = λ e. cc })
+      record { of = λ n. absurd (omega arith); sees = λ _. f.sees live; right = λ _. f.right live; mine = λ n. absurd (omega arith); heard = λ e. cc })
 
   -- a message with the history, of the seat that holds the lock
   pub tells_held : (id : ℕ) (v : View) → v.holds ≡ true → Splits Rule id v v (message_held v)
   tells_held id v holds = splits id v (message_held v) refl refl refl (λ s r at. let h = r.holding id v at holds in
       let f = r.each id v at in
-      let whole : IsBeginning v.held r.log = subst (λ l. IsBeginning l r.log) (sym h.2) (begins-same r.log) in
-      record { of = λ n. absurd (omega arith); sees = whole; right = λ _. ((f.right (inl h.3)).0, subst (λ l. legal c (entries l)) (sym h.2) r.right); mine = λ n. absurd (omega arith); heard = λ e. cc })
+      let whole : GoesOn passes v.held r.log = subst (λ l. GoesOn passes l r.log) (sym h.2) (begins-same passes r.log) in
+      record { of = λ n. absurd (omega arith); sees = λ _. whole; right = λ _. ((f.right (inl h.3)).0, subst (λ l. legal c (entries l)) (sym h.2) r.right); mine = λ n. absurd (omega arith); heard = λ e. cc })
 
   -- a seat takes in a message
   pub hears : (id : ℕ) (v : View) (other : ℕ) (m : View) → m.number ≡ 0 → m.holds ≡ false → m.message ≡ true → Joins Rule id v other m (hearing v m) spent
@@ -120,7 +120,7 @@ module _ {M : Type 0} (config : M → ConfigNumbers) (history : M → Past) (leg
       let f = r.each id v at in
       let told = r.each other m there in
       let r1 = turns_view s r id v (hearing v m) at (record { number = refl; holds = refl; held = λ _. refl; top = λ _. refl })
-      (record { of = f.of; sees = f.sees; right = f.right; mine = f.mine; heard = λ _. (told.sees, (told.right (inr live)).1, (told.right (inr live)).0) }) r.owner (r.owners id v at) (λ j u _. r.owners j u) in
+      (record { of = f.of; sees = f.sees; right = f.right; mine = f.mine; heard = λ _. (told.sees (inr live), (told.right (inr live)).1, (told.right (inr live)).0) }) r.owner (r.owners id v at) (λ j u _. r.owners j u) in
       let s1 : St = record { words = s.words; homes = s.homes; views = set s.views id (hearing v m) } in
       turns_view s1 r1 other m spent at' (record { number = sym no_number; holds = sym idle; held = λ e. let clash : true ≡ false = sym e ∙ idle in cc; top = λ n. absurd (omega arith) })
       (spent_fits r1.log) r1.owner ((λ _. refl), λ has. absurd (omega arith)) (λ j u _. r1.owners j u)
@@ -134,18 +134,34 @@ module _ {M : Type 0} (config : M → ConfigNumbers) (history : M → Past) (leg
       let told = f.heard heard in
       let own = f.mine named in
       let l : SharedPast = longer v.seen v.told in
-      let sees : IsBeginning l r.log = longer_is (λ l. IsBeginning l r.log) v.seen v.told (λ _. told.0) (λ _. f.sees) in
+      let had : GoesOn passes v.seen r.log = f.sees (inl named) in
+      let count = sym (f.of named) in
+      let sees : GoesOn passes l r.log = longer_is (λ l. GoesOn passes l r.log) v.seen v.told (λ _. told.0) (λ _. had) in
       let right : legal c (entries l) = longer_is (λ l. legal c (entries l)) v.seen v.told (λ _. told.1) (λ _. here.1) in
       let mine : places v.number l ≡ places v.number v.seen = longer_is (λ l. places v.number l ≡ places v.number v.seen) v.seen v.told
-      (λ le. places_between v.number r.log v.seen v.told (shorter r.log v.seen v.told f.sees told.0 le) told.0 own) (λ _. refl) in
-      let later : IsBeginning v.seen l = longer_is (λ l. IsBeginning v.seen l) v.seen v.told (shorter r.log v.seen v.told f.sees told.0) (λ _. begins-same v.seen) in
-      let told_too : IsBeginning v.told l = longer_is (λ l. IsBeginning v.told l) v.seen v.told (λ _. begins-same v.told) (shorter r.log v.told v.seen told.0 f.sees) in
+      (λ le. places_between passes v.number r.log v.seen v.told (shorter passes r.log v.seen v.told had told.0 le) told.0 own) (λ _. refl) in
+      let later : GoesOn passes v.seen l = longer_is (λ l. GoesOn passes v.seen l) v.seen v.told (shorter passes r.log v.seen v.told had told.0) (λ _. begins-same passes v.seen) in
+      let told_too : GoesOn passes v.told l = longer_is (λ l. GoesOn passes v.told l) v.seen v.told (λ _. begins-same passes v.told) (shorter passes r.log v.told v.seen told.0 had) in
       let w : View = informed v in (
         w,
         keeps,
         tt,
         subst (λ ws. Rule record { words = ws; homes = s.homes; views = set s.views id w }) (sym (set-get_or s.words 0 0))
-            (turns_view s r id v w at (record { number = refl; holds = refl; held = λ _. refl; top = λ _. refl }) (record { of = f.of; sees = sees; right = λ _. (here.0, right); mine = λ _. own ∙ sym mine; heard = λ e. cc })
+            (turns_view s r id v w at (record { number = refl; holds = refl; held = λ _. refl; top = λ _. refl }) (record { of = f.of; sees = λ _. sees; right = λ _. (here.0, right); mine = λ _. own ∙ sym mine; heard = λ e. cc })
             r.owner (r.owners id v at) (λ j u _. r.owners j u)),
-        (refl, mine, later, told_too, subst (λ x. legal x (entries l)) (sym here.0) right),
+        (refl, mine, subst (λ n. GoesOn n v.seen l) count later, subst (λ n. GoesOn n v.told l) count told_too, subst (λ x. legal x (entries l)) (sym here.0) right),
+      )
+
+  -- the seat that holds the lock looks
+  pub peeks : (slots id : ℕ) (m : Me (Option M) View) → m.0.holds ≡ true → Allows Rule slots id m 0 (λ n. n) (peeked (step slots 0 0 0 none) m)
+  peeks slots id m holds s r wide at small =
+      let v : View = m.0 in
+      let h = r.holding id v at holds in
+      let f = r.each id v at in
+      let back : Rule record { words = s.words; homes = s.homes; views = set s.views id v } = subst (λ l. Rule record { words = s.words; homes = s.homes; views = l }) (sym (set_again s.views id v at)) r in (
+        v,
+        keeps,
+        tt,
+        subst (λ ws. Rule record { words = ws; homes = s.homes; views = set s.views id v }) (sym (set-get_or s.words 0 0)) back,
+        (refl, λ e. let t = f.heard e in (subst (λ l. GoesOn v.passes v.told l) (sym h.2) (subst (λ n. GoesOn n v.told r.log) (sym (f.of h.3)) t.0), t.2 ∙ sym (f.right (inl h.3)).0)),
       )

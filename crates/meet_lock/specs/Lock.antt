@@ -20,6 +20,15 @@ noted by e = (by, e)
 abbrev pub unmade : Past → SharedPast
 unmade past = map (noted 0) past
 
+-- each of the entries was made by a pass, one of so many
+abbrev pub AreOfPasses : ℕ → SharedPast → Type 0
+AreOfPasses passes [] = Unit {0}
+AreOfPasses passes (m ∷ shared) = ((0 < m.0) × (m.0 ≤ passes)) × AreOfPasses passes shared
+
+-- the history goes on from what was seen, by entries of passes alone
+abbrev pub GoesOn : ℕ → SharedPast → SharedPast → Type 0
+GoesOn passes seen shared = (b : IsBeginning seen shared) × AreOfPasses passes b.0
+
 -- the view of the first seat
 abbrev pub start : ConfigNumbers → ℕ → Past → View
 start c passes past =
@@ -47,10 +56,10 @@ IsLive v = (0 < v.number) ⊎ (v.message ≡ true)
 pub record Fits (legal : ConfigNumbers → Past → Type 0) (c : ConfigNumbers) (passes : ℕ) (log : SharedPast) (v : View)
     : Type 0 where
   pub of : 0 < v.number → v.passes ≡ passes
-  pub sees : IsBeginning v.seen log
+  pub sees : IsLive v → GoesOn passes v.seen log
   pub right : IsLive v → (v.config ≡ c) × legal c (entries v.seen)
   pub mine : 0 < v.number → places v.number log ≡ places v.number v.seen
-  pub heard : v.hears ≡ true → IsBeginning v.told log × legal c (entries v.told) × (v.told_config ≡ c)
+  pub heard : v.hears ≡ true → GoesOn passes v.told log × legal c (entries v.told) × (v.told_config ≡ c)
 
 -- Where tickets have owners, a seat with a ticket is its only owner, and has all its entries, of which there is one.
 -- Where they have none, no seat has a ticket.

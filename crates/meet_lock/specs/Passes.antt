@@ -9,7 +9,7 @@ use Rattle.nvme_model.specs.declared.entry.Entry.{Entry}
 use Rattle.nvme_model.specs.declared.step.Step.{Step}
 use Rattle.controller_steps.specs.declared.answer.Answer.{Answer}
 use Rattle.controller_steps.specs.declared.answer.Refused.{Refused}
-use Rattle.meet_lock.specs.Lock.{noted, unmade}
+use Rattle.meet_lock.specs.Lock.{AreOfPasses, GoesOn, noted, unmade}
 use Rattle.ticket_entries.specs.Entries.{ticket_in}
 use Rattle.meet_lock.specs.declared.pass.Declined.{Declined}
 use Rattle.meet_lock.specs.declared.pass.Pass.{Pass}
@@ -56,11 +56,13 @@ module _ {M : Type 0} where
       × (passes_of q ≡ passes_of p)
       × (config_of q ≡ config_of p)
 
-  -- what q has seen is legal, and begins with what p had seen
+  -- what q has seen is legal, and goes on from what p had seen, by entries of passes alone
   abbrev pub Knows : (ConfigNumbers → Past → Type 0) → Pass M → Pass M → Type 0
-  Knows legal p q = legal (config_of q) (entries (seen q)) × IsBeginning (seen p) (seen q)
+  Knows legal p q =
+      legal (config_of q) (entries (seen q)) × (b : IsBeginning (seen p) (seen q)) × AreOfPasses (passes_of p) b.0
 
-  -- After an accepted step what was seen ends with this step's entry, whose place is the one addition to `mine`.
+  -- After an accepted step what was seen ends with this step's entry, whose place is the one addition to `mine`. What
+  -- was there before goes on from what the pass had seen, by entries of passes alone; where there is one pass, by none.
   pub record Accepted (accepts : ConfigNumbers → Past → Step → Entry → Answer → Type 0) (p q : Pass M) (step : Step)
       (a : Answer) : Type 0 where
     pub before : SharedPast
@@ -68,6 +70,8 @@ module _ {M : Type 0} where
     pub ends : seen q ≡ noted (number p) entry ∷ before
     pub adds : mine q ≡ length (seen q) ∷ mine p
     pub says : accepts (config_of p) (entries before) step entry a
+    pub goes : GoesOn (passes_of p) (seen p) before
+    pub alone : passes_of p ≡ 1 → before ≡ seen p
 
   -- Where another caller held the lock nothing has changed, and the step comes back. A refusal is the machine's at what
   -- was seen.
@@ -80,8 +84,23 @@ module _ {M : Type 0} where
     pub same : seen q1 ≡ seen q2
     pub right : legal (config_of q1) (entries (seen q1))
     pub both : legal (config_of q2) (entries (seen q2))
-    pub first : IsBeginning (seen p1) (seen q1)
-    pub second : IsBeginning (seen p2) (seen q2)
+    pub first : GoesOn (passes_of p1) (seen p1) (seen q1)
+    pub second : GoesOn (passes_of p2) (seen p2) (seen q2)
+
+  -- what the passes had seen goes on to the history held, which has no entries of theirs that they haven't seen
+  abbrev pub AllSaw : ℕ → SharedPast → List (Pass M) → Type 0
+  AllSaw passes held [] = Unit {0}
+  AllSaw passes held (p ∷ ps) =
+      (GoesOn passes (seen p) held × (places (number p) held ≡ mine p)) × AllSaw passes held ps
+
+  -- the history is what one of the passes has seen, and each has seen a beginning of it, with all its own entries
+  pub record IsSeenWhole (ps : List (Pass M)) (past : Past) : Type 0 where
+    pub place : ℕ
+    pub pass : Pass M
+    pub there : slice_get ps place ≡ Some pass
+    pub whole : past ≡ entries (seen pass)
+    pub all : (k : ℕ) (p : Pass M) → slice_get ps k ≡ Some p
+        → GoesOn (length ps) (seen p) (seen pass) × (places (number p) (seen pass) ≡ mine p)
 
   -- ---- passes that are given out
 

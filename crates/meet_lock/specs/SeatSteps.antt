@@ -1,12 +1,12 @@
 -- What a step of a seat tells, and a seat with and without the machine.
-use Rattle.std.specs.Prelude.{Bool, None, Option, Some, [], false, true, ℕ, ◌<◌, ◌≡◌, ◌≢◌, ◌⊎◌, ◌∷◌}
+use Rattle.std.specs.Prelude.{Bool, None, Option, Some, [], false, true, ℕ, ◌<◌, ◌≤◌, ◌≡◌, ◌≢◌, ◌⊎◌, ◌∷◌}
 use Rattle.atomic_table.specs.Table.{Me, Step}
 use Rattle.atomic_table.specs.declared.shared.Seat.{Seat}
 use Rattle.nvme_model.specs.History.{Past}
-use Rattle.nvme_model.specs.Passes.{IsBeginning, SharedPast, entries, places}
+use Rattle.nvme_model.specs.Passes.{SharedPast, entries, places}
 use Rattle.nvme_model.specs.declared.config.ConfigNumbers.{ConfigNumbers}
 use Rattle.nvme_model.specs.declared.entry.Entry.{Entry}
-use Rattle.meet_lock.specs.Lock.{IsAt, grown, holding, informed, shown}
+use Rattle.meet_lock.specs.Lock.{GoesOn, IsAt, grown, holding, informed, shown}
 use Rattle.ticket_entries.specs.Entries.{of_ticket, ticket_in}
 use Rattle.meet_lock.specs.declared.view.View.{View}
 
@@ -22,7 +22,7 @@ MayTell owned v past e = owned ≡ true
 
 -- what was told and seen doesn't go beyond what it saw under the lock
 abbrev pub SawAll : View → Type 0
-SawAll v = v.hears ≡ true → IsBeginning v.told v.held × (v.told_config ≡ v.config)
+SawAll v = v.hears ≡ true → GoesOn v.passes v.told v.held × (v.told_config ≡ v.config)
 
 module _ {M : Type 0} (config : M → ConfigNumbers) (history : M → Past) (legal : ConfigNumbers → Past → Type 0) where
   -- the seat has the lock, and the machine
@@ -32,7 +32,8 @@ module _ {M : Type 0} (config : M → ConfigNumbers) (history : M → Past) (leg
     pub is : n ≡ (holding v log, (0, Some machine) ∷ [])
     pub at : IsAt config history v.config (entries log) machine
     pub right : legal v.config (entries log)
-    pub begins : IsBeginning v.seen log
+    pub begins : GoesOn v.passes v.seen log
+    pub counted : (0 < v.number) × (v.number ≤ v.passes)
     pub mine : places v.number log ≡ places v.number v.seen
 
   -- the seat has the lock, and the machine is out of its slot
@@ -41,7 +42,8 @@ module _ {M : Type 0} (config : M → ConfigNumbers) (history : M → Past) (leg
     pub is : n ≡ (holding v log, (0, None) ∷ [])
     pub at : IsAt config history v.config (entries log) machine
     pub right : legal v.config (entries log)
-    pub begins : IsBeginning v.seen log
+    pub begins : GoesOn v.passes v.seen log
+    pub counted : (0 < v.number) × (v.number ≤ v.passes)
     pub mine : places v.number log ≡ places v.number v.seen
 
   -- and it has one entry more than the lock's history
@@ -90,9 +92,13 @@ module _ {M : Type 0} where
   looked legal st m r n =
       (n ≡ (informed m.0, m.1))
       × (places n.0.number n.0.seen ≡ places m.0.number m.0.seen)
-      × IsBeginning m.0.seen n.0.seen
-      × IsBeginning m.0.told n.0.seen
+      × GoesOn m.0.passes m.0.seen n.0.seen
+      × GoesOn m.0.passes m.0.told n.0.seen
       × legal n.0.config (entries n.0.seen)
+
+  -- a load of the seat that holds the lock: what it was told doesn't go beyond what it holds
+  abbrev pub peeked : Step (Option M) → Me (Option M) View → ℕ → Me (Option M) View → Type 0
+  peeked st m r n = (n ≡ m) × SawAll m.0
 
   abbrev pub IsIdle : Me (Option M) View → Type 0
   IsIdle m = (m.1 ≡ []) × (m.0.holds ≡ false) × (0 < m.0.number)

@@ -2,7 +2,7 @@
 
 ghost use Rattle.meet_lock.specs.Lock.{IsOneHistory, start, gives_left, gives_right, message, message_held};
 ghost use Rattle.meet_lock.specs.Lock.{hearing, spent, unladen, laden, lading};
-ghost use Rattle.meet_lock.specs.SeatSteps.{took, wrote, left, looked};
+ghost use Rattle.meet_lock.specs.SeatSteps.{took, wrote, left, looked, peeked};
 
 use crate::owner::StepRight;
 use crate::view::{Start, View};
@@ -55,6 +55,13 @@ pub(crate) struct Look<M> {
 
 impl<M: Machine> Play<Option<M>, View> for Look<M> {
     ghost then = { looked M.legal };
+}
+
+/// The seat that holds the lock looks.
+pub(crate) struct Peek;
+
+impl<M> Play<Option<M>, View> for Peek {
+    ghost then = { peeked };
 }
 
 /// The first seat gives out the next number.

@@ -3,9 +3,11 @@
 ghost use Rattle.std.specs.Prelude.{◌≡◌, ◌≤◌, ◌<◌, [], IfOk, IfErr, IfSome, IsSome, ℕ, ◌+◌};
 ghost use Rattle.std.specs.Prelude.{Some, slice_get, vec_len, All};
 ghost use Rattle.std.specs.Vec.{vec_capacity};
-ghost use Rattle.nvme_model.specs.Passes.{IsBeginning, SharedPast, entries};
+ghost use Rattle.nvme_model.specs.Passes.{IsBeginning, SharedPast, entries, places};
+ghost use Rattle.meet_lock.specs.Lock.{AreOfPasses};
 
 mod attempt;
+mod end;
 mod lock;
 mod meet;
 mod notes;
@@ -33,7 +35,7 @@ pub struct Shared<M: Machine, K: StepRight = AnyPass> {
 }
 
 impl<M: Machine, K: StepRight> Shared<M, K> {
-    ghost use Rattle.meet_lock.specs.Passes.{AllNew, IsFirst, IsNew, IsOf, config_of, passes_of, seen};
+    ghost use Rattle.meet_lock.specs.Passes.{AllNew, IsFirst, IsNew, IsOf, config_of, mine, number, passes_of, seen};
     ghost use Rattle.meet_lock.specs.declared.pass.Pass.{Pass};
 
     /// The machine with a lock round it, and as many passes as asked for, numbered from 1 in order: each has seen the
@@ -102,8 +104,10 @@ impl<M: Machine, K: StepRight> Shared<M, K> {
         ensures config { IfSome result (λ m. M.config m ≡ config_of pass) }
         ensures legal { IfSome result (λ m. M.legal (M.config m) (M.history m)) }
         ensures begins { IfSome result (λ m. (whole : SharedPast) × (M.history m ≡ entries whole)
-            × IsBeginning (seen pass) whole) }
+            × (b : IsBeginning (seen pass) whole) × AreOfPasses (passes_of pass) b.0
+            × (places (number pass) whole ≡ mine pass)) }
         ensures alone { passes_of pass ≡ 1 → IsSome result }
+        ensures whole { passes_of pass ≡ 1 → IfSome result (λ m. M.history m ≡ entries (seen pass)) }
     {
         let Shared { table } = self;
         let Pass { seat } = pass;

@@ -2,7 +2,7 @@
 
 ghost use Rattle.std.specs.Prelude.{◌≡◌, ◌<◌, ◌+◌, All, None, Some, ℕ, IfErr, IfOk, IfSome, IsSome};
 ghost use Rattle.std.specs.Prelude.{[], slice_get, vec_len};
-ghost use Rattle.nvme_model.specs.Passes.{IsBeginning, SharedPast, entries};
+ghost use Rattle.nvme_model.specs.Passes.{IsBeginning, SharedPast, entries, places};
 ghost use Rattle.nvme_model.specs.Kept.{Kept};
 
 use crate::stages::{stage_after, start_of};
@@ -43,7 +43,8 @@ pub struct Engine {
 impl Engine {
     ghost use Rattle.controller_steps.specs.State.{Accepts, Refuses};
     ghost use Rattle.meet_lock.specs.Passes.{Declines, IsNew, IsNotBusy, IsSame, Knows, Met, Saw, Worked, config_of};
-    ghost use Rattle.meet_lock.specs.Passes.{mine, passes_of, seen};
+    ghost use Rattle.meet_lock.specs.Passes.{IsSeenWhole, mine, number, passes_of, seen};
+    ghost use Rattle.meet_lock.specs.Lock.{AreOfPasses};
     ghost use Rattle.meet_lock.specs.declared.pass.Pass.{Pass};
     ghost use Rattle.controller_steps.specs.State.{State};
     ghost use Rattle.ticket_entries.specs.Entries.{of_ticket};
@@ -211,9 +212,27 @@ impl Engine {
         ensures config { IfSome result (λ core. core.config ≡ config_of pass) }
         ensures legal { IfSome result (λ core. Kept core.config core.past) }
         ensures begins { IfSome result (λ core. (whole : SharedPast) × (core.past ≡ entries whole)
-            × IsBeginning (seen pass) whole) }
+            × (b : IsBeginning (seen pass) whole) × AreOfPasses (passes_of pass) b.0
+            × (places (number pass) whole ≡ mine pass)) }
         ensures alone { passes_of pass ≡ 1 → IsSome result }
+        ensures whole { passes_of pass ≡ 1 → IfSome result (λ core. core.past ≡ entries (seen pass)) }
     {
         self.shared.close(pass)
+    }
+
+    /// The controller, closed with all its passes, in the order in which `new` gave them: its history is what one of
+    /// them has seen.
+    ///
+    /// None where the lock wasn't free, and where no pass is given.
+    pub fn close_all(self, passes: Vec<Pass<Core>>) -> Option<Core>
+        requires all { (k : ℕ) (p : Pass State) → slice_get passes.items k ≡ Some p
+            → IsOf self p × (number p ≡ k + 1) × (passes_of p ≡ vec_len passes) }
+        ensures config { IfSome result (λ core. (k : ℕ) (p : Pass State) → slice_get passes.items k ≡ Some p
+            → core.config ≡ config_of p) }
+        ensures legal { IfSome result (λ core. Kept core.config core.past) }
+        ensures whole { IfSome result (λ core. IsSeenWhole passes.items core.past) }
+        ensures alone { vec_len passes ≡ 1 → IsSome result }
+    {
+        self.shared.close_all(passes)
     }
 }

@@ -2,7 +2,7 @@
 
 ghost use Rattle.std.specs.Prelude.{◌≡◌, ◌<◌, [], true};
 ghost use Rattle.nvme_model.specs.Passes.{IsBeginning, entries, places};
-ghost use Rattle.meet_lock.specs.Lock.{IsLive, hearing, informed, laden, lading, longer};
+ghost use Rattle.meet_lock.specs.Lock.{GoesOn, IsLive, hearing, informed, laden, lading, longer};
 ghost use Rattle.meet_lock.specs.Lock.{message, message_held, unladen};
 ghost use Rattle.meet_lock.specs.SeatSteps.{IsMessage, IsSameSeat};
 
@@ -53,8 +53,8 @@ impl<M: Machine, K: StepRight> Shared<M, K> {
         ensures same { IsSameSeat seat.old seat.new }
         ensures informed { (seat.new.me ≡ (informed seat.old.me.0, seat.old.me.1))
             × (places seat.new.me.0.number seat.new.me.0.seen ≡ places seat.old.me.0.number seat.old.me.0.seen) }
-        ensures told { IsBeginning seat.old.me.0.seen seat.new.me.0.seen
-            × IsBeginning seat.old.me.0.told seat.new.me.0.seen
+        ensures told { GoesOn seat.old.me.0.passes seat.old.me.0.seen seat.new.me.0.seen
+            × GoesOn seat.old.me.0.passes seat.old.me.0.told seat.new.me.0.seen
             × M.legal seat.new.me.0.config (entries seat.new.me.0.seen) }
     {
         self.table.shared.load::<Look<M>>(seat, 0);

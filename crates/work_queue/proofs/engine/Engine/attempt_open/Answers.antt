@@ -46,6 +46,8 @@ returns-in-Fetched-clause-accepted c =
         entry = o.by.entry;
         ends = o.by.ends;
         adds = o.by.adds;
+        goes = o.by.goes;
+        alone = o.by.alone;
         says = subst (λ (z : Step × Answer). Accepts (config_of c.args.pass.now) (entries o.by.before) z.0 o.by.entry z.1) (λ i. (ap open_step (sym c.in-Fetch.is) i, c.in-Fetched.is i)) o.by.says;
       };
       is = (refl, o.of, o.saw, o.one, ap (is_only_fetch c.in-Fetched.work.ticket) o.one ∙ w.3);
