@@ -78,6 +78,10 @@ module _ {P : Type 0} {g : Ghosts P} where
   abbrev pub host_of : Driver P g → ℕ
   host_of d = d.host
 
+  -- 0's based
+  abbrev pub acwu_of : Driver P g → ℕ
+  acwu_of d = d.acwu
+
   abbrev pub serial_of : Driver P g → ℕ
   serial_of d = d.serial
 

@@ -3,6 +3,7 @@
 ghost use Rattle.std.specs.List.Sorted.{IsStrictlyIncreasing};
 ghost use Rattle.std.specs.Prelude.{◌≡◌, ◌≤◌, ◌+◌, All, Contains, IfErr, IfOk, [], length, true, ℕ};
 ghost use Rattle.cid_table.specs.Cids.{held, queues_of};
+ghost use Rattle.cid_table.specs.declared.held.Held.{Held};
 ghost use Rattle.driver_calls.specs.Log.{is_tidy, state_of};
 ghost use Rattle.driver_calls.specs.Views.{since};
 ghost use Rattle.driver_cas.specs.Tables.{fits};
@@ -61,6 +62,7 @@ impl<P: Port> Driver<P> {
         ensures port { IfOk result (λ d. (d.port ≡ port) × (d.began.value ≡ port)) }
         ensures host { IfOk result (λ d. (d.host ≡ host) × (d.acwu ≡ acwu) × (d.slots ≡ slots) × (d.serial ≡ 0)) }
         ensures queues { IfOk result (λ d. queues_of d.cids ≡ queues.items) }
+        ensures free { IfOk result (λ d. (q cid : ℕ) → held d.cids q cid ≡ Held.Free) }
         ensures back { IfErr result (λ e. (e.0 ≡ port) × (e.1 ≡ queues)) }
     {
         let began = Snapshot::of(&port);

@@ -88,6 +88,7 @@ pub fn host_of<'a, G>(
     ensures hosting { IfOk result (IsHosting hall.entry.now) }
     ensures queue { IfOk result (λ h. (h.queue ≡ hand.queue) × (port_queue h ≡ hand.queue)) }
     ensures host { IfOk result (λ h. driver.host_of h.driver ≡ hand.queue) }
+    ensures acwu { IfOk result (λ h. driver.acwu_of h.driver ≡ config.now.atomic.acwu) }
     ensures slots { IfOk result (λ h. (driver.area_of h.driver ≡ slots) × (area h.slots ≡ slots)) }
     ensures queues { IfOk result (λ h. HasEach config.now hand.queue (queues_used h)) }
 {

@@ -1,6 +1,6 @@
 -- A claim at a later moment of its driver.
 use Rattle.std.proofs.Common.{List, None, Option, Some, [], arith, ap, false, inl, le-leb, lt-ltb, refl, subst, sym, true, ℕ, ◌+◌, ◌<◌, ◌∙◌, ◌≡◌, ◌≢◌, ◌≤◌}
-use Rattle.std.specs.Prelude.{Err, Ok, Result}
+use Rattle.std.specs.Prelude.{Err, IfOk, Ok, Result}
 use Rattle.std.specs.declared.snapshot.Snapshot.{Snapshot}
 use Rattle.std.proofs.lemmas.Bool.{and_from}
 use Rattle.nvme_model.specs.Array.{has_block}
@@ -28,7 +28,7 @@ use Rattle.slot_alloc.specs.declared.claiming.Reach.{Reach}
 use Rattle.slot_alloc.specs.declared.claiming.Stage.{Stage}
 use Rattle.slot_alloc.specs.declared.progress.Progress.{Progress}
 use Rattle.slot_alloc.specs.declared.slots.Slots.{Slots}
-use Rattle.slot_alloc.proofs.Starting.{Claims, asking_claimed, goes_on_claimed, unreleased_claimed}
+use Rattle.slot_alloc.proofs.Starting.{Claims, asking_claimed, careful_claimed, careful_same, goes_on_claimed, goes_on_same, unreleased_claimed}
 
 -- the block of a slot lies in the area
 pub inside_of : (r : Range) (i : ℕ) → i < r.blocks → has_block r (block_of r i) ≡ true
@@ -141,3 +141,12 @@ module _ {P : Type 0} (g : Ghosts P) where
   -- for want of room
   pub told_full : (k : Claiming P g) (f : Fault) → f ≡ Fault.RingFull → Progress.Pending (record k { stage = Stage.Due }) ≡ told_of k (Err f)
   told_full k f full = ap (λ (x : Fault). told_of k (Err x)) (sym full)
+
+  -- what the start of a claim by itself leaves
+  pub claim_kept : (d e : Driver P g) (l : ℕ) (r : Result (Call P × ℕ) Fault) → HasSettings d e → g.follows d.port e.port → IsClaimStart d e l r → 1 ≤ host_of d → host_of d < 4294967296 → IfOk r (λ c. c.1 < 18446744073709551616)
+      → has_block (area_of d) l ≡ true → (IsCareful d → IsCareful e) × GoesOn d e None
+  claim_kept d e l (Ok c) settings later start named narrow fits inside =
+      let k : Claims g d e l c.0 c.1 = record { settings = settings; later = later; start = start; named = named; narrow = narrow; fits = fits; inside = inside } in
+      (careful_claimed g d e l c.0 c.1 k, goes_on_claimed g d e l c.0 c.1 k)
+  claim_kept d e l (Err f) settings later start named narrow fits inside =
+      (careful_same g d e settings start.0 start.1.0, goes_on_same g d e settings start.0 later start.1.0)

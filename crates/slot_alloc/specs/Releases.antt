@@ -41,8 +41,9 @@ module _ {P : Type 0} {g : Ghosts P} where
 
   -- what `poll_release` gives
   abbrev pub IsReleased : Driver P g → Releasing P → Released P → Type 0
-  IsReleased e k (Released.Pending j) = (j ≡ k) × IsReleasingOf e j
-  IsReleased e k (Released.Later f j) = (j ≡ k) × IsReleasingOf e j × ((f ≡ Fault.Busy) ⊎ (f ≡ Fault.NoMemory))
+  IsReleased e k (Released.Pending j) = (j ≡ k) × IsReleasingOf e j × (answer_to e k.call ≡ None)
+  IsReleased e k (Released.Later f j) =
+      (j ≡ k) × IsReleasingOf e j × ((f ≡ Fault.Busy) ⊎ (f ≡ Fault.NoMemory)) × (answer_to e k.call ≡ None)
   IsReleased e k Released.Released = IsAnswered e k.call (Ok Reply.Swapped)
   IsReleased e k (Released.Failed (Fault.Status s)) =
       IsAnswered e k.call (Err s) ⊎ ((s ≡ compare_failure) × IsAnswered e k.call (Ok Reply.Differs))

@@ -1,6 +1,6 @@
 //! What holds of an allocator's claims and releases, each as the contract of a function that does nothing.
 
-ghost use Rattle.std.specs.Prelude.{[], Err, None, Ok, Option, Result, Some, true, ℕ, ◌≡◌, ◌≢◌};
+ghost use Rattle.std.specs.Prelude.{[], Err, IfOk, None, Ok, Option, Result, Some, true, ℕ, ◌<◌, ◌^◌, ◌≡◌, ◌≢◌, ◌≤◌};
 ghost use Rattle.nvme_model.specs.Array.{has_block};
 ghost use Rattle.nvme_model.specs.Passes.{entries};
 ghost use Rattle.nvme_model.specs.Slots.{believed, disciplined, holder};
@@ -10,9 +10,9 @@ ghost use Rattle.driver_calls.specs.Says.{FailedSays};
 ghost use Rattle.driver_calls.specs.Views.{IsAlone};
 ghost use Rattle.driver_calls.specs.declared.reply.Reply.{Reply};
 ghost use Rattle.driver_cas.specs.Drivers.{HasSettings, IsCallOf, IsOneMore, IsSame, answer_to, area_of, before};
-ghost use Rattle.driver_cas.specs.Drivers.{host_of, made, number_of};
+ghost use Rattle.driver_cas.specs.Drivers.{host_of, made, number_of, serial_of as last_of};
 ghost use Rattle.driver_cas.specs.Ports.{Follows, view_of};
-ghost use Rattle.driver_cas.specs.SlotStarts.{IsReleaseStart};
+ghost use Rattle.driver_cas.specs.SlotStarts.{IsClaimStart, IsReleaseStart};
 ghost use Rattle.driver_cas.specs.Requests.{IsStart, pair_request_of, request_of};
 ghost use Rattle.driver_cas.specs.declared.call.Call.{Call};
 ghost use Rattle.driver_cas.specs.declared.fault.Fault.{Fault};
@@ -20,7 +20,7 @@ ghost use Rattle.driver_cas.specs.declared.shared_port.SharedPort.{SharedPort};
 ghost use Rattle.driver_commands.specs.declared.request.CallData.{CallData};
 ghost use Rattle.nvme_model.specs.declared.operation.Op.{Op};
 ghost use Rattle.slot_calls.specs.Calls.{IsName};
-ghost use Rattle.slot_calls.specs.Hosts.{IsSlotHost};
+ghost use Rattle.slot_calls.specs.Hosts.{IsSlotHost, IsSlotView};
 ghost use Rattle.slot_calls.specs.Swaps.{log_believed};
 ghost use Rattle.slot_alloc.specs.Areas.{block_of, serial_of, slot_of};
 ghost use Rattle.slot_alloc.specs.Careful.{GoesOn, IsCareful, ReleasedName, is_another, own_name};
@@ -38,24 +38,37 @@ use std::snapshot::Snapshot;
 
 /// Nothing was published by a driver that was made just now.
 pub fn a_new_driver_is_careful<P: Port>(driver: &Driver<P>)
-    requires { made driver.now ≡ [] }
-    ensures { IsCareful driver.now }
+    ensures { made driver.now ≡ [] → IsCareful driver.now }
 {
     let _ = driver;
 }
 
 /// A driver's other calls touch no slot: what they publish and reap leaves a careful driver so, and what it believed it
-/// goes on to believe.
+/// goes on to believe. `poll` is also what is to be known of `meet`, `meet_pass` and `listen`, which make no event.
 pub fn other_calls_touch_no_slot<P: Port>(old: &Snapshot<Driver<P>>, new: &Driver<P>)
-    requires same { IsSame old.now.value new.now }
-    requires later { P.follows old.now.value.port new.now.port }
-    ensures start { (acwu slba bytes : ℕ) (o : Op) (contents : CallData) (r : Result (Call P) Fault) →
+    ensures start { IsSame old.now.value new.now → P.follows old.now.value.port new.now.port →
+        (acwu slba bytes : ℕ) (o : Op) (contents : CallData) (r : Result (Call P) Fault) →
         IsStart old.now.value new.now (request_of acwu (area_of old.now.value) o slba bytes) contents r →
         (IsCareful old.now.value → IsCareful new.now) × GoesOn old.now.value new.now None }
-    ensures pair { (acwu slba bytes others : ℕ) (contents : CallData) (r : Result (Call P) Fault) →
+    ensures pair { IsSame old.now.value new.now → P.follows old.now.value.port new.now.port →
+        (acwu slba bytes others : ℕ) (contents : CallData) (r : Result (Call P) Fault) →
         IsStart old.now.value new.now (pair_request_of acwu (area_of old.now.value) slba bytes others) contents r →
         (IsCareful old.now.value → IsCareful new.now) × GoesOn old.now.value new.now None }
-    ensures poll { IsOneMore (made old.now.value) (made new.now) →
+    ensures poll { IsSame old.now.value new.now → P.follows old.now.value.port new.now.port →
+        IsOneMore (made old.now.value) (made new.now) →
+        (IsCareful old.now.value → IsCareful new.now) × GoesOn old.now.value new.now None }
+{
+    let _ = old;
+    let _ = new;
+}
+
+/// A claim that is begun by itself (`Driver::start_claim`) leaves a careful driver so, and what it believed it goes on
+/// to believe.
+pub fn a_claim_by_itself<P: Port>(old: &Snapshot<Driver<P>>, new: &Driver<P>)
+    ensures { HasSettings old.now.value new.now → P.follows old.now.value.port new.now.port →
+        (lba : ℕ) (r : Result (Call P × ℕ) Fault) → IsClaimStart old.now.value new.now lba r →
+        1 ≤ host_of old.now.value → host_of old.now.value < 2 ^ 32 → IfOk r (λ c. c.1 < 2 ^ 64) →
+        has_block (area_of old.now.value) lba ≡ true →
         (IsCareful old.now.value → IsCareful new.now) × GoesOn old.now.value new.now None }
 {
     let _ = old;
@@ -65,13 +78,13 @@ pub fn other_calls_touch_no_slot<P: Port>(old: &Snapshot<Driver<P>>, new: &Drive
 /// A release that is begun without its claim (`Driver::start_release` called by itself) leaves all other names as they
 /// were, and a driver careful where its log believes the name.
 pub fn a_release_by_itself<P: Port>(old: &Snapshot<Driver<P>>, new: &Driver<P>)
-    requires same { IsSame old.now.value new.now }
-    requires later { P.follows old.now.value.port new.now.port }
-    ensures careful { (lba serial : ℕ) (r : Result (Call P) Fault) → IsReleaseStart old.now.value new.now lba serial r →
+    ensures careful { IsSame old.now.value new.now → (lba serial : ℕ) (r : Result (Call P) Fault) →
+        IsReleaseStart old.now.value new.now lba serial r →
         IsName (own_name old.now.value serial) → has_block (area_of old.now.value) lba ≡ true →
         log_believed (made old.now.value) lba (own_name old.now.value serial) ≡ true →
         IsCareful old.now.value → IsCareful new.now }
-    ensures goes_on { (lba serial : ℕ) (r : Result (Call P) Fault) → IsReleaseStart old.now.value new.now lba serial r →
+    ensures goes_on { IsSame old.now.value new.now → P.follows old.now.value.port new.now.port →
+        (lba serial : ℕ) (r : Result (Call P) Fault) → IsReleaseStart old.now.value new.now lba serial r →
         IsName (own_name old.now.value serial) →
         GoesOn old.now.value new.now (Some (lba, own_name old.now.value serial)) }
 {
@@ -79,43 +92,69 @@ pub fn a_release_by_itself<P: Port>(old: &Snapshot<Driver<P>>, new: &Driver<P>)
     let _ = new;
 }
 
-/// What a driver goes on to believe: a claim stays held, but by the release of its own name, and a claim and a release
-/// that were begun stay so as long as their calls are the driver's. A name that wasn't released isn't, but by its own
-/// release.
-pub fn what_was_begun_stays<P: Port>(
-    old: &Snapshot<Driver<P>>,
-    new: &Driver<P>,
-    claim: &Claim,
-    claiming: &Claiming<P>,
-    releasing: &Releasing<P>,
-)
+/// A claim stays held over what its driver goes on to do, but for the release of its own name.
+pub fn a_held_claim_stays<P: Port>(old: &Snapshot<Driver<P>>, new: &Driver<P>, claim: &Claim)
     ensures held { (released : Option ReleasedName) → GoesOn old.now.value new.now released →
         is_another released (block_of (area_of old.now.value) (slot_of claim.now))
         (own_name old.now.value (serial_of claim.now)) ≡ true →
         IsHeldBy old.now.value claim.now → IsHeldBy new.now claim.now }
+{
+    let _ = old;
+    let _ = new;
+    let _ = claim;
+}
+
+/// A claim that was begun stays so as long as its call is the driver's. A name that wasn't released isn't, but by its
+/// own release.
+pub fn a_begun_claim_stays<P: Port>(
+    old: &Snapshot<Driver<P>>,
+    new: &Driver<P>,
+    claiming: &Claiming<P>,
+)
     ensures claiming { (released : Option ReleasedName) → GoesOn old.now.value new.now released →
         IsCallKept new.now (stage_of claiming.now) →
         IsClaimingOf old.now.value claiming.now → IsClaimingOf new.now claiming.now }
     ensures unreleased { (released : Option ReleasedName) → GoesOn old.now.value new.now released →
         is_other_claim released old.now.value claiming.now ≡ true → IsClaimingOf old.now.value claiming.now →
         IsUnreleased old.now.value claiming.now → IsUnreleased new.now claiming.now }
+{
+    let _ = old;
+    let _ = new;
+    let _ = claiming;
+}
+
+/// A release that was begun stays so as long as its call is the driver's.
+pub fn a_begun_release_stays<P: Port>(
+    old: &Snapshot<Driver<P>>,
+    new: &Driver<P>,
+    releasing: &Releasing<P>,
+)
     ensures releasing { (released : Option ReleasedName) → GoesOn old.now.value new.now released →
         IsCallOf new.now (release_call releasing.now) →
         IsReleasingOf old.now.value releasing.now → IsReleasingOf new.now releasing.now }
 {
     let _ = old;
     let _ = new;
-    let _ = claim;
-    let _ = claiming;
     let _ = releasing;
+}
+
+/// What a careful driver knows of slots, where the premises hold of what its port has seen: what the laws of
+/// `slot_calls` ask for.
+pub fn a_careful_driver_knows_its_slots(driver: &Driver<SharedPort<'_>>)
+    ensures { IsCareful driver.now →
+        IsSlotHost (before driver.now) (area_of driver.now) (host_of driver.now) (view_of driver.now.port) →
+        IsSlotView (before driver.now) (area_of driver.now) (host_of driver.now) (last_of driver.now)
+        (view_of driver.now.port) }
+{
+    let _ = driver;
 }
 
 /// Where the premises hold of what its port has seen, a careful driver keeps the discipline of the slot area, and so
 /// does the whole history.
 pub fn a_careful_driver_keeps_the_discipline(driver: &Driver<SharedPort<'_>>)
-    requires careful { IsCareful driver.now }
-    requires host { IsSlotHost (before driver.now) (area_of driver.now) (host_of driver.now) (view_of driver.now.port) }
-    ensures { let v = view_of driver.now.port in disciplined v.config (area_of driver.now) (entries v.seen) ≡ true }
+    ensures { IsCareful driver.now →
+        IsSlotHost (before driver.now) (area_of driver.now) (host_of driver.now) (view_of driver.now.port) →
+        let v = view_of driver.now.port in disciplined v.config (area_of driver.now) (entries v.seen) ≡ true }
 {
     let _ = driver;
 }
@@ -125,8 +164,8 @@ pub fn a_won_slot_was_free(
     driver: &Driver<SharedPort<'_>>,
     began: &Snapshot<Driver<SharedPort<'_>>>,
 )
-    requires { IsAlone (before driver.now) (view_of driver.now.port) }
-    ensures { (lba serial : ℕ) (call : Call SharedPort)
+    ensures { IsAlone (before driver.now) (view_of driver.now.port) →
+        (lba serial : ℕ) (call : Call SharedPort)
         (s : ClaimSays driver.now began.now.value lba call serial (Ok Reply.Swapped)) →
         PairSwaps (entries (view_of driver.now.port).seen) call.queue (number_of s.at call) }
 {
@@ -140,8 +179,8 @@ pub fn a_failed_claim_was_told_so(
     driver: &Driver<SharedPort<'_>>,
     began: &Snapshot<Driver<SharedPort<'_>>>,
 )
-    requires { IsAlone (before driver.now) (view_of driver.now.port) }
-    ensures { (lba serial : ℕ) (status : Status) (call : Call SharedPort)
+    ensures { IsAlone (before driver.now) (view_of driver.now.port) →
+        (lba serial : ℕ) (status : Status) (call : Call SharedPort)
         (s : ClaimSays driver.now began.now.value lba call serial (Err status)) →
         let v = view_of driver.now.port in
         FailedSays v.config (entries v.seen) call.queue (number_of s.at call) status }
@@ -156,10 +195,9 @@ pub fn a_released_slot_was_held(
     driver: &Driver<SharedPort<'_>>,
     releasing: &Snapshot<Releasing<SharedPort<'_>>>,
 )
-    requires alone { IsAlone (before driver.now) (view_of driver.now.port) }
-    requires same { HasSettings at.now.value driver.now }
-    requires later { Follows at.now.value.port driver.now.port }
     ensures { let k = release_call releasing.now.value in
+        IsAlone (before driver.now) (view_of driver.now.port) → HasSettings at.now.value driver.now →
+        Follows at.now.value.port driver.now.port →
         IsReleased at.now.value releasing.now.value Released.Released →
         PairSwaps (entries (view_of driver.now.port).seen) k.queue (number_of at.now.value k) }
 {
@@ -173,8 +211,8 @@ pub fn a_taken_slot_was_anothers(
     driver: &Driver<SharedPort<'_>>,
     began: &Snapshot<Driver<SharedPort<'_>>>,
 )
-    requires { IsAlone (before driver.now) (view_of driver.now.port) }
-    ensures { (lba serial : ℕ) (call : Call SharedPort)
+    ensures { IsAlone (before driver.now) (view_of driver.now.port) →
+        (lba serial : ℕ) (call : Call SharedPort)
         (s : ClaimSays driver.now began.now.value lba call serial (Ok Reply.Differs)) →
         PairDiffers (entries (view_of driver.now.port).seen) call.queue (number_of s.at call) }
 {
@@ -184,13 +222,14 @@ pub fn a_taken_slot_was_anothers(
 
 /// Where the premises hold of what its driver's port has seen, a claim's name is believed of its slot, and holds it.
 pub fn a_claim_holds_its_slot(driver: &Driver<SharedPort<'_>>, claim: &Claim)
-    requires held { IsHeldBy driver.now claim.now }
-    requires careful { IsCareful driver.now }
-    requires host { IsSlotHost (before driver.now) (area_of driver.now) (host_of driver.now) (view_of driver.now.port) }
-    ensures believed { let v = view_of driver.now.port in
+    ensures believed { IsHeldBy driver.now claim.now → IsCareful driver.now →
+        IsSlotHost (before driver.now) (area_of driver.now) (host_of driver.now) (view_of driver.now.port) →
+        let v = view_of driver.now.port in
         believed v.config (entries v.seen) (block_of (area_of driver.now) (slot_of claim.now))
         (own_name driver.now (serial_of claim.now)) ≡ true }
-    ensures holder { let v = view_of driver.now.port in
+    ensures holder { IsHeldBy driver.now claim.now → IsCareful driver.now →
+        IsSlotHost (before driver.now) (area_of driver.now) (host_of driver.now) (view_of driver.now.port) →
+        let v = view_of driver.now.port in
         holder (entries v.seen) (block_of (area_of driver.now) (slot_of claim.now))
         ≡ Some (own_name driver.now (serial_of claim.now)) }
 {
@@ -205,13 +244,15 @@ pub fn a_release_never_fails(
     driver: &Driver<SharedPort<'_>>,
     releasing: &Snapshot<Releasing<SharedPort<'_>>>,
 )
-    requires of { IsReleasingOf old.now.value releasing.now.value }
-    requires quiet { IsQuiet old.now.value driver.now }
-    requires careful { IsCareful driver.now }
-    requires host { IsSlotHost (before driver.now) (area_of driver.now) (host_of driver.now) (view_of driver.now.port) }
-    ensures answer { (r : Result Reply Status) →
-        answer_to driver.now (release_call releasing.now.value) ≡ Some r → r ≡ Ok Reply.Swapped }
-    ensures never { (fault : Fault) → ¬ (IsReleased driver.now releasing.now.value (Released.Failed fault)) }
+    ensures answer { IsReleasingOf old.now.value releasing.now.value → IsQuiet old.now.value driver.now →
+        IsCareful driver.now →
+        IsSlotHost (before driver.now) (area_of driver.now) (host_of driver.now) (view_of driver.now.port) →
+        (r : Result Reply Status) → answer_to driver.now (release_call releasing.now.value) ≡ Some r →
+        r ≡ Ok Reply.Swapped }
+    ensures never { IsReleasingOf old.now.value releasing.now.value → IsQuiet old.now.value driver.now →
+        IsCareful driver.now →
+        IsSlotHost (before driver.now) (area_of driver.now) (host_of driver.now) (view_of driver.now.port) →
+        (fault : Fault) → ¬ (IsReleased driver.now releasing.now.value (Released.Failed fault)) }
 {
     let _ = old;
     let _ = driver;
@@ -225,14 +266,11 @@ pub fn no_slot_is_held_twice(
     claim: &Claim,
     second: &Claim,
 )
-    requires held { IsHeldBy one.now claim.now × IsHeldBy other.now second.now }
-    requires careful { IsCareful one.now × IsCareful other.now }
-    requires host { IsSlotHost (before one.now) (area_of one.now) (host_of one.now) (view_of one.now.port) }
-    requires guest { IsSlotHost (before other.now) (area_of other.now) (host_of other.now) (view_of other.now.port) }
-    requires area { area_of one.now ≡ area_of other.now }
-    requires met { (view_of one.now.port).seen ≡ (view_of other.now.port).seen }
-    requires apart { host_of one.now ≢ host_of other.now }
-    ensures { slot_of claim.now ≢ slot_of second.now }
+    ensures { IsHeldBy one.now claim.now → IsHeldBy other.now second.now → IsCareful one.now → IsCareful other.now →
+        IsSlotHost (before one.now) (area_of one.now) (host_of one.now) (view_of one.now.port) →
+        IsSlotHost (before other.now) (area_of other.now) (host_of other.now) (view_of other.now.port) →
+        area_of one.now ≡ area_of other.now → (view_of one.now.port).seen ≡ (view_of other.now.port).seen →
+        host_of one.now ≢ host_of other.now → slot_of claim.now ≢ slot_of second.now }
 {
     let _ = one;
     let _ = other;

@@ -11,10 +11,11 @@ pub returns : goal.returns
 returns c =
     let d = c.args.driver.now in
     let k = c.args.claim.now in
-    let held = c.requires.held in
-    let view : IsSlotView (before d) (area_of d) (host_of d) (last_of d) (view_of d.port) = record { legal = d.port.legal; premises = c.requires.host; tidy = d.tidy; careful = c.requires.careful } in
-    let inside = inside_of (area_of d) (slot_of k) held.inside in
     record {
-      believed = view_believed (before d) (area_of d) (host_of d) (last_of d) (view_of d.port) (block_of (area_of d) (slot_of k)) (own_name d (serial_of k)) view inside held.believed;
-      holder = view_holder (before d) (area_of d) (host_of d) (last_of d) (view_of d.port) (block_of (area_of d) (slot_of k)) (own_name d (serial_of k)) view inside held.believed;
+      believed = λ held careful host.
+          let view : IsSlotView (before d) (area_of d) (host_of d) (last_of d) (view_of d.port) = record { legal = d.port.legal; premises = host; tidy = d.tidy; careful = careful } in
+          view_believed (before d) (area_of d) (host_of d) (last_of d) (view_of d.port) (block_of (area_of d) (slot_of k)) (own_name d (serial_of k)) view (inside_of (area_of d) (slot_of k) held.inside) held.believed;
+      holder = λ held careful host.
+          let view : IsSlotView (before d) (area_of d) (host_of d) (last_of d) (view_of d.port) = record { legal = d.port.legal; premises = host; tidy = d.tidy; careful = careful } in
+          view_holder (before d) (area_of d) (host_of d) (last_of d) (view_of d.port) (block_of (area_of d) (slot_of k)) (own_name d (serial_of k)) view (inside_of (area_of d) (slot_of k) held.inside) held.believed;
     }

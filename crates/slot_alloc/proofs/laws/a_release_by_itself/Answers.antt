@@ -5,8 +5,7 @@ pub returns : goal.returns
 returns g c =
     let d = c.args.old.now.value in
     let e = c.args.new.now in
-    let r = c.requires in
     record {
-      careful = λ lba serial result s name inside believed careful. careful_start g.P.Port d e lba serial result r.same s name inside believed careful;
-      goes_on = λ lba serial result s name. goes_on_start g.P.Port d e lba serial result r.same r.later s name;
+      careful = λ same lba serial result s name inside believed careful. careful_start g.P.Port d e lba serial result same s name inside believed careful;
+      goes_on = λ same later lba serial result s name. goes_on_start g.P.Port d e lba serial result same later s name;
     }

@@ -8,9 +8,12 @@ use Rattle.driver_cas.specs.Drivers.{answer_to, area_of, before, host_of, made, 
 use Rattle.driver_cas.specs.Ports.{view_of}
 use Rattle.slot_calls.proofs.Releasing.{release_answer}
 use Rattle.slot_alloc.specs.Areas.{block_of}
-use Rattle.slot_alloc.specs.Careful.{own_name}
+use Rattle.slot_alloc.specs.Careful.{IsCareful, own_name}
 use Rattle.slot_alloc.proofs.Asking.{inside_of}
 use Rattle.slot_alloc.proofs.GivingBack.{inside_there, never_failed, release_there}
+use Rattle.slot_alloc.specs.Claims.{IsReleasingOf}
+use Rattle.slot_alloc.specs.Progresses.{IsQuiet}
+use Rattle.slot_calls.specs.Hosts.{IsSlotHost}
 use Rattle.slot_alloc.proofs.laws.a_release_never_fails.Goals as goal
 
 pub returns : goal.returns
@@ -18,10 +21,8 @@ returns c =
     let old = c.args.old.now.value in
     let d = c.args.driver.now in
     let k = c.args.releasing.now.value in
-    let of = c.requires.of in
-    let quiet = c.requires.quiet in
-    let only : (r : Result Reply Status) → answer_to d k.call ≡ Some r → r ≡ Ok Reply.Swapped = λ r answer.
+    let only : IsReleasingOf old k → IsQuiet old d → IsCareful d → IsSlotHost (before d) (area_of d) (host_of d) (view_of d.port) → (r : Result Reply Status) → answer_to d k.call ≡ Some r → r ≡ Ok Reply.Swapped = λ of quiet careful host r answer.
     release_answer (before d) (area_of d) (host_of d) (last_of d) (view_of d.port) k.call.queue k.call.first k.call.second (number_of d k.call) (block_of (area_of d) k.slot) (own_name d k.serial) r
-    (record { legal = d.port.legal; premises = c.requires.host; tidy = d.tidy; careful = c.requires.careful }) (release_there _ old d k of quiet) (inside_of (area_of d) k.slot (inside_there _ old d k of quiet))
+    (record { legal = d.port.legal; premises = host; tidy = d.tidy; careful = careful }) (release_there _ old d k of quiet) (inside_of (area_of d) k.slot (inside_there _ old d k of quiet))
     (subst (λ (o : Op). outcome (made d) k.call.queue o k.call.first k.call.second ≡ Some r) of.does answer) in
-    record { answer = only; never = λ fault h. never_failed _ d k fault only h }
+    record { answer = only; never = λ of quiet careful host fault h. never_failed _ d k fault (only of quiet careful host) h }

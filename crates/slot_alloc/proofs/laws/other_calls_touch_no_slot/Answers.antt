@@ -8,12 +8,11 @@ pub returns : goal.returns
 returns g c =
     let d = c.args.old.now.value in
     let e = c.args.new.now in
-    let r = c.requires in
     record {
-      start = λ acwu slba bytes o contents result s.
-          start_kept g.P.Port d e (request_of acwu (area_of d) o slba bytes) contents result r.same r.later (request_sound acwu (area_of d) o slba bytes) s;
-      pair = λ acwu slba bytes others contents result s.
-          start_kept g.P.Port d e (pair_request_of acwu (area_of d) slba bytes others) contents result r.same r.later (pair_sound acwu (area_of d) slba bytes others) s;
-      poll = λ one.
-          (careful_polled g.P.Port d e (record { same = r.same; later = r.later; one = one }), goes_on_polled g.P.Port d e (record { same = r.same; later = r.later; one = one }));
+      start = λ same later acwu slba bytes o contents result s.
+          start_kept g.P.Port d e (request_of acwu (area_of d) o slba bytes) contents result same later (request_sound acwu (area_of d) o slba bytes) s;
+      pair = λ same later acwu slba bytes others contents result s.
+          start_kept g.P.Port d e (pair_request_of acwu (area_of d) slba bytes others) contents result same later (pair_sound acwu (area_of d) slba bytes others) s;
+      poll = λ same later one.
+          (careful_polled g.P.Port d e (record { same = same; later = later; one = one }), goes_on_polled g.P.Port d e (record { same = same; later = later; one = one }));
     }

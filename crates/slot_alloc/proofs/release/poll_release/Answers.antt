@@ -48,6 +48,7 @@ returns-in-Pending-clause-is g c =
     let same = same_releasing g.P.Port k y.call y.ensures.back in (
       same,
       subst (λ (j : Releasing _). IsReleasingOf e j) (sym same) (releasing_polled g.P.Port d e k c.requires.of (record { same = x.same; later = x.later; one = x.one }) (subst (λ (j : Call _). IsCallOf e j) y.ensures.back y.ensures.stays)),
+      sym y.ensures.answer,
     )
 
 pub returns-in-Later-clause-is : goal.returns-in-Later-clause-is
@@ -61,6 +62,7 @@ returns-in-Later-clause-is g c =
       same,
       subst (λ (j : Releasing _). IsReleasingOf e j) (sym same) (releasing_polled g.P.Port d e k c.requires.of (record { same = x.same; later = x.later; one = x.one }) (subst (λ (j : Call _). IsCallOf e j) y.ensures.back.0 y.ensures.stays)),
       y.ensures.back.1,
+      sym y.ensures.answer,
     )
 
 pub returns-else-is_swapped-clause-is : goal.returns-else-is_swapped-clause-is
