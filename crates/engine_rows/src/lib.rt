@@ -4,6 +4,7 @@
 //! - `threads`: four threads write through one lock, and the history has what each was told.
 //! - `capacity`, `notices`: queues hold as many works and notices as they have places.
 //! - `carries`: works through one queue, from four threads to four.
+//! - `ends`: an engine is closed with all its passes.
 //! - `travels`: a work ends on another thread than its fetcher's.
 #![tactic(auto)]
 
@@ -21,6 +22,8 @@ mod counts;
 mod crew;
 #[cfg(test)]
 mod crowd;
+#[cfg(test)]
+mod ends;
 #[cfg(test)]
 mod halls;
 #[cfg(test)]

@@ -1,7 +1,9 @@
 //! The steps of a worked run by passes of one lock: by one pass, and by two and three in turn that meet.
 
-ghost use Rattle.std.specs.Prelude.{◌<◌, All, IfOk, IfSome};
-ghost use Rattle.meet_lock.specs.Passes.{IsOf, IsSame};
+ghost use Rattle.std.specs.Prelude.{◌≡◌, ◌<◌, ◌+◌, All, IfOk, IfSome, Some, ℕ, slice_get, vec_len};
+ghost use Rattle.meet_lock.specs.Passes.{IsOf, IsSame, number, passes_of};
+ghost use Rattle.work_queue.specs.Engines.{EnginePass};
+ghost use Rattle.engine_rows.specs.Threes.{AreThree};
 
 use crate::halls::lines_in;
 use history::Config;
@@ -14,7 +16,7 @@ use step_core::{Core, Step};
 /// The number of a lock that another caller had.
 pub(crate) const BUSY: u8 = 12;
 
-/// Passes of one lock.
+/// The passes of one lock, the last that was given out first.
 type Three = (Pass<Core>, Pass<Core>, Pass<Core>);
 
 /// A new controller behind a lock, with so many passes.
@@ -24,7 +26,10 @@ pub(crate) fn shared_of(
     passes: usize,
 ) -> Result<(Shared<Core>, Vec<Pass<Core>>), NoMemory>
     requires { 0 < passes }
-    ensures { IfOk result (λ s. All (IsOf s.0) s.1.items) }
+    ensures own { IfOk result (λ s. All (IsOf s.0) s.1.items) }
+    ensures count { IfOk result (λ s. vec_len s.1 ≡ passes) }
+    ensures each { IfOk result (λ s. (k : ℕ) (p : EnginePass) → slice_get s.1.items k ≡ Some p
+        → IsOf s.0 p × (number p ≡ k + 1) × (passes_of p ≡ passes)) }
 {
     match Shared::new(alloc, Core::new(alloc, config)?, passes) {
         Ok(made) => Ok(made),
@@ -42,10 +47,23 @@ pub(crate) fn unlocked(shared: Shared<Core>, pass: Pass<Core>) -> Result<Core, F
     }
 }
 
-/// The last three of these.
+/// The controller, closed with all passes, once nobody has the lock.
+fn unlocked_by_all(alloc: Global, shared: Shared<Core>, passes: Three) -> Result<Core, Fail>
+    requires { AreThree shared passes }
+{
+    let (last, middle, first) = passes;
+    match shared.close_all(vec![in alloc; first, middle, last]?) {
+        Some(core) => Ok(core),
+        None => Err(Fail::from("the lock isn't free")),
+    }
+}
+
+/// These three.
 fn three_of(_shared: &Shared<Core>, passes: &mut Vec<Pass<Core>>) -> Option<Three>
-    requires { All (IsOf _shared.now) passes.old.items }
-    ensures { IfSome result (λ t. IsOf _shared.now t.0 × IsOf _shared.now t.1 × IsOf _shared.now t.2) }
+    requires count { vec_len passes.old ≡ 3 }
+    requires each { (k : ℕ) (p : EnginePass) → slice_get passes.old.items k ≡ Some p
+        → IsOf _shared.now p × (number p ≡ k + 1) × (passes_of p ≡ 3) }
+    ensures { IfSome result (AreThree _shared.now) }
 {
     let one = passes.pop()?;
     let two = passes.pop()?;
@@ -55,7 +73,7 @@ fn three_of(_shared: &Shared<Core>, passes: &mut Vec<Pass<Core>>) -> Option<Thre
 
 /// A new controller behind a lock, with three passes.
 fn locked(alloc: Global, config: Config) -> Result<(Shared<Core>, Three), Fail>
-    ensures { IfOk result (λ s. IsOf s.0 s.1.0 × IsOf s.0 s.1.1 × IsOf s.0 s.1.2) }
+    ensures { IfOk result (λ s. AreThree s.0 s.1) }
 {
     let (shared, mut passes) = shared_of(alloc, config, 3)?;
     match three_of(&shared, &mut passes) {
@@ -91,8 +109,8 @@ fn take_turn(shared: &Shared<Core>, pass: &mut Pass<Core>, other: &mut Pass<Core
 /// A step by the pass whose turn it is. One alone makes all; of two the second makes the second step before it meets
 /// the first; of three each meets the next after its step.
 fn step_by(shared: &Shared<Core>, passes: &mut Three, count: u8, turn: u8, step: Step) -> u8
-    requires { IsOf shared.now passes.old.0 × IsOf shared.now passes.old.1 × IsOf shared.now passes.old.2 }
-    ensures { IsOf shared.now passes.new.0 × IsOf shared.now passes.new.1 × IsOf shared.now passes.new.2 }
+    requires { AreThree shared.now passes.old }
+    ensures { AreThree shared.now passes.new }
 {
     let (one, two, three) = passes;
     match (count, turn) {
@@ -115,8 +133,8 @@ fn run_by(
     steps: Vec<Step>,
     count: u8,
 ) -> Result<Vec<Option<u8>>, NoMemory>
-    requires { IsOf shared.now passes.old.0 × IsOf shared.now passes.old.1 × IsOf shared.now passes.old.2 }
-    ensures { IsOf shared.now passes.new.0 × IsOf shared.now passes.new.1 × IsOf shared.now passes.new.2 }
+    requires { AreThree shared.now passes.old }
+    ensures { AreThree shared.now passes.new }
 {
     let mut answers = Vec::new(alloc);
     let mut turn = 0u8;
@@ -125,6 +143,16 @@ fn run_by(
         answers.push(Some(step_by(shared, passes, count, turn, step)))?;
     }
     Ok(answers)
+}
+
+/// The controller, closed with all passes where two made the steps, and else with one.
+fn ended(alloc: Global, shared: Shared<Core>, passes: Three, count: u8) -> Result<Core, Fail>
+    requires { AreThree shared passes }
+{
+    if count == 2 {
+        return unlocked_by_all(alloc, shared, passes);
+    }
+    unlocked(shared, passes.0)
 }
 
 /// How each of the steps by so many passes was answered, and the lines of the history.
@@ -136,6 +164,6 @@ pub(crate) fn made_by_passes(
 ) -> Result<(Vec<Option<u8>>, Vec<u8>), Fail> {
     let (shared, mut passes) = locked(alloc, config)?;
     let answers = run_by(alloc, &shared, &mut passes, steps, count);
-    let core = unlocked(shared, passes.0)?;
+    let core = ended(alloc, shared, passes, count)?;
     Ok((answers?, lines_in(alloc, core)?))
 }

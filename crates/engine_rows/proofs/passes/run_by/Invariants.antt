@@ -1,5 +1,5 @@
-use Rattle.meet_lock.specs.Passes.{IsOf}
+use Rattle.engine_rows.specs.Threes.{AreThree}
 use Rattle.engine_rows.proofs.passes.run_by.Given as goal
 
 abbrev pub invariant-loop-step : goal.invariant-loop-step
-invariant-loop-step l = IsOf l.shared l.passes.0 × IsOf l.shared l.passes.1 × IsOf l.shared l.passes.2
+invariant-loop-step l = AreThree l.shared l.passes
