@@ -149,7 +149,7 @@ module _ {M : Type 0} (config : M → ConfigNumbers) (history : M → Past) (leg
         subst (λ ws. Rule record { words = ws; homes = s.homes; views = set s.views id w }) (sym (set-get_or s.words 0 0))
             (turns_view s r id v w at (record { number = refl; holds = refl; held = λ _. refl; top = λ _. refl }) (record { of = f.of; sees = λ _. sees; right = λ _. (here.0, right); mine = λ _. own ∙ sym mine; heard = λ e. cc })
             r.owner (r.owners id v at) (λ j u _. r.owners j u)),
-        (refl, mine, subst (λ n. GoesOn n v.seen l) count later, subst (λ n. GoesOn n v.told l) count told_too, subst (λ x. legal x (entries l)) (sym here.0) right),
+        (refl, mine, subst (λ n. GoesOn n v.seen l) count later, subst (λ n. GoesOn n v.told l) count told_too, subst (λ x. legal x (entries l)) (sym here.0) right, told.2 ∙ sym here.0),
       )
 
   -- the seat that holds the lock looks

@@ -95,6 +95,7 @@ module _ {M : Type 0} where
       × GoesOn m.0.passes m.0.seen n.0.seen
       × GoesOn m.0.passes m.0.told n.0.seen
       × legal n.0.config (entries n.0.seen)
+      × (m.0.told_config ≡ m.0.config)
 
   -- a load of the seat that holds the lock: what it was told doesn't go beyond what it holds
   abbrev pub peeked : Step (Option M) → Me (Option M) View → ℕ → Me (Option M) View → Type 0

@@ -56,6 +56,7 @@ impl<M: Machine, K: StepRight> Shared<M, K> {
         ensures told { GoesOn seat.old.me.0.passes seat.old.me.0.seen seat.new.me.0.seen
             × GoesOn seat.old.me.0.passes seat.old.me.0.told seat.new.me.0.seen
             × M.legal seat.new.me.0.config (entries seat.new.me.0.seen) }
+        ensures config { seat.old.me.0.told_config ≡ seat.old.me.0.config }
     {
         self.table.shared.load::<Look<M>>(seat, 0);
     }
@@ -100,6 +101,7 @@ impl<M: Machine, K: StepRight> Shared<M, K> {
         ensures same { IsSame pass.old pass.new × (mine pass.new ≡ mine pass.old) }
         ensures knows { Knows M.legal pass.old pass.new }
         ensures learned { IsBeginning (told note.old) (seen pass.new) }
+        ensures config { told_config note.old ≡ config_of pass.old }
         ensures longer { seen pass.new ≡ longer (seen pass.old) (told note.old) }
         ensures note { IsNoteOf self.now note.new × (told note.new ≡ told note.old)
             × (told_config note.new ≡ told_config note.old) }
