@@ -8,7 +8,7 @@ use Rattle.atomic_table.proofs.Lists.{at_longer, set_again, set_else}
 use Rattle.crossbeam_queue.specs.Fifo.{Forks, Learns, Merges}
 use Rattle.meet_lock.proofs.Views.{at_snoc_where, only_view, views_come, views_stay}
 use Rattle.work_queue.specs.Nowhere.{nowhere}
-use Rattle.work_queue.specs.QueueSteps.{Hears, IsNth}
+use Rattle.work_queue.specs.QueueSteps.{HasOwn, Hears, IsNth}
 use Rattle.work_queue.specs.Queues.{Balanced, IsGiven, IsSeat, bound, by_popper, gives_left, gives_right, hearing, lock_of, numbered, of_pusher, spent, telling, unbound}
 use Rattle.work_queue.specs.declared.message.Popped.{Popped}
 use Rattle.work_queue.specs.declared.message.QueueView.{QueueView}
@@ -16,9 +16,12 @@ use Rattle.work_queue.proofs.Balancing.{bound_too, unlike}
 use Rattle.work_queue.proofs.Pushes.{at_slice, is_nth, popped_among, pushed_among, unpushed, untaken, within}
 
 -- what a pass heard is what the other popped
-pub agrees : {T : Type 0} (v p u : QueueView T) → u ≡ hearing p (telling v) → Hears u → (k : ℕ) (e : Popped T) → slice_get v.got k ≡ Some e
-    → ((0 < e.pusher) × (e.pusher ≤ u.passes)) × (e.pusher ≡ u.number → IsNth u.put e.number e.item)
-agrees {T} v p u is heard k e a = heard k e (subst (λ (x : QueueView T). get_elem? x.told k ≡ some e) (sym is) (at_slice v.got k e a))
+pub agrees : {T : Type 0} (v p u w : QueueView T) → u ≡ hearing p (telling v) → Hears u → w ≡ v → HasOwn v → (k : ℕ) (e : Popped T) → slice_get w.got k ≡ Some e
+    → ((0 < e.pusher) × (e.pusher ≤ u.passes)) × (e.pusher ≡ u.number → IsNth u.put e.number e.item) × (e.pusher ≡ w.number → IsNth w.put e.number e.item)
+agrees {T} v p u w is heard same own k e a =
+    let there : get_elem? v.got k ≡ some e = subst (λ (x : QueueView T). get_elem? x.got k ≡ some e) same (at_slice w.got k e a) in
+    let h = heard k e (subst (λ (x : QueueView T). get_elem? x.told k ≡ some e) (sym is) there) in
+    (h.0, h.1, λ mine. subst (λ (x : QueueView T). IsNth x.put e.number e.item) (sym same) (own k e there (mine ∙ ap (λ (x : QueueView T). x.number) same)))
 
 module _ {T : Type 0} (lock : T → TableId) (ready : T → Type 0) where
   abbrev Rule : List T → List (QueueView T) → Type 0
@@ -226,3 +229,12 @@ module _ {T : Type 0} (lock : T → TableId) (ready : T → Type 0) where
             let p = pushed_among v.number (old ++ h.queued) t.0 e all is in
             subst (λ l. IsNth l e.number e.item) (sym s.put) (is_nth (h.put_of v.number) p.0 e.number e.item (subst (λ l. get_elem? l p.0 ≡ some (e.number, e.item)) (h.ordered v.number) p.1)),
       )
+
+  -- what a pass popped of its own
+  pub owns_popped : (pass : ℕ) (v : QueueView T) → 0 < v.number → Learns Rule pass v (λ items. HasOwn v)
+  owns_popped pass v named items views h at k e a is =
+      let s = h.each pass v at named in
+      let old : List (Popped T) = map (λ (p : ℕ × Popped T). p.1) h.popped in
+      let t = popped_among v.number h.popped k e (subst (λ l. get_elem? l k ≡ some e) s.got a) in
+      let p = pushed_among v.number (old ++ h.queued) t.0 e (at_longer old h.queued t.0 e t.1) is in
+      subst (λ l. IsNth l e.number e.item) (sym s.put) (is_nth (h.put_of v.number) p.0 e.number e.item (subst (λ l. get_elem? l p.0 ≡ some (e.number, e.item)) (h.ordered v.number) p.1))
