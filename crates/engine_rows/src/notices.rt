@@ -121,7 +121,8 @@ fn room_for<R: Wait>(
     most: u16,
 ) -> u16
     requires own { IsOf hall.now hand.old }
-    requires posted { IsAnswerPosted (config_of hand.old.pass) (entries (seen hand.old.pass)) work.now.queue answer.now }
+    requires posted { IsAnswerPosted (config_of hand.old.pass) (entries (seen hand.old.pass)) work.now.queue
+        answer.now }
 {
     for told in 0..most {
         let Ok(Some(notice)) = noted(hall, hand, work, answer) else {

@@ -1,5 +1,5 @@
 -- What a queue with one pass answers.
-use Rattle.std.proofs.Common.{Err, List, MatchOption, MatchResult, None, Ok, Option, Result, Some, [], ap, arith, length, length-append, ℕ, ◌+◌, ◌++◌, ◌<◌, ◌∙◌, ◌≡◌, ◌∷◌}
+use Rattle.std.proofs.Common.{Err, List, MatchOption, MatchResult, None, Ok, Option, Result, Some, [], ap, arith, length, length-append, ◌++◌, ◌<◌, ◌∙◌, ◌≡◌, ◌∷◌}
 use Rattle.std.proofs.lemmas.List.{append-nil, length-map}
 use Rattle.atomic_table.specs.Seated.{TableId}
 use Rattle.crossbeam_queue.specs.Fifo.{Held}

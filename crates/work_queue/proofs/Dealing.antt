@@ -1,15 +1,15 @@
 -- How the passes of a queue come, and what one is told of another.
-use Rattle.std.proofs.Common.{List, Some, [], ap, arith, cond, eq-eqb, eqb, false, inl, inr, le_refl, length, length-append, length-set, map, ne_eqb, refl, set, subst, sym, true, ⊎_elim, ℕ, ◌+◌, ◌++◌, ◌<◌, ◌∙◌, ◌≡◌, ◌≢◌, ◌≤◌, ◌⊎◌, ◌∷◌}
-use Rattle.std.specs.List.{filter, slice_get}
-use mathlib.Core.Option.{some, some-injective, some-ne-none}
+use Rattle.std.proofs.Common.{List, Some, [], ap, arith, cond, eq-eqb, eqb, false, inl, inr, le_refl, length, length-set, map, ne_eqb, refl, set, subst, sym, true, ⊎_elim, ℕ, ◌+◌, ◌++◌, ◌<◌, ◌∙◌, ◌≡◌, ◌≢◌, ◌≤◌, ◌⊎◌, ◌∷◌}
+use Rattle.std.specs.List.{slice_get}
+use mathlib.Core.Option.{some, some-ne-none}
 use lib.ListN.{get_elem?}
 use Rattle.atomic_table.specs.Seated.{TableId}
 use Rattle.atomic_table.proofs.Lists.{at_longer, set_again, set_else}
 use Rattle.crossbeam_queue.specs.Fifo.{Forks, Learns, Merges}
-use Rattle.meet_lock.proofs.Views.{at_snoc_where, only_view, views_come, views_stay}
+use Rattle.meet_lock.proofs.Views.{only_view, views_come, views_stay}
 use Rattle.work_queue.specs.Nowhere.{nowhere}
 use Rattle.work_queue.specs.QueueSteps.{HasOwn, Hears, IsNth}
-use Rattle.work_queue.specs.Queues.{Balanced, IsGiven, IsSeat, bound, by_popper, gives_left, gives_right, hearing, lock_of, numbered, of_pusher, spent, telling, unbound}
+use Rattle.work_queue.specs.Queues.{Balanced, IsSeat, bound, by_popper, gives_left, gives_right, hearing, lock_of, numbered, of_pusher, spent, telling, unbound}
 use Rattle.work_queue.specs.declared.message.Popped.{Popped}
 use Rattle.work_queue.specs.declared.message.QueueView.{QueueView}
 use Rattle.work_queue.proofs.Balancing.{bound_too, unlike}

@@ -19,8 +19,8 @@ pub learn_as-requires-clause-rule : goal.learn_as-requires-clause-rule
 learn_as-requires-clause-rule g c =
     compares g.T.Message.lock g.T.Message.ready c.absorb.new.pass.id (view c.absorb.new.pass) (subst (λ (v : QueueView g.row.T.Denot). 0 < v.number) (sym c.absorb.ensures.rule) c.args.pusher.now.numbered)
 
-pub learn_as-2-requires-clause-rule : goal.learn_as-2-requires-clause-rule
-learn_as-2-requires-clause-rule g c =
+pub learn_as-requires-2-clause-rule : goal.learn_as-requires-2-clause-rule
+learn_as-requires-2-clause-rule g c =
     owns_popped g.T.Message.lock g.T.Message.ready c.another-told.new.pass.id (view c.another-told.new.pass) (subst (λ (v : QueueView g.row.T.Denot). 0 < v.number) (sym c.another-told.ensures.rule.0) c.args.popper.now.numbered)
 
 pub returns-clause-matched : goal.returns-clause-matched
