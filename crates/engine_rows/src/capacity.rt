@@ -56,6 +56,14 @@ fn empties<R: Abort + Wait>(rt: &R, hall: &Hall, hand: &mut Hand, tickets: Range
     assert_eq!(rt; popped(rt, hall, hand), 0);
 }
 
+/// What the worker popped, beside what the fetcher pushed: the queue goes on as before.
+fn compares(hall: &Hall, crew: &mut Crew)
+    requires { IsCrewOf hall.now crew.old }
+    ensures { IsCrewOf hall.now crew.new }
+{
+    hall.works.compare(&mut crew.worker.works, &mut crew.fetcher.works);
+}
+
 /// That a queue of so many places holds so many Works: one more comes back, and an empty queue gives none.
 fn holds<R: Abort + Wait>(rt: &R, alloc: Global, hall: &Hall, crew: &mut Crew, capacity: u16)
     requires { IsCrewOf hall.now crew.old }
@@ -67,6 +75,7 @@ fn holds<R: Abort + Wait>(rt: &R, alloc: Global, hall: &Hall, crew: &mut Crew, c
     let next = u64::from(capacity).wrapping_add(1);
     assert_eq!(rt; back.ticket(), next);
     empties(rt, hall, &mut crew.worker, 1..next);
+    compares(hall, crew);
     assert!(rt; pushes(rt, hall, &mut crew.fetcher, back).is_ok());
     empties(rt, hall, &mut crew.worker, next..next.wrapping_add(1));
 }

@@ -1,5 +1,7 @@
 //! An engine is closed with all its passes.
 
+ghost use Rattle.std.specs.Prelude.{◌<◌};
+
 use crate::halls::ONE_QUEUE;
 use lock_rows::config_of;
 use std::alloc::Global;
@@ -7,10 +9,12 @@ use std::test::Fail;
 use step_core::Core;
 use work_queue::Engine;
 
-/// The controller of a new engine, closed with all its passes.
-fn closed_by_all(alloc: Global) -> Result<Core, Fail> {
+/// The controller of a new engine of so many passes, closed with all of them.
+fn closed_by_all(alloc: Global, count: usize) -> Result<Core, Fail>
+    requires { 0 < count }
+{
     let config = config_of(alloc, ONE_QUEUE).ok_or("no configuration")?;
-    let (engine, passes) = Engine::of_config(alloc, config, 3)?;
+    let (engine, passes) = Engine::of_config(alloc, config, count)?;
     match engine.close_all(passes) {
         Some(core) => Ok(core),
         None => Err(Fail::from("the lock isn't free")),
@@ -19,7 +23,14 @@ fn closed_by_all(alloc: Global) -> Result<Core, Fail> {
 
 #[test]
 fn an_engine_is_closed_with_all_its_passes(rt: HostRuntime) -> Result<(), Fail> {
-    let core = closed_by_all(rt.alloc())?;
+    let core = closed_by_all(rt.alloc(), 3)?;
+    assert_eq!(rt; core.history().len(), 0);
+    Ok(())
+}
+
+#[test]
+fn three_hundred_passes_close_an_engine(rt: HostRuntime) -> Result<(), Fail> {
+    let core = closed_by_all(rt.alloc(), 300)?;
     assert_eq!(rt; core.history().len(), 0);
     Ok(())
 }

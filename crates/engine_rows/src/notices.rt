@@ -1,18 +1,22 @@
-//! A queue of one notice, and a batch of no entry.
+//! Queues of one notice and of 1,024, and a batch of no entry.
 
-ghost use Rattle.std.specs.Prelude.{IfErr, IfSome};
+ghost use Rattle.std.specs.Prelude.{◌≡◌, IfErr, IfSome};
+ghost use Rattle.meet_lock.specs.Passes.{config_of, seen};
+ghost use Rattle.nvme_model.specs.Passes.{entries};
 ghost use Rattle.work_queue.specs.Notices.{IsNoticeOf};
+ghost use Rattle.work_queue.specs.Posted.{IsAnswerPosted};
 ghost use Rattle.lock_rows.specs.Hands.{IsOf};
 
 use crate::commands::{begun, flush};
 use crate::halls::{ONE_QUEUE, crewed};
-use lock_rows::{Hall, Hand, attempt, config_of, noted, opens};
+use lock_rows::{Hall, Hand, attempt, config_of, hall_of, noted, opens, take_hand};
 use nvme_model::submission::Submissions;
 use std::alloc::Global;
 use std::process::Abort;
 use std::sync::Wait;
 use std::test::Fail;
-use work_queue::{Notice, Open, Opened};
+use step_core::Answer;
+use work_queue::{Notice, Open, Opened, Work};
 
 /// The notice of a Flush with this identifier, which is published, fetched and posted.
 fn posts<R: Wait>(rt: &R, alloc: Global, hall: &Hall, hand: &mut Hand, cid: u16) -> Option<Notice>
@@ -31,6 +35,7 @@ fn tells<R: Wait>(rt: &R, hall: &Hall, hand: &mut Hand, notice: Notice) -> Resul
     requires { IsOf hall.now hand.old × IsNoticeOf hall.now.engine notice }
     ensures same { IsOf hall.now hand.new }
     ensures back { IfErr result (IsNoticeOf hall.now.engine) }
+    ensures pass { hand.new.pass ≡ hand.old.pass }
 {
     hall.notices.push(rt, &mut hand.notices, notice)
 }
@@ -104,6 +109,59 @@ fn refuses_none<R: Abort + Wait>(rt: &R, alloc: Global, hall: &Hall, hand: &mut 
         panic!(rt; "a refusal")
     };
     assert_eq!(rt; why, 10);
+}
+
+/// How many notices of one completion there is room for, up to this number.
+fn room_for<R: Wait>(
+    rt: &R,
+    hall: &Hall,
+    hand: &mut Hand,
+    work: &Work,
+    answer: &Answer,
+    most: u16,
+) -> u16
+    requires own { IsOf hall.now hand.old }
+    requires posted { IsAnswerPosted (config_of hand.old.pass) (entries (seen hand.old.pass)) work.now.queue
+        answer.now }
+{
+    for told in 0..most {
+        let Ok(Some(notice)) = noted(hall, hand, work, answer) else {
+            return 0;
+        };
+        if tells(rt, hall, hand, notice).is_err() {
+            return told;
+        }
+    }
+    most
+}
+
+/// The same of a Flush that is published, fetched and posted.
+fn room_of_a_flush<R: Wait>(
+    rt: &R,
+    alloc: Global,
+    hall: &Hall,
+    hand: &mut Hand,
+    most: u16,
+) -> Option<u16>
+    requires { IsOf hall.now hand.old }
+{
+    let mut work = begun(rt, alloc, hall, hand, flush(1, 1)).ok()?;
+    let task = work.next_task()?;
+    let answer = attempt(hall, hand, &mut work, task).ok()?;
+    Some(room_for(rt, hall, hand, &work, &answer, most))
+}
+
+#[test]
+fn a_thousand_places_and_three_hundred_passes_are_given(rt: HostRuntime) -> Result<(), Fail> {
+    let config = config_of(rt.alloc(), ONE_QUEUE).ok_or("no configuration")?;
+    let (hall, mut hands) = hall_of(rt.alloc(), config, 1_024, 300)?;
+    let mut hand = take_hand(&hall, &mut hands).ok_or("no hand")?;
+    assert_eq!(rt; hands.passes.len(), 299);
+    assert_eq!(rt;
+        room_of_a_flush(&rt, rt.alloc(), &hall, &mut hand, 2_000),
+        Some(1_024)
+    );
+    Ok(())
 }
 
 #[test]

@@ -132,6 +132,8 @@ pub fn noted(
         answer.now }
     ensures same { IsOf hall.now hand.new }
     ensures notice { IfOk result (λ n. IfSome n (IsNoticeOf hall.now.engine)) }
+    ensures posted { IsAnswerPosted (config_of hand.new.pass) (entries (seen hand.new.pass)) _work.now.queue
+        answer.now }
 {
     let Answer::Posted(cqe) = answer else {
         return Ok(None);

@@ -16,12 +16,12 @@ use Rattle.meet_lock.proofs.Places.{entries-unmade, places-unmade}
 use Rattle.meet_lock.proofs.Taking.{only_one}
 use Rattle.meet_lock.proofs.Views.{only_view, read_first}
 
-module _ {M : Type 0} (config : M → ConfigNumbers) (history : M → Past) (legal : ConfigNumbers → Past → Type 0) (owned : Bool) (c : ConfigNumbers) (passes : ℕ) where
+module _ {M : Type 0} (config : M → ConfigNumbers) (history : M → Past) (legal : ConfigNumbers → Past → Type 0) (owned : Bool) (c : ConfigNumbers) (passes : ℕ) (before : Past) where
   abbrev Rule : State (Option M) View → Type 0
-  Rule = IsOneHistory config history legal owned c passes
+  Rule = IsOneHistory config history legal owned c passes before
 
-  pub opens : (m : M) → config m ≡ c → 0 < passes → legal c (history m) → Rule (opening (0 ∷ []) (Some m ∷ []) (start c passes (history m)))
-  opens m is positive right =
+  pub opens : (m : M) → config m ≡ c → history m ≡ before → 0 < passes → legal c (history m) → Rule (opening (0 ∷ []) (Some m ∷ []) (start c passes (history m)))
+  opens m is shows positive right =
       let log : SharedPast = unmade (history m) in
       let same : entries log ≡ history m = entries-unmade (history m) in
       let right' : legal c (entries log) = subst (legal c) (sym same) right in
@@ -37,7 +37,7 @@ module _ {M : Type 0} (config : M → ConfigNumbers) (history : M → Past) (leg
         right = right';
         free = λ _. (m, refl, (is, sym same));
         taken = λ ne. absurd (ne refl);
-        each = only (λ j u. Fits legal c passes log u) (record { of = λ _. refl; sees = λ _. begins-same passes log; right = λ _. (refl, right'); mine = λ _. refl; heard = λ e. cc });
+        each = only (λ j u. Fits legal c passes before log u) (record { of = λ _. refl; sees = λ _. begins-same passes log; right = λ _. (refl, right'); mine = λ _. refl; heard = λ e. cc; opens = λ _. subst (λ x. GoesOn passes (unmade x) log) shows (begins-same passes log) });
         holding = only (λ j u. u.holds ≡ true → (j ≡ 0) × (0 ≢ 0) × (u.held ≡ log) × (0 < u.number)) (λ e. cc);
         numbered = only (λ j u. 0 < u.number → (0 ≡ j) × ((u.number ≤ 0) ⊎ (u.number ≡ passes))) (λ _. (refl, inr refl));
         first = λ u a. only (λ j u. (u.top ≡ 0) × (0 < u.number)) (refl, positive) 0 u a;
@@ -88,4 +88,4 @@ module _ {M : Type 0} (config : M → ConfigNumbers) (history : M → Past) (leg
       let r : Rule s = final.1.0 in
       let is : get_or s.words 0 0 ≡ n = ap (λ l. get_or l 0 0) final.2 ∙ read_first ws n word in
       let f = r.each id v final.1.1 in
-      dite (ℕ_discrete n 0) (λ e. e) (λ ne. absurd (only_one config history legal owned c passes s r id v final.1.1 idle named (λ z. ne (sym is ∙ z)) (sym (f.of named) ∙ one)))
+      dite (ℕ_discrete n 0) (λ e. e) (λ ne. absurd (only_one config history legal owned c passes before s r id v final.1.1 idle named (λ z. ne (sym is ∙ z)) (sym (f.of named) ∙ one)))

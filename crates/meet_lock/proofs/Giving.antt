@@ -8,7 +8,7 @@ use Rattle.nvme_model.specs.History.{Past}
 use Rattle.nvme_model.specs.Passes.{SharedPast, entries, places}
 use Rattle.nvme_model.specs.declared.config.ConfigNumbers.{ConfigNumbers}
 use Rattle.nvme_model.specs.declared.entry.Entry.{Entry}
-use Rattle.meet_lock.specs.Lock.{Fits, GoesOn, IsAt, IsOneHistory, OwnsTicket, grown, noted, shown}
+use Rattle.meet_lock.specs.Lock.{Fits, GoesOn, IsAt, IsOneHistory, OwnsTicket, grown, noted, shown, unmade}
 use Rattle.meet_lock.specs.SeatSteps.{MayTell, left, wrote}
 use Rattle.ticket_entries.specs.Entries.{ticket_in}
 use Rattle.meet_lock.specs.declared.view.View.{View}
@@ -25,12 +25,12 @@ abbrev machine_of : {M : Type 0} → M → List (ℕ × Option M) → M
 machine_of d [] = d
 machine_of d (x ∷ xs) = value_or d x.1
 
-module _ {M : Type 0} (config : M → ConfigNumbers) (history : M → Past) (legal : ConfigNumbers → Past → Type 0) (owned : Bool) (c : ConfigNumbers) (passes : ℕ) where
+module _ {M : Type 0} (config : M → ConfigNumbers) (history : M → Past) (legal : ConfigNumbers → Past → Type 0) (owned : Bool) (c : ConfigNumbers) (passes : ℕ) (before : Past) where
   abbrev St : Type 0
   St = State (Option M) View
 
   abbrev Rule : St → Type 0
-  Rule = IsOneHistory config history legal owned c passes
+  Rule = IsOneHistory config history legal owned c passes before
 
   -- two seats have two numbers
   unlike : (s : St) (r : Rule s) (j id : ℕ) (u v : View) → j ≢ id → get_elem? s.views j ≡ some u → get_elem? s.views id ≡ some v → 0 < u.number → 0 < v.number → v.number ≢ u.number
@@ -67,13 +67,14 @@ module _ {M : Type 0} (config : M → ConfigNumbers) (history : M → Past) (leg
         right = right;
         free = λ _. (machine, set_here s.homes 0 (some (Some machine)) (omega arith), shows);
         taken = λ z. absurd (z now);
-        each = views_stay (λ j u. Fits legal c passes log u) s.views id w
+        each = views_stay (λ j u. Fits legal c passes before log u) s.views id w
             (record {
               of = λ _. is.count ∙ own.of h.3;
               sees = λ _. subst (λ l. GoesOn passes l log) (sym is.seen) (begins-same passes log);
               right = λ _. (is.configured ∙ (own.right (inl h.3)).0, subst (λ l. legal c (entries l)) (sym is.seen) right);
               mine = λ _. ap (places w.number) (sym is.seen);
               heard = λ e. let clash : true ≡ false = sym e ∙ is.deaf in cc;
+              opens = λ _. subst (λ l. GoesOn passes (unmade before) l) (sym is.seen) (begins-more passes (unmade before) v.seen log (own.opens (inl h.3)) (begins-more passes v.seen r.log log (own.sees (inl h.3)) more));
             })
             (λ j u ne a. let f = r.each j u a in record {
               of = f.of;
@@ -81,6 +82,7 @@ module _ {M : Type 0} (config : M → ConfigNumbers) (history : M → Past) (leg
               right = f.right;
               mine = λ named. others u.number (λ e. unlike s r j id u v ne a at named h.3 (sym e)) ∙ f.mine named;
               heard = λ e. let t = f.heard e in (begins-more passes u.told r.log log t.0 more, t.1, t.2);
+              opens = f.opens;
             });
         holding = views_stay (λ j u. u.holds ≡ true → (j ≡ id) × (get_or (set s.words 0 0) 0 0 ≢ 0) × (u.held ≡ log) × (0 < u.number)) s.views id w
             (λ e. let clash : true ≡ false = sym e ∙ is.idle in cc)

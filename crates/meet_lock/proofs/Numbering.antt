@@ -12,9 +12,9 @@ use Rattle.meet_lock.specs.declared.view.View.{View}
 use Rattle.meet_lock.proofs.Places.{places-none}
 use Rattle.meet_lock.proofs.Views.{at_snoc_where, some_seat, views_stay}
 
-module _ {M : Type 0} (config : M → ConfigNumbers) (history : M → Past) (legal : ConfigNumbers → Past → Type 0) (owned : Bool) (c : ConfigNumbers) (passes : ℕ) where
+module _ {M : Type 0} (config : M → ConfigNumbers) (history : M → Past) (legal : ConfigNumbers → Past → Type 0) (owned : Bool) (c : ConfigNumbers) (passes : ℕ) (before : Past) where
   abbrev Rule : State (Option M) View → Type 0
-  Rule = IsOneHistory config history legal owned c passes
+  Rule = IsOneHistory config history legal owned c passes before
 
   pub gives_number : (id : ℕ) (v : View) → id ≡ 0 → v.holds ≡ false → v.number ≡ v.passes → v.top + 1 < v.passes → Splits Rule id v (gives_left v) (gives_right v)
   gives_number id v zero_is idle own room s r at =
@@ -44,8 +44,8 @@ module _ {M : Type 0} (config : M → ConfigNumbers) (history : M → Past) (leg
         free = r.free;
         taken = λ busy. let t = r.taken busy in let ne : r.holder ≢ id = λ e. let same : t.0 ≡ v = some-injective t.0 v (sym t.1 ∙ (ap (get_elem? s.views) e ∙ at)) in let clash : true ≡ false = sym t.2 ∙ (ap (λ (x : View). x.holds) same ∙ idle) in cc in
             (t.0, at_longer views (w ∷ []) r.holder t.0 (set_else s.views id r.holder l ne ∙ t.1), t.2);
-        each = cases (λ j u. Fits legal c passes r.log u) (record { of = f.of; sees = f.sees; right = f.right; mine = f.mine; heard = f.heard }) (λ j u _. r.each j u)
-            (record { of = λ _. passes_is; sees = λ _. f.sees (inl some_number); right = λ _. f.right (inl some_number); heard = f.heard; mine = λ _. let g = f.sees (inl some_number) in new ∙ sym (places-none n g.0.0 v.seen (ap (places n) g.0.1 ∙ new)) });
+        each = cases (λ j u. Fits legal c passes before r.log u) (record { of = f.of; sees = f.sees; right = f.right; mine = f.mine; heard = f.heard; opens = f.opens }) (λ j u _. r.each j u)
+            (record { of = λ _. passes_is; sees = λ _. f.sees (inl some_number); right = λ _. f.right (inl some_number); heard = f.heard; mine = λ _. let g = f.sees (inl some_number) in new ∙ sym (places-none n g.0.0 v.seen (ap (places n) g.0.1 ∙ new)); opens = λ _. f.opens (inl some_number) });
         holding = cases (λ j u. u.holds ≡ true → (j ≡ r.holder) × (get_or s.words 0 0 ≢ 0) × (u.held ≡ r.log) × (0 < u.number)) (λ e. let clash : true ≡ false = sym e ∙ idle in cc) (λ j u _. r.holding j u) (λ e. let clash : true ≡ false = sym e ∙ idle in cc);
         numbered = cases (λ j u. 0 < u.number → (number u.number ≡ j) × ((u.number ≤ n) ⊎ (u.number ≡ passes)))
             (λ named. let t = r.numbered id v at named in (old v.number t.1 ∙ t.0, inr (own ∙ passes_is)))

@@ -16,12 +16,12 @@ use Rattle.meet_lock.specs.SeatSteps.{took}
 use Rattle.meet_lock.specs.declared.view.View.{View}
 use Rattle.meet_lock.proofs.Views.{set_at, views_stay}
 
-module _ {M : Type 0} (config : M → ConfigNumbers) (history : M → Past) (legal : ConfigNumbers → Past → Type 0) (owned : Bool) (c : ConfigNumbers) (passes : ℕ) where
+module _ {M : Type 0} (config : M → ConfigNumbers) (history : M → Past) (legal : ConfigNumbers → Past → Type 0) (owned : Bool) (c : ConfigNumbers) (passes : ℕ) (before : Past) where
   abbrev St : Type 0
   St = State (Option M) View
 
   abbrev Rule : St → Type 0
-  Rule = IsOneHistory config history legal owned c passes
+  Rule = IsOneHistory config history legal owned c passes before
 
   -- where there is one pass, the lock is free but while it holds it
   pub only_one : (s : St) (r : Rule s) (id : ℕ) (v : View) → get_elem? s.views id ≡ some v → v.holds ≡ false → 0 < v.number → get_or s.words 0 0 ≢ 0 → passes ≢ 1
@@ -56,7 +56,7 @@ module _ {M : Type 0} (config : M → ConfigNumbers) (history : M → Past) (leg
         right = r.right;
         free = λ z. absurd (away z);
         taken = λ _. (w, set_at s.views id v w at, refl);
-        each = views_stay (λ j u. Fits legal c passes r.log u) s.views id w (record { of = own.of; sees = own.sees; right = own.right; mine = own.mine; heard = own.heard }) (λ j u _. r.each j u);
+        each = views_stay (λ j u. Fits legal c passes before r.log u) s.views id w (record { of = own.of; sees = own.sees; right = own.right; mine = own.mine; heard = own.heard; opens = own.opens }) (λ j u _. r.each j u);
         holding = views_stay (λ j u. u.holds ≡ true → (j ≡ id) × (get_or (set s.words 0 1) 0 0 ≢ 0) × (u.held ≡ r.log) × (0 < u.number)) s.views id w (λ _. (refl, away, refl, named))
             (λ j u ne a h. absurd ((r.holding j u a h).1 e));
         numbered = views_stay (λ j u. 0 < u.number → (r.seat_of u.number ≡ j) × ((u.number ≤ r.top) ⊎ (u.number ≡ passes))) s.views id w (r.numbered id v at) (λ j u _. r.numbered j u);

@@ -52,14 +52,15 @@ start c passes past =
 abbrev pub IsLive : View → Type 0
 IsLive v = (0 < v.number) ⊎ (v.message ≡ true)
 
--- what a view says of the history
-pub record Fits (legal : ConfigNumbers → Past → Type 0) (c : ConfigNumbers) (passes : ℕ) (log : SharedPast) (v : View)
-    : Type 0 where
+-- what a view says of the history, which goes on from what the machine had before
+pub record Fits (legal : ConfigNumbers → Past → Type 0) (c : ConfigNumbers) (passes : ℕ) (before : Past)
+    (log : SharedPast) (v : View) : Type 0 where
   pub of : 0 < v.number → v.passes ≡ passes
   pub sees : IsLive v → GoesOn passes v.seen log
   pub right : IsLive v → (v.config ≡ c) × legal c (entries v.seen)
   pub mine : 0 < v.number → places v.number log ≡ places v.number v.seen
   pub heard : v.hears ≡ true → GoesOn passes v.told log × legal c (entries v.told) × (v.told_config ≡ c)
+  pub opens : IsLive v → GoesOn passes (unmade before) v.seen
 
 -- Where tickets have owners, a seat with a ticket is its only owner, and has all its entries, of which there is one.
 -- Where they have none, no seat has a ticket.
@@ -78,8 +79,8 @@ module _ {M : Type 0} (config : M → ConfigNumbers) (history : M → Past) wher
 
 -- between any two steps
 pub record IsOneHistory {M : Type 0} (config : M → ConfigNumbers) (history : M → Past)
-    (legal : ConfigNumbers → Past → Type 0) (owned : Bool) (c : ConfigNumbers) (passes : ℕ) (s : State (Option M) View)
-    : Type 0 where
+    (legal : ConfigNumbers → Past → Type 0) (owned : Bool) (c : ConfigNumbers) (passes : ℕ) (before : Past)
+    (s : State (Option M) View) : Type 0 where
   pub log : SharedPast
   pub holder : ℕ
   -- the numbers from 1 to it were given out, and the last
@@ -91,7 +92,7 @@ pub record IsOneHistory {M : Type 0} (config : M → ConfigNumbers) (history : M
   pub right : legal c (entries log)
   pub free : slice_index s.words 0 ≡ 0 → AtHome config history c log s
   pub taken : slice_index s.words 0 ≢ 0 → (v : View) × (get_elem? s.views holder ≡ some v) × (v.holds ≡ true)
-  pub each : (j : ℕ) (v : View) → get_elem? s.views j ≡ some v → Fits legal c passes log v
+  pub each : (j : ℕ) (v : View) → get_elem? s.views j ≡ some v → Fits legal c passes before log v
   pub holding : (j : ℕ) (v : View) → get_elem? s.views j ≡ some v → v.holds ≡ true
       → (j ≡ holder) × (slice_index s.words 0 ≢ 0) × (v.held ≡ log) × (0 < v.number)
   pub numbered : (j : ℕ) (v : View) → get_elem? s.views j ≡ some v → 0 < v.number

@@ -176,6 +176,10 @@ module _ {M K : Type 0} where
   abbrev pub IsOf : Shared M K → Pass M → Type 0
   IsOf s p = p.seat.table_id ≡ s.table.shared.table_id
 
+  -- what the machine had when the lock was made
+  abbrev pub opening_of : (M → Past) → Shared M K → Past
+  opening_of history s = history s.table.shared.key.machine.value
+
   abbrev pub IsNoteOf : Shared M K → NoteSeat M → Type 0
   IsNoteOf s m = m.seat.table_id ≡ s.table.shared.table_id
 

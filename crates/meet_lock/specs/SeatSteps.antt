@@ -6,7 +6,7 @@ use Rattle.nvme_model.specs.History.{Past}
 use Rattle.nvme_model.specs.Passes.{SharedPast, entries, places}
 use Rattle.nvme_model.specs.declared.config.ConfigNumbers.{ConfigNumbers}
 use Rattle.nvme_model.specs.declared.entry.Entry.{Entry}
-use Rattle.meet_lock.specs.Lock.{GoesOn, IsAt, grown, holding, informed, shown}
+use Rattle.meet_lock.specs.Lock.{GoesOn, IsAt, grown, holding, informed, shown, unmade}
 use Rattle.ticket_entries.specs.Entries.{of_ticket, ticket_in}
 use Rattle.meet_lock.specs.declared.view.View.{View}
 
@@ -95,6 +95,13 @@ module _ {M : Type 0} where
       × GoesOn m.0.passes m.0.seen n.0.seen
       × GoesOn m.0.passes m.0.told n.0.seen
       × legal n.0.config (entries n.0.seen)
+      × (m.0.told_config ≡ m.0.config)
+
+  -- a load, by which the seat learns what holds of what it has seen
+  abbrev pub recalled : (ConfigNumbers → Past → Type 0) → Past → Step (Option M) → Me (Option M) View → ℕ
+      → Me (Option M) View → Type 0
+  recalled legal before st m r n =
+      (n ≡ m) × legal m.0.config (entries m.0.seen) × GoesOn m.0.passes (unmade before) m.0.seen
 
   -- a load of the seat that holds the lock: what it was told doesn't go beyond what it holds
   abbrev pub peeked : Step (Option M) → Me (Option M) View → ℕ → Me (Option M) View → Type 0

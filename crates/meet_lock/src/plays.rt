@@ -2,10 +2,10 @@
 
 ghost use Rattle.meet_lock.specs.Lock.{IsOneHistory, start, gives_left, gives_right, message, message_held};
 ghost use Rattle.meet_lock.specs.Lock.{hearing, spent, unladen, laden, lading};
-ghost use Rattle.meet_lock.specs.SeatSteps.{took, wrote, left, looked, peeked};
+ghost use Rattle.meet_lock.specs.SeatSteps.{took, wrote, left, looked, peeked, recalled};
 
 use crate::owner::StepRight;
-use crate::view::{Start, View};
+use crate::view::{Origin, Start, View};
 use atomic_table::{Join, Play, Split, TableRule};
 use controller_steps::Machine;
 use std::marker::PhantomData;
@@ -16,7 +16,8 @@ pub(crate) struct Lock<M, K> {
 }
 
 impl<M: Machine, K: StepRight> TableRule<Option<M>, View, Start<M>> for Lock<M, K> {
-    ghost holds = { λ key. IsOneHistory M.config M.history M.legal K.owned (M.config key.machine.value) key.passes };
+    ghost holds = { λ key. IsOneHistory M.config M.history M.legal K.owned (M.config key.machine.value) key.passes
+        (M.history key.machine.value) };
 
     ghost first = { λ key. start (M.config key.machine.value) key.passes (M.history key.machine.value) };
 }
@@ -55,6 +56,16 @@ pub(crate) struct Look<M> {
 
 impl<M: Machine> Play<Option<M>, View> for Look<M> {
     ghost then = { looked M.legal };
+}
+
+/// A seat looks, and learns what holds of what it has seen.
+pub(crate) struct Recall<M, J> {
+    machine: PhantomData<M>,
+    origin: PhantomData<J>,
+}
+
+impl<M: Machine, J: Origin> Play<Option<M>, View> for Recall<M, J> {
+    ghost then = { recalled M.legal J.past };
 }
 
 /// The seat that holds the lock looks.

@@ -35,7 +35,8 @@ pub struct Shared<M: Machine, K: StepRight = AnyPass> {
 }
 
 impl<M: Machine, K: StepRight> Shared<M, K> {
-    ghost use Rattle.meet_lock.specs.Passes.{AllNew, IsFirst, IsNew, IsOf, config_of, mine, number, passes_of, seen};
+    ghost use Rattle.meet_lock.specs.Passes.{AllNew, IsFirst, IsNew, IsOf, config_of, mine, number, opening_of};
+    ghost use Rattle.meet_lock.specs.Passes.{passes_of, seen};
     ghost use Rattle.meet_lock.specs.declared.pass.Pass.{Pass};
 
     /// The machine with a lock round it, and as many passes as asked for, numbered from 1 in order: each has seen the
@@ -57,6 +58,7 @@ impl<M: Machine, K: StepRight> Shared<M, K> {
             → IsOf s.0 p × IsNew passes (M.config machine) (M.history machine) (k + 1) p) }
         ensures knows { IfOk result (λ s. (k : ℕ) (p : Pass M) → slice_get s.1.items k ≡ Some p
             → M.legal (config_of p) (entries (seen p))) }
+        ensures opening { IfOk result (λ s. opening_of M.history s.0 ≡ M.history machine) }
         ensures err { IfErr result (λ e. e.0 ≡ machine) }
     {
         let Ok(mut given) = Vec::with_capacity(alloc, passes) else {

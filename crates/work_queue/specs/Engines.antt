@@ -28,6 +28,10 @@ EnginePass = Pass State
 abbrev pub IsOf : Engine → EnginePass → Type 0
 IsOf e p = Passes.IsOf e.shared p
 
+-- what the controller had when the engine was made
+abbrev pub opening_of : Engine → Past
+opening_of e = Passes.opening_of (λ core. core.past) e.shared
+
 abbrev pub IsWorkOf : Engine → Work → Type 0
 IsWorkOf e w = Passes.IsTicketOf e.shared w.owner
 

@@ -44,7 +44,7 @@ impl Engine {
     ghost use Rattle.controller_steps.specs.State.{Accepts, Refuses};
     ghost use Rattle.meet_lock.specs.Passes.{Declines, IsNew, IsNotBusy, IsSame, Knows, Met, Saw, Worked, config_of};
     ghost use Rattle.meet_lock.specs.Passes.{IsSeenWhole, mine, number, passes_of, seen};
-    ghost use Rattle.meet_lock.specs.Lock.{AreOfPasses};
+    ghost use Rattle.meet_lock.specs.Lock.{AreOfPasses, GoesOn, unmade};
     ghost use Rattle.meet_lock.specs.declared.pass.Pass.{Pass};
     ghost use Rattle.controller_steps.specs.State.{State};
     ghost use Rattle.ticket_entries.specs.Entries.{of_ticket};
@@ -52,6 +52,7 @@ impl Engine {
     ghost use Rattle.work_queue.specs.Duties.{duty_of, task_step};
     ghost use Rattle.work_queue.specs.Posted.{IsAnswerPosted};
     ghost use Rattle.work_queue.specs.Engines.{IsFreshPass, IsNoTaskFault, IsOf, IsWorkOf, OpenedAs, its, open_step};
+    ghost use Rattle.work_queue.specs.Engines.{opening_of};
 
     /// The controller with a lock round it, and as many passes as asked for, numbered from 1 in order.
     ///
@@ -69,6 +70,7 @@ impl Engine {
         ensures own { IfOk result (λ e. All (IsOf e.0) e.1.items) }
         ensures each { IfOk result (λ e. (k : ℕ) (p : Pass State) → slice_get e.1.items k ≡ Some p
             → IsOf e.0 p × IsNew passes core.config core.past (k + 1) p) }
+        ensures opening { IfOk result (λ e. opening_of e.0 ≡ core.past) }
         ensures err { IfErr result (λ e. e.0 ≡ core) }
     {
         let (shared, passes) = Shared::new(alloc, core, passes)?;
@@ -91,6 +93,7 @@ impl Engine {
         ensures each { IfOk result (λ e. (k : ℕ) (p : Pass State) → slice_get e.1.items k ≡ Some p
             → IsOf e.0 p × IsNew count config [] (k + 1) p) }
         ensures fresh { IfOk result (λ e. All (IsFreshPass e.0 config) e.1.items) }
+        ensures opening { IfOk result (λ e. opening_of e.0 ≡ []) }
     {
         let core = Core::new(alloc, config)?;
         let Ok((engine, passes)) = Engine::new(alloc, core, count) else {
@@ -195,15 +198,15 @@ impl Engine {
         self.shared.meet(first, second)
     }
 
-    /// Tells what holds of whatever the pass has seen: it is what a controller keeps of its history. Takes neither lock
-    /// nor memory.
+    /// Tells what holds of whatever the pass has seen: it is what a controller keeps of its history, and goes on from
+    /// what the controller had when the engine was made, by entries of passes alone. Takes neither lock nor memory.
     pub fn recall(&self, pass: &mut Pass<Core>)
         requires { IsOf self.now pass.old }
         ensures same { IsSame pass.old pass.new × (seen pass.new ≡ seen pass.old) }
         ensures kept { Kept (config_of pass.new) (entries (seen pass.new)) }
+        ensures opens { GoesOn (passes_of pass.new) (unmade (opening_of self.now)) (seen pass.new) }
     {
-        let mut note = self.shared.note(pass);
-        self.shared.learn(pass, &mut note);
+        self.shared.recall(pass);
     }
 
     /// The controller, where no pass had the lock.

@@ -64,9 +64,9 @@ impl Notice {
 }
 
 impl Engine {
-    ghost use Rattle.meet_lock.specs.Passes.{IsSame, Knows, mine, seen};
+    ghost use Rattle.meet_lock.specs.Passes.{IsSame, Knows, config_of, mine, seen};
     ghost use Rattle.work_queue.specs.Engines.{IsOf};
-    ghost use Rattle.work_queue.specs.Notices.{IsNoticeOf, ReapFinds, notice_seen};
+    ghost use Rattle.work_queue.specs.Notices.{IsNoticeOf, ReapFinds, notice_config, notice_seen};
 
     /// The pass sees what the notice had seen, too. It takes neither lock nor memory, and is never Busy.
     ///
@@ -79,6 +79,7 @@ impl Engine {
         ensures same { IsSame pass.old pass.new × (mine pass.new ≡ mine pass.old) }
         ensures knows { IfOk result (λ _. Knows Kept pass.old pass.new) }
         ensures learned { IfOk result (λ _. IsBeginning (notice_seen notice.old) (seen pass.new)) }
+        ensures config { notice_config notice.old ≡ config_of pass.old }
         ensures reaps { IfOk result (λ _. ReapFinds (notice_seen notice.old) notice.old.queue pass.new) }
         ensures busy { IfErr result (λ _. seen pass.new ≡ seen pass.old) }
         ensures notice { IsNoticeOf self.now notice.new × (notice_seen notice.new ≡ notice_seen notice.old)

@@ -3,18 +3,21 @@
 ghost use Rattle.std.specs.Prelude.{◌≡◌, ◌<◌, [], true};
 ghost use Rattle.nvme_model.specs.Passes.{IsBeginning, entries, places};
 ghost use Rattle.meet_lock.specs.Lock.{GoesOn, IsLive, hearing, informed, laden, lading, longer};
-ghost use Rattle.meet_lock.specs.Lock.{message, message_held, unladen};
+ghost use Rattle.meet_lock.specs.Lock.{message, message_held, unladen, unmade};
 ghost use Rattle.meet_lock.specs.SeatSteps.{IsMessage, IsSameSeat};
 
 use crate::owner::StepRight;
 use crate::pass::Pass;
-use crate::plays::{Hear, Load, Look, Tell, TellHeld, Unload};
+use crate::plays::{Hear, Load, Look, Recall, Tell, TellHeld, Unload};
 use crate::seats::NoteSeat;
 use crate::shared::{Place, Shared};
+use crate::view::Origin;
 use controller_steps::Machine;
+use std::marker::Brand;
 
 impl<M: Machine, K: StepRight> Shared<M, K> {
-    ghost use Rattle.meet_lock.specs.Passes.{IsNoteOf, IsOf, IsSame, Knows, config_of, mine, seen, told, told_config};
+    ghost use Rattle.meet_lock.specs.Passes.{IsNoteOf, IsOf, IsSame, Knows, config_of, mine, opening_of, passes_of};
+    ghost use Rattle.meet_lock.specs.Passes.{seen, told, told_config};
 
     // A message with what the seat has seen.
     pub(crate) fn tell(&self, seat: &mut Place<M>) -> Place<M>
@@ -56,6 +59,7 @@ impl<M: Machine, K: StepRight> Shared<M, K> {
         ensures told { GoesOn seat.old.me.0.passes seat.old.me.0.seen seat.new.me.0.seen
             × GoesOn seat.old.me.0.passes seat.old.me.0.told seat.new.me.0.seen
             × M.legal seat.new.me.0.config (entries seat.new.me.0.seen) }
+        ensures config { seat.old.me.0.told_config ≡ seat.old.me.0.config }
     {
         self.table.shared.load::<Look<M>>(seat, 0);
     }
@@ -81,6 +85,29 @@ impl<M: Machine, K: StepRight> Shared<M, K> {
         self.table.shared.join_seat::<Load>(seat, from);
     }
 
+    // Looks, and learns what holds of what it has seen.
+    fn look_back<J: Origin>(&self, seat: &mut Place<M>)
+        requires own { seat.old.table_id ≡ self.now.table.shared.table_id }
+        requires named { 0 < seat.old.me.0.number }
+        requires origin { J.past ≡ opening_of M.history self.now }
+        ensures same { IsSameSeat seat.old seat.new × (seat.new.me ≡ seat.old.me) }
+        ensures recalled { M.legal seat.new.me.0.config (entries seat.new.me.0.seen)
+            × GoesOn seat.new.me.0.passes (unmade (opening_of M.history self.now)) seat.new.me.0.seen }
+    {
+        self.table.shared.load::<Recall<M, J>>(seat, 0);
+    }
+
+    /// Tells what holds of whatever the pass has seen: it is legal, and goes on from what the machine had when the lock
+    /// was made, by entries of passes alone. Takes no lock and no memory.
+    pub fn recall(&self, pass: &mut Pass<M>)
+        requires { IsOf self.now pass.old }
+        ensures same { IsSame pass.old pass.new × (seen pass.new ≡ seen pass.old) }
+        ensures legal { M.legal (config_of pass.new) (entries (seen pass.new)) }
+        ensures opens { GoesOn (passes_of pass.new) (unmade (opening_of M.history self.now)) (seen pass.new) }
+    {
+        self.look_back::<Brand>(&mut pass.seat);
+    }
+
     /// What the pass has seen, for another pass to learn. Takes no lock and no memory.
     pub fn note(&self, pass: &mut Pass<M>) -> NoteSeat<M>
         requires { IsOf self.now pass.old }
@@ -100,6 +127,7 @@ impl<M: Machine, K: StepRight> Shared<M, K> {
         ensures same { IsSame pass.old pass.new × (mine pass.new ≡ mine pass.old) }
         ensures knows { Knows M.legal pass.old pass.new }
         ensures learned { IsBeginning (told note.old) (seen pass.new) }
+        ensures config { told_config note.old ≡ config_of pass.old }
         ensures longer { seen pass.new ≡ longer (seen pass.old) (told note.old) }
         ensures note { IsNoteOf self.now note.new × (told note.new ≡ told note.old)
             × (told_config note.new ≡ told_config note.old) }

@@ -12,8 +12,8 @@ use Rattle.meet_lock.proofs.shared.Shared.new.Goals as goal
 pub new-requires : goal.new-requires
 new-requires g c =
     let items = c.push_reserved.ensures.items ∙ ap (λ l. l ++ Some c.args.machine ∷ []) c.in-Ok-with_capacity.ensures.items in
-    let P : List (Option g.row.M.Denot) × g.row.M.Denot → Type 0 = λ p. IsOneHistory g.M.Machine.config g.M.Machine.history g.M.Machine.legal g.K.StepRight.owned (g.M.Machine.config p.1) c.args.passes (opening (0 ∷ []) p.0 (start (g.M.Machine.config p.1) c.args.passes (g.M.Machine.history p.1))) in
-    subst P (λ i. (sym items i, sym c.of.ensures i)) (opens g.M.Machine.config g.M.Machine.history g.M.Machine.legal g.K.StepRight.owned (g.M.Machine.config c.args.machine) c.args.passes c.args.machine refl c.requires.some c.requires.legal)
+    let P : List (Option g.row.M.Denot) × g.row.M.Denot → Type 0 = λ p. IsOneHistory g.M.Machine.config g.M.Machine.history g.M.Machine.legal g.K.StepRight.owned (g.M.Machine.config p.1) c.args.passes (g.M.Machine.history p.1) (opening (0 ∷ []) p.0 (start (g.M.Machine.config p.1) c.args.passes (g.M.Machine.history p.1))) in
+    subst P (λ i. (sym items i, sym c.of.ensures i)) (opens g.M.Machine.config g.M.Machine.history g.M.Machine.legal g.K.StepRight.owned (g.M.Machine.config c.args.machine) c.args.passes (g.M.Machine.history c.args.machine) c.args.machine refl refl c.requires.some c.requires.legal)
 
 pub returns-in-Ok-new-clause-each : goal.returns-in-Ok-new-clause-each
 returns-in-Ok-new-clause-each g c = λ k p at.
