@@ -10,10 +10,12 @@ ghost use Rattle.driver_rows.specs.Claimants.{IsClaimant, IsReady};
 
 use crate::ask::hears;
 use crate::bench::{Bench, Host, Server};
-use crate::claimant::{Came, Claimant, Stage, asks, gives_back, polls_begun};
+use crate::claimant::{Came, Claimant, Stage, asks, begun_stays, gives_back, polls_begun};
 use crate::serve::serves;
 use driver_cas::{Call, Poll, Reply, SharedPort};
 use slot_alloc::Slots;
+use slot_alloc::laws::other_calls_touch_no_slot;
+use std::snapshot::Snapshot;
 use std::sync::Wait;
 
 /// A block.
@@ -33,7 +35,9 @@ pub fn is_served<R: Wait>(
     ensures claimant { IsClaimant bench.now slots.now claimant.new }
 {
     let done = serves(rt, bench, server, claimant.queue);
+    let before = Snapshot::of(&claimant.host.driver);
     listens(rt, bench, slots, &mut claimant.host);
+    begun_stays(&before, &claimant.host);
     done
 }
 
@@ -56,7 +60,12 @@ pub fn meets(bench: &Bench, slots: &Slots, one: &mut Claimant<'_>, two: &mut Cla
     ensures one { IsClaimant bench.now slots.now one.new }
     ensures two { IsClaimant bench.now slots.now two.new }
 {
-    met(bench, slots, &mut one.host, &mut two.host)
+    let first = Snapshot::of(&one.host.driver);
+    let second = Snapshot::of(&two.host.driver);
+    let met = met(bench, slots, &mut one.host, &mut two.host);
+    begun_stays(&first, &one.host);
+    begun_stays(&second, &two.host);
+    met
 }
 
 /// What comes in the end of what is begun, each time served and polled, at most so many times.
@@ -148,7 +157,10 @@ fn begins_read<'a>(
     ensures ready { IsReady _bench.now _slots.now host.new }
     ensures call { IfSome result (λ k. IsCallOf host.new.driver k) }
 {
-    match host.driver.start_read(lba, 1) {
+    let before = Snapshot::of(&host.driver);
+    let begun = host.driver.start_read(lba, 1);
+    other_calls_touch_no_slot(&before, &host.driver);
+    match begun {
         Ok(call) => Some(call),
         Err(_) => None,
     }
