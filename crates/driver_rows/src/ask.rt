@@ -139,11 +139,16 @@ pub fn begins<P: Port>(driver: &mut Driver<P>, ask: Ask) -> Result<Call<P>, Faul
 /// Polls a call of a driver once.
 pub fn polled<P: Port>(driver: &mut Driver<P>, call: Call<P>) -> (Told, Option<Call<P>>)
     requires { IsCallOf driver.old call }
+    ensures same { IsSame driver.old driver.new }
     ensures later { P.follows (port_of driver.old) (port_of driver.new) }
     ensures back { IfSome result.1 (λ k. (k ≡ call) × IsCallOf driver.new k) }
     ensures others { (j : Call P) → IsCallOf driver.old j → IsApart call j → IsCallOf driver.new j }
+    ensures careful { IsCareful driver.old → IsCareful driver.new }
 {
-    poll_in_words(driver.poll(call))
+    let before = Snapshot::of(&*driver);
+    let poll = driver.poll(call);
+    other_calls_touch_no_slot(&before, driver);
+    poll_in_words(poll)
 }
 
 /// Begins a call.

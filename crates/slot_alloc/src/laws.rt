@@ -135,8 +135,8 @@ pub fn an_untouched_driver_keeps_its_slots<P: Port>(old: &Snapshot<Driver<P>>, n
     ensures held { IsUntouched old.now.value new.now →
         (c : Claim) → IsHeldBy old.now.value c → IsHeldBy new.now c }
     ensures claiming { IsUntouched old.now.value new.now →
-        (k : Claiming P) → IsClaimingOf old.now.value k → IsClaimingOf new.now k }
-    ensures unreleased { IsUntouched old.now.value new.now → (k : Claiming P) →
+        (k : Claiming P _) → IsClaimingOf old.now.value k → IsClaimingOf new.now k }
+    ensures unreleased { IsUntouched old.now.value new.now → (k : Claiming P _) →
         IsClaimingOf old.now.value k → IsUnreleased old.now.value k → IsUnreleased new.now k }
     ensures releasing { IsUntouched old.now.value new.now →
         (k : Releasing P) → IsReleasingOf old.now.value k → IsReleasingOf new.now k }
