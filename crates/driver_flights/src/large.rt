@@ -2,14 +2,19 @@
 
 ghost use Rattle.std.specs.Prelude.{◌≡◌, ◌≤◌, IfOk, true};
 ghost use Rattle.history.specs.Config.{numbers};
-ghost use Rattle.driver_rows.specs.Benches.{AreOf, uses};
+ghost use Rattle.driver_cas.specs.Drivers.{IsCallOf, IsSame, port_of};
+ghost use Rattle.driver_rows.specs.Benches.{AreOf, IsHostOf, IsServerOf, uses};
+ghost use Rattle.driver_rows.specs.Calls.{IsAsked};
 
-use crate::rows::all_answered;
-use driver_cas::Fault;
-use driver_rows::{Ask, Bench, Fill, Spares, Told, bench_of, desk_of};
+use driver_cas::laws::a_start_keeps_the_other_calls;
+use driver_cas::{Call, Driver, Fault, Port, SharedPort};
+use driver_rows::{
+    Ask, Bench, Fill, Host, Server, Spares, Told, answers, asked, bench_of, desk_of, hears, serves,
+};
 use history::Config;
 use std::alloc::Global;
 use std::process::Abort;
+use std::snapshot::Snapshot;
 use std::sync::Wait;
 use std::test::Fail;
 
@@ -17,6 +22,16 @@ use std::test::Fail;
 const ALL: usize = 131072;
 
 const ALL_BUT_ONE: usize = 130560;
+
+/// A call of 256 blocks from block 0 on, each of whose bytes is this one; or any other call.
+#[derive(Clone, Copy, Debug)]
+enum Whole {
+    Other(Ask),
+    Write(u8),
+    Compare(u8),
+    /// A Compare and Write: from the first to the second.
+    Swap(u8, u8),
+}
 
 // A bench of `config 256 AWUN 255 0 0 2 4 4 8`.
 fn large(alloc: Global, awun: u16) -> Result<(Bench, Spares), Fail>
@@ -29,13 +44,80 @@ fn large(alloc: Global, awun: u16) -> Result<(Bench, Spares), Fail>
     Ok(bench_of(alloc, config, 4, 2)?)
 }
 
-// That each call is answered so, by a server of this bench.
+// Begins a call of a driver.
+fn whole_asked<P: Port>(driver: &mut Driver<P>, whole: Whole) -> Result<Call<P>, Fault>
+    ensures same { IsSame driver.old driver.new }
+    ensures later { P.follows (port_of driver.old) (port_of driver.new) }
+    ensures asked { IsAsked driver.old driver.new result }
+{
+    match whole {
+        Whole::Other(ask) => asked(driver, ask),
+        Whole::Write(byte) => driver.start_write(0, &[byte; ALL]),
+        Whole::Compare(byte) => driver.start_compare(0, &[byte; ALL]),
+        Whole::Swap(old, new) => driver.start_compare_and_write(0, &[old; ALL], &[new; ALL]),
+    }
+}
+
+// Begins a call of the host.
+fn begins_whole<'a>(
+    bench: &Bench,
+    host: &mut Host<'a>,
+    whole: Whole,
+) -> Result<Call<SharedPort<'a>>, Fault>
+    requires { IsHostOf bench.now host.old }
+    ensures same { IsHostOf bench.now host.new }
+    ensures call { IfOk result (IsCallOf host.new.driver) }
+{
+    // (named by the contract alone)
+    let _ = bench;
+    let before = Snapshot::of(&host.driver);
+    let begun = whole_asked(&mut host.driver, whole);
+    a_start_keeps_the_other_calls(&before, &host.driver);
+    begun
+}
+
+// How a call is answered, once its queue is served.
+fn served<R: Wait>(
+    rt: &R,
+    bench: &Bench,
+    server: &mut Server,
+    host: &mut Host<'_>,
+    whole: Whole,
+) -> Result<Told, Fault>
+    requires { IsServerOf bench.now server.old × IsHostOf bench.now host.old }
+    ensures { IsServerOf bench.now server.new × IsHostOf bench.now host.new }
+{
+    let call = begins_whole(bench, host, whole)?;
+    serves(rt, bench, server, 1);
+    hears(rt, bench, host);
+    Ok(answers(host, call, 2))
+}
+
+// That each call is answered so.
+fn all_served<R: Abort + Wait>(
+    rt: &R,
+    bench: &Bench,
+    server: &mut Server,
+    host: &mut Host<'_>,
+    rows: &[(Whole, Told)],
+)
+    requires { IsServerOf bench.now server.old × IsHostOf bench.now host.old }
+    ensures { IsServerOf bench.now server.new × IsHostOf bench.now host.new }
+{
+    for row in rows {
+        let (whole, told) = *row;
+        let want = Ok(told);
+        assert_eq!(rt; served(rt, bench, server, host, whole), want, "{whole:?}");
+    }
+}
+
+// So by a server and a host of this bench.
 fn answered_on<R: Abort + Wait>(
     rt: &R,
     alloc: Global,
     bench: &Bench,
     spares: &mut Spares,
-    rows: &[(Ask, Result<Told, Fault>)],
+    rows: &[(Whole, Told)],
 ) -> Result<(), Fail>
     requires own { AreOf bench.now spares.old }
     requires queue { (uses bench.now.config 1 1 ≡ true) × (1 ≤ bench.now.config.cqs) }
@@ -43,7 +125,7 @@ fn answered_on<R: Abort + Wait>(
     let Some((mut server, mut host)) = desk_of(alloc, bench, spares, 0) else {
         return Err(Fail::from("a host"));
     };
-    all_answered(rt, bench, &mut server, &mut host, rows);
+    all_served(rt, bench, &mut server, &mut host, rows);
     Ok(())
 }
 
@@ -52,36 +134,33 @@ fn answers_all<R: Abort + Wait>(
     rt: &R,
     alloc: Global,
     awun: u16,
-    rows: &[(Ask, Result<Told, Fault>)],
+    rows: &[(Whole, Told)],
 ) -> Result<(), Fail> {
     let (bench, mut spares) = large(alloc, awun)?;
     answered_on(rt, alloc, &bench, &mut spares, rows)
 }
 
-fn swap(old: u8, new: u8) -> Ask {
-    Ask::CompareAndWrite(0, Fill(old, ALL), Fill(new, ALL))
-}
-
 // Each kind of call, equal, differing in each block, and differing in the last alone.
-fn kinds() -> [(Ask, Result<Told, Fault>); 17] {
+fn kinds() -> [(Whole, Told); 17] {
+    let reads = Whole::Other(Ask::Read(0, 256));
     [
-        (Ask::Read(0, 256), Ok(Told::Read(ALL, 0))),
-        (Ask::Write(0, Fill(0xa1, ALL)), Ok(Told::Written)),
-        (Ask::Read(0, 256), Ok(Told::Read(ALL, 0xa1))),
-        (Ask::Compare(0, Fill(0xa1, ALL)), Ok(Told::Equal)),
-        (Ask::Compare(0, Fill(0xb2, ALL)), Ok(Told::Differs)),
-        (swap(0xa1, 0xb2), Ok(Told::Swapped)),
-        (Ask::Read(0, 256), Ok(Told::Read(ALL, 0xb2))),
-        (swap(0xa1, 0xc3), Ok(Told::Differs)),
-        (Ask::Write(255, Fill(0xc3, 512)), Ok(Told::Written)),
-        (Ask::Compare(0, Fill(0xb2, ALL)), Ok(Told::Differs)),
-        (swap(0xb2, 0xd4), Ok(Told::Differs)),
-        (Ask::Read(0, 256), Ok(Told::Mixed)),
-        (Ask::Read(0, 255), Ok(Told::Read(ALL_BUT_ONE, 0xb2))),
-        (Ask::Read(255, 1), Ok(Told::Read(512, 0xc3))),
-        (Ask::WriteZeroes(0, 256), Ok(Told::Written)),
-        (Ask::Compare(0, Fill(0, ALL)), Ok(Told::Equal)),
-        (Ask::Read(0, 256), Ok(Told::Read(ALL, 0))),
+        (reads, Told::Read(ALL, 0)),
+        (Whole::Write(0xa1), Told::Written),
+        (reads, Told::Read(ALL, 0xa1)),
+        (Whole::Compare(0xa1), Told::Equal),
+        (Whole::Compare(0xb2), Told::Differs),
+        (Whole::Swap(0xa1, 0xb2), Told::Swapped),
+        (reads, Told::Read(ALL, 0xb2)),
+        (Whole::Swap(0xa1, 0xc3), Told::Differs),
+        (Whole::Other(Ask::Write(255, Fill(0xc3, 512))), Told::Written),
+        (Whole::Compare(0xb2), Told::Differs),
+        (Whole::Swap(0xb2, 0xd4), Told::Differs),
+        (reads, Told::Mixed),
+        (Whole::Other(Ask::Read(0, 255)), Told::Read(ALL_BUT_ONE, 0xb2)),
+        (Whole::Other(Ask::Read(255, 1)), Told::Read(512, 0xc3)),
+        (Whole::Other(Ask::WriteZeroes(0, 256)), Told::Written),
+        (Whole::Compare(0), Told::Equal),
+        (reads, Told::Read(ALL, 0)),
     ]
 }
 

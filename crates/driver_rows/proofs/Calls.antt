@@ -1,5 +1,5 @@
 -- What becomes of a host's calls, what is fetched, and that there are completion queues.
-use Rattle.std.proofs.Common.{◌≡◌, ℕ, ◌<◌, ◌∙◌, Err, None, Ok, Option, Result, ap, arith, eqb, false, is_none, subst, sym}
+use Rattle.std.proofs.Common.{◌≡◌, ℕ, ◌<◌, ◌∙◌, Err, None, Ok, Option, Result, ap, arith, eqb, false, inl, inr, is_none, subst, sym}
 use Rattle.std.specs.Prelude.{IfOk, IfSome}
 use Rattle.std.proofs.lemmas.Bool.{or_parts}
 use Rattle.std.proofs.lemmas.Bool.Decides.{nat_tests}
@@ -7,21 +7,26 @@ use Rattle.nvme_model.specs.Config.{config_fault, config_faults}
 use Rattle.nvme_model.specs.declared.config.ConfigNumbers.{ConfigNumbers}
 use Rattle.nvme_model.specs.declared.entry.Entry.{Entry}
 use Rattle.nvme_model.proofs.Rules.{none_holds}
+use Rattle.nvme_model.specs.declared.operation.Op.{Op}
 use Rattle.controller_steps.specs.declared.answer.Answer.{Answer}
 use Rattle.work_queue.specs.Engines.{EnginePass, IsOpened, IsWorkOf, OpenedAs}
 use Rattle.work_queue.specs.declared.engine.Engine.{Engine}
 use Rattle.work_queue.specs.declared.engine.Open.{Open}
 use Rattle.work_queue.specs.declared.engine.Opened.TheVariants as opened
 use Rattle.work_queue.specs.declared.work.Work.{Work}
-use Rattle.driver_cas.specs.Drivers.{IsApart, IsBack, IsCallBack, IsCallOf}
+use Rattle.driver_commands.specs.declared.request.CallData.{CallData}
+use Rattle.driver_commands.specs.declared.request.Request.{Request}
+use Rattle.driver_cas.specs.Drivers.{IsApart, IsBack, IsCallBack, IsCallOf, IsSame, area_of}
+use Rattle.driver_cas.specs.Requests.{IsStart, pair_request_of, request_of}
 use Rattle.driver_cas.specs.declared.call.Call.{Call}
 use Rattle.driver_cas.specs.declared.call.Poll.{Poll}
 use Rattle.driver_cas.specs.declared.driver.Driver.{Driver}
 use Rattle.driver_cas.specs.declared.fault.Fault.{Fault}
 use Rattle.driver_cas.specs.declared.port.Port.{Ghosts}
 use Rattle.driver_cas.specs.declared.shared_port.SharedPort.{SharedPort}
-use Rattle.driver_rows.specs.Calls.{IsNewCall, Polls, given_back}
+use Rattle.driver_rows.specs.Calls.{IsAsked, IsNewCall, Polls, given_back}
 use Rattle.driver_rows.specs.declared.bench.Host.{Host}
+use Rattle.slot_alloc.specs.Careful.{GoesOn, IsCareful}
 
 -- ---- calls
 
@@ -56,6 +61,39 @@ some_queues c e = not_zero c.cqs (or_parts _ _ (none_holds (config_faults c) (ap
 -- ---- calls of any port
 
 module _ {P : Type 0} {g : Ghosts P} where
+  -- what follows of each start call follows where one was made
+  pub asked_case : {X : Type 0} → (d e : Driver P g) (r : Result (Call P) Fault) → IsAsked d e r → ((q : Result Request Fault) (c : CallData) → IsStart d e q c r → X) → X
+  asked_case d e r (inl h) f = f (request_of h.0 (area_of d) h.3 h.1 h.2) h.4 h.5
+  asked_case d e r (inr h) f = f (pair_request_of h.0 (area_of d) h.1 h.2 h.3) h.4 h.5
+
+  -- so of what a start call keeps, and of a careful driver, by what is known of the driver as it was kept before
+  pub asked_keeps : (b d e : Driver P g) (r : Result (Call P) Fault) → b ≡ d → IsSame d e → g.follows d.port e.port → IsAsked d e r
+      → (IsSame b e → g.follows b.port e.port → (q : Result Request Fault) (c : CallData) (r : Result (Call P) Fault) → IsStart b e q c r → IfOk r (IsCallOf e) × ((k : Call P) → IsCallOf b k → IsCallOf e k × IfOk r (λ begun. IsApart begun k)))
+      → IfOk r (IsCallOf e) × ((k : Call P) → IsCallOf d k → IsCallOf e k × IfOk r (λ begun. IsApart begun k))
+  asked_keeps b d e r at same later asked law =
+      let moved = subst (λ (x : Driver P g). IsSame x e → g.follows x.port e.port → (q : Result Request Fault) (c : CallData) (r : Result (Call P) Fault) → IsStart x e q c r → IfOk r (IsCallOf e) × ((k : Call P) → IsCallOf x k → IsCallOf e k × IfOk r (λ begun. IsApart begun k))) at law in
+      asked_case d e r asked (λ q c s. moved same later q c r s)
+
+  pub asked_careful : (b d e : Driver P g) (r : Result (Call P) Fault) → b ≡ d → IsSame d e → g.follows d.port e.port → IsAsked d e r
+      → (IsSame b e → g.follows b.port e.port → (acwu slba bytes : ℕ) (o : Op) (c : CallData) (r : Result (Call P) Fault) → IsStart b e (request_of acwu (area_of b) o slba bytes) c r → (IsCareful b → IsCareful e) × GoesOn b e None)
+      → (IsSame b e → g.follows b.port e.port → (acwu slba bytes others : ℕ) (c : CallData) (r : Result (Call P) Fault) → IsStart b e (pair_request_of acwu (area_of b) slba bytes others) c r → (IsCareful b → IsCareful e) × GoesOn b e None)
+      → IsCareful d → IsCareful e
+  asked_careful b d e r at same later asked start pair careful =
+      go (subst (λ (x : Driver P g). IsAsked x e r) (sym at) asked)
+    where
+      same_b : IsSame b e
+      same_b = subst (λ (x : Driver P g). IsSame x e) (sym at) same
+
+      later_b : g.follows b.port e.port
+      later_b = subst (λ (x : Driver P g). g.follows x.port e.port) (sym at) later
+
+      careful_b : IsCareful b
+      careful_b = subst (λ (x : Driver P g). IsCareful x) (sym at) careful
+
+      go : IsAsked b e r → IsCareful e
+      go (inl h) = (start same_b later_b h.0 h.1 h.2 h.3 h.4 r h.5).0 careful_b
+      go (inr h) = (pair same_b later_b h.0 h.1 h.2 h.3 h.4 r h.5).0 careful_b
+
   -- what a start call begins is new
   pub new_call : (d e : Driver P g) (r : Result (Call P) Fault) → IfOk r (IsCallOf e) × ((k : Call P) → IsCallOf d k → IsCallOf e k × IfOk r (λ begun. IsApart begun k)) → IfOk r (IsNewCall d e)
   new_call d e (Ok k) h = (h.0, λ j of. (h.1 j of).1)

@@ -15,8 +15,8 @@ use slot_alloc::laws::other_calls_touch_no_slot;
 use std::snapshot::Snapshot;
 use std::sync::Wait;
 
-// The most bytes of a call here: those of 256 blocks.
-const MOST: usize = 131072;
+// The most bytes of a call here.
+const MOST: usize = 1536;
 
 /// So many bytes, at most `MOST`, all of which are this one.
 #[derive(Clone, Copy, Debug)]
@@ -88,8 +88,12 @@ fn poll_in_words<P>(poll: Poll<P>) -> (Told, Option<Call<P>>)
     }
 }
 
-// Begins a call of a driver.
-fn asked<P: Port>(driver: &mut Driver<P>, ask: Ask) -> Result<Call<P>, Fault>
+/// Begins a call of a driver: one of its start calls for data.
+///
+/// # Errors
+///
+/// What the driver answers.
+pub fn asked<P: Port>(driver: &mut Driver<P>, ask: Ask) -> Result<Call<P>, Fault>
     ensures same { IsSame driver.old driver.new }
     ensures later { P.follows (port_of driver.old) (port_of driver.new) }
     ensures asked { IsAsked driver.old driver.new result }

@@ -10,7 +10,7 @@ mod fake;
 mod serve;
 mod service;
 
-pub use ask::{Ask, Fill, Told, answers, begins, hears, polled, polls, starts};
+pub use ask::{Ask, Fill, Told, answers, asked, begins, hears, polled, polls, starts};
 pub use bench::{Bench, Host, Server, Spares, bench_of, hand_of, host_of};
 pub use claimant::{
     Came, Claimant, Stage, asks, claimant_of, claimants_of, gives_back, leaves, polls_begun,
