@@ -11,8 +11,8 @@ use Rattle.driver_rows.specs.declared.bench.Bench.{Bench}
 use Rattle.driver_rows.specs.declared.bench.Server.{Server}
 
 -- what both own is of what they share
-pub record AreCrewOf (b : Bench) (works : MessageQueue Work) (fetcher : Server) (into : QueuePass Work) (worker : Server)
-    (out : QueuePass Work) : Type 0 where
+pub record AreCrewOf (b : Bench) (works : MessageQueue Work) (fetcher : Server) (into : QueuePass Work)
+    (worker : Server) (out : QueuePass Work) : Type 0 where
   pub fetcher_of : IsServerOf b fetcher
   pub into_of : IsPlaceOf b.engine works into
   pub worker_of : IsServerOf b worker
