@@ -1,5 +1,5 @@
 -- What becomes of a host's calls, what is fetched, and that there are completion queues.
-use Rattle.std.proofs.Common.{◌≡◌, ℕ, ◌<◌, ◌∙◌, Err, None, Ok, Option, Result, ap, arith, eqb, false, inl, is_none, subst, sym}
+use Rattle.std.proofs.Common.{◌≡◌, ℕ, ◌<◌, ◌∙◌, Err, None, Ok, Option, Result, ap, arith, eqb, false, inl, inr, is_none, subst, sym}
 use Rattle.std.specs.Prelude.{IfOk, IfSome}
 use Rattle.std.proofs.lemmas.Bool.{or_parts}
 use Rattle.std.proofs.lemmas.Bool.Decides.{nat_tests}
@@ -7,29 +7,26 @@ use Rattle.nvme_model.specs.Config.{config_fault, config_faults}
 use Rattle.nvme_model.specs.declared.config.ConfigNumbers.{ConfigNumbers}
 use Rattle.nvme_model.specs.declared.entry.Entry.{Entry}
 use Rattle.nvme_model.proofs.Rules.{none_holds}
+use Rattle.nvme_model.specs.declared.operation.Op.{Op}
 use Rattle.controller_steps.specs.declared.answer.Answer.{Answer}
 use Rattle.work_queue.specs.Engines.{EnginePass, IsOpened, IsWorkOf, OpenedAs}
 use Rattle.work_queue.specs.declared.engine.Engine.{Engine}
 use Rattle.work_queue.specs.declared.engine.Open.{Open}
 use Rattle.work_queue.specs.declared.engine.Opened.TheVariants as opened
 use Rattle.work_queue.specs.declared.work.Work.{Work}
-use Rattle.cid_table.specs.Cids.{Cids, held}
 use Rattle.driver_commands.specs.declared.request.CallData.{CallData}
 use Rattle.driver_commands.specs.declared.request.Request.{Request}
-use Rattle.driver_cas.specs.Drivers.{IsApart, IsBack, IsCallBack, IsCallOf, IsSame}
-use Rattle.driver_cas.specs.Requests.{IsStart}
-use Rattle.driver_cas.specs.Starts.{IsAsBefore, IsUntouched}
-use Rattle.driver_cas.specs.Tables.{is_free}
+use Rattle.driver_cas.specs.Drivers.{IsApart, IsBack, IsCallBack, IsCallOf, IsSame, area_of}
+use Rattle.driver_cas.specs.Requests.{IsStart, pair_request_of, request_of}
 use Rattle.driver_cas.specs.declared.call.Call.{Call}
 use Rattle.driver_cas.specs.declared.call.Poll.{Poll}
 use Rattle.driver_cas.specs.declared.driver.Driver.{Driver}
 use Rattle.driver_cas.specs.declared.fault.Fault.{Fault}
 use Rattle.driver_cas.specs.declared.port.Port.{Ghosts}
 use Rattle.driver_cas.specs.declared.shared_port.SharedPort.{SharedPort}
-use Rattle.driver_cas.proofs.Drivers.{reaped_calls}
-use Rattle.driver_cas.proofs.Listening.{follows_later}
-use Rattle.driver_rows.specs.Calls.{IsNewCall, Polls, StayCalls, given_back}
+use Rattle.driver_rows.specs.Calls.{IsAsked, IsNewCall, Polls, given_back}
 use Rattle.driver_rows.specs.declared.bench.Host.{Host}
+use Rattle.slot_alloc.specs.Careful.{GoesOn, IsCareful}
 
 -- ---- calls
 
@@ -38,22 +35,6 @@ polls_on h i m k n e x y =
     record {
       same = (y.same.0 ∙ x.same.0, y.same.1 ∙ x.same.1);
       others = λ j of apart. y.others j (x.others j of apart) (subst (λ (c : Call SharedPort). IsApart c j) (sym e) apart);
-    }
-
--- the same driver with a still later port
-pub untouched_on : (h i m : Host) → IsUntouched h.driver i.driver → IsUntouched i.driver m.driver → IsUntouched h.driver m.driver
-untouched_on h i m x y =
-    record {
-      same = record {
-        began = y.same.began ∙ x.same.began;
-        host = y.same.host ∙ x.same.host;
-        acwu = y.same.acwu ∙ x.same.acwu;
-        slots = y.same.slots ∙ x.same.slots;
-        serial = y.same.serial ∙ x.same.serial;
-        queues = y.same.queues ∙ x.same.queues;
-      };
-      later = follows_later h.driver.port i.driver.port m.driver.port x.later y.later;
-      as_before = (y.as_before.0 ∙ x.as_before.0, y.as_before.1 ∙ x.as_before.1);
     }
 
 -- ---- what is fetched
@@ -80,18 +61,43 @@ some_queues c e = not_zero c.cqs (or_parts _ _ (none_holds (config_faults c) (ap
 -- ---- calls of any port
 
 module _ {P : Type 0} {g : Ghosts P} where
-  kept : ((a b c : P) → g.follows a b → g.follows b c → g.follows a c) → (d e : Driver P g) → IsSame d e → g.follows d.port e.port → IsAsBefore d e → StayCalls d e
-  kept on d e same later before = λ k of. reaped_calls g on d e k same later (inl before.0) (λ q n. ap (λ (c : Cids). is_free (held c q n)) before.1) of
+  -- what follows of each start call follows where one was made
+  pub asked_case : {X : Type 0} → (d e : Driver P g) (r : Result (Call P) Fault) → IsAsked d e r → ((q : Result Request Fault) (c : CallData) → IsStart d e q c r → X) → X
+  asked_case d e r (inl h) f = f (request_of h.0 (area_of d) h.3 h.1 h.2) h.4 h.5
+  asked_case d e r (inr h) f = f (pair_request_of h.0 (area_of d) h.1 h.2 h.3) h.4 h.5
 
-  pub begun_keeps : ((a b c : P) → g.follows a b → g.follows b c → g.follows a c) → (d e : Driver P g) (q : Result Request Fault) (c : CallData) (r : Result (Call P) Fault) → IsSame d e → g.follows d.port e.port → IsStart d e q c r → StayCalls d e
-  begun_keeps on d e (Err f) c r same later s = kept on d e same later s.1
-  begun_keeps on d e (Ok q) c (Ok k) same later s = λ j of. (s.others j of).0
-  begun_keeps on d e (Ok q) c (Err f) same later s = kept on d e same later s.0
+  -- so of what a start call keeps, and of a careful driver, by what is known of the driver as it was kept before
+  pub asked_keeps : (b d e : Driver P g) (r : Result (Call P) Fault) → b ≡ d → IsSame d e → g.follows d.port e.port → IsAsked d e r
+      → (IsSame b e → g.follows b.port e.port → (q : Result Request Fault) (c : CallData) (r : Result (Call P) Fault) → IsStart b e q c r → IfOk r (IsCallOf e) × ((k : Call P) → IsCallOf b k → IsCallOf e k × IfOk r (λ begun. IsApart begun k)))
+      → IfOk r (IsCallOf e) × ((k : Call P) → IsCallOf d k → IsCallOf e k × IfOk r (λ begun. IsApart begun k))
+  asked_keeps b d e r at same later asked law =
+      let moved = subst (λ (x : Driver P g). IsSame x e → g.follows x.port e.port → (q : Result Request Fault) (c : CallData) (r : Result (Call P) Fault) → IsStart x e q c r → IfOk r (IsCallOf e) × ((k : Call P) → IsCallOf x k → IsCallOf e k × IfOk r (λ begun. IsApart begun k))) at law in
+      asked_case d e r asked (λ q c s. moved same later q c r s)
 
-  pub begun_call : (d e : Driver P g) (q : Result Request Fault) (c : CallData) (r : Result (Call P) Fault) → IsStart d e q c r → IfOk r (IsNewCall d e)
-  begun_call d e (Err f) c r s = subst (λ (x : Result (Call P) Fault). IfOk x (IsNewCall d e)) (sym s.0) tt
-  begun_call d e (Ok q) c (Ok k) s = (s.of, λ j of. (s.others j of).1)
-  begun_call d e (Ok q) c (Err f) s = tt
+  pub asked_careful : (b d e : Driver P g) (r : Result (Call P) Fault) → b ≡ d → IsSame d e → g.follows d.port e.port → IsAsked d e r
+      → (IsSame b e → g.follows b.port e.port → (acwu slba bytes : ℕ) (o : Op) (c : CallData) (r : Result (Call P) Fault) → IsStart b e (request_of acwu (area_of b) o slba bytes) c r → (IsCareful b → IsCareful e) × GoesOn b e None)
+      → (IsSame b e → g.follows b.port e.port → (acwu slba bytes others : ℕ) (c : CallData) (r : Result (Call P) Fault) → IsStart b e (pair_request_of acwu (area_of b) slba bytes others) c r → (IsCareful b → IsCareful e) × GoesOn b e None)
+      → IsCareful d → IsCareful e
+  asked_careful b d e r at same later asked start pair careful =
+      go (subst (λ (x : Driver P g). IsAsked x e r) (sym at) asked)
+    where
+      same_b : IsSame b e
+      same_b = subst (λ (x : Driver P g). IsSame x e) (sym at) same
+
+      later_b : g.follows b.port e.port
+      later_b = subst (λ (x : Driver P g). g.follows x.port e.port) (sym at) later
+
+      careful_b : IsCareful b
+      careful_b = subst (λ (x : Driver P g). IsCareful x) (sym at) careful
+
+      go : IsAsked b e r → IsCareful e
+      go (inl h) = (start same_b later_b h.0 h.1 h.2 h.3 h.4 r h.5).0 careful_b
+      go (inr h) = (pair same_b later_b h.0 h.1 h.2 h.3 h.4 r h.5).0 careful_b
+
+  -- what a start call begins is new
+  pub new_call : (d e : Driver P g) (r : Result (Call P) Fault) → IfOk r (IsCallOf e) × ((k : Call P) → IsCallOf d k → IsCallOf e k × IfOk r (λ begun. IsApart begun k)) → IfOk r (IsNewCall d e)
+  new_call d e (Ok k) h = (h.0, λ j of. (h.1 j of).1)
+  new_call d e (Err f) h = tt
 
   pub back_of : (e : Driver P g) (k : Call P) (r : Poll P) (o : Option (Call P)) → o ≡ given_back r → IsBack k r → IsCallBack e r → IfSome o (λ j. (j ≡ k) × IsCallOf e j)
   back_of e k r o is back of = subst (λ (x : Option (Call P)). IfSome x (λ j. (j ≡ k) × IsCallOf e j)) (sym is) (go r back of)

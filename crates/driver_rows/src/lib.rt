@@ -10,7 +10,7 @@ mod fake;
 mod serve;
 mod service;
 
-pub use ask::{Ask, Fill, Told, answers, begins, hears, polled, polls, starts};
+pub use ask::{Ask, Fill, Told, answers, asked, begins, hears, polled, polls, starts};
 pub use bench::{Bench, Host, Server, Spares, bench_of, hand_of, host_of};
 pub use claimant::{
     Came, Claimant, Stage, asks, claimant_of, claimants_of, gives_back, leaves, polls_begun,
@@ -18,4 +18,7 @@ pub use claimant::{
 pub use desk::{desk_of, served, small_bench};
 pub use fake::{Did, Fake, Script, driver_of, good};
 pub use serve::{ends, fetches, makes, serves};
-pub use service::{Contents, answered, claims, is_served, meets, reads, releases};
+pub use service::{
+    Contents, answered, begins_call, claims, hears_all, is_served, meets, meets_server, polls_call,
+    reads, releases,
+};

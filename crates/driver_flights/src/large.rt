@@ -1,0 +1,172 @@
+//! Calls of 256 blocks, the most there are, in one unit and in 256.
+
+ghost use Rattle.std.specs.Prelude.{◌≡◌, ◌≤◌, IfOk, true};
+ghost use Rattle.history.specs.Config.{numbers};
+ghost use Rattle.driver_cas.specs.Drivers.{IsCallOf, IsSame, port_of};
+ghost use Rattle.driver_rows.specs.Benches.{AreOf, IsHostOf, IsServerOf, uses};
+ghost use Rattle.driver_rows.specs.Calls.{IsAsked};
+
+use driver_cas::laws::a_start_keeps_the_other_calls;
+use driver_cas::{Call, Driver, Fault, Port, SharedPort};
+use driver_rows::{
+    Ask, Bench, Fill, Host, Server, Spares, Told, answers, asked, bench_of, desk_of, hears, serves,
+};
+use history::Config;
+use std::alloc::Global;
+use std::process::Abort;
+use std::snapshot::Snapshot;
+use std::sync::Wait;
+use std::test::Fail;
+
+// The bytes of 256 blocks, and of 255.
+const ALL: usize = 131072;
+
+const ALL_BUT_ONE: usize = 130560;
+
+/// A call of 256 blocks from block 0 on, each of whose bytes is this one; or any other call.
+#[derive(Clone, Copy, Debug)]
+enum Whole {
+    Other(Ask),
+    Write(u8),
+    Compare(u8),
+    /// A Compare and Write: from the first to the second.
+    Swap(u8, u8),
+}
+
+// A bench of `config 256 AWUN 255 0 0 2 4 4 8`.
+fn large(alloc: Global, awun: u16) -> Result<(Bench, Spares), Fail>
+    ensures own { IfOk result (λ b. AreOf b.0 b.1) }
+    ensures config { IfOk result (λ b. b.0.config ≡ numbers 256 awun 255 0 0 2 4 4 8 2) }
+{
+    let Ok(config) = Config::new(256, awun, 255, 0, 0, 2, 4, 4, 8) else {
+        return Err(Fail::from("the configuration is refused"));
+    };
+    Ok(bench_of(alloc, config, 4, 2)?)
+}
+
+// Begins a call of a driver.
+fn whole_asked<P: Port>(driver: &mut Driver<P>, whole: Whole) -> Result<Call<P>, Fault>
+    ensures same { IsSame driver.old driver.new }
+    ensures later { P.follows (port_of driver.old) (port_of driver.new) }
+    ensures asked { IsAsked driver.old driver.new result }
+{
+    match whole {
+        Whole::Other(ask) => asked(driver, ask),
+        Whole::Write(byte) => driver.start_write(0, &[byte; ALL]),
+        Whole::Compare(byte) => driver.start_compare(0, &[byte; ALL]),
+        Whole::Swap(old, new) => driver.start_compare_and_write(0, &[old; ALL], &[new; ALL]),
+    }
+}
+
+// Begins a call of the host.
+fn begins_whole<'a>(
+    bench: &Bench,
+    host: &mut Host<'a>,
+    whole: Whole,
+) -> Result<Call<SharedPort<'a>>, Fault>
+    requires { IsHostOf bench.now host.old }
+    ensures same { IsHostOf bench.now host.new }
+    ensures call { IfOk result (IsCallOf host.new.driver) }
+{
+    // (named by the contract alone)
+    let _ = bench;
+    let before = Snapshot::of(&host.driver);
+    let begun = whole_asked(&mut host.driver, whole);
+    a_start_keeps_the_other_calls(&before, &host.driver);
+    begun
+}
+
+// How a call is answered, once its queue is served.
+fn served<R: Wait>(
+    rt: &R,
+    bench: &Bench,
+    server: &mut Server,
+    host: &mut Host<'_>,
+    whole: Whole,
+) -> Result<Told, Fault>
+    requires { IsServerOf bench.now server.old × IsHostOf bench.now host.old }
+    ensures { IsServerOf bench.now server.new × IsHostOf bench.now host.new }
+{
+    let call = begins_whole(bench, host, whole)?;
+    serves(rt, bench, server, 1);
+    hears(rt, bench, host);
+    Ok(answers(host, call, 2))
+}
+
+// That each call is answered so.
+fn all_served<R: Abort + Wait>(
+    rt: &R,
+    bench: &Bench,
+    server: &mut Server,
+    host: &mut Host<'_>,
+    rows: &[(Whole, Told)],
+)
+    requires { IsServerOf bench.now server.old × IsHostOf bench.now host.old }
+    ensures { IsServerOf bench.now server.new × IsHostOf bench.now host.new }
+{
+    for row in rows {
+        let (whole, told) = *row;
+        let want = Ok(told);
+        assert_eq!(rt; served(rt, bench, server, host, whole), want, "{whole:?}");
+    }
+}
+
+// So by a server and a host of this bench.
+fn answered_on<R: Abort + Wait>(
+    rt: &R,
+    alloc: Global,
+    bench: &Bench,
+    spares: &mut Spares,
+    rows: &[(Whole, Told)],
+) -> Result<(), Fail>
+    requires own { AreOf bench.now spares.old }
+    requires queue { (uses bench.now.config 1 1 ≡ true) × (1 ≤ bench.now.config.cqs) }
+{
+    let Some((mut server, mut host)) = desk_of(alloc, bench, spares, 0) else {
+        return Err(Fail::from("a host"));
+    };
+    all_served(rt, bench, &mut server, &mut host, rows);
+    Ok(())
+}
+
+// So on a bench of its own, whose units have at most `awun` and one blocks.
+fn answers_all<R: Abort + Wait>(
+    rt: &R,
+    alloc: Global,
+    awun: u16,
+    rows: &[(Whole, Told)],
+) -> Result<(), Fail> {
+    let (bench, mut spares) = large(alloc, awun)?;
+    answered_on(rt, alloc, &bench, &mut spares, rows)
+}
+
+// Each kind of call, equal, differing in each block, and differing in the last alone.
+fn kinds() -> [(Whole, Told); 17] {
+    let reads = Whole::Other(Ask::Read(0, 256));
+    [
+        (reads, Told::Read(ALL, 0)),
+        (Whole::Write(0xa1), Told::Written),
+        (reads, Told::Read(ALL, 0xa1)),
+        (Whole::Compare(0xa1), Told::Equal),
+        (Whole::Compare(0xb2), Told::Differs),
+        (Whole::Swap(0xa1, 0xb2), Told::Swapped),
+        (reads, Told::Read(ALL, 0xb2)),
+        (Whole::Swap(0xa1, 0xc3), Told::Differs),
+        (Whole::Other(Ask::Write(255, Fill(0xc3, 512))), Told::Written),
+        (Whole::Compare(0xb2), Told::Differs),
+        (Whole::Swap(0xb2, 0xd4), Told::Differs),
+        (reads, Told::Mixed),
+        (Whole::Other(Ask::Read(0, 255)), Told::Read(ALL_BUT_ONE, 0xb2)),
+        (Whole::Other(Ask::Read(255, 1)), Told::Read(512, 0xc3)),
+        (Whole::Other(Ask::WriteZeroes(0, 256)), Told::Written),
+        (Whole::Compare(0), Told::Equal),
+        (reads, Told::Read(ALL, 0)),
+    ]
+}
+
+#[test]
+fn calls_of_256_blocks_are_answered(rt: HostRuntime) -> Result<(), Fail> {
+    let rows = kinds();
+    answers_all(&rt, rt.alloc(), 255, &rows)?;
+    answers_all(&rt, rt.alloc(), 0, &rows)
+}
