@@ -1,6 +1,7 @@
 -- A call after its Publish, and the others.
 use Rattle.std.proofs.Common.{◌≡◌, ℕ, true, false, ◌&&◌, ◌||◌, eqb, List, ◌∷◌, Some, refl, sym, ap, ap₂, ◌∙◌, subst, inl, inr, eqb-true, length}
 use Rattle.std.specs.List.{Contains}
+use Rattle.std.specs.Prelude.{Err, IfOk, Ok, Result}
 use Rattle.std.proofs.lemmas.Bool.{and_parts, cases_Bool, cond-true, cond-false, or_cases}
 use Rattle.std.specs.declared.snapshot.Snapshot.{Snapshot}
 use Rattle.nvme_model.specs.Operations.{is_pair}
@@ -15,13 +16,16 @@ use Rattle.driver_calls.specs.Views.{since}
 use Rattle.driver_calls.specs.declared.event.PortEvent.{PortEvent}
 use Rattle.driver_commands.specs.declared.request.CallData.{CallData}
 use Rattle.driver_commands.specs.declared.request.Request.{Request}
-use Rattle.driver_cas.specs.Drivers.{IsApart, IsCallOf, IsSame, made, number_of}
+use Rattle.driver_cas.specs.Drivers.{HasSettings, IsApart, IsCallOf, IsSame, made, number_of}
+use Rattle.driver_cas.specs.Requests.{IsStart}
+use Rattle.driver_cas.specs.SlotStarts.{IsClaimStart, IsReleaseStart, release_data, swap_request}
 use Rattle.driver_cas.specs.Starts.{IsAsBefore, IsStarted, IsTaken, IsUntouched}
 use Rattle.driver_cas.specs.Tables.{IsHeld, is_free, is_its_cid}
-use Rattle.driver_cas.specs.Tries.{Sends}
+use Rattle.driver_cas.specs.Tries.{IsBegun, Sends}
 use Rattle.driver_cas.specs.Turns.{AreFree, IsTurn}
 use Rattle.driver_cas.specs.declared.call.Call.{Call}
 use Rattle.driver_cas.specs.declared.driver.Driver.{Driver}
+use Rattle.driver_cas.specs.declared.fault.Fault.{Fault}
 use Rattle.driver_cas.specs.declared.port.Port.{Ghosts}
 use Rattle.driver_cas.proofs.Drivers.{own_first, own_second, reaped_calls, same_number}
 use Rattle.driver_cas.proofs.Sending.{batch_cids, other_call, sent_call}
@@ -153,3 +157,33 @@ module _ {P : Type 0} (g : Ghosts P) where
       subst (λ (o : Op). IsStarted d f k o r.slba r.blocks contents) does
       (started on d e f k r.slba r.blocks contents batch x (subst (λ (o : Op). IsTurn d e.port (record { op = o; slba = r.slba; blocks = r.blocks }) contents k.queue) (sym does) turn)
       (subst (λ (c : CallData). Sends e f k r.slba r.blocks c batch) is s))
+
+  -- ---- what a start call keeps
+
+  -- after a fault
+  kept : ((a b c : P) → g.follows a b → g.follows b c → g.follows a c) → (d e : Driver P g) → IsSame d e → g.follows d.port e.port → IsAsBefore d e → (k : Call P) → IsCallOf d k → IsCallOf e k
+  kept on d e same later x k of = reaped_calls g on d e k same later (inl x.0) (λ q i. ap (λ (c : Cids). is_free (held c q i)) x.1) of
+
+  begun_keeps : ((a b c : P) → g.follows a b → g.follows b c → g.follows a c) → (d e : Driver P g) (q : Request) (contents : CallData) (r : Result (Call P) Fault) → IsSame d e → g.follows d.port e.port → IsBegun d e q contents r
+      → IfOk r (IsCallOf e) × ((k : Call P) → IsCallOf d k → IsCallOf e k × IfOk r (λ begun. IsApart begun k))
+  begun_keeps on d e q contents (Ok k) same later s = (s.of, λ other of. s.others other of)
+  begun_keeps on d e q contents (Err f) same later s = (tt, λ other of. (kept on d e same later s.0 other of, tt))
+
+  pub start_keeps : ((a b c : P) → g.follows a b → g.follows b c → g.follows a c) → (d e : Driver P g) (asked : Result Request Fault) (contents : CallData) (r : Result (Call P) Fault) → IsSame d e → g.follows d.port e.port → IsStart d e asked contents r
+      → IfOk r (IsCallOf e) × ((k : Call P) → IsCallOf d k → IsCallOf e k × IfOk r (λ begun. IsApart begun k))
+  start_keeps on d e (Ok q) contents r same later s = begun_keeps on d e q contents r same later s
+  start_keeps on d e (Err f) contents r same later s = (
+    subst (λ (x : Result (Call P) Fault). IfOk x (IsCallOf e)) (sym s.0) tt,
+    λ other of. (kept on d e same later s.1 other of, subst (λ (x : Result (Call P) Fault). IfOk x (λ begun. IsApart begun other)) (sym s.0) tt),
+  )
+
+  pub claim_keeps : ((a b c : P) → g.follows a b → g.follows b c → g.follows a c) → (d e : Driver P g) (lba : ℕ) (r : Result (Call P × ℕ) Fault) → HasSettings d e → g.follows d.port e.port → IsClaimStart d e lba r
+      → IfOk r (λ begun. IsCallOf e begun.0) × ((k : Call P) → IsCallOf d k → IsCallOf e k × IfOk r (λ begun. IsApart begun.0 k))
+  claim_keeps on d e lba (Ok k) settings later s = (s.2.of, λ other of. s.2.others other of)
+  claim_keeps on d e lba (Err f) settings later s =
+      let same : IsSame d e = record { began = settings.began; host = settings.host; acwu = settings.acwu; slots = settings.slots; serial = s.0; queues = settings.queues } in
+      (tt, λ other of. (kept on d e same later s.1 other of, tt))
+
+  pub release_keeps : ((a b c : P) → g.follows a b → g.follows b c → g.follows a c) → (d e : Driver P g) (lba serial : ℕ) (r : Result (Call P) Fault) → IsSame d e → g.follows d.port e.port → IsReleaseStart d e lba serial r
+      → IfOk r (IsCallOf e) × ((k : Call P) → IsCallOf d k → IsCallOf e k × IfOk r (λ begun. IsApart begun k))
+  release_keeps on d e lba serial r same later s = begun_keeps on d e (swap_request lba) (release_data d.host serial) r same later s

@@ -71,6 +71,14 @@ module _ {P : Type 0} {g : Ghosts P} where
       ((is_some (answer_to d k) ≡ true) × (e.port ≡ d.port) × (later ≡ None))
       ⊎ ((answer_to d k ≡ None) × ReapsOnce d e later)
 
+  -- its port as it is
+  abbrev pub port_of : Driver P g → P
+  port_of d = d.port
+
+  -- its submission queues, in rising order
+  abbrev pub queues_used : Driver P g → List ℕ
+  queues_used d = queues_of d.cids
+
   -- the slot area, the host number, and the last serial that was drawn
   abbrev pub area_of : Driver P g → Range
   area_of d = d.slots

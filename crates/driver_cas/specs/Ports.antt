@@ -5,6 +5,7 @@ use Rattle.nvme_model.specs.Refusals.{refusal}
 use Rattle.nvme_model.specs.declared.step.Step.{Step}
 use Rattle.nvme_model.specs.declared.submission.Submission.{Submission}
 use Rattle.meet_lock.specs.Passes as passes
+use Rattle.work_queue.specs.Engines.{EnginePass}
 use Rattle.driver_calls.specs.Views
 use Rattle.driver_calls.specs.Views.{IsFull, PortView, Publishes, log_of}
 use Rattle.driver_cas.specs.Passes.{view_at}
@@ -12,6 +13,13 @@ use Rattle.driver_cas.specs.Reaps.{IsCounted, IsReapedAs}
 use Rattle.driver_cas.specs.declared.fault.PortFault.{PortFault}
 use Rattle.driver_cas.specs.declared.port.Reaped.{Reaped}
 use Rattle.driver_cas.specs.declared.shared_port.SharedPort.{SharedPort}
+
+-- its pass, and its completion queue
+abbrev pub pass_of : SharedPort → EnginePass
+pass_of p = p.pass
+
+abbrev pub queue_of : SharedPort → ℕ
+queue_of p = p.queue
 
 -- what is known of it
 abbrev pub view_of : SharedPort → PortView

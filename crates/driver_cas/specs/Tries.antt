@@ -1,5 +1,5 @@
 -- What contracts say of trying the submission queues.
-use Rattle.std.specs.Prelude.{All, Contains, Err, List, Ok, Result, [], length, vec_capacity, ℕ, ◌∷◌, ◌≡◌, ◌≤◌, ◌⊎◌}
+use Rattle.std.specs.Prelude.{Contains, Err, List, Ok, Result, [], length, vec_capacity, ℕ, ◌∷◌, ◌≡◌, ◌≤◌, ◌⊎◌}
 use Rattle.cid_table.specs.Cids.{queues_of}
 use Rattle.nvme_model.specs.declared.operation.Op.{Op}
 use Rattle.nvme_model.specs.declared.submission.Submission.{Submission}
@@ -9,7 +9,7 @@ use Rattle.driver_commands.specs.declared.request.Request.{Request}
 use Rattle.driver_calls.specs.declared.event.PortEvent.{PortEvent}
 use Rattle.driver_cas.specs.Drivers.{IsSame}
 use Rattle.driver_cas.specs.Starts.{IsAsBefore, IsStarted, IsTaken}
-use Rattle.driver_cas.specs.Turns.{AreFree, HasEnough, IsEndedBy, IsPassed, IsRefusedFor}
+use Rattle.driver_cas.specs.Turns.{AreFree, ArePassed, HasEnough, IsEndedBy, IsRefusedFor}
 use Rattle.driver_cas.specs.declared.call.Call.{Call}
 use Rattle.driver_cas.specs.declared.driver.Driver.{Driver}
 use Rattle.driver_cas.specs.declared.fault.Fault.{Fault}
@@ -18,9 +18,9 @@ use Rattle.driver_cas.specs.declared.port.Port.{Ghosts}
 use Rattle.driver_cas.specs.declared.start.Tried.{Tried}
 
 module _ {P : Type 0} {g : Ghosts P} where
-  -- each submission queue of the driver was passed over
+  -- each submission queue of the driver was passed over, and by just that its port came to the later one
   abbrev pub NoneTook : Driver P g → Driver P g → Request → CallData → Type 0
-  NoneTook d e r contents = All (λ queue. IsPassed d e.port r contents queue) (queues_of d.cids)
+  NoneTook d e r contents = ArePassed d e.port r contents (length (queues_of d.cids))
 
   -- A fault that the port, or want of CIDs or of memory, is the cause of. The first answer of the port that isn't
   -- RingFull ends the call; a growth of the driver's own comes before all of them, where there are CIDs for it.

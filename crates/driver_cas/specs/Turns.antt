@@ -1,5 +1,6 @@
 -- Which submission queue a call is tried on, and why others are passed over.
-use Rattle.std.specs.Prelude.{Contains, List, Some, true, ℕ, ◌<◌, ◌≡◌, ◌⊎◌}
+use Rattle.std.specs.List.Sorted.{IsStrictlyIncreasing}
+use Rattle.std.specs.Prelude.{Contains, List, Some, get_or, length, suc, true, zero, ℕ, ◌<◌, ◌≡◌, ◌⊎◌}
 use Rattle.nvme_model.specs.Operations.{is_pair}
 use Rattle.nvme_model.specs.declared.operation.Op.{Op}
 use Rattle.nvme_model.specs.declared.submission.Submission.{Submission}
@@ -41,23 +42,28 @@ module _ {P : Type 0} {g : Ghosts P} where
       (first : ℕ) × (second : ℕ) × (batch : List Submission) × AreFree d.cids r.op queue first second
       × IsBatch r.op r.slba r.blocks first second contents batch × g.refuses before after queue batch fault
 
-  -- it had no room for them at some moment after the driver and before a later port
-  pub record WasFull (d : Driver P g) (now : P) (queue : ℕ) (r : Request) (contents : CallData) : Type 0 where
-    pub before : P
-    pub after : P
-    pub later : g.follows d.port before
-    pub full : IsRefusedFor d before after queue r contents PortFault.RingFull
-    pub still_later : g.follows after now
+  -- A submission queue was passed over, between two moments of the port with nothing else between: too few of its CIDs
+  -- are free, and the port wasn't asked; or it was asked once, and had no room there.
+  abbrev pub IsPassed : Driver P g → P → P → Request → CallData → ℕ → Type 0
+  IsPassed d before after r contents queue =
+      (HasTooFew d.cids r.op queue × (after ≡ before))
+      ⊎ (g.follows before after × IsRefusedFor d before after queue r contents PortFault.RingFull)
 
-  -- too few CIDs of the submission queue are free, or the port had no room there
-  abbrev pub IsPassed : Driver P g → P → Request → CallData → ℕ → Type 0
-  IsPassed d now r contents queue = HasTooFew d.cids r.op queue ⊎ WasFull d now queue r contents
+  -- The first k of the driver's submission queues were passed over, one after another in their order, and by just that
+  -- the driver's port came to this one.
+  abbrev pub ArePassed : Driver P g → P → Request → CallData → ℕ → Type 0
+  ArePassed d now r contents zero = now ≡ d.port
+  ArePassed d now r contents (suc k) =
+      (before : P) × ArePassed d before r contents k × IsPassed d before now r contents (get_or (queues_of d.cids) k 0)
 
-  -- It is this submission queue's turn: each of the driver's that comes before it, which are in rising order, was
+  -- It is this submission queue's turn: it is one of the driver's, which are in rising order, and each before it was
   -- passed over.
-  abbrev pub IsTurn : Driver P g → P → Request → CallData → ℕ → Type 0
-  IsTurn d now r contents queue =
-      (other : ℕ) → Contains (queues_of d.cids) other → other < queue → IsPassed d now r contents other
+  pub record IsTurn (d : Driver P g) (now : P) (r : Request) (contents : CallData) (queue : ℕ) : Type 0 where
+    pub place : ℕ
+    pub there : place < length (queues_of d.cids)
+    pub is : get_or (queues_of d.cids) place 0 ≡ queue
+    pub rising : IsStrictlyIncreasing (queues_of d.cids)
+    pub passed : ArePassed d now r contents place
 
   -- On the submission queue whose turn it was the port answered so, last of all.
   pub record IsEndedBy (d e : Driver P g) (r : Request) (contents : CallData) (fault : PortFault) : Type 0 where
@@ -66,4 +72,5 @@ module _ {P : Type 0} {g : Ghosts P} where
     pub known : Contains (queues_of d.cids) queue
     pub turn : IsTurn d before r contents queue
     pub later : g.follows d.port before
+    pub last : g.follows before e.port
     pub refused : IsRefusedFor d before e.port queue r contents fault

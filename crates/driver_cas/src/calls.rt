@@ -96,7 +96,7 @@ impl<P: Port> Driver<P> {
             (CallData.One contents.now) result }
     {
         let request = request(self.acwu, self.slots, op, slba, bytes)?;
-        if !self.has_free(op) {
+        if !self.has_free(request.op) {
             return Err(Fault::RingFull);
         }
         let Ok(payload) = Payload::copy_of(self.alloc, contents) else {
@@ -206,7 +206,7 @@ impl<P: Port> Driver<P> {
         ensures later { P.follows self.old.port self.new.port }
         ensures is { IsBegun self.old self.new request (CallData.Two expected.now desired.now) result }
     {
-        if !self.has_free(Op::Pair) {
+        if !self.has_free(request.op) {
             return Err(Fault::RingFull);
         }
         let Ok(first) = Payload::copy_of(self.alloc, expected) else {

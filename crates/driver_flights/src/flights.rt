@@ -1,7 +1,7 @@
 //! The calls of one driver that are in flight.
 
 ghost use Rattle.std.specs.Prelude.{◌≡◌, ◌∷◌, MatchOption};
-ghost use Rattle.driver_cas.specs.Drivers.{IsCallOf};
+ghost use Rattle.driver_cas.specs.Drivers.{IsCallOf, port_of};
 ghost use Rattle.driver_flights.specs.Flights.{AreCallsOf};
 
 use driver_cas::{Call, Driver, Fault, Port};
@@ -28,7 +28,7 @@ pub(crate) fn begins_one<P: Port>(
     ask: Ask,
 ) -> Result<(), Fault>
     requires { AreCallsOf driver.old calls.old.items }
-    ensures later { P.follows driver.old.port driver.new.port }
+    ensures later { P.follows (port_of driver.old) (port_of driver.new) }
     ensures calls { AreCallsOf driver.new calls.new.items }
 {
     if let Err(_) = calls.reserve(1) {
@@ -63,7 +63,7 @@ pub(crate) fn ends_one<P: Port>(
     most: u32,
 ) -> Option<(Told, u32)>
     requires { AreCallsOf driver.old calls.old.items }
-    ensures later { P.follows driver.old.port driver.new.port }
+    ensures later { P.follows (port_of driver.old) (port_of driver.new) }
     ensures calls { AreCallsOf driver.new calls.new.items }
 {
     let mut next = takes(driver, calls, place)?;

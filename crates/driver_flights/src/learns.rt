@@ -1,18 +1,19 @@
 //! What hosts learn of others: by meeting them, and by notices.
 
-ghost use Rattle.std.specs.Prelude.{◌≡◌};
+ghost use Rattle.std.specs.Prelude.{◌≡◌, ◌≤◌, IfOk, true};
 ghost use Rattle.history.specs.Config.{numbers};
-ghost use Rattle.driver_rows.specs.Benches.{AreOf, IsServerOf};
+ghost use Rattle.driver_rows.specs.Benches.{AreOf, IsServerOf, uses};
 ghost use Rattle.driver_flights.specs.Flights.{AreInFlight};
 
 use crate::full::core_after;
 use crate::hands::{on_own, server_of};
 use crate::turns::{Turn, turns};
 use crate::under_way::{Flight, meets, meets_server};
-use driver_rows::{Ask, Bench, Fill, Server, Spares, Told, small_bench};
+use driver_rows::{Ask, Bench, Fill, Server, Spares, Told, bench_of, small_bench};
+use history::Config;
 use history_check::check;
 use lock_rows::text;
-use std::alloc::Global;
+use std::alloc::{AllocError as NoMemory, Global};
 use std::process::Abort;
 use std::sync::Wait;
 use std::test::Fail;
@@ -78,42 +79,61 @@ fn does_all<R: Abort + Wait>(
     }
 }
 
-// So with host 1 and host 2.
+// So with these two hosts, each on the queues of its own number.
 fn both_do<R: Abort + Wait>(
     rt: &R,
     alloc: Global,
     bench: &Bench,
     spares: &mut Spares,
+    hosts: (u16, u16),
     all: &[Deed],
 ) -> Result<(), Fail>
     requires own { AreOf bench.now spares.old }
-    requires config { bench.now.config ≡ numbers 8 1 1 0 0 2 4 4 8 2 }
+    requires one { (1 ≤ hosts.0) × (hosts.0 ≤ bench.now.config.cqs) × (uses bench.now.config hosts.0 hosts.0 ≡ true) }
+    requires two { (1 ≤ hosts.1) × (hosts.1 ≤ bench.now.config.cqs) × (uses bench.now.config hosts.1 hosts.1 ≡ true) }
 {
     let mut server = server_of(bench, spares)?;
-    let mut one = on_own(alloc, bench, server_of(bench, spares)?, 1)?;
-    let mut two = on_own(alloc, bench, server_of(bench, spares)?, 2)?;
+    let mut one = on_own(alloc, bench, server_of(bench, spares)?, hosts.0)?;
+    let mut two = on_own(alloc, bench, server_of(bench, spares)?, hosts.1)?;
     does_all(rt, bench, &mut server, &mut one, &mut two, all);
     Ok(())
 }
 
-// On a bench of their own.
+// Hosts 1 and 2, on a bench of their own.
 fn hosts_do<R: Abort + Wait>(rt: &R, alloc: Global, all: &[Deed]) -> Result<(), Fail> {
     let (bench, mut spares) = small_bench(alloc, 4, 3).ok_or("memory")?;
-    both_do(rt, alloc, &bench, &mut spares, all)
+    both_do(rt, alloc, &bench, &mut spares, (1, 2), all)
 }
 
-// Host 1 writes, host 2 reads what it wrote, and they meet between all that.
-fn round(byte: u8) -> [Deed; 13] {
+// A bench of `config 8 1 1 0 0 4 4 4 8`.
+fn of_four(alloc: Global) -> Result<(Bench, Spares), Fail>
+    ensures own { IfOk result (λ b. AreOf b.0 b.1) }
+    ensures config { IfOk result (λ b. b.0.config ≡ numbers 8 1 1 0 0 4 4 4 8 4) }
+{
+    let Ok(config) = Config::new(8, 1, 1, 0, 0, 4, 4, 4, 8) else {
+        return Err(Fail::from("the configuration is refused"));
+    };
+    Ok(bench_of(alloc, config, 4, 3)?)
+}
+
+// Hosts 3 and 4, whose ports are those of completion queues 3 and 4.
+fn last_hosts_do<R: Abort + Wait>(rt: &R, alloc: Global, all: &[Deed]) -> Result<(), Fail> {
+    let (bench, mut spares) = of_four(alloc)?;
+    both_do(rt, alloc, &bench, &mut spares, (3, 4), all)
+}
+
+// Host a writes, host b reads what it wrote, and they meet between all that.
+fn round(byte: u8, a: u16, b: u16) -> [Deed; 13] {
     [
         Deed::One(Turn::Begin(Ask::Write(2, Fill(byte, 512)))),
         Deed::Meet,
-        Deed::One(Turn::Serve(1)),
+        Deed::One(Turn::Serve(a)),
         Deed::One(Turn::Listen(true)),
         Deed::One(Turn::End(0, 1, Told::Written)),
         Deed::Meet,
         Deed::MeetServer,
         Deed::Two(Turn::Begin(READ)),
-        Deed::Two(Turn::Serve(2)),
+        Deed::Two(Turn::Serve(b)),
         Deed::Two(Turn::Listen(true)),
         Deed::Two(Turn::End(0, 1, Told::Read(512, byte))),
         Deed::Meet,
@@ -121,15 +141,28 @@ fn round(byte: u8) -> [Deed; 13] {
     ]
 }
 
-#[test]
-fn hosts_that_work_meet(rt: HostRuntime) -> Result<(), Fail> {
-    let mut all = Vec::new(rt.alloc());
+// Eight such rounds.
+fn rounds(alloc: Global, a: u16, b: u16) -> Result<Vec<Deed>, NoMemory> {
+    let mut all = Vec::new(alloc);
     for byte in 1..9 {
-        for deed in round(byte) {
+        for deed in round(byte, a, b) {
             all.push(deed)?;
         }
     }
+    Ok(all)
+}
+
+#[test]
+fn hosts_that_work_meet(rt: HostRuntime) -> Result<(), Fail> {
+    let all = rounds(rt.alloc(), 1, 2)?;
     hosts_do(&rt, rt.alloc(), all.as_slice())
+}
+
+// The ports of completion queues 3 and 4 meet as those of 1 and 2 do.
+#[test]
+fn hosts_of_later_queues_meet(rt: HostRuntime) -> Result<(), Fail> {
+    let all = rounds(rt.alloc(), 3, 4)?;
+    last_hosts_do(&rt, rt.alloc(), all.as_slice())
 }
 
 // An empty queue tells of no completion, so that none is reaped, though one is posted; and meeting doesn't either.

@@ -7,6 +7,8 @@ mod acts;
 #[cfg(test)]
 mod cids;
 #[cfg(test)]
+mod crews;
+#[cfg(test)]
 mod faults;
 #[cfg(test)]
 mod flights;
@@ -17,6 +19,8 @@ mod hands;
 #[cfg(test)]
 mod hostile;
 #[cfg(test)]
+mod large;
+#[cfg(test)]
 mod learns;
 #[cfg(test)]
 mod rows;
@@ -26,6 +30,8 @@ mod sent;
 mod turns;
 #[cfg(test)]
 mod under_way;
+#[cfg(test)]
+mod whole;
 #[cfg(test)]
 mod wide;
 #[cfg(test)]

@@ -29,8 +29,8 @@ fn served<R: Wait>(
     Ok(answers(host, call, 2))
 }
 
-// That each call is answered so.
-fn all_answered<R: Abort + Wait>(
+/// That each call is answered so.
+pub(crate) fn all_answered<R: Abort + Wait>(
     rt: &R,
     bench: &Bench,
     server: &mut Server,

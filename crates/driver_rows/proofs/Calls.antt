@@ -1,5 +1,5 @@
 -- What becomes of a host's calls, what is fetched, and that there are completion queues.
-use Rattle.std.proofs.Common.{◌≡◌, ℕ, ◌<◌, ◌∙◌, Err, None, Ok, Option, Result, ap, arith, eqb, false, inl, is_none, subst, sym}
+use Rattle.std.proofs.Common.{◌≡◌, ℕ, ◌<◌, ◌∙◌, Err, None, Ok, Option, Result, ap, arith, eqb, false, is_none, subst, sym}
 use Rattle.std.specs.Prelude.{IfOk, IfSome}
 use Rattle.std.proofs.lemmas.Bool.{or_parts}
 use Rattle.std.proofs.lemmas.Bool.Decides.{nat_tests}
@@ -13,22 +13,14 @@ use Rattle.work_queue.specs.declared.engine.Engine.{Engine}
 use Rattle.work_queue.specs.declared.engine.Open.{Open}
 use Rattle.work_queue.specs.declared.engine.Opened.TheVariants as opened
 use Rattle.work_queue.specs.declared.work.Work.{Work}
-use Rattle.cid_table.specs.Cids.{Cids, held}
-use Rattle.driver_commands.specs.declared.request.CallData.{CallData}
-use Rattle.driver_commands.specs.declared.request.Request.{Request}
-use Rattle.driver_cas.specs.Drivers.{IsApart, IsBack, IsCallBack, IsCallOf, IsSame}
-use Rattle.driver_cas.specs.Requests.{IsStart}
-use Rattle.driver_cas.specs.Starts.{IsAsBefore, IsUntouched}
-use Rattle.driver_cas.specs.Tables.{is_free}
+use Rattle.driver_cas.specs.Drivers.{IsApart, IsBack, IsCallBack, IsCallOf}
 use Rattle.driver_cas.specs.declared.call.Call.{Call}
 use Rattle.driver_cas.specs.declared.call.Poll.{Poll}
 use Rattle.driver_cas.specs.declared.driver.Driver.{Driver}
 use Rattle.driver_cas.specs.declared.fault.Fault.{Fault}
 use Rattle.driver_cas.specs.declared.port.Port.{Ghosts}
 use Rattle.driver_cas.specs.declared.shared_port.SharedPort.{SharedPort}
-use Rattle.driver_cas.proofs.Drivers.{reaped_calls}
-use Rattle.driver_cas.proofs.Listening.{follows_later}
-use Rattle.driver_rows.specs.Calls.{IsNewCall, Polls, StayCalls, given_back}
+use Rattle.driver_rows.specs.Calls.{IsNewCall, Polls, given_back}
 use Rattle.driver_rows.specs.declared.bench.Host.{Host}
 
 -- ---- calls
@@ -38,22 +30,6 @@ polls_on h i m k n e x y =
     record {
       same = (y.same.0 ∙ x.same.0, y.same.1 ∙ x.same.1);
       others = λ j of apart. y.others j (x.others j of apart) (subst (λ (c : Call SharedPort). IsApart c j) (sym e) apart);
-    }
-
--- the same driver with a still later port
-pub untouched_on : (h i m : Host) → IsUntouched h.driver i.driver → IsUntouched i.driver m.driver → IsUntouched h.driver m.driver
-untouched_on h i m x y =
-    record {
-      same = record {
-        began = y.same.began ∙ x.same.began;
-        host = y.same.host ∙ x.same.host;
-        acwu = y.same.acwu ∙ x.same.acwu;
-        slots = y.same.slots ∙ x.same.slots;
-        serial = y.same.serial ∙ x.same.serial;
-        queues = y.same.queues ∙ x.same.queues;
-      };
-      later = follows_later h.driver.port i.driver.port m.driver.port x.later y.later;
-      as_before = (y.as_before.0 ∙ x.as_before.0, y.as_before.1 ∙ x.as_before.1);
     }
 
 -- ---- what is fetched
@@ -80,18 +56,10 @@ some_queues c e = not_zero c.cqs (or_parts _ _ (none_holds (config_faults c) (ap
 -- ---- calls of any port
 
 module _ {P : Type 0} {g : Ghosts P} where
-  kept : ((a b c : P) → g.follows a b → g.follows b c → g.follows a c) → (d e : Driver P g) → IsSame d e → g.follows d.port e.port → IsAsBefore d e → StayCalls d e
-  kept on d e same later before = λ k of. reaped_calls g on d e k same later (inl before.0) (λ q n. ap (λ (c : Cids). is_free (held c q n)) before.1) of
-
-  pub begun_keeps : ((a b c : P) → g.follows a b → g.follows b c → g.follows a c) → (d e : Driver P g) (q : Result Request Fault) (c : CallData) (r : Result (Call P) Fault) → IsSame d e → g.follows d.port e.port → IsStart d e q c r → StayCalls d e
-  begun_keeps on d e (Err f) c r same later s = kept on d e same later s.1
-  begun_keeps on d e (Ok q) c (Ok k) same later s = λ j of. (s.others j of).0
-  begun_keeps on d e (Ok q) c (Err f) same later s = kept on d e same later s.0
-
-  pub begun_call : (d e : Driver P g) (q : Result Request Fault) (c : CallData) (r : Result (Call P) Fault) → IsStart d e q c r → IfOk r (IsNewCall d e)
-  begun_call d e (Err f) c r s = subst (λ (x : Result (Call P) Fault). IfOk x (IsNewCall d e)) (sym s.0) tt
-  begun_call d e (Ok q) c (Ok k) s = (s.of, λ j of. (s.others j of).1)
-  begun_call d e (Ok q) c (Err f) s = tt
+  -- what a start call begins is new
+  pub new_call : (d e : Driver P g) (r : Result (Call P) Fault) → IfOk r (IsCallOf e) × ((k : Call P) → IsCallOf d k → IsCallOf e k × IfOk r (λ begun. IsApart begun k)) → IfOk r (IsNewCall d e)
+  new_call d e (Ok k) h = (h.0, λ j of. (h.1 j of).1)
+  new_call d e (Err f) h = tt
 
   pub back_of : (e : Driver P g) (k : Call P) (r : Poll P) (o : Option (Call P)) → o ≡ given_back r → IsBack k r → IsCallBack e r → IfSome o (λ j. (j ≡ k) × IsCallOf e j)
   back_of e k r o is back of = subst (λ (x : Option (Call P)). IfSome x (λ j. (j ≡ k) × IsCallOf e j)) (sym is) (go r back of)

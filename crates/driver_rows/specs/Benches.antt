@@ -5,7 +5,9 @@ use Rattle.nvme_model.specs.declared.config.ConfigNumbers.{ConfigNumbers}
 use Rattle.meet_lock.specs.Passes.{config_of}
 use Rattle.work_queue.specs.Engines as engine
 use Rattle.work_queue.specs.QueuePasses as queue
+use Rattle.driver_cas.specs.Drivers.{port_of}
 use Rattle.driver_cas.specs.Listening.{IsPlaceFor}
+use Rattle.driver_cas.specs.Ports.{pass_of}
 use Rattle.driver_rows.specs.declared.bench.Bench.{Bench}
 use Rattle.driver_rows.specs.declared.bench.Host.{Host}
 use Rattle.driver_rows.specs.declared.bench.Server.{Server}
@@ -21,7 +23,8 @@ IsServerOf b s =
     engine.IsOf b.engine s.pass × queue.IsPlaceOf b.engine b.notices s.place × (config_of s.pass ≡ b.config)
 
 abbrev pub IsHostOf : Bench → Host → Type 0
-IsHostOf b h = IsPlaceFor h.driver.port b.notices h.place × engine.IsOf b.engine h.driver.port.pass
+IsHostOf b h =
+    IsPlaceFor (port_of h.driver) b.notices h.place × engine.IsOf b.engine (pass_of (port_of h.driver))
 
 -- so are these, that nobody has yet
 pub record AreOf (b : Bench) (s : Spares) : Type 0 where

@@ -1,6 +1,10 @@
 -- What becomes of a host's calls.
-use Rattle.std.specs.Prelude.{IfOk, None, Option, Result, Some, ◌≡◌}
-use Rattle.driver_cas.specs.Drivers.{IsApart, IsCallOf}
+use Rattle.std.specs.Prelude.{IfOk, None, Option, Result, Some, ℕ, ◌≡◌, ◌⊎◌}
+use Rattle.nvme_model.specs.declared.operation.Op.{Op}
+use Rattle.driver_commands.specs.declared.request.CallData.{CallData}
+use Rattle.driver_cas.specs.Drivers.{IsApart, IsCallOf, area_of, port_of}
+use Rattle.driver_cas.specs.Listening.{IsBeside}
+use Rattle.driver_cas.specs.Requests.{IsStart, pair_request_of, request_of}
 use Rattle.driver_cas.specs.declared.call.Call.{Call}
 use Rattle.driver_cas.specs.declared.call.Poll.{Poll}
 use Rattle.driver_cas.specs.declared.driver.Driver.{Driver}
@@ -10,6 +14,14 @@ use Rattle.driver_cas.specs.declared.shared_port.SharedPort.{SharedPort}
 use Rattle.driver_rows.specs.declared.bench.Host.{Host}
 
 module _ {P : Type 0} {g : Ghosts P} where
+  -- one of the start calls for data was made, and answered so
+  abbrev pub IsAsked : Driver P g → Driver P g → Result (Call P) Fault → Type 0
+  IsAsked d e r =
+      ((acwu : ℕ) × (slba : ℕ) × (bytes : ℕ) × (o : Op) × (contents : CallData)
+      × IsStart d e (request_of acwu (area_of d) o slba bytes) contents r)
+      ⊎ ((acwu : ℕ) × (slba : ℕ) × (bytes : ℕ) × (others : ℕ) × (contents : CallData)
+      × IsStart d e (pair_request_of acwu (area_of d) slba bytes others) contents r)
+
   -- all its calls stay its calls
   abbrev pub StayCalls : Driver P g → Driver P g → Type 0
   StayCalls d e = (k : Call P) → IsCallOf d k → IsCallOf e k
@@ -20,7 +32,7 @@ module _ {P : Type 0} {g : Ghosts P} where
 
 -- the host is of the same engine, with the same pass of the queue
 abbrev pub IsSameHost : Host → Host → Type 0
-IsSameHost h i = (i.driver.port.pass.seat.table_id ≡ h.driver.port.pass.seat.table_id) × (i.place ≡ h.place)
+IsSameHost h i = IsBeside (port_of h.driver) (port_of i.driver) × (i.place ≡ h.place)
 
 -- all its calls stay its calls
 abbrev pub Keeps : Host → Host → Type 0

@@ -1,18 +1,22 @@
 //! A host's calls.
 
 ghost use Rattle.std.specs.Prelude.{◌≡◌, IfOk, IfSome};
-ghost use Rattle.driver_cas.specs.Drivers.{IsApart, IsCallOf, IsSame};
+ghost use Rattle.driver_cas.specs.Drivers.{IsApart, IsCallOf, IsSame, port_of};
 ghost use Rattle.driver_cas.specs.Starts.{IsUntouched};
 ghost use Rattle.driver_cas.specs.declared.call.Call.{Call};
 ghost use Rattle.driver_rows.specs.Benches.{IsHostOf};
-ghost use Rattle.driver_rows.specs.Calls.{Begins, IsNewCall, Keeps, Polls, StayCalls, given_back};
+ghost use Rattle.driver_rows.specs.Calls.{Begins, IsAsked, IsNewCall, Keeps, Polls, StayCalls, given_back};
+ghost use Rattle.slot_alloc.specs.Careful.{IsCareful};
 
 use crate::bench::{Bench, Host};
+use driver_cas::laws::{a_start_keeps_the_other_calls, an_untouched_driver_stays_so};
 use driver_cas::{Call, Driver, Fault, Poll, Port, Reply, SharedPort};
+use slot_alloc::laws::other_calls_touch_no_slot;
+use std::snapshot::Snapshot;
 use std::sync::Wait;
 
-// The most bytes of a call here.
-const MOST: usize = 1536;
+// The most bytes of a call here: those of 256 blocks.
+const MOST: usize = 131072;
 
 /// So many bytes, at most `MOST`, all of which are this one.
 #[derive(Clone, Copy, Debug)]
@@ -84,16 +88,11 @@ fn poll_in_words<P>(poll: Poll<P>) -> (Told, Option<Call<P>>)
     }
 }
 
-/// Begins a call of a driver.
-///
-/// # Errors
-///
-/// What the driver answers; its calls stay.
-pub fn begins<P: Port>(driver: &mut Driver<P>, ask: Ask) -> Result<Call<P>, Fault>
+// Begins a call of a driver.
+fn asked<P: Port>(driver: &mut Driver<P>, ask: Ask) -> Result<Call<P>, Fault>
     ensures same { IsSame driver.old driver.new }
-    ensures later { P.follows driver.old.port driver.new.port }
-    ensures keeps { StayCalls driver.old driver.new }
-    ensures call { IfOk result (IsNewCall driver.old driver.new) }
+    ensures later { P.follows (port_of driver.old) (port_of driver.new) }
+    ensures asked { IsAsked driver.old driver.new result }
 {
     match ask {
         Ask::Read(slba, blocks) => driver.start_read(slba, blocks),
@@ -118,14 +117,38 @@ pub fn begins<P: Port>(driver: &mut Driver<P>, ask: Ask) -> Result<Call<P>, Faul
     }
 }
 
+/// Begins a call of a driver.
+///
+/// # Errors
+///
+/// What the driver answers; its calls stay.
+pub fn begins<P: Port>(driver: &mut Driver<P>, ask: Ask) -> Result<Call<P>, Fault>
+    ensures same { IsSame driver.old driver.new }
+    ensures later { P.follows (port_of driver.old) (port_of driver.new) }
+    ensures keeps { StayCalls driver.old driver.new }
+    ensures call { IfOk result (IsNewCall driver.old driver.new) }
+    ensures careful { IsCareful driver.old → IsCareful driver.new }
+{
+    let before = Snapshot::of(&*driver);
+    let begun = asked(driver, ask);
+    a_start_keeps_the_other_calls(&before, driver);
+    other_calls_touch_no_slot(&before, driver);
+    begun
+}
+
 /// Polls a call of a driver once.
 pub fn polled<P: Port>(driver: &mut Driver<P>, call: Call<P>) -> (Told, Option<Call<P>>)
     requires { IsCallOf driver.old call }
-    ensures later { P.follows driver.old.port driver.new.port }
+    ensures same { IsSame driver.old driver.new }
+    ensures later { P.follows (port_of driver.old) (port_of driver.new) }
     ensures back { IfSome result.1 (λ k. (k ≡ call) × IsCallOf driver.new k) }
     ensures others { (j : Call P) → IsCallOf driver.old j → IsApart call j → IsCallOf driver.new j }
+    ensures careful { IsCareful driver.old → IsCareful driver.new }
 {
-    poll_in_words(driver.poll(call))
+    let before = Snapshot::of(&*driver);
+    let poll = driver.poll(call);
+    other_calls_touch_no_slot(&before, driver);
+    poll_in_words(poll)
 }
 
 /// Begins a call.
@@ -174,9 +197,13 @@ pub fn hears<R: Wait>(rt: &R, bench: &Bench, host: &mut Host<'_>) -> u32
     ensures calls { Keeps host.old host.new }
     ensures untouched { IsUntouched host.old.driver host.new.driver }
 {
+    let before = Snapshot::of(&host.driver);
     let mut count: u32 = 0;
     for _ in rt.forever() {
-        if !host.driver.listen(rt, &bench.notices, &mut host.place) {
+        let now = Snapshot::of(&host.driver);
+        let took = host.driver.listen(rt, &bench.notices, &mut host.place);
+        an_untouched_driver_stays_so(&before, &now, &host.driver);
+        if !took {
             return count;
         }
         count = count.wrapping_add(1);

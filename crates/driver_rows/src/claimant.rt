@@ -4,14 +4,19 @@ ghost use Rattle.std.specs.Prelude.{◌≡◌, ◌<◌, ◌≤◌, ◌∷◌, []
 ghost use Rattle.driver_rows.specs.Benches.{AreOf, IsServerOf};
 ghost use Rattle.slot_alloc.specs.Areas.{area};
 ghost use Rattle.slot_alloc.specs.Claims.{IsClaimingOf, IsReleasingOf, IsUnreleased};
+ghost use Rattle.driver_cas.specs.Starts.{IsUntouched};
 ghost use Rattle.driver_rows.specs.Claimants.{IsBegun, IsClaimant, IsReady};
+ghost use Rattle.driver_rows.specs.declared.bench.Host.{Host};
+ghost use Rattle.driver_rows.specs.declared.claimant.Stage.{Stage};
 
 use crate::bench::{Bench, Host, Server, Spares, hand_of, host_of};
-use driver_cas::{Fault, SharedPort};
+use driver_cas::{Driver, Fault, SharedPort};
 use nvme_model::array::Range;
+use slot_alloc::laws::an_untouched_driver_keeps_its_slots;
 use slot_alloc::{Claim, Claiming, Progress, Released, Releasing, Slots, poll_claim, poll_release};
 use std::alloc::{AllocError as NoMemory, Global};
 use std::mem;
+use std::snapshot::Snapshot;
 
 /// A claim that may be dropped: its slot then stays held.
 pub struct Kept {
@@ -49,6 +54,14 @@ pub struct Claimant<'a> {
     pub host: Host<'a>,
     pub queue: u16,
     pub stage: Stage<'a>,
+}
+
+/// What a host has begun stays so where its driver did nothing.
+pub(crate) fn begun_stays<'a>(before: &Snapshot<Driver<SharedPort<'a>>>, host: &Host<'a>)
+    ensures { (h : Host) → before.now.value ≡ h.driver → IsUntouched h.driver host.now.driver → (stage : Stage) →
+        IsBegun h stage → IsBegun host.now stage }
+{
+    an_untouched_driver_keeps_its_slots(before, &host.driver);
 }
 
 /// Host h, on queue h, with so many slots from block 0 on, which has begun nothing; None where memory is refused.

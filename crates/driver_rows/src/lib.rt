@@ -18,4 +18,7 @@ pub use claimant::{
 pub use desk::{desk_of, served, small_bench};
 pub use fake::{Did, Fake, Script, driver_of, good};
 pub use serve::{ends, fetches, makes, serves};
-pub use service::{Contents, answered, claims, is_served, meets, reads, releases};
+pub use service::{
+    Contents, answered, begins_call, claims, hears_all, is_served, meets, meets_server, polls_call,
+    reads, releases,
+};

@@ -8,16 +8,28 @@ ghost use Rattle.driver_rows.specs.Calls.{Keeps};
 ghost use Rattle.slot_alloc.specs.Areas.{area};
 ghost use Rattle.driver_rows.specs.Claimants.{IsClaimant, IsReady};
 
-use crate::ask::hears;
+use crate::ask::{Ask, Told, begins, hears, polled};
 use crate::bench::{Bench, Host, Server};
-use crate::claimant::{Came, Claimant, Stage, asks, gives_back, polls_begun};
+use crate::claimant::{Came, Claimant, Stage, asks, begun_stays, gives_back, polls_begun};
 use crate::serve::serves;
 use driver_cas::{Call, Poll, Reply, SharedPort};
 use slot_alloc::Slots;
+use std::snapshot::Snapshot;
 use std::sync::Wait;
 
 /// A block.
 pub type Contents = [u8; 512];
+
+/// The host learns all notices that are there.
+pub fn hears_all<R: Wait>(rt: &R, bench: &Bench, slots: &Slots, claimant: &mut Claimant<'_>)
+    requires { IsClaimant bench.now slots.now claimant.old }
+    ensures claimant { IsClaimant bench.now slots.now claimant.new }
+    ensures calls { Keeps claimant.old.host claimant.new.host }
+{
+    let before = Snapshot::of(&claimant.host.driver);
+    listens(rt, bench, slots, &mut claimant.host);
+    begun_stays(&before, &claimant.host);
+}
 
 /// What is in the host's submission queue is served, and it hears of each completion; whether nothing was refused.
 pub fn is_served<R: Wait>(
@@ -33,7 +45,7 @@ pub fn is_served<R: Wait>(
     ensures claimant { IsClaimant bench.now slots.now claimant.new }
 {
     let done = serves(rt, bench, server, claimant.queue);
-    listens(rt, bench, slots, &mut claimant.host);
+    hears_all(rt, bench, slots, claimant);
     done
 }
 
@@ -56,7 +68,41 @@ pub fn meets(bench: &Bench, slots: &Slots, one: &mut Claimant<'_>, two: &mut Cla
     ensures one { IsClaimant bench.now slots.now one.new }
     ensures two { IsClaimant bench.now slots.now two.new }
 {
-    met(bench, slots, &mut one.host, &mut two.host)
+    let first = Snapshot::of(&one.host.driver);
+    let second = Snapshot::of(&two.host.driver);
+    let met = met(bench, slots, &mut one.host, &mut two.host);
+    begun_stays(&first, &one.host);
+    begun_stays(&second, &two.host);
+    met
+}
+
+// The host and a server meet; whether no other caller had the controller.
+fn met_server(_bench: &Bench, _slots: &Slots, host: &mut Host<'_>, server: &mut Server) -> bool
+    requires host { IsReady _bench.now _slots.now host.old }
+    requires server { IsServerOf _bench.now server.old }
+    ensures host { IsReady _bench.now _slots.now host.new }
+    ensures untouched { IsUntouched host.old.driver host.new.driver }
+    ensures server { IsServerOf _bench.now server.new }
+{
+    host.driver.meet_pass(&mut server.pass).is_ok()
+}
+
+/// The host and a server have seen the whole history so far; false where another caller had the controller.
+pub fn meets_server(
+    bench: &Bench,
+    slots: &Slots,
+    claimant: &mut Claimant<'_>,
+    server: &mut Server,
+) -> bool
+    requires claimant { IsClaimant bench.now slots.now claimant.old }
+    requires server { IsServerOf bench.now server.old }
+    ensures claimant { IsClaimant bench.now slots.now claimant.new }
+    ensures server { IsServerOf bench.now server.new }
+{
+    let before = Snapshot::of(&claimant.host.driver);
+    let met = met_server(bench, slots, &mut claimant.host, server);
+    begun_stays(&before, &claimant.host);
+    met
 }
 
 /// What comes in the end of what is begun, each time served and polled, at most so many times.
@@ -137,21 +183,33 @@ fn contents_of(reply: &Reply) -> Option<Contents> {
     Some(contents)
 }
 
-// Begins to read a block.
-fn begins_read<'a>(
+/// Begins a call of the host's driver; None where it isn't begun.
+pub fn begins_call<'a>(
     _bench: &Bench,
     _slots: &Slots,
     host: &mut Host<'a>,
-    lba: u64,
+    ask: Ask,
 ) -> Option<Call<SharedPort<'a>>>
     requires { IsReady _bench.now _slots.now host.old }
     ensures ready { IsReady _bench.now _slots.now host.new }
     ensures call { IfSome result (λ k. IsCallOf host.new.driver k) }
 {
-    match host.driver.start_read(lba, 1) {
-        Ok(call) => Some(call),
-        Err(_) => None,
-    }
+    begins(&mut host.driver, ask).ok()
+}
+
+/// Polls a call of the host's driver once.
+pub fn polls_call<'a>(
+    _bench: &Bench,
+    _slots: &Slots,
+    host: &mut Host<'a>,
+    call: Call<SharedPort<'a>>,
+) -> (Told, Option<Call<SharedPort<'a>>>)
+    requires ready { IsReady _bench.now _slots.now host.old }
+    requires call { IsCallOf host.old.driver call }
+    ensures ready { IsReady _bench.now _slots.now host.new }
+    ensures back { IfSome result.1 (λ k. IsCallOf host.new.driver k) }
+{
+    polled(&mut host.driver, call)
 }
 
 // The bytes that were read, where the first completion that is reaped is that of the Read.
@@ -197,7 +255,7 @@ pub fn reads<R: Wait>(
     ensures claimant { IsClaimant bench.now slots.now claimant.new }
 {
     claimant.stage = Stage::Idle;
-    let call = begins_read(bench, slots, &mut claimant.host, lba)?;
+    let call = begins_call(bench, slots, &mut claimant.host, Ask::Read(lba, 1))?;
     serves(rt, bench, server, claimant.queue);
     listens(rt, bench, slots, &mut claimant.host);
     polled_read(bench, slots, &mut claimant.host, call)

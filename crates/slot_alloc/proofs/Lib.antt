@@ -6,3 +6,4 @@ pub mod GivingBack
 pub mod Keeping
 pub mod Staying
 pub mod Taking
+pub mod Untouched

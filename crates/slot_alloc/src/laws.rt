@@ -14,6 +14,7 @@ ghost use Rattle.driver_cas.specs.Drivers.{host_of, made, number_of, serial_of a
 ghost use Rattle.driver_cas.specs.Ports.{Follows, view_of};
 ghost use Rattle.driver_cas.specs.SlotStarts.{IsClaimStart, IsReleaseStart};
 ghost use Rattle.driver_cas.specs.Requests.{IsStart, pair_request_of, request_of};
+ghost use Rattle.driver_cas.specs.Starts.{IsUntouched};
 ghost use Rattle.driver_cas.specs.declared.call.Call.{Call};
 ghost use Rattle.driver_cas.specs.declared.fault.Fault.{Fault};
 ghost use Rattle.driver_cas.specs.declared.shared_port.SharedPort.{SharedPort};
@@ -28,7 +29,10 @@ ghost use Rattle.slot_alloc.specs.Claims.{ClaimSays, IsCallKept, IsClaimingOf, I
 ghost use Rattle.slot_alloc.specs.Claims.{is_other_claim, release_call, stage_of};
 ghost use Rattle.slot_alloc.specs.Progresses.{IsQuiet};
 ghost use Rattle.slot_alloc.specs.Releases.{IsReleased};
+ghost use Rattle.slot_alloc.specs.declared.claim.Claim.{Claim};
+ghost use Rattle.slot_alloc.specs.declared.claiming.Claiming.{Claiming};
 ghost use Rattle.slot_alloc.specs.declared.progress.Released.{Released};
+ghost use Rattle.slot_alloc.specs.declared.release.Releasing.{Releasing};
 
 use crate::claim::Claim;
 use crate::claiming::Claiming;
@@ -121,6 +125,24 @@ pub fn a_begun_claim_stays<P: Port>(
     let _ = old;
     let _ = new;
     let _ = claiming;
+}
+
+/// What was begun and what is held stays so where the driver did nothing: over `meet`, `meet_pass` and `listen`, and
+/// after a fault of a start call.
+pub fn an_untouched_driver_keeps_its_slots<P: Port>(old: &Snapshot<Driver<P>>, new: &Driver<P>)
+    ensures careful { IsUntouched old.now.value new.now → IsCareful old.now.value → IsCareful new.now }
+    ensures goes_on { IsUntouched old.now.value new.now → GoesOn old.now.value new.now None }
+    ensures held { IsUntouched old.now.value new.now →
+        (c : Claim) → IsHeldBy old.now.value c → IsHeldBy new.now c }
+    ensures claiming { IsUntouched old.now.value new.now →
+        (k : Claiming P _) → IsClaimingOf old.now.value k → IsClaimingOf new.now k }
+    ensures unreleased { IsUntouched old.now.value new.now → (k : Claiming P _) →
+        IsClaimingOf old.now.value k → IsUnreleased old.now.value k → IsUnreleased new.now k }
+    ensures releasing { IsUntouched old.now.value new.now →
+        (k : Releasing P) → IsReleasingOf old.now.value k → IsReleasingOf new.now k }
+{
+    let _ = old;
+    let _ = new;
 }
 
 /// A release that was begun stays so as long as its call is the driver's.

@@ -1,10 +1,10 @@
-use Rattle.std.proofs.Common.{List, ℕ, get_or, rules, ◌<◌, ◌≡◌, ◌∙◌, ap, arith, length, refl, subst, sym}
+use Rattle.std.proofs.Common.{List, ℕ, get_or, rules, ◌<◌, ◌≡◌, ◌∙◌, ap, length, refl, subst, sym}
 use Rattle.std.specs.List.Sorted.{IsStrictlyIncreasing}
 use Rattle.std.specs.Prelude.{Contains}
 use Rattle.cid_table.specs.Cids.{Cids, queues_of}
 use Rattle.driver_cas.specs.Turns.{IsTurn}
 use Rattle.driver_cas.proofs.Starting.{begun, untouched_on, untouched_self}
-use Rattle.driver_cas.proofs.Passing.{contained, no_room, one_more_passed, stopped, too_few, turn_now}
+use Rattle.driver_cas.proofs.Passing.{contained, no_room, stopped, too_few, turn_now}
 use Rattle.driver_cas.proofs.driver.Driver.start.Goals as goal
 
 pub loop-k-init : goal.loop-k-init
@@ -13,7 +13,7 @@ loop-k-init g c = record {
   contents = refl;
   empty = c.requires.room.0;
   capacity = c.requires.room.1;
-  passed = λ i x h. absurd (omega (arith, h));
+  passed = refl;
 }
 
 pub loop-k-preserved-in_default : goal.loop-k-preserved-in_default
@@ -28,10 +28,8 @@ loop-k-preserved-in_default g c =
       contents = i.contents;
       empty = i.empty;
       capacity = i.capacity;
-      passed = one_more_passed g.P.Port g.met.P.Port.goes_on d e.port e.port c.args.request c.args.contents k (get_or c.queues.result.now k 0) (g.met.P.Port.stays e.port) (subst (λ (xs : List ℕ). k < length xs) c.queues-k-end.ensures.value c.loop-k-test.true)
-          (ap (λ (xs : List ℕ). get_or xs k 0) (c.queues.ensures.value ∙ ap queues_of i.untouched.as_before.1)) i.passed
-          (too_few g.P.Port d e c.args.request c.args.contents (get_or c.queues.result.now k 0) i.untouched
-          (c.in_default.ensures.none (subst (λ (xs : List ℕ). Contains xs (get_or c.queues.result.now k 0)) c.queues.ensures.value (contained c.queues.result.now k within))));
+      passed = too_few g.P.Port d e c.args.request c.args.contents k (get_or c.queues.result.now k 0) i.untouched (ap (λ (xs : List ℕ). get_or xs k 0) (c.queues.ensures.value ∙ ap queues_of i.untouched.as_before.1)) i.passed
+          (c.in_default.ensures.none (subst (λ (xs : List ℕ). Contains xs (get_or c.queues.result.now k 0)) c.queues.ensures.value (contained c.queues.result.now k within)));
     }
 
 pub returns-in-Started-clause-later : goal.returns-in-Started-clause-later
@@ -63,7 +61,7 @@ returns-in-Stopped-clause-is g c =
     (subst (λ (xs : List ℕ). Contains xs (get_or c.queues.result.now c.loop-k.k 0)) same (contained c.queues.result.now c.loop-k.k within))
     (turn_now g.P.Port d e.port r c.args.contents c.loop-k.k (get_or c.queues.result.now c.loop-k.k 0) (subst (λ (x : Cids). IsStrictlyIncreasing (queues_of x)) i.untouched.as_before.1 c.queues.ensures.law)
     (subst (λ (xs : List ℕ). c.loop-k.k < length xs) c.queues-k-end.ensures.value c.loop-k-test.true) (ap (λ (xs : List ℕ). get_or xs c.loop-k.k 0) same) i.passed)
-    i.untouched i.contents c.in-Stopped.ensures.tried
+    i.untouched i.contents c.publish_to.ensures.later c.in-Stopped.ensures.tried
 
 pub loop-k-preserved : goal.loop-k-preserved
 loop-k-preserved g c =
@@ -78,7 +76,6 @@ loop-k-preserved g c =
       contents = t.1 ∙ i.contents;
       empty = t.2;
       capacity = t.3;
-      passed = one_more_passed g.P.Port g.met.P.Port.goes_on d e.port f.port c.args.request c.args.contents k (get_or c.queues.result.now k 0) c.publish_to.ensures.later (subst (λ (xs : List ℕ). k < length xs) c.queues-k-end.ensures.value c.loop-k-test.true)
-          (ap (λ (xs : List ℕ). get_or xs k 0) (c.queues.ensures.value ∙ ap queues_of i.untouched.as_before.1)) i.passed
-          (no_room g.P.Port g.met.P.Port.stays d e f.port c.args.request c.args.contents c.loop-k.contents (get_or c.queues.result.now k 0) i.untouched i.contents t.4);
+      passed = no_room g.P.Port d e f.port c.args.request c.args.contents c.loop-k.contents k (get_or c.queues.result.now k 0) i.untouched i.contents c.publish_to.ensures.later
+          (ap (λ (xs : List ℕ). get_or xs k 0) (c.queues.ensures.value ∙ ap queues_of i.untouched.as_before.1)) i.passed t.4;
     }

@@ -1,7 +1,7 @@
 use Rattle.std.proofs.Common.{[], ◌≡◌, ◌≤◌, vec_capacity}
 use Rattle.driver_commands.specs.Entries.{entry_count}
 use Rattle.driver_cas.specs.Starts.{IsUntouched}
-use Rattle.driver_cas.proofs.Passing.{PassedBelow}
+use Rattle.driver_cas.specs.Turns.{ArePassed}
 use Rattle.driver_cas.proofs.driver.Driver.start.Given as goal
 
 -- nothing was published, and the queues so far didn't take the entries
@@ -11,5 +11,5 @@ invariant-loop-k g l = record {
   contents : l.contents ≡ l.fn.contents;
   empty : l.room.items ≡ [];
   capacity : entry_count l.fn.request.op ≤ vec_capacity l.room;
-  passed : PassedBelow g.P.Port l.fn.self l.self.port l.fn.request l.fn.contents l.k;
+  passed : ArePassed l.fn.self l.self.port l.fn.request l.fn.contents l.k;
 }
