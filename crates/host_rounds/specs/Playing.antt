@@ -20,9 +20,9 @@ module _ {G : Type 0} where
 
   -- a thread's promise of this hand
   pub record Promises (hall : Hall G) (play : Play) (hand : HostHand) (p : Played G) : Type 0 where
-    pub hall : p.hall.value ≡ hall
-    pub play : p.play.value ≡ play
-    pub hand : p.hand.value ≡ hand
+    pub of_hall : p.hall.value ≡ hall
+    pub of_play : p.play.value ≡ play
+    pub of_hand : p.hand.value ≡ hand
 
   -- one of these promises is of this hand
   abbrev pub IsPromised : Hall G → Play → List (Played G) → HostHand → Type 0

@@ -106,7 +106,8 @@ fn start_hosts<'s, E, R: Threads + Wait + Sync, G: Sync>(
         let Some(hand) = hands.pop() else {
             unreachable!();
         };
-        started.push_reserved(start_host(rt, alloc, scope, hall, play, hand)?);
+        let child = start_host(rt, alloc, scope, hall, play, hand)?;
+        started.push_reserved(child);
     }
     Ok(())
 }
