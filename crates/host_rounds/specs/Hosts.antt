@@ -3,11 +3,11 @@ use Rattle.std.specs.Prelude.{Bool, Contains, List, length, nat_le, true, ℕ, �
 use Rattle.nvme_model.specs.Config.{completion_queue}
 use Rattle.nvme_model.specs.declared.array.Range.{Range}
 use Rattle.nvme_model.specs.declared.config.ConfigNumbers.{ConfigNumbers}
-use Rattle.work_queue.specs.QueuePasses.{engine_lock}
+use Rattle.work_queue.specs.Engines as engine
 use Rattle.hosts.specs.Hands.{IsPlaceAt}
 use Rattle.hosts.specs.declared.hall.Hall.{Hall}
-use Rattle.driver_cas.specs.Drivers.{HasSettings, area_of}
-use Rattle.driver_cas.specs.Ports.{Follows}
+use Rattle.driver_cas.specs.Drivers.{HasSettings, area_of, port_of}
+use Rattle.driver_cas.specs.Ports.{Follows, pass_of, queue_of}
 use Rattle.slot_alloc.specs.Areas.{area}
 use Rattle.slot_alloc.specs.Careful.{IsCareful}
 use Rattle.host_rounds.specs.declared.owned.Host.{Host}
@@ -24,12 +24,9 @@ HasEach c queue qs = (n : ℕ) → uses c queue n ≡ true → Contains qs n
 abbrev pub HasEachBelow : ConfigNumbers → ℕ → ℕ → List ℕ → Type 0
 HasEachBelow c queue m qs = (n : ℕ) → uses c queue n ≡ true → n < m → Contains qs n
 
--- the completion queue of the port of a host's driver, and the submission queues that the driver uses
+-- the completion queue of the port of a host's driver
 abbrev pub port_queue : Host → ℕ
-port_queue h = h.driver.port.queue
-
-abbrev pub queues_used : Host → List ℕ
-queues_used h = h.driver.cids.queues
+port_queue h = queue_of (port_of h.driver)
 
 -- some blocks, which lie among the first 65,536
 abbrev pub IsSlotArea : Range → Type 0
@@ -39,7 +36,7 @@ module _ {G : Type 0} where
   -- Its driver is of the hall's controller and has these slots, whose discipline it has kept, and its place is one of
   -- the notices of a completion queue.
   pub record IsHosting (hall : Hall G) (h : Host) : Type 0 where
-    pub of : h.driver.port.pass.seat.table_id ≡ engine_lock hall.engine
+    pub of : engine.IsOf hall.engine (pass_of (port_of h.driver))
     pub slots : area_of h.driver ≡ area h.slots
     pub careful : IsCareful h.driver
     pub queue : (1 ≤ h.queue) × (h.queue ≤ length hall.notices.items)
@@ -52,4 +49,4 @@ module _ {G : Type 0} where
     pub settings : HasSettings h.driver k.driver
     pub slots : k.slots ≡ h.slots
     pub queue : k.queue ≡ h.queue
-    pub later : Follows h.driver.port k.driver.port
+    pub later : Follows (port_of h.driver) (port_of k.driver)

@@ -5,7 +5,7 @@ ghost use Rattle.std.specs.Prelude.{◌≡◌, ◌≤◌, ◌<◌, ◌+◌, All,
 ghost use Rattle.hosts.specs.Hands.{IsHostOf};
 ghost use Rattle.driver_cas.specs.Drivers as driver;
 ghost use Rattle.slot_alloc.specs.Areas.{area};
-ghost use Rattle.host_rounds.specs.Hosts.{HasEach, HasEachBelow, IsHosting, IsSlotArea, port_queue, queues_used, uses};
+ghost use Rattle.host_rounds.specs.Hosts.{HasEach, HasEachBelow, IsHosting, IsSlotArea, port_queue, uses};
 
 use driver_cas::{Driver, SharedPort};
 use history::Config;
@@ -90,7 +90,7 @@ pub fn host_of<'a, G>(
     ensures host { IfOk result (λ h. driver.host_of h.driver ≡ hand.queue) }
     ensures acwu { IfOk result (λ h. driver.acwu_of h.driver ≡ config.now.atomic.acwu) }
     ensures slots { IfOk result (λ h. (driver.area_of h.driver ≡ slots) × (area h.slots ≡ slots)) }
-    ensures queues { IfOk result (λ h. HasEach config.now hand.queue (queues_used h)) }
+    ensures queues { IfOk result (λ h. HasEach config.now hand.queue (driver.queues_used h.driver)) }
 {
     let HostHand {
         pass,

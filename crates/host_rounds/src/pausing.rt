@@ -1,16 +1,19 @@
 //! What a host does while it waits.
 
 ghost use Rattle.std.specs.Prelude.{◌≡◌};
-ghost use Rattle.driver_cas.specs.Drivers.{IsCallOf};
-ghost use Rattle.driver_cas.specs.Starts.{IsUntouched};
-ghost use Rattle.driver_cas.specs.declared.call.Call.{Call};
 ghost use Rattle.driver_cas.specs.declared.shared_port.SharedPort.{SharedPort};
+ghost use Rattle.slot_alloc.specs.Claims.{IsClaimingOf, IsHeldBy, IsReleasingOf, IsUnreleased};
+ghost use Rattle.slot_alloc.specs.declared.claim.Claim.{Claim};
+ghost use Rattle.slot_alloc.specs.declared.claiming.Claiming.{Claiming};
+ghost use Rattle.slot_alloc.specs.declared.release.Releasing.{Releasing};
 ghost use Rattle.host_rounds.specs.Hosts.{Goes, IsHosting};
 
 use crate::owned::Host;
 use driver_cas::Fault;
 use hosts::Hall;
+use slot_alloc::laws::an_untouched_driver_keeps_its_slots;
 use std::alloc::AllocError as NoMemory;
+use std::snapshot::Snapshot;
 use std::sync::Wait;
 use std::thread::yield_now;
 
@@ -38,13 +41,18 @@ pub(crate) fn stops<G>(hall: &Hall<G>) -> NoMemory {
     NoMemory
 }
 
-/// Learns the next notice, or lets others run where there is none.
+/// Learns the next notice, or lets others run where there is none. What was begun and what is held stays so.
 pub(crate) fn pause<R: Wait, G>(rt: &R, hall: &Hall<G>, host: &mut Host<'_>)
     requires { IsHosting hall.now host.old }
     ensures goes { Goes hall.now host.old host.new }
-    ensures untouched { IsUntouched host.old.driver host.new.driver }
-    ensures calls { (k : Call SharedPort) → IsCallOf host.old.driver k → IsCallOf host.new.driver k }
+    ensures held { (c : Claim) → IsHeldBy host.old.driver c → IsHeldBy host.new.driver c }
+    ensures claiming { (k : Claiming SharedPort _) → IsClaimingOf host.old.driver k → IsClaimingOf host.new.driver k }
+    ensures unreleased { (k : Claiming SharedPort _) → IsClaimingOf host.old.driver k →
+        IsUnreleased host.old.driver k → IsUnreleased host.new.driver k }
+    ensures releasing { (k : Releasing SharedPort) → IsReleasingOf host.old.driver k →
+        IsReleasingOf host.new.driver k }
 {
+    let before = Snapshot::of(&host.driver);
     let place = usize::from(host.queue - 1);
     if !host
         .driver
@@ -52,4 +60,5 @@ pub(crate) fn pause<R: Wait, G>(rt: &R, hall: &Hall<G>, host: &mut Host<'_>)
     {
         yield_now();
     }
+    an_untouched_driver_keeps_its_slots(&before, &host.driver);
 }

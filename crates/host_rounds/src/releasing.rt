@@ -8,8 +8,10 @@ use crate::owned::Host;
 use crate::pausing::{Next, next_after, pause, stops};
 use driver_cas::{Fault, SharedPort};
 use hosts::Hall;
+use slot_alloc::laws::a_held_claim_stays;
 use slot_alloc::{Claim, Released, Releasing, poll_release};
 use std::alloc::AllocError as NoMemory;
+use std::snapshot::Snapshot;
 use std::sync::Wait;
 
 // Begins to release the slot of a claim, again while that is refused for now; None where it is refused for good, or the
@@ -31,10 +33,14 @@ fn begin<'a, R: Wait, G>(
             claim.leave();
             return Ok(None);
         }
+        let before = Snapshot::of(&host.driver);
         match host.slots.release(&mut host.driver, claim) {
             Ok(releasing) => return Ok(Some(releasing)),
             Err((back, fault)) => match next_after(fault) {
-                Next::Again => claim = back,
+                Next::Again => {
+                    a_held_claim_stays(&before, &host.driver, &back);
+                    claim = back;
+                }
                 Next::RoundEnds => {
                     back.leave();
                     return Ok(None);

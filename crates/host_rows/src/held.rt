@@ -18,6 +18,9 @@ const TURNS: u32 = 1_000_000;
 /// How long a worker is held that is alone.
 const FEW_TURNS: u32 = 1_000;
 
+/// How many workers are held at once.
+const FOUR: u64 = 4;
+
 /// Holds the worker that has the first ticket, after its first Block, until a Block of another ticket was made or so
 /// many turns have passed; and counts how often a worker was about to make a Post.
 #[derive(Drop)]
@@ -90,5 +93,48 @@ fn a_held_worker_does_not_hold_another(rt: HostRuntime) -> Result<(), Fail> {
 #[test]
 fn a_worker_alone_is_late_at_the_gate(rt: HostRuntime) -> Result<(), Fail> {
     assert_eq!(rt; held(&rt, rt.alloc(), 1, FEW_TURNS)?, (true, 2, 2, 12));
+    Ok(())
+}
+
+/// Holds each worker after its Block until four are held, or so many turns have passed.
+#[derive(Drop)]
+struct Meets {
+    held: AtomicU64,
+    late: AtomicBool,
+}
+
+impl Gate for Meets {
+    fn pass(&self, point: Point, _ticket: u64) {
+        if point != Point::Blocked {
+            return;
+        }
+        self.held.fetch_add(1, Ordering::SeqCst);
+        for _ in 0..TURNS {
+            if self.held.load(Ordering::SeqCst) >= FOUR || self.late.load(Ordering::SeqCst) {
+                return;
+            }
+            yield_now();
+        }
+        self.late.store(true, Ordering::SeqCst);
+    }
+}
+
+// Four Writes of a block each: as many workers as were asked for are in the middle of one at once.
+#[test]
+fn four_workers_are_held_at_once(rt: HostRuntime) -> Result<(), Fail> {
+    let config = Config::new(8, 1, 1, 0, 0, 1, 8, 8, 8)?;
+    let gate = Meets {
+        held: AtomicU64::new(0),
+        late: AtomicBool::new(false),
+    };
+    let numbers = Numbers {
+        queues: 1,
+        workers: 4,
+        count: 4,
+    };
+    let writes = [(0, 0, 1), (1, 1, 1), (2, 2, 1), (3, 3, 1)];
+    let (good, length, gate) = played(&rt, rt.alloc(), &config, gate, numbers, &writes)?;
+    assert_eq!(rt; (good, length), (4, 21));
+    assert!(rt; !gate.late.load(Ordering::SeqCst));
     Ok(())
 }

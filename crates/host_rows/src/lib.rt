@@ -11,3 +11,5 @@ mod held;
 mod played;
 #[cfg(test)]
 mod served;
+#[cfg(test)]
+mod stopped;

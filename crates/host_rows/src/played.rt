@@ -125,6 +125,36 @@ fn both<R: Threads + Wait + Sync, G: Gate + Sync>(
     )
 }
 
+/// These hands, once the last host has published the Writes on so many submission queues.
+pub(crate) fn ready<G>(
+    alloc: Global,
+    hall: &Hall<G>,
+    config: &Config,
+    hands: Hands,
+    queues: u16,
+    writes: &[Write],
+) -> Result<Hands, NoMemory>
+    requires crew { IsOf hall.now hands.fetcher × All (IsWorkerOf hall.now) hands.workers.items }
+    requires hosts { All (IsHostOf hall.now config.now) hands.hosts.items }
+    ensures crew { IfOk result (λ h. IsOf hall.now h.fetcher × All (IsWorkerOf hall.now) h.workers.items) }
+    ensures hosts { IfOk result (λ h. All (IsListening hall.now) h.hosts.items) }
+{
+    let Hands {
+        fetcher,
+        workers,
+        hosts,
+    } = hands;
+    let mut hosts = listening(hall, config, hosts);
+    if sent(alloc, hall, &mut hosts, queues, writes).is_none() {
+        return Err(NoMemory);
+    }
+    Ok(Hands {
+        fetcher,
+        workers,
+        hosts,
+    })
+}
+
 // The Writes by these hands; the fetcher's comes back.
 fn plays<R: Threads + Wait + Sync, G: Gate + Sync>(
     rt: &R,
@@ -139,20 +169,7 @@ fn plays<R: Threads + Wait + Sync, G: Gate + Sync>(
     requires hosts { All (IsHostOf hall.now config.now) hands.hosts.items }
     ensures { IfOk result (λ r. IsOf hall.now r.0) }
 {
-    let Hands {
-        fetcher,
-        workers,
-        hosts,
-    } = hands;
-    let mut hosts = listening(hall, config, hosts);
-    if sent(alloc, hall, &mut hosts, numbers.queues, writes).is_none() {
-        return Err(NoMemory);
-    }
-    let hands = Hands {
-        fetcher,
-        workers,
-        hosts,
-    };
+    let hands = ready(alloc, hall, config, hands, numbers.queues, writes)?;
     both(rt, alloc, hall, hands, numbers)
 }
 

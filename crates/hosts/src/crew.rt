@@ -1,6 +1,6 @@
 //! The threads round one engine.
 
-ghost use Rattle.std.specs.Prelude.{◌+◌, ◌≡◌, ◌≤◌, All, IfOk, vec_len};
+ghost use Rattle.std.specs.Prelude.{◌+◌, ◌≡◌, ◌≤◌, All, IfOk, Ok, OnOk, vec_len};
 ghost use Rattle.std.specs.Vec.{vec_capacity};
 ghost use Rattle.hosts.specs.Hands.{Goes, IsOf, IsWorkerOf};
 
@@ -12,7 +12,7 @@ use std::alloc::{AllocError as NoMemory, Global};
 use std::snapshot::Snapshot;
 use std::sync::Wait;
 use std::thread;
-use std::thread::{JoinHandle, Promise, PromisedHandle, Scope, Threads};
+use std::thread::{Promise, PromisedHandle, Scope, Threads};
 
 /// The hand comes back, of the same hall, and its pass has seen no less.
 #[derive(Drop)]
@@ -74,8 +74,16 @@ fn start_fetcher<'s, E, R: Threads + Wait + Sync, G: Gate + Sync>(
     Ok(child)
 }
 
-/// The handles of threads that were started.
-pub type Handles = Vec<JoinHandle<Result<(), NoMemory>>>;
+/// The handles of threads that were started, each with what its end promises.
+pub type Handles<P> = Vec<PromisedHandle<Result<(), NoMemory>, P>>;
+
+/// A worker's end promises nothing: whether it says Ok is all that is asked of it.
+#[derive(Clone, Copy)]
+struct AnyEnd;
+
+impl Promise<Result<(), NoMemory>> for AnyEnd {
+    ghost kept_by = { λ _ _. Unit {0} };
+}
 
 // Starts a worker for each hand. At `Err` one couldn't be started, and those before it run.
 fn start_workers<'s, E, R: Threads + Wait + Sync, G: Gate + Sync>(
@@ -83,7 +91,7 @@ fn start_workers<'s, E, R: Threads + Wait + Sync, G: Gate + Sync>(
     scope: &Scope<'s, E>,
     hall: &'s Hall<G>,
     mut hands: Vec<WorkerHand>,
-    started: &mut Handles,
+    started: &mut Handles<AnyEnd>,
 ) -> Result<(), NoMemory>
     requires hands { All (IsWorkerOf hall.now) hands.items }
     requires room { vec_len started.old + vec_len hands ≤ vec_capacity started.old }
@@ -92,7 +100,8 @@ fn start_workers<'s, E, R: Threads + Wait + Sync, G: Gate + Sync>(
         let Some(own) = hands.pop() else {
             return Ok(());
         };
-        let child = scope.spawn(
+        let child = scope.spawn_with(
+            AnyEnd,
             move || -> Result<(), NoMemory>
                 requires { IsWorkerOf hall.now own }
             { works(rt, hall, own) },
@@ -102,17 +111,60 @@ fn start_workers<'s, E, R: Threads + Wait + Sync, G: Gate + Sync>(
     Ok(())
 }
 
-/// Joins all.
+/// Joins all. Ok is answered only where each says so, whatever its end promises.
 ///
 /// # Errors
 ///
 /// `NoMemory` where one of the threads says so.
-pub fn join_each<R: Threads>(rt: &R, started: Handles) -> Result<(), NoMemory> {
+pub fn join_each<R: Threads, P: Promise<Result<(), NoMemory>>>(
+    rt: &R,
+    mut started: Handles<P>,
+) -> Result<(), NoMemory>
+    ensures each { OnOk result (All (λ h. P.kept_by h.promise (Ok tt)) started.items) }
+{
     let mut ends = Ok(());
-    for child in started {
+    for _ in 0..started.len() {
+        let Some(child) = started.pop() else {
+            unreachable!();
+        };
         ends = ends.and(child.join(rt));
     }
     ends
+}
+
+// Joins the workers and the fetcher, behind what ran beside them. Ok is answered only where all say so.
+fn ended<
+    R: Threads,
+    T: Drop,
+    P: Promise<Result<(), NoMemory>>,
+    Q: Promise<(Hand, Result<(), NoMemory>)>,
+>(
+    rt: &R,
+    helpers: Handles<P>,
+    fetching: PromisedHandle<(Hand, Result<(), NoMemory>), Q>,
+    given: Result<T, NoMemory>,
+) -> Result<(Hand, T), NoMemory>
+    ensures workers { OnOk result (All (λ h. P.kept_by h.promise (Ok tt)) helpers.items) }
+    ensures fetcher { IfOk result (λ r. Q.kept_by fetching.promise (r.0, Ok tt)) }
+    ensures given { IfOk result (λ r. given ≡ Ok r.1) }
+{
+    let ends = join_each(rt, helpers);
+    let (hand, end) = fetching.join(rt);
+    ends.and(end)?;
+    Ok((hand, given?))
+}
+
+// What runs beside the workers, once they were started.
+fn besides<T, F: FnOnce(Vec<HostHand>) -> Result<T, NoMemory> + Drop>(
+    begun: Result<(), NoMemory>,
+    beside: F,
+    hosts: Vec<HostHand>,
+) -> Result<T, NoMemory>
+    requires { F.pre beside hosts }
+    ensures { IfOk result (λ t. F.post beside hosts (Ok t)) }
+{
+    begun?;
+    Ok(beside(hosts)?)
 }
 
 // The same; the stop flag is set where it is none.
@@ -127,7 +179,7 @@ fn or_stop<T: Drop, G: Gate>(hall: &Hall<G>, made: Result<T, NoMemory>) -> Resul
 
 /// A fetcher of the submission queues from 1 to `queues`, and the workers, each on a thread of its own, while `beside`
 /// runs on this one with the hands of the hosts. When that has ended the stop flag is set, and all threads are joined.
-/// The fetcher's hand comes back, and what `beside` gave.
+/// Where each of them and `beside` says Ok, the fetcher's hand comes back, and what `beside` gave.
 ///
 /// # Errors
 ///
@@ -149,13 +201,14 @@ pub fn run_crew<
     requires crew { IsOf hall.now hands.fetcher × All (IsWorkerOf hall.now) hands.workers.items }
     requires beside { F.pre beside hands.hosts }
     ensures goes { IfOk result (λ r. Goes hall.now hands.fetcher r.0) }
+    ensures beside { IfOk result (λ r. F.post beside hands.hosts (Ok r.1)) }
 {
     let Hands {
         fetcher,
         workers,
         hosts,
     } = hands;
-    let mut helpers: Handles = or_stop(hall, Vec::with_capacity(alloc, workers.len()))?;
+    let mut helpers: Handles<AnyEnd> = or_stop(hall, Vec::with_capacity(alloc, workers.len()))?;
     thread::scope(
         thread::scope_env(),
         rt,
@@ -164,18 +217,13 @@ pub fn run_crew<
             requires crew { IsOf hall.now fetcher × All (IsWorkerOf hall.now) workers.items }
             requires room { vec_len helpers + vec_len workers ≤ vec_capacity helpers }
             requires beside { F.pre beside hosts }
-            ensures { IfOk result (λ r. Goes hall.entry.now fetcher r.0) }
+            ensures { IfOk result (λ r. Goes hall.entry.now fetcher r.0 × F.post beside hosts (Ok r.1)) }
         {
             let fetching = or_stop(hall, start_fetcher(rt, scope, hall, fetcher, queues))?;
-            let given = match start_workers(rt, scope, hall, workers, &mut helpers) {
-                Ok(()) => beside(hosts),
-                Err(why) => Err(why),
-            };
+            let begun = start_workers(rt, scope, hall, workers, &mut helpers);
+            let given = besides(begun, beside, hosts);
             hall.stop.set();
-            let ends = join_each(rt, helpers);
-            let (hand, end) = fetching.join(rt);
-            ends.and(end)?;
-            Ok((hand, given?))
+            ended(rt, helpers, fetching, given)
         },
     )
 }

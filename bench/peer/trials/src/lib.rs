@@ -5,5 +5,6 @@ pub mod at_random;
 pub mod edits;
 pub mod lists;
 pub mod program;
+pub mod rounds;
 pub mod tally;
 pub mod worked;

@@ -2,13 +2,22 @@
 
 use crate::edits::history_of;
 use crate::program::{Ended, Refused};
+use crate::rounds::are_made;
 use crate::tally::{Bench, NO_MEMORY, is_told, is_told_early};
 
 /// How many worked runs there are.
 pub const ROWS: u64 = 22;
 
-/// A small race.
+/// A small race: its hosts, slots and rounds.
 const RACE: [&str; 9] = ["race", "--hosts", "2", "--workers", "2", "--slots", "2", "--rounds", "2"];
+const SMALL: [u64; 3] = [2, 2, 2];
+
+/// A long one, of which an early allocation is refused.
+const LONG_RACE: [&str; 9] = ["race", "--hosts", "4", "--workers", "2", "--slots", "4", "--rounds", "500"];
+const LONG: [u64; 3] = [4, 4, 500];
+
+/// How many of its first allocations are refused, each in a race of its own.
+pub const EARLY: u64 = 240;
 
 /// The last word: a program ends once what it needs is made, or goes on to its end. Both take as much memory.
 pub const FIRST: &str = "first";
@@ -166,14 +175,33 @@ pub fn race_asks(bench: &Bench) -> u64 {
     (0..4).map(|_| bench.casdisk.refusing(&RACE, Refused::NONE).asked).max().unwrap_or(0)
 }
 
+// Whether a race ended well: it printed a history in which each host made its rounds and each slot is free in the end.
+fn is_whole_race(ended: &Ended, [hosts, slots, rounds]: [u64; 3]) -> bool {
+    (ended.status, &ended.words[..], ended.held) == (0, b"", 0) && are_made(&ended.output, hosts, slots, rounds)
+}
+
 /// A small race whose allocation of this number is refused, and one without memory from there on: it ends, as it does where
 /// that allocation never comes, or for want of memory.
 pub fn race(bench: &Bench, number: u64) {
     let one = bench.casdisk.refusing(&RACE, Refused::one(number));
-    let is_whole = (one.status, &one.words[..], one.held) == (0, b"", 0) && !one.output.is_empty();
-    bench.tally.see("a race", 0, number, (is_whole || one.refused == 1 && is_told(&one)) && is_legal(bench, &one.output));
+    let is_right = is_whole_race(&one, SMALL) || one.refused == 1 && is_told(&one);
+    bench.tally.see("a race", 0, number, is_right && is_legal(bench, &one.output));
     let all = bench.casdisk.refusing(&RACE, Refused::from(number));
-    let is_whole = (all.status, &all.words[..], all.held, all.refused) == (0, b"", 0, 0);
-    let is_right = (is_whole || all.refused > 0 && is_told(&all)) && is_legal(bench, &all.output);
-    bench.tally.see("a race without memory from there on", 0, number, is_right);
+    let is_right = all.refused == 0 && is_whole_race(&all, SMALL) || all.refused > 0 && is_told(&all);
+    bench.tally.see("a race without memory from there on", 0, number, is_right && is_legal(bench, &all.output));
+}
+
+/// How many allocations a long race asks for at the least: that differs from race to race.
+pub fn long_race_asks(bench: &Bench) -> u64 {
+    let races: Vec<Ended> = (0..2).map(|_| bench.casdisk.refusing(&LONG_RACE, Refused::NONE)).collect();
+    assert!(races.iter().all(|it| is_whole_race(it, LONG)), "a long race with memory");
+    races.iter().map(|it| it.asked).min().unwrap_or(0)
+}
+
+/// A long race whose allocation of this number, an early one, is refused: want of memory ends all its threads, so it asks for
+/// few more.
+pub fn long_race(bench: &Bench, number: u64, asks: u64) {
+    let one = bench.casdisk.refusing(&LONG_RACE, Refused::one(number));
+    let is_early = one.refused == 1 && is_told(&one) && one.asked < number + (asks - number) / 4;
+    bench.tally.see("a long race", 0, number, is_early || is_whole_race(&one, LONG));
 }

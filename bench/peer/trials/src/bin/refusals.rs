@@ -7,7 +7,7 @@ use std::sync::atomic::{AtomicUsize, Ordering::Relaxed};
 use trials::at_random::{asked_again, by_program};
 use trials::program::Program;
 use trials::tally::{Bench, Tally};
-use trials::worked::{ROWS, once, race, race_asks, row};
+use trials::worked::{EARLY, ROWS, long_race, long_race_asks, once, race, race_asks, row};
 
 /// How many random scripts are run in one process.
 const TOGETHER: u64 = 250;
@@ -20,6 +20,8 @@ enum Task {
     Row(u64),
     Once,
     Race(u64),
+    /// The allocation that is refused, and how many such a race asks for.
+    LongRace(u64, u64),
     ByProgram(u64),
     AskedAgain(u64),
 }
@@ -29,17 +31,19 @@ fn do_task(bench: &Bench, task: Task) {
         Task::Row(number) => row(bench, number),
         Task::Once => once(bench),
         Task::Race(number) => race(bench, number),
+        Task::LongRace(number, asks) => long_race(bench, number, asks),
         Task::ByProgram(seed) => by_program(bench, seed),
         Task::AskedAgain(first) => asked_again(bench, first, TOGETHER),
     }
 }
 
 // All tasks, the longest first.
-fn tasks_of(race_asks: u64, scripts: u64) -> Vec<Task> {
+fn tasks_of(race_asks: u64, long_race_asks: u64, scripts: u64) -> Vec<Task> {
     let mut tasks: Vec<Task> = (0..ROWS).map(Task::Row).collect();
     tasks.push(Task::Once);
     tasks.extend((0..scripts).step_by(TOGETHER as usize).map(Task::AskedAgain));
     tasks.extend((1..=race_asks).map(Task::Race));
+    tasks.extend((1..=EARLY).map(|number| Task::LongRace(number, long_race_asks)));
     tasks.extend((0..scripts / BY_PROGRAM).map(Task::ByProgram));
     tasks
 }
@@ -58,7 +62,7 @@ fn main() {
         Bench { casdisk: program(casdisk), runs: program(runs), tally: &tally }
     };
     let race_asks = race_asks(&bench_of(0));
-    let tasks = tasks_of(race_asks, scripts);
+    let tasks = tasks_of(race_asks, long_race_asks(&bench_of(0)), scripts);
     std::thread::scope(|scope| {
         for part in 0..threads {
             let (bench, tasks, next) = (bench_of(part), &tasks, &next);

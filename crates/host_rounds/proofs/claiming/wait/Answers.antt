@@ -1,7 +1,6 @@
 use Rattle.std.proofs.Common.{None, refl}
-use Rattle.driver_cas.proofs.Listening.{follows_later}
 use Rattle.slot_alloc.specs.Claims.{IsClaimingOf, IsUnreleased}
-use Rattle.host_rounds.proofs.Going.{claiming_heard, goes_called, goes_far, goes_same, unreleased_heard}
+use Rattle.host_rounds.proofs.Going.{goes_called, goes_far, goes_same}
 use Rattle.host_rounds.proofs.claiming.wait.Goals as goal
 use Rattle.host_rounds.proofs.claiming.wait.Goals.{in-Pending, in-Later+else-eq}
 
@@ -34,6 +33,6 @@ loop-preserved g c =
     ] in (
       goes_far _ _ (record c.loop.host { driver = c.poll_claim.new.driver }) _
           (goes_called _ _ _ _ None c.loop.invariant.0 refl refl refl c.poll_claim.ensures.careful c.poll_claim.ensures.goes_on) c.pause.ensures.goes,
-      claiming_heard follows_later c.poll_claim.new.driver c.pause.new.host.driver c.match-poll_claim.claiming c.pause.ensures.untouched c.pause.ensures.calls of,
-      unreleased_heard c.poll_claim.new.driver c.pause.new.host.driver c.match-poll_claim.claiming c.pause.ensures.untouched of free,
+      c.pause.ensures.claiming c.match-poll_claim.claiming of,
+      c.pause.ensures.unreleased c.match-poll_claim.claiming of free,
     )

@@ -1,5 +1,6 @@
-use Rattle.std.proofs.Common.{refl}
-use Rattle.host_rounds.proofs.Going.{back_held, goes_called, goes_far, held_heard}
+use Rattle.std.proofs.Common.{None, refl, subst, sym}
+use Rattle.slot_alloc.specs.Claims.{IsHeldBy}
+use Rattle.host_rounds.proofs.Going.{goes_called, goes_far}
 use Rattle.host_rounds.proofs.releasing.begin.Goals as goal
 
 pub returns-in-Ok-clause-goes : goal.returns-in-Ok-clause-goes
@@ -15,6 +16,7 @@ pub loop-preserved : goal.loop-preserved
 loop-preserved g c = (
   goes_far _ _ (record c.loop.host { driver = c.release.new.driver }) _
       (goes_called _ _ _ _ _ c.loop.invariant.0 refl refl refl c.release.ensures.careful c.release.ensures.goes_on) c.pause.ensures.goes,
-  held_heard c.release.new.driver c.pause.new.host.driver c.in-Err.back c.pause.ensures.untouched
-      (back_held c.loop.host.driver c.release.new.driver c.loop.claim c.in-Err.back c.in-Err.ensures.goes_on c.in-Err.ensures.is.0 c.loop.invariant.1),
+  c.pause.ensures.held c.in-Err.back
+      (c.a_held_claim_stays.ensures.held None (rw c.of-before.ensures c.in-Err.ensures.goes_on) refl
+      (rw c.of-before.ensures (subst (IsHeldBy c.loop.host.driver) (sym c.in-Err.ensures.is.0) c.loop.invariant.1))),
 )

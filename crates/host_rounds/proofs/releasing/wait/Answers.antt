@@ -1,6 +1,6 @@
 use Rattle.std.proofs.Common.{None, refl}
 use Rattle.slot_alloc.specs.Claims.{IsReleasingOf}
-use Rattle.host_rounds.proofs.Going.{goes_called, goes_far, goes_same, releasing_heard}
+use Rattle.host_rounds.proofs.Going.{goes_called, goes_far, goes_same}
 use Rattle.host_rounds.proofs.releasing.wait.Goals as goal
 use Rattle.host_rounds.proofs.releasing.wait.Goals.{in-Pending, in-Later+else-eq}
 
@@ -22,5 +22,5 @@ loop-preserved g c =
     ] in (
       goes_far _ _ (record c.loop.host { driver = c.poll_release.new.driver }) _
           (goes_called _ _ _ _ None c.loop.invariant.0 refl refl refl c.poll_release.ensures.careful c.poll_release.ensures.goes_on) c.pause.ensures.goes,
-      releasing_heard c.poll_release.new.driver c.pause.new.host.driver c.match-poll_release.releasing c.pause.ensures.untouched c.pause.ensures.calls of,
+      c.pause.ensures.releasing c.match-poll_release.releasing of,
     )
