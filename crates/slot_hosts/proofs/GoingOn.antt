@@ -1,0 +1,18 @@
+-- A host at a later moment.
+use Rattle.std.proofs.Common.{List, [], ap, subst, sym, refl, true, ℕ, ◌∙◌, ◌≡◌}
+use Rattle.nvme_model.specs.declared.array.Range.{Range}
+use Rattle.nvme_model.specs.declared.config.ConfigNumbers.{ConfigNumbers}
+use Rattle.driver_calls.specs.Views.{log_of, since}
+use Rattle.driver_calls.specs.declared.event.PortEvent.{PortEvent}
+use Rattle.driver_calls.proofs.Views.{since_none}
+use Rattle.driver_cas.specs.Ports.{view_of}
+use Rattle.driver_cas.specs.declared.shared_port.SharedPort.{SharedPort}
+use Rattle.meet_lock.specs.Passes.{seen}
+use Rattle.slot_calls.specs.Careful.{is_careful}
+
+-- a port that had seen nothing has done nothing
+pub none_done : (p : SharedPort) → seen p.pass ≡ [] → log_of (view_of p) ≡ []
+none_done p e = ap (λ s. log_of (record { config = (view_of p).config; queue = (view_of p).queue; pass = (view_of p).pass; seen = s })) e
+
+pub careful_first : (slots : Range) (host last : ℕ) (log : List PortEvent) → log ≡ [] → is_careful slots host last (since log log) ≡ true
+careful_first slots host last log e = subst (λ (l : List PortEvent). is_careful slots host last (since l l) ≡ true) (sym e) refl

@@ -1,0 +1,49 @@
+//! What drivers of one engine may conclude from what each of them did itself.
+
+ghost use Rattle.std.specs.Prelude.{[], Option, ℕ, ◌≡◌, ◌≢◌};
+ghost use Rattle.nvme_model.specs.Passes.{SharedPast};
+ghost use Rattle.nvme_model.specs.declared.array.Range.{Range};
+ghost use Rattle.nvme_model.specs.declared.config.ConfigNumbers.{ConfigNumbers};
+ghost use Rattle.meet_lock.specs.Passes.{seen};
+ghost use Rattle.driver_cas.specs.Drivers.{area_of, host_of};
+ghost use Rattle.driver_cas.specs.Ports.{view_of};
+ghost use Rattle.driver_cas.specs.Starts.{IsUntouched};
+ghost use Rattle.slot_alloc.specs.Areas.{slot_of};
+ghost use Rattle.slot_alloc.specs.Careful.{GoesOn, IsCareful, ReleasedName};
+ghost use Rattle.slot_alloc.specs.Claims.{IsHeldBy};
+ghost use Rattle.slot_alloc.specs.declared.claim.Claim.{Claim};
+ghost use Rattle.slot_hosts.specs.Hosts.{AreTwoHosts, IsHost};
+
+use driver_cas::{Driver, SharedPort};
+use std::snapshot::Snapshot;
+
+/// A driver that was made just now, with a pass that had seen nothing, is a host.
+pub fn a_new_driver_is_a_host(driver: &Driver<SharedPort<'_>>)
+    ensures { driver.now.port ≡ driver.now.began.value → seen driver.now.port.pass ≡ [] →
+        let v = view_of driver.now.port in
+        IsHost v.config (area_of driver.now) v.pass v.queue (host_of driver.now) driver.now }
+{
+    let _ = driver;
+}
+
+/// A host stays one, with its numbers, over whatever it does carefully, and over meetings and notices.
+pub fn a_host_goes_on(old: &Snapshot<Driver<SharedPort<'_>>>, new: &Driver<SharedPort<'_>>)
+    ensures careful { (c : ConfigNumbers) (slots : Range) (pass queue host : ℕ) (released : Option ReleasedName) →
+        GoesOn old.now.value new.now released → IsCareful new.now → IsHost c slots pass queue host old.now.value →
+        IsHost c slots pass queue host new.now }
+    ensures untouched { (c : ConfigNumbers) (slots : Range) (pass queue host : ℕ) →
+        IsUntouched old.now.value new.now → IsHost c slots pass queue host old.now.value →
+        IsHost c slots pass queue host new.now }
+{
+    let _ = old;
+    let _ = new;
+}
+
+/// Two careful drivers that have met, of an engine whose other passes serve, never both have a claim of one slot.
+pub fn two_hosts_never_hold_one_slot(one: &Driver<SharedPort<'_>>, other: &Driver<SharedPort<'_>>)
+    ensures { (passes : ℕ) (met : SharedPast) (claim second : Claim) → AreTwoHosts passes one.now other.now met →
+        IsHeldBy one.now claim → IsHeldBy other.now second → slot_of claim ≢ slot_of second }
+{
+    let _ = one;
+    let _ = other;
+}
