@@ -2,7 +2,7 @@
 use Rattle.std.specs.Prelude.{All, Bool, nat_le, ℕ, ◌&&◌, ◌==◌, ◌≡◌}
 use Rattle.nvme_model.specs.Config.{completion_queue}
 use Rattle.nvme_model.specs.declared.config.ConfigNumbers.{ConfigNumbers}
-use Rattle.meet_lock.specs.Passes.{config_of}
+use Rattle.meet_lock.specs.Passes.{IsSame, config_of}
 use Rattle.work_queue.specs.Engines as engine
 use Rattle.work_queue.specs.QueuePasses as queue
 use Rattle.driver_cas.specs.Listening.{IsPlaceFor}
@@ -10,6 +10,7 @@ use Rattle.driver_rows.specs.declared.bench.Bench.{Bench}
 use Rattle.driver_rows.specs.declared.bench.Host.{Host}
 use Rattle.driver_rows.specs.declared.bench.Server.{Server}
 use Rattle.driver_rows.specs.declared.bench.Spares.{Spares}
+use Rattle.slot_hosts.specs.Servers.{IsServing}
 
 -- submission queue q is there, and uses completion queue n
 abbrev pub uses : ConfigNumbers → ℕ → ℕ → Bool
@@ -19,6 +20,10 @@ uses c n q = nat_le 1 q && nat_le q c.pairs && (completion_queue c q == n)
 abbrev pub IsServerOf : Bench → Server → Type 0
 IsServerOf b s =
     engine.IsOf b.engine s.pass × queue.IsPlaceOf b.engine b.notices s.place × (config_of s.pass ≡ b.config)
+
+-- with the same pass, which goes on to serve
+abbrev pub ServesOn : Server → Server → Type 0
+ServesOn s t = IsSame s.pass t.pass × (IsServing s.pass → IsServing t.pass)
 
 abbrev pub IsHostOf : Bench → Host → Type 0
 IsHostOf b h = IsPlaceFor h.driver.port b.notices h.place × engine.IsOf b.engine h.driver.port.pass

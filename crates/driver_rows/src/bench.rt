@@ -3,12 +3,15 @@
 ghost use Rattle.std.specs.List.Sorted.{IsStrictlyIncreasing};
 ghost use Rattle.std.specs.Prelude.{◌≡◌, ◌<◌, ◌≤◌, ◌+◌, All, IfOk, IfSome, [], length, true};
 ghost use Rattle.driver_cas.specs.Drivers.{area_of, made};
+ghost use Rattle.meet_lock.specs.Passes.{number as number_of, seen};
+ghost use Rattle.slot_hosts.specs.Hosts.{IsHost};
 ghost use Rattle.driver_rows.specs.Benches.{AreOf, IsHostOf, IsServerOf, uses};
 
 use driver_cas::{Driver, SharedPort};
 use history::Config;
 use meet_lock::Pass;
 use nvme_model::array::Range;
+use slot_hosts::driver_laws::a_new_driver_is_a_host;
 use std::alloc::{AllocError as NoMemory, Global};
 use step_core::Core;
 use work_queue::{Engine, MessageQueue, Notice, NoticeQueue, QueuePass};
@@ -100,12 +103,17 @@ pub fn host_of<'a>(
     ensures host { IfSome result (IsHostOf bench.entry.now) }
     ensures area { IfSome result (λ h. area_of h.driver ≡ slots) }
     ensures made { IfSome result (λ h. made h.driver ≡ []) }
+    ensures is { seen hand.pass ≡ [] →
+        IfSome result (λ h. IsHost bench.entry.now.config slots (number_of hand.pass) queue number h.driver) }
 {
     let Server { pass, place } = hand;
     let port = SharedPort::new(&bench.engine, pass, queue);
     let acwu = bench.config.numbers().atomic.acwu;
     match Driver::new(alloc, port, number, acwu, slots, queues) {
-        Ok(driver) => Some(Host { driver, place }),
+        Ok(driver) => {
+            a_new_driver_is_a_host(&driver);
+            Some(Host { driver, place })
+        }
         Err(_) => None,
     }
 }

@@ -1,18 +1,15 @@
 -- Two drivers that have met.
-use Rattle.std.proofs.Common.{Bool, List, [], ap, ap₂, arith, cond, eq-eqb, eqb, eqb-true, false, inl, inr, length, length-append, not, refl, subst, suc, sym, true, ℕ, ◌&&◌, ◌+◌, ◌++◌, ◌<◌, ◌||◌, ◌∙◌, ◌∷◌, ◌≡◌, ◌≤◌, ◌⊎◌}
+use Rattle.std.proofs.Common.{Bool, List, [], ap, arith, cond, eqb, false, inl, inr, length, length-append, not, refl, subst, suc, sym, true, ℕ, ◌&&◌, ◌+◌, ◌++◌, ◌<◌, ◌||◌, ◌∙◌, ◌∷◌, ◌≡◌, ◌≤◌}
 use Rattle.std.specs.List.{list_all}
 use Rattle.std.proofs.lemmas.Bool.{and_from, and_parts}
-use Rattle.nvme_model.specs.Array.{has_block}
 use Rattle.nvme_model.specs.Config.{completion_queue}
 use Rattle.nvme_model.specs.History.{Past}
 use Rattle.nvme_model.specs.Legal.{IsLegal}
 use Rattle.nvme_model.specs.Passes.{IsBeginning, SharedPast, entries, places}
-use Rattle.nvme_model.specs.Slots.{Name}
 use Rattle.nvme_model.specs.declared.array.Range.{Range}
 use Rattle.nvme_model.specs.declared.config.ConfigNumbers.{ConfigNumbers}
 use Rattle.nvme_model.specs.declared.entry.Entry.{Entry}
 use Rattle.nvme_model.proofs.Beginnings.{earlier}
-use Rattle.nvme_model.proofs.Written.{clash}
 use Rattle.host_laws.specs.Beside.{is_beside}
 use Rattle.host_laws.proofs.Elements.{In}
 use Rattle.driver_calls.specs.Events.{event_at, events}
@@ -26,10 +23,6 @@ use Rattle.driver_cas.specs.declared.shared_port.SharedPort.{SharedPort}
 use Rattle.meet_lock.specs.Lock.{AreOfPasses}
 use Rattle.meet_lock.specs.Passes.{config_of, mine, number, seen}
 use Rattle.slot_calls.specs.Careful.{is_careful}
-use Rattle.slot_calls.specs.Swaps.{log_believed}
-use Rattle.slot_hosts.specs.Rosters.{IsCarefulPass, IsRosterOf, Roster, is_in_place, is_serving}
-use Rattle.slot_hosts.specs.Servers.{serves}
-use Rattle.slot_hosts.proofs.Rosters.{one_believes}
 
 -- ---- elements of a shared history
 

@@ -1,6 +1,5 @@
 -- What a server has seen, and what it made.
 use Rattle.std.proofs.Common.{Bool, List, None, Option, Some, [], ap, arith, cond, eq-eqb, eqb, false, length, not, refl, subst, suc, sym, true, ℕ, ◌&&◌, ◌++◌, ◌||◌, ◌∙◌, ◌∷◌, ◌≡◌}
-use Rattle.std.specs.List.{list_all}
 use Rattle.std.proofs.lemmas.Bool.{and_from, and_parts, cond-true, or_right}
 use Rattle.nvme_model.specs.History.{Past}
 use Rattle.nvme_model.specs.Kept.{Kept}
@@ -95,6 +94,10 @@ fresh p none = record { of_passes = subst (λ (s : SharedPast). AreOfPasses (pas
 server_from : (p q : EnginePass) → IsSame p q → AreOfPasses (passes_of p) (seen q) → serves (number p) (seen q) ≡ true → IsServing q
 server_from p q same a b =
     record { of_passes = subst (λ (n : ℕ). AreOfPasses n (seen q)) (sym same.2) a; serves = subst (λ (k : ℕ). serves k (seen q) ≡ true) (sym same.1) b }
+
+pub noted : (p q : EnginePass) → IsSame p q → seen q ≡ seen p → IsServing p → IsServing q
+noted p q same stay x =
+    server_from p q same (subst (λ (s : SharedPast). AreOfPasses (passes_of p) s) (sym stay) x.of_passes) (subst (λ (s : SharedPast). serves (number p) s ≡ true) (sym stay) x.serves)
 
 pub saw : (p q : EnginePass) → IsSame p q → mine q ≡ mine p → GoesOn (passes_of p) (seen p) (seen q) → IsServing p → IsServing q
 saw p q same stay goes x =

@@ -1,5 +1,5 @@
 -- Two drivers that have met never both believe one slot.
-use Rattle.std.proofs.Common.{Bool, List, [], ap, cond, eq-eqb, eqb, eqb-true, false, inl, inr, not, refl, subst, sym, true, ℕ, ◌<◌, ◌||◌, ◌∙◌, ◌≡◌, ◌≤◌, ◌⊎◌}
+use Rattle.std.proofs.Common.{Bool, List, ap, cond, eq-eqb, eqb, eqb-true, false, inl, inr, not, refl, subst, sym, true, ℕ, ◌<◌, ◌||◌, ◌∙◌, ◌≡◌, ◌≤◌, ◌⊎◌}
 use Rattle.std.specs.List.{list_all}
 use Rattle.std.proofs.lemmas.Bool.{ne_eqb, or_left, or_right}
 use Rattle.nvme_model.specs.Array.{has_block}
@@ -21,9 +21,9 @@ use Rattle.meet_lock.specs.Lock.{AreOfPasses}
 use Rattle.meet_lock.specs.Passes.{config_of, number}
 use Rattle.slot_calls.specs.Careful.{is_careful}
 use Rattle.slot_calls.specs.Swaps.{log_believed}
-use Rattle.slot_hosts.specs.Rosters.{IsCarefulPass, IsRosterOf, Roster, is_in_place, is_serving, port_of}
+use Rattle.slot_hosts.specs.Rosters.{IsRosterOf, Roster, is_in_place, is_serving}
 use Rattle.slot_hosts.specs.Servers.{serves}
-use Rattle.slot_hosts.proofs.Hosts.{PortIn, events_in, every_from, every_in, is_own, made_log, met_careful, met_legal, met_own, met_tidy, numbered}
+use Rattle.slot_hosts.proofs.Hosts.{PortIn, every_from, every_in, is_own, made_log, met_careful, met_legal, met_own, met_tidy, numbered}
 use Rattle.slot_hosts.proofs.Rosters.{one_believes}
 
 -- ---- two of many

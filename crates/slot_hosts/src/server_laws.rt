@@ -20,6 +20,7 @@ pub fn a_server_goes_on()
         is_served step ≡ true → Accepted Accepts p q step a → IsServing p → IsServing q }
     ensures declined { (p q : EnginePass) (step : Step) (d : Declined) → IsSame p q → Knows Kept p q →
         Declines Refuses p q step d → IsServing p → IsServing q }
+    ensures noted { (p q : EnginePass) → IsSame p q → seen q ≡ seen p → IsServing p → IsServing q }
     ensures saw { (p q : EnginePass) → IsSame p q → mine q ≡ mine p → GoesOn (passes_of p) (seen p) (seen q) →
         IsServing p → IsServing q }
 {}

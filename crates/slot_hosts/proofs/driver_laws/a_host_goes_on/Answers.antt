@@ -1,4 +1,4 @@
-use Rattle.std.proofs.Common.{ap, subst, sym, true, ◌∙◌, ◌≡◌}
+use Rattle.std.proofs.Common.{ap, ◌∙◌, ◌≡◌}
 use Rattle.std.specs.declared.snapshot.Snapshot.{Snapshot}
 use Rattle.driver_cas.specs.Drivers.{area_of, host_of, made, serial_of}
 use Rattle.driver_cas.specs.declared.shared_port.SharedPort.{SharedPort}

@@ -1,5 +1,4 @@
 use Rattle.std.proofs.Common.{arith, subst, sym, true, ℕ, ◌≡◌}
-use Rattle.nvme_model.specs.Passes.{SharedPast}
 use Rattle.nvme_model.specs.declared.array.Range.{Range}
 use Rattle.host_laws.proofs.Discipline.{has_area}
 use Rattle.driver_cas.specs.Drivers.{area_of, host_of, made, serial_of as last_of}
