@@ -1,5 +1,5 @@
 -- A server's pass goes on to serve.
-use Rattle.std.proofs.Common.{Err, Ok, Result, refl, true, ℕ, ◌≡◌}
+use Rattle.std.proofs.Common.{Err, Ok, Result, refl, true, ℕ, ◌∙◌, ◌≡◌}
 use Rattle.std.specs.Prelude.{IfErr, IfOk}
 use Rattle.nvme_model.specs.History.{Past}
 use Rattle.nvme_model.specs.Kept.{Kept}
@@ -17,6 +17,8 @@ use Rattle.work_queue.specs.declared.engine.Open.TheVariants as opening
 use Rattle.work_queue.specs.declared.engine.Opened.{Opened}
 use Rattle.work_queue.specs.declared.task.Task.{Task}
 use Rattle.work_queue.specs.declared.task.Task.TheVariants as task
+use Rattle.driver_rows.specs.Benches.{ServesOn}
+use Rattle.driver_rows.specs.declared.bench.Server.{Server}
 use Rattle.slot_hosts.specs.Servers.{IsServing, is_served}
 use Rattle.slot_hosts.proofs.Servers.{declined, stepped}
 
@@ -36,3 +38,7 @@ pub worked_serves : (p q : EnginePass) (w v : TicketSeat State) (k : Task) (t : 
     → IfErr r (λ d. Declines Refuses p q (task_step k t) d × (its ≡ was)) → IsServing p → IsServing q
 worked_serves p q w v k t its was (Ok a) same knows ok err x = stepped p q (task_step k t) a same knows (task_serves k t) ok.by x
 worked_serves p q w v k t its was (Err d) same knows ok err x = declined p q (task_step k t) d same knows err.0 x
+
+-- first one, then the other
+pub serves_through : (s m t : Server) → ServesOn s m → ServesOn m t → ServesOn s t
+serves_through s m t x y = ((y.0.0 ∙ x.0.0, y.0.1 ∙ x.0.1, y.0.2 ∙ x.0.2, y.0.3 ∙ x.0.3), λ h. y.1 (x.1 h))

@@ -58,7 +58,6 @@ fn tells<R: Wait>(rt: &R, bench: &Bench, server: &mut Server, queue: u16, answer
 }
 
 /// Makes the Work's next task, and tells of what it posted; whether there was a task. None where it was refused.
-#[tactic(auto, using(crate::proofs::Serving::worked_serves))]
 pub fn makes<R: Wait>(rt: &R, bench: &Bench, server: &mut Server, work: &mut Work) -> Option<bool>
     requires { IsServerOf bench.now server.old × IsWorkOf bench.now.engine work.old }
     ensures same { IsServerOf bench.now server.new × IsWorkOf bench.now.engine work.new }
@@ -79,6 +78,7 @@ pub fn makes<R: Wait>(rt: &R, bench: &Bench, server: &mut Server, work: &mut Wor
 }
 
 /// Makes all tasks of a Work; whether none was refused.
+#[tactic(auto, using(crate::proofs::Serving::serves_through))]
 pub fn ends<R: Wait>(rt: &R, bench: &Bench, server: &mut Server, work: Work) -> bool
     requires { IsServerOf bench.now server.old × IsWorkOf bench.now.engine work }
     ensures same { IsServerOf bench.now server.new }
@@ -96,6 +96,7 @@ pub fn ends<R: Wait>(rt: &R, bench: &Bench, server: &mut Server, work: Work) -> 
 }
 
 /// Serves all commands of a submission queue; whether nothing was refused but the last Fetch.
+#[tactic(auto, using(crate::proofs::Serving::serves_through))]
 pub fn serves<R: Wait>(rt: &R, bench: &Bench, server: &mut Server, queue: u16) -> bool
     requires { IsServerOf bench.now server.old }
     ensures same { IsServerOf bench.now server.new }

@@ -1,5 +1,5 @@
 -- Two drivers that have met.
-use Rattle.std.proofs.Common.{Bool, List, [], ap, arith, cond, eqb, false, inl, inr, length, length-append, not, refl, subst, suc, sym, true, ℕ, ◌&&◌, ◌+◌, ◌++◌, ◌<◌, ◌||◌, ◌∙◌, ◌∷◌, ◌≡◌, ◌≤◌}
+use Rattle.std.proofs.Common.{Bool, List, [], ap, arith, cond, eq-eqb, eqb, false, inl, inr, length, length-append, not, refl, subst, suc, sym, true, ℕ, ◌&&◌, ◌+◌, ◌++◌, ◌<◌, ◌||◌, ◌∙◌, ◌∷◌, ◌≡◌, ◌≤◌}
 use Rattle.std.specs.List.{list_all}
 use Rattle.std.proofs.lemmas.Bool.{and_from, and_parts}
 use Rattle.nvme_model.specs.Config.{completion_queue}
@@ -23,6 +23,8 @@ use Rattle.driver_cas.specs.declared.shared_port.SharedPort.{SharedPort}
 use Rattle.meet_lock.specs.Lock.{AreOfPasses}
 use Rattle.meet_lock.specs.Passes.{config_of, mine, number, seen}
 use Rattle.slot_calls.specs.Careful.{is_careful}
+use Rattle.slot_hosts.specs.Rosters.{Roster, all_in_place, is_in_place, is_serving, keeps_to}
+use Rattle.slot_hosts.specs.Servers.{serves}
 
 -- ---- elements of a shared history
 
@@ -142,3 +144,24 @@ module _ (slots : Range) (host last : ℕ) (began now : SharedPort) (met : Share
 
   pub met_careful : is_careful slots host last (events_in now met) ≡ true
   met_careful = ap (is_careful slots host last) (sym made_log) ∙ x.careful
+
+-- ---- many passes
+
+-- each entry of a pass that drives or serves is in its place
+place_of : (c : ConfigNumbers) (r : Roster) (met : SharedPast) (m : ℕ × Entry) → In m met → (r.drives m.0 ≡ true → keeps_to c (r.queue m.0) m.0 met ≡ true) → (r.drives m.0 ≡ false → serves m.0 met ≡ true)
+    → is_in_place c r m.0 m.1 ≡ true
+place_of c r met m i own serve = go (r.drives m.0) refl
+  where
+    mine : (k : ℕ) (x : Bool) → (not (eqb k k) || x) ≡ true → x ≡ true
+    mine k x h = subst (λ (b : Bool). (not b || x) ≡ true) (eq-eqb k k refl) h
+
+    go : (b : Bool) → r.drives m.0 ≡ b → cond b (not (is_beside c (r.queue m.0) m.1)) (is_serving m.1) ≡ true
+    go true e = mine m.0 (not (is_beside c (r.queue m.0) m.1)) (every_in (is_own c (r.queue m.0) m.0) met m (own e) i)
+    go false e = mine m.0 (is_serving m.1) (every_in (λ k. not (eqb k.0 m.0) || is_serving k.1) met m (serve e) i)
+
+pub all_placed : (c : ConfigNumbers) (r : Roster) (passes : ℕ) (met : SharedPast) → AreOfPasses passes met → ((p : ℕ) → 0 < p → p ≤ passes → r.drives p ≡ true → keeps_to c (r.queue p) p met ≡ true)
+    → ((p : ℕ) → 0 < p → p ≤ passes → r.drives p ≡ false → serves p met ≡ true) → all_in_place c r met ≡ true
+all_placed c r passes met a own serve =
+    every_from (λ m. is_in_place c r m.0 m.1) met (λ m i.
+    let n = numbered passes met m a i in
+    place_of c r met m i (own m.0 n.0 n.1) (serve m.0 n.0 n.1))

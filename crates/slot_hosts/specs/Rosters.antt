@@ -1,5 +1,5 @@
 -- Several drivers and servers that share one history: whose each entry is.
-use Rattle.std.specs.Prelude.{Bool, false, if◌then◌else◌, not, true, ℕ, ◌≡◌}
+use Rattle.std.specs.Prelude.{Bool, false, if◌then◌else◌, not, true, ℕ, ◌==◌, ◌||◌, ◌≡◌}
 use Rattle.std.specs.List.{list_all}
 use Rattle.nvme_model.specs.Legal.{IsLegal}
 use Rattle.nvme_model.specs.Passes.{SharedPast, entries}
@@ -29,6 +29,10 @@ is_serving _ = true
 -- made by pass p, it is a driver's own, for its queues; or, where the pass is no driver's, it serves
 abbrev pub is_in_place : ConfigNumbers → Roster → ℕ → Entry → Bool
 is_in_place c r p e = if r.drives p then not (is_beside c (r.queue p) e) else is_serving e
+
+-- each entry that pass p made is a Publish to a submission queue of completion queue n, or a Reap of it
+abbrev pub keeps_to : ConfigNumbers → ℕ → ℕ → SharedPast → Bool
+keeps_to c n p shared = list_all (λ m. not (m.0 == p) || not (is_beside c n m.1)) shared
 
 -- each entry is so
 abbrev pub all_in_place : ConfigNumbers → Roster → SharedPast → Bool

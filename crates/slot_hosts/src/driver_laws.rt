@@ -1,18 +1,23 @@
 //! What drivers of one engine may conclude from what each of them did itself.
 
-ghost use Rattle.std.specs.Prelude.{[], Option, ℕ, ◌≡◌, ◌≢◌};
-ghost use Rattle.nvme_model.specs.Passes.{SharedPast};
+ghost use Rattle.std.specs.Prelude.{[], Option, true, ℕ, ◌≡◌, ◌≢◌};
+ghost use Rattle.nvme_model.specs.Legal.{IsLegal};
+ghost use Rattle.nvme_model.specs.Passes.{SharedPast, entries};
 ghost use Rattle.nvme_model.specs.declared.array.Range.{Range};
 ghost use Rattle.nvme_model.specs.declared.config.ConfigNumbers.{ConfigNumbers};
 ghost use Rattle.meet_lock.specs.Passes.{seen};
-ghost use Rattle.driver_cas.specs.Drivers.{area_of, host_of};
+ghost use Rattle.driver_calls.specs.Events.{events};
+ghost use Rattle.driver_calls.specs.Log.{is_tidy};
+ghost use Rattle.driver_cas.specs.Drivers.{area_of, host_of, made, serial_of};
 ghost use Rattle.driver_cas.specs.Ports.{view_of};
 ghost use Rattle.driver_cas.specs.Starts.{IsUntouched};
 ghost use Rattle.slot_alloc.specs.Areas.{slot_of};
 ghost use Rattle.slot_alloc.specs.Careful.{GoesOn, IsCareful, ReleasedName};
 ghost use Rattle.slot_alloc.specs.Claims.{IsClaimingOf, IsHeldBy, IsUnreleased};
 ghost use Rattle.slot_alloc.specs.declared.claim.Claim.{Claim};
-ghost use Rattle.slot_hosts.specs.Hosts.{AreTwoHosts, IsHost};
+ghost use Rattle.slot_calls.specs.Careful.{is_careful};
+ghost use Rattle.slot_hosts.specs.Hosts.{AreTwoHosts, IsHost, IsHostIn};
+ghost use Rattle.slot_hosts.specs.Rosters.{keeps_to};
 
 use driver_cas::{Driver, SharedPort};
 use slot_alloc::Claiming;
@@ -63,6 +68,25 @@ pub fn a_held_claim_waits(old: &Snapshot<Driver<SharedPort<'_>>>, new: &Driver<S
 {
     let _ = old;
     let _ = new;
+}
+
+/// What a host did, by the history of a meeting alone: by these facts of each of many hosts that history is theirs
+/// (`IsRosterOf`).
+pub fn what_a_host_did(driver: &Driver<SharedPort<'_>>)
+    ensures log { (met : SharedPast) → IsHostIn driver.now met →
+        let v = view_of driver.now.port in made driver.now ≡ events v.config v.queue v.pass met }
+    ensures legal { (met : SharedPast) → IsHostIn driver.now met →
+        IsLegal (view_of driver.now.port).config (entries met) }
+    ensures own { (met : SharedPast) → IsHostIn driver.now met →
+        let v = view_of driver.now.port in keeps_to v.config v.queue v.pass met ≡ true }
+    ensures tidy { (met : SharedPast) → IsHostIn driver.now met →
+        let v = view_of driver.now.port in is_tidy (events v.config v.queue v.pass met) ≡ true }
+    ensures careful { (met : SharedPast) → IsHostIn driver.now met →
+        let v = view_of driver.now.port in
+        is_careful (area_of driver.now) (host_of driver.now) (serial_of driver.now)
+        (events v.config v.queue v.pass met) ≡ true }
+{
+    let _ = driver;
 }
 
 /// Two careful drivers that have met, of an engine whose other passes serve, never both have a claim of one slot.
