@@ -134,7 +134,8 @@ fn answered<'a>(
                 let _ = claim.leave();
                 return Some(held);
             }
-            Progress::Later(_, _) | Progress::Taken | Progress::AllTaken | Progress::Failed(_) => return None,
+            Progress::Later(_, _) | Progress::Taken | Progress::AllTaken | Progress::Failed(_) =>
+                return None,
         }
     }
     None
