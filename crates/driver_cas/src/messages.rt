@@ -3,7 +3,8 @@
 ghost use Rattle.std.specs.Prelude.{◌≡◌, IfErr, IfOk};
 ghost use Rattle.nvme_model.specs.Legal.{IsLegal};
 ghost use Rattle.nvme_model.specs.Passes.{IsBeginning, entries};
-ghost use Rattle.meet_lock.specs.Passes.{config_of, seen};
+ghost use Rattle.meet_lock.specs.Lock.{GoesOn};
+ghost use Rattle.meet_lock.specs.Passes.{config_of, passes_of, seen};
 ghost use Rattle.work_queue.specs.Engines.{IsOf};
 ghost use Rattle.work_queue.specs.Notices.{IsNoticeOf, ReapFinds, notice_seen};
 ghost use Rattle.driver_cas.specs.Listening.{IsBeside, IsNoticeFor, IsPassBeside, SawMore, counted_with};
@@ -27,6 +28,8 @@ fn meet_passes(engine: &Engine, first: &mut Pass<Core>, second: &mut Pass<Core>)
     ensures other { IsLegal (config_of second.old) (entries (seen second.old))
         → IsLegal (config_of second.new) (entries (seen second.new)) }
     ensures met { IfOk result (λ _. seen first.new ≡ seen second.new) }
+    ensures goes_on { IfOk result (λ _. GoesOn (passes_of first.old) (seen first.old) (seen first.new)
+        × GoesOn (passes_of second.old) (seen second.old) (seen second.new)) }
     ensures busy { IfErr result (λ _. (seen first.new ≡ seen first.old) × (seen second.new ≡ seen second.old)) }
 {
     engine.meet(first, second)?;
@@ -63,6 +66,8 @@ impl<'a> SharedPort<'a> {
         ensures second { SawMore other.old other.new }
         ensures counted { (self.new.counted ≡ self.old.counted) × (other.new.counted ≡ other.old.counted) }
         ensures met { IfOk result (λ _. seen self.new.pass ≡ seen other.new.pass) }
+        ensures goes_on { IfOk result (λ _. GoesOn (passes_of self.old.pass) (seen self.old.pass) (seen self.new.pass)
+            × GoesOn (passes_of other.old.pass) (seen other.old.pass) (seen other.new.pass)) }
         ensures busy { IfErr result
             (λ _. (view_of self.new ≡ view_of self.old) × (view_of other.new ≡ view_of other.old)) }
     {
@@ -83,6 +88,8 @@ impl<'a> SharedPort<'a> {
             → IsLegal (config_of pass.new) (entries (seen pass.new)) }
         ensures counted { self.new.counted ≡ self.old.counted }
         ensures met { IfOk result (λ _. seen self.new.pass ≡ seen pass.new) }
+        ensures goes_on { IfOk result (λ _. GoesOn (passes_of self.old.pass) (seen self.old.pass) (seen self.new.pass)
+            × GoesOn (passes_of pass.old) (seen pass.old) (seen pass.new)) }
         ensures busy { IfErr result (λ _. (view_of self.new ≡ view_of self.old) × (seen pass.new ≡ seen pass.old)) }
     {
         meet_passes(self.engine, &mut self.pass, pass)

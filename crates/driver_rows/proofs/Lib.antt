@@ -1,3 +1,4 @@
 pub mod Calls
 pub mod Claimants
 pub mod Fakes
+pub mod Serving

@@ -1,9 +1,10 @@
 -- What contracts say of a host and a server.
-use Rattle.std.specs.Prelude.{All, Bool, nat_le, ℕ, ◌&&◌, ◌==◌, ◌≡◌}
+use Rattle.std.specs.Prelude.{All, Bool, Some, nat_le, slice_get, ℕ, ◌&&◌, ◌+◌, ◌==◌, ◌≡◌}
 use Rattle.nvme_model.specs.Config.{completion_queue}
 use Rattle.nvme_model.specs.declared.config.ConfigNumbers.{ConfigNumbers}
-use Rattle.meet_lock.specs.Passes.{config_of}
+use Rattle.meet_lock.specs.Passes.{IsSame, config_of, number, passes_of}
 use Rattle.work_queue.specs.Engines as engine
+use Rattle.work_queue.specs.Engines.{EnginePass}
 use Rattle.work_queue.specs.QueuePasses as queue
 use Rattle.driver_cas.specs.Drivers.{port_of}
 use Rattle.driver_cas.specs.Listening.{IsPlaceFor}
@@ -12,6 +13,7 @@ use Rattle.driver_rows.specs.declared.bench.Bench.{Bench}
 use Rattle.driver_rows.specs.declared.bench.Host.{Host}
 use Rattle.driver_rows.specs.declared.bench.Server.{Server}
 use Rattle.driver_rows.specs.declared.bench.Spares.{Spares}
+use Rattle.slot_hosts.specs.Servers.{IsServing}
 
 -- submission queue q is there, and uses completion queue n
 abbrev pub uses : ConfigNumbers → ℕ → ℕ → Bool
@@ -22,9 +24,18 @@ abbrev pub IsServerOf : Bench → Server → Type 0
 IsServerOf b s =
     engine.IsOf b.engine s.pass × queue.IsPlaceOf b.engine b.notices s.place × (config_of s.pass ≡ b.config)
 
+-- with the same pass, which goes on to serve
+abbrev pub ServesOn : Server → Server → Type 0
+ServesOn s t = IsSame s.pass t.pass × (IsServing s.pass → IsServing t.pass)
+
 abbrev pub IsHostOf : Bench → Host → Type 0
 IsHostOf b h =
     IsPlaceFor (port_of h.driver) b.notices h.place × engine.IsOf b.engine (pass_of (port_of h.driver))
+
+-- these are the first of so many passes, numbered from 1 in order
+abbrev pub AreNumbered : ℕ → Spares → Type 0
+AreNumbered n s = (k : ℕ) (p : EnginePass) → slice_get s.passes.items k ≡ Some p
+    → (number p ≡ k + 1) × (passes_of p ≡ n)
 
 -- so are these, that nobody has yet
 pub record AreOf (b : Bench) (s : Spares) : Type 0 where

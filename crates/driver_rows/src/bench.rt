@@ -1,14 +1,17 @@
 //! What a host's driver and a server share on one thread.
 
 ghost use Rattle.std.specs.List.Sorted.{IsStrictlyIncreasing};
-ghost use Rattle.std.specs.Prelude.{◌≡◌, ◌<◌, ◌≤◌, ◌+◌, All, IfOk, IfSome, [], length, true};
+ghost use Rattle.std.specs.Prelude.{◌≡◌, ◌<◌, ◌≤◌, ◌+◌, All, IfOk, IfSome, [], length, true, vec_len, ℕ};
 ghost use Rattle.driver_cas.specs.Drivers.{area_of, made};
-ghost use Rattle.driver_rows.specs.Benches.{AreOf, IsHostOf, IsServerOf, uses};
+ghost use Rattle.meet_lock.specs.Passes.{number as number_of, passes_of, seen};
+ghost use Rattle.slot_hosts.specs.Hosts.{IsHost};
+ghost use Rattle.driver_rows.specs.Benches.{AreNumbered, AreOf, IsHostOf, IsServerOf, uses};
 
 use driver_cas::{Driver, SharedPort};
 use history::Config;
 use meet_lock::Pass;
 use nvme_model::array::Range;
+use slot_hosts::driver_laws::a_new_driver_is_a_host;
 use std::alloc::{AllocError as NoMemory, Global};
 use step_core::Core;
 use work_queue::{Engine, MessageQueue, Notice, NoticeQueue, QueuePass};
@@ -57,6 +60,8 @@ pub fn bench_of(
     requires { (0 < capacity) × (0 < count) }
     ensures own { IfOk result (λ b. AreOf b.0 b.1) }
     ensures config { IfOk result (λ b. b.0.config ≡ config) }
+    ensures count { IfOk result (λ b. vec_len b.1.passes ≡ count) }
+    ensures numbered { IfOk result (λ b. AreNumbered count b.1) }
 {
     let (engine, passes) = Engine::of_config(alloc, config, count)?;
     let (notices, places) = MessageQueue::<Notice>::new(alloc, &engine, capacity, count)?;
@@ -73,6 +78,10 @@ pub fn hand_of(_bench: &Bench, spares: &mut Spares) -> Option<Server>
     requires { AreOf _bench.now spares.old }
     ensures rest { AreOf _bench.now spares.new }
     ensures server { IfSome result (IsServerOf _bench.now) }
+    ensures fresh { IfSome result (λ s. seen s.pass ≡ []) }
+    ensures count { IfSome result (λ _. vec_len spares.new.passes + 1 ≡ vec_len spares.old.passes) }
+    ensures numbered { (n : ℕ) → AreNumbered n spares.old → AreNumbered n spares.new × IfSome result (λ s.
+        (number_of s.pass ≡ vec_len spares.old.passes) × (passes_of s.pass ≡ n)) }
 {
     let pass = spares.passes.pop()?;
     let place = spares.places.pop()?;
@@ -100,12 +109,17 @@ pub fn host_of<'a>(
     ensures host { IfSome result (IsHostOf bench.entry.now) }
     ensures area { IfSome result (λ h. area_of h.driver ≡ slots) }
     ensures made { IfSome result (λ h. made h.driver ≡ []) }
+    ensures is { seen hand.pass ≡ [] →
+        IfSome result (λ h. IsHost bench.entry.now.config slots (number_of hand.pass) queue number h.driver) }
 {
     let Server { pass, place } = hand;
     let port = SharedPort::new(&bench.engine, pass, queue);
     let acwu = bench.config.numbers().atomic.acwu;
     match Driver::new(alloc, port, number, acwu, slots, queues) {
-        Ok(driver) => Some(Host { driver, place }),
+        Ok(driver) => {
+            a_new_driver_is_a_host(&driver);
+            Some(Host { driver, place })
+        }
         Err(_) => None,
     }
 }

@@ -1,9 +1,9 @@
 //! One host and one server, on one queue of a small controller.
 
-ghost use Rattle.std.specs.Prelude.{◌≡◌, ◌<◌, ◌≤◌, IfSome, true};
+ghost use Rattle.std.specs.Prelude.{◌≡◌, ◌<◌, ◌≤◌, IfSome, true, vec_len};
 ghost use Rattle.driver_cas.specs.Drivers.{IsCallOf};
 ghost use Rattle.history.specs.Config.{numbers};
-ghost use Rattle.driver_rows.specs.Benches.{AreOf, IsHostOf, IsServerOf, uses};
+ghost use Rattle.driver_rows.specs.Benches.{AreNumbered, AreOf, IsHostOf, IsServerOf, uses};
 
 use crate::ask::{Told, answers, hears};
 use crate::bench::{Bench, Host, Server, Spares, bench_of, hand_of, host_of};
@@ -20,6 +20,8 @@ pub fn small_bench(alloc: Global, cq: u16, count: usize) -> Option<(Bench, Spare
     requires { 0 < count }
     ensures own { IfSome result (λ b. AreOf b.0 b.1) }
     ensures config { IfSome result (λ b. b.0.config ≡ numbers 8 1 1 0 0 2 4 cq 8 2) }
+    ensures count { IfSome result (λ b. vec_len b.1.passes ≡ count) }
+    ensures numbered { IfSome result (λ b. AreNumbered count b.1) }
 {
     let config = Config::new(8, 1, 1, 0, 0, 2, 4, cq, 8).ok()?;
     bench_of(alloc, config, 4, count).ok()

@@ -6,7 +6,7 @@ ghost use Rattle.nvme_model.specs.Passes.{entries};
 ghost use Rattle.meet_lock.specs.Passes.{config_of, seen};
 ghost use Rattle.work_queue.specs.Engines.{IsWorkOf};
 ghost use Rattle.work_queue.specs.Posted.{IsAnswerPosted};
-ghost use Rattle.driver_rows.specs.Benches.{IsServerOf};
+ghost use Rattle.driver_rows.specs.Benches.{IsServerOf, ServesOn};
 
 use crate::bench::{Bench, Server};
 use std::sync::Wait;
@@ -23,10 +23,11 @@ fn completion_queue(bench: &Bench, queue: u16) -> u16
 }
 
 /// Fetches the next command, or pair, of a submission queue; None where it is refused.
-#[tactic(auto, using(crate::proofs::Calls::fetched_of))]
+#[tactic(auto, using(crate::proofs::Calls::fetched_of, crate::proofs::Serving::fetched_serves))]
 pub fn fetches(bench: &Bench, server: &mut Server, queue: u16) -> Option<Work>
     requires { IsServerOf bench.now server.old }
     ensures same { IsServerOf bench.now server.new }
+    ensures serves { ServesOn server.old server.new }
     ensures work { IfSome result (IsWorkOf bench.now.engine) }
 {
     match bench
@@ -39,10 +40,12 @@ pub fn fetches(bench: &Bench, server: &mut Server, queue: u16) -> Option<Work>
 }
 
 // Tells of a completion that was posted, where it was one of completion queue 1; whether it could.
+#[tactic(auto, using(slot_hosts::proofs::Servers::noted))]
 fn tells<R: Wait>(rt: &R, bench: &Bench, server: &mut Server, queue: u16, answer: &Answer) -> bool
     requires own { IsServerOf bench.now server.old }
     requires posted { IsAnswerPosted (config_of server.old.pass) (entries (seen server.old.pass)) queue answer.now }
-    ensures { IsServerOf bench.now server.new }
+    ensures same { IsServerOf bench.now server.new }
+    ensures serves { ServesOn server.old server.new }
 {
     let Answer::Posted(cqe) = answer else {
         return true;
@@ -57,7 +60,8 @@ fn tells<R: Wait>(rt: &R, bench: &Bench, server: &mut Server, queue: u16, answer
 /// Makes the Work's next task, and tells of what it posted; whether there was a task. None where it was refused.
 pub fn makes<R: Wait>(rt: &R, bench: &Bench, server: &mut Server, work: &mut Work) -> Option<bool>
     requires { IsServerOf bench.now server.old × IsWorkOf bench.now.engine work.old }
-    ensures { IsServerOf bench.now server.new × IsWorkOf bench.now.engine work.new }
+    ensures same { IsServerOf bench.now server.new × IsWorkOf bench.now.engine work.new }
+    ensures serves { ServesOn server.old server.new }
 {
     let Some(task) = work.next_task() else {
         return Some(false);
@@ -74,9 +78,11 @@ pub fn makes<R: Wait>(rt: &R, bench: &Bench, server: &mut Server, work: &mut Wor
 }
 
 /// Makes all tasks of a Work; whether none was refused.
+#[tactic(auto, using(crate::proofs::Serving::serves_through))]
 pub fn ends<R: Wait>(rt: &R, bench: &Bench, server: &mut Server, work: Work) -> bool
     requires { IsServerOf bench.now server.old × IsWorkOf bench.now.engine work }
-    ensures { IsServerOf bench.now server.new }
+    ensures same { IsServerOf bench.now server.new }
+    ensures serves { ServesOn server.old server.new }
 {
     let mut work = work;
     for _ in rt.forever() {
@@ -90,9 +96,11 @@ pub fn ends<R: Wait>(rt: &R, bench: &Bench, server: &mut Server, work: Work) -> 
 }
 
 /// Serves all commands of a submission queue; whether nothing was refused but the last Fetch.
+#[tactic(auto, using(crate::proofs::Serving::serves_through))]
 pub fn serves<R: Wait>(rt: &R, bench: &Bench, server: &mut Server, queue: u16) -> bool
     requires { IsServerOf bench.now server.old }
-    ensures { IsServerOf bench.now server.new }
+    ensures same { IsServerOf bench.now server.new }
+    ensures serves { ServesOn server.old server.new }
 {
     for _ in rt.forever() {
         let Some(work) = fetches(bench, server, queue) else {

@@ -1,0 +1,187 @@
+//! Hosts that ask for the one slot, and a server.
+
+ghost use Rattle.std.specs.Prelude.{IfSome, [], true, vec_len, ◌≡◌, ◌≤◌};
+ghost use Rattle.history.specs.Config.{numbers};
+ghost use Rattle.meet_lock.specs.Passes.{number, seen};
+ghost use Rattle.driver_rows.specs.Benches.{AreNumbered, AreOf, IsServerOf};
+ghost use Rattle.holding_example.specs.Holding.{Holds, IsAsker, IsThird, one_slot};
+ghost use Rattle.slot_alloc.specs.Areas.{area};
+ghost use Rattle.slot_alloc.specs.Claims.{IsClaimingOf, IsUnreleased};
+ghost use Rattle.slot_alloc.specs.Progresses.{IsClaimingOn, IsHeldOn, IsUnreleasedOn};
+
+use driver_cas::SharedPort;
+use driver_rows::{Bench, Host, Server, Spares, hand_of, hears, host_of, serves};
+use nvme_model::array::Range;
+use slot_alloc::{Claim, Claiming, Progress, Slots, poll_claim};
+use slot_hosts::driver_laws::{a_begun_claim_waits, a_held_claim_waits, a_host_goes_on};
+use slot_hosts::server_laws::a_server_goes_on;
+use std::alloc::Global;
+use std::snapshot::Snapshot;
+use std::sync::Wait;
+
+/// What a host holds: its claim, which was left held.
+pub(crate) type Held = Option<Snapshot<Claim>>;
+
+// Host h.
+fn asker_of<'a>(alloc: Global, bench: &'a Bench, hand: Server, h: u16) -> Option<Host<'a>>
+    requires hand { IsServerOf bench.now hand × (seen hand.pass ≡ []) × (number hand.pass ≡ h) }
+    requires two { (1 ≤ h) × (h ≤ bench.now.config.pairs) × (bench.now.config.cqs ≡ bench.now.config.pairs) }
+    ensures { IfSome result (IsAsker bench.entry.now h) }
+{
+    let queues = [h].to_vec(alloc).ok()?;
+    let slots = Range { slba: 0, blocks: 1 };
+    host_of(alloc, bench, hand, u32::from(h), slots, h, queues)
+}
+
+/// A server with the last of three passes, and hosts 1 and 2; None where memory is refused.
+pub(crate) fn seats_of<'a>(
+    alloc: Global,
+    bench: &'a Bench,
+    spares: &mut Spares,
+) -> Option<(Server, Host<'a>, Host<'a>)>
+    requires own { AreOf bench.now spares.old }
+    requires three { AreNumbered 3 spares.old × (vec_len spares.old.passes ≡ 3) }
+    requires config { bench.now.config ≡ numbers 8 1 1 0 0 2 4 4 8 2 }
+    ensures server { IfSome result (λ s. IsThird bench.entry.now s.0) }
+    ensures one { IfSome result (λ s. IsAsker bench.entry.now 1 s.1) }
+    ensures two { IfSome result (λ s. IsAsker bench.entry.now 2 s.2) }
+{
+    let server = hand_of(bench, spares)?;
+    a_server_goes_on();
+    let second = hand_of(bench, spares)?;
+    let first = hand_of(bench, spares)?;
+    let one = asker_of(alloc, bench, first, 1)?;
+    let two = asker_of(alloc, bench, second, 2)?;
+    Some((server, one, two))
+}
+
+// Begins to ask for the slot.
+fn begins<'a>(
+    _bench: &Bench,
+    slots: &Slots,
+    host: &mut Host<'a>,
+    _h: u16,
+) -> Option<Claiming<SharedPort<'a>>>
+    requires host { IsAsker _bench.now _h host.old }
+    requires slots { area slots.now ≡ one_slot }
+    ensures host { IsAsker _bench.now _h host.new }
+    ensures claiming { IfSome result (λ k. IsClaimingOf host.new.driver k × IsUnreleased host.new.driver k) }
+{
+    let old = Snapshot::of(&host.driver);
+    let claiming = slots.claim(&mut host.driver, 0);
+    a_host_goes_on(&old, &host.driver);
+    claiming.ok()
+}
+
+// Learns of each completion.
+fn listens<'a, R: Wait>(
+    rt: &R,
+    bench: &Bench,
+    host: &mut Host<'a>,
+    _h: u16,
+    claiming: &Claiming<SharedPort<'a>>,
+)
+    requires host { IsAsker bench.now _h host.old }
+    requires claiming { IsClaimingOf host.old.driver claiming.now × IsUnreleased host.old.driver claiming.now }
+    ensures host { IsAsker bench.now _h host.new }
+    ensures claiming { IsClaimingOf host.new.driver claiming.now × IsUnreleased host.new.driver claiming.now }
+{
+    let old = Snapshot::of(&host.driver);
+    hears(rt, bench, host);
+    a_host_goes_on(&old, &host.driver);
+    a_begun_claim_waits(&old, &host.driver, claiming);
+}
+
+// Asks what has come of it.
+fn polls<'a>(
+    _bench: &Bench,
+    host: &mut Host<'a>,
+    _h: u16,
+    claiming: Claiming<SharedPort<'a>>,
+) -> Progress<SharedPort<'a>>
+    requires host { IsAsker _bench.now _h host.old }
+    requires claiming { IsClaimingOf host.old.driver claiming × IsUnreleased host.old.driver claiming }
+    ensures host { IsAsker _bench.now _h host.new }
+    ensures claiming { IsClaimingOn host.new.driver result }
+    ensures unreleased { IsUnreleasedOn host.new.driver result }
+    ensures held { IsHeldOn host.new.driver result }
+{
+    let old = Snapshot::of(&host.driver);
+    let progress = poll_claim(&mut host.driver, claiming);
+    a_host_goes_on(&old, &host.driver);
+    progress
+}
+
+// Polls a claim at most so many times; what the host holds then.
+fn answered<'a>(
+    bench: &Bench,
+    host: &mut Host<'a>,
+    h: u16,
+    claiming: Claiming<SharedPort<'a>>,
+    most: u32,
+) -> Held
+    requires host { IsAsker bench.now h host.old }
+    requires claiming { IsClaimingOf host.old.driver claiming × IsUnreleased host.old.driver claiming }
+    ensures host { IsAsker bench.now h host.new }
+    ensures held { Holds host.new result }
+{
+    let mut claiming = claiming;
+    for _ in 0..most {
+        match polls(bench, host, h, claiming) {
+            Progress::Pending(next) => claiming = next,
+            Progress::Held(claim) => {
+                let held = Snapshot::of(&claim);
+                let _ = claim.leave();
+                return Some(held);
+            }
+            Progress::Later(_, _) | Progress::Taken | Progress::AllTaken | Progress::Failed(_) =>
+                return None,
+        }
+    }
+    None
+}
+
+/// Host h asks for the slot, is served, and leaves it held where it was free.
+pub(crate) fn asks<R: Wait>(
+    rt: &R,
+    bench: &Bench,
+    server: &mut Server,
+    slots: &Slots,
+    host: &mut Host<'_>,
+    h: u16,
+) -> Held
+    requires host { IsAsker bench.now h host.old }
+    requires server { IsThird bench.now server.old }
+    requires slots { area slots.now ≡ one_slot }
+    ensures host { IsAsker bench.now h host.new }
+    ensures server { IsThird bench.now server.new }
+    ensures held { Holds host.new result }
+{
+    let claiming = begins(bench, slots, host, h)?;
+    serves(rt, bench, server, h);
+    listens(rt, bench, host, h, &claiming);
+    answered(bench, host, h, claiming, 2)
+}
+
+/// Both hosts have seen one history; false where another caller had the controller. What they hold they hold still.
+pub(crate) fn meets(
+    _bench: &Bench,
+    one: &mut Host<'_>,
+    two: &mut Host<'_>,
+    _held: &(Held, Held),
+) -> bool
+    requires hosts { IsAsker _bench.now 1 one.old × IsAsker _bench.now 2 two.old }
+    requires held { Holds one.old _held.now.0 × Holds two.old _held.now.1 }
+    ensures one { IsAsker _bench.now 1 one.new }
+    ensures two { IsAsker _bench.now 2 two.new }
+    ensures held { Holds one.new _held.now.0 × Holds two.new _held.now.1 }
+    ensures met { result ≡ true → seen one.new.driver.port.pass ≡ seen two.new.driver.port.pass }
+{
+    let (first, second) = (Snapshot::of(&one.driver), Snapshot::of(&two.driver));
+    let met = one.driver.meet(&mut two.driver);
+    a_host_goes_on(&first, &one.driver);
+    a_host_goes_on(&second, &two.driver);
+    a_held_claim_waits(&first, &one.driver);
+    a_held_claim_waits(&second, &two.driver);
+    met.is_ok()
+}

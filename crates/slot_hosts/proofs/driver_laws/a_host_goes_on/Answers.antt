@@ -1,0 +1,39 @@
+use Rattle.std.proofs.Common.{ap, ◌∙◌, ◌≡◌}
+use Rattle.std.specs.declared.snapshot.Snapshot.{Snapshot}
+use Rattle.driver_cas.specs.Drivers.{area_of, host_of, made, serial_of}
+use Rattle.driver_cas.specs.declared.shared_port.SharedPort.{SharedPort}
+use Rattle.meet_lock.specs.Passes.{seen}
+use Rattle.slot_calls.specs.Careful.{is_careful}
+use Rattle.slot_hosts.proofs.driver_laws.a_host_goes_on.Goals as goal
+
+pub returns-clause-careful : goal.returns-clause-careful
+returns-clause-careful c = λ config slots pass queue host released x careful h.
+    let s = x.settings in
+    let v = x.later.view in
+    record {
+      first = ap (λ (b : Snapshot SharedPort). seen b.value.pass) s.began ∙ h.first;
+      careful = careful;
+      config = v.same_config ∙ h.config;
+      area = s.slots ∙ h.area;
+      pass_is = v.same_pass ∙ h.pass_is;
+      queue_is = v.same_queue ∙ h.queue_is;
+      host_is = s.host ∙ h.host_is;
+    }
+
+pub returns-clause-untouched : goal.returns-clause-untouched
+returns-clause-untouched c = λ config slots pass queue host x h.
+    let s = x.same in
+    let v = x.later.view in
+    let d = c.args.old.now.value in
+    let e = c.args.new.now in
+    let same : is_careful (area_of e) (host_of e) (serial_of e) (made e) ≡ is_careful (area_of d) (host_of d) (serial_of d) (made d) =
+    λ i. is_careful (s.slots i) (s.host i) (s.serial i) (x.as_before.0 i) in
+    record {
+      first = ap (λ (b : Snapshot SharedPort). seen b.value.pass) s.began ∙ h.first;
+      careful = same ∙ h.careful;
+      config = v.same_config ∙ h.config;
+      area = s.slots ∙ h.area;
+      pass_is = v.same_pass ∙ h.pass_is;
+      queue_is = v.same_queue ∙ h.queue_is;
+      host_is = s.host ∙ h.host_is;
+    }
