@@ -44,6 +44,11 @@ fn large(alloc: Global, awun: u16) -> Result<(Bench, Spares), Fail>
     Ok(bench_of(alloc, config, 4, 2)?)
 }
 
+// 256 blocks whose bytes are all this one. No contract says so: what they hold is for the controller to answer by.
+fn filled(byte: u8) -> [u8; ALL] {
+    [byte; ALL]
+}
+
 // Begins a call of a driver.
 fn whole_asked<P: Port>(driver: &mut Driver<P>, whole: Whole) -> Result<Call<P>, Fault>
     ensures same { IsSame driver.old driver.new }
@@ -52,9 +57,9 @@ fn whole_asked<P: Port>(driver: &mut Driver<P>, whole: Whole) -> Result<Call<P>,
 {
     match whole {
         Whole::Other(ask) => asked(driver, ask),
-        Whole::Write(byte) => driver.start_write(0, &[byte; ALL]),
-        Whole::Compare(byte) => driver.start_compare(0, &[byte; ALL]),
-        Whole::Swap(old, new) => driver.start_compare_and_write(0, &[old; ALL], &[new; ALL]),
+        Whole::Write(byte) => driver.start_write(0, &filled(byte)),
+        Whole::Compare(byte) => driver.start_compare(0, &filled(byte)),
+        Whole::Swap(old, new) => driver.start_compare_and_write(0, &filled(old), &filled(new)),
     }
 }
 
