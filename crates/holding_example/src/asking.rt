@@ -1,6 +1,6 @@
 //! Hosts that ask for the one slot, and a server.
 
-ghost use Rattle.std.specs.Prelude.{IfSome, [], true, vec_len, ◌≡◌, ◌≤◌};
+ghost use Rattle.std.specs.Prelude.{IfOk, IfSome, [], vec_len, ◌≡◌, ◌≤◌, ◌∷◌};
 ghost use Rattle.history.specs.Config.{numbers};
 ghost use Rattle.meet_lock.specs.Passes.{number, seen};
 ghost use Rattle.driver_rows.specs.Benches.{AreNumbered, AreOf, IsServerOf};
@@ -15,12 +15,21 @@ use nvme_model::array::Range;
 use slot_alloc::{Claim, Claiming, Progress, Slots, poll_claim};
 use slot_hosts::driver_laws::{a_begun_claim_waits, a_held_claim_waits, a_host_goes_on};
 use slot_hosts::server_laws::a_server_goes_on;
-use std::alloc::Global;
+use std::alloc::{AllocError as NoMemory, Global};
 use std::snapshot::Snapshot;
 use std::sync::Wait;
 
 /// What a host holds: its claim, which was left held.
 pub(crate) type Held = Option<Snapshot<Claim>>;
+
+// A list of one queue.
+fn queues_of(alloc: Global, queue: u16) -> Result<Vec<u16>, NoMemory>
+    ensures { IfOk result (λ q. q.items ≡ queue ∷ []) }
+{
+    let mut queues = Vec::new(alloc);
+    queues.push(queue)?;
+    Ok(queues)
+}
 
 // Host h.
 fn asker_of<'a>(alloc: Global, bench: &'a Bench, hand: Server, h: u16) -> Option<Host<'a>>
@@ -28,7 +37,9 @@ fn asker_of<'a>(alloc: Global, bench: &'a Bench, hand: Server, h: u16) -> Option
     requires two { (1 ≤ h) × (h ≤ bench.now.config.pairs) × (bench.now.config.cqs ≡ bench.now.config.pairs) }
     ensures { IfSome result (IsAsker bench.entry.now h) }
 {
-    let queues = [h].to_vec(alloc).ok()?;
+    let Ok(queues) = queues_of(alloc, h) else {
+        return None;
+    };
     let slots = Range { slba: 0, blocks: 1 };
     host_of(alloc, bench, hand, u32::from(h), slots, h, queues)
 }
@@ -163,19 +174,19 @@ pub(crate) fn asks<R: Wait>(
     answered(bench, host, h, claiming, 2)
 }
 
-/// Both hosts have seen one history; false where another caller had the controller. What they hold they hold still.
+/// Both hosts have seen one history; None where another caller had the controller. What they hold they hold still.
 pub(crate) fn meets(
     _bench: &Bench,
     one: &mut Host<'_>,
     two: &mut Host<'_>,
     _held: &(Held, Held),
-) -> bool
+) -> Option<()>
     requires hosts { IsAsker _bench.now 1 one.old × IsAsker _bench.now 2 two.old }
     requires held { Holds one.old _held.now.0 × Holds two.old _held.now.1 }
     ensures one { IsAsker _bench.now 1 one.new }
     ensures two { IsAsker _bench.now 2 two.new }
     ensures held { Holds one.new _held.now.0 × Holds two.new _held.now.1 }
-    ensures met { result ≡ true → seen one.new.driver.port.pass ≡ seen two.new.driver.port.pass }
+    ensures met { IfSome result (λ _. seen one.new.driver.port.pass ≡ seen two.new.driver.port.pass) }
 {
     let (first, second) = (Snapshot::of(&one.driver), Snapshot::of(&two.driver));
     let met = one.driver.meet(&mut two.driver);
@@ -183,5 +194,5 @@ pub(crate) fn meets(
     a_host_goes_on(&second, &two.driver);
     a_held_claim_waits(&first, &one.driver);
     a_held_claim_waits(&second, &two.driver);
-    met.is_ok()
+    met.ok()
 }

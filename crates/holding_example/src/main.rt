@@ -28,11 +28,11 @@ fn who_holds(
     requires held { Holds one.old held.now.0 × Holds two.old held.now.1 }
     ensures { IfSome result (λ h. (h.0 && h.1) ≡ false) }
 {
-    if !meets(bench, one, two, held) {
-        return None;
-    }
+    meets(bench, one, two, held)?;
     let met = Snapshot::of(&one.driver);
-    one.driver.meet_pass(&mut server.pass).ok()?;
+    let Ok(()) = one.driver.meet_pass(&mut server.pass) else {
+        return None;
+    };
     a_host_goes_on(&met, &one.driver);
     a_held_claim_waits(&met, &one.driver);
     a_server_goes_on();
