@@ -1,6 +1,6 @@
 //! The unit that is open of a ticket, as it goes on block by block.
 
-ghost use Rattle.std.specs.Prelude.{◌≡◌, ◌≤◌, ◌<◌, ◌+◌, Some, false, length, suc, true};
+ghost use Rattle.std.specs.Prelude.{◌≡◌, ◌≤◌, ◌<◌, ◌+◌, ◌%◌, Some, false, length, suc, true};
 ghost use Rattle.nvme_model.specs.Open.{is_differs};
 ghost use Rattle.nvme_model.specs.Steps.{marked};
 ghost use Rattle.block_array.specs.Blocks.{contents_of};
@@ -117,7 +117,7 @@ impl Run {
         ensures boxes { contents_of boxes.new ≡ boxes_after self.now volume.old (contents_of boxes.old) at result }
         ensures read { read.new ≡ read_after self.now volume.old read.old result }
     {
-        let place = self.made % self.range.blocks;
+        let place = remainder(self.made, self.range.blocks);
         let lba = self.range.slba + u64::from(place);
         match self.op {
             Op::Read => {
@@ -153,7 +153,7 @@ impl Run {
         ensures done { result ≡ done_by self.old found }
         ensures noted { self.new ≡ noted self.old found }
     {
-        let lba = self.range.slba + u64::from(self.made % self.range.blocks);
+        let lba = self.range.slba + u64::from(remainder(self.made, self.range.blocks));
         let effect = self.is_effect(found);
         let Run { made, differed, .. } = self;
         *made += 1;
@@ -198,7 +198,7 @@ impl Run {
             boxes_after self.old volume.old (contents_of write.old) (next_place self.old) result.found }
         ensures read { read.new ≡ read_after self.old volume.old read.old result.found }
     {
-        let place = self.made % self.range.blocks;
+        let place = remainder(self.made, self.range.blocks);
         self.next_from(volume, compare, write, place as usize, read)
     }
 
@@ -228,4 +228,19 @@ impl Run {
         let found = self.touch(volume, compare, boxes, at, read);
         self.note(found)
     }
+}
+
+// What is left of a number that is mostly below twice the blocks, where no division is made.
+fn remainder(made: u32, blocks: u32) -> u32
+    requires some { 0 < blocks }
+    ensures value { result ≡ made % blocks }
+{
+    if made < blocks {
+        return made;
+    }
+    let over = made - blocks;
+    if over < blocks {
+        return over;
+    }
+    over % blocks
 }

@@ -20,7 +20,7 @@ fn is_known(sqe: &Sqe) -> bool
 fn is_in_use(cid: u16, in_use: &[u16]) -> bool
     ensures value { result ≡ is_in cid in_use.now }
 {
-    in_use.iter().any(|used| *used == cid)
+    in_use.contains(&cid)
 }
 
 fn is_too_long(sqe: &Sqe) -> bool

@@ -2,6 +2,7 @@
 use Rattle.std.proofs.Common.{◌≡◌, ℕ, zero, suc, ◌+◌, ◌*◌, ◌<◌, ◌≤◌, Bool, true, false, cond, List, [], ◌∷◌, ◌++◌, map, length, take, drop, get_or, None, Some, ◌⊎◌, inl, inr, refl, sym, ap, ◌∙◌, arith, length-append, length-take, length-drop, take-append-drop}
 use Rattle.std.specs.Prelude.{Option, replicate, ◌&&◌}
 use Rattle.std.specs.List.{list_all}
+use Rattle.std.specs.Str.{bytes_eq}
 use Rattle.std.proofs.Math.Dec.{eqb}
 use Rattle.std.proofs.Math.Seq.{take-append_seam, drop-append_seam}
 use Rattle.std.proofs.lemmas.Bool.{eqb-true}
@@ -56,6 +57,15 @@ bytes_drop : (n : ℕ) (xs : List ℕ) → IsBytes xs → IsBytes (drop n xs)
 bytes_drop zero xs h = h
 bytes_drop (suc n) [] h = h
 bytes_drop (suc n) (x ∷ xs) h = bytes_drop n xs (λ j. h (suc j))
+
+-- each byte is the one before it exactly where all are as the first
+pub as_before : (x : ℕ) (xs : List ℕ) → bytes_eq xs (take (length xs) (x ∷ xs)) ≡ list_all (λ y. eqb y x) xs
+as_before x [] = refl
+as_before x (y ∷ ys) = first (eqb y x) refl (as_before y ys)
+  where
+    first : (b : Bool) → eqb y x ≡ b → bytes_eq ys (take (length ys) (y ∷ ys)) ≡ list_all (λ z. eqb z y) ys → (eqb y x && bytes_eq ys (take (length ys) (y ∷ ys))) ≡ (eqb y x && list_all (λ z. eqb z x) ys)
+    first true e f = ap (λ b. eqb y x && b) (f ∙ ap (λ w. list_all (λ z. eqb z w) ys) (eqb-true y x e))
+    first false e f = ap (λ b. b && bytes_eq ys (take (length ys) (y ∷ ys))) e ∙ sym (ap (λ b. b && list_all (λ z. eqb z x) ys) e)
 
 -- ---- one block
 

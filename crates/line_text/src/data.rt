@@ -97,12 +97,7 @@ pub(crate) fn all_same(bytes: &[u8]) -> bool
 {
     match bytes.split_first() {
         None => true,
-        Some((first, others)) => all_are(others, *first),
+        // each byte is the one before it
+        Some((_, others)) => others == &bytes[..others.len()],
     }
-}
-
-fn all_are(bytes: &[u8], byte: u8) -> bool
-    ensures { result ≡ list_all (λ b. b == byte) bytes.now }
-{
-    bytes.iter().all(|b| *b == byte)
 }

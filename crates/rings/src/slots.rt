@@ -1,6 +1,6 @@
 //! The slots of a ring.
 
-ghost use Rattle.std.specs.Prelude.{◌≡◌, ◌+◌, ◌<◌, [], IfOk, Some, length, option_copied, slice_get};
+ghost use Rattle.std.specs.Prelude.{◌≡◌, ◌+◌, ◌%◌, ◌<◌, [], IfOk, Some, length, option_copied, slice_get};
 ghost use Rattle.rings.specs.Slots.{IsSize, popped, pushed};
 
 use std::alloc::{AllocError as NoMemory, Global};
@@ -100,7 +100,7 @@ impl<T: Drop> Slots<T> {
         if k >= self.len() {
             return None;
         }
-        let place = (usize::from(self.head) + k) % self.slots.len();
+        let place = remainder(usize::from(self.head) + k, self.slots.len());
         self.slots[place].as_ref()
     }
 
@@ -111,7 +111,7 @@ impl<T: Drop> Slots<T> {
     {
         let place = usize::from(self.tail);
         self.slots[place] = Some(item);
-        self.tail = (self.tail + 1) % self.slots.len() as u16;
+        self.tail = next_slot(self.tail, self.slots.len() as u16);
     }
 
     /// Takes the next item out.
@@ -122,7 +122,31 @@ impl<T: Drop> Slots<T> {
     {
         let place = usize::from(self.head);
         let item = self.slots[place].take();
-        self.head = (self.head + 1) % self.slots.len() as u16;
+        self.head = next_slot(self.head, self.slots.len() as u16);
         item.unwrap()
     }
+}
+
+// What is left of a number that is mostly below twice the size: no division is made there.
+fn remainder(n: usize, size: usize) -> usize
+    requires some { 0 < size }
+    ensures value { result ≡ n % size }
+{
+    if n < size {
+        return n;
+    }
+    let over = n - size;
+    if over < size {
+        return over;
+    }
+    over % size
+}
+
+// The slot behind this one, round the end.
+fn next_slot(slot: u16, size: u16) -> u16
+    requires within { slot < size }
+    ensures value { result ≡ (slot + 1) % size }
+{
+    let next = slot + 1;
+    if next == size { 0 } else { next }
 }

@@ -7,9 +7,9 @@ pub returns : goal.returns
 returns g c =
     let slots = c.self.inside.slots.items in
     let h = c.self.inside.head in
-    let i = (c.from.result + c.args.k) % c.len-2.result in
+    let i = c.remainder-place.result in
     let place : i ≡ (h + c.args.k) % length slots =
-    ap (λ n. (n + c.args.k) % c.len-2.result) c.from.ensures ∙ ap (λ n. (h + c.args.k) % n) (omega arith) in
+    c.remainder-place.ensures.value ∙ ap (λ n. (n + c.args.k) % c.len-2.result) c.from.ensures ∙ ap (λ n. (h + c.args.k) % n) (omega arith) in
     record {
       value =
           c.as_ref.ensures.value

@@ -22,7 +22,7 @@ after g c =
     c.from-place.result c.len.result c.take-item.new.self c.from-place.ensures (omega arith) c.take-item.ensures.after c.requires.some
 
 pub invariant_of-self : goal.invariant_of-self
-invariant_of-self g c = (after g c).queue
+invariant_of-self g c = rw c.next_slot-self-inside.ensures.value ((after g c).queue)
 
 pub returns-clause-rest : goal.returns-clause-rest
-returns-clause-rest g c = (after g c).value
+returns-clause-rest g c = rw c.next_slot-self-inside.ensures.value ((after g c).value)

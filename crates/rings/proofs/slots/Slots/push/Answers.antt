@@ -14,7 +14,7 @@ after g c =
     c.from-place.result c.len.result c.args.item c.from-place.ensures (omega arith) c.requires.room
 
 pub invariant_of-self : goal.invariant_of-self
-invariant_of-self g c = (after g c).queue
+invariant_of-self g c = rw c.next_slot-self-inside.ensures.value ((after g c).queue)
 
 pub returns : goal.returns
-returns g c = record { pushed = (after g c).value }
+returns g c = record { pushed = rw c.next_slot-self-inside.ensures.value ((after g c).value) }
