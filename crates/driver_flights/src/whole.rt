@@ -53,12 +53,7 @@ enum Turn {
 }
 
 // What a call that was begun is told, polled at most twice.
-fn told<'a>(
-    bench: &Bench,
-    slots: &Slots,
-    host: &mut Host<'a>,
-    call: Call<SharedPort<'a>>,
-) -> Told
+fn told<'a>(bench: &Bench, slots: &Slots, host: &mut Host<'a>, call: Call<SharedPort<'a>>) -> Told
     requires ready { IsReady bench.now slots.now host.old }
     requires call { IsCallOf host.old.driver call }
     ensures { IsReady bench.now slots.now host.new }
@@ -172,7 +167,16 @@ fn does<R: Abort + Wait>(
         }
         Deed::Releases => {
             let begun = gives_back(bench, slots, claimant);
-            ends_so(rt, bench, works, crew, slots, claimant, begun, Came::Released);
+            ends_so(
+                rt,
+                bench,
+                works,
+                crew,
+                slots,
+                claimant,
+                begun,
+                Came::Released,
+            );
         }
         Deed::Leaves(slot, serial) => {
             let left = leaves(bench, slots, claimant);

@@ -61,7 +61,8 @@ fn compares(hall: &Hall, crew: &mut Crew)
     requires { IsCrewOf hall.now crew.old }
     ensures { IsCrewOf hall.now crew.new }
 {
-    hall.works.compare(&mut crew.worker.works, &mut crew.fetcher.works);
+    hall.works
+        .compare(&mut crew.worker.works, &mut crew.fetcher.works);
 }
 
 /// That a queue of so many places holds so many Works: one more comes back, and an empty queue gives none.
