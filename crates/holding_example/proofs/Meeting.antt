@@ -1,5 +1,5 @@
 -- Two hosts that have met, and then a server.
-use Rattle.std.proofs.Common.{Bool, None, Option, Some, [], ap, arith, false, inl, inr, is_some, refl, subst, sym, true, ℕ, ◌&&◌, ◌<◌, ◌∙◌, ◌≡◌, ◌≤◌, ◌⊎◌}
+use Rattle.std.proofs.Common.{None, Option, Some, [], ap, arith, false, inl, inr, is_some, refl, subst, sym, true, ℕ, ◌&&◌, ◌∙◌, ◌≡◌}
 use Rattle.std.specs.Prelude.{IfSome}
 use Rattle.std.proofs.lemmas.Bool.{cases_eq}
 use Rattle.nvme_model.specs.Passes.{IsBeginning, SharedPast, places}
@@ -16,7 +16,7 @@ use Rattle.slot_alloc.specs.Areas.{slot_of}
 use Rattle.slot_alloc.specs.Claims.{IsHeldBy}
 use Rattle.slot_alloc.specs.declared.claim.Claim.{Claim}
 use Rattle.slot_hosts.specs.Hosts.{AreTwoHosts, IsHost}
-use Rattle.slot_hosts.specs.Servers.{IsServing, serves}
+use Rattle.slot_hosts.specs.Servers.{serves}
 use Rattle.holding_example.specs.Holding.{one_slot}
 
 -- of two that exclude each other one isn't there
