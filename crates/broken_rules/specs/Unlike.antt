@@ -17,6 +17,7 @@ first_apart (x ∷ xs) (y ∷ ys) = if x == y then suc (first_apart xs ys) else 
 abbrev pub status_of : ℕ → ℕ
 status_of word = (word / 2) % 2048
 
+-- the phase tag of a completion's last two bytes
 abbrev pub phase_of : ℕ → ℕ
 phase_of word = word % 2
 

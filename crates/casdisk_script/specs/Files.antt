@@ -27,6 +27,7 @@ file_of input = outcome (λ c. entry_added) input
 abbrev pub legal_text : List ℕ
 legal_text = codes "legal" ++ 10 ∷ []
 
+-- the line `bad at K`
 abbrev pub bad_text : ℕ → List ℕ
 bad_text place = join_with_byte 32 (codes "bad" ∷ codes "at" ∷ decimal place ∷ []) ++ 10 ∷ []
 

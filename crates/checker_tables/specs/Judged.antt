@@ -33,6 +33,7 @@ use Rattle.checker_tables.specs.Tables.{Flight, OpenUnit, Tables}
 
 -- ---- a ticket
 
+-- a completion is still to be posted
 abbrev pub flies : Flight → Bool
 flies f = nat_lt f.posts (length f.ticket.commands)
 
@@ -52,9 +53,11 @@ verdict_by c s q = verdict_of c.atomic c.blocks (in_use s q) (map item_of (s.wai
 abbrev pub next_by : ConfigNumbers → Flight → Option Range
 next_by c f = slice_get (units c f.ticket) f.opened
 
+-- no unit is left to open: all are, or a Block has said `differs`
 abbrev pub none_left_by : ConfigNumbers → Flight → Bool
 none_left_by c f = nat_le (length (units c f.ticket)) f.opened || f.differs
 
+-- the range, held so, conflicts with an open unit
 abbrev pub conflicts_by : Tables → Mode → Option Range → Bool
 conflicts_by s m None = false
 conflicts_by s m (Some r) = list_any (λ g. conflict r m g.range g.mode) s.opens
@@ -81,11 +84,13 @@ owed_running c f (Some o) =
     if f.no then compare_failure ∷ []
     else (if is_done c f then success ∷ [] else [])
 
+-- the statuses that a ticket with this verdict owes
 abbrev pub owed_as : ConfigNumbers → Flight → Verdict → List Status
 owed_as c f (Verdict.SingleFailed s) = s ∷ []
 owed_as c f (Verdict.PairFailed s r) = s ∷ r ∷ []
 owed_as c f _ = owed_running c f (op f.ticket)
 
+-- the statuses that a ticket owes, by what is kept of it
 abbrev pub owed_by : ConfigNumbers → Flight → List Status
 owed_by c f = owed_as c f f.ticket.verdict
 
@@ -101,11 +106,13 @@ abbrev pub read_by : Option Op → List ℕ → List ℕ
 read_by (Some Op.Read) found = found
 read_by _ found = []
 
+-- the data of a completion: what a Read found, where it succeeds
 abbrev pub data_by : Flight → Status → List ℕ
 data_by f status = if is_success status then read_by (op f.ticket) f.found else []
 
 -- ---- what refuses a step
 
+-- the table of refusals of a step, by the tables
 abbrev pub conditions_by : ConfigNumbers → Tables → Step → List (Bool × Why)
 conditions_by c s (Step.Publish q batch) =
     (no_queue c q, Why.NoQueue)
@@ -136,6 +143,7 @@ conditions_by c s (Step.Reap q) =
     ∷ (length (s.unreaped q) == 0, Why.NoCompletion)
     ∷ []
 
+-- the first refusal of a step that holds, if one does
 abbrev pub refusal_by : ConfigNumbers → Tables → Step → Option Why
 refusal_by c s step = first_row (conditions_by c s step)
 
@@ -168,12 +176,14 @@ block_fits_by contents f b (Some u) =
     && (not b.effect || (b.unit == f.placed))
     && are_right (right_after contents f b u) (u.said ++ word_of b.found)
 
+-- a Post says the completion and the data that are due for this status
 abbrev pub post_fits_by : ConfigNumbers → Tables → PostLine → Option Status → Bool
 post_fits_by c s p None = false
 post_fits_by c s p (Some status) =
     bytes_eq p.cqe (completion_by c s (s.flight p.ticket) status)
     && bytes_eq p.payload (data_by (s.flight p.ticket) status)
 
+-- an entry says what its step does
 abbrev pub fits_by : ConfigNumbers → Tables → Entry → Bool
 fits_by c s (Entry.Publish p) = true
 fits_by c s (Entry.Fetch f) = (f.ticket == s.tickets + 1) && same_verdict f.verdict (verdict_by c s f.queue)
@@ -184,5 +194,6 @@ fits_by c s (Entry.Block b) = block_fits_by s.value (s.flight b.ticket) b (s.fli
 fits_by c s (Entry.Post p) = post_fits_by c s p (slice_get (owed_by c (s.flight p.ticket)) (s.flight p.ticket).posts)
 fits_by c s (Entry.Reap r) = is_cqe (slice_get (s.unreaped r.queue) 0) r.cqe
 
+-- an entry may follow: nothing refuses its step, and it says what that does
 abbrev pub judged : ConfigNumbers → Tables → Entry → Bool
 judged c s e = is_none (refusal_by c s (step_of e)) && fits_by c s e

@@ -28,6 +28,7 @@ pub record OpenUnit : Type 0 where
   -- once it has its effect, the answers that are right
   pub right : Option (List Bool)
 
+-- the open unit of this Grant
 abbrev pub unit_of : Past → GrantLine → OpenUnit
 unit_of past g =
     record {
@@ -38,6 +39,7 @@ unit_of past g =
           (effect past g.ticket g.unit);
     }
 
+-- the open unit of ticket t, if it has one
 abbrev pub open_unit : Past → ℕ → Option OpenUnit
 open_unit past t = option_map (unit_of past) (find (λ g. g.ticket == t) (open_units past))
 
@@ -56,6 +58,7 @@ pub record Flight : Type 0 where
   pub no : Bool
   pub found : List ℕ
 
+-- ticket t, as a checker keeps it
 abbrev pub flight : Past → ℕ → Flight
 flight past t =
     record {

@@ -25,12 +25,14 @@ with_flight flights t f u = if u == t then f else flights u
 
 -- ---- a Fetch
 
+-- the ticket that a Fetch makes of what waits
 abbrev pub fetched_by : Tables → FetchLine → Ticket
 fetched_by s f =
     record { queue = f.queue; commands = take (Verdict.taken f.verdict) (s.waiting f.queue); verdict = f.verdict }
 
 -- ---- a Grant
 
+-- a ticket after a Grant
 abbrev pub opened_flight : Flight → GrantLine → Flight
 opened_flight f g =
     record f { opened = f.opened + 1; unit = Some (record { line = g; made = 0; said = []; right = None }) }
@@ -50,6 +52,7 @@ unit_after contents f b u =
 abbrev pub no_by : (ℕ → List ℕ) → Ticket → Range → Bool
 no_by contents k r = has_compare (op k) && not (all_equal contents k r)
 
+-- a ticket after a Block of its open unit
 abbrev pub blocked_flight : (ℕ → List ℕ) → Flight → BlockLine → OpenUnit → Flight
 blocked_flight contents f b u =
     let r = u.line.range in
@@ -69,6 +72,7 @@ SameIn f g r = (l : ℕ) → r.slba ≤ l → l < r.slba + r.blocks → f l ≡ 
 abbrev pub value_after : (ℕ → List ℕ) → BlockLine → Ticket → Range → ℕ → List ℕ
 value_after contents b k r l = if b.effect && has_block r l && writes contents k r then write_data k l else contents l
 
+-- the tables after a Block, where its ticket has this open unit
 abbrev pub blocked : Tables → BlockLine → Option OpenUnit → Tables
 blocked s b None = s
 blocked s b (Some u) =
@@ -81,6 +85,7 @@ blocked s b (Some u) =
 
 -- ---- a Post
 
+-- a ticket after a Post
 abbrev pub posted_flight : Flight → Flight
 posted_flight f = record f { posts = f.posts + 1 }
 
@@ -90,6 +95,7 @@ flies_on f = nat_lt (f.posts + 1) (length f.ticket.commands)
 
 -- ---- an entry
 
+-- the tables after an entry
 abbrev pub taken : ConfigNumbers → Tables → Entry → Tables
 taken c s (Entry.Publish p) = record s { waiting = λ q. s.waiting q ++ (if p.queue == q then p.batch else []) }
 taken c s (Entry.Fetch f) =

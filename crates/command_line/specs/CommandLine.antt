@@ -37,6 +37,7 @@ run_app = with_rule (with_rule (new_app (codes "run")) show_rule) file_rule
 abbrev pub history_app : Text → App
 history_app name = with_rule (new_app name) file_rule
 
+-- the command `race` with its options
 abbrev pub race_app : App
 race_app =
     with_rule (with_rule (with_rule (with_rule (with_rule (new_app (codes "race")) (needed_rule (codes "hosts")))

@@ -13,6 +13,7 @@ reply_of Op.Write payload = Reply.Written
 reply_of Op.WriteZeroes payload = Reply.Written
 reply_of Op.Pair payload = Reply.Swapped
 
+-- it is a Compare
 abbrev pub is_compare_op : Op → Bool
 is_compare_op Op.Compare = true
 is_compare_op _ = false

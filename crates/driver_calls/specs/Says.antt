@@ -23,10 +23,12 @@ use Rattle.driver_calls.specs.declared.reply.Reply.{Reply}
 
 -- ---- the answer, by what the port did
 
+-- the answer to a command by itself, once its completion is reaped
 abbrev pub one_outcome : Op → CidState → Option (Result Reply Status)
 one_outcome o (CidState.Answered cqe payload) = Some (answer_of o (status_in cqe) payload)
 one_outcome o _ = None
 
+-- the answer to a fused pair, once both completions are reaped
 abbrev pub pair_outcome : CidState → CidState → Option (Result Reply Status)
 pair_outcome (CidState.Answered cqe payload) (CidState.Answered bytes second) =
     Some (pair_answer_of (status_in cqe) (status_in bytes))
@@ -90,6 +92,7 @@ abbrev pub IsReapedAs : ConfigNumbers → Past → ℕ → ℕ → Status → Ty
 IsReapedAs c past q j s =
     (p : PostLine) × (reaped_post c past q j ≡ Some p) × (status_in p.cqe ≡ s) × (is_success s ≡ false)
 
+-- the completion of this entry of a submission queue was reaped
 abbrev pub IsReaped : ConfigNumbers → Past → ℕ → ℕ → Type 0
 IsReaped c past q j = (p : PostLine) × (reaped_post c past q j ≡ Some p)
 
@@ -98,10 +101,12 @@ IsReaped c past q j = (p : PostLine) × (reaped_post c past q j ≡ Some p)
 abbrev pub FailedSays : ConfigNumbers → Past → ℕ → ℕ → Status → Type 0
 FailedSays c past q j s = IsReapedAs c past q j s × (same_status s compare_failure ≡ false) × FailsChecks past q j
 
+-- all completions of a call were reaped: of a pair both
 abbrev pub AllReaped : ConfigNumbers → Past → ℕ → ℕ → Op → Type 0
 AllReaped c past q j Op.Pair = IsReaped c past q j × IsReaped c past q (suc j)
 AllReaped c past q j o = IsReaped c past q j
 
+-- a completion of a call wasn't reaped
 abbrev pub NotAllReaped : ConfigNumbers → Past → ℕ → ℕ → Op → Type 0
 NotAllReaped c past q j Op.Pair = (reaped_post c past q j ≡ None) ⊎ (reaped_post c past q (suc j) ≡ None)
 NotAllReaped c past q j o = reaped_post c past q j ≡ None

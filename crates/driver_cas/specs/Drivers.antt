@@ -35,6 +35,7 @@ module _ {P : Type 0} {g : Ghosts P} where
   abbrev pub before : Driver P g → List PortEvent
   before d = g.log d.began.value
 
+  -- what its port did since the driver was made
   abbrev pub made : Driver P g → List PortEvent
   made d = since (before d) (g.log d.port)
 
@@ -83,6 +84,7 @@ module _ {P : Type 0} {g : Ghosts P} where
   abbrev pub area_of : Driver P g → Range
   area_of d = d.slots
 
+  -- the number of the driver's host
   abbrev pub host_of : Driver P g → ℕ
   host_of d = d.host
 
@@ -90,6 +92,7 @@ module _ {P : Type 0} {g : Ghosts P} where
   abbrev pub acwu_of : Driver P g → ℕ
   acwu_of d = d.acwu
 
+  -- the last serial that the driver drew, 0 for none
   abbrev pub serial_of : Driver P g → ℕ
   serial_of d = d.serial
 

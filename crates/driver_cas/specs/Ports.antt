@@ -18,6 +18,7 @@ use Rattle.driver_cas.specs.declared.shared_port.SharedPort.{SharedPort}
 abbrev pub pass_of : SharedPort → EnginePass
 pass_of p = p.pass
 
+-- the completion queue of a port
 abbrev pub queue_of : SharedPort → ℕ
 queue_of p = p.queue
 

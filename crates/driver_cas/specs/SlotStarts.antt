@@ -20,6 +20,7 @@ swap_request lba = record { op = Op.Pair; slba = lba; blocks = 1 }
 abbrev pub claim_data : ℕ → ℕ → CallData
 claim_data host serial = CallData.Two zeros (slot_block (record { host = host; serial = serial }))
 
+-- the data of a release: the claim's name, and zeros
 abbrev pub release_data : ℕ → ℕ → CallData
 release_data host serial = CallData.Two (slot_block (record { host = host; serial = serial })) zeros
 

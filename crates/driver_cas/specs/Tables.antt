@@ -27,6 +27,7 @@ fits _ _ = false
 abbrev pub Matches : Cids → List PortEvent → Type 0
 Matches cids log = (q cid : ℕ) → fits (held cids q cid) (state_of log q cid) ≡ true
 
+-- a CID is free
 abbrev pub is_free : Held → Bool
 is_free Held.Free = true
 is_free _ = false

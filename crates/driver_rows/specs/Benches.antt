@@ -28,6 +28,7 @@ IsServerOf b s =
 abbrev pub ServesOn : Server → Server → Type 0
 ServesOn s t = IsSame s.pass t.pass × (IsServing s.pass → IsServing t.pass)
 
+-- the host is one of this bench
 abbrev pub IsHostOf : Bench → Host → Type 0
 IsHostOf b h =
     IsPlaceFor (port_of h.driver) b.notices h.place × engine.IsOf b.engine (pass_of (port_of h.driver))

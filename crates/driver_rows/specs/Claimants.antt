@@ -24,6 +24,7 @@ IsBegun h (Stage.Claiming k) = IsClaimingOf h.driver k × IsUnreleased h.driver 
 IsBegun h (Stage.Holding k) = IsHeldBy h.driver k.claim
 IsBegun h (Stage.Releasing k) = IsReleasingOf h.driver k
 
+-- a host that claims: it is ready, and what it has begun is its driver's
 pub record IsClaimant (b : Bench) (s : Slots) (c : Claimant) : Type 0 where
   pub ready : IsReady b s c.host
   pub begun : IsBegun c.host c.stage

@@ -28,6 +28,7 @@ cid_of s = (sqe_fields s.entry).cid
 abbrev pub with_one : Book → Past → ℕ → Submission → Book
 with_one book past q s = with_entry book q (cid_of s) (length (published_entries past q))
 
+-- the book with the next two entries of a queue, each under its CID
 abbrev pub with_pair : Book → Past → ℕ → Submission → Submission → Book
 with_pair book past q s t = with_entry (with_one book past q s) q (cid_of t) (suc (length (published_entries past q)))
 

@@ -73,6 +73,7 @@ abbrev pub claim_of : Past → ℕ → Submission → Name → Swap
 claim_of past q a n =
     record { claims = true; queue = q; number = length (published_entries past q); lba = lba_of a; name = n }
 
+-- the release that a pair is, as the next two entries of a queue
 abbrev pub release_of : Past → ℕ → Submission → Name → Swap
 release_of past q a n =
     record { claims = false; queue = q; number = length (published_entries past q); lba = lba_of a; name = n }

@@ -6,6 +6,7 @@ use Rattle.nvme_model.specs.declared.array.Range.{Range}
 abbrev pub part_start : ℕ → Range → ℕ
 part_start s r = 512 * (r.slba - s)
 
+-- where the part of these blocks ends in data for the blocks from s on, in bytes
 abbrev pub part_end : ℕ → Range → ℕ
 part_end s r = 512 * (r.slba - s) + 512 * r.blocks
 

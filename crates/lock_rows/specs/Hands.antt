@@ -41,6 +41,7 @@ pub record IsCrewOf (hall : Hall) (c : Crew) : Type 0 where
 abbrev pub IsFreshWork : Hall → Work → Type 0
 IsFreshWork hall w = IsWorkOf hall w × (is_only_fetch w.work.ticket (engine.its w) ≡ true)
 
+-- a Fetch of work gave a fresh Work; of any other opening nothing is said
 abbrev pub IsFresh : Hall → Opened → Type 0
 IsFresh hall (opened.Fetched w) = IsFreshWork hall w
 IsFresh hall _ = Unit {0}

@@ -38,6 +38,7 @@ module _ {M : Type 0} where
   abbrev pub number : Pass M → ℕ
   number p = p.seat.me.0.number
 
+  -- how many passes the lock has
   abbrev pub passes_of : Pass M → ℕ
   passes_of p = p.seat.me.0.passes
 
@@ -49,6 +50,7 @@ module _ {M : Type 0} where
   abbrev pub config_of : Pass M → ConfigNumbers
   config_of p = p.seat.me.0.config
 
+  -- it is the same pass, of the same machine
   abbrev pub IsSame : Pass M → Pass M → Type 0
   IsSame p q =
       (q.seat.table_id ≡ p.seat.table_id)
@@ -136,6 +138,7 @@ module _ {M : Type 0} where
   abbrev pub told : NoteSeat M → SharedPast
   told m = m.seat.me.0.seen
 
+  -- the configuration that the maker of a message knew
   abbrev pub told_config : NoteSeat M → ConfigNumbers
   told_config m = m.seat.me.0.config
 
@@ -143,12 +146,15 @@ module _ {M : Type 0} where
   abbrev pub owned_ticket : TicketSeat M → ℕ
   owned_ticket w = w.seat.me.0.ticket
 
+  -- the entries of the ticket that it owns, the newest first
   abbrev pub its : TicketSeat M → Past
   its w = w.seat.me.0.its
 
+  -- what a ticket's owner has seen
   abbrev pub ticket_seen : TicketSeat M → SharedPast
   ticket_seen w = w.seat.me.0.seen
 
+  -- the configuration that a ticket's owner knows
   abbrev pub ticket_config : TicketSeat M → ConfigNumbers
   ticket_config w = w.seat.me.0.config
 
@@ -167,12 +173,14 @@ module _ {M : Type 0} where
       × (ticket_config w ≡ config_of q)
       × (ticket_config v ≡ config_of q)
 
+  -- what a seat has learnt of a step, by how that ended
   abbrev pub Saw : {A : Type 0} → Pass M → TicketSeat M → TicketSeat M → Result A Declined → Type 0
   Saw q w v (Ok a) = Learned q w v
   Saw q w v (Err (Declined.Busy s)) = (ticket_seen v ≡ ticket_seen w) × (ticket_config v ≡ ticket_config w)
   Saw q w v (Err (Declined.Refused r)) = Learned q w v
 
 module _ {M K : Type 0} where
+  -- the pass is one of this lock
   abbrev pub IsOf : Shared M K → Pass M → Type 0
   IsOf s p = p.seat.table_id ≡ s.table.shared.table_id
 
@@ -180,9 +188,11 @@ module _ {M K : Type 0} where
   abbrev pub opening_of : (M → Past) → Shared M K → Past
   opening_of history s = history s.table.shared.key.machine.value
 
+  -- the message is one of this lock
   abbrev pub IsNoteOf : Shared M K → NoteSeat M → Type 0
   IsNoteOf s m = m.seat.table_id ≡ s.table.shared.table_id
 
+  -- the ticket's seat is one of this lock
   abbrev pub IsTicketOf : Shared M K → TicketSeat M → Type 0
   IsTicketOf s w = w.seat.table_id ≡ s.table.shared.table_id
 

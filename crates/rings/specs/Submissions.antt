@@ -34,5 +34,6 @@ batch_faults size waiting batch =
     ∷ (nat_lt (size - 1) (waiting + length batch), Why.NoRoom)
     ∷ []
 
+-- the first reason for which the ring doesn't take a batch, if one holds
 abbrev pub batch_fault : SubmissionRing → List Submission → Option Why
 batch_fault r batch = first_row (batch_faults r.size (length r.waiting) batch)

@@ -12,8 +12,10 @@ area s = record { slba = s.first; blocks = s.count }
 abbrev pub block_of : Range → ℕ → ℕ
 block_of slots i = slots.slba + i
 
+-- the slot of a claim
 abbrev pub slot_of : Claim → ℕ
 slot_of c = c.slot
 
+-- the serial of a claim
 abbrev pub serial_of : Claim → ℕ
 serial_of c = c.serial

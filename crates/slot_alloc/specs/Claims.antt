@@ -101,10 +101,12 @@ module _ {P : Type 0} {g : Ghosts P} where
   is_other_stage r d lba (Stage.Asked call serial) = is_another (Some r) lba (own_name d serial)
   is_other_stage r d lba Stage.Due = true
 
+  -- what was released, if anything was, isn't the name of the claim that is begun
   abbrev pub is_other_claim : Option ReleasedName → Driver P g → Claiming P g → Bool
   is_other_claim None d k = true
   is_other_claim (Some r) d k = is_other_stage r d (block_of (area_of d) k.slot) k.stage
 
+  -- how far a claiming has come
   abbrev pub stage_of : Claiming P g → Stage P
   stage_of k = k.stage
 

@@ -21,6 +21,7 @@ pub record IsName (n : Name) : Type 0 where
 abbrev pub IsClaimBatch : ℕ → ℕ → ℕ → Name → List Submission → Type 0
 IsClaimBatch l first second n batch = IsBatch Op.Pair l 1 first second (CallData.Two zeros (slot_block n)) batch
 
+-- a batch is the release of this name of the slot at a block
 abbrev pub IsReleaseBatch : ℕ → ℕ → ℕ → Name → List Submission → Type 0
 IsReleaseBatch l first second n batch = IsBatch Op.Pair l 1 first second (CallData.Two (slot_block n) zeros) batch
 

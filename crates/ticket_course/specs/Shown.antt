@@ -12,6 +12,7 @@ use Rattle.ticket_course.specs.declared.course.Stage.TheVariants.{Waiting, Open,
 abbrev pub run_of : Op → OpenUnit → Progress
 run_of o u = record { op = o; range = u.line.range; made = u.made; differed = false }
 
+-- the stage of a ticket that stands so, by its operation, if it has one, and its open unit
 abbrev pub stage_by : ConfigNumbers → Standing → Option Op → Option OpenUnit → Stage
 stage_by c s None u = Owing (still_owed c s)
 stage_by c s (Some o) (Some u) = Open (run_of o u) u.line.unit (left c s)

@@ -45,6 +45,7 @@ pub record IsOpen (p : Progress) (u : ℕ) (left : Range) (cids : List ℕ) : Ty
   pub whole : p.op ≡ Op.Pair → left.blocks ≡ 0
   pub each : length cids ≡ commands_in p.op
 
+-- what is so of each stage, with the CIDs that still wait for a completion
 abbrev pub IsCourse : Stage → List ℕ → Type 0
 IsCourse (Waiting o u left) cids = IsWaiting o u left cids
 IsCourse (Open p u left) cids = IsOpen p u left cids

@@ -90,8 +90,10 @@ first_stage d = record { left = length d.units; owing = d.statuses; is_open = fa
 abbrev pub after_grant : Stage → Stage
 after_grant s = record s { left = s.left - 1; is_open = true }
 
+-- the stage after a Block that found this, and that ended its unit or not
 abbrev pub after_block : Stage → Found → Bool → Stage
 after_block s f ended = record s { is_open = not ended; differs = is_differs f || s.differs }
 
+-- the stage after a Post
 abbrev pub after_post : Stage → Stage
 after_post s = record s { owing = s.owing - 1 }

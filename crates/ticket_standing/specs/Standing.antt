@@ -61,6 +61,7 @@ pub record Standing : Type 0 where
   -- what it has read so far
   pub read : List ℕ
 
+-- how ticket t stands in a history
 abbrev pub standing : Past → ℕ → Standing
 standing past t =
     record {
@@ -80,6 +81,7 @@ fresh k = record { ticket = k; opened = 0; unit = None; differs = false; posts =
 abbrev pub had : ConfigNumbers → Standing → ℕ
 had c s = sum_by (λ r. r.blocks) (take s.opened (units c s.ticket))
 
+-- how many blocks the units have that aren't opened yet
 abbrev pub remaining : ConfigNumbers → Standing → ℕ
 remaining c s = sum_by (λ r. r.blocks) (drop s.opened (units c s.ticket))
 
@@ -106,6 +108,7 @@ abbrev pub on_differs : Op → List Status
 on_differs Op.Pair = compare_failure ∷ failed_fused ∷ []
 on_differs _ = compare_failure ∷ []
 
+-- what an operation owes where each of its units has said yes: of a pair one status for each command
 abbrev pub on_success : Op → List Status
 on_success Op.Pair = success ∷ success ∷ []
 on_success _ = success ∷ []

@@ -25,6 +25,7 @@ use Rattle.work_queue.specs.declared.work.Work.{Work}
 abbrev pub EnginePass : Type 0
 EnginePass = Pass State
 
+-- the pass is one of this engine
 abbrev pub IsOf : Engine → EnginePass → Type 0
 IsOf e p = Passes.IsOf e.shared p
 
@@ -32,6 +33,7 @@ IsOf e p = Passes.IsOf e.shared p
 abbrev pub opening_of : Engine → Past
 opening_of e = Passes.opening_of (λ core. core.past) e.shared
 
+-- the Work is one of this engine
 abbrev pub IsWorkOf : Engine → Work → Type 0
 IsWorkOf e w = Passes.IsTicketOf e.shared w.owner
 
