@@ -12,7 +12,8 @@ pub earlier : (c : ConfigNumbers) (later past : Past) → IsLegal c (later ++ pa
 earlier c [] past h = h
 earlier c (e ∷ later) past h = earlier c later past (and_parts _ _ h).0
 
-pub beginning : (c : ConfigNumbers) (entries : List Entry) (k : ℕ) → IsLegalFile c entries → IsLegalFile c (take k entries)
+pub beginning : (c : ConfigNumbers) (entries : List Entry) (k : ℕ) → IsLegalFile c entries
+    → IsLegalFile c (take k entries)
 beginning c entries k h =
     let e : reverse entries ≡ reverse (drop k entries) ++ reverse (take k entries) =
     ap reverse (sym (take-append-drop k entries)) ∙ reverse-append (take k entries) (drop k entries) in

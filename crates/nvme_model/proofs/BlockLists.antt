@@ -1,5 +1,6 @@
 -- Contents as a list of blocks: what is read of it, and what an overwritten range leaves.
-use Rattle.std.proofs.Common.{◌≡◌, ℕ, zero, suc, ◌+◌, ◌-◌, ◌≤◌, ◌<◌, Bool, ◌&&◌, cond, List, [], ◌∷◌, ◌++◌, length, map, take, drop, replicate, refl, sym, ap, ap₂, ◌∙◌, subst, arith, le-leb, lt-ltb, bytes_eq}
+use Rattle.std.proofs.Common.{◌≡◌, ℕ, zero, suc, ◌+◌, ◌-◌, ◌≤◌, ◌<◌, Bool, ◌&&◌, cond, List, [], ◌∷◌, ◌++◌, length, map}
+use Rattle.std.proofs.Common.{take, drop, replicate, refl, sym, ap, ap₂, ◌∙◌, subst, arith, le-leb, lt-ltb, bytes_eq}
 use Rattle.std.specs.List.{list_all, flat_map}
 use Rattle.std.proofs.lemmas.Bool.{and_from, and_left, and_right, cond-true, cond-false, lt-leb, le-ltb}
 use Rattle.std.proofs.lemmas.List.{map-append, length-map}
@@ -17,7 +18,8 @@ blocks_split s zero n = let e : s ≡ s + 0 = omega arith in let f : 0 + n ≡ n
 blocks_split s (suc m) n =
     let e : suc m + n ≡ suc (m + n) = omega arith in
     let f : suc s + m ≡ s + suc m = omega arith in
-    rw e (ap (λ (xs : List ℕ). s ∷ xs) (blocks_split (suc s) m n ∙ ap (λ (i : ℕ). blocks_from (suc s) m ++ blocks_from i n) f))
+    rw e (ap (λ (xs : List ℕ). s ∷ xs)
+    (blocks_split (suc s) m n ∙ ap (λ (i : ℕ). blocks_from (suc s) m ++ blocks_from i n) f))
 
 -- the contents of n blocks from s
 abbrev pub listed : (ℕ → List ℕ) → ℕ → ℕ → Array
@@ -42,8 +44,11 @@ listed_const b s (suc n) = ap (λ (xs : Array). b ∷ xs) (listed_const b (suc s
 
 -- ---- three parts
 
-parts : (f : ℕ → List ℕ) (s n rest : ℕ) → listed f 0 (s + (n + rest)) ≡ listed f 0 s ++ (listed f s n ++ listed f (s + n) rest)
-parts f s n rest = listed_split f 0 s (n + rest) ∙ (ap (λ (i : ℕ). listed f 0 s ++ listed f i (n + rest)) zero_plus ∙ ap (λ (xs : Array). listed f 0 s ++ xs) (listed_split f s n rest))
+parts : (f : ℕ → List ℕ) (s n rest : ℕ)
+    → listed f 0 (s + (n + rest)) ≡ listed f 0 s ++ (listed f s n ++ listed f (s + n) rest)
+parts f s n rest = listed_split f 0 s (n + rest)
+    ∙ (ap (λ (i : ℕ). listed f 0 s ++ listed f i (n + rest)) zero_plus
+    ∙ ap (λ (xs : Array). listed f 0 s ++ xs) (listed_split f s n rest))
   where
     zero_plus : 0 + s ≡ s
     zero_plus = omega arith
@@ -74,7 +79,8 @@ with_range f g r l = cond (has_block r l) (g l) (f l)
 abbrev range : ℕ → ℕ → Range
 range s n = record { slba = s; blocks = n }
 
-overwrite_by : (f g : ℕ → List ℕ) (s n rest : ℕ) → overwrite s (listed g s n) (listed f 0 (s + (n + rest))) ≡ listed (with_range f g (range s n)) 0 (s + (n + rest))
+overwrite_by : (f g : ℕ → List ℕ) (s n rest : ℕ)
+    → overwrite s (listed g s n) (listed f 0 (s + (n + rest))) ≡ listed (with_range f g (range s n)) 0 (s + (n + rest))
 overwrite_by f g s n rest =
     let h = with_range f g (range s n) in
     let whole = parts f s n rest in
@@ -82,9 +88,12 @@ overwrite_by f g s n rest =
     ap (take s) whole ∙ take_parts (listed f 0 s) (listed f s n ++ listed f (s + n) rest) s (length_listed f 0 s) in
     let back : drop (s + length (listed g s n)) (listed f 0 (s + (n + rest))) ≡ listed f (s + n) rest =
     ap (λ (i : ℕ). drop (s + i) (listed f 0 (s + (n + rest)))) (length_listed g s n)
-    ∙ (ap (drop (s + n)) whole ∙ drop_two (listed f 0 s) (listed f s n) (listed f (s + n) rest) s n (length_listed f 0 s) (length_listed f s n)) in
+    ∙ (ap (drop (s + n)) whole
+    ∙ drop_two (listed f 0 s) (listed f s n) (listed f (s + n) rest) s n (length_listed f 0 s)
+    (length_listed f s n)) in
     ap₂ (λ (x y : Array). x ++ (listed g s n ++ y)) front back
-    ∙ (ap₂ (λ (x y : Array). x ++ (listed g s n ++ y)) (listed_same f h 0 s (λ l a b. sym (cond-false _ _ _ (and_left _ _ (lt-leb s l (omega (arith, b)))))))
+    ∙ (ap₂ (λ (x y : Array). x ++ (listed g s n ++ y))
+    (listed_same f h 0 s (λ l a b. sym (cond-false _ _ _ (and_left _ _ (lt-leb s l (omega (arith, b)))))))
     (listed_same f h (s + n) rest (λ l a b. sym (cond-false _ _ _ (and_right _ _ (le-ltb l (s + n) a)))))
     ∙ (ap (λ (x : Array). listed h 0 s ++ (x ++ listed h (s + n) rest))
     (listed_same g h s n (λ l a b. sym (cond-true _ _ _ (and_from _ _ (le-leb s l a) (lt-ltb l (s + n) b)))))
@@ -96,13 +105,17 @@ rest_of : (s n all : ℕ) → s + n ≤ all → s + (n + (all - (s + n))) ≡ al
 rest_of s n all l = omega (arith, l)
 
 pub reads : (f : ℕ → List ℕ) (s n all : ℕ) → s + n ≤ all → take n (drop s (listed f 0 all)) ≡ listed f s n
-reads f s n all l = subst (λ (i : ℕ). take n (drop s (listed f 0 i)) ≡ listed f s n) (rest_of s n all l) (read_by f s n (all - (s + n)))
+reads f s n all l = subst (λ (i : ℕ). take n (drop s (listed f 0 i)) ≡ listed f s n) (rest_of s n all l)
+    (read_by f s n (all - (s + n)))
 
-pub overwrites : (f g : ℕ → List ℕ) (s n all : ℕ) → s + n ≤ all → overwrite s (listed g s n) (listed f 0 all) ≡ listed (with_range f g (range s n)) 0 all
+pub overwrites : (f g : ℕ → List ℕ) (s n all : ℕ) → s + n ≤ all
+    → overwrite s (listed g s n) (listed f 0 all) ≡ listed (with_range f g (range s n)) 0 all
 overwrites f g s n all l =
-    subst (λ (i : ℕ). overwrite s (listed g s n) (listed f 0 i) ≡ listed (with_range f g (range s n)) 0 i) (rest_of s n all l) (overwrite_by f g s n (all - (s + n)))
+    subst (λ (i : ℕ). overwrite s (listed g s n) (listed f 0 i) ≡ listed (with_range f g (range s n)) 0 i)
+    (rest_of s n all l) (overwrite_by f g s n (all - (s + n)))
 
-pub compares : (f g : ℕ → List ℕ) (s n : ℕ) → same_blocks (listed f s n) (listed g s n) ≡ list_all (λ l. bytes_eq (f l) (g l)) (blocks_from s n)
+pub compares : (f g : ℕ → List ℕ) (s n : ℕ)
+    → same_blocks (listed f s n) (listed g s n) ≡ list_all (λ l. bytes_eq (f l) (g l)) (blocks_from s n)
 compares f g s zero = refl
 compares f g s (suc n) = ap (λ (b : Bool). bytes_eq (f s) (g s) && b) (compares f g (suc s) n)
 

@@ -1,5 +1,7 @@
 -- When a unit has its effect, where the marks stand right.
-use Rattle.std.proofs.Common.{◌≡◌, ℕ, suc, ◌≤◌, Bool, true, false, ◌&&◌, ◌||◌, cond, List, [], ◌∷◌, ◌++◌, length, refl, sym, ap, ap₂, ◌∙◌, subst, Option, Some, None, is_some, inl, inr, arith, eq-eqb, ne_eqb, eqb, nat_le, nat_lt, le-leb}
+use Rattle.std.proofs.Common.{◌≡◌, ℕ, suc, ◌≤◌, Bool, true, false, ◌&&◌, ◌||◌, cond, List, [], ◌∷◌, ◌++◌, length, refl}
+use Rattle.std.proofs.Common.{sym, ap, ap₂, ◌∙◌, subst, Option, Some, None, is_some, inl, inr, arith, eq-eqb, ne_eqb}
+use Rattle.std.proofs.Common.{eqb, nat_le, nat_lt, le-leb}
 use Rattle.std.specs.List.{list_any}
 use Rattle.std.proofs.lemmas.Bool.{or_from, or_left, or_right, cond-false, cases_Bool, cases_lt, cases_eq, lt-leb}
 use Rattle.nvme_model.specs.declared.config.ConfigNumbers.{ConfigNumbers}
@@ -42,7 +44,8 @@ one_more_le n j =
         | inl e ↦ or_left _ _ (eq-eqb (suc j) n e) ∙ sym (le-leb n (suc j) (omega (arith, l)))
         | inr e ↦ or_right _ _ (le-leb n j (omega (arith, l, e))) ∙ sym (le-leb n (suc j) (omega (arith, l)))
       ]
-      | inr l ↦ or_from _ _ (ne_eqb (suc j) n (λ (e : suc j ≡ n). omega (arith, e, l))) (lt-leb n j (omega (arith, l))) ∙ sym (lt-leb n (suc j) (omega (arith, l)))
+      | inr l ↦ or_from _ _ (ne_eqb (suc j) n (λ (e : suc j ≡ n). omega (arith, e, l))) (lt-leb n j (omega (arith, l)))
+          ∙ sym (lt-leb n (suc j) (omega (arith, l)))
     ]
 
 regroup : (a x b d : Bool) → ((a || x) || (b || d)) ≡ ((a || b) || (x || d))
@@ -54,7 +57,8 @@ regroup false false b d = refl
 late : (n j : ℕ) (f d : Bool) → ((eqb (suc j) n || f) || (nat_le n j || d)) ≡ (nat_le n (suc j) || (f || d))
 late n j f d = regroup (eqb (suc j) n) f (nat_le n j) d ∙ ap (λ (x : Bool). x || (f || d)) (one_more_le n j)
 
-came_more : (o : Option Op) (n j : ℕ) (f : Found) (d : Bool) → (marked o n j f || came o n j d) ≡ came o n (suc j) (is_differs f || d)
+came_more : (o : Option Op) (n j : ℕ) (f : Found) (d : Bool)
+    → (marked o n j f || came o n j d) ≡ came o n (suc j) (is_differs f || d)
 came_more None n j f d = late n j (is_differs f) d
 came_more (Some Op.Read) n j f d = late n j (is_differs f) d
 came_more (Some Op.Compare) n j f d = late n j (is_differs f) d
@@ -90,7 +94,8 @@ pub no_effect : (past : Past) (t u : ℕ) → blocks_made past t u ≡ [] → ef
 no_effect [] t u h = refl
 no_effect (Entry.Block b ∷ past) t u h = go (eqb b.ticket t && eqb b.unit u) refl h (no_effect past t u)
   where
-    go : (x : Bool) → (eqb b.ticket t && eqb b.unit u) ≡ x → cond x (b ∷ []) [] ++ blocks_made past t u ≡ [] → (blocks_made past t u ≡ [] → effect past t u ≡ None)
+    go : (x : Bool) → (eqb b.ticket t && eqb b.unit u) ≡ x → cond x (b ∷ []) [] ++ blocks_made past t u ≡ []
+        → (blocks_made past t u ≡ [] → effect past t u ≡ None)
         → cond (b.effect && eqb b.ticket t && eqb b.unit u) (Some past) (effect past t u) ≡ None
     go true e f ih = absurd (let l = ap length f in omega (arith, l))
     go false e f ih = cond-false _ _ _ (not_both b.effect (eqb b.ticket t) (eqb b.unit u) e) ∙ ih f
@@ -99,39 +104,51 @@ no_effect (e ∷ past) t u h = no_effect past t u h
 abbrev EffectState : Past → ℕ → ℕ → Type 0
 EffectState past t u =
     1 ≤ (unit_range past t u).blocks
-    → is_some (effect past t u) ≡ came (op (Tickets.ticket past t)) (unit_range past t u).blocks (length (blocks_made past t u)) (differing (blocks_made past t u))
+    → is_some (effect past t u)
+    ≡ came (op (Tickets.ticket past t)) (unit_range past t u).blocks (length (blocks_made past t u))
+    (differing (blocks_made past t u))
 
 unmade : (past : Past) (t u : ℕ) → blocks_made past t u ≡ [] → EffectState past t u
 unmade past t u e l =
     ap is_some (no_effect past t u e)
-    ∙ sym (ap (λ (xs : List BlockLine). came (op (Tickets.ticket past t)) (unit_range past t u).blocks (length xs) (differing xs)) e ∙ not_come (op (Tickets.ticket past t)) (unit_range past t u).blocks l)
+    ∙ sym (ap (λ (xs : List BlockLine).
+    came (op (Tickets.ticket past t)) (unit_range past t u).blocks (length xs) (differing xs)) e
+    ∙ not_come (op (Tickets.ticket past t)) (unit_range past t u).blocks l)
 
-pub effect_state : (c : ConfigNumbers) (past : Past) (t u : ℕ) → IsLegal c past → MarkedRight past → EffectState past t u
+pub effect_state : (c : ConfigNumbers) (past : Past) (t u : ℕ) → IsLegal c past → MarkedRight past
+    → EffectState past t u
 effect_state c [] t u h k = λ l. absurd (omega (arith, l))
 effect_state c (Entry.Fetch f ∷ past) t u h k =
     let before = (follows c past (Entry.Fetch f) h).before in
     elim (cases_lt (Tickets.tickets past) t) [
       | inl l ↦ unmade (Entry.Fetch f ∷ past) t u (no_blocks_yet c past t u before l)
-      | inr l ↦ subst (λ (x : Ticket). 1 ≤ (unit_range past t u).blocks → is_some (effect past t u) ≡ came (op x) (unit_range past t u).blocks (length (blocks_made past t u)) (differing (blocks_made past t u)))
+      | inr l ↦ subst (λ (x : Ticket). 1 ≤ (unit_range past t u).blocks
+          → is_some (effect past t u)
+          ≡ came (op x) (unit_range past t u).blocks (length (blocks_made past t u)) (differing (blocks_made past t u)))
           (sym (ticket_kept c past f t h l)) (effect_state c past t u before k)
     ]
 effect_state c (Entry.Grant g ∷ past) t u h k =
     let before = (follows c past (Entry.Grant g) h).before in
     elim (cases_Bool (eqb g.ticket t && eqb g.unit u)) [
       | inl e ↦ unmade (Entry.Grant g ∷ past) t u (no_blocks c past t u before (grants_before c past g t u h e))
-      | inr e ↦ subst (λ (r : Range). 1 ≤ r.blocks → is_some (effect past t u) ≡ came (op (Tickets.ticket past t)) r.blocks (length (blocks_made past t u)) (differing (blocks_made past t u)))
+      | inr e ↦ subst (λ (r : Range). 1 ≤ r.blocks
+          → is_some (effect past t u)
+          ≡ came (op (Tickets.ticket past t)) r.blocks (length (blocks_made past t u))
+          (differing (blocks_made past t u)))
           (sym (range_before past g t u e)) (effect_state c past t u before k)
     ]
 effect_state c (Entry.Block b ∷ past) t u h k =
     let before = (follows c past (Entry.Block b) h).before in
     elim (cases_Bool (eqb b.ticket t && eqb b.unit u)) [
-      | inl e ↦ at_key (EffectState (Entry.Block b ∷ past)) b t u e (own (effect_state c past b.ticket b.unit before k.0))
+      | inl e ↦ at_key (EffectState (Entry.Block b ∷ past)) b t u e
+          (own (effect_state c past b.ticket b.unit before k.0))
       | inr e ↦ other e (effect_state c past t u before k.0)
     ]
   where
     key_true : (b.effect && eqb b.ticket b.ticket && eqb b.unit b.unit) ≡ b.effect
     key_true =
-        ap₂ (λ (x y : Bool). b.effect && x && y) (eq-eqb b.ticket b.ticket refl) (eq-eqb b.unit b.unit refl) ∙ (and_true (b.effect && true) ∙ and_true b.effect)
+        ap₂ (λ (x y : Bool). b.effect && x && y) (eq-eqb b.ticket b.ticket refl) (eq-eqb b.unit b.unit refl)
+        ∙ (and_true (b.effect && true) ∙ and_true b.effect)
 
     own : EffectState past b.ticket b.unit → EffectState (Entry.Block b ∷ past) b.ticket b.unit
     own ih l =
@@ -141,11 +158,15 @@ effect_state c (Entry.Block b ∷ past) t u h k =
         some_cond (b.effect && eqb b.ticket b.ticket && eqb b.unit b.unit) past (effect past b.ticket b.unit)
         ∙ (ap₂ (λ (x y : Bool). x || y) (key_true ∙ k.1) (ih l)
         ∙ (came_more o n (length made) b.found (differing made)
-        ∙ sym (ap (λ (xs : List BlockLine). came o n (length xs) (differing xs)) (same_made b b.ticket b.unit made refl refl))))
+        ∙ sym (ap (λ (xs : List BlockLine). came o n (length xs) (differing xs))
+        (same_made b b.ticket b.unit made refl refl))))
 
     other : (eqb b.ticket t && eqb b.unit u) ≡ false → EffectState past t u → EffectState (Entry.Block b ∷ past) t u
     other e ih l =
-        ap is_some (cond-false (b.effect && eqb b.ticket t && eqb b.unit u) (Some past) (effect past t u) (not_both b.effect (eqb b.ticket t) (eqb b.unit u) e))
-        ∙ (ih l ∙ sym (ap (λ (xs : List BlockLine). came (op (Tickets.ticket past t)) (unit_range past t u).blocks (length xs) (differing xs))
-        (ap (λ (xs : List BlockLine). xs ++ blocks_made past t u) (cond-false (eqb b.ticket t && eqb b.unit u) (b ∷ []) [] e))))
+        ap is_some (cond-false (b.effect && eqb b.ticket t && eqb b.unit u) (Some past) (effect past t u)
+        (not_both b.effect (eqb b.ticket t) (eqb b.unit u) e))
+        ∙ (ih l ∙ sym (ap (λ (xs : List BlockLine).
+        came (op (Tickets.ticket past t)) (unit_range past t u).blocks (length xs) (differing xs))
+        (ap (λ (xs : List BlockLine). xs ++ blocks_made past t u)
+        (cond-false (eqb b.ticket t && eqb b.unit u) (b ∷ []) [] e))))
 effect_state c (e ∷ past) t u h k = effect_state c past t u (follows c past e h).before k

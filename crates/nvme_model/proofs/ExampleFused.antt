@@ -15,7 +15,8 @@ use Rattle.nvme_model.proofs.ExampleScripts.{posted_ends, served, cqe_end}
 -- both published and fetched, the first granted
 abbrev two_pairs : List Step
 two_pairs =
-    Step.Publish 1 (pair_on_3 7 8 0 0xa1) ∷ Step.Publish 2 (pair_on_3 9 10 0 0xb2) ∷ Step.Fetch 1 ∷ Step.Fetch 2 ∷ Step.Grant 1 ∷ []
+    Step.Publish 1 (pair_on_3 7 8 0 0xa1) ∷ Step.Publish 2 (pair_on_3 9 10 0 0xb2) ∷ Step.Fetch 1 ∷ Step.Fetch 2
+    ∷ Step.Grant 1 ∷ []
 
 -- two pairs on one block
 abbrev two_pairs_early : Past
@@ -31,12 +32,15 @@ pub second_pair_differs : take 2 two_pairs_late ≡ block 2 0 3 Found.Differs tr
 second_pair_differs = refl
 
 abbrev two_pairs_end : Past
-two_pairs_end = run default two_pairs_late (Step.Post 1 ∷ Step.Post 1 ∷ Step.Post 2 ∷ Step.Post 2 ∷ Step.Reap 1 ∷ Step.Reap 1 ∷ Step.Reap 2 ∷ Step.Reap 2 ∷ [])
+two_pairs_end = run default two_pairs_late
+    (Step.Post 1 ∷ Step.Post 1 ∷ Step.Post 2 ∷ Step.Post 2 ∷ Step.Reap 1 ∷ Step.Reap 1 ∷ Step.Reap 2 ∷ Step.Reap 2 ∷ [])
 
-pub first_pair_posted : posted_ends default two_pairs_end 1 ≡ (2 ∷ 0 ∷ 1 ∷ 0 ∷ 7 ∷ 0 ∷ 1 ∷ 0 ∷ []) ∷ (2 ∷ 0 ∷ 1 ∷ 0 ∷ 8 ∷ 0 ∷ 1 ∷ 0 ∷ []) ∷ []
+pub first_pair_posted : posted_ends default two_pairs_end 1 ≡ (2 ∷ 0 ∷ 1 ∷ 0 ∷ 7 ∷ 0 ∷ 1 ∷ 0 ∷ [])
+    ∷ (2 ∷ 0 ∷ 1 ∷ 0 ∷ 8 ∷ 0 ∷ 1 ∷ 0 ∷ []) ∷ []
 first_pair_posted = refl
 
-pub second_pair_posted : posted_ends default two_pairs_end 2 ≡ (2 ∷ 0 ∷ 2 ∷ 0 ∷ 9 ∷ 0 ∷ 0x0b ∷ 5 ∷ []) ∷ (2 ∷ 0 ∷ 2 ∷ 0 ∷ 10 ∷ 0 ∷ 0x13 ∷ 0 ∷ []) ∷ []
+pub second_pair_posted : posted_ends default two_pairs_end 2 ≡ (2 ∷ 0 ∷ 2 ∷ 0 ∷ 9 ∷ 0 ∷ 0x0b ∷ 5 ∷ [])
+    ∷ (2 ∷ 0 ∷ 2 ∷ 0 ∷ 10 ∷ 0 ∷ 0x13 ∷ 0 ∷ []) ∷ []
 second_pair_posted = refl
 
 pub two_pairs_legal : legal default two_pairs_end ≡ true
@@ -52,20 +56,24 @@ second_half = submit 1 2 8 3 0 (one 0xa1)
 
 -- a first fetched before its second is published
 abbrev parted_end : Past
-parted_end = run default [] (Step.Publish 1 (first_half ∷ []) ∷ Step.Fetch 1 ∷ Step.Post 1 ∷ Step.Publish 1 (second_half ∷ []) ∷ Step.Fetch 1 ∷ Step.Post 2 ∷ Step.Reap 1 ∷ Step.Reap 1 ∷ [])
+parted_end = run default []
+    (Step.Publish 1 (first_half ∷ []) ∷ Step.Fetch 1 ∷ Step.Post 1 ∷ Step.Publish 1 (second_half ∷ []) ∷ Step.Fetch 1
+    ∷ Step.Post 2 ∷ Step.Reap 1 ∷ Step.Reap 1 ∷ [])
 
 pub parted_posted : posted_ends default parted_end 1 ≡ cqe_end 1 7 0x15 0 ∷ cqe_end 2 8 0x15 0 ∷ []
 parted_posted = refl
 
 -- both published before one Fetch
 abbrev joined_end : Past
-joined_end = settle 40 default (run default [] (Step.Publish 1 (first_half ∷ []) ∷ Step.Publish 1 (second_half ∷ []) ∷ Step.Fetch 1 ∷ []))
+joined_end = settle 40 default
+    (run default [] (Step.Publish 1 (first_half ∷ []) ∷ Step.Publish 1 (second_half ∷ []) ∷ Step.Fetch 1 ∷ []))
 
 pub joined_posted : posted_ends default joined_end 1 ≡ cqe_end 2 7 1 0 ∷ cqe_end 2 8 1 0 ∷ []
 joined_posted = refl
 
 -- ranges that differ
-pub unlike_ranges_posted : posted_ends default (served default 1 (first_half ∷ submit 1 2 8 4 0 (one 0xa1) ∷ [])) 1 ≡ cqe_end 2 7 5 0 ∷ cqe_end 2 8 5 0 ∷ []
+pub unlike_ranges_posted : posted_ends default (served default 1 (first_half ∷ submit 1 2 8 4 0 (one 0xa1) ∷ [])) 1
+    ≡ cqe_end 2 7 5 0 ∷ cqe_end 2 8 5 0 ∷ []
 unlike_ranges_posted = refl
 
 -- a pair of n+1 blocks
@@ -73,7 +81,8 @@ abbrev long_pair : ℕ → List Submission
 long_pair n = submit 5 1 7 0 n (replicate (512 * (n + 1)) 0) ∷ submit 1 2 8 0 n (replicate (512 * (n + 1)) 0xa1) ∷ []
 
 -- more blocks than the unit of a pair
-pub three_blocks_posted : posted_ends default (served default 1 (long_pair 2)) 1 ≡ cqe_end 2 7 0x29 0 ∷ cqe_end 2 8 0x29 0 ∷ []
+pub three_blocks_posted : posted_ends default (served default 1 (long_pair 2)) 1 ≡ cqe_end 2 7 0x29 0
+    ∷ cqe_end 2 8 0x29 0 ∷ []
 three_blocks_posted = refl
 
 -- just as many
@@ -81,5 +90,7 @@ pub two_blocks_posted : posted_ends default (served default 1 (long_pair 1)) 1 �
 two_blocks_posted = refl
 
 -- data that is missing
-pub missing_data_posted : posted_ends default (served default 1 (submit 5 1 7 3 0 [] ∷ submit 1 2 8 3 0 (one 0xa1) ∷ [])) 1 ≡ cqe_end 2 7 9 0 ∷ cqe_end 2 8 0x13 0 ∷ []
+pub missing_data_posted : posted_ends default
+    (served default 1 (submit 5 1 7 3 0 [] ∷ submit 1 2 8 3 0 (one 0xa1) ∷ [])) 1 ≡ cqe_end 2 7 9 0 ∷ cqe_end 2 8 0x13 0
+    ∷ []
 missing_data_posted = refl

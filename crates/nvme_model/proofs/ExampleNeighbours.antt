@@ -5,7 +5,8 @@ use Rattle.nvme_model.specs.EntryBytes.{two_bytes}
 use Rattle.nvme_model.specs.Examples.{default, fetch, one, pair_on_3, submit}
 use Rattle.nvme_model.specs.History.{Past}
 use Rattle.nvme_model.specs.Refusals.{refusal}
-use Rattle.nvme_model.specs.Statuses.{cid_conflict, data_transfer_error, failed_fused, invalid_field, invalid_namespace, invalid_opcode, out_of_range, unit_exceeded}
+use Rattle.nvme_model.specs.Statuses.{cid_conflict, data_transfer_error, failed_fused, invalid_field, invalid_namespace}
+use Rattle.nvme_model.specs.Statuses.{invalid_opcode, out_of_range, unit_exceeded}
 use Rattle.nvme_model.specs.Steps.{run}
 use Rattle.nvme_model.specs.declared.config.ConfigFault.{ConfigFault}
 use Rattle.nvme_model.specs.declared.entry.Entry.{Entry}
@@ -19,7 +20,8 @@ use Rattle.nvme_model.specs.declared.submission.Submission.{Submission}
 abbrev raw : (opcode fuse cid nsid slba nlb : ℕ) → (length : ℕ) → Submission
 raw opcode fuse cid nsid slba nlb length =
     record {
-      entry = opcode ∷ fuse ∷ (two_bytes cid ++ (nsid ∷ 0 ∷ 0 ∷ 0 ∷ (replicate 32 0 ++ (slba ∷ replicate 7 0 ++ (two_bytes nlb ++ replicate 14 0)))));
+      entry = opcode ∷ fuse ∷ (two_bytes cid
+          ++ (nsid ∷ 0 ∷ 0 ∷ 0 ∷ (replicate 32 0 ++ (slba ∷ replicate 7 0 ++ (two_bytes nlb ++ replicate 14 0)))));
       payload = replicate length 0xa1;
     }
 
@@ -28,7 +30,8 @@ raw opcode fuse cid nsid slba nlb length =
 -- what the newest entry of queue 1 is, where a Write with CID 1 was fetched before
 abbrev after_cid_1 : Submission → Past
 after_cid_1 s =
-    take 1 (run default [] (Step.Publish 1 (submit 1 0 1 0 0 (one 0xa1) ∷ []) ∷ Step.Fetch 1 ∷ Step.Publish 1 (s ∷ []) ∷ Step.Fetch 1 ∷ []))
+    take 1 (run default [] (Step.Publish 1 (submit 1 0 1 0 0 (one 0xa1) ∷ []) ∷ Step.Fetch 1 ∷ Step.Publish 1 (s ∷ [])
+    ∷ Step.Fetch 1 ∷ []))
 
 abbrev failed_with : Status → Past
 failed_with s = fetch 1 2 (Verdict.SingleFailed s) ∷ []
@@ -66,27 +69,33 @@ abbrev pair_failed_with : Status → Status → Past
 pair_failed_with s r = fetch 1 1 (Verdict.PairFailed s r) ∷ []
 
 -- two Writes with one CID
-pub operations_before_cids : pair_fetched (raw 1 1 7 1 3 0 512) (raw 1 2 7 1 3 0 512) ≡ pair_failed_with invalid_field invalid_field
+pub operations_before_cids : pair_fetched (raw 1 1 7 1 3 0 512) (raw 1 2 7 1 3 0 512)
+    ≡ pair_failed_with invalid_field invalid_field
 operations_before_cids = refl
 
 -- one CID, and the first has no data
-pub cids_before_first : pair_fetched (raw 5 1 7 1 3 0 0) (raw 1 2 7 1 3 0 512) ≡ pair_failed_with cid_conflict cid_conflict
+pub cids_before_first : pair_fetched (raw 5 1 7 1 3 0 0) (raw 1 2 7 1 3 0 512)
+    ≡ pair_failed_with cid_conflict cid_conflict
 cids_before_first = refl
 
 -- neither has data
-pub first_before_second : pair_fetched (raw 5 1 7 1 3 0 0) (raw 1 2 8 1 3 0 0) ≡ pair_failed_with data_transfer_error failed_fused
+pub first_before_second : pair_fetched (raw 5 1 7 1 3 0 0) (raw 1 2 8 1 3 0 0)
+    ≡ pair_failed_with data_transfer_error failed_fused
 first_before_second = refl
 
 -- the second is past the end, and so on another block than the first
-pub second_before_ranges : pair_fetched (raw 5 1 7 1 3 0 512) (raw 1 2 8 1 8 0 512) ≡ pair_failed_with failed_fused out_of_range
+pub second_before_ranges : pair_fetched (raw 5 1 7 1 3 0 512) (raw 1 2 8 1 8 0 512)
+    ≡ pair_failed_with failed_fused out_of_range
 second_before_ranges = refl
 
 -- three blocks each, where two may be fused, and not the same three
-pub ranges_before_unit : pair_fetched (raw 5 1 7 1 0 2 1536) (raw 1 2 8 1 1 2 1536) ≡ pair_failed_with invalid_field invalid_field
+pub ranges_before_unit : pair_fetched (raw 5 1 7 1 0 2 1536) (raw 1 2 8 1 1 2 1536)
+    ≡ pair_failed_with invalid_field invalid_field
 ranges_before_unit = refl
 
 -- three blocks, which differ from the Compare's data
-pub unit_before_difference : pair_fetched (raw 5 1 7 1 0 2 1536) (raw 1 2 8 1 0 2 1536) ≡ pair_failed_with unit_exceeded unit_exceeded
+pub unit_before_difference : pair_fetched (raw 5 1 7 1 0 2 1536) (raw 1 2 8 1 0 2 1536)
+    ≡ pair_failed_with unit_exceeded unit_exceeded
 unit_before_difference = refl
 
 -- ---- the CIDs of a pair between its two Posts
@@ -101,7 +110,8 @@ half_posted =
 pub posted_cid_is_free : take 1 (run default half_posted (Step.Fetch 1 ∷ [])) ≡ fetch 1 2 Verdict.Single ∷ []
 posted_cid_is_free = refl
 
-pub unposted_cid_is_not : take 1 (run default half_posted (Step.Fetch 1 ∷ Step.Fetch 1 ∷ [])) ≡ fetch 1 3 (Verdict.SingleFailed cid_conflict) ∷ []
+pub unposted_cid_is_not : take 1 (run default half_posted (Step.Fetch 1 ∷ Step.Fetch 1 ∷ []))
+    ≡ fetch 1 3 (Verdict.SingleFailed cid_conflict) ∷ []
 unposted_cid_is_not = refl
 
 -- ---- refusals
@@ -113,7 +123,8 @@ queue_before_batch = refl
 -- a ring of two slots, and three entries in it: no run comes here, since a batch that has entries is refused before
 abbrev overfull : Past
 overfull =
-    Entry.Publish (record { queue = 1; batch = submit 0 0 1 0 0 [] ∷ submit 0 0 2 0 0 [] ∷ submit 0 0 3 0 0 [] ∷ [] }) ∷ []
+    Entry.Publish (record { queue = 1; batch = submit 0 0 1 0 0 [] ∷ submit 0 0 2 0 0 [] ∷ submit 0 0 3 0 0 [] ∷ [] })
+    ∷ []
 
 pub batch_before_room : refusal (record default { sq_size = 2 }) overfull (Step.Publish 1 []) ≡ Some Why.BadBatch
 batch_before_room = refl
@@ -122,7 +133,8 @@ pub queue_before_entry : refusal default [] (Step.Fetch 3) ≡ Some Why.NoQueue
 queue_before_entry = refl
 
 -- the one ticket that may be in flight, and nothing that waits
-pub entry_before_jobs : refusal (record default { jobs = 1 }) (run default [] (Step.Publish 1 (submit 0 0 1 0 0 [] ∷ []) ∷ Step.Fetch 1 ∷ [])) (Step.Fetch 1) ≡ Some Why.NoEntry
+pub entry_before_jobs : refusal (record default { jobs = 1 })
+    (run default [] (Step.Publish 1 (submit 0 0 1 0 0 [] ∷ []) ∷ Step.Fetch 1 ∷ [])) (Step.Fetch 1) ≡ Some Why.NoEntry
 entry_before_jobs = refl
 
 -- a ticket that isn't there, and so has no unit
@@ -133,7 +145,8 @@ ticket_before_unit = refl
 abbrev between : Past
 between =
     run default []
-    (Step.Publish 1 (raw 1 0 1 1 0 3 2048 ∷ raw 1 0 2 1 2 1 1024 ∷ []) ∷ Step.Fetch 1 ∷ Step.Fetch 1 ∷ Step.Grant 1 ∷ Step.Grant 2 ∷ [])
+    (Step.Publish 1 (raw 1 0 1 1 0 3 2048 ∷ raw 1 0 2 1 2 1 1024 ∷ []) ∷ Step.Fetch 1 ∷ Step.Fetch 1 ∷ Step.Grant 1
+    ∷ Step.Grant 2 ∷ [])
 
 pub both_are_open : length between ≡ 5
 both_are_open = refl
@@ -144,12 +157,14 @@ unit_before_conflict = refl
 pub ticket_before_block : refusal default [] (Step.Block 1) ≡ Some Why.NoTicket
 ticket_before_block = refl
 
--- A ticket that isn't in flight owes no completion, so the first two rows of a Post hold of no ticket at once. Here a completion that isn't reaped fills
+-- A ticket that isn't in flight owes no completion, so the first two rows of a Post hold of no ticket at once. Here a
+-- completion that isn't reaped fills
 -- the queue, and a Write has no unit yet.
 abbrev one_posted : Past
 one_posted =
     run (record default { cq_size = 2 }) []
-    (Step.Publish 1 (submit 0 0 1 0 0 [] ∷ submit 1 0 2 0 0 (one 0xa1) ∷ []) ∷ Step.Fetch 1 ∷ Step.Fetch 1 ∷ Step.Post 1 ∷ [])
+    (Step.Publish 1 (submit 0 0 1 0 0 [] ∷ submit 1 0 2 0 0 (one 0xa1) ∷ []) ∷ Step.Fetch 1 ∷ Step.Fetch 1 ∷ Step.Post 1
+    ∷ [])
 
 pub nothing_owed_before_full : refusal (record default { cq_size = 2 }) one_posted (Step.Post 2) ≡ Some Why.WrongState
 nothing_owed_before_full = refl

@@ -17,7 +17,8 @@ abbrev swap : List ℕ → List ℕ → List Submission
 swap old new = submit 5 1 0 0 0 old ∷ submit 1 2 1 0 0 new ∷ []
 
 abbrev served : ℕ → List Submission → Past → Past
-served q batch past = run default (settle 20 default (run default past (Step.Publish q batch ∷ Step.Fetch q ∷ []))) (Step.Reap q ∷ Step.Reap q ∷ [])
+served q batch past = run default (settle 20 default (run default past (Step.Publish q batch ∷ Step.Fetch q ∷ [])))
+    (Step.Reap q ∷ Step.Reap q ∷ [])
 
 abbrev area : Range
 area = record { slba = 0; blocks = 1 }
@@ -73,7 +74,8 @@ pub released_once_keeps : disciplined default area (publish 1 (swap (slot_block 
 released_once_keeps = refl
 
 -- on the other host's queue
-pub released_elsewhere_breaks : disciplined default area (publish 2 (swap (slot_block (name 1 1)) zeros) ∷ held_1) ≡ false
+pub released_elsewhere_breaks : disciplined default area (publish 2 (swap (slot_block (name 1 1)) zeros) ∷ held_1)
+    ≡ false
 released_elsewhere_breaks = refl
 
 -- a name that was claimed before
@@ -91,7 +93,8 @@ pub write_beside_keeps : disciplined default area (publish 2 (submit 1 0 1 1 0 z
 write_beside_keeps = refl
 
 -- outside the area a pair may use any name
-pub swap_beside_keeps : disciplined default (record { slba = 1; blocks = 1 }) (publish 2 (swap zeros (slot_block (name 1 1))) ∷ held_1) ≡ true
+pub swap_beside_keeps : disciplined default (record { slba = 1; blocks = 1 })
+    (publish 2 (swap zeros (slot_block (name 1 1))) ∷ held_1) ≡ true
 swap_beside_keeps = refl
 
 -- the block of a slot: host 2, serial 2

@@ -47,8 +47,10 @@ zeroed_value_1 = refl
 pub zeroed_legal : legal default zeroed ≡ true
 zeroed_legal = refl
 
-pub with_data_posted : posted_ends default (served default 1 (submit 8 0 2 1 0 (one 0xa1) ∷ [])) 1 ≡ cqe_end 1 2 9 0 ∷ []
+pub with_data_posted : posted_ends default (served default 1 (submit 8 0 2 1 0 (one 0xa1) ∷ [])) 1 ≡ cqe_end 1 2 9 0
+    ∷ []
 with_data_posted = refl
 
-pub in_pair_posted : posted_ends default (served default 1 (submit 5 1 7 3 0 (one 0) ∷ submit 8 2 8 3 0 [] ∷ [])) 1 ≡ cqe_end 2 7 5 0 ∷ cqe_end 2 8 5 0 ∷ []
+pub in_pair_posted : posted_ends default (served default 1 (submit 5 1 7 3 0 (one 0) ∷ submit 8 2 8 3 0 [] ∷ [])) 1
+    ≡ cqe_end 2 7 5 0 ∷ cqe_end 2 8 5 0 ∷ []
 in_pair_posted = refl

@@ -25,23 +25,36 @@ cut_inside k c s zero = tt
 cut_inside zero c s (suc n) = tt
 cut_inside (suc k) c s (suc n) =
     let m = longest c s (suc n) in
-    let within : m ≤ suc n = (longest_facts c s n).within in
-    (omega (arith, within), each_map (λ r. r.slba + r.blocks ≤ s + m + (suc n - m)) (λ r. r.slba + r.blocks ≤ s + suc n) (λ r l. omega (arith, l, within)) (cut_within k c (s + m) (suc n - m)) (cut_inside k c (s + m) (suc n - m)))
+    let within : m ≤ suc n = (longest_facts c s n).within in (
+      omega (arith, within),
+      each_map (λ r. r.slba + r.blocks ≤ s + m + (suc n - m)) (λ r. r.slba + r.blocks ≤ s + suc n)
+          (λ r l. omega (arith, l, within)) (cut_within k c (s + m) (suc n - m)) (cut_inside k c (s + m) (suc n - m)),
+    )
 
-units_inside : (c : AtomicParameters) (o : Option Op) (s n : ℕ) → Each (λ r. r.slba + r.blocks ≤ s + n) (units_by c o s n)
+units_inside : (c : AtomicParameters) (o : Option Op) (s n : ℕ)
+    → Each (λ r. r.slba + r.blocks ≤ s + n) (units_by c o s n)
 units_inside c None s n = tt
 units_inside c (Some Op.Pair) s n = (omega arith, tt)
 units_inside c (Some o) s n = cut_inside n c s n
 
 -- ---- each granted unit
 
-pub units_in_volume : (c : ConfigNumbers) (past : Past) → IsLegal c past → Each (λ g. g.range.slba + g.range.blocks ≤ c.blocks) (granted past)
+pub units_in_volume : (c : ConfigNumbers) (past : Past) → IsLegal c past
+    → Each (λ g. g.range.slba + g.range.blocks ≤ c.blocks) (granted past)
 units_in_volume c past h =
-    each_map (λ g. (slice_get (units c (Tickets.ticket past g.ticket)) g.unit ≡ Some g.range) × (is_some (op (Tickets.ticket past g.ticket)) ≡ true)) (λ g. g.range.slba + g.range.blocks ≤ c.blocks)
-    (λ g p. inside g p.0 (ticket_checked c past g.ticket h p.1).first.inside) (granted past) (each_both _ _ (granted past) (unit_at c past h) (granted_op c past h))
+    each_map (λ g. (slice_get (units c (Tickets.ticket past g.ticket)) g.unit ≡ Some g.range)
+    × (is_some (op (Tickets.ticket past g.ticket)) ≡ true)) (λ g. g.range.slba + g.range.blocks ≤ c.blocks)
+    (λ g p. inside g p.0 (ticket_checked c past g.ticket h p.1).first.inside) (granted past)
+    (each_both _ _ (granted past) (unit_at c past h) (granted_op c past h))
   where
     inside : (g : GrantLine) → slice_get (units c (Tickets.ticket past g.ticket)) g.unit ≡ Some g.range
-        → slba (first_fields (Tickets.ticket past g.ticket)) + blocks (first_fields (Tickets.ticket past g.ticket)) ≤ c.blocks → g.range.slba + g.range.blocks ≤ c.blocks
+        → slba (first_fields (Tickets.ticket past g.ticket)) + blocks (first_fields (Tickets.ticket past g.ticket))
+        ≤ c.blocks → g.range.slba + g.range.blocks ≤ c.blocks
     inside g e l =
         let k = Tickets.ticket past g.ticket in
-        omega (arith, l, each_get (λ r. r.slba + r.blocks ≤ slba (first_fields k) + blocks (first_fields k)) (units c k) g.unit g.range (units_inside c.atomic (op k) (slba (first_fields k)) (blocks (first_fields k))) e)
+        omega (
+          arith,
+          l,
+          each_get (λ r. r.slba + r.blocks ≤ slba (first_fields k) + blocks (first_fields k)) (units c k)
+              g.unit g.range (units_inside c.atomic (op k) (slba (first_fields k)) (blocks (first_fields k))) e,
+        )

@@ -1,5 +1,7 @@
 -- The completions of a completion queue have their phases by their numbers.
-use Rattle.std.proofs.Common.{◌≡◌, ◌%◌, ◌-◌, ◌≤◌, ◌<◌, arith, mod-eq_of_lt, ℕ, zero, suc, Bool, true, false, cond, List, [], ◌∷◌, ◌++◌, length, refl, sym, ap, ◌∙◌, subst, Some, None, inl, inr, ◌⊎◌, eqb, eqb-true, slice_get, get_or}
+use Rattle.std.proofs.Common.{◌≡◌, ◌%◌, ◌-◌, ◌≤◌, ◌<◌, arith, mod-eq_of_lt, ℕ, zero, suc, Bool, true, false, cond, List}
+use Rattle.std.proofs.Common.{[], ◌∷◌, ◌++◌, length, refl, sym, ap, ◌∙◌, subst, Some, None, inl, inr, ◌⊎◌, eqb}
+use Rattle.std.proofs.Common.{eqb-true, slice_get, get_or}
 use Rattle.nvme_model.specs.Config.{completion_queue}
 use Rattle.nvme_model.specs.declared.config.ConfigNumbers.{ConfigNumbers}
 use Rattle.nvme_model.specs.EntryBytes.{cqe_bytes}
@@ -19,7 +21,8 @@ use Rattle.nvme_model.proofs.Apart.{fetched_if, ticket_kept}
 use Rattle.nvme_model.proofs.NextPost.{not_flying}
 
 -- one more at the end
-get_snoc : (xs : List PostLine) (y : PostLine) (k : ℕ) (p : PostLine) → slice_get (xs ++ (y ∷ [])) k ≡ Some p → (slice_get xs k ≡ Some p) ⊎ ((k ≡ length xs) × (y ≡ p))
+get_snoc : (xs : List PostLine) (y : PostLine) (k : ℕ) (p : PostLine) → slice_get (xs ++ (y ∷ [])) k ≡ Some p
+    → (slice_get xs k ≡ Some p) ⊎ ((k ≡ length xs) × (y ≡ p))
 get_snoc [] y zero p e = inr (refl, same y p e)
   where
     same : (a b : PostLine) → Some a ≡ Some b → a ≡ b
@@ -38,7 +41,8 @@ record IsNumbered (c : ConfigNumbers) (past : Past) (q k : ℕ) (p : PostLine) :
   pub known : p.ticket ≤ tickets past
 
 -- the Post at the end
-last_number : (c : ConfigNumbers) (past : Past) (p : PostLine) (q : ℕ) → IsLegal c (Entry.Post p ∷ past) → completion_queue c (Tickets.ticket past p.ticket).queue ≡ q
+last_number : (c : ConfigNumbers) (past : Past) (p : PostLine) (q : ℕ) → IsLegal c (Entry.Post p ∷ past)
+    → completion_queue c (Tickets.ticket past p.ticket).queue ≡ q
     → IsNumbered c (Entry.Post p ∷ past) q (length (posted_completions c past q)) p
 last_number c past p q h e =
     let m = posted_by_machine c past p h in
@@ -49,50 +53,67 @@ last_number c past p q h e =
         fetched_count past k.queue % c.sq_size,
         get_or (cids k) (posts_of past p.ticket) 0,
         m.0,
-        m.2 ∙ ap (λ (i : ℕ). cqe_bytes (fetched_count past k.queue % c.sq_size) k.queue (get_or (cids k) (posts_of past p.ticket) 0) (phase (length (posted_completions c past i)) c.cq_size) m.0) e,
+        m.2 ∙ ap (λ (i : ℕ). cqe_bytes (fetched_count past k.queue % c.sq_size) k.queue
+            (get_or (cids k) (posts_of past p.ticket) 0) (phase (length (posted_completions c past i)) c.cq_size) m.0)
+            e,
         e,
       );
       known = fetched_if c past p.ticket f.before (not_flying _ f.allowed.0);
     }
 
 -- a Fetch leaves it as it was
-fetched_later : (c : ConfigNumbers) (past : Past) (f : FetchLine) (q k : ℕ) (p : PostLine) → IsLegal c (Entry.Fetch f ∷ past) → IsNumbered c past q k p
+fetched_later : (c : ConfigNumbers) (past : Past) (f : FetchLine) (q k : ℕ) (p : PostLine)
+    → IsLegal c (Entry.Fetch f ∷ past) → IsNumbered c past q k p
     → IsNumbered c (Entry.Fetch f ∷ past) q k p
 fetched_later c past f q k p h n =
     record {
-      number = subst (λ (x : Ticket). IsNumber c x.queue q k p) (sym (ticket_kept c past f p.ticket h n.known)) n.number;
+      number = subst (λ (x : Ticket). IsNumber c x.queue q k p) (sym (ticket_kept c past f p.ticket h n.known))
+          n.number;
       known = omega (arith, n.known);
     }
 
-numbered : (c : ConfigNumbers) (past : Past) (q k : ℕ) (p : PostLine) → IsLegal c past → slice_get (posted_completions c past q) k ≡ Some p → IsNumbered c past q k p
+numbered : (c : ConfigNumbers) (past : Past) (q k : ℕ) (p : PostLine) → IsLegal c past
+    → slice_get (posted_completions c past q) k ≡ Some p → IsNumbered c past q k p
 numbered c [] q k p h e = absurd (let f : None ≡ Some p = e in cc)
-numbered c (Entry.Publish x ∷ past) q k p h e = let n = numbered c past q k p (follows c past (Entry.Publish x) h).before e in record { number = n.number; known = n.known }
-numbered c (Entry.Fetch f ∷ past) q k p h e = fetched_later c past f q k p h (numbered c past q k p (follows c past (Entry.Fetch f) h).before e)
-numbered c (Entry.Grant g ∷ past) q k p h e = let n = numbered c past q k p (follows c past (Entry.Grant g) h).before e in record { number = n.number; known = n.known }
-numbered c (Entry.Block b ∷ past) q k p h e = let n = numbered c past q k p (follows c past (Entry.Block b) h).before e in record { number = n.number; known = n.known }
-numbered c (Entry.Reap r ∷ past) q k p h e = let n = numbered c past q k p (follows c past (Entry.Reap r) h).before e in record { number = n.number; known = n.known }
+numbered c (Entry.Publish x ∷ past) q k p h e = let n =
+    numbered c past q k p (follows c past (Entry.Publish x) h).before e in record { number = n.number; known = n.known }
+numbered c (Entry.Fetch f ∷ past) q k p h e =
+    fetched_later c past f q k p h (numbered c past q k p (follows c past (Entry.Fetch f) h).before e)
+numbered c (Entry.Grant g ∷ past) q k p h e = let n =
+    numbered c past q k p (follows c past (Entry.Grant g) h).before e in record { number = n.number; known = n.known }
+numbered c (Entry.Block b ∷ past) q k p h e = let n =
+    numbered c past q k p (follows c past (Entry.Block b) h).before e in record { number = n.number; known = n.known }
+numbered c (Entry.Reap r ∷ past) q k p h e = let n = numbered c past q k p (follows c past (Entry.Reap r) h).before e in
+    record { number = n.number; known = n.known }
 numbered c (Entry.Post y ∷ past) q k p h e =
-    go (eqb (completion_queue c (Tickets.ticket past y.ticket).queue) q) refl (λ f. numbered c past q k p (follows c past (Entry.Post y) h).before f) e
+    go (eqb (completion_queue c (Tickets.ticket past y.ticket).queue) q) refl
+    (λ f. numbered c past q k p (follows c past (Entry.Post y) h).before f) e
   where
     after : IsNumbered c past q k p → IsNumbered c (Entry.Post y ∷ past) q k p
     after n = record { number = n.number; known = n.known }
 
-    last : (k ≡ length (posted_completions c past q)) × (y ≡ p) → completion_queue c (Tickets.ticket past y.ticket).queue ≡ q → IsNumbered c (Entry.Post y ∷ past) q k p
-    last f z = subst (λ (x : PostLine). IsNumbered c (Entry.Post y ∷ past) q k x) f.1 (subst (λ (i : ℕ). IsNumbered c (Entry.Post y ∷ past) q i y) (sym f.0) (last_number c past y q h z))
+    last : (k ≡ length (posted_completions c past q)) × (y ≡ p)
+        → completion_queue c (Tickets.ticket past y.ticket).queue ≡ q → IsNumbered c (Entry.Post y ∷ past) q k p
+    last f z = subst (λ (x : PostLine). IsNumbered c (Entry.Post y ∷ past) q k x) f.1
+        (subst (λ (i : ℕ). IsNumbered c (Entry.Post y ∷ past) q i y) (sym f.0) (last_number c past y q h z))
 
-    go : (b : Bool) → eqb (completion_queue c (Tickets.ticket past y.ticket).queue) q ≡ b → (slice_get (posted_completions c past q) k ≡ Some p → IsNumbered c past q k p)
-        → slice_get (posted_completions c past q ++ cond b (y ∷ []) []) k ≡ Some p → IsNumbered c (Entry.Post y ∷ past) q k p
+    go : (b : Bool) → eqb (completion_queue c (Tickets.ticket past y.ticket).queue) q ≡ b
+        → (slice_get (posted_completions c past q) k ≡ Some p → IsNumbered c past q k p)
+        → slice_get (posted_completions c past q ++ cond b (y ∷ []) []) k ≡ Some p
+        → IsNumbered c (Entry.Post y ∷ past) q k p
     go true z ih e = elim (get_snoc (posted_completions c past q) y k p e) [
       | inl f ↦ after (ih f)
       | inr f ↦ last f (eqb-true _ q z)
     ]
-    go false z ih e = after (ih (ap (λ (xs : List PostLine). slice_get xs k) (sym (append_nil (posted_completions c past q))) ∙ e))
+    go false z ih e = after (ih
+        (ap (λ (xs : List PostLine). slice_get xs k) (sym (append_nil (posted_completions c past q))) ∙ e))
       where
         append_nil : (xs : List PostLine) → xs ++ [] ≡ xs
         append_nil [] = refl
         append_nil (x ∷ xs) = ap (λ (ys : List PostLine). x ∷ ys) (append_nil xs)
 
-pub posts_are_numbered : (c : ConfigNumbers) (past : Past) (q k : ℕ) (p : PostLine) → IsLegal c past → slice_get (posted_completions c past q) k ≡ Some p
+pub posts_are_numbered : (c : ConfigNumbers) (past : Past) (q k : ℕ) (p : PostLine) → IsLegal c past
+    → slice_get (posted_completions c past q) k ≡ Some p
     → IsNumber c (Tickets.ticket past p.ticket).queue q k p
 posts_are_numbered c past q k p h e = (numbered c past q k p h e).number
 

@@ -15,6 +15,9 @@ one_at_a_time c past h =
     record {
       contents = contents_are c past h;
       replies = answers_are c past h;
-      posted = λ later before p e. posted_by_machine c before p (earlier c later (Entry.Post p ∷ before) (subst (λ (x : Past). IsLegal c x) e h));
-      reaped = λ later before r e. reaped_is_posted c before r (earlier c later (Entry.Reap r ∷ before) (subst (λ (x : Past). IsLegal c x) e h));
+      posted = λ later before p e.
+          posted_by_machine c before p
+          (earlier c later (Entry.Post p ∷ before) (subst (λ (x : Past). IsLegal c x) e h));
+      reaped = λ later before r e.
+          reaped_is_posted c before r (earlier c later (Entry.Reap r ∷ before) (subst (λ (x : Past). IsLegal c x) e h));
     }

@@ -1,5 +1,6 @@
 -- What it says that an entry may follow.
-use Rattle.std.proofs.Common.{◌≡◌, ℕ, ◌+◌, Bool, true, false, not, cond, List, [], ◌∷◌, refl, ap₂, Option, Some, None, is_none, eqb-true}
+use Rattle.std.proofs.Common.{◌≡◌, ℕ, ◌+◌, Bool, true, false, not, cond, List, [], ◌∷◌, refl, ap₂, Option, Some, None}
+use Rattle.std.proofs.Common.{is_none, eqb-true}
 use Rattle.std.specs.Bool.{beq}
 use Rattle.std.proofs.lemmas.Bool.{and_parts, or_parts}
 use Rattle.nvme_model.specs.declared.config.ConfigNumbers.{ConfigNumbers}
@@ -19,7 +20,8 @@ abbrev pub NoneHolds : {A : Type 0} → List (Bool × A) → Type 0
 NoneHolds [] = Unit {0}
 NoneHolds (row ∷ rows) = (row.0 ≡ false) × NoneHolds rows
 
-none_here : {A : Type 0} (b : Bool) (n : A) (rest : Option A) → is_none (cond b (Some n) rest) ≡ true → (b ≡ false) × (is_none rest ≡ true)
+none_here : {A : Type 0} (b : Bool) (n : A) (rest : Option A) → is_none (cond b (Some n) rest) ≡ true
+    → (b ≡ false) × (is_none rest ≡ true)
 none_here true n rest h = cc
 none_here false n rest h = (refl, h)
 
@@ -47,7 +49,8 @@ follows c past e h =
 
 -- ---- each kind of entry
 
-pub fetch_number : (c : ConfigNumbers) (past : Past) (f : FetchLine) → IsLegal c (Entry.Fetch f ∷ past) → f.ticket ≡ tickets past + 1
+pub fetch_number : (c : ConfigNumbers) (past : Past) (f : FetchLine) → IsLegal c (Entry.Fetch f ∷ past)
+    → f.ticket ≡ tickets past + 1
 fetch_number c past f h = eqb-true _ _ (and_parts _ _ (follows c past (Entry.Fetch f) h).fits).0
 
 -- what a Grant says
