@@ -6,7 +6,7 @@ use Rattle.std.proofs.lemmas.Bool.Decides.{nat_tests}
 use Rattle.nvme_model.specs.Config.{config_fault, config_faults}
 use Rattle.nvme_model.specs.declared.config.ConfigNumbers.{ConfigNumbers}
 use Rattle.nvme_model.specs.declared.entry.Entry.{Entry}
-use Rattle.nvme_model.proofs.Rules.{none_holds}
+use Rattle.nvme_model.proofs.Accepted.{accepted}
 use Rattle.nvme_model.specs.declared.operation.Op.{Op}
 use Rattle.controller_steps.specs.declared.answer.Answer.{Answer}
 use Rattle.work_queue.specs.Engines.{EnginePass, IsOpened, IsWorkOf, OpenedAs}
@@ -53,10 +53,7 @@ fetched_of eng p q o w h = by_answer eng q h.by.entry h.answer w h.is
 -- ---- completion queues
 
 pub some_queues : (c : ConfigNumbers) → config_fault c ≡ None → 0 < c.cqs
-some_queues c e = not_zero c.cqs (or_parts _ _ (none_holds (config_faults c) (ap is_none e)).1.1.1.1.1.1.1.1.1.0).0
-  where
-    not_zero : (n : ℕ) → eqb n 0 ≡ false → 0 < n
-    not_zero n e = grind (arith, nat_tests)
+some_queues c e = (accepted c e).some_cqs
 
 -- ---- calls of any port
 

@@ -26,6 +26,7 @@ use Rattle.nvme_model.specs.declared.entry.Entry.{Entry}
 use Rattle.nvme_model.specs.declared.entry.PostLine.{PostLine}
 use Rattle.nvme_model.specs.declared.refusal.Why.{Why}
 use Rattle.nvme_model.proofs.NextPost.{commands_few}
+use Rattle.nvme_model.proofs.Accepted.{accepted}
 use Rattle.nvme_model.proofs.Rules.{follows, none_holds}
 use Rattle.rings.specs.Completions.{Completed, CompletionRing, ShowsCompleted, is_full, posted_ring}
 use Rattle.rings.specs.Submissions.{SubmissionRing}
@@ -76,21 +77,6 @@ queue_there c q e =
     low : (q : ℕ) → eqb q 0 ≡ false → 1 ≤ q
     low zero e = absurd cc
     low (suc q) e = omega arith
-
--- there is a completion queue
-cqs_some : (c : ConfigNumbers) → config_fault c ≡ None → 1 ≤ c.cqs
-cqs_some c e = some c.cqs (or_parts (eqb c.cqs 0) (nat_lt c.pairs c.cqs) (none_holds (config_faults c) (ap is_none e)).1.1.1.1.1.1.1.1.1.0).0
-  where
-    some : (n : ℕ) → eqb n 0 ≡ false → 1 ≤ n
-    some zero e = absurd cc
-    some (suc n) e = omega arith
-
--- it has slots
-slots_some : (c : ConfigNumbers) → config_fault c ≡ None → 0 < c.cq_size
-slots_some c e =
-    let p = or_parts _ _ (none_holds (config_faults c) (ap is_none e)).1.1.1.1.1.1.1.0 in
-    let least : 2 ≤ c.cq_size = ltb-false c.cq_size 2 p.0 in
-    omega (arith, least)
 
 -- ---- the ring after one more
 
@@ -155,7 +141,7 @@ module _ (c : ConfigNumbers) (past : Past) (k : Kept) (keeps : Keeps c past k) (
     post_sq_place = record { next = omega (arith, queue_is.low); within = omega (arith, queue_is.low, queue_is.high) }
 
     pub post_cq_place : IsPlace c.cqs (completion_queue c x.flight.ticket.queue) ((x.flight.ticket.queue - 1) % c.cqs)
-    post_cq_place = record { next = refl; within = mod-lt (x.flight.ticket.queue - 1) (cqs_some c keeps.accepted) }
+    post_cq_place = record { next = refl; within = mod-lt (x.flight.ticket.queue - 1) (accepted c keeps.accepted).some_cqs }
 
     -- few completions were posted
     pub post_few : x.flight.posts < 2 ^ 7
@@ -224,7 +210,7 @@ module _ (c : ConfigNumbers) (past : Past) (k : Kept) (keeps : Keeps c past k) (
             let q = completion_queue c (flight past p.ticket).ticket.queue in
             let here : q ≡ suc ((x.flight.ticket.queue - 1) % c.cqs) = ap (λ (f : Flight). completion_queue c f.ticket.queue) (sym flight_is) ∙ add-one ((x.flight.ticket.queue - 1) % c.cqs) in
             more ∙ ap (λ (z : CompletionRing). posted_ring z (bare p)) cq_is
-            ∙ ring_next c.cq_size ((tables c past).posts q) (bare p) (map bare ((tables c past).unreaped q)) (slots_some c keeps.accepted)
+            ∙ ring_next c.cq_size ((tables c past).posts q) (bare p) (map bare ((tables c past).unreaped q)) (omega (arith, (accepted c keeps.accepted).least_cq_slots))
             ∙ ap (λ (xs : List Completion). record { size = c.cq_size; tail = ((tables c past).posts q + 1) % c.cq_size; phase = (((tables c past).posts q + 1) / c.cq_size) % 2 == 0; waiting = xs }) (sym (map-append bare ((tables c past).unreaped q) (p ∷ [])))
             ∙ (λ z. record {
               size = c.cq_size;

@@ -16,7 +16,7 @@ use Rattle.nvme_model.specs.History.{Past}
 use Rattle.nvme_model.specs.Legal.{legal, may_follow}
 use Rattle.nvme_model.specs.declared.config.ConfigNumbers.{ConfigNumbers}
 use Rattle.nvme_model.specs.declared.entry.Entry.{Entry}
-use Rattle.nvme_model.proofs.Rules.{none_holds}
+use Rattle.nvme_model.proofs.Accepted.{accepted}
 use Rattle.range_reserve.specs.declared.held.Held.{Held}
 use Rattle.rings.specs.Completions.{CompletionRing}
 use Rattle.rings.specs.Slots.{IsSize}
@@ -31,9 +31,7 @@ use Rattle.one_pass_check.proofs.Rings.{IsTable-replicate}
 -- ---- no entry
 
 pub cq_is_size : (c : ConfigNumbers) → config_fault c ≡ None → IsSize c.cq_size
-cq_is_size c none =
-    let p = or_parts _ _ (none_holds (config_faults c) (ap is_none none)).1.1.1.1.1.1.1.0 in
-    (ltb-false _ _ p.0, ltb-false _ _ p.1)
+cq_is_size c e = ((accepted c e).least_cq_slots, (accepted c e).most_cq_slots)
 
 abbrev submission_empty : ℕ → SubmissionRing
 submission_empty size = record { size = size; head = 0; waiting = [] }

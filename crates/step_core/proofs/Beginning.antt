@@ -12,7 +12,7 @@ use Rattle.nvme_model.specs.Tickets.{cids_in_use}
 use Rattle.nvme_model.specs.Value.{value}
 use Rattle.nvme_model.specs.declared.config.ConfigNumbers.{ConfigNumbers}
 use Rattle.nvme_model.proofs.Medium.{medium_is_value}
-use Rattle.nvme_model.proofs.Rules.{none_holds}
+use Rattle.nvme_model.proofs.Accepted.{accepted}
 use Rattle.rings.specs.Completions.{CompletionRing}
 use Rattle.rings.specs.Slots.{IsSize}
 use Rattle.rings.specs.Submissions.{SubmissionRing}
@@ -23,9 +23,7 @@ use Rattle.step_core.proofs.Tables.{IsTable-replicate}
 
 -- the size of a completion queue that is accepted
 pub cq_is_size : (c : ConfigNumbers) → config_fault c ≡ None → IsSize c.cq_size
-cq_is_size c none =
-    let p = or_parts _ _ (none_holds (config_faults c) (ap is_none none)).1.1.1.1.1.1.1.0 in
-    (ltb-false _ _ p.0, ltb-false _ _ p.1)
+cq_is_size c e = ((accepted c e).least_cq_slots, (accepted c e).most_cq_slots)
 
 -- ---- no history
 

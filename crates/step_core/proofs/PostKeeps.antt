@@ -19,6 +19,7 @@ use Rattle.nvme_model.specs.Operations.{op, op_by}
 use Rattle.nvme_model.specs.Completions.{posted_completions, reaped_count}
 use Rattle.nvme_model.specs.Refusals.{conditions}
 use Rattle.nvme_model.specs.Verdict.{taken}
+use Rattle.nvme_model.proofs.Accepted.{accepted}
 use Rattle.nvme_model.proofs.Rules.{none_holds}
 use Rattle.nvme_model.specs.Steps.{next_entry, post_entry}
 use Rattle.ticket_standing.specs.Standing.{standing}
@@ -42,7 +43,7 @@ use Rattle.step_core.specs.declared.controller.next.Next.{Next}
 use Rattle.step_core.specs.declared.controller.post.Due.{Due}
 use Rattle.step_core.proofs.Moves.{job_found, stepped}
 use Rattle.step_core.proofs.Tables.{IsTable-same, IsTable-set}
-use Rattle.step_core.proofs.Posting.{cqs_some, due_full, flies_some, queue_there, ticket_queue}
+use Rattle.step_core.proofs.Posting.{due_full, flies_some, queue_there, ticket_queue}
 use Rattle.cids_in_use.proofs.Counts.{count_cons, is_among, one_less, used_at, used_set}
 use Rattle.step_core.proofs.InUse.{count_posted, ticket_zero}
 use Rattle.nvme_model.proofs.Apart.{fetched_if}
@@ -89,13 +90,6 @@ nothing_yet c past t l = by_verdict (Tickets.ticket past t).verdict refl (comman
 post_sq_ring : (c : ConfigNumbers) (past : Past) (p : PostLine) (i : ℕ) → submission_ring c (Entry.Post p ∷ past) i ≡ submission_ring c past i
 unfolding submission_ring
 post_sq_ring c past p i = refl
-
--- a completion queue has two slots at least
-size_two : (c : ConfigNumbers) → config_fault c ≡ None → 2 ≤ c.cq_size
-size_two c e = two c.cq_size (or_parts (nat_lt c.cq_size 2) (nat_lt 1024 c.cq_size) (none_holds (config_faults c) (ap is_none e)).1.1.1.1.1.1.1.0).0
-  where
-    two : (n : ℕ) → nat_lt n 2 ≡ false → 2 ≤ n
-    two n h = ltb-false _ _ h
 
 -- only a Read has bytes that it has read
 reads_by : (o : Option Op) (k : Ticket) (read : List ℕ) → read_bytes_by o k read ≢ [] → o ≡ Some Op.Read
@@ -166,7 +160,7 @@ module _ (c : ConfigNumbers) (past : Past) (fields : CoreFields) (k : IsKept c p
   -- ---- the ring it goes to
 
   cq_some : 0 < c.cq_size
-  cq_some = omega (arith, size_two c k.accepted)
+  cq_some = omega (arith, (accepted c k.accepted).least_cq_slots)
 
   queue_is : d.queue ≡ (((Tickets.ticket past d.ticket).queue - 1) % c.cqs) + 1
   queue_is = post.1.queue
@@ -178,7 +172,7 @@ module _ (c : ConfigNumbers) (past : Past) (fields : CoreFields) (k : IsKept c p
   queue_some = omega (arith, queue_is)
 
   within : d.queue - 1 < c.cqs
-  within = omega (arith, place_is, mod-lt ((Tickets.ticket past d.ticket).queue - 1) (cqs_some c k.accepted))
+  within = omega (arith, place_is, mod-lt ((Tickets.ticket past d.ticket).queue - 1) (accepted c k.accepted).some_cqs)
 
   pub place_there : d.queue - 1 < length q
   place_there = omega (arith, within, k.completion.size)

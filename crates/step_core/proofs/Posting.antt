@@ -17,6 +17,7 @@ use Rattle.nvme_model.specs.Refusals.{no_queue, owes_nothing_yet, refusal}
 use Rattle.ticket_standing.specs.Standing.{standing, still_owed}
 use Rattle.nvme_model.specs.Legal.{IsLegal}
 use Rattle.nvme_model.specs.Kept.{Kept}
+use Rattle.nvme_model.proofs.Accepted.{accepted}
 use Rattle.nvme_model.proofs.Rules.{follows, none_holds}
 use Rattle.ticket_standing.proofs.Owing.{has_next, next_owed}
 use Rattle.job_table.specs.Keeping.{Keeping}
@@ -111,14 +112,6 @@ something_due c past t j s b r k e full =
 
 -- ---- where it goes, and its bytes
 
--- there is a completion queue
-pub cqs_some : (c : ConfigNumbers) → config_fault c ≡ None → 1 ≤ c.cqs
-cqs_some c e = some c.cqs (or_parts (eqb c.cqs 0) (nat_lt c.pairs c.cqs) (none_holds (config_faults c) (ap is_none e)).1.1.1.1.1.1.1.1.1.0).0
-  where
-    some : (n : ℕ) → eqb n 0 ≡ false → 1 ≤ n
-    some zero e = absurd cc
-    some (suc n) e = omega arith
-
 found_at : {X : Type 0} (xs : List X) (n : ℕ) (x d : X) → slice_get xs n ≡ Some x → get_or xs n d ≡ x
 found_at [] n x d e = absurd cc
 found_at (y ∷ xs) zero x d e = some_inj e
@@ -188,7 +181,7 @@ module _ (c : ConfigNumbers) (past : Past) (fields : CoreFields) (k : IsKept c p
   post_nothing e = refused_so (Some Why.WrongState) (nothing_due c past t job k.run mine e)
 
   pub post_some : 1 ≤ c.cqs
-  post_some = cqs_some c k.accepted
+  post_some = (accepted c k.accepted).some_cqs
 
   -- by the number of its queue
   module _ (n' : ℕ) (of : n' ≡ job.queue) where
