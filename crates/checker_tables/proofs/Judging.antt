@@ -40,7 +40,7 @@ use Rattle.checker_tables.specs.Judged.{block_fits_by, cids_left, conditions_by,
 use Rattle.checker_tables.specs.Tables.{flight, open_unit, tables, unit_of, unreaped}
 use Rattle.ticket_standing.proofs.Counts.{fetched_within, flying_count, in_use_flying, owing}
 use Rattle.ticket_standing.proofs.InUse.{SameIn, verdict_same}
-use Rattle.nvme_model.proofs.Lists.{each_find}
+use Rattle.nvme_model.proofs.Lists.{each_find, drop_map}
 use Rattle.nvme_model.proofs.Blocks.{OpenFacts, open_facts, same_made}
 use Rattle.nvme_model.proofs.Pairs.{compare_words, comparing}
 use Rattle.nvme_model.proofs.Runs.{reaped_posted}
@@ -61,12 +61,6 @@ get_drop (suc n) [] = refl
 get_drop (suc n) (x ∷ xs) = get_drop n xs
 
 -- ---- the CIDs in use
-
-drop_map : {X Y : Type 0} (f : X → Y) (p : Y → Bool) (n : ℕ) (xs : List X) → list_any p (drop n (map f xs)) ≡ list_any (λ x. p (f x)) (drop n xs)
-drop_map f p zero [] = refl
-drop_map f p zero (x ∷ xs) = ap (λ b. p (f x) || b) (drop_map f p zero xs)
-drop_map f p (suc n) [] = refl
-drop_map f p (suc n) (x ∷ xs) = drop_map f p n xs
 
 one_ticket : (past : Past) (q cid t : ℕ) → is_in cid (cids_left q (flight past t)) ≡ owing past q cid t
 one_ticket past q cid t = by (eqb (Tickets.ticket past t).queue q)

@@ -27,7 +27,7 @@ use Rattle.checker_tables.specs.Judged
 use Rattle.checker_tables.specs.Judged.{has_run, is_done, owed_as, owed_running, owes_nothing}
 use Rattle.checker_tables.specs.Tables.{flight, open_unit, unit_of}
 use Rattle.nvme_model.proofs.Granted.{units_some}
-use Rattle.nvme_model.proofs.Lists.{each_get, each_find}
+use Rattle.nvme_model.proofs.Lists.{each_get, each_find, all_true}
 use Rattle.nvme_model.proofs.Blocks.{no_blocks}
 use Rattle.nvme_model.proofs.Medium.{is_open}
 use Rattle.nvme_model.proofs.Ended.{found_some, some_granted}
@@ -37,6 +37,7 @@ use Rattle.nvme_model.proofs.Runs.{below_if, some_at}
 use Rattle.nvme_model.proofs.Written.{clash}
 use Rattle.checker_tables.proofs.Placing.{effect_placed}
 use Rattle.checker_tables.proofs.SaidNo.{some_no_is}
+use Rattle.ticket_standing.proofs.Opening.{some_needed}
 
 both : (x y : Bool) → (x ≡ true → y ≡ true) → (y ≡ true → x ≡ true) → x ≡ y
 both true y f g = sym (f refl)
@@ -64,13 +65,6 @@ no_unit : (past : Past) (t : ℕ) → is_none (open_unit past t) ≡ not (has_op
 no_unit past t = none_some (open_unit past t) ∙ ap not (has_unit past t)
 
 -- ---- all units have ended
-
-some_needed : (k : Ticket) (n : ℕ) → 1 ≤ n → 1 ≤ steps_needed k n
-some_needed k n l = go (is_pair (op k))
-  where
-    go : (b : Bool) → 1 ≤ cond b (2 * n) n
-    go true = omega (arith, l)
-    go false = l
 
 -- a unit that wasn't granted hasn't ended
 not_ended : (c : ConfigNumbers) (past : Past) (t u n : ℕ) → IsLegal c past → grants_of past t ≤ u → 1 ≤ n → has_ended past t u n ≡ false
@@ -100,10 +94,6 @@ unit_ended c past t u r h o l e =
     ended : (z k : Bool) → k ≡ true → (not z ≡ true → k ≡ false) → z ≡ true
     ended true k q f = refl
     ended false k q f = clash k q (f refl)
-
-all_true : {X : Type 0} (xs : List X) → list_all (λ x. true) xs ≡ true
-all_true [] = refl
-all_true (x ∷ xs) = all_true xs
 
 pub all_ended_is : (c : ConfigNumbers) (past : Past) (t : ℕ) → IsLegal c past → all_ended c past t ≡ has_run c (flight past t)
 all_ended_is c past t h = both (all_ended c past t) (has_run c (flight past t)) there back

@@ -41,7 +41,7 @@ use Rattle.nvme_model.proofs.Rules.{follows, fetch_number, may_grant}
 use Rattle.nvme_model.proofs.Written.{clash}
 use Rattle.ticket_standing.proofs.Counts.{fetched_within, taken_some}
 use Rattle.ticket_standing.proofs.Opening.{block_open_beside, block_open_on, ends_with, grant_open}
-use Rattle.ticket_standing.proofs.Standings.{post_flying_off, post_flying_on}
+use Rattle.ticket_standing.proofs.Standings.{post_flying_off, post_flying_on, find_apart}
 use Rattle.ticket_standing.proofs.TicketLists.{find_filter}
 use Rattle.ticket_standing.proofs.Unfetched.{fetch_flying, no_posts, not_differed, not_granted, not_open}
 use Rattle.ticket_standing.proofs.Waiting.{fetch_waits, post_waits, publish_waits, reap_waits}
@@ -224,15 +224,6 @@ fetch_taken c past f h =
 and_true : (x : Bool) → (x && true) ≡ x
 and_true true = refl
 and_true false = refl
-
-find_apart : (t : ℕ) (gs : List GrantLine) → find (λ x. eqb x.ticket t) (filter (λ x. not (eqb x.ticket t)) gs) ≡ None
-find_apart t [] = refl
-find_apart t (g ∷ gs) = by (find_apart t gs) (eqb g.ticket t) refl
-  where
-    by : find (λ x. eqb x.ticket t) (filter (λ x. not (eqb x.ticket t)) gs) ≡ None → (b : Bool) → eqb g.ticket t ≡ b
-        → find (λ x. eqb x.ticket t) (cond (not b) (g ∷ filter (λ x. not (eqb x.ticket t)) gs) (filter (λ x. not (eqb x.ticket t)) gs)) ≡ None
-    by ih true e = ih
-    by ih false e = cond-false (eqb g.ticket t) _ _ e ∙ ih
 
 module _ (c : ConfigNumbers) (past : Past) (b : BlockLine) (h : IsLegal c (Entry.Block b ∷ past)) where
   abbrev later : Past

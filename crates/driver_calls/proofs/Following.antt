@@ -9,7 +9,7 @@ use Rattle.nvme_model.specs.declared.config.ConfigNumbers.{ConfigNumbers}
 use Rattle.nvme_model.specs.declared.entry.Entry.{Entry}
 use Rattle.host_laws.specs.Beside.{IsBeside, is_beside}
 use Rattle.host_laws.proofs.Beside.{places_grow}
-use Rattle.host_laws.proofs.Bools.{not_true}
+use Rattle.nvme_model.proofs.Bools.{not_true}
 use Rattle.driver_calls.specs.Events.{event_at, events}
 use Rattle.driver_calls.specs.declared.event.PortEvent.{PortEvent}
 

@@ -17,6 +17,7 @@ use Rattle.driver_calls.specs.Says.{IsFusedIn, IsSingleIn}
 use Rattle.driver_commands.specs.Entries.{IsBatch, IsCommand, entry_count, first_opcode, payloads_of}
 use Rattle.driver_commands.specs.declared.request.CallData.{CallData}
 use Rattle.driver_commands.proofs.Commands.{command_cid, command_proper, command_touches}
+use Rattle.nvme_model.proofs.Bools.{or_false}
 
 -- one entry with the opcode of an operation that has one is a call of it
 pub one_made : (o : Op) (l n first second : ℕ) (payload : List ℕ) (s : Submission) → entry_count o ≡ 1 → IsCommand s (first_opcode o) 0 first l n payload
@@ -131,10 +132,6 @@ call_proper o l n first second contents batch most =
     (λ expected desired s t c d.
     ap₂ (λ (a b : Bool). a && (b && true)) (command_proper s 5 1 first l n expected (omega arith) (omega arith) most c)
     (command_proper t 1 2 second l n desired (omega arith) (omega arith) most d)) o contents batch
-
-or_false : (b : Bool) → (b || false) ≡ b
-or_false true = refl
-or_false false = refl
 
 -- which operations write, by their opcodes
 writes : (o : Op) (b : Bool) → entry_count o ≡ 1 → (((eqb (first_opcode o) 1 || eqb (first_opcode o) 8) && b) || false) ≡ (has_write (Some o) && b)

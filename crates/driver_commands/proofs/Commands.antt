@@ -16,7 +16,7 @@ pub command_cid : (s : Submission) (opcode fuse cid l n : ℕ) (payload : List �
 command_cid s opcode fuse cid l n payload c = ap (λ (e : Sqe). e.cid) c.entry.1
 
 -- the first block and the number of blocks are those that the fields were made of
-halves : (l : ℕ) → l % 2 ^ 32 + 2 ^ 32 * (l / 2 ^ 32) ≡ l
+pub halves : (l : ℕ) → l % 2 ^ 32 + 2 ^ 32 * (l / 2 ^ 32) ≡ l
 halves l = omega arith
 
 zeros_based : (n : ℕ) → 1 ≤ n → n ≤ 65536 → (n - 1) % 65536 + 1 ≡ n

@@ -1,3 +1,4 @@
 pub mod LittleLemmas
 pub mod SqeLemmas
 pub mod CqeLemmas
+pub mod Phases

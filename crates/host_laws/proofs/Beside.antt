@@ -22,7 +22,7 @@ use Rattle.host_laws.proofs.Elements.{In, any_in, in_cases}
 use Rattle.host_laws.proofs.SwapEntries.{swaps_in_queue}
 use Rattle.nvme_model.specs.declared.entry.PublishLine.{PublishLine}
 use Rattle.nvme_model.specs.declared.submission.Submission.{Submission}
-use Rattle.host_laws.proofs.Bools.{not_true}
+use Rattle.nvme_model.proofs.Bools.{not_true}
 
 not_equal : (n m : ℕ) → not (eqb n m) ≡ true → n ≡ m → ⊥
 not_equal n m h e = clash (eqb n m) (eq-eqb n m e) (not_true (eqb n m) h)

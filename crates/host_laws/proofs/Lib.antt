@@ -1,4 +1,3 @@
-pub mod Bools
 pub mod Elements
 pub mod Verdicts
 pub mod Taken

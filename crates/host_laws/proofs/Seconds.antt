@@ -26,7 +26,7 @@ use Rattle.nvme_model.specs.declared.status.Verdict.{Verdict}
 use Rattle.nvme_model.specs.declared.submission.Submission.{Submission}
 use Rattle.nvme_model.proofs.Written.{clash}
 use Rattle.host_laws.specs.Calls.{IsFused, reaped_post, says_yes, status_in, takes, yes_at}
-use Rattle.host_laws.proofs.Bools.{not_true}
+use Rattle.nvme_model.proofs.Bools.{not_true}
 use Rattle.host_laws.proofs.Calls.{PostOf, post_of, second_fuse, seen, takes_parts, which}
 use Rattle.host_laws.proofs.Elements.{same_some}
 use Rattle.host_laws.proofs.Later.{no_later, yes_later}

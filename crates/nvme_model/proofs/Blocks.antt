@@ -20,15 +20,12 @@ use Rattle.nvme_model.specs.declared.entry.Entry.{Entry}
 use Rattle.nvme_model.proofs.Lists.{Each, each_filter, each_find}
 use Rattle.nvme_model.proofs.Rules.{follows, may_grant}
 use Rattle.nvme_model.proofs.Granted.{GrantFacts, granted_facts}
+use Rattle.nvme_model.proofs.Bools.{not_true}
 
 -- an open unit
 pub record OpenFacts (past : Past) (g : GrantLine) : Type 0 where
   pub facts : GrantFacts past g
   pub goes_on : has_ended past g.ticket g.unit g.range.blocks ≡ false
-
-not_true : (b : Bool) → not b ≡ true → b ≡ false
-not_true false h = refl
-not_true true h = cc
 
 pub open_facts : (c : ConfigNumbers) (past : Past) → IsLegal c past → Each (OpenFacts past) (open_units past)
 open_facts c past h =

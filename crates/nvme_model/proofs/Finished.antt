@@ -29,7 +29,7 @@ use Rattle.nvme_model.proofs.Granted.{GrantFacts, granted_facts, units_some}
 use Rattle.nvme_model.proofs.Blocks.{may_block, same_made}
 use Rattle.nvme_model.proofs.Written.{clash}
 use Rattle.nvme_model.proofs.Holding.{open_kept, false_if}
-use Rattle.nvme_model.proofs.Medium.{is_open, unfilter, none_each, each_none}
+use Rattle.nvme_model.proofs.Medium.{is_open, unfilter, none_each, each_none, still_open}
 use Rattle.nvme_model.proofs.Answers.{needs_all}
 use Rattle.nvme_model.proofs.Ended.{granted_op, some_made}
 use Rattle.nvme_model.proofs.Runs.{some_at}
@@ -39,10 +39,6 @@ use Rattle.nvme_model.proofs.NextPost.{ends, unit_at, unit_of_blocks, same_range
 
 abbrev IsNewest : Past → GrantLine → Type 0
 IsNewest past x = is_open past x ≡ true → x.unit + 1 ≡ grants_of past x.ticket
-
-still_open : (past : Past) (b : BlockLine) (x : GrantLine) → is_open (Entry.Block b ∷ past) x ≡ true
-    → is_open past x ≡ true
-still_open past b x h = unless _ _ (ended_kept past b x.ticket x.unit x.range.blocks) h
 
 pub not_has_open : (past : Past) (t : ℕ) → has_open past t ≡ false
     → Each (λ x. is_open past x ≡ true → eqb x.ticket t ≡ false) (granted past)

@@ -32,7 +32,8 @@ use Rattle.nvme_model.proofs.Apart.{ticket_kept, grant_apart, fetch_ended}
 use Rattle.nvme_model.proofs.Granted.{GrantFacts, granted_facts}
 use Rattle.nvme_model.proofs.Blocks.{OpenFacts, open_facts, MayBlock, no_blocks, same_made, due_lba, range_before}
 use Rattle.nvme_model.proofs.Written.{Writing, clash}
-use Rattle.nvme_model.proofs.Stepping.{started, written, needed, writes_by, Stepped, step, and_true, or_false}
+use Rattle.nvme_model.proofs.Stepping.{started, written, needed, writes_by, Stepped, step, and_true}
+use Rattle.nvme_model.proofs.Bools.{or_false}
 use Rattle.nvme_model.proofs.Pairs.{word_at, goes_on, says_yes, says_no, pair_compares}
 
 -- ---- how far unit u of ticket t has written block l

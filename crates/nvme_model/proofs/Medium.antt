@@ -106,7 +106,7 @@ own_by past b l x f e h =
           (subst (λ (r : Range). has_block r l ≡ true) (sym f.range) a.1),
     )
 
-still_open : (past : Past) (b : BlockLine) (x : GrantLine) → is_open (Entry.Block b ∷ past) x ≡ true
+pub still_open : (past : Past) (b : BlockLine) (x : GrantLine) → is_open (Entry.Block b ∷ past) x ≡ true
     → is_open past x ≡ true
 still_open past b x h = unless _ _ (ended_kept past b x.ticket x.unit x.range.blocks) h
 

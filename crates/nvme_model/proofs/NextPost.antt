@@ -287,7 +287,7 @@ no_if c past t h k d =
 
 -- ---- enough is owed
 
-not_pair : (e : Sqe) → is_pair (op_of_fields e) ≡ false
+pub not_pair : (e : Sqe) → is_pair (op_of_fields e) ≡ false
 not_pair e = go (is_write e) (is_read e) (is_compare e) (is_write_zeroes e)
   where
     go : (w r m z : Bool) → is_pair

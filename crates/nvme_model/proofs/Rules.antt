@@ -15,6 +15,7 @@ use Rattle.nvme_model.specs.declared.array.Range.{Range}
 use Rattle.nvme_model.specs.declared.entry.GrantLine.{GrantLine}
 use Rattle.nvme_model.specs.declared.entry.FetchLine.{FetchLine}
 use Rattle.nvme_model.specs.declared.entry.Entry.{Entry}
+use Rattle.nvme_model.proofs.Bools.{not_false}
 
 abbrev pub NoneHolds : {A : Type 0} → List (Bool × A) → Type 0
 NoneHolds [] = Unit {0}
@@ -30,10 +31,6 @@ none_holds [] h = tt
 none_holds (row ∷ rows) h =
     let e = none_here row.0 row.1 (first_row rows) h in
     (e.0, none_holds rows e.1)
-
-not_false : (b : Bool) → not b ≡ false → b ≡ true
-not_false true h = refl
-not_false false h = cc
 
 -- the parts of a legal history's last step
 pub record Follows (c : ConfigNumbers) (past : Past) (e : Entry) : Type 0 where

@@ -12,6 +12,7 @@ use Rattle.nvme_model.specs.declared.operation.Op.{Op}
 use Rattle.nvme_model.specs.declared.operation.Found.{Found}
 use Rattle.nvme_model.proofs.Written.{Writing, medium_after, clash, write_step, write_end, equal_step, pair_write_step}
 use Rattle.nvme_model.proofs.Written.{pair_end}
+use Rattle.nvme_model.proofs.Bools.{or_false}
 
 -- the effect of the unit came, after j Blocks; how many of them wrote
 abbrev pub started : Option Op → ℕ → ℕ → Bool
@@ -34,10 +35,6 @@ pub record Stepped (o : Option Op) (f : Found) (s n j l : ℕ) (medium value new
 pub and_true : (b : Bool) → (b && true) ≡ b
 and_true true = refl
 and_true false = refl
-
-pub or_false : (b : Bool) → (b || false) ≡ b
-or_false true = refl
-or_false false = refl
 
 pub written_only : (f : Found) → is_written f ≡ true → is_differs f ≡ false
 written_only Found.Written h = refl

@@ -46,10 +46,11 @@ use Rattle.ticket_standing.proofs.Lengths.{InTicket, granted_lie, written_length
 use Rattle.one_pass_check.specs.Kept.{Keeps, Kept, Shows, flight_in}
 use Rattle.one_pass_check.specs.Steps.{Took}
 use Rattle.one_pass_check.specs.declared.fields.InFlight.{InFlight}
-use Rattle.one_pass_check.proofs.Bounds.{opened_few, volume_few}
+use Rattle.one_pass_check.proofs.Bounds.{opened_few}
 use Rattle.one_pass_check.proofs.Flights.{IsThere, set_place}
 use Rattle.one_pass_check.proofs.InUse.{in_use_with}
 use Rattle.one_pass_check.proofs.Following.{legal_next, none_flies, took_not}
+use Rattle.nvme_model.proofs.Accepted.{accepted}
 
 -- ---- an open unit
 
@@ -177,7 +178,7 @@ module _ (c : ConfigNumbers) (past : Past) (k : Kept) (keeps : Keeps c past k) (
           made_few : length (blocks_made past may.0.ticket may.0.unit) < 2 ^ 32
           made_few =
               let further = leb-false (steps_needed (Tickets.ticket past may.0.ticket) may.0.range.blocks) (length (blocks_made past may.0.ticket may.0.unit)) (or_parts _ _ may.2.unended.goes_on).0 in
-              omega (arith, further, steps_few (is_pair (op (Tickets.ticket past may.0.ticket))) may.0.range.blocks, open_within may.0 may.1, volume_few c keeps.accepted)
+              omega (arith, further, steps_few (is_pair (op (Tickets.ticket past may.0.ticket))) may.0.range.blocks, open_within may.0 may.1, (accepted c keeps.accepted).most_blocks)
 
       -- one that reads answers nothing
       pub block_one : reads (op x.flight.ticket) ≡ true → word_of b.found ≡ []

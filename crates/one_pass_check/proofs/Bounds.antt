@@ -22,22 +22,10 @@ use Rattle.nvme_model.proofs.Lists.{Each, each_get}
 use Rattle.nvme_model.proofs.Rules.{none_holds}
 use Rattle.nvme_model.proofs.StepCounts.{cut_sum, grants_within}
 use Rattle.nvme_model.specs.Array.{IsRange}
-
--- a volume has 65,536 blocks at most
-pub volume_few : (c : ConfigNumbers) → config_fault c ≡ None → c.blocks ≤ 65536
-volume_few c e =
-    let rows = none_holds (config_faults c) (ap is_none e) in
-    ltb-false 65536 c.blocks (or_parts _ _ rows.1.1.1.1.0).1
+use Rattle.nvme_model.proofs.Accepted.{accepted}
+use Rattle.ticket_standing.proofs.Bounds.{units_sum}
 
 -- ---- the blocks of a list of units
-
-units_sum : (u : AtomicParameters) (o : Option Op) (s n : ℕ) → blocks_of_all (units_by u o s n) ≤ n
-units_sum u None s n = omega arith
-units_sum u (Some Op.Pair) s n = omega arith
-units_sum u (Some Op.Read) s n = omega (arith, cut_sum u s n)
-units_sum u (Some Op.Compare) s n = omega (arith, cut_sum u s n)
-units_sum u (Some Op.Write) s n = omega (arith, cut_sum u s n)
-units_sum u (Some Op.WriteZeroes) s n = omega (arith, cut_sum u s n)
 
 few_units : (rs : List Range) → Each (λ r. 1 ≤ r.blocks) rs → length rs ≤ blocks_of_all rs
 few_units [] e = omega arith
@@ -56,7 +44,7 @@ has_op c past t i r e = unit_works c.atomic (op (ticket past t)) (slba (first_fi
 module _ (c : ConfigNumbers) (past : Past) (t : ℕ) (h : IsLegal c past) (f : config_fault c ≡ None) (some : is_some (op (ticket past t)) ≡ true) where
   -- its command's blocks lie in a volume
   pub command_within : slba (first_fields (ticket past t)) + blocks (first_fields (ticket past t)) ≤ 65536
-  command_within = omega (arith, (ticket_checked c past t h some).first.inside, volume_few c f)
+  command_within = omega (arith, (ticket_checked c past t h some).first.inside, (accepted c f).most_blocks)
 
   -- and are few
   pub command_few : blocks (first_fields (ticket past t)) ≤ 256

@@ -42,11 +42,13 @@ use Rattle.one_pass_check.specs.Kept.{Keeps, Kept, flight_in}
 use Rattle.one_pass_check.specs.Rings.{submission_ring}
 use Rattle.one_pass_check.specs.Steps.{HasUnits, Took, units_in}
 use Rattle.one_pass_check.specs.declared.fields.InFlight.{InFlight}
-use Rattle.one_pass_check.proofs.Bounds.{volume_few}
 use Rattle.one_pass_check.proofs.Flights.{more_one}
 use Rattle.one_pass_check.proofs.InUse.{in_use_few, in_use_fetched}
 use Rattle.one_pass_check.proofs.Following.{legal_next, took_not}
-use Rattle.one_pass_check.proofs.Rings.{IsPlace, IsTable-set, apart, ring_at, there}
+use Rattle.one_pass_check.proofs.Rings.{IsPlace, apart, ring_at, there}
+use Rattle.rings.proofs.Tables.{IsTable-set}
+use Rattle.nvme_model.proofs.NextPost.{not_pair}
+use Rattle.nvme_model.proofs.Accepted.{accepted}
 
 -- ---- verdicts
 
@@ -118,16 +120,6 @@ front_none [] e = refl
 front_none (x ∷ ws) e = absurd (let f : Some x ≡ None = e in cc)
 
 -- ---- units
-
-not_pair : (e : Sqe) → is_pair (op_of_fields e) ≡ false
-not_pair e = go (is_write e) (is_read e) (is_compare e) (is_write_zeroes e)
-  where
-    go : (w r m z : Bool) → is_pair (cond w (Some Op.Write) (cond r (Some Op.Read) (cond m (Some Op.Compare) (cond z (Some Op.WriteZeroes) None)))) ≡ false
-    go true r m z = refl
-    go false true m z = refl
-    go false false true z = refl
-    go false false false true = refl
-    go false false false false = refl
 
 -- what was judged names the units
 units_named : (u : AtomicParameters) (j : Judged) (e : Sqe) → operation_in j ≡ op_by (matched.verdict_by j) e → NamesBlocks j e → units_in u j ≡ units_by u (op_by (matched.verdict_by j) e) (slba e) (blocks e)
@@ -271,7 +263,7 @@ module _ (c : ConfigNumbers) (past : Past) (k : Kept) (keeps : Keeps c past k) (
 
       -- its units lie in the volume
       pub fetch_units : HasUnits j
-      fetch_units = units_fit c j (fetched_by (tables c past) l) (operation ∙ op_is) (subst (NamesBlocks j) fields_is names) checked (volume_few c keeps.accepted)
+      fetch_units = units_fit c j (fetched_by (tables c past) l) (operation ∙ op_is) (subst (NamesBlocks j) fields_is names) checked (accepted c keeps.accepted).most_blocks
 
       -- and are those of the ticket
       units_are : units_in c.atomic j ≡ units c (fetched_by (tables c past) l)

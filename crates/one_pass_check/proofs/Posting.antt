@@ -42,49 +42,14 @@ use Rattle.one_pass_check.specs.declared.fields.InFlight.{InFlight}
 use Rattle.one_pass_check.proofs.Flights.{IsThere, less_one, set_place}
 use Rattle.one_pass_check.proofs.InUse.{in_use_posted}
 use Rattle.one_pass_check.proofs.Following.{none_flies, took_not}
-use Rattle.one_pass_check.proofs.Rings.{IsPlace, IsTable-set, apart, ring_at}
+use Rattle.one_pass_check.proofs.Rings.{IsPlace, apart, ring_at}
+use Rattle.rings.proofs.Tables.{IsTable-set}
+use Rattle.nvme_model.proofs.TicketQueues.{HasQueue, queue_there, ticket_queue}
+use Rattle.entry_codec.proofs.Phases.{same_bit}
 
 -- ---- the queue of a ticket
 
--- a fetched ticket's queue is there
-ticket_queue : (c : ConfigNumbers) (past : Past) (t : ℕ) → IsLegal c past → 1 ≤ length (Tickets.ticket past t).commands → no_queue c (Tickets.ticket past t).queue ≡ false
-ticket_queue c [] t h l = absurd (omega (arith, l))
-ticket_queue c (Entry.Fetch f ∷ past) t h l =
-    let w = follows c past (Entry.Fetch f) h in
-    go (eqb f.ticket t) w.allowed.0 (ticket_queue c past t w.before) l
-  where
-    go : (b : Bool) → no_queue c f.queue ≡ false → (1 ≤ length (Tickets.ticket past t).commands → no_queue c (Tickets.ticket past t).queue ≡ false)
-        → 1 ≤ length (cond b (Tickets.fetched_ticket past f.queue f.verdict) (Tickets.ticket past t)).commands
-        → no_queue c (cond b (Tickets.fetched_ticket past f.queue f.verdict) (Tickets.ticket past t)).queue ≡ false
-    go true e ih l = e
-    go false e ih l = ih l
-ticket_queue c (Entry.Publish e ∷ past) t h l = ticket_queue c past t (follows c past (Entry.Publish e) h).before l
-ticket_queue c (Entry.Grant e ∷ past) t h l = ticket_queue c past t (follows c past (Entry.Grant e) h).before l
-ticket_queue c (Entry.Block e ∷ past) t h l = ticket_queue c past t (follows c past (Entry.Block e) h).before l
-ticket_queue c (Entry.Post e ∷ past) t h l = ticket_queue c past t (follows c past (Entry.Post e) h).before l
-ticket_queue c (Entry.Reap e ∷ past) t h l = ticket_queue c past t (follows c past (Entry.Reap e) h).before l
-
--- the number of a queue that is there
-pub record HasQueue (c : ConfigNumbers) (q : ℕ) : Type 0 where
-  pub low : 1 ≤ q
-  pub high : q ≤ c.pairs
-
-queue_there : (c : ConfigNumbers) (q : ℕ) → no_queue c q ≡ false → HasQueue c q
-queue_there c q e =
-    let a = or_parts (eqb q 0) (nat_lt c.pairs q) e in
-    record { low = low q a.0; high = ltb-false _ _ a.1 }
-  where
-    low : (q : ℕ) → eqb q 0 ≡ false → 1 ≤ q
-    low zero e = absurd cc
-    low (suc q) e = omega arith
-
 -- ---- the ring after one more
-
-same_bit : (a b : Bool) → phase_bit a ≡ phase_bit b → a ≡ b
-same_bit true true e = refl
-same_bit false false e = refl
-same_bit true false e = absurd (omega (arith, e))
-same_bit false true e = absurd (omega (arith, e))
 
 abbrev filled : ℕ → Completion → Completed
 filled n d = record { posted = replicate n d; reaped = 0 }

@@ -15,7 +15,8 @@ use Rattle.rings.specs.Submissions.{SubmissionRing, batch_fault}
 use Rattle.one_pass_check.specs.Kept.{Keeps, Kept}
 use Rattle.one_pass_check.specs.Rings.{submission_ring}
 use Rattle.one_pass_check.specs.Steps.{Took}
-use Rattle.one_pass_check.proofs.Rings.{IsPlace, IsTable-set, apart, ring_at, there}
+use Rattle.one_pass_check.proofs.Rings.{IsPlace, apart, ring_at, there}
+use Rattle.rings.proofs.Tables.{IsTable-set}
 
 -- what the rule says of it, at a queue that is there
 publish_judged : (c : ConfigNumbers) (s : Tables) (p : PublishLine) → no_queue c p.queue ≡ false → judged c s (Entry.Publish p) ≡ is_none (batch_fault (submission_ring c s p.queue) p.batch)

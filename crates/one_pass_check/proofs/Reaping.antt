@@ -16,7 +16,8 @@ use Rattle.rings.specs.declared.completion_ring.Completion.{Completion}
 use Rattle.one_pass_check.specs.Kept.{Keeps, Kept}
 use Rattle.one_pass_check.specs.Rings.{bare, completion_ring}
 use Rattle.one_pass_check.specs.Steps.{Took}
-use Rattle.one_pass_check.proofs.Rings.{IsPlace, IsTable-set, apart, ring_at, there}
+use Rattle.one_pass_check.proofs.Rings.{IsPlace, apart, ring_at, there}
+use Rattle.rings.proofs.Tables.{IsTable-set}
 
 -- what the rule says of what isn't reaped, at a queue that is there
 abbrev reap_by : Bool → List PostLine → List ℕ → Bool

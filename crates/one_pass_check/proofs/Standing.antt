@@ -26,18 +26,10 @@ use Rattle.one_pass_check.specs.Rings.{completion_ring, submission_ring}
 use Rattle.one_pass_check.specs.Steps.{Took}
 use Rattle.one_pass_check.specs.declared.fields.InFlight.{InFlight}
 use Rattle.one_pass_check.proofs.Following.{legal_next}
-use Rattle.one_pass_check.proofs.Rings.{IsTable-replicate}
+use Rattle.rings.proofs.Tables.{IsTable-replicate}
+use Rattle.rings.proofs.Beginnings.{completion_empty, submission_empty}
 
 -- ---- no entry
-
-pub cq_is_size : (c : ConfigNumbers) → config_fault c ≡ None → IsSize c.cq_size
-cq_is_size c e = ((accepted c e).least_cq_slots, (accepted c e).most_cq_slots)
-
-abbrev submission_empty : ℕ → SubmissionRing
-submission_empty size = record { size = size; head = 0; waiting = [] }
-
-abbrev completion_empty : ℕ → CompletionRing
-completion_empty size = record { size = size; tail = 0; phase = true; waiting = [] }
 
 submission_begins : (c : ConfigNumbers) (k : ℕ) → submission_ring c (tables c []) k ≡ submission_empty c.sq_size
 submission_begins c k = ap (λ n. record (submission_empty c.sq_size) { head = n }) (zero-mod c.sq_size)

@@ -1,3 +1,5 @@
 pub mod Counts
 pub mod Queues
 pub mod Rotation
+pub mod Tables
+pub mod Beginnings

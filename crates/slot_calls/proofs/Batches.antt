@@ -11,7 +11,7 @@ use Rattle.host_laws.proofs.Spelling.{name_spelled}
 use Rattle.driver_commands.specs.Entries.{IsBatch}
 use Rattle.driver_commands.specs.declared.request.CallData.{CallData}
 use Rattle.driver_commands.proofs.Calls.{call_on_one}
-use Rattle.driver_commands.proofs.Commands.{command_proper}
+use Rattle.driver_commands.proofs.Commands.{command_proper, halves}
 use Rattle.slot_calls.specs.Calls.{IsClaimBatch, IsName, IsReleaseBatch}
 
 -- what the entries of a fused pair of one block have
@@ -25,9 +25,6 @@ pub record PairOf (l : ℕ) (expected desired : List ℕ) (batch : List Submissi
   pub new : second.payload ≡ desired
   pub first_proper : is_proper first ≡ true
   pub second_proper : is_proper second ≡ true
-
-halves : (l : ℕ) → l % 2 ^ 32 + 2 ^ 32 * (l / 2 ^ 32) ≡ l
-halves l = omega arith
 
 pub pair_of : (l first second : ℕ) (expected desired : List ℕ) (batch : List Submission) → IsBatch Op.Pair l 1 first second (CallData.Two expected desired) batch → PairOf l expected desired batch
 pair_of l first second expected desired [] h = absurd h

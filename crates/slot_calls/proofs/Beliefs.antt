@@ -2,7 +2,7 @@
 use Rattle.std.proofs.Common.{List, ap, eq-eqb, eqb, eqb-true, false, not, suc, true, ℕ, ◌&&◌, ◌≡◌}
 use Rattle.std.proofs.lemmas.Bool.{and_from, and_parts}
 use Rattle.nvme_model.specs.Slots.{Name, Swap, same_name}
-use Rattle.host_laws.proofs.Bools.{not_true}
+use Rattle.nvme_model.proofs.Bools.{not_true}
 use Rattle.host_laws.proofs.Elements.{In, any_in, in_any}
 use Rattle.host_laws.proofs.Names.{name_eq, name_same}
 use Rattle.driver_calls.specs.declared.event.PortEvent.{PortEvent}

@@ -11,7 +11,7 @@ use Rattle.nvme_model.specs.declared.config.ConfigNumbers.{ConfigNumbers}
 use Rattle.nvme_model.proofs.Written.{clash}
 use Rattle.host_laws.specs.Claims.{claims_only_on, is_released_on}
 use Rattle.host_laws.proofs.Beliefs.{claimed}
-use Rattle.host_laws.proofs.Bools.{not_true}
+use Rattle.nvme_model.proofs.Bools.{not_true}
 use Rattle.host_laws.proofs.Claims.{all_in, none_any, won_believed}
 use Rattle.host_laws.proofs.Elements.{In, in_contains, in_filter, none_in}
 use Rattle.host_laws.proofs.Successes.{reaped_is_success, success_reaped}

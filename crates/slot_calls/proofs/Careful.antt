@@ -8,7 +8,7 @@ use Rattle.nvme_model.specs.Slots.{Name, Swap, in_area, swaps_in, touches}
 use Rattle.nvme_model.specs.declared.array.Range.{Range}
 use Rattle.nvme_model.specs.declared.submission.Submission.{Submission}
 use Rattle.nvme_model.proofs.Written.{clash}
-use Rattle.host_laws.proofs.Bools.{not_true}
+use Rattle.nvme_model.proofs.Bools.{not_true}
 use Rattle.host_laws.proofs.Claims.{all_from, all_in}
 use Rattle.host_laws.proofs.Publishing.{claim_at, filter_append, no_swaps, release_at}
 use Rattle.driver_calls.specs.Log.{sent}

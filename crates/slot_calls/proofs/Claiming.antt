@@ -7,7 +7,7 @@ use Rattle.nvme_model.specs.Slots.{Name, Swap, in_area, releases, swaps_in, touc
 use Rattle.nvme_model.specs.declared.array.Range.{Range}
 use Rattle.nvme_model.specs.declared.submission.Submission.{Submission}
 use Rattle.nvme_model.proofs.Written.{clash}
-use Rattle.host_laws.proofs.Bools.{not_true}
+use Rattle.nvme_model.proofs.Bools.{not_true}
 use Rattle.host_laws.proofs.Claims.{all_in, none_any}
 use Rattle.host_laws.proofs.Elements.{In, in_cases, in_filter, in_right}
 use Rattle.host_laws.proofs.Publishing.{no_swaps}

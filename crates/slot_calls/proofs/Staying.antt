@@ -7,7 +7,7 @@ use Rattle.nvme_model.specs.Array.{has_block}
 use Rattle.nvme_model.specs.Slots.{Name, Swap, releases, same_name, swaps_in, touches}
 use Rattle.nvme_model.specs.declared.array.Range.{Range}
 use Rattle.nvme_model.specs.declared.submission.Submission.{Submission}
-use Rattle.host_laws.proofs.Bools.{not_true}
+use Rattle.nvme_model.proofs.Bools.{not_true}
 use Rattle.host_laws.proofs.Claims.{none_any}
 use Rattle.host_laws.proofs.Elements.{In, in_filter, in_right}
 use Rattle.host_laws.proofs.Names.{name_eq}

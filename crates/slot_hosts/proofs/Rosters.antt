@@ -17,7 +17,8 @@ use Rattle.nvme_model.proofs.Written.{clash}
 use Rattle.host_laws.specs.Beside.{IsSole, is_beside}
 use Rattle.host_laws.specs.Claims.{claims_only_on}
 use Rattle.host_laws.specs.Discipline.{keeps_at}
-use Rattle.host_laws.proofs.Bools.{not_false, not_true}
+use Rattle.nvme_model.proofs.Bools.{not_true}
+use Rattle.nvme_model.proofs.Bools.{not_false}
 use Rattle.host_laws.proofs.Claims.{all_from}
 use Rattle.host_laws.proofs.Discipline.{kept_before}
 use Rattle.host_laws.proofs.Elements.{In, in_cases, of_filter}

@@ -19,20 +19,10 @@ use Rattle.rings.specs.Submissions.{SubmissionRing}
 use Rattle.rings.specs.Queues.{completion_ring, submission_ring}
 use Rattle.cids_in_use.proofs.Counts.{none_used}
 use Rattle.step_core.specs.Kept.{CoreFields, IsKept}
-use Rattle.step_core.proofs.Tables.{IsTable-replicate}
-
--- the size of a completion queue that is accepted
-pub cq_is_size : (c : ConfigNumbers) → config_fault c ≡ None → IsSize c.cq_size
-cq_is_size c e = ((accepted c e).least_cq_slots, (accepted c e).most_cq_slots)
+use Rattle.rings.proofs.Tables.{IsTable-replicate}
+use Rattle.rings.proofs.Beginnings.{completion_empty, submission_empty}
 
 -- ---- no history
-
--- rings in which nothing waits
-abbrev pub submission_empty : ℕ → SubmissionRing
-submission_empty size = record { size = size; head = 0; waiting = [] }
-
-abbrev pub completion_empty : ℕ → CompletionRing
-completion_empty size = record { size = size; tail = 0; phase = true; waiting = [] }
 
 -- the rings of the queues
 submission_begins : (c : ConfigNumbers) (k : ℕ) → submission_ring c [] k ≡ submission_empty c.sq_size

@@ -47,6 +47,7 @@ use Rattle.ticket_course.specs.declared.course.Stage.TheVariants.{Open}
 use Rattle.job_table.specs.Tickets.{compare_bytes, job_at, job_by, read_bytes_by}
 use Rattle.rings.specs.Tables.{IsTable}
 use Rattle.step_core.proofs.Granting.{any_found, job_stage}
+use Rattle.nvme_model.proofs.Bools.{not_false}
 
 -- ---- the unit that a Block is of
 
@@ -59,11 +60,6 @@ pub record IsUnit (c : ConfigNumbers) (past : Past) (t : ℕ) (g : GrantLine) (o
   pub last : suc g.unit ≡ grants_of past t
   pub inside : Within (slba (first_fields (ticket past t))) (blocks (first_fields (ticket past t))) g.range
   pub place : slice_get (units c (ticket past t)) g.unit ≡ Some g.range
-
--- a test whose contrary fails passes
-pub not_false : (b : Bool) → not b ≡ false → b ≡ true
-not_false true h = refl
-not_false false h = cc
 
 some_is : {X : Type 0} (o : Option X) → is_some o ≡ true → (x : X) × (o ≡ Some x)
 some_is None e = absurd cc

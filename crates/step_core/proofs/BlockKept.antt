@@ -31,7 +31,8 @@ use Rattle.rings.specs.Tables.{IsTable}
 use Rattle.step_core.proofs.BlockData.{IsUnit, place_within, range_inside, unended}
 use Rattle.step_core.proofs.Blocked.{done_now, is_equal, line_now}
 use Rattle.step_core.proofs.ReadBytes.{cut_place, read_next, zeros_left}
-use Rattle.step_core.proofs.Tables.{IsTable-same, IsTable-set}
+use Rattle.rings.proofs.Tables.{IsTable-same}
+use Rattle.rings.proofs.Tables.{IsTable-set}
 use Rattle.step_core.proofs.Written.{written_now}
 
 -- ---- what each operation finds

@@ -42,11 +42,12 @@ use Rattle.step_core.specs.Kept.{CoreFields, IsKept}
 use Rattle.rings.specs.Tables.{IsTable}
 use Rattle.controller_steps.specs.State.{Does, Room, State, TakesRoom, answer_of}
 use Rattle.controller_steps.specs.declared.answer.Answer.{Answer}
-use Rattle.step_core.proofs.BlockData.{IsUnit, done_same, finds_same, not_false, stage_is, unit_found}
+use Rattle.step_core.proofs.BlockData.{IsUnit, done_same, finds_same, stage_is, unit_found}
+use Rattle.nvme_model.proofs.Bools.{not_false}
 use Rattle.step_core.proofs.BlockKept.{read_now, volume_now}
 use Rattle.step_core.proofs.Blocked.{done_is, done_now, ended_is, entry_is, is_equal, job_now, line_now}
 use Rattle.step_core.proofs.Moves.{job_found, jobs_moved, legal_after, stepped as next_kept}
-use Rattle.step_core.proofs.Tables.{IsTable-same}
+use Rattle.rings.proofs.Tables.{IsTable-same}
 use Rattle.step_core.proofs.Written.{can_make}
 use Rattle.step_core.proofs.WrittenOn.{write_now}
 

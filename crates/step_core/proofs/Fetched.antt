@@ -60,7 +60,8 @@ use Rattle.step_core.proofs.Fetching.{blocks_most, front_command, full_is}
 use Rattle.cids_in_use.proofs.Counts.{count_append, same_length, used_at, used_set}
 use Rattle.step_core.proofs.InUse.{count_fetched, two_each}
 use Rattle.step_core.proofs.Moves.{legal_after, stepped}
-use Rattle.step_core.proofs.Tables.{IsTable-same, IsTable-set}
+use Rattle.rings.proofs.Tables.{IsTable-same}
+use Rattle.rings.proofs.Tables.{IsTable-set}
 
 -- no refusal, and what is found of the entries
 abbrev pub IsFetched : ConfigNumbers → Past → ℕ → Front → Type 0

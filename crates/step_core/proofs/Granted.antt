@@ -38,7 +38,7 @@ use Rattle.job_table.specs.Keeping.{Keeping, opened_job}
 use Rattle.ticket_course.specs.Shown.{stage_of}
 use Rattle.ticket_course.specs.Stages.{IsFirst, opened_in}
 use Rattle.ticket_course.specs.declared.course.Stage.{Stage}
-use Rattle.ticket_course.proofs.Granted.{granted, none_found}
+use Rattle.ticket_course.proofs.Granted.{granted, none_found, units_of_op}
 use Rattle.ticket_course.proofs.Waits.{Waits, first_of, opens}
 use Rattle.job_table.specs.Tickets.{compare_bytes, job_at, job_by, read_bytes_by, still_written}
 use Rattle.rings.specs.Queues.{completion_ring, submission_ring}
@@ -48,7 +48,7 @@ use Rattle.step_core.specs.declared.controller.next.Next.{Next}
 use Rattle.step_core.proofs.Bounds.{unit_range_is}
 use Rattle.step_core.proofs.Granting.{job_stage}
 use Rattle.step_core.proofs.Moves.{job_found, jobs_moved, legal_after, stepped}
-use Rattle.step_core.proofs.Tables.{IsTable-same}
+use Rattle.rings.proofs.Tables.{IsTable-same}
 use Rattle.step_core.proofs.Written.{granted_blocks, with_unit}
 
 -- ---- the job of a ticket with a unit just opened
@@ -91,11 +91,6 @@ completion_kept c past g q = refl
 line_mode : (past : Past) (t : ℕ) (o : Option Range) (g : GrantLine) → Entry.Grant g ≡ grant_entry past t o → g.mode ≡ mode (ticket past t)
 line_mode past t None g e = let w : g ≡ record { ticket = t; unit = 0; range = record { slba = 0; blocks = 0 }; mode = mode (ticket past t) } = cc in ap (λ (x : GrantLine). x.mode) w
 line_mode past t (Some r) g e = let w : g ≡ record { ticket = t; unit = grants_of past t; range = r; mode = mode (ticket past t) } = cc in ap (λ (x : GrantLine). x.mode) w
-
-units_of_op : (u : AtomicParameters) (o : Option Op) (s n i : ℕ) (r : Range) → slice_get (units_by u o s n) i ≡ Some r → is_some o ≡ true
-units_of_op u (Some o) s n i r e = refl
-units_of_op u None s n zero r e = absurd (let f : None ≡ Some r = e in cc)
-units_of_op u None s n (suc i) r e = absurd (let f : None ≡ Some r = e in cc)
 
 module _ (c : ConfigNumbers) (past : Past) (fields : CoreFields) (k : IsKept c past fields) (g : GrantLine) (a : IsNext c past (Next.Grant g)) where
   abbrev v : List (List ℕ)

@@ -1,4 +1,3 @@
-pub mod Tables
 pub mod Moves
 pub mod Lookups
 pub mod Accepted

@@ -42,8 +42,11 @@ use Rattle.step_core.specs.Found.{IsNext}
 use Rattle.step_core.specs.declared.controller.next.Next.{Next}
 use Rattle.step_core.specs.declared.controller.post.Due.{Due}
 use Rattle.step_core.proofs.Moves.{job_found, stepped}
-use Rattle.step_core.proofs.Tables.{IsTable-same, IsTable-set}
-use Rattle.step_core.proofs.Posting.{due_full, flies_some, queue_there, ticket_queue}
+use Rattle.rings.proofs.Tables.{IsTable-same}
+use Rattle.rings.proofs.Tables.{IsTable-set}
+use Rattle.step_core.proofs.Posting.{due_full, flies_some}
+use Rattle.nvme_model.proofs.TicketQueues.{ticket_queue}
+use Rattle.nvme_model.proofs.TicketQueues.{queue_there}
 use Rattle.cids_in_use.proofs.Counts.{count_cons, is_among, one_less, used_at, used_set}
 use Rattle.step_core.proofs.InUse.{count_posted, ticket_zero}
 use Rattle.nvme_model.proofs.Apart.{fetched_if}

@@ -15,6 +15,7 @@ use Rattle.rings.specs.Completions.{Completed, CompletionRing, ShowsCompleted, p
 use Rattle.rings.specs.declared.completion_ring.Completion.{Completion}
 use Rattle.rings.proofs.Counts.{completed_more}
 use Rattle.rings.specs.Queues.{completion_of, completion_ring}
+use Rattle.entry_codec.proofs.Phases.{same_bit}
 
 -- the ring of m slots that shows these Posts, k of them reaped
 abbrev pub ring_of : ℕ → List PostLine → ℕ → CompletionRing
@@ -33,12 +34,6 @@ map_drop (suc k) (p ∷ ps) = map_drop k ps
 map_push : (ps : List PostLine) (p : PostLine) → map completion_of (ps ++ p ∷ []) ≡ map completion_of ps ++ completion_of p ∷ []
 map_push [] p = refl
 map_push (x ∷ ps) p = ap (λ ys. completion_of x ∷ ys) (map_push ps p)
-
-same_bit : (a b : Bool) → phase_bit a ≡ phase_bit b → a ≡ b
-same_bit true true e = refl
-same_bit false false e = refl
-same_bit true false e = absurd (omega (arith, e))
-same_bit false true e = absurd (omega (arith, e))
 
 -- a ring that shows them is that ring
 pub shows_is : (m : ℕ) (ps : List PostLine) (k : ℕ) (r : CompletionRing) → ShowsCompleted (shown ps k) r → r.size ≡ m → r ≡ ring_of m ps k

@@ -23,7 +23,8 @@ use Rattle.step_core.specs.Kept.{CoreFields, IsKept}
 use Rattle.step_core.specs.Found.{IsSqRing}
 use Rattle.step_core.proofs.Lookups.{sq_read}
 use Rattle.step_core.proofs.Moves.{stepped}
-use Rattle.step_core.proofs.Tables.{IsTable-same, IsTable-set}
+use Rattle.rings.proofs.Tables.{IsTable-same}
+use Rattle.rings.proofs.Tables.{IsTable-set}
 
 -- ---- what refuses it
 

@@ -29,7 +29,8 @@ use Rattle.controller_steps.specs.State.{answer_of, payload_of}
 use Rattle.controller_steps.specs.declared.answer.Answer.{Answer}
 use Rattle.step_core.proofs.Lookups.{cq_read}
 use Rattle.step_core.proofs.Moves.{stepped}
-use Rattle.step_core.proofs.Tables.{IsTable-same, IsTable-set}
+use Rattle.rings.proofs.Tables.{IsTable-same}
+use Rattle.rings.proofs.Tables.{IsTable-set}
 
 -- ---- what waits
 

@@ -30,7 +30,7 @@ none_found f (x ∷ xs) e =
     let parts = or_parts (f x) (list_any f xs) e in
     ap (λ z. cond z (Some x) (find f xs)) parts.0 ∙ none_found f xs parts.1
 
-units_of_op : (u : AtomicParameters) (o : Option Op) (s n i : ℕ) (r : Range) → slice_get (units_by u o s n) i ≡ Some r → is_some o ≡ true
+pub units_of_op : (u : AtomicParameters) (o : Option Op) (s n i : ℕ) (r : Range) → slice_get (units_by u o s n) i ≡ Some r → is_some o ≡ true
 units_of_op u (Some o) s n i r e = refl
 units_of_op u None s n zero r e = absurd (let f : None ≡ Some r = e in cc)
 units_of_op u None s n (suc i) r e = absurd (let f : None ≡ Some r = e in cc)

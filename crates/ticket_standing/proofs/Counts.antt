@@ -22,6 +22,7 @@ use Rattle.nvme_model.specs.declared.status.Status.{Status}
 use Rattle.nvme_model.specs.declared.status.Verdict.{Verdict}
 use Rattle.nvme_model.specs.declared.submission.Submission.{Submission}
 use Rattle.nvme_model.specs.Tickets
+use Rattle.nvme_model.proofs.Lists.{drop_map}
 
 -- ---- how many entries a Fetch takes
 
@@ -151,12 +152,6 @@ drop_none zero [] l = refl
 drop_none zero (x ∷ xs) l = absurd (omega (arith, l))
 drop_none (suc n) [] l = refl
 drop_none (suc n) (x ∷ xs) l = drop_none n xs (omega (arith, l))
-
-drop_map : {X Y : Type 0} (f : X → Y) (p : Y → Bool) (n : ℕ) (xs : List X) → list_any p (drop n (map f xs)) ≡ list_any (λ x. p (f x)) (drop n xs)
-drop_map f p zero [] = refl
-drop_map f p zero (x ∷ xs) = ap (λ b. p (f x) || b) (drop_map f p zero xs)
-drop_map f p (suc n) [] = refl
-drop_map f p (suc n) (x ∷ xs) = drop_map f p n xs
 
 abbrev pub owing : Past → ℕ → ℕ → ℕ → Bool
 owing past q cid t = eqb (Tickets.ticket past t).queue q && list_any (λ (s : Submission). eqb (sqe_fields s.entry).cid cid) (drop (posts_of past t) (Tickets.ticket past t).commands)

@@ -12,7 +12,8 @@ use Rattle.nvme_model.specs.Tickets.{Ticket, in_flight, posts_of}
 use Rattle.nvme_model.specs.Legal.{IsLegal}
 use Rattle.ticket_standing.specs.Standing.{rising, flying}
 use Rattle.nvme_model.proofs.Lists.{Each, each_map, each_filter}
-use Rattle.ticket_standing.proofs.TicketLists.{has, each_append, rising_each}
+use Rattle.ticket_standing.proofs.TicketLists.{has, rising_each}
+use Rattle.nvme_model.proofs.Lists.{each_append}
 use Rattle.nvme_model.proofs.Rules.{follows, fetch_number}
 use Rattle.nvme_model.proofs.Apart.{fetched_if}
 

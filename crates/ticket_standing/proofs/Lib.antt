@@ -13,3 +13,4 @@ pub mod Joined
 pub mod Lengths
 pub mod ReadPlace
 pub mod WholeRead
+pub mod Bounds

@@ -23,7 +23,7 @@ use Rattle.nvme_model.proofs.Holding.{open_kept}
 
 -- ---- a Grant
 
-some_needed : (k : Ticket) (n : ℕ) → 1 ≤ n → 1 ≤ steps_needed k n
+pub some_needed : (k : Ticket) (n : ℕ) → 1 ≤ n → 1 ≤ steps_needed k n
 some_needed k n l = go (is_pair (op k))
   where
     go : (b : Bool) → 1 ≤ cond b (2 * n) n

@@ -26,7 +26,7 @@ use Rattle.nvme_model.specs.Steps.{marked}
 use Rattle.nvme_model.specs.Legal.{IsLegal}
 use Rattle.nvme_model.specs.Laws.{MarkedRight}
 use Rattle.ticket_standing.specs.Standing.{Standing, standing, has_run, on_differs, on_success, owed_running, owed_by_standing, still_owed}
-use Rattle.nvme_model.proofs.Lists.{each_both, each_find}
+use Rattle.nvme_model.proofs.Lists.{each_both, each_find, all_true}
 use Rattle.nvme_model.proofs.Rules.{follows}
 use Rattle.nvme_model.proofs.Apart.{ticket_kept}
 use Rattle.nvme_model.proofs.Blocks.{MayBlock, may_block, no_blocks, same_made, at_key, grants_before, range_before}
@@ -163,10 +163,6 @@ none_found f p (x ∷ xs) = go (p x) (none_found f p xs)
     go : (b : Bool) → is_none (option_map f (find p xs)) ≡ not (list_any p xs) → is_none (option_map f (cond b (Some x) (find p xs))) ≡ not (b || list_any p xs)
     go true ih = refl
     go false ih = ih
-
-all_true : {X : Type 0} (xs : List X) → list_all (λ x. true) xs ≡ true
-all_true [] = refl
-all_true (x ∷ xs) = all_true xs
 
 run_ended : (c : ConfigNumbers) (past : Past) (t : ℕ) → IsLegal c past → length (units c (Tickets.ticket past t)) ≤ grants_of past t → has_open past t ≡ false → all_ended c past t ≡ true
 run_ended c past t h l o =

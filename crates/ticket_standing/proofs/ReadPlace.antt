@@ -32,7 +32,7 @@ use Rattle.ticket_standing.proofs.Lengths.{medium_length}
 use Rattle.nvme_model.proofs.Written.{clash}
 
 -- what a Read's Block says
-read_word : (n j : ℕ) (f : Found) → may_find (Some Op.Read) n j f ≡ true → (is_read_found f ≡ true) × (is_differs f ≡ false)
+pub read_word : (n j : ℕ) (f : Found) → may_find (Some Op.Read) n j f ≡ true → (is_read_found f ≡ true) × (is_differs f ≡ false)
 read_word n j Found.Read h = (refl, refl)
 read_word n j Found.Equal h = absurd cc
 read_word n j Found.Differs h = absurd cc

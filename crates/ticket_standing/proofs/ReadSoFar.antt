@@ -35,6 +35,7 @@ use Rattle.nvme_model.specs.declared.entry.GrantLine.{GrantLine}
 use Rattle.nvme_model.specs.declared.operation.Found.{Found}
 use Rattle.nvme_model.specs.declared.operation.Op.{Op}
 use Rattle.nvme_model.specs.Tickets
+use Rattle.ticket_standing.proofs.ReadPlace.{read_word}
 
 -- what the Block steps of unit u of ticket t have read
 abbrev pub unit_bytes : Past → ℕ → ℕ → List ℕ
@@ -73,12 +74,6 @@ flat_same f g s zero h = refl
 flat_same f g s (suc n) h = (λ i. h s (omega arith) (omega arith) i ++ flat_same f g (suc s) n (λ l a b. h l (omega (arith, a)) (omega (arith, b))) i)
 
 -- ---- a Block of the unit itself
-
-read_word : (n j : ℕ) (f : Found) → may_find (Some Op.Read) n j f ≡ true → (is_read_found f ≡ true) × (is_differs f ≡ false)
-read_word n j Found.Read h = (refl, refl)
-read_word n j Found.Equal h = absurd cc
-read_word n j Found.Differs h = absurd cc
-read_word n j Found.Written h = absurd cc
 
 own_read : (c : ConfigNumbers) (past : Past) (b : BlockLine) (g : GrantLine) → IsLegal c past → MarkedRight (Entry.Block b ∷ past)
     → find (λ x. eqb x.ticket b.ticket) (open_units past) ≡ Some g → MayBlock past b g → Reading past b.ticket b.unit → Reading (Entry.Block b ∷ past) b.ticket b.unit

@@ -81,7 +81,7 @@ block_on c past b g h found m on =
     ∙ ap (option_map (unit_of (Entry.Block b ∷ past))) found
     ∙ (λ i. Some (record { line = g; made = (ap length (same_made b g.ticket g.unit (blocks_made past g.ticket g.unit) (sym m.ticket) m.unit) ∙ sym (add-one _)) i })))
 
-find_apart : (t : ℕ) (gs : List GrantLine) → find (λ x. eqb x.ticket t) (filter (λ x. not (eqb x.ticket t)) gs) ≡ None
+pub find_apart : (t : ℕ) (gs : List GrantLine) → find (λ x. eqb x.ticket t) (filter (λ x. not (eqb x.ticket t)) gs) ≡ None
 find_apart t [] = refl
 find_apart t (g ∷ gs) = by (find_apart t gs) (eqb g.ticket t) refl
   where

@@ -3,7 +3,7 @@ use Rattle.std.proofs.Common.{◌≡◌, ℕ, zero, suc, ◌≤◌, Bool, true, 
 use Rattle.std.specs.List.{filter, find, list_any}
 use Rattle.std.proofs.lemmas.Bool.{cases_Bool, cond-true, cond-false}
 use Rattle.ticket_standing.specs.Standing.{rising}
-use Rattle.nvme_model.proofs.Lists.{Each, each_map}
+use Rattle.nvme_model.proofs.Lists.{Each, each_map, each_append}
 
 -- a list has this number
 abbrev pub has : ℕ → List ℕ → Bool
@@ -23,11 +23,6 @@ or_false true b e = absurd cc
 pub filter_each : {X : Type 0} (p q : X → Bool) (xs : List X) → Each (λ x. p x ≡ q x) xs → filter p xs ≡ filter q xs
 filter_each p q [] h = refl
 filter_each p q (x ∷ xs) h = (λ i. cond (h.0 i) (x ∷ filter_each p q xs h.1 i) (filter_each p q xs h.1 i))
-
--- what holds of each element of both holds of each of their join
-pub each_append : {X : Type 0} (P : X → Type 0) (xs ys : List X) → Each P xs → Each P ys → Each P (xs ++ ys)
-each_append P [] ys h k = k
-each_append P (x ∷ xs) ys h k = (h.0, each_append P xs ys h.1 k)
 
 -- each number from 1 to n is n at most
 pub rising_each : (n : ℕ) → Each (λ t. t ≤ n) (rising n)

@@ -22,10 +22,7 @@ use Rattle.nvme_model.proofs.Rules.{follows, fetch_number}
 use Rattle.nvme_model.proofs.Apart.{ticket_kept, granted_known, fetched_if}
 use Rattle.nvme_model.proofs.Blocks.{may_block}
 use Rattle.nvme_model.proofs.Holding.{open_kept}
-
-not_false : (b : Bool) → not b ≡ false → b ≡ true
-not_false true h = refl
-not_false false h = cc
+use Rattle.nvme_model.proofs.Bools.{not_false}
 
 none_find : (t : ℕ) (xs : List GrantLine) → Each (λ g. g.ticket < t) xs → find (λ g. eqb g.ticket t) xs ≡ None
 none_find t [] h = refl

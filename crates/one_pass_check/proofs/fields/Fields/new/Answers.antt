@@ -1,4 +1,5 @@
-use Rattle.one_pass_check.proofs.Standing.{cq_is_size, keeps_none}
+use Rattle.one_pass_check.proofs.Standing.{keeps_none}
+use Rattle.rings.proofs.Beginnings.{cq_is_size}
 use Rattle.one_pass_check.proofs.fields.Fields.new.Goals as goal
 
 pub cq_rings-requires : goal.cq_rings-requires

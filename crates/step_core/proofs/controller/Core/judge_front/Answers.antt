@@ -8,7 +8,7 @@ use Rattle.nvme_model.specs.declared.config.ConfigNumbers.{ConfigNumbers}
 use Rattle.controller_steps.specs.State.{State}
 use Rattle.step_core.proofs.Fetching.{judged_by}
 use Rattle.cids_in_use.proofs.Counts.{used_at}
-use Rattle.step_core.proofs.Posting.{queue_there}
+use Rattle.nvme_model.proofs.TicketQueues.{queue_there}
 use Rattle.step_core.proofs.controller.Core.judge_front.Goals as goal
 
 pub returns-clause-verdict : goal.returns-clause-verdict

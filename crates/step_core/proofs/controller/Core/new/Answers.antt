@@ -1,5 +1,6 @@
 use Rattle.std.proofs.Common.{arith, refl}
-use Rattle.step_core.proofs.Beginning.{begins, cq_is_size}
+use Rattle.step_core.proofs.Beginning.{begins}
+use Rattle.rings.proofs.Beginnings.{cq_is_size}
 use Rattle.step_core.proofs.controller.Core.new.Goals as goal
 
 pub cq_rings-requires : goal.cq_rings-requires
