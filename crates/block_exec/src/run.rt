@@ -94,7 +94,7 @@ impl Run {
     {
         let needed = match self.op {
             Op::Pair => 2 * self.range.blocks,
-            _ => self.range.blocks,
+            Op::Read | Op::Compare | Op::Write | Op::WriteZeroes => self.range.blocks,
         };
         self.differed || self.made >= needed
     }
@@ -143,7 +143,8 @@ impl Run {
     {
         match self.op {
             Op::Write | Op::WriteZeroes => self.made == 0,
-            _ => self.made + 1 == self.range.blocks || found == Found::Differs,
+            Op::Read | Op::Compare | Op::Pair => self.made + 1 == self.range.blocks
+                || found == Found::Differs,
         }
     }
 

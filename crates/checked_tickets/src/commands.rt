@@ -128,7 +128,11 @@ impl Commands {
         match self.op() {
             Some(Op::WriteZeroes) => zero_block(),
             Some(Op::Pair) => block_of(self.second_payload(), slba, lba),
-            _ => block_of(self.first.payload.as_slice(), slba, lba),
+            Some(Op::Read | Op::Compare | Op::Write) | None => block_of(
+                self.first.payload.as_slice(),
+                slba,
+                lba,
+            ),
         }
     }
 
@@ -167,7 +171,7 @@ pub(crate) fn has_write(op: Option<Op>) -> bool
 {
     match op {
         Some(Op::Write | Op::WriteZeroes | Op::Pair) => true,
-        _ => false,
+        Some(Op::Read | Op::Compare) | None => false,
     }
 }
 
@@ -177,7 +181,7 @@ pub(crate) fn has_compare(op: Option<Op>) -> bool
 {
     match op {
         Some(Op::Compare | Op::Pair) => true,
-        _ => false,
+        Some(Op::Read | Op::Write | Op::WriteZeroes) | None => false,
     }
 }
 

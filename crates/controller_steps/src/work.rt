@@ -75,7 +75,7 @@ impl Work {
     {
         match self.kind {
             Kind::Units(_, range) => Some(self.units.cut(range.slba, range.blocks)),
-            _ => None,
+            Kind::Failed(_) | Kind::Flush | Kind::Pair(_) => None,
         }
     }
 }

@@ -63,7 +63,7 @@ fn units_of(alloc: Global, config: &Config, judged: &Judged) -> Result<Vec<Range
             units.push(*range)?;
             Ok(units)
         }
-        _ => Ok(Vec::new(alloc)),
+        Judged::Flush | Judged::SingleFailed(_) | Judged::PairFailed(_, _) => Ok(Vec::new(alloc)),
     }
 }
 

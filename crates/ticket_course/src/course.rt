@@ -103,7 +103,7 @@ impl Course {
         match self.stage {
             Stage::Waiting(Op::Pair, _, left) => Some(left),
             Stage::Waiting(_, _, left) => units.cut(left.slba, left.blocks).next(),
-            _ => None,
+            Stage::Open(_, _, _) | Stage::Owing(_) => None,
         }
     }
 
@@ -130,7 +130,7 @@ impl Course {
     {
         match self.stage {
             Stage::Open(run, _, _) => Some(run),
-            _ => None,
+            Stage::Waiting(_, _, _) | Stage::Owing(_) => None,
         }
     }
 
@@ -218,7 +218,7 @@ fn owed_on_differs(op: Op) -> Owed
 {
     match op {
         Op::Pair => Owed::two(Status::COMPARE_FAILURE, Status::FAILED_FUSED),
-        _ => Owed::one(Status::COMPARE_FAILURE),
+        Op::Read | Op::Compare | Op::Write | Op::WriteZeroes => Owed::one(Status::COMPARE_FAILURE),
     }
 }
 
@@ -228,6 +228,6 @@ fn owed_on_success(op: Op) -> Owed
 {
     match op {
         Op::Pair => Owed::two(Status::SUCCESS, Status::SUCCESS),
-        _ => Owed::one(Status::SUCCESS),
+        Op::Read | Op::Compare | Op::Write | Op::WriteZeroes => Owed::one(Status::SUCCESS),
     }
 }

@@ -60,7 +60,7 @@ fn op_of(judged: &Judged) -> Option<Op>
     match judged {
         Judged::Single(op, _) => Some(*op),
         Judged::Pair(_) => Some(Op::Pair),
-        _ => None,
+        Judged::Flush | Judged::SingleFailed(_) | Judged::PairFailed(_, _) => None,
     }
 }
 
@@ -96,9 +96,8 @@ fn compare_of(alloc: Global, op: Option<Op>, first: Submission) -> Payload
     ensures value { result ≡ compare_by op first }
 {
     match op {
-        Some(Op::Compare) => first.payload,
-        Some(Op::Pair) => first.payload,
-        _ => Payload::new(Vec::new(alloc)),
+        Some(Op::Compare | Op::Pair) => first.payload,
+        Some(Op::Read | Op::Write | Op::WriteZeroes) | None => Payload::new(Vec::new(alloc)),
     }
 }
 
