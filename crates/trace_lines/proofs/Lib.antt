@@ -1,0 +1,2 @@
+pub mod SeenAgain
+pub mod SeenRead

@@ -1,0 +1,11 @@
+//! The one line of each thing that hosts saw, both ways: a Publish as in a history, a Reap with its data.
+#![tactic(auto)]
+
+mod laws;
+mod lines_there;
+mod reading;
+mod writing;
+
+pub use crate::laws::seen_lines_have_one_spelling;
+pub use crate::reading::parse_seen;
+pub use crate::writing::write_seen;

@@ -1,0 +1,4 @@
+pub mod Waiting
+pub mod Queues
+pub mod Taking
+pub mod Explaining

@@ -1,0 +1,45 @@
+-- What is kept of a history that is compared with a trace, and what is said of one more entry.
+use Rattle.std.specs.Prelude.{Bool, List, None, Option, Some, false, suc, true, ℕ, ◌≡◌, ◌≢◌, ◌∷◌}
+use Rattle.nvme_model.specs.History.{Past}
+use Rattle.nvme_model.specs.Legal.{IsLegal, legal}
+use Rattle.nvme_model.specs.declared.config.ConfigNumbers.{ConfigNumbers}
+use Rattle.nvme_model.specs.declared.entry.Entry.{Entry}
+use Rattle.one_pass_check.specs.Kept.{Stands}
+use Rattle.one_pass_check.specs.Kept as kept
+use Rattle.rings.specs.Tables.{IsTable}
+use Rattle.seen_trace.specs.Observed.{shown}
+use Rattle.seen_trace.specs.declared.seen.Seen.{Seen}
+use Rattle.witness_check.specs.Waiting.{waiting_payloads}
+use Rattle.witness_check.specs.declared.witness.Told.{Told}
+use Rattle.witness_check.specs.declared.witness.Told.TheVariants.{Bad, Hidden, Same, Unlike}
+
+-- a checker, and by completion queue the data of the completions that wait
+pub record Followed : Type 0 where
+  pub checker : kept.State
+  pub waiting : List (List (List ℕ))
+
+-- it is what is kept of this history
+pub record Follows (c : ConfigNumbers) (past : Past) (x : Followed) : Type 0 where
+  pub stands : Stands c past x.checker
+  pub waits : legal c past ≡ true → IsTable (λ k. waiting_payloads c past (suc k)) c.cqs x.waiting
+
+-- neither hosts see an entry of this kind nor a completion queue
+abbrev pub is_inner : Entry → Bool
+is_inner (Entry.Fetch f) = true
+is_inner (Entry.Grant g) = true
+is_inner (Entry.Block b) = true
+is_inner _ = false
+
+-- what is said where hosts see this of an entry, and the trace says that next
+abbrev pub Compares : Option Seen → Option Seen → Told → Type 0
+Compares seen next Bad = ⊥
+Compares seen next Hidden = seen ≡ None
+Compares seen next Same = (s : Seen) × (seen ≡ Some s) × (next ≡ Some s)
+Compares seen next Unlike = (s : Seen) × (seen ≡ Some s) × (next ≢ Some s)
+
+-- what is said of one more entry behind this history, where the trace says this next
+abbrev pub Tells : ConfigNumbers → Past → Entry → Option Seen → Told → Type 0
+Tells c past e next Bad = legal c (e ∷ past) ≡ false
+Tells c past e next Hidden = IsLegal c (e ∷ past) × Compares (shown c past e) next Hidden
+Tells c past e next Same = IsLegal c (e ∷ past) × Compares (shown c past e) next Same
+Tells c past e next Unlike = IsLegal c (e ∷ past) × Compares (shown c past e) next Unlike

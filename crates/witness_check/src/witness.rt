@@ -1,0 +1,202 @@
+//! A history that is compared with what hosts saw, entry by entry.
+
+ghost use Rattle.std.specs.Option.{option_copied};
+ghost use Rattle.std.specs.Prelude.{◌≡◌, ◌∷◌, ◌<◌, ◌-◌, ◌%◌, [], IfOk, OnErr, Option, Some, if◌then◌else◌, true};
+ghost use Rattle.nvme_model.specs.EntryBytes.{cqe_fields};
+ghost use Rattle.nvme_model.specs.History.{Past};
+ghost use Rattle.nvme_model.specs.declared.config.ConfigNumbers.{ConfigNumbers};
+ghost use Rattle.nvme_model.specs.declared.entry.Entry.{Entry};
+ghost use Rattle.seen_trace.specs.declared.seen.Seen.{Seen};
+ghost use Rattle.witness_check.specs.Followed.{Compares, Follows, Tells, is_inner};
+ghost use Rattle.witness_check.specs.Waiting.{data_or_none};
+ghost use Rattle.witness_check.specs.declared.witness.Told.TheVariants.{Same, Unlike};
+
+use crate::payloads::{Payloads, no_payloads, pop_at, push_at};
+use crate::same::{is_published, is_reaped};
+use block_array::NoMemory;
+use byteorder::{ByteOrder, LittleEndian};
+use history::{Config, Entry};
+use nvme_model::entry::{PostLine, PublishLine, ReapLine};
+use nvme_model::submission::Payload;
+use one_pass_check::Checker;
+use seen_trace::Seen;
+use std::alloc::Global;
+use std::marker::Model;
+
+/// What is said of one more entry of a history, where a trace says something next.
+#[derive(Clone, Copy, Debug, PartialEq, Eq)]
+pub enum Told {
+    /// The entries with this one aren't legal.
+    Bad,
+    /// They are, and hosts see nothing of it.
+    Hidden,
+    /// They are, and hosts see what the trace says next.
+    Same,
+    /// They are, and hosts see something that the trace doesn't say next.
+    Unlike,
+}
+
+/// Follows a history entry by entry, and says of each whether it is legal there and is seen as a trace says. It keeps a
+/// checker and the data of the completions that wait: no entry, and nothing of the trace.
+#[derive(Drop)]
+pub struct Witness {
+    alloc: Global,
+    checker: Checker,
+    // by completion queue
+    waiting: Vec<Payloads>,
+}
+
+impl Model for Witness {
+    ghost use Rattle.witness_check.specs.Followed.{Followed};
+
+    ghost Value = { Followed };
+
+    ghost view = { λ w. record { checker = w.checker; waiting = w.waiting.items } };
+}
+
+// The submission queue that a completion is for.
+fn sqid_of(cqe: &[u8; 16]) -> u16
+    ensures value { result ≡ (cqe_fields cqe.now).sqid }
+{
+    LittleEndian::read_u16(&cqe[10..12])
+}
+
+// The place of the completion queue of a completion, of so many.
+fn place_of(cqe: &[u8; 16], count: usize) -> usize
+    ensures value { 0 < count → result ≡ ((cqe_fields cqe.now).sqid - 1) % count }
+{
+    if count == 0 {
+        return 0;
+    }
+    usize::from(sqid_of(cqe).saturating_sub(1)) % count
+}
+
+// What is said of something that hosts see and that is, or isn't, what the trace says next.
+fn same_or_unlike(same: bool) -> Told
+    ensures value { result ≡ (if same then Same else Unlike) }
+{
+    if same { Told::Same } else { Told::Unlike }
+}
+
+// What is said of a legal Publish.
+fn told_publish(line: &PublishLine, next: Option<&Seen>) -> Told
+    ensures value { Compares (Some (Seen.Published line.now)) (option_copied next.entry) result }
+{
+    match next {
+        None => Told::Unlike,
+        Some(next) => same_or_unlike(is_published(line, next)),
+    }
+}
+
+// What is said of a legal Reap with this data.
+fn told_reap(line: &ReapLine, payload: Option<&Payload>, next: Option<&Seen>) -> Told
+    ensures value { Compares (Some (Seen.Reaped (record {
+      queue = line.now.queue;
+      cqe = line.now.cqe;
+      payload = data_or_none (option_copied payload.entry);
+    }))) (option_copied next.entry) result }
+{
+    let Some(next) = next else {
+        return Told::Unlike;
+    };
+    match payload {
+        None => same_or_unlike(is_reaped(line, &[], next)),
+        Some(payload) => same_or_unlike(is_reaped(line, payload.as_slice(), next)),
+    }
+}
+
+impl Witness {
+    /// One that has taken no entry.
+    ///
+    /// # Errors
+    ///
+    /// `NoMemory` where a growth is refused.
+    pub fn new(alloc: Global, config: &Config) -> Result<Witness, NoMemory>
+        ensures ok { IfOk result (λ witness. Follows config.now [] witness) }
+    {
+        Ok(Witness {
+            alloc,
+            checker: Checker::new(alloc, config)?,
+            waiting: no_payloads(alloc, config.numbers().cqs)?,
+        })
+    }
+
+    // Takes an entry that neither hosts see nor a completion queue.
+    fn take_hidden(&mut self, entry: &Entry) -> Result<Told, NoMemory>
+        requires inner { is_inner entry.now ≡ true }
+        ensures ok { (c : ConfigNumbers) (past : Past) (next : Option Seen) → Follows c past self.old → IfOk result
+            (λ told. Tells c past entry.now next told × Follows c (entry.now ∷ past) self.new) }
+        ensures err { OnErr result (self.new ≡ self.old) }
+    {
+        if !self.checker.take(entry)? {
+            return Ok(Told::Bad);
+        }
+        Ok(Told::Hidden)
+    }
+
+    // Takes a Post. Its data waits from here on.
+    fn take_post(&mut self, entry: &Entry, line: &PostLine) -> Result<Told, NoMemory>
+        requires same { entry.now ≡ Entry.Post line.now }
+        ensures ok { (c : ConfigNumbers) (past : Past) (next : Option Seen) → Follows c past self.old → IfOk result
+            (λ told. Tells c past entry.now next told × Follows c (entry.now ∷ past) self.new) }
+        ensures err { OnErr result (self.new ≡ self.old) }
+    {
+        let place = place_of(&line.cqe, self.waiting.as_slice().len());
+        push_at(
+            self.alloc,
+            &mut self.waiting,
+            place,
+            line.payload.as_slice(),
+        )?;
+        if !self.checker.take(entry)? {
+            return Ok(Told::Bad);
+        }
+        Ok(Told::Hidden)
+    }
+
+    // Takes a Reap, and lets its data go.
+    fn take_reap(
+        &mut self,
+        entry: &Entry,
+        line: &ReapLine,
+        next: Option<&Seen>,
+    ) -> Result<Told, NoMemory>
+        requires same { entry.now ≡ Entry.Reap line.now }
+        ensures ok { (c : ConfigNumbers) (past : Past) → Follows c past self.old → IfOk result
+            (λ told. Tells c past entry.now (option_copied next.entry) told
+            × Follows c (entry.now ∷ past) self.new) }
+        ensures err { OnErr result (self.new ≡ self.old) }
+    {
+        if !self.checker.take(entry)? {
+            return Ok(Told::Bad);
+        }
+        let place = usize::from(line.queue.saturating_sub(1));
+        let payload = pop_at(&mut self.waiting, place);
+        Ok(told_reap(line, payload.as_ref(), next))
+    }
+
+    /// Takes the next entry, and says whether the entries with it are legal and, where hosts see it, whether the trace
+    /// says the same next.
+    ///
+    /// # Errors
+    ///
+    /// `NoMemory` where a growth is refused; the entry isn't taken, and nothing has changed.
+    pub fn take(&mut self, entry: &Entry, next: Option<&Seen>) -> Result<Told, NoMemory>
+        ensures ok { (c : ConfigNumbers) (past : Past) → Follows c past self.old → IfOk result
+            (λ told. Tells c past entry.now (option_copied next.entry) told
+            × Follows c (entry.now ∷ past) self.new) }
+        ensures err { OnErr result (self.new ≡ self.old) }
+    {
+        match entry {
+            Entry::Post(line) => self.take_post(entry, line),
+            Entry::Reap(line) => self.take_reap(entry, line, next),
+            Entry::Publish(line) => {
+                if !self.checker.take(entry)? {
+                    return Ok(Told::Bad);
+                }
+                Ok(told_publish(line, next))
+            }
+            Entry::Fetch(_) | Entry::Grant(_) | Entry::Block(_) => self.take_hidden(entry),
+        }
+    }
+}
