@@ -37,7 +37,7 @@ module _ (meaning : ConfigNumbers → Meaning) where
       ap (λ o. after_config line o (λ d. lines_print (meaning d) [] 2 lines rest)) e
       ∙ ap (λ o. after_numbers line o (lines_print (meaning c) [] 2 lines rest)) h
 
-  no_lines : (rest : List ℕ) → script_prints meaning [] rest ≡ ending (cut 1) []
+  pub no_lines : (rest : List ℕ) → script_prints meaning [] rest ≡ ending (cut 1) []
   unfolding script_prints
   no_lines rest = refl
 

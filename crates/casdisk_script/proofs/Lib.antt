@@ -2,6 +2,7 @@ pub mod Beginning
 mod Answering
 mod KindsLemmas
 mod Faults
+mod Followed
 mod Placing
 mod Printed
 mod Settling

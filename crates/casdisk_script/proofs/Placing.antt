@@ -21,7 +21,7 @@ use Rattle.casdisk_script.specs.declared.judging.FirstBad.{FirstBad}
 of_file : (c : ConfigNumbers) (past : Past) → first_bad c (reverse past) ≡ first_bad_of c past
 of_file c past = ap (first_bad_of c) (reverse-reverse past)
 
-no_place : (c : ConfigNumbers) (past : Past) → None ≡ first_bad_of c past → IsLegal c past
+pub no_place : (c : ConfigNumbers) (past : Past) → None ≡ first_bad_of c past → IsLegal c past
 no_place c past e = subst (IsLegal c) (reverse-reverse past) (none_is_legal c (reverse past) (of_file c past ∙ sym e))
 
 pub answered_by : (c : ConfigNumbers) (past : Past) (bad : Option ℕ) → bad ≡ first_bad_of c past → IsAnswer c past (is_none bad) (answer_text bad)
@@ -57,7 +57,7 @@ stays : (o later : Option ℕ) → is_some o ≡ true → o ≡ earlier_or o lat
 stays None later some = absurd (let f : false ≡ true = some in cc)
 stays (Some place) later some = refl
 
-none_of : (o : Option ℕ) → is_some o ≡ false → o ≡ None
+pub none_of : (o : Option ℕ) → is_some o ≡ false → o ≡ None
 none_of None none = refl
 none_of (Some place) none = absurd (let f : true ≡ false = none in cc)
 

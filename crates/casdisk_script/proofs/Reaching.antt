@@ -27,7 +27,7 @@ print_good : (meaning : Meaning) (past : Past) (n : ℕ) (line : List ℕ) (line
 unfolding lines_print
 print_good meaning past n line lines rest x e = ap (λ o. after_line n past o (λ after. lines_print meaning after (n + 1) lines rest)) e
 
-print_bad : (meaning : Meaning) (past : Past) (n : ℕ) (line : List ℕ) (lines : List (List ℕ)) (rest : List ℕ) → meaning past line ≡ None → lines_print meaning past n (line ∷ lines) rest ≡ ending (bad_line n) past
+pub print_bad : (meaning : Meaning) (past : Past) (n : ℕ) (line : List ℕ) (lines : List (List ℕ)) (rest : List ℕ) → meaning past line ≡ None → lines_print meaning past n (line ∷ lines) rest ≡ ending (bad_line n) past
 unfolding lines_print
 print_bad meaning past n line lines rest e = ap (λ o. after_line n past o (λ after. lines_print meaning after (n + 1) lines rest)) e
 
@@ -75,7 +75,7 @@ begins meaning past n r w held = record { bytes = []; consumed = Consumes-nil r;
 
 module _ (outcome : List ℕ → Outcome) (meaning : Meaning) (past : Past) (n : ℕ) (r s t w v : Option (List ℕ)) (held : List ℕ) (at : Reached outcome meaning past n r s w v held) where
   -- all that follows, after a line was read
-  meant : (after line more : List ℕ) (g : Gives s t held after (line ++ 10 ∷ [])) → NoFeed line
+  pub meant : (after line more : List ℕ) (g : Gives s t held after (line ++ 10 ∷ [])) → NoFeed line
       → outcome ((at.bytes ++ g.bytes) ++ more) ≡ prefixed at.out (lines_print meaning past n (line ∷ whole_lines (after ++ more)) (rest_line (after ++ more)))
   meant after line more g plain =
       let first = whole_is_first s t held after line more g plain in

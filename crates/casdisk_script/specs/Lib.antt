@@ -6,5 +6,6 @@ pub mod Script
 pub mod Running
 pub mod Files
 pub mod Judged
+pub mod Followed
 pub mod Explained
 pub mod Kinds

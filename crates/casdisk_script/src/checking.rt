@@ -25,7 +25,7 @@ fn send_bad<W: Write>(place: u64, writer: &mut W) -> IoResult<()>
 }
 
 // Writes `legal`, or `bad at K` with this place, and says which.
-fn tell_answer<W: Write>(bad: Option<u64>, writer: &mut W) -> Result<bool, RunFault>
+pub(crate) fn tell_answer<W: Write>(bad: Option<u64>, writer: &mut W) -> Result<bool, RunFault>
     ensures told { Tells bad result (W.contents writer.old) (W.contents writer.new) }
 {
     let Some(place) = bad else {

@@ -5,6 +5,7 @@ ghost use Rattle.std.specs.Io.KnownBytes.{Appends};
 ghost use Rattle.line_text.specs.Known.{AppendsFront};
 ghost use Rattle.line_text.specs.Lines.{whole_lines};
 ghost use Rattle.nvme_model.specs.declared.config.ConfigNumbers.{ConfigNumbers};
+ghost use Rattle.casdisk_script.specs.Followed.{StopsFirst};
 ghost use Rattle.casdisk_script.specs.Meaning.{Meaning};
 ghost use Rattle.casdisk_script.specs.Running.{PrintsFront, Reached, Runs};
 ghost use Rattle.casdisk_script.specs.Script.{first_config, outcome};
@@ -35,6 +36,7 @@ pub(crate) fn read_first<R: Read>(
     ensures config { IfOk result
         (λ c. IfSome (R.remaining reader.old) (λ bytes. first_config (whole_lines bytes) ≡ Some c)) }
     ensures read { IfErr result (λ f. f ≢ RunFault.Output) }
+    ensures first { IfErr result (λ f. StopsFirst f (R.remaining reader.old) (R.remaining reader.new)) }
 {
     match lines.next_line(reader, line) {
         Err(fault) => return Err(read_fault(fault)),

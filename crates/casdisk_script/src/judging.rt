@@ -30,12 +30,12 @@ pub struct FirstBad {
 
 // Judges the entries of lines, and keeps none of them. Which rule a bad one breaks is asked for where `WHY` is true.
 #[derive(Drop)]
-struct Judge<const WHY: bool> {
+pub(crate) struct Judge<const WHY: bool> {
     alloc: Global,
-    checker: Checker,
+    pub(crate) checker: Checker,
     // how many there were
-    count: u64,
-    bad: FirstBad,
+    pub(crate) count: u64,
+    pub(crate) bad: FirstBad,
 }
 
 // The place of an entry that may not follow.
@@ -47,8 +47,9 @@ fn bad_place(follows: bool, place: u64) -> Option<u64>
 
 impl<const WHY: bool> Judge<WHY> {
     // One that has judged no entry.
-    fn new(alloc: Global, config: &Config) -> Result<Judge<WHY>, NoMemory>
+    pub(crate) fn new(alloc: Global, config: &Config) -> Result<Judge<WHY>, NoMemory>
         ensures begun { IfOk result (λ judge. HasJudged WHY config.now [] judge.checker judge.count judge.bad) }
+        ensures none { IfOk result (λ judge. judge.bad.place ≡ None) }
     {
         Ok(Judge {
             alloc,

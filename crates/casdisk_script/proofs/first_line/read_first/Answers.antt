@@ -1,5 +1,6 @@
 use Rattle.std.proofs.Common.{Err, ap, inl, inr}
 use Rattle.casdisk_script.proofs.Beginning.{ends_first, ends_no_config, ends_wrong_config, front_config, lost_first, reached_first, known_config}
+use Rattle.casdisk_script.proofs.Followed.{lost_file}
 use Rattle.casdisk_script.proofs.first_line.read_first.Goals as goal
 
 pub returns-in-Err-clause-stopped : goal.returns-in-Err-clause-stopped
@@ -40,3 +41,8 @@ returns-in-Err-from_numbers-clause-stopped g c meaning w =
     let x = rw (c.in-Ok-Whole.field-0-is, c.requires.fresh) at c.in-Ok-Whole.ensures.line in
     let said = rw c.as_slice.ensures.value at c.in-Ok.ensures.value in
     rw c.number.ensures (ends_wrong_config meaning _ _ _ _ _ x.0 x.1 c.in-Ok.numbers c.in-Err-from_numbers.fault said c.in-Err-from_numbers.ensures.fault)
+
+pub returns-in-Err-clause-first : goal.returns-in-Err-clause-first
+returns-in-Err-clause-first g c =
+    let front = rw c.requires.fresh at c.in-Err.ensures.err in
+    rw c.read_fault.ensures.cause (lost_file c.in-Err.fault _ _ _ _ front (λ e. c.in-Err.ensures.input (ap Err e)))
