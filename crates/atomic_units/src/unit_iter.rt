@@ -6,7 +6,7 @@ ghost use Rattle.nvme_model.specs.Cut.{cut};
 ghost use Rattle.nvme_model.specs.declared.array.Range.{Range};
 
 use crate::cells::longest;
-use block_array::Range;
+use nvme_model::array::Range;
 use nvme_model::config::AtomicParameters;
 use std::marker::Model;
 

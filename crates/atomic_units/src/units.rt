@@ -9,8 +9,7 @@ ghost use Rattle.atomic_units.specs.Numbers.{atomic_parameters};
 
 use crate::cells::in_one_cell;
 use crate::unit_iter::UnitIter;
-use block_array::ConfigFault;
-use nvme_model::config::AtomicParameters;
+use nvme_model::config::{AtomicParameters, ConfigFault};
 use std::marker::Model;
 
 /// How commands are cut into units: numbers of a cut that have no fault.

@@ -13,12 +13,11 @@ use crate::fault::RunFault;
 use crate::first_line::read_first;
 use crate::meaning::{LineMeaning, Taken, WriteFault};
 use crate::running::run_lines;
-use block_array::NoMemory;
 use broken_rules::Broken;
 use history::{Config, Entry, LineFault, parse_line};
 use history_check::Checker;
 use line_text::Lines;
-use std::alloc::Global;
+use std::alloc::{AllocError as NoMemory, Global};
 use std::io::{Read, Write};
 
 /// The first entry that may not follow: its place, from 1, and the rule that it breaks first, where that was asked.

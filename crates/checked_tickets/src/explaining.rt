@@ -10,11 +10,11 @@ ghost use Rattle.checked_tickets.specs.Explained.{block_wrong_by, post_wrong_at}
 
 use crate::flight::Flight;
 use crate::unit::{answers_at, block_due};
-use block_array::{NoMemory, Volume};
+use block_array::Volume;
 use broken_rules::{Broken, block_broken, post_broken};
 use nvme_model::entry::{BlockLine, PostLine};
 use nvme_model::refusal::Why;
-use std::alloc::Global;
+use std::alloc::{AllocError as NoMemory, Global};
 
 impl Flight {
     /// What is wrong with a Block of its open unit, where the blocks are these.

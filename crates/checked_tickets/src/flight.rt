@@ -18,14 +18,14 @@ ghost use Rattle.checker_tables.specs.Judged.{block_fits_by, data_by, owed_by, o
 
 use crate::commands::Commands;
 use crate::unit::{Effect, OpenUnit, answers_at, block_fits, effect_at, word_of};
-use block_array::{NoMemory, Volume};
+use block_array::Volume;
 use completions::{Owed, cqe_of};
 use entry_codec::encode_cqe;
 use nvme_model::array::Range;
 use nvme_model::entry::{BlockLine, GrantLine, PostLine};
 use nvme_model::operation::{Found, Op};
 use nvme_model::status::{Status, Verdict};
-use std::alloc::Global;
+use std::alloc::{AllocError as NoMemory, Global};
 use std::marker::Model;
 
 /// A ticket in flight.

@@ -12,12 +12,12 @@ ghost use Rattle.checked_tickets.specs.Contents.{contents_in, first_some, fits_u
 ghost use Rattle.checked_tickets.specs.Explained.{due_in};
 
 use crate::commands::{Commands, has_compare, has_write};
-use block_array::{NoMemory, Volume};
+use block_array::Volume;
 use broken_rules::{BlockDue, Words, may_find};
 use nvme_model::array::Range;
 use nvme_model::entry::{BlockLine, GrantLine};
 use nvme_model::operation::{Found, Op};
-use std::alloc::Global;
+use std::alloc::{AllocError as NoMemory, Global};
 use std::marker::Model;
 
 /// The open unit of a ticket.

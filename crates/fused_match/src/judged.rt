@@ -3,7 +3,8 @@
 ghost use Rattle.std.specs.Prelude.{◌≡◌};
 ghost use Rattle.nvme_model.specs.Verdict.{taken};
 
-use block_array::{Op, Range};
+use nvme_model::array::Range;
+use nvme_model::operation::Op;
 use nvme_model::status::{Status, Verdict};
 
 /// What becomes of the entries that a Fetch takes.

@@ -11,8 +11,8 @@ use crate::checks::{command_fault, pair_fault};
 use crate::item::Item;
 use crate::judged::Judged;
 use atomic_units::Units;
-use block_array::Range;
 use entry_codec::Sqe;
+use nvme_model::array::Range;
 use nvme_model::status::Status;
 
 fn range_of(sqe: &Sqe) -> Range

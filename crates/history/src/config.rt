@@ -6,8 +6,7 @@ ghost use Rattle.nvme_model.specs.declared.config.ConfigNumbers.{ConfigNumbers};
 ghost use Rattle.history.specs.Config.{numbers, queue_fault};
 
 use atomic_units::Units;
-use block_array::ConfigFault;
-use nvme_model::config::{AtomicParameters, ConfigNumbers};
+use nvme_model::config::{AtomicParameters, ConfigFault, ConfigNumbers};
 use std::marker::Model;
 
 /// The numbers of a configuration, without a fault.

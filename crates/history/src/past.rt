@@ -5,9 +5,8 @@ ghost use Rattle.std.specs.Prelude.{slice_get};
 ghost use Rattle.std.specs.Option.{option_copied};
 ghost use Rattle.nvme_model.specs.declared.entry.Entry.{Entry};
 
-use block_array::NoMemory;
 use nvme_model::entry::Entry;
-use std::alloc::Global;
+use std::alloc::{AllocError as NoMemory, Global};
 use std::marker::Model;
 
 /// The entries of a run in their order.

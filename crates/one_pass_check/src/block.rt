@@ -13,11 +13,11 @@ ghost use Rattle.range_reserve.specs.Reserved.{held_beside};
 
 use crate::fields::Fields;
 use crate::places::ticket_place;
-use block_array::{NoMemory, Volume};
+use block_array::Volume;
 use checked_tickets::{Commands, TakenBlock, write_range};
 use nvme_model::entry::BlockLine;
 use range_reserve::Ranges;
-use std::alloc::Global;
+use std::alloc::{AllocError as NoMemory, Global};
 
 // Writes the blocks of a unit where its effect does.
 fn write_taken(volume: &mut Volume, ticket: &Commands, done: TakenBlock)

@@ -16,10 +16,9 @@ use crate::post::take_post;
 use crate::publish::take_publish;
 use crate::reap::take_reap;
 use crate::why::why_broken;
-use block_array::NoMemory;
 use broken_rules::Broken;
 use history::{Config, Entry};
-use std::alloc::Global;
+use std::alloc::{AllocError as NoMemory, Global};
 use std::marker::Model;
 
 /// Says of each entry that it takes whether the entries so far, the oldest first, are a legal history of its

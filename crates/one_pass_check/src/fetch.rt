@@ -16,7 +16,6 @@ ghost use Rattle.one_pass_check.specs.Steps.{HasUnits, units_in};
 
 use crate::fields::{Fields, InFlight, TicketUnits};
 use crate::places::ring_place;
-use block_array::NoMemory;
 use broken_rules::same_verdict;
 use checked_tickets::{Commands, Flight};
 use cids_in_use::CidsInUse;
@@ -26,7 +25,7 @@ use nvme_model::array::Range;
 use nvme_model::entry::FetchLine;
 use nvme_model::submission::Submission;
 use rings::SqRing;
-use std::alloc::Global;
+use std::alloc::{AllocError as NoMemory, Global};
 
 // What a check sees of the entry behind the first of a ring, if there is one.
 pub(crate) fn next_item(ring: &SqRing) -> Option<Item>

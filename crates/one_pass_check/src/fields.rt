@@ -2,14 +2,14 @@
 
 ghost use Rattle.std.specs.Prelude.{◌≡◌, [], IfOk};
 
-use block_array::{NoMemory, Volume};
+use block_array::Volume;
 use checked_tickets::Flight;
 use cids_in_use::{CidsInUse, none_in_use};
 use history::Config;
 use nvme_model::array::Range;
 use range_reserve::Ranges;
 use rings::{CqRing, SqRing, cq_rings, sq_rings};
-use std::alloc::Global;
+use std::alloc::{AllocError as NoMemory, Global};
 use std::marker::Model;
 
 /// The units of a ticket, in order.

@@ -11,11 +11,10 @@ ghost use Rattle.one_pass_check.specs.Steps.{grant_by};
 
 use crate::fields::{Fields, InFlight};
 use crate::places::ticket_place;
-use block_array::NoMemory;
 use nvme_model::array::{Mode, Range};
 use nvme_model::entry::GrantLine;
 use range_reserve::Ranges;
-use std::alloc::Global;
+use std::alloc::{AllocError as NoMemory, Global};
 
 // Whether this is to hold blocks alone.
 fn is_exclusive(mode: Mode) -> bool

@@ -9,10 +9,9 @@ ghost use Rattle.one_pass_check.specs.Steps.{Took};
 
 use crate::fields::Fields;
 use crate::places::ring_place;
-use block_array::NoMemory;
 use nvme_model::entry::PublishLine;
 use nvme_model::submission::{Submissions, copies_of};
-use std::alloc::Global;
+use std::alloc::{AllocError as NoMemory, Global};
 
 /// Takes a Publish, and says whether it may follow.
 ///

@@ -12,13 +12,12 @@ use crate::fetch::{judge_front, next_item};
 use crate::fields::{Fields, InFlight};
 use crate::grant::next_unit;
 use crate::places::{ring_place, ticket_place};
-use block_array::NoMemory;
 use broken_rules::{Broken, fetch_broken, grant_broken, reap_broken};
 use history::{Config, Entry};
 use nvme_model::entry::{BlockLine, FetchLine, GrantLine, PostLine, PublishLine, ReapLine};
 use nvme_model::refusal::Why;
 use range_reserve::Ranges;
-use std::alloc::Global;
+use std::alloc::{AllocError as NoMemory, Global};
 
 fn why_publish(fields: &Fields, line: &PublishLine) -> Option<Broken>
     ensures value { (c : ConfigNumbers) (past : Past) →
