@@ -1,8 +1,10 @@
-//! The completions that a ticket owes, and the queue entry of each.
+//! The completions that a ticket owes, and the queue entry of each; lists of at most two values, which take no memory.
 #![tactic(auto)]
 
 mod entry;
+mod list;
 mod owed;
 
 pub use crate::entry::cqe_of;
+pub use crate::list::AtMostTwo;
 pub use crate::owed::Owed;

@@ -1,6 +1,6 @@
 //! The statuses that a ticket still owes.
 
-use at_most_two::AtMostTwo;
+use crate::list::AtMostTwo;
 use nvme_model::status::Status;
 
 /// The statuses that a ticket still owes, the first of them at the front: that of a single command, or the two of a

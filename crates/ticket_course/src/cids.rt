@@ -1,6 +1,6 @@
 //! The CIDs that a ticket still owes a completion for.
 
-use at_most_two::AtMostTwo;
+use completions::AtMostTwo;
 
 /// The CIDs that a ticket still owes a completion for, first to last: that of a single command, or the two of a fused
 /// pair.

@@ -1,8 +1,8 @@
 -- At most two values, as a list.
 use Rattle.std.specs.Prelude.{List, [], ◌∷◌, ◌≡◌, refl}
-use Rattle.at_most_two.specs.declared.list.Left.{Left}
-use Rattle.at_most_two.specs.declared.list.Left.TheVariants.{Nothing, One, Two}
-use Rattle.at_most_two.specs.declared.list.AtMostTwo.TheInside.{Inside}
+use Rattle.completions.specs.declared.list.Left.{Left}
+use Rattle.completions.specs.declared.list.Left.TheVariants.{Nothing, One, Two}
+use Rattle.completions.specs.declared.list.AtMostTwo.TheInside.{Inside}
 
 module _ {X : Type 0} where
   -- the values, first to last

@@ -25,7 +25,7 @@ impl<T> Model for AtMostTwo<T> {
 
     ghost coded = { coded_list T.code };
 
-    ghost use Rattle.at_most_two.specs.Items.{items_of, left_of, left_of-items_of};
+    ghost use Rattle.completions.specs.Items.{items_of, left_of, left_of-items_of};
 
     ghost view = { λ c. items_of c.left };
 
