@@ -10,6 +10,7 @@ use Rattle.nvme_model.specs.Config.{completion_queue, config_fault, config_fault
 use Rattle.nvme_model.specs.declared.config.ConfigNumbers.{ConfigNumbers}
 use Rattle.nvme_model.proofs.Rules.{none_holds}
 use Rattle.host_rounds.specs.Hosts.{HasEach, HasEachBelow, uses}
+use Rattle.nvme_model.proofs.Accepted.{accepted}
 
 -- a greater number behind rising ones
 pub rising_on : (xs : List ℕ) (n : ℕ) → IsStrictlyIncreasing xs → All (λ x. x < n) xs → IsStrictlyIncreasing (xs ++ n ∷ [])
@@ -51,10 +52,7 @@ empty P k x within = absurd (omega (arith, within))
 
 -- there are as many submission queues as completion queues, or more
 counts : (c : ConfigNumbers) → config_fault c ≡ None → (1 ≤ c.cqs) × (c.cqs ≤ c.pairs)
-counts c e = let p = or_parts _ _ (none_holds (config_faults c) (ap is_none e)).1.1.1.1.1.1.1.1.1.0 in (some c.cqs p.0, ltb-false c.pairs c.cqs p.1)
-  where
-    some : (n : ℕ) → eqb n 0 ≡ false → 1 ≤ n
-    some n e = grind (arith, nat_tests)
+counts c e = ((accepted c e).some_cqs, (accepted c e).most_cqs)
 
 used : (c : ConfigNumbers) (queue n : ℕ) → 1 ≤ n → n ≤ c.pairs → completion_queue c n ≡ queue → uses c queue n ≡ true
 used c queue n some few e = and_from _ _ (and_from _ _ (le-leb 1 n some) (le-leb n c.pairs few)) (eq-eqb (completion_queue c n) queue e)

@@ -17,19 +17,17 @@ use Rattle.work_queue.specs.declared.work.Work.{Work}
 use Rattle.hosts.specs.Hands.{AreFirstPlaces, AreHostsOf, AreLastHosts, AreNoticesOf, ArePlaces, IsHostOf, IsPlaceAt, IsWorkerOf}
 use Rattle.hosts.specs.declared.hall.Hall.{Hall}
 use Rattle.hosts.specs.declared.hall.HostHand.{HostHand}
+use Rattle.nvme_model.proofs.Accepted.{accepted}
 
 -- ---- the configuration
 
 -- a completion queue has slots
 pub some_slots : (c : ConfigNumbers) → config_fault c ≡ None → 0 < c.cq_size
-some_slots c e = let l : 2 ≤ c.cq_size = ltb-false _ _ (or_parts _ _ (none_holds (config_faults c) (ap is_none e)).1.1.1.1.1.1.1.0).0 in omega (arith, l)
+some_slots c e = omega (arith, (accepted c e).least_cq_slots)
 
 -- there are completion queues
 pub some_queues : (c : ConfigNumbers) → config_fault c ≡ None → 1 ≤ c.cqs
-some_queues c e = not_zero c.cqs (or_parts _ _ (none_holds (config_faults c) (ap is_none e)).1.1.1.1.1.1.1.1.1.0).0
-  where
-    not_zero : (n : ℕ) → eqb n 0 ≡ false → 1 ≤ n
-    not_zero n e = grind (arith, nat_tests)
+some_queues c e = (accepted c e).some_cqs
 
 -- ---- the passes of queues of notices
 
