@@ -1,6 +1,7 @@
 //! The program `casdisk` but for its `main`, and what is known of the texts that it writes and reads.
 #![tactic(auto)]
 
+mod input;
 mod laws;
 mod program;
 

@@ -1,6 +1,7 @@
 //! The whole program, over any runtime.
 
-use casdisk_script::{Explained, RunFault, check_text, explain_text, run_script};
+use crate::input::open;
+use casdisk_script::{Explained, RunFault, check_text, explain_text, follow_text, run_script};
 use command_line::{Asked, UsageFault, asked};
 use history::Kinds;
 use nvme_model::config::ConfigFault;
@@ -11,7 +12,7 @@ use std::process::ExitCode;
 use std::rt::{Env, Files};
 use std::sync::Wait;
 use std::thread::Threads;
-use std::{env, fs, io};
+use std::{env, io};
 
 /// How many bytes of output wait before they go out.
 const BUFFER: usize = 65_536;
@@ -20,7 +21,7 @@ const BUFFER: usize = 65_536;
 /// 1 where a history isn't legal or a race gave none, 2 after a bad line, configuration or command line, 3 after a
 /// failed opening, reading or writing, 4 where a growth was refused or a thread couldn't be started. The words of a
 /// fault go to standard error.
-pub fn run_program<R: Threads + Wait + Sync + Files + Env + Print + Eprint + AllocGlobal>(
+pub fn run_program<R: Threads + Wait + Sync + Files + Env + Input + Print + Eprint + AllocGlobal>(
     rt: &R,
 ) -> ExitCode {
     let words: Result<Vec<String>, io::Error> = match env::args(rt) {
@@ -49,13 +50,26 @@ fn end_with<R: Eprint>(rt: &R, status: u8, words: &str) -> ExitCode {
     ExitCode::from(status)
 }
 
-fn finish<R: Threads + Wait + Sync + Files + Print + Eprint + AllocGlobal>(
+fn finish<R: Threads + Wait + Sync + Files + Input + Print + Eprint + AllocGlobal>(
     rt: &R,
     what: Asked<'_>,
 ) -> ExitCode {
     let outcome = match what {
-        Asked::Run { kinds, file } => run_file(rt, kinds, file),
-        Asked::Check { file } => check_file(rt, file),
+        Asked::Run {
+            kinds,
+            flush: false,
+            file,
+        } => run_file(rt, kinds, file),
+        Asked::Run {
+            kinds,
+            flush: true,
+            file,
+        } => run_flushing(rt, kinds, file),
+        Asked::Check {
+            follow: false,
+            file,
+        } => check_file(rt, file),
+        Asked::Check { follow: true, file } => follow_file(rt, file),
         Asked::Explain { file } => explain_file(rt, file),
         Asked::Race(race) => return race_hosts(rt, &race),
         Asked::Show(text) => match rt.print(text.as_str()) {
@@ -98,12 +112,12 @@ fn end_race<R: Eprint>(rt: &R, fault: RaceFault) -> ExitCode {
 }
 
 // Runs a script, and then gives the status 0. Its text goes out in pieces, the last of them before a fault is told.
-fn run_file<R: Files + Print + AllocGlobal>(
+fn run_file<R: Files + Input + Print + AllocGlobal>(
     rt: &R,
     kinds: Kinds,
     file: &str,
 ) -> Result<u8, RunFault> {
-    let mut input = fs::open(rt, file).map_err(|_| RunFault::Input)?;
+    let mut input = open(rt, file).map_err(|_| RunFault::Input)?;
     let Ok(mut output) = BufWriter::with_capacity(rt.alloc(), BUFFER, io::writer(rt)) else {
         return Err(RunFault::NoMemory);
     };
@@ -115,9 +129,21 @@ fn run_file<R: Files + Print + AllocGlobal>(
     Ok(0)
 }
 
+// The same, but that each line's text goes out as soon as it is made.
+fn run_flushing<R: Files + Input + Print + AllocGlobal>(
+    rt: &R,
+    kinds: Kinds,
+    file: &str,
+) -> Result<u8, RunFault> {
+    let mut input = open(rt, file).map_err(|_| RunFault::Input)?;
+    let mut output = io::writer(rt);
+    run_script(rt.alloc(), &mut input, &mut output, kinds)?;
+    Ok(0)
+}
+
 // Checks a history, and gives the status 0 where it is legal, else 1.
-fn check_file<R: Files + Print + AllocGlobal>(rt: &R, file: &str) -> Result<u8, RunFault> {
-    let mut input = fs::open(rt, file).map_err(|_| RunFault::Input)?;
+fn check_file<R: Files + Input + Print + AllocGlobal>(rt: &R, file: &str) -> Result<u8, RunFault> {
+    let mut input = open(rt, file).map_err(|_| RunFault::Input)?;
     let mut output = io::writer(rt);
     match check_text(rt.alloc(), &mut input, &mut output)? {
         true => Ok(0),
@@ -125,13 +151,23 @@ fn check_file<R: Files + Print + AllocGlobal>(rt: &R, file: &str) -> Result<u8, 
     }
 }
 
+// Checks a history up to its first bad step, and gives the same.
+fn follow_file<R: Files + Input + Print + AllocGlobal>(rt: &R, file: &str) -> Result<u8, RunFault> {
+    let mut input = open(rt, file).map_err(|_| RunFault::Input)?;
+    let mut output = io::writer(rt);
+    match follow_text(rt.alloc(), &mut input, &mut output)? {
+        true => Ok(0),
+        false => Ok(1),
+    }
+}
+
 // Explains a history, and gives the status 0 where it is legal, 1 where it isn't, else that of the fault. Behind the
 // words of a refused configuration it says what its number means.
-fn explain_file<R: Files + Print + Eprint + AllocGlobal>(
+fn explain_file<R: Files + Input + Print + Eprint + AllocGlobal>(
     rt: &R,
     file: &str,
 ) -> Result<u8, RunFault> {
-    let mut input = fs::open(rt, file).map_err(|_| RunFault::Input)?;
+    let mut input = open(rt, file).map_err(|_| RunFault::Input)?;
     let explained = match explain_text(rt.alloc(), &mut input) {
         Ok(explained) => explained,
         Err(RunFault::BadConfig(number)) => {

@@ -57,8 +57,8 @@ named words name rows e = e
 
 -- what a command's options ask for is what the words ask for
 pub by_command : (words : List Text) (name : Text) (rows : List Row) → command_in words ≡ Some (name, rows) → (a : Asked) → AsksBy name rows a → Asks words a
-by_command words name rows e (Asked.Run kinds file) h = (name, rows, e, h)
-by_command words name rows e (Asked.Check file) h = (name, rows, e, h)
+by_command words name rows e (Asked.Run kinds flush file) h = (name, rows, e, h)
+by_command words name rows e (Asked.Check follow file) h = (name, rows, e, h)
 by_command words name rows e (Asked.Explain file) h = (name, rows, e, h)
 by_command words name rows e (Asked.Race r) h = (name, rows, e, h)
 by_command words name rows e (Asked.Show text) h = absurd h

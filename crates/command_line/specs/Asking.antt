@@ -1,5 +1,5 @@
 -- What a command line asks for.
-use Rattle.std.specs.Prelude.{List, None, Ok, Option, Some, codes, false, ◌≡◌, ◌≢◌, ◌⊎◌, ℕ}
+use Rattle.std.specs.Prelude.{Bool, List, None, Ok, Option, Some, codes, false, true, ◌≡◌, ◌≢◌, ◌⊎◌, ℕ}
 use Rattle.std.specs.Str.Parse.{ParsesUnsigned}
 use Rattle.std.specs.declared.num.ParseIntError.{ParseIntError}
 use Rattle.clap.specs.Words.{Row, Text, first_of, one_of}
@@ -19,6 +19,12 @@ IsRaceInRange _ = Unit {0}
 abbrev pub kinds_asked : Option Text → Option ℕ
 kinds_asked None = Some 255
 kinds_asked (Some text) = kinds_in text
+
+-- whether an option without a value is there
+pub record SaysFlag (name : Text) (rows : List Row) (there : Bool) : Type 0 where
+  pub left_out : one_of name rows ≡ None → there ≡ false
+  pub named : one_of name rows ≡ Some (codes "true") → there ≡ true
+  pub by_default : one_of name rows ≡ Some (codes "false") → there ≡ false
 
 -- the number that an option says
 abbrev pub SaysNumber : Text → List Row → ℕ → Type 0
@@ -44,9 +50,10 @@ IsNoRace rows = (hosts workers slots rounds queues : ℕ) → SaysNumbers rows h
 
 -- what the options of a command of this name ask for
 abbrev pub AsksBy : Text → List Row → Asked → Type 0
-AsksBy name rows (Asked.Run kinds file) = (name ≡ codes "run") × (first_of (codes "FILE") rows ≡ Some file.now)
-    × (kinds_asked (first_of (codes "show") rows) ≡ Some kinds.0)
-AsksBy name rows (Asked.Check file) = (name ≡ codes "check") × (first_of (codes "FILE") rows ≡ Some file.now)
+AsksBy name rows (Asked.Run kinds flush file) = (name ≡ codes "run") × (first_of (codes "FILE") rows ≡ Some file.now)
+    × (kinds_asked (first_of (codes "show") rows) ≡ Some kinds.0) × SaysFlag (codes "flush") rows flush
+AsksBy name rows (Asked.Check follow file) = (name ≡ codes "check") × (first_of (codes "FILE") rows ≡ Some file.now)
+    × SaysFlag (codes "follow") rows follow
 AsksBy name rows (Asked.Explain file) = (name ≡ codes "explain") × (first_of (codes "FILE") rows ≡ Some file.now)
 AsksBy name rows (Asked.Race r) = (name ≡ codes "race") × SaysRace rows r
 AsksBy name rows (Asked.Show text) = ⊥

@@ -1,7 +1,7 @@
 -- The program's command line, as clap's definitions see it.
 use Rattle.std.specs.Prelude.{Bool, List, Option, Some, [], codes, true, ◌∷◌}
 use Rattle.clap.specs.Words.{App, Row, Rule, Text, new_app, new_rule, subcommand_of, takes, with_rule, with_subcommand}
-use Rattle.clap.specs.declared.builder.action.ArgAction.TheVariants.{Set}
+use Rattle.clap.specs.declared.builder.action.ArgAction.TheVariants.{Set, SetTrue}
 use Rattle.clap.specs.declared.builder.value_parser.ValueParser.TheVariants.{Unsigned}
 
 -- the name of a file, which has to be there
@@ -11,6 +11,10 @@ file_rule = record (new_rule (codes "FILE")) { required = true; action = Some Se
 -- the kinds of lines to show
 abbrev pub show_rule : Rule
 show_rule = record (new_rule (codes "show")) { long = Some (codes "show"); value_names = 1; action = Some Set }
+
+-- an option without a value
+abbrev pub flag_rule : Text → Rule
+flag_rule name = record (new_rule name) { long = Some name; action = Some SetTrue }
 
 -- an option with a number of 64 bits
 abbrev pub number_rule : Text → Rule
@@ -31,11 +35,13 @@ default_rule name value = record (number_rule name) { defaults = value ∷ [] }
 
 -- the commands below it
 abbrev pub run_app : App
-run_app = with_rule (with_rule (new_app (codes "run")) show_rule) file_rule
+run_app = with_rule (with_rule (with_rule (new_app (codes "run")) show_rule) (flag_rule (codes "flush"))) file_rule
 
--- one that reads a history
-abbrev pub history_app : Text → App
-history_app name = with_rule (new_app name) file_rule
+abbrev pub check_app : App
+check_app = with_rule (with_rule (new_app (codes "check")) (flag_rule (codes "follow"))) file_rule
+
+abbrev pub explain_app : App
+explain_app = with_rule (new_app (codes "explain")) file_rule
 
 -- the command `race` with its options
 abbrev pub race_app : App
@@ -52,7 +58,7 @@ top_app = let a = new_app (codes "casdisk") in
 -- the whole program
 abbrev pub casdisk_app : App
 casdisk_app = with_subcommand (with_subcommand (with_subcommand (with_subcommand top_app run_app.top)
-    (history_app (codes "check")).top) (history_app (codes "explain")).top) race_app.top
+    check_app.top) explain_app.top) race_app.top
 
 -- the command that the words name, and what they give its options
 unfoldable pub command_in : List Text → Option (Text × List Row)

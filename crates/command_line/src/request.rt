@@ -11,12 +11,21 @@ use thiserror::Error;
 /// What the words of the command line ask for.
 #[derive(Drop)]
 pub enum Asked<'a> {
-    /// To run the script in this file, and show these kinds of lines.
-    Run { kinds: Kinds, file: &'a str },
-    /// To check the history in this file.
-    Check { file: &'a str },
+    /// To run the script in this file, and show these kinds of lines; where it flushes, each as soon as it is made.
+    Run {
+        kinds: Kinds,
+        flush: bool,
+        file: &'a str,
+    },
+    /// To check the history in this file; where it follows, as it comes, up to its first bad step.
+    Check {
+        follow: bool,
+        file: &'a str,
+    },
     /// To check the history in this file, and say what is wrong with its first bad line.
-    Explain { file: &'a str },
+    Explain {
+        file: &'a str,
+    },
     /// To let hosts race, and print the history.
     Race(Race),
     /// To print this text, of `--help` or `--version`.

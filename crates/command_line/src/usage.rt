@@ -4,9 +4,9 @@ ghost use Rattle.std.specs.Prelude.{◌≡◌, IfErr, IfOk, IfSome, IsOkAnd, Som
 ghost use Rattle.std.specs.Prelude.{string_bytes, true, ℕ};
 ghost use Rattle.clap.specs.Words.{app_of, first_of, found_of, rows_of, rule_of, with_rule, with_subcommand};
 ghost use Rattle.command_line.specs.Asking.{AreRefused, Asks, AsksBy, IsRaceInRange, IsRefusedBy, SaysNumber};
-ghost use Rattle.command_line.specs.Asking.{SaysNumbers, kinds_asked};
-ghost use Rattle.command_line.specs.CommandLine.{casdisk_app, default_rule, file_rule, history_app, needed_rule};
-ghost use Rattle.command_line.specs.CommandLine.{number_rule, race_app, run_app, show_rule};
+ghost use Rattle.command_line.specs.Asking.{SaysFlag, SaysNumbers, kinds_asked};
+ghost use Rattle.command_line.specs.CommandLine.{casdisk_app, check_app, default_rule, explain_app, file_rule};
+ghost use Rattle.command_line.specs.CommandLine.{flag_rule, needed_rule, number_rule, race_app, run_app, show_rule};
 
 use crate::request::{Asked, UsageFault};
 use casdisk_script::kinds_of;
@@ -17,6 +17,12 @@ use race_numbers::Race;
 use std::alloc::{AllocError, Global};
 
 const KINDS: &str = "Kinds of lines to show, joined by commas [default: all]";
+
+const FLUSH: &str = "Send what each line prints as soon as it is made";
+
+const FOLLOW: &str = "Answer at the first bad step or bad line, and read no further";
+
+const HISTORY: &str = "The history; - is standard input";
 
 const ABOUT_SCRIPTS: &str = "\
 A script is a text: its first line is the controller's configuration, and each further line is one
@@ -91,6 +97,16 @@ fn show_option<'a>(alloc: Global) -> Arg<'a>
         .action(ArgAction::Set)
 }
 
+// An option without a value.
+fn flag_option<'a>(alloc: Global, name: &'static str, help: &'static str) -> Arg<'a>
+    ensures { rule_of result ≡ flag_rule name.entry.now }
+{
+    Arg::new(alloc, name)
+        .long(name)
+        .help(help)
+        .action(ArgAction::SetTrue)
+}
+
 fn run_command<'a>(alloc: Global) -> Result<Command<'a>, AllocError>
     ensures { IfOk result (λ c. app_of c ≡ run_app) }
 {
@@ -98,21 +114,27 @@ fn run_command<'a>(alloc: Global) -> Result<Command<'a>, AllocError>
         .about("Runs a script over one controller and prints what each step did")
         .after_help(ABOUT_LINES);
     let command = command.arg(show_option(alloc))?;
-    command.arg(file_argument(alloc, "The script"))
+    let command = command.arg(flag_option(alloc, "flush", FLUSH))?;
+    command.arg(file_argument(alloc, "The script; - is standard input"))
 }
 
-// The command of this name, which reads a history.
-fn history_command<'a>(
-    alloc: Global,
-    name: &'static str,
-    about: &'static str,
-) -> Result<Command<'a>, AllocError>
-    ensures { IfOk result (λ c. app_of c ≡ history_app name.entry.now) }
+fn check_command<'a>(alloc: Global) -> Result<Command<'a>, AllocError>
+    ensures { IfOk result (λ c. app_of c ≡ check_app) }
 {
-    Command::new(alloc, name)
-        .about(about)
+    let command = Command::new(alloc, "check")
+        .about(ABOUT_CHECK)
+        .after_help(ABOUT_HISTORIES);
+    let command = command.arg(flag_option(alloc, "follow", FOLLOW))?;
+    command.arg(file_argument(alloc, HISTORY))
+}
+
+fn explain_command<'a>(alloc: Global) -> Result<Command<'a>, AllocError>
+    ensures { IfOk result (λ c. app_of c ≡ explain_app) }
+{
+    Command::new(alloc, "explain")
+        .about(ABOUT_EXPLAIN)
         .after_help(ABOUT_HISTORIES)
-        .arg(file_argument(alloc, "The history"))
+        .arg(file_argument(alloc, HISTORY))
 }
 
 // An option with a number.
@@ -208,8 +230,8 @@ fn command<'a>(alloc: Global) -> Result<Command<'a>, AllocError>
         .after_help(ABOUT_SCRIPTS)
         .subcommand_required(true);
     let command = with_command(command, run_command(alloc))?;
-    let command = with_command(command, history_command(alloc, "check", ABOUT_CHECK))?;
-    let command = with_command(command, history_command(alloc, "explain", ABOUT_EXPLAIN))?;
+    let command = with_command(command, check_command(alloc))?;
+    let command = with_command(command, explain_command(alloc))?;
     with_command(command, race_command(alloc))
 }
 
@@ -220,13 +242,23 @@ fn text_of(alloc: Global, words: &str) -> UsageFault {
     }
 }
 
+// Whether this option without a value is there.
+fn flag_asked(matches: &ArgMatches<'_>, name: &'static str) -> bool
+    ensures says { SaysFlag name.entry.now (rows_of (found_of matches.now)) result }
+{
+    matches.get_flag(name)
+}
+
 fn check_asked<'a>(alloc: Global, matches: &ArgMatches<'a>) -> Result<Asked<'a>, UsageFault>
     ensures asks { IfOk result (AsksBy (codes "check") (rows_of (found_of matches.now))) }
     ensures race { IfOk result IsRaceInRange }
     ensures refuses { IfErr result (IsRefusedBy (codes "check") (rows_of (found_of matches.now))) }
 {
     match matches.get_str("FILE") {
-        Some(file) => Ok(Asked::Check { file }),
+        Some(file) => Ok(Asked::Check {
+            follow: flag_asked(matches, "follow"),
+            file,
+        }),
         None => Err(text_of(alloc, "error: no file")),
     }
 }
@@ -259,7 +291,11 @@ fn run_asked<'a>(alloc: Global, matches: &ArgMatches<'a>) -> Result<Asked<'a>, U
     ensures refuses { IfErr result (IsRefusedBy (codes "run") (rows_of (found_of matches.now))) }
 {
     match (kinds_shown(matches), matches.get_str("FILE")) {
-        (Some(kinds), Some(file)) => Ok(Asked::Run { kinds, file }),
+        (Some(kinds), Some(file)) => Ok(Asked::Run {
+            kinds,
+            flush: flag_asked(matches, "flush"),
+            file,
+        }),
         (None, _) => Err(text_of(
             alloc,
             "error: an unknown or empty kind of lines in '--show'",

@@ -9,6 +9,7 @@ returns-in-Some-Some-clause-asks c = (
   refl,
   sym (c.in-Some-Some.ensures' ∙ first_value-rows (found_of c.args.matches.now) (codes "FILE")),
   sym c.in-Some-Some.ensures,
+  c.flag_asked.ensures.says,
 )
 
 pub returns-in_default-None-clause-refuses : goal.returns-in_default-None-clause-refuses
