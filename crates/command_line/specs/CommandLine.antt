@@ -37,9 +37,11 @@ default_rule name value = record (number_rule name) { defaults = value ∷ [] }
 abbrev pub run_app : App
 run_app = with_rule (with_rule (with_rule (new_app (codes "run")) show_rule) (flag_rule (codes "flush"))) file_rule
 
+-- the command `check` with its options
 abbrev pub check_app : App
 check_app = with_rule (with_rule (new_app (codes "check")) (flag_rule (codes "follow"))) file_rule
 
+-- the command `explain` with its file
 abbrev pub explain_app : App
 explain_app = with_rule (new_app (codes "explain")) file_rule
 
