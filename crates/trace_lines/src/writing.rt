@@ -4,7 +4,9 @@ ghost use Rattle.std.specs.Prelude.{◌<◌, OnOk, OnErr, length};
 ghost use Rattle.std.specs.Io.KnownBytes.{Appends};
 ghost use Rattle.std.specs.List.{join_with_byte};
 ghost use Rattle.history.specs.BatchWords.{publish_words};
+ghost use Rattle.history.specs.Lines.{entry_line};
 ghost use Rattle.line_text.specs.Known.{AppendsFront};
+ghost use Rattle.nvme_model.specs.declared.entry.Entry.{Entry};
 ghost use Rattle.seen_trace.specs.declared.seen.Seen.{Seen};
 ghost use Rattle.trace_lines.specs.SeenLines.{HasSeenLine, seen_line};
 
@@ -50,14 +52,24 @@ fn write_batch<W: Write>(writer: &mut W, queue: u16, items: &[Submission]) -> Io
     Ok(())
 }
 
-#[tactic(auto, unfolding(crate::specs::SeenLines::seen_line, history::specs::Lines::entry_line, history::specs::Lines::entry_words))]
+#[tactic(auto, unfolding(history::specs::Lines::entry_line, history::specs::Lines::entry_words))]
+fn write_entry<W: Write>(line: &PublishLine, writer: &mut W) -> IoResult<()>
+    ensures whole { OnOk result
+        (Appends (W.contents writer.old) (W.contents writer.new) (entry_line (Entry.Publish line.now))) }
+    ensures front { OnErr result
+        (AppendsFront (W.contents writer.old) (W.contents writer.new) (entry_line (Entry.Publish line.now))) }
+{
+    write_batch(writer, line.queue, line.batch.as_slice())
+}
+
+#[tactic(auto, unfolding(crate::specs::SeenLines::seen_line))]
 fn write_publish<W: Write>(line: &PublishLine, writer: &mut W) -> IoResult<()>
     ensures whole { OnOk result
         (Appends (W.contents writer.old) (W.contents writer.new) (seen_line (Seen.Published line.now))) }
     ensures front { OnErr result
         (AppendsFront (W.contents writer.old) (W.contents writer.new) (seen_line (Seen.Published line.now))) }
 {
-    write_batch(writer, line.queue, line.batch.as_slice())
+    write_entry(line, writer)
 }
 
 #[tactic(auto, unfolding(crate::specs::SeenLines::seen_line))]
