@@ -7,10 +7,9 @@ ghost use Rattle.seen_trace.specs.Observed.{Explains};
 ghost use Rattle.witness_check.specs.Followed.{Follows};
 
 use crate::witness::{Told, Witness};
-use block_array::NoMemory;
 use history::{Config, Entry};
 use seen_trace::Seen;
-use std::alloc::Global;
+use std::alloc::{AllocError as NoMemory, Global};
 
 // What a trace says at a place.
 fn next_of(trace: &[Seen], place: usize) -> Option<&Seen>

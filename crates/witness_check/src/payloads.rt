@@ -2,9 +2,8 @@
 
 ghost use Rattle.std.specs.Prelude.{◌≡◌, ◌++◌, ◌∷◌, [], IfOk, OnErr, OnOk, drop, get_or, replicate, set, slice_get};
 
-use block_array::NoMemory;
 use nvme_model::submission::Payload;
-use std::alloc::Global;
+use std::alloc::{AllocError as NoMemory, Global};
 use std::collections::VecDeque;
 use std::marker::Model;
 

@@ -13,14 +13,13 @@ ghost use Rattle.witness_check.specs.declared.witness.Told.TheVariants.{Same, Un
 
 use crate::payloads::{Payloads, no_payloads, pop_at, push_at};
 use crate::same::{is_published, is_reaped};
-use block_array::NoMemory;
 use byteorder::{ByteOrder, LittleEndian};
 use history::{Config, Entry};
 use nvme_model::entry::{PostLine, PublishLine, ReapLine};
 use nvme_model::submission::Payload;
 use one_pass_check::Checker;
 use seen_trace::Seen;
-use std::alloc::Global;
+use std::alloc::{AllocError as NoMemory, Global};
 use std::marker::Model;
 
 /// What is said of one more entry of a history, where a trace says something next.
