@@ -12,9 +12,9 @@ ghost use Rattle.slot_alloc.specs.Progresses.{IsClaimingOn, IsHeldOn, IsUnreleas
 use driver_cas::SharedPort;
 use driver_rows::{Bench, Host, Server, Spares, hand_of, hears, host_of, serves};
 use nvme_model::array::Range;
+use serving_laws::a_server_goes_on;
 use slot_alloc::{Claim, Claiming, Progress, Slots, poll_claim};
 use slot_hosts::driver_laws::{a_begun_claim_waits, a_held_claim_waits, a_host_goes_on};
-use slot_hosts::server_laws::a_server_goes_on;
 use std::alloc::{AllocError as NoMemory, Global};
 use std::snapshot::Snapshot;
 use std::sync::Wait;
