@@ -19,8 +19,8 @@ use Rattle.work_queue.specs.declared.task.Task.{Task}
 use Rattle.work_queue.specs.declared.task.Task.TheVariants as task
 use Rattle.driver_rows.specs.Benches.{ServesOn}
 use Rattle.driver_rows.specs.declared.bench.Server.{Server}
-use Rattle.slot_hosts.specs.Servers.{IsServing, is_served}
-use Rattle.slot_hosts.proofs.Servers.{declined, stepped}
+use Rattle.serving_laws.specs.Servers.{IsServing, is_served}
+use Rattle.serving_laws.proofs.Servers.{declined, stepped}
 
 -- after a Fetch, whether it was made or not
 pub fetched_serves : (eng : Engine) (p q : EnginePass) (queue : ℕ) (r : Result Opened Declined) → IsSame p q → Knows Kept p q → IfOk r (OpenedAs eng p q (opening.Fetch queue)) → IfErr r (Declines Refuses p q (Step.Fetch queue))

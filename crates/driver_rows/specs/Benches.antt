@@ -13,7 +13,7 @@ use Rattle.driver_rows.specs.declared.bench.Bench.{Bench}
 use Rattle.driver_rows.specs.declared.bench.Host.{Host}
 use Rattle.driver_rows.specs.declared.bench.Server.{Server}
 use Rattle.driver_rows.specs.declared.bench.Spares.{Spares}
-use Rattle.slot_hosts.specs.Servers.{IsServing}
+use Rattle.serving_laws.specs.Servers.{IsServing}
 
 -- submission queue q is there, and uses completion queue n
 abbrev pub uses : ConfigNumbers → ℕ → ℕ → Bool

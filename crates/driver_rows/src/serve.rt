@@ -40,7 +40,7 @@ pub fn fetches(bench: &Bench, server: &mut Server, queue: u16) -> Option<Work>
 }
 
 // Tells of a completion that was posted, where it was one of completion queue 1; whether it could.
-#[tactic(auto, using(slot_hosts::proofs::Servers::noted))]
+#[tactic(auto, using(serving_laws::proofs::Servers::noted))]
 fn tells<R: Wait>(rt: &R, bench: &Bench, server: &mut Server, queue: u16, answer: &Answer) -> bool
     requires own { IsServerOf bench.now server.old }
     requires posted { IsAnswerPosted (config_of server.old.pass) (entries (seen server.old.pass)) queue answer.now }

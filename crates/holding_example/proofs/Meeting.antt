@@ -16,7 +16,7 @@ use Rattle.slot_alloc.specs.Areas.{slot_of}
 use Rattle.slot_alloc.specs.Claims.{IsHeldBy}
 use Rattle.slot_alloc.specs.declared.claim.Claim.{Claim}
 use Rattle.slot_hosts.specs.Hosts.{AreTwoHosts, IsHost}
-use Rattle.slot_hosts.specs.Servers.{serves}
+use Rattle.serving_laws.specs.Servers.{serves}
 use Rattle.holding_example.specs.Holding.{one_slot}
 
 -- of two that exclude each other one isn't there

@@ -10,7 +10,7 @@ use Rattle.driver_rows.specs.declared.bench.Server.{Server}
 use Rattle.slot_alloc.specs.Claims.{IsHeldBy}
 use Rattle.slot_alloc.specs.declared.claim.Claim.{Claim}
 use Rattle.slot_hosts.specs.Hosts.{IsHost}
-use Rattle.slot_hosts.specs.Servers.{IsServing}
+use Rattle.serving_laws.specs.Servers.{IsServing}
 
 -- the one slot, at block 0
 abbrev pub one_slot : Range

@@ -12,9 +12,10 @@ ghost use Rattle.slot_alloc.specs.Progresses.{IsClaimingOn, IsHeldOn, IsUnreleas
 use driver_cas::SharedPort;
 use driver_rows::{Bench, Host, Server, Spares, hand_of, hears, host_of, serves};
 use nvme_model::array::Range;
+use serving_laws::a_server_goes_on;
+use slot_alloc::laws::an_untouched_driver_keeps_its_slots;
 use slot_alloc::{Claim, Claiming, Progress, Slots, poll_claim};
-use slot_hosts::driver_laws::{a_begun_claim_waits, a_held_claim_waits, a_host_goes_on};
-use slot_hosts::server_laws::a_server_goes_on;
+use slot_hosts::driver_laws::a_host_goes_on;
 use std::alloc::{AllocError as NoMemory, Global};
 use std::snapshot::Snapshot;
 use std::sync::Wait;
@@ -90,17 +91,17 @@ fn listens<'a, R: Wait>(
     bench: &Bench,
     host: &mut Host<'a>,
     _h: u16,
-    claiming: &Claiming<SharedPort<'a>>,
+    _claiming: &Claiming<SharedPort<'a>>,
 )
     requires host { IsAsker bench.now _h host.old }
-    requires claiming { IsClaimingOf host.old.driver claiming.now × IsUnreleased host.old.driver claiming.now }
+    requires claiming { IsClaimingOf host.old.driver _claiming.now × IsUnreleased host.old.driver _claiming.now }
     ensures host { IsAsker bench.now _h host.new }
-    ensures claiming { IsClaimingOf host.new.driver claiming.now × IsUnreleased host.new.driver claiming.now }
+    ensures claiming { IsClaimingOf host.new.driver _claiming.now × IsUnreleased host.new.driver _claiming.now }
 {
     let old = Snapshot::of(&host.driver);
     hears(rt, bench, host);
     a_host_goes_on(&old, &host.driver);
-    a_begun_claim_waits(&old, &host.driver, claiming);
+    an_untouched_driver_keeps_its_slots(&old, &host.driver);
 }
 
 // Asks what has come of it.
@@ -192,7 +193,7 @@ pub(crate) fn meets(
     let met = one.driver.meet(&mut two.driver);
     a_host_goes_on(&first, &one.driver);
     a_host_goes_on(&second, &two.driver);
-    a_held_claim_waits(&first, &one.driver);
-    a_held_claim_waits(&second, &two.driver);
+    an_untouched_driver_keeps_its_slots(&first, &one.driver);
+    an_untouched_driver_keeps_its_slots(&second, &two.driver);
     met.ok()
 }

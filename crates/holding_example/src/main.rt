@@ -8,9 +8,10 @@ mod asking;
 
 use asking::{Held, asks, meets, seats_of};
 use driver_rows::{Bench, Host, Server, small_bench};
+use serving_laws::{a_server_goes_on, what_a_server_has_seen};
 use slot_alloc::Slots;
-use slot_hosts::driver_laws::{a_held_claim_waits, a_host_goes_on, two_hosts_never_hold_one_slot};
-use slot_hosts::server_laws::{a_server_goes_on, what_a_server_has_seen};
+use slot_alloc::laws::an_untouched_driver_keeps_its_slots;
+use slot_hosts::driver_laws::{a_host_goes_on, two_hosts_never_hold_one_slot};
 use std::process::ExitCode;
 use std::snapshot::Snapshot;
 use std::sync::Wait;
@@ -34,7 +35,7 @@ fn who_holds(
         return None;
     };
     a_host_goes_on(&met, &one.driver);
-    a_held_claim_waits(&met, &one.driver);
+    an_untouched_driver_keeps_its_slots(&met, &one.driver);
     a_server_goes_on();
     what_a_server_has_seen();
     two_hosts_never_hold_one_slot(&one.driver, &two.driver);

@@ -1,44 +1,87 @@
 -- What a hand has seen goes on from what it had.
-use Rattle.std.proofs.Common.{◌≡◌, ◌++◌, List, [], ◌∙◌, ap, append_assoc, refl, subst, sym, true}
+use Rattle.std.proofs.Common.{◌≡◌, ◌++◌, List, [], ◌∙◌, ap, append_assoc, refl, subst, sym, true, ℕ}
 use Rattle.nvme_model.specs.Passes.{IsBeginning, SharedPast}
 use Rattle.nvme_model.specs.declared.config.ConfigNumbers.{ConfigNumbers}
 use Rattle.nvme_model.specs.declared.entry.Entry.{Entry}
+use Rattle.nvme_model.specs.declared.step.Step.{Step}
 use Rattle.nvme_model.specs.Kept.{Kept}
+use Rattle.controller_steps.specs.State.{Accepts, Refuses, State}
 use Rattle.controller_steps.specs.declared.answer.Answer.{Answer}
 use Rattle.controller_steps.specs.declared.work.Work.{Work as Duty}
-use Rattle.meet_lock.specs.Passes.{IsSame, Knows, config_of, seen}
-use Rattle.work_queue.specs.Duties.{is_only_fetch}
+use Rattle.meet_lock.specs.Passes.{Declines, IsSame, Knows, Worked, config_of, seen}
+use Rattle.meet_lock.specs.declared.pass.Declined.{Declined}
+use Rattle.meet_lock.specs.declared.seats.TicketSeat.{TicketSeat}
+use Rattle.serving_laws.specs.Servers.{IsServing, is_served}
+use Rattle.serving_laws.proofs.Servers.{declined, noted, stepped}
+use Rattle.work_queue.specs.Duties.{is_only_fetch, task_step}
 use Rattle.work_queue.specs.Engines as engine
 use Rattle.work_queue.specs.QueuePasses as queue
 use Rattle.work_queue.specs.declared.engine.Engine.{Engine}
 use Rattle.work_queue.specs.declared.engine.Open.{Open}
+use Rattle.work_queue.specs.declared.engine.Open.TheVariants as opening
+use Rattle.work_queue.specs.declared.engine.Opened.{Opened}
 use Rattle.work_queue.specs.declared.engine.Opened.TheVariants as opened
 use Rattle.work_queue.specs.declared.notice.Notice.{Notice}
 use Rattle.work_queue.specs.declared.queue.QueuePass.{QueuePass}
+use Rattle.work_queue.specs.declared.task.Task.{Task}
+use Rattle.work_queue.specs.declared.task.Task.TheVariants as task
 use Rattle.work_queue.specs.declared.work.Work.{Work}
 use Rattle.hosts.specs.declared.hall.Hall.{Hall}
 use Rattle.hosts.specs.declared.hall.Hand.{Hand}
 use Rattle.hosts.specs.Hands.{AreNoticesOf, Goes, IsOf}
+
+-- a task serves
+task_serves : (k : Task) (t : ℕ) → is_served (task_step k t) ≡ true
+task_serves task.Grant t = refl
+task_serves task.Block t = refl
+task_serves task.Post t = refl
 
 begins_far : (xs ys zs : SharedPast) → IsBeginning xs ys → IsBeginning ys zs → IsBeginning xs zs
 begins_far xs ys zs a b = (b.0 ++ a.0, append_assoc b.0 a.0 xs ∙ (ap (λ l. b.0 ++ l) a.1 ∙ b.1))
 
 module _ {G : Type 0} where
   pub goes_same : (hall : Hall G) (h : Hand) → IsOf hall h → Goes hall h h
-  goes_same hall h of = record { of = of; config = refl; begins = ([], refl) }
+  goes_same hall h of = record { of = of; same = (refl, refl, refl, refl); begins = ([], refl); serves = λ x. x }
 
   pub goes_on : (hall : Hall G) (h k m : Hand) → Goes hall h k → Goes hall k m → Goes hall h m
   goes_on hall h k m a b =
-      record { of = b.of; config = b.config ∙ a.config; begins = begins_far (seen h.pass) (seen k.pass) (seen m.pass) a.begins b.begins }
+      record {
+        of = b.of;
+        same = (b.same.0 ∙ a.same.0, b.same.1 ∙ a.same.1, b.same.2 ∙ a.same.2, b.same.3 ∙ a.same.3);
+        begins = begins_far (seen h.pass) (seen k.pass) (seen m.pass) a.begins b.begins;
+        serves = λ x. b.serves (a.serves x);
+      }
 
-  -- by a step of its pass
-  pub goes_step : (hall : Hall G) (h : Hand) (p : engine.EnginePass) → IsOf hall h → IsSame h.pass p → Knows Kept h.pass p
+  goes_step : (hall : Hall G) (h : Hand) (p : engine.EnginePass) → IsOf hall h → IsSame h.pass p → Knows Kept h.pass p → (IsServing h.pass → IsServing p)
       → Goes hall h (record h { pass = p })
-  goes_step hall h p of same knows = record { of = (same.0 ∙ of.0, of.1); config = same.3; begins = knows.1 }
+  goes_step hall h p of same knows serves = record { of = (same.0 ∙ of.0, of.1); same = same; begins = knows.1; serves = serves }
+
+  -- by a Fetch that was made
+  pub goes_fetched : (hall : Hall G) (h : Hand) (p : engine.EnginePass) (n : ℕ) (o : Opened) → IsOf hall h → IsSame h.pass p → Knows Kept h.pass p
+      → engine.OpenedAs hall.engine h.pass p (opening.Fetch n) o → Goes hall h (record h { pass = p })
+  goes_fetched hall h p n o of same knows x =
+      goes_step hall h p of same knows (stepped h.pass p (engine.open_step (opening.Fetch n)) x.answer same knows refl x.by)
+
+  -- by a task that was made
+  pub goes_worked : (hall : Hall G) (h : Hand) (p : engine.EnginePass) (w v : TicketSeat State) (k : Task) (t : ℕ) (a : Answer) → IsOf hall h → IsSame h.pass p
+      → Knows Kept h.pass p → Worked Accepts h.pass p w v (task_step k t) a → Goes hall h (record h { pass = p })
+  goes_worked hall h p w v k t a of same knows x =
+      goes_step hall h p of same knows (stepped h.pass p (task_step k t) a same knows (task_serves k t) x.by)
+
+  -- by a step that was declined
+  pub goes_declined : (hall : Hall G) (h : Hand) (p : engine.EnginePass) (step : Step) (d : Declined) → IsOf hall h → IsSame h.pass p → Knows Kept h.pass p
+      → Declines Refuses h.pass p step d → Goes hall h (record h { pass = p })
+  goes_declined hall h p step d of same knows x = goes_step hall h p of same knows (declined h.pass p step d same knows x)
+
+  -- by a note
+  pub goes_noted : (hall : Hall G) (h : Hand) (p : engine.EnginePass) → IsOf hall h → IsSame h.pass p → seen p ≡ seen h.pass → Goes hall h (record h { pass = p })
+  goes_noted hall h p of same stay =
+      record { of = (same.0 ∙ of.0, of.1); same = same; begins = ([], sym stay); serves = noted h.pass p same stay }
 
   -- by a push or a pop
   pub goes_push : (hall : Hall G) (h : Hand) (q : QueuePass Work) → IsOf hall h → queue.IsSame h.works q → Goes hall h (record h { works = q })
-  goes_push hall h q of same = record { of = (of.0, (same.0 ∙ of.1.0, same.2 ∙ of.1.1)); config = refl; begins = ([], refl) }
+  goes_push hall h q of same =
+      record { of = (of.0, (same.0 ∙ of.1.0, same.2 ∙ of.1.1)); same = (refl, refl, refl, refl); begins = ([], refl); serves = λ x. x }
 
 -- the Work of a Fetch may be pushed
 fetched_is : (e : Engine) (q : engine.EnginePass) (entry : Entry) (a : Answer) (w : Work) → engine.IsOpened e q entry a (opened.Fetched w)
@@ -58,4 +101,4 @@ module _ {G : Type 0} where
   -- the passes of the queues of notices stay those of the same controller's
   pub notices_on : (hall : Hall G) (h k : Hand) (ps : List (QueuePass Notice)) → Goes hall h k → AreNoticesOf hall (config_of h.pass).cqs ps
       → AreNoticesOf hall (config_of k.pass).cqs ps
-  notices_on hall h k ps a x = subst (λ (c : ConfigNumbers). AreNoticesOf hall c.cqs ps) (sym a.config) x
+  notices_on hall h k ps a x = subst (λ (c : ConfigNumbers). AreNoticesOf hall c.cqs ps) (sym a.same.3) x

@@ -4,8 +4,9 @@ use Rattle.std.specs.Prelude.{All, List, Ok, Option, Result, Some, length, slice
 use Rattle.std.specs.Prelude.{◌≡◌, ◌≤◌}
 use Rattle.nvme_model.specs.Passes.{IsBeginning, entries}
 use Rattle.nvme_model.specs.declared.config.ConfigNumbers.{ConfigNumbers}
-use Rattle.meet_lock.specs.Passes.{config_of, seen}
+use Rattle.meet_lock.specs.Passes.{IsSame, config_of, seen}
 use Rattle.controller_steps.specs.declared.answer.Answer.{Answer}
+use Rattle.serving_laws.specs.Servers.{IsServing}
 use Rattle.work_queue.specs.Duties.{is_only_fetch}
 use Rattle.work_queue.specs.Engines as engine
 use Rattle.work_queue.specs.Posted.{IsAnswerPosted}
@@ -47,11 +48,13 @@ module _ {G : Type 0} where
   abbrev pub IsOf : Hall G → Hand → Type 0
   IsOf hall h = engine.IsOf hall.engine h.pass × queue.IsPlaceOf hall.engine hall.works h.works
 
-  -- It is so later, of the same controller, and what its pass has seen begins with what it had.
+  -- It is so later, with a pass of the same number. What that has seen begins with what it had; and if it served, it
+  -- serves: all that it made itself are Fetches, Grants, Blocks and Posts.
   pub record Goes (hall : Hall G) (h k : Hand) : Type 0 where
     pub of : IsOf hall k
-    pub config : config_of k.pass ≡ config_of h.pass
+    pub same : IsSame h.pass k.pass
     pub begins : IsBeginning (seen h.pass) (seen k.pass)
+    pub serves : IsServing h.pass → IsServing k.pass
 
   -- a Work that may be pushed
   abbrev pub IsFresh : Hall G → Work → Type 0

@@ -26,6 +26,7 @@ fn completion_place(queue: u16, count: usize) -> u16
 }
 
 // The word of this completion, which is posted to that completion queue.
+#[tactic(auto, using(crate::proofs::Going::goes_noted))]
 fn noted<G: Gate>(
     hall: &Hall<G>,
     hand: &mut Hand,

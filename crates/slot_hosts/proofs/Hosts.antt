@@ -23,8 +23,8 @@ use Rattle.driver_cas.specs.declared.shared_port.SharedPort.{SharedPort}
 use Rattle.meet_lock.specs.Lock.{AreOfPasses}
 use Rattle.meet_lock.specs.Passes.{config_of, mine, number, seen}
 use Rattle.slot_calls.specs.Careful.{is_careful}
-use Rattle.slot_hosts.specs.Rosters.{Roster, all_in_place, is_in_place, is_serving, keeps_to}
-use Rattle.slot_hosts.specs.Servers.{serves}
+use Rattle.slot_hosts.specs.Rosters.{Roster, all_in_place, is_in_place, keeps_to}
+use Rattle.serving_laws.specs.Servers.{is_serving, serves}
 
 -- ---- elements of a shared history
 

@@ -38,7 +38,8 @@ use Rattle.slot_calls.proofs.Claiming.{claimed_host}
 use Rattle.slot_calls.proofs.Keeping.{careful_disciplined}
 use Rattle.slot_calls.proofs.Knowing.{Knows, log_knows}
 use Rattle.slot_calls.proofs.Meeting.{other_queues}
-use Rattle.slot_hosts.specs.Rosters.{IsRosterOf, Roster, all_in_place, is_in_place, is_serving, port_of}
+use Rattle.serving_laws.specs.Servers.{is_serving}
+use Rattle.slot_hosts.specs.Rosters.{IsRosterOf, Roster, all_in_place, is_in_place, port_of}
 
 -- ---- a careful log without its newest events
 

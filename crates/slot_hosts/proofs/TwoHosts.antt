@@ -21,8 +21,8 @@ use Rattle.meet_lock.specs.Lock.{AreOfPasses}
 use Rattle.meet_lock.specs.Passes.{config_of, number}
 use Rattle.slot_calls.specs.Careful.{is_careful}
 use Rattle.slot_calls.specs.Swaps.{log_believed}
-use Rattle.slot_hosts.specs.Rosters.{IsRosterOf, Roster, is_in_place, is_serving}
-use Rattle.slot_hosts.specs.Servers.{serves}
+use Rattle.slot_hosts.specs.Rosters.{IsRosterOf, Roster, is_in_place}
+use Rattle.serving_laws.specs.Servers.{is_serving, serves}
 use Rattle.slot_hosts.proofs.Hosts.{PortIn, every_from, every_in, is_own, made_log, met_careful, met_legal, met_own, met_tidy, numbered}
 use Rattle.slot_hosts.proofs.Rosters.{one_believes}
 

@@ -11,7 +11,7 @@ use Rattle.driver_cas.specs.declared.driver.Driver.{Driver}
 use Rattle.driver_cas.specs.declared.port.Port.{Ghosts}
 use Rattle.driver_cas.specs.declared.shared_port.SharedPort.{SharedPort}
 use Rattle.slot_alloc.specs.Careful.{IsCareful}
-use Rattle.slot_hosts.specs.Servers.{serves}
+use Rattle.serving_laws.specs.Servers.{serves}
 
 module _ {g : Ghosts SharedPort} where
   -- A careful driver whose port had seen nothing when the driver was made, of this configuration and slot area, with

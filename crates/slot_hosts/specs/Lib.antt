@@ -1,3 +1,2 @@
 pub mod Rosters
-pub mod Servers
 pub mod Hosts

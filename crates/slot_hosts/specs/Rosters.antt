@@ -1,5 +1,5 @@
 -- Several drivers and servers that share one history: whose each entry is.
-use Rattle.std.specs.Prelude.{Bool, false, if◌then◌else◌, not, true, ℕ, ◌==◌, ◌||◌, ◌≡◌}
+use Rattle.std.specs.Prelude.{Bool, if◌then◌else◌, not, true, ℕ, ◌==◌, ◌||◌, ◌≡◌}
 use Rattle.std.specs.List.{list_all}
 use Rattle.nvme_model.specs.Legal.{IsLegal}
 use Rattle.nvme_model.specs.Passes.{SharedPast, entries}
@@ -11,6 +11,7 @@ use Rattle.driver_calls.specs.Events.{events}
 use Rattle.driver_calls.specs.Log.{is_tidy}
 use Rattle.driver_calls.specs.Views.{PortView}
 use Rattle.slot_calls.specs.Careful.{is_careful}
+use Rattle.serving_laws.specs.Servers.{is_serving}
 
 -- By the number of a pass: whether it is the pass of a driver's port; and if so the completion queue of that port, the
 -- driver's host number, and the last serial that it drew.
@@ -19,12 +20,6 @@ pub record Roster : Type 0 where
   pub queue : ℕ → ℕ
   pub host : ℕ → ℕ
   pub last : ℕ → ℕ
-
--- the entry is a Fetch, a Grant, a Block or a Post
-abbrev pub is_serving : Entry → Bool
-is_serving (Entry.Publish p) = false
-is_serving (Entry.Reap r) = false
-is_serving _ = true
 
 -- made by pass p, it is a driver's own, for its queues; or, where the pass is no driver's, it serves
 abbrev pub is_in_place : ConfigNumbers → Roster → ℕ → Entry → Bool

@@ -13,14 +13,13 @@ ghost use Rattle.driver_cas.specs.Ports.{view_of};
 ghost use Rattle.driver_cas.specs.Starts.{IsUntouched};
 ghost use Rattle.slot_alloc.specs.Areas.{slot_of};
 ghost use Rattle.slot_alloc.specs.Careful.{GoesOn, IsCareful, ReleasedName};
-ghost use Rattle.slot_alloc.specs.Claims.{IsClaimingOf, IsHeldBy, IsUnreleased};
+ghost use Rattle.slot_alloc.specs.Claims.{IsHeldBy};
 ghost use Rattle.slot_alloc.specs.declared.claim.Claim.{Claim};
 ghost use Rattle.slot_calls.specs.Careful.{is_careful};
 ghost use Rattle.slot_hosts.specs.Hosts.{AreTwoHosts, IsHost, IsHostIn};
 ghost use Rattle.slot_hosts.specs.Rosters.{keeps_to};
 
 use driver_cas::{Driver, SharedPort};
-use slot_alloc::Claiming;
 use std::snapshot::Snapshot;
 
 /// A driver that was made just now, with a pass that had seen nothing, is a host.
@@ -40,31 +39,6 @@ pub fn a_host_goes_on(old: &Snapshot<Driver<SharedPort<'_>>>, new: &Driver<Share
     ensures untouched { (c : ConfigNumbers) (slots : Range) (pass queue host : ℕ) →
         IsUntouched old.now.value new.now → IsHost c slots pass queue host old.now.value →
         IsHost c slots pass queue host new.now }
-{
-    let _ = old;
-    let _ = new;
-}
-
-/// A claim that was begun stays so over meetings and notices.
-pub fn a_begun_claim_waits(
-    old: &Snapshot<Driver<SharedPort<'_>>>,
-    new: &Driver<SharedPort<'_>>,
-    claiming: &Claiming<SharedPort<'_>>,
-)
-    ensures claiming { IsUntouched old.now.value new.now → IsClaimingOf old.now.value claiming.now →
-        IsClaimingOf new.now claiming.now }
-    ensures unreleased { IsUntouched old.now.value new.now → IsClaimingOf old.now.value claiming.now →
-        IsUnreleased old.now.value claiming.now → IsUnreleased new.now claiming.now }
-{
-    let _ = old;
-    let _ = new;
-    let _ = claiming;
-}
-
-/// So does a claim that is held.
-pub fn a_held_claim_waits(old: &Snapshot<Driver<SharedPort<'_>>>, new: &Driver<SharedPort<'_>>)
-    ensures { (claim : Claim) → IsUntouched old.now.value new.now → IsHeldBy old.now.value claim →
-        IsHeldBy new.now claim }
 {
     let _ = old;
     let _ = new;

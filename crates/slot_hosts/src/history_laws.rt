@@ -11,7 +11,7 @@ ghost use Rattle.driver_calls.specs.Views.{log_of};
 ghost use Rattle.slot_calls.specs.Hosts.{IsSlotView};
 ghost use Rattle.slot_calls.specs.Swaps.{log_believed};
 ghost use Rattle.slot_hosts.specs.Rosters.{IsRosterOf, Roster, all_in_place, keeps_to, port_of};
-ghost use Rattle.slot_hosts.specs.Servers.{serves};
+ghost use Rattle.serving_laws.specs.Servers.{serves};
 
 /// Where each driver of a history is careful by what it did itself, and all else is served, the whole history keeps the
 /// discipline of the slot area; and the premises of a host, with all that follows from them, hold of each driver.

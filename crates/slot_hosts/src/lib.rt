@@ -3,4 +3,3 @@
 
 pub mod driver_laws;
 pub mod history_laws;
-pub mod server_laws;

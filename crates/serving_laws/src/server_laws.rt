@@ -10,7 +10,7 @@ ghost use Rattle.meet_lock.specs.Lock.{AreOfPasses, GoesOn};
 ghost use Rattle.meet_lock.specs.Passes.{Accepted, Declines, IsSame, Knows, mine, number, passes_of, seen};
 ghost use Rattle.meet_lock.specs.declared.pass.Declined.{Declined};
 ghost use Rattle.work_queue.specs.Engines.{EnginePass};
-ghost use Rattle.slot_hosts.specs.Servers.{IsServing, is_served, serves};
+ghost use Rattle.serving_laws.specs.Servers.{IsServing, is_served, serves};
 
 /// A pass that has seen nothing serves, and goes on to serve by Fetches, Grants, Blocks and Posts, and by whatever else
 /// it comes to see.

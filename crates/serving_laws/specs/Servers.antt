@@ -2,11 +2,17 @@
 use Rattle.std.specs.Prelude.{Bool, false, not, true, ℕ, ◌==◌, ◌||◌, ◌≡◌}
 use Rattle.std.specs.List.{list_all}
 use Rattle.nvme_model.specs.Passes.{SharedPast}
+use Rattle.nvme_model.specs.declared.entry.Entry.{Entry}
 use Rattle.nvme_model.specs.declared.step.Step.{Step}
 use Rattle.meet_lock.specs.Lock.{AreOfPasses}
 use Rattle.meet_lock.specs.Passes.{number, passes_of, seen}
 use Rattle.work_queue.specs.Engines.{EnginePass}
-use Rattle.slot_hosts.specs.Rosters.{is_serving}
+
+-- the entry is a Fetch, a Grant, a Block or a Post
+abbrev pub is_serving : Entry → Bool
+is_serving (Entry.Publish p) = false
+is_serving (Entry.Reap r) = false
+is_serving _ = true
 
 -- each entry that pass p made is a Fetch, a Grant, a Block or a Post
 abbrev pub serves : ℕ → SharedPast → Bool

@@ -19,8 +19,7 @@ use Rattle.meet_lock.specs.Lock.{AreOfPasses, GoesOn}
 use Rattle.meet_lock.specs.Passes.{Accepted, Declines, IsSame, Knows, config_of, mine, number, passes_of, seen}
 use Rattle.meet_lock.specs.declared.pass.Declined.{Declined}
 use Rattle.work_queue.specs.Engines.{EnginePass}
-use Rattle.slot_hosts.specs.Rosters.{is_serving}
-use Rattle.slot_hosts.specs.Servers.{IsServing, is_served, serves}
+use Rattle.serving_laws.specs.Servers.{IsServing, is_served, is_serving, serves}
 
 -- ---- histories that go on
 

@@ -1,5 +1,0 @@
-use Rattle.slot_hosts.proofs.Servers.{declined, fresh, noted, saw, stepped}
-use Rattle.slot_hosts.proofs.server_laws.a_server_goes_on.Goals as goal
-
-pub returns : goal.returns
-returns c = record { fresh = fresh; stepped = stepped; declined = declined; noted = noted; saw = saw }
