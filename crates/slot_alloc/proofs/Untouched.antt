@@ -1,5 +1,5 @@
 -- What was begun and what is held, where the driver did nothing.
-use Rattle.std.proofs.Common.{None, ap, inl, refl, subst, sym, true, ℕ, ◌<◌, ◌∙◌, ◌≡◌}
+use Rattle.std.proofs.Common.{None, ap, inl, refl, subst, sym, ℕ, ◌<◌, ◌∙◌, ◌≡◌}
 use Rattle.nvme_model.specs.declared.array.Range.{Range}
 use Rattle.cid_table.specs.Cids.{Cids, held}
 use Rattle.driver_cas.proofs.Drivers.{reaped_calls}
