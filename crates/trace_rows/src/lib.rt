@@ -1,0 +1,10 @@
+//! Histories beside traces, by calls, as tests: what is answered where there is memory enough, and with queues that are
+//! full.
+#![tactic(auto)]
+
+#[cfg(test)]
+mod sessions;
+#[cfg(test)]
+mod shared_queue;
+#[cfg(test)]
+mod texts;
