@@ -2,7 +2,7 @@
 
 use crate::failing::{FailingReader, FailingWriter};
 use crate::files::file_of;
-use casdisk_script::{RunFault, check_text, run_script};
+use casdisk_script::{RunFault, check_text, follow_text, run_script};
 use history::all_kinds;
 use std::alloc::Global;
 use std::io::ErrorKind;
@@ -14,6 +14,7 @@ use std::test::Fail;
 enum Work {
     Run,
     Check,
+    Follow,
 }
 
 /// A pair that wins, and a Read of what it wrote.
@@ -33,6 +34,7 @@ const ENDED: &[(Work, &str)] = &[
     (Work::Run, SCRIPT),
     (Work::Check, WRITE),
     (Work::Check, UNMARKED),
+    (Work::Follow, WRITE),
 ];
 
 /// Texts of which some end well, whose reading and writing fail at any two calls.
@@ -56,6 +58,8 @@ const NAMED: &[(Work, &str)] = &[
         "fetch 1 1 1 ok / grant 1 0 3 1 w / block 1 0 3 written / reap 1 00000000000000000100010001000100",
     ),
     (Work::Check, "config 8 3 1 2 0 2 4 4 8 / reap 1"),
+    (Work::Follow, WRITE),
+    (Work::Follow, UNMARKED),
 ];
 
 /// Which call of a reader and which of a writer fail, from 1, and how many bytes each takes at a call.
@@ -89,6 +93,7 @@ fn answer_of(
             Err(fault) => Err(fault),
         },
         Work::Check => check_text(alloc, reader, writer),
+        Work::Follow => follow_text(alloc, reader, writer),
     }
 }
 
@@ -256,6 +261,29 @@ fn an_interrupted_call_is_made_again(rt: HostRuntime) -> Result<(), Fail> {
             go_on(&rt, rt.alloc(), *work, file.as_bytes(), width);
         }
     }
+    Ok(())
+}
+
+#[test]
+fn a_check_that_follows_reads_no_further(rt: HostRuntime) -> Result<(), Fail> {
+    let file = file_of(rt.alloc(), "fetch 1 1 1 ok / no line")?;
+    let front = file_of(rt.alloc(), "fetch 1 1 1 ok")?;
+    let calls = Calls {
+        read: (front.len() as u64).saturating_add(1),
+        write: 0,
+        read_width: 1,
+        write_width: 100,
+    };
+    let made = made_with(
+        rt.alloc(),
+        Work::Follow,
+        file.as_bytes(),
+        calls,
+        ErrorKind::Other,
+    );
+    assert_eq!(rt; made.answer, Ok(false));
+    assert!(rt; !made.reader);
+    assert_eq!(rt; made.output.as_slice(), b"bad at 1\n".as_slice());
     Ok(())
 }
 
