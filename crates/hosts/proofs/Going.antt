@@ -18,7 +18,7 @@ use Rattle.work_queue.specs.Engines as engine
 use Rattle.work_queue.specs.QueuePasses as queue
 use Rattle.work_queue.specs.declared.engine.Engine.{Engine}
 use Rattle.work_queue.specs.declared.engine.Open.{Open}
-use Rattle.work_queue.specs.declared.engine.Open.TheVariants as open
+use Rattle.work_queue.specs.declared.engine.Open.TheVariants as opening
 use Rattle.work_queue.specs.declared.engine.Opened.{Opened}
 use Rattle.work_queue.specs.declared.engine.Opened.TheVariants as opened
 use Rattle.work_queue.specs.declared.notice.Notice.{Notice}
@@ -58,9 +58,9 @@ module _ {G : Type 0} where
 
   -- by a Fetch that was made
   pub goes_fetched : (hall : Hall G) (h : Hand) (p : engine.EnginePass) (n : ℕ) (o : Opened) → IsOf hall h → IsSame h.pass p → Knows Kept h.pass p
-      → engine.OpenedAs hall.engine h.pass p (open.Fetch n) o → Goes hall h (record h { pass = p })
+      → engine.OpenedAs hall.engine h.pass p (opening.Fetch n) o → Goes hall h (record h { pass = p })
   goes_fetched hall h p n o of same knows x =
-      goes_step hall h p of same knows (stepped h.pass p (engine.open_step (open.Fetch n)) x.answer same knows refl x.by)
+      goes_step hall h p of same knows (stepped h.pass p (engine.open_step (opening.Fetch n)) x.answer same knows refl x.by)
 
   -- by a task that was made
   pub goes_worked : (hall : Hall G) (h : Hand) (p : engine.EnginePass) (w v : TicketSeat State) (k : Task) (t : ℕ) (a : Answer) → IsOf hall h → IsSame h.pass p

@@ -42,8 +42,7 @@ fn unfetched(declined: Declined) -> Fetched
 }
 
 // Asks for one Fetch of this submission queue.
-#[tactic(auto, using(crate::proofs::Going::goes_fetched, crate::proofs::Going::goes_declined,
-    crate::proofs::Going::fetched_ready))]
+#[tactic(auto, using(crate::proofs::Going::goes_fetched, crate::proofs::Going::fetched_ready))]
 fn fetch<G: Gate>(hall: &Hall<G>, hand: &mut Hand, queue: u16) -> Fetched
     requires { IsOf hall.now hand.old }
     ensures goes { Goes hall.now hand.old hand.new }

@@ -44,7 +44,6 @@ fn unmade(declined: Declined) -> Tried
 }
 
 // Asks for a task that is in its place.
-#[tactic(auto, using(crate::proofs::Going::goes_worked, crate::proofs::Going::goes_declined))]
 fn attempt<G: Gate>(hall: &Hall<G>, hand: &mut Hand, work: &mut Work, task: Task) -> Tried
     requires own { IsOf hall.now hand.old × engine.IsWorkOf hall.now.engine work.old }
     requires allowed { task_fault (duty_of work.old.work) work.old.work.ticket (engine.its work.old)

@@ -1,4 +1,4 @@
-use Rattle.std.proofs.Common.{All, List, Ok, Result, vec_len, ◌+◌, ◌++◌, ◌≡◌}
+use Rattle.std.proofs.Common.{All, List, Ok, vec_len, ◌+◌, ◌++◌, ◌≡◌}
 use Rattle.std.specs.Prelude.{OnOk}
 use Rattle.hosts.proofs.crew.join_each.Given as goal
 

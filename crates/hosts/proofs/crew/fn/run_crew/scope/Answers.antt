@@ -1,4 +1,4 @@
-use Rattle.std.proofs.Common.{IfOk, subst, sym, ◌≡◌}
+use Rattle.std.proofs.Common.{IfOk, subst, sym}
 use Rattle.std.proofs.lemmas.Result.{IfOk-at_ok}
 use Rattle.hosts.proofs.Ends.{ended_both}
 use Rattle.hosts.specs.Hands.{Goes}
