@@ -1,5 +1,9 @@
 -- A host goes on from what it was.
 use Rattle.std.proofs.Common.{◌≡◌, ◌≤◌, ℕ, Option, arith, length, ◌-◌, ◌∙◌, refl, sym, subst, ap}
+use Rattle.std.specs.declared.snapshot.Snapshot.{Snapshot}
+use Rattle.nvme_model.specs.declared.array.Range.{Range}
+use Rattle.nvme_model.specs.declared.config.ConfigNumbers.{ConfigNumbers}
+use Rattle.meet_lock.specs.Passes.{seen}
 use Rattle.work_queue.specs.declared.notice.Notice.{Notice}
 use Rattle.work_queue.specs.declared.queue.QueuePass.{QueuePass}
 use Rattle.hosts.specs.Hands.{IsPlaceAt}
@@ -13,6 +17,7 @@ use Rattle.driver_cas.specs.declared.shared_port.SharedPort.{SharedPort}
 use Rattle.slot_alloc.specs.Areas.{area}
 use Rattle.slot_alloc.specs.Careful as careful
 use Rattle.slot_alloc.specs.Careful.{IsCareful, ReleasedName}
+use Rattle.slot_hosts.specs.Hosts.{IsHost}
 use Rattle.host_rounds.specs.Hosts.{Goes, IsHosting}
 use Rattle.host_rounds.specs.declared.owned.Host.{Host}
 
@@ -52,6 +57,19 @@ module _ {G : Type 0} where
         slots = b.slots ∙ a.slots;
         queue = b.queue ∙ a.queue;
         later = later_on (port_of h.driver) (port_of k.driver) (port_of m.driver) a.later b.later;
+      }
+
+  -- whoever is a host stays one
+  pub host_on : (hall : Hall G) (h k : Host) → Goes hall h k → (c : ConfigNumbers) (slots : Range) (pass queue n : ℕ) → IsHost c slots pass queue n h.driver → IsHost c slots pass queue n k.driver
+  host_on hall h k a c slots pass queue n x =
+      record {
+        first = ap (λ (b : Snapshot SharedPort). seen b.value.pass) a.settings.began ∙ x.first;
+        careful = a.of.careful;
+        config = a.later.view.same_config ∙ x.config;
+        area = a.settings.slots ∙ x.area;
+        pass_is = a.later.view.same_pass ∙ x.pass_is;
+        queue_is = a.later.view.same_queue ∙ x.queue_is;
+        host_is = a.settings.host ∙ x.host_is;
       }
 
   -- by a call of its driver

@@ -2,9 +2,11 @@
 
 ghost use Rattle.std.specs.List.Sorted.{IsStrictlyIncreasing};
 ghost use Rattle.std.specs.Prelude.{◌≡◌, ◌≤◌, ◌<◌, ◌+◌, All, IfOk, OnOk, length, true, vec_len};
+ghost use Rattle.meet_lock.specs.Passes.{number};
 ghost use Rattle.hosts.specs.Hands.{IsHostOf};
 ghost use Rattle.driver_cas.specs.Drivers as driver;
 ghost use Rattle.slot_alloc.specs.Areas.{area};
+ghost use Rattle.slot_hosts.specs.Hosts.{IsHost};
 ghost use Rattle.host_rounds.specs.Hosts.{HasEach, HasEachBelow, IsHosting, IsSlotArea, port_queue, uses};
 
 use driver_cas::{Driver, SharedPort};
@@ -12,6 +14,7 @@ use history::Config;
 use hosts::{Hall, HostHand};
 use nvme_model::array::Range;
 use slot_alloc::Slots;
+use slot_hosts::driver_laws::a_new_driver_is_a_host;
 use std::alloc::{AllocError as NoMemory, Global};
 use work_queue::{Notice, QueuePass};
 
@@ -91,6 +94,7 @@ pub fn host_of<'a, G>(
     ensures acwu { IfOk result (λ h. driver.acwu_of h.driver ≡ config.now.atomic.acwu) }
     ensures slots { IfOk result (λ h. (driver.area_of h.driver ≡ slots) × (area h.slots ≡ slots)) }
     ensures queues { IfOk result (λ h. HasEach config.now hand.queue (driver.queues_used h.driver)) }
+    ensures is { IfOk result (λ h. IsHost config.now slots (number hand.pass) hand.queue hand.queue h.driver) }
 {
     let HostHand {
         pass,
@@ -101,12 +105,15 @@ pub fn host_of<'a, G>(
     let acwu = config.numbers().atomic.acwu;
     let port = SharedPort::new(&hall.engine, pass, queue);
     match Driver::new(alloc, port, u32::from(queue), acwu, slots, queues) {
-        Ok(driver) => Ok(Host {
-            driver,
-            slots: Slots::new(slots.slba, slots.blocks),
-            queue,
-            notices,
-        }),
+        Ok(driver) => {
+            a_new_driver_is_a_host(&driver);
+            Ok(Host {
+                driver,
+                slots: Slots::new(slots.slba, slots.blocks),
+                queue,
+                notices,
+            })
+        }
         Err(_) => Err(NoMemory),
     }
 }

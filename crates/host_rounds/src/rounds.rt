@@ -1,6 +1,9 @@
 //! The rounds of a host.
 
-ghost use Rattle.std.specs.Prelude.{◌≡◌};
+ghost use Rattle.std.specs.Prelude.{ℕ, ◌≡◌};
+ghost use Rattle.nvme_model.specs.declared.array.Range.{Range};
+ghost use Rattle.nvme_model.specs.declared.config.ConfigNumbers.{ConfigNumbers};
+ghost use Rattle.slot_hosts.specs.Hosts.{IsHost};
 ghost use Rattle.host_rounds.specs.Hosts.{Goes, IsHosting};
 
 use crate::claiming::take_slot;
@@ -22,11 +25,13 @@ fn round<R: Wait, G>(rt: &R, hall: &Hall<G>, host: &mut Host<'_>) -> Result<(), 
 }
 
 /// Claims any slot and releases it, so many times, or until the stop flag is set. A round in which all slots are had by
-/// others, or a claim fails, ends there. A slot that is held when the stop flag is set stays held.
+/// others, or a claim fails, ends there. A slot that is held when the stop flag is set stays held. All that is added to
+/// the driver's pass is in the driver's log, and careful.
 ///
 /// # Errors
 ///
 /// `NoMemory` where a growth is refused. The stop flag is set then, and a slot may be held.
+#[tactic(auto, using(crate::proofs::Going::host_on))]
 pub fn host<R: Wait, G>(
     rt: &R,
     hall: &Hall<G>,
@@ -35,6 +40,8 @@ pub fn host<R: Wait, G>(
 ) -> Result<(), NoMemory>
     requires { IsHosting hall.now host.old }
     ensures goes { Goes hall.now host.old host.new }
+    ensures hosts { (c : ConfigNumbers) (slots : Range) (pass queue n : ℕ) →
+        IsHost c slots pass queue n host.old.driver → IsHost c slots pass queue n host.new.driver }
 {
     for _ in 0..rounds {
         if hall.stop.is_set() {
