@@ -1,5 +1,6 @@
 -- The longest unit, by arithmetic.
-use Rattle.std.proofs.Common.{◌≡◌, ◌≢◌, ℕ, suc, ◌+◌, ◌-◌, ◌*◌, ◌/◌, ◌%◌, ◌≤◌, ◌<◌, true, eqb, ltb, min, sym, ap, ◌∙◌, arith, inl, inr, eq-eqb, ne_eqb, lt-ltb, le-ltb}
+use Rattle.std.proofs.Common.{◌≡◌, ◌≢◌, ℕ, suc, ◌+◌, ◌-◌, ◌*◌, ◌/◌, ◌%◌, ◌≤◌, ◌<◌, true, eqb, ltb, min, sym, ap, ◌∙◌}
+use Rattle.std.proofs.Common.{arith, inl, inr, eq-eqb, ne_eqb, lt-ltb, le-ltb}
 use Rattle.std.proofs.lemmas.Bool.{cases_eq, cases_lt, cond-true, cond-false, false_from_ne_true}
 use Rattle.std.proofs.lemmas.Nat.{div-mul-add, div-add-mod', mod_below}
 use Rattle.nvme_model.specs.Cells.{cell, is_atomic}
@@ -44,10 +45,12 @@ room_below u s n o b h = record {
   some = omega (arith, o, h);
   within = omega arith;
   same = λ k l. cell_below u (s + k) (omega (arith, l, h)) ∙ sym (cell_below u s h);
-  next = λ l e. absurd (omega (arith, cell_above u (s + min n (u.nabo - s)) b (omega (arith, l, h)), cell_below u s h, e));
+  next = λ l e. absurd (omega
+      (arith, cell_above u (s + min n (u.nabo - s)) b (omega (arith, l, h)), cell_below u s h, e));
 }
 
-room_above : (u : AtomicParameters) (s n : ℕ) → 1 ≤ n → (u.nabsn ≡ 0 → ⊥) → u.nabo ≤ s → Room u s n (min n (u.nabsn + 1 - (s - u.nabo) % (u.nabsn + 1)))
+room_above : (u : AtomicParameters) (s n : ℕ) → 1 ≤ n → (u.nabsn ≡ 0 → ⊥) → u.nabo ≤ s
+    → Room u s n (min n (u.nabsn + 1 - (s - u.nabo) % (u.nabsn + 1)))
 room_above u s n o b h =
     let below : (s - u.nabo) % (u.nabsn + 1) < u.nabsn + 1 = mod_below (s - u.nabo) (u.nabsn + 1) (omega arith) in
     record {
@@ -57,16 +60,20 @@ room_above u s n o b h =
       next = λ l e. above_next u s (min n (u.nabsn + 1 - (s - u.nabo) % (u.nabsn + 1))) b h (omega (arith, l)) e;
     }
   where
-    above_same : (u : AtomicParameters) (s k : ℕ) → (u.nabsn ≡ 0 → ⊥) → u.nabo ≤ s → (s - u.nabo) % (u.nabsn + 1) + k < u.nabsn + 1 → cell u (s + k) ≡ cell u s
+    above_same : (u : AtomicParameters) (s k : ℕ) → (u.nabsn ≡ 0 → ⊥) → u.nabo ≤ s
+        → (s - u.nabo) % (u.nabsn + 1) + k < u.nabsn + 1 → cell u (s + k) ≡ cell u s
     above_same u s k b h l =
         let e : s + k - u.nabo ≡ s - u.nabo + k = omega (arith, h) in
-        cell_above u (s + k) b (omega (arith, h)) ∙ ap (λ x. x / (u.nabsn + 1) + 1) e ∙ ap (λ x. x + 1) (div_stays (s - u.nabo) k (u.nabsn + 1) l) ∙ sym (cell_above u s b h)
+        cell_above u (s + k) b (omega (arith, h)) ∙ ap (λ x. x / (u.nabsn + 1) + 1) e
+        ∙ ap (λ x. x + 1) (div_stays (s - u.nabo) k (u.nabsn + 1) l) ∙ sym (cell_above u s b h)
 
-    above_next : (u : AtomicParameters) (s m : ℕ) → (u.nabsn ≡ 0 → ⊥) → u.nabo ≤ s → m ≡ u.nabsn + 1 - (s - u.nabo) % (u.nabsn + 1) → cell u (s + m) ≢ cell u s
+    above_next : (u : AtomicParameters) (s m : ℕ) → (u.nabsn ≡ 0 → ⊥) → u.nabo ≤ s
+        → m ≡ u.nabsn + 1 - (s - u.nabo) % (u.nabsn + 1) → cell u (s + m) ≢ cell u s
     above_next u s m b h e same =
         let f : s + m - u.nabo ≡ s - u.nabo + (u.nabsn + 1 - (s - u.nabo) % (u.nabsn + 1)) = omega (arith, h, e) in
         let there : cell u (s + m) ≡ (s - u.nabo) / (u.nabsn + 1) + 1 + 1 =
-        cell_above u (s + m) b (omega (arith, h)) ∙ ap (λ x. x / (u.nabsn + 1) + 1) f ∙ ap (λ x. x + 1) (div_next (s - u.nabo) (u.nabsn + 1) (omega arith)) in
+        cell_above u (s + m) b (omega (arith, h)) ∙ ap (λ x. x / (u.nabsn + 1) + 1) f
+        ∙ ap (λ x. x + 1) (div_next (s - u.nabo) (u.nabsn + 1) (omega arith)) in
         omega (arith, there, cell_above u s b h, same)
 
 room_facts : (u : AtomicParameters) (s n : ℕ) → 1 ≤ n → Room u s n (cell_room u s n)
@@ -84,11 +91,16 @@ room_facts u s n o =
 longest_by : (u : AtomicParameters) (s n m : ℕ) → Room u s (min n (u.awun + 1)) m → longest u s n ≡ m
 longest_by u s n m r =
     longest_is u s n m (omega (arith, r.within))
-    (atomic_from u s m (record { some = r.some; short = omega (arith, r.within); one_cell = one_cell_from u s m r.same }))
+    (atomic_from u s m (record {
+      some = r.some;
+      short = omega (arith, r.within);
+      one_cell = one_cell_from u s m r.same;
+    }))
     (λ l. false_from_ne_true (is_atomic u s (suc m)) (λ (t : is_atomic u s (suc m) ≡ true).
     let a : Atomic u s (suc m) = atomic_parts u s (suc m) t in
     r.next (omega (arith, l, a.short)) (one_cell_at u s (suc m) m a.one_cell (omega arith))))
 
 -- it is as long as AWUN and the room of the cell allow
 pub longest_room : (u : AtomicParameters) (s n : ℕ) → 1 ≤ n → longest u s n ≡ cell_room u s (min n (u.awun + 1))
-longest_room u s n o = longest_by u s n (cell_room u s (min n (u.awun + 1))) (room_facts u s (min n (u.awun + 1)) (omega (arith, o)))
+longest_room u s n o = longest_by u s n (cell_room u s (min n (u.awun + 1)))
+    (room_facts u s (min n (u.awun + 1)) (omega (arith, o)))

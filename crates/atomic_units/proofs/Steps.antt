@@ -22,22 +22,26 @@ within_more (suc k) zero u s (suc n) a b = absurd (omega (arith, b))
 within_more (suc k) (suc m) u s (suc n) a b =
     let some : 1 ≤ longest u s (suc n) = longest_some u s (suc n) (omega arith) in
     ap (λ (rs : List Range). record { slba = s; blocks = longest u s (suc n) } ∷ rs)
-    (within_more k m u (s + longest u s (suc n)) (suc n - longest u s (suc n)) (omega (arith, a, some)) (omega (arith, b, some)))
+    (within_more k m u (s + longest u s (suc n)) (suc n - longest u s (suc n)) (omega (arith, a, some))
+    (omega (arith, b, some)))
 
 -- the first unit, and the cut of what it leaves
-pub cut_step : (u : AtomicParameters) (s n : ℕ) → 1 ≤ n → cut u s n ≡ record { slba = s; blocks = longest u s n } ∷ cut u (s + longest u s n) (n - longest u s n)
+pub cut_step : (u : AtomicParameters) (s n : ℕ) → 1 ≤ n
+    → cut u s n ≡ record { slba = s; blocks = longest u s n } ∷ cut u (s + longest u s n) (n - longest u s n)
 cut_step u s zero l = absurd (omega (arith, l))
 cut_step u s (suc n) l =
     let some : 1 ≤ longest u s (suc n) = longest_some u s (suc n) l in
     ap (λ (rs : List Range). record { slba = s; blocks = longest u s (suc n) } ∷ rs)
-    (within_more n (suc n - longest u s (suc n)) u (s + longest u s (suc n)) (suc n - longest u s (suc n)) (omega (arith, some)) (omega arith))
+    (within_more n (suc n - longest u s (suc n)) u (s + longest u s (suc n)) (suc n - longest u s (suc n))
+    (omega (arith, some)) (omega arith))
 
 -- the list that is the cut keeps its law
 pub is_cut : (u : AtomicParameters) (s n : ℕ) (rs : List Range) → rs ≡ cut u s n → IsCut u s n rs
 is_cut u s n rs e = rw e (cut-is u s n)
 
 -- an atomic range is cut into itself
-pub cut_of_atomic : (u : AtomicParameters) (s n : ℕ) → is_atomic u s n ≡ true → cut u s n ≡ record { slba = s; blocks = n } ∷ []
+pub cut_of_atomic : (u : AtomicParameters) (s n : ℕ) → is_atomic u s n ≡ true
+    → cut u s n ≡ record { slba = s; blocks = n } ∷ []
 cut_of_atomic u s n h =
     let some : 1 ≤ n = (atomic_parts u s n h).some in
     let all : longest u s n ≡ n = longest_is u s n n (omega arith) h (λ l. absurd (omega (arith, l))) in

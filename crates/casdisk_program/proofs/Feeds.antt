@@ -1,5 +1,6 @@
 -- No line of a history has a line feed in it.
-use Rattle.std.proofs.Common.{◌≡◌, ℕ, zero, suc, ◌+◌, ◌%◌, ◌/◌, ◌<◌, ◌^◌, Bool, true, false, cond, List, [], ◌∷◌, ◌++◌, drop, length, map, refl, sym, subst, arith}
+use Rattle.std.proofs.Common.{◌≡◌, ℕ, zero, suc, ◌+◌, ◌%◌, ◌/◌, ◌<◌, ◌^◌, Bool, true, false, cond, List, [], ◌∷◌, ◌++◌}
+use Rattle.std.proofs.Common.{drop, length, map, refl, sym, subst, arith}
 use Rattle.std.specs.Prelude.{codes, decimal}
 use Rattle.std.specs.Char.{digit_value}
 use Rattle.std.specs.List.{join_with_byte, AllByRecursion}
@@ -29,7 +30,8 @@ use Rattle.history.specs.StatusWord.{status_word, verdict_words}
 
 -- a digit is no line feed
 digit_feedless : (c : ℕ) (b : Bool) → eqb c 10 ≡ b → digit_value c < 10 → b ≡ false
-digit_feedless c true e h = let bad : digit_value 10 < 10 = subst (λ x. digit_value x < 10) (eqb-true c 10 e) h in absurd (omega arith)
+digit_feedless c true e h = let bad : digit_value 10 < 10 = subst (λ x. digit_value x < 10) (eqb-true c 10 e) h in
+    absurd (omega arith)
 digit_feedless c false e h = refl
 
 digits_feedless : (cs : List ℕ) → AllDigits 10 cs → Without 10 cs
@@ -49,7 +51,8 @@ append_feedless [] ys p q = q
 append_feedless (x ∷ xs) ys p q = (p.0, append_feedless xs ys p.1 q)
 
 -- words that are joined by another byte
-joined : (d : ℕ) (words : List (List ℕ)) → eqb d 10 ≡ false → AllByRecursion (Without 10) words → Without 10 (join_with_byte d words)
+joined : (d : ℕ) (words : List (List ℕ)) → eqb d 10 ≡ false → AllByRecursion (Without 10) words
+    → Without 10 (join_with_byte d words)
 joined d [] p ps = tt
 joined d (w ∷ []) p ps = ps.0
 joined d (w ∷ v ∷ vs) p ps = append_feedless w (d ∷ join_with_byte d (v ∷ vs)) ps.0 (p, joined d (v ∷ vs) p ps.1)
@@ -64,7 +67,8 @@ data_feedless : (bytes : List ℕ) → Without 10 (data_text 512 bytes)
 data_feedless bytes = by_length (length bytes) refl
   where
     by_rest : (b : Bool) → 0 < length bytes → eqb (length bytes % 512) 0 ≡ b → Without 10 (data_text 512 bytes)
-    by_rest true some h = subst (Without 10) (sym (text_whole 512 bytes some (eqb-true _ _ h))) (joined 46 _ refl (texts_feedless (length bytes / 512) bytes))
+    by_rest true some h = subst (Without 10) (sym (text_whole 512 bytes some (eqb-true _ _ h)))
+        (joined 46 _ refl (texts_feedless (length bytes / 512) bytes))
     by_rest false some h = subst (Without 10) (sym (text_odd 512 bytes some h)) (refl, upper_without 10 bytes refl)
 
     by_length : (n : ℕ) → length bytes ≡ n → Without 10 (data_text 512 bytes)
@@ -115,18 +119,34 @@ publish_feedless q (x ∷ xs) small = (
 words_feedless : (e : Entry) → HasLine e → AllByRecursion (Without 10) (entry_words e)
 unfolding entry_words
 words_feedless (Entry.Publish p) is = publish_feedless p.queue p.batch is.0
-words_feedless (Entry.Fetch f) is =
-    ((refl, (refl, (refl, (refl, (refl, tt))))), (number_16 f.queue is.0, (number f.ticket is.1, verdict_feedless f.verdict)))
+words_feedless (Entry.Fetch f) is = (
+  (refl, (refl, (refl, (refl, (refl, tt))))),
+  (number_16 f.queue is.0, (number f.ticket is.1, verdict_feedless f.verdict)),
+)
 words_feedless (Entry.Grant g) is = (
   (refl, (refl, (refl, (refl, (refl, tt))))),
-  (number g.ticket is.0, (number g.unit is.1, (number g.range.slba is.2, (number_16 g.range.blocks is.3, (mode_feedless g.mode, tt))))),
+  (
+    number g.ticket is.0,
+    (
+      number g.unit is.1,
+      (number g.range.slba is.2, (number_16 g.range.blocks is.3, (mode_feedless g.mode, tt))),
+    ),
+  ),
 )
 words_feedless (Entry.Block b) is = (
   (refl, (refl, (refl, (refl, (refl, tt))))),
-  (number b.ticket is.0, (number b.unit is.1, (number b.lba is.2, (found_feedless b.found, (mark_feedless b.effect, tt))))),
+  (
+    number b.ticket is.0,
+    (
+      number b.unit is.1,
+      (number b.lba is.2, (found_feedless b.found, (mark_feedless b.effect, tt))),
+    ),
+  ),
 )
-words_feedless (Entry.Post p) is =
-    ((refl, (refl, (refl, (refl, tt)))), (number p.ticket is.0, (upper_without 10 p.cqe refl, (data_feedless p.payload, tt))))
+words_feedless (Entry.Post p) is = (
+  (refl, (refl, (refl, (refl, tt)))),
+  (number p.ticket is.0, (upper_without 10 p.cqe refl, (data_feedless p.payload, tt))),
+)
 words_feedless (Entry.Reap r) is =
     ((refl, (refl, (refl, (refl, tt)))), (number_16 r.queue is.0, (upper_without 10 r.cqe refl, tt)))
 
@@ -139,7 +159,8 @@ unfolding entry_line
 entry_feedless e is = no_feed _ (joined 32 (entry_words e) refl (words_feedless e is))
 
 -- the numbers of a configuration, in front of other words
-numbers_feedless : (c : ConfigNumbers) (more : List (List ℕ)) → HasConfigLine c → AllByRecursion (Without 10) more → AllByRecursion (Without 10) (nine_words c ++ more)
+numbers_feedless : (c : ConfigNumbers) (more : List (List ℕ)) → HasConfigLine c → AllByRecursion (Without 10) more
+    → AllByRecursion (Without 10) (nine_words c ++ more)
 numbers_feedless c more is others = (
   number c.blocks (below is.blocks),
   (
@@ -150,7 +171,10 @@ numbers_feedless c more is others = (
         number_16 c.atomic.nabsn is.nabsn,
         (
           number_16 c.atomic.nabo is.nabo,
-          (number_16 c.pairs is.pairs, (number_16 c.sq_size is.sq_size, (number_16 c.cq_size is.cq_size, (number_16 c.jobs is.jobs, others)))),
+          (
+            number_16 c.pairs is.pairs,
+            (number_16 c.sq_size is.sq_size, (number_16 c.cq_size is.cq_size, (number_16 c.jobs is.jobs, others))),
+          ),
         ),
       ),
     ),
@@ -162,9 +186,14 @@ numbers_feedless c more is others = (
 
 config_words_feedless : (c : ConfigNumbers) (t : Bool) → HasConfigLine c
     → Without 10 (join_with_byte 32 (cond t (codes "config" ∷ nine_words c) (codes "config2" ∷ ten_words c)))
-config_words_feedless c true is = joined 32 (codes "config" ∷ nine_words c) refl ((refl, (refl, (refl, (refl, (refl, (refl, tt)))))), numbers_feedless c [] is tt)
+config_words_feedless c true is =
+    joined 32 (codes "config" ∷ nine_words c) refl
+    ((refl, (refl, (refl, (refl, (refl, (refl, tt)))))), numbers_feedless c [] is tt)
 config_words_feedless c false is =
-    joined 32 (codes "config2" ∷ ten_words c) refl ((refl, (refl, (refl, (refl, (refl, (refl, (refl, tt))))))), numbers_feedless c (decimal c.cqs ∷ []) is (number_16 c.cqs is.cqs, tt))
+    joined 32 (codes "config2" ∷ ten_words c) refl (
+      (refl, (refl, (refl, (refl, (refl, (refl, (refl, tt))))))),
+      numbers_feedless c (decimal c.cqs ∷ []) is (number_16 c.cqs is.cqs, tt),
+    )
 
 pub config_feedless : (c : ConfigNumbers) → HasConfigLine c → NoFeed (config_line c)
 config_feedless c is = no_feed _ (config_words_feedless c (eqb c.cqs c.pairs) is)

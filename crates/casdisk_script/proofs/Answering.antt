@@ -5,7 +5,7 @@ use Rattle.std.specs.Io.KnownBytes.{IsAtEnd}
 use Rattle.std.proofs.KnownBytes.{Keeps-refl}
 use Rattle.line_text.specs.Lines.{whole_lines}
 use Rattle.nvme_model.specs.declared.config.ConfigNumbers.{ConfigNumbers}
-use Rattle.one_pass_check.specs.Kept.{State}
+use Rattle.history_check.specs.Kept.{State}
 use Rattle.casdisk_script.specs.Explained.{IsExplained, explained_of}
 use Rattle.casdisk_script.specs.Fault.{fault_in_memory}
 use Rattle.casdisk_script.specs.Files.{ChecksText, EndsSo, HasHistory, IsAnswerOf, IsUnread, entry_added, file_of}
@@ -23,7 +23,8 @@ ends_of : (e : End) (r w u : Option (List ℕ)) → PrintsAll (outcome (λ c. en
 ends_of e None w u p = tt
 ends_of e (Some bytes) w u p = p.0
 
-pub unread : (f : RunFault) (r t w u : Option (List ℕ)) → Runs (outcome (λ c. entry_added)) (Err f) r t w u → IsUnread (fault_in_memory f) r t
+pub unread : (f : RunFault) (r t w u : Option (List ℕ)) → Runs (outcome (λ c. entry_added)) (Err f) r t w u
+    → IsUnread (fault_in_memory f) r t
 unread (BadLine n) r t w u (inl h) = inl (ends_of (bad_line n) r w u h)
 unread (BadLine n) r t w u (inr h) = inr (ends_of (cut n) r w u h)
 unread (BadConfig n) r t w u h = ends_of (bad_config n) r w u h
@@ -40,26 +41,41 @@ unsaid NoMemory r t v h = (h, Keeps-refl v)
 
 -- ---- they were
 
-pub whole : (why : Bool) (c : ConfigNumbers) (checker : State) (count : ℕ) (bad : FirstBad) (r t w u : Option (List ℕ)) → Runs (outcome (λ c. entry_added)) (Ok tt) r t w u
-    → Makes (outcome (λ c. entry_added)) (Ok tt) r (λ past. HasJudged why c past checker count bad) → IfSome r (λ bytes. first_config (whole_lines bytes) ≡ Some c)
+pub whole : (why : Bool) (c : ConfigNumbers) (checker : State) (count : ℕ) (bad : FirstBad) (r t w u : Option (List ℕ))
+    → Runs (outcome (λ c. entry_added)) (Ok tt) r t w u
+    → Makes (outcome (λ c. entry_added)) (Ok tt) r (λ past. HasJudged why c past checker count bad)
+    → IfSome r (λ bytes. first_config (whole_lines bytes) ≡ Some c)
     → IsAtEnd t × IfSome r (HasHistory (λ c past. HasFirstBad why c past bad))
 whole why c checker count bad None t w u ran makes known = (ran.1, tt)
 whole why c checker count bad (Some bytes) t w u ran makes known = (ran.1, (ran.0.0, (c, known, makes.first)))
 
 module _ (bad : FirstBad) where
-  pub explained : (r : Option (List ℕ)) → IfSome r (HasHistory (λ c past. HasFirstBad true c past bad)) → IfSome r (HasHistory (λ c past. IsExplained c past (explained_of bad.place bad.broken)))
+  pub explained : (r : Option (List ℕ)) → IfSome r (HasHistory (λ c past. HasFirstBad true c past bad))
+      → IfSome r (HasHistory (λ c past. IsExplained c past (explained_of bad.place bad.broken)))
   explained None h = tt
-  explained (Some bytes) h = (h.0, (h.1.0, h.1.1, explained_by h.1.0 (file_of bytes).past bad.place bad.broken h.1.2.place (h.1.2.rule refl)))
+  explained (Some bytes) h =
+      (h.0, (h.1.0, h.1.1, explained_by h.1.0 (file_of bytes).past bad.place bad.broken h.1.2.place (h.1.2.rule refl)))
 
-  answer_of : (bytes : List ℕ) → HasHistory (λ c past. HasFirstBad false c past bad) bytes → IsAnswerOf bytes (is_none bad.place) (answer_text bad.place)
+  answer_of : (bytes : List ℕ) → HasHistory (λ c past. HasFirstBad false c past bad) bytes
+      → IsAnswerOf bytes (is_none bad.place) (answer_text bad.place)
   answer_of bytes h = (h.0, (h.1.0, h.1.1, answered_by h.1.0 (file_of bytes).past bad.place h.1.2.place))
 
-  pub answered : (res : Result Bool RunFault) (r t v x : Option (List ℕ)) → IsAtEnd t → IfSome r (HasHistory (λ c past. HasFirstBad false c past bad)) → Tells bad.place res v x → ChecksText res r t v x
+  pub answered : (res : Result Bool RunFault) (r t v x : Option (List ℕ)) → IsAtEnd t
+      → IfSome r (HasHistory (λ c past. HasFirstBad false c past bad)) → Tells bad.place res v x
+      → ChecksText res r t v x
   answered (Ok answer) None t v x end h told = (end, tt)
-  answered (Ok answer) (Some bytes) t v x end h told = (end, (answer_text bad.place, subst (λ b. IsAnswerOf bytes b (answer_text bad.place)) (sym told.0) (answer_of bytes h), told.1))
+  answered (Ok answer) (Some bytes) t v x end h told = (
+    end,
+    (
+      answer_text bad.place,
+      subst (λ b. IsAnswerOf bytes b (answer_text bad.place)) (sym told.0) (answer_of bytes h),
+      told.1,
+    ),
+  )
   answered (Err (BadLine n)) r t v x end h told = absurd told
   answered (Err (BadConfig n)) r t v x end h told = absurd told
   answered (Err Input) r t v x end h told = absurd told
   answered (Err Output) None t v x end h told = tt
-  answered (Err Output) (Some bytes) t v x end h told = (is_none bad.place, answer_text bad.place, answer_of bytes h, told)
+  answered (Err Output) (Some bytes) t v x end h told =
+      (is_none bad.place, answer_text bad.place, answer_of bytes h, told)
   answered (Err NoMemory) r t v x end h told = absurd told

@@ -1,5 +1,6 @@
 -- Doing what is ready, one step after the other.
-use Rattle.std.proofs.Common.{◌≡◌, ℕ, ◌+◌, ◌<◌, List, [], ◌++◌, None, Some, refl, sym, ap, ◌∙◌, subst, append_assoc, append-nil, arith}
+use Rattle.std.proofs.Common.{◌≡◌, ℕ, ◌+◌, ◌<◌, List, [], ◌++◌, None, Some, refl, sym, ap, ◌∙◌, subst, append_assoc}
+use Rattle.std.proofs.Common.{append-nil, arith}
 use Rattle.std.specs.Prelude.{Option, zero, suc}
 use Rattle.std.specs.Io.KnownBytes.{Appends}
 use Rattle.std.proofs.KnownBytes.{Appends-trans, Appends-nil}
@@ -25,7 +26,8 @@ module _ (kinds : ℕ) (c : ConfigNumbers) where
   unfolding settle_says
   settle_none n past e = ap (λ o. ready_by kinds c past o (settle_says n kinds c)) e
 
-  settle_some : (n : ℕ) (past : Past) (step : Step) → ready c past ≡ Some step → settle_says (suc n) kinds c past ≡ then_more (step_says kinds c past step) (settle_says n kinds c)
+  settle_some : (n : ℕ) (past : Past) (step : Step) → ready c past ≡ Some step
+      → settle_says (suc n) kinds c past ≡ then_more (step_says kinds c past step) (settle_says n kinds c)
   unfolding settle_says
   settle_some n past step e = ap (λ o. ready_by kinds c past o (settle_says n kinds c)) e
 
@@ -41,22 +43,29 @@ module _ (kinds : ℕ) (c : ConfigNumbers) where
   settled_none past w = record { left = all_ready; count = refl; out = []; written = Appends-nil w; agrees = refl }
 
   -- it ends here, with nothing more said
-  ended : (past now : Past) (out : List ℕ) (w v : Option (List ℕ)) (n : ℕ) → settle_says all_ready kinds c past ≡ said_after out (settle_says n kinds c now) → settle_says n kinds c now ≡ (now, [])
+  ended : (past now : Past) (out : List ℕ) (w v : Option (List ℕ)) (n : ℕ)
+      → settle_says all_ready kinds c past ≡ said_after out (settle_says n kinds c now)
+      → settle_says n kinds c now ≡ (now, [])
       → Appends w v out → Says (settle_says all_ready kinds c past) now w v
   ended past now out w v n e h p =
-      let all : settle_says all_ready kinds c past ≡ (now, out ++ []) = e ∙ ap (said_after out) h in
-      (ap (λ (x : Past × List ℕ). x.0) (sym all), subst (Appends w v) (sym (ap (λ (x : Past × List ℕ). x.1) all ∙ append-nil out)) p)
+      let all : settle_says all_ready kinds c past ≡ (now, out ++ []) = e ∙ ap (said_after out) h in (
+        ap (λ (x : Past × List ℕ). x.0) (sym all),
+        subst (Appends w v) (sym (ap (λ (x : Past × List ℕ). x.1) all ∙ append-nil out)) p,
+      )
 
   module _ (past now : Past) (turn : ℕ) (w v : Option (List ℕ)) where
-    none_left : (left : ℕ) (out : List ℕ) → turn + left ≡ all_ready → turn < all_ready → settle_says all_ready kinds c past ≡ said_after out (settle_says left kinds c now) → Appends w v out
+    none_left : (left : ℕ) (out : List ℕ) → turn + left ≡ all_ready → turn < all_ready
+        → settle_says all_ready kinds c past ≡ said_after out (settle_says left kinds c now) → Appends w v out
         → ready c now ≡ None → Says (settle_says all_ready kinds c past) now w v
     none_left zero out m less e p none = absurd (omega (arith, m, less))
     none_left (suc n) out m less e p none = ended past now out w v (suc n) e (settle_none n now none) p
 
-    pub settled_ready : Settled past now turn w v → turn < all_ready → ready c now ≡ None → Says (settle_says all_ready kinds c past) now w v
+    pub settled_ready : Settled past now turn w v → turn < all_ready → ready c now ≡ None
+        → Says (settle_says all_ready kinds c past) now w v
     settled_ready at less none = none_left at.left at.out at.count less at.agrees at.written none
 
-    none_more : (left : ℕ) (out : List ℕ) → left ≡ 0 → settle_says all_ready kinds c past ≡ said_after out (settle_says left kinds c now) → Appends w v out
+    none_more : (left : ℕ) (out : List ℕ) → left ≡ 0
+        → settle_says all_ready kinds c past ≡ said_after out (settle_says left kinds c now) → Appends w v out
         → Says (settle_says all_ready kinds c past) now w v
     none_more left out z e p = ended past now out w v left e (ap (λ n. settle_says n kinds c now) z ∙ settle_zero now) p
 
@@ -64,8 +73,10 @@ module _ (kinds : ℕ) (c : ConfigNumbers) where
     settled_all at e = none_more at.left at.out (omega (arith, at.count, e)) at.agrees at.written
 
     module _ (step : Step) (some : ready c now ≡ Some step) where
-      next : (left : ℕ) (out : List ℕ) → turn + left ≡ all_ready → turn < all_ready → settle_says all_ready kinds c past ≡ said_after out (settle_says left kinds c now) → Appends w v out
-          → (after : Past) (u : Option (List ℕ)) → Says (step_says kinds c now step) after v u → Settled past after (turn + 1) w u
+      next : (left : ℕ) (out : List ℕ) → turn + left ≡ all_ready → turn < all_ready
+          → settle_says all_ready kinds c past ≡ said_after out (settle_says left kinds c now) → Appends w v out
+          → (after : Past) (u : Option (List ℕ)) → Says (step_says kinds c now step) after v u
+          → Settled past after (turn + 1) w u
       next zero out m less e p after u s = absurd (omega (arith, m, less))
       next (suc n) out m less e p after u s =
           let text = (step_says kinds c now step).1 in
@@ -76,14 +87,19 @@ module _ (kinds : ℕ) (c : ConfigNumbers) where
             count = omega (arith, m);
             out = out ++ text;
             written = Appends-trans w v u out text p s.1;
-            agrees = e ∙ ap (said_after out) more ∙ ap (λ l. ((settle_says n kinds c after).0, l)) (sym (append_assoc out text (settle_says n kinds c after).1));
+            agrees = e ∙ ap (said_after out) more
+                ∙ ap (λ l. ((settle_says n kinds c after).0, l))
+                (sym (append_assoc out text (settle_says n kinds c after).1));
           }
 
-      pub settled_next : Settled past now turn w v → turn < all_ready → (after : Past) (u : Option (List ℕ)) → Says (step_says kinds c now step) after v u → Settled past after (turn + 1) w u
+      pub settled_next : Settled past now turn w v → turn < all_ready → (after : Past) (u : Option (List ℕ))
+          → Says (step_says kinds c now step) after v u → Settled past after (turn + 1) w u
       settled_next at less = next at.left at.out at.count less at.agrees at.written
 
-      cut : (left : ℕ) (out : List ℕ) → turn + left ≡ all_ready → turn < all_ready → settle_says all_ready kinds c past ≡ said_after out (settle_says left kinds c now) → Appends w v out
-          → (u : Option (List ℕ)) → AppendsFront v u (step_says kinds c now step).1 → AppendsFront w u (settle_says all_ready kinds c past).1
+      cut : (left : ℕ) (out : List ℕ) → turn + left ≡ all_ready → turn < all_ready
+          → settle_says all_ready kinds c past ≡ said_after out (settle_says left kinds c now) → Appends w v out
+          → (u : Option (List ℕ)) → AppendsFront v u (step_says kinds c now step).1
+          → AppendsFront w u (settle_says all_ready kinds c past).1
       cut zero out m less e p u h = absurd (omega (arith, m, less))
       cut (suc n) out m less e p u h =
           let x = step_says kinds c now step in
@@ -91,5 +107,6 @@ module _ (kinds : ℕ) (c : ConfigNumbers) where
           ap (λ (y : Past × List ℕ). y.1) (e ∙ ap (said_after out) (settle_some n now step some)) in
           subst (AppendsFront w u) (sym text) (front_second w v u out _ p (front_first v u x.1 _ h))
 
-      pub settled_stopped : Settled past now turn w v → turn < all_ready → (u : Option (List ℕ)) → AppendsFront v u (step_says kinds c now step).1 → AppendsFront w u (settle_says all_ready kinds c past).1
+      pub settled_stopped : Settled past now turn w v → turn < all_ready → (u : Option (List ℕ))
+          → AppendsFront v u (step_says kinds c now step).1 → AppendsFront w u (settle_says all_ready kinds c past).1
       settled_stopped at less = cut at.left at.out at.count less at.agrees at.written

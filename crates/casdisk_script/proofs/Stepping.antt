@@ -36,20 +36,24 @@ refusal_is None why e n = absurd (n e)
 refusal_is (Some x) why e n = ap Some (sym e)
 
 -- a step leaves the configuration
-pub config_served : (old new : State) (step : Step) (r : Result Answer Refused) → Serves old step r new → new.config ≡ old.config
+pub config_served : (old new : State) (step : Step) (r : Result Answer Refused) → Serves old step r new
+    → new.config ≡ old.config
 config_served old new step (Ok a) s = ap (λ (x : State). x.config) s.1
 config_served old new step (Err r) s = ap (λ (x : State). x.config) s.1
 
 module _ (kinds : ℕ) (old new : State) (step : Step) (w v : Option (List ℕ)) where
-  module _ (r : Result (Unit {0}) WriteFault) (none : refusal old.config old.past step ≡ None) (made : new ≡ after old step new.room) where
+  module _ (r : Result (Unit {0}) WriteFault) (none : refusal old.config old.past step ≡ None)
+      (made : new ≡ after old step new.room) where
     pub made_done : ((e : Entry) (past : Past) → new.past ≡ e ∷ past → OnOk r (Appends w v (entry_text kinds e)))
         → OnOk r (Says (step_says kinds old.config old.past step) new.past w v)
     made_done told =
         on_ok_then r (λ (p : Appends w v (entry_text kinds (next_entry old.config old.past step))).
-        subst (λ o. Says (step_by kinds old.config old.past step o) new.past w v) (sym none) (ap (λ (x : State). x.past) made, p))
+        subst (λ o. Says (step_by kinds old.config old.past step o) new.past w v) (sym none)
+        (ap (λ (x : State). x.past) made, p))
         (told (next_entry old.config old.past step) old.past (ap (λ (x : State). x.past) made))
 
-    pub made_stopped : ((e : Entry) (past : Past) → new.past ≡ e ∷ past → OnErr r (AppendsFront w v (entry_text kinds e)))
+    pub made_stopped : ((e : Entry) (past : Past) → new.past ≡ e ∷ past
+        → OnErr r (AppendsFront w v (entry_text kinds e)))
         → OnErr r (AppendsFront w v (step_says kinds old.config old.past step).1)
     made_stopped told =
         on_err_then r (λ (p : AppendsFront w v (entry_text kinds (next_entry old.config old.past step))).
@@ -57,18 +61,22 @@ module _ (kinds : ℕ) (old new : State) (step : Step) (w v : Option (List ℕ))
         (told (next_entry old.config old.past step) old.past (ap (λ (x : State). x.past) made))
 
   module _ (why : Why) (is : why ≡ unwrap_or (refusal old.config old.past step) Why.NoMemory) where
-    pub refused_done : (r : Result (Unit {0}) WriteFault) → new ≡ record old { room = new.room } → OnOk r (Appends w v (refusal_text kinds why)) → OnOk r (why ≢ Why.NoMemory)
+    pub refused_done : (r : Result (Unit {0}) WriteFault) → new ≡ record old { room = new.room }
+        → OnOk r (Appends w v (refusal_text kinds why)) → OnOk r (why ≢ Why.NoMemory)
         → OnOk r (Says (step_says kinds old.config old.past step) new.past w v)
     refused_done (Ok x) same told other =
-        subst (λ o. Says (step_by kinds old.config old.past step o) new.past w v) (sym (refusal_is _ why is other)) (ap (λ (x : State). x.past) same, told)
+        subst (λ o. Says (step_by kinds old.config old.past step o) new.past w v) (sym (refusal_is _ why is other))
+        (ap (λ (x : State). x.past) same, told)
     refused_done (Err x) same told other = tt
 
-    begun : (o : Option Why) → why ≡ unwrap_or o Why.NoMemory → AppendsFront w v (refusal_text kinds why) → (why ≡ Why.NoMemory → Appends w v [])
+    begun : (o : Option Why) → why ≡ unwrap_or o Why.NoMemory → AppendsFront w v (refusal_text kinds why)
+        → (why ≡ Why.NoMemory → Appends w v [])
         → AppendsFront w v (step_by kinds old.config old.past step o).1
     begun None e h n = silent_front w v _ (n e)
     begun (Some x) e h n = subst (λ y. AppendsFront w v (refusal_text kinds y)) e h
 
-    pub refused_stopped : (r : Result (Unit {0}) WriteFault) → OnErr r (AppendsFront w v (refusal_text kinds why)) → OnErr r (why ≡ Why.NoMemory → Appends w v [])
+    pub refused_stopped : (r : Result (Unit {0}) WriteFault) → OnErr r (AppendsFront w v (refusal_text kinds why))
+        → OnErr r (why ≡ Why.NoMemory → Appends w v [])
         → OnErr r (AppendsFront w v (step_says kinds old.config old.past step).1)
     refused_stopped (Ok x) told silent = tt
     refused_stopped (Err x) told silent = begun (refusal old.config old.past step) is told silent

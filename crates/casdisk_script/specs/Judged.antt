@@ -9,7 +9,7 @@ use Rattle.nvme_model.specs.Legal.{legal}
 use Rattle.nvme_model.specs.declared.config.ConfigNumbers.{ConfigNumbers}
 use Rattle.broken_rules.specs.Broken.{first_broken}
 use Rattle.broken_rules.specs.declared.broken.Broken.{Broken}
-use Rattle.one_pass_check.specs.Kept.{Stands, State}
+use Rattle.history_check.specs.Kept.{Stands, State}
 use Rattle.casdisk_script.specs.Files.{bad_text, legal_text}
 use Rattle.casdisk_script.specs.declared.fault.RunFault.{RunFault}
 use Rattle.casdisk_script.specs.declared.fault.RunFault.TheVariants.{Output}

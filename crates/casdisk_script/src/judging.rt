@@ -5,7 +5,7 @@ ghost use Rattle.std.specs.Io.KnownBytes.{IsAtEnd};
 ghost use Rattle.nvme_model.specs.History.{Past};
 ghost use Rattle.nvme_model.specs.declared.config.ConfigNumbers.{ConfigNumbers};
 ghost use Rattle.broken_rules.specs.Broken.{first_broken};
-ghost use Rattle.one_pass_check.specs.Kept.{Stands};
+ghost use Rattle.history_check.specs.Kept.{Stands};
 ghost use Rattle.casdisk_script.specs.Files.{HasHistory, IsUnread, entry_added};
 ghost use Rattle.casdisk_script.specs.Judged.{HasFirstBad, HasJudged};
 

@@ -1,5 +1,6 @@
 -- One more answer among those that are right.
-use Rattle.std.proofs.Common.{arith, get_or, zero, suc, ◌≤◌, ◌<◌, ◌≡◌, ℕ, Bool, true, false, ◌&&◌, List, [], ◌∷◌, ◌++◌, length, refl, sym, ap, ◌∙◌, Option, Some, None, slice_get}
+use Rattle.std.proofs.Common.{arith, get_or, zero, suc, ◌≤◌, ◌<◌, ◌≡◌, ℕ, Bool, true, false, ◌&&◌, List, [], ◌∷◌, ◌++◌}
+use Rattle.std.proofs.Common.{length, refl, sym, ap, ◌∙◌, Option, Some, None, slice_get}
 use Rattle.std.specs.Prelude.{option_to_list}
 use Rattle.std.specs.Bool.{beq}
 use Rattle.std.proofs.lemmas.List.{append-nil}
@@ -9,7 +10,8 @@ and_assoc : (a b d : Bool) → (a && (b && d)) ≡ ((a && b) && d)
 and_assoc true b d = refl
 and_assoc false b d = refl
 
-pub one_more : (xs bits : List Bool) (x y : Bool) → slice_get bits (length xs) ≡ Some y → agrees (xs ++ x ∷ []) bits ≡ (agrees xs bits && beq x y)
+pub one_more : (xs bits : List Bool) (x y : Bool) → slice_get bits (length xs) ≡ Some y
+    → agrees (xs ++ x ∷ []) bits ≡ (agrees xs bits && beq x y)
 one_more [] [] x y e = absurd (let f : None ≡ Some y = e in cc)
 one_more [] (z ∷ bits) x y e = and_true (beq x z) ∙ ap (beq x) (some_inj e)
   where
@@ -20,7 +22,8 @@ one_more [] (z ∷ bits) x y e = and_true (beq x z) ∙ ap (beq x) (some_inj e)
     and_true true = refl
     and_true false = refl
 one_more (w ∷ xs) [] x y e = absurd (let f : None ≡ Some y = e in cc)
-one_more (w ∷ xs) (z ∷ bits) x y e = ap (λ b. beq w z && b) (one_more xs bits x y e) ∙ and_assoc (beq w z) (agrees xs bits) (beq x y)
+one_more (w ∷ xs) (z ∷ bits) x y e = ap (λ b. beq w z && b) (one_more xs bits x y e)
+    ∙ and_assoc (beq w z) (agrees xs bits) (beq x y)
 
 pub too_many : (xs bits : List Bool) (x : Bool) → slice_get bits (length xs) ≡ None → agrees (xs ++ x ∷ []) bits ≡ false
 too_many [] [] x e = refl
@@ -35,15 +38,22 @@ too_many (w ∷ xs) (z ∷ bits) x e = ap (λ b. beq w z && b) (too_many xs bits
 pub none_more : (xs bits : List Bool) → agrees (xs ++ []) bits ≡ agrees xs bits
 none_more xs bits = ap (λ (ys : List Bool). agrees ys bits) (append-nil xs)
 
-pub with_more : (word : Option Bool) (w : Bool) (xs bits : List Bool) (y b : Bool) → word ≡ Some w → slice_get bits (length xs) ≡ Some y → b ≡ agrees xs bits → (b && beq w y) ≡ agrees (xs ++ option_to_list word) bits
+pub with_more : (word : Option Bool) (w : Bool) (xs bits : List Bool) (y b : Bool) → word ≡ Some w
+    → slice_get bits (length xs) ≡ Some y → b ≡ agrees xs bits
+    → (b && beq w y) ≡ agrees (xs ++ option_to_list word) bits
 with_more word w xs bits y b e g h =
-    ap (λ x. x && beq w y) h ∙ sym (one_more xs bits w y g) ∙ ap (λ (o : Option Bool). agrees (xs ++ option_to_list o) bits) (sym e)
+    ap (λ x. x && beq w y) h ∙ sym (one_more xs bits w y g)
+    ∙ ap (λ (o : Option Bool). agrees (xs ++ option_to_list o) bits) (sym e)
 
-pub with_too_many : (word : Option Bool) (w : Bool) (xs bits : List Bool) → word ≡ Some w → slice_get bits (length xs) ≡ None → false ≡ agrees (xs ++ option_to_list word) bits
-with_too_many word w xs bits e g = sym (too_many xs bits w g) ∙ ap (λ (o : Option Bool). agrees (xs ++ option_to_list o) bits) (sym e)
+pub with_too_many : (word : Option Bool) (w : Bool) (xs bits : List Bool) → word ≡ Some w
+    → slice_get bits (length xs) ≡ None → false ≡ agrees (xs ++ option_to_list word) bits
+with_too_many word w xs bits e g = sym (too_many xs bits w g)
+    ∙ ap (λ (o : Option Bool). agrees (xs ++ option_to_list o) bits) (sym e)
 
-pub with_none : (word : Option Bool) (xs bits : List Bool) (b : Bool) → word ≡ None → b ≡ agrees xs bits → b ≡ agrees (xs ++ option_to_list word) bits
-with_none word xs bits b e h = h ∙ sym (none_more xs bits) ∙ ap (λ (o : Option Bool). agrees (xs ++ option_to_list o) bits) (sym e)
+pub with_none : (word : Option Bool) (xs bits : List Bool) (b : Bool) → word ≡ None → b ≡ agrees xs bits
+    → b ≡ agrees (xs ++ option_to_list word) bits
+with_none word xs bits b e h = h ∙ sym (none_more xs bits)
+    ∙ ap (λ (o : Option Bool). agrees (xs ++ option_to_list o) bits) (sym e)
 
 -- an item that is there
 pub got : (bits : List Bool) (i : ℕ) (y : Bool) → i < length bits → y ≡ get_or bits i y → slice_get bits i ≡ Some y

@@ -10,6 +10,7 @@ use Rattle.checker_tables.specs.Tables.{Tables}
 use Rattle.checked_tickets.specs.Contents.{post_fits_at}
 
 pub by_rings : (c : ConfigNumbers) (s : Tables) (p : PostLine) (o : Option Status)
-    → post_fits_by c s p o ≡ post_fits_at (s.fetched (s.flight p.ticket).ticket.queue % c.sq_size) (phase (s.posts (completion_queue c (s.flight p.ticket).ticket.queue)) c.cq_size) (s.flight p.ticket) p o
+    → post_fits_by c s p o ≡ post_fits_at (s.fetched (s.flight p.ticket).ticket.queue % c.sq_size)
+    (phase (s.posts (completion_queue c (s.flight p.ticket).ticket.queue)) c.cq_size) (s.flight p.ticket) p o
 by_rings c s p None = refl
 by_rings c s p (Some status) = refl

@@ -1,5 +1,7 @@
 -- The units of a ticket that have their effect, and what of them stays.
-use Rattle.std.proofs.Common.{◌≡◌, ℕ, ◌+◌, ◌-◌, ◌≤◌, ◌<◌, Bool, true, false, not, ◌&&◌, ◌||◌, cond, [], ◌∷◌, refl, sym, ap, ap₂, ◌∙◌, Option, Some, None, is_some, inl, inr, ◌⊎◌, arith, eqb, eqb-true, nat_lt, ltb-true}
+use Rattle.std.proofs.Common.{◌≡◌, ℕ, ◌+◌, ◌-◌, ◌≤◌, ◌<◌, Bool, true, false, not, ◌&&◌, ◌||◌, cond, [], ◌∷◌, refl, sym}
+use Rattle.std.proofs.Common.{ap, ap₂, ◌∙◌, Option, Some, None, is_some, inl, inr, ◌⊎◌, arith, eqb, eqb-true, nat_lt}
+use Rattle.std.proofs.Common.{ltb-true}
 use Rattle.std.specs.List.{find}
 use Rattle.std.proofs.lemmas.Bool.{and_parts, cond-false, cases_Bool, cases_lt}
 use Rattle.std.proofs.lemmas.Bool.Decides.{nat_tests}
@@ -36,7 +38,8 @@ nothing_below u = grind (arith, nat_tests)
 
 -- ---- an effect may stand exactly at the first unit without one
 
-may_parts : (past : Past) (b : BlockLine) (o : Option GrantLine) → block_fits past b o ≡ true → b.effect ≡ true → may_be_effect past b.ticket b.unit ≡ true
+may_parts : (past : Past) (b : BlockLine) (o : Option GrantLine) → block_fits past b o ≡ true → b.effect ≡ true
+    → may_be_effect past b.ticket b.unit ≡ true
 may_parts past b None f e = clash false f refl
 may_parts past b (Some g) f e = go b.effect (may_be_effect past b.ticket b.unit) e (and_parts _ _ (and_parts _ _ f).0).1
   where
@@ -44,10 +47,12 @@ may_parts past b (Some g) f e = go b.effect (may_be_effect past b.ticket b.unit)
     go true y p q = q
     go false y p q = clash false p refl
 
-may_by : (past : Past) (t : ℕ) → ((u : ℕ) → is_some (effect past t u) ≡ nat_lt u (placed past t)) → (u : ℕ) → may_be_effect past t u ≡ eqb u (placed past t)
+may_by : (past : Past) (t : ℕ) → ((u : ℕ) → is_some (effect past t u) ≡ nat_lt u (placed past t)) → (u : ℕ)
+    → may_be_effect past t u ≡ eqb u (placed past t)
 may_by past t h u = ap₂ (λ x y. not x && (eqb u 0 || y)) (h u) (h (u - 1)) ∙ next_only u (placed past t)
 
-pub effect_placed : (c : ConfigNumbers) (past : Past) (t u : ℕ) → IsLegal c past → is_some (effect past t u) ≡ nat_lt u (placed past t)
+pub effect_placed : (c : ConfigNumbers) (past : Past) (t u : ℕ) → IsLegal c past
+    → is_some (effect past t u) ≡ nat_lt u (placed past t)
 effect_placed c [] t u h = nothing_below u
 effect_placed c (Entry.Block b ∷ past) t u h =
     let w = follows c past (Entry.Block b) h in
@@ -55,11 +60,13 @@ effect_placed c (Entry.Block b ∷ past) t u h =
     ∙ ap (λ x. (b.effect && eqb b.ticket t && eqb b.unit u) || x) (effect_placed c past t u w.before)
     ∙ go (b.effect && eqb b.ticket t) refl (λ e. own e w.fits (λ v. effect_placed c past b.ticket v w.before))
   where
-    own : (b.effect && eqb b.ticket t) ≡ true → block_fits past b (find (λ g. eqb g.ticket b.ticket) (open_units past)) ≡ true
+    own : (b.effect && eqb b.ticket t) ≡ true
+        → block_fits past b (find (λ g. eqb g.ticket b.ticket) (open_units past)) ≡ true
         → ((v : ℕ) → is_some (effect past b.ticket v) ≡ nat_lt v (placed past b.ticket)) → b.unit ≡ placed past t
     own e f ih =
         let a = and_parts b.effect (eqb b.ticket t) e in
-        eqb-true _ _ (sym (may_by past b.ticket ih b.unit) ∙ may_parts past b _ f a.0) ∙ ap (placed past) (eqb-true b.ticket t a.1)
+        eqb-true _ _ (sym (may_by past b.ticket ih b.unit) ∙ may_parts past b _ f a.0)
+        ∙ ap (placed past) (eqb-true b.ticket t a.1)
 
     go : (x : Bool) → (b.effect && eqb b.ticket t) ≡ x → ((b.effect && eqb b.ticket t) ≡ true → b.unit ≡ placed past t)
         → ((x && eqb b.unit u) || nat_lt u (placed past t)) ≡ nat_lt u (placed past t + cond x 1 0)
@@ -68,10 +75,12 @@ effect_placed c (Entry.Block b ∷ past) t u h =
 effect_placed c (e ∷ past) t u h = effect_placed c past t u (follows c past e h).before
 
 -- the rule, by the count
-pub may_is : (c : ConfigNumbers) (past : Past) (t u : ℕ) → IsLegal c past → may_be_effect past t u ≡ eqb u (placed past t)
+pub may_is : (c : ConfigNumbers) (past : Past) (t u : ℕ) → IsLegal c past
+    → may_be_effect past t u ≡ eqb u (placed past t)
 may_is c past t u h = may_by past t (λ v. effect_placed c past t v h) u
 
-pub marked_may : (c : ConfigNumbers) (past : Past) (b : BlockLine) → IsLegal c (Entry.Block b ∷ past) → b.effect ≡ true → b.unit ≡ placed past b.ticket
+pub marked_may : (c : ConfigNumbers) (past : Past) (b : BlockLine) → IsLegal c (Entry.Block b ∷ past) → b.effect ≡ true
+    → b.unit ≡ placed past b.ticket
 marked_may c past b h e =
     let w = follows c past (Entry.Block b) h in
     eqb-true _ _ (sym (may_is c past b.ticket b.unit w.before) ∙ may_parts past b _ w.fits e)
@@ -83,14 +92,16 @@ pub effect_made : (past : Past) (t u : ℕ) → is_some (effect past t u) ≡ tr
 effect_made past t u e m = clash _ e (ap is_some (no_effect past t u m))
 
 -- and is granted
-pub effect_granted : (c : ConfigNumbers) (past : Past) (t u : ℕ) → IsLegal c past → is_some (effect past t u) ≡ true → u < grants_of past t
+pub effect_granted : (c : ConfigNumbers) (past : Past) (t u : ℕ) → IsLegal c past → is_some (effect past t u) ≡ true
+    → u < grants_of past t
 effect_granted c past t u h e = elim (cases_lt u (grants_of past t)) [
   | inl l ↦ l
   | inr l ↦ absurd (effect_made past t u e (no_blocks c past t u h l))
 ]
 
 -- and of a ticket that was fetched
-pub effect_known : (c : ConfigNumbers) (past : Past) (t u : ℕ) → IsLegal c past → is_some (effect past t u) ≡ true → t ≤ Tickets.tickets past
+pub effect_known : (c : ConfigNumbers) (past : Past) (t u : ℕ) → IsLegal c past → is_some (effect past t u) ≡ true
+    → t ≤ Tickets.tickets past
 effect_known c past t u h e = elim (cases_lt (Tickets.tickets past) t) [
   | inl l ↦ absurd (effect_made past t u e (no_blocks_yet c past t u h l))
   | inr l ↦ l
@@ -102,27 +113,41 @@ pub record Same (past later : Past) (t u : ℕ) : Type 0 where
   pub ticket : Tickets.ticket later t ≡ Tickets.ticket past t
   pub range : unit_range later t u ≡ unit_range past t u
 
-pub stays : (c : ConfigNumbers) (past : Past) (e : Entry) (t u : ℕ) → IsLegal c (e ∷ past) → is_some (effect past t u) ≡ true → Same past (e ∷ past) t u
+pub stays : (c : ConfigNumbers) (past : Past) (e : Entry) (t u : ℕ) → IsLegal c (e ∷ past)
+    → is_some (effect past t u) ≡ true → Same past (e ∷ past) t u
 stays c past (Entry.Publish p) t u h s = record { effect = refl; ticket = refl; range = refl }
 stays c past (Entry.Fetch f) t u h s =
-    record { effect = refl; ticket = ticket_kept c past f t h (effect_known c past t u (follows c past (Entry.Fetch f) h).before s); range = refl }
+    record {
+      effect = refl;
+      ticket =
+          ticket_kept c past f t h (effect_known c past t u (follows c past (Entry.Fetch f) h).before s);
+      range = refl;
+    }
 stays c past (Entry.Grant g) t u h s =
     record {
       effect = refl;
       ticket = refl;
       range = elim (cases_Bool (eqb g.ticket t && eqb g.unit u)) [
-        | inl e ↦ absurd (effect_made past t u s (no_blocks c past t u (follows c past (Entry.Grant g) h).before (grants_before c past g t u h e)))
+        | inl e ↦ absurd (effect_made past t u s
+            (no_blocks c past t u (follows c past (Entry.Grant g) h).before (grants_before c past g t u h e)))
         | inr e ↦ range_before past g t u e
       ];
     }
-stays c past (Entry.Block b) t u h s = record { effect = cond-false _ _ _ (apart (cases_Bool (b.effect && eqb b.ticket t && eqb b.unit u))); ticket = refl; range = refl }
+stays c past (Entry.Block b) t u h s =
+    record {
+      effect = cond-false _ _ _ (apart (cases_Bool (b.effect && eqb b.ticket t && eqb b.unit u)));
+      ticket = refl;
+      range = refl;
+    }
   where
-    apart : ((b.effect && eqb b.ticket t && eqb b.unit u) ≡ true) ⊎ ((b.effect && eqb b.ticket t && eqb b.unit u) ≡ false) → (b.effect && eqb b.ticket t && eqb b.unit u) ≡ false
+    apart : ((b.effect && eqb b.ticket t && eqb b.unit u) ≡ true)
+        ⊎ ((b.effect && eqb b.ticket t && eqb b.unit u) ≡ false) → (b.effect && eqb b.ticket t && eqb b.unit u) ≡ false
     apart (inr e) = e
     apart (inl e) =
         let a = and_parts (b.effect && eqb b.ticket t) (eqb b.unit u) e in
         let d = and_parts b.effect (eqb b.ticket t) a.0 in
-        let at : u ≡ placed past t = sym (eqb-true b.unit u a.1) ∙ marked_may c past b h d.0 ∙ ap (placed past) (eqb-true b.ticket t d.1) in
+        let at : u ≡ placed past t = sym (eqb-true b.unit u a.1) ∙ marked_may c past b h d.0
+        ∙ ap (placed past) (eqb-true b.ticket t d.1) in
         let below = ltb-true _ _ (sym (effect_placed c past t u (follows c past (Entry.Block b) h).before) ∙ s) in
         absurd (omega (arith, at, below))
 stays c past (Entry.Post p) t u h s = record { effect = refl; ticket = refl; range = refl }

@@ -1,5 +1,7 @@
 -- An effect of a ticket says no exactly where the table has it.
-use Rattle.std.proofs.Common.{◌≡◌, ℕ, suc, ◌+◌, ◌≤◌, ◌<◌, Bool, true, false, ◌&&◌, List, [], ◌∷◌, length, refl, sym, ap, ◌∙◌, subst, subst₂, Option, Some, None, is_some, inl, inr, ◌⊎◌, arith, eq-eqb, eqb, eqb-true}
+use Rattle.std.proofs.Common.{◌≡◌, ℕ, suc, ◌+◌, ◌≤◌, ◌<◌, Bool, true, false, ◌&&◌, List, [], ◌∷◌, length, refl, sym, ap}
+use Rattle.std.proofs.Common.{◌∙◌, subst, subst₂, Option, Some, None, is_some, inl, inr, ◌⊎◌, arith, eq-eqb, eqb}
+use Rattle.std.proofs.Common.{eqb-true}
 use Rattle.std.specs.List.{list_any}
 use Rattle.std.proofs.lemmas.Bool.{and_parts, and_from, or_left, or_right, or_cases, cond-true, cond-false, cases_Bool}
 use Rattle.nvme_model.specs.declared.array.Range.{Range}
@@ -27,11 +29,13 @@ no_effects None k r e = clash false e refl
 no_effects (Some before) k r e = refl
 
 -- a unit that has its effect says what it said
-pub says_stays : (c : ConfigNumbers) (past : Past) (e : Entry) (t u : ℕ) → IsLegal c (e ∷ past) → is_some (effect past t u) ≡ true → says_no (e ∷ past) t u ≡ says_no past t u
+pub says_stays : (c : ConfigNumbers) (past : Past) (e : Entry) (t u : ℕ) → IsLegal c (e ∷ past)
+    → is_some (effect past t u) ≡ true → says_no (e ∷ past) t u ≡ says_no past t u
 says_stays c past e t u h s = let m = stays c past e t u h s in (λ i. no_at (m.effect i) (m.ticket i) (m.range i))
 
 -- so it goes on saying no
-still_no : (c : ConfigNumbers) (past : Past) (e : Entry) (t u : ℕ) → IsLegal c (e ∷ past) → says_no past t u ≡ true → says_no (e ∷ past) t u ≡ true
+still_no : (c : ConfigNumbers) (past : Past) (e : Entry) (t u : ℕ) → IsLegal c (e ∷ past) → says_no past t u ≡ true
+    → says_no (e ∷ past) t u ≡ true
 still_no c past e t u h n = says_stays c past e t u h (no_effects _ _ _ n) ∙ n
 
 -- ---- a unit says no where the table has it
@@ -42,16 +46,23 @@ AnyNo past t = (u : ℕ) × (says_no past t u ≡ true)
 pub said_at : (c : ConfigNumbers) (past : Past) (t : ℕ) → IsLegal c past → said_no past t ≡ true → AnyNo past t
 said_at c [] t h n = clash false n refl
 said_at c (Entry.Block b ∷ past) t h n =
-    go (or_cases (b.effect && eqb b.ticket t && no_at (Some past) (Tickets.ticket past b.ticket) (unit_range past b.ticket b.unit)) (said_no past t) n) (said_at c past t (follows c past (Entry.Block b) h).before)
+    go (or_cases (b.effect && eqb b.ticket t
+    && no_at (Some past) (Tickets.ticket past b.ticket) (unit_range past b.ticket b.unit)) (said_no past t) n)
+    (said_at c past t (follows c past (Entry.Block b) h).before)
   where
-    go : ((b.effect && eqb b.ticket t && no_at (Some past) (Tickets.ticket past b.ticket) (unit_range past b.ticket b.unit)) ≡ true) ⊎ (said_no past t ≡ true) → (said_no past t ≡ true → AnyNo past t) → AnyNo (Entry.Block b ∷ past) t
+    go : ((b.effect && eqb b.ticket t
+        && no_at (Some past) (Tickets.ticket past b.ticket) (unit_range past b.ticket b.unit)) ≡ true)
+        ⊎ (said_no past t ≡ true) → (said_no past t ≡ true → AnyNo past t) → AnyNo (Entry.Block b ∷ past) t
     go (inr e) ih = let u = ih e in (u.0, still_no c past (Entry.Block b) t u.0 h u.1)
     go (inl e) ih =
         let a = and_parts (b.effect && eqb b.ticket t) _ e in
         let d = and_parts b.effect (eqb b.ticket t) a.0 in
-        let now : says_no (Entry.Block b ∷ past) b.ticket b.unit ≡ true = ap (λ (o : Option Past). no_at o (Tickets.ticket past b.ticket) (unit_range past b.ticket b.unit)) (marked_here past b d.0) ∙ a.1 in
+        let now : says_no (Entry.Block b ∷ past) b.ticket b.unit ≡ true =
+        ap (λ (o : Option Past). no_at o (Tickets.ticket past b.ticket) (unit_range past b.ticket b.unit))
+        (marked_here past b d.0) ∙ a.1 in
         (b.unit, subst (λ (s : ℕ). says_no (Entry.Block b ∷ past) s b.unit ≡ true) (eqb-true b.ticket t d.1) now)
-said_at c (e ∷ past) t h n = let u = said_at c past t (follows c past e h).before n in (u.0, still_no c past e t u.0 h u.1)
+said_at c (e ∷ past) t h n = let u = said_at c past t (follows c past e h).before n in
+    (u.0, still_no c past e t u.0 h u.1)
 
 -- ---- and the table has it where a unit says no
 
@@ -61,30 +72,45 @@ no_said c (Entry.Publish p ∷ past) t u h n = no_said c past t u (follows c pas
 no_said c (Entry.Post p ∷ past) t u h n = no_said c past t u (follows c past (Entry.Post p) h).before n
 no_said c (Entry.Reap p ∷ past) t u h n = no_said c past t u (follows c past (Entry.Reap p) h).before n
 no_said c (Entry.Fetch f ∷ past) t u h n =
-    no_said c past t u (follows c past (Entry.Fetch f) h).before (sym (says_stays c past (Entry.Fetch f) t u h (no_effects _ _ _ n)) ∙ n)
+    no_said c past t u (follows c past (Entry.Fetch f) h).before
+    (sym (says_stays c past (Entry.Fetch f) t u h (no_effects _ _ _ n)) ∙ n)
 no_said c (Entry.Grant g ∷ past) t u h n =
-    no_said c past t u (follows c past (Entry.Grant g) h).before (sym (says_stays c past (Entry.Grant g) t u h (no_effects _ _ _ n)) ∙ n)
-no_said c (Entry.Block b ∷ past) t u h n = go (cases_Bool (b.effect && eqb b.ticket t && eqb b.unit u)) (no_said c past t u (follows c past (Entry.Block b) h).before)
+    no_said c past t u (follows c past (Entry.Grant g) h).before
+    (sym (says_stays c past (Entry.Grant g) t u h (no_effects _ _ _ n)) ∙ n)
+no_said c (Entry.Block b ∷ past) t u h n =
+    go (cases_Bool (b.effect && eqb b.ticket t && eqb b.unit u))
+    (no_said c past t u (follows c past (Entry.Block b) h).before)
   where
-    go : ((b.effect && eqb b.ticket t && eqb b.unit u) ≡ true) ⊎ ((b.effect && eqb b.ticket t && eqb b.unit u) ≡ false) → (says_no past t u ≡ true → said_no past t ≡ true) → said_no (Entry.Block b ∷ past) t ≡ true
-    go (inr e) ih = or_right _ _ (ih (subst (λ (o : Option Past). no_at o (Tickets.ticket past t) (unit_range past t u) ≡ true) (cond-false _ _ _ e) n))
+    go : ((b.effect && eqb b.ticket t && eqb b.unit u) ≡ true) ⊎ ((b.effect && eqb b.ticket t && eqb b.unit u) ≡ false)
+        → (says_no past t u ≡ true → said_no past t ≡ true) → said_no (Entry.Block b ∷ past) t ≡ true
+    go (inr e) ih = or_right _ _
+        (ih (subst (λ (o : Option Past). no_at o (Tickets.ticket past t) (unit_range past t u) ≡ true)
+        (cond-false _ _ _ e) n))
     go (inl e) ih =
         let a = and_parts (b.effect && eqb b.ticket t) (eqb b.unit u) e in
         let d = and_parts b.effect (eqb b.ticket t) a.0 in
-        let now : no_at (Some past) (Tickets.ticket past t) (unit_range past t u) ≡ true = subst (λ (o : Option Past). no_at o (Tickets.ticket past t) (unit_range past t u) ≡ true) (cond-true _ _ _ e) n in
-        or_left _ _ (and_from _ _ a.0 (subst₂ (λ (s v : ℕ). no_at (Some past) (Tickets.ticket past s) (unit_range past s v) ≡ true) (sym (eqb-true b.ticket t d.1)) (sym (eqb-true b.unit u a.1)) now))
+        let now : no_at (Some past) (Tickets.ticket past t) (unit_range past t u) ≡ true =
+        subst (λ (o : Option Past). no_at o (Tickets.ticket past t) (unit_range past t u) ≡ true)
+        (cond-true _ _ _ e) n in
+        or_left _ _ (and_from _ _ a.0
+        (subst₂ (λ (s v : ℕ). no_at (Some past) (Tickets.ticket past s) (unit_range past s v) ≡ true)
+        (sym (eqb-true b.ticket t d.1)) (sym (eqb-true b.unit u a.1)) now))
 
 -- ---- over the units of the ticket
 
-any_numbered : (p : ℕ → Bool) (v : ℕ) (rs : List Range) → list_any (λ u. p u.0) (numbered v rs) ≡ true → (u : ℕ) × (p u ≡ true)
+any_numbered : (p : ℕ → Bool) (v : ℕ) (rs : List Range) → list_any (λ u. p u.0) (numbered v rs) ≡ true
+    → (u : ℕ) × (p u ≡ true)
 any_numbered p v [] h = clash false h refl
-any_numbered p v (r ∷ rs) h = go (or_cases (p v) (list_any (λ u. p u.0) (numbered (suc v) rs)) h) (any_numbered p (suc v) rs)
+any_numbered p v (r ∷ rs) h =
+    go (or_cases (p v) (list_any (λ u. p u.0) (numbered (suc v) rs)) h) (any_numbered p (suc v) rs)
   where
-    go : (p v ≡ true) ⊎ (list_any (λ u. p u.0) (numbered (suc v) rs) ≡ true) → (list_any (λ u. p u.0) (numbered (suc v) rs) ≡ true → (u : ℕ) × (p u ≡ true)) → (u : ℕ) × (p u ≡ true)
+    go : (p v ≡ true) ⊎ (list_any (λ u. p u.0) (numbered (suc v) rs) ≡ true)
+        → (list_any (λ u. p u.0) (numbered (suc v) rs) ≡ true → (u : ℕ) × (p u ≡ true)) → (u : ℕ) × (p u ≡ true)
     go (inl e) ih = (v, e)
     go (inr e) ih = ih e
 
-numbered_any : (p : ℕ → Bool) (v u : ℕ) (rs : List Range) → v ≤ u → u < v + length rs → p u ≡ true → list_any (λ u. p u.0) (numbered v rs) ≡ true
+numbered_any : (p : ℕ → Bool) (v u : ℕ) (rs : List Range) → v ≤ u → u < v + length rs → p u ≡ true
+    → list_any (λ u. p u.0) (numbered v rs) ≡ true
 numbered_any p v u [] a b e = absurd (omega (arith, a, b))
 numbered_any p v u (r ∷ rs) a b e = elim (cases_Bool (eqb v u)) [
   | inl q ↦ or_left _ _ (ap p (eqb-true v u q) ∙ e)
@@ -103,7 +129,8 @@ some_no_is c past t h = both (some_no c past t) (said_no past t)
     (λ e.
     let u = said_at c past t h e in
     let l = effect_granted c past t u.0 h (no_effects _ _ _ u.1) in
-    numbered_any (says_no past t) 0 u.0 (units c (Tickets.ticket past t)) (omega arith) (omega (arith, l, grants_within c past t h)) u.1)
+    numbered_any (says_no past t) 0 u.0 (units c (Tickets.ticket past t)) (omega arith)
+    (omega (arith, l, grants_within c past t h)) u.1)
   where
     both : (x y : Bool) → (x ≡ true → y ≡ true) → (y ≡ true → x ≡ true) → x ≡ y
     both true y f g = sym (f refl)

@@ -15,7 +15,7 @@ use Rattle.nvme_model.specs.declared.entry.GrantLine.{GrantLine}
 use Rattle.nvme_model.specs.declared.entry.PostLine.{PostLine}
 use Rattle.nvme_model.specs.declared.status.Verdict.{Verdict}
 use Rattle.nvme_model.specs.declared.submission.Submission.{Submission}
-use Rattle.ticket_standing.specs.Standing.{flying}
+use Rattle.ticket_laws.specs.Standing.{flying}
 use Rattle.checker_tables.specs.Effects
 use Rattle.checker_tables.specs.Effects.{answers_at, said, said_no}
 

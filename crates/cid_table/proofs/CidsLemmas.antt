@@ -1,7 +1,10 @@
 -- What CIDs are used for, and what a write leaves.
-use Rattle.std.proofs.Common.{Bool, List, None, Option, Some, ap, arith, cond, eq-eqb, eqb-true, false, get_or, inl, inr, length, refl, replicate, set, sym, true, true≢false, ℕ, ◌&&◌, ◌<◌, ◌==◌, ◌≡◌, ◌≢◌, ◌∙◌}
+use Rattle.std.proofs.Common.{Bool, List, None, Option, Some, ap, arith, cond, eq-eqb, eqb-true, false, get_or, inl}
+use Rattle.std.proofs.Common.{inr, length, refl, replicate, set, sym, true, true≢false, ℕ, ◌&&◌, ◌<◌, ◌==◌, ◌≡◌, ◌≢◌}
+use Rattle.std.proofs.Common.{◌∙◌}
 use Rattle.std.proofs.lemmas.Bool.{and_from, and_parts, cases_lt}
-use Rattle.std.proofs.lemmas.List.{get_or_read, get_or-replicate, get_or-set_other, get_or-set_same, get_or_past, length-replicate}
+use Rattle.std.proofs.lemmas.List.{get_or_read, get_or-replicate, get_or-set_other, get_or-set_same, get_or_past}
+use Rattle.std.proofs.lemmas.List.{length-replicate}
 use Rattle.cid_table.specs.Cids.{ChangesOnly, Cids, IsKept, held, held_at, place_of}
 use Rattle.cid_table.specs.declared.held.Held.{Held}
 use Rattle.cid_table.specs.declared.held.Held.TheVariants.{Free}
@@ -10,20 +13,24 @@ use Rattle.cid_table.proofs.Places.{place_parts, place_unlike, place_within}
 -- ---- what is held
 
 -- what is at a place is held there
-pub held_here : (t : Cids) (queue cid place : ℕ) → place_of t.queues queue cid ≡ Some place → held t queue cid ≡ get_or t.cids place Free
+pub held_here : (t : Cids) (queue cid place : ℕ) → place_of t.queues queue cid ≡ Some place
+    → held t queue cid ≡ get_or t.cids place Free
 unfolding held
 held_here t queue cid place e = ap (held_at t.cids) e
 
 -- a table has a use at each place
-pub place_kept : (queues : List ℕ) (cids : List Held) (queue cid place : ℕ) → IsKept queues cids → place_of queues queue cid ≡ Some place
+pub place_kept : (queues : List ℕ) (cids : List Held) (queue cid place : ℕ) → IsKept queues cids
+    → place_of queues queue cid ≡ Some place
     → place < length cids
 place_kept queues cids queue cid place kept e = omega (arith, place_within queues queue cid place e, kept.whole)
 
 -- what is read at a place is held there
-pub held_read : (t : Cids) (queue cid place : ℕ) (h : Held) → IsKept t.queues t.cids → place_of t.queues queue cid ≡ Some place
+pub held_read : (t : Cids) (queue cid place : ℕ) (h : Held) → IsKept t.queues t.cids
+    → place_of t.queues queue cid ≡ Some place
     → h ≡ get_or t.cids place h → h ≡ held t queue cid
 held_read t queue cid place h kept e r =
-    get_or_read t.cids place h (place_kept t.queues t.cids queue cid place kept e) r Free ∙ sym (held_here t queue cid place e)
+    get_or_read t.cids place h (place_kept t.queues t.cids queue cid place kept e) r Free
+    ∙ sym (held_here t queue cid place e)
 
 -- nothing is held where there is no place
 pub held_nowhere : (t : Cids) (queue cid : ℕ) → place_of t.queues queue cid ≡ None → held t queue cid ≡ Free
@@ -31,7 +38,8 @@ unfolding held
 held_nowhere t queue cid e = ap (held_at t.cids) e
 
 -- where all are free, each is
-pub held_free : (queues : List ℕ) (n queue cid : ℕ) → held (record { queues = queues; cids = replicate n Free }) queue cid ≡ Free
+pub held_free : (queues : List ℕ) (n queue cid : ℕ)
+    → held (record { queues = queues; cids = replicate n Free }) queue cid ≡ Free
 unfolding held
 held_free queues n queue cid = go (place_of queues queue cid)
   where
@@ -45,18 +53,21 @@ held_free queues n queue cid = go (place_of queues queue cid)
 -- ---- a write
 
 -- a write at a place changes one
-pub ChangesOnly-set : (t : Cids) (queue cid place : ℕ) (h : Held) → IsKept t.queues t.cids → place_of t.queues queue cid ≡ Some place
+pub ChangesOnly-set : (t : Cids) (queue cid place : ℕ) (h : Held) → IsKept t.queues t.cids
+    → place_of t.queues queue cid ≡ Some place
     → ChangesOnly t (record t { cids = set t.cids place h }) queue cid h
 ChangesOnly-set t queue cid place h kept e q i = go ((q == queue) && (i == cid)) refl
   where
     new : Cids
     new = record t { cids = set t.cids place h }
 
-    other : ((q == queue) && (i == cid)) ≡ false → (o : Option ℕ) → place_of t.queues q i ≡ o → held new q i ≡ held t q i
+    other : ((q == queue) && (i == cid)) ≡ false → (o : Option ℕ) → place_of t.queues q i ≡ o
+        → held new q i ≡ held t q i
     other f None p = held_nowhere new q i p ∙ sym (held_nowhere t q i p)
     other f (Some m) p =
         let apart : m ≢ place = λ (s : m ≡ place).
-        let u = place_unlike t.queues q queue i cid place (place_parts t.queues q i place (p ∙ ap Some s)) (place_parts t.queues queue cid place e) in
+        let u = place_unlike t.queues q queue i cid place (place_parts t.queues q i place (p ∙ ap Some s))
+        (place_parts t.queues queue cid place e) in
         true≢false (sym (and_from _ _ (eq-eqb q queue u.0) (eq-eqb i cid u.1)) ∙ f) in
         held_here new q i m p ∙ get_or-set_other t.cids place m h Free apart ∙ sym (held_here t q i m p)
 
@@ -64,5 +75,6 @@ ChangesOnly-set t queue cid place h kept e q i = go ((q == queue) && (i == cid))
     go false f = other f (place_of t.queues q i) refl
     go true f =
         let both = and_parts (q == queue) (i == cid) f in
-        let same = held_here new queue cid place e ∙ get_or-set_same t.cids place h Free (place_kept t.queues t.cids queue cid place kept e) in
+        let same = held_here new queue cid place e
+        ∙ get_or-set_same t.cids place h Free (place_kept t.queues t.cids queue cid place kept e) in
         rw (eqb-true q queue both.0, eqb-true i cid both.1) same

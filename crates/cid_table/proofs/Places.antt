@@ -1,5 +1,7 @@
 -- Where the CIDs of submission queues are, 64 of each.
-use Rattle.std.proofs.Common.{Bool, Contains, IsSome, List, None, Option, Some, add-one, ap, arith, cond, false, get_or, inl, inr, length, ltb-true, nat_lt, refl, slice_index, suc, sym, true, zero, ℕ, ◌*◌, ◌+◌, ◌<◌, ◌==◌, ◌≡◌, ◌≤◌, ◌∙◌}
+use Rattle.std.proofs.Common.{Bool, Contains, IsSome, List, None, Option, Some, add-one, ap, arith, cond, false, get_or}
+use Rattle.std.proofs.Common.{inl, inr, length, ltb-true, nat_lt, refl, slice_index, suc, sym, true, zero, ℕ, ◌*◌, ◌+◌}
+use Rattle.std.proofs.Common.{◌<◌, ◌==◌, ◌≡◌, ◌≤◌, ◌∙◌}
 use Rattle.std.proofs.lemmas.Bool.{cases_lt}
 use Rattle.std.proofs.lemmas.Bool.Decides.{nat_tests}
 use Rattle.std.proofs.lemmas.Grind.{get_or_default_zero}
@@ -21,7 +23,8 @@ pub record IsPlace (queues : List ℕ) (queue cid place : ℕ) : Type 0 where
   pub at : place ≡ 64 * k + cid
 
 -- a place is one of a queue and a CID
-pub place_parts : (queues : List ℕ) (queue cid place : ℕ) → place_of queues queue cid ≡ Some place → IsPlace queues queue cid place
+pub place_parts : (queues : List ℕ) (queue cid place : ℕ) → place_of queues queue cid ≡ Some place
+    → IsPlace queues queue cid place
 place_parts queues queue cid place e = go (nat_lt cid 64) refl (position (λ q. q == queue) queues) refl e
   where
     go : (b : Bool) → nat_lt cid 64 ≡ b → (o : Option ℕ) → position (λ q. q == queue) queues ≡ o
@@ -35,7 +38,8 @@ place_parts queues queue cid place e = go (nat_lt cid 64) refl (position (λ q. 
         record { k = k; within = found.0; named = grind (arith, nat_tests); below = ltb-true cid 64 t; at = cc }
 
 -- each queue and CID has a place of its own
-pub place_unlike : (queues : List ℕ) (q r i j place : ℕ) → IsPlace queues q i place → IsPlace queues r j place → (q ≡ r) × (i ≡ j)
+pub place_unlike : (queues : List ℕ) (q r i j place : ℕ) → IsPlace queues q i place → IsPlace queues r j place
+    → (q ≡ r) × (i ≡ j)
 place_unlike queues q r i j place a b =
     let below = a.below in
     let below' = b.below in
@@ -45,19 +49,22 @@ place_unlike queues q r i j place a b =
     (sym a.named ∙ ap (λ k. get_or queues k 0) same ∙ b.named, omega arith)
 
 -- a queue with a place is one of them
-pub place_known : (queues : List ℕ) (queue cid place : ℕ) → place_of queues queue cid ≡ Some place → Contains queues queue
+pub place_known : (queues : List ℕ) (queue cid place : ℕ) → place_of queues queue cid ≡ Some place
+    → Contains queues queue
 place_known queues queue cid place e =
     let p = place_parts queues queue cid place e in
     (p.k, p.within, get_or_default_zero queues p.k queue p.within ∙ p.named)
 
 -- a place is among 64 of each
-pub place_within : (queues : List ℕ) (queue cid place : ℕ) → place_of queues queue cid ≡ Some place → place < 64 * length queues
+pub place_within : (queues : List ℕ) (queue cid place : ℕ) → place_of queues queue cid ≡ Some place
+    → place < 64 * length queues
 place_within queues queue cid place e =
     let p = place_parts queues queue cid place e in
     omega (arith, p.within, p.below, p.at)
 
 -- each CID of a queue has a place
-pub place_there : (queues : List ℕ) (queue cid : ℕ) → Contains queues queue → cid < 64 → IsSome (place_of queues queue cid)
+pub place_there : (queues : List ℕ) (queue cid : ℕ) → Contains queues queue → cid < 64
+    → IsSome (place_of queues queue cid)
 place_there queues queue cid (k, within, named) below = go (nat_lt cid 64) refl (position (λ q. q == queue) queues) refl
   where
     go : (b : Bool) → nat_lt cid 64 ≡ b → (o : Option ℕ) → position (λ q. q == queue) queues ≡ o
@@ -91,7 +98,8 @@ rises queues r (suc k) h =
     rw (← add-one) (omega arith)
 
 -- there are no more of them than numbers of 16 bits
-pub few : (queues : List ℕ) → IsStrictlyIncreasing queues → ((k : ℕ) → k < length queues → slice_index queues k < 65536) → length queues ≤ 65536
+pub few : (queues : List ℕ) → IsStrictlyIncreasing queues → ((k : ℕ) → k < length queues → slice_index queues k < 65536)
+    → length queues ≤ 65536
 few queues r fits = elim (cases_lt 65536 (length queues)) [
   | inl more ↦ absurd (omega (arith, rises queues r 65536 more, fits 65536 more))
   | inr most ↦ most

@@ -1,5 +1,6 @@
 -- Where a CID is among those in use.
-use Rattle.std.proofs.Common.{◌≡◌, ◌<◌, Bool, List, None, Some, arith, eqb, eqb-true, false, get_or, length, refl, sym, true, ℕ, ◌∙◌}
+use Rattle.std.proofs.Common.{◌≡◌, ◌<◌, Bool, List, None, Some, arith, eqb, eqb-true, false, get_or, length, refl, sym}
+use Rattle.std.proofs.Common.{true, ℕ, ◌∙◌}
 use Rattle.std.proofs.lemmas.Bool.Decides.{nat_tests}
 use Rattle.std.proofs.lemmas.List.Folds.{Any-from_list_any, list_any-from_Any}
 use Rattle.std.proofs.lemmas.Grind.{get_or_default_zero}
@@ -9,7 +10,8 @@ use Rattle.std.specs.List.{position}
 use Rattle.cids_in_use.specs.Used.{is_used}
 
 -- a place that is found has the CID
-pub has : (cids : List ℕ) (cid i : ℕ) → position (λ one. eqb one cid) cids ≡ Some i → (i < length cids) × (cid ≡ get_or cids i cid)
+pub has : (cids : List ℕ) (cid i : ℕ) → position (λ one. eqb one cid) cids ≡ Some i
+    → (i < length cids) × (cid ≡ get_or cids i cid)
 has cids cid i e =
     let found = position-Some (λ one. eqb one cid) cids i cid e in
     (found.0, sym (eqb-true _ cid found.1))
@@ -22,10 +24,18 @@ lacks cids cid e = go (is_used cid cids) refl
     go false u = refl
     go true u =
         let some = Any-from_list_any (λ one. eqb one cid) cids u in
-        absurd (grind (arith, nat_tests, some.2, some.3, some.4, fails_before_first (λ one. eqb one cid) cids some.0 some.1))
+        absurd (grind (
+          arith,
+          nat_tests,
+          some.2,
+          some.3,
+          some.4,
+          fails_before_first (λ one. eqb one cid) cids some.0 some.1,
+        ))
 
 -- the CID that is taken out from this place is that one
-pub same : (cids : List ℕ) (cid i taken : ℕ) → i < length cids → cid ≡ get_or cids i cid → taken ≡ get_or cids i taken → taken ≡ cid
+pub same : (cids : List ℕ) (cid i taken : ℕ) → i < length cids → cid ≡ get_or cids i cid → taken ≡ get_or cids i taken
+    → taken ≡ cid
 same cids cid i taken within e f =
     f ∙ get_or_default_zero cids i taken within ∙ sym (get_or_default_zero cids i cid within) ∙ sym e
 

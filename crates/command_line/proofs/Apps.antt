@@ -24,23 +24,31 @@ both_hold true b h = h
 both_hold false b h = absurd cc
 
 -- the last of ten tests that all hold
-tenth_fails : (a b c d e f i j k g : Bool) → (a && (b && (c && (d && (e && (f && (i && (j && (k && not g))))))))) ≡ true → g ≡ false
+tenth_fails : (a b c d e f i j k g : Bool) → (a && (b && (c && (d && (e && (f && (i && (j && (k && not g))))))))) ≡ true
+    → g ≡ false
 tenth_fails a b c d e f i j k g h =
-    last_of_two j k g (both_hold i _ (both_hold f _ (both_hold e _ (both_hold d _ (both_hold c _ (both_hold b _ (both_hold a _ h)))))))
+    last_of_two j k g (both_hold i _
+    (both_hold f _ (both_hold e _ (both_hold d _ (both_hold c _ (both_hold b _ (both_hold a _ h)))))))
 
 -- an argument whose rule is simple isn't global
 pub not_global : (a : Arg) → (rule_of a).is_simple ≡ true → a.global ≡ false
 not_global a h =
-    tenth_fails (length a.overrides.items == 0) (length a.default_vals_ifs.items == 0) (length a.groups.items == 0) (not (is_some a.val_delim)) (not (is_some a.terminator))
+    tenth_fails (length a.overrides.items == 0) (length a.default_vals_ifs.items == 0) (length a.groups.items == 0)
+    (not (is_some a.val_delim)) (not (is_some a.terminator))
     (not a.allow_hyphen_values) (not a.allow_negative_numbers) (not a.require_equals) (not a.last) a.global h
 
 -- what clap says of a command below another, where its making may have failed
-pub below_is : {E : Type 0} (r : Result Command E) (old b new : Command) → r ≡ Ok b → IfOk r (λ x. (app_of x).top.is_plain ≡ true) → AddsSubcommand old b new → IsOkAnd r (λ x. app_of new ≡ with_subcommand (app_of old) (app_of x).top)
+pub below_is : {E : Type 0} (r : Result Command E) (old b new : Command) → r ≡ Ok b
+    → IfOk r (λ x. (app_of x).top.is_plain ≡ true) → AddsSubcommand old b new
+    → IsOkAnd r (λ x. app_of new ≡ with_subcommand (app_of old) (app_of x).top)
 below_is r old b new made plain h =
-    let simple : (app_of b).top.is_plain ≡ true = subst (λ (x : Result Command _). IfOk x (λ y. (app_of y).top.is_plain ≡ true)) made plain in
-    subst (λ (x : Result Command _). IsOkAnd x (λ y. app_of new ≡ with_subcommand (app_of old) (app_of y).top)) (sym made) (h.shape (third_fails _ _ _ _ simple))
+    let simple : (app_of b).top.is_plain ≡ true =
+    subst (λ (x : Result Command _). IfOk x (λ y. (app_of y).top.is_plain ≡ true)) made plain in
+    subst (λ (x : Result Command _). IsOkAnd x (λ y. app_of new ≡ with_subcommand (app_of old) (app_of y).top))
+    (sym made) (h.shape (third_fails _ _ _ _ simple))
 
 -- such a command below another
-pub below_adds : {E : Type 0} (r : Result Command E) (old new known a : App) → old ≡ known → IfOk r (λ b. app_of b ≡ a) → IsOkAnd r (λ b. new ≡ with_subcommand old (app_of b).top) → new ≡ with_subcommand known a.top
+pub below_adds : {E : Type 0} (r : Result Command E) (old new known a : App) → old ≡ known → IfOk r (λ b. app_of b ≡ a)
+    → IsOkAnd r (λ b. new ≡ with_subcommand old (app_of b).top) → new ≡ with_subcommand known a.top
 below_adds (Ok b) old new known a same e h = h ∙ ap₂ with_subcommand same (ap (λ (x : App). x.top) e)
 below_adds (Err e) old new known a same i h = absurd h

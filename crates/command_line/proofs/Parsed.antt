@@ -11,14 +11,16 @@ use Rattle.command_line.specs.CommandLine.{casdisk_app, command_in}
 use Rattle.command_line.specs.declared.request.Asked.{Asked}
 
 -- a number that was read is what the option says
-pub says_number : (G : Text → Result ℕ ParseIntError → Type 0) (o : Option Text) (name : Text) (rows : List Row) (n : ℕ) → o ≡ one_of name rows
+pub says_number : (G : Text → Result ℕ ParseIntError → Type 0) (o : Option Text) (name : Text) (rows : List Row) (n : ℕ)
+    → o ≡ one_of name rows
     → ((u : Text) (x : Result ℕ ParseIntError) → G u x → ParsesUnsigned 64 10 u x)
     → (o ≡ None → Some n ≡ None) → ((t : Text) → o ≡ Some t → ReadsOne G t (Some n)) → SaysNumber name rows n
 says_number G None name rows n is only none value = let bad : Some n ≡ None = none refl in absurd cc
 says_number G (Some t) name rows n is only none value = (t, sym is, only t (Ok n) (value t refl))
 
 -- where one was read
-pub says_it : (G : Text → Result ℕ ParseIntError → Type 0) (o : Option Text) (name : Text) (rows : List Row) (r : Option ℕ) → o ≡ one_of name rows
+pub says_it : (G : Text → Result ℕ ParseIntError → Type 0) (o : Option Text) (name : Text) (rows : List Row)
+    (r : Option ℕ) → o ≡ one_of name rows
     → ((u : Text) (x : Result ℕ ParseIntError) → G u x → ParsesUnsigned 64 10 u x)
     → (o ≡ None → r ≡ None) → ((t : Text) → o ≡ Some t → ReadsOne G t r) → IfSome r (SaysNumber name rows)
 says_it G o name rows None is only none value = tt
@@ -32,14 +34,19 @@ same_number G t (Some v) only reads n says = let read = only (Ok v) reads in ap 
 same_number G t None only reads n says = absurd (only (Err reads.0) reads.1 says.0)
 
 -- the number that an option says is the one that is read
-pub reads_it : (G : Text → Result ℕ ParseIntError → Type 0) (o : Option Text) (name : Text) (rows : List Row) (r : Option ℕ) → o ≡ one_of name rows
-    → ((u : Text) (x : Result ℕ ParseIntError) → G u x → ParsesUnsigned 64 10 u x) → ((t : Text) → o ≡ Some t → ReadsOne G t r)
+pub reads_it : (G : Text → Result ℕ ParseIntError → Type 0) (o : Option Text) (name : Text) (rows : List Row)
+    (r : Option ℕ) → o ≡ one_of name rows
+    → ((u : Text) (x : Result ℕ ParseIntError) → G u x → ParsesUnsigned 64 10 u x)
+    → ((t : Text) → o ≡ Some t → ReadsOne G t r)
     → (n : ℕ) → SaysNumber name rows n → r ≡ Some n
-reads_it G o name rows r is only value n says = same_number G says.0 r (λ x. only says.0 x) (value says.0 (is ∙ says.1)) n says.2
+reads_it G o name rows r is only value n says =
+    same_number G says.0 r (λ x. only says.0 x) (value says.0 (is ∙ says.1)) n says.2
 
 -- a command's name and its matches, from both parts
 pub both_parts : {X : Type 0} (s : Option X) (g : X → Text) (h : X → List Row) (name : Text) (rows : List Row)
-    → option_map g s ≡ Some name → option_map (λ (p : Text × List Row). p.1) (option_map {U = Text × List Row} (λ b. (g b, h b)) s) ≡ Some rows → option_map {U = Text × List Row} (λ b. (g b, h b)) s ≡ Some (name, rows)
+    → option_map g s ≡ Some name
+    → option_map (λ (p : Text × List Row). p.1) (option_map {U = Text × List Row} (λ b. (g b, h b)) s) ≡ Some rows
+    → option_map {U = Text × List Row} (λ b. (g b, h b)) s ≡ Some (name, rows)
 both_parts None g h name rows p q = absurd cc
 both_parts (Some b) g h name rows p q =
     let p' : g b ≡ name = cc in
@@ -51,12 +58,14 @@ pub casdisk_is_simple : is_simple casdisk_app ≡ true
 unfolding clap_on_literals
 casdisk_is_simple = refl
 
-pub named : (words : List Text) (name : Text) (rows : List Row) → subcommand_of casdisk_app words ≡ Some (name, rows) → command_in words ≡ Some (name, rows)
+pub named : (words : List Text) (name : Text) (rows : List Row) → subcommand_of casdisk_app words ≡ Some (name, rows)
+    → command_in words ≡ Some (name, rows)
 unfolding command_in
 named words name rows e = e
 
 -- what a command's options ask for is what the words ask for
-pub by_command : (words : List Text) (name : Text) (rows : List Row) → command_in words ≡ Some (name, rows) → (a : Asked) → AsksBy name rows a → Asks words a
+pub by_command : (words : List Text) (name : Text) (rows : List Row) → command_in words ≡ Some (name, rows)
+    → (a : Asked) → AsksBy name rows a → Asks words a
 by_command words name rows e (Asked.Run kinds flush file) h = (name, rows, e, h)
 by_command words name rows e (Asked.Check follow file) h = (name, rows, e, h)
 by_command words name rows e (Asked.Explain file) h = (name, rows, e, h)

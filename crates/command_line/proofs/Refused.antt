@@ -14,7 +14,8 @@ refused_by name rows UsageFault.NoMemory h = tt
 
 module _ (words : List Text) where
   -- the words whose options are refused
-  pub by_options : (name : Text) (rows : List Row) → command_in words ≡ Some (name, rows) → (f : UsageFault) → IsRefusedBy name rows f → AreRefused words f
+  pub by_options : (name : Text) (rows : List Row) → command_in words ≡ Some (name, rows) → (f : UsageFault)
+      → IsRefusedBy name rows f → AreRefused words f
   by_options name rows e (UsageFault.Text text) h = inr (inr (name, rows, e, h))
   by_options name rows e UsageFault.NoMemory h = tt
 
@@ -42,11 +43,13 @@ not_true false P f n = refl
 not_true true P f n = absurd (n (f refl))
 
 -- a text that is asked for isn't want of memory
-pub shown : (k : ErrorKind) → (k ≡ ErrorKind.DisplayHelp) ⊎ (k ≡ ErrorKind.DisplayVersion) → k ≡ ErrorKind.OutOfMemory → ⊥
+pub shown : (k : ErrorKind) → (k ≡ ErrorKind.DisplayHelp) ⊎ (k ≡ ErrorKind.DisplayVersion) → k ≡ ErrorKind.OutOfMemory
+    → ⊥
 shown k (inl h) o = let e : ErrorKind.DisplayHelp ≡ ErrorKind.OutOfMemory = sym h ∙ o in absurd cc
 shown k (inr h) o = let e : ErrorKind.DisplayVersion ≡ ErrorKind.OutOfMemory = sym h ∙ o in absurd cc
 
 -- nothing has no parts
-pub no_parts : {X : Type 0} (s : Option X) (g : X → Text) (h : X → List Row) → option_map g s ≡ None → option_map {U = Text × List Row} (λ b. (g b, h b)) s ≡ None
+pub no_parts : {X : Type 0} (s : Option X) (g : X → Text) (h : X → List Row) → option_map g s ≡ None
+    → option_map {U = Text × List Row} (λ b. (g b, h b)) s ≡ None
 no_parts None g h e = refl
 no_parts (Some b) g h e = absurd cc

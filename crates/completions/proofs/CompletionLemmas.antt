@@ -15,7 +15,8 @@ pub completion_bytes-completion : (c : ConfigNumbers) (past : Past) (t : ℕ) (s
     cqe.sqhd ≡ fetched_count past (ticket past t).queue % c.sq_size →
     cqe.sqid ≡ (ticket past t).queue →
     cqe.cid ≡ get_or (cids (ticket past t)) (posts_of past t) 0 →
-    phase_bit cqe.phase ≡ phase (length (posted_completions c past (completion_queue c (ticket past t).queue))) c.cq_size →
+    phase_bit cqe.phase ≡ phase (length (posted_completions c past (completion_queue c (ticket past t).queue)))
+    c.cq_size →
     cqe.status ≡ status →
     completion_bytes cqe ≡ completion c past t status
 completion_bytes-completion c past t status cqe sqhd sqid cid tag same = rw (sqhd, sqid, cid, tag, same) refl

@@ -8,7 +8,7 @@ ghost use Rattle.nvme_model.specs.declared.entry.Entry.{Entry};
 ghost use Rattle.nvme_model.specs.declared.step.Step.{Step};
 ghost use Rattle.controller_steps.specs.declared.answer.Answer.{Answer};
 ghost use Rattle.controller_steps.specs.declared.answer.Refused.{Refused};
-ghost use Rattle.ticket_entries.specs.Entries.{named_ticket, names_queue, of_ticket, ticket_in};
+ghost use Rattle.ticket_laws.specs.Entries.{named_ticket, names_queue, of_ticket, ticket_in};
 
 use crate::answer::{Answer, Refused};
 use nvme_model::step::Step;

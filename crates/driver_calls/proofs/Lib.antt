@@ -6,3 +6,6 @@ pub mod Singles
 pub mod Pairs
 pub mod Answering
 pub mod Views
+pub mod Commands
+pub mod Calls
+pub mod Bytes

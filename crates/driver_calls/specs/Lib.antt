@@ -3,3 +3,4 @@ pub mod Log
 pub mod Events
 pub mod Says
 pub mod Views
+pub mod Entries

@@ -1,9 +1,16 @@
 //! What a driver's calls are told, by what its port published and reaped for it.
 #![tactic(auto)]
 
+mod batch;
+pub mod command_laws;
 mod event;
 pub mod laws;
 mod reply;
+mod request;
+mod slot;
 
+pub use batch::{batch_of, room_for, taken_back};
 pub use event::{CidState, PortEvent};
 pub use reply::{Reply, answer_to, pair_answer_to};
+pub use request::{CallData, Request};
+pub use slot::slot_block;

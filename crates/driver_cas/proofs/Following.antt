@@ -10,16 +10,24 @@ use Rattle.driver_cas.specs.declared.shared_port.SharedPort.{SharedPort}
 -- ---- what its pass does
 
 -- as many steps as there are in its log
-moved : (a b : SharedPort) → b.queue ≡ a.queue → IsSame a.pass b.pass → IsBeginning (seen a.pass) (seen b.pass) → steps_of b + length (log_of (view_of a)) ≡ steps_of a + length (log_of (view_of b)) → Follows a b
+moved : (a b : SharedPort) → b.queue ≡ a.queue → IsSame a.pass b.pass → IsBeginning (seen a.pass) (seen b.pass)
+    → steps_of b + length (log_of (view_of a)) ≡ steps_of a + length (log_of (view_of b)) → Follows a b
 moved a b queue same on sole =
-    record { same_lock = same.0; view = record { same_config = same.3; same_queue = queue; same_pass = same.1; goes_on = on }; sole = sole }
+    record {
+      same_lock = same.0;
+      view = record { same_config = same.3; same_queue = queue; same_pass = same.1; goes_on = on };
+      sole = sole;
+    }
 
 -- a step of its log
-pub port_stepped : (a b : SharedPort) (e : PortEvent) → b.queue ≡ a.queue → IsSame a.pass b.pass → IsBeginning (seen a.pass) (seen b.pass) → mine b.pass ≡ length (seen b.pass) ∷ mine a.pass → log_of (view_of b) ≡ e ∷ log_of (view_of a) → Follows a b
+pub port_stepped : (a b : SharedPort) (e : PortEvent) → b.queue ≡ a.queue → IsSame a.pass b.pass
+    → IsBeginning (seen a.pass) (seen b.pass) → mine b.pass ≡ length (seen b.pass) ∷ mine a.pass
+    → log_of (view_of b) ≡ e ∷ log_of (view_of a) → Follows a b
 port_stepped a b e queue same on steps log = moved a b queue same on (omega (arith, ap length steps, ap length log))
 
 -- none
-pub port_idle : (a b : SharedPort) → b.queue ≡ a.queue → IsSame a.pass b.pass → IsBeginning (seen a.pass) (seen b.pass) → mine b.pass ≡ mine a.pass → log_of (view_of b) ≡ log_of (view_of a) → Follows a b
+pub port_idle : (a b : SharedPort) → b.queue ≡ a.queue → IsSame a.pass b.pass → IsBeginning (seen a.pass) (seen b.pass)
+    → mine b.pass ≡ mine a.pass → log_of (view_of b) ≡ log_of (view_of a) → Follows a b
 port_idle a b queue same on steps log = moved a b queue same on (omega (arith, ap length steps, ap length log))
 
 -- ---- of a driver

@@ -1,5 +1,7 @@
 -- What a step of the port's pass adds to its events.
-use Rattle.std.proofs.Common.{◌≡◌, ℕ, Bool, true, false, List, [], ◌∷◌, ◌++◌, ◌&&◌, ◌||◌, eqb, eq-eqb, nat_le, nat_lt, refl, sym, ap, ap₂, ◌∙◌, length, subst, Option, Some, None, Result, Ok, Err, inl, inr, arith, ◌<◌, ◌≤◌, ◌+◌, ◌-◌, ◌⊎◌, ◌≢◌}
+use Rattle.std.proofs.Common.{◌≡◌, ℕ, Bool, true, false, List, [], ◌∷◌, ◌++◌, ◌&&◌, ◌||◌, eqb, eq-eqb, nat_le, nat_lt}
+use Rattle.std.proofs.Common.{refl, sym, ap, ap₂, ◌∙◌, length, subst, Option, Some, None, Result, Ok, Err, inl, inr}
+use Rattle.std.proofs.Common.{arith, ◌<◌, ◌≤◌, ◌+◌, ◌-◌, ◌⊎◌, ◌≢◌}
 use Rattle.std.proofs.lemmas.Bool.{and_parts, cond-true, leb-true}
 use Rattle.std.proofs.lemmas.Bool.Decides.{nat_tests}
 use Rattle.nvme_model.specs.Queues.{fetched_count, published_entries}
@@ -42,28 +44,36 @@ same_events : (n : ℕ) (p q : EnginePass) → IsSame p q → log_at n q ≡ eve
 same_events n p q s = ap₂ (λ (c : ConfigNumbers) (k : ℕ). events c n k (seen q)) s.3 s.1
 
 -- an accepted step adds the event of its entry
-pub log_accepted : (n : ℕ) (p q : EnginePass) (e : Entry) (before : SharedPast) → IsSame p q → seen q ≡ (number p, e) ∷ before → mine q ≡ length (seen q) ∷ mine p → IsBeginning (seen p) (seen q)
+pub log_accepted : (n : ℕ) (p q : EnginePass) (e : Entry) (before : SharedPast) → IsSame p q
+    → seen q ≡ (number p, e) ∷ before → mine q ≡ length (seen q) ∷ mine p → IsBeginning (seen p) (seen q)
     → log_at n q ≡ event_at (config_of p) n (entries before) e ++ log_at n p
 log_accepted n p q e before s ends adds on =
     same_events n p q s
-    ∙ events_accepted (config_of p) n (number p) e before (seen p) (seen q) ends (ap (λ (k : ℕ). places k (seen q)) (sym s.1) ∙ adds) on
+    ∙ events_accepted (config_of p) n (number p) e before (seen p) (seen q) ends
+    (ap (λ (k : ℕ). places k (seen q)) (sym s.1) ∙ adds) on
 
 -- what was seen before it begins with what had been seen
-pub before_accepted : (p q : EnginePass) (e : Entry) (before : SharedPast) → IsSame p q → seen q ≡ (number p, e) ∷ before → mine q ≡ length (seen q) ∷ mine p → IsBeginning (seen p) (seen q) → IsBeginning (seen p) before
+pub before_accepted : (p q : EnginePass) (e : Entry) (before : SharedPast) → IsSame p q
+    → seen q ≡ (number p, e) ∷ before → mine q ≡ length (seen q) ∷ mine p → IsBeginning (seen p) (seen q)
+    → IsBeginning (seen p) before
 before_accepted p q e before s ends adds on =
     accepted_before (number p) e before (seen p) (seen q) ends (ap (λ (k : ℕ). places k (seen q)) (sym s.1) ∙ adds) on
 
 -- any other adds none
-pub log_declined : (n : ℕ) (p q : EnginePass) → IsSame p q → mine q ≡ mine p → IsBeginning (seen p) (seen q) → log_at n q ≡ log_at n p
+pub log_declined : (n : ℕ) (p q : EnginePass) → IsSame p q → mine q ≡ mine p → IsBeginning (seen p) (seen q)
+    → log_at n q ≡ log_at n p
 log_declined n p q s m on =
-    same_events n p q s ∙ events_declined (config_of p) n (number p) (seen p) (seen q) (ap (λ (k : ℕ). places k (seen q)) (sym s.1) ∙ m) on
+    same_events n p q s ∙ events_declined (config_of p) n (number p) (seen p) (seen q)
+    (ap (λ (k : ℕ). places k (seen q)) (sym s.1) ∙ m) on
 
 -- the event of a Publish to a submission queue of the port
-pub publish_event : (v : PortView) (past : Past) (e : Entry) (q : ℕ) (batch : List Submission) → e ≡ Entry.Publish (record { queue = q; batch = batch }) → owns v q ≡ true
+pub publish_event : (v : PortView) (past : Past) (e : Entry) (q : ℕ) (batch : List Submission)
+    → e ≡ Entry.Publish (record { queue = q; batch = batch }) → owns v q ≡ true
     → event_at v.config v.queue past e ≡ PortEvent.Sent q batch ∷ []
 publish_event v past e q batch is own =
     ap (event_at v.config v.queue past) is
-    ∙ cond-true (eqb (completion_queue v.config q) v.queue) (PortEvent.Sent q batch ∷ []) [] (and_parts (nat_le 1 q && nat_le q v.config.pairs) (eqb (completion_queue v.config q) v.queue) own).1
+    ∙ cond-true (eqb (completion_queue v.config q) v.queue) (PortEvent.Sent q batch ∷ []) []
+    (and_parts (nat_le 1 q && nat_le q v.config.pairs) (eqb (completion_queue v.config q) v.queue) own).1
 
 -- the entry of a Reap
 record Line (q : ℕ) (e : Entry) : Type 0 where
@@ -82,7 +92,8 @@ pub record Got (c : ConfigNumbers) (n : ℕ) (past : Past) (e : Entry) (a : Answ
   pub answers : a ≡ Answer.Reaped cqe payload
   pub event : event_at c n past e ≡ PortEvent.Got cqe payload ∷ []
 
-pub reap_event : (c : ConfigNumbers) (n : ℕ) (past : Past) (e : Entry) (a : Answer) → Accepts c past (Step.Reap n) e a → Got c n past e a
+pub reap_event : (c : ConfigNumbers) (n : ℕ) (past : Past) (e : Entry) (a : Answer) → Accepts c past (Step.Reap n) e a
+    → Got c n past e a
 reap_event c n past e a s =
     let l = reap_line n (slice_get (posted_completions c past n) (reaped_count past n)) in
     let r = l.line in
@@ -93,10 +104,14 @@ reap_event c n past e a s =
       answers = s.2 ∙ ap (answer_of c past) is;
       event =
           ap (event_at c n past) is
-          ∙ cond-true (eqb r.queue n) (PortEvent.Got r.cqe (payload_of (slice_get (posted_completions c past r.queue) (reaped_count past r.queue))) ∷ []) [] (eq-eqb r.queue n l.of);
+          ∙ cond-true (eqb r.queue n)
+          (PortEvent.Got r.cqe (payload_of
+          (slice_get (posted_completions c past r.queue) (reaped_count past r.queue))) ∷ []) []
+          (eq-eqb r.queue n l.of);
     }
 
-pub opened_as_reaped : (eng : Engine) (q : EnginePass) (e : Entry) (cqe payload : List ℕ) (r : Opened) → IsOpened eng q e (Answer.Reaped cqe payload) r → r ≡ opened.Reaped cqe payload
+pub opened_as_reaped : (eng : Engine) (q : EnginePass) (e : Entry) (cqe payload : List ℕ) (r : Opened)
+    → IsOpened eng q e (Answer.Reaped cqe payload) r → r ≡ opened.Reaped cqe payload
 opened_as_reaped eng q e cqe payload (opened.Reaped c p) (a, b) = ap₂ opened.Reaped a b
 opened_as_reaped eng q e cqe payload opened.Published h = absurd h
 opened_as_reaped eng q e cqe payload (opened.Fetched w) h = absurd h
@@ -110,12 +125,14 @@ opened_payload (opened.Reaped c p) = p
 opened_payload _ = []
 
 -- the event of the completion that was answered
-pub got_of : (cqe payload c p : List ℕ) → opened.Reaped cqe payload ≡ opened.Reaped c p → PortEvent.Got cqe payload ∷ [] ≡ PortEvent.Got c p ∷ []
+pub got_of : (cqe payload c p : List ℕ) → opened.Reaped cqe payload ≡ opened.Reaped c p
+    → PortEvent.Got cqe payload ∷ [] ≡ PortEvent.Got c p ∷ []
 unfolding opened_cqe opened_payload
 got_of cqe payload c p h = ap₂ (λ (x y : List ℕ). PortEvent.Got x y ∷ []) (ap opened_cqe h) (ap opened_payload h)
 
 -- a step that wasn't made adds no entry of the pass
-pub declined_mine : (refuses : ConfigNumbers → Past → Step → Refused → Type 0) (p q : EnginePass) (step : Step) (d : Declined) → Declines refuses p q step d → mine q ≡ mine p
+pub declined_mine : (refuses : ConfigNumbers → Past → Step → Refused → Type 0) (p q : EnginePass) (step : Step)
+    (d : Declined) → Declines refuses p q step d → mine q ≡ mine p
 declined_mine refuses p q step (Declined.Busy s) h = h.2
 declined_mine refuses p q step (Declined.Refused r) h = h.0
 
@@ -137,9 +154,12 @@ unfolding refused_batch
 same_batch why w a b h = ap (refused_batch a) h
 
 -- a batch that comes back refused is the one that was asked, and why is what the table says at what was seen
-pub refused_publish : (p q : EnginePass) (queue : ℕ) (batch : List Submission) (d : Declined) (r : Refused) (why : Why) (b : List Submission) → d ≡ Declined.Refused r → r ≡ Refused.Publish why b
+pub refused_publish : (p q : EnginePass) (queue : ℕ) (batch : List Submission) (d : Declined) (r : Refused) (why : Why)
+    (b : List Submission) → d ≡ Declined.Refused r → r ≡ Refused.Publish why b
     → Declines Refuses p q (Step.Publish queue batch) d
-    → (mine q ≡ mine p) × (Refused.Publish why b ≡ Refused.Publish (unwrap_or (refusal (config_of p) (entries (seen q)) (Step.Publish queue batch)) Why.NoMemory) batch)
+    → (mine q ≡ mine p) × (Refused.Publish why b
+    ≡ Refused.Publish (unwrap_or (refusal (config_of p) (entries (seen q)) (Step.Publish queue batch)) Why.NoMemory)
+    batch)
 refused_publish p q queue batch d r why b is of h =
     let g = subst (λ (x : Declined). Declines Refuses p q (Step.Publish queue batch) x) is h in
     (g.0, sym of ∙ g.1)
@@ -147,13 +167,16 @@ refused_publish p q queue batch d r why b is of h =
 -- ---- why a step that the port asks for is refused
 
 -- a batch that it may publish is refused for want of room alone
-rows_publish : (c : ConfigNumbers) (past : Past) (q : ℕ) (batch : List Submission) → no_queue c q ≡ false → eqb (length batch) 0 ≡ false
+rows_publish : (c : ConfigNumbers) (past : Past) (q : ℕ) (batch : List Submission) → no_queue c q ≡ false
+    → eqb (length batch) 0 ≡ false
     → (refusal c past (Step.Publish q batch) ≡ Some Why.NoRoom) ⊎ (refusal c past (Step.Publish q batch) ≡ None)
 rows_publish c past q batch a b =
-    go (no_queue c q) (eqb (length batch) 0) (nat_lt (c.sq_size - 1) (length (published_entries past q) - fetched_count past q + length batch)) a b
+    go (no_queue c q) (eqb (length batch) 0)
+    (nat_lt (c.sq_size - 1) (length (published_entries past q) - fetched_count past q + length batch)) a b
   where
     go : (x y z : Bool) → x ≡ false → y ≡ false
-        → (first_row ((x, Why.NoQueue) ∷ (y, Why.BadBatch) ∷ (z, Why.NoRoom) ∷ []) ≡ Some Why.NoRoom) ⊎ (first_row ((x, Why.NoQueue) ∷ (y, Why.BadBatch) ∷ (z, Why.NoRoom) ∷ []) ≡ None)
+        → (first_row ((x, Why.NoQueue) ∷ (y, Why.BadBatch) ∷ (z, Why.NoRoom) ∷ []) ≡ Some Why.NoRoom)
+        ⊎ (first_row ((x, Why.NoQueue) ∷ (y, Why.BadBatch) ∷ (z, Why.NoRoom) ∷ []) ≡ None)
     go true y z a b = absurd (let h : true ≡ false = a in cc)
     go false true z a b = absurd (let h : true ≡ false = b in cc)
     go false false true a b = inl refl
@@ -165,7 +188,9 @@ rows_reap : (c : ConfigNumbers) (past : Past) (q : ℕ) → no_completion_queue 
 rows_reap c past q a =
     go (no_completion_queue c q) (eqb (length (posted_completions c past q)) (reaped_count past q)) a
   where
-    go : (x y : Bool) → x ≡ false → (first_row ((x, Why.NoQueue) ∷ (y, Why.NoCompletion) ∷ []) ≡ Some Why.NoCompletion) ⊎ (first_row ((x, Why.NoQueue) ∷ (y, Why.NoCompletion) ∷ []) ≡ None)
+    go : (x y : Bool) → x ≡ false
+        → (first_row ((x, Why.NoQueue) ∷ (y, Why.NoCompletion) ∷ []) ≡ Some Why.NoCompletion)
+        ⊎ (first_row ((x, Why.NoQueue) ∷ (y, Why.NoCompletion) ∷ []) ≡ None)
     go true y a = absurd (let h : true ≡ false = a in cc)
     go false true a = inl refl
     go false false a = inr refl
@@ -177,32 +202,47 @@ not_none : (n : ℕ) → 0 < n → eqb n 0 ≡ false
 not_none n some = grind (arith, nat_tests)
 
 pub owned_publish : (v : PortView) (past : Past) (q : ℕ) (batch : List Submission) → owns v q ≡ true → 0 < length batch
-    → (refusal v.config past (Step.Publish q batch) ≡ Some Why.NoRoom) ⊎ (refusal v.config past (Step.Publish q batch) ≡ None)
+    → (refusal v.config past (Step.Publish q batch) ≡ Some Why.NoRoom)
+    ⊎ (refusal v.config past (Step.Publish q batch) ≡ None)
 owned_publish v past q batch own some =
-    let there = and_parts (nat_le 1 q) (nat_le q v.config.pairs) (and_parts (nat_le 1 q && nat_le q v.config.pairs) (eqb (completion_queue v.config q) v.queue) own).0 in
-    rows_publish v.config past q batch (none_before q v.config.pairs (leb-true 1 q there.0) (leb-true q v.config.pairs there.1)) (not_none (length batch) some)
+    let there = and_parts (nat_le 1 q) (nat_le q v.config.pairs)
+    (and_parts (nat_le 1 q && nat_le q v.config.pairs) (eqb (completion_queue v.config q) v.queue) own).0 in
+    rows_publish v.config past q batch
+    (none_before q v.config.pairs (leb-true 1 q there.0) (leb-true q v.config.pairs there.1))
+    (not_none (length batch) some)
 
-pub owned_reap : (c : ConfigNumbers) (past : Past) (q : ℕ) → 1 ≤ q → q ≤ c.cqs → (refusal c past (Step.Reap q) ≡ Some Why.NoCompletion) ⊎ (refusal c past (Step.Reap q) ≡ None)
+pub owned_reap : (c : ConfigNumbers) (past : Past) (q : ℕ) → 1 ≤ q → q ≤ c.cqs
+    → (refusal c past (Step.Reap q) ≡ Some Why.NoCompletion) ⊎ (refusal c past (Step.Reap q) ≡ None)
 owned_reap c past q few most = rows_reap c past q (none_before q c.cqs few most)
 
 -- and the fault that is answered tells which
-pub fault_tells : (passes : ℕ) (a b : PortView) (q : ℕ) (batch : List Submission) (f : PortFault) → cause_of f ≡ unwrap_or (refusal b.config (entries b.seen) (Step.Publish q batch)) Why.NoMemory
-    → (refusal b.config (entries b.seen) (Step.Publish q batch) ≡ Some Why.NoRoom) ⊎ (refusal b.config (entries b.seen) (Step.Publish q batch) ≡ None) → IsRefused passes a b q batch f
+pub fault_tells : (passes : ℕ) (a b : PortView) (q : ℕ) (batch : List Submission) (f : PortFault)
+    → cause_of f ≡ unwrap_or (refusal b.config (entries b.seen) (Step.Publish q batch)) Why.NoMemory
+    → (refusal b.config (entries b.seen) (Step.Publish q batch) ≡ Some Why.NoRoom)
+    ⊎ (refusal b.config (entries b.seen) (Step.Publish q batch) ≡ None) → IsRefused passes a b q batch f
 fault_tells passes a b q batch PortFault.RingFull h (inl e) = e
-fault_tells passes a b q batch PortFault.RingFull h (inr e) = absurd (let x : Why.NoRoom ≡ Why.NoMemory = h ∙ ap (λ (o : Option Why). unwrap_or o Why.NoMemory) e in cc)
-fault_tells passes a b q batch PortFault.Busy h (inl e) = absurd (let x : Why.Busy ≡ Why.NoRoom = h ∙ ap (λ (o : Option Why). unwrap_or o Why.NoMemory) e in cc)
-fault_tells passes a b q batch PortFault.Busy h (inr e) = absurd (let x : Why.Busy ≡ Why.NoMemory = h ∙ ap (λ (o : Option Why). unwrap_or o Why.NoMemory) e in cc)
-fault_tells passes a b q batch PortFault.NoMemory h (inl e) = absurd (let x : Why.NoMemory ≡ Why.NoRoom = h ∙ ap (λ (o : Option Why). unwrap_or o Why.NoMemory) e in cc)
+fault_tells passes a b q batch PortFault.RingFull h (inr e) =
+    absurd (let x : Why.NoRoom ≡ Why.NoMemory = h ∙ ap (λ (o : Option Why). unwrap_or o Why.NoMemory) e in cc)
+fault_tells passes a b q batch PortFault.Busy h (inl e) =
+    absurd (let x : Why.Busy ≡ Why.NoRoom = h ∙ ap (λ (o : Option Why). unwrap_or o Why.NoMemory) e in cc)
+fault_tells passes a b q batch PortFault.Busy h (inr e) =
+    absurd (let x : Why.Busy ≡ Why.NoMemory = h ∙ ap (λ (o : Option Why). unwrap_or o Why.NoMemory) e in cc)
+fault_tells passes a b q batch PortFault.NoMemory h (inl e) =
+    absurd (let x : Why.NoMemory ≡ Why.NoRoom = h ∙ ap (λ (o : Option Why). unwrap_or o Why.NoMemory) e in cc)
 fault_tells passes a b q batch PortFault.NoMemory h (inr e) = e
 
 -- what declines a Reap of a completion queue that is there
-pub declined_reap : (p q : EnginePass) (n : ℕ) (d : Declined) → IsSame p q → 1 ≤ n → n ≤ (config_of p).cqs → Declines Refuses p q (Step.Reap n) d → IsReapDeclined d
+pub declined_reap : (p q : EnginePass) (n : ℕ) (d : Declined) → IsSame p q → 1 ≤ n → n ≤ (config_of p).cqs
+    → Declines Refuses p q (Step.Reap n) d → IsReapDeclined d
 declined_reap p q n (Declined.Busy s) same few most h = tt
 declined_reap p q n (Declined.Refused r) same few most h =
     let why = unwrap_or (refusal (config_of p) (entries (seen q)) (Step.Reap n)) Why.NoMemory in
-    subst (λ (x : Refused). IsReapDeclined (Declined.Refused x)) (sym h.1) (elim (owned_reap (config_of p) (entries (seen q)) n few most) [
-      | inl e ↦ subst (λ (o : Option Why). IsReapDeclined (Declined.Refused (Refused.Step (unwrap_or o Why.NoMemory)))) (sym e) tt
-      | inr e ↦ subst (λ (o : Option Why). IsReapDeclined (Declined.Refused (Refused.Step (unwrap_or o Why.NoMemory)))) (sym e) tt
+    subst (λ (x : Refused). IsReapDeclined (Declined.Refused x)) (sym h.1)
+    (elim (owned_reap (config_of p) (entries (seen q)) n few most) [
+      | inl e ↦ subst (λ (o : Option Why). IsReapDeclined (Declined.Refused (Refused.Step (unwrap_or o Why.NoMemory))))
+          (sym e) tt
+      | inr e ↦ subst (λ (o : Option Why). IsReapDeclined (Declined.Refused (Refused.Step (unwrap_or o Why.NoMemory))))
+          (sym e) tt
     ])
 
 -- and what is known where the port then answers so
@@ -210,24 +250,36 @@ abbrev reap_result : Option PortFault → Result (Option Reaped) PortFault
 reap_result None = Ok None
 reap_result (Some f) = Err f
 
-pub reap_told : (p q : EnginePass) (n : ℕ) (d : Declined) (o : Option PortFault) → IsSame p q → 1 ≤ n → n ≤ (config_of p).cqs → Declines Refuses p q (Step.Reap n) d → (passes_of p ≡ 1 → IsNotBusy {A = Opened} (Err d)) → IsReapFault d o
+pub reap_told : (p q : EnginePass) (n : ℕ) (d : Declined) (o : Option PortFault) → IsSame p q → 1 ≤ n
+    → n ≤ (config_of p).cqs → Declines Refuses p q (Step.Reap n) d → (passes_of p ≡ 1 → IsNotBusy {A = Opened} (Err d))
+    → IsReapFault d o
     → IsReapedAs (passes_of p) (view_at n p) (view_at n q) (reap_result o)
 reap_told p q n (Declined.Busy s) o same few most h alone f =
     subst (λ (x : Option PortFault). IsReapedAs (passes_of p) (view_at n p) (view_at n q) (reap_result x)) (sym f)
     (alone, λ i. record { config = same.3 i; queue = n; pass = same.1 i; seen = h.1 i })
 reap_told p q n (Declined.Refused r) o same few most h alone f =
-    go (refusal (config_of p) (entries (seen q)) (Step.Reap n)) refl (owned_reap (config_of p) (entries (seen q)) n few most)
+    go (refusal (config_of p) (entries (seen q)) (Step.Reap n)) refl
+    (owned_reap (config_of p) (entries (seen q)) n few most)
   where
-    same_refusal : refusal (config_of q) (entries (seen q)) (Step.Reap n) ≡ refusal (config_of p) (entries (seen q)) (Step.Reap n)
+    same_refusal : refusal (config_of q) (entries (seen q)) (Step.Reap n)
+        ≡ refusal (config_of p) (entries (seen q)) (Step.Reap n)
     same_refusal = ap (λ (c : ConfigNumbers). refusal c (entries (seen q)) (Step.Reap n)) same.3
 
-    go : (w : Option Why) → refusal (config_of p) (entries (seen q)) (Step.Reap n) ≡ w → (w ≡ Some Why.NoCompletion) ⊎ (w ≡ None) → IsReapedAs (passes_of p) (view_at n p) (view_at n q) (reap_result o)
+    go : (w : Option Why) → refusal (config_of p) (entries (seen q)) (Step.Reap n) ≡ w
+        → (w ≡ Some Why.NoCompletion) ⊎ (w ≡ None)
+        → IsReapedAs (passes_of p) (view_at n p) (view_at n q) (reap_result o)
     go w is (inl e) =
-        let told : IsReapFault (Declined.Refused (Refused.Step Why.NoCompletion)) o = subst (λ (x : Refused). IsReapFault (Declined.Refused x) o) (h.1 ∙ ap (λ (x : Option Why). Refused.Step (unwrap_or x Why.NoMemory)) (is ∙ e)) f in
-        subst (λ (x : Option PortFault). IsReapedAs (passes_of p) (view_at n p) (view_at n q) (reap_result x)) (sym told) (same_refusal ∙ is ∙ e)
+        let told : IsReapFault (Declined.Refused (Refused.Step Why.NoCompletion)) o =
+        subst (λ (x : Refused). IsReapFault (Declined.Refused x) o)
+        (h.1 ∙ ap (λ (x : Option Why). Refused.Step (unwrap_or x Why.NoMemory)) (is ∙ e)) f in
+        subst (λ (x : Option PortFault). IsReapedAs (passes_of p) (view_at n p) (view_at n q) (reap_result x))
+        (sym told) (same_refusal ∙ is ∙ e)
     go w is (inr e) =
-        let told : IsReapFault (Declined.Refused (Refused.Step Why.NoMemory)) o = subst (λ (x : Refused). IsReapFault (Declined.Refused x) o) (h.1 ∙ ap (λ (x : Option Why). Refused.Step (unwrap_or x Why.NoMemory)) (is ∙ e)) f in
-        subst (λ (x : Option PortFault). IsReapedAs (passes_of p) (view_at n p) (view_at n q) (reap_result x)) (sym told) (same_refusal ∙ is ∙ e)
+        let told : IsReapFault (Declined.Refused (Refused.Step Why.NoMemory)) o =
+        subst (λ (x : Refused). IsReapFault (Declined.Refused x) o)
+        (h.1 ∙ ap (λ (x : Option Why). Refused.Step (unwrap_or x Why.NoMemory)) (is ∙ e)) f in
+        subst (λ (x : Option PortFault). IsReapedAs (passes_of p) (view_at n p) (view_at n q) (reap_result x))
+        (sym told) (same_refusal ∙ is ∙ e)
 
 -- no fault of a Reap is want of room
 pub reap_room : (passes : ℕ) (a b : PortView) (f : PortFault) → IsReapedAs passes a b (Err f) → f ≢ PortFault.RingFull

@@ -1,5 +1,7 @@
 -- A table of CIDs fits what its port did, also after a completion; and then it tells what a call is answered.
-use Rattle.std.proofs.Common.{◌≡◌, ℕ, Bool, true, false, ◌&&◌, eqb, List, ◌∷◌, Option, Some, None, is_some, refl, sym, ap, ap₂, ◌∙◌, subst, inl, inr, eqb-true, eq-eqb, Result, length, take, arith, suc, ◌-◌, ◌≤◌, ◌||◌}
+use Rattle.std.proofs.Common.{◌≡◌, ℕ, Bool, true, false, ◌&&◌, eqb, List, ◌∷◌, Option, Some, None, is_some, refl, sym}
+use Rattle.std.proofs.Common.{ap, ap₂, ◌∙◌, subst, inl, inr, eqb-true, eq-eqb, Result, length, take, arith, suc, ◌-◌}
+use Rattle.std.proofs.Common.{◌≤◌, ◌||◌}
 use Rattle.std.specs.Prelude.{IfNone, IfSome, bytes_eq}
 use Rattle.std.proofs.lemmas.Slice.Eq.{bytes_eq-Decides}
 use Rattle.driver_calls.specs.Answers.{answer_of, pair_answer_of}
@@ -22,7 +24,8 @@ use Rattle.driver_calls.specs.Says.{one_outcome, outcome, pair_outcome}
 use Rattle.driver_calls.specs.declared.event.CidState.{CidState}
 use Rattle.driver_calls.specs.declared.event.PortEvent.{PortEvent}
 use Rattle.driver_calls.specs.declared.reply.Reply.{Reply}
-use Rattle.driver_cas.specs.Tables.{IsHeld, IsReleased, Matches, Reaps, is_its_cid, fits, is_free, one_answer, pair_answer, table_outcome}
+use Rattle.driver_cas.specs.Tables.{IsHeld, IsReleased, Matches, Reaps, is_its_cid, fits, is_free, one_answer}
+use Rattle.driver_cas.specs.Tables.{pair_answer, table_outcome}
 
 bytes_self : (p : List ℕ) → bytes_eq p p ≡ true
 bytes_self p = (bytes_eq-Decides p p).1 refl
@@ -33,7 +36,8 @@ bytes_same p q h = (bytes_eq-Decides p q).0 h
 -- ---- a completion
 
 -- where a completion names the CID
-named_fits : (h : Held) (st : CidState) (cqe payload : List ℕ) (status : Status) → same_status (status_in cqe) status ≡ true → bytes_eq payload payload ≡ true → fits h st ≡ true
+named_fits : (h : Held) (st : CidState) (cqe payload : List ℕ) (status : Status)
+    → same_status (status_in cqe) status ≡ true → bytes_eq payload payload ≡ true → fits h st ≡ true
     → fits (answered h status payload) (after_got true cqe payload st) ≡ true
 named_fits Held.Free CidState.Idle cqe payload status s b f = refl
 named_fits Held.Free CidState.Waiting cqe payload status s b f = absurd (let g : false ≡ true = f in cc)
@@ -52,7 +56,8 @@ same_answer s r h =
     let a = and_parts (eqb s.sct r.sct) (eqb s.sc r.sc) h in
     ap₂ (λ (x y : ℕ). record { sct = x; sc = y }) (eqb-true s.sct r.sct a.0) (eqb-true s.sc r.sc a.1)
 
-one_told : (o : Op) (h : Held) (st : CidState) → fits h st ≡ true → is_free h ≡ false → one_outcome o st ≡ one_answer o h
+one_told : (o : Op) (h : Held) (st : CidState) → fits h st ≡ true → is_free h ≡ false
+    → one_outcome o st ≡ one_answer o h
 one_told o Held.Free st f e = absurd (let g : true ≡ false = e in cc)
 one_told o Held.Waiting CidState.Idle f e = absurd (let g : false ≡ true = f in cc)
 one_told o Held.Waiting CidState.Waiting f e = refl
@@ -63,7 +68,8 @@ one_told o (Held.Answered r q) (CidState.Answered c p) f e =
     let a = and_parts (same_status (status_in c) r) (bytes_eq p q) f in
     ap₂ (λ (s : Status) (b : List ℕ). Some (answer_of o s b)) (same_answer (status_in c) r a.0) (bytes_same p q a.1)
 
-pair_told : (h g : Held) (st su : CidState) → fits h st ≡ true → is_free h ≡ false → fits g su ≡ true → is_free g ≡ false → pair_outcome st su ≡ pair_answer h g
+pair_told : (h g : Held) (st su : CidState) → fits h st ≡ true → is_free h ≡ false → fits g su ≡ true
+    → is_free g ≡ false → pair_outcome st su ≡ pair_answer h g
 pair_told Held.Free g st su f e d k = absurd (let x : true ≡ false = e in cc)
 pair_told h Held.Free st su f e d k = absurd (let x : true ≡ false = k in cc)
 pair_told Held.Waiting g CidState.Idle su f e d k = absurd (let x : false ≡ true = f in cc)
@@ -71,18 +77,26 @@ pair_told Held.Waiting g CidState.Waiting su f e d k = refl
 pair_told Held.Waiting g (CidState.Answered c p) su f e d k = absurd (let x : false ≡ true = f in cc)
 pair_told (Held.Answered r q) g CidState.Idle su f e d k = absurd (let x : false ≡ true = f in cc)
 pair_told (Held.Answered r q) g CidState.Waiting su f e d k = absurd (let x : false ≡ true = f in cc)
-pair_told (Held.Answered r q) Held.Waiting (CidState.Answered c p) CidState.Idle f e d k = absurd (let x : false ≡ true = d in cc)
+pair_told (Held.Answered r q) Held.Waiting (CidState.Answered c p) CidState.Idle f e d k =
+    absurd (let x : false ≡ true = d in cc)
 pair_told (Held.Answered r q) Held.Waiting (CidState.Answered c p) CidState.Waiting f e d k = refl
-pair_told (Held.Answered r q) Held.Waiting (CidState.Answered c p) (CidState.Answered x y) f e d k = absurd (let z : false ≡ true = d in cc)
-pair_told (Held.Answered r q) (Held.Answered s t) (CidState.Answered c p) CidState.Idle f e d k = absurd (let x : false ≡ true = d in cc)
-pair_told (Held.Answered r q) (Held.Answered s t) (CidState.Answered c p) CidState.Waiting f e d k = absurd (let x : false ≡ true = d in cc)
+pair_told (Held.Answered r q) Held.Waiting (CidState.Answered c p) (CidState.Answered x y) f e d k =
+    absurd (let z : false ≡ true = d in cc)
+pair_told (Held.Answered r q) (Held.Answered s t) (CidState.Answered c p) CidState.Idle f e d k =
+    absurd (let x : false ≡ true = d in cc)
+pair_told (Held.Answered r q) (Held.Answered s t) (CidState.Answered c p) CidState.Waiting f e d k =
+    absurd (let x : false ≡ true = d in cc)
 pair_told (Held.Answered r q) (Held.Answered s t) (CidState.Answered c p) (CidState.Answered x y) f e d k =
-    ap₂ (λ (u v : Status). Some (pair_answer_of u v)) (same_answer (status_in c) r (and_parts (same_status (status_in c) r) (bytes_eq p q) f).0) (same_answer (status_in x) s (and_parts (same_status (status_in x) s) (bytes_eq y t) d).0)
+    ap₂ (λ (u v : Status). Some (pair_answer_of u v))
+    (same_answer (status_in c) r (and_parts (same_status (status_in c) r) (bytes_eq p q) f).0)
+    (same_answer (status_in x) s (and_parts (same_status (status_in x) s) (bytes_eq y t) d).0)
 
 -- the table tells what a call is answered whose CIDs are in use
-pub table_tells : (cids : Cids) (log : List PortEvent) (o : Op) (queue first second : ℕ) → Matches cids log → IsHeld cids o queue first second
+pub table_tells : (cids : Cids) (log : List PortEvent) (o : Op) (queue first second : ℕ) → Matches cids log
+    → IsHeld cids o queue first second
     → table_outcome o (held cids queue first) (held cids queue second) ≡ outcome log queue o first second
-table_tells cids log Op.Pair queue first second m u = sym (pair_told _ _ _ _ (m queue first) u.0 (m queue second) (u.1 refl))
+table_tells cids log Op.Pair queue first second m u =
+    sym (pair_told _ _ _ _ (m queue first) u.0 (m queue second) (u.1 refl))
 table_tells cids log Op.Read queue first second m u = sym (one_told Op.Read _ _ (m queue first) u.0)
 table_tells cids log Op.Compare queue first second m u = sym (one_told Op.Compare _ _ (m queue first) u.0)
 table_tells cids log Op.Write queue first second m u = sym (one_told Op.Write _ _ (m queue first) u.0)
@@ -120,7 +134,8 @@ swapped a b = elim (cases_Bool (eqb b a)) [
 names : (cqe : List ℕ) (k : Cqe) (q i : ℕ) → Reads cqe k → names_cid cqe q i ≡ (eqb q k.sqid && eqb i k.cid)
 names cqe k q i r =
     ap (λ (b : Bool). b && eqb (cqe_fields cqe).sqid q && eqb (cqe_fields cqe).cid i) r.clean
-    ∙ ap₂ (λ (a b : Bool). a && b) (ap (λ (n : ℕ). eqb n q) r.sqid ∙ swapped k.sqid q) (ap (λ (n : ℕ). eqb n i) r.cid ∙ swapped k.cid i)
+    ∙ ap₂ (λ (a b : Bool). a && b) (ap (λ (n : ℕ). eqb n q) r.sqid ∙ swapped k.sqid q)
+    (ap (λ (n : ℕ). eqb n i) r.cid ∙ swapped k.cid i)
 
 unnamed : (cqe payload : List ℕ) (st : CidState) → after_got false cqe payload st ≡ st
 unnamed cqe payload CidState.Idle = refl
@@ -128,7 +143,8 @@ unnamed cqe payload CidState.Waiting = refl
 unnamed cqe payload (CidState.Answered c p) = refl
 
 -- the table fits what came with the completion
-pub got_matches : (old new : Cids) (cqe payload : List ℕ) (k : Cqe) → completion_fields k ≡ cqe_fields cqe → ChangesOnly old new k.sqid k.cid (answered (held old k.sqid k.cid) k.status payload)
+pub got_matches : (old new : Cids) (cqe payload : List ℕ) (k : Cqe) → completion_fields k ≡ cqe_fields cqe
+    → ChangesOnly old new k.sqid k.cid (answered (held old k.sqid k.cid) k.status payload)
     → (log : List PortEvent) → Matches old log → Matches new (PortEvent.Got cqe payload ∷ log)
 got_matches old new cqe payload k fields changes log m q i =
     let r = reads cqe k fields in
@@ -136,11 +152,17 @@ got_matches old new cqe payload k fields changes log m q i =
     elim (cases_Bool (eqb q k.sqid && eqb i k.cid)) [
       | inl h ↦
           let a = and_parts (eqb q k.sqid) (eqb i k.cid) h in
-          let same : state_of log q i ≡ state_of log k.sqid k.cid = ap₂ (state_of log) (eqb-true q k.sqid a.0) (eqb-true i k.cid a.1) in
-          ap₂ fits (changes q i ∙ cond-true _ _ _ h) (ap₂ (λ (b : Bool) (st : CidState). after_got b cqe payload st) (n ∙ h) same)
-          ∙ named_fits (held old k.sqid k.cid) (state_of log k.sqid k.cid) cqe payload k.status (ap (λ (s : Status). same_status s k.status) r.status ∙ same_self k.status) (bytes_self payload) (m k.sqid k.cid)
+          let same : state_of log q i ≡ state_of log k.sqid k.cid =
+          ap₂ (state_of log) (eqb-true q k.sqid a.0) (eqb-true i k.cid a.1) in
+          ap₂ fits (changes q i ∙ cond-true _ _ _ h)
+          (ap₂ (λ (b : Bool) (st : CidState). after_got b cqe payload st) (n ∙ h) same)
+          ∙ named_fits (held old k.sqid k.cid) (state_of log k.sqid k.cid) cqe payload k.status
+          (ap (λ (s : Status). same_status s k.status) r.status ∙ same_self k.status) (bytes_self payload)
+          (m k.sqid k.cid)
       | inr h ↦
-          ap₂ fits (changes q i ∙ cond-false _ _ _ h) (ap (λ (b : Bool). after_got b cqe payload (state_of log q i)) (n ∙ h) ∙ unnamed cqe payload (state_of log q i)) ∙ m q i
+          ap₂ fits (changes q i ∙ cond-false _ _ _ h)
+          (ap (λ (b : Bool). after_got b cqe payload (state_of log q i)) (n ∙ h)
+          ∙ unnamed cqe payload (state_of log q i)) ∙ m q i
     ]
 
 -- whether there is one, by the statuses
@@ -168,7 +190,8 @@ one_given o Held.Free x e = absurd (let g : None ≡ Some x = e in cc)
 one_given o Held.Waiting x e = absurd (let g : None ≡ Some x = e in cc)
 one_given o (Held.Answered s p) x e = refl
 
-pair_given : (h k : Held) (x : Result Reply Status) → pair_answer h k ≡ Some x → (is_answered h ≡ true) × (is_answered k ≡ true)
+pair_given : (h k : Held) (x : Result Reply Status) → pair_answer h k ≡ Some x
+    → (is_answered h ≡ true) × (is_answered k ≡ true)
 unfolding is_answered
 pair_given Held.Free k x e = absurd (let g : None ≡ Some x = e in cc)
 pair_given Held.Waiting k x e = absurd (let g : None ≡ Some x = e in cc)
@@ -176,7 +199,8 @@ pair_given (Held.Answered s p) Held.Free x e = absurd (let g : None ≡ Some x =
 pair_given (Held.Answered s p) Held.Waiting x e = absurd (let g : None ≡ Some x = e in cc)
 pair_given (Held.Answered s p) (Held.Answered t q) x e = (refl, refl)
 
-given : (o : Op) (h k : Held) (x : Result Reply Status) → table_outcome o h k ≡ Some x → (is_answered h ≡ true) × (is_pair (Some o) ≡ true → is_answered k ≡ true)
+given : (o : Op) (h k : Held) (x : Result Reply Status) → table_outcome o h k ≡ Some x
+    → (is_answered h ≡ true) × (is_pair (Some o) ≡ true → is_answered k ≡ true)
 given Op.Pair h k x e = let a = pair_given h k x e in (a.0, λ p. a.1)
 given Op.Read h k x e = (one_given Op.Read h x e, λ p. absurd (let g : false ≡ true = p in cc))
 given Op.Compare h k x e = (one_given Op.Compare h x e, λ p. absurd (let g : false ≡ true = p in cc))
@@ -192,11 +216,13 @@ answered_idle (Held.Answered s p) CidState.Waiting f a = absurd (let g : false �
 answered_idle (Held.Answered s p) (CidState.Answered c q) f a = refl
 
 -- the table without the call fits what there was
-pub taken_matches : (old new : Cids) (log : List PortEvent) (o : Op) (queue first second : ℕ) (x : Result Reply Status) → Matches old log → IsReleased old new o queue first second
+pub taken_matches : (old new : Cids) (log : List PortEvent) (o : Op) (queue first second : ℕ) (x : Result Reply Status)
+    → Matches old log → IsReleased old new o queue first second
     → table_outcome o (held old queue first) (held old queue second) ≡ Some x → Matches new log
 taken_matches old new log o queue first second x m changes told q i =
     let a = given o (held old queue first) (held old queue second) x told in
-    let here : (cid : ℕ) → is_answered (held old queue cid) ≡ true → i ≡ cid → q ≡ queue → is_idle (state_of log q i) ≡ true = λ cid b e f.
+    let here : (cid : ℕ) → is_answered (held old queue cid) ≡ true → i ≡ cid → q ≡ queue
+    → is_idle (state_of log q i) ≡ true = λ cid b e f.
     answered_idle (held old q i) (state_of log q i) (m q i) (ap₂ (λ (r j : ℕ). is_answered (held old r j)) f e ∙ b) in
     elim (cases_Bool (is_its_cid o queue first second q i)) [
       | inr h ↦ ap (λ (k : Held). fits k (state_of log q i)) (changes q i ∙ cond-false _ _ _ h) ∙ m q i
@@ -206,32 +232,40 @@ taken_matches old new log o queue first second x m changes told q i =
           ap (λ (k : Held). fits k (state_of log q i)) (changes q i ∙ cond-true _ _ _ h)
           ∙ elim (or_cases (eqb i first) (is_pair (Some o) && eqb i second) b.1) [
             | inl y ↦ here first a.0 (eqb-true i first y) f
-            | inr y ↦ let z = and_parts (is_pair (Some o)) (eqb i second) y in here second (a.1 z.0) (eqb-true i second z.1) f
+            | inr y ↦ let z = and_parts (is_pair (Some o)) (eqb i second) y in
+                here second (a.1 z.0) (eqb-true i second z.1) f
           ]
     ]
 
 -- whether there was an answer or not
-pub take_matches : (old new : Cids) (log : List PortEvent) (o : Op) (queue first second : ℕ) (r : Option (Result Reply Status)) → Matches old log → r ≡ table_outcome o (held old queue first) (held old queue second)
+pub take_matches : (old new : Cids) (log : List PortEvent) (o : Op) (queue first second : ℕ)
+    (r : Option (Result Reply Status)) → Matches old log
+    → r ≡ table_outcome o (held old queue first) (held old queue second)
     → IfNone r (new ≡ old) → IfSome r (λ x. IsReleased old new o queue first second) → Matches new log
 take_matches old new log o queue first second None m is none some = subst (λ (c : Cids). Matches c log) (sym none) m
-take_matches old new log o queue first second (Some x) m is none some = taken_matches old new log o queue first second x m some (sym is)
+take_matches old new log o queue first second (Some x) m is none some =
+    taken_matches old new log o queue first second x m some (sym is)
 
 -- ---- what came since the driver was made
 
-pub since_more : (began log : List PortEvent) (e : PortEvent) → length began ≤ length log → since began (e ∷ log) ≡ e ∷ since began log
+pub since_more : (began log : List PortEvent) (e : PortEvent) → length began ≤ length log
+    → since began (e ∷ log) ≡ e ∷ since began log
 since_more began log e few =
     let k : suc (length log) - length began ≡ suc (length log - length began) = omega (arith, few) in
     ap (λ (k : ℕ). take k (e ∷ log)) k
 
 -- what a driver's type keeps, after a completion
-pub reaps_keep : (began before after : List PortEvent) (old new : Cids) → Reaps before after old new → length began ≤ length before → is_tidy (since began before) ≡ true → Matches old (since began before)
+pub reaps_keep : (began before after : List PortEvent) (old new : Cids) → Reaps before after old new
+    → length began ≤ length before → is_tidy (since began before) ≡ true → Matches old (since began before)
     → (length began ≤ length after) × (is_tidy (since began after) ≡ true) × Matches new (since began after)
 reaps_keep began before after old new (inl s) few tidy m =
-    subst (λ (z : List PortEvent × Cids). (length began ≤ length z.0) × (is_tidy (since began z.0) ≡ true) × Matches z.1 (since began z.0)) (λ i. (sym s.0 i, sym s.1 i)) (few, tidy, m)
+    subst (λ (z : List PortEvent × Cids). (length began ≤ length z.0) × (is_tidy (since began z.0) ≡ true)
+    × Matches z.1 (since began z.0)) (λ i. (sym s.0 i, sym s.1 i)) (few, tidy, m)
 reaps_keep began before after old new (inr s) few tidy m =
     let e = PortEvent.Got s.0 s.1 in
     let more = since_more began before e few in
-    subst (λ (log : List PortEvent). (length began ≤ length log) × (is_tidy (since began log) ≡ true) × Matches new (since began log)) (sym s.2) (
+    subst (λ (log : List PortEvent). (length began ≤ length log) × (is_tidy (since began log) ≡ true)
+    × Matches new (since began log)) (sym s.2) (
       omega (arith, few),
       ap is_tidy more ∙ tidy,
       subst (λ (log : List PortEvent). Matches new log) (sym more) (s.3 (since began before) m),

@@ -5,8 +5,8 @@ use Rattle.nvme_model.specs.Array.{overlap}
 use Rattle.nvme_model.specs.Operations.{has_write, is_pair}
 use Rattle.nvme_model.specs.declared.array.Range.{Range}
 use Rattle.nvme_model.specs.declared.operation.Op.{Op}
-use Rattle.driver_commands.specs.declared.request.CallData.{CallData}
-use Rattle.driver_commands.specs.declared.request.Request.{Request}
+use Rattle.driver_calls.specs.declared.request.CallData.{CallData}
+use Rattle.driver_calls.specs.declared.request.Request.{Request}
 use Rattle.driver_cas.specs.Starts.{IsAsBefore}
 use Rattle.driver_cas.specs.Tries.{IsBegun}
 use Rattle.driver_cas.specs.declared.call.Call.{Call}

@@ -3,8 +3,8 @@ use Rattle.std.specs.Prelude.{Err, Ok, Result, suc, ℕ, ◌≡◌, ◌≢◌, �
 use Rattle.nvme_model.specs.Array.{zeros}
 use Rattle.nvme_model.specs.Slots.{slot_block}
 use Rattle.nvme_model.specs.declared.operation.Op.{Op}
-use Rattle.driver_commands.specs.declared.request.CallData.{CallData}
-use Rattle.driver_commands.specs.declared.request.Request.{Request}
+use Rattle.driver_calls.specs.declared.request.CallData.{CallData}
+use Rattle.driver_calls.specs.declared.request.Request.{Request}
 use Rattle.driver_cas.specs.Starts.{IsAsBefore, IsStarted}
 use Rattle.driver_cas.specs.Tries.{IsBegun, IsPortFault}
 use Rattle.driver_cas.specs.declared.call.Call.{Call}

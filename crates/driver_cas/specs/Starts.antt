@@ -5,8 +5,8 @@ use Rattle.nvme_model.specs.declared.submission.Submission.{Submission}
 use Rattle.cid_table.specs.Cids.{Cids, held}
 use Rattle.cid_table.specs.declared.held.Held.{Held}
 use Rattle.driver_calls.specs.declared.event.PortEvent.{PortEvent}
-use Rattle.driver_commands.specs.Entries.{IsBatch}
-use Rattle.driver_commands.specs.declared.request.CallData.{CallData}
+use Rattle.driver_calls.specs.Entries.{IsBatch}
+use Rattle.driver_calls.specs.declared.request.CallData.{CallData}
 use Rattle.driver_cas.specs.Drivers.{IsApart, IsCallOf, IsSame, made}
 use Rattle.driver_cas.specs.Tables.{is_its_cid}
 use Rattle.driver_cas.specs.Turns.{AreFree, IsTurn}

@@ -3,9 +3,9 @@ use Rattle.std.specs.Prelude.{Contains, Err, List, Ok, Result, [], length, vec_c
 use Rattle.cid_table.specs.Cids.{queues_of}
 use Rattle.nvme_model.specs.declared.operation.Op.{Op}
 use Rattle.nvme_model.specs.declared.submission.Submission.{Submission}
-use Rattle.driver_commands.specs.Entries.{IsBatch, entry_count}
-use Rattle.driver_commands.specs.declared.request.CallData.{CallData}
-use Rattle.driver_commands.specs.declared.request.Request.{Request}
+use Rattle.driver_calls.specs.Entries.{IsBatch, entry_count}
+use Rattle.driver_calls.specs.declared.request.CallData.{CallData}
+use Rattle.driver_calls.specs.declared.request.Request.{Request}
 use Rattle.driver_calls.specs.declared.event.PortEvent.{PortEvent}
 use Rattle.driver_cas.specs.Drivers.{IsSame}
 use Rattle.driver_cas.specs.Starts.{IsAsBefore, IsStarted, IsTaken}

@@ -6,9 +6,9 @@ use Rattle.nvme_model.specs.declared.operation.Op.{Op}
 use Rattle.nvme_model.specs.declared.submission.Submission.{Submission}
 use Rattle.cid_table.specs.Cids.{AtMostOneFree, Cids, NoneFreeBelow, held, queues_of}
 use Rattle.cid_table.specs.declared.held.Held.{Held}
-use Rattle.driver_commands.specs.Entries.{IsBatch}
-use Rattle.driver_commands.specs.declared.request.CallData.{CallData}
-use Rattle.driver_commands.specs.declared.request.Request.{Request}
+use Rattle.driver_calls.specs.Entries.{IsBatch}
+use Rattle.driver_calls.specs.declared.request.CallData.{CallData}
+use Rattle.driver_calls.specs.declared.request.Request.{Request}
 use Rattle.driver_cas.specs.declared.driver.Driver.{Driver}
 use Rattle.driver_cas.specs.declared.fault.PortFault.{PortFault}
 use Rattle.driver_cas.specs.declared.port.Port.{Ghosts}

@@ -2,8 +2,8 @@
 
 ghost use Rattle.std.specs.Prelude.{[], ◌*◌, ◌+◌, ◌≡◌, ◌≤◌, All, false, length, true};
 ghost use Rattle.cid_table.specs.Cids.{queues_of};
-ghost use Rattle.driver_commands.specs.Entries.{entry_count};
-ghost use Rattle.driver_commands.specs.declared.request.CallData.{CallData};
+ghost use Rattle.driver_calls.specs.Entries.{entry_count};
+ghost use Rattle.driver_calls.specs.declared.request.CallData.{CallData};
 ghost use Rattle.nvme_model.specs.Array.{overlap as overlap_of};
 ghost use Rattle.nvme_model.specs.Operations.{has_write};
 ghost use Rattle.nvme_model.specs.declared.operation.Op.{Op};
@@ -19,7 +19,7 @@ use crate::fault::Fault;
 use crate::port::Port;
 use crate::start::free_cids;
 use block_array::BLOCK;
-use driver_commands::{CallData, Request, room_for};
+use driver_calls::{CallData, Request, room_for};
 use nvme_model::array::Range;
 use nvme_model::operation::Op;
 use nvme_model::submission::Payload;

@@ -9,7 +9,7 @@ use crate::call::Call;
 use crate::driver::Driver;
 use crate::fault::Fault;
 use crate::port::Port;
-use driver_commands::{Request, slot_block};
+use driver_calls::{Request, slot_block};
 use nvme_model::operation::Op;
 
 // The block of a slot that nobody holds.

@@ -8,8 +8,8 @@ ghost use Rattle.driver_cas.specs.SlotStarts.{IsClaimStart, IsReleaseStart};
 ghost use Rattle.driver_cas.specs.Starts.{IsUntouched};
 ghost use Rattle.driver_cas.specs.declared.call.Call.{Call};
 ghost use Rattle.driver_cas.specs.declared.fault.Fault.{Fault};
-ghost use Rattle.driver_commands.specs.declared.request.CallData.{CallData};
-ghost use Rattle.driver_commands.specs.declared.request.Request.{Request};
+ghost use Rattle.driver_calls.specs.declared.request.CallData.{CallData};
+ghost use Rattle.driver_calls.specs.declared.request.Request.{Request};
 
 use crate::driver::Driver;
 use crate::port::Port;

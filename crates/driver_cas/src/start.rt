@@ -2,7 +2,7 @@
 
 ghost use Rattle.std.specs.Prelude.{[], ◌∷◌, ◌≡◌, ◌≤◌, ◌<◌, Contains, IfErr, IfNone, IfOk, IfSome, OnSome, length};
 ghost use Rattle.std.specs.Prelude.{true, vec_capacity};
-ghost use Rattle.driver_commands.specs.Entries.{entry_count, payloads_of};
+ghost use Rattle.driver_calls.specs.Entries.{entry_count, payloads_of};
 ghost use Rattle.driver_cas.specs.Drivers.{IsSame};
 ghost use Rattle.driver_cas.specs.Tries.{IsBegun, IsNotSent, IsTried};
 ghost use Rattle.cid_table.specs.Cids.{queues_of};
@@ -15,7 +15,7 @@ use crate::driver::Driver;
 use crate::fault::{Fault, PortFault};
 use crate::port::Port;
 use cid_table::{CidTable, TwoCids};
-use driver_commands::{CallData, Request, batch_of, taken_back};
+use driver_calls::{CallData, Request, batch_of, taken_back};
 use nvme_model::operation::Op;
 use nvme_model::submission::{Submission, Submissions};
 use std::snapshot::Snapshot;

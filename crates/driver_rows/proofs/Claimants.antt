@@ -28,24 +28,45 @@ three : (a b d : Bool) → a ≡ true → b ≡ true → d ≡ true → (a && b 
 three a b d x y z = λ i. x i && y i && z i
 
 -- with as many completion queues as submission queues, queue h uses h
-pub uses_own : (c : ConfigNumbers) (h : ℕ) (qs : List ℕ) → 1 ≤ h → h ≤ c.pairs → c.cqs ≡ c.pairs → qs ≡ h ∷ [] → All (λ q. uses c h q ≡ true) qs
+pub uses_own : (c : ConfigNumbers) (h : ℕ) (qs : List ℕ) → 1 ≤ h → h ≤ c.pairs → c.cqs ≡ c.pairs → qs ≡ h ∷ []
+    → All (λ q. uses c h q ≡ true) qs
 uses_own c h qs l m e is =
     All-same (λ q. uses c h q ≡ true) qs (h ∷ []) is
-    (All-cons (λ q. uses c h q ≡ true) h [] (three _ _ _ (le-leb 1 h l) (le-leb h c.pairs m) (eq-eqb (completion_queue c h) h (own_queue c h e l m))) (All-nil (λ q. uses c h q ≡ true)))
+    (All-cons (λ q. uses c h q ≡ true) h []
+    (three _ _ _ (le-leb 1 h l) (le-leb h c.pairs m) (eq-eqb (completion_queue c h) h (own_queue c h e l m)))
+    (All-nil (λ q. uses c h q ≡ true)))
 
 -- ---- after a Read was begun
 
-pub read_ready : (b : Bench) (s : Slots) (h i : Host) → IsReady b s h → IsSame h.driver i.driver → Follows (port_of h.driver) (port_of i.driver) → i.place ≡ h.place → (IsCareful h.driver → IsCareful i.driver) → IsReady b s i
-read_ready b s h i ready same later place kept = record { host = moved b h i later place ready.host; area_is = same.slots ∙ ready.area_is; careful = kept ready.careful }
+pub read_ready : (b : Bench) (s : Slots) (h i : Host) → IsReady b s h → IsSame h.driver i.driver
+    → Follows (port_of h.driver) (port_of i.driver) → i.place ≡ h.place → (IsCareful h.driver → IsCareful i.driver)
+    → IsReady b s i
+read_ready b s h i ready same later place kept =
+    record {
+      host = moved b h i later place ready.host;
+      area_is = same.slots ∙ ready.area_is;
+      careful = kept ready.careful;
+    }
   where
-    moved : (b : Bench) (h i : Host) → Follows (port_of h.driver) (port_of i.driver) → i.place ≡ h.place → IsHostOf b h → IsHostOf b i
-    moved b h i later place of = ((subst (λ (p : QueuePass Notice). IsOf b.notices p) (sym place) of.0.0, ap lock_of_pass place ∙ (of.0.1 ∙ sym later.same_lock)), later.same_lock ∙ of.1)
+    moved : (b : Bench) (h i : Host) → Follows (port_of h.driver) (port_of i.driver) → i.place ≡ h.place → IsHostOf b h
+        → IsHostOf b i
+    moved b h i later place of = (
+      (
+        subst (λ (p : QueuePass Notice). IsOf b.notices p) (sym place) of.0.0,
+        ap lock_of_pass place
+            ∙ (of.0.1 ∙ sym later.same_lock),
+      ),
+      later.same_lock ∙ of.1,
+    )
 
 -- ---- what was begun
 
 -- by what its driver keeps of what it began
-pub begun_on : (h i : Host) (stage : Stage) → ((c : Claim) → IsHeldBy h.driver c → IsHeldBy i.driver c) → ((k : Claiming SharedPort _) → IsClaimingOf h.driver k → IsClaimingOf i.driver k)
-    → ((k : Claiming SharedPort _) → IsClaimingOf h.driver k → IsUnreleased h.driver k → IsUnreleased i.driver k) → ((k : Releasing SharedPort) → IsReleasingOf h.driver k → IsReleasingOf i.driver k) → IsBegun h stage → IsBegun i stage
+pub begun_on : (h i : Host) (stage : Stage) → ((c : Claim) → IsHeldBy h.driver c → IsHeldBy i.driver c)
+    → ((k : Claiming SharedPort _) → IsClaimingOf h.driver k → IsClaimingOf i.driver k)
+    → ((k : Claiming SharedPort _) → IsClaimingOf h.driver k → IsUnreleased h.driver k → IsUnreleased i.driver k)
+    → ((k : Releasing SharedPort) → IsReleasingOf h.driver k → IsReleasingOf i.driver k) → IsBegun h stage
+    → IsBegun i stage
 begun_on h i Stage.Idle held claiming unreleased releasing of = tt
 begun_on h i (Stage.Claiming k) held claiming unreleased releasing of = (claiming k of.0, unreleased k of.0 of.1)
 begun_on h i (Stage.Holding k) held claiming unreleased releasing of = held k.claim of

@@ -23,7 +23,9 @@ use Rattle.serving_laws.specs.Servers.{IsServing, is_served}
 use Rattle.serving_laws.proofs.Servers.{declined, stepped}
 
 -- after a Fetch, whether it was made or not
-pub fetched_serves : (eng : Engine) (p q : EnginePass) (queue : ℕ) (r : Result Opened Declined) → IsSame p q → Knows Kept p q → IfOk r (OpenedAs eng p q (opening.Fetch queue)) → IfErr r (Declines Refuses p q (Step.Fetch queue))
+pub fetched_serves : (eng : Engine) (p q : EnginePass) (queue : ℕ) (r : Result Opened Declined) → IsSame p q
+    → Knows Kept p q → IfOk r (OpenedAs eng p q (opening.Fetch queue))
+    → IfErr r (Declines Refuses p q (Step.Fetch queue))
     → IsServing p → IsServing q
 fetched_serves eng p q queue (Ok o) same k ok err x = stepped p q (Step.Fetch queue) ok.answer same k refl ok.by x
 fetched_serves eng p q queue (Err d) same k ok err x = declined p q (Step.Fetch queue) d same k err x
@@ -34,9 +36,11 @@ task_serves task.Block t = refl
 task_serves task.Post t = refl
 
 -- and after a task
-pub worked_serves : (p q : EnginePass) (w v : TicketSeat State) (k : Task) (t : ℕ) (its : Past) (was : Past) (r : Result Answer Declined) → IsSame p q → Knows Kept p q → IfOk r (Worked Accepts p q w v (task_step k t))
+pub worked_serves : (p q : EnginePass) (w v : TicketSeat State) (k : Task) (t : ℕ) (its : Past) (was : Past)
+    (r : Result Answer Declined) → IsSame p q → Knows Kept p q → IfOk r (Worked Accepts p q w v (task_step k t))
     → IfErr r (λ d. Declines Refuses p q (task_step k t) d × (its ≡ was)) → IsServing p → IsServing q
-worked_serves p q w v k t its was (Ok a) same knows ok err x = stepped p q (task_step k t) a same knows (task_serves k t) ok.by x
+worked_serves p q w v k t its was (Ok a) same knows ok err x =
+    stepped p q (task_step k t) a same knows (task_serves k t) ok.by x
 worked_serves p q w v k t its was (Err d) same knows ok err x = declined p q (task_step k t) d same knows err.0 x
 
 -- first one, then the other

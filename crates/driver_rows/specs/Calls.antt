@@ -1,7 +1,7 @@
 -- What becomes of a host's calls.
 use Rattle.std.specs.Prelude.{IfOk, None, Option, Result, Some, ℕ, ◌≡◌, ◌⊎◌}
 use Rattle.nvme_model.specs.declared.operation.Op.{Op}
-use Rattle.driver_commands.specs.declared.request.CallData.{CallData}
+use Rattle.driver_calls.specs.declared.request.CallData.{CallData}
 use Rattle.driver_cas.specs.Drivers.{IsApart, IsCallOf, area_of, port_of}
 use Rattle.driver_cas.specs.Listening.{IsBeside}
 use Rattle.driver_cas.specs.Requests.{IsStart, pair_request_of, request_of}

@@ -1,5 +1,6 @@
 -- The 16 bytes of a completion and its fields.
-use Rattle.std.proofs.Common.{Bool, List, [], false, true, ap, arith, drop, length, refl, sym, ℕ, ◌%◌, ◌*◌, ◌+◌, ◌/◌, ◌<◌, ◌≡◌, ◌∙◌, ◌^◌}
+use Rattle.std.proofs.Common.{Bool, List, [], false, true, ap, arith, drop, length, refl, sym, ℕ, ◌%◌, ◌*◌, ◌+◌, ◌/◌}
+use Rattle.std.proofs.Common.{◌<◌, ◌≡◌, ◌∙◌, ◌^◌}
 use Rattle.std.proofs.lemmas.List.{append-nil, drop_all}
 use Rattle.byteorder.specs.Endian.{little_bytes}
 use Rattle.nvme_model.specs.Codes.{StatusCode}
@@ -10,11 +11,27 @@ use Rattle.entry_codec.specs.Cqe.{completion_fields, phase_bit}
 use Rattle.entry_codec.proofs.LittleLemmas.{little_bytes-field-append, little_endian-bytes}
 
 -- completions with the same fields are the same
-same_cqe : (c d : Cqe) → c.dw0 ≡ d.dw0 → c.dw1 ≡ d.dw1 → c.sqhd ≡ d.sqhd → c.sqid ≡ d.sqid → c.cid ≡ d.cid → c.phase ≡ d.phase → c.sc ≡ d.sc → c.sct ≡ d.sct → c.crd ≡ d.crd → c.more ≡ d.more → c.dnr ≡ d.dnr → c ≡ d
-same_cqe c d dw0 dw1 sqhd sqid cid phase sc sct crd more dnr = rw (dw0, dw1, sqhd, sqid, cid, phase, sc, sct, crd, more, dnr) refl
+same_cqe : (c d : Cqe) → c.dw0 ≡ d.dw0 → c.dw1 ≡ d.dw1 → c.sqhd ≡ d.sqhd → c.sqid ≡ d.sqid → c.cid ≡ d.cid
+    → c.phase ≡ d.phase → c.sc ≡ d.sc → c.sct ≡ d.sct → c.crd ≡ d.crd → c.more ≡ d.more → c.dnr ≡ d.dnr → c ≡ d
+same_cqe c d dw0 dw1 sqhd sqid cid phase sc sct crd more dnr =
+    rw (dw0, dw1, sqhd, sqid, cid, phase, sc, sct, crd, more, dnr) refl
 
 -- the fields of a completion's bytes are the completion's
-pub cqe_fields-cqe_bytes : (sqhd sqid cid phase : ℕ) (status : StatusCode) → sqhd < 2 ^ 16 → sqid < 2 ^ 16 → cid < 2 ^ 16 → phase < 2 → status.sc < 2 ^ 8 → status.sct < 2 ^ 3 → cqe_fields (cqe_bytes sqhd sqid cid phase status) ≡ record { dw0 = 0; dw1 = 0; sqhd = sqhd; sqid = sqid; cid = cid; phase = phase; sc = status.sc; sct = status.sct; crd = 0; more = 0; dnr = 0 }
+pub cqe_fields-cqe_bytes : (sqhd sqid cid phase : ℕ) (status : StatusCode) → sqhd < 2 ^ 16 → sqid < 2 ^ 16
+    → cid < 2 ^ 16 → phase < 2 → status.sc < 2 ^ 8 → status.sct < 2 ^ 3
+    → cqe_fields (cqe_bytes sqhd sqid cid phase status) ≡ record {
+      dw0 = 0;
+      dw1 = 0;
+      sqhd = sqhd;
+      sqid = sqid;
+      cid = cid;
+      phase = phase;
+      sc = status.sc;
+      sct = status.sct;
+      crd = 0;
+      more = 0;
+      dnr = 0;
+    }
 cqe_fields-cqe_bytes sqhd sqid cid phase status sqhd_fits sqid_fits cid_fits phase_fits sc_fits sct_fits =
     let bytes : List ℕ = cqe_bytes sqhd sqid cid phase status in
     let number : ℕ = phase + (2 * status.sc + 512 * status.sct) in
@@ -31,11 +48,25 @@ cqe_fields-cqe_bytes sqhd sqid cid phase status sqhd_fits sqid_fits cid_fits pha
     (ap (λ n. n / 32768) word ∙ omega arith)
 
 -- the last two bytes as one number
-word-parts : (n phase sc sct : ℕ) → n % 2 ≡ phase → (n / 2) % 256 ≡ sc → (n / 512) % 8 ≡ sct → (n / 4096) % 4 ≡ 0 → (n / 16384) % 2 ≡ 0 → n / 32768 ≡ 0 → n ≡ phase + (2 * sc + 512 * sct)
+word-parts : (n phase sc sct : ℕ) → n % 2 ≡ phase → (n / 2) % 256 ≡ sc → (n / 512) % 8 ≡ sct → (n / 4096) % 4 ≡ 0
+    → (n / 16384) % 2 ≡ 0 → n / 32768 ≡ 0 → n ≡ phase + (2 * sc + 512 * sct)
 word-parts n phase sc sct phase_is sc_is sct_is crd more dnr = omega arith
 
 -- 16 bytes with a completion's fields are the completion's bytes
-pub cqe_bytes-fields : (sqhd sqid cid phase : ℕ) (status : StatusCode) (bytes : List ℕ) → length bytes ≡ 16 → IsBytes bytes → cqe_fields bytes ≡ record { dw0 = 0; dw1 = 0; sqhd = sqhd; sqid = sqid; cid = cid; phase = phase; sc = status.sc; sct = status.sct; crd = 0; more = 0; dnr = 0 } → bytes ≡ cqe_bytes sqhd sqid cid phase status
+pub cqe_bytes-fields : (sqhd sqid cid phase : ℕ) (status : StatusCode) (bytes : List ℕ) → length bytes ≡ 16
+    → IsBytes bytes → cqe_fields bytes ≡ record {
+      dw0 = 0;
+      dw1 = 0;
+      sqhd = sqhd;
+      sqid = sqid;
+      cid = cid;
+      phase = phase;
+      sc = status.sc;
+      sct = status.sct;
+      crd = 0;
+      more = 0;
+      dnr = 0;
+    } → bytes ≡ cqe_bytes sqhd sqid cid phase status
 cqe_bytes-fields sqhd sqid cid phase status bytes long each same =
     let dw0 : field 0 4 bytes ≡ 0 = ap (λ (e : Cqe). e.dw0) same in
     let dw1 : field 4 4 bytes ≡ 0 = ap (λ (e : Cqe). e.dw1) same in

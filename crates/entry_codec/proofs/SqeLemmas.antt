@@ -34,16 +34,22 @@ sqe_bytes-sqe_fields bytes long each =
     rw (flags-fields (field 1 1 bytes)) at0
 
 -- entries with the same fields are the same
-same_sqe : (e d : Sqe) → e.opcode ≡ d.opcode → e.fuse ≡ d.fuse → e.reserved ≡ d.reserved → e.psdt ≡ d.psdt → e.cid ≡ d.cid → e.nsid ≡ d.nsid → e.cdw2 ≡ d.cdw2 → e.cdw3 ≡ d.cdw3 → e.mptr ≡ d.mptr → e.dptr ≡ d.dptr → e.cdw10 ≡ d.cdw10 → e.cdw11 ≡ d.cdw11 → e.cdw12 ≡ d.cdw12 → e.cdw13 ≡ d.cdw13 → e.cdw14 ≡ d.cdw14 → e.cdw15 ≡ d.cdw15 → e ≡ d
-same_sqe e d opcode fuse reserved psdt cid nsid cdw2 cdw3 mptr dptr cdw10 cdw11 cdw12 cdw13 cdw14 cdw15 = rw (opcode, fuse, reserved, psdt, cid, nsid, cdw2, cdw3, mptr, dptr, cdw10, cdw11, cdw12, cdw13, cdw14, cdw15) refl
+same_sqe : (e d : Sqe) → e.opcode ≡ d.opcode → e.fuse ≡ d.fuse → e.reserved ≡ d.reserved → e.psdt ≡ d.psdt
+    → e.cid ≡ d.cid → e.nsid ≡ d.nsid → e.cdw2 ≡ d.cdw2 → e.cdw3 ≡ d.cdw3 → e.mptr ≡ d.mptr → e.dptr ≡ d.dptr
+    → e.cdw10 ≡ d.cdw10 → e.cdw11 ≡ d.cdw11 → e.cdw12 ≡ d.cdw12 → e.cdw13 ≡ d.cdw13 → e.cdw14 ≡ d.cdw14
+    → e.cdw15 ≡ d.cdw15 → e ≡ d
+same_sqe e d opcode fuse reserved psdt cid nsid cdw2 cdw3 mptr dptr cdw10 cdw11 cdw12 cdw13 cdw14 cdw15 =
+    rw (opcode, fuse, reserved, psdt, cid, nsid, cdw2, cdw3, mptr, dptr, cdw10, cdw11, cdw12, cdw13, cdw14, cdw15) refl
 
 -- the fields of the bytes of an entry are the entry's
 pub sqe_fields-sqe_bytes : (e : Sqe) → FitsSqe e → sqe_fields (sqe_bytes e) ≡ e
 unfolding sqe_bytes
 sqe_fields-sqe_bytes e fits =
-    let flag : field 1 1 (sqe_bytes e) ≡ flags e = little_endian-bytes 1 (flags e) (omega (arith, fits.fuse, fits.reserved, fits.psdt)) in
+    let flag : field 1 1 (sqe_bytes e) ≡ flags e =
+    little_endian-bytes 1 (flags e) (omega (arith, fits.fuse, fits.reserved, fits.psdt)) in
     let fuse : field 1 1 (sqe_bytes e) % 4 ≡ e.fuse = rw flag (omega (arith, fits.fuse)) in
-    let reserved : (field 1 1 (sqe_bytes e) / 4) % 16 ≡ e.reserved = rw flag (omega (arith, fits.fuse, fits.reserved)) in
+    let reserved : (field 1 1 (sqe_bytes e) / 4) % 16 ≡ e.reserved =
+    rw flag (omega (arith, fits.fuse, fits.reserved)) in
     let psdt : field 1 1 (sqe_bytes e) / 64 ≡ e.psdt = rw flag (omega (arith, fits.fuse, fits.reserved, fits.psdt)) in
     let opcode : field 0 1 (sqe_bytes e) ≡ e.opcode = little_endian-bytes 1 e.opcode fits.opcode in
     let cid : field 2 2 (sqe_bytes e) ≡ e.cid = little_endian-bytes 2 e.cid fits.cid in

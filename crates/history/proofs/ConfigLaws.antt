@@ -1,5 +1,6 @@
 -- The configuration line: what is read has it, and what has it is read.
-use Rattle.std.proofs.Common.{◌≡◌, ℕ, ◌<◌, ◌^◌, Bool, true, false, cond, List, [], ◌∷◌, ◌++◌, None, Some, refl, sym, ap, ◌∙◌, subst, arith}
+use Rattle.std.proofs.Common.{◌≡◌, ℕ, ◌<◌, ◌^◌, Bool, true, false, cond, List, [], ◌∷◌, ◌++◌, None, Some, refl, sym, ap}
+use Rattle.std.proofs.Common.{◌∙◌, subst, arith}
 use Rattle.std.specs.Prelude.{Option, Result, Ok, Err, IfOk, codes, decimal}
 use Rattle.std.specs.List.{slice_split, join_with_byte, AllByRecursion}
 use Rattle.std.specs.Str.{bytes_eq}
@@ -14,7 +15,9 @@ use Rattle.nvme_model.specs.declared.config.AtomicParameters.{AtomicParameters}
 use Rattle.nvme_model.specs.declared.config.ConfigNumbers.{ConfigNumbers}
 use Rattle.history.specs.declared.line_fault.LineFault.{LineFault}
 use Rattle.history.specs.Gives.{Gives}
-use Rattle.history.specs.ConfigLine.{HasConfigLine, atomic_from, config_from, config_in, config_line, config_words, config_words_in, nine_in, nine_words, nine_words_in, ten_words, ten_words_in, with_queues}
+use Rattle.history.specs.ConfigLine.{HasConfigLine, atomic_from, config_from, config_in, config_line, config_words}
+use Rattle.history.specs.ConfigLine.{config_words_in, nine_in, nine_words, nine_words_in, ten_words, ten_words_in}
+use Rattle.history.specs.ConfigLine.{with_queues}
 use Rattle.history.proofs.LinesAgain.{number_16, number_32}
 
 -- ---- what is read has the line
@@ -27,12 +30,18 @@ atomic_parts (Some a) None c d u h = absurd cc
 atomic_parts (Some a) (Some b) None d u h = absurd cc
 atomic_parts (Some a) (Some b) (Some c) None u h = absurd cc
 atomic_parts (Some a) (Some b) (Some c) (Some d) u h =
-    let same : record { awun = a; acwu = b; nabsn = c; nabo = d } ≡ u = cc in
-    (ap (λ (v : AtomicParameters). Some v.awun) same, ap (λ (v : AtomicParameters). Some v.acwu) same, ap (λ (v : AtomicParameters). Some v.nabsn) same, ap (λ (v : AtomicParameters). Some v.nabo) same)
+    let same : record { awun = a; acwu = b; nabsn = c; nabo = d } ≡ u = cc in (
+      ap (λ (v : AtomicParameters). Some v.awun) same,
+      ap (λ (v : AtomicParameters). Some v.acwu) same,
+      ap (λ (v : AtomicParameters). Some v.nabsn) same,
+      ap (λ (v : AtomicParameters). Some v.nabo) same,
+    )
 
 -- the parts of a configuration of nine numbers
-config_parts : (a : Option ℕ) (u : Option AtomicParameters) (p s q j : Option ℕ) (c : ConfigNumbers) → config_from a u p s q j ≡ Some c
-    → (a ≡ Some c.blocks) × (u ≡ Some c.atomic) × (p ≡ Some c.pairs) × (s ≡ Some c.sq_size) × (q ≡ Some c.cq_size) × (j ≡ Some c.jobs) × (c.cqs ≡ c.pairs)
+config_parts : (a : Option ℕ) (u : Option AtomicParameters) (p s q j : Option ℕ) (c : ConfigNumbers)
+    → config_from a u p s q j ≡ Some c
+    → (a ≡ Some c.blocks) × (u ≡ Some c.atomic) × (p ≡ Some c.pairs) × (s ≡ Some c.sq_size) × (q ≡ Some c.cq_size)
+    × (j ≡ Some c.jobs) × (c.cqs ≡ c.pairs)
 config_parts None u p s q j c h = absurd cc
 config_parts (Some a) None p s q j c h = absurd cc
 config_parts (Some a) (Some u) None s q j c h = absurd cc
@@ -54,14 +63,20 @@ config_parts (Some a) (Some u) (Some p) (Some s) (Some q) (Some j) c h =
 nine_is : (b w x y z p s q j : List ℕ) (more : List (List ℕ)) (c : ConfigNumbers) → nine_in b w x y z p s q j ≡ Some c
     → (b ∷ w ∷ x ∷ y ∷ z ∷ p ∷ s ∷ q ∷ j ∷ more ≡ nine_words c ++ more) × (c.cqs ≡ c.pairs)
 nine_is b w x y z p s q j more c h =
-    let k = config_parts (number_in 32 b) (atomic_from (number_in 16 w) (number_in 16 x) (number_in 16 y) (number_in 16 z)) (number_in 16 p) (number_in 16 s) (number_in 16 q) (number_in 16 j) c h in
+    let k = config_parts (number_in 32 b)
+    (atomic_from (number_in 16 w) (number_in 16 x) (number_in 16 y) (number_in 16 z)) (number_in 16 p)
+    (number_in 16 s) (number_in 16 q) (number_in 16 j) c h in
     let u = atomic_parts (number_in 16 w) (number_in 16 x) (number_in 16 y) (number_in 16 z) c.atomic k.1 in (
       ap (λ v. v ∷ w ∷ x ∷ y ∷ z ∷ p ∷ s ∷ q ∷ j ∷ more) (number_is 32 c.blocks b k.0).0
           ∙ ap (λ v. decimal c.blocks ∷ v ∷ x ∷ y ∷ z ∷ p ∷ s ∷ q ∷ j ∷ more) (number_is 16 c.atomic.awun w u.0).0
-          ∙ ap (λ v. decimal c.blocks ∷ decimal c.atomic.awun ∷ v ∷ y ∷ z ∷ p ∷ s ∷ q ∷ j ∷ more) (number_is 16 c.atomic.acwu x u.1).0
-          ∙ ap (λ v. decimal c.blocks ∷ decimal c.atomic.awun ∷ decimal c.atomic.acwu ∷ v ∷ z ∷ p ∷ s ∷ q ∷ j ∷ more) (number_is 16 c.atomic.nabsn y u.2).0
-          ∙ ap (λ v. decimal c.blocks ∷ decimal c.atomic.awun ∷ decimal c.atomic.acwu ∷ decimal c.atomic.nabsn ∷ v ∷ p ∷ s ∷ q ∷ j ∷ more) (number_is 16 c.atomic.nabo z u.3).0
-          ∙ ap (λ l. decimal c.blocks ∷ decimal c.atomic.awun ∷ decimal c.atomic.acwu ∷ decimal c.atomic.nabsn ∷ decimal c.atomic.nabo ∷ l)
+          ∙ ap (λ v. decimal c.blocks ∷ decimal c.atomic.awun ∷ v ∷ y ∷ z ∷ p ∷ s ∷ q ∷ j ∷ more)
+          (number_is 16 c.atomic.acwu x u.1).0
+          ∙ ap (λ v. decimal c.blocks ∷ decimal c.atomic.awun ∷ decimal c.atomic.acwu ∷ v ∷ z ∷ p ∷ s ∷ q ∷ j ∷ more)
+          (number_is 16 c.atomic.nabsn y u.2).0
+          ∙ ap (λ v. decimal c.blocks ∷ decimal c.atomic.awun ∷ decimal c.atomic.acwu ∷ decimal c.atomic.nabsn ∷ v ∷ p
+          ∷ s ∷ q ∷ j ∷ more) (number_is 16 c.atomic.nabo z u.3).0
+          ∙ ap (λ l. decimal c.blocks ∷ decimal c.atomic.awun ∷ decimal c.atomic.acwu ∷ decimal c.atomic.nabsn
+          ∷ decimal c.atomic.nabo ∷ l)
           (ap (λ v. v ∷ s ∷ q ∷ j ∷ more) (number_is 16 c.pairs p k.2).0
           ∙ ap (λ v. decimal c.pairs ∷ v ∷ q ∷ j ∷ more) (number_is 16 c.sq_size s k.3).0
           ∙ ap (λ v. decimal c.pairs ∷ decimal c.sq_size ∷ v ∷ j ∷ more) (number_is 16 c.cq_size q k.4).0
@@ -91,12 +106,14 @@ queues_parts (Some d) None c h = absurd cc
 queues_parts (Some d) (Some n) c h = by (eqb n d.pairs) refl h
   where
     by : (t : Bool) → eqb n d.pairs ≡ t → cond t None (Some (record d { cqs = n })) ≡ Some c
-        → (e : ConfigNumbers) × (m : ℕ) × (Some d ≡ Some e) × (Some n ≡ Some m) × (eqb m e.pairs ≡ false) × (record e { cqs = m } ≡ c)
+        → (e : ConfigNumbers) × (m : ℕ) × (Some d ≡ Some e) × (Some n ≡ Some m) × (eqb m e.pairs ≡ false)
+        × (record e { cqs = m } ≡ c)
     by true e h = absurd cc
     by false e h = (d, n, refl, refl, e, cc)
 
 -- the words behind `config`
-nine_are : (words : List (List ℕ)) (c : ConfigNumbers) → nine_words_in words ≡ Some c → codes "config" ∷ words ≡ config_words c
+nine_are : (words : List (List ℕ)) (c : ConfigNumbers) → nine_words_in words ≡ Some c
+    → codes "config" ∷ words ≡ config_words c
 unfolding nine_words_in
 nine_are [] c h = absurd cc
 nine_are (a ∷ []) c h = absurd cc
@@ -113,7 +130,8 @@ nine_are (a ∷ b ∷ d ∷ e ∷ f ∷ g ∷ i ∷ j ∷ k ∷ []) c h =
 nine_are (a ∷ b ∷ d ∷ e ∷ f ∷ g ∷ i ∷ j ∷ k ∷ l ∷ words) c h = absurd cc
 
 -- the words behind `config2`
-ten_are : (words : List (List ℕ)) (c : ConfigNumbers) → ten_words_in words ≡ Some c → codes "config2" ∷ words ≡ config_words c
+ten_are : (words : List (List ℕ)) (c : ConfigNumbers) → ten_words_in words ≡ Some c
+    → codes "config2" ∷ words ≡ config_words c
 unfolding ten_words_in
 ten_are [] c h = absurd cc
 ten_are (a ∷ []) c h = absurd cc
@@ -148,26 +166,33 @@ words_are (kind ∷ words) c h = by (bytes_eq kind (codes "config")) (bytes_eq k
 -- a line that is read is that of the configuration
 pub config_is : (line : List ℕ) (c : ConfigNumbers) → config_in line ≡ Some c → line ≡ config_line c
 unfolding config_in
-config_is line c h = sym (join_with_byte-slice_split 32 line) ∙ ap (join_with_byte 32) (words_are (slice_split (λ b. eqb b 32) line) c h)
+config_is line c h = sym (join_with_byte-slice_split 32 line)
+    ∙ ap (join_with_byte 32) (words_are (slice_split (λ b. eqb b 32) line) c h)
 
 -- ---- what has the line is read
 
 -- the numbers of the cut
 atomic_again : (c : ConfigNumbers) → HasConfigLine c
-    → atomic_from (number_in 16 (decimal c.atomic.awun)) (number_in 16 (decimal c.atomic.acwu)) (number_in 16 (decimal c.atomic.nabsn)) (number_in 16 (decimal c.atomic.nabo)) ≡ Some c.atomic
+    → atomic_from (number_in 16 (decimal c.atomic.awun)) (number_in 16 (decimal c.atomic.acwu))
+    (number_in 16 (decimal c.atomic.nabsn)) (number_in 16 (decimal c.atomic.nabo)) ≡ Some c.atomic
 atomic_again c is =
     let u : AtomicParameters = c.atomic in
-    ap (λ o. atomic_from o (number_in 16 (decimal u.acwu)) (number_in 16 (decimal u.nabsn)) (number_in 16 (decimal u.nabo))) (number_16 u.awun is.awun)
-    ∙ ap (λ o. atomic_from (Some u.awun) o (number_in 16 (decimal u.nabsn)) (number_in 16 (decimal u.nabo))) (number_16 u.acwu is.acwu)
+    ap (λ o. atomic_from o (number_in 16 (decimal u.acwu)) (number_in 16 (decimal u.nabsn))
+    (number_in 16 (decimal u.nabo))) (number_16 u.awun is.awun)
+    ∙ ap (λ o. atomic_from (Some u.awun) o (number_in 16 (decimal u.nabsn)) (number_in 16 (decimal u.nabo)))
+    (number_16 u.acwu is.acwu)
     ∙ ap (λ o. atomic_from (Some u.awun) (Some u.acwu) o (number_in 16 (decimal u.nabo))) (number_16 u.nabsn is.nabsn)
     ∙ ap (atomic_from (Some u.awun) (Some u.acwu) (Some u.nabsn)) (number_16 u.nabo is.nabo)
 
 -- the nine numbers
 nine_again : (c : ConfigNumbers) → HasConfigLine c
-    → nine_in (decimal c.blocks) (decimal c.atomic.awun) (decimal c.atomic.acwu) (decimal c.atomic.nabsn) (decimal c.atomic.nabo) (decimal c.pairs) (decimal c.sq_size) (decimal c.cq_size) (decimal c.jobs)
+    → nine_in (decimal c.blocks) (decimal c.atomic.awun) (decimal c.atomic.acwu) (decimal c.atomic.nabsn)
+    (decimal c.atomic.nabo) (decimal c.pairs) (decimal c.sq_size) (decimal c.cq_size) (decimal c.jobs)
     ≡ Some (record c { cqs = c.pairs })
 nine_again c is =
-    let u : Option AtomicParameters = atomic_from (number_in 16 (decimal c.atomic.awun)) (number_in 16 (decimal c.atomic.acwu)) (number_in 16 (decimal c.atomic.nabsn)) (number_in 16 (decimal c.atomic.nabo)) in
+    let u : Option AtomicParameters =
+    atomic_from (number_in 16 (decimal c.atomic.awun)) (number_in 16 (decimal c.atomic.acwu))
+    (number_in 16 (decimal c.atomic.nabsn)) (number_in 16 (decimal c.atomic.nabo)) in
     let p : Option ℕ = number_in 16 (decimal c.pairs) in
     let s : Option ℕ = number_in 16 (decimal c.sq_size) in
     let q : Option ℕ = number_in 16 (decimal c.cq_size) in
@@ -176,8 +201,10 @@ nine_again c is =
     ∙ ap (λ o. config_from (Some c.blocks) o p s q j) (atomic_again c is)
     ∙ ap (λ o. config_from (Some c.blocks) (Some c.atomic) o s q j) (number_16 c.pairs is.pairs)
     ∙ ap (λ o. config_from (Some c.blocks) (Some c.atomic) (Some c.pairs) o q j) (number_16 c.sq_size is.sq_size)
-    ∙ ap (λ o. config_from (Some c.blocks) (Some c.atomic) (Some c.pairs) (Some c.sq_size) o j) (number_16 c.cq_size is.cq_size)
-    ∙ ap (config_from (Some c.blocks) (Some c.atomic) (Some c.pairs) (Some c.sq_size) (Some c.cq_size)) (number_16 c.jobs is.jobs)
+    ∙ ap (λ o. config_from (Some c.blocks) (Some c.atomic) (Some c.pairs) (Some c.sq_size) o j)
+    (number_16 c.cq_size is.cq_size)
+    ∙ ap (config_from (Some c.blocks) (Some c.atomic) (Some c.pairs) (Some c.sq_size) (Some c.cq_size))
+    (number_16 c.jobs is.jobs)
 
 -- the words of a configuration are read as it, whichever of the two lines it has
 words_back : (c : ConfigNumbers) (t : Bool) → HasConfigLine c → eqb c.cqs c.pairs ≡ t
@@ -190,7 +217,8 @@ words_back c false is e =
     ∙ ap (λ t. cond t None (Some c)) e
 
 -- no number of a configuration has a space
-numbers_spaceless : (c : ConfigNumbers) (more : List (List ℕ)) → HasConfigLine c → AllByRecursion (Without 32) more → AllByRecursion (Without 32) (nine_words c ++ more)
+numbers_spaceless : (c : ConfigNumbers) (more : List (List ℕ)) → HasConfigLine c → AllByRecursion (Without 32) more
+    → AllByRecursion (Without 32) (nine_words c ++ more)
 numbers_spaceless c more is others = (
   spaceless_32 c.blocks is.blocks,
   (
@@ -201,7 +229,13 @@ numbers_spaceless c more is others = (
         spaceless_16 c.atomic.nabsn is.nabsn,
         (
           spaceless_16 c.atomic.nabo is.nabo,
-          (spaceless_16 c.pairs is.pairs, (spaceless_16 c.sq_size is.sq_size, (spaceless_16 c.cq_size is.cq_size, (spaceless_16 c.jobs is.jobs, others)))),
+          (
+            spaceless_16 c.pairs is.pairs,
+            (
+              spaceless_16 c.sq_size is.sq_size,
+              (spaceless_16 c.cq_size is.cq_size, (spaceless_16 c.jobs is.jobs, others)),
+            ),
+          ),
         ),
       ),
     ),
@@ -216,9 +250,12 @@ numbers_spaceless c more is others = (
 
 -- the line of a configuration is split into its words
 split_again : (c : ConfigNumbers) (t : Bool) → HasConfigLine c
-    → slice_split (λ b. eqb b 32) (join_with_byte 32 (cond t (codes "config" ∷ nine_words c) (codes "config2" ∷ ten_words c))) ≡ cond t (codes "config" ∷ nine_words c) (codes "config2" ∷ ten_words c)
+    → slice_split (λ b. eqb b 32)
+    (join_with_byte 32 (cond t (codes "config" ∷ nine_words c) (codes "config2" ∷ ten_words c)))
+    ≡ cond t (codes "config" ∷ nine_words c) (codes "config2" ∷ ten_words c)
 split_again c true is =
-    words_again 32 (codes "config") (nine_words c) (refl, (refl, (refl, (refl, (refl, (refl, tt)))))) (numbers_spaceless c [] is tt)
+    words_again 32 (codes "config") (nine_words c) (refl, (refl, (refl, (refl, (refl, (refl, tt))))))
+    (numbers_spaceless c [] is tt)
 split_again c false is =
     words_again 32 (codes "config2") (ten_words c) (refl, (refl, (refl, (refl, (refl, (refl, (refl, tt)))))))
     (numbers_spaceless c (decimal c.cqs ∷ []) is (decimal_spaceless c.cqs (below is.cqs), tt))
@@ -234,10 +271,12 @@ config_again c is = ap config_words_in (split_again c (eqb c.cqs c.pairs) is) �
 -- ---- at the call
 
 -- what is read has the line
-pub config_found : (line : List ℕ) (r : Result ConfigNumbers LineFault) → Gives r (config_in line) → IfOk r (λ c. line ≡ config_line c)
+pub config_found : (line : List ℕ) (r : Result ConfigNumbers LineFault) → Gives r (config_in line)
+    → IfOk r (λ c. line ≡ config_line c)
 config_found line (Ok c) h = config_is line c h
 config_found line (Err f) h = tt
 
 -- what has the line is read
-pub config_only : (line : List ℕ) (r : Result ConfigNumbers LineFault) (c : ConfigNumbers) → Gives r (config_in line) → HasConfigLine c → line ≡ config_line c → Gives r (Some c)
+pub config_only : (line : List ℕ) (r : Result ConfigNumbers LineFault) (c : ConfigNumbers) → Gives r (config_in line)
+    → HasConfigLine c → line ≡ config_line c → Gives r (Some c)
 config_only line r c h is same = subst (Gives r) (ap config_in same ∙ config_again c is) h

@@ -18,11 +18,13 @@ use Rattle.history.specs.Gives.{Gives}
 use Rattle.history.specs.StatusWord.{verdict_in}
 use Rattle.history.specs.Marks.{mode_in, found_word, found_in, mark_in}
 use Rattle.history.specs.BatchWords.{batch_in}
-use Rattle.history.specs.Lines.{entry_words, entry_line, publish_in, fetch_in, grant_in, block_in, post_in, reap_in, entry_words_in, entry_in}
+use Rattle.history.specs.Lines.{entry_words, entry_line, publish_in, fetch_in, grant_in, block_in, post_in, reap_in}
+use Rattle.history.specs.Lines.{entry_words_in, entry_in}
 use Rattle.history.proofs.StatusLaws.{verdict_are}
 use Rattle.history.proofs.MarkLaws.{mode_is, found_is, mark_is}
 use Rattle.history.proofs.BatchLaws.{batch_are}
-use Rattle.history.proofs.EntryParts.{published_parts, fetched_parts, granted_parts, blocked_parts, posted_parts, reaped_parts}
+use Rattle.history.proofs.EntryParts.{published_parts, fetched_parts, granted_parts, blocked_parts, posted_parts}
+use Rattle.history.proofs.EntryParts.{reaped_parts}
 
 -- a Publish
 publish_is : (words : List (List ℕ)) (e : Entry) → publish_in words ≡ Some e → codes "publish" ∷ words ≡ entry_words e
@@ -111,27 +113,40 @@ words_are : (words : List (List ℕ)) (e : Entry) → entry_words_in words ≡ S
 unfolding entry_words_in
 words_are [] e h = absurd cc
 words_are (kind ∷ words) e h =
-    by (bytes_eq kind (codes "publish")) (bytes_eq kind (codes "fetch")) (bytes_eq kind (codes "grant")) (bytes_eq kind (codes "block")) (bytes_eq kind (codes "post")) (bytes_eq kind (codes "reap"))
+    by (bytes_eq kind (codes "publish")) (bytes_eq kind (codes "fetch")) (bytes_eq kind (codes "grant"))
+    (bytes_eq kind (codes "block")) (bytes_eq kind (codes "post")) (bytes_eq kind (codes "reap"))
     refl refl refl refl refl refl h
   where
-    by : (a b c d f g : Bool) → bytes_eq kind (codes "publish") ≡ a → bytes_eq kind (codes "fetch") ≡ b → bytes_eq kind (codes "grant") ≡ c
+    by : (a b c d f g : Bool) → bytes_eq kind (codes "publish") ≡ a → bytes_eq kind (codes "fetch") ≡ b
+        → bytes_eq kind (codes "grant") ≡ c
         → bytes_eq kind (codes "block") ≡ d → bytes_eq kind (codes "post") ≡ f → bytes_eq kind (codes "reap") ≡ g
-        → cond a (publish_in words) (cond b (fetch_in words) (cond c (grant_in words) (cond d (block_in words) (cond f (post_in words) (cond g (reap_in words) None))))) ≡ Some e
+        → cond a (publish_in words)
+        (cond b (fetch_in words)
+        (cond c (grant_in words) (cond d (block_in words) (cond f (post_in words) (cond g (reap_in words) None)))))
+        ≡ Some e
         → kind ∷ words ≡ entry_words e
-    by true b c d f g i j k l m n h = ap (λ w. w ∷ words) (bytes_eq_true kind (codes "publish") i) ∙ publish_is words e h
-    by false true c d f g i j k l m n h = ap (λ w. w ∷ words) (bytes_eq_true kind (codes "fetch") j) ∙ fetch_is words e h
-    by false false true d f g i j k l m n h = ap (λ w. w ∷ words) (bytes_eq_true kind (codes "grant") k) ∙ grant_is words e h
-    by false false false true f g i j k l m n h = ap (λ w. w ∷ words) (bytes_eq_true kind (codes "block") l) ∙ block_is words e h
-    by false false false false true g i j k l m n h = ap (λ w. w ∷ words) (bytes_eq_true kind (codes "post") m) ∙ post_is words e h
-    by false false false false false true i j k l m n h = ap (λ w. w ∷ words) (bytes_eq_true kind (codes "reap") n) ∙ reap_is words e h
+    by true b c d f g i j k l m n h = ap (λ w. w ∷ words) (bytes_eq_true kind (codes "publish") i)
+        ∙ publish_is words e h
+    by false true c d f g i j k l m n h = ap (λ w. w ∷ words) (bytes_eq_true kind (codes "fetch") j)
+        ∙ fetch_is words e h
+    by false false true d f g i j k l m n h = ap (λ w. w ∷ words) (bytes_eq_true kind (codes "grant") k)
+        ∙ grant_is words e h
+    by false false false true f g i j k l m n h = ap (λ w. w ∷ words) (bytes_eq_true kind (codes "block") l)
+        ∙ block_is words e h
+    by false false false false true g i j k l m n h = ap (λ w. w ∷ words) (bytes_eq_true kind (codes "post") m)
+        ∙ post_is words e h
+    by false false false false false true i j k l m n h = ap (λ w. w ∷ words) (bytes_eq_true kind (codes "reap") n)
+        ∙ reap_is words e h
     by false false false false false false i j k l m n h = absurd cc
 
 -- a line that is read is that of the entry
 pub entry_is : (line : List ℕ) (e : Entry) → entry_in line ≡ Some e → line ≡ entry_line e
 unfolding entry_in entry_line
-entry_is line e h = sym (join_with_byte-slice_split 32 line) ∙ ap (join_with_byte 32) (words_are (slice_split (λ b. eqb b 32) line) e h)
+entry_is line e h = sym (join_with_byte-slice_split 32 line)
+    ∙ ap (join_with_byte 32) (words_are (slice_split (λ b. eqb b 32) line) e h)
 
 -- at the call
-pub entry_found : (line : List ℕ) (r : Result Entry LineFault) → Gives r (entry_in line) → IfOk r (λ e. line ≡ entry_line e)
+pub entry_found : (line : List ℕ) (r : Result Entry LineFault) → Gives r (entry_in line)
+    → IfOk r (λ e. line ≡ entry_line e)
 entry_found line (Ok e) h = entry_is line e h
 entry_found line (Err f) h = tt

@@ -31,14 +31,21 @@ mode_spaceless Mode.Exclusive = (refl, tt)
 -- what was found, as it is read, is spelled so
 pub found_is : (word : List ℕ) (f : Found) → found_in word ≡ Some f → word ≡ found_word f
 found_is word f h =
-    by (bytes_eq word (codes "read")) (bytes_eq word (codes "equal")) (bytes_eq word (codes "differs")) (bytes_eq word (codes "written")) refl refl refl refl h
+    by (bytes_eq word (codes "read")) (bytes_eq word (codes "equal")) (bytes_eq word (codes "differs"))
+    (bytes_eq word (codes "written")) refl refl refl refl h
   where
-    by : (p q r s : Bool) → bytes_eq word (codes "read") ≡ p → bytes_eq word (codes "equal") ≡ q → bytes_eq word (codes "differs") ≡ r → bytes_eq word (codes "written") ≡ s
-        → cond p (Some Found.Read) (cond q (Some Found.Equal) (cond r (Some Found.Differs) (cond s (Some Found.Written) None))) ≡ Some f → word ≡ found_word f
+    by : (p q r s : Bool) → bytes_eq word (codes "read") ≡ p → bytes_eq word (codes "equal") ≡ q
+        → bytes_eq word (codes "differs") ≡ r → bytes_eq word (codes "written") ≡ s
+        → cond p (Some Found.Read)
+        (cond q (Some Found.Equal) (cond r (Some Found.Differs) (cond s (Some Found.Written) None))) ≡ Some f
+        → word ≡ found_word f
     by true q r s x y z w h = let same : Found.Read ≡ f = cc in bytes_eq_true word (codes "read") x ∙ ap found_word same
-    by false true r s x y z w h = let same : Found.Equal ≡ f = cc in bytes_eq_true word (codes "equal") y ∙ ap found_word same
-    by false false true s x y z w h = let same : Found.Differs ≡ f = cc in bytes_eq_true word (codes "differs") z ∙ ap found_word same
-    by false false false true x y z w h = let same : Found.Written ≡ f = cc in bytes_eq_true word (codes "written") w ∙ ap found_word same
+    by false true r s x y z w h = let same : Found.Equal ≡ f = cc in
+        bytes_eq_true word (codes "equal") y ∙ ap found_word same
+    by false false true s x y z w h = let same : Found.Differs ≡ f = cc in
+        bytes_eq_true word (codes "differs") z ∙ ap found_word same
+    by false false false true x y z w h = let same : Found.Written ≡ f = cc in
+        bytes_eq_true word (codes "written") w ∙ ap found_word same
     by false false false false x y z w h = absurd cc
 
 -- the word of what was found is read as that
@@ -59,7 +66,8 @@ found_spaceless Found.Written = (refl, (refl, (refl, (refl, (refl, (refl, (refl,
 pub mark_is : (word : List ℕ) (b : Bool) → mark_in word ≡ Some b → word ≡ mark_word b
 mark_is word b h = by (bytes_eq word (codes "*")) (bytes_eq word (codes "-")) refl refl h
   where
-    by : (p q : Bool) → bytes_eq word (codes "*") ≡ p → bytes_eq word (codes "-") ≡ q → cond p (Some true) (cond q (Some false) None) ≡ Some b → word ≡ mark_word b
+    by : (p q : Bool) → bytes_eq word (codes "*") ≡ p → bytes_eq word (codes "-") ≡ q
+        → cond p (Some true) (cond q (Some false) None) ≡ Some b → word ≡ mark_word b
     by true q x y h = let same : true ≡ b = cc in bytes_eq_true word (codes "*") x ∙ ap mark_word same
     by false true x y h = let same : false ≡ b = cc in bytes_eq_true word (codes "-") y ∙ ap mark_word same
     by false false x y h = absurd cc

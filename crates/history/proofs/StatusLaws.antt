@@ -1,5 +1,6 @@
 -- The words of statuses and verdicts: what is read is spelled so, and what is spelled so is read.
-use Rattle.std.proofs.Common.{◌≡◌, ℕ, zero, suc, ◌+◌, ◌-◌, ◌<◌, Bool, true, false, cond, List, [], ◌∷◌, length, get_or, None, Some, refl, ap, ◌∙◌, arith}
+use Rattle.std.proofs.Common.{◌≡◌, ℕ, zero, suc, ◌+◌, ◌-◌, ◌<◌, Bool, true, false, cond, List, [], ◌∷◌, length, get_or}
+use Rattle.std.proofs.Common.{None, Some, refl, ap, ◌∙◌, arith}
 use Rattle.std.specs.Prelude.{Option, codes, nat_lt, ◌&&◌}
 use Rattle.std.specs.List.{AllByRecursion}
 use Rattle.std.specs.Str.{bytes_eq}
@@ -14,7 +15,8 @@ use Rattle.line_text.proofs.WordLaws.{upper_without}
 use Rattle.nvme_model.specs.Statuses.{status}
 use Rattle.nvme_model.specs.declared.status.Status.{Status}
 use Rattle.nvme_model.specs.declared.status.Verdict.{Verdict}
-use Rattle.history.specs.StatusWord.{status_word, status_from, status_in, verdict_words, single_failed, pair_failed, short_verdict_in, verdict_in}
+use Rattle.history.specs.StatusWord.{status_word, status_from, status_in, verdict_words, single_failed, pair_failed}
+use Rattle.history.specs.StatusWord.{short_verdict_in, verdict_in}
 use Rattle.history.specs.Lines.{HasStatus, HasVerdict}
 
 -- a test that let an answer through held
@@ -29,7 +31,8 @@ digit_is : (d s : ℕ) → (nat_lt 47 d && nat_lt d 56 && (eqb s 47)) ≡ true �
 digit_is d s h = grind (arith, ltb-true, eqb-true)
 
 -- the parts of a status that is read
-status_parts : (sct : ℕ) (o : Option (List ℕ)) (s : Status) → status_from sct o ≡ Some s → (code : List ℕ) × (o ≡ Some code) × (status sct (get_or code 0 0) ≡ s)
+status_parts : (sct : ℕ) (o : Option (List ℕ)) (s : Status) → status_from sct o ≡ Some s
+    → (code : List ℕ) × (o ≡ Some code) × (status sct (get_or code 0 0) ≡ s)
 status_parts sct None s h = absurd cc
 status_parts sct (Some code) s h = (code, refl, cc)
 
@@ -45,7 +48,8 @@ unfolding status_in
 status_is [] s h = absurd cc
 status_is (d ∷ []) s h = absurd cc
 status_is (d ∷ slash ∷ code) s h =
-    let p = chosen (nat_lt 47 d && nat_lt d 56 && (eqb slash 47)) (status_from (d - 48) (fixed_in 1 (bytes_in code))) s h in
+    let p = chosen (nat_lt 47 d && nat_lt d 56 && (eqb slash 47)) (status_from (d - 48) (fixed_in 1 (bytes_in code))) s
+    h in
     let t = digit_is d slash p.0 in
     let q = status_parts (d - 48) (fixed_in 1 (bytes_in code)) s p.1 in
     let f = fixed_is 1 (bytes_in code) q.0 q.1 in
@@ -62,16 +66,19 @@ one_byte x h (suc i) = omega arith
 
 -- the digit of a type passes its test
 digit_again : (n : ℕ) → n < 8 → (nat_lt 47 (48 + n) && nat_lt (48 + n) 56 && (eqb 47 47)) ≡ true
-digit_again n h = let low : 47 < 48 + n = omega arith in let high : 48 + n < 56 = omega arith in rw (lt-ltb 47 (48 + n) low, lt-ltb (48 + n) 56 high) refl
+digit_again n h = let low : 47 < 48 + n = omega arith in let high : 48 + n < 56 = omega arith in
+    rw (lt-ltb 47 (48 + n) low, lt-ltb (48 + n) 56 high) refl
 
 -- the word of a status is read as that status
 pub status_again : (s : Status) → HasStatus s → status_in (status_word s) ≡ Some s
 unfolding status_in
 status_again s is =
     let code : List ℕ = s.sc ∷ [] in
-    let read = fixed_some 1 (bytes_in (encode_upper code)) code (bytes_again (encode_upper code) code (one_byte s.sc is.1) refl) refl in
+    let read = fixed_some 1 (bytes_in (encode_upper code)) code
+    (bytes_again (encode_upper code) code (one_byte s.sc is.1) refl) refl in
     let back : 48 + s.sct - 48 ≡ s.sct = omega arith in
-    ap (λ b. cond b (status_from (48 + s.sct - 48) (fixed_in 1 (bytes_in (encode_upper code)))) None) (digit_again s.sct is.0)
+    ap (λ b. cond b (status_from (48 + s.sct - 48) (fixed_in 1 (bytes_in (encode_upper code)))) None)
+    (digit_again s.sct is.0)
     ∙ ap (status_from (48 + s.sct - 48)) read
     ∙ ap (λ n. Some (status n s.sc)) back
 
@@ -94,36 +101,46 @@ not_ok : (s : Status) → bytes_eq (status_word s) (codes "ok") ≡ false
 not_ok s = by (bytes_eq (status_word s) (codes "ok")) refl
   where
     by : (b : Bool) → bytes_eq (status_word s) (codes "ok") ≡ b → b ≡ false
-    by true h = absurd (no_letter (get_or (status_word s) 1 0) refl (ap (λ (l : List ℕ). get_or l 1 0) (bytes_eq_true (status_word s) (codes "ok") h)))
+    by true h = absurd (no_letter (get_or (status_word s) 1 0) refl
+        (ap (λ (l : List ℕ). get_or l 1 0) (bytes_eq_true (status_word s) (codes "ok") h)))
     by false h = refl
 
 -- the status of a command that failed
-single_parts : (o : Option Status) (v : Verdict) → single_failed o ≡ Some v → (s : Status) × (o ≡ Some s) × (Verdict.SingleFailed s ≡ v)
+single_parts : (o : Option Status) (v : Verdict) → single_failed o ≡ Some v
+    → (s : Status) × (o ≡ Some s) × (Verdict.SingleFailed s ≡ v)
 single_parts None v h = absurd cc
 single_parts (Some s) v h = (s, refl, cc)
 
 -- the statuses of a pair that failed
-pair_parts : (o p : Option Status) (v : Verdict) → pair_failed o p ≡ Some v → (s : Status) × (r : Status) × (o ≡ Some s) × (p ≡ Some r) × (Verdict.PairFailed s r ≡ v)
+pair_parts : (o p : Option Status) (v : Verdict) → pair_failed o p ≡ Some v
+    → (s : Status) × (r : Status) × (o ≡ Some s) × (p ≡ Some r) × (Verdict.PairFailed s r ≡ v)
 pair_parts None p v h = absurd cc
 pair_parts (Some s) None v h = absurd cc
 pair_parts (Some s) (Some r) v h = (s, r, refl, refl, cc)
 
 -- a verdict of two words that is read is spelled so
-short_is : (count word : List ℕ) (v : Verdict) → short_verdict_in count word ≡ Some v → count ∷ word ∷ [] ≡ verdict_words v
+short_is : (count word : List ℕ) (v : Verdict) → short_verdict_in count word ≡ Some v
+    → count ∷ word ∷ [] ≡ verdict_words v
 unfolding short_verdict_in
-short_is count word v h = by (bytes_eq count (codes "1")) (bytes_eq word (codes "ok")) (bytes_eq count (codes "2")) refl refl refl h
+short_is count word v h =
+    by (bytes_eq count (codes "1")) (bytes_eq word (codes "ok")) (bytes_eq count (codes "2")) refl refl refl h
   where
-    by : (p q r : Bool) → bytes_eq count (codes "1") ≡ p → bytes_eq word (codes "ok") ≡ q → bytes_eq count (codes "2") ≡ r
-        → cond p (cond q (Some Verdict.Single) (single_failed (status_in word))) (cond (r && q) (Some Verdict.Pair) None) ≡ Some v → count ∷ word ∷ [] ≡ verdict_words v
+    by : (p q r : Bool) → bytes_eq count (codes "1") ≡ p → bytes_eq word (codes "ok") ≡ q
+        → bytes_eq count (codes "2") ≡ r
+        → cond p (cond q (Some Verdict.Single) (single_failed (status_in word)))
+        (cond (r && q) (Some Verdict.Pair) None) ≡ Some v → count ∷ word ∷ [] ≡ verdict_words v
     by true true r x y z h =
         let same : Verdict.Single ≡ v = cc in
-        ap (λ w. w ∷ word ∷ []) (bytes_eq_true count (codes "1") x) ∙ ap (λ w. codes "1" ∷ w ∷ []) (bytes_eq_true word (codes "ok") y) ∙ ap verdict_words same
+        ap (λ w. w ∷ word ∷ []) (bytes_eq_true count (codes "1") x)
+        ∙ ap (λ w. codes "1" ∷ w ∷ []) (bytes_eq_true word (codes "ok") y) ∙ ap verdict_words same
     by true false r x y z h =
         let p = single_parts (status_in word) v h in
-        ap (λ w. w ∷ word ∷ []) (bytes_eq_true count (codes "1") x) ∙ ap (λ w. codes "1" ∷ w ∷ []) (status_is word p.0 p.1) ∙ ap verdict_words p.2
+        ap (λ w. w ∷ word ∷ []) (bytes_eq_true count (codes "1") x)
+        ∙ ap (λ w. codes "1" ∷ w ∷ []) (status_is word p.0 p.1) ∙ ap verdict_words p.2
     by false true true x y z h =
         let same : Verdict.Pair ≡ v = cc in
-        ap (λ w. w ∷ word ∷ []) (bytes_eq_true count (codes "2") z) ∙ ap (λ w. codes "2" ∷ w ∷ []) (bytes_eq_true word (codes "ok") y) ∙ ap verdict_words same
+        ap (λ w. w ∷ word ∷ []) (bytes_eq_true count (codes "2") z)
+        ∙ ap (λ w. codes "2" ∷ w ∷ []) (bytes_eq_true word (codes "ok") y) ∙ ap verdict_words same
     by false true false x y z h = absurd cc
     by false false true x y z h = absurd cc
     by false false false x y z h = absurd cc
@@ -148,10 +165,12 @@ pub verdict_again : (v : Verdict) → HasVerdict v → verdict_in (verdict_words
 unfolding verdict_in short_verdict_in
 verdict_again Verdict.Single is = refl
 verdict_again (Verdict.SingleFailed s) is =
-    ap (λ b. cond b (Some Verdict.Single) (single_failed (status_in (status_word s)))) (not_ok s) ∙ ap single_failed (status_again s is)
+    ap (λ b. cond b (Some Verdict.Single) (single_failed (status_in (status_word s)))) (not_ok s)
+    ∙ ap single_failed (status_again s is)
 verdict_again Verdict.Pair is = refl
 verdict_again (Verdict.PairFailed s r) is =
-    ap (λ o. pair_failed o (status_in (status_word r))) (status_again s is.0) ∙ ap (pair_failed (Some s)) (status_again r is.1)
+    ap (λ o. pair_failed o (status_in (status_word r))) (status_again s is.0)
+    ∙ ap (pair_failed (Some s)) (status_again r is.1)
 
 -- none of them has a space
 pub verdict_spaceless : (v : Verdict) → AllByRecursion (Without 32) (verdict_words v)

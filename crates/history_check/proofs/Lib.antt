@@ -1,1 +1,15 @@
 pub mod FirstPlace
+pub mod Rings
+pub mod Flights
+pub mod InUse
+pub mod Following
+pub mod Bounds
+pub mod Publishing
+pub mod Fetching
+pub mod Granting
+pub mod Blocking
+pub mod Posting
+pub mod Reaping
+pub mod Standing
+pub mod Explaining
+pub mod Telling

@@ -1,1 +1,5 @@
 pub mod Checks
+pub mod Rings
+pub mod Kept
+pub mod Steps
+pub mod Whys

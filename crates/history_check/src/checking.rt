@@ -2,8 +2,8 @@
 
 ghost use Rattle.history_check.specs.Checks.{Checks};
 
+use crate::checker::Checker;
 use history::{Config, Entry};
-use one_pass_check::Checker;
 use std::alloc::{AllocError, Global};
 use thiserror::Error;
 

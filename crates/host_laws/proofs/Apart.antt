@@ -1,5 +1,6 @@
 -- CIDs that stay apart: none of an entry that waits to be fetched is in use.
-use Rattle.std.proofs.Common.{◌≡◌, ℕ, ◌+◌, ◌≤◌, ◌<◌, false, List, [], ◌∷◌, ◌++◌, refl, sym, ap, ◌∙◌, subst, Some, None, inl, inr, arith, eqb, eqb-true, slice_get}
+use Rattle.std.proofs.Common.{◌≡◌, ℕ, ◌+◌, ◌≤◌, ◌<◌, false, List, [], ◌∷◌, ◌++◌, refl, sym, ap, ◌∙◌, subst, Some, None}
+use Rattle.std.proofs.Common.{inl, inr, arith, eqb, eqb-true, slice_get}
 use Rattle.std.specs.List.{list_all}
 use Rattle.std.proofs.lemmas.Bool.{and_parts, cases_Bool}
 use Rattle.nvme_model.specs.Config.{completion_queue}
@@ -26,18 +27,29 @@ use Rattle.host_laws.proofs.Later.{published_later}
 
 -- ---- what isn't fetched isn't answered, nor in use
 
-pub known_fetched : (c : ConfigNumbers) (past : Past) (q j : ℕ) → IsLegal c past → Known past q j → j < fetched_count past q
+pub known_fetched : (c : ConfigNumbers) (past : Past) (q j : ℕ) → IsLegal c past → Known past q j
+    → j < fetched_count past q
 known_fetched c past q j h k =
-    let w = subst (λ (x : ℕ). fetched_before past k.ticket + taken (Tickets.ticket past k.ticket).verdict ≤ fetched_count past x) k.queue (within_fetched c past k.ticket h k.some k.known) in
+    let w = subst (λ (x : ℕ). fetched_before past k.ticket + taken (Tickets.ticket past k.ticket).verdict
+    ≤ fetched_count past x) k.queue (within_fetched c past k.ticket h k.some k.known) in
     omega (arith, w, k.number, k.posted, k.few)
 
-pub unfetched_unreaped : (c : ConfigNumbers) (past : Past) (q j : ℕ) → IsLegal c past → fetched_count past q ≤ j → reaped_post c past q j ≡ None
+pub unfetched_unreaped : (c : ConfigNumbers) (past : Past) (q j : ℕ) → IsLegal c past → fetched_count past q ≤ j
+    → reaped_post c past q j ≡ None
 unfetched_unreaped c past q j h l =
     none_if (reaped_post c past q j) (λ p s.
     let y = reaped_at c past q j p s in
-    omega (arith, known_fetched c past q j h (posted_answers_known c past (completion_queue c q) y.index (record { queue = q; number = j; post = p }) h y.at), l))
+    omega (
+      arith,
+      known_fetched c past q j h
+          (posted_answers_known c past (completion_queue c q) y.index (record { queue = q; number = j; post = p }) h
+          y.at),
+      l,
+    ))
 
-pub no_conflict : (c : ConfigNumbers) (past : Past) (q j : ℕ) (s : Submission) → IsLegal c past → IsApart c past q → fetched_count past q ≤ j → slice_get (published_entries past q) j ≡ Some s → is_in (cid_of s) (cids_in_use past q) ≡ false
+pub no_conflict : (c : ConfigNumbers) (past : Past) (q j : ℕ) (s : Submission) → IsLegal c past → IsApart c past q
+    → fetched_count past q ≤ j → slice_get (published_entries past q) j ≡ Some s
+    → is_in (cid_of s) (cids_in_use past q) ≡ false
 no_conflict c past q j s h a l e =
     elim (cases_Bool (is_in (cid_of s) (cids_in_use past q))) [
       | inr o ↦ o
@@ -45,42 +57,50 @@ no_conflict c past q j s h a l e =
           let x = any_in (λ m. eqb m (cid_of s)) (cids_in_use past q) o in
           let same = eqb-true x.0 (cid_of s) x.2 in
           let w = in_use c past q x.0 h x.1 in
-          let here : IsWaiting c past q x.0 j = record { entry = s; published = e; says = sym same; unreaped = unfetched_unreaped c past q j h l } in
+          let here : IsWaiting c past q x.0 j =
+          record { entry = s; published = e; says = sym same; unreaped = unfetched_unreaped c past q j h l } in
           absurd (omega (arith, a x.0 w.0 j w.1 here, w.2, l))
     ]
 
 -- ---- they stay apart
 
-pub book_apart : (c : ConfigNumbers) (past : Past) (n : ℕ) (book : Book) (q : ℕ) → IsBook c past n book → completion_queue c q ≡ n → IsApart c past q
+pub book_apart : (c : ConfigNumbers) (past : Past) (n : ℕ) (book : Book) (q : ℕ) → IsBook c past n book
+    → completion_queue c q ≡ n → IsApart c past q
 book_apart c past n book q b e = λ cid i j x y. same_some i j (book q cid) ((b q cid i e).1 x) ((b q cid j e).1 y)
 
 pub always_empty : (c : ConfigNumbers) (past : Past) (q : ℕ) → published_entries past q ≡ [] → IsAlwaysApart c past q
 always_empty c past q e = λ later before same cid i j x y.
     let f = published_later later before q i x.entry x.published in
-    let g : None ≡ Some x.entry = sym (ap (λ (xs : List Submission). slice_get xs i) (ap (λ (p : Past). published_entries p q) same ∙ e)) ∙ f in
+    let g : None ≡ Some x.entry =
+    sym (ap (λ (xs : List Submission). slice_get xs i) (ap (λ (p : Past). published_entries p q) same ∙ e)) ∙ f in
     absurd cc
 
-pub always_more : (c : ConfigNumbers) (e : Entry) (past : Past) (q : ℕ) → IsAlwaysApart c past q → IsApart c (e ∷ past) q → IsAlwaysApart c (e ∷ past) q
+pub always_more : (c : ConfigNumbers) (e : Entry) (past : Past) (q : ℕ) → IsAlwaysApart c past q
+    → IsApart c (e ∷ past) q → IsAlwaysApart c (e ∷ past) q
 always_more c e past q a b = λ later before same. go later before same
   where
     go : (later before : Past) → later ++ before ≡ e ∷ past → IsApart c before q
     go [] before same = subst (λ (p : Past). IsApart c p q) (sym same) b
     go (x ∷ later) before same = a later before (let f : x ∷ (later ++ before) ≡ e ∷ past = same in cc)
 
-apart_beside : (c : ConfigNumbers) (later past : Past) (n q : ℕ) → IsBeside c n later → completion_queue c q ≡ n → IsApart c past q → IsApart c (later ++ past) q
+apart_beside : (c : ConfigNumbers) (later past : Past) (n q : ℕ) → IsBeside c n later → completion_queue c q ≡ n
+    → IsApart c past q → IsApart c (later ++ past) q
 apart_beside c later past n q h e a = λ cid i j x y. a cid i j (back cid i x) (back cid j y)
   where
     back : (cid i : ℕ) → IsWaiting c (later ++ past) q cid i → IsWaiting c past q cid i
     back cid i w =
         record {
           entry = w.entry;
-          published = ap (λ (xs : List Submission). slice_get xs i) (sym (published_beside c later past n q h e)) ∙ w.published;
+          published = ap (λ (xs : List Submission). slice_get xs i) (sym (published_beside c later past n q h e))
+              ∙ w.published;
           says = w.says;
           unreaped = sym (reaped_post_beside c later past n q i h e) ∙ w.unreaped;
         }
 
-pub always_beside : (c : ConfigNumbers) (later past : Past) (n q : ℕ) → IsBeside c n later → completion_queue c q ≡ n → IsAlwaysApart c past q → IsAlwaysApart c (later ++ past) q
+pub always_beside : (c : ConfigNumbers) (later past : Past) (n q : ℕ) → IsBeside c n later → completion_queue c q ≡ n
+    → IsAlwaysApart c past q → IsAlwaysApart c (later ++ past) q
 always_beside c [] past n q h e a = a
 always_beside c (x ∷ later) past n q h e a =
-    always_more c x (later ++ past) q (always_beside c later past n q (and_parts (is_beside c n x) (list_all (is_beside c n) later) h).1 e a)
+    always_more c x (later ++ past) q
+    (always_beside c later past n q (and_parts (is_beside c n x) (list_all (is_beside c n) later) h).1 e a)
     (apart_beside c (x ∷ later) past n q h e (a [] past refl))

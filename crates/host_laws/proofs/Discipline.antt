@@ -1,12 +1,15 @@
 -- What a Publish that keeps the discipline of the slot area has.
-use Rattle.std.proofs.Common.{◌≡◌, ℕ, zero, suc, ◌+◌, ◌≤◌, ◌<◌, Bool, true, false, not, ◌||◌, cond, List, [], ◌∷◌, ◌++◌, length, refl, sym, ap, ◌∙◌, subst, Some, None, inl, inr, arith, eqb, eqb-true, nat_le, nat_lt, lt-ltb, ltb-true, slice_get, le-leb, leb-true}
+use Rattle.std.proofs.Common.{◌≡◌, ℕ, zero, suc, ◌+◌, ◌≤◌, ◌<◌, Bool, true, false, not, ◌||◌, cond, List, [], ◌∷◌, ◌++◌}
+use Rattle.std.proofs.Common.{length, refl, sym, ap, ◌∙◌, subst, Some, None, inl, inr, arith, eqb, eqb-true, nat_le}
+use Rattle.std.proofs.Common.{nat_lt, lt-ltb, ltb-true, slice_get, le-leb, leb-true}
 use Rattle.std.specs.List.{list_any}
 use Rattle.std.proofs.lemmas.Bool.{and_parts, and_from, or_parts, or_cases}
 use Rattle.nvme_model.specs.declared.config.ConfigNumbers.{ConfigNumbers}
 use Rattle.nvme_model.specs.History.{Past}
 use Rattle.nvme_model.specs.Queues.{published_entries}
 use Rattle.nvme_model.specs.Array.{has_block}
-use Rattle.nvme_model.specs.Slots.{Name, Swap, swaps_in, swaps, touches, only_swaps, disciplined, keeps_discipline, fresh_names, released_right, in_area, releases}
+use Rattle.nvme_model.specs.Slots.{Name, Swap, swaps_in, swaps, touches, only_swaps, disciplined, keeps_discipline}
+use Rattle.nvme_model.specs.Slots.{fresh_names, released_right, in_area, releases}
 use Rattle.nvme_model.specs.declared.array.Range.{Range}
 use Rattle.nvme_model.specs.declared.submission.Submission.{Submission}
 use Rattle.nvme_model.specs.declared.entry.PublishLine.{PublishLine}
@@ -31,18 +34,23 @@ area_has slots l h =
 -- what a Publish that keeps the discipline has, where those before it do
 pub record Keeps (c : ConfigNumbers) (slots : Range) (past : Past) (p : PublishLine) : Type 0 where
   pub before : disciplined c slots past ≡ true
-  pub only : only_swaps slots p.queue (length (published_entries past p.queue)) p.batch (in_area slots (swaps_in p.queue (length (published_entries past p.queue)) p.batch)) ≡ true
-  pub fresh : fresh_names (in_area slots (swaps_in p.queue (length (published_entries past p.queue)) p.batch)) (in_area slots (swaps past)) ≡ true
-  pub right : released_right c past [] (in_area slots (swaps_in p.queue (length (published_entries past p.queue)) p.batch)) ≡ true
+  pub only : only_swaps slots p.queue (length (published_entries past p.queue)) p.batch
+      (in_area slots (swaps_in p.queue (length (published_entries past p.queue)) p.batch)) ≡ true
+  pub fresh : fresh_names (in_area slots (swaps_in p.queue (length (published_entries past p.queue)) p.batch))
+      (in_area slots (swaps past)) ≡ true
+  pub right : released_right c past []
+      (in_area slots (swaps_in p.queue (length (published_entries past p.queue)) p.batch)) ≡ true
 
-pub kept : (c : ConfigNumbers) (slots : Range) (past : Past) (p : PublishLine) → disciplined c slots (Entry.Publish p ∷ past) ≡ true → Keeps c slots past p
+pub kept : (c : ConfigNumbers) (slots : Range) (past : Past) (p : PublishLine)
+    → disciplined c slots (Entry.Publish p ∷ past) ≡ true → Keeps c slots past p
 kept c slots past p h =
     let a = and_parts (disciplined c slots past) (keeps_discipline c slots past p) h in
     let b = and_parts _ _ a.1 in
     let d = and_parts _ _ b.0 in
     record { before = a.0; only = d.0; fresh = d.1; right = b.1 }
 
-pub kept_before : (c : ConfigNumbers) (slots : Range) (e : Entry) (past : Past) → disciplined c slots (e ∷ past) ≡ true → disciplined c slots past ≡ true
+pub kept_before : (c : ConfigNumbers) (slots : Range) (e : Entry) (past : Past) → disciplined c slots (e ∷ past) ≡ true
+    → disciplined c slots past ≡ true
 kept_before c slots (Entry.Publish p) past h = (kept c slots past p h).before
 kept_before c slots (Entry.Fetch p) past h = h
 kept_before c slots (Entry.Grant p) past h = h
@@ -50,11 +58,13 @@ kept_before c slots (Entry.Block p) past h = h
 kept_before c slots (Entry.Post p) past h = h
 kept_before c slots (Entry.Reap p) past h = h
 
-pub kept_earlier : (c : ConfigNumbers) (slots : Range) (later past : Past) → disciplined c slots (later ++ past) ≡ true → disciplined c slots past ≡ true
+pub kept_earlier : (c : ConfigNumbers) (slots : Range) (later past : Past) → disciplined c slots (later ++ past) ≡ true
+    → disciplined c slots past ≡ true
 kept_earlier c slots [] past h = h
 kept_earlier c slots (e ∷ later) past h = kept_earlier c slots later past (kept_before c slots e (later ++ past) h)
 
-only_at : (slots : Range) (q j : ℕ) (batch : List Submission) (of : List Swap) (m : ℕ) (s : Submission) → only_swaps slots q j batch of ≡ true → slice_get batch m ≡ Some s → touches slots s ≡ true
+only_at : (slots : Range) (q j : ℕ) (batch : List Submission) (of : List Swap) (m : ℕ) (s : Submission)
+    → only_swaps slots q j batch of ≡ true → slice_get batch m ≡ Some s → touches slots s ≡ true
     → list_any (λ w. eqb (suc w.number) (j + m)) of ≡ true
 only_at slots q j [] of m s h g t = absurd (let f : None ≡ Some s = g in cc)
 only_at slots q j (x ∷ batch) of zero s h g t =
@@ -67,7 +77,8 @@ only_at slots q j (x ∷ batch) of zero s h g t =
     ]
 only_at slots q j (x ∷ batch) of (suc m) s h g t =
     let a = (and_parts (not (touches slots x) || list_any (λ w. eqb (suc w.number) j) of) _ h).1 in
-    subst (λ (i : ℕ). list_any (λ w. eqb (suc w.number) i) of ≡ true) (omega arith) (only_at slots q (suc j) batch of m s a g t)
+    subst (λ (i : ℕ). list_any (λ w. eqb (suc w.number) i) of ≡ true) (omega arith)
+    (only_at slots q (suc j) batch of m s a g t)
 
 pub record SwapAt (past : Past) (q i : ℕ) : Type 0 where
   pub swap : Swap
@@ -75,7 +86,9 @@ pub record SwapAt (past : Past) (q i : ℕ) : Type 0 where
   pub queue : swap.queue ≡ q
   pub number : suc swap.number ≡ i
 
-pub swapped_by : (c : ConfigNumbers) (slots : Range) (past : Past) (q i : ℕ) (s : Submission) → disciplined c slots past ≡ true → slice_get (published_entries past q) i ≡ Some s → touches slots s ≡ true → SwapAt past q i
+pub swapped_by : (c : ConfigNumbers) (slots : Range) (past : Past) (q i : ℕ) (s : Submission)
+    → disciplined c slots past ≡ true → slice_get (published_entries past q) i ≡ Some s → touches slots s ≡ true
+    → SwapAt past q i
 swapped_by c slots [] q i s d g t = absurd (let f : None ≡ Some s = g in cc)
 swapped_by c slots (Entry.Publish p ∷ past) q i s d g t =
     let k = kept c slots past p d in
@@ -87,26 +100,36 @@ swapped_by c slots (Entry.Publish p ∷ past) q i s d g t =
     old : SwapAt past q i → SwapAt (Entry.Publish p ∷ past) q i
     old w = record { swap = w.swap; there = in_right w.swap _ (swaps past) w.there; queue = w.queue; number = w.number }
 
-    new : Keeps c slots past p → (b : Bool) → eqb p.queue q ≡ b → (m : ℕ) → i ≡ length (published_entries past q) + m → slice_get (cond b p.batch []) m ≡ Some s → SwapAt (Entry.Publish p ∷ past) q i
+    new : Keeps c slots past p → (b : Bool) → eqb p.queue q ≡ b → (m : ℕ) → i ≡ length (published_entries past q) + m
+        → slice_get (cond b p.batch []) m ≡ Some s → SwapAt (Entry.Publish p ∷ past) q i
     new k false e m l h = absurd (let f : None ≡ Some s = h in cc)
     new k true e m l h =
         let same = eqb-true p.queue q e in
         let j = length (published_entries past p.queue) in
-        let w = any_in (λ w. eqb (suc w.number) (j + m)) (in_area slots (swaps_in p.queue j p.batch)) (only_at slots p.queue j p.batch (in_area slots (swaps_in p.queue j p.batch)) m s k.only h t) in
+        let w = any_in (λ w. eqb (suc w.number) (j + m)) (in_area slots (swaps_in p.queue j p.batch))
+        (only_at slots p.queue j p.batch (in_area slots (swaps_in p.queue j p.batch)) m s k.only h t) in
         let there = of_filter (λ s. has_block slots s.lba) (swaps_in p.queue j p.batch) w.0 w.1 in
-        let on = each_in (OnQueue (published_entries (Entry.Publish p ∷ past) p.queue) p.queue) (swaps_in p.queue j p.batch) w.0
-        (swaps_in_are (published_entries (Entry.Publish p ∷ past) p.queue) p.queue j p.batch (publish_stands past p)) there in
+        let on = each_in (OnQueue (published_entries (Entry.Publish p ∷ past) p.queue) p.queue)
+        (swaps_in p.queue j p.batch) w.0
+        (swaps_in_are (published_entries (Entry.Publish p ∷ past) p.queue) p.queue j p.batch (publish_stands past p))
+        there in
         record {
           swap = w.0;
           there = in_left w.0 (swaps_in p.queue j p.batch) (swaps past) there;
           queue = on.0 ∙ same;
-          number = eqb-true (suc w.0.number) (j + m) w.2 ∙ (ap (λ (x : ℕ). length (published_entries past x) + m) same ∙ sym l);
+          number = eqb-true (suc w.0.number) (j + m) w.2
+              ∙ (ap (λ (x : ℕ). length (published_entries past x) + m) same ∙ sym l);
         }
-swapped_by c slots (Entry.Fetch p ∷ past) q i s d g t = let w = swapped_by c slots past q i s d g t in record { swap = w.swap; there = w.there; queue = w.queue; number = w.number }
-swapped_by c slots (Entry.Grant p ∷ past) q i s d g t = let w = swapped_by c slots past q i s d g t in record { swap = w.swap; there = w.there; queue = w.queue; number = w.number }
-swapped_by c slots (Entry.Block p ∷ past) q i s d g t = let w = swapped_by c slots past q i s d g t in record { swap = w.swap; there = w.there; queue = w.queue; number = w.number }
-swapped_by c slots (Entry.Post p ∷ past) q i s d g t = let w = swapped_by c slots past q i s d g t in record { swap = w.swap; there = w.there; queue = w.queue; number = w.number }
-swapped_by c slots (Entry.Reap p ∷ past) q i s d g t = let w = swapped_by c slots past q i s d g t in record { swap = w.swap; there = w.there; queue = w.queue; number = w.number }
+swapped_by c slots (Entry.Fetch p ∷ past) q i s d g t = let w = swapped_by c slots past q i s d g t in
+    record { swap = w.swap; there = w.there; queue = w.queue; number = w.number }
+swapped_by c slots (Entry.Grant p ∷ past) q i s d g t = let w = swapped_by c slots past q i s d g t in
+    record { swap = w.swap; there = w.there; queue = w.queue; number = w.number }
+swapped_by c slots (Entry.Block p ∷ past) q i s d g t = let w = swapped_by c slots past q i s d g t in
+    record { swap = w.swap; there = w.there; queue = w.queue; number = w.number }
+swapped_by c slots (Entry.Post p ∷ past) q i s d g t = let w = swapped_by c slots past q i s d g t in
+    record { swap = w.swap; there = w.there; queue = w.queue; number = w.number }
+swapped_by c slots (Entry.Reap p ∷ past) q i s d g t = let w = swapped_by c slots past q i s d g t in
+    record { swap = w.swap; there = w.there; queue = w.queue; number = w.number }
 
 -- ---- releases
 
@@ -114,9 +137,11 @@ swapped_by c slots (Entry.Reap p ∷ past) q i s d g t = let w = swapped_by c sl
 abbrev pub released : Past → ℕ → Name → Bool
 released past l n = list_any (λ s. releases s l n) (swaps past)
 
-pub released_before : (e : Entry) (past : Past) (l : ℕ) (n : Name) → released (e ∷ past) l n ≡ false → released past l n ≡ false
+pub released_before : (e : Entry) (past : Past) (l : ℕ) (n : Name) → released (e ∷ past) l n ≡ false
+    → released past l n ≡ false
 released_before (Entry.Publish p) past l n h =
-    (or_parts _ _ (sym (list_any-append (λ s. releases s l n) (swaps_in p.queue (length (published_entries past p.queue)) p.batch) (swaps past)) ∙ h)).1
+    (or_parts _ _ (sym (list_any-append (λ s. releases s l n)
+    (swaps_in p.queue (length (published_entries past p.queue)) p.batch) (swaps past)) ∙ h)).1
 released_before (Entry.Fetch p) past l n h = h
 released_before (Entry.Grant p) past l n h = h
 released_before (Entry.Block p) past l n h = h

@@ -22,7 +22,15 @@ use Rattle.host_laws.specs.Claims.{all_drawn, claims_only_on, is_released_on}
 
 -- submission queues 1 and 3 use completion queue 1, the others completion queue 2
 abbrev four : ConfigNumbers
-four = record { blocks = 8; atomic = record { awun = 1; acwu = 1; nabsn = 0; nabo = 0 }; pairs = 4; sq_size = 4; cq_size = 8; jobs = 8; cqs = 2 }
+four = record {
+  blocks = 8;
+  atomic = record { awun = 1; acwu = 1; nabsn = 0; nabo = 0 };
+  pairs = 4;
+  sq_size = 4;
+  cq_size = 8;
+  jobs = 8;
+  cqs = 2;
+}
 
 abbrev area : Range
 area = record { slba = 0; blocks = 1 }
@@ -35,7 +43,8 @@ swap old new = submit 5 1 0 0 0 old ∷ submit 1 2 1 0 0 new ∷ []
 
 -- a batch on a submission queue, served and reaped from completion queue n
 abbrev served : ℕ → ℕ → List Submission → Past → Past
-served q n batch past = run four (settle 20 four (run four past (Step.Publish q batch ∷ Step.Fetch q ∷ []))) (Step.Reap n ∷ Step.Reap n ∷ [])
+served q n batch past = run four (settle 20 four (run four past (Step.Publish q batch ∷ Step.Fetch q ∷ [])))
+    (Step.Reap n ∷ Step.Reap n ∷ [])
 
 -- host 1 claims on queue 1, and host 2 loses on queue 4
 abbrev held : Past
@@ -87,14 +96,16 @@ unreleased = refl
 pub is_released : is_released_on four free 1 0 (name 1 1) ≡ true
 is_released = refl
 
--- a release on another queue of the claim's completion queue keeps the discipline, one on another completion queue breaks it
+-- a release on another queue of the claim's completion queue keeps the discipline, one on another completion queue
+-- breaks it
 pub release_keeps : disciplined four area free ≡ true
 release_keeps = refl
 
 pub release_elsewhere_breaks : disciplined four area (publish 2 (swap (slot_block (name 1 1)) zeros) ∷ held) ≡ false
 release_elsewhere_breaks = refl
 
--- where host 2, as pass 2, made such a release, the others than pass 1 don't keep the discipline, and those than pass 2 do
+-- where host 2, as pass 2, made such a release, the others than pass 1 don't keep the discipline, and those than pass 2
+-- do
 abbrev broken : SharedPast
 broken = (2, publish 2 (swap (slot_block (name 1 1)) zeros)) ∷ map (λ (e : Entry). (1, e)) held
 

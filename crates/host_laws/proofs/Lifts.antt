@@ -11,7 +11,8 @@ use Rattle.nvme_model.specs.Tickets.{Ticket, tickets, command}
 use Rattle.nvme_model.specs.Queues.{published_entries}
 use Rattle.nvme_model.specs.Operations.{op}
 use Rattle.nvme_model.specs.Placed.{effect}
-use Rattle.host_laws.specs.Calls.{IsSingle, IsFused, IsProperPair, takes, IsDone, CompareDiffers, PairSwaps, PairDiffers, FailsChecks}
+use Rattle.host_laws.specs.Calls.{IsSingle, IsFused, IsProperPair, takes, IsDone, CompareDiffers, PairSwaps}
+use Rattle.host_laws.specs.Calls.{PairDiffers, FailsChecks}
 use Rattle.nvme_model.specs.Answered.{says_no}
 use Rattle.nvme_model.specs.Owed.{units_of, read_data_by}
 use Rattle.nvme_model.specs.Slots.{fetched_before}
@@ -28,7 +29,8 @@ use Rattle.host_laws.proofs.FailedCalls.{failed_idle}
 use Rattle.host_laws.proofs.Verdicts.{taken_two}
 use Rattle.nvme_model.specs.declared.operation.Op.{Op}
 
-pub not_before : (c : ConfigNumbers) (later start : Past) (t q j u : ℕ) → IsLegal c (later ++ start) → takes (later ++ start) t q j ≡ true → length (published_entries start q) ≤ j → effect start t u ≡ None
+pub not_before : (c : ConfigNumbers) (later start : Past) (t q j u : ℕ) → IsLegal c (later ++ start)
+    → takes (later ++ start) t q j ≡ true → length (published_entries start q) ≤ j → effect start t u ≡ None
 not_before c later start t q j u h k l =
     let x = takes_parts (later ++ start) t q j k in
     let before = earlier c later start h in
@@ -39,12 +41,16 @@ not_before c later start t q j u h k l =
           let number = fetched_before_later c later start t h m in
           let f = ticket_taken c start t before x.some m in
           let queue : (Tickets.ticket start t).queue ≡ q = sym (ap (λ (z : Ticket). z.queue) same) ∙ x.queue in
-          let v : taken (Tickets.ticket (later ++ start) t).verdict ≡ taken (Tickets.ticket start t).verdict = ap (λ (z : Ticket). taken z.verdict) same in
-          let first = slice_get_within (published_entries start (Tickets.ticket start t).queue) (fetched_before start t) (command (Tickets.ticket start t) 0) f.first in
-          let count : length (published_entries start (Tickets.ticket start t).queue) ≡ length (published_entries start q) = ap (λ (z : ℕ). length (published_entries start z)) queue in
+          let v : taken (Tickets.ticket (later ++ start) t).verdict ≡ taken (Tickets.ticket start t).verdict =
+          ap (λ (z : Ticket). taken z.verdict) same in
+          let first = slice_get_within (published_entries start (Tickets.ticket start t).queue) (fetched_before start t)
+          (command (Tickets.ticket start t) 0) f.first in
+          let count : length (published_entries start (Tickets.ticket start t).queue)
+          ≡ length (published_entries start q) = ap (λ (z : ℕ). length (published_entries start z)) queue in
           elim (cases_lt 1 (taken (Tickets.ticket start t).verdict)) [
             | inl two ↦
-                let second = slice_get_within (published_entries start (Tickets.ticket start t).queue) (suc (fetched_before start t)) (command (Tickets.ticket start t) 1)
+                let second = slice_get_within (published_entries start (Tickets.ticket start t).queue)
+                (suc (fetched_before start t)) (command (Tickets.ticket start t) 1)
                 (f.second (omega (arith, two, taken_two (Tickets.ticket start t).verdict))) in
                 absurd (omega (arith, second, count, l, number, x.high, v, taken_two (Tickets.ticket start t).verdict))
             | inr one ↦ absurd (omega (arith, first, count, l, number, x.high, v, one))
@@ -53,7 +59,8 @@ not_before c later start t q j u h k l =
 
 -- ---- what was learnt stays known
 
-pub pair_swaps_later : (c : ConfigNumbers) (later past : Past) (q j : ℕ) → IsLegal c (later ++ past) → PairSwaps past q j → PairSwaps (later ++ past) q j
+pub pair_swaps_later : (c : ConfigNumbers) (later past : Past) (q j : ℕ) → IsLegal c (later ++ past)
+    → PairSwaps past q j → PairSwaps (later ++ past) q j
 pair_swaps_later c later past q j h x =
     let k = takes_parts past x.ticket q j x.takes in
     record {
@@ -65,7 +72,8 @@ pair_swaps_later c later past q j h x =
       yes = yes_later c later past x.ticket 0 h (earlier c later past h) x.yes;
     }
 
-pub pair_differs_later : (c : ConfigNumbers) (later past : Past) (q j : ℕ) → IsLegal c (later ++ past) → PairDiffers past q j → PairDiffers (later ++ past) q j
+pub pair_differs_later : (c : ConfigNumbers) (later past : Past) (q j : ℕ) → IsLegal c (later ++ past)
+    → PairDiffers past q j → PairDiffers (later ++ past) q j
 pair_differs_later c later past q j h x =
     let k = takes_parts past x.ticket q j x.takes in
     record {
@@ -77,7 +85,8 @@ pair_differs_later c later past q j h x =
       no = no_later c later past x.ticket 0 h (earlier c later past h) x.no;
     }
 
-pub done_later : (c : ConfigNumbers) (later past : Past) (q j : ℕ) (o : Op) (bytes : List ℕ) → IsLegal c (later ++ past) → IsDone c past q j o bytes → IsDone c (later ++ past) q j o bytes
+pub done_later : (c : ConfigNumbers) (later past : Past) (q j : ℕ) (o : Op) (bytes : List ℕ) → IsLegal c (later ++ past)
+    → IsDone c past q j o bytes → IsDone c (later ++ past) q j o bytes
 done_later c later past q j o bytes h x =
     let k = takes_parts past x.ticket q j x.takes in
     let same = ticket_later c later past x.ticket h k.known in
@@ -88,10 +97,12 @@ done_later c later past q j o bytes h x =
       does = ap op same ∙ x.does;
       effects = effects_later c later past x.ticket h same x.effects;
       none_no = none_no_later c later past x.ticket h (earlier c later past h) same x.effects ∙ x.none_no;
-      reads = x.reads ∙ sym (ap (λ (z : Ticket). read_data_by c (later ++ past) x.ticket (op z)) same ∙ reads_by c later past x.ticket (op (Tickets.ticket past x.ticket)) h same x.effects);
+      reads = x.reads ∙ sym (ap (λ (z : Ticket). read_data_by c (later ++ past) x.ticket (op z)) same
+          ∙ reads_by c later past x.ticket (op (Tickets.ticket past x.ticket)) h same x.effects);
     }
 
-pub compare_differs_later : (c : ConfigNumbers) (later past : Past) (q j : ℕ) → IsLegal c (later ++ past) → CompareDiffers c past q j → CompareDiffers c (later ++ past) q j
+pub compare_differs_later : (c : ConfigNumbers) (later past : Past) (q j : ℕ) → IsLegal c (later ++ past)
+    → CompareDiffers c past q j → CompareDiffers c (later ++ past) q j
 compare_differs_later c later past q j h x =
     let k = takes_parts past x.ticket q j x.takes in
     let same = ticket_later c later past x.ticket h k.known in
@@ -100,11 +111,14 @@ compare_differs_later c later past q j h x =
       takes = takes_later c later past x.ticket q j h x.takes;
       first = command_later c later past x.ticket q j 0 h k.known x.first;
       compares = ap op same ∙ x.compares;
-      no = subst (λ (us : List (ℕ × Range)). list_any (λ u. says_no (later ++ past) x.ticket u.0) us ≡ true) (sym (units_later c past (later ++ past) x.ticket same))
-          (any_more (λ u. says_no past x.ticket u.0) (λ u. says_no (later ++ past) x.ticket u.0) (units_of c past x.ticket) (λ u n. no_later c later past x.ticket u.0 h (earlier c later past h) n) x.no);
+      no = subst (λ (us : List (ℕ × Range)). list_any (λ u. says_no (later ++ past) x.ticket u.0) us ≡ true)
+          (sym (units_later c past (later ++ past) x.ticket same))
+          (any_more (λ u. says_no past x.ticket u.0) (λ u. says_no (later ++ past) x.ticket u.0)
+          (units_of c past x.ticket) (λ u n. no_later c later past x.ticket u.0 h (earlier c later past h) n) x.no);
     }
 
-pub failed_later : (c : ConfigNumbers) (later past : Past) (q j : ℕ) → IsLegal c (later ++ past) → FailsChecks past q j → FailsChecks (later ++ past) q j
+pub failed_later : (c : ConfigNumbers) (later past : Past) (q j : ℕ) → IsLegal c (later ++ past) → FailsChecks past q j
+    → FailsChecks (later ++ past) q j
 failed_later c later past q j h x =
     let k = takes_parts past x.ticket q j x.takes in
     let failed = ap (λ (z : Ticket). passed z.verdict) (ticket_later c later past x.ticket h k.known) ∙ x.failed in
@@ -120,7 +134,13 @@ failed_later c later past q j h x =
 
 pub single_later : (later past : Past) (q j : ℕ) (o : Op) → IsSingle past q j o → IsSingle (later ++ past) q j o
 single_later later past q j o x =
-    record { entry = x.entry; published = published_later later past q j x.entry x.published; not_first = x.not_first; not_second = x.not_second; does = x.does }
+    record {
+      entry = x.entry;
+      published = published_later later past q j x.entry x.published;
+      not_first = x.not_first;
+      not_second = x.not_second;
+      does = x.does;
+    }
 
 pub fused_later : (later past : Past) (q j : ℕ) → IsFused past q j → IsFused (later ++ past) q j
 fused_later later past q j x =

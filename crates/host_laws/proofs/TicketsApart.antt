@@ -1,6 +1,7 @@
 -- The tickets of one queue take entries apart.
 use Rattle.nvme_model.specs.Tickets
-use Rattle.std.proofs.Common.{◌≡◌, ℕ, ◌+◌, ◌≤◌, ◌<◌, Bool, true, false, cond, [], ◌∷◌, refl, sym, ap, subst, inl, inr, arith, eq-eqb, eqb, eqb-true}
+use Rattle.std.proofs.Common.{◌≡◌, ℕ, ◌+◌, ◌≤◌, ◌<◌, Bool, true, false, cond, [], ◌∷◌, refl, sym, ap, subst, inl, inr}
+use Rattle.std.proofs.Common.{arith, eq-eqb, eqb, eqb-true}
 use Rattle.std.proofs.lemmas.Bool.{cases_Bool, cases_lt, eqb-false, cond-true}
 use Rattle.nvme_model.specs.declared.config.ConfigNumbers.{ConfigNumbers}
 use Rattle.nvme_model.specs.Verdict.{taken}
@@ -13,15 +14,20 @@ use Rattle.nvme_model.specs.declared.entry.Entry.{Entry}
 use Rattle.nvme_model.proofs.Rules.{follows, fetch_number}
 use Rattle.nvme_model.specs.declared.status.Verdict.{Verdict}
 
-pub within_fetched : (c : ConfigNumbers) (past : Past) (t : ℕ) → IsLegal c past → 1 ≤ t → t ≤ tickets past → fetched_before past t + taken (Tickets.ticket past t).verdict ≤ fetched_count past (Tickets.ticket past t).queue
+pub within_fetched : (c : ConfigNumbers) (past : Past) (t : ℕ) → IsLegal c past → 1 ≤ t → t ≤ tickets past
+    → fetched_before past t + taken (Tickets.ticket past t).verdict ≤ fetched_count past (Tickets.ticket past t).queue
 within_fetched c [] t h a l = absurd (omega (arith, a, l))
 within_fetched c (Entry.Fetch f ∷ past) t h a l =
     go (eqb f.ticket t) refl (λ m. within_fetched c past t (follows c past (Entry.Fetch f) h).before a m)
   where
-    go : (b : Bool) → eqb f.ticket t ≡ b → (t ≤ tickets past → fetched_before past t + taken (Tickets.ticket past t).verdict ≤ fetched_count past (Tickets.ticket past t).queue)
-        → cond b (fetched_count past f.queue) (fetched_before past t) + taken (cond b (fetched_ticket past f.queue f.verdict) (Tickets.ticket past t)).verdict
+    go : (b : Bool) → eqb f.ticket t ≡ b
+        → (t ≤ tickets past → fetched_before past t + taken (Tickets.ticket past t).verdict
+        ≤ fetched_count past (Tickets.ticket past t).queue)
+        → cond b (fetched_count past f.queue) (fetched_before past t)
+        + taken (cond b (fetched_ticket past f.queue f.verdict) (Tickets.ticket past t)).verdict
         ≤ fetched_count past (cond b (fetched_ticket past f.queue f.verdict) (Tickets.ticket past t)).queue
-        + cond (eqb f.queue (cond b (fetched_ticket past f.queue f.verdict) (Tickets.ticket past t)).queue) (taken f.verdict) 0
+        + cond (eqb f.queue (cond b (fetched_ticket past f.queue f.verdict) (Tickets.ticket past t)).queue)
+        (taken f.verdict) 0
     go true e ih = omega (arith, cond-true (eqb f.queue f.queue) (taken f.verdict) 0 (eq-eqb f.queue f.queue refl))
     go false e ih =
         let i = ih (elim (cases_lt (tickets past) t) [
@@ -31,7 +37,8 @@ within_fetched c (Entry.Fetch f ∷ past) t h a l =
         omega (arith, i)
 within_fetched c (e ∷ past) t h a l = within_fetched c past t (follows c past e h).before a l
 
-pub ranges_apart : (c : ConfigNumbers) (past : Past) (t u : ℕ) → IsLegal c past → 1 ≤ t → t < u → u ≤ tickets past → (Tickets.ticket past t).queue ≡ (Tickets.ticket past u).queue
+pub ranges_apart : (c : ConfigNumbers) (past : Past) (t u : ℕ) → IsLegal c past → 1 ≤ t → t < u → u ≤ tickets past
+    → (Tickets.ticket past t).queue ≡ (Tickets.ticket past u).queue
     → fetched_before past t + taken (Tickets.ticket past t).verdict ≤ fetched_before past u
 ranges_apart c [] t u h a k l q = absurd (omega (arith, k, l))
 ranges_apart c (Entry.Fetch f ∷ past) t u h a k l q =
@@ -44,10 +51,14 @@ ranges_apart c (Entry.Fetch f ∷ past) t u h a k l q =
     go (eqb f.ticket t) other (eqb f.ticket u) refl q before n (λ m s. ranges_apart c past t u before a k m s)
   where
     go : (b : Bool) → b ≡ false → (d : Bool) → eqb f.ticket u ≡ d
-        → (cond b (fetched_ticket past f.queue f.verdict) (Tickets.ticket past t)).queue ≡ (cond d (fetched_ticket past f.queue f.verdict) (Tickets.ticket past u)).queue
+        → (cond b (fetched_ticket past f.queue f.verdict) (Tickets.ticket past t)).queue
+        ≡ (cond d (fetched_ticket past f.queue f.verdict) (Tickets.ticket past u)).queue
         → IsLegal c past → f.ticket ≡ tickets past + 1
-        → (u ≤ tickets past → (Tickets.ticket past t).queue ≡ (Tickets.ticket past u).queue → fetched_before past t + taken (Tickets.ticket past t).verdict ≤ fetched_before past u)
-        → cond b (fetched_count past f.queue) (fetched_before past t) + taken (cond b (fetched_ticket past f.queue f.verdict) (Tickets.ticket past t)).verdict ≤ cond d (fetched_count past f.queue) (fetched_before past u)
+        → (u ≤ tickets past → (Tickets.ticket past t).queue ≡ (Tickets.ticket past u).queue
+        → fetched_before past t + taken (Tickets.ticket past t).verdict ≤ fetched_before past u)
+        → cond b (fetched_count past f.queue) (fetched_before past t)
+        + taken (cond b (fetched_ticket past f.queue f.verdict) (Tickets.ticket past t)).verdict
+        ≤ cond d (fetched_count past f.queue) (fetched_before past u)
     go true o d e s before n ih = absurd (let g = o in cc)
     go false o true e s before n ih =
         let w = within_fetched c past t before a (omega (arith, k, l)) in
@@ -65,20 +76,28 @@ taken_some (Verdict.SingleFailed s) = omega arith
 taken_some Verdict.Pair = omega arith
 taken_some (Verdict.PairFailed s r) = omega arith
 
-pub one_ticket : (c : ConfigNumbers) (past : Past) (t u : ℕ) → IsLegal c past → 1 ≤ t → t ≤ tickets past → 1 ≤ u → u ≤ tickets past → (Tickets.ticket past t).queue ≡ (Tickets.ticket past u).queue
+pub one_ticket : (c : ConfigNumbers) (past : Past) (t u : ℕ) → IsLegal c past → 1 ≤ t → t ≤ tickets past → 1 ≤ u
+    → u ≤ tickets past → (Tickets.ticket past t).queue ≡ (Tickets.ticket past u).queue
     → fetched_before past t ≡ fetched_before past u → t ≡ u
 one_ticket c past t u h a b d e q n =
     elim (cases_lt t u) [
       | inl l ↦ absurd (omega (arith, ranges_apart c past t u h a l e q, n, taken_some (Tickets.ticket past t).verdict))
       | inr l ↦ elim (cases_lt u t) [
-        | inl m ↦ absurd (omega (arith, ranges_apart c past u t h d m b (sym q), n, taken_some (Tickets.ticket past u).verdict))
+        | inl m ↦ absurd (omega (
+          arith,
+          ranges_apart c past u t h d m b (sym q),
+          n,
+          taken_some (Tickets.ticket past u).verdict,
+        ))
         | inr m ↦ omega (arith, l, m)
       ]
     ]
 
 -- no ticket begins inside another
-pub not_inside : (c : ConfigNumbers) (past : Past) (t u : ℕ) → IsLegal c past → 1 ≤ t → t ≤ tickets past → 1 ≤ u → u ≤ tickets past → (Tickets.ticket past t).queue ≡ (Tickets.ticket past u).queue
-    → fetched_before past u < fetched_before past t → fetched_before past t < fetched_before past u + taken (Tickets.ticket past u).verdict → ⊥
+pub not_inside : (c : ConfigNumbers) (past : Past) (t u : ℕ) → IsLegal c past → 1 ≤ t → t ≤ tickets past → 1 ≤ u
+    → u ≤ tickets past → (Tickets.ticket past t).queue ≡ (Tickets.ticket past u).queue
+    → fetched_before past u < fetched_before past t
+    → fetched_before past t < fetched_before past u + taken (Tickets.ticket past u).verdict → ⊥
 not_inside c past t u h a b d e q l m =
     elim (cases_lt u t) [
       | inl k ↦ omega (arith, ranges_apart c past u t h d k b (sym q), m)

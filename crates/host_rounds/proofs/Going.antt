@@ -36,7 +36,13 @@ later_on a b c x y =
 module _ {P : Type 0} {g : Ghosts P} where
   settings_on : (d e f : Driver P g) → HasSettings d e → HasSettings e f → HasSettings d f
   settings_on d e f x y =
-      record { began = y.began ∙ x.began; host = y.host ∙ x.host; acwu = y.acwu ∙ x.acwu; slots = y.slots ∙ x.slots; queues = y.queues ∙ x.queues }
+      record {
+        began = y.began ∙ x.began;
+        host = y.host ∙ x.host;
+        acwu = y.acwu ∙ x.acwu;
+        slots = y.slots ∙ x.slots;
+        queues = y.queues ∙ x.queues;
+      }
 
 module _ {G : Type 0} where
   pub goes_same : (hall : Hall G) (h : Host) → IsHosting hall h → Goes hall h h
@@ -60,7 +66,8 @@ module _ {G : Type 0} where
       }
 
   -- whoever is a host stays one
-  pub host_on : (hall : Hall G) (h k : Host) → Goes hall h k → (c : ConfigNumbers) (slots : Range) (pass queue n : ℕ) → IsHost c slots pass queue n h.driver → IsHost c slots pass queue n k.driver
+  pub host_on : (hall : Hall G) (h k : Host) → Goes hall h k → (c : ConfigNumbers) (slots : Range) (pass queue n : ℕ)
+      → IsHost c slots pass queue n h.driver → IsHost c slots pass queue n k.driver
   host_on hall h k a c slots pass queue n x =
       record {
         first = ap (λ (b : Snapshot SharedPort). seen b.value.pass) a.settings.began ∙ x.first;
@@ -73,7 +80,8 @@ module _ {G : Type 0} where
       }
 
   -- by a call of its driver
-  pub goes_called : (hall : Hall G) (h k m : Host) (released : Option ReleasedName) → Goes hall h k → m.slots ≡ k.slots → m.queue ≡ k.queue → m.notices ≡ k.notices → (IsCareful k.driver → IsCareful m.driver)
+  pub goes_called : (hall : Hall G) (h k m : Host) (released : Option ReleasedName) → Goes hall h k → m.slots ≡ k.slots
+      → m.queue ≡ k.queue → m.notices ≡ k.notices → (IsCareful k.driver → IsCareful m.driver)
       → careful.GoesOn k.driver m.driver released → Goes hall h m
   goes_called hall h k m released a slots queue notices kept x =
       goes_far hall h k m a
@@ -84,7 +92,8 @@ module _ {G : Type 0} where
               slots = x.settings.slots ∙ a.of.slots ∙ ap area (sym slots);
               careful = kept a.of.careful;
               queue = subst (λ (n : ℕ). (1 ≤ n) × (n ≤ length hall.notices.items)) (sym queue) a.of.queue;
-              place = subst (λ (z : ℕ × QueuePass Notice). IsPlaceAt hall (z.0 - 1) z.1) (λ i. (sym queue i, sym notices i)) a.of.place;
+              place = subst (λ (z : ℕ × QueuePass Notice). IsPlaceAt hall (z.0 - 1) z.1)
+                  (λ i. (sym queue i, sym notices i)) a.of.place;
             };
         settings = x.settings;
         slots = slots;

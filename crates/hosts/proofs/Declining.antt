@@ -32,19 +32,26 @@ of_two P false true u v x y n = y
 of_two P false false u v x y n = n
 
 abbrev TaskRefused : Why → Type 0
-TaskRefused w = engine.IsNoTaskFault (Declined.Refused (Refused.Step w)) → IsTaskDeclined (Declined.Refused (Refused.Step w))
+TaskRefused w = engine.IsNoTaskFault (Declined.Refused (Refused.Step w))
+    → IsTaskDeclined (Declined.Refused (Refused.Step w))
 
 task_refused : (c : ConfigNumbers) (past : Past) (k : Task) (t : ℕ) (r : Refused) → Refuses c past (task_step k t) r
     → engine.IsNoTaskFault (Declined.Refused r) → IsTaskDeclined (Declined.Refused r)
 task_refused c past k t r is =
-    subst (λ (x : Refused). engine.IsNoTaskFault (Declined.Refused x) → IsTaskDeclined (Declined.Refused x)) (sym is) (by k)
+    subst (λ (x : Refused). engine.IsNoTaskFault (Declined.Refused x) → IsTaskDeclined (Declined.Refused x)) (sym is)
+    (by k)
   where
-    by : (k : Task) → engine.IsNoTaskFault (Declined.Refused (refused_as (task_step k t) (unwrap_or (refusal c past (task_step k t)) Why.NoMemory)))
-        → IsTaskDeclined (Declined.Refused (refused_as (task_step k t) (unwrap_or (refusal c past (task_step k t)) Why.NoMemory)))
-    by task.Grant = of_three TaskRefused _ _ _ Why.NoTicket Why.WrongState Why.Conflict (λ f. f) (λ f. f) (λ f. tt) (λ f. tt)
+    by : (k : Task) → engine.IsNoTaskFault
+        (Declined.Refused (refused_as (task_step k t) (unwrap_or (refusal c past (task_step k t)) Why.NoMemory)))
+        → IsTaskDeclined (Declined.Refused
+        (refused_as (task_step k t) (unwrap_or (refusal c past (task_step k t)) Why.NoMemory)))
+    by task.Grant = of_three TaskRefused _ _ _ Why.NoTicket Why.WrongState Why.Conflict (λ f. f) (λ f. f) (λ f. tt)
+        (λ f. tt)
     by task.Block = of_two TaskRefused _ _ Why.NoTicket Why.WrongState (λ f. f) (λ f. f) (λ f. tt)
-    by task.Post = of_three TaskRefused _ _ _ Why.NoTicket Why.WrongState Why.CqFull (λ f. f) (λ f. f) (λ f. tt) (λ f. tt)
+    by task.Post = of_three TaskRefused _ _ _ Why.NoTicket Why.WrongState Why.CqFull (λ f. f) (λ f. f) (λ f. tt)
+        (λ f. tt)
 
-pub task_declined : (p s : engine.EnginePass) (k : Task) (t : ℕ) (d : Declined) → Declines Refuses p s (task_step k t) d → engine.IsNoTaskFault d → IsTaskDeclined d
+pub task_declined : (p s : engine.EnginePass) (k : Task) (t : ℕ) (d : Declined) → Declines Refuses p s (task_step k t) d
+    → engine.IsNoTaskFault d → IsTaskDeclined d
 task_declined p s k t (Declined.Busy step) h f = tt
 task_declined p s k t (Declined.Refused r) h f = task_refused (config_of p) (entries (seen s)) k t r h.1 f

@@ -52,53 +52,71 @@ module _ {G : Type 0} where
         serves = λ x. b.serves (a.serves x);
       }
 
-  goes_step : (hall : Hall G) (h : Hand) (p : engine.EnginePass) → IsOf hall h → IsSame h.pass p → Knows Kept h.pass p → (IsServing h.pass → IsServing p)
+  goes_step : (hall : Hall G) (h : Hand) (p : engine.EnginePass) → IsOf hall h → IsSame h.pass p → Knows Kept h.pass p
+      → (IsServing h.pass → IsServing p)
       → Goes hall h (record h { pass = p })
-  goes_step hall h p of same knows serves = record { of = (same.0 ∙ of.0, of.1); same = same; begins = knows.1; serves = serves }
+  goes_step hall h p of same knows serves =
+      record { of = (same.0 ∙ of.0, of.1); same = same; begins = knows.1; serves = serves }
 
   -- by a Fetch that was made
-  pub goes_fetched : (hall : Hall G) (h : Hand) (p : engine.EnginePass) (n : ℕ) (o : Opened) → IsOf hall h → IsSame h.pass p → Knows Kept h.pass p
+  pub goes_fetched : (hall : Hall G) (h : Hand) (p : engine.EnginePass) (n : ℕ) (o : Opened) → IsOf hall h
+      → IsSame h.pass p → Knows Kept h.pass p
       → engine.OpenedAs hall.engine h.pass p (opening.Fetch n) o → Goes hall h (record h { pass = p })
   goes_fetched hall h p n o of same knows x =
-      goes_step hall h p of same knows (stepped h.pass p (engine.open_step (opening.Fetch n)) x.answer same knows refl x.by)
+      goes_step hall h p of same knows
+      (stepped h.pass p (engine.open_step (opening.Fetch n)) x.answer same knows refl x.by)
 
   -- by a task that was made
-  pub goes_worked : (hall : Hall G) (h : Hand) (p : engine.EnginePass) (w v : TicketSeat State) (k : Task) (t : ℕ) (a : Answer) → IsOf hall h → IsSame h.pass p
+  pub goes_worked : (hall : Hall G) (h : Hand) (p : engine.EnginePass) (w v : TicketSeat State) (k : Task) (t : ℕ)
+      (a : Answer) → IsOf hall h → IsSame h.pass p
       → Knows Kept h.pass p → Worked Accepts h.pass p w v (task_step k t) a → Goes hall h (record h { pass = p })
   goes_worked hall h p w v k t a of same knows x =
       goes_step hall h p of same knows (stepped h.pass p (task_step k t) a same knows (task_serves k t) x.by)
 
   -- by a step that was declined
-  pub goes_declined : (hall : Hall G) (h : Hand) (p : engine.EnginePass) (step : Step) (d : Declined) → IsOf hall h → IsSame h.pass p → Knows Kept h.pass p
+  pub goes_declined : (hall : Hall G) (h : Hand) (p : engine.EnginePass) (step : Step) (d : Declined) → IsOf hall h
+      → IsSame h.pass p → Knows Kept h.pass p
       → Declines Refuses h.pass p step d → Goes hall h (record h { pass = p })
-  goes_declined hall h p step d of same knows x = goes_step hall h p of same knows (declined h.pass p step d same knows x)
+  goes_declined hall h p step d of same knows x =
+      goes_step hall h p of same knows (declined h.pass p step d same knows x)
 
   -- by a note
-  pub goes_noted : (hall : Hall G) (h : Hand) (p : engine.EnginePass) → IsOf hall h → IsSame h.pass p → seen p ≡ seen h.pass → Goes hall h (record h { pass = p })
+  pub goes_noted : (hall : Hall G) (h : Hand) (p : engine.EnginePass) → IsOf hall h → IsSame h.pass p
+      → seen p ≡ seen h.pass → Goes hall h (record h { pass = p })
   goes_noted hall h p of same stay =
       record { of = (same.0 ∙ of.0, of.1); same = same; begins = ([], sym stay); serves = noted h.pass p same stay }
 
   -- by a push or a pop
-  pub goes_push : (hall : Hall G) (h : Hand) (q : QueuePass Work) → IsOf hall h → queue.IsSame h.works q → Goes hall h (record h { works = q })
+  pub goes_push : (hall : Hall G) (h : Hand) (q : QueuePass Work) → IsOf hall h → queue.IsSame h.works q
+      → Goes hall h (record h { works = q })
   goes_push hall h q of same =
-      record { of = (of.0, (same.0 ∙ of.1.0, same.2 ∙ of.1.1)); same = (refl, refl, refl, refl); begins = ([], refl); serves = λ x. x }
+      record {
+        of = (of.0, (same.0 ∙ of.1.0, same.2 ∙ of.1.1));
+        same = (refl, refl, refl, refl);
+        begins = ([], refl);
+        serves = λ x. x;
+      }
 
 -- the Work of a Fetch may be pushed
-fetched_is : (e : Engine) (q : engine.EnginePass) (entry : Entry) (a : Answer) (w : Work) → engine.IsOpened e q entry a (opened.Fetched w)
+fetched_is : (e : Engine) (q : engine.EnginePass) (entry : Entry) (a : Answer) (w : Work)
+    → engine.IsOpened e q entry a (opened.Fetched w)
     → engine.IsWorkOf e w × (is_only_fetch w.work.ticket (engine.its w) ≡ true)
 fetched_is e q entry Answer.Published w h = absurd h
-fetched_is e q entry (Answer.Fetched x) w h = (h.1, ap (λ n. is_only_fetch n (engine.its w)) (ap (λ (y : Duty). y.ticket) h.0) ∙ h.4)
+fetched_is e q entry (Answer.Fetched x) w h =
+    (h.1, ap (λ n. is_only_fetch n (engine.its w)) (ap (λ (y : Duty). y.ticket) h.0) ∙ h.4)
 fetched_is e q entry (Answer.Blocked d) w h = absurd h
 fetched_is e q entry (Answer.Granted u r m) w h = absurd h
 fetched_is e q entry (Answer.Posted c) w h = absurd h
 fetched_is e q entry (Answer.Reaped c p) w h = absurd h
 
-pub fetched_ready : (e : Engine) (p q : engine.EnginePass) (o : Open) (w : Work) → engine.OpenedAs e p q o (opened.Fetched w)
+pub fetched_ready : (e : Engine) (p q : engine.EnginePass) (o : Open) (w : Work)
+    → engine.OpenedAs e p q o (opened.Fetched w)
     → engine.IsWorkOf e w × (is_only_fetch w.work.ticket (engine.its w) ≡ true)
 fetched_ready e p q o w h = fetched_is e q h.by.entry h.answer w h.is
 
 module _ {G : Type 0} where
   -- the passes of the queues of notices stay those of the same controller's
-  pub notices_on : (hall : Hall G) (h k : Hand) (ps : List (QueuePass Notice)) → Goes hall h k → AreNoticesOf hall (config_of h.pass).cqs ps
+  pub notices_on : (hall : Hall G) (h k : Hand) (ps : List (QueuePass Notice)) → Goes hall h k
+      → AreNoticesOf hall (config_of h.pass).cqs ps
       → AreNoticesOf hall (config_of k.pass).cqs ps
   notices_on hall h k ps a x = subst (λ (c : ConfigNumbers). AreNoticesOf hall c.cqs ps) (sym a.same.3) x

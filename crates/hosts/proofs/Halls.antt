@@ -1,5 +1,6 @@
 -- Passes of a hall that is being made.
-use Rattle.std.proofs.Common.{All, Global, List, None, Some, [], ap, arith, eqb, false, get_or, is_none, length, refl, slice_get, subst, suc, sym, Vec, zero, ℕ, ◌+◌, ◌++◌, ◌<◌, ◌∙◌, ◌≡◌, ◌≤◌, ◌∷◌}
+use Rattle.std.proofs.Common.{All, Global, List, None, Some, [], ap, arith, eqb, false, get_or, is_none, length, refl}
+use Rattle.std.proofs.Common.{slice_get, subst, suc, sym, Vec, zero, ℕ, ◌+◌, ◌++◌, ◌<◌, ◌∙◌, ◌≡◌, ◌≤◌, ◌∷◌}
 use Rattle.std.proofs.lemmas.Bool.{or_parts}
 use Rattle.std.proofs.lemmas.Bool.Decides.{nat_tests}
 use Rattle.std.proofs.lemmas.Bool.{ltb-false}
@@ -14,7 +15,8 @@ use Rattle.work_queue.specs.declared.notice.Notice.{Notice}
 use Rattle.work_queue.specs.declared.queue.MessageQueue.{MessageQueue}
 use Rattle.work_queue.specs.declared.queue.QueuePass.{QueuePass}
 use Rattle.work_queue.specs.declared.work.Work.{Work}
-use Rattle.hosts.specs.Hands.{AreFirstPlaces, AreHostsOf, AreLastHosts, AreNoticesOf, ArePlaces, IsHostOf, IsPlaceAt, IsWorkerOf}
+use Rattle.hosts.specs.Hands.{AreFirstPlaces, AreHostsOf, AreLastHosts, AreNoticesOf, ArePlaces, IsHostOf, IsPlaceAt}
+use Rattle.hosts.specs.Hands.{IsWorkerOf}
 use Rattle.hosts.specs.declared.hall.Hall.{Hall}
 use Rattle.hosts.specs.declared.hall.HostHand.{HostHand}
 use Rattle.nvme_model.proofs.Accepted.{accepted}
@@ -32,19 +34,24 @@ some_queues c e = (accepted c e).some_cqs
 -- ---- the passes of queues of notices
 
 -- a queue and its pass more
-pub places_more : (e : Engine) (qs : List (MessageQueue Notice)) (ps : List (QueuePass Notice)) (q : MessageQueue Notice) (p : QueuePass Notice) → ArePlaces e qs ps → queue.IsPlaceOf e q p → ArePlaces e (qs ++ q ∷ []) (ps ++ p ∷ [])
+pub places_more : (e : Engine) (qs : List (MessageQueue Notice)) (ps : List (QueuePass Notice))
+    (q : MessageQueue Notice) (p : QueuePass Notice) → ArePlaces e qs ps → queue.IsPlaceOf e q p
+    → ArePlaces e (qs ++ q ∷ []) (ps ++ p ∷ [])
 places_more e [] [] q p a b = (b, tt)
 places_more e [] (y ∷ ps) q p a b = absurd a
 places_more e (x ∷ qs) [] q p a b = absurd a
 places_more e (x ∷ qs) (y ∷ ps) q p a b = (a.0, places_more e qs ps q p a.1 b)
 
-pub places_count : (e : Engine) (qs : List (MessageQueue Notice)) (ps : List (QueuePass Notice)) → ArePlaces e qs ps → length ps ≡ length qs
+pub places_count : (e : Engine) (qs : List (MessageQueue Notice)) (ps : List (QueuePass Notice)) → ArePlaces e qs ps
+    → length ps ≡ length qs
 places_count e [] [] a = refl
 places_count e [] (y ∷ ps) a = absurd a
 places_count e (x ∷ qs) [] a = absurd a
 places_count e (x ∷ qs) (y ∷ ps) a = ap suc (places_count e qs ps a.1)
 
-place_at : (e : Engine) (qs : List (MessageQueue Notice)) (ps : List (QueuePass Notice)) → ArePlaces e qs ps → (k : ℕ) (p : QueuePass Notice) (q : MessageQueue Notice) → slice_get ps k ≡ Some p → slice_get qs k ≡ Some q → queue.IsPlaceOf e q p
+place_at : (e : Engine) (qs : List (MessageQueue Notice)) (ps : List (QueuePass Notice)) → ArePlaces e qs ps
+    → (k : ℕ) (p : QueuePass Notice) (q : MessageQueue Notice) → slice_get ps k ≡ Some p → slice_get qs k ≡ Some q
+    → queue.IsPlaceOf e q p
 place_at e [] [] a k p q f g = absurd (let h : None ≡ Some p = f in cc)
 place_at e [] (y ∷ ps) a k p q f g = absurd a
 place_at e (x ∷ qs) [] a k p q f g = absurd a
@@ -57,7 +64,9 @@ place_at e (x ∷ qs) (y ∷ ps) a zero p q f g =
 place_at e (x ∷ qs) (y ∷ ps) a (suc k) p q f g = place_at e qs ps a.1 k p q f g
 
 -- what holds of each, and of one more at its place, holds of all
-snoc_each : {A : Type 0} (P : ℕ → A → Type 0) (xs : List A) (d : A) → ((k : ℕ) (a : A) → slice_get xs k ≡ Some a → P k a) → P (length xs) d → (k : ℕ) (a : A) → slice_get (xs ++ d ∷ []) k ≡ Some a → P k a
+snoc_each : {A : Type 0} (P : ℕ → A → Type 0) (xs : List A) (d : A)
+    → ((k : ℕ) (a : A) → slice_get xs k ≡ Some a → P k a) → P (length xs) d → (k : ℕ) (a : A)
+    → slice_get (xs ++ d ∷ []) k ≡ Some a → P k a
 snoc_each P [] d f e zero a g =
     let h : Some d ≡ Some a = g in
     let same : d ≡ a = cc in
@@ -85,20 +94,25 @@ at_last [] a = refl
 at_last (x ∷ xs) a = at_last xs a
 
 module _ {G : Type 0} where
-  pub places_rest : (hall : Hall G) (xs ys : List (QueuePass Notice)) → AreFirstPlaces hall (xs ++ ys) → AreFirstPlaces hall xs
+  pub places_rest : (hall : Hall G) (xs ys : List (QueuePass Notice)) → AreFirstPlaces hall (xs ++ ys)
+      → AreFirstPlaces hall xs
   places_rest hall xs ys h = λ k p g. h k p (at_front xs ys k p g)
 
-  pub place_last : (hall : Hall G) (xs : List (QueuePass Notice)) (p : QueuePass Notice) → AreFirstPlaces hall (xs ++ p ∷ []) → IsPlaceAt hall (length xs) p
+  pub place_last : (hall : Hall G) (xs : List (QueuePass Notice)) (p : QueuePass Notice)
+      → AreFirstPlaces hall (xs ++ p ∷ []) → IsPlaceAt hall (length xs) p
   place_last hall xs p h = h (length xs) p (at_last xs p)
 
-  pub hosts_more : (hall : Hall G) (c : ConfigNumbers) (hs : List HostHand) (d : HostHand) → AreLastHosts hall c hs → IsHostOf hall c d → d.queue + length hs ≡ c.cqs → AreLastHosts hall c (hs ++ d ∷ [])
+  pub hosts_more : (hall : Hall G) (c : ConfigNumbers) (hs : List HostHand) (d : HostHand) → AreLastHosts hall c hs
+      → IsHostOf hall c d → d.queue + length hs ≡ c.cqs → AreLastHosts hall c (hs ++ d ∷ [])
   hosts_more hall c hs d h own e = snoc_each (λ k x. IsHostOf hall c x × (x.queue + k ≡ c.cqs)) hs d h (own, e)
 
-  pub hosts_are : (hall : Hall G) (c : ConfigNumbers) (hs : List HostHand) → AreLastHosts hall c hs → length hs ≡ c.cqs → AreHostsOf hall c hs
+  pub hosts_are : (hall : Hall G) (c : ConfigNumbers) (hs : List HostHand) → AreLastHosts hall c hs → length hs ≡ c.cqs
+      → AreHostsOf hall c hs
   hosts_are hall c hs h count =
       record { count = count; own = λ k x within. (h k (get_or hs k x) (slice_get-get_or hs k x within)).0; each = h }
 
-  notices_are : (hall : Hall G) (c : ConfigNumbers) (ps : List (QueuePass Notice)) → 1 ≤ c.cqs → length hall.notices.items ≡ c.cqs → ArePlaces hall.engine hall.notices.items ps → AreNoticesOf hall c.cqs ps
+  notices_are : (hall : Hall G) (c : ConfigNumbers) (ps : List (QueuePass Notice)) → 1 ≤ c.cqs
+      → length hall.notices.items ≡ c.cqs → ArePlaces hall.engine hall.notices.items ps → AreNoticesOf hall c.cqs ps
   notices_are hall c ps some count a =
       record {
         some = some;
@@ -107,12 +121,18 @@ module _ {G : Type 0} where
         each = λ k p f q g. place_at hall.engine hall.notices.items ps a k p q f g;
       }
 
-  pub first_places : (hall : Hall G) (ps : List (QueuePass Notice)) → ArePlaces hall.engine hall.notices.items ps → AreFirstPlaces hall ps
+  pub first_places : (hall : Hall G) (ps : List (QueuePass Notice)) → ArePlaces hall.engine hall.notices.items ps
+      → AreFirstPlaces hall ps
   first_places hall ps a = λ k p f q g. place_at hall.engine hall.notices.items ps a k p q f g
 
-  pub worker_is : (hall : Hall G) (c : ConfigNumbers) (p : engine.EnginePass) (q : QueuePass Work) (row : Vec (QueuePass Notice) Global) → engine.IsFreshPass hall.engine c p → queue.IsPlaceOf hall.engine hall.works q → 1 ≤ c.cqs → length hall.notices.items ≡ c.cqs → ArePlaces hall.engine hall.notices.items row.items → IsWorkerOf hall (record { hand = record { pass = p; works = q }; notices = row })
+  pub worker_is : (hall : Hall G) (c : ConfigNumbers) (p : engine.EnginePass) (q : QueuePass Work)
+      (row : Vec (QueuePass Notice) Global) → engine.IsFreshPass hall.engine c p
+      → queue.IsPlaceOf hall.engine hall.works q → 1 ≤ c.cqs → length hall.notices.items ≡ c.cqs
+      → ArePlaces hall.engine hall.notices.items row.items
+      → IsWorkerOf hall (record { hand = record { pass = p; works = q }; notices = row })
   worker_is hall c p q row fresh place some count are =
       record {
         hand = (fresh.of, place);
-        notices = subst (λ (n : ConfigNumbers). AreNoticesOf hall n.cqs row.items) (sym fresh.config) (notices_are hall c row.items some count are);
+        notices = subst (λ (n : ConfigNumbers). AreNoticesOf hall n.cqs row.items) (sym fresh.config)
+            (notices_are hall c row.items some count are);
       }

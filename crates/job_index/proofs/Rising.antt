@@ -1,17 +1,20 @@
 -- Numbers that rise, and tickets by rising number: what a change leaves, and where a ticket stands.
-use Rattle.std.proofs.Common.{Bool, List, None, Some, [], arith, cond, false, is_some, nat_lt, not, refl, slice_get, subst, suc, sym, true, zero, ℕ, ◌++◌, ◌<◌, ◌==◌, ◌∙◌, ◌∷◌, ◌≡◌}
+use Rattle.std.proofs.Common.{Bool, List, None, Some, [], arith, cond, false, is_some, nat_lt, not, refl, slice_get}
+use Rattle.std.proofs.Common.{subst, suc, sym, true, zero, ℕ, ◌++◌, ◌<◌, ◌==◌, ◌∙◌, ◌∷◌, ◌≡◌}
 use Rattle.std.proofs.lemmas.Bool.{and_from, and_parts}
 use Rattle.std.proofs.lemmas.Bool.Decides.{nat_tests}
 use Rattle.std.proofs.lemmas.List.{map-append}
 use Rattle.std.proofs.lemmas.List.Folds.{list_all-append, list_all-map}
 use Rattle.std.specs.List.{filter, list_all, remove}
-use Rattle.job_index.specs.Keyed.{AreRising, IsPlaceOf, IsRising, all_above, all_below, has_ticket, key_of, keyed_beside, keys_of, tickets_of}
+use Rattle.job_index.specs.Keyed.{AreRising, IsPlaceOf, IsRising, all_above, all_below, has_ticket, key_of}
+use Rattle.job_index.specs.Keyed.{keyed_beside, keys_of, tickets_of}
 use Rattle.job_index.specs.declared.tickets.Keyed.{Keyed}
 
 -- ---- numbers
 
 -- what a filter keeps passes too
-pub list_all-filter : {X : Type 0} (p q : X → Bool) (xs : List X) → list_all p xs ≡ true → list_all p (filter q xs) ≡ true
+pub list_all-filter : {X : Type 0} (p q : X → Bool) (xs : List X) → list_all p xs ≡ true
+    → list_all p (filter q xs) ≡ true
 list_all-filter p q [] k = refl
 list_all-filter p q (x ∷ xs) k = grind (arith, list_all-filter p q xs)
 
@@ -21,13 +24,15 @@ pub AreRising-push : (ts : List ℕ) (t : ℕ) → AreRising ts → list_all (λ
 AreRising-push [] t r k = (refl, tt)
 AreRising-push (u ∷ us) t r k =
     let p = and_parts (nat_lt u t) (list_all (λ v. nat_lt v t) us) k in
-    let above = list_all-append (λ v. nat_lt u v) us (t ∷ []) ∙ and_from _ _ r.0 (and_from (nat_lt u t) true p.0 refl) in
+    let above = list_all-append (λ v. nat_lt u v) us (t ∷ [])
+    ∙ and_from _ _ r.0 (and_from (nat_lt u t) true p.0 refl) in
     (above, AreRising-push us t r.1 p.1)
 
 -- some of them rise too
 pub AreRising-filter : (p : ℕ → Bool) (ts : List ℕ) → AreRising ts → AreRising (filter p ts)
 AreRising-filter p [] r = tt
-AreRising-filter p (t ∷ ts) r = kept (p t) t (filter p ts) (list_all-filter (λ u. nat_lt t u) p ts r.0) (AreRising-filter p ts r.1)
+AreRising-filter p (t ∷ ts) r =
+    kept (p t) t (filter p ts) (list_all-filter (λ u. nat_lt t u) p ts r.0) (AreRising-filter p ts r.1)
   where
     kept : (b : Bool) (t : ℕ) (ts : List ℕ) → all_above t ts ≡ true → AreRising ts → AreRising (cond b (t ∷ ts) ts)
     kept true t ts k r = (k, r)
@@ -40,10 +45,12 @@ above_each t (v ∷ vs) zero u k h = let q : Some v ≡ Some u = h in let e : v 
 above_each t (v ∷ vs) (suc i) u k h = above_each t vs i u (and_parts (nat_lt t v) (all_above t vs) k).1 h
 
 -- a later one is higher
-pub rises : (ts : List ℕ) (i j t u : ℕ) → AreRising ts → i < j → slice_get ts i ≡ Some t → slice_get ts j ≡ Some u → t < u
+pub rises : (ts : List ℕ) (i j t u : ℕ) → AreRising ts → i < j → slice_get ts i ≡ Some t → slice_get ts j ≡ Some u
+    → t < u
 rises [] i j t u r l h k = absurd (let q : None ≡ Some t = h in cc)
 rises (v ∷ vs) i zero t u r l h k = absurd (omega (arith, l))
-rises (v ∷ vs) zero (suc j) t u r l h k = let q : Some v ≡ Some t = h in let e : v ≡ t = cc in above_each t vs j u (rw e at r.0) k
+rises (v ∷ vs) zero (suc j) t u r l h k = let q : Some v ≡ Some t = h in let e : v ≡ t = cc in
+    above_each t vs j u (rw e at r.0) k
 rises (v ∷ vs) (suc i) (suc j) t u r l h k = rises vs i j t u r.1 (omega (arith, l)) h k
 
 -- ---- tickets with their keys
@@ -81,7 +88,8 @@ tickets-beside (x ∷ xs) t = grind (arith, nat_tests, tickets-beside xs t)
 
 -- they rise without one
 pub IsRising-beside : (ks : List Keyed) (t : ℕ) → IsRising ks → IsRising (keyed_beside ks t)
-IsRising-beside ks t r = subst AreRising (sym (tickets-beside ks t)) (AreRising-filter (λ u. not (u == t)) (tickets_of ks) r)
+IsRising-beside ks t r =
+    subst AreRising (sym (tickets-beside ks t)) (AreRising-filter (λ u. not (u == t)) (tickets_of ks) r)
 
 -- ---- a place
 

@@ -1,5 +1,6 @@
 -- A search by halves over tickets that rise: what each probe leaves, and how many probes there are.
-use Rattle.std.proofs.Common.{List, None, Some, [], arith, false, inl, inr, length, refl, slice_get, suc, zero, ℕ, ◌*◌, ◌+◌, ◌-◌, ◌/◌, ◌<◌, ◌^◌, ◌≤◌, ◌∙◌, ◌∷◌, ◌≡◌, ap, sym}
+use Rattle.std.proofs.Common.{List, None, Some, [], arith, false, inl, inr, length, refl, slice_get, suc, zero, ℕ, ◌*◌}
+use Rattle.std.proofs.Common.{◌+◌, ◌-◌, ◌/◌, ◌<◌, ◌^◌, ◌≤◌, ◌∙◌, ◌∷◌, ◌≡◌, ap, sym}
 use Rattle.std.proofs.Math.Nat.{mul-le-mul_left, mul_assoc, pow-suc}
 use Rattle.std.proofs.lemmas.Bool.{cases_lt, ne_eqb}
 use Rattle.std.proofs.lemmas.Bool.Decides.{nat_tests}
@@ -47,7 +48,8 @@ power old now l =
 half : (ks : List Keyed) (t from to old now m : ℕ) → Searches ks t from to old now → 2 * m ≤ to - from
     → 2 ^ (now + 1 - old) * m ≤ length ks
 half ks t from to old now m s l =
-    let a : 2 ^ (now + 1 - old) * m ≡ 2 ^ (now - old) * (2 * m) = ap (λ k. k * m) (power old now s.counted) ∙ mul_assoc (2 ^ (now - old)) 2 m in
+    let a : 2 ^ (now + 1 - old) * m ≡ 2 ^ (now - old) * (2 * m) = ap (λ k. k * m) (power old now s.counted)
+    ∙ mul_assoc (2 ^ (now - old)) 2 m in
     omega (arith, a, mul-le-mul_left (2 ^ (now - old)) l, s.halved)
 
 -- and one more probe is within the bound
@@ -68,7 +70,9 @@ upper ks t from to old now u r s l h low =
       within = s.within;
       below = λ i v k e. elim (cases_lt i middle) [
         | inl before ↦ omega (arith, low, rises (tickets_of ks) i middle v u r before e h)
-        | inr from_there ↦ let same : i ≡ middle = omega (arith, k, from_there) in let q : Some v ≡ Some u = sym e ∙ ap (slice_get (tickets_of ks)) same ∙ h in let f : v ≡ u = cc in omega (arith, f, low)
+        | inr from_there ↦ let same : i ≡ middle = omega (arith, k, from_there) in
+            let q : Some v ≡ Some u = sym e ∙ ap (slice_get (tickets_of ks)) same ∙ h in let f : v ≡ u = cc in
+            omega (arith, f, low)
       ];
       above = s.above;
       counted = omega (arith, s.counted);
@@ -88,7 +92,9 @@ lower ks t from to old now u r s l h high =
       below = s.below;
       above = λ i v k e. elim (cases_lt middle i) [
         | inl behind ↦ omega (arith, high, rises (tickets_of ks) middle i u v r behind h e)
-        | inr up_to ↦ let same : i ≡ middle = omega (arith, k, up_to) in let q : Some v ≡ Some u = sym e ∙ ap (slice_get (tickets_of ks)) same ∙ h in let f : v ≡ u = cc in omega (arith, f, high)
+        | inr up_to ↦ let same : i ≡ middle = omega (arith, k, up_to) in
+            let q : Some v ≡ Some u = sym e ∙ ap (slice_get (tickets_of ks)) same ∙ h in let f : v ≡ u = cc in
+            omega (arith, f, high)
       ];
       counted = omega (arith, s.counted);
       halved = half ks t from to old now (middle - from) s (omega (arith, l));
@@ -110,7 +116,8 @@ none_left (k ∷ ks) t none =
     let later = none_left ks t (λ i p. omega (arith, none (suc i) p)) in
     grind (arith, nat_tests)
 
-pub ended : (ks : List Keyed) (t from to old now : ℕ) → Searches ks t from to old now → to ≤ from → has_ticket ks t ≡ false
+pub ended : (ks : List Keyed) (t from to old now : ℕ) → Searches ks t from to old now → to ≤ from
+    → has_ticket ks t ≡ false
 ended ks t from to old now s l = none_left ks t (λ i p. elim (cases_lt i from) [
   | inl k ↦ absurd (omega (arith, s.below i t k p))
   | inr k ↦ absurd (omega (arith, s.above i t (omega (arith, k, l)) p))

@@ -1,5 +1,6 @@
 -- A ticket after a Block of its open unit.
-use Rattle.std.proofs.Common.{◌≡◌, ◌∙◌, ◌++◌, ◌+◌, Bool, Box, List, Some, ap, arith, cond, drop, false, length, refl, slice_set, subst, sym, take, true, ℕ}
+use Rattle.std.proofs.Common.{◌≡◌, ◌∙◌, ◌++◌, ◌+◌, Bool, Box, List, Some, ap, arith, cond, drop, false, length, refl}
+use Rattle.std.proofs.Common.{slice_set, subst, sym, take, true, ℕ}
 use Rattle.std.proofs.lemmas.List.{drop-drop, drop-set-lt, length-set}
 use Rattle.std.proofs.Math.Seq.{take-append_seam}
 use Rattle.nvme_model.specs.declared.operation.Found.{Found}
@@ -15,22 +16,28 @@ use Rattle.ticket_course.specs.declared.course.Stage.TheVariants.{Open, Owing, W
 use Rattle.job_table.specs.Keeping.{Keeping, noted_job, read_of, written_on}
 
 -- a list that came back with as many elements
-pub same_size : {X : Type 0} (xs ys : List X) → length ys ≡ length xs → take (length xs) (ys ++ drop (length ys) xs) ≡ ys
+pub same_size : {X : Type 0} (xs ys : List X) → length ys ≡ length xs
+    → take (length xs) (ys ++ drop (length ys) xs) ≡ ys
 same_size xs ys e = ap (λ n. take n (ys ++ drop (length ys) xs)) (sym e) ∙ take-append_seam ys (drop (length ys) xs)
 
 -- there are as many boxes after a Block
-pub box_count : {Z : Type 0} (old new : List (Box (List ℕ) Z)) (p : Progress) (v : List (List ℕ)) (i : ℕ) (f : Found) → contents_of new ≡ boxes_after p v (contents_of old) i f → length new ≡ length old
-box_count old new p v i f e = sym (length-contents_of new) ∙ ap length e ∙ go (takes_box p.op f) ∙ length-contents_of old
+pub box_count : {Z : Type 0} (old new : List (Box (List ℕ) Z)) (p : Progress) (v : List (List ℕ)) (i : ℕ) (f : Found)
+    → contents_of new ≡ boxes_after p v (contents_of old) i f → length new ≡ length old
+box_count old new p v i f e = sym (length-contents_of new) ∙ ap length e ∙ go (takes_box p.op f)
+    ∙ length-contents_of old
   where
-    go : (b : Bool) → length (cond b (slice_set (contents_of old) i (block_at v (next_block p))) (contents_of old)) ≡ length (contents_of old)
+    go : (b : Bool) → length (cond b (slice_set (contents_of old) i (block_at v (next_block p))) (contents_of old))
+        ≡ length (contents_of old)
     go true = length-set (contents_of old) i (block_at v (next_block p))
     go false = refl
 
 -- what is still to be written, after it, where w of these blocks were written
-pub blocks_on : (xs ys : List (List ℕ)) (p : Progress) (v : List (List ℕ)) (w n : ℕ) (f : Found) → ys ≡ boxes_after p v xs w f → n ≡ cond (takes_box p.op f) (w + 1) w → drop n ys ≡ written_on p.op f (drop w xs)
+pub blocks_on : (xs ys : List (List ℕ)) (p : Progress) (v : List (List ℕ)) (w n : ℕ) (f : Found)
+    → ys ≡ boxes_after p v xs w f → n ≡ cond (takes_box p.op f) (w + 1) w → drop n ys ≡ written_on p.op f (drop w xs)
 blocks_on xs ys p v w n f e count = (λ z. drop (count z) (e z)) ∙ go (takes_box p.op f)
   where
-    go : (b : Bool) → drop (cond b (w + 1) w) (cond b (slice_set xs w (block_at v (next_block p))) xs) ≡ cond b (drop 1 (drop w xs)) (drop w xs)
+    go : (b : Bool) → drop (cond b (w + 1) w) (cond b (slice_set xs w (block_at v (next_block p))) xs)
+        ≡ cond b (drop 1 (drop w xs)) (drop w xs)
     go true = drop-set-lt (w + 1) xs w (block_at v (next_block p)) (omega arith) ∙ sym (drop-drop 1 w xs)
     go false = refl
 
@@ -50,11 +57,17 @@ counted (Waiting o u left) d f up e = absurd cc
 counted (Owing owed) d f up e = absurd cc
 
 -- the ticket after it, where these calls made it of this one
-pub made : (j x : Keeping) (p : Progress) (v : List (List ℕ)) (f : Found) (d : Done) (course : Ticking) (write : List (List ℕ)) (read : List ℕ) → j ≡ x → is_open x.course.stage ≡ true → IfOpen j.course.stage (λ r. Some p ≡ Some r)
-    → IfOpen j.course.stage (λ r. d ≡ done_by r f) → course ≡ record j.course { stage = noted_in j.course.stage f } → write ≡ written_on p.op f j.write → read ≡ read_of j.read j.slba p v f
+pub made : (j x : Keeping) (p : Progress) (v : List (List ℕ)) (f : Found) (d : Done) (course : Ticking)
+    (write : List (List ℕ)) (read : List ℕ) → j ≡ x → is_open x.course.stage ≡ true
+    → IfOpen j.course.stage (λ r. Some p ≡ Some r)
+    → IfOpen j.course.stage (λ r. d ≡ done_by r f) → course ≡ record j.course { stage = noted_in j.course.stage f }
+    → write ≡ written_on p.op f j.write → read ≡ read_of j.read j.slba p v f
     → IfOpen x.course.stage (λ r. record j { course = course; write = write; read = read } ≡ noted_job x r v d.found)
 made j x p v f d course write read same up is says noted writes reads =
     let open_then = ap (λ (y : Keeping). is_open y.course.stage) same ∙ up in
-    subst (λ (y : Keeping). IfOpen y.course.stage (λ r. record j { course = course; write = write; read = read } ≡ noted_job y r v d.found)) same
-    (at_open j.course.stage p (λ r. record j { course = course; write = write; read = read } ≡ noted_job j r v d.found) is
-    ((λ z. record j { course = noted z; write = writes z; read = reads z }) ∙ ap (noted_job j p v) (sym (counted j.course.stage d f open_then says))))
+    subst (λ (y : Keeping). IfOpen y.course.stage
+    (λ r. record j { course = course; write = write; read = read } ≡ noted_job y r v d.found)) same
+    (at_open j.course.stage p (λ r. record j { course = course; write = write; read = read } ≡ noted_job j r v d.found)
+    is
+    ((λ z. record j { course = noted z; write = writes z; read = reads z })
+    ∙ ap (noted_job j p v) (sym (counted j.course.stage d f open_then says))))

@@ -7,7 +7,7 @@ use Rattle.nvme_model.specs.Tickets.{Ticket, cids, command, first_fields}
 use Rattle.nvme_model.specs.declared.config.ConfigNumbers.{ConfigNumbers}
 use Rattle.nvme_model.specs.declared.operation.Op.{Op}
 use Rattle.nvme_model.specs.declared.submission.Submission.{Submission}
-use Rattle.ticket_standing.specs.Standing.{OpenUnit, Standing, flying, had, standing}
+use Rattle.ticket_laws.specs.Standing.{OpenUnit, Standing, flying, had, standing}
 use Rattle.block_exec.specs.Bytes.{blocks_in}
 use Rattle.ticket_course.specs.Shown.{stage_of}
 use Rattle.job_table.specs.Jobs.{JobTable, jobs_by}

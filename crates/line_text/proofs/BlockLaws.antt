@@ -1,5 +1,7 @@
 -- Blocks: what is read is spelled so, and what is spelled so is read.
-use Rattle.std.proofs.Common.{◌≡◌, ℕ, zero, suc, ◌+◌, ◌*◌, ◌<◌, ◌≤◌, Bool, true, false, cond, List, [], ◌∷◌, ◌++◌, map, length, take, drop, get_or, None, Some, ◌⊎◌, inl, inr, refl, sym, ap, ◌∙◌, arith, length-append, length-take, length-drop, take-append-drop}
+use Rattle.std.proofs.Common.{◌≡◌, ℕ, zero, suc, ◌+◌, ◌*◌, ◌<◌, ◌≤◌, Bool, true, false, cond, List, [], ◌∷◌, ◌++◌, map}
+use Rattle.std.proofs.Common.{length, take, drop, get_or, None, Some, ◌⊎◌, inl, inr, refl, sym, ap, ◌∙◌, arith}
+use Rattle.std.proofs.Common.{length-append, length-take, length-drop, take-append-drop}
 use Rattle.std.specs.Prelude.{Option, replicate, ◌&&◌}
 use Rattle.std.specs.List.{list_all}
 use Rattle.std.specs.Str.{bytes_eq}
@@ -63,9 +65,11 @@ pub as_before : (x : ℕ) (xs : List ℕ) → bytes_eq xs (take (length xs) (x �
 as_before x [] = refl
 as_before x (y ∷ ys) = first (eqb y x) refl (as_before y ys)
   where
-    first : (b : Bool) → eqb y x ≡ b → bytes_eq ys (take (length ys) (y ∷ ys)) ≡ list_all (λ z. eqb z y) ys → (eqb y x && bytes_eq ys (take (length ys) (y ∷ ys))) ≡ (eqb y x && list_all (λ z. eqb z x) ys)
+    first : (b : Bool) → eqb y x ≡ b → bytes_eq ys (take (length ys) (y ∷ ys)) ≡ list_all (λ z. eqb z y) ys
+        → (eqb y x && bytes_eq ys (take (length ys) (y ∷ ys))) ≡ (eqb y x && list_all (λ z. eqb z x) ys)
     first true e f = ap (λ b. eqb y x && b) (f ∙ ap (λ w. list_all (λ z. eqb z w) ys) (eqb-true y x e))
-    first false e f = ap (λ b. b && bytes_eq ys (take (length ys) (y ∷ ys))) e ∙ sym (ap (λ b. b && list_all (λ z. eqb z x) ys) e)
+    first false e f = ap (λ b. b && bytes_eq ys (take (length ys) (y ∷ ys))) e
+        ∙ sym (ap (λ b. b && list_all (λ z. eqb z x) ys) e)
 
 -- ---- one block
 
@@ -86,20 +90,26 @@ picked false true false x y b e = inr (refl, refl, refl, cc)
 picked false false s x y b e = absurd cc
 
 -- a block that is read has k bytes, and its part is its text
-block_by : (k : ℕ) (text : List ℕ) (o : Option (List ℕ)) (b : List ℕ) → 2 ≤ k → bytes_in text ≡ o → block_of k o ≡ Some b → (length b ≡ k) × (text ≡ block_text b)
+block_by : (k : ℕ) (text : List ℕ) (o : Option (List ℕ)) (b : List ℕ) → 2 ≤ k → bytes_in text ≡ o
+    → block_of k o ≡ Some b → (length b ≡ k) × (text ≡ block_text b)
 unfolding block_of
 block_by k text None b two h e = absurd cc
 block_by k text (Some bytes) b two h e =
-    elim (picked (eqb (length bytes) 1) (eqb (length bytes) k) (all_same bytes) (replicate k (get_or bytes 0 0)) bytes b e) as (λ _. (length b ≡ k) × (text ≡ block_text b)) [
+    elim (picked (eqb (length bytes) 1) (eqb (length bytes) k) (all_same bytes) (replicate k (get_or bytes 0 0)) bytes b
+    e) as (λ _. (length b ≡ k) × (text ≡ block_text b)) [
       | inl p ↦
           let x : ℕ = get_or bytes 0 0 in
           let one : bytes ≡ x ∷ [] = singleton bytes (eqb-true _ _ p.0) in
           let long : length b ≡ k = ap length (sym p.1) ∙ length-replicate k x in
-          let same : block_text b ≡ encode_upper (x ∷ []) = ap block_text (sym p.1) ∙ text_same (replicate k x) (same_replicate k x) ∙ ap encode_upper (take_one k x (omega arith)) in
+          let same : block_text b ≡ encode_upper (x ∷ []) = ap block_text (sym p.1)
+          ∙ text_same (replicate k x) (same_replicate k x) ∙ ap encode_upper (take_one k x (omega arith)) in
           (long, bytes_is text bytes h ∙ ap encode_upper one ∙ sym same)
       | inr p ↦
-          let same : all_same b ≡ false = ap all_same (sym p.3) ∙ p.2 in
-          (ap length (sym p.3) ∙ eqb-true _ _ p.1, bytes_is text bytes h ∙ ap encode_upper p.3 ∙ sym (text_other b same))
+          let same : all_same b ≡ false = ap all_same (sym p.3) ∙ p.2 in (
+            ap length (sym p.3) ∙ eqb-true _ _ p.1,
+            bytes_is text bytes h ∙ ap encode_upper p.3
+                ∙ sym (text_other b same),
+          )
     ]
   where
     singleton : (xs : List ℕ) → length xs ≡ 1 → xs ≡ get_or xs 0 0 ∷ []
@@ -121,18 +131,23 @@ block_many k b two long other = rw (not_one, ap (λ n. eqb n k) long ∙ eqb_sam
     not_one = grind (arith)
 
 -- a block's text is read as that block
-block_again : (k : ℕ) (text b : List ℕ) (s : Bool) → 2 ≤ k → IsBytes b → length b ≡ k → all_same b ≡ s → text ≡ block_text b → block_of k (bytes_in text) ≡ Some b
+block_again : (k : ℕ) (text b : List ℕ) (s : Bool) → 2 ≤ k → IsBytes b → length b ≡ k → all_same b ≡ s
+    → text ≡ block_text b → block_of k (bytes_in text) ≡ Some b
 block_again k text [] s two fits long same e = absurd (omega arith)
 block_again k text (x ∷ xs) true two fits long same e =
-    let read : bytes_in text ≡ Some (x ∷ []) = bytes_again text (x ∷ []) (bytes_take 1 (x ∷ xs) fits) (e ∙ text_same (x ∷ xs) same) in
-    ap (block_of k) read ∙ block_one k x ∙ ap Some (ap (λ n. replicate n x) (sym long) ∙ ap (λ l. x ∷ l) (replicate_of x xs same))
+    let read : bytes_in text ≡ Some (x ∷ []) =
+    bytes_again text (x ∷ []) (bytes_take 1 (x ∷ xs) fits) (e ∙ text_same (x ∷ xs) same) in
+    ap (block_of k) read ∙ block_one k x
+    ∙ ap Some (ap (λ n. replicate n x) (sym long) ∙ ap (λ l. x ∷ l) (replicate_of x xs same))
 block_again k text (x ∷ xs) false two fits long same e =
-    ap (block_of k) (bytes_again text (x ∷ xs) fits (e ∙ text_other (x ∷ xs) same)) ∙ block_many k (x ∷ xs) two long same
+    ap (block_of k) (bytes_again text (x ∷ xs) fits (e ∙ text_other (x ∷ xs) same))
+    ∙ block_many k (x ∷ xs) two long same
 
 -- ---- several blocks
 
 -- a block and bytes that were put together were both read
-parts_then : (a b : Option (List ℕ)) (bytes : List ℕ) → then_block a b ≡ Some bytes → (x : List ℕ) × (y : List ℕ) × (a ≡ Some x) × (b ≡ Some y) × (bytes ≡ x ++ y)
+parts_then : (a b : Option (List ℕ)) (bytes : List ℕ) → then_block a b ≡ Some bytes
+    → (x : List ℕ) × (y : List ℕ) × (a ≡ Some x) × (b ≡ Some y) × (bytes ≡ x ++ y)
 parts_then None b bytes e = absurd cc
 parts_then (Some x) None bytes e = absurd cc
 parts_then (Some x) (Some y) bytes e = (x, y, refl, refl, cc)
@@ -152,8 +167,10 @@ blocks_are k (text ∷ texts) bytes two e =
     let p = parts_then (block_of k (bytes_in text)) (blocks_in k texts) bytes e in
     let first = block_by k text (bytes_in text) p.0 two refl p.2 in
     let others = blocks_are k texts p.1 two p.3 in
-    let front : take k bytes ≡ p.0 = ap (take k) p.4 ∙ ap (λ n. take n (p.0 ++ p.1)) (sym first.0) ∙ take-append_seam p.0 p.1 in
-    let back : drop k bytes ≡ p.1 = ap (drop k) p.4 ∙ ap (λ n. drop n (p.0 ++ p.1)) (sym first.0) ∙ drop-append_seam p.0 p.1 in
+    let front : take k bytes ≡ p.0 = ap (take k) p.4 ∙ ap (λ n. take n (p.0 ++ p.1)) (sym first.0)
+    ∙ take-append_seam p.0 p.1 in
+    let back : drop k bytes ≡ p.1 = ap (drop k) p.4 ∙ ap (λ n. drop n (p.0 ++ p.1)) (sym first.0)
+    ∙ drop-append_seam p.0 p.1 in
     let long : length bytes ≡ length p.0 + length p.1 = ap length p.4 ∙ length-append p.0 p.1 in (
       sum_up k (length texts) (length bytes) (length p.0) (length p.1) long first.0 others.0,
       ap (λ l. block_text l ∷ map block_text (blocks k (length texts) (drop k bytes))) front
@@ -166,7 +183,8 @@ blocks_are k (text ∷ texts) bytes two e =
     sum_up k n a b c h i j = grind (arith)
 
 -- the texts of n blocks are read as those blocks
-pub blocks_again : (k n : ℕ) (bytes : List ℕ) → 2 ≤ k → IsBytes bytes → length bytes ≡ n * k → blocks_in k (map block_text (blocks k n bytes)) ≡ Some bytes
+pub blocks_again : (k n : ℕ) (bytes : List ℕ) → 2 ≤ k → IsBytes bytes → length bytes ≡ n * k
+    → blocks_in k (map block_text (blocks k n bytes)) ≡ Some bytes
 unfolding blocks_in blocks
 blocks_again k zero bytes two fits long = ap Some (sym (nil_from_length bytes (long ∙ zero_times k)))
   where
@@ -176,9 +194,11 @@ blocks_again k (suc n) bytes two fits long =
     let enough : k ≤ length bytes = omega (arith, long, more n k) in
     let front : length (take k bytes) ≡ k = omega (arith, length-take k bytes) in
     let back : length (drop k bytes) ≡ n * k = omega (arith, length-drop k bytes, more n k) in
-    let first = block_again k (block_text (take k bytes)) (take k bytes) (all_same (take k bytes)) two (bytes_take k bytes fits) front refl refl in
+    let first = block_again k (block_text (take k bytes)) (take k bytes) (all_same (take k bytes)) two
+    (bytes_take k bytes fits) front refl refl in
     let others = blocks_again k n (drop k bytes) two (bytes_drop k bytes fits) back in
-    ap (λ o. then_block o (blocks_in k (map block_text (blocks k n (drop k bytes))))) first ∙ ap (then_block (Some (take k bytes))) others ∙ ap Some (take-append-drop k bytes)
+    ap (λ o. then_block o (blocks_in k (map block_text (blocks k n (drop k bytes))))) first
+    ∙ ap (then_block (Some (take k bytes))) others ∙ ap Some (take-append-drop k bytes)
   where
     more : (n k : ℕ) → suc n * k ≡ k + n * k
     more n k = grind (arith)

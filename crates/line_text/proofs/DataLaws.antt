@@ -1,5 +1,7 @@
 -- The two laws of data: what is read is spelled so, and what is spelled so is read.
-use Rattle.std.proofs.Common.{◌≡◌, ℕ, zero, suc, ◌+◌, ◌*◌, ◌/◌, ◌%◌, ◌<◌, ◌≤◌, Bool, true, false, cond, List, [], ◌∷◌, ◌++◌, map, length, take, drop, get_or, None, Some, refl, sym, ap, ◌∙◌, subst, arith, length-take, take-append-drop}
+use Rattle.std.proofs.Common.{◌≡◌, ℕ, zero, suc, ◌+◌, ◌*◌, ◌/◌, ◌%◌, ◌<◌, ◌≤◌, Bool, true, false, cond, List, [], ◌∷◌}
+use Rattle.std.proofs.Common.{◌++◌, map, length, take, drop, get_or, None, Some, refl, sym, ap, ◌∙◌, subst, arith}
+use Rattle.std.proofs.Common.{length-take, take-append-drop}
 use Rattle.std.specs.Prelude.{Option}
 use Rattle.std.specs.List.{slice_split, join_with_byte, AllByRecursion}
 use Rattle.std.specs.Str.{bytes_eq}
@@ -26,7 +28,8 @@ unfolding data_text
 text_none k bytes none = rw none refl
 
 -- the text of whole blocks
-pub text_whole : (k : ℕ) (bytes : List ℕ) → 0 < length bytes → length bytes % k ≡ 0 → data_text k bytes ≡ join_with_byte 46 (map block_text (blocks k (length bytes / k) bytes))
+pub text_whole : (k : ℕ) (bytes : List ℕ) → 0 < length bytes → length bytes % k ≡ 0
+    → data_text k bytes ≡ join_with_byte 46 (map block_text (blocks k (length bytes / k) bytes))
 unfolding data_text
 text_whole k bytes some whole = rw (not_zero (length bytes) some, whole) refl
   where
@@ -34,7 +37,8 @@ text_whole k bytes some whole = rw (not_zero (length bytes) some, whole) refl
     not_zero n h = grind (arith)
 
 -- the text of any other bytes
-pub text_odd : (k : ℕ) (bytes : List ℕ) → 0 < length bytes → eqb (length bytes % k) 0 ≡ false → data_text k bytes ≡ 120 ∷ encode_upper bytes
+pub text_odd : (k : ℕ) (bytes : List ℕ) → 0 < length bytes → eqb (length bytes % k) 0 ≡ false
+    → data_text k bytes ≡ 120 ∷ encode_upper bytes
 unfolding data_text
 text_odd k bytes some odd = rw (not_zero (length bytes) some, odd) refl
   where
@@ -50,11 +54,13 @@ odd_some k [] odd = absurd (eqb-false (0 % k) 0 odd (nothing k))
 odd_some k (x ∷ xs) odd = omega arith
 
 -- what is read behind an `x` is spelled so, and is no whole blocks
-odd_is : (k : ℕ) (text : List ℕ) (o : Option (List ℕ)) (bytes : List ℕ) → bytes_in text ≡ o → unless_whole k o ≡ Some bytes → (text ≡ encode_upper bytes) × (eqb (length bytes % k) 0 ≡ false)
+odd_is : (k : ℕ) (text : List ℕ) (o : Option (List ℕ)) (bytes : List ℕ) → bytes_in text ≡ o
+    → unless_whole k o ≡ Some bytes → (text ≡ encode_upper bytes) × (eqb (length bytes % k) 0 ≡ false)
 odd_is k text None bytes h e = absurd cc
 odd_is k text (Some xs) bytes h e = chosen (eqb (length xs % k) 0) refl e
   where
-    chosen : (b : Bool) → eqb (length xs % k) 0 ≡ b → cond b None (Some xs) ≡ Some bytes → (text ≡ encode_upper bytes) × (eqb (length bytes % k) 0 ≡ false)
+    chosen : (b : Bool) → eqb (length xs % k) 0 ≡ b → cond b None (Some xs) ≡ Some bytes
+        → (text ≡ encode_upper bytes) × (eqb (length bytes % k) 0 ≡ false)
     chosen true p q = absurd cc
     chosen false p q =
         let same : xs ≡ bytes = cc in
@@ -69,8 +75,10 @@ times_some (suc n) k a one two e = omega (arith, e, more n k)
     more n k = grind (arith)
 
 -- what is read is spelled so, by the first byte of its text
-data_by : (k : ℕ) (text bytes : List ℕ) (p q : Bool) → 2 ≤ k → bytes_eq text (45 ∷ []) ≡ p → bytes_eq (take 1 text) (120 ∷ []) ≡ q
-    → cond p (Some []) (cond q (unless_whole k (bytes_in (drop 1 text))) (blocks_in k (slice_split (λ b. eqb b 46) text))) ≡ Some bytes
+data_by : (k : ℕ) (text bytes : List ℕ) (p q : Bool) → 2 ≤ k → bytes_eq text (45 ∷ []) ≡ p
+    → bytes_eq (take 1 text) (120 ∷ []) ≡ q
+    → cond p (Some []) (cond q (unless_whole k (bytes_in (drop 1 text)))
+    (blocks_in k (slice_split (λ b. eqb b 46) text))) ≡ Some bytes
     → text ≡ data_text k bytes
 data_by k text bytes true q two h i e =
     let none : [] ≡ bytes = cc in
@@ -78,7 +86,8 @@ data_by k text bytes true q two h i e =
 data_by k text bytes false true two h i e =
     let x = odd_is k (drop 1 text) (bytes_in (drop 1 text)) bytes refl e in
     let front : take 1 text ≡ 120 ∷ [] = bytes_eq_true (take 1 text) (120 ∷ []) i in
-    sym (take-append-drop 1 text) ∙ ap (λ l. l ++ drop 1 text) front ∙ ap (λ l. 120 ∷ l) x.0 ∙ sym (text_odd k bytes (odd_some k bytes x.1) x.1)
+    sym (take-append-drop 1 text) ∙ ap (λ l. l ++ drop 1 text) front ∙ ap (λ l. 120 ∷ l) x.0
+    ∙ sym (text_odd k bytes (odd_some k bytes x.1) x.1)
 data_by k text bytes false false two h i e =
     let parts : List (List ℕ) = slice_split (λ b. eqb b 46) text in
     let x = blocks_are k parts bytes two e in
@@ -90,12 +99,18 @@ data_by k text bytes false false two h i e =
     ∙ sym (text_whole k bytes sizes.0 sizes.1)
   where
     counted : (k n a : ℕ) → 2 ≤ k → 1 ≤ n → a ≡ n * k → (0 < a) × (a % k ≡ 0) × (a / k ≡ n)
-    counted k n a two one e = (times_some n k a one two e, ap (λ x. x % k) e ∙ mul-mod_left n k, ap (λ x. x / k) e ∙ mul-div_cancel n (omega arith))
+    counted k n a two one e = (
+      times_some n k a one two e,
+      ap (λ x. x % k) e ∙ mul-mod_left n k,
+      ap (λ x. x / k) e
+          ∙ mul-div_cancel n (omega arith),
+    )
 
 -- what is read is spelled so
 pub data_is : (k : ℕ) (text bytes : List ℕ) → 2 ≤ k → data_in k text ≡ Some bytes → text ≡ data_text k bytes
 unfolding data_in
-data_is k text bytes two e = data_by k text bytes (bytes_eq text (45 ∷ [])) (bytes_eq (take 1 text) (120 ∷ [])) two refl refl e
+data_is k text bytes two e =
+    data_by k text bytes (bytes_eq text (45 ∷ [])) (bytes_eq (take 1 text) (120 ∷ [])) two refl refl e
 
 -- the three kinds of text are told apart by how they begin
 in_none : (k : ℕ) → data_in k (45 ∷ []) ≡ Some []
@@ -108,17 +123,20 @@ unfolding data_in
 in_odd k digits = refl
 
 -- a digit begins blocks
-in_blocks : (k d : ℕ) (rest : List ℕ) → plain d ≡ true → data_in k (d ∷ rest) ≡ blocks_in k (slice_split (λ b. eqb b 46) (d ∷ rest))
+in_blocks : (k d : ℕ) (rest : List ℕ) → plain d ≡ true
+    → data_in k (d ∷ rest) ≡ blocks_in k (slice_split (λ b. eqb b 46) (d ∷ rest))
 unfolding data_in
 in_blocks k d rest h = rw (plain_isnt 45 d refl h, plain_isnt 120 d refl h) refl
 
 -- a block's text begins with a digit
-begins : (block : List ℕ) → 0 < length block → (d : ℕ) × (rest : List ℕ) × (plain d ≡ true) × (block_text block ≡ d ∷ rest)
+begins : (block : List ℕ) → 0 < length block
+    → (d : ℕ) × (rest : List ℕ) × (plain d ≡ true) × (block_text block ≡ d ∷ rest)
 unfolding encode_with
 begins [] h = absurd (omega arith)
 begins (x ∷ xs) h = by_same (all_same (x ∷ xs)) refl
   where
-    by_same : (s : Bool) → all_same (x ∷ xs) ≡ s → (d : ℕ) × (rest : List ℕ) × (plain d ≡ true) × (block_text (x ∷ xs) ≡ d ∷ rest)
+    by_same : (s : Bool) → all_same (x ∷ xs) ≡ s
+        → (d : ℕ) × (rest : List ℕ) × (plain d ≡ true) × (block_text (x ∷ xs) ≡ d ∷ rest)
     by_same true e = (get_or upper_digits (x / 16) 0, _, digit_plain (x / 16), text_same (x ∷ xs) e)
     by_same false e = (get_or upper_digits (x / 16) 0, _, digit_plain (x / 16), text_other (x ∷ xs) e)
 
@@ -129,12 +147,14 @@ texts_without k zero bytes = tt
 texts_without k (suc n) bytes = (upper_without 46 _ refl, texts_without k n (drop k bytes))
 
 -- what is spelled so is read
-pub data_again : (k : ℕ) (text bytes : List ℕ) → 2 ≤ k → IsBytes bytes → text ≡ data_text k bytes → data_in k text ≡ Some bytes
+pub data_again : (k : ℕ) (text bytes : List ℕ) → 2 ≤ k → IsBytes bytes → text ≡ data_text k bytes
+    → data_in k text ≡ Some bytes
 unfolding blocks
 data_again k text bytes two fits e = by_length (length bytes) refl
   where
     sized : (n : ℕ) → length bytes % k ≡ 0 → length bytes / k ≡ n → length bytes ≡ n * k
-    sized n rest count = sym (div-add-mod (length bytes) k) ∙ ap (λ m. k * m + length bytes % k) count ∙ ap (λ m. k * n + m) rest ∙ turned
+    sized n rest count = sym (div-add-mod (length bytes) k) ∙ ap (λ m. k * m + length bytes % k) count
+        ∙ ap (λ m. k * n + m) rest ∙ turned
       where
         turned : k * n + 0 ≡ n * k
         turned = grind (arith)
@@ -142,7 +162,8 @@ data_again k text bytes two fits e = by_length (length bytes) refl
     whole : (n : ℕ) → 0 < length bytes → length bytes % k ≡ 0 → length bytes / k ≡ n → data_in k text ≡ Some bytes
     whole zero some rest count = absurd (omega (arith, sized 0 rest count))
     whole (suc n) some rest count =
-        let t : text ≡ join_with_byte 46 (map block_text (blocks k (suc n) bytes)) = e ∙ text_whole k bytes some rest ∙ ap (λ m. join_with_byte 46 (map block_text (blocks k m bytes))) count in
+        let t : text ≡ join_with_byte 46 (map block_text (blocks k (suc n) bytes)) = e ∙ text_whole k bytes some rest
+        ∙ ap (λ m. join_with_byte 46 (map block_text (blocks k m bytes))) count in
         let long : length bytes ≡ suc n * k = sized (suc n) rest count in
         let first : List ℕ = block_text (take k bytes) in
         let others : List (List ℕ) = map block_text (blocks k n (drop k bytes)) in
@@ -160,7 +181,9 @@ data_again k text bytes two fits e = by_length (length bytes) refl
     by_rest true some h = whole (length bytes / k) some (eqb-true _ _ h) refl
     by_rest false some h =
         let t : text ≡ 120 ∷ encode_upper bytes = e ∙ text_odd k bytes some h in
-        ap (data_in k) t ∙ in_odd k (encode_upper bytes) ∙ ap (unless_whole k) (bytes_again (encode_upper bytes) bytes fits refl) ∙ ap (λ b. cond b None (Some bytes)) h
+        ap (data_in k) t ∙ in_odd k (encode_upper bytes)
+        ∙ ap (unless_whole k) (bytes_again (encode_upper bytes) bytes fits refl)
+        ∙ ap (λ b. cond b None (Some bytes)) h
 
     by_length : (n : ℕ) → length bytes ≡ n → data_in k text ≡ Some bytes
     by_length zero h = ap (data_in k) (e ∙ text_none k bytes h) ∙ in_none k ∙ ap Some (sym (nil_from_length bytes h))
@@ -174,10 +197,12 @@ without_append c [] ys p q = q
 without_append c (x ∷ xs) ys p q = (p.0, without_append c xs ys p.1 q)
 
 -- and so have words that are joined by another byte
-join_without : (c d : ℕ) (words : List (List ℕ)) → eqb d c ≡ false → AllByRecursion (Without c) words → Without c (join_with_byte d words)
+join_without : (c d : ℕ) (words : List (List ℕ)) → eqb d c ≡ false → AllByRecursion (Without c) words
+    → Without c (join_with_byte d words)
 join_without c d [] p ps = tt
 join_without c d (w ∷ []) p ps = ps.0
-join_without c d (w ∷ v ∷ vs) p ps = without_append c w (d ∷ join_with_byte d (v ∷ vs)) ps.0 (p, join_without c d (v ∷ vs) p ps.1)
+join_without c d (w ∷ v ∷ vs) p ps =
+    without_append c w (d ∷ join_with_byte d (v ∷ vs)) ps.0 (p, join_without c d (v ∷ vs) p ps.1)
 
 -- no block's text has a space in it
 texts_spaceless : (k n : ℕ) (bytes : List ℕ) → AllByRecursion (Without 32) (map block_text (blocks k n bytes))
@@ -190,7 +215,8 @@ pub data_spaceless : (k : ℕ) (bytes : List ℕ) → Without 32 (data_text k by
 data_spaceless k bytes = by_length (length bytes) refl
   where
     by_rest : (b : Bool) → 0 < length bytes → eqb (length bytes % k) 0 ≡ b → Without 32 (data_text k bytes)
-    by_rest true some h = subst (Without 32) (sym (text_whole k bytes some (eqb-true _ _ h))) (join_without 32 46 _ refl (texts_spaceless k (length bytes / k) bytes))
+    by_rest true some h = subst (Without 32) (sym (text_whole k bytes some (eqb-true _ _ h)))
+        (join_without 32 46 _ refl (texts_spaceless k (length bytes / k) bytes))
     by_rest false some h = subst (Without 32) (sym (text_odd k bytes some h)) (refl, upper_without 32 bytes refl)
 
     by_length : (n : ℕ) → length bytes ≡ n → Without 32 (data_text k bytes)

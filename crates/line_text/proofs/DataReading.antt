@@ -1,5 +1,6 @@
 -- How a word of data is read, step by step.
-use Rattle.std.proofs.Common.{◌≡◌, ℕ, ◌+◌, ◌%◌, ◌<◌, ◌≤◌, Bool, true, false, cond, List, [], ◌∷◌, ◌++◌, map, length, take, drop, get_or, None, Some, refl, sym, ap, ◌∙◌, arith, append-nil}
+use Rattle.std.proofs.Common.{◌≡◌, ℕ, ◌+◌, ◌%◌, ◌<◌, ◌≤◌, Bool, true, false, cond, List, [], ◌∷◌, ◌++◌, map, length}
+use Rattle.std.proofs.Common.{take, drop, get_or, None, Some, refl, sym, ap, ◌∙◌, arith, append-nil}
 use Rattle.std.specs.Prelude.{Option, replicate}
 use Rattle.std.specs.List.{slice_split}
 use Rattle.std.specs.Str.{bytes_eq}
@@ -17,7 +18,8 @@ unfolding block_of
 block_nothing k o e = ap (block_of k) e
 
 -- one byte is a block of copies
-pub block_from_one : (k : ℕ) (o : Option (List ℕ)) (bytes : List ℕ) → o ≡ Some bytes → length bytes ≡ 1 → block_of k o ≡ Some (replicate k (get_or bytes 0 0))
+pub block_from_one : (k : ℕ) (o : Option (List ℕ)) (bytes : List ℕ) → o ≡ Some bytes → length bytes ≡ 1
+    → block_of k o ≡ Some (replicate k (get_or bytes 0 0))
 unfolding block_of
 block_from_one k o bytes e h = ap (block_of k) e ∙ rw h refl
 
@@ -30,14 +32,17 @@ not_k : (n k : ℕ) → (n ≡ k → ⊥) → eqb n k ≡ false
 not_k n k h = grind (arith)
 
 -- neither one byte nor k are no block
-pub block_from_other : (k : ℕ) (o : Option (List ℕ)) (bytes : List ℕ) → o ≡ Some bytes → (length bytes ≡ 1 → ⊥) → (length bytes ≡ k → ⊥) → block_of k o ≡ None
+pub block_from_other : (k : ℕ) (o : Option (List ℕ)) (bytes : List ℕ) → o ≡ Some bytes → (length bytes ≡ 1 → ⊥)
+    → (length bytes ≡ k → ⊥) → block_of k o ≡ None
 unfolding block_of
 block_from_other k o bytes e h i = ap (block_of k) e ∙ rw (not_one (length bytes) h, not_k (length bytes) k i) refl
 
 -- k bytes are a block unless they are all equal
-pub block_from_many : (k : ℕ) (o : Option (List ℕ)) (bytes : List ℕ) (s : Bool) → o ≡ Some bytes → (length bytes ≡ 1 → ⊥) → length bytes ≡ k → all_same bytes ≡ s → block_of k o ≡ cond s None (Some bytes)
+pub block_from_many : (k : ℕ) (o : Option (List ℕ)) (bytes : List ℕ) (s : Bool) → o ≡ Some bytes
+    → (length bytes ≡ 1 → ⊥) → length bytes ≡ k → all_same bytes ≡ s → block_of k o ≡ cond s None (Some bytes)
 unfolding block_of
-block_from_many k o bytes s e h i j = ap (block_of k) e ∙ rw (not_one (length bytes) h, ap (λ n. eqb n k) i ∙ eqb_same k, j) refl
+block_from_many k o bytes s e h i j = ap (block_of k) e
+    ∙ rw (not_one (length bytes) h, ap (λ n. eqb n k) i ∙ eqb_same k, j) refl
 
 -- the only byte of a list of one
 pub one_is : (bytes : List ℕ) (d : ℕ) → length bytes ≡ 1 → get_or bytes 0 d ≡ get_or bytes 0 0
@@ -47,7 +52,8 @@ one_is (x ∷ xs) d h = refl
 -- ---- the loop over the parts
 
 -- the first of the parts
-blocks_step : (k : ℕ) (texts : List (List ℕ)) (text : List ℕ) → blocks_in k (text ∷ texts) ≡ then_block (block_of k (bytes_in text)) (blocks_in k texts)
+blocks_step : (k : ℕ) (texts : List (List ℕ)) (text : List ℕ)
+    → blocks_in k (text ∷ texts) ≡ then_block (block_of k (bytes_in text)) (blocks_in k texts)
 unfolding blocks_in
 blocks_step k texts text = refl
 
@@ -57,27 +63,38 @@ unfolding blocks_in
 blocks_end k = refl
 
 -- the part at place i
-parts_step : {X : Type 0} (f : X → List ℕ) (k : ℕ) (xs : List X) (i : ℕ) (d : X) (out : List ℕ) (all : Option (List ℕ)) → i < length xs
+parts_step : {X : Type 0} (f : X → List ℕ) (k : ℕ) (xs : List X) (i : ℕ) (d : X) (out : List ℕ) (all : Option (List ℕ))
+    → i < length xs
     → then_block (Some out) (blocks_in k (drop i (map f xs))) ≡ all
-    → then_block (Some out) (then_block (block_of k (bytes_in (f (get_or xs i d)))) (blocks_in k (drop (i + 1) (map f xs)))) ≡ all
+    → then_block (Some out) (then_block (block_of k (bytes_in (f (get_or xs i d))))
+    (blocks_in k (drop (i + 1) (map f xs)))) ≡ all
 parts_step f k xs i d out all low h =
-    let here : drop i (map f xs) ≡ f (get_or xs i d) ∷ drop (i + 1) (map f xs) = drop_more (map f xs) i (f d) (omega (arith, length-map xs f)) ∙ ap (λ t. t ∷ drop (i + 1) (map f xs)) (get_or-map f xs i d (f d) low) in
-    ap (then_block (Some out)) (sym (ap (blocks_in k) here ∙ blocks_step k (drop (i + 1) (map f xs)) (f (get_or xs i d)))) ∙ h
+    let here : drop i (map f xs) ≡ f (get_or xs i d) ∷ drop (i + 1) (map f xs) =
+    drop_more (map f xs) i (f d) (omega (arith, length-map xs f))
+    ∙ ap (λ t. t ∷ drop (i + 1) (map f xs)) (get_or-map f xs i d (f d) low) in
+    ap (then_block (Some out))
+    (sym (ap (blocks_in k) here ∙ blocks_step k (drop (i + 1) (map f xs)) (f (get_or xs i d)))) ∙ h
 
 -- a part that is no block ends it all
-pub part_bad : {X : Type 0} (f : X → List ℕ) (k : ℕ) (xs : List X) (i : ℕ) (d : X) (out : List ℕ) (all : Option (List ℕ)) → i < length xs
-    → then_block (Some out) (blocks_in k (drop i (map f xs))) ≡ all → block_of k (bytes_in (f (get_or xs i d))) ≡ None → None ≡ all
+pub part_bad : {X : Type 0} (f : X → List ℕ) (k : ℕ) (xs : List X) (i : ℕ) (d : X) (out : List ℕ)
+    (all : Option (List ℕ)) → i < length xs
+    → then_block (Some out) (blocks_in k (drop i (map f xs))) ≡ all → block_of k (bytes_in (f (get_or xs i d))) ≡ None
+    → None ≡ all
 part_bad f k xs i d out all low h none =
-    ap (λ o. then_block (Some out) (then_block o (blocks_in k (drop (i + 1) (map f xs))))) (sym none) ∙ parts_step f k xs i d out all low h
+    ap (λ o. then_block (Some out) (then_block o (blocks_in k (drop (i + 1) (map f xs))))) (sym none)
+    ∙ parts_step f k xs i d out all low h
 
 -- a block may be added before or after
-regroup : (out block : List ℕ) (others : Option (List ℕ)) → then_block (Some (out ++ block)) others ≡ then_block (Some out) (then_block (Some block) others)
+regroup : (out block : List ℕ) (others : Option (List ℕ))
+    → then_block (Some (out ++ block)) others ≡ then_block (Some out) (then_block (Some block) others)
 regroup out block None = refl
 regroup out block (Some bytes) = ap Some (append_assoc out block bytes)
 
 -- a part that is a block is added
-pub part_good : {X : Type 0} (f : X → List ℕ) (k : ℕ) (xs : List X) (i : ℕ) (d : X) (out new block : List ℕ) (all : Option (List ℕ)) → i < length xs
-    → then_block (Some out) (blocks_in k (drop i (map f xs))) ≡ all → block_of k (bytes_in (f (get_or xs i d))) ≡ Some block → new ≡ out ++ block
+pub part_good : {X : Type 0} (f : X → List ℕ) (k : ℕ) (xs : List X) (i : ℕ) (d : X) (out new block : List ℕ)
+    (all : Option (List ℕ)) → i < length xs
+    → then_block (Some out) (blocks_in k (drop i (map f xs))) ≡ all
+    → block_of k (bytes_in (f (get_or xs i d))) ≡ Some block → new ≡ out ++ block
     → then_block (Some new) (blocks_in k (drop (i + 1) (map f xs))) ≡ all
 part_good f k xs i d out new block all low h some e =
     ap (λ l. then_block (Some l) (blocks_in k (drop (i + 1) (map f xs)))) e
@@ -86,7 +103,8 @@ part_good f k xs i d out new block all low h some e =
     ∙ parts_step f k xs i d out all low h
 
 -- all parts were added
-pub parts_done : {X : Type 0} (f : X → List ℕ) (k : ℕ) (xs : List X) (i : ℕ) (out : List ℕ) (all : Option (List ℕ)) → length xs ≤ i
+pub parts_done : {X : Type 0} (f : X → List ℕ) (k : ℕ) (xs : List X) (i : ℕ) (out : List ℕ) (all : Option (List ℕ))
+    → length xs ≤ i
     → then_block (Some out) (blocks_in k (drop i (map f xs))) ≡ all → Some out ≡ all
 parts_done f k xs i out all high h =
     let none : drop i (map f xs) ≡ [] = drop_all i (map f xs) (omega (arith, length-map xs f)) in
@@ -100,12 +118,14 @@ unfolding data_in
 data_none k text h = rw h refl
 
 -- a word of blocks
-pub data_blocks : (k : ℕ) (text : List ℕ) → bytes_eq text (45 ∷ []) ≡ false → bytes_eq (take 1 text) (120 ∷ []) ≡ false → data_in k text ≡ blocks_in k (slice_split (λ b. eqb b 46) text)
+pub data_blocks : (k : ℕ) (text : List ℕ) → bytes_eq text (45 ∷ []) ≡ false → bytes_eq (take 1 text) (120 ∷ []) ≡ false
+    → data_in k text ≡ blocks_in k (slice_split (λ b. eqb b 46) text)
 unfolding data_in
 data_blocks k text h i = rw (h, i) refl
 
 -- a word behind an `x`
-pub data_odd : (k : ℕ) (text : List ℕ) (o : Option (List ℕ)) → bytes_eq text (45 ∷ []) ≡ false → bytes_eq (take 1 text) (120 ∷ []) ≡ true → bytes_in (drop 1 text) ≡ o → data_in k text ≡ unless_whole k o
+pub data_odd : (k : ℕ) (text : List ℕ) (o : Option (List ℕ)) → bytes_eq text (45 ∷ []) ≡ false
+    → bytes_eq (take 1 text) (120 ∷ []) ≡ true → bytes_in (drop 1 text) ≡ o → data_in k text ≡ unless_whole k o
 unfolding data_in
 data_odd k text o h i j = rw (h, i) (ap (unless_whole k) j)
 

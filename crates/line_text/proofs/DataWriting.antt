@@ -1,5 +1,6 @@
 -- How a word of data is written, block by block.
-use Rattle.std.proofs.Common.{◌≡◌, ℕ, suc, add-one, ◌+◌, ◌-◌, ◌/◌, ◌%◌, ◌<◌, ◌≤◌, false, List, [], ◌∷◌, ◌++◌, map, length, take, drop, sym, ap, ◌∙◌, arith, length-drop, append-nil}
+use Rattle.std.proofs.Common.{◌≡◌, ℕ, suc, add-one, ◌+◌, ◌-◌, ◌/◌, ◌%◌, ◌<◌, ◌≤◌, false, List, [], ◌∷◌, ◌++◌, map}
+use Rattle.std.proofs.Common.{length, take, drop, sym, ap, ◌∙◌, arith, length-drop, append-nil}
 use Rattle.std.specs.List.{join_with_byte}
 use Rattle.std.proofs.Math.Dec.{eqb}
 use Rattle.std.proofs.Math.Nat.{div-eq-sub-div, div-eq_of_lt, mod-eq_of_lt, add-mod_right}
@@ -41,7 +42,8 @@ pub enough : (k n : ℕ) → 0 < k → 0 < n → n % k ≡ 0 → k ≤ n
 enough k n pos some whole = grind (arith, mod-eq_of_lt {n = n} {m = k})
 
 -- the next block is written
-pub left_next : (k : ℕ) (bytes : List ℕ) → 0 < k → k ≤ length bytes → left_text k bytes ≡ (46 ∷ block_text (take k bytes)) ++ left_text k (drop k bytes)
+pub left_next : (k : ℕ) (bytes : List ℕ) → 0 < k → k ≤ length bytes
+    → left_text k bytes ≡ (46 ∷ block_text (take k bytes)) ++ left_text k (drop k bytes)
 unfolding blocks left_text dotted
 left_next k bytes pos some = ap (λ n. dotted (map block_text (blocks k n bytes))) (count_down k bytes pos some)
 
@@ -51,11 +53,13 @@ unfolding blocks left_text dotted
 left_none k bytes few = ap (λ n. dotted (map block_text (blocks k n bytes))) (div-eq_of_lt few)
 
 -- the first block has no dot
-pub text_first : (k : ℕ) (bytes : List ℕ) → 0 < k → 0 < length bytes → length bytes % k ≡ 0 → data_text k bytes ≡ block_text (take k bytes) ++ left_text k (drop k bytes)
+pub text_first : (k : ℕ) (bytes : List ℕ) → 0 < k → 0 < length bytes → length bytes % k ≡ 0
+    → data_text k bytes ≡ block_text (take k bytes) ++ left_text k (drop k bytes)
 unfolding blocks left_text
 text_first k bytes pos some whole =
     text_whole k bytes some whole
-    ∙ ap (λ n. join_with_byte 46 (map block_text (blocks k n bytes))) (count_down k bytes pos (enough k (length bytes) pos some whole))
+    ∙ ap (λ n. join_with_byte 46 (map block_text (blocks k n bytes)))
+    (count_down k bytes pos (enough k (length bytes) pos some whole))
     ∙ join_dotted (block_text (take k bytes)) (map block_text (blocks k (length (drop k bytes) / k) (drop k bytes)))
 
 -- the text of no bytes
@@ -63,7 +67,8 @@ pub text_empty : (k : ℕ) (bytes : List ℕ) → bytes ≡ [] → data_text k b
 text_empty k bytes e = text_none k bytes (ap length e)
 
 -- the text of bytes that are no whole blocks
-pub text_other_length : (k : ℕ) (bytes : List ℕ) → (length bytes % k ≡ 0 → ⊥) → data_text k bytes ≡ 120 ∷ encode_upper bytes
+pub text_other_length : (k : ℕ) (bytes : List ℕ) → (length bytes % k ≡ 0 → ⊥)
+    → data_text k bytes ≡ 120 ∷ encode_upper bytes
 text_other_length k bytes odd = let b = not_zero (length bytes % k) odd in text_odd k bytes (odd_some k bytes b) b
   where
     not_zero : (n : ℕ) → (n ≡ 0 → ⊥) → eqb n 0 ≡ false

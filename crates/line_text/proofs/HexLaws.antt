@@ -1,11 +1,14 @@
 -- The laws of digits.
-use Rattle.std.proofs.Common.{◌≡◌, ℕ, zero, suc, ◌+◌, ◌-◌, ◌*◌, ◌/◌, ◌%◌, ◌<◌, ◌≤◌, Bool, true, false, cond, List, [], ◌∷◌, ◌++◌, length, get_or, None, Some, ◌⊎◌, inl, inr, refl, sym, ap, ◌∙◌, arith}
+use Rattle.std.proofs.Common.{◌≡◌, ℕ, zero, suc, ◌+◌, ◌-◌, ◌*◌, ◌/◌, ◌%◌, ◌<◌, ◌≤◌, Bool, true, false, cond, List, []}
+use Rattle.std.proofs.Common.{◌∷◌, ◌++◌, length, get_or, None, Some, ◌⊎◌, inl, inr, refl, sym, ap, ◌∙◌, arith}
 use Rattle.std.specs.Prelude.{Option, Result, Ok, Err, nat_le, nat_lt, ◌&&◌}
 use Rattle.std.specs.List.{AllByRecursion, list_all}
 use Rattle.std.specs.Str.{bytes_eq}
-use Rattle.hex.specs.Hex.{IsBytes, decode_of, decode_pairs, decode_sized, digit_or_error, encode_upper, encode_with, hex_digit_value, pair_value, upper_digits, value_at, ◌>>=◌}
+use Rattle.hex.specs.Hex.{IsBytes, decode_of, decode_pairs, decode_sized, digit_or_error, encode_upper, encode_with}
+use Rattle.hex.specs.Hex.{hex_digit_value, pair_value, upper_digits, value_at, ◌>>=◌}
 use Rattle.hex.specs.declared.error.FromHexError.{FromHexError}
-use Rattle.hex.proofs.HexLemmas.{decode_of-encode_upper, decode_of-even, decode_of-ok, decode_sized-ok, decode_sized-twice}
+use Rattle.hex.proofs.HexLemmas.{decode_of-encode_upper, decode_of-even, decode_of-ok, decode_sized-ok}
+use Rattle.hex.proofs.HexLemmas.{decode_sized-twice}
 use Rattle.std.proofs.Math.Dec.{eqb}
 use Rattle.std.proofs.lemmas.Bool.{and_parts, cases_lt, eqb-true, leb-true, lt-ltb, le-ltb, ltb-true}
 use Rattle.line_text.specs.Digits.{if_upper, bytes_in, fixed_in}
@@ -18,8 +21,10 @@ if_some true x y e = (refl, cc)
 if_some false x y e = absurd cc
 
 -- what was read of decoded bytes
-upper_is : (text : List ℕ) (r : Result (List ℕ) FromHexError) (bytes : List ℕ) → if_upper text r ≡ Some bytes → (text ≡ encode_upper bytes) × (r ≡ Ok bytes)
-upper_is text (Ok x) bytes e = let h = if_some (bytes_eq (encode_upper x) text) x bytes e in (sym (bytes_eq_true _ _ h.0) ∙ ap encode_upper h.1, ap Ok h.1)
+upper_is : (text : List ℕ) (r : Result (List ℕ) FromHexError) (bytes : List ℕ) → if_upper text r ≡ Some bytes
+    → (text ≡ encode_upper bytes) × (r ≡ Ok bytes)
+upper_is text (Ok x) bytes e = let h = if_some (bytes_eq (encode_upper x) text) x bytes e in
+    (sym (bytes_eq_true _ _ h.0) ∙ ap encode_upper h.1, ap Ok h.1)
 upper_is text (Err f) bytes e = absurd cc
 
 -- what is read is spelled so
@@ -32,7 +37,8 @@ pub bytes_again : (text bytes : List ℕ) → IsBytes bytes → text ≡ encode_
 unfolding bytes_in
 bytes_again text bytes fits e =
     let decoded : decode_of text ≡ Ok bytes = ap decode_of e ∙ decode_of-encode_upper bytes fits in
-    let same : bytes_eq (encode_upper bytes) text ≡ true = ap (bytes_eq (encode_upper bytes)) e ∙ bytes_eq_refl (encode_upper bytes) in
+    let same : bytes_eq (encode_upper bytes) text ≡ true = ap (bytes_eq (encode_upper bytes)) e
+    ∙ bytes_eq_refl (encode_upper bytes) in
     ap (if_upper text) decoded ∙ ap (λ b. cond b (Some bytes) None) same
 
 -- text that does not decode is not read
@@ -44,7 +50,8 @@ bytes_none text f e = ap (if_upper text) e
 pub encode_append : (xs ys : List ℕ) → encode_upper (xs ++ ys) ≡ encode_upper xs ++ encode_upper ys
 unfolding encode_with
 encode_append [] ys = refl
-encode_append (x ∷ xs) ys = ap (λ l. get_or upper_digits (x / 16) 0 ∷ get_or upper_digits (x % 16) 0 ∷ l) (encode_append xs ys)
+encode_append (x ∷ xs) ys =
+    ap (λ l. get_or upper_digits (x / 16) 0 ∷ get_or upper_digits (x % 16) 0 ∷ l) (encode_append xs ys)
 
 -- the other side of a choice
 pub or_left : {A B : Type 0} → A ⊎ B → (A → ⊥) → B
@@ -62,7 +69,8 @@ unfolding fixed_in
 fixed_none n o e = ap (fixed_in n) e
 
 -- n bytes are n bytes
-pub fixed_some : (n : ℕ) (o : Option (List ℕ)) (bytes : List ℕ) → o ≡ Some bytes → length bytes ≡ n → fixed_in n o ≡ Some bytes
+pub fixed_some : (n : ℕ) (o : Option (List ℕ)) (bytes : List ℕ) → o ≡ Some bytes → length bytes ≡ n
+    → fixed_in n o ≡ Some bytes
 unfolding fixed_in
 fixed_some n o bytes e h = ap (fixed_in n) e ∙ ap (λ b. cond b (Some bytes) None) (same (length bytes) n h)
   where
@@ -70,10 +78,12 @@ fixed_some n o bytes e h = ap (fixed_in n) e ∙ ap (λ b. cond b (Some bytes) N
     same a b h = grind (arith)
 
 -- what was kept is what was read, and n bytes
-pub fixed_is : (n : ℕ) (o : Option (List ℕ)) (bytes : List ℕ) → fixed_in n o ≡ Some bytes → (o ≡ Some bytes) × (length bytes ≡ n)
+pub fixed_is : (n : ℕ) (o : Option (List ℕ)) (bytes : List ℕ) → fixed_in n o ≡ Some bytes
+    → (o ≡ Some bytes) × (length bytes ≡ n)
 unfolding fixed_in
 fixed_is n None bytes e = absurd cc
-fixed_is n (Some xs) bytes e = let h = if_some (eqb (length xs) n) xs bytes e in (ap Some h.1, ap length (sym h.1) ∙ eqb-true _ _ h.0)
+fixed_is n (Some xs) bytes e = let h = if_some (eqb (length xs) n) xs bytes e in
+    (ap Some h.1, ap length (sym h.1) ∙ eqb-true _ _ h.0)
 
 -- ---- what hex decodes without lower-case letters is spelled in upper case
 
@@ -103,8 +113,10 @@ letter_is : (v : ℕ) → 10 ≤ v → v < 16 → get_or upper_digits v 0 ≡ v 
 letter_is v high low = placed_at 16 v refl low ∙ ap (λ b. cond b (v + 48) (v + 55)) (le-ltb v 10 high)
 
 -- a digit that is no lower-case letter stands in the table at its value
-digit_by : (c v : ℕ) (p q r : Bool) → (nat_le 65 c && nat_le c 70) ≡ p → (nat_le 97 c && nat_le c 102) ≡ q → (nat_le 48 c && nat_le c 57) ≡ r
-    → cond p (Some (c - 55)) (cond q (Some (c - 87)) (cond r (Some (c - 48)) None)) ≡ Some v → c < 97 → (get_or upper_digits v 0 ≡ c) × (v < 16)
+digit_by : (c v : ℕ) (p q r : Bool) → (nat_le 65 c && nat_le c 70) ≡ p → (nat_le 97 c && nat_le c 102) ≡ q
+    → (nat_le 48 c && nat_le c 57) ≡ r
+    → cond p (Some (c - 55)) (cond q (Some (c - 87)) (cond r (Some (c - 48)) None)) ≡ Some v → c < 97
+    → (get_or upper_digits v 0 ≡ c) × (v < 16)
 digit_by c v true q r hp hq hr e upper =
     let parts = and_parts (nat_le 65 c) (nat_le c 70) hp in
     let low : 65 ≤ c = leb-true 65 c parts.0 in
@@ -138,7 +150,8 @@ bind_ok (Ok x) f y h = (x, refl, h)
 bind_ok (Err e) f y h = absurd cc
 
 -- pairs of such digits are the spelling of what they decode to
-spelled_pairs : (i : ℕ) (text bytes : List ℕ) → decode_pairs i text ≡ Ok bytes → AllByRecursion (λ c. c < 97) text → encode_upper bytes ≡ text
+spelled_pairs : (i : ℕ) (text bytes : List ℕ) → decode_pairs i text ≡ Ok bytes → AllByRecursion (λ c. c < 97) text
+    → encode_upper bytes ≡ text
 unfolding decode_pairs encode_with
 spelled_pairs i [] bytes h upper = let e : [] ≡ bytes = cc in ap encode_upper (sym e)
 spelled_pairs i (a ∷ []) bytes h upper = absurd cc
@@ -154,7 +167,8 @@ spelled_pairs i (a ∷ b ∷ rest) bytes h upper =
     let over : pair.0 / 16 ≡ high.0 = omega (arith, first.1, second.1) in
     let under : pair.0 % 16 ≡ low.0 = omega (arith, first.1, second.1) in
     ap encode_upper (sym all)
-    ∙ ap (λ l. get_or upper_digits (pair.0 / 16) 0 ∷ get_or upper_digits (pair.0 % 16) 0 ∷ l) (spelled_pairs (i + 2) rest others.0 others.1 upper.1.1)
+    ∙ ap (λ l. get_or upper_digits (pair.0 / 16) 0 ∷ get_or upper_digits (pair.0 % 16) 0 ∷ l)
+    (spelled_pairs (i + 2) rest others.0 others.1 upper.1.1)
     ∙ ap (λ n. get_or upper_digits n 0 ∷ get_or upper_digits (pair.0 % 16) 0 ∷ rest) over
     ∙ ap (λ n. get_or upper_digits high.0 0 ∷ get_or upper_digits n 0 ∷ rest) under
     ∙ ap (λ c. c ∷ get_or upper_digits low.0 0 ∷ rest) first.0
@@ -163,10 +177,12 @@ spelled_pairs i (a ∷ b ∷ rest) bytes h upper =
 -- a test of all bytes as a fact of each
 upper_by : (text : List ℕ) → list_all (λ c. nat_lt c 97) text ≡ true → AllByRecursion (λ c. c < 97) text
 upper_by [] h = tt
-upper_by (c ∷ cs) h = let parts = and_parts (nat_lt c 97) (list_all (λ c. nat_lt c 97) cs) h in (ltb-true c 97 parts.0, upper_by cs parts.1)
+upper_by (c ∷ cs) h = let parts = and_parts (nat_lt c 97) (list_all (λ c. nat_lt c 97) cs) h in
+    (ltb-true c 97 parts.0, upper_by cs parts.1)
 
 -- text without lower-case letters is read as it decodes
-pub bytes_decoded : (text bytes : List ℕ) → list_all (λ c. nat_lt c 97) text ≡ true → decode_of text ≡ Ok bytes → bytes_in text ≡ Some bytes
+pub bytes_decoded : (text bytes : List ℕ) → list_all (λ c. nat_lt c 97) text ≡ true → decode_of text ≡ Ok bytes
+    → bytes_in text ≡ Some bytes
 bytes_decoded text bytes upper e =
     let ok = decode_of-ok text bytes e in
     let pairs : decode_pairs 0 text ≡ Ok bytes = sym (decode_of-even text ok.0) ∙ e in
@@ -182,7 +198,8 @@ table_upper (x ∷ xs) (suc i) h = table_upper xs i (and_parts (nat_lt x 97) (li
 encode_is_upper : (bytes : List ℕ) → list_all (λ c. nat_lt c 97) (encode_upper bytes) ≡ true
 unfolding encode_with
 encode_is_upper [] = refl
-encode_is_upper (b ∷ bs) = rw (table_upper upper_digits (b / 16) refl, table_upper upper_digits (b % 16) refl) (encode_is_upper bs)
+encode_is_upper (b ∷ bs) =
+    rw (table_upper upper_digits (b / 16) refl, table_upper upper_digits (b % 16) refl) (encode_is_upper bs)
 
 -- text with a lower-case letter is not read
 pub bytes_lower : (text : List ℕ) → list_all (λ c. nat_lt c 97) text ≡ false → bytes_in text ≡ None
@@ -191,7 +208,8 @@ bytes_lower text lower = by_value (bytes_in text) refl
     by_value : (o : Option (List ℕ)) → bytes_in text ≡ o → o ≡ None
     by_value None e = refl
     by_value (Some bytes) e =
-        let yes : list_all (λ c. nat_lt c 97) text ≡ true = ap (list_all (λ c. nat_lt c 97)) (bytes_is text bytes e) ∙ encode_is_upper bytes in
+        let yes : list_all (λ c. nat_lt c 97) text ≡ true = ap (list_all (λ c. nat_lt c 97)) (bytes_is text bytes e)
+        ∙ encode_is_upper bytes in
         absurd cc
 
 -- what is read decodes so
@@ -200,7 +218,8 @@ unfolding bytes_in
 bytes_from text bytes e = (upper_is text (decode_of text) bytes e).1
 
 -- the same of a text for n bytes
-pub fixed_decoded : (n : ℕ) (text bytes : List ℕ) → list_all (λ c. nat_lt c 97) text ≡ true → decode_sized text n ≡ Ok bytes → fixed_in n (bytes_in text) ≡ Some bytes
+pub fixed_decoded : (n : ℕ) (text bytes : List ℕ) → list_all (λ c. nat_lt c 97) text ≡ true
+    → decode_sized text n ≡ Ok bytes → fixed_in n (bytes_in text) ≡ Some bytes
 fixed_decoded n text bytes upper e =
     let long : length text ≡ 2 * n = decode_sized-ok text n bytes e in
     let decoded : decode_of text ≡ Ok bytes = sym (decode_sized-twice text n long) ∙ e in
@@ -208,7 +227,8 @@ fixed_decoded n text bytes upper e =
     fixed_some n (bytes_in text) bytes (bytes_decoded text bytes upper decoded) (omega (arith, ok.2))
 
 -- text that does not decode to n bytes is not read
-pub fixed_refused : (n : ℕ) (text : List ℕ) (f : FromHexError) → decode_sized text n ≡ Err f → fixed_in n (bytes_in text) ≡ None
+pub fixed_refused : (n : ℕ) (text : List ℕ) (f : FromHexError) → decode_sized text n ≡ Err f
+    → fixed_in n (bytes_in text) ≡ None
 fixed_refused n text f e = by_value (fixed_in n (bytes_in text)) refl
   where
     by_value : (o : Option (List ℕ)) → fixed_in n (bytes_in text) ≡ o → o ≡ None
@@ -231,7 +251,8 @@ pub bytes_law : (text : List ℕ) → IsSpelling IsBytes encode_upper text (byte
 bytes_law text = (bytes_is text, bytes_again text)
 
 -- both laws of n bytes
-pub fixed_law : (n : ℕ) (text : List ℕ) → IsSpelling (λ bytes. IsBytes bytes × (length bytes ≡ n)) encode_upper text (fixed_in n (bytes_in text))
+pub fixed_law : (n : ℕ) (text : List ℕ)
+    → IsSpelling (λ bytes. IsBytes bytes × (length bytes ≡ n)) encode_upper text (fixed_in n (bytes_in text))
 fixed_law n text = (
   λ bytes e. bytes_is text bytes (fixed_is n (bytes_in text) bytes e).0,
   λ bytes fits e. fixed_some n (bytes_in text) bytes (bytes_again text bytes fits.0 e) fits.1,

@@ -1,5 +1,6 @@
 -- The two laws of numbers: what is read is spelled so, and what is spelled so is read.
-use Rattle.std.proofs.Common.{◌≡◌, ℕ, ◌^◌, ◌<◌, ◌≤◌, Bool, true, false, cond, List, [], ◌∷◌, None, Some, refl, sym, ap, ◌∙◌, subst, arith}
+use Rattle.std.proofs.Common.{◌≡◌, ℕ, ◌^◌, ◌<◌, ◌≤◌, Bool, true, false, cond, List, [], ◌∷◌, None, Some, refl, sym, ap}
+use Rattle.std.proofs.Common.{◌∙◌, subst, arith}
 use Rattle.std.specs.Prelude.{Option, Result, Ok, Err, IfSome, nat_lt, ◌&&◌, decimal}
 use Rattle.std.specs.Result.{OkIff, result_ok}
 use Rattle.std.specs.Str.{bytes_eq}
@@ -38,7 +39,8 @@ pub number_some : (k n : ℕ) (bs : List ℕ) → n < 2 ^ k → n < 2 ^ 64 → b
 unfolding number_in
 number_some k n bs small fits e =
     let value : digits_value 10 bs ≡ n = ap (digits_value 10) e ∙ (decimal_is_IsNumeral n fits).1 in
-    let whole : bytes_eq (decimal (digits_value 10 bs)) bs ≡ true = (bytes_eq-Decides _ _).1 (ap decimal value ∙ sym e) in
+    let whole : bytes_eq (decimal (digits_value 10 bs)) bs ≡ true =
+    (bytes_eq-Decides _ _).1 (ap decimal value ∙ sym e) in
     let low : nat_lt (digits_value 10 bs) (2 ^ k) ≡ true = ap (λ m. nat_lt m (2 ^ k)) value ∙ lt-ltb n (2 ^ k) small in
     both _ _ _ n whole low value
 
@@ -46,7 +48,8 @@ number_some k n bs small fits e =
 pub number_is : (k n : ℕ) (bs : List ℕ) → number_in k bs ≡ Some n → (bs ≡ decimal n) × (n < 2 ^ k)
 unfolding number_in
 number_is k n bs e =
-    let h = chosen (bytes_eq (decimal (digits_value 10 bs)) bs) (nat_lt (digits_value 10 bs) (2 ^ k)) (digits_value 10 bs) n e in
+    let h = chosen (bytes_eq (decimal (digits_value 10 bs)) bs) (nat_lt (digits_value 10 bs) (2 ^ k))
+    (digits_value 10 bs) n e in
     (sym (bytes_eq_true _ _ h.0) ∙ ap decimal h.2, subst (λ m. m < 2 ^ k) h.2 (ltb-true _ _ h.1))
 
 -- what is no value is none
@@ -70,25 +73,36 @@ pub number_spelled : (k : ℕ) (word : List ℕ) (r : Option ℕ) → 2 ^ k ≤ 
       found : IfSome r (λ n. word ≡ decimal n);
       only : (n : ℕ) → n < 2 ^ k → word ≡ decimal n → r ≡ Some n;
     }
-number_spelled k word None few e = record { value = e; found = tt; only = λ n small h. e ∙ number_some k n word small (omega arith) h }
-number_spelled k word (Some n) few e = record { value = e; found = (number_is k n word (sym e)).0; only = λ n small h. e ∙ number_some k n word small (omega arith) h }
+number_spelled k word None few e =
+    record { value = e; found = tt; only = λ n small h. e ∙ number_some k n word small (omega arith) h }
+number_spelled k word (Some n) few e =
+    record {
+      value = e;
+      found = (number_is k n word (sym e)).0;
+      only = λ n small h. e ∙ number_some k n word small (omega arith) h;
+    }
 
 -- a number below 2 ^ 64 that is read is read within fewer bits where it fits, and only there
-pub number_within : (k n : ℕ) (word : List ℕ) → 2 ^ k ≤ 2 ^ 64 → number_in 64 word ≡ Some n → n < 2 ^ k → number_in k word ≡ Some n
+pub number_within : (k n : ℕ) (word : List ℕ) → 2 ^ k ≤ 2 ^ 64 → number_in 64 word ≡ Some n → n < 2 ^ k
+    → number_in k word ≡ Some n
 number_within k n word few e small = number_some k n word small (omega arith) (number_is 64 n word e).0
 
 -- one that does not fit is not
-pub number_beyond : (k n : ℕ) (word : List ℕ) → 2 ^ k ≤ 2 ^ 64 → number_in 64 word ≡ Some n → 2 ^ k ≤ n → number_in k word ≡ None
+pub number_beyond : (k n : ℕ) (word : List ℕ) → 2 ^ k ≤ 2 ^ 64 → number_in 64 word ≡ Some n → 2 ^ k ≤ n
+    → number_in k word ≡ None
 number_beyond k n word few e large =
     let is = number_is 64 n word e in
-    number_none k word (λ m small h. let same : m ≡ n = decimal_one m n (omega arith) is.1 (sym h ∙ is.0) in omega arith)
+    number_none k word (λ m small h. let same : m ≡ n = decimal_one m n (omega arith) is.1 (sym h ∙ is.0) in
+    omega arith)
 
 -- nor is a word that spells no number at all
 pub number_nowhere : (k : ℕ) (word : List ℕ) → 2 ^ k ≤ 2 ^ 64 → number_in 64 word ≡ None → number_in k word ≡ None
-number_nowhere k word few e = number_none k word (λ n small h. let read = number_some 64 n word (omega arith) (omega arith) h in absurd cc)
+number_nowhere k word few e =
+    number_none k word (λ n small h. let read = number_some 64 n word (omega arith) (omega arith) h in absurd cc)
 
 -- the same of a number that is narrowed
-pub number_narrowed : {E : Type 0} (k n : ℕ) (word : List ℕ) (r : Result ℕ E) → 2 ^ k ≤ 2 ^ 64 → Some n ≡ number_in 64 word → OkIff r (n < 2 ^ k) n → result_ok r ≡ number_in k word
+pub number_narrowed : {E : Type 0} (k n : ℕ) (word : List ℕ) (r : Result ℕ E) → 2 ^ k ≤ 2 ^ 64
+    → Some n ≡ number_in 64 word → OkIff r (n < 2 ^ k) n → result_ok r ≡ number_in k word
 number_narrowed k n word (Ok m) few e h = ap Some h.1 ∙ sym (number_within k n word few (sym e) h.0)
 number_narrowed k n word (Err f) few e h = sym (number_beyond k n word few (sym e) (not_below n (2 ^ k) h))
   where
@@ -97,7 +111,8 @@ number_narrowed k n word (Err f) few e h = sym (number_beyond k n word few (sym 
 
 -- a digit is no space
 digit_spaceless : (c : ℕ) (b : Bool) → eqb c 32 ≡ b → digit_value c < 10 → b ≡ false
-digit_spaceless c true e h = let bad : digit_value 32 < 10 = subst (λ x. digit_value x < 10) (eqb-true c 32 e) h in absurd (omega arith)
+digit_spaceless c true e h = let bad : digit_value 32 < 10 = subst (λ x. digit_value x < 10) (eqb-true c 32 e) h in
+    absurd (omega arith)
 digit_spaceless c false e h = refl
 
 -- digits have no space in them

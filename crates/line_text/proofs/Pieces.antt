@@ -1,5 +1,7 @@
 -- Where a line feed stands in what is read ahead.
-use Rattle.std.proofs.Common.{◌≡◌, ◌≢◌, ℕ, zero, suc, ◌+◌, ◌-◌, ◌<◌, ◌≤◌, true, false, List, [], ◌∷◌, ◌++◌, length, take, drop, slice_range, get_or, refl, sym, ap, ◌∙◌, subst, arith, length-take, take-append-drop, drop-cons, take_all}
+use Rattle.std.proofs.Common.{◌≡◌, ◌≢◌, ℕ, zero, suc, ◌+◌, ◌-◌, ◌<◌, ◌≤◌, true, false, List, [], ◌∷◌, ◌++◌, length}
+use Rattle.std.proofs.Common.{take, drop, slice_range, get_or, refl, sym, ap, ◌∙◌, subst, arith, length-take}
+use Rattle.std.proofs.Common.{take-append-drop, drop-cons, take_all}
 use Rattle.std.proofs.lemmas.List.{drop-take, drop-drop}
 use Rattle.std.proofs.lemmas.Bool.{eqb-true}
 use Rattle.std.proofs.Math.Dec.{eqb}
@@ -17,7 +19,8 @@ is_10 : (a : ℕ) → a ≡ 10 → eqb a 10 ≡ true
 is_10 a e = rw e refl
 
 -- the piece before a line feed
-pub found : (buf : List ℕ) (s e at : ℕ) → e ≤ length buf → NoneBefore (λ k. eqb (get_or (slice_range buf s e) k 0) 10 ≡ true) 0 (length (slice_range buf s e)) at
+pub found : (buf : List ℕ) (s e at : ℕ) → e ≤ length buf
+    → NoneBefore (λ k. eqb (get_or (slice_range buf s e) k 0) 10 ≡ true) 0 (length (slice_range buf s e)) at
     → eqb (get_or (slice_range buf s e) at 0) 10 ≡ true
     → IsPiece true (slice_range buf s e) (slice_range buf (s + (at + 1)) e) (take at (slice_range buf s e))
 found buf s e at fits none here =
@@ -26,15 +29,23 @@ found buf s e at fits none here =
     let room : at < length A = none.high in
     let long = length-take (e - s) (drop s buf) in
     let after : drop (suc at) A ≡ slice_range buf (s + (at + 1)) e =
-    ap (λ n. drop (suc at) (take n (drop s buf))) (omega arith) ∙ drop-take (suc at) (e - (s + (at + 1))) (drop s buf) ∙ ap (take (e - (s + (at + 1)))) (drop-drop (suc at) s buf ∙ ap (λ n. drop n buf) (omega arith)) in
+    ap (λ n. drop (suc at) (take n (drop s buf))) (omega arith) ∙ drop-take (suc at) (e - (s + (at + 1))) (drop s buf)
+    ∙ ap (take (e - (s + (at + 1)))) (drop-drop (suc at) s buf ∙ ap (λ n. drop n buf) (omega arith)) in
     let all : A ≡ take at A ++ 10 ∷ slice_range buf (s + (at + 1)) e =
-    sym (take-append-drop at A) ∙ ap (λ l. take at A ++ l) (drop-cons A at 0 room ∙ ap (λ x. x ∷ drop (suc at) A) is ∙ ap (λ l. 10 ∷ l) after) in
+    sym (take-append-drop at A)
+    ∙ ap (λ l. take at A ++ l)
+    (drop-cons A at 0 room ∙ ap (λ x. x ∷ drop (suc at) A) is ∙ ap (λ l. 10 ∷ l) after) in
     (all, no_feed_take A at (λ k lt same. none.before k (omega arith) lt (is_10 _ same)))
 
 -- all, where there is none
-pub not_found : (buf : List ℕ) (s e : ℕ) → Nowhere (λ k. eqb (get_or (slice_range buf s e) k 0) 10 ≡ true) 0 (length (slice_range buf s e)) → IsPiece false (slice_range buf s e) (slice_range buf e e) (slice_range buf s e)
+pub not_found : (buf : List ℕ) (s e : ℕ)
+    → Nowhere (λ k. eqb (get_or (slice_range buf s e) k 0) 10 ≡ true) 0 (length (slice_range buf s e))
+    → IsPiece false (slice_range buf s e) (slice_range buf e e) (slice_range buf s e)
 not_found buf s e none =
     let A : List ℕ = slice_range buf s e in
     let whole : take (length A) A ≡ A = take_all (length A) A (omega arith) in
-    let none_left : e - e ≡ 0 = omega arith in
-    (refl, ap (λ n. take n (drop e buf)) none_left, subst NoFeed whole (no_feed_take A (length A) (λ k lt same. none k (omega arith) lt (is_10 _ same))))
+    let none_left : e - e ≡ 0 = omega arith in (
+      refl,
+      ap (λ n. take n (drop e buf)) none_left,
+      subst NoFeed whole (no_feed_take A (length A) (λ k lt same. none k (omega arith) lt (is_10 _ same))),
+    )

@@ -1,5 +1,6 @@
 -- Words between separators, and what no word has in it.
-use Rattle.std.proofs.Common.{◌≡◌, ℕ, zero, suc, ◌+◌, ◌/◌, ◌%◌, ◌<◌, ◌≤◌, Bool, true, false, cond, List, [], ◌∷◌, ◌++◌, map, drop, length, get_or, refl, sym, ap, ◌∙◌, arith}
+use Rattle.std.proofs.Common.{◌≡◌, ℕ, zero, suc, ◌+◌, ◌/◌, ◌%◌, ◌<◌, ◌≤◌, Bool, true, false, cond, List, [], ◌∷◌, ◌++◌}
+use Rattle.std.proofs.Common.{map, drop, length, get_or, refl, sym, ap, ◌∙◌, arith}
 use Rattle.std.specs.Prelude.{nat_lt, ◌&&◌, ◌||◌}
 use Rattle.std.specs.List.{list_all, slice_split, onto_first, join_with_byte, AllByRecursion}
 use Rattle.std.proofs.Math.Dec.{eqb}
@@ -14,14 +15,16 @@ pub words_again : (c : ℕ) (word : List ℕ) (words : List (List ℕ)) → With
     → slice_split (λ b. eqb b c) (join_with_byte c (word ∷ words)) ≡ word ∷ words
 words_again c word [] p ps = slice_split_none (λ b. eqb b c) word (All-from_recursion (λ x. eqb x c ≡ false) word p)
 words_again c word (next ∷ words) p ps =
-    slice_split_at (λ b. eqb b c) word c (join_with_byte c (next ∷ words)) (All-from_recursion (λ x. eqb x c ≡ false) word p) (same c)
+    slice_split_at (λ b. eqb b c) word c (join_with_byte c (next ∷ words))
+    (All-from_recursion (λ x. eqb x c ≡ false) word p) (same c)
     ∙ ap (λ l. word ∷ l) (words_again c next words ps.0 ps.1)
   where
     same : (n : ℕ) → eqb n n ≡ true
     same n = grind (arith)
 
 -- one more byte in front of the first part
-onto_first_without : (c x : ℕ) (parts : List (List ℕ)) → eqb x c ≡ false → AllByRecursion (Without c) parts → AllByRecursion (Without c) (onto_first x parts)
+onto_first_without : (c x : ℕ) (parts : List (List ℕ)) → eqb x c ≡ false → AllByRecursion (Without c) parts
+    → AllByRecursion (Without c) (onto_first x parts)
 onto_first_without c x [] e h = ((e, tt), tt)
 onto_first_without c x (part ∷ parts) e h = ((e, h.0), h.1)
 
@@ -31,7 +34,8 @@ split_without c [] = (tt, tt)
 split_without c (x ∷ xs) = by_test (eqb x c) refl (split_without c xs)
   where
     by_test : (t : Bool) → eqb x c ≡ t → AllByRecursion (Without c) (slice_split (λ b. eqb b c) xs)
-        → AllByRecursion (Without c) (cond t ([] ∷ slice_split (λ b. eqb b c) xs) (onto_first x (slice_split (λ b. eqb b c) xs)))
+        → AllByRecursion (Without c)
+        (cond t ([] ∷ slice_split (λ b. eqb b c) xs) (onto_first x (slice_split (λ b. eqb b c) xs)))
     by_test true e others = (tt, others)
     by_test false e others = onto_first_without c x (slice_split (λ b. eqb b c) xs) e others
 
@@ -61,14 +65,18 @@ plain_isnt c x p q = grind (arith, plain)
 pub upper_without : (c : ℕ) (bytes : List ℕ) → plain c ≡ false → Without c (encode_upper bytes)
 unfolding encode_with
 upper_without c [] p = tt
-upper_without c (x ∷ xs) p = (plain_isnt c _ p (get_plain upper_digits (x / 16) refl), (plain_isnt c _ p (get_plain upper_digits (x % 16) refl), upper_without c xs p))
+upper_without c (x ∷ xs) p = (
+  plain_isnt c _ p (get_plain upper_digits (x / 16) refl),
+  (plain_isnt c _ p (get_plain upper_digits (x % 16) refl), upper_without c xs p),
+)
 
 -- and a digit of the table is one
 pub digit_plain : (i : ℕ) → plain (get_or upper_digits i 0) ≡ true
 digit_plain i = get_plain upper_digits i refl
 
 -- what a join begins with
-pub join_front : (c d : ℕ) (word : List ℕ) (words : List (List ℕ)) → (rest : List ℕ) × (join_with_byte c ((d ∷ word) ∷ words) ≡ d ∷ rest)
+pub join_front : (c d : ℕ) (word : List ℕ) (words : List (List ℕ))
+    → (rest : List ℕ) × (join_with_byte c ((d ∷ word) ∷ words) ≡ d ∷ rest)
 join_front c d word [] = (word, refl)
 join_front c d word (next ∷ words) = (word ++ (c ∷ join_with_byte c (next ∷ words)), refl)
 
@@ -84,16 +92,20 @@ unfolding behind
 behind_none c = refl
 
 -- the word at place i
-pub behind_next : {X : Type 0} (f : X → List ℕ) (c : ℕ) (xs : List X) (i : ℕ) (d : X) → i < length xs → behind c (drop i (map f xs)) ≡ (c ∷ f (get_or xs i d)) ++ behind c (drop (i + 1) (map f xs))
+pub behind_next : {X : Type 0} (f : X → List ℕ) (c : ℕ) (xs : List X) (i : ℕ) (d : X) → i < length xs
+    → behind c (drop i (map f xs)) ≡ (c ∷ f (get_or xs i d)) ++ behind c (drop (i + 1) (map f xs))
 unfolding behind
 behind_next f c xs i d low =
-    ap (behind c) (drop_more (map f xs) i (f d) (omega (arith, length-map xs f)) ∙ ap (λ t. t ∷ drop (i + 1) (map f xs)) (get_or-map f xs i d (f d) low))
+    ap (behind c) (drop_more (map f xs) i (f d) (omega (arith, length-map xs f))
+    ∙ ap (λ t. t ∷ drop (i + 1) (map f xs)) (get_or-map f xs i d (f d) low))
 
 -- no words are left
-pub behind_end : {X : Type 0} (f : X → List ℕ) (c : ℕ) (xs : List X) (i : ℕ) → length xs ≤ i → behind c (drop i (map f xs)) ≡ []
+pub behind_end : {X : Type 0} (f : X → List ℕ) (c : ℕ) (xs : List X) (i : ℕ) → length xs ≤ i
+    → behind c (drop i (map f xs)) ≡ []
 behind_end f c xs i high = ap (behind c) (drop_all i (map f xs) (omega (arith, length-map xs f))) ∙ behind_none c
 
 -- one more word was written, or a beginning of it
-pub one_more : {X : Type 0} (f : X → List ℕ) (c : ℕ) (xs : List X) (i : ℕ) (all done : List ℕ) (d : X) → i < length xs → all ≡ done ++ behind c (drop i (map f xs))
+pub one_more : {X : Type 0} (f : X → List ℕ) (c : ℕ) (xs : List X) (i : ℕ) (all done : List ℕ) (d : X) → i < length xs
+    → all ≡ done ++ behind c (drop i (map f xs))
     → all ≡ done ++ ((c ∷ f (get_or xs i d)) ++ behind c (drop (i + 1) (map f xs)))
 one_more f c xs i all done d low e = e ∙ ap (λ l. done ++ l) (behind_next f c xs i d low)

@@ -11,15 +11,18 @@ use Rattle.work_queue.specs.declared.engine.Opened.TheVariants as opened
 use Rattle.lock_rows.specs.declared.hall.Hall.{Hall}
 use Rattle.lock_rows.specs.Hands.{IsFresh}
 
-by_answer : (hall : Hall) (q : engine.EnginePass) (entry : Entry) (a : Answer) (r : Opened) → engine.IsOpened hall.engine q entry a r → IsFresh hall r
+by_answer : (hall : Hall) (q : engine.EnginePass) (entry : Entry) (a : Answer) (r : Opened)
+    → engine.IsOpened hall.engine q entry a r → IsFresh hall r
 by_answer hall q entry a opened.Published h = tt
 by_answer hall q entry a (opened.Reaped c p) h = tt
 by_answer hall q entry Answer.Published (opened.Fetched w) h = absurd h
-by_answer hall q entry (Answer.Fetched x) (opened.Fetched w) h = (h.1, ap (λ n. is_only_fetch n (engine.its w)) (ap (λ (y : Duty). y.ticket) h.0) ∙ h.4)
+by_answer hall q entry (Answer.Fetched x) (opened.Fetched w) h =
+    (h.1, ap (λ n. is_only_fetch n (engine.its w)) (ap (λ (y : Duty). y.ticket) h.0) ∙ h.4)
 by_answer hall q entry (Answer.Blocked d) (opened.Fetched w) h = absurd h
 by_answer hall q entry (Answer.Granted u r m) (opened.Fetched w) h = absurd h
 by_answer hall q entry (Answer.Posted c) (opened.Fetched w) h = absurd h
 by_answer hall q entry (Answer.Reaped c p) (opened.Fetched w) h = absurd h
 
-pub fetched_fresh : (hall : Hall) (p q : engine.EnginePass) (o : Open) (r : Opened) → engine.OpenedAs hall.engine p q o r → IsFresh hall r
+pub fetched_fresh : (hall : Hall) (p q : engine.EnginePass) (o : Open) (r : Opened)
+    → engine.OpenedAs hall.engine p q o r → IsFresh hall r
 fetched_fresh hall p q o r h = by_answer hall q h.by.entry h.answer r h.is

@@ -3,7 +3,7 @@
 ghost use Rattle.std.specs.Prelude.{◌≡◌, IfErr, IfOk, IfSome, None};
 ghost use Rattle.meet_lock.specs.Passes.{config_of, seen};
 ghost use Rattle.nvme_model.specs.Passes.{entries};
-ghost use Rattle.ticket_entries.specs.Tasks.{task_fault};
+ghost use Rattle.ticket_laws.specs.Tasks.{task_fault};
 ghost use Rattle.work_queue.specs.Duties.{duty_of, task_step};
 ghost use Rattle.work_queue.specs.Engines.{its};
 ghost use Rattle.work_queue.specs.Notices.{IsNoticeOf};

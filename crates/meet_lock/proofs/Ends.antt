@@ -1,5 +1,6 @@
 -- The table as it is made, and what a closed one tells.
-use Rattle.std.proofs.Common.{Bool, List, Option, Some, [], ap, arith, false, get_or, inl, inr, refl, subst, sym, true, ⊎_elim, ℕ, ◌<◌, ◌∙◌, ◌≡◌, ◌≢◌, ◌≤◌, ◌⊎◌, ◌∷◌}
+use Rattle.std.proofs.Common.{Bool, List, Option, Some, [], ap, arith, false, get_or, inl, inr, refl, subst, sym, true}
+use Rattle.std.proofs.Common.{⊎_elim, ℕ, ◌<◌, ◌∙◌, ◌≡◌, ◌≢◌, ◌≤◌, ◌⊎◌, ◌∷◌}
 use mathlib.Core.Logic.{dite}
 use mathlib.Core.Option.{some, some-injective}
 use native.Mathlib.Decide.{ℕ_discrete}
@@ -16,17 +17,20 @@ use Rattle.meet_lock.proofs.Places.{entries-unmade, places-unmade}
 use Rattle.meet_lock.proofs.Taking.{only_one}
 use Rattle.meet_lock.proofs.Views.{only_view, read_first}
 
-module _ {M : Type 0} (config : M → ConfigNumbers) (history : M → Past) (legal : ConfigNumbers → Past → Type 0) (owned : Bool) (c : ConfigNumbers) (passes : ℕ) (before : Past) where
+module _ {M : Type 0} (config : M → ConfigNumbers) (history : M → Past) (legal : ConfigNumbers → Past → Type 0)
+    (owned : Bool) (c : ConfigNumbers) (passes : ℕ) (before : Past) where
   abbrev Rule : State (Option M) View → Type 0
   Rule = IsOneHistory config history legal owned c passes before
 
-  pub opens : (m : M) → config m ≡ c → history m ≡ before → 0 < passes → legal c (history m) → Rule (opening (0 ∷ []) (Some m ∷ []) (start c passes (history m)))
+  pub opens : (m : M) → config m ≡ c → history m ≡ before → 0 < passes → legal c (history m)
+      → Rule (opening (0 ∷ []) (Some m ∷ []) (start c passes (history m)))
   opens m is shows positive right =
       let log : SharedPast = unmade (history m) in
       let same : entries log ≡ history m = entries-unmade (history m) in
       let right' : legal c (entries log) = subst (legal c) (sym same) right in
       let v : View = start c passes (history m) in
-      let only : (P : ℕ → View → Type 0) → P 0 v → (j : ℕ) (u : View) → get_elem? (v ∷ []) j ≡ some u → P j u = λ P p. only_view P v p in
+      let only : (P : ℕ → View → Type 0) → P 0 v → (j : ℕ) (u : View) → get_elem? (v ∷ []) j ≡ some u → P j u =
+      λ P p. only_view P v p in
       record {
         log = log;
         holder = 0;
@@ -37,9 +41,18 @@ module _ {M : Type 0} (config : M → ConfigNumbers) (history : M → Past) (leg
         right = right';
         free = λ _. (m, refl, (is, sym same));
         taken = λ ne. absurd (ne refl);
-        each = only (λ j u. Fits legal c passes before log u) (record { of = λ _. refl; sees = λ _. begins-same passes log; right = λ _. (refl, right'); mine = λ _. refl; heard = λ e. cc; opens = λ _. subst (λ x. GoesOn passes (unmade x) log) shows (begins-same passes log) });
+        each = only (λ j u. Fits legal c passes before log u)
+            (record {
+              of = λ _. refl;
+              sees = λ _. begins-same passes log;
+              right = λ _. (refl, right');
+              mine = λ _. refl;
+              heard = λ e. cc;
+              opens = λ _. subst (λ x. GoesOn passes (unmade x) log) shows (begins-same passes log);
+            });
         holding = only (λ j u. u.holds ≡ true → (j ≡ 0) × (0 ≢ 0) × (u.held ≡ log) × (0 < u.number)) (λ e. cc);
-        numbered = only (λ j u. 0 < u.number → (0 ≡ j) × ((u.number ≤ 0) ⊎ (u.number ≡ passes))) (λ _. (refl, inr refl));
+        numbered = only (λ j u. 0 < u.number → (0 ≡ j) × ((u.number ≤ 0) ⊎ (u.number ≡ passes)))
+            (λ _. (refl, inr refl));
         first = λ u a. only (λ j u. (u.top ≡ 0) × (0 < u.number)) (refl, positive) 0 u a;
         below = positive;
         owners = only (OwnsTicket owned (λ _. 0) log) ((λ _. refl), λ has. absurd (omega arith));
@@ -52,17 +65,21 @@ module _ {M : Type 0} (config : M → ConfigNumbers) (history : M → Past) (leg
     pub is : x ≡ Some machine
     pub configured : config machine ≡ c
     pub right : legal (config machine) (history machine)
-    pub begins : (whole : SharedPast) × (history machine ≡ entries whole) × (b : IsBeginning v.seen whole) × AreOfPasses v.passes b.0 × (places v.number whole ≡ places v.number v.seen)
+    pub begins : (whole : SharedPast) × (history machine ≡ entries whole) × (b : IsBeginning v.seen whole)
+        × AreOfPasses v.passes b.0 × (places v.number whole ≡ places v.number v.seen)
     pub whole : v.passes ≡ 1 → history machine ≡ entries v.seen
 
-  pub closes : (id : ℕ) (v : View) (n : ℕ) (x : Option M) (ws : List ℕ) (xs : List (Option M)) → Final (Seen Rule id v) ws xs → 0 < v.number → get_elem? ws 0 ≡ some n → get_elem? xs 0 ≡ some x → n ≡ 0 → Closed v x
+  pub closes : (id : ℕ) (v : View) (n : ℕ) (x : Option M) (ws : List ℕ) (xs : List (Option M))
+      → Final (Seen Rule id v) ws xs → 0 < v.number → get_elem? ws 0 ≡ some n → get_elem? xs 0 ≡ some x → n ≡ 0
+      → Closed v x
   closes id v n x ws xs final named word slot free_is =
       let s : State (Option M) View = final.0 in
       let r : Rule s = final.1.0 in
       let zero_word : get_or s.words 0 0 ≡ 0 = ap (λ l. get_or l 0 0) final.2 ∙ (read_first ws n word ∙ free_is) in
       let h = r.free zero_word in
       let f = r.each id v final.1.1 in
-      let g : GoesOn v.passes v.seen r.log = subst (λ k. GoesOn k v.seen r.log) (sym (f.of named)) (f.sees (inl named)) in
+      let g : GoesOn v.passes v.seen r.log =
+      subst (λ k. GoesOn k v.seen r.log) (sym (f.of named)) (f.sees (inl named)) in
       let number_is = (r.numbered id v final.1.1 named).1 in
       let at : get_elem? xs 0 ≡ some (Some h.0) = final.4 0 (Some h.0) h.1 in
       record {
@@ -74,18 +91,24 @@ module _ {M : Type 0} (config : M → ConfigNumbers) (history : M → Past) (leg
         whole = λ one.
             let below = r.below in
             let count = f.of named in
-            let first : v.number ≡ 1 = ⊎_elim (λ (le : v.number ≤ r.top). absurd (omega arith)) (λ (e : v.number ≡ passes). omega arith) number_is in
+            let first : v.number ≡ 1 =
+            ⊎_elim (λ (le : v.number ≤ r.top). absurd (omega arith)) (λ (e : v.number ≡ passes). omega arith)
+            number_is in
             h.2.1 ∙ ap entries (only_own v.passes v.number v.seen r.log one first g (f.mine named));
       }
 
   -- and how it is configured, by the view of a pass
-  pub closed_config : (id : ℕ) (v : View) (ws : List ℕ) (xs : List (Option M)) → Final (Seen Rule id v) ws xs → 0 < v.number → v.config ≡ c
+  pub closed_config : (id : ℕ) (v : View) (ws : List ℕ) (xs : List (Option M)) → Final (Seen Rule id v) ws xs
+      → 0 < v.number → v.config ≡ c
   closed_config id v ws xs final named = ((final.1.0.each id v final.1.1).right (inl named)).0
 
-  pub closes_one : (id : ℕ) (v : View) (n : ℕ) (ws : List ℕ) (xs : List (Option M)) → Final (Seen Rule id v) ws xs → get_elem? ws 0 ≡ some n → v.holds ≡ false → 0 < v.number → v.passes ≡ 1 → n ≡ 0
+  pub closes_one : (id : ℕ) (v : View) (n : ℕ) (ws : List ℕ) (xs : List (Option M)) → Final (Seen Rule id v) ws xs
+      → get_elem? ws 0 ≡ some n → v.holds ≡ false → 0 < v.number → v.passes ≡ 1 → n ≡ 0
   closes_one id v n ws xs final word idle named one =
       let s : State (Option M) View = final.0 in
       let r : Rule s = final.1.0 in
       let is : get_or s.words 0 0 ≡ n = ap (λ l. get_or l 0 0) final.2 ∙ read_first ws n word in
       let f = r.each id v final.1.1 in
-      dite (ℕ_discrete n 0) (λ e. e) (λ ne. absurd (only_one config history legal owned c passes before s r id v final.1.1 idle named (λ z. ne (sym is ∙ z)) (sym (f.of named) ∙ one)))
+      dite (ℕ_discrete n 0) (λ e. e)
+      (λ ne. absurd (only_one config history legal owned c passes before s r id v final.1.1 idle named
+      (λ z. ne (sym is ∙ z)) (sym (f.of named) ∙ one)))

@@ -9,7 +9,7 @@ use Rattle.nvme_model.specs.History.{Past}
 use Rattle.nvme_model.specs.Passes.{IsBeginning, SharedPast, entries, places}
 use Rattle.nvme_model.specs.declared.config.ConfigNumbers.{ConfigNumbers}
 use Rattle.nvme_model.specs.declared.entry.Entry.{Entry}
-use Rattle.ticket_entries.specs.Entries.{of_ticket, ticket_in}
+use Rattle.ticket_laws.specs.Entries.{of_ticket, ticket_in}
 use Rattle.meet_lock.specs.declared.view.View.{View}
 
 -- an entry beside the number of the pass that made it

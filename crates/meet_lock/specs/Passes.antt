@@ -10,7 +10,7 @@ use Rattle.nvme_model.specs.declared.step.Step.{Step}
 use Rattle.controller_steps.specs.declared.answer.Answer.{Answer}
 use Rattle.controller_steps.specs.declared.answer.Refused.{Refused}
 use Rattle.meet_lock.specs.Lock.{AreOfPasses, GoesOn, noted, unmade}
-use Rattle.ticket_entries.specs.Entries.{ticket_in}
+use Rattle.ticket_laws.specs.Entries.{ticket_in}
 use Rattle.meet_lock.specs.declared.pass.Declined.{Declined}
 use Rattle.meet_lock.specs.declared.pass.Pass.{Pass}
 use Rattle.meet_lock.specs.declared.seats.NoteSeat.{NoteSeat}

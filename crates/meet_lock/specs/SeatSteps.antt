@@ -7,7 +7,7 @@ use Rattle.nvme_model.specs.Passes.{SharedPast, entries, places}
 use Rattle.nvme_model.specs.declared.config.ConfigNumbers.{ConfigNumbers}
 use Rattle.nvme_model.specs.declared.entry.Entry.{Entry}
 use Rattle.meet_lock.specs.Lock.{GoesOn, IsAt, grown, holding, informed, shown, unmade}
-use Rattle.ticket_entries.specs.Entries.{of_ticket, ticket_in}
+use Rattle.ticket_laws.specs.Entries.{of_ticket, ticket_in}
 use Rattle.meet_lock.specs.declared.view.View.{View}
 
 -- all entries of its ticket, in what it has seen, are those that it has

@@ -13,10 +13,14 @@ use Rattle.race_run.specs.declared.fault.RaceFault.{RaceFault}
 use Rattle.race_run.specs.declared.fault.RaceFault.TheVariants.{NoMemory}
 
 pub none_bad : (c : ConfigNumbers) (entries : List Entry) (k : ℕ) → IsLegalFile c entries → IsFirstBad c entries k → ⊥
-none_bad c entries k h bad = let e : None ≡ Some k = sym (legal_is_none c entries h) ∙ first_is_some c entries k bad in absurd cc
+none_bad c entries k h bad = let e : None ≡ Some k = sym (legal_is_none c entries h) ∙ first_is_some c entries k bad in
+    absurd cc
 
 -- where the check had no memory, the whole text was written
-pub unjudged : (c : ConfigNumbers) (entries : List Entry) (f : RaceFault) (old new : Option (List ℕ)) → IsLegalFile c entries → Appends old new (history_text c entries) → f ≡ NoMemory → Races c (Err f) old new
+pub unjudged : (c : ConfigNumbers) (entries : List Entry) (f : RaceFault) (old new : Option (List ℕ))
+    → IsLegalFile c entries → Appends old new (history_text c entries) → f ≡ NoMemory → Races c (Err f) old new
 unjudged c entries f old new legal written is =
-    let same : history_text c (reverse (reverse entries)) ≡ history_text c entries ++ [] = ap (history_text c) (reverse-reverse entries) ∙ sym (append-nil (history_text c entries)) in
-    subst (λ (x : RaceFault). Races c (Err x) old new) (sym is) (reverse entries, legal, record { front = history_text c entries; rest = []; whole = same; written = written })
+    let same : history_text c (reverse (reverse entries)) ≡ history_text c entries ++ [] =
+    ap (history_text c) (reverse-reverse entries) ∙ sym (append-nil (history_text c entries)) in
+    subst (λ (x : RaceFault). Races c (Err x) old new) (sym is)
+    (reverse entries, legal, record { front = history_text c entries; rest = []; whole = same; written = written })

@@ -1,5 +1,6 @@
 -- What a filter keeps.
-use Rattle.std.proofs.Common.{◌≡◌, ℕ, Bool, true, false, not, cond, ◌||◌, List, [], ◌∷◌, refl, ap, ◌∙◌, ◌==◌, eqb, Option, Some, is_some}
+use Rattle.std.proofs.Common.{◌≡◌, ℕ, Bool, true, false, not, cond, ◌||◌, List, [], ◌∷◌, refl, ap, ◌∙◌, ◌==◌, eqb}
+use Rattle.std.proofs.Common.{Option, Some, is_some}
 use Rattle.std.specs.List.{filter, find, list_any}
 use Rattle.std.proofs.lemmas.Bool.{cond-true, not_from_false, or_from, or_parts}
 use Rattle.nvme_model.specs.Open.{conflict}
@@ -10,7 +11,8 @@ use Rattle.range_reserve.specs.Reserved.{AreApart, has_conflict, has_ticket, hel
 use Rattle.nvme_model.specs.Array.{IsRange}
 use Rattle.std.specs.Option.{option_map}
 
-list_any_kept : {X : Type 0} (p : X → Bool) (b : Bool) (x : X) (ys : List X) → p x ≡ false → list_any p ys ≡ false → list_any p (cond b (x ∷ ys) ys) ≡ false
+list_any_kept : {X : Type 0} (p : X → Bool) (b : Bool) (x : X) (ys : List X) → p x ≡ false → list_any p ys ≡ false
+    → list_any p (cond b (x ∷ ys) ys) ≡ false
 list_any_kept p true x ys h k = or_from (p x) (list_any p ys) h k
 list_any_kept p false x ys h k = k
 
@@ -28,7 +30,8 @@ apart_filter q (h ∷ hs) a =
     (list_any-filter (λ x. conflict h.range h.mode x.range x.mode) q hs a.2)
     (apart_filter q hs a.3)
   where
-    kept : (b : Bool) (h : Held) (hs : List Held) → IsRange h.range → has_ticket hs h.ticket ≡ false → has_conflict hs h.range h.mode ≡ false → AreApart hs → AreApart (cond b (h ∷ hs) hs)
+    kept : (b : Bool) (h : Held) (hs : List Held) → IsRange h.range → has_ticket hs h.ticket ≡ false
+        → has_conflict hs h.range h.mode ≡ false → AreApart hs → AreApart (cond b (h ∷ hs) hs)
     kept true h hs r t c a = (r, t, c, a)
     kept false h hs r t c a = a
 
@@ -37,13 +40,15 @@ pub beside_all : (held : List Held) (t : ℕ) → has_ticket held t ≡ false �
 beside_all [] t e = refl
 beside_all (h ∷ hs) t e =
     let k : (eqb h.ticket t ≡ false) × (has_ticket hs t ≡ false) = or_parts (h.ticket == t) (has_ticket hs t) e in
-    cond-true (not (h.ticket == t)) _ _ (not_from_false (h.ticket == t) k.0) ∙ ap (λ (xs : List Held). h ∷ xs) (beside_all hs t k.1)
+    cond-true (not (h.ticket == t)) _ _ (not_from_false (h.ticket == t) k.0)
+    ∙ ap (λ (xs : List Held). h ∷ xs) (beside_all hs t k.1)
 
 pub beside_none : (held : List Held) (t : ℕ) → has_ticket (held_beside held t) t ≡ false
 beside_none [] t = refl
 beside_none (h ∷ hs) t = kept (h.ticket == t) h (held_beside hs t) refl (beside_none hs t)
   where
-    kept : (b : Bool) (h : Held) (hs : List Held) → (h.ticket == t) ≡ b → has_ticket hs t ≡ false → has_ticket (cond (not b) (h ∷ hs) hs) t ≡ false
+    kept : (b : Bool) (h : Held) (hs : List Held) → (h.ticket == t) ≡ b → has_ticket hs t ≡ false
+        → has_ticket (cond (not b) (h ∷ hs) hs) t ≡ false
     kept true h hs e k = k
     kept false h hs e k = or_from (h.ticket == t) (has_ticket hs t) e k
 
@@ -52,6 +57,9 @@ pub is_some-held_by : (held : List Held) (t : ℕ) → is_some (held_by held t) 
 is_some-held_by [] t = refl
 is_some-held_by (h ∷ hs) t = first (h.ticket == t) (find (λ h. h.ticket == t) hs) (is_some-held_by hs t)
   where
-    first : (b : Bool) (o : Option Held) → is_some {T = Range × Mode} (option_map (λ (h : Held). (h.range, h.mode)) o) ≡ has_ticket hs t → is_some {T = Range × Mode} (option_map (λ (h : Held). (h.range, h.mode)) (cond b (Some h) o)) ≡ (b || has_ticket hs t)
+    first : (b : Bool) (o : Option Held)
+        → is_some {T = Range × Mode} (option_map (λ (h : Held). (h.range, h.mode)) o) ≡ has_ticket hs t
+        → is_some {T = Range × Mode} (option_map (λ (h : Held). (h.range, h.mode)) (cond b (Some h) o))
+        ≡ (b || has_ticket hs t)
     first true o e = refl
     first false o e = e

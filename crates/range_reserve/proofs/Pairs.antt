@@ -1,5 +1,7 @@
 -- Any two that are held.
-use Rattle.std.proofs.Common.{◌≡◌, ◌≢◌, ℕ, zero, suc, ◌+◌, ◌≤◌, ◌<◌, ◌↔◌, Bool, true, false, ◌&&◌, ◌||◌, List, [], ◌∷◌, None, Some, refl, sym, ap, ◌∙◌, arith, inl, inr, slice_get, eq-eqb, ltb-true, lt-ltb, le-ltb, le-leb, leb-true, nat_le, nat_lt, ◌==◌, true≢false}
+use Rattle.std.proofs.Common.{◌≡◌, ◌≢◌, ℕ, zero, suc, ◌+◌, ◌≤◌, ◌<◌, ◌↔◌, Bool, true, false, ◌&&◌, ◌||◌, List, [], ◌∷◌}
+use Rattle.std.proofs.Common.{None, Some, refl, sym, ap, ◌∙◌, arith, inl, inr, slice_get, eq-eqb, ltb-true, lt-ltb}
+use Rattle.std.proofs.Common.{le-ltb, le-leb, leb-true, nat_le, nat_lt, ◌==◌, true≢false}
 use Rattle.std.specs.List.{list_any}
 use Rattle.std.proofs.lemmas.Bool.{and_from, and_parts, and_right, cases_lt, false_from_ne_true, or_left, or_parts}
 use Rattle.nvme_model.specs.Array.{has_block, overlap}
@@ -27,8 +29,10 @@ or_turned false false = refl
 -- neither range comes first
 overlap-turned : (r s : Range) → overlap r s ≡ overlap s r
 overlap-turned r s =
-    ap (λ b. b && (nat_lt r.slba (s.slba + s.blocks) && nat_lt s.slba (r.slba + r.blocks))) (and_turned (nat_lt 0 r.blocks) (nat_lt 0 s.blocks))
-    ∙ ap (λ b. (nat_lt 0 s.blocks && nat_lt 0 r.blocks) && b) (and_turned (nat_lt r.slba (s.slba + s.blocks)) (nat_lt s.slba (r.slba + r.blocks)))
+    ap (λ b. b && (nat_lt r.slba (s.slba + s.blocks) && nat_lt s.slba (r.slba + r.blocks)))
+    (and_turned (nat_lt 0 r.blocks) (nat_lt 0 s.blocks))
+    ∙ ap (λ b. (nat_lt 0 s.blocks && nat_lt 0 r.blocks) && b)
+    (and_turned (nat_lt r.slba (s.slba + s.blocks)) (nat_lt s.slba (r.slba + r.blocks)))
 
 pub conflict-turned : (r : Range) (m : Mode) (s : Range) (n : Mode) → conflict r m s n ≡ conflict s n r m
 conflict-turned r m s n =
@@ -42,7 +46,8 @@ record Has (r : Range) (l : ℕ) : Type 0 where
 
 has_parts : (r : Range) (l : ℕ) → has_block r l ≡ true → Has r l
 has_parts r l h =
-    let k : (nat_le r.slba l ≡ true) × (nat_lt l (r.slba + r.blocks) ≡ true) = and_parts (nat_le r.slba l) (nat_lt l (r.slba + r.blocks)) h in
+    let k : (nat_le r.slba l ≡ true) × (nat_lt l (r.slba + r.blocks) ≡ true) =
+    and_parts (nat_le r.slba l) (nat_lt l (r.slba + r.blocks)) h in
     record { from = leb-true r.slba l k.0; below = ltb-true l (r.slba + r.blocks) k.1 }
 
 has_from : (r : Range) (l : ℕ) → r.slba ≤ l → l < r.slba + r.blocks → has_block r l ≡ true
@@ -53,8 +58,10 @@ overlap_from r s l h k =
     let a : Has r l = has_parts r l h in
     let b : Has s l = has_parts s l k in
     and_from _ _
-    (and_from _ _ (lt-ltb 0 r.blocks (omega (arith, a.from, a.below))) (lt-ltb 0 s.blocks (omega (arith, b.from, b.below))))
-    (and_from _ _ (lt-ltb r.slba (s.slba + s.blocks) (omega (arith, a.from, b.below))) (lt-ltb s.slba (r.slba + r.blocks) (omega (arith, b.from, a.below))))
+    (and_from _ _ (lt-ltb 0 r.blocks (omega (arith, a.from, a.below)))
+    (lt-ltb 0 s.blocks (omega (arith, b.from, b.below))))
+    (and_from _ _ (lt-ltb r.slba (s.slba + s.blocks) (omega (arith, a.from, b.below)))
+    (lt-ltb s.slba (r.slba + r.blocks) (omega (arith, b.from, a.below))))
 
 -- what overlapping ranges are
 record Overlaps (r s : Range) : Type 0 where
@@ -65,7 +72,8 @@ record Overlaps (r s : Range) : Type 0 where
 
 overlap_parts : (r s : Range) → overlap r s ≡ true → Overlaps r s
 overlap_parts r s o =
-    let k = and_parts (nat_lt 0 r.blocks && nat_lt 0 s.blocks) (nat_lt r.slba (s.slba + s.blocks) && nat_lt s.slba (r.slba + r.blocks)) o in
+    let k = and_parts (nat_lt 0 r.blocks && nat_lt 0 s.blocks)
+    (nat_lt r.slba (s.slba + s.blocks) && nat_lt s.slba (r.slba + r.blocks)) o in
     let a = and_parts (nat_lt 0 r.blocks) (nat_lt 0 s.blocks) k.0 in
     let b = and_parts (nat_lt r.slba (s.slba + s.blocks)) (nat_lt s.slba (r.slba + r.blocks)) k.1 in
     record {
@@ -79,7 +87,11 @@ shared : (r s : Range) → overlap r s ≡ true → (l : ℕ) × (has_block r l 
 shared r s o =
     let k : Overlaps r s = overlap_parts r s o in
     elim (cases_lt r.slba s.slba) [
-      | inl e ↦ (s.slba, has_from r s.slba (omega (arith, e)) k.second, has_from s s.slba (omega arith) (omega (arith, k.others)))
+      | inl e ↦ (
+        s.slba,
+        has_from r s.slba (omega (arith, e)) k.second,
+        has_from s s.slba (omega arith) (omega (arith, k.others)),
+      )
       | inr e ↦ (r.slba, has_from r r.slba (omega arith) (omega (arith, k.some)), has_from s r.slba e k.first)
     ]
 
@@ -89,13 +101,16 @@ overlap_shared r s = (shared r s, λ k. overlap_from r s k.0 k.1 k.2)
 
 pub overlap_touching : (r s : Range) → r.slba + r.blocks ≡ s.slba → overlap r s ≡ false
 overlap_touching r s e =
-    and_right (nat_lt 0 r.blocks && nat_lt 0 s.blocks) _ (and_right (nat_lt r.slba (s.slba + s.blocks)) _ (le-ltb s.slba (r.slba + r.blocks) (omega (arith, e))))
+    and_right (nat_lt 0 r.blocks && nat_lt 0 s.blocks) _
+    (and_right (nat_lt r.slba (s.slba + s.blocks)) _ (le-ltb s.slba (r.slba + r.blocks) (omega (arith, e))))
 
 -- ---- two that are held
 
-none_at : {X : Type 0} (p : X → Bool) (xs : List X) (i : ℕ) (y : X) → list_any p xs ≡ false → slice_get xs i ≡ Some y → p y ≡ false
+none_at : {X : Type 0} (p : X → Bool) (xs : List X) (i : ℕ) (y : X) → list_any p xs ≡ false → slice_get xs i ≡ Some y
+    → p y ≡ false
 none_at p [] i y h e = absurd (let f : None ≡ Some y = e in cc)
-none_at p (x ∷ xs) zero y h e = let f : Some x ≡ Some y = e in let g : x ≡ y = cc in ap p (sym g) ∙ (or_parts (p x) (list_any p xs) h).0
+none_at p (x ∷ xs) zero y h e = let f : Some x ≡ Some y = e in let g : x ≡ y = cc in
+    ap p (sym g) ∙ (or_parts (p x) (list_any p xs) h).0
 none_at p (x ∷ xs) (suc i) y h e = none_at p xs i y (or_parts (p x) (list_any p xs) h).1 e
 
 -- two that don't conflict, of two tickets
@@ -112,17 +127,23 @@ turned g h p = record {
 first_pair : (x : Held) (xs : List Held) (i : ℕ) (y : Held) → AreApart (x ∷ xs) → slice_get xs i ≡ Some y → ArePair x y
 first_pair x xs i y a e = record {
   conflict = none_at (λ h. conflict x.range x.mode h.range h.mode) xs i y a.2 e;
-  ticket = λ (t : x.ticket ≡ y.ticket). true≢false (sym (eq-eqb y.ticket x.ticket (sym t)) ∙ none_at (λ h. h.ticket == x.ticket) xs i y a.1 e);
+  ticket = λ (t : x.ticket ≡ y.ticket).
+      true≢false (sym (eq-eqb y.ticket x.ticket (sym t)) ∙ none_at (λ h. h.ticket == x.ticket) xs i y a.1 e);
 }
 
-pub pair_at : (held : List Held) (i j : ℕ) (g h : Held) → AreApart held → i ≢ j → slice_get held i ≡ Some g → slice_get held j ≡ Some h → ArePair g h
+pub pair_at : (held : List Held) (i j : ℕ) (g h : Held) → AreApart held → i ≢ j → slice_get held i ≡ Some g
+    → slice_get held j ≡ Some h → ArePair g h
 pair_at [] i j g h a n d e = absurd (let f : None ≡ Some g = d in cc)
 pair_at (x ∷ xs) zero zero g h a n d e = absurd (n refl)
-pair_at (x ∷ xs) zero (suc j) g h a n d e = let f : Some x ≡ Some g = d in let k : x ≡ g = cc in rw k at (first_pair x xs j h a e)
-pair_at (x ∷ xs) (suc i) zero g h a n d e = let f : Some x ≡ Some h = e in let k : x ≡ h = cc in turned h g (rw k at (first_pair x xs i g a d))
+pair_at (x ∷ xs) zero (suc j) g h a n d e = let f : Some x ≡ Some g = d in let k : x ≡ g = cc in
+    rw k at (first_pair x xs j h a e)
+pair_at (x ∷ xs) (suc i) zero g h a n d e = let f : Some x ≡ Some h = e in let k : x ≡ h = cc in
+    turned h g (rw k at (first_pair x xs i g a d))
 pair_at (x ∷ xs) (suc i) (suc j) g h a n d e = pair_at xs i j g h a.3 (λ (s : i ≡ j). n (ap suc s)) d e
 
 -- a block of an Exclusive range is in no other
-pub alone : (g h : Held) (l : ℕ) → ArePair g h → is_exclusive g.mode ≡ true → has_block g.range l ≡ true → has_block h.range l ≡ false
+pub alone : (g h : Held) (l : ℕ) → ArePair g h → is_exclusive g.mode ≡ true → has_block g.range l ≡ true
+    → has_block h.range l ≡ false
 alone g h l p x b = false_from_ne_true (has_block h.range l) (λ (k : has_block h.range l ≡ true).
-    true≢false (sym (and_from (overlap g.range h.range) (is_exclusive g.mode || is_exclusive h.mode) (overlap_from g.range h.range l b k) (or_left (is_exclusive g.mode) (is_exclusive h.mode) x)) ∙ p.conflict))
+    true≢false (sym (and_from (overlap g.range h.range) (is_exclusive g.mode || is_exclusive h.mode)
+    (overlap_from g.range h.range l b k) (or_left (is_exclusive g.mode) (is_exclusive h.mode) x)) ∙ p.conflict))

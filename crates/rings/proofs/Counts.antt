@@ -1,5 +1,7 @@
 -- What a ring shows after each call, by the counts of all that went in and out.
-use Rattle.std.proofs.Common.{Bool, List, [], add-zero, ap, ap₂, arith, drop, false, if◌then◌else◌, inl, inr, length, length-append, length-drop, mod-eq_of_lt, not, slice_get, subst, sym, true, ℕ, ◌%◌, ◌*◌, ◌+◌, ◌++◌, ◌/◌, ◌<◌, ◌==◌, ◌∙◌, ◌∷◌, ◌≡◌, ◌≤◌}
+use Rattle.std.proofs.Common.{Bool, List, [], add-zero, ap, ap₂, arith, drop, false, if◌then◌else◌, inl, inr, length}
+use Rattle.std.proofs.Common.{length-append, length-drop, mod-eq_of_lt, not, slice_get, subst, sym, true, ℕ, ◌%◌, ◌*◌}
+use Rattle.std.proofs.Common.{◌+◌, ◌++◌, ◌/◌, ◌<◌, ◌==◌, ◌∙◌, ◌∷◌, ◌≡◌, ◌≤◌}
 use Rattle.std.proofs.Math.Nat.{add-mul, mod-add-mod}
 use Rattle.std.proofs.lemmas.Bool.Decides.{eqb_tells, nat_tests}
 use Rattle.std.proofs.lemmas.Grind.{common_steps}
@@ -22,13 +24,15 @@ pub submitted_more : (s : Submitted) (r r' : SubmissionRing) (batch : List Submi
 submitted_more s r r' batch e h =
     subst (ShowsSubmitted (record s { published = s.published ++ batch })) (sym e) (record {
       fetched = omega (arith, h.fetched, length-append s.published batch);
-      waiting = ap (λ (xs : List Submission). xs ++ batch) h.waiting ∙ sym (drop-append-le s.fetched s.published batch h.fetched);
+      waiting = ap (λ (xs : List Submission). xs ++ batch) h.waiting
+          ∙ sym (drop-append-le s.fetched s.published batch h.fetched);
       head = h.head;
     })
 
 -- none left it
 pub advanced-none : (r : SubmissionRing) → r.head < r.size → r ≡ advanced r 0
-advanced-none r within = ap (λ n. record r { head = n }) (sym (ap (λ n. n % r.size) (add-zero r.head) ∙ mod-eq_of_lt within))
+advanced-none r within =
+    ap (λ n. record r { head = n }) (sym (ap (λ n. n % r.size) (add-zero r.head) ∙ mod-eq_of_lt within))
 
 -- one more left it
 pub advanced-more : (r : SubmissionRing) (k : ℕ) → advanced (advanced r k) 1 ≡ advanced r (k + 1)
@@ -76,21 +80,26 @@ phase_more k m b some e =
 
 -- one more is posted
 pub completed_more : (s : Completed) (r r' : CompletionRing) (c : Completion)
-    → r' ≡ posted_ring r c → 0 < r.size → ShowsCompleted s r → ShowsCompleted (record s { posted = s.posted ++ c ∷ [] }) r'
+    → r' ≡ posted_ring r c → 0 < r.size → ShowsCompleted s r
+    → ShowsCompleted (record s { posted = s.posted ++ c ∷ [] }) r'
 completed_more s r r' c e some h =
     let more : length (s.posted ++ c ∷ []) ≡ length s.posted + 1 = length_push s.posted c in
     subst (ShowsCompleted (record s { posted = s.posted ++ c ∷ [] })) (sym e) (record {
       reaped = omega (arith, h.reaped);
-      waiting = ap (λ (xs : List Completion). xs ++ c ∷ []) h.waiting ∙ sym (drop-append-le s.reaped s.posted (c ∷ []) h.reaped);
-      tail = ap (λ n. (n + 1) % r.size) h.tail ∙ mod-add-mod (length s.posted) r.size 1 ∙ ap (λ n. n % r.size) (sym more);
+      waiting = ap (λ (xs : List Completion). xs ++ c ∷ []) h.waiting
+          ∙ sym (drop-append-le s.reaped s.posted (c ∷ []) h.reaped);
+      tail = ap (λ n. (n + 1) % r.size) h.tail ∙ mod-add-mod (length s.posted) r.size 1
+          ∙ ap (λ n. n % r.size) (sym more);
       phase =
           ap (λ n. phase_bit (if n + 1 == r.size then not r.phase else r.phase)) h.tail
           ∙ phase_more (length s.posted) r.size r.phase some h.phase ∙ ap (λ n. phase n r.size) (sym more);
     })
 
 -- what waits first is the next to be reaped
-pub slice_get-reaped : (s : Completed) (r : CompletionRing) → ShowsCompleted s r → slice_get r.waiting 0 ≡ slice_get s.posted s.reaped
-slice_get-reaped s r h = ap (λ (xs : List Completion). slice_get xs 0) h.waiting ∙ grind (arith, common_steps, gets, h.reaped)
+pub slice_get-reaped : (s : Completed) (r : CompletionRing) → ShowsCompleted s r
+    → slice_get r.waiting 0 ≡ slice_get s.posted s.reaped
+slice_get-reaped s r h = ap (λ (xs : List Completion). slice_get xs 0) h.waiting
+    ∙ grind (arith, common_steps, gets, h.reaped)
 
 -- one more is reaped
 pub completed_reaped : (s : Completed) (r r' : CompletionRing)

@@ -1,7 +1,10 @@
 -- Slots that hold a queue, and what a contract sees of them.
-use Rattle.std.proofs.Common.{IsSome, List, None, Option, Some, add-zero, ap, ap₂, arith, drop, get_or, length, length-drop, length-set, map, mod-eq_of_lt, refl, replicate, rules, set, slice_get, subst, suc, sym, zero, ℕ, [], ◌%◌, ◌+◌, ◌++◌, ◌-◌, ◌<◌, ◌∙◌, ◌∷◌, ◌≡◌}
+use Rattle.std.proofs.Common.{IsSome, List, None, Option, Some, add-zero, ap, ap₂, arith, drop, get_or, length}
+use Rattle.std.proofs.Common.{length-drop, length-set, map, mod-eq_of_lt, refl, replicate, rules, set, slice_get, subst}
+use Rattle.std.proofs.Common.{suc, sym, zero, ℕ, [], ◌%◌, ◌+◌, ◌++◌, ◌-◌, ◌<◌, ◌∙◌, ◌∷◌, ◌≡◌}
 use Rattle.std.proofs.Math.Nat.{mod-add-mod}
-use Rattle.std.proofs.lemmas.List.{append-nil, append_assoc, get_or_read, length-map, length-replicate, length_push, map_push, replicate_more, set_at}
+use Rattle.std.proofs.lemmas.List.{append-nil, append_assoc, get_or_read, length-map, length-replicate, length_push}
+use Rattle.std.proofs.lemmas.List.{map_push, replicate_more, set_at}
 use Rattle.std.specs.List.{flat_map}
 use Rattle.std.specs.Option.{option_to_list}
 use Rattle.rings.specs.Slots.{IsQueue, IsSize, Queued, items_from, popped, pushed, slots_from}
@@ -108,10 +111,12 @@ pub record Shows {X : Type 0} (slots : List (Option X)) (h t : ℕ) (v : Queued 
   pub value : queued slots h t ≡ v
 
 -- the items of a queue are what its slots hold
-shows_queue : {X : Type 0} (slots : List (Option X)) (h t size : ℕ) (xs : List X) → length slots ≡ size → IsQueue slots h t xs
+shows_queue : {X : Type 0} (slots : List (Option X)) (h t size : ℕ) (xs : List X) → length slots ≡ size
+    → IsQueue slots h t xs
     → Shows slots h t (record { size = size; head = h; tail = t; items = xs })
 shows_queue {X} slots h t size xs long q =
-    let same : items_from h slots ≡ xs = ap (flat_map option_to_list) q.order ∙ items-slots xs (length slots - length xs) in
+    let same : items_from h slots ≡ xs = ap (flat_map option_to_list) q.order
+    ∙ items-slots xs (length slots - length xs) in
     record {
       queue = subst (IsQueue slots h t) (sym same) q;
       value = ap₂ (λ (n : ℕ) (ys : List X). record { size = n; head = h; tail = t; items = ys }) long same;
@@ -152,13 +157,15 @@ module _ {X : Type 0} (slots : List (Option X)) (h t : ℕ) (q : IsQueue slots h
       → Shows (set slots place (Some x)) h ((t + 1) % size) (pushed v x)
   shows_pushed place size x at long =
       let more = set slots t (Some x) in
-      subst (λ (w : Queued X). length w.items + 1 < w.size → Shows (set slots place (Some x)) h ((t + 1) % size) (pushed w x)) is
+      subst (λ (w : Queued X). length w.items + 1 < w.size
+      → Shows (set slots place (Some x)) h ((t + 1) % size) (pushed w x)) is
       (rw (at, long) (λ room.
       shows_queue more h ((t + 1) % length slots) (length slots) (items_from h slots ++ x ∷ [])
       (length-set slots t (Some x)) (queue_pushed slots h t (items_from h slots) q x room)))
 
   -- one item less
-  pub shows_popped : (place size : ℕ) (free : Option X) → place ≡ h → size ≡ length slots → free ≡ None → 0 < length v.items
+  pub shows_popped : (place size : ℕ) (free : Option X) → place ≡ h → size ≡ length slots → free ≡ None
+      → 0 < length v.items
       → Shows (set slots place free) ((h + 1) % size) t (popped v)
   shows_popped place size free at long none =
       let less = set slots h None in

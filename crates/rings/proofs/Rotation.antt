@@ -1,8 +1,12 @@
 -- Slots from one of them on, round the end.
-use Rattle.std.proofs.Common.{List, None, Option, ap, ap₂, arith, drop, get_or, inl, inr, length, length-drop, length-set, mod-eq_of_lt, set, sym, take, ℕ, [], ◌%◌, ◌+◌, ◌++◌, ◌-◌, ◌<◌, ◌∙◌, ◌∷◌, ◌≡◌, ◌≤◌, ◌⊎◌}
+use Rattle.std.proofs.Common.{List, None, Option, ap, ap₂, arith, drop, get_or, inl, inr, length, length-drop}
+use Rattle.std.proofs.Common.{length-set, mod-eq_of_lt, set, sym, take, ℕ, [], ◌%◌, ◌+◌, ◌++◌, ◌-◌, ◌<◌, ◌∙◌, ◌∷◌, ◌≡◌}
+use Rattle.std.proofs.Common.{◌≤◌, ◌⊎◌}
 use Rattle.std.proofs.Math.Seq.{take-set-lt}
 use Rattle.std.proofs.lemmas.Bool.{cases_lt}
-use Rattle.std.proofs.lemmas.List.{append-nil, append_assoc, drop-set-add, drop-set-lt, drop_all, drop_more, get_or-append_right, get_or-drop, get_or-take, get_or_append_left, set-append_left, set-append_right, take-set-le, take_all, take_more_set}
+use Rattle.std.proofs.lemmas.List.{append-nil, append_assoc, drop-set-add, drop-set-lt, drop_all, drop_more}
+use Rattle.std.proofs.lemmas.List.{get_or-append_right, get_or-drop, get_or-take, get_or_append_left, set-append_left}
+use Rattle.std.proofs.lemmas.List.{set-append_right, take-set-le, take_all, take_more_set}
 use Rattle.rings.specs.Slots.{slots_from}
 use native.Mathlib.Nat.{mod-eq-sub-mod}
 
@@ -42,7 +46,8 @@ module _ {X : Type 0} (slots : List (Option X)) (h : ℕ) (within : h < length s
             let j : ℕ = k - (length slots - h) in
             ap (λ i. slots_from h (set slots i y)) (e ∙ omega arith)
             ∙ ap₂ ◌++◌ (drop-set-lt h slots j y (omega arith)) (take-set-lt h slots j y (omega arith))
-            ∙ sym (set-append_right (drop h slots) (take h slots) (length slots - h) k y (length-drop h slots) (omega arith))
+            ∙ sym (set-append_right (drop h slots) (take h slots) (length slots - h) k y (length-drop h slots)
+            (omega arith))
       ]
 
   -- the slots from the next one on

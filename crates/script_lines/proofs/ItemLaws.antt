@@ -37,7 +37,8 @@ part_step : {X : Type 0} (f : X → List (List ℕ)) (xs : List X) (i : ℕ) (d 
     → joined front (then_item (item_in (f (get_or xs i d))) (items_in (drop (i + 1) (map f xs)))) ≡ all
 part_step f xs i d front all low h =
     let here : drop i (map f xs) ≡ f (get_or xs i d) ∷ drop (i + 1) (map f xs) =
-    drop_more (map f xs) i (f d) (omega (arith, length-map xs f)) ∙ ap (λ t. t ∷ drop (i + 1) (map f xs)) (get_or-map f xs i d (f d) low) in
+    drop_more (map f xs) i (f d) (omega (arith, length-map xs f))
+    ∙ ap (λ t. t ∷ drop (i + 1) (map f xs)) (get_or-map f xs i d (f d) low) in
     ap (joined front) (sym (ap items_in here ∙ items_step (f (get_or xs i d)) (drop (i + 1) (map f xs)))) ∙ h
 
 -- a part that is no entry ends it all
@@ -45,10 +46,12 @@ pub part_bad : {X : Type 0} (f : X → List (List ℕ)) (xs : List X) (i : ℕ) 
     (all : Option (List Submission)) → i < length xs
     → joined front (items_in (drop i (map f xs))) ≡ all → item_in (f (get_or xs i d)) ≡ None → all ≡ None
 part_bad f xs i d front all low h none =
-    sym (part_step f xs i d front all low h) ∙ ap (λ o. joined front (then_item o (items_in (drop (i + 1) (map f xs))))) none
+    sym (part_step f xs i d front all low h)
+    ∙ ap (λ o. joined front (then_item o (items_in (drop (i + 1) (map f xs))))) none
 
 -- an entry is added
-pub part_good : {X : Type 0} (f : X → List (List ℕ)) (xs : List X) (i : ℕ) (d : X) (front new : List Submission) (x : Submission)
+pub part_good : {X : Type 0} (f : X → List (List ℕ)) (xs : List X) (i : ℕ) (d : X) (front new : List Submission)
+    (x : Submission)
     (all : Option (List Submission)) → i < length xs
     → joined front (items_in (drop i (map f xs))) ≡ all → item_in (f (get_or xs i d)) ≡ Some x → new ≡ front ++ x ∷ []
     → joined new (items_in (drop (i + 1) (map f xs))) ≡ all

@@ -1,5 +1,6 @@
 -- A claim at a later moment of its driver.
-use Rattle.std.proofs.Common.{List, None, Option, Some, [], arith, ap, false, inl, le-leb, lt-ltb, refl, subst, sym, true, ℕ, ◌+◌, ◌<◌, ◌∙◌, ◌≡◌, ◌≢◌, ◌≤◌}
+use Rattle.std.proofs.Common.{List, None, Option, Some, [], arith, ap, false, inl, le-leb, lt-ltb, refl, subst, sym}
+use Rattle.std.proofs.Common.{true, ℕ, ◌+◌, ◌<◌, ◌∙◌, ◌≡◌, ◌≢◌, ◌≤◌}
 use Rattle.std.specs.Prelude.{Err, IfOk, Ok, Result}
 use Rattle.std.specs.declared.snapshot.Snapshot.{Snapshot}
 use Rattle.std.proofs.lemmas.Bool.{and_from}
@@ -28,20 +29,30 @@ use Rattle.slot_alloc.specs.declared.claiming.Reach.{Reach}
 use Rattle.slot_alloc.specs.declared.claiming.Stage.{Stage}
 use Rattle.slot_alloc.specs.declared.progress.Progress.{Progress}
 use Rattle.slot_alloc.specs.declared.slots.Slots.{Slots}
-use Rattle.slot_alloc.proofs.Starting.{Claims, asking_claimed, careful_claimed, careful_same, goes_on_claimed, goes_on_same, unreleased_claimed}
+use Rattle.slot_alloc.proofs.Starting.{Claims, asking_claimed, careful_claimed, careful_same, goes_on_claimed}
+use Rattle.slot_alloc.proofs.Starting.{goes_on_same, unreleased_claimed}
 
 -- the block of a slot lies in the area
 pub inside_of : (r : Range) (i : ℕ) → i < r.blocks → has_block r (block_of r i) ≡ true
-inside_of r i h = and_from _ _ (le-leb r.slba (r.slba + i) (omega arith)) (lt-ltb (r.slba + i) (r.slba + r.blocks) (omega (arith, h)))
+inside_of r i h = and_from _ _ (le-leb r.slba (r.slba + i) (omega arith))
+    (lt-ltb (r.slba + i) (r.slba + r.blocks) (omega (arith, h)))
 
 module _ {P : Type 0} (g : Ghosts P) where
   -- two later drivers have the same settings
   settings_from : (d e f : Driver P g) → HasSettings d e → HasSettings d f → HasSettings e f
   settings_from d e f x y =
-      record { began = y.began ∙ sym x.began; host = y.host ∙ sym x.host; acwu = y.acwu ∙ sym x.acwu; slots = y.slots ∙ sym x.slots; queues = y.queues ∙ sym x.queues }
+      record {
+        began = y.began ∙ sym x.began;
+        host = y.host ∙ sym x.host;
+        acwu = y.acwu ∙ sym x.acwu;
+        slots = y.slots ∙ sym x.slots;
+        queues = y.queues ∙ sym x.queues;
+      }
 
   -- what a claim's answer said it goes on to say
-  pub says_on : ((a b c : P) → g.follows a b → g.follows b c → g.follows a c) → (d e began : Driver P g) (l : ℕ) (k : Call P) (serial : ℕ) (r : Result Reply Status) (released : Option ReleasedName) → GoesOn d e released → ClaimSays d began l k serial r
+  pub says_on : ((a b c : P) → g.follows a b → g.follows b c → g.follows a c)
+      → (d e began : Driver P g) (l : ℕ) (k : Call P) (serial : ℕ) (r : Result Reply Status)
+      (released : Option ReleasedName) → GoesOn d e released → ClaimSays d began l k serial r
       → ClaimSays e began l k serial r
   says_on on d e began l k serial r released x s =
       record {
@@ -59,7 +70,9 @@ module _ {P : Type 0} (g : Ghosts P) where
   pub none_taken : (d began : Driver P g) → AreTaken d began 0 []
   none_taken d began = record { count = refl; says = λ i c there. absurd (let e : None ≡ Some c = there in cc) }
 
-  pub taken_on : ((a b c : P) → g.follows a b → g.follows b c → g.follows a c) → (d e began : Driver P g) (n : ℕ) (claims : List (Call P × ℕ)) (released : Option ReleasedName) → GoesOn d e released → AreTaken d began n claims
+  pub taken_on : ((a b c : P) → g.follows a b → g.follows b c → g.follows a c)
+      → (d e began : Driver P g) (n : ℕ) (claims : List (Call P × ℕ)) (released : Option ReleasedName)
+      → GoesOn d e released → AreTaken d began n claims
       → AreTaken e began n claims
   taken_on on d e began n claims released x h =
       record {
@@ -70,24 +83,38 @@ module _ {P : Type 0} (g : Ghosts P) where
       }
 
   -- what is known of a claim that was begun
-  pub claims_of : (d e : Driver P g) (slots : Slots) (slot l : ℕ) (k : Call P) (serial : ℕ) → l ≡ block_of (area slots) slot → HasSettings d e → g.follows d.port e.port → IsClaimStart d e l (Ok (k, serial))
-      → 1 ≤ host_of d → host_of d < 4294967296 → serial < 18446744073709551616 → area_of d ≡ area slots → slot < slots.count → Claims g d e (block_of (area_of d) slot) k serial
+  pub claims_of : (d e : Driver P g) (slots : Slots) (slot l : ℕ) (k : Call P) (serial : ℕ)
+      → l ≡ block_of (area slots) slot → HasSettings d e → g.follows d.port e.port → IsClaimStart d e l (Ok (k, serial))
+      → 1 ≤ host_of d → host_of d < 4294967296 → serial < 18446744073709551616 → area_of d ≡ area slots
+      → slot < slots.count → Claims g d e (block_of (area_of d) slot) k serial
   claims_of d e slots slot l k serial at settings later start named narrow fits is less =
       record {
         settings = settings;
         later = later;
-        start = subst (λ (b : ℕ). IsClaimStart d e b (Ok (k, serial))) (at ∙ ap (λ (r : Range). block_of r slot) (sym is)) start;
+        start = subst (λ (b : ℕ). IsClaimStart d e b (Ok (k, serial)))
+            (at ∙ ap (λ (r : Range). block_of r slot) (sym is)) start;
         named = named;
         narrow = narrow;
         fits = fits;
-        inside = subst (λ (r : Range). has_block r (block_of r slot) ≡ true) (sym is) (inside_of (area slots) slot less);
+        inside = subst (λ (r : Range). has_block r (block_of r slot) ≡ true) (sym is)
+            (inside_of (area slots) slot less);
       }
 
   -- the claim of the slot at hand was begun
-  pub claiming_now : ((a b c : P) → g.follows a b → g.follows b c → g.follows a c) → (d e : Driver P g) (began : Snapshot (Driver P g)) (slots : Slots) (reach : Reach) (slot : ℕ) (k : Call P) (serial : ℕ)
-      (claims : Snapshot (Lower P)) → Claims g d e (block_of (area_of d) slot) k serial → area_of d ≡ area slots → slot < slots.count → g.follows began.value.port d.port
+  pub claiming_now : ((a b c : P) → g.follows a b → g.follows b c → g.follows a c)
+      → (d e : Driver P g) (began : Snapshot (Driver P g)) (slots : Slots) (reach : Reach) (slot : ℕ) (k : Call P)
+      (serial : ℕ)
+      (claims : Snapshot (Lower P)) → Claims g d e (block_of (area_of d) slot) k serial → area_of d ≡ area slots
+      → slot < slots.count → g.follows began.value.port d.port
       → (reach ≡ Reach.Any → AreTaken d began.value slot (claims_in claims.value))
-      → IsClaimingOf e (record { slots = slots; reach = reach; slot = slot; stage = Stage.Asked k serial; began = began; lower = claims })
+      → IsClaimingOf e (record {
+        slots = slots;
+        reach = reach;
+        slot = slot;
+        stage = Stage.Asked k serial;
+        began = began;
+        lower = claims;
+      })
   claiming_now on d e began slots reach slot k serial claims c area_is inside since lower =
       let x = goes_on_claimed g d e (block_of (area_of d) slot) k serial c in
       record {
@@ -95,24 +122,39 @@ module _ {P : Type 0} (g : Ghosts P) where
         inside = inside;
         since = on began.value.port d.port e.port since x.later;
         at = (
-          subst (λ (r : Range). IsAsking e (block_of r slot) k serial) (sym x.settings.slots) (asking_claimed g d e (block_of (area_of d) slot) k serial c),
+          subst (λ (r : Range). IsAsking e (block_of r slot) k serial) (sym x.settings.slots)
+              (asking_claimed g d e (block_of (area_of d) slot) k serial c),
           on began.value.port d.port k.start.value since c.start.2.since,
         );
         lower = λ any. taken_on on d e began.value slot (claims_in claims.value) None x (lower any);
       }
 
   -- the start of the claim of the slot at hand
-  pub start_of : (d e : Driver P g) (slots : Slots) (slot l : ℕ) (r : Result (Call P × ℕ) Fault) → l ≡ block_of (area slots) slot → area_of d ≡ area slots → IsClaimStart d e l r → IsClaimStart d e (block_of (area_of d) slot) r
-  start_of d e slots slot l r at is start = subst (λ (b : ℕ). IsClaimStart d e b r) (at ∙ ap (λ (x : Range). block_of x slot) (sym is)) start
+  pub start_of : (d e : Driver P g) (slots : Slots) (slot l : ℕ) (r : Result (Call P × ℕ) Fault)
+      → l ≡ block_of (area slots) slot → area_of d ≡ area slots → IsClaimStart d e l r
+      → IsClaimStart d e (block_of (area_of d) slot) r
+  start_of d e slots slot l r at is start =
+      subst (λ (b : ℕ). IsClaimStart d e b r) (at ∙ ap (λ (x : Range). block_of x slot) (sym is)) start
 
   -- no release of its name was published
-  pub unreleased_now : (d e : Driver P g) (slot : ℕ) (k : Call P) (serial : ℕ) → Claims g d e (block_of (area_of d) slot) k serial → IsCareful d → IsStageUnreleased e (block_of (area_of e) slot) (Stage.Asked k serial)
+  pub unreleased_now : (d e : Driver P g) (slot : ℕ) (k : Call P) (serial : ℕ)
+      → Claims g d e (block_of (area_of d) slot) k serial → IsCareful d
+      → IsStageUnreleased e (block_of (area_of e) slot) (Stage.Asked k serial)
   unreleased_now d e slot k serial c careful =
-      subst (λ (r : Range). log_released (made e) (block_of r slot) (own_name e serial) ≡ false) (sym c.settings.slots) (unreleased_claimed g d e (block_of (area_of d) slot) k serial c careful)
+      subst (λ (r : Range). log_released (made e) (block_of r slot) (own_name e serial) ≡ false) (sym c.settings.slots)
+      (unreleased_claimed g d e (block_of (area_of d) slot) k serial c careful)
 
   -- it is due
-  pub claiming_due : ((a b c : P) → g.follows a b → g.follows b c → g.follows a c) → (d e : Driver P g) (k : Claiming P g) → IsClaimingOf d k → k.reach ≡ Reach.Any → GoesOn d e None
-      → IsClaimingOf e (record { slots = k.slots; reach = k.reach; slot = k.slot; stage = Stage.Due; began = k.began; lower = k.lower })
+  pub claiming_due : ((a b c : P) → g.follows a b → g.follows b c → g.follows a c)
+      → (d e : Driver P g) (k : Claiming P g) → IsClaimingOf d k → k.reach ≡ Reach.Any → GoesOn d e None
+      → IsClaimingOf e (record {
+        slots = k.slots;
+        reach = k.reach;
+        slot = k.slot;
+        stage = Stage.Due;
+        began = k.began;
+        lower = k.lower;
+      })
   claiming_due on d e k of any x =
       record {
         area_is = x.settings.slots ∙ of.area_is;
@@ -123,12 +165,22 @@ module _ {P : Type 0} (g : Ghosts P) where
       }
 
   -- a call after a fault
-  pub call_kept : ((a b c : P) → g.follows a b → g.follows b c → g.follows a c) → (d e : Driver P g) (k : Call P) → HasSettings d e → serial_of e ≡ serial_of d → g.follows d.port e.port → IsAsBefore d e → IsCallOf d k → IsCallOf e k
+  pub call_kept : ((a b c : P) → g.follows a b → g.follows b c → g.follows a c) → (d e : Driver P g) (k : Call P)
+      → HasSettings d e → serial_of e ≡ serial_of d → g.follows d.port e.port → IsAsBefore d e → IsCallOf d k
+      → IsCallOf e k
   call_kept on d e k s drawn later x of =
-      reaped_calls g on d e k (record { began = s.began; host = s.host; acwu = s.acwu; slots = s.slots; serial = drawn; queues = s.queues }) later (inl x.0) (λ q i. ap (λ (c : Cids). is_free (held c q i)) x.1) of
+      reaped_calls g on d e k (record {
+        began = s.began;
+        host = s.host;
+        acwu = s.acwu;
+        slots = s.slots;
+        serial = drawn;
+        queues = s.queues;
+      }) later (inl x.0) (λ q i. ap (λ (c : Cids). is_free (held c q i)) x.1) of
 
   -- what is told of a start that was refused for another cause than want of serials or of room
-  pub told_later : (k : Claiming P g) (f : Fault) → f ≢ Fault.NoSerial → f ≢ Fault.RingFull → Progress.Later f (record k { stage = Stage.Due }) ≡ told_of k (Err f)
+  pub told_later : (k : Claiming P g) (f : Fault) → f ≢ Fault.NoSerial → f ≢ Fault.RingFull
+      → Progress.Later f (record k { stage = Stage.Due }) ≡ told_of k (Err f)
   told_later k Fault.RingFull n m = absurd (m refl)
   told_later k Fault.NoSerial n m = absurd (n refl)
   told_later k Fault.Busy n m = refl
@@ -139,14 +191,26 @@ module _ {P : Type 0} (g : Ghosts P) where
   told_later k Fault.SlotArea n m = refl
 
   -- for want of room
-  pub told_full : (k : Claiming P g) (f : Fault) → f ≡ Fault.RingFull → Progress.Pending (record k { stage = Stage.Due }) ≡ told_of k (Err f)
+  pub told_full : (k : Claiming P g) (f : Fault) → f ≡ Fault.RingFull
+      → Progress.Pending (record k { stage = Stage.Due }) ≡ told_of k (Err f)
   told_full k f full = ap (λ (x : Fault). told_of k (Err x)) (sym full)
 
   -- what the start of a claim by itself leaves
-  pub claim_kept : (d e : Driver P g) (l : ℕ) (r : Result (Call P × ℕ) Fault) → HasSettings d e → g.follows d.port e.port → IsClaimStart d e l r → 1 ≤ host_of d → host_of d < 4294967296 → IfOk r (λ c. c.1 < 18446744073709551616)
+  pub claim_kept : (d e : Driver P g) (l : ℕ) (r : Result (Call P × ℕ) Fault) → HasSettings d e
+      → g.follows d.port e.port → IsClaimStart d e l r → 1 ≤ host_of d → host_of d < 4294967296
+      → IfOk r (λ c. c.1 < 18446744073709551616)
       → has_block (area_of d) l ≡ true → (IsCareful d → IsCareful e) × GoesOn d e None
   claim_kept d e l (Ok c) settings later start named narrow fits inside =
-      let k : Claims g d e l c.0 c.1 = record { settings = settings; later = later; start = start; named = named; narrow = narrow; fits = fits; inside = inside } in
+      let k : Claims g d e l c.0 c.1 =
+      record {
+        settings = settings;
+        later = later;
+        start = start;
+        named = named;
+        narrow = narrow;
+        fits = fits;
+        inside = inside;
+      } in
       (careful_claimed g d e l c.0 c.1 k, goes_on_claimed g d e l c.0 c.1 k)
   claim_kept d e l (Err f) settings later start named narrow fits inside =
       (careful_same g d e settings start.0 start.1.0, goes_on_same g d e settings start.0 later start.1.0)

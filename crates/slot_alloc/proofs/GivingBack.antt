@@ -10,7 +10,8 @@ use Rattle.driver_calls.specs.Says.{outcome}
 use Rattle.driver_calls.specs.declared.event.PortEvent.{PortEvent}
 use Rattle.driver_calls.specs.declared.reply.Reply.{Reply}
 use Rattle.driver_cas.proofs.Sending.{sent_call}
-use Rattle.driver_cas.specs.Drivers.{IsBack, IsCallOf, IsOneMore, IsSame, Says, answer_to, area_of, host_of, made, number_of, serial_of as last_of, told}
+use Rattle.driver_cas.specs.Drivers.{IsBack, IsCallOf, IsOneMore, IsSame, Says, answer_to, area_of, host_of, made}
+use Rattle.driver_cas.specs.Drivers.{number_of, serial_of as last_of, told}
 use Rattle.driver_cas.specs.SlotStarts.{IsReleaseStart, release_data}
 use Rattle.driver_cas.specs.declared.call.Call.{Call}
 use Rattle.driver_cas.specs.declared.call.Poll.{Poll}
@@ -43,46 +44,63 @@ module _ {P : Type 0} (g : Ghosts P) where
     pub start : IsReleaseStart d e (block_of (area_of d) (slot_of c)) (serial_of c) (Ok k)
     pub held : IsHeldBy d c
 
-  pub releases_of : (d e : Driver P g) (c : Claim) (k : Call P) (r : Range) (l : ℕ) → l ≡ block_of r (slot_of c) → area_of d ≡ r → IsSame d e → g.follows d.port e.port → IsReleaseStart d e l (serial_of c) (Ok k) → IsHeldBy d c → Releases d e c k
+  pub releases_of : (d e : Driver P g) (c : Claim) (k : Call P) (r : Range) (l : ℕ) → l ≡ block_of r (slot_of c)
+      → area_of d ≡ r → IsSame d e → g.follows d.port e.port → IsReleaseStart d e l (serial_of c) (Ok k) → IsHeldBy d c
+      → Releases d e c k
   releases_of d e c k r l at is same later start held =
       record {
         same = same;
         later = later;
-        start = subst (λ (b : ℕ). IsReleaseStart d e b (serial_of c) (Ok k)) (at ∙ ap (λ (a : Range). block_of a (slot_of c)) (sym is)) start;
+        start = subst (λ (b : ℕ). IsReleaseStart d e b (serial_of c) (Ok k))
+            (at ∙ ap (λ (a : Range). block_of a (slot_of c)) (sym is)) start;
         held = held;
       }
 
   -- ---- whoever's name it is
 
-  pub careful_start : (d e : Driver P g) (l serial : ℕ) (r : Result (Call P) Fault) → IsSame d e → IsReleaseStart d e l serial r → IsName (own_name d serial) → has_block (area_of d) l ≡ true → log_believed (made d) l (own_name d serial) ≡ true → IsCareful d → IsCareful e
+  pub careful_start : (d e : Driver P g) (l serial : ℕ) (r : Result (Call P) Fault) → IsSame d e
+      → IsReleaseStart d e l serial r → IsName (own_name d serial) → has_block (area_of d) l ≡ true
+      → log_believed (made d) l (own_name d serial) ≡ true → IsCareful d → IsCareful e
   careful_start d e l serial (Ok k) same s name inside believed careful =
-      let p : is_careful (area_of e) (host_of e) (last_of e) (made e) ≡ is_careful (area_of d) (host_of d) (last_of d) (PortEvent.Sent k.queue s.batch ∷ made d) =
+      let p : is_careful (area_of e) (host_of e) (last_of e) (made e)
+      ≡ is_careful (area_of d) (host_of d) (last_of d) (PortEvent.Sent k.queue s.batch ∷ made d) =
       λ i. is_careful (same.slots i) (same.host i) (same.serial i) (s.published i) in
-      p ∙ careful_release (area_of d) (host_of d) (last_of d) (made d) k.queue l k.first k.second (own_name d serial) s.batch name s.is inside believed careful
-  careful_start d e l serial (Err f) same s name inside believed careful = careful_same g d e (settings_of g d e same) same.serial s.0.0 careful
+      p ∙ careful_release (area_of d) (host_of d) (last_of d) (made d) k.queue l k.first k.second (own_name d serial)
+      s.batch name s.is inside believed careful
+  careful_start d e l serial (Err f) same s name inside believed careful =
+      careful_same g d e (settings_of g d e same) same.serial s.0.0 careful
 
-  pub goes_on_start : (d e : Driver P g) (l serial : ℕ) (r : Result (Call P) Fault) → IsSame d e → g.follows d.port e.port → IsReleaseStart d e l serial r → IsName (own_name d serial) → GoesOn d e (Some (l, own_name d serial))
+  pub goes_on_start : (d e : Driver P g) (l serial : ℕ) (r : Result (Call P) Fault) → IsSame d e
+      → g.follows d.port e.port → IsReleaseStart d e l serial r → IsName (own_name d serial)
+      → GoesOn d e (Some (l, own_name d serial))
   goes_on_start d e l serial (Ok k) same later s name =
       let drawn = same.serial in
       record {
         settings = settings_of g d e same;
         drawn = omega (arith, drawn);
         later = later;
-        log = subst (λ (log : List PortEvent). LogGoesOn (area_of d) (made d) log (Some (l, own_name d serial))) (sym s.published)
+        log = subst (λ (log : List PortEvent). LogGoesOn (area_of d) (made d) log (Some (l, own_name d serial)))
+            (sym s.published)
             (release_on (area_of d) (made d) k.queue l k.first k.second (own_name d serial) s.batch name s.is);
       }
-  goes_on_start d e l serial (Err f) same later s name = goes_on_any g d e (Some (l, own_name d serial)) (goes_on_same g d e (settings_of g d e same) same.serial later s.0.0)
+  goes_on_start d e l serial (Err f) same later s name =
+      goes_on_any g d e (Some (l, own_name d serial))
+      (goes_on_same g d e (settings_of g d e same) same.serial later s.0.0)
 
   -- ---- that of a claim
 
   pub careful_released : (d e : Driver P g) (c : Claim) (k : Call P) → Releases d e c k → IsCareful d → IsCareful e
   careful_released d e c k x careful =
-      careful_start d e (block_of (area_of d) (slot_of c)) (serial_of c) (Ok k) x.same x.start x.held.name (inside_of (area_of d) (slot_of c) x.held.inside) x.held.believed careful
+      careful_start d e (block_of (area_of d) (slot_of c)) (serial_of c) (Ok k) x.same x.start x.held.name
+      (inside_of (area_of d) (slot_of c) x.held.inside) x.held.believed careful
 
-  pub goes_on_released : (d e : Driver P g) (c : Claim) (k : Call P) → Releases d e c k → GoesOn d e (Some (block_of (area_of d) (slot_of c), own_name d (serial_of c)))
-  goes_on_released d e c k x = goes_on_start d e (block_of (area_of d) (slot_of c)) (serial_of c) (Ok k) x.same x.later x.start x.held.name
+  pub goes_on_released : (d e : Driver P g) (c : Claim) (k : Call P) → Releases d e c k
+      → GoesOn d e (Some (block_of (area_of d) (slot_of c), own_name d (serial_of c)))
+  goes_on_released d e c k x =
+      goes_on_start d e (block_of (area_of d) (slot_of c)) (serial_of c) (Ok k) x.same x.later x.start x.held.name
 
-  pub releasing_now : (d e : Driver P g) (c : Claim) (k : Call P) → Releases d e c k → IsReleasingOf e (record { slot = slot_of c; serial = serial_of c; call = k })
+  pub releasing_now : (d e : Driver P g) (c : Claim) (k : Call P) → Releases d e c k
+      → IsReleasingOf e (record { slot = slot_of c; serial = serial_of c; call = k })
   releasing_now d e c k x =
       let s = x.start in
       let l = block_of (area_of d) (slot_of c) in
@@ -92,43 +110,66 @@ module _ {P : Type 0} (g : Ghosts P) where
         of = s.of;
         does = s.does;
         inside = subst (λ (r : Range). slot_of c < r.blocks) (sym x.same.slots) x.held.inside;
-        release = subst (λ (z : List PortEvent × ℕ × ℕ × Range). IsReleaseIn z.0 k.queue k.first k.second z.1 (block_of z.3 (slot_of c)) (record { host = z.2; serial = serial_of c }))
+        release = subst (λ (z : List PortEvent × ℕ × ℕ × Range).
+            IsReleaseIn z.0 k.queue k.first k.second z.1 (block_of z.3 (slot_of c))
+            (record { host = z.2; serial = serial_of c }))
             (λ i. (sym s.published i, sym number i, sym x.same.host i, sym x.same.slots i))
-            (release_in (made d) k.queue l k.first k.second (own_name d (serial_of c)) s.batch x.held.name s.is (sent_call (made d) k.queue l 1 k.first k.second Op.Pair contents s.batch s.free.unlike s.is));
+            (release_in (made d) k.queue l k.first k.second (own_name d (serial_of c)) s.batch x.held.name s.is
+            (sent_call (made d) k.queue l 1 k.first k.second Op.Pair contents s.batch s.free.unlike s.is));
       }
 
   -- ---- after a poll
 
-  release_more : (log more : List PortEvent) (q first second j l : ℕ) (n : Name) → IsOneMore log more → IsReleaseIn log q first second j l n → IsReleaseIn more q first second j l n
-  release_more log more q first second j l n (inl e) c = subst (λ (xs : List PortEvent). IsReleaseIn xs q first second j l n) (sym e) c
+  release_more : (log more : List PortEvent) (q first second j l : ℕ) (n : Name) → IsOneMore log more
+      → IsReleaseIn log q first second j l n → IsReleaseIn more q first second j l n
+  release_more log more q first second j l n (inl e) c =
+      subst (λ (xs : List PortEvent). IsReleaseIn xs q first second j l n) (sym e) c
   release_more log more q first second j l n (inr e) c =
-      subst (λ (xs : List PortEvent). IsReleaseIn xs q first second j l n) (sym e.2) (release_in_later (PortEvent.Got e.0 e.1 ∷ []) log q first second j l n c c.call)
+      subst (λ (xs : List PortEvent). IsReleaseIn xs q first second j l n) (sym e.2)
+      (release_in_later (PortEvent.Got e.0 e.1 ∷ []) log q first second j l n c c.call)
 
   -- the release stands in the log after a poll
   pub release_there : (d e : Driver P g) (k : Releasing P) → IsReleasingOf d k → IsQuiet d e
-      → IsReleaseIn (made e) k.call.queue k.call.first k.call.second (number_of e k.call) (block_of (area_of e) k.slot) (own_name e k.serial)
+      → IsReleaseIn (made e) k.call.queue k.call.first k.call.second (number_of e k.call) (block_of (area_of e) k.slot)
+      (own_name e k.serial)
   release_there d e k of x =
-      subst (λ (z : ℕ × ℕ × Range). IsReleaseIn (made e) k.call.queue k.call.first k.call.second z.0 (block_of z.2 k.slot) (record { host = z.1; serial = k.serial }))
+      subst (λ (z : ℕ × ℕ × Range).
+      IsReleaseIn (made e) k.call.queue k.call.first k.call.second z.0 (block_of z.2 k.slot)
+      (record { host = z.1; serial = k.serial }))
       (λ i. (sym (number_same g d e k.call (settings_of g d e x.same)) i, sym x.same.host i, sym x.same.slots i))
-      (release_more (made d) (made e) k.call.queue k.call.first k.call.second (number_of d k.call) (block_of (area_of d) k.slot) (own_name d k.serial) x.one of.release)
+      (release_more (made d) (made e) k.call.queue k.call.first k.call.second (number_of d k.call)
+      (block_of (area_of d) k.slot) (own_name d k.serial) x.one of.release)
 
-  pub inside_there : (d e : Driver P g) (k : Releasing P) → IsReleasingOf d k → IsQuiet d e → k.slot < (area_of e).blocks
+  pub inside_there : (d e : Driver P g) (k : Releasing P) → IsReleasingOf d k → IsQuiet d e
+      → k.slot < (area_of e).blocks
   inside_there d e k of x = subst (λ (r : Range). k.slot < r.blocks) (sym x.same.slots) of.inside
 
-  pub releasing_polled : (d e : Driver P g) (k : Releasing P) → IsReleasingOf d k → Polls g d e → IsCallOf e k.call → IsReleasingOf e k
+  pub releasing_polled : (d e : Driver P g) (k : Releasing P) → IsReleasingOf d k → Polls g d e → IsCallOf e k.call
+      → IsReleasingOf e k
   releasing_polled d e k of x call_of =
       let quiet = quiet_polled g d e x in
-      record { of = call_of; does = of.does; inside = inside_there d e k of quiet; release = release_there d e k of quiet }
+      record {
+        of = call_of;
+        does = of.does;
+        inside = inside_there d e k of quiet;
+        release = release_there d e k of quiet;
+      }
 
   -- the release's call comes back
-  pub same_releasing : (k : Releasing P) (call : Call P) → call ≡ k.call → (let j : Releasing P = record { slot = k.slot; serial = k.serial; call = call } in j) ≡ k
+  pub same_releasing : (k : Releasing P) (call : Call P) → call ≡ k.call
+      → (let j : Releasing P = record { slot = k.slot; serial = k.serial; call = call } in j) ≡ k
   same_releasing k call h = ap (λ (c : Call P). record { slot = k.slot; serial = k.serial; call = c }) h
 
-  pub differs_polled : (d e : Driver P g) (k : Releasing P) (reply : Reply) → IsReleasingOf d k → reply ≢ Reply.Swapped → answer_to e k.call ≡ Some (Ok reply) → reply ≡ Reply.Differs
+  pub differs_polled : (d e : Driver P g) (k : Releasing P) (reply : Reply) → IsReleasingOf d k → reply ≢ Reply.Swapped
+      → answer_to e k.call ≡ Some (Ok reply) → reply ≡ Reply.Differs
   differs_polled d e k reply of other answer =
-      pair_reply (made e) k.call.queue k.call.first k.call.second reply (subst (λ (o : Op). outcome (made e) k.call.queue o k.call.first k.call.second ≡ Some (Ok reply)) of.does answer) other
+      pair_reply (made e) k.call.queue k.call.first k.call.second reply
+      (subst (λ (o : Op). outcome (made e) k.call.queue o k.call.first k.call.second ≡ Some (Ok reply)) of.does
+      answer) other
 
-  pub failed_release : (e : Driver P g) (k : Releasing P) (f : Fault) → IsBack k.call (Poll.Failed f) → told {P = P} (Poll.Failed f) ≡ answer_to e k.call → Says e k.call (told {P = P} (Poll.Failed f)) → IsReleased e k (Released.Failed f)
+  pub failed_release : (e : Driver P g) (k : Releasing P) (f : Fault) → IsBack k.call (Poll.Failed f)
+      → told {P = P} (Poll.Failed f) ≡ answer_to e k.call → Says e k.call (told {P = P} (Poll.Failed f))
+      → IsReleased e k (Released.Failed f)
   failed_release e k (Fault.Status s) back answer says = inl (sym answer, says)
   failed_release e k Fault.Length back answer says = absurd back
   failed_release e k Fault.TooLong back answer says = absurd back
@@ -139,7 +180,9 @@ module _ {P : Type 0} (g : Ghosts P) where
   failed_release e k Fault.NoSerial back answer says = absurd back
 
   -- what is answered by success alone isn't told as failed
-  pub never_failed : (e : Driver P g) (k : Releasing P) (f : Fault) → ((r : Result Reply Status) → answer_to e k.call ≡ Some r → r ≡ Ok Reply.Swapped) → IsReleased e k (Released.Failed f) → ⊥
+  pub never_failed : (e : Driver P g) (k : Releasing P) (f : Fault)
+      → ((r : Result Reply Status) → answer_to e k.call ≡ Some r → r ≡ Ok Reply.Swapped)
+      → IsReleased e k (Released.Failed f) → ⊥
   never_failed e k (Fault.Status s) only h = elim h [
     | inl a ↦ let is : Err s ≡ Ok Reply.Swapped = only (Err s) a.0 in absurd (cc)
     | inr b ↦ let is : Ok Reply.Differs ≡ Ok Reply.Swapped = only (Ok Reply.Differs) b.1.0 in absurd (cc)

@@ -1,5 +1,6 @@
 -- A driver after its other calls, and what it goes on to believe.
-use Rattle.std.proofs.Common.{Bool, List, None, Some, arith, ap, cond, eqb-true, false, nat_lt, not, refl, subst, sym, true, ℕ, ◌%◌, ◌&&◌, ◌+◌, ◌/◌, ◌∙◌, ◌∷◌, ◌==◌, ◌||◌, ◌≡◌, ◌≢◌, ◌≤◌}
+use Rattle.std.proofs.Common.{Bool, List, None, Some, arith, ap, cond, eqb-true, false, nat_lt, not, refl, subst, sym}
+use Rattle.std.proofs.Common.{true, ℕ, ◌%◌, ◌&&◌, ◌+◌, ◌/◌, ◌∙◌, ◌∷◌, ◌==◌, ◌||◌, ◌≡◌, ◌≢◌, ◌≤◌}
 use Rattle.std.specs.Prelude.{Err, Ok, Result}
 use Rattle.std.specs.List.{list_any}
 use Rattle.std.proofs.lemmas.Bool.Decides.{nat_tests}
@@ -9,9 +10,9 @@ use Rattle.nvme_model.specs.Slots.{touches}
 use Rattle.nvme_model.specs.declared.array.Range.{Range}
 use Rattle.nvme_model.specs.declared.operation.Op.{Op}
 use Rattle.driver_calls.specs.declared.event.PortEvent.{PortEvent}
-use Rattle.driver_commands.proofs.Calls.{call_touches}
-use Rattle.driver_commands.specs.declared.request.CallData.{CallData}
-use Rattle.driver_commands.specs.declared.request.Request.{Request}
+use Rattle.driver_calls.proofs.Calls.{call_touches}
+use Rattle.driver_calls.specs.declared.request.CallData.{CallData}
+use Rattle.driver_calls.specs.declared.request.Request.{Request}
 use Rattle.driver_cas.specs.Drivers.{IsSame, area_of, host_of, made, serial_of as last_of}
 use Rattle.driver_cas.specs.Requests.{IsStart, pair_request_of, request_of}
 use Rattle.driver_cas.specs.Starts.{IsStarted}
@@ -64,19 +65,31 @@ few_blocks n b h =
     let few : nat_lt 256 n ≡ false = a.0 in
     grind (arith, nat_tests)
 
-pub request_sound : (acwu : ℕ) (slots : Range) (o : Op) (slba bytes : ℕ) → Sound slots (request_of acwu slots o slba bytes)
+pub request_sound : (acwu : ℕ) (slots : Range) (o : Op) (slba bytes : ℕ)
+    → Sound slots (request_of acwu slots o slba bytes)
 request_sound acwu slots o slba bytes =
-    go ((bytes == 0) || not (bytes % 512 == 0)) refl (nat_lt 256 (bytes / 512) || (is_pair (Some o) && nat_lt (acwu + 1) (bytes / 512))) refl (has_write (Some o) && overlap (record { slba = slba; blocks = bytes / 512 }) slots) refl
+    go ((bytes == 0) || not (bytes % 512 == 0)) refl
+    (nat_lt 256 (bytes / 512) || (is_pair (Some o) && nat_lt (acwu + 1) (bytes / 512))) refl
+    (has_write (Some o) && overlap (record { slba = slba; blocks = bytes / 512 }) slots) refl
   where
-    go : (a : Bool) → ((bytes == 0) || not (bytes % 512 == 0)) ≡ a → (b : Bool) → (nat_lt 256 (bytes / 512) || (is_pair (Some o) && nat_lt (acwu + 1) (bytes / 512))) ≡ b
+    go : (a : Bool) → ((bytes == 0) || not (bytes % 512 == 0)) ≡ a → (b : Bool)
+        → (nat_lt 256 (bytes / 512) || (is_pair (Some o) && nat_lt (acwu + 1) (bytes / 512))) ≡ b
         → (c : Bool) → (has_write (Some o) && overlap (record { slba = slba; blocks = bytes / 512 }) slots) ≡ c
-        → Sound slots (cond a (Err Fault.Length) (cond b (Err Fault.TooLong) (cond c (Err Fault.SlotArea) (Ok (record { op = o; slba = slba; blocks = bytes / 512 })))))
+        → Sound slots (cond a (Err Fault.Length)
+        (cond b (Err Fault.TooLong)
+        (cond c (Err Fault.SlotArea) (Ok (record { op = o; slba = slba; blocks = bytes / 512 })))))
     go true x b y c z = tt
     go false x true y c z = tt
     go false x false y true z = tt
-    go false x false y false z = record { some = some_blocks bytes x; most = few_blocks (bytes / 512) (is_pair (Some o) && nat_lt (acwu + 1) (bytes / 512)) y; outside = z }
+    go false x false y false z =
+        record {
+          some = some_blocks bytes x;
+          most = few_blocks (bytes / 512) (is_pair (Some o) && nat_lt (acwu + 1) (bytes / 512)) y;
+          outside = z;
+        }
 
-pub pair_sound : (acwu : ℕ) (slots : Range) (slba bytes others : ℕ) → Sound slots (pair_request_of acwu slots slba bytes others)
+pub pair_sound : (acwu : ℕ) (slots : Range) (slba bytes others : ℕ)
+    → Sound slots (pair_request_of acwu slots slba bytes others)
 pair_sound acwu slots slba bytes others = go (bytes == others)
   where
     go : (b : Bool) → Sound slots (cond b (request_of acwu slots Op.Pair slba bytes) (Err Fault.Length))
@@ -84,10 +97,14 @@ pair_sound acwu slots slba bytes others = go (bytes == others)
     go false = tt
 
 module _ {P : Type 0} (g : Ghosts P) where
-  started_outside : (d e : Driver P g) (q : Request) (contents : CallData) (k : Call P) → IsSound (area_of d) q → (s : IsStarted d e k q.op q.slba q.blocks contents) → list_any (touches (area_of d)) s.batch ≡ false
-  started_outside d e q contents k sound s = call_touches (area_of d) q.op q.slba q.blocks k.first k.second contents s.batch sound.some sound.most s.is ∙ sound.outside
+  started_outside : (d e : Driver P g) (q : Request) (contents : CallData) (k : Call P) → IsSound (area_of d) q
+      → (s : IsStarted d e k q.op q.slba q.blocks contents) → list_any (touches (area_of d)) s.batch ≡ false
+  started_outside d e q contents k sound s =
+      call_touches (area_of d) q.op q.slba q.blocks k.first k.second contents s.batch sound.some sound.most s.is
+      ∙ sound.outside
 
-  pub start_kept : (d e : Driver P g) (rq : Result Request Fault) (contents : CallData) (r : Result (Call P) Fault) → IsSame d e → g.follows d.port e.port → Sound (area_of d) rq → IsStart d e rq contents r
+  pub start_kept : (d e : Driver P g) (rq : Result Request Fault) (contents : CallData) (r : Result (Call P) Fault)
+      → IsSame d e → g.follows d.port e.port → Sound (area_of d) rq → IsStart d e rq contents r
       → (IsCareful d → IsCareful e) × GoesOn d e None
   start_kept d e (Err f) contents r same later sound s =
       let settings = settings_of g d e same in
@@ -98,13 +115,15 @@ module _ {P : Type 0} (g : Ghosts P) where
   start_kept d e (Ok q) contents (Ok k) same later sound s =
       let t = started_outside d e q contents k sound s in
       let drawn = same.serial in
-      let p : is_careful (area_of e) (host_of e) (last_of e) (made e) ≡ is_careful (area_of d) (host_of d) (last_of d) (PortEvent.Sent k.queue s.batch ∷ made d) =
+      let p : is_careful (area_of e) (host_of e) (last_of e) (made e)
+      ≡ is_careful (area_of d) (host_of d) (last_of d) (PortEvent.Sent k.queue s.batch ∷ made d) =
       λ i. is_careful (same.slots i) (same.host i) (same.serial i) (s.published i) in (
         λ careful. p ∙ careful_outside (area_of d) (host_of d) (last_of d) (made d) k.queue s.batch t careful,
         record {
           settings = settings_of g d e same;
           drawn = omega (arith, drawn);
           later = later;
-          log = subst (λ (log : List PortEvent). LogGoesOn (area_of d) (made d) log None) (sym s.published) (outside_on (area_of d) (made d) k.queue s.batch t);
+          log = subst (λ (log : List PortEvent). LogGoesOn (area_of d) (made d) log None) (sym s.published)
+              (outside_on (area_of d) (made d) k.queue s.batch t);
         },
       )

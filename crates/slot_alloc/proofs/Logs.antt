@@ -1,23 +1,32 @@
 -- A driver's log goes on.
-use Rattle.std.proofs.Common.{Bool, List, None, Option, Some, [], ap, append_assoc, eqb, false, not, refl, subst, sym, true, ℕ, ◌&&◌, ◌++◌, ◌∙◌, ◌∷◌, ◌≡◌, inl, inr}
+use Rattle.std.proofs.Common.{Bool, List, None, Option, Some, [], ap, append_assoc, eqb, false, not, refl, subst, sym}
+use Rattle.std.proofs.Common.{true, ℕ, ◌&&◌, ◌++◌, ◌∙◌, ◌∷◌, ◌≡◌, inl, inr}
 use Rattle.std.specs.List.{list_any}
 use Rattle.nvme_model.specs.Slots.{Name, same_name, touches}
 use Rattle.nvme_model.specs.declared.array.Range.{Range}
 use Rattle.nvme_model.specs.declared.submission.Submission.{Submission}
 use Rattle.driver_calls.specs.declared.event.PortEvent.{PortEvent}
 use Rattle.driver_cas.specs.Drivers.{IsOneMore}
-use Rattle.slot_calls.proofs.Staying.{believed_claim, believed_got, believed_other, believed_outside, released_claim, released_other, released_outside}
+use Rattle.slot_calls.proofs.Staying.{believed_claim, believed_got, believed_other, believed_outside, released_claim}
+use Rattle.slot_calls.proofs.Staying.{released_other, released_outside}
 use Rattle.slot_calls.specs.Calls.{IsClaimBatch, IsName, IsReleaseBatch}
 use Rattle.slot_alloc.specs.Careful.{LogGoesOn, ReleasedName}
 
 pub same_on : (slots : Range) (log : List PortEvent) → LogGoesOn slots log log None
 same_on slots log = record { log = []; more = refl; believed = λ l n v a h. h; unreleased = λ l n v a h. h }
 
-pub got_on : (slots : Range) (log : List PortEvent) (cqe payload : List ℕ) → LogGoesOn slots log (PortEvent.Got cqe payload ∷ log) None
+pub got_on : (slots : Range) (log : List PortEvent) (cqe payload : List ℕ)
+    → LogGoesOn slots log (PortEvent.Got cqe payload ∷ log) None
 got_on slots log cqe payload =
-    record { log = PortEvent.Got cqe payload ∷ []; more = refl; believed = λ l n v a h. believed_got log cqe payload l n h; unreleased = λ l n v a h. h }
+    record {
+      log = PortEvent.Got cqe payload ∷ [];
+      more = refl;
+      believed = λ l n v a h. believed_got log cqe payload l n h;
+      unreleased = λ l n v a h. h;
+    }
 
-pub outside_on : (slots : Range) (log : List PortEvent) (q : ℕ) (batch : List Submission) → list_any (touches slots) batch ≡ false → LogGoesOn slots log (PortEvent.Sent q batch ∷ log) None
+pub outside_on : (slots : Range) (log : List PortEvent) (q : ℕ) (batch : List Submission)
+    → list_any (touches slots) batch ≡ false → LogGoesOn slots log (PortEvent.Sent q batch ∷ log) None
 outside_on slots log q batch t =
     record {
       log = PortEvent.Sent q batch ∷ [];
@@ -26,7 +35,8 @@ outside_on slots log q batch t =
       unreleased = λ l n v a h. released_outside slots log q batch l n t v ∙ h;
     }
 
-pub claim_on : (slots : Range) (log : List PortEvent) (q k first second : ℕ) (m : Name) (batch : List Submission) → IsName m → IsClaimBatch k first second m batch → LogGoesOn slots log (PortEvent.Sent q batch ∷ log) None
+pub claim_on : (slots : Range) (log : List PortEvent) (q k first second : ℕ) (m : Name) (batch : List Submission)
+    → IsName m → IsClaimBatch k first second m batch → LogGoesOn slots log (PortEvent.Sent q batch ∷ log) None
 claim_on slots log q k first second m batch x b =
     record {
       log = PortEvent.Sent q batch ∷ [];
@@ -39,17 +49,22 @@ other : (b : Bool) → not b ≡ true → b ≡ false
 other false h = refl
 other true h = absurd (let e : false ≡ true = h in cc)
 
-pub release_on : (slots : Range) (log : List PortEvent) (q k first second : ℕ) (m : Name) (batch : List Submission) → IsName m → IsReleaseBatch k first second m batch → LogGoesOn slots log (PortEvent.Sent q batch ∷ log) (Some (k, m))
+pub release_on : (slots : Range) (log : List PortEvent) (q k first second : ℕ) (m : Name) (batch : List Submission)
+    → IsName m → IsReleaseBatch k first second m batch
+    → LogGoesOn slots log (PortEvent.Sent q batch ∷ log) (Some (k, m))
 release_on slots log q k first second m batch x b =
     record {
       log = PortEvent.Sent q batch ∷ [];
       more = refl;
-      believed = λ l n v a h. believed_other log q k first second m batch l n x b (other (eqb k l && same_name m n) a) h;
-      unreleased = λ l n v a h. released_other log q k first second m batch l n x b (other (eqb k l && same_name m n) a) ∙ h;
+      believed = λ l n v a h. believed_other log q k first second m batch l n x b (other (eqb k l && same_name m n) a)
+          h;
+      unreleased = λ l n v a h. released_other log q k first second m batch l n x b (other (eqb k l && same_name m n) a)
+          ∙ h;
     }
 
 -- first one, then the other
-pub on_on : (slots : Range) (a b c : List PortEvent) → LogGoesOn slots a b None → LogGoesOn slots b c None → LogGoesOn slots a c None
+pub on_on : (slots : Range) (a b c : List PortEvent) → LogGoesOn slots a b None → LogGoesOn slots b c None
+    → LogGoesOn slots a c None
 on_on slots a b c x y =
     record {
       log = y.log ++ x.log;
@@ -59,9 +74,12 @@ on_on slots a b c x y =
     }
 
 pub one_more_on : (slots : Range) (log more : List PortEvent) → IsOneMore log more → LogGoesOn slots log more None
-one_more_on slots log more (inl e) = subst (λ (xs : List PortEvent). LogGoesOn slots log xs None) (sym e) (same_on slots log)
-one_more_on slots log more (inr e) = subst (λ (xs : List PortEvent). LogGoesOn slots log xs None) (sym e.2) (got_on slots log e.0 e.1)
+one_more_on slots log more (inl e) =
+    subst (λ (xs : List PortEvent). LogGoesOn slots log xs None) (sym e) (same_on slots log)
+one_more_on slots log more (inr e) =
+    subst (λ (xs : List PortEvent). LogGoesOn slots log xs None) (sym e.2) (got_on slots log e.0 e.1)
 
 -- over the same area
-pub on_same : (slots area : Range) (a b : List PortEvent) (r : Option ReleasedName) → area ≡ slots → LogGoesOn slots a b r → LogGoesOn area a b r
+pub on_same : (slots area : Range) (a b : List PortEvent) (r : Option ReleasedName) → area ≡ slots
+    → LogGoesOn slots a b r → LogGoesOn area a b r
 on_same slots area a b r e h = subst (λ (s : Range). LogGoesOn s a b r) (sym e) h

@@ -1,5 +1,6 @@
 -- A driver after a claim was begun, or wasn't.
-use Rattle.std.proofs.Common.{List, None, Option, Some, arith, ap, false, length, refl, subst, sym, true, ℕ, ◌<◌, ◌∙◌, ◌∷◌, ◌≡◌, ◌≤◌}
+use Rattle.std.proofs.Common.{List, None, Option, Some, arith, ap, false, length, refl, subst, sym, true, ℕ, ◌<◌, ◌∙◌}
+use Rattle.std.proofs.Common.{◌∷◌, ◌≡◌, ◌≤◌}
 use Rattle.std.specs.Prelude.{Ok}
 use Rattle.std.specs.declared.snapshot.Snapshot.{Snapshot}
 use Rattle.nvme_model.specs.Array.{has_block}
@@ -8,7 +9,7 @@ use Rattle.driver_calls.specs.Log.{newest, sent}
 use Rattle.driver_calls.specs.Says.{IsCallIn}
 use Rattle.driver_calls.specs.Views.{since}
 use Rattle.driver_calls.specs.declared.event.PortEvent.{PortEvent}
-use Rattle.driver_commands.specs.declared.request.CallData.{CallData}
+use Rattle.driver_calls.specs.declared.request.CallData.{CallData}
 use Rattle.driver_cas.proofs.Sending.{sent_call}
 use Rattle.driver_cas.specs.Drivers.{HasSettings, IsSame, area_of, host_of, made, number_of, serial_of}
 use Rattle.driver_cas.specs.SlotStarts.{IsClaimStart, claim_data}
@@ -36,32 +37,40 @@ module _ {P : Type 0} (g : Ghosts P) where
 
   -- a call's number stays
   pub number_same : (d e : Driver P g) (k : Call P) → HasSettings d e → number_of e k ≡ number_of d k
-  number_same d e k s = ap (λ (b : Snapshot P). length (sent (since (g.log b.value) (g.log k.start.value)) k.queue)) s.began
+  number_same d e k s = ap (λ (b : Snapshot P). length (sent (since (g.log b.value) (g.log k.start.value)) k.queue))
+      s.began
 
   -- the number of a pair that was published just now
-  pub number_now : (d e : Driver P g) (k : Call P) (l : ℕ) (contents : CallData) → IsStarted d e k Op.Pair l 1 contents → number_of e k ≡ length (sent (made d) k.queue)
+  pub number_now : (d e : Driver P g) (k : Call P) (l : ℕ) (contents : CallData) → IsStarted d e k Op.Pair l 1 contents
+      → number_of e k ≡ length (sent (made d) k.queue)
   number_now d e k l contents s =
-      let there : newest (PortEvent.Sent k.queue s.batch ∷ made d) k.queue k.first ≡ Some (length (sent (made d) k.queue)) =
+      let there : newest (PortEvent.Sent k.queue s.batch ∷ made d) k.queue k.first
+      ≡ Some (length (sent (made d) k.queue)) =
       (sent_call (made d) k.queue l 1 k.first k.second Op.Pair contents s.batch s.free.unlike s.is).1 in
       let of : newest (made e) k.queue k.first ≡ Some (number_of e k) =
       (subst (λ (o : Op). IsCallIn (made e) k.queue o k.first k.second (number_of e k)) s.does s.of.published).1 in
-      some_same (number_of e k) (length (sent (made d) k.queue)) (sym of ∙ (ap (λ (log : List PortEvent). newest log k.queue k.first) s.published ∙ there))
+      some_same (number_of e k) (length (sent (made d) k.queue))
+      (sym of ∙ (ap (λ (log : List PortEvent). newest log k.queue k.first) s.published ∙ there))
 
   -- ---- nothing was published
 
-  pub careful_same : (d e : Driver P g) → HasSettings d e → serial_of e ≡ serial_of d → made e ≡ made d → IsCareful d → IsCareful e
+  pub careful_same : (d e : Driver P g) → HasSettings d e → serial_of e ≡ serial_of d → made e ≡ made d → IsCareful d
+      → IsCareful e
   careful_same d e s drawn m h =
-      let p : is_careful (area_of e) (host_of e) (serial_of e) (made e) ≡ is_careful (area_of d) (host_of d) (serial_of d) (made d) =
+      let p : is_careful (area_of e) (host_of e) (serial_of e) (made e)
+      ≡ is_careful (area_of d) (host_of d) (serial_of d) (made d) =
       λ i. is_careful (s.slots i) (s.host i) (drawn i) (m i) in
       p ∙ h
 
-  pub goes_on_same : (d e : Driver P g) → HasSettings d e → serial_of e ≡ serial_of d → g.follows d.port e.port → made e ≡ made d → GoesOn d e None
+  pub goes_on_same : (d e : Driver P g) → HasSettings d e → serial_of e ≡ serial_of d → g.follows d.port e.port
+      → made e ≡ made d → GoesOn d e None
   goes_on_same d e s drawn later m =
       record {
         settings = s;
         drawn = omega (arith, drawn);
         later = later;
-        log = subst (λ (log : List PortEvent). LogGoesOn (area_of d) (made d) log None) (sym m) (same_on (area_of d) (made d));
+        log = subst (λ (log : List PortEvent). LogGoesOn (area_of d) (made d) log None) (sym m)
+            (same_on (area_of d) (made d));
       }
 
   -- what goes on with nothing released goes on whatever is released
@@ -71,7 +80,12 @@ module _ {P : Type 0} (g : Ghosts P) where
         settings = x.settings;
         drawn = x.drawn;
         later = x.later;
-        log = record { log = x.log.log; more = x.log.more; believed = λ l n v a h. x.log.believed l n v refl h; unreleased = λ l n v a h. x.log.unreleased l n v refl h };
+        log = record {
+          log = x.log.log;
+          more = x.log.more;
+          believed = λ l n v a h. x.log.believed l n v refl h;
+          unreleased = λ l n v a h. x.log.unreleased l n v refl h;
+        };
       }
 
   -- ---- a claim was begun
@@ -86,17 +100,21 @@ module _ {P : Type 0} (g : Ghosts P) where
     pub inside : has_block (area_of d) l ≡ true
 
   name_is : (d e : Driver P g) (l : ℕ) (k : Call P) (serial : ℕ) → Claims d e l k serial → IsName (own_name d serial)
-  name_is d e l k serial c = record { host = c.named; host_fits = c.narrow; serial = omega (arith, c.start.0); serial_fits = c.fits }
+  name_is d e l k serial c =
+      record { host = c.named; host_fits = c.narrow; serial = omega (arith, c.start.0); serial_fits = c.fits }
 
   above : (d e : Driver P g) (l : ℕ) (k : Call P) (serial : ℕ) → Claims d e l k serial → serial_of d < serial
   above d e l k serial c = omega (arith, c.start.0)
 
-  pub careful_claimed : (d e : Driver P g) (l : ℕ) (k : Call P) (serial : ℕ) → Claims d e l k serial → IsCareful d → IsCareful e
+  pub careful_claimed : (d e : Driver P g) (l : ℕ) (k : Call P) (serial : ℕ) → Claims d e l k serial → IsCareful d
+      → IsCareful e
   careful_claimed d e l k serial c careful =
       let s = c.start.2 in
-      let p : is_careful (area_of e) (host_of e) (serial_of e) (made e) ≡ is_careful (area_of d) (host_of d) serial (PortEvent.Sent k.queue s.batch ∷ made d) =
+      let p : is_careful (area_of e) (host_of e) (serial_of e) (made e)
+      ≡ is_careful (area_of d) (host_of d) serial (PortEvent.Sent k.queue s.batch ∷ made d) =
       λ i. is_careful (c.settings.slots i) (c.settings.host i) (c.start.1 i) (s.published i) in
-      p ∙ careful_claim (area_of d) (serial_of d) (made d) k.queue l k.first k.second (own_name d serial) s.batch (name_is d e l k serial c) s.is c.inside (above d e l k serial c) careful
+      p ∙ careful_claim (area_of d) (serial_of d) (made d) k.queue l k.first k.second (own_name d serial) s.batch
+      (name_is d e l k serial c) s.is c.inside (above d e l k serial c) careful
 
   pub goes_on_claimed : (d e : Driver P g) (l : ℕ) (k : Call P) (serial : ℕ) → Claims d e l k serial → GoesOn d e None
   goes_on_claimed d e l k serial c =
@@ -106,10 +124,12 @@ module _ {P : Type 0} (g : Ghosts P) where
         drawn = omega (arith, c.start.0, c.start.1);
         later = c.later;
         log = subst (λ (log : List PortEvent). LogGoesOn (area_of d) (made d) log None) (sym s.published)
-            (claim_on (area_of d) (made d) k.queue l k.first k.second (own_name d serial) s.batch (name_is d e l k serial c) s.is);
+            (claim_on (area_of d) (made d) k.queue l k.first k.second (own_name d serial) s.batch
+            (name_is d e l k serial c) s.is);
       }
 
-  pub asking_claimed : (d e : Driver P g) (l : ℕ) (k : Call P) (serial : ℕ) → Claims d e l k serial → IsAsking e l k serial
+  pub asking_claimed : (d e : Driver P g) (l : ℕ) (k : Call P) (serial : ℕ) → Claims d e l k serial
+      → IsAsking e l k serial
   asking_claimed d e l k serial c =
       let s = c.start.2 in
       let n = own_name d serial in
@@ -118,15 +138,22 @@ module _ {P : Type 0} (g : Ghosts P) where
       record {
         of = s.of;
         does = s.does;
-        claim = subst (λ (z : List PortEvent × ℕ × ℕ). IsClaimIn z.0 k.queue k.first k.second z.1 l (record { host = z.2; serial = serial })) (λ i. (sym s.published i, sym number i, sym c.settings.host i))
-            (claim_in (made d) k.queue l k.first k.second n s.batch x s.is (sent_call (made d) k.queue l 1 k.first k.second Op.Pair (claim_data (host_of d) serial) s.batch s.free.unlike s.is));
+        claim = subst (λ (z : List PortEvent × ℕ × ℕ).
+            IsClaimIn z.0 k.queue k.first k.second z.1 l (record { host = z.2; serial = serial }))
+            (λ i. (sym s.published i, sym number i, sym c.settings.host i))
+            (claim_in (made d) k.queue l k.first k.second n s.batch x s.is
+            (sent_call (made d) k.queue l 1 k.first k.second Op.Pair (claim_data (host_of d) serial) s.batch
+            s.free.unlike s.is));
       }
 
   -- a driver that is careful has released no name under its next serial
-  pub unreleased_claimed : (d e : Driver P g) (l : ℕ) (k : Call P) (serial : ℕ) → Claims d e l k serial → IsCareful d → log_released (made e) l (own_name e serial) ≡ false
+  pub unreleased_claimed : (d e : Driver P g) (l : ℕ) (k : Call P) (serial : ℕ) → Claims d e l k serial → IsCareful d
+      → log_released (made e) l (own_name e serial) ≡ false
   unreleased_claimed d e l k serial c careful =
       let s = c.start.2 in
       let n = own_name d serial in
       let x = name_is d e l k serial c in
-      let p : log_released (made e) l (own_name e serial) ≡ log_released (PortEvent.Sent k.queue s.batch ∷ made d) l n = λ i. log_released (s.published i) l (record { host = c.settings.host i; serial = serial }) in
-      p ∙ (released_claim (made d) k.queue l k.first k.second n s.batch l n x s.is ∙ unreleased (area_of d) (host_of d) (serial_of d) (made d) l n careful c.inside (above d e l k serial c))
+      let p : log_released (made e) l (own_name e serial) ≡ log_released (PortEvent.Sent k.queue s.batch ∷ made d) l n =
+      λ i. log_released (s.published i) l (record { host = c.settings.host i; serial = serial }) in
+      p ∙ (released_claim (made d) k.queue l k.first k.second n s.batch l n x s.is
+      ∙ unreleased (area_of d) (host_of d) (serial_of d) (made d) l n careful c.inside (above d e l k serial c))

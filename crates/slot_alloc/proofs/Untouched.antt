@@ -29,8 +29,11 @@ module _ {P : Type 0} (g : Ghosts P) where
   pub goes_on_kept : (d e : Driver P g) → IsUntouched d e → GoesOn d e None
   goes_on_kept d e u = goes_on_same g d e (settings_of g d e u.same) u.same.serial u.later u.as_before.0
 
-  call_kept : ((a b c : P) → g.follows a b → g.follows b c → g.follows a c) → (d e : Driver P g) → IsUntouched d e → (k : Call P) → IsCallOf d k → IsCallOf e k
-  call_kept on d e u k of = reaped_calls g on d e k u.same u.later (inl u.as_before.0) (λ q i. ap (λ (c : Cids). is_free (held c q i)) u.as_before.1) of
+  call_kept : ((a b c : P) → g.follows a b → g.follows b c → g.follows a c) → (d e : Driver P g) → IsUntouched d e
+      → (k : Call P) → IsCallOf d k → IsCallOf e k
+  call_kept on d e u k of =
+      reaped_calls g on d e k u.same u.later (inl u.as_before.0)
+      (λ q i. ap (λ (c : Cids). is_free (held c q i)) u.as_before.1) of
 
   pub held_kept : (d e : Driver P g) (c : Claim) → IsUntouched d e → IsHeldBy d c → IsHeldBy e c
   held_kept d e c u of =
@@ -41,20 +44,25 @@ module _ {P : Type 0} (g : Ghosts P) where
         inside = subst (λ (r : Range). slot_of c < r.blocks) (sym u.same.slots) of.inside;
         name = subst (λ (n : ℕ). IsName (record { host = n; serial = serial_of c })) (sym u.same.host) of.name;
         believed =
-            let p : log_believed (made e) (block_of (area_of e) (slot_of c)) (own_name e (serial_of c)) ≡ log_believed (made e) l n =
-            λ i. log_believed (made e) (block_of (u.same.slots i) (slot_of c)) (record { host = u.same.host i; serial = serial_of c }) in
+            let p : log_believed (made e) (block_of (area_of e) (slot_of c)) (own_name e (serial_of c))
+            ≡ log_believed (made e) l n =
+            λ i. log_believed (made e) (block_of (u.same.slots i) (slot_of c))
+            (record { host = u.same.host i; serial = serial_of c }) in
             p ∙ x.log.believed l n (inside_of (area_of d) (slot_of c) of.inside) refl of.believed;
       }
 
-  pub claiming_kept : ((a b c : P) → g.follows a b → g.follows b c → g.follows a c) → (d e : Driver P g) (k : Claiming P g) → IsUntouched d e → IsClaimingOf d k → IsClaimingOf e k
+  pub claiming_kept : ((a b c : P) → g.follows a b → g.follows b c → g.follows a c)
+      → (d e : Driver P g) (k : Claiming P g) → IsUntouched d e → IsClaimingOf d k → IsClaimingOf e k
   claiming_kept on d e k u of = claiming_on g on d e k None (goes_on_kept d e u) (kept k.stage of.at) of
     where
       kept : (s : Stage P) → IsAt d k.began.value (block_of (area_of d) k.slot) k.reach s → IsCallKept e s
       kept (Stage.Asked call serial) at = call_kept on d e u call at.0.of
       kept Stage.Due at = tt
 
-  pub unreleased_kept : (d e : Driver P g) (k : Claiming P g) → IsUntouched d e → IsClaimingOf d k → IsUnreleased d k → IsUnreleased e k
+  pub unreleased_kept : (d e : Driver P g) (k : Claiming P g) → IsUntouched d e → IsClaimingOf d k → IsUnreleased d k
+      → IsUnreleased e k
   unreleased_kept d e k u of free = unreleased_on g d e k None (goes_on_kept d e u) refl of free
 
-  pub releasing_kept : ((a b c : P) → g.follows a b → g.follows b c → g.follows a c) → (d e : Driver P g) (k : Releasing P) → IsUntouched d e → IsReleasingOf d k → IsReleasingOf e k
+  pub releasing_kept : ((a b c : P) → g.follows a b → g.follows b c → g.follows a c)
+      → (d e : Driver P g) (k : Releasing P) → IsUntouched d e → IsReleasingOf d k → IsReleasingOf e k
   releasing_kept on d e k u of = releasing_on g d e k None (goes_on_kept d e u) (call_kept on d e u k.call of.of) of

@@ -18,7 +18,7 @@ ghost use Rattle.driver_cas.specs.Starts.{IsUntouched};
 ghost use Rattle.driver_cas.specs.declared.call.Call.{Call};
 ghost use Rattle.driver_cas.specs.declared.fault.Fault.{Fault};
 ghost use Rattle.driver_cas.specs.declared.shared_port.SharedPort.{SharedPort};
-ghost use Rattle.driver_commands.specs.declared.request.CallData.{CallData};
+ghost use Rattle.driver_calls.specs.declared.request.CallData.{CallData};
 ghost use Rattle.nvme_model.specs.declared.operation.Op.{Op};
 ghost use Rattle.slot_calls.specs.Calls.{IsName};
 ghost use Rattle.slot_calls.specs.Hosts.{IsSlotHost, IsSlotView};

@@ -8,10 +8,10 @@ use Rattle.host_laws.specs.Calls.{is_proper}
 use Rattle.host_laws.specs.Claims.{lba_of}
 use Rattle.host_laws.proofs.Publishing.{claim_at, claim_swaps, release_at, release_swaps}
 use Rattle.host_laws.proofs.Spelling.{name_spelled}
-use Rattle.driver_commands.specs.Entries.{IsBatch}
-use Rattle.driver_commands.specs.declared.request.CallData.{CallData}
-use Rattle.driver_commands.proofs.Calls.{call_on_one}
-use Rattle.driver_commands.proofs.Commands.{command_proper, halves}
+use Rattle.driver_calls.specs.Entries.{IsBatch}
+use Rattle.driver_calls.specs.declared.request.CallData.{CallData}
+use Rattle.driver_calls.proofs.Calls.{call_on_one}
+use Rattle.driver_calls.proofs.Commands.{command_proper, halves}
 use Rattle.slot_calls.specs.Calls.{IsClaimBatch, IsName, IsReleaseBatch}
 
 -- what the entries of a fused pair of one block have
@@ -26,7 +26,8 @@ pub record PairOf (l : ℕ) (expected desired : List ℕ) (batch : List Submissi
   pub first_proper : is_proper first ≡ true
   pub second_proper : is_proper second ≡ true
 
-pub pair_of : (l first second : ℕ) (expected desired : List ℕ) (batch : List Submission) → IsBatch Op.Pair l 1 first second (CallData.Two expected desired) batch → PairOf l expected desired batch
+pub pair_of : (l first second : ℕ) (expected desired : List ℕ) (batch : List Submission)
+    → IsBatch Op.Pair l 1 first second (CallData.Two expected desired) batch → PairOf l expected desired batch
 pair_of l first second expected desired [] h = absurd h
 pair_of l first second expected desired (s ∷ []) h = absurd h
 pair_of l first second expected desired (s ∷ t ∷ []) h =
@@ -47,15 +48,19 @@ pub spelled : (n : Name) → IsName n → name_of (slot_block n) ≡ Some n
 spelled n h = name_spelled n h.host h.host_fits h.serial h.serial_fits
 
 -- a claim's batch has one claim
-pub claim_batch : (q j l first second : ℕ) (n : Name) (batch : List Submission) → IsName n → IsClaimBatch l first second n batch → swaps_in q j batch ≡ claim_at q j l n ∷ []
+pub claim_batch : (q j l first second : ℕ) (n : Name) (batch : List Submission) → IsName n
+    → IsClaimBatch l first second n batch → swaps_in q j batch ≡ claim_at q j l n ∷ []
 claim_batch q j l first second n batch h k =
     let p = pair_of l first second _ (slot_block n) batch k in
     ap (swaps_in q j) p.are
-    ∙ (claim_swaps q j p.first p.second n p.on_one p.old (ap name_of p.new ∙ spelled n h) ∙ ap (λ (i : ℕ). claim_at q j i n ∷ []) p.lba)
+    ∙ (claim_swaps q j p.first p.second n p.on_one p.old (ap name_of p.new ∙ spelled n h)
+    ∙ ap (λ (i : ℕ). claim_at q j i n ∷ []) p.lba)
 
 -- and a release's one release
-pub release_batch : (q j l first second : ℕ) (n : Name) (batch : List Submission) → IsName n → IsReleaseBatch l first second n batch → swaps_in q j batch ≡ release_at q j l n ∷ []
+pub release_batch : (q j l first second : ℕ) (n : Name) (batch : List Submission) → IsName n
+    → IsReleaseBatch l first second n batch → swaps_in q j batch ≡ release_at q j l n ∷ []
 release_batch q j l first second n batch h k =
     let p = pair_of l first second (slot_block n) _ batch k in
     ap (swaps_in q j) p.are
-    ∙ (release_swaps q j p.first p.second n p.on_one (ap name_of p.old ∙ spelled n h) p.new ∙ ap (λ (i : ℕ). release_at q j i n ∷ []) p.lba)
+    ∙ (release_swaps q j p.first p.second n p.on_one (ap name_of p.old ∙ spelled n h) p.new
+    ∙ ap (λ (i : ℕ). release_at q j i n ∷ []) p.lba)

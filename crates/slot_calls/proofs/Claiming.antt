@@ -1,5 +1,6 @@
 -- What a careful log has claimed, and so what it may have released.
-use Rattle.std.proofs.Common.{Bool, List, [], ap, arith, cond, eqb, eqb-true, false, inl, inr, length, not, refl, subst, sym, true, ℕ, ◌&&◌, ◌+◌, ◌<◌, ◌∙◌, ◌∷◌, ◌≡◌, ◌⊎◌}
+use Rattle.std.proofs.Common.{Bool, List, [], ap, arith, cond, eqb, eqb-true, false, inl, inr, length, not, refl, subst}
+use Rattle.std.proofs.Common.{sym, true, ℕ, ◌&&◌, ◌+◌, ◌<◌, ◌∙◌, ◌∷◌, ◌≡◌, ◌⊎◌}
 use Rattle.std.specs.List.{list_any}
 use Rattle.std.proofs.lemmas.Bool.{and_parts, or_cases}
 use Rattle.nvme_model.specs.Array.{has_block}
@@ -29,33 +30,45 @@ pub record CarefulSwap (slots : Range) (host : ℕ) (log : List PortEvent) (of :
   pub claim : swap.claims ≡ true → (swap.name.host ≡ host) × (serials_below slots swap.name.serial log ≡ true)
   pub release : swap.claims ≡ false → log_believed log swap.lba swap.name ≡ true
 
-pub careful_swap : (slots : Range) (host : ℕ) (log : List PortEvent) (of : List Swap) → is_careful_swap slots host log of ≡ true → CarefulSwap slots host log of
+pub careful_swap : (slots : Range) (host : ℕ) (log : List PortEvent) (of : List Swap)
+    → is_careful_swap slots host log of ≡ true → CarefulSwap slots host log of
 careful_swap slots host log [] h = clash false h refl
 careful_swap slots host log (s ∷ t ∷ of) h = clash false h refl
 careful_swap slots host log (s ∷ []) h =
-    let a = and_parts (has_block slots s.lba) (cond s.claims (eqb s.name.host host && serials_below slots s.name.serial log) (log_believed log s.lba s.name)) h in
+    let a = and_parts (has_block slots s.lba)
+    (cond s.claims (eqb s.name.host host && serials_below slots s.name.serial log) (log_believed log s.lba s.name))
+    h in
     record { swap = s; alone = refl; inside = a.0; claim = claims s.claims a.1; release = release s.claims a.1 }
   where
-    claims : (b : Bool) → cond b (eqb s.name.host host && serials_below slots s.name.serial log) (log_believed log s.lba s.name) ≡ true → b ≡ true → (s.name.host ≡ host) × (serials_below slots s.name.serial log ≡ true)
-    claims true k e = let p = and_parts (eqb s.name.host host) (serials_below slots s.name.serial log) k in (eqb-true s.name.host host p.0, p.1)
+    claims : (b : Bool) → cond b (eqb s.name.host host && serials_below slots s.name.serial log)
+        (log_believed log s.lba s.name) ≡ true → b ≡ true
+        → (s.name.host ≡ host) × (serials_below slots s.name.serial log ≡ true)
+    claims true k e = let p = and_parts (eqb s.name.host host) (serials_below slots s.name.serial log) k in
+        (eqb-true s.name.host host p.0, p.1)
     claims false k e = clash false e refl
 
-    release : (b : Bool) → cond b (eqb s.name.host host && serials_below slots s.name.serial log) (log_believed log s.lba s.name) ≡ true → b ≡ false → log_believed log s.lba s.name ≡ true
+    release : (b : Bool) → cond b (eqb s.name.host host && serials_below slots s.name.serial log)
+        (log_believed log s.lba s.name) ≡ true → b ≡ false → log_believed log s.lba s.name ≡ true
     release true k e = clash true refl e
     release false k e = k
 
 -- what a careful batch is
 pub data CarefulBatch (slots : Range) (host : ℕ) (log : List PortEvent) (q : ℕ) (batch : List Submission) : Type 0 where
   outside : list_any (touches slots) batch ≡ false → CarefulBatch slots host log q batch
-  pair : length batch ≡ 2 → CarefulSwap slots host log (swaps_in q (length (sent log q)) batch) → CarefulBatch slots host log q batch
+  pair : length batch ≡ 2 → CarefulSwap slots host log (swaps_in q (length (sent log q)) batch)
+      → CarefulBatch slots host log q batch
 
-pub careful_batch : (slots : Range) (host : ℕ) (log : List PortEvent) (q : ℕ) (batch : List Submission) → is_careful_batch slots host log q batch ≡ true → CarefulBatch slots host log q batch
+pub careful_batch : (slots : Range) (host : ℕ) (log : List PortEvent) (q : ℕ) (batch : List Submission)
+    → is_careful_batch slots host log q batch ≡ true → CarefulBatch slots host log q batch
 careful_batch slots host log q batch h =
-    elim (or_cases (not (list_any (touches slots) batch)) (eqb (length batch) 2 && is_careful_swap slots host log (swaps_in q (length (sent log q)) batch)) h) [
+    elim (or_cases (not (list_any (touches slots) batch))
+    (eqb (length batch) 2 && is_careful_swap slots host log (swaps_in q (length (sent log q)) batch)) h) [
       | inl n ↦ CarefulBatch.outside (not_true (list_any (touches slots) batch) n)
       | inr e ↦
-          let a = and_parts (eqb (length batch) 2) (is_careful_swap slots host log (swaps_in q (length (sent log q)) batch)) e in
-          CarefulBatch.pair (eqb-true (length batch) 2 a.0) (careful_swap slots host log (swaps_in q (length (sent log q)) batch) a.1)
+          let a = and_parts (eqb (length batch) 2)
+          (is_careful_swap slots host log (swaps_in q (length (sent log q)) batch)) e in
+          CarefulBatch.pair (eqb-true (length batch) 2 a.0)
+          (careful_swap slots host log (swaps_in q (length (sent log q)) batch) a.1)
     ]
 
 -- ---- its claims
@@ -69,50 +82,77 @@ pub record ClaimedIn (log : List PortEvent) (l : ℕ) (n : Name) : Type 0 where
   pub name : swap.name ≡ n
 
 -- it stands there for each release
-pub claimed_before : (slots : Range) (host : ℕ) (log : List PortEvent) (r : Swap) → are_careful slots host log ≡ true → In r (log_swaps log) → r.claims ≡ false → has_block slots r.lba ≡ true → ClaimedIn log r.lba r.name
+pub claimed_before : (slots : Range) (host : ℕ) (log : List PortEvent) (r : Swap) → are_careful slots host log ≡ true
+    → In r (log_swaps log) → r.claims ≡ false → has_block slots r.lba ≡ true → ClaimedIn log r.lba r.name
 claimed_before slots host [] r h i e v = absurd i
-claimed_before slots host (PortEvent.Got cqe payload ∷ log) r h i e v = let k = claimed_before slots host log r h i e v in record { swap = k.swap; there = k.there; claims = k.claims; lba = k.lba; name = k.name }
+claimed_before slots host (PortEvent.Got cqe payload ∷ log) r h i e v = let k =
+    claimed_before slots host log r h i e v in
+    record { swap = k.swap; there = k.there; claims = k.claims; lba = k.lba; name = k.name }
 claimed_before slots host (PortEvent.Sent q batch ∷ log) r h i e v =
     let a = and_parts (are_careful slots host log) (is_careful_batch slots host log q batch) h in
-    go (careful_batch slots host log q batch a.1) (in_cases r (swaps_in q (length (sent log q)) batch) (log_swaps log) i) (λ j. claimed_before slots host log r a.0 j e v)
+    go (careful_batch slots host log q batch a.1)
+    (in_cases r (swaps_in q (length (sent log q)) batch) (log_swaps log) i)
+    (λ j. claimed_before slots host log r a.0 j e v)
   where
     later : ClaimedIn log r.lba r.name → ClaimedIn (PortEvent.Sent q batch ∷ log) r.lba r.name
-    later k = record { swap = k.swap; there = in_right k.swap (swaps_in q (length (sent log q)) batch) (log_swaps log) k.there; claims = k.claims; lba = k.lba; name = k.name }
+    later k = record {
+      swap = k.swap;
+      there = in_right k.swap (swaps_in q (length (sent log q)) batch) (log_swaps log) k.there;
+      claims = k.claims;
+      lba = k.lba;
+      name = k.name;
+    }
 
-    go : CarefulBatch slots host log q batch → In r (swaps_in q (length (sent log q)) batch) ⊎ In r (log_swaps log) → (In r (log_swaps log) → ClaimedIn log r.lba r.name) → ClaimedIn (PortEvent.Sent q batch ∷ log) r.lba r.name
+    go : CarefulBatch slots host log q batch → In r (swaps_in q (length (sent log q)) batch) ⊎ In r (log_swaps log)
+        → (In r (log_swaps log) → ClaimedIn log r.lba r.name) → ClaimedIn (PortEvent.Sent q batch ∷ log) r.lba r.name
     go b (inr j) ih = later (ih j)
     go (CarefulBatch.outside t) (inl j) ih =
-        absurd (subst (λ (xs : List Swap). In r xs) (no_swaps slots q (length (sent log q)) batch t) (in_filter (λ w. has_block slots w.lba) (swaps_in q (length (sent log q)) batch) r j v))
+        absurd (subst (λ (xs : List Swap). In r xs) (no_swaps slots q (length (sent log q)) batch t)
+        (in_filter (λ w. has_block slots w.lba) (swaps_in q (length (sent log q)) batch) r j v))
     go (CarefulBatch.pair two s) (inl j) ih = one (subst (λ (xs : List Swap). In r xs) s.alone j)
       where
         one : In r (s.swap ∷ []) → ClaimedIn (PortEvent.Sent q batch ∷ log) r.lba r.name
         one (inl z) =
             let b = believed_parts log s.swap.lba s.swap.name (s.release (ap (λ (w : Swap). w.claims) (sym z) ∙ e)) in
-            later (record { swap = b.swap; there = b.there; claims = b.claims; lba = b.lba ∙ ap (λ (w : Swap). w.lba) (sym z); name = b.name ∙ ap (λ (w : Swap). w.name) (sym z) })
+            later (record {
+              swap = b.swap;
+              there = b.there;
+              claims = b.claims;
+              lba = b.lba ∙ ap (λ (w : Swap). w.lba) (sym z);
+              name = b.name ∙ ap (λ (w : Swap). w.name) (sym z);
+            })
         one (inr z) = absurd z
 
-pub unreleased : (slots : Range) (host last : ℕ) (log : List PortEvent) (l : ℕ) (n : Name) → is_careful slots host last log ≡ true → has_block slots l ≡ true → last < n.serial → log_released log l n ≡ false
+pub unreleased : (slots : Range) (host last : ℕ) (log : List PortEvent) (l : ℕ) (n : Name)
+    → is_careful slots host last log ≡ true → has_block slots l ≡ true → last < n.serial → log_released log l n ≡ false
 unreleased slots host last log l n h v m =
     let a = careful_parts slots host last log h in
     none_any (λ s. releases s l n) (log_swaps log) (λ r i e.
     let x = releases_parts r l n e in
     let k = claimed_before slots host log r a.each i x.releases (ap (has_block slots) x.lba ∙ v) in
-    let there = in_filter (λ w. has_block slots w.lba) (log_swaps log) k.swap k.there (ap (has_block slots) (k.lba ∙ x.lba) ∙ v) in
-    let low = below_parts (last + 1) k.swap (all_in (is_below (last + 1)) (in_area slots (log_swaps log)) k.swap a.below there) k.claims in
+    let there = in_filter (λ w. has_block slots w.lba) (log_swaps log) k.swap k.there
+    (ap (has_block slots) (k.lba ∙ x.lba) ∙ v) in
+    let low = below_parts (last + 1) k.swap
+    (all_in (is_below (last + 1)) (in_area slots (log_swaps log)) k.swap a.below there) k.claims in
     omega (arith, low, m, ap (λ (w : Name). w.serial) (k.name ∙ x.name)))
 
 -- a careful log claims under its host's number alone
-pub claimed_host : (slots : Range) (host : ℕ) (log : List PortEvent) (s : Swap) → are_careful slots host log ≡ true → In s (log_swaps log) → s.claims ≡ true → has_block slots s.lba ≡ true → s.name.host ≡ host
+pub claimed_host : (slots : Range) (host : ℕ) (log : List PortEvent) (s : Swap) → are_careful slots host log ≡ true
+    → In s (log_swaps log) → s.claims ≡ true → has_block slots s.lba ≡ true → s.name.host ≡ host
 claimed_host slots host [] s h i e v = absurd i
 claimed_host slots host (PortEvent.Got cqe payload ∷ log) s h i e v = claimed_host slots host log s h i e v
 claimed_host slots host (PortEvent.Sent q batch ∷ log) s h i e v =
     let a = and_parts (are_careful slots host log) (is_careful_batch slots host log q batch) h in
-    go (careful_batch slots host log q batch a.1) (in_cases s (swaps_in q (length (sent log q)) batch) (log_swaps log) i) (λ j. claimed_host slots host log s a.0 j e v)
+    go (careful_batch slots host log q batch a.1)
+    (in_cases s (swaps_in q (length (sent log q)) batch) (log_swaps log) i)
+    (λ j. claimed_host slots host log s a.0 j e v)
   where
-    go : CarefulBatch slots host log q batch → In s (swaps_in q (length (sent log q)) batch) ⊎ In s (log_swaps log) → (In s (log_swaps log) → s.name.host ≡ host) → s.name.host ≡ host
+    go : CarefulBatch slots host log q batch → In s (swaps_in q (length (sent log q)) batch) ⊎ In s (log_swaps log)
+        → (In s (log_swaps log) → s.name.host ≡ host) → s.name.host ≡ host
     go b (inr j) ih = ih j
     go (CarefulBatch.outside t) (inl j) ih =
-        absurd (subst (λ (xs : List Swap). In s xs) (no_swaps slots q (length (sent log q)) batch t) (in_filter (λ w. has_block slots w.lba) (swaps_in q (length (sent log q)) batch) s j v))
+        absurd (subst (λ (xs : List Swap). In s xs) (no_swaps slots q (length (sent log q)) batch t)
+        (in_filter (λ w. has_block slots w.lba) (swaps_in q (length (sent log q)) batch) s j v))
     go (CarefulBatch.pair two k) (inl j) ih = one (subst (λ (xs : List Swap). In s xs) k.alone j)
       where
         one : In s (k.swap ∷ []) → s.name.host ≡ host

@@ -18,7 +18,15 @@ use Rattle.slot_calls.specs.Swaps.{log_believed, log_released}
 
 -- submission queues 1 and 3 use completion queue 1, the others completion queue 2
 abbrev four : ConfigNumbers
-four = record { blocks = 8; atomic = record { awun = 1; acwu = 1; nabsn = 0; nabo = 0 }; pairs = 4; sq_size = 4; cq_size = 8; jobs = 8; cqs = 2 }
+four = record {
+  blocks = 8;
+  atomic = record { awun = 1; acwu = 1; nabsn = 0; nabo = 0 };
+  pairs = 4;
+  sq_size = 4;
+  cq_size = 8;
+  jobs = 8;
+  cqs = 2;
+}
 
 abbrev area : Range
 area = record { slba = 0; blocks = 1 }
@@ -31,7 +39,8 @@ swap old new = submit 5 1 0 0 0 old ∷ submit 1 2 1 0 0 new ∷ []
 
 -- a batch on a submission queue, served and reaped from completion queue n
 abbrev served : ℕ → ℕ → List Submission → Past → Past
-served q n batch past = run four (settle 20 four (run four past (Step.Publish q batch ∷ Step.Fetch q ∷ []))) (Step.Reap n ∷ Step.Reap n ∷ [])
+served q n batch past = run four (settle 20 four (run four past (Step.Publish q batch ∷ Step.Fetch q ∷ [])))
+    (Step.Reap n ∷ Step.Reap n ∷ [])
 
 -- host 1 claims on queue 1, and host 2 loses on queue 4
 abbrev held : Past
@@ -57,13 +66,28 @@ view h past = record { config = four; queue = h; pass = h; seen = shared past }
 -- ---- the premises hold of both
 
 pub first_held : IsSlotView [] area 1 1 (view 1 held)
-first_held = record { legal = refl; premises = record { alone = record { none = refl; sole = refl }; elsewhere = refl; own_number = refl }; tidy = refl; careful = refl }
+first_held = record {
+  legal = refl;
+  premises = record { alone = record { none = refl; sole = refl }; elsewhere = refl; own_number = refl };
+  tidy = refl;
+  careful = refl;
+}
 
 pub first_passed_on : IsSlotView [] area 1 1 (view 1 passed_on)
-first_passed_on = record { legal = refl; premises = record { alone = record { none = refl; sole = refl }; elsewhere = refl; own_number = refl }; tidy = refl; careful = refl }
+first_passed_on = record {
+  legal = refl;
+  premises = record { alone = record { none = refl; sole = refl }; elsewhere = refl; own_number = refl };
+  tidy = refl;
+  careful = refl;
+}
 
 pub second_passed_on : IsSlotView [] area 2 2 (view 2 passed_on)
-second_passed_on = record { legal = refl; premises = record { alone = record { none = refl; sole = refl }; elsewhere = refl; own_number = refl }; tidy = refl; careful = refl }
+second_passed_on = record {
+  legal = refl;
+  premises = record { alone = record { none = refl; sole = refl }; elsewhere = refl; own_number = refl };
+  tidy = refl;
+  careful = refl;
+}
 
 -- ---- what the logs say
 

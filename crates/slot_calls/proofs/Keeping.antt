@@ -1,5 +1,6 @@
 -- A batch that is careful by its log keeps the discipline.
-use Rattle.std.proofs.Common.{Bool, List, None, Option, Some, [], ap, arith, cond, eq-eqb, eqb, eqb-true, false, inl, inr, length, not, refl, subst, sym, true, ℕ, ◌&&◌, ◌++◌, ◌||◌, ◌∙◌, ◌∷◌, ◌≡◌}
+use Rattle.std.proofs.Common.{Bool, List, None, Option, Some, [], ap, arith, cond, eq-eqb, eqb, eqb-true, false, inl}
+use Rattle.std.proofs.Common.{inr, length, not, refl, subst, sym, true, ℕ, ◌&&◌, ◌++◌, ◌||◌, ◌∙◌, ◌∷◌, ◌≡◌}
 use Rattle.std.specs.List.{filter, list_all, list_any}
 use Rattle.std.specs.Str.{bytes_eq}
 use Rattle.std.proofs.lemmas.Bool.{and_from, and_parts}
@@ -8,7 +9,8 @@ use Rattle.nvme_model.specs.Config.{completion_queue}
 use Rattle.nvme_model.specs.History.{Past}
 use Rattle.nvme_model.specs.Legal.{IsLegal}
 use Rattle.nvme_model.specs.Passes.{SharedPast, entries}
-use Rattle.nvme_model.specs.Slots.{Name, Swap, disciplined, in_area, is_pair_on_one, keeps_discipline, name_of, same_name, swap_by, swap_of, swaps, swaps_in}
+use Rattle.nvme_model.specs.Slots.{Name, Swap, disciplined, in_area, is_pair_on_one, keeps_discipline, name_of}
+use Rattle.nvme_model.specs.Slots.{same_name, swap_by, swap_of, swaps, swaps_in}
 use Rattle.nvme_model.specs.declared.array.Range.{Range}
 use Rattle.nvme_model.specs.declared.config.ConfigNumbers.{ConfigNumbers}
 use Rattle.nvme_model.specs.declared.entry.Entry.{Entry}
@@ -47,7 +49,8 @@ in_cond : (b : Bool) (xs : List Swap) (s : Swap) → In s (cond b xs []) → (b 
 in_cond true xs s i = (refl, i)
 in_cond false xs s i = absurd i
 
-in_by : (k : Bool) (q j l : ℕ) (o : Option Name) (s : Swap) → In s (swap_by k q j l o) → (n : Name) × (o ≡ Some n) × (s ≡ record { claims = k; queue = q; number = j; lba = l; name = n })
+in_by : (k : Bool) (q j l : ℕ) (o : Option Name) (s : Swap) → In s (swap_by k q j l o)
+    → (n : Name) × (o ≡ Some n) × (s ≡ record { claims = k; queue = q; number = j; lba = l; name = n })
 in_by k q j l None s i = absurd i
 in_by k q j l (Some n) s (inl e) = (n, refl, e)
 in_by k q j l (Some n) s (inr i) = absurd i
@@ -55,7 +58,8 @@ in_by k q j l (Some n) s (inr i) = absurd i
 pub swap_case : (q j : ℕ) (a b : Submission) (s : Swap) → In s (swap_of q j a b) → SwapCase q j a b s
 swap_case q j a b s i =
     let p = in_cond (is_pair_on_one a b) _ s i in
-    elim (in_cases s (cond (bytes_eq a.payload zeros) (swap_by true q j (lba_of a) (name_of b.payload)) []) (cond (bytes_eq b.payload zeros) (swap_by false q j (lba_of a) (name_of a.payload)) []) p.1) [
+    elim (in_cases s (cond (bytes_eq a.payload zeros) (swap_by true q j (lba_of a) (name_of b.payload)) [])
+    (cond (bytes_eq b.payload zeros) (swap_by false q j (lba_of a) (name_of a.payload)) []) p.1) [
       | inl x ↦
           let y = in_cond (bytes_eq a.payload zeros) (swap_by true q j (lba_of a) (name_of b.payload)) s x in
           let z = in_by true q j (lba_of a) (name_of b.payload) s y.1 in
@@ -80,13 +84,15 @@ filtered : (p : Swap → Bool) (xs : List Swap) (s : Swap) → In s (filter p xs
 filtered p [] s i = absurd i
 filtered p (x ∷ xs) s i = go (p x) refl (filtered p xs s) i
   where
-    go : (b : Bool) → p x ≡ b → (In s (filter p xs) → p s ≡ true) → In s (cond b (x ∷ filter p xs) (filter p xs)) → p s ≡ true
+    go : (b : Bool) → p x ≡ b → (In s (filter p xs) → p s ≡ true) → In s (cond b (x ∷ filter p xs) (filter p xs))
+        → p s ≡ true
     go true e f (inl z) = ap p z ∙ e
     go true e f (inr z) = f z
     go false e f z = f z
 
 -- a name under a serial above all before was never claimed
-fresh : (c : ConfigNumbers) (slots : Range) (host : ℕ) (past : Past) (n : ℕ) (log : List PortEvent) (m : Name) → Before c slots host past n log → m.host ≡ host → serials_below slots m.serial log ≡ true
+fresh : (c : ConfigNumbers) (slots : Range) (host : ℕ) (past : Past) (n : ℕ) (log : List PortEvent) (m : Name)
+    → Before c slots host past n log → m.host ≡ host → serials_below slots m.serial log ≡ true
     → list_any (λ w. w.claims && same_name w.name m) (in_area slots (swaps past)) ≡ false
 fresh c slots host past n log m x e b =
     none_any (λ w. w.claims && same_name w.name m) (in_area slots (swaps past)) (λ w i f.
@@ -100,80 +106,114 @@ fresh c slots host past n log m x e b =
     omega (arith, low, ap (λ (k : Name). k.serial) same))
 
 -- a pair that is a careful swap keeps the discipline
-pair_keeps : (c : ConfigNumbers) (slots : Range) (host : ℕ) (past : Past) (n : ℕ) (log : List PortEvent) (q j : ℕ) (a b : Submission) → Before c slots host past n log → completion_queue c q ≡ n
-    → (s : CarefulSwap slots host log (swaps_in q j (a ∷ b ∷ []))) → SwapCase q j a b s.swap → keeps_discipline c slots past (record { queue = q; batch = a ∷ b ∷ [] }) ≡ true
+pair_keeps : (c : ConfigNumbers) (slots : Range) (host : ℕ) (past : Past) (n : ℕ) (log : List PortEvent) (q j : ℕ)
+    (a b : Submission) → Before c slots host past n log → completion_queue c q ≡ n
+    → (s : CarefulSwap slots host log (swaps_in q j (a ∷ b ∷ []))) → SwapCase q j a b s.swap
+    → keeps_discipline c slots past (record { queue = q; batch = a ∷ b ∷ [] }) ≡ true
 pair_keeps c slots host past n log q j a b x e s (SwapCase.claim m k z) =
     let own = s.claim (ap (λ (w : Swap). w.claims) z) in
     let name = ap (λ (w : Swap). w.name) z in
-    claim_keeps c slots past q a b m k.pair k.old k.new (area_has slots (lba_of a) (ap (has_block slots) (sym (ap (λ (w : Swap). w.lba) z)) ∙ s.inside))
-    (fresh c slots host past n log m x (ap (λ (w : Name). w.host) (sym name) ∙ own.0) (ap (λ (w : Name). serials_below slots w.serial log) (sym name) ∙ own.1))
+    claim_keeps c slots past q a b m k.pair k.old k.new
+    (area_has slots (lba_of a) (ap (has_block slots) (sym (ap (λ (w : Swap). w.lba) z)) ∙ s.inside))
+    (fresh c slots host past n log m x (ap (λ (w : Name). w.host) (sym name) ∙ own.0)
+    (ap (λ (w : Name). serials_below slots w.serial log) (sym name) ∙ own.1))
 pair_keeps c slots host past n log q j a b x e s (SwapCase.release m k z) =
     let name = ap (λ (w : Swap). w.name) z in
     let lba = ap (λ (w : Swap). w.lba) z in
     let inside : has_block slots (lba_of a) ≡ true = ap (has_block slots) (sym lba) ∙ s.inside in
-    let believes : log_believed log (lba_of a) m ≡ true = ap (log_believed log (lba_of a)) (sym name) ∙ (ap (λ (i : ℕ). log_believed log i s.swap.name) (sym lba) ∙ s.release (ap (λ (w : Swap). w.claims) z)) in
+    let believes : log_believed log (lba_of a) m ≡ true = ap (log_believed log (lba_of a)) (sym name)
+    ∙ (ap (λ (i : ℕ). log_believed log i s.swap.name) (sym lba) ∙ s.release (ap (λ (w : Swap). w.claims) z)) in
     let w = believed_parts log (lba_of a) m believes in
     release_keeps c slots past q a b m k.pair k.old k.new (area_has slots (lba_of a) inside)
     (log_believes c slots past n log (lba_of a) m x.legal x.kept x.knows inside believes)
-    (in_any (λ s. s.claims && eqb s.lba (lba_of a) && same_name s.name m && eqb (completion_queue c s.queue) (completion_queue c q)) (swaps past) w.swap (x.knows.there w.swap w.there)
-    (and_from _ _ (and_from _ _ (and_from _ _ w.claims (eq-eqb w.swap.lba (lba_of a) w.lba)) (name_same w.swap.name m w.name)) (eq-eqb _ _ (x.knows.own w.swap w.there ∙ sym e))))
+    (in_any (λ s. s.claims && eqb s.lba (lba_of a) && same_name s.name m
+    && eqb (completion_queue c s.queue) (completion_queue c q)) (swaps past) w.swap (x.knows.there w.swap w.there)
+    (and_from _ _ (and_from _ _ (and_from _ _ w.claims (eq-eqb w.swap.lba (lba_of a) w.lba))
+    (name_same w.swap.name m w.name)) (eq-eqb _ _ (x.knows.own w.swap w.there ∙ sym e))))
 
-batch_keeps : (c : ConfigNumbers) (slots : Range) (host : ℕ) (past : Past) (n : ℕ) (log : List PortEvent) (q : ℕ) (batch : List Submission) → Before c slots host past n log → completion_queue c q ≡ n
+batch_keeps : (c : ConfigNumbers) (slots : Range) (host : ℕ) (past : Past) (n : ℕ) (log : List PortEvent) (q : ℕ)
+    (batch : List Submission) → Before c slots host past n log → completion_queue c q ≡ n
     → CarefulBatch slots host log q batch → keeps_discipline c slots past (record { queue = q; batch = batch }) ≡ true
-batch_keeps c slots host past n log q batch x e (CarefulBatch.outside t) = outside_keeps c slots past (record { queue = q; batch = batch }) t
+batch_keeps c slots host past n log q batch x e (CarefulBatch.outside t) =
+    outside_keeps c slots past (record { queue = q; batch = batch }) t
 batch_keeps c slots host past n log q [] x e (CarefulBatch.pair two s) = absurd (omega (arith, two))
 batch_keeps c slots host past n log q (a ∷ []) x e (CarefulBatch.pair two s) = absurd (omega (arith, two))
 batch_keeps c slots host past n log q (a ∷ b ∷ u ∷ batch) x e (CarefulBatch.pair two s) = absurd (omega (arith, two))
 batch_keeps c slots host past n log q (a ∷ b ∷ []) x e (CarefulBatch.pair two s) =
-    let there : In s.swap (swaps_in q (length (sent log q)) (a ∷ b ∷ [])) = subst (λ (xs : List Swap). In s.swap xs) (sym s.alone) (inl refl) in
+    let there : In s.swap (swaps_in q (length (sent log q)) (a ∷ b ∷ [])) =
+    subst (λ (xs : List Swap). In s.swap xs) (sym s.alone) (inl refl) in
     elim (in_cases s.swap (swap_of q (length (sent log q)) a b) [] there) [
-      | inl i ↦ pair_keeps c slots host past n log q (length (sent log q)) a b x e s (swap_case q (length (sent log q)) a b s.swap i)
+      | inl i ↦ pair_keeps c slots host past n log q (length (sent log q)) a b x e s
+          (swap_case q (length (sent log q)) a b s.swap i)
       | inr i ↦ absurd i
     ]
 
 -- ---- the whole history
 
 -- so it is of a beginning
-careful_before : (slots : Range) (host : ℕ) (xs log : List PortEvent) → are_careful slots host (xs ++ log) ≡ true → are_careful slots host log ≡ true
+careful_before : (slots : Range) (host : ℕ) (xs log : List PortEvent) → are_careful slots host (xs ++ log) ≡ true
+    → are_careful slots host log ≡ true
 careful_before slots host [] log h = h
-careful_before slots host (PortEvent.Sent q batch ∷ xs) log h = careful_before slots host xs log (and_parts (are_careful slots host (xs ++ log)) (is_careful_batch slots host (xs ++ log) q batch) h).0
+careful_before slots host (PortEvent.Sent q batch ∷ xs) log h =
+    careful_before slots host xs log
+    (and_parts (are_careful slots host (xs ++ log)) (is_careful_batch slots host (xs ++ log) q batch) h).0
 careful_before slots host (PortEvent.Got cqe payload ∷ xs) log h = careful_before slots host xs log h
 
-own_before : (c : ConfigNumbers) (slots : Range) (e : Entry) (past : Past) (host n : ℕ) → claims_only_on c slots (e ∷ past) host n ≡ true → claims_only_on c slots past host n ≡ true
+own_before : (c : ConfigNumbers) (slots : Range) (e : Entry) (past : Past) (host n : ℕ)
+    → claims_only_on c slots (e ∷ past) host n ≡ true → claims_only_on c slots past host n ≡ true
 own_before c slots e past host n h =
-    all_from (λ s. not s.claims || not (eqb s.name.host host) || eqb (completion_queue c s.queue) n) (in_area slots (swaps past)) (λ w i.
-    all_in (λ s. not s.claims || not (eqb s.name.host host) || eqb (completion_queue c s.queue) n) (in_area slots (swaps (e ∷ past))) w h (more w i))
+    all_from (λ s. not s.claims || not (eqb s.name.host host) || eqb (completion_queue c s.queue) n)
+    (in_area slots (swaps past)) (λ w i.
+    all_in (λ s. not s.claims || not (eqb s.name.host host) || eqb (completion_queue c s.queue) n)
+    (in_area slots (swaps (e ∷ past))) w h (more w i))
   where
     more : (w : Swap) → In w (in_area slots (swaps past)) → In w (in_area slots (swaps (e ∷ past)))
-    more w i = in_filter (λ s. has_block slots s.lba) (swaps (e ∷ past)) w (swaps_later (e ∷ []) past w (of_filter (λ s. has_block slots s.lba) (swaps past) w i)) (filtered (λ s. has_block slots s.lba) (swaps past) w i)
+    more w i = in_filter (λ s. has_block slots s.lba) (swaps (e ∷ past)) w
+        (swaps_later (e ∷ []) past w (of_filter (λ s. has_block slots s.lba) (swaps past) w i))
+        (filtered (λ s. has_block slots s.lba) (swaps past) w i)
 
-pub careful_disciplined : (c : ConfigNumbers) (n p : ℕ) (slots : Range) (host : ℕ) (shared : SharedPast) → IsLegal c (entries shared) → IsSole c n p shared → is_tidy (events c n p shared) ≡ true
-    → elsewhere_keeps c slots n (entries shared) ≡ true → claims_only_on c slots (entries shared) host n ≡ true → are_careful slots host (events c n p shared) ≡ true → disciplined c slots (entries shared) ≡ true
+pub careful_disciplined : (c : ConfigNumbers) (n p : ℕ) (slots : Range) (host : ℕ) (shared : SharedPast)
+    → IsLegal c (entries shared) → IsSole c n p shared → is_tidy (events c n p shared) ≡ true
+    → elsewhere_keeps c slots n (entries shared) ≡ true → claims_only_on c slots (entries shared) host n ≡ true
+    → are_careful slots host (events c n p shared) ≡ true → disciplined c slots (entries shared) ≡ true
 careful_disciplined c n p slots host [] h o d k u y = refl
 careful_disciplined c n p slots host (m ∷ shared) h o d k u y =
     let a = and_parts (is_beside c n m.1 || eqb m.0 p) (list_all (λ x. is_beside c n x.1 || eqb x.0 p) shared) o in
     let new = cond (eqb m.0 p) (event_at c n (entries shared) m.1) [] in
     let l = tidy_before new (events c n p shared) d in
     let legal = earlier c (m.1 ∷ []) (entries shared) h in
-    let e = and_parts (elsewhere_keeps c slots n (entries shared)) (not (is_beside c n m.1) || keeps_at c slots (entries shared) m.1) k in
+    let e = and_parts (elsewhere_keeps c slots n (entries shared))
+    (not (is_beside c n m.1) || keeps_at c slots (entries shared) m.1) k in
     let own = own_before c slots m.1 (entries shared) host n u in
-    let kept = careful_disciplined c n p slots host shared legal a.1 l e.0 own (careful_before slots host new (events c n p shared) y) in
+    let kept = careful_disciplined c n p slots host shared legal a.1 l e.0 own
+    (careful_before slots host new (events c n p shared) y) in
     let knows = log_knows c n p shared legal a.1 l in
     by_entry m.1 refl a.0 e.1 y (record { legal = legal; kept = kept; own_number = own; knows = knows })
   where
-    by_entry : (e : Entry) → m.1 ≡ e → (is_beside c n e || eqb m.0 p) ≡ true → (not (is_beside c n e) || keeps_at c slots (entries shared) e) ≡ true
-        → are_careful slots host (cond (eqb m.0 p) (event_at c n (entries shared) e) [] ++ events c n p shared) ≡ true → Before c slots host (entries shared) n (events c n p shared) → disciplined c slots (e ∷ entries shared) ≡ true
+    by_entry : (e : Entry) → m.1 ≡ e → (is_beside c n e || eqb m.0 p) ≡ true
+        → (not (is_beside c n e) || keeps_at c slots (entries shared) e) ≡ true
+        → are_careful slots host (cond (eqb m.0 p) (event_at c n (entries shared) e) [] ++ events c n p shared) ≡ true
+        → Before c slots host (entries shared) n (events c n p shared)
+        → disciplined c slots (e ∷ entries shared) ≡ true
     by_entry (Entry.Fetch f) z x w y b = b.kept
     by_entry (Entry.Grant f) z x w y b = b.kept
     by_entry (Entry.Block f) z x w y b = b.kept
     by_entry (Entry.Post f) z x w y b = b.kept
     by_entry (Entry.Reap f) z x w y b = b.kept
-    by_entry (Entry.Publish f) z x w y b = and_from (disciplined c slots (entries shared)) (keeps_discipline c slots (entries shared) f) b.kept (go (eqb (completion_queue c f.queue) n) (eqb m.0 p) refl x w y)
+    by_entry (Entry.Publish f) z x w y b =
+        and_from (disciplined c slots (entries shared)) (keeps_discipline c slots (entries shared) f) b.kept
+        (go (eqb (completion_queue c f.queue) n) (eqb m.0 p) refl x w y)
       where
-        go : (own mine : Bool) → eqb (completion_queue c f.queue) n ≡ own → (not own || mine) ≡ true → (not (not own) || keeps_discipline c slots (entries shared) f) ≡ true
-            → are_careful slots host (cond mine (cond own (PortEvent.Sent f.queue f.batch ∷ []) []) [] ++ events c n p shared) ≡ true → keeps_discipline c slots (entries shared) f ≡ true
+        go : (own mine : Bool) → eqb (completion_queue c f.queue) n ≡ own → (not own || mine) ≡ true
+            → (not (not own) || keeps_discipline c slots (entries shared) f) ≡ true
+            → are_careful slots host
+            (cond mine (cond own (PortEvent.Sent f.queue f.batch ∷ []) []) [] ++ events c n p shared) ≡ true
+            → keeps_discipline c slots (entries shared) f ≡ true
         go false mine z x w y = w
         go true false z x w y = clash false x refl
         go true true z x w y =
-            batch_keeps c slots host (entries shared) n (events c n p shared) f.queue f.batch b (eqb-true (completion_queue c f.queue) n z)
-            (careful_batch slots host (events c n p shared) f.queue f.batch (and_parts (are_careful slots host (events c n p shared)) (is_careful_batch slots host (events c n p shared) f.queue f.batch) y).1)
+            batch_keeps c slots host (entries shared) n (events c n p shared) f.queue f.batch b
+            (eqb-true (completion_queue c f.queue) n z)
+            (careful_batch slots host (events c n p shared) f.queue f.batch
+            (and_parts (are_careful slots host (events c n p shared))
+            (is_careful_batch slots host (events c n p shared) f.queue f.batch) y).1)

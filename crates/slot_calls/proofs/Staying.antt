@@ -1,5 +1,6 @@
 -- What a log believes, and what it has released, over one event more.
-use Rattle.std.proofs.Common.{Bool, List, ap, eqb, eqb-true, false, length, not, refl, subst, suc, true, ℕ, ◌&&◌, ◌||◌, ◌∙◌, ◌∷◌, ◌≡◌}
+use Rattle.std.proofs.Common.{Bool, List, ap, eqb, eqb-true, false, length, not, refl, subst, suc, true, ℕ, ◌&&◌, ◌||◌}
+use Rattle.std.proofs.Common.{◌∙◌, ◌∷◌, ◌≡◌}
 use Rattle.std.specs.List.{list_any}
 use Rattle.std.proofs.lemmas.Bool.{and_parts, or_right}
 use Rattle.std.proofs.lemmas.List.Folds.{list_any-append}
@@ -22,10 +23,12 @@ use Rattle.slot_calls.proofs.Beliefs.{believed_from, believed_parts}
 -- ---- what is released
 
 -- a batch without a release of the name there
-released_more : (log : List PortEvent) (q : ℕ) (batch : List Submission) (l : ℕ) (n : Name) → list_any (λ s. releases s l n) (swaps_in q (length (sent log q)) batch) ≡ false
+released_more : (log : List PortEvent) (q : ℕ) (batch : List Submission) (l : ℕ) (n : Name)
+    → list_any (λ s. releases s l n) (swaps_in q (length (sent log q)) batch) ≡ false
     → log_released (PortEvent.Sent q batch ∷ log) l n ≡ log_released log l n
 released_more log q batch l n h =
-    list_any-append (λ s. releases s l n) (swaps_in q (length (sent log q)) batch) (log_swaps log) ∙ ap (λ (b : Bool). b || log_released log l n) h
+    list_any-append (λ s. releases s l n) (swaps_in q (length (sent log q)) batch) (log_swaps log)
+    ∙ ap (λ (b : Bool). b || log_released log l n) h
 
 -- what a release has
 pub record Releases (s : Swap) (l : ℕ) (n : Name) : Type 0 where
@@ -39,7 +42,8 @@ releases_parts s l n h =
     let b = and_parts (not s.claims) (eqb s.lba l) a.0 in
     record { releases = not_true s.claims b.0; lba = eqb-true s.lba l b.1; name = name_eq s.name n a.1 }
 
-pub released_outside : (slots : Range) (log : List PortEvent) (q : ℕ) (batch : List Submission) (l : ℕ) (n : Name) → list_any (touches slots) batch ≡ false → has_block slots l ≡ true
+pub released_outside : (slots : Range) (log : List PortEvent) (q : ℕ) (batch : List Submission) (l : ℕ) (n : Name)
+    → list_any (touches slots) batch ≡ false → has_block slots l ≡ true
     → log_released (PortEvent.Sent q batch ∷ log) l n ≡ log_released log l n
 released_outside slots log q batch l n t v =
     let of = swaps_in q (length (sent log q)) batch in
@@ -47,10 +51,12 @@ released_outside slots log q batch l n t v =
     let there = in_filter (λ w. has_block slots w.lba) of s i (ap (has_block slots) (releases_parts s l n e).lba ∙ v) in
     subst (λ (xs : List Swap). In s xs) (no_swaps slots q (length (sent log q)) batch t) there))
 
-pub released_claim : (log : List PortEvent) (q k first second : ℕ) (m : Name) (batch : List Submission) (l : ℕ) (n : Name) → IsName m → IsClaimBatch k first second m batch
+pub released_claim : (log : List PortEvent) (q k first second : ℕ) (m : Name) (batch : List Submission) (l : ℕ)
+    (n : Name) → IsName m → IsClaimBatch k first second m batch
     → log_released (PortEvent.Sent q batch ∷ log) l n ≡ log_released log l n
 released_claim log q k first second m batch l n x b =
-    released_more log q batch l n (ap (list_any (λ s. releases s l n)) (claim_batch q (length (sent log q)) k first second m batch x b))
+    released_more log q batch l n
+    (ap (list_any (λ s. releases s l n)) (claim_batch q (length (sent log q)) k first second m batch x b))
 
 other_release : (a b : Bool) → (a && b) ≡ false → ((a && b) || false) ≡ false
 other_release true b h = go b h
@@ -60,19 +66,23 @@ other_release true b h = go b h
     go false e = refl
 other_release false b h = refl
 
-pub released_other : (log : List PortEvent) (q k first second : ℕ) (m : Name) (batch : List Submission) (l : ℕ) (n : Name) → IsName m → IsReleaseBatch k first second m batch → (eqb k l && same_name m n) ≡ false
+pub released_other : (log : List PortEvent) (q k first second : ℕ) (m : Name) (batch : List Submission) (l : ℕ)
+    (n : Name) → IsName m → IsReleaseBatch k first second m batch → (eqb k l && same_name m n) ≡ false
     → log_released (PortEvent.Sent q batch ∷ log) l n ≡ log_released log l n
 released_other log q k first second m batch l n x b o =
     released_more log q batch l n
-    (ap (list_any (λ s. releases s l n)) (release_batch q (length (sent log q)) k first second m batch x b) ∙ other_release (eqb k l) (same_name m n) o)
+    (ap (list_any (λ s. releases s l n)) (release_batch q (length (sent log q)) k first second m batch x b)
+    ∙ other_release (eqb k l) (same_name m n) o)
 
 -- ---- what is believed
 
 -- success stays
-pub success_got : (log : List PortEvent) (cqe payload : List ℕ) (q j : ℕ) → log_success log q j ≡ true → log_success (PortEvent.Got cqe payload ∷ log) q j ≡ true
+pub success_got : (log : List PortEvent) (cqe payload : List ℕ) (q j : ℕ) → log_success log q j ≡ true
+    → log_success (PortEvent.Got cqe payload ∷ log) q j ≡ true
 success_got log cqe payload q j h = or_right _ (log_success log q j) h
 
-pub believed_got : (log : List PortEvent) (cqe payload : List ℕ) (l : ℕ) (n : Name) → log_believed log l n ≡ true → log_believed (PortEvent.Got cqe payload ∷ log) l n ≡ true
+pub believed_got : (log : List PortEvent) (cqe payload : List ℕ) (l : ℕ) (n : Name) → log_believed log l n ≡ true
+    → log_believed (PortEvent.Got cqe payload ∷ log) l n ≡ true
 believed_got log cqe payload l n h =
     let b = believed_parts log l n h in
     believed_from (PortEvent.Got cqe payload ∷ log) l n
@@ -87,7 +97,8 @@ believed_got log cqe payload l n h =
     })
 
 -- a batch that releases nothing more
-pub believed_sent : (log : List PortEvent) (q : ℕ) (batch : List Submission) (l : ℕ) (n : Name) → log_released (PortEvent.Sent q batch ∷ log) l n ≡ log_released log l n → log_believed log l n ≡ true
+pub believed_sent : (log : List PortEvent) (q : ℕ) (batch : List Submission) (l : ℕ) (n : Name)
+    → log_released (PortEvent.Sent q batch ∷ log) l n ≡ log_released log l n → log_believed log l n ≡ true
     → log_believed (PortEvent.Sent q batch ∷ log) l n ≡ true
 believed_sent log q batch l n e h =
     let b = believed_parts log l n h in
@@ -102,14 +113,19 @@ believed_sent log q batch l n e h =
       unreleased = e ∙ b.unreleased;
     })
 
-pub believed_outside : (slots : Range) (log : List PortEvent) (q : ℕ) (batch : List Submission) (l : ℕ) (n : Name) → list_any (touches slots) batch ≡ false → has_block slots l ≡ true → log_believed log l n ≡ true
+pub believed_outside : (slots : Range) (log : List PortEvent) (q : ℕ) (batch : List Submission) (l : ℕ) (n : Name)
+    → list_any (touches slots) batch ≡ false → has_block slots l ≡ true → log_believed log l n ≡ true
     → log_believed (PortEvent.Sent q batch ∷ log) l n ≡ true
 believed_outside slots log q batch l n t v = believed_sent log q batch l n (released_outside slots log q batch l n t v)
 
-pub believed_claim : (log : List PortEvent) (q k first second : ℕ) (m : Name) (batch : List Submission) (l : ℕ) (n : Name) → IsName m → IsClaimBatch k first second m batch → log_believed log l n ≡ true
+pub believed_claim : (log : List PortEvent) (q k first second : ℕ) (m : Name) (batch : List Submission) (l : ℕ)
+    (n : Name) → IsName m → IsClaimBatch k first second m batch → log_believed log l n ≡ true
     → log_believed (PortEvent.Sent q batch ∷ log) l n ≡ true
-believed_claim log q k first second m batch l n x b = believed_sent log q batch l n (released_claim log q k first second m batch l n x b)
+believed_claim log q k first second m batch l n x b =
+    believed_sent log q batch l n (released_claim log q k first second m batch l n x b)
 
-pub believed_other : (log : List PortEvent) (q k first second : ℕ) (m : Name) (batch : List Submission) (l : ℕ) (n : Name) → IsName m → IsReleaseBatch k first second m batch → (eqb k l && same_name m n) ≡ false
+pub believed_other : (log : List PortEvent) (q k first second : ℕ) (m : Name) (batch : List Submission) (l : ℕ)
+    (n : Name) → IsName m → IsReleaseBatch k first second m batch → (eqb k l && same_name m n) ≡ false
     → log_believed log l n ≡ true → log_believed (PortEvent.Sent q batch ∷ log) l n ≡ true
-believed_other log q k first second m batch l n x b o = believed_sent log q batch l n (released_other log q k first second m batch l n x b o)
+believed_other log q k first second m batch l n x b o =
+    believed_sent log q batch l n (released_other log q k first second m batch l n x b o)

@@ -19,38 +19,53 @@ use Rattle.slot_calls.proofs.Keeping.{careful_disciplined}
 use Rattle.slot_calls.proofs.Knowing.{Knows, log_knows}
 
 -- its driver made all that its port did
-pub whole_log : (before : List PortEvent) (slots : Range) (host last : ℕ) (v : PortView) → IsSlotView before slots host last v → log_since before v ≡ log_of v
-whole_log before slots host last v x = ap (λ (b : List PortEvent). since b (log_of v)) x.premises.alone.none ∙ since_none (log_of v)
+pub whole_log : (before : List PortEvent) (slots : Range) (host last : ℕ) (v : PortView)
+    → IsSlotView before slots host last v → log_since before v ≡ log_of v
+whole_log before slots host last v x = ap (λ (b : List PortEvent). since b (log_of v)) x.premises.alone.none
+    ∙ since_none (log_of v)
 
-pub view_tidy : (before : List PortEvent) (slots : Range) (host last : ℕ) (v : PortView) → IsSlotView before slots host last v → is_tidy (log_of v) ≡ true
+pub view_tidy : (before : List PortEvent) (slots : Range) (host last : ℕ) (v : PortView)
+    → IsSlotView before slots host last v → is_tidy (log_of v) ≡ true
 view_tidy before slots host last v x = ap is_tidy (sym (whole_log before slots host last v x)) ∙ x.tidy
 
-pub view_careful : (before : List PortEvent) (slots : Range) (host last : ℕ) (v : PortView) → IsSlotView before slots host last v → is_careful slots host last (log_of v) ≡ true
-view_careful before slots host last v x = ap (is_careful slots host last) (sym (whole_log before slots host last v x)) ∙ x.careful
+pub view_careful : (before : List PortEvent) (slots : Range) (host last : ℕ) (v : PortView)
+    → IsSlotView before slots host last v → is_careful slots host last (log_of v) ≡ true
+view_careful before slots host last v x = ap (is_careful slots host last) (sym (whole_log before slots host last v x))
+    ∙ x.careful
 
-pub view_knows : (before : List PortEvent) (slots : Range) (host last : ℕ) (v : PortView) → IsSlotView before slots host last v → Knows v.config (entries v.seen) v.queue (log_of v)
-view_knows before slots host last v x = log_knows v.config v.queue v.pass v.seen x.legal x.premises.alone.sole (view_tidy before slots host last v x)
+pub view_knows : (before : List PortEvent) (slots : Range) (host last : ℕ) (v : PortView)
+    → IsSlotView before slots host last v → Knows v.config (entries v.seen) v.queue (log_of v)
+view_knows before slots host last v x =
+    log_knows v.config v.queue v.pass v.seen x.legal x.premises.alone.sole (view_tidy before slots host last v x)
 
-pub view_disciplined : (before : List PortEvent) (slots : Range) (host last : ℕ) (v : PortView) → IsSlotView before slots host last v → disciplined v.config slots (entries v.seen) ≡ true
+pub view_disciplined : (before : List PortEvent) (slots : Range) (host last : ℕ) (v : PortView)
+    → IsSlotView before slots host last v → disciplined v.config slots (entries v.seen) ≡ true
 view_disciplined before slots host last v x =
-    careful_disciplined v.config v.queue v.pass slots host v.seen x.legal x.premises.alone.sole (view_tidy before slots host last v x) x.premises.elsewhere x.premises.own_number
+    careful_disciplined v.config v.queue v.pass slots host v.seen x.legal x.premises.alone.sole
+    (view_tidy before slots host last v x) x.premises.elsewhere x.premises.own_number
     (careful_parts slots host last (log_of v) (view_careful before slots host last v x)).each
 
 -- ---- beliefs
 
-pub view_believed : (before : List PortEvent) (slots : Range) (host last : ℕ) (v : PortView) (l : ℕ) (n : Name) → IsSlotView before slots host last v → has_block slots l ≡ true → log_believed (log_since before v) l n ≡ true
+pub view_believed : (before : List PortEvent) (slots : Range) (host last : ℕ) (v : PortView) (l : ℕ) (n : Name)
+    → IsSlotView before slots host last v → has_block slots l ≡ true → log_believed (log_since before v) l n ≡ true
     → believed v.config (entries v.seen) l n ≡ true
 view_believed before slots host last v l n x a b =
-    log_believes v.config slots (entries v.seen) v.queue (log_of v) l n x.legal (view_disciplined before slots host last v x) (view_knows before slots host last v x) a
+    log_believes v.config slots (entries v.seen) v.queue (log_of v) l n x.legal
+    (view_disciplined before slots host last v x) (view_knows before slots host last v x) a
     (ap (λ (log : List PortEvent). log_believed log l n) (sym (whole_log before slots host last v x)) ∙ b)
 
-pub view_holder : (before : List PortEvent) (slots : Range) (host last : ℕ) (v : PortView) (l : ℕ) (n : Name) → IsSlotView before slots host last v → has_block slots l ≡ true → log_believed (log_since before v) l n ≡ true
+pub view_holder : (before : List PortEvent) (slots : Range) (host last : ℕ) (v : PortView) (l : ℕ) (n : Name)
+    → IsSlotView before slots host last v → has_block slots l ≡ true → log_believed (log_since before v) l n ≡ true
     → holder (entries v.seen) l ≡ Some n
 view_holder before slots host last v l n x a b =
-    believed_holds v.config slots (entries v.seen) l n x.legal (view_disciplined before slots host last v x) (area_has slots l a) (view_believed before slots host last v l n x a b)
+    believed_holds v.config slots (entries v.seen) l n x.legal (view_disciplined before slots host last v x)
+    (area_has slots l a) (view_believed before slots host last v l n x a b)
 
-pub view_back : (before : List PortEvent) (slots : Range) (host last : ℕ) (v : PortView) (l : ℕ) (n : Name) → IsSlotView before slots host last v → has_block slots l ≡ true → n.host ≡ host
+pub view_back : (before : List PortEvent) (slots : Range) (host last : ℕ) (v : PortView) (l : ℕ) (n : Name)
+    → IsSlotView before slots host last v → has_block slots l ≡ true → n.host ≡ host
     → believed v.config (entries v.seen) l n ≡ true → log_believed (log_since before v) l n ≡ true
 view_back before slots host last v l n x a e b =
     ap (λ (log : List PortEvent). log_believed log l n) (whole_log before slots host last v x)
-    ∙ believes_back v.config slots (entries v.seen) v.queue (log_of v) l host n x.legal x.premises.own_number (view_knows before slots host last v x) a e b
+    ∙ believes_back v.config slots (entries v.seen) v.queue (log_of v) l host n x.legal x.premises.own_number
+    (view_knows before slots host last v x) a e b

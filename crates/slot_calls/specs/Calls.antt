@@ -7,8 +7,8 @@ use Rattle.nvme_model.specs.declared.submission.Submission.{Submission}
 use Rattle.driver_calls.specs.Log.{sent}
 use Rattle.driver_calls.specs.Says.{IsCallIn}
 use Rattle.driver_calls.specs.declared.event.PortEvent.{PortEvent}
-use Rattle.driver_commands.specs.Entries.{IsBatch}
-use Rattle.driver_commands.specs.declared.request.CallData.{CallData}
+use Rattle.driver_calls.specs.Entries.{IsBatch}
+use Rattle.driver_calls.specs.declared.request.CallData.{CallData}
 
 -- A block spells the name: both its numbers are at least 1, the host's has 32 bits and the serial 64.
 pub record IsName (n : Name) : Type 0 where

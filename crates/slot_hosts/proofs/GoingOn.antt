@@ -10,7 +10,10 @@ use Rattle.slot_calls.specs.Careful.{is_careful}
 
 -- a port that had seen nothing has done nothing
 pub none_done : (p : SharedPort) → seen p.pass ≡ [] → log_of (view_of p) ≡ []
-none_done p e = ap (λ s. log_of (record { config = (view_of p).config; queue = (view_of p).queue; pass = (view_of p).pass; seen = s })) e
+none_done p e = ap (λ s.
+    log_of (record { config = (view_of p).config; queue = (view_of p).queue; pass = (view_of p).pass; seen = s })) e
 
-pub careful_first : (slots : Range) (host last : ℕ) (log : List PortEvent) → log ≡ [] → is_careful slots host last (since log log) ≡ true
-careful_first slots host last log e = subst (λ (l : List PortEvent). is_careful slots host last (since l l) ≡ true) (sym e) refl
+pub careful_first : (slots : Range) (host last : ℕ) (log : List PortEvent) → log ≡ []
+    → is_careful slots host last (since log log) ≡ true
+careful_first slots host last log e =
+    subst (λ (l : List PortEvent). is_careful slots host last (since l l) ≡ true) (sym e) refl

@@ -7,7 +7,8 @@ use Rattle.nvme_model.specs.declared.step.Step.{Step}
 use Rattle.nvme_model.specs.History.{Past}
 use Rattle.nvme_model.specs.Refusals.{refusal}
 use Rattle.nvme_model.specs.Steps.{next_entry}
-use Rattle.controller_steps.specs.State.{Does, Room, State, TakesRoom, WantsMemory, answer_of, promised_after, refused_as}
+use Rattle.controller_steps.specs.State.{Does, Room, State, TakesRoom, WantsMemory, answer_of, promised_after}
+use Rattle.controller_steps.specs.State.{refused_as}
 use Rattle.controller_steps.specs.declared.answer.Answer.{Answer}
 
 -- a call whose error nothing allows answers Ok
@@ -21,14 +22,16 @@ pub accepted : (inside old : State) (step : Step) (o : Option Why) → inside �
 accepted inside old step o same found none = ap (λ (x : State). refusal x.config x.past step) same ∙ sym found ∙ none
 
 -- what an accepted step does, by the entry that it adds
-pub does_accepted : (inside old : State) (step : Step) (a : Answer) (e : Entry) (p : Past) (n : ℕ) (room : Room) → inside ≡ old
+pub does_accepted : (inside old : State) (step : Step) (a : Answer) (e : Entry) (p : Past) (n : ℕ) (room : Room)
+    → inside ≡ old
     → refusal inside.config inside.past step ≡ None
     → e ≡ next_entry inside.config inside.past step
     → a ≡ answer_of inside.config inside.past (next_entry inside.config inside.past step)
     → p ≡ e ∷ inside.past → n ≡ promised_after step inside.promised → TakesRoom step inside.room room
     → Does old step (Ok a) (record { config = inside.config; past = p; promised = n; room = room })
 does_accepted inside old step a e p n room same none entry answer past promised takes =
-    subst (λ (x : State). Does x step (Ok a) (record { config = inside.config; past = p; promised = n; room = room })) same (
+    subst (λ (x : State). Does x step (Ok a) (record { config = inside.config; past = p; promised = n; room = room }))
+    same (
       (none, refl, answer),
       (λ i. record {
         config = inside.config;
@@ -40,11 +43,16 @@ does_accepted inside old step a e p n room same none entry answer past promised 
     )
 
 -- what a step does that wants memory and leaves all as it was
-pub does_wanting : (inside old : State) (step : Step) → inside ≡ old → refusal inside.config inside.past step ≡ None → WantsMemory inside step
+pub does_wanting : (inside old : State) (step : Step) → inside ≡ old → refusal inside.config inside.past step ≡ None
+    → WantsMemory inside step
     → Does old step (Err Why.NoMemory) old
 does_wanting inside old step same none wants =
-    subst (λ (x : State). Does x step (Err Why.NoMemory) x) same
-    (ap (λ (o : Option Why). refused_as step (unwrap_or o Why.NoMemory)) (sym none), refl, record { entries = omega arith; ranges = omega arith }, wants)
+    subst (λ (x : State). Does x step (Err Why.NoMemory) x) same (
+      ap (λ (o : Option Why). refused_as step (unwrap_or o Why.NoMemory)) (sym none),
+      refl,
+      record { entries = omega arith; ranges = omega arith },
+      wants,
+    )
 
 -- the history with one more entry, where making room left it as it was
 pub one_more : (e : Entry) (p made old : Past) → made ≡ old → p ≡ e ∷ made → p ≡ e ∷ old

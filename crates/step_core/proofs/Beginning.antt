@@ -1,5 +1,6 @@
 -- A controller without a history, and its volume.
-use Rattle.std.proofs.Common.{◌≡◌, ℕ, suc, ◌%◌, ◌*◌, ◌==◌, ◌<◌, true, false, List, [], replicate, slice_get, Some, None, refl, sym, ap, ◌∙◌, subst, is_none, ltb-false}
+use Rattle.std.proofs.Common.{◌≡◌, ℕ, suc, ◌%◌, ◌*◌, ◌==◌, ◌<◌, true, false, List, [], replicate, slice_get, Some, None}
+use Rattle.std.proofs.Common.{refl, sym, ap, ◌∙◌, subst, is_none, ltb-false}
 use Rattle.std.proofs.Math.Nat.{zero-div, zero-mod}
 use Rattle.std.proofs.lemmas.Bool.{or_parts}
 use Rattle.std.proofs.lemmas.Option.{get_or_from_slice_get}
@@ -31,12 +32,18 @@ submission_begins c k = ap (λ n. record (submission_empty c.sq_size) { head = n
 
 completion_begins : (c : ConfigNumbers) (k : ℕ) → completion_ring c [] k ≡ completion_empty c.cq_size
 unfolding completion_ring
-completion_begins c k = (λ i. record (completion_empty c.cq_size) { tail = zero-mod c.cq_size i; phase = zero-div c.cq_size i % 2 == 0 })
+completion_begins c k = (λ i. record (completion_empty c.cq_size) {
+  tail = zero-mod c.cq_size i;
+  phase = zero-div c.cq_size i % 2 == 0;
+})
 
 -- the fields of a controller that is just made
-pub begins : (c m : ConfigNumbers) (p : Past) (f : CoreFields) → m ≡ c → config_fault m ≡ None → p ≡ [] → f.volume ≡ replicate m.blocks zeros
-    → f.submission ≡ replicate m.pairs (submission_empty m.sq_size) → f.in_use ≡ replicate m.pairs (record { room = 2 * m.jobs; cids = [] })
-    → f.completion ≡ replicate m.cqs (completion_empty m.cq_size) → f.jobs ≡ record { limit = m.jobs; jobs = [] } → f.held ≡ [] → f.tickets ≡ 0
+pub begins : (c m : ConfigNumbers) (p : Past) (f : CoreFields) → m ≡ c → config_fault m ≡ None → p ≡ []
+    → f.volume ≡ replicate m.blocks zeros
+    → f.submission ≡ replicate m.pairs (submission_empty m.sq_size)
+    → f.in_use ≡ replicate m.pairs (record { room = 2 * m.jobs; cids = [] })
+    → f.completion ≡ replicate m.cqs (completion_empty m.cq_size) → f.jobs ≡ record { limit = m.jobs; jobs = [] }
+    → f.held ≡ [] → f.tickets ≡ 0
     → IsKept c p f
 begins c m p f same accepted none vs ss us qs js rs ns =
     subst (λ (x : ConfigNumbers). IsKept x p f) same (subst (λ (x : Past). IsKept m x f) (sym none) (record {
@@ -55,6 +62,8 @@ begins c m p f same accepted none vs ss us qs js rs ns =
 
 -- a block is its value where no open Exclusive unit has it
 pub block_is_value : (c : ConfigNumbers) (past : Past) (fields : CoreFields) → IsKept c past fields
-    → (l : ℕ) (b : List ℕ) → l < c.blocks → slice_get fields.volume l ≡ Some b → is_held past l ≡ false → b ≡ value past l
+    → (l : ℕ) (b : List ℕ) → l < c.blocks → slice_get fields.volume l ≡ Some b → is_held past l ≡ false
+    → b ≡ value past l
 block_is_value c past fields k l b within at free =
-    sym (get_or_from_slice_get fields.volume l b b at) ∙ k.volume.at l b within ∙ medium_is_value c past l k.run.legal k.run.marks free
+    sym (get_or_from_slice_get fields.volume l b b at) ∙ k.volume.at l b within
+    ∙ medium_is_value c past l k.run.legal k.run.marks free

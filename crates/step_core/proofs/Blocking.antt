@@ -1,5 +1,6 @@
 -- A Block: why it is refused.
-use Rattle.std.proofs.Common.{◌≡◌, ◌≢◌, ◌==◌, ◌↔◌, ℕ, Bool, true, false, not, cond, refl, sym, ap, ◌∙◌, Option, Some, None, option_map, is_some}
+use Rattle.std.proofs.Common.{◌≡◌, ◌≢◌, ◌==◌, ◌↔◌, ℕ, Bool, true, false, not, cond, refl, sym, ap, ◌∙◌, Option, Some}
+use Rattle.std.proofs.Common.{None, option_map, is_some}
 use Rattle.std.specs.Prelude.{IsTrue}
 use Rattle.nvme_model.specs.declared.config.ConfigNumbers.{ConfigNumbers}
 use Rattle.nvme_model.specs.declared.entry.GrantLine.{GrantLine}
@@ -11,7 +12,7 @@ use Rattle.nvme_model.specs.Open.{open_units}
 use Rattle.nvme_model.specs.Operations.{op}
 use Rattle.nvme_model.specs.Refusals.{has_open, refusal}
 use Rattle.nvme_model.specs.Tickets.{ticket}
-use Rattle.ticket_standing.specs.Standing.{Standing, left, standing, still_owed, unit_of}
+use Rattle.ticket_laws.specs.Standing.{Standing, left, standing, still_owed, unit_of}
 use Rattle.block_exec.specs.Progress.{Progress}
 use Rattle.ticket_course.specs.Shown.{stage_by}
 use Rattle.ticket_course.specs.Stages.{is_open}
@@ -54,11 +55,14 @@ module _ (c : ConfigNumbers) (past : Past) (t : ℕ) (x : Keeping) (i : IsJob c 
       go true e = let u = unit_there c past t i.legal e in ap is_open (stage_is c past t i.legal u.0 u.1 u.2)
       go false e =
           ap is_open (job_stage c (standing past t))
-          ∙ ap (λ (g : Option GrantLine). is_open (stage_by c (standing past t) (op (ticket past t)) (option_map (unit_of past) g))) (none_found (λ (g : GrantLine). g.ticket == t) (open_units past) e)
+          ∙ ap (λ (g : Option GrantLine).
+          is_open (stage_by c (standing past t) (op (ticket past t)) (option_map (unit_of past) g)))
+          (none_found (λ (g : GrantLine). g.ticket == t) (open_units past) e)
           ∙ none_open c (standing past t) (op (ticket past t))
 
   -- by whether a unit is open
-  pub block_tested : (b : Bool) → b ≡ is_open x.course.stage → refusal c past (Step.Block t) ≡ cond b None (Some Why.WrongState)
+  pub block_tested : (b : Bool) → b ≡ is_open x.course.stage
+      → refusal c past (Step.Block t) ≡ cond b None (Some Why.WrongState)
   block_tested b e = (λ z. block_tests (i.flies z) (sym opens z)) ∙ ap (block_tests true) (sym e) ∙ by b
     where
       by : (b : Bool) → block_tests true b ≡ cond b None (Some Why.WrongState)

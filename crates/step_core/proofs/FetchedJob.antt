@@ -1,10 +1,11 @@
 -- The job and the work of a ticket that was just fetched.
-use Rattle.std.proofs.Common.{◌≡◌, ℕ, ◌+◌, ◌-◌, ◌*◌, ◌≤◌, Bool, true, false, cond, List, [], replicate, Some, None, is_some, refl, sym, ap, ap₂, ◌∙◌, inl, inr, arith}
+use Rattle.std.proofs.Common.{◌≡◌, ℕ, ◌+◌, ◌-◌, ◌*◌, ◌≤◌, Bool, true, false, cond, List, [], replicate, Some, None}
+use Rattle.std.proofs.Common.{is_some, refl, sym, ap, ap₂, ◌∙◌, inl, inr, arith}
 use Rattle.nvme_model.specs.Cells.{pair_fits}
 use Rattle.nvme_model.specs.Commands.{is_compare, is_read, is_write, is_write_zeroes}
 use Rattle.nvme_model.specs.EntryBytes.{Sqe, blocks, slba}
 use Rattle.nvme_model.specs.Operations.{has_compare, is_pair, op, op_of_fields}
-use Rattle.ticket_standing.specs.Standing.{fresh}
+use Rattle.ticket_laws.specs.Standing.{fresh}
 use Rattle.nvme_model.specs.Tickets.{Ticket, cids, command, first_fields}
 use Rattle.nvme_model.specs.declared.array.Range.{Range}
 use Rattle.nvme_model.specs.declared.config.AtomicParameters.{AtomicParameters}
@@ -43,7 +44,9 @@ pub record Names (j : Judged) (k : Ticket) : Type 0 where
 alone : (e : Sqe) → is_pair (op_of_fields e) ≡ false
 alone e = go (is_write e) (is_read e) (is_compare e) (is_write_zeroes e)
   where
-    go : (w r m z : Bool) → is_pair (cond w (Some Op.Write) (cond r (Some Op.Read) (cond m (Some Op.Compare) (cond z (Some Op.WriteZeroes) None)))) ≡ false
+    go : (w r m z : Bool) → is_pair
+        (cond w (Some Op.Write) (cond r (Some Op.Read) (cond m (Some Op.Compare) (cond z (Some Op.WriteZeroes) None))))
+        ≡ false
     go true r m z = refl
     go false true m z = refl
     go false false true z = refl
@@ -55,7 +58,8 @@ same_range : (r : Range) (s n : ℕ) → r.slba ≡ s → r.blocks ≡ n → r �
 same_range r s n a b = (λ i. record { slba = a i; blocks = b i })
 
 -- the kind of a command on blocks
-units_kind : (k : Ticket) (o : Op) (r : Range) → (is_pair (Some o) ≡ false) → r ≡ ticket_range k → Kind.Units o r ≡ kind_by k (Some o)
+units_kind : (k : Ticket) (o : Op) (r : Range) → (is_pair (Some o) ≡ false) → r ≡ ticket_range k
+    → Kind.Units o r ≡ kind_by k (Some o)
 units_kind k Op.Read r n e = ap (λ x. Kind.Units Op.Read x) e
 units_kind k Op.Compare r n e = ap (λ x. Kind.Units Op.Compare x) e
 units_kind k Op.Write r n e = ap (λ x. Kind.Units Op.Write x) e
@@ -63,32 +67,38 @@ units_kind k Op.WriteZeroes r n e = ap (λ x. Kind.Units Op.WriteZeroes x) e
 units_kind k Op.Pair r n e = absurd cc
 
 -- the kind is that of the ticket
-pub kind_is : (q : ℕ) (j : Judged) (cs : List Submission) → Names j (ticket_by q j cs) → kind_in j ≡ kind_of (ticket_by q j cs) (verdict_by j)
+pub kind_is : (q : ℕ) (j : Judged) (cs : List Submission) → Names j (ticket_by q j cs)
+    → kind_in j ≡ kind_of (ticket_by q j cs) (verdict_by j)
 kind_is q judged.Flush cs h = ap (kind_by (ticket_by q judged.Flush cs)) h.operation
 kind_is q (judged.Single o r) cs h =
     let k = ticket_by q (judged.Single o r) cs in
-    units_kind k o r (ap is_pair h.operation ∙ alone (first_fields k)) (same_range r _ _ h.range.0 h.range.1) ∙ ap (kind_by k) h.operation
+    units_kind k o r (ap is_pair h.operation ∙ alone (first_fields k)) (same_range r _ _ h.range.0 h.range.1)
+    ∙ ap (kind_by k) h.operation
 kind_is q (judged.Pair r) cs h = ap (λ (x : Range). Kind.Pair x) (same_range r _ _ h.range.0 h.range.1)
 kind_is q (judged.SingleFailed s) cs h = refl
 kind_is q (judged.PairFailed s r) cs h = refl
 
 -- one command alone does no pair's work
-pub no_pair : (q : ℕ) (r : Range) (cs : List Submission) → Names (judged.Single Op.Pair r) (ticket_by q (judged.Single Op.Pair r) cs) → ⊥
-no_pair q r cs h = let k = ticket_by q (judged.Single Op.Pair r) cs in clash (is_pair (op_of_fields (first_fields k))) (sym (ap is_pair h.operation)) (alone (first_fields k))
+pub no_pair : (q : ℕ) (r : Range) (cs : List Submission)
+    → Names (judged.Single Op.Pair r) (ticket_by q (judged.Single Op.Pair r) cs) → ⊥
+no_pair q r cs h = let k = ticket_by q (judged.Single Op.Pair r) cs in
+    clash (is_pair (op_of_fields (first_fields k))) (sym (ap is_pair h.operation)) (alone (first_fields k))
 
 -- a range within a volume
 range_fits : (r : Range) (s n m : ℕ) → r.slba ≡ s → r.blocks ≡ n + 1 → s + (n + 1) ≤ m → m ≤ 65536 → IsRange r
 range_fits r s n m a b l most = (omega (arith, b), omega (arith, a, b, l, most))
 
 -- a ticket that passed its checks has blocks of the volume
-pub kind_fits : (c : ConfigNumbers) (q : ℕ) (j : Judged) (cs : List Submission) → c.blocks ≤ 65536 → Names j (ticket_by q j cs)
+pub kind_fits : (c : ConfigNumbers) (q : ℕ) (j : Judged) (cs : List Submission) → c.blocks ≤ 65536
+    → Names j (ticket_by q j cs)
     → (is_some (op (ticket_by q j cs)) ≡ true → TicketChecked c (ticket_by q j cs)) → IsKind c.atomic (kind_in j)
 kind_fits c q judged.Flush cs most h check = tt
 kind_fits c q (judged.SingleFailed s) cs most h check = inl refl
 kind_fits c q (judged.PairFailed s r) cs most h check = inr refl
 kind_fits c q (judged.Single o r) cs most h check =
     let k = ticket_by q (judged.Single o r) cs in
-    range_fits r (slba (first_fields k)) _ c.blocks h.range.0 h.range.1 (check (sym (ap is_some h.operation))).first.inside most
+    range_fits r (slba (first_fields k)) _ c.blocks h.range.0 h.range.1
+    (check (sym (ap is_some h.operation))).first.inside most
 kind_fits c q (judged.Pair r) cs most h check =
     let k = ticket_by q (judged.Pair r) cs in
     let checked = check refl in (
@@ -97,9 +107,11 @@ kind_fits c q (judged.Pair r) cs most h check =
     )
 
 -- what was judged can be
-pub sound : (u : AtomicParameters) (q : ℕ) (j : Judged) (cs : List Submission) → Names j (ticket_by q j cs) → IsKind u (kind_in j) → IsSound j
+pub sound : (u : AtomicParameters) (q : ℕ) (j : Judged) (cs : List Submission) → Names j (ticket_by q j cs)
+    → IsKind u (kind_in j) → IsSound j
 sound u q judged.Flush cs h fits = tt
-sound u q (judged.Single o r) cs h fits = (one_command o (ap is_pair h.operation ∙ alone (first_fields (ticket_by q (judged.Single o r) cs))), fits)
+sound u q (judged.Single o r) cs h fits =
+    (one_command o (ap is_pair h.operation ∙ alone (first_fields (ticket_by q (judged.Single o r) cs))), fits)
   where
     one_command : (o : Op) → is_pair (Some o) ≡ false → commands_in o ≡ 1
     one_command Op.Read e = refl
@@ -114,7 +126,8 @@ sound u q (judged.PairFailed s r) cs h fits = tt
 -- ---- its job
 
 -- the room for what one command reads
-read_op : (k : Ticket) (o : Op) (r : Range) → r.blocks ≡ blocks (first_fields k) → read_first (judged.Single o r) ≡ read_bytes_by (Some o) k []
+read_op : (k : Ticket) (o : Op) (r : Range) → r.blocks ≡ blocks (first_fields k)
+    → read_first (judged.Single o r) ≡ read_bytes_by (Some o) k []
 read_op k Op.Read r e = ap (λ (n : ℕ). replicate n 0) (whole r.blocks (blocks (first_fields k)) e)
   where
     whole : (a b : ℕ) → a ≡ b → 512 * a ≡ 512 * b - 0
@@ -125,17 +138,22 @@ read_op k Op.WriteZeroes r e = refl
 read_op k Op.Pair r e = refl
 
 -- the room for what it reads
-read_is : (q : ℕ) (j : Judged) (cs : List Submission) → Names j (ticket_by q j cs) → read_first j ≡ read_bytes_by (op (ticket_by q j cs)) (ticket_by q j cs) []
+read_is : (q : ℕ) (j : Judged) (cs : List Submission) → Names j (ticket_by q j cs)
+    → read_first j ≡ read_bytes_by (op (ticket_by q j cs)) (ticket_by q j cs) []
 read_is q judged.Flush cs h = let k = ticket_by q judged.Flush cs in ap (λ o. read_bytes_by o k []) h.operation
-read_is q (judged.Single o r) cs h = let k = ticket_by q (judged.Single o r) cs in read_op k o r h.range.1 ∙ ap (λ x. read_bytes_by x k []) h.operation
+read_is q (judged.Single o r) cs h = let k = ticket_by q (judged.Single o r) cs in
+    read_op k o r h.range.1 ∙ ap (λ x. read_bytes_by x k []) h.operation
 read_is q (judged.Pair r) cs h = refl
 read_is q (judged.SingleFailed s) cs h = refl
 read_is q (judged.PairFailed s r) cs h = refl
 
 -- the job that is made is that of a ticket that has begun nothing
-pub fresh_job : (c : ConfigNumbers) (q : ℕ) (f : Front) (cs : List Submission) (first : Submission) (write : List (List ℕ)) (read : List ℕ) → Names f.judged (ticket_by q f.judged cs)
-    → f.cids ≡ cids (ticket_by q f.judged cs) → f.slba ≡ slba (first_fields (ticket_by q f.judged cs)) → first ≡ command (ticket_by q f.judged cs) 0
-    → write ≡ write_blocks (ticket_by q f.judged cs) → read ≡ read_first f.judged → first_job q f first write read ≡ job_by c (fresh (ticket_by q f.judged cs))
+pub fresh_job : (c : ConfigNumbers) (q : ℕ) (f : Front) (cs : List Submission) (first : Submission)
+    (write : List (List ℕ)) (read : List ℕ) → Names f.judged (ticket_by q f.judged cs)
+    → f.cids ≡ cids (ticket_by q f.judged cs) → f.slba ≡ slba (first_fields (ticket_by q f.judged cs))
+    → first ≡ command (ticket_by q f.judged cs) 0
+    → write ≡ write_blocks (ticket_by q f.judged cs) → read ≡ read_first f.judged
+    → first_job q f first write read ≡ job_by c (fresh (ticket_by q f.judged cs))
 unfolding job_by
 fresh_job c q f cs first write read h ids start front wrote room =
     let k = ticket_by q f.judged cs in

@@ -1,5 +1,7 @@
 -- A Grant that isn't refused: what the calls that make it require, and the fields after it.
-use Rattle.std.proofs.Common.{◌≡◌, ℕ, zero, suc, true, false, cond, List, ◌∷◌, drop, map, option_map, refl, sym, ap, ◌∙◌, subst, Option, Some, None, is_some, is_ok, inl, inr, Result, Ok, Err, slice_get, ◌==◌, ◌⊎◌}
+use Rattle.std.proofs.Common.{◌≡◌, ℕ, zero, suc, true, false, cond, List, ◌∷◌, drop, map, option_map, refl, sym, ap}
+use Rattle.std.proofs.Common.{◌∙◌, subst, Option, Some, None, is_some, is_ok, inl, inr, Result, Ok, Err, slice_get}
+use Rattle.std.proofs.Common.{◌==◌, ◌⊎◌}
 use Rattle.std.specs.Prelude.{IfErr}
 use Rattle.std.proofs.lemmas.Bool.{or_parts}
 use Rattle.nvme_model.specs.declared.array.Range.{Range}
@@ -16,15 +18,15 @@ use Rattle.nvme_model.specs.Medium.{medium}
 use Rattle.nvme_model.specs.Open.{conflict, differed, grants_of, open_units}
 use Rattle.nvme_model.specs.Operations.{mode, op, units_by}
 use Rattle.nvme_model.specs.Refusals.{conflicts_open, next_unit}
-use Rattle.ticket_standing.specs.Standing.{Standing, open_unit, standing, unit_of}
+use Rattle.ticket_laws.specs.Standing.{Standing, open_unit, standing, unit_of}
 use Rattle.nvme_model.specs.Steps.{grant_entry}
 use Rattle.nvme_model.specs.Tickets.{cids, first_fields, ticket}
 use Rattle.nvme_model.specs.EntryBytes.{slba}
 use Rattle.nvme_model.specs.Kept.{Kept}
-use Rattle.ticket_standing.proofs.Left.{next_unit_left}
-use Rattle.ticket_standing.proofs.Opening.{grant_open}
+use Rattle.ticket_laws.proofs.Left.{next_unit_left}
+use Rattle.ticket_laws.proofs.Opening.{grant_open}
 use Rattle.nvme_model.proofs.Rules.{MayGrant, may_grant}
-use Rattle.ticket_standing.proofs.Standings.{grant_here, grant_other}
+use Rattle.ticket_laws.proofs.Standings.{grant_here, grant_other}
 use Rattle.range_reserve.specs.Reserved.{by_ticket, has_conflict, has_ticket, held_of, insert_held}
 use Rattle.range_reserve.proofs.Rising.{list_any-by_ticket}
 use Rattle.range_reserve.specs.declared.held.Held.{Held}
@@ -54,7 +56,9 @@ use Rattle.step_core.proofs.Written.{granted_blocks, with_unit}
 -- ---- the job of a ticket with a unit just opened
 
 -- only its stage is another
-opened_is : (c : ConfigNumbers) (s : Standing) (g : GrantLine) → opened_in (stage_of c s) g.range ≡ stage_of c (with_unit s g) → still_written c s ≡ still_written c (with_unit s g) → opened_job (job_by c s) g.range ≡ job_by c (with_unit s g)
+opened_is : (c : ConfigNumbers) (s : Standing) (g : GrantLine)
+    → opened_in (stage_of c s) g.range ≡ stage_of c (with_unit s g)
+    → still_written c s ≡ still_written c (with_unit s g) → opened_job (job_by c s) g.range ≡ job_by c (with_unit s g)
 unfolding job_by
 opened_is c s g e w =
     (λ z. record {
@@ -69,7 +73,8 @@ opened_is c s g e w =
 -- ---- the call that holds its range
 
 -- it answers Ok where neither error comes
-pub held_ok : (r : Result (Unit {0}) Why) → IfErr r (λ why. (why ≡ Why.Conflict) ⊎ (why ≡ Why.NoMemory)) → (r ≡ Err Why.Conflict → ⊥) → (r ≡ Err Why.NoMemory → ⊥) → is_ok r ≡ true
+pub held_ok : (r : Result (Unit {0}) Why) → IfErr r (λ why. (why ≡ Why.Conflict) ⊎ (why ≡ Why.NoMemory))
+    → (r ≡ Err Why.Conflict → ⊥) → (r ≡ Err Why.NoMemory → ⊥) → is_ok r ≡ true
 held_ok (Ok x) e a b = refl
 held_ok (Err why) e a b = elim e [
   | inl f ↦ absurd (a (ap Err f))
@@ -78,21 +83,29 @@ held_ok (Err why) e a b = elim e [
 
 -- ---- the rings are as they were
 
-submission_kept : (c : ConfigNumbers) (past : Past) (g : GrantLine) (q : ℕ) → submission_ring c (Entry.Grant g ∷ past) q ≡ submission_ring c past q
+submission_kept : (c : ConfigNumbers) (past : Past) (g : GrantLine) (q : ℕ)
+    → submission_ring c (Entry.Grant g ∷ past) q ≡ submission_ring c past q
 unfolding submission_ring
 submission_kept c past g q = refl
 
-completion_kept : (c : ConfigNumbers) (past : Past) (g : GrantLine) (q : ℕ) → completion_ring c (Entry.Grant g ∷ past) q ≡ completion_ring c past q
+completion_kept : (c : ConfigNumbers) (past : Past) (g : GrantLine) (q : ℕ)
+    → completion_ring c (Entry.Grant g ∷ past) q ≡ completion_ring c past q
 unfolding completion_ring
 completion_kept c past g q = refl
 
 -- ---- what a Grant's line says
 
-line_mode : (past : Past) (t : ℕ) (o : Option Range) (g : GrantLine) → Entry.Grant g ≡ grant_entry past t o → g.mode ≡ mode (ticket past t)
-line_mode past t None g e = let w : g ≡ record { ticket = t; unit = 0; range = record { slba = 0; blocks = 0 }; mode = mode (ticket past t) } = cc in ap (λ (x : GrantLine). x.mode) w
-line_mode past t (Some r) g e = let w : g ≡ record { ticket = t; unit = grants_of past t; range = r; mode = mode (ticket past t) } = cc in ap (λ (x : GrantLine). x.mode) w
+line_mode : (past : Past) (t : ℕ) (o : Option Range) (g : GrantLine) → Entry.Grant g ≡ grant_entry past t o
+    → g.mode ≡ mode (ticket past t)
+line_mode past t None g e =
+    let w : g ≡ record { ticket = t; unit = 0; range = record { slba = 0; blocks = 0 }; mode = mode (ticket past t) } =
+    cc in ap (λ (x : GrantLine). x.mode) w
+line_mode past t (Some r) g e =
+    let w : g ≡ record { ticket = t; unit = grants_of past t; range = r; mode = mode (ticket past t) } = cc in
+    ap (λ (x : GrantLine). x.mode) w
 
-module _ (c : ConfigNumbers) (past : Past) (fields : CoreFields) (k : IsKept c past fields) (g : GrantLine) (a : IsNext c past (Next.Grant g)) where
+module _ (c : ConfigNumbers) (past : Past) (fields : CoreFields) (k : IsKept c past fields) (g : GrantLine)
+    (a : IsNext c past (Next.Grant g)) where
   abbrev v : List (List ℕ)
   v = fields.volume
 
@@ -128,14 +141,18 @@ module _ (c : ConfigNumbers) (past : Past) (fields : CoreFields) (k : IsKept c p
 
   -- its ticket holds no range
   pub free : has_ticket r g.ticket ≡ false
-  free = ap (λ (hs : List Held). has_ticket hs g.ticket) k.held ∙ list_any-by_ticket (λ h. h.ticket == g.ticket) (map held_of (open_units past)) ∙ has_ticket-map (open_units past) g.ticket ∙ may.closed
+  free = ap (λ (hs : List Held). has_ticket hs g.ticket) k.held
+      ∙ list_any-by_ticket (λ h. h.ticket == g.ticket) (map held_of (open_units past))
+      ∙ has_ticket-map (open_units past) g.ticket ∙ may.closed
 
   -- the range is apart from those that are held
   pub apart : has_conflict r g.range g.mode ≡ false
   apart =
       ap (λ (hs : List Held). has_conflict hs g.range g.mode) k.held
-      ∙ list_any-by_ticket (λ h. conflict g.range g.mode h.range h.mode) (map held_of (open_units past)) ∙ has_conflict-map (open_units past) g.range g.mode
-      ∙ (λ z. conflicts_open past (line_mode past g.ticket (next_unit c past g.ticket) g a.1 z) (sym next z)) ∙ may.apart
+      ∙ list_any-by_ticket (λ h. conflict g.range g.mode h.range h.mode) (map held_of (open_units past))
+      ∙ has_conflict-map (open_units past) g.range g.mode
+      ∙ (λ z. conflicts_open past (line_mode past g.ticket (next_unit c past g.ticket) g a.1 z) (sym next z))
+      ∙ may.apart
 
   -- it is a range of blocks
   pub range_is : IsRange g.range
@@ -143,7 +160,8 @@ module _ (c : ConfigNumbers) (past : Past) (fields : CoreFields) (k : IsKept c p
 
   -- none of its units is open
   closed : open_unit past g.ticket ≡ None
-  closed = ap (option_map (unit_of past)) (none_found (λ (y : GrantLine). y.ticket == g.ticket) (open_units past) may.closed)
+  closed = ap (option_map (unit_of past))
+      (none_found (λ (y : GrantLine). y.ticket == g.ticket) (open_units past) may.closed)
 
   -- a unit of it may be opened
   waiting : Waits c (standing past g.ticket) g.range (op (ticket past g.ticket)) (open_unit past g.ticket)
@@ -170,36 +188,54 @@ module _ (c : ConfigNumbers) (past : Past) (fields : CoreFields) (k : IsKept c p
     -- its unit is the next one
     pub first : IsFirst x.course.stage g.range
     first =
-        subst (λ (y : Stage). IsFirst y g.range) (sym (ap (λ (y : Keeping). y.course.stage) job_is ∙ job_stage c (standing past g.ticket)))
-        (first_of c (standing past g.ticket) g.range (op (ticket past g.ticket)) (open_unit past g.ticket) waiting range_is.0)
+        subst (λ (y : Stage). IsFirst y g.range)
+        (sym (ap (λ (y : Keeping). y.course.stage) job_is ∙ job_stage c (standing past g.ticket)))
+        (first_of c (standing past g.ticket) g.range (op (ticket past g.ticket)) (open_unit past g.ticket) waiting
+        range_is.0)
 
     own : opened_job x g.range ≡ job_at c (Entry.Grant g ∷ past) g.ticket
     own =
         ap (λ (y : Keeping). opened_job y g.range) job_is
-        ∙ opened_is c (standing past g.ticket) g (sym moved ∙ ap (stage_of c) here) (granted_blocks c (standing past g.ticket) g closed goes_on next)
+        ∙ opened_is c (standing past g.ticket) g (sym moved ∙ ap (stage_of c) here)
+        (granted_blocks c (standing past g.ticket) g closed goes_on next)
         ∙ ap (job_by c) (sym here)
       where
         here : standing (Entry.Grant g ∷ past) g.ticket ≡ with_unit (standing past g.ticket) g
         here = grant_here c past g legal
 
-        moved : stage_of c (standing (Entry.Grant g ∷ past) g.ticket) ≡ opened_in (stage_of c (standing past g.ticket)) g.range
+        moved : stage_of c (standing (Entry.Grant g ∷ past) g.ticket)
+            ≡ opened_in (stage_of c (standing past g.ticket)) g.range
         moved = granted c past g legal
 
     -- the fields after it
-    pub kept : (h past' : Past) (y : Keeping) (r' : List Held) → h ≡ past → past' ≡ Entry.Grant g ∷ h → y ≡ opened_job x g.range → r' ≡ insert_held (record { ticket = g.ticket; range = g.range; mode = g.mode }) r
-        → IsKept c past' (record fields { jobs = record { limit = j.limit; jobs = replaced j.jobs g.ticket y }; held = r' })
+    pub kept : (h past' : Past) (y : Keeping) (r' : List Held) → h ≡ past → past' ≡ Entry.Grant g ∷ h
+        → y ≡ opened_job x g.range → r' ≡ insert_held (record { ticket = g.ticket; range = g.range; mode = g.mode }) r
+        → IsKept c past' (record fields {
+          jobs = record { limit = j.limit; jobs = replaced j.jobs g.ticket y };
+          held = r';
+        })
     kept h past' y r' same_past is_past is_y is_r =
-        subst (λ (p : Past). IsKept c p (record fields { jobs = record { limit = j.limit; jobs = replaced j.jobs g.ticket y }; held = r' })) (sym (is_past ∙ ap (λ (w : Past). Entry.Grant g ∷ w) same_past))
+        subst (λ (p : Past). IsKept c p
+        (record fields { jobs = record { limit = j.limit; jobs = replaced j.jobs g.ticket y }; held = r' }))
+        (sym (is_past ∙ ap (λ (w : Past). Entry.Grant g ∷ w) same_past))
         (record {
           accepted = k.accepted;
           volume = IsTable-same (medium past) (medium (Entry.Grant g ∷ past)) c.blocks v k.volume (λ l. refl);
-          submission = IsTable-same (λ i. submission_ring c past (suc i)) (λ i. submission_ring c (Entry.Grant g ∷ past) (suc i)) c.pairs s k.submission (λ i. submission_kept c past g (suc i));
+          submission = IsTable-same (λ i. submission_ring c past (suc i))
+              (λ i. submission_ring c (Entry.Grant g ∷ past) (suc i)) c.pairs s k.submission
+              (λ i. submission_kept c past g (suc i));
           in_use = k.in_use;
-          completion = IsTable-same (λ i. completion_ring c past (suc i)) (λ i. completion_ring c (Entry.Grant g ∷ past) (suc i)) c.cqs q k.completion (λ i. completion_kept c past g (suc i));
+          completion = IsTable-same (λ i. completion_ring c past (suc i))
+              (λ i. completion_ring c (Entry.Grant g ∷ past) (suc i)) c.cqs q k.completion
+              (λ i. completion_kept c past g (suc i));
           jobs =
               (λ z. record { limit = (k.jobs z).limit; jobs = replaced (k.jobs z).jobs g.ticket ((is_y ∙ own) z) })
-              ∙ (λ z. record { limit = c.jobs; jobs = jobs_moved c past (Entry.Grant g) g.ticket (λ u ne. grant_other c past g u legal ne) z });
-          held = is_r ∙ ap (insert_held (record { ticket = g.ticket; range = g.range; mode = g.mode })) k.held ∙ ap (λ (gs : List GrantLine). by_ticket (map held_of gs)) (sym (grant_open c past g legal));
+              ∙ (λ z. record {
+                limit = c.jobs;
+                jobs = jobs_moved c past (Entry.Grant g) g.ticket (λ u ne. grant_other c past g u legal ne) z;
+              });
+          held = is_r ∙ ap (insert_held (record { ticket = g.ticket; range = g.range; mode = g.mode })) k.held
+              ∙ ap (λ (gs : List GrantLine). by_ticket (map held_of gs)) (sym (grant_open c past g legal));
           count = k.count;
           run = subst (λ (x : Entry). Kept c (x ∷ past)) (sym a.1) (stepped c past (Step.Grant g.ticket) k.run a.0);
         })

@@ -1,5 +1,7 @@
 -- A Grant: what its line says, what the calls that make it require, and the fields after it.
-use Rattle.std.proofs.Common.{◌≡◌, ℕ, ◌≤◌, Bool, true, false, not, ◌||◌, cond, List, [], ◌∷◌, option_map, refl, sym, ap, ◌∙◌, subst, Option, Some, None, is_some, is_none, inl, inr, length, map, nat_le, ◌==◌, arith}
+use Rattle.std.proofs.Common.{◌≡◌, ℕ, ◌≤◌, Bool, true, false, not, ◌||◌, cond, List, [], ◌∷◌, option_map, refl, sym, ap}
+use Rattle.std.proofs.Common.{◌∙◌, subst, Option, Some, None, is_some, is_none, inl, inr, length, map, nat_le, ◌==◌}
+use Rattle.std.proofs.Common.{arith}
 use Rattle.std.specs.List.{find, list_any}
 use Rattle.std.proofs.lemmas.Bool.{or_right, or_from, or_parts}
 use Rattle.nvme_model.specs.declared.array.Mode.{Mode}
@@ -12,10 +14,10 @@ use Rattle.nvme_model.specs.History.{Past}
 use Rattle.nvme_model.specs.Open.{conflict, differed, grants_of, open_units}
 use Rattle.nvme_model.specs.Operations.{has_write, mode, op, units}
 use Rattle.nvme_model.specs.Refusals.{conflicts_open, has_open, next_unit, none_left, refusal}
-use Rattle.ticket_standing.specs.Standing.{Standing, left, next_of, open_unit, standing, unit_of}
+use Rattle.ticket_laws.specs.Standing.{Standing, left, next_of, open_unit, standing, unit_of}
 use Rattle.nvme_model.specs.Steps.{grant_entry, next_entry}
 use Rattle.nvme_model.specs.Tickets.{ticket}
-use Rattle.ticket_standing.proofs.Left.{next_starts, next_unit_left, none_left_is}
+use Rattle.ticket_laws.proofs.Left.{next_starts, next_unit_left, none_left_is}
 use Rattle.range_reserve.specs.Reserved.{has_conflict, held_of}
 use Rattle.range_reserve.specs.declared.held.Held.{Held}
 use Rattle.range_reserve.proofs.Granted.{has_conflict-map}
@@ -32,7 +34,8 @@ use Rattle.controller_steps.specs.State.{Room, State}
 use Rattle.step_core.proofs.Bounds.{left_short}
 
 -- what is kept is so of the value that contracts see
-pub seen : (c : ConfigNumbers) (past : Past) (p : ℕ) {w : Room} (x : State) (fields : CoreFields) → record { config = c; past = past; promised = p; room = w } ≡ x
+pub seen : (c : ConfigNumbers) (past : Past) (p : ℕ) {w : Room} (x : State) (fields : CoreFields)
+    → record { config = c; past = past; promised = p; room = w } ≡ x
     → IsKept c past fields → IsKept x.config x.past fields
 seen c past p x fields e k = subst (λ (y : State). IsKept y.config y.past fields) e k
 
@@ -59,14 +62,17 @@ job_stage c s = refl
 -- a unit of a ticket is open where one stands open
 pub unit_open : (past : Past) (t : ℕ) → is_some (open_unit past t) ≡ has_open past t
 unit_open past t =
-    some_mapped (unit_of past) (find (λ g. g.ticket == t) (open_units past)) ∙ any_found (λ g. g.ticket == t) (open_units past)
+    some_mapped (unit_of past) (find (λ g. g.ticket == t) (open_units past))
+    ∙ any_found (λ g. g.ticket == t) (open_units past)
 
 -- ---- what a Grant's tests say
 
 abbrev grant_tests : Bool → Bool → Bool → Option Why
-grant_tests flies wrong apart = cond (not flies) (Some Why.NoTicket) (cond wrong (Some Why.WrongState) (cond apart (Some Why.Conflict) None))
+grant_tests flies wrong apart =
+    cond (not flies) (Some Why.NoTicket) (cond wrong (Some Why.WrongState) (cond apart (Some Why.Conflict) None))
 
-module _ (c : ConfigNumbers) (past : Past) (fields : CoreFields) (k : IsKept c past fields) (t : ℕ) (x : Keeping) (i : IsJob c past t x) where
+module _ (c : ConfigNumbers) (past : Past) (fields : CoreFields) (k : IsKept c past fields) (t : ℕ) (x : Keeping)
+    (i : IsJob c past t x) where
   abbrev r : List Held
   r = fields.held
 
@@ -75,17 +81,19 @@ module _ (c : ConfigNumbers) (past : Past) (fields : CoreFields) (k : IsKept c p
 
   -- there is no next unit
   pub nothing_next : next_in c.atomic x.course.stage ≡ None → refusal c past (Step.Grant t) ≡ Some Why.WrongState
-  nothing_next e = elim (no_next c (standing past t) (op (ticket past t)) (open_unit past t) (ap (next_in c.atomic) (sym stage_is) ∙ e)) [
-    | inl up ↦ wrong (or_right (none_left c past t) (has_open past t) (sym (unit_open past t) ∙ up))
-    | inr none ↦ wrong (ap (λ b. b || has_open past t) (none_left_is c past t ∙ ap is_none none))
-  ]
+  nothing_next e = elim (no_next c (standing past t) (op (ticket past t)) (open_unit past t)
+      (ap (next_in c.atomic) (sym stage_is) ∙ e)) [
+        | inl up ↦ wrong (or_right (none_left c past t) (has_open past t) (sym (unit_open past t) ∙ up))
+        | inr none ↦ wrong (ap (λ b. b || has_open past t) (none_left_is c past t ∙ ap is_none none))
+      ]
     where
       wrong : (none_left c past t || has_open past t) ≡ true → refusal c past (Step.Grant t) ≡ Some Why.WrongState
       wrong w = (λ z. grant_tests (i.flies z) (w z) (conflicts_open past (mode (ticket past t)) (next_unit c past t)))
 
   module _ (y : Range) (next : Some y ≡ next_in c.atomic x.course.stage) where
     at : Waits c (standing past t) y (op (ticket past t)) (open_unit past t)
-    at = waits c (standing past t) y (op (ticket past t)) (open_unit past t) (ap (next_in c.atomic) (sym stage_is) ∙ sym next)
+    at = waits c (standing past t) y (op (ticket past t)) (open_unit past t)
+        (ap (next_in c.atomic) (sym stage_is) ∙ sym next)
 
     next_is : next_of c.atomic (op (ticket past t)) (left c (standing past t)) ≡ Some y
     next_is = ap (λ o. next_of c.atomic o (left c (standing past t))) at.is ∙ at.next
@@ -109,7 +117,9 @@ module _ (c : ConfigNumbers) (past : Past) (fields : CoreFields) (k : IsKept c p
     closed = sym (unit_open past t) ∙ ap is_some at.closed
 
     unit_is : next_unit c past t ≡ Some y
-    unit_is = next_unit_left c past t (or_parts (nat_le (length (units c (ticket past t))) (grants_of past t)) (differed past t) some_left).1 ∙ next_is
+    unit_is = next_unit_left c past t
+        (or_parts (nat_le (length (units c (ticket past t))) (grants_of past t)) (differed past t) some_left).1
+        ∙ next_is
 
     module _ (m : Mode) (holds : m ≡ mode_in x.course.stage) where
       mode_is : m ≡ mode (ticket past t)
@@ -117,9 +127,11 @@ module _ (c : ConfigNumbers) (past : Past) (fields : CoreFields) (k : IsKept c p
 
       tests_are : refusal c past (Step.Grant t) ≡ grant_tests true false (has_conflict r y m)
       tests_are =
-          (λ z. grant_tests (i.flies z) (or_from _ _ some_left closed z) (conflicts_open past (sym mode_is z) (unit_is z)))
+          (λ z. grant_tests (i.flies z) (or_from _ _ some_left closed z)
+          (conflicts_open past (sym mode_is z) (unit_is z)))
           ∙ ap (grant_tests true false) (sym (ap (λ (hs : List Held). has_conflict hs y m) k.held
-          ∙ list_any-by_ticket (λ h. conflict y m h.range h.mode) (map held_of (open_units past)) ∙ has_conflict-map (open_units past) y m))
+          ∙ list_any-by_ticket (λ h. conflict y m h.range h.mode) (map held_of (open_units past))
+          ∙ has_conflict-map (open_units past) y m))
 
       -- its unit conflicts with one that is open
       pub in_conflict : has_conflict r y m ≡ true → refusal c past (Step.Grant t) ≡ Some Why.Conflict
@@ -127,8 +139,10 @@ module _ (c : ConfigNumbers) (past : Past) (fields : CoreFields) (k : IsKept c p
 
       -- it is opened
       pub line_is : (u : ℕ) → u ≡ unit_in x.course.stage → has_conflict r y m ≡ false
-          → (refusal c past (Step.Grant t) ≡ None) × (Entry.Grant (record { ticket = t; unit = u; range = y; mode = m }) ≡ next_entry c past (Step.Grant t))
+          → (refusal c past (Step.Grant t) ≡ None)
+          × (Entry.Grant (record { ticket = t; unit = u; range = y; mode = m }) ≡ next_entry c past (Step.Grant t))
       line_is u number e = (
         tests_are ∙ ap (grant_tests true false) e,
-        (λ z. Entry.Grant (record { ticket = t; unit = (number ∙ ap unit_in waiting) z; range = y; mode = mode_is z })) ∙ ap (grant_entry past t) (sym unit_is),
+        (λ z. Entry.Grant (record { ticket = t; unit = (number ∙ ap unit_in waiting) z; range = y; mode = mode_is z }))
+            ∙ ap (grant_entry past t) (sym unit_is),
       )

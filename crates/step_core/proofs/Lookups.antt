@@ -1,10 +1,12 @@
 -- What the read accessors of a core find.
-use Rattle.std.proofs.Common.{◌≡◌, ℕ, zero, suc, ◌-◌, ◌≤◌, ◌<◌, ◌==◌, ◌||◌, Bool, true, false, cond, List, [], ◌∷◌, get_or, option_map, slice_get, Option, Some, None, arith, inl, inr, ne_eqb, nat_lt, refl, sym, subst, ap, ◌∙◌}
+use Rattle.std.proofs.Common.{◌≡◌, ℕ, zero, suc, ◌-◌, ◌≤◌, ◌<◌, ◌==◌, ◌||◌, Bool, true, false, cond, List, [], ◌∷◌}
+use Rattle.std.proofs.Common.{get_or, option_map, slice_get, Option, Some, None, arith, inl, inr, ne_eqb, nat_lt, refl}
+use Rattle.std.proofs.Common.{sym, subst, ap, ◌∙◌}
 use Rattle.std.specs.List.{filter}
 use Rattle.nvme_model.specs.declared.config.ConfigNumbers.{ConfigNumbers}
 use Rattle.nvme_model.specs.History.{Past}
 use Rattle.nvme_model.specs.Tickets.{in_flight, tickets}
-use Rattle.ticket_standing.specs.Standing.{flying, rising}
+use Rattle.ticket_laws.specs.Standing.{flying, rising}
 use Rattle.rings.specs.Completions.{CompletionRing}
 use Rattle.rings.specs.Submissions.{SubmissionRing}
 use Rattle.job_table.specs.Jobs.{JobTable, job_of}
@@ -13,7 +15,7 @@ use Rattle.job_table.specs.declared.jobs.InFlight.{InFlight}
 use Rattle.job_table.proofs.Tables.{slice_get-jobs_by}
 use Rattle.std.proofs.lemmas.Bool.{cases_eq, or_from}
 use Rattle.std.proofs.lemmas.Bool.Decides.{nat_tests}
-use Rattle.ticket_standing.proofs.Counts.{fetched_within}
+use Rattle.ticket_laws.proofs.Counts.{fetched_within}
 use Rattle.nvme_model.proofs.Runs.{reaped_posted}
 use Rattle.rings.specs.Queues.{completion_ring, submission_ring}
 use Rattle.job_table.specs.Tickets.{job_at}
@@ -84,13 +86,15 @@ module _ (c : ConfigNumbers) (past : Past) (fields : CoreFields) (k : IsKept c p
   pub job_nth : (i : ℕ) (e : InFlight) → slice_get j.jobs i ≡ Some e → IsJob c past e.ticket e.job
   job_nth i e h =
       by (slice_get (flying past) i) refl
-      (sym (slice_get-jobs_by (job_at c past) (flying past) i) ∙ ap (λ (y : JobTable). slice_get y.jobs i) (sym k.jobs) ∙ h)
+      (sym (slice_get-jobs_by (job_at c past) (flying past) i) ∙ ap (λ (y : JobTable). slice_get y.jobs i) (sym k.jobs)
+      ∙ h)
     where
       some_inj : {x y : InFlight} → Some x ≡ Some y → x ≡ y
       some_inj h = cc
 
       by : (o : Option ℕ) → slice_get (flying past) i ≡ o
-          → option_map {U = InFlight} (λ t. record { ticket = t; job = job_at c past t }) o ≡ Some e → IsJob c past e.ticket e.job
+          → option_map {U = InFlight} (λ t. record { ticket = t; job = job_at c past t }) o ≡ Some e
+          → IsJob c past e.ticket e.job
       by None f g = absurd (let w : None ≡ Some e = g in cc)
       by (Some t) f g =
           subst (λ (y : InFlight). IsJob c past y.ticket y.job) (some_inj g)

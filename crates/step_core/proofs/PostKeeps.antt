@@ -1,5 +1,7 @@
 -- What a Post leaves.
-use Rattle.std.proofs.Common.{◌≡◌, ◌≢◌, ℕ, zero, suc, drop, ◌*◌, ◌+◌, ◌-◌, ◌%◌, ◌≤◌, ◌<◌, Bool, true, false, cond, List, [], ◌∷◌, length, get_or, set, slice_get, Option, Some, None, refl, sym, ap, ◌∙◌, subst, arith, inl, inr, eqb, eq-eqb, ltb-true, ltb-false, ne_eqb, nat_lt, is_none}
+use Rattle.std.proofs.Common.{◌≡◌, ◌≢◌, ℕ, zero, suc, drop, ◌*◌, ◌+◌, ◌-◌, ◌%◌, ◌≤◌, ◌<◌, Bool, true, false, cond, List}
+use Rattle.std.proofs.Common.{[], ◌∷◌, length, get_or, set, slice_get, Option, Some, None, refl, sym, ap, ◌∙◌, subst}
+use Rattle.std.proofs.Common.{arith, inl, inr, eqb, eq-eqb, ltb-true, ltb-false, ne_eqb, nat_lt, is_none}
 use Rattle.std.proofs.lemmas.Bool.{cases_eq, or_parts}
 use Rattle.std.proofs.lemmas.List.{length-drop, length-map}
 use Rattle.std.proofs.Math.Nat.{mod-lt}
@@ -22,10 +24,10 @@ use Rattle.nvme_model.specs.Verdict.{taken}
 use Rattle.nvme_model.proofs.Accepted.{accepted}
 use Rattle.nvme_model.proofs.Rules.{none_holds}
 use Rattle.nvme_model.specs.Steps.{next_entry, post_entry}
-use Rattle.ticket_standing.specs.Standing.{standing}
+use Rattle.ticket_laws.specs.Standing.{standing}
 use Rattle.nvme_model.specs.Kept.{Kept}
 use Rattle.nvme_model.proofs.NextPost.{commands_few, not_flying}
-use Rattle.ticket_standing.proofs.Owing.{next_owed}
+use Rattle.ticket_laws.proofs.Owing.{next_owed}
 use Rattle.range_reserve.specs.declared.held.Held.{Held}
 use Rattle.rings.specs.Completions.{CompletionRing, is_full, posted_ring}
 use Rattle.rings.specs.Submissions.{SubmissionRing}
@@ -56,13 +58,14 @@ use Rattle.std.specs.List.Sorted.{IsPermutation}
 use Rattle.step_core.proofs.PostedRing.{post_ring, post_ring_other}
 use Rattle.step_core.proofs.PostedJob.{posted_table, posted_table_is}
 use Rattle.step_core.proofs.PostedData.{data_is}
-use Rattle.ticket_standing.proofs.Flying.{has_flying}
-use Rattle.ticket_standing.specs.Standing.{flying}
+use Rattle.ticket_laws.proofs.Flying.{has_flying}
+use Rattle.ticket_laws.specs.Standing.{flying}
 
 -- ---- a pair's first completion carries nothing
 
 -- where more than one completion is owed, nothing is read
-pub nothing_yet : (c : ConfigNumbers) (past : Past) (t : ℕ) → 1 < length (job_at c past t).course.cids → (job_at c past t).read ≡ []
+pub nothing_yet : (c : ConfigNumbers) (past : Past) (t : ℕ) → 1 < length (job_at c past t).course.cids
+    → (job_at c past t).read ≡ []
 unfolding job_by
 nothing_yet c past t l = by_verdict (Tickets.ticket past t).verdict refl (commands_few past t)
   where
@@ -70,7 +73,12 @@ nothing_yet c past t l = by_verdict (Tickets.ticket past t).verdict refl (comman
     k = Tickets.ticket past t
 
     two : 1 < length k.commands
-    two = omega (arith, l, length-drop (posts_of past t) (cids k), length-map k.commands (λ s. (sqe_fields s.entry).cid))
+    two = omega (
+      arith,
+      l,
+      length-drop (posts_of past t) (cids k),
+      length-map k.commands (λ s. (sqe_fields s.entry).cid),
+    )
 
     nothing : (o : Option Op) → op k ≡ o → (o ≡ Some Op.Read → ⊥) → read_bytes_by (op k) k (standing past t).read ≡ []
     nothing o e n = ap (λ x. read_bytes_by x k (standing past t).read) e ∙ go o n
@@ -83,14 +91,18 @@ nothing_yet c past t l = by_verdict (Tickets.ticket past t).verdict refl (comman
         go (Some Op.Pair) n = refl
         go (Some Op.Read) n = absurd (n refl)
 
-    by_verdict : (v : Verdict) → k.verdict ≡ v → length k.commands ≤ taken v → read_bytes_by (op k) k (standing past t).read ≡ []
+    by_verdict : (v : Verdict) → k.verdict ≡ v → length k.commands ≤ taken v
+        → read_bytes_by (op k) k (standing past t).read ≡ []
     by_verdict Verdict.Single e m = absurd (omega (arith, two, m))
     by_verdict (Verdict.SingleFailed s) e m = absurd (omega (arith, two, m))
-    by_verdict Verdict.Pair e m = nothing (Some Op.Pair) (ap (λ (v : Verdict). op_by v (first_fields k)) e) (λ q. absurd cc)
-    by_verdict (Verdict.PairFailed s r) e m = nothing None (ap (λ (v : Verdict). op_by v (first_fields k)) e) (λ q. absurd cc)
+    by_verdict Verdict.Pair e m =
+        nothing (Some Op.Pair) (ap (λ (v : Verdict). op_by v (first_fields k)) e) (λ q. absurd cc)
+    by_verdict (Verdict.PairFailed s r) e m =
+        nothing None (ap (λ (v : Verdict). op_by v (first_fields k)) e) (λ q. absurd cc)
 
 -- a Post leaves the submission rings
-post_sq_ring : (c : ConfigNumbers) (past : Past) (p : PostLine) (i : ℕ) → submission_ring c (Entry.Post p ∷ past) i ≡ submission_ring c past i
+post_sq_ring : (c : ConfigNumbers) (past : Past) (p : PostLine) (i : ℕ)
+    → submission_ring c (Entry.Post p ∷ past) i ≡ submission_ring c past i
 unfolding submission_ring
 post_sq_ring c past p i = refl
 
@@ -103,7 +115,8 @@ reads_by (Some Op.Compare) k read some = absurd (some refl)
 reads_by (Some Op.WriteZeroes) k read some = absurd (some refl)
 reads_by (Some Op.Pair) k read some = absurd (some refl)
 
-pub only_reads : (c : ConfigNumbers) (past : Past) (t : ℕ) → (job_at c past t).read ≢ [] → op (Tickets.ticket past t) ≡ Some Op.Read
+pub only_reads : (c : ConfigNumbers) (past : Past) (t : ℕ) → (job_at c past t).read ≢ []
+    → op (Tickets.ticket past t) ≡ Some Op.Read
 unfolding job_by
 only_reads c past t some = reads_by (op (Tickets.ticket past t)) (Tickets.ticket past t) _ some
 
@@ -132,25 +145,35 @@ module _ (c : ConfigNumbers) (past : Past) (fields : CoreFields) (k : IsKept c p
 
   -- the ticket is in the table
   pub there : has_ticket j.jobs d.ticket ≡ true
-  there = ap (λ (x : JobTable). has_ticket x.jobs d.ticket) k.jobs ∙ has_ticket-jobs_by (job_at c past) (flying past) d.ticket ∙ has_flying c past d.ticket k.run.legal ∙ flies
+  there = ap (λ (x : JobTable). has_ticket x.jobs d.ticket) k.jobs
+      ∙ has_ticket-jobs_by (job_at c past) (flying past) d.ticket ∙ has_flying c past d.ticket k.run.legal ∙ flies
 
   -- with this job
   pub found : (x : Keeping) → job_of j.jobs d.ticket ≡ Some x → x ≡ job_at c past d.ticket
-  found x e = some_inj (sym e ∙ ap (λ (y : JobTable). job_of y.jobs d.ticket) k.jobs ∙ job_found c past d.ticket k.run.legal ∙ ap (λ b. cond b (Some (job_at c past d.ticket)) None) flies)
+  found x e = some_inj (sym e ∙ ap (λ (y : JobTable). job_of y.jobs d.ticket) k.jobs
+      ∙ job_found c past d.ticket k.run.legal ∙ ap (λ b. cond b (Some (job_at c past d.ticket)) None) flies)
     where
       some_inj : {x y : Keeping} → Some x ≡ Some y → x ≡ y
       some_inj h = cc
 
   pub is_there : job_of j.jobs d.ticket ≡ Some (job_at c past d.ticket)
-  is_there = ap (λ (y : JobTable). job_of y.jobs d.ticket) k.jobs ∙ job_found c past d.ticket k.run.legal ∙ ap (λ b. cond b (Some (job_at c past d.ticket)) None) flies
+  is_there = ap (λ (y : JobTable). job_of y.jobs d.ticket) k.jobs ∙ job_found c past d.ticket k.run.legal
+      ∙ ap (λ b. cond b (Some (job_at c past d.ticket)) None) flies
 
   some_cids : 0 < length (job_at c past d.ticket).course.cids
   unfolding job_by
-  some_cids = omega (arith, ltb-true _ _ flies, length-drop (posts_of past d.ticket) (cids (Tickets.ticket past d.ticket)), length-map (Tickets.ticket past d.ticket).commands (λ s. (sqe_fields s.entry).cid))
+  some_cids = omega (
+    arith,
+    ltb-true _ _ flies,
+    length-drop (posts_of past d.ticket) (cids (Tickets.ticket past d.ticket)),
+    length-map (Tickets.ticket past d.ticket).commands (λ s. (sqe_fields s.entry).cid),
+  )
 
   some_owed : 0 < length (owed_in (job_at c past d.ticket).course.stage)
   unfolding job_by
-  some_owed = first (owed_in (stage_of c (standing past d.ticket))) (ap (λ xs. slice_get xs 0) (stage_owes c past d.ticket k.run.legal) ∙ next_owed c past d.ticket k.run.legal k.run.marks ∙ post.1.owed)
+  some_owed = first (owed_in (stage_of c (standing past d.ticket)))
+      (ap (λ xs. slice_get xs 0) (stage_owes c past d.ticket k.run.legal)
+      ∙ next_owed c past d.ticket k.run.legal k.run.marks ∙ post.1.owed)
     where
       first : (xs : List Status) → slice_get xs 0 ≡ Some post.1.status → 0 < length xs
       first [] e = absurd cc
@@ -198,9 +221,14 @@ module _ (c : ConfigNumbers) (past : Past) (fields : CoreFields) (k : IsKept c p
   abbrev post_line : List ℕ → PostLine
   post_line copy = record { ticket = d.ticket; cqe = d.cqe; payload = copy }
 
-  pub post_entry_is : (copy : List ℕ) → copy ≡ (job_at c past d.ticket).read → Entry.Post (record { ticket = d.ticket; cqe = d.cqe; payload = copy }) ≡ next_entry c past (Step.Post d.ticket)
+  pub post_entry_is : (copy : List ℕ) → copy ≡ (job_at c past d.ticket).read
+      → Entry.Post (record { ticket = d.ticket; cqe = d.cqe; payload = copy }) ≡ next_entry c past (Step.Post d.ticket)
   post_entry_is copy e =
-      (λ i. Entry.Post (record { ticket = d.ticket; cqe = post.1.cqe i; payload = (e ∙ data_is c past d.ticket post.1.status k.run flies post.1.owed) i }))
+      (λ i. Entry.Post (record {
+        ticket = d.ticket;
+        cqe = post.1.cqe i;
+        payload = (e ∙ data_is c past d.ticket post.1.status k.run flies post.1.owed) i;
+      }))
       ∙ ap (post_entry c past d.ticket) (sym post.1.owed)
 
   -- ---- all fields
@@ -209,7 +237,8 @@ module _ (c : ConfigNumbers) (past : Past) (fields : CoreFields) (k : IsKept c p
   payload_is : cond d.last (job_at c past d.ticket).read [] ≡ (job_at c past d.ticket).read
   payload_is = go d.last (sym post.1.last)
     where
-      go : (b : Bool) → eqb (length (job_at c past d.ticket).course.cids) 1 ≡ b → cond b (job_at c past d.ticket).read [] ≡ (job_at c past d.ticket).read
+      go : (b : Bool) → eqb (length (job_at c past d.ticket).course.cids) 1 ≡ b
+          → cond b (job_at c past d.ticket).read [] ≡ (job_at c past d.ticket).read
       go true e = refl
       go false e = sym (nothing_yet c past d.ticket (more (length (job_at c past d.ticket).course.cids) e some_cids))
         where
@@ -221,32 +250,40 @@ module _ (c : ConfigNumbers) (past : Past) (fields : CoreFields) (k : IsKept c p
 
   -- a Post for which room is needed is of a Read
   pub reads : (d.bytes ≡ 0 → ⊥) → op (Tickets.ticket past d.ticket) ≡ Some Op.Read
-  reads some = only_reads c past d.ticket (λ (e : (job_at c past d.ticket).read ≡ []). some (post.1.bytes ∙ ap length e))
+  reads some = only_reads c past d.ticket
+      (λ (e : (job_at c past d.ticket).read ≡ []). some (post.1.bytes ∙ ap length e))
 
   -- what is taken with it
-  pub taken_is : (payload : List ℕ) → ((x : Keeping) → job_of j.jobs d.ticket ≡ Some x → payload ≡ cond d.last x.read []) → payload ≡ (job_at c past d.ticket).read
+  pub taken_is : (payload : List ℕ)
+      → ((x : Keeping) → job_of j.jobs d.ticket ≡ Some x → payload ≡ cond d.last x.read [])
+      → payload ≡ (job_at c past d.ticket).read
   taken_is payload e = e (job_at c past d.ticket) is_there ∙ payload_is
 
   -- and left of the jobs
   module _ (j' : JobTable) (limit : j'.limit ≡ j.limit) (last : d.last ≡ true → j'.jobs ≡ jobs_beside j.jobs d.ticket)
-      (more : d.last ≡ false → (x : Keeping) → job_of j.jobs d.ticket ≡ Some x → j'.jobs ≡ replaced j.jobs d.ticket (posted_job x)) where
+      (more : d.last ≡ false → (x : Keeping) → job_of j.jobs d.ticket ≡ Some x
+      → j'.jobs ≡ replaced j.jobs d.ticket (posted_job x)) where
     pub left : j' ≡ posted_table j d.ticket (job_at c past d.ticket)
     left = go d.last refl (sym post.1.last)
       where
-        go : (b : Bool) → d.last ≡ b → eqb (length (job_at c past d.ticket).course.cids) 1 ≡ b → j' ≡ posted_table j d.ticket (job_at c past d.ticket)
+        go : (b : Bool) → d.last ≡ b → eqb (length (job_at c past d.ticket).course.cids) 1 ≡ b
+            → j' ≡ posted_table j d.ticket (job_at c past d.ticket)
         go true f e =
             (λ i. record { limit = limit i; jobs = last f i })
-            ∙ ap (λ b. cond b (record j { jobs = jobs_beside j.jobs d.ticket }) (record j { jobs = replaced j.jobs d.ticket (posted_job (job_at c past d.ticket)) })) (sym e)
+            ∙ ap (λ b. cond b (record j { jobs = jobs_beside j.jobs d.ticket })
+            (record j { jobs = replaced j.jobs d.ticket (posted_job (job_at c past d.ticket)) })) (sym e)
         go false f e =
             (λ i. record { limit = limit i; jobs = more f (job_at c past d.ticket) is_there i })
-            ∙ ap (λ b. cond b (record j { jobs = jobs_beside j.jobs d.ticket }) (record j { jobs = replaced j.jobs d.ticket (posted_job (job_at c past d.ticket)) })) (sym e)
+            ∙ ap (λ b. cond b (record j { jobs = jobs_beside j.jobs d.ticket })
+            (record j { jobs = replaced j.jobs d.ticket (posted_job (job_at c past d.ticket)) })) (sym e)
 
   -- ---- the CIDs in use
 
   -- the queue that it came from
   pub from_there : (1 ≤ d.from) × (d.from ≤ c.pairs)
   from_there =
-      let queue = queue_there c (Tickets.ticket past d.ticket).queue (ticket_queue c past d.ticket k.run.legal (flies_some past d.ticket flies)) in
+      let queue = queue_there c (Tickets.ticket past d.ticket).queue
+      (ticket_queue c past d.ticket k.run.legal (flies_some past d.ticket flies)) in
       (omega (arith, queue.low, post.1.from), omega (arith, queue.high, post.1.from))
 
   pub from_place : d.from - 1 < length fields.in_use
@@ -254,7 +291,8 @@ module _ (c : ConfigNumbers) (past : Past) (fields : CoreFields) (k : IsKept c p
 
   own_used : (u : UsedCids) → u ≡ get_or fields.in_use (d.from - 1) u → AreUsed c past d.from u
   own_used u e =
-      used_at c.pairs (2 * c.jobs) (cids_in_use past) fields.in_use (d.from - 1) d.from u k.in_use (omega (arith, from_there.0)) (omega (arith, from_there.0, from_there.1)) e
+      used_at c.pairs (2 * c.jobs) (cids_in_use past) fields.in_use (d.from - 1) d.from u k.in_use
+      (omega (arith, from_there.0)) (omega (arith, from_there.0, from_there.1)) e
 
   next_cid : slice_get (drop (posts_of past d.ticket) (cids (Tickets.ticket past d.ticket))) 0 ≡ Some d.cid
   unfolding job_by
@@ -268,10 +306,13 @@ module _ (c : ConfigNumbers) (past : Past) (fields : CoreFields) (k : IsKept c p
       above (suc t) f = omega arith
 
   fewer : (copy : List ℕ) (m : ℕ) (p : ℕ → Bool)
-      → count_by p (cids_in_use past m) ≡ count_by p (cond (eqb (Tickets.ticket past d.ticket).queue m) (d.cid ∷ []) []) + count_by p (cids_in_use (Entry.Post (post_line copy) ∷ past) m)
-  fewer copy m p = count_posted past (post_line copy) d.cid next_cid some_ticket (fetched_if c past d.ticket k.run.legal flies) m p
+      → count_by p (cids_in_use past m) ≡ count_by p (cond (eqb (Tickets.ticket past d.ticket).queue m) (d.cid ∷ []) [])
+      + count_by p (cids_in_use (Entry.Post (post_line copy) ∷ past) m)
+  fewer copy m p = count_posted past (post_line copy) d.cid next_cid some_ticket
+      (fetched_if c past d.ticket k.run.legal flies) m p
 
-  one_in : (p : ℕ → Bool) → count_by p (cond (eqb (Tickets.ticket past d.ticket).queue d.from) (d.cid ∷ []) []) ≡ cond (p d.cid) 1 0 + 0
+  one_in : (p : ℕ → Bool) → count_by p (cond (eqb (Tickets.ticket past d.ticket).queue d.from) (d.cid ∷ []) [])
+      ≡ cond (p d.cid) 1 0 + 0
   one_in p = ap (λ b. count_by p (cond b (d.cid ∷ []) [])) (eq-eqb _ _ (sym post.1.from)) ∙ count_cons p d.cid []
 
   -- its CID is in use
@@ -282,9 +323,12 @@ module _ (c : ConfigNumbers) (past : Past) (fields : CoreFields) (k : IsKept c p
       (omega (arith, (own_used u e).cids p, fewer [] d.from p, one_in p))
 
   -- and afterwards once less
-  used_after : (u y : UsedCids) (copy : List ℕ) → u ≡ get_or fields.in_use (d.from - 1) u → IsPermutation u.cids (d.cid ∷ y.cids) → y.room ≡ u.room
+  used_after : (u y : UsedCids) (copy : List ℕ) → u ≡ get_or fields.in_use (d.from - 1) u
+      → IsPermutation u.cids (d.cid ∷ y.cids) → y.room ≡ u.room
       → AreInUse c (Entry.Post (post_line copy) ∷ past) (set fields.in_use (d.from - 1) y)
-  used_after u y copy e less room = used_set c.pairs (2 * c.jobs) (cids_in_use past) (cids_in_use (Entry.Post (post_line copy) ∷ past)) fields.in_use (d.from - 1) y k.in_use within_from here others
+  used_after u y copy e less room =
+      used_set c.pairs (2 * c.jobs) (cids_in_use past) (cids_in_use (Entry.Post (post_line copy) ∷ past)) fields.in_use
+      (d.from - 1) y k.in_use within_from here others
     where
       within_from : d.from - 1 < c.pairs
       within_from = omega (arith, from_there.0, from_there.1)
@@ -301,15 +345,26 @@ module _ (c : ConfigNumbers) (past : Past) (fields : CoreFields) (k : IsKept c p
         room = room ∙ own.room;
       })
 
-      others : (i : ℕ) → i ≢ d.from - 1 → (p : ℕ → Bool) → count_by p (cids_in_use (Entry.Post (post_line copy) ∷ past) (suc i)) ≡ count_by p (cids_in_use past (suc i))
+      others : (i : ℕ) → i ≢ d.from - 1 → (p : ℕ → Bool)
+          → count_by p (cids_in_use (Entry.Post (post_line copy) ∷ past) (suc i))
+          ≡ count_by p (cids_in_use past (suc i))
       others i apart p =
-          let off = ap (λ b. count_by p (cond b (d.cid ∷ []) [])) (ne_eqb (Tickets.ticket past d.ticket).queue (suc i) (λ (z : (Tickets.ticket past d.ticket).queue ≡ suc i). apart (omega (arith, z, post.1.from)))) in
+          let off = ap (λ b. count_by p (cond b (d.cid ∷ []) []))
+          (ne_eqb (Tickets.ticket past d.ticket).queue (suc i)
+          (λ (z : (Tickets.ticket past d.ticket).queue ≡ suc i). apart (omega (arith, z, post.1.from)))) in
           omega (arith, fewer copy (suc i) p, off)
 
-  pub post_keeps : (x x' : CompletionRing) (u y : UsedCids) (copy payload : List ℕ) (j' : JobTable) (past' : Past) → x ≡ get_or q (d.queue - 1) x → u ≡ get_or fields.in_use (d.from - 1) u
+  pub post_keeps : (x x' : CompletionRing) (u y : UsedCids) (copy payload : List ℕ) (j' : JobTable) (past' : Past)
+      → x ≡ get_or q (d.queue - 1) x → u ≡ get_or fields.in_use (d.from - 1) u
       → IsPermutation u.cids (d.cid ∷ y.cids) → y.room ≡ u.room → copy ≡ (job_at c past d.ticket).read → payload ≡ copy
-      → j' ≡ posted_table j d.ticket (job_at c past d.ticket) → x' ≡ posted_ring x (record { cqe = d.cqe; payload = payload }) → past' ≡ Entry.Post (record { ticket = d.ticket; cqe = d.cqe; payload = copy }) ∷ past
-      → IsKept c past' (record fields { in_use = set fields.in_use (d.from - 1) y; completion = set q (d.queue - 1) x'; jobs = j' })
+      → j' ≡ posted_table j d.ticket (job_at c past d.ticket)
+      → x' ≡ posted_ring x (record { cqe = d.cqe; payload = payload })
+      → past' ≡ Entry.Post (record { ticket = d.ticket; cqe = d.cqe; payload = copy }) ∷ past
+      → IsKept c past' (record fields {
+        in_use = set fields.in_use (d.from - 1) y;
+        completion = set q (d.queue - 1) x';
+        jobs = j';
+      })
   post_keeps x x' u y copy payload j' past' e used less room f g h l m =
       let p : PostLine = record { ticket = d.ticket; cqe = d.cqe; payload = copy } in
       let later : Past = Entry.Post p ∷ past in
@@ -317,20 +372,27 @@ module _ (c : ConfigNumbers) (past : Past) (fields : CoreFields) (k : IsKept c p
       l ∙ (λ i. posted_ring (ring_is x e i) (record { cqe = d.cqe; payload = g i }))
       ∙ post_ring c past p d.queue k.run.legal cq_some (sym post.1.queue)
       ∙ ap (completion_ring c later) (sym suc_is) in
-      subst (λ (w : Past). IsKept c w (record fields { in_use = set fields.in_use (d.from - 1) y; completion = set q (d.queue - 1) x'; jobs = j' })) (sym m) (record {
+      subst (λ (w : Past). IsKept c w
+      (record fields { in_use = set fields.in_use (d.from - 1) y; completion = set q (d.queue - 1) x'; jobs = j' }))
+      (sym m) (record {
         accepted = k.accepted;
         volume = k.volume;
-        submission = IsTable-same (λ i. submission_ring c past (suc i)) (λ i. submission_ring c later (suc i)) c.pairs s k.submission (λ i. post_sq_ring c past p (suc i));
+        submission = IsTable-same (λ i. submission_ring c past (suc i)) (λ i. submission_ring c later (suc i)) c.pairs s
+            k.submission (λ i. post_sq_ring c past p (suc i));
         in_use = used_after u y copy used less room;
-        completion = IsTable-set (λ i. completion_ring c past (suc i)) (λ i. completion_ring c later (suc i)) c.cqs (d.queue - 1) q x' k.completion within ring (λ i a. post_ring_other c past p (suc i) (other i a));
-        jobs = h ∙ ap (λ (y : JobTable). posted_table y d.ticket (job_at c past d.ticket)) k.jobs ∙ posted_table_is c past p flies some_owed;
+        completion = IsTable-set (λ i. completion_ring c past (suc i)) (λ i. completion_ring c later (suc i)) c.cqs
+            (d.queue - 1) q x' k.completion within ring (λ i a. post_ring_other c past p (suc i) (other i a));
+        jobs = h ∙ ap (λ (y : JobTable). posted_table y d.ticket (job_at c past d.ticket)) k.jobs
+            ∙ posted_table_is c past p flies some_owed;
         held = k.held;
         count = k.count;
-        run = subst (λ (y : Entry). Kept c (y ∷ past)) (sym (post_entry_is copy f)) (stepped c past (Step.Post d.ticket) k.run post.0);
+        run = subst (λ (y : Entry). Kept c (y ∷ past)) (sym (post_entry_is copy f))
+            (stepped c past (Step.Post d.ticket) k.run post.0);
       })
     where
       suc_is : suc (d.queue - 1) ≡ d.queue
       suc_is = omega (arith, queue_some)
 
       other : (i : ℕ) → i ≢ d.queue - 1 → eqb (completion_queue c (Tickets.ticket past d.ticket).queue) (suc i) ≡ false
-      other i a = ne_eqb _ _ (λ (z : completion_queue c (Tickets.ticket past d.ticket).queue ≡ suc i). a (omega (arith, z, post.1.queue)))
+      other i a = ne_eqb _ _ (λ (z : completion_queue c (Tickets.ticket past d.ticket).queue ≡ suc i).
+          a (omega (arith, z, post.1.queue)))

@@ -1,5 +1,7 @@
 -- What a Post finds.
-use Rattle.std.proofs.Common.{◌≡◌, ℕ, zero, suc, ◌+◌, ◌-◌, ◌%◌, ◌≤◌, ◌<◌, Bool, true, false, not, cond, List, [], ◌∷◌, length, drop, get_or, slice_get, Option, Some, None, is_none, refl, sym, ap, ◌∙◌, subst, arith, eqb, ltb-true, ltb-false, nat_lt, add-one}
+use Rattle.std.proofs.Common.{◌≡◌, ℕ, zero, suc, ◌+◌, ◌-◌, ◌%◌, ◌≤◌, ◌<◌, Bool, true, false, not, cond, List, [], ◌∷◌}
+use Rattle.std.proofs.Common.{length, drop, get_or, slice_get, Option, Some, None, is_none, refl, sym, ap, ◌∙◌, subst}
+use Rattle.std.proofs.Common.{arith, eqb, ltb-true, ltb-false, nat_lt, add-one}
 use Rattle.std.proofs.lemmas.Bool.{or_parts}
 use Rattle.std.proofs.lemmas.List.{length-map, length-drop}
 use Rattle.nvme_model.specs.declared.config.ConfigNumbers.{ConfigNumbers}
@@ -14,12 +16,12 @@ use Rattle.nvme_model.specs.Tickets.{Ticket, cids, in_flight, posts_of}
 use Rattle.nvme_model.specs.Queues.{fetched_count}
 use Rattle.nvme_model.specs.Completions.{posted_completions, reaped_count}
 use Rattle.nvme_model.specs.Refusals.{no_queue, owes_nothing_yet, refusal}
-use Rattle.ticket_standing.specs.Standing.{standing, still_owed}
+use Rattle.ticket_laws.specs.Standing.{standing, still_owed}
 use Rattle.nvme_model.specs.Legal.{IsLegal}
 use Rattle.nvme_model.specs.Kept.{Kept}
 use Rattle.nvme_model.proofs.Accepted.{accepted}
 use Rattle.nvme_model.proofs.Rules.{follows, none_holds}
-use Rattle.ticket_standing.proofs.Owing.{has_next, next_owed}
+use Rattle.ticket_laws.proofs.Owing.{has_next, next_owed}
 use Rattle.job_table.specs.Keeping.{Keeping}
 use Rattle.ticket_course.specs.Stages.{owed_in}
 use Rattle.ticket_course.proofs.Owes.{owes}
@@ -43,10 +45,12 @@ use Rattle.nvme_model.proofs.TicketQueues.{HasQueue, queue_there, ticket_queue}
 pub flies_some : (past : Past) (t : ℕ) → in_flight past t ≡ true → 1 ≤ length (Tickets.ticket past t).commands
 flies_some past t f = omega (arith, ltb-true _ _ f)
 
-pub job_queue : (c : ConfigNumbers) (past : Past) (t : ℕ) (j : Keeping) → IsLegal c past → IsJob c past t j → HasQueue c j.queue
+pub job_queue : (c : ConfigNumbers) (past : Past) (t : ℕ) (j : Keeping) → IsLegal c past → IsJob c past t j
+    → HasQueue c j.queue
 unfolding job_by
 job_queue c past t j h k =
-    subst (HasQueue c) (sym (ap (λ (x : Keeping). x.queue) k.is)) (queue_there c _ (ticket_queue c past t h (flies_some past t k.flies)))
+    subst (HasQueue c) (sym (ap (λ (x : Keeping). x.queue) k.is))
+    (queue_there c _ (ticket_queue c past t h (flies_some past t k.flies)))
 
 -- ---- what is due
 
@@ -57,27 +61,39 @@ get_dropped (suc n) [] = refl
 get_dropped (suc n) (x ∷ xs) = get_dropped n xs
 
 -- what is owed next by the stage is what the ticket still owes next
-next_by : (c : ConfigNumbers) (past : Past) (t : ℕ) (j : Keeping) → IsLegal c past → IsJob c past t j → slice_get (still_owed c (standing past t)) 0 ≡ slice_get (owed_in j.course.stage) 0
+next_by : (c : ConfigNumbers) (past : Past) (t : ℕ) (j : Keeping) → IsLegal c past → IsJob c past t j
+    → slice_get (still_owed c (standing past t)) 0 ≡ slice_get (owed_in j.course.stage) 0
 unfolding job_by
-next_by c past t j h k = ap (λ xs. slice_get xs 0) (sym (owes c past t h)) ∙ ap (λ (x : Keeping). slice_get (owed_in x.course.stage) 0) (sym k.is)
+next_by c past t j h k = ap (λ xs. slice_get xs 0) (sym (owes c past t h))
+    ∙ ap (λ (x : Keeping). slice_get (owed_in x.course.stage) 0) (sym k.is)
 
 -- where nothing is owed the Post is refused
-pub nothing_due : (c : ConfigNumbers) (past : Past) (t : ℕ) (j : Keeping) → Kept c past → IsJob c past t j → slice_get (owed_in j.course.stage) 0 ≡ None → refusal c past (Step.Post t) ≡ Some Why.WrongState
+pub nothing_due : (c : ConfigNumbers) (past : Past) (t : ℕ) (j : Keeping) → Kept c past → IsJob c past t j
+    → slice_get (owed_in j.course.stage) 0 ≡ None → refusal c past (Step.Post t) ≡ Some Why.WrongState
 unfolding job_by
 nothing_due c past t j r k e =
-    let next : is_none (slice_get (still_owed c (standing past t)) 0) ≡ true = ap is_none (next_by c past t j r.legal k ∙ e) in
+    let next : is_none (slice_get (still_owed c (standing past t)) 0) ≡ true =
+    ap is_none (next_by c past t j r.legal k ∙ e) in
     let nothing : owes_nothing_yet c past t ≡ true = sym (has_next c past t r.legal r.marks k.flies) ∙ next in
-    (λ i. cond (not (k.flies i)) (Some Why.NoTicket) (cond (nothing i) (Some Why.WrongState) (cond (eqb (length (posted_completions c past (completion_queue c (Tickets.ticket past t).queue)) - reaped_count past (completion_queue c (Tickets.ticket past t).queue)) (c.cq_size - 1)) (Some Why.CqFull) None)))
+    (λ i. cond (not (k.flies i)) (Some Why.NoTicket)
+    (cond (nothing i) (Some Why.WrongState)
+    (cond (eqb (length (posted_completions c past (completion_queue c (Tickets.ticket past t).queue))
+    - reaped_count past (completion_queue c (Tickets.ticket past t).queue)) (c.cq_size - 1)) (Some Why.CqFull)
+    None)))
 
 -- where something is, it is refused exactly where the completion queue is full
-pub something_due : (c : ConfigNumbers) (past : Past) (t : ℕ) (j : Keeping) (s : Status) (b : Bool) → Kept c past → IsJob c past t j → slice_get (owed_in j.course.stage) 0 ≡ Some s
-    → eqb (length (posted_completions c past (completion_queue c (Tickets.ticket past t).queue)) - reaped_count past (completion_queue c (Tickets.ticket past t).queue)) (c.cq_size - 1) ≡ b
+pub something_due : (c : ConfigNumbers) (past : Past) (t : ℕ) (j : Keeping) (s : Status) (b : Bool) → Kept c past
+    → IsJob c past t j → slice_get (owed_in j.course.stage) 0 ≡ Some s
+    → eqb (length (posted_completions c past (completion_queue c (Tickets.ticket past t).queue))
+    - reaped_count past (completion_queue c (Tickets.ticket past t).queue)) (c.cq_size - 1) ≡ b
     → refusal c past (Step.Post t) ≡ cond b (Some Why.CqFull) None
 unfolding job_by
 something_due c past t j s b r k e full =
-    let next : is_none (slice_get (still_owed c (standing past t)) 0) ≡ false = ap is_none (next_by c past t j r.legal k ∙ e) in
+    let next : is_none (slice_get (still_owed c (standing past t)) 0) ≡ false =
+    ap is_none (next_by c past t j r.legal k ∙ e) in
     let some : owes_nothing_yet c past t ≡ false = sym (has_next c past t r.legal r.marks k.flies) ∙ next in
-    (λ i. cond (not (k.flies i)) (Some Why.NoTicket) (cond (some i) (Some Why.WrongState) (cond (full i) (Some Why.CqFull) None)))
+    (λ i. cond (not (k.flies i)) (Some Why.NoTicket)
+    (cond (some i) (Some Why.WrongState) (cond (full i) (Some Why.CqFull) None)))
 
 -- ---- where it goes, and its bytes
 
@@ -90,21 +106,30 @@ found_at (y ∷ xs) zero x d e = some_inj e
 found_at (y ∷ xs) (suc n) x d e = found_at xs n x d e
 
 -- the queue that a Post goes to
-pub due_queue : (c : ConfigNumbers) (past : Past) (t : ℕ) (j : Keeping) → IsJob c past t j → completion_queue c j.queue ≡ completion_queue c (Tickets.ticket past t).queue
+pub due_queue : (c : ConfigNumbers) (past : Past) (t : ℕ) (j : Keeping) → IsJob c past t j
+    → completion_queue c j.queue ≡ completion_queue c (Tickets.ticket past t).queue
 unfolding job_by
 due_queue c past t j k = ap (λ (x : Keeping). completion_queue c x.queue) k.is
 
 -- how full it is
-pub due_full : (c : ConfigNumbers) (past : Past) (q : ℕ) (x : CompletionRing) → IsLegal c past → x ≡ completion_ring c past q → is_full x ≡ eqb (length (posted_completions c past q) - reaped_count past q) (c.cq_size - 1)
+pub due_full : (c : ConfigNumbers) (past : Past) (q : ℕ) (x : CompletionRing) → IsLegal c past
+    → x ≡ completion_ring c past q
+    → is_full x ≡ eqb (length (posted_completions c past q) - reaped_count past q) (c.cq_size - 1)
 unfolding completion_ring
 due_full c past q x h e =
     ap is_full e
-    ∙ ap (λ n. eqb n (c.cq_size - 1)) (length-map (drop (reaped_count past q) (posted_completions c past q)) completion_of ∙ length-drop (reaped_count past q) (posted_completions c past q))
+    ∙ ap (λ n. eqb n (c.cq_size - 1))
+    (length-map (drop (reaped_count past q) (posted_completions c past q)) completion_of
+    ∙ length-drop (reaped_count past q) (posted_completions c past q))
 
 -- the completion that is due
-pub due_is : (c : ConfigNumbers) (past : Past) (t : ℕ) (j : Keeping) (s : Status) (cid : ℕ) (x : CompletionRing) (r : SubmissionRing) (cqe : Cqe) (d : Due) → Kept c past → IsJob c past t j
-    → slice_get (owed_in j.course.stage) 0 ≡ Some s → slice_get j.course.cids 0 ≡ Some cid → x ≡ completion_ring c past (completion_queue c (Tickets.ticket past t).queue) → r ≡ submission_ring c past j.queue
-    → cqe ≡ record { sqhd = r.head; sqid = j.queue; cid = cid; phase = x.phase; status = s } → d.cqe ≡ completion_bytes cqe → d.from ≡ j.queue → d.cid ≡ cid → d.queue ≡ completion_queue c j.queue
+pub due_is : (c : ConfigNumbers) (past : Past) (t : ℕ) (j : Keeping) (s : Status) (cid : ℕ) (x : CompletionRing)
+    (r : SubmissionRing) (cqe : Cqe) (d : Due) → Kept c past → IsJob c past t j
+    → slice_get (owed_in j.course.stage) 0 ≡ Some s → slice_get j.course.cids 0 ≡ Some cid
+    → x ≡ completion_ring c past (completion_queue c (Tickets.ticket past t).queue)
+    → r ≡ submission_ring c past j.queue
+    → cqe ≡ record { sqhd = r.head; sqid = j.queue; cid = cid; phase = x.phase; status = s }
+    → d.cqe ≡ completion_bytes cqe → d.from ≡ j.queue → d.cid ≡ cid → d.queue ≡ completion_queue c j.queue
     → d.bytes ≡ length j.read → d.last ≡ eqb (length j.course.cids) 1 → IsDue c past (record d { ticket = t })
 unfolding job_by completion_ring submission_ring
 due_is c past t j s cid x r cqe d kept k due has ring sring fields bytes origin name queue read last =
@@ -116,9 +141,13 @@ due_is c past t j s cid x r cqe d kept k due has ring sring fields bytes origin 
       queue = queue ∙ due_queue c past t j k;
       cid = ap (λ (y : Keeping). slice_get y.course.cids 0) (sym k.is) ∙ has ∙ ap Some (sym name);
       cqe = bytes ∙ completion_bytes-completion c past t s cqe
-          (ap (λ (y : Cqe). y.sqhd) fields ∙ ap (λ (y : SubmissionRing). y.head) sring ∙ ap (λ n. fetched_count past n % c.sq_size) of_queue)
+          (ap (λ (y : Cqe). y.sqhd) fields ∙ ap (λ (y : SubmissionRing). y.head) sring
+          ∙ ap (λ n. fetched_count past n % c.sq_size) of_queue)
           (ap (λ (y : Cqe). y.sqid) fields ∙ of_queue)
-          (ap (λ (y : Cqe). y.cid) fields ∙ sym (found_at (cids (Tickets.ticket past t)) (posts_of past t) cid 0 (sym (get_dropped (posts_of past t) (cids (Tickets.ticket past t))) ∙ ap (λ (y : Keeping). slice_get y.course.cids 0) (sym k.is) ∙ has)))
+          (ap (λ (y : Cqe). y.cid) fields
+          ∙ sym (found_at (cids (Tickets.ticket past t)) (posts_of past t) cid 0
+          (sym (get_dropped (posts_of past t) (cids (Tickets.ticket past t)))
+          ∙ ap (λ (y : Keeping). slice_get y.course.cids 0) (sym k.is) ∙ has)))
           (ap (λ (y : Cqe). phase_bit y.phase) fields ∙ ap (λ (y : CompletionRing). phase_bit y.phase) ring)
           (ap (λ (y : Cqe). y.status) fields);
       bytes = read ∙ ap (λ (y : Keeping). length y.read) k.is;
@@ -126,14 +155,17 @@ due_is c past t j s cid x r cqe d kept k due has ring sring fields bytes origin 
     }
 
 -- a completion by its fields
-pub fields_by : (x : Cqe) (h h' q cid : ℕ) (p p' : Bool) (s : Status) → x ≡ record { sqhd = h; sqid = q; cid = cid; phase = p; status = s } → h ≡ h' → p ≡ p'
+pub fields_by : (x : Cqe) (h h' q cid : ℕ) (p p' : Bool) (s : Status)
+    → x ≡ record { sqhd = h; sqid = q; cid = cid; phase = p; status = s } → h ≡ h' → p ≡ p'
     → x ≡ record { sqhd = h'; sqid = q; cid = cid; phase = p'; status = s }
-fields_by x h h' q cid p p' s e head phase = e ∙ (λ i. record { sqhd = head i; sqid = q; cid = cid; phase = phase i; status = s })
+fields_by x h h' q cid p p' s e head phase = e
+    ∙ (λ i. record { sqhd = head i; sqid = q; cid = cid; phase = phase i; status = s })
 
 -- ---- what `post_due` finds
 
 module _ (c : ConfigNumbers) (past : Past) (fields : CoreFields) (k : IsKept c past fields)
-    (x : State) (m : ℕ) {w : Room} (view : record { config = c; past = past; promised = m; room = w } ≡ x) (t : ℕ) (job : Keeping) (is : IsJob x.config x.past t job) where
+    (x : State) (m : ℕ) {w : Room} (view : record { config = c; past = past; promised = m; room = w } ≡ x) (t : ℕ)
+    (job : Keeping) (is : IsJob x.config x.past t job) where
   abbrev s : List SubmissionRing
   s = fields.submission
 
@@ -146,7 +178,8 @@ module _ (c : ConfigNumbers) (past : Past) (fields : CoreFields) (k : IsKept c p
   refused_so : (o : Option Why) → refusal c past (Step.Post t) ≡ o → refusal x.config x.past (Step.Post t) ≡ o
   refused_so o e = subst (λ (y : State). refusal y.config y.past (Step.Post t) ≡ o) view e
 
-  pub post_nothing : slice_get (owed_in job.course.stage) 0 ≡ None → refusal x.config x.past (Step.Post t) ≡ Some Why.WrongState
+  pub post_nothing : slice_get (owed_in job.course.stage) 0 ≡ None
+      → refusal x.config x.past (Step.Post t) ≡ Some Why.WrongState
   post_nothing e = refused_so (Some Why.WrongState) (nothing_due c past t job k.run mine e)
 
   pub post_some : 1 ≤ c.cqs
@@ -165,24 +198,35 @@ module _ (c : ConfigNumbers) (past : Past) (fields : CoreFields) (k : IsKept c p
     pub post_head : n' - 1 < length s
     post_head = omega (arith, post_queue.low, post_queue.high, k.submission.size)
 
-    ring_is : (y : CompletionRing) → y ≡ get_or q ((n' - 1) % c.cqs) y → y ≡ completion_ring c past (completion_queue c (Tickets.ticket past t).queue)
+    ring_is : (y : CompletionRing) → y ≡ get_or q ((n' - 1) % c.cqs) y
+        → y ≡ completion_ring c past (completion_queue c (Tickets.ticket past t).queue)
     ring_is y e =
         e ∙ k.completion.at ((n' - 1) % c.cqs) y (mod-lt (n' - 1) post_some)
-        ∙ ap (completion_ring c past) (sym (add-one ((n' - 1) % c.cqs)) ∙ ap (completion_queue c) of ∙ due_queue c past t job mine)
+        ∙ ap (completion_ring c past)
+        (sym (add-one ((n' - 1) % c.cqs)) ∙ ap (completion_queue c) of ∙ due_queue c past t job mine)
 
-    pub post_full : (o : Status) (y : CompletionRing) (b : Bool) → slice_get (owed_in job.course.stage) 0 ≡ Some o → y ≡ get_or q ((n' - 1) % c.cqs) y → is_full y ≡ b → refusal x.config x.past (Step.Post t) ≡ cond b (Some Why.CqFull) None
+    pub post_full : (o : Status) (y : CompletionRing) (b : Bool) → slice_get (owed_in job.course.stage) 0 ≡ Some o
+        → y ≡ get_or q ((n' - 1) % c.cqs) y → is_full y ≡ b
+        → refusal x.config x.past (Step.Post t) ≡ cond b (Some Why.CqFull) None
     post_full o y b due e f =
         refused_so (cond b (Some Why.CqFull) None)
-        (something_due c past t job o b k.run mine due (sym (due_full c past (completion_queue c (Tickets.ticket past t).queue) y k.run.legal (ring_is y e)) ∙ f))
+        (something_due c past t job o b k.run mine due
+        (sym (due_full c past (completion_queue c (Tickets.ticket past t).queue) y k.run.legal (ring_is y e)) ∙ f))
 
-    pub post_is : (o : Status) (cid : ℕ) (y : CompletionRing) (z : SubmissionRing) (cqe : Cqe) (d : Due) → slice_get (owed_in job.course.stage) 0 ≡ Some o → slice_get job.course.cids 0 ≡ Some cid
-        → y ≡ get_or q ((n' - 1) % c.cqs) y → z ≡ get_or s (n' - 1) z → cqe ≡ record { sqhd = z.head; sqid = n'; cid = cid; phase = y.phase; status = o }
+    pub post_is : (o : Status) (cid : ℕ) (y : CompletionRing) (z : SubmissionRing) (cqe : Cqe) (d : Due)
+        → slice_get (owed_in job.course.stage) 0 ≡ Some o → slice_get job.course.cids 0 ≡ Some cid
+        → y ≡ get_or q ((n' - 1) % c.cqs) y → z ≡ get_or s (n' - 1) z
+        → cqe ≡ record { sqhd = z.head; sqid = n'; cid = cid; phase = y.phase; status = o }
         → d.cqe ≡ completion_bytes cqe → d.from ≡ n' → d.cid ≡ cid → d.queue ≡ (n' - 1) % c.cqs + 1
         → d.bytes ≡ length job.read → d.last ≡ eqb (length job.course.cids) 1 → d.ticket ≡ t → IsDue x.config x.past d
     post_is o cid y z cqe d due has e f fields bytes origin name queue read last at =
         let p : suc (n' - 1) ≡ n' = omega (arith, post_queue.low) in
-        let sring : z ≡ submission_ring c past n' = f ∙ k.submission.at (n' - 1) z (omega (arith, post_queue.low, post_queue.high)) ∙ ap (submission_ring c past) p in
-        let of_job : cqe ≡ record { sqhd = z.head; sqid = job.queue; cid = cid; phase = y.phase; status = o } = fields ∙ (λ i. record { sqhd = z.head; sqid = of i; cid = cid; phase = y.phase; status = o }) in
+        let sring : z ≡ submission_ring c past n' = f
+        ∙ k.submission.at (n' - 1) z (omega (arith, post_queue.low, post_queue.high))
+        ∙ ap (submission_ring c past) p in
+        let of_job : cqe ≡ record { sqhd = z.head; sqid = job.queue; cid = cid; phase = y.phase; status = o } = fields
+        ∙ (λ i. record { sqhd = z.head; sqid = of i; cid = cid; phase = y.phase; status = o }) in
         subst (λ (u : ℕ). IsDue x.config x.past (record d { ticket = u })) (sym at)
         (subst (λ (w : State). IsDue w.config w.past (record d { ticket = t })) view
-        (due_is c past t job o cid y z cqe d k.run mine due has (ring_is y e) (sring ∙ ap (submission_ring c past) of) of_job bytes (origin ∙ of) name (queue ∙ ap (completion_queue c) of) read last))
+        (due_is c past t job o cid y z cqe d k.run mine due has (ring_is y e) (sring ∙ ap (submission_ring c past) of)
+        of_job bytes (origin ∙ of) name (queue ∙ ap (completion_queue c) of) read last))

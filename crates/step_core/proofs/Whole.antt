@@ -15,28 +15,39 @@ abbrev pub KeptBy : State → Type 0
 KeptBy x = Kept x.config x.past
 
 -- after a step it is so again
-pub kept_served : (old new : State) (step : Step) (r : Result Answer Refused) → KeptBy old → Serves old step r new → KeptBy new
+pub kept_served : (old new : State) (step : Step) (r : Result Answer Refused) → KeptBy old → Serves old step r new
+    → KeptBy new
 kept_served old new step (Ok a) k s = subst KeptBy (sym s.1) (stepped old.config old.past step k s.0.0)
 kept_served old new step (Err r) k s = subst KeptBy (sym s.1) k
 
 -- and after many
-pub kept_runs : (old new : State) (steps : List Step) (rs : List (Result Answer Refused)) → KeptBy old → Runs old steps rs new → KeptBy new
+pub kept_runs : (old new : State) (steps : List Step) (rs : List (Result Answer Refused)) → KeptBy old
+    → Runs old steps rs new → KeptBy new
 kept_runs old new [] [] k run = subst KeptBy (sym run) k
-kept_runs old new (step ∷ steps) (r ∷ rs) k run = kept_runs run.0 new steps rs (kept_served old run.0 step r k run.1) run.2
+kept_runs old new (step ∷ steps) (r ∷ rs) k run =
+    kept_runs run.0 new steps rs (kept_served old run.0 step r k run.1) run.2
 kept_runs old new [] (r ∷ rs) k run = absurd run
 kept_runs old new (step ∷ steps) [] k run = absurd run
 
 -- one step more
-Runs-push : (old mid new : State) (steps : List Step) (rs : List (Result Answer Refused)) (step : Step) (r : Result Answer Refused) → Runs old steps rs mid → Serves mid step r new → Runs old (steps ++ step ∷ []) (rs ++ r ∷ []) new
+Runs-push : (old mid new : State) (steps : List Step) (rs : List (Result Answer Refused)) (step : Step)
+    (r : Result Answer Refused) → Runs old steps rs mid → Serves mid step r new
+    → Runs old (steps ++ step ∷ []) (rs ++ r ∷ []) new
 Runs-push old mid new [] [] step r e served = (new, subst (λ (m : State). Serves m step r new) e served, refl)
-Runs-push old mid new (s ∷ steps) (x ∷ rs) step r run served = (run.0, run.1, Runs-push run.0 mid new steps rs step r run.2 served)
+Runs-push old mid new (s ∷ steps) (x ∷ rs) step r run served =
+    (run.0, run.1, Runs-push run.0 mid new steps rs step r run.2 served)
 Runs-push old mid new [] (x ∷ rs) step r run served = absurd run
 Runs-push old mid new (s ∷ steps) [] step r run served = absurd run
 
-pub RunsOnto-push : (old mid new : State) (steps : List Step) (before out out' : List (Result Answer Refused)) (step : Step) (r : Result Answer Refused) → RunsOnto old steps before out mid → Serves mid step r new → out' ≡ out ++ r ∷ []
+pub RunsOnto-push : (old mid new : State) (steps : List Step) (before out out' : List (Result Answer Refused))
+    (step : Step) (r : Result Answer Refused) → RunsOnto old steps before out mid → Serves mid step r new
+    → out' ≡ out ++ r ∷ []
     → RunsOnto old (steps ++ step ∷ []) before out' new
-RunsOnto-push old mid new steps before out out' step r run served is =
-    (run.0 ++ r ∷ [], is ∙ ap (λ x. x ++ r ∷ []) run.1 ∙ append_assoc before run.0 (r ∷ []), Runs-push old mid new steps run.0 step r run.2 served)
+RunsOnto-push old mid new steps before out out' step r run served is = (
+  run.0 ++ r ∷ [],
+  is ∙ ap (λ x. x ++ r ∷ []) run.1 ∙ append_assoc before run.0 (r ∷ []),
+  Runs-push old mid new steps run.0 step r run.2 served,
+)
 
 -- of the first of some steps that are left in reverse
 pub reverse_push : {X : Type 0} (xs : List X) (x : X) → reverse (xs ++ x ∷ []) ≡ x ∷ reverse xs

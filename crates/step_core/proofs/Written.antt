@@ -1,5 +1,7 @@
 -- What a ticket still writes, as its units are opened and their Blocks are made.
-use Rattle.std.proofs.Common.{◌≡◌, ℕ, zero, suc, ◌+◌, ◌-◌, ◌%◌, ◌≤◌, ◌<◌, Bool, true, false, cond, List, [], ◌∷◌, drop, get_or, length, length-append, take, nat_lt, refl, sym, ap, ◌∙◌, subst, Option, Some, None, is_some, option_map, inl, inr, arith, leb-false, ltb-false, slice_get, ◌==◌}
+use Rattle.std.proofs.Common.{◌≡◌, ℕ, zero, suc, ◌+◌, ◌-◌, ◌%◌, ◌≤◌, ◌<◌, Bool, true, false, cond, List, [], ◌∷◌, drop}
+use Rattle.std.proofs.Common.{get_or, length, length-append, take, nat_lt, refl, sym, ap, ◌∙◌, subst, Option, Some}
+use Rattle.std.proofs.Common.{None, is_some, option_map, inl, inr, arith, leb-false, ltb-false, slice_get, ◌==◌}
 use Rattle.std.proofs.Math.Nat.{mod-eq-sub-mod, mod-eq_of_lt}
 use Rattle.std.proofs.lemmas.Bool.{cases_lt, or_parts}
 use Rattle.std.proofs.lemmas.List.{get_or-drop, get_or_append_left, get_or_push, length-drop}
@@ -18,13 +20,14 @@ use Rattle.nvme_model.specs.Refusals.{has_open}
 use Rattle.nvme_model.specs.Tickets.{Ticket, command, first_fields, ticket}
 use Rattle.nvme_model.proofs.Cut.{cut-is}
 use Rattle.nvme_model.proofs.Finished.{differed_closed}
-use Rattle.ticket_standing.specs.Standing.{OpenUnit, Standing, fresh, had, standing, unit_of}
-use Rattle.ticket_standing.proofs.Left.{blocks_of_all, take_one_more}
+use Rattle.ticket_laws.specs.Standing.{OpenUnit, Standing, fresh, had, standing, unit_of}
+use Rattle.ticket_laws.proofs.Left.{blocks_of_all, take_one_more}
 use Rattle.block_exec.specs.Bytes.{block_at, blocks_in, data_at, needs_box_by, written_by}
 use Rattle.block_exec.specs.Progress.{compared_as, found_by, needed, next_block}
 use Rattle.block_exec.specs.Units.{progress_of}
 use Rattle.job_table.specs.Keeping.{CanMake}
-use Rattle.job_table.specs.Tickets.{job_at, job_by, left_in, pair_written, still_written, write_blocks, write_blocks_by, written_so_far}
+use Rattle.job_table.specs.Tickets.{job_at, job_by, left_in, pair_written, still_written, write_blocks, write_blocks_by}
+use Rattle.job_table.specs.Tickets.{written_so_far}
 use Rattle.step_core.proofs.BlockData.{IsUnit, compare_long, compare_there, range_inside, read_long, unended}
 use Rattle.step_core.proofs.Granting.{any_found}
 use Rattle.step_core.proofs.ReadBytes.{cut_place}
@@ -33,19 +36,23 @@ use Rattle.step_core.proofs.ReadBytes.{cut_place}
 
 pub length-blocks_in : (n : ℕ) (bytes : List ℕ) → length (blocks_in n bytes) ≡ n
 length-blocks_in zero bytes = refl
-length-blocks_in (suc n) bytes = omega (arith, length-append (blocks_in n bytes) (data_at bytes n ∷ []), length-blocks_in n bytes)
+length-blocks_in (suc n) bytes =
+    omega (arith, length-append (blocks_in n bytes) (data_at bytes n ∷ []), length-blocks_in n bytes)
 
 block_in : (n : ℕ) (bytes : List ℕ) (i : ℕ) (d : List ℕ) → i < n → get_or (blocks_in n bytes) i d ≡ data_at bytes i
 block_in zero bytes i d l = absurd (omega (arith, l))
 block_in (suc n) bytes i d l = elim (cases_lt i n) [
-  | inl below ↦ get_or_append_left (blocks_in n bytes) (data_at bytes n ∷ []) d i (omega (arith, below, length-blocks_in n bytes)) ∙ block_in n bytes i d below
-  | inr high ↦ let same : n ≡ i = omega (arith, l, high) in get_or_push (blocks_in n bytes) (data_at bytes n) d i (length-blocks_in n bytes ∙ same) ∙ ap (data_at bytes) same
+  | inl below ↦ get_or_append_left (blocks_in n bytes) (data_at bytes n ∷ []) d i
+      (omega (arith, below, length-blocks_in n bytes)) ∙ block_in n bytes i d below
+  | inr high ↦ let same : n ≡ i = omega (arith, l, high) in
+      get_or_push (blocks_in n bytes) (data_at bytes n) d i (length-blocks_in n bytes ∙ same) ∙ ap (data_at bytes) same
 ]
 
 -- the first of them behind k others
 first_left : (n : ℕ) (bytes : List ℕ) (k : ℕ) → k < n → block_at (drop k (blocks_in n bytes)) 0 ≡ data_at bytes k
 first_left n bytes k l =
-    get_or-drop k (blocks_in n bytes) 0 zeros ∙ ap (λ i. get_or (blocks_in n bytes) i zeros) (plus k) ∙ block_in n bytes k zeros l
+    get_or-drop k (blocks_in n bytes) 0 zeros ∙ ap (λ i. get_or (blocks_in n bytes) i zeros) (plus k)
+    ∙ block_in n bytes k zeros l
   where
     plus : (k : ℕ) → k + 0 ≡ k
     plus k = omega arith
@@ -83,7 +90,8 @@ one_unit x y (suc (suc i)) e = absurd (let f : None ≡ Some y = e in cc)
 abbrev pub with_unit : Standing → GrantLine → Standing
 with_unit s g = record s { opened = s.opened + 1; unit = Some (record { line = g; made = 0 }) }
 
-pub granted_blocks : (c : ConfigNumbers) (s : Standing) (g : GrantLine) → s.unit ≡ None → s.differs ≡ false → slice_get (units c s.ticket) s.opened ≡ Some g.range → still_written c s ≡ still_written c (with_unit s g)
+pub granted_blocks : (c : ConfigNumbers) (s : Standing) (g : GrantLine) → s.unit ≡ None → s.differs ≡ false
+    → slice_get (units c s.ticket) s.opened ≡ Some g.range → still_written c s ≡ still_written c (with_unit s g)
 granted_blocks c s g closed calm next = ap (λ n. drop n (write_blocks s.ticket)) (count (op s.ticket) refl)
   where
     opened_more : (a b n : ℕ) → b ≡ a + n → a - 0 ≡ b - (n - 0)
@@ -98,10 +106,16 @@ granted_blocks c s g closed calm next = ap (λ n. drop n (write_blocks s.ticket)
     count (Some Op.Compare) e = refl
     count (Some Op.WriteZeroes) e = refl
     count (Some Op.Write) e =
-        ap (λ (u : Option OpenUnit). had c s - left_in u) closed ∙ opened_more (had c s) (had c (with_unit s g)) g.range.blocks (take_one_more s.opened g.range (units c s.ticket) next)
+        ap (λ (u : Option OpenUnit). had c s - left_in u) closed
+        ∙ opened_more (had c s) (had c (with_unit s g)) g.range.blocks
+        (take_one_more s.opened g.range (units c s.ticket) next)
     count (Some Op.Pair) e =
-        let first = one_unit _ g.range s.opened (ap (λ (w : Option Op). slice_get (units_by c.atomic w (slba (first_fields s.ticket)) (blocks (first_fields s.ticket))) s.opened) (sym e) ∙ next) in
-        ap (pair_written c s) closed ∙ ap (λ b. cond b 0 (had c s)) calm ∙ ap (λ (i : ℕ). blocks_of_all (take i (units c s.ticket))) first.0 ∙ nothing g.range.blocks
+        let first = one_unit _ g.range s.opened
+        (ap (λ (w : Option Op). slice_get
+        (units_by c.atomic w (slba (first_fields s.ticket)) (blocks (first_fields s.ticket))) s.opened) (sym e)
+        ∙ next) in
+        ap (pair_written c s) closed ∙ ap (λ b. cond b 0 (had c s)) calm
+        ∙ ap (λ (i : ℕ). blocks_of_all (take i (units c s.ticket))) first.0 ∙ nothing g.range.blocks
 
 -- ---- where the open unit has come
 
@@ -131,7 +145,8 @@ module _ (c : ConfigNumbers) (past : Past) (t : ℕ) (h : IsLegal c past) (g : G
   goes_on o u = leb-false (needed o g.range.blocks) made (or_parts _ _ (unended c past t h g o u)).0
 
   pub had_is : (o : Op) → IsUnit c past t g o → had c s ≡ blocks_of_all (take g.unit (units c k)) + g.range.blocks
-  had_is o u = ap (λ (i : ℕ). blocks_of_all (take i (units c k))) opened ∙ take_one_more g.unit g.range (units c k) u.place
+  had_is o u = ap (λ (i : ℕ). blocks_of_all (take i (units c k))) opened
+      ∙ take_one_more g.unit g.range (units c k) u.place
     where
       opened : grants_of past t ≡ g.unit + 1
       opened = omega (arith, u.last)
@@ -151,42 +166,58 @@ module _ (c : ConfigNumbers) (past : Past) (t : ℕ) (h : IsLegal c past) (g : G
 
   pub starts : IsUnit c past t g Op.Write → g.range.slba ≡ start + blocks_of_all (take g.unit (units c k))
   starts u =
-      let cut : units c k ≡ units_by c.atomic (Some Op.Write) start count = ap (λ (w : Option Op). units_by c.atomic w start count) u.does in
-      cut_place c.atomic (units_by c.atomic (Some Op.Write) start count) start count g.unit g.range (cut-is c.atomic start count) (ap (λ (rs : List Range). slice_get rs g.unit) (sym cut) ∙ u.place)
+      let cut : units c k ≡ units_by c.atomic (Some Op.Write) start count =
+      ap (λ (w : Option Op). units_by c.atomic w start count) u.does in
+      cut_place c.atomic (units_by c.atomic (Some Op.Write) start count) start count g.unit g.range
+      (cut-is c.atomic start count) (ap (λ (rs : List Range). slice_get rs g.unit) (sym cut) ∙ u.place)
       ∙ ap (λ (rs : List Range). start + blocks_of_all (take g.unit rs)) (sym cut)
 
   pub write_count : IsUnit c past t g Op.Write → written_so_far c s (Some Op.Write) ≡ g.range.slba - start + made
   write_count u =
       ap (λ (x : Option OpenUnit). had c s - left_in x) (unit_is Op.Write u)
-      ∙ numbers (had c s) (blocks_of_all (take g.unit (units c k))) g.range.blocks (length (blocks_made past g.ticket g.unit)) made g.range.slba start (had_is Op.Write u) (starts u) (made_is Op.Write u) (goes_on Op.Write u)
+      ∙ numbers (had c s) (blocks_of_all (take g.unit (units c k))) g.range.blocks
+      (length (blocks_made past g.ticket g.unit)) made g.range.slba start (had_is Op.Write u) (starts u)
+      (made_is Op.Write u) (goes_on Op.Write u)
     where
-      numbers : (had before n m' m at from : ℕ) → had ≡ before + n → at ≡ from + before → m' ≡ m → m < n → had - (n - m') ≡ at - from + m
+      numbers : (had before n m' m at from : ℕ) → had ≡ before + n → at ≡ from + before → m' ≡ m → m < n
+          → had - (n - m') ≡ at - from + m
       numbers had before n m' m at from a b e l = omega (arith, a, b, e, l)
 
-  write_block_is : IsUnit c past t g Op.Write → next_block (progress_of past t g.unit Op.Write g.range) ≡ g.range.slba + made
+  write_block_is : IsUnit c past t g Op.Write
+      → next_block (progress_of past t g.unit Op.Write g.range) ≡ g.range.slba + made
   write_block_is u = ap (λ i. g.range.slba + i) (mod-eq_of_lt (goes_on Op.Write u))
 
   write_within : (u : IsUnit c past t g Op.Write) → written_so_far c s (Some Op.Write) < count
   write_within u = omega (arith, write_count u, goes_on Op.Write u, u.inside.low, u.inside.high)
 
-  write_place : (u : IsUnit c past t g Op.Write) → written_so_far c s (Some Op.Write) ≡ next_block (progress_of past t g.unit Op.Write g.range) - start
+  write_place : (u : IsUnit c past t g Op.Write)
+      → written_so_far c s (Some Op.Write) ≡ next_block (progress_of past t g.unit Op.Write g.range) - start
   write_place u = omega (arith, write_count u, write_block_is u, u.inside.low)
 
   -- ---- a pair
 
   whole : IsUnit c past t g Op.Pair → (g.unit ≡ 0) × (record { slba = start; blocks = count } ≡ g.range)
-  whole u = one_unit _ g.range g.unit (ap (λ (w : Option Op). slice_get (units_by c.atomic w start count) g.unit) (sym u.does) ∙ u.place)
+  whole u = one_unit _ g.range g.unit
+      (ap (λ (w : Option Op). slice_get (units_by c.atomic w start count) g.unit) (sym u.does) ∙ u.place)
 
   pub pair_count : IsUnit c past t g Op.Pair → written_so_far c s (Some Op.Pair) ≡ made - g.range.blocks
   pair_count u = ap (pair_written c s) (unit_is Op.Pair u) ∙ ap (λ (i : ℕ). i - g.range.blocks) (made_is Op.Pair u)
 
   pub pair_had : IsUnit c past t g Op.Pair → had c s ≡ g.range.blocks
-  pair_had u = let none : blocks_of_all (take g.unit (units c k)) ≡ 0 = ap (λ (i : ℕ). blocks_of_all (take i (units c k))) (whole u).0 in omega (arith, had_is Op.Pair u, none)
+  pair_had u = let none : blocks_of_all (take g.unit (units c k)) ≡ 0 =
+      ap (λ (i : ℕ). blocks_of_all (take i (units c k))) (whole u).0 in omega (arith, had_is Op.Pair u, none)
 
   pair_within : (u : IsUnit c past t g Op.Pair) → written_so_far c s (Some Op.Pair) < count
-  pair_within u = omega (arith, pair_count u, goes_on Op.Pair u, ap (λ (r : Range). r.blocks) (whole u).1, u.facts.facts.some)
+  pair_within u = omega (
+    arith,
+    pair_count u,
+    goes_on Op.Pair u,
+    ap (λ (r : Range). r.blocks) (whole u).1,
+    u.facts.facts.some,
+  )
 
-  pair_place : (u : IsUnit c past t g Op.Pair) → g.range.blocks ≤ made → written_so_far c s (Some Op.Pair) ≡ next_block (progress_of past t g.unit Op.Pair g.range) - start
+  pair_place : (u : IsUnit c past t g Op.Pair) → g.range.blocks ≤ made
+      → written_so_far c s (Some Op.Pair) ≡ next_block (progress_of past t g.unit Op.Pair g.range) - start
   pair_place u high =
       let below : made - g.range.blocks < g.range.blocks = omega (arith, goes_on Op.Pair u, high) in
       let place : made % g.range.blocks ≡ made - g.range.blocks = mod-eq-sub-mod high ∙ mod-eq_of_lt below in
@@ -195,7 +226,8 @@ module _ (c : ConfigNumbers) (past : Past) (t : ℕ) (h : IsLegal c past) (g : G
   -- ---- what its next Block requires and writes
 
   -- it has a box where it needs one
-  box_there : (o : Op) → IsUnit c past t g o → needs_box_by o g.range.blocks made ≡ true → 0 < length (drop (written_so_far c s (Some o)) (write_blocks_by (Some o) k))
+  box_there : (o : Op) → IsUnit c past t g o → needs_box_by o g.range.blocks made ≡ true
+      → 0 < length (drop (written_so_far c s (Some o)) (write_blocks_by (Some o) k))
   box_there Op.Write u e = some_left count (command k 0).payload (written_so_far c s (Some Op.Write)) (write_within u)
   box_there Op.Pair u e = some_left count (command k 1).payload (written_so_far c s (Some Op.Pair)) (pair_within u)
   box_there Op.Read u e = absurd cc
@@ -204,17 +236,21 @@ module _ (c : ConfigNumbers) (past : Past) (t : ℕ) (h : IsLegal c past) (g : G
 
   -- it writes what the ticket writes there
   data_is : (o : Op) → IsUnit c past t g o → (e : Bool) → is_written (found_by o g.range.blocks made e) ≡ true
-      → written_by o (block_at (drop (written_so_far c s (Some o)) (write_blocks_by (Some o) k)) 0) ≡ write_data_by (Some o) k (next_block (progress_of past t g.unit o g.range))
+      → written_by o (block_at (drop (written_so_far c s (Some o)) (write_blocks_by (Some o) k)) 0)
+      ≡ write_data_by (Some o) k (next_block (progress_of past t g.unit o g.range))
   data_is Op.Write u e w =
-      first_left count (command k 0).payload (written_so_far c s (Some Op.Write)) (write_within u) ∙ ap (data_at (command k 0).payload) (write_place u)
+      first_left count (command k 0).payload (written_so_far c s (Some Op.Write)) (write_within u)
+      ∙ ap (data_at (command k 0).payload) (write_place u)
   data_is Op.Pair u e w =
-      first_left count (command k 1).payload (written_so_far c s (Some Op.Pair)) (pair_within u) ∙ ap (data_at (command k 1).payload) (pair_place u (by (nat_lt made g.range.blocks) refl w))
+      first_left count (command k 1).payload (written_so_far c s (Some Op.Pair)) (pair_within u)
+      ∙ ap (data_at (command k 1).payload) (pair_place u (by (nat_lt made g.range.blocks) refl w))
     where
       compared : (e : Bool) → is_written (compared_as e) ≡ true → g.range.blocks ≤ made
       compared true h = absurd cc
       compared false h = absurd cc
 
-      by : (b : Bool) → nat_lt made g.range.blocks ≡ b → is_written (cond b (compared_as e) Found.Written) ≡ true → g.range.blocks ≤ made
+      by : (b : Bool) → nat_lt made g.range.blocks ≡ b → is_written (cond b (compared_as e) Found.Written) ≡ true
+          → g.range.blocks ≤ made
       by true l h = compared e h
       by false l h = ltb-false made g.range.blocks l
   data_is Op.WriteZeroes u e w = refl
@@ -226,10 +262,12 @@ module _ (c : ConfigNumbers) (past : Past) (t : ℕ) (h : IsLegal c past) (g : G
       → written_by o (block_at (still_written c s) 0) ≡ write_data k (next_block (progress_of past t g.unit o g.range))
   written_now o u e w =
       ap (λ (x : Option Op). written_by o (block_at (drop (written_so_far c s x) (write_blocks_by x k)) 0)) u.does
-      ∙ data_is o u e w ∙ ap (λ (x : Option Op). write_data_by x k (next_block (progress_of past t g.unit o g.range))) (sym u.does)
+      ∙ data_is o u e w ∙ ap (λ (x : Option Op). write_data_by x k (next_block (progress_of past t g.unit o g.range)))
+      (sym u.does)
 
   -- its next Block can be made
-  pub can_make : (o : Op) → IsUnit c past t g o → (v : List (List ℕ)) → length v ≡ c.blocks → CanMake (job_at c past t) (progress_of past t g.unit o g.range) v
+  pub can_make : (o : Op) → IsUnit c past t g o → (v : List (List ℕ)) → length v ≡ c.blocks
+      → CanMake (job_at c past t) (progress_of past t g.unit o g.range) v
   unfolding job_by
   can_make o u v size = record {
     within = omega (arith, size, range_inside c past t h g o u);
@@ -240,5 +278,7 @@ module _ (c : ConfigNumbers) (past : Past) (t : ℕ) (h : IsLegal c past) (g : G
     read = read_long c past t h g o u (standing past t).read;
   }
     where
-      box_in : (o : Op) → IsUnit c past t g o → needs_box_by o g.range.blocks made ≡ true → 0 < length (still_written c s)
-      box_in o u e = subst (λ (x : Option Op). 0 < length (drop (written_so_far c s x) (write_blocks_by x k))) (sym u.does) (box_there o u e)
+      box_in : (o : Op) → IsUnit c past t g o → needs_box_by o g.range.blocks made ≡ true
+          → 0 < length (still_written c s)
+      box_in o u e = subst (λ (x : Option Op). 0 < length (drop (written_so_far c s x) (write_blocks_by x k)))
+          (sym u.does) (box_there o u e)

@@ -7,7 +7,7 @@ use nvme_model::step::Step;
 impl Machine for Core {
     ghost use Rattle.nvme_model.specs.Kept.{Kept};
     ghost use Rattle.controller_steps.specs.State.{Accepts, Refuses};
-    ghost use Rattle.ticket_entries.proofs.NewEntries.{accepted_keeps, named_entry, new_entry};
+    ghost use Rattle.ticket_laws.proofs.NewEntries.{accepted_keeps, named_entry, new_entry};
 
     ghost config = { λ core. core.config };
 

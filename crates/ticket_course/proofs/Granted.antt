@@ -1,5 +1,6 @@
 -- The stage of a ticket after a Grant.
-use Rattle.std.proofs.Common.{◌≡◌, ◌+◌, ◌≤◌, ◌==◌, ◌∙◌, ◌∷◌, Bool, List, None, Option, Some, [], ap, arith, cond, false, is_some, ne_eqb, option_map, refl, slice_get, suc, sym, true, zero, ℕ}
+use Rattle.std.proofs.Common.{◌≡◌, ◌+◌, ◌≤◌, ◌==◌, ◌∙◌, ◌∷◌, Bool, List, None, Option, Some, [], ap, arith, cond, false}
+use Rattle.std.proofs.Common.{is_some, ne_eqb, option_map, refl, slice_get, suc, sym, true, zero, ℕ}
 use Rattle.std.specs.List.{find, list_any}
 use Rattle.std.proofs.lemmas.Bool.{or_parts}
 use Rattle.nvme_model.specs.declared.array.Range.{Range}
@@ -17,9 +18,9 @@ use Rattle.nvme_model.specs.Tickets.{Ticket, first_fields, ticket}
 use Rattle.nvme_model.proofs.Granted.{units_some}
 use Rattle.nvme_model.proofs.Lists.{each_get}
 use Rattle.nvme_model.proofs.Rules.{MayGrant, may_grant}
-use Rattle.ticket_standing.specs.Standing.{OpenUnit, Standing, left, standing, still_owed, unit_of, without}
-use Rattle.ticket_standing.proofs.Left.{left_after, next_starts, next_unit_left}
-use Rattle.ticket_standing.proofs.Standings.{grant_here}
+use Rattle.ticket_laws.specs.Standing.{OpenUnit, Standing, left, standing, still_owed, unit_of, without}
+use Rattle.ticket_laws.proofs.Left.{left_after, next_starts, next_unit_left}
+use Rattle.ticket_laws.proofs.Standings.{grant_here}
 use Rattle.ticket_course.specs.Shown.{stage_by, stage_of}
 use Rattle.ticket_course.specs.Stages.{opened_in}
 use Rattle.ticket_course.specs.declared.course.Stage.TheVariants.{Open, Owing, Waiting}
@@ -30,12 +31,14 @@ none_found f (x ∷ xs) e =
     let parts = or_parts (f x) (list_any f xs) e in
     ap (λ z. cond z (Some x) (find f xs)) parts.0 ∙ none_found f xs parts.1
 
-pub units_of_op : (u : AtomicParameters) (o : Option Op) (s n i : ℕ) (r : Range) → slice_get (units_by u o s n) i ≡ Some r → is_some o ≡ true
+pub units_of_op : (u : AtomicParameters) (o : Option Op) (s n i : ℕ) (r : Range)
+    → slice_get (units_by u o s n) i ≡ Some r → is_some o ≡ true
 units_of_op u (Some o) s n i r e = refl
 units_of_op u None s n zero r e = absurd (let f : None ≡ Some r = e in cc)
 units_of_op u None s n (suc i) r e = absurd (let f : None ≡ Some r = e in cc)
 
-pub granted : (c : ConfigNumbers) (past : Past) (g : GrantLine) → IsLegal c (Entry.Grant g ∷ past) → stage_of c (standing (Entry.Grant g ∷ past) g.ticket) ≡ opened_in (stage_of c (standing past g.ticket)) g.range
+pub granted : (c : ConfigNumbers) (past : Past) (g : GrantLine) → IsLegal c (Entry.Grant g ∷ past)
+    → stage_of c (standing (Entry.Grant g ∷ past) g.ticket) ≡ opened_in (stage_of c (standing past g.ticket)) g.range
 granted c past g h =
     let t : ℕ = g.ticket in
     let k : Ticket = ticket past t in
@@ -43,17 +46,30 @@ granted c past g h =
     let s' : Standing = record s { opened = s.opened + 1; unit = Some (record { line = g; made = 0 }) } in
     let may : MayGrant c past g = may_grant c past g h in
     let goes_on : differed past t ≡ false = (or_parts _ (differed past t) may.left).1 in
-    let closed : s.unit ≡ None = ap (option_map (unit_of past)) (none_found (λ (x : GrantLine). x.ticket == t) (open_units past) may.closed) in
-    let after : left c s' ≡ without (left c s) g.range.blocks = left_after c s s' g.range refl refl refl goes_on may.range in
-    let some : is_some (op k) ≡ true = units_of_op c.atomic (op k) (slba (first_fields k)) (blocks (first_fields k)) (grants_of past t) g.range may.range in
+    let closed : s.unit ≡ None =
+    ap (option_map (unit_of past)) (none_found (λ (x : GrantLine). x.ticket == t) (open_units past) may.closed) in
+    let after : left c s' ≡ without (left c s) g.range.blocks =
+    left_after c s s' g.range refl refl refl goes_on may.range in
+    let some : is_some (op k) ≡ true =
+    units_of_op c.atomic (op k) (slba (first_fields k)) (blocks (first_fields k)) (grants_of past t) g.range
+    may.range in
     let one : 1 ≤ blocks (first_fields k) = omega arith in
-    let least : 1 ≤ g.range.blocks = each_get _ _ (grants_of past t) g.range (units_some c.atomic (op k) (slba (first_fields k)) (blocks (first_fields k)) one) may.range in
-    let fits : g.range.blocks ≤ (left c s).blocks = (next_starts c.atomic (op k) (left c s) g.range (sym (next_unit_left c past t goes_on) ∙ may.range)).1 in
-    let there : ((left c s).blocks == 0) ≡ false = ne_eqb (left c s).blocks 0 (λ (e : (left c s).blocks ≡ 0). omega (arith, e, least, fits)) in
-    let by : (o : Option Op) → is_some o ≡ true → stage_by c s' o (Some (record { line = g; made = 0 })) ≡ opened_in (stage_by c s o None) g.range =
-    λ o e. elim o as (λ (x : Option Op). is_some x ≡ true → stage_by c s' x (Some (record { line = g; made = 0 })) ≡ opened_in (stage_by c s x None) g.range) [
+    let least : 1 ≤ g.range.blocks =
+    each_get _ _ (grants_of past t) g.range
+    (units_some c.atomic (op k) (slba (first_fields k)) (blocks (first_fields k)) one) may.range in
+    let fits : g.range.blocks ≤ (left c s).blocks =
+    (next_starts c.atomic (op k) (left c s) g.range (sym (next_unit_left c past t goes_on) ∙ may.range)).1 in
+    let there : ((left c s).blocks == 0) ≡ false =
+    ne_eqb (left c s).blocks 0 (λ (e : (left c s).blocks ≡ 0). omega (arith, e, least, fits)) in
+    let by : (o : Option Op) → is_some o ≡ true
+    → stage_by c s' o (Some (record { line = g; made = 0 })) ≡ opened_in (stage_by c s o None) g.range =
+    λ o e. elim o as (λ (x : Option Op). is_some x ≡ true
+    → stage_by c s' x (Some (record { line = g; made = 0 })) ≡ opened_in (stage_by c s x None) g.range) [
       | None ↦ λ e. absurd cc
-      | Some o ↦ λ e. (λ z. Open (record { op = o; range = g.range; made = 0; differed = false }) (may.unit z) (after z))
-          ∙ ap (λ (b : Bool). opened_in (cond b (Owing (still_owed c s)) (Waiting o s.opened (left c s))) g.range) (sym there)
+      | Some o ↦ λ e. (λ z. Open (record { op = o; range = g.range; made = 0; differed = false }) (may.unit z)
+          (after z))
+          ∙ ap (λ (b : Bool). opened_in (cond b (Owing (still_owed c s)) (Waiting o s.opened (left c s))) g.range)
+          (sym there)
     ] e in
-    ap (stage_of c) (grant_here c past g h) ∙ by (op k) some ∙ ap (λ (u : Option OpenUnit). opened_in (stage_by c s (op k) u) g.range) (sym closed)
+    ap (stage_of c) (grant_here c past g h) ∙ by (op k) some
+    ∙ ap (λ (u : Option OpenUnit). opened_in (stage_by c s (op k) u) g.range) (sym closed)

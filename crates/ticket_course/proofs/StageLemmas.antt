@@ -7,7 +7,8 @@ use Rattle.fused_match.specs.declared.judged.Judged.TheVariants as judged
 use Rattle.ticket_course.specs.Stages.{IsCourse, IsSound, first_stage}
 
 -- it is so of a ticket that was just fetched
-pub first_is : (j : Judged) (cids : List ℕ) → length cids ≡ taken (verdict_by j) → IsSound j → IsCourse (first_stage j) cids
+pub first_is : (j : Judged) (cids : List ℕ) → length cids ≡ taken (verdict_by j) → IsSound j
+    → IsCourse (first_stage j) cids
 first_is judged.Flush cids e s = sym e
 first_is (judged.Single o r) cids e s = record { range = s.1; few = omega (arith, s.1.1); each = e ∙ sym s.0 }
 first_is (judged.Pair r) cids e s = record { range = s; few = omega (arith, s.1); each = e }

@@ -3,7 +3,7 @@ use Rattle.std.specs.Prelude.{None, Option, Some, false, if◌then◌else◌, �
 use Rattle.nvme_model.specs.Operations.{op}
 use Rattle.nvme_model.specs.declared.config.ConfigNumbers.{ConfigNumbers}
 use Rattle.nvme_model.specs.declared.operation.Op.{Op}
-use Rattle.ticket_standing.specs.Standing.{OpenUnit, Standing, left, still_owed}
+use Rattle.ticket_laws.specs.Standing.{OpenUnit, Standing, left, still_owed}
 use Rattle.block_exec.specs.Progress.{Progress}
 use Rattle.ticket_course.specs.declared.course.Stage.{Stage}
 use Rattle.ticket_course.specs.declared.course.Stage.TheVariants.{Waiting, Open, Owing}

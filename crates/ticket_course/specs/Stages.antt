@@ -9,7 +9,7 @@ use Rattle.nvme_model.specs.declared.config.AtomicParameters.{AtomicParameters}
 use Rattle.nvme_model.specs.declared.operation.Found.{Found}
 use Rattle.nvme_model.specs.declared.operation.Op.{Op}
 use Rattle.nvme_model.specs.declared.status.Status.{Status}
-use Rattle.ticket_standing.specs.Standing.{next_of, on_differs, on_success, without}
+use Rattle.ticket_laws.specs.Standing.{next_of, on_differs, on_success, without}
 use Rattle.fused_match.specs.declared.judged.Judged.{Judged}
 use Rattle.fused_match.specs.declared.judged.Judged.TheVariants as judged
 use Rattle.block_exec.specs.Course.{begun, noted}

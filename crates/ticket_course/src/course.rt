@@ -3,7 +3,7 @@
 ghost use Rattle.std.specs.Prelude.{◌≡◌, ◌≢◌, ◌<◌, ◌↔◌, IfSome, IsTrue, None, Some, length, slice_get, true};
 ghost use Rattle.std.specs.Option.{option_map};
 ghost use Rattle.nvme_model.specs.Verdict.{taken};
-ghost use Rattle.ticket_standing.specs.Standing.{on_differs, on_success};
+ghost use Rattle.ticket_laws.specs.Standing.{on_differs, on_success};
 ghost use Rattle.fused_match.specs.Judged.{verdict_by};
 ghost use Rattle.block_exec.specs.Course.{done_by};
 ghost use Rattle.nvme_model.specs.Array.{IsRange};

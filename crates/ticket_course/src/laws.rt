@@ -15,7 +15,7 @@ ghost use Rattle.nvme_model.specs.declared.entry.GrantLine.{GrantLine};
 ghost use Rattle.nvme_model.specs.declared.entry.PostLine.{PostLine};
 ghost use Rattle.nvme_model.specs.declared.status.Status.{Status};
 ghost use Rattle.ticket_course.specs.declared.course.Stage.{Stage};
-ghost use Rattle.ticket_standing.specs.Standing.{fresh, standing, still_owed};
+ghost use Rattle.ticket_laws.specs.Standing.{fresh, standing, still_owed};
 ghost use Rattle.ticket_course.specs.Shown.{stage_of};
 ghost use Rattle.ticket_course.specs.Stages.{first_stage, noted_in, opened_in, owed_in};
 

@@ -17,11 +17,13 @@ use Rattle.line_text.proofs.WordLaws.{words_again, upper_without}
 use Rattle.nvme_model.specs.declared.entry.Entry.{Entry}
 use Rattle.seen_trace.specs.declared.seen.ReapedLine.{ReapedLine}
 use Rattle.seen_trace.specs.declared.seen.Seen.{Seen}
-use Rattle.trace_lines.specs.SeenLines.{HasSeenLine, published_or, reaped_from, reaped_in, reaped_words, seen_in, seen_line}
+use Rattle.trace_lines.specs.SeenLines.{HasSeenLine, published_or, reaped_from, reaped_in, reaped_words, seen_in}
+use Rattle.trace_lines.specs.SeenLines.{seen_line}
 
 -- the bytes of a completion
 cqe_again : (cqe : List ℕ) → length cqe ≡ 16 → IsBytes cqe → fixed_in 16 (bytes_in (encode_upper cqe)) ≡ Some cqe
-cqe_again cqe long fits = fixed_some 16 (bytes_in (encode_upper cqe)) cqe (bytes_again (encode_upper cqe) cqe fits refl) long
+cqe_again cqe long fits =
+    fixed_some 16 (bytes_in (encode_upper cqe)) cqe (bytes_again (encode_upper cqe) cqe fits refl) long
 
 -- data
 payload_again : (payload : List ℕ) → IsBytes payload → data_in 512 (data_text 512 payload) ≡ Some payload
@@ -31,7 +33,8 @@ payload_again payload fits = data_again 512 (data_text 512 payload) payload (ome
 reaped_back : (r : ReapedLine) → HasSeenLine (Seen.Reaped r) → reaped_in (reaped_words r) ≡ Some (Seen.Reaped r)
 unfolding reaped_in
 reaped_back r is =
-    ap (λ o. reaped_from o (fixed_in 16 (bytes_in (encode_upper r.cqe))) (data_in 512 (data_text 512 r.payload))) (number_16 r.queue is.0)
+    ap (λ o. reaped_from o (fixed_in 16 (bytes_in (encode_upper r.cqe))) (data_in 512 (data_text 512 r.payload)))
+    (number_16 r.queue is.0)
     ∙ ap (λ o. reaped_from (Some r.queue) o (data_in 512 (data_text 512 r.payload))) (cqe_again r.cqe is.1 is.2)
     ∙ ap (reaped_from (Some r.queue) (Some r.cqe)) (payload_again r.payload is.3)
 
@@ -41,20 +44,25 @@ unfolding entry_words_in reap_in
 reaped_no_entry r = refl
 
 -- its line is split into them
-reaped_split : (r : ReapedLine) → HasSeenLine (Seen.Reaped r) → slice_split (λ b. eqb b 32) (join_with_byte 32 (reaped_words r)) ≡ reaped_words r
+reaped_split : (r : ReapedLine) → HasSeenLine (Seen.Reaped r)
+    → slice_split (λ b. eqb b 32) (join_with_byte 32 (reaped_words r)) ≡ reaped_words r
 reaped_split r is =
-    words_again 32 (codes "reap") (decimal r.queue ∷ encode_upper r.cqe ∷ data_text 512 r.payload ∷ []) (refl, (refl, (refl, (refl, tt))))
+    words_again 32 (codes "reap") (decimal r.queue ∷ encode_upper r.cqe ∷ data_text 512 r.payload ∷ [])
+    (refl, (refl, (refl, (refl, tt))))
     (decimal_spaceless r.queue (omega (arith, is.0)), (upper_without 32 r.cqe refl, (data_spaceless 512 r.payload, tt)))
 
 -- the line of what was seen is read as that
 pub seen_again : (s : Seen) → HasSeenLine s → seen_in (seen_line s) ≡ Some s
 unfolding seen_in seen_line entry_in
-seen_again (Seen.Published p) is = ap (λ o. published_or o (reaped_in (slice_split (λ b. eqb b 32) (entry_line (Entry.Publish p))))) (entry_again (Entry.Publish p) is)
+seen_again (Seen.Published p) is =
+    ap (λ o. published_or o (reaped_in (slice_split (λ b. eqb b 32) (entry_line (Entry.Publish p)))))
+    (entry_again (Entry.Publish p) is)
 seen_again (Seen.Reaped r) is =
     ap (λ words. published_or (entry_words_in words) (reaped_in words)) (reaped_split r is)
     ∙ ap (λ o. published_or o (reaped_in (reaped_words r))) (reaped_no_entry r)
     ∙ reaped_back r is
 
 -- at the call
-pub seen_only : (line : List ℕ) (r : Result Seen LineFault) (s : Seen) → Gives r (seen_in line) → HasSeenLine s → line ≡ seen_line s → Gives r (Some s)
+pub seen_only : (line : List ℕ) (r : Result Seen LineFault) (s : Seen) → Gives r (seen_in line) → HasSeenLine s
+    → line ≡ seen_line s → Gives r (Some s)
 seen_only line r s h is same = subst (Gives r) (ap seen_in same ∙ seen_again s is) h

@@ -22,7 +22,8 @@ use Rattle.trace_lines.specs.SeenLines.{published_or, reaped_from, reaped_in, se
 
 -- the parts of a Reap that is read
 reaped_parts : (a : Option ℕ) (b d : Option (List ℕ)) (s : Seen) → reaped_from a b d ≡ Some s
-    → (q : ℕ) × (cqe : List ℕ) × (payload : List ℕ) × (a ≡ Some q) × (b ≡ Some cqe) × (d ≡ Some payload) × (Seen.Reaped (record { queue = q; cqe = cqe; payload = payload }) ≡ s)
+    → (q : ℕ) × (cqe : List ℕ) × (payload : List ℕ) × (a ≡ Some q) × (b ≡ Some cqe) × (d ≡ Some payload)
+    × (Seen.Reaped (record { queue = q; cqe = cqe; payload = payload }) ≡ s)
 reaped_parts None b d s h = absurd cc
 reaped_parts (Some q) None d s h = absurd cc
 reaped_parts (Some q) (Some x) None s h = absurd cc
@@ -37,13 +38,17 @@ reaped_line_is (k ∷ q ∷ []) s h = absurd cc
 reaped_line_is (k ∷ q ∷ x ∷ []) s h = absurd cc
 reaped_line_is (k ∷ q ∷ x ∷ d ∷ []) s h = by (bytes_eq k (codes "reap")) refl h
   where
-    by : (b : Bool) → bytes_eq k (codes "reap") ≡ b → cond b (reaped_from (number_in 16 q) (fixed_in 16 (bytes_in x)) (data_in 512 d)) None ≡ Some s → join_with_byte 32 (k ∷ q ∷ x ∷ d ∷ []) ≡ seen_line s
+    by : (b : Bool) → bytes_eq k (codes "reap") ≡ b
+        → cond b (reaped_from (number_in 16 q) (fixed_in 16 (bytes_in x)) (data_in 512 d)) None ≡ Some s
+        → join_with_byte 32 (k ∷ q ∷ x ∷ d ∷ []) ≡ seen_line s
     by true i h =
         let p = reaped_parts (number_in 16 q) (fixed_in 16 (bytes_in x)) (data_in 512 d) s h in
         ap (λ w. join_with_byte 32 (w ∷ q ∷ x ∷ d ∷ [])) (bytes_eq_true k (codes "reap") i)
         ∙ ap (λ w. join_with_byte 32 (codes "reap" ∷ w ∷ x ∷ d ∷ [])) (number_is 16 p.0 q p.3).0
-        ∙ ap (λ w. join_with_byte 32 (codes "reap" ∷ decimal p.0 ∷ w ∷ d ∷ [])) (bytes_is x p.1 (fixed_is 16 (bytes_in x) p.1 p.4).0)
-        ∙ ap (λ w. join_with_byte 32 (codes "reap" ∷ decimal p.0 ∷ encode_upper p.1 ∷ w ∷ [])) (data_is 512 d p.2 (omega arith) p.5)
+        ∙ ap (λ w. join_with_byte 32 (codes "reap" ∷ decimal p.0 ∷ w ∷ d ∷ []))
+        (bytes_is x p.1 (fixed_is 16 (bytes_in x) p.1 p.4).0)
+        ∙ ap (λ w. join_with_byte 32 (codes "reap" ∷ decimal p.0 ∷ encode_upper p.1 ∷ w ∷ []))
+        (data_is 512 d p.2 (omega arith) p.5)
         ∙ ap seen_line p.6
     by false i h = absurd cc
 reaped_line_is (k ∷ q ∷ x ∷ d ∷ y ∷ words) s h = absurd cc
@@ -56,7 +61,8 @@ seen_is line s h = by (entry_in line) refl h
     other : reaped_in (slice_split (λ b. eqb b 32) line) ≡ Some s → line ≡ seen_line s
     other e = sym (join_with_byte-slice_split 32 line) ∙ reaped_line_is (slice_split (λ b. eqb b 32) line) s e
 
-    by : (o : Option Entry) → entry_in line ≡ o → published_or o (reaped_in (slice_split (λ b. eqb b 32) line)) ≡ Some s → line ≡ seen_line s
+    by : (o : Option Entry) → entry_in line ≡ o → published_or o (reaped_in (slice_split (λ b. eqb b 32) line)) ≡ Some s
+        → line ≡ seen_line s
     by None e h = other h
     by (Some (Entry.Publish p)) e h =
         let same : Seen.Published p ≡ s = cc in

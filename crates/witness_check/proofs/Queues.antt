@@ -1,5 +1,6 @@
 -- The completion queue of a Post is told by its bytes.
-use Rattle.std.proofs.Common.{◌≡◌, ℕ, zero, suc, ◌+◌, ◌*◌, ◌%◌, ◌/◌, ◌≤◌, ◌<◌, Bool, true, false, cond, List, [], ◌∷◌, length, get_or, None, is_none, ap, ◌∙◌, arith, eqb, ltb-false, nat_lt}
+use Rattle.std.proofs.Common.{◌≡◌, ℕ, zero, suc, ◌+◌, ◌*◌, ◌%◌, ◌/◌, ◌≤◌, ◌<◌, Bool, true, false, cond, List, [], ◌∷◌}
+use Rattle.std.proofs.Common.{length, get_or, None, is_none, ap, ◌∙◌, arith, eqb, ltb-false, nat_lt}
 use Rattle.std.proofs.lemmas.Bool.{or_parts}
 use Rattle.nvme_model.specs.Completions.{phase, posted_completions}
 use Rattle.nvme_model.specs.Config.{completion_queue, config_fault, config_faults}
@@ -39,7 +40,8 @@ ticket_queue c (Entry.Reap e ∷ past) t h = ticket_queue c past t (follows c pa
 
 -- there are few
 few_pairs : (c : ConfigNumbers) → config_fault c ≡ None → c.pairs ≤ 16
-few_pairs c e = ltb-false _ _ (or_parts (nat_lt c.pairs 1) (nat_lt 16 c.pairs) (none_holds (config_faults c) (ap is_none e)).1.1.1.1.1.0).1
+few_pairs c e = ltb-false _ _
+    (or_parts (nat_lt c.pairs 1) (nat_lt 16 c.pairs) (none_holds (config_faults c) (ap is_none e)).1.1.1.1.1.0).1
 
 -- ---- a Post
 
@@ -49,7 +51,8 @@ sqid_back h q cid p s l =
     e
 
 -- its bytes name its ticket's submission queue
-pub post_names_queue : (c : ConfigNumbers) (past : Past) (p : PostLine) → config_fault c ≡ None → IsLegal c (Entry.Post p ∷ past)
+pub post_names_queue : (c : ConfigNumbers) (past : Past) (p : PostLine) → config_fault c ≡ None
+    → IsLegal c (Entry.Post p ∷ past)
     → (cqe_fields p.cqe).sqid ≡ (Tickets.ticket past p.ticket).queue
 post_names_queue c past p a h =
     let k = Tickets.ticket past p.ticket in
@@ -66,7 +69,8 @@ pub record IsThere (c : ConfigNumbers) (q : ℕ) : Type 0 where
   pub high : q ≤ c.cqs
 
 -- its completion queue is there
-pub reap_has_queue : (c : ConfigNumbers) (past : Past) (r : ReapLine) → IsLegal c (Entry.Reap r ∷ past) → IsThere c r.queue
+pub reap_has_queue : (c : ConfigNumbers) (past : Past) (r : ReapLine) → IsLegal c (Entry.Reap r ∷ past)
+    → IsThere c r.queue
 reap_has_queue c past r h =
     let p = or_parts (eqb r.queue 0) (nat_lt c.cqs r.queue) (follows c past (Entry.Reap r) h).allowed.0 in
     record { low = some r.queue p.0; high = ltb-false _ _ p.1 }

@@ -1,5 +1,7 @@
 -- What is kept after one more entry, and what is said of it.
-use Rattle.std.proofs.Common.{◌≡◌, ℕ, suc, ◌+◌, ◌-◌, ◌%◌, ◌==◌, ◌<◌, Bool, true, false, cond, List, [], ◌∷◌, ◌++◌, drop, get_or, length, set, slice_get, Option, Some, None, refl, sym, ap, ◌∙◌, subst, arith, eq-eqb, ne_eqb, inl, inr}
+use Rattle.std.proofs.Common.{◌≡◌, ℕ, suc, ◌+◌, ◌-◌, ◌%◌, ◌==◌, ◌<◌, Bool, true, false, cond, List, [], ◌∷◌, ◌++◌, drop}
+use Rattle.std.proofs.Common.{get_or, length, set, slice_get, Option, Some, None, refl, sym, ap, ◌∙◌, subst, arith}
+use Rattle.std.proofs.Common.{eq-eqb, ne_eqb, inl, inr}
 use Rattle.std.proofs.lemmas.Bool.{cases_eq}
 use Rattle.std.proofs.lemmas.List.{append-nil, get_or-set_other, get_or-set_same, length-set}
 use Rattle.nvme_model.specs.Config.{completion_queue, config_fault}
@@ -12,7 +14,7 @@ use Rattle.nvme_model.specs.declared.entry.Entry.{Entry}
 use Rattle.nvme_model.specs.declared.entry.PostLine.{PostLine}
 use Rattle.nvme_model.specs.declared.entry.ReapLine.{ReapLine}
 use Rattle.nvme_model.proofs.Rules.{follows}
-use Rattle.one_pass_check.specs.Kept.{Stands, State}
+use Rattle.history_check.specs.Kept.{Stands, State}
 use Rattle.rings.specs.Tables.{IsTable}
 use Rattle.seen_trace.specs.Observed.{next_payload, shown}
 use Rattle.seen_trace.specs.declared.seen.Seen.{Seen}
@@ -29,9 +31,11 @@ IsWaiting c past ws = IsTable (λ k. waiting_payloads c past (suc k)) c.cqs ws
 
 -- what a checker says of an entry that it takes
 abbrev pub Took : State → Entry → Bool → State → Type 0
-Took old e b new = (past : Past) → Stands old.config past old → (b ≡ legal old.config (e ∷ past)) × Stands old.config (e ∷ past) new
+Took old e b new = (past : Past) → Stands old.config past old
+    → (b ≡ legal old.config (e ∷ past)) × Stands old.config (e ∷ past) new
 
-module _ (c : ConfigNumbers) (past : Past) (e : Entry) (old new : State) (b : Bool) (stands : Stands c past old) (took : Took old e b new) where
+module _ (c : ConfigNumbers) (past : Past) (e : Entry) (old new : State) (b : Bool) (stands : Stands c past old)
+    (took : Took old e b new) where
   -- of the history that it stands for
   answered : (b ≡ legal c (e ∷ past)) × Stands c (e ∷ past) new
   answered =
@@ -39,7 +43,8 @@ module _ (c : ConfigNumbers) (past : Past) (e : Entry) (old new : State) (b : Bo
       (took past (subst (λ (d : ConfigNumbers). Stands d past old) (sym stands.same) stands))
 
   -- a bad one
-  pub told_bad : (ws : List (List (List ℕ))) (next : Option Seen) → b ≡ false → Tells c past e next Bad × Follows c (e ∷ past) (record { checker = new; waiting = ws })
+  pub told_bad : (ws : List (List (List ℕ))) (next : Option Seen) → b ≡ false
+      → Tells c past e next Bad × Follows c (e ∷ past) (record { checker = new; waiting = ws })
   told_bad ws next bad = (
     sym answered.0 ∙ bad,
     record { stands = answered.1; waits = λ l. absurd (let f : false ≡ true = sym bad ∙ answered.0 ∙ l in cc) },
@@ -57,7 +62,8 @@ module _ (c : ConfigNumbers) (past : Past) (e : Entry) (old new : State) (b : Bo
       )
 
 -- what is said of a legal entry goes by what is seen of it
-pub tells_by : (c : ConfigNumbers) (past : Past) (e : Entry) (next : Option Seen) (t : Told) → IsLegal c (e ∷ past) → Compares (shown c past e) next t → Tells c past e next t
+pub tells_by : (c : ConfigNumbers) (past : Past) (e : Entry) (next : Option Seen) (t : Told) → IsLegal c (e ∷ past)
+    → Compares (shown c past e) next t → Tells c past e next t
 tells_by c past e next Bad l h = absurd h
 tells_by c past e next Hidden l h = (l, h)
 tells_by c past e next Same l h = (l, h)
@@ -66,16 +72,21 @@ tells_by c past e next Unlike l h = (l, h)
 -- ---- an entry of a ticket alone
 
 -- what waits stays
-pub told_hidden : (c : ConfigNumbers) (past : Past) (e : Entry) (old : Followed) (new : State) (next : Option Seen) (b : Bool) → is_inner e ≡ true → Follows c past old
-    → b ≡ true → Took old.checker e b new → Tells c past e next Hidden × Follows c (e ∷ past) (record { checker = new; waiting = old.waiting })
+pub told_hidden : (c : ConfigNumbers) (past : Past) (e : Entry) (old : Followed) (new : State) (next : Option Seen)
+    (b : Bool) → is_inner e ≡ true → Follows c past old
+    → b ≡ true → Took old.checker e b new
+    → Tells c past e next Hidden × Follows c (e ∷ past) (record { checker = new; waiting = old.waiting })
 told_hidden c past (Entry.Fetch p) old new next b inner f good took =
-    let r = goes_on c past (Entry.Fetch p) old.checker new b f.stands took old.waiting old.waiting good f.waits (λ _ _ w. w) in
+    let r = goes_on c past (Entry.Fetch p) old.checker new b f.stands took old.waiting old.waiting good f.waits
+    (λ _ _ w. w) in
     ((r.0, refl), r.1)
 told_hidden c past (Entry.Grant p) old new next b inner f good took =
-    let r = goes_on c past (Entry.Grant p) old.checker new b f.stands took old.waiting old.waiting good f.waits (λ _ _ w. w) in
+    let r = goes_on c past (Entry.Grant p) old.checker new b f.stands took old.waiting old.waiting good f.waits
+    (λ _ _ w. w) in
     ((r.0, refl), r.1)
 told_hidden c past (Entry.Block p) old new next b inner f good took =
-    let r = goes_on c past (Entry.Block p) old.checker new b f.stands took old.waiting old.waiting good f.waits (λ _ _ w. w) in
+    let r = goes_on c past (Entry.Block p) old.checker new b f.stands took old.waiting old.waiting good f.waits
+    (λ _ _ w. w) in
     ((r.0, refl), r.1)
 told_hidden c past (Entry.Publish p) old new next b inner f good took = absurd (let w : false ≡ true = inner in cc)
 told_hidden c past (Entry.Post p) old new next b inner f good took = absurd (let w : false ≡ true = inner in cc)
@@ -84,8 +95,10 @@ told_hidden c past (Entry.Reap p) old new next b inner f good took = absurd (let
 -- ---- a Post
 
 -- its data waits behind the others of its queue
-more_waits : (c : ConfigNumbers) (past : Past) (p : PostLine) (i : ℕ) (ws us : List (List (List ℕ))) → (0 < length ws → i ≡ ((cqe_fields p.cqe).sqid - 1) % length ws)
-    → us ≡ set ws i (get_or ws i [] ++ p.payload ∷ []) → config_fault c ≡ None → IsLegal c (Entry.Post p ∷ past) → IsWaiting c past ws → IsWaiting c (Entry.Post p ∷ past) us
+more_waits : (c : ConfigNumbers) (past : Past) (p : PostLine) (i : ℕ) (ws us : List (List (List ℕ)))
+    → (0 < length ws → i ≡ ((cqe_fields p.cqe).sqid - 1) % length ws)
+    → us ≡ set ws i (get_or ws i [] ++ p.payload ∷ []) → config_fault c ≡ None → IsLegal c (Entry.Post p ∷ past)
+    → IsWaiting c past ws → IsWaiting c (Entry.Post p ∷ past) us
 more_waits c past p i ws us place is accepted l t =
     record {
       size = ap length is ∙ length-set ws i (get_or ws i [] ++ p.payload ∷ []) ∙ t.size;
@@ -98,13 +111,16 @@ more_waits c past p i ws us place is accepted l t =
     own : (k : ℕ) → k < c.cqs → completion_queue c q ≡ suc i
     own k below =
         let there : i ≡ ((cqe_fields p.cqe).sqid - 1) % length ws = place (omega (arith, t.size, below)) in
-        let same : i ≡ (q - 1) % c.cqs = there ∙ ap (λ n. (n - 1) % length ws) (post_names_queue c past p accepted l) ∙ ap (λ n. (q - 1) % n) t.size in
+        let same : i ≡ (q - 1) % c.cqs = there ∙ ap (λ n. (n - 1) % length ws) (post_names_queue c past p accepted l)
+        ∙ ap (λ n. (q - 1) % n) t.size in
         omega (arith, same)
 
-    waits : (k : ℕ) → waiting_payloads c (Entry.Post p ∷ past) (suc k) ≡ waiting_payloads c past (suc k) ++ cond (completion_queue c q == suc k) (p.payload ∷ []) []
+    waits : (k : ℕ) → waiting_payloads c (Entry.Post p ∷ past) (suc k) ≡ waiting_payloads c past (suc k)
+        ++ cond (completion_queue c q == suc k) (p.payload ∷ []) []
     waits k = waits_posted c past p (suc k) (follows c past (Entry.Post p) l).before
 
-    at : (k : ℕ) (d : List (List ℕ)) → k < c.cqs → get_or (set ws i (get_or ws i [] ++ p.payload ∷ [])) k d ≡ waiting_payloads c (Entry.Post p ∷ past) (suc k)
+    at : (k : ℕ) (d : List (List ℕ)) → k < c.cqs
+        → get_or (set ws i (get_or ws i [] ++ p.payload ∷ [])) k d ≡ waiting_payloads c (Entry.Post p ∷ past) (suc k)
     at k d below = elim (cases_eq k i) [
       | inl same ↦
           let here : k < length ws = omega (arith, t.size, below) in
@@ -117,24 +133,34 @@ more_waits c past p i ws us place is accepted l t =
           let no : (completion_queue c q == suc k) ≡ false = ne_eqb _ _ (λ z. apart (omega (arith, z, own k below))) in
           get_or-set_other ws i k (get_or ws i [] ++ p.payload ∷ []) d apart
           ∙ t.at k d below
-          ∙ sym (waits k ∙ ap (λ b. waiting_payloads c past (suc k) ++ cond b (p.payload ∷ []) []) no ∙ append-nil (waiting_payloads c past (suc k)))
+          ∙ sym (waits k ∙ ap (λ b. waiting_payloads c past (suc k) ++ cond b (p.payload ∷ []) []) no
+          ∙ append-nil (waiting_payloads c past (suc k)))
     ]
 
-pub told_posted : (c : ConfigNumbers) (past : Past) (p : PostLine) (e : Entry) (old : Followed) (new : State) (i : ℕ) (us : List (List (List ℕ))) (next : Option Seen) (b : Bool) → e ≡ Entry.Post p → Follows c past old
-    → b ≡ true → Took old.checker e b new → (0 < length old.waiting → i ≡ ((cqe_fields p.cqe).sqid - 1) % length old.waiting) → us ≡ set old.waiting i (get_or old.waiting i [] ++ p.payload ∷ [])
+pub told_posted : (c : ConfigNumbers) (past : Past) (p : PostLine) (e : Entry) (old : Followed) (new : State) (i : ℕ)
+    (us : List (List (List ℕ))) (next : Option Seen) (b : Bool) → e ≡ Entry.Post p → Follows c past old
+    → b ≡ true → Took old.checker e b new
+    → (0 < length old.waiting → i ≡ ((cqe_fields p.cqe).sqid - 1) % length old.waiting)
+    → us ≡ set old.waiting i (get_or old.waiting i [] ++ p.payload ∷ [])
     → Tells c past e next Hidden × Follows c (e ∷ past) (record { checker = new; waiting = us })
 told_posted c past p e old new i us next b kind f good took place is =
-    subst (λ (x : Entry). Took old.checker x b new → Tells c past x next Hidden × Follows c (x ∷ past) (record { checker = new; waiting = us })) (sym kind) there took
+    subst (λ (x : Entry). Took old.checker x b new
+    → Tells c past x next Hidden × Follows c (x ∷ past) (record { checker = new; waiting = us })) (sym kind) there
+    took
   where
-    there : Took old.checker (Entry.Post p) b new → Tells c past (Entry.Post p) next Hidden × Follows c (Entry.Post p ∷ past) (record { checker = new; waiting = us })
+    there : Took old.checker (Entry.Post p) b new
+        → Tells c past (Entry.Post p) next Hidden
+        × Follows c (Entry.Post p ∷ past) (record { checker = new; waiting = us })
     there t =
-        let r = goes_on c past (Entry.Post p) old.checker new b f.stands t old.waiting us good f.waits (more_waits c past p i old.waiting us place is) in
+        let r = goes_on c past (Entry.Post p) old.checker new b f.stands t old.waiting us good f.waits
+        (more_waits c past p i old.waiting us place is) in
         ((r.0, refl), r.1)
 
 -- ---- a Reap
 
 -- its data is gone
-fewer_wait : (c : ConfigNumbers) (past : Past) (r : ReapLine) (i : ℕ) (ws us : List (List (List ℕ))) → i + 1 ≡ r.queue → i < c.cqs
+fewer_wait : (c : ConfigNumbers) (past : Past) (r : ReapLine) (i : ℕ) (ws us : List (List (List ℕ))) → i + 1 ≡ r.queue
+    → i < c.cqs
     → us ≡ set ws i (drop 1 (get_or ws i [])) → IsWaiting c past ws → IsWaiting c (Entry.Reap r ∷ past) us
 fewer_wait c past r i ws us next within is t =
     record {
@@ -142,7 +168,8 @@ fewer_wait c past r i ws us next within is t =
       at = λ k d below. ap (λ (xs : List (List (List ℕ))). get_or xs k d) is ∙ at k d below;
     }
   where
-    at : (k : ℕ) (d : List (List ℕ)) → k < c.cqs → get_or (set ws i (drop 1 (get_or ws i []))) k d ≡ waiting_payloads c (Entry.Reap r ∷ past) (suc k)
+    at : (k : ℕ) (d : List (List ℕ)) → k < c.cqs
+        → get_or (set ws i (drop 1 (get_or ws i []))) k d ≡ waiting_payloads c (Entry.Reap r ∷ past) (suc k)
     at k d below = elim (cases_eq k i) [
       | inl same ↦
           let here : k < length ws = omega (arith, t.size, below) in
@@ -162,14 +189,18 @@ fewer_wait c past r i ws us next within is t =
 abbrev pub reap_with : ReapLine → List ℕ → Seen
 reap_with r xs = Seen.Reaped (record { queue = r.queue; cqe = r.cqe; payload = xs })
 
-pub told_reaped : (c : ConfigNumbers) (past : Past) (r : ReapLine) (e : Entry) (old : Followed) (new : State) (i : ℕ) (us : List (List (List ℕ))) (d : Option (List ℕ)) (next : Option Seen) (t : Told) (b : Bool)
-    → e ≡ Entry.Reap r → Follows c past old → b ≡ true → Took old.checker e b new → i ≡ r.queue - 1 → d ≡ slice_get (get_or old.waiting i []) 0 → us ≡ set old.waiting i (drop 1 (get_or old.waiting i []))
+pub told_reaped : (c : ConfigNumbers) (past : Past) (r : ReapLine) (e : Entry) (old : Followed) (new : State) (i : ℕ)
+    (us : List (List (List ℕ))) (d : Option (List ℕ)) (next : Option Seen) (t : Told) (b : Bool)
+    → e ≡ Entry.Reap r → Follows c past old → b ≡ true → Took old.checker e b new → i ≡ r.queue - 1
+    → d ≡ slice_get (get_or old.waiting i []) 0 → us ≡ set old.waiting i (drop 1 (get_or old.waiting i []))
     → Compares (Some (reap_with r (data_or_none d))) next t
     → Tells c past e next t × Follows c (e ∷ past) (record { checker = new; waiting = us })
 told_reaped c past r e old new i us d next t b kind f good took place first is said =
-    subst (λ (x : Entry). Took old.checker x b new → Tells c past x next t × Follows c (x ∷ past) (record { checker = new; waiting = us })) (sym kind) there took
+    subst (λ (x : Entry). Took old.checker x b new
+    → Tells c past x next t × Follows c (x ∷ past) (record { checker = new; waiting = us })) (sym kind) there took
   where
-    there : Took old.checker (Entry.Reap r) b new → Tells c past (Entry.Reap r) next t × Follows c (Entry.Reap r ∷ past) (record { checker = new; waiting = us })
+    there : Took old.checker (Entry.Reap r) b new
+        → Tells c past (Entry.Reap r) next t × Follows c (Entry.Reap r ∷ past) (record { checker = new; waiting = us })
     there took =
         let a = answered c past (Entry.Reap r) old.checker new b f.stands took in
         let l : legal c (Entry.Reap r ∷ past) ≡ true = sym a.0 ∙ good in
@@ -178,6 +209,12 @@ told_reaped c past r e old new i us d next t b kind f good took place first is s
         let within : i < c.cqs = omega (arith, at, h.high) in
         let table : IsWaiting c past old.waiting = f.waits (follows c past (Entry.Reap r) l).before in
         let found : data_or_none d ≡ next_payload c past r.queue =
-        ap data_or_none first ∙ ap (λ (xs : List (List ℕ)). data_or_none (slice_get xs 0)) (table.at i [] within ∙ ap (waiting_payloads c past) (omega (arith, at))) ∙ sym (reaped_is_first c past r.queue) in
-        let rest = goes_on c past (Entry.Reap r) old.checker new b f.stands took old.waiting us good f.waits (λ _ _ w. fewer_wait c past r i old.waiting us at within is w) in
-        (tells_by c past (Entry.Reap r) next t l (subst (λ (xs : List ℕ). Compares (Some (reap_with r xs)) next t) found said), rest.1)
+        ap data_or_none first ∙ ap (λ (xs : List (List ℕ)). data_or_none (slice_get xs 0))
+        (table.at i [] within ∙ ap (waiting_payloads c past) (omega (arith, at)))
+        ∙ sym (reaped_is_first c past r.queue) in
+        let rest = goes_on c past (Entry.Reap r) old.checker new b f.stands took old.waiting us good f.waits
+        (λ _ _ w. fewer_wait c past r i old.waiting us at within is w) in (
+          tells_by c past (Entry.Reap r) next t l
+              (subst (λ (xs : List ℕ). Compares (Some (reap_with r xs)) next t) found said),
+          rest.1,
+        )

@@ -1,5 +1,6 @@
 -- What waits in a completion queue, entry by entry.
-use Rattle.std.proofs.Common.{◌≡◌, ℕ, zero, suc, ◌==◌, Bool, true, false, cond, List, [], ◌∷◌, ◌++◌, drop, slice_get, refl, sym, ap, ◌∙◌}
+use Rattle.std.proofs.Common.{◌≡◌, ℕ, zero, suc, ◌==◌, Bool, true, false, cond, List, [], ◌∷◌, ◌++◌, drop, slice_get}
+use Rattle.std.proofs.Common.{refl, sym, ap, ◌∙◌}
 use Rattle.std.proofs.lemmas.List.{drop-append-le, drop-drop, drop-map, map-append}
 use Rattle.nvme_model.specs.Completions.{posted_completions, reaped_count}
 use Rattle.nvme_model.specs.Config.{completion_queue}
@@ -18,11 +19,15 @@ use Rattle.witness_check.specs.Waiting.{data_or_none, payloads_of, waiting_paylo
 
 -- its data stands last in its own queue
 pub waits_posted : (c : ConfigNumbers) (past : Past) (p : PostLine) (q : ℕ) → IsLegal c past
-    → waiting_payloads c (Entry.Post p ∷ past) q ≡ waiting_payloads c past q ++ cond (completion_queue c (Tickets.ticket past p.ticket).queue == q) (p.payload ∷ []) []
+    → waiting_payloads c (Entry.Post p ∷ past) q ≡ waiting_payloads c past q
+    ++ cond (completion_queue c (Tickets.ticket past p.ticket).queue == q) (p.payload ∷ []) []
 waits_posted c past p q h =
-    ap payloads_of (drop-append-le (reaped_count past q) (posted_completions c past q) (cond (completion_queue c (Tickets.ticket past p.ticket).queue == q) (p ∷ []) []) (reaped_posted c past q h))
-    ∙ map-append (λ (x : PostLine). x.payload) (drop (reaped_count past q) (posted_completions c past q)) (cond (completion_queue c (Tickets.ticket past p.ticket).queue == q) (p ∷ []) [])
-    ∙ ap (λ (xs : List (List ℕ)). waiting_payloads c past q ++ xs) (one (completion_queue c (Tickets.ticket past p.ticket).queue == q))
+    ap payloads_of (drop-append-le (reaped_count past q) (posted_completions c past q)
+    (cond (completion_queue c (Tickets.ticket past p.ticket).queue == q) (p ∷ []) []) (reaped_posted c past q h))
+    ∙ map-append (λ (x : PostLine). x.payload) (drop (reaped_count past q) (posted_completions c past q))
+    (cond (completion_queue c (Tickets.ticket past p.ticket).queue == q) (p ∷ []) [])
+    ∙ ap (λ (xs : List (List ℕ)). waiting_payloads c past q ++ xs)
+    (one (completion_queue c (Tickets.ticket past p.ticket).queue == q))
   where
     one : (b : Bool) → payloads_of (cond b (p ∷ []) []) ≡ cond b (p.payload ∷ []) []
     one true = refl
@@ -35,14 +40,17 @@ pub waits_reaped : (c : ConfigNumbers) (past : Past) (r : ReapLine) (q : ℕ)
     → waiting_payloads c (Entry.Reap r ∷ past) q ≡ drop (cond (r.queue == q) 1 0) (waiting_payloads c past q)
 waits_reaped c past r q =
     ap payloads_of (sym (drop-drop (cond (r.queue == q) 1 0) (reaped_count past q) (posted_completions c past q)))
-    ∙ sym (drop-map (λ (x : PostLine). x.payload) (cond (r.queue == q) 1 0) (drop (reaped_count past q) (posted_completions c past q)))
+    ∙ sym (drop-map (λ (x : PostLine). x.payload) (cond (r.queue == q) 1 0)
+    (drop (reaped_count past q) (posted_completions c past q)))
 
-first_of : (n : ℕ) (xs : List PostLine) → payload_by (slice_get xs n) ≡ data_or_none (slice_get (payloads_of (drop n xs)) 0)
+first_of : (n : ℕ) (xs : List PostLine)
+    → payload_by (slice_get xs n) ≡ data_or_none (slice_get (payloads_of (drop n xs)) 0)
 first_of zero [] = refl
 first_of zero (x ∷ xs) = refl
 first_of (suc n) [] = refl
 first_of (suc n) (x ∷ xs) = first_of n xs
 
 -- it is that of the completion with the number of the Reap
-pub reaped_is_first : (c : ConfigNumbers) (past : Past) (q : ℕ) → next_payload c past q ≡ data_or_none (slice_get (waiting_payloads c past q) 0)
+pub reaped_is_first : (c : ConfigNumbers) (past : Past) (q : ℕ)
+    → next_payload c past q ≡ data_or_none (slice_get (waiting_payloads c past q) 0)
 reaped_is_first c past q = first_of (reaped_count past q) (posted_completions c past q)

@@ -4,8 +4,8 @@ use Rattle.nvme_model.specs.History.{Past}
 use Rattle.nvme_model.specs.Legal.{IsLegal, legal}
 use Rattle.nvme_model.specs.declared.config.ConfigNumbers.{ConfigNumbers}
 use Rattle.nvme_model.specs.declared.entry.Entry.{Entry}
-use Rattle.one_pass_check.specs.Kept.{Stands}
-use Rattle.one_pass_check.specs.Kept as kept
+use Rattle.history_check.specs.Kept.{Stands}
+use Rattle.history_check.specs.Kept as kept
 use Rattle.rings.specs.Tables.{IsTable}
 use Rattle.seen_trace.specs.Observed.{shown}
 use Rattle.seen_trace.specs.declared.seen.Seen.{Seen}

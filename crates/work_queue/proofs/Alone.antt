@@ -1,5 +1,6 @@
 -- What a queue with one pass answers.
-use Rattle.std.proofs.Common.{Err, List, MatchOption, MatchResult, None, Ok, Option, Result, Some, [], ap, arith, length, length-append, ◌++◌, ◌<◌, ◌∙◌, ◌≡◌, ◌∷◌}
+use Rattle.std.proofs.Common.{Err, List, MatchOption, MatchResult, None, Ok, Option, Result, Some, [], ap, arith}
+use Rattle.std.proofs.Common.{length, length-append, ◌++◌, ◌<◌, ◌∙◌, ◌≡◌, ◌∷◌}
 use Rattle.std.proofs.lemmas.List.{append-nil, length-map}
 use Rattle.atomic_table.specs.Seated.{TableId}
 use Rattle.crossbeam_queue.specs.Fifo.{Held}
@@ -17,8 +18,10 @@ no_items xs ys [] none is = is ∙ append-nil ys
 no_items xs ys (x ∷ items) none is = absurd (omega arith)
 
 module _ {T : Type 0} (lock : T → TableId) (ready : T → Type 0) where
-  pub pops_own : (v w : QueueView T) → 0 < v.number → v.passes ≡ 1 → (r : Option T) → MatchOption r ((w ≡ v) × Held 0 (IsMoment lock ready v)) (λ x. Pops lock ready v x w) → PopsOwn v w r
-  pops_own v w named one None told = let m = told.1 in no_items v.put (messages v.got) m.0 m.1 (one_moment lock ready m.0 v named one m.2)
+  pub pops_own : (v w : QueueView T) → 0 < v.number → v.passes ≡ 1 → (r : Option T)
+      → MatchOption r ((w ≡ v) × Held 0 (IsMoment lock ready v)) (λ x. Pops lock ready v x w) → PopsOwn v w r
+  pops_own v w named one None told = let m = told.1 in
+      no_items v.put (messages v.got) m.0 m.1 (one_moment lock ready m.0 v named one m.2)
   pops_own v w named one (Some x) told =
       let by = told.alone one in (
         told.front.0,
@@ -26,7 +29,9 @@ module _ {T : Type 0} (lock : T → TableId) (ready : T → Type 0) where
         ap (λ (u : QueueView T). u.got) told.after ∙ (λ i. v.got ++ entry (by.0 i) (by.1 i) x ∷ []),
       )
 
-  pub pushes_alone : (s : MessageQueue T) (p : QueuePass T) (w : QueueView T) (m : T) → passes_of p ≡ 1 → (r : Result Unit T) → MatchResult r (λ _. w ≡ after_push (known p) m) (λ x. (x ≡ m) × (w ≡ known p) × Held (capacity_of s) (IsMoment lock ready (known p))) → PushesAlone s p r
+  pub pushes_alone : (s : MessageQueue T) (p : QueuePass T) (w : QueueView T) (m : T) → passes_of p ≡ 1
+      → (r : Result Unit T) → MatchResult r (λ _. w ≡ after_push (known p) m)
+      (λ x. (x ≡ m) × (w ≡ known p) × Held (capacity_of s) (IsMoment lock ready (known p))) → PushesAlone s p r
   pushes_alone s p w m one (Ok u) told = tt
   pushes_alone s p w m one (Err x) told =
       let h = told.2 in

@@ -1,5 +1,6 @@
 -- The Work of a ticket that was just fetched.
-use Rattle.std.proofs.Common.{Bool, List, None, Option, Some, [], ap, arith, cond, eq-eqb, eqb, false, length, refl, subst, sym, true, ℕ, ◌+◌, ◌∙◌, ◌≡◌, ◌||◌, ◌∷◌, slice_get}
+use Rattle.std.proofs.Common.{Bool, List, None, Option, Some, [], ap, arith, cond, eq-eqb, eqb, false, length, refl}
+use Rattle.std.proofs.Common.{subst, sym, true, ℕ, ◌+◌, ◌∙◌, ◌≡◌, ◌||◌, ◌∷◌, slice_get}
 use Rattle.std.specs.List.{list_any}
 use Rattle.std.proofs.lemmas.Bool.{cond-true}
 use Rattle.nvme_model.specs.Commands.{is_compare, is_read, is_write, is_write_zeroes}
@@ -23,16 +24,18 @@ use Rattle.nvme_model.specs.declared.submission.Submission.{Submission}
 use Rattle.controller_steps.specs.State.{answer_of, kind_by, work_of}
 use Rattle.controller_steps.specs.Works.{TicketWork}
 use Rattle.controller_steps.specs.declared.answer.Answer.{Answer}
-use Rattle.ticket_entries.specs.Entries.{ticket_in}
-use Rattle.ticket_entries.specs.Tasks.{first_stage, own_stage}
+use Rattle.ticket_laws.specs.Entries.{ticket_in}
+use Rattle.ticket_laws.specs.Tasks.{first_stage, own_stage}
 use Rattle.work_queue.proofs.Staging.{fetched_stage}
-use Rattle.ticket_entries.proofs.Later.{fetched_commands}
+use Rattle.ticket_laws.proofs.Later.{fetched_commands}
 use Rattle.controller_steps.specs.State.{Accepts}
 use Rattle.work_queue.specs.Duties.{IsWorkAt, duty_of, is_fetch_of}
 
 -- ---- what a ticket has to do is what its Work says
 
-no_pair : (a b d e : Bool) → is_pair (cond a (Some Op.Write) (cond b (Some Op.Read) (cond d (Some Op.Compare) (cond e (Some Op.WriteZeroes) None)))) ≡ false
+no_pair : (a b d e : Bool)
+    → is_pair (cond a (Some Op.Write)
+    (cond b (Some Op.Read) (cond d (Some Op.Compare) (cond e (Some Op.WriteZeroes) None)))) ≡ false
 no_pair true b d e = refl
 no_pair false true d e = refl
 no_pair false false true e = refl
@@ -40,7 +43,11 @@ no_pair false false false true = refl
 no_pair false false false false = refl
 
 by_op : (c : ConfigNumbers) (t : ℕ) (k : Ticket) (o : Option Op) → is_pair o ≡ false
-    → duty_of (record { ticket = t; atomic = c.atomic; kind = kind_by k o }) ≡ record { statuses = 1; op = o; units = units_by c.atomic o (slba (first_fields k)) (blocks (first_fields k)) }
+    → duty_of (record { ticket = t; atomic = c.atomic; kind = kind_by k o }) ≡ record {
+      statuses = 1;
+      op = o;
+      units = units_by c.atomic o (slba (first_fields k)) (blocks (first_fields k));
+    }
 by_op c t k None e = refl
 by_op c t k (Some Op.Read) e = refl
 by_op c t k (Some Op.Compare) e = refl
@@ -50,7 +57,11 @@ by_op c t k (Some Op.Pair) e = absurd (let f : true ≡ false = e in cc)
 
 by_verdict : (c : ConfigNumbers) (t q : ℕ) (ks : List Submission) (v : Verdict)
     → duty_of (work_of c t (record { queue = q; commands = ks; verdict = v }))
-    ≡ record { statuses = taken v; op = op (record { queue = q; commands = ks; verdict = v }); units = units c (record { queue = q; commands = ks; verdict = v }) }
+    ≡ record {
+      statuses = taken v;
+      op = op (record { queue = q; commands = ks; verdict = v });
+      units = units c (record { queue = q; commands = ks; verdict = v });
+    }
 by_verdict c t q ks Verdict.Single =
     let k : Ticket = record { queue = q; commands = ks; verdict = Verdict.Single } in
     let f = first_fields k in
@@ -65,15 +76,19 @@ line c past q = record { queue = q; ticket = tickets past + 1; verdict = next_ve
 
 -- ---- and the Work is that of the ticket
 
-pub fresh_work : (c : ConfigNumbers) (past : Past) (q : ℕ) → IsLegal c past → IsLegal c (Entry.Fetch (line c past q) ∷ past) → Rattle.nvme_model.specs.Refusals.refusal c past (Step.Fetch q) ≡ None
-    → IsWorkAt c (Entry.Fetch (line c past q) ∷ past) (work_of c (tickets past + 1) (fetched_ticket past q (next_verdict c past q))) q
+pub fresh_work : (c : ConfigNumbers) (past : Past) (q : ℕ) → IsLegal c past
+    → IsLegal c (Entry.Fetch (line c past q) ∷ past)
+    → Rattle.nvme_model.specs.Refusals.refusal c past (Step.Fetch q) ≡ None
+    → IsWorkAt c (Entry.Fetch (line c past q) ∷ past)
+    (work_of c (tickets past + 1) (fetched_ticket past q (next_verdict c past q))) q
 fresh_work c past q h now none =
     let f : FetchLine = line c past q in
     let t : ℕ = tickets past + 1 in
     let k : Ticket = fetched_ticket past q f.verdict in
     let here : Tickets.ticket (Entry.Fetch f ∷ past) t ≡ k = cond-true (eqb t t) _ _ (eq-eqb t t refl) in
     let all : length k.commands ≡ taken f.verdict = fetched_commands c past q h none in
-    let is : duty_of (work_of c t k) ≡ record { statuses = length k.commands; op = op k; units = units c k } = by_verdict c t q k.commands f.verdict ∙ (λ i. record { statuses = sym all i; op = op k; units = units c k }) in
+    let is : duty_of (work_of c t k) ≡ record { statuses = length k.commands; op = op k; units = units c k } =
+    by_verdict c t q k.commands f.verdict ∙ (λ i. record { statuses = sym all i; op = op k; units = units c k }) in
     record {
       some = omega arith;
       known = omega arith;
@@ -84,24 +99,30 @@ fresh_work c past q h now none =
     }
 
 -- a Fetch is answered with it
-pub fetched_work : (c : ConfigNumbers) (past : Past) (q : ℕ) (e : Entry) (a : Answer) (w : TicketWork) → IsLegal c past → IsLegal c (e ∷ past) → Accepts c past (Step.Fetch q) e a → a ≡ Answer.Fetched w
-    → (ticket_in e ≡ w.ticket) × IsWorkAt c (e ∷ past) w q × (first_stage (duty_of w) ≡ own_stage (duty_of w) w.ticket (e ∷ [])) × (is_fetch_of w.ticket e ≡ true)
+pub fetched_work : (c : ConfigNumbers) (past : Past) (q : ℕ) (e : Entry) (a : Answer) (w : TicketWork) → IsLegal c past
+    → IsLegal c (e ∷ past) → Accepts c past (Step.Fetch q) e a → a ≡ Answer.Fetched w
+    → (ticket_in e ≡ w.ticket) × IsWorkAt c (e ∷ past) w q
+    × (first_stage (duty_of w) ≡ own_stage (duty_of w) w.ticket (e ∷ [])) × (is_fetch_of w.ticket e ≡ true)
 fetched_work c past q e a w h now s is =
     let made : TicketWork = work_of c (tickets past + 1) (fetched_ticket past q (next_verdict c past q)) in
     let same : Answer.Fetched made ≡ Answer.Fetched w = sym (s.2 ∙ ap (answer_of c past) s.1) ∙ is in
     let work : made ≡ w = cc in (
       ap ticket_in s.1 ∙ ap (λ (x : TicketWork). x.ticket) work,
-      subst (λ (z : Entry × TicketWork). IsWorkAt c (z.0 ∷ past) z.1 q) (λ i. (sym s.1 i, work i)) (fresh_work c past q h (subst (λ (z : Entry). IsLegal c (z ∷ past)) s.1 now) s.0),
-      fetched_stage (duty_of w) w.ticket (line c past q) ∙ ap (λ (z : Entry). own_stage (duty_of w) w.ticket (z ∷ [])) (sym s.1),
+      subst (λ (z : Entry × TicketWork). IsWorkAt c (z.0 ∷ past) z.1 q) (λ i. (sym s.1 i, work i))
+          (fresh_work c past q h (subst (λ (z : Entry). IsLegal c (z ∷ past)) s.1 now) s.0),
+      fetched_stage (duty_of w) w.ticket (line c past q)
+          ∙ ap (λ (z : Entry). own_stage (duty_of w) w.ticket (z ∷ [])) (sym s.1),
       ap (is_fetch_of w.ticket) s.1 ∙ eq-eqb (tickets past + 1) w.ticket (ap (λ (x : TicketWork). x.ticket) work),
     )
 
 -- a Reap is answered with a completion
-reap_by : (c : ConfigNumbers) (past : Past) (q : ℕ) (o : Option PostLine) → (cqe payload : List ℕ) × (answer_of c past (reap_entry q o) ≡ Answer.Reaped cqe payload)
+reap_by : (c : ConfigNumbers) (past : Past) (q : ℕ) (o : Option PostLine)
+    → (cqe payload : List ℕ) × (answer_of c past (reap_entry q o) ≡ Answer.Reaped cqe payload)
 reap_by c past q None = (_, _, refl)
 reap_by c past q (Some p) = (_, _, refl)
 
-pub reaped_answer : (c : ConfigNumbers) (past : Past) (q : ℕ) (e : Entry) (a : Answer) → Accepts c past (Step.Reap q) e a → (cqe payload : List ℕ) × (a ≡ Answer.Reaped cqe payload)
+pub reaped_answer : (c : ConfigNumbers) (past : Past) (q : ℕ) (e : Entry) (a : Answer)
+    → Accepts c past (Step.Reap q) e a → (cqe payload : List ℕ) × (a ≡ Answer.Reaped cqe payload)
 reaped_answer c past q e a s =
     let t = reap_by c past q (slice_get (posted_completions c past q) (reaped_count past q)) in
     (t.0, t.1, s.2 ∙ (ap (answer_of c past) s.1 ∙ t.2))

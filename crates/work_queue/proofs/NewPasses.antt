@@ -7,7 +7,9 @@ use Rattle.work_queue.specs.Engines.{EnginePass, IsFreshPass, IsOf}
 use Rattle.work_queue.specs.declared.engine.Engine.{Engine}
 
 -- they have seen nothing
-pub all_fresh : (e : Engine) (n : ℕ) (c : ConfigNumbers) (ps : List EnginePass) → ((k : ℕ) (p : EnginePass) → slice_get ps k ≡ Some p → IsOf e p × IsNew n c [] (k + 1) p) → All (IsFreshPass e c) ps
+pub all_fresh : (e : Engine) (n : ℕ) (c : ConfigNumbers) (ps : List EnginePass)
+    → ((k : ℕ) (p : EnginePass) → slice_get ps k ≡ Some p → IsOf e p × IsNew n c [] (k + 1) p)
+    → All (IsFreshPass e c) ps
 all_fresh e n c ps each = λ k x within.
     let new = each k (get_or ps k x) (slice_get-get_or ps k x within) in
     record { of = new.0; config = new.1.2; seen = new.1.3 }

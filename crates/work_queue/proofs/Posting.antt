@@ -1,5 +1,6 @@
 -- The completion that a Post answers is posted.
-use Rattle.std.proofs.Common.{[], None, Option, Some, ap, eq-eqb, false, refl, subst, sym, ℕ, ◌++◌, ◌∙◌, ◌≡◌, ◌||◌, ◌∷◌, if◌then◌else◌, slice_get}
+use Rattle.std.proofs.Common.{[], None, Option, Some, ap, eq-eqb, false, refl, subst, sym, ℕ, ◌++◌, ◌∙◌, ◌≡◌, ◌||◌, ◌∷◌}
+use Rattle.std.proofs.Common.{if◌then◌else◌, slice_get}
 use Rattle.std.specs.List.{find, list_any}
 use Rattle.std.specs.Prelude.{bytes_eq, ◌==◌}
 use Rattle.std.proofs.Math.Bool.{or-true}
@@ -37,35 +38,44 @@ module _ (c : ConfigNumbers) (past : Past) where
   newest : (p : PostLine) → IsPostedTo c (Entry.Post p ∷ past) (completion_queue c (ticket past p.ticket).queue) p.cqe
   newest p =
       let q : ℕ = completion_queue c (ticket past p.ticket).queue in
-      ap (λ b. list_any (λ (r : PostLine). bytes_eq r.cqe p.cqe) (posted_completions c past q ++ (if b then p ∷ [] else []))) (eq-eqb q q refl)
+      ap (λ b. list_any (λ (r : PostLine). bytes_eq r.cqe p.cqe)
+      (posted_completions c past q ++ (if b then p ∷ [] else []))) (eq-eqb q q refl)
       ∙ (list_any-append (λ (r : PostLine). bytes_eq r.cqe p.cqe) (posted_completions c past q) (p ∷ [])
-      ∙ (ap (λ b. list_any (λ (r : PostLine). bytes_eq r.cqe p.cqe) (posted_completions c past q) || (b || false)) ((bytes_eq-Decides p.cqe p.cqe).1 refl)
+      ∙ (ap (λ b. list_any (λ (r : PostLine). bytes_eq r.cqe p.cqe) (posted_completions c past q) || (b || false))
+      ((bytes_eq-Decides p.cqe p.cqe).1 refl)
       ∙ or-true (list_any (λ (r : PostLine). bytes_eq r.cqe p.cqe) (posted_completions c past q))))
 
   module _ (t : ℕ) where
-    by_grant : (o : Option Range) → IsTicketPosted c (grant_entry past t o ∷ past) t (answer_of c past (grant_entry past t o))
+    by_grant : (o : Option Range)
+        → IsTicketPosted c (grant_entry past t o ∷ past) t (answer_of c past (grant_entry past t o))
     by_grant None = tt
     by_grant (Some r) = tt
 
-    by_block : (o : Option GrantLine) → IsTicketPosted c (block_entry past t o ∷ past) t (answer_of c past (block_entry past t o))
+    by_block : (o : Option GrantLine)
+        → IsTicketPosted c (block_entry past t o ∷ past) t (answer_of c past (block_entry past t o))
     by_block None = tt
     by_block (Some g) = tt
 
-    by_post : (o : Option Status) → IsTicketPosted c (post_entry c past t o ∷ past) t (answer_of c past (post_entry c past t o))
+    by_post : (o : Option Status)
+        → IsTicketPosted c (post_entry c past t o ∷ past) t (answer_of c past (post_entry c past t o))
     by_post None = newest (record { ticket = t; cqe = []; payload = [] })
     by_post (Some s) = newest (record { ticket = t; cqe = completion c past t s; payload = completion_data c past t s })
 
-    by_entry : (e x : Entry) (a : Answer) → e ≡ x → a ≡ answer_of c past e → IsTicketPosted c (x ∷ past) t (answer_of c past x)
+    by_entry : (e x : Entry) (a : Answer) → e ≡ x → a ≡ answer_of c past e
+        → IsTicketPosted c (x ∷ past) t (answer_of c past x)
         → IsTicketPosted c (e ∷ past) t a
     by_entry e x a is answer m =
-        subst (λ (z : Entry × Answer). IsTicketPosted c (z.0 ∷ past) t z.1) (λ i. (sym is i, (ap (answer_of c past) (sym is) ∙ sym answer) i)) m
+        subst (λ (z : Entry × Answer). IsTicketPosted c (z.0 ∷ past) t z.1)
+        (λ i. (sym is i, (ap (answer_of c past) (sym is) ∙ sym answer) i)) m
 
-    pub answer_posted : (k : Task) (e : Entry) (a : Answer) → Accepts c past (task_step k t) e a → IsTicketPosted c (e ∷ past) t a
+    pub answer_posted : (k : Task) (e : Entry) (a : Answer) → Accepts c past (task_step k t) e a
+        → IsTicketPosted c (e ∷ past) t a
     answer_posted task.Grant e a s = by_entry e _ a s.1 s.2 (by_grant (next_unit c past t))
     answer_posted task.Block e a s = by_entry e _ a s.1 s.2 (by_block (find (λ g. g.ticket == t) (open_units past)))
     answer_posted task.Post e a s = by_entry e _ a s.1 s.2 (by_post (slice_get (owed c past t) (posts_of past t)))
 
-pub told_posted : (p q : EnginePass) (k : Task) (t n : ℕ) (a : Answer) → config_of q ≡ config_of p → (ticket (entries (seen q)) t).queue ≡ n
+pub told_posted : (p q : EnginePass) (k : Task) (t n : ℕ) (a : Answer) → config_of q ≡ config_of p
+    → (ticket (entries (seen q)) t).queue ≡ n
     → Accepted Accepts p q (task_step k t) a → IsAnswerPosted (config_of q) (entries (seen q)) n a
 told_posted p q k t n a same from h =
     subst (λ (m : ℕ). IsAnswerPosted (config_of q) (entries (seen q)) m a) from

@@ -1,5 +1,6 @@
 -- A Work's stage is that of its ticket's entries, and its next task is in its place.
-use Rattle.std.proofs.Common.{Bool, None, Option, Some, [], ap, arith, cond, false, is_some, length, not, refl, subst, sym, true, ℕ, ◌&&◌, ◌-◌, ◌<◌, ◌∙◌, ◌≡◌, ◌||◌, ◌∷◌, slice_get}
+use Rattle.std.proofs.Common.{Bool, None, Option, Some, [], ap, arith, cond, false, is_some, length, not, refl, subst}
+use Rattle.std.proofs.Common.{sym, true, ℕ, ◌&&◌, ◌-◌, ◌<◌, ◌∙◌, ◌≡◌, ◌||◌, ◌∷◌, slice_get}
 use Rattle.std.specs.List.{find}
 use Rattle.std.specs.Prelude.{nat_le, nat_lt, ◌==◌}
 use Rattle.std.proofs.lemmas.Bool.Decides.{nat_tests}
@@ -21,12 +22,12 @@ use Rattle.nvme_model.specs.declared.status.Status.{Status}
 use Rattle.nvme_model.specs.declared.step.Step.{Step}
 use Rattle.controller_steps.specs.State.{answer_of}
 use Rattle.controller_steps.specs.declared.answer.Answer.{Answer}
-use Rattle.ticket_entries.specs.Entries.{of_ticket, ticket_in}
-use Rattle.ticket_entries.specs.Tasks.{Duty, duty_at, first_stage, own_all_ended, own_open, own_stage, task_fault}
-use Rattle.ticket_entries.specs.declared.stage.Stage.{Stage}
-use Rattle.ticket_entries.proofs.NewEntries.{named_entry, of_ticket-own}
-use Rattle.ticket_entries.proofs.OwnEntries.{own_differed}
-use Rattle.ticket_entries.proofs.Stages.{block_stage, grant_stage, post_stage, run_over}
+use Rattle.ticket_laws.specs.Entries.{of_ticket, ticket_in}
+use Rattle.ticket_laws.specs.Tasks.{Duty, duty_at, first_stage, own_all_ended, own_open, own_stage, task_fault}
+use Rattle.ticket_laws.specs.declared.stage.Stage.{Stage}
+use Rattle.ticket_laws.proofs.NewEntries.{named_entry, of_ticket-own}
+use Rattle.ticket_laws.proofs.OwnEntries.{own_differed}
+use Rattle.ticket_laws.proofs.Stages.{block_stage, grant_stage, post_stage, run_over}
 use Rattle.controller_steps.specs.State.{Accepts}
 use Rattle.work_queue.specs.Duties.{task_step}
 use Rattle.work_queue.specs.Stages.{answer_stage, next_task}
@@ -38,7 +39,12 @@ whole n = omega arith
 
 -- just after the Fetch
 pub fetched_stage : (d : Duty) (t : ℕ) (f : FetchLine) → first_stage d ≡ own_stage d t (Entry.Fetch f ∷ [])
-fetched_stage d t f = λ i. record { left = whole (length d.units) i; owing = whole d.statuses i; is_open = false; differs = false }
+fetched_stage d t f = λ i. record {
+  left = whole (length d.units) i;
+  owing = whole d.statuses i;
+  is_open = false;
+  differs = false;
+}
 
 -- ---- after a task
 
@@ -51,23 +57,33 @@ module _ (c : ConfigNumbers) (past : Past) (t : ℕ) where
   Moves e a = answer_stage stage a ≡ own_stage (duty_at c (e ∷ past) t) t (e ∷ of_ticket t past)
 
   by_entry : (e x : Entry) (a : Answer) → e ≡ x → a ≡ answer_of c past e → Moves x (answer_of c past x) → Moves e a
-  by_entry e x a is answer m = subst (λ (z : Entry × Answer). Moves z.0 z.1) (λ i. (sym is i, (ap (answer_of c past) (sym is) ∙ sym answer) i)) m
+  by_entry e x a is answer m =
+      subst (λ (z : Entry × Answer). Moves z.0 z.1) (λ i. (sym is i, (ap (answer_of c past) (sym is) ∙ sym answer) i)) m
 
-  grant_moves : (o : Option Range) → IsLegal c (grant_entry past t o ∷ past) → Moves (grant_entry past t o) (answer_of c past (grant_entry past t o))
+  grant_moves : (o : Option Range) → IsLegal c (grant_entry past t o ∷ past)
+      → Moves (grant_entry past t o) (answer_of c past (grant_entry past t o))
   grant_moves None h = sym (grant_stage c past _ h)
   grant_moves (Some r) h = sym (grant_stage c past _ h)
 
-  block_moves : (o : Option GrantLine) → IsLegal c (block_entry past t o ∷ past) → Moves (block_entry past t o) (answer_of c past (block_entry past t o))
+  block_moves : (o : Option GrantLine) → IsLegal c (block_entry past t o ∷ past)
+      → Moves (block_entry past t o) (answer_of c past (block_entry past t o))
   block_moves None h = sym (block_stage c past _ h)
   block_moves (Some g) h = sym (block_stage c past _ h)
 
   post_moves : (o : Option Status) → Moves (post_entry c past t o) (answer_of c past (post_entry c past t o))
-  post_moves None = sym (post_stage (duty_at c past t) (of_ticket t past) (record { ticket = t; cqe = []; payload = [] }))
-  post_moves (Some s) = sym (post_stage (duty_at c past t) (of_ticket t past) (record { ticket = t; cqe = completion c past t s; payload = completion_data c past t s }))
+  post_moves None = sym (post_stage (duty_at c past t) (of_ticket t past)
+      (record { ticket = t; cqe = []; payload = [] }))
+  post_moves (Some s) = sym
+      (post_stage (duty_at c past t) (of_ticket t past)
+      (record { ticket = t; cqe = completion c past t s; payload = completion_data c past t s }))
 
-  pub task_moves : (k : Task) (e : Entry) (a : Answer) → IsLegal c (e ∷ past) → Accepts c past (task_step k t) e a → Moves e a
-  task_moves task.Grant e a h s = by_entry e _ a s.1 s.2 (grant_moves (next_unit c past t) (subst (λ x. IsLegal c (x ∷ past)) s.1 h))
-  task_moves task.Block e a h s = by_entry e _ a s.1 s.2 (block_moves (find (λ g. g.ticket == t) (open_units past)) (subst (λ x. IsLegal c (x ∷ past)) s.1 h))
+  pub task_moves : (k : Task) (e : Entry) (a : Answer) → IsLegal c (e ∷ past) → Accepts c past (task_step k t) e a
+      → Moves e a
+  task_moves task.Grant e a h s =
+      by_entry e _ a s.1 s.2 (grant_moves (next_unit c past t) (subst (λ x. IsLegal c (x ∷ past)) s.1 h))
+  task_moves task.Block e a h s =
+      by_entry e _ a s.1 s.2 (block_moves (find (λ g. g.ticket == t) (open_units past))
+      (subst (λ x. IsLegal c (x ∷ past)) s.1 h))
   task_moves task.Post e a h s = by_entry e _ a s.1 s.2 (post_moves (slice_get (owed c past t) (posts_of past t)))
 
   -- what it has to do stays
@@ -83,10 +99,13 @@ module _ (c : ConfigNumbers) (past : Past) (t : ℕ) where
   post_duty None = refl
   post_duty (Some s) = refl
 
-  pub same_duty : (k : Task) (e : Entry) → e ≡ next_entry c past (task_step k t) → duty_at c (e ∷ past) t ≡ duty_at c past t
+  pub same_duty : (k : Task) (e : Entry) → e ≡ next_entry c past (task_step k t)
+      → duty_at c (e ∷ past) t ≡ duty_at c past t
   same_duty task.Grant e is = ap (λ (x : Entry). duty_at c (x ∷ past) t) is ∙ grant_duty (next_unit c past t)
-  same_duty task.Block e is = ap (λ (x : Entry). duty_at c (x ∷ past) t) is ∙ block_duty (find (λ g. g.ticket == t) (open_units past))
-  same_duty task.Post e is = ap (λ (x : Entry). duty_at c (x ∷ past) t) is ∙ post_duty (slice_get (owed c past t) (posts_of past t))
+  same_duty task.Block e is = ap (λ (x : Entry). duty_at c (x ∷ past) t) is
+      ∙ block_duty (find (λ g. g.ticket == t) (open_units past))
+  same_duty task.Post e is = ap (λ (x : Entry). duty_at c (x ∷ past) t) is
+      ∙ post_duty (slice_get (owed c past t) (posts_of past t))
 
   -- and its entry is of the ticket
   pub task_ticket : (k : Task) (e : Entry) → 0 < t → e ≡ next_entry c past (task_step k t) → ticket_in e ≡ t
@@ -95,13 +114,16 @@ module _ (c : ConfigNumbers) (past : Past) (t : ℕ) where
   task_ticket task.Post e some is = named_entry c past (Step.Post t) e is some
 
   -- so where the ticket's entries are these, with this one more
-  pub stage_after : (k : Task) (e : Entry) (a : Answer) (d : Duty) (its more : Past) (s : Stage) → 0 < t → IsLegal c (e ∷ past) → Accepts c past (task_step k t) e a → d ≡ duty_at c (e ∷ past) t
+  pub stage_after : (k : Task) (e : Entry) (a : Answer) (d : Duty) (its more : Past) (s : Stage) → 0 < t
+      → IsLegal c (e ∷ past) → Accepts c past (task_step k t) e a → d ≡ duty_at c (e ∷ past) t
       → s ≡ own_stage d t its → more ≡ e ∷ its → of_ticket t (e ∷ past) ≡ more → answer_stage s a ≡ own_stage d t more
   stage_after k e a d its more s some h acc duty is grows all =
-      let own : e ∷ of_ticket t past ≡ e ∷ its = sym (of_ticket-own t past e (task_ticket k e some acc.1)) ∙ (all ∙ grows) in
+      let own : e ∷ of_ticket t past ≡ e ∷ its = sym (of_ticket-own t past e (task_ticket k e some acc.1))
+      ∙ (all ∙ grows) in
       let rest : of_ticket t past ≡ its = cc in
       let before : own_stage d t its ≡ stage = λ i. own_stage ((duty ∙ same_duty k e acc.1) i) t (sym rest i) in
-      let after : own_stage (duty_at c (e ∷ past) t) t (e ∷ of_ticket t past) ≡ own_stage d t more = λ i. own_stage (sym duty i) t ((own ∙ sym grows) i) in
+      let after : own_stage (duty_at c (e ∷ past) t) t (e ∷ of_ticket t past) ≡ own_stage d t more =
+      λ i. own_stage (sym duty i) t ((own ∙ sym grows) i) in
       ap (λ x. answer_stage x a) (is ∙ before) ∙ (task_moves k e a h acc ∙ after)
 
 -- ---- the task that is next
@@ -134,24 +156,31 @@ module _ (c : ConfigNumbers) (past : Past) (t : ℕ) (h : IsLegal c past) where
   abbrev I : Past
   I = of_ticket t past
 
-  by_tests : (k : Task) (a b e l : Bool) → ((own_stage D t I).owing == 0) ≡ a → own_open D.op I t ≡ b → differed I t ≡ e → ((own_stage D t I).left == 0) ≡ l
-      → cond a None (cond b (Some task.Block) (cond (e || l) (Some task.Post) (Some task.Grant))) ≡ Some k → task_fault D t I (task_step k t) ≡ None
+  by_tests : (k : Task) (a b e l : Bool) → ((own_stage D t I).owing == 0) ≡ a → own_open D.op I t ≡ b → differed I t ≡ e
+      → ((own_stage D t I).left == 0) ≡ l
+      → cond a None (cond b (Some task.Block) (cond (e || l) (Some task.Post) (Some task.Grant))) ≡ Some k
+      → task_fault D t I (task_step k t) ≡ None
   by_tests k true b e l ea eb ee el is = absurd (let f : None ≡ Some k = is in cc)
   by_tests k false true e l ea eb ee el is =
       let same : task.Block ≡ k = cc in
-      subst (λ k. task_fault D t I (task_step k t) ≡ None) same (rows _ _ (flying D.statuses (posts_of I t) ea) (ap not eb))
+      subst (λ k. task_fault D t I (task_step k t) ≡ None) same
+      (rows _ _ (flying D.statuses (posts_of I t) ea) (ap not eb))
   by_tests k false false true l ea eb ee el is =
       let same : task.Post ≡ k = cc in
-      subst (λ k. task_fault D t I (task_step k t) ≡ None) same (rows _ _ (flying D.statuses (posts_of I t) ea) (over (is_some D.op) (own_all_ended D I t) (differed I t) ee))
+      subst (λ k. task_fault D t I (task_step k t) ≡ None) same
+      (rows _ _ (flying D.statuses (posts_of I t) ea) (over (is_some D.op) (own_all_ended D I t) (differed I t) ee))
   by_tests k false false false true ea eb ee el is =
       let same : task.Post ≡ k = cc in
       let all = none_left (length D.units) (length (granted I)) el in
       subst (λ k. task_fault D t I (task_step k t) ≡ None) same
-      (rows _ _ (flying D.statuses (posts_of I t) ea) (ran (is_some D.op) (own_all_ended D I t) (differed I t) (run_over c past t h (sym (own_differed t past) ∙ ee) all eb)))
+      (rows _ _ (flying D.statuses (posts_of I t) ea)
+      (ran (is_some D.op) (own_all_ended D I t) (differed I t)
+      (run_over c past t h (sym (own_differed t past) ∙ ee) all eb)))
   by_tests k false false false false ea eb ee el is =
       let same : task.Grant ≡ k = cc in
       subst (λ k. task_fault D t I (task_step k t) ≡ None) same
-      (rows _ _ (flying D.statuses (posts_of I t) ea) (λ i. (some_left (length D.units) (length (granted I)) el i || ee i) || eb i))
+      (rows _ _ (flying D.statuses (posts_of I t) ea)
+      (λ i. (some_left (length D.units) (length (granted I)) el i || ee i) || eb i))
 
   pub next_allowed : (k : Task) → next_task (own_stage D t I) ≡ Some k → task_fault D t I (task_step k t) ≡ None
   next_allowed k is = by_tests k _ _ _ _ refl refl refl refl is

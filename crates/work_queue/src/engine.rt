@@ -47,8 +47,8 @@ impl Engine {
     ghost use Rattle.meet_lock.specs.Lock.{AreOfPasses, GoesOn, unmade};
     ghost use Rattle.meet_lock.specs.declared.pass.Pass.{Pass};
     ghost use Rattle.controller_steps.specs.State.{State};
-    ghost use Rattle.ticket_entries.specs.Entries.{of_ticket};
-    ghost use Rattle.ticket_entries.specs.Tasks.{task_fault};
+    ghost use Rattle.ticket_laws.specs.Entries.{of_ticket};
+    ghost use Rattle.ticket_laws.specs.Tasks.{task_fault};
     ghost use Rattle.work_queue.specs.Duties.{duty_of, task_step};
     ghost use Rattle.work_queue.specs.Posted.{IsAnswerPosted};
     ghost use Rattle.work_queue.specs.Engines.{IsFreshPass, IsNoTaskFault, IsOf, IsWorkOf, OpenedAs, its, open_step};

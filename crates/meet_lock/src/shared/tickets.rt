@@ -2,7 +2,7 @@
 
 ghost use Rattle.std.specs.Prelude.{◌≡◌, ◌<◌, IfErr, IfOk, true};
 ghost use Rattle.nvme_model.specs.Passes.{entries};
-ghost use Rattle.ticket_entries.specs.Entries.{named_ticket, names_queue, of_ticket};
+ghost use Rattle.ticket_laws.specs.Entries.{named_ticket, names_queue, of_ticket};
 
 use crate::owner::TicketOwner;
 use crate::pass::{Declined, Pass};

@@ -7,7 +7,7 @@ ghost use Rattle.nvme_model.specs.Legal.{IsLegal};
 ghost use Rattle.nvme_model.specs.Laws.{OwesToFull};
 ghost use Rattle.nvme_model.specs.Steps.{ready};
 ghost use Rattle.nvme_model.specs.Tickets.{in_flight};
-ghost use Rattle.ticket_standing.specs.Standing.{flying};
+ghost use Rattle.ticket_laws.specs.Standing.{flying};
 ghost use Rattle.step_core.specs.Found.{IsJob, IsNext, next_step, step_of};
 ghost use Rattle.nvme_model.specs.OneAtATime.{IsOneAtATime};
 ghost use Rattle.controller_steps.specs.State.{Serves};

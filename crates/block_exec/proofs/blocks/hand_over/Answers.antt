@@ -8,4 +8,6 @@ use Rattle.block_exec.proofs.blocks.hand_over.Goals as goal
 pub returns-clause-boxes : goal.returns-clause-boxes
 returns-clause-boxes c =
     contents_set c.args.boxes.now c.args.at c.swap_block.new.block
-    ∙ ap (slice_set (contents_of c.args.boxes.now) c.args.at) (sym (get_or_from_slice_get c.args.volume.now c.args.lba c.swap_block.new.block.value zeros c.swap_block.ensures.back))
+    ∙ ap (slice_set (contents_of c.args.boxes.now) c.args.at)
+    (sym (get_or_from_slice_get c.args.volume.now c.args.lba c.swap_block.new.block.value zeros
+    c.swap_block.ensures.back))

@@ -23,5 +23,7 @@ returns c =
       cqs = omega (arith, few);
     } in
     let accepted : config_fault (config_of c.args.race.now) ≡ None =
-    subst (λ (k : ConfigNumbers). config_fault k ≡ None) (c.numbers.ensures.value ∙ c.config.ensures.value) c.numbers.ensures.accepted in
-    λ text told left old new printed checked. race_says (config_of c.args.race.now) is accepted text told left old new printed checked
+    subst (λ (k : ConfigNumbers). config_fault k ≡ None) (c.numbers.ensures.value ∙ c.config.ensures.value)
+    c.numbers.ensures.accepted in
+    λ text told left old new printed checked.
+    race_says (config_of c.args.race.now) is accepted text told left old new printed checked

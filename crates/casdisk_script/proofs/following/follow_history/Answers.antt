@@ -21,11 +21,14 @@ returns-in-Ok-follow_lines-clause-followed g c =
     let none : Option (List ℕ) = None in
     let begun = c.in_ok-config.ensures.begun (λ c'. entry_added) none none tt in
     followed_to c.in_ok-config.config c.follow_lines.new.judge.bad.place _ _ c.in_ok-config.ensures.config
-    (c.in-Ok-follow_lines.ensures.follows (outcome (λ c'. entry_added)) c.in_ok-config.config [] _ begun c.in-Ok-new.ensures.begun c.in-Ok-new.ensures.none)
+    (c.in-Ok-follow_lines.ensures.follows (outcome (λ c'. entry_added)) c.in_ok-config.config [] _ begun
+    c.in-Ok-new.ensures.begun c.in-Ok-new.ensures.none)
 
 pub returns-clause-unfollowed : goal.returns-clause-unfollowed
 returns-clause-unfollowed g c =
     let none : Option (List ℕ) = None in
     let begun = c.in_ok-config.ensures.begun (λ c'. entry_added) none none tt in
-    lines_unfollowed c.in_ok-config.config c.follow_lines.new.judge.bad.place _ _ c.in_ok-config.ensures.config c.in-Err.fault
-    (c.in-Err.ensures.follows (outcome (λ c'. entry_added)) c.in_ok-config.config [] _ begun c.in-Ok-new.ensures.begun c.in-Ok-new.ensures.none)
+    lines_unfollowed c.in_ok-config.config c.follow_lines.new.judge.bad.place _ _ c.in_ok-config.ensures.config
+    c.in-Err.fault
+    (c.in-Err.ensures.follows (outcome (λ c'. entry_added)) c.in_ok-config.config [] _ begun c.in-Ok-new.ensures.begun
+    c.in-Ok-new.ensures.none)

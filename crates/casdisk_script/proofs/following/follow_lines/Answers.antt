@@ -11,7 +11,9 @@ pub returns-in-Err : goal.returns-in-Err
 returns-in-Err g c = record {
   follows = λ outcome k past input reached judged none.
       let at = c.loop-number.invariant outcome k past input reached judged none in
-      rw c.read_fault.ensures.cause (unread_lines outcome k at.past c.loop-number.number input _ _ _ at.reached c.in-Err.fault c.loop-number.judge.bad.place _ _ c.in-Err.ensures.err
+      rw c.read_fault.ensures.cause
+      (unread_lines outcome k at.past c.loop-number.number input _ _ _ at.reached c.in-Err.fault
+      c.loop-number.judge.bad.place _ _ c.in-Err.ensures.err
       (λ e. c.in-Err.ensures.input (ap Err e)) (no_place k at.past (sym at.stands.1 ∙ at.stands.0.first.place)));
 }
 
@@ -20,9 +22,12 @@ returns-then-is_empty g c = record {
   follows = λ outcome k past input reached judged none.
       let line = c.next_line.new.line in
       let x = rw c.in-Ok-Rest.field-0-is at c.in-Ok-Rest.ensures.line in
-      let nothing : line.items ≡ [] = nil_from_length line.items (sym line.ok.0 ∙ eqb-true (vec_len line) 0 (sym c.is_empty.ensures ∙ c.if-is_empty.true)) in
+      let nothing : line.items ≡ [] =
+      nil_from_length line.items
+      (sym line.ok.0 ∙ eqb-true (vec_len line) 0 (sym c.is_empty.ensures ∙ c.if-is_empty.true)) in
       let at = c.loop-number.invariant outcome k past input reached judged none in
-      rw at.stands.1 (ends_well outcome k at.past c.loop-number.number input _ _ _ at.reached _ line.items x.0 x.1 x.2 x.3 (print_none _ _ _ line.items nothing)
+      rw at.stands.1 (ends_well outcome k at.past c.loop-number.number input _ _ _ at.reached _ line.items x.0 x.1 x.2
+      x.3 (print_none _ _ _ line.items nothing)
       (no_place k at.past (sym at.stands.1 ∙ at.stands.0.first.place)));
 }
 
@@ -31,9 +36,12 @@ returns-in-Ok-Rest g c = record {
   follows = λ outcome k past input reached judged none.
       let line = c.next_line.new.line in
       let x = rw c.in-Ok-Rest.field-0-is at c.in-Ok-Rest.ensures.line in
-      let something : line.items ≡ [] → ⊥ = λ (e : line.items ≡ []). eqb-false (vec_len line) 0 (sym c.is_empty.ensures ∙ c.if-is_empty.false) (line.ok.0 ∙ ap length e) in
+      let something : line.items ≡ [] → ⊥ =
+      λ (e : line.items ≡ []).
+      eqb-false (vec_len line) 0 (sym c.is_empty.ensures ∙ c.if-is_empty.false) (line.ok.0 ∙ ap length e) in
       let at = c.loop-number.invariant outcome k past input reached judged none in
-      ends_cut outcome k at.past c.loop-number.number input _ _ _ at.reached None _ line.items x.0 x.1 x.2 x.3 (print_rest _ _ _ line.items something)
+      ends_cut outcome k at.past c.loop-number.number input _ _ _ at.reached None _ line.items x.0 x.1 x.2 x.3
+      (print_rest _ _ _ line.items something)
       (no_place k at.past (sym at.stands.1 ∙ at.stands.0.first.place));
 }
 
@@ -43,7 +51,8 @@ returns-in-Ok-Bad g c = record {
       let x = rw c.in-Ok-Whole.field-0-is at c.in-Ok-Whole.ensures.line in
       let at = c.loop-number.invariant outcome k past input reached judged none in
       let t = rw (c.in-Ok-Bad.field-0-is, c.deref.ensures.value) at (c.in-Ok-Bad.ensures.taken k at.past at.stands.0) in
-      bad_line_read outcome k at.past c.loop-number.number input _ _ _ at.reached None _ c.next_line.new.line.items x.0 x.1 t.0
+      bad_line_read outcome k at.past c.loop-number.number input _ _ _ at.reached None _ c.next_line.new.line.items x.0
+      x.1 t.0
       (no_place k at.past (sym at.stands.1 ∙ at.stands.0.first.place));
 }
 
@@ -52,9 +61,12 @@ returns-then-is_some g c = record {
   follows = λ outcome k past input reached judged none.
       let x = rw c.in-Ok-Whole.field-0-is at c.in-Ok-Whole.ensures.line in
       let at = c.loop-number.invariant outcome k past input reached judged none in
-      let t = rw (c.in-Ok-Done.field-0-is, c.deref.ensures.value) at (c.in-Ok-Done.ensures.taken k at.past at.stands.0) in
-      let on = goes_on outcome entry_added at.past c.loop-number.number input _ _ None None _ at.reached _ c.next_line.new.line.items None t.0 x.0 x.1 t.1 tt in
-      stops_so outcome k t.0.0 (c.loop-number.number + 1) input _ None _ on c.take_line.new.self.bad.place (sym c.is_some.ensures ∙ c.if-is_some.true) t.2.first.place;
+      let t = rw (c.in-Ok-Done.field-0-is, c.deref.ensures.value) at
+      (c.in-Ok-Done.ensures.taken k at.past at.stands.0) in
+      let on = goes_on outcome entry_added at.past c.loop-number.number input _ _ None None _ at.reached _
+      c.next_line.new.line.items None t.0 x.0 x.1 t.1 tt in
+      stops_so outcome k t.0.0 (c.loop-number.number + 1) input _ None _ on c.take_line.new.self.bad.place
+      (sym c.is_some.ensures ∙ c.if-is_some.true) t.2.first.place;
 }
 
 pub loop-number-preserved : goal.loop-number-preserved
@@ -65,5 +77,6 @@ loop-number-preserved g c = λ outcome k past input reached judged none.
     record {
       past = t.0.0;
       stands = (t.2, none_of c.take_line.new.self.bad.place (sym c.is_some.ensures ∙ c.if-is_some.false));
-      reached = goes_on outcome entry_added at.past c.loop-number.number input _ _ None None _ at.reached _ c.next_line.new.line.items None t.0 x.0 x.1 t.1 tt;
+      reached = goes_on outcome entry_added at.past c.loop-number.number input _ _ None None _ at.reached _
+          c.next_line.new.line.items None t.0 x.0 x.1 t.1 tt;
     }

@@ -11,5 +11,7 @@ use Rattle.casdisk_script.proofs.following.follow_lines.Given as goal
 abbrev pub invariant-loop-number : goal.invariant-loop-number
 invariant-loop-number g l = (outcome : List ℕ → Outcome) (c : ConfigNumbers) (past : Past) (input : Option (List ℕ))
     → Reached outcome entry_added past 2 input (g.R.Read.remaining l.initial.reader) None None l.initial.lines
-    → HasJudged false c past l.initial.judge.checker l.initial.judge.count l.initial.judge.bad → l.initial.judge.bad.place ≡ None
-    → Reaches (λ p. HasJudged false c p l.judge.checker l.judge.count l.judge.bad × (l.judge.bad.place ≡ None)) outcome entry_added l.number input (g.R.Read.remaining l.reader) None None l.lines
+    → HasJudged false c past l.initial.judge.checker l.initial.judge.count l.initial.judge.bad
+    → l.initial.judge.bad.place ≡ None
+    → Reaches (λ p. HasJudged false c p l.judge.checker l.judge.count l.judge.bad × (l.judge.bad.place ≡ None)) outcome
+    entry_added l.number input (g.R.Read.remaining l.reader) None None l.lines

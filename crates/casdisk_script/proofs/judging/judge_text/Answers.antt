@@ -26,8 +26,10 @@ returns-in-Ok-run_lines-clause-whole g c =
     let made = c.in-Ok-run_lines.ensures.makes c.in_ok-config.config [] c.in-Ok-new.ensures.begun in
     let all = runs_after (outcome (λ c'. entry_added)) entry_added [] 2 _ _ _ None none some _ (Ok tt) begun ran in
     let judge = c.run_lines.new.actor in
-    let makes = makes_after (outcome (λ c'. entry_added)) entry_added [] 2 _ _ None none _ (Ok tt) (λ past. HasJudged why c.in_ok-config.config past judge.checker judge.count judge.bad) begun made in
-    whole why c.in_ok-config.config judge.checker judge.count judge.bad _ _ None some all makes c.in_ok-config.ensures.config
+    let makes = makes_after (outcome (λ c'. entry_added)) entry_added [] 2 _ _ None none _ (Ok tt)
+    (λ past. HasJudged why c.in_ok-config.config past judge.checker judge.count judge.bad) begun made in
+    whole why c.in_ok-config.config judge.checker judge.count judge.bad _ _ None some all makes
+    c.in_ok-config.ensures.config
 
 pub returns-clause-unread : goal.returns-clause-unread
 returns-clause-unread g c =
@@ -35,5 +37,6 @@ returns-clause-unread g c =
     let some = Some c.run_lines.new.writer.items in
     let begun = c.in_ok-config.ensures.begun (λ c'. entry_added) None none tt in
     let ran = c.in-Err.ensures.runs c.in_ok-config.config [] c.in-Ok-new.ensures.begun in
-    let all = runs_after (outcome (λ c'. entry_added)) entry_added [] 2 _ _ _ None none some _ (Err c.in-Err.fault) begun ran in
+    let all = runs_after (outcome (λ c'. entry_added)) entry_added [] 2 _ _ _ None none some _ (Err c.in-Err.fault)
+    begun ran in
     rw c.in_memory.ensures.value (unread c.in-Err.fault _ _ None some all)

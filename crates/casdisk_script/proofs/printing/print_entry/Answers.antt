@@ -10,4 +10,5 @@ returns-in_err-write_line-clause-front g c =
 pub returns-clause-front : goal.returns-clause-front
 returns-clause-front g c =
     let is = rw c.kind_of.ensures at c.shows.ensures in
-    on_err_then _ (λ f. shown_cut _ _ _ _ is c.if-not-shows.false _ _ _ c.in_ok-write_line.ensures.whole f) c.send.ensures.front
+    on_err_then _ (λ f. shown_cut _ _ _ _ is c.if-not-shows.false _ _ _ c.in_ok-write_line.ensures.whole f)
+    c.send.ensures.front

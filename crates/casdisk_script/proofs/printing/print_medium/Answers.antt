@@ -10,7 +10,8 @@ returns-in_err-send_words-clause-front g c =
 pub returns-clause-whole : goal.returns-clause-whole
 returns-clause-whole g c =
     let sent = rw c.word_of.ensures at c.in_ok-send_words.ensures.whole in
-    on_ok_then c.send.result (λ f. shown_whole _ _ _ _ c.shows.ensures c.if-not-shows.false _ _ _ sent f) c.send.ensures.whole
+    on_ok_then c.send.result (λ f. shown_whole _ _ _ _ c.shows.ensures c.if-not-shows.false _ _ _ sent f)
+    c.send.ensures.whole
 
 pub returns-clause-front : goal.returns-clause-front
 returns-clause-front g c =

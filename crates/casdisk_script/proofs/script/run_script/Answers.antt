@@ -13,4 +13,7 @@ returns g c =
     let begun = c.in_ok-config.ensures.begun (λ c'. script_line c' kinds) _ _ sent in
     let none = ap (λ (x : State). x.past) c.in-Ok-new.ensures.ok in
     let ran = rw (ap (λ (x : State). x.config) c.in-Ok-new.ensures.ok) at (c.run_lines.ensures.runs config [] none) in
-    record { runs = runs_after (outcome (λ c'. script_line c' kinds)) (script_line config kinds) [] 2 _ _ _ _ _ _ _ c.run_lines.result begun ran }
+    record {
+      runs = runs_after (outcome (λ c'. script_line c' kinds)) (script_line config kinds) [] 2 _ _ _ _ _ _ _
+          c.run_lines.result begun ran;
+    }

@@ -6,7 +6,8 @@ use Rattle.checked_tickets.proofs.unit.answers_at.Given as goal
 
 abbrev pub invariant-loop-place : goal.invariant-loop-place
 invariant-loop-place l = record {
-  items : l.answers.items ≡ map (λ b. bytes_eq (contents_in l.volume b) (compare_data l.ticket b)) (blocks_from l.range.slba l.place);
+  items : l.answers.items ≡ map (λ b. bytes_eq (contents_in l.volume b) (compare_data l.ticket b))
+      (blocks_from l.range.slba l.place);
   count : vec_len l.answers ≡ l.place;
   room : l.range.blocks ≤ vec_capacity l.answers;
 }

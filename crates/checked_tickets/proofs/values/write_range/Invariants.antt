@@ -5,5 +5,7 @@ use Rattle.checked_tickets.proofs.values.write_range.Given as goal
 abbrev pub invariant-loop-place : goal.invariant-loop-place
 invariant-loop-place l = record {
   size : length l.volume ≡ length l.fn.volume;
-  value : (b : ℕ) → b < length l.fn.volume → contents_in l.volume b ≡ written_in (contents_in l.fn.volume) l.ticket (record { slba = l.range.slba; blocks = l.place }) b;
+  value : (b : ℕ) → b < length l.fn.volume
+      → contents_in l.volume b
+      ≡ written_in (contents_in l.fn.volume) l.ticket (record { slba = l.range.slba; blocks = l.place }) b;
 }

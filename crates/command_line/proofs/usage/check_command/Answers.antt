@@ -11,4 +11,5 @@ returns c =
     let flag_local = not_global c.flag_option.result (ap (λ (r : Rule). r.is_simple) c.flag_option.ensures) in
     let file_local = not_global c.file_argument.result (ap (λ (r : Rule). r.is_simple) c.file_argument.ensures) in
     let first = c.in_ok-command.ensures.shape flag_local ∙ ap₂ with_rule start_is c.flag_option.ensures in
-    IfOk-weaker c.arg-2.result _ _ (λ m h. h.shape file_local ∙ ap₂ with_rule first c.file_argument.ensures) c.arg-2.ensures
+    IfOk-weaker c.arg-2.result _ _ (λ m h. h.shape file_local ∙ ap₂ with_rule first c.file_argument.ensures)
+    c.arg-2.ensures

@@ -5,8 +5,10 @@ use Rattle.command_line.proofs.Refused.{refused_by}
 use Rattle.command_line.proofs.usage.explain_asked.Goals as goal
 
 pub returns-in-Some-clause-asks : goal.returns-in-Some-clause-asks
-returns-in-Some-clause-asks c = (refl, sym (c.in-Some.ensures ∙ first_value-rows (found_of c.args.matches.now) (codes "FILE")))
+returns-in-Some-clause-asks c =
+    (refl, sym (c.in-Some.ensures ∙ first_value-rows (found_of c.args.matches.now) (codes "FILE")))
 
 pub returns-in-None-clause-refuses : goal.returns-in-None-clause-refuses
 returns-in-None-clause-refuses c =
-    refused_by (codes "explain") (rows_of (found_of c.args.matches.now)) c.text_of.result (inr (inl (inr refl, sym (c.in-None.ensures ∙ first_value-rows (found_of c.args.matches.now) (codes "FILE")))))
+    refused_by (codes "explain") (rows_of (found_of c.args.matches.now)) c.text_of.result
+    (inr (inl (inr refl, sym (c.in-None.ensures ∙ first_value-rows (found_of c.args.matches.now) (codes "FILE")))))

@@ -14,9 +14,11 @@ gives u x = ParsesUnsigned 64 10 u x × ExplainsUnsignedError 10 u x × HasUnsig
 pub returns-clause-says : goal.returns-clause-says
 returns-clause-says c =
     let f = found_of c.args.matches.now in
-    says_it gives _ c.args.name.now (rows_of f) _ (one_text-rows f c.args.name.now) (λ u x g. g.0) c.get_one.ensures.none c.get_one.ensures.value
+    says_it gives _ c.args.name.now (rows_of f) _ (one_text-rows f c.args.name.now) (λ u x g. g.0)
+    c.get_one.ensures.none c.get_one.ensures.value
 
 pub returns-clause-only : goal.returns-clause-only
 returns-clause-only c =
     let f = found_of c.args.matches.now in
-    reads_it gives _ c.args.name.now (rows_of f) _ (one_text-rows f c.args.name.now) (λ u x g. g.0) c.get_one.ensures.value
+    reads_it gives _ c.args.name.now (rows_of f) _ (one_text-rows f c.args.name.now) (λ u x g. g.0)
+    c.get_one.ensures.value

@@ -14,4 +14,9 @@ returns-in-Some-Some-clause-asks c = (
 
 pub returns-in_default-None-clause-refuses : goal.returns-in_default-None-clause-refuses
 returns-in_default-None-clause-refuses c =
-    refused_by (codes "run") (rows_of (found_of c.args.matches.now)) c.text_of.result (inl (refl, inl (sym (c.in_default-None.ensures' ∙ first_value-rows (found_of c.args.matches.now) (codes "FILE")))))
+    refused_by (codes "run") (rows_of (found_of c.args.matches.now)) c.text_of.result
+    (inl (
+      refl,
+      inl (sym (c.in_default-None.ensures'
+          ∙ first_value-rows (found_of c.args.matches.now) (codes "FILE"))),
+    ))

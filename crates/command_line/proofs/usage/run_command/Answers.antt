@@ -13,4 +13,5 @@ returns c =
     let file_local = not_global c.file_argument.result (ap (λ (r : Rule). r.is_simple) c.file_argument.ensures) in
     let first = c.in_ok-command.ensures.shape show_local ∙ ap₂ with_rule start_is c.show_option.ensures in
     let second = c.in_ok-command-2.ensures.shape flush_local ∙ ap₂ with_rule first c.flag_option.ensures in
-    IfOk-weaker c.arg-3.result _ _ (λ m h. h.shape file_local ∙ ap₂ with_rule second c.file_argument.ensures) c.arg-3.ensures
+    IfOk-weaker c.arg-3.result _ _ (λ m h. h.shape file_local ∙ ap₂ with_rule second c.file_argument.ensures)
+    c.arg-3.ensures

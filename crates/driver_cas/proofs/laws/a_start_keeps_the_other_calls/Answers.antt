@@ -6,7 +6,8 @@ returns g c =
     let d = c.args.old.now.value in
     let e = c.args.new.now in
     record {
-      call = λ same later asked contents r s. start_keeps g.P.Port g.met.P.Port.goes_on d e asked contents r same later s;
+      call = λ same later asked contents r s.
+          start_keeps g.P.Port g.met.P.Port.goes_on d e asked contents r same later s;
       claim = λ settings later lba r s. claim_keeps g.P.Port g.met.P.Port.goes_on d e lba r settings later s;
       release = λ same later lba serial r s. release_keeps g.P.Port g.met.P.Port.goes_on d e lba serial r same later s;
     }

@@ -5,4 +5,5 @@ use Rattle.driver_cas.proofs.messages.learn_notice.Given as goal
 
 abbrev pub invariant-loop : goal.invariant-loop
 invariant-loop g l =
-    SawOn l.fn.pass l.pass × IsNoticeOf l.engine l.notice × (notice_seen l.notice ≡ notice_seen l.fn.notice) × (l.notice.queue ≡ l.fn.notice.queue)
+    SawOn l.fn.pass l.pass × IsNoticeOf l.engine l.notice × (notice_seen l.notice ≡ notice_seen l.fn.notice)
+    × (l.notice.queue ≡ l.fn.notice.queue)

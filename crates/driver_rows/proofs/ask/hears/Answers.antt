@@ -13,6 +13,7 @@ loop-preserved g c =
       λ k of. x.ensures.calls k (c.loop.invariant.1 k of),
       subst (λ (d : Driver SharedPort _). IsUntouched d x.new.self) before
           (c.an_untouched_driver_stays_so.ensures
-          (subst (λ (d : Driver SharedPort _). IsUntouched d c.of-now.result.value) (sym before) (subst (λ (d : Driver SharedPort _). IsUntouched c.args.host.now.driver d) (sym now) c.loop.invariant.2))
+          (subst (λ (d : Driver SharedPort _). IsUntouched d c.of-now.result.value) (sym before)
+          (subst (λ (d : Driver SharedPort _). IsUntouched c.args.host.now.driver d) (sym now) c.loop.invariant.2))
           (subst (λ (d : Driver SharedPort _). IsUntouched d x.new.self) (sym now) x.ensures.untouched)),
     )

@@ -5,7 +5,8 @@ use Rattle.history.proofs.Joining.{joined}
 use Rattle.history.proofs.batch.more_of.Given as goal
 
 abbrev pub invariant-loop-rest : goal.invariant-loop-rest
-invariant-loop-rest l = joined l.items.items (more_in (map (λ w. w.now) l.rest)) ≡ then_item (Some l.fn.first) (more_in (map (λ w. w.now) l.words))
+invariant-loop-rest l = joined l.items.items (more_in (map (λ w. w.now) l.rest))
+    ≡ then_item (Some l.fn.first) (more_in (map (λ w. w.now) l.words))
 
 abbrev pub decreases-loop-rest : goal.decreases-loop-rest
 decreases-loop-rest l = length l.rest

@@ -1,7 +1,7 @@
 use Rattle.std.proofs.Common.{take}
 use mathlib.Core.List.{reverse}
 use Rattle.nvme_model.specs.Legal.{IsLegal}
-use Rattle.one_pass_check.specs.Kept.{Stands}
+use Rattle.history_check.specs.Kept.{Stands}
 use Rattle.history_check.proofs.checking.check.Given as goal
 
 abbrev pub invariant-loop-place : goal.invariant-loop-place

@@ -1,4 +1,5 @@
-use Rattle.host_laws.proofs.Beside.{entries_append, own_beside, published_beside, reaped_beside, reaped_post_beside, sole_beside, swaps_beside}
+use Rattle.host_laws.proofs.Beside.{entries_append, own_beside, published_beside, reaped_beside, reaped_post_beside}
+use Rattle.host_laws.proofs.Beside.{sole_beside, swaps_beside}
 use Rattle.host_laws.proofs.Elements.{contains_in, in_contains}
 use Rattle.host_laws.proofs.seen_laws.others_leave_a_queue_alone.Goals as goal
 

@@ -1,4 +1,5 @@
-use Rattle.host_laws.proofs.Sharing.{disciplined_behind, disciplined_by_all, disciplined_later, passes-disciplined, passes_earlier}
+use Rattle.host_laws.proofs.Sharing.{disciplined_behind, disciplined_by_all, disciplined_later, passes-disciplined}
+use Rattle.host_laws.proofs.Sharing.{passes_earlier}
 use Rattle.host_laws.proofs.slot_laws.each_pass_keeps_the_discipline.Goals as goal
 
 pub returns : goal.returns

@@ -8,16 +8,19 @@ pub loop-init : goal.loop-init
 loop-init g c = (goes_same _ _ c.requires.own, c.requires.of, c.requires.unreleased)
 
 pub returns-in-Held-clause-goes : goal.returns-in-Held-clause-goes
-returns-in-Held-clause-goes g c = goes_called _ _ _ _ None c.loop.invariant.0 refl refl refl c.poll_claim.ensures.careful c.poll_claim.ensures.goes_on
+returns-in-Held-clause-goes g c =
+    goes_called _ _ _ _ None c.loop.invariant.0 refl refl refl c.poll_claim.ensures.careful c.poll_claim.ensures.goes_on
 
 pub returns-in-Held-clause-held : goal.returns-in-Held-clause-held
 returns-in-Held-clause-held g c = c.in-Held.ensures.held c.loop.invariant.2
 
 pub returns-then-eq-clause-goes : goal.returns-then-eq-clause-goes
-returns-then-eq-clause-goes g c = goes_called _ _ _ _ None c.loop.invariant.0 refl refl refl c.poll_claim.ensures.careful c.poll_claim.ensures.goes_on
+returns-then-eq-clause-goes g c =
+    goes_called _ _ _ _ None c.loop.invariant.0 refl refl refl c.poll_claim.ensures.careful c.poll_claim.ensures.goes_on
 
 pub returns-in-Taken-clause-goes : goal.returns-in-Taken-clause-goes
-returns-in-Taken-clause-goes g c = goes_called _ _ _ _ None c.loop.invariant.0 refl refl refl c.poll_claim.ensures.careful c.poll_claim.ensures.goes_on
+returns-in-Taken-clause-goes g c =
+    goes_called _ _ _ _ None c.loop.invariant.0 refl refl refl c.poll_claim.ensures.careful c.poll_claim.ensures.goes_on
 
 pub loop-preserved : goal.loop-preserved
 loop-preserved g c =
@@ -28,11 +31,14 @@ loop-preserved g c =
     ] in
     let free : IsUnreleased c.poll_claim.new.driver c.match-poll_claim.claiming =
     elim c.match-poll_claim.branch [
-      | in-Pending w ↦ rw w.claiming-is (w.in-Pending.ensures.unreleased c.loop.invariant.0.of.careful c.loop.invariant.2)
-      | in-Later+else-eq w ↦ rw w.claiming-is (w.in-Later.ensures.unreleased c.loop.invariant.0.of.careful c.loop.invariant.2)
+      | in-Pending w ↦ rw w.claiming-is
+          (w.in-Pending.ensures.unreleased c.loop.invariant.0.of.careful c.loop.invariant.2)
+      | in-Later+else-eq w ↦ rw w.claiming-is
+          (w.in-Later.ensures.unreleased c.loop.invariant.0.of.careful c.loop.invariant.2)
     ] in (
       goes_far _ _ (record c.loop.host { driver = c.poll_claim.new.driver }) _
-          (goes_called _ _ _ _ None c.loop.invariant.0 refl refl refl c.poll_claim.ensures.careful c.poll_claim.ensures.goes_on) c.pause.ensures.goes,
+          (goes_called _ _ _ _ None c.loop.invariant.0 refl refl refl c.poll_claim.ensures.careful
+          c.poll_claim.ensures.goes_on) c.pause.ensures.goes,
       c.pause.ensures.claiming c.match-poll_claim.claiming of,
       c.pause.ensures.unreleased c.match-poll_claim.claiming of free,
     )

@@ -3,4 +3,5 @@ use Rattle.host_rounds.specs.Hosts.{Goes}
 use Rattle.host_rounds.proofs.claiming.wait.Given as goal
 
 abbrev pub invariant-loop : goal.invariant-loop
-invariant-loop g l = Goes l.hall l.fn.host l.host × IsClaimingOf l.host.driver l.claiming × IsUnreleased l.host.driver l.claiming
+invariant-loop g l = Goes l.hall l.fn.host l.host × IsClaimingOf l.host.driver l.claiming
+    × IsUnreleased l.host.driver l.claiming

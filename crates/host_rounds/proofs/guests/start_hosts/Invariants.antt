@@ -10,4 +10,5 @@ abbrev pub invariant-loop : goal.invariant-loop
 invariant-loop g l =
     All (IsHostOf l.hall l.play.config) l.hands.items × (vec_len l.started + vec_len l.hands ≤ vec_capacity l.started)
     × (vec_len l.hands + l.counter ≡ vec_len l.fn.hands)
-    × (begun : List HostHand) × (l.fn.hands.items ≡ l.hands.items ++ begun) × All (IsPromised l.hall l.play (map (λ h. h.promise) l.started.items)) begun
+    × (begun : List HostHand) × (l.fn.hands.items ≡ l.hands.items ++ begun)
+    × All (IsPromised l.hall l.play (map (λ h. h.promise) l.started.items)) begun

@@ -5,5 +5,6 @@ use Rattle.host_rounds.proofs.owned.submission_queues.Given as goal
 
 abbrev pub invariant-loop-k : goal.invariant-loop-k
 invariant-loop-k l =
-    IsStrictlyIncreasing l.queues.items × All (λ n. n < l.k + 1) l.queues.items × All (λ n. uses l.config l.queue n ≡ true) l.queues.items × (1 ≤ vec_len l.queues)
+    IsStrictlyIncreasing l.queues.items × All (λ n. n < l.k + 1) l.queues.items
+    × All (λ n. uses l.config l.queue n ≡ true) l.queues.items × (1 ≤ vec_len l.queues)
     × HasEachBelow l.config l.queue (l.k + 1) l.queues.items

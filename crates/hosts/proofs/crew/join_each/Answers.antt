@@ -17,5 +17,9 @@ loop-preserved g c =
 pub returns : goal.returns
 returns g c =
     let i = c.loop.invariant in
-    let none : c.loop.started.items ≡ [] = no_items c.loop.started.items (omega (arith, i.0, c.loop-test.false, c.len-end.ensures)) in
-    record { each = subst (λ l. OnOk c.loop.ends (All (λ h. g.P.Promise.kept_by h.promise (Ok tt)) l)) (sym (i.2 ∙ ap (λ l. l ++ i.1) none)) i.3 }
+    let none : c.loop.started.items ≡ [] =
+    no_items c.loop.started.items (omega (arith, i.0, c.loop-test.false, c.len-end.ensures)) in
+    record {
+      each = subst (λ l. OnOk c.loop.ends (All (λ h. g.P.Promise.kept_by h.promise (Ok tt)) l))
+          (sym (i.2 ∙ ap (λ l. l ++ i.1) none)) i.3;
+    }

@@ -6,4 +6,5 @@ use Rattle.hosts.proofs.crew.join_each.Given as goal
 abbrev pub invariant-loop : goal.invariant-loop
 invariant-loop g l =
     (vec_len l.started + l.counter ≡ vec_len l.fn.started)
-    × (joined : List _) × (l.fn.started.items ≡ l.started.items ++ joined) × OnOk l.ends (All (λ h. g.P.Promise.kept_by h.promise (Ok tt)) joined)
+    × (joined : List _) × (l.fn.started.items ≡ l.started.items ++ joined)
+    × OnOk l.ends (All (λ h. g.P.Promise.kept_by h.promise (Ok tt)) joined)

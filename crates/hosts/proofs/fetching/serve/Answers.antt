@@ -2,7 +2,8 @@ use Rattle.hosts.proofs.Going.{goes_on}
 use Rattle.hosts.proofs.fetching.serve.Goals as goal
 
 pub returns-in-Work : goal.returns-in-Work
-returns-in-Work g c = record { goes = goes_on _ _ _ _ (goes_on _ _ _ _ c.loop.invariant c.fetch.ensures.goes) c.put.ensures.goes }
+returns-in-Work g c = record
+    { goes = goes_on _ _ _ _ (goes_on _ _ _ _ c.loop.invariant c.fetch.ensures.goes) c.put.ensures.goes }
 
 pub returns-in-Nothing : goal.returns-in-Nothing
 returns-in-Nothing g c = record { goes = goes_on _ _ _ _ c.loop.invariant c.fetch.ensures.goes }

@@ -15,5 +15,6 @@ returns-clause-worker g c =
     (all_last (queue.IsPlaceOf hall.engine hall.works) _ _ _ c.requires.works c.in-Some-Some.ensures'.items)
     c.requires.queues.0
     c.requires.queues.1
-    (all_last (λ (row : Vec (QueuePass Notice) Global). ArePlaces hall.engine hall.notices.items row.items) _ _ _ c.requires.rows
+    (all_last (λ (row : Vec (QueuePass Notice) Global). ArePlaces hall.engine hall.notices.items row.items) _ _ _
+    c.requires.rows
     c.in_ok-notices.ensures.items)

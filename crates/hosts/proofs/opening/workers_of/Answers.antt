@@ -6,7 +6,8 @@ use Rattle.hosts.proofs.opening.workers_of.Goals as goal
 pub loop-preserved : goal.loop-preserved
 loop-preserved g c = (
   c.take_worker.ensures.rest,
-  subst (All (IsWorkerOf c.args.hall.now)) (sym c.push_reserved.ensures.items) (All-push (IsWorkerOf c.args.hall.now) _ _ c.loop.invariant.1 c.in-Some.ensures.worker),
+  subst (All (IsWorkerOf c.args.hall.now)) (sym c.push_reserved.ensures.items)
+      (All-push (IsWorkerOf c.args.hall.now) _ _ c.loop.invariant.1 c.in-Some.ensures.worker),
   search rules,
   search rules,
   search rules,

@@ -5,9 +5,11 @@ use Rattle.line_text.proofs.data_out.send_dotted.Goals as goal
 
 pub returns-in_err-send-clause-front : goal.returns-in_err-send-clause-front
 returns-in_err-send-clause-front g c =
-    let x = c.in_err-send.ensures.front in on_err c.from_residual.result (front_first _ _ (46 ∷ []) (block_text c.args.block.now) x)
+    let x = c.in_err-send.ensures.front in
+    on_err c.from_residual.result (front_first _ _ (46 ∷ []) (block_text c.args.block.now) x)
 
 pub returns-clause-front : goal.returns-clause-front
 returns-clause-front g c =
     let first = c.in_ok-send.ensures.whole in
-    on_err_then c.send_block.result (λ h. front_second _ _ _ (46 ∷ []) (block_text c.args.block.now) first h) c.send_block.ensures.front
+    on_err_then c.send_block.result (λ h. front_second _ _ _ (46 ∷ []) (block_text c.args.block.now) first h)
+    c.send_block.ensures.front

@@ -6,7 +6,8 @@ use Rattle.line_text.proofs.digits.read_hex.Goals as goal
 
 pub returns-then-not-is_upper : goal.returns-then-not-is_upper
 returns-then-not-is_upper c =
-    spelled IsBytes encode_upper _ _ (bytes_law c.args.word.now) None (sym (bytes_lower _ (sym c.is_upper.ensures ∙ c.if-not-is_upper.true)))
+    spelled IsBytes encode_upper _ _ (bytes_law c.args.word.now) None
+    (sym (bytes_lower _ (sym c.is_upper.ensures ∙ c.if-not-is_upper.true)))
 
 pub returns-in-Ok : goal.returns-in-Ok
 returns-in-Ok c =
@@ -15,4 +16,5 @@ returns-in-Ok c =
 
 pub returns-in_default : goal.returns-in_default
 returns-in_default c =
-    spelled IsBytes encode_upper _ _ (bytes_law c.args.word.now) None (sym (bytes_none _ c.in-Err.error (or_left c.in-Err.ensures.err c.in_default.not-OutOfMemory)))
+    spelled IsBytes encode_upper _ _ (bytes_law c.args.word.now) None
+    (sym (bytes_none _ c.in-Err.error (or_left c.in-Err.ensures.err c.in_default.not-OutOfMemory)))

@@ -7,7 +7,8 @@ use Rattle.line_text.proofs.digits.spell.Goals as goal
 pub bytes-preserved : goal.bytes-preserved
 bytes-preserved c =
     let byte : ℕ = slice_index c.args.bytes.now c.bytes.i in
-    encode_step upper_digits c.args.bytes.now c.bytes.text c.bytes.i _ _ (omega arith) (omega arith) refl (ap (λ (k : ℕ). slice_index upper_digits k) (and_mask byte 4)) c.bytes.invariant
+    encode_step upper_digits c.args.bytes.now c.bytes.text c.bytes.i _ _ (omega arith) (omega arith) refl
+    (ap (λ (k : ℕ). slice_index upper_digits k) (and_mask byte 4)) c.bytes.invariant
 
 pub returns : goal.returns
 returns c = encode_done _ _ _ c.bytes.i (omega arith) (omega arith) c.bytes.invariant

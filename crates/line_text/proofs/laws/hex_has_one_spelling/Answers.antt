@@ -7,6 +7,7 @@ use Rattle.line_text.proofs.laws.hex_has_one_spelling.Goals as goal
 pub returns : goal.returns
 returns c = record {
   read_back = λ bytes fits. bytes_again (encode_upper bytes) bytes fits refl;
-  one_list = λ a b fits fits' e. spelling_one (bytes_again (encode_upper a) a fits refl) (bytes_again (encode_upper a) b fits' e);
+  one_list = λ a b fits fits' e.
+      spelling_one (bytes_again (encode_upper a) a fits refl) (bytes_again (encode_upper a) b fits' e);
   written_back = λ bytes word e. sym (bytes_is word bytes e);
 }

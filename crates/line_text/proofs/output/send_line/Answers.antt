@@ -3,7 +3,8 @@ use Rattle.line_text.proofs.Known.{front_first, front_second, on_err, on_err_the
 use Rattle.line_text.proofs.output.send_line.Goals as goal
 
 pub returns-in_err-send-clause-front : goal.returns-in_err-send-clause-front
-returns-in_err-send-clause-front g c = let x = c.in_err-send.ensures.front in on_err c.from_residual.result (front_first _ _ c.args.line.now (10 ∷ []) x)
+returns-in_err-send-clause-front g c = let x = c.in_err-send.ensures.front in
+    on_err c.from_residual.result (front_first _ _ c.args.line.now (10 ∷ []) x)
 
 pub returns-clause-front : goal.returns-clause-front
 returns-clause-front g c =

@@ -5,9 +5,11 @@ use Rattle.line_text.proofs.words.send_spaced.Goals as goal
 
 pub returns-in_err-send-clause-front : goal.returns-in_err-send-clause-front
 returns-in_err-send-clause-front g c =
-    let x = c.in_err-send.ensures.front in on_err c.from_residual.result (front_first _ _ (32 ∷ []) (word_text c.args.word) x)
+    let x = c.in_err-send.ensures.front in
+    on_err c.from_residual.result (front_first _ _ (32 ∷ []) (word_text c.args.word) x)
 
 pub returns-clause-front : goal.returns-clause-front
 returns-clause-front g c =
     let first = c.in_ok-send.ensures.whole in
-    on_err_then c.send_word.result (λ h. front_second _ _ _ (32 ∷ []) (word_text c.args.word) first h) c.send_word.ensures.front
+    on_err_then c.send_word.result (λ h. front_second _ _ _ (32 ∷ []) (word_text c.args.word) first h)
+    c.send_word.ensures.front

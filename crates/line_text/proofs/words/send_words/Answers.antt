@@ -12,14 +12,18 @@ pub returns-clause-whole : goal.returns-clause-whole
 returns-clause-whole g c =
     let a = g.W.Write.contents c.args.writer.now in
     let d = g.W.Write.contents c.send_behind.new.writer in
-    let text = ap (λ l. join_with_byte 32 (map word_text l)) c.in-Some.ensures.cases.0 ∙ join_behind 32 (word_text c.in-Some.first.now) (map word_text c.in-Some.others.now) in
+    let text = ap (λ l. join_with_byte 32 (map word_text l)) c.in-Some.ensures.cases.0
+    ∙ join_behind 32 (word_text c.in-Some.first.now) (map word_text c.in-Some.others.now) in
     let first = c.in_ok-send_word.ensures.whole in
-    on_ok_then c.send_behind.result (λ p. subst (Appends a d) (sym text) (Appends-trans a _ d _ _ first p)) c.send_behind.ensures.whole
+    on_ok_then c.send_behind.result (λ p. subst (Appends a d) (sym text) (Appends-trans a _ d _ _ first p))
+    c.send_behind.ensures.whole
 
 pub returns-clause-front : goal.returns-clause-front
 returns-clause-front g c =
     let a = g.W.Write.contents c.args.writer.now in
     let d = g.W.Write.contents c.send_behind.new.writer in
-    let text = ap (λ l. join_with_byte 32 (map word_text l)) c.in-Some.ensures.cases.0 ∙ join_behind 32 (word_text c.in-Some.first.now) (map word_text c.in-Some.others.now) in
+    let text = ap (λ l. join_with_byte 32 (map word_text l)) c.in-Some.ensures.cases.0
+    ∙ join_behind 32 (word_text c.in-Some.first.now) (map word_text c.in-Some.others.now) in
     let first = c.in_ok-send_word.ensures.whole in
-    on_err_then c.send_behind.result (λ p. subst (AppendsFront a d) (sym text) (front_second a _ d _ _ first p)) c.send_behind.ensures.front
+    on_err_then c.send_behind.result (λ p. subst (AppendsFront a d) (sym text) (front_second a _ d _ _ first p))
+    c.send_behind.ensures.front

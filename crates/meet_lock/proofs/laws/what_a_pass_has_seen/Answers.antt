@@ -8,7 +8,10 @@ pub returns-clause-legal : goal.returns-clause-legal
 returns-clause-legal g c = c.requires.knows.legal
 
 pub returns-clause-array : goal.returns-clause-array
-returns-clause-array g c = one_at_a_time (config_of c.args.pass.now) (entries (seen c.args.pass.now)) c.requires.knows.legal
+returns-clause-array g c =
+    one_at_a_time (config_of c.args.pass.now) (entries (seen c.args.pass.now)) c.requires.knows.legal
 
 pub returns-clause-volume : goal.returns-clause-volume
-returns-clause-volume g c = λ l. medium_is_value (config_of c.args.pass.now) (entries (seen c.args.pass.now)) l c.requires.knows.legal c.requires.knows.marks
+returns-clause-volume g c =
+    λ l. medium_is_value (config_of c.args.pass.now) (entries (seen c.args.pass.now)) l c.requires.knows.legal
+    c.requires.knows.marks

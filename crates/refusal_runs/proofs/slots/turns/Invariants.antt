@@ -3,4 +3,5 @@ use Rattle.driver_rows.specs.Claimants.{IsClaimant}
 use Rattle.refusal_runs.proofs.slots.turns.Given as goal
 
 abbrev pub invariant-loop-asked : goal.invariant-loop-asked
-invariant-loop-asked g l = IsServerOf l.bench l.server × IsClaimant l.bench l.slots l.one × IsClaimant l.bench l.slots l.two
+invariant-loop-asked g l =
+    IsServerOf l.bench l.server × IsClaimant l.bench l.slots l.one × IsClaimant l.bench l.slots l.two

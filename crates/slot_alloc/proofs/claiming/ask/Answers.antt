@@ -2,7 +2,8 @@ use Rattle.std.proofs.Common.{Err, Ok, refl, rules, ◌≡◌, ◌≢◌}
 use Rattle.driver_cas.specs.Drivers.{area_of}
 use Rattle.driver_cas.specs.declared.fault.Fault.{Fault}
 use Rattle.slot_alloc.specs.Areas.{block_of}
-use Rattle.slot_alloc.proofs.Asking.{call_kept, claiming_due, claiming_now, claims_of, start_of, told_full, told_later, unreleased_now}
+use Rattle.slot_alloc.proofs.Asking.{call_kept, claiming_due, claiming_now, claims_of, start_of, told_full, told_later}
+use Rattle.slot_alloc.proofs.Asking.{unreleased_now}
 use Rattle.slot_alloc.proofs.Starting.{careful_claimed, careful_same, goes_on_claimed, goes_on_same}
 use Rattle.slot_alloc.proofs.claiming.ask.Goals as goal
 
@@ -13,7 +14,9 @@ returns-in-Ok-clause-careful g c =
     let k = c.args.claiming in
     let x = c.in-Ok in
     careful_claimed g.P.Port d e (block_of (area_of d) k.slot) x.call x.serial
-    (claims_of g.P.Port d e k.slots k.slot c.block.result x.call x.serial c.block.ensures x.ensures.settings x.ensures.later x.ensures.is x.ensures.law.0 x.ensures.law.1 x.ensures.law.2 c.requires.of.area_is c.requires.of.inside)
+    (claims_of g.P.Port d e k.slots k.slot c.block.result x.call x.serial c.block.ensures x.ensures.settings
+    x.ensures.later x.ensures.is x.ensures.law.0 x.ensures.law.1 x.ensures.law.2 c.requires.of.area_is
+    c.requires.of.inside)
 
 pub returns-in-Ok-clause-unreleased : goal.returns-in-Ok-clause-unreleased
 returns-in-Ok-clause-unreleased g c = λ careful.
@@ -22,7 +25,9 @@ returns-in-Ok-clause-unreleased g c = λ careful.
     let k = c.args.claiming in
     let x = c.in-Ok in
     unreleased_now g.P.Port d e k.slot x.call x.serial
-    (claims_of g.P.Port d e k.slots k.slot c.block.result x.call x.serial c.block.ensures x.ensures.settings x.ensures.later x.ensures.is x.ensures.law.0 x.ensures.law.1 x.ensures.law.2 c.requires.of.area_is c.requires.of.inside) careful
+    (claims_of g.P.Port d e k.slots k.slot c.block.result x.call x.serial c.block.ensures x.ensures.settings
+    x.ensures.later x.ensures.is x.ensures.law.0 x.ensures.law.1 x.ensures.law.2 c.requires.of.area_is
+    c.requires.of.inside) careful
 
 pub returns-in-Ok-clause-goes_on : goal.returns-in-Ok-clause-goes_on
 returns-in-Ok-clause-goes_on g c =
@@ -31,7 +36,9 @@ returns-in-Ok-clause-goes_on g c =
     let k = c.args.claiming in
     let x = c.in-Ok in
     goes_on_claimed g.P.Port d e (block_of (area_of d) k.slot) x.call x.serial
-    (claims_of g.P.Port d e k.slots k.slot c.block.result x.call x.serial c.block.ensures x.ensures.settings x.ensures.later x.ensures.is x.ensures.law.0 x.ensures.law.1 x.ensures.law.2 c.requires.of.area_is c.requires.of.inside)
+    (claims_of g.P.Port d e k.slots k.slot c.block.result x.call x.serial c.block.ensures x.ensures.settings
+    x.ensures.later x.ensures.is x.ensures.law.0 x.ensures.law.1 x.ensures.law.2 c.requires.of.area_is
+    c.requires.of.inside)
 
 pub returns-in-Ok-clause-is : goal.returns-in-Ok-clause-is
 returns-in-Ok-clause-is g c =
@@ -39,7 +46,8 @@ returns-in-Ok-clause-is g c =
     let x = c.in-Ok in
     record {
       start = Ok (x.call, x.serial);
-      is = start_of g.P.Port c.args.driver.now c.start_claim.new.self k.slots k.slot c.block.result (Ok (x.call, x.serial)) c.block.ensures c.requires.of.area_is x.ensures.is;
+      is = start_of g.P.Port c.args.driver.now c.start_claim.new.self k.slots k.slot c.block.result
+          (Ok (x.call, x.serial)) c.block.ensures c.requires.of.area_is x.ensures.is;
       told = refl;
     }
 
@@ -50,7 +58,9 @@ returns-in-Ok-clause-of g c =
     let k = c.args.claiming in
     let x = c.in-Ok in
     claiming_now g.P.Port g.met.P.Port.goes_on d e k.began k.slots k.reach k.slot x.call x.serial k.lower
-    (claims_of g.P.Port d e k.slots k.slot c.block.result x.call x.serial c.block.ensures x.ensures.settings x.ensures.later x.ensures.is x.ensures.law.0 x.ensures.law.1 x.ensures.law.2 c.requires.of.area_is c.requires.of.inside)
+    (claims_of g.P.Port d e k.slots k.slot c.block.result x.call x.serial c.block.ensures x.ensures.settings
+    x.ensures.later x.ensures.is x.ensures.law.0 x.ensures.law.1 x.ensures.law.2 c.requires.of.area_is
+    c.requires.of.inside)
     c.requires.of.area_is c.requires.of.inside c.requires.of.since c.requires.of.lower
 
 pub returns-in-Ok-clause-others : goal.returns-in-Ok-clause-others
@@ -73,7 +83,8 @@ returns-then-eq-clause-is g c =
     let full : f ≡ Fault.RingFull = search rules in
     record {
       start = Err f;
-      is = start_of g.P.Port c.args.driver.now c.start_claim.new.self k.slots k.slot c.block.result (Err f) c.block.ensures c.requires.of.area_is c.in-Err.ensures.is;
+      is = start_of g.P.Port c.args.driver.now c.start_claim.new.self k.slots k.slot c.block.result (Err f)
+          c.block.ensures c.requires.of.area_is c.in-Err.ensures.is;
       told = told_full g.P.Port k f full;
     }
 
@@ -82,12 +93,17 @@ returns-then-eq-clause-of g c =
     let d = c.args.driver.now in
     let e = c.start_claim.new.self in
     let x = c.in-Err.ensures in
-    claiming_due g.P.Port g.met.P.Port.goes_on d e c.args.claiming c.requires.of c.requires.any (goes_on_same g.P.Port d e x.settings x.is.0 x.later x.is.1.0)
+    claiming_due g.P.Port g.met.P.Port.goes_on d e c.args.claiming c.requires.of c.requires.any
+    (goes_on_same g.P.Port d e x.settings x.is.0 x.later x.is.1.0)
 
 pub returns-then-eq-clause-others : goal.returns-then-eq-clause-others
 returns-then-eq-clause-others g c =
     let x = c.in-Err.ensures in
-    λ other of. (call_kept g.P.Port g.met.P.Port.goes_on c.args.driver.now c.start_claim.new.self other x.settings x.is.0 x.later x.is.1 of, tt)
+    λ other of. (
+      call_kept g.P.Port g.met.P.Port.goes_on c.args.driver.now c.start_claim.new.self other x.settings
+          x.is.0 x.later x.is.1 of,
+      tt,
+    )
 
 pub returns-else-eq-clause-careful : goal.returns-else-eq-clause-careful
 returns-else-eq-clause-careful g c =
@@ -107,7 +123,8 @@ returns-else-eq-clause-is g c =
     let room : f ≢ Fault.RingFull = search rules in
     record {
       start = Err f;
-      is = start_of g.P.Port c.args.driver.now c.start_claim.new.self k.slots k.slot c.block.result (Err f) c.block.ensures c.requires.of.area_is c.in-Err.ensures.is;
+      is = start_of g.P.Port c.args.driver.now c.start_claim.new.self k.slots k.slot c.block.result (Err f)
+          c.block.ensures c.requires.of.area_is c.in-Err.ensures.is;
       told = told_later g.P.Port k f other room;
     }
 
@@ -116,9 +133,14 @@ returns-else-eq-clause-of g c =
     let d = c.args.driver.now in
     let e = c.start_claim.new.self in
     let x = c.in-Err.ensures in
-    claiming_due g.P.Port g.met.P.Port.goes_on d e c.args.claiming c.requires.of c.requires.any (goes_on_same g.P.Port d e x.settings x.is.0 x.later x.is.1.0)
+    claiming_due g.P.Port g.met.P.Port.goes_on d e c.args.claiming c.requires.of c.requires.any
+    (goes_on_same g.P.Port d e x.settings x.is.0 x.later x.is.1.0)
 
 pub returns-else-eq-clause-others : goal.returns-else-eq-clause-others
 returns-else-eq-clause-others g c =
     let x = c.in-Err.ensures in
-    λ other of. (call_kept g.P.Port g.met.P.Port.goes_on c.args.driver.now c.start_claim.new.self other x.settings x.is.0 x.later x.is.1 of, tt)
+    λ other of. (
+      call_kept g.P.Port g.met.P.Port.goes_on c.args.driver.now c.start_claim.new.self other x.settings
+          x.is.0 x.later x.is.1 of,
+      tt,
+    )

@@ -6,4 +6,5 @@ use Rattle.slot_alloc.proofs.laws.a_careful_driver_keeps_the_discipline.Goals as
 pub returns : goal.returns
 returns c = λ careful host.
     let d = c.args.driver.now in
-    view_disciplined (before d) (area_of d) (host_of d) (last_of d) (view_of d.port) (record { legal = d.port.legal; premises = host; tidy = d.tidy; careful = careful })
+    view_disciplined (before d) (area_of d) (host_of d) (last_of d) (view_of d.port)
+    (record { legal = d.port.legal; premises = host; tidy = d.tidy; careful = careful })

@@ -13,9 +13,14 @@ returns c =
     let k = c.args.claim.now in
     record {
       believed = λ held careful host.
-          let view : IsSlotView (before d) (area_of d) (host_of d) (last_of d) (view_of d.port) = record { legal = d.port.legal; premises = host; tidy = d.tidy; careful = careful } in
-          view_believed (before d) (area_of d) (host_of d) (last_of d) (view_of d.port) (block_of (area_of d) (slot_of k)) (own_name d (serial_of k)) view (inside_of (area_of d) (slot_of k) held.inside) held.believed;
+          let view : IsSlotView (before d) (area_of d) (host_of d) (last_of d) (view_of d.port) =
+          record { legal = d.port.legal; premises = host; tidy = d.tidy; careful = careful } in
+          view_believed (before d) (area_of d) (host_of d) (last_of d) (view_of d.port)
+          (block_of (area_of d) (slot_of k)) (own_name d (serial_of k)) view
+          (inside_of (area_of d) (slot_of k) held.inside) held.believed;
       holder = λ held careful host.
-          let view : IsSlotView (before d) (area_of d) (host_of d) (last_of d) (view_of d.port) = record { legal = d.port.legal; premises = host; tidy = d.tidy; careful = careful } in
-          view_holder (before d) (area_of d) (host_of d) (last_of d) (view_of d.port) (block_of (area_of d) (slot_of k)) (own_name d (serial_of k)) view (inside_of (area_of d) (slot_of k) held.inside) held.believed;
+          let view : IsSlotView (before d) (area_of d) (host_of d) (last_of d) (view_of d.port) =
+          record { legal = d.port.legal; premises = host; tidy = d.tidy; careful = careful } in
+          view_holder (before d) (area_of d) (host_of d) (last_of d) (view_of d.port) (block_of (area_of d) (slot_of k))
+          (own_name d (serial_of k)) view (inside_of (area_of d) (slot_of k) held.inside) held.believed;
     }

@@ -11,5 +11,7 @@ use Rattle.slot_alloc.proofs.laws.a_failed_claim_was_told_so.Goals as goal
 pub returns : goal.returns
 returns c = λ alone lba serial status call s.
     let d = c.args.driver.now in
-    failed_on (before s.at) (view_of call.start.value) (view_of s.at.port) (view_of d.port) call.queue (number_of s.at call) call.op status s.later.view d.port.legal s.says
-    (subst (λ (log : List PortEvent). IsAlone log (view_of d.port)) (sym (ap (λ (b : Snapshot SharedPort). log_of (view_of b.value)) s.same.began)) alone)
+    failed_on (before s.at) (view_of call.start.value) (view_of s.at.port) (view_of d.port) call.queue
+    (number_of s.at call) call.op status s.later.view d.port.legal s.says
+    (subst (λ (log : List PortEvent). IsAlone log (view_of d.port))
+    (sym (ap (λ (b : Snapshot SharedPort). log_of (view_of b.value)) s.same.began)) alone)

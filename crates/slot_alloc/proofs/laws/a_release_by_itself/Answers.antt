@@ -6,6 +6,7 @@ returns g c =
     let d = c.args.old.now.value in
     let e = c.args.new.now in
     record {
-      careful = λ same lba serial result s name inside believed careful. careful_start g.P.Port d e lba serial result same s name inside believed careful;
+      careful = λ same lba serial result s name inside believed careful.
+          careful_start g.P.Port d e lba serial result same s name inside believed careful;
       goes_on = λ same later lba serial result s name. goes_on_start g.P.Port d e lba serial result same later s name;
     }

@@ -21,8 +21,16 @@ returns c =
     let old = c.args.old.now.value in
     let d = c.args.driver.now in
     let k = c.args.releasing.now.value in
-    let only : IsReleasingOf old k → IsQuiet old d → IsCareful d → IsSlotHost (before d) (area_of d) (host_of d) (view_of d.port) → (r : Result Reply Status) → answer_to d k.call ≡ Some r → r ≡ Ok Reply.Swapped = λ of quiet careful host r answer.
-    release_answer (before d) (area_of d) (host_of d) (last_of d) (view_of d.port) k.call.queue k.call.first k.call.second (number_of d k.call) (block_of (area_of d) k.slot) (own_name d k.serial) r
-    (record { legal = d.port.legal; premises = host; tidy = d.tidy; careful = careful }) (release_there _ old d k of quiet) (inside_of (area_of d) k.slot (inside_there _ old d k of quiet))
+    let only : IsReleasingOf old k → IsQuiet old d → IsCareful d
+    → IsSlotHost (before d) (area_of d) (host_of d) (view_of d.port) → (r : Result Reply Status)
+    → answer_to d k.call ≡ Some r → r ≡ Ok Reply.Swapped = λ of quiet careful host r answer.
+    release_answer (before d) (area_of d) (host_of d) (last_of d) (view_of d.port) k.call.queue k.call.first
+    k.call.second (number_of d k.call) (block_of (area_of d) k.slot) (own_name d k.serial) r
+    (record { legal = d.port.legal; premises = host; tidy = d.tidy; careful = careful })
+    (release_there _ old d k of quiet) (inside_of (area_of d) k.slot (inside_there _ old d k of quiet))
     (subst (λ (o : Op). outcome (made d) k.call.queue o k.call.first k.call.second ≡ Some r) of.does answer) in
-    record { answer = only; never = λ of quiet careful host fault h. never_failed _ d k fault (only of quiet careful host) h }
+    record {
+      answer = only;
+      never =
+          λ of quiet careful host fault h. never_failed _ d k fault (only of quiet careful host) h;
+    }

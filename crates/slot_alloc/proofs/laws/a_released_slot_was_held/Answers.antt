@@ -14,5 +14,7 @@ returns c = λ alone same later released.
     let at = c.args.at.now.value in
     let d = c.args.driver.now in
     let k = release_call c.args.releasing.now.value in
-    swaps_on (before at) (view_of k.start.value) (view_of at.port) (view_of d.port) k.queue (number_of at k) k.op later.view d.port.legal released.1
-    (subst (λ (log : List PortEvent). IsAlone log (view_of d.port)) (ap (λ (b : Snapshot SharedPort). log_of (view_of b.value)) same.began) alone)
+    swaps_on (before at) (view_of k.start.value) (view_of at.port) (view_of d.port) k.queue (number_of at k) k.op
+    later.view d.port.legal released.1
+    (subst (λ (log : List PortEvent). IsAlone log (view_of d.port))
+    (ap (λ (b : Snapshot SharedPort). log_of (view_of b.value)) same.began) alone)

@@ -11,5 +11,7 @@ use Rattle.slot_alloc.proofs.laws.a_taken_slot_was_anothers.Goals as goal
 pub returns : goal.returns
 returns c = λ alone lba serial call s.
     let d = c.args.driver.now in
-    differs_on (before s.at) (view_of call.start.value) (view_of s.at.port) (view_of d.port) call.queue (number_of s.at call) call.op s.later.view d.port.legal s.does s.says
-    (subst (λ (log : List PortEvent). IsAlone log (view_of d.port)) (sym (ap (λ (b : Snapshot SharedPort). log_of (view_of b.value)) s.same.began)) alone)
+    differs_on (before s.at) (view_of call.start.value) (view_of s.at.port) (view_of d.port) call.queue
+    (number_of s.at call) call.op s.later.view d.port.legal s.does s.says
+    (subst (λ (log : List PortEvent). IsAlone log (view_of d.port))
+    (sym (ap (λ (b : Snapshot SharedPort). log_of (view_of b.value)) s.same.began)) alone)

@@ -1,4 +1,5 @@
-use Rattle.slot_alloc.proofs.Untouched.{careful_kept, claiming_kept, goes_on_kept, held_kept, releasing_kept, unreleased_kept}
+use Rattle.slot_alloc.proofs.Untouched.{careful_kept, claiming_kept, goes_on_kept, held_kept, releasing_kept}
+use Rattle.slot_alloc.proofs.Untouched.{unreleased_kept}
 use Rattle.slot_alloc.proofs.laws.an_untouched_driver_keeps_its_slots.Goals as goal
 
 pub returns : goal.returns

@@ -16,8 +16,13 @@ returns c = λ held held_too careful careful_too host guest area met apart same.
     let e = c.args.other.now in
     let a = c.args.claim.now in
     let b = c.args.second.now in
-    let one : IsSlotView (before d) (area_of d) (host_of d) (last_of d) (view_of d.port) = record { legal = d.port.legal; premises = host; tidy = d.tidy; careful = careful } in
-    let other : IsSlotView (before e) (area_of e) (host_of e) (last_of e) (view_of e.port) = record { legal = e.port.legal; premises = guest; tidy = e.tidy; careful = careful_too } in
-    other_hosts (before d) (before e) (area_of d) (host_of d) (last_of d) (host_of e) (last_of e) (view_of d.port) (view_of e.port) (block_of (area_of d) (slot_of a)) (own_name d (serial_of a)) (own_name e (serial_of b)) one
-    (subst (λ (s : Range). IsSlotView (before e) s (host_of e) (last_of e) (view_of e.port)) (sym area) other) met (inside_of (area_of d) (slot_of a) held.inside) held.believed
-    (subst (λ (z : Range × ℕ). log_believed (made e) (block_of z.0 z.1) (own_name e (serial_of b)) ≡ true) (λ i. (sym area i, sym same i)) held_too.believed) apart
+    let one : IsSlotView (before d) (area_of d) (host_of d) (last_of d) (view_of d.port) =
+    record { legal = d.port.legal; premises = host; tidy = d.tidy; careful = careful } in
+    let other : IsSlotView (before e) (area_of e) (host_of e) (last_of e) (view_of e.port) =
+    record { legal = e.port.legal; premises = guest; tidy = e.tidy; careful = careful_too } in
+    other_hosts (before d) (before e) (area_of d) (host_of d) (last_of d) (host_of e) (last_of e) (view_of d.port)
+    (view_of e.port) (block_of (area_of d) (slot_of a)) (own_name d (serial_of a)) (own_name e (serial_of b)) one
+    (subst (λ (s : Range). IsSlotView (before e) s (host_of e) (last_of e) (view_of e.port)) (sym area) other) met
+    (inside_of (area_of d) (slot_of a) held.inside) held.believed
+    (subst (λ (z : Range × ℕ). log_believed (made e) (block_of z.0 z.1) (own_name e (serial_of b)) ≡ true)
+    (λ i. (sym area i, sym same i)) held_too.believed) apart

@@ -10,9 +10,13 @@ returns g c =
     let e = c.args.new.now in
     record {
       start = λ same later acwu slba bytes o contents result s.
-          start_kept g.P.Port d e (request_of acwu (area_of d) o slba bytes) contents result same later (request_sound acwu (area_of d) o slba bytes) s;
+          start_kept g.P.Port d e (request_of acwu (area_of d) o slba bytes) contents result same later
+          (request_sound acwu (area_of d) o slba bytes) s;
       pair = λ same later acwu slba bytes others contents result s.
-          start_kept g.P.Port d e (pair_request_of acwu (area_of d) slba bytes others) contents result same later (pair_sound acwu (area_of d) slba bytes others) s;
-      poll = λ same later one.
-          (careful_polled g.P.Port d e (record { same = same; later = later; one = one }), goes_on_polled g.P.Port d e (record { same = same; later = later; one = one }));
+          start_kept g.P.Port d e (pair_request_of acwu (area_of d) slba bytes others) contents result same later
+          (pair_sound acwu (area_of d) slba bytes others) s;
+      poll = λ same later one. (
+        careful_polled g.P.Port d e (record { same = same; later = later; one = one }),
+        goes_on_polled g.P.Port d e (record { same = same; later = later; one = one }),
+      );
     }

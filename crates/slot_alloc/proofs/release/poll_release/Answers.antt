@@ -47,7 +47,9 @@ returns-in-Pending-clause-is g c =
     let y = c.in-Pending in
     let same = same_releasing g.P.Port k y.call y.ensures.back in (
       same,
-      subst (λ (j : Releasing _). IsReleasingOf e j) (sym same) (releasing_polled g.P.Port d e k c.requires.of (record { same = x.same; later = x.later; one = x.one }) (subst (λ (j : Call _). IsCallOf e j) y.ensures.back y.ensures.stays)),
+      subst (λ (j : Releasing _). IsReleasingOf e j) (sym same)
+          (releasing_polled g.P.Port d e k c.requires.of (record { same = x.same; later = x.later; one = x.one })
+          (subst (λ (j : Call _). IsCallOf e j) y.ensures.back y.ensures.stays)),
       sym y.ensures.answer,
     )
 
@@ -60,7 +62,9 @@ returns-in-Later-clause-is g c =
     let y = c.in-Later in
     let same = same_releasing g.P.Port k y.call y.ensures.back.0 in (
       same,
-      subst (λ (j : Releasing _). IsReleasingOf e j) (sym same) (releasing_polled g.P.Port d e k c.requires.of (record { same = x.same; later = x.later; one = x.one }) (subst (λ (j : Call _). IsCallOf e j) y.ensures.back.0 y.ensures.stays)),
+      subst (λ (j : Releasing _). IsReleasingOf e j) (sym same)
+          (releasing_polled g.P.Port d e k c.requires.of (record { same = x.same; later = x.later; one = x.one })
+          (subst (λ (j : Call _). IsCallOf e j) y.ensures.back.0 y.ensures.stays)),
       y.ensures.back.1,
       sym y.ensures.answer,
     )
@@ -70,8 +74,12 @@ returns-else-is_swapped-clause-is g c =
     let e = c.poll.new.self in
     let k = c.args.releasing in
     let y = c.in-Done in
-    let differs = differs_polled g.P.Port c.args.driver.now e k y.reply c.requires.of (c.is_swapped.ensures.no_other c.if-is_swapped.false) (sym y.ensures.answer) in
+    let differs = differs_polled g.P.Port c.args.driver.now e k y.reply c.requires.of
+    (c.is_swapped.ensures.no_other c.if-is_swapped.false) (sym y.ensures.answer) in
     inr (
       refl,
-      (sym y.ensures.answer ∙ ap (λ (r : Reply). Some (Ok r)) differs, subst (λ (r : Reply). Says e k.call (Some (Ok r))) differs y.ensures.says),
+      (
+        sym y.ensures.answer ∙ ap (λ (r : Reply). Some (Ok r)) differs,
+        subst (λ (r : Reply). Says e k.call (Some (Ok r))) differs y.ensures.says,
+      ),
     )

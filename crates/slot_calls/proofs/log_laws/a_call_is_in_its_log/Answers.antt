@@ -2,4 +2,9 @@ use Rattle.slot_calls.proofs.Winning.{claim_in, claim_in_later, release_in, rele
 use Rattle.slot_calls.proofs.log_laws.a_call_is_in_its_log.Goals as goal
 
 pub returns : goal.returns
-returns c = record { claim = claim_in; release = release_in; claim_later = claim_in_later; release_later = release_in_later }
+returns c = record {
+  claim = claim_in;
+  release = release_in;
+  claim_later = claim_in_later;
+  release_later = release_in_later;
+}

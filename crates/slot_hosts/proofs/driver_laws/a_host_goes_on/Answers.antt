@@ -26,7 +26,8 @@ returns-clause-untouched c = λ config slots pass queue host x h.
     let v = x.later.view in
     let d = c.args.old.now.value in
     let e = c.args.new.now in
-    let same : is_careful (area_of e) (host_of e) (serial_of e) (made e) ≡ is_careful (area_of d) (host_of d) (serial_of d) (made d) =
+    let same : is_careful (area_of e) (host_of e) (serial_of e) (made e)
+    ≡ is_careful (area_of d) (host_of d) (serial_of d) (made d) =
     λ i. is_careful (s.slots i) (s.host i) (s.serial i) (x.as_before.0 i) in
     record {
       first = ap (λ (b : Snapshot SharedPort). seen b.value.pass) s.began ∙ h.first;

@@ -13,7 +13,9 @@ returns c = λ same none.
     let d = c.args.driver.now in
     record {
       first = ap (λ (p : SharedPort). seen p.pass) (sym same) ∙ none;
-      careful = subst (λ (p : SharedPort). is_careful (area_of d) (host_of d) (serial_of d) (since (log_of (view_of p)) (log_of (view_of d.port))) ≡ true) same
+      careful = subst (λ (p : SharedPort).
+          is_careful (area_of d) (host_of d) (serial_of d) (since (log_of (view_of p)) (log_of (view_of d.port)))
+          ≡ true) same
           (careful_first (area_of d) (host_of d) (serial_of d) (log_of (view_of d.port)) (none_done d.port none));
       config = refl;
       area = refl;

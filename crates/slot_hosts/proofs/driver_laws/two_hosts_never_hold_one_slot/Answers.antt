@@ -16,11 +16,35 @@ returns c = λ passes met claim second x held held_too same.
     let l = block_of (area_of d) (slot_of claim) in
     let within = held.inside in
     let first : PortIn (area_of d) (host_of d) (last_of d) d.began.value d.port met =
-    record { legal = d.port.legal; first = x.one.first; counted = d.sole; tidy = d.tidy; careful = x.one.careful; begins = x.one.begins; whole = x.one.whole } in
+    record {
+      legal = d.port.legal;
+      first = x.one.first;
+      counted = d.sole;
+      tidy = d.tidy;
+      careful = x.one.careful;
+      begins = x.one.begins;
+      whole = x.one.whole;
+    } in
     let other : PortIn (area_of e) (host_of e) (last_of e) e.began.value e.port met =
-    record { legal = e.port.legal; first = x.two.first; counted = e.sole; tidy = e.tidy; careful = x.two.careful; begins = x.two.begins; whole = x.two.whole } in
-    never_both (area_of d) passes (host_of d) (host_of e) (last_of d) (last_of e) d.began.value d.port e.began.value e.port met l (own_name d (serial_of claim)) (own_name e (serial_of second)) first
+    record {
+      legal = e.port.legal;
+      first = x.two.first;
+      counted = e.sole;
+      tidy = e.tidy;
+      careful = x.two.careful;
+      begins = x.two.begins;
+      whole = x.two.whole;
+    } in
+    never_both (area_of d) passes (host_of d) (host_of e) (last_of d) (last_of e) d.began.value d.port e.began.value
+    e.port met l (own_name d (serial_of claim)) (own_name e (serial_of second)) first
     (subst (λ (s : Range). PortIn s (host_of e) (last_of e) e.began.value e.port met) x.area other)
-    (record { config = x.config; apart = x.passes_apart; queues = x.queues; of_passes = x.of_passes; others = x.others })
+    (record {
+      config = x.config;
+      apart = x.passes_apart;
+      queues = x.queues;
+      of_passes = x.of_passes;
+      others = x.others;
+    })
     x.hosts (has_area (area_of d) l (record { from = omega arith; to = omega (arith, within) })) held.believed
-    (subst (λ (z : Range × ℕ). log_believed (made e) (block_of z.0 z.1) (own_name e (serial_of second)) ≡ true) (λ i. (x.area i, sym same i)) held_too.believed)
+    (subst (λ (z : Range × ℕ). log_believed (made e) (block_of z.0 z.1) (own_name e (serial_of second)) ≡ true)
+    (λ i. (x.area i, sym same i)) held_too.believed)

@@ -7,28 +7,68 @@ pub returns-clause-log : goal.returns-clause-log
 returns-clause-log c = λ met x.
     let d = c.args.driver.now in
     made_log (area_of d) (host_of d) (serial_of d) d.began.value d.port met
-    (record { legal = d.port.legal; first = x.first; counted = d.sole; tidy = d.tidy; careful = x.careful; begins = x.begins; whole = x.whole })
+    (record {
+      legal = d.port.legal;
+      first = x.first;
+      counted = d.sole;
+      tidy = d.tidy;
+      careful = x.careful;
+      begins = x.begins;
+      whole = x.whole;
+    })
 
 pub returns-clause-legal : goal.returns-clause-legal
 returns-clause-legal c = λ met x.
     let d = c.args.driver.now in
     met_legal (area_of d) (host_of d) (serial_of d) d.began.value d.port met
-    (record { legal = d.port.legal; first = x.first; counted = d.sole; tidy = d.tidy; careful = x.careful; begins = x.begins; whole = x.whole })
+    (record {
+      legal = d.port.legal;
+      first = x.first;
+      counted = d.sole;
+      tidy = d.tidy;
+      careful = x.careful;
+      begins = x.begins;
+      whole = x.whole;
+    })
 
 pub returns-clause-own : goal.returns-clause-own
 returns-clause-own c = λ met x.
     let d = c.args.driver.now in
     met_own (area_of d) (host_of d) (serial_of d) d.began.value d.port met
-    (record { legal = d.port.legal; first = x.first; counted = d.sole; tidy = d.tidy; careful = x.careful; begins = x.begins; whole = x.whole })
+    (record {
+      legal = d.port.legal;
+      first = x.first;
+      counted = d.sole;
+      tidy = d.tidy;
+      careful = x.careful;
+      begins = x.begins;
+      whole = x.whole;
+    })
 
 pub returns-clause-tidy : goal.returns-clause-tidy
 returns-clause-tidy c = λ met x.
     let d = c.args.driver.now in
     met_tidy (area_of d) (host_of d) (serial_of d) d.began.value d.port met
-    (record { legal = d.port.legal; first = x.first; counted = d.sole; tidy = d.tidy; careful = x.careful; begins = x.begins; whole = x.whole })
+    (record {
+      legal = d.port.legal;
+      first = x.first;
+      counted = d.sole;
+      tidy = d.tidy;
+      careful = x.careful;
+      begins = x.begins;
+      whole = x.whole;
+    })
 
 pub returns-clause-careful : goal.returns-clause-careful
 returns-clause-careful c = λ met x.
     let d = c.args.driver.now in
     met_careful (area_of d) (host_of d) (serial_of d) d.began.value d.port met
-    (record { legal = d.port.legal; first = x.first; counted = d.sole; tidy = d.tidy; careful = x.careful; begins = x.begins; whole = x.whole })
+    (record {
+      legal = d.port.legal;
+      first = x.first;
+      counted = d.sole;
+      tidy = d.tidy;
+      careful = x.careful;
+      begins = x.begins;
+      whole = x.whole;
+    })

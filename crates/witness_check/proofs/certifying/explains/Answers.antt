@@ -8,7 +8,8 @@ returns-in-Bad c = record {
   value = λ n f.
       let far = c.loop-place.invariant.far n f in (
         λ z. absurd (let w : false ≡ true = z in cc),
-        λ h. absurd (none_bad n _ _ _ _ _ _ c.take.new.self c.loop-place-test.true c.index-entries-place.is far _ _ c.next_of.ensures.value (c.in_ok-take.ensures.ok n _ far.follows) c.in-Bad.is h),
+        λ h. absurd (none_bad n _ _ _ _ _ _ c.take.new.self c.loop-place-test.true c.index-entries-place.is far _ _
+            c.next_of.ensures.value (c.in_ok-take.ensures.ok n _ far.follows) c.in-Bad.is h),
       );
 }
 
@@ -17,7 +18,8 @@ returns-in-Unlike c = record {
   value = λ n f.
       let far = c.loop-place.invariant.far n f in (
         λ z. absurd (let w : false ≡ true = z in cc),
-        λ h. absurd (none_unlike n _ _ _ _ _ _ c.take.new.self c.loop-place-test.true c.index-entries-place.is far _ _ c.next_of.ensures.value (c.in_ok-take.ensures.ok n _ far.follows) c.in-Unlike.is h),
+        λ h. absurd (none_unlike n _ _ _ _ _ _ c.take.new.self c.loop-place-test.true c.index-entries-place.is far _ _
+            c.next_of.ensures.value (c.in_ok-take.ensures.ok n _ far.follows) c.in-Unlike.is h),
       );
 }
 
@@ -36,7 +38,9 @@ loop-place-preserved c = record {
       let far = c.loop-place.invariant.far n f in
       let said = c.in_ok-take.ensures.ok n _ far.follows in
       elim c.match-branch-2.branch [
-        | in-Hidden w ↦ further_hidden n _ _ _ _ _ _ c.take.new.self c.loop-place-test.true c.index-entries-place.is far _ _ c.next_of.ensures.value said w.in-Hidden.is _ w.seen-is
-        | in-Same w ↦ further_same n _ _ _ _ _ _ c.take.new.self c.loop-place-test.true c.index-entries-place.is far _ _ c.next_of.ensures.value said w.in-Same.is _ w.seen-is
+        | in-Hidden w ↦ further_hidden n _ _ _ _ _ _ c.take.new.self c.loop-place-test.true c.index-entries-place.is far
+            _ _ c.next_of.ensures.value said w.in-Hidden.is _ w.seen-is
+        | in-Same w ↦ further_same n _ _ _ _ _ _ c.take.new.self c.loop-place-test.true c.index-entries-place.is far _ _
+            c.next_of.ensures.value said w.in-Same.is _ w.seen-is
       ];
 }

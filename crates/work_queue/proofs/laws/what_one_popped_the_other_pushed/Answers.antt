@@ -23,4 +23,6 @@ returns g c = λ matched two none k e a.
     let pusher = c.args.pusher.now in
     let popper = c.args.popper.now in
     dite (ℕ_discrete e.pusher (pusher_number pusher)) m.1
-    (λ ne. absurd (none_there _ _ _ (m.2 (the_other e.pusher (pusher_number pusher) (pusher_number popper) _ m.0.0 m.0.1 two.0 two.1 pusher.numbered popper.numbered ne)) none))
+    (λ ne. absurd (none_there _ _ _
+    (m.2 (the_other e.pusher (pusher_number pusher) (pusher_number popper) _ m.0.0 m.0.1 two.0 two.1 pusher.numbered
+    popper.numbered ne)) none))

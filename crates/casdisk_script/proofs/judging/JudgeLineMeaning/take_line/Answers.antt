@@ -4,5 +4,10 @@ use Rattle.std.proofs.KnownBytes.{Appends-nil}
 use Rattle.casdisk_script.proofs.judging.JudgeLineMeaning.take_line.Goals as goal
 
 pub returns-in-Ok-judge-clause-taken : goal.returns-in-Ok-judge-clause-taken
-returns-in-Ok-judge-clause-taken g c k past h =
-    ((c.in-Ok.entry ∷ past, []), ap (option_map (λ e. (e ∷ past, []))) c.in-Ok.ensures.value, c.in-Ok-judge.ensures.judged k past h, refl, Appends-nil _)
+returns-in-Ok-judge-clause-taken g c k past h = (
+  (c.in-Ok.entry ∷ past, []),
+  ap (option_map (λ e. (e ∷ past, []))) c.in-Ok.ensures.value,
+  c.in-Ok-judge.ensures.judged k past h,
+  refl,
+  Appends-nil _,
+)

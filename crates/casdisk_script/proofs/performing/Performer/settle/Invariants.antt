@@ -8,5 +8,6 @@ invariant-loop-turn g l =
     record {
       config : l.self.core.config ≡ l.fn.self.core.config;
       kinds : l.self.kinds ≡ l.fn.self.kinds;
-      settled : Settled l.fn.self.kinds.0 l.fn.self.core.config l.fn.self.core.past l.self.core.past l._turn (g.W.Write.contents l.fn.writer) (g.W.Write.contents l.writer);
+      settled : Settled l.fn.self.kinds.0 l.fn.self.core.config l.fn.self.core.past l.self.core.past l._turn
+          (g.W.Write.contents l.fn.writer) (g.W.Write.contents l.writer);
     }

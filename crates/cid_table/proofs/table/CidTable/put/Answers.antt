@@ -5,7 +5,8 @@ use Rattle.cid_table.proofs.table.CidTable.put.Goals as goal
 pub returns-clause-was : goal.returns-clause-was
 returns-clause-was c =
     let at = rw (← c.self.view_is) at c.requires in
-    rw (← c.self.view_is) (c.replace.ensures.value ∙ held_read _ _ _ _ c.index_mut.result.now c.self.invariant at c.index_mut.ensures.value)
+    rw (← c.self.view_is) (c.replace.ensures.value
+    ∙ held_read _ _ _ _ c.index_mut.result.now c.self.invariant at c.index_mut.ensures.value)
 
 pub returns-clause-held : goal.returns-clause-held
 returns-clause-held c =

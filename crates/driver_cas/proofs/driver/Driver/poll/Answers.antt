@@ -7,13 +7,17 @@ use Rattle.driver_cas.proofs.Drivers.{asks_over, freed_some, later_ended, one_ov
 use Rattle.driver_cas.proofs.driver.Driver.poll.Goals as goal
 
 pub returns-in-Some-clause-one : goal.returns-in-Some-clause-one
-returns-in-Some-clause-one g c = one_over g.P.Port c.args.self.now c.reap.new.self c.take.new.self c.reap.ensures.made c.take.ensures.same c.take.ensures.port
+returns-in-Some-clause-one g c =
+    one_over g.P.Port c.args.self.now c.reap.new.self c.take.new.self c.reap.ensures.made c.take.ensures.same
+    c.take.ensures.port
 
 pub returns-in-Some-clause-back : goal.returns-in-Some-clause-back
 returns-in-Some-clause-back g c = told_back c.args.call _ c.in-Some.answer c.ended.ensures
 
 pub returns-in-Some-clause-freed : goal.returns-in-Some-clause-freed
-returns-in-Some-clause-freed g c = freed_some c.args.self.now.cids c.reap.new.self.cids c.take.new.self.cids c.args.call _ c.in-Some.answer c.reap.ensures.in_use c.in-Some.ensures.some c.ended.ensures
+returns-in-Some-clause-freed g c =
+    freed_some c.args.self.now.cids c.reap.new.self.cids c.take.new.self.cids c.args.call _ c.in-Some.answer
+    c.reap.ensures.in_use c.in-Some.ensures.some c.ended.ensures
 
 pub returns-in-Some-clause-says : goal.returns-in-Some-clause-says
 returns-in-Some-clause-says g c =
@@ -21,7 +25,8 @@ returns-in-Some-clause-says g c =
     let k = c.args.call in
     let of = c.reap.ensures.calls k c.requires in
     says_over g.P.Port d c.take.new.self k _
-    (g.met.P.Port.tells (before d) k.start.value d.port k.queue (number_of d k) k.first k.second k.op of.later (d.own k.queue of.known) d.tidy refl of.published)
+    (g.met.P.Port.tells (before d) k.start.value d.port k.queue (number_of d k) k.first k.second k.op of.later
+    (d.own k.queue of.known) d.tidy refl of.published)
     c.take.ensures.same c.take.ensures.port (c.ended.ensures ∙ (sym c.in-Some.is ∙ c.take.ensures.answer))
 
 pub returns-in-None-clause-others : goal.returns-in-None-clause-others
@@ -33,7 +38,8 @@ returns-in-None-clause-says g c =
     let k = c.args.call in
     let of = c.reap.ensures.calls k c.requires in
     says_over g.P.Port d c.take.new.self k (Poll.Pending k)
-    (g.met.P.Port.tells (before d) k.start.value d.port k.queue (number_of d k) k.first k.second k.op of.later (d.own k.queue of.known) d.tidy refl of.published)
+    (g.met.P.Port.tells (before d) k.start.value d.port k.queue (number_of d k) k.first k.second k.op of.later
+    (d.own k.queue of.known) d.tidy refl of.published)
     c.take.ensures.same c.take.ensures.port (sym c.in-None.is ∙ c.take.ensures.answer)
 
 pub returns-in-Some-clause-others : goal.returns-in-Some-clause-others
@@ -48,7 +54,10 @@ returns-in-Err-clause-says g c =
     let k = c.args.call in
     let of = c.reap.ensures.calls k c.requires in
     subst (λ (r : Option (Result Reply Status)). Says d k r) c.in-Err.ensures.waits
-    (g.met.P.Port.tells (before d) k.start.value d.port k.queue (number_of d k) k.first k.second k.op of.later (d.own k.queue of.known) d.tidy refl of.published)
+    (g.met.P.Port.tells (before d) k.start.value d.port k.queue (number_of d k) k.first k.second k.op of.later
+    (d.own k.queue of.known) d.tidy refl of.published)
 
 pub returns-in-Some-clause-asks : goal.returns-in-Some-clause-asks
-returns-in-Some-clause-asks g c = asks_over g.P.Port c.args.self.now c.reap.new.self c.take.new.self c.args.call _ _ c.in_default.ensures.asks c.take.ensures.port (later_ended _ _ c.ended.ensures)
+returns-in-Some-clause-asks g c =
+    asks_over g.P.Port c.args.self.now c.reap.new.self c.take.new.self c.args.call _ _ c.in_default.ensures.asks
+    c.take.ensures.port (later_ended _ _ c.ended.ensures)

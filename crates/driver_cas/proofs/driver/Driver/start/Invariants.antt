@@ -1,5 +1,5 @@
 use Rattle.std.proofs.Common.{[], ◌≡◌, ◌≤◌, vec_capacity}
-use Rattle.driver_commands.specs.Entries.{entry_count}
+use Rattle.driver_calls.specs.Entries.{entry_count}
 use Rattle.driver_cas.specs.Starts.{IsUntouched}
 use Rattle.driver_cas.specs.Turns.{ArePassed}
 use Rattle.driver_cas.proofs.driver.Driver.start.Given as goal

@@ -10,7 +10,9 @@ returns-in_err-call-clause-is g c =
     let p = err_from_is_err_and c.from_residual.result c.from_residual.ensures.1 in
     rw (p.1, p.2)
     (not_claimed g.P.Port d e c.args.lba c.in_err-call.field-0.0 c.start_pair.ensures.same c.if-self.false
-    (as_claim g.P.Port d e c.swap.result c.args.lba (suc d.serial) c.slot_block-name.result (Err c.in_err-call.field-0.0) c.swap.ensures (next_block d.host d.serial c.slot_block-name.result c.slot_block-name.ensures.value) c.in_err-call.ensures.is))
+    (as_claim g.P.Port d e c.swap.result c.args.lba (suc d.serial) c.slot_block-name.result
+    (Err c.in_err-call.field-0.0) c.swap.ensures
+    (next_block d.host d.serial c.slot_block-name.result c.slot_block-name.ensures.value) c.in_err-call.ensures.is))
 
 pub returns-clause-is : goal.returns-clause-is
 returns-clause-is g c =
@@ -20,5 +22,7 @@ returns-clause-is g c =
       add-one d.serial,
       refl,
       claimed g.P.Port d e _ k c.args.lba (d.serial + 1) refl refl refl (add-one d.serial)
-          (as_claim g.P.Port d e c.swap.result c.args.lba (suc d.serial) c.slot_block-name.result (Ok k) c.swap.ensures (next_block d.host d.serial c.slot_block-name.result c.slot_block-name.ensures.value) c.in_ok-call.ensures.is),
+          (as_claim g.P.Port d e c.swap.result c.args.lba (suc d.serial) c.slot_block-name.result (Ok k) c.swap.ensures
+          (next_block d.host d.serial c.slot_block-name.result c.slot_block-name.ensures.value)
+          c.in_ok-call.ensures.is),
     )

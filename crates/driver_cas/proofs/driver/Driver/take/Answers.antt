@@ -14,7 +14,8 @@ invariant_of-self g c =
       grows = d.grows;
       tidy = d.tidy;
       own = λ q h. d.own q (subst (λ (qs : List ℕ). Contains qs q) c.take_answer.ensures.queues h);
-      matches = take_matches d.cids c.take_answer.new.cids (made d) k.op k.queue k.first k.second c.take_answer.result d.matches c.take_answer.ensures.value c.take_answer.ensures.none c.take_answer.ensures.some;
+      matches = take_matches d.cids c.take_answer.new.cids (made d) k.op k.queue k.first k.second c.take_answer.result
+          d.matches c.take_answer.ensures.value c.take_answer.ensures.none c.take_answer.ensures.some;
       named = d.named;
       within = d.within;
     }
@@ -26,4 +27,15 @@ returns-clause-answer g c =
     c.take_answer.ensures.value ∙ table_tells d.cids (made d) k.op k.queue k.first k.second d.matches c.requires.in_use
 
 pub returns-clause-others : goal.returns-clause-others
-returns-clause-others g c = λ other of apart. taken_others g.P.Port c.args.self.now _ c.args.call.now other (record { began = refl; host = refl; acwu = refl; slots = refl; serial = refl; queues = c.take_answer.ensures.queues }) refl (kept_others c.args.self.now.cids c.take_answer.new.cids c.args.call.now c.take_answer.result other apart c.take_answer.ensures.none c.take_answer.ensures.some of.in_use) of
+returns-clause-others g c =
+    λ other of apart. taken_others g.P.Port c.args.self.now _ c.args.call.now other
+    (record {
+      began = refl;
+      host = refl;
+      acwu = refl;
+      slots = refl;
+      serial = refl;
+      queues = c.take_answer.ensures.queues;
+    }) refl
+    (kept_others c.args.self.now.cids c.take_answer.new.cids c.args.call.now c.take_answer.result other apart
+    c.take_answer.ensures.none c.take_answer.ensures.some of.in_use) of

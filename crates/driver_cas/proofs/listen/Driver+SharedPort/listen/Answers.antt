@@ -5,4 +5,6 @@ use Rattle.driver_cas.proofs.listen.Driver+SharedPort.listen.Goals as goal
 pub returns-clause-calls : goal.returns-clause-calls
 returns-clause-calls g c = λ k of.
     let s = c.hear.ensures.saw in
-    idle_calls _ follows_later c.args.self.now _ (record { began = refl; host = refl; acwu = refl; slots = refl; serial = refl; queues = refl }) refl s.follows s.log k of
+    idle_calls _ follows_later c.args.self.now _
+    (record { began = refl; host = refl; acwu = refl; slots = refl; serial = refl; queues = refl }) refl s.follows
+    s.log k of

@@ -12,7 +12,8 @@ unfolding sqe_bytes
 written c =
     let s = c.sqe.inside in
     let with_opcode = c.put_u8.ensures.front in
-    let with_flags = c.put_u8-2.ensures.front ∙ ap (λ front. front ++ little_bytes 1 s.flags) with_opcode ∙ ap (λ n. little_bytes 1 s.opcode ++ little_bytes 1 n) (sym (flags-fields s.flags)) in
+    let with_flags = c.put_u8-2.ensures.front ∙ ap (λ front. front ++ little_bytes 1 s.flags) with_opcode
+    ∙ ap (λ n. little_bytes 1 s.opcode ++ little_bytes 1 n) (sym (flags-fields s.flags)) in
     let with_cid = c.put_u16.ensures.front ∙ ap (λ front. front ++ little_bytes 2 s.cid) with_flags in
     let with_nsid = c.put_u32.ensures.front ∙ ap (λ front. front ++ little_bytes 4 s.nsid) with_cid in
     let with_cdw2 = c.put_u32-2.ensures.front ∙ ap (λ front. front ++ little_bytes 4 s.cdw2) with_nsid in
@@ -55,4 +56,5 @@ returns-clause-is c =
     )
 
 pub returns-clause-only : goal.returns-clause-only
-returns-clause-only c = λ bytes is each. sym (sqe_bytes-sqe_fields bytes is.0 each) ∙ ap sqe_bytes is.1 ∙ sym (written c)
+returns-clause-only c = λ bytes is each. sym (sqe_bytes-sqe_fields bytes is.0 each) ∙ ap sqe_bytes is.1
+    ∙ sym (written c)

@@ -20,18 +20,23 @@ pub returns-then-ticket-t-clause-counted : goal.returns-then-ticket-t-clause-cou
 returns-then-ticket-t-clause-counted g c = omega (arith, c.loop-from.invariant.counted, c.probe-ticket.ensures.one)
 
 pub returns-then-ticket-t-clause-cost : goal.returns-then-ticket-t-clause-cost
-returns-then-ticket-t-clause-cost g c = rw c.probe-ticket.ensures.one (one_more _ _ _ _ _ _ c.loop-from.invariant c.loop-from-test.true)
+returns-then-ticket-t-clause-cost g c =
+    rw c.probe-ticket.ensures.one (one_more _ _ _ _ _ _ c.loop-from.invariant c.loop-from-test.true)
 
 pub loop-from-preserved-then-ticket-t-2 : goal.loop-from-preserved-then-ticket-t-2
 loop-from-preserved-then-ticket-t-2 g c =
     let there = rw c.self.view_is at c.probe-ticket.ensures.ticket in
-    rw c.probe-ticket.ensures.one (upper _ _ _ _ _ _ _ (rw c.self.view_is at c.self.invariant) c.loop-from.invariant c.loop-from-test.true there c.if-ticket-t-2.true)
+    rw c.probe-ticket.ensures.one
+    (upper _ _ _ _ _ _ _ (rw c.self.view_is at c.self.invariant) c.loop-from.invariant c.loop-from-test.true there
+    c.if-ticket-t-2.true)
 
 pub loop-from-preserved : goal.loop-from-preserved
 loop-from-preserved g c =
     let there = rw c.self.view_is at c.probe-ticket.ensures.ticket in
     let high = other_above _ _ c.if-ticket-t-2.false c.if-ticket-t.false in
-    rw c.probe-ticket.ensures.one (lower _ _ _ _ _ _ _ (rw c.self.view_is at c.self.invariant) c.loop-from.invariant c.loop-from-test.true there high)
+    rw c.probe-ticket.ensures.one
+    (lower _ _ _ _ _ _ _ (rw c.self.view_is at c.self.invariant) c.loop-from.invariant c.loop-from-test.true there
+    high)
 
 pub returns-clause-any : goal.returns-clause-any
 returns-clause-any g c = rw (ended _ _ _ _ _ _ c.loop-from.invariant (search rules))

@@ -6,6 +6,8 @@ use Rattle.job_table.proofs.jobs.Jobs.is_empty.Goals as goal
 pub returns : goal.returns
 returns c = record {
   value =
-      rw (← c.self.view_is)
-      (λ y. ap (jobs_in c.self.inside.jobs) (c.is_empty.ensures.value.0 y), λ e. c.is_empty.ensures.value.1 (none_in _ _ c.self.invariant.each e));
+      rw (← c.self.view_is) (
+        λ y. ap (jobs_in c.self.inside.jobs) (c.is_empty.ensures.value.0 y),
+        λ e. c.is_empty.ensures.value.1 (none_in _ _ c.self.invariant.each e),
+      );
 }

@@ -6,4 +6,5 @@ pub returns-clause-value : goal.returns-clause-value
 returns-clause-value c = rw (← c.self.view_is, length_in _ _ c.self.invariant.each, c.len.ensures.value)
 
 pub returns-clause-most : goal.returns-clause-most
-returns-clause-most c = rw (← c.self.view_is) (omega (arith, length_in _ _ c.self.invariant.each, c.self.invariant.within))
+returns-clause-most c = rw (← c.self.view_is)
+    (omega (arith, length_in _ _ c.self.invariant.each, c.self.invariant.within))

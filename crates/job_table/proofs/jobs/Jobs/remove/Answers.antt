@@ -15,7 +15,9 @@ invariant_of-self c =
     let taken = c.remove-job in
     let e = taken.result in
     let ks = c.self.inside.index.keyed in
-    let removed = removed_in _ _ ks c.args.ticket c.in-Some.key e c.self.invariant.each (only_key ks _ _ c.self.invariant.rising key) taken.ensures.value (job_found _ ks c.args.ticket _ e c.self.invariant.each key taken.ensures.value).1 taken.ensures.updates in
+    let removed = removed_in _ _ ks c.args.ticket c.in-Some.key e c.self.invariant.each
+    (only_key ks _ _ c.self.invariant.rising key) taken.ensures.value
+    (job_found _ ks c.args.ticket _ e c.self.invariant.each key taken.ensures.value).1 taken.ensures.updates in
     let fewer = length_beside ks c.args.ticket c.in-Some.key c.self.invariant.rising key in
     record {
       rising = rw c.in-Some.ensures.rest (IsRising-beside ks c.args.ticket c.self.invariant.rising);
@@ -33,7 +35,9 @@ invariant_of-self-in-None c =
     rw (c.in-None.ensures.rest, beside_absent ks c.args.ticket no) c.self.invariant
 
 pub returns-in-Some-clause-value : goal.returns-in-Some-clause-value
-returns-in-Some-clause-value c = rw (← c.self.view_is) (sym (job_found _ _ c.args.ticket _ _ c.self.invariant.each (sym c.in-Some.ensures.key) c.remove-job.ensures.value).0)
+returns-in-Some-clause-value c =
+    rw (← c.self.view_is) (sym
+    (job_found _ _ c.args.ticket _ _ c.self.invariant.each (sym c.in-Some.ensures.key) c.remove-job.ensures.value).0)
 
 pub returns-in-Some-clause-rest : goal.returns-in-Some-clause-rest
 returns-in-Some-clause-rest c =
@@ -41,15 +45,22 @@ returns-in-Some-clause-rest c =
     let taken = c.remove-job in
     let e = taken.result in
     let ks = c.self.inside.index.keyed in
-    let removed = removed_in _ _ ks c.args.ticket c.in-Some.key e c.self.invariant.each (only_key ks _ _ c.self.invariant.rising key) taken.ensures.value (job_found _ ks c.args.ticket _ e c.self.invariant.each key taken.ensures.value).1 taken.ensures.updates in
-    rw (← c.self.view_is, c.in-Some.ensures.rest) (ap (λ js. record { limit = c.self.inside.limit; jobs = js }) removed.0)
+    let removed = removed_in _ _ ks c.args.ticket c.in-Some.key e c.self.invariant.each
+    (only_key ks _ _ c.self.invariant.rising key) taken.ensures.value
+    (job_found _ ks c.args.ticket _ e c.self.invariant.each key taken.ensures.value).1 taken.ensures.updates in
+    rw (← c.self.view_is, c.in-Some.ensures.rest)
+    (ap (λ js. record { limit = c.self.inside.limit; jobs = js }) removed.0)
 
 pub returns-in-None-clause-value : goal.returns-in-None-clause-value
-returns-in-None-clause-value c = rw (← c.self.view_is) (sym (job_of_absent _ c.args.ticket (none_found _ _ c.args.ticket c.self.invariant.each (sym c.in-None.ensures.key))))
+returns-in-None-clause-value c =
+    rw (← c.self.view_is) (sym
+    (job_of_absent _ c.args.ticket (none_found _ _ c.args.ticket c.self.invariant.each (sym c.in-None.ensures.key))))
 
 pub returns-in-None-clause-rest : goal.returns-in-None-clause-rest
 returns-in-None-clause-rest c =
     let ks = c.self.inside.index.keyed in
     let no = sym (is_some-key_of ks c.args.ticket) ∙ ap is_some (sym c.in-None.ensures.key) in
-    let same = absent.beside_absent (jobs_in c.self.inside.jobs ks) c.args.ticket (none_found _ ks c.args.ticket c.self.invariant.each (sym c.in-None.ensures.key)) in
-    rw (← c.self.view_is, c.in-None.ensures.rest, beside_absent ks c.args.ticket no) (ap (λ js. record { limit = c.self.inside.limit; jobs = js }) (sym same))
+    let same = absent.beside_absent (jobs_in c.self.inside.jobs ks) c.args.ticket
+    (none_found _ ks c.args.ticket c.self.invariant.each (sym c.in-None.ensures.key)) in
+    rw (← c.self.view_is, c.in-None.ensures.rest, beside_absent ks c.args.ticket no)
+    (ap (λ js. record { limit = c.self.inside.limit; jobs = js }) (sym same))

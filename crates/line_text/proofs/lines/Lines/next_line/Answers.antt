@@ -13,9 +13,12 @@ returns-in_err-take_piece-in-Ok-clause-err g c =
     let before = c.args.self.now in
     let at = c.loop.invariant in
     let kept = c.in_err-take_piece-in-Ok.ensures.kept in
-    let read : Gives a d before c.refill.new.self c.loop.line.items = gives_read a _ d before c.loop.line.items c.refill.new.self c.loop.self at.given.0 at.empty c.in-Ok.ensures.ok in
+    let read : Gives a d before c.refill.new.self c.loop.line.items =
+    gives_read a _ d before c.loop.line.items c.refill.new.self c.loop.self at.given.0 at.empty
+    c.in-Ok.ensures.ok in
     on_err c.from_residual-in_err-take_piece-in-Ok.result
-    (subst (λ l. GivesFront a d before c.take_piece-in-Ok.new.self l) (sym kept.1) (subst (λ l. Gives a d before l c.loop.line.items) (sym kept.0) read, at.given.1))
+    (subst (λ l. GivesFront a d before c.take_piece-in-Ok.new.self l) (sym kept.1)
+    (subst (λ l. Gives a d before l c.loop.line.items) (sym kept.0) read, at.given.1))
 
 pub returns-then-branch-2-clause-line : goal.returns-then-branch-2-clause-line
 returns-then-branch-2-clause-line g c =
@@ -26,9 +29,13 @@ returns-then-branch-2-clause-line g c =
     let at = c.loop.invariant in
     let p = c.in_ok-take_piece-in-Ok.ensures.piece in
     let is = subst (λ f. IsPiece f c.refill.new.self after p.0) c.if-branch-2.true p.2 in
-    let read : Gives a d before c.refill.new.self c.loop.line.items = gives_read a _ d before c.loop.line.items c.refill.new.self c.loop.self at.given.0 at.empty c.in-Ok.ensures.ok in
-    subst (λ l. Gives a d before after (l ++ 10 ∷ []) × NoFeed l) (sym p.1)
-    (gives_feed a d before c.refill.new.self after c.loop.line.items p.0 read is.0, no_feed_append c.loop.line.items p.0 at.given.1 is.1)
+    let read : Gives a d before c.refill.new.self c.loop.line.items =
+    gives_read a _ d before c.loop.line.items c.refill.new.self c.loop.self at.given.0 at.empty
+    c.in-Ok.ensures.ok in
+    subst (λ l. Gives a d before after (l ++ 10 ∷ []) × NoFeed l) (sym p.1) (
+      gives_feed a d before c.refill.new.self after c.loop.line.items p.0 read is.0,
+      no_feed_append c.loop.line.items p.0 at.given.1 is.1,
+    )
 
 pub loop-preserved : goal.loop-preserved
 loop-preserved g c =
@@ -46,9 +53,13 @@ loop-preserved g c =
           let held = w.take_piece-in-Ok.new.self in
           let p = w.in_ok-take_piece-in-Ok.ensures.piece in
           let is = subst (λ f. IsPiece f c.refill.new.self held p.0) w.if-branch-2.false p.2 in
-          let read : Gives a d before c.refill.new.self line = gives_read a _ d before line c.refill.new.self c.loop.self at.given.0 at.empty w.in-Ok.ensures.ok in
+          let read : Gives a d before c.refill.new.self line =
+          gives_read a _ d before line c.refill.new.self c.loop.self at.given.0 at.empty w.in-Ok.ensures.ok in
           let given : GivesFront a d before held w.take_piece-in-Ok.new.line.items =
-          subst (GivesFront a d before held) (sym p.1) (gives_all a d before c.refill.new.self held line p.0 read is.0 is.1, no_feed_append line p.0 at.given.1 is.2) in
+          subst (GivesFront a d before held) (sym p.1) (
+            gives_all a d before c.refill.new.self held line p.0 read is.0 is.1,
+            no_feed_append line p.0 at.given.1 is.2,
+          ) in
           let capacity = w.in_ok-take_piece-in-Ok.ensures.capacity in
           rw (w.self-is, w.line-is) (record { given = given; empty = is.1; room = omega (arith, at.room, capacity) })
       | in-Err+else-ne w ↦

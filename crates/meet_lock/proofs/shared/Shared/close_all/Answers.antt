@@ -1,4 +1,5 @@
-use Rattle.std.proofs.Common.{List, Some, [], ap, append_assoc, arith, length, subst, sym, vec_len, ℕ, ◌++◌, ◌∙◌, ◌≡◌, ◌∷◌}
+use Rattle.std.proofs.Common.{List, Some, [], ap, append_assoc, arith, length, subst, sym, vec_len, ℕ, ◌++◌, ◌∙◌, ◌≡◌}
+use Rattle.std.proofs.Common.{◌∷◌}
 use Rattle.std.specs.Prelude.{slice_get}
 use Rattle.std.proofs.lemmas.List.{nil_from_length}
 use Rattle.atomic_table.specs.Table.{Me}
@@ -16,7 +17,8 @@ loop-pass-init g c =
     let o = c.in-Some-take.ensures.taken in
     let first : Pass g.row.M.Denot = c.in-Some.first in
     let items = c.in-Some.ensures.items in
-    let place = ap (λ (l : List (Pass g.row.M.Denot)). slice_get l (length c.pop.new.self.items)) items ∙ at_mid c.pop.new.self.items [] first in
+    let place = ap (λ (l : List (Pass g.row.M.Denot)). slice_get l (length c.pop.new.self.items)) items
+    ∙ at_mid c.pop.new.self.items [] first in
     let q = c.requires.all (length c.pop.new.self.items) first place in
     let held : o.log ≡ c.take.new.seat.me.0.held = ap (λ (z : Me _ _). z.0.held) (sym o.is) in
     let config : c.take.new.seat.me.0.config ≡ first.seat.me.0.config = ap (λ (z : Me _ _). z.0.config) o.is in
@@ -29,8 +31,13 @@ loop-pass-init g c =
       tried = (
         first ∷ [],
         sym items,
-        (subst (λ (z : ℕ × SharedPast). GoesOn z.0 (seen first) z.1 × (places (number first) z.1 ≡ mine first)) (λ i. (q.2 i, held i)) (o.begins, o.mine), tt),
-        each_front (λ (p : Pass g.row.M.Denot). config_of p ≡ c.take.new.seat.me.0.config) first [] (sym config) (λ k p e. cc),
+        (
+          subst (λ (z : ℕ × SharedPast). GoesOn z.0 (seen first) z.1 × (places (number first) z.1 ≡ mine first))
+              (λ i. (q.2 i, held i)) (o.begins, o.mine),
+          tt,
+        ),
+        each_front (λ (p : Pass g.row.M.Denot). config_of p ≡ c.take.new.seat.me.0.config) first [] (sym config)
+            (λ k p e. cc),
       );
     }
 
@@ -40,7 +47,8 @@ compare-requires-clause-own g c =
     let t = inv.tried in
     let pass : Pass g.row.M.Denot = c.in-Some-pop.pass in
     let left = c.pop-in-loop-pass.new.self.items in
-    let whole = sym (append_assoc left (pass ∷ []) t.0) ∙ (ap (λ l. l ++ t.0) (sym c.in-Some-pop.ensures.items) ∙ t.1) in
+    let whole = sym (append_assoc left (pass ∷ []) t.0)
+    ∙ (ap (λ l. l ++ t.0) (sym c.in-Some-pop.ensures.items) ∙ t.1) in
     let place = ap (λ (l : List (Pass g.row.M.Denot)). slice_get l (length left)) (sym whole) ∙ at_mid left t.0 pass in
     (inv.own, (c.requires.all (length left) pass place).0)
 
@@ -63,8 +71,10 @@ loop-pass-preserved g c =
         sym (append_assoc left (pass ∷ []) t.0) ∙ (ap (λ l. l ++ t.0) (sym c.in-Some-pop.ensures.items) ∙ t.1),
         subst (λ (z : SharedPast). AllSaw (vec_len c.args.passes) z (pass ∷ t.0)) (sym s.2)
             ((subst (λ (k : ℕ). GoesOn k (seen pass) c.loop-pass.seat.me.0.held) inv.count saw.0, saw.1), t.2),
-        subst (λ (z : ConfigNumbers). (k : ℕ) (p : Pass g.row.M.Denot) → slice_get (pass ∷ t.0) k ≡ Some p → config_of p ≡ z) (sym s.4)
-            (each_front (λ (p : Pass g.row.M.Denot). config_of p ≡ c.loop-pass.seat.me.0.config) pass t.0 c.compare.ensures.config t.3),
+        subst (λ (z : ConfigNumbers). (k : ℕ) (p : Pass g.row.M.Denot) → slice_get (pass ∷ t.0) k ≡ Some p
+            → config_of p ≡ z) (sym s.4)
+            (each_front (λ (p : Pass g.row.M.Denot). config_of p ≡ c.loop-pass.seat.me.0.config) pass t.0
+            c.compare.ensures.config t.3),
       );
     }
 
@@ -75,16 +85,20 @@ returns-clause-whole g c =
     let empty = c.in_default-pop.ensures.cases.0 in
     let some = c.in-Some.ensures.cases in
     let long : length c.args.passes.items ≡ vec_len c.args.passes = sym c.args.passes.ok.0 in
-    let none : c.loop-pass.rest.items ≡ [] = nil_from_length c.loop-pass.rest.items (sym c.loop-pass.rest.ok.0 ∙ empty) in
-    let all = subst (λ (l : List (Pass g.row.M.Denot)). AllSaw (vec_len c.args.passes) c.loop-pass.seat.me.0.held l) (sym (ap (λ l. l ++ t.0) none) ∙ t.1) t.2 in
-    seen_whole (vec_len c.args.passes) c.loop-pass.seat.me.0.held c.args.passes.items _ long (omega (arith, some)) (λ k p at. (c.requires.all k p at).1) all inv.is
+    let none : c.loop-pass.rest.items ≡ [] =
+    nil_from_length c.loop-pass.rest.items (sym c.loop-pass.rest.ok.0 ∙ empty) in
+    let all = subst (λ (l : List (Pass g.row.M.Denot)). AllSaw (vec_len c.args.passes) c.loop-pass.seat.me.0.held l)
+    (sym (ap (λ l. l ++ t.0) none) ∙ t.1) t.2 in
+    seen_whole (vec_len c.args.passes) c.loop-pass.seat.me.0.held c.args.passes.items _ long (omega (arith, some))
+    (λ k p at. (c.requires.all k p at).1) all inv.is
 
 pub returns-clause-config : goal.returns-clause-config
 returns-clause-config g c = λ k p at.
     let inv = c.loop-pass.invariant in
     let t = inv.tried in
     let empty = c.in_default-pop.ensures.cases.0 in
-    let none : c.loop-pass.rest.items ≡ [] = nil_from_length c.loop-pass.rest.items (sym c.loop-pass.rest.ok.0 ∙ empty) in
+    let none : c.loop-pass.rest.items ≡ [] =
+    nil_from_length c.loop-pass.rest.items (sym c.loop-pass.rest.ok.0 ∙ empty) in
     let is = sym (ap (λ l. l ++ t.0) none) ∙ t.1 in
     inv.config ∙ sym (t.3 k p (ap (λ (l : List (Pass g.row.M.Denot)). slice_get l k) is ∙ at))
 

@@ -12,7 +12,8 @@ invariant-loop-pass g l = record {
   count : l.seat.me.0.passes ≡ vec_len l.fn.passes;
   config : g.M.Machine.config l.machine ≡ l.seat.me.0.config;
   is : g.M.Machine.history l.machine ≡ entries l.seat.me.0.held;
-  tried : (back : List (Pass g.row.M.Denot)) × (l.rest.items ++ back ≡ l.fn.passes.items) × AllSaw (vec_len l.fn.passes) l.seat.me.0.held back
+  tried : (back : List (Pass g.row.M.Denot)) × (l.rest.items ++ back ≡ l.fn.passes.items)
+      × AllSaw (vec_len l.fn.passes) l.seat.me.0.held back
       × ((k : ℕ) (p : Pass g.row.M.Denot) → slice_get back k ≡ Some p → config_of p ≡ l.seat.me.0.config);
 }
 

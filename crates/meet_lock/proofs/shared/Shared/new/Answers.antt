@@ -11,15 +11,23 @@ use Rattle.meet_lock.proofs.shared.Shared.new.Goals as goal
 
 pub new-requires : goal.new-requires
 new-requires g c =
-    let items = c.push_reserved.ensures.items ∙ ap (λ l. l ++ Some c.args.machine ∷ []) c.in-Ok-with_capacity.ensures.items in
-    let P : List (Option g.row.M.Denot) × g.row.M.Denot → Type 0 = λ p. IsOneHistory g.M.Machine.config g.M.Machine.history g.M.Machine.legal g.K.StepRight.owned (g.M.Machine.config p.1) c.args.passes (g.M.Machine.history p.1) (opening (0 ∷ []) p.0 (start (g.M.Machine.config p.1) c.args.passes (g.M.Machine.history p.1))) in
-    subst P (λ i. (sym items i, sym c.of.ensures i)) (opens g.M.Machine.config g.M.Machine.history g.M.Machine.legal g.K.StepRight.owned (g.M.Machine.config c.args.machine) c.args.passes (g.M.Machine.history c.args.machine) c.args.machine refl refl c.requires.some c.requires.legal)
+    let items = c.push_reserved.ensures.items
+    ∙ ap (λ l. l ++ Some c.args.machine ∷ []) c.in-Ok-with_capacity.ensures.items in
+    let P : List (Option g.row.M.Denot) × g.row.M.Denot → Type 0 =
+    λ p. IsOneHistory g.M.Machine.config g.M.Machine.history g.M.Machine.legal g.K.StepRight.owned
+    (g.M.Machine.config p.1) c.args.passes (g.M.Machine.history p.1)
+    (opening (0 ∷ []) p.0 (start (g.M.Machine.config p.1) c.args.passes (g.M.Machine.history p.1))) in
+    subst P (λ i. (sym items i, sym c.of.ensures i))
+    (opens g.M.Machine.config g.M.Machine.history g.M.Machine.legal g.K.StepRight.owned
+    (g.M.Machine.config c.args.machine) c.args.passes (g.M.Machine.history c.args.machine) c.args.machine refl refl
+    c.requires.some c.requires.legal)
 
 pub returns-in-Ok-new-clause-each : goal.returns-in-Ok-new-clause-each
 returns-in-Ok-new-clause-each g c = λ k p at.
     let n = c.deal.ensures.new k p at in
     let f = c.in-Ok-new.ensures.ok in
-    let is = ap (λ (z : Me (Option g.row.M.Denot) View). z.0) f.4 ∙ ap (λ m. start (g.M.Machine.config m) c.args.passes (g.M.Machine.history m)) c.of.ensures in
+    let is = ap (λ (z : Me (Option g.row.M.Denot) View). z.0) f.4
+    ∙ ap (λ m. start (g.M.Machine.config m) c.args.passes (g.M.Machine.history m)) c.of.ensures in
     let seen = n.4 ∙ ap (λ (x : View). x.seen) is in (
       n.0 ∙ f.2,
       (
@@ -35,7 +43,8 @@ pub returns-in-Ok-new-clause-knows : goal.returns-in-Ok-new-clause-knows
 returns-in-Ok-new-clause-knows g c = λ k p at.
     let n = c.deal.ensures.new k p at in
     let f = c.in-Ok-new.ensures.ok in
-    let is = ap (λ (z : Me (Option g.row.M.Denot) View). z.0) f.4 ∙ ap (λ m. start (g.M.Machine.config m) c.args.passes (g.M.Machine.history m)) c.of.ensures in
+    let is = ap (λ (z : Me (Option g.row.M.Denot) View). z.0) f.4
+    ∙ ap (λ m. start (g.M.Machine.config m) c.args.passes (g.M.Machine.history m)) c.of.ensures in
     let config = n.3 ∙ ap (λ (x : View). x.config) is in
     let past = ap entries (n.4 ∙ ap (λ (x : View). x.seen) is) ∙ entries-unmade (g.M.Machine.history c.args.machine) in
     subst (λ (z : ConfigNumbers × Past). g.M.Machine.legal z.0 z.1) (λ i. (sym config i, sym past i)) c.requires.legal

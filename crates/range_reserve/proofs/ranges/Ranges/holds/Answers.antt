@@ -8,7 +8,8 @@ use Rattle.range_reserve.proofs.ranges.Ranges.holds.Goals as goal
 
 pub held_by-requires : goal.held_by-requires
 held_by-requires c = record {
-  rising = subst (IsRisingBy (λ (h : Held). h.ticket)) (sym c.as_slice.ensures.value) (tickets_rise c.self.inside.longest c.self.inside.starts.items c.self.inside.tickets.items c.self.invariant);
+  rising = subst (IsRisingBy (λ (h : Held). h.ticket)) (sym c.as_slice.ensures.value)
+      (tickets_rise c.self.inside.longest c.self.inside.starts.items c.self.inside.tickets.items c.self.invariant);
 }
 
 pub returns-clause-any : goal.returns-clause-any
@@ -17,7 +18,10 @@ returns-clause-any c =
     ap is_some holds ∙ is_some-held_by c.args.self.now.held c.args.ticket
 
 pub returns-clause-law : goal.returns-clause-law
-returns-clause-law c = subst (λ (v : Reserved). AreApart v.held) c.self.view_is (tickets_apart c.self.inside.longest c.self.inside.starts.items c.self.inside.tickets.items c.self.invariant)
+returns-clause-law c = subst (λ (v : Reserved). AreApart v.held) c.self.view_is
+    (tickets_apart c.self.inside.longest c.self.inside.starts.items c.self.inside.tickets.items c.self.invariant)
 
 pub returns-clause-rising : goal.returns-clause-rising
-returns-clause-rising c = subst (λ (v : Reserved). AreRising v.held) c.self.view_is (tickets_rising c.self.inside.longest c.self.inside.starts.items c.self.inside.tickets.items c.self.invariant)
+returns-clause-rising c =
+    subst (λ (v : Reserved). AreRising v.held) c.self.view_is
+    (tickets_rising c.self.inside.longest c.self.inside.starts.items c.self.inside.tickets.items c.self.invariant)

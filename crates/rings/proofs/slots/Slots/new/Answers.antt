@@ -2,7 +2,8 @@ use Rattle.std.proofs.Common.{None, [], arith, ap, replicate, ◌∙◌, ◌≡�
 use Rattle.rings.proofs.Queues.{Shows, shows_free}
 use Rattle.rings.proofs.slots.Slots.new.Goals as goal
 
-free : (g : _) (c : goal.After-loop g) → Shows c.loop.slots.items 0 0 (record { size = c.args.size; head = 0; tail = 0; items = [] })
+free : (g : _) (c : goal.After-loop g)
+    → Shows c.loop.slots.items 0 0 (record { size = c.args.size; head = 0; tail = 0; items = [] })
 free g c =
     let all : c.loop.counter ≡ c.args.size = omega arith in
     shows_free c.loop.slots.items c.args.size (c.loop.invariant.0 ∙ ap (λ n. replicate n None) all) c.requires.size

@@ -15,11 +15,13 @@ unwrap-requires g c =
 -- the slots afterwards
 after : (g : _) (c : goal.After-unwrap g)
     → let s = c.self.inside in
-    Shows (set s.slots.items c.from-place.result c.take-item.new.self) ((s.head + 1) % c.len.result) s.tail (popped c.args.self.now)
+    Shows (set s.slots.items c.from-place.result c.take-item.new.self) ((s.head + 1) % c.len.result) s.tail
+    (popped c.args.self.now)
 after g c =
     let s = c.self.inside in
     shows_popped s.slots.items s.head s.tail c.self.invariant c.args.self.now c.self.view_is
-    c.from-place.result c.len.result c.take-item.new.self c.from-place.ensures (omega arith) c.take-item.ensures.after c.requires.some
+    c.from-place.result c.len.result c.take-item.new.self c.from-place.ensures (omega arith) c.take-item.ensures.after
+    c.requires.some
 
 pub invariant_of-self : goal.invariant_of-self
 invariant_of-self g c = rw c.next_slot-self-inside.ensures.value ((after g c).queue)

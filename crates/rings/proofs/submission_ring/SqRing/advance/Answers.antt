@@ -17,4 +17,5 @@ pub returns-clause-rest : goal.returns-clause-rest
 returns-clause-rest c = search rules
 
 pub returns-clause-counts : goal.returns-clause-counts
-returns-clause-counts c = λ s h. submitted_fetched s c.args.self.now _ c.args.k (returns-clause-rest c) c.requires.some h
+returns-clause-counts c =
+    λ s h. submitted_fetched s c.args.self.now _ c.args.k (returns-clause-rest c) c.requires.some h

@@ -9,7 +9,8 @@ pub push-requires : goal.push-requires
 push-requires c =
     let at = c.loop-submission in
     let next = c.in-Some-submission in
-    let steps : into_iter_items at.submission-iterator ≡ next.submission ∷ into_iter_items c.next.new.self = next.ensures.steps.0 in
+    let steps : into_iter_items at.submission-iterator ≡ next.submission ∷ into_iter_items c.next.new.self =
+    next.ensures.steps.0 in
     record {
       room = omega (
         arith,

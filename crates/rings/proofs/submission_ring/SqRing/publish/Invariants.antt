@@ -8,6 +8,10 @@ invariant-loop-submission l =
     let slots = l.self-inside.slots in
     let left = into_iter_items l.submission-iterator in
     let all = l.fn.self.waiting ++ l.fn.batch in
-    (record { size = slots.size; head = slots.head; waiting = slots.items ++ left } ≡ record l.fn.self { waiting = all })
+    (record {
+      size = slots.size;
+      head = slots.head;
+      waiting = slots.items ++ left;
+    } ≡ record l.fn.self { waiting = all })
     × (into_iter_len l.submission-iterator ≡ length left)
     × (length l.fn.self.waiting + length l.fn.batch < l.fn.self.size)

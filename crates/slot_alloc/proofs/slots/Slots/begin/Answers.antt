@@ -14,14 +14,16 @@ use Rattle.slot_alloc.proofs.slots.Slots.begin.Goals as goal
 pub returns-in_err-call-clause-goes_on : goal.returns-in_err-call-clause-goes_on
 returns-in_err-call-clause-goes_on g c =
     let x = c.in_err-call.ensures.is in
-    goes_on_same g.P.Port c.args.driver.now c.start_claim.new.self c.start_claim.ensures.settings x.0 c.start_claim.ensures.later x.1.0
+    goes_on_same g.P.Port c.args.driver.now c.start_claim.new.self c.start_claim.ensures.settings x.0
+    c.start_claim.ensures.later x.1.0
 
 pub returns-in_err-call-clause-is : goal.returns-in_err-call-clause-is
 returns-in_err-call-clause-is g c =
     let d = c.args.driver.now in
     let e = c.start_claim.new.self in
     let p = err_from_is_err_and c.from_residual.result c.from_residual.ensures.1 in
-    let at : c.block.result ≡ block_of (area_of d) c.args.slot = c.block.ensures ∙ ap (λ (r : Range). block_of r c.args.slot) (sym c.requires.area) in
+    let at : c.block.result ≡ block_of (area_of d) c.args.slot = c.block.ensures
+    ∙ ap (λ (r : Range). block_of r c.args.slot) (sym c.requires.area) in
     rw (p.1, p.2) (subst (λ (l : ℕ). IsClaimStart d e l (Err c.in_err-call.field-0.0)) at c.in_err-call.ensures.is)
 
 pub returns-clause-careful : goal.returns-clause-careful
@@ -30,7 +32,9 @@ returns-clause-careful g c =
     let e = c.start_claim.new.self in
     let x = c.in_ok-call in
     careful_claimed g.P.Port d e (block_of (area_of d) c.args.slot) x.call x.serial
-    (claims_of g.P.Port d e c.args.self.now c.args.slot c.block.result x.call x.serial c.block.ensures x.ensures.settings x.ensures.later x.ensures.is x.ensures.law.0 x.ensures.law.1 x.ensures.law.2 c.requires.area c.requires.slot)
+    (claims_of g.P.Port d e c.args.self.now c.args.slot c.block.result x.call x.serial c.block.ensures
+    x.ensures.settings x.ensures.later x.ensures.is x.ensures.law.0 x.ensures.law.1 x.ensures.law.2 c.requires.area
+    c.requires.slot)
 
 pub returns-clause-unreleased : goal.returns-clause-unreleased
 returns-clause-unreleased g c = λ careful.
@@ -38,7 +42,9 @@ returns-clause-unreleased g c = λ careful.
     let e = c.start_claim.new.self in
     let x = c.in_ok-call in
     unreleased_now g.P.Port d e c.args.slot x.call x.serial
-    (claims_of g.P.Port d e c.args.self.now c.args.slot c.block.result x.call x.serial c.block.ensures x.ensures.settings x.ensures.later x.ensures.is x.ensures.law.0 x.ensures.law.1 x.ensures.law.2 c.requires.area c.requires.slot) careful
+    (claims_of g.P.Port d e c.args.self.now c.args.slot c.block.result x.call x.serial c.block.ensures
+    x.ensures.settings x.ensures.later x.ensures.is x.ensures.law.0 x.ensures.law.1 x.ensures.law.2 c.requires.area
+    c.requires.slot) careful
 
 pub returns-clause-goes_on : goal.returns-clause-goes_on
 returns-clause-goes_on g c =
@@ -46,7 +52,9 @@ returns-clause-goes_on g c =
     let e = c.start_claim.new.self in
     let x = c.in_ok-call in
     goes_on_claimed g.P.Port d e (block_of (area_of d) c.args.slot) x.call x.serial
-    (claims_of g.P.Port d e c.args.self.now c.args.slot c.block.result x.call x.serial c.block.ensures x.ensures.settings x.ensures.later x.ensures.is x.ensures.law.0 x.ensures.law.1 x.ensures.law.2 c.requires.area c.requires.slot)
+    (claims_of g.P.Port d e c.args.self.now c.args.slot c.block.result x.call x.serial c.block.ensures
+    x.ensures.settings x.ensures.later x.ensures.is x.ensures.law.0 x.ensures.law.1 x.ensures.law.2 c.requires.area
+    c.requires.slot)
 
 pub returns-clause-is : goal.returns-clause-is
 returns-clause-is g c =
@@ -58,7 +66,9 @@ returns-clause-is g c =
       refl,
       c.of-began.ensures,
       c.no_claims.ensures,
-      (claims_of g.P.Port d e c.args.self.now c.args.slot c.block.result x.call x.serial c.block.ensures x.ensures.settings x.ensures.later x.ensures.is x.ensures.law.0 x.ensures.law.1 x.ensures.law.2 c.requires.area c.requires.slot).start,
+      (claims_of g.P.Port d e c.args.self.now c.args.slot c.block.result x.call x.serial c.block.ensures
+          x.ensures.settings x.ensures.later x.ensures.is x.ensures.law.0 x.ensures.law.1 x.ensures.law.2
+          c.requires.area c.requires.slot).start,
     )
 
 pub returns-clause-of : goal.returns-clause-of
@@ -67,10 +77,16 @@ returns-clause-of g c =
     let e = c.start_claim.new.self in
     let x = c.in_ok-call in
     let began = c.of-began.result in
-    claiming_now g.P.Port g.met.P.Port.goes_on d e began c.args.self.now c.args.reach c.args.slot x.call x.serial c.no_claims.result
-    (claims_of g.P.Port d e c.args.self.now c.args.slot c.block.result x.call x.serial c.block.ensures x.ensures.settings x.ensures.later x.ensures.is x.ensures.law.0 x.ensures.law.1 x.ensures.law.2 c.requires.area c.requires.slot)
-    c.requires.area c.requires.slot (subst (λ (b : Driver _ _). g.P.Port.follows b.port d.port) (sym c.of-began.ensures) (g.met.P.Port.stays d.port))
+    claiming_now g.P.Port g.met.P.Port.goes_on d e began c.args.self.now c.args.reach c.args.slot x.call x.serial
+    c.no_claims.result
+    (claims_of g.P.Port d e c.args.self.now c.args.slot c.block.result x.call x.serial c.block.ensures
+    x.ensures.settings x.ensures.later x.ensures.is x.ensures.law.0 x.ensures.law.1 x.ensures.law.2 c.requires.area
+    c.requires.slot)
+    c.requires.area c.requires.slot
+    (subst (λ (b : Driver _ _). g.P.Port.follows b.port d.port) (sym c.of-began.ensures)
+    (g.met.P.Port.stays d.port))
     (λ any.
     let none : c.args.slot ≡ 0 = c.requires.lower any in
     subst (λ (n : ℕ). AreTaken d began.value n (claims_in c.no_claims.result.value)) (sym none)
-    (subst (λ (claims : List (Call _ × ℕ)). AreTaken d began.value 0 claims) (sym c.no_claims.ensures) (none_taken g.P.Port d began.value)))
+    (subst (λ (claims : List (Call _ × ℕ)). AreTaken d began.value 0 claims) (sym c.no_claims.ensures)
+    (none_taken g.P.Port d began.value)))

@@ -11,25 +11,32 @@ returns-in-Ok-clause-careful g c =
     let d = c.args.driver.now in
     let e = c.start_release.new.self in
     let x = c.in-Ok.ensures in
-    careful_released g.P.Port d e c.args.claim c.in-Ok.call (releases_of g.P.Port d e c.args.claim c.in-Ok.call (area c.args.self.now) c.block.result c.block.ensures c.requires.area x.same x.later x.is c.requires.held)
+    careful_released g.P.Port d e c.args.claim c.in-Ok.call
+    (releases_of g.P.Port d e c.args.claim c.in-Ok.call (area c.args.self.now) c.block.result c.block.ensures
+    c.requires.area x.same x.later x.is c.requires.held)
 
 pub returns-in-Ok-clause-goes_on : goal.returns-in-Ok-clause-goes_on
 returns-in-Ok-clause-goes_on g c =
     let d = c.args.driver.now in
     let e = c.start_release.new.self in
     let x = c.in-Ok.ensures in
-    goes_on_released g.P.Port d e c.args.claim c.in-Ok.call (releases_of g.P.Port d e c.args.claim c.in-Ok.call (area c.args.self.now) c.block.result c.block.ensures c.requires.area x.same x.later x.is c.requires.held)
+    goes_on_released g.P.Port d e c.args.claim c.in-Ok.call
+    (releases_of g.P.Port d e c.args.claim c.in-Ok.call (area c.args.self.now) c.block.result c.block.ensures
+    c.requires.area x.same x.later x.is c.requires.held)
 
 pub returns-in-Ok-clause-of : goal.returns-in-Ok-clause-of
 returns-in-Ok-clause-of g c =
     let d = c.args.driver.now in
     let e = c.start_release.new.self in
     let x = c.in-Ok.ensures in
-    releasing_now g.P.Port d e c.args.claim c.in-Ok.call (releases_of g.P.Port d e c.args.claim c.in-Ok.call (area c.args.self.now) c.block.result c.block.ensures c.requires.area x.same x.later x.is c.requires.held)
+    releasing_now g.P.Port d e c.args.claim c.in-Ok.call
+    (releases_of g.P.Port d e c.args.claim c.in-Ok.call (area c.args.self.now) c.block.result c.block.ensures
+    c.requires.area x.same x.later x.is c.requires.held)
 
 pub returns-in-Err-clause-is : goal.returns-in-Err-clause-is
 returns-in-Err-clause-is g c =
     let d = c.args.driver.now in
     let e = c.start_release.new.self in
-    let at : c.block.result ≡ block_of (area_of d) c.args.claim.slot = c.block.ensures ∙ ap (λ (r : Range). block_of r c.args.claim.slot) (sym c.requires.area) in
+    let at : c.block.result ≡ block_of (area_of d) c.args.claim.slot = c.block.ensures
+    ∙ ap (λ (r : Range). block_of r c.args.claim.slot) (sym c.requires.area) in
     (refl, subst (λ (l : ℕ). IsReleaseStart d e l c.args.claim.serial (Err c.in-Err.fault)) at c.in-Err.ensures.is)

@@ -12,13 +12,20 @@ use Rattle.step_core.proofs.controller.Core.fetch_room.Goals as goal
 
 pub data_room-requires : goal.data_room-requires
 data_room-requires c =
-    let a = subst (λ (x : State). IsFetched x.config x.past c.args.queue c.args.front.now) (sym c.self.view_is) c.requires.fetched in
-    let ring = subst (λ (x : State). IsSqRing x.config x.past c.args.queue c.in-Some.ring.now) (sym c.self.view_is) c.in-Some.ensures.value in
+    let a = subst (λ (x : State). IsFetched x.config x.past c.args.queue c.args.front.now) (sym c.self.view_is)
+    c.requires.fetched in
+    let ring = subst (λ (x : State). IsSqRing x.config x.past c.args.queue c.in-Some.ring.now) (sym c.self.view_is)
+    c.in-Some.ensures.value in
     record { has = data_has _ _ _ c.self.invariant.0 _ _ a _ ring }
 
 pub returns-clause-write : goal.returns-clause-write
 returns-clause-write c =
-    let a = subst (λ (x : State). IsFetched x.config x.past c.args.queue c.args.front.now) (sym c.self.view_is) c.requires.fetched in
-    let ring = subst (λ (x : State). IsSqRing x.config x.past c.args.queue c.in-Some.ring.now) (sym c.self.view_is) c.in-Some.ensures.value in
-    let same = subst (λ (x : State). write_first c.args.front.now.judged c.in-Some.ring.now.waiting ≡ write_blocks (fetched_ticket x.past c.args.queue (verdict_by c.args.front.now.judged))) c.self.view_is (data_is _ _ _ c.self.invariant.0 _ _ a _ ring) in
-    subst (λ (bs : List (List ℕ)). IfOk c.data_room.result (λ room. contents_of room.write.items ≡ bs)) same c.data_room.ensures.write
+    let a = subst (λ (x : State). IsFetched x.config x.past c.args.queue c.args.front.now) (sym c.self.view_is)
+    c.requires.fetched in
+    let ring = subst (λ (x : State). IsSqRing x.config x.past c.args.queue c.in-Some.ring.now) (sym c.self.view_is)
+    c.in-Some.ensures.value in
+    let same = subst (λ (x : State). write_first c.args.front.now.judged c.in-Some.ring.now.waiting
+    ≡ write_blocks (fetched_ticket x.past c.args.queue (verdict_by c.args.front.now.judged))) c.self.view_is
+    (data_is _ _ _ c.self.invariant.0 _ _ a _ ring) in
+    subst (λ (bs : List (List ℕ)). IfOk c.data_room.result (λ room. contents_of room.write.items ≡ bs)) same
+    c.data_room.ensures.write

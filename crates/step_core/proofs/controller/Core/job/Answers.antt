@@ -9,7 +9,8 @@ use Rattle.step_core.proofs.controller.Core.job.Goals as goal
 pub returns-in-Some : goal.returns-in-Some
 returns-in-Some c = record {
   value = subst (λ (x : State). IsJob x.config x.past c.args.ticket c.in-Some.job.now) c.self.view_is
-      (job_there _ _ _ c.self.invariant.0 c.args.ticket c.in-Some.job.now (sym (ap option_copied c.in-Some.is) ∙ c.get.ensures.value));
+      (job_there _ _ _ c.self.invariant.0 c.args.ticket c.in-Some.job.now
+      (sym (ap option_copied c.in-Some.is) ∙ c.get.ensures.value));
 }
 
 pub returns-in-None : goal.returns-in-None

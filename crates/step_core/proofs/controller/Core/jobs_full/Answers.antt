@@ -6,5 +6,6 @@ use Rattle.step_core.proofs.controller.Core.jobs_full.Goals as goal
 
 pub returns : goal.returns
 returns c = record {
-  value = c.is_full.ensures.value ∙ full_is _ _ _ c.self.invariant.0 c.is_full.ensures.most ∙ ap (λ (x : State). jobs_full x.config x.past) c.self.view_is;
+  value = c.is_full.ensures.value ∙ full_is _ _ _ c.self.invariant.0 c.is_full.ensures.most
+      ∙ ap (λ (x : State). jobs_full x.config x.past) c.self.view_is;
 }

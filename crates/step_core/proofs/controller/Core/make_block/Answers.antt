@@ -8,12 +8,14 @@ use Rattle.step_core.proofs.controller.Core.make_block.Goals as goal
 
 pub unwrap-job-requires : goal.unwrap-job-requires
 unwrap-job-requires c =
-    let b = subst (λ (x : State). IsNext x.config x.past (Next.Block c.args.ticket c.args.unit)) (sym c.self.view_is) c.requires.block in
+    let b = subst (λ (x : State). IsNext x.config x.past (Next.Block c.args.ticket c.args.unit)) (sym c.self.view_is)
+    c.requires.block in
     c.get_mut.ensures.any ∙ has_job _ _ _ c.self.invariant.0 c.args.ticket b.0
 
 pub make_block-done-requires : goal.make_block-done-requires
 make_block-done-requires c =
-    let b = subst (λ (x : State). IsNext x.config x.past (Next.Block c.args.ticket c.args.unit)) (sym c.self.view_is) c.requires.block in
+    let b = subst (λ (x : State). IsNext x.config x.past (Next.Block c.args.ticket c.args.unit)) (sym c.self.view_is)
+    c.requires.block in
     let job = sym (ap option_copied_mut c.unwrap-job.ensures) ∙ c.get_mut.ensures.value in
     record {
       «open» = opened _ _ _ c.self.invariant.0 c.args.ticket b.0 c.unwrap-job.result.now job;
@@ -22,7 +24,8 @@ make_block-done-requires c =
 
 pub invariant_of-self-2 : goal.invariant_of-self-2
 invariant_of-self-2 c =
-    let b = subst (λ (x : State). IsNext x.config x.past (Next.Block c.args.ticket c.args.unit)) (sym c.self.view_is) c.requires.block in
+    let b = subst (λ (x : State). IsNext x.config x.past (Next.Block c.args.ticket c.args.unit)) (sym c.self.view_is)
+    c.requires.block in
     let job = sym (ap option_copied_mut c.unwrap-job.ensures) ∙ c.get_mut.ensures.value in
     let made = c.make_block-done.ensures in (
       kept _ _ _ c.self.invariant.0 c.args.ticket b.0 c.unwrap-job.result.now job c.args.unit b.1
@@ -37,7 +40,8 @@ invariant_of-self-2 c =
 
 pub returns : goal.returns
 returns c =
-    let b = subst (λ (x : State). IsNext x.config x.past (Next.Block c.args.ticket c.args.unit)) (sym c.self.view_is) c.requires.block in
+    let b = subst (λ (x : State). IsNext x.config x.past (Next.Block c.args.ticket c.args.unit)) (sym c.self.view_is)
+    c.requires.block in
     let job = sym (ap option_copied_mut c.unwrap-job.ensures) ∙ c.get_mut.ensures.value in
     let made = c.make_block-done.ensures in
     record {

@@ -10,37 +10,48 @@ use Rattle.step_core.proofs.controller.Core.make_grant.Goals as goal
 
 pub grant-requires-clause-free : goal.grant-requires-clause-free
 grant-requires-clause-free c =
-    let g = subst (λ (x : State). IsNext x.config x.past (Next.Grant c.args.line)) (sym c.self.view_is) c.requires.line in
-    ap (λ (hs : List Held). has_ticket hs c.args.line.ticket) c.take_both.ensures.ranges ∙ free _ _ _ c.self.invariant.0 c.args.line g
+    let g = subst (λ (x : State). IsNext x.config x.past (Next.Grant c.args.line)) (sym c.self.view_is)
+    c.requires.line in
+    ap (λ (hs : List Held). has_ticket hs c.args.line.ticket) c.take_both.ensures.ranges
+    ∙ free _ _ _ c.self.invariant.0 c.args.line g
 
 pub grant-requires-clause-range : goal.grant-requires-clause-range
 grant-requires-clause-range c =
-    let g = subst (λ (x : State). IsNext x.config x.past (Next.Grant c.args.line)) (sym c.self.view_is) c.requires.line in
+    let g = subst (λ (x : State). IsNext x.config x.past (Next.Grant c.args.line)) (sym c.self.view_is)
+    c.requires.line in
     rw c.get-range.ensures.value (range_is _ _ _ c.self.invariant.0 c.args.line g)
 
 pub unwrap-requires : goal.unwrap-requires
 unwrap-requires c =
-    let g = subst (λ (x : State). IsNext x.config x.past (Next.Grant c.args.line)) (sym c.self.view_is) c.requires.line in
+    let g = subst (λ (x : State). IsNext x.config x.past (Next.Grant c.args.line)) (sym c.self.view_is)
+    c.requires.line in
     let no = apart _ _ _ c.self.invariant.0 c.args.line g in
     let same = ap (λ (hs : List Held). has_conflict hs c.args.line.range c.args.line.mode) c.take_both.ensures.ranges in
     held_ok c.grant.result c.grant.ensures.errors
-    (λ e. absurd (let both : true ≡ false = sym ((rw c.get-range.ensures.value at c.grant.ensures.conflict).0 e) ∙ same ∙ no in cc))
+    (λ e. absurd (let both : true ≡ false = sym ((rw c.get-range.ensures.value at c.grant.ensures.conflict).0 e) ∙ same
+    ∙ no in cc))
     (λ e. omega (arith, c.grant.ensures.memory e, c.in_ok-take_both.ensures.both))
 
 pub unwrap-requires-2 : goal.unwrap-requires-2
 unwrap-requires-2 c =
-    let g = subst (λ (x : State). IsNext x.config x.past (Next.Grant c.args.line)) (sym c.self.view_is) c.requires.line in
+    let g = subst (λ (x : State). IsNext x.config x.past (Next.Grant c.args.line)) (sym c.self.view_is)
+    c.requires.line in
     c.get_mut.ensures.any ∙ has_job _ _ _ c.self.invariant.0 c.args.line g
 
 pub open-requires : goal.open-requires
 open-requires c =
-    let g = subst (λ (x : State). IsNext x.config x.past (Next.Grant c.args.line)) (sym c.self.view_is) c.requires.line in
+    let g = subst (λ (x : State). IsNext x.config x.past (Next.Grant c.args.line)) (sym c.self.view_is)
+    c.requires.line in
     let job = sym (ap option_copied_mut c.unwrap-2.ensures) ∙ c.get_mut.ensures.value in
-    record { first = rw c.get-range.ensures.value (first _ _ _ c.self.invariant.0 c.args.line g c.unwrap-2.result.now job) }
+    record {
+      first = rw c.get-range.ensures.value
+          (first _ _ _ c.self.invariant.0 c.args.line g c.unwrap-2.result.now job);
+    }
 
 pub invariant_of-self-2 : goal.invariant_of-self-2
 invariant_of-self-2 c =
-    let g = subst (λ (x : State). IsNext x.config x.past (Next.Grant c.args.line)) (sym c.self.view_is) c.requires.line in
+    let g = subst (λ (x : State). IsNext x.config x.past (Next.Grant c.args.line)) (sym c.self.view_is)
+    c.requires.line in
     let job = sym (ap option_copied_mut c.unwrap-2.ensures) ∙ c.get_mut.ensures.value in
     let opened = rw c.get-range.ensures.value at c.open.ensures.opened in
     let ok = rw c.unwrap.ensures at c.grant.ensures.ok in

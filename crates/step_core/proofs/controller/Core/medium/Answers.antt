@@ -8,6 +8,8 @@ use Rattle.step_core.proofs.controller.Core.medium.Goals as goal
 
 pub returns-clause-contents : goal.returns-clause-contents
 returns-clause-contents c =
-    subst (λ (x : State). is_held x.past c.args.lba ≡ false → c.block.result.now ≡ value x.past c.args.lba) c.self.view_is
+    subst (λ (x : State). is_held x.past c.args.lba ≡ false → c.block.result.now ≡ value x.past c.args.lba)
+    c.self.view_is
     (block_is_value _ _ _ c.self.invariant.0 c.args.lba c.block.result.now
-    (omega (arith, c.if-lba-from.false, c.from.ensures, ap (λ (n : ConfigNumbers). n.blocks) c.numbers.ensures.value)) c.block.ensures.block)
+    (omega (arith, c.if-lba-from.false, c.from.ensures, ap (λ (n : ConfigNumbers). n.blocks) c.numbers.ensures.value))
+    c.block.ensures.block)

@@ -10,4 +10,5 @@ returns-in-Ok-post_due-clause-step c =
     let due = c.in-Ok-post_due.ensures.value in
     let none = ap (λ t. refusal x.config x.past (Step.Post t)) (sym due.0) ∙ due.1.0 in
     ap (λ t. Some (Step.Post t)) due.0
-    ∙ sym (next_by x.config x.past c.args.ticket _ _ _ c.in_default.ensures.value c.in_default-open_unit.ensures.value none)
+    ∙ sym (next_by x.config x.past c.args.ticket _ _ _ c.in_default.ensures.value c.in_default-open_unit.ensures.value
+    none)

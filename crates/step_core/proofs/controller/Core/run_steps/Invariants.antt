@@ -8,7 +8,8 @@ use Rattle.step_core.proofs.controller.Core.run_steps.Given as goal
 abbrev pub invariant-loop-step : goal.invariant-loop-step
 invariant-loop-step l = record {
   room : vec_len l.out + vec_len l.rest ≤ vec_capacity l.out;
-  tried : (front : List Step) × (front ++ reverse l.rest.items ≡ l.fn.steps.items) × RunsOnto l.fn.self front l.fn.out.items l.out.items l.self;
+  tried : (front : List Step) × (front ++ reverse l.rest.items ≡ l.fn.steps.items)
+      × RunsOnto l.fn.self front l.fn.out.items l.out.items l.self;
 }
 
 abbrev pub decreases-loop-step : goal.decreases-loop-step

@@ -9,5 +9,6 @@ pub returns : goal.returns
 returns c = record {
   value = subst (λ (x : State). IsSqRing x.config x.past c.args.queue c.index.result.now) c.self.view_is
       (sq_read _ _ _ c.self.invariant.0 c.args.queue c.index.result.now c.if-queue-eq0.false
-      (omega (arith, c.if-queue-numbers.false, ap (λ (n : ConfigNumbers). n.pairs) c.numbers.ensures.value)) c.index.ensures);
+      (omega (arith, c.if-queue-numbers.false, ap (λ (n : ConfigNumbers). n.pairs) c.numbers.ensures.value))
+      c.index.ensures);
 }

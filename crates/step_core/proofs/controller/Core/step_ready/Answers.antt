@@ -10,8 +10,10 @@ pub returns-in_err-next-clause-array : goal.returns-in_err-next-clause-array
 returns-in_err-next-clause-array c = one_at_a_time _ _ c.next.ensures.kept.legal
 
 pub returns-clause-legal : goal.returns-clause-legal
-returns-clause-legal c = (kept_served _ _ (step_of c.in_ok-next.next) _ c.next.ensures.kept c.make-answer.ensures.serves).legal
+returns-clause-legal c =
+    (kept_served _ _ (step_of c.in_ok-next.next) _ c.next.ensures.kept c.make-answer.ensures.serves).legal
 
 pub returns-clause-array : goal.returns-clause-array
 returns-clause-array c =
-    one_at_a_time _ _ (kept_served _ _ (step_of c.in_ok-next.next) _ c.next.ensures.kept c.make-answer.ensures.serves).legal
+    one_at_a_time _ _ (kept_served _ _ (step_of c.in_ok-next.next) _ c.next.ensures.kept
+    c.make-answer.ensures.serves).legal

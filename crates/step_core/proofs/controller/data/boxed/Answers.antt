@@ -9,5 +9,7 @@ loop-place-preserved c =
     let bytes : List ℕ = c.args.payload.now in
     let place : ℕ = c.loop-place.place in
     let size : 512 * place + 512 - 512 * place ≡ 512 = omega arith in
-    let value : c.in_ok-new.field-0.value ≡ data_at bytes place = c.in_ok-new.ensures.ok ∙ c.copy_from_slice.ensures.after ∙ ap (λ n. take n (drop (512 * place) bytes)) size in
-    ap contents_of c.in_ok-push.ensures.items ∙ contents_more _ _ ∙ (λ z. c.loop-place.invariant z ++ value z ∷ []) ∙ ap (λ n. blocks_in n bytes) (sym (add-one place))
+    let value : c.in_ok-new.field-0.value ≡ data_at bytes place = c.in_ok-new.ensures.ok
+    ∙ c.copy_from_slice.ensures.after ∙ ap (λ n. take n (drop (512 * place) bytes)) size in
+    ap contents_of c.in_ok-push.ensures.items ∙ contents_more _ _ ∙ (λ z. c.loop-place.invariant z ++ value z ∷ [])
+    ∙ ap (λ n. blocks_in n bytes) (sym (add-one place))

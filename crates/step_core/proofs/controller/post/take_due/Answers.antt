@@ -3,4 +3,5 @@ use Rattle.job_table.proofs.Tickets.{is_some-job_of}
 use Rattle.step_core.proofs.controller.post.take_due.Goals as goal
 
 pub unwrap-requires : goal.unwrap-requires
-unwrap-requires c = ap is_some c.remove.ensures.value ∙ is_some-job_of c.args.jobs.now.jobs c.args.due.ticket ∙ c.requires.flies
+unwrap-requires c = ap is_some c.remove.ensures.value ∙ is_some-job_of c.args.jobs.now.jobs c.args.due.ticket
+    ∙ c.requires.flies

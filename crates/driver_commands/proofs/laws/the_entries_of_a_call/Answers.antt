@@ -1,5 +1,0 @@
-use Rattle.driver_commands.proofs.Calls.{call_cids, call_count, call_fused, call_payloads, call_single}
-use Rattle.driver_commands.proofs.laws.the_entries_of_a_call.Goals as goal
-
-pub returns : goal.returns
-returns c = record { count = call_count; payloads = call_payloads; cids = call_cids; single = call_single; fused = call_fused }

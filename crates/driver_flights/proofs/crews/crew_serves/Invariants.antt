@@ -1,5 +1,0 @@
-use Rattle.driver_flights.specs.Crews.{AreCrewOf}
-use Rattle.driver_flights.proofs.crews.crew_serves.Given as goal
-
-abbrev pub invariant-loop : goal.invariant-loop
-invariant-loop g l = AreCrewOf l.bench l.works l.crew.fetcher l.crew.into l.crew.worker l.crew.out

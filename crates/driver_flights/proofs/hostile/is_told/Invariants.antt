@@ -1,5 +1,0 @@
-use Rattle.driver_cas.specs.Drivers.{IsCallOf}
-use Rattle.driver_flights.proofs.hostile.is_told.Given as goal
-
-abbrev pub invariant-loop-want : goal.invariant-loop-want
-invariant-loop-want g l = IsCallOf l.driver l.next

@@ -1,0 +1,316 @@
+//! One run of one thread through all calls of a driver and of slots, and through both kinds of queue: two hosts, a
+//! fetcher and a worker, each with a pass of its own.
+
+ghost use Rattle.std.specs.Prelude.{◌≡◌, ◌<◌, ◌≤◌, All, IfOk, IfSome};
+ghost use Rattle.work_queue.specs.Engines.{IsOf};
+ghost use Rattle.work_queue.specs.QueuePasses.{IsPlaceOf};
+ghost use Rattle.driver_cas.specs.Drivers.{IsCallOf};
+ghost use Rattle.driver_rows.specs.Benches.{AreOf, IsServerOf};
+ghost use Rattle.driver_rows.specs.Claimants.{IsClaimant, IsReady};
+ghost use Rattle.slot_alloc.specs.Areas.{area};
+ghost use Rattle.driver_tests.specs.Crews.{AreCrewOf};
+
+use crate::crews::{Crew, crew_of, crew_serves};
+use crate::hands::server_of;
+use driver_cas::{Call, SharedPort};
+use driver_rows::{
+    Ask, Bench, Came, Claimant, Fill, Host, Spares, Stage, Told, asks, begins_call, claimant_of,
+    gives_back, hears_all, leaves, meets, meets_server, polls_begun, polls_call, small_bench,
+};
+use history_check::check;
+use meet_lock::Pass;
+use slot_alloc::Slots;
+use std::alloc::Global;
+use std::process::Abort;
+use std::sync::Wait;
+use std::test::Fail;
+use step_core::Core;
+use work_queue::{MessageQueue, QueuePass, Work, WorkQueue};
+
+/// What a host does.
+#[derive(Clone, Copy)]
+enum Deed {
+    /// A call, told so.
+    Asks(Ask, Told),
+    /// Claims slot 0; this comes of it.
+    Claims(Came),
+    /// Claims any slot.
+    ClaimsAny(Came),
+    Releases,
+    /// Leaves its slot: this one, under this serial.
+    Leaves(u32, u64),
+    /// Meets the worker.
+    Meets,
+}
+
+/// Which host does it, or both.
+#[derive(Clone, Copy)]
+enum Turn {
+    One(Deed),
+    Two(Deed),
+    /// They meet, and neither is Busy.
+    Meet,
+}
+
+// What a call that was begun is told, polled at most twice.
+fn told<'a>(bench: &Bench, slots: &Slots, host: &mut Host<'a>, call: Call<SharedPort<'a>>) -> Told
+    requires ready { IsReady bench.now slots.now host.old }
+    requires call { IsCallOf host.old.driver call }
+    ensures { IsReady bench.now slots.now host.new }
+{
+    let (told, back) = polls_call(bench, slots, host, call);
+    let Some(call) = back else {
+        return told;
+    };
+    polls_call(bench, slots, host, call).0
+}
+
+// What a call is told, once it is served; None where it isn't begun.
+fn asked<R: Abort + Wait>(
+    rt: &R,
+    bench: &Bench,
+    works: &WorkQueue,
+    crew: &mut Crew,
+    slots: &Slots,
+    claimant: &mut Claimant<'_>,
+    ask: Ask,
+) -> Option<Told>
+    requires crew { AreCrewOf bench.now works.now crew.old.fetcher crew.old.into crew.old.worker crew.old.out }
+    requires claimant { IsClaimant bench.now slots.now claimant.old }
+    ensures crew { AreCrewOf bench.now works.now crew.new.fetcher crew.new.into crew.new.worker crew.new.out }
+    ensures claimant { IsClaimant bench.now slots.now claimant.new }
+{
+    claimant.stage = Stage::Idle;
+    let call = begins_call(bench, slots, &mut claimant.host, ask)?;
+    crew_serves(rt, bench, works, crew, claimant.queue);
+    hears_all(rt, bench, slots, claimant);
+    let told = told(bench, slots, &mut claimant.host, call);
+    claimant.stage = Stage::Idle;
+    Some(told)
+}
+
+// What comes in the end of what was begun, each time served and polled.
+fn comes<R: Abort + Wait>(
+    rt: &R,
+    bench: &Bench,
+    works: &WorkQueue,
+    crew: &mut Crew,
+    slots: &Slots,
+    claimant: &mut Claimant<'_>,
+) -> Came
+    requires crew { AreCrewOf bench.now works.now crew.old.fetcher crew.old.into crew.old.worker crew.old.out }
+    requires claimant { IsClaimant bench.now slots.now claimant.old }
+    ensures crew { AreCrewOf bench.now works.now crew.new.fetcher crew.new.into crew.new.worker crew.new.out }
+    ensures claimant { IsClaimant bench.now slots.now claimant.new }
+{
+    for _ in 0..8 {
+        crew_serves(rt, bench, works, crew, claimant.queue);
+        hears_all(rt, bench, slots, claimant);
+        let came = polls_begun(bench, slots, claimant);
+        if came != Came::Pending {
+            return came;
+        }
+    }
+    Came::Pending
+}
+
+// That this comes of what is begun now.
+fn ends_so<R: Abort + Wait>(
+    rt: &R,
+    bench: &Bench,
+    works: &WorkQueue,
+    crew: &mut Crew,
+    slots: &Slots,
+    claimant: &mut Claimant<'_>,
+    begun: Came,
+    want: Came,
+)
+    requires crew { AreCrewOf bench.now works.now crew.old.fetcher crew.old.into crew.old.worker crew.old.out }
+    requires claimant { IsClaimant bench.now slots.now claimant.old }
+    ensures crew { AreCrewOf bench.now works.now crew.new.fetcher crew.new.into crew.new.worker crew.new.out }
+    ensures claimant { IsClaimant bench.now slots.now claimant.new }
+{
+    assert_eq!(rt; begun, Came::Begun);
+    let came = comes(rt, bench, works, crew, slots, claimant);
+    assert_eq!(rt; came, want);
+}
+
+// A host does so.
+fn does<R: Abort + Wait>(
+    rt: &R,
+    bench: &Bench,
+    works: &WorkQueue,
+    crew: &mut Crew,
+    slots: &Slots,
+    claimant: &mut Claimant<'_>,
+    deed: Deed,
+)
+    requires crew { AreCrewOf bench.now works.now crew.old.fetcher crew.old.into crew.old.worker crew.old.out }
+    requires claimant { IsClaimant bench.now slots.now claimant.old }
+    requires some { 0 < (area slots.now).blocks }
+    ensures crew { AreCrewOf bench.now works.now crew.new.fetcher crew.new.into crew.new.worker crew.new.out }
+    ensures claimant { IsClaimant bench.now slots.now claimant.new }
+{
+    match deed {
+        Deed::Asks(ask, told) => {
+            let answer = asked(rt, bench, works, crew, slots, claimant, ask);
+            let want = Some(told);
+            assert_eq!(rt; answer, want);
+        }
+        Deed::Claims(came) => {
+            let begun = asks(bench, slots, claimant, Some(0));
+            ends_so(rt, bench, works, crew, slots, claimant, begun, came);
+        }
+        Deed::ClaimsAny(came) => {
+            let begun = asks(bench, slots, claimant, None);
+            ends_so(rt, bench, works, crew, slots, claimant, begun, came);
+        }
+        Deed::Releases => {
+            let begun = gives_back(bench, slots, claimant);
+            ends_so(
+                rt,
+                bench,
+                works,
+                crew,
+                slots,
+                claimant,
+                begun,
+                Came::Released,
+            );
+        }
+        Deed::Leaves(slot, serial) => {
+            let left = leaves(bench, slots, claimant);
+            let want = Some((slot, serial));
+            assert_eq!(rt; left, want);
+        }
+        Deed::Meets => assert!(rt; meets_server(bench, slots, claimant, &mut crew.worker)),
+    }
+}
+
+// Both do all of this.
+fn do_all<R: Abort + Wait>(
+    rt: &R,
+    bench: &Bench,
+    works: &WorkQueue,
+    crew: &mut Crew,
+    slots: &Slots,
+    one: &mut Claimant<'_>,
+    two: &mut Claimant<'_>,
+    all: &[Turn],
+)
+    requires crew { AreCrewOf bench.now works.now crew.old.fetcher crew.old.into crew.old.worker crew.old.out }
+    requires one { IsClaimant bench.now slots.now one.old }
+    requires two { IsClaimant bench.now slots.now two.old }
+    requires some { 0 < (area slots.now).blocks }
+    ensures crew { AreCrewOf bench.now works.now crew.new.fetcher crew.new.into crew.new.worker crew.new.out }
+    ensures one { IsClaimant bench.now slots.now one.new }
+    ensures two { IsClaimant bench.now slots.now two.new }
+{
+    for turn in all {
+        match *turn {
+            Turn::One(deed) => does(rt, bench, works, crew, slots, one, deed),
+            Turn::Two(deed) => does(rt, bench, works, crew, slots, two, deed),
+            Turn::Meet => assert!(rt; meets(bench, slots, one, two)),
+        }
+    }
+}
+
+// Host h, on queue h.
+fn host<'a>(
+    alloc: Global,
+    bench: &'a Bench,
+    spares: &mut Spares,
+    h: u16,
+    slots: &Slots,
+) -> Result<Claimant<'a>, Fail>
+    requires own { AreOf bench.now spares.old }
+    requires number { (1 ≤ h) × (h ≤ bench.now.config.pairs) }
+    requires queues { bench.now.config.cqs ≡ bench.now.config.pairs }
+    requires slots { area slots.now ≡ record { slba = 0; blocks = 2 } }
+    ensures rest { AreOf bench.now spares.new }
+    ensures host { IfOk result (IsClaimant bench.entry.now slots.now) }
+{
+    let hand = server_of(bench, spares)?;
+    match claimant_of(alloc, bench, hand, h, slots, 2) {
+        Some(claimant) => Ok(claimant),
+        None => Err(Fail::from("a host")),
+    }
+}
+
+// The host's pass, given back.
+fn pass_of(bench: &Bench, slots: &Slots, claimant: Claimant<'_>) -> Pass<Core>
+    requires { IsClaimant bench.now slots.now claimant }
+    ensures { IsOf bench.now.engine result }
+{
+    // (named by the contract alone)
+    let _ = bench;
+    let _ = slots;
+    let Claimant { host, .. } = claimant;
+    host.driver.into_port().into_pass()
+}
+
+// The pass of host 1 after all of this.
+fn pass_after<R: Abort + Wait>(
+    rt: &R,
+    alloc: Global,
+    bench: &Bench,
+    spares: &mut Spares,
+    works: &WorkQueue,
+    places: &mut Vec<QueuePass<Work>>,
+    all: &[Turn],
+) -> Result<Pass<Core>, Fail>
+    requires own { AreOf bench.now spares.old }
+    requires places { All (IsPlaceOf bench.now.engine works.now) places.old.items }
+    requires queues { (bench.now.config.pairs ≡ 2) × (bench.now.config.cqs ≡ 2) }
+    ensures { IfOk result (IsOf bench.now.engine) }
+{
+    let slots = Slots::new(0, 2);
+    let mut crew = crew_of(bench, spares, works, places)?;
+    let mut one = host(alloc, bench, spares, 1, &slots)?;
+    let mut two = host(alloc, bench, spares, 2, &slots)?;
+    do_all(rt, bench, works, &mut crew, &slots, &mut one, &mut two, all);
+    Ok(pass_of(bench, &slots, one))
+}
+
+// The controller after all of this.
+fn core_after<R: Abort + Wait>(rt: &R, alloc: Global, all: &[Turn]) -> Result<Core, Fail> {
+    let (bench, mut spares) = small_bench(alloc, 4, 4).ok_or("memory")?;
+    let (works, mut places) = MessageQueue::<Work>::new(alloc, &bench.engine, 4, 2)?;
+    let pass = pass_after(rt, alloc, &bench, &mut spares, &works, &mut places, all)?;
+    let Bench { engine, .. } = bench;
+    match engine.close(pass) {
+        Some(core) => Ok(core),
+        None => Err(Fail::from("the lock isn't free")),
+    }
+}
+
+// No call is answered for want of memory, or because another caller had the controller; no Fetch is refused but for
+// want of an entry.
+#[test]
+fn all_calls_in_one_run(rt: HostRuntime) -> Result<(), Fail> {
+    let a1 = Fill(0xa1, 512);
+    let b2 = Fill(0xb2, 512);
+    let all = [
+        Turn::One(Deed::Asks(Ask::Write(2, a1), Told::Written)),
+        Turn::One(Deed::Asks(Ask::WriteZeroes(3, 1), Told::Written)),
+        Turn::Two(Deed::Asks(Ask::Read(2, 1), Told::Read(512, 0xa1))),
+        Turn::Two(Deed::Asks(Ask::Compare(2, a1), Told::Equal)),
+        Turn::Meet,
+        Turn::Two(Deed::Asks(Ask::CompareAndWrite(2, a1, b2), Told::Swapped)),
+        Turn::One(Deed::Asks(Ask::Compare(2, a1), Told::Differs)),
+        Turn::One(Deed::Meets),
+        Turn::One(Deed::Claims(Came::Held(0))),
+        Turn::Two(Deed::Claims(Came::Taken)),
+        Turn::Two(Deed::ClaimsAny(Came::Held(1))),
+        Turn::Meet,
+        Turn::One(Deed::Releases),
+        Turn::Two(Deed::Leaves(1, 3)),
+        Turn::Two(Deed::ClaimsAny(Came::Held(0))),
+        Turn::One(Deed::ClaimsAny(Came::AllTaken)),
+        Turn::Two(Deed::Releases),
+        Turn::One(Deed::Asks(Ask::Read(0, 1), Told::Read(512, 0))),
+    ];
+    let core = core_after(&rt, rt.alloc(), &all)?;
+    assert!(rt; check(rt.alloc(), &core.config(), core.history().as_slice()).is_ok());
+    Ok(())
+}

@@ -1,5 +1,0 @@
-use Rattle.meet_lock.specs.Passes.{IsSame}
-use Rattle.engine_rows.proofs.accounts.insist.Given as goal
-
-abbrev pub invariant-loop : goal.invariant-loop
-invariant-loop l = IsSame l.fn.pass l.pass

@@ -1,5 +1,0 @@
-use Rattle.lock_rows.specs.Hands.{IsOf}
-use Rattle.engine_rows.proofs.capacity.empties.Given as goal
-
-abbrev pub invariant-loop-ticket : goal.invariant-loop-ticket
-invariant-loop-ticket g l = IsOf l.hall l.hand

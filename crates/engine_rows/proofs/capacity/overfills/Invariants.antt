@@ -1,5 +1,0 @@
-use Rattle.lock_rows.specs.Hands.{IsOf}
-use Rattle.engine_rows.proofs.capacity.overfills.Given as goal
-
-abbrev pub invariant-loop-cid : goal.invariant-loop-cid
-invariant-loop-cid g l = IsOf l.hall l.hand

@@ -1,5 +1,0 @@
-use Rattle.lock_rows.specs.Hands.{IsCrewOf}
-use Rattle.engine_rows.proofs.crew.hears.Given as goal
-
-abbrev pub invariant-loop : goal.invariant-loop
-invariant-loop g l = IsCrewOf l.hall l.crew

@@ -1,5 +1,0 @@
-use Rattle.lock_rows.specs.Hands.{IsCrewOf}
-use Rattle.engine_rows.proofs.crew.make_all.Given as goal
-
-abbrev pub invariant-loop-step : goal.invariant-loop-step
-invariant-loop-step g l = IsCrewOf l.hall l.crew

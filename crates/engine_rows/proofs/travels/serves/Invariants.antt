@@ -1,5 +1,0 @@
-use Rattle.lock_rows.specs.Hands.{IsOf}
-use Rattle.engine_rows.proofs.travels.serves.Given as goal
-
-abbrev pub invariant-loop : goal.invariant-loop
-invariant-loop g l = IsOf l.hall l.hand

@@ -1,0 +1,5 @@
+use Rattle.lock_rows.specs.Hands.{IsCrewOf}
+use Rattle.engine_tests.proofs.crew.hears.Given as goal
+
+abbrev pub invariant-loop : goal.invariant-loop
+invariant-loop g l = IsCrewOf l.hall l.crew

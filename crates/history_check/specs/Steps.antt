@@ -1,0 +1,57 @@
+-- What one more entry makes of what is kept.
+use Rattle.std.specs.Bool.{beq}
+use Rattle.std.specs.Prelude.{Bool, List, None, Option, Some, [], false, is_some, not, true, ◌&&◌, ◌+◌, ◌==◌, ◌||◌, ◌∷◌}
+use Rattle.std.specs.Prelude.{◌≡◌, ◌≤◌}
+use Rattle.checker_tables.specs.Judged as rules
+use Rattle.checker_tables.specs.Tables.{tables}
+use Rattle.checker_tables.specs.Tables.{Flight}
+use Rattle.checker_tables.specs.Taken.{taken}
+use Rattle.fused_match.specs.declared.judged.Judged.{Judged}
+use Rattle.fused_match.specs.declared.judged.Judged.TheVariants as judged
+use Rattle.nvme_model.specs.Cut.{cut}
+use Rattle.nvme_model.specs.History.{Past}
+use Rattle.nvme_model.specs.Operations.{is_exclusive, mode}
+use Rattle.nvme_model.specs.declared.array.Range.{Range}
+use Rattle.nvme_model.specs.declared.config.AtomicParameters.{AtomicParameters}
+use Rattle.nvme_model.specs.declared.config.ConfigNumbers.{ConfigNumbers}
+use Rattle.nvme_model.specs.declared.entry.GrantLine.{GrantLine}
+use Rattle.range_reserve.specs.Reserved.{has_conflict}
+use Rattle.range_reserve.specs.declared.held.Held.{Held}
+use Rattle.nvme_model.specs.declared.entry.Entry.{Entry}
+use Rattle.history_check.specs.Kept.{Kept, Shows}
+
+-- the answer is whether the entry may follow, and where it may the tables with it are shown
+pub record Took (c : ConfigNumbers) (past : Past) (e : Entry) (b : Bool) (k : Kept) : Type 0 where
+  pub answer : b ≡ rules.judged c (tables c past) e
+  pub shows : b ≡ true → Shows c (taken c (tables c past) e) k
+
+-- ---- memory
+
+-- an entry of this kind may need memory to be taken
+abbrev pub needs_memory : Entry → Bool
+needs_memory (Entry.Post p) = false
+needs_memory (Entry.Reap r) = false
+needs_memory _ = true
+
+-- ---- a Grant
+
+-- a Grant of a ticket that has this unit next, where these ranges are held
+abbrev pub grant_by : Flight → Option Range → List Held → GrantLine → Bool
+grant_by f None held g = false
+grant_by f (Some r) held g =
+    not (f.differs || is_some f.unit) && not (has_conflict held r (mode f.ticket))
+    && ((g.unit == f.opened) && ((r.slba == g.range.slba) && (r.blocks == g.range.blocks))
+    && beq (is_exclusive g.mode) (is_exclusive (mode f.ticket)))
+
+-- ---- a Fetch
+
+-- the units of what was judged
+abbrev pub units_in : AtomicParameters → Judged → List Range
+units_in u (judged.Single o r) = cut u r.slba r.blocks
+units_in u (judged.Pair r) = r ∷ []
+units_in u _ = []
+
+-- where it has some, its blocks can be those of a volume
+abbrev pub HasUnits : Judged → Type 0
+HasUnits (judged.Single o r) = (1 ≤ r.blocks) × (r.slba + r.blocks ≤ 65536)
+HasUnits _ = Unit {0}

@@ -1,6 +1,0 @@
-use Rattle.std.proofs.Common.{take, ◌++◌, ◌≡◌}
-use Rattle.nvme_model.specs.Tickets.{cids}
-use Rattle.one_pass_check.proofs.fetch.put_in_use.Given as goal
-
-abbrev pub invariant-loop-place : goal.invariant-loop-place
-invariant-loop-place l = l.used ≡ record l.fn.used { cids = l.fn.used.cids ++ take l.place (cids l.commands) }

@@ -1,4 +1,0 @@
-pub mod Rings
-pub mod Kept
-pub mod Steps
-pub mod Whys

@@ -1,9 +1,0 @@
-use Rattle.slot_rows.proofs.Lists.{all_more}
-use Rattle.driver_rows.specs.Claimants.{IsClaimant}
-use Rattle.slot_rows.proofs.crowd.joins.Goals as goal
-
-pub returns-in_err-push : goal.returns-in_err-push
-returns-in_err-push c = all_more (IsClaimant c.args._bench.now c.args._slots.now) _ c.args.all.now.items c.push.new.self.items c.args.claimant c.push.ensures.items c.requires.all c.requires.claimant
-
-pub returns : goal.returns
-returns c = all_more (IsClaimant c.args._bench.now c.args._slots.now) _ c.args.all.now.items c.push.new.self.items c.args.claimant c.push.ensures.items c.requires.all c.requires.claimant

@@ -1,7 +1,0 @@
-use Rattle.std.specs.Prelude.{All}
-use Rattle.driver_rows.specs.Benches.{IsServerOf}
-use Rattle.driver_rows.specs.Claimants.{IsClaimant}
-use Rattle.slot_rows.proofs.crowd.round.Given as goal
-
-abbrev pub invariant-loop : goal.invariant-loop
-invariant-loop g l = IsServerOf l.bench l.server × All (IsClaimant l.bench l.slots) l.waiting.items × All (IsClaimant l.bench l.slots) l.done.items

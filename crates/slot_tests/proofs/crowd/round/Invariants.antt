@@ -1,0 +1,8 @@
+use Rattle.std.specs.Prelude.{All}
+use Rattle.driver_rows.specs.Benches.{IsServerOf}
+use Rattle.driver_rows.specs.Claimants.{IsClaimant}
+use Rattle.slot_tests.proofs.crowd.round.Given as goal
+
+abbrev pub invariant-loop : goal.invariant-loop
+invariant-loop g l = IsServerOf l.bench l.server × All (IsClaimant l.bench l.slots) l.waiting.items
+    × All (IsClaimant l.bench l.slots) l.done.items

@@ -1,9 +1,0 @@
-use Rattle.ticket_standing.proofs.WholeRead.{read_is}
-use Rattle.ticket_standing.proofs.ReadPlace.{read_length}
-use Rattle.ticket_standing.proofs.a_read_sees_each_unit_at_one_moment.Goals as goal
-
-pub returns-clause-whole : goal.returns-clause-whole
-returns-clause-whole c = read_is
-
-pub returns-clause-length : goal.returns-clause-length
-returns-clause-length c = read_length
