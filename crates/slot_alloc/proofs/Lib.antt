@@ -2,6 +2,7 @@ pub mod Logs
 pub mod Starting
 pub mod Asking
 pub mod Polling
+pub mod NextSlots
 pub mod GivingBack
 pub mod Keeping
 pub mod Staying

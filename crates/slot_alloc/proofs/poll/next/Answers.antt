@@ -1,7 +1,7 @@
 use Rattle.std.proofs.Common.{inl, inr, refl, rules, ◌+◌, ◌≡◌, ◌≢◌}
-use Rattle.slot_alloc.proofs.Polling.{all_taken, any_reach, next_claiming, next_of}
 use Rattle.slot_alloc.specs.declared.claiming.Reach.{Reach}
 use Rattle.slot_alloc.proofs.poll.next.Goals as goal
+use Rattle.slot_alloc.proofs.NextSlots.{all_taken, any_reach, next_claiming, next_of}
 
 pub returns-then-slot-slots-clause-is : goal.returns-then-slot-slots-clause-is
 returns-then-slot-slots-clause-is g c =

@@ -3,11 +3,12 @@ use Rattle.driver_calls.specs.declared.reply.Reply.{Reply}
 use Rattle.driver_cas.specs.Drivers.{Says}
 use Rattle.driver_cas.specs.declared.call.Call.{Call}
 use Rattle.slot_alloc.proofs.Polling.{Polls, by_stage, claiming_polled, differs_ended, ended_polled, failed_polled}
-use Rattle.slot_alloc.proofs.Polling.{goes_on_on, goes_on_polled, held_polled, lost_held, lost_polled, polled_lost}
+use Rattle.slot_alloc.proofs.Polling.{goes_on_on, goes_on_polled, held_polled, lost_polled}
 use Rattle.slot_alloc.proofs.Polling.{still_polled, waiting_polled, won_polled}
 use Rattle.slot_alloc.specs.Progresses.{IsLost, IsLostOn}
 use Rattle.slot_alloc.specs.declared.claiming.Stage.{Stage}
 use Rattle.slot_alloc.proofs.poll.poll_claim.Goals as goal
+use Rattle.slot_alloc.proofs.NextSlots.{lost_held, polled_lost}
 
 pub returns-in-Pending-clause-goes_on : goal.returns-in-Pending-clause-goes_on
 returns-in-Pending-clause-goes_on g c =
