@@ -19,9 +19,10 @@ pub use crate::config_line::{read_config_line, write_config_line};
 pub use crate::kinds::{Kinds, all_kinds, shows};
 pub use crate::laws::{configurations_have_one_spelling, lines_have_one_spelling};
 pub use crate::line_fault::LineFault;
+pub use crate::lines_there::publish_fits;
 pub use crate::past::History;
 pub use crate::reading::parse_line;
-pub use crate::writing::write_line;
+pub use crate::writing::{write_line, write_publish};
 pub use nvme_model::entry::{
     BlockLine, Entry, FetchLine, GrantLine, PostLine, PublishLine, ReapLine, UnitRange,
 };

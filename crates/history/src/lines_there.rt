@@ -72,7 +72,8 @@ fn verdict_fits(verdict: Verdict)
     }
 }
 
-fn publish_fits(line: &PublishLine)
+/// A Publish has a line: that is what its types keep. Does nothing.
+pub fn publish_fits(line: &PublishLine)
     ensures { HasLine (Entry.Publish line.now) }
 {
     short_fits(line.queue);

@@ -16,8 +16,11 @@ use nvme_model::entry::{BlockLine, Entry, FetchLine, GrantLine, PostLine, Publis
 use nvme_model::status::Verdict;
 use std::io::{Result as IoResult, Write};
 
+/// Writes the line of a Publish, without its line feed; it takes no memory.
+///
+/// After an `Err` the writer has some beginning of it.
 #[tactic(auto, unfolding(crate::specs::Lines::entry_line, crate::specs::Lines::entry_words))]
-fn write_publish<W: Write>(line: &PublishLine, writer: &mut W) -> IoResult<()>
+pub fn write_publish<W: Write>(line: &PublishLine, writer: &mut W) -> IoResult<()>
     ensures whole { OnOk result
         (Appends (W.contents writer.old) (W.contents writer.new) (entry_line (Entry.Publish line.now))) }
     ensures front { OnErr result
