@@ -4,5 +4,10 @@ pub mod Owing
 pub mod Finding
 pub mod Saying
 pub mod Judging
+pub mod TakingTickets
+pub mod TakingPosts
+pub mod TakingGrants
+pub mod TakingFetches
+pub mod TakingBlocks
 pub mod Taking
 pub mod Within

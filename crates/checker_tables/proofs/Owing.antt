@@ -1,5 +1,5 @@
 -- What a ticket owes, by the tables.
-use Rattle.std.proofs.Common.{◌≡◌, ℕ, suc, ◌+◌, ◌*◌, ◌≤◌, ◌<◌, Bool, true, false, not, ◌&&◌, ◌||◌, cond, List, [], ◌∷◌}
+use Rattle.std.proofs.Common.{◌≡◌, ℕ, suc, ◌+◌, ◌≤◌, ◌<◌, Bool, true, false, not, ◌&&◌, ◌||◌, cond, List, [], ◌∷◌}
 use Rattle.std.proofs.Common.{length, option_map, refl, sym, ap, ap₂, ◌∙◌, subst, subst₂, Option, Some, None, is_none}
 use Rattle.std.proofs.Common.{is_some, inl, inr, arith, eqb, eqb-true, nat_le, nat_lt, le-leb, leb-true, slice_get}
 use Rattle.std.specs.List.{find, list_all, list_any}
@@ -15,7 +15,7 @@ use Rattle.nvme_model.specs.EntryBytes.{slba, blocks}
 use Rattle.nvme_model.specs.History.{Past}
 use Rattle.nvme_model.specs.Legal.{IsLegal}
 use Rattle.nvme_model.specs.Open.{blocks_made, grants_of, granted, has_ended, is_differs, open_units, steps_needed}
-use Rattle.nvme_model.specs.Operations.{is_pair, op, units}
+use Rattle.nvme_model.specs.Operations.{op, units}
 use Rattle.nvme_model.specs.Owed.{all_done, all_ended, numbered, owed, owed_after, owed_by, some_no}
 use Rattle.nvme_model.specs.Placed.{effect}
 use Rattle.nvme_model.specs.Refusals.{has_open, is_flush_ticket, owes_nothing_yet}
