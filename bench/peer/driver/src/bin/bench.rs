@@ -69,7 +69,13 @@ fn row(repeats: usize, name: &str, list: &List) {
 }
 
 fn head(name: &str) {
-    let beside = if cfg!(feature = "boxed") { ", beside the peer with boxed blocks" } else { "" };
+    let beside = if cfg!(feature = "boxed") {
+        ", beside the peer with boxed blocks"
+    } else if cfg!(feature = "direct") {
+        ", beside the peer of tables"
+    } else {
+        ""
+    };
     println!("\n{name}{beside}\n");
     println!("| workload | steps | product ns/step | peer ns/step | ratio | ratio of least | product less building | peer less building | ratio | product steps/s | peer steps/s | peer: freeing, of the steps |");
     println!("|---|---|---|---|---|---|---|---|---|---|---|---|");
