@@ -1,5 +1,7 @@
 pub mod Beginning
 mod Answering
+mod Certifying
+mod Collected
 mod KindsLemmas
 mod Faults
 mod Followed

@@ -9,3 +9,5 @@ pub mod Judged
 pub mod Followed
 pub mod Explained
 pub mod Kinds
+pub mod Traces
+pub mod Certified

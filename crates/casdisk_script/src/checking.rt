@@ -13,7 +13,7 @@ use std::alloc::Global;
 use std::io::{Read, Result as IoResult, Write};
 
 // Writes `bad at K`.
-fn send_bad<W: Write>(place: u64, writer: &mut W) -> IoResult<()>
+pub(crate) fn send_bad<W: Write>(place: u64, writer: &mut W) -> IoResult<()>
     ensures whole { OnOk result (Appends (W.contents writer.old) (W.contents writer.new) (bad_text place)) }
     ensures front { OnErr result (AppendsFront (W.contents writer.old) (W.contents writer.new) (bad_text place)) }
 {

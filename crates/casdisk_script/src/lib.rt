@@ -1,6 +1,8 @@
 //! Scripts and histories as texts: what a run prints, what a check answers, what is explained.
 #![tactic(auto)]
 
+mod certify_fault;
+mod certifying;
 mod checking;
 mod explaining;
 mod fault;
@@ -13,7 +15,10 @@ mod performing;
 mod printing;
 mod running;
 mod script;
+mod trace_reading;
 
+pub use crate::certify_fault::CertifyFault;
+pub use crate::certifying::certify_text;
 pub use crate::checking::check_text;
 pub use crate::explaining::{BadStep, Explained, explain_text};
 pub use crate::fault::RunFault;

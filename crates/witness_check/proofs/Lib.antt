@@ -1,4 +1,5 @@
 pub mod Waiting
 pub mod Queues
 pub mod Taking
-pub mod Explaining
+pub mod Comparing
+pub mod Judging

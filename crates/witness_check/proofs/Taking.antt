@@ -67,7 +67,7 @@ pub tells_by : (c : ConfigNumbers) (past : Past) (e : Entry) (next : Option Seen
 tells_by c past e next Bad l h = absurd h
 tells_by c past e next Hidden l h = (l, h)
 tells_by c past e next Same l h = (l, h)
-tells_by c past e next Unlike l h = (l, h)
+tells_by c past e next (Unlike d) l h = (l, h)
 
 -- ---- an entry of a ticket alone
 

@@ -1,5 +1,5 @@
 -- What is kept of a history that is compared with a trace, and what is said of one more entry.
-use Rattle.std.specs.Prelude.{Bool, List, None, Option, Some, false, suc, true, ℕ, ◌≡◌, ◌≢◌, ◌∷◌}
+use Rattle.std.specs.Prelude.{Bool, List, None, Option, Some, false, suc, true, ℕ, ◌≡◌, ◌∷◌}
 use Rattle.nvme_model.specs.History.{Past}
 use Rattle.nvme_model.specs.Legal.{IsLegal, legal}
 use Rattle.nvme_model.specs.declared.config.ConfigNumbers.{ConfigNumbers}
@@ -9,6 +9,7 @@ use Rattle.history_check.specs.Kept as kept
 use Rattle.rings.specs.Tables.{IsTable}
 use Rattle.seen_trace.specs.Observed.{shown}
 use Rattle.seen_trace.specs.declared.seen.Seen.{Seen}
+use Rattle.witness_check.specs.Differing.{Differ}
 use Rattle.witness_check.specs.Waiting.{waiting_payloads}
 use Rattle.witness_check.specs.declared.witness.Told.{Told}
 use Rattle.witness_check.specs.declared.witness.Told.TheVariants.{Bad, Hidden, Same, Unlike}
@@ -35,11 +36,11 @@ abbrev pub Compares : Option Seen → Option Seen → Told → Type 0
 Compares seen next Bad = ⊥
 Compares seen next Hidden = seen ≡ None
 Compares seen next Same = (s : Seen) × (seen ≡ Some s) × (next ≡ Some s)
-Compares seen next Unlike = (s : Seen) × (seen ≡ Some s) × (next ≢ Some s)
+Compares seen next (Unlike d) = (s : Seen) × (seen ≡ Some s) × Differ (Some s) next d
 
 -- what is said of one more entry behind this history, where the trace says this next
 abbrev pub Tells : ConfigNumbers → Past → Entry → Option Seen → Told → Type 0
 Tells c past e next Bad = legal c (e ∷ past) ≡ false
 Tells c past e next Hidden = IsLegal c (e ∷ past) × Compares (shown c past e) next Hidden
 Tells c past e next Same = IsLegal c (e ∷ past) × Compares (shown c past e) next Same
-Tells c past e next Unlike = IsLegal c (e ∷ past) × Compares (shown c past e) next Unlike
+Tells c past e next (Unlike d) = IsLegal c (e ∷ past) × Compares (shown c past e) next (Unlike d)

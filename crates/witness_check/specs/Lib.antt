@@ -1,2 +1,4 @@
 pub mod Waiting
+pub mod Differing
 pub mod Followed
+pub mod Compared

@@ -1,38 +1,34 @@
 //! Whether entries explain a trace.
 
-ghost use Rattle.std.specs.Option.{option_copied};
-ghost use Rattle.std.specs.Prelude.{◌≡◌, ◌↔◌, [], IfOk, reverse, slice_get, true};
-ghost use Rattle.nvme_model.specs.declared.config.ConfigNumbers.{ConfigNumbers};
+ghost use Rattle.std.specs.Prelude.{◌≡◌, ◌↔◌, IfOk, reverse, true};
 ghost use Rattle.seen_trace.specs.Observed.{Explains};
-ghost use Rattle.witness_check.specs.Followed.{Follows};
+ghost use Rattle.witness_check.specs.Compared.{IsVerdict};
 
-use crate::witness::{Told, Witness};
+use crate::comparison::{Comparison, Verdict};
 use history::{Config, Entry};
 use seen_trace::Seen;
 use std::alloc::{AllocError as NoMemory, Global};
 
-// What a trace says at a place.
-fn next_of(trace: &[Seen], place: usize) -> Option<&Seen>
-    ensures value { option_copied result ≡ slice_get trace.now place }
+/// What is said of these entries and this trace, each the oldest first: that they explain it; or else the first bad
+/// entry; or else, where they are a legal history, what hosts first saw of them that the trace doesn't say, or what it
+/// says that hosts didn't see. It takes any entries and any trace, whoever made them.
+///
+/// # Errors
+///
+/// `NoMemory` where a growth is refused; nothing is said.
+pub fn judge(
+    alloc: Global,
+    config: &Config,
+    trace: &[Seen],
+    entries: &[Entry],
+) -> Result<Verdict, NoMemory>
+    ensures value { IfOk result (IsVerdict config.now (reverse entries.now) trace.now) }
 {
-    trace.get(place)
-}
-
-// Whether these entries, taken by a witness that has taken none, are legal and seen as this trace.
-fn explains(witness: &mut Witness, trace: &[Seen], entries: &[Entry]) -> Result<bool, NoMemory>
-    ensures value { (c : ConfigNumbers) → Follows c [] witness.old → IfOk result
-        (λ b. (b ≡ true) ↔ Explains c (reverse entries.now) (reverse trace.now)) }
-{
-    let mut seen = 0;
+    let mut comparison = Comparison::new(alloc, config)?;
     for place in 0..entries.len() {
-        match witness.take(&entries[place], next_of(trace, seen))? {
-            Told::Bad => return Ok(false),
-            Told::Unlike => return Ok(false),
-            Told::Hidden => {}
-            Told::Same => seen += 1,
-        }
+        comparison.take(trace, &entries[place])?;
     }
-    Ok(seen == trace.len())
+    Ok(comparison.verdict(trace))
 }
 
 /// Whether these entries, the oldest first, are a legal history of this configuration, and hosts saw it as this trace,
@@ -50,6 +46,9 @@ pub fn certify(
     ensures value { IfOk result
         (λ b. (b ≡ true) ↔ Explains config.now (reverse entries.now) (reverse trace.now)) }
 {
-    let mut witness = Witness::new(alloc, config)?;
-    explains(&mut witness, trace, entries)
+    match judge(alloc, config, trace, entries)? {
+        Verdict::Explained => Ok(true),
+        Verdict::Bad(_) => Ok(false),
+        Verdict::Unlike(_, _) => Ok(false),
+    }
 }

@@ -2,9 +2,15 @@
 #![tactic(auto)]
 
 mod certifying;
+mod comparison;
+mod difference;
+mod laws;
 mod payloads;
 mod same;
 mod witness;
 
-pub use crate::certifying::certify;
+pub use crate::certifying::{certify, judge};
+pub use crate::comparison::{Comparison, Verdict};
+pub use crate::difference::Difference;
+pub use crate::laws::a_history_has_one_verdict;
 pub use crate::witness::{Told, Witness};

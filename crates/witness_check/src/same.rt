@@ -1,8 +1,10 @@
-//! Whether what a trace says is what was seen.
+//! What differs between what was seen and what a trace says.
 
 ghost use Rattle.std.specs.Prelude.{◌≡◌, ◌↔◌, true};
 ghost use Rattle.seen_trace.specs.declared.seen.Seen.{Seen};
+ghost use Rattle.witness_check.specs.Differing.{Distinguishes};
 
+use crate::difference::Difference;
 use nvme_model::entry::{PublishLine, ReapLine};
 use nvme_model::submission::Submission;
 use seen_trace::{ReapedLine, Seen};
@@ -28,36 +30,54 @@ fn same_items(some: &[Submission], others: &[Submission]) -> bool
     true
 }
 
-fn same_publish(line: &PublishLine, told: &PublishLine) -> bool
-    ensures value { (result ≡ true) ↔ (line.now ≡ told.now) }
+// What differs between two Publishes.
+fn publishes_differ(line: &PublishLine, told: &PublishLine) -> Option<Difference>
+    ensures value { Distinguishes (Seen.Published line.now) (Seen.Published told.now) result }
 {
-    line.queue == told.queue && same_items(line.batch.as_slice(), told.batch.as_slice())
+    if line.queue != told.queue {
+        return Some(Difference::Queue);
+    }
+    if !same_items(line.batch.as_slice(), told.batch.as_slice()) {
+        return Some(Difference::Batch);
+    }
+    None
 }
 
-fn same_reap(line: &ReapLine, payload: &[u8], told: &ReapedLine) -> bool
-    ensures value { (result ≡ true) ↔
-        (told.now ≡ record { queue = line.now.queue; cqe = line.now.cqe; payload = payload.now }) }
+// What differs between a Reap with this data and another one.
+fn reaps_differ(line: &ReapLine, payload: &[u8], told: &ReapedLine) -> Option<Difference>
+    ensures value { Distinguishes
+        (Seen.Reaped (record { queue = line.now.queue; cqe = line.now.cqe; payload = payload.now }))
+        (Seen.Reaped told.now) result }
 {
-    line.queue == told.queue && line.cqe == told.cqe && payload == told.payload.as_slice()
+    if line.queue != told.queue {
+        return Some(Difference::Queue);
+    }
+    if line.cqe != told.cqe {
+        return Some(Difference::Completion);
+    }
+    if payload != told.payload.as_slice() {
+        return Some(Difference::Data);
+    }
+    None
 }
 
-/// Whether a trace says this Publish.
-pub fn is_published(line: &PublishLine, told: &Seen) -> bool
-    ensures value { (result ≡ true) ↔ (told.now ≡ Seen.Published line.now) }
+/// What differs between this Publish and what a trace says.
+pub fn publish_differs(line: &PublishLine, told: &Seen) -> Option<Difference>
+    ensures value { Distinguishes (Seen.Published line.now) told.now result }
 {
     match told {
-        Seen::Published(told) => same_publish(line, told),
-        Seen::Reaped(_) => false,
+        Seen::Published(told) => publishes_differ(line, told),
+        Seen::Reaped(_) => Some(Difference::Kind),
     }
 }
 
-/// Whether a trace says this Reap, with this data.
-pub fn is_reaped(line: &ReapLine, payload: &[u8], told: &Seen) -> bool
-    ensures value { (result ≡ true) ↔ (told.now ≡ Seen.Reaped
-        (record { queue = line.now.queue; cqe = line.now.cqe; payload = payload.now })) }
+/// What differs between this Reap, with this data, and what a trace says.
+pub fn reap_differs(line: &ReapLine, payload: &[u8], told: &Seen) -> Option<Difference>
+    ensures value { Distinguishes
+        (Seen.Reaped (record { queue = line.now.queue; cqe = line.now.cqe; payload = payload.now })) told.now result }
 {
     match told {
-        Seen::Published(_) => false,
-        Seen::Reaped(told) => same_reap(line, payload, told),
+        Seen::Published(_) => Some(Difference::Kind),
+        Seen::Reaped(told) => reaps_differ(line, payload, told),
     }
 }

@@ -1,18 +1,19 @@
 //! A history that is compared with what hosts saw, entry by entry.
 
 ghost use Rattle.std.specs.Option.{option_copied};
-ghost use Rattle.std.specs.Prelude.{◌≡◌, ◌∷◌, ◌<◌, ◌-◌, ◌%◌, [], IfOk, OnErr, Option, Some, if◌then◌else◌, true};
+ghost use Rattle.std.specs.Prelude.{◌≡◌, ◌∷◌, ◌<◌, ◌-◌, ◌%◌, [], IfOk, OnErr, Option, Some, true};
 ghost use Rattle.nvme_model.specs.EntryBytes.{cqe_fields};
 ghost use Rattle.nvme_model.specs.History.{Past};
 ghost use Rattle.nvme_model.specs.declared.config.ConfigNumbers.{ConfigNumbers};
 ghost use Rattle.nvme_model.specs.declared.entry.Entry.{Entry};
 ghost use Rattle.seen_trace.specs.declared.seen.Seen.{Seen};
+ghost use Rattle.witness_check.specs.Differing.{Distinguishes};
 ghost use Rattle.witness_check.specs.Followed.{Compares, Follows, Tells, is_inner};
 ghost use Rattle.witness_check.specs.Waiting.{data_or_none};
-ghost use Rattle.witness_check.specs.declared.witness.Told.TheVariants.{Same, Unlike};
 
+use crate::difference::Difference;
 use crate::payloads::{Payloads, no_payloads, pop_at, push_at};
-use crate::same::{is_published, is_reaped};
+use crate::same::{publish_differs, reap_differs};
 use byteorder::{ByteOrder, LittleEndian};
 use history::{Config, Entry};
 use history_check::Checker;
@@ -31,8 +32,8 @@ pub enum Told {
     Hidden,
     /// They are, and hosts see what the trace says next.
     Same,
-    /// They are, and hosts see something that the trace doesn't say next.
-    Unlike,
+    /// They are, and hosts see something that the trace doesn't say next: this is what differs.
+    Unlike(Difference),
 }
 
 /// Follows a history entry by entry, and says of each whether it is legal there and is seen as a trace says. It keeps a
@@ -70,11 +71,14 @@ fn place_of(cqe: &[u8; 16], count: usize) -> usize
     usize::from(sqid_of(cqe).saturating_sub(1)) % count
 }
 
-// What is said of something that hosts see and that is, or isn't, what the trace says next.
-fn same_or_unlike(same: bool) -> Told
-    ensures value { result ≡ (if same then Same else Unlike) }
+// What is said of something that hosts see, where this is what differs from what the trace says next.
+fn same_or_unlike(difference: Option<Difference>) -> Told
+    ensures value { (s t : Seen) → Distinguishes s t difference → Compares (Some s) (Some t) result }
 {
-    if same { Told::Same } else { Told::Unlike }
+    match difference {
+        None => Told::Same,
+        Some(difference) => Told::Unlike(difference),
+    }
 }
 
 // What is said of a legal Publish.
@@ -82,8 +86,8 @@ fn told_publish(line: &PublishLine, next: Option<&Seen>) -> Told
     ensures value { Compares (Some (Seen.Published line.now)) (option_copied next.entry) result }
 {
     match next {
-        None => Told::Unlike,
-        Some(next) => same_or_unlike(is_published(line, next)),
+        None => Told::Unlike(Difference::TraceEnds),
+        Some(next) => same_or_unlike(publish_differs(line, next)),
     }
 }
 
@@ -96,11 +100,11 @@ fn told_reap(line: &ReapLine, payload: Option<&Payload>, next: Option<&Seen>) ->
     }))) (option_copied next.entry) result }
 {
     let Some(next) = next else {
-        return Told::Unlike;
+        return Told::Unlike(Difference::TraceEnds);
     };
     match payload {
-        None => same_or_unlike(is_reaped(line, &[], next)),
-        Some(payload) => same_or_unlike(is_reaped(line, payload.as_slice(), next)),
+        None => same_or_unlike(reap_differs(line, &[], next)),
+        Some(payload) => same_or_unlike(reap_differs(line, payload.as_slice(), next)),
     }
 }
 

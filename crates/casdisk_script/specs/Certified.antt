@@ -1,0 +1,107 @@
+-- What is said of the texts of a trace and of a history that may explain it.
+use Rattle.std.specs.Prelude.{◌≡◌, ◌≢◌, ◌++◌, ℕ, Bool, false, true, List, [], ◌∷◌, Option, Some, IfSome, Result, Ok, Err}
+use Rattle.std.specs.Prelude.{codes, decimal}
+use Rattle.std.specs.Io.KnownBytes.{Appends, IsAtEnd, Keeps}
+use Rattle.std.specs.List.{join_with_byte}
+use Rattle.line_text.specs.Known.{AppendsFront}
+use Rattle.line_text.specs.Lines.{whole_lines}
+use Rattle.nvme_model.specs.declared.config.ConfigNumbers.{ConfigNumbers}
+use Rattle.seen_trace.specs.declared.seen.Seen.{Seen}
+use Rattle.witness_check.specs.Compared.{IsVerdict}
+use Rattle.witness_check.specs.declared.comparison.Verdict.{Verdict}
+use Rattle.witness_check.specs.declared.comparison.Verdict.TheVariants.{Bad, Explained, Unlike}
+use Rattle.witness_check.specs.declared.difference.Difference.{Difference}
+use Rattle.witness_check.specs.declared.difference.Difference.TheVariants.{Batch, Completion, Data, HistoryEnds, Kind}
+use Rattle.witness_check.specs.declared.difference.Difference.TheVariants.{Queue, TraceEnds}
+use Rattle.casdisk_script.specs.Fault.{status_of}
+use Rattle.casdisk_script.specs.Files.{HasHistory, IsUnread, bad_text}
+use Rattle.casdisk_script.specs.Script.{first_config}
+use Rattle.casdisk_script.specs.Traces.{HasTrace, IsTraceUnread}
+use Rattle.casdisk_script.specs.declared.certify_fault.CertifyFault.{CertifyFault}
+use Rattle.casdisk_script.specs.declared.certify_fault.CertifyFault.TheVariants.{History, OtherConfig, Output, Trace}
+
+-- the status with which the program ends then
+abbrev pub certify_status : CertifyFault → ℕ
+certify_status (Trace f) = status_of f
+certify_status (History f) = status_of f
+certify_status OtherConfig = 2
+certify_status Output = 3
+
+-- what differs, in words, with the line feed
+abbrev pub difference_text : Difference → List ℕ
+difference_text TraceEnds = codes ": the trace ends before it" ++ 10 ∷ []
+difference_text HistoryEnds = codes ": the history ends before it" ++ 10 ∷ []
+difference_text Kind = codes ": one is a publish, the other a reap" ++ 10 ∷ []
+difference_text Queue = codes ": the queue" ++ 10 ∷ []
+difference_text Batch = codes ": the entries" ++ 10 ∷ []
+difference_text Completion = codes ": the completion" ++ 10 ∷ []
+difference_text Data = codes ": the data" ++ 10 ∷ []
+
+-- the line of a verdict
+abbrev pub verdict_text : Verdict → List ℕ
+verdict_text Explained = codes "explained" ++ 10 ∷ []
+verdict_text (Bad k) = bad_text k
+verdict_text (Unlike k d) = join_with_byte 32 (codes "seen" ∷ decimal k ∷ []) ++ difference_text d
+
+-- the trace is explained
+abbrev pub explains : Verdict → Bool
+explains Explained = true
+explains (Bad k) = false
+explains (Unlike k d) = false
+
+-- the verdict on the texts of a trace and of a history, which have one configuration
+abbrev pub IsVerdictOf : Verdict → List ℕ → List ℕ → Type 0
+IsVerdictOf v trace history =
+    HasTrace (λ c things. HasHistory (λ d past. (c ≡ d) × IsVerdict c past things v) history) trace
+
+-- two texts, where they are known, have a verdict, of which this holds
+abbrev pub HasVerdict : (Verdict → Type 0) → Option (List ℕ) → Option (List ℕ) → Type 0
+HasVerdict Holds trace history =
+    IfSome trace (λ t. IfSome history (λ h. (v : Verdict) × IsVerdictOf v t h × Holds v))
+
+-- the first lines of two texts have configurations that differ
+abbrev pub HaveOtherConfigs : List ℕ → List ℕ → Type 0
+HaveOtherConfigs trace history =
+    (c d : ConfigNumbers) × (first_config (whole_lines trace) ≡ Some c) × (first_config (whole_lines history) ≡ Some d)
+    × (c ≢ d)
+
+-- By why nothing is said: which of the texts wasn't read, or that they have two configurations.
+abbrev pub IsUnsaid : CertifyFault → (trace trace_left history history_left : Option (List ℕ)) → Type 0
+IsUnsaid (Trace f) trace trace_left history history_left = IsTraceUnread f trace trace_left
+IsUnsaid (History f) trace trace_left history history_left = IsUnread f history history_left
+IsUnsaid OtherConfig trace trace_left history history_left =
+    IfSome trace (λ t. IfSome history (λ h. HaveOtherConfigs t h))
+IsUnsaid Output trace trace_left history history_left = ⊥
+
+-- By what was answered on two texts: the line of their verdict, and both readers at their ends; nothing; or a beginning
+-- of that line.
+abbrev pub CertifiesText : Result Bool CertifyFault →
+    (trace trace_left history history_left old new : Option (List ℕ)) → Type 0
+CertifiesText (Ok answer) trace trace_left history history_left old new =
+    IsAtEnd trace_left × IsAtEnd history_left
+    × HasVerdict (λ v. (answer ≡ explains v) × Appends old new (verdict_text v)) trace history
+CertifiesText (Err Output) trace trace_left history history_left old new =
+    HasVerdict (λ v. AppendsFront old new (verdict_text v)) trace history
+CertifiesText (Err f) trace trace_left history history_left old new =
+    IsUnsaid f trace trace_left history history_left × Keeps old new
+
+-- ---- on the way there
+
+-- it was written, or a beginning of it
+abbrev pub TellsVerdict : Verdict → Result Bool CertifyFault → Option (List ℕ) → Option (List ℕ) → Type 0
+TellsVerdict v (Ok answer) old new = (answer ≡ explains v) × Appends old new (verdict_text v)
+TellsVerdict v (Err Output) old new = AppendsFront old new (verdict_text v)
+TellsVerdict v (Err f) old new = ⊥
+
+-- a history's text was compared with a trace
+abbrev pub IsComparedText : ConfigNumbers → List Seen → Verdict → Option (List ℕ) → Option (List ℕ) → Type 0
+IsComparedText c things v history left =
+    IsAtEnd left × IfSome history (HasHistory (λ d past. (c ≡ d) × IsVerdict c past things v))
+
+-- or it wasn't
+abbrev pub IsUncompared : ConfigNumbers → CertifyFault → Option (List ℕ) → Option (List ℕ) → Type 0
+IsUncompared c (Trace f) history left = ⊥
+IsUncompared c (History f) history left = IsUnread f history left
+IsUncompared c OtherConfig history left =
+    IfSome history (λ h. (d : ConfigNumbers) × (first_config (whole_lines h) ≡ Some d) × (c ≢ d))
+IsUncompared c Output history left = ⊥

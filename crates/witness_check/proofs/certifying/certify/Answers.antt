@@ -1,0 +1,13 @@
+use Rattle.std.proofs.Common.{false, reverse, sym, true, ◌≡◌, ◌∙◌}
+use Rattle.witness_check.specs.declared.comparison.Verdict.TheVariants.{Bad, Explained}
+use Rattle.witness_check.proofs.Judging.{not_explained}
+use Rattle.witness_check.proofs.certifying.certify.Goals as goal
+
+pub returns-in-Bad : goal.returns-in-Bad
+returns-in-Bad c = record {
+  value = (
+    λ z. absurd (let w : false ≡ true = z in cc),
+    λ h. absurd (not_explained c.args.config.now (reverse c.args.entries.now) c.args.trace.now c.in_ok-judge.field-0
+        c.in_ok-judge.ensures.value (λ e. let w : Explained ≡ Bad c.in-Bad.field-0 = sym e ∙ c.in-Bad.is in cc) h),
+  );
+}
