@@ -1,0 +1,5 @@
+pub mod Texts
+pub mod Names
+pub mod Completions
+pub mod Commands
+pub mod Told
