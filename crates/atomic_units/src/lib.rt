@@ -1,4 +1,5 @@
-//! How commands are cut into units at boundaries, and which blocks are atomic.
+//! Cuts commands into units at boundaries, and says which blocks are atomic. The controller serves a unit as one
+//! operation.
 #![tactic(auto)]
 
 mod cells;

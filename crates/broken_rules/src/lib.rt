@@ -1,4 +1,5 @@
-//! Which rule of a history an entry breaks: the first, with what stands there and what is due.
+//! Names the rule that an entry of a history breaks, for an explanation: the first, with what stands there and what is
+//! due.
 #![tactic(auto)]
 
 mod broken;

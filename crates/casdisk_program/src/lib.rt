@@ -1,4 +1,4 @@
-//! The program `casdisk` but for its `main`, and what is known of the texts that it writes and reads.
+//! The program `casdisk` but for its `main`: it reads words and files, and calls what has contracts.
 #![tactic(auto)]
 
 mod input;

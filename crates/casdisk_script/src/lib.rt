@@ -1,4 +1,5 @@
-//! Scripts and histories as texts: what a run prints, what a check answers, what is explained.
+//! Runs scripts and judges histories as texts, for the program: what a run prints, what a check answers, what is
+//! explained.
 #![tactic(auto)]
 
 mod certify_fault;

@@ -1,4 +1,4 @@
-//! What a checker of one pass keeps of a history, the rules over that, and the laws that it is enough.
+//! Laws for a checker of one pass: what it keeps of a history is enough to judge the next entry.
 #![tactic(auto)]
 
 ghost use Rattle.std.specs.Prelude.{◌≡◌, ◌∷◌, List, [], Some, None, ℕ, if◌then◌else◌};

@@ -1,4 +1,4 @@
-//! Which CIDs of a host's submission queues are in use, and what was answered to each.
+//! Hands out the CIDs of a host's submission queues, and keeps what each was answered.
 #![tactic(auto)]
 
 mod held;

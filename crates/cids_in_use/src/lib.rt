@@ -1,4 +1,4 @@
-//! The CIDs in use on submission queues.
+//! Counts the CIDs in use on submission queues, for a Fetch that has to refuse a second use.
 #![tactic(auto)]
 
 mod in_use;

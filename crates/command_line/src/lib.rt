@@ -1,4 +1,4 @@
-//! The command line of the program: what it asks for, by `clap`'s own definitions.
+//! Reads the command line of the program, by `clap`'s own definitions, and says what it asks for.
 #![tactic(auto)]
 
 mod request;

@@ -1,4 +1,5 @@
-//! The completions that a ticket owes, and the queue entry of each; lists of at most two values, which take no memory.
+//! Makes the completions that a ticket owes, and the queue entry of each; and lists of at most two values, which take
+//! no memory.
 #![tactic(auto)]
 
 mod entry;

@@ -1,5 +1,5 @@
-//! What a controller is asked and what it answers, apart from the controller itself: callers that share one, and what a
-//! driver's log says of it, need no more.
+//! What a controller is asked and what it answers, for callers that share one and for a driver's log, which need no
+//! more of it.
 #![tactic(auto)]
 
 mod answer;

@@ -1,4 +1,4 @@
-//! What a driver's calls are told, by what its port published and reaped for it.
+//! Says what a driver's calls are told, by what its port published and reaped for it.
 #![tactic(auto)]
 
 mod batch;

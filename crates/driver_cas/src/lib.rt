@@ -1,4 +1,4 @@
-//! A host's driver: calls that are commands of several submission queues of one completion queue.
+//! Drives a controller from a host: calls that are commands of several submission queues of one completion queue.
 #![tactic(auto)]
 
 mod call;

@@ -1,4 +1,4 @@
-//! Submission queue entries and completion queue entries, to and from their bytes.
+//! Reads and writes submission queue entries and completion queue entries as bytes.
 #![tactic(auto)]
 
 mod cqe;

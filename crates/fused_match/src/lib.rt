@@ -1,4 +1,4 @@
-//! What a Fetch says of the entries at the front of a submission queue: matching, and the checks of both tables.
+//! Says what a Fetch makes of the entries at the front of a submission queue: matching, and the checks of both tables.
 #![tactic(auto)]
 
 mod checks;

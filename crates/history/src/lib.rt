@@ -1,4 +1,4 @@
-//! Configurations, histories, and the one line of each entry, both ways.
+//! Configurations, histories, and the one line of each entry, both ways, for whoever prints a history or reads one.
 #![tactic(auto)]
 
 mod batch;

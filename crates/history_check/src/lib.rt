@@ -1,4 +1,4 @@
-//! Whether a list of entries is a legal history, and the first place at which it is not.
+//! Judges any list of entries: whether it is a legal history, and the first place at which it is not.
 #![tactic(auto)]
 
 mod block;

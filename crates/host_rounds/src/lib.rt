@@ -1,4 +1,4 @@
-//! Hosts that claim slots and release them, round by round, each on a thread of its own.
+//! Runs hosts on threads of their own, for a race: each claims slots and releases them, round by round.
 #![tactic(auto)]
 
 mod claiming;

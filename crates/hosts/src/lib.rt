@@ -1,4 +1,4 @@
-//! The loops that threads run over one engine: a fetcher, workers and hosts.
+//! Runs a fetcher, workers and hosts on threads over one engine.
 #![tactic(auto)]
 
 mod crew;

@@ -1,4 +1,4 @@
-//! Where the tickets in flight are kept, by ticket.
+//! Finds a ticket in flight by its number.
 #![tactic(auto)]
 
 mod index;

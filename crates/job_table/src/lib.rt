@@ -1,4 +1,4 @@
-//! The tickets in flight, and what is kept of each.
+//! Keeps the tickets in flight, and the work of each, for the controller.
 #![tactic(auto)]
 
 mod job;

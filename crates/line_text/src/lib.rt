@@ -1,4 +1,4 @@
-//! Words that have one spelling each, and lines in and out with each fault told apart.
+//! Reads and writes words that have one spelling each, and lines, with each fault told apart.
 #![tactic(auto)]
 
 mod data;

@@ -1,4 +1,4 @@
-//! What is right: the plain types of a controller's history, the definitions over them, and the laws that follow.
+//! Says what is right: the plain types of a controller's history, the definitions over them, and the laws that follow.
 #![tactic(auto)]
 
 pub mod array;

@@ -1,4 +1,4 @@
-//! The numbers of a race of hosts, and the controller that they share.
+//! Checks the numbers of a race of hosts, and makes the configuration that they share.
 #![tactic(auto)]
 
 mod race;

@@ -1,4 +1,4 @@
-//! A race of hosts for slots on threads, and its history as a text.
+//! Runs a race of hosts for slots on threads, and prints its history.
 #![tactic(auto)]
 
 mod fault;

@@ -1,4 +1,4 @@
-//! Which ranges of blocks tickets hold, each alone or beside others.
+//! Keeps which ranges of blocks tickets hold, each alone or beside others, for the controller and a checker.
 #![tactic(auto)]
 
 mod conflicts;

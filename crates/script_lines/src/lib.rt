@@ -1,4 +1,4 @@
-//! The lines of a script behind its first: what each asks for.
+//! Reads the lines of a script behind its first: what each asks for.
 #![tactic(auto)]
 
 mod batch;

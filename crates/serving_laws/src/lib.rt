@@ -1,4 +1,4 @@
-//! Servers of one engine: which steps they make, as laws by the history.
+//! Laws for a server of an engine: which steps it makes, by the history.
 #![tactic(auto)]
 
 mod server_laws;

@@ -1,4 +1,4 @@
-//! An allocator of slots, which hosts claim and release by Compare and Write.
+//! Gives slots of a shared volume to hosts, which claim and release them by Compare and Write.
 #![tactic(auto)]
 
 mod claim;

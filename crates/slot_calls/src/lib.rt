@@ -1,4 +1,4 @@
-//! What an allocator of slots may conclude from what its driver's port did.
+//! Says what an allocator of slots may conclude from what its driver's port did.
 #![tactic(auto)]
 
 pub mod history_laws;

@@ -1,4 +1,4 @@
-//! Hosts and servers of one engine: what follows for their slots from what each of them did itself.
+//! Laws for programs of hosts and servers over one engine: what follows for their slots from what each of them did.
 #![tactic(auto)]
 
 pub mod driver_laws;

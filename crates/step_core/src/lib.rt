@@ -1,4 +1,4 @@
-//! The controller: a machine of six steps.
+//! The controller: a machine of six steps, each with its answer or its refusal.
 #![tactic(auto)]
 
 mod controller;

@@ -1,4 +1,4 @@
-//! How far a ticket has come, and the completions that it owes.
+//! Keeps how far a ticket has come, for the controller, and says which completions it owes.
 #![tactic(auto)]
 
 mod cids;

@@ -1,4 +1,4 @@
-//! The one line of each thing that hosts saw, both ways: a Publish as in a history, a Reap with its data.
+//! Reads and writes the one line of each thing that hosts saw: a Publish as in a history, a Reap with its data.
 #![tactic(auto)]
 
 mod laws;

@@ -1,4 +1,4 @@
-//! Whether a list of entries is a legal history that hosts saw as a given trace.
+//! Judges a history beside a trace: whether it is legal, and what hosts saw of it is this trace.
 #![tactic(auto)]
 
 mod certifying;
