@@ -1,0 +1,45 @@
+-- All passes of an engine: some that only served, and one of each host.
+use Rattle.std.specs.Prelude.{List, Some, slice_get, true, ℕ, ◌+◌, ◌-◌, ◌++◌, ◌<◌, ◌≡◌, ◌≤◌}
+use Rattle.nvme_model.specs.Array.{has_block}
+use Rattle.nvme_model.specs.History.{Past}
+use Rattle.nvme_model.specs.Slots.{Name, believed, disciplined, holder}
+use Rattle.nvme_model.specs.declared.array.Range.{Range}
+use Rattle.nvme_model.specs.declared.config.ConfigNumbers.{ConfigNumbers}
+use Rattle.host_laws.specs.Claims.{claims_only_on}
+use Rattle.driver_calls.specs.Events.{events}
+use Rattle.driver_calls.specs.Log.{is_tidy}
+use Rattle.meet_lock.specs.Passes.{number, passes_of, seen}
+use Rattle.slot_calls.specs.Careful.{is_careful}
+use Rattle.slot_hosts.specs.Rosters.{keeps_to}
+use Rattle.serving_laws.specs.Servers.{IsServing}
+use Rattle.work_queue.specs.Engines.{EnginePass}
+
+-- All that this pass did was on the queues of this completion queue, under free CIDs, and careful, for a host of this
+-- number with serials up to `last`.
+pub record HasDone (c : ConfigNumbers) (slots : Range) (host queue : ℕ) (p : EnginePass) : Type 0 where
+  pub last : ℕ
+  pub own : keeps_to c queue (number p) (seen p) ≡ true
+  pub tidy : is_tidy (events c queue (number p) (seen p)) ≡ true
+  pub careful : is_careful slots host last (events c queue (number p) (seen p)) ≡ true
+
+-- One of the passes of an engine. The first ones, so many, only served; behind them is one of the host of each
+-- completion queue, whose number is the host's.
+pub record IsClosing (c : ConfigNumbers) (slots : Range) (servers : ℕ) (p : EnginePass) : Type 0 where
+  pub all : passes_of p ≡ servers + c.cqs
+  pub served : number p ≤ servers → IsServing p
+  pub hosted : servers < number p → HasDone c slots (number p - servers) (number p - servers) p
+
+-- they are numbered from 1 in order
+abbrev pub AreClosing : ConfigNumbers → Range → ℕ → List EnginePass → Type 0
+AreClosing c slots servers ps = (k : ℕ) (p : EnginePass) → slice_get ps k ≡ Some p
+    → (number p ≡ k + 1) × IsClosing c slots servers p
+
+-- A history keeps the discipline of its slots. At each beginning of it whoever is believed of a slot is its holder by
+-- its block, and no slot has two believed names. Host h claims on submission queues of completion queue h alone.
+pub record KeepsSlots (c : ConfigNumbers) (slots : Range) (past : Past) : Type 0 where
+  pub disciplined : disciplined c slots past ≡ true
+  pub holds : (later before : Past) (l : ℕ) (n : Name) → later ++ before ≡ past → has_block slots l ≡ true
+      → believed c before l n ≡ true → holder before l ≡ Some n
+  pub one : (later before : Past) (l : ℕ) (n m : Name) → later ++ before ≡ past → has_block slots l ≡ true
+      → believed c before l n ≡ true → believed c before l m ≡ true → n ≡ m
+  pub numbers : (h : ℕ) → 1 ≤ h → h ≤ c.cqs → claims_only_on c slots past h h ≡ true
