@@ -15,7 +15,7 @@ use Rattle.seen_trace.specs.declared.seen.Seen.{Seen}
 use Rattle.trace_lines.specs.SeenLines.{seen_in}
 use Rattle.casdisk_script.specs.Fault.{fault_in_memory}
 use Rattle.casdisk_script.specs.Running.{Makes, PrintsAll, Runs}
-use Rattle.casdisk_script.specs.Script.{End, Outcome, after_config, after_line, after_numbers, bad_config, bad_line, cut}
+use Rattle.casdisk_script.specs.Script.{End, after_config, after_line, after_numbers, bad_config, bad_line, cut}
 use Rattle.casdisk_script.specs.Script.{done, first_config, lines_print, outcome, script_prints}
 use Rattle.casdisk_script.specs.Traces.{HasTrace, IsTraceUnread, TraceEndsSo, kept_as, seen_kept, thing_of, things_in}
 use Rattle.casdisk_script.specs.Traces.{with_thing}

@@ -1,7 +1,7 @@
 pub mod Beginning
 mod Answering
-mod Certifying
 mod Collected
+mod Configurations
 mod KindsLemmas
 mod Faults
 mod Followed
@@ -10,3 +10,4 @@ mod Printed
 mod Settling
 mod Stepping
 pub mod Reaching
+mod Witnessed

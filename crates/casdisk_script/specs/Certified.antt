@@ -6,7 +6,6 @@ use Rattle.std.specs.List.{join_with_byte}
 use Rattle.line_text.specs.Known.{AppendsFront}
 use Rattle.line_text.specs.Lines.{whole_lines}
 use Rattle.nvme_model.specs.declared.config.ConfigNumbers.{ConfigNumbers}
-use Rattle.seen_trace.specs.declared.seen.Seen.{Seen}
 use Rattle.witness_check.specs.Compared.{IsVerdict}
 use Rattle.witness_check.specs.declared.comparison.Verdict.{Verdict}
 use Rattle.witness_check.specs.declared.comparison.Verdict.TheVariants.{Bad, Explained, Unlike}
@@ -19,6 +18,7 @@ use Rattle.casdisk_script.specs.Script.{first_config}
 use Rattle.casdisk_script.specs.Traces.{HasTrace, IsTraceUnread}
 use Rattle.casdisk_script.specs.declared.certify_fault.CertifyFault.{CertifyFault}
 use Rattle.casdisk_script.specs.declared.certify_fault.CertifyFault.TheVariants.{History, OtherConfig, Output, Trace}
+use Rattle.casdisk_script.specs.declared.fault.RunFault.TheVariants.{NoMemory}
 
 -- the status with which the program ends then
 abbrev pub certify_status : CertifyFault → ℕ
@@ -93,15 +93,9 @@ TellsVerdict v (Ok answer) old new = (answer ≡ explains v) × Appends old new 
 TellsVerdict v (Err Output) old new = AppendsFront old new (verdict_text v)
 TellsVerdict v (Err f) old new = ⊥
 
--- a history's text was compared with a trace
-abbrev pub IsComparedText : ConfigNumbers → List Seen → Verdict → Option (List ℕ) → Option (List ℕ) → Type 0
-IsComparedText c things v history left =
-    IsAtEnd left × IfSome history (HasHistory (λ d past. (c ≡ d) × IsVerdict c past things v))
-
--- or it wasn't
-abbrev pub IsUncompared : ConfigNumbers → CertifyFault → Option (List ℕ) → Option (List ℕ) → Type 0
-IsUncompared c (Trace f) history left = ⊥
-IsUncompared c (History f) history left = IsUnread f history left
-IsUncompared c OtherConfig history left =
-    IfSome history (λ h. (d : ConfigNumbers) × (first_config (whole_lines h) ≡ Some d) × (c ≢ d))
-IsUncompared c Output history left = ⊥
+-- By why a trace and a history of these configurations weren't compared.
+abbrev pub IsUncompared : ConfigNumbers → ConfigNumbers → CertifyFault → Type 0
+IsUncompared c d (Trace f) = ⊥
+IsUncompared c d (History f) = f ≡ NoMemory
+IsUncompared c d OtherConfig = c ≢ d
+IsUncompared c d Output = ⊥

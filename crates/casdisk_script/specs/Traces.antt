@@ -1,5 +1,5 @@
 -- What the text of a trace has.
-use Rattle.std.specs.Prelude.{◌≡◌, ◌⊎◌, ℕ, List, [], ◌∷◌, drop, map, option_map, reverse, Option, Some, None, IfSome}
+use Rattle.std.specs.Prelude.{◌≡◌, ◌⊎◌, ℕ, List, [], ◌∷◌, drop, option_map, Option, Some, None, IfSome}
 use Rattle.std.specs.Io.KnownBytes.{Consumes}
 use Rattle.line_text.specs.Lines.{whole_lines}
 use Rattle.nvme_model.specs.declared.config.ConfigNumbers.{ConfigNumbers}

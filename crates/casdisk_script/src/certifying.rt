@@ -1,89 +1,47 @@
 //! Files of a trace and of a history that may explain it.
 
-ghost use Rattle.std.specs.Prelude.{◌≡◌, ◌++◌, IfErr, IfOk, OnErr, OnOk};
+ghost use Rattle.std.specs.Prelude.{◌≡◌, ◌↔◌, IfErr, IfOk, OnErr, OnOk, reverse, true};
 ghost use Rattle.std.specs.Io.KnownBytes.{Appends};
 ghost use Rattle.line_text.specs.Known.{AppendsFront};
-ghost use Rattle.witness_check.specs.Compared.{IsComparedTo};
+ghost use Rattle.witness_check.specs.Compared.{IsVerdict};
 ghost use Rattle.witness_check.specs.declared.comparison.Verdict.TheVariants.{Unlike};
-ghost use Rattle.casdisk_script.specs.Certified.{CertifiesText, IsComparedText, IsUncompared, TellsVerdict};
-ghost use Rattle.casdisk_script.specs.Certified.{verdict_text};
+ghost use Rattle.casdisk_script.specs.Certified.{CertifiesText, IsUncompared, TellsVerdict, verdict_text};
 ghost use Rattle.casdisk_script.specs.Certified.{difference_text as the_difference_text};
-ghost use Rattle.casdisk_script.specs.Files.{entry_added};
 
 use crate::certify_fault::CertifyFault;
 use crate::checking::send_bad;
 use crate::fault::RunFault;
-use crate::first_line::read_first;
-use crate::meaning::{LineMeaning, Taken, WriteFault};
-use crate::running::run_lines;
+use crate::history_reading::{Told, read_history};
 use crate::trace_reading::{Trace, read_trace};
-use history::{LineFault, parse_line};
-use line_text::{Lines, Word, send, send_words};
-use seen_trace::Seen;
+use history::Config;
+use line_text::{Word, send, send_words};
 use std::alloc::Global;
 use std::io::{Read, Result as IoResult, Write};
-use witness_check::{Comparison, Difference, Verdict};
+use witness_check::{Difference, Verdict, judge};
 
-// Compares the entries of lines with a trace, and keeps none of them.
-#[derive(Drop)]
-pub(crate) struct Follower {
-    alloc: Global,
-    things: Vec<Seen>,
-    comparison: Comparison,
-}
-
-impl LineMeaning for Follower {
-    ghost stands = { λ m c past. IsComparedTo c m.things.items past m.comparison };
-
-    ghost meaning = { λ _. entry_added };
-
-    fn take_line<W: Write>(&mut self, line: &[u8], _writer: &mut W) -> Result<Taken, WriteFault> {
-        let entry = match parse_line(self.alloc, line) {
-            Ok(entry) => entry,
-            Err(LineFault::Malformed) => return Ok(Taken::Bad),
-            Err(LineFault::NoMemory) => return Err(WriteFault::NoMemory),
-        };
-        match self.comparison.take(self.things.as_slice(), &entry) {
-            Ok(()) => Ok(Taken::Done),
-            Err(_) => Err(WriteFault::NoMemory),
-        }
-    }
-}
-
-// Reads a configuration line and the lines of a history to the reader's end, and compares it with a trace.
-fn compare<R: Read>(
-    alloc: Global,
-    trace: Trace,
-    reader: &mut R,
-) -> Result<Verdict, CertifyFault>
-    ensures whole { IfOk result (λ v. IsComparedText trace.config trace.things.items v (R.remaining reader.old)
-        (R.remaining reader.new)) }
-    ensures unread { IfErr result
-        (λ fault. IsUncompared trace.config fault (R.remaining reader.old) (R.remaining reader.new)) }
+fn same_config(one: &Config, other: &Config) -> bool
+    ensures value { (result ≡ true) ↔ (one.now ≡ other.now) }
 {
-    let Ok(mut lines) = Lines::new(alloc) else {
-        return Err(CertifyFault::History(RunFault::NoMemory));
-    };
-    let mut line = Vec::new(alloc);
-    let config = match read_first(alloc, &mut lines, &mut line, reader) {
-        Ok(config) => config,
-        Err(fault) => return Err(CertifyFault::History(fault)),
-    };
-    if config.numbers() != trace.config.numbers() {
+    one.numbers() == other.numbers()
+}
+
+// Compares a history with a trace.
+fn compare(alloc: Global, trace: &Trace, told: &Told) -> Result<Verdict, CertifyFault>
+    ensures whole { IfOk result (λ v. (trace.now.config ≡ told.now.config)
+        × IsVerdict trace.now.config (reverse told.now.entries.items) trace.now.things.items v) }
+    ensures failed { IfErr result (IsUncompared trace.now.config told.now.config) }
+{
+    if !same_config(&trace.config, &told.config) {
         return Err(CertifyFault::OtherConfig);
     }
-    let Ok(comparison) = Comparison::new(alloc, &config) else {
-        return Err(CertifyFault::History(RunFault::NoMemory));
-    };
-    let mut follower = Follower {
+    match judge(
         alloc,
-        things: trace.things,
-        comparison,
-    };
-    let mut unprinted: Vec<u8> = Vec::new(alloc);
-    match run_lines(&mut follower, &mut lines, &mut line, reader, &mut unprinted) {
-        Ok(()) => Ok(follower.comparison.verdict(follower.things.as_slice())),
-        Err(fault) => Err(CertifyFault::History(fault.in_memory())),
+        &trace.config,
+        trace.things.as_slice(),
+        told.entries.as_slice(),
+    ) {
+        Ok(verdict) => Ok(verdict),
+        Err(_) => Err(CertifyFault::History(RunFault::NoMemory)),
     }
 }
 
@@ -147,8 +105,8 @@ fn tell_verdict<W: Write>(verdict: Verdict, writer: &mut W) -> Result<bool, Cert
 ///
 /// # Errors
 ///
-/// `Trace` and `History` with why that text wasn't read, as `check_text` says it, and `OtherConfig` where their
-/// configurations differ, all after nothing was written; `Output` after a beginning of the line.
+/// `Trace` and `History` with why that text wasn't read, as `check_text` says it, and `OtherConfig` where both were and
+/// their configurations differ, all after nothing was written; `Output` after a beginning of the line.
 pub fn certify_text<T: Read, R: Read, W: Write>(
     alloc: Global,
     trace: &mut T,
@@ -162,6 +120,10 @@ pub fn certify_text<T: Read, R: Read, W: Write>(
         Ok(seen) => seen,
         Err(fault) => return Err(CertifyFault::Trace(fault)),
     };
-    let verdict = compare(alloc, seen, history)?;
+    let told = match read_history(alloc, history) {
+        Ok(told) => told,
+        Err(fault) => return Err(CertifyFault::History(fault)),
+    };
+    let verdict = compare(alloc, &seen, &told)?;
     tell_verdict(verdict, writer)
 }

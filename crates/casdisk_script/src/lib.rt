@@ -9,6 +9,7 @@ mod explaining;
 mod fault;
 mod first_line;
 mod following;
+mod history_reading;
 mod judging;
 mod kinds;
 mod meaning;

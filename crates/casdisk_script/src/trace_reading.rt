@@ -1,6 +1,6 @@
 //! The text of a trace, read whole.
 
-ghost use Rattle.std.specs.Prelude.{◌≡◌, IfErr, IfOk, IfSome, map, reverse};
+ghost use Rattle.std.specs.Prelude.{◌≡◌, ◌++◌, ◌∷◌, [], IfErr, IfOk, IfSome, OnOk, map, reverse};
 ghost use Rattle.std.specs.Io.KnownBytes.{IsAtEnd};
 ghost use Rattle.casdisk_script.specs.Traces.{HasTrace, IsTraceUnread, seen_kept, thing_of};
 
@@ -11,7 +11,7 @@ use crate::running::run_lines;
 use history::{Config, LineFault};
 use line_text::Lines;
 use seen_trace::Seen;
-use std::alloc::Global;
+use std::alloc::{AllocError as NoMemory, Global};
 use std::io::{Read, Write};
 use trace_lines::parse_seen;
 
@@ -29,6 +29,15 @@ pub(crate) struct Collector {
     things: Vec<Seen>,
 }
 
+impl Collector {
+    fn keep(&mut self, thing: Seen) -> Result<(), NoMemory>
+        ensures kept { OnOk result (self.new.things.items ≡ self.old.things.items ++ thing ∷ []) }
+    {
+        self.things.push(thing)?;
+        Ok(())
+    }
+}
+
 impl LineMeaning for Collector {
     ghost stands = { λ m c past. m.things.items ≡ reverse (map thing_of past) };
 
@@ -40,7 +49,7 @@ impl LineMeaning for Collector {
             Err(LineFault::Malformed) => return Ok(Taken::Bad),
             Err(LineFault::NoMemory) => return Err(WriteFault::NoMemory),
         };
-        match self.things.push(thing) {
+        match self.keep(thing) {
             Ok(()) => Ok(Taken::Done),
             Err(_) => Err(WriteFault::NoMemory),
         }
@@ -64,7 +73,13 @@ pub(crate) fn read_trace<R: Read>(alloc: Global, reader: &mut R) -> Result<Trace
         things: Vec::new(alloc),
     };
     let mut unprinted: Vec<u8> = Vec::new(alloc);
-    match run_lines(&mut collector, &mut lines, &mut line, reader, &mut unprinted) {
+    match run_lines(
+        &mut collector,
+        &mut lines,
+        &mut line,
+        reader,
+        &mut unprinted,
+    ) {
         Ok(()) => Ok(Trace {
             config,
             things: collector.things,

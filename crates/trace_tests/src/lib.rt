@@ -8,3 +8,5 @@ mod sessions;
 mod shared_queue;
 #[cfg(test)]
 mod texts;
+#[cfg(test)]
+mod verdicts;

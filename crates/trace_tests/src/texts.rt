@@ -5,7 +5,7 @@ use seen_trace::Seen;
 use std::alloc::Global;
 use std::test::Fail;
 use trace_lines::parse_seen;
-use witness_check::certify;
+use witness_check::{Verdict, certify, judge};
 
 // The entries of these lines.
 fn entries_of(alloc: Global, lines: &[&[u8]]) -> Result<Vec<Entry>, Fail> {
@@ -41,4 +41,16 @@ pub(crate) fn explains(
     let entries = entries_of(alloc, history)?;
     let trace = trace_of(alloc, trace)?;
     Ok(certify(alloc, config, &trace, &entries)?)
+}
+
+/// What is said of the entries of these lines beside the trace of those.
+pub(crate) fn verdict(
+    alloc: Global,
+    config: &Config,
+    history: &[&[u8]],
+    trace: &[&[u8]],
+) -> Result<Verdict, Fail> {
+    let entries = entries_of(alloc, history)?;
+    let trace = trace_of(alloc, trace)?;
+    Ok(judge(alloc, config, &trace, &entries)?)
 }

@@ -17,7 +17,26 @@ returns-in_err-config g c =
     rw (p.1, p.2) (record { whole = tt; unread = rw (same_in_memory f c.in_err-config.ensures.read) at stops })
 
 pub returns-in-Ok-run_lines-clause-whole : goal.returns-in-Ok-run_lines-clause-whole
-returns-in-Ok-run_lines-clause-whole g c = ?
+returns-in-Ok-run_lines-clause-whole g c =
+    let none = Some c.new-unprinted.result.items in
+    let some = Some c.run_lines.new.writer.items in
+    let start : c.new-2.result.items ≡ [] = c.new-2.ensures.items in
+    let begun = c.in_ok-config.ensures.begun (λ c'. seen_kept) None none tt in
+    let ran = c.in-Ok-run_lines.ensures.runs c.in_ok-config.config [] start in
+    let made = c.in-Ok-run_lines.ensures.makes c.in_ok-config.config [] start in
+    let all = runs_after (outcome (λ c'. seen_kept)) seen_kept [] 2 _ _ _ None none some _ (Ok tt) begun ran in
+    let makes = makes_after (outcome (λ c'. seen_kept)) seen_kept [] 2 _ _ None none _ (Ok tt)
+    (λ past. c.run_lines.new.actor.things.items ≡ reverse (map thing_of past)) begun made in
+    whole_trace c.in_ok-config.config c.run_lines.new.actor.things.items _ _ None some all makes
+    c.in_ok-config.ensures.config
 
 pub returns-clause-unread : goal.returns-clause-unread
-returns-clause-unread g c = ?
+returns-clause-unread g c =
+    let none = Some c.new-unprinted.result.items in
+    let some = Some c.run_lines.new.writer.items in
+    let start : c.new-2.result.items ≡ [] = c.new-2.ensures.items in
+    let begun = c.in_ok-config.ensures.begun (λ c'. seen_kept) None none tt in
+    let ran = c.in-Err.ensures.runs c.in_ok-config.config [] start in
+    let all = runs_after (outcome (λ c'. seen_kept)) seen_kept [] 2 _ _ _ None none some _ (Err c.in-Err.fault)
+    begun ran in
+    rw c.in_memory.ensures.value (trace_unread c.in-Err.fault _ _ None some all)
