@@ -1,6 +1,6 @@
 -- Where all passes are those of drivers and servers, the history keeps the slots.
-use Rattle.std.proofs.Common.{Bool, List, [], ap, arith, cond, eqb, false, inl, inr, leb, length, ltb, not, refl, subst, suc}
-use Rattle.std.proofs.Common.{sym, true, ℕ, ◌&&◌, ◌+◌, ◌-◌, ◌++◌, ◌<◌, ◌||◌, ◌∙◌, ◌∷◌, ◌≡◌, ◌≤◌}
+use Rattle.std.proofs.Common.{Bool, List, [], ap, arith, cond, eqb, false, inl, inr, leb, length, ltb, not, refl}
+use Rattle.std.proofs.Common.{subst, suc, sym, true, ℕ, ◌&&◌, ◌+◌, ◌-◌, ◌++◌, ◌<◌, ◌||◌, ◌∙◌, ◌∷◌, ◌≡◌, ◌≤◌}
 use Rattle.std.specs.List.{list_all}
 use Rattle.std.proofs.lemmas.Bool.{and_from, and_parts, cases_Bool, leb-true, le-leb, lt-ltb, ltb-false, ltb-true}
 use Rattle.nvme_model.specs.History.{Past}
