@@ -12,19 +12,6 @@ same_numbers a b =
     && (eqb a.pairs b.pairs && (eqb a.sq_size b.sq_size && (eqb a.cq_size b.cq_size
     && (eqb a.jobs b.jobs && eqb a.cqs b.cqs)))))
 
--- a configuration of these numbers
-abbrev of_numbers : (blocks awun acwu nabsn nabo pairs sq cq jobs cqs : ℕ) → ConfigNumbers
-of_numbers blocks awun acwu nabsn nabo pairs sq cq jobs cqs =
-    record {
-      blocks = blocks;
-      atomic = record { awun = awun; acwu = acwu; nabsn = nabsn; nabo = nabo };
-      pairs = pairs;
-      sq_size = sq;
-      cq_size = cq;
-      jobs = jobs;
-      cqs = cqs;
-    }
-
 pub are_same : (a b : ConfigNumbers) → same_numbers a b ≡ true → a ≡ b
 are_same a b h =
     let p = and_parts _ _ h in
@@ -36,15 +23,14 @@ are_same a b h =
     let w = and_parts _ _ v.1 in
     let x = and_parts _ _ w.1 in
     let y = and_parts _ _ x.1 in
-    ap (λ n. of_numbers n a.atomic.awun a.atomic.acwu a.atomic.nabsn a.atomic.nabo a.pairs a.sq_size a.cq_size a.jobs a.cqs)
-    (eqb-true a.blocks b.blocks p.0)
-    ∙ ap (λ n. of_numbers b.blocks n a.atomic.acwu a.atomic.nabsn a.atomic.nabo a.pairs a.sq_size a.cq_size a.jobs a.cqs)
+    ap (λ n. record a { blocks = n }) (eqb-true a.blocks b.blocks p.0)
+    ∙ ap (λ n. atomically b.blocks n a.atomic.acwu a.atomic.nabsn a.atomic.nabo)
     (eqb-true a.atomic.awun b.atomic.awun s.0)
-    ∙ ap (λ n. of_numbers b.blocks b.atomic.awun n a.atomic.nabsn a.atomic.nabo a.pairs a.sq_size a.cq_size a.jobs a.cqs)
+    ∙ ap (λ n. atomically b.blocks b.atomic.awun n a.atomic.nabsn a.atomic.nabo)
     (eqb-true a.atomic.acwu b.atomic.acwu t.0)
-    ∙ ap (λ n. of_numbers b.blocks b.atomic.awun b.atomic.acwu n a.atomic.nabo a.pairs a.sq_size a.cq_size a.jobs a.cqs)
+    ∙ ap (λ n. atomically b.blocks b.atomic.awun b.atomic.acwu n a.atomic.nabo)
     (eqb-true a.atomic.nabsn b.atomic.nabsn u.0)
-    ∙ ap (λ n. of_numbers b.blocks b.atomic.awun b.atomic.acwu b.atomic.nabsn n a.pairs a.sq_size a.cq_size a.jobs a.cqs)
+    ∙ ap (λ n. atomically b.blocks b.atomic.awun b.atomic.acwu b.atomic.nabsn n)
     (eqb-true a.atomic.nabo b.atomic.nabo u.1)
     ∙ ap (λ n. record a { atomic = b.atomic; blocks = b.blocks; pairs = n }) (eqb-true a.pairs b.pairs v.0)
     ∙ ap (λ n. record b { sq_size = n; cq_size = a.cq_size; jobs = a.jobs; cqs = a.cqs })
@@ -52,6 +38,11 @@ are_same a b h =
     ∙ ap (λ n. record b { cq_size = n; jobs = a.jobs; cqs = a.cqs }) (eqb-true a.cq_size b.cq_size x.0)
     ∙ ap (λ n. record b { jobs = n; cqs = a.cqs }) (eqb-true a.jobs b.jobs y.0)
     ∙ ap (λ n. record b { cqs = n }) (eqb-true a.cqs b.cqs y.1)
+  where
+    -- the first of two configurations with other numbers of this kind
+    atomically : (blocks awun acwu nabsn nabo : ℕ) → ConfigNumbers
+    atomically blocks awun acwu nabsn nabo =
+        record a { blocks = blocks; atomic = record { awun = awun; acwu = acwu; nabsn = nabsn; nabo = nabo } }
 
 itself : (n : ℕ) → eqb n n ≡ true
 itself n = eq-eqb n n refl

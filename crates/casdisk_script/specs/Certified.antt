@@ -1,6 +1,6 @@
 -- What is said of the texts of a trace and of a history that may explain it.
-use Rattle.std.specs.Prelude.{◌≡◌, ◌≢◌, ◌++◌, ℕ, Bool, false, true, List, [], ◌∷◌, Option, Some, IfSome, Result, Ok, Err}
-use Rattle.std.specs.Prelude.{codes, decimal}
+use Rattle.std.specs.Prelude.{◌≡◌, ◌≢◌, ◌++◌, ℕ, Bool, false, true, List, [], ◌∷◌, Option, Some, IfSome, Result}
+use Rattle.std.specs.Prelude.{Ok, Err, codes, decimal}
 use Rattle.std.specs.Io.KnownBytes.{Appends, IsAtEnd, Keeps}
 use Rattle.std.specs.List.{join_with_byte}
 use Rattle.line_text.specs.Known.{AppendsFront}
