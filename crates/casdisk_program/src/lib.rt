@@ -1,9 +1,12 @@
 //! The program `casdisk` but for its `main`: it reads words and files, and calls what has contracts.
 #![tactic(auto)]
 
+mod explaining;
+mod in_words;
 mod input;
 mod laws;
 mod program;
+mod unmarked;
 
 pub use crate::laws::{a_history_is_read_back, what_a_race_wrote_is_legal};
 pub use crate::program::run_program;

@@ -1,6 +1,10 @@
 //! The whole program, over any runtime.
 
+use crate::explaining::ExplainedWords;
+use crate::in_words::tell_file;
 use crate::input::open;
+use crate::unmarked::{Unmarked, unmarked_unit};
+use broken_rules::Broken;
 use casdisk_script::{Explained, RunFault, check_text, explain_text, follow_text, run_script};
 use command_line::{Asked, UsageFault, asked};
 use history::Kinds;
@@ -15,7 +19,7 @@ use std::thread::Threads;
 use std::{env, io};
 
 /// How many bytes of output wait before they go out.
-const BUFFER: usize = 65_536;
+pub(crate) const BUFFER: usize = 65_536;
 
 /// Does what the words of the command line ask, and says with which status the program ends: 0 where it is done,
 /// 1 where a history isn't legal or a race gave none, 2 after a bad line, configuration or command line, 3 after a
@@ -71,6 +75,7 @@ fn finish<R: Threads + Wait + Sync + Files + Input + Print + Eprint + AllocGloba
         } => check_file(rt, file),
         Asked::Check { follow: true, file } => follow_file(rt, file),
         Asked::Explain { file } => explain_file(rt, file),
+        Asked::Tell { color, file } => tell_file(rt, color, file),
         Asked::Race(race) => return race_hosts(rt, &race),
         Asked::Show(text) => match rt.print(text.as_str()) {
             Ok(()) => Ok(0),
@@ -161,6 +166,21 @@ fn follow_file<R: Files + Input + Print + AllocGlobal>(rt: &R, file: &str) -> Re
     }
 }
 
+// The unit without a mark for which a ticket owes no completion.
+fn cause_of<R: Files + Input + AllocGlobal>(
+    rt: &R,
+    file: &str,
+    explained: Explained,
+) -> Option<Unmarked> {
+    let Explained::BadAt(step) = explained else {
+        return None;
+    };
+    let Broken::NothingOwed { ticket } = step.broken else {
+        return None;
+    };
+    unmarked_unit(rt, file, ticket, step.place.saturating_add(1))
+}
+
 // Explains a history, and gives the status 0 where it is legal, 1 where it isn't, else that of the fault. Behind the
 // words of a refused configuration it says what its number means.
 fn explain_file<R: Files + Input + Print + Eprint + AllocGlobal>(
@@ -181,7 +201,12 @@ fn explain_file<R: Files + Input + Print + Eprint + AllocGlobal>(
         Err(fault) => return Err(fault),
     };
     let status = if explained == Explained::Legal { 0 } else { 1 };
-    if rt.println(explained).is_err() {
+    let unmarked = cause_of(rt, file, explained);
+    let words = ExplainedWords {
+        explained,
+        unmarked,
+    };
+    if rt.println(words).is_err() {
         return Err(RunFault::Output);
     }
     Ok(status)

@@ -55,6 +55,8 @@ AsksBy name rows (Asked.Run kinds flush file) = (name ≡ codes "run") × (first
 AsksBy name rows (Asked.Check follow file) = (name ≡ codes "check") × (first_of (codes "FILE") rows ≡ Some file.now)
     × SaysFlag (codes "follow") rows follow
 AsksBy name rows (Asked.Explain file) = (name ≡ codes "explain") × (first_of (codes "FILE") rows ≡ Some file.now)
+AsksBy name rows (Asked.Tell color file) = (name ≡ codes "tell") × (first_of (codes "FILE") rows ≡ Some file.now)
+    × SaysFlag (codes "color") rows color
 AsksBy name rows (Asked.Race r) = (name ≡ codes "race") × SaysRace rows r
 AsksBy name rows (Asked.Show text) = ⊥
 
@@ -71,6 +73,7 @@ Asks words asked = AsksByCommand words asked
 -- no command has this name
 abbrev pub IsOther : Text → Type 0
 IsOther name = (name ≢ codes "run") × (name ≢ codes "check") × (name ≢ codes "explain") × (name ≢ codes "race")
+    × (name ≢ codes "tell")
 
 -- no file is named
 abbrev pub IsNoFile : List Row → Type 0
@@ -87,6 +90,7 @@ AskNothing name rows =
     ((name ≡ codes "run") × (IsNoFile rows ⊎ IsNoKind rows))
     ⊎ (((name ≡ codes "check") ⊎ (name ≡ codes "explain")) × IsNoFile rows)
     ⊎ ((name ≡ codes "race") × IsNoRace rows)
+    ⊎ ((name ≡ codes "tell") × IsNoFile rows)
     ⊎ IsOther name
 
 -- a text says why options are refused only where they ask for nothing

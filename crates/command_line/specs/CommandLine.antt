@@ -52,6 +52,10 @@ race_app =
     (needed_rule (codes "workers"))) (needed_rule (codes "slots")))
     (default_rule (codes "rounds") (codes "10"))) (default_rule (codes "queues") (codes "1"))
 
+-- the command `tell` with its options
+abbrev pub tell_app : App
+tell_app = with_rule (with_rule (new_app (codes "tell")) (flag_rule (codes "color"))) file_rule
+
 -- the program, with a version, of which one command has to be named
 abbrev pub top_app : App
 top_app = let a = new_app (codes "casdisk") in
@@ -59,8 +63,8 @@ top_app = let a = new_app (codes "casdisk") in
 
 -- the whole program
 abbrev pub casdisk_app : App
-casdisk_app = with_subcommand (with_subcommand (with_subcommand (with_subcommand top_app run_app.top)
-    check_app.top) explain_app.top) race_app.top
+casdisk_app = with_subcommand (with_subcommand (with_subcommand (with_subcommand (with_subcommand top_app run_app.top)
+    check_app.top) explain_app.top) race_app.top) tell_app.top
 
 -- the command that the words name, and what they give its options
 unfoldable pub command_in : List Text → Option (Text × List Row)

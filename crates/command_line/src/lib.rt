@@ -2,6 +2,8 @@
 #![tactic(auto)]
 
 mod request;
+mod shown;
+mod telling;
 mod usage;
 
 pub use crate::request::{Asked, UsageFault};

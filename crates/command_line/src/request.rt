@@ -26,6 +26,11 @@ pub enum Asked<'a> {
     Explain {
         file: &'a str,
     },
+    /// To tell the history in this file in words; where it colours, each line in the colour of its kind.
+    Tell {
+        color: bool,
+        file: &'a str,
+    },
     /// To let hosts race, and print the history.
     Race(Race),
     /// To print this text, of `--help` or `--version`.

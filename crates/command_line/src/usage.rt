@@ -9,6 +9,8 @@ ghost use Rattle.command_line.specs.CommandLine.{casdisk_app, check_app, default
 ghost use Rattle.command_line.specs.CommandLine.{flag_rule, needed_rule, number_rule, race_app, run_app, show_rule};
 
 use crate::request::{Asked, UsageFault};
+use crate::shown::no_kinds;
+use crate::telling::{tell_asked, tell_command};
 use casdisk_script::kinds_of;
 use clap::error::ErrorKind;
 use clap::{Arg, ArgAction, ArgMatches, Command, value_parser};
@@ -22,7 +24,7 @@ const FLUSH: &str = "Send what each line prints as soon as it is made";
 
 const FOLLOW: &str = "Answer at the first bad step or bad line, and read no further";
 
-const HISTORY: &str = "The history; - is standard input";
+pub(crate) const HISTORY: &str = "The history; - is standard input";
 
 const ABOUT_SCRIPTS: &str = "\
 A script is a text: its first line is the controller's configuration, and each further line is one
@@ -77,7 +79,7 @@ Exit status: 0 where all is done, 1 where there is no history, or it isn't legal
 command line, 3 after a failed output, 4 without memory or threads.";
 
 // The file that a command reads, which has to be named.
-fn file_argument<'a>(alloc: Global, help: &'static str) -> Arg<'a>
+pub(crate) fn file_argument<'a>(alloc: Global, help: &'static str) -> Arg<'a>
     ensures { rule_of result ≡ file_rule }
 {
     Arg::new(alloc, "FILE")
@@ -98,7 +100,7 @@ fn show_option<'a>(alloc: Global) -> Arg<'a>
 }
 
 // An option without a value.
-fn flag_option<'a>(alloc: Global, name: &'static str, help: &'static str) -> Arg<'a>
+pub(crate) fn flag_option<'a>(alloc: Global, name: &'static str, help: &'static str) -> Arg<'a>
     ensures { rule_of result ≡ flag_rule name.entry.now }
 {
     Arg::new(alloc, name)
@@ -232,10 +234,11 @@ fn command<'a>(alloc: Global) -> Result<Command<'a>, AllocError>
     let command = with_command(command, run_command(alloc))?;
     let command = with_command(command, check_command(alloc))?;
     let command = with_command(command, explain_command(alloc))?;
-    with_command(command, race_command(alloc))
+    let command = with_command(command, race_command(alloc))?;
+    with_command(command, tell_command(alloc))
 }
 
-fn text_of(alloc: Global, words: &str) -> UsageFault {
+pub(crate) fn text_of(alloc: Global, words: &str) -> UsageFault {
     match String::from_str(alloc, words) {
         Ok(text) => UsageFault::Text(text),
         Err(_) => UsageFault::NoMemory,
@@ -243,7 +246,7 @@ fn text_of(alloc: Global, words: &str) -> UsageFault {
 }
 
 // Whether this option without a value is there.
-fn flag_asked(matches: &ArgMatches<'_>, name: &'static str) -> bool
+pub(crate) fn flag_asked(matches: &ArgMatches<'_>, name: &'static str) -> bool
     ensures says { SaysFlag name.entry.now (rows_of (found_of matches.now)) result }
 {
     matches.get_flag(name)
@@ -296,10 +299,7 @@ fn run_asked<'a>(alloc: Global, matches: &ArgMatches<'a>) -> Result<Asked<'a>, U
             flush: flag_asked(matches, "flush"),
             file,
         }),
-        (None, _) => Err(text_of(
-            alloc,
-            "error: an unknown or empty kind of lines in '--show'",
-        )),
+        (None, _) => Err(no_kinds(alloc, matches.get_str("show"))),
         (_, None) => Err(text_of(alloc, "error: no file")),
     }
 }
@@ -358,6 +358,8 @@ fn command_asked<'a>(
         race_asked(alloc, matches)
     } else if name == "run" {
         run_asked(alloc, matches)
+    } else if name == "tell" {
+        tell_asked(alloc, matches)
     } else {
         Err(text_of(alloc, "error: no command"))
     }

@@ -11,5 +11,6 @@ returns c =
     let one = below_adds c.run_command.result _ _ _ _ top_is c.run_command.ensures c.in_ok-command.ensures in
     let two = below_adds c.check_command.result _ _ _ _ one c.check_command.ensures c.in_ok-command-2.ensures in
     let three = below_adds c.explain_command.result _ _ _ _ two c.explain_command.ensures c.in_ok-command-3.ensures in
-    IfOk-weaker c.with_command-4.result _ _
-    (λ m h. below_adds c.race_command.result _ _ _ _ three c.race_command.ensures h) c.with_command-4.ensures
+    let four = below_adds c.race_command.result _ _ _ _ three c.race_command.ensures c.in_ok-command-4.ensures in
+    IfOk-weaker c.with_command-5.result _ _
+    (λ m h. below_adds c.tell_command.result _ _ _ _ four c.tell_command.ensures h) c.with_command-5.ensures

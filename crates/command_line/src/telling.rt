@@ -1,0 +1,46 @@
+//! The command that tells a history in words.
+
+ghost use Rattle.std.specs.Prelude.{◌≡◌, IfErr, IfOk, codes};
+ghost use Rattle.clap.specs.Words.{app_of, found_of, rows_of};
+ghost use Rattle.command_line.specs.Asking.{AsksBy, IsRaceInRange, IsRefusedBy};
+ghost use Rattle.command_line.specs.CommandLine.{tell_app};
+
+use crate::request::{Asked, UsageFault};
+use crate::usage::{HISTORY, file_argument, flag_asked, flag_option, text_of};
+use clap::{ArgMatches, Command};
+use std::alloc::{AllocError, Global};
+
+const COLOR: &str = "Colour each line by its kind, by the codes of a terminal";
+
+const ABOUT_WORDS: &str = "\
+Each line of the history is told by one line, as soon as it is read: a command by its name and its
+blocks, a status by its name and its numbers. Whether the history is legal isn't asked: see 'check'.
+
+Exit status: 0 where all is told, 2 after a bad line or configuration.";
+
+pub(crate) fn tell_command<'a>(alloc: Global) -> Result<Command<'a>, AllocError>
+    ensures { IfOk result (λ c. app_of c ≡ tell_app) }
+{
+    let command = Command::new(alloc, "tell")
+        .about("Tells a history in words, a line for a line")
+        .after_help(ABOUT_WORDS);
+    let command = command.arg(flag_option(alloc, "color", COLOR))?;
+    command.arg(file_argument(alloc, HISTORY))
+}
+
+pub(crate) fn tell_asked<'a>(
+    alloc: Global,
+    matches: &ArgMatches<'a>,
+) -> Result<Asked<'a>, UsageFault>
+    ensures asks { IfOk result (AsksBy (codes "tell") (rows_of (found_of matches.now))) }
+    ensures race { IfOk result IsRaceInRange }
+    ensures refuses { IfErr result (IsRefusedBy (codes "tell") (rows_of (found_of matches.now))) }
+{
+    match matches.get_str("FILE") {
+        Some(file) => Ok(Asked::Tell {
+            color: flag_asked(matches, "color"),
+            file,
+        }),
+        None => Err(text_of(alloc, "error: no file")),
+    }
+}
