@@ -47,7 +47,8 @@ seen_same trace seen next after o more h is =
       n + 1,
       omega (arith, more, h.1),
       omega (arith, slice_get_within trace n s there),
-      ap (λ (x : Option Seen). with_shown x seen) is.1 ∙ ap (λ (l : List Seen). s ∷ l) h.3 ∙ sym (one_there trace n s there),
+      ap (λ (x : Option Seen). with_shown x seen) is.1 ∙ ap (λ (l : List Seen). s ∷ l) h.3
+          ∙ sym (one_there trace n s there),
     )
 
 -- something else is

@@ -9,7 +9,8 @@ use Rattle.witness_check.proofs.certifying.judge.Goals as goal
 pub loop-place-preserved : goal.loop-place-preserved
 loop-place-preserved c =
     subst (λ (p : Past). IsComparedTo c.args.config.now c.args.trace.now p c.take.new.self)
-    (sym (more_of c.args.entries.now c.loop-place.place c.index-entries-place.result c.loop-place-test.true c.index-entries-place.is))
+    (sym (more_of c.args.entries.now c.loop-place.place c.index-entries-place.result c.loop-place-test.true
+    c.index-entries-place.is))
     (c.in_ok-take.ensures.ok c.args.config.now _ c.loop-place.invariant)
 
 pub returns : goal.returns
