@@ -14,7 +14,6 @@ use Rattle.nvme_model.specs.declared.config.ConfigNumbers.{ConfigNumbers}
 use Rattle.history.specs.ConfigLine.{config_in}
 use Rattle.casdisk_script.specs.Script.{Outcome, End, IsOpen, bad_line, bad_config, cut, ending, prefixed, lines_print}
 use Rattle.casdisk_script.specs.Running.{lines_from, PrintsAll, PrintsFront, PrintsRead, Reached, Runs}
-use Rattle.casdisk_script.proofs.Reaching.{runs_unread}
 use Rattle.history_words.specs.Told.{config_painted}
 use Rattle.history_words.specs.declared.paint.Paint.{Paint}
 use Rattle.history_telling.specs.ToldText.{fault_of_read, told, told_config, told_line, told_numbers, told_prints}
@@ -66,7 +65,7 @@ module _ (paint : Paint) where
         subst (Appends w w) (sym (ap (λ (o : Outcome). o.text) is)) (Appends-nil w),
       )
 
-  -- (the two faults of reading, as `runs_unread` says of a run)
+  -- (the two faults of reading, as of a run)
   unread : (f : ReadFault) (r t w : Option (List ℕ))
       → (f ≡ ReadFault.Input → PrintsRead (λ input. told paint input) r t w w)
       → PrintsFront (λ input. told paint input) r t w w

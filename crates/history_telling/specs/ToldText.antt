@@ -5,18 +5,25 @@ use Rattle.line_text.specs.declared.lines.ReadFault.{ReadFault}
 use Rattle.nvme_model.specs.Config.{config_fault, fault_number}
 use Rattle.nvme_model.specs.declared.config.ConfigFault.{ConfigFault}
 use Rattle.nvme_model.specs.declared.config.ConfigNumbers.{ConfigNumbers}
+use Rattle.nvme_model.specs.declared.entry.Entry.{Entry}
 use Rattle.history.specs.ConfigLine.{config_in}
 use Rattle.history.specs.Lines.{entry_in}
 use Rattle.casdisk_script.specs.Meaning.{Meaning}
 use Rattle.casdisk_script.specs.Script.{Outcome, bad_config, bad_line, cut, ending, lines_print, prefixed}
 use Rattle.casdisk_script.specs.declared.fault.RunFault.{RunFault}
 use Rattle.casdisk_script.specs.declared.fault.RunFault.TheVariants.{Input, NoMemory}
+use Rattle.history_words.specs.BesideLines.{beside_painted}
 use Rattle.history_words.specs.Told.{config_painted, entry_painted}
 use Rattle.history_words.specs.declared.paint.Paint.{Paint}
 
--- the line of an entry is told in words, whatever stands before it
+-- what is told of a line: of an entry, or else of a refusal or a block, as runs print them; None where it is neither
+abbrev pub line_told : Paint → List ℕ → Option Entry → Option (List ℕ)
+line_told paint line (Some e) = Some (entry_painted paint e)
+line_told paint line None = beside_painted paint line
+
+-- a line is told in words, whatever stands before it
 abbrev pub told_line : Paint → Meaning
-told_line paint past line = option_map (λ e. (past, entry_painted paint e ++ 10 ∷ [])) (entry_in line)
+told_line paint past line = option_map (λ text. (past, text ++ 10 ∷ [])) (line_told paint line (entry_in line))
 
 -- what is told of a configuration, which may be refused, and of what follows
 abbrev pub told_numbers : Paint → ConfigNumbers → Option ConfigFault → Outcome → Outcome

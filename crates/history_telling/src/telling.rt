@@ -1,14 +1,16 @@
 //! A history that is told, line by line.
 
+ghost use Rattle.std.specs.Prelude.{◌≡◌, IfOk, option_map, string_bytes};
+ghost use Rattle.history.specs.Lines.{entry_in};
 ghost use Rattle.casdisk_script.specs.Running.{Runs};
-ghost use Rattle.history_telling.specs.ToldText.{told, told_line};
+ghost use Rattle.history_telling.specs.ToldText.{line_told, told, told_line};
 
 use crate::opening::read_opening;
 use casdisk_script::{LineMeaning, RunFault, Taken, WriteFault, run_lines};
 use history::{LineFault, parse_line};
-use history_words::{Paint, config_words, entry_words};
+use history_words::{Paint, beside_words, config_words, entry_words};
 use line_text::{Lines, send_line};
-use std::alloc::Global;
+use std::alloc::{AllocError as NoMemory, Global};
 use std::io::{Read, Write};
 
 // Tells the entries of lines, one at a time, and keeps none of them.
@@ -18,19 +20,32 @@ struct Teller {
     paint: Paint,
 }
 
+// What is told of a line; None where it is no line of a history or of a run.
+fn words_of(alloc: Global, line: &[u8], paint: Paint) -> Result<Option<String>, NoMemory>
+    ensures value { IfOk result
+        (λ told. option_map string_bytes told ≡ line_told paint line.now (entry_in line.now)) }
+{
+    match parse_line(alloc, line) {
+        Ok(entry) => {
+            let words = entry_words(alloc, &entry, paint)?;
+            Ok(Some(words))
+        }
+        Err(LineFault::Malformed) => beside_words(alloc, line, paint),
+        Err(LineFault::NoMemory) => Err(NoMemory),
+    }
+}
+
 impl LineMeaning for Teller {
     ghost stands = { λ _ _ _. Unit {0} };
 
     ghost meaning = { λ m. told_line m.paint };
 
     fn take_line<W: Write>(&mut self, line: &[u8], writer: &mut W) -> Result<Taken, WriteFault> {
-        let entry = match parse_line(self.alloc, line) {
-            Ok(entry) => entry,
-            Err(LineFault::Malformed) => return Ok(Taken::Bad),
-            Err(LineFault::NoMemory) => return Err(WriteFault::NoMemory),
-        };
-        let Ok(text) = entry_words(self.alloc, &entry, self.paint) else {
+        let Ok(told) = words_of(self.alloc, line, self.paint) else {
             return Err(WriteFault::NoMemory);
+        };
+        let Some(text) = told else {
+            return Ok(Taken::Bad);
         };
         match send_line(writer, text.as_bytes()) {
             Ok(()) => Ok(Taken::Done),
@@ -39,8 +54,9 @@ impl LineMeaning for Teller {
     }
 }
 
-/// Reads a configuration line and the lines of a history to the reader's end or to the first bad line, and writes each
-/// in words, a line for a line, as soon as it is read. Whether the history is legal isn't asked.
+/// Reads a configuration line and the lines of a history, or of all that a run prints, to the reader's end or to the
+/// first bad line, and writes each in words, a line for a line, as soon as it is read. Whether the history is legal
+/// isn't asked.
 ///
 /// # Errors
 ///

@@ -3,3 +3,4 @@ pub mod Names
 pub mod Completions
 pub mod Commands
 pub mod Told
+pub mod BesideLines

@@ -1,6 +1,7 @@
 //! Histories in words: a line for a line, with the names that the standard gives commands, statuses and fields.
 #![tactic(auto)]
 
+mod beside;
 mod commands;
 mod completions;
 mod configurations;
@@ -10,6 +11,7 @@ mod names;
 mod paint;
 mod texts;
 
+pub use crate::beside::beside_words;
 pub use crate::completions::completion_words;
 pub use crate::configurations::config_words;
 pub use crate::entries::entry_words;
