@@ -1,0 +1,102 @@
+-- The claims, the releases and the Writes of a batch, entry by entry.
+use Rattle.std.proofs.Common.{◌≡◌, ℕ, zero, suc, ◌+◌, ◌<◌, ◌≤◌, Bool, true, false, not, ◌&&◌, ◌||◌, cond, List, [], ◌∷◌, ◌++◌}
+use Rattle.std.proofs.Common.{length, refl, sym, ap, ap₂, ◌∙◌, arith, drop, get_or, eqb, None}
+use Rattle.std.specs.List.{list_any}
+use Rattle.std.specs.Str.{bytes_eq}
+use Rattle.std.proofs.lemmas.List.{append-nil, append_assoc, length-drop}
+use Rattle.std.proofs.lemmas.List.Elements.{filter-append}
+use Rattle.nvme_model.specs.Array.{has_block, zeros}
+use Rattle.nvme_model.specs.EntryBytes.{slba, sqe_fields}
+use Rattle.nvme_model.specs.Slots.{Swap, in_area, is_pair_on_one, name_of, only_swaps, swap_by, swap_of, swaps_in, touches}
+use Rattle.nvme_model.specs.declared.array.Range.{Range}
+use Rattle.nvme_model.specs.declared.submission.Submission.{Submission}
+use Rattle.host_laws.proofs.Names.{bytes_are}
+
+drop_at : {X : Type 0} (xs : List X) (i : ℕ) (d : X) → i < length xs → drop i xs ≡ get_or xs i d ∷ drop (suc i) xs
+drop_at [] i d l = absurd (omega (arith, l))
+drop_at (x ∷ xs) zero d l = refl
+drop_at (x ∷ xs) (suc i) d l = drop_at xs i d (omega (arith, l))
+
+drop_is : {X : Type 0} (xs : List X) (i : ℕ) (x : X) → i < length xs → x ≡ get_or xs i x
+    → drop i xs ≡ x ∷ drop (suc i) xs
+drop_is xs i x l e = drop_at xs i x l ∙ ap (λ y. y ∷ drop (suc i) xs) (sym e)
+
+-- ---- Writes
+
+swapped : (t o : Bool) → (t && not o) ≡ false → (not t || o) ≡ true
+swapped true true h = refl
+swapped true false h = absurd cc
+swapped false o h = refl
+
+pub only_next : (slots : Range) (q first : ℕ) (batch : List Submission) (of : List Swap) (i : ℕ) (s : Submission)
+    → i < length batch → s ≡ get_or batch i s
+    → (touches slots s && not (list_any (λ w. eqb (suc w.number) (first + i)) of)) ≡ false
+    → only_swaps slots q (first + (i + 1)) (drop (i + 1) batch) of ≡ only_swaps slots q (first + i) (drop i batch) of
+only_next slots q first batch of i s l e h =
+    let more : i + 1 ≡ suc i = omega arith in
+    let n : first + (i + 1) ≡ suc (first + i) = omega arith in
+    (λ j. only_swaps slots q (n j) (drop (more j) batch) of)
+    ∙ ap (λ (b : Bool). b && only_swaps slots q (suc (first + i)) (drop (suc i) batch) of)
+    (sym (swapped (touches slots s) (list_any (λ w. eqb (suc w.number) (first + i)) of) h))
+    ∙ ap (λ (xs : List Submission). only_swaps slots q (first + i) xs of) (sym (drop_is batch i s l e))
+
+-- ---- claims and releases
+
+nobody : (bytes : List ℕ) → bytes_eq bytes zeros ≡ true → name_of bytes ≡ None
+nobody bytes h = ap name_of (bytes_are bytes zeros h)
+
+cond_nil : (b : Bool) (xs : List Swap) → xs ≡ [] → cond b xs [] ≡ []
+cond_nil true xs e = e
+cond_nil false xs e = refl
+
+pub free_first : (q j : ℕ) (a b : Submission) → is_pair_on_one a b ≡ true → bytes_eq a.payload zeros ≡ true
+    → swap_by true q j (slba (sqe_fields a.entry)) (name_of b.payload) ≡ swap_of q j a b
+free_first q j a b pair free =
+    let l = slba (sqe_fields a.entry) in
+    let claim = swap_by true q j l (name_of b.payload) in
+    let release = cond (bytes_eq b.payload zeros) (swap_by false q j l (name_of a.payload)) [] in
+    let none : release ≡ [] = cond_nil (bytes_eq b.payload zeros) (swap_by false q j l (name_of a.payload))
+    (ap (swap_by false q j l) (nobody a.payload free)) in
+    sym (ap (λ (x : Bool). cond x (cond (bytes_eq a.payload zeros) claim [] ++ release) []) pair
+    ∙ ap (λ (x : Bool). cond x claim [] ++ release) free ∙ ap (λ (xs : List Swap). claim ++ xs) none ∙ append-nil claim)
+
+pub free_second : (q j : ℕ) (a b : Submission) → is_pair_on_one a b ≡ true → bytes_eq a.payload zeros ≡ false
+    → bytes_eq b.payload zeros ≡ true
+    → swap_by false q j (slba (sqe_fields a.entry)) (name_of a.payload) ≡ swap_of q j a b
+free_second q j a b pair held free =
+    let l = slba (sqe_fields a.entry) in
+    let claim = swap_by true q j l (name_of b.payload) in
+    let release = swap_by false q j l (name_of a.payload) in
+    sym (ap (λ (x : Bool). cond x (cond (bytes_eq a.payload zeros) claim [] ++ cond (bytes_eq b.payload zeros) release []) []) pair
+    ∙ ap₂ (λ (x y : Bool). cond x claim [] ++ cond y release []) held free)
+
+pub swaps_next : (slots : Range) (q first : ℕ) (batch : List Submission) (i : ℕ) (a b : Submission)
+    (found more : List Swap) → i + 1 < length batch → a ≡ get_or batch i a → b ≡ get_or batch (i + 1) b
+    → more ≡ in_area slots (swap_of q (first + i) a b)
+    → (found ++ more) ++ in_area slots (swaps_in q (first + (i + 1)) (drop (i + 1) batch))
+    ≡ found ++ in_area slots (swaps_in q (first + i) (drop i batch))
+swaps_next slots q first batch i a b found more l e f m =
+    let here : i + 1 ≡ suc i = omega arith in
+    let n : first + (i + 1) ≡ suc (first + i) = omega arith in
+    let rest = swaps_in q (suc (first + i)) (drop (suc i) batch) in
+    let second : drop (suc i) batch ≡ b ∷ drop (suc (suc i)) batch =
+    drop_is batch (suc i) b (omega (arith, l)) (f ∙ ap (λ (x : ℕ). get_or batch x b) here) in
+    let both : drop i batch ≡ a ∷ b ∷ drop (suc (suc i)) batch =
+    drop_is batch i a (omega (arith, l)) e ∙ ap (λ (xs : List Submission). a ∷ xs) second in
+    (λ t. (found ++ m t) ++ in_area slots (swaps_in q (n t) (drop (here t) batch)))
+    ∙ append_assoc found (in_area slots (swap_of q (first + i) a b)) (in_area slots rest)
+    ∙ ap (λ (xs : List Swap). found ++ xs)
+    (sym (filter-append (λ s. has_block slots s.lba) (swap_of q (first + i) a b) rest)
+    ∙ ap (λ (xs : List Submission). in_area slots (swap_of q (first + i) a b ++ swaps_in q (suc (first + i)) xs)) second
+    ∙ ap (λ (xs : List Submission). in_area slots (swaps_in q (first + i) xs)) (sym both))
+
+few : (q j : ℕ) (xs : List Submission) → length xs ≤ 1 → swaps_in q j xs ≡ []
+few q j [] l = refl
+few q j (x ∷ []) l = refl
+few q j (x ∷ y ∷ xs) l = absurd (omega (arith, l))
+
+pub swaps_end : (slots : Range) (q first : ℕ) (batch : List Submission) (i : ℕ) (found : List Swap)
+    → length batch ≤ i + 1 → found ≡ found ++ in_area slots (swaps_in q (first + i) (drop i batch))
+swaps_end slots q first batch i found l =
+    sym (ap (λ (xs : List Swap). found ++ in_area slots xs)
+    (few q (first + i) (drop i batch) (omega (arith, length-drop i batch, l))) ∙ append-nil found)

@@ -1,0 +1,5 @@
+use Rattle.slot_check.proofs.Discipline.{folds, none_broken_at}
+use Rattle.slot_check.proofs.area.none_is_broken_where_the_discipline_is_kept.Goals as goal
+
+pub returns : goal.returns
+returns c = record { none = none_broken_at; fold = folds }

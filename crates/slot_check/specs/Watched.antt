@@ -1,0 +1,43 @@
+-- What a check of the slots stands for.
+use Rattle.std.specs.Prelude.{true, ◌≡◌}
+use Rattle.nvme_model.specs.History.{Past}
+use Rattle.nvme_model.specs.Legal.{IsLegal}
+use Rattle.nvme_model.specs.Slots.{disciplined, in_area, reaped_success, swaps}
+use Rattle.nvme_model.specs.declared.array.Range.{Range}
+use Rattle.nvme_model.specs.declared.config.ConfigNumbers.{ConfigNumbers}
+use Rattle.slot_check.specs.Names.{KeptNames, KnowsNames, names_in}
+use Rattle.slot_check.specs.Progress.{KeptProgress, KnowsProgress, progress_in}
+use Rattle.slot_check.specs.declared.area.AreaCheck.{AreaCheck}
+use Rattle.slot_check.specs.declared.tables.Tables.{Tables}
+
+-- what a check of the slots keeps
+pub record Kept : Type 0 where
+  pub progress : KeptProgress
+  pub names : KeptNames
+
+-- in these tables
+abbrev pub kept_in : Tables → Kept
+kept_in t = record { progress = progress_in t.progress; names = names_in t.names }
+
+-- It is what is kept of this legal history, which keeps the discipline of the area.
+pub record Keeps (c : ConfigNumbers) (area : Range) (past : Past) (k : Kept) : Type 0 where
+  pub legal : IsLegal c past
+  pub disciplined : disciplined c area past ≡ true
+  pub progress : KnowsProgress c past k.progress
+  pub names : KnowsNames (reaped_success c past) (in_area area (swaps past)) k.names
+
+-- a check of the slots: its configuration, the area, and what it keeps
+pub record AreaState : Type 0 where
+  pub config : ConfigNumbers
+  pub slots : Range
+  pub kept : Kept
+
+-- of a check
+abbrev pub area_state : AreaCheck → AreaState
+area_state x = record { config = x.config; slots = x.slots; kept = kept_in x.tables }
+
+-- It stands for this legal history, which keeps the discipline of the area.
+pub record Watches (c : ConfigNumbers) (area : Range) (past : Past) (x : AreaState) : Type 0 where
+  pub config : x.config ≡ c
+  pub slots : x.slots ≡ area
+  pub keeps : Keeps c area past x.kept

@@ -1,0 +1,249 @@
+//! The claims, the releases and the Writes of a batch.
+
+ghost use Rattle.std.specs.Prelude.{IfOk, OnOk, [], bytes_eq, is_some, length, not, suc, ◌&&◌, ◌++◌, ◌+◌, ◌<◌, ◌==◌};
+ghost use Rattle.std.specs.Prelude.{◌^◌, ◌||◌, ◌≡◌};
+ghost use Rattle.std.specs.List.{list_any};
+ghost use Rattle.nvme_model.specs.Array.{has_block, overlap, zeros};
+ghost use Rattle.nvme_model.specs.Slots.{in_area, is_pair_on_one, only_swaps, releases, swap_by, swap_of, swaps_in};
+ghost use Rattle.nvme_model.specs.Slots.{touches};
+ghost use Rattle.slot_check.specs.Batch.{fresh_in, release_broken_in, release_wrong_in};
+ghost use Rattle.slot_check.specs.Names.{claims_name, listed, names_in};
+
+use crate::broken::BrokenDiscipline;
+use crate::names::Names;
+use crate::swap::{Name, Swap, name_of};
+use entry_codec::decode_sqe;
+use history::Config;
+use nvme_model::array::Range;
+use nvme_model::submission::Submission;
+use std::alloc::{AllocError as NoMemory, Global};
+
+// Whether an area has a block.
+fn has_block(slots: Range, lba: u64) -> bool
+    ensures value { result ≡ has_block slots lba }
+{
+    slots.slba <= lba && u128::from(lba) < u128::from(slots.slba) + u128::from(slots.blocks)
+}
+
+// Whether these blocks share one with an area.
+fn overlaps(slba: u64, blocks: u32, slots: Range) -> bool
+    ensures value { result ≡ overlap (record { slba = slba; blocks = blocks }) slots }
+{
+    let from = u128::from(slba);
+    let area = u128::from(slots.slba);
+    0 < blocks
+        && 0 < slots.blocks
+        && from < area + u128::from(slots.blocks)
+        && area < from + u128::from(blocks)
+}
+
+// Whether an entry writes in an area.
+fn touches(slots: Range, one: &Submission) -> bool
+    ensures value { result ≡ touches slots one.now }
+{
+    let entry = decode_sqe(&one.entry);
+    (entry.is_write() || entry.is_write_zeroes()) && overlaps(entry.slba(), entry.blocks(), slots)
+}
+
+// Whether two entries are a pair on one block.
+fn is_pair_on_one(a: &Submission, b: &Submission) -> bool
+    ensures value { result ≡ is_pair_on_one a.now b.now }
+{
+    let first = decode_sqe(&a.entry);
+    let second = decode_sqe(&b.entry);
+    first.is_compare()
+        && second.is_write()
+        && first.fuse() == 1
+        && second.fuse() == 2
+        && first.slba() == second.slba()
+        && first.blocks() == 1
+        && second.blocks() == 1
+}
+
+// Whether the bytes are those of a free slot.
+fn is_free(bytes: &[u8]) -> bool
+    ensures value { result ≡ bytes_eq bytes.now zeros }
+{
+    bytes == [0; 512].as_slice()
+}
+
+// A claim or a release of this name, if there is one.
+fn swap_by(claims: bool, queue: u16, number: u64, lba: u64, name: Option<Name>) -> Option<Swap>
+    requires room { number + 1 < 2 ^ 64 }
+    ensures value { listed result ≡ swap_by claims queue number lba name }
+{
+    match name {
+        Some(name) => Some(Swap::new(claims, queue, number, lba, name)),
+        None => None,
+    }
+}
+
+// The claim or the release that two entries are, the first of them with this number on this queue.
+fn swap_of(queue: u16, number: u64, a: &Submission, b: &Submission) -> Option<Swap>
+    requires room { number + 1 < 2 ^ 64 }
+    ensures value { listed result ≡ swap_of queue number a.now b.now }
+{
+    if !is_pair_on_one(a, b) {
+        return None;
+    }
+    let lba = decode_sqe(&a.entry).slba();
+    if is_free(a.payload.as_slice()) {
+        return swap_by(true, queue, number, lba, name_of(b.payload.as_slice()));
+    }
+    if is_free(b.payload.as_slice()) {
+        return swap_by(false, queue, number, lba, name_of(a.payload.as_slice()));
+    }
+    None
+}
+
+// The same, where it is of a slot of this area.
+fn swap_in_area(
+    slots: Range,
+    queue: u16,
+    number: u64,
+    a: &Submission,
+    b: &Submission,
+) -> Option<Swap>
+    requires room { number + 1 < 2 ^ 64 }
+    ensures value { listed result ≡ in_area slots (swap_of queue number a.now b.now) }
+{
+    let swap = swap_of(queue, number, a, b)?;
+    if has_block(slots, swap.lba()) {
+        Some(swap)
+    } else {
+        None
+    }
+}
+
+// Adds the claim or release, if there is one.
+fn push_some(found: &mut Vec<Swap>, swap: Option<Swap>) -> Result<(), NoMemory>
+    ensures ok { OnOk result (found.new.items ≡ found.old.items ++ listed swap) }
+{
+    if let Some(swap) = swap {
+        found.push(swap)?;
+    }
+    Ok(())
+}
+
+/// The claims and releases of a batch in an area, where its first entry has this number on this queue.
+///
+/// # Errors
+///
+/// `NoMemory` where a growth is refused.
+pub fn swaps_in_area(
+    alloc: Global,
+    slots: Range,
+    queue: u16,
+    first: u64,
+    batch: &[Submission],
+) -> Result<Vec<Swap>, NoMemory>
+    requires room { first + length batch.now < 2 ^ 64 }
+    ensures value { IfOk result (λ of. of.items ≡ in_area slots (swaps_in queue first batch.now)) }
+{
+    let mut found = Vec::new(alloc);
+    let mut place = 0;
+    while place + 1 < batch.len() {
+        let number = first + place as u64;
+        let swap = swap_in_area(slots, queue, number, &batch[place], &batch[place + 1]);
+        push_some(&mut found, swap)?;
+        place += 1;
+    }
+    Ok(found)
+}
+
+// Whether the entry of this number is the second of one of these claims and releases.
+fn is_second(of: &[Swap], number: u64) -> bool
+    ensures value { result ≡ list_any (λ w. suc w.number == number) of.now }
+{
+    of.iter().any(|swap| swap.second() == number)
+}
+
+// Whether the entry of this number writes in the area, and is no second of one of these.
+fn writes_alone(slots: Range, one: &Submission, number: u64, of: &[Swap]) -> bool
+    ensures value { result ≡
+        (touches slots one.now && not (list_any (λ w. suc w.number == number) of.now)) }
+{
+    touches(slots, one) && !is_second(of, number)
+}
+
+/// Whether each Write of a batch that touches an area is the second of one of these claims and releases.
+pub fn only_swaps(slots: Range, queue: u16, first: u64, batch: &[Submission], of: &[Swap]) -> bool
+    requires room { first + length batch.now < 2 ^ 64 }
+    ensures value { result ≡ only_swaps slots queue first batch.now of.now }
+{
+    let _ = queue;
+    for place in 0..batch.len() {
+        let number = first + place as u64;
+        if writes_alone(slots, &batch[place], number, of) {
+            return false;
+        }
+    }
+    true
+}
+
+// Whether one of these claims this name.
+fn is_named(of: &[Swap], name: Name) -> bool
+    ensures value { result ≡ list_any (claims_name name) of.now }
+{
+    of.iter().any(|swap| swap.claims() && swap.name() == name)
+}
+
+// Whether a claim's name is in one of these claims, or in one that was published.
+fn is_repeated(names: &Names, swap: Swap, later: &[Swap]) -> bool
+    ensures value { result ≡ (swap.claims && (list_any (claims_name swap.name) later.now
+        || is_some ((names_in names.now).claim swap.name))) }
+{
+    swap.claims() && (is_named(later, swap.name()) || names.claim(swap.name()).is_some())
+}
+
+/// Whether no name is in two of these claims, or in one of them and one that was published.
+pub fn is_fresh(names: &Names, of: &[Swap]) -> bool
+    ensures value { result ≡ fresh_in (names_in names.now) of.now }
+{
+    for place in 0..of.len() {
+        if is_repeated(names, of[place], &of[place + 1..]) {
+            return false;
+        }
+    }
+    true
+}
+
+// Whether one of these releases this name of the slot at this block.
+fn is_given_up(of: &[Swap], lba: u64, name: Name) -> bool
+    ensures value { result ≡ list_any (λ w. releases w lba name) of.now }
+{
+    of.iter().any(|swap| !swap.claims() && swap.lba() == lba && swap.name() == name)
+}
+
+// What a release breaks behind those of its batch before it.
+fn release_wrong(
+    config: &Config,
+    names: &Names,
+    swap: Swap,
+    earlier: &[Swap],
+) -> Option<BrokenDiscipline>
+    ensures value { result ≡ release_wrong_in config.now (names_in names.now) earlier.now swap }
+{
+    if swap.claims() {
+        return None;
+    }
+    if !names.believes(swap.lba(), swap.name()) || is_given_up(earlier, swap.lba(), swap.name()) {
+        return Some(BrokenDiscipline::Unbelieved);
+    }
+    if !names.keeps_queue(config, &swap) {
+        return Some(BrokenDiscipline::OtherQueue);
+    }
+    None
+}
+
+/// What the first wrong release of these breaks.
+pub fn release_broken(config: &Config, names: &Names, of: &[Swap]) -> Option<BrokenDiscipline>
+    ensures value { result ≡ release_broken_in config.now (names_in names.now) [] of.now }
+{
+    for place in 0..of.len() {
+        if let Some(broken) = release_wrong(config, names, of[place], &of[..place]) {
+            return Some(broken);
+        }
+    }
+    None
+}
