@@ -1,5 +1,6 @@
 -- The claims, the releases and the Writes of a batch, entry by entry.
-use Rattle.std.proofs.Common.{◌≡◌, ℕ, zero, suc, ◌+◌, ◌<◌, ◌≤◌, Bool, true, false, not, ◌&&◌, ◌||◌, cond, List, [], ◌∷◌, ◌++◌}
+use Rattle.std.proofs.Common.{◌≡◌, ℕ, zero, suc, ◌+◌, ◌<◌, ◌≤◌, Bool, true, false, not, ◌&&◌, ◌||◌, cond, List, []}
+use Rattle.std.proofs.Common.{◌∷◌, ◌++◌}
 use Rattle.std.proofs.Common.{length, refl, sym, ap, ap₂, ◌∙◌, arith, drop, get_or, eqb, None}
 use Rattle.std.specs.List.{list_any}
 use Rattle.std.specs.Str.{bytes_eq}
@@ -7,7 +8,8 @@ use Rattle.std.proofs.lemmas.List.{append-nil, append_assoc, length-drop}
 use Rattle.std.proofs.lemmas.List.Elements.{filter-append}
 use Rattle.nvme_model.specs.Array.{has_block, zeros}
 use Rattle.nvme_model.specs.EntryBytes.{slba, sqe_fields}
-use Rattle.nvme_model.specs.Slots.{Swap, in_area, is_pair_on_one, name_of, only_swaps, swap_by, swap_of, swaps_in, touches}
+use Rattle.nvme_model.specs.Slots.{Swap, in_area, is_pair_on_one, name_of, only_swaps, swap_by, swap_of, swaps_in}
+use Rattle.nvme_model.specs.Slots.{touches}
 use Rattle.nvme_model.specs.declared.array.Range.{Range}
 use Rattle.nvme_model.specs.declared.submission.Submission.{Submission}
 use Rattle.host_laws.proofs.Names.{bytes_are}
@@ -58,7 +60,8 @@ free_first q j a b pair free =
     let none : release ≡ [] = cond_nil (bytes_eq b.payload zeros) (swap_by false q j l (name_of a.payload))
     (ap (swap_by false q j l) (nobody a.payload free)) in
     sym (ap (λ (x : Bool). cond x (cond (bytes_eq a.payload zeros) claim [] ++ release) []) pair
-    ∙ ap (λ (x : Bool). cond x claim [] ++ release) free ∙ ap (λ (xs : List Swap). claim ++ xs) none ∙ append-nil claim)
+    ∙ ap (λ (x : Bool). cond x claim [] ++ release) free ∙ ap (λ (xs : List Swap). claim ++ xs) none
+    ∙ append-nil claim)
 
 pub free_second : (q j : ℕ) (a b : Submission) → is_pair_on_one a b ≡ true → bytes_eq a.payload zeros ≡ false
     → bytes_eq b.payload zeros ≡ true
@@ -67,7 +70,8 @@ free_second q j a b pair held free =
     let l = slba (sqe_fields a.entry) in
     let claim = swap_by true q j l (name_of b.payload) in
     let release = swap_by false q j l (name_of a.payload) in
-    sym (ap (λ (x : Bool). cond x (cond (bytes_eq a.payload zeros) claim [] ++ cond (bytes_eq b.payload zeros) release []) []) pair
+    sym (ap (λ (x : Bool). cond x (cond (bytes_eq a.payload zeros) claim [] ++ cond
+    (bytes_eq b.payload zeros) release []) []) pair
     ∙ ap₂ (λ (x y : Bool). cond x claim [] ++ cond y release []) held free)
 
 pub swaps_next : (slots : Range) (q first : ℕ) (batch : List Submission) (i : ℕ) (a b : Submission)
@@ -87,7 +91,8 @@ swaps_next slots q first batch i a b found more l e f m =
     ∙ append_assoc found (in_area slots (swap_of q (first + i) a b)) (in_area slots rest)
     ∙ ap (λ (xs : List Swap). found ++ xs)
     (sym (filter-append (λ s. has_block slots s.lba) (swap_of q (first + i) a b) rest)
-    ∙ ap (λ (xs : List Submission). in_area slots (swap_of q (first + i) a b ++ swaps_in q (suc (first + i)) xs)) second
+    ∙ ap (λ (xs : List Submission). in_area slots (swap_of q (first + i) a b ++ swaps_in q (suc
+    (first + i)) xs)) second
     ∙ ap (λ (xs : List Submission). in_area slots (swaps_in q (first + i) xs)) (sym both))
 
 few : (q j : ℕ) (xs : List Submission) → length xs ≤ 1 → swaps_in q j xs ≡ []

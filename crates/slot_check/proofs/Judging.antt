@@ -1,6 +1,7 @@
 -- What is judged by the tables is what the definitions say of the history.
 use Rattle.std.proofs.Common.{◌≡◌, ℕ, suc, ◌≤◌, Bool, true, false, not, ◌&&◌, ◌||◌, cond, List, [], ◌∷◌, ◌++◌}
-use Rattle.std.proofs.Common.{length, refl, sym, ap, ap₂, ◌∙◌, arith, eqb, eqb-true, subst, None, Some, Option, is_none, is_some}
+use Rattle.std.proofs.Common.{length, refl, sym, ap, ap₂, ◌∙◌, arith, eqb, eqb-true, subst, None, Some, Option}
+use Rattle.std.proofs.Common.{is_none, is_some}
 use Rattle.std.specs.List.{filter, list_any}
 use Rattle.std.proofs.lemmas.Bool.{and_from}
 use Rattle.std.proofs.lemmas.List.Elements.{filter-append}
@@ -13,8 +14,10 @@ use Rattle.nvme_model.specs.Config.{completion_queue}
 use Rattle.nvme_model.specs.History.{Past}
 use Rattle.nvme_model.specs.Legal.{IsLegal}
 use Rattle.nvme_model.specs.Queues.{published_entries}
-use Rattle.nvme_model.specs.Slots.{Name, Swap, believed, disciplined, fresh_names, in_area, is_pair_on_one, keeps_discipline, name_of}
-use Rattle.nvme_model.specs.Slots.{on_its_queue, only_swaps, reaped_success, released_right, releases, same_name, swap_by, swap_of}
+use Rattle.nvme_model.specs.Slots.{Name, Swap, believed, disciplined, fresh_names, in_area, is_pair_on_one}
+use Rattle.nvme_model.specs.Slots.{keeps_discipline, name_of}
+use Rattle.nvme_model.specs.Slots.{on_its_queue, only_swaps, reaped_success, released_right, releases, same_name}
+use Rattle.nvme_model.specs.Slots.{swap_by, swap_of}
 use Rattle.nvme_model.specs.Slots.{swaps, swaps_in}
 use Rattle.nvme_model.specs.declared.array.Range.{Range}
 use Rattle.nvme_model.specs.declared.config.ConfigNumbers.{ConfigNumbers}
@@ -60,7 +63,8 @@ module _ (c : ConfigNumbers) (slots : Range) (past : Past) (k : KeptNames)
   believed_is : (l : ℕ) (n : Name) → has_block slots l ≡ true → believes k l n ≡ believed c past l n
   believed_is l n i = believes_is (reaped_success c past) (in_area slots (swaps past)) k l n h
       ∙ ap₂ (λ (x y : Bool). x && not y)
-      (in_area_any slots l (λ s. ((s.claims && eqb s.lba l) && same_name s.name n) && reaped_success c past s.queue (suc s.number))
+      (in_area_any slots l (λ s. ((s.claims && eqb s.lba l) && same_name s.name n) && reaped_success c past s.queue
+      (suc s.number))
       (swaps past) i
       (λ s e. eqb-true s.lba l (lba_first s.claims (eqb s.lba l) (same_name s.name n)
       (reaped_success c past s.queue (suc s.number)) e)))
@@ -80,7 +84,8 @@ module _ (c : ConfigNumbers) (slots : Range) (past : Past) (k : KeptNames)
   releases_are earlier (s ∷ later) a =
       ap₂ first_of
       (ap₂ (λ (x y : Bool). cond s.claims None
-      (cond (x && not (list_any (λ w. releases w s.lba s.name) earlier)) (cond y None (Some OtherQueue)) (Some Unbelieved)))
+      (cond (x && not (list_any (λ w. releases w s.lba s.name) earlier)) (cond y None (Some OtherQueue))
+      (Some Unbelieved)))
       (believed_is s.lba s.name a.0) (beside_is s a.0))
       (releases_are (earlier ++ s ∷ []) later a.1)
 
@@ -159,7 +164,8 @@ new_append q j (x ∷ xs) ys a b = (a.0, new_append q j xs ys a.1 b)
 
 new_swap : (q j n : ℕ) (a b : Submission) → j ≤ n → NewOn q j (swap_of q n a b)
 new_swap q j n a b l = pick (is_pair_on_one a b) _
-    (new_append q j (cond (bytes_eq a.payload zeros) (swap_by true q n (slba (sqe_fields a.entry)) (name_of b.payload)) [])
+    (new_append q j (cond (bytes_eq a.payload zeros) (swap_by true q n (slba (sqe_fields a.entry))
+    (name_of b.payload)) [])
     (cond (bytes_eq b.payload zeros) (swap_by false q n (slba (sqe_fields a.entry)) (name_of a.payload)) [])
     (pick (bytes_eq a.payload zeros) _ (by true (slba (sqe_fields a.entry)) (name_of b.payload)))
     (pick (bytes_eq b.payload zeros) _ (by false (slba (sqe_fields a.entry)) (name_of a.payload))))
@@ -204,7 +210,8 @@ pub unwon : (c : ConfigNumbers) (slots : Range) (past : Past) (p : PublishLine) 
     → IsLegal c past → first ≡ length (published_entries past p.queue)
     → of ≡ in_area slots (swaps_in p.queue first p.batch) → AreUnwon (reaped_success c past) of
 unwon c slots past p first of h e f =
-    new_unwon c past p.queue of h (subst (λ (xs : List Swap). NewOn p.queue (length (published_entries past p.queue)) xs)
+    new_unwon c past p.queue of h (subst (λ (xs : List Swap). NewOn p.queue (length
+    (published_entries past p.queue)) xs)
     (sym f) (new_filter p.queue (length (published_entries past p.queue)) (λ s. has_block slots s.lba)
     (swaps_in p.queue first p.batch)
     (new_swaps p.queue (length (published_entries past p.queue)) first p.batch (omega (arith, e)))))
@@ -253,7 +260,8 @@ publish_keeps c slots past p k m reserved first batch of h legal e b f none x y 
     let same : of ≡ all = here ∙ ap (λ (n : ℕ). in_area slots (swaps_in p.queue n p.batch)) count in
     let kr : KnowsNames r before reserved = unchanged r before k.names reserved x y z h.names in
     let fresh : fresh_names all before ≡ true =
-    fresh_where (only_swaps slots p.queue j p.batch all) (fresh_names all before) (release_broken c past [] all) none in
+    fresh_where (only_swaps slots p.queue j p.batch all) (fresh_names all before)
+    (release_broken c past [] all) none in
     let is_fresh : fresh_in reserved of ≡ true =
     fresh_is r before reserved of kr ∙ ap (λ (xs : List Swap). fresh_names xs before) same ∙ fresh in
     let added : KnowsNames r (of ++ before) m.names =

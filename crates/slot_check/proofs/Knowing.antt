@@ -1,5 +1,6 @@
 -- What the tables of names say is true of the claims and releases that were published.
-use Rattle.std.proofs.Common.{◌≡◌, ℕ, suc, Bool, true, false, not, ◌&&◌, ◌||◌, cond, refl, sym, ap, ap₂, ◌∙◌, eqb, eqb-true}
+use Rattle.std.proofs.Common.{◌≡◌, ℕ, suc, Bool, true, false, not, ◌&&◌, ◌||◌, cond, refl, sym, ap, ap₂, ◌∙◌, eqb}
+use Rattle.std.proofs.Common.{eqb-true}
 use Rattle.std.proofs.Common.{List, [], ◌∷◌, ◌++◌, Option, Some, None, is_some, subst, eq-eqb, unwrap_or, zero}
 use Rattle.std.proofs.Common.{◌<◌, arith, drop, get_or, length}
 use Rattle.std.specs.List.{filter, list_any}
@@ -11,7 +12,8 @@ use Rattle.nvme_model.specs.Slots.{Name, Swap, fresh_names, in_area, releases, s
 use Rattle.nvme_model.specs.declared.array.Range.{Range}
 use Rattle.nvme_model.specs.declared.config.ConfigNumbers.{ConfigNumbers}
 use Rattle.slot_check.specs.Batch.{fresh_in}
-use Rattle.slot_check.specs.Names.{AreUnwon, KeptNames, KnowsNames, believes, claim_won, claims_by, claims_name, is_beside, keeps_queue}
+use Rattle.slot_check.specs.Names.{AreUnwon, KeptNames, KnowsNames, believes, claim_won, claims_by, claims_name}
+use Rattle.slot_check.specs.Names.{is_beside, keeps_queue}
 use Rattle.slot_check.specs.Names.{listed}
 
 -- ---- lists
@@ -67,7 +69,8 @@ module _ (r : ℕ → ℕ → Bool) (of : List Swap) (k m : KeptNames) (s : Swap
       go false e f = h.claim n ∙ ap listed (sym f)
       go true e f =
           let p = and_parts s.claims (same_name s.name n) e in
-          let none : k.claim n ≡ None = ap k.claim (sym (same_names s.name n p.1)) ∙ none_is (k.claim s.name) (fresh p.0) in
+          let none : k.claim n ≡ None = ap k.claim (sym (same_names s.name n p.1)) ∙ none_is (k.claim s.name)
+          (fresh p.0) in
           ap (λ (xs : List Swap). s ∷ xs) (h.claim n ∙ ap listed none) ∙ ap listed (sym f)
 
   pub added_won : ((q j : ℕ) → m.won q j ≡ cond (claims_by q j s) (Some false) (k.won q j))
@@ -111,7 +114,8 @@ unchanged r of k m a b d h =
 
 pub won_more : (r p : ℕ → ℕ → Bool) (of : List Swap) (k m : KeptNames) (queue number : ℕ) → KnowsNames r of k
     → ((n : Name) → m.claim n ≡ k.claim n)
-    → ((q j : ℕ) → m.won q j ≡ cond ((eqb queue q && eqb number j) && is_some (k.won queue number)) (Some true) (k.won q j))
+    → ((q j : ℕ) → m.won q j ≡ cond ((eqb queue q && eqb number j) && is_some (k.won queue number)) (Some true)
+    (k.won q j))
     → ((l : ℕ) (n : Name) → m.released l n ≡ k.released l n)
     → ((q j : ℕ) → p q j ≡ ((eqb queue q && eqb number j) || r q j)) → KnowsNames p of m
 won_more r p of k m queue number h a b d e =
@@ -216,7 +220,8 @@ believes_is r of k l n h = ap₂ (λ (x y : Bool). x && not y) (go (k.claim n) r
 
     go : (o : Option Swap) → k.claim n ≡ o → claim_won k l o ≡ list_any test (listed o)
     go None e = refl
-    go (Some w) e = ap (λ (x : Option Bool). eqb w.lba l && unwrap_or x false) (won_of r of k n w h e) ∙ or_none (test w)
+    go (Some w) e = ap (λ (x : Option Bool). eqb w.lba l && unwrap_or x false) (won_of r of k n w h e) ∙ or_none
+        (test w)
 
 pub queue_is : (c : ConfigNumbers) (r : ℕ → ℕ → Bool) (of : List Swap) (k : KeptNames) (s : Swap) → KnowsNames r of k
     → keeps_queue c k s
@@ -246,7 +251,8 @@ queue_is c r of k s h = go (k.claim s.name) ∙ sym found
 
 pub in_area_any : (slots : Range) (l : ℕ) (p : Swap → Bool) (xs : List Swap) → has_block slots l ≡ true
     → ((s : Swap) → p s ≡ true → s.lba ≡ l) → list_any p (in_area slots xs) ≡ list_any p xs
-in_area_any slots l p xs h only = sym (any_filter (λ s. has_block slots s.lba) p xs) ∙ any_same _ p xs (λ s. go s (p s) refl)
+in_area_any slots l p xs h only = sym (any_filter (λ s. has_block slots s.lba) p xs) ∙ any_same _ p xs (λ s. go s
+    (p s) refl)
   where
     go : (s : Swap) (b : Bool) → p s ≡ b → (has_block slots s.lba && p s) ≡ p s
     go s true e = ap (λ (x : Bool). x && p s) (ap (has_block slots) (only s e) ∙ h)

@@ -36,18 +36,22 @@ module _ (c : ConfigNumbers) (past : Past) (f : FetchLine) (k m : KeptProgress) 
   fetched_flying t e i = go (eqb f.ticket t) refl e i
     where
       go : (b : Bool) → eqb f.ticket t ≡ b
-          → m.flying t ≡ cond b (Some (record { queue = f.queue; next = k.fetched f.queue; left = taken f.verdict })) (k.flying t)
-          → ltb (posts_of past t) (length (cond b (fetched_ticket past f.queue f.verdict) (Tickets.ticket past t)).commands) ≡ true
+          → m.flying t ≡ cond b (Some
+          (record { queue = f.queue; next = k.fetched f.queue; left = taken f.verdict })) (k.flying t)
+          → ltb (posts_of past t) (length (cond b (fetched_ticket past f.queue f.verdict)
+          (Tickets.ticket past t)).commands) ≡ true
           → m.flying t ≡ Some (record {
             queue = (cond b (fetched_ticket past f.queue f.verdict) (Tickets.ticket past t)).queue;
             next = cond b (fetched_count past f.queue) (fetched_before past t) + posts_of past t;
-            left = taken (cond b (fetched_ticket past f.queue f.verdict) (Tickets.ticket past t)).verdict - posts_of past t;
+            left = taken (cond b (fetched_ticket past f.queue f.verdict)
+                (Tickets.ticket past t)).verdict - posts_of past t;
           })
       go false q e i = e ∙ h.flying t i
       go true q e i =
           let none : posts_of past t ≡ 0 = no_posts c past t (follows c past (Entry.Fetch f) legal).before
           (omega (arith, eqb-true f.ticket t q, fetch_number c past f legal)) in
-          let first : k.fetched f.queue ≡ fetched_count past f.queue + posts_of past t = omega (arith, h.fetched f.queue, none) in
+          let first : k.fetched f.queue ≡ fetched_count past f.queue + posts_of past t = omega
+          (arith, h.fetched f.queue, none) in
           let left : taken f.verdict ≡ taken f.verdict - posts_of past t = omega (arith, none) in
           e ∙ (λ j. Some (record { queue = f.queue; next = first j; left = left j }))
 
@@ -113,10 +117,20 @@ module _ (c : ConfigNumbers) (past : Past) (p : PostLine) (k m : KeptProgress) (
       → in_flight (Entry.Post p ∷ past) t ≡ true → m.flying t ≡ Some (flying_of (Entry.Post p ∷ past) t)
   posted_flying t e i = go (eqb p.ticket t) refl e i
     where
-      moved : (n l : ℕ) → 1 < l → (b : Bool) → nat_le l 1 ≡ b → moved_on (record { queue = (Tickets.ticket past t).queue; next = n; left = l })
+      moved : (n l : ℕ) → 1 < l → (b : Bool) → nat_le l 1 ≡ b → moved_on (record {
+        queue =
+            (Tickets.ticket past t).queue;
+        next = n;
+        left = l;
+      })
           ≡ Some (record { queue = (Tickets.ticket past t).queue; next = n + 1; left = l - 1 })
       moved n l g true q = absurd (omega (arith, g, leb-true l 1 q))
-      moved n l g false q = ap (λ (b : Bool). cond b None (Some (record { queue = (Tickets.ticket past t).queue; next = n + 1; left = l - 1 }))) q
+      moved n l g false q = ap (λ (b : Bool). cond b None (Some (record {
+        queue =
+            (Tickets.ticket past t).queue;
+        next = n + 1;
+        left = l - 1;
+      }))) q
 
       go : (b : Bool) → eqb p.ticket t ≡ b
           → m.flying t ≡ cond b (moved_on (flying_of past p.ticket)) (k.flying t)
@@ -138,7 +152,8 @@ module _ (c : ConfigNumbers) (past : Past) (p : PostLine) (k m : KeptProgress) (
           let more = ltb-true (posts_of past t + 1) (length (Tickets.ticket past t).commands) i in
           let l = taken (Tickets.ticket past t).verdict - posts_of past t in
           let some : 1 < l = omega (arith, more, few_commands past t) in
-          let next : (fetched_before past t + posts_of past t) + 1 ≡ fetched_before past t + (posts_of past t + 1) = omega arith in
+          let next : (fetched_before past t + posts_of past t) + 1 ≡ fetched_before past t +
+          (posts_of past t + 1) = omega arith in
           let left : l - 1 ≡ taken (Tickets.ticket past t).verdict - (posts_of past t + 1) = omega arith in
           e ∙ ap (λ (x : ℕ). moved_on (flying_of past x)) (eqb-true p.ticket t q)
           ∙ moved (fetched_before past t + posts_of past t) l some (nat_le l 1) refl
@@ -156,9 +171,11 @@ module _ (c : ConfigNumbers) (past : Past) (p : PostLine) (k m : KeptProgress) (
       place : (b : Bool) → eqb (length (entry_completions c past q)) i ≡ b
           → cond b (Some (completed_of (entry_completion past p))) (k.waiting q i)
           ≡ option_map completed_of (slice_get (entry_completions c past q ++ entry_completion past p ∷ []) i)
-      place true f = sym (ap (option_map completed_of) (get_one_more (entry_completions c past q) (entry_completion past p) i true f))
+      place true f = sym (ap (option_map completed_of) (get_one_more (entry_completions c past q)
+          (entry_completion past p) i true f))
       place false f = h.waiting q i l
-          ∙ sym (ap (option_map completed_of) (get_one_more (entry_completions c past q) (entry_completion past p) i false f))
+          ∙ sym (ap (option_map completed_of) (get_one_more (entry_completions c past q)
+          (entry_completion past p) i false f))
 
       nil : (xs : List EntryCompletion) → xs ≡ xs ++ []
       nil [] = refl
@@ -170,9 +187,11 @@ module _ (c : ConfigNumbers) (past : Past) (p : PostLine) (k m : KeptProgress) (
           → m.waiting q i ≡ option_map completed_of
           (slice_get (entry_completions c past q ++ cond b (entry_completion past p ∷ []) []) i)
       go false f e = e ∙ h.waiting q i l
-          ∙ ap (λ (xs : List EntryCompletion). option_map completed_of (slice_get xs i)) (nil (entry_completions c past q))
+          ∙ ap (λ (xs : List EntryCompletion). option_map completed_of (slice_get xs i)) (nil
+          (entry_completions c past q))
       go true f e =
-          let count : k.posted (completion_queue c (Tickets.ticket past p.ticket).queue) ≡ length (entry_completions c past q) =
+          let count : k.posted (completion_queue c (Tickets.ticket past p.ticket).queue) ≡ length
+          (entry_completions c past q) =
           ap k.posted (eqb-true _ q f) ∙ h.posted q in
           e ∙ ap (λ (n : ℕ). cond (eqb n i) (Some (completed_of (entry_completion past p))) (k.waiting q i)) count
           ∙ place (eqb (length (entry_completions c past q)) i) refl
@@ -201,7 +220,8 @@ module _ (c : ConfigNumbers) (past : Past) (p : PostLine) (k m : KeptProgress) (
             ∙ ap (λ (x : ℕ). length (entry_completions c past q) + cond (eqb x q) 1 0) queue
             ∙ one_more q (eqb (completion_queue c (Tickets.ticket past p.ticket).queue) q);
         reaped = λ q. d q ∙ h.reaped q;
-        flying = λ t i. posted_flying t (g t ∙ ap (λ (x : Flying). cond (eqb p.ticket t) (moved_on x) (k.flying t)) is) i;
+        flying = λ t i. posted_flying t (g t ∙ ap (λ (x : Flying). cond (eqb p.ticket t) (moved_on x)
+            (k.flying t)) is) i;
         waiting = λ q i l. posted_waiting q i
             (w q i ∙ (λ j. cond (eqb (queue j) q && eqb (k.posted (queue j)) i)
             (Some (record { queue = (is j).queue; number = (is j).next; success = sis j })) (k.waiting q i))) l;

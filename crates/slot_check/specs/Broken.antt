@@ -33,7 +33,8 @@ release_broken c past earlier [] = None
 release_broken c past earlier (s ∷ later) =
     first_of (release_wrong c past earlier s) (release_broken c past (earlier ++ s ∷ []) later)
 
--- The rule that a Publish breaks first: a Write in the area is no part of a claim or release; a name was claimed before;
+-- The rule that a Publish breaks first: a Write in the area is no part of a claim or release; a name was claimed
+-- before;
 -- a release is wrong.
 abbrev pub publish_broken : ConfigNumbers → Range → Past → PublishLine → Option BrokenDiscipline
 publish_broken c slots past p =

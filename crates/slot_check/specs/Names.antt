@@ -11,7 +11,8 @@ use Rattle.slot_check.specs.declared.names.EntryNumber.{EntryNumber}
 use Rattle.slot_check.specs.declared.names.Names.{Names}
 use Rattle.slot_check.specs.declared.names.SlotName.{SlotName}
 
--- for each name its claim, whether the success of a claim's second entry was reaped, by queue and number of that entry,
+-- for each name its claim, whether the success of a claim's second entry was reaped, by queue and number of that
+-- entry,
 -- and which names were released, by block
 pub record KeptNames : Type 0 where
   pub claim : Name → Option Swap

@@ -15,7 +15,8 @@ use Rattle.slot_check.specs.declared.progress.Flying.{Flying}
 use Rattle.slot_check.specs.declared.progress.Place.{Place}
 use Rattle.slot_check.specs.declared.progress.Progress.{Progress}
 
--- how many entries were published and fetched, by submission queue, and how many completions were posted and reaped, by
+-- how many entries were published and fetched, by submission queue, and how many completions were posted and reaped,
+-- by
 -- completion queue; the tickets in flight, and the completions that wait, by queue and place
 pub record KeptProgress : Type 0 where
   pub published : ℕ → ℕ
