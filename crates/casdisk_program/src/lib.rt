@@ -1,6 +1,7 @@
 //! The program `casdisk` but for its `main`: it reads words and files, and calls what has contracts.
 #![tactic(auto)]
 
+mod certify;
 mod explaining;
 mod in_words;
 mod input;

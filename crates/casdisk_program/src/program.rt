@@ -1,5 +1,6 @@
 //! The whole program, over any runtime.
 
+use crate::certify::certify_files;
 use crate::explaining::ExplainedWords;
 use crate::in_words::tell_file;
 use crate::input::open;
@@ -22,9 +23,9 @@ use std::{env, io};
 pub(crate) const BUFFER: usize = 65_536;
 
 /// Does what the words of the command line ask, and says with which status the program ends: 0 where it is done,
-/// 1 where a history isn't legal or a race gave none, 2 after a bad line, configuration or command line, 3 after a
-/// failed opening, reading or writing, 4 where a growth was refused or a thread couldn't be started. The words of a
-/// fault go to standard error.
+/// 1 where a history isn't legal or doesn't explain a trace, or a race gave none, 2 after a bad line, configuration or
+/// command line, 3 after a failed opening, reading or writing, 4 where a growth was refused or a thread couldn't be
+/// started. The words of a fault go to standard error.
 pub fn run_program<R: Threads + Wait + Sync + Files + Env + Input + Print + Eprint + AllocGlobal>(
     rt: &R,
 ) -> ExitCode {
@@ -75,6 +76,7 @@ fn finish<R: Threads + Wait + Sync + Files + Input + Print + Eprint + AllocGloba
         } => check_file(rt, file),
         Asked::Check { follow: true, file } => follow_file(rt, file),
         Asked::Explain { file } => explain_file(rt, file),
+        Asked::Certify { trace, history } => return certify_files(rt, trace, history),
         Asked::Tell { color, file } => tell_file(rt, color, file),
         Asked::Race(race) => return race_hosts(rt, &race),
         Asked::Show(text) => match rt.print(text.as_str()) {

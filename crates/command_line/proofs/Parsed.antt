@@ -69,6 +69,7 @@ pub by_command : (words : List Text) (name : Text) (rows : List Row) → command
 by_command words name rows e (Asked.Run kinds flush file) h = (name, rows, e, h)
 by_command words name rows e (Asked.Check follow file) h = (name, rows, e, h)
 by_command words name rows e (Asked.Explain file) h = (name, rows, e, h)
+by_command words name rows e (Asked.Certify trace history) h = (name, rows, e, h)
 by_command words name rows e (Asked.Tell color file) h = (name, rows, e, h)
 by_command words name rows e (Asked.Race r) h = (name, rows, e, h)
 by_command words name rows e (Asked.Show text) h = absurd h

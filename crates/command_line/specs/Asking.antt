@@ -48,6 +48,10 @@ abbrev pub IsNoRace : List Row → Type 0
 IsNoRace rows = (hosts workers slots rounds queues : ℕ) → SaysNumbers rows hosts workers slots rounds queues
     → usage_of hosts workers slots rounds queues ≢ None
 
+-- they aren't both standard input
+abbrev pub AreTwoInputs : Text → Text → Type 0
+AreTwoInputs trace history = trace ≡ codes "-" → history ≡ codes "-" → ⊥
+
 -- what the options of a command of this name ask for
 abbrev pub AsksBy : Text → List Row → Asked → Type 0
 AsksBy name rows (Asked.Run kinds flush file) = (name ≡ codes "run") × (first_of (codes "FILE") rows ≡ Some file.now)
@@ -55,6 +59,9 @@ AsksBy name rows (Asked.Run kinds flush file) = (name ≡ codes "run") × (first
 AsksBy name rows (Asked.Check follow file) = (name ≡ codes "check") × (first_of (codes "FILE") rows ≡ Some file.now)
     × SaysFlag (codes "follow") rows follow
 AsksBy name rows (Asked.Explain file) = (name ≡ codes "explain") × (first_of (codes "FILE") rows ≡ Some file.now)
+AsksBy name rows (Asked.Certify trace history) = (name ≡ codes "certify")
+    × (first_of (codes "TRACE") rows ≡ Some trace.now) × (first_of (codes "HISTORY") rows ≡ Some history.now)
+    × AreTwoInputs trace.now history.now
 AsksBy name rows (Asked.Tell color file) = (name ≡ codes "tell") × (first_of (codes "FILE") rows ≡ Some file.now)
     × SaysFlag (codes "color") rows color
 AsksBy name rows (Asked.Race r) = (name ≡ codes "race") × SaysRace rows r
@@ -72,8 +79,9 @@ Asks words asked = AsksByCommand words asked
 
 -- no command has this name
 abbrev pub IsOther : Text → Type 0
-IsOther name = (name ≢ codes "run") × (name ≢ codes "check") × (name ≢ codes "explain") × (name ≢ codes "race")
-    × (name ≢ codes "tell")
+IsOther name =
+    (name ≢ codes "run") × (name ≢ codes "check") × (name ≢ codes "explain") × (name ≢ codes "certify")
+    × (name ≢ codes "race") × (name ≢ codes "tell")
 
 -- no file is named
 abbrev pub IsNoFile : List Row → Type 0
@@ -83,6 +91,12 @@ IsNoFile rows = first_of (codes "FILE") rows ≡ None
 abbrev pub IsNoKind : List Row → Type 0
 IsNoKind rows = kinds_asked (first_of (codes "show") rows) ≡ None
 
+-- no trace or no history is named, or both are standard input
+abbrev pub AreNoInputs : List Row → Type 0
+AreNoInputs rows =
+    (first_of (codes "TRACE") rows ≡ None) ⊎ (first_of (codes "HISTORY") rows ≡ None)
+    ⊎ ((first_of (codes "TRACE") rows ≡ Some (codes "-")) × (first_of (codes "HISTORY") rows ≡ Some (codes "-")))
+
 -- The options of a command of this name ask for nothing: no file is named where one has to be, the kinds of lines are
 -- unknown or none, or the numbers are those of no race. There is no other command.
 abbrev pub AskNothing : Text → List Row → Type 0
@@ -90,6 +104,7 @@ AskNothing name rows =
     ((name ≡ codes "run") × (IsNoFile rows ⊎ IsNoKind rows))
     ⊎ (((name ≡ codes "check") ⊎ (name ≡ codes "explain")) × IsNoFile rows)
     ⊎ ((name ≡ codes "race") × IsNoRace rows)
+    ⊎ ((name ≡ codes "certify") × AreNoInputs rows)
     ⊎ ((name ≡ codes "tell") × IsNoFile rows)
     ⊎ IsOther name
 

@@ -8,6 +8,10 @@ use Rattle.clap.specs.declared.builder.value_parser.ValueParser.TheVariants.{Uns
 abbrev pub file_rule : Rule
 file_rule = record (new_rule (codes "FILE")) { required = true; action = Some Set }
 
+-- the name of a file of this kind, which has to be there
+abbrev pub input_rule : Text → Rule
+input_rule name = record (new_rule name) { required = true; action = Some Set }
+
 -- the kinds of lines to show
 abbrev pub show_rule : Rule
 show_rule = record (new_rule (codes "show")) { long = Some (codes "show"); value_names = 1; action = Some Set }
@@ -52,6 +56,11 @@ race_app =
     (needed_rule (codes "workers"))) (needed_rule (codes "slots")))
     (default_rule (codes "rounds") (codes "10"))) (default_rule (codes "queues") (codes "1"))
 
+-- the command `certify` with its files
+abbrev pub certify_app : App
+certify_app =
+    with_rule (with_rule (new_app (codes "certify")) (input_rule (codes "TRACE"))) (input_rule (codes "HISTORY"))
+
 -- the command `tell` with its options
 abbrev pub tell_app : App
 tell_app = with_rule (with_rule (new_app (codes "tell")) (flag_rule (codes "color"))) file_rule
@@ -63,8 +72,9 @@ top_app = let a = new_app (codes "casdisk") in
 
 -- the whole program
 abbrev pub casdisk_app : App
-casdisk_app = with_subcommand (with_subcommand (with_subcommand (with_subcommand (with_subcommand top_app run_app.top)
-    check_app.top) explain_app.top) race_app.top) tell_app.top
+casdisk_app =
+    with_subcommand (with_subcommand (with_subcommand (with_subcommand (with_subcommand (with_subcommand top_app
+    run_app.top) check_app.top) explain_app.top) race_app.top) certify_app.top) tell_app.top
 
 -- the command that the words name, and what they give its options
 unfoldable pub command_in : List Text → Option (Text × List Row)

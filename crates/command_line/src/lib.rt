@@ -1,6 +1,7 @@
 //! Reads the command line of the program, by `clap`'s own definitions, and says what it asks for.
 #![tactic(auto)]
 
+mod certify;
 mod request;
 mod shown;
 mod telling;

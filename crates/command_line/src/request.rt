@@ -26,6 +26,11 @@ pub enum Asked<'a> {
     Explain {
         file: &'a str,
     },
+    /// To compare the history in one file with what hosts saw, in another.
+    Certify {
+        trace: &'a str,
+        history: &'a str,
+    },
     /// To tell the history in this file in words; where it colours, each line in the colour of its kind.
     Tell {
         color: bool,

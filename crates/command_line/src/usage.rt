@@ -8,6 +8,7 @@ ghost use Rattle.command_line.specs.Asking.{SaysFlag, SaysNumbers, kinds_asked};
 ghost use Rattle.command_line.specs.CommandLine.{casdisk_app, check_app, default_rule, explain_app, file_rule};
 ghost use Rattle.command_line.specs.CommandLine.{flag_rule, needed_rule, number_rule, race_app, run_app, show_rule};
 
+use crate::certify::{certify_asked, certify_command};
 use crate::request::{Asked, UsageFault};
 use crate::shown::no_kinds;
 use crate::telling::{tell_asked, tell_command};
@@ -30,7 +31,7 @@ const ABOUT_SCRIPTS: &str = "\
 A script is a text: its first line is the controller's configuration, and each further line is one
 step. Try one: casdisk run examples/one_block.script. Each line is described in docs/SCRIPTS.md.
 
-Exit status: 0 where all is done, 1 where a history that was checked isn't legal, 2 after a bad
+Exit status: 0 where all is done, 1 where a history isn't legal or explains no trace, 2 after a bad
 line, configuration or command line, 3 after a failed input or output, 4 without memory.";
 
 const ABOUT_LINES: &str = "\
@@ -235,6 +236,7 @@ fn command<'a>(alloc: Global) -> Result<Command<'a>, AllocError>
     let command = with_command(command, check_command(alloc))?;
     let command = with_command(command, explain_command(alloc))?;
     let command = with_command(command, race_command(alloc))?;
+    let command = with_command(command, certify_command(alloc))?;
     with_command(command, tell_command(alloc))
 }
 
@@ -354,6 +356,8 @@ fn command_asked<'a>(
         check_asked(alloc, matches)
     } else if name == "explain" {
         explain_asked(alloc, matches)
+    } else if name == "certify" {
+        certify_asked(alloc, matches)
     } else if name == "race" {
         race_asked(alloc, matches)
     } else if name == "run" {

@@ -15,6 +15,7 @@ moved : (a b : SharedPort) → b.queue ≡ a.queue → IsSame a.pass b.pass → 
 moved a b queue same on sole =
     record {
       same_lock = same.0;
+      same_passes = same.2;
       view = record { same_config = same.3; same_queue = queue; same_pass = same.1; goes_on = on };
       sole = sole;
     }

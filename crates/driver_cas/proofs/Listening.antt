@@ -64,6 +64,7 @@ pub follows_later : (a b c : SharedPort) → Follows a b → Follows b c → Fol
 follows_later a b c x y =
     record {
       same_lock = y.same_lock ∙ x.same_lock;
+      same_passes = y.same_passes ∙ x.same_passes;
       view = follows_on (view_of a) (view_of b) (view_of c) x.view y.view;
       sole = sole_later (steps_of a) (steps_of b) (steps_of c) (length (log_of (view_of a)))
           (length (log_of (view_of b))) (length (log_of (view_of c))) x.sole y.sole;

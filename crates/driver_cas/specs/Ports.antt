@@ -30,9 +30,11 @@ view_of p = view_at p.queue p.pass
 abbrev pub steps_of : SharedPort → ℕ
 steps_of p = length (passes.mine p.pass)
 
--- The second is the first at a later time, of the same engine, and its pass has made no steps but those of its log.
+-- The second is the first at a later time, of the same engine, which has as many passes, and its pass has made no steps
+-- but those of its log.
 pub record Follows (a b : SharedPort) : Type 0 where
   pub same_lock : b.pass.seat.table_id ≡ a.pass.seat.table_id
+  pub same_passes : passes.passes_of b.pass ≡ passes.passes_of a.pass
   pub view : Views.Follows (view_of a) (view_of b)
   pub sole : steps_of b + length (log_of (view_of a)) ≡ steps_of a + length (log_of (view_of b))
 

@@ -181,10 +181,16 @@ impl<'a> Port for SharedPort<'a> {
         self.reap_counted()
     }
 
-    ghost stays = { λ a. record { same_lock = refl; view = follows_self (view_of a); sole = refl } };
+    ghost stays = { λ a. record {
+      same_lock = refl;
+      same_passes = refl;
+      view = follows_self (view_of a);
+      sole = refl;
+    } };
 
     ghost goes_on = { λ a b c x y. record {
       same_lock = y.same_lock ∙ x.same_lock;
+      same_passes = y.same_passes ∙ x.same_passes;
       view = follows_on (view_of a) (view_of b) (view_of c) x.view y.view;
       sole = let h = x.sole in let k = y.sole in omega arith;
     } };

@@ -23,12 +23,14 @@ use Rattle.host_rounds.specs.declared.owned.Host.{Host}
 
 -- a port is itself at a later time, and later than a later one
 later_same : (a : SharedPort) → Follows a a
-later_same a = record { same_lock = refl; view = follows_self (view_of a); sole = refl }
+later_same a =
+    record { same_lock = refl; same_passes = refl; view = follows_self (view_of a); sole = refl }
 
 later_on : (a b c : SharedPort) → Follows a b → Follows b c → Follows a c
 later_on a b c x y =
     record {
       same_lock = y.same_lock ∙ x.same_lock;
+      same_passes = y.same_passes ∙ x.same_passes;
       view = follows_on (view_of a) (view_of b) (view_of c) x.view y.view;
       sole = omega (arith, x.sole, y.sole);
     }

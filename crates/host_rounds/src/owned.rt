@@ -1,13 +1,15 @@
 //! What the host of a completion queue has once its driver is made.
 
 ghost use Rattle.std.specs.List.Sorted.{IsStrictlyIncreasing};
-ghost use Rattle.std.specs.Prelude.{◌≡◌, ◌≤◌, ◌<◌, ◌+◌, All, IfOk, OnOk, length, true, vec_len};
-ghost use Rattle.meet_lock.specs.Passes.{number};
+ghost use Rattle.std.specs.Prelude.{◌≡◌, ◌≤◌, ◌<◌, ◌+◌, All, IfErr, IfOk, OnOk, length, true, vec_len};
+ghost use Rattle.meet_lock.specs.Passes.{IsSame, number, seen};
 ghost use Rattle.hosts.specs.Hands.{IsHostOf};
 ghost use Rattle.driver_cas.specs.Drivers as driver;
+ghost use Rattle.driver_cas.specs.Ports.{pass_of};
 ghost use Rattle.slot_alloc.specs.Areas.{area};
 ghost use Rattle.slot_hosts.specs.Hosts.{IsHost};
 ghost use Rattle.host_rounds.specs.Hosts.{HasEach, HasEachBelow, IsHosting, IsSlotArea, port_queue, uses};
+ghost use Rattle.host_rounds.specs.Playing.{HostGoes};
 
 use driver_cas::{Driver, SharedPort};
 use history::Config;
@@ -28,6 +30,26 @@ pub struct Host<'a> {
     pub queue: u16,
     /// Of its queue of notices.
     pub notices: QueuePass<Notice>,
+}
+
+impl<'a> Host<'a> {
+    /// Its hand, given back with all that its pass has seen. Completions that the driver's calls are owed stay owed.
+    pub fn into_hand(self) -> HostHand
+        ensures pass { result.pass ≡ pass_of (driver.port_of self.entry.driver) }
+        ensures rest { (result.queue ≡ self.entry.queue) × (result.notices ≡ self.entry.notices) }
+    {
+        let Host {
+            driver,
+            queue,
+            notices,
+            ..
+        } = self;
+        HostHand {
+            pass: driver.into_port().into_pass(),
+            queue,
+            notices,
+        }
+    }
 }
 
 // One more submission queue, behind lower ones.
@@ -78,14 +100,15 @@ fn submission_queues(alloc: Global, config: &Config, queue: u16) -> Result<Vec<u
 ///
 /// # Errors
 ///
-/// `NoMemory` where a growth is refused.
+/// The hand, where a growth is refused.
+#[tactic(auto, using(crate::proofs::Playing::hand_kept, crate::proofs::Playing::hand_same))]
 pub fn host_of<'a, G>(
     alloc: Global,
     config: &Config,
     hall: &'a Hall<G>,
     hand: HostHand,
     slots: Range,
-) -> Result<Host<'a>, NoMemory>
+) -> Result<Host<'a>, HostHand>
     requires hand { IsHostOf hall.now config.now hand }
     requires slots { IsSlotArea slots }
     ensures hosting { IfOk result (IsHosting hall.entry.now) }
@@ -95,13 +118,18 @@ pub fn host_of<'a, G>(
     ensures slots { IfOk result (λ h. (driver.area_of h.driver ≡ slots) × (area h.slots ≡ slots)) }
     ensures queues { IfOk result (λ h. HasEach config.now hand.queue (driver.queues_used h.driver)) }
     ensures is { IfOk result (λ h. IsHost config.now slots (number hand.pass) hand.queue hand.queue h.driver) }
+    ensures pass { IfOk result (λ h. let p = pass_of (driver.port_of h.driver) in
+        IsSame hand.pass p × (seen p ≡ seen hand.pass)) }
+    ensures back { IfErr result (HostGoes hall.entry.now hand) }
 {
+    let Ok(queues) = submission_queues(alloc, config, hand.queue) else {
+        return Err(hand);
+    };
     let HostHand {
         pass,
         queue,
         notices,
     } = hand;
-    let queues = submission_queues(alloc, config, queue)?;
     let acwu = config.numbers().atomic.acwu;
     let port = SharedPort::new(&hall.engine, pass, queue);
     match Driver::new(alloc, port, u32::from(queue), acwu, slots, queues) {
@@ -114,6 +142,10 @@ pub fn host_of<'a, G>(
                 notices,
             })
         }
-        Err(_) => Err(NoMemory),
+        Err((port, _, _)) => Err(HostHand {
+            pass: port.into_pass(),
+            queue,
+            notices,
+        }),
     }
 }

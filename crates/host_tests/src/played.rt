@@ -6,7 +6,7 @@ ghost use Rattle.host_tests.specs.Listening.{IsListening};
 
 use crate::calls::{Write, adds_all, closed, legal_length, publishes, reaps};
 use history::Config;
-use hosts::{Gate, Hall, Hand, Hands, HostHand, hall_of, run_crew};
+use hosts::{Crew, Gate, Hall, Hand, Hands, HostHand, hall_of, run_crew};
 use std::alloc::{AllocError as NoMemory, Global};
 use std::sync::Wait;
 use std::test::Fail;
@@ -89,7 +89,7 @@ fn ends_one<R: Wait, G>(rt: &R, hall: &Hall<G>, mut host: HostHand, count: u16) 
 }
 
 // The same of each host's queue.
-fn ends<R: Wait, G>(rt: &R, hall: &Hall<G>, mut hosts: Vec<HostHand>, count: u16) -> u16
+fn reaped_by<R: Wait, G>(rt: &R, hall: &Hall<G>, mut hosts: Vec<HostHand>, count: u16) -> u16
     requires { All (IsListening hall.now) hosts.items }
 {
     let mut good = 0u16;
@@ -113,16 +113,23 @@ fn both<R: Threads + Wait + Sync, G: Gate + Sync>(
     requires hosts { All (IsListening hall.now) hands.hosts.items }
     ensures { IfOk result (λ r. IsOf hall.now r.0) }
 {
-    run_crew(
+    let Crew {
+        fetcher,
+        beside,
+        ends,
+        ..
+    } = run_crew(
         rt,
         alloc,
         hall,
         numbers.queues.max(1),
         hands,
-        |hosts: Vec<HostHand>| -> Result<u16, NoMemory>
+        |hosts: Vec<HostHand>| -> u16
             requires { All (IsListening hall.now) hosts.items }
-        { Ok(ends(rt, hall, hosts, numbers.count)) },
-    )
+        { reaped_by(rt, hall, hosts, numbers.count) },
+    );
+    ends?;
+    Ok((fetcher, beside))
 }
 
 /// These hands, once the last host has published the Writes on so many submission queues.

@@ -6,7 +6,7 @@ ghost use Rattle.hosts.specs.Hands.{IsOf, IsWorkerOf};
 use crate::calls::{Write, closed, legal_length};
 use crate::played::ready;
 use history::Config;
-use hosts::{Gate, Hall, Hand, Hands, HostHand, Point, hall_of, run_crew};
+use hosts::{Crew, Gate, Hall, Hand, Hands, HostHand, Point, hall_of, run_crew};
 use std::alloc::{AllocError as NoMemory, Global};
 use std::sync::Wait;
 use std::sync::atomic::{AtomicBool, AtomicU64, Ordering};
@@ -84,15 +84,16 @@ fn until_stopped<R: Threads + Wait + Sync>(
     requires crew { IsOf hall.now hands.fetcher × All (IsWorkerOf hall.now) hands.workers.items }
     ensures { IfOk result (IsOf hall.now) }
 {
-    let (hand, ()) = run_crew(
+    let Crew { fetcher, ends, .. } = run_crew(
         rt,
         alloc,
         hall,
         1,
         hands,
-        |_hosts: Vec<HostHand>| -> Result<(), NoMemory> { Ok(stops(hall, fetches)) },
-    )?;
-    Ok(hand)
+        |_hosts: Vec<HostHand>| -> () { stops(hall, fetches) },
+    );
+    ends?;
+    Ok(fetcher)
 }
 
 // How many entries the history has, which is legal, of these Writes and one worker, which is held until the stop flag
@@ -138,7 +139,7 @@ fn a_fetcher_beside_a_full_queue_is_stopped(rt: HostRuntime) -> Result<(), Fail>
 fn wants_memory<R: Threads + Wait + Sync>(rt: &R, alloc: Global) -> Result<(bool, bool), Fail> {
     let config = Config::new(8, 1, 1, 0, 0, 1, 8, 8, 8)?;
     let (hall, hands) = hall_of(alloc, config, Holds::new(), 2)?;
-    let ended = run_crew(
+    let crew = run_crew(
         rt,
         alloc,
         &hall,
@@ -146,7 +147,7 @@ fn wants_memory<R: Threads + Wait + Sync>(rt: &R, alloc: Global) -> Result<(bool
         hands,
         |_hosts: Vec<HostHand>| -> Result<(), NoMemory> { Err(NoMemory) },
     );
-    Ok((ended.is_err(), hall.stop.is_set()))
+    Ok((crew.beside.is_err(), hall.stop.is_set()))
 }
 
 #[test]

@@ -1,13 +1,10 @@
 -- Passes of a hall that is being made.
-use Rattle.std.proofs.Common.{All, Global, List, None, Some, [], ap, arith, eqb, false, get_or, is_none, length, refl}
-use Rattle.std.proofs.Common.{slice_get, subst, suc, sym, Vec, zero, ℕ, ◌+◌, ◌++◌, ◌<◌, ◌∙◌, ◌≡◌, ◌≤◌, ◌∷◌}
-use Rattle.std.proofs.lemmas.Bool.{or_parts}
-use Rattle.std.proofs.lemmas.Bool.Decides.{nat_tests}
-use Rattle.std.proofs.lemmas.Bool.{ltb-false}
+use Rattle.std.proofs.Common.{All, Global, List, None, Some, [], ap, arith, get_or, length, refl}
+use Rattle.std.proofs.Common.{slice_get, subst, suc, sym, Vec, zero, ℕ, ◌+◌, ◌-◌, ◌++◌, ◌<◌, ◌∙◌, ◌≡◌, ◌≤◌, ◌∷◌}
 use Rattle.std.proofs.lemmas.Option.{slice_get-get_or}
-use Rattle.nvme_model.specs.Config.{config_fault, config_faults}
+use Rattle.nvme_model.specs.Config.{config_fault}
 use Rattle.nvme_model.specs.declared.config.ConfigNumbers.{ConfigNumbers}
-use Rattle.nvme_model.proofs.Rules.{none_holds}
+use Rattle.meet_lock.specs.Passes.{number}
 use Rattle.work_queue.specs.Engines as engine
 use Rattle.work_queue.specs.QueuePasses as queue
 use Rattle.work_queue.specs.declared.engine.Engine.{Engine}
@@ -15,10 +12,12 @@ use Rattle.work_queue.specs.declared.notice.Notice.{Notice}
 use Rattle.work_queue.specs.declared.queue.MessageQueue.{MessageQueue}
 use Rattle.work_queue.specs.declared.queue.QueuePass.{QueuePass}
 use Rattle.work_queue.specs.declared.work.Work.{Work}
-use Rattle.hosts.specs.Hands.{AreFirstPlaces, AreHostsOf, AreLastHosts, AreNoticesOf, ArePlaces, IsHostOf, IsPlaceAt}
-use Rattle.hosts.specs.Hands.{IsWorkerOf}
+use Rattle.hosts.specs.Hands.{AreFirstPasses, AreFirstPlaces, AreHandsOf, AreHostsOf, AreLastHosts, AreLastWorkers}
+use Rattle.hosts.specs.Hands.{AreNoticesOf, ArePlaces, IsHostOf, IsLastPass, IsOf, IsOneOf, IsPlaceAt, IsWorkerOf}
 use Rattle.hosts.specs.declared.hall.Hall.{Hall}
+use Rattle.hosts.specs.declared.hall.Hands.{Hands}
 use Rattle.hosts.specs.declared.hall.HostHand.{HostHand}
+use Rattle.hosts.specs.declared.hall.WorkerHand.{WorkerHand}
 use Rattle.nvme_model.proofs.Accepted.{accepted}
 
 -- ---- the configuration
@@ -102,13 +101,49 @@ module _ {G : Type 0} where
       → AreFirstPlaces hall (xs ++ p ∷ []) → IsPlaceAt hall (length xs) p
   place_last hall xs p h = h (length xs) p (at_last xs p)
 
-  pub hosts_more : (hall : Hall G) (c : ConfigNumbers) (hs : List HostHand) (d : HostHand) → AreLastHosts hall c hs
-      → IsHostOf hall c d → d.queue + length hs ≡ c.cqs → AreLastHosts hall c (hs ++ d ∷ [])
-  hosts_more hall c hs d h own e = snoc_each (λ k x. IsHostOf hall c x × (x.queue + k ≡ c.cqs)) hs d h (own, e)
+  pub passes_rest : (hall : Hall G) (c : ConfigNumbers) (all : ℕ) (xs ys : List engine.EnginePass)
+      → AreFirstPasses hall c all (xs ++ ys) → AreFirstPasses hall c all xs
+  passes_rest hall c all xs ys h = λ k p g. h k p (at_front xs ys k p g)
 
-  pub hosts_are : (hall : Hall G) (c : ConfigNumbers) (hs : List HostHand) → AreLastHosts hall c hs → length hs ≡ c.cqs
-      → AreHostsOf hall c hs
-  hosts_are hall c hs h count =
+  pub pass_last : (hall : Hall G) (c : ConfigNumbers) (all : ℕ) (xs : List engine.EnginePass) (p : engine.EnginePass)
+      → AreFirstPasses hall c all (xs ++ p ∷ []) → IsOneOf hall c all p × (number p ≡ length xs + 1)
+  pass_last hall c all xs p h = h (length xs) p (at_last xs p)
+
+  pub hosts_more : (hall : Hall G) (c : ConfigNumbers) (all : ℕ) (hs : List HostHand) (d : HostHand)
+      → AreLastHosts hall c all hs → IsHostOf hall c d → IsLastPass c all d → d.queue + length hs ≡ c.cqs
+      → AreLastHosts hall c all (hs ++ d ∷ [])
+  hosts_more hall c all hs d h own last e =
+      snoc_each (λ k x. IsHostOf hall c x × (x.queue + k ≡ c.cqs) × IsLastPass c all x) hs d h (own, e, last)
+
+  pub workers_more : (hall : Hall G) (c : ConfigNumbers) (all n : ℕ) (ws : List WorkerHand) (d : WorkerHand)
+      → AreLastWorkers hall c all n ws → IsWorkerOf hall d → IsOneOf hall c all d.hand.pass
+      → number d.hand.pass + length ws ≡ n → AreLastWorkers hall c all n (ws ++ d ∷ [])
+  workers_more hall c all n ws d h own one e =
+      snoc_each (λ k x. IsWorkerOf hall x × IsOneOf hall c all x.hand.pass × (number x.hand.pass + k ≡ n)) ws d h
+      (own, one, e)
+
+  pub workers_all : (hall : Hall G) (c : ConfigNumbers) (all n : ℕ) (ws : List WorkerHand)
+      → AreLastWorkers hall c all n ws → All (IsWorkerOf hall) ws
+  workers_all hall c all n ws h = λ k x within. (h k (get_or ws k x) (slice_get-get_or ws k x within)).0
+
+  pub hands_are : (hall : Hall G) (c : ConfigNumbers) (all rows : ℕ) (h : Hands) → 0 < rows → all ≡ rows + c.cqs
+      → IsOf hall h.fetcher → IsOneOf hall c all h.fetcher.pass → number h.fetcher.pass ≡ rows
+      → AreLastWorkers hall c all (rows - 1) h.workers.items → length h.workers.items ≡ rows - 1
+      → AreHostsOf hall c all h.hosts.items → AreHandsOf hall c (rows - 1) h
+  hands_are hall c all rows h some sum of one n workers count hosts =
+      let e : all ≡ rows - 1 + 1 + c.cqs = omega (arith, some, sum) in
+      record {
+        fetcher = of;
+        fetches = (subst (λ k. IsOneOf hall c k h.fetcher.pass) e one, omega (arith, n, some));
+        workers = workers_all hall c all (rows - 1) h.workers.items workers;
+        count = count;
+        each = subst (λ k. AreLastWorkers hall c k (rows - 1) h.workers.items) e workers;
+        hosts = subst (λ k. AreHostsOf hall c k h.hosts.items) e hosts;
+      }
+
+  pub hosts_are : (hall : Hall G) (c : ConfigNumbers) (all : ℕ) (hs : List HostHand) → AreLastHosts hall c all hs
+      → length hs ≡ c.cqs → AreHostsOf hall c all hs
+  hosts_are hall c all hs h count =
       record { count = count; own = λ k x within. (h k (get_or hs k x) (slice_get-get_or hs k x within)).0; each = h }
 
   notices_are : (hall : Hall G) (c : ConfigNumbers) (ps : List (QueuePass Notice)) → 1 ≤ c.cqs

@@ -4,7 +4,7 @@ use Rattle.std.specs.Prelude.{All, List, Ok, Option, Result, Some, length, slice
 use Rattle.std.specs.Prelude.{◌≡◌, ◌≤◌}
 use Rattle.nvme_model.specs.Passes.{IsBeginning, entries}
 use Rattle.nvme_model.specs.declared.config.ConfigNumbers.{ConfigNumbers}
-use Rattle.meet_lock.specs.Passes.{IsSame, config_of, seen}
+use Rattle.meet_lock.specs.Passes.{IsSame, config_of, number, passes_of, seen}
 use Rattle.controller_steps.specs.declared.answer.Answer.{Answer}
 use Rattle.serving_laws.specs.Servers.{IsServing}
 use Rattle.work_queue.specs.Duties.{is_only_fetch}
@@ -32,6 +32,10 @@ ArePlaces e qs ps = AllZip (queue.IsPlaceOf e) qs ps
 -- it names a completion of this completion queue
 abbrev pub IsWordOf : ℕ → Notice → Type 0
 IsWordOf q n = n.queue ≡ q
+
+-- a host's pass is one of so many, of which the last are those of the completion queues in order
+abbrev pub IsLastPass : ConfigNumbers → ℕ → HostHand → Type 0
+IsLastPass c all h = (passes_of h.pass ≡ all) × (number h.pass + c.cqs ≡ all + h.queue)
 
 -- no Work came of it
 abbrev pub IsNoWork : Fetched → Type 0
@@ -82,6 +86,24 @@ module _ {G : Type 0} where
     pub hand : IsOf hall w.hand
     pub notices : AreNoticesOf hall (config_of w.hand.pass).cqs w.notices.items
 
+  -- a worker's hand later
+  abbrev pub WorkerGoes : Hall G → WorkerHand → WorkerHand → Type 0
+  WorkerGoes hall w v = Goes hall w.hand v.hand × IsWorkerOf hall v
+
+  -- a pass of the engine that has seen nothing, one of so many
+  abbrev pub IsOneOf : Hall G → ConfigNumbers → ℕ → engine.EnginePass → Type 0
+  IsOneOf hall c all p = engine.IsFreshPass hall.engine c p × (passes_of p ≡ all)
+
+  -- passes that have seen nothing, numbered from 1 in order
+  abbrev pub AreFirstPasses : Hall G → ConfigNumbers → ℕ → List engine.EnginePass → Type 0
+  AreFirstPasses hall c all ps = (k : ℕ) (p : engine.EnginePass) → slice_get ps k ≡ Some p
+      → IsOneOf hall c all p × (number p ≡ k + 1)
+
+  -- workers with the passes from n on, downwards
+  abbrev pub AreLastWorkers : Hall G → ConfigNumbers → ℕ → ℕ → List WorkerHand → Type 0
+  AreLastWorkers hall c all n ws = (k : ℕ) (w : WorkerHand) → slice_get ws k ≡ Some w
+      → IsWorkerOf hall w × IsOneOf hall c all w.hand.pass × (number w.hand.pass + k ≡ n)
+
   -- the passes of the host of a completion queue, which have seen nothing
   pub record IsHostOf (hall : Hall G) (c : ConfigNumbers) (h : HostHand) : Type 0 where
     pub pass : engine.IsFreshPass hall.engine c h.pass
@@ -94,31 +116,35 @@ module _ {G : Type 0} where
   AreFirstPlaces hall ps = (k : ℕ) (p : QueuePass Notice) → slice_get ps k ≡ Some p → IsPlaceAt hall k p
 
   -- hosts of the last completion queues, from the last one on
-  abbrev pub AreLastHosts : Hall G → ConfigNumbers → List HostHand → Type 0
-  AreLastHosts hall c hs = (k : ℕ) (h : HostHand) → slice_get hs k ≡ Some h → IsHostOf hall c h × (h.queue + k ≡ c.cqs)
+  abbrev pub AreLastHosts : Hall G → ConfigNumbers → ℕ → List HostHand → Type 0
+  AreLastHosts hall c all hs = (k : ℕ) (h : HostHand) → slice_get hs k ≡ Some h
+      → IsHostOf hall c h × (h.queue + k ≡ c.cqs) × IsLastPass c all h
 
   -- a host for each completion queue, from the last to the first
-  pub record AreHostsOf (hall : Hall G) (c : ConfigNumbers) (hs : List HostHand) : Type 0 where
+  pub record AreHostsOf (hall : Hall G) (c : ConfigNumbers) (all : ℕ) (hs : List HostHand) : Type 0 where
     pub count : length hs ≡ c.cqs
     pub own : All (IsHostOf hall c) hs
-    pub each : AreLastHosts hall c hs
+    pub each : AreLastHosts hall c all hs
 
   -- passes that no worker has yet, as many of each kind
-  pub record AreSpares (hall : Hall G) (c : ConfigNumbers) (s : Spares) : Type 0 where
-    pub passes : All (engine.IsFreshPass hall.engine c) s.passes.items
+  pub record AreSpares (hall : Hall G) (c : ConfigNumbers) (all : ℕ) (s : Spares) : Type 0 where
+    pub passes : AreFirstPasses hall c all s.passes.items
     pub works : All (queue.IsPlaceOf hall.engine hall.works) s.works.items
     pub rows : All (λ row. ArePlaces hall.engine hall.notices.items row.items) s.rows.items
     pub queues : (1 ≤ c.cqs) × (length hall.notices.items ≡ c.cqs)
     pub some_passes : vec_len s.passes ≡ vec_len s.rows
     pub some_works : vec_len s.works ≡ vec_len s.rows
 
-  -- hands for a fetcher, so many workers, and a host of each completion queue
+  -- Hands for a fetcher, so many workers, and a host of each completion queue. The passes have seen nothing, and are
+  -- numbered from 1: those of the workers, from the last worker on; the fetcher's; and those of the hosts, from the
+  -- first completion queue on.
   pub record AreHandsOf (hall : Hall G) (c : ConfigNumbers) (n : ℕ) (h : Hands) : Type 0 where
     pub fetcher : IsOf hall h.fetcher
-    pub config : config_of h.fetcher.pass ≡ c
+    pub fetches : IsOneOf hall c (n + 1 + c.cqs) h.fetcher.pass × (number h.fetcher.pass ≡ n + 1)
     pub workers : All (IsWorkerOf hall) h.workers.items
     pub count : length h.workers.items ≡ n
-    pub hosts : AreHostsOf hall c h.hosts.items
+    pub each : AreLastWorkers hall c (n + 1 + c.cqs) n h.workers.items
+    pub hosts : AreHostsOf hall c (n + 1 + c.cqs) h.hosts.items
 
 -- what was posted by a task is posted to the completion queue that this submission queue uses
 abbrev pub IsTold : Hand → ℕ → Tried → Type 0

@@ -1,229 +1,162 @@
 //! The threads round one engine.
 
-ghost use Rattle.std.specs.Prelude.{◌+◌, ◌≡◌, ◌≤◌, All, IfOk, Ok, OnOk, vec_len};
+ghost use Rattle.std.specs.List.{AllZip};
+ghost use Rattle.std.specs.Prelude.{[], ◌+◌, ◌++◌, ◌≡◌, ◌≤◌, All, IfErr, IfOk, List, Ok, OnOk, map, reverse, vec_len};
 ghost use Rattle.std.specs.Vec.{vec_capacity};
-ghost use Rattle.hosts.specs.Hands.{Goes, IsOf, IsWorkerOf};
+ghost use Rattle.hosts.specs.Hands.{Goes, IsOf, IsWorkerOf, WorkerGoes};
+ghost use Rattle.hosts.specs.Returning.{GaveBack};
 
-use crate::fetching::fetcher;
 use crate::gate::Gate;
 use crate::hall::{Hall, Hand, Hands, HostHand, WorkerHand};
-use crate::working::worker;
+use crate::joining::{Handles, Returned, join_each};
+use crate::starting::{Fetching, WorkerBack, start_fetcher, start_workers};
 use std::alloc::{AllocError as NoMemory, Global};
-use std::snapshot::Snapshot;
 use std::sync::Wait;
 use std::thread;
-use std::thread::{Promise, PromisedHandle, Scope, Threads};
+use std::thread::{Promise, Scope, Threads};
 
-/// The hand comes back, of the same hall, and its pass has seen no less.
+/// What comes back of a crew, once all its threads have ended.
 #[derive(Drop)]
-struct ComesBack<G> {
-    hall: Snapshot<Hall<G>>,
-    hand: Snapshot<Hand>,
+pub struct Crew<T> {
+    pub fetcher: Hand,
+    /// In the order in which they were given.
+    pub workers: Vec<WorkerHand>,
+    /// What was given by what ran beside it.
+    pub beside: T,
+    /// Ok only where each thread was started, and says Ok.
+    pub ends: Result<(), NoMemory>,
 }
 
-impl<G> Promise<(Hand, Result<(), NoMemory>)> for ComesBack<G> {
-    ghost kept_by = { λ p r. Goes p.hall.value p.hand.value r.0 };
-}
-
-fn fetches<R: Wait, G: Gate>(
-    rt: &R,
-    hall: &Hall<G>,
-    mut hand: Hand,
-    queues: u16,
-) -> (Hand, Result<(), NoMemory>)
-    requires own { IsOf hall.now hand }
-    requires some { 1 ≤ queues }
-    ensures { Goes hall.now hand result.0 }
+// What the fetcher gave back.
+fn fetched<R: Threads, Q: Promise<Returned<Hand>>>(rt: &R, fetching: Fetching<Q>) -> Returned<Hand>
+    ensures runs { IfOk fetching (λ h. Q.kept_by h.promise result) }
+    ensures back { IfErr fetching (λ h. result.0 ≡ h) }
 {
-    let end = fetcher(rt, hall, &mut hand, queues);
-    (hand, end)
-}
-
-fn works<R: Wait, G: Gate>(rt: &R, hall: &Hall<G>, mut own: WorkerHand) -> Result<(), NoMemory>
-    requires { IsWorkerOf hall.now own }
-{
-    worker(rt, hall, &mut own.hand, &mut own.notices)
-}
-
-// What the fetcher's thread gives back.
-type Fetching<G> = PromisedHandle<(Hand, Result<(), NoMemory>), ComesBack<G>>;
-
-// Starts the fetcher.
-fn start_fetcher<'s, E, R: Threads + Wait + Sync, G: Gate + Sync>(
-    rt: &'s R,
-    scope: &Scope<'s, E>,
-    hall: &'s Hall<G>,
-    hand: Hand,
-    queues: u16,
-) -> Result<Fetching<G>, NoMemory>
-    requires own { IsOf hall.now hand }
-    requires some { 1 ≤ queues }
-    ensures comes { IfOk result (λ h. (h.promise.hall.value ≡ hall.now) × (h.promise.hand.value ≡ hand)) }
-{
-    let promise = ComesBack {
-        hall: Snapshot::of(hall),
-        hand: Snapshot::of(&hand),
-    };
-    let child = scope.spawn_with(
-        promise,
-        move || -> (Hand, Result<(), NoMemory>)
-            requires { IsOf hall.now hand × (1 ≤ queues) }
-            ensures { Goes hall.entry.now hand result.0 }
-        { fetches(rt, hall, hand, queues) },
-    )?;
-    Ok(child)
-}
-
-/// The handles of threads that were started, each with what its end promises.
-pub type Handles<P> = Vec<PromisedHandle<Result<(), NoMemory>, P>>;
-
-/// A worker's end promises nothing: whether it says Ok is all that is asked of it.
-#[derive(Clone, Copy)]
-struct AnyEnd;
-
-impl Promise<Result<(), NoMemory>> for AnyEnd {
-    ghost kept_by = { λ _ _. Unit {0} };
-}
-
-// Starts a worker for each hand. At `Err` one couldn't be started, and those before it run.
-fn start_workers<'s, E, R: Threads + Wait + Sync, G: Gate + Sync>(
-    rt: &'s R,
-    scope: &Scope<'s, E>,
-    hall: &'s Hall<G>,
-    mut hands: Vec<WorkerHand>,
-    started: &mut Handles<AnyEnd>,
-) -> Result<(), NoMemory>
-    requires hands { All (IsWorkerOf hall.now) hands.items }
-    requires room { vec_len started.old + vec_len hands ≤ vec_capacity started.old }
-{
-    for _ in 0..hands.len() {
-        let Some(own) = hands.pop() else {
-            return Ok(());
-        };
-        let child = scope.spawn_with(
-            AnyEnd,
-            move || -> Result<(), NoMemory>
-                requires { IsWorkerOf hall.now own }
-            { works(rt, hall, own) },
-        )?;
-        started.push_reserved(child);
+    match fetching {
+        Ok(child) => child.join(rt),
+        Err(hand) => (hand, Err(NoMemory)),
     }
-    Ok(())
 }
 
-/// Joins all. Ok is answered only where each says so, whatever its end promises.
-///
-/// # Errors
-///
-/// `NoMemory` where one of the threads says so.
-pub fn join_each<R: Threads, P: Promise<Result<(), NoMemory>>>(
+// Joins the workers and the fetcher. Ok is answered only where all were started and say so.
+fn ended<R: Threads, P: Promise<Returned<WorkerHand>>, Q: Promise<Returned<Hand>>>(
     rt: &R,
-    mut started: Handles<P>,
-) -> Result<(), NoMemory>
-    ensures each { OnOk result (All (λ h. P.kept_by h.promise (Ok tt)) started.items) }
-{
-    let mut ends = Ok(());
-    for _ in 0..started.len() {
-        let Some(child) = started.pop() else {
-            unreachable!();
-        };
-        ends = ends.and(child.join(rt));
-    }
-    ends
-}
-
-// Joins the workers and the fetcher, behind what ran beside them. Ok is answered only where all say so.
-fn ended<
-    R: Threads,
-    T: Drop,
-    P: Promise<Result<(), NoMemory>>,
-    Q: Promise<(Hand, Result<(), NoMemory>)>,
->(
-    rt: &R,
-    helpers: Handles<P>,
-    fetching: PromisedHandle<(Hand, Result<(), NoMemory>), Q>,
-    given: Result<T, NoMemory>,
-) -> Result<(Hand, T), NoMemory>
-    ensures workers { OnOk result (All (λ h. P.kept_by h.promise (Ok tt)) helpers.items) }
-    ensures fetcher { IfOk result (λ r. Q.kept_by fetching.promise (r.0, Ok tt)) }
-    ensures given { IfOk result (λ r. given ≡ Ok r.1) }
-{
-    let ends = join_each(rt, helpers);
-    let (hand, end) = fetching.join(rt);
-    ends.and(end)?;
-    Ok((hand, given?))
-}
-
-// What runs beside the workers, once they were started.
-fn besides<T, F: FnOnce(Vec<HostHand>) -> Result<T, NoMemory> + Drop>(
     begun: Result<(), NoMemory>,
-    beside: F,
-    hosts: Vec<HostHand>,
-) -> Result<T, NoMemory>
-    requires { F.pre beside hosts }
-    ensures { IfOk result (λ t. F.post beside hosts (Ok t)) }
+    started: Handles<WorkerHand, P>,
+    workers: &mut Vec<WorkerHand>,
+    fetching: Fetching<Q>,
+) -> Returned<Hand>
+    requires room { vec_len workers.old + vec_len started ≤ vec_capacity workers.old }
+    ensures begun { OnOk result.1 (begun ≡ Ok tt) }
+    ensures workers { (back : List WorkerHand) × (workers.new.items ≡ workers.old.items ++ back)
+        × AllZip (GaveBack P.kept_by result.1) (reverse (map (λ h. h.promise) started.items)) back }
+    ensures fetcher { IfOk fetching (λ h. GaveBack Q.kept_by result.1 h.promise result.0) }
+    ensures back { IfErr fetching (λ h. result.0 ≡ h) }
 {
-    begun?;
-    Ok(beside(hosts)?)
+    let ends = join_each(rt, started, workers);
+    let (hand, end) = fetched(rt, fetching);
+    let joined = begun.and(ends);
+    let all = joined.and(end);
+    (hand, all)
 }
 
-// The same; the stop flag is set where it is none.
-fn or_stop<T: Drop, G: Gate>(hall: &Hall<G>, made: Result<T, NoMemory>) -> Result<T, NoMemory>
-    ensures { result ≡ made }
+// The crew, and beside it, in this scope.
+fn in_scope<'s, E, R: Threads + Wait + Sync, G: Gate + Sync, T, F: FnOnce(Vec<HostHand>) -> T>(
+    rt: &'s R,
+    scope: &Scope<'s, E>,
+    hall: &'s Hall<G>,
+    queues: u16,
+    hands: Hands,
+    mut started: Handles<WorkerHand, WorkerBack<G>>,
+    beside: F,
+) -> Crew<T>
+    requires some { 1 ≤ queues }
+    requires crew { IsOf hall.now hands.fetcher × All (IsWorkerOf hall.now) hands.workers.items }
+    requires room { (started.items ≡ []) × (vec_len hands.workers ≤ vec_capacity started) }
+    requires beside { F.pre beside hands.hosts }
+    ensures fetcher { Goes hall.now hands.fetcher result.fetcher }
+    ensures workers { AllZip (WorkerGoes hall.now) hands.workers.items result.workers.items }
+    ensures beside { F.post beside hands.hosts result.beside }
 {
-    if made.is_err() {
-        hall.stop.set();
+    let Hands {
+        fetcher,
+        mut workers,
+        hosts,
+    } = hands;
+    let fetching = start_fetcher(rt, scope, hall, fetcher, queues);
+    let begun = start_workers(rt, scope, hall, &mut workers, &mut started);
+    let beside = beside(hosts);
+    hall.stop.set();
+    let (fetcher, ends) = ended(rt, begun, started, &mut workers, fetching);
+    Crew {
+        fetcher,
+        workers,
+        beside,
+        ends,
     }
-    made
+}
+
+// What comes back where there is no room for the handles of threads.
+#[tactic(auto, using(crate::proofs::Going::goes_same, crate::proofs::Crews::workers_same))]
+fn without_threads<G: Gate, T, F: FnOnce(Vec<HostHand>) -> T>(
+    hall: &Hall<G>,
+    hands: Hands,
+    beside: F,
+) -> Crew<T>
+    requires crew { IsOf hall.now hands.fetcher × All (IsWorkerOf hall.now) hands.workers.items }
+    requires beside { F.pre beside hands.hosts }
+    ensures fetcher { Goes hall.now hands.fetcher result.fetcher }
+    ensures workers { AllZip (WorkerGoes hall.now) hands.workers.items result.workers.items }
+    ensures beside { F.post beside hands.hosts result.beside }
+{
+    hall.stop.set();
+    let Hands {
+        fetcher,
+        workers,
+        hosts,
+    } = hands;
+    Crew {
+        fetcher,
+        workers,
+        beside: beside(hosts),
+        ends: Err(NoMemory),
+    }
 }
 
 /// A fetcher of the submission queues from 1 to `queues`, and the workers, each on a thread of its own, while `beside`
 /// runs on this one with the hands of the hosts. When that has ended the stop flag is set, and all threads are joined.
-/// Where each of them and `beside` says Ok, the fetcher's hand comes back, and what `beside` gave.
+/// The hands of fetcher and workers come back, however their loops ended, and what `beside` gave.
 ///
-/// # Errors
-///
-/// `NoMemory` where a growth is refused, a thread couldn't be started, or `beside` says so. The stop flag is set then.
-pub fn run_crew<
-    R: Threads + Wait + Sync,
-    G: Gate + Sync,
-    T: Drop,
-    F: FnOnce(Vec<HostHand>) -> Result<T, NoMemory> + Drop,
->(
+/// Where a growth is refused or a thread couldn't be started the stop flag is set, and `ends` is `Err`.
+pub fn run_crew<R: Threads + Wait + Sync, G: Gate + Sync, T, F: FnOnce(Vec<HostHand>) -> T>(
     rt: &R,
     alloc: Global,
     hall: &Hall<G>,
     queues: u16,
     hands: Hands,
     beside: F,
-) -> Result<(Hand, T), NoMemory>
+) -> Crew<T>
     requires some { 1 ≤ queues }
     requires crew { IsOf hall.now hands.fetcher × All (IsWorkerOf hall.now) hands.workers.items }
     requires beside { F.pre beside hands.hosts }
-    ensures goes { IfOk result (λ r. Goes hall.now hands.fetcher r.0) }
-    ensures beside { IfOk result (λ r. F.post beside hands.hosts (Ok r.1)) }
+    ensures fetcher { Goes hall.now hands.fetcher result.fetcher }
+    ensures workers { AllZip (WorkerGoes hall.now) hands.workers.items result.workers.items }
+    ensures beside { F.post beside hands.hosts result.beside }
 {
-    let Hands {
-        fetcher,
-        workers,
-        hosts,
-    } = hands;
-    let mut helpers: Handles<AnyEnd> = or_stop(hall, Vec::with_capacity(alloc, workers.len()))?;
+    let Ok(started) = Vec::with_capacity(alloc, hands.workers.len()) else {
+        return without_threads(hall, hands, beside);
+    };
     thread::scope(
         thread::scope_env(),
         rt,
-        |scope| -> Result<(Hand, T), NoMemory>
+        |scope| -> Crew<T>
             requires some { 1 ≤ queues }
-            requires crew { IsOf hall.now fetcher × All (IsWorkerOf hall.now) workers.items }
-            requires room { vec_len helpers + vec_len workers ≤ vec_capacity helpers }
-            requires beside { F.pre beside hosts }
-            ensures { IfOk result (λ r. Goes hall.entry.now fetcher r.0 × F.post beside hosts (Ok r.1)) }
-        {
-            let fetching = or_stop(hall, start_fetcher(rt, scope, hall, fetcher, queues))?;
-            let begun = start_workers(rt, scope, hall, workers, &mut helpers);
-            let given = besides(begun, beside, hosts);
-            hall.stop.set();
-            ended(rt, helpers, fetching, given)
-        },
+            requires crew { IsOf hall.now hands.fetcher × All (IsWorkerOf hall.now) hands.workers.items }
+            requires room { (started.items ≡ []) × (vec_len hands.workers ≤ vec_capacity started) }
+            requires beside { F.pre beside hands.hosts }
+            ensures fetcher { Goes hall.entry.now hands.fetcher result.fetcher }
+            ensures workers { AllZip (WorkerGoes hall.entry.now) hands.workers.items result.workers.items }
+            ensures beside { F.post beside hands.hosts result.beside }
+        { in_scope(rt, scope, hall, queues, hands, started, beside) },
     )
 }

@@ -2,12 +2,12 @@
 
 ghost use Rattle.std.specs.Prelude.{◌≡◌, ◌<◌, ◌≤◌, ◌+◌, ◌-◌, All, IfOk, IfSome, MatchOption, length, vec_len};
 ghost use Rattle.std.specs.Vec.{vec_capacity};
-ghost use Rattle.work_queue.specs.Engines.{IsFreshPass};
 ghost use Rattle.work_queue.specs.QueuePasses as queue;
 ghost use Rattle.hosts.specs.Capacities.{HasCapacities};
-ghost use Rattle.hosts.specs.Hands.{AreFirstPlaces, AreHandsOf, AreHostsOf, AreLastHosts, ArePlaces, AreSpares};
-ghost use Rattle.meet_lock.specs.Passes.{config_of};
-ghost use Rattle.hosts.specs.Hands.{IsHostOf, IsOf, IsPlaceAt, IsWorkerOf};
+ghost use Rattle.hosts.specs.Hands.{AreFirstPasses, AreFirstPlaces, AreHandsOf, AreHostsOf, AreLastHosts};
+ghost use Rattle.hosts.specs.Hands.{AreLastWorkers, ArePlaces, AreSpares, IsHostOf, IsLastPass, IsOf, IsOneOf};
+ghost use Rattle.hosts.specs.Hands.{IsPlaceAt, IsWorkerOf};
+ghost use Rattle.meet_lock.specs.Passes.{number};
 
 use crate::hall::{Hall, Hand, Hands, HostHand, WorkerHand};
 use crate::rows::{Row, notice_queues};
@@ -21,6 +21,22 @@ use work_queue::{Engine, MessageQueue, Notice, QueuePass, Work};
 /// How many Works wait for a worker at most.
 const WORKS: usize = 16;
 
+// The last of these passes of the engine, of which there are so many.
+#[tactic(auto, using(crate::proofs::Halls::pass_last, crate::proofs::Halls::passes_rest))]
+fn last_pass<G>(
+    _hall: &Hall<G>,
+    _config: &Config,
+    _all: usize,
+    passes: &mut Vec<Pass<Core>>,
+) -> Option<Pass<Core>>
+    requires { AreFirstPasses _hall.now _config.now _all passes.old.items }
+    ensures rest { AreFirstPasses _hall.now _config.now _all passes.new.items }
+    ensures last { IfSome result (λ p. IsOneOf _hall.now _config.now _all p × (number p ≡ vec_len passes.new + 1)) }
+    ensures count { MatchOption result (vec_len passes.old ≡ 0) (λ _. vec_len passes.new + 1 ≡ vec_len passes.old) }
+{
+    passes.pop()
+}
+
 // The last of these passes, which are of the first queues of notices.
 #[tactic(auto, using(crate::proofs::Halls::place_last, crate::proofs::Halls::places_rest))]
 fn last_place<G>(_hall: &Hall<G>, places: &mut Row) -> Option<QueuePass<Notice>>
@@ -33,13 +49,19 @@ fn last_place<G>(_hall: &Hall<G>, places: &mut Row) -> Option<QueuePass<Notice>>
 }
 
 // One host more, behind those of the completion queues after its own.
-#[tactic(auto, using(crate::proofs::Halls::hosts_more))]
-fn put_host<G>(_hall: &Hall<G>, _config: &Config, hosts: &mut Vec<HostHand>, host: HostHand)
-    requires hosts { AreLastHosts _hall.now _config.now hosts.old.items }
+fn put_host<G>(
+    _hall: &Hall<G>,
+    _config: &Config,
+    _all: usize,
+    hosts: &mut Vec<HostHand>,
+    host: HostHand,
+)
+    requires hosts { AreLastHosts _hall.now _config.now _all hosts.old.items }
     requires host { IsHostOf _hall.now _config.now host }
+    requires pass { IsLastPass _config.now _all host }
     requires place { host.queue + vec_len hosts.old ≡ _config.now.cqs }
     requires room { vec_len hosts.old < vec_capacity hosts.old }
-    ensures hosts { AreLastHosts _hall.now _config.now hosts.new.items }
+    ensures hosts { AreLastHosts _hall.now _config.now _all hosts.new.items }
     ensures len { vec_len hosts.new ≡ vec_len hosts.old + 1 }
     ensures capacity { vec_capacity hosts.new ≡ vec_capacity hosts.old }
 {
@@ -49,22 +71,25 @@ fn put_host<G>(_hall: &Hall<G>, _config: &Config, hosts: &mut Vec<HostHand>, hos
 // The host of this completion queue, with the last pass of each kind; None where none is left.
 fn next_host<G>(
     hall: &Hall<G>,
-    _config: &Config,
+    config: &Config,
+    all: usize,
     passes: &mut Vec<Pass<Core>>,
     places: &mut Row,
     queue: u16,
 ) -> Option<HostHand>
-    requires passes { All (IsFreshPass hall.now.engine _config.now) passes.old.items }
+    requires passes { AreFirstPasses hall.now config.now all passes.old.items }
+    requires number { vec_len passes.old + config.now.cqs ≡ all + queue }
     requires places { AreFirstPlaces hall.now places.old.items }
-    requires queue { (vec_len places.old ≡ queue) × (1 ≤ queue) × (queue ≤ _config.now.cqs) }
-    requires queues { length hall.now.notices.items ≡ _config.now.cqs }
-    ensures passes { All (IsFreshPass hall.now.engine _config.now) passes.new.items }
+    requires queue { (vec_len places.old ≡ queue) × (1 ≤ queue) × (queue ≤ config.now.cqs) }
+    requires queues { length hall.now.notices.items ≡ config.now.cqs }
+    ensures passes { AreFirstPasses hall.now config.now all passes.new.items }
     ensures places { AreFirstPlaces hall.now places.new.items }
-    ensures host { IfSome result (λ h. IsHostOf hall.now _config.now h × (h.queue ≡ queue)) }
+    ensures host { IfSome result (λ h. IsHostOf hall.now config.now h × (h.queue ≡ queue)) }
+    ensures pass { IfSome result (IsLastPass config.now all) }
     ensures count { MatchOption result (vec_len passes.old ≡ 0) (λ _. (vec_len passes.new + 1 ≡ vec_len passes.old)
         × (vec_len places.new + 1 ≡ vec_len places.old)) }
 {
-    let pass = passes.pop()?;
+    let pass = last_pass(hall, config, all, passes)?;
     let Some(notices) = last_place(hall, places) else {
         unreachable!();
     };
@@ -84,21 +109,22 @@ fn hosts_of<G>(
     passes: &mut Vec<Pass<Core>>,
     mut places: Row,
 ) -> Result<Vec<HostHand>, NoMemory>
-    requires passes { All (IsFreshPass hall.now.engine config.now) passes.old.items }
+    requires passes { AreFirstPasses hall.now config.now (vec_len passes.old) passes.old.items }
     requires places { ArePlaces hall.now.engine hall.now.notices.items places.items }
     requires queues { length hall.now.notices.items ≡ config.now.cqs }
     requires room { config.now.cqs ≤ vec_len passes.old }
-    ensures hosts { IfOk result (λ h. AreHostsOf hall.now config.now h.items) }
-    ensures passes { All (IsFreshPass hall.now.engine config.now) passes.new.items }
+    ensures hosts { IfOk result (λ h. AreHostsOf hall.now config.now (vec_len passes.old) h.items) }
+    ensures passes { AreFirstPasses hall.now config.now (vec_len passes.old) passes.new.items }
     ensures rest { IfOk result (λ _. vec_len passes.new + config.now.cqs ≡ vec_len passes.old) }
 {
     let count = config.numbers().cqs;
+    let all = passes.len();
     let mut hosts = Vec::with_capacity(alloc, usize::from(count))?;
     for k in 0..count {
-        let Some(host) = next_host(hall, config, passes, &mut places, count - k) else {
+        let Some(host) = next_host(hall, config, all, passes, &mut places, count - k) else {
             unreachable!();
         };
-        put_host(hall, config, &mut hosts, host);
+        put_host(hall, config, all, &mut hosts, host);
     }
     Ok(hosts)
 }
@@ -112,15 +138,25 @@ struct Spares {
 }
 
 // What one worker is to own; None where nothing is left.
-fn take_worker<G>(_hall: &Hall<G>, _config: &Config, spares: &mut Spares) -> Option<WorkerHand>
-    requires { AreSpares _hall.now _config.now spares.old }
-    ensures rest { AreSpares _hall.now _config.now spares.new }
-    ensures worker { IfSome result (IsWorkerOf _hall.now) }
+fn take_worker<G>(
+    hall: &Hall<G>,
+    config: &Config,
+    all: usize,
+    spares: &mut Spares,
+) -> Option<WorkerHand>
+    requires { AreSpares hall.now config.now all spares.old }
+    ensures rest { AreSpares hall.now config.now all spares.new }
+    ensures worker { IfSome result (IsWorkerOf hall.now) }
+    ensures pass { IfSome result (λ w. IsOneOf hall.now config.now all w.hand.pass
+        × (number w.hand.pass ≡ vec_len spares.new.rows + 1)) }
     ensures count { MatchOption result (vec_len spares.old.rows ≡ 0) (λ _. vec_len spares.new.rows + 1
         ≡ vec_len spares.old.rows) }
 {
     let notices = spares.rows.pop()?;
-    let (Some(pass), Some(works)) = (spares.passes.pop(), spares.works.pop()) else {
+    let (Some(pass), Some(works)) = (
+        last_pass(hall, config, all, &mut spares.passes),
+        spares.works.pop(),
+    ) else {
         unreachable!();
     };
     Some(WorkerHand {
@@ -129,52 +165,78 @@ fn take_worker<G>(_hall: &Hall<G>, _config: &Config, spares: &mut Spares) -> Opt
     })
 }
 
+// One worker more, behind those with the passes after its own.
+fn put_worker<G>(
+    _hall: &Hall<G>,
+    _config: &Config,
+    _all: usize,
+    _count: usize,
+    workers: &mut Vec<WorkerHand>,
+    worker: WorkerHand,
+)
+    requires workers { AreLastWorkers _hall.now _config.now _all _count workers.old.items }
+    requires worker { IsWorkerOf _hall.now worker }
+    requires pass { IsOneOf _hall.now _config.now _all worker.hand.pass }
+    requires number { number worker.hand.pass + vec_len workers.old ≡ _count }
+    requires room { vec_len workers.old < vec_capacity workers.old }
+    ensures workers { AreLastWorkers _hall.now _config.now _all _count workers.new.items }
+    ensures len { vec_len workers.new ≡ vec_len workers.old + 1 }
+    ensures capacity { vec_capacity workers.new ≡ vec_capacity workers.old }
+{
+    workers.push_reserved(worker);
+}
+
 // A worker for each row.
 fn workers_of<G>(
     alloc: Global,
     hall: &Hall<G>,
     config: &Config,
+    all: usize,
     mut spares: Spares,
 ) -> Result<Vec<WorkerHand>, NoMemory>
-    requires { AreSpares hall.now config.now spares }
+    requires { AreSpares hall.now config.now all spares }
     ensures workers { IfOk result (λ w. All (IsWorkerOf hall.now) w.items) }
+    ensures each { IfOk result (λ w. AreLastWorkers hall.now config.now all (vec_len spares.rows) w.items) }
     ensures count { IfOk result (λ w. vec_len w ≡ vec_len spares.rows) }
 {
     let count = spares.rows.len();
     let mut workers = Vec::with_capacity(alloc, count)?;
     for _ in 0..count {
-        let Some(worker) = take_worker(hall, config, &mut spares) else {
+        let Some(worker) = take_worker(hall, config, all, &mut spares) else {
             unreachable!();
         };
-        workers.push_reserved(worker);
+        put_worker(hall, config, all, count, &mut workers, worker);
     }
     Ok(workers)
 }
 
 // What the fetcher is to own, the last of each kind.
 fn take_fetcher<G>(
-    _hall: &Hall<G>,
-    _config: &Config,
+    hall: &Hall<G>,
+    config: &Config,
+    all: usize,
     passes: &mut Vec<Pass<Core>>,
     works: &mut Vec<QueuePass<Work>>,
 ) -> Option<Hand>
-    requires passes { All (IsFreshPass _hall.now.engine _config.now) passes.old.items }
-    requires works { All (queue.IsPlaceOf _hall.now.engine _hall.now.works) works.old.items }
+    requires passes { AreFirstPasses hall.now config.now all passes.old.items }
+    requires works { All (queue.IsPlaceOf hall.now.engine hall.now.works) works.old.items }
     requires count { vec_len passes.old ≡ vec_len works.old }
-    ensures passes { All (IsFreshPass _hall.now.engine _config.now) passes.new.items }
-    ensures works { All (queue.IsPlaceOf _hall.now.engine _hall.now.works) works.new.items }
-    ensures hand { IfSome result (λ h. IsOf _hall.now h × (config_of h.pass ≡ _config.now)) }
+    ensures passes { AreFirstPasses hall.now config.now all passes.new.items }
+    ensures works { All (queue.IsPlaceOf hall.now.engine hall.now.works) works.new.items }
+    ensures hand { IfSome result (IsOf hall.now) }
+    ensures pass { IfSome result (λ h. IsOneOf hall.now config.now all h.pass × (number h.pass ≡ vec_len passes.old)) }
     ensures count { MatchOption result (vec_len works.old ≡ 0) (λ _. (vec_len works.new + 1 ≡ vec_len works.old)
         × (vec_len passes.new ≡ vec_len works.new)) }
 {
     let works = works.pop()?;
-    let Some(pass) = passes.pop() else {
+    let Some(pass) = last_pass(hall, config, all, passes) else {
         unreachable!();
     };
     Some(Hand { pass, works })
 }
 
 // Hands for a fetcher, a worker for each row but the last, and hosts.
+#[tactic(auto, using(crate::proofs::Halls::hands_are))]
 fn hands_of<G>(
     alloc: Global,
     hall: &Hall<G>,
@@ -183,7 +245,7 @@ fn hands_of<G>(
     mut works: Vec<QueuePass<Work>>,
     mut rows: Vec<Row>,
 ) -> Result<Hands, NoMemory>
-    requires passes { All (IsFreshPass hall.now.engine config.now) passes.items }
+    requires passes { AreFirstPasses hall.now config.now (vec_len passes) passes.items }
     requires works { All (queue.IsPlaceOf hall.now.engine hall.now.works) works.items }
     requires rows { All (λ row. ArePlaces hall.now.engine hall.now.notices.items row.items) rows.items }
     requires queues { (1 ≤ config.now.cqs) × (length hall.now.notices.items ≡ config.now.cqs) }
@@ -194,8 +256,9 @@ fn hands_of<G>(
     let Some(row) = rows.pop() else {
         unreachable!();
     };
+    let all = passes.len();
     let hosts = hosts_of(alloc, hall, config, &mut passes, row)?;
-    let Some(fetcher) = take_fetcher(hall, config, &mut passes, &mut works) else {
+    let Some(fetcher) = take_fetcher(hall, config, all, &mut passes, &mut works) else {
         unreachable!();
     };
     let spares = Spares {
@@ -203,7 +266,7 @@ fn hands_of<G>(
         works,
         rows,
     };
-    let workers = workers_of(alloc, hall, config, spares)?;
+    let workers = workers_of(alloc, hall, config, all, spares)?;
     Ok(Hands {
         fetcher,
         workers,

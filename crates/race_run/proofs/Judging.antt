@@ -4,10 +4,13 @@ use Rattle.std.proofs.lemmas.List.{reverse-reverse}
 use Rattle.std.specs.Io.KnownBytes.{Appends}
 use Rattle.nvme_model.specs.FirstBad.{IsFirstBad}
 use Rattle.nvme_model.specs.Legal.{IsLegalFile}
+use Rattle.nvme_model.specs.declared.array.Range.{Range}
 use Rattle.nvme_model.specs.declared.config.ConfigNumbers.{ConfigNumbers}
 use Rattle.nvme_model.specs.declared.entry.Entry.{Entry}
 use Rattle.nvme_model.proofs.FirstBad.{first_is_some, legal_is_none}
 use Rattle.race_run.specs.Races.{Races}
+use Rattle.closing_laws.specs.Closing.{KeepsSlots}
+use Rattle.race_run.specs.Slots.{PrintsSlots}
 use Rattle.race_run.specs.Texts.{history_text}
 use Rattle.race_run.specs.declared.fault.RaceFault.{RaceFault}
 use Rattle.race_run.specs.declared.fault.RaceFault.TheVariants.{NoMemory}
@@ -24,3 +27,14 @@ unjudged c entries f old new legal written is =
     ap (history_text c) (reverse-reverse entries) ∙ sym (append-nil (history_text c entries)) in
     subst (λ (x : RaceFault). Races c (Err x) old new) (sym is)
     (reverse entries, legal, record { front = history_text c entries; rest = []; whole = same; written = written })
+
+-- what was written whole keeps its slots
+pub kept_slots : (c : ConfigNumbers) (slots : Range) (entries : List Entry) (old new : Option (List ℕ))
+    → IsLegalFile c entries → KeepsSlots c slots (reverse entries) → Appends old new (history_text c entries)
+    → PrintsSlots c slots old new
+kept_slots c slots entries old new legal keeps written = (
+  reverse entries,
+  legal,
+  keeps,
+  subst (λ l. Appends old new (history_text c l)) (sym (reverse-reverse entries)) written,
+)

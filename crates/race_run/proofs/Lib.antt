@@ -1,2 +1,4 @@
 pub mod LinesOut
 pub mod Judging
+pub mod Ended
+pub mod Returned

@@ -1,6 +1,7 @@
 //! Runs a race of hosts for slots on threads, and prints its history.
 #![tactic(auto)]
 
+mod closing;
 mod fault;
 mod printing;
 mod racing;

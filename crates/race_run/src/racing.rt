@@ -1,14 +1,21 @@
 //! The threads of a race.
 
-ghost use Rattle.std.specs.Prelude.{◌≡◌, ◌≤◌, All, IfErr, IfOk};
-ghost use Rattle.hosts.specs.Hands.{Goes, IsHostOf, IsOf, IsWorkerOf};
+ghost use Rattle.std.specs.List.{AllZip};
+ghost use Rattle.std.specs.Prelude.{◌+◌, ◌≡◌, ◌≤◌, All, IfErr, IfOk, OnOk, vec_len};
+ghost use Rattle.meet_lock.specs.Passes.{number};
+ghost use Rattle.hosts.specs.Hands.{AreHandsOf, IsHostOf};
 ghost use Rattle.host_rounds.specs.Hosts.{IsSlotArea};
+ghost use Rattle.host_rounds.specs.Playing.{HasPlayed, HostGoes};
 ghost use Rattle.race_numbers.specs.Races.{config_of};
+ghost use Rattle.race_run.specs.Ended.{EndDown, HasEnded};
 ghost use Rattle.race_run.specs.Faults.{IsEarly};
+ghost use Rattle.closing_laws.specs.Closing.{KeepsSlots};
+ghost use Rattle.race_run.specs.Slots.{slots_of};
 
+use crate::closing::{closed, room_for};
 use crate::fault::RaceFault;
 use host_rounds::{Play, run_hosts};
-use hosts::{Hall, Hand, Hands, HostHand, OpenGate, hall_of, run_crew};
+use hosts::{Crew, Hall, Hands, HostHand, OpenGate, Returned, hall_of, run_crew};
 use nvme_model::array::Range;
 use race_numbers::Race;
 use std::alloc::{AllocError as NoMemory, Global};
@@ -16,7 +23,9 @@ use std::sync::Wait;
 use std::thread::Threads;
 use step_core::Core;
 
-// The crew, and beside it the hosts, until these have ended.
+// The crew, and beside it the hosts, until these have ended. All hands come back, in the order in which they were
+// given.
+#[tactic(auto, using(crate::proofs::Ended::fetcher, crate::proofs::Ended::workers, crate::proofs::Ended::hosts))]
 fn all_threads<R: Threads + Wait + Sync>(
     rt: &R,
     alloc: Global,
@@ -24,27 +33,48 @@ fn all_threads<R: Threads + Wait + Sync>(
     play: &Play,
     queues: u16,
     hands: Hands,
-) -> Result<Hand, NoMemory>
-    requires crew { IsOf hall.now hands.fetcher × All (IsWorkerOf hall.now) hands.workers.items }
-    requires hosts { All (IsHostOf hall.now play.now.config) hands.hosts.items }
+    _workers: u16,
+) -> Result<Hands, NoMemory>
+    requires hands { AreHandsOf hall.now play.now.config _workers hands }
     requires slots { IsSlotArea play.now.slots }
     requires queues { 1 ≤ queues }
-    ensures goes { IfOk result (Goes hall.now hands.fetcher) }
+    ensures workers { IfOk result (λ h. EndDown (λ w. w.hand.pass) hall.now.engine play.now.config play.now.slots
+        (_workers + 1) _workers h.workers.items) }
+    ensures fetcher { IfOk result (λ h. (number h.fetcher.pass ≡ _workers + 1)
+        × HasEnded hall.now.engine play.now.config play.now.slots (_workers + 1) h.fetcher.pass) }
+    ensures hosts { IfOk result (λ h. EndDown (λ g. g.pass) hall.now.engine play.now.config play.now.slots
+        (_workers + 1) (_workers + 1 + play.now.config.cqs) h.hosts.items) }
+    ensures counts { IfOk result (λ h. (vec_len h.workers ≡ _workers) × (vec_len h.hosts ≡ play.now.config.cqs)) }
 {
-    let (hand, ()) = run_crew(
+    let Crew {
+        fetcher,
+        workers,
+        beside,
+        ends,
+    } = run_crew(
         rt,
         alloc,
         hall,
         queues,
         hands,
-        |hosts: Vec<HostHand>| -> Result<(), NoMemory>
+        |hosts: Vec<HostHand>| -> Returned<Vec<HostHand>>
             requires { All (IsHostOf hall.now play.now.config) hosts.items × IsSlotArea play.now.slots }
+            ensures back { AllZip (HostGoes hall.entry.now) hosts.items result.0.items }
+            ensures played { OnOk result.1
+                (AllZip (HasPlayed hall.entry.now play.entry.now) hosts.items result.0.items) }
         { run_hosts(rt, alloc, hall, play, hosts) },
-    )?;
-    Ok(hand)
+    );
+    let (hosts, played) = beside;
+    ends?;
+    played?;
+    Ok(Hands {
+        fetcher,
+        workers,
+        hosts,
+    })
 }
 
-/// The controller after a race.
+/// The controller after a race: its history keeps the slots.
 ///
 /// # Errors
 ///
@@ -56,6 +86,7 @@ pub(crate) fn raced<R: Threads + Wait + Sync>(
     race: &Race,
 ) -> Result<Core, RaceFault>
     ensures config { IfOk result (λ core. core.config ≡ config_of race.now) }
+    ensures slots { IfOk result (λ core. KeepsSlots (config_of race.now) (slots_of race.now) core.past) }
     ensures early { IfErr result IsEarly }
 {
     let config = race.config();
@@ -69,8 +100,8 @@ pub(crate) fn raced<R: Threads + Wait + Sync>(
         slots,
         rounds: race.rounds,
     };
+    let room = room_for(alloc, &play, race.workers)?;
     let queues = config.numbers().pairs;
-    let hand = all_threads(rt, alloc, &hall, &play, queues, hands)?;
-    let Hall { engine, .. } = hall;
-    engine.close(hand.pass).ok_or(RaceFault::NoHistory)
+    let hands = all_threads(rt, alloc, &hall, &play, queues, hands, race.workers)?;
+    closed(hall, &play, hands, room).ok_or(RaceFault::NoHistory)
 }

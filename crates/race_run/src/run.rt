@@ -1,10 +1,12 @@
 //! A race, its text, and its check.
 
-ghost use Rattle.std.specs.Prelude.{◌≡◌, All, IfErr, OnOk};
+ghost use Rattle.std.specs.Prelude.{◌≡◌, All, IfErr, OnOk, reverse};
 ghost use Rattle.history.specs.Lines.{HasLine};
 ghost use Rattle.nvme_model.specs.Legal.{IsLegalFile};
 ghost use Rattle.race_numbers.specs.Races.{config_of};
 ghost use Rattle.race_run.specs.Races.{Races, Tells};
+ghost use Rattle.closing_laws.specs.Closing.{KeepsSlots};
+ghost use Rattle.race_run.specs.Slots.{PrintsSlots, slots_of};
 ghost use Rattle.race_run.specs.declared.fault.RaceFault.{RaceFault};
 
 use crate::fault::RaceFault;
@@ -12,6 +14,7 @@ use crate::printing::{PrintFault, print_history};
 use crate::racing::raced;
 use history::{Config, Entry};
 use history_check::{CheckFault, check};
+use nvme_model::array::Range;
 use race_numbers::Race;
 use std::alloc::Global;
 use std::io::Write;
@@ -47,16 +50,19 @@ fn judge(alloc: Global, config: &Config, entries: &[Entry]) -> Result<(), RaceFa
     }
 }
 
-// Writes and checks a history.
-#[tactic(auto, using(crate::proofs::Judging::unjudged))]
+// Writes and checks a history, which keeps these slots.
+#[tactic(auto, using(crate::proofs::Judging::unjudged, crate::proofs::Judging::kept_slots))]
 fn finish<W: Write>(
     alloc: Global,
     config: &Config,
+    _slots: &Range,
     entries: &[Entry],
     writer: &mut W,
 ) -> Result<(), RaceFault>
     requires legal { IsLegalFile config.now entries.now }
+    requires slots { KeepsSlots config.now _slots.now (reverse entries.now) }
     ensures races { Races config.now result (W.contents writer.old) (W.contents writer.new) }
+    ensures slots { OnOk result (PrintsSlots config.now _slots.now (W.contents writer.old) (W.contents writer.new)) }
 {
     tell(alloc, config, entries, writer)?;
     judge(alloc, config, entries)?;
@@ -64,7 +70,8 @@ fn finish<W: Write>(
 }
 
 /// Lets hosts race for slots on threads, and writes the configuration line and the controller's whole history; then
-/// checks the history.
+/// checks the history. What was written keeps the discipline of the slots: nowhere in it has a slot two believed names,
+/// and each believed name is its holder.
 ///
 /// # Errors
 ///
@@ -78,8 +85,14 @@ pub fn run_race<R: Threads + Wait + Sync, W: Write>(
     writer: &mut W,
 ) -> Result<(), RaceFault>
     ensures races { Races (config_of race.now) result (W.contents writer.old) (W.contents writer.new) }
+    ensures slots { OnOk result
+        (PrintsSlots (config_of race.now) (slots_of race.now) (W.contents writer.old) (W.contents writer.new)) }
 {
     let core = raced(rt, alloc, race)?;
     let config = core.config();
-    finish(alloc, &config, core.history().as_slice(), writer)
+    let slots = Range {
+        slba: 0,
+        blocks: race.slots,
+    };
+    finish(alloc, &config, &slots, core.history().as_slice(), writer)
 }

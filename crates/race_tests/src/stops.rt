@@ -7,7 +7,7 @@ ghost use Rattle.host_rounds.specs.Hosts.{IsSlotArea};
 use history::Config;
 use history_check::check;
 use host_rounds::{Play, run_hosts};
-use hosts::{Gate, Hall, Hand, Hands, HostHand, Point, hall_of, run_crew};
+use hosts::{Crew, Gate, Hall, Hand, Hands, HostHand, Point, hall_of, run_crew};
 use nvme_model::array::Range;
 use std::alloc::{AllocError as NoMemory, Global};
 use std::sync::Wait;
@@ -58,7 +58,7 @@ fn hosts_to_the_end<R: Threads + Wait + Sync>(
     requires hands { All (IsHostOf hall.now play.now.config) hands.items }
     requires slots { IsSlotArea play.now.slots }
 {
-    let ended = run_hosts(rt, alloc, hall, play, hands);
+    let (_, ended) = run_hosts(rt, alloc, hall, play, hands);
     hall.stop.set();
     ended
 }
@@ -97,7 +97,12 @@ fn all<R: Threads + Wait + Sync>(
     requires slots { IsSlotArea play.now.slots }
     ensures { IfOk result (IsOf hall.now) }
 {
-    let (hand, ()) = run_crew(
+    let Crew {
+        fetcher,
+        beside,
+        ends,
+        ..
+    } = run_crew(
         rt,
         alloc,
         hall,
@@ -106,8 +111,10 @@ fn all<R: Threads + Wait + Sync>(
         |hosts: Vec<HostHand>| -> Result<(), NoMemory>
             requires { All (IsHostOf hall.now play.now.config) hosts.items × IsSlotArea play.now.slots }
         { guests(rt, alloc, hall, play, hosts) },
-    )?;
-    Ok(hand)
+    );
+    ends?;
+    beside?;
+    Ok(fetcher)
 }
 
 // The controller of a race that is stopped.

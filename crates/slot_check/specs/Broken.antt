@@ -34,8 +34,7 @@ release_broken c past earlier (s ∷ later) =
     first_of (release_wrong c past earlier s) (release_broken c past (earlier ++ s ∷ []) later)
 
 -- The rule that a Publish breaks first: a Write in the area is no part of a claim or release; a name was claimed
--- before;
--- a release is wrong.
+-- before; a release is wrong.
 abbrev pub publish_broken : ConfigNumbers → Range → Past → PublishLine → Option BrokenDiscipline
 publish_broken c slots past p =
     let j = length (published_entries past p.queue) in

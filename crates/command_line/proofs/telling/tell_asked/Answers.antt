@@ -14,5 +14,5 @@ returns-in-Some-clause-asks c = (
 pub returns-in-None-clause-refuses : goal.returns-in-None-clause-refuses
 returns-in-None-clause-refuses c =
     refused_by (codes "tell") (rows_of (found_of c.args.matches.now)) c.text_of.result
-    (inr (inr (inr (inl
-    (refl, sym (c.in-None.ensures ∙ first_value-rows (found_of c.args.matches.now) (codes "FILE")))))))
+    (inr (inr (inr (inr (inl
+    (refl, sym (c.in-None.ensures ∙ first_value-rows (found_of c.args.matches.now) (codes "FILE"))))))))

@@ -1,5 +1,4 @@
 use Rattle.std.proofs.Common.{Global, Vec}
-use Rattle.work_queue.specs.Engines.{IsFreshPass}
 use Rattle.work_queue.specs.QueuePasses as queue
 use Rattle.work_queue.specs.declared.notice.Notice.{Notice}
 use Rattle.work_queue.specs.declared.queue.QueuePass.{QueuePass}
@@ -9,9 +8,9 @@ use Rattle.hosts.proofs.opening.take_worker.Goals as goal
 
 pub returns-clause-worker : goal.returns-clause-worker
 returns-clause-worker g c =
-    let hall = c.args._hall.now in
-    worker_is hall c.args._config.now _ _ _
-    (all_last (IsFreshPass hall.engine c.args._config.now) _ _ _ c.requires.passes c.in-Some-Some.ensures.items)
+    let hall = c.args.hall.now in
+    worker_is hall c.args.config.now _ _ _
+    c.in-Some-Some.ensures.last.0.0
     (all_last (queue.IsPlaceOf hall.engine hall.works) _ _ _ c.requires.works c.in-Some-Some.ensures'.items)
     c.requires.queues.0
     c.requires.queues.1

@@ -1,11 +1,11 @@
-use Rattle.std.proofs.Common.{All, vec_len, ◌≡◌, ◌≤◌, ◌+◌}
+use Rattle.std.proofs.Common.{vec_len, ◌≡◌, ◌≤◌, ◌+◌}
 use Rattle.std.specs.Vec.{vec_capacity}
-use Rattle.hosts.specs.Hands.{AreSpares, IsWorkerOf}
+use Rattle.hosts.specs.Hands.{AreLastWorkers, AreSpares}
 use Rattle.hosts.proofs.opening.workers_of.Given as goal
 
 abbrev pub invariant-loop : goal.invariant-loop
 invariant-loop g l =
-    AreSpares l.hall l.config l.spares
-    × All (IsWorkerOf l.hall) l.workers.items
+    AreSpares l.hall l.config l.all l.spares
+    × AreLastWorkers l.hall l.config l.all l.count l.workers.items
     × (vec_len l.spares.rows + l.counter ≡ l.count) × (vec_len l.workers ≡ l.counter)
     × (l.count ≤ vec_capacity l.workers)

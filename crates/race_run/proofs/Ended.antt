@@ -1,0 +1,169 @@
+-- What came back of the threads of a race.
+use Rattle.std.proofs.Common.{IfSome, List, None, Option, Some, [], ap, arith, length, refl, slice_get, subst, suc, sym}
+use Rattle.std.proofs.Common.{zero, ℕ, ◌+◌, ◌-◌}
+use Rattle.std.specs.Option.{option_to_list}
+use Rattle.std.proofs.Common.{◌++◌, ◌<◌, ◌∙◌, ◌∷◌, ◌≡◌, ◌≤◌}
+use Rattle.std.specs.List.{AllZip}
+use Rattle.nvme_model.specs.declared.array.Range.{Range}
+use Rattle.nvme_model.specs.declared.config.ConfigNumbers.{ConfigNumbers}
+use Rattle.meet_lock.specs.Passes.{number}
+use Rattle.serving_laws.proofs.Servers.{fresh}
+use Rattle.closing_laws.specs.Closing.{HasDone}
+use Rattle.work_queue.specs.Engines.{EnginePass}
+use Rattle.work_queue.specs.declared.engine.Engine.{Engine}
+use Rattle.hosts.specs.Hands.{AreHandsOf, AreHostsOf, AreLastHosts, AreLastWorkers, Goes, IsOneOf, WorkerGoes}
+use Rattle.hosts.specs.declared.hall.Hall.{Hall}
+use Rattle.hosts.specs.declared.hall.Hand.{Hand}
+use Rattle.hosts.specs.declared.hall.HostHand.{HostHand}
+use Rattle.hosts.specs.declared.hall.WorkerHand.{WorkerHand}
+use Rattle.host_rounds.specs.Playing.{HasPlayed, HostGoes}
+use Rattle.host_rounds.specs.declared.guests.Play.{Play}
+use Rattle.race_run.specs.Ended.{EndDown, HasEnded, HaveEnded}
+
+-- ---- lists side by side
+
+-- they are as long
+pub zip_length : {X Y : Type 0} (R : X → Y → Type 0) (xs : List X) (ys : List Y) → AllZip R xs ys
+    → length xs ≡ length ys
+zip_length R [] [] h = refl
+zip_length R [] (z ∷ ys) h = absurd h
+zip_length R (x ∷ xs) [] h = absurd h
+zip_length R (x ∷ xs) (z ∷ ys) h = ap suc (zip_length R xs ys h.1)
+
+-- whose place an element of the second list has
+pub zip_at : {X Y : Type 0} (R : X → Y → Type 0) (xs : List X) (ys : List Y) → AllZip R xs ys → (k : ℕ) (y : Y)
+    → slice_get ys k ≡ Some y → (x : X) × (slice_get xs k ≡ Some x) × R x y
+zip_at R [] [] h k y e = absurd (let f : None ≡ Some y = e in cc)
+zip_at R [] (z ∷ ys) h k y e = absurd h
+zip_at R (x ∷ xs) [] h k y e = absurd h
+zip_at R (x ∷ xs) (z ∷ ys) h zero y e = let same : z ≡ y = cc in (x, refl, subst (R x) same h.0)
+zip_at R (x ∷ xs) (z ∷ ys) h (suc k) y e = zip_at R xs ys h.1 k y e
+
+at_front : {A : Type 0} (xs ys : List A) (k : ℕ) (a : A) → slice_get xs k ≡ Some a → slice_get (xs ++ ys) k ≡ Some a
+at_front [] ys k a g = absurd (let h : None ≡ Some a = g in cc)
+at_front (x ∷ xs) ys zero a g = g
+at_front (x ∷ xs) ys (suc k) a g = at_front xs ys k a g
+
+at_last : {A : Type 0} (xs : List A) (a : A) → slice_get (xs ++ a ∷ []) (length xs) ≡ Some a
+at_last [] a = refl
+at_last (x ∷ xs) a = at_last xs a
+
+-- what holds of each, and of one more at its place, holds of all
+snoc_each : {A : Type 0} (P : ℕ → A → Type 0) (xs : List A) (d : A)
+    → ((k : ℕ) (a : A) → slice_get xs k ≡ Some a → P k a) → P (length xs) d → (k : ℕ) (a : A)
+    → slice_get (xs ++ d ∷ []) k ≡ Some a → P k a
+snoc_each P [] d f e zero a g =
+    let h : Some d ≡ Some a = g in
+    let same : d ≡ a = cc in
+    subst (P 0) same e
+snoc_each P [] d f e (suc k) a g = absurd (let h : None ≡ Some a = g in cc)
+snoc_each P (x ∷ xs) d f e zero a g = f zero a g
+snoc_each P (x ∷ xs) d f e (suc k) a g = snoc_each (λ n. P (suc n)) xs d (λ n b h. f (suc n) b h) e k a g
+
+-- ---- passes that are put together again
+
+module _ (e : Engine) (c : ConfigNumbers) (slots : Range) (servers : ℕ) where
+  pub passes_more : (ps : List EnginePass) (p : EnginePass) → HaveEnded e c slots servers ps
+      → HasEnded e c slots servers p → number p ≡ length ps + 1 → HaveEnded e c slots servers (ps ++ p ∷ [])
+  passes_more ps p h x n =
+      snoc_each (λ k q. (number q ≡ k + 1) × HasEnded e c slots servers q) ps p h (n, x)
+
+  pub end_rest : {H : Type 0} (f : H → EnginePass) (top : ℕ) (xs ys : List H)
+      → EndDown f e c slots servers top (xs ++ ys) → EndDown f e c slots servers top xs
+  end_rest f top xs ys h = λ k x g. h k x (at_front xs ys k x g)
+
+  pub end_last : {H : Type 0} (f : H → EnginePass) (top : ℕ) (xs : List H) (x : H)
+      → EndDown f e c slots servers top (xs ++ x ∷ [])
+      → (number (f x) + length xs ≡ top) × HasEnded e c slots servers (f x)
+  end_last f top xs x h = h (length xs) x (at_last xs x)
+
+-- what is left where the last is taken
+module _ (e : Engine) (c : ConfigNumbers) (slots : Range) (servers : ℕ) where
+  pub popped_rest : {H : Type 0} (f : H → EnginePass) (top : ℕ) (old new : List H) (o : Option H)
+      → old ≡ new ++ option_to_list o → EndDown f e c slots servers top old → EndDown f e c slots servers top new
+  popped_rest f top old new o items h =
+      end_rest e c slots servers f top new (option_to_list o) (subst (EndDown f e c slots servers top) items h)
+
+  -- and the one that was taken
+  pub popped_last : {H : Type 0} (f : H → EnginePass) (top n : ℕ) (old new : List H) (o : Option H) → n ≡ length new
+      → old ≡ new ++ option_to_list o → EndDown f e c slots servers top old
+      → IfSome o (λ x. (number (f x) + n ≡ top) × HasEnded e c slots servers (f x))
+  popped_last f top n old new None same items h = tt
+  popped_last f top n old new (Some x) same items h =
+      let r = end_last e c slots servers f top new x (subst (EndDown f e c slots servers top) items h) in
+      (ap (λ (m : ℕ). number (f x) + m) same ∙ r.0, r.1)
+
+  -- no pass came back yet
+  pub none_ended : (ps : List EnginePass) → ps ≡ [] → HaveEnded e c slots servers ps
+  none_ended ps is = subst (HaveEnded e c slots servers) (sym is)
+      (λ k p g. absurd (let h : None ≡ Some p = g in cc))
+
+  -- by the same number, written otherwise
+  pub down_from : {H : Type 0} (f : H → EnginePass) (top low : ℕ) (hs : List H) → low ≡ top
+      → EndDown f e c slots servers top hs → EndDown f e c slots servers low hs
+  down_from f top low hs same h = subst (λ (t : ℕ). EndDown f e c slots servers t hs) (sym same) h
+
+-- ---- the hands of a race
+
+-- the passes of hosts have numbers above those of all others
+above_all : (m k q n c : ℕ) → m ≡ k → k + c ≡ n + 1 + c + q → 1 ≤ q → m ≤ n + 1 → ⊥
+above_all m k q n c same last low below = omega (arith, same, last, low, below)
+
+module _ {G : Type 0} (hall : Hall G) (play : Play) (n : ℕ) where
+  served : (h k : Hand) → Goes hall h k → IsOneOf hall play.config (n + 1 + play.config.cqs) h.pass
+      → number h.pass ≤ n + 1 → HasEnded hall.engine play.config play.slots (n + 1) k.pass
+  served h k goes one low =
+      let same = goes.same.1 in
+      record {
+        of = goes.of.0;
+        config = goes.same.3 ∙ one.0.config;
+        closing = record {
+          all = goes.same.2 ∙ one.1;
+          served = λ _. goes.serves (fresh h.pass one.0.seen);
+          hosted = λ high. absurd (omega (arith, high, same, low));
+        };
+      }
+
+  pub fetcher : (h k : Hand) → Goes hall h k
+      → IsOneOf hall play.config (n + 1 + play.config.cqs) h.pass × (number h.pass ≡ n + 1)
+      → (number k.pass ≡ n + 1) × HasEnded hall.engine play.config play.slots (n + 1) k.pass
+  fetcher h k goes one =
+      let is = one.1 in
+      (goes.same.1 ∙ is, served h k goes one.0 (omega (arith, is)))
+
+  pub workers : (ws vs : List WorkerHand)
+      → AreLastWorkers hall play.config (n + 1 + play.config.cqs) n ws → AllZip (WorkerGoes hall) ws vs
+      → EndDown (λ w. w.hand.pass) hall.engine play.config play.slots (n + 1) n vs
+  workers ws vs are zip = λ k v g.
+      let z = zip_at (WorkerGoes hall) ws vs zip k v g in
+      let w = are k z.0 z.1 in
+      let m = w.2 in
+      let same = z.2.0.same.1 in
+      (omega (arith, m, same), served z.0.hand v.hand z.2.0 w.1 (omega (arith, m)))
+
+  pub hosts : (hs gs : List HostHand) → AreLastHosts hall play.config (n + 1 + play.config.cqs) hs
+      → AllZip (HostGoes hall) hs gs → AllZip (HasPlayed hall play) hs gs
+      → EndDown (λ h. h.pass) hall.engine play.config play.slots (n + 1) (n + 1 + play.config.cqs) gs
+  hosts hs gs are zip played = λ k b g.
+      let z = zip_at (HostGoes hall) hs gs zip k b g in
+      let y = zip_at (HasPlayed hall play) hs gs played k b g in
+      let w = are k z.0 z.1 in
+      let same = z.2.same.1 in
+      let place = w.1 in
+      let last = w.2.1 in
+      let low = w.0.queue.0 in
+      let one : z.0 ≡ y.0 = let a = z.1 in let d = y.1 in let f : Some z.0 ≡ Some y.0 = sym a ∙ d in cc in
+      let p : HasPlayed hall play z.0 b = subst (λ h. HasPlayed hall play h b) (sym one) y.2 in
+      let q : z.0.queue ≡ number b.pass - (n + 1) = omega (arith, same, last) in (
+        omega (arith, same, place, last),
+        record {
+          of = z.2.of;
+          config = z.2.same.3 ∙ w.0.pass.config;
+          closing = record {
+            all = z.2.same.2 ∙ w.2.0;
+            served = λ below. absurd
+                (above_all (number b.pass) (number z.0.pass) z.0.queue n play.config.cqs same last low below);
+            hosted = λ above. subst (λ (i : ℕ). HasDone play.config play.slots i i b.pass) q p.done;
+          };
+        },
+      )

@@ -1,0 +1,49 @@
+use Rattle.std.proofs.Common.{arith, length, subst, sym, vec_len, ℕ, ◌+◌, ◌∙◌, ◌≡◌}
+use Rattle.hosts.specs.declared.hall.HostHand.{HostHand}
+use Rattle.hosts.specs.declared.hall.WorkerHand.{WorkerHand}
+use Rattle.race_run.specs.Ended.{EndDown}
+use Rattle.race_run.proofs.Returned.{closed_config, closed_slots}
+use Rattle.race_run.proofs.closing.closed.Goals as goal
+
+pub put_workers-requires-clause-workers : goal.put_workers-requires-clause-workers
+put_workers-requires-clause-workers c =
+    let p = c.args.play.now in
+    let ws = c.args.hands.workers in
+    subst (λ (n : ℕ). EndDown (λ (w : WorkerHand). w.hand.pass) c.args.hall.engine p.config p.slots (n + 1) (vec_len ws)
+    ws.items) (sym c.len-servers.ensures) c.requires.workers
+
+pub put_hosts-requires-clause-hosts : goal.put_hosts-requires-clause-hosts
+put_hosts-requires-clause-hosts c =
+    let p = c.args.play.now in
+    let hs = c.args.hands.hosts.items in
+    let n = c.len-servers.result in
+    let all = subst (λ (n : ℕ). EndDown (λ (h : HostHand). h.pass) c.args.hall.engine p.config p.slots (n + 1)
+    (n + 1 + p.config.cqs) hs) (sym c.len-servers.ensures) c.requires.hosts in
+    subst (λ (m : ℕ). EndDown (λ (h : HostHand). h.pass) c.args.hall.engine p.config p.slots (n + 1) (n + 1 + m) hs)
+    (sym c.requires.count) all
+
+pub close_all-requires : goal.close_all-requires
+close_all-requires c = record {
+  all = λ k p at.
+      let x = c.put_hosts.ensures.passes k p at in
+      let all = x.1.closing.all in
+      let len = c.put_hosts.ensures.len in
+      let count = c.requires.count in
+      (x.1.of, x.0, omega (arith, all, len, count));
+}
+
+pub returns : goal.returns
+returns c =
+    let hall = c.args.hall in
+    let play = c.args.play.now in
+    let len = c.put_hosts.ensures.len in
+    let count = c.requires.count in
+    let ps = c.put_hosts.new.passes.items in
+    let long = sym c.put_hosts.new.passes.ok.0 in
+    let all : length ps ≡ c.len-servers.result + 1 + play.config.cqs = omega (arith, len, count, long) in
+    record {
+      config = closed_config hall.engine play.config play.slots _ ps c.put_hosts.ensures.passes all (omega arith)
+          c.close_all.result c.close_all.ensures.config;
+      slots = closed_slots hall.engine play.config play.slots _ ps c.put_hosts.ensures.passes all (omega arith)
+          c.close_all.result c.close_all.ensures.config c.close_all.ensures.legal c.close_all.ensures.whole;
+    }
