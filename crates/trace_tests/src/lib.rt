@@ -1,7 +1,9 @@
-//! Histories beside traces, by calls, as tests: what is answered where there is memory enough, and with queues that are
-//! full.
+//! Histories beside traces, and beside the discipline of slots, by calls, as tests: what is answered where there is
+//! memory enough, and with queues that are full.
 #![tactic(auto)]
 
+#[cfg(test)]
+mod areas;
 #[cfg(test)]
 mod sessions;
 #[cfg(test)]

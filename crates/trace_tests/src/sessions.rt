@@ -5,7 +5,7 @@ use history::Config;
 use std::test::Fail;
 
 /// A Write of A1 to block 3, its completion; a Read of block 3, its completion.
-const HISTORY: [&[u8]; 12] = [
+pub(crate) const HISTORY: [&[u8]; 12] = [
     b"publish 1 01000100010000000000000000000000000000000000000000000000000000000000000000000000030000000000000000000000000000000000000000000000 A1",
     b"fetch 1 1 1 ok",
     b"grant 1 0 3 1 w",

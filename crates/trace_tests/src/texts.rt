@@ -7,8 +7,8 @@ use std::test::Fail;
 use trace_lines::parse_seen;
 use witness_check::{Verdict, certify, judge};
 
-// The entries of these lines.
-fn entries_of(alloc: Global, lines: &[&[u8]]) -> Result<Vec<Entry>, Fail> {
+/// The entries of these lines.
+pub(crate) fn entries_of(alloc: Global, lines: &[&[u8]]) -> Result<Vec<Entry>, Fail> {
     let mut entries = Vec::new(alloc);
     for line in lines {
         let Ok(entry) = parse_line(alloc, line) else {
