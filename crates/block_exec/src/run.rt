@@ -7,7 +7,7 @@ ghost use Rattle.block_array.specs.Blocks.{contents_of};
 ghost use Rattle.block_exec.specs.Bytes.{block_at, boxes_after, compare_length, needs_box, next_equal, read_after};
 ghost use Rattle.block_exec.specs.Bytes.{read_length, volume_after, volume_with, write_count};
 ghost use Rattle.nvme_model.specs.Array.{IsRange};
-ghost use Rattle.block_exec.specs.Progress.{has_ended, needed, next_block, next_found, next_place};
+ghost use Rattle.block_exec.specs.Progress.{unit_has_ended, needed, next_block, next_found, next_place};
 
 use crate::blocks::{block_of, clear_block, compared, hand_over, put_block};
 use block_array::Volume;
@@ -27,9 +27,9 @@ pub struct Run {
 impl Model for Run {
     ghost use Rattle.std.specs.Prelude.{◌≤◌};
     ghost use Rattle.nvme_model.specs.Array.{IsRange};
-    ghost use Rattle.block_exec.specs.Progress.{Progress, needed};
+    ghost use Rattle.block_exec.specs.Progress.{UnitProgress, needed};
 
-    ghost Value = { Progress };
+    ghost Value = { UnitProgress };
 
     ghost view = { λ r. record { op = r.op; range = r.range; made = r.made; differed = r.differed } };
 
@@ -50,7 +50,7 @@ pub struct Done {
 }
 
 impl Run {
-    ghost use Rattle.block_exec.specs.Course.{done_by, next_done, noted, stepped};
+    ghost use Rattle.block_exec.specs.Course.{done_by, next_done, unit_noted, stepped};
 
     /// A unit of these blocks of which no step is made.
     pub fn new(op: Op, range: Range) -> Run
@@ -90,7 +90,7 @@ impl Run {
 
     /// Whether all its Block steps are made, or one found a difference.
     pub fn has_ended(&self) -> bool
-        ensures value { result ≡ has_ended self.now }
+        ensures value { result ≡ unit_has_ended self.now }
     {
         let needed = match self.op {
             Op::Pair => 2 * self.range.blocks,
@@ -99,8 +99,9 @@ impl Run {
         self.differed || self.made >= needed
     }
 
-    /// Reads, compares or writes the block that is due; what is written comes from the box at this place.
-    fn touch(
+    /// Reads, compares or writes the block that is due, and doesn't count the step; what is written comes from the box
+    /// at this place.
+    pub fn touch(
         &self,
         volume: &mut Volume,
         compare: &[u8],
@@ -150,9 +151,9 @@ impl Run {
 
     /// Counts the Block step that is due, which found this, whoever made it.
     pub fn note(&mut self, found: Found) -> Done
-        requires open { has_ended self.old ≡ false }
+        requires open { unit_has_ended self.old ≡ false }
         ensures done { result ≡ done_by self.old found }
-        ensures noted { self.new ≡ noted self.old found }
+        ensures noted { self.new ≡ unit_noted self.old found }
     {
         let lba = self.range.slba + u64::from(remainder(self.made, self.range.blocks));
         let effect = self.is_effect(found);
@@ -180,7 +181,7 @@ impl Run {
         write: &mut [Box<[u8; 512]>],
         read: &mut [u8],
     ) -> Done
-        requires open { has_ended self.old ≡ false }
+        requires open { unit_has_ended self.old ≡ false }
         requires within { self.old.range.slba + self.old.range.blocks ≤ length volume.old }
         requires compare { length compare.now ≡ compare_length self.old.op self.old.range.blocks }
         requires write { length write.old ≡ write_count self.old.op self.old.range.blocks }
@@ -188,7 +189,7 @@ impl Run {
         ensures lba { result.lba ≡ next_block self.old }
         ensures found { result.found ≡ next_found self.old (next_equal self.old volume.old compare.now) }
         ensures effect { result.effect ≡ marked (Some self.old.op) self.old.range.blocks self.old.made result.found }
-        ensures ended { result.ended ≡ has_ended self.new }
+        ensures ended { result.ended ≡ unit_has_ended self.new }
         ensures progress { self.new ≡ record self.old { made = suc self.old.made; differed = is_differs result.found } }
 
         // The same as a whole: this is the next step of the unit's course.
@@ -212,7 +213,7 @@ impl Run {
         at: usize,
         read: &mut [u8],
     ) -> Done
-        requires open { has_ended self.old ≡ false }
+        requires open { unit_has_ended self.old ≡ false }
         requires within { self.old.range.slba + self.old.range.blocks ≤ length volume.old }
         requires compare { length compare.now ≡ compare_length self.old.op self.old.range.blocks }
         requires boxed { needs_box self.old ≡ true → at < length boxes.old }

@@ -30,7 +30,7 @@ use Rattle.nvme_model.specs.declared.refusal.Why.{Why}
 use Rattle.nvme_model.specs.declared.status.Status.{Status}
 use Rattle.broken_rules.specs.Broken.{block_wrong, first_broken, post_wrong, refused_or, wrong}
 use Rattle.broken_rules.specs.Rows.{completion_or, data_broken, grant_broken, is_word, reap_broken, word_due}
-use Rattle.broken_rules.specs.Unlike.{bytes_apart, cqe_unlike, first_apart, phase_of, row_or, status_of, two_at}
+use Rattle.broken_rules.specs.Unlike.{bytes_apart, cqe_unlike, first_apart, phase_of, row_or, status_bits, two_at}
 use Rattle.broken_rules.specs.declared.broken.Broken.{Broken}
 use Rattle.broken_rules.specs.declared.unlike.Unlike.{Unlike}
 use Rattle.broken_rules.specs.declared.words.Words.{Words}
@@ -65,7 +65,7 @@ skip n u more e = ap (λ b. is_none (row_or b u more)) (same_not n n refl) ∙ e
 unlike_self : (xs : List ℕ) → is_none (cqe_unlike xs xs) ≡ true
 unlike_self xs =
     skip (two_at 10 xs) _ _ (skip (two_at 12 xs) _ _
-    (skip (status_of (two_at 14 xs)) _ _ (skip (two_at 8 xs) _ _ (skip (phase_of (two_at 14 xs)) _ _
+    (skip (status_bits (two_at 14 xs)) _ _ (skip (two_at 8 xs) _ _ (skip (phase_of (two_at 14 xs)) _ _
     (ap (λ b. is_none (cond b None
     (Some (Unlike.Byte (first_apart xs xs) (get_or xs (first_apart xs xs) 0) (get_or xs (first_apart xs xs) 0)))))
     ((bytes_eq-Decides xs xs).1 refl))))))
@@ -88,8 +88,8 @@ unlike_apart : (found due : List ℕ) → bytes_eq found due ≡ false → is_no
 unlike_apart found due e =
     let a = row_some (two_at 10 found) (two_at 10 due) (Unlike.Sqid (two_at 10 found) (two_at 10 due)) in
     let b = row_some (two_at 12 found) (two_at 12 due) (Unlike.Cid (two_at 12 found) (two_at 12 due)) in
-    let d = row_some (status_of (two_at 14 found)) (status_of (two_at 14 due))
-    (Unlike.Status (status_of (two_at 14 found)) (status_of (two_at 14 due))) in
+    let d = row_some (status_bits (two_at 14 found)) (status_bits (two_at 14 due))
+    (Unlike.Status (status_bits (two_at 14 found)) (status_bits (two_at 14 due))) in
     let f = row_some (two_at 8 found) (two_at 8 due) (Unlike.Sqhd (two_at 8 found) (two_at 8 due)) in
     let g = row_some (phase_of (two_at 14 found)) (phase_of (two_at 14 due))
     (Unlike.Phase (phase_of (two_at 14 found)) (phase_of (two_at 14 due))) in

@@ -14,8 +14,8 @@ first_apart (x ∷ xs) [] = 0
 first_apart (x ∷ xs) (y ∷ ys) = if x == y then suc (first_apart xs ys) else 0
 
 -- the status, as its code and 256 times its type, and the phase tag, of the last two bytes
-abbrev pub status_of : ℕ → ℕ
-status_of word = (word / 2) % 2048
+abbrev pub status_bits : ℕ → ℕ
+status_bits word = (word / 2) % 2048
 
 -- the phase tag of a completion's last two bytes
 abbrev pub phase_of : ℕ → ℕ
@@ -37,8 +37,8 @@ abbrev pub cqe_unlike : List ℕ → List ℕ → Option Unlike
 cqe_unlike found due =
     row_or (not (two_at 10 found == two_at 10 due)) (Unlike.Sqid (two_at 10 found) (two_at 10 due))
     (row_or (not (two_at 12 found == two_at 12 due)) (Unlike.Cid (two_at 12 found) (two_at 12 due))
-    (row_or (not (status_of (two_at 14 found) == status_of (two_at 14 due)))
-    (Unlike.Status (status_of (two_at 14 found)) (status_of (two_at 14 due)))
+    (row_or (not (status_bits (two_at 14 found) == status_bits (two_at 14 due)))
+    (Unlike.Status (status_bits (two_at 14 found)) (status_bits (two_at 14 due)))
     (row_or (not (two_at 8 found == two_at 8 due)) (Unlike.Sqhd (two_at 8 found) (two_at 8 due))
     (row_or (not (phase_of (two_at 14 found) == phase_of (two_at 14 due)))
     (Unlike.Phase (phase_of (two_at 14 found)) (phase_of (two_at 14 due)))

@@ -17,7 +17,7 @@ pub enum Unlike {
     /// The number of the submission queue.
     #[error("SQID {found}, due is {due}")]
     Sqid { found: u16, due: u16 },
-    /// The identifier of the command.
+    /// The CID of the command.
     #[error("CID {found}, due is {due}")]
     Cid { found: u16, due: u16 },
     /// The status: its Status Code, and 256 times its Status Code Type.

@@ -2,8 +2,9 @@
 #![tactic(auto)]
 
 use casdisk_program::run_program;
+use std::io::IsTerminal;
 use std::process::ExitCode;
 
 fn main(rt: HostRuntime) -> ExitCode {
-    run_program(&rt)
+    run_program(&rt, rt.stderr().is_terminal())
 }

@@ -8,7 +8,7 @@ use Rattle.std.specs.Str.Parse.{AllDigits}
 use Rattle.std.proofs.Math.Dec.{eqb}
 use Rattle.std.proofs.lemmas.Bool.{eqb-true, eqb-false}
 use Rattle.std.proofs.lemmas.Fmt.{decimal_is_IsNumeral}
-use Rattle.line_text.specs.Data.{block_text, blocks, data_text}
+use Rattle.line_text.specs.Data.{block_text, parted_blocks, data_text}
 use Rattle.line_text.specs.Lines.{NoFeed}
 use Rattle.line_text.specs.Words.{Without}
 use Rattle.line_text.proofs.DataLaws.{text_none, text_odd, text_whole}
@@ -57,8 +57,8 @@ joined d [] p ps = tt
 joined d (w ∷ []) p ps = ps.0
 joined d (w ∷ v ∷ vs) p ps = append_feedless w (d ∷ join_with_byte d (v ∷ vs)) ps.0 (p, joined d (v ∷ vs) p ps.1)
 
-texts_feedless : (n : ℕ) (bytes : List ℕ) → AllByRecursion (Without 10) (map block_text (blocks 512 n bytes))
-unfolding blocks
+texts_feedless : (n : ℕ) (bytes : List ℕ) → AllByRecursion (Without 10) (map block_text (parted_blocks 512 n bytes))
+unfolding parted_blocks
 texts_feedless zero bytes = tt
 texts_feedless (suc n) bytes = (upper_without 10 _ refl, texts_feedless n (drop 512 bytes))
 

@@ -14,10 +14,10 @@ use Rattle.nvme_model.specs.declared.config.ConfigNumbers.{ConfigNumbers}
 use Rattle.history.specs.ConfigLine.{HasConfigLine}
 use Rattle.history.specs.Lines.{HasLine}
 use Rattle.race_run.specs.Races.{PrintsLegal}
-use Rattle.race_run.specs.Texts.{history_text}
+use Rattle.history_text.specs.Texts.{history_text}
 use Rattle.race_run.proofs.Judging.{none_bad}
 use Rattle.casdisk_script.specs.Files.{ChecksText, EndsSo, IsAnswer, IsAnswerOf, IsUnread, file_of, legal_text}
-use Rattle.casdisk_script.specs.Script.{End, Outcome, bad_config, bad_line, cut, done, first_config}
+use Rattle.casdisk_script.specs.Script.{ScriptEnd, Outcome, bad_config, bad_line, cut, done, first_config}
 use Rattle.casdisk_script.specs.declared.fault.RunFault.{RunFault}
 use Rattle.casdisk_script.specs.declared.fault.RunFault.TheVariants.{BadConfig, BadLine, Input, NoMemory, Output}
 use Rattle.casdisk_program.specs.Told.{SaysLegal}
@@ -54,7 +54,7 @@ module _ (c : ConfigNumbers) (past : Past) (is : HasConfigLine c) (accepted : co
         (subst (λ p. IsAnswer h.1.0 p answer said) made h.1.2))
 
     -- it has no other end
-    no_end : (e : End) → (e ≢ done) → EndsSo e (Some (history_text c (reverse past))) → ⊥
+    no_end : (e : ScriptEnd) → (e ≢ done) → EndsSo e (Some (history_text c (reverse past))) → ⊥
     no_end e other h = other (sym h ∙ ended)
 
     no_bad_line : (n : ℕ) (left : Option (List ℕ)) → IsUnread (BadLine n) (Some (history_text c (reverse past))) left

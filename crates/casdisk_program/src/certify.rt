@@ -1,36 +1,86 @@
 //! The command `certify`.
 
-use crate::input::open;
+use crate::failure::{Failure, failure_of};
+use crate::input::opened;
 use casdisk_script::{CertifyFault, RunFault, certify_text};
+use line_reasons::Grammar;
 use std::io;
 use std::process::ExitCode;
 use std::rt::Files;
 
+/// Why a history wasn't compared with a trace; and the second line about it, where one was asked for.
+#[derive(Drop)]
+struct CertifyFailure {
+    fault: CertifyFault,
+    why: Option<String>,
+}
+
+// The failure of the trace.
+fn of_trace(failure: Failure) -> CertifyFailure {
+    let Failure { fault, why } = failure;
+    CertifyFailure {
+        fault: CertifyFault::Trace(fault),
+        why,
+    }
+}
+
+// The failure of the history.
+fn of_history(failure: Failure) -> CertifyFailure {
+    let Failure { fault, why } = failure;
+    CertifyFailure {
+        fault: CertifyFault::History(fault),
+        why,
+    }
+}
+
 // Compares a history with a trace, and says whether it explains it.
 fn certified<R: Files + Input + Print + AllocGlobal>(
     rt: &R,
-    trace: &str,
-    history: &str,
-) -> Result<bool, CertifyFault> {
-    let mut trace = open(rt, trace).map_err(|_| CertifyFault::Trace(RunFault::Input))?;
-    let mut history = open(rt, history).map_err(|_| CertifyFault::History(RunFault::Input))?;
-    let mut output = io::writer(rt);
-    certify_text(rt.alloc(), &mut trace, &mut history, &mut output)
+    why: bool,
+    trace_file: &str,
+    history_file: &str,
+) -> Result<bool, CertifyFailure> {
+    let mut trace = opened(rt, trace_file, why).map_err(of_trace)?;
+    let mut history = opened(rt, history_file, why).map_err(of_history)?;
+    let alloc = rt.alloc();
+    match certify_text(alloc, &mut trace, &mut history, &mut io::writer(rt)) {
+        Ok(answer) => Ok(answer),
+        Err(CertifyFault::Trace(fault)) => Err(of_trace(failure_of(
+            alloc,
+            trace_file,
+            &trace,
+            Grammar::Trace,
+            fault,
+        ))),
+        Err(CertifyFault::History(fault)) => Err(of_history(failure_of(
+            alloc,
+            history_file,
+            &history,
+            Grammar::History,
+            fault,
+        ))),
+        Err(fault) => Err(CertifyFailure { fault, why: None }),
+    }
 }
 
 // Compares a history with a trace, and gives the status 0 where it explains it, 1 where not, else that of the fault.
 pub(crate) fn certify_files<R: Files + Input + Print + Eprint + AllocGlobal>(
     rt: &R,
+    why: bool,
     trace: &str,
     history: &str,
 ) -> ExitCode {
-    match certified(rt, trace, history) {
+    match certified(rt, why, trace, history) {
         Ok(true) => ExitCode::from(0),
         Ok(false) => ExitCode::from(1),
-        Err(fault) => {
+        Err(failure) => {
+            let CertifyFailure { fault, why } = failure;
             let status = fault.status();
             // (where standard error takes no words, the status says it alone)
             let _ = rt.eprintln(fault);
+            if let Some(why) = why {
+                let _ = rt.eprintln(why);
+            }
             ExitCode::from(status)
         }
     }

@@ -1,10 +1,12 @@
-//! The words of an explanation: the place, the line of the file, and the rule, with the names of statuses and fields.
+//! The words of an explanation: the place, the line of the file, and the rule, with the names of statuses and fields,
+//! or the slot.
 
 use crate::unmarked::Unmarked;
 use broken_rules::{Broken, Unlike};
 use casdisk_script::Explained;
 use history_words::status_name;
 use nvme_model::status::{Status, Verdict};
+use slot_texts::WrongStep;
 use std::fmt;
 
 /// What is said of a history, in words, with the cause where it is a unit that ended without a mark.
@@ -12,6 +14,13 @@ use std::fmt;
 pub(crate) struct ExplainedWords {
     pub(crate) explained: Explained,
     pub(crate) unmarked: Option<Unmarked>,
+}
+
+/// What is said of an entry that breaks the discipline of slots, whose area begins at this block.
+#[derive(Drop)]
+pub(crate) struct WrongWords {
+    pub(crate) first: u64,
+    pub(crate) step: WrongStep,
 }
 
 // A rule that is broken.
@@ -31,11 +40,11 @@ struct HighWords {
 
 // What a Fetch says of its commands.
 #[derive(Drop)]
-struct VerdictWords(Verdict);
+struct ExplainedVerdict(Verdict);
 
 // A status by its numbers and its name.
 #[derive(Drop)]
-struct StatusWords(Status);
+struct ExplainedStatus(Status);
 
 // The status of 256 times its type and its code.
 fn status_of(code: u16) -> Status {
@@ -65,14 +74,29 @@ impl fmt::Display for ExplainedWords {
     }
 }
 
+impl fmt::Display for WrongWords {
+    fn fmt<W: fmt::Write>(&self, f: &mut fmt::Formatter<W>) -> fmt::Result {
+        let lba = self.step.broken.lba();
+        write!(
+            f,
+            "slots bad at {} (line {}): slot {} (block {}): {}",
+            self.step.place,
+            self.step.place.saturating_add(1),
+            lba.saturating_sub(self.first),
+            lba,
+            self.step.broken
+        )
+    }
+}
+
 impl fmt::Display for BrokenWords {
     fn fmt<W: fmt::Write>(&self, f: &mut fmt::Formatter<W>) -> fmt::Result {
         match self.0 {
             Broken::Verdict { found, due } => write!(
                 f,
                 "fetched as {}, due is {}",
-                VerdictWords(found),
-                VerdictWords(due)
+                ExplainedVerdict(found),
+                ExplainedVerdict(due)
             ),
             Broken::Completion(unlike) => write!(f, "{}", UnlikeWords(unlike)),
             Broken::Reaped(unlike) => write!(f, "another completion: {}", UnlikeWords(unlike)),
@@ -87,8 +111,8 @@ impl fmt::Display for UnlikeWords {
             Unlike::Status { found, due } => write!(
                 f,
                 "status {}, due is {}",
-                StatusWords(status_of(found)),
-                StatusWords(status_of(due))
+                ExplainedStatus(status_of(found)),
+                ExplainedStatus(status_of(due))
             ),
             Unlike::Byte { place, found, due } => {
                 if place < 4 {
@@ -127,20 +151,25 @@ impl fmt::Display for HighWords {
     }
 }
 
-impl fmt::Display for VerdictWords {
+impl fmt::Display for ExplainedVerdict {
     fn fmt<W: fmt::Write>(&self, f: &mut fmt::Formatter<W>) -> fmt::Result {
         match self.0 {
             Verdict::Single => f.write_str("1 ok"),
-            Verdict::SingleFailed(status) => write!(f, "1 {}", StatusWords(status)),
+            Verdict::SingleFailed(status) => write!(f, "1 {}", ExplainedStatus(status)),
             Verdict::Pair => f.write_str("2 ok"),
             Verdict::PairFailed(first, second) => {
-                write!(f, "2 {} {}", StatusWords(first), StatusWords(second))
+                write!(
+                    f,
+                    "2 {} {}",
+                    ExplainedStatus(first),
+                    ExplainedStatus(second)
+                )
             }
         }
     }
 }
 
-impl fmt::Display for StatusWords {
+impl fmt::Display for ExplainedStatus {
     fn fmt<W: fmt::Write>(&self, f: &mut fmt::Formatter<W>) -> fmt::Result {
         write!(
             f,

@@ -9,9 +9,9 @@ ghost use Rattle.nvme_model.specs.declared.config.ConfigNumbers.{ConfigNumbers};
 ghost use Rattle.nvme_model.specs.declared.entry.Entry.{Entry};
 ghost use Rattle.history.specs.ConfigLine.{HasConfigLine};
 ghost use Rattle.history.specs.Lines.{HasLine};
-ghost use Rattle.race_numbers.specs.Races.{config_of};
+ghost use Rattle.race_numbers.specs.Races.{race_config};
 ghost use Rattle.race_run.specs.Races.{PrintsLegal};
-ghost use Rattle.race_run.specs.Texts.{history_text};
+ghost use Rattle.history_text.specs.Texts.{history_text};
 ghost use Rattle.casdisk_script.specs.Files.{ChecksText, IsAnswerOf, file_of, legal_text};
 ghost use Rattle.casdisk_script.specs.Script.{done, first_config};
 ghost use Rattle.casdisk_script.specs.declared.fault.RunFault.{RunFault};
@@ -38,7 +38,7 @@ pub fn a_history_is_read_back()
 /// reading, writing or memory fails it.
 pub fn what_a_race_wrote_is_legal(race: &Race)
     ensures { (text : List ℕ) (told : Result Bool RunFault) (left old new : Option (List ℕ)) →
-        PrintsLegal (config_of race.now) (Some []) (Some text) → ChecksText told (Some text) left old new →
+        PrintsLegal (race_config race.now) (Some []) (Some text) → ChecksText told (Some text) left old new →
         SaysLegal told old new }
 {
     // (what a race keeps of its numbers is known where they are asked for)

@@ -3,10 +3,16 @@
 
 mod certify;
 mod explaining;
+mod failure;
 mod in_words;
 mod input;
+mod kept;
 mod laws;
+mod observing;
 mod program;
+mod progress;
+mod slots;
+mod tracing;
 mod unmarked;
 
 pub use crate::laws::{a_history_is_read_back, what_a_race_wrote_is_legal};

@@ -2,40 +2,48 @@
 
 use crate::certify::certify_files;
 use crate::explaining::ExplainedWords;
+use crate::failure::{Failure, failure_of};
 use crate::in_words::tell_file;
-use crate::input::open;
+use crate::input::{opened, size_of};
+use crate::observing::observe_file;
+use crate::progress::{CountedReader, CountedWriter, Counter};
+use crate::slots::{check_slots_file, explain_slots_file};
+use crate::tracing::{trace_race, trace_run};
 use crate::unmarked::{Unmarked, unmarked_unit};
 use broken_rules::Broken;
 use casdisk_script::{Explained, RunFault, check_text, explain_text, follow_text, run_script};
-use command_line::{Asked, UsageFault, asked};
+use command_line::{Asked, Shown, UsageFault, asked};
 use history::Kinds;
+use line_reasons::Grammar;
 use nvme_model::config::ConfigFault;
 use race_numbers::Race;
 use race_run::{RaceFault, run_race};
-use std::io::{BufWriter, Write};
+use std::io::{BufWriter, Read, Write};
 use std::process::ExitCode;
 use std::rt::{Env, Files};
 use std::sync::Wait;
 use std::thread::Threads;
+use std::time::Clock;
 use std::{env, io};
 
 /// How many bytes of output wait before they go out.
 pub(crate) const BUFFER: usize = 65_536;
 
 /// Does what the words of the command line ask, and says with which status the program ends: 0 where it is done,
-/// 1 where a history isn't legal or doesn't explain a trace, or a race gave none, 2 after a bad line, configuration or
-/// command line, 3 after a failed opening, reading or writing, 4 where a growth was refused or a thread couldn't be
-/// started. The words of a fault go to standard error.
-pub fn run_program<R: Threads + Wait + Sync + Files + Env + Input + Print + Eprint + AllocGlobal>(
-    rt: &R,
-) -> ExitCode {
+/// 1 where a history isn't legal or doesn't explain a trace, a search found none, or a race gave none, 2 after a bad
+/// line, configuration or command line, 3 after a failed opening, reading or writing, 4 where a growth was refused or a
+/// thread couldn't be started, 5 where a search gave up. The words of a fault go to standard error; where that is a
+/// terminal, also how far a check or a race is that takes more than a second.
+pub fn run_program<
+    R: Threads + Wait + Sync + Files + Clock + Env + Input + Print + Eprint + AllocGlobal,
+>(rt: &R, terminal: bool) -> ExitCode {
     let words: Result<Vec<String>, io::Error> = match env::args(rt) {
         Ok(args) => args.collect(rt.alloc()).map_err(io::Error::from),
         Err(error) => Err(error),
     };
     match words {
         Ok(words) => match asked(rt.alloc(), words.as_slice()) {
-            Ok(what) => finish(rt, what),
+            Ok(what) => finish(rt, what, terminal),
             Err(UsageFault::Text(text)) => end_with(rt, 2, text.as_str()),
             Err(UsageFault::NoMemory) => end_with(rt, 4, "no memory"),
         },
@@ -55,52 +63,92 @@ fn end_with<R: Eprint>(rt: &R, status: u8, words: &str) -> ExitCode {
     ExitCode::from(status)
 }
 
-fn finish<R: Threads + Wait + Sync + Files + Input + Print + Eprint + AllocGlobal>(
+fn finish<R: Threads + Wait + Sync + Files + Clock + Input + Print + Eprint + AllocGlobal>(
     rt: &R,
     what: Asked<'_>,
+    told: bool,
 ) -> ExitCode {
     let outcome = match what {
         Asked::Run {
-            kinds,
-            flush: false,
+            shown: Shown::Trace,
+            why,
             file,
-        } => run_file(rt, kinds, file),
+            ..
+        } => trace_run(rt, why, file),
         Asked::Run {
-            kinds,
-            flush: true,
+            shown: Shown::Kinds(kinds),
+            flush,
+            why,
             file,
-        } => run_flushing(rt, kinds, file),
+        } => run_file(rt, kinds, flush, why, file),
         Asked::Check {
-            follow: false,
+            area: Some(area),
+            why,
             file,
-        } => check_file(rt, file),
-        Asked::Check { follow: true, file } => follow_file(rt, file),
-        Asked::Explain { file } => explain_file(rt, file),
-        Asked::Certify { trace, history } => return certify_files(rt, trace, history),
-        Asked::Tell { color, file } => tell_file(rt, color, file),
-        Asked::Race(race) => return race_hosts(rt, &race),
+            ..
+        } => Ok(check_slots_file(rt, area, why, file)),
+        Asked::Explain {
+            area: Some(area),
+            why,
+            file,
+        } => Ok(explain_slots_file(rt, area, why, file)),
+        Asked::Check {
+            follow,
+            quiet,
+            why,
+            file,
+            ..
+        } => check_file(rt, follow, told && !quiet, why, file),
+        Asked::Explain { why, file, .. } => explain_file(rt, why, file),
+        Asked::Certify {
+            why,
+            trace,
+            history,
+        } => return certify_files(rt, why, trace, history),
+        Asked::Observe {
+            witness,
+            steps,
+            why,
+            trace,
+        } => observe_file(rt, witness, steps, why, trace),
+        Asked::Tell { color, file } => tell_file(rt, color, file).map_err(Failure::from),
+        Asked::Race {
+            race,
+            trace: true,
+            ..
+        } => return trace_race(rt, &race),
+        Asked::Race { race, quiet, .. } => return race_hosts(rt, &race, told && !quiet),
         Asked::Show(text) => match rt.print(text.as_str()) {
             Ok(()) => Ok(0),
-            Err(_) => Err(RunFault::Output),
+            Err(_) => Err(Failure::from(RunFault::Output)),
         },
     };
     match outcome {
         Ok(status) => ExitCode::from(status),
-        Err(fault) => {
-            let status = fault.status();
-            // (where standard error takes no words, the status says it alone; so below)
-            let _ = rt.eprintln(fault);
-            ExitCode::from(status)
-        }
+        Err(failure) => end_failed(rt, failure),
     }
 }
 
+// Says why a command failed, and gives the status of its fault.
+fn end_failed<R: Eprint>(rt: &R, failure: Failure) -> ExitCode {
+    let Failure { fault, why } = failure;
+    let status = fault.status();
+    // (where standard error takes no words, the status says it alone; so below)
+    let _ = rt.eprintln(fault);
+    if let Some(why) = why {
+        let _ = rt.eprintln(why);
+    }
+    ExitCode::from(status)
+}
+
 // Lets hosts race.
-fn race_hosts<R: Threads + Wait + Sync + Print + Eprint + AllocGlobal>(
+fn race_hosts<R: Threads + Wait + Sync + Clock + Print + Eprint + AllocGlobal>(
     rt: &R,
     race: &Race,
+    told: bool,
 ) -> ExitCode {
-    let Ok(mut output) = BufWriter::with_capacity(rt.alloc(), BUFFER, io::writer(rt)) else {
+    let counted = CountedWriter::new(Counter::new(rt, told, None), io::writer(rt));
+    let Ok(mut output) = BufWriter::with_capacity(rt.alloc(), BUFFER, counted) else {
         return end_race(rt, RaceFault::NoMemory);
     };
     let done = run_race(rt, rt.alloc(), race, &mut output);
@@ -118,58 +166,68 @@ fn end_race<R: Eprint>(rt: &R, fault: RaceFault) -> ExitCode {
     ExitCode::from(fault.status())
 }
 
-// Runs a script, and then gives the status 0. Its text goes out in pieces, the last of them before a fault is told.
+// Runs a script, and then gives the status 0. Its text goes out in pieces, the last of them before a fault is told;
+// where it flushes, each line's as soon as it is made.
 fn run_file<R: Files + Input + Print + AllocGlobal>(
     rt: &R,
     kinds: Kinds,
+    flush: bool,
+    why: bool,
     file: &str,
-) -> Result<u8, RunFault> {
-    let mut input = open(rt, file).map_err(|_| RunFault::Input)?;
+) -> Result<u8, Failure> {
+    let mut input = opened(rt, file, why)?;
+    let done = if flush {
+        run_script(rt.alloc(), &mut input, &mut io::writer(rt), kinds)
+    } else {
+        run_buffered(rt, kinds, &mut input)
+    };
+    match done {
+        Ok(()) => Ok(0),
+        Err(fault) => Err(failure_of(rt.alloc(), file, &input, Grammar::Script, fault)),
+    }
+}
+
+fn run_buffered<R: Print + AllocGlobal, I: Read>(
+    rt: &R,
+    kinds: Kinds,
+    input: &mut I,
+) -> Result<(), RunFault> {
     let Ok(mut output) = BufWriter::with_capacity(rt.alloc(), BUFFER, io::writer(rt)) else {
         return Err(RunFault::NoMemory);
     };
-    let done = run_script(rt.alloc(), &mut input, &mut output, kinds);
+    let done = run_script(rt.alloc(), input, &mut output, kinds);
     if output.flush().is_err() {
         return Err(RunFault::Output);
     }
-    done?;
-    Ok(0)
+    done
 }
 
-// The same, but that each line's text goes out as soon as it is made.
-fn run_flushing<R: Files + Input + Print + AllocGlobal>(
+// Checks a history, where it follows up to its first bad step, and gives the status 0 where it is legal, else 1.
+fn check_file<R: Files + Clock + Input + Print + Eprint + AllocGlobal>(
     rt: &R,
-    kinds: Kinds,
+    follow: bool,
+    told: bool,
+    why: bool,
     file: &str,
-) -> Result<u8, RunFault> {
-    let mut input = open(rt, file).map_err(|_| RunFault::Input)?;
+) -> Result<u8, Failure> {
+    let size = if told { size_of(rt, file) } else { None };
+    let counter = Counter::new(rt, told, size);
+    let mut input = CountedReader::new(counter, opened(rt, file, why)?);
     let mut output = io::writer(rt);
-    run_script(rt.alloc(), &mut input, &mut output, kinds)?;
-    Ok(0)
-}
-
-// Checks a history, and gives the status 0 where it is legal, else 1.
-fn check_file<R: Files + Input + Print + AllocGlobal>(rt: &R, file: &str) -> Result<u8, RunFault> {
-    let mut input = open(rt, file).map_err(|_| RunFault::Input)?;
-    let mut output = io::writer(rt);
-    match check_text(rt.alloc(), &mut input, &mut output)? {
-        true => Ok(0),
-        false => Ok(1),
+    let answer = if follow {
+        follow_text(rt.alloc(), &mut input, &mut output)
+    } else {
+        check_text(rt.alloc(), &mut input, &mut output)
+    };
+    match answer {
+        Ok(true) => Ok(0),
+        Ok(false) => Ok(1),
+        Err(fault) => Err(failure_of(rt.alloc(), file, input.source(), Grammar::History, fault)),
     }
 }
 
-// Checks a history up to its first bad step, and gives the same.
-fn follow_file<R: Files + Input + Print + AllocGlobal>(rt: &R, file: &str) -> Result<u8, RunFault> {
-    let mut input = open(rt, file).map_err(|_| RunFault::Input)?;
-    let mut output = io::writer(rt);
-    match follow_text(rt.alloc(), &mut input, &mut output)? {
-        true => Ok(0),
-        false => Ok(1),
-    }
-}
-
-// The unit without a mark for which a ticket owes no completion.
-fn cause_of<R: Files + Input + AllocGlobal>(
+/// The unit without a mark for which a ticket owes no completion.
+pub(crate) fn cause_of<R: Files + Input + AllocGlobal>(
     rt: &R,
     file: &str,
     explained: Explained,
@@ -183,24 +241,36 @@ fn cause_of<R: Files + Input + AllocGlobal>(
     unmarked_unit(rt, file, ticket, step.place.saturating_add(1))
 }
 
+/// What a refused configuration means, which an explanation says always.
+pub(crate) fn meaning_of(fault: RunFault) -> Option<ConfigFault> {
+    match fault {
+        RunFault::BadConfig(number) => ConfigFault::of_number(number),
+        _ => None,
+    }
+}
+
 // Explains a history, and gives the status 0 where it is legal, 1 where it isn't, else that of the fault. Behind the
 // words of a refused configuration it says what its number means.
 fn explain_file<R: Files + Input + Print + Eprint + AllocGlobal>(
     rt: &R,
+    why: bool,
     file: &str,
-) -> Result<u8, RunFault> {
-    let mut input = open(rt, file).map_err(|_| RunFault::Input)?;
+) -> Result<u8, Failure> {
+    let mut input = opened(rt, file, why)?;
     let explained = match explain_text(rt.alloc(), &mut input) {
         Ok(explained) => explained,
-        Err(RunFault::BadConfig(number)) => {
-            let fault = RunFault::BadConfig(number);
-            let _ = rt.eprintln(fault);
-            if let Some(why) = ConfigFault::of_number(number) {
-                let _ = rt.eprintln(why);
+        Err(fault) => {
+            let failure = failure_of(rt.alloc(), file, &input, Grammar::History, fault);
+            if failure.why.is_some() {
+                return Err(failure);
             }
+            let Some(meaning) = meaning_of(fault) else {
+                return Err(failure);
+            };
+            let _ = rt.eprintln(fault);
+            let _ = rt.eprintln(meaning);
             return Ok(fault.status());
         }
-        Err(fault) => return Err(fault),
     };
     let status = if explained == Explained::Legal { 0 } else { 1 };
     let unmarked = cause_of(rt, file, explained);
@@ -209,7 +279,7 @@ fn explain_file<R: Files + Input + Print + Eprint + AllocGlobal>(
         unmarked,
     };
     if rt.println(words).is_err() {
-        return Err(RunFault::Output);
+        return Err(Failure::from(RunFault::Output));
     }
     Ok(status)
 }

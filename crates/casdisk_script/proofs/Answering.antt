@@ -5,13 +5,13 @@ use Rattle.std.specs.Io.KnownBytes.{IsAtEnd}
 use Rattle.std.proofs.KnownBytes.{Keeps-refl}
 use Rattle.line_text.specs.Lines.{whole_lines}
 use Rattle.nvme_model.specs.declared.config.ConfigNumbers.{ConfigNumbers}
-use Rattle.history_check.specs.Kept.{State}
+use Rattle.history_check.specs.Kept.{CheckerRun}
 use Rattle.casdisk_script.specs.Explained.{IsExplained, explained_of}
 use Rattle.casdisk_script.specs.Fault.{fault_in_memory}
 use Rattle.casdisk_script.specs.Files.{ChecksText, EndsSo, HasHistory, IsAnswerOf, IsUnread, entry_added, file_of}
-use Rattle.casdisk_script.specs.Judged.{HasFirstBad, HasJudged, Tells, answer_text}
-use Rattle.casdisk_script.specs.Running.{Makes, PrintsAll, Runs}
-use Rattle.casdisk_script.specs.Script.{End, bad_config, bad_line, cut, first_config, outcome}
+use Rattle.casdisk_script.specs.Judged.{HasFirstBad, HasJudged, TellsAnswer, answer_text}
+use Rattle.casdisk_script.specs.Running.{Makes, PrintsAll, RunsScript}
+use Rattle.casdisk_script.specs.Script.{ScriptEnd, bad_config, bad_line, cut, first_config, script_outcome}
 use Rattle.casdisk_script.specs.declared.fault.RunFault.{RunFault}
 use Rattle.casdisk_script.specs.declared.fault.RunFault.TheVariants.{BadLine, BadConfig, Input, Output, NoMemory}
 use Rattle.casdisk_script.specs.declared.judging.FirstBad.{FirstBad}
@@ -19,11 +19,11 @@ use Rattle.casdisk_script.proofs.Placing.{answered_by, explained_by}
 
 -- ---- the lines weren't all read
 
-ends_of : (e : End) (r w u : Option (List ℕ)) → PrintsAll (outcome (λ c. entry_added)) e r w u → EndsSo e r
+ends_of : (e : ScriptEnd) (r w u : Option (List ℕ)) → PrintsAll (script_outcome (λ c. entry_added)) e r w u → EndsSo e r
 ends_of e None w u p = tt
 ends_of e (Some bytes) w u p = p.0
 
-pub unread : (f : RunFault) (r t w u : Option (List ℕ)) → Runs (outcome (λ c. entry_added)) (Err f) r t w u
+pub unread : (f : RunFault) (r t w u : Option (List ℕ)) → RunsScript (script_outcome (λ c. entry_added)) (Err f) r t w u
     → IsUnread (fault_in_memory f) r t
 unread (BadLine n) r t w u (inl h) = inl (ends_of (bad_line n) r w u h)
 unread (BadLine n) r t w u (inr h) = inr (ends_of (cut n) r w u h)
@@ -41,9 +41,10 @@ unsaid NoMemory r t v h = (h, Keeps-refl v)
 
 -- ---- they were
 
-pub whole : (why : Bool) (c : ConfigNumbers) (checker : State) (count : ℕ) (bad : FirstBad) (r t w u : Option (List ℕ))
-    → Runs (outcome (λ c. entry_added)) (Ok tt) r t w u
-    → Makes (outcome (λ c. entry_added)) (Ok tt) r (λ past. HasJudged why c past checker count bad)
+pub whole : (why : Bool) (c : ConfigNumbers) (checker : CheckerRun) (count : ℕ) (bad : FirstBad)
+    (r t w u : Option (List ℕ))
+    → RunsScript (script_outcome (λ c. entry_added)) (Ok tt) r t w u
+    → Makes (script_outcome (λ c. entry_added)) (Ok tt) r (λ past. HasJudged why c past checker count bad)
     → IfSome r (λ bytes. first_config (whole_lines bytes) ≡ Some c)
     → IsAtEnd t × IfSome r (HasHistory (λ c past. HasFirstBad why c past bad))
 whole why c checker count bad None t w u ran makes known = (ran.1, tt)
@@ -61,7 +62,7 @@ module _ (bad : FirstBad) where
   answer_of bytes h = (h.0, (h.1.0, h.1.1, answered_by h.1.0 (file_of bytes).past bad.place h.1.2.place))
 
   pub answered : (res : Result Bool RunFault) (r t v x : Option (List ℕ)) → IsAtEnd t
-      → IfSome r (HasHistory (λ c past. HasFirstBad false c past bad)) → Tells bad.place res v x
+      → IfSome r (HasHistory (λ c past. HasFirstBad false c past bad)) → TellsAnswer bad.place res v x
       → ChecksText res r t v x
   answered (Ok answer) None t v x end h told = (end, tt)
   answered (Ok answer) (Some bytes) t v x end h told = (

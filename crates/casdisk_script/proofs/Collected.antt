@@ -14,9 +14,9 @@ use Rattle.history.specs.ConfigLine.{config_in}
 use Rattle.seen_trace.specs.declared.seen.Seen.{Seen}
 use Rattle.trace_lines.specs.SeenLines.{seen_in}
 use Rattle.casdisk_script.specs.Fault.{fault_in_memory}
-use Rattle.casdisk_script.specs.Running.{Makes, PrintsAll, Runs}
-use Rattle.casdisk_script.specs.Script.{End, after_config, after_line, after_numbers, bad_config, bad_line, cut}
-use Rattle.casdisk_script.specs.Script.{done, first_config, lines_print, outcome, script_prints}
+use Rattle.casdisk_script.specs.Running.{Makes, PrintsAll, RunsScript}
+use Rattle.casdisk_script.specs.Script.{ScriptEnd, after_config, after_line, after_numbers, bad_config, bad_line, cut}
+use Rattle.casdisk_script.specs.Script.{done, first_config, lines_print, script_outcome, script_prints}
 use Rattle.casdisk_script.specs.Traces.{HasTrace, IsTraceUnread, TraceEndsSo, kept_as, seen_kept, thing_of, things_in}
 use Rattle.casdisk_script.specs.Traces.{with_thing}
 use Rattle.casdisk_script.specs.declared.fault.RunFault.{RunFault}
@@ -81,11 +81,13 @@ kept_text (line ∷ lines) rest h = by (config_in line) h
 
 -- ---- what is said of a trace, from what the reading of its lines gave
 
-ends_of : (e : End) (r w u : Option (List ℕ)) → PrintsAll (outcome (λ c. seen_kept)) e r w u → TraceEndsSo e r
+ends_of : (e : ScriptEnd) (r w u : Option (List ℕ)) → PrintsAll (script_outcome (λ c. seen_kept)) e r w u
+    → TraceEndsSo e r
 ends_of e None w u p = tt
 ends_of e (Some bytes) w u p = p.0
 
-pub trace_unread : (f : RunFault) (r t w u : Option (List ℕ)) → Runs (outcome (λ c. seen_kept)) (Err f) r t w u
+pub trace_unread : (f : RunFault) (r t w u : Option (List ℕ))
+    → RunsScript (script_outcome (λ c. seen_kept)) (Err f) r t w u
     → IsTraceUnread (fault_in_memory f) r t
 trace_unread (BadLine n) r t w u (inl h) = inl (ends_of (bad_line n) r w u h)
 trace_unread (BadLine n) r t w u (inr h) = inr (ends_of (cut n) r w u h)
@@ -95,8 +97,8 @@ trace_unread Output r t w u h = tt
 trace_unread NoMemory r t w u h = tt
 
 pub whole_trace : (c : ConfigNumbers) (things : List Seen) (r t w u : Option (List ℕ))
-    → Runs (outcome (λ d. seen_kept)) (Ok tt) r t w u
-    → Makes (outcome (λ d. seen_kept)) (Ok tt) r (λ past. things ≡ reverse (map thing_of past))
+    → RunsScript (script_outcome (λ d. seen_kept)) (Ok tt) r t w u
+    → Makes (script_outcome (λ d. seen_kept)) (Ok tt) r (λ past. things ≡ reverse (map thing_of past))
     → IfSome r (λ bytes. first_config (whole_lines bytes) ≡ Some c)
     → IsAtEnd t × IfSome r (HasTrace (λ d xs. (d ≡ c) × (xs ≡ things)))
 whole_trace c things None t w u ran makes known = (ran.1, tt)

@@ -4,7 +4,7 @@ use Rattle.std.proofs.Common.{cond, length, arith}
 use Rattle.std.specs.Prelude.{Bool, Err, IfSome, Ok, Result, is_none, is_some, option_map, true, false}
 use Rattle.std.specs.Io.KnownBytes.{IsAtEnd}
 use Rattle.std.proofs.KnownBytes.{Consumes-trans, Keeps-refl}
-use Rattle.line_text.specs.Lines.{Gives, GivesFront, NoFeed, rest_line, whole_lines}
+use Rattle.line_text.specs.Lines.{GivesBytes, GivesFront, NoFeed, rest_line, whole_lines}
 use Rattle.line_text.specs.declared.lines.ReadFault.{ReadFault}
 use Rattle.line_text.proofs.Known.{known_input}
 use Rattle.line_text.proofs.LineLaws.{rest_is_last}
@@ -18,10 +18,11 @@ use Rattle.casdisk_script.specs.Fault.{fault_of_read}
 use Rattle.casdisk_script.specs.Files.{IsUnread, entry_added, file_of}
 use Rattle.casdisk_script.specs.Followed.{AreLegalIn, FollowsLines, FollowsText, IsFollowed, IsFollowedTo, IsUnfollowed}
 use Rattle.casdisk_script.specs.Followed.{StopsFirst}
-use Rattle.casdisk_script.specs.Judged.{Tells, answer_text}
+use Rattle.casdisk_script.specs.Judged.{TellsAnswer, answer_text}
 use Rattle.casdisk_script.specs.Running.{PrintsAll, Reached}
-use Rattle.casdisk_script.specs.Script.{End, IsOpen, Outcome, after_line, bad_line, cut, done, ending, first_config}
-use Rattle.casdisk_script.specs.Script.{lines_print, outcome, prefixed, script_prints}
+use Rattle.casdisk_script.specs.Script.{ScriptEnd, IsOpenEnd, Outcome, after_line, bad_line, cut, done, ending}
+use Rattle.casdisk_script.specs.Script.{first_config}
+use Rattle.casdisk_script.specs.Script.{lines_print, script_outcome, prefixed, script_prints}
 use Rattle.casdisk_script.specs.declared.fault.RunFault.{RunFault}
 use Rattle.casdisk_script.specs.declared.fault.RunFault.TheVariants.{BadLine, BadConfig, Input, Output, NoMemory}
 use Rattle.casdisk_script.proofs.Beginning.{no_lines}
@@ -37,7 +38,7 @@ rest_adds past n [] = refl
 rest_adds past n (b ∷ bs) = refl
 
 -- and no line is bad
-rest_is_open : (past : Past) (n : ℕ) (rest : List ℕ) → IsOpen (lines_print entry_added past n [] rest).end
+rest_is_open : (past : Past) (n : ℕ) (rest : List ℕ) → IsOpenEnd (lines_print entry_added past n [] rest).end
 unfolding lines_print
 rest_is_open past n [] = tt
 rest_is_open past n (b ∷ bs) = tt
@@ -66,18 +67,19 @@ both P Q None p q = tt
 both P Q (Some bytes) p q = (p, q)
 
 -- how it ends
-end_of : (outcome : List ℕ → Outcome) (e : End) (r w u : Option (List ℕ)) → PrintsAll outcome e r w u
-    → IfSome r (λ bytes. (outcome bytes).end ≡ e)
-end_of outcome e None w u p = tt
-end_of outcome e (Some bytes) w u p = p.0
+end_of : (script_outcome : List ℕ → Outcome) (e : ScriptEnd) (r w u : Option (List ℕ))
+    → PrintsAll script_outcome e r w u
+    → IfSome r (λ bytes. (script_outcome bytes).end ≡ e)
+end_of script_outcome e None w u p = tt
+end_of script_outcome e (Some bytes) w u p = p.0
 
 -- ---- the calls on the way
 
-module _ (outcome : List ℕ → Outcome) (c : ConfigNumbers) (past : Past) (n : ℕ) (r s t : Option (List ℕ))
-    (held : List ℕ) (at : Reached outcome entry_added past n r s None None held) where
+module _ (script_outcome : List ℕ → Outcome) (c : ConfigNumbers) (past : Past) (n : ℕ) (r s t : Option (List ℕ))
+    (held : List ℕ) (at : Reached script_outcome entry_added past n r s None None held) where
   -- what was read
   input_is : (after line : List ℕ) (g : GivesFront s t held after line) → after ≡ []
-      → outcome (at.bytes ++ g.0.bytes)
+      → script_outcome (at.bytes ++ g.0.bytes)
       ≡ prefixed at.out (lines_print entry_added past n [] (rest_line (held ++ g.0.bytes)))
   input_is after line g none =
       at.agrees g.0.bytes ∙ ap (λ l. prefixed at.out (lines_print entry_added past n l (rest_line (held ++ g.0.bytes))))
@@ -85,58 +87,61 @@ module _ (outcome : List ℕ → Outcome) (c : ConfigNumbers) (past : Past) (n :
 
   pub unread_lines : (f : ReadFault) (place : Option ℕ) (after line : List ℕ) → GivesFront s t held after line
       → (f ≡ ReadFault.Input → after ≡ []) → IsLegal c past
-      → FollowsLines outcome c (Err (fault_of_read f)) place r t
+      → FollowsLines script_outcome c (Err (fault_of_read f)) place r t
   unread_lines ReadFault.Input place after line g none legal =
       let rest = rest_line (held ++ g.0.bytes) in
       let is = input_is after line g (none refl) in (
         at.bytes ++ g.0.bytes,
         Consumes-trans r s t at.bytes g.0.bytes at.consumed g.0.consumed,
-        subst (λ (o : Outcome). IsOpen o.end) (sym is) (rest_is_open past n rest),
+        subst (λ (o : Outcome). IsOpenEnd o.end) (sym is) (rest_is_open past n rest),
         subst (IsLegal c) (sym (ap (λ (o : Outcome). o.past) is ∙ rest_adds past n rest)) legal,
       )
   unread_lines ReadFault.NoMemory place after line g none legal = tt
 
-  last : (after line : List ℕ) (e : End) → Gives s t held after line → NoFeed line → after ≡ [] → IsAtEnd t
+  last : (after line : List ℕ) (e : ScriptEnd) → GivesBytes s t held after line → NoFeed line → after ≡ [] → IsAtEnd t
       → lines_print entry_added past n [] line ≡ ending e past → IsLegal c past
-      → IfSome r (λ bytes. ((outcome bytes).end ≡ e) × IsLegal c (outcome bytes).past)
+      → IfSome r (λ bytes. ((script_outcome bytes).end ≡ e) × IsLegal c (script_outcome bytes).past)
   last after line e g plain none end p legal =
-      both _ _ r (end_of outcome e r None None
-      (ends_last outcome entry_added past n r s t None None held at after line e g plain none end p))
-      (makes_last outcome entry_added past n r s t None None held at after line e (IsLegal c) legal g plain none end p)
+      both _ _ r (end_of script_outcome e r None None
+      (ends_last script_outcome entry_added past n r s t None None held at after line e g plain none end p))
+      (makes_last script_outcome entry_added past n r s t None None held at after line e
+      (IsLegal c) legal g plain none end p)
 
-  pub ends_well : (after line : List ℕ) → Gives s t held after line → NoFeed line → after ≡ [] → IsAtEnd t
+  pub ends_well : (after line : List ℕ) → GivesBytes s t held after line → NoFeed line → after ≡ [] → IsAtEnd t
       → lines_print entry_added past n [] line ≡ ending done past → IsLegal c past
-      → FollowsLines outcome c (Ok tt) None r t
+      → FollowsLines script_outcome c (Ok tt) None r t
   ends_well after line g plain none end p legal = (end, last after line done g plain none end p legal)
 
-  pub ends_cut : (place : Option ℕ) (after line : List ℕ) → Gives s t held after line → NoFeed line → after ≡ []
+  pub ends_cut : (place : Option ℕ) (after line : List ℕ) → GivesBytes s t held after line → NoFeed line → after ≡ []
       → IsAtEnd t → lines_print entry_added past n [] line ≡ ending (cut n) past → IsLegal c past
-      → FollowsLines outcome c (Err (BadLine n)) place r t
+      → FollowsLines script_outcome c (Err (BadLine n)) place r t
   ends_cut place after line g plain none end p legal = go r (last after line (cut n) g plain none end p legal)
     where
-      go : (x : Option (List ℕ)) → IfSome x (λ bytes. ((outcome bytes).end ≡ cut n) × IsLegal c (outcome bytes).past)
-          → FollowsLines outcome c (Err (BadLine n)) place x t
+      go : (x : Option (List ℕ))
+          → IfSome x (λ bytes. ((script_outcome bytes).end ≡ cut n) × IsLegal c (script_outcome bytes).past)
+          → FollowsLines script_outcome c (Err (BadLine n)) place x t
       go None h = tt
       go (Some bytes) h = (inr h.0, h.1)
 
-  pub bad_line_read : (place : Option ℕ) (after line : List ℕ) → Gives s t held after (line ++ 10 ∷ []) → NoFeed line
+  pub bad_line_read : (place : Option ℕ) (after line : List ℕ) → GivesBytes s t held after (line ++ 10 ∷ [])
+      → NoFeed line
       → entry_added past line ≡ None → IsLegal c past
-      → FollowsLines outcome c (Err (BadLine n)) place r t
+      → FollowsLines script_outcome c (Err (BadLine n)) place r t
   bad_line_read place after line g plain e legal =
       known_input r t (at.bytes ++ g.bytes) _ (Consumes-trans r s t at.bytes g.bytes at.consumed g.consumed) (λ more.
-      let is : outcome ((at.bytes ++ g.bytes) ++ more) ≡ prefixed at.out (ending (bad_line n) past) =
-      meant outcome entry_added past n r s t None None held at after line more g plain
+      let is : script_outcome ((at.bytes ++ g.bytes) ++ more) ≡ prefixed at.out (ending (bad_line n) past) =
+      meant script_outcome entry_added past n r s t None None held at after line more g plain
       ∙ ap (prefixed at.out) (print_bad entry_added past n line _ _ e) in
       (inl (ap (λ (o : Outcome). o.end) is), subst (IsLegal c) (sym (ap (λ (o : Outcome). o.past) is)) legal))
 
-  stops : (place : ℕ) → first_bad_of c past ≡ Some place → FollowsLines outcome c (Ok tt) (Some place) r s
+  stops : (place : ℕ) → first_bad_of c past ≡ Some place → FollowsLines script_outcome c (Ok tt) (Some place) r s
   stops place e =
       known_input r s at.bytes _ at.consumed (λ more.
       ap (λ (o : Outcome). first_bad_of c o.past) (at.agrees more)
       ∙ bad_stays c place past n (whole_lines (held ++ more)) (rest_line (held ++ more)) e)
 
   pub stops_so : (place : Option ℕ) → is_some place ≡ true → place ≡ first_bad_of c past
-      → FollowsLines outcome c (Ok tt) place r s
+      → FollowsLines script_outcome c (Ok tt) place r s
   stops_so None some is = absurd (let bad : false ≡ true = some in cc)
   stops_so (Some place) some is = stops place (sym is)
 
@@ -157,7 +162,7 @@ pub first_unfollowed : (f : RunFault) (r t : Option (List ℕ)) → StopsFirst f
 first_unfollowed (BadLine n) r t first unread = (unread, λ more. absurd (omega (arith, more, first)))
 first_unfollowed (BadConfig n) r t first unread = unread
 first_unfollowed Input r t first unread =
-    (first.0, first.1, subst (λ (o : Outcome). IsOpen o.end) (sym first.2) tt, go r)
+    (first.0, first.1, subst (λ (o : Outcome). IsOpenEnd o.end) (sym first.2) tt, go r)
   where
     go : (x : Option (List ℕ)) → IfSome x (λ all. AreLegalIn all (file_of first.0).past)
     go None = tt
@@ -168,7 +173,7 @@ first_unfollowed NoMemory r t first unread = unread
 -- ---- all lines
 
 abbrev whole_file : List ℕ → Outcome
-whole_file = λ input. outcome (λ c. entry_added) input
+whole_file = λ input. script_outcome (λ c. entry_added) input
 
 module _ (c : ConfigNumbers) (place : Option ℕ) (r t : Option (List ℕ))
     (known : IfSome r (λ bytes. first_config (whole_lines bytes) ≡ Some c)) where
@@ -213,7 +218,7 @@ answer_followed None bytes left h = (h.1.0, (h.1.1.0, h.1.1.1, (h.1.1.2, refl)))
 answer_followed (Some place) bytes left h = (h.0, h.1, answered_by h.0 (file_of bytes).past (Some place) (sym h.2))
 
 pub told_followed : (place : Option ℕ) (res : Result Bool RunFault) (r t v x : Option (List ℕ)) → IsFollowedTo place r t
-    → Tells place res v x → FollowsText res r t v x
+    → TellsAnswer place res v x → FollowsText res r t v x
 told_followed None (Ok true) None t v x h told = (h.0, tt)
 told_followed None (Ok true) (Some bytes) t v x h told =
     (h.0, (answer_text None, answer_followed None bytes t h, told.1))

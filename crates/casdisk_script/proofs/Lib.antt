@@ -1,13 +1,14 @@
 pub mod Beginning
-mod Answering
+pub mod Answering
 mod Collected
 mod Configurations
 mod KindsLemmas
-mod Faults
+pub mod Faults
 mod Followed
-mod Placing
+pub mod Placing
 mod Printed
 mod Settling
 mod Stepping
 pub mod Reaching
 mod Witnessed
+mod TraceWritten

@@ -11,7 +11,7 @@ use Rattle.nvme_model.specs.Legal.{IsLegal, legal, may_follow}
 use Rattle.nvme_model.specs.declared.config.ConfigNumbers.{ConfigNumbers}
 use Rattle.nvme_model.specs.declared.entry.Entry.{Entry}
 use Rattle.nvme_model.proofs.FirstBad.{legal_is_none, none_is_legal, some_is_first}
-use Rattle.history_check.specs.Kept.{Stands, State}
+use Rattle.history_check.specs.Kept.{Stands, CheckerRun}
 use Rattle.casdisk_script.specs.Explained.{IsExplained, explained_of}
 use Rattle.casdisk_script.specs.Files.{IsAnswer}
 use Rattle.casdisk_script.specs.Judged.{HasJudged, answer_text, first_rule}
@@ -30,7 +30,7 @@ pub answered_by : (c : ConfigNumbers) (past : Past) (bad : Option ℕ) → bad �
 answered_by c past None e = (no_place c past e, refl)
 answered_by c past (Some place) e = (place, some_is_first c (reverse past) place (of_file c past ∙ sym e), refl)
 
-not_legal : (c : ConfigNumbers) (past : Past) (o : Option ℕ) → is_some o ≡ true → o ≡ first_bad_of c past
+pub not_legal : (c : ConfigNumbers) (past : Past) (o : Option ℕ) → is_some o ≡ true → o ≡ first_bad_of c past
     → legal c past ≡ false
 not_legal c past None some e = absurd (let f : false ≡ true = some in cc)
 not_legal c past (Some place) some e = go (legal c past) refl
@@ -68,7 +68,7 @@ pub none_of : (o : Option ℕ) → is_some o ≡ false → o ≡ None
 none_of None none = refl
 none_of (Some place) none = absurd (let f : true ≡ false = none in cc)
 
-module _ (why : Bool) (c : ConfigNumbers) (past : Past) (e : Entry) (x y : State) (count : ℕ) where
+module _ (why : Bool) (c : ConfigNumbers) (past : Past) (e : Entry) (x y : CheckerRun) (count : ℕ) where
   abbrev this : Option ℕ
   this = cond (may_follow c past e) None (Some (length past + 1))
 

@@ -6,16 +6,17 @@ use Rattle.std.specs.Io.KnownBytes.{Appends, Keeps, IsAtEnd}
 use Rattle.std.proofs.KnownBytes.{Appends-nil, Appends-trans, Appends-kept, Consumes-nil, Consumes-trans}
 use Rattle.std.proofs.KnownBytes.{Consumes-whole}
 use Rattle.line_text.specs.Known.{AppendsFront}
-use Rattle.line_text.specs.Lines.{NoFeed, Gives, GivesFront, whole_lines, rest_line}
+use Rattle.line_text.specs.Lines.{NoFeed, GivesBytes, GivesFront, whole_lines, rest_line}
 use Rattle.line_text.proofs.Known.{front_first, front_second, known_input}
 use Rattle.line_text.proofs.LineLaws.{whole_is_first, rest_is_last}
 use Rattle.nvme_model.specs.History.{Past}
 use Rattle.casdisk_script.specs.Meaning.{Meaning, StopsInLine, text_of}
-use Rattle.casdisk_script.specs.Script.{Outcome, End, IsOpen, done, cut, bad_line, bad_config, ending, prefixed}
+use Rattle.casdisk_script.specs.Script.{Outcome, ScriptEnd, IsOpenEnd, done, cut, bad_line, bad_config, ending}
+use Rattle.casdisk_script.specs.Script.{prefixed}
 use Rattle.casdisk_script.specs.Script.{after_line, lines_print}
 use Rattle.line_text.specs.declared.lines.ReadFault.{ReadFault}
 use Rattle.casdisk_script.specs.Fault.{fault_of_read, fault_of_write}
-use Rattle.casdisk_script.specs.Running.{lines_from, Makes, Reached, PrintsAll, PrintsFront, PrintsRead, Runs}
+use Rattle.casdisk_script.specs.Running.{lines_from, Makes, Reached, PrintsAll, PrintsFront, PrintsRead, RunsScript}
 use Rattle.casdisk_script.specs.declared.fault.RunFault.{RunFault}
 use Rattle.casdisk_script.specs.declared.meaning.WriteFault.{WriteFault}
 use Rattle.casdisk_script.specs.declared.fault.RunFault.TheVariants.{BadLine, BadConfig, Input, Output, NoMemory}
@@ -75,9 +76,10 @@ print_nothing meaning past n [] = ap (λ (o : Outcome). o.text) (print_end meani
 print_nothing meaning past n (b ∷ bs) = ap (λ (o : Outcome). o.text) (print_cut meaning past n b bs)
 
 -- and is no bad line
-open_end : (meaning : Meaning) (past : Past) (n : ℕ) (rest : List ℕ) → IsOpen (lines_print meaning past n [] rest).end
-open_end meaning past n [] = subst (λ (o : Outcome). IsOpen o.end) (sym (print_end meaning past n)) tt
-open_end meaning past n (b ∷ bs) = subst (λ (o : Outcome). IsOpen o.end) (sym (print_cut meaning past n b bs)) tt
+open_end : (meaning : Meaning) (past : Past) (n : ℕ) (rest : List ℕ)
+    → IsOpenEnd (lines_print meaning past n [] rest).end
+open_end meaning past n [] = subst (λ (o : Outcome). IsOpenEnd o.end) (sym (print_end meaning past n)) tt
+open_end meaning past n (b ∷ bs) = subst (λ (o : Outcome). IsOpenEnd o.end) (sym (print_cut meaning past n b bs)) tt
 
 -- ---- no call yet
 
@@ -91,7 +93,7 @@ begins meaning past n r w held =
 module _ (outcome : List ℕ → Outcome) (meaning : Meaning) (past : Past) (n : ℕ) (r s t w v : Option (List ℕ))
     (held : List ℕ) (at : Reached outcome meaning past n r s w v held) where
   -- all that follows, after a line was read
-  pub meant : (after line more : List ℕ) (g : Gives s t held after (line ++ 10 ∷ [])) → NoFeed line
+  pub meant : (after line more : List ℕ) (g : GivesBytes s t held after (line ++ 10 ∷ [])) → NoFeed line
       → outcome ((at.bytes ++ g.bytes) ++ more)
       ≡ prefixed at.out (lines_print meaning past n (line ∷ whole_lines (after ++ more))
       (rest_line (after ++ more)))
@@ -102,7 +104,8 @@ module _ (outcome : List ℕ → Outcome) (meaning : Meaning) (past : Past) (n :
       ∙ ap (λ l. prefixed at.out (lines_print meaning past n l (rest_line (held ++ (g.bytes ++ more))))) first.0
       ∙ ap (λ l. prefixed at.out (lines_print meaning past n (line ∷ whole_lines (after ++ more)) l)) first.1
 
-  pub goes_on : (after line : List ℕ) (u : Option (List ℕ)) (x : Past × List ℕ) → Gives s t held after (line ++ 10 ∷ [])
+  pub goes_on : (after line : List ℕ) (u : Option (List ℕ)) (x : Past × List ℕ)
+      → GivesBytes s t held after (line ++ 10 ∷ [])
       → NoFeed line → meaning past line ≡ Some x → Appends v u x.1
       → Reached outcome meaning x.0 (n + 1) r t w u after
   goes_on after line u x g plain e p =
@@ -116,7 +119,7 @@ module _ (outcome : List ℕ → Outcome) (meaning : Meaning) (past : Past) (n :
             (rest_line (after ++ more)) x e) ∙ prefixed_twice at.out x.1 (lines_from meaning x.0 (n + 1) after more);
       }
 
-  pub ends_bad : (after line : List ℕ) (u : Option (List ℕ)) → Gives s t held after (line ++ 10 ∷ []) → NoFeed line
+  pub ends_bad : (after line : List ℕ) (u : Option (List ℕ)) → GivesBytes s t held after (line ++ 10 ∷ []) → NoFeed line
       → meaning past line ≡ None → Keeps v u → PrintsAll outcome (bad_line n) r w u
   ends_bad after line u g plain e p =
       known_input r t (at.bytes ++ g.bytes) _ (Consumes-trans r s t at.bytes g.bytes at.consumed g.consumed) (λ more.
@@ -126,7 +129,8 @@ module _ (outcome : List ℕ → Outcome) (meaning : Meaning) (past : Past) (n :
       ∙ sym (ap (λ (o : Outcome). o.text) is) in
       (ap (λ (o : Outcome). o.end) is, subst (Appends w u) text (Appends-kept w v u at.out at.written p)))
 
-  pub front_stopped : (after line : List ℕ) (u : Option (List ℕ)) → Gives s t held after (line ++ 10 ∷ []) → NoFeed line
+  pub front_stopped : (after line : List ℕ) (u : Option (List ℕ)) → GivesBytes s t held after (line ++ 10 ∷ [])
+      → NoFeed line
       → StopsInLine meaning past line v u → PrintsFront outcome r t w u
   front_stopped after line u g plain h =
       let said = print_line meaning past n line (whole_lines (after ++ [])) (rest_line (after ++ [])) in
@@ -167,7 +171,7 @@ module _ (outcome : List ℕ → Outcome) (meaning : Meaning) (past : Past) (n :
       ∙ append-nil at.out in (
         at.bytes ++ more,
         Consumes-trans r s t at.bytes more at.consumed g.0.consumed,
-        subst (λ (o : Outcome). IsOpen o.end) (sym is) (open_end meaning past n rest),
+        subst (λ (o : Outcome). IsOpenEnd o.end) (sym is) (open_end meaning past n rest),
         subst (Appends w v) (sym text) at.written,
       )
 
@@ -185,7 +189,8 @@ module _ (outcome : List ℕ → Outcome) (meaning : Meaning) (past : Past) (n :
         },
       )
 
-  pub ends_last : (after line : List ℕ) (e : End) → Gives s t held after line → NoFeed line → after ≡ [] → IsAtEnd t
+  pub ends_last : (after line : List ℕ) (e : ScriptEnd) → GivesBytes s t held after line → NoFeed line → after ≡ []
+      → IsAtEnd t
       → lines_print meaning past n [] line ≡ ending e past → PrintsAll outcome e r w v
   ends_last after line e g plain none end p =
       let last = rest_is_last s t held after line g plain none in
@@ -201,7 +206,8 @@ module _ (outcome : List ℕ → Outcome) (meaning : Meaning) (past : Past) (n :
       (ap (λ (o : Outcome). o.end) is, subst (Appends w v) text at.written)
 
   -- what holds of the history by now holds of the one that the whole input makes
-  pub makes_last : (after line : List ℕ) (e : End) (Stands : Past → Type 0) → Stands past → Gives s t held after line
+  pub makes_last : (after line : List ℕ) (e : ScriptEnd) (Stands : Past → Type 0) → Stands past
+      → GivesBytes s t held after line
       → NoFeed line → after ≡ [] → IsAtEnd t → lines_print meaning past n [] line ≡ ending e past
       → IfSome r (λ bytes. Stands (outcome bytes).past)
   makes_last after line e Stands stands g plain none end p =
@@ -220,18 +226,18 @@ module _ (outcome : List ℕ → Outcome) (meaning : Meaning) (past : Past) (n :
 -- no line was read
 pub runs_unread : (outcome : List ℕ → Outcome) (f : ReadFault) (r t w v : Option (List ℕ))
     → (f ≡ ReadFault.Input → PrintsRead outcome r t w v) → PrintsFront outcome r t w v
-    → Runs outcome (Err (fault_of_read f)) r t w v
+    → RunsScript outcome (Err (fault_of_read f)) r t w v
 runs_unread outcome ReadFault.Input r t w v whole front = whole refl
 runs_unread outcome ReadFault.NoMemory r t w v whole front = front
 
 -- a line wasn't done to its end
 pub runs_stopped : (outcome : List ℕ → Outcome) (f : WriteFault) (r t w v : Option (List ℕ))
-    → PrintsFront outcome r t w v → Runs outcome (Err (fault_of_write f)) r t w v
+    → PrintsFront outcome r t w v → RunsScript outcome (Err (fault_of_write f)) r t w v
 runs_stopped outcome WriteFault.Output r t w v p = p
 runs_stopped outcome WriteFault.NoMemory r t w v p = p
 
 -- what a run of the rest does, the whole run does
-prints_after : (outcome : List ℕ → Outcome) (meaning : Meaning) (past : Past) (n : ℕ) (e : End)
+prints_after : (outcome : List ℕ → Outcome) (meaning : Meaning) (past : Past) (n : ℕ) (e : ScriptEnd)
     (r s w v u : Option (List ℕ)) (held : List ℕ) → Reached outcome meaning past n r s w v held
     → PrintsAll (lines_from meaning past n held) e s v u → PrintsAll outcome e r w u
 prints_after outcome meaning past n e None s w v u held at p = tt
@@ -260,13 +266,13 @@ read_after outcome meaning past n r s t w v u held at p =
     let is = at.agrees p.0 in (
       at.bytes ++ p.0,
       Consumes-trans r s t at.bytes p.0 at.consumed p.1,
-      subst (λ (o : Outcome). IsOpen o.end) (sym is) p.2,
+      subst (λ (o : Outcome). IsOpenEnd o.end) (sym is) p.2,
       subst (λ (o : Outcome). Appends w u o.text) (sym is) (Appends-trans w v u at.out _ at.written p.3),
     )
 
 pub runs_after : (outcome : List ℕ → Outcome) (meaning : Meaning) (past : Past) (n : ℕ) (r s t w v u : Option (List ℕ))
     (held : List ℕ) (res : Result (Unit {0}) RunFault) → Reached outcome meaning past n r s w v held
-    → Runs (lines_from meaning past n held) res s t v u → Runs outcome res r t w u
+    → RunsScript (lines_from meaning past n held) res s t v u → RunsScript outcome res r t w u
 runs_after outcome meaning past n r s t w v u held (Ok x) at p =
     (prints_after outcome meaning past n done r s w v u held at p.0, p.1)
 runs_after outcome meaning past n r s t w v u held (Err (BadLine k)) at (inl p) =

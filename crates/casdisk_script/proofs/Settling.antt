@@ -10,7 +10,7 @@ use Rattle.nvme_model.specs.History.{Past}
 use Rattle.nvme_model.specs.Steps.{ready}
 use Rattle.nvme_model.specs.declared.config.ConfigNumbers.{ConfigNumbers}
 use Rattle.nvme_model.specs.declared.step.Step.{Step}
-use Rattle.casdisk_script.specs.Doing.{Says}
+use Rattle.casdisk_script.specs.Doing.{SaysAll}
 use Rattle.casdisk_script.specs.Said.{all_ready, ready_by, settle_says, step_says, then_more}
 
 -- a text that was written, and then what is said
@@ -46,7 +46,7 @@ module _ (kinds : ℕ) (c : ConfigNumbers) where
   ended : (past now : Past) (out : List ℕ) (w v : Option (List ℕ)) (n : ℕ)
       → settle_says all_ready kinds c past ≡ said_after out (settle_says n kinds c now)
       → settle_says n kinds c now ≡ (now, [])
-      → Appends w v out → Says (settle_says all_ready kinds c past) now w v
+      → Appends w v out → SaysAll (settle_says all_ready kinds c past) now w v
   ended past now out w v n e h p =
       let all : settle_says all_ready kinds c past ≡ (now, out ++ []) = e ∙ ap (said_after out) h in (
         ap (λ (x : Past × List ℕ). x.0) (sym all),
@@ -56,26 +56,27 @@ module _ (kinds : ℕ) (c : ConfigNumbers) where
   module _ (past now : Past) (turn : ℕ) (w v : Option (List ℕ)) where
     none_left : (left : ℕ) (out : List ℕ) → turn + left ≡ all_ready → turn < all_ready
         → settle_says all_ready kinds c past ≡ said_after out (settle_says left kinds c now) → Appends w v out
-        → ready c now ≡ None → Says (settle_says all_ready kinds c past) now w v
+        → ready c now ≡ None → SaysAll (settle_says all_ready kinds c past) now w v
     none_left zero out m less e p none = absurd (omega (arith, m, less))
     none_left (suc n) out m less e p none = ended past now out w v (suc n) e (settle_none n now none) p
 
     pub settled_ready : Settled past now turn w v → turn < all_ready → ready c now ≡ None
-        → Says (settle_says all_ready kinds c past) now w v
+        → SaysAll (settle_says all_ready kinds c past) now w v
     settled_ready at less none = none_left at.left at.out at.count less at.agrees at.written none
 
     none_more : (left : ℕ) (out : List ℕ) → left ≡ 0
         → settle_says all_ready kinds c past ≡ said_after out (settle_says left kinds c now) → Appends w v out
-        → Says (settle_says all_ready kinds c past) now w v
+        → SaysAll (settle_says all_ready kinds c past) now w v
     none_more left out z e p = ended past now out w v left e (ap (λ n. settle_says n kinds c now) z ∙ settle_zero now) p
 
-    pub settled_all : Settled past now turn w v → turn ≡ all_ready → Says (settle_says all_ready kinds c past) now w v
+    pub settled_all : Settled past now turn w v → turn ≡ all_ready
+        → SaysAll (settle_says all_ready kinds c past) now w v
     settled_all at e = none_more at.left at.out (omega (arith, at.count, e)) at.agrees at.written
 
     module _ (step : Step) (some : ready c now ≡ Some step) where
       next : (left : ℕ) (out : List ℕ) → turn + left ≡ all_ready → turn < all_ready
           → settle_says all_ready kinds c past ≡ said_after out (settle_says left kinds c now) → Appends w v out
-          → (after : Past) (u : Option (List ℕ)) → Says (step_says kinds c now step) after v u
+          → (after : Past) (u : Option (List ℕ)) → SaysAll (step_says kinds c now step) after v u
           → Settled past after (turn + 1) w u
       next zero out m less e p after u s = absurd (omega (arith, m, less))
       next (suc n) out m less e p after u s =
@@ -93,7 +94,7 @@ module _ (kinds : ℕ) (c : ConfigNumbers) where
           }
 
       pub settled_next : Settled past now turn w v → turn < all_ready → (after : Past) (u : Option (List ℕ))
-          → Says (step_says kinds c now step) after v u → Settled past after (turn + 1) w u
+          → SaysAll (step_says kinds c now step) after v u → Settled past after (turn + 1) w u
       settled_next at less = next at.left at.out at.count less at.agrees at.written
 
       cut : (left : ℕ) (out : List ℕ) → turn + left ≡ all_ready → turn < all_ready

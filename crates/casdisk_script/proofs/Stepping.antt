@@ -10,10 +10,10 @@ use Rattle.nvme_model.specs.Steps.{next_entry}
 use Rattle.nvme_model.specs.declared.entry.Entry.{Entry}
 use Rattle.nvme_model.specs.declared.refusal.Why.{Why}
 use Rattle.nvme_model.specs.declared.step.Step.{Step}
-use Rattle.controller_steps.specs.State.{Serves, State, after, refused_as}
+use Rattle.controller_steps.specs.State.{Serves, ControllerState, state_after, refused_as}
 use Rattle.controller_steps.specs.declared.answer.Answer.{Answer}
 use Rattle.controller_steps.specs.declared.answer.Refused.{Refused}
-use Rattle.casdisk_script.specs.Doing.{Says, why_of}
+use Rattle.casdisk_script.specs.Doing.{SaysAll, why_of}
 use Rattle.casdisk_script.specs.Said.{entry_text, refusal_text, step_by, step_says}
 use Rattle.casdisk_script.specs.declared.meaning.WriteFault.{WriteFault}
 
@@ -36,21 +36,21 @@ refusal_is None why e n = absurd (n e)
 refusal_is (Some x) why e n = ap Some (sym e)
 
 -- a step leaves the configuration
-pub config_served : (old new : State) (step : Step) (r : Result Answer Refused) → Serves old step r new
+pub config_served : (old new : ControllerState) (step : Step) (r : Result Answer Refused) → Serves old step r new
     → new.config ≡ old.config
-config_served old new step (Ok a) s = ap (λ (x : State). x.config) s.1
-config_served old new step (Err r) s = ap (λ (x : State). x.config) s.1
+config_served old new step (Ok a) s = ap (λ (x : ControllerState). x.config) s.1
+config_served old new step (Err r) s = ap (λ (x : ControllerState). x.config) s.1
 
-module _ (kinds : ℕ) (old new : State) (step : Step) (w v : Option (List ℕ)) where
+module _ (kinds : ℕ) (old new : ControllerState) (step : Step) (w v : Option (List ℕ)) where
   module _ (r : Result (Unit {0}) WriteFault) (none : refusal old.config old.past step ≡ None)
-      (made : new ≡ after old step new.room) where
+      (made : new ≡ state_after old step new.room) where
     pub made_done : ((e : Entry) (past : Past) → new.past ≡ e ∷ past → OnOk r (Appends w v (entry_text kinds e)))
-        → OnOk r (Says (step_says kinds old.config old.past step) new.past w v)
+        → OnOk r (SaysAll (step_says kinds old.config old.past step) new.past w v)
     made_done told =
         on_ok_then r (λ (p : Appends w v (entry_text kinds (next_entry old.config old.past step))).
-        subst (λ o. Says (step_by kinds old.config old.past step o) new.past w v) (sym none)
-        (ap (λ (x : State). x.past) made, p))
-        (told (next_entry old.config old.past step) old.past (ap (λ (x : State). x.past) made))
+        subst (λ o. SaysAll (step_by kinds old.config old.past step o) new.past w v) (sym none)
+        (ap (λ (x : ControllerState). x.past) made, p))
+        (told (next_entry old.config old.past step) old.past (ap (λ (x : ControllerState). x.past) made))
 
     pub made_stopped : ((e : Entry) (past : Past) → new.past ≡ e ∷ past
         → OnErr r (AppendsFront w v (entry_text kinds e)))
@@ -58,15 +58,15 @@ module _ (kinds : ℕ) (old new : State) (step : Step) (w v : Option (List ℕ))
     made_stopped told =
         on_err_then r (λ (p : AppendsFront w v (entry_text kinds (next_entry old.config old.past step))).
         subst (λ o. AppendsFront w v (step_by kinds old.config old.past step o).1) (sym none) p)
-        (told (next_entry old.config old.past step) old.past (ap (λ (x : State). x.past) made))
+        (told (next_entry old.config old.past step) old.past (ap (λ (x : ControllerState). x.past) made))
 
   module _ (why : Why) (is : why ≡ unwrap_or (refusal old.config old.past step) Why.NoMemory) where
     pub refused_done : (r : Result (Unit {0}) WriteFault) → new ≡ record old { room = new.room }
         → OnOk r (Appends w v (refusal_text kinds why)) → OnOk r (why ≢ Why.NoMemory)
-        → OnOk r (Says (step_says kinds old.config old.past step) new.past w v)
+        → OnOk r (SaysAll (step_says kinds old.config old.past step) new.past w v)
     refused_done (Ok x) same told other =
-        subst (λ o. Says (step_by kinds old.config old.past step o) new.past w v) (sym (refusal_is _ why is other))
-        (ap (λ (x : State). x.past) same, told)
+        subst (λ o. SaysAll (step_by kinds old.config old.past step o) new.past w v) (sym (refusal_is _ why is other))
+        (ap (λ (x : ControllerState). x.past) same, told)
     refused_done (Err x) same told other = tt
 
     begun : (o : Option Why) → why ≡ unwrap_or o Why.NoMemory → AppendsFront w v (refusal_text kinds why)

@@ -11,12 +11,12 @@ use Rattle.nvme_model.specs.declared.config.ConfigNumbers.{ConfigNumbers}
 use Rattle.nvme_model.specs.declared.entry.Entry.{Entry}
 use Rattle.seen_trace.specs.declared.seen.Seen.{Seen}
 use Rattle.witness_check.specs.Compared.{IsVerdict}
-use Rattle.witness_check.specs.declared.comparison.Verdict.{Verdict}
-use Rattle.casdisk_script.specs.Certified.{CertifiesText, HasVerdict, HaveOtherConfigs, IsUncompared, IsVerdictOf}
+use Rattle.witness_check.specs.declared.comparison.TraceVerdict.{TraceVerdict}
+use Rattle.casdisk_script.specs.Certified.{CertifiesText, HasTextVerdict, HaveOtherConfigs, IsUncompared, IsVerdictOf}
 use Rattle.casdisk_script.specs.Certified.{TellsVerdict}
 use Rattle.casdisk_script.specs.Files.{HasHistory, IsUnread, entry_added, file_of}
-use Rattle.casdisk_script.specs.Running.{Makes, Runs}
-use Rattle.casdisk_script.specs.Script.{first_config, outcome}
+use Rattle.casdisk_script.specs.Running.{Makes, RunsScript}
+use Rattle.casdisk_script.specs.Script.{first_config, script_outcome}
 use Rattle.casdisk_script.specs.Traces.{HasTrace, trace_in}
 use Rattle.casdisk_script.specs.declared.certify_fault.CertifyFault.{CertifyFault}
 use Rattle.casdisk_script.specs.declared.certify_fault.CertifyFault.TheVariants.{History, OtherConfig, Output, Trace}
@@ -30,8 +30,8 @@ pub entry_more : (entries : List Entry) (e : Entry) (past : Past) → entries �
 entry_more entries e past h = ap (λ (xs : List Entry). xs ++ e ∷ []) h ∙ sym (reverse-append (e ∷ []) past)
 
 pub whole_history : (c : ConfigNumbers) (entries : List Entry) (r t w u : Option (List ℕ))
-    → Runs (outcome (λ k. entry_added)) (Ok tt) r t w u
-    → Makes (outcome (λ k. entry_added)) (Ok tt) r (λ past. entries ≡ reverse past)
+    → RunsScript (script_outcome (λ k. entry_added)) (Ok tt) r t w u
+    → Makes (script_outcome (λ k. entry_added)) (Ok tt) r (λ past. entries ≡ reverse past)
     → IfSome r (λ bytes. first_config (whole_lines bytes) ≡ Some c)
     → IsAtEnd t × IfSome r (HasHistory (λ d past. (d ≡ c) × (entries ≡ reverse past)))
 whole_history c entries None t w u ran makes known = (ran.1, tt)
@@ -48,7 +48,8 @@ module _ (c d : ConfigNumbers) (things : List Seen) (entries : List Entry) where
   abbrev IsHistory : List ℕ → Type 0
   IsHistory = HasHistory (λ k past. (k ≡ d) × (entries ≡ reverse past))
 
-  verdict_of : (v : Verdict) (t h : List ℕ) → IsTrace t → IsHistory h → c ≡ d → IsVerdict c (reverse entries) things v
+  verdict_of : (v : TraceVerdict) (t h : List ℕ) → IsTrace t → IsHistory h → c ≡ d
+      → IsVerdict c (reverse entries) things v
       → IsVerdictOf v t h
   verdict_of v t h trace history same says =
       let whole : reverse entries ≡ (file_of h).past = ap reverse history.1.2.1 ∙ reverse-reverse (file_of h).past in
@@ -63,14 +64,14 @@ module _ (c d : ConfigNumbers) (things : List Seen) (entries : List Entry) where
         ),
       )
 
-  has_verdict : (v : Verdict) (Holds : Verdict → Type 0) (t h : Option (List ℕ)) → IfSome t IsTrace
-      → IfSome h IsHistory → c ≡ d → IsVerdict c (reverse entries) things v → Holds v → HasVerdict Holds t h
+  has_verdict : (v : TraceVerdict) (Holds : TraceVerdict → Type 0) (t h : Option (List ℕ)) → IfSome t IsTrace
+      → IfSome h IsHistory → c ≡ d → IsVerdict c (reverse entries) things v → Holds v → HasTextVerdict Holds t h
   has_verdict v Holds None h trace history same says holds = tt
   has_verdict v Holds (Some t) None trace history same says holds = tt
   has_verdict v Holds (Some t) (Some h) trace history same says holds =
       (v, verdict_of v t h trace history same says, holds)
 
-  pub certified : (v : Verdict) (res : Result Bool CertifyFault) (t u h l x y : Option (List ℕ))
+  pub certified : (v : TraceVerdict) (res : Result Bool CertifyFault) (t u h l x y : Option (List ℕ))
       → IsAtEnd u × IfSome t IsTrace → IsAtEnd l × IfSome h IsHistory
       → (c ≡ d) × IsVerdict c (reverse entries) things v → TellsVerdict v res x y → CertifiesText res t u h l x y
   certified v (Ok answer) t u h l x y trace history says told =

@@ -7,12 +7,12 @@ use Rattle.line_text.specs.Known.{AppendsFront}
 use Rattle.line_text.specs.Lines.{whole_lines}
 use Rattle.nvme_model.specs.declared.config.ConfigNumbers.{ConfigNumbers}
 use Rattle.witness_check.specs.Compared.{IsVerdict}
-use Rattle.witness_check.specs.declared.comparison.Verdict.{Verdict}
-use Rattle.witness_check.specs.declared.comparison.Verdict.TheVariants.{Bad, Explained, Unlike}
+use Rattle.witness_check.specs.declared.comparison.TraceVerdict.{TraceVerdict}
+use Rattle.witness_check.specs.declared.comparison.TraceVerdict.TheVariants.{Bad, Explained, Unlike}
 use Rattle.witness_check.specs.declared.difference.Difference.{Difference}
 use Rattle.witness_check.specs.declared.difference.Difference.TheVariants.{Batch, Completion, Data, HistoryEnds, Kind}
 use Rattle.witness_check.specs.declared.difference.Difference.TheVariants.{Queue, TraceEnds}
-use Rattle.casdisk_script.specs.Fault.{status_of}
+use Rattle.casdisk_script.specs.Fault.{exit_status}
 use Rattle.casdisk_script.specs.Files.{HasHistory, IsUnread, bad_text}
 use Rattle.casdisk_script.specs.Script.{first_config}
 use Rattle.casdisk_script.specs.Traces.{HasTrace, IsTraceUnread}
@@ -22,8 +22,8 @@ use Rattle.casdisk_script.specs.declared.fault.RunFault.TheVariants.{NoMemory}
 
 -- the status with which the program ends then
 abbrev pub certify_status : CertifyFault → ℕ
-certify_status (Trace f) = status_of f
-certify_status (History f) = status_of f
+certify_status (Trace f) = exit_status f
+certify_status (History f) = exit_status f
 certify_status OtherConfig = 2
 certify_status Output = 3
 
@@ -38,26 +38,26 @@ difference_text Completion = codes ": the completion" ++ 10 ∷ []
 difference_text Data = codes ": the data" ++ 10 ∷ []
 
 -- the line of a verdict
-abbrev pub verdict_text : Verdict → List ℕ
+abbrev pub verdict_text : TraceVerdict → List ℕ
 verdict_text Explained = codes "explained" ++ 10 ∷ []
 verdict_text (Bad k) = bad_text k
 verdict_text (Unlike k d) = join_with_byte 32 (codes "seen" ∷ decimal k ∷ []) ++ difference_text d
 
 -- the trace is explained
-abbrev pub explains : Verdict → Bool
+abbrev pub explains : TraceVerdict → Bool
 explains Explained = true
 explains (Bad k) = false
 explains (Unlike k d) = false
 
 -- the verdict on the texts of a trace and of a history, which have one configuration
-abbrev pub IsVerdictOf : Verdict → List ℕ → List ℕ → Type 0
+abbrev pub IsVerdictOf : TraceVerdict → List ℕ → List ℕ → Type 0
 IsVerdictOf v trace history =
     HasTrace (λ c things. HasHistory (λ d past. (c ≡ d) × IsVerdict c past things v) history) trace
 
 -- two texts, where they are known, have a verdict, of which this holds
-abbrev pub HasVerdict : (Verdict → Type 0) → Option (List ℕ) → Option (List ℕ) → Type 0
-HasVerdict Holds trace history =
-    IfSome trace (λ t. IfSome history (λ h. (v : Verdict) × IsVerdictOf v t h × Holds v))
+abbrev pub HasTextVerdict : (TraceVerdict → Type 0) → Option (List ℕ) → Option (List ℕ) → Type 0
+HasTextVerdict Holds trace history =
+    IfSome trace (λ t. IfSome history (λ h. (v : TraceVerdict) × IsVerdictOf v t h × Holds v))
 
 -- the first lines of two texts have configurations that differ
 abbrev pub HaveOtherConfigs : List ℕ → List ℕ → Type 0
@@ -79,16 +79,16 @@ abbrev pub CertifiesText : Result Bool CertifyFault →
     (trace trace_left history history_left old new : Option (List ℕ)) → Type 0
 CertifiesText (Ok answer) trace trace_left history history_left old new =
     IsAtEnd trace_left × IsAtEnd history_left
-    × HasVerdict (λ v. (answer ≡ explains v) × Appends old new (verdict_text v)) trace history
+    × HasTextVerdict (λ v. (answer ≡ explains v) × Appends old new (verdict_text v)) trace history
 CertifiesText (Err Output) trace trace_left history history_left old new =
-    HasVerdict (λ v. AppendsFront old new (verdict_text v)) trace history
+    HasTextVerdict (λ v. AppendsFront old new (verdict_text v)) trace history
 CertifiesText (Err f) trace trace_left history history_left old new =
     IsUnsaid f trace trace_left history history_left × Keeps old new
 
 -- ---- on the way there
 
 -- it was written, or a beginning of it
-abbrev pub TellsVerdict : Verdict → Result Bool CertifyFault → Option (List ℕ) → Option (List ℕ) → Type 0
+abbrev pub TellsVerdict : TraceVerdict → Result Bool CertifyFault → Option (List ℕ) → Option (List ℕ) → Type 0
 TellsVerdict v (Ok answer) old new = (answer ≡ explains v) × Appends old new (verdict_text v)
 TellsVerdict v (Err Output) old new = AppendsFront old new (verdict_text v)
 TellsVerdict v (Err f) old new = ⊥

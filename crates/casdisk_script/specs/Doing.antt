@@ -6,8 +6,8 @@ use Rattle.nvme_model.specs.declared.refusal.Why.{Why}
 use Rattle.controller_steps.specs.declared.answer.Refused.{Refused}
 
 -- all of it: the history is as it has to be, and the text is written
-abbrev pub Says : Past × List ℕ → Past → Option (List ℕ) → Option (List ℕ) → Type 0
-Says x after old new = (after ≡ x.0) × Appends old new x.1
+abbrev pub SaysAll : Past × List ℕ → Past → Option (List ℕ) → Option (List ℕ) → Type 0
+SaysAll x after old new = (after ≡ x.0) × Appends old new x.1
 
 -- why a step was refused
 abbrev pub why_of : Refused → Why

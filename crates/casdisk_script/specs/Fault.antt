@@ -21,9 +21,9 @@ fault_in_memory Output = NoMemory
 fault_in_memory f = f
 
 -- the status after a run that ended early
-abbrev pub status_of : RunFault → ℕ
-status_of (BadLine n) = 2
-status_of (BadConfig c) = 2
-status_of Input = 3
-status_of Output = 3
-status_of NoMemory = 4
+abbrev pub exit_status : RunFault → ℕ
+exit_status (BadLine n) = 2
+exit_status (BadConfig c) = 2
+exit_status Input = 3
+exit_status Output = 3
+exit_status NoMemory = 4

@@ -11,7 +11,8 @@ use Rattle.nvme_model.specs.Legal.{IsLegal}
 use Rattle.nvme_model.specs.declared.config.ConfigNumbers.{ConfigNumbers}
 use Rattle.history.specs.Lines.{entry_in}
 use Rattle.casdisk_script.specs.Meaning.{Meaning}
-use Rattle.casdisk_script.specs.Script.{End, IsOpen, Outcome, bad_config, bad_line, cut, done, first_config, outcome}
+use Rattle.casdisk_script.specs.Script.{ScriptEnd, IsOpenEnd, Outcome, bad_config, bad_line, cut, done, first_config}
+use Rattle.casdisk_script.specs.Script.{script_outcome}
 use Rattle.casdisk_script.specs.declared.fault.RunFault.{RunFault}
 use Rattle.casdisk_script.specs.declared.fault.RunFault.TheVariants.{BadLine, BadConfig, Input, Output, NoMemory}
 
@@ -21,7 +22,7 @@ entry_added past line = option_map (λ e. (e ∷ past, [])) (entry_in line)
 
 -- how a file ends, and the history that it has
 abbrev pub file_of : List ℕ → Outcome
-file_of input = outcome (λ c. entry_added) input
+file_of input = script_outcome (λ c. entry_added) input
 
 -- the lines of a check
 abbrev pub legal_text : List ℕ
@@ -47,14 +48,14 @@ abbrev pub IsAnswerOf : List ℕ → Bool → List ℕ → Type 0
 IsAnswerOf input answer text = HasHistory (λ c past. IsAnswer c past answer text) input
 
 -- the file ends so
-abbrev pub EndsSo : End → Option (List ℕ) → Type 0
+abbrev pub EndsSo : ScriptEnd → Option (List ℕ) → Type 0
 EndsSo e input = IfSome input (λ bytes. (file_of bytes).end ≡ e)
 
 -- By why the lines of a file weren't all read: how it ends, or that no line of what was read is bad.
 abbrev pub IsUnread : RunFault → Option (List ℕ) → Option (List ℕ) → Type 0
 IsUnread (BadLine n) input left = EndsSo (bad_line n) input ⊎ EndsSo (cut n) input
 IsUnread (BadConfig c) input left = EndsSo (bad_config c) input
-IsUnread Input input left = (bytes : List ℕ) × Consumes input left bytes × IsOpen (file_of bytes).end
+IsUnread Input input left = (bytes : List ℕ) × Consumes input left bytes × IsOpenEnd (file_of bytes).end
 IsUnread Output input left = ⊥
 IsUnread NoMemory input left = Unit {0}
 

@@ -9,7 +9,7 @@ use Rattle.nvme_model.specs.History.{Past}
 use Rattle.nvme_model.specs.Legal.{IsLegal}
 use Rattle.nvme_model.specs.declared.config.ConfigNumbers.{ConfigNumbers}
 use Rattle.casdisk_script.specs.Files.{HasHistory, IsAnswer, IsAnswerOf, IsUnread, file_of}
-use Rattle.casdisk_script.specs.Script.{IsOpen, Outcome, bad_line, cut, done, ending, first_config}
+use Rattle.casdisk_script.specs.Script.{IsOpenEnd, Outcome, bad_line, cut, done, ending, first_config}
 use Rattle.casdisk_script.specs.declared.fault.RunFault.{RunFault}
 use Rattle.casdisk_script.specs.declared.fault.RunFault.TheVariants.{BadLine, Input, Output, NoMemory}
 
@@ -31,7 +31,7 @@ abbrev pub IsUnfollowed : RunFault → Option (List ℕ) → Option (List ℕ) �
 IsUnfollowed (BadLine n) input left =
     IsUnread (BadLine n) input left × (1 < n → IfSome input (λ all. AreLegalIn all (file_of all).past))
 IsUnfollowed Input input left =
-    (bytes : List ℕ) × Consumes input left bytes × IsOpen (file_of bytes).end
+    (bytes : List ℕ) × Consumes input left bytes × IsOpenEnd (file_of bytes).end
     × IfSome input (λ all. AreLegalIn all (file_of bytes).past)
 IsUnfollowed f input left = IsUnread f input left
 
@@ -70,6 +70,6 @@ FollowsLines outcome c (Err (BadLine n)) place input left =
     IfSome input (λ bytes. (((outcome bytes).end ≡ bad_line n) ⊎ ((outcome bytes).end ≡ cut n))
     × IsLegal c (outcome bytes).past)
 FollowsLines outcome c (Err Input) place input left =
-    (bytes : List ℕ) × Consumes input left bytes × IsOpen (outcome bytes).end × IsLegal c (outcome bytes).past
+    (bytes : List ℕ) × Consumes input left bytes × IsOpenEnd (outcome bytes).end × IsLegal c (outcome bytes).past
 FollowsLines outcome c (Err NoMemory) place input left = Unit {0}
 FollowsLines outcome c (Err f) place input left = ⊥

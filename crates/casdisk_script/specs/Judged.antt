@@ -9,7 +9,7 @@ use Rattle.nvme_model.specs.Legal.{legal}
 use Rattle.nvme_model.specs.declared.config.ConfigNumbers.{ConfigNumbers}
 use Rattle.broken_rules.specs.Broken.{first_broken}
 use Rattle.broken_rules.specs.declared.broken.Broken.{Broken}
-use Rattle.history_check.specs.Kept.{Stands, State}
+use Rattle.history_check.specs.Kept.{Stands, CheckerRun}
 use Rattle.casdisk_script.specs.Files.{bad_text, legal_text}
 use Rattle.casdisk_script.specs.declared.fault.RunFault.{RunFault}
 use Rattle.casdisk_script.specs.declared.fault.RunFault.TheVariants.{Output}
@@ -26,7 +26,8 @@ pub record HasFirstBad (why : Bool) (c : ConfigNumbers) (past : Past) (bad : Fir
   pub rule : why ≡ true → bad.broken ≡ first_rule c past
 
 -- so many entries were judged, this is the first bad one, and where there is none the checker stands for them
-pub record HasJudged (why : Bool) (c : ConfigNumbers) (past : Past) (x : State) (count : ℕ) (bad : FirstBad) : Type 0
+pub record HasJudged (why : Bool) (c : ConfigNumbers) (past : Past) (x : CheckerRun) (count : ℕ)
+    (bad : FirstBad) : Type 0
   where
     pub counted : count ≡ length past
     pub first : HasFirstBad why c past bad
@@ -38,7 +39,7 @@ answer_text None = legal_text
 answer_text (Some place) = bad_text place
 
 -- it was written, or a beginning of it
-abbrev pub Tells : Option ℕ → Result Bool RunFault → Option (List ℕ) → Option (List ℕ) → Type 0
-Tells bad (Ok answer) old new = (answer ≡ is_none bad) × Appends old new (answer_text bad)
-Tells bad (Err Output) old new = AppendsFront old new (answer_text bad)
-Tells bad (Err f) old new = ⊥
+abbrev pub TellsAnswer : Option ℕ → Result Bool RunFault → Option (List ℕ) → Option (List ℕ) → Type 0
+TellsAnswer bad (Ok answer) old new = (answer ≡ is_none bad) × Appends old new (answer_text bad)
+TellsAnswer bad (Err Output) old new = AppendsFront old new (answer_text bad)
+TellsAnswer bad (Err f) old new = ⊥

@@ -11,3 +11,4 @@ pub mod Explained
 pub mod Kinds
 pub mod Traces
 pub mod Certified
+pub mod Tracing

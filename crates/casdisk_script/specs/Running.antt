@@ -5,12 +5,13 @@ use Rattle.line_text.specs.Known.{AppendsFront}
 use Rattle.line_text.specs.Lines.{whole_lines, rest_line}
 use Rattle.nvme_model.specs.History.{Past}
 use Rattle.casdisk_script.specs.Meaning.{Meaning}
-use Rattle.casdisk_script.specs.Script.{Outcome, End, IsOpen, done, cut, bad_line, bad_config, lines_print, prefixed}
+use Rattle.casdisk_script.specs.Script.{Outcome, ScriptEnd, IsOpenEnd, done, cut, bad_line, bad_config, lines_print}
+use Rattle.casdisk_script.specs.Script.{prefixed}
 use Rattle.casdisk_script.specs.declared.fault.RunFault.{RunFault}
 use Rattle.casdisk_script.specs.declared.fault.RunFault.TheVariants.{BadLine, BadConfig, Input, Output, NoMemory}
 
 -- the input ends so, and its whole text was written
-abbrev pub PrintsAll : (List ℕ → Outcome) → End → Option (List ℕ) → Option (List ℕ) → Option (List ℕ) → Type 0
+abbrev pub PrintsAll : (List ℕ → Outcome) → ScriptEnd → Option (List ℕ) → Option (List ℕ) → Option (List ℕ) → Type 0
 PrintsAll outcome e input old new =
     IfSome input (λ bytes. ((outcome bytes).end ≡ e) × Appends old new (outcome bytes).text)
 
@@ -22,18 +23,18 @@ PrintsFront outcome input left old new =
 -- all that was read is done: no line of it is bad, and its whole text was written
 abbrev pub PrintsRead : (List ℕ → Outcome) → (input left old new : Option (List ℕ)) → Type 0
 PrintsRead outcome input left old new =
-    (bytes : List ℕ) × Consumes input left bytes × IsOpen (outcome bytes).end × Appends old new (outcome bytes).text
+    (bytes : List ℕ) × Consumes input left bytes × IsOpenEnd (outcome bytes).end × Appends old new (outcome bytes).text
 
 -- By what the run answered: the whole text and the reader at its end; the text before the bad line, or none; the whole
 -- text of what was read, where reading failed; or a beginning of that.
-abbrev pub Runs : (List ℕ → Outcome) → Result (Unit {0}) RunFault → (input left old new : Option (List ℕ)) → Type 0
-Runs outcome (Ok x) input left old new = PrintsAll outcome done input old new × IsAtEnd left
-Runs outcome (Err (BadLine n)) input left old new =
+abbrev pub RunsScript : (List ℕ → Outcome) → Result (Unit {0}) RunFault → (r t v w : Option (List ℕ)) → Type 0
+RunsScript outcome (Ok x) input left old new = PrintsAll outcome done input old new × IsAtEnd left
+RunsScript outcome (Err (BadLine n)) input left old new =
     PrintsAll outcome (bad_line n) input old new ⊎ PrintsAll outcome (cut n) input old new
-Runs outcome (Err (BadConfig c)) input left old new = PrintsAll outcome (bad_config c) input old new
-Runs outcome (Err Input) input left old new = PrintsRead outcome input left old new
-Runs outcome (Err Output) input left old new = PrintsFront outcome input left old new
-Runs outcome (Err NoMemory) input left old new = PrintsFront outcome input left old new
+RunsScript outcome (Err (BadConfig c)) input left old new = PrintsAll outcome (bad_config c) input old new
+RunsScript outcome (Err Input) input left old new = PrintsRead outcome input left old new
+RunsScript outcome (Err Output) input left old new = PrintsFront outcome input left old new
+RunsScript outcome (Err NoMemory) input left old new = PrintsFront outcome input left old new
 
 -- where all was read, `Stands` holds of the history that the input makes
 abbrev pub Makes : (List ℕ → Outcome) → Result (Unit {0}) RunFault → Option (List ℕ) → (Past → Type 0) → Type 0

@@ -18,25 +18,25 @@ use Rattle.script_lines.specs.declared.line.ScriptLine.{ScriptLine}
 use Rattle.casdisk_script.specs.Meaning.{Meaning}
 
 -- a line with its line feed, where its kind is among those shown
-abbrev pub shown : ℕ → ℕ → List ℕ → List ℕ
-shown kinds kind line = if bit_and kinds kind == kind then line ++ 10 ∷ [] else []
+abbrev pub shown_line : ℕ → ℕ → List ℕ → List ℕ
+shown_line kinds kind line = if bit_and kinds kind == kind then line ++ 10 ∷ [] else []
 
 -- the kind of an entry's line
-abbrev pub kind_of : Entry → ℕ
-kind_of (Entry.Publish p) = 1
-kind_of (Entry.Fetch f) = 2
-kind_of (Entry.Grant g) = 4
-kind_of (Entry.Block b) = 8
-kind_of (Entry.Post p) = 16
-kind_of (Entry.Reap r) = 32
+abbrev pub line_kind : Entry → ℕ
+line_kind (Entry.Publish p) = 1
+line_kind (Entry.Fetch f) = 2
+line_kind (Entry.Grant g) = 4
+line_kind (Entry.Block b) = 8
+line_kind (Entry.Post p) = 16
+line_kind (Entry.Reap r) = 32
 
 -- what an accepted step prints
 abbrev pub entry_text : ℕ → Entry → List ℕ
-entry_text kinds e = shown kinds (kind_of e) (entry_line e)
+entry_text kinds e = shown_line kinds (line_kind e) (entry_line e)
 
 -- what a refused step prints: `refused` and the number of the refusal
 abbrev pub refusal_text : ℕ → Why → List ℕ
-refusal_text kinds why = shown kinds 64 (join_with_byte 32 (codes "refused" ∷ decimal (refusal_number why) ∷ []))
+refusal_text kinds why = shown_line kinds 64 (join_with_byte 32 (codes "refused" ∷ decimal (refusal_number why) ∷ []))
 
 -- a block as it lies in the volume, or `none` past the end
 abbrev pub block_word : ConfigNumbers → Past → ℕ → List ℕ
@@ -44,7 +44,8 @@ block_word c past l = if nat_le c.blocks l then codes "none" else data_text 512 
 
 -- what `medium L` prints
 abbrev pub medium_text : ℕ → ConfigNumbers → Past → ℕ → List ℕ
-medium_text kinds c past l = shown kinds 128 (join_with_byte 32 (codes "medium" ∷ decimal l ∷ block_word c past l ∷ []))
+medium_text kinds c past l =
+    shown_line kinds 128 (join_with_byte 32 (codes "medium" ∷ decimal l ∷ block_word c past l ∷ []))
 
 -- what a step that is accepted, or refused so, does and prints
 abbrev pub step_by : ℕ → ConfigNumbers → Past → Step → Option Why → Past × List ℕ

@@ -1,7 +1,7 @@
 -- What a script prints, and how it ends.
 use Rattle.std.specs.Prelude.{ℕ, ◌+◌, List, [], ◌∷◌, ◌++◌, Option, Some, None}
 use Rattle.line_text.specs.Lines.{whole_lines, rest_line}
-use Rattle.nvme_model.specs.Config.{config_fault, fault_number}
+use Rattle.nvme_model.specs.Config.{config_fault, config_fault_number}
 use Rattle.nvme_model.specs.History.{Past}
 use Rattle.nvme_model.specs.declared.config.ConfigFault.{ConfigFault}
 use Rattle.nvme_model.specs.declared.config.ConfigNumbers.{ConfigNumbers}
@@ -10,23 +10,23 @@ use Rattle.casdisk_script.specs.Meaning.{Meaning}
 
 -- How a script ends: at its end, within its last line, which lacks its line feed, at a bad line, each by its number
 -- from 1, or at a configuration that is refused.
-pub data End : Type 0 where
-  done : End
-  cut : ℕ → End
-  bad_line : ℕ → End
-  bad_config : ℕ → End
+pub data ScriptEnd : Type 0 where
+  done : ScriptEnd
+  cut : ℕ → ScriptEnd
+  bad_line : ℕ → ScriptEnd
+  bad_config : ℕ → ScriptEnd
 
 -- no line of it is bad, and its configuration isn't refused
-abbrev pub IsOpen : End → Type 0
-IsOpen done = Unit {0}
-IsOpen (cut n) = Unit {0}
-IsOpen (bad_line n) = ⊥
-IsOpen (bad_config c) = ⊥
+abbrev pub IsOpenEnd : ScriptEnd → Type 0
+IsOpenEnd done = Unit {0}
+IsOpenEnd (cut n) = Unit {0}
+IsOpenEnd (bad_line n) = ⊥
+IsOpenEnd (bad_config c) = ⊥
 
 -- What a script prints, how it ends, and the history that it makes.
 pub record Outcome : Type 0 where
   pub text : List ℕ
-  pub end : End
+  pub end : ScriptEnd
   pub past : Past
 
 -- a text, and then what prints
@@ -34,7 +34,7 @@ abbrev pub prefixed : List ℕ → Outcome → Outcome
 prefixed text o = record { text = text ++ o.text; end = o.end; past = o.past }
 
 -- nothing more
-abbrev pub ending : End → Past → Outcome
+abbrev pub ending : ScriptEnd → Past → Outcome
 ending e past = record { text = []; end = e; past = past }
 
 -- what follows line n, by what it gave
@@ -52,7 +52,7 @@ lines_print meaning past n (line ∷ lines) rest =
 -- what follows the first line, by its configuration, which may be refused
 abbrev pub after_numbers : List ℕ → Option ConfigFault → Outcome → Outcome
 after_numbers line None more = prefixed (line ++ 10 ∷ []) more
-after_numbers line (Some fault) more = ending (bad_config (fault_number fault)) []
+after_numbers line (Some fault) more = ending (bad_config (config_fault_number fault)) []
 
 -- what follows the first line, by what it says
 abbrev pub after_config : List ℕ → Option ConfigNumbers → (ConfigNumbers → Outcome) → Outcome
@@ -66,8 +66,8 @@ script_prints meaning (line ∷ lines) rest =
     after_config line (config_in line) (λ c. lines_print (meaning c) [] 2 lines rest)
 
 -- the outcome of a whole input
-abbrev pub outcome : (ConfigNumbers → Meaning) → List ℕ → Outcome
-outcome meaning input = script_prints meaning (whole_lines input) (rest_line input)
+abbrev pub script_outcome : (ConfigNumbers → Meaning) → List ℕ → Outcome
+script_outcome meaning input = script_prints meaning (whole_lines input) (rest_line input)
 
 -- the configuration of the first line
 abbrev pub first_config : List (List ℕ) → Option ConfigNumbers

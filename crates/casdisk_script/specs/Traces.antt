@@ -7,7 +7,8 @@ use Rattle.nvme_model.specs.declared.entry.Entry.{Entry}
 use Rattle.seen_trace.specs.declared.seen.Seen.{Seen}
 use Rattle.trace_lines.specs.SeenLines.{seen_in}
 use Rattle.casdisk_script.specs.Meaning.{Meaning}
-use Rattle.casdisk_script.specs.Script.{End, IsOpen, bad_config, bad_line, cut, done, first_config, outcome}
+use Rattle.casdisk_script.specs.Script.{ScriptEnd, IsOpenEnd, bad_config, bad_line, cut, done, first_config}
+use Rattle.casdisk_script.specs.Script.{script_outcome}
 use Rattle.casdisk_script.specs.declared.fault.RunFault.{RunFault}
 use Rattle.casdisk_script.specs.declared.fault.RunFault.TheVariants.{BadLine, BadConfig, Input, Output, NoMemory}
 
@@ -41,8 +42,8 @@ abbrev pub seen_kept : Meaning
 seen_kept past line = option_map (λ s. (kept_as s ∷ past, [])) (seen_in line)
 
 -- how a text ends whose first line is a configuration and whose further lines say what was seen
-abbrev pub trace_end : List ℕ → End
-trace_end input = (outcome (λ c. seen_kept) input).end
+abbrev pub trace_end : List ℕ → ScriptEnd
+trace_end input = (script_outcome (λ c. seen_kept) input).end
 
 -- the lines of a trace are all read, and this holds of its configuration and of what was seen
 abbrev pub HasTrace : (ConfigNumbers → List Seen → Type 0) → List ℕ → Type 0
@@ -51,13 +52,13 @@ HasTrace Holds input =
     × ((c : ConfigNumbers) × (first_config (whole_lines input) ≡ Some c) × Holds c (trace_in input))
 
 -- the text of a trace ends so
-abbrev pub TraceEndsSo : End → Option (List ℕ) → Type 0
+abbrev pub TraceEndsSo : ScriptEnd → Option (List ℕ) → Type 0
 TraceEndsSo e input = IfSome input (λ bytes. trace_end bytes ≡ e)
 
 -- By why the lines of a trace weren't all read: how it ends, or that no line of what was read is bad.
 abbrev pub IsTraceUnread : RunFault → Option (List ℕ) → Option (List ℕ) → Type 0
 IsTraceUnread (BadLine n) input left = TraceEndsSo (bad_line n) input ⊎ TraceEndsSo (cut n) input
 IsTraceUnread (BadConfig c) input left = TraceEndsSo (bad_config c) input
-IsTraceUnread Input input left = (bytes : List ℕ) × Consumes input left bytes × IsOpen (trace_end bytes)
+IsTraceUnread Input input left = (bytes : List ℕ) × Consumes input left bytes × IsOpenEnd (trace_end bytes)
 IsTraceUnread Output input left = ⊥
 IsTraceUnread NoMemory input left = Unit {0}

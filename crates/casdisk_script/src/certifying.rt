@@ -4,20 +4,20 @@ ghost use Rattle.std.specs.Prelude.{◌≡◌, ◌↔◌, IfErr, IfOk, OnErr, On
 ghost use Rattle.std.specs.Io.KnownBytes.{Appends};
 ghost use Rattle.line_text.specs.Known.{AppendsFront};
 ghost use Rattle.witness_check.specs.Compared.{IsVerdict};
-ghost use Rattle.witness_check.specs.declared.comparison.Verdict.TheVariants.{Unlike};
+ghost use Rattle.witness_check.specs.declared.comparison.TraceVerdict.TheVariants.{Unlike};
 ghost use Rattle.casdisk_script.specs.Certified.{CertifiesText, IsUncompared, TellsVerdict, verdict_text};
 ghost use Rattle.casdisk_script.specs.Certified.{difference_text as the_difference_text};
 
 use crate::certify_fault::CertifyFault;
 use crate::checking::send_bad;
 use crate::fault::RunFault;
-use crate::history_reading::{Told, read_history};
+use crate::history_reading::{ReadHistory, read_history};
 use crate::trace_reading::{Trace, read_trace};
 use history::Config;
 use line_text::{Word, send, send_words};
 use std::alloc::Global;
 use std::io::{Read, Result as IoResult, Write};
-use witness_check::{Difference, Verdict, judge};
+use witness_check::{Difference, TraceVerdict, judge};
 
 fn same_config(one: &Config, other: &Config) -> bool
     ensures value { (result ≡ true) ↔ (one.now ≡ other.now) }
@@ -26,7 +26,7 @@ fn same_config(one: &Config, other: &Config) -> bool
 }
 
 // Compares a history with a trace.
-fn compare(alloc: Global, trace: &Trace, told: &Told) -> Result<Verdict, CertifyFault>
+fn compare(alloc: Global, trace: &Trace, told: &ReadHistory) -> Result<TraceVerdict, CertifyFault>
     ensures whole { IfOk result (λ v. (trace.now.config ≡ told.now.config)
         × IsVerdict trace.now.config (reverse told.now.entries.items) trace.now.things.items v) }
     ensures failed { IfErr result (IsUncompared trace.now.config told.now.config) }
@@ -72,27 +72,27 @@ fn send_unlike<W: Write>(place: u64, difference: Difference, writer: &mut W) -> 
 }
 
 // Writes the line of a verdict.
-fn send_verdict<W: Write>(verdict: Verdict, writer: &mut W) -> IoResult<()>
+fn send_verdict<W: Write>(verdict: TraceVerdict, writer: &mut W) -> IoResult<()>
     ensures whole { OnOk result (Appends (W.contents writer.old) (W.contents writer.new) (verdict_text verdict)) }
     ensures front { OnErr result
         (AppendsFront (W.contents writer.old) (W.contents writer.new) (verdict_text verdict)) }
 {
     match verdict {
-        Verdict::Explained => send(writer, b"explained\n"),
-        Verdict::Bad(place) => send_bad(place, writer),
-        Verdict::Unlike(place, difference) => send_unlike(place, difference, writer),
+        TraceVerdict::Explained => send(writer, b"explained\n"),
+        TraceVerdict::Bad(place) => send_bad(place, writer),
+        TraceVerdict::Unlike(place, difference) => send_unlike(place, difference, writer),
     }
 }
 
 // Writes the line of a verdict, and says whether the trace is explained.
-fn tell_verdict<W: Write>(verdict: Verdict, writer: &mut W) -> Result<bool, CertifyFault>
+fn tell_verdict<W: Write>(verdict: TraceVerdict, writer: &mut W) -> Result<bool, CertifyFault>
     ensures told { TellsVerdict verdict result (W.contents writer.old) (W.contents writer.new) }
 {
     match send_verdict(verdict, writer) {
         Ok(()) => match verdict {
-            Verdict::Explained => Ok(true),
-            Verdict::Bad(_) => Ok(false),
-            Verdict::Unlike(_, _) => Ok(false),
+            TraceVerdict::Explained => Ok(true),
+            TraceVerdict::Bad(_) => Ok(false),
+            TraceVerdict::Unlike(_, _) => Ok(false),
         },
         Err(_) => Err(CertifyFault::Output),
     }

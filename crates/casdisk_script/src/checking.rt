@@ -4,7 +4,7 @@ ghost use Rattle.std.specs.Prelude.{OnErr, OnOk};
 ghost use Rattle.std.specs.Io.KnownBytes.{Appends};
 ghost use Rattle.line_text.specs.Known.{AppendsFront};
 ghost use Rattle.casdisk_script.specs.Files.{ChecksText, bad_text};
-ghost use Rattle.casdisk_script.specs.Judged.{Tells};
+ghost use Rattle.casdisk_script.specs.Judged.{TellsAnswer};
 
 use crate::fault::RunFault;
 use crate::judging::judge_text;
@@ -24,9 +24,13 @@ pub(crate) fn send_bad<W: Write>(place: u64, writer: &mut W) -> IoResult<()>
     send(writer, b"\n")
 }
 
-// Writes `legal`, or `bad at K` with this place, and says which.
-pub(crate) fn tell_answer<W: Write>(bad: Option<u64>, writer: &mut W) -> Result<bool, RunFault>
-    ensures told { Tells bad result (W.contents writer.old) (W.contents writer.new) }
+/// Writes `legal`, or `bad at K` with this place, and says which.
+///
+/// # Errors
+///
+/// `Output` where writing fails, after a beginning of the line.
+pub fn tell_answer<W: Write>(bad: Option<u64>, writer: &mut W) -> Result<bool, RunFault>
+    ensures told { TellsAnswer bad result (W.contents writer.old) (W.contents writer.new) }
 {
     let Some(place) = bad else {
         return match send(writer, b"legal\n") {

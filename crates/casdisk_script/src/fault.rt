@@ -1,7 +1,7 @@
 //! Why a run ended before the end of its input.
 
 ghost use Rattle.std.specs.Prelude.{◌≡◌};
-ghost use Rattle.casdisk_script.specs.Fault.{fault_in_memory, status_of};
+ghost use Rattle.casdisk_script.specs.Fault.{fault_in_memory, exit_status};
 
 use thiserror::Error;
 
@@ -26,8 +26,8 @@ pub enum RunFault {
 }
 
 impl RunFault {
-    // The same cause, where all that was written went into memory.
-    pub(crate) fn in_memory(self) -> RunFault
+    /// The same cause, where all that was written went into memory.
+    pub fn in_memory(self) -> RunFault
         ensures value { result ≡ fault_in_memory self }
     {
         match self {
@@ -38,7 +38,7 @@ impl RunFault {
 
     /// The status with which the program then ends.
     pub fn status(&self) -> u8
-        ensures value { result ≡ status_of self.now }
+        ensures value { result ≡ exit_status self.now }
     {
         match self {
             RunFault::BadLine(_) | RunFault::BadConfig(_) => 2,

@@ -7,8 +7,8 @@ ghost use Rattle.line_text.specs.Lines.{whole_lines};
 ghost use Rattle.nvme_model.specs.declared.config.ConfigNumbers.{ConfigNumbers};
 ghost use Rattle.casdisk_script.specs.Followed.{StopsFirst};
 ghost use Rattle.casdisk_script.specs.Meaning.{Meaning};
-ghost use Rattle.casdisk_script.specs.Running.{PrintsFront, Reached, Runs};
-ghost use Rattle.casdisk_script.specs.Script.{first_config, outcome};
+ghost use Rattle.casdisk_script.specs.Running.{PrintsFront, Reached, RunsScript};
+ghost use Rattle.casdisk_script.specs.Script.{first_config, script_outcome};
 
 use crate::fault::RunFault;
 use crate::running::read_fault;
@@ -17,8 +17,12 @@ use line_text::{Lines, NextLine};
 use std::alloc::Global;
 use std::io::Read;
 
-// Reads the first line, which stays in `line`, and its configuration.
-pub(crate) fn read_first<R: Read>(
+/// Reads the first line, which stays in `line`, and its configuration.
+///
+/// # Errors
+///
+/// `BadLine(1)` where it is no configuration line, `BadConfig` with the number of the fault, `Input` and `NoMemory`.
+pub fn read_first<R: Read>(
     alloc: Global,
     lines: &mut Lines,
     line: &mut Vec<u8>,
@@ -26,13 +30,14 @@ pub(crate) fn read_first<R: Read>(
 ) -> Result<Config, RunFault>
     requires fresh { lines.old ≡ [] }
     ensures stopped { (meaning : ConfigNumbers → Meaning) (w : Option (List ℕ)) → IfErr result
-        (λ f. Runs (outcome meaning) (Err f) (R.remaining reader.old) (R.remaining reader.new) w w) }
+        (λ f. RunsScript (script_outcome meaning) (Err f) (R.remaining reader.old) (R.remaining reader.new) w w) }
     ensures front { (meaning : ConfigNumbers → Meaning) (w u : Option (List ℕ)) → IfOk result
         (λ c. AppendsFront w u (line.new.items ++ 10 ∷ []) →
-        PrintsFront (outcome meaning) (R.remaining reader.old) (R.remaining reader.new) w u) }
+        PrintsFront (script_outcome meaning) (R.remaining reader.old) (R.remaining reader.new) w u) }
     ensures begun { (meaning : ConfigNumbers → Meaning) (w u : Option (List ℕ)) → IfOk result
         (λ c. Appends w u (line.new.items ++ 10 ∷ []) →
-        Reached (outcome meaning) (meaning c) [] 2 (R.remaining reader.old) (R.remaining reader.new) w u lines.new) }
+        Reached (script_outcome meaning) (meaning c) [] 2 (R.remaining reader.old)
+        (R.remaining reader.new) w u lines.new) }
     ensures config { IfOk result
         (λ c. IfSome (R.remaining reader.old) (λ bytes. first_config (whole_lines bytes) ≡ Some c)) }
     ensures read { IfErr result (λ f. f ≢ RunFault.Output) }

@@ -15,7 +15,7 @@ use std::io::{Read, Write};
 
 /// A configuration, and entries, the oldest first.
 #[derive(Drop)]
-pub(crate) struct Told {
+pub(crate) struct ReadHistory {
     pub(crate) config: Config,
     pub(crate) entries: Vec<Entry>,
 }
@@ -55,7 +55,7 @@ impl LineMeaning for Keeper {
 }
 
 // Reads a configuration line and the lines of a history to the reader's end.
-pub(crate) fn read_history<R: Read>(alloc: Global, reader: &mut R) -> Result<Told, RunFault>
+pub(crate) fn read_history<R: Read>(alloc: Global, reader: &mut R) -> Result<ReadHistory, RunFault>
     ensures whole { IfOk result (λ told. IsAtEnd (R.remaining reader.new) × IfSome (R.remaining reader.old)
         (HasHistory (λ c past. (c ≡ told.config) × (told.entries.items ≡ reverse past)))) }
     ensures unread { IfErr result (λ fault. IsUnread fault (R.remaining reader.old) (R.remaining reader.new)) }
@@ -71,7 +71,7 @@ pub(crate) fn read_history<R: Read>(alloc: Global, reader: &mut R) -> Result<Tol
     };
     let mut unprinted: Vec<u8> = Vec::new(alloc);
     match run_lines(&mut keeper, &mut lines, &mut line, reader, &mut unprinted) {
-        Ok(()) => Ok(Told {
+        Ok(()) => Ok(ReadHistory {
             config,
             entries: keeper.entries,
         }),

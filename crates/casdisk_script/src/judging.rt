@@ -1,6 +1,6 @@
 //! The entries of a file, one a line, judged as they come.
 
-ghost use Rattle.std.specs.Prelude.{◌≡◌, ◌∷◌, [], IfErr, IfOk, IfSome, None, OnOk, Some, if◌then◌else◌, true};
+ghost use Rattle.std.specs.Prelude.{◌≡◌, ◌∷◌, [], IfErr, IfOk, IfSome, None, OnErr, OnOk, Some, if◌then◌else◌, true};
 ghost use Rattle.std.specs.Io.KnownBytes.{IsAtEnd};
 ghost use Rattle.nvme_model.specs.History.{Past};
 ghost use Rattle.nvme_model.specs.declared.config.ConfigNumbers.{ConfigNumbers};
@@ -27,14 +27,14 @@ pub struct FirstBad {
     pub broken: Option<Broken>,
 }
 
-// Judges the entries of lines, and keeps none of them. Which rule a bad one breaks is asked for where `WHY` is true.
+/// Judges the entries of lines, and keeps none of them. Which rule a bad one breaks is asked for where `WHY` is true.
 #[derive(Drop)]
-pub(crate) struct Judge<const WHY: bool> {
+pub struct Judge<const WHY: bool> {
     alloc: Global,
-    pub(crate) checker: Checker,
-    // how many there were
-    pub(crate) count: u64,
-    pub(crate) bad: FirstBad,
+    pub checker: Checker,
+    /// How many there were.
+    pub count: u64,
+    pub bad: FirstBad,
 }
 
 // The place of an entry that may not follow.
@@ -45,8 +45,12 @@ fn bad_place(follows: bool, place: u64) -> Option<u64>
 }
 
 impl<const WHY: bool> Judge<WHY> {
-    // One that has judged no entry.
-    pub(crate) fn new(alloc: Global, config: &Config) -> Result<Judge<WHY>, NoMemory>
+    /// One that has judged no entry.
+    ///
+    /// # Errors
+    ///
+    /// `NoMemory` where a growth is refused.
+    pub fn new(alloc: Global, config: &Config) -> Result<Judge<WHY>, NoMemory>
         ensures begun { IfOk result (λ judge. HasJudged WHY config.now [] judge.checker judge.count judge.bad) }
         ensures none { IfOk result (λ judge. judge.bad.place ≡ None) }
     {
@@ -74,11 +78,16 @@ impl<const WHY: bool> Judge<WHY> {
         }
     }
 
-    // Judges the next entry.
-    fn judge(&mut self, entry: &Entry) -> Result<(), NoMemory>
+    /// Judges the next entry.
+    ///
+    /// # Errors
+    ///
+    /// `NoMemory` where a growth is refused, or the count can't grow; nothing has changed then.
+    pub fn judge(&mut self, entry: &Entry) -> Result<(), NoMemory>
         ensures judged { (c : ConfigNumbers) (past : Past) →
             HasJudged WHY c past self.old.checker self.old.count self.old.bad →
             OnOk result (HasJudged WHY c (entry.now ∷ past) self.new.checker self.new.count self.new.bad) }
+        ensures err { OnErr result (self.new ≡ self.old) }
     {
         let Some(count) = self.count.checked_add(1) else {
             return Err(NoMemory);

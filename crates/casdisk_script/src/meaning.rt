@@ -1,6 +1,6 @@
 //! What a line of a script means, for a loop that doesn't know.
 
-ghost use Rattle.std.specs.Prelude.{ℕ, List, IfOk, OnErr};
+ghost use Rattle.std.specs.Prelude.{ℕ, List, [], IfOk, OnErr, ◌≡◌};
 ghost use Rattle.nvme_model.specs.History.{Past};
 ghost use Rattle.nvme_model.specs.declared.config.ConfigNumbers.{ConfigNumbers};
 ghost use Rattle.casdisk_script.specs.Meaning.{Meaning, TakesLine, StopsInLine};
@@ -36,11 +36,15 @@ pub trait LineMeaning {
     // what a line then does to a history, and prints
     ghost meaning: { Self → Meaning };
 
+    // numbers of it that no line changes
+    ghost fixed: { Self → List ℕ } = { λ _. [] };
+
     /// Does what a line says and writes its text, or a beginning of it.
     fn take_line<W: Write>(&mut self, line: &[u8], writer: &mut W) -> Result<Taken, WriteFault>
         ensures taken { (c : ConfigNumbers) (past : Past) →
             stands self.old c past → IfOk result (λ taken. TakesLine taken (meaning self.old) (meaning self.new) past
             (stands self.new c) line.now (W.contents writer.old) (W.contents writer.new)) }
         ensures stopped { (c : ConfigNumbers) (past : Past) → stands self.old c past → OnErr result
-            (StopsInLine (meaning self.old) past line.now (W.contents writer.old) (W.contents writer.new)) };
+            (StopsInLine (meaning self.old) past line.now (W.contents writer.old) (W.contents writer.new)) }
+        ensures fixed { fixed self.new ≡ fixed self.old };
 }

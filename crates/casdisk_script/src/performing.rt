@@ -7,8 +7,8 @@ ghost use Rattle.std.specs.Io.KnownBytes.{Appends};
 ghost use Rattle.line_text.specs.Known.{AppendsFront};
 ghost use Rattle.nvme_model.specs.declared.refusal.Why.{Why as TheWhy};
 ghost use Rattle.nvme_model.specs.declared.step.Step.{Step as TheStep};
-ghost use Rattle.controller_steps.specs.State.{Serves, State};
-ghost use Rattle.casdisk_script.specs.Doing.{Says};
+ghost use Rattle.controller_steps.specs.State.{Serves, ControllerState};
+ghost use Rattle.casdisk_script.specs.Doing.{SaysAll};
 ghost use Rattle.casdisk_script.specs.Doing.{why_of as the_why_of};
 ghost use Rattle.casdisk_script.specs.Said.{all_ready, entry_text, medium_text, refusal_text, script_line, settle_says};
 ghost use Rattle.casdisk_script.specs.Said.{step_says};
@@ -117,10 +117,10 @@ impl Performer {
         writer: &mut W,
     ) -> Result<(), WriteFault>
         ensures same { (self.new.core ≡ self.old.core) × (self.new.kinds ≡ self.old.kinds) }
-        ensures done { (before : State) (step : TheStep) → Serves before step answer self.old.core →
-            OnOk result (Says (step_says self.old.kinds.0 before.config before.past step) self.new.core.past
+        ensures done { (before : ControllerState) (step : TheStep) → Serves before step answer self.old.core →
+            OnOk result (SaysAll (step_says self.old.kinds.0 before.config before.past step) self.new.core.past
             (W.contents writer.old) (W.contents writer.new)) }
-        ensures stopped { (before : State) (step : TheStep) → Serves before step answer self.old.core →
+        ensures stopped { (before : ControllerState) (step : TheStep) → Serves before step answer self.old.core →
             OnErr result (AppendsFront (W.contents writer.old) (W.contents writer.new)
             (step_says self.old.kinds.0 before.config before.past step).1) }
     {
@@ -133,7 +133,7 @@ impl Performer {
     // Makes a step or refuses it, and prints which.
     fn do_step<W: Write>(&mut self, step: Step, writer: &mut W) -> Result<(), WriteFault>
         ensures same { (self.new.core.config ≡ self.old.core.config) × (self.new.kinds ≡ self.old.kinds) }
-        ensures done { OnOk result (Says (step_says self.old.kinds.0 self.old.core.config self.old.core.past step)
+        ensures done { OnOk result (SaysAll (step_says self.old.kinds.0 self.old.core.config self.old.core.past step)
             self.new.core.past (W.contents writer.old) (W.contents writer.new)) }
         ensures stopped { OnErr result (AppendsFront (W.contents writer.old) (W.contents writer.new)
             (step_says self.old.kinds.0 self.old.core.config self.old.core.past step).1) }
@@ -145,7 +145,7 @@ impl Performer {
     // Makes the step that is ready, until there is none.
     fn settle<W: Write>(&mut self, writer: &mut W) -> Result<(), WriteFault>
         ensures same { (self.new.core.config ≡ self.old.core.config) × (self.new.kinds ≡ self.old.kinds) }
-        ensures done { OnOk result (Says (settle_says all_ready self.old.kinds.0 self.old.core.config
+        ensures done { OnOk result (SaysAll (settle_says all_ready self.old.kinds.0 self.old.core.config
             self.old.core.past) self.new.core.past (W.contents writer.old) (W.contents writer.new)) }
         ensures stopped { OnErr result (AppendsFront (W.contents writer.old) (W.contents writer.new)
             (settle_says all_ready self.old.kinds.0 self.old.core.config self.old.core.past).1) }

@@ -5,7 +5,7 @@ ghost use Rattle.std.specs.Io.KnownBytes.{Appends};
 ghost use Rattle.line_text.specs.Known.{AppendsFront};
 ghost use Rattle.line_text.specs.Words.{word_text};
 ghost use Rattle.casdisk_script.specs.Said.{block_word, entry_text, medium_text, refusal_text};
-ghost use Rattle.casdisk_script.specs.Said.{kind_of as the_kind_of};
+ghost use Rattle.casdisk_script.specs.Said.{line_kind as the_kind_of};
 
 use history::{Entry, Kinds, shows, write_line};
 use line_text::{Word, send, send_words};

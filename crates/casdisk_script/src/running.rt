@@ -4,7 +4,7 @@ ghost use Rattle.std.specs.Prelude.{◌≡◌, ◌≢◌};
 ghost use Rattle.nvme_model.specs.History.{Past};
 ghost use Rattle.nvme_model.specs.declared.config.ConfigNumbers.{ConfigNumbers};
 ghost use Rattle.casdisk_script.specs.Fault.{fault_of_read, fault_of_write};
-ghost use Rattle.casdisk_script.specs.Running.{Makes, Runs, lines_from};
+ghost use Rattle.casdisk_script.specs.Running.{Makes, RunsScript, lines_from};
 
 use crate::fault::RunFault;
 use crate::meaning::{LineMeaning, Taken, WriteFault};
@@ -48,10 +48,11 @@ pub fn run_lines<M: LineMeaning, R: Read, W: Write>(
     writer: &mut W,
 ) -> Result<(), RunFault>
     ensures runs { (c : ConfigNumbers) (past : Past) →
-        M.stands actor.old c past → Runs (lines_from (M.meaning actor.old) past 2 lines.old) result
+        M.stands actor.old c past → RunsScript (lines_from (M.meaning actor.old) past 2 lines.old) result
         (R.remaining reader.old) (R.remaining reader.new) (W.contents writer.old) (W.contents writer.new) }
     ensures makes { (c : ConfigNumbers) (past : Past) → M.stands actor.old c past → Makes
         (lines_from (M.meaning actor.old) past 2 lines.old) result (R.remaining reader.old) (M.stands actor.new c) }
+    ensures fixed { M.fixed actor.new ≡ M.fixed actor.old }
 {
     for number in 2..u64::MAX {
         match lines.next_line(reader, line) {

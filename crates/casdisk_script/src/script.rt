@@ -1,9 +1,9 @@
 //! A script from its first line on.
 
 ghost use Rattle.std.specs.Prelude.{◌≡◌};
-ghost use Rattle.casdisk_script.specs.Running.{Runs};
+ghost use Rattle.casdisk_script.specs.Running.{RunsScript};
 ghost use Rattle.casdisk_script.specs.Said.{script_line};
-ghost use Rattle.casdisk_script.specs.Script.{outcome};
+ghost use Rattle.casdisk_script.specs.Script.{script_outcome};
 
 use crate::fault::RunFault;
 use crate::first_line::read_first;
@@ -28,7 +28,8 @@ pub fn run_script<R: Read, W: Write>(
     writer: &mut W,
     kinds: Kinds,
 ) -> Result<(), RunFault>
-    ensures runs { Runs (outcome (λ c. script_line c kinds.0)) result (R.remaining reader.old) (R.remaining reader.new)
+    ensures runs { RunsScript (script_outcome (λ c. script_line c kinds.0)) result (R.remaining reader.old)
+        (R.remaining reader.new)
         (W.contents writer.old) (W.contents writer.new) }
 {
     let Ok(mut lines) = Lines::new(alloc) else {

@@ -17,9 +17,9 @@ use trace_lines::parse_seen;
 
 /// A configuration, and what was seen, the oldest first.
 #[derive(Drop)]
-pub(crate) struct Trace {
-    pub(crate) config: Config,
-    pub(crate) things: Vec<Seen>,
+pub struct Trace {
+    pub config: Config,
+    pub things: Vec<Seen>,
 }
 
 // Keeps what lines say that was seen.
@@ -56,8 +56,13 @@ impl LineMeaning for Collector {
     }
 }
 
-// Reads a configuration line and the lines of a trace to the reader's end.
-pub(crate) fn read_trace<R: Read>(alloc: Global, reader: &mut R) -> Result<Trace, RunFault>
+/// Reads a configuration line and the lines of a trace to the reader's end.
+///
+/// # Errors
+///
+/// `BadLine` with the number of the first line that is none, `BadConfig` where the configuration is refused, `Input`
+/// where reading failed and no line before is bad, and `NoMemory`.
+pub fn read_trace<R: Read>(alloc: Global, reader: &mut R) -> Result<Trace, RunFault>
     ensures whole { IfOk result (λ trace. IsAtEnd (R.remaining reader.new) × IfSome (R.remaining reader.old)
         (HasTrace (λ c things. (c ≡ trace.config) × (things ≡ trace.things.items)))) }
     ensures unread { IfErr result

@@ -11,11 +11,11 @@ use Rattle.broken_rules.specs.Rows.{block_broken, post_broken, word_due}
 use Rattle.broken_rules.specs.declared.broken.Broken.{Broken}
 use Rattle.broken_rules.specs.declared.rows.BlockDue.{BlockDue}
 use Rattle.checker_tables.specs.Effects.{word_of}
-use Rattle.checker_tables.specs.Judged.{are_right, data_by, right_after}
-use Rattle.checker_tables.specs.Tables.{Flight, OpenUnit}
+use Rattle.checker_tables.specs.Judged.{are_right, checked_data, right_after}
+use Rattle.checker_tables.specs.Tables.{CheckedTicket, CheckedUnit}
 
 -- what is due of a Block of the open unit of a ticket with so many effects, where these answers are right
-abbrev pub due_in : Ticket → ℕ → OpenUnit → Option (List Bool) → BlockLine → BlockDue
+abbrev pub due_in : Ticket → ℕ → CheckedUnit → Option (List Bool) → BlockLine → BlockDue
 due_in k placed u right b =
     record {
       unit = u.line.unit;
@@ -28,12 +28,12 @@ due_in k placed u right b =
     }
 
 -- a Block of a ticket with this open unit, at these contents
-abbrev pub block_wrong_by : (ℕ → List ℕ) → Flight → BlockLine → Option OpenUnit → Option Broken
+abbrev pub block_wrong_by : (ℕ → List ℕ) → CheckedTicket → BlockLine → Option CheckedUnit → Option Broken
 block_wrong_by contents f b None = Some (Broken.Refused Why.WrongState)
 block_wrong_by contents f b (Some u) = block_broken b (due_in f.ticket f.placed u (right_after contents f b u) b)
 
 -- a Post of a ticket that owes this status next, by the head and the phase of its rings
-abbrev pub post_wrong_at : ℕ → ℕ → Flight → PostLine → Option Status → Option Broken
+abbrev pub post_wrong_at : ℕ → ℕ → CheckedTicket → PostLine → Option Status → Option Broken
 post_wrong_at head tag f p None = Some (Broken.NothingOwed p.ticket)
 post_wrong_at head tag f p (Some s) =
-    post_broken p (cqe_bytes head f.ticket.queue (get_or (cids f.ticket) f.posts 0) tag s) (data_by f s)
+    post_broken p (cqe_bytes head f.ticket.queue (get_or (cids f.ticket) f.posts 0) tag s) (checked_data f s)

@@ -80,7 +80,7 @@ impl Commands {
         self.queue
     }
 
-    /// The identifier of a command by its number, from 0; 0 where there is none.
+    /// The CID of a command by its number, from 0; 0 where there is none.
     pub fn cid_at(&self, number: u8) -> u16
         ensures value { result ≡ get_or (cids self.now) number 0 }
     {

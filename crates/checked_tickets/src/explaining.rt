@@ -4,11 +4,11 @@ ghost use Rattle.std.specs.Prelude.{◌≡◌, ◌≤◌, ◌<◌, ◌+◌, ◌^
 ghost use Rattle.entry_codec.specs.Cqe.{phase_bit};
 ghost use Rattle.nvme_model.specs.Operations.{units};
 ghost use Rattle.nvme_model.specs.declared.config.ConfigNumbers.{ConfigNumbers};
-ghost use Rattle.checker_tables.specs.Judged.{owed_by};
+ghost use Rattle.checker_tables.specs.Judged.{checked_owed};
 ghost use Rattle.checked_tickets.specs.Contents.{contents_in};
 ghost use Rattle.checked_tickets.specs.Explained.{block_wrong_by, post_wrong_at};
 
-use crate::flight::Flight;
+use crate::flight::CheckedTicket;
 use crate::unit::{answers_at, block_due};
 use block_array::Volume;
 use broken_rules::{Broken, block_broken, post_broken};
@@ -16,7 +16,7 @@ use nvme_model::entry::{BlockLine, PostLine};
 use nvme_model::refusal::Why;
 use std::alloc::{AllocError as NoMemory, Global};
 
-impl Flight {
+impl CheckedTicket {
     /// What is wrong with a Block of its open unit, where the blocks are these.
     ///
     /// # Errors
@@ -53,7 +53,8 @@ impl Flight {
     pub fn post_wrong(&self, count: u64, head: u16, phase: bool, line: &PostLine) -> Option<Broken>
         ensures value { (c : ConfigNumbers) → count ≡ length (units c self.now.ticket) →
             result ≡
-            post_wrong_at head (phase_bit phase) self.now line.now (slice_get (owed_by c self.now) self.now.posts) }
+            post_wrong_at head (phase_bit phase) self.now line.now
+            (slice_get (checked_owed c self.now) self.now.posts) }
     {
         let (posts, _placed) = self.counts();
         let Some(status) = self.owed(count).get(usize::from(posts)) else {

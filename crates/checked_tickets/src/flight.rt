@@ -8,16 +8,17 @@ ghost use Rattle.nvme_model.specs.EntryBytes.{cqe_bytes};
 ghost use Rattle.nvme_model.specs.Tickets.{cids};
 ghost use Rattle.nvme_model.specs.Open.{is_differs};
 ghost use Rattle.nvme_model.specs.Operations.{op, units};
-ghost use Rattle.checker_tables.specs.Effects.{reads, word_of};
+ghost use Rattle.checker_tables.specs.Effects.{does_read, word_of};
 ghost use Rattle.checker_tables.specs.Taken.{blocked_flight, ends_by, flies_on, opened_flight, posted_flight};
-ghost use Rattle.checker_tables.specs.Tables.{fresh};
+ghost use Rattle.checker_tables.specs.Tables.{just_fetched};
 ghost use Rattle.nvme_model.specs.Value.{writes};
 ghost use Rattle.nvme_model.specs.declared.config.ConfigNumbers.{ConfigNumbers};
 ghost use Rattle.checked_tickets.specs.Contents.{contents_in, first_some, post_fits_at};
-ghost use Rattle.checker_tables.specs.Judged.{block_fits_by, data_by, owed_by, owed_running, owes_nothing};
+ghost use Rattle.checker_tables.specs.Judged.{block_fits_by, checked_data, checked_owed, checked_owed_running};
+ghost use Rattle.checker_tables.specs.Judged.{owes_nothing};
 
 use crate::commands::Commands;
-use crate::unit::{Effect, OpenUnit, answers_at, block_fits, effect_at, word_of};
+use crate::unit::{CheckedUnit, Effect, answers_at, block_fits, effect_at, word_of};
 use block_array::Volume;
 use completions::{Owed, cqe_of};
 use entry_codec::encode_cqe;
@@ -30,10 +31,10 @@ use std::marker::Model;
 
 /// A ticket in flight.
 #[derive(Drop)]
-pub struct Flight {
+pub struct CheckedTicket {
     ticket: Commands,
     opened: u64,
-    unit: Option<OpenUnit>,
+    unit: Option<CheckedUnit>,
     differs: bool,
     posts: u8,
     placed: u64,
@@ -41,8 +42,8 @@ pub struct Flight {
     found: Vec<u8>,
 }
 
-impl Model for Flight {
-    ghost use Rattle.checker_tables.specs.Tables.{Flight as Kept};
+impl Model for CheckedTicket {
+    ghost use Rattle.checker_tables.specs.Tables.{CheckedTicket as Kept};
 
     ghost Value = { Kept };
 
@@ -69,12 +70,12 @@ pub struct TakenBlock {
     pub ended: bool,
 }
 
-impl Flight {
+impl CheckedTicket {
     /// A ticket that was just fetched. Takes no memory.
-    pub fn new(alloc: Global, ticket: Commands) -> Flight
-        ensures value { result ≡ fresh ticket }
+    pub fn new(alloc: Global, ticket: Commands) -> CheckedTicket
+        ensures value { result ≡ just_fetched ticket }
     {
-        Flight {
+        CheckedTicket {
             ticket,
             opened: 0,
             unit: None,
@@ -108,7 +109,7 @@ impl Flight {
     }
 
     /// The open unit.
-    pub(crate) fn unit(&self) -> Option<&OpenUnit>
+    pub(crate) fn unit(&self) -> Option<&CheckedUnit>
         ensures value { option_copied result ≡ self.now.unit }
     {
         self.unit.as_ref()
@@ -128,7 +129,7 @@ impl Flight {
         self.differs
     }
 
-    /// The identifier that its next completion is for; 0 where each has one.
+    /// The CID that its next completion is for; 0 where each has one.
     pub fn next_cid(&self) -> u16
         ensures value { result ≡ get_or (cids self.now.ticket) self.now.posts 0 }
     {
@@ -141,7 +142,7 @@ impl Flight {
         ensures value { self.new ≡ opened_flight self.old line.now }
     {
         self.opened += 1;
-        self.unit = Some(OpenUnit::new(alloc, line));
+        self.unit = Some(CheckedUnit::new(alloc, line));
     }
 
     /// Whether it is in flight after one more completion.
@@ -195,7 +196,7 @@ impl Flight {
         requires open { is_some self.old.unit ≡ true }
         requires within { IfSome self.old.unit (λ u. u.line.range.slba + u.line.range.blocks ≤ length volume.now) }
         requires few { (self.old.placed < 2 ^ 32) × IfSome self.old.unit (λ u. u.made < 2 ^ 32) }
-        requires one { reads (op self.old.ticket) ≡ true → word_of block.now.found ≡ [] }
+        requires one { does_read (op self.old.ticket) ≡ true → word_of block.now.found ≡ [] }
         ensures ok { OnOk result
             (IfSome self.old.unit (λ u. self.new ≡ blocked_flight (contents_in volume.now) self.old block.now u)) }
         ensures range { IfOk result (λ d. IfSome self.old.unit (λ u. d.range ≡ u.line.range)) }
@@ -283,7 +284,7 @@ impl Flight {
     // What it owes after its checks passed, where it has so many units.
     fn owed_running(&self, count: u64, op: Option<Op>) -> Owed
         ensures value { (c : ConfigNumbers) →
-            count ≡ length (units c self.now.ticket) → result ≡ owed_running c self.now op }
+            count ≡ length (units c self.now.ticket) → result ≡ checked_owed_running c self.now op }
     {
         let success = Status::SUCCESS;
         let failure = Status::COMPARE_FAILURE;
@@ -312,7 +313,8 @@ impl Flight {
 
     // What it owes in all, where it has so many units.
     pub(crate) fn owed(&self, count: u64) -> Owed
-        ensures value { (c : ConfigNumbers) → count ≡ length (units c self.now.ticket) → result ≡ owed_by c self.now }
+        ensures value { (c : ConfigNumbers) → count ≡ length (units c self.now.ticket)
+            → result ≡ checked_owed c self.now }
     {
         match self.ticket.verdict() {
             Verdict::SingleFailed(status) => Owed::one(status),
@@ -332,7 +334,7 @@ impl Flight {
     /// Whether a Post says what is owed next, where the ticket has so many units.
     pub fn post_fits(&self, count: u64, head: u16, phase: bool, line: &PostLine) -> bool
         ensures value { (c : ConfigNumbers) → count ≡ length (units c self.now.ticket) → result ≡
-            post_fits_at head (phase_bit phase) self.now line.now (slice_get (owed_by c self.now) self.now.posts) }
+            post_fits_at head (phase_bit phase) self.now line.now (slice_get (checked_owed c self.now) self.now.posts) }
     {
         let Some(status) = self.owed(count).get(usize::from(self.posts)) else {
             return false;
@@ -356,7 +358,7 @@ impl Flight {
 
     // The data beside its completion with this status.
     pub(crate) fn data(&self, status: Status) -> &[u8]
-        ensures value { result.now ≡ data_by self.now status }
+        ensures value { result.now ≡ checked_data self.now status }
     {
         if status == Status::SUCCESS && self.ticket.op() == Some(Op::Read) {
             return self.found.as_slice();

@@ -9,6 +9,6 @@ mod unit;
 mod values;
 
 pub use commands::Commands;
-pub use flight::{Flight, TakenBlock};
+pub use flight::{CheckedTicket, TakenBlock};
 pub use laws::a_post_asks_for_its_rings;
 pub use values::write_range;

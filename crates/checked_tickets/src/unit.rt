@@ -22,16 +22,16 @@ use std::marker::Model;
 
 /// The open unit of a ticket.
 #[derive(Drop)]
-pub(crate) struct OpenUnit {
+pub(crate) struct CheckedUnit {
     line: GrantLine,
     made: u64,
     said: Vec<bool>,
     right: Option<Vec<bool>>,
 }
 
-impl Model for OpenUnit {
+impl Model for CheckedUnit {
     ghost use Rattle.std.specs.Prelude.{option_map};
-    ghost use Rattle.checker_tables.specs.Tables.{OpenUnit as Kept};
+    ghost use Rattle.checker_tables.specs.Tables.{CheckedUnit as Kept};
 
     ghost Value = { Kept };
 
@@ -43,12 +43,12 @@ impl Model for OpenUnit {
     } };
 }
 
-impl OpenUnit {
+impl CheckedUnit {
     /// A unit that has just been opened by this line. Takes no memory.
-    pub(crate) fn new(alloc: Global, line: &GrantLine) -> OpenUnit
+    pub(crate) fn new(alloc: Global, line: &GrantLine) -> CheckedUnit
         ensures value { result ≡ record { line = line.now; made = 0; said = []; right = None } }
     {
-        OpenUnit {
+        CheckedUnit {
             line: *line,
             made: 0,
             said: Vec::new(alloc),
@@ -286,7 +286,7 @@ fn are_right(said: &[bool], word: Option<bool>, right: Option<&[bool]>) -> bool
 pub(crate) fn block_fits(
     ticket: &Commands,
     placed: u64,
-    unit: &OpenUnit,
+    unit: &CheckedUnit,
     right: Option<&[bool]>,
     block: &BlockLine,
 ) -> bool
@@ -308,7 +308,7 @@ pub(crate) fn block_fits(
 pub(crate) fn block_due(
     ticket: &Commands,
     placed: u64,
-    unit: &OpenUnit,
+    unit: &CheckedUnit,
     right: Option<&[bool]>,
     block: &BlockLine,
 ) -> BlockDue

@@ -15,14 +15,14 @@ use Rattle.nvme_model.specs.History.{Past}
 use Rattle.nvme_model.specs.Legal.{IsLegal}
 use Rattle.nvme_model.specs.Open.{unit_range}
 use Rattle.nvme_model.specs.Operations.{op, units}
-use Rattle.nvme_model.specs.Owed.{completion_data, contents_at, numbered, read_data_by}
+use Rattle.nvme_model.specs.Owed.{completion_data, contents_at, numbered_units, read_data_by}
 use Rattle.nvme_model.specs.Placed.{effect}
 use Rattle.nvme_model.specs.Statuses.{is_success}
 use Rattle.nvme_model.specs.Tickets
 use Rattle.nvme_model.specs.Tickets.{Ticket}
 use Rattle.nvme_model.specs.Value.{value}
-use Rattle.checker_tables.specs.Effects.{found, placed, read_at, reads}
-use Rattle.checker_tables.specs.Judged.{data_by, read_by}
+use Rattle.checker_tables.specs.Effects.{found, placed, read_at, does_read}
+use Rattle.checker_tables.specs.Judged.{checked_data, read_by}
 use Rattle.checker_tables.specs.Tables.{flight}
 use Rattle.nvme_model.proofs.NextPost.{granted_unit, same_range}
 use Rattle.nvme_model.proofs.Pairs.{marked_here}
@@ -70,7 +70,7 @@ pieces_few g p (suc m) h =
 -- ---- what a unit's effect found
 
 abbrev pub at_effect : Option Past → Ticket → Range → List ℕ
-at_effect o k r = cond (reads (op k)) (flat_map (contents_at o) (blocks_from r.slba r.blocks)) []
+at_effect o k r = cond (does_read (op k)) (flat_map (contents_at o) (blocks_from r.slba r.blocks)) []
 
 abbrev pub piece : Past → ℕ → ℕ → List ℕ
 piece past t u = at_effect (effect past t u) (Tickets.ticket past t) (unit_range past t u)
@@ -80,8 +80,8 @@ nothing_at [] = refl
 nothing_at (x ∷ xs) = nothing_at xs
 
 no_piece : (o : Option Past) (k : Ticket) (r : Range) → is_some o ≡ false → at_effect o k r ≡ []
-no_piece None k r e = ap (λ (xs : List ℕ). cond (reads (op k)) xs []) (nothing_at (blocks_from r.slba r.blocks))
-    ∙ go (reads (op k))
+no_piece None k r e = ap (λ (xs : List ℕ). cond (does_read (op k)) xs []) (nothing_at (blocks_from r.slba r.blocks))
+    ∙ go (does_read (op k))
   where
     go : (x : Bool) → ◌≡◌ {A = List ℕ} (cond x [] []) []
     go true = refl
@@ -156,7 +156,7 @@ found_pieces c (Entry.Reap e ∷ past) t h =
 
 flat_pieces : (f : ℕ × Range → List ℕ) (g : ℕ → List ℕ) (v : ℕ) (rs : List Range)
     → ((i j : ℕ) (r : Range) → slice_get rs i ≡ Some r → j ≡ v + i → f (j, r) ≡ g j)
-    → flat_map f (numbered v rs) ≡ pieces g v (length rs)
+    → flat_map f (numbered_units v rs) ≡ pieces g v (length rs)
 flat_pieces f g v [] h = refl
 flat_pieces f g v (r ∷ rs) h =
     ap₂ (λ (xs ys : List ℕ). xs ++ ys) (h 0 v r refl (omega arith))
@@ -203,7 +203,7 @@ found_is c past t h reading =
     one : (i j : ℕ) (r : Range) → slice_get (units c (Tickets.ticket past t)) i ≡ Some r → j ≡ i
         → flat_map (contents_at (effect past t j)) (blocks_from r.slba r.blocks) ≡ piece past t j
     one i j r e m =
-        sym (ap (λ o. cond (reads o) (flat_map (contents_at (effect past t j)) (blocks_from r.slba r.blocks)) [])
+        sym (ap (λ o. cond (does_read o) (flat_map (contents_at (effect past t j)) (blocks_from r.slba r.blocks)) [])
         reading)
         ∙ unit_piece c past t j r h (ap (slice_get (units c (Tickets.ticket past t))) m ∙ e)
 
@@ -213,7 +213,7 @@ found_is c past t h reading =
 -- ---- the data of a completion
 
 pub data_is : (c : ConfigNumbers) (past : Past) (t : ℕ) (s : Status) → IsLegal c past
-    → completion_data c past t s ≡ data_by (flight past t) s
+    → completion_data c past t s ≡ checked_data (flight past t) s
 data_is c past t s h = ap (λ (xs : List ℕ). cond (is_success s) xs [])
     (go (op (Tickets.ticket past t)) (found_is c past t h))
   where

@@ -40,8 +40,8 @@ use Rattle.ticket_laws.specs.Standing.{flying}
 use Rattle.checker_tables.specs.Effects.{answers_at, placed, said}
 use Rattle.checker_tables.specs.Judged
 use Rattle.checker_tables.specs.Judged.{block_fits_by, cids_left, conditions_by, are_right, conflicts_by, fits_by}
-use Rattle.checker_tables.specs.Judged.{in_use, judged, post_fits_by, refusal_by, right_after, verdict_by}
-use Rattle.checker_tables.specs.Tables.{flight, open_unit, tables, unit_of, unreaped}
+use Rattle.checker_tables.specs.Judged.{in_use, judged, post_fits_by, refusal_by, right_after, checked_verdict}
+use Rattle.checker_tables.specs.Tables.{flight, checked_unit, tables, checked_unit_of, unreaped}
 use Rattle.ticket_laws.proofs.Counts.{fetched_within, flying_count, in_use_flying, owing}
 use Rattle.ticket_laws.proofs.InUse.{SameIn, verdict_same}
 use Rattle.nvme_model.proofs.Lists.{each_find, drop_map}
@@ -86,7 +86,7 @@ of_tickets past q cid (t ∷ ts) =
 pub in_use_same : (c : ConfigNumbers) (past : Past) (q : ℕ) → SameIn (in_use (tables c past) q) (cids_in_use past q)
 in_use_same c past q cid = of_tickets past q cid (flying past) ∙ sym (in_use_flying past q cid)
 
-pub verdict_is : (c : ConfigNumbers) (past : Past) (q : ℕ) → next_verdict c past q ≡ verdict_by c (tables c past) q
+pub verdict_is : (c : ConfigNumbers) (past : Past) (q : ℕ) → next_verdict c past q ≡ checked_verdict c (tables c past) q
 verdict_is c past q = sym
     (verdict_same c.atomic c.blocks (in_use (tables c past) q) (cids_in_use past q) (map item_of (waiting past q))
     (in_use_same c past q))
@@ -145,7 +145,7 @@ pub answers_are : (c : ConfigNumbers) (past : Past) (b : BlockLine) (g : GrantLi
     → b.unit ≡ g.unit
     → option_map (λ before. answers_at (value before) (Tickets.ticket past b.ticket) g.range)
     (effect (Entry.Block b ∷ past) b.ticket b.unit)
-    ≡ right_after (value past) (flight past b.ticket) b (unit_of past g)
+    ≡ right_after (value past) (flight past b.ticket) b (checked_unit_of past g)
 answers_are c past b g t u =
     let k = Tickets.ticket past b.ticket in
     ap (λ x. option_map (λ before. answers_at (value before) k g.range)
@@ -212,7 +212,7 @@ module _ (c : ConfigNumbers) (past : Past) (b : BlockLine) (h : IsLegal c past) 
   pub earlier_right : b.unit ≡ g.unit
       → right_answers (effect (Entry.Block b ∷ past) b.ticket b.unit) (Tickets.ticket past b.ticket)
       (blocks_made past g.ticket g.unit)
-      ≡ are_right (right_after (value past) (flight past b.ticket) b (unit_of past g))
+      ≡ are_right (right_after (value past) (flight past b.ticket) b (checked_unit_of past g))
       (said (blocks_made past g.ticket g.unit))
   earlier_right u =
       right_is (effect (Entry.Block b ∷ past) b.ticket b.unit) (Tickets.ticket past b.ticket) g.range
@@ -225,7 +225,7 @@ module _ (c : ConfigNumbers) (past : Past) (b : BlockLine) (h : IsLegal c past) 
       ≡ true
       → right_answers (effect (Entry.Block b ∷ past) b.ticket b.unit) (Tickets.ticket past b.ticket)
       (blocks_made (Entry.Block b ∷ past) b.ticket b.unit)
-      ≡ are_right (right_after (value past) (flight past b.ticket) b (unit_of past g))
+      ≡ are_right (right_after (value past) (flight past b.ticket) b (checked_unit_of past g))
       (said (b ∷ blocks_made past g.ticket g.unit))
   answers_right u l m =
       ap (λ (xs : List BlockLine).
@@ -237,11 +237,12 @@ module _ (c : ConfigNumbers) (past : Past) (b : BlockLine) (h : IsLegal c past) 
 
 block_is : (c : ConfigNumbers) (past : Past) (b : BlockLine) → IsLegal c past
     → block_fits past b (find (λ g. eqb g.ticket b.ticket) (open_units past))
-    ≡ block_fits_by (value past) (flight past b.ticket) b (open_unit past b.ticket)
+    ≡ block_fits_by (value past) (flight past b.ticket) b (checked_unit past b.ticket)
 block_is c past b h = by (find (λ g. eqb g.ticket b.ticket) (open_units past)) refl
   where
     by : (o : Option GrantLine) → find (λ g. eqb g.ticket b.ticket) (open_units past) ≡ o
-        → block_fits past b o ≡ block_fits_by (value past) (flight past b.ticket) b (option_map (unit_of past) o)
+        → block_fits past b o
+        ≡ block_fits_by (value past) (flight past b.ticket) b (option_map (checked_unit_of past) o)
     by None e = refl
     by (Some g) e = go (eqb b.unit g.unit
         && eqb b.lba (g.range.slba + length (blocks_made past g.ticket g.unit) % g.range.blocks)
@@ -260,7 +261,7 @@ block_is c past b h = by (find (λ g. eqb g.ticket b.ticket) (open_units past)) 
             && right_answers (effect (Entry.Block b ∷ past) b.ticket b.unit) k
             (blocks_made (Entry.Block b ∷ past) b.ticket b.unit))
             ≡ (x && (not b.effect || eqb b.unit (placed past b.ticket))
-            && are_right (right_after (value past) (flight past b.ticket) b (unit_of past g))
+            && are_right (right_after (value past) (flight past b.ticket) b (checked_unit_of past g))
             (said (b ∷ blocks_made past g.ticket g.unit)))
         go false q = refl
         go true q =
@@ -288,7 +289,7 @@ fits_is c past (Entry.Grant g) h = refl
 fits_is c past (Entry.Block b) h = block_is c past b h
 fits_is c past (Entry.Post p) h =
     ap (λ (ss : List Status). post_fits c past p (slice_get ss (posts_of past p.ticket))) (owed_is c past p.ticket h)
-    ∙ post_is c past p (slice_get (Judged.owed_by c (flight past p.ticket)) (posts_of past p.ticket)) h
+    ∙ post_is c past p (slice_get (Judged.checked_owed c (flight past p.ticket)) (posts_of past p.ticket)) h
 fits_is c past (Entry.Reap r) h =
     ap (λ o. is_cqe o r.cqe) (get_drop (reaped_count past r.queue) (posted_completions c past r.queue))
 

@@ -11,12 +11,12 @@ use Rattle.nvme_model.specs.declared.entry.BlockLine.{BlockLine}
 use Rattle.nvme_model.specs.declared.entry.GrantLine.{GrantLine}
 use Rattle.nvme_model.specs.declared.operation.Op.{Op}
 use Rattle.nvme_model.specs.declared.status.Verdict.{Verdict}
-use Rattle.nvme_model.specs.EntryBytes.{slba, blocks}
+use Rattle.nvme_model.specs.EntryBytes.{slba, block_count}
 use Rattle.nvme_model.specs.History.{Past}
 use Rattle.nvme_model.specs.Legal.{IsLegal}
 use Rattle.nvme_model.specs.Open.{blocks_made, grants_of, granted, has_ended, is_differs, open_units, steps_needed}
 use Rattle.nvme_model.specs.Operations.{op, units}
-use Rattle.nvme_model.specs.Owed.{all_done, all_ended, numbered, owed, owed_after, owed_by, some_no}
+use Rattle.nvme_model.specs.Owed.{all_done, all_ended, numbered_units, owed, owed_after, owed_by, some_no}
 use Rattle.nvme_model.specs.Placed.{effect}
 use Rattle.nvme_model.specs.Refusals.{has_open, is_flush_ticket, owes_nothing_yet}
 use Rattle.nvme_model.specs.Open
@@ -24,10 +24,10 @@ use Rattle.nvme_model.specs.Statuses.{compare_failure, failed_fused, success}
 use Rattle.nvme_model.specs.Tickets
 use Rattle.nvme_model.specs.Tickets.{Ticket, first_fields}
 use Rattle.nvme_model.specs.Verdict.{passed}
-use Rattle.checker_tables.specs.Effects.{placed, said_no}
+use Rattle.checker_tables.specs.Effects.{placed, effect_said_no}
 use Rattle.checker_tables.specs.Judged
-use Rattle.checker_tables.specs.Judged.{has_run, is_done, owed_as, owed_running, owes_nothing}
-use Rattle.checker_tables.specs.Tables.{flight, open_unit, unit_of}
+use Rattle.checker_tables.specs.Judged.{checked_has_run, is_done, owed_as, checked_owed_running, owes_nothing}
+use Rattle.checker_tables.specs.Tables.{flight, checked_unit, checked_unit_of}
 use Rattle.nvme_model.proofs.Granted.{units_some}
 use Rattle.nvme_model.proofs.Lists.{each_get, each_find, all_true}
 use Rattle.nvme_model.proofs.Blocks.{no_blocks}
@@ -58,15 +58,15 @@ found_mapped f p (x ∷ xs) = go (p x) (found_mapped f p xs)
     go true ih = refl
     go false ih = ih
 
-pub has_unit : (past : Past) (t : ℕ) → is_some (open_unit past t) ≡ has_open past t
-has_unit past t = found_mapped (unit_of past) (λ g. eqb g.ticket t) (open_units past)
+pub has_unit : (past : Past) (t : ℕ) → is_some (checked_unit past t) ≡ has_open past t
+has_unit past t = found_mapped (checked_unit_of past) (λ g. eqb g.ticket t) (open_units past)
 
 none_some : {X : Type 0} (o : Option X) → is_none o ≡ not (is_some o)
 none_some None = refl
 none_some (Some x) = refl
 
-no_unit : (past : Past) (t : ℕ) → is_none (open_unit past t) ≡ not (has_open past t)
-no_unit past t = none_some (open_unit past t) ∙ ap not (has_unit past t)
+no_unit : (past : Past) (t : ℕ) → is_none (checked_unit past t) ≡ not (has_open past t)
+no_unit past t = none_some (checked_unit past t) ∙ ap not (has_unit past t)
 
 -- ---- all units have ended
 
@@ -110,8 +110,8 @@ unit_ended c past t u r h o l e =
     ended false k q f = clash k q (f refl)
 
 pub all_ended_is : (c : ConfigNumbers) (past : Past) (t : ℕ) → IsLegal c past
-    → all_ended c past t ≡ has_run c (flight past t)
-all_ended_is c past t h = both (all_ended c past t) (has_run c (flight past t)) there back
+    → all_ended c past t ≡ checked_has_run c (flight past t)
+all_ended_is c past t h = both (all_ended c past t) (checked_has_run c (flight past t)) there back
   where
     rs : List Range
     rs = units c (Tickets.ticket past t)
@@ -127,20 +127,20 @@ all_ended_is c past t h = both (all_ended c past t) (has_run c (flight past t)) 
           let r = some_at rs (grants_of past t) l in
           let n = each_get (λ s. 1 ≤ s.blocks) rs (grants_of past t) r.0
           (units_some c.atomic (op (Tickets.ticket past t)) (slba (first_fields (Tickets.ticket past t)))
-          (blocks (first_fields (Tickets.ticket past t))) (omega arith)) r.1 in
+          (block_count (first_fields (Tickets.ticket past t))) (omega arith)) r.1 in
           clash _ (ended e (grants_of past t) r.0 r.1)
           (not_ended c past t (grants_of past t) r.0.blocks h (omega arith) n)
     ]
 
-    there : all_ended c past t ≡ true → has_run c (flight past t) ≡ true
+    there : all_ended c past t ≡ true → checked_has_run c (flight past t) ≡ true
     there e = and_from _ _ (le-leb _ _ (all_granted e)) (no_unit past t ∙ ap not (ended_finished c past t h e).closed)
 
-    back : has_run c (flight past t) ≡ true → all_ended c past t ≡ true
+    back : checked_has_run c (flight past t) ≡ true → all_ended c past t ≡ true
     back e =
         let a = and_parts (nat_le (length rs) (grants_of past t)) _ e in
         numbered_all (λ u. true) (λ u. has_ended past t u.0 u.1.blocks) 0 rs
         (λ i j r q m s. one i j r q (omega (arith, m)) (leb-true _ _ a.0) (closed (sym (no_unit past t) ∙ a.1)))
-        (all_true (numbered 0 rs))
+        (all_true (numbered_units 0 rs))
       where
         closed : {x : Bool} → not x ≡ true → x ≡ false
         closed {x} e = go x e
@@ -158,11 +158,12 @@ all_ended_is c past t h = both (all_ended c past t) (has_run c (flight past t)) 
 -- ---- and each has its effect
 
 all_below : (p v : ℕ) (rs : List Range) → v ≤ p
-    → list_all (λ u. nat_lt u.0 p) (numbered v rs) ≡ nat_le (v + length rs) p
+    → list_all (λ u. nat_lt u.0 p) (numbered_units v rs) ≡ nat_le (v + length rs) p
 all_below p v [] l = grind (arith, nat_tests, l)
 all_below p v (r ∷ rs) l = elim (cases_lt v p) [
   | inl k ↦ ap₂ (λ (x y : Bool). x && y) (here k) (all_below p (suc v) rs k) ∙ ap (λ n. nat_le n p) (more (length rs))
-  | inr k ↦ ap (λ x. x && list_all (λ u. nat_lt u.0 p) (numbered (suc v) rs)) (past_it k) ∙ sym (too_many (length rs) k)
+  | inr k ↦ ap (λ x. x && list_all (λ u. nat_lt u.0 p) (numbered_units (suc v) rs)) (past_it k)
+      ∙ sym (too_many (length rs) k)
 ]
   where
     here : v < p → nat_lt v p ≡ true
@@ -186,7 +187,7 @@ pub all_done_is : (c : ConfigNumbers) (past : Past) (t : ℕ) → IsLegal c past
 all_done_is c past t h =
     ap₂ (λ (x y : Bool). x && y) (all_ended_is c past t h)
     (all_same (λ u. is_some (effect past t u.0)) (λ u. nat_lt u.0 (placed past t))
-    (numbered 0 (units c (Tickets.ticket past t))) (λ u. effect_placed c past t u.0 h)
+    (numbered_units 0 (units c (Tickets.ticket past t))) (λ u. effect_placed c past t u.0 h)
     ∙ all_below (placed past t) 0 (units c (Tickets.ticket past t)) (omega arith)
     ∙ ap (λ n. nat_le n (placed past t)) (zero_more (length (units c (Tickets.ticket past t)))))
   where
@@ -196,11 +197,12 @@ all_done_is c past t h =
 -- ---- what is owed
 
 running_is : (c : ConfigNumbers) (past : Past) (t : ℕ) (o : Option Op) → IsLegal c past
-    → owed_by c past t o ≡ owed_running c (flight past t) o
+    → owed_by c past t o ≡ checked_owed_running c (flight past t) o
 running_is c past t o h = go o (some_no_is c past t h) (all_ended_is c past t h) (all_done_is c past t h)
   where
-    go : (o : Option Op) → some_no c past t ≡ said_no past t → all_ended c past t ≡ has_run c (flight past t)
-        → all_done c past t ≡ is_done c (flight past t) → owed_by c past t o ≡ owed_running c (flight past t) o
+    go : (o : Option Op) → some_no c past t ≡ effect_said_no past t
+        → all_ended c past t ≡ checked_has_run c (flight past t)
+        → all_done c past t ≡ is_done c (flight past t) → owed_by c past t o ≡ checked_owed_running c (flight past t) o
     go None n a d = refl
     go (Some Op.Pair) n a d =
         (λ i. cond (n i && a i) (compare_failure ∷ failed_fused ∷ []) (cond (d i) (success ∷ success ∷ []) []))
@@ -210,7 +212,7 @@ running_is c past t o h = go o (some_no_is c past t h) (all_ended_is c past t h)
     go (Some Op.WriteZeroes) n a d = (λ i. cond (n i) (compare_failure ∷ []) (cond (d i) (success ∷ []) []))
 
 pub owed_is : (c : ConfigNumbers) (past : Past) (t : ℕ) → IsLegal c past
-    → owed c past t ≡ Judged.owed_by c (flight past t)
+    → owed c past t ≡ Judged.checked_owed c (flight past t)
 owed_is c past t h = go (Tickets.ticket past t).verdict
   where
     go : (v : Verdict) → owed_after c past t (Tickets.ticket past t) v ≡ owed_as c (flight past t) v

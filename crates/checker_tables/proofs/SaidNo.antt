@@ -12,11 +12,11 @@ use Rattle.nvme_model.specs.History.{Past}
 use Rattle.nvme_model.specs.Legal.{IsLegal}
 use Rattle.nvme_model.specs.Open.{unit_range}
 use Rattle.nvme_model.specs.Operations.{units}
-use Rattle.nvme_model.specs.Owed.{numbered, some_no}
+use Rattle.nvme_model.specs.Owed.{numbered_units, some_no}
 use Rattle.nvme_model.specs.Placed.{effect}
 use Rattle.nvme_model.specs.Tickets
 use Rattle.nvme_model.specs.Tickets.{Ticket}
-use Rattle.checker_tables.specs.Effects.{said_no}
+use Rattle.checker_tables.specs.Effects.{effect_said_no}
 use Rattle.nvme_model.proofs.Rules.{follows}
 use Rattle.nvme_model.proofs.Pairs.{marked_here}
 use Rattle.nvme_model.proofs.Written.{clash}
@@ -43,16 +43,17 @@ still_no c past e t u h n = says_stays c past e t u h (no_effects _ _ _ n) ∙ n
 abbrev pub AnyNo : Past → ℕ → Type 0
 AnyNo past t = (u : ℕ) × (says_no past t u ≡ true)
 
-pub said_at : (c : ConfigNumbers) (past : Past) (t : ℕ) → IsLegal c past → said_no past t ≡ true → AnyNo past t
+pub said_at : (c : ConfigNumbers) (past : Past) (t : ℕ) → IsLegal c past → effect_said_no past t ≡ true → AnyNo past t
 said_at c [] t h n = clash false n refl
 said_at c (Entry.Block b ∷ past) t h n =
     go (or_cases (b.effect && eqb b.ticket t
-    && no_at (Some past) (Tickets.ticket past b.ticket) (unit_range past b.ticket b.unit)) (said_no past t) n)
+    && no_at (Some past) (Tickets.ticket past b.ticket) (unit_range past b.ticket b.unit)) (effect_said_no past t) n)
     (said_at c past t (follows c past (Entry.Block b) h).before)
   where
     go : ((b.effect && eqb b.ticket t
         && no_at (Some past) (Tickets.ticket past b.ticket) (unit_range past b.ticket b.unit)) ≡ true)
-        ⊎ (said_no past t ≡ true) → (said_no past t ≡ true → AnyNo past t) → AnyNo (Entry.Block b ∷ past) t
+        ⊎ (effect_said_no past t ≡ true) → (effect_said_no past t ≡ true → AnyNo past t)
+        → AnyNo (Entry.Block b ∷ past) t
     go (inr e) ih = let u = ih e in (u.0, still_no c past (Entry.Block b) t u.0 h u.1)
     go (inl e) ih =
         let a = and_parts (b.effect && eqb b.ticket t) _ e in
@@ -66,7 +67,8 @@ said_at c (e ∷ past) t h n = let u = said_at c past t (follows c past e h).bef
 
 -- ---- and the table has it where a unit says no
 
-no_said : (c : ConfigNumbers) (past : Past) (t u : ℕ) → IsLegal c past → says_no past t u ≡ true → said_no past t ≡ true
+no_said : (c : ConfigNumbers) (past : Past) (t u : ℕ) → IsLegal c past → says_no past t u ≡ true
+    → effect_said_no past t ≡ true
 no_said c [] t u h n = n
 no_said c (Entry.Publish p ∷ past) t u h n = no_said c past t u (follows c past (Entry.Publish p) h).before n
 no_said c (Entry.Post p ∷ past) t u h n = no_said c past t u (follows c past (Entry.Post p) h).before n
@@ -82,7 +84,7 @@ no_said c (Entry.Block b ∷ past) t u h n =
     (no_said c past t u (follows c past (Entry.Block b) h).before)
   where
     go : ((b.effect && eqb b.ticket t && eqb b.unit u) ≡ true) ⊎ ((b.effect && eqb b.ticket t && eqb b.unit u) ≡ false)
-        → (says_no past t u ≡ true → said_no past t ≡ true) → said_no (Entry.Block b ∷ past) t ≡ true
+        → (says_no past t u ≡ true → effect_said_no past t ≡ true) → effect_said_no (Entry.Block b ∷ past) t ≡ true
     go (inr e) ih = or_right _ _
         (ih (subst (λ (o : Option Past). no_at o (Tickets.ticket past t) (unit_range past t u) ≡ true)
         (cond-false _ _ _ e) n))
@@ -98,19 +100,19 @@ no_said c (Entry.Block b ∷ past) t u h n =
 
 -- ---- over the units of the ticket
 
-any_numbered : (p : ℕ → Bool) (v : ℕ) (rs : List Range) → list_any (λ u. p u.0) (numbered v rs) ≡ true
+any_numbered : (p : ℕ → Bool) (v : ℕ) (rs : List Range) → list_any (λ u. p u.0) (numbered_units v rs) ≡ true
     → (u : ℕ) × (p u ≡ true)
 any_numbered p v [] h = clash false h refl
 any_numbered p v (r ∷ rs) h =
-    go (or_cases (p v) (list_any (λ u. p u.0) (numbered (suc v) rs)) h) (any_numbered p (suc v) rs)
+    go (or_cases (p v) (list_any (λ u. p u.0) (numbered_units (suc v) rs)) h) (any_numbered p (suc v) rs)
   where
-    go : (p v ≡ true) ⊎ (list_any (λ u. p u.0) (numbered (suc v) rs) ≡ true)
-        → (list_any (λ u. p u.0) (numbered (suc v) rs) ≡ true → (u : ℕ) × (p u ≡ true)) → (u : ℕ) × (p u ≡ true)
+    go : (p v ≡ true) ⊎ (list_any (λ u. p u.0) (numbered_units (suc v) rs) ≡ true)
+        → (list_any (λ u. p u.0) (numbered_units (suc v) rs) ≡ true → (u : ℕ) × (p u ≡ true)) → (u : ℕ) × (p u ≡ true)
     go (inl e) ih = (v, e)
     go (inr e) ih = ih e
 
 numbered_any : (p : ℕ → Bool) (v u : ℕ) (rs : List Range) → v ≤ u → u < v + length rs → p u ≡ true
-    → list_any (λ u. p u.0) (numbered v rs) ≡ true
+    → list_any (λ u. p u.0) (numbered_units v rs) ≡ true
 numbered_any p v u [] a b e = absurd (omega (arith, a, b))
 numbered_any p v u (r ∷ rs) a b e = elim (cases_Bool (eqb v u)) [
   | inl q ↦ or_left _ _ (ap p (eqb-true v u q) ∙ e)
@@ -123,8 +125,8 @@ numbered_any p v u (r ∷ rs) a b e = elim (cases_Bool (eqb v u)) [
       | inr x ↦ omega (arith, a, λ (y : v ≡ u). clash {A = ⊥} (eqb v u) (eq-eqb v u y) q)
     ]
 
-pub some_no_is : (c : ConfigNumbers) (past : Past) (t : ℕ) → IsLegal c past → some_no c past t ≡ said_no past t
-some_no_is c past t h = both (some_no c past t) (said_no past t)
+pub some_no_is : (c : ConfigNumbers) (past : Past) (t : ℕ) → IsLegal c past → some_no c past t ≡ effect_said_no past t
+some_no_is c past t h = both (some_no c past t) (effect_said_no past t)
     (λ e. let u = any_numbered (says_no past t) 0 (units c (Tickets.ticket past t)) e in no_said c past t u.0 h u.1)
     (λ e.
     let u = said_at c past t h e in

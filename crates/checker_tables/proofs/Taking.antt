@@ -9,8 +9,8 @@ use Rattle.nvme_model.specs.History.{Past}
 use Rattle.nvme_model.specs.Legal.{IsLegal, legal, may_follow}
 use Rattle.checker_tables.specs.Judged.{judged}
 use Rattle.checker_tables.specs.Pass.{pass, take_entry}
-use Rattle.checker_tables.specs.Tables.{start, tables}
-use Rattle.checker_tables.specs.Taken.{taken}
+use Rattle.checker_tables.specs.Tables.{no_tables, tables}
+use Rattle.checker_tables.specs.Taken.{tables_after}
 use Rattle.nvme_model.proofs.Rules.{follows}
 use Rattle.ticket_laws.proofs.Waiting.{publish_waits, reap_waits}
 use Rattle.checker_tables.proofs.Judging.{judged_is}
@@ -22,7 +22,7 @@ use Rattle.checker_tables.proofs.TakingFetches.{fetch_taken}
 -- ---- a Publish
 
 publish_taken : (c : ConfigNumbers) (past : Past) (p : PublishLine) → IsLegal c (Entry.Publish p ∷ past)
-    → tables c (Entry.Publish p ∷ past) ≡ taken c (tables c past) (Entry.Publish p)
+    → tables c (Entry.Publish p ∷ past) ≡ tables_after c (tables c past) (Entry.Publish p)
 publish_taken c past p h =
     (λ i. record (tables c past)
     { waiting = λ q. publish_waits c past p q (follows c past (Entry.Publish p) h).before i })
@@ -30,13 +30,13 @@ publish_taken c past p h =
 -- ---- a Reap
 
 reap_taken : (c : ConfigNumbers) (past : Past) (r : ReapLine)
-    → tables c (Entry.Reap r ∷ past) ≡ taken c (tables c past) (Entry.Reap r)
+    → tables c (Entry.Reap r ∷ past) ≡ tables_after c (tables c past) (Entry.Reap r)
 reap_taken c past r = (λ i. record (tables c past) { unreaped = λ q. reap_waits c past r q i })
 
 -- ---- each kind of entry
 
 pub taken_is : (c : ConfigNumbers) (past : Past) (e : Entry) → IsLegal c (e ∷ past)
-    → tables c (e ∷ past) ≡ taken c (tables c past) e
+    → tables c (e ∷ past) ≡ tables_after c (tables c past) e
 taken_is c past (Entry.Publish p) h = publish_taken c past p h
 taken_is c past (Entry.Fetch f) h = fetch_taken c past f h
 taken_is c past (Entry.Grant g) h = grant_taken c past g h
@@ -44,7 +44,7 @@ taken_is c past (Entry.Block b) h = block_taken c past b h
 taken_is c past (Entry.Post p) h = post_taken c past p h
 taken_is c past (Entry.Reap r) h = reap_taken c past r
 
-pub start_is : (c : ConfigNumbers) → tables c [] ≡ start
+pub start_is : (c : ConfigNumbers) → tables c [] ≡ no_tables
 start_is c = refl
 
 -- ---- one pass
@@ -54,7 +54,7 @@ pass_is c [] = refl
 pass_is c (e ∷ past) = ap (λ o. take_entry c o e) (pass_is c past) ∙ go (legal c past) refl
   where
     last : IsLegal c past → (x : Bool) → judged c (tables c past) e ≡ x → legal c (e ∷ past) ≡ x
-        → cond x (Some (taken c (tables c past) e)) None ≡ cond x (Some (tables c (e ∷ past))) None
+        → cond x (Some (tables_after c (tables c past) e)) None ≡ cond x (Some (tables c (e ∷ past))) None
     last h true j l = ap (λ s. Some s) (sym (taken_is c past e l))
     last h false j l = refl
 

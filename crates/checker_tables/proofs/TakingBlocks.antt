@@ -20,10 +20,10 @@ use Rattle.nvme_model.specs.Placed.{effect}
 use Rattle.nvme_model.specs.Tickets
 use Rattle.nvme_model.specs.Tickets.{posts_of}
 use Rattle.nvme_model.specs.Value.{value, writes}
-use Rattle.checker_tables.specs.Effects.{answers_at, found, placed, read_at, said, said_no}
-use Rattle.checker_tables.specs.Tables.{flight, open_unit, tables, unit_of}
+use Rattle.checker_tables.specs.Effects.{answers_at, found, placed, read_at, said, effect_said_no}
+use Rattle.checker_tables.specs.Tables.{flight, checked_unit, tables, checked_unit_of}
 use Rattle.checker_tables.specs.Taken.{blocked, blocked_flight, ends_by, no_by}
-use Rattle.checker_tables.specs.Taken.{taken, unit_after, value_after}
+use Rattle.checker_tables.specs.Taken.{tables_after, unit_after, value_after}
 use Rattle.nvme_model.proofs.Blocks.{MayBlock, may_block, not_made}
 use Rattle.nvme_model.proofs.Holding.{range_of_entry}
 use Rattle.nvme_model.proofs.Lists.{each_all}
@@ -60,7 +60,7 @@ module _ (c : ConfigNumbers) (past : Past) (b : BlockLine) (h : IsLegal c (Entry
           (length (blocks_made past g.ticket g.unit)))
           (list_any (λ x. is_differs x.found) (blocks_made past g.ticket g.unit)) m.unended.goes_on).1
 
-      ends_is : ends_with past b ≡ ends_by (flight past b.ticket) b (unit_of past g)
+      ends_is : ends_with past b ≡ ends_by (flight past b.ticket) b (checked_unit_of past g)
       ends_is =
           (λ i. nat_le (steps_needed (Tickets.ticket past b.ticket) (range i).blocks)
           (length (made_is past b g m.ticket m.unit i))
@@ -74,7 +74,7 @@ module _ (c : ConfigNumbers) (past : Past) (b : BlockLine) (h : IsLegal c (Entry
           or_false true = refl
           or_false false = refl
 
-      unit_more : unit_of later g ≡ unit_after (value past) (flight past b.ticket) b (unit_of past g)
+      unit_more : checked_unit_of later g ≡ unit_after (value past) (flight past b.ticket) b (checked_unit_of past g)
       unit_more =
           (λ i. record {
             line = g;
@@ -89,28 +89,29 @@ module _ (c : ConfigNumbers) (past : Past) (b : BlockLine) (h : IsLegal c (Entry
             said = said (made_is past b g m.ticket m.unit i);
             right = answers_are c past b g m.ticket m.unit i;
           })
-          ∙ (λ i. record (unit_after (value past) (flight past b.ticket) b (unit_of past g))
+          ∙ (λ i. record (unit_after (value past) (flight past b.ticket) b (checked_unit_of past g))
           { made = sym (add-one (length (blocks_made past g.ticket g.unit))) i })
 
-      unit_is : open_unit later b.ticket
-          ≡ cond (ends_by (flight past b.ticket) b (unit_of past g)) None
-          (Some (unit_after (value past) (flight past b.ticket) b (unit_of past g)))
-      unit_is = go (ends_by (flight past b.ticket) b (unit_of past g)) ends_is
+      unit_is : checked_unit later b.ticket
+          ≡ cond (ends_by (flight past b.ticket) b (checked_unit_of past g)) None
+          (Some (unit_after (value past) (flight past b.ticket) b (checked_unit_of past g)))
+      unit_is = go (ends_by (flight past b.ticket) b (checked_unit_of past g)) ends_is
         where
           go : (x : Bool) → ends_with past b ≡ x
-              → open_unit later b.ticket
-              ≡ cond x None (Some (unit_after (value past) (flight past b.ticket) b (unit_of past g)))
-          go true e = ap (λ gs. option_map (unit_of later) (find (λ (x : GrantLine). eqb x.ticket b.ticket) gs))
-              (block_open_beside c past b h e) ∙ ap (option_map (unit_of later)) (find_apart b.ticket (open_units past))
+              → checked_unit later b.ticket
+              ≡ cond x None (Some (unit_after (value past) (flight past b.ticket) b (checked_unit_of past g)))
+          go true e = ap (λ gs. option_map (checked_unit_of later) (find (λ (x : GrantLine). eqb x.ticket b.ticket) gs))
+              (block_open_beside c past b h e)
+              ∙ ap (option_map (checked_unit_of later)) (find_apart b.ticket (open_units past))
           go false e =
-              ap (λ gs. option_map (unit_of later) (find (λ (x : GrantLine). eqb x.ticket b.ticket) gs))
-              (block_open_on c past b before e) ∙ ap (option_map (unit_of later)) at
+              ap (λ gs. option_map (checked_unit_of later) (find (λ (x : GrantLine). eqb x.ticket b.ticket) gs))
+              (block_open_on c past b before e) ∙ ap (option_map (checked_unit_of later)) at
               ∙ ap (λ u. Some u) unit_more
 
       opens_is : open_units later
-          ≡ cond (ends_by (flight past b.ticket) b (unit_of past g))
+          ≡ cond (ends_by (flight past b.ticket) b (checked_unit_of past g))
           (filter (λ x. not (eqb x.ticket b.ticket)) (open_units past)) (open_units past)
-      opens_is = go (ends_by (flight past b.ticket) b (unit_of past g)) ends_is
+      opens_is = go (ends_by (flight past b.ticket) b (checked_unit_of past g)) ends_is
         where
           go : (x : Bool) → ends_with past b ≡ x
               → open_units later ≡ cond x (filter (λ x. not (eqb x.ticket b.ticket)) (open_units past))
@@ -123,7 +124,7 @@ module _ (c : ConfigNumbers) (past : Past) (b : BlockLine) (h : IsLegal c (Entry
           && writes (value past) (Tickets.ticket past b.ticket) (range i)) (write_data (Tickets.ticket past b.ticket) l)
           (value past l))
 
-      block_here : flight later b.ticket ≡ blocked_flight (value past) (flight past b.ticket) b (unit_of past g)
+      block_here : flight later b.ticket ≡ blocked_flight (value past) (flight past b.ticket) b (checked_unit_of past g)
       block_here =
           let t = b.ticket in
           (λ i. record {
@@ -133,7 +134,7 @@ module _ (c : ConfigNumbers) (past : Past) (b : BlockLine) (h : IsLegal c (Entry
             differs = (eq-eqb t t refl i && is_differs b.found) || differed past t;
             posts = posts_of past t;
             placed = placed past t + cond (own_key i) 1 0;
-            no = (own_key i && no_by (value past) (Tickets.ticket past t) (range i)) || said_no past t;
+            no = (own_key i && no_by (value past) (Tickets.ticket past t) (range i)) || effect_said_no past t;
             found = found past t ++ cond (own_key i) (read_at (value past) (Tickets.ticket past t) (range i)) [];
           })
 
@@ -149,8 +150,8 @@ module _ (c : ConfigNumbers) (past : Past) (b : BlockLine) (h : IsLegal c (Entry
             (each_all (λ x. eqb x.ticket t ≡ true → not (eqb x.ticket b.ticket) ≡ true)
             (λ x q. ap not (ne_eqb x.ticket b.ticket (λ r. ne (sym (eqb-true _ _ q) ∙ r)))) (open_units past))
       ] in
-      let u : open_unit later t ≡ open_unit past t =
-      ap (option_map (unit_of later)) finds
+      let u : checked_unit later t ≡ checked_unit past t =
+      ap (option_map (checked_unit_of later)) finds
       ∙ unit_kept later past (find (λ x. eqb x.ticket t) (open_units past))
       (λ g e. one g (λ q. ne (sym (found_ticket t (open_units past) g e) ∙ q))) in
       let read : found later t ≡ found past t =
@@ -165,7 +166,7 @@ module _ (c : ConfigNumbers) (past : Past) (b : BlockLine) (h : IsLegal c (Entry
         posts = posts_of past t;
         placed = (ap (λ x. placed past t + cond x 1 0) none ∙ plus (placed past t)) i;
         no = (none i && no_at (Some past) (Tickets.ticket past b.ticket) (unit_range past b.ticket b.unit))
-            || said_no past t;
+            || effect_said_no past t;
         found = read i;
       })
     where
@@ -179,7 +180,7 @@ module _ (c : ConfigNumbers) (past : Past) (b : BlockLine) (h : IsLegal c (Entry
       plus : (n : ℕ) → n + 0 ≡ n
       plus n = omega arith
 
-      one : (g : GrantLine) → g.ticket ≢ b.ticket → unit_of later g ≡ unit_of past g
+      one : (g : GrantLine) → g.ticket ≢ b.ticket → checked_unit_of later g ≡ checked_unit_of past g
       one g ne =
           let apart : eqb b.ticket g.ticket ≡ false = ne_eqb b.ticket g.ticket (λ e. ne (sym e)) in
           let none : (b.effect && eqb b.ticket g.ticket && eqb b.unit g.unit) ≡ false =
@@ -196,11 +197,12 @@ module _ (c : ConfigNumbers) (past : Past) (b : BlockLine) (h : IsLegal c (Entry
           last true = refl
           last false = refl
 
-  pub block_taken : tables c later ≡ taken c (tables c past) (Entry.Block b)
+  pub block_taken : tables c later ≡ tables_after c (tables c past) (Entry.Block b)
   block_taken =
       let f = may_block c past b h in
       let g = f.0 in
-      let fl = flights_are later past b.ticket (blocked_flight (value past) (flight past b.ticket) b (unit_of past g))
+      let fl = flights_are later past b.ticket
+      (blocked_flight (value past) (flight past b.ticket) b (checked_unit_of past g))
       (block_here g f.2 f.1) block_other in
       (λ i. record (tables c past) { value = λ l. value_is g f.2 f.1 l i; flight = fl i; opens = opens_is g f.2 f.1 i })
-      ∙ ap (λ o. blocked (tables c past) b (option_map (unit_of past) o)) (sym f.1)
+      ∙ ap (λ o. blocked (tables c past) b (option_map (checked_unit_of past) o)) (sym f.1)

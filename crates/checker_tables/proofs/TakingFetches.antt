@@ -19,10 +19,10 @@ use Rattle.nvme_model.specs.Tickets
 use Rattle.nvme_model.specs.Tickets.{fetched_ticket}
 use Rattle.nvme_model.specs.Value.{value}
 use Rattle.nvme_model.specs.Verdict
-use Rattle.checker_tables.specs.Effects.{answers_at, found, placed, said_no}
-use Rattle.checker_tables.specs.Tables.{flight, fresh, open_unit, tables, unit_of}
+use Rattle.checker_tables.specs.Effects.{answers_at, found, placed, effect_said_no}
+use Rattle.checker_tables.specs.Tables.{flight, just_fetched, checked_unit, tables, checked_unit_of}
 use Rattle.checker_tables.specs.Taken.{fetched_by}
-use Rattle.checker_tables.specs.Taken.{taken}
+use Rattle.checker_tables.specs.Taken.{tables_after}
 use Rattle.nvme_model.proofs.Holding.{open_kept}
 use Rattle.nvme_model.proofs.Rules.{follows, fetch_number}
 use Rattle.ticket_laws.proofs.Counts.{fetched_within, taken_some}
@@ -47,8 +47,8 @@ unknown_placed c past t h l = elim (cases_lt 0 (placed past t)) [
 ]
 
 unknown_no : (c : ConfigNumbers) (past : Past) (t : ℕ) → IsLegal c past → Tickets.tickets past < t
-    → said_no past t ≡ false
-unknown_no c past t h l = false_from_ne_true (said_no past t) (λ e.
+    → effect_said_no past t ≡ false
+unknown_no c past t h l = false_from_ne_true (effect_said_no past t) (λ e.
     let u = said_at c past t h e in
     absurd (omega (arith, l, effect_known c past t u.0 h (no_effects _ _ _ u.1))))
 
@@ -57,7 +57,7 @@ unknown_found : (c : ConfigNumbers) (past : Past) (t : ℕ) → IsLegal c past �
 unknown_found c past t h l = found_pieces c past t h ∙ ap (pieces (piece past t) 0) (unknown_placed c past t h l)
 
 fetch_here : (c : ConfigNumbers) (past : Past) (f : FetchLine) → IsLegal c (Entry.Fetch f ∷ past)
-    → flight (Entry.Fetch f ∷ past) f.ticket ≡ fresh (fetched_by (tables c past) f)
+    → flight (Entry.Fetch f ∷ past) f.ticket ≡ just_fetched (fetched_by (tables c past) f)
 fetch_here c past f h =
     let b = (follows c past (Entry.Fetch f) h).before in
     let n = fetch_number c past f h in
@@ -65,9 +65,10 @@ fetch_here c past f h =
     let l : Tickets.tickets past < f.ticket = omega (arith, n) in
     let k : Tickets.ticket later f.ticket ≡ fetched_ticket past f.queue f.verdict =
     cond-true (eqb f.ticket f.ticket) _ _ (eq-eqb f.ticket f.ticket refl) in
-    let u : open_unit later f.ticket ≡ None =
-    ap (λ gs. option_map (unit_of later) (find (λ (g : GrantLine). eqb g.ticket f.ticket) gs)) (open_kept c past f h)
-    ∙ ap (option_map (unit_of later)) (not_open c past f.ticket b l) in
+    let u : checked_unit later f.ticket ≡ None =
+    ap (λ gs. option_map (checked_unit_of later) (find (λ (g : GrantLine). eqb g.ticket f.ticket) gs))
+    (open_kept c past f h)
+    ∙ ap (option_map (checked_unit_of later)) (not_open c past f.ticket b l) in
     (λ i. record {
       ticket = k i;
       opened = not_granted c past f.ticket b l i;
@@ -83,8 +84,8 @@ fetch_other : (c : ConfigNumbers) (past : Past) (f : FetchLine) → IsLegal c (E
     → t ≢ f.ticket → flight (Entry.Fetch f ∷ past) t ≡ flight past t
 fetch_other c past f h t ne =
     let later : Past = Entry.Fetch f ∷ past in
-    let u : open_unit later t ≡ open_unit past t =
-    ap (λ gs. option_map (unit_of later) (find (λ (g : GrantLine). eqb g.ticket t) gs)) (open_kept c past f h)
+    let u : checked_unit later t ≡ checked_unit past t =
+    ap (λ gs. option_map (checked_unit_of later) (find (λ (g : GrantLine). eqb g.ticket t) gs)) (open_kept c past f h)
     ∙ unit_kept later past (find (λ g. eqb g.ticket t) (open_units past))
     (λ g e. one g (λ q. ne (sym (found_ticket t (open_units past) g e) ∙ q))) in
     (λ i. record (flight past t) { ticket = same t ne i; unit = u i })
@@ -92,28 +93,28 @@ fetch_other c past f h t ne =
     same : (t : ℕ) → t ≢ f.ticket → Tickets.ticket (Entry.Fetch f ∷ past) t ≡ Tickets.ticket past t
     same t ne = cond-false (eqb f.ticket t) _ _ (ne_eqb f.ticket t (λ e. ne (sym e)))
 
-    one : (g : GrantLine) → g.ticket ≢ f.ticket → unit_of (Entry.Fetch f ∷ past) g ≡ unit_of past g
-    one g ne = (λ i. record (unit_of past g) {
+    one : (g : GrantLine) → g.ticket ≢ f.ticket → checked_unit_of (Entry.Fetch f ∷ past) g ≡ checked_unit_of past g
+    one g ne = (λ i. record (checked_unit_of past g) {
       right = option_map (λ before. answers_at (value before) (same g.ticket ne i) g.range)
           (effect past g.ticket g.unit);
     })
 
 some_taken : (c : ConfigNumbers) (past : Past) (f : FetchLine) → IsLegal c (Entry.Fetch f ∷ past)
-    → 0 < length (take (Verdict.taken f.verdict) (waiting past f.queue))
+    → 0 < length (take (Verdict.taken_entries f.verdict) (waiting past f.queue))
 some_taken c past f h =
     let w = follows c past (Entry.Fetch f) h in
     let some = waits (length (published_entries past f.queue)) (fetched_count past f.queue)
     (length (waiting past f.queue)) (length-drop (fetched_count past f.queue) (published_entries past f.queue))
     (fetched_within c past f.queue w.before) w.allowed.1.0 in
-    omega (arith, some, (taken_some f.verdict).0, length-take (Verdict.taken f.verdict) (waiting past f.queue))
+    omega (arith, some, (taken_some f.verdict).0, length-take (Verdict.taken_entries f.verdict) (waiting past f.queue))
   where
     waits : (n k m : ℕ) → m ≡ n - k → k ≤ n → eqb n k ≡ false → 0 < m
     waits n k m e l d = grind (arith, nat_tests, e, l, d)
 
 pub fetch_taken : (c : ConfigNumbers) (past : Past) (f : FetchLine) → IsLegal c (Entry.Fetch f ∷ past)
-    → tables c (Entry.Fetch f ∷ past) ≡ taken c (tables c past) (Entry.Fetch f)
+    → tables c (Entry.Fetch f ∷ past) ≡ tables_after c (tables c past) (Entry.Fetch f)
 fetch_taken c past f h =
-    let fl = flights_are (Entry.Fetch f ∷ past) past f.ticket (fresh (fetched_by (tables c past) f))
+    let fl = flights_are (Entry.Fetch f ∷ past) past f.ticket (just_fetched (fetched_by (tables c past) f))
     (fetch_here c past f h) (fetch_other c past f h) in
     let fy = fetch_flying c past f h (some_taken c past f h) in
     (λ i. record (tables c past) {
@@ -122,5 +123,5 @@ fetch_taken c past f h =
       flight = fl i;
       opens = open_kept c past f h i;
       waiting = λ q. fetch_waits past f q i;
-      fetched = λ q. fetched_count past q + cond (eqb f.queue q) (Verdict.taken f.verdict) 0;
+      fetched = λ q. fetched_count past q + cond (eqb f.queue q) (Verdict.taken_entries f.verdict) 0;
     })

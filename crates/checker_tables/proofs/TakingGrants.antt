@@ -13,9 +13,9 @@ use Rattle.nvme_model.specs.Open.{blocks_made, granted, grants_of, open_units}
 use Rattle.nvme_model.specs.Tickets
 use Rattle.nvme_model.specs.Value.{value}
 use Rattle.checker_tables.specs.Effects.{answers_at, said}
-use Rattle.checker_tables.specs.Tables.{flight, open_unit, tables, unit_of}
+use Rattle.checker_tables.specs.Tables.{flight, checked_unit, tables, checked_unit_of}
 use Rattle.checker_tables.specs.Taken.{opened_flight}
-use Rattle.checker_tables.specs.Taken.{taken}
+use Rattle.checker_tables.specs.Taken.{tables_after}
 use Rattle.nvme_model.proofs.Blocks.{no_blocks}
 use Rattle.nvme_model.proofs.Effects.{no_effect}
 use Rattle.nvme_model.proofs.Rules.{follows, may_grant}
@@ -36,9 +36,9 @@ grant_here c past g h =
     let none : blocks_made past t g.unit ≡ [] =
     no_blocks c past t g.unit b (omega (arith, (may_grant c past g h).unit)) in
     let without = no_effect past t g.unit none in
-    let opens : open_unit later t ≡ Some (record { line = g; made = 0; said = []; right = None }) =
-    ap (λ gs. option_map (unit_of later) (find (λ (x : GrantLine). eqb x.ticket t) gs)) (grant_open c past g h)
-    ∙ ap (λ b. option_map (unit_of later)
+    let opens : checked_unit later t ≡ Some (record { line = g; made = 0; said = []; right = None }) =
+    ap (λ gs. option_map (checked_unit_of later) (find (λ (x : GrantLine). eqb x.ticket t) gs)) (grant_open c past g h)
+    ∙ ap (λ b. option_map (checked_unit_of later)
     (cond b (Some g) (find (λ (x : GrantLine). eqb x.ticket t) (open_units past)))) (eq-eqb t t refl)
     ∙ (λ i. Some (record {
       line = g;
@@ -54,14 +54,15 @@ grant_other c past g h t ne =
     let apart : eqb g.ticket t ≡ false = ne_eqb g.ticket t (λ e. ne (sym e)) in
     let same : grants_of (Entry.Grant g ∷ past) t ≡ grants_of past t =
     ap length (cond-false (eqb g.ticket t) _ _ apart) in
-    let opens : open_unit (Entry.Grant g ∷ past) t ≡ open_unit past t =
-    ap (λ gs. option_map (unit_of past) (find (λ (x : GrantLine). eqb x.ticket t) gs)) (grant_open c past g h)
-    ∙ ap (λ b. option_map (unit_of past) (cond b (Some g) (find (λ (x : GrantLine). eqb x.ticket t) (open_units past))))
+    let opens : checked_unit (Entry.Grant g ∷ past) t ≡ checked_unit past t =
+    ap (λ gs. option_map (checked_unit_of past) (find (λ (x : GrantLine). eqb x.ticket t) gs)) (grant_open c past g h)
+    ∙ ap (λ b. option_map (checked_unit_of past)
+    (cond b (Some g) (find (λ (x : GrantLine). eqb x.ticket t) (open_units past))))
     apart in
     (λ i. record (flight past t) { opened = same i; unit = opens i })
 
 pub grant_taken : (c : ConfigNumbers) (past : Past) (g : GrantLine) → IsLegal c (Entry.Grant g ∷ past)
-    → tables c (Entry.Grant g ∷ past) ≡ taken c (tables c past) (Entry.Grant g)
+    → tables c (Entry.Grant g ∷ past) ≡ tables_after c (tables c past) (Entry.Grant g)
 grant_taken c past g h =
     let fl = flights_are (Entry.Grant g ∷ past) past g.ticket (opened_flight (flight past g.ticket) g)
     (grant_here c past g h) (grant_other c past g h) in

@@ -16,7 +16,7 @@ use Rattle.nvme_model.specs.Tickets.{in_flight, posts_of}
 use Rattle.ticket_laws.specs.Standing.{flying}
 use Rattle.checker_tables.specs.Tables.{flight, tables}
 use Rattle.checker_tables.specs.Taken.{flies_on}
-use Rattle.checker_tables.specs.Taken.{posted_flight, taken}
+use Rattle.checker_tables.specs.Taken.{posted_flight, tables_after}
 use Rattle.nvme_model.proofs.NextPost.{not_flying}
 use Rattle.nvme_model.proofs.Rules.{follows}
 use Rattle.ticket_laws.proofs.Standings.{post_flying_off, post_flying_on}
@@ -54,7 +54,7 @@ one_posted true p = refl
 one_posted false p = refl
 
 pub post_taken : (c : ConfigNumbers) (past : Past) (p : PostLine) → IsLegal c (Entry.Post p ∷ past)
-    → tables c (Entry.Post p ∷ past) ≡ taken c (tables c past) (Entry.Post p)
+    → tables c (Entry.Post p ∷ past) ≡ tables_after c (tables c past) (Entry.Post p)
 post_taken c past p h =
     let w = follows c past (Entry.Post p) h in
     let later : Past = Entry.Post p ∷ past in

@@ -5,14 +5,14 @@ use Rattle.std.proofs.Common.{eqb, eqb-true, eq-eqb}
 use Rattle.std.specs.List.{find}
 use Rattle.nvme_model.specs.declared.entry.GrantLine.{GrantLine}
 use Rattle.nvme_model.specs.History.{Past}
-use Rattle.checker_tables.specs.Tables.{Flight, flight, unit_of}
+use Rattle.checker_tables.specs.Tables.{CheckedTicket, flight, checked_unit_of}
 use Rattle.checker_tables.specs.Taken.{with_flight}
 use Rattle.nvme_model.proofs.Lists.{each_all, each_find}
 use Rattle.nvme_model.proofs.Written.{clash}
 
 -- ---- tables of tickets
 
-pub flights_are : (later past : Past) (t : ℕ) (f : Flight) → flight later t ≡ f
+pub flights_are : (later past : Past) (t : ℕ) (f : CheckedTicket) → flight later t ≡ f
     → ((u : ℕ) → u ≢ t → flight later u ≡ flight past u) → flight later ≡ with_flight (flight past) t f
 flights_are later past t f here other = (λ i u. go u (eqb u t) refl i)
   where
@@ -27,7 +27,7 @@ found_ticket t gs g e = eqb-true g.ticket t
 
 -- units of other tickets stay
 pub unit_kept : (later past : Past) (o : Option GrantLine)
-    → ((g : GrantLine) → o ≡ Some g → unit_of later g ≡ unit_of past g)
-    → option_map (unit_of later) o ≡ option_map (unit_of past) o
+    → ((g : GrantLine) → o ≡ Some g → checked_unit_of later g ≡ checked_unit_of past g)
+    → option_map (checked_unit_of later) o ≡ option_map (checked_unit_of past) o
 unit_kept later past None f = refl
 unit_kept later past (Some g) f = ap (λ u. Some u) (f g refl)

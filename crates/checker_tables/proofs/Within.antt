@@ -9,9 +9,9 @@ use Rattle.nvme_model.specs.Array.{blocks_from, has_block}
 use Rattle.nvme_model.specs.Operations.{compare_data, has_compare, has_write, op, write_data}
 use Rattle.nvme_model.specs.Tickets.{Ticket}
 use Rattle.nvme_model.specs.Value.{all_equal}
-use Rattle.checker_tables.specs.Effects.{answers_at, read_at, reads, word_of}
+use Rattle.checker_tables.specs.Effects.{answers_at, read_at, does_read, word_of}
 use Rattle.checker_tables.specs.Judged.{are_right, block_fits_by, right_after}
-use Rattle.checker_tables.specs.Tables.{Flight, OpenUnit}
+use Rattle.checker_tables.specs.Tables.{CheckedTicket, CheckedUnit}
 use Rattle.checker_tables.specs.Taken.{SameIn, blocked_flight, ends_by, value_after}
 
 map_same : (p q : ℕ → Bool) (s n : ℕ) → ((l : ℕ) → s ≤ l → l < s + n → p l ≡ q l)
@@ -46,19 +46,19 @@ module _ (f g : ℕ → List ℕ) (r : Range) (h : SameIn f g r) where
       r.blocks (λ l a b. ap (λ (x : List ℕ). bytes_eq x (compare_data k l)) (h l a b))
 
   read_same : (k : Ticket) → read_at f k r ≡ read_at g k r
-  read_same k = ap (λ (xs : List ℕ). cond (reads (op k)) xs []) (flat_same f g r.slba r.blocks h)
+  read_same k = ap (λ (xs : List ℕ). cond (does_read (op k)) xs []) (flat_same f g r.slba r.blocks h)
 
-module _ (f g : ℕ → List ℕ) (u : OpenUnit) (h : SameIn f g u.line.range) where
-  pub right_same : (x : Flight) (b : BlockLine) → right_after f x b u ≡ right_after g x b u
+module _ (f g : ℕ → List ℕ) (u : CheckedUnit) (h : SameIn f g u.line.range) where
+  pub right_same : (x : CheckedTicket) (b : BlockLine) → right_after f x b u ≡ right_after g x b u
   right_same x b = ap (λ (xs : List Bool). cond b.effect (Some xs) u.right) (answers_same f g u.line.range h x.ticket)
 
-  pub fits_same : (x : Flight) (b : BlockLine) → block_fits_by f x b (Some u) ≡ block_fits_by g x b (Some u)
+  pub fits_same : (x : CheckedTicket) (b : BlockLine) → block_fits_by f x b (Some u) ≡ block_fits_by g x b (Some u)
   fits_same x b =
       ap (λ o. eqb b.unit u.line.unit && eqb b.lba (u.line.range.slba + u.made % u.line.range.blocks)
       && may_find (op x.ticket) u.line.range.blocks u.made b.found && (not b.effect || eqb b.unit x.placed)
       && are_right o (u.said ++ word_of b.found)) (right_same x b)
 
-  pub flight_same : (x : Flight) (b : BlockLine) → blocked_flight f x b u ≡ blocked_flight g x b u
+  pub flight_same : (x : CheckedTicket) (b : BlockLine) → blocked_flight f x b u ≡ blocked_flight g x b u
   flight_same x b =
       (λ i. record x {
         unit = cond (ends_by x b u) None

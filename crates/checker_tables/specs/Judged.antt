@@ -29,16 +29,16 @@ use Rattle.nvme_model.specs.declared.status.Status.{Status}
 use Rattle.nvme_model.specs.declared.status.Verdict.{Verdict}
 use Rattle.nvme_model.specs.declared.step.Step.{Step}
 use Rattle.checker_tables.specs.Effects.{answers_at, word_of}
-use Rattle.checker_tables.specs.Tables.{Flight, OpenUnit, Tables}
+use Rattle.checker_tables.specs.Tables.{CheckedTicket, CheckedUnit, Tables}
 
 -- ---- a ticket
 
 -- a completion is still to be posted
-abbrev pub flies : Flight → Bool
+abbrev pub flies : CheckedTicket → Bool
 flies f = nat_lt f.posts (length f.ticket.commands)
 
 -- the CIDs that it still owes a completion for, where it is of queue q
-abbrev pub cids_left : ℕ → Flight → List ℕ
+abbrev pub cids_left : ℕ → CheckedTicket → List ℕ
 cids_left q f = if f.ticket.queue == q then drop f.posts (cids f.ticket) else []
 
 -- those of all in flight
@@ -46,15 +46,15 @@ abbrev pub in_use : Tables → ℕ → List ℕ
 in_use s q = flat_map (λ t. cids_left q (s.flight t)) s.flying
 
 -- what a Fetch of queue q says
-abbrev pub verdict_by : ConfigNumbers → Tables → ℕ → Verdict
-verdict_by c s q = verdict_of c.atomic c.blocks (in_use s q) (map item_of (s.waiting q))
+abbrev pub checked_verdict : ConfigNumbers → Tables → ℕ → Verdict
+checked_verdict c s q = verdict_of c.atomic c.blocks (in_use s q) (map item_of (s.waiting q))
 
 -- the unit that a Grant would open
-abbrev pub next_by : ConfigNumbers → Flight → Option Range
+abbrev pub next_by : ConfigNumbers → CheckedTicket → Option Range
 next_by c f = slice_get (units c f.ticket) f.opened
 
 -- no unit is left to open: all are, or a Block has said `differs`
-abbrev pub none_left_by : ConfigNumbers → Flight → Bool
+abbrev pub none_left_by : ConfigNumbers → CheckedTicket → Bool
 none_left_by c f = nat_le (length (units c f.ticket)) f.opened || f.differs
 
 -- the range, held so, conflicts with an open unit
@@ -63,39 +63,40 @@ conflicts_by s m None = false
 conflicts_by s m (Some r) = list_any (λ g. conflict r m g.range g.mode) s.opens
 
 -- its units have all ended
-abbrev pub has_run : ConfigNumbers → Flight → Bool
-has_run c f = nat_le (length (units c f.ticket)) f.opened && is_none f.unit
+abbrev pub checked_has_run : ConfigNumbers → CheckedTicket → Bool
+checked_has_run c f = nat_le (length (units c f.ticket)) f.opened && is_none f.unit
 
 -- and each has its effect
-abbrev pub is_done : ConfigNumbers → Flight → Bool
-is_done c f = has_run c f && nat_le (length (units c f.ticket)) f.placed
+abbrev pub is_done : ConfigNumbers → CheckedTicket → Bool
+is_done c f = checked_has_run c f && nat_le (length (units c f.ticket)) f.placed
 
 -- nothing is owed yet
-abbrev pub owes_nothing : ConfigNumbers → Flight → Bool
-owes_nothing c f = passed f.ticket.verdict && not (is_flush_ticket (op f.ticket)) && not (has_run c f || f.differs)
+abbrev pub owes_nothing : ConfigNumbers → CheckedTicket → Bool
+owes_nothing c f = passed f.ticket.verdict && not (is_flush_ticket (op f.ticket))
+    && not (checked_has_run c f || f.differs)
 
 -- what it owes in all
-abbrev pub owed_running : ConfigNumbers → Flight → Option Op → List Status
-owed_running c f None = success ∷ []
-owed_running c f (Some Op.Pair) =
-    if f.no && has_run c f then compare_failure ∷ failed_fused ∷ []
+abbrev pub checked_owed_running : ConfigNumbers → CheckedTicket → Option Op → List Status
+checked_owed_running c f None = success ∷ []
+checked_owed_running c f (Some Op.Pair) =
+    if f.no && checked_has_run c f then compare_failure ∷ failed_fused ∷ []
     else (if is_done c f then success ∷ success ∷ [] else [])
-owed_running c f (Some o) =
+checked_owed_running c f (Some o) =
     if f.no then compare_failure ∷ []
     else (if is_done c f then success ∷ [] else [])
 
 -- the statuses that a ticket with this verdict owes
-abbrev pub owed_as : ConfigNumbers → Flight → Verdict → List Status
+abbrev pub owed_as : ConfigNumbers → CheckedTicket → Verdict → List Status
 owed_as c f (Verdict.SingleFailed s) = s ∷ []
 owed_as c f (Verdict.PairFailed s r) = s ∷ r ∷ []
-owed_as c f _ = owed_running c f (op f.ticket)
+owed_as c f _ = checked_owed_running c f (op f.ticket)
 
 -- the statuses that a ticket owes, by what is kept of it
-abbrev pub owed_by : ConfigNumbers → Flight → List Status
-owed_by c f = owed_as c f f.ticket.verdict
+abbrev pub checked_owed : ConfigNumbers → CheckedTicket → List Status
+checked_owed c f = owed_as c f f.ticket.verdict
 
 -- the bytes of its next completion, with this status
-abbrev pub completion_by : ConfigNumbers → Tables → Flight → Status → List ℕ
+abbrev pub completion_by : ConfigNumbers → Tables → CheckedTicket → Status → List ℕ
 completion_by c s f status =
     let k = f.ticket in
     cqe_bytes (s.fetched k.queue % c.sq_size) k.queue (get_or (cids k) f.posts 0)
@@ -107,8 +108,8 @@ read_by (Some Op.Read) found = found
 read_by _ found = []
 
 -- the data of a completion: what a Read found, where it succeeds
-abbrev pub data_by : Flight → Status → List ℕ
-data_by f status = if is_success status then read_by (op f.ticket) f.found else []
+abbrev pub checked_data : CheckedTicket → Status → List ℕ
+checked_data f status = if is_success status then read_by (op f.ticket) f.found else []
 
 -- ---- what refuses a step
 
@@ -150,7 +151,7 @@ refusal_by c s step = first_row (conditions_by c s step)
 -- ---- whether an entry may follow
 
 -- the answers that are right, once the open unit has its effect, with this Block
-abbrev pub right_after : (ℕ → List ℕ) → Flight → BlockLine → OpenUnit → Option (List Bool)
+abbrev pub right_after : (ℕ → List ℕ) → CheckedTicket → BlockLine → CheckedUnit → Option (List Bool)
 right_after contents f b u = if b.effect then Some (answers_at contents f.ticket u.line.range) else u.right
 
 -- the answers are the first of those
@@ -165,7 +166,7 @@ are_right None said = true
 are_right (Some answers) said = agrees said answers
 
 -- a Block of the open unit
-abbrev pub block_fits_by : (ℕ → List ℕ) → Flight → BlockLine → Option OpenUnit → Bool
+abbrev pub block_fits_by : (ℕ → List ℕ) → CheckedTicket → BlockLine → Option CheckedUnit → Bool
 block_fits_by contents f b None = false
 block_fits_by contents f b (Some u) =
     let r = u.line.range in
@@ -181,17 +182,18 @@ abbrev pub post_fits_by : ConfigNumbers → Tables → PostLine → Option Statu
 post_fits_by c s p None = false
 post_fits_by c s p (Some status) =
     bytes_eq p.cqe (completion_by c s (s.flight p.ticket) status)
-    && bytes_eq p.payload (data_by (s.flight p.ticket) status)
+    && bytes_eq p.payload (checked_data (s.flight p.ticket) status)
 
 -- an entry says what its step does
 abbrev pub fits_by : ConfigNumbers → Tables → Entry → Bool
 fits_by c s (Entry.Publish p) = true
-fits_by c s (Entry.Fetch f) = (f.ticket == s.tickets + 1) && same_verdict f.verdict (verdict_by c s f.queue)
+fits_by c s (Entry.Fetch f) = (f.ticket == s.tickets + 1) && same_verdict f.verdict (checked_verdict c s f.queue)
 fits_by c s (Entry.Grant g) =
     let f = s.flight g.ticket in
     (g.unit == f.opened) && is_range (next_by c f) g.range && beq (is_exclusive g.mode) (is_exclusive (mode f.ticket))
 fits_by c s (Entry.Block b) = block_fits_by s.value (s.flight b.ticket) b (s.flight b.ticket).unit
-fits_by c s (Entry.Post p) = post_fits_by c s p (slice_get (owed_by c (s.flight p.ticket)) (s.flight p.ticket).posts)
+fits_by c s (Entry.Post p) =
+    post_fits_by c s p (slice_get (checked_owed c (s.flight p.ticket)) (s.flight p.ticket).posts)
 fits_by c s (Entry.Reap r) = is_cqe (slice_get (s.unreaped r.queue) 0) r.cqe
 
 -- an entry may follow: nothing refuses its step, and it says what that does

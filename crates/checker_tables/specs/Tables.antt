@@ -17,10 +17,10 @@ use Rattle.nvme_model.specs.declared.status.Verdict.{Verdict}
 use Rattle.nvme_model.specs.declared.submission.Submission.{Submission}
 use Rattle.ticket_laws.specs.Standing.{flying}
 use Rattle.checker_tables.specs.Effects
-use Rattle.checker_tables.specs.Effects.{answers_at, said, said_no}
+use Rattle.checker_tables.specs.Effects.{answers_at, said, effect_said_no}
 
 -- the open unit of a ticket
-pub record OpenUnit : Type 0 where
+pub record CheckedUnit : Type 0 where
   pub line : GrantLine
   -- how many Block entries it has, and what those that compare have answered, the first first
   pub made : ℕ
@@ -29,8 +29,8 @@ pub record OpenUnit : Type 0 where
   pub right : Option (List Bool)
 
 -- the open unit of this Grant
-abbrev pub unit_of : Past → GrantLine → OpenUnit
-unit_of past g =
+abbrev pub checked_unit_of : Past → GrantLine → CheckedUnit
+checked_unit_of past g =
     record {
       line = g;
       made = length (blocks_made past g.ticket g.unit);
@@ -40,15 +40,15 @@ unit_of past g =
     }
 
 -- the open unit of ticket t, if it has one
-abbrev pub open_unit : Past → ℕ → Option OpenUnit
-open_unit past t = option_map (unit_of past) (find (λ g. g.ticket == t) (open_units past))
+abbrev pub checked_unit : Past → ℕ → Option CheckedUnit
+checked_unit past t = option_map (checked_unit_of past) (find (λ g. g.ticket == t) (open_units past))
 
 -- a ticket
-pub record Flight : Type 0 where
+pub record CheckedTicket : Type 0 where
   pub ticket : Ticket
   -- how many of its units were opened, and the one that is open
   pub opened : ℕ
-  pub unit : Option OpenUnit
+  pub unit : Option CheckedUnit
   -- a `differs` ended it
   pub differs : Bool
   -- how many of its completions were posted
@@ -59,22 +59,31 @@ pub record Flight : Type 0 where
   pub found : List ℕ
 
 -- ticket t, as a checker keeps it
-abbrev pub flight : Past → ℕ → Flight
+abbrev pub flight : Past → ℕ → CheckedTicket
 flight past t =
     record {
       ticket = Tickets.ticket past t;
       opened = grants_of past t;
-      unit = open_unit past t;
+      unit = checked_unit past t;
       differs = differed past t;
       posts = posts_of past t;
       placed = Effects.placed past t;
-      no = said_no past t;
+      no = effect_said_no past t;
       found = Effects.found past t;
     }
 
 -- one that was just fetched
-abbrev pub fresh : Ticket → Flight
-fresh k = record { ticket = k; opened = 0; unit = None; differs = false; posts = 0; placed = 0; no = false; found = [] }
+abbrev pub just_fetched : Ticket → CheckedTicket
+just_fetched k = record {
+  ticket = k;
+  opened = 0;
+  unit = None;
+  differs = false;
+  posts = 0;
+  placed = 0;
+  no = false;
+  found = [];
+}
 
 -- the completions of completion queue q that weren't reaped
 abbrev pub unreaped : ConfigNumbers → Past → ℕ → List PostLine
@@ -87,7 +96,7 @@ pub record Tables : Type 0 where
   -- how many tickets there are, those in flight, and each
   pub tickets : ℕ
   pub flying : List ℕ
-  pub flight : ℕ → Flight
+  pub flight : ℕ → CheckedTicket
   -- the open units
   pub opens : List GrantLine
   -- by submission queue: what waits, and how many were fetched
@@ -113,13 +122,13 @@ tables c past =
     }
 
 -- of none
-abbrev pub start : Tables
-start =
+abbrev pub no_tables : Tables
+no_tables =
     record {
       value = λ l. zeros;
       tickets = 0;
       flying = [];
-      flight = λ t. fresh (record { queue = 0; commands = []; verdict = Verdict.Single });
+      flight = λ t. just_fetched (record { queue = 0; commands = []; verdict = Verdict.Single });
       opens = [];
       waiting = λ q. [];
       fetched = λ q. 0;

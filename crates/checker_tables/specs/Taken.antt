@@ -17,10 +17,10 @@ use Rattle.nvme_model.specs.declared.entry.FetchLine.{FetchLine}
 use Rattle.nvme_model.specs.declared.entry.GrantLine.{GrantLine}
 use Rattle.checker_tables.specs.Effects.{read_at, word_of}
 use Rattle.checker_tables.specs.Judged.{right_after}
-use Rattle.checker_tables.specs.Tables.{Flight, OpenUnit, Tables, fresh}
+use Rattle.checker_tables.specs.Tables.{CheckedTicket, CheckedUnit, Tables, just_fetched}
 
 -- this ticket has another flight
-abbrev pub with_flight : (ℕ → Flight) → ℕ → Flight → ℕ → Flight
+abbrev pub with_flight : (ℕ → CheckedTicket) → ℕ → CheckedTicket → ℕ → CheckedTicket
 with_flight flights t f u = if u == t then f else flights u
 
 -- ---- a Fetch
@@ -28,23 +28,27 @@ with_flight flights t f u = if u == t then f else flights u
 -- the ticket that a Fetch makes of what waits
 abbrev pub fetched_by : Tables → FetchLine → Ticket
 fetched_by s f =
-    record { queue = f.queue; commands = take (Verdict.taken f.verdict) (s.waiting f.queue); verdict = f.verdict }
+    record {
+      queue = f.queue;
+      commands = take (Verdict.taken_entries f.verdict) (s.waiting f.queue);
+      verdict = f.verdict;
+    }
 
 -- ---- a Grant
 
 -- a ticket after a Grant
-abbrev pub opened_flight : Flight → GrantLine → Flight
+abbrev pub opened_flight : CheckedTicket → GrantLine → CheckedTicket
 opened_flight f g =
     record f { opened = f.opened + 1; unit = Some (record { line = g; made = 0; said = []; right = None }) }
 
 -- ---- a Block
 
 -- the open unit has ended with this Block
-abbrev pub ends_by : Flight → BlockLine → OpenUnit → Bool
+abbrev pub ends_by : CheckedTicket → BlockLine → CheckedUnit → Bool
 ends_by f b u = nat_le (steps_needed f.ticket u.line.range.blocks) (u.made + 1) || is_differs b.found
 
 -- it has one more Block, and maybe its effect
-abbrev pub unit_after : (ℕ → List ℕ) → Flight → BlockLine → OpenUnit → OpenUnit
+abbrev pub unit_after : (ℕ → List ℕ) → CheckedTicket → BlockLine → CheckedUnit → CheckedUnit
 unit_after contents f b u =
     record u { made = u.made + 1; said = u.said ++ word_of b.found; right = right_after contents f b u }
 
@@ -53,7 +57,7 @@ abbrev pub no_by : (ℕ → List ℕ) → Ticket → Range → Bool
 no_by contents k r = has_compare (op k) && not (all_equal contents k r)
 
 -- a ticket after a Block of its open unit
-abbrev pub blocked_flight : (ℕ → List ℕ) → Flight → BlockLine → OpenUnit → Flight
+abbrev pub blocked_flight : (ℕ → List ℕ) → CheckedTicket → BlockLine → CheckedUnit → CheckedTicket
 blocked_flight contents f b u =
     let r = u.line.range in
     record f {
@@ -73,7 +77,7 @@ abbrev pub value_after : (ℕ → List ℕ) → BlockLine → Ticket → Range �
 value_after contents b k r l = if b.effect && has_block r l && writes contents k r then write_data k l else contents l
 
 -- the tables after a Block, where its ticket has this open unit
-abbrev pub blocked : Tables → BlockLine → Option OpenUnit → Tables
+abbrev pub blocked : Tables → BlockLine → Option CheckedUnit → Tables
 blocked s b None = s
 blocked s b (Some u) =
     let f = s.flight b.ticket in
@@ -86,33 +90,33 @@ blocked s b (Some u) =
 -- ---- a Post
 
 -- a ticket after a Post
-abbrev pub posted_flight : Flight → Flight
+abbrev pub posted_flight : CheckedTicket → CheckedTicket
 posted_flight f = record f { posts = f.posts + 1 }
 
 -- the ticket flies on after one more
-abbrev pub flies_on : Flight → Bool
+abbrev pub flies_on : CheckedTicket → Bool
 flies_on f = nat_lt (f.posts + 1) (length f.ticket.commands)
 
 -- ---- an entry
 
 -- the tables after an entry
-abbrev pub taken : ConfigNumbers → Tables → Entry → Tables
-taken c s (Entry.Publish p) = record s { waiting = λ q. s.waiting q ++ (if p.queue == q then p.batch else []) }
-taken c s (Entry.Fetch f) =
+abbrev pub tables_after : ConfigNumbers → Tables → Entry → Tables
+tables_after c s (Entry.Publish p) = record s { waiting = λ q. s.waiting q ++ (if p.queue == q then p.batch else []) }
+tables_after c s (Entry.Fetch f) =
     record s {
       tickets = s.tickets + 1;
       flying = s.flying ++ f.ticket ∷ [];
-      flight = with_flight s.flight f.ticket (fresh (fetched_by s f));
-      waiting = λ q. drop (if f.queue == q then Verdict.taken f.verdict else 0) (s.waiting q);
-      fetched = λ q. s.fetched q + (if f.queue == q then Verdict.taken f.verdict else 0);
+      flight = with_flight s.flight f.ticket (just_fetched (fetched_by s f));
+      waiting = λ q. drop (if f.queue == q then Verdict.taken_entries f.verdict else 0) (s.waiting q);
+      fetched = λ q. s.fetched q + (if f.queue == q then Verdict.taken_entries f.verdict else 0);
     }
-taken c s (Entry.Grant g) =
+tables_after c s (Entry.Grant g) =
     record s {
       flight = with_flight s.flight g.ticket (opened_flight (s.flight g.ticket) g);
       opens = g ∷ s.opens;
     }
-taken c s (Entry.Block b) = blocked s b (s.flight b.ticket).unit
-taken c s (Entry.Post p) =
+tables_after c s (Entry.Block b) = blocked s b (s.flight b.ticket).unit
+tables_after c s (Entry.Post p) =
     let f = s.flight p.ticket in
     record s {
       flying = if flies_on f then s.flying else filter (λ t. not (t == p.ticket)) s.flying;
@@ -120,4 +124,4 @@ taken c s (Entry.Post p) =
       posts = λ q. s.posts q + (if completion_queue c f.ticket.queue == q then 1 else 0);
       unreaped = λ q. s.unreaped q ++ (if completion_queue c f.ticket.queue == q then p ∷ [] else []);
     }
-taken c s (Entry.Reap r) = record s { unreaped = λ q. drop (if r.queue == q then 1 else 0) (s.unreaped q) }
+tables_after c s (Entry.Reap r) = record s { unreaped = λ q. drop (if r.queue == q then 1 else 0) (s.unreaped q) }

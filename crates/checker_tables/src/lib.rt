@@ -11,8 +11,8 @@ ghost use Rattle.nvme_model.specs.declared.step.Step.{Step};
 ghost use Rattle.checker_tables.specs.Judged.{judged, refusal_by};
 ghost use Rattle.checker_tables.specs.Pass.{pass};
 ghost use Rattle.checker_tables.specs.Judged.{block_fits_by};
-ghost use Rattle.checker_tables.specs.Tables.{Flight, OpenUnit, start, tables};
-ghost use Rattle.checker_tables.specs.Taken.{SameIn, blocked_flight, taken, value_after};
+ghost use Rattle.checker_tables.specs.Tables.{CheckedTicket, CheckedUnit, no_tables, tables};
+ghost use Rattle.checker_tables.specs.Taken.{SameIn, blocked_flight, tables_after, value_after};
 ghost use Rattle.nvme_model.specs.declared.entry.BlockLine.{BlockLine};
 ghost use Rattle.nvme_model.specs.Tickets.{Ticket};
 
@@ -26,9 +26,9 @@ pub fn the_tables_judge()
 
 /// The tables with one more entry are made of those before it.
 pub fn the_tables_go_on()
-    ensures start { (c : ConfigNumbers) → tables c [] ≡ start }
+    ensures start { (c : ConfigNumbers) → tables c [] ≡ no_tables }
     ensures taken { (c : ConfigNumbers) (past : Past) (e : Entry) →
-        IsLegal c (e ∷ past) → tables c (e ∷ past) ≡ taken c (tables c past) e }
+        IsLegal c (e ∷ past) → tables c (e ∷ past) ≡ tables_after c (tables c past) e }
 {}
 
 /// A pass that keeps only the tables says of any list of entries whether it is legal.
@@ -38,10 +38,13 @@ pub fn one_pass_is_enough()
 
 /// Of what the blocks are a Block asks only for its unit's own, so a volume's list serves for the contents.
 pub fn a_block_asks_for_its_unit()
-    ensures fits { (f g : ℕ → List ℕ) (u : OpenUnit) → SameIn f g u.line.range → (x : Flight) (b : BlockLine) →
+    ensures fits { (f g : ℕ → List ℕ) (u : CheckedUnit) → SameIn f g u.line.range
+        → (x : CheckedTicket) (b : BlockLine) →
         block_fits_by f x b (Some u) ≡ block_fits_by g x b (Some u) }
-    ensures flight { (f g : ℕ → List ℕ) (u : OpenUnit) → SameIn f g u.line.range → (x : Flight) (b : BlockLine) →
+    ensures flight { (f g : ℕ → List ℕ) (u : CheckedUnit) → SameIn f g u.line.range
+        → (x : CheckedTicket) (b : BlockLine) →
         blocked_flight f x b u ≡ blocked_flight g x b u }
-    ensures value { (f g : ℕ → List ℕ) (u : OpenUnit) → SameIn f g u.line.range → (k : Ticket) (b : BlockLine) (l : ℕ) →
+    ensures value { (f g : ℕ → List ℕ) (u : CheckedUnit) → SameIn f g u.line.range
+        → (k : Ticket) (b : BlockLine) (l : ℕ) →
         f l ≡ g l → value_after f b k u.line.range l ≡ value_after g b k u.line.range l }
 {}

@@ -5,27 +5,27 @@ use Rattle.std.proofs.Common.{◌∙◌}
 use Rattle.std.proofs.lemmas.Bool.{and_from, and_parts, cases_lt}
 use Rattle.std.proofs.lemmas.List.{get_or_read, get_or-replicate, get_or-set_other, get_or-set_same, get_or_past}
 use Rattle.std.proofs.lemmas.List.{length-replicate}
-use Rattle.cid_table.specs.Cids.{ChangesOnly, Cids, IsKept, held, held_at, place_of}
-use Rattle.cid_table.specs.declared.held.Held.{Held}
-use Rattle.cid_table.specs.declared.held.Held.TheVariants.{Free}
+use Rattle.cid_table.specs.Cids.{ChangesOnly, QueueCids, IsCidTable, held, held_at, place_of}
+use Rattle.cid_table.specs.declared.held.CidUse.{CidUse}
+use Rattle.cid_table.specs.declared.held.CidUse.TheVariants.{Free}
 use Rattle.cid_table.proofs.Places.{place_parts, place_unlike, place_within}
 
 -- ---- what is held
 
 -- what is at a place is held there
-pub held_here : (t : Cids) (queue cid place : ℕ) → place_of t.queues queue cid ≡ Some place
+pub held_here : (t : QueueCids) (queue cid place : ℕ) → place_of t.queues queue cid ≡ Some place
     → held t queue cid ≡ get_or t.cids place Free
 unfolding held
 held_here t queue cid place e = ap (held_at t.cids) e
 
 -- a table has a use at each place
-pub place_kept : (queues : List ℕ) (cids : List Held) (queue cid place : ℕ) → IsKept queues cids
+pub place_kept : (queues : List ℕ) (cids : List CidUse) (queue cid place : ℕ) → IsCidTable queues cids
     → place_of queues queue cid ≡ Some place
     → place < length cids
 place_kept queues cids queue cid place kept e = omega (arith, place_within queues queue cid place e, kept.whole)
 
 -- what is read at a place is held there
-pub held_read : (t : Cids) (queue cid place : ℕ) (h : Held) → IsKept t.queues t.cids
+pub held_read : (t : QueueCids) (queue cid place : ℕ) (h : CidUse) → IsCidTable t.queues t.cids
     → place_of t.queues queue cid ≡ Some place
     → h ≡ get_or t.cids place h → h ≡ held t queue cid
 held_read t queue cid place h kept e r =
@@ -33,7 +33,7 @@ held_read t queue cid place h kept e r =
     ∙ sym (held_here t queue cid place e)
 
 -- nothing is held where there is no place
-pub held_nowhere : (t : Cids) (queue cid : ℕ) → place_of t.queues queue cid ≡ None → held t queue cid ≡ Free
+pub held_nowhere : (t : QueueCids) (queue cid : ℕ) → place_of t.queues queue cid ≡ None → held t queue cid ≡ Free
 unfolding held
 held_nowhere t queue cid e = ap (held_at t.cids) e
 
@@ -53,12 +53,12 @@ held_free queues n queue cid = go (place_of queues queue cid)
 -- ---- a write
 
 -- a write at a place changes one
-pub ChangesOnly-set : (t : Cids) (queue cid place : ℕ) (h : Held) → IsKept t.queues t.cids
+pub ChangesOnly-set : (t : QueueCids) (queue cid place : ℕ) (h : CidUse) → IsCidTable t.queues t.cids
     → place_of t.queues queue cid ≡ Some place
     → ChangesOnly t (record t { cids = set t.cids place h }) queue cid h
 ChangesOnly-set t queue cid place h kept e q i = go ((q == queue) && (i == cid)) refl
   where
-    new : Cids
+    new : QueueCids
     new = record t { cids = set t.cids place h }
 
     other : ((q == queue) && (i == cid)) ≡ false → (o : Option ℕ) → place_of t.queues q i ≡ o

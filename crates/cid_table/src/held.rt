@@ -5,7 +5,7 @@ use nvme_model::submission::Payload;
 
 /// What a CID of a submission queue is used for.
 #[derive(Drop)]
-pub enum Held {
+pub enum CidUse {
     /// By no command.
     Free,
     /// By a command whose completion hasn't come.

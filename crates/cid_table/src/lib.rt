@@ -4,5 +4,5 @@
 mod held;
 mod table;
 
-pub use held::Held;
+pub use held::CidUse;
 pub use table::{CidTable, TwoCids};

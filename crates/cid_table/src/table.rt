@@ -4,9 +4,9 @@ ghost use Rattle.std.specs.List.Sorted.{IsStrictlyIncreasing};
 ghost use Rattle.std.specs.Prelude.{◌≡◌, ℕ, ◌+◌, ◌<◌, ◌≤◌, ◌*◌, ◌==◌, Contains, IfErr, IfNone, IfOk, IfSome, OnSome};
 ghost use Rattle.std.specs.Prelude.{position, replicate};
 ghost use Rattle.cid_table.specs.Cids.{AtMostOneFree, ChangesOnly, NoneFreeBelow, NoneFreeBetween, answered, held};
-ghost use Rattle.cid_table.specs.Cids.{payload_of, place_of, queues_of, status_of};
+ghost use Rattle.cid_table.specs.Cids.{answered_payload, place_of, queues_of, answered_status};
 
-use crate::held::Held;
+use crate::held::CidUse;
 use nvme_model::status::Status;
 use nvme_model::submission::Payload;
 use std::alloc::{AllocError as NoMemory, Global};
@@ -28,17 +28,17 @@ pub struct TwoCids {
 pub struct CidTable {
     queues: Vec<u16>,
     // 64 of each queue, in the order of the queues.
-    cids: Vec<Held>,
+    cids: Vec<CidUse>,
 }
 
 impl Model for CidTable {
-    ghost use Rattle.cid_table.specs.Cids.{Cids, IsKept};
+    ghost use Rattle.cid_table.specs.Cids.{QueueCids, IsCidTable};
 
-    ghost Value = { Cids };
+    ghost Value = { QueueCids };
 
     ghost view = { λ t. record { queues = t.queues.items; cids = t.cids.items } };
 
-    ghost invariant = { λ t. IsKept t.queues.items t.cids.items };
+    ghost invariant = { λ t. IsCidTable t.queues.items t.cids.items };
 }
 
 impl CidTable {
@@ -50,7 +50,7 @@ impl CidTable {
     pub fn new(alloc: Global, queues: Vec<u16>) -> Result<CidTable, (Vec<u16>, NoMemory)>
         requires rising { IsStrictlyIncreasing queues.items }
         ensures queues { IfOk result (λ t. queues_of t ≡ queues.items) }
-        ensures free { IfOk result (λ t. (q cid : ℕ) → held t q cid ≡ Held.Free) }
+        ensures free { IfOk result (λ t. (q cid : ℕ) → held t q cid ≡ CidUse.Free) }
         ensures back { IfErr result (λ e. e.0 ≡ queues) }
     {
         match free_cids(alloc, queues.len()) {
@@ -71,7 +71,7 @@ impl CidTable {
     pub fn free_one(&self, queue: u16) -> Option<u16>
         ensures known { OnSome result (Contains (queues_of self.now) queue) }
         ensures below { IfSome result (λ cid. cid < 64) }
-        ensures free { IfSome result (λ cid. held self.now queue cid ≡ Held.Free) }
+        ensures free { IfSome result (λ cid. held self.now queue cid ≡ CidUse.Free) }
         ensures least { IfSome result (NoneFreeBelow self.now queue) }
         ensures none { IfNone result (Contains (queues_of self.now) queue
             → NoneFreeBelow self.now queue 64) }
@@ -87,8 +87,8 @@ impl CidTable {
         ensures below { IfSome result (λ two. two.second < 64) }
 
         // Both are free, and no other below the second.
-        ensures first { IfSome result (λ two. held self.now queue two.first ≡ Held.Free) }
-        ensures second { IfSome result (λ two. held self.now queue two.second ≡ Held.Free) }
+        ensures first { IfSome result (λ two. held self.now queue two.first ≡ CidUse.Free) }
+        ensures second { IfSome result (λ two. held self.now queue two.second ≡ CidUse.Free) }
         ensures least { IfSome result (λ two. NoneFreeBelow self.now queue two.first) }
         ensures next { IfSome result (λ two. NoneFreeBetween self.now queue (two.first + 1) two.second) }
         ensures none { IfNone result (Contains (queues_of self.now) queue
@@ -103,11 +103,11 @@ impl CidTable {
     pub fn hold(&mut self, queue: u16, cid: u16)
         requires known { Contains (queues_of self.old) queue }
         requires below { cid < 64 }
-        ensures held { ChangesOnly self.old self.new queue cid Held.Waiting }
+        ensures held { ChangesOnly self.old self.new queue cid CidUse.Waiting }
         ensures queues { queues_of self.new ≡ queues_of self.old }
     {
         let place = self.place(queue, cid).unwrap();
-        let _ = self.put(queue, cid, place, Held::Waiting);
+        let _ = self.put(queue, cid, place, CidUse::Waiting);
     }
 
     /// Takes a completion; where no command waits for it, it is dropped.
@@ -120,39 +120,39 @@ impl CidTable {
         let Some(place) = self.place(queue, cid) else {
             return;
         };
-        if let Held::Waiting = self.at(queue, cid, place) {
-            let _ = self.put(queue, cid, place, Held::Answered { status, payload });
+        if let CidUse::Waiting = self.at(queue, cid, place) {
+            let _ = self.put(queue, cid, place, CidUse::Answered { status, payload });
         }
     }
 
     /// The status that was answered to a CID's command.
     #[tactic(auto, using(crate::proofs::CidsLemmas::held_nowhere))]
     pub fn status(&self, queue: u16, cid: u16) -> Option<Status>
-        ensures value { result ≡ status_of (held self.now queue cid) }
+        ensures value { result ≡ answered_status (held self.now queue cid) }
     {
         let place = self.place(queue, cid)?;
         match self.at(queue, cid, place) {
-            Held::Answered { status, payload: _ } => Some(*status),
-            Held::Free | Held::Waiting => None,
+            CidUse::Answered { status, payload: _ } => Some(*status),
+            CidUse::Free | CidUse::Waiting => None,
         }
     }
 
     /// Ends the use of a CID; gives the payload that was answered to its command.
     #[tactic(auto, using(crate::proofs::CidsLemmas::held_nowhere))]
     pub fn release(&mut self, queue: u16, cid: u16) -> Option<Payload>
-        ensures value { result ≡ payload_of (held self.old queue cid) }
-        ensures held { ChangesOnly self.old self.new queue cid Held.Free }
+        ensures value { result ≡ answered_payload (held self.old queue cid) }
+        ensures held { ChangesOnly self.old self.new queue cid CidUse.Free }
         ensures queues { queues_of self.new ≡ queues_of self.old }
     {
         let place = self.place(queue, cid)?;
-        match self.put(queue, cid, place, Held::Free) {
-            Held::Answered { status: _, payload } => Some(payload),
-            Held::Free | Held::Waiting => None,
+        match self.put(queue, cid, place, CidUse::Free) {
+            CidUse::Answered { status: _, payload } => Some(payload),
+            CidUse::Free | CidUse::Waiting => None,
         }
     }
 
     // What a CID, which is at that place, is used for. The queue and the CID are for the contract alone.
-    fn at(&self, queue: u16, cid: u16, place: usize) -> &Held
+    fn at(&self, queue: u16, cid: u16, place: usize) -> &CidUse
         requires { place_of (queues_of self.now) queue cid ≡ Some place }
         ensures value { result.now ≡ held self.now queue cid }
     {
@@ -160,7 +160,7 @@ impl CidTable {
     }
 
     // Makes a CID, which is at that place, be used so; gives what it was used for before.
-    fn put(&mut self, queue: u16, cid: u16, place: usize, now: Held) -> Held
+    fn put(&mut self, queue: u16, cid: u16, place: usize, now: CidUse) -> CidUse
         requires { place_of (queues_of self.old) queue cid ≡ Some place }
         ensures was { result ≡ held self.old queue cid }
         ensures held { ChangesOnly self.old self.new queue cid now }
@@ -175,14 +175,14 @@ impl CidTable {
         ensures known { OnSome result (Contains (queues_of self.now) queue) }
         ensures from { IfSome result (λ cid. from ≤ cid) }
         ensures below { IfSome result (λ cid. cid < 64) }
-        ensures free { IfSome result (λ cid. held self.now queue cid ≡ Held.Free) }
+        ensures free { IfSome result (λ cid. held self.now queue cid ≡ CidUse.Free) }
         ensures least { IfSome result (NoneFreeBetween self.now queue from) }
         ensures none { IfNone result (Contains (queues_of self.now) queue
             → NoneFreeBetween self.now queue from 64) }
     {
         let start = self.place(queue, 0)?;
         for cid in from..CIDS {
-            if let Held::Free = self.at(queue, cid, start + usize::from(cid)) {
+            if let CidUse::Free = self.at(queue, cid, start + usize::from(cid)) {
                 return Some(cid);
             }
         }
@@ -209,14 +209,14 @@ fn queue_place(queues: &[u16], queue: u16) -> Option<usize>
 }
 
 // The CIDs of so many submission queues, with none in use.
-fn free_cids(alloc: Global, queues: usize) -> Result<Vec<Held>, NoMemory>
+fn free_cids(alloc: Global, queues: usize) -> Result<Vec<CidUse>, NoMemory>
     requires { queues ≤ 65536 }
-    ensures free { IfOk result (λ cids. cids.items ≡ replicate (64 * queues) Held.Free) }
+    ensures free { IfOk result (λ cids. cids.items ≡ replicate (64 * queues) CidUse.Free) }
 {
     let count = 64 * queues;
     let mut cids = Vec::with_capacity(alloc, count)?;
     for _ in 0..count {
-        cids.push_reserved(Held::Free);
+        cids.push_reserved(CidUse::Free);
     }
     Ok(cids)
 }

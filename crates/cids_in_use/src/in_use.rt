@@ -1,7 +1,7 @@
 //! CIDs that were fetched and whose completions aren't posted yet.
 
 ghost use Rattle.std.specs.List.Sorted.{IsPermutation};
-ghost use Rattle.std.specs.Prelude.{◌≡◌, ◌<◌, ◌==◌, ◌++◌, [], ◌∷◌, IfOk, false, length, position, true};
+ghost use Rattle.std.specs.Prelude.{◌≡◌, ◌<◌, ◌≤◌, ◌==◌, ◌++◌, [], ◌∷◌, IfOk, false, length, position, take, true};
 ghost use Rattle.cids_in_use.specs.Used.{is_used};
 
 use std::alloc::{AllocError as NoMemory, Global};
@@ -68,9 +68,38 @@ impl CidsInUse {
     }
 }
 
+// How many CIDs are compared at once.
+const RUN: usize = 16;
+
+// How many of the first CIDs, in whole runs, are another one.
+fn others_before(cids: &[u16], cid: u16) -> usize
+    ensures within { result ≤ length cids.now }
+    ensures others { is_used cid (take result cids.now) ≡ false }
+{
+    let mut from = 0;
+    while cids.len() - from >= RUN {
+        if cids[from..from + RUN].contains(&cid) {
+            return from;
+        }
+        from += RUN;
+    }
+    from
+}
+
 // Where a CID is first.
-fn place_of(cids: &[u16], cid: u16) -> Option<usize>
+fn first_place(cids: &[u16], cid: u16) -> Option<usize>
     ensures value { result ≡ position (λ one. one == cid) cids.now }
 {
     cids.iter().position(|one| *one == cid)
+}
+
+// The same, by runs up to the one that it is in.
+fn place_of(cids: &[u16], cid: u16) -> Option<usize>
+    ensures value { result ≡ position (λ one. one == cid) cids.now }
+{
+    let from = others_before(cids, cid);
+    match first_place(&cids[from..], cid) {
+        Some(place) => Some(from + place),
+        None => None,
+    }
 }

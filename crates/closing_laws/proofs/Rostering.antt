@@ -19,11 +19,11 @@ use Rattle.host_laws.proofs.Discipline.{area_has, kept_earlier}
 use Rattle.driver_calls.specs.Events.{events}
 use Rattle.driver_calls.specs.Log.{is_tidy}
 use Rattle.driver_calls.proofs.Views.{events_declined}
-use Rattle.meet_lock.specs.Lock.{AreOfPasses, GoesOn}
+use Rattle.meet_lock.specs.Lock.{AreOfPasses, ExtendsByPasses}
 use Rattle.meet_lock.specs.Passes.{IsSeenWhole, mine, number, seen}
 use Rattle.meet_lock.proofs.Wholes.{some_at}
 use Rattle.serving_laws.specs.Servers.{is_serving, serves}
-use Rattle.slot_calls.specs.Careful.{is_careful}
+use Rattle.slot_calls.specs.SlotRules.{keeps_slot_rules}
 use Rattle.slot_hosts.specs.Rosters.{IsRosterOf, Roster, all_in_place, keeps_to}
 use Rattle.slot_hosts.proofs.Hosts.{all_placed}
 use Rattle.slot_hosts.proofs.Rosters.{all_keep, slot_view}
@@ -57,12 +57,12 @@ both n (x ∷ xs) ys a b = (a.0, both n xs ys a.1 b)
 
 -- ---- one host
 
--- what a pass did in the whole history: on its own queues alone, under free CIDs, and careful
+-- what a pass did in the whole history: on its own queues alone, under free CIDs, and by the rules of slots
 record Did (c : ConfigNumbers) (slots : Range) (queue p : ℕ) (shared : SharedPast) : Type 0 where
   last : ℕ
   keeps : keeps_to c queue p shared ≡ true
   tidy : is_tidy (events c queue p shared) ≡ true
-  careful : is_careful slots queue last (events c queue p shared) ≡ true
+  slot_rules : keeps_slot_rules slots queue last (events c queue p shared) ≡ true
 
 did_by : (c : ConfigNumbers) (slots : Range) (queue p : ℕ) (q : EnginePass) (shared : SharedPast) → number q ≡ p
     → HasDone c slots queue queue q → IsBeginning (seen q) shared → places (number q) shared ≡ mine q
@@ -76,7 +76,7 @@ did_by c slots queue p q shared n h begins own =
       keeps = keeps_on p (λ e. not (is_beside c queue e)) (seen q) shared begins pl
           (subst (λ (k : ℕ). keeps_to c queue k (seen q) ≡ true) n h.own);
       tidy = ap is_tidy ev ∙ h.tidy;
-      careful = ap (is_careful slots queue h.last) ev ∙ h.careful;
+      slot_rules = ap (keeps_slot_rules slots queue h.last) ev ∙ h.slot_rules;
     }
 
 -- ---- all passes
@@ -92,7 +92,7 @@ module _ (c : ConfigNumbers) (slots : Range) (servers : ℕ) (ps : List EnginePa
     pass : EnginePass
     numbered : number pass ≡ p
     has : IsClosing c slots servers pass
-    goes : GoesOn (length ps) (seen pass) shared
+    goes : ExtendsByPasses (length ps) (seen pass) shared
     own : places (number pass) shared ≡ mine pass
 
   nth : (p : ℕ) → 0 < p → p ≤ servers + c.cqs → Nth p
@@ -132,11 +132,11 @@ module _ (c : ConfigNumbers) (slots : Range) (servers : ℕ) (ps : List EnginePa
     last = λ p. last_at p (drives p) refl;
   }
 
-  careful_at : (p : ℕ) (b : Bool) (d : drives p ≡ b) → b ≡ true
-      → is_careful slots (p - servers) (last_at p b d) (events c (p - servers) p shared) ≡ true
+  slot_rules_at : (p : ℕ) (b : Bool) (d : drives p ≡ b) → b ≡ true
+      → keeps_slot_rules slots (p - servers) (last_at p b d) (events c (p - servers) p shared) ≡ true
   unfolding last_at
-  careful_at p true d t = (did p d).careful
-  careful_at p false d t = absurd cc
+  slot_rules_at p true d t = (did p d).slot_rules
+  slot_rules_at p false d t = absurd cc
 
   serves_at : (p : ℕ) → 0 < p → p ≤ servers → serves p shared ≡ true
   serves_at p low high =
@@ -151,8 +151,8 @@ module _ (c : ConfigNumbers) (slots : Range) (servers : ℕ) (ps : List EnginePa
       let q = nth 1 (omega arith) (omega (arith, some)) in
       let n = q.numbered in
       let s = q.has.served (omega (arith, some, n)) in
-      let g : GoesOn (servers + c.cqs) (seen q.pass) shared =
-      subst (λ (k : ℕ). GoesOn k (seen q.pass) shared) count q.goes in
+      let g : ExtendsByPasses (servers + c.cqs) (seen q.pass) shared =
+      subst (λ (k : ℕ). ExtendsByPasses k (seen q.pass) shared) count q.goes in
       subst (AreOfPasses (servers + c.cqs)) g.0.1
       (both (servers + c.cqs) g.0.0 (seen q.pass) g.1
       (subst (λ (k : ℕ). AreOfPasses k (seen q.pass)) q.has.all s.of_passes))
@@ -181,7 +181,7 @@ module _ (c : ConfigNumbers) (slots : Range) (servers : ℕ) (ps : List EnginePa
       record {
         legal = subst (IsLegal c) whole.whole legal;
         in_place = in_place;
-        drivers = λ p d. record { tidy = (did p d).tidy; careful = careful_at p (drives p) refl d };
+        drivers = λ p d. record { tidy = (did p d).tidy; slot_rules = slot_rules_at p (drives p) refl d };
         queues = λ p q d f same. apart_numbers p q d f same;
         hosts = λ p q d f same. apart_numbers p q d f same;
       }

@@ -9,18 +9,18 @@ use Rattle.host_laws.specs.Claims.{claims_only_on}
 use Rattle.driver_calls.specs.Events.{events}
 use Rattle.driver_calls.specs.Log.{is_tidy}
 use Rattle.meet_lock.specs.Passes.{number, passes_of, seen}
-use Rattle.slot_calls.specs.Careful.{is_careful}
+use Rattle.slot_calls.specs.SlotRules.{keeps_slot_rules}
 use Rattle.slot_hosts.specs.Rosters.{keeps_to}
 use Rattle.serving_laws.specs.Servers.{IsServing}
 use Rattle.work_queue.specs.Engines.{EnginePass}
 
--- All that this pass did was on the queues of this completion queue, under free CIDs, and careful, for a host of this
--- number with serials up to `last`.
+-- All that this pass did was on the queues of this completion queue, under free CIDs, and by the rules of slots, for a
+-- host of this number with serials up to `last`.
 pub record HasDone (c : ConfigNumbers) (slots : Range) (host queue : ℕ) (p : EnginePass) : Type 0 where
   pub last : ℕ
   pub own : keeps_to c queue (number p) (seen p) ≡ true
   pub tidy : is_tidy (events c queue (number p) (seen p)) ≡ true
-  pub careful : is_careful slots host last (events c queue (number p) (seen p)) ≡ true
+  pub slot_rules : keeps_slot_rules slots host last (events c queue (number p) (seen p)) ≡ true
 
 -- One of the passes of an engine. The first ones, so many, only served; behind them is one of the host of each
 -- completion queue, whose number is the host's.

@@ -14,7 +14,7 @@ ghost use Rattle.closing_laws.specs.Closing.{AreClosing, HasDone, KeepsSlots};
 
 use driver_cas::{Driver, SharedPort};
 
-/// What the pass of a host's driver did: on the driver's own queues alone, and careful.
+/// What the pass of a host's driver did: on the driver's own queues alone, and by the rules of slots.
 pub fn what_a_hosts_pass_did(driver: &Driver<SharedPort<'_>>)
     ensures { (c : ConfigNumbers) (slots : Range) (pass queue host : ℕ) →
         IsHost c slots pass queue host driver.now → HasDone c slots host queue (pass_of (port_of driver.now)) }

@@ -1,7 +1,8 @@
 -- What clap reads of a command that a rule or a command was added to.
 use Rattle.std.proofs.Common.{◌≡◌, ◌∙◌, Bool, Err, Ok, Result, ap, ap₂, false, refl, subst, sym, true}
 use Rattle.std.specs.Prelude.{IfOk, IsOkAnd, is_some, length, not, ◌&&◌, ◌==◌}
-use Rattle.clap.specs.Words.{AddsSubcommand, App, app_of, rule_of, with_subcommand}
+use Rattle.std.proofs.lemmas.Result.{IfOk-weaker}
+use Rattle.clap.specs.Words.{AddsArg, AddsSubcommand, App, Rule, app_of, rule_of, with_rule, with_subcommand}
 use Rattle.clap.specs.declared.builder.Arg.{Arg}
 use Rattle.clap.specs.declared.builder.command.Command.{Command}
 
@@ -36,6 +37,14 @@ not_global a h =
     tenth_fails (length a.overrides.items == 0) (length a.default_vals_ifs.items == 0) (length a.groups.items == 0)
     (not (is_some a.val_delim)) (not (is_some a.terminator))
     (not a.allow_hyphen_values) (not a.allow_negative_numbers) (not a.require_equals) (not a.last) a.global h
+
+-- a command with one more argument, whose rule is simple
+pub adds_rule : {E : Type 0} (r : Result Command E) (old : Command) (a : Arg) (rule : Rule) → rule_of a ≡ rule
+    → rule.is_simple ≡ true → IfOk r (λ c. AddsArg old a c) → IfOk r (λ c. app_of c ≡ with_rule (app_of old) rule)
+adds_rule r old a rule is simple h =
+    IfOk-weaker r _ _
+    (λ m adds. adds.shape (not_global a (ap (λ (x : Rule). x.is_simple) is ∙ simple))
+    ∙ ap (with_rule (app_of old)) is) h
 
 -- what clap says of a command below another, where its making may have failed
 pub below_is : {E : Type 0} (r : Result Command E) (old b new : Command) → r ≡ Ok b

@@ -7,7 +7,7 @@ use Rattle.clap.specs.Words.{ReadsOne, Row, Text, one_of}
 use Rattle.clap.proofs.OnLiterals.{clap_on_literals}
 use Rattle.clap.specs.Words.{is_simple, subcommand_of}
 use Rattle.command_line.specs.Asking.{Asks, AsksBy, SaysNumber}
-use Rattle.command_line.specs.CommandLine.{casdisk_app, command_in}
+use Rattle.command_line.specs.CommandLine.{casdisk_app, subcommand_in}
 use Rattle.command_line.specs.declared.request.Asked.{Asked}
 
 -- a number that was read is what the option says
@@ -59,17 +59,18 @@ unfolding clap_on_literals
 casdisk_is_simple = refl
 
 pub named : (words : List Text) (name : Text) (rows : List Row) → subcommand_of casdisk_app words ≡ Some (name, rows)
-    → command_in words ≡ Some (name, rows)
-unfolding command_in
+    → subcommand_in words ≡ Some (name, rows)
+unfolding subcommand_in
 named words name rows e = e
 
 -- what a command's options ask for is what the words ask for
-pub by_command : (words : List Text) (name : Text) (rows : List Row) → command_in words ≡ Some (name, rows)
+pub by_command : (words : List Text) (name : Text) (rows : List Row) → subcommand_in words ≡ Some (name, rows)
     → (a : Asked) → AsksBy name rows a → Asks words a
-by_command words name rows e (Asked.Run kinds flush file) h = (name, rows, e, h)
-by_command words name rows e (Asked.Check follow file) h = (name, rows, e, h)
-by_command words name rows e (Asked.Explain file) h = (name, rows, e, h)
-by_command words name rows e (Asked.Certify trace history) h = (name, rows, e, h)
+by_command words name rows e (Asked.Run shown flush why file) h = (name, rows, e, h)
+by_command words name rows e (Asked.Check follow area quiet why file) h = (name, rows, e, h)
+by_command words name rows e (Asked.Explain area why file) h = (name, rows, e, h)
+by_command words name rows e (Asked.Certify why trace history) h = (name, rows, e, h)
+by_command words name rows e (Asked.Observe witness steps why trace) h = (name, rows, e, h)
 by_command words name rows e (Asked.Tell color file) h = (name, rows, e, h)
-by_command words name rows e (Asked.Race r) h = (name, rows, e, h)
+by_command words name rows e (Asked.Race r trace quiet why) h = (name, rows, e, h)
 by_command words name rows e (Asked.Show text) h = absurd h

@@ -3,24 +3,29 @@ use Rattle.std.proofs.Common.{◌≡◌, ◌∙◌, ◌⊎◌, Bool, true, false
 use Rattle.std.specs.Prelude.{option_map}
 use Rattle.clap.specs.Words.{Row, Text, subcommand_of, takes}
 use Rattle.clap.specs.declared.error.kind.ErrorKind.{ErrorKind}
-use Rattle.command_line.specs.Asking.{AreRefused, AskNothing, IsRefusedBy}
-use Rattle.command_line.specs.CommandLine.{casdisk_app, command_in, is_taken}
+use Rattle.command_line.specs.Asking.{AreRefused, AskNothing, IsRefusedBy, IsRefusedFor}
+use Rattle.command_line.specs.CommandLine.{casdisk_app, subcommand_in, is_taken}
 use Rattle.command_line.specs.declared.request.UsageFault.{UsageFault}
 
--- options that ask for nothing may be refused
-pub refused_by : (name : Text) (rows : List Row) (f : UsageFault) → AskNothing name rows → IsRefusedBy name rows f
-refused_by name rows (UsageFault.Text text) h = h
-refused_by name rows UsageFault.NoMemory h = tt
+-- what may be refused for this may be refused
+pub refused_for : (P : Type 0) (f : UsageFault) → P → IsRefusedFor P f
+refused_for P (UsageFault.Text text) h = h
+refused_for P UsageFault.NoMemory h = tt
+
+-- what is refused for this is refused for what follows from it
+pub refused_further : (P Q : Type 0) (f : UsageFault) → (P → Q) → IsRefusedFor P f → IsRefusedFor Q f
+refused_further P Q (UsageFault.Text text) g h = g h
+refused_further P Q UsageFault.NoMemory g h = tt
 
 module _ (words : List Text) where
   -- the words whose options are refused
-  pub by_options : (name : Text) (rows : List Row) → command_in words ≡ Some (name, rows) → (f : UsageFault)
+  pub by_options : (name : Text) (rows : List Row) → subcommand_in words ≡ Some (name, rows) → (f : UsageFault)
       → IsRefusedBy name rows f → AreRefused words f
   by_options name rows e (UsageFault.Text text) h = inr (inr (name, rows, e, h))
   by_options name rows e UsageFault.NoMemory h = tt
 
   -- those that name no command
-  pub by_no_command : command_in words ≡ None → (f : UsageFault) → AreRefused words f
+  pub by_no_command : subcommand_in words ≡ None → (f : UsageFault) → AreRefused words f
   by_no_command e (UsageFault.Text text) = inr (inl e)
   by_no_command e UsageFault.NoMemory = tt
 
@@ -29,8 +34,8 @@ module _ (words : List Text) where
   by_words e (UsageFault.Text text) = inl e
   by_words e UsageFault.NoMemory = tt
 
-  pub names_none : subcommand_of casdisk_app words ≡ None → command_in words ≡ None
-  unfolding command_in
+  pub names_none : subcommand_of casdisk_app words ≡ None → subcommand_in words ≡ None
+  unfolding subcommand_in
   names_none e = e
 
   pub taken : is_taken words ≡ takes casdisk_app words

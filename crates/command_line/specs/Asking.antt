@@ -1,18 +1,22 @@
 -- What a command line asks for.
-use Rattle.std.specs.Prelude.{Bool, List, None, Ok, Option, Some, codes, false, true, ◌≡◌, ◌≢◌, ◌⊎◌, ℕ}
+use Rattle.std.specs.Prelude.{Bool, List, None, Ok, Option, Some, [], codes, false, is_some, option_map, true, ◌&&◌}
+use Rattle.std.specs.Prelude.{◌≡◌, ◌≢◌, ◌∷◌, ◌⊎◌, ℕ}
+use Rattle.std.specs.Borrow.{Bor}
 use Rattle.std.specs.Str.Parse.{ParsesUnsigned}
 use Rattle.std.specs.declared.num.ParseIntError.{ParseIntError}
-use Rattle.clap.specs.Words.{Row, Text, first_of, one_of}
+use Rattle.clap.specs.Words.{Row, Text, all_of, first_of, one_of}
 use Rattle.casdisk_script.specs.Kinds.{kinds_in}
 use Rattle.race_numbers.specs.Races.{usage_of}
 use Rattle.race_numbers.specs.declared.race.Race.{Race}
-use Rattle.command_line.specs.CommandLine.{command_in, is_taken}
+use Rattle.command_line.specs.CommandLine.{subcommand_in, is_taken}
 use Rattle.command_line.specs.declared.request.Asked.{Asked}
+use Rattle.command_line.specs.declared.request.Shown.{Shown}
+use Rattle.command_line.specs.declared.request.SlotArea.{SlotArea}
 use Rattle.command_line.specs.declared.request.UsageFault.{UsageFault}
 
 -- the numbers of a race that is asked for are in their ranges
 abbrev pub IsRaceInRange : Asked → Type 0
-IsRaceInRange (Asked.Race r) = usage_of r.hosts r.workers r.slots r.rounds r.queues ≡ None
+IsRaceInRange (Asked.Race r trace quiet why) = usage_of r.hosts r.workers r.slots r.rounds r.queues ≡ None
 IsRaceInRange _ = Unit {0}
 
 -- the kinds that are named, all where none are
@@ -39,38 +43,110 @@ pub record SaysNumbers (rows : List Row) (hosts workers slots rounds queues : �
   pub of_rounds : SaysNumber (codes "rounds") rows rounds
   pub of_queues : SaysNumber (codes "queues") rows queues
 
--- the numbers of a race
-abbrev pub SaysRace : List Row → Race → Type 0
-SaysRace rows r = SaysNumbers rows r.hosts r.workers r.slots r.rounds r.queues
+-- the text that an option says, or the file that is named
+abbrev pub SaysText : Text → List Row → Text → Type 0
+SaysText name rows text = first_of name rows ≡ Some text
+
+-- the text that an option says, none where it isn't there
+abbrev pub MaySayText : Text → List Row → Option (Bor Text) → Type 0
+MaySayText name rows text = first_of name rows ≡ option_map (λ t. t.now) text
+
+-- What a run shows, by its options: a trace where that is asked for and no kinds are named, else the lines of the kinds
+-- that are named, all where none are.
+abbrev pub SaysShown : List Row → Shown → Type 0
+SaysShown rows (Shown.Kinds kinds) =
+    SaysFlag (codes "trace") rows false × (kinds_asked (first_of (codes "show") rows) ≡ Some kinds.0)
+SaysShown rows Shown.Trace = SaysFlag (codes "trace") rows true × (first_of (codes "show") rows ≡ None)
+
+-- two words that are the numbers of this area
+abbrev pub IsAreaOf : List Text → SlotArea → Type 0
+IsAreaOf (first ∷ count ∷ []) area =
+    ParsesUnsigned {E = ParseIntError} 64 10 first (Ok area.first)
+    × ParsesUnsigned {E = ParseIntError} 32 10 count (Ok area.count)
+IsAreaOf _ area = ⊥
+
+-- the area of slots that the options say, none where they name none
+abbrev pub SaysArea : List Row → Option SlotArea → Type 0
+SaysArea rows None = all_of (codes "slots") rows ≡ None
+SaysArea rows (Some area) = (words : List Text) × (all_of (codes "slots") rows ≡ Some words) × IsAreaOf words area
+
+-- they aren't both standard input
+abbrev pub AreTwoInputs : Text → Text → Type 0
+AreTwoInputs trace history = trace ≡ codes "-" → history ≡ codes "-" → ⊥
+
+-- what the options of `run` say
+pub record SaysRun (rows : List Row) (shown : Shown) (flush why : Bool) (file : Text) : Type 0 where
+  pub what : SaysShown rows shown
+  pub flushes : SaysFlag (codes "flush") rows flush
+  pub reason : SaysFlag (codes "why") rows why
+  pub reads : SaysText (codes "FILE") rows file
+
+-- what the options of `check` say; it doesn't follow where there is an area
+pub record SaysCheck (rows : List Row) (follow : Bool) (area : Option SlotArea) (quiet why : Bool) (file : Text)
+    : Type 0 where
+  pub follows : SaysFlag (codes "follow") rows follow
+  pub slots : SaysArea rows area
+  pub one_of_both : (follow && is_some area) ≡ false
+  pub hushed : SaysFlag (codes "quiet") rows quiet
+  pub reason : SaysFlag (codes "why") rows why
+  pub reads : SaysText (codes "FILE") rows file
+
+-- what the options of `explain` say
+pub record SaysExplain (rows : List Row) (area : Option SlotArea) (why : Bool) (file : Text) : Type 0 where
+  pub slots : SaysArea rows area
+  pub reason : SaysFlag (codes "why") rows why
+  pub reads : SaysText (codes "FILE") rows file
+
+-- what the options of `certify` say
+pub record SaysCertify (rows : List Row) (why : Bool) (trace history : Text) : Type 0 where
+  pub reason : SaysFlag (codes "why") rows why
+  pub saw : SaysText (codes "TRACE") rows trace
+  pub reads : SaysText (codes "HISTORY") rows history
+  pub two : AreTwoInputs trace history
+
+-- what the options of `observe` say
+pub record SaysObserve (rows : List Row) (witness : Option (Bor Text)) (steps : ℕ) (why : Bool) (trace : Text)
+    : Type 0 where
+  pub writes : MaySayText (codes "witness") rows witness
+  pub limit : SaysNumber (codes "steps") rows steps
+  pub reason : SaysFlag (codes "why") rows why
+  pub saw : SaysText (codes "TRACE") rows trace
+
+-- what the options of `tell` say
+pub record SaysTell (rows : List Row) (color : Bool) (file : Text) : Type 0 where
+  pub colors : SaysFlag (codes "color") rows color
+  pub reads : SaysText (codes "FILE") rows file
+
+-- what the options of `race` say
+pub record SaysRace (rows : List Row) (r : Race) (trace quiet why : Bool) : Type 0 where
+  pub numbers : SaysNumbers rows r.hosts r.workers r.slots r.rounds r.queues
+  pub traces : SaysFlag (codes "trace") rows trace
+  pub hushed : SaysFlag (codes "quiet") rows quiet
+  pub reason : SaysFlag (codes "why") rows why
 
 -- a number of a race is missing, or one is out of its range
 abbrev pub IsNoRace : List Row → Type 0
 IsNoRace rows = (hosts workers slots rounds queues : ℕ) → SaysNumbers rows hosts workers slots rounds queues
     → usage_of hosts workers slots rounds queues ≢ None
 
--- they aren't both standard input
-abbrev pub AreTwoInputs : Text → Text → Type 0
-AreTwoInputs trace history = trace ≡ codes "-" → history ≡ codes "-" → ⊥
-
 -- what the options of a command of this name ask for
 abbrev pub AsksBy : Text → List Row → Asked → Type 0
-AsksBy name rows (Asked.Run kinds flush file) = (name ≡ codes "run") × (first_of (codes "FILE") rows ≡ Some file.now)
-    × (kinds_asked (first_of (codes "show") rows) ≡ Some kinds.0) × SaysFlag (codes "flush") rows flush
-AsksBy name rows (Asked.Check follow file) = (name ≡ codes "check") × (first_of (codes "FILE") rows ≡ Some file.now)
-    × SaysFlag (codes "follow") rows follow
-AsksBy name rows (Asked.Explain file) = (name ≡ codes "explain") × (first_of (codes "FILE") rows ≡ Some file.now)
-AsksBy name rows (Asked.Certify trace history) = (name ≡ codes "certify")
-    × (first_of (codes "TRACE") rows ≡ Some trace.now) × (first_of (codes "HISTORY") rows ≡ Some history.now)
-    × AreTwoInputs trace.now history.now
-AsksBy name rows (Asked.Tell color file) = (name ≡ codes "tell") × (first_of (codes "FILE") rows ≡ Some file.now)
-    × SaysFlag (codes "color") rows color
-AsksBy name rows (Asked.Race r) = (name ≡ codes "race") × SaysRace rows r
+AsksBy name rows (Asked.Run shown flush why file) = (name ≡ codes "run") × SaysRun rows shown flush why file.now
+AsksBy name rows (Asked.Check follow area quiet why file) =
+    (name ≡ codes "check") × SaysCheck rows follow area quiet why file.now
+AsksBy name rows (Asked.Explain area why file) = (name ≡ codes "explain") × SaysExplain rows area why file.now
+AsksBy name rows (Asked.Certify why trace history) =
+    (name ≡ codes "certify") × SaysCertify rows why trace.now history.now
+AsksBy name rows (Asked.Observe witness steps why trace) =
+    (name ≡ codes "observe") × SaysObserve rows witness steps why trace.now
+AsksBy name rows (Asked.Tell color file) = (name ≡ codes "tell") × SaysTell rows color file.now
+AsksBy name rows (Asked.Race r trace quiet why) = (name ≡ codes "race") × SaysRace rows r trace quiet why
 AsksBy name rows (Asked.Show text) = ⊥
 
 -- the words name a command, whose options ask for it
 abbrev pub AsksByCommand : List Text → Asked → Type 0
 AsksByCommand words asked =
-    (name : Text) × (rows : List Row) × (command_in words ≡ Some (name, rows)) × AsksBy name rows asked
+    (name : Text) × (rows : List Row) × (subcommand_in words ≡ Some (name, rows)) × AsksBy name rows asked
 
 -- the words ask for it; a text is shown only where clap takes them for no command line, as where they ask for help
 abbrev pub Asks : List Text → Asked → Type 0
@@ -81,15 +157,26 @@ Asks words asked = AsksByCommand words asked
 abbrev pub IsOther : Text → Type 0
 IsOther name =
     (name ≢ codes "run") × (name ≢ codes "check") × (name ≢ codes "explain") × (name ≢ codes "certify")
-    × (name ≢ codes "race") × (name ≢ codes "tell")
+    × (name ≢ codes "observe") × (name ≢ codes "race") × (name ≢ codes "tell")
 
 -- no file is named
 abbrev pub IsNoFile : List Row → Type 0
 IsNoFile rows = first_of (codes "FILE") rows ≡ None
 
--- no kinds of lines to show are named, or unknown ones
-abbrev pub IsNoKind : List Row → Type 0
-IsNoKind rows = kinds_asked (first_of (codes "show") rows) ≡ None
+-- a trace is asked for and kinds of lines are named, or those are unknown or empty
+abbrev pub IsNotShown : List Row → Type 0
+IsNotShown rows =
+    (SaysFlag (codes "trace") rows true × (is_some (first_of (codes "show") rows) ≡ true))
+    ⊎ (kinds_asked (first_of (codes "show") rows) ≡ None)
+
+-- words stand behind `--slots` that are the numbers of no area
+abbrev pub IsNoArea : List Row → Type 0
+IsNoArea rows =
+    (words : List Text) × (all_of (codes "slots") rows ≡ Some words) × ((a : SlotArea) → IsAreaOf words a → ⊥)
+
+-- an area of slots is named, and to follow is asked for
+abbrev pub FollowsArea : List Row → Type 0
+FollowsArea rows = (a : SlotArea) × SaysArea rows (Some a) × SaysFlag (codes "follow") rows true
 
 -- no trace or no history is named, or both are standard input
 abbrev pub AreNoInputs : List Row → Type 0
@@ -97,26 +184,36 @@ AreNoInputs rows =
     (first_of (codes "TRACE") rows ≡ None) ⊎ (first_of (codes "HISTORY") rows ≡ None)
     ⊎ ((first_of (codes "TRACE") rows ≡ Some (codes "-")) × (first_of (codes "HISTORY") rows ≡ Some (codes "-")))
 
--- The options of a command of this name ask for nothing: no file is named where one has to be, the kinds of lines are
--- unknown or none, or the numbers are those of no race. There is no other command.
+-- no trace is named, or no number of steps
+abbrev pub IsNoSearch : List Row → Type 0
+IsNoSearch rows = (first_of (codes "TRACE") rows ≡ None) ⊎ ((n : ℕ) → SaysNumber (codes "steps") rows n → ⊥)
+
+-- The options of a command of this name ask for nothing: no file is named where one has to be, what is to be shown is
+-- unknown, the words of an area are no area, two options exclude each other, or the numbers are those of no race. There
+-- is no other command.
 abbrev pub AskNothing : Text → List Row → Type 0
 AskNothing name rows =
-    ((name ≡ codes "run") × (IsNoFile rows ⊎ IsNoKind rows))
-    ⊎ (((name ≡ codes "check") ⊎ (name ≡ codes "explain")) × IsNoFile rows)
+    ((name ≡ codes "run") × (IsNoFile rows ⊎ IsNotShown rows))
+    ⊎ ((name ≡ codes "check") × (IsNoFile rows ⊎ IsNoArea rows ⊎ FollowsArea rows))
+    ⊎ ((name ≡ codes "explain") × (IsNoFile rows ⊎ IsNoArea rows))
     ⊎ ((name ≡ codes "race") × IsNoRace rows)
     ⊎ ((name ≡ codes "certify") × AreNoInputs rows)
+    ⊎ ((name ≡ codes "observe") × IsNoSearch rows)
     ⊎ ((name ≡ codes "tell") × IsNoFile rows)
     ⊎ IsOther name
 
+-- a text says why something is refused only where this holds
+abbrev pub IsRefusedFor : Type 0 → UsageFault → Type 0
+IsRefusedFor P UsageFault.NoMemory = Unit {0}
+IsRefusedFor P (UsageFault.Text text) = P
+
 -- a text says why options are refused only where they ask for nothing
 abbrev pub IsRefusedBy : Text → List Row → UsageFault → Type 0
-IsRefusedBy name rows UsageFault.NoMemory = Unit {0}
-IsRefusedBy name rows (UsageFault.Text text) = AskNothing name rows
+IsRefusedBy name rows fault = IsRefusedFor (AskNothing name rows) fault
 
 -- A text says why the words are refused only where they are no command line of the program by clap's definitions, or
 -- name a command whose options ask for nothing.
 abbrev pub AreRefused : List Text → UsageFault → Type 0
-AreRefused words UsageFault.NoMemory = Unit {0}
-AreRefused words (UsageFault.Text text) =
-    (is_taken words ≡ false) ⊎ (command_in words ≡ None)
-    ⊎ ((name : Text) × (rows : List Row) × (command_in words ≡ Some (name, rows)) × AskNothing name rows)
+AreRefused words fault =
+    IsRefusedFor ((is_taken words ≡ false) ⊎ (subcommand_in words ≡ None)
+    ⊎ ((name : Text) × (rows : List Row) × (subcommand_in words ≡ Some (name, rows)) × AskNothing name rows)) fault

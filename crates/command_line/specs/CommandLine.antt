@@ -4,17 +4,13 @@ use Rattle.clap.specs.Words.{App, Row, Rule, Text, new_app, new_rule, subcommand
 use Rattle.clap.specs.declared.builder.action.ArgAction.TheVariants.{Set, SetTrue}
 use Rattle.clap.specs.declared.builder.value_parser.ValueParser.TheVariants.{Unsigned}
 
--- the name of a file, which has to be there
-abbrev pub file_rule : Rule
-file_rule = record (new_rule (codes "FILE")) { required = true; action = Some Set }
-
 -- the name of a file of this kind, which has to be there
 abbrev pub input_rule : Text → Rule
 input_rule name = record (new_rule name) { required = true; action = Some Set }
 
--- the kinds of lines to show
-abbrev pub show_rule : Rule
-show_rule = record (new_rule (codes "show")) { long = Some (codes "show"); value_names = 1; action = Some Set }
+-- an option with a text
+abbrev pub text_rule : Text → Rule
+text_rule name = record (new_rule name) { long = Some name; value_names = 1; action = Some Set }
 
 -- an option without a value
 abbrev pub flag_rule : Text → Rule
@@ -29,6 +25,10 @@ number_rule name = record (new_rule name) {
   action = Some Set;
 }
 
+-- the option of an area of slots, which has two such numbers
+abbrev pub area_rule : Rule
+area_rule = record (number_rule (codes "slots")) { value_names = 2 }
+
 -- one that has to be there
 abbrev pub needed_rule : Text → Rule
 needed_rule name = record (number_rule name) { required = true }
@@ -37,33 +37,52 @@ needed_rule name = record (number_rule name) { required = true }
 abbrev pub default_rule : Text → Text → Rule
 default_rule name value = record (number_rule name) { defaults = value ∷ [] }
 
--- the commands below it
+-- the command `run` with its options
 abbrev pub run_app : App
-run_app = with_rule (with_rule (with_rule (new_app (codes "run")) show_rule) (flag_rule (codes "flush"))) file_rule
+run_app =
+    with_rule (with_rule (with_rule (with_rule (with_rule (new_app (codes "run")) (text_rule (codes "show")))
+    (flag_rule (codes "trace"))) (flag_rule (codes "flush"))) (flag_rule (codes "why"))) (input_rule (codes "FILE"))
 
 -- the command `check` with its options
 abbrev pub check_app : App
-check_app = with_rule (with_rule (new_app (codes "check")) (flag_rule (codes "follow"))) file_rule
+check_app =
+    with_rule (with_rule (with_rule (with_rule (with_rule (new_app (codes "check")) (flag_rule (codes "follow")))
+    area_rule) (flag_rule (codes "quiet"))) (flag_rule (codes "why"))) (input_rule (codes "FILE"))
 
--- the command `explain` with its file
+-- the command `explain` with its options
 abbrev pub explain_app : App
-explain_app = with_rule (new_app (codes "explain")) file_rule
+explain_app =
+    with_rule (with_rule (with_rule (new_app (codes "explain")) area_rule) (flag_rule (codes "why")))
+    (input_rule (codes "FILE"))
+
+-- a command with the numbers of a race
+abbrev pub with_race_rules : App → App
+with_race_rules a =
+    with_rule (with_rule (with_rule (with_rule (with_rule a (needed_rule (codes "hosts")))
+    (needed_rule (codes "workers"))) (needed_rule (codes "slots")))
+    (default_rule (codes "rounds") (codes "10"))) (default_rule (codes "queues") (codes "1"))
 
 -- the command `race` with its options
 abbrev pub race_app : App
 race_app =
-    with_rule (with_rule (with_rule (with_rule (with_rule (new_app (codes "race")) (needed_rule (codes "hosts")))
-    (needed_rule (codes "workers"))) (needed_rule (codes "slots")))
-    (default_rule (codes "rounds") (codes "10"))) (default_rule (codes "queues") (codes "1"))
+    with_rule (with_rule (with_rule (with_race_rules (new_app (codes "race"))) (flag_rule (codes "trace")))
+    (flag_rule (codes "quiet"))) (flag_rule (codes "why"))
 
 -- the command `certify` with its files
 abbrev pub certify_app : App
 certify_app =
-    with_rule (with_rule (new_app (codes "certify")) (input_rule (codes "TRACE"))) (input_rule (codes "HISTORY"))
+    with_rule (with_rule (with_rule (new_app (codes "certify")) (flag_rule (codes "why"))) (input_rule (codes "TRACE")))
+    (input_rule (codes "HISTORY"))
+
+-- the command `observe` with its options
+abbrev pub observe_app : App
+observe_app =
+    with_rule (with_rule (with_rule (with_rule (new_app (codes "observe")) (text_rule (codes "witness")))
+    (default_rule (codes "steps") (codes "10000000"))) (flag_rule (codes "why"))) (input_rule (codes "TRACE"))
 
 -- the command `tell` with its options
 abbrev pub tell_app : App
-tell_app = with_rule (with_rule (new_app (codes "tell")) (flag_rule (codes "color"))) file_rule
+tell_app = with_rule (with_rule (new_app (codes "tell")) (flag_rule (codes "color"))) (input_rule (codes "FILE"))
 
 -- the program, with a version, of which one command has to be named
 abbrev pub top_app : App
@@ -73,12 +92,13 @@ top_app = let a = new_app (codes "casdisk") in
 -- the whole program
 abbrev pub casdisk_app : App
 casdisk_app =
-    with_subcommand (with_subcommand (with_subcommand (with_subcommand (with_subcommand (with_subcommand top_app
-    run_app.top) check_app.top) explain_app.top) race_app.top) certify_app.top) tell_app.top
+    with_subcommand (with_subcommand (with_subcommand (with_subcommand (with_subcommand (with_subcommand
+    (with_subcommand top_app run_app.top) check_app.top) explain_app.top) race_app.top) certify_app.top)
+    observe_app.top) tell_app.top
 
 -- the command that the words name, and what they give its options
-unfoldable pub command_in : List Text → Option (Text × List Row)
-command_in words = subcommand_of casdisk_app words
+unfoldable pub subcommand_in : List Text → Option (Text × List Row)
+subcommand_in words = subcommand_of casdisk_app words
 
 -- the words are a command line of the program
 unfoldable pub is_taken : List Text → Bool

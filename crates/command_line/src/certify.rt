@@ -1,13 +1,13 @@
 //! The command `certify`.
 
 ghost use Rattle.std.specs.Prelude.{◌≡◌, IfErr, IfOk, codes, false, true};
-ghost use Rattle.clap.specs.Words.{app_of, found_of, rows_of, rule_of};
+ghost use Rattle.clap.specs.Words.{app_of, found_of, rows_of};
 ghost use Rattle.command_line.specs.Asking.{AreTwoInputs, AsksBy, IsRaceInRange, IsRefusedBy};
-ghost use Rattle.command_line.specs.CommandLine.{certify_app, input_rule};
+ghost use Rattle.command_line.specs.CommandLine.{certify_app};
 
+use crate::options::{HISTORY, WHY, flag_asked, text_asked, text_of, with_flag, with_input};
 use crate::request::{Asked, UsageFault};
-use crate::usage::text_of;
-use clap::{Arg, ArgAction, ArgMatches, Command};
+use clap::{ArgMatches, Command};
 use std::alloc::{AllocError, Global};
 
 const ABOUT: &str = "\
@@ -21,28 +21,20 @@ the same configuration line. K counts from 1 behind it: in 'bad at K' the lines 
 
 Exit status: 0 where the history is legal and was seen as the trace, 1 where it isn't or wasn't.";
 
-// A file that has to be named.
-fn input_argument<'a>(alloc: Global, name: &'static str, help: &'static str) -> Arg<'a>
-    ensures { rule_of result ≡ input_rule name.entry.now }
-{
-    Arg::new(alloc, name)
-        .help(help)
-        .required(true)
-        .action(ArgAction::Set)
-}
-
 pub(crate) fn certify_command<'a>(alloc: Global) -> Result<Command<'a>, AllocError>
     ensures { IfOk result (λ c. app_of c ≡ certify_app) }
 {
     let command = Command::new(alloc, "certify")
         .about(ABOUT)
         .after_help(ABOUT_TRACES);
-    let command = command.arg(input_argument(
+    let command = with_flag(alloc, command, "why", WHY)?;
+    let command = with_input(
         alloc,
+        command,
         "TRACE",
         "What hosts saw; - is standard input",
-    ))?;
-    command.arg(input_argument(alloc, "HISTORY", "The history; - is standard input"))
+    )?;
+    with_input(alloc, command, "HISTORY", HISTORY)
 }
 
 // Whether both files are standard input.
@@ -61,14 +53,18 @@ pub(crate) fn certify_asked<'a>(
     ensures race { IfOk result IsRaceInRange }
     ensures refuses { IfErr result (IsRefusedBy (codes "certify") (rows_of (found_of matches.now))) }
 {
-    let Some(trace) = matches.get_str("TRACE") else {
+    let Some(trace) = text_asked(matches, "TRACE") else {
         return Err(text_of(alloc, "error: no trace"));
     };
-    let Some(history) = matches.get_str("HISTORY") else {
+    let Some(history) = text_asked(matches, "HISTORY") else {
         return Err(text_of(alloc, "error: no history"));
     };
     if are_one_input(trace, history) {
         return Err(text_of(alloc, "error: TRACE and HISTORY are both standard input"));
     }
-    Ok(Asked::Certify { trace, history })
+    Ok(Asked::Certify {
+        why: flag_asked(matches, "why"),
+        trace,
+        history,
+    })
 }

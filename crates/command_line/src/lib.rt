@@ -1,11 +1,17 @@
 //! Reads the command line of the program, by `clap`'s own definitions, and says what it asks for.
 #![tactic(auto)]
 
+mod area;
 mod certify;
+mod checking;
+mod observing;
+mod options;
+mod racing;
 mod request;
+mod running;
 mod shown;
 mod telling;
 mod usage;
 
-pub use crate::request::{Asked, UsageFault};
+pub use crate::request::{Asked, Shown, SlotArea, UsageFault};
 pub use crate::usage::asked;

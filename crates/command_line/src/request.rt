@@ -8,36 +8,75 @@ use race_numbers::Race;
 use std::alloc::AllocError;
 use thiserror::Error;
 
-/// What the words of the command line ask for.
+/// An area of slots: `count` blocks of the volume from block `first` on.
+#[derive(Clone, Copy, Debug, PartialEq, Eq)]
+pub struct SlotArea {
+    pub first: u64,
+    pub count: u32,
+}
+
+/// What a run prints behind its configuration line.
+#[derive(Clone, Copy, Debug, PartialEq, Eq)]
+pub enum Shown {
+    /// The lines of these kinds.
+    Kinds(Kinds),
+    /// The lines of a trace: what hosts see.
+    Trace,
+}
+
+/// What the words of the command line ask for. Where `why` is true, a second line on standard error says why a command
+/// failed; where `quiet` is true, nothing says how far it is.
 #[derive(Drop)]
 pub enum Asked<'a> {
-    /// To run the script in this file, and show these kinds of lines; where it flushes, each as soon as it is made.
+    /// To run the script in this file; where it flushes, each line is sent as soon as it is made.
     Run {
-        kinds: Kinds,
+        shown: Shown,
         flush: bool,
+        why: bool,
         file: &'a str,
     },
-    /// To check the history in this file; where it follows, as it comes, up to its first bad step.
+    /// To check the history in this file; where it follows, as it comes, up to its first bad step, and where there is
+    /// an area of slots, the discipline of that area too. It never follows where there is one.
     Check {
         follow: bool,
+        area: Option<SlotArea>,
+        quiet: bool,
+        why: bool,
         file: &'a str,
     },
-    /// To check the history in this file, and say what is wrong with its first bad line.
+    /// To check the history in this file, and the discipline of an area of slots, and say what is wrong with its first
+    /// bad line.
     Explain {
+        area: Option<SlotArea>,
+        why: bool,
         file: &'a str,
     },
     /// To compare the history in one file with what hosts saw, in another.
     Certify {
+        why: bool,
         trace: &'a str,
         history: &'a str,
+    },
+    /// To look for a history that explains what hosts saw, in so many steps of search at most, and to write it into a
+    /// file.
+    Observe {
+        witness: Option<&'a str>,
+        steps: u64,
+        why: bool,
+        trace: &'a str,
     },
     /// To tell the history in this file in words; where it colours, each line in the colour of its kind.
     Tell {
         color: bool,
         file: &'a str,
     },
-    /// To let hosts race, and print the history.
-    Race(Race),
+    /// To let hosts race, and print the history, or its trace.
+    Race {
+        race: Race,
+        trace: bool,
+        quiet: bool,
+        why: bool,
+    },
     /// To print this text, of `--help` or `--version`.
     Show(String),
 }

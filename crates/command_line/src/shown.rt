@@ -17,7 +17,7 @@ fn no_kind(alloc: Global, name: &str) -> UsageFault {
 }
 
 // Why a text is refused that names kinds of lines, joined by commas: for its first name that is none, or else its last.
-fn no_kinds_in(alloc: Global, text: &str) -> UsageFault {
+pub(crate) fn no_kinds_in(alloc: Global, text: &str) -> UsageFault {
     let mut rest = text;
     for _turn in 0..u64::MAX {
         let Some((name, after)) = rest.split_once(',') else {
@@ -29,12 +29,4 @@ fn no_kinds_in(alloc: Global, text: &str) -> UsageFault {
         rest = after;
     }
     no_kind(alloc, rest)
-}
-
-// Why what `--show` says is refused.
-pub(crate) fn no_kinds(alloc: Global, text: Option<&str>) -> UsageFault {
-    match text {
-        Some(text) => no_kinds_in(alloc, text),
-        None => no_kind(alloc, ""),
-    }
 }

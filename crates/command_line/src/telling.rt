@@ -5,8 +5,8 @@ ghost use Rattle.clap.specs.Words.{app_of, found_of, rows_of};
 ghost use Rattle.command_line.specs.Asking.{AsksBy, IsRaceInRange, IsRefusedBy};
 ghost use Rattle.command_line.specs.CommandLine.{tell_app};
 
+use crate::options::{HISTORY, flag_asked, text_asked, text_of, with_flag, with_input};
 use crate::request::{Asked, UsageFault};
-use crate::usage::{HISTORY, file_argument, flag_asked, flag_option, text_of};
 use clap::{ArgMatches, Command};
 use std::alloc::{AllocError, Global};
 
@@ -24,8 +24,8 @@ pub(crate) fn tell_command<'a>(alloc: Global) -> Result<Command<'a>, AllocError>
     let command = Command::new(alloc, "tell")
         .about("Tells a history in words, a line for a line")
         .after_help(ABOUT_WORDS);
-    let command = command.arg(flag_option(alloc, "color", COLOR))?;
-    command.arg(file_argument(alloc, HISTORY))
+    let command = with_flag(alloc, command, "color", COLOR)?;
+    with_input(alloc, command, "FILE", HISTORY)
 }
 
 pub(crate) fn tell_asked<'a>(
@@ -36,7 +36,7 @@ pub(crate) fn tell_asked<'a>(
     ensures race { IfOk result IsRaceInRange }
     ensures refuses { IfErr result (IsRefusedBy (codes "tell") (rows_of (found_of matches.now))) }
 {
-    match matches.get_str("FILE") {
+    match text_asked(matches, "FILE") {
         Some(file) => Ok(Asked::Tell {
             color: flag_asked(matches, "color"),
             file,

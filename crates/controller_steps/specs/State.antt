@@ -3,7 +3,7 @@ use Rattle.std.specs.Result.{result_map_both}
 use Rattle.std.specs.Prelude.{Bool, Err, List, None, Ok, Option, Result, Some, false, slice_get, true, unwrap_or}
 use Rattle.std.specs.Prelude.{ℕ, [], ◌+◌, ◌++◌, ◌-◌, ◌^◌, ◌<◌, ◌≤◌, ◌∷◌, ◌≡◌, ◌⊎◌}
 use Rattle.nvme_model.specs.Completions.{posted_completions, reaped_count}
-use Rattle.nvme_model.specs.EntryBytes.{blocks, slba}
+use Rattle.nvme_model.specs.EntryBytes.{block_count, slba}
 use Rattle.nvme_model.specs.History.{Past}
 use Rattle.nvme_model.specs.Open.{has_ended, unit_range}
 use Rattle.nvme_model.specs.Operations.{op}
@@ -32,7 +32,7 @@ pub record Room : Type 0 where
 
 -- a controller: its configuration, its history, how many of the next Grants, Blocks and Reaps have their memory, and
 -- the room that is there
-pub record State : Type 0 where
+pub record ControllerState : Type 0 where
   pub config : ConfigNumbers
   pub past : Past
   pub promised : ℕ
@@ -42,7 +42,7 @@ pub record State : Type 0 where
 
 -- the blocks that a ticket's first command names
 abbrev pub ticket_range : Ticket → Range
-ticket_range k = record { slba = slba (first_fields k); blocks = blocks (first_fields k) }
+ticket_range k = record { slba = slba (first_fields k); blocks = block_count (first_fields k) }
 
 -- what a ticket that passed its checks has to do
 abbrev pub kind_by : Ticket → Option Op → Kind
@@ -71,9 +71,9 @@ done_of past b =
     }
 
 -- the data of the completion that is reaped
-abbrev pub payload_of : Option PostLine → List ℕ
-payload_of None = []
-payload_of (Some p) = p.payload
+abbrev pub reaped_payload : Option PostLine → List ℕ
+reaped_payload None = []
+reaped_payload (Some p) = p.payload
 
 -- what is answered for an entry behind this history
 abbrev pub answer_of : ConfigNumbers → Past → Entry → Answer
@@ -83,7 +83,7 @@ answer_of c past (Entry.Grant g) = Answer.Granted g.unit g.range g.mode
 answer_of c past (Entry.Block b) = Answer.Blocked (done_of past b)
 answer_of c past (Entry.Post p) = Answer.Posted p.cqe
 answer_of c past (Entry.Reap r) =
-    Answer.Reaped r.cqe (payload_of (slice_get (posted_completions c past r.queue) (reaped_count past r.queue)))
+    Answer.Reaped r.cqe (reaped_payload (slice_get (posted_completions c past r.queue) (reaped_count past r.queue)))
 
 -- ---- what a step does
 
@@ -95,8 +95,8 @@ promised_after (Step.Reap q) n = n - 1
 promised_after _ n = n
 
 -- after an accepted step, with this room
-abbrev pub after : State → Step → Room → State
-after x step room =
+abbrev pub state_after : ControllerState → Step → Room → ControllerState
+state_after x step room =
     record {
       config = x.config;
       past = next_entry x.config x.past step ∷ x.past;
@@ -120,7 +120,7 @@ pub record KeepsRoom (old new : Room) : Type 0 where
   pub ranges : old.ranges ≤ new.ranges
 
 -- what is promised has its room
-pub record HasPromised (x : State) : Type 0 where
+pub record HasPromised (x : ControllerState) : Type 0 where
   pub entries : x.promised ≤ x.room.entries
   pub ranges : x.promised ≤ x.room.ranges
 
@@ -144,7 +144,7 @@ needs_data _ = false
 -- promised and there is no room for it; a Fetch or a Post where all room is promised, or where the data needs memory of
 -- its own, which is so at the Fetch of a Read, a Write or a pair, and at the Post of a Read. A Publish always needs
 -- memory for its batch.
-abbrev pub WantsMemory : State → Step → Type 0
+abbrev pub WantsMemory : ControllerState → Step → Type 0
 WantsMemory x (Step.Grant t) =
     refusal x.config x.past (Step.Grant t) ≡ None →
     (x.promised ≡ 0) × ((x.room.entries ≡ 0) ⊎ (x.room.ranges ≡ 0))
@@ -168,26 +168,27 @@ Refuses c past step r = r ≡ refused_as step (unwrap_or (refusal c past step) W
 
 -- A step is accepted, and then adds its entry; or it is refused, and nothing has changed, but that there may be more
 -- room.
-abbrev pub Serves : State → Step → Result Answer Refused → State → Type 0
+abbrev pub Serves : ControllerState → Step → Result Answer Refused → ControllerState → Type 0
 Serves old step (Ok a) new =
     Accepts old.config old.past step (next_entry old.config old.past step) a
-    × (new ≡ after old step new.room) × TakesRoom step old.room new.room
+    × (new ≡ state_after old step new.room) × TakesRoom step old.room new.room
 Serves old step (Err r) new =
     Refuses old.config old.past step r
     × (new ≡ record old { room = new.room }) × KeepsRoom old.room new.room × WantsMemory old step
 
 -- the same of a step whose refusal hands nothing back
-abbrev pub Does : State → Step → Result Answer Why → State → Type 0
+abbrev pub Does : ControllerState → Step → Result Answer Why → ControllerState → Type 0
 Does old step r new = Serves old step (result_map_both (λ a. a) (refused_as step) r) new
 
 -- these answers, one for each step in order, lead from one controller to the other
-abbrev pub Runs : State → List Step → List (Result Answer Refused) → State → Type 0
-Runs old [] [] new = new ≡ old
-Runs old (step ∷ steps) (r ∷ rs) new = (mid : State) × Serves old step r mid × Runs mid steps rs new
-Runs old [] (r ∷ rs) new = ⊥
-Runs old (step ∷ steps) [] new = ⊥
+abbrev pub RunsSteps : ControllerState → List Step → List (Result Answer Refused) → ControllerState → Type 0
+RunsSteps old [] [] new = new ≡ old
+RunsSteps old (step ∷ steps) (r ∷ rs) new = (mid : ControllerState) × Serves old step r mid × RunsSteps mid steps rs new
+RunsSteps old [] (r ∷ rs) new = ⊥
+RunsSteps old (step ∷ steps) [] new = ⊥
 
 -- the list of answers has grown by one for each step
-abbrev pub RunsOnto : State → List Step → List (Result Answer Refused) → List (Result Answer Refused) → State → Type 0
+abbrev pub RunsOnto : ControllerState → List Step → List (Result Answer Refused) → List (Result Answer Refused)
+    → ControllerState → Type 0
 RunsOnto old steps before out new =
-    (answers : List (Result Answer Refused)) × (out ≡ before ++ answers) × Runs old steps answers new
+    (answers : List (Result Answer Refused)) × (out ≡ before ++ answers) × RunsSteps old steps answers new

@@ -21,10 +21,10 @@ IsKind u (Kind.Units o r) = IsRange r
 IsKind u (Kind.Pair r) = IsRange r × (pair_fits u r.slba r.blocks ≡ true)
 
 -- the units of what a ticket has to do
-abbrev pub units_in : AtomicParameters → Kind → Option (List Range)
-units_in u (Kind.Units o r) = Some (cut u r.slba r.blocks)
-units_in u _ = None
+abbrev pub units_of_kind : AtomicParameters → Kind → Option (List Range)
+units_of_kind u (Kind.Units o r) = Some (cut u r.slba r.blocks)
+units_of_kind u _ = None
 
 -- the units of a command on blocks
 abbrev pub work_units : TicketWork → Option (List Range)
-work_units w = units_in w.atomic w.kind
+work_units w = units_of_kind w.atomic w.kind

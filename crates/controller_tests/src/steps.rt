@@ -31,7 +31,7 @@ const LINES: [&[u8]; 14] = [
     b"post 2 00000000000000000100020002000100 A1.A1.00.00",
 ];
 
-/// One command of four blocks from block 0, with its opcode, identifier and data.
+/// One command of four blocks from block 0, with its opcode, CID and data.
 fn batch(alloc: Global, opcode: u8, cid: u8, data: &[u8]) -> Result<Submissions, AllocError> {
     let mut entry = [0; 64];
     entry[0] = opcode;

@@ -19,9 +19,9 @@ use Rattle.host_laws.specs.Beside.{IsSole, is_beside}
 use Rattle.host_laws.specs.Calls.{IsFused, IsSingle, takes}
 use Rattle.host_laws.proofs.Beside.{entries_append}
 use Rattle.host_laws.proofs.Lifts.{not_before}
-use Rattle.driver_calls.specs.Events.{IsTold, events, waiting_number}
+use Rattle.driver_calls.specs.Events.{IsToldByLog, events, waiting_number}
 use Rattle.driver_calls.specs.Log.{is_tidy, newest, sent, state_of}
-use Rattle.driver_calls.specs.Says.{CallSays, IsAfter, IsCallIn, IsFusedIn, IsSingleIn, one_outcome, outcome}
+use Rattle.driver_calls.specs.Says.{CallSays, IsAfter, IsCallIn, IsFusedIn, IsSingleIn, one_outcome, call_outcome}
 use Rattle.driver_calls.specs.declared.event.CidState.{CidState}
 use Rattle.driver_calls.specs.declared.event.PortEvent.{PortEvent}
 use Rattle.driver_calls.specs.declared.reply.Reply.{Reply}
@@ -49,7 +49,7 @@ events_tidy_before c n p later start h = let e = events_end c n p later start in
 -- ---- what a log tells of a call's entries
 
 -- the state of the CID that names an entry is true of it
-state_says : (c : ConfigNumbers) (past : Past) (n q cid j : ℕ) (log : List PortEvent) → IsTold c past n log
+state_says : (c : ConfigNumbers) (past : Past) (n q cid j : ℕ) (log : List PortEvent) → IsToldByLog c past n log
     → completion_queue c q ≡ n → newest log q cid ≡ Some j → IsStateOf c past q j (state_of log q cid)
 state_says c past n q cid j log t e w = go (state_of log q cid) refl
   where
@@ -60,7 +60,7 @@ state_says c past n q cid j log t e w = go (state_of log q cid) refl
     go (CidState.Answered cqe payload) z = t.got q cid j cqe payload e z w
 
 -- a command by itself among the entries that were sent is published
-single_in : (c : ConfigNumbers) (past : Past) (n q j : ℕ) (o : Op) (log : List PortEvent) → IsTold c past n log
+single_in : (c : ConfigNumbers) (past : Past) (n q j : ℕ) (o : Op) (log : List PortEvent) → IsToldByLog c past n log
     → completion_queue c q ≡ n → IsSingleIn (sent log q) j o → IsSingle past q j o
 single_in c past n q j o log t e x =
     record {
@@ -72,7 +72,7 @@ single_in c past n q j o log t e x =
     }
 
 -- so is a pair
-fused_in : (c : ConfigNumbers) (past : Past) (n q j : ℕ) (log : List PortEvent) → IsTold c past n log
+fused_in : (c : ConfigNumbers) (past : Past) (n q j : ℕ) (log : List PortEvent) → IsToldByLog c past n log
     → completion_queue c q ≡ n → IsFusedIn (sent log q) j → IsFused past q j
 fused_in c past n q j log t e x =
     let same = t.entries_are q e in
@@ -90,7 +90,7 @@ fused_in c past n q j log t e x =
 -- what is known where the call is asked about
 record Asked (c : ConfigNumbers) (start past : Past) (n q j : ℕ) (log : List PortEvent) : Type 0 where
   legal : IsLegal c past
-  told : IsTold c past n log
+  told : IsToldByLog c past n log
   own : completion_queue c q ≡ n
   after : (t : ℕ) → takes past t q j ≡ true → IsAfter start t
 
@@ -107,7 +107,7 @@ one_call c start past n q j first o log P x call k =
 -- so is that to any call
 call_says : (c : ConfigNumbers) (start past : Past) (n q j first second : ℕ) (o : Op) (log : List PortEvent)
     → Asked c start past n q j log → IsCallIn log q o first second j
-    → CallSays c start past q j o (outcome log q o first second)
+    → CallSays c start past q j o (call_outcome log q o first second)
 call_says c start past n q j first second Op.Read log x call =
     one_call c start past n q j first Op.Read log (CallSays c start past q j Op.Read) x call
     (record { none = λ h. h; ok = λ r h y. (h, y); err = λ s h y. (h, y) })
@@ -133,7 +133,7 @@ pub answer_says : (c : ConfigNumbers) (n p : ℕ) (later start : SharedPast) (q 
     → is_tidy (events c n p (later ++ start)) ≡ true → completion_queue c q ≡ n
     → j ≡ length (sent (events c n p start) q) → IsCallIn (events c n p (later ++ start)) q o first second j
     → CallSays c (entries start) (entries (later ++ start)) q j o
-    (outcome (events c n p (later ++ start)) q o first second)
+    (call_outcome (events c n p (later ++ start)) q o first second)
 answer_says c n p later start q j first second o h sole tidy e at call =
     let same = entries_append later start in
     let whole : IsLegal c (entries later ++ entries start) = subst (λ (past : Past). IsLegal c past) same h in

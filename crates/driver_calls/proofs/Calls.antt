@@ -4,7 +4,7 @@ use Rattle.std.proofs.Common.{take, true, ℕ, ◌%◌, ◌&&◌, ◌*◌, ◌+�
 use Rattle.std.specs.List.{list_all, list_any}
 use Rattle.nvme_model.specs.Array.{overlap}
 use Rattle.nvme_model.specs.Commands.{is_compare, is_write}
-use Rattle.nvme_model.specs.EntryBytes.{Sqe, blocks, slba}
+use Rattle.nvme_model.specs.EntryBytes.{Sqe, block_count, slba}
 use Rattle.nvme_model.specs.Operations.{has_write, op_of_fields}
 use Rattle.nvme_model.specs.Slots.{is_pair_on_one, touches}
 use Rattle.nvme_model.specs.declared.array.Range.{Range}
@@ -180,5 +180,5 @@ pub call_on_one : (l first second : ℕ) (contents : CallData) (s t : Submission
 call_on_one l first second (CallData.One payload) s t c = absurd c
 call_on_one l first second (CallData.Two expected desired) s t c =
     ap₂ (λ (e d : Sqe). is_compare e && is_write d && eqb e.fuse 1 && eqb d.fuse 2 && eqb (slba e) (slba d)
-    && eqb (blocks e) 1 && eqb (blocks d) 1) c.0.entry.1 c.1.entry.1
+    && eqb (block_count e) 1 && eqb (block_count d) 1) c.0.entry.1 c.1.entry.1
     ∙ ap (λ (b : Bool). b && true && true) (eq-eqb (l % 2 ^ 32 + 2 ^ 32 * (l / 2 ^ 32)) _ refl)

@@ -3,7 +3,7 @@ use Rattle.std.proofs.Common.{List, arith, ap, ap₂, eqb, true, false, ℕ, ◌
 use Rattle.std.proofs.Common.{◌∙◌, ◌≡◌, ◌≤◌, not, refl}
 use Rattle.nvme_model.specs.Array.{overlap}
 use Rattle.nvme_model.specs.Commands.{is_write, is_write_zeroes}
-use Rattle.nvme_model.specs.EntryBytes.{Sqe, blocks, slba}
+use Rattle.nvme_model.specs.EntryBytes.{Sqe, block_count, slba}
 use Rattle.nvme_model.specs.Slots.{touches}
 use Rattle.nvme_model.specs.Verdict.{has_invalid_field}
 use Rattle.nvme_model.specs.declared.array.Range.{Range}
@@ -48,7 +48,8 @@ pub command_touches : (slots : Range) (s : Submission) (opcode fuse cid l n : �
     → IsCommand s opcode fuse cid l n payload
     → touches slots s ≡ ((eqb opcode 1 || eqb opcode 8) && overlap (record { slba = l; blocks = n }) slots)
 command_touches slots s opcode fuse cid l n payload some most c =
-    ap (λ (e : Sqe). (is_write e || is_write_zeroes e) && overlap (record { slba = slba e; blocks = blocks e }) slots)
+    ap (λ (e : Sqe). (is_write e || is_write_zeroes e)
+    && overlap (record { slba = slba e; blocks = block_count e }) slots)
     c.entry.1
     ∙ ap₂ (λ (m k : ℕ). (eqb opcode 1 || eqb opcode 8) && overlap (record { slba = m; blocks = k }) slots) (halves l)
     (zeros_based n some most)

@@ -9,7 +9,7 @@ use Rattle.host_laws.specs.Book.{cid_of}
 use Rattle.host_laws.specs.Calls.{is_clean}
 use Rattle.host_laws.proofs.Elements.{get_cases, same_some}
 use Rattle.driver_calls.specs.Log.{after_got, has_cid, has_free_cid, is_idle, is_tidy, is_tidy_batch, names_cid, newest}
-use Rattle.driver_calls.specs.Log.{number_in, sent, state_of}
+use Rattle.driver_calls.specs.Log.{newest_number, sent, state_of}
 use Rattle.driver_calls.specs.declared.event.CidState.{CidState}
 use Rattle.driver_calls.specs.declared.event.PortEvent.{PortEvent}
 
@@ -17,7 +17,7 @@ use Rattle.driver_calls.specs.declared.event.PortEvent.{PortEvent}
 
 -- entries with other CIDs leave what the CID named
 pub unnamed_number : (k : ℕ) (batch : List Submission) (cid : ℕ) (old : Option ℕ) → has_cid cid batch ≡ false
-    → number_in k batch cid old ≡ old
+    → newest_number k batch cid old ≡ old
 unnamed_number k [] cid old h = refl
 unnamed_number k (s ∷ batch) cid old h =
     let a = or_parts (eqb (cid_of s) cid) (has_cid cid batch) h in
@@ -39,7 +39,7 @@ idle_newest (PortEvent.Sent p batch ∷ log) q cid e = go (eqb p q) (has_cid cid
   where
     go : (a h : Bool) → has_cid cid batch ≡ h → cond (a && h) CidState.Waiting (state_of log q cid) ≡ CidState.Idle
         → (state_of log q cid ≡ CidState.Idle → newest log q cid ≡ None)
-        → cond a (number_in (length (sent log q)) batch cid (newest log q cid)) (newest log q cid) ≡ None
+        → cond a (newest_number (length (sent log q)) batch cid (newest log q cid)) (newest log q cid) ≡ None
     go true true z f ih = cc
     go true false z f ih = unnamed_number (length (sent log q)) batch cid (newest log q cid) z ∙ ih f
     go false h z f ih = ih f
@@ -59,7 +59,7 @@ answered_before_sent log p batch q cid j cqe payload e o = go (eqb p q) (has_cid
   where
     go : (a h : Bool) → has_cid cid batch ≡ h
         → cond (a && h) CidState.Waiting (state_of log q cid) ≡ CidState.Answered cqe payload
-        → cond a (number_in (length (sent log q)) batch cid (newest log q cid)) (newest log q cid) ≡ Some j
+        → cond a (newest_number (length (sent log q)) batch cid (newest log q cid)) (newest log q cid) ≡ Some j
         → WasAnswered log q cid j cqe payload
     go true true z f g = absurd (let x = f in cc)
     go true false z f g = record {

@@ -22,8 +22,8 @@ use Rattle.host_laws.proofs.Beside.{published_beside, reaped_post_beside}
 use Rattle.host_laws.proofs.Book.{book_beside, book_empty, book_found, book_reaped}
 use Rattle.host_laws.proofs.Elements.{same_some}
 use Rattle.host_laws.proofs.Reaps.{reap_answers, reaped_later}
-use Rattle.controller_steps.specs.State.{payload_of}
-use Rattle.driver_calls.specs.Events.{IsTold, event_at, events, waiting_number}
+use Rattle.controller_steps.specs.State.{reaped_payload}
+use Rattle.driver_calls.specs.Events.{IsToldByLog, event_at, events, waiting_number}
 use Rattle.driver_calls.specs.Log.{after_got, is_tidy, is_tidy_batch, names_cid, newest, state_of}
 use Rattle.driver_calls.specs.declared.event.CidState.{CidState}
 use Rattle.driver_calls.specs.declared.event.PortEvent.{PortEvent}
@@ -34,7 +34,7 @@ use Rattle.driver_calls.proofs.Logs.{answered_before_sent, names_one, sent_narro
 
 -- an entry beside the completion queue leaves what a log tells
 pub told_beside : (c : ConfigNumbers) (past : Past) (n : ℕ) (e : Entry) (log : List PortEvent) → is_beside c n e ≡ true
-    → IsTold c past n log → IsTold c (e ∷ past) n log
+    → IsToldByLog c past n log → IsToldByLog c (e ∷ past) n log
 told_beside c past n e log h t =
     let b : IsBeside c n (e ∷ []) = and_from (is_beside c n e) true h refl in
     record {
@@ -49,7 +49,7 @@ told_beside c past n e log h t =
 -- a tidy Publish tells as a Sent what it adds
 pub told_sent : (c : ConfigNumbers) (past : Past) (n : ℕ) (p : PublishLine) (log : List PortEvent) → IsLegal c past
     → completion_queue c p.queue ≡ n → is_tidy (PortEvent.Sent p.queue p.batch ∷ log) ≡ true
-    → IsTold c past n log → IsTold c (Entry.Publish p ∷ past) n (PortEvent.Sent p.queue p.batch ∷ log)
+    → IsToldByLog c past n log → IsToldByLog c (Entry.Publish p ∷ past) n (PortEvent.Sent p.queue p.batch ∷ log)
 told_sent c past n p log h e d t =
     record {
       entries_are = λ q x. ap (λ (xs : List Submission). xs ++ cond (eqb p.queue q) p.batch []) (t.entries_are q x);
@@ -83,7 +83,7 @@ got_cases log bytes data_of q cid cqe payload e = go (names_cid bytes q cid) (st
 
 -- which CID a reaped completion names
 reap_names : (c : ConfigNumbers) (past : Past) (n : ℕ) (r : ReapLine) (log : List PortEvent) (x : ReapAnswers c past r)
-    → r.queue ≡ n → is_tidy log ≡ true → IsTold c past n log
+    → r.queue ≡ n → is_tidy log ≡ true → IsToldByLog c past n log
     → (q cid : ℕ) → names_cid r.cqe q cid ≡ (eqb q x.queue && eqb cid (cid_of x.entry))
 reap_names c past n r log x e d t = λ q cid.
     let there = ap (λ (xs : List Submission). slice_get xs x.number) (sym (t.entries_are x.queue (x.own ∙ e)))
@@ -98,10 +98,11 @@ GotPost c past q j cqe payload =
 
 -- an answered CID names the Post that was reaped, before or now
 reap_got : (c : ConfigNumbers) (past : Past) (n : ℕ) (r : ReapLine) (log : List PortEvent) (x : ReapAnswers c past r)
-    → IsLegal c (Entry.Reap r ∷ past) → IsBook c past r.queue (book_of log) → IsTold c past n log
+    → IsLegal c (Entry.Reap r ∷ past) → IsBook c past r.queue (book_of log) → IsToldByLog c past n log
     → (q cid j : ℕ) (cqe payload : List ℕ) (b : Bool) → b ≡ (eqb q x.queue && eqb cid (cid_of x.entry))
     → completion_queue c q ≡ n → newest log q cid ≡ Some j
-    → GotCase log b r.cqe (payload_of (slice_get (posted_completions c past r.queue) (reaped_count past r.queue))) q cid
+    → GotCase log b r.cqe
+    (reaped_payload (slice_get (posted_completions c past r.queue) (reaped_count past r.queue))) q cid
     cqe payload → GotPost c (Entry.Reap r ∷ past) q j cqe payload
 reap_got c past n r log x h k t q cid j cqe payload b names e w (GotCase.before s) =
     let y = t.got q cid j cqe payload e s w in
@@ -116,18 +117,18 @@ reap_got c past n r log x h k t q cid j cqe payload b names e w (GotCase.now is 
       x.post,
       ap₂ (reaped_post c (Entry.Reap r ∷ past)) queue number ∙ x.reaped,
       x.cqe ∙ sym f,
-      sym (g ∙ ap payload_of x.posted),
+      sym (g ∙ ap reaped_payload x.posted),
     )
 
 -- a Reap tells as a Got which entry it answers
 pub told_got : (c : ConfigNumbers) (past : Past) (n : ℕ) (r : ReapLine) (log : List PortEvent)
-    → IsLegal c (Entry.Reap r ∷ past) → r.queue ≡ n → is_tidy log ≡ true → IsTold c past n log
-    → IsTold c (Entry.Reap r ∷ past) n
-    (PortEvent.Got r.cqe (payload_of (slice_get (posted_completions c past r.queue) (reaped_count past r.queue)))
+    → IsLegal c (Entry.Reap r ∷ past) → r.queue ≡ n → is_tidy log ≡ true → IsToldByLog c past n log
+    → IsToldByLog c (Entry.Reap r ∷ past) n
+    (PortEvent.Got r.cqe (reaped_payload (slice_get (posted_completions c past r.queue) (reaped_count past r.queue)))
     ∷ log)
 told_got c past n r log h e d t =
     let x = reap_answers c past r h in
-    let contents = payload_of (slice_get (posted_completions c past r.queue) (reaped_count past r.queue)) in
+    let contents = reaped_payload (slice_get (posted_completions c past r.queue) (reaped_count past r.queue)) in
     let names = reap_names c past n r log x e d t in
     let book : IsBook c past r.queue (book_of log) = subst (λ (k : ℕ). IsBook c past k (book_of log)) (sym e) t.book in
     record {
@@ -146,22 +147,22 @@ told_got c past n r log h e d t =
 
 -- so does each entry of the pass itself
 told_own : (c : ConfigNumbers) (past : Past) (n : ℕ) (e : Entry) (log : List PortEvent) → IsLegal c (e ∷ past)
-    → is_tidy (event_at c n past e ++ log) ≡ true → is_tidy log ≡ true → IsTold c past n log
-    → IsTold c (e ∷ past) n (event_at c n past e ++ log)
+    → is_tidy (event_at c n past e ++ log) ≡ true → is_tidy log ≡ true → IsToldByLog c past n log
+    → IsToldByLog c (e ∷ past) n (event_at c n past e ++ log)
 told_own c past n (Entry.Publish p) log h d l t = go (eqb (completion_queue c p.queue) n) refl d
   where
     go : (b : Bool) → eqb (completion_queue c p.queue) n ≡ b
         → is_tidy (cond b (PortEvent.Sent p.queue p.batch ∷ []) [] ++ log) ≡ true
-        → IsTold c (Entry.Publish p ∷ past) n (cond b (PortEvent.Sent p.queue p.batch ∷ []) [] ++ log)
+        → IsToldByLog c (Entry.Publish p ∷ past) n (cond b (PortEvent.Sent p.queue p.batch ∷ []) [] ++ log)
     go true z x = told_sent c past n p log (earlier c (Entry.Publish p ∷ []) past h)
         (eqb-true (completion_queue c p.queue) n z) x t
     go false z x = told_beside c past n (Entry.Publish p) log (not_from_false (eqb (completion_queue c p.queue) n) z) t
 told_own c past n (Entry.Reap r) log h d l t = go (eqb r.queue n) refl
   where
     go : (b : Bool) → eqb r.queue n ≡ b
-        → IsTold c (Entry.Reap r ∷ past) n
+        → IsToldByLog c (Entry.Reap r ∷ past) n
         (cond b (PortEvent.Got r.cqe
-        (payload_of (slice_get (posted_completions c past r.queue) (reaped_count past r.queue))) ∷ []) [] ++ log)
+        (reaped_payload (slice_get (posted_completions c past r.queue) (reaped_count past r.queue))) ∷ []) [] ++ log)
     go true z = told_got c past n r log h (eqb-true r.queue n z) l t
     go false z = told_beside c past n (Entry.Reap r) log (not_from_false (eqb r.queue n) z) t
 told_own c past n (Entry.Fetch p) log h d l t = told_beside c past n (Entry.Fetch p) log refl t
@@ -171,7 +172,7 @@ told_own c past n (Entry.Post p) log h d l t = told_beside c past n (Entry.Post 
 
 -- so do the events of a sole pass
 pub log_tells : (c : ConfigNumbers) (n p : ℕ) (shared : SharedPast) → IsLegal c (entries shared) → IsSole c n p shared
-    → is_tidy (events c n p shared) ≡ true → IsTold c (entries shared) n (events c n p shared)
+    → is_tidy (events c n p shared) ≡ true → IsToldByLog c (entries shared) n (events c n p shared)
 log_tells c n p [] h o d =
     record {
       entries_are = λ q e. refl;
@@ -186,8 +187,8 @@ log_tells c n p (m ∷ shared) h o d =
     go : (b : Bool) → eqb m.0 p ≡ b → (is_beside c n m.1 || b) ≡ true
         → is_tidy (cond b (event_at c n (entries shared) m.1) [] ++ events c n p shared) ≡ true
         → is_tidy (events c n p shared) ≡ true
-        → IsTold c (entries shared) n (events c n p shared)
-        → IsTold c (m.1 ∷ entries shared) n (cond b (event_at c n (entries shared) m.1) [] ++ events c n p shared)
+        → IsToldByLog c (entries shared) n (events c n p shared)
+        → IsToldByLog c (m.1 ∷ entries shared) n (cond b (event_at c n (entries shared) m.1) [] ++ events c n p shared)
     go true z x y l t = told_own c (entries shared) n m.1 (events c n p shared) h y l t
     go false z x y l t = told_beside c (entries shared) n m.1 (events c n p shared) (left (is_beside c n m.1) x) t
       where

@@ -10,8 +10,8 @@ use Rattle.nvme_model.specs.Legal.{IsLegal}
 use Rattle.nvme_model.specs.declared.operation.Op.{Op}
 use Rattle.host_laws.specs.Beside.{IsSole}
 use Rattle.driver_calls.specs.Log.{is_tidy, sent}
-use Rattle.driver_calls.specs.Says.{CallSays, IsCallIn, outcome}
-use Rattle.driver_calls.specs.Views.{AnswerSays, Follows, PortView, log_of, owns, since}
+use Rattle.driver_calls.specs.Says.{CallSays, IsCallIn, call_outcome}
+use Rattle.driver_calls.specs.Views.{AnswerSays, ViewFollows, PortView, log_of, owns, since}
 use Rattle.driver_calls.specs.declared.event.PortEvent.{PortEvent}
 use Rattle.driver_calls.proofs.Answering.{answer_says}
 use Rattle.std.proofs.lemmas.Bool.{and_parts}
@@ -21,10 +21,10 @@ use Rattle.driver_calls.proofs.Following.{others_add_none, own_comes_first}
 pub begins_on : (a b c : SharedPast) → IsBeginning a b → IsBeginning b c → IsBeginning a c
 begins_on a b c x y = (y.0 ++ x.0, append_assoc y.0 x.0 a ∙ (ap (λ (s : SharedPast). y.0 ++ s) x.1 ∙ y.1))
 
-pub follows_self : (a : PortView) → Follows a a
+pub follows_self : (a : PortView) → ViewFollows a a
 follows_self a = record { same_config = refl; same_queue = refl; same_pass = refl; goes_on = ([], refl) }
 
-pub follows_on : (a b c : PortView) → Follows a b → Follows b c → Follows a c
+pub follows_on : (a b c : PortView) → ViewFollows a b → ViewFollows b c → ViewFollows a c
 follows_on a b c x y =
     record {
       same_config = y.same_config ∙ x.same_config;
@@ -33,7 +33,7 @@ follows_on a b c x y =
       goes_on = begins_on a.seen b.seen c.seen x.goes_on y.goes_on;
     }
 
-pub owns_same : (a b : PortView) (q : ℕ) → Follows a b → owns b q ≡ owns a q
+pub owns_same : (a b : PortView) (q : ℕ) → ViewFollows a b → owns b q ≡ owns a q
 owns_same a b q x =
     ap₂ (λ (c : ConfigNumbers) (n : ℕ). nat_le 1 q && nat_le q c.pairs && eqb (completion_queue c q) n) x.same_config
     x.same_queue
@@ -79,10 +79,10 @@ pub since_none : (log : List PortEvent) → since [] log ≡ log
 since_none log = ap (λ (k : ℕ). take k log) (omega arith) ∙ take_all log
 
 pub view_tells : (before : List PortEvent) (start now : PortView) (q j first second : ℕ) (o : Op)
-    → IsLegal now.config (entries now.seen) → Follows start now → owns now q ≡ true
+    → IsLegal now.config (entries now.seen) → ViewFollows start now → owns now q ≡ true
     → is_tidy (since before (log_of now)) ≡ true
     → j ≡ length (sent (since before (log_of start)) q) → IsCallIn (since before (log_of now)) q o first second j
-    → AnswerSays before start now q j o (outcome (since before (log_of now)) q o first second)
+    → AnswerSays before start now q j o (call_outcome (since before (log_of now)) q o first second)
 view_tells before start now q j first second o legal on own tidy number call = λ alone.
     let c = now.config in
     let n = now.queue in
@@ -98,7 +98,7 @@ view_tells before start now q j first second o legal on own tidy number call = �
     (ap is_tidy (sym (here (log_of now))) ∙ tidy) (uses now q own) at
     (subst (λ (log : List PortEvent). IsCallIn log q o first second j) (here (log_of now)) call) in
     subst (λ (log : List PortEvent).
-    CallSays c (entries start.seen) (entries now.seen) q j o (outcome log q o first second))
+    CallSays c (entries start.seen) (entries now.seen) q j o (call_outcome log q o first second))
     (sym (here (log_of now))) said
   where
     uses : (v : PortView) (q : ℕ) → owns v q ≡ true → completion_queue v.config q ≡ v.queue
@@ -109,10 +109,10 @@ view_tells before start now q j first second o legal on own tidy number call = �
         → later ++ start ≡ shared → IsLegal c (entries shared) → IsSole c n p shared
         → is_tidy (events c n p shared) ≡ true → completion_queue c q ≡ n → j ≡ length (sent (events c n p start) q)
         → IsCallIn (events c n p shared) q o first second j
-        → CallSays c (entries start) (entries shared) q j o (outcome (events c n p shared) q o first second)
+        → CallSays c (entries start) (entries shared) q j o (call_outcome (events c n p shared) q o first second)
     says_over c n p later start shared q j first second o whole =
         subst (λ (s : SharedPast). IsLegal c (entries s) → IsSole c n p s → is_tidy (events c n p s) ≡ true
         → completion_queue c q ≡ n → j ≡ length (sent (events c n p start) q)
         → IsCallIn (events c n p s) q o first second j
-        → CallSays c (entries start) (entries s) q j o (outcome (events c n p s) q o first second)) whole
+        → CallSays c (entries start) (entries s) q j o (call_outcome (events c n p s) q o first second)) whole
         (answer_says c n p later start q j first second o)

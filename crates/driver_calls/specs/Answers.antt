@@ -19,8 +19,8 @@ is_compare_op Op.Compare = true
 is_compare_op _ = false
 
 -- the answer to a command by itself
-abbrev pub answer_of : Op → Status → List ℕ → Result Reply Status
-answer_of o s payload =
+abbrev pub command_answer : Op → Status → List ℕ → Result Reply Status
+command_answer o s payload =
     if is_success s then Ok (reply_of o payload)
     else (if same_status s compare_failure && is_compare_op o then Ok Reply.Differs else Err s)
 

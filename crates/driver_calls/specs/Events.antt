@@ -11,7 +11,7 @@ use Rattle.nvme_model.specs.declared.entry.Entry.{Entry}
 use Rattle.nvme_model.specs.declared.entry.PostLine.{PostLine}
 use Rattle.host_laws.specs.Book.{IsBook}
 use Rattle.host_laws.specs.Calls.{reaped_post}
-use Rattle.controller_steps.specs.State.{payload_of}
+use Rattle.controller_steps.specs.State.{reaped_payload}
 use Rattle.driver_calls.specs.Log.{newest, sent, state_of}
 use Rattle.driver_calls.specs.declared.event.CidState.{CidState}
 use Rattle.driver_calls.specs.declared.event.PortEvent.{PortEvent}
@@ -24,7 +24,7 @@ event_at c n past (Entry.Publish p) =
 event_at c n past (Entry.Reap r) =
     if r.queue == n
     then PortEvent.Got r.cqe
-    (payload_of (slice_get (posted_completions c past r.queue) (reaped_count past r.queue))) ∷ []
+    (reaped_payload (slice_get (posted_completions c past r.queue) (reaped_count past r.queue))) ∷ []
     else []
 event_at c n past _ = []
 
@@ -40,7 +40,7 @@ waiting_number _ j = None
 
 -- What a log tells of completion queue n and its submission queues: which entries are published, which are not reaped,
 -- and by which Post each was answered.
-pub record IsTold (c : ConfigNumbers) (past : Past) (n : ℕ) (log : List PortEvent) : Type 0 where
+pub record IsToldByLog (c : ConfigNumbers) (past : Past) (n : ℕ) (log : List PortEvent) : Type 0 where
   pub entries_are : (q : ℕ) → completion_queue c q ≡ n → published_entries past q ≡ sent log q
   pub book : IsBook c past n (λ q cid. waiting_number (state_of log q cid) (newest log q cid))
   pub got : (q cid j : ℕ) (cqe payload : List ℕ) →

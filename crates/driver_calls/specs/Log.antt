@@ -36,15 +36,15 @@ state_of (PortEvent.Sent p batch ∷ log) q cid =
 state_of (PortEvent.Got cqe payload ∷ log) q cid = after_got (names_cid cqe q cid) cqe payload (state_of log q cid)
 
 -- the number of the last of these entries with this CID, where the first has number k; else the one that was
-abbrev pub number_in : ℕ → List Submission → ℕ → Option ℕ → Option ℕ
-number_in k [] cid old = old
-number_in k (s ∷ batch) cid old = number_in (suc k) batch cid (if cid_of s == cid then Some k else old)
+abbrev pub newest_number : ℕ → List Submission → ℕ → Option ℕ → Option ℕ
+newest_number k [] cid old = old
+newest_number k (s ∷ batch) cid old = newest_number (suc k) batch cid (if cid_of s == cid then Some k else old)
 
 -- the number of that newest entry on its submission queue, from 0
 abbrev pub newest : List PortEvent → ℕ → ℕ → Option ℕ
 newest [] q cid = None
 newest (PortEvent.Sent p batch ∷ log) q cid =
-    if p == q then number_in (length (sent log q)) batch cid (newest log q cid) else newest log q cid
+    if p == q then newest_number (length (sent log q)) batch cid (newest log q cid) else newest log q cid
 newest (PortEvent.Got cqe payload ∷ log) q cid = newest log q cid
 
 -- no entry with this CID waits for its completion

@@ -14,8 +14,8 @@ use Rattle.nvme_model.specs.declared.operation.Op.{Op}
 use Rattle.nvme_model.specs.declared.status.Status.{Status}
 use Rattle.nvme_model.specs.declared.submission.Submission.{Submission}
 use Rattle.host_laws.specs.Calls.{CompareDiffers, FailsChecks, IsDone, PairDiffers, PairSwaps, reaped_post, says_yes}
-use Rattle.host_laws.specs.Calls.{status_in}
-use Rattle.driver_calls.specs.Answers.{answer_of, pair_answer_of}
+use Rattle.host_laws.specs.Calls.{cqe_status}
+use Rattle.driver_calls.specs.Answers.{command_answer, pair_answer_of}
 use Rattle.driver_calls.specs.Log.{newest, sent, state_of}
 use Rattle.driver_calls.specs.declared.event.CidState.{CidState}
 use Rattle.driver_calls.specs.declared.event.PortEvent.{PortEvent}
@@ -25,20 +25,20 @@ use Rattle.driver_calls.specs.declared.reply.Reply.{Reply}
 
 -- the answer to a command by itself, once its completion is reaped
 abbrev pub one_outcome : Op → CidState → Option (Result Reply Status)
-one_outcome o (CidState.Answered cqe payload) = Some (answer_of o (status_in cqe) payload)
+one_outcome o (CidState.Answered cqe payload) = Some (command_answer o (cqe_status cqe) payload)
 one_outcome o _ = None
 
 -- the answer to a fused pair, once both completions are reaped
 abbrev pub pair_outcome : CidState → CidState → Option (Result Reply Status)
 pair_outcome (CidState.Answered cqe payload) (CidState.Answered bytes second) =
-    Some (pair_answer_of (status_in cqe) (status_in bytes))
+    Some (pair_answer_of (cqe_status cqe) (cqe_status bytes))
 pair_outcome _ _ = None
 
 -- what a call of operation o on submission queue q is answered, whose entries have these CIDs (the second is of a pair
 -- alone)
-abbrev pub outcome : List PortEvent → ℕ → Op → ℕ → ℕ → Option (Result Reply Status)
-outcome log q Op.Pair first second = pair_outcome (state_of log q first) (state_of log q second)
-outcome log q o first second = one_outcome o (state_of log q first)
+abbrev pub call_outcome : List PortEvent → ℕ → Op → ℕ → ℕ → Option (Result Reply Status)
+call_outcome log q Op.Pair first second = pair_outcome (state_of log q first) (state_of log q second)
+call_outcome log q o first second = one_outcome o (state_of log q first)
 
 -- Entry j of a list is a command by itself that does o.
 pub record IsSingleIn (entries : List Submission) (j : ℕ) (o : Op) : Type 0 where
@@ -88,23 +88,23 @@ ReplySays c start past q j Op.Pair Reply.Differs =
 ReplySays c start past q j _ _ = ⊥
 
 -- the completion of entry j was reaped, with this status, which isn't success
-abbrev pub IsReapedAs : ConfigNumbers → Past → ℕ → ℕ → Status → Type 0
-IsReapedAs c past q j s =
-    (p : PostLine) × (reaped_post c past q j ≡ Some p) × (status_in p.cqe ≡ s) × (is_success s ≡ false)
+abbrev pub IsReapedWith : ConfigNumbers → Past → ℕ → ℕ → Status → Type 0
+IsReapedWith c past q j s =
+    (p : PostLine) × (reaped_post c past q j ≡ Some p) × (cqe_status p.cqe ≡ s) × (is_success s ≡ false)
 
 -- the completion of this entry of a submission queue was reaped
-abbrev pub IsReaped : ConfigNumbers → Past → ℕ → ℕ → Type 0
-IsReaped c past q j = (p : PostLine) × (reaped_post c past q j ≡ Some p)
+abbrev pub IsEntryReaped : ConfigNumbers → Past → ℕ → ℕ → Type 0
+IsEntryReaped c past q j = (p : PostLine) × (reaped_post c past q j ≡ Some p)
 
 -- the completion of the call, of a pair that of its first, was reaped with this status, which isn't Compare Failure
 -- either, and the command or the pair failed its checks
 abbrev pub FailedSays : ConfigNumbers → Past → ℕ → ℕ → Status → Type 0
-FailedSays c past q j s = IsReapedAs c past q j s × (same_status s compare_failure ≡ false) × FailsChecks past q j
+FailedSays c past q j s = IsReapedWith c past q j s × (same_status s compare_failure ≡ false) × FailsChecks past q j
 
 -- all completions of a call were reaped: of a pair both
 abbrev pub AllReaped : ConfigNumbers → Past → ℕ → ℕ → Op → Type 0
-AllReaped c past q j Op.Pair = IsReaped c past q j × IsReaped c past q (suc j)
-AllReaped c past q j o = IsReaped c past q j
+AllReaped c past q j Op.Pair = IsEntryReaped c past q j × IsEntryReaped c past q (suc j)
+AllReaped c past q j o = IsEntryReaped c past q j
 
 -- a completion of a call wasn't reaped
 abbrev pub NotAllReaped : ConfigNumbers → Past → ℕ → ℕ → Op → Type 0

@@ -36,7 +36,7 @@ abbrev pub owns : PortView → ℕ → Bool
 owns v q = nat_le 1 q && nat_le q v.config.pairs && (completion_queue v.config q == v.queue)
 
 -- The same port, which has seen what it had seen, and maybe more.
-pub record Follows (a b : PortView) : Type 0 where
+pub record ViewFollows (a b : PortView) : Type 0 where
   pub same_config : b.config ≡ a.config
   pub same_queue : b.queue ≡ a.queue
   pub same_pass : b.pass ≡ a.pass

@@ -7,9 +7,9 @@ ghost use Rattle.nvme_model.specs.Passes.{SharedPast, entries, places};
 ghost use Rattle.nvme_model.specs.declared.config.ConfigNumbers.{ConfigNumbers};
 ghost use Rattle.nvme_model.specs.declared.operation.Op.{Op};
 ghost use Rattle.host_laws.specs.Beside.{IsBeside, IsSole};
-ghost use Rattle.driver_calls.specs.Events.{IsTold, event_at, events};
+ghost use Rattle.driver_calls.specs.Events.{IsToldByLog, event_at, events};
 ghost use Rattle.driver_calls.specs.Log.{is_tidy, sent};
-ghost use Rattle.driver_calls.specs.Says.{CallSays, IsCallIn, outcome};
+ghost use Rattle.driver_calls.specs.Says.{CallSays, IsCallIn, call_outcome};
 ghost use Rattle.nvme_model.specs.declared.entry.Entry.{Entry};
 ghost use Rattle.std.specs.Prelude.{[], ◌∷◌};
 
@@ -28,7 +28,7 @@ pub fn events_follow_the_entries()
 /// CIDs, its events tell what is published there and what was reaped.
 pub fn a_log_tells_the_history()
     ensures { (c : ConfigNumbers) (n p : ℕ) (shared : SharedPast) → IsLegal c (entries shared) → IsSole c n p shared →
-        is_tidy (events c n p shared) ≡ true → IsTold c (entries shared) n (events c n p shared) }
+        is_tidy (events c n p shared) ≡ true → IsToldByLog c (entries shared) n (events c n p shared) }
 {}
 
 /// Then what a call is answered by these events is true of the history.
@@ -38,5 +38,5 @@ pub fn an_answer_says_its_effects()
         is_tidy (events c n p (later ++ start)) ≡ true → completion_queue c q ≡ n →
         j ≡ length (sent (events c n p start) q) → IsCallIn (events c n p (later ++ start)) q o first second j →
         CallSays c (entries start) (entries (later ++ start)) q j o
-        (outcome (events c n p (later ++ start)) q o first second) }
+        (call_outcome (events c n p (later ++ start)) q o first second) }
 {}

@@ -3,7 +3,7 @@
 ghost use Rattle.std.specs.Prelude.{◌≡◌};
 ghost use Rattle.nvme_model.specs.Statuses.{compare_failure as compare_failure_status, is_success as is_success_of};
 ghost use Rattle.nvme_model.specs.Statuses.{same_status};
-ghost use Rattle.driver_calls.specs.Answers.{answer_of, pair_answer_of};
+ghost use Rattle.driver_calls.specs.Answers.{command_answer, pair_answer_of};
 
 use nvme_model::operation::Op;
 use nvme_model::status::Status;
@@ -42,7 +42,7 @@ fn is_compare_failure(status: Status) -> bool
 ///
 /// Any other status.
 pub fn answer_to(op: Op, status: Status, payload: Payload) -> Result<Reply, Status>
-    ensures value { result ≡ answer_of op status payload }
+    ensures value { result ≡ command_answer op status payload }
 {
     if is_success(status) {
         return Ok(match op {

@@ -9,17 +9,18 @@ use Rattle.nvme_model.proofs.Written.{clash}
 use Rattle.nvme_model.specs.Operations.{is_pair}
 use Rattle.nvme_model.specs.declared.operation.Op.{Op}
 use Rattle.nvme_model.specs.declared.status.Status.{Status}
-use Rattle.cid_table.specs.Cids.{Cids, held}
-use Rattle.cid_table.specs.declared.held.Held.{Held}
+use Rattle.cid_table.specs.Cids.{QueueCids, held}
+use Rattle.cid_table.specs.declared.held.CidUse.{CidUse}
 use Rattle.driver_calls.specs.Log.{sent}
 use Rattle.driver_calls.specs.Says.{IsCallIn}
 use Rattle.driver_calls.specs.Views.{since}
 use Rattle.driver_calls.specs.declared.event.PortEvent.{PortEvent}
 use Rattle.driver_calls.specs.declared.reply.Reply.{Reply}
-use Rattle.driver_cas.specs.Drivers.{AsksPort, IsApart, IsBack, IsCallOf, IsFreed, IsOneMore, IsSame, Says, answer_to}
-use Rattle.driver_cas.specs.Drivers.{later_by, later_told, made, number_of, told}
+use Rattle.driver_cas.specs.Drivers.{AsksPort, SharesNoCid, IsBack, IsCallOf, IsFreed, IsOneMore, IsSameDriver}
+use Rattle.driver_cas.specs.Drivers.{SaysOfPort, answer_to}
+use Rattle.driver_cas.specs.Drivers.{later_by, later_told, made, number_of, poll_answer}
 use Rattle.driver_cas.specs.Made.{after_reap}
-use Rattle.driver_cas.specs.Tables.{GoesOn, IsHeld, IsReleased, Reaps, is_free, is_its_cid}
+use Rattle.driver_cas.specs.Tables.{SameFreeCids, IsHeld, AreCidsReleased, Reaps, is_free, is_its_cid}
 use Rattle.driver_cas.proofs.Tables.{since_more}
 use Rattle.driver_cas.specs.declared.call.Call.{Call}
 use Rattle.driver_cas.specs.declared.call.Poll.{Poll}
@@ -30,7 +31,7 @@ use Rattle.driver_cas.specs.declared.port.Port.{Ghosts}
 use Rattle.driver_cas.specs.declared.port.Reaped.{Reaped}
 
 -- what a Reap adds since the driver was made
-pub one_more : (began before after : List PortEvent) (old new : Cids) → length began ≤ length before
+pub one_more : (began before after : List PortEvent) (old new : QueueCids) → length began ≤ length before
     → Reaps before after old new → IsOneMore (since began before) (since began after)
 one_more began before after old new few (inl s) = inl (ap (λ (log : List PortEvent). since began log) s.0)
 one_more began before after old new few (inr s) =
@@ -71,7 +72,8 @@ module _ {P : Type 0} (g : Ghosts P) where
 
   -- after a Reap
   pub reaped_calls : ((a b c : P) → g.follows a b → g.follows b c → g.follows a c) → (d e : Driver P g) (k : Call P)
-      → IsSame d e → g.follows d.port e.port → IsOneMore (made d) (made e) → GoesOn d.cids e.cids → IsCallOf d k
+      → IsSameDriver d e → g.follows d.port e.port → IsOneMore (made d) (made e) → SameFreeCids d.cids e.cids
+      → IsCallOf d k
       → IsCallOf e k
   reaped_calls on d e k s later more goes of =
       record {
@@ -84,7 +86,7 @@ module _ {P : Type 0} (g : Ghosts P) where
       }
 
   -- after an answer to another
-  pub taken_others : (d e : Driver P g) (k other : Call P) → IsSame d e → e.port ≡ d.port
+  pub taken_others : (d e : Driver P g) (k other : Call P) → IsSameDriver d e → e.port ≡ d.port
       → IsHeld e.cids other.op other.queue other.first other.second → IsCallOf d other → IsCallOf e other
   taken_others d e k other s port held of =
       record {
@@ -95,16 +97,17 @@ module _ {P : Type 0} (g : Ghosts P) where
         in_use = held;
       }
 
-  pub says_over : (d e : Driver P g) (k : Call P) (r : Poll P) → Says d k (answer_to d k) → IsSame d e → e.port ≡ d.port
-      → told r ≡ answer_to d k → Says e k (told r)
+  pub says_over : (d e : Driver P g) (k : Call P) (r : Poll P) → SaysOfPort d k (answer_to d k) → IsSameDriver d e
+      → e.port ≡ d.port
+      → poll_answer r ≡ answer_to d k → SaysOfPort e k (poll_answer r)
   says_over d e k r h s port t =
-      subst (λ (o : Option (Result Reply Status)). Says e k o) (sym t)
+      subst (λ (o : Option (Result Reply Status)). SaysOfPort e k o) (sym t)
       (subst (λ (z : Snapshot P × P).
       g.says (g.log z.0.value) k.start.value z.1 k.queue
       (length (sent (since (g.log z.0.value) (g.log k.start.value)) k.queue)) k.op (answer_to d k))
       (λ i. (sym s.began i, sym port i)) h)
 
-  pub one_over : (a d e : Driver P g) → IsOneMore (made a) (made d) → IsSame d e → e.port ≡ d.port
+  pub one_over : (a d e : Driver P g) → IsOneMore (made a) (made d) → IsSameDriver d e → e.port ≡ d.port
       → IsOneMore (made a) (made e)
   one_over a d e h s port =
       subst (λ (log : List PortEvent). IsOneMore (made a) log) (sym (same_made d e s.began port)) h
@@ -138,14 +141,14 @@ module _ {P : Type 0} (g : Ghosts P) where
 
 module _ {P : Type 0} where
   -- where an answer is told the poll isn't put off
-  pub later_ended : (r : Poll P) (x : Result Reply Status) → told r ≡ Some x → later_told r ≡ None
+  pub later_ended : (r : Poll P) (x : Result Reply Status) → poll_answer r ≡ Some x → later_told r ≡ None
   later_ended (Poll.Pending j) x h = refl
   later_ended (Poll.Later f j) x h = absurd (let e : None ≡ Some x = h in cc)
   later_ended (Poll.Done r) x h = refl
   later_ended (Poll.Failed f) x h = refl
 
   -- what is told is an answer
-  pub told_back : (k : Call P) (r : Poll P) (x : Result Reply Status) → told r ≡ Some x → IsBack k r
+  pub told_back : (k : Call P) (r : Poll P) (x : Result Reply Status) → poll_answer r ≡ Some x → IsBack k r
   told_back k (Poll.Pending j) x h = absurd (let e : None ≡ Some x = h in cc)
   told_back k (Poll.Later f j) x h = absurd (let e : None ≡ Some x = h in cc)
   told_back k (Poll.Done r) x h = tt
@@ -163,12 +166,13 @@ module _ {P : Type 0} where
       (and_from _ _ p (eq-eqb k.second k.second refl)))
 
   -- the CIDs of a call apart stay in use
-  pub kept_others : (old new : Cids) (k : Call P) (r : Option (Result Reply Status)) (other : Call P) → IsApart k other
-      → IfNone r (new ≡ old) → IfSome r (λ x. IsReleased old new k.op k.queue k.first k.second)
+  pub kept_others : (old new : QueueCids) (k : Call P) (r : Option (Result Reply Status)) (other : Call P)
+      → SharesNoCid k other
+      → IfNone r (new ≡ old) → IfSome r (λ x. AreCidsReleased old new k.op k.queue k.first k.second)
       → IsHeld old other.op other.queue other.first other.second
       → IsHeld new other.op other.queue other.first other.second
   kept_others old new k None other apart none some h =
-      subst (λ (c : Cids). IsHeld c other.op other.queue other.first other.second) (sym none) h
+      subst (λ (c : QueueCids). IsHeld c other.op other.queue other.first other.second) (sym none) h
   kept_others old new k (Some x) other apart none some h =
       (kept other.first (own_first other) ∙ h.0, λ p. kept other.second (own_second other p) ∙ h.1 p)
     where
@@ -182,19 +186,20 @@ module _ {P : Type 0} where
       kept : (i : ℕ) → is_its_cid other.op other.queue other.first other.second other.queue i ≡ true
           → is_free (held new other.queue i) ≡ is_free (held old other.queue i)
       kept i own = ap is_free (some other.queue i
-          ∙ cond-false (is_its_cid k.op k.queue k.first k.second other.queue i) Held.Free (held old other.queue i)
+          ∙ cond-false (is_its_cid k.op k.queue k.first k.second other.queue i) CidUse.Free (held old other.queue i)
           (not_its other.queue i own))
 
   -- the CIDs of an answered call are free
-  pub freed_some : (old mid new : Cids) (k : Call P) (r : Poll P) (x : Result Reply Status) → GoesOn old mid
-      → IsReleased mid new k.op k.queue k.first k.second → told r ≡ Some x → IsFreed old new k r
+  pub freed_some : (old mid new : QueueCids) (k : Call P) (r : Poll P) (x : Result Reply Status) → SameFreeCids old mid
+      → AreCidsReleased mid new k.op k.queue k.first k.second → poll_answer r ≡ Some x → IsFreed old new k r
   freed_some old mid new k r x goes changes t q i =
       let its = is_its_cid k.op k.queue k.first k.second q i in
-      let some : (is_some (told r) && its) ≡ its = ap (λ (o : Option (Result Reply Status)). is_some o && its) t in
+      let some : (is_some (poll_answer r) && its) ≡ its =
+      ap (λ (o : Option (Result Reply Status)). is_some o && its) t in
       ap is_free (changes q i)
       ∙ (elim (cases_Bool its) [
-        | inl h ↦ ap is_free (cond-true its Held.Free (held mid q i) h)
-            ∙ sym (cond-true (is_some (told r) && its) true (is_free (held old q i)) (some ∙ h))
-        | inr h ↦ ap is_free (cond-false its Held.Free (held mid q i) h)
-            ∙ (goes q i ∙ sym (cond-false (is_some (told r) && its) true (is_free (held old q i)) (some ∙ h)))
+        | inl h ↦ ap is_free (cond-true its CidUse.Free (held mid q i) h)
+            ∙ sym (cond-true (is_some (poll_answer r) && its) true (is_free (held old q i)) (some ∙ h))
+        | inr h ↦ ap is_free (cond-false its CidUse.Free (held mid q i) h)
+            ∙ (goes q i ∙ sym (cond-false (is_some (poll_answer r) && its) true (is_free (held old q i)) (some ∙ h)))
       ])

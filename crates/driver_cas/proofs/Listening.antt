@@ -1,17 +1,17 @@
 -- A pass, a port and a driver that saw more.
 use Rattle.std.proofs.Common.{◌≡◌, ℕ, List, ap, ap₂, inl, length, ◌∙◌}
 use Rattle.std.specs.declared.snapshot.Snapshot.{Snapshot}
-use Rattle.cid_table.specs.Cids.{Cids, held}
+use Rattle.cid_table.specs.Cids.{QueueCids, held}
 use Rattle.nvme_model.specs.Passes.{IsBeginning}
 use Rattle.meet_lock.specs.Passes.{IsSame, mine, seen}
 use Rattle.work_queue.specs.Engines.{EnginePass}
 use Rattle.driver_calls.proofs.Views.{begins_on, follows_on}
 use Rattle.driver_calls.specs.Views.{log_of, since}
 use Rattle.driver_calls.specs.declared.event.PortEvent.{PortEvent}
-use Rattle.driver_cas.specs.Drivers.{IsCallOf, IsSame as IsDriver}
+use Rattle.driver_cas.specs.Drivers.{IsCallOf, IsSameDriver as IsDriver}
 use Rattle.driver_cas.specs.Listening.{SawMore}
 use Rattle.driver_cas.specs.Passes.{SawOn, log_at}
-use Rattle.driver_cas.specs.Ports.{Follows, steps_of, view_of}
+use Rattle.driver_cas.specs.Ports.{PortFollows, steps_of, view_of}
 use Rattle.driver_cas.specs.Tables.{is_free}
 use Rattle.driver_cas.specs.declared.call.Call.{Call}
 use Rattle.driver_cas.specs.declared.driver.Driver.{Driver}
@@ -57,10 +57,10 @@ module _ {P : Type 0} (g : Ghosts P) where
   idle_calls on d e same cids later log k of =
       reaped_calls g on d e k same later
       (inl (ap₂ (λ (s : Snapshot P) (l : List PortEvent). since (g.log s.value) l) same.began log))
-      (λ q i. ap (λ (c : Cids). is_free (held c q i)) cids) of
+      (λ q i. ap (λ (c : QueueCids). is_free (held c q i)) cids) of
 
 -- a later port of an engine is one of what is later than it
-pub follows_later : (a b c : SharedPort) → Follows a b → Follows b c → Follows a c
+pub follows_later : (a b c : SharedPort) → PortFollows a b → PortFollows b c → PortFollows a c
 follows_later a b c x y =
     record {
       same_lock = y.same_lock ∙ x.same_lock;

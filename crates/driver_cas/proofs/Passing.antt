@@ -6,12 +6,12 @@ use Rattle.std.specs.Prelude.{Contains, Err}
 use Rattle.std.proofs.lemmas.List.Elements.{All-get_or}
 use Rattle.std.proofs.lemmas.List.{get_or_default}
 use Rattle.nvme_model.specs.declared.operation.Op.{Op}
-use Rattle.cid_table.specs.Cids.{Cids, NoneFreeBelow, queues_of}
+use Rattle.cid_table.specs.Cids.{QueueCids, NoneFreeBelow, queues_of}
 use Rattle.driver_calls.specs.Entries.{IsBatch}
 use Rattle.driver_calls.specs.declared.request.CallData.{CallData}
 use Rattle.driver_calls.specs.declared.request.Request.{Request}
 use Rattle.driver_cas.specs.Starts.{IsUntouched}
-use Rattle.driver_cas.specs.Tries.{IsBegun, IsTried}
+use Rattle.driver_cas.specs.Tries.{IsTryBegun, IsTried}
 use Rattle.driver_cas.specs.Turns.{AreFree, ArePassed, HasTooFew, IsEndedBy, IsPassed, IsRefusedFor, IsTurn}
 use Rattle.driver_cas.specs.declared.driver.Driver.{Driver}
 use Rattle.driver_cas.specs.declared.fault.Fault.{Fault}
@@ -20,7 +20,8 @@ use Rattle.driver_cas.specs.declared.port.Port.{Ghosts}
 use Rattle.driver_cas.specs.declared.start.Tried.{Tried}
 
 -- where no CID is free there are too few for a command by itself
-pub few_single : (cids : Cids) (o : Op) (queue : ℕ) → o ≢ Op.Pair → NoneFreeBelow cids queue 64 → HasTooFew cids o queue
+pub few_single : (cids : QueueCids) (o : Op) (queue : ℕ) → o ≢ Op.Pair → NoneFreeBelow cids queue 64
+    → HasTooFew cids o queue
 few_single cids Op.Pair queue n h = absurd (n refl)
 few_single cids Op.Read queue n h = h
 few_single cids Op.Compare queue n h = h
@@ -46,7 +47,7 @@ module _ {P : Type 0} (g : Ghosts P) where
       → ArePassed d e.port r contents (k + 1)
   too_few d e r contents k queue x at below h =
       next_passed d e.port e.port r contents k queue at below
-      (inl (subst (λ (c : Cids). HasTooFew c r.op queue) x.as_before.1 h, refl))
+      (inl (subst (λ (c : QueueCids). HasTooFew c r.op queue) x.as_before.1 h, refl))
 
   -- where none has CIDs
   pub none_free : (d : Driver P g) (r : Request) (contents : CallData) → All (HasTooFew d.cids r.op) (queues_of d.cids)
@@ -68,7 +69,7 @@ module _ {P : Type 0} (g : Ghosts P) where
     h.0,
     h.1,
     h.2,
-    subst (λ (c : Cids). AreFree c r.op queue h.0 h.1) x.as_before.1 h.3,
+    subst (λ (c : QueueCids). AreFree c r.op queue h.0 h.1) x.as_before.1 h.3,
     subst (λ (c : CallData). IsBatch r.op r.slba r.blocks h.0 h.1 c h.2) is h.4,
     h.5,
   )
@@ -108,7 +109,7 @@ module _ {P : Type 0} (g : Ghosts P) where
   -- the driver as it was is as before, and so is what ended the call
   pub stopped : (d e f : Driver P g) (r : Request) (contents same : CallData) (queue : ℕ) (fault : Fault)
       → Contains (queues_of d.cids) queue → IsTurn d e.port r contents queue → IsUntouched d e → same ≡ contents
-      → g.follows e.port f.port → IsTried e f queue r same (Tried.Stopped fault) → IsBegun d f r contents (Err fault)
+      → g.follows e.port f.port → IsTried e f queue r same (Tried.Stopped fault) → IsTryBegun d f r contents (Err fault)
   stopped d e f r contents same queue Fault.Busy known turn x is last h = (
     (h.0.0 ∙ x.as_before.0, h.0.1 ∙ x.as_before.1),
     ended_by d e f r contents same queue PortFault.Busy known turn x is last h.1,

@@ -28,11 +28,11 @@ use Rattle.work_queue.specs.declared.engine.Opened.{Opened}
 use Rattle.work_queue.specs.declared.engine.Opened.TheVariants as opened
 use Rattle.driver_cas.specs.Passes.{log_at, view_at}
 use Rattle.driver_cas.specs.Ports.{IsRefused}
-use Rattle.driver_cas.specs.Reaps.{IsReapDeclined, IsReapFault, IsReapedAs, cause_of}
+use Rattle.driver_cas.specs.Reaps.{IsReapDeclined, IsReapFault, IsReapAnswered, cause_of}
 use Rattle.driver_cas.specs.declared.fault.PortFault.{PortFault}
 use Rattle.driver_cas.specs.declared.port.Reaped.{Reaped}
 use Rattle.work_queue.specs.Engines.{EnginePass}
-use Rattle.controller_steps.specs.State.{Accepts, Refuses, answer_of, payload_of}
+use Rattle.controller_steps.specs.State.{Accepts, Refuses, answer_of, reaped_payload}
 use Rattle.controller_steps.specs.declared.answer.Answer.{Answer}
 use Rattle.controller_steps.specs.declared.answer.Refused.{Refused}
 use Rattle.driver_calls.specs.Events.{event_at, events}
@@ -100,12 +100,12 @@ reap_event c n past e a s =
     let is = s.1 ∙ l.is in
     record {
       cqe = r.cqe;
-      payload = payload_of (slice_get (posted_completions c past r.queue) (reaped_count past r.queue));
+      payload = reaped_payload (slice_get (posted_completions c past r.queue) (reaped_count past r.queue));
       answers = s.2 ∙ ap (answer_of c past) is;
       event =
           ap (event_at c n past) is
           ∙ cond-true (eqb r.queue n)
-          (PortEvent.Got r.cqe (payload_of
+          (PortEvent.Got r.cqe (reaped_payload
           (slice_get (posted_completions c past r.queue) (reaped_count past r.queue))) ∷ []) []
           (eq-eqb r.queue n l.of);
     }
@@ -253,9 +253,9 @@ reap_result (Some f) = Err f
 pub reap_told : (p q : EnginePass) (n : ℕ) (d : Declined) (o : Option PortFault) → IsSame p q → 1 ≤ n
     → n ≤ (config_of p).cqs → Declines Refuses p q (Step.Reap n) d → (passes_of p ≡ 1 → IsNotBusy {A = Opened} (Err d))
     → IsReapFault d o
-    → IsReapedAs (passes_of p) (view_at n p) (view_at n q) (reap_result o)
+    → IsReapAnswered (passes_of p) (view_at n p) (view_at n q) (reap_result o)
 reap_told p q n (Declined.Busy s) o same few most h alone f =
-    subst (λ (x : Option PortFault). IsReapedAs (passes_of p) (view_at n p) (view_at n q) (reap_result x)) (sym f)
+    subst (λ (x : Option PortFault). IsReapAnswered (passes_of p) (view_at n p) (view_at n q) (reap_result x)) (sym f)
     (alone, λ i. record { config = same.3 i; queue = n; pass = same.1 i; seen = h.1 i })
 reap_told p q n (Declined.Refused r) o same few most h alone f =
     go (refusal (config_of p) (entries (seen q)) (Step.Reap n)) refl
@@ -267,22 +267,23 @@ reap_told p q n (Declined.Refused r) o same few most h alone f =
 
     go : (w : Option Why) → refusal (config_of p) (entries (seen q)) (Step.Reap n) ≡ w
         → (w ≡ Some Why.NoCompletion) ⊎ (w ≡ None)
-        → IsReapedAs (passes_of p) (view_at n p) (view_at n q) (reap_result o)
+        → IsReapAnswered (passes_of p) (view_at n p) (view_at n q) (reap_result o)
     go w is (inl e) =
         let told : IsReapFault (Declined.Refused (Refused.Step Why.NoCompletion)) o =
         subst (λ (x : Refused). IsReapFault (Declined.Refused x) o)
         (h.1 ∙ ap (λ (x : Option Why). Refused.Step (unwrap_or x Why.NoMemory)) (is ∙ e)) f in
-        subst (λ (x : Option PortFault). IsReapedAs (passes_of p) (view_at n p) (view_at n q) (reap_result x))
+        subst (λ (x : Option PortFault). IsReapAnswered (passes_of p) (view_at n p) (view_at n q) (reap_result x))
         (sym told) (same_refusal ∙ is ∙ e)
     go w is (inr e) =
         let told : IsReapFault (Declined.Refused (Refused.Step Why.NoMemory)) o =
         subst (λ (x : Refused). IsReapFault (Declined.Refused x) o)
         (h.1 ∙ ap (λ (x : Option Why). Refused.Step (unwrap_or x Why.NoMemory)) (is ∙ e)) f in
-        subst (λ (x : Option PortFault). IsReapedAs (passes_of p) (view_at n p) (view_at n q) (reap_result x))
+        subst (λ (x : Option PortFault). IsReapAnswered (passes_of p) (view_at n p) (view_at n q) (reap_result x))
         (sym told) (same_refusal ∙ is ∙ e)
 
 -- no fault of a Reap is want of room
-pub reap_room : (passes : ℕ) (a b : PortView) (f : PortFault) → IsReapedAs passes a b (Err f) → f ≢ PortFault.RingFull
+pub reap_room : (passes : ℕ) (a b : PortView) (f : PortFault) → IsReapAnswered passes a b (Err f)
+    → f ≢ PortFault.RingFull
 reap_room passes a b PortFault.RingFull h = absurd h
 reap_room passes a b PortFault.Busy h = λ e. absurd (let x : PortFault.Busy ≡ PortFault.RingFull = e in cc)
 reap_room passes a b PortFault.NoMemory h = λ e. absurd (let x : PortFault.NoMemory ≡ PortFault.RingFull = e in cc)

@@ -7,9 +7,9 @@ use Rattle.nvme_model.specs.declared.operation.Op.{Op}
 use Rattle.nvme_model.specs.declared.submission.Submission.{Submission}
 use Rattle.host_laws.specs.Book.{cid_of}
 use Rattle.host_laws.proofs.Elements.{get_append}
-use Rattle.cid_table.specs.Cids.{Cids, held}
-use Rattle.cid_table.specs.declared.held.Held.{Held}
-use Rattle.driver_calls.specs.Log.{has_cid, has_free_cid, is_idle, is_tidy, is_tidy_batch, newest, number_in, sent}
+use Rattle.cid_table.specs.Cids.{QueueCids, held}
+use Rattle.cid_table.specs.declared.held.CidUse.{CidUse}
+use Rattle.driver_calls.specs.Log.{has_cid, has_free_cid, is_idle, is_tidy, is_tidy_batch, newest, newest_number, sent}
 use Rattle.driver_calls.specs.Log.{state_of}
 use Rattle.driver_calls.specs.Says.{IsCallIn, IsFusedIn, IsSingleIn}
 use Rattle.driver_calls.specs.Views.{since}
@@ -21,7 +21,7 @@ use Rattle.driver_calls.specs.declared.request.CallData.{CallData}
 use Rattle.driver_calls.proofs.Calls.{by_call, call_fused, call_single, one_made}
 use Rattle.driver_calls.proofs.Commands.{command_cid}
 use Rattle.driver_cas.specs.Starts.{IsSent, IsTaken}
-use Rattle.driver_cas.specs.Tables.{Matches, fits, is_its_cid}
+use Rattle.driver_cas.specs.Tables.{Matches, use_fits, is_its_cid}
 use Rattle.driver_cas.specs.Turns.{AreFree}
 use Rattle.driver_cas.proofs.Tables.{since_more}
 
@@ -57,9 +57,9 @@ batch_cids queue l n first second q i =
 
 -- ---- the log stays tidy
 
-free_idle : (cids : Cids) (log : List PortEvent) (q i : ℕ) → Matches cids log → held cids q i ≡ Held.Free
+free_idle : (cids : QueueCids) (log : List PortEvent) (q i : ℕ) → Matches cids log → held cids q i ≡ CidUse.Free
     → is_idle (state_of log q i) ≡ true
-free_idle cids log q i m e = ap (λ (h : Held). fits h (state_of log q i)) (sym e) ∙ m q i
+free_idle cids log q i m e = ap (λ (h : CidUse). use_fits h (state_of log q i)) (sym e) ∙ m q i
 
 free_cid : (log : List PortEvent) (q k : ℕ) (s : Submission) → cid_of s ≡ k → k < 64 → is_idle (state_of log q k) ≡ true
     → has_free_cid log q s ≡ true
@@ -67,7 +67,7 @@ free_cid log q k s e few idle =
     subst (λ (i : ℕ). (nat_lt i 65536 && is_idle (state_of log q i)) ≡ true) (sym e)
     (and_from (nat_lt k 65536) (is_idle (state_of log q k)) (lt-ltb k 65536 (omega (arith, few))) idle)
 
-pub batch_tidy : (cids : Cids) (log : List PortEvent) (queue l n first second : ℕ) (o : Op) (contents : CallData)
+pub batch_tidy : (cids : QueueCids) (log : List PortEvent) (queue l n first second : ℕ) (o : Op) (contents : CallData)
     (batch : List Submission) → Matches cids log → AreFree cids o queue first second
     → IsBatch o l n first second contents batch → is_tidy_batch log queue batch ≡ true
 batch_tidy cids log queue l n first second o contents batch m free is =
@@ -87,16 +87,17 @@ batch_tidy cids log queue l n first second o contents batch m free is =
 
 -- ---- the table fits
 
-pub sent_matches : (old new : Cids) (log : List PortEvent) (queue l n first second : ℕ) (o : Op) (contents : CallData)
+pub sent_matches : (old new : QueueCids) (log : List PortEvent) (queue l n first second : ℕ) (o : Op)
+    (contents : CallData)
     (batch : List Submission) → Matches old log → IsTaken old new o queue first second
     → IsBatch o l n first second contents batch → Matches new (PortEvent.Sent queue batch ∷ log)
 sent_matches old new log queue l n first second o contents batch m taken is q i =
     let its = is_its_cid o queue first second q i in
     let same = batch_cids queue l n first second q i o contents batch is in
     elim (cases_Bool its) [
-      | inl h ↦ ap₂ fits (taken q i ∙ cond-true its Held.Waiting (held old q i) h)
+      | inl h ↦ ap₂ use_fits (taken q i ∙ cond-true its CidUse.Waiting (held old q i) h)
           (cond-true (eqb queue q && has_cid i batch) CidState.Waiting (state_of log q i) (same ∙ h))
-      | inr h ↦ ap₂ fits (taken q i ∙ cond-false its Held.Waiting (held old q i) h)
+      | inr h ↦ ap₂ use_fits (taken q i ∙ cond-false its CidUse.Waiting (held old q i) h)
           (cond-false (eqb queue q && has_cid i batch) CidState.Waiting (state_of log q i) (same ∙ h)) ∙ m q i
     ]
 
@@ -118,7 +119,7 @@ sent_there log queue batch =
 
 newest_there : (log : List PortEvent) (queue i : ℕ) (batch : List Submission)
     → newest (PortEvent.Sent queue batch ∷ log) queue i
-    ≡ number_in (length (sent log queue)) batch i (newest log queue i)
+    ≡ newest_number (length (sent log queue)) batch i (newest log queue i)
 newest_there log queue i batch = cond-true (eqb queue queue) _ _ (eq-eqb queue queue refl)
 
 pub sent_call : (log : List PortEvent) (queue l n first second : ℕ) (o : Op) (contents : CallData)
@@ -164,7 +165,7 @@ unnamed : (log : List PortEvent) (queue q i : ℕ) (batch : List Submission) →
 unnamed log queue q i batch h = go (eqb queue q) h
   where
     go : (b : Bool) → (b && has_cid i batch) ≡ false
-        → cond b (number_in (length (sent log q)) batch i (newest log q i)) (newest log q i) ≡ newest log q i
+        → cond b (newest_number (length (sent log q)) batch i (newest log q i)) (newest log q i) ≡ newest log q i
     go true e = unnamed_number (length (sent log q)) batch i (newest log q i) e
     go false e = refl
 
@@ -212,7 +213,7 @@ other_call log queue batch q Op.WriteZeroes first second j a b h = (
 
 -- ---- what a driver's type keeps, after a Publish
 
-pub sent_keeps : (began before : List PortEvent) (old new : Cids) (queue l n first second : ℕ) (o : Op)
+pub sent_keeps : (began before : List PortEvent) (old new : QueueCids) (queue l n first second : ℕ) (o : Op)
     (contents : CallData) (batch : List Submission) → queue < 65536 → AreFree old o queue first second
     → IsTaken old new o queue first second → IsBatch o l n first second contents batch → length began ≤ length before
     → is_tidy (since began before) ≡ true → Matches old (since began before)
@@ -232,7 +233,7 @@ sent_keeps began before old new queue l n first second o contents batch narrow f
     )
 
 -- the same of a log that is the same
-pub as_kept : (began log more : List PortEvent) (cids : Cids) → log ≡ more
+pub as_kept : (began log more : List PortEvent) (cids : QueueCids) → log ≡ more
     → (length began ≤ length more) × (is_tidy (since began more) ≡ true) × Matches cids (since began more)
     → (length began ≤ length log) × (is_tidy (since began log) ≡ true) × Matches cids (since began log)
 as_kept began log more cids e =
@@ -240,7 +241,7 @@ as_kept began log more cids e =
     × Matches cids (since began xs)) (sym e)
 
 -- whether it was published or not
-pub send_keeps : (began before after : List PortEvent) (old new : Cids) (queue l n first second : ℕ) (o : Op)
+pub send_keeps : (began before after : List PortEvent) (old new : QueueCids) (queue l n first second : ℕ) (o : Op)
     (contents : CallData) (batch : List Submission) → queue < 65536 → AreFree old o queue first second
     → IsBatch o l n first second contents batch → length began ≤ length before → is_tidy (since began before) ≡ true
     → Matches old (since began before) → IsSent before after old new o queue first second batch
@@ -249,4 +250,5 @@ send_keeps began before after old new queue l n first second o contents batch na
     as_kept began after (PortEvent.Sent queue batch ∷ before) new s.0
     (sent_keeps began before old new queue l n first second o contents batch narrow free s.1 is few tidy m)
 send_keeps began before after old new queue l n first second o contents batch narrow free is few tidy m (inr s) =
-    as_kept began after before new s.0 (few, tidy, subst (λ (c : Cids). Matches c (since began before)) (sym s.1) m)
+    as_kept began after before new s.0
+    (few, tidy, subst (λ (c : QueueCids). Matches c (since began before)) (sym s.1) m)

@@ -9,20 +9,20 @@ use Rattle.nvme_model.specs.Operations.{is_pair}
 use Rattle.nvme_model.specs.declared.operation.Op.{Op}
 use Rattle.nvme_model.specs.declared.submission.Submission.{Submission}
 use Rattle.nvme_model.proofs.Written.{clash}
-use Rattle.cid_table.specs.Cids.{Cids, held}
-use Rattle.cid_table.specs.declared.held.Held.{Held}
+use Rattle.cid_table.specs.Cids.{QueueCids, held}
+use Rattle.cid_table.specs.declared.held.CidUse.{CidUse}
 use Rattle.driver_calls.specs.Log.{has_cid, sent}
 use Rattle.driver_calls.specs.Says.{IsCallIn}
 use Rattle.driver_calls.specs.Views.{since}
 use Rattle.driver_calls.specs.declared.event.PortEvent.{PortEvent}
 use Rattle.driver_calls.specs.declared.request.CallData.{CallData}
 use Rattle.driver_calls.specs.declared.request.Request.{Request}
-use Rattle.driver_cas.specs.Drivers.{HasSettings, IsApart, IsCallOf, IsSame, made, number_of}
+use Rattle.driver_cas.specs.Drivers.{HasSettings, SharesNoCid, IsCallOf, IsSameDriver, made, number_of}
 use Rattle.driver_cas.specs.Requests.{IsStart}
 use Rattle.driver_cas.specs.SlotStarts.{IsClaimStart, IsReleaseStart, release_data, swap_request}
 use Rattle.driver_cas.specs.Starts.{IsAsBefore, IsStarted, IsTaken, IsUntouched}
 use Rattle.driver_cas.specs.Tables.{IsHeld, is_free, is_its_cid}
-use Rattle.driver_cas.specs.Tries.{IsBegun, Sends}
+use Rattle.driver_cas.specs.Tries.{IsTryBegun, Sends}
 use Rattle.driver_cas.specs.Turns.{AreFree, IsTurn}
 use Rattle.driver_cas.specs.declared.call.Call.{Call}
 use Rattle.driver_cas.specs.declared.driver.Driver.{Driver}
@@ -33,11 +33,11 @@ use Rattle.driver_cas.proofs.Sending.{batch_cids, other_call, sent_call}
 use Rattle.driver_cas.proofs.Tables.{since_more}
 
 -- the CIDs that a call takes were free
-its_free : (cids : Cids) (o : Op) (queue first second q i : ℕ) → AreFree cids o queue first second
+its_free : (cids : QueueCids) (o : Op) (queue first second q i : ℕ) → AreFree cids o queue first second
     → is_its_cid o queue first second q i ≡ true → is_free (held cids q i) ≡ true
 its_free cids o queue first second q i free h =
     let a = and_parts (eqb q queue) (eqb i first || (is_pair (Some o) && eqb i second)) h in
-    let at : (k : ℕ) → held cids queue k ≡ Held.Free → i ≡ k → is_free (held cids q i) ≡ true =
+    let at : (k : ℕ) → held cids queue k ≡ CidUse.Free → i ≡ k → is_free (held cids q i) ≡ true =
     λ k e j. ap is_free (ap₂ (held cids) (eqb-true q queue a.0) j ∙ e) in
     elim (or_cases (eqb i first) (is_pair (Some o) && eqb i second) a.1) [
       | inl y ↦ at first free.first_free (eqb-true i first y)
@@ -45,7 +45,7 @@ its_free cids o queue first second q i free h =
     ]
 
 -- those that one has are not
-its_held : (cids : Cids) (o : Op) (queue first second q i : ℕ) → IsHeld cids o queue first second
+its_held : (cids : QueueCids) (o : Op) (queue first second q i : ℕ) → IsHeld cids o queue first second
     → is_its_cid o queue first second q i ≡ true → is_free (held cids q i) ≡ false
 its_held cids o queue first second q i in_use h =
     let a = and_parts (eqb q queue) (eqb i first || (is_pair (Some o) && eqb i second)) h in
@@ -58,7 +58,7 @@ its_held cids o queue first second q i in_use h =
     ]
 
 -- a CID in use isn't among them
-not_taken : (cids : Cids) (o : Op) (queue first second q i : ℕ) → AreFree cids o queue first second
+not_taken : (cids : QueueCids) (o : Op) (queue first second q i : ℕ) → AreFree cids o queue first second
     → is_free (held cids q i) ≡ false → is_its_cid o queue first second q i ≡ false
 not_taken cids o queue first second q i free h = elim (cases_Bool (is_its_cid o queue first second q i)) [
   | inr e ↦ e
@@ -66,16 +66,16 @@ not_taken cids o queue first second q i free h = elim (cases_Bool (is_its_cid o 
 ]
 
 -- it waits under those that it took
-taken_held : (old new : Cids) (o : Op) (queue first second q i : ℕ) → IsTaken old new o queue first second
+taken_held : (old new : QueueCids) (o : Op) (queue first second q i : ℕ) → IsTaken old new o queue first second
     → is_its_cid o queue first second q i ≡ true → is_free (held new q i) ≡ false
 taken_held old new o queue first second q i taken h =
-    ap is_free (taken q i ∙ cond-true (is_its_cid o queue first second q i) Held.Waiting (held old q i) h)
+    ap is_free (taken q i ∙ cond-true (is_its_cid o queue first second q i) CidUse.Waiting (held old q i) h)
 
 -- and those in use stay so
-kept_held : (old new : Cids) (o : Op) (queue first second q i : ℕ) → IsTaken old new o queue first second
+kept_held : (old new : QueueCids) (o : Op) (queue first second q i : ℕ) → IsTaken old new o queue first second
     → AreFree old o queue first second → is_free (held old q i) ≡ false → is_free (held new q i) ≡ false
 kept_held old new o queue first second q i taken free h =
-    ap is_free (taken q i ∙ cond-false (is_its_cid o queue first second q i) Held.Waiting (held old q i)
+    ap is_free (taken q i ∙ cond-false (is_its_cid o queue first second q i) CidUse.Waiting (held old q i)
     (not_taken old o queue first second q i free h)) ∙ h
 
 module _ {P : Type 0} (g : Ghosts P) where
@@ -105,7 +105,7 @@ module _ {P : Type 0} (g : Ghosts P) where
   now_others : ((a b c : P) → g.follows a b → g.follows b c → g.follows a c)
       → (d e : Driver P g) (k : Call P) (l n : ℕ) (contents : CallData) (batch : List Submission)
       → Sends d e k l n contents batch
-      → (other : Call P) → IsCallOf d other → IsCallOf e other × IsApart k other
+      → (other : Call P) → IsCallOf d other → IsCallOf e other × SharesNoCid k other
   now_others on d e k l n contents batch s other of =
       let apart : (i : ℕ) → is_free (held d.cids other.queue i) ≡ false
       → (eqb k.queue other.queue && has_cid i batch) ≡ false = λ i h.
@@ -142,7 +142,7 @@ module _ {P : Type 0} (g : Ghosts P) where
         as_before = (refl, refl);
       }
 
-  same_on : (d e f : Driver P g) → IsSame d e → IsSame e f → IsSame d f
+  same_on : (d e f : Driver P g) → IsSameDriver d e → IsSameDriver e f → IsSameDriver d f
   same_on d e f x y =
       record {
         began = y.began ∙ x.began;
@@ -154,7 +154,7 @@ module _ {P : Type 0} (g : Ghosts P) where
       }
 
   pub untouched_on : ((a b c : P) → g.follows a b → g.follows b c → g.follows a c) → (d e f : Driver P g)
-      → IsUntouched d e → IsSame e f → g.follows e.port f.port → IsAsBefore e f → IsUntouched d f
+      → IsUntouched d e → IsSameDriver e f → g.follows e.port f.port → IsAsBefore e f → IsUntouched d f
   untouched_on on d e f x same later before =
       record {
         same = same_on d e f x.same same;
@@ -174,16 +174,16 @@ module _ {P : Type 0} (g : Ghosts P) where
         does = refl;
         turn = subst (λ (p : P). IsTurn d p (record { op = k.op; slba = l; blocks = n }) contents k.queue) (sym s.start)
             turn;
-        free = subst (λ (c : Cids). AreFree c k.op k.queue k.first k.second) x.as_before.1 s.free;
+        free = subst (λ (c : QueueCids). AreFree c k.op k.queue k.first k.second) x.as_before.1 s.free;
         since = subst (λ (p : P). g.follows d.port p) (sym s.start) x.later;
         accepted = subst (λ (p : P). g.accepts p f.port k.queue batch) (sym s.start) s.accepted;
         published = now_made e f k l n contents batch s
             ∙ ap (λ (log : List PortEvent). PortEvent.Sent k.queue batch ∷ log) x.as_before.0;
-        taken = subst (λ (c : Cids). IsTaken c f.cids k.op k.queue k.first k.second) x.as_before.1 s.taken;
+        taken = subst (λ (c : QueueCids). IsTaken c f.cids k.op k.queue k.first k.second) x.as_before.1 s.taken;
         of = now_of e f k l n contents batch s;
         others = λ other of. now_others on e f k l n contents batch s other
             (reaped_calls g on d e other x.same x.later (inl x.as_before.0)
-            (λ q i. ap (λ (c : Cids). is_free (held c q i)) x.as_before.1) of);
+            (λ q i. ap (λ (c : QueueCids). is_free (held c q i)) x.as_before.1) of);
       }
 
   pub begun : ((a b c : P) → g.follows a b → g.follows b c → g.follows a c)
@@ -201,28 +201,29 @@ module _ {P : Type 0} (g : Ghosts P) where
   -- ---- what a start call keeps
 
   -- after a fault
-  kept : ((a b c : P) → g.follows a b → g.follows b c → g.follows a c) → (d e : Driver P g) → IsSame d e
+  kept : ((a b c : P) → g.follows a b → g.follows b c → g.follows a c) → (d e : Driver P g) → IsSameDriver d e
       → g.follows d.port e.port → IsAsBefore d e → (k : Call P) → IsCallOf d k → IsCallOf e k
   kept on d e same later x k of =
-      reaped_calls g on d e k same later (inl x.0) (λ q i. ap (λ (c : Cids). is_free (held c q i)) x.1) of
+      reaped_calls g on d e k same later (inl x.0) (λ q i. ap (λ (c : QueueCids). is_free (held c q i)) x.1) of
 
   begun_keeps : ((a b c : P) → g.follows a b → g.follows b c → g.follows a c)
-      → (d e : Driver P g) (q : Request) (contents : CallData) (r : Result (Call P) Fault) → IsSame d e
-      → g.follows d.port e.port → IsBegun d e q contents r
-      → IfOk r (IsCallOf e) × ((k : Call P) → IsCallOf d k → IsCallOf e k × IfOk r (λ begun. IsApart begun k))
+      → (d e : Driver P g) (q : Request) (contents : CallData) (r : Result (Call P) Fault) → IsSameDriver d e
+      → g.follows d.port e.port → IsTryBegun d e q contents r
+      → IfOk r (IsCallOf e) × ((k : Call P) → IsCallOf d k → IsCallOf e k × IfOk r (λ begun. SharesNoCid begun k))
   begun_keeps on d e q contents (Ok k) same later s = (s.of, λ other of. s.others other of)
   begun_keeps on d e q contents (Err f) same later s = (tt, λ other of. (kept on d e same later s.0 other of, tt))
 
   pub start_keeps : ((a b c : P) → g.follows a b → g.follows b c → g.follows a c)
-      → (d e : Driver P g) (asked : Result Request Fault) (contents : CallData) (r : Result (Call P) Fault) → IsSame d e
+      → (d e : Driver P g) (asked : Result Request Fault) (contents : CallData) (r : Result (Call P) Fault)
+      → IsSameDriver d e
       → g.follows d.port e.port → IsStart d e asked contents r
-      → IfOk r (IsCallOf e) × ((k : Call P) → IsCallOf d k → IsCallOf e k × IfOk r (λ begun. IsApart begun k))
+      → IfOk r (IsCallOf e) × ((k : Call P) → IsCallOf d k → IsCallOf e k × IfOk r (λ begun. SharesNoCid begun k))
   start_keeps on d e (Ok q) contents r same later s = begun_keeps on d e q contents r same later s
   start_keeps on d e (Err f) contents r same later s = (
     subst (λ (x : Result (Call P) Fault). IfOk x (IsCallOf e)) (sym s.0) tt,
     λ other of. (
       kept on d e same later s.1 other of,
-      subst (λ (x : Result (Call P) Fault). IfOk x (λ begun. IsApart begun other)) (sym s.0) tt,
+      subst (λ (x : Result (Call P) Fault). IfOk x (λ begun. SharesNoCid begun other)) (sym s.0) tt,
     ),
   )
 
@@ -230,10 +231,10 @@ module _ {P : Type 0} (g : Ghosts P) where
       → (d e : Driver P g) (lba : ℕ) (r : Result (Call P × ℕ) Fault) → HasSettings d e → g.follows d.port e.port
       → IsClaimStart d e lba r
       → IfOk r (λ begun. IsCallOf e begun.0)
-      × ((k : Call P) → IsCallOf d k → IsCallOf e k × IfOk r (λ begun. IsApart begun.0 k))
+      × ((k : Call P) → IsCallOf d k → IsCallOf e k × IfOk r (λ begun. SharesNoCid begun.0 k))
   claim_keeps on d e lba (Ok k) settings later s = (s.2.of, λ other of. s.2.others other of)
   claim_keeps on d e lba (Err f) settings later s =
-      let same : IsSame d e = record {
+      let same : IsSameDriver d e = record {
         began = settings.began;
         host = settings.host;
         acwu = settings.acwu;
@@ -244,8 +245,8 @@ module _ {P : Type 0} (g : Ghosts P) where
       (tt, λ other of. (kept on d e same later s.1 other of, tt))
 
   pub release_keeps : ((a b c : P) → g.follows a b → g.follows b c → g.follows a c)
-      → (d e : Driver P g) (lba serial : ℕ) (r : Result (Call P) Fault) → IsSame d e → g.follows d.port e.port
+      → (d e : Driver P g) (lba serial : ℕ) (r : Result (Call P) Fault) → IsSameDriver d e → g.follows d.port e.port
       → IsReleaseStart d e lba serial r
-      → IfOk r (IsCallOf e) × ((k : Call P) → IsCallOf d k → IsCallOf e k × IfOk r (λ begun. IsApart begun k))
+      → IfOk r (IsCallOf e) × ((k : Call P) → IsCallOf d k → IsCallOf e k × IfOk r (λ begun. SharesNoCid begun k))
   release_keeps on d e lba serial r same later s =
       begun_keeps on d e (swap_request lba) (release_data d.host serial) r same later s

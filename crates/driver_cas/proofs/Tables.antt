@@ -4,27 +4,27 @@ use Rattle.std.proofs.Common.{ap, ap₂, ◌∙◌, subst, inl, inr, eqb-true, e
 use Rattle.std.proofs.Common.{◌≤◌, ◌||◌}
 use Rattle.std.specs.Prelude.{IfNone, IfSome, bytes_eq}
 use Rattle.std.proofs.lemmas.Slice.Eq.{bytes_eq-Decides}
-use Rattle.driver_calls.specs.Answers.{answer_of, pair_answer_of}
+use Rattle.driver_calls.specs.Answers.{command_answer, pair_answer_of}
 use Rattle.std.proofs.lemmas.Bool.{and_parts, and_from, cases_Bool, cond-true, cond-false, or_cases}
 use Rattle.nvme_model.specs.EntryBytes.{cqe_fields}
 use Rattle.nvme_model.specs.EntryBytes.{Cqe as CqeFields}
 use Rattle.nvme_model.specs.Statuses.{same_status}
 use Rattle.nvme_model.specs.declared.operation.Op.{Op}
 use Rattle.nvme_model.specs.declared.status.Status.{Status}
-use Rattle.host_laws.specs.Calls.{is_clean, status_in}
+use Rattle.host_laws.specs.Calls.{is_clean, cqe_status}
 use Rattle.entry_codec.specs.Cqe.{completion_fields}
 use Rattle.entry_codec.specs.declared.cqe.Cqe.{Cqe}
 use Rattle.nvme_model.proofs.Written.{clash}
-use Rattle.cid_table.specs.Cids.{ChangesOnly, Cids, answered, held, status_of}
-use Rattle.cid_table.specs.declared.held.Held.{Held}
+use Rattle.cid_table.specs.Cids.{ChangesOnly, QueueCids, answered, held, answered_status}
+use Rattle.cid_table.specs.declared.held.CidUse.{CidUse}
 use Rattle.nvme_model.specs.Operations.{is_pair}
 use Rattle.driver_calls.specs.Log.{after_got, is_idle, is_tidy, names_cid, state_of}
 use Rattle.driver_calls.specs.Views.{since}
-use Rattle.driver_calls.specs.Says.{one_outcome, outcome, pair_outcome}
+use Rattle.driver_calls.specs.Says.{one_outcome, call_outcome, pair_outcome}
 use Rattle.driver_calls.specs.declared.event.CidState.{CidState}
 use Rattle.driver_calls.specs.declared.event.PortEvent.{PortEvent}
 use Rattle.driver_calls.specs.declared.reply.Reply.{Reply}
-use Rattle.driver_cas.specs.Tables.{IsHeld, IsReleased, Matches, Reaps, is_its_cid, fits, is_free, one_answer}
+use Rattle.driver_cas.specs.Tables.{IsHeld, AreCidsReleased, Matches, Reaps, is_its_cid, use_fits, is_free, one_answer}
 use Rattle.driver_cas.specs.Tables.{pair_answer, table_outcome}
 
 bytes_self : (p : List ℕ) → bytes_eq p p ≡ true
@@ -36,18 +36,18 @@ bytes_same p q h = (bytes_eq-Decides p q).0 h
 -- ---- a completion
 
 -- where a completion names the CID
-named_fits : (h : Held) (st : CidState) (cqe payload : List ℕ) (status : Status)
-    → same_status (status_in cqe) status ≡ true → bytes_eq payload payload ≡ true → fits h st ≡ true
-    → fits (answered h status payload) (after_got true cqe payload st) ≡ true
-named_fits Held.Free CidState.Idle cqe payload status s b f = refl
-named_fits Held.Free CidState.Waiting cqe payload status s b f = absurd (let g : false ≡ true = f in cc)
-named_fits Held.Free (CidState.Answered c p) cqe payload status s b f = refl
-named_fits Held.Waiting CidState.Idle cqe payload status s b f = absurd (let g : false ≡ true = f in cc)
-named_fits Held.Waiting CidState.Waiting cqe payload status s b f = and_from _ _ s b
-named_fits Held.Waiting (CidState.Answered c p) cqe payload status s b f = absurd (let g : false ≡ true = f in cc)
-named_fits (Held.Answered r q) CidState.Idle cqe payload status s b f = absurd (let g : false ≡ true = f in cc)
-named_fits (Held.Answered r q) CidState.Waiting cqe payload status s b f = absurd (let g : false ≡ true = f in cc)
-named_fits (Held.Answered r q) (CidState.Answered c p) cqe payload status s b f = f
+named_fits : (h : CidUse) (st : CidState) (cqe payload : List ℕ) (status : Status)
+    → same_status (cqe_status cqe) status ≡ true → bytes_eq payload payload ≡ true → use_fits h st ≡ true
+    → use_fits (answered h status payload) (after_got true cqe payload st) ≡ true
+named_fits CidUse.Free CidState.Idle cqe payload status s b f = refl
+named_fits CidUse.Free CidState.Waiting cqe payload status s b f = absurd (let g : false ≡ true = f in cc)
+named_fits CidUse.Free (CidState.Answered c p) cqe payload status s b f = refl
+named_fits CidUse.Waiting CidState.Idle cqe payload status s b f = absurd (let g : false ≡ true = f in cc)
+named_fits CidUse.Waiting CidState.Waiting cqe payload status s b f = and_from _ _ s b
+named_fits CidUse.Waiting (CidState.Answered c p) cqe payload status s b f = absurd (let g : false ≡ true = f in cc)
+named_fits (CidUse.Answered r q) CidState.Idle cqe payload status s b f = absurd (let g : false ≡ true = f in cc)
+named_fits (CidUse.Answered r q) CidState.Waiting cqe payload status s b f = absurd (let g : false ≡ true = f in cc)
+named_fits (CidUse.Answered r q) (CidState.Answered c p) cqe payload status s b f = f
 
 -- ---- what a call is answered
 
@@ -56,45 +56,46 @@ same_answer s r h =
     let a = and_parts (eqb s.sct r.sct) (eqb s.sc r.sc) h in
     ap₂ (λ (x y : ℕ). record { sct = x; sc = y }) (eqb-true s.sct r.sct a.0) (eqb-true s.sc r.sc a.1)
 
-one_told : (o : Op) (h : Held) (st : CidState) → fits h st ≡ true → is_free h ≡ false
+one_told : (o : Op) (h : CidUse) (st : CidState) → use_fits h st ≡ true → is_free h ≡ false
     → one_outcome o st ≡ one_answer o h
-one_told o Held.Free st f e = absurd (let g : true ≡ false = e in cc)
-one_told o Held.Waiting CidState.Idle f e = absurd (let g : false ≡ true = f in cc)
-one_told o Held.Waiting CidState.Waiting f e = refl
-one_told o Held.Waiting (CidState.Answered c p) f e = absurd (let g : false ≡ true = f in cc)
-one_told o (Held.Answered r q) CidState.Idle f e = absurd (let g : false ≡ true = f in cc)
-one_told o (Held.Answered r q) CidState.Waiting f e = absurd (let g : false ≡ true = f in cc)
-one_told o (Held.Answered r q) (CidState.Answered c p) f e =
-    let a = and_parts (same_status (status_in c) r) (bytes_eq p q) f in
-    ap₂ (λ (s : Status) (b : List ℕ). Some (answer_of o s b)) (same_answer (status_in c) r a.0) (bytes_same p q a.1)
+one_told o CidUse.Free st f e = absurd (let g : true ≡ false = e in cc)
+one_told o CidUse.Waiting CidState.Idle f e = absurd (let g : false ≡ true = f in cc)
+one_told o CidUse.Waiting CidState.Waiting f e = refl
+one_told o CidUse.Waiting (CidState.Answered c p) f e = absurd (let g : false ≡ true = f in cc)
+one_told o (CidUse.Answered r q) CidState.Idle f e = absurd (let g : false ≡ true = f in cc)
+one_told o (CidUse.Answered r q) CidState.Waiting f e = absurd (let g : false ≡ true = f in cc)
+one_told o (CidUse.Answered r q) (CidState.Answered c p) f e =
+    let a = and_parts (same_status (cqe_status c) r) (bytes_eq p q) f in
+    ap₂ (λ (s : Status) (b : List ℕ). Some (command_answer o s b)) (same_answer (cqe_status c) r a.0)
+    (bytes_same p q a.1)
 
-pair_told : (h g : Held) (st su : CidState) → fits h st ≡ true → is_free h ≡ false → fits g su ≡ true
+pair_told : (h g : CidUse) (st su : CidState) → use_fits h st ≡ true → is_free h ≡ false → use_fits g su ≡ true
     → is_free g ≡ false → pair_outcome st su ≡ pair_answer h g
-pair_told Held.Free g st su f e d k = absurd (let x : true ≡ false = e in cc)
-pair_told h Held.Free st su f e d k = absurd (let x : true ≡ false = k in cc)
-pair_told Held.Waiting g CidState.Idle su f e d k = absurd (let x : false ≡ true = f in cc)
-pair_told Held.Waiting g CidState.Waiting su f e d k = refl
-pair_told Held.Waiting g (CidState.Answered c p) su f e d k = absurd (let x : false ≡ true = f in cc)
-pair_told (Held.Answered r q) g CidState.Idle su f e d k = absurd (let x : false ≡ true = f in cc)
-pair_told (Held.Answered r q) g CidState.Waiting su f e d k = absurd (let x : false ≡ true = f in cc)
-pair_told (Held.Answered r q) Held.Waiting (CidState.Answered c p) CidState.Idle f e d k =
+pair_told CidUse.Free g st su f e d k = absurd (let x : true ≡ false = e in cc)
+pair_told h CidUse.Free st su f e d k = absurd (let x : true ≡ false = k in cc)
+pair_told CidUse.Waiting g CidState.Idle su f e d k = absurd (let x : false ≡ true = f in cc)
+pair_told CidUse.Waiting g CidState.Waiting su f e d k = refl
+pair_told CidUse.Waiting g (CidState.Answered c p) su f e d k = absurd (let x : false ≡ true = f in cc)
+pair_told (CidUse.Answered r q) g CidState.Idle su f e d k = absurd (let x : false ≡ true = f in cc)
+pair_told (CidUse.Answered r q) g CidState.Waiting su f e d k = absurd (let x : false ≡ true = f in cc)
+pair_told (CidUse.Answered r q) CidUse.Waiting (CidState.Answered c p) CidState.Idle f e d k =
     absurd (let x : false ≡ true = d in cc)
-pair_told (Held.Answered r q) Held.Waiting (CidState.Answered c p) CidState.Waiting f e d k = refl
-pair_told (Held.Answered r q) Held.Waiting (CidState.Answered c p) (CidState.Answered x y) f e d k =
+pair_told (CidUse.Answered r q) CidUse.Waiting (CidState.Answered c p) CidState.Waiting f e d k = refl
+pair_told (CidUse.Answered r q) CidUse.Waiting (CidState.Answered c p) (CidState.Answered x y) f e d k =
     absurd (let z : false ≡ true = d in cc)
-pair_told (Held.Answered r q) (Held.Answered s t) (CidState.Answered c p) CidState.Idle f e d k =
+pair_told (CidUse.Answered r q) (CidUse.Answered s t) (CidState.Answered c p) CidState.Idle f e d k =
     absurd (let x : false ≡ true = d in cc)
-pair_told (Held.Answered r q) (Held.Answered s t) (CidState.Answered c p) CidState.Waiting f e d k =
+pair_told (CidUse.Answered r q) (CidUse.Answered s t) (CidState.Answered c p) CidState.Waiting f e d k =
     absurd (let x : false ≡ true = d in cc)
-pair_told (Held.Answered r q) (Held.Answered s t) (CidState.Answered c p) (CidState.Answered x y) f e d k =
+pair_told (CidUse.Answered r q) (CidUse.Answered s t) (CidState.Answered c p) (CidState.Answered x y) f e d k =
     ap₂ (λ (u v : Status). Some (pair_answer_of u v))
-    (same_answer (status_in c) r (and_parts (same_status (status_in c) r) (bytes_eq p q) f).0)
-    (same_answer (status_in x) s (and_parts (same_status (status_in x) s) (bytes_eq y t) d).0)
+    (same_answer (cqe_status c) r (and_parts (same_status (cqe_status c) r) (bytes_eq p q) f).0)
+    (same_answer (cqe_status x) s (and_parts (same_status (cqe_status x) s) (bytes_eq y t) d).0)
 
 -- the table tells what a call is answered whose CIDs are in use
-pub table_tells : (cids : Cids) (log : List PortEvent) (o : Op) (queue first second : ℕ) → Matches cids log
+pub table_tells : (cids : QueueCids) (log : List PortEvent) (o : Op) (queue first second : ℕ) → Matches cids log
     → IsHeld cids o queue first second
-    → table_outcome o (held cids queue first) (held cids queue second) ≡ outcome log queue o first second
+    → table_outcome o (held cids queue first) (held cids queue second) ≡ call_outcome log queue o first second
 table_tells cids log Op.Pair queue first second m u =
     sym (pair_told _ _ _ _ (m queue first) u.0 (m queue second) (u.1 refl))
 table_tells cids log Op.Read queue first second m u = sym (one_told Op.Read _ _ (m queue first) u.0)
@@ -108,7 +109,7 @@ record Reads (cqe : List ℕ) (k : Cqe) : Type 0 where
   clean : is_clean cqe ≡ true
   sqid : (cqe_fields cqe).sqid ≡ k.sqid
   cid : (cqe_fields cqe).cid ≡ k.cid
-  status : status_in cqe ≡ k.status
+  status : cqe_status cqe ≡ k.status
 
 reads : (cqe : List ℕ) (k : Cqe) → completion_fields k ≡ cqe_fields cqe → Reads cqe k
 reads cqe k h =
@@ -143,7 +144,7 @@ unnamed cqe payload CidState.Waiting = refl
 unnamed cqe payload (CidState.Answered c p) = refl
 
 -- the table fits what came with the completion
-pub got_matches : (old new : Cids) (cqe payload : List ℕ) (k : Cqe) → completion_fields k ≡ cqe_fields cqe
+pub got_matches : (old new : QueueCids) (cqe payload : List ℕ) (k : Cqe) → completion_fields k ≡ cqe_fields cqe
     → ChangesOnly old new k.sqid k.cid (answered (held old k.sqid k.cid) k.status payload)
     → (log : List PortEvent) → Matches old log → Matches new (PortEvent.Got cqe payload ∷ log)
 got_matches old new cqe payload k fields changes log m q i =
@@ -154,52 +155,53 @@ got_matches old new cqe payload k fields changes log m q i =
           let a = and_parts (eqb q k.sqid) (eqb i k.cid) h in
           let same : state_of log q i ≡ state_of log k.sqid k.cid =
           ap₂ (state_of log) (eqb-true q k.sqid a.0) (eqb-true i k.cid a.1) in
-          ap₂ fits (changes q i ∙ cond-true _ _ _ h)
+          ap₂ use_fits (changes q i ∙ cond-true _ _ _ h)
           (ap₂ (λ (b : Bool) (st : CidState). after_got b cqe payload st) (n ∙ h) same)
           ∙ named_fits (held old k.sqid k.cid) (state_of log k.sqid k.cid) cqe payload k.status
           (ap (λ (s : Status). same_status s k.status) r.status ∙ same_self k.status) (bytes_self payload)
           (m k.sqid k.cid)
       | inr h ↦
-          ap₂ fits (changes q i ∙ cond-false _ _ _ h)
+          ap₂ use_fits (changes q i ∙ cond-false _ _ _ h)
           (ap (λ (b : Bool). after_got b cqe payload (state_of log q i)) (n ∙ h)
           ∙ unnamed cqe payload (state_of log q i)) ∙ m q i
     ]
 
 -- whether there is one, by the statuses
-pub pair_answered : (h k : Held) → (is_some (status_of h) && is_some (status_of k)) ≡ is_some (pair_answer h k)
-pair_answered Held.Free Held.Free = refl
-pair_answered Held.Free Held.Waiting = refl
-pair_answered Held.Free (Held.Answered s p) = refl
-pair_answered Held.Waiting Held.Free = refl
-pair_answered Held.Waiting Held.Waiting = refl
-pair_answered Held.Waiting (Held.Answered s p) = refl
-pair_answered (Held.Answered t q) Held.Free = refl
-pair_answered (Held.Answered t q) Held.Waiting = refl
-pair_answered (Held.Answered t q) (Held.Answered s p) = refl
+pub pair_answered : (h k : CidUse)
+    → (is_some (answered_status h) && is_some (answered_status k)) ≡ is_some (pair_answer h k)
+pair_answered CidUse.Free CidUse.Free = refl
+pair_answered CidUse.Free CidUse.Waiting = refl
+pair_answered CidUse.Free (CidUse.Answered s p) = refl
+pair_answered CidUse.Waiting CidUse.Free = refl
+pair_answered CidUse.Waiting CidUse.Waiting = refl
+pair_answered CidUse.Waiting (CidUse.Answered s p) = refl
+pair_answered (CidUse.Answered t q) CidUse.Free = refl
+pair_answered (CidUse.Answered t q) CidUse.Waiting = refl
+pair_answered (CidUse.Answered t q) (CidUse.Answered s p) = refl
 
 -- ---- an answer that is taken
 
 -- where there is an answer the first CID, and a pair's second, was answered
-is_answered : Held → Bool
-is_answered (Held.Answered status payload) = true
+is_answered : CidUse → Bool
+is_answered (CidUse.Answered status payload) = true
 is_answered _ = false
 
-one_given : (o : Op) (h : Held) (x : Result Reply Status) → one_answer o h ≡ Some x → is_answered h ≡ true
+one_given : (o : Op) (h : CidUse) (x : Result Reply Status) → one_answer o h ≡ Some x → is_answered h ≡ true
 unfolding is_answered
-one_given o Held.Free x e = absurd (let g : None ≡ Some x = e in cc)
-one_given o Held.Waiting x e = absurd (let g : None ≡ Some x = e in cc)
-one_given o (Held.Answered s p) x e = refl
+one_given o CidUse.Free x e = absurd (let g : None ≡ Some x = e in cc)
+one_given o CidUse.Waiting x e = absurd (let g : None ≡ Some x = e in cc)
+one_given o (CidUse.Answered s p) x e = refl
 
-pair_given : (h k : Held) (x : Result Reply Status) → pair_answer h k ≡ Some x
+pair_given : (h k : CidUse) (x : Result Reply Status) → pair_answer h k ≡ Some x
     → (is_answered h ≡ true) × (is_answered k ≡ true)
 unfolding is_answered
-pair_given Held.Free k x e = absurd (let g : None ≡ Some x = e in cc)
-pair_given Held.Waiting k x e = absurd (let g : None ≡ Some x = e in cc)
-pair_given (Held.Answered s p) Held.Free x e = absurd (let g : None ≡ Some x = e in cc)
-pair_given (Held.Answered s p) Held.Waiting x e = absurd (let g : None ≡ Some x = e in cc)
-pair_given (Held.Answered s p) (Held.Answered t q) x e = (refl, refl)
+pair_given CidUse.Free k x e = absurd (let g : None ≡ Some x = e in cc)
+pair_given CidUse.Waiting k x e = absurd (let g : None ≡ Some x = e in cc)
+pair_given (CidUse.Answered s p) CidUse.Free x e = absurd (let g : None ≡ Some x = e in cc)
+pair_given (CidUse.Answered s p) CidUse.Waiting x e = absurd (let g : None ≡ Some x = e in cc)
+pair_given (CidUse.Answered s p) (CidUse.Answered t q) x e = (refl, refl)
 
-given : (o : Op) (h k : Held) (x : Result Reply Status) → table_outcome o h k ≡ Some x
+given : (o : Op) (h k : CidUse) (x : Result Reply Status) → table_outcome o h k ≡ Some x
     → (is_answered h ≡ true) × (is_pair (Some o) ≡ true → is_answered k ≡ true)
 given Op.Pair h k x e = let a = pair_given h k x e in (a.0, λ p. a.1)
 given Op.Read h k x e = (one_given Op.Read h x e, λ p. absurd (let g : false ≡ true = p in cc))
@@ -207,17 +209,18 @@ given Op.Compare h k x e = (one_given Op.Compare h x e, λ p. absurd (let g : fa
 given Op.Write h k x e = (one_given Op.Write h x e, λ p. absurd (let g : false ≡ true = p in cc))
 given Op.WriteZeroes h k x e = (one_given Op.WriteZeroes h x e, λ p. absurd (let g : false ≡ true = p in cc))
 
-answered_idle : (h : Held) (st : CidState) → fits h st ≡ true → is_answered h ≡ true → is_idle st ≡ true
+answered_idle : (h : CidUse) (st : CidState) → use_fits h st ≡ true → is_answered h ≡ true → is_idle st ≡ true
 unfolding is_answered
-answered_idle Held.Free st f a = absurd (let g : false ≡ true = a in cc)
-answered_idle Held.Waiting st f a = absurd (let g : false ≡ true = a in cc)
-answered_idle (Held.Answered s p) CidState.Idle f a = refl
-answered_idle (Held.Answered s p) CidState.Waiting f a = absurd (let g : false ≡ true = f in cc)
-answered_idle (Held.Answered s p) (CidState.Answered c q) f a = refl
+answered_idle CidUse.Free st f a = absurd (let g : false ≡ true = a in cc)
+answered_idle CidUse.Waiting st f a = absurd (let g : false ≡ true = a in cc)
+answered_idle (CidUse.Answered s p) CidState.Idle f a = refl
+answered_idle (CidUse.Answered s p) CidState.Waiting f a = absurd (let g : false ≡ true = f in cc)
+answered_idle (CidUse.Answered s p) (CidState.Answered c q) f a = refl
 
 -- the table without the call fits what there was
-pub taken_matches : (old new : Cids) (log : List PortEvent) (o : Op) (queue first second : ℕ) (x : Result Reply Status)
-    → Matches old log → IsReleased old new o queue first second
+pub taken_matches : (old new : QueueCids) (log : List PortEvent) (o : Op) (queue first second : ℕ)
+    (x : Result Reply Status)
+    → Matches old log → AreCidsReleased old new o queue first second
     → table_outcome o (held old queue first) (held old queue second) ≡ Some x → Matches new log
 taken_matches old new log o queue first second x m changes told q i =
     let a = given o (held old queue first) (held old queue second) x told in
@@ -225,11 +228,11 @@ taken_matches old new log o queue first second x m changes told q i =
     → is_idle (state_of log q i) ≡ true = λ cid b e f.
     answered_idle (held old q i) (state_of log q i) (m q i) (ap₂ (λ (r j : ℕ). is_answered (held old r j)) f e ∙ b) in
     elim (cases_Bool (is_its_cid o queue first second q i)) [
-      | inr h ↦ ap (λ (k : Held). fits k (state_of log q i)) (changes q i ∙ cond-false _ _ _ h) ∙ m q i
+      | inr h ↦ ap (λ (k : CidUse). use_fits k (state_of log q i)) (changes q i ∙ cond-false _ _ _ h) ∙ m q i
       | inl h ↦
           let b = and_parts (eqb q queue) (eqb i first || (is_pair (Some o) && eqb i second)) h in
           let f = eqb-true q queue b.0 in
-          ap (λ (k : Held). fits k (state_of log q i)) (changes q i ∙ cond-true _ _ _ h)
+          ap (λ (k : CidUse). use_fits k (state_of log q i)) (changes q i ∙ cond-true _ _ _ h)
           ∙ elim (or_cases (eqb i first) (is_pair (Some o) && eqb i second) b.1) [
             | inl y ↦ here first a.0 (eqb-true i first y) f
             | inr y ↦ let z = and_parts (is_pair (Some o)) (eqb i second) y in
@@ -238,11 +241,12 @@ taken_matches old new log o queue first second x m changes told q i =
     ]
 
 -- whether there was an answer or not
-pub take_matches : (old new : Cids) (log : List PortEvent) (o : Op) (queue first second : ℕ)
+pub take_matches : (old new : QueueCids) (log : List PortEvent) (o : Op) (queue first second : ℕ)
     (r : Option (Result Reply Status)) → Matches old log
     → r ≡ table_outcome o (held old queue first) (held old queue second)
-    → IfNone r (new ≡ old) → IfSome r (λ x. IsReleased old new o queue first second) → Matches new log
-take_matches old new log o queue first second None m is none some = subst (λ (c : Cids). Matches c log) (sym none) m
+    → IfNone r (new ≡ old) → IfSome r (λ x. AreCidsReleased old new o queue first second) → Matches new log
+take_matches old new log o queue first second None m is none some =
+    subst (λ (c : QueueCids). Matches c log) (sym none) m
 take_matches old new log o queue first second (Some x) m is none some =
     taken_matches old new log o queue first second x m some (sym is)
 
@@ -255,11 +259,11 @@ since_more began log e few =
     ap (λ (k : ℕ). take k (e ∷ log)) k
 
 -- what a driver's type keeps, after a completion
-pub reaps_keep : (began before after : List PortEvent) (old new : Cids) → Reaps before after old new
+pub reaps_keep : (began before after : List PortEvent) (old new : QueueCids) → Reaps before after old new
     → length began ≤ length before → is_tidy (since began before) ≡ true → Matches old (since began before)
     → (length began ≤ length after) × (is_tidy (since began after) ≡ true) × Matches new (since began after)
 reaps_keep began before after old new (inl s) few tidy m =
-    subst (λ (z : List PortEvent × Cids). (length began ≤ length z.0) × (is_tidy (since began z.0) ≡ true)
+    subst (λ (z : List PortEvent × QueueCids). (length began ≤ length z.0) × (is_tidy (since began z.0) ≡ true)
     × Matches z.1 (since began z.0)) (λ i. (sym s.0 i, sym s.1 i)) (few, tidy, m)
 reaps_keep began before after old new (inr s) few tidy m =
     let e = PortEvent.Got s.0 s.1 in

@@ -3,9 +3,9 @@ use Rattle.std.specs.Prelude.{Contains, Err, List, None, Ok, Option, Result, Som
 use Rattle.std.specs.Prelude.{length, true, ℕ, ◌&&◌, ◌∷◌, ◌≡◌, ◌⊎◌}
 use Rattle.nvme_model.specs.declared.array.Range.{Range}
 use Rattle.nvme_model.specs.declared.status.Status.{Status}
-use Rattle.cid_table.specs.Cids.{Cids, held, queues_of}
+use Rattle.cid_table.specs.Cids.{QueueCids, held, queues_of}
 use Rattle.driver_calls.specs.Log.{sent}
-use Rattle.driver_calls.specs.Says.{IsCallIn, outcome}
+use Rattle.driver_calls.specs.Says.{IsCallIn, call_outcome}
 use Rattle.driver_calls.specs.Views.{since}
 use Rattle.driver_calls.specs.declared.event.PortEvent.{PortEvent}
 use Rattle.driver_calls.specs.declared.reply.Reply.{Reply}
@@ -51,12 +51,12 @@ module _ {P : Type 0} {g : Ghosts P} where
     pub in_use : IsHeld d.cids k.op k.queue k.first k.second
 
   -- what is known of the port where the call is answered so, or not yet
-  abbrev pub Says : Driver P g → Call P → Option (Result Reply Status) → Type 0
-  Says d k r = g.says (before d) k.start.value d.port k.queue (number_of d k) k.op r
+  abbrev pub SaysOfPort : Driver P g → Call P → Option (Result Reply Status) → Type 0
+  SaysOfPort d k r = g.says (before d) k.start.value d.port k.queue (number_of d k) k.op r
 
   -- what a call is answered by what the port did since the driver was made
   abbrev pub answer_to : Driver P g → Call P → Option (Result Reply Status)
-  answer_to d k = outcome (made d) k.queue k.op k.first k.second
+  answer_to d k = call_outcome (made d) k.queue k.op k.first k.second
 
   -- The port was asked once for a completion, and answered so that a poll is put off for this fault, if for one.
   pub record ReapsOnce (d e : Driver P g) (later : Option Fault) : Type 0 where
@@ -105,7 +105,7 @@ module _ {P : Type 0} {g : Ghosts P} where
     pub queues : queues_of e.cids ≡ queues_of d.cids
 
   -- and the last serial that it drew
-  pub record IsSame (d e : Driver P g) : Type 0 where
+  pub record IsSameDriver (d e : Driver P g) : Type 0 where
     pub began : e.began ≡ d.began
     pub host : e.host ≡ d.host
     pub acwu : e.acwu ≡ d.acwu
@@ -115,10 +115,10 @@ module _ {P : Type 0} {g : Ghosts P} where
 
 module _ {P : Type 0} where
   -- the answer that a poll tells, if it tells one
-  abbrev pub told : Poll P → Option (Result Reply Status)
-  told (Poll.Done r) = Some (Ok r)
-  told (Poll.Failed (Fault.Status s)) = Some (Err s)
-  told _ = None
+  abbrev pub poll_answer : Poll P → Option (Result Reply Status)
+  poll_answer (Poll.Done r) = Some (Ok r)
+  poll_answer (Poll.Failed (Fault.Status s)) = Some (Err s)
+  poll_answer _ = None
 
   -- the fault for which it is put off, if for one
   abbrev pub later_told : Poll P → Option Fault
@@ -134,15 +134,16 @@ module _ {P : Type 0} where
   IsBack k (Poll.Failed _) = ⊥
 
   -- the two calls have no CID in common
-  abbrev pub IsApart : Call P → Call P → Type 0
-  IsApart k j = (q cid : ℕ) →
+  abbrev pub SharesNoCid : Call P → Call P → Type 0
+  SharesNoCid k j = (q cid : ℕ) →
       is_its_cid k.op k.queue k.first k.second q cid ≡ true → is_its_cid j.op j.queue j.first j.second q cid ≡ false
 
   -- a call that was answered has no CID any more; all others are in use as before
-  abbrev pub IsFreed : Cids → Cids → Call P → Poll P → Type 0
+  abbrev pub IsFreed : QueueCids → QueueCids → Call P → Poll P → Type 0
   IsFreed old new k r =
       (q cid : ℕ) → is_free (held new q cid)
-      ≡ (if is_some (told r) && is_its_cid k.op k.queue k.first k.second q cid then true else is_free (held old q cid))
+      ≡ (if is_some (poll_answer r) && is_its_cid k.op k.queue k.first k.second q cid then true
+      else is_free (held old q cid))
 
 -- nothing came, or one completion
 abbrev pub IsOneMore : List PortEvent → List PortEvent → Type 0

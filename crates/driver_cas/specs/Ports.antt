@@ -9,7 +9,7 @@ use Rattle.work_queue.specs.Engines.{EnginePass}
 use Rattle.driver_calls.specs.Views
 use Rattle.driver_calls.specs.Views.{IsFull, PortView, Publishes, log_of}
 use Rattle.driver_cas.specs.Passes.{view_at}
-use Rattle.driver_cas.specs.Reaps.{IsCounted, IsReapedAs}
+use Rattle.driver_cas.specs.Reaps.{IsCounted, IsReapAnswered}
 use Rattle.driver_cas.specs.declared.fault.PortFault.{PortFault}
 use Rattle.driver_cas.specs.declared.port.Reaped.{Reaped}
 use Rattle.driver_cas.specs.declared.shared_port.SharedPort.{SharedPort}
@@ -32,10 +32,10 @@ steps_of p = length (passes.mine p.pass)
 
 -- The second is the first at a later time, of the same engine, which has as many passes, and its pass has made no steps
 -- but those of its log.
-pub record Follows (a b : SharedPort) : Type 0 where
+pub record PortFollows (a b : SharedPort) : Type 0 where
   pub same_lock : b.pass.seat.table_id ≡ a.pass.seat.table_id
   pub same_passes : passes.passes_of b.pass ≡ passes.passes_of a.pass
-  pub view : Views.Follows (view_of a) (view_of b)
+  pub view : Views.ViewFollows (view_of a) (view_of b)
   pub sole : steps_of b + length (log_of (view_of a)) ≡ steps_of a + length (log_of (view_of b))
 
 -- What is known where a port answers a Publish of this batch so, by the number of the engine's passes, and by what was
@@ -55,5 +55,5 @@ pub record IsPublished (a b : SharedPort) (q : ℕ) (batch : List Submission) : 
 -- and it is as it was; else the engine was asked. Notices are counted as its answer leaves them.
 pub record IsReapAnswer (a b : SharedPort) (r : Result (Option Reaped) PortFault) : Type 0 where
   pub idle : a.counted ≡ 0 → (r ≡ Ok None) × (b ≡ a)
-  pub asked : a.counted ≢ 0 → IsReapedAs (passes.passes_of a.pass) (view_of a) (view_of b) r
+  pub asked : a.counted ≢ 0 → IsReapAnswered (passes.passes_of a.pass) (view_of a) (view_of b) r
   pub counted : IsCounted a.counted b.counted r

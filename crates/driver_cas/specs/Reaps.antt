@@ -39,12 +39,12 @@ steps_with (Some r) n = suc n
 -- engine's passes, and by what was known of the port before and is since: no completion was there. Or another caller
 -- had the controller, which one pass alone never meets, and nothing has changed. Or nothing but want of memory refuses
 -- it.
-abbrev pub IsReapedAs : ℕ → PortView → PortView → Result (Option Reaped) PortFault → Type 0
-IsReapedAs passes a b (Ok (Some r)) = Unit {0}
-IsReapedAs passes a b (Ok None) = refusal b.config (entries b.seen) (Step.Reap b.queue) ≡ Some Why.NoCompletion
-IsReapedAs passes a b (Err PortFault.RingFull) = ⊥
-IsReapedAs passes a b (Err PortFault.Busy) = (passes ≢ 1) × (b ≡ a)
-IsReapedAs passes a b (Err PortFault.NoMemory) = refusal b.config (entries b.seen) (Step.Reap b.queue) ≡ None
+abbrev pub IsReapAnswered : ℕ → PortView → PortView → Result (Option Reaped) PortFault → Type 0
+IsReapAnswered passes a b (Ok (Some r)) = Unit {0}
+IsReapAnswered passes a b (Ok None) = refusal b.config (entries b.seen) (Step.Reap b.queue) ≡ Some Why.NoCompletion
+IsReapAnswered passes a b (Err PortFault.RingFull) = ⊥
+IsReapAnswered passes a b (Err PortFault.Busy) = (passes ≢ 1) × (b ≡ a)
+IsReapAnswered passes a b (Err PortFault.NoMemory) = refusal b.config (entries b.seen) (Step.Reap b.queue) ≡ None
 
 -- How many notices are counted whose completions aren't reaped, before a Reap and after: one less where a completion
 -- came, none where none was there, and as many as before after a fault.

@@ -8,7 +8,7 @@ use Rattle.nvme_model.specs.declared.operation.Op.{Op}
 use Rattle.driver_calls.specs.declared.request.CallData.{CallData}
 use Rattle.driver_calls.specs.declared.request.Request.{Request}
 use Rattle.driver_cas.specs.Starts.{IsAsBefore}
-use Rattle.driver_cas.specs.Tries.{IsBegun}
+use Rattle.driver_cas.specs.Tries.{IsTryBegun}
 use Rattle.driver_cas.specs.declared.call.Call.{Call}
 use Rattle.driver_cas.specs.declared.driver.Driver.{Driver}
 use Rattle.driver_cas.specs.declared.fault.Fault.{Fault}
@@ -33,4 +33,4 @@ module _ {P : Type 0} {g : Ghosts P} where
   -- fault the driver is as before, and nothing was published.
   abbrev pub IsStart : Driver P g → Driver P g → Result Request Fault → CallData → Result (Call P) Fault → Type 0
   IsStart d e (Err f) contents r = (r ≡ Err f) × IsAsBefore d e
-  IsStart d e (Ok q) contents r = IsBegun d e q contents r
+  IsStart d e (Ok q) contents r = IsTryBegun d e q contents r

@@ -6,7 +6,7 @@ use Rattle.nvme_model.specs.declared.operation.Op.{Op}
 use Rattle.driver_calls.specs.declared.request.CallData.{CallData}
 use Rattle.driver_calls.specs.declared.request.Request.{Request}
 use Rattle.driver_cas.specs.Starts.{IsAsBefore, IsStarted}
-use Rattle.driver_cas.specs.Tries.{IsBegun, IsPortFault}
+use Rattle.driver_cas.specs.Tries.{IsTryBegun, IsPortFault}
 use Rattle.driver_cas.specs.declared.call.Call.{Call}
 use Rattle.driver_cas.specs.declared.driver.Driver.{Driver}
 use Rattle.driver_cas.specs.declared.fault.Fault.{Fault}
@@ -44,4 +44,4 @@ module _ {P : Type 0} {g : Ghosts P} where
 
   -- The release of this name is begun. After any fault the driver is as before, and nothing was published.
   abbrev pub IsReleaseStart : Driver P g → Driver P g → ℕ → ℕ → Result (Call P) Fault → Type 0
-  IsReleaseStart d e lba serial r = IsBegun d e (swap_request lba) (release_data d.host serial) r
+  IsReleaseStart d e lba serial r = IsTryBegun d e (swap_request lba) (release_data d.host serial) r

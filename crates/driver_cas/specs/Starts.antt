@@ -2,12 +2,12 @@
 use Rattle.std.specs.Prelude.{List, if◌then◌else◌, ℕ, ◌∷◌, ◌≡◌, ◌⊎◌}
 use Rattle.nvme_model.specs.declared.operation.Op.{Op}
 use Rattle.nvme_model.specs.declared.submission.Submission.{Submission}
-use Rattle.cid_table.specs.Cids.{Cids, held}
-use Rattle.cid_table.specs.declared.held.Held.{Held}
+use Rattle.cid_table.specs.Cids.{QueueCids, held}
+use Rattle.cid_table.specs.declared.held.CidUse.{CidUse}
 use Rattle.driver_calls.specs.declared.event.PortEvent.{PortEvent}
 use Rattle.driver_calls.specs.Entries.{IsBatch}
 use Rattle.driver_calls.specs.declared.request.CallData.{CallData}
-use Rattle.driver_cas.specs.Drivers.{IsApart, IsCallOf, IsSame, made}
+use Rattle.driver_cas.specs.Drivers.{SharesNoCid, IsCallOf, IsSameDriver, made}
 use Rattle.driver_cas.specs.Tables.{is_its_cid}
 use Rattle.driver_cas.specs.Turns.{AreFree, IsTurn}
 use Rattle.driver_cas.specs.declared.call.Call.{Call}
@@ -15,12 +15,12 @@ use Rattle.driver_cas.specs.declared.driver.Driver.{Driver}
 use Rattle.driver_cas.specs.declared.port.Port.{Ghosts}
 
 -- the call waits under its CIDs, all others are used as before
-abbrev pub IsTaken : Cids → Cids → Op → ℕ → ℕ → ℕ → Type 0
+abbrev pub IsTaken : QueueCids → QueueCids → Op → ℕ → ℕ → ℕ → Type 0
 IsTaken old new o queue first second =
-    (q cid : ℕ) → held new q cid ≡ (if is_its_cid o queue first second q cid then Held.Waiting else held old q cid)
+    (q cid : ℕ) → held new q cid ≡ (if is_its_cid o queue first second q cid then CidUse.Waiting else held old q cid)
 
 -- the batch was published and its CIDs are taken, or nothing has changed
-abbrev pub IsSent : List PortEvent → List PortEvent → Cids → Cids → Op → ℕ → ℕ → ℕ → List Submission → Type 0
+abbrev pub IsSent : List PortEvent → List PortEvent → QueueCids → QueueCids → Op → ℕ → ℕ → ℕ → List Submission → Type 0
 IsSent before after old new o queue first second batch =
     ((after ≡ PortEvent.Sent queue batch ∷ before) × IsTaken old new o queue first second)
     ⊎ ((after ≡ before) × (new ≡ old))
@@ -43,10 +43,10 @@ module _ {P : Type 0} {g : Ghosts P} where
     pub published : made e ≡ PortEvent.Sent k.queue batch ∷ made d
     pub taken : IsTaken d.cids e.cids o k.queue k.first k.second
     pub of : IsCallOf e k
-    pub others : (other : Call P) → IsCallOf d other → IsCallOf e other × IsApart k other
+    pub others : (other : Call P) → IsCallOf d other → IsCallOf e other × SharesNoCid k other
 
   -- the same driver with a later port, which published nothing
   pub record IsUntouched (d e : Driver P g) : Type 0 where
-    pub same : IsSame d e
+    pub same : IsSameDriver d e
     pub later : g.follows d.port e.port
     pub as_before : IsAsBefore d e

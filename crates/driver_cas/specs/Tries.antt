@@ -7,7 +7,7 @@ use Rattle.driver_calls.specs.Entries.{IsBatch, entry_count}
 use Rattle.driver_calls.specs.declared.request.CallData.{CallData}
 use Rattle.driver_calls.specs.declared.request.Request.{Request}
 use Rattle.driver_calls.specs.declared.event.PortEvent.{PortEvent}
-use Rattle.driver_cas.specs.Drivers.{IsSame}
+use Rattle.driver_cas.specs.Drivers.{IsSameDriver}
 use Rattle.driver_cas.specs.Starts.{IsAsBefore, IsStarted, IsTaken}
 use Rattle.driver_cas.specs.Turns.{AreFree, ArePassed, HasEnough, IsEndedBy, IsRefusedFor}
 use Rattle.driver_cas.specs.declared.call.Call.{Call}
@@ -32,15 +32,15 @@ module _ {P : Type 0} {g : Ghosts P} where
   IsPortFault d e r contents _ = ⊥
 
   -- The call is begun. Or the driver is as before, and a port's fault is answered.
-  abbrev pub IsBegun : Driver P g → Driver P g → Request → CallData → Result (Call P) Fault → Type 0
-  IsBegun d e r contents (Ok k) = IsStarted d e k r.op r.slba r.blocks contents
-  IsBegun d e r contents (Err f) = IsAsBefore d e × IsPortFault d e r contents f
+  abbrev pub IsTryBegun : Driver P g → Driver P g → Request → CallData → Result (Call P) Fault → Type 0
+  IsTryBegun d e r contents (Ok k) = IsStarted d e k r.op r.slba r.blocks contents
+  IsTryBegun d e r contents (Err f) = IsAsBefore d e × IsPortFault d e r contents f
 
   -- what the Publish of a call did
   pub record Sends (d e : Driver P g) (k : Call P) (l n : ℕ) (contents : CallData)
       (batch : List Submission) : Type 0 where
     pub start : k.start.value ≡ d.port
-    pub same : IsSame d e
+    pub same : IsSameDriver d e
     pub known : Contains (queues_of d.cids) k.queue
     pub later : g.follows d.port e.port
     pub accepted : g.accepts d.port e.port k.queue batch

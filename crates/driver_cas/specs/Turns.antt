@@ -4,8 +4,8 @@ use Rattle.std.specs.Prelude.{Contains, List, Some, get_or, length, suc, true, z
 use Rattle.nvme_model.specs.Operations.{is_pair}
 use Rattle.nvme_model.specs.declared.operation.Op.{Op}
 use Rattle.nvme_model.specs.declared.submission.Submission.{Submission}
-use Rattle.cid_table.specs.Cids.{AtMostOneFree, Cids, NoneFreeBelow, held, queues_of}
-use Rattle.cid_table.specs.declared.held.Held.{Held}
+use Rattle.cid_table.specs.Cids.{AtMostOneFree, QueueCids, NoneFreeBelow, held, queues_of}
+use Rattle.cid_table.specs.declared.held.CidUse.{CidUse}
 use Rattle.driver_calls.specs.Entries.{IsBatch}
 use Rattle.driver_calls.specs.declared.request.CallData.{CallData}
 use Rattle.driver_calls.specs.declared.request.Request.{Request}
@@ -15,20 +15,20 @@ use Rattle.driver_cas.specs.declared.port.Port.{Ghosts}
 
 -- Two CIDs that a call of this operation may use: both are free, and those of a pair are unlike. Of any other operation
 -- only the first counts.
-pub record AreFree (cids : Cids) (o : Op) (queue first second : ℕ) : Type 0 where
-  pub first_free : held cids queue first ≡ Held.Free
-  pub second_free : held cids queue second ≡ Held.Free
+pub record AreFree (cids : QueueCids) (o : Op) (queue first second : ℕ) : Type 0 where
+  pub first_free : held cids queue first ≡ CidUse.Free
+  pub second_free : held cids queue second ≡ CidUse.Free
   pub first_below : first < 64
   pub second_below : second < 64
   pub unlike : is_pair (Some o) ≡ true → first < second
 
 -- too few CIDs of the submission queue are free for a call of this operation: none, or of a pair at most one
-abbrev pub HasTooFew : Cids → Op → ℕ → Type 0
+abbrev pub HasTooFew : QueueCids → Op → ℕ → Type 0
 HasTooFew cids Op.Pair queue = AtMostOneFree cids queue
 HasTooFew cids _ queue = NoneFreeBelow cids queue 64
 
 -- enough of one of the submission queues are
-pub record HasEnough (cids : Cids) (o : Op) : Type 0 where
+pub record HasEnough (cids : QueueCids) (o : Op) : Type 0 where
   pub queue : ℕ
   pub first : ℕ
   pub second : ℕ

@@ -8,9 +8,9 @@ ghost use Rattle.nvme_model.specs.Array.{overlap as overlap_of};
 ghost use Rattle.nvme_model.specs.Operations.{has_write};
 ghost use Rattle.nvme_model.specs.declared.operation.Op.{Op};
 ghost use Rattle.std.specs.Prelude.{Some};
-ghost use Rattle.driver_cas.specs.Drivers.{IsSame};
+ghost use Rattle.driver_cas.specs.Drivers.{IsSameDriver};
 ghost use Rattle.driver_cas.specs.Requests.{IsStart, pair_request_of, request_of};
-ghost use Rattle.driver_cas.specs.Tries.{IsBegun};
+ghost use Rattle.driver_cas.specs.Tries.{IsTryBegun};
 ghost use Rattle.driver_cas.specs.Turns.{HasEnough, HasTooFew};
 
 use crate::call::Call;
@@ -90,7 +90,7 @@ impl<P: Port> Driver<P> {
         contents: &[u8],
     ) -> Result<Call<P>, Fault>
         requires { entry_count op ≡ 1 }
-        ensures same { IsSame self.old self.new }
+        ensures same { IsSameDriver self.old self.new }
         ensures later { P.follows self.old.port self.new.port }
         ensures is { IsStart self.old self.new (request_of self.old.acwu self.old.slots op slba bytes)
             (CallData.One contents.now) result }
@@ -115,7 +115,7 @@ impl<P: Port> Driver<P> {
     /// The first that holds: `Length` of no block; `TooLong` of more than 256; `RingFull` where too few CIDs are free;
     /// `NoMemory`; then what the port answers. Nothing was published.
     pub fn start_read(&mut self, slba: u64, blocks: u32) -> Result<Call<P>, Fault>
-        ensures same { IsSame self.old self.new }
+        ensures same { IsSameDriver self.old self.new }
         ensures later { P.follows self.old.port self.new.port }
         ensures is { IsStart self.old self.new (request_of self.old.acwu self.old.slots Op.Read slba (512 * blocks))
             (CallData.One []) result }
@@ -129,7 +129,7 @@ impl<P: Port> Driver<P> {
     ///
     /// As `start_read`, and `SlotArea` behind `TooLong`.
     pub fn start_write_zeroes(&mut self, slba: u64, blocks: u32) -> Result<Call<P>, Fault>
-        ensures same { IsSame self.old self.new }
+        ensures same { IsSameDriver self.old self.new }
         ensures later { P.follows self.old.port self.new.port }
         ensures is { IsStart self.old self.new
             (request_of self.old.acwu self.old.slots Op.WriteZeroes slba (512 * blocks))
@@ -144,7 +144,7 @@ impl<P: Port> Driver<P> {
     ///
     /// As `start_write_zeroes`; `Length` also of data that isn't whole blocks.
     pub fn start_write(&mut self, slba: u64, contents: &[u8]) -> Result<Call<P>, Fault>
-        ensures same { IsSame self.old self.new }
+        ensures same { IsSameDriver self.old self.new }
         ensures later { P.follows self.old.port self.new.port }
         ensures is { IsStart self.old self.new
             (request_of self.old.acwu self.old.slots Op.Write slba (length contents.now))
@@ -159,7 +159,7 @@ impl<P: Port> Driver<P> {
     ///
     /// As `start_write`, without `SlotArea`.
     pub fn start_compare(&mut self, slba: u64, contents: &[u8]) -> Result<Call<P>, Fault>
-        ensures same { IsSame self.old self.new }
+        ensures same { IsSameDriver self.old self.new }
         ensures later { P.follows self.old.port self.new.port }
         ensures is { IsStart self.old self.new
             (request_of self.old.acwu self.old.slots Op.Compare slba (length contents.now))
@@ -181,7 +181,7 @@ impl<P: Port> Driver<P> {
         expected: &[u8],
         desired: &[u8],
     ) -> Result<Call<P>, Fault>
-        ensures same { IsSame self.old self.new }
+        ensures same { IsSameDriver self.old self.new }
         ensures later { P.follows self.old.port self.new.port }
         ensures is { IsStart self.old self.new (pair_request_of self.old.acwu self.old.slots slba (length expected.now)
             (length desired.now)) (CallData.Two expected.now desired.now) result }
@@ -202,9 +202,9 @@ impl<P: Port> Driver<P> {
     ) -> Result<Call<P>, Fault>
         requires pair { request.op ≡ Op.Pair }
         requires blocks { (1 ≤ request.blocks) × (request.blocks ≤ 65536) }
-        ensures same { IsSame self.old self.new }
+        ensures same { IsSameDriver self.old self.new }
         ensures later { P.follows self.old.port self.new.port }
-        ensures is { IsBegun self.old self.new request (CallData.Two expected.now desired.now) result }
+        ensures is { IsTryBegun self.old self.new request (CallData.Two expected.now desired.now) result }
     {
         if !self.has_free(request.op) {
             return Err(Fault::RingFull);

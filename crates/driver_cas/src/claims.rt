@@ -2,7 +2,7 @@
 
 ghost use Rattle.std.specs.Prelude.{◌≡◌, ◌≤◌, ◌<◌, IfOk, true};
 ghost use Rattle.nvme_model.specs.Array.{has_block};
-ghost use Rattle.driver_cas.specs.Drivers.{HasSettings, IsSame, host_of};
+ghost use Rattle.driver_cas.specs.Drivers.{HasSettings, IsSameDriver, host_of};
 ghost use Rattle.driver_cas.specs.SlotStarts.{IsClaimStart, IsReleaseStart, swap_request};
 
 use crate::call::Call;
@@ -61,7 +61,7 @@ impl<P: Port> Driver<P> {
     /// was published.
     pub fn start_release(&mut self, lba: u64, serial: u64) -> Result<Call<P>, Fault>
         requires inside { has_block self.old.slots lba ≡ true }
-        ensures same { IsSame self.old self.new }
+        ensures same { IsSameDriver self.old self.new }
         ensures later { P.follows self.old.port self.new.port }
         ensures is { IsReleaseStart self.old self.new lba serial result }
     {

@@ -3,10 +3,10 @@
 ghost use Rattle.std.specs.List.Sorted.{IsStrictlyIncreasing};
 ghost use Rattle.std.specs.Prelude.{◌≡◌, ◌≤◌, ◌+◌, All, Contains, IfErr, IfOk, [], length, true, ℕ};
 ghost use Rattle.cid_table.specs.Cids.{held, queues_of};
-ghost use Rattle.cid_table.specs.declared.held.Held.{Held};
+ghost use Rattle.cid_table.specs.declared.held.CidUse.{CidUse};
 ghost use Rattle.driver_calls.specs.Log.{is_tidy, state_of};
 ghost use Rattle.driver_calls.specs.Views.{since};
-ghost use Rattle.driver_cas.specs.Tables.{fits};
+ghost use Rattle.driver_cas.specs.Tables.{use_fits};
 
 use crate::port::Port;
 use cid_table::CidTable;
@@ -33,7 +33,7 @@ pub struct Driver<P: Port> {
     ghost tidy: { is_tidy (since (P.log began.value) (P.log port)) ≡ true },
     ghost own: { (q : ℕ) → Contains (queues_of cids) q → P.owns port q ≡ true },
     ghost matches: { (q cid : ℕ) →
-        fits (held cids q cid) (state_of (since (P.log began.value) (P.log port)) q cid) ≡ true },
+        use_fits (held cids q cid) (state_of (since (P.log began.value) (P.log port)) q cid) ≡ true },
     ghost named: { 1 ≤ host },
     ghost within: { slots.slba + slots.blocks ≤ 65536 },
 }
@@ -62,7 +62,7 @@ impl<P: Port> Driver<P> {
         ensures port { IfOk result (λ d. (d.port ≡ port) × (d.began.value ≡ port)) }
         ensures host { IfOk result (λ d. (d.host ≡ host) × (d.acwu ≡ acwu) × (d.slots ≡ slots) × (d.serial ≡ 0)) }
         ensures queues { IfOk result (λ d. queues_of d.cids ≡ queues.items) }
-        ensures free { IfOk result (λ d. (q cid : ℕ) → held d.cids q cid ≡ Held.Free) }
+        ensures free { IfOk result (λ d. (q cid : ℕ) → held d.cids q cid ≡ CidUse.Free) }
         ensures back { IfErr result (λ e. (e.0 ≡ port) × (e.1 ≡ queues)) }
     {
         let began = Snapshot::of(&port);

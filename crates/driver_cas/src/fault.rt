@@ -29,7 +29,7 @@ pub enum Fault {
     #[error("too many blocks")]
     TooLong,
     /// Too few CIDs are free, or no submission queue has room.
-    #[error("too few identifiers, or no room in a submission queue")]
+    #[error("too few CIDs, or no room in a submission queue")]
     RingFull,
     /// A completion with this status: not success, and not a Compare that differs; of a pair the first that isn't
     /// success.
@@ -50,11 +50,11 @@ pub enum Fault {
 }
 
 impl Fault {
-    ghost use Rattle.driver_cas.specs.Faults.{fault_number};
+    ghost use Rattle.driver_cas.specs.Faults.{call_fault_number};
 
     /// Its number, 41 to 48, behind those of refusals and of faults of configurations, units and completions.
     pub fn number(&self) -> u8
-        ensures { result ≡ fault_number self.now }
+        ensures { result ≡ call_fault_number self.now }
     {
         match self {
             Fault::Length => 41,

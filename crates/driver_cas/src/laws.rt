@@ -1,7 +1,7 @@
 //! What holds of a driver, each as the contract of a function that does nothing.
 
 ghost use Rattle.std.specs.Prelude.{◌+◌, ◌≡◌, IfOk, Result, length, ℕ};
-ghost use Rattle.driver_cas.specs.Drivers.{HasSettings, IsApart, IsCallOf, IsSame, made};
+ghost use Rattle.driver_cas.specs.Drivers.{HasSettings, SharesNoCid, IsCallOf, IsSameDriver, made};
 ghost use Rattle.driver_cas.specs.Ports.{steps_of};
 ghost use Rattle.driver_cas.specs.Requests.{IsStart};
 ghost use Rattle.driver_cas.specs.SlotStarts.{IsClaimStart, IsReleaseStart};
@@ -36,19 +36,19 @@ pub fn an_untouched_driver_keeps_its_calls<P: Port>(old: &Snapshot<Driver<P>>, n
 /// A start call keeps the driver's other calls, whatever it answers, and a call that it began is the driver's and apart
 /// from them: one that is read or written, a claim and a release.
 pub fn a_start_keeps_the_other_calls<P: Port>(old: &Snapshot<Driver<P>>, new: &Driver<P>)
-    ensures call { IsSame old.now.value new.now → P.follows old.now.value.port new.now.port →
+    ensures call { IsSameDriver old.now.value new.now → P.follows old.now.value.port new.now.port →
         (asked : Result Request Fault) (contents : CallData) (r : Result (Call P) Fault) →
         IsStart old.now.value new.now asked contents r →
         IfOk r (IsCallOf new.now) × ((k : Call P) → IsCallOf old.now.value k →
-        IsCallOf new.now k × IfOk r (λ begun. IsApart begun k)) }
+        IsCallOf new.now k × IfOk r (λ begun. SharesNoCid begun k)) }
     ensures claim { HasSettings old.now.value new.now → P.follows old.now.value.port new.now.port →
         (lba : ℕ) (r : Result (Call P × ℕ) Fault) → IsClaimStart old.now.value new.now lba r →
         IfOk r (λ begun. IsCallOf new.now begun.0) × ((k : Call P) → IsCallOf old.now.value k →
-        IsCallOf new.now k × IfOk r (λ begun. IsApart begun.0 k)) }
-    ensures release { IsSame old.now.value new.now → P.follows old.now.value.port new.now.port →
+        IsCallOf new.now k × IfOk r (λ begun. SharesNoCid begun.0 k)) }
+    ensures release { IsSameDriver old.now.value new.now → P.follows old.now.value.port new.now.port →
         (lba serial : ℕ) (r : Result (Call P) Fault) → IsReleaseStart old.now.value new.now lba serial r →
         IfOk r (IsCallOf new.now) × ((k : Call P) → IsCallOf old.now.value k →
-        IsCallOf new.now k × IfOk r (λ begun. IsApart begun k)) }
+        IsCallOf new.now k × IfOk r (λ begun. SharesNoCid begun k)) }
 {
     let _ = old;
     let _ = new;

@@ -3,10 +3,10 @@
 ghost use Rattle.std.specs.Prelude.{◌≡◌, IfErr, IfOk};
 ghost use Rattle.nvme_model.specs.Legal.{IsLegal};
 ghost use Rattle.nvme_model.specs.Passes.{entries};
-ghost use Rattle.meet_lock.specs.Lock.{GoesOn};
+ghost use Rattle.meet_lock.specs.Lock.{ExtendsByPasses};
 ghost use Rattle.meet_lock.specs.Passes.{config_of, passes_of, seen};
 ghost use Rattle.driver_cas.specs.Drivers.{IsCallOf};
-ghost use Rattle.driver_cas.specs.Listening.{IsBeside, IsPassBeside, IsPlaceFor, Listens, SawMore};
+ghost use Rattle.driver_cas.specs.Listening.{IsOfSameEngine, IsPassBeside, IsPlaceFor, Listens, SawMore};
 ghost use Rattle.driver_cas.specs.Passes.{SawOn};
 ghost use Rattle.driver_cas.specs.Ports.{view_of};
 ghost use Rattle.driver_cas.specs.Starts.{IsUntouched};
@@ -27,7 +27,7 @@ impl<'a> Driver<SharedPort<'a>> {
     ///
     /// `Busy` where another caller had the controller; nothing has changed.
     pub fn meet(&mut self, other: &mut Driver<SharedPort<'_>>) -> Result<(), Busy>
-        requires { IsBeside self.old.port other.old.port }
+        requires { IsOfSameEngine self.old.port other.old.port }
         ensures first { IsUntouched self.old self.new }
         ensures second { IsUntouched other.old other.new }
         ensures saw { SawMore self.old.port self.new.port × SawMore other.old.port other.new.port }
@@ -37,8 +37,8 @@ impl<'a> Driver<SharedPort<'a>> {
         ensures others { (k : Call SharedPort) → IsCallOf other.old k → IsCallOf other.new k }
         ensures met { IfOk result (λ _. seen self.new.port.pass ≡ seen other.new.port.pass) }
         ensures goes_on { IfOk result (λ _.
-            GoesOn (passes_of self.old.port.pass) (seen self.old.port.pass) (seen self.new.port.pass)
-            × GoesOn (passes_of other.old.port.pass) (seen other.old.port.pass) (seen other.new.port.pass)) }
+            ExtendsByPasses (passes_of self.old.port.pass) (seen self.old.port.pass) (seen self.new.port.pass)
+            × ExtendsByPasses (passes_of other.old.port.pass) (seen other.old.port.pass) (seen other.new.port.pass)) }
         ensures busy { IfErr result (λ _. (view_of self.new.port ≡ view_of self.old.port)
             × (view_of other.new.port ≡ view_of other.old.port)) }
     {
@@ -62,8 +62,8 @@ impl<'a> Driver<SharedPort<'a>> {
         ensures calls { (k : Call SharedPort) → IsCallOf self.old k → IsCallOf self.new k }
         ensures met { IfOk result (λ _. seen self.new.port.pass ≡ seen pass.new) }
         ensures goes_on { IfOk result (λ _.
-            GoesOn (passes_of self.old.port.pass) (seen self.old.port.pass) (seen self.new.port.pass)
-            × GoesOn (passes_of pass.old) (seen pass.old) (seen pass.new)) }
+            ExtendsByPasses (passes_of self.old.port.pass) (seen self.old.port.pass) (seen self.new.port.pass)
+            × ExtendsByPasses (passes_of pass.old) (seen pass.old) (seen pass.new)) }
         ensures busy { IfErr result
             (λ _. (view_of self.new.port ≡ view_of self.old.port) × (seen pass.new ≡ seen pass.old)) }
     {

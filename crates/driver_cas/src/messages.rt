@@ -3,11 +3,11 @@
 ghost use Rattle.std.specs.Prelude.{◌≡◌, IfErr, IfOk};
 ghost use Rattle.nvme_model.specs.Legal.{IsLegal};
 ghost use Rattle.nvme_model.specs.Passes.{IsBeginning, entries};
-ghost use Rattle.meet_lock.specs.Lock.{GoesOn};
+ghost use Rattle.meet_lock.specs.Lock.{ExtendsByPasses};
 ghost use Rattle.meet_lock.specs.Passes.{config_of, passes_of, seen};
-ghost use Rattle.work_queue.specs.Engines.{IsOf};
+ghost use Rattle.work_queue.specs.Engines.{IsPassOfEngine};
 ghost use Rattle.work_queue.specs.Notices.{IsNoticeOf, ReapFinds, notice_seen};
-ghost use Rattle.driver_cas.specs.Listening.{IsBeside, IsNoticeFor, IsPassBeside, SawMore, counted_with};
+ghost use Rattle.driver_cas.specs.Listening.{IsOfSameEngine, IsNoticeFor, IsPassBeside, SawMore, counted_with};
 ghost use Rattle.driver_cas.specs.Passes.{SawOn};
 ghost use Rattle.driver_cas.specs.Ports.{view_of};
 
@@ -20,7 +20,7 @@ use work_queue::{Engine, Notice};
 
 // Both passes see the whole history so far, if no other caller has the controller.
 fn meet_passes(engine: &Engine, first: &mut Pass<Core>, second: &mut Pass<Core>) -> Result<(), Busy>
-    requires own { IsOf engine.now first.old × IsOf engine.now second.old }
+    requires own { IsPassOfEngine engine.now first.old × IsPassOfEngine engine.now second.old }
     requires first { IsLegal (config_of first.old) (entries (seen first.old)) }
     ensures first { SawOn first.old first.new }
     ensures second { SawOn second.old second.new }
@@ -28,8 +28,8 @@ fn meet_passes(engine: &Engine, first: &mut Pass<Core>, second: &mut Pass<Core>)
     ensures other { IsLegal (config_of second.old) (entries (seen second.old))
         → IsLegal (config_of second.new) (entries (seen second.new)) }
     ensures met { IfOk result (λ _. seen first.new ≡ seen second.new) }
-    ensures goes_on { IfOk result (λ _. GoesOn (passes_of first.old) (seen first.old) (seen first.new)
-        × GoesOn (passes_of second.old) (seen second.old) (seen second.new)) }
+    ensures goes_on { IfOk result (λ _. ExtendsByPasses (passes_of first.old) (seen first.old) (seen first.new)
+        × ExtendsByPasses (passes_of second.old) (seen second.old) (seen second.new)) }
     ensures busy { IfErr result (λ _. (seen first.new ≡ seen first.old) × (seen second.new ≡ seen second.old)) }
 {
     engine.meet(first, second)?;
@@ -38,7 +38,7 @@ fn meet_passes(engine: &Engine, first: &mut Pass<Core>, second: &mut Pass<Core>)
 
 // The pass sees what the notice had seen, too. It asks again while another caller has the controller.
 fn learn_notice<R: Wait>(rt: &R, engine: &Engine, pass: &mut Pass<Core>, notice: &mut Notice)
-    requires pass { IsOf engine.now pass.old }
+    requires pass { IsPassOfEngine engine.now pass.old }
     requires notice { IsNoticeOf engine.now notice.old }
     ensures on { SawOn pass.old pass.new }
     ensures legal { IsLegal (config_of pass.new) (entries (seen pass.new)) }
@@ -61,13 +61,14 @@ impl<'a> SharedPort<'a> {
     ///
     /// `Busy` where another caller had the controller; nothing has changed.
     pub fn meet(&mut self, other: &mut SharedPort<'_>) -> Result<(), Busy>
-        requires { IsBeside self.old other.old }
+        requires { IsOfSameEngine self.old other.old }
         ensures first { SawMore self.old self.new }
         ensures second { SawMore other.old other.new }
         ensures counted { (self.new.counted ≡ self.old.counted) × (other.new.counted ≡ other.old.counted) }
         ensures met { IfOk result (λ _. seen self.new.pass ≡ seen other.new.pass) }
-        ensures goes_on { IfOk result (λ _. GoesOn (passes_of self.old.pass) (seen self.old.pass) (seen self.new.pass)
-            × GoesOn (passes_of other.old.pass) (seen other.old.pass) (seen other.new.pass)) }
+        ensures goes_on { IfOk result
+            (λ _. ExtendsByPasses (passes_of self.old.pass) (seen self.old.pass) (seen self.new.pass)
+            × ExtendsByPasses (passes_of other.old.pass) (seen other.old.pass) (seen other.new.pass)) }
         ensures busy { IfErr result
             (λ _. (view_of self.new ≡ view_of self.old) × (view_of other.new ≡ view_of other.old)) }
     {
@@ -88,8 +89,9 @@ impl<'a> SharedPort<'a> {
             → IsLegal (config_of pass.new) (entries (seen pass.new)) }
         ensures counted { self.new.counted ≡ self.old.counted }
         ensures met { IfOk result (λ _. seen self.new.pass ≡ seen pass.new) }
-        ensures goes_on { IfOk result (λ _. GoesOn (passes_of self.old.pass) (seen self.old.pass) (seen self.new.pass)
-            × GoesOn (passes_of pass.old) (seen pass.old) (seen pass.new)) }
+        ensures goes_on { IfOk result
+            (λ _. ExtendsByPasses (passes_of self.old.pass) (seen self.old.pass) (seen self.new.pass)
+            × ExtendsByPasses (passes_of pass.old) (seen pass.old) (seen pass.new)) }
         ensures busy { IfErr result (λ _. (view_of self.new ≡ view_of self.old) × (seen pass.new ≡ seen pass.old)) }
     {
         meet_passes(self.engine, &mut self.pass, pass)

@@ -1,9 +1,11 @@
 //! Polling a call.
 
 ghost use Rattle.std.specs.Prelude.{◌≡◌, ◌≢◌, ◌⊎◌, IfErr, IfNone, IfSome, None, Some, is_some};
-ghost use Rattle.driver_cas.specs.Drivers.{AsksPort, IsApart, IsBack, IsCallBack, IsCallOf, IsFreed, IsOneMore, IsSame};
-ghost use Rattle.driver_cas.specs.Drivers.{answer_to, before, fault_told, later_by, later_told, made, number_of, told};
-ghost use Rattle.driver_cas.specs.Tables.{GoesOn, IsReleased};
+ghost use Rattle.driver_cas.specs.Drivers.{AsksPort, SharesNoCid, IsBack, IsCallBack, IsCallOf, IsFreed, IsOneMore};
+ghost use Rattle.driver_cas.specs.Drivers.{IsSameDriver};
+ghost use Rattle.driver_cas.specs.Drivers.{answer_to, before, fault_told, later_by, later_told, made, number_of};
+ghost use Rattle.driver_cas.specs.Drivers.{poll_answer};
+ghost use Rattle.driver_cas.specs.Tables.{SameFreeCids, AreCidsReleased};
 ghost use Rattle.driver_cas.specs.declared.call.Call.{Call};
 ghost use Rattle.driver_cas.specs.declared.fault.Fault.{Fault};
 ghost use Rattle.driver_cas.specs.declared.fault.PortFault.{PortFault};
@@ -19,7 +21,7 @@ use nvme_model::status::Status;
 
 // The answer to a call whose completions were all reaped.
 fn ended<P>(answer: Result<Reply, Status>) -> Poll<P>
-    ensures { told result ≡ Some answer }
+    ensures { poll_answer result ≡ Some answer }
 {
     match answer {
         Ok(reply) => Poll::Done(reply),
@@ -44,14 +46,15 @@ impl<P: Port> Driver<P> {
     // The answer to a call whose completions were all reaped; its CIDs are free then.
     fn take(&mut self, call: &Call<P>) -> Option<Result<Reply, Status>>
         requires { IsCallOf self.old call.now }
-        ensures same { IsSame self.old self.new }
+        ensures same { IsSameDriver self.old self.new }
         ensures port { self.new.port ≡ self.old.port }
         ensures answer { result ≡ answer_to self.old call.now }
         ensures none { IfNone result (self.new.cids ≡ self.old.cids) }
         ensures some { IfSome result
-            (λ _. IsReleased self.old.cids self.new.cids call.now.op call.now.queue call.now.first
+            (λ _. AreCidsReleased self.old.cids self.new.cids call.now.op call.now.queue call.now.first
             call.now.second) }
-        ensures others { (other : Call P) → IsCallOf self.old other → IsApart call.now other → IsCallOf self.new other }
+        ensures others { (other : Call P) → IsCallOf self.old other → SharesNoCid call.now other
+            → IsCallOf self.new other }
     {
         take_answer(&mut self.cids, call.op, call.queue, call.first, call.second)
     }
@@ -73,10 +76,10 @@ impl<P: Port> Driver<P> {
     // Reaps one completion, if there is one, and notes it; none where the call has all of its own.
     fn reap(&mut self, call: &Call<P>) -> Result<(), PortFault>
         requires { IsCallOf self.old call.now }
-        ensures same { IsSame self.old self.new }
+        ensures same { IsSameDriver self.old self.new }
         ensures later { P.follows self.old.port self.new.port }
         ensures made { IsOneMore (made self.old) (made self.new) }
-        ensures in_use { GoesOn self.old.cids self.new.cids }
+        ensures in_use { SameFreeCids self.old.cids self.new.cids }
         ensures calls { (one : Call P) → IsCallOf self.old one → IsCallOf self.new one }
         ensures asks { AsksPort self.old self.new call.now (later_by result) }
         ensures fault { IfErr result (λ f. (made self.new ≡ made self.old) × (f ≢ PortFault.RingFull)) }
@@ -92,18 +95,18 @@ impl<P: Port> Driver<P> {
     /// or of another; one that no call is owed is dropped. Takes no memory but what the port's Reap takes.
     pub fn poll(&mut self, call: Call<P>) -> Poll<P>
         requires { IsCallOf self.old call }
-        ensures same { IsSame self.old self.new }
+        ensures same { IsSameDriver self.old self.new }
         ensures later { P.follows self.old.port self.new.port }
         ensures one { IsOneMore (made self.old) (made self.new) }
-        ensures answer { told result ≡ answer_to self.new call }
+        ensures answer { poll_answer result ≡ answer_to self.new call }
         ensures back { IsBack call result }
         ensures asks { AsksPort self.old self.new call (later_told result) }
         ensures stays { IsCallBack self.new result }
-        ensures others { (other : Call P) → IsCallOf self.old other → IsApart call other → IsCallOf self.new other }
+        ensures others { (other : Call P) → IsCallOf self.old other → SharesNoCid call other → IsCallOf self.new other }
         ensures freed { IsFreed self.old.cids self.new.cids call result }
         ensures says { P.says (before self.new) call.start.value self.new.port call.queue
             (number_of self.new call) call.op
-            (told result) }
+            (poll_answer result) }
     {
         if let Err(fault) = self.reap(&call) {
             return Poll::Later(later_fault(fault), call);

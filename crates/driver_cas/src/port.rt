@@ -5,7 +5,7 @@ ghost use Rattle.nvme_model.specs.declared.operation.Op.{Op};
 ghost use Rattle.nvme_model.specs.declared.status.Status.{Status};
 ghost use Rattle.nvme_model.specs.declared.submission.Submission.{Submission};
 ghost use Rattle.driver_calls.specs.Log.{is_tidy, sent};
-ghost use Rattle.driver_calls.specs.Says.{IsCallIn, outcome};
+ghost use Rattle.driver_calls.specs.Says.{IsCallIn, call_outcome};
 ghost use Rattle.driver_calls.specs.declared.event.PortEvent.{PortEvent};
 ghost use Rattle.driver_calls.specs.declared.reply.Reply.{Reply};
 ghost use Rattle.driver_calls.specs.Views.{since};
@@ -93,5 +93,5 @@ pub trait Port: Drop {
     ghost tells: { (before : List PortEvent) (start now : Self) (q j first second : ℕ) (o : Op) → follows start now →
         owns now q ≡ true → is_tidy (since before (log now)) ≡ true → j ≡ length (sent (since before (log start)) q) →
         IsCallIn (since before (log now)) q o first second j →
-        says before start now q j o (outcome (since before (log now)) q o first second) };
+        says before start now q j o (call_outcome (since before (log now)) q o first second) };
 }

@@ -1,14 +1,14 @@
 //! The port of one completion queue of a controller that callers share.
 
 ghost use Rattle.std.specs.Prelude.{◌≡◌, ◌≢◌, ◌≤◌, ◌⊎◌, IfErr, IfOk, None, Ok, length};
-ghost use Rattle.nvme_model.specs.Kept.{Kept};
+ghost use Rattle.nvme_model.specs.Kept.{ControllerInvariant};
 ghost use Rattle.nvme_model.specs.Legal.{IsLegal};
 ghost use Rattle.nvme_model.specs.Passes.{entries};
 ghost use Rattle.meet_lock.specs.Passes.{IsSame, Knows, config_of, mine, passes_of};
-ghost use Rattle.work_queue.specs.Engines.{IsOf};
+ghost use Rattle.work_queue.specs.Engines.{IsPassOfEngine};
 ghost use Rattle.driver_cas.specs.Made.{after_reap};
 ghost use Rattle.driver_cas.specs.Passes.{log_at, view_at};
-ghost use Rattle.driver_cas.specs.Reaps.{IsCounted, IsReapDeclined, IsReapFault, IsReapedAs, cause_of, steps_with};
+ghost use Rattle.driver_cas.specs.Reaps.{IsCounted, IsReapDeclined, IsReapFault, IsReapAnswered, cause_of, steps_with};
 
 use crate::fault::PortFault;
 use crate::port::{Port, Reaped};
@@ -36,7 +36,7 @@ impl<'a> SharedPort<'a> {
 
     /// The port of this completion queue, with a pass of the engine.
     pub fn new(engine: &'a Engine, pass: Pass<Core>, queue: u16) -> SharedPort<'a>
-        requires own { IsOf engine.now pass }
+        requires own { IsPassOfEngine engine.now pass }
         requires there { (1 ≤ queue) × (queue ≤ (config_of pass).cqs) }
         ensures pass { IsSame pass result.pass × (seen result.pass ≡ seen pass) }
         ensures queue { result.queue ≡ queue }
@@ -87,15 +87,15 @@ fn reap_fault(declined: &Declined) -> Option<PortFault>
 
 // Reaps the next completion of this completion queue.
 fn try_reap(engine: &Engine, pass: &mut Pass<Core>, queue: u16) -> Result<Option<Reaped>, PortFault>
-    requires own { IsOf engine.now pass.old }
+    requires own { IsPassOfEngine engine.now pass.old }
     requires there { (1 ≤ queue) × (queue ≤ (config_of pass.old).cqs) }
     ensures same { IsSame pass.old pass.new }
-    ensures knows { Knows Kept pass.old pass.new }
+    ensures knows { Knows ControllerInvariant pass.old pass.new }
     ensures got { IfOk result (λ o. log_at queue pass.new ≡ after_reap o (log_at queue pass.old)) }
     ensures steps { IfOk result (λ o. length (mine pass.new) ≡ steps_with o (length (mine pass.old))) }
     ensures fault { IfErr result (λ f. (log_at queue pass.new ≡ log_at queue pass.old) × (f ≢ PortFault.RingFull)) }
     ensures none { IfErr result (λ _. mine pass.new ≡ mine pass.old) }
-    ensures cause { IsReapedAs (passes_of pass.old) (view_at queue pass.old) (view_at queue pass.new) result }
+    ensures cause { IsReapAnswered (passes_of pass.old) (view_at queue pass.old) (view_at queue pass.new) result }
 {
     match engine.attempt_open(pass, Open::Reap(queue)) {
         Ok(opened) => {
@@ -113,16 +113,16 @@ fn try_reap(engine: &Engine, pass: &mut Pass<Core>, queue: u16) -> Result<Option
 
 impl<'a> SharedPort<'a> {
     ghost use Rattle.driver_calls.specs.Views.{log_of};
-    ghost use Rattle.driver_cas.specs.Ports.{Follows, view_of};
+    ghost use Rattle.driver_cas.specs.Ports.{PortFollows, view_of};
 
     // Reaps the next completion where a notice is counted whose completion isn't reaped; else it asks nothing.
     fn reap_counted(&mut self) -> Result<Option<Reaped>, PortFault>
-        ensures later { Follows self.old self.new }
+        ensures later { PortFollows self.old self.new }
         ensures got { IfOk result (λ o. log_of (view_of self.new) ≡ after_reap o (log_of (view_of self.old))) }
         ensures fault { IfErr result (λ f. (log_of (view_of self.new) ≡ log_of (view_of self.old))
             × (f ≢ PortFault.RingFull)) }
         ensures cause { self.old.counted ≢ 0 →
-            IsReapedAs (passes_of self.old.pass) (view_of self.old) (view_of self.new) result }
+            IsReapAnswered (passes_of self.old.pass) (view_of self.old) (view_of self.new) result }
         ensures idle { self.old.counted ≡ 0 → (result ≡ Ok None) × (self.new ≡ self.old) }
         ensures counted { IsCounted self.old.counted self.new.counted result }
     {
@@ -142,7 +142,7 @@ impl<'a> SharedPort<'a> {
 impl<'a> Port for SharedPort<'a> {
     ghost use Rattle.driver_calls.proofs.Views.{follows_on, follows_self, owns_same, view_tells};
     ghost use Rattle.driver_calls.specs.Views.{AnswerSays, log_of, owns as view_owns};
-    ghost use Rattle.driver_cas.specs.Ports.{Follows, IsPublished, IsReapAnswer, IsRefused, steps_of, view_of};
+    ghost use Rattle.driver_cas.specs.Ports.{PortFollows, IsPublished, IsReapAnswer, IsRefused, steps_of, view_of};
     ghost use Rattle.std.proofs.Common.{arith, refl, ◌∙◌};
 
     ghost log = { λ p. log_of (view_of p) };
@@ -151,7 +151,7 @@ impl<'a> Port for SharedPort<'a> {
 
     ghost owns = { λ p. view_owns (view_of p) };
 
-    ghost follows = { Follows };
+    ghost follows = { PortFollows };
 
     ghost accepts = { IsPublished };
 

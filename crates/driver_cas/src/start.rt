@@ -3,8 +3,8 @@
 ghost use Rattle.std.specs.Prelude.{[], ◌∷◌, ◌≡◌, ◌≤◌, ◌<◌, Contains, IfErr, IfNone, IfOk, IfSome, OnSome, length};
 ghost use Rattle.std.specs.Prelude.{true, vec_capacity};
 ghost use Rattle.driver_calls.specs.Entries.{entry_count, payloads_of};
-ghost use Rattle.driver_cas.specs.Drivers.{IsSame};
-ghost use Rattle.driver_cas.specs.Tries.{IsBegun, IsNotSent, IsTried};
+ghost use Rattle.driver_cas.specs.Drivers.{IsSameDriver};
+ghost use Rattle.driver_cas.specs.Tries.{IsTryBegun, IsNotSent, IsTried};
 ghost use Rattle.cid_table.specs.Cids.{queues_of};
 ghost use Rattle.driver_calls.specs.declared.event.PortEvent.{PortEvent};
 ghost use Rattle.driver_cas.specs.Starts.{IsSent, IsTaken};
@@ -117,7 +117,7 @@ impl<P: Port> Driver<P> {
         requires blocks { (1 ≤ request.blocks) × (request.blocks ≤ 65536) }
         requires contents { length (payloads_of contents) ≡ entry_count request.op }
         requires room { (room.items ≡ []) × (entry_count request.op ≤ vec_capacity room) }
-        ensures same { IsSame self.old self.new }
+        ensures same { IsSameDriver self.old self.new }
         ensures later { P.follows self.old.port self.new.port }
         ensures tried { IsTried self.old self.new queue request contents result }
     {
@@ -150,9 +150,9 @@ impl<P: Port> Driver<P> {
         requires blocks { (1 ≤ request.blocks) × (request.blocks ≤ 65536) }
         requires contents { length (payloads_of contents) ≡ entry_count request.op }
         requires room { (room.items ≡ []) × (entry_count request.op ≤ vec_capacity room) }
-        ensures same { IsSame self.old self.new }
+        ensures same { IsSameDriver self.old self.new }
         ensures later { P.follows self.old.port self.new.port }
-        ensures is { IsBegun self.old self.new request contents result }
+        ensures is { IsTryBegun self.old self.new request contents result }
     {
         let mut contents = contents;
         let mut room = room;

@@ -4,7 +4,7 @@ ghost use Rattle.std.specs.Prelude.{◌≡◌, ◌≢◌, ℕ, Err, IfErr, IfNon
 ghost use Rattle.cid_table.specs.Cids.{held, queues_of};
 ghost use Rattle.driver_calls.specs.declared.event.PortEvent.{PortEvent};
 ghost use Rattle.driver_cas.specs.Made.{after_reap};
-ghost use Rattle.driver_cas.specs.Tables.{GoesOn, IsReleased, Matches, Reaps, table_outcome};
+ghost use Rattle.driver_cas.specs.Tables.{SameFreeCids, AreCidsReleased, Matches, Reaps, table_outcome};
 ghost use Rattle.driver_cas.specs.declared.port.Reaped.{Reaped};
 
 use crate::fault::PortFault;
@@ -18,7 +18,7 @@ use nvme_model::status::Status;
 /// Notes a reaped completion; one that is no completion, or that no CID waits for, is dropped.
 pub(crate) fn settle(cids: &mut CidTable, reaped: Reaped)
     ensures queues { queues_of cids.new ≡ queues_of cids.old }
-    ensures goes_on { GoesOn cids.old cids.new }
+    ensures goes_on { SameFreeCids cids.old cids.new }
     ensures matches { (log : List PortEvent) → Matches cids.old log →
         Matches cids.new (PortEvent.Got reaped.cqe reaped.payload ∷ log) }
 {
@@ -32,7 +32,7 @@ pub(crate) fn settle(cids: &mut CidTable, reaped: Reaped)
 pub(crate) fn reap_one<P: Port>(port: &mut P, cids: &mut CidTable) -> Result<(), PortFault>
     ensures later { P.follows port.old port.new }
     ensures queues { queues_of cids.new ≡ queues_of cids.old }
-    ensures goes_on { GoesOn cids.old cids.new }
+    ensures goes_on { SameFreeCids cids.old cids.new }
     ensures reaped { Reaps (P.log port.old) (P.log port.new) cids.old cids.new }
     ensures got { IfOk result (λ _. (o : Option Reaped) × P.reaps port.old port.new (Ok o)
         × (P.log port.new ≡ after_reap o (P.log port.old))) }
@@ -56,7 +56,7 @@ pub(crate) fn take_answer(
     ensures queues { queues_of cids.new ≡ queues_of cids.old }
     ensures value { result ≡ table_outcome op (held cids.old queue first) (held cids.old queue second) }
     ensures none { IfNone result (cids.new ≡ cids.old) }
-    ensures some { IfSome result (λ _. IsReleased cids.old cids.new op queue first second) }
+    ensures some { IfSome result (λ _. AreCidsReleased cids.old cids.new op queue first second) }
 {
     if op == Op::Pair {
         let status = cids.status(queue, first)?;

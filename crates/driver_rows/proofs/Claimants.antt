@@ -4,23 +4,23 @@ use Rattle.std.proofs.lemmas.List.Elements.{All-cons, All-nil, All-same}
 use Rattle.nvme_model.specs.Config.{completion_queue}
 use Rattle.nvme_model.specs.declared.config.ConfigNumbers.{ConfigNumbers}
 use Rattle.nvme_model.proofs.Numbers.{own_queue}
-use Rattle.driver_cas.specs.Drivers.{IsSame, port_of}
-use Rattle.driver_cas.specs.Ports.{Follows}
+use Rattle.driver_cas.specs.Drivers.{IsSameDriver, port_of}
+use Rattle.driver_cas.specs.Ports.{PortFollows}
 use Rattle.driver_cas.specs.declared.shared_port.SharedPort.{SharedPort}
-use Rattle.work_queue.specs.QueuePasses.{IsOf, lock_of_pass}
+use Rattle.work_queue.specs.QueuePasses.{IsPassOfQueue, lock_of_pass}
 use Rattle.work_queue.specs.declared.notice.Notice.{Notice}
 use Rattle.work_queue.specs.declared.queue.QueuePass.{QueuePass}
-use Rattle.driver_rows.specs.Benches.{IsHostOf, uses}
+use Rattle.driver_rows.specs.Benches.{IsBenchHost, uses}
 use Rattle.driver_rows.specs.declared.bench.Bench.{Bench}
-use Rattle.driver_rows.specs.declared.bench.Host.{Host}
-use Rattle.slot_alloc.specs.Careful.{IsCareful}
+use Rattle.driver_rows.specs.declared.bench.BenchHost.{BenchHost}
+use Rattle.slot_alloc.specs.SlotRules.{KeepsSlotRules}
 use Rattle.slot_alloc.specs.Claims.{IsClaimingOf, IsHeldBy, IsReleasingOf, IsUnreleased}
 use Rattle.slot_alloc.specs.declared.claiming.Claiming.{Claiming}
 use Rattle.slot_alloc.specs.declared.claim.Claim.{Claim}
 use Rattle.slot_alloc.specs.declared.release.Releasing.{Releasing}
 use Rattle.slot_alloc.specs.declared.slots.Slots.{Slots}
-use Rattle.driver_rows.specs.Claimants.{IsBegun, IsReady}
-use Rattle.driver_rows.specs.declared.claimant.Stage.{Stage}
+use Rattle.driver_rows.specs.Claimants.{IsClaimantBegun, IsClaimantReady}
+use Rattle.driver_rows.specs.declared.claimant.ClaimantStage.{ClaimantStage}
 
 -- ---- the submission queue of a host
 
@@ -38,21 +38,23 @@ uses_own c h qs l m e is =
 
 -- ---- after a Read was begun
 
-pub read_ready : (b : Bench) (s : Slots) (h i : Host) → IsReady b s h → IsSame h.driver i.driver
-    → Follows (port_of h.driver) (port_of i.driver) → i.place ≡ h.place → (IsCareful h.driver → IsCareful i.driver)
-    → IsReady b s i
+pub read_ready : (b : Bench) (s : Slots) (h i : BenchHost) → IsClaimantReady b s h → IsSameDriver h.driver i.driver
+    → PortFollows (port_of h.driver) (port_of i.driver) → i.place ≡ h.place
+    → (KeepsSlotRules h.driver → KeepsSlotRules i.driver)
+    → IsClaimantReady b s i
 read_ready b s h i ready same later place kept =
     record {
       host = moved b h i later place ready.host;
       area_is = same.slots ∙ ready.area_is;
-      careful = kept ready.careful;
+      slot_rules = kept ready.slot_rules;
     }
   where
-    moved : (b : Bench) (h i : Host) → Follows (port_of h.driver) (port_of i.driver) → i.place ≡ h.place → IsHostOf b h
-        → IsHostOf b i
+    moved : (b : Bench) (h i : BenchHost) → PortFollows (port_of h.driver) (port_of i.driver) → i.place ≡ h.place
+        → IsBenchHost b h
+        → IsBenchHost b i
     moved b h i later place of = (
       (
-        subst (λ (p : QueuePass Notice). IsOf b.notices p) (sym place) of.0.0,
+        subst (λ (p : QueuePass Notice). IsPassOfQueue b.notices p) (sym place) of.0.0,
         ap lock_of_pass place
             ∙ (of.0.1 ∙ sym later.same_lock),
       ),
@@ -62,12 +64,13 @@ read_ready b s h i ready same later place kept =
 -- ---- what was begun
 
 -- by what its driver keeps of what it began
-pub begun_on : (h i : Host) (stage : Stage) → ((c : Claim) → IsHeldBy h.driver c → IsHeldBy i.driver c)
+pub begun_on : (h i : BenchHost) (stage : ClaimantStage) → ((c : Claim) → IsHeldBy h.driver c → IsHeldBy i.driver c)
     → ((k : Claiming SharedPort _) → IsClaimingOf h.driver k → IsClaimingOf i.driver k)
     → ((k : Claiming SharedPort _) → IsClaimingOf h.driver k → IsUnreleased h.driver k → IsUnreleased i.driver k)
-    → ((k : Releasing SharedPort) → IsReleasingOf h.driver k → IsReleasingOf i.driver k) → IsBegun h stage
-    → IsBegun i stage
-begun_on h i Stage.Idle held claiming unreleased releasing of = tt
-begun_on h i (Stage.Claiming k) held claiming unreleased releasing of = (claiming k of.0, unreleased k of.0 of.1)
-begun_on h i (Stage.Holding k) held claiming unreleased releasing of = held k.claim of
-begun_on h i (Stage.Releasing k) held claiming unreleased releasing of = releasing k of
+    → ((k : Releasing SharedPort) → IsReleasingOf h.driver k → IsReleasingOf i.driver k) → IsClaimantBegun h stage
+    → IsClaimantBegun i stage
+begun_on h i ClaimantStage.Idle held claiming unreleased releasing of = tt
+begun_on h i (ClaimantStage.Claiming k) held claiming unreleased releasing of =
+    (claiming k of.0, unreleased k of.0 of.1)
+begun_on h i (ClaimantStage.Holding k) held claiming unreleased releasing of = held k.claim of
+begun_on h i (ClaimantStage.Releasing k) held claiming unreleased releasing of = releasing k of

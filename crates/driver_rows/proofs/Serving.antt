@@ -2,14 +2,14 @@
 use Rattle.std.proofs.Common.{Err, Ok, Result, refl, true, ℕ, ◌∙◌, ◌≡◌}
 use Rattle.std.specs.Prelude.{IfErr, IfOk}
 use Rattle.nvme_model.specs.History.{Past}
-use Rattle.nvme_model.specs.Kept.{Kept}
+use Rattle.nvme_model.specs.Kept.{ControllerInvariant}
 use Rattle.nvme_model.specs.declared.step.Step.{Step}
 use Rattle.controller_steps.specs.State.{Accepts, Refuses}
 use Rattle.controller_steps.specs.declared.answer.Answer.{Answer}
 use Rattle.meet_lock.specs.Passes.{Declines, IsSame, Knows, Worked}
 use Rattle.meet_lock.specs.declared.pass.Declined.{Declined}
 use Rattle.meet_lock.specs.declared.seats.TicketSeat.{TicketSeat}
-use Rattle.controller_steps.specs.State.{State}
+use Rattle.controller_steps.specs.State.{ControllerState}
 use Rattle.work_queue.specs.Duties.{task_step}
 use Rattle.work_queue.specs.Engines.{EnginePass, OpenedAs}
 use Rattle.work_queue.specs.declared.engine.Engine.{Engine}
@@ -24,7 +24,7 @@ use Rattle.serving_laws.proofs.Servers.{declined, stepped}
 
 -- after a Fetch, whether it was made or not
 pub fetched_serves : (eng : Engine) (p q : EnginePass) (queue : ℕ) (r : Result Opened Declined) → IsSame p q
-    → Knows Kept p q → IfOk r (OpenedAs eng p q (opening.Fetch queue))
+    → Knows ControllerInvariant p q → IfOk r (OpenedAs eng p q (opening.Fetch queue))
     → IfErr r (Declines Refuses p q (Step.Fetch queue))
     → IsServing p → IsServing q
 fetched_serves eng p q queue (Ok o) same k ok err x = stepped p q (Step.Fetch queue) ok.answer same k refl ok.by x
@@ -36,8 +36,9 @@ task_serves task.Block t = refl
 task_serves task.Post t = refl
 
 -- and after a task
-pub worked_serves : (p q : EnginePass) (w v : TicketSeat State) (k : Task) (t : ℕ) (its : Past) (was : Past)
-    (r : Result Answer Declined) → IsSame p q → Knows Kept p q → IfOk r (Worked Accepts p q w v (task_step k t))
+pub worked_serves : (p q : EnginePass) (w v : TicketSeat ControllerState) (k : Task) (t : ℕ) (its : Past) (was : Past)
+    (r : Result Answer Declined) → IsSame p q → Knows ControllerInvariant p q
+    → IfOk r (Worked Accepts p q w v (task_step k t))
     → IfErr r (λ d. Declines Refuses p q (task_step k t) d × (its ≡ was)) → IsServing p → IsServing q
 worked_serves p q w v k t its was (Ok a) same knows ok err x =
     stepped p q (task_step k t) a same knows (task_serves k t) ok.by x

@@ -10,9 +10,9 @@ use Rattle.driver_cas.specs.Drivers.{port_of}
 use Rattle.driver_cas.specs.Listening.{IsPlaceFor}
 use Rattle.driver_cas.specs.Ports.{pass_of}
 use Rattle.driver_rows.specs.declared.bench.Bench.{Bench}
-use Rattle.driver_rows.specs.declared.bench.Host.{Host}
+use Rattle.driver_rows.specs.declared.bench.BenchHost.{BenchHost}
 use Rattle.driver_rows.specs.declared.bench.Server.{Server}
-use Rattle.driver_rows.specs.declared.bench.Spares.{Spares}
+use Rattle.driver_rows.specs.declared.bench.BenchSpares.{BenchSpares}
 use Rattle.serving_laws.specs.Servers.{IsServing}
 
 -- submission queue q is there, and uses completion queue n
@@ -22,23 +22,23 @@ uses c n q = nat_le 1 q && nat_le q c.pairs && (completion_queue c q == n)
 -- its passes are of what the bench has
 abbrev pub IsServerOf : Bench → Server → Type 0
 IsServerOf b s =
-    engine.IsOf b.engine s.pass × queue.IsPlaceOf b.engine b.notices s.place × (config_of s.pass ≡ b.config)
+    engine.IsPassOfEngine b.engine s.pass × queue.IsPlaceOf b.engine b.notices s.place × (config_of s.pass ≡ b.config)
 
 -- with the same pass, which goes on to serve
 abbrev pub ServesOn : Server → Server → Type 0
 ServesOn s t = IsSame s.pass t.pass × (IsServing s.pass → IsServing t.pass)
 
 -- the host is one of this bench
-abbrev pub IsHostOf : Bench → Host → Type 0
-IsHostOf b h =
-    IsPlaceFor (port_of h.driver) b.notices h.place × engine.IsOf b.engine (pass_of (port_of h.driver))
+abbrev pub IsBenchHost : Bench → BenchHost → Type 0
+IsBenchHost b h =
+    IsPlaceFor (port_of h.driver) b.notices h.place × engine.IsPassOfEngine b.engine (pass_of (port_of h.driver))
 
 -- these are the first of so many passes, numbered from 1 in order
-abbrev pub AreNumbered : ℕ → Spares → Type 0
+abbrev pub AreNumbered : ℕ → BenchSpares → Type 0
 AreNumbered n s = (k : ℕ) (p : EnginePass) → slice_get s.passes.items k ≡ Some p
     → (number p ≡ k + 1) × (passes_of p ≡ n)
 
 -- so are these, that nobody has yet
-pub record AreOf (b : Bench) (s : Spares) : Type 0 where
+pub record AreBenchSpares (b : Bench) (s : BenchSpares) : Type 0 where
   pub passes : All (engine.IsFreshPass b.engine b.config) s.passes.items
   pub places : All (queue.IsPlaceOf b.engine b.notices) s.places.items

@@ -1,14 +1,14 @@
 //! A host's calls.
 
 ghost use Rattle.std.specs.Prelude.{◌≡◌, IfOk, IfSome};
-ghost use Rattle.driver_cas.specs.Drivers.{IsApart, IsCallOf, IsSame, port_of};
+ghost use Rattle.driver_cas.specs.Drivers.{SharesNoCid, IsCallOf, IsSameDriver, port_of};
 ghost use Rattle.driver_cas.specs.Starts.{IsUntouched};
 ghost use Rattle.driver_cas.specs.declared.call.Call.{Call};
-ghost use Rattle.driver_rows.specs.Benches.{IsHostOf};
-ghost use Rattle.driver_rows.specs.Calls.{Begins, IsAsked, IsNewCall, Keeps, Polls, StayCalls, given_back};
-ghost use Rattle.slot_alloc.specs.Careful.{IsCareful};
+ghost use Rattle.driver_rows.specs.Benches.{IsBenchHost};
+ghost use Rattle.driver_rows.specs.Calls.{Begins, IsCallAsked, IsNewCall, KeepsCalls, Polls, StayCalls, given_back};
+ghost use Rattle.slot_alloc.specs.SlotRules.{KeepsSlotRules};
 
-use crate::bench::{Bench, Host};
+use crate::bench::{Bench, BenchHost};
 use driver_cas::laws::{a_start_keeps_the_other_calls, an_untouched_driver_stays_so};
 use driver_cas::{Call, Driver, Fault, Poll, Port, Reply, SharedPort};
 use slot_alloc::laws::other_calls_touch_no_slot;
@@ -34,7 +34,7 @@ pub enum Ask {
 
 /// What a call was answered, in words.
 #[derive(Clone, Copy, Debug, PartialEq, Eq)]
-pub enum Told {
+pub enum AnswerWords {
     /// So many bytes, all of which are this one.
     Read(usize, u8),
     /// Bytes that are not all alike.
@@ -51,40 +51,40 @@ pub enum Told {
     Later(Fault),
 }
 
-fn in_words(reply: &Reply) -> Told {
+fn in_words(reply: &Reply) -> AnswerWords {
     match reply {
         Reply::Read(payload) => {
             let bytes = payload.as_slice();
             let first = bytes.first().copied().unwrap_or(0);
             if bytes.iter().all(|b| *b == first) {
-                Told::Read(bytes.len(), first)
+                AnswerWords::Read(bytes.len(), first)
             } else {
-                Told::Mixed
+                AnswerWords::Mixed
             }
         }
-        Reply::Written => Told::Written,
-        Reply::Equal => Told::Equal,
-        Reply::Differs => Told::Differs,
-        Reply::Swapped => Told::Swapped,
+        Reply::Written => AnswerWords::Written,
+        Reply::Equal => AnswerWords::Equal,
+        Reply::Differs => AnswerWords::Differs,
+        Reply::Swapped => AnswerWords::Swapped,
     }
 }
 
-fn fault_in_words(fault: Fault) -> Told {
+fn fault_in_words(fault: Fault) -> AnswerWords {
     match fault {
-        Fault::Status(status) => Told::Failed(status.sct(), status.sc()),
-        _ => Told::Faulty,
+        Fault::Status(status) => AnswerWords::Failed(status.sct(), status.sc()),
+        _ => AnswerWords::Faulty,
     }
 }
 
 // A poll in words, and the call where it comes back.
-fn poll_in_words<P>(poll: Poll<P>) -> (Told, Option<Call<P>>)
+fn poll_in_words<P>(poll: Poll<P>) -> (AnswerWords, Option<Call<P>>)
     ensures { result.1 ≡ given_back poll }
 {
     match poll {
         Poll::Done(reply) => (in_words(&reply), None),
         Poll::Failed(fault) => (fault_in_words(fault), None),
-        Poll::Pending(call) => (Told::Pending, Some(call)),
-        Poll::Later(fault, call) => (Told::Later(fault), Some(call)),
+        Poll::Pending(call) => (AnswerWords::Pending, Some(call)),
+        Poll::Later(fault, call) => (AnswerWords::Later(fault), Some(call)),
     }
 }
 
@@ -94,9 +94,9 @@ fn poll_in_words<P>(poll: Poll<P>) -> (Told, Option<Call<P>>)
 ///
 /// What the driver answers.
 pub fn asked<P: Port>(driver: &mut Driver<P>, ask: Ask) -> Result<Call<P>, Fault>
-    ensures same { IsSame driver.old driver.new }
+    ensures same { IsSameDriver driver.old driver.new }
     ensures later { P.follows (port_of driver.old) (port_of driver.new) }
-    ensures asked { IsAsked driver.old driver.new result }
+    ensures asked { IsCallAsked driver.old driver.new result }
 {
     match ask {
         Ask::Read(slba, blocks) => driver.start_read(slba, blocks),
@@ -127,11 +127,11 @@ pub fn asked<P: Port>(driver: &mut Driver<P>, ask: Ask) -> Result<Call<P>, Fault
 ///
 /// What the driver answers; its calls stay.
 pub fn begins<P: Port>(driver: &mut Driver<P>, ask: Ask) -> Result<Call<P>, Fault>
-    ensures same { IsSame driver.old driver.new }
+    ensures same { IsSameDriver driver.old driver.new }
     ensures later { P.follows (port_of driver.old) (port_of driver.new) }
     ensures keeps { StayCalls driver.old driver.new }
     ensures call { IfOk result (IsNewCall driver.old driver.new) }
-    ensures careful { IsCareful driver.old → IsCareful driver.new }
+    ensures slot_rules { KeepsSlotRules driver.old → KeepsSlotRules driver.new }
 {
     let before = Snapshot::of(&*driver);
     let begun = asked(driver, ask);
@@ -141,13 +141,13 @@ pub fn begins<P: Port>(driver: &mut Driver<P>, ask: Ask) -> Result<Call<P>, Faul
 }
 
 /// Polls a call of a driver once.
-pub fn polled<P: Port>(driver: &mut Driver<P>, call: Call<P>) -> (Told, Option<Call<P>>)
+pub fn polled<P: Port>(driver: &mut Driver<P>, call: Call<P>) -> (AnswerWords, Option<Call<P>>)
     requires { IsCallOf driver.old call }
-    ensures same { IsSame driver.old driver.new }
+    ensures same { IsSameDriver driver.old driver.new }
     ensures later { P.follows (port_of driver.old) (port_of driver.new) }
     ensures back { IfSome result.1 (λ k. (k ≡ call) × IsCallOf driver.new k) }
-    ensures others { (j : Call P) → IsCallOf driver.old j → IsApart call j → IsCallOf driver.new j }
-    ensures careful { IsCareful driver.old → IsCareful driver.new }
+    ensures others { (j : Call P) → IsCallOf driver.old j → SharesNoCid call j → IsCallOf driver.new j }
+    ensures slot_rules { KeepsSlotRules driver.old → KeepsSlotRules driver.new }
 {
     let before = Snapshot::of(&*driver);
     let poll = driver.poll(call);
@@ -160,7 +160,7 @@ pub fn polled<P: Port>(driver: &mut Driver<P>, call: Call<P>) -> (Told, Option<C
 /// # Errors
 ///
 /// What the driver answers; the calls stay.
-pub fn starts<'a>(host: &mut Host<'a>, ask: Ask) -> Result<Call<SharedPort<'a>>, Fault>
+pub fn starts<'a>(host: &mut BenchHost<'a>, ask: Ask) -> Result<Call<SharedPort<'a>>, Fault>
     ensures { Begins host.old host.new result }
 {
     begins(&mut host.driver, ask)
@@ -168,9 +168,9 @@ pub fn starts<'a>(host: &mut Host<'a>, ask: Ask) -> Result<Call<SharedPort<'a>>,
 
 /// Polls a call once.
 pub fn polls<'a>(
-    host: &mut Host<'a>,
+    host: &mut BenchHost<'a>,
     call: Call<SharedPort<'a>>,
-) -> (Told, Option<Call<SharedPort<'a>>>)
+) -> (AnswerWords, Option<Call<SharedPort<'a>>>)
     requires { IsCallOf host.old.driver call }
     ensures polls { Polls host.old host.new call.entry }
     ensures back { IfSome result.1 (λ k. (k ≡ call.entry) × IsCallOf host.new.driver k) }
@@ -179,7 +179,7 @@ pub fn polls<'a>(
 }
 
 /// Polls a call until it is answered, at most so many times.
-pub fn answers<'a>(host: &mut Host<'a>, call: Call<SharedPort<'a>>, most: u32) -> Told
+pub fn answers<'a>(host: &mut BenchHost<'a>, call: Call<SharedPort<'a>>, most: u32) -> AnswerWords
     requires { IsCallOf host.old.driver call }
     ensures { Polls host.old host.new call.entry }
 {
@@ -191,14 +191,14 @@ pub fn answers<'a>(host: &mut Host<'a>, call: Call<SharedPort<'a>>, most: u32) -
         };
         next = same;
     }
-    Told::Pending
+    AnswerWords::Pending
 }
 
 /// Learns all notices that are there; how many.
-pub fn hears<R: Wait>(rt: &R, bench: &Bench, host: &mut Host<'_>) -> u32
-    requires { IsHostOf bench.now host.old }
-    ensures same { IsHostOf bench.now host.new }
-    ensures calls { Keeps host.old host.new }
+pub fn hears<R: Wait>(rt: &R, bench: &Bench, host: &mut BenchHost<'_>) -> u32
+    requires { IsBenchHost bench.now host.old }
+    ensures same { IsBenchHost bench.now host.new }
+    ensures calls { KeepsCalls host.old host.new }
     ensures untouched { IsUntouched host.old.driver host.new.driver }
 {
     let before = Snapshot::of(&host.driver);

@@ -5,7 +5,7 @@ ghost use Rattle.std.specs.Prelude.{◌≡◌, ◌<◌, ◌≤◌, ◌+◌, All,
 ghost use Rattle.driver_cas.specs.Drivers.{area_of, made};
 ghost use Rattle.meet_lock.specs.Passes.{number as number_of, passes_of, seen};
 ghost use Rattle.slot_hosts.specs.Hosts.{IsHost};
-ghost use Rattle.driver_rows.specs.Benches.{AreNumbered, AreOf, IsHostOf, IsServerOf, uses};
+ghost use Rattle.driver_rows.specs.Benches.{AreNumbered, AreBenchSpares, IsBenchHost, IsServerOf, uses};
 
 use driver_cas::{Driver, SharedPort};
 use history::Config;
@@ -27,7 +27,7 @@ pub struct Bench {
 
 /// Passes that nobody has yet.
 #[derive(Drop)]
-pub struct Spares {
+pub struct BenchSpares {
     pub passes: Vec<Pass<Core>>,
     pub places: Vec<QueuePass<Notice>>,
 }
@@ -41,7 +41,7 @@ pub struct Server {
 
 /// A host.
 #[derive(Drop)]
-pub struct Host<'a> {
+pub struct BenchHost<'a> {
     pub driver: Driver<SharedPort<'a>>,
     pub place: QueuePass<Notice>,
 }
@@ -56,9 +56,9 @@ pub fn bench_of(
     config: Config,
     capacity: usize,
     count: usize,
-) -> Result<(Bench, Spares), NoMemory>
+) -> Result<(Bench, BenchSpares), NoMemory>
     requires { (0 < capacity) × (0 < count) }
-    ensures own { IfOk result (λ b. AreOf b.0 b.1) }
+    ensures own { IfOk result (λ b. AreBenchSpares b.0 b.1) }
     ensures config { IfOk result (λ b. b.0.config ≡ config) }
     ensures count { IfOk result (λ b. vec_len b.1.passes ≡ count) }
     ensures numbered { IfOk result (λ b. AreNumbered count b.1) }
@@ -70,13 +70,13 @@ pub fn bench_of(
         notices,
         config,
     };
-    Ok((bench, Spares { passes, places }))
+    Ok((bench, BenchSpares { passes, places }))
 }
 
 /// A pass of each; None where none is left.
-pub fn hand_of(_bench: &Bench, spares: &mut Spares) -> Option<Server>
-    requires { AreOf _bench.now spares.old }
-    ensures rest { AreOf _bench.now spares.new }
+pub fn caller_of(_bench: &Bench, spares: &mut BenchSpares) -> Option<Server>
+    requires { AreBenchSpares _bench.now spares.old }
+    ensures rest { AreBenchSpares _bench.now spares.new }
     ensures server { IfSome result (IsServerOf _bench.now) }
     ensures fresh { IfSome result (λ s. seen s.pass ≡ []) }
     ensures count { IfSome result (λ _. vec_len spares.new.passes + 1 ≡ vec_len spares.old.passes) }
@@ -93,32 +93,32 @@ pub fn hand_of(_bench: &Bench, spares: &mut Spares) -> Option<Server>
 pub fn host_of<'a>(
     alloc: Global,
     bench: &'a Bench,
-    hand: Server,
+    caller: Server,
     number: u32,
     slots: Range,
     queue: u16,
     queues: Vec<u16>,
-) -> Option<Host<'a>>
-    requires hand { IsServerOf bench.now hand }
+) -> Option<BenchHost<'a>>
+    requires caller { IsServerOf bench.now caller }
     requires number { 1 ≤ number }
     requires slots { slots.slba + slots.blocks ≤ 65536 }
     requires there { (1 ≤ queue) × (queue ≤ bench.now.config.cqs) }
     requires some { 1 ≤ length queues.items }
     requires rising { IsStrictlyIncreasing queues.items }
     requires uses { All (λ q. uses bench.now.config queue q ≡ true) queues.items }
-    ensures host { IfSome result (IsHostOf bench.entry.now) }
+    ensures host { IfSome result (IsBenchHost bench.entry.now) }
     ensures area { IfSome result (λ h. area_of h.driver ≡ slots) }
     ensures made { IfSome result (λ h. made h.driver ≡ []) }
-    ensures is { seen hand.pass ≡ [] →
-        IfSome result (λ h. IsHost bench.entry.now.config slots (number_of hand.pass) queue number h.driver) }
+    ensures is { seen caller.pass ≡ [] →
+        IfSome result (λ h. IsHost bench.entry.now.config slots (number_of caller.pass) queue number h.driver) }
 {
-    let Server { pass, place } = hand;
+    let Server { pass, place } = caller;
     let port = SharedPort::new(&bench.engine, pass, queue);
     let acwu = bench.config.numbers().atomic.acwu;
     match Driver::new(alloc, port, number, acwu, slots, queues) {
         Ok(driver) => {
             a_new_driver_is_a_host(&driver);
-            Some(Host { driver, place })
+            Some(BenchHost { driver, place })
         }
         Err(_) => None,
     }

@@ -1,15 +1,15 @@
 //! A host that claims slots, and what it has begun.
 
 ghost use Rattle.std.specs.Prelude.{◌≡◌, ◌<◌, ◌≤◌, ◌∷◌, [], IfOk, IfSome};
-ghost use Rattle.driver_rows.specs.Benches.{AreOf, IsServerOf};
+ghost use Rattle.driver_rows.specs.Benches.{AreBenchSpares, IsServerOf};
 ghost use Rattle.slot_alloc.specs.Areas.{area};
 ghost use Rattle.slot_alloc.specs.Claims.{IsClaimingOf, IsReleasingOf, IsUnreleased};
 ghost use Rattle.driver_cas.specs.Starts.{IsUntouched};
-ghost use Rattle.driver_rows.specs.Claimants.{IsBegun, IsClaimant, IsReady};
-ghost use Rattle.driver_rows.specs.declared.bench.Host.{Host};
-ghost use Rattle.driver_rows.specs.declared.claimant.Stage.{Stage};
+ghost use Rattle.driver_rows.specs.Claimants.{IsClaimantBegun, IsClaimant, IsClaimantReady};
+ghost use Rattle.driver_rows.specs.declared.bench.BenchHost.{BenchHost};
+ghost use Rattle.driver_rows.specs.declared.claimant.ClaimantStage.{ClaimantStage};
 
-use crate::bench::{Bench, Host, Server, Spares, hand_of, host_of};
+use crate::bench::{Bench, BenchHost, BenchSpares, Server, caller_of, host_of};
 use driver_cas::{Driver, Fault, SharedPort};
 use nvme_model::array::Range;
 use slot_alloc::laws::an_untouched_driver_keeps_its_slots;
@@ -19,47 +19,48 @@ use std::mem;
 use std::snapshot::Snapshot;
 
 /// A claim that may be dropped: its slot then stays held.
-pub struct Kept {
+pub struct KeptClaim {
     pub claim: Claim,
 }
 
-impl Drop for Kept {
+impl Drop for KeptClaim {
     fn drop(self) {
-        let Kept { claim } = self;
+        let KeptClaim { claim } = self;
         let _ = claim.leave();
     }
 }
 
-impl Kept {
+impl KeptClaim {
     fn into_claim(self) -> Claim
         ensures { result ≡ self.claim }
     {
-        let Kept { claim } = self;
+        let KeptClaim { claim } = self;
         claim
     }
 }
 
 /// What a host has begun.
 #[derive(Drop)]
-pub enum Stage<'a> {
+pub enum ClaimantStage<'a> {
     Idle,
     Claiming(Claiming<SharedPort<'a>>),
-    Holding(Kept),
+    Holding(KeptClaim),
     Releasing(Releasing<SharedPort<'a>>),
 }
 
 /// A host that claims slots, on the submission queue of this number.
 #[derive(Drop)]
 pub struct Claimant<'a> {
-    pub host: Host<'a>,
+    pub host: BenchHost<'a>,
     pub queue: u16,
-    pub stage: Stage<'a>,
+    pub stage: ClaimantStage<'a>,
 }
 
 /// What a host has begun stays so where its driver did nothing.
-pub(crate) fn begun_stays<'a>(before: &Snapshot<Driver<SharedPort<'a>>>, host: &Host<'a>)
-    ensures { (h : Host) → before.now.value ≡ h.driver → IsUntouched h.driver host.now.driver → (stage : Stage) →
-        IsBegun h stage → IsBegun host.now stage }
+pub(crate) fn begun_stays<'a>(before: &Snapshot<Driver<SharedPort<'a>>>, host: &BenchHost<'a>)
+    ensures { (h : BenchHost) → before.now.value ≡ h.driver → IsUntouched h.driver host.now.driver
+        → (stage : ClaimantStage) →
+        IsClaimantBegun h stage → IsClaimantBegun host.now stage }
 {
     an_untouched_driver_keeps_its_slots(before, &host.driver);
 }
@@ -68,12 +69,12 @@ pub(crate) fn begun_stays<'a>(before: &Snapshot<Driver<SharedPort<'a>>>, host: &
 pub fn claimant_of<'a>(
     alloc: Global,
     bench: &'a Bench,
-    hand: Server,
+    caller: Server,
     h: u16,
     _slots: &Slots,
     count: u32,
 ) -> Option<Claimant<'a>>
-    requires hand { IsServerOf bench.now hand }
+    requires caller { IsServerOf bench.now caller }
     requires number { (1 ≤ h) × (h ≤ bench.now.config.pairs) }
     requires own { bench.now.config.cqs ≡ bench.now.config.pairs }
     requires slots { (area _slots.now ≡ record { slba = 0; blocks = count }) × (count ≤ 65536) }
@@ -86,11 +87,11 @@ pub fn claimant_of<'a>(
         slba: 0,
         blocks: count,
     };
-    let host = host_of(alloc, bench, hand, u32::from(h), range, h, queues)?;
+    let host = host_of(alloc, bench, caller, u32::from(h), range, h, queues)?;
     Some(Claimant {
         host,
         queue: h,
-        stage: Stage::Idle,
+        stage: ClaimantStage::Idle,
     })
 }
 
@@ -98,20 +99,20 @@ pub fn claimant_of<'a>(
 pub fn claimants_of<'a>(
     alloc: Global,
     bench: &'a Bench,
-    spares: &mut Spares,
+    spares: &mut BenchSpares,
     slots: &Slots,
     count: u32,
 ) -> Option<(Server, Claimant<'a>, Claimant<'a>)>
-    requires own { AreOf bench.now spares.old }
+    requires own { AreBenchSpares bench.now spares.old }
     requires queues { (bench.now.config.pairs ≡ 2) × (bench.now.config.cqs ≡ 2) }
     requires slots { (area slots.now ≡ record { slba = 0; blocks = count }) × (count ≤ 65536) }
     ensures server { IfSome result (λ h. IsServerOf bench.entry.now h.0) }
     ensures one { IfSome result (λ h. IsClaimant bench.entry.now slots.now h.1) }
     ensures two { IfSome result (λ h. IsClaimant bench.entry.now slots.now h.2) }
 {
-    let server = hand_of(bench, spares)?;
-    let one = hand_of(bench, spares)?;
-    let two = hand_of(bench, spares)?;
+    let server = caller_of(bench, spares)?;
+    let one = caller_of(bench, spares)?;
+    let two = caller_of(bench, spares)?;
     let one = claimant_of(alloc, bench, one, 1, slots, count)?;
     let two = claimant_of(alloc, bench, two, 2, slots, count)?;
     Some((server, one, two))
@@ -149,12 +150,12 @@ pub enum Came {
 fn begins<'a>(
     _bench: &Bench,
     slots: &Slots,
-    host: &mut Host<'a>,
+    host: &mut BenchHost<'a>,
     slot: Option<u32>,
 ) -> Result<Claiming<SharedPort<'a>>, Fault>
-    requires ready { IsReady _bench.now slots.now host.old }
+    requires ready { IsClaimantReady _bench.now slots.now host.old }
     requires slot { IfSome slot (λ i. i < (area slots.now).blocks) }
-    ensures ready { IsReady _bench.now slots.now host.new }
+    ensures ready { IsClaimantReady _bench.now slots.now host.new }
     ensures claiming { IfOk result (λ k. IsClaimingOf host.new.driver k × IsUnreleased host.new.driver k) }
 {
     match slot {
@@ -169,14 +170,14 @@ pub fn asks(bench: &Bench, slots: &Slots, claimant: &mut Claimant<'_>, slot: Opt
     requires slot { IfSome slot (λ i. i < (area slots.now).blocks) }
     ensures { IsClaimant bench.now slots.now claimant.new }
 {
-    let (stage, came) = match mem::replace(&mut claimant.stage, Stage::Idle) {
-        Stage::Idle => match begins(bench, slots, &mut claimant.host, slot) {
-            Ok(claiming) => (Stage::Claiming(claiming), Came::Begun),
-            Err(fault) => (Stage::Idle, Came::Refused(fault)),
+    let (stage, came) = match mem::replace(&mut claimant.stage, ClaimantStage::Idle) {
+        ClaimantStage::Idle => match begins(bench, slots, &mut claimant.host, slot) {
+            Ok(claiming) => (ClaimantStage::Claiming(claiming), Came::Begun),
+            Err(fault) => (ClaimantStage::Idle, Came::Refused(fault)),
         },
-        Stage::Claiming(claiming) => (Stage::Claiming(claiming), Came::Nothing),
-        Stage::Holding(kept) => (Stage::Holding(kept), Came::Nothing),
-        Stage::Releasing(releasing) => (Stage::Releasing(releasing), Came::Nothing),
+        ClaimantStage::Claiming(claiming) => (ClaimantStage::Claiming(claiming), Came::Nothing),
+        ClaimantStage::Holding(kept) => (ClaimantStage::Holding(kept), Came::Nothing),
+        ClaimantStage::Releasing(releasing) => (ClaimantStage::Releasing(releasing), Came::Nothing),
     };
     claimant.stage = stage;
     came
@@ -187,14 +188,20 @@ pub fn gives_back(_bench: &Bench, slots: &Slots, claimant: &mut Claimant<'_>) ->
     requires { IsClaimant _bench.now slots.now claimant.old }
     ensures { IsClaimant _bench.now slots.now claimant.new }
 {
-    let (stage, came) = match mem::replace(&mut claimant.stage, Stage::Idle) {
-        Stage::Holding(kept) => match slots.release(&mut claimant.host.driver, kept.into_claim()) {
-            Ok(releasing) => (Stage::Releasing(releasing), Came::Begun),
-            Err((claim, fault)) => (Stage::Holding(Kept { claim }), Came::Refused(fault)),
+    let (stage, came) = match mem::replace(&mut claimant.stage, ClaimantStage::Idle) {
+        ClaimantStage::Holding(kept) => match slots.release(
+            &mut claimant.host.driver,
+            kept.into_claim(),
+        ) {
+            Ok(releasing) => (ClaimantStage::Releasing(releasing), Came::Begun),
+            Err((claim, fault)) => (
+                ClaimantStage::Holding(KeptClaim { claim }),
+                Came::Refused(fault),
+            ),
         },
-        Stage::Idle => (Stage::Idle, Came::Nothing),
-        Stage::Claiming(claiming) => (Stage::Claiming(claiming), Came::Nothing),
-        Stage::Releasing(releasing) => (Stage::Releasing(releasing), Came::Nothing),
+        ClaimantStage::Idle => (ClaimantStage::Idle, Came::Nothing),
+        ClaimantStage::Claiming(claiming) => (ClaimantStage::Claiming(claiming), Came::Nothing),
+        ClaimantStage::Releasing(releasing) => (ClaimantStage::Releasing(releasing), Came::Nothing),
     };
     claimant.stage = stage;
     came
@@ -204,24 +211,27 @@ pub fn gives_back(_bench: &Bench, slots: &Slots, claimant: &mut Claimant<'_>) ->
 fn polled_claim<'a>(
     _bench: &Bench,
     _slots: &Slots,
-    host: &mut Host<'a>,
+    host: &mut BenchHost<'a>,
     claiming: Claiming<SharedPort<'a>>,
-) -> (Stage<'a>, Came)
-    requires ready { IsReady _bench.now _slots.now host.old }
+) -> (ClaimantStage<'a>, Came)
+    requires ready { IsClaimantReady _bench.now _slots.now host.old }
     requires of { IsClaimingOf host.old.driver claiming × IsUnreleased host.old.driver claiming }
-    ensures ready { IsReady _bench.now _slots.now host.new }
-    ensures begun { IsBegun host.new result.0 }
+    ensures ready { IsClaimantReady _bench.now _slots.now host.new }
+    ensures begun { IsClaimantBegun host.new result.0 }
 {
     match poll_claim(&mut host.driver, claiming) {
-        Progress::Pending(claiming) => (Stage::Claiming(claiming), Came::Pending),
-        Progress::Later(fault, claiming) => (Stage::Claiming(claiming), Came::Later(fault)),
+        Progress::Pending(claiming) => (ClaimantStage::Claiming(claiming), Came::Pending),
+        Progress::Later(fault, claiming) => (ClaimantStage::Claiming(claiming), Came::Later(fault)),
         Progress::Held(claim) => {
             let slot = claim.slot();
-            (Stage::Holding(Kept { claim }), Came::Held(slot))
+            (
+                ClaimantStage::Holding(KeptClaim { claim }),
+                Came::Held(slot),
+            )
         }
-        Progress::Taken => (Stage::Idle, Came::Taken),
-        Progress::AllTaken => (Stage::Idle, Came::AllTaken),
-        Progress::Failed(fault) => (Stage::Idle, Came::Failed(fault)),
+        Progress::Taken => (ClaimantStage::Idle, Came::Taken),
+        Progress::AllTaken => (ClaimantStage::Idle, Came::AllTaken),
+        Progress::Failed(fault) => (ClaimantStage::Idle, Came::Failed(fault)),
     }
 }
 
@@ -229,19 +239,22 @@ fn polled_claim<'a>(
 fn polled_release<'a>(
     _bench: &Bench,
     _slots: &Slots,
-    host: &mut Host<'a>,
+    host: &mut BenchHost<'a>,
     releasing: Releasing<SharedPort<'a>>,
-) -> (Stage<'a>, Came)
-    requires ready { IsReady _bench.now _slots.now host.old }
+) -> (ClaimantStage<'a>, Came)
+    requires ready { IsClaimantReady _bench.now _slots.now host.old }
     requires of { IsReleasingOf host.old.driver releasing }
-    ensures ready { IsReady _bench.now _slots.now host.new }
-    ensures begun { IsBegun host.new result.0 }
+    ensures ready { IsClaimantReady _bench.now _slots.now host.new }
+    ensures begun { IsClaimantBegun host.new result.0 }
 {
     match poll_release(&mut host.driver, releasing) {
-        Released::Pending(releasing) => (Stage::Releasing(releasing), Came::Pending),
-        Released::Later(fault, releasing) => (Stage::Releasing(releasing), Came::Later(fault)),
-        Released::Released => (Stage::Idle, Came::Released),
-        Released::Failed(fault) => (Stage::Idle, Came::Failed(fault)),
+        Released::Pending(releasing) => (ClaimantStage::Releasing(releasing), Came::Pending),
+        Released::Later(fault, releasing) => (
+            ClaimantStage::Releasing(releasing),
+            Came::Later(fault),
+        ),
+        Released::Released => (ClaimantStage::Idle, Came::Released),
+        Released::Failed(fault) => (ClaimantStage::Idle, Came::Failed(fault)),
     }
 }
 
@@ -250,11 +263,21 @@ pub fn polls_begun(bench: &Bench, slots: &Slots, claimant: &mut Claimant<'_>) ->
     requires { IsClaimant bench.now slots.now claimant.old }
     ensures { IsClaimant bench.now slots.now claimant.new }
 {
-    let (stage, came) = match mem::replace(&mut claimant.stage, Stage::Idle) {
-        Stage::Claiming(claiming) => polled_claim(bench, slots, &mut claimant.host, claiming),
-        Stage::Releasing(releasing) => polled_release(bench, slots, &mut claimant.host, releasing),
-        Stage::Idle => (Stage::Idle, Came::Nothing),
-        Stage::Holding(kept) => (Stage::Holding(kept), Came::Nothing),
+    let (stage, came) = match mem::replace(&mut claimant.stage, ClaimantStage::Idle) {
+        ClaimantStage::Claiming(claiming) => polled_claim(
+            bench,
+            slots,
+            &mut claimant.host,
+            claiming,
+        ),
+        ClaimantStage::Releasing(releasing) => polled_release(
+            bench,
+            slots,
+            &mut claimant.host,
+            releasing,
+        ),
+        ClaimantStage::Idle => (ClaimantStage::Idle, Came::Nothing),
+        ClaimantStage::Holding(kept) => (ClaimantStage::Holding(kept), Came::Nothing),
     };
     claimant.stage = stage;
     came
@@ -266,8 +289,8 @@ pub fn leaves(_bench: &Bench, _slots: &Slots, claimant: &mut Claimant<'_>) -> Op
     requires { IsClaimant _bench.now _slots.now claimant.old }
     ensures { IsClaimant _bench.now _slots.now claimant.new }
 {
-    match mem::replace(&mut claimant.stage, Stage::Idle) {
-        Stage::Holding(kept) => Some(kept.into_claim().leave()),
-        Stage::Idle | Stage::Claiming(_) | Stage::Releasing(_) => None,
+    match mem::replace(&mut claimant.stage, ClaimantStage::Idle) {
+        ClaimantStage::Holding(kept) => Some(kept.into_claim().leave()),
+        ClaimantStage::Idle | ClaimantStage::Claiming(_) | ClaimantStage::Releasing(_) => None,
     }
 }

@@ -2,11 +2,11 @@
 
 ghost use Rattle.std.specs.Prelude.{◌≡◌, ◌<◌, ◌≤◌, IfSome, true, vec_len};
 ghost use Rattle.driver_cas.specs.Drivers.{IsCallOf};
-ghost use Rattle.history.specs.Config.{numbers};
-ghost use Rattle.driver_rows.specs.Benches.{AreNumbered, AreOf, IsHostOf, IsServerOf, uses};
+ghost use Rattle.history.specs.Config.{config_numbers};
+ghost use Rattle.driver_rows.specs.Benches.{AreNumbered, AreBenchSpares, IsBenchHost, IsServerOf, uses};
 
-use crate::ask::{Told, answers, hears};
-use crate::bench::{Bench, Host, Server, Spares, bench_of, hand_of, host_of};
+use crate::ask::{AnswerWords, answers, hears};
+use crate::bench::{Bench, BenchHost, BenchSpares, Server, bench_of, caller_of, host_of};
 use crate::serve::serves;
 use driver_cas::{Call, SharedPort};
 use history::Config;
@@ -16,10 +16,10 @@ use std::sync::Wait;
 
 /// A controller of 8 blocks and two queue pairs with one completion queue each, of `cq` places, with passes for so
 /// many; None where memory is refused.
-pub fn small_bench(alloc: Global, cq: u16, count: usize) -> Option<(Bench, Spares)>
+pub fn small_bench(alloc: Global, cq: u16, count: usize) -> Option<(Bench, BenchSpares)>
     requires { 0 < count }
-    ensures own { IfSome result (λ b. AreOf b.0 b.1) }
-    ensures config { IfSome result (λ b. b.0.config ≡ numbers 8 1 1 0 0 2 4 cq 8 2) }
+    ensures own { IfSome result (λ b. AreBenchSpares b.0 b.1) }
+    ensures config { IfSome result (λ b. b.0.config ≡ config_numbers 8 1 1 0 0 2 4 cq 8 2) }
     ensures count { IfSome result (λ b. vec_len b.1.passes ≡ count) }
     ensures numbered { IfSome result (λ b. AreNumbered count b.1) }
 {
@@ -32,23 +32,23 @@ pub fn small_bench(alloc: Global, cq: u16, count: usize) -> Option<(Bench, Spare
 pub fn desk_of<'a>(
     alloc: Global,
     bench: &'a Bench,
-    spares: &mut Spares,
+    spares: &mut BenchSpares,
     slots: u32,
-) -> Option<(Server, Host<'a>)>
-    requires own { AreOf bench.now spares.old }
+) -> Option<(Server, BenchHost<'a>)>
+    requires own { AreBenchSpares bench.now spares.old }
     requires queue { (uses bench.now.config 1 1 ≡ true) × (1 ≤ bench.now.config.cqs) }
     requires slots { slots ≤ 65536 }
     ensures server { IfSome result (λ d. IsServerOf bench.entry.now d.0) }
-    ensures host { IfSome result (λ d. IsHostOf bench.entry.now d.1) }
+    ensures host { IfSome result (λ d. IsBenchHost bench.entry.now d.1) }
 {
-    let server = hand_of(bench, spares)?;
-    let hand = hand_of(bench, spares)?;
+    let server = caller_of(bench, spares)?;
+    let caller = caller_of(bench, spares)?;
     let queues = [1].to_vec(alloc).ok()?;
     let area = Range {
         slba: 0,
         blocks: slots,
     };
-    let host = host_of(alloc, bench, hand, 1, area, 1, queues)?;
+    let host = host_of(alloc, bench, caller, 1, area, 1, queues)?;
     Some((server, host))
 }
 
@@ -57,12 +57,12 @@ pub fn served<'a, R: Wait>(
     rt: &R,
     bench: &Bench,
     server: &mut Server,
-    host: &mut Host<'a>,
+    host: &mut BenchHost<'a>,
     call: Call<SharedPort<'a>>,
-) -> Told
-    requires own { IsServerOf bench.now server.old × IsHostOf bench.now host.old }
+) -> AnswerWords
+    requires own { IsServerOf bench.now server.old × IsBenchHost bench.now host.old }
     requires call { IsCallOf host.old.driver call }
-    ensures { IsServerOf bench.now server.new × IsHostOf bench.now host.new }
+    ensures { IsServerOf bench.now server.new × IsBenchHost bench.now host.new }
 {
     serves(rt, bench, server, 1);
     hears(rt, bench, host);

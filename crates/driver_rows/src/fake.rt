@@ -35,7 +35,7 @@ pub struct Fake {
     pub reaps: Vec<Script>,
 }
 
-/// A completion with success for the command with this identifier of a submission queue.
+/// A completion with success for the command with this CID of a submission queue.
 pub fn good(queue: u8, cid: u8) -> Script {
     Script::Posted([0, 0, 0, 0, 0, 0, 0, 0, 1, 0, queue, 0, cid, 0, 1, 0])
 }

@@ -10,10 +10,10 @@ mod fake;
 mod serve;
 mod service;
 
-pub use ask::{Ask, Fill, Told, answers, asked, begins, hears, polled, polls, starts};
-pub use bench::{Bench, Host, Server, Spares, bench_of, hand_of, host_of};
+pub use ask::{AnswerWords, Ask, Fill, answers, asked, begins, hears, polled, polls, starts};
+pub use bench::{Bench, BenchHost, BenchSpares, Server, bench_of, caller_of, host_of};
 pub use claimant::{
-    Came, Claimant, Stage, asks, claimant_of, claimants_of, gives_back, leaves, polls_begun,
+    Came, Claimant, ClaimantStage, asks, claimant_of, claimants_of, gives_back, leaves, polls_begun,
 };
 pub use desk::{desk_of, served, small_bench};
 pub use fake::{Did, Fake, Script, driver_of, good};

@@ -4,13 +4,13 @@ ghost use Rattle.std.specs.Prelude.{◌<◌, IfSome};
 ghost use Rattle.driver_cas.specs.Drivers.{IsCallOf};
 ghost use Rattle.driver_cas.specs.Starts.{IsUntouched};
 ghost use Rattle.driver_rows.specs.Benches.{IsServerOf};
-ghost use Rattle.driver_rows.specs.Calls.{Keeps};
+ghost use Rattle.driver_rows.specs.Calls.{KeepsCalls};
 ghost use Rattle.slot_alloc.specs.Areas.{area};
-ghost use Rattle.driver_rows.specs.Claimants.{IsClaimant, IsReady};
+ghost use Rattle.driver_rows.specs.Claimants.{IsClaimant, IsClaimantReady};
 
-use crate::ask::{Ask, Told, begins, hears, polled};
-use crate::bench::{Bench, Host, Server};
-use crate::claimant::{Came, Claimant, Stage, asks, begun_stays, gives_back, polls_begun};
+use crate::ask::{AnswerWords, Ask, begins, hears, polled};
+use crate::bench::{Bench, BenchHost, Server};
+use crate::claimant::{Came, Claimant, ClaimantStage, asks, begun_stays, gives_back, polls_begun};
 use crate::serve::serves;
 use driver_cas::{Call, Poll, Reply, SharedPort};
 use slot_alloc::Slots;
@@ -24,7 +24,7 @@ pub type Contents = [u8; 512];
 pub fn hears_all<R: Wait>(rt: &R, bench: &Bench, slots: &Slots, claimant: &mut Claimant<'_>)
     requires { IsClaimant bench.now slots.now claimant.old }
     ensures claimant { IsClaimant bench.now slots.now claimant.new }
-    ensures calls { Keeps claimant.old.host claimant.new.host }
+    ensures calls { KeepsCalls claimant.old.host claimant.new.host }
 {
     let before = Snapshot::of(&claimant.host.driver);
     listens(rt, bench, slots, &mut claimant.host);
@@ -50,13 +50,13 @@ pub fn is_served<R: Wait>(
 }
 
 // They meet; whether no other caller had the controller.
-fn met(_bench: &Bench, _slots: &Slots, one: &mut Host<'_>, two: &mut Host<'_>) -> bool
-    requires one { IsReady _bench.now _slots.now one.old }
-    requires two { IsReady _bench.now _slots.now two.old }
-    ensures one { IsReady _bench.now _slots.now one.new }
-    ensures two { IsReady _bench.now _slots.now two.new }
-    ensures first { Keeps one.old one.new × IsUntouched one.old.driver one.new.driver }
-    ensures second { Keeps two.old two.new × IsUntouched two.old.driver two.new.driver }
+fn met(_bench: &Bench, _slots: &Slots, one: &mut BenchHost<'_>, two: &mut BenchHost<'_>) -> bool
+    requires one { IsClaimantReady _bench.now _slots.now one.old }
+    requires two { IsClaimantReady _bench.now _slots.now two.old }
+    ensures one { IsClaimantReady _bench.now _slots.now one.new }
+    ensures two { IsClaimantReady _bench.now _slots.now two.new }
+    ensures first { KeepsCalls one.old one.new × IsUntouched one.old.driver one.new.driver }
+    ensures second { KeepsCalls two.old two.new × IsUntouched two.old.driver two.new.driver }
 {
     one.driver.meet(&mut two.driver).is_ok()
 }
@@ -77,10 +77,10 @@ pub fn meets(bench: &Bench, slots: &Slots, one: &mut Claimant<'_>, two: &mut Cla
 }
 
 // The host and a server meet; whether no other caller had the controller.
-fn met_server(_bench: &Bench, _slots: &Slots, host: &mut Host<'_>, server: &mut Server) -> bool
-    requires host { IsReady _bench.now _slots.now host.old }
+fn met_server(_bench: &Bench, _slots: &Slots, host: &mut BenchHost<'_>, server: &mut Server) -> bool
+    requires host { IsClaimantReady _bench.now _slots.now host.old }
     requires server { IsServerOf _bench.now server.old }
-    ensures host { IsReady _bench.now _slots.now host.new }
+    ensures host { IsClaimantReady _bench.now _slots.now host.new }
     ensures untouched { IsUntouched host.old.driver host.new.driver }
     ensures server { IsServerOf _bench.now server.new }
 {
@@ -187,11 +187,11 @@ fn contents_of(reply: &Reply) -> Option<Contents> {
 pub fn begins_call<'a>(
     _bench: &Bench,
     _slots: &Slots,
-    host: &mut Host<'a>,
+    host: &mut BenchHost<'a>,
     ask: Ask,
 ) -> Option<Call<SharedPort<'a>>>
-    requires { IsReady _bench.now _slots.now host.old }
-    ensures ready { IsReady _bench.now _slots.now host.new }
+    requires { IsClaimantReady _bench.now _slots.now host.old }
+    ensures ready { IsClaimantReady _bench.now _slots.now host.new }
     ensures call { IfSome result (λ k. IsCallOf host.new.driver k) }
 {
     begins(&mut host.driver, ask).ok()
@@ -201,12 +201,12 @@ pub fn begins_call<'a>(
 pub fn polls_call<'a>(
     _bench: &Bench,
     _slots: &Slots,
-    host: &mut Host<'a>,
+    host: &mut BenchHost<'a>,
     call: Call<SharedPort<'a>>,
-) -> (Told, Option<Call<SharedPort<'a>>>)
-    requires ready { IsReady _bench.now _slots.now host.old }
+) -> (AnswerWords, Option<Call<SharedPort<'a>>>)
+    requires ready { IsClaimantReady _bench.now _slots.now host.old }
     requires call { IsCallOf host.old.driver call }
-    ensures ready { IsReady _bench.now _slots.now host.new }
+    ensures ready { IsClaimantReady _bench.now _slots.now host.new }
     ensures back { IfSome result.1 (λ k. IsCallOf host.new.driver k) }
 {
     polled(&mut host.driver, call)
@@ -216,12 +216,12 @@ pub fn polls_call<'a>(
 fn polled_read<'a>(
     _bench: &Bench,
     _slots: &Slots,
-    host: &mut Host<'a>,
+    host: &mut BenchHost<'a>,
     call: Call<SharedPort<'a>>,
 ) -> Option<Contents>
-    requires ready { IsReady _bench.now _slots.now host.old }
+    requires ready { IsClaimantReady _bench.now _slots.now host.old }
     requires call { IsCallOf host.old.driver call }
-    ensures { IsReady _bench.now _slots.now host.new }
+    ensures { IsClaimantReady _bench.now _slots.now host.new }
 {
     match host.driver.poll(call) {
         Poll::Done(reply) => contents_of(&reply),
@@ -230,10 +230,10 @@ fn polled_read<'a>(
 }
 
 // Learns all notices that are there.
-fn listens<'a, R: Wait>(rt: &R, bench: &Bench, _slots: &Slots, host: &mut Host<'a>)
-    requires { IsReady bench.now _slots.now host.old }
-    ensures ready { IsReady bench.now _slots.now host.new }
-    ensures calls { Keeps host.old host.new }
+fn listens<'a, R: Wait>(rt: &R, bench: &Bench, _slots: &Slots, host: &mut BenchHost<'a>)
+    requires { IsClaimantReady bench.now _slots.now host.old }
+    ensures ready { IsClaimantReady bench.now _slots.now host.new }
+    ensures calls { KeepsCalls host.old host.new }
     ensures untouched { IsUntouched host.old.driver host.new.driver }
 {
     hears(rt, bench, host);
@@ -254,7 +254,7 @@ pub fn reads<R: Wait>(
     ensures server { IsServerOf bench.now server.new }
     ensures claimant { IsClaimant bench.now slots.now claimant.new }
 {
-    claimant.stage = Stage::Idle;
+    claimant.stage = ClaimantStage::Idle;
     let call = begins_call(bench, slots, &mut claimant.host, Ask::Read(lba, 1))?;
     serves(rt, bench, server, claimant.queue);
     listens(rt, bench, slots, &mut claimant.host);

@@ -9,10 +9,10 @@ use Rattle.work_queue.specs.declared.engine.Open.{Open}
 use Rattle.work_queue.specs.declared.engine.Opened.TheVariants as opened
 use Rattle.work_queue.specs.declared.work.Work.{Work}
 use Rattle.driver_rows.specs.declared.bench.Bench.{Bench}
-use Rattle.driver_tests.specs.Crews.{IsFreshWork}
+use Rattle.driver_tests.specs.Crews.{IsBenchWork}
 
 by_answer : (b : Bench) (q : engine.EnginePass) (e : Entry) (a : Answer) (w : Work)
-    → engine.IsOpened b.engine q e a (opened.Fetched w) → IsFreshWork b w
+    → engine.IsOpened b.engine q e a (opened.Fetched w) → IsBenchWork b w
 by_answer b q e Answer.Published w h = absurd h
 by_answer b q e (Answer.Fetched x) w h =
     (h.1, ap (λ n. is_only_fetch n (engine.its w)) (ap (λ (y : Duty). y.ticket) h.0) ∙ h.4)
@@ -22,5 +22,5 @@ by_answer b q e (Answer.Posted c) w h = absurd h
 by_answer b q e (Answer.Reaped c p) w h = absurd h
 
 pub fetched_fresh : (b : Bench) (p q : engine.EnginePass) (o : Open) (w : Work)
-    → engine.OpenedAs b.engine p q o (opened.Fetched w) → IsFreshWork b w
+    → engine.OpenedAs b.engine p q o (opened.Fetched w) → IsBenchWork b w
 fetched_fresh b p q o w h = by_answer b q h.by.entry h.answer w h.is

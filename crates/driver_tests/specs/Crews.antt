@@ -19,5 +19,5 @@ pub record AreCrewOf (b : Bench) (works : MessageQueue Work) (fetcher : Server) 
   pub out_of : IsPlaceOf b.engine works out
 
 -- a Work of the bench's engine that may be pushed
-abbrev pub IsFreshWork : Bench → Work → Type 0
-IsFreshWork b w = engine.IsWorkOf b.engine w × (is_only_fetch w.work.ticket (engine.its w) ≡ true)
+abbrev pub IsBenchWork : Bench → Work → Type 0
+IsBenchWork b w = engine.IsWorkOf b.engine w × (is_only_fetch w.work.ticket (engine.its w) ≡ true)

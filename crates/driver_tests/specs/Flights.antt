@@ -1,20 +1,20 @@
 -- The calls of one driver that are in flight.
 use Rattle.std.specs.Prelude.{All, AllPairs, List}
-use Rattle.driver_cas.specs.Drivers.{IsApart, IsCallOf}
+use Rattle.driver_cas.specs.Drivers.{SharesNoCid, IsCallOf}
 use Rattle.driver_cas.specs.declared.call.Call.{Call}
 use Rattle.driver_cas.specs.declared.driver.Driver.{Driver}
 use Rattle.driver_cas.specs.declared.port.Port.{Ghosts}
 use Rattle.driver_cas.specs.declared.shared_port.SharedPort.{SharedPort}
-use Rattle.driver_rows.specs.Benches.{IsHostOf}
+use Rattle.driver_rows.specs.Benches.{IsBenchHost}
 use Rattle.driver_rows.specs.declared.bench.Bench.{Bench}
-use Rattle.driver_rows.specs.declared.bench.Host.{Host}
+use Rattle.driver_rows.specs.declared.bench.BenchHost.{BenchHost}
 
 module _ {P : Type 0} {g : Ghosts P} where
   -- All are the driver's, and no two of them have a CID in common.
   pub record AreCallsOf (d : Driver P g) (ks : List (Call P)) : Type 0 where
     pub all : All (IsCallOf d) ks
-    pub apart : AllPairs IsApart ks
+    pub apart : AllPairs SharesNoCid ks
 
 -- a host with its calls in flight
-abbrev pub AreInFlight : Bench → Host → List (Call SharedPort) → Type 0
-AreInFlight b h ks = IsHostOf b h × AreCallsOf h.driver ks
+abbrev pub AreInFlight : Bench → BenchHost → List (Call SharedPort) → Type 0
+AreInFlight b h ks = IsBenchHost b h × AreCallsOf h.driver ks

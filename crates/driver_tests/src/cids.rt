@@ -1,12 +1,12 @@
-//! Which identifiers calls get, and when these are free again.
+//! Which CIDs calls get, and when these are free again.
 
 ghost use Rattle.std.specs.List.Sorted.{IsStrictlyIncreasing};
 ghost use Rattle.std.specs.Prelude.{◌≤◌, length};
 
-use crate::acts::{Act, acts_all};
+use crate::acts::{CallAct, acts_all};
 use crate::sent::{Sent, one, published, two};
 use driver_cas::{Fault, PortFault};
-use driver_rows::{Ask, Fill, Script, Told, driver_of, good};
+use driver_rows::{AnswerWords, Ask, Fill, Script, driver_of, good};
 use std::alloc::Global;
 use std::process::Abort;
 use std::test::Fail;
@@ -24,7 +24,7 @@ fn publishes<R: Abort>(
     alloc: Global,
     queues: &[u16],
     answers: (&[Option<PortFault>], &[Script]),
-    acts: &[Act],
+    acts: &[CallAct],
     count: usize,
     last: &[Sent],
 ) -> Result<(), Fail>
@@ -52,15 +52,15 @@ fn nth(place: usize) -> Sent {
 #[test]
 fn the_least_free_ones_are_drawn(rt: HostRuntime) -> Result<(), Fail> {
     let acts = [
-        Act::Begin(128, READ),
-        Act::Refused(READ, FULL),
-        Act::Refused(PAIR, FULL),
-        Act::End(69, 1, Told::Read(1, 5)),
-        Act::Begin(1, READ),
-        Act::Refused(READ, FULL),
-        Act::End(3, 1, Told::Read(1, 3)),
-        Act::Begin(1, READ),
-        Act::Refused(READ, FULL),
+        CallAct::Begin(128, READ),
+        CallAct::Refused(READ, FULL),
+        CallAct::Refused(PAIR, FULL),
+        CallAct::End(69, 1, AnswerWords::Read(1, 5)),
+        CallAct::Begin(1, READ),
+        CallAct::Refused(READ, FULL),
+        CallAct::End(3, 1, AnswerWords::Read(1, 3)),
+        CallAct::Begin(1, READ),
+        CallAct::Refused(READ, FULL),
     ];
     let mut all = Vec::new(rt.alloc());
     for place in 0..128 {
@@ -83,10 +83,10 @@ fn the_least_free_ones_are_drawn(rt: HostRuntime) -> Result<(), Fail> {
 #[test]
 fn sixty_three_leave_room_for_a_read(rt: HostRuntime) -> Result<(), Fail> {
     let acts = [
-        Act::Begin(63, READ),
-        Act::Refused(PAIR, FULL),
-        Act::Begin(1, READ),
-        Act::Refused(READ, FULL),
+        CallAct::Begin(63, READ),
+        CallAct::Refused(PAIR, FULL),
+        CallAct::Begin(1, READ),
+        CallAct::Refused(READ, FULL),
     ];
     publishes(&rt, rt.alloc(), &[1], (&[], &[]), &acts, 64, &[one(1, 63)])
 }
@@ -94,15 +94,15 @@ fn sixty_three_leave_room_for_a_read(rt: HostRuntime) -> Result<(), Fail> {
 #[test]
 fn a_pair_takes_two(rt: HostRuntime) -> Result<(), Fail> {
     let acts = [
-        Act::Begin(63, READ),
-        Act::Refused(PAIR, FULL),
-        Act::End(7, 1, Told::Read(1, 7)),
-        Act::Begin(1, PAIR),
-        Act::Refused(READ, FULL),
-        Act::End(8, 1, Told::Read(1, 9)),
-        Act::Refused(PAIR, FULL),
-        Act::Begin(1, READ),
-        Act::Refused(READ, FULL),
+        CallAct::Begin(63, READ),
+        CallAct::Refused(PAIR, FULL),
+        CallAct::End(7, 1, AnswerWords::Read(1, 7)),
+        CallAct::Begin(1, PAIR),
+        CallAct::Refused(READ, FULL),
+        CallAct::End(8, 1, AnswerWords::Read(1, 9)),
+        CallAct::Refused(PAIR, FULL),
+        CallAct::Begin(1, READ),
+        CallAct::Refused(READ, FULL),
     ];
     publishes(
         &rt,
@@ -118,9 +118,9 @@ fn a_pair_takes_two(rt: HostRuntime) -> Result<(), Fail> {
 #[test]
 fn a_pair_goes_where_two_are_free(rt: HostRuntime) -> Result<(), Fail> {
     let acts = [
-        Act::Begin(63, READ),
-        Act::Begin(1, PAIR),
-        Act::Begin(2, READ),
+        CallAct::Begin(63, READ),
+        CallAct::Begin(1, PAIR),
+        CallAct::Begin(2, READ),
     ];
     let last = [two(2, 0, 1), one(1, 63), one(2, 2)];
     publishes(&rt, rt.alloc(), &[1, 2], (&[], &[]), &acts, 66, &last)
@@ -130,11 +130,11 @@ fn a_pair_goes_where_two_are_free(rt: HostRuntime) -> Result<(), Fail> {
 #[test]
 fn a_dropped_call_keeps_its_own(rt: HostRuntime) -> Result<(), Fail> {
     let acts = [
-        Act::Begin(1, READ),
-        Act::End(0, 0, Told::Pending),
-        Act::Begin(1, READ),
-        Act::End(0, 2, Told::Read(1, 1)),
-        Act::Begin(3, READ),
+        CallAct::Begin(1, READ),
+        CallAct::End(0, 0, AnswerWords::Pending),
+        CallAct::Begin(1, READ),
+        CallAct::End(0, 2, AnswerWords::Read(1, 1)),
+        CallAct::Begin(3, READ),
     ];
     let all = [one(1, 0), one(1, 1), one(1, 1), one(1, 2), one(1, 3)];
     publishes(
@@ -152,12 +152,12 @@ fn a_dropped_call_keeps_its_own(rt: HostRuntime) -> Result<(), Fail> {
 #[test]
 fn a_call_keeps_its_own_till_it_is_polled(rt: HostRuntime) -> Result<(), Fail> {
     let acts = [
-        Act::Begin(64, READ),
-        Act::End(1, 1, Told::Pending),
-        Act::Refused(READ, FULL),
-        Act::End(0, 1, Told::Read(1, 0)),
-        Act::Begin(1, READ),
-        Act::Refused(READ, FULL),
+        CallAct::Begin(64, READ),
+        CallAct::End(1, 1, AnswerWords::Pending),
+        CallAct::Refused(READ, FULL),
+        CallAct::End(0, 1, AnswerWords::Read(1, 0)),
+        CallAct::Begin(1, READ),
+        CallAct::Refused(READ, FULL),
     ];
     publishes(
         &rt,
@@ -174,13 +174,13 @@ fn a_call_keeps_its_own_till_it_is_polled(rt: HostRuntime) -> Result<(), Fail> {
 #[test]
 fn a_pair_keeps_both_till_both_have_ended(rt: HostRuntime) -> Result<(), Fail> {
     let acts = [
-        Act::Begin(1, PAIR),
-        Act::Begin(62, READ),
-        Act::End(1, 1, Told::Pending),
-        Act::Refused(READ, FULL),
-        Act::End(0, 1, Told::Swapped),
-        Act::Begin(1, PAIR),
-        Act::Refused(READ, FULL),
+        CallAct::Begin(1, PAIR),
+        CallAct::Begin(62, READ),
+        CallAct::End(1, 1, AnswerWords::Pending),
+        CallAct::Refused(READ, FULL),
+        CallAct::End(0, 1, AnswerWords::Swapped),
+        CallAct::Begin(1, PAIR),
+        CallAct::Refused(READ, FULL),
     ];
     publishes(
         &rt,
@@ -198,7 +198,7 @@ fn tries<R: Abort>(
     rt: &R,
     alloc: Global,
     refusals: &[Option<PortFault>],
-    acts: &[Act],
+    acts: &[CallAct],
     all: &[Sent],
 ) -> Result<(), Fail> {
     publishes(rt, alloc, &[1, 2], (refusals, &[]), acts, all.len(), all)
@@ -208,20 +208,20 @@ fn tries<R: Abort>(
 // NoMemory at the first, where the second would have answered RingFull.
 #[test]
 fn the_next_queue_is_tried_after_ring_full(rt: HostRuntime) -> Result<(), Fail> {
-    let acts = [Act::Begin(2, READ)];
+    let acts = [CallAct::Begin(2, READ)];
     let all = [one(2, 0), one(1, 0)];
     tries(&rt, rt.alloc(), &[Some(PortFault::RingFull)], &acts, &all)?;
-    let acts = [Act::Refused(READ, FULL), Act::Begin(1, PAIR)];
+    let acts = [CallAct::Refused(READ, FULL), CallAct::Begin(1, PAIR)];
     let both = [Some(PortFault::RingFull), Some(PortFault::RingFull)];
     tries(&rt, rt.alloc(), &both, &acts, &[two(1, 0, 1)])?;
-    let acts = [Act::Refused(PAIR, Fault::Busy), Act::Begin(1, READ)];
+    let acts = [CallAct::Refused(PAIR, Fault::Busy), CallAct::Begin(1, READ)];
     let second = [Some(PortFault::Busy), Some(PortFault::RingFull)];
     tries(&rt, rt.alloc(), &second, &acts, &[one(1, 0)])?;
     for (refusal, fault) in [
         (PortFault::Busy, Fault::Busy),
         (PortFault::NoMemory, Fault::NoMemory),
     ] {
-        let acts = [Act::Refused(READ, fault), Act::Begin(1, PAIR)];
+        let acts = [CallAct::Refused(READ, fault), CallAct::Begin(1, PAIR)];
         let first = [Some(PortFault::RingFull), Some(refusal)];
         tries(&rt, rt.alloc(), &first, &acts, &[two(2, 0, 1)])?;
     }

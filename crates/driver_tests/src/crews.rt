@@ -2,11 +2,11 @@
 
 ghost use Rattle.std.specs.Prelude.{◌≡◌, All, IfOk, IfSome};
 ghost use Rattle.work_queue.specs.QueuePasses.{IsPlaceOf};
-ghost use Rattle.driver_rows.specs.Benches.{AreOf, IsServerOf};
-ghost use Rattle.driver_tests.specs.Crews.{AreCrewOf, IsFreshWork};
+ghost use Rattle.driver_rows.specs.Benches.{AreBenchSpares, IsServerOf};
+ghost use Rattle.driver_tests.specs.Crews.{AreCrewOf, IsBenchWork};
 
-use crate::hands::server_of;
-use driver_rows::{Bench, Server, Spares, ends};
+use crate::callers::server_of;
+use driver_rows::{Bench, BenchSpares, Server, ends};
 use lock_rows::number;
 use meet_lock::Declined;
 use std::process::Abort;
@@ -16,7 +16,7 @@ use work_queue::{Open, Opened, QueuePass, Work, WorkQueue};
 
 /// A fetcher, which pushes what it fetches, and a worker, which pops it.
 #[derive(Drop)]
-pub(crate) struct Crew {
+pub(crate) struct ServerPair {
     pub(crate) fetcher: Server,
     pub(crate) into: QueuePass<Work>,
     pub(crate) worker: Server,
@@ -45,20 +45,20 @@ fn place_of(
 /// A crew with two of these passes.
 pub(crate) fn crew_of(
     bench: &Bench,
-    spares: &mut Spares,
+    spares: &mut BenchSpares,
     works: &WorkQueue,
     places: &mut Vec<QueuePass<Work>>,
-) -> Result<Crew, Fail>
-    requires own { AreOf bench.now spares.old }
+) -> Result<ServerPair, Fail>
+    requires own { AreBenchSpares bench.now spares.old }
     requires places { All (IsPlaceOf bench.now.engine works.now) places.old.items }
-    ensures rest { AreOf bench.now spares.new }
+    ensures rest { AreBenchSpares bench.now spares.new }
     ensures crew { IfOk result (λ c. AreCrewOf bench.now works.now c.fetcher c.into c.worker c.out) }
 {
     let into = place_of(bench, works, places)?;
     let out = place_of(bench, works, places)?;
     let fetcher = server_of(bench, spares)?;
     let worker = server_of(bench, spares)?;
-    Ok(Crew {
+    Ok(ServerPair {
         fetcher,
         into,
         worker,
@@ -71,7 +71,7 @@ pub(crate) fn crew_of(
 fn fetched(bench: &Bench, server: &mut Server, queue: u16) -> Result<Work, u8>
     requires { IsServerOf bench.now server.old }
     ensures same { IsServerOf bench.now server.new }
-    ensures work { IfOk result (IsFreshWork bench.now) }
+    ensures work { IfOk result (IsBenchWork bench.now) }
 {
     match bench
         .engine
@@ -95,10 +95,10 @@ fn carried<R: Wait>(
 ) -> Option<Work>
     requires into { IsPlaceOf bench.now.engine works.now into.old }
     requires out { IsPlaceOf bench.now.engine works.now out.old }
-    requires work { IsFreshWork bench.now work }
+    requires work { IsBenchWork bench.now work }
     ensures into { IsPlaceOf bench.now.engine works.now into.new }
     ensures out { IsPlaceOf bench.now.engine works.now out.new }
-    ensures work { IfSome result (IsFreshWork bench.now) }
+    ensures work { IfSome result (IsBenchWork bench.now) }
 {
     // (named by the contract alone)
     let _ = bench;
@@ -113,7 +113,7 @@ fn serves_one<R: Abort + Wait>(
     rt: &R,
     bench: &Bench,
     works: &WorkQueue,
-    crew: &mut Crew,
+    crew: &mut ServerPair,
     queue: u16,
 ) -> u8
     requires { AreCrewOf bench.now works.now crew.old.fetcher crew.old.into crew.old.worker crew.old.out }
@@ -135,7 +135,7 @@ pub(crate) fn crew_serves<R: Abort + Wait>(
     rt: &R,
     bench: &Bench,
     works: &WorkQueue,
-    crew: &mut Crew,
+    crew: &mut ServerPair,
     queue: u16,
 )
     requires { AreCrewOf bench.now works.now crew.old.fetcher crew.old.into crew.old.worker crew.old.out }

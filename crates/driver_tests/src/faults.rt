@@ -1,4 +1,4 @@
-//! Calls whose port refuses their Publish, and claims that find too few identifiers.
+//! Calls whose port refuses their Publish, and claims that find too few CIDs.
 
 ghost use Rattle.std.specs.Prelude.{◌≡◌};
 ghost use Rattle.driver_cas.specs.Drivers.{area_of};
@@ -11,7 +11,7 @@ use std::process::Abort;
 use std::test::Fail;
 
 #[derive(Clone, Copy, Debug)]
-enum Start {
+enum StartCall {
     Asks(Ask),
     /// Of the slot at block 0.
     Claims,
@@ -19,25 +19,25 @@ enum Start {
     Releases,
 }
 
-const STARTS: [Start; 7] = [
-    Start::Asks(Ask::Read(1, 2)),
-    Start::Asks(Ask::WriteZeroes(1, 2)),
-    Start::Asks(Ask::Write(1, Fill(0xa1, 1024))),
-    Start::Asks(Ask::Compare(1, Fill(0xa1, 1024))),
-    Start::Asks(Ask::CompareAndWrite(1, Fill(0xa1, 512), Fill(0xb2, 512))),
-    Start::Claims,
-    Start::Releases,
+const STARTS: [StartCall; 7] = [
+    StartCall::Asks(Ask::Read(1, 2)),
+    StartCall::Asks(Ask::WriteZeroes(1, 2)),
+    StartCall::Asks(Ask::Write(1, Fill(0xa1, 1024))),
+    StartCall::Asks(Ask::Compare(1, Fill(0xa1, 1024))),
+    StartCall::Asks(Ask::CompareAndWrite(1, Fill(0xa1, 512), Fill(0xb2, 512))),
+    StartCall::Claims,
+    StartCall::Releases,
 ];
 
 // Begins the call, and drops it; the serial of a claim, else 0.
-fn starts(driver: &mut Driver<Fake>, start: Start) -> Result<u64, Fault>
+fn starts(driver: &mut Driver<Fake>, start: StartCall) -> Result<u64, Fault>
     requires { area_of driver.old ≡ record { slba = 0; blocks = 1 } }
     ensures { area_of driver.new ≡ record { slba = 0; blocks = 1 } }
 {
     match start {
-        Start::Asks(ask) => begins(driver, ask).map(|_| 0),
-        Start::Claims => driver.start_claim(0).map(|claim| claim.1),
-        Start::Releases => driver.start_release(0, 1).map(|_| 0),
+        StartCall::Asks(ask) => begins(driver, ask).map(|_| 0),
+        StartCall::Claims => driver.start_claim(0).map(|claim| claim.1),
+        StartCall::Releases => driver.start_release(0, 1).map(|_| 0),
     }
 }
 
@@ -61,14 +61,18 @@ fn one_alike(one: Driver<Fake>, two: Driver<Fake>) -> bool {
 }
 
 // Begins the call after these faults; a claim gets serial 1.
-fn begins_after<R: Abort>(rt: &R, driver: &mut Driver<Fake>, start: Start, faults: &[Fault])
+fn begins_after<R: Abort>(rt: &R, driver: &mut Driver<Fake>, start: StartCall, faults: &[Fault])
     requires { area_of driver.old ≡ record { slba = 0; blocks = 1 } }
 {
     for fault in faults {
         let begun = starts(driver, start);
         assert_eq!(rt; begun, Err(*fault), "{start:?}");
     }
-    let serial = if matches!(start, Start::Claims) { 1 } else { 0 };
+    let serial = if matches!(start, StartCall::Claims) {
+        1
+    } else {
+        0
+    };
     let begun = starts(driver, start);
     assert_eq!(rt; begun, Ok(serial), "{start:?}");
 }
@@ -77,7 +81,7 @@ fn begins_after<R: Abort>(rt: &R, driver: &mut Driver<Fake>, start: Start, fault
 fn begun<R: Abort>(
     rt: &R,
     alloc: Global,
-    start: Start,
+    start: StartCall,
     refusals: &[Option<PortFault>],
     faults: &[Fault],
 ) -> Result<Driver<Fake>, Fail> {
@@ -92,7 +96,7 @@ fn begun<R: Abort>(
 fn as_before<R: Abort>(
     rt: &R,
     alloc: Global,
-    start: Start,
+    start: StartCall,
     refusal: PortFault,
     fault: Fault,
 ) -> Result<(), Fail> {
@@ -117,7 +121,11 @@ fn after_a_fault_the_driver_is_as_before(rt: HostRuntime) -> Result<(), Fail> {
 }
 
 // How each of these is begun.
-fn all_begin<R: Abort>(rt: &R, driver: &mut Driver<Fake>, all: &[(u8, Start, Result<u64, Fault>)])
+fn all_begin<R: Abort>(
+    rt: &R,
+    driver: &mut Driver<Fake>,
+    all: &[(u8, StartCall, Result<u64, Fault>)],
+)
     requires { area_of driver.old ≡ record { slba = 0; blocks = 1 } }
     ensures { area_of driver.new ≡ record { slba = 0; blocks = 1 } }
 {
@@ -130,13 +138,13 @@ fn all_begin<R: Abort>(rt: &R, driver: &mut Driver<Fake>, all: &[(u8, Start, Res
 
 // No serial is used up.
 #[test]
-fn a_claim_needs_two_identifiers(rt: HostRuntime) -> Result<(), Fail> {
+fn a_claim_needs_two_cids(rt: HostRuntime) -> Result<(), Fail> {
     let mut driver = driver_of(rt.alloc(), &[1], 1, &[], &[]).ok_or("memory")?;
     let all = [
-        (1, Start::Claims, Ok(1)),
+        (1, StartCall::Claims, Ok(1)),
         (61, STARTS[0], Ok(0)),
-        (1, Start::Claims, Err(Fault::RingFull)),
-        (1, Start::Releases, Err(Fault::RingFull)),
+        (1, StartCall::Claims, Err(Fault::RingFull)),
+        (1, StartCall::Releases, Err(Fault::RingFull)),
         (1, STARTS[0], Ok(0)),
         (1, STARTS[0], Err(Fault::RingFull)),
     ];

@@ -5,7 +5,7 @@ ghost use Rattle.driver_cas.specs.Drivers.{IsCallOf, port_of};
 ghost use Rattle.driver_tests.specs.Flights.{AreCallsOf};
 
 use driver_cas::{Call, Driver, Fault, Port};
-use driver_rows::{Ask, Told, begins, polled};
+use driver_rows::{AnswerWords, Ask, begins, polled};
 use std::alloc::Global;
 
 /// No calls.
@@ -54,14 +54,14 @@ fn takes<P: Port>(driver: &Driver<P>, calls: &mut Vec<Call<P>>, place: usize) ->
 }
 
 /// Polls the call at a place, the first at 0, until it is answered, at most so many times: what it was told, and how
-/// often it was polled. It is in flight no longer, and one that wasn't answered keeps its identifiers. None where there
+/// often it was polled. It is in flight no longer, and one that wasn't answered keeps its CIDs. None where there
 /// is no such call.
 pub(crate) fn ends_one<P: Port>(
     driver: &mut Driver<P>,
     calls: &mut Vec<Call<P>>,
     place: usize,
     most: u32,
-) -> Option<(Told, u32)>
+) -> Option<(AnswerWords, u32)>
     requires { AreCallsOf driver.old calls.old.items }
     ensures later { P.follows (port_of driver.old) (port_of driver.new) }
     ensures calls { AreCallsOf driver.new calls.new.items }
@@ -74,5 +74,5 @@ pub(crate) fn ends_one<P: Port>(
         };
         next = call;
     }
-    Some((Told::Pending, most))
+    Some((AnswerWords::Pending, most))
 }

@@ -1,16 +1,16 @@
 //! Submission queues that are full.
 
 ghost use Rattle.std.specs.Prelude.{◌≡◌, ◌≤◌, IfOk, true};
-ghost use Rattle.history.specs.Config.{numbers};
-ghost use Rattle.work_queue.specs.Engines.{IsOf};
-ghost use Rattle.driver_rows.specs.Benches.{AreOf, uses};
+ghost use Rattle.history.specs.Config.{config_numbers};
+ghost use Rattle.work_queue.specs.Engines.{IsPassOfEngine};
+ghost use Rattle.driver_rows.specs.Benches.{AreBenchSpares, uses};
 
-use crate::hands::{on_both, server_of};
+use crate::callers::{on_both, server_of};
 use crate::sent::{Sent, one, published_in, two};
 use crate::turns::{Turn, turns_all};
 use crate::under_way::pass_of;
 use driver_cas::Fault;
-use driver_rows::{Ask, Bench, Fill, Spares, Told, bench_of};
+use driver_rows::{AnswerWords, Ask, Bench, BenchSpares, Fill, bench_of};
 use history::Config;
 use meet_lock::Pass;
 use std::alloc::Global;
@@ -25,12 +25,12 @@ const PAIR: Ask = Ask::CompareAndWrite(1, Fill(0xa1, 512), Fill(0xb2, 512));
 
 const FULL: Fault = Fault::RingFull;
 
-const ZEROS: Told = Told::Read(512, 0);
+const ZEROS: AnswerWords = AnswerWords::Read(512, 0);
 
 // A bench of `config2 8 1 1 0 0 2 SQ 8 8 1`.
-fn narrow(alloc: Global, sq: u16) -> Result<(Bench, Spares), Fail>
-    ensures own { IfOk result (λ b. AreOf b.0 b.1) }
-    ensures config { IfOk result (λ b. b.0.config ≡ numbers 8 1 1 0 0 2 sq 8 8 1) }
+fn narrow(alloc: Global, sq: u16) -> Result<(Bench, BenchSpares), Fail>
+    ensures own { IfOk result (λ b. AreBenchSpares b.0 b.1) }
+    ensures config { IfOk result (λ b. b.0.config ≡ config_numbers 8 1 1 0 0 2 sq 8 8 1) }
 {
     let Ok(config) = Config::with_cqs(8, 1, 1, 0, 0, 2, sq, 8, 8, 1) else {
         return Err(Fail::from("the configuration is refused"));
@@ -43,14 +43,14 @@ fn pass_after<R: Abort + Wait>(
     rt: &R,
     alloc: Global,
     bench: &Bench,
-    spares: &mut Spares,
+    spares: &mut BenchSpares,
     turns: &[Turn],
 ) -> Result<Pass<Core>, Fail>
-    requires own { AreOf bench.now spares.old }
+    requires own { AreBenchSpares bench.now spares.old }
     requires some { 1 ≤ bench.now.config.cqs }
     requires one { uses bench.now.config 1 1 ≡ true }
     requires two { uses bench.now.config 1 2 ≡ true }
-    ensures { IfOk result (IsOf bench.now.engine) }
+    ensures { IfOk result (IsPassOfEngine bench.now.engine) }
 {
     let mut server = server_of(bench, spares)?;
     let mut flight = on_both(alloc, bench, spares)?;
@@ -143,10 +143,10 @@ fn two_entries_fill_a_queue(rt: HostRuntime) -> Result<(), Fail> {
         Turn::Listen(true),
         Turn::Listen(false),
         Turn::End(0, 3, ZEROS),
-        Turn::End(0, 1, Told::Differs),
+        Turn::End(0, 1, AnswerWords::Differs),
         Turn::End(0, 1, ZEROS),
         Turn::End(0, 3, ZEROS),
-        Turn::End(0, 1, Told::Differs),
+        Turn::End(0, 1, AnswerWords::Differs),
     ];
     let all = [one(1, 0), two(2, 0, 1), one(1, 1), one(2, 2), two(1, 2, 3)];
     publishes(&rt, rt.alloc(), 3, &turns, &all)

@@ -3,7 +3,7 @@
 ghost use Rattle.driver_cas.specs.Drivers.{IsCallOf};
 
 use driver_cas::{Call, Driver, Fault, PortFault};
-use driver_rows::{Ask, Fake, Script, Told, begins, driver_of, good, polled};
+use driver_rows::{AnswerWords, Ask, Fake, Script, begins, driver_of, good, polled};
 use std::alloc::Global;
 use std::process::Abort;
 use std::test::Fail;
@@ -18,7 +18,7 @@ fn is_told<R: Abort>(
     rt: &R,
     driver: &mut Driver<Fake>,
     call: Call<Fake>,
-    wants: [Told; 3],
+    wants: [AnswerWords; 3],
 ) -> Result<(), Fail>
     requires { IsCallOf driver.old call }
 {
@@ -35,7 +35,7 @@ fn is_told<R: Abort>(
 }
 
 // What a Read is told whose completion has this bit changed, and then, where it waits, by the good one.
-fn changed(alloc: Global, bit: usize) -> Result<(Told, Told), Fail> {
+fn changed(alloc: Global, bit: usize) -> Result<(AnswerWords, AnswerWords), Fail> {
     let mut bad = GOOD;
     if let Some(byte) = bad.get_mut(bit / 8) {
         *byte ^= 1 << (bit % 8);
@@ -47,22 +47,28 @@ fn changed(alloc: Global, bit: usize) -> Result<(Told, Told), Fail> {
     };
     let (first, back) = polled(&mut driver, call);
     let Some(call) = back else {
-        return Ok((first, Told::Pending));
+        return Ok((first, AnswerWords::Pending));
     };
     let (second, _) = polled(&mut driver, call);
     Ok((first, second))
 }
 
 // By the layout of a completion queue entry.
-fn wanted(bit: usize) -> (Told, Told) {
-    let read = Told::Read(1, 0);
+fn wanted(bit: usize) -> (AnswerWords, AnswerWords) {
+    let read = AnswerWords::Read(1, 0);
     match bit {
         // SQHD and the phase tag.
-        64..80 | 112 => (read, Told::Pending),
+        64..80 | 112 => (read, AnswerWords::Pending),
         // The Status Code and its type.
-        113..121 => (Told::Failed(0, 1 << (bit - 113)), Told::Pending),
-        121..124 => (Told::Failed(1 << (bit - 121), 0), Told::Pending),
-        _ => (Told::Pending, read),
+        113..121 => (
+            AnswerWords::Failed(0, 1 << (bit - 113)),
+            AnswerWords::Pending,
+        ),
+        121..124 => (
+            AnswerWords::Failed(1 << (bit - 121), 0),
+            AnswerWords::Pending,
+        ),
+        _ => (AnswerWords::Pending, read),
     }
 }
 
@@ -95,12 +101,16 @@ fn a_completion_counts_once(rt: HostRuntime) -> Result<(), Fail> {
         return Err(Fail::from("a second Read"));
     };
     let (told, _) = polled(&mut driver, two);
-    assert_eq!(rt; told, Told::Read(1, 1));
+    assert_eq!(rt; told, AnswerWords::Read(1, 1));
     is_told(
         &rt,
         &mut driver,
         one,
-        [Told::Pending, Told::Pending, Told::Read(1, 0)],
+        [
+            AnswerWords::Pending,
+            AnswerWords::Pending,
+            AnswerWords::Read(1, 0),
+        ],
     )
 }
 
@@ -120,9 +130,9 @@ fn is_later<R: Abort>(rt: &R, alloc: Global, fault: PortFault, want: Fault) -> R
         &mut driver,
         call,
         [
-            Told::Later(Fault::Busy),
-            Told::Later(Fault::NoMemory),
-            Told::Read(1, 0),
+            AnswerWords::Later(Fault::Busy),
+            AnswerWords::Later(Fault::NoMemory),
+            AnswerWords::Read(1, 0),
         ],
     )
 }

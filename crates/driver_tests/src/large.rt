@@ -1,15 +1,16 @@
 //! Calls of 256 blocks, the most there are, in one unit and in 256.
 
 ghost use Rattle.std.specs.Prelude.{◌≡◌, ◌≤◌, IfOk, true};
-ghost use Rattle.history.specs.Config.{numbers};
-ghost use Rattle.driver_cas.specs.Drivers.{IsCallOf, IsSame, port_of};
-ghost use Rattle.driver_rows.specs.Benches.{AreOf, IsHostOf, IsServerOf, uses};
-ghost use Rattle.driver_rows.specs.Calls.{IsAsked};
+ghost use Rattle.history.specs.Config.{config_numbers};
+ghost use Rattle.driver_cas.specs.Drivers.{IsCallOf, IsSameDriver, port_of};
+ghost use Rattle.driver_rows.specs.Benches.{AreBenchSpares, IsBenchHost, IsServerOf, uses};
+ghost use Rattle.driver_rows.specs.Calls.{IsCallAsked};
 
 use driver_cas::laws::a_start_keeps_the_other_calls;
 use driver_cas::{Call, Driver, Fault, Port, SharedPort};
 use driver_rows::{
-    Ask, Bench, Fill, Host, Server, Spares, Told, answers, asked, bench_of, desk_of, hears, serves,
+    AnswerWords, Ask, Bench, BenchHost, BenchSpares, Fill, Server, answers, asked, bench_of,
+    desk_of, hears, serves,
 };
 use history::Config;
 use std::alloc::Global;
@@ -34,9 +35,9 @@ enum Whole {
 }
 
 // A bench of `config 256 AWUN 255 0 0 2 4 4 8`.
-fn large(alloc: Global, awun: u16) -> Result<(Bench, Spares), Fail>
-    ensures own { IfOk result (λ b. AreOf b.0 b.1) }
-    ensures config { IfOk result (λ b. b.0.config ≡ numbers 256 awun 255 0 0 2 4 4 8 2) }
+fn large(alloc: Global, awun: u16) -> Result<(Bench, BenchSpares), Fail>
+    ensures own { IfOk result (λ b. AreBenchSpares b.0 b.1) }
+    ensures config { IfOk result (λ b. b.0.config ≡ config_numbers 256 awun 255 0 0 2 4 4 8 2) }
 {
     let Ok(config) = Config::new(256, awun, 255, 0, 0, 2, 4, 4, 8) else {
         return Err(Fail::from("the configuration is refused"));
@@ -51,9 +52,9 @@ fn filled(byte: u8) -> [u8; ALL] {
 
 // Begins a call of a driver.
 fn whole_asked<P: Port>(driver: &mut Driver<P>, whole: Whole) -> Result<Call<P>, Fault>
-    ensures same { IsSame driver.old driver.new }
+    ensures same { IsSameDriver driver.old driver.new }
     ensures later { P.follows (port_of driver.old) (port_of driver.new) }
-    ensures asked { IsAsked driver.old driver.new result }
+    ensures asked { IsCallAsked driver.old driver.new result }
 {
     match whole {
         Whole::Other(ask) => asked(driver, ask),
@@ -66,11 +67,11 @@ fn whole_asked<P: Port>(driver: &mut Driver<P>, whole: Whole) -> Result<Call<P>,
 // Begins a call of the host.
 fn begins_whole<'a>(
     bench: &Bench,
-    host: &mut Host<'a>,
+    host: &mut BenchHost<'a>,
     whole: Whole,
 ) -> Result<Call<SharedPort<'a>>, Fault>
-    requires { IsHostOf bench.now host.old }
-    ensures same { IsHostOf bench.now host.new }
+    requires { IsBenchHost bench.now host.old }
+    ensures same { IsBenchHost bench.now host.new }
     ensures call { IfOk result (IsCallOf host.new.driver) }
 {
     // (named by the contract alone)
@@ -86,11 +87,11 @@ fn served<R: Wait>(
     rt: &R,
     bench: &Bench,
     server: &mut Server,
-    host: &mut Host<'_>,
+    host: &mut BenchHost<'_>,
     whole: Whole,
-) -> Result<Told, Fault>
-    requires { IsServerOf bench.now server.old × IsHostOf bench.now host.old }
-    ensures { IsServerOf bench.now server.new × IsHostOf bench.now host.new }
+) -> Result<AnswerWords, Fault>
+    requires { IsServerOf bench.now server.old × IsBenchHost bench.now host.old }
+    ensures { IsServerOf bench.now server.new × IsBenchHost bench.now host.new }
 {
     let call = begins_whole(bench, host, whole)?;
     serves(rt, bench, server, 1);
@@ -103,11 +104,11 @@ fn all_served<R: Abort + Wait>(
     rt: &R,
     bench: &Bench,
     server: &mut Server,
-    host: &mut Host<'_>,
-    rows: &[(Whole, Told)],
+    host: &mut BenchHost<'_>,
+    rows: &[(Whole, AnswerWords)],
 )
-    requires { IsServerOf bench.now server.old × IsHostOf bench.now host.old }
-    ensures { IsServerOf bench.now server.new × IsHostOf bench.now host.new }
+    requires { IsServerOf bench.now server.old × IsBenchHost bench.now host.old }
+    ensures { IsServerOf bench.now server.new × IsBenchHost bench.now host.new }
 {
     for row in rows {
         let (whole, told) = *row;
@@ -121,10 +122,10 @@ fn answered_on<R: Abort + Wait>(
     rt: &R,
     alloc: Global,
     bench: &Bench,
-    spares: &mut Spares,
-    rows: &[(Whole, Told)],
+    spares: &mut BenchSpares,
+    rows: &[(Whole, AnswerWords)],
 ) -> Result<(), Fail>
-    requires own { AreOf bench.now spares.old }
+    requires own { AreBenchSpares bench.now spares.old }
     requires queue { (uses bench.now.config 1 1 ≡ true) × (1 ≤ bench.now.config.cqs) }
 {
     let Some((mut server, mut host)) = desk_of(alloc, bench, spares, 0) else {
@@ -139,39 +140,42 @@ fn answers_all<R: Abort + Wait>(
     rt: &R,
     alloc: Global,
     awun: u16,
-    rows: &[(Whole, Told)],
+    rows: &[(Whole, AnswerWords)],
 ) -> Result<(), Fail> {
     let (bench, mut spares) = large(alloc, awun)?;
     answered_on(rt, alloc, &bench, &mut spares, rows)
 }
 
 // Each kind of call, equal, differing in each block, and differing in the last alone.
-fn kinds() -> [(Whole, Told); 17] {
+fn kinds() -> [(Whole, AnswerWords); 17] {
     let reads = Whole::Other(Ask::Read(0, 256));
     [
-        (reads, Told::Read(ALL, 0)),
-        (Whole::Write(0xa1), Told::Written),
-        (reads, Told::Read(ALL, 0xa1)),
-        (Whole::Compare(0xa1), Told::Equal),
-        (Whole::Compare(0xb2), Told::Differs),
-        (Whole::Swap(0xa1, 0xb2), Told::Swapped),
-        (reads, Told::Read(ALL, 0xb2)),
-        (Whole::Swap(0xa1, 0xc3), Told::Differs),
+        (reads, AnswerWords::Read(ALL, 0)),
+        (Whole::Write(0xa1), AnswerWords::Written),
+        (reads, AnswerWords::Read(ALL, 0xa1)),
+        (Whole::Compare(0xa1), AnswerWords::Equal),
+        (Whole::Compare(0xb2), AnswerWords::Differs),
+        (Whole::Swap(0xa1, 0xb2), AnswerWords::Swapped),
+        (reads, AnswerWords::Read(ALL, 0xb2)),
+        (Whole::Swap(0xa1, 0xc3), AnswerWords::Differs),
         (
             Whole::Other(Ask::Write(255, Fill(0xc3, 512))),
-            Told::Written,
+            AnswerWords::Written,
         ),
-        (Whole::Compare(0xb2), Told::Differs),
-        (Whole::Swap(0xb2, 0xd4), Told::Differs),
-        (reads, Told::Mixed),
+        (Whole::Compare(0xb2), AnswerWords::Differs),
+        (Whole::Swap(0xb2, 0xd4), AnswerWords::Differs),
+        (reads, AnswerWords::Mixed),
         (
             Whole::Other(Ask::Read(0, 255)),
-            Told::Read(ALL_BUT_ONE, 0xb2),
+            AnswerWords::Read(ALL_BUT_ONE, 0xb2),
         ),
-        (Whole::Other(Ask::Read(255, 1)), Told::Read(512, 0xc3)),
-        (Whole::Other(Ask::WriteZeroes(0, 256)), Told::Written),
-        (Whole::Compare(0), Told::Equal),
-        (reads, Told::Read(ALL, 0)),
+        (
+            Whole::Other(Ask::Read(255, 1)),
+            AnswerWords::Read(512, 0xc3),
+        ),
+        (Whole::Other(Ask::WriteZeroes(0, 256)), AnswerWords::Written),
+        (Whole::Compare(0), AnswerWords::Equal),
+        (reads, AnswerWords::Read(ALL, 0)),
     ]
 }
 

@@ -1,15 +1,15 @@
 //! What hosts learn of others: by meeting them, and by notices.
 
 ghost use Rattle.std.specs.Prelude.{◌≡◌, ◌≤◌, IfOk, true};
-ghost use Rattle.history.specs.Config.{numbers};
-ghost use Rattle.driver_rows.specs.Benches.{AreOf, IsServerOf, uses};
+ghost use Rattle.history.specs.Config.{config_numbers};
+ghost use Rattle.driver_rows.specs.Benches.{AreBenchSpares, IsServerOf, uses};
 ghost use Rattle.driver_tests.specs.Flights.{AreInFlight};
 
+use crate::callers::{on_own, server_of};
 use crate::full::core_after;
-use crate::hands::{on_own, server_of};
 use crate::turns::{Turn, turns};
-use crate::under_way::{Flight, meets, meets_server};
-use driver_rows::{Ask, Bench, Fill, Server, Spares, Told, bench_of, small_bench};
+use crate::under_way::{CallsInFlight, meets, meets_server};
+use driver_rows::{AnswerWords, Ask, Bench, BenchSpares, Fill, Server, bench_of, small_bench};
 use history::Config;
 use history_check::check;
 use lock_rows::text;
@@ -21,7 +21,7 @@ use step_core::Core;
 
 const READ: Ask = Ask::Read(2, 1);
 
-const ZEROS: Told = Told::Read(512, 0);
+const ZEROS: AnswerWords = AnswerWords::Read(512, 0);
 
 /// What one of two hosts does with a server, or both.
 #[derive(Clone, Copy)]
@@ -39,8 +39,8 @@ fn does<R: Abort + Wait>(
     rt: &R,
     bench: &Bench,
     server: &mut Server,
-    one: &mut Flight<'_>,
-    two: &mut Flight<'_>,
+    one: &mut CallsInFlight<'_>,
+    two: &mut CallsInFlight<'_>,
     deed: Deed,
 )
     requires server { IsServerOf bench.now server.old }
@@ -63,8 +63,8 @@ fn does_all<R: Abort + Wait>(
     rt: &R,
     bench: &Bench,
     server: &mut Server,
-    one: &mut Flight<'_>,
-    two: &mut Flight<'_>,
+    one: &mut CallsInFlight<'_>,
+    two: &mut CallsInFlight<'_>,
     all: &[Deed],
 )
     requires server { IsServerOf bench.now server.old }
@@ -84,11 +84,11 @@ fn both_do<R: Abort + Wait>(
     rt: &R,
     alloc: Global,
     bench: &Bench,
-    spares: &mut Spares,
+    spares: &mut BenchSpares,
     hosts: (u16, u16),
     all: &[Deed],
 ) -> Result<(), Fail>
-    requires own { AreOf bench.now spares.old }
+    requires own { AreBenchSpares bench.now spares.old }
     requires one { (1 ≤ hosts.0) × (hosts.0 ≤ bench.now.config.cqs) × (uses bench.now.config hosts.0 hosts.0 ≡ true) }
     requires two { (1 ≤ hosts.1) × (hosts.1 ≤ bench.now.config.cqs) × (uses bench.now.config hosts.1 hosts.1 ≡ true) }
 {
@@ -106,9 +106,9 @@ fn hosts_do<R: Abort + Wait>(rt: &R, alloc: Global, all: &[Deed]) -> Result<(), 
 }
 
 // A bench of `config 8 1 1 0 0 4 4 4 8`.
-fn of_four(alloc: Global) -> Result<(Bench, Spares), Fail>
-    ensures own { IfOk result (λ b. AreOf b.0 b.1) }
-    ensures config { IfOk result (λ b. b.0.config ≡ numbers 8 1 1 0 0 4 4 4 8 4) }
+fn of_four(alloc: Global) -> Result<(Bench, BenchSpares), Fail>
+    ensures own { IfOk result (λ b. AreBenchSpares b.0 b.1) }
+    ensures config { IfOk result (λ b. b.0.config ≡ config_numbers 8 1 1 0 0 4 4 4 8 4) }
 {
     let Ok(config) = Config::new(8, 1, 1, 0, 0, 4, 4, 4, 8) else {
         return Err(Fail::from("the configuration is refused"));
@@ -129,13 +129,13 @@ fn round(byte: u8, a: u16, b: u16) -> [Deed; 13] {
         Deed::Meet,
         Deed::One(Turn::Serve(a)),
         Deed::One(Turn::Listen(true)),
-        Deed::One(Turn::End(0, 1, Told::Written)),
+        Deed::One(Turn::End(0, 1, AnswerWords::Written)),
         Deed::Meet,
         Deed::MeetServer,
         Deed::Two(Turn::Begin(READ)),
         Deed::Two(Turn::Serve(b)),
         Deed::Two(Turn::Listen(true)),
-        Deed::Two(Turn::End(0, 1, Told::Read(512, byte))),
+        Deed::Two(Turn::End(0, 1, AnswerWords::Read(512, byte))),
         Deed::Meet,
         Deed::Meet,
     ]
@@ -174,13 +174,13 @@ fn only_notices_are_counted(rt: HostRuntime) -> Result<(), Fail> {
         Deed::One(Turn::Listen(false)),
         Deed::One(Turn::Serve(1)),
         Deed::Meet,
-        Deed::One(Turn::End(0, 1, Told::Pending)),
+        Deed::One(Turn::End(0, 1, AnswerWords::Pending)),
         Deed::One(Turn::Listen(true)),
         Deed::One(Turn::Listen(true)),
         Deed::One(Turn::Listen(false)),
         Deed::One(Turn::End(0, 2, ZEROS)),
         Deed::One(Turn::Begin(READ)),
-        Deed::One(Turn::End(0, 1, Told::Pending)),
+        Deed::One(Turn::End(0, 1, AnswerWords::Pending)),
     ];
     hosts_do(&rt, rt.alloc(), &all)
 }
@@ -195,17 +195,17 @@ fn a_notice_of_another_queue_is_not_counted(rt: HostRuntime) -> Result<(), Fail>
         Deed::One(Turn::Begin(READ)),
         Deed::One(Turn::Serve(1)),
         Deed::One(Turn::Listen(true)),
-        Deed::One(Turn::End(0, 1, Told::Pending)),
+        Deed::One(Turn::End(0, 1, AnswerWords::Pending)),
         Deed::One(Turn::Listen(true)),
         Deed::One(Turn::Listen(true)),
         Deed::One(Turn::Listen(false)),
         Deed::One(Turn::End(0, 2, ZEROS)),
-        Deed::Two(Turn::End(0, 1, Told::Pending)),
+        Deed::Two(Turn::End(0, 1, AnswerWords::Pending)),
     ];
     hosts_do(&rt, rt.alloc(), &all)
 }
 
-// The lines of a Write of A1 to block 2 under identifier 0.
+// The lines of a Write of A1 to block 2 under CID 0.
 const LINES: &[u8] =
     b"publish 1 01000000010000000000000000000000000000000000000000000000000000000000000000000000020000000000000000000000000000000000000000000000 A1
 fetch 1 1 1 ok
@@ -229,7 +229,7 @@ fn the_pass_comes_back(rt: HostRuntime) -> Result<(), Fail> {
         Turn::Begin(Ask::Write(2, Fill(0xa1, 512))),
         Turn::Serve(1),
         Turn::Listen(true),
-        Turn::End(0, 1, Told::Written),
+        Turn::End(0, 1, AnswerWords::Written),
     ];
     let core = core_after(&rt, rt.alloc(), 4, &turns)?;
     is_written(&rt, rt.alloc(), &core)

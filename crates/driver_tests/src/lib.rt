@@ -1,9 +1,11 @@
 //! Tests of a driver: what its calls are answered, by a controller and by a port that answers what it is told to; many
-//! calls in flight; command identifiers; and what hosts learn of others.
+//! calls in flight; CIDs; and what hosts learn of others.
 #![tactic(auto)]
 
 #[cfg(test)]
 mod acts;
+#[cfg(test)]
+mod callers;
 #[cfg(test)]
 mod cids;
 #[cfg(test)]
@@ -14,8 +16,6 @@ mod faults;
 mod flights;
 #[cfg(test)]
 mod full;
-#[cfg(test)]
-mod hands;
 #[cfg(test)]
 mod hostile;
 #[cfg(test)]

@@ -1,11 +1,12 @@
 //! What each call is answered, served before the next.
 
 ghost use Rattle.std.specs.Prelude.{◌≤◌};
-ghost use Rattle.driver_rows.specs.Benches.{IsHostOf, IsServerOf};
+ghost use Rattle.driver_rows.specs.Benches.{IsBenchHost, IsServerOf};
 
 use driver_cas::Fault;
 use driver_rows::{
-    Ask, Bench, Fill, Host, Server, Told, answers, desk_of, hears, serves, small_bench, starts,
+    AnswerWords, Ask, Bench, BenchHost, Fill, Server, answers, desk_of, hears, serves, small_bench,
+    starts,
 };
 use std::alloc::Global;
 use std::process::Abort;
@@ -17,11 +18,11 @@ fn served<R: Wait>(
     rt: &R,
     bench: &Bench,
     server: &mut Server,
-    host: &mut Host<'_>,
+    host: &mut BenchHost<'_>,
     ask: Ask,
-) -> Result<Told, Fault>
-    requires { IsServerOf bench.now server.old × IsHostOf bench.now host.old }
-    ensures { IsServerOf bench.now server.new × IsHostOf bench.now host.new }
+) -> Result<AnswerWords, Fault>
+    requires { IsServerOf bench.now server.old × IsBenchHost bench.now host.old }
+    ensures { IsServerOf bench.now server.new × IsBenchHost bench.now host.new }
 {
     let call = starts(host, ask)?;
     serves(rt, bench, server, 1);
@@ -34,11 +35,11 @@ fn all_answered<R: Abort + Wait>(
     rt: &R,
     bench: &Bench,
     server: &mut Server,
-    host: &mut Host<'_>,
-    rows: &[(Ask, Result<Told, Fault>)],
+    host: &mut BenchHost<'_>,
+    rows: &[(Ask, Result<AnswerWords, Fault>)],
 )
-    requires { IsServerOf bench.now server.old × IsHostOf bench.now host.old }
-    ensures { IsServerOf bench.now server.new × IsHostOf bench.now host.new }
+    requires { IsServerOf bench.now server.old × IsBenchHost bench.now host.old }
+    ensures { IsServerOf bench.now server.new × IsBenchHost bench.now host.new }
 {
     for row in rows {
         let (ask, want) = *row;
@@ -51,7 +52,7 @@ fn answers_all<R: Abort + Wait>(
     rt: &R,
     alloc: Global,
     slots: u32,
-    rows: &[(Ask, Result<Told, Fault>)],
+    rows: &[(Ask, Result<AnswerWords, Fault>)],
 ) -> Result<(), Fail>
     requires { slots ≤ 65536 }
 {
@@ -85,25 +86,25 @@ fn calls_are_answered(rt: HostRuntime) -> Result<(), Fail> {
             Ask::CompareAndWrite(0, Fill(0xa1, 512), Fill(0xb2, 512)),
             Err(Fault::SlotArea),
         ),
-        (Ask::Read(0, 1), Ok(Told::Read(512, 0))),
-        (Ask::Read(8, 1), Ok(Told::Failed(0, 0x80))),
-        (Ask::Write(2, Fill(0xa1, 512)), Ok(Told::Written)),
-        (Ask::Compare(2, Fill(0xa1, 512)), Ok(Told::Equal)),
+        (Ask::Read(0, 1), Ok(AnswerWords::Read(512, 0))),
+        (Ask::Read(8, 1), Ok(AnswerWords::Failed(0, 0x80))),
+        (Ask::Write(2, Fill(0xa1, 512)), Ok(AnswerWords::Written)),
+        (Ask::Compare(2, Fill(0xa1, 512)), Ok(AnswerWords::Equal)),
         (
             Ask::CompareAndWrite(2, Fill(0xa1, 512), Fill(0xb2, 512)),
-            Ok(Told::Swapped),
+            Ok(AnswerWords::Swapped),
         ),
-        (Ask::Read(2, 1), Ok(Told::Read(512, 0xb2))),
-        (Ask::Compare(2, Fill(0xa1, 512)), Ok(Told::Differs)),
+        (Ask::Read(2, 1), Ok(AnswerWords::Read(512, 0xb2))),
+        (Ask::Compare(2, Fill(0xa1, 512)), Ok(AnswerWords::Differs)),
         (
             Ask::CompareAndWrite(2, Fill(0xa1, 512), Fill(0xa1, 512)),
-            Ok(Told::Differs),
+            Ok(AnswerWords::Differs),
         ),
-        (Ask::Read(2, 1), Ok(Told::Read(512, 0xb2))),
-        (Ask::Compare(0, Fill(0xa1, 1024)), Ok(Told::Differs)),
+        (Ask::Read(2, 1), Ok(AnswerWords::Read(512, 0xb2))),
+        (Ask::Compare(0, Fill(0xa1, 1024)), Ok(AnswerWords::Differs)),
         (
             Ask::CompareAndWrite(7, Fill(0xa1, 1024), Fill(0xb2, 1024)),
-            Ok(Told::Failed(0, 0x80)),
+            Ok(AnswerWords::Failed(0, 0x80)),
         ),
     ];
     answers_all(&rt, rt.alloc(), 2, &rows)
@@ -112,13 +113,13 @@ fn calls_are_answered(rt: HostRuntime) -> Result<(), Fail> {
 #[test]
 fn zeros_are_written(rt: HostRuntime) -> Result<(), Fail> {
     let rows = [
-        (Ask::Write(0, Fill(0xa1, 1024)), Ok(Told::Written)),
-        (Ask::Read(0, 2), Ok(Told::Read(1024, 0xa1))),
-        (Ask::WriteZeroes(1, 1), Ok(Told::Written)),
-        (Ask::Read(1, 1), Ok(Told::Read(512, 0))),
-        (Ask::Read(0, 1), Ok(Told::Read(512, 0xa1))),
-        (Ask::WriteZeroes(7, 2), Ok(Told::Failed(0, 0x80))),
-        (Ask::WriteZeroes(2, 1), Ok(Told::Written)),
+        (Ask::Write(0, Fill(0xa1, 1024)), Ok(AnswerWords::Written)),
+        (Ask::Read(0, 2), Ok(AnswerWords::Read(1024, 0xa1))),
+        (Ask::WriteZeroes(1, 1), Ok(AnswerWords::Written)),
+        (Ask::Read(1, 1), Ok(AnswerWords::Read(512, 0))),
+        (Ask::Read(0, 1), Ok(AnswerWords::Read(512, 0xa1))),
+        (Ask::WriteZeroes(7, 2), Ok(AnswerWords::Failed(0, 0x80))),
+        (Ask::WriteZeroes(2, 1), Ok(AnswerWords::Written)),
         (Ask::WriteZeroes(2, 0), Err(Fault::Length)),
         (Ask::WriteZeroes(2, 257), Err(Fault::TooLong)),
     ];

@@ -6,7 +6,7 @@ use history::Entry;
 use nvme_model::submission::Submission;
 use std::alloc::{AllocError as NoMemory, Global};
 
-/// What one Publish sent: to which submission queue, with the identifiers of its entries.
+/// What one Publish sent: to which submission queue, with the CIDs of its entries.
 #[derive(Clone, Copy, Debug, PartialEq, Eq)]
 pub(crate) struct Sent {
     pub(crate) queue: u16,
@@ -33,7 +33,7 @@ pub(crate) fn two(queue: u16, first: u16, second: u16) -> Sent {
     }
 }
 
-// The identifier of an entry, in bytes 2 and 3.
+// The CID of an entry, in bytes 2 and 3.
 fn cid_of(item: &Submission) -> u16 {
     u16::from_le_bytes([item.entry[2], item.entry[3]])
 }

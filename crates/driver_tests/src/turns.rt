@@ -3,9 +3,9 @@
 ghost use Rattle.driver_rows.specs.Benches.{IsServerOf};
 ghost use Rattle.driver_tests.specs.Flights.{AreInFlight};
 
-use crate::under_way::{Flight, lands, launches, listens};
+use crate::under_way::{CallsInFlight, lands, launches, listens};
 use driver_cas::Fault;
-use driver_rows::{Ask, Bench, Server, Told, serves};
+use driver_rows::{AnswerWords, Ask, Bench, Server, serves};
 use std::process::Abort;
 use std::sync::Wait;
 
@@ -21,7 +21,7 @@ pub(crate) enum Turn {
     Listen(bool),
     /// The host polls the call at this place, the first at 0, so many times at most; it is told this at the last of
     /// them. It is in flight no longer.
-    End(usize, u32, Told),
+    End(usize, u32, AnswerWords),
 }
 
 /// Makes it.
@@ -29,7 +29,7 @@ pub(crate) fn turns<R: Abort + Wait>(
     rt: &R,
     bench: &Bench,
     server: &mut Server,
-    flight: &mut Flight<'_>,
+    flight: &mut CallsInFlight<'_>,
     turn: Turn,
 )
     requires { IsServerOf bench.now server.old × AreInFlight bench.now flight.old.host flight.old.calls.items }
@@ -63,7 +63,7 @@ pub(crate) fn turns_all<R: Abort + Wait>(
     rt: &R,
     bench: &Bench,
     server: &mut Server,
-    flight: &mut Flight<'_>,
+    flight: &mut CallsInFlight<'_>,
     all: &[Turn],
 )
     requires { IsServerOf bench.now server.old × AreInFlight bench.now flight.old.host flight.old.calls.items }

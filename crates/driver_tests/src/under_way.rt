@@ -1,13 +1,13 @@
 //! A host with its calls in flight, and the Works of a server that aren't begun.
 
 ghost use Rattle.std.specs.Prelude.{All};
-ghost use Rattle.work_queue.specs.Engines.{IsOf, IsWorkOf};
-ghost use Rattle.driver_rows.specs.Benches.{IsHostOf, IsServerOf};
+ghost use Rattle.work_queue.specs.Engines.{IsPassOfEngine, IsWorkOf};
+ghost use Rattle.driver_rows.specs.Benches.{IsBenchHost, IsServerOf};
 ghost use Rattle.driver_tests.specs.Flights.{AreInFlight};
 
 use crate::flights::{begins_one, ends_one, no_calls};
 use driver_cas::{Call, Fault, SharedPort};
-use driver_rows::{Ask, Bench, Host, Server, Told, ends, fetches, hears};
+use driver_rows::{AnswerWords, Ask, Bench, BenchHost, Server, ends, fetches, hears};
 use meet_lock::Pass;
 use std::alloc::{AllocError as NoMemory, Global};
 use std::sync::Wait;
@@ -16,20 +16,20 @@ use work_queue::Work;
 
 /// A host with its calls in flight.
 #[derive(Drop)]
-pub(crate) struct Flight<'a> {
-    pub(crate) host: Host<'a>,
+pub(crate) struct CallsInFlight<'a> {
+    pub(crate) host: BenchHost<'a>,
     pub(crate) calls: Vec<Call<SharedPort<'a>>>,
 }
 
 /// A host with no call in flight.
-pub(crate) fn flight_of<'a>(alloc: Global, bench: &Bench, host: Host<'a>) -> Flight<'a>
-    requires { IsHostOf bench.now host }
+pub(crate) fn flight_of<'a>(alloc: Global, bench: &Bench, host: BenchHost<'a>) -> CallsInFlight<'a>
+    requires { IsBenchHost bench.now host }
     ensures { AreInFlight bench.now result.host result.calls.items }
 {
     // (named by the contract alone)
     let _ = bench;
     let calls = no_calls(alloc, &host.driver);
-    Flight { host, calls }
+    CallsInFlight { host, calls }
 }
 
 /// Begins a call, and puts it behind the others.
@@ -37,7 +37,7 @@ pub(crate) fn flight_of<'a>(alloc: Global, bench: &Bench, host: Host<'a>) -> Fli
 /// # Errors
 ///
 /// What the driver answers, and `NoMemory` where there is no room for one call more; the others stay.
-pub(crate) fn launches(bench: &Bench, flight: &mut Flight<'_>, ask: Ask) -> Result<(), Fault>
+pub(crate) fn launches(bench: &Bench, flight: &mut CallsInFlight<'_>, ask: Ask) -> Result<(), Fault>
     requires { AreInFlight bench.now flight.old.host flight.old.calls.items }
     ensures { AreInFlight bench.now flight.new.host flight.new.calls.items }
 {
@@ -50,10 +50,10 @@ pub(crate) fn launches(bench: &Bench, flight: &mut Flight<'_>, ask: Ask) -> Resu
 /// often it was polled. It is in flight no longer. None where there is no such call.
 pub(crate) fn lands(
     bench: &Bench,
-    flight: &mut Flight<'_>,
+    flight: &mut CallsInFlight<'_>,
     place: usize,
     most: u32,
-) -> Option<(Told, u32)>
+) -> Option<(AnswerWords, u32)>
     requires { AreInFlight bench.now flight.old.host flight.old.calls.items }
     ensures { AreInFlight bench.now flight.new.host flight.new.calls.items }
 {
@@ -63,7 +63,7 @@ pub(crate) fn lands(
 }
 
 /// Learns all notices that are there; how many.
-pub(crate) fn hears_all<R: Wait>(rt: &R, bench: &Bench, flight: &mut Flight<'_>) -> u32
+pub(crate) fn hears_all<R: Wait>(rt: &R, bench: &Bench, flight: &mut CallsInFlight<'_>) -> u32
     requires { AreInFlight bench.now flight.old.host flight.old.calls.items }
     ensures { AreInFlight bench.now flight.new.host flight.new.calls.items }
 {
@@ -71,7 +71,7 @@ pub(crate) fn hears_all<R: Wait>(rt: &R, bench: &Bench, flight: &mut Flight<'_>)
 }
 
 /// Takes at most one notice; whether it took one.
-pub(crate) fn listens<R: Wait>(rt: &R, bench: &Bench, flight: &mut Flight<'_>) -> bool
+pub(crate) fn listens<R: Wait>(rt: &R, bench: &Bench, flight: &mut CallsInFlight<'_>) -> bool
     requires { AreInFlight bench.now flight.old.host flight.old.calls.items }
     ensures { AreInFlight bench.now flight.new.host flight.new.calls.items }
 {
@@ -80,7 +80,7 @@ pub(crate) fn listens<R: Wait>(rt: &R, bench: &Bench, flight: &mut Flight<'_>) -
 }
 
 /// Both hosts have seen the whole history so far; false where another caller had the controller.
-pub(crate) fn meets(bench: &Bench, one: &mut Flight<'_>, two: &mut Flight<'_>) -> bool
+pub(crate) fn meets(bench: &Bench, one: &mut CallsInFlight<'_>, two: &mut CallsInFlight<'_>) -> bool
     requires one { AreInFlight bench.now one.old.host one.old.calls.items }
     requires two { AreInFlight bench.now two.old.host two.old.calls.items }
     ensures one { AreInFlight bench.now one.new.host one.new.calls.items }
@@ -92,7 +92,7 @@ pub(crate) fn meets(bench: &Bench, one: &mut Flight<'_>, two: &mut Flight<'_>) -
 }
 
 /// The host and a server have seen the whole history so far; false where another caller had the controller.
-pub(crate) fn meets_server(bench: &Bench, one: &mut Flight<'_>, server: &mut Server) -> bool
+pub(crate) fn meets_server(bench: &Bench, one: &mut CallsInFlight<'_>, server: &mut Server) -> bool
     requires one { AreInFlight bench.now one.old.host one.old.calls.items }
     requires server { IsServerOf bench.now server.old }
     ensures one { AreInFlight bench.now one.new.host one.new.calls.items }
@@ -104,13 +104,13 @@ pub(crate) fn meets_server(bench: &Bench, one: &mut Flight<'_>, server: &mut Ser
 }
 
 /// The host's pass, given back.
-pub(crate) fn pass_of(bench: &Bench, flight: Flight<'_>) -> Pass<Core>
+pub(crate) fn pass_of(bench: &Bench, flight: CallsInFlight<'_>) -> Pass<Core>
     requires { AreInFlight bench.now flight.host flight.calls.items }
-    ensures { IsOf bench.now.engine result }
+    ensures { IsPassOfEngine bench.now.engine result }
 {
     // (named by the contract alone)
     let _ = bench;
-    let Flight { host, calls: _ } = flight;
+    let CallsInFlight { host, calls: _ } = flight;
     host.driver.into_port().into_pass()
 }
 

@@ -2,20 +2,21 @@
 //! fetcher and a worker, each with a pass of its own.
 
 ghost use Rattle.std.specs.Prelude.{◌≡◌, ◌<◌, ◌≤◌, All, IfOk, IfSome};
-ghost use Rattle.work_queue.specs.Engines.{IsOf};
+ghost use Rattle.work_queue.specs.Engines.{IsPassOfEngine};
 ghost use Rattle.work_queue.specs.QueuePasses.{IsPlaceOf};
 ghost use Rattle.driver_cas.specs.Drivers.{IsCallOf};
-ghost use Rattle.driver_rows.specs.Benches.{AreOf, IsServerOf};
-ghost use Rattle.driver_rows.specs.Claimants.{IsClaimant, IsReady};
+ghost use Rattle.driver_rows.specs.Benches.{AreBenchSpares, IsServerOf};
+ghost use Rattle.driver_rows.specs.Claimants.{IsClaimant, IsClaimantReady};
 ghost use Rattle.slot_alloc.specs.Areas.{area};
 ghost use Rattle.driver_tests.specs.Crews.{AreCrewOf};
 
-use crate::crews::{Crew, crew_of, crew_serves};
-use crate::hands::server_of;
+use crate::callers::server_of;
+use crate::crews::{ServerPair, crew_of, crew_serves};
 use driver_cas::{Call, SharedPort};
 use driver_rows::{
-    Ask, Bench, Came, Claimant, Fill, Host, Spares, Stage, Told, asks, begins_call, claimant_of,
-    gives_back, hears_all, leaves, meets, meets_server, polls_begun, polls_call, small_bench,
+    AnswerWords, Ask, Bench, BenchHost, BenchSpares, Came, Claimant, ClaimantStage, Fill, asks,
+    begins_call, claimant_of, gives_back, hears_all, leaves, meets, meets_server, polls_begun,
+    polls_call, small_bench,
 };
 use history_check::check;
 use meet_lock::Pass;
@@ -31,7 +32,7 @@ use work_queue::{MessageQueue, QueuePass, Work, WorkQueue};
 #[derive(Clone, Copy)]
 enum Deed {
     /// A call, told so.
-    Asks(Ask, Told),
+    Asks(Ask, AnswerWords),
     /// Claims slot 0; this comes of it.
     Claims(Came),
     /// Claims any slot.
@@ -53,10 +54,15 @@ enum Turn {
 }
 
 // What a call that was begun is told, polled at most twice.
-fn told<'a>(bench: &Bench, slots: &Slots, host: &mut Host<'a>, call: Call<SharedPort<'a>>) -> Told
-    requires ready { IsReady bench.now slots.now host.old }
+fn told<'a>(
+    bench: &Bench,
+    slots: &Slots,
+    host: &mut BenchHost<'a>,
+    call: Call<SharedPort<'a>>,
+) -> AnswerWords
+    requires ready { IsClaimantReady bench.now slots.now host.old }
     requires call { IsCallOf host.old.driver call }
-    ensures { IsReady bench.now slots.now host.new }
+    ensures { IsClaimantReady bench.now slots.now host.new }
 {
     let (told, back) = polls_call(bench, slots, host, call);
     let Some(call) = back else {
@@ -70,22 +76,22 @@ fn asked<R: Abort + Wait>(
     rt: &R,
     bench: &Bench,
     works: &WorkQueue,
-    crew: &mut Crew,
+    crew: &mut ServerPair,
     slots: &Slots,
     claimant: &mut Claimant<'_>,
     ask: Ask,
-) -> Option<Told>
+) -> Option<AnswerWords>
     requires crew { AreCrewOf bench.now works.now crew.old.fetcher crew.old.into crew.old.worker crew.old.out }
     requires claimant { IsClaimant bench.now slots.now claimant.old }
     ensures crew { AreCrewOf bench.now works.now crew.new.fetcher crew.new.into crew.new.worker crew.new.out }
     ensures claimant { IsClaimant bench.now slots.now claimant.new }
 {
-    claimant.stage = Stage::Idle;
+    claimant.stage = ClaimantStage::Idle;
     let call = begins_call(bench, slots, &mut claimant.host, ask)?;
     crew_serves(rt, bench, works, crew, claimant.queue);
     hears_all(rt, bench, slots, claimant);
     let told = told(bench, slots, &mut claimant.host, call);
-    claimant.stage = Stage::Idle;
+    claimant.stage = ClaimantStage::Idle;
     Some(told)
 }
 
@@ -94,7 +100,7 @@ fn comes<R: Abort + Wait>(
     rt: &R,
     bench: &Bench,
     works: &WorkQueue,
-    crew: &mut Crew,
+    crew: &mut ServerPair,
     slots: &Slots,
     claimant: &mut Claimant<'_>,
 ) -> Came
@@ -119,7 +125,7 @@ fn ends_so<R: Abort + Wait>(
     rt: &R,
     bench: &Bench,
     works: &WorkQueue,
-    crew: &mut Crew,
+    crew: &mut ServerPair,
     slots: &Slots,
     claimant: &mut Claimant<'_>,
     begun: Came,
@@ -140,7 +146,7 @@ fn does<R: Abort + Wait>(
     rt: &R,
     bench: &Bench,
     works: &WorkQueue,
-    crew: &mut Crew,
+    crew: &mut ServerPair,
     slots: &Slots,
     claimant: &mut Claimant<'_>,
     deed: Deed,
@@ -192,7 +198,7 @@ fn do_all<R: Abort + Wait>(
     rt: &R,
     bench: &Bench,
     works: &WorkQueue,
-    crew: &mut Crew,
+    crew: &mut ServerPair,
     slots: &Slots,
     one: &mut Claimant<'_>,
     two: &mut Claimant<'_>,
@@ -219,19 +225,19 @@ fn do_all<R: Abort + Wait>(
 fn host<'a>(
     alloc: Global,
     bench: &'a Bench,
-    spares: &mut Spares,
+    spares: &mut BenchSpares,
     h: u16,
     slots: &Slots,
 ) -> Result<Claimant<'a>, Fail>
-    requires own { AreOf bench.now spares.old }
+    requires own { AreBenchSpares bench.now spares.old }
     requires number { (1 ≤ h) × (h ≤ bench.now.config.pairs) }
     requires queues { bench.now.config.cqs ≡ bench.now.config.pairs }
     requires slots { area slots.now ≡ record { slba = 0; blocks = 2 } }
-    ensures rest { AreOf bench.now spares.new }
+    ensures rest { AreBenchSpares bench.now spares.new }
     ensures host { IfOk result (IsClaimant bench.entry.now slots.now) }
 {
-    let hand = server_of(bench, spares)?;
-    match claimant_of(alloc, bench, hand, h, slots, 2) {
+    let caller = server_of(bench, spares)?;
+    match claimant_of(alloc, bench, caller, h, slots, 2) {
         Some(claimant) => Ok(claimant),
         None => Err(Fail::from("a host")),
     }
@@ -240,7 +246,7 @@ fn host<'a>(
 // The host's pass, given back.
 fn pass_of(bench: &Bench, slots: &Slots, claimant: Claimant<'_>) -> Pass<Core>
     requires { IsClaimant bench.now slots.now claimant }
-    ensures { IsOf bench.now.engine result }
+    ensures { IsPassOfEngine bench.now.engine result }
 {
     // (named by the contract alone)
     let _ = bench;
@@ -254,15 +260,15 @@ fn pass_after<R: Abort + Wait>(
     rt: &R,
     alloc: Global,
     bench: &Bench,
-    spares: &mut Spares,
+    spares: &mut BenchSpares,
     works: &WorkQueue,
     places: &mut Vec<QueuePass<Work>>,
     all: &[Turn],
 ) -> Result<Pass<Core>, Fail>
-    requires own { AreOf bench.now spares.old }
+    requires own { AreBenchSpares bench.now spares.old }
     requires places { All (IsPlaceOf bench.now.engine works.now) places.old.items }
     requires queues { (bench.now.config.pairs ≡ 2) × (bench.now.config.cqs ≡ 2) }
-    ensures { IfOk result (IsOf bench.now.engine) }
+    ensures { IfOk result (IsPassOfEngine bench.now.engine) }
 {
     let slots = Slots::new(0, 2);
     let mut crew = crew_of(bench, spares, works, places)?;
@@ -291,13 +297,13 @@ fn all_calls_in_one_run(rt: HostRuntime) -> Result<(), Fail> {
     let a1 = Fill(0xa1, 512);
     let b2 = Fill(0xb2, 512);
     let all = [
-        Turn::One(Deed::Asks(Ask::Write(2, a1), Told::Written)),
-        Turn::One(Deed::Asks(Ask::WriteZeroes(3, 1), Told::Written)),
-        Turn::Two(Deed::Asks(Ask::Read(2, 1), Told::Read(512, 0xa1))),
-        Turn::Two(Deed::Asks(Ask::Compare(2, a1), Told::Equal)),
+        Turn::One(Deed::Asks(Ask::Write(2, a1), AnswerWords::Written)),
+        Turn::One(Deed::Asks(Ask::WriteZeroes(3, 1), AnswerWords::Written)),
+        Turn::Two(Deed::Asks(Ask::Read(2, 1), AnswerWords::Read(512, 0xa1))),
+        Turn::Two(Deed::Asks(Ask::Compare(2, a1), AnswerWords::Equal)),
         Turn::Meet,
-        Turn::Two(Deed::Asks(Ask::CompareAndWrite(2, a1, b2), Told::Swapped)),
-        Turn::One(Deed::Asks(Ask::Compare(2, a1), Told::Differs)),
+        Turn::Two(Deed::Asks(Ask::CompareAndWrite(2, a1, b2), AnswerWords::Swapped)),
+        Turn::One(Deed::Asks(Ask::Compare(2, a1), AnswerWords::Differs)),
         Turn::One(Deed::Meets),
         Turn::One(Deed::Claims(Came::Held(0))),
         Turn::Two(Deed::Claims(Came::Taken)),
@@ -308,7 +314,7 @@ fn all_calls_in_one_run(rt: HostRuntime) -> Result<(), Fail> {
         Turn::Two(Deed::ClaimsAny(Came::Held(0))),
         Turn::One(Deed::ClaimsAny(Came::AllTaken)),
         Turn::Two(Deed::Releases),
-        Turn::One(Deed::Asks(Ask::Read(0, 1), Told::Read(512, 0))),
+        Turn::One(Deed::Asks(Ask::Read(0, 1), AnswerWords::Read(512, 0))),
     ];
     let core = core_after(&rt, rt.alloc(), &all)?;
     assert!(rt; check(rt.alloc(), &core.config(), core.history().as_slice()).is_ok());

@@ -1,14 +1,14 @@
 //! 64 calls in flight on each of two submission queues of one completion queue, answered in reverse order.
 
 ghost use Rattle.std.specs.Prelude.{◌≡◌, IfOk};
-ghost use Rattle.history.specs.Config.{numbers};
-ghost use Rattle.driver_rows.specs.Benches.{AreOf, IsServerOf};
+ghost use Rattle.history.specs.Config.{config_numbers};
+ghost use Rattle.driver_rows.specs.Benches.{AreBenchSpares, IsServerOf};
 ghost use Rattle.driver_tests.specs.Flights.{AreInFlight};
 
-use crate::hands::{on_both, server_of};
-use crate::under_way::{Flight, ends_newest, fetches_all, hears_all, lands, launches};
+use crate::callers::{on_both, server_of};
+use crate::under_way::{CallsInFlight, ends_newest, fetches_all, hears_all, lands, launches};
 use driver_cas::Fault;
-use driver_rows::{Ask, Bench, Fill, Server, Spares, Told, bench_of};
+use driver_rows::{AnswerWords, Ask, Bench, BenchSpares, Fill, Server, bench_of};
 use history::Config;
 use std::alloc::{AllocError as NoMemory, Global};
 use std::process::Abort;
@@ -20,7 +20,7 @@ const CALLS: u8 = 128;
 
 /// What each call asks for.
 #[derive(Clone, Copy, Debug)]
-enum Kind {
+enum CallKind {
     /// To write its number.
     Writes,
     Reads,
@@ -28,29 +28,29 @@ enum Kind {
     Compares,
 }
 
-fn ask_of(kind: Kind, number: u8) -> Ask {
+fn ask_of(kind: CallKind, number: u8) -> Ask {
     let slba = u64::from(number.saturating_sub(1));
     match kind {
-        Kind::Writes => Ask::Write(slba, Fill(number, 512)),
-        Kind::Reads => Ask::Read(slba, 1),
-        Kind::Compares => Ask::Compare(slba, Fill(number | 1, 512)),
+        CallKind::Writes => Ask::Write(slba, Fill(number, 512)),
+        CallKind::Reads => Ask::Read(slba, 1),
+        CallKind::Compares => Ask::Compare(slba, Fill(number | 1, 512)),
     }
 }
 
 // What it is told where each number is written.
-fn told_of(kind: Kind, number: u8) -> Told {
+fn told_of(kind: CallKind, number: u8) -> AnswerWords {
     match kind {
-        Kind::Writes => Told::Written,
-        Kind::Reads => Told::Read(512, number),
-        Kind::Compares if number % 2 == 1 => Told::Equal,
-        Kind::Compares => Told::Differs,
+        CallKind::Writes => AnswerWords::Written,
+        CallKind::Reads => AnswerWords::Read(512, number),
+        CallKind::Compares if number % 2 == 1 => AnswerWords::Equal,
+        CallKind::Compares => AnswerWords::Differs,
     }
 }
 
 // A bench of `config2 128 1 1 0 0 2 65 129 128 1`.
-fn wide(alloc: Global) -> Result<(Bench, Spares), Fail>
-    ensures own { IfOk result (λ b. AreOf b.0 b.1) }
-    ensures config { IfOk result (λ b. b.0.config ≡ numbers 128 1 1 0 0 2 65 129 128 1) }
+fn wide(alloc: Global) -> Result<(Bench, BenchSpares), Fail>
+    ensures own { IfOk result (λ b. AreBenchSpares b.0 b.1) }
+    ensures config { IfOk result (λ b. b.0.config ≡ config_numbers 128 1 1 0 0 2 65 129 128 1) }
 {
     let Ok(config) = Config::with_cqs(128, 1, 1, 0, 0, 2, 65, 129, 128, 1) else {
         return Err(Fail::from("the configuration is refused"));
@@ -59,7 +59,7 @@ fn wide(alloc: Global) -> Result<(Bench, Spares), Fail>
 }
 
 // Begins all calls, and one too many.
-fn all_begun<R: Abort>(rt: &R, bench: &Bench, flight: &mut Flight<'_>, kind: Kind)
+fn all_begun<R: Abort>(rt: &R, bench: &Bench, flight: &mut CallsInFlight<'_>, kind: CallKind)
     requires { AreInFlight bench.now flight.old.host flight.old.calls.items }
     ensures { AreInFlight bench.now flight.new.host flight.new.calls.items }
 {
@@ -97,8 +97,8 @@ fn all_served<R: Abort + Wait>(
     alloc: Global,
     bench: &Bench,
     server: &mut Server,
-    flight: &mut Flight<'_>,
-    kind: Kind,
+    flight: &mut CallsInFlight<'_>,
+    kind: CallKind,
 ) -> Result<(), NoMemory>
     requires { IsServerOf bench.now server.old × AreInFlight bench.now flight.old.host flight.old.calls.items }
     ensures { IsServerOf bench.now server.new × AreInFlight bench.now flight.new.host flight.new.calls.items }
@@ -110,7 +110,7 @@ fn all_served<R: Abort + Wait>(
 }
 
 // Each is answered by its first poll, from the newest to the oldest, which is the order of their completions.
-fn newest_first<R: Abort>(rt: &R, bench: &Bench, flight: &mut Flight<'_>, kind: Kind)
+fn newest_first<R: Abort>(rt: &R, bench: &Bench, flight: &mut CallsInFlight<'_>, kind: CallKind)
     requires { AreInFlight bench.now flight.old.host flight.old.calls.items }
     ensures { AreInFlight bench.now flight.new.host flight.new.calls.items }
 {
@@ -125,7 +125,7 @@ fn newest_first<R: Abort>(rt: &R, bench: &Bench, flight: &mut Flight<'_>, kind: 
 }
 
 // The oldest is answered by its poll that reaps the last completion, and each other then by its first.
-fn oldest_first<R: Abort>(rt: &R, bench: &Bench, flight: &mut Flight<'_>, kind: Kind)
+fn oldest_first<R: Abort>(rt: &R, bench: &Bench, flight: &mut CallsInFlight<'_>, kind: CallKind)
     requires { AreInFlight bench.now flight.old.host flight.old.calls.items }
     ensures { AreInFlight bench.now flight.new.host flight.new.calls.items }
 {
@@ -142,11 +142,11 @@ fn all_kinds<R: Abort + Wait>(
     alloc: Global,
     bench: &Bench,
     server: &mut Server,
-    flight: &mut Flight<'_>,
+    flight: &mut CallsInFlight<'_>,
 ) -> Result<(), Fail>
     requires { IsServerOf bench.now server.old × AreInFlight bench.now flight.old.host flight.old.calls.items }
 {
-    for kind in [Kind::Writes, Kind::Reads, Kind::Compares] {
+    for kind in [CallKind::Writes, CallKind::Reads, CallKind::Compares] {
         all_served(rt, alloc, bench, server, flight, kind)?;
         newest_first(rt, bench, flight, kind);
         all_served(rt, alloc, bench, server, flight, kind)?;
@@ -160,10 +160,10 @@ fn both_do<R: Abort + Wait>(
     rt: &R,
     alloc: Global,
     bench: &Bench,
-    spares: &mut Spares,
+    spares: &mut BenchSpares,
 ) -> Result<(), Fail>
-    requires own { AreOf bench.now spares.old }
-    requires config { bench.now.config ≡ numbers 128 1 1 0 0 2 65 129 128 1 }
+    requires own { AreBenchSpares bench.now spares.old }
+    requires config { bench.now.config ≡ config_numbers 128 1 1 0 0 2 65 129 128 1 }
 {
     let mut server = server_of(bench, spares)?;
     let mut flight = on_both(alloc, bench, spares)?;

@@ -15,7 +15,7 @@ fn faults_have_their_words_and_numbers(rt: HostRuntime) -> Result<(), Fail> {
         (Fault::TooLong, "too many blocks", 42),
         (
             Fault::RingFull,
-            "too few identifiers, or no room in a submission queue",
+            "too few CIDs, or no room in a submission queue",
             43,
         ),
         (Fault::Status(Status::OUT_OF_RANGE), "status 0/80", 44),

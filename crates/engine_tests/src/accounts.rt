@@ -1,6 +1,6 @@
 //! Writes that one caller makes on its own queue, and its account of them.
 
-ghost use Rattle.meet_lock.specs.Passes.{IsOf, IsSame};
+ghost use Rattle.meet_lock.specs.Passes.{IsPassOfLock, IsSame};
 
 use crate::commands::{Command, items_of};
 use crate::crowd::LATE;
@@ -108,7 +108,7 @@ impl Account {
 
 /// The step, asked for again while another caller has the lock.
 fn insist(shared: &Shared<Core>, pass: &mut Pass<Core>, step: Step) -> Result<Answer, u8>
-    requires { IsOf shared.now pass.old }
+    requires { IsPassOfLock shared.now pass.old }
     ensures { IsSame pass.old pass.new }
 {
     let mut next = step;
@@ -131,7 +131,7 @@ fn makes(
     account: &mut Account,
     step: Step,
 ) -> Result<(), u8>
-    requires { IsOf shared.now pass.old }
+    requires { IsPassOfLock shared.now pass.old }
     ensures { IsSame pass.old pass.new }
 {
     let answer = insist(shared, pass, step)?;
@@ -145,7 +145,7 @@ fn grants(
     pass: &mut Pass<Core>,
     account: &mut Account,
 ) -> Result<(), u8>
-    requires { IsOf shared.now pass.old }
+    requires { IsPassOfLock shared.now pass.old }
     ensures { IsSame pass.old pass.new }
 {
     let ticket = account.ticket;
@@ -165,7 +165,7 @@ pub(crate) fn writes_one(
     pass: &mut Pass<Core>,
     account: &mut Account,
 ) -> Result<(), u8>
-    requires { IsOf shared.now pass.old }
+    requires { IsPassOfLock shared.now pass.old }
     ensures { IsSame pass.old pass.new }
 {
     let queue = account.write.queue;

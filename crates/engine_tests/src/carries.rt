@@ -1,19 +1,19 @@
 //! Every Work that goes through a queue comes out, once and in its pusher's order.
 
 ghost use Rattle.std.specs.Prelude.{◌<◌, All, IfOk};
-ghost use Rattle.lock_rows.specs.Hands.{AreOf, IsOf};
+ghost use Rattle.lock_rows.specs.Callers.{AreTestSpares, IsTestCallerOf};
 
 use crate::counts::Counts;
 use crate::crowd::{Ended, Got, WORKS, crowd};
-use crate::halls::entries_of;
-use lock_rows::{Hall, Hand, Spares, config_of, hall_of, take_hand};
+use crate::systems::entries_of;
+use lock_rows::{SpareCallers, TestCaller, TestSystem, config_of, system_of, take_caller};
 use std::alloc::{AllocError, Global};
 use std::process::Abort;
 use std::sync::Wait;
 use std::test::Fail;
 use std::thread::Threads;
 
-/// Marks the identifiers of this queue that one thread popped; false where they don't rise, one is marked already, or
+/// Marks the CIDs of this queue that one thread popped; false where they don't rise, one is marked already, or
 /// there is no place for it.
 fn marks(popped: &[Ended], queue: u16, marked: &mut [bool]) -> bool {
     let mut last = 0usize;
@@ -30,7 +30,7 @@ fn marks(popped: &[Ended], queue: u16, marked: &mut [bool]) -> bool {
     true
 }
 
-/// Whether each identifier of this queue was popped, and once, each thread's in order.
+/// Whether each CID of this queue was popped, and once, each thread's in order.
 fn has_each(alloc: Global, gots: &[Got], queue: u16) -> Result<bool, AllocError> {
     let mut marked = Vec::new(alloc);
     for place in 0..=WORKS {
@@ -59,47 +59,52 @@ fn check_each<R: Abort>(rt: &R, alloc: Global, gots: &[Got]) -> Result<(), Fail>
     Ok(())
 }
 
-/// Adds a hand, where there is one and memory.
-fn add_hand(hall: &Hall, spares: &mut Spares, hands: &mut Vec<Hand>)
-    requires { AreOf hall.now spares.old × All (IsOf hall.now) hands.old.items }
-    ensures { AreOf hall.now spares.new × All (IsOf hall.now) hands.new.items }
+/// Adds a caller, where there is one and memory.
+fn add_caller(system: &TestSystem, spares: &mut SpareCallers, callers: &mut Vec<TestCaller>)
+    requires { AreTestSpares system.now spares.old × All (IsTestCallerOf system.now) callers.old.items }
+    ensures { AreTestSpares system.now spares.new × All (IsTestCallerOf system.now) callers.new.items }
 {
-    if let Some(hand) = take_hand(hall, spares) {
-        let _ = hands.push(hand);
+    if let Some(caller) = take_caller(system, spares) {
+        let _ = callers.push(caller);
     }
 }
 
-/// So many hands, or fewer.
-fn some_hands(alloc: Global, hall: &Hall, spares: &mut Spares, count: u8) -> Vec<Hand>
-    requires { AreOf hall.now spares.old }
-    ensures { AreOf hall.now spares.new × All (IsOf hall.now) result.items }
+/// So many callers, or fewer.
+fn some_callers(
+    alloc: Global,
+    system: &TestSystem,
+    spares: &mut SpareCallers,
+    count: u8,
+) -> Vec<TestCaller>
+    requires { AreTestSpares system.now spares.old }
+    ensures { AreTestSpares system.now spares.new × All (IsTestCallerOf system.now) result.items }
 {
-    let mut hands = Vec::new(alloc);
+    let mut callers = Vec::new(alloc);
     for _ in 0..count {
-        add_hand(hall, spares, &mut hands);
+        add_caller(system, spares, &mut callers);
     }
-    hands
+    callers
 }
 
 /// Four pushers and four poppers carry each Work once through the queue, which has so many places.
 fn eight<R: Abort + Threads + Wait + Sync>(
     rt: &R,
     alloc: Global,
-    hall: &Hall,
-    spares: &mut Spares,
+    system: &TestSystem,
+    spares: &mut SpareCallers,
     capacity: usize,
 ) -> Result<(), Fail>
-    requires { AreOf hall.now spares.old }
-    ensures { IfOk result (λ _. AreOf hall.now spares.new) }
+    requires { AreTestSpares system.now spares.old }
+    ensures { IfOk result (λ _. AreTestSpares system.now spares.new) }
 {
-    let hands = some_hands(alloc, hall, spares, 8);
-    assert_eq!(rt; hands.len(), 8);
+    let callers = some_callers(alloc, system, spares, 8);
+    assert_eq!(rt; callers.len(), 8);
     let counts = Counts::new(4 * u64::from(WORKS), capacity as u64);
-    let gots = crowd(rt, alloc, hall, &counts, hands)?;
+    let gots = crowd(rt, alloc, system, &counts, callers)?;
     check_each(rt, alloc, gots.as_slice())
 }
 
-/// The same, in a hall of four queue pairs; the history has an entry for each step.
+/// The same, in a system of four queue pairs; the history has an entry for each step.
 fn carries<R: Abort + Threads + Wait + Sync>(
     rt: &R,
     alloc: Global,
@@ -108,10 +113,10 @@ fn carries<R: Abort + Threads + Wait + Sync>(
     requires { 0 < capacity }
 {
     let config = config_of(alloc, "config 8 1 1 0 0 4 4 8 32").ok_or("no configuration")?;
-    let (hall, mut spares) = hall_of(alloc, config, capacity, 9)?;
-    eight(rt, alloc, &hall, &mut spares, capacity)?;
-    let last = take_hand(&hall, &mut spares).ok_or("a hand")?;
-    assert_eq!(rt; entries_of(hall, last)? as u64, 16 * u64::from(WORKS));
+    let (system, mut spares) = system_of(alloc, config, capacity, 9)?;
+    eight(rt, alloc, &system, &mut spares, capacity)?;
+    let last = take_caller(&system, &mut spares).ok_or("a caller")?;
+    assert_eq!(rt; entries_of(system, last)? as u64, 16 * u64::from(WORKS));
     Ok(())
 }
 

@@ -1,9 +1,9 @@
 //! Commands that are published, and fetched.
 
 ghost use Rattle.std.specs.Prelude.{◌≡◌, IfOk, vec_len};
-ghost use Rattle.lock_rows.specs.Hands.{IsFreshWork, IsOf};
+ghost use Rattle.lock_rows.specs.Callers.{IsFreshWork, IsTestCallerOf};
 
-use lock_rows::{Hall, Hand, NO_MEMORY, fetches, opens};
+use lock_rows::{NO_MEMORY, TestCaller, TestSystem, fetches, opens};
 use nvme_model::submission::{Payload, Submission, Submissions};
 use std::alloc::{AllocError, Global};
 use std::sync::Wait;
@@ -66,18 +66,18 @@ pub(crate) fn items_of(alloc: Global, command: Command) -> Result<Vec<Submission
 pub(crate) fn begun<R: Wait>(
     rt: &R,
     alloc: Global,
-    hall: &Hall,
-    hand: &mut Hand,
+    system: &TestSystem,
+    caller: &mut TestCaller,
     command: Command,
 ) -> Result<Work, u8>
-    requires { IsOf hall.now hand.old }
-    ensures same { IsOf hall.now hand.new }
-    ensures fresh { IfOk result (IsFreshWork hall.now) }
+    requires { IsTestCallerOf system.now caller.old }
+    ensures same { IsTestCallerOf system.now caller.new }
+    ensures fresh { IfOk result (IsFreshWork system.now) }
 {
     let Ok(items) = items_of(alloc, command) else {
         return Err(NO_MEMORY);
     };
     let request = Open::Publish(command.queue, Submissions::new(items));
-    opens(rt, hall, hand, request)?;
-    fetches(rt, hall, hand, command.queue)
+    opens(rt, system, caller, request)?;
+    fetches(rt, system, caller, command.queue)
 }

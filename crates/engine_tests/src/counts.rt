@@ -4,21 +4,21 @@ use std::sync::atomic::{AtomicU16, AtomicU64, Ordering};
 
 /// Calls of one kind by all threads. One that came back or found nothing is no longer counted as begun.
 #[derive(Drop)]
-pub(crate) struct Calls {
+pub(crate) struct CallCount {
     begun: AtomicU64,
     done: AtomicU64,
 }
 
-impl Calls {
-    fn new() -> Calls {
-        Calls {
+impl CallCount {
+    fn new() -> CallCount {
+        CallCount {
             begun: AtomicU64::new(0),
             done: AtomicU64::new(0),
         }
     }
 
     /// A call begins; how many of the other kind are done by now.
-    pub(crate) fn begins(&self, other: &Calls) -> u64 {
+    pub(crate) fn begins(&self, other: &CallCount) -> u64 {
         let done = other.done.load(Ordering::SeqCst);
         self.begun.fetch_add(1, Ordering::SeqCst);
         done
@@ -41,8 +41,8 @@ impl Calls {
 pub(crate) struct Counts {
     pub total: u64,
     pub capacity: u64,
-    pub pushes: Calls,
-    pub pops: Calls,
+    pub pushes: CallCount,
+    pub pops: CallCount,
     come: AtomicU16,
 }
 
@@ -51,8 +51,8 @@ impl Counts {
         Counts {
             total,
             capacity,
-            pushes: Calls::new(),
-            pops: Calls::new(),
+            pushes: CallCount::new(),
+            pops: CallCount::new(),
             come: AtomicU16::new(0),
         }
     }

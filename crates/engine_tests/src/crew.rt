@@ -1,10 +1,13 @@
 //! The steps of a run through an engine, its works and its notices, by three callers of one thread.
 
 ghost use Rattle.std.specs.Prelude.{All, IfOk, IfSome};
-ghost use Rattle.lock_rows.specs.Hands.{IsCrewOf, IsFreshWork, IsOf, IsWorkOf};
+ghost use Rattle.lock_rows.specs.Callers.{IsCrewOf, IsFreshWork, IsTestCallerOf, IsTestWork};
 
 use crate::passes::BUSY;
-use lock_rows::{Crew, Hall, Hand, NO_MEMORY, attempt, learns, number, open, pops, pushes, tells};
+use lock_rows::{
+    NO_MEMORY, TestCaller, TestSystem, ThreeCallers, attempt, learns, number, open, pops, pushes,
+    tells,
+};
 use meet_lock::Declined;
 use std::alloc::{AllocError, Global};
 use std::sync::Wait;
@@ -13,12 +16,16 @@ use step_core::Step;
 use work_queue::{Open, Opened, Task, Work};
 
 /// How an opening was answered: 0 or the number of its refusal, and the Work of a Fetch.
-pub(crate) fn opened(hall: &Hall, hand: &mut Hand, request: Open) -> (u8, Option<Work>)
-    requires { IsOf hall.now hand.old }
-    ensures same { IsOf hall.now hand.new }
-    ensures fresh { IfSome result.1 (IsFreshWork hall.now) }
+pub(crate) fn opened(
+    system: &TestSystem,
+    caller: &mut TestCaller,
+    request: Open,
+) -> (u8, Option<Work>)
+    requires { IsTestCallerOf system.now caller.old }
+    ensures same { IsTestCallerOf system.now caller.new }
+    ensures fresh { IfSome result.1 (IsFreshWork system.now) }
 {
-    match open(hall, hand, request) {
+    match open(system, caller, request) {
         Ok(Opened::Fetched(work)) => (0, Some(work)),
         Ok(_) => (0, None),
         Err(Declined::Refused(refused)) => (number(refused), None),
@@ -27,43 +34,53 @@ pub(crate) fn opened(hall: &Hall, hand: &mut Hand, request: Open) -> (u8, Option
 }
 
 /// The Work goes through the queue to the worker.
-fn hands_over<R: Wait>(rt: &R, hall: &Hall, crew: &mut Crew, work: Work) -> Result<(), Fail>
-    requires { IsCrewOf hall.now crew.old × IsFreshWork hall.now work }
-    ensures { IfOk result (λ _. IsCrewOf hall.now crew.new) }
+fn callers_over<R: Wait>(
+    rt: &R,
+    system: &TestSystem,
+    crew: &mut ThreeCallers,
+    work: Work,
+) -> Result<(), Fail>
+    requires { IsCrewOf system.now crew.old × IsFreshWork system.now work }
+    ensures { IfOk result (λ _. IsCrewOf system.now crew.new) }
 {
-    if pushes(rt, hall, &mut crew.fetcher, work).is_err() {
+    if pushes(rt, system, &mut crew.fetcher, work).is_err() {
         return Err(Fail::from("no place for a Work"));
     }
-    match pops(rt, hall, &mut crew.worker) {
+    match pops(rt, system, &mut crew.worker) {
         Some(work) => Ok(crew.works.push(work)?),
         None => Err(Fail::from("no Work")),
     }
 }
 
 /// A Fetch. Its Work goes to the worker.
-fn fetch<R: Wait>(rt: &R, hall: &Hall, crew: &mut Crew, queue: u16) -> Result<u8, Fail>
-    requires { IsCrewOf hall.now crew.old }
-    ensures { IfOk result (λ _. IsCrewOf hall.now crew.new) }
+fn fetch<R: Wait>(
+    rt: &R,
+    system: &TestSystem,
+    crew: &mut ThreeCallers,
+    queue: u16,
+) -> Result<u8, Fail>
+    requires { IsCrewOf system.now crew.old }
+    ensures { IfOk result (λ _. IsCrewOf system.now crew.new) }
 {
-    let (answer, fetched) = opened(hall, &mut crew.fetcher, Open::Fetch(queue));
+    let (answer, fetched) = opened(system, &mut crew.fetcher, Open::Fetch(queue));
     if let Some(work) = fetched {
-        hands_over(rt, hall, crew, work)?;
+        callers_over(rt, system, crew, work)?;
     }
     Ok(answer)
 }
 
 // Found, where it is the Work of this ticket, or else one of the others.
 fn put_by(
-    _hall: &Hall,
+    _system: &TestSystem,
     work: Work,
     ticket: u64,
     found: &mut Option<Work>,
     others: &mut Vec<Work>,
 ) -> Result<(), AllocError>
-    requires work { IsWorkOf _hall.now work }
-    requires both { IfSome found.old (IsWorkOf _hall.now) × All (IsWorkOf _hall.now) others.old.items }
-    ensures found { IfSome found.new (IsWorkOf _hall.now) }
-    ensures others { All (IsWorkOf _hall.now) others.new.items }
+    requires work { IsTestWork _system.now work }
+    requires both { IfSome found.old (IsTestWork _system.now) × All (IsTestWork _system.now) others.old.items }
+    ensures found { IfSome found.new (IsTestWork _system.now) }
+    ensures others { All (IsTestWork _system.now) others.new.items }
 {
     if work.ticket() == ticket {
         *found = Some(work);
@@ -75,20 +92,20 @@ fn put_by(
 
 // The same of all Works.
 fn put_all(
-    hall: &Hall,
+    system: &TestSystem,
     works: &mut Vec<Work>,
     ticket: u64,
     found: &mut Option<Work>,
     others: &mut Vec<Work>,
 ) -> Result<(), AllocError>
-    requires works { All (IsWorkOf hall.now) works.old.items }
-    requires both { IfSome found.old (IsWorkOf hall.now) × All (IsWorkOf hall.now) others.old.items }
-    ensures found { IfSome found.new (IsWorkOf hall.now) }
-    ensures others { All (IsWorkOf hall.now) others.new.items }
+    requires works { All (IsTestWork system.now) works.old.items }
+    requires both { IfSome found.old (IsTestWork system.now) × All (IsTestWork system.now) others.old.items }
+    ensures found { IfSome found.new (IsTestWork system.now) }
+    ensures others { All (IsTestWork system.now) others.new.items }
 {
     for _ in 0..works.len() {
         if let Some(work) = works.pop() {
-            put_by(hall, work, ticket, found, others)?;
+            put_by(system, work, ticket, found, others)?;
         }
     }
     Ok(())
@@ -97,33 +114,39 @@ fn put_all(
 /// The Work of this ticket, out of these.
 fn take_work(
     alloc: Global,
-    hall: &Hall,
+    system: &TestSystem,
     works: &mut Vec<Work>,
     ticket: u64,
 ) -> Result<Option<Work>, AllocError>
-    requires { All (IsWorkOf hall.now) works.old.items }
-    ensures rest { All (IsWorkOf hall.now) works.new.items }
-    ensures found { IfOk result (λ w. IfSome w (IsWorkOf hall.now)) }
+    requires { All (IsTestWork system.now) works.old.items }
+    ensures rest { All (IsTestWork system.now) works.new.items }
+    ensures found { IfOk result (λ w. IfSome w (IsTestWork system.now)) }
 {
     let mut found = None;
     let mut others = Vec::new(alloc);
-    let end = put_all(hall, works, ticket, &mut found, &mut others);
+    let end = put_all(system, works, ticket, &mut found, &mut others);
     *works = others;
     end.and(Ok(found))
 }
 
 /// The task, where it is the one that is next; None where it isn't.
-fn asks<R: Wait>(rt: &R, hall: &Hall, hand: &mut Hand, work: &mut Work, task: Task) -> Option<u8>
-    requires { IsOf hall.now hand.old × IsWorkOf hall.now work.old }
-    ensures { IsOf hall.now hand.new × IsWorkOf hall.now work.new }
+fn asks<R: Wait>(
+    rt: &R,
+    system: &TestSystem,
+    caller: &mut TestCaller,
+    work: &mut Work,
+    task: Task,
+) -> Option<u8>
+    requires { IsTestCallerOf system.now caller.old × IsTestWork system.now work.old }
+    ensures { IsTestCallerOf system.now caller.new × IsTestWork system.now work.new }
 {
     let next = work.next_task()?;
     if next != task {
         return None;
     }
-    match attempt(hall, hand, work, next) {
+    match attempt(system, caller, work, next) {
         Ok(answer) => {
-            if !tells(rt, hall, hand, work, &answer) {
+            if !tells(rt, system, caller, work, &answer) {
                 return Some(NO_MEMORY);
             }
             Some(0)
@@ -137,29 +160,29 @@ fn asks<R: Wait>(rt: &R, hall: &Hall, hand: &mut Hand, work: &mut Work, task: Ta
 fn work_on<R: Wait>(
     rt: &R,
     alloc: Global,
-    hall: &Hall,
-    crew: &mut Crew,
+    system: &TestSystem,
+    crew: &mut ThreeCallers,
     ticket: u64,
     task: Task,
 ) -> Result<Option<u8>, Fail>
-    requires { IsCrewOf hall.now crew.old }
-    ensures { IfOk result (λ _. IsCrewOf hall.now crew.new) }
+    requires { IsCrewOf system.now crew.old }
+    ensures { IfOk result (λ _. IsCrewOf system.now crew.new) }
 {
-    let Some(mut work) = take_work(alloc, hall, &mut crew.works, ticket)? else {
+    let Some(mut work) = take_work(alloc, system, &mut crew.works, ticket)? else {
         return Ok(None);
     };
-    let answer = asks(rt, hall, &mut crew.worker, &mut work, task);
+    let answer = asks(rt, system, &mut crew.worker, &mut work, task);
     crew.works.push(work)?;
     Ok(answer)
 }
 
 /// The host learns what it was told.
-fn hears<R: Wait>(rt: &R, hall: &Hall, crew: &mut Crew) -> Result<(), Fail>
-    requires { IsCrewOf hall.now crew.old }
-    ensures { IfOk result (λ _. IsCrewOf hall.now crew.new) }
+fn hears<R: Wait>(rt: &R, system: &TestSystem, crew: &mut ThreeCallers) -> Result<(), Fail>
+    requires { IsCrewOf system.now crew.old }
+    ensures { IfOk result (λ _. IsCrewOf system.now crew.new) }
 {
     for _ in rt.forever() {
-        match learns(rt, hall, &mut crew.host) {
+        match learns(rt, system, &mut crew.host) {
             Ok(true) => crew.learnt = crew.learnt.wrapping_add(1),
             Ok(false) => return Ok(()),
             Err(_) => return Err(Fail::from("the lock was held")),
@@ -173,25 +196,25 @@ fn hears<R: Wait>(rt: &R, hall: &Hall, crew: &mut Crew) -> Result<(), Fail>
 fn make<R: Wait>(
     rt: &R,
     alloc: Global,
-    hall: &Hall,
-    crew: &mut Crew,
+    system: &TestSystem,
+    crew: &mut ThreeCallers,
     step: Step,
 ) -> Result<Option<u8>, Fail>
-    requires { IsCrewOf hall.now crew.old }
-    ensures { IfOk result (λ _. IsCrewOf hall.now crew.new) }
+    requires { IsCrewOf system.now crew.old }
+    ensures { IfOk result (λ _. IsCrewOf system.now crew.new) }
 {
     match step {
         Step::Publish(queue, batch) => {
-            let (answer, _) = opened(hall, &mut crew.host, Open::Publish(queue, batch));
+            let (answer, _) = opened(system, &mut crew.host, Open::Publish(queue, batch));
             Ok(Some(answer))
         }
-        Step::Fetch(queue) => Ok(Some(fetch(rt, hall, crew, queue)?)),
-        Step::Grant(ticket) => work_on(rt, alloc, hall, crew, ticket, Task::Grant),
-        Step::Block(ticket) => work_on(rt, alloc, hall, crew, ticket, Task::Block),
-        Step::Post(ticket) => work_on(rt, alloc, hall, crew, ticket, Task::Post),
+        Step::Fetch(queue) => Ok(Some(fetch(rt, system, crew, queue)?)),
+        Step::Grant(ticket) => work_on(rt, alloc, system, crew, ticket, Task::Grant),
+        Step::Block(ticket) => work_on(rt, alloc, system, crew, ticket, Task::Block),
+        Step::Post(ticket) => work_on(rt, alloc, system, crew, ticket, Task::Post),
         Step::Reap(queue) => {
-            hears(rt, hall, crew)?;
-            let (answer, _) = opened(hall, &mut crew.host, Open::Reap(queue));
+            hears(rt, system, crew)?;
+            let (answer, _) = opened(system, &mut crew.host, Open::Reap(queue));
             Ok(Some(answer))
         }
     }
@@ -201,17 +224,17 @@ fn make<R: Wait>(
 pub(crate) fn make_all<R: Wait>(
     rt: &R,
     alloc: Global,
-    hall: &Hall,
-    crew: &mut Crew,
+    system: &TestSystem,
+    crew: &mut ThreeCallers,
     steps: Vec<Step>,
 ) -> Result<Vec<Option<u8>>, Fail>
-    requires { IsCrewOf hall.now crew.old }
-    ensures { IfOk result (λ _. IsCrewOf hall.now crew.new) }
+    requires { IsCrewOf system.now crew.old }
+    ensures { IfOk result (λ _. IsCrewOf system.now crew.new) }
 {
     let mut answers = Vec::new(alloc);
     for step in steps {
-        answers.push(make(rt, alloc, hall, crew, step)?)?;
+        answers.push(make(rt, alloc, system, crew, step)?)?;
     }
-    hears(rt, hall, crew)?;
+    hears(rt, system, crew)?;
     Ok(answers)
 }

@@ -1,11 +1,11 @@
 //! Works through one queue, from four threads to four.
 
 ghost use Rattle.std.specs.Prelude.{All, IfOk, IfSome};
-ghost use Rattle.lock_rows.specs.Hands.{IsFreshWork, IsOf, IsWorkOf};
+ghost use Rattle.lock_rows.specs.Callers.{IsFreshWork, IsTestCallerOf, IsTestWork};
 
 use crate::commands::{begun, flush};
 use crate::counts::Counts;
-use lock_rows::{Hall, Hand, NO_MEMORY, STRANGE, opens, pops, pushes, works};
+use lock_rows::{NO_MEMORY, STRANGE, TestCaller, TestSystem, opens, pops, pushes, works};
 use std::alloc::{AllocError, Global};
 use std::sync::Wait;
 use std::thread::{Threads, map_vec, yield_now};
@@ -24,7 +24,7 @@ pub(crate) const LATE: u8 = 97;
 /// How often a call is made again.
 const TRIES: u32 = 50_000_000;
 
-/// The command of a popped Work: its submission queue and its identifier.
+/// The command of a popped Work: its submission queue and its CID.
 #[derive(Clone, Copy)]
 pub(crate) struct Ended {
     pub queue: u16,
@@ -37,18 +37,18 @@ pub(crate) type Got = Result<Vec<Ended>, u8>;
 /// The Work, put at the back, again while it comes back.
 fn puts<R: Wait>(
     rt: &R,
-    hall: &Hall,
+    system: &TestSystem,
     counts: &Counts,
-    hand: &mut Hand,
+    caller: &mut TestCaller,
     work: Work,
 ) -> Result<(), u8>
-    requires { IsOf hall.now hand.old × IsFreshWork hall.now work }
-    ensures { IsOf hall.now hand.new }
+    requires { IsTestCallerOf system.now caller.old × IsFreshWork system.now work }
+    ensures { IsTestCallerOf system.now caller.new }
 {
     let mut next = work;
     for _ in 0..TRIES {
         let popped = counts.pushes.begins(&counts.pops);
-        match pushes(rt, hall, hand, next) {
+        match pushes(rt, system, caller, next) {
             Ok(()) => {
                 counts.pushes.ends();
                 return Ok(());
@@ -64,17 +64,22 @@ fn puts<R: Wait>(
 }
 
 /// The Work at the front, once one is there; None once all are popped.
-fn takes<R: Wait>(rt: &R, hall: &Hall, counts: &Counts, hand: &mut Hand) -> Result<Option<Work>, u8>
-    requires { IsOf hall.now hand.old }
-    ensures same { IsOf hall.now hand.new }
-    ensures work { IfOk result (λ w. IfSome w (IsWorkOf hall.now)) }
+fn takes<R: Wait>(
+    rt: &R,
+    system: &TestSystem,
+    counts: &Counts,
+    caller: &mut TestCaller,
+) -> Result<Option<Work>, u8>
+    requires { IsTestCallerOf system.now caller.old }
+    ensures same { IsTestCallerOf system.now caller.new }
+    ensures work { IfOk result (λ w. IfSome w (IsTestWork system.now)) }
 {
     for _ in 0..TRIES {
         if counts.is_done() {
             return Ok(None);
         }
         let pushed = counts.pops.begins(&counts.pushes);
-        if let Some(work) = pops(rt, hall, hand) {
+        if let Some(work) = pops(rt, system, caller) {
             counts.pops.ends();
             return Ok(Some(work));
         }
@@ -86,30 +91,35 @@ fn takes<R: Wait>(rt: &R, hall: &Hall, counts: &Counts, hand: &mut Hand) -> Resu
     Err(LATE)
 }
 
-/// The Works of this queue, Flushes with identifiers from 1 on, each fetched and pushed.
+/// The Works of this queue, Flushes with CIDs from 1 on, each fetched and pushed.
 fn pusher<R: Wait>(
     rt: &R,
     alloc: Global,
-    hall: &Hall,
+    system: &TestSystem,
     counts: &Counts,
-    hand: &mut Hand,
+    caller: &mut TestCaller,
     queue: u16,
 ) -> Result<(), u8>
-    requires { IsOf hall.now hand.old }
+    requires { IsTestCallerOf system.now caller.old }
 {
     for cid in 1..=WORKS {
-        let work = begun(rt, alloc, hall, hand, flush(queue, cid))?;
-        puts(rt, hall, counts, hand, work)?;
+        let work = begun(rt, alloc, system, caller, flush(queue, cid))?;
+        puts(rt, system, counts, caller, work)?;
     }
     Ok(())
 }
 
 /// Posts the Work's one completion.
-fn posted<R: Wait>(rt: &R, hall: &Hall, hand: &mut Hand, mut work: Work) -> Result<[u8; 16], u8>
-    requires { IsOf hall.now hand.old × IsWorkOf hall.now work }
-    ensures { IsOf hall.now hand.new }
+fn posted<R: Wait>(
+    rt: &R,
+    system: &TestSystem,
+    caller: &mut TestCaller,
+    mut work: Work,
+) -> Result<[u8; 16], u8>
+    requires { IsTestCallerOf system.now caller.old × IsTestWork system.now work }
+    ensures { IsTestCallerOf system.now caller.new }
 {
-    match works(rt, hall, hand, &mut work) {
+    match works(rt, system, caller, &mut work) {
         Ok(Some(Answer::Posted(cqe))) => Ok(cqe),
         Ok(_) => Err(STRANGE),
         Err(why) => Err(why),
@@ -117,14 +127,19 @@ fn posted<R: Wait>(rt: &R, hall: &Hall, hand: &mut Hand, mut work: Work) -> Resu
 }
 
 /// Posts the Work's one completion, and reaps one of that queue; the command that was posted.
-fn ends<R: Wait>(rt: &R, hall: &Hall, hand: &mut Hand, work: Work) -> Result<Ended, u8>
-    requires { IsOf hall.now hand.old × IsWorkOf hall.now work }
-    ensures { IsOf hall.now hand.new }
+fn ends<R: Wait>(
+    rt: &R,
+    system: &TestSystem,
+    caller: &mut TestCaller,
+    work: Work,
+) -> Result<Ended, u8>
+    requires { IsTestCallerOf system.now caller.old × IsTestWork system.now work }
+    ensures { IsTestCallerOf system.now caller.new }
 {
-    let cqe = posted(rt, hall, hand, work)?;
+    let cqe = posted(rt, system, caller, work)?;
     let queue = u16::from_le_bytes([cqe[10], cqe[11]]);
     let cid = u16::from_le_bytes([cqe[12], cqe[13]]);
-    match opens(rt, hall, hand, Open::Reap(queue)) {
+    match opens(rt, system, caller, Open::Reap(queue)) {
         Ok(Opened::Reaped { .. }) => Ok(Ended { queue, cid }),
         Ok(_) => Err(STRANGE),
         Err(why) => Err(why),
@@ -134,18 +149,18 @@ fn ends<R: Wait>(rt: &R, hall: &Hall, hand: &mut Hand, work: Work) -> Result<End
 /// Ends Works until all are popped; their commands.
 fn popper<R: Wait>(
     rt: &R,
-    hall: &Hall,
+    system: &TestSystem,
     counts: &Counts,
-    hand: &mut Hand,
+    caller: &mut TestCaller,
     popped: &mut Vec<Ended>,
 ) -> Result<(), u8>
-    requires { IsOf hall.now hand.old }
+    requires { IsTestCallerOf system.now caller.old }
 {
     for _ in 0..TRIES {
-        let Some(work) = takes(rt, hall, counts, hand)? else {
+        let Some(work) = takes(rt, system, counts, caller)? else {
             return Ok(());
         };
-        let ended = ends(rt, hall, hand, work)?;
+        let ended = ends(rt, system, caller, work)?;
         if popped.push(ended).is_err() {
             return Err(NO_MEMORY);
         }
@@ -154,34 +169,40 @@ fn popper<R: Wait>(
 }
 
 /// One thread: each second that comes pushes, on a queue of its own, and the others pop.
-fn plays<R: Wait>(rt: &R, alloc: Global, hall: &Hall, counts: &Counts, mut hand: Hand) -> Got
-    requires { IsOf hall.now hand }
+fn plays<R: Wait>(
+    rt: &R,
+    alloc: Global,
+    system: &TestSystem,
+    counts: &Counts,
+    mut caller: TestCaller,
+) -> Got
+    requires { IsTestCallerOf system.now caller }
 {
     let mut popped = Vec::new(alloc);
     let place = counts.comes();
     let end = if place % 2 == 0 {
-        pusher(rt, alloc, hall, counts, &mut hand, place / 2 + 1)
+        pusher(rt, alloc, system, counts, &mut caller, place / 2 + 1)
     } else {
-        popper(rt, hall, counts, &mut hand, &mut popped)
+        popper(rt, system, counts, &mut caller, &mut popped)
     };
     end.and(Ok(popped))
 }
 
-/// What each got, on a thread for each hand.
+/// What each got, on a thread for each caller.
 pub(crate) fn crowd<R: Threads + Wait + Sync>(
     rt: &R,
     alloc: Global,
-    hall: &Hall,
+    system: &TestSystem,
     counts: &Counts,
-    hands: Vec<Hand>,
+    callers: Vec<TestCaller>,
 ) -> Result<Vec<Got>, AllocError>
-    requires { All (IsOf hall.now) hands.items }
+    requires { All (IsTestCallerOf system.now) callers.items }
 {
     map_vec(
         rt,
-        hands,
-        &|hand| -> Got
-            requires { IsOf hall.now hand }
-        { plays(rt, alloc, hall, counts, hand) },
+        callers,
+        &|caller| -> Got
+            requires { IsTestCallerOf system.now caller }
+        { plays(rt, alloc, system, counts, caller) },
     )
 }

@@ -2,7 +2,7 @@
 
 ghost use Rattle.std.specs.Prelude.{◌<◌};
 
-use crate::halls::ONE_QUEUE;
+use crate::systems::ONE_QUEUE;
 use lock_rows::config_of;
 use std::alloc::Global;
 use std::test::Fail;

@@ -25,13 +25,13 @@ mod crowd;
 #[cfg(test)]
 mod ends;
 #[cfg(test)]
-mod halls;
-#[cfg(test)]
 mod notices;
 #[cfg(test)]
 mod passes;
 #[cfg(test)]
 mod rows;
+#[cfg(test)]
+mod systems;
 #[cfg(test)]
 mod threads;
 #[cfg(test)]

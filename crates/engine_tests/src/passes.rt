@@ -1,11 +1,11 @@
 //! The steps of a worked run by passes of one lock: by one pass, and by two and three in turn that meet.
 
 ghost use Rattle.std.specs.Prelude.{◌≡◌, ◌<◌, ◌+◌, All, IfOk, IfSome, Some, ℕ, slice_get, vec_len};
-ghost use Rattle.meet_lock.specs.Passes.{IsOf, IsSame, number, passes_of};
+ghost use Rattle.meet_lock.specs.Passes.{IsPassOfLock, IsSame, number, passes_of};
 ghost use Rattle.work_queue.specs.Engines.{EnginePass};
 ghost use Rattle.engine_tests.specs.Threes.{AreThree};
 
-use crate::halls::lines_in;
+use crate::systems::lines_in;
 use history::Config;
 use lock_rows::number;
 use meet_lock::{Declined, Pass, Shared};
@@ -26,10 +26,10 @@ pub(crate) fn shared_of(
     passes: usize,
 ) -> Result<(Shared<Core>, Vec<Pass<Core>>), NoMemory>
     requires { 0 < passes }
-    ensures own { IfOk result (λ s. All (IsOf s.0) s.1.items) }
+    ensures own { IfOk result (λ s. All (IsPassOfLock s.0) s.1.items) }
     ensures count { IfOk result (λ s. vec_len s.1 ≡ passes) }
     ensures each { IfOk result (λ s. (k : ℕ) (p : EnginePass) → slice_get s.1.items k ≡ Some p
-        → IsOf s.0 p × (number p ≡ k + 1) × (passes_of p ≡ passes)) }
+        → IsPassOfLock s.0 p × (number p ≡ k + 1) × (passes_of p ≡ passes)) }
 {
     match Shared::new(alloc, Core::new(alloc, config)?, passes) {
         Ok(made) => Ok(made),
@@ -39,7 +39,7 @@ pub(crate) fn shared_of(
 
 /// The controller, once nobody has the lock.
 pub(crate) fn unlocked(shared: Shared<Core>, pass: Pass<Core>) -> Result<Core, Fail>
-    requires { IsOf shared pass }
+    requires { IsPassOfLock shared pass }
 {
     match shared.close(pass) {
         Some(core) => Ok(core),
@@ -62,7 +62,7 @@ fn unlocked_by_all(alloc: Global, shared: Shared<Core>, passes: Three) -> Result
 fn three_of(_shared: &Shared<Core>, passes: &mut Vec<Pass<Core>>) -> Option<Three>
     requires count { vec_len passes.old ≡ 3 }
     requires each { (k : ℕ) (p : EnginePass) → slice_get passes.old.items k ≡ Some p
-        → IsOf _shared.now p × (number p ≡ k + 1) × (passes_of p ≡ 3) }
+        → IsPassOfLock _shared.now p × (number p ≡ k + 1) × (passes_of p ≡ 3) }
     ensures { IfSome result (AreThree _shared.now) }
 {
     let one = passes.pop()?;
@@ -84,7 +84,7 @@ fn locked(alloc: Global, config: Config) -> Result<(Shared<Core>, Three), Fail>
 
 /// How the step by a pass was answered: 0 or the number of its refusal.
 fn attempted(shared: &Shared<Core>, pass: &mut Pass<Core>, step: Step) -> u8
-    requires { IsOf shared.now pass.old }
+    requires { IsPassOfLock shared.now pass.old }
     ensures { IsSame pass.old pass.new }
 {
     match shared.attempt(pass, step) {
@@ -96,7 +96,7 @@ fn attempted(shared: &Shared<Core>, pass: &mut Pass<Core>, step: Step) -> u8
 
 /// A step by a pass, which then meets another.
 fn take_turn(shared: &Shared<Core>, pass: &mut Pass<Core>, other: &mut Pass<Core>, step: Step) -> u8
-    requires { IsOf shared.now pass.old × IsOf shared.now other.old }
+    requires { IsPassOfLock shared.now pass.old × IsPassOfLock shared.now other.old }
     ensures { IsSame pass.old pass.new × IsSame other.old other.new }
 {
     let answer = attempted(shared, pass, step);

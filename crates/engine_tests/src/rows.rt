@@ -1,13 +1,16 @@
 //! Worked runs by passes of a lock and by an engine's crew, answer for answer and line for line as by a controller of
 //! one caller.
 
-ghost use Rattle.lock_rows.specs.Hands.{IsCrewOf, IsOf};
+ghost use Rattle.lock_rows.specs.Callers.{IsCrewOf, IsTestCallerOf};
 
 use crate::crew::make_all;
-use crate::halls::{closed, crewed, lines_in};
 use crate::passes::made_by_passes;
+use crate::systems::{closed, crewed, lines_in};
 use history::Config;
-use lock_rows::{CONFIG, Crew, Hall, Hand, LARGE, LARGE_PAIR, ROWS, Run, config_of, run_of};
+use lock_rows::{
+    CONFIG, LARGE, LARGE_PAIR, ROWS, ScriptRun, TestCaller, TestSystem, ThreeCallers, config_of,
+    run_of,
+};
 use std::alloc::Global;
 use std::process::Abort;
 use std::sync::Wait;
@@ -103,12 +106,12 @@ fn config_for(alloc: Global, line: &str, is_single: bool) -> Option<Config> {
 }
 
 /// How each step of a run was answered, None where it wasn't asked for, and the lines of the history.
-type Made = (Vec<Option<u8>>, Vec<u8>);
+type RunMade = (Vec<Option<u8>>, Vec<u8>);
 
-/// The host's hand.
-fn host_of(_hall: &Hall, crew: Crew) -> Hand
-    requires { IsCrewOf _hall.now crew }
-    ensures { IsOf _hall.now result }
+/// The host.
+fn host_of(_system: &TestSystem, crew: ThreeCallers) -> TestCaller
+    requires { IsCrewOf _system.now crew }
+    ensures { IsTestCallerOf _system.now result }
 {
     crew.host
 }
@@ -119,12 +122,12 @@ fn made_by_crew<R: Wait>(
     alloc: Global,
     config: Config,
     steps: Vec<Step>,
-) -> Result<(Made, u64), Fail> {
-    let (hall, mut crew) = crewed(alloc, config, 16)?;
-    let answers = make_all(rt, alloc, &hall, &mut crew, steps)?;
+) -> Result<(RunMade, u64), Fail> {
+    let (system, mut crew) = crewed(alloc, config, 16)?;
+    let answers = make_all(rt, alloc, &system, &mut crew, steps)?;
     let learnt = crew.learnt;
-    let host = host_of(&hall, crew);
-    let core = closed(hall, host)?;
+    let host = host_of(&system, crew);
+    let core = closed(system, host)?;
     Ok(((answers, lines_in(alloc, core)?), learnt))
 }
 
@@ -135,7 +138,7 @@ fn made_by<R: Wait>(
     config: Config,
     steps: Vec<Step>,
     passes: u8,
-) -> Result<(Made, u64), Fail> {
+) -> Result<(RunMade, u64), Fail> {
     if passes == 0 {
         return made_by_crew(rt, alloc, config, steps);
     }
@@ -151,7 +154,7 @@ fn check<R: Abort + Wait>(
     script: &str,
     passes: u8,
 ) -> Result<(Vec<u8>, usize), Fail> {
-    let Run {
+    let ScriptRun {
         steps,
         answers,
         lines,

@@ -1,7 +1,7 @@
 //! Four threads, each on a queue of its own.
 
 ghost use Rattle.std.specs.Prelude.{All};
-ghost use Rattle.meet_lock.specs.Passes.{IsOf};
+ghost use Rattle.meet_lock.specs.Passes.{IsPassOfLock};
 
 use crate::accounts::{Account, TRIES, writes_one};
 use crate::commands::{Command, WRITE};
@@ -20,7 +20,7 @@ use step_core::Core;
 const WRITES: u8 = 16;
 
 /// The account of a thread, or the number of a refusal.
-type Made = Result<Account, u8>;
+type ThreadEnd = Result<Account, u8>;
 
 /// Waits until four threads have come here, or for a while: so none ends before the last begins. How many came before.
 fn gather(come: &AtomicU8) -> u8 {
@@ -35,8 +35,8 @@ fn gather(come: &AtomicU8) -> u8 {
 }
 
 /// The Writes of one thread, to two blocks that all threads write.
-fn writes(alloc: Global, shared: &Shared<Core>, mut pass: Pass<Core>, come: &AtomicU8) -> Made
-    requires { IsOf shared.now pass }
+fn writes(alloc: Global, shared: &Shared<Core>, mut pass: Pass<Core>, come: &AtomicU8) -> ThreadEnd
+    requires { IsPassOfLock shared.now pass }
 {
     let place = gather(come);
     let write = Command {
@@ -62,15 +62,15 @@ fn all_write<R: Threads + Sync>(
     alloc: Global,
     shared: &Shared<Core>,
     passes: Vec<Pass<Core>>,
-) -> Result<Vec<Made>, AllocError>
-    requires { All (IsOf shared.now) passes.items }
+) -> Result<Vec<ThreadEnd>, AllocError>
+    requires { All (IsPassOfLock shared.now) passes.items }
 {
     let come = AtomicU8::new(0);
     map_vec(
         rt,
         passes,
-        &|pass| -> Made
-            requires { IsOf shared.now pass }
+        &|pass| -> ThreadEnd
+            requires { IsPassOfLock shared.now pass }
         { writes(alloc, shared, pass, &come) },
     )
 }
@@ -125,7 +125,7 @@ fn check_history<R: Abort>(
     rt: &R,
     alloc: Global,
     history: &[Entry],
-    made: &[Made],
+    made: &[ThreadEnd],
 ) -> Result<(), Fail> {
     let mut all = 0usize;
     for one in made {
@@ -141,7 +141,7 @@ fn check_history<R: Abort>(
 }
 
 /// A controller of four queue pairs after the Writes of four threads, and what these made.
-fn written<R: Threads + Sync>(rt: &R, alloc: Global) -> Result<(Core, Vec<Made>), Fail> {
+fn written<R: Threads + Sync>(rt: &R, alloc: Global) -> Result<(Core, Vec<ThreadEnd>), Fail> {
     let config = config_of(alloc, "config 8 1 1 0 0 4 4 4 8").ok_or("no configuration")?;
     let (shared, mut passes) = shared_of(alloc, config, 5)?;
     let last = passes.pop().ok_or("a pass")?;

@@ -2,11 +2,13 @@
 
 ghost use Rattle.std.specs.Prelude.{◌≡◌};
 ghost use Rattle.meet_lock.specs.Passes.{seen};
-ghost use Rattle.lock_rows.specs.Hands.{IsCrewOf, IsOf, IsWorkOf};
+ghost use Rattle.lock_rows.specs.Callers.{IsCrewOf, IsTestCallerOf, IsTestWork};
 
 use crate::commands::{Command, WRITE, begun};
-use crate::halls::{ONE_QUEUE, crewed, entries_of};
-use lock_rows::{Crew, Hall, Hand, config_of, learns, opens, pops, pushes, works};
+use crate::systems::{ONE_QUEUE, crewed, entries_of};
+use lock_rows::{
+    TestCaller, TestSystem, ThreeCallers, config_of, learns, opens, pops, pushes, works,
+};
 use std::alloc::Global;
 use std::process::Abort;
 use std::sync::Wait;
@@ -20,13 +22,18 @@ use work_queue::{Open, Opened, Work};
 /// # Errors
 ///
 /// The number of another refusal.
-pub(crate) fn ends<R: Wait>(rt: &R, hall: &Hall, hand: &mut Hand, mut work: Work) -> Result<u64, u8>
-    requires { IsOf hall.now hand.old × IsWorkOf hall.now work }
-    ensures { IsOf hall.now hand.new }
+pub(crate) fn ends<R: Wait>(
+    rt: &R,
+    system: &TestSystem,
+    caller: &mut TestCaller,
+    mut work: Work,
+) -> Result<u64, u8>
+    requires { IsTestCallerOf system.now caller.old × IsTestWork system.now work }
+    ensures { IsTestCallerOf system.now caller.new }
 {
     let mut made = 0u64;
     for _ in rt.forever() {
-        match works(rt, hall, hand, &mut work) {
+        match works(rt, system, caller, &mut work) {
             Ok(Some(_)) => made = made.wrapping_add(1),
             Ok(None) => return Ok(made),
             Err(6 | 8) => yield_now(),
@@ -37,13 +44,13 @@ pub(crate) fn ends<R: Wait>(rt: &R, hall: &Hall, hand: &mut Hand, mut work: Work
 }
 
 // Waits for a Work and ends it.
-fn serves<R: Wait>(rt: &R, hall: &Hall, hand: &mut Hand) -> Result<u64, u8>
-    requires { IsOf hall.now hand.old }
-    ensures { IsOf hall.now hand.new }
+fn serves<R: Wait>(rt: &R, system: &TestSystem, caller: &mut TestCaller) -> Result<u64, u8>
+    requires { IsTestCallerOf system.now caller.old }
+    ensures { IsTestCallerOf system.now caller.new }
 {
     for _ in rt.forever() {
-        match pops(rt, hall, hand) {
-            Some(work) => return ends(rt, hall, hand, work),
+        match pops(rt, system, caller) {
+            Some(work) => return ends(rt, system, caller, work),
             None => yield_now(),
         }
     }
@@ -51,13 +58,13 @@ fn serves<R: Wait>(rt: &R, hall: &Hall, hand: &mut Hand) -> Result<u64, u8>
 }
 
 // Waits for a notice, and reaps; the number of the refusal, if it is refused.
-fn hears<R: Wait>(rt: &R, hall: &Hall, hand: &mut Hand) -> Result<(), u8>
-    requires { IsOf hall.now hand.old }
-    ensures { IsOf hall.now hand.new }
+fn hears<R: Wait>(rt: &R, system: &TestSystem, caller: &mut TestCaller) -> Result<(), u8>
+    requires { IsTestCallerOf system.now caller.old }
+    ensures { IsTestCallerOf system.now caller.new }
 {
     for _ in rt.forever() {
-        if learns(rt, hall, hand)? {
-            return match opens(rt, hall, hand, Open::Reap(1)) {
+        if learns(rt, system, caller)? {
+            return match opens(rt, system, caller, Open::Reap(1)) {
                 Ok(Opened::Reaped { .. }) => Ok(()),
                 Ok(_) => Err(0),
                 Err(why) => Err(why),
@@ -71,49 +78,49 @@ fn hears<R: Wait>(rt: &R, hall: &Hall, hand: &mut Hand) -> Result<(), u8>
 // A worker and a host, each on a thread; how each ended, and what it owned.
 fn both<R: Threads + Wait + Sync>(
     rt: &R,
-    hall: &Hall,
-    worker: Hand,
-    host: Hand,
-) -> ((Result<u64, u8>, Hand), (Result<(), u8>, Hand))
-    requires { IsOf hall.now worker × IsOf hall.now host }
-    ensures { IsOf hall.now result.0.1 × IsOf hall.now result.1.1 }
+    system: &TestSystem,
+    worker: TestCaller,
+    host: TestCaller,
+) -> ((Result<u64, u8>, TestCaller), (Result<(), u8>, TestCaller))
+    requires { IsTestCallerOf system.now worker × IsTestCallerOf system.now host }
+    ensures { IsTestCallerOf system.now result.0.1 × IsTestCallerOf system.now result.1.1 }
 {
     join(
         rt,
-        move || -> (Result<u64, u8>, Hand)
-            requires { IsOf hall.now worker }
-            ensures { IsOf hall.entry.now result.1 }
+        move || -> (Result<u64, u8>, TestCaller)
+            requires { IsTestCallerOf system.now worker }
+            ensures { IsTestCallerOf system.entry.now result.1 }
         {
-            let mut hand = worker;
-            let made = serves(rt, hall, &mut hand);
-            (made, hand)
+            let mut caller = worker;
+            let made = serves(rt, system, &mut caller);
+            (made, caller)
         },
-        move || -> (Result<(), u8>, Hand)
-            requires { IsOf hall.now host }
-            ensures { IsOf hall.entry.now result.1 }
+        move || -> (Result<(), u8>, TestCaller)
+            requires { IsTestCallerOf system.now host }
+            ensures { IsTestCallerOf system.entry.now result.1 }
         {
-            let mut hand = host;
-            let heard = hears(rt, hall, &mut hand);
-            (heard, hand)
+            let mut caller = host;
+            let heard = hears(rt, system, &mut caller);
+            (heard, caller)
         },
     )
 }
 
 // Two passes see one history.
-fn meets<R: Abort>(rt: &R, hall: &Hall, one: &mut Hand, two: &mut Hand)
-    requires { IsOf hall.now one.old × IsOf hall.now two.old }
-    ensures same { IsOf hall.now one.new × IsOf hall.now two.new }
+fn meets<R: Abort>(rt: &R, system: &TestSystem, one: &mut TestCaller, two: &mut TestCaller)
+    requires { IsTestCallerOf system.now one.old × IsTestCallerOf system.now two.old }
+    ensures same { IsTestCallerOf system.now one.new × IsTestCallerOf system.now two.new }
     ensures met { seen one.new.pass ≡ seen two.new.pass }
 {
-    if hall.engine.meet(&mut one.pass, &mut two.pass).is_err() {
+    if system.engine.meet(&mut one.pass, &mut two.pass).is_err() {
         panic!(rt; "the lock was held")
     }
 }
 
 // A Write, published, fetched and pushed.
-fn sends<R: Abort + Wait>(rt: &R, alloc: Global, hall: &Hall, hand: &mut Hand)
-    requires { IsOf hall.now hand.old }
-    ensures { IsOf hall.now hand.new }
+fn sends<R: Abort + Wait>(rt: &R, alloc: Global, system: &TestSystem, caller: &mut TestCaller)
+    requires { IsTestCallerOf system.now caller.old }
+    ensures { IsTestCallerOf system.now caller.new }
 {
     let write = Command {
         opcode: WRITE,
@@ -122,23 +129,27 @@ fn sends<R: Abort + Wait>(rt: &R, alloc: Global, hall: &Hall, hand: &mut Hand)
         block: 3,
         byte: 0xa1,
     };
-    let Ok(work) = begun(rt, alloc, hall, hand, write) else {
+    let Ok(work) = begun(rt, alloc, system, caller, write) else {
         panic!(rt; "a Work")
     };
     assert_eq!(rt; work.ticket(), 1);
     assert!(rt; matches!(work.kind(), Kind::Units(_, _)));
-    assert!(rt; pushes(rt, hall, hand, work).is_ok());
+    assert!(rt; pushes(rt, system, caller, work).is_ok());
 }
 
 // Its three tasks are made there, and the host that learnt of the Post reaps at once. After their run the two passes
-// meet. The host's hand.
-fn travels<R: Abort + Threads + Wait + Sync>(rt: &R, hall: &Hall, crew: Crew) -> Hand
-    requires { IsCrewOf hall.now crew }
-    ensures { IsOf hall.now result }
+// meet. The host.
+fn travels<R: Abort + Threads + Wait + Sync>(
+    rt: &R,
+    system: &TestSystem,
+    crew: ThreeCallers,
+) -> TestCaller
+    requires { IsCrewOf system.now crew }
+    ensures { IsTestCallerOf system.now result }
 {
-    let Crew { host, worker, .. } = crew;
-    let ((made, mut worker), (heard, mut host)) = both(rt, hall, worker, host);
-    meets(rt, hall, &mut worker, &mut host);
+    let ThreeCallers { host, worker, .. } = crew;
+    let ((made, mut worker), (heard, mut host)) = both(rt, system, worker, host);
+    meets(rt, system, &mut worker, &mut host);
     assert_eq!(rt; made, Ok(3));
     assert_eq!(rt; heard, Ok(()));
     host
@@ -147,9 +158,9 @@ fn travels<R: Abort + Threads + Wait + Sync>(rt: &R, hall: &Hall, crew: Crew) ->
 #[test]
 fn a_work_ends_on_another_thread(rt: HostRuntime) -> Result<(), Fail> {
     let config = config_of(rt.alloc(), ONE_QUEUE).ok_or("no configuration")?;
-    let (hall, mut crew) = crewed(rt.alloc(), config, 4)?;
-    sends(&rt, rt.alloc(), &hall, &mut crew.fetcher);
-    let host = travels(&rt, &hall, crew);
-    assert_eq!(rt; entries_of(hall, host)?, 6);
+    let (system, mut crew) = crewed(rt.alloc(), config, 4)?;
+    sends(&rt, rt.alloc(), &system, &mut crew.fetcher);
+    let host = travels(&rt, &system, crew);
+    assert_eq!(rt; entries_of(system, host)?, 6);
     Ok(())
 }

@@ -17,7 +17,7 @@ pub struct Cqe {
     pub sqhd: u16,
     /// The number of the submission queue.
     pub sqid: u16,
-    /// The identifier of the command.
+    /// The CID of the command.
     pub cid: u16,
     /// The phase tag.
     pub phase: bool,

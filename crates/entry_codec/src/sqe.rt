@@ -1,7 +1,7 @@
 //! Submission queue entries.
 
 ghost use Rattle.std.specs.Prelude.{◌≡◌, ◌<◌, ◌≤◌, ◌+◌, ◌↔◌, IsTrue};
-ghost use Rattle.nvme_model.specs.EntryBytes.{slba as slba_of, blocks as blocks_of};
+ghost use Rattle.nvme_model.specs.EntryBytes.{slba as slba_of, block_count as blocks_of};
 ghost use Rattle.nvme_model.specs.Commands.{is_flush, is_write, is_read, is_compare, is_write_zeroes, data_length};
 ghost use Rattle.nvme_model.specs.Operations.{op_of_fields};
 ghost use Rattle.nvme_model.specs.Verdict.{has_invalid_field};
@@ -24,7 +24,7 @@ pub struct Sqe {
     pub opcode: u8,
     // bits 15:8 of CDW0: FUSE, four reserved bits and PSDT
     flags: u8,
-    /// The command's identifier, bits 31:16 of CDW0.
+    /// The command's CID, bits 31:16 of CDW0.
     pub cid: u16,
     /// The number of the namespace.
     pub nsid: u32,

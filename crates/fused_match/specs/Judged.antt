@@ -1,7 +1,7 @@
 -- What becomes of the entries that a Fetch takes, by the definitions of the verdict and of operations.
 use Rattle.std.specs.Prelude.{List, None, Option, Some, [], map, take, ℕ, ◌∷◌, ◌≡◌}
-use Rattle.nvme_model.specs.EntryBytes.{Sqe, blocks, slba}
-use Rattle.nvme_model.specs.Verdict.{Item, taken}
+use Rattle.nvme_model.specs.EntryBytes.{Sqe, block_count, slba}
+use Rattle.nvme_model.specs.Verdict.{Item, taken_entries}
 use Rattle.nvme_model.specs.declared.operation.Op.{Op}
 use Rattle.nvme_model.specs.declared.status.Verdict.{Verdict}
 use Rattle.fused_match.specs.declared.judged.Judged.{Judged}
@@ -23,8 +23,8 @@ operation_in _ = None
 
 -- the blocks of the first command are those that it names
 abbrev pub NamesBlocks : Judged → Sqe → Type 0
-NamesBlocks (Single o r) e = (r.slba ≡ slba e) × (r.blocks ≡ blocks e)
-NamesBlocks (Pair r) e = (r.slba ≡ slba e) × (r.blocks ≡ blocks e)
+NamesBlocks (Single o r) e = (r.slba ≡ slba e) × (r.blocks ≡ block_count e)
+NamesBlocks (Pair r) e = (r.slba ≡ slba e) × (r.blocks ≡ block_count e)
 NamesBlocks _ e = Unit {0}
 
 -- the entries that wait: the first and the one behind it, if there is one
@@ -34,4 +34,4 @@ waiting_items first (Some next) = first ∷ next ∷ []
 
 -- the CIDs of those of one or two entries that are taken
 abbrev pub cids_taken : Judged → Item → Option Item → List ℕ
-cids_taken j first second = map (λ i. i.fields.cid) (take (taken (verdict_by j)) (waiting_items first second))
+cids_taken j first second = map (λ i. i.fields.cid) (take (taken_entries (verdict_by j)) (waiting_items first second))

@@ -2,7 +2,7 @@
 
 ghost use Rattle.std.specs.Prelude.{◌≡◌, ◌+◌, ◌≤◌, ◌&&◌, ◌||◌, ◌==◌, IfNone, false, true, nat_lt, not};
 ghost use Rattle.nvme_model.specs.Commands.{is_compare, is_flush, is_read, is_write, is_write_zeroes};
-ghost use Rattle.nvme_model.specs.EntryBytes.{blocks, slba};
+ghost use Rattle.nvme_model.specs.EntryBytes.{block_count, slba};
 ghost use Rattle.nvme_model.specs.Verdict.{command_fault, is_in, pair_fault};
 
 use crate::item::Item;
@@ -24,13 +24,13 @@ fn is_in_use(cid: u16, in_use: &[u16]) -> bool
 }
 
 fn is_too_long(sqe: &Sqe) -> bool
-    ensures value { result ≡ (not (is_flush sqe.now) && nat_lt 256 (blocks sqe.now)) }
+    ensures value { result ≡ (not (is_flush sqe.now) && nat_lt 256 (block_count sqe.now)) }
 {
     !sqe.is_flush() && sqe.blocks() > 256
 }
 
 fn ends_beyond(sqe: &Sqe, size: u32) -> bool
-    ensures value { result ≡ nat_lt size (slba sqe.now + blocks sqe.now) }
+    ensures value { result ≡ nat_lt size (slba sqe.now + block_count sqe.now) }
 {
     match sqe.slba().checked_add(u64::from(sqe.blocks())) {
         Some(end) => end > u64::from(size),
@@ -39,7 +39,7 @@ fn ends_beyond(sqe: &Sqe, size: u32) -> bool
 }
 
 fn is_out_of_range(sqe: &Sqe, size: u32) -> bool
-    ensures value { result ≡ (not (is_flush sqe.now) && nat_lt size (slba sqe.now + blocks sqe.now)) }
+    ensures value { result ≡ (not (is_flush sqe.now) && nat_lt size (slba sqe.now + block_count sqe.now)) }
 {
     !sqe.is_flush() && ends_beyond(sqe, size)
 }
@@ -48,7 +48,7 @@ fn is_out_of_range(sqe: &Sqe, size: u32) -> bool
 pub(crate) fn command_fault(item: &Item, in_use: &[u16], size: u32) -> Option<Status>
     ensures value { result ≡ command_fault size in_use.now item.now }
     ensures fits { IfNone result (is_flush item.now.fields ≡ false →
-        slba item.now.fields + blocks item.now.fields ≤ size) }
+        slba item.now.fields + block_count item.now.fields ≤ size) }
 {
     let sqe = item.sqe();
     if !is_known(&sqe) {
@@ -122,7 +122,8 @@ fn has_conflict(first: u16, second: u16, in_use: &[u16]) -> bool
 }
 
 fn is_same_range(first: &Sqe, second: &Sqe) -> bool
-    ensures value { result ≡ ((slba first.now == slba second.now) && (blocks first.now == blocks second.now)) }
+    ensures value { result
+        ≡ ((slba first.now == slba second.now) && (block_count first.now == block_count second.now)) }
 {
     first.slba() == second.slba() && first.blocks() == second.blocks()
 }

@@ -1,7 +1,7 @@
 //! What becomes of the entries that a Fetch takes.
 
 ghost use Rattle.std.specs.Prelude.{◌≡◌};
-ghost use Rattle.nvme_model.specs.Verdict.{taken};
+ghost use Rattle.nvme_model.specs.Verdict.{taken_entries};
 
 use nvme_model::array::Range;
 use nvme_model::operation::Op;
@@ -27,7 +27,7 @@ impl Judged {
 
     /// How many entries the Fetch takes, 1 or 2.
     pub fn taken(&self) -> u8
-        ensures value { result ≡ taken (verdict_by self.now) }
+        ensures value { result ≡ taken_entries (verdict_by self.now) }
     {
         match self {
             Judged::Flush | Judged::Single(_, _) | Judged::SingleFailed(_) => 1,

@@ -2,7 +2,7 @@
 
 ghost use Rattle.std.specs.Prelude.{◌≡◌, ◌≤◌};
 ghost use Rattle.std.specs.Option.{option_copied};
-ghost use Rattle.nvme_model.specs.EntryBytes.{blocks as blocks_of, slba as slba_of};
+ghost use Rattle.nvme_model.specs.EntryBytes.{block_count as blocks_of, slba as slba_of};
 ghost use Rattle.nvme_model.specs.Operations.{op_by};
 ghost use Rattle.nvme_model.specs.Verdict.{of_command, of_pair, verdict_of};
 ghost use Rattle.fused_match.specs.Judged.{NamesBlocks, operation_in, verdict_by, waiting_items};
@@ -54,7 +54,7 @@ fn pair(sqe: &Sqe, fault: Option<(Status, Status)>) -> Judged
 
 /// What a Fetch does with the entries at the front of a queue: `next` is the one behind the first, if it is published.
 ///
-/// `in_use` are the command identifiers in use on the queue, `size` is the number of the volume's blocks. A first of a
+/// `in_use` are the CIDs in use on the queue, `size` is the number of the volume's blocks. A first of a
 /// fused pair (FUSE 01b) is taken with a second (FUSE 10b) right behind it; without one, and a second at the front, end
 /// alone with Command Aborted due to Missing Fused Command (Base 2.0, Fused Operations).
 pub fn judge(first: &Item, next: Option<&Item>, in_use: &[u16], units: &Units, size: u32) -> Judged

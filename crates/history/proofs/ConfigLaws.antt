@@ -14,7 +14,7 @@ use Rattle.line_text.proofs.WordLaws.{words_again}
 use Rattle.nvme_model.specs.declared.config.AtomicParameters.{AtomicParameters}
 use Rattle.nvme_model.specs.declared.config.ConfigNumbers.{ConfigNumbers}
 use Rattle.history.specs.declared.line_fault.LineFault.{LineFault}
-use Rattle.history.specs.Gives.{Gives}
+use Rattle.history.specs.Gives.{GivesRead}
 use Rattle.history.specs.ConfigLine.{HasConfigLine, atomic_from, config_from, config_in, config_line, config_words}
 use Rattle.history.specs.ConfigLine.{config_words_in, nine_in, nine_words, nine_words_in, ten_words, ten_words_in}
 use Rattle.history.specs.ConfigLine.{with_queues}
@@ -271,12 +271,13 @@ config_again c is = ap config_words_in (split_again c (eqb c.cqs c.pairs) is) �
 -- ---- at the call
 
 -- what is read has the line
-pub config_found : (line : List ℕ) (r : Result ConfigNumbers LineFault) → Gives r (config_in line)
+pub config_found : (line : List ℕ) (r : Result ConfigNumbers LineFault) → GivesRead r (config_in line)
     → IfOk r (λ c. line ≡ config_line c)
 config_found line (Ok c) h = config_is line c h
 config_found line (Err f) h = tt
 
 -- what has the line is read
-pub config_only : (line : List ℕ) (r : Result ConfigNumbers LineFault) (c : ConfigNumbers) → Gives r (config_in line)
-    → HasConfigLine c → line ≡ config_line c → Gives r (Some c)
-config_only line r c h is same = subst (Gives r) (ap config_in same ∙ config_again c is) h
+pub config_only : (line : List ℕ) (r : Result ConfigNumbers LineFault) (c : ConfigNumbers)
+    → GivesRead r (config_in line)
+    → HasConfigLine c → line ≡ config_line c → GivesRead r (Some c)
+config_only line r c h is same = subst (GivesRead r) (ap config_in same ∙ config_again c is) h

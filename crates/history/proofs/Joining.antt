@@ -8,7 +8,7 @@ use Rattle.std.specs.Prelude.{not}
 use Rattle.history.specs.declared.line_fault.LineFault.{LineFault}
 use Rattle.history.specs.declared.line_fault.LineFault.TheVariants.{Malformed, NoMemory}
 use Rattle.nvme_model.specs.declared.submission.Submission.{Submission}
-use Rattle.history.specs.Gives.{Gives}
+use Rattle.history.specs.Gives.{GivesRead}
 use Rattle.history.specs.BatchWords.{item_in, then_item, more_in}
 
 -- the entries so far and those behind them, where these are there
@@ -82,8 +82,8 @@ unfolding more_in
 more_end front rest all none inv = sym inv ∙ ap (λ l. joined front (more_in l)) none ∙ ap Some (append-nil front)
 
 -- a fault of one reading is one of another
-pub fails_then : {A B : Type 0} (f : LineFault) (a : Option A) (b : Option B) → Gives {A = A} (Err f) a
-    → (a ≡ None → b ≡ None) → Gives {A = B} (Err f) b
+pub fails_then : {A B : Type 0} (f : LineFault) (a : Option A) (b : Option B) → GivesRead {A = A} (Err f) a
+    → (a ≡ None → b ≡ None) → GivesRead {A = B} (Err f) b
 fails_then Malformed a b h g = g h
 fails_then NoMemory a b h g = tt
 

@@ -20,7 +20,7 @@ use Rattle.nvme_model.specs.declared.entry.PostLine.{PostLine}
 use Rattle.nvme_model.specs.declared.entry.ReapLine.{ReapLine}
 use Rattle.nvme_model.specs.declared.submission.Submission.{Submission}
 use Rattle.history.specs.declared.line_fault.LineFault.{LineFault}
-use Rattle.history.specs.Gives.{Gives}
+use Rattle.history.specs.Gives.{GivesRead}
 use Rattle.history.specs.StatusWord.{verdict_words, verdict_in}
 use Rattle.history.specs.Marks.{mode_word, mode_in, found_word, found_in, mark_word, mark_in}
 use Rattle.history.specs.BatchWords.{more_words, publish_words, batch_in}
@@ -196,6 +196,6 @@ unfolding entry_in entry_line
 entry_again e is = ap entry_words_in (split_again e is) ∙ words_back e is
 
 -- at the call
-pub entry_only : (line : List ℕ) (r : Result Entry LineFault) (e : Entry) → Gives r (entry_in line) → HasLine e
-    → line ≡ entry_line e → Gives r (Some e)
-entry_only line r e h is same = subst (Gives r) (ap entry_in same ∙ entry_again e is) h
+pub entry_only : (line : List ℕ) (r : Result Entry LineFault) (e : Entry) → GivesRead r (entry_in line) → HasLine e
+    → line ≡ entry_line e → GivesRead r (Some e)
+entry_only line r e h is same = subst (GivesRead r) (ap entry_in same ∙ entry_again e is) h

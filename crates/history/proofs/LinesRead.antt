@@ -14,7 +14,7 @@ use Rattle.line_text.proofs.HexLaws.{bytes_is, fixed_is}
 use Rattle.line_text.proofs.DataLaws.{data_is}
 use Rattle.nvme_model.specs.declared.entry.Entry.{Entry}
 use Rattle.history.specs.declared.line_fault.LineFault.{LineFault}
-use Rattle.history.specs.Gives.{Gives}
+use Rattle.history.specs.Gives.{GivesRead}
 use Rattle.history.specs.StatusWord.{verdict_in}
 use Rattle.history.specs.Marks.{mode_in, found_word, found_in, mark_in}
 use Rattle.history.specs.BatchWords.{batch_in}
@@ -146,7 +146,7 @@ entry_is line e h = sym (join_with_byte-slice_split 32 line)
     ∙ ap (join_with_byte 32) (words_are (slice_split (λ b. eqb b 32) line) e h)
 
 -- at the call
-pub entry_found : (line : List ℕ) (r : Result Entry LineFault) → Gives r (entry_in line)
+pub entry_found : (line : List ℕ) (r : Result Entry LineFault) → GivesRead r (entry_in line)
     → IfOk r (λ e. line ≡ entry_line e)
 entry_found line (Ok e) h = entry_is line e h
 entry_found line (Err f) h = tt

@@ -17,7 +17,7 @@ use Rattle.nvme_model.specs.declared.status.Status.{Status}
 use Rattle.nvme_model.specs.declared.status.Verdict.{Verdict}
 use Rattle.history.specs.StatusWord.{status_word, status_from, status_in, verdict_words, single_failed, pair_failed}
 use Rattle.history.specs.StatusWord.{short_verdict_in, verdict_in}
-use Rattle.history.specs.Lines.{HasStatus, HasVerdict}
+use Rattle.history.specs.Lines.{HasStatus, HasVerdictWord}
 
 -- a test that let an answer through held
 pub chosen : {A : Type 0} (b : Bool) (o : Option A) (x : A) → cond b o None ≡ Some x → (b ≡ true) × (o ≡ Some x)
@@ -161,7 +161,7 @@ verdict_are (a ∷ b ∷ c ∷ []) v h =
 verdict_are (a ∷ b ∷ c ∷ d ∷ words) v h = absurd cc
 
 -- the words of a verdict are read as that verdict
-pub verdict_again : (v : Verdict) → HasVerdict v → verdict_in (verdict_words v) ≡ Some v
+pub verdict_again : (v : Verdict) → HasVerdictWord v → verdict_in (verdict_words v) ≡ Some v
 unfolding verdict_in short_verdict_in
 verdict_again Verdict.Single is = refl
 verdict_again (Verdict.SingleFailed s) is =

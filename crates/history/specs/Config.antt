@@ -6,8 +6,8 @@ use Rattle.nvme_model.specs.declared.config.ConfigNumbers.{ConfigNumbers}
 use Rattle.nvme_model.specs.declared.config.ConfigFault.{ConfigFault}
 
 -- the numbers in the order of a configuration line
-abbrev pub numbers : (blocks awun acwu nabsn nabo pairs sq cq jobs cqs : ℕ) → ConfigNumbers
-numbers blocks awun acwu nabsn nabo pairs sq cq jobs cqs =
+abbrev pub config_numbers : (blocks awun acwu nabsn nabo pairs sq cq jobs cqs : ℕ) → ConfigNumbers
+config_numbers blocks awun acwu nabsn nabo pairs sq cq jobs cqs =
     record {
       blocks = blocks;
       atomic = record { awun = awun; acwu = acwu; nabsn = nabsn; nabo = nabo };

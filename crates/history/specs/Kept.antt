@@ -3,6 +3,6 @@ use Rattle.std.specs.Prelude.{ℕ}
 use Rattle.nvme_model.specs.History.{Past}
 
 -- The entries, the newest first, and the room for more.
-pub record Kept : Type 0 where
+pub record HistoryRoom : Type 0 where
   pub past : Past
   pub room : ℕ

@@ -48,16 +48,16 @@ abbrev pub HasStatus : Status → Type 0
 HasStatus s = (s.sct < 8) × (s.sc < 256)
 
 -- statuses that have a word
-abbrev pub HasVerdict : Verdict → Type 0
-HasVerdict Verdict.Single = Unit {0}
-HasVerdict (Verdict.SingleFailed s) = HasStatus s
-HasVerdict Verdict.Pair = Unit {0}
-HasVerdict (Verdict.PairFailed s r) = HasStatus s × HasStatus r
+abbrev pub HasVerdictWord : Verdict → Type 0
+HasVerdictWord Verdict.Single = Unit {0}
+HasVerdictWord (Verdict.SingleFailed s) = HasStatus s
+HasVerdictWord Verdict.Pair = Unit {0}
+HasVerdictWord (Verdict.PairFailed s r) = HasStatus s × HasStatus r
 
 -- numbers within their types, lists of bytes of their lengths, and a batch of at least one entry
 abbrev pub HasLine : Entry → Type 0
 HasLine (Entry.Publish p) = (p.queue < 2 ^ 16) × (p.batch ≢ []) × AllByRecursion HasItem p.batch
-HasLine (Entry.Fetch f) = (f.queue < 2 ^ 16) × (f.ticket < 2 ^ 64) × HasVerdict f.verdict
+HasLine (Entry.Fetch f) = (f.queue < 2 ^ 16) × (f.ticket < 2 ^ 64) × HasVerdictWord f.verdict
 HasLine (Entry.Grant g) = (g.ticket < 2 ^ 64) × (g.unit < 2 ^ 64) × (g.range.slba < 2 ^ 64) × (g.range.blocks < 2 ^ 16)
 HasLine (Entry.Block b) = (b.ticket < 2 ^ 64) × (b.unit < 2 ^ 64) × (b.lba < 2 ^ 64)
 HasLine (Entry.Post p) = (p.ticket < 2 ^ 64) × (length p.cqe ≡ 16) × IsBytes p.cqe × IsBytes p.payload

@@ -5,7 +5,7 @@ ghost use Rattle.std.specs.Io.KnownBytes.{Appends};
 ghost use Rattle.std.specs.List.{join_with_byte};
 ghost use Rattle.line_text.specs.Known.{AppendsFront};
 ghost use Rattle.history.specs.BatchWords.{batch_in, item_in, more_in, publish_words, then_item};
-ghost use Rattle.history.specs.Gives.{Gives};
+ghost use Rattle.history.specs.Gives.{GivesRead};
 
 use crate::line_fault::LineFault;
 use line_text::{Word, read_data, read_fixed, send_behind, send_words};
@@ -15,7 +15,7 @@ use std::io::{Result as IoResult, Write};
 
 // The entry that two words spell.
 fn item_of(alloc: Global, entry: &[u8], payload: &[u8]) -> Result<Submission, LineFault>
-    ensures { Gives result (item_in entry.now payload.now) }
+    ensures { GivesRead result (item_in entry.now payload.now) }
 {
     let Some(entry) = read_fixed::<64>(entry) else {
         return Err(LineFault::Malformed);
@@ -31,7 +31,7 @@ fn item_of(alloc: Global, entry: &[u8], payload: &[u8]) -> Result<Submission, Li
 
 // The first entry, and those that the words behind it spell.
 fn more_of(alloc: Global, first: Submission, words: &[&[u8]]) -> Result<Batch, LineFault>
-    ensures { Gives result (then_item (Some first) (more_in (map (λ w. w.now) words.now))) }
+    ensures { GivesRead result (then_item (Some first) (more_in (map (λ w. w.now) words.now))) }
 {
     let mut items = Vec::new(alloc);
     items.push(first)?;
@@ -53,7 +53,7 @@ fn more_of(alloc: Global, first: Submission, words: &[&[u8]]) -> Result<Batch, L
 // The entries that words spell.
 #[tactic(auto, unfolding(crate::specs::BatchWords::batch_in))]
 pub(crate) fn batch_of(alloc: Global, words: &[&[u8]]) -> Result<Batch, LineFault>
-    ensures { Gives result (batch_in (map (λ w. w.now) words.now)) }
+    ensures { GivesRead result (batch_in (map (λ w. w.now) words.now)) }
 {
     let [entry, payload, others @ ..] = words else {
         return Err(LineFault::Malformed);

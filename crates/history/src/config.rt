@@ -3,7 +3,7 @@
 ghost use Rattle.std.specs.Prelude.{◌≡◌, ◌≤◌, ℕ, IfErr, IfOk, OnOk, None, Some};
 ghost use Rattle.nvme_model.specs.Config.{config_fault, completion_queue};
 ghost use Rattle.nvme_model.specs.declared.config.ConfigNumbers.{ConfigNumbers};
-ghost use Rattle.history.specs.Config.{numbers, queue_fault};
+ghost use Rattle.history.specs.Config.{config_numbers, queue_fault};
 
 use atomic_units::Units;
 use nvme_model::config::{AtomicParameters, ConfigFault, ConfigNumbers};
@@ -79,11 +79,11 @@ impl Config {
         cq: u16,
         jobs: u16,
     ) -> Result<Config, ConfigFault>
-        ensures value { IfOk result (λ c. c ≡ numbers blocks awun acwu nabsn nabo pairs sq cq jobs pairs) }
+        ensures value { IfOk result (λ c. c ≡ config_numbers blocks awun acwu nabsn nabo pairs sq cq jobs pairs) }
         ensures accepted { OnOk result
-            (config_fault (numbers blocks awun acwu nabsn nabo pairs sq cq jobs pairs) ≡ None) }
+            (config_fault (config_numbers blocks awun acwu nabsn nabo pairs sq cq jobs pairs) ≡ None) }
         ensures fault { IfErr result
-            (λ f. config_fault (numbers blocks awun acwu nabsn nabo pairs sq cq jobs pairs) ≡ Some f) }
+            (λ f. config_fault (config_numbers blocks awun acwu nabsn nabo pairs sq cq jobs pairs) ≡ Some f) }
     {
         Config::with_cqs(blocks, awun, acwu, nabsn, nabo, pairs, sq, cq, jobs, pairs)
     }
@@ -105,11 +105,11 @@ impl Config {
         jobs: u16,
         cqs: u16,
     ) -> Result<Config, ConfigFault>
-        ensures value { IfOk result (λ c. c ≡ numbers blocks awun acwu nabsn nabo pairs sq cq jobs cqs) }
+        ensures value { IfOk result (λ c. c ≡ config_numbers blocks awun acwu nabsn nabo pairs sq cq jobs cqs) }
         ensures accepted { OnOk result
-            (config_fault (numbers blocks awun acwu nabsn nabo pairs sq cq jobs cqs) ≡ None) }
+            (config_fault (config_numbers blocks awun acwu nabsn nabo pairs sq cq jobs cqs) ≡ None) }
         ensures fault { IfErr result
-            (λ f. config_fault (numbers blocks awun acwu nabsn nabo pairs sq cq jobs cqs) ≡ Some f) }
+            (λ f. config_fault (config_numbers blocks awun acwu nabsn nabo pairs sq cq jobs cqs) ≡ Some f) }
     {
         let numbers = ConfigNumbers {
             blocks,

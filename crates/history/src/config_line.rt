@@ -9,7 +9,7 @@ ghost use Rattle.nvme_model.specs.declared.config.ConfigNumbers.{ConfigNumbers};
 ghost use Rattle.history.specs.ConfigLine.{HasConfigLine, atomic_from, config_in, config_line, config_words};
 ghost use Rattle.history.specs.ConfigLine.{config_words_in, nine_in, nine_words, nine_words_in, ten_words};
 ghost use Rattle.history.specs.ConfigLine.{ten_words_in, with_queues};
-ghost use Rattle.history.specs.Gives.{Gives};
+ghost use Rattle.history.specs.Gives.{GivesRead};
 
 use crate::line_fault::LineFault;
 use crate::lines_there::config_fits;
@@ -115,7 +115,7 @@ fn config_of(words: &[&[u8]]) -> Option<ConfigNumbers>
 
 #[tactic(auto, unfolding(crate::specs::ConfigLine::config_in))]
 fn read_config(alloc: Global, line: &[u8]) -> Result<ConfigNumbers, LineFault>
-    ensures { Gives result (config_in line.now) }
+    ensures { GivesRead result (config_in line.now) }
 {
     let words = split_words(alloc, line, b' ')?;
     match config_of(words.as_slice()) {
@@ -131,13 +131,13 @@ fn read_config(alloc: Global, line: &[u8]) -> Result<ConfigNumbers, LineFault>
 /// `Malformed` for whatever isn't such a line, so also for a `config2` whose completion queues are as many as its
 /// submission queues; `NoMemory` where a growth was refused.
 pub fn read_config_line(alloc: Global, line: &[u8]) -> Result<ConfigNumbers, LineFault>
-    ensures value { Gives result (config_in line.now) }
+    ensures value { GivesRead result (config_in line.now) }
 
     // What is read has this line.
     ensures found { IfOk result (λ c. line.now ≡ config_line c) }
 
     // What has this line is read, unless memory runs out: so nothing else is malformed.
-    ensures only { (c : ConfigNumbers) → HasConfigLine c → line.now ≡ config_line c → Gives result (Some c) }
+    ensures only { (c : ConfigNumbers) → HasConfigLine c → line.now ≡ config_line c → GivesRead result (Some c) }
 {
     read_config(alloc, line)
 }

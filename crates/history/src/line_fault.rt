@@ -2,7 +2,7 @@
 
 ghost use Rattle.std.specs.Prelude.{◌≡◌};
 ghost use Rattle.history.specs.declared.line_fault.LineFault.TheVariants.{NoMemory};
-ghost use Rattle.history.specs.Gives.{fault_number};
+ghost use Rattle.history.specs.Gives.{line_fault_number};
 
 use std::alloc::{AllocError, AllocFailed};
 use thiserror::Error;
@@ -21,7 +21,7 @@ pub enum LineFault {
 impl LineFault {
     /// The number of the fault, 51 or 11.
     pub fn number(&self) -> u8
-        ensures { result ≡ fault_number self.now }
+        ensures { result ≡ line_fault_number self.now }
     {
         match self {
             LineFault::Malformed => 51,

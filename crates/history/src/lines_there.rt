@@ -2,7 +2,7 @@
 
 ghost use Rattle.std.specs.Prelude.{ℕ, ◌<◌, ◌^◌, All, slice_index};
 ghost use Rattle.history.specs.ConfigLine.{HasConfigLine};
-ghost use Rattle.history.specs.Lines.{HasItem, HasLine, HasStatus, HasVerdict};
+ghost use Rattle.history.specs.Lines.{HasItem, HasLine, HasStatus, HasVerdictWord};
 ghost use Rattle.nvme_model.specs.declared.entry.Entry.{Entry};
 
 use nvme_model::config::ConfigNumbers;
@@ -60,7 +60,7 @@ fn status_fits(status: Status)
 }
 
 fn verdict_fits(verdict: Verdict)
-    ensures { HasVerdict verdict }
+    ensures { HasVerdictWord verdict }
 {
     match verdict {
         Verdict::Single | Verdict::Pair => {}

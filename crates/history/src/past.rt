@@ -19,9 +19,9 @@ pub struct History {
 impl Model for History {
     ghost use Rattle.std.specs.Prelude.{◌-◌, reverse, vec_len};
     ghost use Rattle.std.specs.Vec.{vec_capacity};
-    ghost use Rattle.history.specs.Kept.{Kept};
+    ghost use Rattle.history.specs.Kept.{HistoryRoom};
 
-    ghost Value = { Kept };
+    ghost Value = { HistoryRoom };
 
     ghost view = { λ h. record { past = reverse h.entries.items; room = vec_capacity h.entries - vec_len h.entries } };
 }

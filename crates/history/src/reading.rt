@@ -2,7 +2,7 @@
 
 ghost use Rattle.std.specs.Prelude.{◌≡◌, Some, IfOk, map};
 ghost use Rattle.nvme_model.specs.declared.entry.Entry.{Entry};
-ghost use Rattle.history.specs.Gives.{Gives};
+ghost use Rattle.history.specs.Gives.{GivesRead};
 ghost use Rattle.history.specs.Lines.{HasLine, block_in, entry_in, entry_line, entry_words_in, fetch_in, grant_in};
 ghost use Rattle.history.specs.Lines.{post_in, publish_in, reap_in};
 
@@ -19,7 +19,7 @@ use std::alloc::Global;
 
 #[tactic(auto, unfolding(crate::specs::Lines::publish_in))]
 fn publish_of(alloc: Global, words: &[&[u8]]) -> Result<Entry, LineFault>
-    ensures { Gives result (publish_in (map (λ w. w.now) words.now)) }
+    ensures { GivesRead result (publish_in (map (λ w. w.now) words.now)) }
 {
     let Some((queue, others)) = words.split_first() else {
         return Err(LineFault::Malformed);
@@ -91,7 +91,7 @@ fn block_of(words: &[&[u8]]) -> Option<Entry>
 
 #[tactic(auto, unfolding(crate::specs::Lines::post_in))]
 fn post_of(alloc: Global, words: &[&[u8]]) -> Result<Entry, LineFault>
-    ensures { Gives result (post_in (map (λ w. w.now) words.now)) }
+    ensures { GivesRead result (post_in (map (λ w. w.now) words.now)) }
 {
     let [ticket, cqe, payload] = words else {
         return Err(LineFault::Malformed);
@@ -126,7 +126,7 @@ fn reap_of(words: &[&[u8]]) -> Option<Entry>
 
 // The entry, where there is one.
 fn or_malformed(entry: Option<Entry>) -> Result<Entry, LineFault>
-    ensures { Gives result entry }
+    ensures { GivesRead result entry }
 {
     match entry {
         Some(entry) => Ok(entry),
@@ -136,7 +136,7 @@ fn or_malformed(entry: Option<Entry>) -> Result<Entry, LineFault>
 
 #[tactic(auto, unfolding(crate::specs::Lines::entry_words_in))]
 fn entry_of(alloc: Global, words: &[&[u8]]) -> Result<Entry, LineFault>
-    ensures { Gives result (entry_words_in (map (λ w. w.now) words.now)) }
+    ensures { GivesRead result (entry_words_in (map (λ w. w.now) words.now)) }
 {
     let Some((kind, others)) = words.split_first() else {
         return Err(LineFault::Malformed);
@@ -164,7 +164,7 @@ fn entry_of(alloc: Global, words: &[&[u8]]) -> Result<Entry, LineFault>
 
 #[tactic(auto, unfolding(crate::specs::Lines::entry_in))]
 fn read_line(alloc: Global, line: &[u8]) -> Result<Entry, LineFault>
-    ensures { Gives result (entry_in line.now) }
+    ensures { GivesRead result (entry_in line.now) }
 {
     let words = split_words(alloc, line, b' ')?;
     entry_of(alloc, words.as_slice())
@@ -176,13 +176,13 @@ fn read_line(alloc: Global, line: &[u8]) -> Result<Entry, LineFault>
 ///
 /// `Malformed` for whatever isn't the line of an entry; `NoMemory` where a growth was refused.
 pub fn parse_line(alloc: Global, line: &[u8]) -> Result<Entry, LineFault>
-    ensures value { Gives result (entry_in line.now) }
+    ensures value { GivesRead result (entry_in line.now) }
 
     // What is read has this line.
     ensures found { IfOk result (λ e. line.now ≡ entry_line e) }
 
     // What has this line is read, unless memory runs out: so nothing else is malformed.
-    ensures only { (e : Entry) → HasLine e → line.now ≡ entry_line e → Gives result (Some e) }
+    ensures only { (e : Entry) → HasLine e → line.now ≡ entry_line e → GivesRead result (Some e) }
 {
     read_line(alloc, line)
 }

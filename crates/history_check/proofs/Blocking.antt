@@ -8,11 +8,11 @@ use Rattle.std.proofs.lemmas.Bool.{and_parts, or_parts}
 use Rattle.std.proofs.lemmas.Bool.Decides.{nat_tests}
 use Rattle.checked_tickets.specs.Contents.{contents_in, written_in}
 use Rattle.checked_tickets.specs.declared.flight.TakenBlock.{TakenBlock}
-use Rattle.checker_tables.specs.Effects.{placed, reads, word_of}
+use Rattle.checker_tables.specs.Effects.{placed, does_read, word_of}
 use Rattle.checker_tables.specs.Judged.{block_fits_by, flies, judged}
 use Rattle.cids_in_use.specs.Used.{AreInUse}
-use Rattle.checker_tables.specs.Tables.{Flight, OpenUnit, Tables, flight, tables, unit_of}
-use Rattle.checker_tables.specs.Taken.{SameIn, blocked, blocked_flight, ends_by, taken, value_after}
+use Rattle.checker_tables.specs.Tables.{CheckedTicket, CheckedUnit, Tables, flight, tables, checked_unit_of}
+use Rattle.checker_tables.specs.Taken.{SameIn, blocked, blocked_flight, ends_by, tables_after, value_after}
 use Rattle.checker_tables.proofs.Placing.{effect_granted, effect_placed}
 use Rattle.checker_tables.proofs.Within.{fits_same, flight_same, value_same}
 use Rattle.nvme_model.specs.Answered.{may_find}
@@ -39,15 +39,15 @@ use Rattle.nvme_model.proofs.Ended.{granted_op}
 use Rattle.nvme_model.proofs.InVolume.{units_in_volume}
 use Rattle.nvme_model.proofs.Lists.{Each, each_filter, each_find}
 use Rattle.range_reserve.specs.Reserved.{by_ticket, held_beside, held_of}
-use Rattle.range_reserve.specs.declared.held.Held.{Held}
+use Rattle.range_reserve.specs.declared.held.HeldRange.{HeldRange}
 use Rattle.range_reserve.proofs.Granted.{held_beside-map}
 use Rattle.range_reserve.proofs.Rising.{filter-by_ticket}
 use Rattle.ticket_laws.specs.Standing.{flying}
 use Rattle.ticket_laws.proofs.Flying.{flying_rises}
 use Rattle.ticket_laws.proofs.Lengths.{InTicket, granted_lie, written_length}
-use Rattle.history_check.specs.Kept.{Keeps, Kept, Shows, flight_in}
+use Rattle.history_check.specs.Kept.{IsCheckerState, CheckerState, ShowsTables, flight_in}
 use Rattle.history_check.specs.Steps.{Took}
-use Rattle.history_check.specs.declared.fields.InFlight.{InFlight}
+use Rattle.history_check.specs.declared.fields.CheckedInFlight.{CheckedInFlight}
 use Rattle.history_check.proofs.Bounds.{opened_few}
 use Rattle.history_check.proofs.Flights.{IsThere, set_place}
 use Rattle.history_check.proofs.InUse.{in_use_with}
@@ -64,28 +64,28 @@ open_granted P past t g all e =
     (each_filter P P (λ x. not (has_ended past x.ticket x.unit x.range.blocks)) (λ x p q. p) (granted past) all) e).0
 
 -- a Block leaves what its ticket is of
-pub ticket_stays : (contents : ℕ → List ℕ) (b : BlockLine) (f y : Flight) → is_some f.unit ≡ true
+pub ticket_stays : (contents : ℕ → List ℕ) (b : BlockLine) (f y : CheckedTicket) → is_some f.unit ≡ true
     → IfSome f.unit (λ u. y ≡ blocked_flight contents f b u) → y.ticket ≡ f.ticket
 ticket_stays contents b f y some e = go f.unit some e
   where
-    go : (o : Option OpenUnit) → is_some o ≡ true → IfSome o (λ u. y ≡ blocked_flight contents f b u)
+    go : (o : Option CheckedUnit) → is_some o ≡ true → IfSome o (λ u. y ≡ blocked_flight contents f b u)
         → y.ticket ≡ f.ticket
     go None some e = absurd (let h : false ≡ true = some in cc)
-    go (Some u) some e = ap (λ (z : Flight). z.ticket) e
+    go (Some u) some e = ap (λ (z : CheckedTicket). z.ticket) e
 
 -- and is a Block of what is in flight
-pub moved_by : (contents : ℕ → List ℕ) (b : BlockLine) (x : InFlight) (y : Flight)
+pub moved_by : (contents : ℕ → List ℕ) (b : BlockLine) (x : CheckedInFlight) (y : CheckedTicket)
     → IfSome x.flight.unit (λ u. y ≡ blocked_flight contents x.flight b u)
     → IfSome x.flight.unit (λ u. record x { flight = y } ≡ record x { flight = blocked_flight contents x.flight b u })
 moved_by contents b x y e = go x.flight.unit e
   where
-    go : (o : Option OpenUnit) → IfSome o (λ u. y ≡ blocked_flight contents x.flight b u)
+    go : (o : Option CheckedUnit) → IfSome o (λ u. y ≡ blocked_flight contents x.flight b u)
         → IfSome o (λ u. record x { flight = y } ≡ record x { flight = blocked_flight contents x.flight b u })
     go None e = tt
-    go (Some u) e = ap (λ (z : Flight). record x { flight = z }) e
+    go (Some u) e = ap (λ (z : CheckedTicket). record x { flight = z }) e
 
 -- an operation that reads says no answer
-read_word : (o : Option Op) (n j : ℕ) (f : Found) → reads o ≡ true → may_find o n j f ≡ true → word_of f ≡ []
+read_word : (o : Option Op) (n j : ℕ) (f : Found) → does_read o ≡ true → may_find o n j f ≡ true → word_of f ≡ []
 read_word (Some Op.Read) n j Found.Read r m = refl
 read_word (Some Op.Read) n j Found.Equal r m = absurd (let h : false ≡ true = m in cc)
 read_word (Some Op.Read) n j Found.Differs r m = absurd (let h : false ≡ true = m in cc)
@@ -119,9 +119,9 @@ abbrev block_form : Bool → Bool → Bool → Bool
 block_form flies is_open fits =
     is_none (cond (not flies) (Some Why.NoTicket) (cond (not is_open) (Some Why.WrongState) None)) && fits
 
-module _ (c : ConfigNumbers) (past : Past) (k : Kept) (keeps : Keeps c past k) (b : BlockLine) where
+module _ (c : ConfigNumbers) (past : Past) (k : CheckerState) (keeps : IsCheckerState c past k) (b : BlockLine) where
   -- its ticket isn't in flight
-  pub block_missing : (after : Kept) → flies ((tables c past).flight b.ticket) ≡ false
+  pub block_missing : (after : CheckerState) → flies ((tables c past).flight b.ticket) ≡ false
       → Took c past (Entry.Block b) false after
   block_missing after e = took_not c past (Entry.Block b) after
       (none_flies (flies ((tables c past).flight b.ticket)) _ _ e)
@@ -137,38 +137,39 @@ module _ (c : ConfigNumbers) (past : Past) (k : Kept) (keeps : Keeps c past k) (
       → SameIn (contents_in k.volume) (value past) g.range
   same_in g e l low high = keeps.shows.values l (omega (arith, open_within g e, high))
 
-  module _ (i : ℕ) (x : InFlight) (there : IsThere c past b.ticket i x) where
+  module _ (i : ℕ) (x : CheckedInFlight) (there : IsThere c past b.ticket i x) where
     flight_is : x.flight ≡ flight past b.ticket
-    flight_is = ap (λ (y : InFlight). y.flight) there.is
+    flight_is = ap (λ (y : CheckedInFlight). y.flight) there.is
 
     -- the open unit lies in the volume
     pub block_within : IfSome x.flight.unit (λ u. u.line.range.slba + u.line.range.blocks ≤ length k.volume)
-    block_within = subst (λ (f : Flight).
+    block_within = subst (λ (f : CheckedTicket).
         IfSome f.unit (λ u. u.line.range.slba + u.line.range.blocks ≤ length k.volume)) (sym flight_is)
         (go (find (λ g. g.ticket == b.ticket) (open_units past)) refl)
       where
         go : (o : Option GrantLine) → find (λ g. g.ticket == b.ticket) (open_units past) ≡ o
-            → IfSome (option_map (unit_of past) o) (λ u. u.line.range.slba + u.line.range.blocks ≤ length k.volume)
+            → IfSome (option_map (checked_unit_of past) o)
+            (λ u. u.line.range.slba + u.line.range.blocks ≤ length k.volume)
         go None e = tt
         go (Some g) e = omega (arith, open_within g e, keeps.shows.blocks)
 
     rule_is : block_fits_by (contents_in k.volume) x.flight b x.flight.unit ≡ judged c (tables c past) (Entry.Block b)
     rule_is =
-        ap (λ (f : Flight). block_fits_by (contents_in k.volume) f b f.unit) flight_is
+        ap (λ (f : CheckedTicket). block_fits_by (contents_in k.volume) f b f.unit) flight_is
         ∙ go (find (λ g. g.ticket == b.ticket) (open_units past)) refl
         ∙ ap (λ q. block_form q (is_some (flight past b.ticket).unit)
         (block_fits_by (value past) (flight past b.ticket) b (flight past b.ticket).unit)) (sym there.flies)
       where
         go : (o : Option GrantLine) → find (λ g. g.ticket == b.ticket) (open_units past) ≡ o
-            → block_fits_by (contents_in k.volume) (flight past b.ticket) b (option_map (unit_of past) o)
-            ≡ block_form true (is_some (option_map (unit_of past) o))
-            (block_fits_by (value past) (flight past b.ticket) b (option_map (unit_of past) o))
+            → block_fits_by (contents_in k.volume) (flight past b.ticket) b (option_map (checked_unit_of past) o)
+            ≡ block_form true (is_some (option_map (checked_unit_of past) o))
+            (block_fits_by (value past) (flight past b.ticket) b (option_map (checked_unit_of past) o))
         go None e = refl
-        go (Some g) e = fits_same (contents_in k.volume) (value past) (unit_of past g) (same_in g e)
+        go (Some g) e = fits_same (contents_in k.volume) (value past) (checked_unit_of past g) (same_in g e)
             (flight past b.ticket) b
 
     -- it doesn't fit
-    pub block_no : (after : Kept) → block_fits_by (contents_in k.volume) x.flight b x.flight.unit ≡ false
+    pub block_no : (after : CheckerState) → block_fits_by (contents_in k.volume) x.flight b x.flight.unit ≡ false
         → Took c past (Entry.Block b) false after
     block_no after e = took_not c past (Entry.Block b) after (sym rule_is ∙ e)
 
@@ -179,8 +180,8 @@ module _ (c : ConfigNumbers) (past : Past) (k : Kept) (keeps : Keeps c past k) (
       may : (g : GrantLine) × (find (λ g. g.ticket == b.ticket) (open_units past) ≡ Some g) × MayBlock past b g
       may = may_block c past b legal_then
 
-      unit_is : x.flight.unit ≡ Some (unit_of past may.0)
-      unit_is = ap (λ (f : Flight). f.unit) flight_is ∙ ap (option_map (unit_of past)) may.1
+      unit_is : x.flight.unit ≡ Some (checked_unit_of past may.0)
+      unit_is = ap (λ (f : CheckedTicket). f.unit) flight_is ∙ ap (option_map (checked_unit_of past)) may.1
 
       works : is_some (op (Tickets.ticket past b.ticket)) ≡ true
       works =
@@ -195,13 +196,13 @@ module _ (c : ConfigNumbers) (past : Past) (k : Kept) (keeps : Keeps c past k) (
       -- few effects and Blocks were made
       pub block_few : (x.flight.placed < 2 ^ 32) × IfSome x.flight.unit (λ u. u.made < 2 ^ 32)
       block_few = (
-        subst (λ (f : Flight). f.placed < 2 ^ 32) (sym flight_is)
+        subst (λ (f : CheckedTicket). f.placed < 2 ^ 32) (sym flight_is)
             (omega (
               arith,
               placed_few c past b.ticket keeps.legal_so_far,
               opened_few c past b.ticket keeps.legal_so_far keeps.accepted works,
             )),
-        subst (λ (o : Option OpenUnit). IfSome o (λ u. u.made < 2 ^ 32)) (sym unit_is) made_few,
+        subst (λ (o : Option CheckedUnit). IfSome o (λ u. u.made < 2 ^ 32)) (sym unit_is) made_few,
       )
         where
           made_few : length (blocks_made past may.0.ticket may.0.unit) < 2 ^ 32
@@ -217,18 +218,18 @@ module _ (c : ConfigNumbers) (past : Past) (k : Kept) (keeps : Keeps c past k) (
               )
 
       -- one that reads answers nothing
-      pub block_one : reads (op x.flight.ticket) ≡ true → word_of b.found ≡ []
+      pub block_one : does_read (op x.flight.ticket) ≡ true → word_of b.found ≡ []
       block_one r = read_word (op (Tickets.ticket past b.ticket)) _ _ b.found
-          (ap (λ (f : Flight). reads (op f.ticket)) (sym flight_is) ∙ r) may.2.word
+          (ap (λ (f : CheckedTicket). does_read (op f.ticket)) (sym flight_is) ∙ r) may.2.word
 
       module _ (d : TakenBlock) (range : IfSome x.flight.unit (λ u. d.range ≡ u.line.range))
           (written : IfSome x.flight.unit
           (λ u. d.writes ≡ (b.effect && writes (contents_in k.volume) x.flight.ticket u.line.range))) where
         range_is : d.range ≡ may.0.range
-        range_is = subst (λ (o : Option OpenUnit). IfSome o (λ u. d.range ≡ u.line.range)) unit_is range
+        range_is = subst (λ (o : Option CheckedUnit). IfSome o (λ u. d.range ≡ u.line.range)) unit_is range
 
         writes_is : d.writes ≡ (b.effect && writes (contents_in k.volume) x.flight.ticket may.0.range)
-        writes_is = subst (λ (o : Option OpenUnit).
+        writes_is = subst (λ (o : Option CheckedUnit).
             IfSome o (λ u. d.writes ≡ (b.effect && writes (contents_in k.volume) x.flight.ticket u.line.range))) unit_is
             written
 
@@ -251,7 +252,7 @@ module _ (c : ConfigNumbers) (past : Past) (k : Kept) (keeps : Keeps c past k) (
             let low = leb-true may.0.range.slba l h.0 in
             let high = ltb-true l (may.0.range.slba + may.0.range.blocks) h.1 in
             let same : Tickets.ticket past may.0.ticket ≡ x.flight.ticket = ap (Tickets.ticket past) may.2.ticket
-            ∙ ap (λ (f : Flight). f.ticket) (sym flight_is) in
+            ∙ ap (λ (f : CheckedTicket). f.ticket) (sym flight_is) in
             subst (λ (t : Ticket). has_write (op t) ≡ true → length (write_data t l) ≡ 512) same
             (λ hw. written_length c (Tickets.ticket past may.0.ticket) l
             (ticket_checked c past may.0.ticket keeps.legal_so_far
@@ -261,20 +262,21 @@ module _ (c : ConfigNumbers) (past : Past) (k : Kept) (keeps : Keeps c past k) (
 
         -- ---- what is kept then
 
-        module _ (ended : IfSome x.flight.unit (λ u. d.ended ≡ ends_by x.flight b u)) (y : InFlight)
+        module _ (ended : IfSome x.flight.unit (λ u. d.ended ≡ ends_by x.flight b u)) (y : CheckedInFlight)
             (moved : IfSome x.flight.unit
             (λ u. y ≡ record x { flight = blocked_flight (contents_in k.volume) x.flight b u }))
             (v : List (List ℕ)) (size : length v ≡ length k.volume)
             (after : (l : ℕ) → l < length k.volume
             → contents_in v l ≡ cond d.writes (written_in (contents_in k.volume) x.flight.ticket d.range l)
             (contents_in k.volume l))
-            (held : List Held) (freed : held ≡ cond d.ended (held_beside k.held b.ticket) k.held) where
-          ends_is : d.ended ≡ ends_by (flight past b.ticket) b (unit_of past may.0)
-          ends_is = subst (λ (o : Option OpenUnit). IfSome o (λ u. d.ended ≡ ends_by x.flight b u)) unit_is ended
-              ∙ ap (λ (f : Flight). ends_by f b (unit_of past may.0)) flight_is
+            (held : List HeldRange) (freed : held ≡ cond d.ended (held_beside k.held b.ticket) k.held) where
+          ends_is : d.ended ≡ ends_by (flight past b.ticket) b (checked_unit_of past may.0)
+          ends_is = subst (λ (o : Option CheckedUnit). IfSome o (λ u. d.ended ≡ ends_by x.flight b u)) unit_is ended
+              ∙ ap (λ (f : CheckedTicket). ends_by f b (checked_unit_of past may.0)) flight_is
 
-          then_is : blocked (tables c past) b (Some (unit_of past may.0)) ≡ taken c (tables c past) (Entry.Block b)
-          then_is = ap (blocked (tables c past) b) (sym unit_is ∙ ap (λ (f : Flight). f.unit) flight_is)
+          then_is : blocked (tables c past) b (Some (checked_unit_of past may.0))
+              ≡ tables_after c (tables c past) (Entry.Block b)
+          then_is = ap (blocked (tables c past) b) (sym unit_is ∙ ap (λ (f : CheckedTicket). f.unit) flight_is)
 
           written_is : (e w h : Bool) (a z : List ℕ) → cond (e && w) (cond h a z) z ≡ cond (e && h && w) a z
           written_is true true true a z = refl
@@ -291,60 +293,61 @@ module _ (c : ConfigNumbers) (past : Past) (k : Kept) (keeps : Keeps c past k) (
               (contents_in k.volume l))
               ∙ written_is b.effect (writes (contents_in k.volume) x.flight.ticket may.0.range)
               (has_block may.0.range l) (write_data x.flight.ticket l) (contents_in k.volume l)
-              ∙ ap (λ (f : Flight). value_after (contents_in k.volume) b f.ticket may.0.range l) flight_is
-              ∙ value_same (contents_in k.volume) (value past) (unit_of past may.0) (same_in may.0 may.1)
+              ∙ ap (λ (f : CheckedTicket). value_after (contents_in k.volume) b f.ticket may.0.range l) flight_is
+              ∙ value_same (contents_in k.volume) (value past) (checked_unit_of past may.0) (same_in may.0 may.1)
               (flight past b.ticket).ticket b l (keeps.shows.values l below)
 
-          own : y ≡ flight_in c (blocked (tables c past) b (Some (unit_of past may.0))) b.ticket
+          own : y ≡ flight_in c (blocked (tables c past) b (Some (checked_unit_of past may.0))) b.ticket
           own =
-              subst (λ (o : Option OpenUnit).
+              subst (λ (o : Option CheckedUnit).
               IfSome o (λ u. y ≡ record x { flight = blocked_flight (contents_in k.volume) x.flight b u })) unit_is
               moved
-              ∙ ap (λ (z : InFlight). record z
-              { flight = blocked_flight (contents_in k.volume) z.flight b (unit_of past may.0) }) there.is
-              ∙ ap (λ (f : Flight). record {
+              ∙ ap (λ (z : CheckedInFlight). record z
+              { flight = blocked_flight (contents_in k.volume) z.flight b (checked_unit_of past may.0) }) there.is
+              ∙ ap (λ (f : CheckedTicket). record {
                 ticket = b.ticket;
                 flight = f;
                 units = units c (flight past b.ticket).ticket;
               })
-              (flight_same (contents_in k.volume) (value past) (unit_of past may.0) (same_in may.0 may.1)
+              (flight_same (contents_in k.volume) (value past) (checked_unit_of past may.0) (same_in may.0 may.1)
               (flight past b.ticket) b)
               ∙ ap (λ q. record {
                 ticket = b.ticket;
-                flight = cond q (blocked_flight (value past) (flight past b.ticket) b (unit_of past may.0))
+                flight = cond q (blocked_flight (value past) (flight past b.ticket) b (checked_unit_of past may.0))
                     (flight past b.ticket);
                 units =
-                    units c (cond q (blocked_flight (value past) (flight past b.ticket) b (unit_of past may.0))
+                    units c (cond q (blocked_flight (value past) (flight past b.ticket) b (checked_unit_of past may.0))
                     (flight past b.ticket)).ticket;
               }) (sym (eq-eqb b.ticket b.ticket refl))
 
           others : (n : ℕ) → n ≢ b.ticket
-              → flight_in c (blocked (tables c past) b (Some (unit_of past may.0))) n ≡ flight_in c (tables c past) n
+              → flight_in c (blocked (tables c past) b (Some (checked_unit_of past may.0))) n
+              ≡ flight_in c (tables c past) n
           others n ne = ap (λ q. record {
             ticket = n;
-            flight = cond q (blocked_flight (value past) (flight past b.ticket) b (unit_of past may.0))
+            flight = cond q (blocked_flight (value past) (flight past b.ticket) b (checked_unit_of past may.0))
                 (flight past n);
             units =
-                units c (cond q (blocked_flight (value past) (flight past b.ticket) b (unit_of past may.0))
+                units c (cond q (blocked_flight (value past) (flight past b.ticket) b (checked_unit_of past may.0))
                 (flight past n)).ticket;
           }) (ne_eqb n b.ticket ne)
 
           ranges_are : held ≡ by_ticket
-              (map held_of (cond (ends_by (flight past b.ticket) b (unit_of past may.0))
+              (map held_of (cond (ends_by (flight past b.ticket) b (checked_unit_of past may.0))
               (filter (λ g. not (g.ticket == b.ticket)) (open_units past)) (open_units past)))
           ranges_are = freed ∙ ap (λ q. cond q (held_beside k.held b.ticket) k.held) ends_is
-              ∙ go (ends_by (flight past b.ticket) b (unit_of past may.0))
+              ∙ go (ends_by (flight past b.ticket) b (checked_unit_of past may.0))
             where
               go : (q : Bool) → cond q (held_beside k.held b.ticket) k.held
                   ≡ by_ticket (map held_of
                   (cond q (filter (λ g. not (g.ticket == b.ticket)) (open_units past)) (open_units past)))
               go false = keeps.shows.ranges
               go true =
-                  ap (λ (hs : List Held). held_beside hs b.ticket) keeps.shows.ranges
+                  ap (λ (hs : List HeldRange). held_beside hs b.ticket) keeps.shows.ranges
                   ∙ filter-by_ticket (λ h. not (h.ticket == b.ticket)) (map held_of (open_units past))
                   ∙ ap by_ticket (held_beside-map (open_units past) b.ticket)
 
-          shown : Shows c (blocked (tables c past) b (Some (unit_of past may.0)))
+          shown : ShowsTables c (blocked (tables c past) b (Some (checked_unit_of past may.0)))
               (record k { volume = v; flights = set k.flights i y; held = held })
           shown = record {
             blocks = size ∙ keeps.shows.blocks;
@@ -352,13 +355,13 @@ module _ (c : ConfigNumbers) (past : Past) (k : Kept) (keeps : Keeps c past k) (
             sq_rings = keeps.shows.sq_rings;
             in_use = subst (λ cids. AreInUse c.pairs (2 * c.jobs) cids k.in_use)
                 (sym (in_use_with (tables c past) b.ticket
-                (blocked_flight (value past) (flight past b.ticket) b (unit_of past may.0)) (λ q. refl)))
+                (blocked_flight (value past) (flight past b.ticket) b (checked_unit_of past may.0)) (λ q. refl)))
                 keeps.shows.in_use;
             cq_rings = keeps.shows.cq_rings;
             in_flight =
-                ap (λ (xs : List InFlight). set xs i y) keeps.shows.in_flight
+                ap (λ (xs : List CheckedInFlight). set xs i y) keeps.shows.in_flight
                 ∙ set_place (flight_in c (tables c past))
-                (flight_in c (blocked (tables c past) b (Some (unit_of past may.0)))) (flying past) i b.ticket y
+                (flight_in c (blocked (tables c past) b (Some (checked_unit_of past may.0)))) (flying past) i b.ticket y
                 (flying_rises past) there.place own others;
             ranges = ranges_are;
             count = keeps.shows.count;
@@ -369,5 +372,5 @@ module _ (c : ConfigNumbers) (past : Past) (k : Kept) (keeps : Keeps c past k) (
           block_yes = record {
             answer = sym yes ∙ rule_is;
             shows = λ _. subst (λ (s : Tables).
-                Shows c s (record k { volume = v; flights = set k.flights i y; held = held })) then_is shown;
+                ShowsTables c s (record k { volume = v; flights = set k.flights i y; held = held })) then_is shown;
           }

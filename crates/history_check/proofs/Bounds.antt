@@ -9,7 +9,7 @@ use Rattle.nvme_model.specs.declared.config.AtomicParameters.{AtomicParameters}
 use Rattle.nvme_model.specs.declared.config.ConfigNumbers.{ConfigNumbers}
 use Rattle.nvme_model.specs.declared.operation.Op.{Op}
 use Rattle.nvme_model.specs.Config.{config_fault, config_faults}
-use Rattle.nvme_model.specs.EntryBytes.{blocks, slba}
+use Rattle.nvme_model.specs.EntryBytes.{block_count, slba}
 use Rattle.nvme_model.specs.History.{Past}
 use Rattle.nvme_model.specs.Legal.{IsLegal}
 use Rattle.nvme_model.specs.Open.{grants_of}
@@ -41,18 +41,18 @@ unit_works u (Some o) s n i r e = refl
 pub has_op : (c : ConfigNumbers) (past : Past) (t i : ℕ) (r : Range) → slice_get (units c (ticket past t)) i ≡ Some r
     → is_some (op (ticket past t)) ≡ true
 has_op c past t i r e = unit_works c.atomic (op (ticket past t)) (slba (first_fields (ticket past t)))
-    (blocks (first_fields (ticket past t))) i r e
+    (block_count (first_fields (ticket past t))) i r e
 
 -- ---- of a ticket that works on blocks
 
 module _ (c : ConfigNumbers) (past : Past) (t : ℕ) (h : IsLegal c past) (f : config_fault c ≡ None)
     (some : is_some (op (ticket past t)) ≡ true) where
   -- its command's blocks lie in a volume
-  pub command_within : slba (first_fields (ticket past t)) + blocks (first_fields (ticket past t)) ≤ 65536
+  pub command_within : slba (first_fields (ticket past t)) + block_count (first_fields (ticket past t)) ≤ 65536
   command_within = omega (arith, (ticket_checked c past t h some).first.inside, (accepted c f).most_blocks)
 
   -- and are few
-  pub command_few : blocks (first_fields (ticket past t)) ≤ 256
+  pub command_few : block_count (first_fields (ticket past t)) ≤ 256
   command_few = (ticket_checked c past t h some).first.few
 
   -- it has few units
@@ -60,12 +60,12 @@ module _ (c : ConfigNumbers) (past : Past) (t : ℕ) (h : IsLegal c past) (f : c
   opened_few =
       let k = ticket past t in
       let rs = units c k in
-      let one : 1 ≤ blocks (first_fields k) = omega arith in
+      let one : 1 ≤ block_count (first_fields k) = omega arith in
       omega (
         arith,
         grants_within c past t h,
-        few_units rs (units_some c.atomic (op k) (slba (first_fields k)) (blocks (first_fields k)) one),
-        units_sum c.atomic (op k) (slba (first_fields k)) (blocks (first_fields k)),
+        few_units rs (units_some c.atomic (op k) (slba (first_fields k)) (block_count (first_fields k)) one),
+        units_sum c.atomic (op k) (slba (first_fields k)) (block_count (first_fields k)),
         command_few,
       )
 
@@ -73,9 +73,9 @@ module _ (c : ConfigNumbers) (past : Past) (t : ℕ) (h : IsLegal c past) (f : c
   pub unit_range_is : (n : ℕ) (r : Range) → slice_get (units c (ticket past t)) n ≡ Some r → IsRange r
   unit_range_is n r e =
       let k = ticket past t in
-      let one : 1 ≤ blocks (first_fields k) = omega arith in
+      let one : 1 ≤ block_count (first_fields k) = omega arith in
       let least = each_get _ (units c k) n r
-      (units_some c.atomic (op k) (slba (first_fields k)) (blocks (first_fields k)) one) e in
+      (units_some c.atomic (op k) (slba (first_fields k)) (block_count (first_fields k)) one) e in
       let lies = each_get _ (units c k) n r
-      (units_lie c.atomic (op k) (slba (first_fields k)) (blocks (first_fields k))) e in
+      (units_lie c.atomic (op k) (slba (first_fields k)) (block_count (first_fields k))) e in
       (least, omega (arith, lies.high, command_within))

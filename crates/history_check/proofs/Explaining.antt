@@ -8,8 +8,8 @@ use Rattle.broken_rules.specs.declared.broken.Broken.{Broken}
 use Rattle.broken_rules.proofs.Exactly.{word_is}
 use Rattle.checked_tickets.specs.Explained.{block_wrong_by, post_wrong_at}
 use Rattle.checker_tables.specs.Effects.{placed, said}
-use Rattle.checker_tables.specs.Judged.{are_right, owed_by, right_after}
-use Rattle.checker_tables.specs.Tables.{flight, tables, unit_of}
+use Rattle.checker_tables.specs.Judged.{are_right, checked_owed, right_after}
+use Rattle.checker_tables.specs.Tables.{flight, tables, checked_unit_of}
 use Rattle.checker_tables.proofs.Finding.{data_is}
 use Rattle.checker_tables.proofs.Judging.{answers_right, earlier_right, get_drop, open_ticket, refusal_is, verdict_is}
 use Rattle.checker_tables.proofs.Owing.{owed_is}
@@ -54,7 +54,7 @@ block_rows true true true e m n y z q p r s r1 r2 r3 r4 r5 r6 r7 f g h k =
 
 block_is : (c : ConfigNumbers) (past : Past) (b : BlockLine) → IsLegal c past → (o : Option GrantLine)
     → find (λ g. eqb g.ticket b.ticket) (open_units past) ≡ o
-    → block_wrong past b o ≡ block_wrong_by (value past) (flight past b.ticket) b (option_map (unit_of past) o)
+    → block_wrong past b o ≡ block_wrong_by (value past) (flight past b.ticket) b (option_map (checked_unit_of past) o)
 block_is c past b h None e = refl
 block_is c past b h (Some g) e =
     let k = Tickets.ticket past b.ticket in
@@ -66,10 +66,10 @@ block_is c past b h (Some g) e =
     (is_some (effect past b.ticket b.unit)) (nat_lt b.unit (placed past b.ticket)) (may_be_effect past b.ticket b.unit)
     (eqb b.unit (placed past b.ticket))
     (right_answers (effect after b.ticket b.unit) k (blocks_made past b.ticket b.unit))
-    (are_right (right_after (value past) (flight past b.ticket) b (unit_of past g))
+    (are_right (right_after (value past) (flight past b.ticket) b (checked_unit_of past g))
     (said (blocks_made past g.ticket g.unit)))
     (right_answers (effect after b.ticket b.unit) k (blocks_made after b.ticket b.unit))
-    (are_right (right_after (value past) (flight past b.ticket) b (unit_of past g))
+    (are_right (right_after (value past) (flight past b.ticket) b (checked_unit_of past g))
     (said (b ∷ blocks_made past g.ticket g.unit)))
     _ _ _ _ _ _ _
     (effect_placed c past b.ticket b.unit h) (may_is c past b.ticket b.unit h)
@@ -95,7 +95,7 @@ wrong_is c past (Entry.Grant g) h = refl
 wrong_is c past (Entry.Block b) h = block_is c past b h (find (λ g. eqb g.ticket b.ticket) (open_units past)) refl
 wrong_is c past (Entry.Post p) h =
     ap (λ (ss : List Status). post_wrong c past p (slice_get ss (posts_of past p.ticket))) (owed_is c past p.ticket h)
-    ∙ post_is c past p (slice_get (owed_by c (flight past p.ticket)) (posts_of past p.ticket)) h
+    ∙ post_is c past p (slice_get (checked_owed c (flight past p.ticket)) (posts_of past p.ticket)) h
 wrong_is c past (Entry.Reap r) h =
     ap (λ o. reap_broken r (option_map (λ (p : PostLine). p.cqe) o))
     (get_drop (reaped_count past r.queue) (posted_completions c past r.queue))

@@ -7,9 +7,9 @@ use Rattle.std.specs.List.{count_by}
 use Rattle.std.proofs.lemmas.Bool.{and_parts, lt-leb}
 use Rattle.std.proofs.lemmas.List.{append-nil, length-map, length-take}
 use Rattle.std.proofs.Math.Nat.{mod-add-mod}
-use Rattle.checker_tables.specs.Judged.{in_use, judged, verdict_by}
-use Rattle.checker_tables.specs.Tables.{flight, fresh, tables}
-use Rattle.checker_tables.specs.Taken.{fetched_by, taken}
+use Rattle.checker_tables.specs.Judged.{in_use, judged, checked_verdict}
+use Rattle.checker_tables.specs.Tables.{flight, just_fetched, tables}
+use Rattle.checker_tables.specs.Taken.{fetched_by, tables_after}
 use Rattle.cids_in_use.specs.Used.{AreUsed, UsedCids}
 use Rattle.cids_in_use.proofs.Counts.{count_append, same_in, same_length, used_at, used_set}
 use Rattle.fused_match.specs.Judged as matched
@@ -18,7 +18,7 @@ use Rattle.fused_match.specs.declared.judged.Judged.{Judged}
 use Rattle.fused_match.specs.declared.judged.Judged.TheVariants as judgement
 use Rattle.nvme_model.specs.Commands.{is_compare, is_read, is_write, is_write_zeroes}
 use Rattle.nvme_model.specs.Cut.{cut}
-use Rattle.nvme_model.specs.EntryBytes.{Sqe, blocks, slba, sqe_fields}
+use Rattle.nvme_model.specs.EntryBytes.{Sqe, block_count, slba, sqe_fields}
 use Rattle.nvme_model.specs.History.{Past}
 use Rattle.nvme_model.specs.Legal.{IsLegal}
 use Rattle.nvme_model.specs.Operations.{is_pair, op, op_by, op_of_fields, units, units_by}
@@ -41,10 +41,10 @@ use Rattle.ticket_laws.specs.Standing.{flying}
 use Rattle.ticket_laws.proofs.Counts.{taken_some, taken_within}
 use Rattle.ticket_laws.proofs.InUse.{verdict_same}
 use Rattle.ticket_laws.proofs.Unfetched.{flying_known}
-use Rattle.history_check.specs.Kept.{Keeps, Kept, flight_in}
-use Rattle.history_check.specs.Rings.{submission_ring}
-use Rattle.history_check.specs.Steps.{HasUnits, Took, units_in}
-use Rattle.history_check.specs.declared.fields.InFlight.{InFlight}
+use Rattle.history_check.specs.Kept.{IsCheckerState, CheckerState, flight_in}
+use Rattle.history_check.specs.Rings.{checked_submission_ring}
+use Rattle.history_check.specs.Steps.{HasUnits, Took, units_in_order}
+use Rattle.history_check.specs.declared.fields.CheckedInFlight.{CheckedInFlight}
 use Rattle.history_check.proofs.Flights.{more_one}
 use Rattle.history_check.proofs.InUse.{in_use_few, in_use_fetched}
 use Rattle.history_check.proofs.Following.{legal_next, took_not}
@@ -105,14 +105,16 @@ front_verdict u size cids (x ∷ (y ∷ ws)) first e =
 
 -- the first command of those that are taken
 front_fields : (ws : List Submission) (q : ℕ) (v : Said) (first : Submission) → slice_get ws 0 ≡ Some first
-    → sqe_fields first.entry ≡ first_fields (record { queue = q; commands = take (Verdict.taken v) ws; verdict = v })
+    → sqe_fields first.entry
+    ≡ first_fields (record { queue = q; commands = take (Verdict.taken_entries v) ws; verdict = v })
 front_fields [] q v first e = absurd cc
 front_fields (x ∷ ws) q v first e = ap (λ (s : Submission). sqe_fields s.entry) (by v)
   where
     some_inj : Some x ≡ Some first → first ≡ x
     some_inj h = cc
 
-    by : (v : Said) → first ≡ command (record { queue = q; commands = take (Verdict.taken v) (x ∷ ws); verdict = v }) 0
+    by : (v : Said) → first
+        ≡ command (record { queue = q; commands = take (Verdict.taken_entries v) (x ∷ ws); verdict = v }) 0
     by Said.Single = some_inj e
     by (Said.SingleFailed s) = some_inj e
     by Said.Pair = some_inj e
@@ -131,17 +133,17 @@ front_none (x ∷ ws) e = absurd (let f : Some x ≡ None = e in cc)
 
 -- what was judged names the units
 units_named : (u : AtomicParameters) (j : Judged) (e : Sqe) → operation_in j ≡ op_by (matched.verdict_by j) e
-    → NamesBlocks j e → units_in u j ≡ units_by u (op_by (matched.verdict_by j) e) (slba e) (blocks e)
-units_named u judgement.Flush e o n = ap (λ x. units_by u x (slba e) (blocks e)) o
+    → NamesBlocks j e → units_in_order u j ≡ units_by u (op_by (matched.verdict_by j) e) (slba e) (block_count e)
+units_named u judgement.Flush e o n = ap (λ x. units_by u x (slba e) (block_count e)) o
 units_named u (judgement.SingleFailed s) e o n = refl
 units_named u (judgement.PairFailed s t) e o n = refl
 units_named u (judgement.Pair r) e o n = ap₂ (λ (a b : ℕ). record { slba = a; blocks = b } ∷ []) n.0 n.1
-units_named u (judgement.Single x r) e o n = go x o ∙ ap (λ y. units_by u y (slba e) (blocks e)) o
+units_named u (judgement.Single x r) e o n = go x o ∙ ap (λ y. units_by u y (slba e) (block_count e)) o
   where
-    cuts : cut u r.slba r.blocks ≡ cut u (slba e) (blocks e)
+    cuts : cut u r.slba r.blocks ≡ cut u (slba e) (block_count e)
     cuts = ap₂ (λ (a b : ℕ). cut u a b) n.0 n.1
 
-    go : (x : Op) → Some x ≡ op_of_fields e → cut u r.slba r.blocks ≡ units_by u (Some x) (slba e) (blocks e)
+    go : (x : Op) → Some x ≡ op_of_fields e → cut u r.slba r.blocks ≡ units_by u (Some x) (slba e) (block_count e)
     go Op.Read q = cuts
     go Op.Compare q = cuts
     go Op.Write q = cuts
@@ -170,36 +172,37 @@ form_unfit true full = refl
 form_unfit false true = refl
 form_unfit false false = refl
 
-module _ (c : ConfigNumbers) (past : Past) (k : Kept) (keeps : Keeps c past k) (l : FetchLine) (i : ℕ)
+module _ (c : ConfigNumbers) (past : Past) (k : CheckerState) (keeps : IsCheckerState c past k) (l : FetchLine) (i : ℕ)
     (place : IsPlace c.pairs l.queue i) (r : SubmissionRing) (is : r ≡ get_or k.submission i r) where
-  pub ring_is : r ≡ submission_ring c (tables c past) l.queue
-  ring_is = ring_at (submission_ring c (tables c past)) c.pairs l.queue i k.submission r keeps.shows.sq_rings place is
+  pub ring_is : r ≡ checked_submission_ring c (tables c past) l.queue
+  ring_is = ring_at (checked_submission_ring c (tables c past)) c.pairs l.queue i k.submission r keeps.shows.sq_rings
+      place is
 
   pub waiting_is : r.waiting ≡ (tables c past).waiting l.queue
   waiting_is = ap (λ (y : SubmissionRing). y.waiting) ring_is
 
   rule_is : judged c (tables c past) (Entry.Fetch l)
       ≡ fetch_form false (length ((tables c past).waiting l.queue) == 0) (nat_le c.jobs (length (flying past)))
-      ((l.ticket == Tickets.tickets past + 1) && same_verdict l.verdict (verdict_by c (tables c past) l.queue))
+      ((l.ticket == Tickets.tickets past + 1) && same_verdict l.verdict (checked_verdict c (tables c past) l.queue))
   rule_is = ap (λ b. fetch_form b (length ((tables c past).waiting l.queue) == 0) (nat_le c.jobs (length (flying past)))
-      ((l.ticket == Tickets.tickets past + 1) && same_verdict l.verdict (verdict_by c (tables c past) l.queue)))
+      ((l.ticket == Tickets.tickets past + 1) && same_verdict l.verdict (checked_verdict c (tables c past) l.queue)))
       (there c.pairs l.queue i place)
 
   -- nothing waits
-  pub fetch_none : (after : Kept) → slice_get r.waiting 0 ≡ None → Took c past (Entry.Fetch l) false after
+  pub fetch_none : (after : CheckerState) → slice_get r.waiting 0 ≡ None → Took c past (Entry.Fetch l) false after
   fetch_none after e =
       let empty = eq-eqb (length ((tables c past).waiting l.queue)) 0
       (front_none ((tables c past).waiting l.queue)
       (ap (λ (xs : List Submission). slice_get xs 0) (sym waiting_is) ∙ e)) in
       took_not c past (Entry.Fetch l) after
       (rule_is ∙ ap (λ b. fetch_form false b (nat_le c.jobs (length (flying past)))
-      ((l.ticket == Tickets.tickets past + 1) && same_verdict l.verdict (verdict_by c (tables c past) l.queue)))
+      ((l.ticket == Tickets.tickets past + 1) && same_verdict l.verdict (checked_verdict c (tables c past) l.queue)))
       empty)
 
   pub count_is : length k.flights ≡ length (flying past)
   count_is = ap length keeps.shows.in_flight ∙ length-map (flying past) (flight_in c (tables c past))
 
-  -- the identifiers that are kept of its queue are those in use on it
+  -- the CIDs that are kept of its queue are those in use on it
   used_here : (u : UsedCids) → u ≡ get_or k.in_use i u → AreUsed (2 * c.jobs) (in_use (tables c past) l.queue) u
   used_here u used = used_at c.pairs (2 * c.jobs) (in_use (tables c past)) k.in_use i l.queue u keeps.shows.in_use
       place.next place.within used
@@ -213,7 +216,7 @@ module _ (c : ConfigNumbers) (past : Past) (k : Kept) (keeps : Keeps c past k) (
     pub front : slice_get ((tables c past).waiting l.queue) 0 ≡ Some first
     front = ap (λ (xs : List Submission). slice_get xs 0) (sym waiting_is) ∙ waits
 
-    pub verdict_is : matched.verdict_by j ≡ verdict_by c (tables c past) l.queue
+    pub verdict_is : matched.verdict_by j ≡ checked_verdict c (tables c past) l.queue
     verdict_is =
         let items = waiting_items (item_of first)
         (option_map item_of (slice_get ((tables c past).waiting l.queue) 1)) in
@@ -226,11 +229,11 @@ module _ (c : ConfigNumbers) (past : Past) (k : Kept) (keeps : Keeps c past k) (
         ∙ front_verdict c.atomic c.blocks (in_use (tables c past) l.queue) ((tables c past).waiting l.queue) first front
 
     fits_is : ((l.ticket == k.tickets + 1) && same_verdict l.verdict (matched.verdict_by j))
-        ≡ ((l.ticket == Tickets.tickets past + 1) && same_verdict l.verdict (verdict_by c (tables c past) l.queue))
+        ≡ ((l.ticket == Tickets.tickets past + 1) && same_verdict l.verdict (checked_verdict c (tables c past) l.queue))
     fits_is = ap₂ (λ (n : ℕ) (v : Said). (l.ticket == n + 1) && same_verdict l.verdict v) keeps.shows.count verdict_is
 
     -- it says something else
-    pub fetch_unfit : (after : Kept)
+    pub fetch_unfit : (after : CheckerState)
         → ((l.ticket == k.tickets + 1) && same_verdict l.verdict (matched.verdict_by j)) ≡ false
         → Took c past (Entry.Fetch l) false after
     fetch_unfit after e =
@@ -240,7 +243,8 @@ module _ (c : ConfigNumbers) (past : Past) (k : Kept) (keeps : Keeps c past k) (
         ∙ form_unfit (length ((tables c past).waiting l.queue) == 0) (nat_le c.jobs (length (flying past))))
 
     -- few entries are taken
-    pub fetch_some : (n : ℕ) → n ≡ Verdict.taken (matched.verdict_by j) → (1 ≤ n) × (n ≤ 2) × (n ≤ length r.waiting)
+    pub fetch_some : (n : ℕ) → n ≡ Verdict.taken_entries (matched.verdict_by j)
+        → (1 ≤ n) × (n ≤ 2) × (n ≤ length r.waiting)
     fetch_some n e =
         let some = taken_some (matched.verdict_by j) in
         let least = front_some ((tables c past).waiting l.queue) first front in
@@ -253,14 +257,14 @@ module _ (c : ConfigNumbers) (past : Past) (k : Kept) (keeps : Keeps c past k) (
             arith,
             e,
             within,
-            ap Verdict.taken verdict_is,
+            ap Verdict.taken_entries verdict_is,
             length-map ((tables c past).waiting l.queue) item_of,
             ap length waiting_is,
           ),
         )
 
-    -- there is room for the identifiers of the ticket
-    pub fetch_room : (n : ℕ) → n ≡ Verdict.taken (matched.verdict_by j) → (commands : List Submission)
+    -- there is room for the CIDs of the ticket
+    pub fetch_room : (n : ℕ) → n ≡ Verdict.taken_entries (matched.verdict_by j) → (commands : List Submission)
         → commands ≡ take n r.waiting → (t : Ticket) → t.commands ≡ commands → (w : UsedCids) → w ≡ get_or k.in_use i w
         → length w.cids + length (cids t) ≤ w.room
     fetch_room n is_n commands is_commands t is_t w is_w =
@@ -314,20 +318,21 @@ module _ (c : ConfigNumbers) (past : Past) (k : Kept) (keeps : Keeps c past k) (
           (subst (NamesBlocks j) fields_is names) checked (accepted c keeps.accepted).most_blocks
 
       -- and are those of the ticket
-      units_are : units_in c.atomic j ≡ units c (fetched_by (tables c past) l)
+      units_are : units_in_order c.atomic j ≡ units c (fetched_by (tables c past) l)
       units_are = units_named c.atomic j (sqe_fields first.entry) operation names
-          ∙ (λ z. units_by c.atomic (op_is z) (slba (fields_is z)) (blocks (fields_is z)))
+          ∙ (λ z. units_by c.atomic (op_is z) (slba (fields_is z)) (block_count (fields_is z)))
 
       -- ---- what is kept then
 
-      pub fetch_yes : (n : ℕ) → n ≡ Verdict.taken (matched.verdict_by j) → (y : SubmissionRing) → y ≡ advanced r n
-          → (commands : List Submission) → commands ≡ take n r.waiting → (x : InFlight)
+      pub fetch_yes : (n : ℕ) → n ≡ Verdict.taken_entries (matched.verdict_by j) → (y : SubmissionRing)
+          → y ≡ advanced r n
+          → (commands : List Submission) → commands ≡ take n r.waiting → (x : CheckedInFlight)
           → x ≡ record {
             ticket = l.ticket;
-            flight = fresh (record { queue = l.queue; commands = commands; verdict = l.verdict });
-            units = units_in c.atomic j;
+            flight = just_fetched (record { queue = l.queue; commands = commands; verdict = l.verdict });
+            units = units_in_order c.atomic j;
           }
-          → (fs : List InFlight) → fs ≡ k.flights ++ x ∷ [] → (w v : UsedCids) → w ≡ get_or k.in_use i w
+          → (fs : List CheckedInFlight) → fs ≡ k.flights ++ x ∷ [] → (w v : UsedCids) → w ≡ get_or k.in_use i w
           → v ≡ record w {
             cids = w.cids
                 ++ cids (record { queue = l.queue; commands = commands; verdict = l.verdict });
@@ -344,14 +349,16 @@ module _ (c : ConfigNumbers) (past : Past) (k : Kept) (keeps : Keeps c past k) (
         shows = λ _. record {
           blocks = keeps.shows.blocks;
           values = keeps.shows.values;
-          sq_rings = IsTable-set _ (λ q. submission_ring c (taken c (tables c past) (Entry.Fetch l)) (suc q)) c.pairs i
+          sq_rings = IsTable-set _ (λ q. checked_submission_ring c (tables_after c (tables c past) (Entry.Fetch l))
+              (suc q)) c.pairs i
               k.submission y keeps.shows.sq_rings place.within own others;
           in_use = used_set c.pairs (2 * c.jobs) (in_use (tables c past))
-              (in_use (taken c (tables c past) (Entry.Fetch l))) k.in_use i v keeps.shows.in_use place.within used_own
+              (in_use (tables_after c (tables c past) (Entry.Fetch l))) k.in_use i v keeps.shows.in_use place.within
+              used_own
               used_others;
           cq_rings = keeps.shows.cq_rings;
-          in_flight = is_fs ∙ ap (λ (xs : List InFlight). xs ++ x ∷ []) keeps.shows.in_flight
-              ∙ more_one (flight_in c (tables c past)) (flight_in c (taken c (tables c past) (Entry.Fetch l)))
+          in_flight = is_fs ∙ ap (λ (xs : List CheckedInFlight). xs ++ x ∷ []) keeps.shows.in_flight
+              ∙ more_one (flight_in c (tables c past)) (flight_in c (tables_after c (tables c past) (Entry.Fetch l)))
               (flying past) l.ticket x (each_map (λ t. t ≢ l.ticket) _ flight_others (flying past) all_others)
               flight_own;
           ranges = keeps.shows.ranges;
@@ -359,8 +366,8 @@ module _ (c : ConfigNumbers) (past : Past) (k : Kept) (keeps : Keeps c past k) (
         };
       }
         where
-          count : n ≡ Verdict.taken l.verdict
-          count = is_n ∙ ap Verdict.taken (sym same)
+          count : n ≡ Verdict.taken_entries l.verdict
+          count = is_n ∙ ap Verdict.taken_entries (sym same)
 
           all_others : Each (λ t. t ≢ l.ticket) (flying past)
           all_others = each_map (λ t. t ≤ Tickets.tickets past) (λ t. t ≢ l.ticket)
@@ -372,11 +379,11 @@ module _ (c : ConfigNumbers) (past : Past) (k : Kept) (keeps : Keeps c past k) (
               cids (record { queue = l.queue; commands = xs; verdict = l.verdict }))
               (is_commands ∙ (λ w. take (count w) (waiting_is w)))
 
-          used_own : AreUsed (2 * c.jobs) (in_use (taken c (tables c past) (Entry.Fetch l)) (suc i)) v
+          used_own : AreUsed (2 * c.jobs) (in_use (tables_after c (tables c past) (Entry.Fetch l)) (suc i)) v
           used_own =
               let here : l.queue ≡ suc i = omega (arith, place.next) in
-              subst (λ (q : ℕ). AreUsed (2 * c.jobs) (in_use (taken c (tables c past) (Entry.Fetch l)) q) v) here
-              (subst (AreUsed (2 * c.jobs) (in_use (taken c (tables c past) (Entry.Fetch l)) l.queue)) (sym is_v)
+              subst (λ (q : ℕ). AreUsed (2 * c.jobs) (in_use (tables_after c (tables c past) (Entry.Fetch l)) q) v) here
+              (subst (AreUsed (2 * c.jobs) (in_use (tables_after c (tables c past) (Entry.Fetch l)) l.queue)) (sym is_v)
               (record {
                 cids = λ p.
                     let more = ap (count_by p) (in_use_fetched c (tables c past) l l.queue all_others
@@ -395,7 +402,7 @@ module _ (c : ConfigNumbers) (past : Past) (k : Kept) (keeps : Keeps c past k) (
               }))
 
           used_others : (q : ℕ) → q ≢ i → (p : ℕ → Bool)
-              → count_by p (in_use (taken c (tables c past) (Entry.Fetch l)) (suc q))
+              → count_by p (in_use (tables_after c (tables c past) (Entry.Fetch l)) (suc q))
               ≡ count_by p (in_use (tables c past) (suc q))
           used_others q ne p = ap (count_by p) (
               in_use_fetched c (tables c past) l (suc q) all_others
@@ -404,33 +411,33 @@ module _ (c : ConfigNumbers) (past : Past) (k : Kept) (keeps : Keeps c past k) (
               ∙ append-nil (in_use (tables c past) (suc q))
               )
 
-          own : y ≡ submission_ring c (taken c (tables c past) (Entry.Fetch l)) (suc i)
+          own : y ≡ checked_submission_ring c (tables_after c (tables c past) (Entry.Fetch l)) (suc i)
           own =
               let here : l.queue ≡ suc i = omega (arith, place.next) in
               is_y ∙ (λ z. advanced (ring_is z) (count z))
               ∙ ap (λ h. record {
                 size = c.sq_size;
                 head = h;
-                waiting = drop (Verdict.taken l.verdict) ((tables c past).waiting l.queue);
+                waiting = drop (Verdict.taken_entries l.verdict) ((tables c past).waiting l.queue);
               })
-              (mod-add-mod ((tables c past).fetched l.queue) c.sq_size (Verdict.taken l.verdict))
+              (mod-add-mod ((tables c past).fetched l.queue) c.sq_size (Verdict.taken_entries l.verdict))
               ∙ (λ z. record {
                 size = c.sq_size;
                 head = ((tables c past).fetched (here z)
-                    + cond (sym (eq-eqb l.queue (suc i) here) z) (Verdict.taken l.verdict) 0) % c.sq_size;
-                waiting = drop (cond (sym (eq-eqb l.queue (suc i) here) z) (Verdict.taken l.verdict) 0)
+                    + cond (sym (eq-eqb l.queue (suc i) here) z) (Verdict.taken_entries l.verdict) 0) % c.sq_size;
+                waiting = drop (cond (sym (eq-eqb l.queue (suc i) here) z) (Verdict.taken_entries l.verdict) 0)
                     ((tables c past).waiting (here z));
               })
 
           others : (q : ℕ) → q ≢ i
-              → submission_ring c (taken c (tables c past) (Entry.Fetch l)) (suc q)
-              ≡ submission_ring c (tables c past) (suc q)
+              → checked_submission_ring c (tables_after c (tables c past) (Entry.Fetch l)) (suc q)
+              ≡ checked_submission_ring c (tables c past) (suc q)
           others q ne =
               let no = ne_eqb l.queue (suc q) (apart c.pairs l.queue i q place ne) in
               (λ z. record {
                 size = c.sq_size;
-                head = ((tables c past).fetched (suc q) + cond (no z) (Verdict.taken l.verdict) 0) % c.sq_size;
-                waiting = drop (cond (no z) (Verdict.taken l.verdict) 0) ((tables c past).waiting (suc q));
+                head = ((tables c past).fetched (suc q) + cond (no z) (Verdict.taken_entries l.verdict) 0) % c.sq_size;
+                waiting = drop (cond (no z) (Verdict.taken_entries l.verdict) 0) ((tables c past).waiting (suc q));
               })
               ∙ ap (λ m. record { size = c.sq_size; head = m % c.sq_size; waiting = (tables c past).waiting (suc q) })
               (plus_zero ((tables c past).fetched (suc q)))
@@ -438,12 +445,12 @@ module _ (c : ConfigNumbers) (past : Past) (k : Kept) (keeps : Keeps c past k) (
               plus_zero : (m : ℕ) → m + 0 ≡ m
               plus_zero m = omega arith
 
-          flight_own : x ≡ flight_in c (taken c (tables c past) (Entry.Fetch l)) l.ticket
+          flight_own : x ≡ flight_in c (tables_after c (tables c past) (Entry.Fetch l)) l.ticket
           flight_own =
               is_x
               ∙ (λ z. record {
                 ticket = l.ticket;
-                flight = fresh (record {
+                flight = just_fetched (record {
                   queue = l.queue;
                   commands = (is_commands ∙ (λ w. take (count w) (waiting_is w))) z;
                   verdict = l.verdict;
@@ -452,16 +459,16 @@ module _ (c : ConfigNumbers) (past : Past) (k : Kept) (keeps : Keeps c past k) (
               })
               ∙ ap (λ b. record {
                 ticket = l.ticket;
-                flight = cond b (fresh (fetched_by (tables c past) l)) (flight past l.ticket);
-                units = units c (cond b (fresh (fetched_by (tables c past) l)) (flight past l.ticket)).ticket;
+                flight = cond b (just_fetched (fetched_by (tables c past) l)) (flight past l.ticket);
+                units = units c (cond b (just_fetched (fetched_by (tables c past) l)) (flight past l.ticket)).ticket;
               })
               (sym (eq-eqb l.ticket l.ticket refl))
 
           flight_others : (u : ℕ) → u ≢ l.ticket
-              → flight_in c (taken c (tables c past) (Entry.Fetch l)) u ≡ flight_in c (tables c past) u
+              → flight_in c (tables_after c (tables c past) (Entry.Fetch l)) u ≡ flight_in c (tables c past) u
           flight_others u ne = ap (λ b. record {
             ticket = u;
-            flight = cond b (fresh (fetched_by (tables c past) l)) (flight past u);
-            units = units c (cond b (fresh (fetched_by (tables c past) l)) (flight past u)).ticket;
+            flight = cond b (just_fetched (fetched_by (tables c past) l)) (flight past u);
+            units = units c (cond b (just_fetched (fetched_by (tables c past) l)) (flight past u)).ticket;
           })
               (ne_eqb u l.ticket ne)

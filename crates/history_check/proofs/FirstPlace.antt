@@ -8,7 +8,7 @@ use Rattle.nvme_model.specs.Legal.{IsLegal, IsLegalFile, legal}
 use Rattle.nvme_model.specs.declared.config.ConfigNumbers.{ConfigNumbers}
 use Rattle.nvme_model.specs.declared.entry.Entry.{Entry}
 use Rattle.nvme_model.proofs.Beginnings.{beginning}
-use Rattle.history_check.specs.Kept.{Stands, State}
+use Rattle.history_check.specs.Kept.{Stands, CheckerRun}
 
 -- the entries up to a place, the newest first
 one_more : (entries : List Entry) (i : ℕ) (e : Entry) → i < length entries → e ≡ get_or entries i e
@@ -39,7 +39,7 @@ first_bad c entries i e l there h f = (
 -- ---- by a checker
 
 -- what it answers of one more entry, and for which history it stands then
-pub taken : (c : ConfigNumbers) (entries : List Entry) (i : ℕ) (e : Entry) (old new : State) (b : Bool)
+pub taken : (c : ConfigNumbers) (entries : List Entry) (i : ℕ) (e : Entry) (old new : CheckerRun) (b : Bool)
     → i < length entries → e ≡ get_or entries i e → Stands c (reverse (take i entries)) old
     → (Stands old.config (reverse (take i entries)) old
     → (b ≡ legal old.config (e ∷ reverse (take i entries))) × Stands old.config (e ∷ reverse (take i entries)) new)

@@ -6,8 +6,8 @@ use Rattle.std.specs.Bool.{beq}
 use Rattle.std.proofs.lemmas.Bool.Decides.{nat_tests}
 use Rattle.checker_tables.specs.Judged.{conflicts_by, flies, judged}
 use Rattle.cids_in_use.specs.Used.{AreInUse}
-use Rattle.checker_tables.specs.Tables.{Flight, Tables, flight, tables}
-use Rattle.checker_tables.specs.Taken.{opened_flight, taken}
+use Rattle.checker_tables.specs.Tables.{CheckedTicket, Tables, flight, tables}
+use Rattle.checker_tables.specs.Taken.{opened_flight, tables_after}
 use Rattle.nvme_model.specs.History.{Past}
 use Rattle.nvme_model.specs.Legal.{IsLegal, is_range}
 use Rattle.nvme_model.specs.Open.{conflict, open_units}
@@ -22,16 +22,16 @@ use Rattle.nvme_model.specs.declared.entry.Entry.{Entry}
 use Rattle.nvme_model.specs.declared.entry.GrantLine.{GrantLine}
 use Rattle.nvme_model.specs.declared.refusal.Why.{Why}
 use Rattle.nvme_model.proofs.Rules.{MayGrant, may_grant}
-use Rattle.range_reserve.specs.Reserved.{by_ticket, has_conflict, has_ticket, held_of, insert_held}
+use Rattle.range_reserve.specs.Reserved.{by_ticket, has_conflict, holds_range, held_of, insert_held}
 use Rattle.nvme_model.specs.Array.{IsRange}
-use Rattle.range_reserve.specs.declared.held.Held.{Held}
-use Rattle.range_reserve.proofs.Granted.{has_conflict-map, has_ticket-map}
+use Rattle.range_reserve.specs.declared.held.HeldRange.{HeldRange}
+use Rattle.range_reserve.proofs.Granted.{has_conflict-map, holds_range-map}
 use Rattle.range_reserve.proofs.Rising.{list_any-by_ticket}
 use Rattle.ticket_laws.specs.Standing.{flying}
 use Rattle.ticket_laws.proofs.Flying.{flying_rises}
-use Rattle.history_check.specs.Kept.{Keeps, Kept, flight_in}
+use Rattle.history_check.specs.Kept.{IsCheckerState, CheckerState, flight_in}
 use Rattle.history_check.specs.Steps.{Took, grant_by}
-use Rattle.history_check.specs.declared.fields.InFlight.{InFlight}
+use Rattle.history_check.specs.declared.fields.CheckedInFlight.{CheckedInFlight}
 use Rattle.history_check.proofs.Bounds.{has_op, opened_few, unit_range_is}
 use Rattle.history_check.proofs.Flights.{IsThere, set_place}
 use Rattle.history_check.proofs.InUse.{in_use_with}
@@ -60,13 +60,14 @@ some_at [] n x e = absurd (let f : None ≡ Some x = e in cc)
 some_at (y ∷ xs) zero x e = grind (arith, nat_tests)
 some_at (y ∷ xs) (suc n) x e = let ih : nat_le (length xs) n ≡ false = some_at xs n x e in grind (arith, nat_tests, ih)
 
-pub conflicts_is : (s : Tables) (held : List Held) (r : Range) (m : Mode) → held ≡ by_ticket (map held_of s.opens)
+pub conflicts_is : (s : Tables) (held : List HeldRange) (r : Range) (m : Mode) → held ≡ by_ticket (map held_of s.opens)
     → has_conflict held r m ≡ conflicts_by s m (Some r)
 conflicts_is s held r m e =
-    ap (λ (hs : List Held). has_conflict hs r m) e
+    ap (λ (hs : List HeldRange). has_conflict hs r m) e
     ∙ list_any-by_ticket (λ h. conflict r m h.range h.mode) (map held_of s.opens) ∙ has_conflict-map s.opens r m
 
-grant_is : (c : ConfigNumbers) (s : Tables) (g : GrantLine) (held : List Held) → held ≡ by_ticket (map held_of s.opens)
+grant_is : (c : ConfigNumbers) (s : Tables) (g : GrantLine) (held : List HeldRange)
+    → held ≡ by_ticket (map held_of s.opens)
     → flies (s.flight g.ticket) ≡ true
     → grant_by (s.flight g.ticket) (slice_get (units c (s.flight g.ticket).ticket) (s.flight g.ticket).opened) held g
     ≡ judged c s (Entry.Grant g)
@@ -75,7 +76,7 @@ grant_is c s g held e t = go (slice_get (units c f.ticket) f.opened) refl
     (conflicts_by s (mode f.ticket) (slice_get (units c f.ticket) f.opened))
     (fits (slice_get (units c f.ticket) f.opened))) (sym t)
   where
-    f : Flight
+    f : CheckedTicket
     f = s.flight g.ticket
 
     fits : Option Range → Bool
@@ -105,22 +106,22 @@ same_mode Mode.Shared Mode.Shared e = refl
 same_mode Mode.Exclusive Mode.Shared e = absurd (let f : true ≡ false = e in cc)
 same_mode Mode.Shared Mode.Exclusive e = absurd (let f : false ≡ true = e in cc)
 
-module _ (c : ConfigNumbers) (past : Past) (k : Kept) (keeps : Keeps c past k) (g : GrantLine) where
+module _ (c : ConfigNumbers) (past : Past) (k : CheckerState) (keeps : IsCheckerState c past k) (g : GrantLine) where
   -- its ticket isn't in flight
-  pub grant_missing : (after : Kept) → flies ((tables c past).flight g.ticket) ≡ false
+  pub grant_missing : (after : CheckerState) → flies ((tables c past).flight g.ticket) ≡ false
       → Took c past (Entry.Grant g) false after
   grant_missing after e = took_not c past (Entry.Grant g) after
       (none_flies (flies ((tables c past).flight g.ticket)) _ _ e)
 
-  module _ (i : ℕ) (x : InFlight) (there : IsThere c past g.ticket i x) (b : Bool)
+  module _ (i : ℕ) (x : CheckedInFlight) (there : IsThere c past g.ticket i x) (b : Bool)
       (said : b ≡ grant_by x.flight (slice_get x.units x.flight.opened) k.held g) where
     rule_is : b ≡ judged c (tables c past) (Entry.Grant g)
     rule_is =
-        said ∙ ap (λ (y : InFlight). grant_by y.flight (slice_get y.units y.flight.opened) k.held g) there.is
+        said ∙ ap (λ (y : CheckedInFlight). grant_by y.flight (slice_get y.units y.flight.opened) k.held g) there.is
         ∙ grant_is c (tables c past) g k.held keeps.shows.ranges there.flies
 
     -- it doesn't fit
-    pub grant_no : (after : Kept) → b ≡ false → Took c past (Entry.Grant g) false after
+    pub grant_no : (after : CheckerState) → b ≡ false → Took c past (Entry.Grant g) false after
     grant_no after e = took_not c past (Entry.Grant g) after (sym rule_is ∙ e)
 
     module _ (yes : b ≡ true) where
@@ -134,11 +135,11 @@ module _ (c : ConfigNumbers) (past : Past) (k : Kept) (keeps : Keeps c past k) (
       works = has_op c past g.ticket _ g.range may.range
 
       -- its ticket holds no range
-      pub grant_free : has_ticket k.held g.ticket ≡ false
+      pub grant_free : holds_range k.held g.ticket ≡ false
       grant_free =
-          ap (λ (hs : List Held). has_ticket hs g.ticket) keeps.shows.ranges
+          ap (λ (hs : List HeldRange). holds_range hs g.ticket) keeps.shows.ranges
           ∙ list_any-by_ticket (λ h. h.ticket == g.ticket) (map held_of (open_units past))
-          ∙ has_ticket-map (open_units past) g.ticket ∙ may.closed
+          ∙ holds_range-map (open_units past) g.ticket ∙ may.closed
 
       -- it is a range of blocks
       pub grant_range : IsRange g.range
@@ -153,11 +154,11 @@ module _ (c : ConfigNumbers) (past : Past) (k : Kept) (keeps : Keeps c past k) (
 
       -- few units were opened
       pub grant_few : x.flight.opened < 2 ^ 32
-      grant_few = subst (λ (y : InFlight). y.flight.opened < 2 ^ 32) (sym there.is)
+      grant_few = subst (λ (y : CheckedInFlight). y.flight.opened < 2 ^ 32) (sym there.is)
           (omega (arith, opened_few c past g.ticket keeps.legal_so_far keeps.accepted works))
 
       -- what is kept then
-      pub grant_yes : (y : InFlight) (held : List Held) → y ≡ record x { flight = opened_flight x.flight g }
+      pub grant_yes : (y : CheckedInFlight) (held : List HeldRange) → y ≡ record x { flight = opened_flight x.flight g }
           → held ≡ insert_held (held_of g) k.held
           → Took c past (Entry.Grant g) true (record k { flights = set k.flights i y; held = held })
       grant_yes y held is_y is_held = record {
@@ -171,17 +172,17 @@ module _ (c : ConfigNumbers) (past : Past) (k : Kept) (keeps : Keeps c past k) (
               keeps.shows.in_use;
           cq_rings = keeps.shows.cq_rings;
           in_flight =
-              ap (λ (xs : List InFlight). set xs i y) keeps.shows.in_flight
-              ∙ set_place (flight_in c (tables c past)) (flight_in c (taken c (tables c past) (Entry.Grant g)))
+              ap (λ (xs : List CheckedInFlight). set xs i y) keeps.shows.in_flight
+              ∙ set_place (flight_in c (tables c past)) (flight_in c (tables_after c (tables c past) (Entry.Grant g)))
               (flying past) i g.ticket y (flying_rises past) there.place own others;
           ranges = is_held ∙ ap (insert_held (held_of g)) keeps.shows.ranges;
           count = keeps.shows.count;
         };
       }
         where
-          own : y ≡ flight_in c (taken c (tables c past) (Entry.Grant g)) g.ticket
+          own : y ≡ flight_in c (tables_after c (tables c past) (Entry.Grant g)) g.ticket
           own =
-              is_y ∙ ap (λ (z : InFlight). record z { flight = opened_flight z.flight g }) there.is
+              is_y ∙ ap (λ (z : CheckedInFlight). record z { flight = opened_flight z.flight g }) there.is
               ∙ ap (λ q. record {
                 ticket = g.ticket;
                 flight = cond q (opened_flight (flight past g.ticket) g) (flight past g.ticket);
@@ -190,7 +191,7 @@ module _ (c : ConfigNumbers) (past : Past) (k : Kept) (keeps : Keeps c past k) (
               (sym (eq-eqb g.ticket g.ticket refl))
 
           others : (u : ℕ) → u ≢ g.ticket
-              → flight_in c (taken c (tables c past) (Entry.Grant g)) u ≡ flight_in c (tables c past) u
+              → flight_in c (tables_after c (tables c past) (Entry.Grant g)) u ≡ flight_in c (tables c past) u
           others u ne = ap (λ q. record {
             ticket = u;
             flight = cond q (opened_flight (flight past g.ticket) g) (flight past u);

@@ -1,12 +1,12 @@
--- The identifiers in use: what a Fetch adds to them, and what a Post takes away.
+-- The CIDs in use: what a Fetch adds to them, and what a Post takes away.
 use Rattle.std.proofs.Common.{Bool, List, None, Some, [], ap, append_assoc, ap₂, arith, cond, drop, eq-eqb, eqb-true}
 use Rattle.std.proofs.Common.{false, get_or, length, ltb-false, ltb-true, ne_eqb, not, refl, slice_get, suc, sym, true}
 use Rattle.std.proofs.Common.{zero, ℕ, ◌*◌, ◌+◌, ◌++◌, ◌<◌, ◌==◌, ◌∙◌, ◌∷◌, ◌≡◌, ◌≢◌, ◌≤◌}
 use Rattle.std.specs.List.{count_by, filter, flat_map}
 use Rattle.std.proofs.lemmas.List.{append-nil, drop_all, drop_more, length-append, length-drop, length-map}
 use Rattle.checker_tables.specs.Judged.{cids_left, flies, in_use}
-use Rattle.checker_tables.specs.Tables.{Flight, Tables, flight, fresh, tables}
-use Rattle.checker_tables.specs.Taken.{fetched_by, flies_on, posted_flight, taken, with_flight}
+use Rattle.checker_tables.specs.Tables.{CheckedTicket, Tables, flight, just_fetched, tables}
+use Rattle.checker_tables.specs.Taken.{fetched_by, flies_on, posted_flight, tables_after, with_flight}
 use Rattle.cids_in_use.proofs.Counts.{count_append}
 use Rattle.nvme_model.specs.EntryBytes.{sqe_fields}
 use Rattle.nvme_model.specs.History.{Past}
@@ -82,8 +82,8 @@ two_each f (t ∷ ts) few = omega (arith, length-append (f t) (flat_map f ts), f
 
 -- ---- of the tables
 
--- the identifiers of a ticket are as many as its commands
-cids_all : (f : Flight) → length (cids f.ticket) ≡ length f.ticket.commands
+-- the CIDs of a ticket are as many as its commands
+cids_all : (f : CheckedTicket) → length (cids f.ticket) ≡ length f.ticket.commands
 cids_all f = length-map f.ticket.commands (λ s. (sqe_fields s.entry).cid)
 
 -- there are few
@@ -104,7 +104,7 @@ in_use_few c past q = two_each (λ t. cids_left q (flight past t)) (flying past)
     few t false = omega arith
 
 -- another flight that owes the same leaves them
-pub in_use_with : (s : Tables) (t : ℕ) (f : Flight) → ((q : ℕ) → cids_left q f ≡ cids_left q (s.flight t))
+pub in_use_with : (s : Tables) (t : ℕ) (f : CheckedTicket) → ((q : ℕ) → cids_left q f ≡ cids_left q (s.flight t))
     → in_use (record s { flight = with_flight s.flight t f }) ≡ in_use s
 in_use_with s t f e = λ i q. flat_map (λ u. one q u (u == t) refl i) s.flying
   where
@@ -114,19 +114,19 @@ in_use_with s t f e = λ i q. flat_map (λ u. one q u (u == t) refl i) s.flying
 
 -- a Fetch adds those of its ticket
 pub in_use_fetched : (c : ConfigNumbers) (s : Tables) (f : FetchLine) (q : ℕ) → Each (λ t. t ≢ f.ticket) s.flying
-    → in_use (taken c s (Entry.Fetch f)) q ≡ in_use s q ++ cids_left q (fresh (fetched_by s f))
+    → in_use (tables_after c s (Entry.Fetch f)) q ≡ in_use s q ++ cids_left q (just_fetched (fetched_by s f))
 in_use_fetched c s f q new =
-    with_more (λ t. cids_left q (with_flight s.flight f.ticket (fresh (fetched_by s f)) t)) s.flying f.ticket
+    with_more (λ t. cids_left q (with_flight s.flight f.ticket (just_fetched (fetched_by s f)) t)) s.flying f.ticket
     ∙ ap₂ (λ (xs ys : List ℕ). xs ++ ys)
     (same_each (λ t. cids_left q (s.flight t))
-    (λ t. cids_left q (with_flight s.flight f.ticket (fresh (fetched_by s f)) t)) s.flying
+    (λ t. cids_left q (with_flight s.flight f.ticket (just_fetched (fetched_by s f)) t)) s.flying
     (each_map (λ t. t ≢ f.ticket) _
-    (λ t other. ap (λ b. cids_left q (cond b (fresh (fetched_by s f)) (s.flight t))) (ne_eqb t f.ticket other))
+    (λ t other. ap (λ b. cids_left q (cond b (just_fetched (fetched_by s f)) (s.flight t))) (ne_eqb t f.ticket other))
     s.flying new))
-    (ap (λ b. cids_left q (cond b (fresh (fetched_by s f)) (s.flight f.ticket))) (eq-eqb f.ticket f.ticket refl))
+    (ap (λ b. cids_left q (cond b (just_fetched (fetched_by s f)) (s.flight f.ticket))) (eq-eqb f.ticket f.ticket refl))
 
 -- a Post takes away the first that its ticket owes
-module _ (f : Flight) (q : ℕ) where
+module _ (f : CheckedTicket) (q : ℕ) where
   own_less : flies f ≡ true → (p : ℕ → Bool)
       → count_by p (cids_left q f) ≡ count_by p (cond (f.ticket.queue == q) (get_or (cids f.ticket) f.posts 0 ∷ []) [])
       + count_by p (cids_left q (posted_flight f))
@@ -152,7 +152,7 @@ pub in_use_posted : (c : ConfigNumbers) (past : Past) (l : PostLine) (i : ℕ) �
     → count_by p (in_use (tables c past) q)
     ≡ count_by p (cond ((ticket past l.ticket).queue == q)
     (get_or (cids (ticket past l.ticket)) (flight past l.ticket).posts 0 ∷ []) [])
-    + count_by p (in_use (taken c (tables c past) (Entry.Post l)) q)
+    + count_by p (in_use (tables_after c (tables c past) (Entry.Post l)) q)
 in_use_posted c past l i place flying_now q p = go (flies_on (flight past l.ticket)) refl
   where
     first : List ℕ

@@ -5,7 +5,7 @@ use Rattle.std.proofs.Common.{eq-eqb, ne_eqb}
 use Rattle.std.proofs.lemmas.List.{drop-map}
 use Rattle.checker_tables.specs.Judged.{judged}
 use Rattle.checker_tables.specs.Tables.{tables}
-use Rattle.checker_tables.specs.Taken.{taken}
+use Rattle.checker_tables.specs.Taken.{tables_after}
 use Rattle.nvme_model.specs.History.{Past}
 use Rattle.nvme_model.specs.Legal.{is_cqe}
 use Rattle.nvme_model.specs.declared.config.ConfigNumbers.{ConfigNumbers}
@@ -15,8 +15,8 @@ use Rattle.nvme_model.specs.declared.entry.ReapLine.{ReapLine}
 use Rattle.nvme_model.specs.declared.refusal.Why.{Why}
 use Rattle.rings.specs.Completions.{CompletionRing}
 use Rattle.rings.specs.declared.completion_ring.Completion.{Completion}
-use Rattle.history_check.specs.Kept.{Keeps, Kept}
-use Rattle.history_check.specs.Rings.{bare, completion_ring}
+use Rattle.history_check.specs.Kept.{IsCheckerState, CheckerState}
+use Rattle.history_check.specs.Rings.{bare, checked_completion_ring}
 use Rattle.history_check.specs.Steps.{Took}
 use Rattle.history_check.proofs.Rings.{IsPlace, apart, ring_at, there}
 use Rattle.rings.proofs.Tables.{IsTable-set}
@@ -41,10 +41,11 @@ reap_first (p ∷ xs) cqe d e =
     some_inj : Some (bare p) ≡ Some d → bare p ≡ d
     some_inj h = cc
 
-module _ (c : ConfigNumbers) (past : Past) (k : Kept) (keeps : Keeps c past k) (l : ReapLine) (i : ℕ)
+module _ (c : ConfigNumbers) (past : Past) (k : CheckerState) (keeps : IsCheckerState c past k) (l : ReapLine) (i : ℕ)
     (place : IsPlace c.cqs l.queue i) (r : CompletionRing) (is : r ≡ get_or k.completion i r) where
-  ring_is : r ≡ completion_ring c (tables c past) l.queue
-  ring_is = ring_at (completion_ring c (tables c past)) c.cqs l.queue i k.completion r keeps.shows.cq_rings place is
+  ring_is : r ≡ checked_completion_ring c (tables c past) l.queue
+  ring_is = ring_at (checked_completion_ring c (tables c past)) c.cqs l.queue i k.completion r keeps.shows.cq_rings
+      place is
 
   pub waiting_is : r.waiting ≡ map bare ((tables c past).unreaped l.queue)
   waiting_is = ap (λ (y : CompletionRing). y.waiting) ring_is
@@ -53,7 +54,7 @@ module _ (c : ConfigNumbers) (past : Past) (k : Kept) (keeps : Keeps c past k) (
   reap_judged = ap (λ b. reap_by b ((tables c past).unreaped l.queue) l.cqe) (there c.cqs l.queue i place)
 
   -- nothing waits
-  pub reap_no : (after : Kept) → r.waiting ≡ [] → Took c past (Entry.Reap l) false after
+  pub reap_no : (after : CheckerState) → r.waiting ≡ [] → Took c past (Entry.Reap l) false after
   reap_no after e = record {
     answer = sym (reap_judged ∙ reap_none ((tables c past).unreaped l.queue) l.cqe (sym waiting_is ∙ e));
     shows = λ f. absurd (let g : false ≡ true = f in cc);
@@ -72,7 +73,8 @@ module _ (c : ConfigNumbers) (past : Past) (k : Kept) (keeps : Keeps c past k) (
       values = keeps.shows.values;
       sq_rings = keeps.shows.sq_rings;
       in_use = keeps.shows.in_use;
-      cq_rings = IsTable-set _ (λ q. completion_ring c (taken c (tables c past) (Entry.Reap l)) (suc q)) c.cqs i
+      cq_rings = IsTable-set _
+          (λ q. checked_completion_ring c (tables_after c (tables c past) (Entry.Reap l)) (suc q)) c.cqs i
           k.completion y keeps.shows.cq_rings place.within own others;
       in_flight = keeps.shows.in_flight;
       ranges = keeps.shows.ranges;
@@ -80,21 +82,21 @@ module _ (c : ConfigNumbers) (past : Past) (k : Kept) (keeps : Keeps c past k) (
     };
   }
     where
-      own : y ≡ completion_ring c (taken c (tables c past) (Entry.Reap l)) (suc i)
+      own : y ≡ checked_completion_ring c (tables_after c (tables c past) (Entry.Reap l)) (suc i)
       own =
           let here : l.queue ≡ suc i = omega (arith, place.next) in
           rest ∙ ap (λ (z : CompletionRing). record z { waiting = drop 1 z.waiting }) ring_is
-          ∙ ap (λ (xs : List Completion). record (completion_ring c (tables c past) l.queue) { waiting = xs })
+          ∙ ap (λ (xs : List Completion). record (checked_completion_ring c (tables c past) l.queue) { waiting = xs })
           (drop-map bare 1 ((tables c past).unreaped l.queue))
-          ∙ (λ z. record (completion_ring c (tables c past) (here z)) {
+          ∙ (λ z. record (checked_completion_ring c (tables c past) (here z)) {
             waiting = map bare (drop (cond (sym (eq-eqb l.queue (suc i) here) z) 1 0)
                 ((tables c past).unreaped (here z)));
           })
 
       others : (q : ℕ) → q ≢ i
-          → completion_ring c (taken c (tables c past) (Entry.Reap l)) (suc q)
-          ≡ completion_ring c (tables c past) (suc q)
+          → checked_completion_ring c (tables_after c (tables c past) (Entry.Reap l)) (suc q)
+          ≡ checked_completion_ring c (tables c past) (suc q)
       others q ne =
-          ap (λ b. record (completion_ring c (tables c past) (suc q))
+          ap (λ b. record (checked_completion_ring c (tables c past) (suc q))
           { waiting = map bare (drop (cond b 1 0) ((tables c past).unreaped (suc q))) })
           (ne_eqb l.queue (suc q) (apart c.cqs l.queue i q place ne))

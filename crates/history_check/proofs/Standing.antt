@@ -18,24 +18,24 @@ use Rattle.nvme_model.specs.Legal.{legal, may_follow}
 use Rattle.nvme_model.specs.declared.config.ConfigNumbers.{ConfigNumbers}
 use Rattle.nvme_model.specs.declared.entry.Entry.{Entry}
 use Rattle.nvme_model.proofs.Accepted.{accepted}
-use Rattle.range_reserve.specs.declared.held.Held.{Held}
+use Rattle.range_reserve.specs.declared.held.HeldRange.{HeldRange}
 use Rattle.rings.specs.Completions.{CompletionRing}
 use Rattle.rings.specs.Slots.{IsSize}
 use Rattle.rings.specs.Submissions.{SubmissionRing}
-use Rattle.history_check.specs.Kept.{Keeps, Kept, Shows, Stands, State}
-use Rattle.history_check.specs.Rings.{completion_ring, submission_ring}
+use Rattle.history_check.specs.Kept.{IsCheckerState, CheckerState, ShowsTables, Stands, CheckerRun}
+use Rattle.history_check.specs.Rings.{checked_completion_ring, checked_submission_ring}
 use Rattle.history_check.specs.Steps.{Took}
-use Rattle.history_check.specs.declared.fields.InFlight.{InFlight}
+use Rattle.history_check.specs.declared.fields.CheckedInFlight.{CheckedInFlight}
 use Rattle.history_check.proofs.Following.{legal_next}
 use Rattle.rings.proofs.Tables.{IsTable-replicate}
 use Rattle.rings.proofs.Beginnings.{completion_empty, submission_empty}
 
 -- ---- no entry
 
-submission_begins : (c : ConfigNumbers) (k : ℕ) → submission_ring c (tables c []) k ≡ submission_empty c.sq_size
+submission_begins : (c : ConfigNumbers) (k : ℕ) → checked_submission_ring c (tables c []) k ≡ submission_empty c.sq_size
 submission_begins c k = ap (λ n. record (submission_empty c.sq_size) { head = n }) (zero-mod c.sq_size)
 
-completion_begins : (c : ConfigNumbers) (k : ℕ) → completion_ring c (tables c []) k ≡ completion_empty c.cq_size
+completion_begins : (c : ConfigNumbers) (k : ℕ) → checked_completion_ring c (tables c []) k ≡ completion_empty c.cq_size
 completion_begins c k = (λ i. record (completion_empty c.cq_size) {
   tail = zero-mod c.cq_size i;
   phase = zero-div c.cq_size i % 2 == 0;
@@ -43,11 +43,11 @@ completion_begins c k = (λ i. record (completion_empty c.cq_size) {
 
 -- what is kept of none
 pub keeps_none : (c m : ConfigNumbers) (v : List (List ℕ)) (s : List SubmissionRing) (us : List UsedCids)
-    (q : List CompletionRing) (fs : List InFlight) (r : List Held)
+    (q : List CompletionRing) (fs : List CheckedInFlight) (r : List HeldRange)
     → m ≡ c → config_fault m ≡ None → v ≡ replicate m.blocks zeros → s ≡ replicate m.pairs (submission_empty m.sq_size)
     → us ≡ replicate m.pairs (record { room = 2 * m.jobs; cids = [] })
     → q ≡ replicate m.cqs (completion_empty m.cq_size) → fs ≡ [] → r ≡ []
-    → Keeps c [] (record {
+    → IsCheckerState c [] (record {
       volume = v;
       submission = s;
       in_use = us;
@@ -58,7 +58,7 @@ pub keeps_none : (c m : ConfigNumbers) (v : List (List ℕ)) (s : List Submissio
     })
 keeps_none c m v s us q fs r same accepted vs ss empty qs none free =
     subst (λ (x : ConfigNumbers).
-    Keeps x [] (record {
+    IsCheckerState x [] (record {
       volume = v;
       submission = s;
       in_use = us;
@@ -86,7 +86,8 @@ keeps_none c m v s us q fs r same accepted vs ss empty qs none free =
 -- ---- one more entry
 
 -- and behind legal ones
-pub stands_next : (c : ConfigNumbers) (past : Past) (x : State) (e : Entry) (b : Bool) (k : Kept) → Stands c past x
+pub stands_next : (c : ConfigNumbers) (past : Past) (x : CheckerRun) (e : Entry) (b : Bool) (k : CheckerState)
+    → Stands c past x
     → x.is_legal ≡ true → Took c past e b k
     → (b ≡ legal c (e ∷ past)) × Stands c (e ∷ past) (record { config = x.config; is_legal = b; kept = k })
 stands_next c past x e b k s good t =
@@ -102,7 +103,7 @@ stands_next c past x e b k s good t =
             record {
               accepted = keeps.accepted;
               legal_so_far = legal_then;
-              shows = subst (λ (y : Tables). Shows c y k) (sym (taken_is c past e legal_then)) (t.shows true_now);
+              shows = subst (λ (y : Tables). ShowsTables c y k) (sym (taken_is c past e legal_then)) (t.shows true_now);
             };
       },
     )

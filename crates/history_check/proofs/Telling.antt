@@ -11,9 +11,9 @@ use Rattle.broken_rules.specs.declared.broken.Broken.{Broken}
 use Rattle.broken_rules.proofs.Exactly.{exactly}
 use Rattle.checked_tickets.specs.Contents.{contents_in}
 use Rattle.checked_tickets.specs.Explained.{block_wrong_by, due_in, post_wrong_at}
-use Rattle.checker_tables.specs.Judged.{conflicts_by, flies, next_by, owed_by, owes_nothing}
+use Rattle.checker_tables.specs.Judged.{conflicts_by, flies, next_by, checked_owed, owes_nothing}
 use Rattle.cids_in_use.specs.Used.{UsedCids}
-use Rattle.checker_tables.specs.Tables.{Flight, flight, tables, unit_of}
+use Rattle.checker_tables.specs.Tables.{CheckedTicket, flight, tables, checked_unit_of}
 use Rattle.checker_tables.proofs.Within.{right_same}
 use Rattle.entry_codec.specs.Cqe.{phase_bit}
 use Rattle.fused_match.specs.Judged as matched
@@ -44,10 +44,10 @@ use Rattle.rings.specs.Completions.{CompletionRing, is_full}
 use Rattle.rings.specs.Submissions.{SubmissionRing}
 use Rattle.rings.specs.declared.completion_ring.Completion.{Completion}
 use Rattle.ticket_laws.specs.Standing.{flying}
-use Rattle.history_check.specs.Kept.{Keeps, Kept}
+use Rattle.history_check.specs.Kept.{IsCheckerState, CheckerState}
 use Rattle.history_check.specs.Rings.{bare}
 use Rattle.history_check.specs.Whys.{broken_by, grant_why, wrong_by}
-use Rattle.history_check.specs.declared.fields.InFlight.{InFlight}
+use Rattle.history_check.specs.declared.fields.CheckedInFlight.{CheckedInFlight}
 use Rattle.history_check.proofs.Blocking.{open_granted, same_in}
 use Rattle.history_check.proofs.Bounds.{has_op, unit_range_is}
 use Rattle.history_check.proofs.Fetching
@@ -69,7 +69,7 @@ abbrev fetch_form : Bool → Bool → Bool → Option Broken → Option Broken
 fetch_form gone none full w =
     refused_or (cond gone (Some Why.NoQueue) (cond none (Some Why.NoEntry) (cond full (Some Why.JobsFull) None))) w
 
-module _ (c : ConfigNumbers) (past : Past) (k : Kept) (keeps : Keeps c past k) (l : FetchLine) (i : ℕ)
+module _ (c : ConfigNumbers) (past : Past) (k : CheckerState) (keeps : IsCheckerState c past k) (l : FetchLine) (i : ℕ)
     (place : IsPlace c.pairs l.queue i) (r : SubmissionRing) (is : r ≡ get_or k.submission i r) where
   form_is : broken_by c (tables c past) (Entry.Fetch l)
       ≡ fetch_form false (length ((tables c past).waiting l.queue) == 0) (nat_le c.jobs (length (flying past)))
@@ -130,12 +130,12 @@ grant_form flies state conflicts w =
     refused_or (cond (not flies) (Some Why.NoTicket)
     (cond state (Some Why.WrongState) (cond conflicts (Some Why.Conflict) None))) w
 
-module _ (c : ConfigNumbers) (past : Past) (k : Kept) (keeps : Keeps c past k) (g : GrantLine) where
+module _ (c : ConfigNumbers) (past : Past) (k : CheckerState) (keeps : IsCheckerState c past k) (g : GrantLine) where
   pub tell_no_grant : flies ((tables c past).flight g.ticket) ≡ false
       → Some (Broken.Refused Why.NoTicket) ≡ broken_by c (tables c past) (Entry.Grant g)
   tell_no_grant e = none_flies (flies ((tables c past).flight g.ticket)) _ _ e
 
-  granted_by : (f : Flight) (o : Option Range) → slice_get (units c f.ticket) f.opened ≡ o
+  granted_by : (f : CheckedTicket) (o : Option Range) → slice_get (units c f.ticket) f.opened ≡ o
       → grant_why f o k.held g
       ≡ grant_form true ((nat_le (length (units c f.ticket)) f.opened || f.differs) || is_some f.unit)
       (conflicts_by (tables c past) (mode f.ticket) o) (grant_broken g f.opened o (mode f.ticket))
@@ -163,10 +163,10 @@ module _ (c : ConfigNumbers) (past : Past) (k : Kept) (keeps : Keeps c past k) (
       or_turned true u = refl
       or_turned false u = refl
 
-  pub tell_grant : (i : ℕ) (x : InFlight) → IsThere c past g.ticket i x
+  pub tell_grant : (i : ℕ) (x : CheckedInFlight) → IsThere c past g.ticket i x
       → grant_why x.flight (slice_get x.units x.flight.opened) k.held g ≡ broken_by c (tables c past) (Entry.Grant g)
   tell_grant i x there =
-      ap (λ (y : InFlight). grant_why y.flight (slice_get y.units y.flight.opened) k.held g) there.is
+      ap (λ (y : CheckedInFlight). grant_why y.flight (slice_get y.units y.flight.opened) k.held g) there.is
       ∙ granted_by (flight past g.ticket)
       (slice_get (units c (flight past g.ticket).ticket) (flight past g.ticket).opened) refl
       ∙ ap (λ b. grant_form b ((nat_le (length (units c (flight past g.ticket).ticket)) (flight past g.ticket).opened
@@ -180,7 +180,7 @@ abbrev block_form : Bool → Bool → Option Broken → Option Broken
 block_form flies is_open w =
     refused_or (cond (not flies) (Some Why.NoTicket) (cond (not is_open) (Some Why.WrongState) None)) w
 
-module _ (c : ConfigNumbers) (past : Past) (k : Kept) (keeps : Keeps c past k) (b : BlockLine) where
+module _ (c : ConfigNumbers) (past : Past) (k : CheckerState) (keeps : IsCheckerState c past k) (b : BlockLine) where
   pub tell_no_block : flies ((tables c past).flight b.ticket) ≡ false
       → Some (Broken.Refused Why.NoTicket) ≡ broken_by c (tables c past) (Entry.Block b)
   tell_no_block e = none_flies (flies ((tables c past).flight b.ticket)) _ _ e
@@ -193,35 +193,36 @@ module _ (c : ConfigNumbers) (past : Past) (k : Kept) (keeps : Keeps c past k) (
       (unit_range_is c past g.ticket keeps.legal_so_far keeps.accepted (has_op c past g.ticket g.unit g.range at) g.unit
       g.range at).0
 
-  module _ (i : ℕ) (x : InFlight) (there : IsThere c past b.ticket i x) where
+  module _ (i : ℕ) (x : CheckedInFlight) (there : IsThere c past b.ticket i x) where
     flight_is : x.flight ≡ flight past b.ticket
-    flight_is = ap (λ (y : InFlight). y.flight) there.is
+    flight_is = ap (λ (y : CheckedInFlight). y.flight) there.is
 
     pub tell_some : IfSome x.flight.unit (λ u. 1 ≤ u.line.range.blocks)
-    tell_some = subst (λ (f : Flight). IfSome f.unit (λ u. 1 ≤ u.line.range.blocks)) (sym flight_is)
+    tell_some = subst (λ (f : CheckedTicket). IfSome f.unit (λ u. 1 ≤ u.line.range.blocks)) (sym flight_is)
         (go (find (λ g. g.ticket == b.ticket) (open_units past)) refl)
       where
         go : (o : Option GrantLine) → find (λ g. g.ticket == b.ticket) (open_units past) ≡ o
-            → IfSome (option_map (unit_of past) o) (λ u. 1 ≤ u.line.range.blocks)
+            → IfSome (option_map (checked_unit_of past) o) (λ u. 1 ≤ u.line.range.blocks)
         go None e = tt
         go (Some g) e = open_some g e
 
     pub tell_block : block_wrong_by (contents_in k.volume) x.flight b x.flight.unit
         ≡ broken_by c (tables c past) (Entry.Block b)
     tell_block =
-        ap (λ (f : Flight). block_wrong_by (contents_in k.volume) f b f.unit) flight_is
+        ap (λ (f : CheckedTicket). block_wrong_by (contents_in k.volume) f b f.unit) flight_is
         ∙ go (find (λ g. g.ticket == b.ticket) (open_units past)) refl
         ∙ ap (λ q. block_form q (is_some (flight past b.ticket).unit) (wrong_by c (tables c past) (Entry.Block b)))
         (sym there.flies)
       where
         go : (o : Option GrantLine) → find (λ g. g.ticket == b.ticket) (open_units past) ≡ o
-            → block_wrong_by (contents_in k.volume) (flight past b.ticket) b (option_map (unit_of past) o)
-            ≡ block_form true (is_some (option_map (unit_of past) o))
-            (block_wrong_by (value past) (flight past b.ticket) b (option_map (unit_of past) o))
+            → block_wrong_by (contents_in k.volume) (flight past b.ticket) b (option_map (checked_unit_of past) o)
+            ≡ block_form true (is_some (option_map (checked_unit_of past) o))
+            (block_wrong_by (value past) (flight past b.ticket) b (option_map (checked_unit_of past) o))
         go None e = refl
         go (Some g) e = ap (λ o.
-            block_broken b (due_in (flight past b.ticket).ticket (flight past b.ticket).placed (unit_of past g) o b))
-            (right_same (contents_in k.volume) (value past) (unit_of past g) (same_in c past k keeps b g e)
+            block_broken b (due_in (flight past b.ticket).ticket (flight past b.ticket).placed
+            (checked_unit_of past g) o b))
+            (right_same (contents_in k.volume) (value past) (checked_unit_of past g) (same_in c past k keeps b g e)
             (flight past b.ticket) b)
 
 -- ---- a Post
@@ -231,14 +232,14 @@ post_form flies nothing full w =
     refused_or (cond (not flies) (Some Why.NoTicket)
     (cond nothing (Some Why.WrongState) (cond full (Some Why.CqFull) None))) w
 
-module _ (c : ConfigNumbers) (past : Past) (k : Kept) (keeps : Keeps c past k) (p : PostLine) where
+module _ (c : ConfigNumbers) (past : Past) (k : CheckerState) (keeps : IsCheckerState c past k) (p : PostLine) where
   pub tell_no_post : flies ((tables c past).flight p.ticket) ≡ false
       → Some (Broken.Refused Why.NoTicket) ≡ broken_by c (tables c past) (Entry.Post p)
   tell_no_post e = none_flies (flies ((tables c past).flight p.ticket)) _ _ e
 
-  module _ (i : ℕ) (x : InFlight) (there : IsThere c past p.ticket i x) where
+  module _ (i : ℕ) (x : CheckedInFlight) (there : IsThere c past p.ticket i x) where
     posted_is : x.flight ≡ flight past p.ticket
-    posted_is = ap (λ (y : InFlight). y.flight) there.is
+    posted_is = ap (λ (y : CheckedInFlight). y.flight) there.is
 
     pub tell_nothing : owes_nothing c x.flight ≡ true
         → Some (Broken.Refused Why.WrongState) ≡ broken_by c (tables c past) (Entry.Post p)
@@ -256,12 +257,12 @@ module _ (c : ConfigNumbers) (past : Past) (k : Kept) (keeps : Keeps c past k) (
           (wrong_by c (tables c past) (Entry.Post p)))
 
       pub tell_post : is_full cr ≡ false
-          → post_wrong_at sr.head (phase_bit cr.phase) x.flight p (slice_get (owed_by c x.flight) x.flight.posts)
+          → post_wrong_at sr.head (phase_bit cr.phase) x.flight p (slice_get (checked_owed c x.flight) x.flight.posts)
           ≡ broken_by c (tables c past) (Entry.Post p)
       tell_post e =
           (λ z. post_wrong_at (Posting.sq_is c past k keeps p i x there sr cr sr_is cr_is z).head
           (phase_bit (Posting.cq_is c past k keeps p i x there sr cr sr_is cr_is z).phase) (posted_is z) p
-          (slice_get (owed_by c (posted_is z)) (posted_is z).posts))
+          (slice_get (checked_owed c (posted_is z)) (posted_is z).posts))
           ∙ (λ z. post_form (sym there.flies z) ((sym owes ∙ ap (owes_nothing c) posted_is) z)
           ((sym e ∙ Posting.full_is c past k keeps p i x there sr cr sr_is cr_is) z)
           (wrong_by c (tables c past) (Entry.Post p)))
@@ -288,7 +289,7 @@ reap_first (p ∷ xs) l d e =
     some_inj : Some (bare p) ≡ Some d → bare p ≡ d
     some_inj h = cc
 
-module _ (c : ConfigNumbers) (past : Past) (k : Kept) (keeps : Keeps c past k) (l : ReapLine) (i : ℕ)
+module _ (c : ConfigNumbers) (past : Past) (k : CheckerState) (keeps : IsCheckerState c past k) (l : ReapLine) (i : ℕ)
     (place : IsPlace c.cqs l.queue i) (r : CompletionRing) (is : r ≡ get_or k.completion i r) where
   reaped_is : broken_by c (tables c past) (Entry.Reap l) ≡ reap_form false ((tables c past).unreaped l.queue) l
   reaped_is = ap (λ b. reap_form b ((tables c past).unreaped l.queue) l) (there c.cqs l.queue i place)

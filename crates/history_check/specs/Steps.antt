@@ -4,8 +4,8 @@ use Rattle.std.specs.Prelude.{Bool, List, None, Option, Some, [], false, is_some
 use Rattle.std.specs.Prelude.{◌≡◌, ◌≤◌}
 use Rattle.checker_tables.specs.Judged as rules
 use Rattle.checker_tables.specs.Tables.{tables}
-use Rattle.checker_tables.specs.Tables.{Flight}
-use Rattle.checker_tables.specs.Taken.{taken}
+use Rattle.checker_tables.specs.Tables.{CheckedTicket}
+use Rattle.checker_tables.specs.Taken.{tables_after}
 use Rattle.fused_match.specs.declared.judged.Judged.{Judged}
 use Rattle.fused_match.specs.declared.judged.Judged.TheVariants as judged
 use Rattle.nvme_model.specs.Cut.{cut}
@@ -16,14 +16,14 @@ use Rattle.nvme_model.specs.declared.config.AtomicParameters.{AtomicParameters}
 use Rattle.nvme_model.specs.declared.config.ConfigNumbers.{ConfigNumbers}
 use Rattle.nvme_model.specs.declared.entry.GrantLine.{GrantLine}
 use Rattle.range_reserve.specs.Reserved.{has_conflict}
-use Rattle.range_reserve.specs.declared.held.Held.{Held}
+use Rattle.range_reserve.specs.declared.held.HeldRange.{HeldRange}
 use Rattle.nvme_model.specs.declared.entry.Entry.{Entry}
-use Rattle.history_check.specs.Kept.{Kept, Shows}
+use Rattle.history_check.specs.Kept.{CheckerState, ShowsTables}
 
 -- the answer is whether the entry may follow, and where it may the tables with it are shown
-pub record Took (c : ConfigNumbers) (past : Past) (e : Entry) (b : Bool) (k : Kept) : Type 0 where
+pub record Took (c : ConfigNumbers) (past : Past) (e : Entry) (b : Bool) (k : CheckerState) : Type 0 where
   pub answer : b ≡ rules.judged c (tables c past) e
-  pub shows : b ≡ true → Shows c (taken c (tables c past) e) k
+  pub shows : b ≡ true → ShowsTables c (tables_after c (tables c past) e) k
 
 -- ---- memory
 
@@ -36,7 +36,7 @@ needs_memory _ = true
 -- ---- a Grant
 
 -- a Grant of a ticket that has this unit next, where these ranges are held
-abbrev pub grant_by : Flight → Option Range → List Held → GrantLine → Bool
+abbrev pub grant_by : CheckedTicket → Option Range → List HeldRange → GrantLine → Bool
 grant_by f None held g = false
 grant_by f (Some r) held g =
     not (f.differs || is_some f.unit) && not (has_conflict held r (mode f.ticket))
@@ -46,10 +46,10 @@ grant_by f (Some r) held g =
 -- ---- a Fetch
 
 -- the units of what was judged
-abbrev pub units_in : AtomicParameters → Judged → List Range
-units_in u (judged.Single o r) = cut u r.slba r.blocks
-units_in u (judged.Pair r) = r ∷ []
-units_in u _ = []
+abbrev pub units_in_order : AtomicParameters → Judged → List Range
+units_in_order u (judged.Single o r) = cut u r.slba r.blocks
+units_in_order u (judged.Pair r) = r ∷ []
+units_in_order u _ = []
 
 -- where it has some, its blocks can be those of a volume
 abbrev pub HasUnits : Judged → Type 0

@@ -5,8 +5,8 @@ use Rattle.broken_rules.specs.Broken.{refused_or}
 use Rattle.broken_rules.specs.Rows.{fetch_broken, grant_broken, reap_broken}
 use Rattle.broken_rules.specs.declared.broken.Broken.{Broken}
 use Rattle.checked_tickets.specs.Explained.{block_wrong_by, post_wrong_at}
-use Rattle.checker_tables.specs.Judged.{next_by, owed_by, refusal_by, verdict_by}
-use Rattle.checker_tables.specs.Tables.{Flight, Tables}
+use Rattle.checker_tables.specs.Judged.{next_by, checked_owed, refusal_by, checked_verdict}
+use Rattle.checker_tables.specs.Tables.{CheckedTicket, Tables}
 use Rattle.nvme_model.specs.Completions.{phase}
 use Rattle.nvme_model.specs.Config.{completion_queue}
 use Rattle.nvme_model.specs.History.{step_of}
@@ -18,12 +18,12 @@ use Rattle.nvme_model.specs.declared.entry.GrantLine.{GrantLine}
 use Rattle.nvme_model.specs.declared.entry.PostLine.{PostLine}
 use Rattle.nvme_model.specs.declared.refusal.Why.{Why}
 use Rattle.range_reserve.specs.Reserved.{has_conflict}
-use Rattle.range_reserve.specs.declared.held.Held.{Held}
+use Rattle.range_reserve.specs.declared.held.HeldRange.{HeldRange}
 
 -- what an entry says wrongly, where its step isn't refused
 abbrev pub wrong_by : ConfigNumbers → Tables → Entry → Option Broken
 wrong_by c s (Entry.Publish p) = None
-wrong_by c s (Entry.Fetch f) = fetch_broken f s.tickets (verdict_by c s f.queue)
+wrong_by c s (Entry.Fetch f) = fetch_broken f s.tickets (checked_verdict c s f.queue)
 wrong_by c s (Entry.Grant g) =
     grant_broken g (s.flight g.ticket).opened (next_by c (s.flight g.ticket)) (mode (s.flight g.ticket).ticket)
 wrong_by c s (Entry.Block b) = block_wrong_by s.value (s.flight b.ticket) b (s.flight b.ticket).unit
@@ -31,7 +31,7 @@ wrong_by c s (Entry.Post p) =
     let f = s.flight p.ticket in
     let q = f.ticket.queue in
     post_wrong_at (s.fetched q % c.sq_size) (phase (s.posts (completion_queue c q)) c.cq_size) f p
-    (slice_get (owed_by c f) f.posts)
+    (slice_get (checked_owed c f) f.posts)
 wrong_by c s (Entry.Reap r) = reap_broken r (option_map (λ (p : PostLine). p.cqe) (slice_get (s.unreaped r.queue) 0))
 
 -- its refusal, or that
@@ -44,7 +44,7 @@ why_needs_memory (Entry.Block b) = true
 why_needs_memory _ = false
 
 -- a Grant of a ticket in flight that has this unit next, where these ranges are held
-abbrev pub grant_why : Flight → Option Range → List Held → GrantLine → Option Broken
+abbrev pub grant_why : CheckedTicket → Option Range → List HeldRange → GrantLine → Option Broken
 grant_why f None held g = Some (Broken.Refused Why.WrongState)
 grant_why f (Some r) held g =
     if f.differs || is_some f.unit then Some (Broken.Refused Why.WrongState)

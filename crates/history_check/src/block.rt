@@ -4,7 +4,7 @@ ghost use Rattle.std.specs.Prelude.{◌≡◌, ◌≤◌, ◌<◌, ◌+◌, ℕ,
 ghost use Rattle.nvme_model.specs.History.{Past};
 ghost use Rattle.nvme_model.specs.declared.config.ConfigNumbers.{ConfigNumbers};
 ghost use Rattle.nvme_model.specs.declared.entry.Entry.{Entry};
-ghost use Rattle.history_check.specs.Kept.{Keeps, kept_in};
+ghost use Rattle.history_check.specs.Kept.{IsCheckerState, checker_state_in};
 ghost use Rattle.history_check.specs.Steps.{Took};
 ghost use Rattle.checked_tickets.specs.Contents.{contents_in, written_in};
 ghost use Rattle.nvme_model.specs.Array.{has_block};
@@ -48,10 +48,10 @@ fn release_ended(ranges: &mut Ranges, ticket: u64, ended: bool)
 ///
 /// `NoMemory` where a growth is refused; nothing has changed.
 pub fn take_block(alloc: Global, fields: &mut Fields, line: &BlockLine) -> Result<bool, NoMemory>
-    requires keeps { (c : ConfigNumbers) × (past : Past) × Keeps c past (kept_in fields.old) }
-    ensures took { (c : ConfigNumbers) (past : Past) → Keeps c past (kept_in fields.old) →
-        IfOk result (λ b. Took c past (Entry.Block line.now) b (kept_in fields.new)) }
-    ensures err { OnErr result (kept_in fields.new ≡ kept_in fields.old) }
+    requires keeps { (c : ConfigNumbers) × (past : Past) × IsCheckerState c past (checker_state_in fields.old) }
+    ensures took { (c : ConfigNumbers) (past : Past) → IsCheckerState c past (checker_state_in fields.old) →
+        IfOk result (λ b. Took c past (Entry.Block line.now) b (checker_state_in fields.new)) }
+    ensures err { OnErr result (checker_state_in fields.new ≡ checker_state_in fields.old) }
 {
     let Some(place) = ticket_place(fields.flights.as_slice(), line.ticket) else {
         return Ok(false);

@@ -4,7 +4,7 @@ ghost use Rattle.std.specs.Prelude.{◌≡◌, ◌∷◌, [], IfOk, OnErr, is_no
 ghost use Rattle.nvme_model.specs.History.{Past};
 ghost use Rattle.nvme_model.specs.Legal.{legal};
 ghost use Rattle.broken_rules.specs.Broken.{first_broken};
-ghost use Rattle.history_check.specs.Kept.{Keeps, Stands, kept_in};
+ghost use Rattle.history_check.specs.Kept.{IsCheckerState, Stands, checker_state_in};
 ghost use Rattle.history_check.specs.Steps.{Took, needs_memory};
 ghost use Rattle.history_check.specs.Whys.{why_needs_memory};
 
@@ -24,7 +24,7 @@ use std::marker::Model;
 /// Says of each entry that it takes whether the entries so far, the oldest first, are a legal history of its
 /// configuration, whoever made them. It keeps what later entries are judged by, and no entry: how much that is, and how
 /// long an entry takes, doesn't grow with the history. A ticket in flight is found by halves; a Fetch and a Post go
-/// through the identifiers in use on their queue, and a ticket's last Post moves up those in flight behind it.
+/// through the CIDs in use on their queue, and a ticket's last Post moves up those in flight behind it.
 #[derive(Drop)]
 pub struct Checker {
     alloc: Global,
@@ -35,15 +35,15 @@ pub struct Checker {
 
 impl Model for Checker {
     ghost use Rattle.nvme_model.specs.History.{Past};
-    ghost use Rattle.history_check.specs.Kept.{Stands, State, kept_in};
+    ghost use Rattle.history_check.specs.Kept.{Stands, CheckerRun, checker_state_in};
 
-    ghost Value = { State };
+    ghost Value = { CheckerRun };
 
-    ghost view = { λ x. record { config = x.config; is_legal = x.legal; kept = kept_in x.fields } };
+    ghost view = { λ x. record { config = x.config; is_legal = x.legal; kept = checker_state_in x.fields } };
 
     // There is a history that it stands for.
     ghost invariant = { λ x. (past : Past)
-        × Stands x.config past (record { config = x.config; is_legal = x.legal; kept = kept_in x.fields }) };
+        × Stands x.config past (record { config = x.config; is_legal = x.legal; kept = checker_state_in x.fields }) };
 }
 
 // Takes an entry after a legal history, and says whether it may follow.
@@ -53,10 +53,10 @@ fn take_entry(
     fields: &mut Fields,
     entry: &Entry,
 ) -> Result<bool, NoMemory>
-    requires keeps { (past : Past) × Keeps config.now past (kept_in fields.old) }
-    ensures took { (past : Past) → Keeps config.now past (kept_in fields.old) →
-        IfOk result (λ b. Took config.now past entry.now b (kept_in fields.new)) }
-    ensures err { OnErr result (kept_in fields.new ≡ kept_in fields.old) }
+    requires keeps { (past : Past) × IsCheckerState config.now past (checker_state_in fields.old) }
+    ensures took { (past : Past) → IsCheckerState config.now past (checker_state_in fields.old) →
+        IfOk result (λ b. Took config.now past entry.now b (checker_state_in fields.new)) }
+    ensures err { OnErr result (checker_state_in fields.new ≡ checker_state_in fields.old) }
     ensures wants { OnErr result (needs_memory entry.now ≡ true) }
 {
     match entry {

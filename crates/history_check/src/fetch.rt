@@ -5,19 +5,19 @@ ghost use Rattle.std.specs.Prelude.{◌≡◌, ◌+◌, ◌++◌, ◌≤◌, ◌
 ghost use Rattle.nvme_model.specs.History.{Past};
 ghost use Rattle.nvme_model.specs.declared.config.ConfigNumbers.{ConfigNumbers};
 ghost use Rattle.nvme_model.specs.declared.entry.Entry.{Entry};
-ghost use Rattle.history_check.specs.Kept.{Keeps, kept_in};
+ghost use Rattle.history_check.specs.Kept.{IsCheckerState, checker_state_in};
 ghost use Rattle.history_check.specs.Steps.{Took};
 ghost use Rattle.fused_match.specs.Judged.{NamesBlocks, operation_in, verdict_by, waiting_items};
 ghost use Rattle.nvme_model.specs.EntryBytes.{sqe_fields};
 ghost use Rattle.nvme_model.specs.Operations.{op_by};
 ghost use Rattle.nvme_model.specs.Tickets.{cids};
 ghost use Rattle.nvme_model.specs.Verdict.{item_of, same_verdict, verdict_of};
-ghost use Rattle.history_check.specs.Steps.{HasUnits, units_in};
+ghost use Rattle.history_check.specs.Steps.{HasUnits, units_in_order};
 
-use crate::fields::{Fields, InFlight, TicketUnits};
+use crate::fields::{CheckedInFlight, Fields, TicketUnits};
 use crate::places::ring_place;
 use broken_rules::same_verdict;
-use checked_tickets::{Commands, Flight};
+use checked_tickets::{CheckedTicket, Commands};
 use cids_in_use::CidsInUse;
 use fused_match::{Item, Judged, judge};
 use history::Config;
@@ -34,7 +34,7 @@ pub(crate) fn next_item(ring: &SqRing) -> Option<Item>
     ring.peek(1).map(Item::of)
 }
 
-// What becomes of the entries at the front of a ring, where these identifiers are in use.
+// What becomes of the entries at the front of a ring, where these CIDs are in use.
 pub(crate) fn judge_front(
     config: &Config,
     in_use: &[u16],
@@ -53,7 +53,7 @@ pub(crate) fn judge_front(
 // The units of a ticket.
 fn units_of(alloc: Global, config: &Config, judged: &Judged) -> Result<Vec<Range>, NoMemory>
     requires within { HasUnits judged.now }
-    ensures value { IfOk result (λ units. units.items ≡ units_in config.now.atomic judged.now) }
+    ensures value { IfOk result (λ units. units.items ≡ units_in_order config.now.atomic judged.now) }
 {
     match judged {
         Judged::Single(_, range) => config.units().cut(range.slba, range.blocks).collect(alloc),
@@ -66,7 +66,7 @@ fn units_of(alloc: Global, config: &Config, judged: &Judged) -> Result<Vec<Range
     }
 }
 
-// Puts the identifiers of a ticket in use.
+// Puts the CIDs of a ticket in use.
 fn put_in_use(used: &mut CidsInUse, commands: &Commands)
     requires room { length used.old.cids + length (cids commands.now) ≤ used.old.room }
     ensures more { used.new ≡ record used.old { cids = used.old.cids ++ cids commands.now } }
@@ -95,10 +95,10 @@ pub fn take_fetch(
     fields: &mut Fields,
     line: &FetchLine,
 ) -> Result<bool, NoMemory>
-    requires keeps { (past : Past) × Keeps config.now past (kept_in fields.old) }
-    ensures took { (past : Past) → Keeps config.now past (kept_in fields.old) →
-        IfOk result (λ b. Took config.now past (Entry.Fetch line.now) b (kept_in fields.new)) }
-    ensures err { OnErr result (kept_in fields.new ≡ kept_in fields.old) }
+    requires keeps { (past : Past) × IsCheckerState config.now past (checker_state_in fields.old) }
+    ensures took { (past : Past) → IsCheckerState config.now past (checker_state_in fields.old) →
+        IfOk result (λ b. Took config.now past (Entry.Fetch line.now) b (checker_state_in fields.new)) }
+    ensures err { OnErr result (checker_state_in fields.new ≡ checker_state_in fields.old) }
 {
     let Some(place) = ring_place(line.queue, fields.submission.len()) else {
         return Ok(false);
@@ -121,9 +121,9 @@ pub fn take_fetch(
     let (first, second) = fields.submission[place].take_commands(judged.taken());
     let commands = Commands::new(line.queue, line.verdict, first, second);
     put_in_use(&mut fields.in_use[place], &commands);
-    fields.flights.push_reserved(InFlight {
+    fields.flights.push_reserved(CheckedInFlight {
         ticket: line.ticket,
-        flight: Flight::new(alloc, commands),
+        flight: CheckedTicket::new(alloc, commands),
         units,
     });
     fields.tickets = line.ticket;

@@ -3,7 +3,7 @@
 ghost use Rattle.std.specs.Prelude.{◌≡◌, [], IfOk};
 
 use block_array::Volume;
-use checked_tickets::Flight;
+use checked_tickets::CheckedTicket;
 use cids_in_use::{CidsInUse, none_in_use};
 use history::Config;
 use nvme_model::array::Range;
@@ -44,9 +44,9 @@ impl TicketUnits {
 
 /// A ticket in flight.
 #[derive(Drop)]
-pub struct InFlight {
+pub struct CheckedInFlight {
     pub ticket: u64,
-    pub flight: Flight,
+    pub flight: CheckedTicket,
     pub units: TicketUnits,
 }
 
@@ -61,14 +61,14 @@ pub struct Fields {
     /// By completion queue; without the data, which no later entry is judged by.
     pub completion: Vec<CqRing>,
     /// By rising ticket.
-    pub flights: Vec<InFlight>,
+    pub flights: Vec<CheckedInFlight>,
     /// Of the open units.
     pub ranges: Ranges,
     pub tickets: u64,
 }
 
 impl Fields {
-    ghost use Rattle.history_check.specs.Kept.{Keeps, kept_in};
+    ghost use Rattle.history_check.specs.Kept.{IsCheckerState, checker_state_in};
 
     /// What is kept of no entry.
     ///
@@ -76,7 +76,7 @@ impl Fields {
     ///
     /// `NoMemory` where a growth is refused.
     pub fn new(alloc: Global, config: &Config) -> Result<Fields, NoMemory>
-        ensures keeps { IfOk result (λ fields. Keeps config.now [] (kept_in fields)) }
+        ensures keeps { IfOk result (λ fields. IsCheckerState config.now [] (checker_state_in fields)) }
     {
         let numbers = config.numbers();
         Ok(Fields {

@@ -4,12 +4,12 @@ ghost use Rattle.std.specs.Prelude.{◌≡◌, IfOk, OnErr, slice_get};
 ghost use Rattle.nvme_model.specs.History.{Past};
 ghost use Rattle.nvme_model.specs.declared.config.ConfigNumbers.{ConfigNumbers};
 ghost use Rattle.nvme_model.specs.declared.entry.Entry.{Entry};
-ghost use Rattle.history_check.specs.Kept.{Keeps, kept_in};
+ghost use Rattle.history_check.specs.Kept.{IsCheckerState, checker_state_in};
 ghost use Rattle.history_check.specs.Steps.{Took};
 ghost use Rattle.nvme_model.specs.Operations.{is_exclusive};
 ghost use Rattle.history_check.specs.Steps.{grant_by};
 
-use crate::fields::{Fields, InFlight};
+use crate::fields::{CheckedInFlight, Fields};
 use crate::places::ticket_place;
 use nvme_model::array::{Mode, Range};
 use nvme_model::entry::GrantLine;
@@ -27,7 +27,7 @@ fn is_exclusive(mode: Mode) -> bool
 }
 
 // The unit that a Grant would open.
-pub(crate) fn next_unit(one: &InFlight) -> Option<Range>
+pub(crate) fn next_unit(one: &CheckedInFlight) -> Option<Range>
     ensures value { result ≡ slice_get one.now.units one.now.flight.opened }
 {
     let units = one.units.as_slice();
@@ -39,7 +39,7 @@ pub(crate) fn next_unit(one: &InFlight) -> Option<Range>
 }
 
 // Whether a Grant of a ticket in flight may follow, where these ranges are held.
-fn grant_fits(one: &InFlight, ranges: &Ranges, line: &GrantLine) -> bool
+fn grant_fits(one: &CheckedInFlight, ranges: &Ranges, line: &GrantLine) -> bool
     ensures value { result ≡
         grant_by one.now.flight (slice_get one.now.units one.now.flight.opened) ranges.now.held line.now }
 {
@@ -66,10 +66,10 @@ fn grant_fits(one: &InFlight, ranges: &Ranges, line: &GrantLine) -> bool
 ///
 /// `NoMemory` where a growth is refused; nothing has changed.
 pub fn take_grant(alloc: Global, fields: &mut Fields, line: &GrantLine) -> Result<bool, NoMemory>
-    requires keeps { (c : ConfigNumbers) × (past : Past) × Keeps c past (kept_in fields.old) }
-    ensures took { (c : ConfigNumbers) (past : Past) → Keeps c past (kept_in fields.old) →
-        IfOk result (λ b. Took c past (Entry.Grant line.now) b (kept_in fields.new)) }
-    ensures err { OnErr result (kept_in fields.new ≡ kept_in fields.old) }
+    requires keeps { (c : ConfigNumbers) × (past : Past) × IsCheckerState c past (checker_state_in fields.old) }
+    ensures took { (c : ConfigNumbers) (past : Past) → IsCheckerState c past (checker_state_in fields.old) →
+        IfOk result (λ b. Took c past (Entry.Grant line.now) b (checker_state_in fields.new)) }
+    ensures err { OnErr result (checker_state_in fields.new ≡ checker_state_in fields.old) }
 {
     let Some(place) = ticket_place(fields.flights.as_slice(), line.ticket) else {
         return Ok(false);

@@ -2,9 +2,9 @@
 
 ghost use Rattle.std.specs.List.Sorted.{IsNonDecreasingBy};
 ghost use Rattle.std.specs.Prelude.{◌≡◌, ◌+◌, ◌<◌, ◌==◌, ◌||◌, MatchOption, nat_lt, position, true};
-ghost use Rattle.history_check.specs.declared.fields.InFlight.{InFlight};
+ghost use Rattle.history_check.specs.declared.fields.CheckedInFlight.{CheckedInFlight};
 
-use crate::fields::InFlight;
+use crate::fields::CheckedInFlight;
 
 /// The place of the ring of a queue, where there are so many.
 pub fn ring_place(queue: u16, count: usize) -> Option<usize>
@@ -18,8 +18,8 @@ pub fn ring_place(queue: u16, count: usize) -> Option<usize>
 }
 
 /// The place of a ticket in flight, found by halves among those by rising ticket.
-pub fn ticket_place(flights: &[InFlight], ticket: u64) -> Option<usize>
-    requires rising { IsNonDecreasingBy (λ (e : InFlight). e.ticket) flights.now }
+pub fn ticket_place(flights: &[CheckedInFlight], ticket: u64) -> Option<usize>
+    requires rising { IsNonDecreasingBy (λ (e : CheckedInFlight). e.ticket) flights.now }
     ensures value { result ≡ position (λ e. e.ticket == ticket) flights.now }
 {
     let place = flights.partition_point(|one| one.ticket < ticket);

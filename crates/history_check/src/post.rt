@@ -3,7 +3,7 @@
 ghost use Rattle.nvme_model.specs.History.{Past};
 ghost use Rattle.nvme_model.specs.declared.config.ConfigNumbers.{ConfigNumbers};
 ghost use Rattle.nvme_model.specs.declared.entry.Entry.{Entry};
-ghost use Rattle.history_check.specs.Kept.{Keeps, kept_in};
+ghost use Rattle.history_check.specs.Kept.{IsCheckerState, checker_state_in};
 ghost use Rattle.history_check.specs.Steps.{Took};
 
 use crate::fields::Fields;
@@ -15,9 +15,9 @@ use std::alloc::Global;
 
 /// Takes a Post, and says whether it may follow. Takes no memory.
 pub fn take_post(alloc: Global, config: &Config, fields: &mut Fields, line: &PostLine) -> bool
-    requires keeps { (past : Past) × Keeps config.now past (kept_in fields.old) }
-    ensures took { (past : Past) → Keeps config.now past (kept_in fields.old) →
-        Took config.now past (Entry.Post line.now) result (kept_in fields.new) }
+    requires keeps { (past : Past) × IsCheckerState config.now past (checker_state_in fields.old) }
+    ensures took { (past : Past) → IsCheckerState config.now past (checker_state_in fields.old) →
+        Took config.now past (Entry.Post line.now) result (checker_state_in fields.new) }
 {
     let Some(place) = ticket_place(fields.flights.as_slice(), line.ticket) else {
         return false;

@@ -4,7 +4,7 @@ ghost use Rattle.std.specs.Prelude.{◌≡◌, IfOk, OnErr};
 ghost use Rattle.nvme_model.specs.History.{Past};
 ghost use Rattle.nvme_model.specs.declared.config.ConfigNumbers.{ConfigNumbers};
 ghost use Rattle.nvme_model.specs.declared.entry.Entry.{Entry};
-ghost use Rattle.history_check.specs.Kept.{Keeps, kept_in};
+ghost use Rattle.history_check.specs.Kept.{IsCheckerState, checker_state_in};
 ghost use Rattle.history_check.specs.Steps.{Took};
 
 use crate::fields::Fields;
@@ -23,9 +23,9 @@ pub fn take_publish(
     fields: &mut Fields,
     line: &PublishLine,
 ) -> Result<bool, NoMemory>
-    ensures took { (c : ConfigNumbers) (past : Past) → Keeps c past (kept_in fields.old) →
-        IfOk result (λ b. Took c past (Entry.Publish line.now) b (kept_in fields.new)) }
-    ensures err { OnErr result (kept_in fields.new ≡ kept_in fields.old) }
+    ensures took { (c : ConfigNumbers) (past : Past) → IsCheckerState c past (checker_state_in fields.old) →
+        IfOk result (λ b. Took c past (Entry.Publish line.now) b (checker_state_in fields.new)) }
+    ensures err { OnErr result (checker_state_in fields.new ≡ checker_state_in fields.old) }
 {
     let Some(place) = ring_place(line.queue, fields.submission.len()) else {
         return Ok(false);

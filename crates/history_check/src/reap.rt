@@ -4,7 +4,7 @@ ghost use Rattle.std.specs.Prelude.{◌≡◌};
 ghost use Rattle.nvme_model.specs.History.{Past};
 ghost use Rattle.nvme_model.specs.declared.config.ConfigNumbers.{ConfigNumbers};
 ghost use Rattle.nvme_model.specs.declared.entry.Entry.{Entry};
-ghost use Rattle.history_check.specs.Kept.{Keeps, kept_in};
+ghost use Rattle.history_check.specs.Kept.{IsCheckerState, checker_state_in};
 ghost use Rattle.history_check.specs.Steps.{Took};
 
 use crate::fields::Fields;
@@ -14,7 +14,8 @@ use nvme_model::entry::ReapLine;
 /// Takes a Reap, and says whether it may follow.
 pub fn take_reap(fields: &mut Fields, line: &ReapLine) -> bool
     ensures took { (c : ConfigNumbers) (past : Past) →
-        Keeps c past (kept_in fields.old) → Took c past (Entry.Reap line.now) result (kept_in fields.new) }
+        IsCheckerState c past (checker_state_in fields.old)
+        → Took c past (Entry.Reap line.now) result (checker_state_in fields.new) }
 {
     let Some(place) = ring_place(line.queue, fields.completion.len()) else {
         return false;

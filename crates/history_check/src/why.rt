@@ -5,11 +5,11 @@ ghost use Rattle.nvme_model.specs.History.{Past};
 ghost use Rattle.nvme_model.specs.declared.config.ConfigNumbers.{ConfigNumbers};
 ghost use Rattle.nvme_model.specs.declared.entry.Entry.{Entry};
 ghost use Rattle.checker_tables.specs.Tables.{tables};
-ghost use Rattle.history_check.specs.Kept.{Keeps, kept_in};
+ghost use Rattle.history_check.specs.Kept.{IsCheckerState, checker_state_in};
 ghost use Rattle.history_check.specs.Whys.{broken_by, grant_why, why_needs_memory};
 
 use crate::fetch::{judge_front, next_item};
-use crate::fields::{Fields, InFlight};
+use crate::fields::{CheckedInFlight, Fields};
 use crate::grant::next_unit;
 use crate::places::{ring_place, ticket_place};
 use broken_rules::{Broken, fetch_broken, grant_broken, reap_broken};
@@ -21,7 +21,8 @@ use std::alloc::{AllocError as NoMemory, Global};
 
 fn why_publish(fields: &Fields, line: &PublishLine) -> Option<Broken>
     ensures value { (c : ConfigNumbers) (past : Past) →
-        Keeps c past (kept_in fields.now) → result ≡ broken_by c (tables c past) (Entry.Publish line.now) }
+        IsCheckerState c past (checker_state_in fields.now)
+        → result ≡ broken_by c (tables c past) (Entry.Publish line.now) }
 {
     let Some(place) = ring_place(line.queue, fields.submission.len()) else {
         return Some(Broken::Refused(Why::NoQueue));
@@ -31,8 +32,8 @@ fn why_publish(fields: &Fields, line: &PublishLine) -> Option<Broken>
 }
 
 fn why_fetch(config: &Config, fields: &Fields, line: &FetchLine) -> Option<Broken>
-    requires keeps { (past : Past) × Keeps config.now past (kept_in fields.now) }
-    ensures value { (past : Past) → Keeps config.now past (kept_in fields.now) →
+    requires keeps { (past : Past) × IsCheckerState config.now past (checker_state_in fields.now) }
+    ensures value { (past : Past) → IsCheckerState config.now past (checker_state_in fields.now) →
         result ≡ broken_by config.now (tables config.now past) (Entry.Fetch line.now) }
 {
     let Some(place) = ring_place(line.queue, fields.submission.len()) else {
@@ -52,7 +53,7 @@ fn why_fetch(config: &Config, fields: &Fields, line: &FetchLine) -> Option<Broke
 }
 
 // A Grant of a ticket in flight.
-fn why_not_granted(one: &InFlight, ranges: &Ranges, line: &GrantLine) -> Option<Broken>
+fn why_not_granted(one: &CheckedInFlight, ranges: &Ranges, line: &GrantLine) -> Option<Broken>
     ensures value { result ≡
         grant_why one.now.flight (slice_get one.now.units one.now.flight.opened) ranges.now.held line.now }
 {
@@ -70,9 +71,10 @@ fn why_not_granted(one: &InFlight, ranges: &Ranges, line: &GrantLine) -> Option<
 }
 
 fn why_grant(fields: &Fields, line: &GrantLine) -> Option<Broken>
-    requires keeps { (c : ConfigNumbers) × (past : Past) × Keeps c past (kept_in fields.now) }
+    requires keeps { (c : ConfigNumbers) × (past : Past) × IsCheckerState c past (checker_state_in fields.now) }
     ensures value { (c : ConfigNumbers) (past : Past) →
-        Keeps c past (kept_in fields.now) → result ≡ broken_by c (tables c past) (Entry.Grant line.now) }
+        IsCheckerState c past (checker_state_in fields.now)
+        → result ≡ broken_by c (tables c past) (Entry.Grant line.now) }
 {
     let Some(place) = ticket_place(fields.flights.as_slice(), line.ticket) else {
         return Some(Broken::Refused(Why::NoTicket));
@@ -81,9 +83,10 @@ fn why_grant(fields: &Fields, line: &GrantLine) -> Option<Broken>
 }
 
 fn why_block(alloc: Global, fields: &Fields, line: &BlockLine) -> Result<Option<Broken>, NoMemory>
-    requires keeps { (c : ConfigNumbers) × (past : Past) × Keeps c past (kept_in fields.now) }
+    requires keeps { (c : ConfigNumbers) × (past : Past) × IsCheckerState c past (checker_state_in fields.now) }
     ensures value { (c : ConfigNumbers) (past : Past) →
-        Keeps c past (kept_in fields.now) → IfOk result (λ b. b ≡ broken_by c (tables c past) (Entry.Block line.now)) }
+        IsCheckerState c past (checker_state_in fields.now)
+        → IfOk result (λ b. b ≡ broken_by c (tables c past) (Entry.Block line.now)) }
 {
     let Some(place) = ticket_place(fields.flights.as_slice(), line.ticket) else {
         return Ok(Some(Broken::Refused(Why::NoTicket)));
@@ -93,8 +96,8 @@ fn why_block(alloc: Global, fields: &Fields, line: &BlockLine) -> Result<Option<
 }
 
 fn why_post(config: &Config, fields: &Fields, line: &PostLine) -> Option<Broken>
-    requires keeps { (past : Past) × Keeps config.now past (kept_in fields.now) }
-    ensures value { (past : Past) → Keeps config.now past (kept_in fields.now) →
+    requires keeps { (past : Past) × IsCheckerState config.now past (checker_state_in fields.now) }
+    ensures value { (past : Past) → IsCheckerState config.now past (checker_state_in fields.now) →
         result ≡ broken_by config.now (tables config.now past) (Entry.Post line.now) }
 {
     let Some(place) = ticket_place(fields.flights.as_slice(), line.ticket) else {
@@ -117,7 +120,8 @@ fn why_post(config: &Config, fields: &Fields, line: &PostLine) -> Option<Broken>
 
 fn why_reap(fields: &Fields, line: &ReapLine) -> Option<Broken>
     ensures value { (c : ConfigNumbers) (past : Past) →
-        Keeps c past (kept_in fields.now) → result ≡ broken_by c (tables c past) (Entry.Reap line.now) }
+        IsCheckerState c past (checker_state_in fields.now)
+        → result ≡ broken_by c (tables c past) (Entry.Reap line.now) }
 {
     let Some(place) = ring_place(line.queue, fields.completion.len()) else {
         return Some(Broken::Refused(Why::NoQueue));
@@ -139,8 +143,8 @@ pub fn why_broken(
     fields: &Fields,
     entry: &Entry,
 ) -> Result<Option<Broken>, NoMemory>
-    requires keeps { (past : Past) × Keeps config.now past (kept_in fields.now) }
-    ensures value { (past : Past) → Keeps config.now past (kept_in fields.now) →
+    requires keeps { (past : Past) × IsCheckerState config.now past (checker_state_in fields.now) }
+    ensures value { (past : Past) → IsCheckerState config.now past (checker_state_in fields.now) →
         IfOk result (λ b. b ≡ broken_by config.now (tables config.now past) entry.now) }
     ensures wants { OnErr result (why_needs_memory entry.now ≡ true) }
 {

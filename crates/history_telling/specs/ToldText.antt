@@ -1,8 +1,7 @@
 -- What is told of the text of a history, and how it ends.
 use Rattle.std.specs.Prelude.{List, None, Option, Some, [], option_map, ℕ, ◌++◌, ◌∷◌}
 use Rattle.line_text.specs.Lines.{rest_line, whole_lines}
-use Rattle.line_text.specs.declared.lines.ReadFault.{ReadFault}
-use Rattle.nvme_model.specs.Config.{config_fault, fault_number}
+use Rattle.nvme_model.specs.Config.{config_fault, config_fault_number}
 use Rattle.nvme_model.specs.declared.config.ConfigFault.{ConfigFault}
 use Rattle.nvme_model.specs.declared.config.ConfigNumbers.{ConfigNumbers}
 use Rattle.nvme_model.specs.declared.entry.Entry.{Entry}
@@ -10,8 +9,6 @@ use Rattle.history.specs.ConfigLine.{config_in}
 use Rattle.history.specs.Lines.{entry_in}
 use Rattle.casdisk_script.specs.Meaning.{Meaning}
 use Rattle.casdisk_script.specs.Script.{Outcome, bad_config, bad_line, cut, ending, lines_print, prefixed}
-use Rattle.casdisk_script.specs.declared.fault.RunFault.{RunFault}
-use Rattle.casdisk_script.specs.declared.fault.RunFault.TheVariants.{Input, NoMemory}
 use Rattle.history_words.specs.BesideLines.{beside_painted}
 use Rattle.history_words.specs.Told.{config_painted, entry_painted}
 use Rattle.history_words.specs.declared.paint.Paint.{Paint}
@@ -28,24 +25,19 @@ told_line paint past line = option_map (λ text. (past, text ++ 10 ∷ [])) (lin
 -- what is told of a configuration, which may be refused, and of what follows
 abbrev pub told_numbers : Paint → ConfigNumbers → Option ConfigFault → Outcome → Outcome
 told_numbers paint c None more = prefixed (config_painted paint c ++ 10 ∷ []) more
-told_numbers paint c (Some fault) more = ending (bad_config (fault_number fault)) []
+told_numbers paint c (Some fault) more = ending (bad_config (config_fault_number fault)) []
 
 -- what is told of a first line, by what it says, and of what follows
-abbrev pub told_config : Paint → Option ConfigNumbers → Outcome → Outcome
-told_config paint None more = ending (bad_line 1) []
-told_config paint (Some c) more = told_numbers paint c (config_fault c) more
+abbrev pub told_first_line : Paint → Option ConfigNumbers → Outcome → Outcome
+told_first_line paint None more = ending (bad_line 1) []
+told_first_line paint (Some c) more = told_numbers paint c (config_fault c) more
 
 -- what is told of a configuration line and the lines behind it
 unfoldable pub told_prints : Paint → List (List ℕ) → List ℕ → Outcome
 told_prints paint [] rest = ending (cut 1) []
 told_prints paint (line ∷ lines) rest =
-    told_config paint (config_in line) (lines_print (told_line paint) [] 2 lines rest)
+    told_first_line paint (config_in line) (lines_print (told_line paint) [] 2 lines rest)
 
 -- what is told of a whole input
-abbrev pub told : Paint → List ℕ → Outcome
-told paint input = told_prints paint (whole_lines input) (rest_line input)
-
--- why nothing is told where no line was read
-abbrev pub fault_of_read : ReadFault → RunFault
-fault_of_read ReadFault.Input = Input
-fault_of_read ReadFault.NoMemory = NoMemory
+abbrev pub told_text : Paint → List ℕ → Outcome
+told_text paint input = told_prints paint (whole_lines input) (rest_line input)

@@ -3,10 +3,11 @@
 ghost use Rattle.std.specs.Prelude.{◌≡◌, ◌++◌, ◌∷◌, [], Err, IfErr, IfOk, List, Option, ℕ};
 ghost use Rattle.std.specs.Io.KnownBytes.{Appends};
 ghost use Rattle.line_text.specs.Known.{AppendsFront};
-ghost use Rattle.casdisk_script.specs.Running.{PrintsFront, Reached, Runs};
+ghost use Rattle.casdisk_script.specs.Running.{PrintsFront, Reached, RunsScript};
 ghost use Rattle.history_words.specs.Told.{config_painted};
 ghost use Rattle.history_words.specs.declared.paint.Paint.{Paint};
-ghost use Rattle.history_telling.specs.ToldText.{fault_of_read, told, told_line};
+ghost use Rattle.casdisk_script.specs.Fault.{fault_of_read};
+ghost use Rattle.history_telling.specs.ToldText.{told_text, told_line};
 
 use casdisk_script::RunFault;
 use history::{Config, LineFault, read_config_line};
@@ -34,12 +35,12 @@ pub(crate) fn read_opening<R: Read>(
 ) -> Result<ConfigNumbers, RunFault>
     requires fresh { lines.old ≡ [] }
     ensures stopped { (paint : Paint) (w : Option (List ℕ)) → IfErr result
-        (λ f. Runs (told paint) (Err f) (R.remaining reader.old) (R.remaining reader.new) w w) }
+        (λ f. RunsScript (told_text paint) (Err f) (R.remaining reader.old) (R.remaining reader.new) w w) }
     ensures front { (paint : Paint) (w u : Option (List ℕ)) → IfOk result
         (λ c. AppendsFront w u (config_painted paint c ++ 10 ∷ []) →
-        PrintsFront (told paint) (R.remaining reader.old) (R.remaining reader.new) w u) }
+        PrintsFront (told_text paint) (R.remaining reader.old) (R.remaining reader.new) w u) }
     ensures begun { (paint : Paint) (w u : Option (List ℕ)) → IfOk result
-        (λ c. Appends w u (config_painted paint c ++ 10 ∷ []) → Reached (told paint) (told_line paint) [] 2
+        (λ c. Appends w u (config_painted paint c ++ 10 ∷ []) → Reached (told_text paint) (told_line paint) [] 2
         (R.remaining reader.old) (R.remaining reader.new) w u lines.new) }
 {
     match lines.next_line(reader, line) {

@@ -2,8 +2,8 @@
 
 ghost use Rattle.std.specs.Prelude.{◌≡◌, IfOk, option_map, string_bytes};
 ghost use Rattle.history.specs.Lines.{entry_in};
-ghost use Rattle.casdisk_script.specs.Running.{Runs};
-ghost use Rattle.history_telling.specs.ToldText.{line_told, told, told_line};
+ghost use Rattle.casdisk_script.specs.Running.{RunsScript};
+ghost use Rattle.history_telling.specs.ToldText.{line_told, told_text, told_line};
 
 use crate::opening::read_opening;
 use casdisk_script::{LineMeaning, RunFault, Taken, WriteFault, run_lines};
@@ -69,7 +69,7 @@ pub fn tell_text<R: Read, W: Write>(
     writer: &mut W,
     paint: Paint,
 ) -> Result<(), RunFault>
-    ensures tells { Runs (told paint) result (R.remaining reader.old) (R.remaining reader.new)
+    ensures tells { RunsScript (told_text paint) result (R.remaining reader.old) (R.remaining reader.new)
         (W.contents writer.old) (W.contents writer.new) }
 {
     let Ok(mut lines) = Lines::new(alloc) else {

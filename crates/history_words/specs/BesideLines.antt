@@ -1,12 +1,16 @@
--- The lines that a run prints beside entries, refusals and blocks, in words.
+-- The lines that aren't entries of a history, in words: refusals and blocks, which a run prints beside them, and what
+-- was reaped, in a trace.
 use Rattle.std.specs.Prelude.{List, None, Option, Some, [], codes, decimal, if◌then◌else◌, length, option_map, take, ℕ}
 use Rattle.std.specs.Prelude.{◌==◌, ◌∷◌}
 use Rattle.std.specs.List.{concat, slice_split}
 use Rattle.std.specs.Str.{bytes_eq}
 use Rattle.hex.specs.Hex.{encode_upper}
 use Rattle.line_text.specs.Data.{data_in}
+use Rattle.line_text.specs.Digits.{bytes_in, fixed_in}
 use Rattle.line_text.specs.Number.{number_in}
-use Rattle.history_words.specs.Told.{painted}
+use Rattle.nvme_model.specs.EntryBytes.{cqe_fields}
+use Rattle.history_words.specs.Completions.{completion_told}
+use Rattle.history_words.specs.Told.{painted, read_told}
 use Rattle.history_words.specs.declared.paint.Paint.{Paint}
 
 -- why a step is refused, by the number of the refusal
@@ -53,14 +57,53 @@ abbrev pub refusal_told : Option ℕ → Option (List ℕ)
 refusal_told None = None
 refusal_told (Some n) = refused_told n
 
+-- a completion that was reaped, with what was read
+unfoldable pub reaped_told : ℕ → List ℕ → List ℕ → List ℕ
+reaped_told queue cqe payload =
+    concat (codes "reap " ∷ decimal queue ∷ codes ": " ∷ completion_told (cqe_fields cqe) ∷ read_told payload ∷ [])
+
+-- what was reaped, where all of it is there
+abbrev pub seen_told : Option ℕ → (cqe payload : Option (List ℕ)) → Option (List ℕ)
+seen_told (Some queue) (Some cqe) (Some payload) = Some (reaped_told queue cqe payload)
+seen_told _ _ _ = None
+
+-- a refusal, where one word says its number
+unfoldable pub refusal_in : List (List ℕ) → Option (List ℕ)
+refusal_in (number ∷ []) = refusal_told (number_in 64 number)
+refusal_in words = None
+
+-- a block, where two words say its number and what lies there
+unfoldable pub volume_in : List (List ℕ) → Option (List ℕ)
+volume_in (lba ∷ block ∷ []) = volume_told (number_in 64 lba) block
+volume_in words = None
+
+-- what was reaped of this queue, where two words say that
+unfoldable pub reaped_from : List ℕ → List (List ℕ) → Option (List ℕ)
+reaped_from queue (cqe ∷ payload ∷ []) =
+    seen_told (number_in 16 queue) (fixed_in 16 (bytes_in cqe)) (data_in 512 payload)
+reaped_from queue words = None
+
+-- what was reaped, where three words say that
+unfoldable pub reaped_in : List (List ℕ) → Option (List ℕ)
+reaped_in [] = None
+reaped_in (queue ∷ words) = reaped_from queue words
+
 -- what is told of these words
 unfoldable pub beside_in : List (List ℕ) → Option (List ℕ)
-beside_in (kind ∷ number ∷ []) =
-    if bytes_eq kind (codes "refused") then refusal_told (number_in 64 number) else None
-beside_in (kind ∷ lba ∷ block ∷ []) =
-    if bytes_eq kind (codes "medium") then volume_told (number_in 64 lba) block else None
-beside_in words = None
+beside_in [] = None
+beside_in (kind ∷ words) =
+    if bytes_eq kind (codes "refused") then refusal_in words
+    else if bytes_eq kind (codes "medium") then volume_in words
+    else if bytes_eq kind (codes "reap") then reaped_in words
+    else None
+
+-- the number of the colour of such a line: that of a Reap of a history, where it is one
+abbrev pub beside_color : List (List ℕ) → List ℕ
+beside_color [] = codes "37"
+beside_color (kind ∷ words) = if bytes_eq kind (codes "reap") then codes "31" else codes "37"
 
 -- what is told of such a line; None where it is none
 abbrev pub beside_painted : Paint → List ℕ → Option (List ℕ)
-beside_painted paint line = option_map (painted paint (codes "37")) (beside_in (slice_split (λ b. b == 32) line))
+beside_painted paint line =
+    let words = slice_split (λ b. b == 32) line in
+    option_map (painted paint (beside_color words)) (beside_in words)

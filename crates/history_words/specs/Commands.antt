@@ -3,7 +3,7 @@ use Rattle.std.specs.Prelude.{List, None, Option, Some, [], codes, decimal, flat
 use Rattle.std.specs.List.{concat}
 use Rattle.hex.specs.Hex.{encode_upper}
 use Rattle.nvme_model.specs.Commands.{is_compare, is_flush, is_read, is_write, is_write_zeroes}
-use Rattle.nvme_model.specs.EntryBytes.{Sqe, blocks, slba, sqe_fields}
+use Rattle.nvme_model.specs.EntryBytes.{Sqe, block_count, slba, sqe_fields}
 use Rattle.nvme_model.specs.Operations.{op_of_fields}
 use Rattle.nvme_model.specs.declared.operation.Op.{Op}
 use Rattle.nvme_model.specs.declared.submission.Submission.{Submission}
@@ -20,13 +20,13 @@ command_name e =
     else concat (codes "opcode " ∷ encode_upper (e.opcode ∷ []) ∷ codes "h" ∷ [])
 
 -- the blocks of a command that does something with them
-abbrev pub range_of : Option Op → List ℕ → List ℕ
-range_of None blocks = []
-range_of (Some op) blocks = codes " of " ++ blocks
+abbrev pub range_words : Option Op → List ℕ → List ℕ
+range_words None block_count = []
+range_words (Some op) block_count = codes " of " ++ block_count
 
 -- the blocks of a command that has some
 abbrev pub range_told : Sqe → List ℕ
-range_told e = range_of (op_of_fields e) (blocks_told (slba e) (blocks e))
+range_told e = range_words (op_of_fields e) (blocks_told (slba e) (block_count e))
 
 -- how a command is fused, where it is
 abbrev pub fuse_told : ℕ → List ℕ

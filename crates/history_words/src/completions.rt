@@ -33,7 +33,7 @@ fn reserved_text(alloc: Global, cqe: &[u8; 16]) -> Result<String, NoMemory>
     )
 }
 
-/// A completion in words: its command's identifier, its status by name and numbers, its submission queue, SQHD and its
+/// A completion in words: its command's CID, its status by name and numbers, its submission queue, SQHD and its
 /// phase; and each field that has to be zero, where it isn't.
 ///
 /// # Errors

@@ -142,7 +142,7 @@ fn block_text(alloc: Global, line: &BlockLine) -> Result<String, NoMemory>
 }
 
 // How many bytes were read, where some were.
-fn read_text(alloc: Global, payload: &[u8]) -> Result<String, NoMemory>
+pub(crate) fn read_text(alloc: Global, payload: &[u8]) -> Result<String, NoMemory>
     ensures value { IfOk result (λ text. string_bytes text ≡ read_told payload.now) }
 {
     if payload.is_empty() {

@@ -41,13 +41,13 @@ module _ {g : Ghosts SharedPort} where
       record {
         one = record {
           first = x.first;
-          careful = x.careful;
+          slot_rules = x.slot_rules;
           begins = begins;
           whole = ap (λ (k : ℕ). places k s) saw.follows.view.same_pass ∙ sym saw.mine_stay;
         };
         two = record {
           first = y.first;
-          careful = y.careful;
+          slot_rules = y.slot_rules;
           begins = ([], same);
           whole = ap (places (number two.port.pass)) same;
         };

@@ -3,9 +3,9 @@ use Rattle.std.specs.Prelude.{IfSome, Option, ℕ, ◌≡◌}
 use Rattle.std.specs.declared.snapshot.Snapshot.{Snapshot}
 use Rattle.nvme_model.specs.declared.array.Range.{Range}
 use Rattle.meet_lock.specs.Passes.{number, passes_of}
-use Rattle.driver_rows.specs.Benches.{IsHostOf, IsServerOf}
+use Rattle.driver_rows.specs.Benches.{IsBenchHost, IsServerOf}
 use Rattle.driver_rows.specs.declared.bench.Bench.{Bench}
-use Rattle.driver_rows.specs.declared.bench.Host.{Host}
+use Rattle.driver_rows.specs.declared.bench.BenchHost.{BenchHost}
 use Rattle.driver_rows.specs.declared.bench.Server.{Server}
 use Rattle.slot_alloc.specs.Claims.{IsHeldBy}
 use Rattle.slot_alloc.specs.declared.claim.Claim.{Claim}
@@ -17,8 +17,8 @@ abbrev pub one_slot : Range
 one_slot = record { slba = 0; blocks = 1 }
 
 -- Host k of the bench, with pass k, on queue k.
-pub record IsAsker (b : Bench) (k : ℕ) (h : Host) : Type 0 where
-  pub of : IsHostOf b h
+pub record IsAsker (b : Bench) (k : ℕ) (h : BenchHost) : Type 0 where
+  pub of : IsBenchHost b h
   pub host : IsHost b.config one_slot k k k h.driver
 
 -- The server of the bench, with the last of three passes.
@@ -29,5 +29,5 @@ pub record IsThird (b : Bench) (s : Server) : Type 0 where
   pub three : passes_of s.pass ≡ 3
 
 -- the claim, if it is one, is held by the host's driver
-abbrev pub Holds : Host → Option (Snapshot Claim) → Type 0
-Holds h held = IfSome held (λ c. IsHeldBy h.driver c.value)
+abbrev pub HoldsClaim : BenchHost → Option (Snapshot Claim) → Type 0
+HoldsClaim h held = IfSome held (λ c. IsHeldBy h.driver c.value)

@@ -1,16 +1,16 @@
 //! Hosts that ask for the one slot, and a server.
 
 ghost use Rattle.std.specs.Prelude.{IfOk, IfSome, [], vec_len, ◌≡◌, ◌≤◌, ◌∷◌};
-ghost use Rattle.history.specs.Config.{numbers};
+ghost use Rattle.history.specs.Config.{config_numbers};
 ghost use Rattle.meet_lock.specs.Passes.{number, seen};
-ghost use Rattle.driver_rows.specs.Benches.{AreNumbered, AreOf, IsServerOf};
-ghost use Rattle.holding_example.specs.Holding.{Holds, IsAsker, IsThird, one_slot};
+ghost use Rattle.driver_rows.specs.Benches.{AreNumbered, AreBenchSpares, IsServerOf};
+ghost use Rattle.holding_example.specs.Holding.{HoldsClaim, IsAsker, IsThird, one_slot};
 ghost use Rattle.slot_alloc.specs.Areas.{area};
 ghost use Rattle.slot_alloc.specs.Claims.{IsClaimingOf, IsUnreleased};
 ghost use Rattle.slot_alloc.specs.Progresses.{IsClaimingOn, IsHeldOn, IsUnreleasedOn};
 
 use driver_cas::SharedPort;
-use driver_rows::{Bench, Host, Server, Spares, hand_of, hears, host_of, serves};
+use driver_rows::{Bench, BenchHost, BenchSpares, Server, caller_of, hears, host_of, serves};
 use nvme_model::array::Range;
 use serving_laws::a_server_goes_on;
 use slot_alloc::laws::an_untouched_driver_keeps_its_slots;
@@ -21,7 +21,7 @@ use std::snapshot::Snapshot;
 use std::sync::Wait;
 
 /// What a host holds: its claim, which was left held.
-pub(crate) type Held = Option<Snapshot<Claim>>;
+pub(crate) type HeldClaim = Option<Snapshot<Claim>>;
 
 // A list of one queue.
 fn queues_of(alloc: Global, queue: u16) -> Result<Vec<u16>, NoMemory>
@@ -33,8 +33,8 @@ fn queues_of(alloc: Global, queue: u16) -> Result<Vec<u16>, NoMemory>
 }
 
 // Host h.
-fn asker_of<'a>(alloc: Global, bench: &'a Bench, hand: Server, h: u16) -> Option<Host<'a>>
-    requires hand { IsServerOf bench.now hand × (seen hand.pass ≡ []) × (number hand.pass ≡ h) }
+fn asker_of<'a>(alloc: Global, bench: &'a Bench, caller: Server, h: u16) -> Option<BenchHost<'a>>
+    requires caller { IsServerOf bench.now caller × (seen caller.pass ≡ []) × (number caller.pass ≡ h) }
     requires two { (1 ≤ h) × (h ≤ bench.now.config.pairs) × (bench.now.config.cqs ≡ bench.now.config.pairs) }
     ensures { IfSome result (IsAsker bench.entry.now h) }
 {
@@ -42,26 +42,26 @@ fn asker_of<'a>(alloc: Global, bench: &'a Bench, hand: Server, h: u16) -> Option
         return None;
     };
     let slots = Range { slba: 0, blocks: 1 };
-    host_of(alloc, bench, hand, u32::from(h), slots, h, queues)
+    host_of(alloc, bench, caller, u32::from(h), slots, h, queues)
 }
 
 /// A server with the last of three passes, and hosts 1 and 2; None where memory is refused.
 pub(crate) fn seats_of<'a>(
     alloc: Global,
     bench: &'a Bench,
-    spares: &mut Spares,
-) -> Option<(Server, Host<'a>, Host<'a>)>
-    requires own { AreOf bench.now spares.old }
+    spares: &mut BenchSpares,
+) -> Option<(Server, BenchHost<'a>, BenchHost<'a>)>
+    requires own { AreBenchSpares bench.now spares.old }
     requires three { AreNumbered 3 spares.old × (vec_len spares.old.passes ≡ 3) }
-    requires config { bench.now.config ≡ numbers 8 1 1 0 0 2 4 4 8 2 }
+    requires config { bench.now.config ≡ config_numbers 8 1 1 0 0 2 4 4 8 2 }
     ensures server { IfSome result (λ s. IsThird bench.entry.now s.0) }
     ensures one { IfSome result (λ s. IsAsker bench.entry.now 1 s.1) }
     ensures two { IfSome result (λ s. IsAsker bench.entry.now 2 s.2) }
 {
-    let server = hand_of(bench, spares)?;
+    let server = caller_of(bench, spares)?;
     a_server_goes_on();
-    let second = hand_of(bench, spares)?;
-    let first = hand_of(bench, spares)?;
+    let second = caller_of(bench, spares)?;
+    let first = caller_of(bench, spares)?;
     let one = asker_of(alloc, bench, first, 1)?;
     let two = asker_of(alloc, bench, second, 2)?;
     Some((server, one, two))
@@ -71,7 +71,7 @@ pub(crate) fn seats_of<'a>(
 fn begins<'a>(
     _bench: &Bench,
     slots: &Slots,
-    host: &mut Host<'a>,
+    host: &mut BenchHost<'a>,
     _h: u16,
 ) -> Option<Claiming<SharedPort<'a>>>
     requires host { IsAsker _bench.now _h host.old }
@@ -89,7 +89,7 @@ fn begins<'a>(
 fn listens<'a, R: Wait>(
     rt: &R,
     bench: &Bench,
-    host: &mut Host<'a>,
+    host: &mut BenchHost<'a>,
     _h: u16,
     _claiming: &Claiming<SharedPort<'a>>,
 )
@@ -107,7 +107,7 @@ fn listens<'a, R: Wait>(
 // Asks what has come of it.
 fn polls<'a>(
     _bench: &Bench,
-    host: &mut Host<'a>,
+    host: &mut BenchHost<'a>,
     _h: u16,
     claiming: Claiming<SharedPort<'a>>,
 ) -> Progress<SharedPort<'a>>
@@ -127,15 +127,15 @@ fn polls<'a>(
 // Polls a claim at most so many times; what the host holds then.
 fn answered<'a>(
     bench: &Bench,
-    host: &mut Host<'a>,
+    host: &mut BenchHost<'a>,
     h: u16,
     claiming: Claiming<SharedPort<'a>>,
     most: u32,
-) -> Held
+) -> HeldClaim
     requires host { IsAsker bench.now h host.old }
     requires claiming { IsClaimingOf host.old.driver claiming × IsUnreleased host.old.driver claiming }
     ensures host { IsAsker bench.now h host.new }
-    ensures held { Holds host.new result }
+    ensures held { HoldsClaim host.new result }
 {
     let mut claiming = claiming;
     for _ in 0..most {
@@ -159,15 +159,15 @@ pub(crate) fn asks<R: Wait>(
     bench: &Bench,
     server: &mut Server,
     slots: &Slots,
-    host: &mut Host<'_>,
+    host: &mut BenchHost<'_>,
     h: u16,
-) -> Held
+) -> HeldClaim
     requires host { IsAsker bench.now h host.old }
     requires server { IsThird bench.now server.old }
     requires slots { area slots.now ≡ one_slot }
     ensures host { IsAsker bench.now h host.new }
     ensures server { IsThird bench.now server.new }
-    ensures held { Holds host.new result }
+    ensures held { HoldsClaim host.new result }
 {
     let claiming = begins(bench, slots, host, h)?;
     serves(rt, bench, server, h);
@@ -178,15 +178,15 @@ pub(crate) fn asks<R: Wait>(
 /// Both hosts have seen one history; None where another caller had the controller. What they hold they hold still.
 pub(crate) fn meets(
     _bench: &Bench,
-    one: &mut Host<'_>,
-    two: &mut Host<'_>,
-    _held: &(Held, Held),
+    one: &mut BenchHost<'_>,
+    two: &mut BenchHost<'_>,
+    _held: &(HeldClaim, HeldClaim),
 ) -> Option<()>
     requires hosts { IsAsker _bench.now 1 one.old × IsAsker _bench.now 2 two.old }
-    requires held { Holds one.old _held.now.0 × Holds two.old _held.now.1 }
+    requires held { HoldsClaim one.old _held.now.0 × HoldsClaim two.old _held.now.1 }
     ensures one { IsAsker _bench.now 1 one.new }
     ensures two { IsAsker _bench.now 2 two.new }
-    ensures held { Holds one.new _held.now.0 × Holds two.new _held.now.1 }
+    ensures held { HoldsClaim one.new _held.now.0 × HoldsClaim two.new _held.now.1 }
     ensures met { IfSome result (λ _. seen one.new.driver.port.pass ≡ seen two.new.driver.port.pass) }
 {
     let (first, second) = (Snapshot::of(&one.driver), Snapshot::of(&two.driver));

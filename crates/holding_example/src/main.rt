@@ -2,12 +2,12 @@
 #![tactic(auto)]
 
 ghost use Rattle.std.specs.Prelude.{IfSome, false, ◌&&◌, ◌≡◌};
-ghost use Rattle.holding_example.specs.Holding.{Holds, IsAsker, IsThird};
+ghost use Rattle.holding_example.specs.Holding.{HoldsClaim, IsAsker, IsThird};
 
 mod asking;
 
-use asking::{Held, asks, meets, seats_of};
-use driver_rows::{Bench, Host, Server, small_bench};
+use asking::{HeldClaim, asks, meets, seats_of};
+use driver_rows::{Bench, BenchHost, Server, small_bench};
 use serving_laws::{a_server_goes_on, what_a_server_has_seen};
 use slot_alloc::Slots;
 use slot_alloc::laws::an_untouched_driver_keeps_its_slots;
@@ -20,13 +20,13 @@ use std::sync::Wait;
 fn who_holds(
     bench: &Bench,
     server: &mut Server,
-    one: &mut Host<'_>,
-    two: &mut Host<'_>,
-    held: &(Held, Held),
+    one: &mut BenchHost<'_>,
+    two: &mut BenchHost<'_>,
+    held: &(HeldClaim, HeldClaim),
 ) -> Option<(bool, bool)>
     requires server { IsThird bench.now server.old }
     requires hosts { IsAsker bench.now 1 one.old × IsAsker bench.now 2 two.old }
-    requires held { Holds one.old held.now.0 × Holds two.old held.now.1 }
+    requires held { HoldsClaim one.old held.now.0 × HoldsClaim two.old held.now.1 }
     ensures { IfSome result (λ h. (h.0 && h.1) ≡ false) }
 {
     meets(bench, one, two, held)?;

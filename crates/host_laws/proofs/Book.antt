@@ -19,7 +19,7 @@ use Rattle.nvme_model.specs.declared.submission.Submission.{Submission}
 use Rattle.nvme_model.proofs.Written.{clash}
 use Rattle.host_laws.specs.Beside.{IsBeside}
 use Rattle.host_laws.specs.Book.{Book, IsBook, cid_of, empty_book, with_entry, without_entry}
-use Rattle.host_laws.specs.Calls.{IsWaiting, ReapAnswers, reaped_post}
+use Rattle.host_laws.specs.Calls.{IsEntryWaiting, ReapAnswers, reaped_post}
 use Rattle.host_laws.proofs.PostedAnswers.{reaped_posted_at}
 use Rattle.host_laws.proofs.Beside.{published_beside, reaped_post_beside}
 use Rattle.host_laws.proofs.Elements.{get_after, get_append, get_cases, same_some}
@@ -65,12 +65,12 @@ abbrev Right : ConfigNumbers → ℕ → (ℕ → List Submission) → (ℕ → 
 Right c n entries reaped book = (q cid j : ℕ) → completion_queue c q ≡ n
     → (book q cid ≡ Some j) ↔ WaitingIn entries reaped q cid j
 
-waiting_in : (c : ConfigNumbers) (past : Past) (q cid j : ℕ) → IsWaiting c past q cid j
+waiting_in : (c : ConfigNumbers) (past : Past) (q cid j : ℕ) → IsEntryWaiting c past q cid j
     → WaitingIn (published_entries past) (reaped_post c past) q cid j
 waiting_in c past q cid j w = record { entry = w.entry; published = w.published; says = w.says; unreaped = w.unreaped }
 
 in_waiting : (c : ConfigNumbers) (past : Past) (q cid j : ℕ)
-    → WaitingIn (published_entries past) (reaped_post c past) q cid j → IsWaiting c past q cid j
+    → WaitingIn (published_entries past) (reaped_post c past) q cid j → IsEntryWaiting c past q cid j
 in_waiting c past q cid j w = record { entry = w.entry; published = w.published; says = w.says; unreaped = w.unreaped }
 
 book_right : (c : ConfigNumbers) (past : Past) (n : ℕ) (book : Book) → IsBook c past n book
@@ -189,7 +189,7 @@ right_more c n entries reaped book q m s at none free b = λ r i j e. (to_entry 
 pub book_empty : (c : ConfigNumbers) (past : Past) (n : ℕ)
     → ((q : ℕ) → completion_queue c q ≡ n → published_entries past q ≡ []) → IsBook c past n empty_book
 book_empty c past n f = λ q cid j e. (
-  λ x. no_some j (IsWaiting c past q cid j) x,
+  λ x. no_some j (IsEntryWaiting c past q cid j) x,
   λ w. let g : None ≡ Some w.entry = sym (ap (λ (xs : List Submission). slice_get xs j) (f q e)) ∙ w.published in
       absurd cc,
 )
@@ -259,8 +259,8 @@ pub book_reaped : (c : ConfigNumbers) (past : Past) (r : ReapLine) (book : Book)
     → IsBook c (Entry.Reap r ∷ past) r.queue (without_entry book x.queue (cid_of x.entry))
 book_reaped c past r book x h b = λ q cid j e. (to_entry q cid j e, of_entry q cid j e)
   where
-    kept : (q cid j : ℕ) → (w : IsWaiting c past q cid j) → (eqb q x.queue && eqb cid (cid_of x.entry)) ≡ false
-        → IsWaiting c (Entry.Reap r ∷ past) q cid j
+    kept : (q cid j : ℕ) → (w : IsEntryWaiting c past q cid j) → (eqb q x.queue && eqb cid (cid_of x.entry)) ≡ false
+        → IsEntryWaiting c (Entry.Reap r ∷ past) q cid j
     kept q cid j w k =
         record {
           entry = w.entry;
@@ -276,15 +276,15 @@ book_reaped c past r book x h b = λ q cid j e. (to_entry q cid j e, of_entry q 
         }
 
     to_entry : (q cid j : ℕ) → completion_queue c q ≡ r.queue
-        → without_entry book x.queue (cid_of x.entry) q cid ≡ Some j → IsWaiting c (Entry.Reap r ∷ past) q cid j
+        → without_entry book x.queue (cid_of x.entry) q cid ≡ Some j → IsEntryWaiting c (Entry.Reap r ∷ past) q cid j
     to_entry q cid j e y = go (eqb q x.queue && eqb cid (cid_of x.entry)) refl y
       where
         go : (k : Bool) → (eqb q x.queue && eqb cid (cid_of x.entry)) ≡ k → cond k None (book q cid) ≡ Some j
-            → IsWaiting c (Entry.Reap r ∷ past) q cid j
-        go true k z = no_some j (IsWaiting c (Entry.Reap r ∷ past) q cid j) z
+            → IsEntryWaiting c (Entry.Reap r ∷ past) q cid j
+        go true k z = no_some j (IsEntryWaiting c (Entry.Reap r ∷ past) q cid j) z
         go false k z = kept q cid j ((b q cid j e).0 z) k
 
-    of_entry : (q cid j : ℕ) → completion_queue c q ≡ r.queue → IsWaiting c (Entry.Reap r ∷ past) q cid j
+    of_entry : (q cid j : ℕ) → completion_queue c q ≡ r.queue → IsEntryWaiting c (Entry.Reap r ∷ past) q cid j
         → without_entry book x.queue (cid_of x.entry) q cid ≡ Some j
     of_entry q cid j e w =
         let none = none_if (reaped_post c past q j)

@@ -6,7 +6,7 @@ use Rattle.std.proofs.Common.{leb-true, lt-ltb, ltb-true, slice_get}
 use Rattle.std.proofs.lemmas.Bool.{and_parts, and_from, cases_Bool, cases_lt}
 use Rattle.nvme_model.specs.declared.config.ConfigNumbers.{ConfigNumbers}
 use Rattle.nvme_model.specs.Statuses.{success, compare_failure, is_success}
-use Rattle.nvme_model.specs.Verdict.{taken, passed}
+use Rattle.nvme_model.specs.Verdict.{taken_entries, passed}
 use Rattle.nvme_model.specs.History.{Past}
 use Rattle.nvme_model.specs.Tickets.{Ticket, tickets, command, posts_of}
 use Rattle.nvme_model.specs.Queues.{published_entries}
@@ -35,12 +35,13 @@ pub record Takes (past : Past) (t q j : ℕ) : Type 0 where
   pub known : t ≤ tickets past
   pub queue : (Tickets.ticket past t).queue ≡ q
   pub low : fetched_before past t ≤ j
-  pub high : j < fetched_before past t + taken (Tickets.ticket past t).verdict
+  pub high : j < fetched_before past t + taken_entries (Tickets.ticket past t).verdict
 
 pub takes_parts : (past : Past) (t q j : ℕ) → takes past t q j ≡ true → Takes past t q j
 takes_parts past t q j h =
     let a = and_parts (nat_le 1 t && nat_le t (tickets past) && eqb (Tickets.ticket past t).queue q
-    && nat_le (fetched_before past t) j) (nat_lt j (fetched_before past t + taken (Tickets.ticket past t).verdict))
+    && nat_le (fetched_before past t) j)
+    (nat_lt j (fetched_before past t + taken_entries (Tickets.ticket past t).verdict))
     h in
     let b = and_parts (nat_le 1 t && nat_le t (tickets past) && eqb (Tickets.ticket past t).queue q)
     (nat_le (fetched_before past t) j) a.0 in
@@ -55,13 +56,13 @@ takes_parts past t q j h =
     }
 
 pub takes_from : (past : Past) (t q j n : ℕ) → 1 ≤ t → t ≤ tickets past → (Tickets.ticket past t).queue ≡ q
-    → taken (Tickets.ticket past t).verdict ≡ n → fetched_before past t ≤ j → j < fetched_before past t + n
+    → taken_entries (Tickets.ticket past t).verdict ≡ n → fetched_before past t ≤ j → j < fetched_before past t + n
     → takes past t q j ≡ true
 takes_from past t q j n a b d m e f =
     and_from _ _ (and_from _ _
     (and_from _ _ (and_from _ _ (le-leb 1 t a) (le-leb t (tickets past) b))
     (eq-eqb (Tickets.ticket past t).queue q d)) (le-leb (fetched_before past t) j e))
-    (lt-ltb j (fetched_before past t + taken (Tickets.ticket past t).verdict) (omega (arith, f, m)))
+    (lt-ltb j (fetched_before past t + taken_entries (Tickets.ticket past t).verdict) (omega (arith, f, m)))
 
 pub takes_later : (c : ConfigNumbers) (later past : Past) (t q j : ℕ) → IsLegal c (later ++ past)
     → takes past t q j ≡ true → takes (later ++ past) t q j ≡ true
@@ -69,9 +70,9 @@ takes_later c later past t q j h k =
     let x = takes_parts past t q j k in
     let same = ticket_later c later past t h x.known in
     let number = fetched_before_later c later past t h x.known in
-    takes_from (later ++ past) t q j (taken (Tickets.ticket past t).verdict) x.some
+    takes_from (later ++ past) t q j (taken_entries (Tickets.ticket past t).verdict) x.some
     (omega (arith, x.known, tickets_later later past)) (ap (λ (z : Ticket). z.queue) same ∙ x.queue)
-    (ap (λ (z : Ticket). taken z.verdict) same) (omega (arith, number, x.low)) (omega (arith, number, x.high))
+    (ap (λ (z : Ticket). taken_entries z.verdict) same) (omega (arith, number, x.low)) (omega (arith, number, x.high))
 
 -- ---- the entry that a Post is for
 
@@ -103,7 +104,7 @@ pub record Second (past : Past) (t j : ℕ) (s : Submission) : Type 0 where
   pub posts : posts_of past t ≡ 1
   pub number : suc (fetched_before past t) ≡ j
   pub entry : command (Tickets.ticket past t) 1 ≡ s
-  pub two : taken (Tickets.ticket past t).verdict ≡ 2
+  pub two : taken_entries (Tickets.ticket past t).verdict ≡ 2
 
 pub which : (c : ConfigNumbers) (past : Past) (q j : ℕ) (p : PostLine) (s : Submission) (f : PostOf c past q j p)
     → slice_get (published_entries past q) j ≡ Some s
@@ -114,7 +115,7 @@ which c past q j p s f e =
     let all : Past = f.at.later ++ (Entry.Post p ∷ before) in
     let e2 : slice_get (published_entries all q) j ≡ Some s =
     subst (λ (x : Past). slice_get (published_entries x q) j ≡ Some s) f.at.is e in
-    let below : posts_of before t < taken (Tickets.ticket before t).verdict =
+    let below : posts_of before t < taken_entries (Tickets.ticket before t).verdict =
     subst (λ (n : ℕ). posts_of before t < n) f.is.taken.count (ltb-true _ _ f.is.in_flight) in
     let first = published_later f.at.later (Entry.Post p ∷ before) q (fetched_before before t)
     (command (Tickets.ticket before t) 0)
@@ -130,7 +131,7 @@ which c past q j p s f e =
                 (ap (slice_get (published_entries all q)) (sym number) ∙ first) e2;
           })
       | inr z ↦
-          let two : taken (Tickets.ticket before t).verdict ≡ 2 =
+          let two : taken_entries (Tickets.ticket before t).verdict ≡ 2 =
           omega (arith, below, z, taken_two (Tickets.ticket before t).verdict) in
           let number : suc (fetched_before before t) ≡ j = omega (arith, f.at.number, below, two, z) in
           let second = published_later f.at.later (Entry.Post p ∷ before) q (suc (fetched_before before t))
@@ -184,7 +185,7 @@ pair_by Verdict.Single a b s p k f e = clash (eqb (fuse s) 2) f (ap (λ (x : Sub
 pair_by Verdict.Pair a b s p k f e =
     clash (eqb (fuse s) 2) f (ap (λ (x : Submission). eqb (fuse x) 2) (sym e) ∙ one_not_two (fuse a) k.first)
 
-pub two_pair : (v : Verdict) → passed v ≡ true → taken v ≡ 2 → v ≡ Verdict.Pair
+pub two_pair : (v : Verdict) → passed v ≡ true → taken_entries v ≡ 2 → v ≡ Verdict.Pair
 two_pair Verdict.Single p e = absurd (omega (arith, e))
 two_pair Verdict.Pair p e = refl
 two_pair (Verdict.SingleFailed s) p e = clash false p refl
@@ -200,7 +201,8 @@ first_pair (Verdict.SingleFailed x) a b s p k f e = clash false p refl
 first_pair (Verdict.PairFailed x y) a b s p k f e = clash false p refl
 
 -- the second command of a ticket has FUSE 10b
-pub second_fuse : (v : Verdict) (a b s : Submission) → taken v ≡ 2 → VerdictIs v a b → b ≡ s → eqb (fuse s) 2 ≡ true
+pub second_fuse : (v : Verdict) (a b s : Submission) → taken_entries v ≡ 2 → VerdictIs v a b → b ≡ s
+    → eqb (fuse s) 2 ≡ true
 second_fuse Verdict.Single a b s t k e = absurd (omega (arith, t))
 second_fuse (Verdict.SingleFailed x) a b s t k e = absurd (omega (arith, t))
 second_fuse Verdict.Pair a b s t k e = ap (λ (x : Submission). eqb (fuse x) 2) (sym e) ∙ k.second
@@ -230,7 +232,7 @@ compare_passes c past t i v a b e k h = elim (cases_Bool (passed v)) [
 
 pub record Published (past : Past) (t q j : ℕ) : Type 0 where
   pub first : slice_get (published_entries past q) j ≡ Some (command (Tickets.ticket past t) 0)
-  pub second : taken (Tickets.ticket past t).verdict ≡ 2
+  pub second : taken_entries (Tickets.ticket past t).verdict ≡ 2
       → slice_get (published_entries past q) (suc j) ≡ Some (command (Tickets.ticket past t) 1)
 
 pub published_at : (c : ConfigNumbers) (past : Past) (t q j : ℕ) → IsLegal c past → 1 ≤ t → t ≤ tickets past

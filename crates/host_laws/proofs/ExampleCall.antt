@@ -17,7 +17,7 @@ use Rattle.nvme_model.specs.declared.submission.Submission.{Submission}
 use Rattle.nvme_model.proofs.Beginnings.{earlier}
 use Rattle.host_laws.specs.Beside.{IsBeside}
 use Rattle.host_laws.specs.Book.{Book, IsBook, cid_of, with_entry, without_entry}
-use Rattle.host_laws.specs.Calls.{takes, IsFused, ReapAnswers, PairSwaps, reaped_post, status_in}
+use Rattle.host_laws.specs.Calls.{takes, IsFused, ReapAnswers, PairSwaps, reaped_post, cqe_status}
 use Rattle.host_laws.specs.Batches.{pair_on}
 use Rattle.host_laws.proofs.Book.{book_beside, book_found, book_pair, book_reaped, next_numbers}
 use Rattle.host_laws.proofs.Elements.{same_some}
@@ -55,7 +55,7 @@ pub record Learnt (c : ConfigNumbers) (n q : ℕ) (start later : Past) (a b : Su
 -- the completion has the second entry's queue and CID, and says success
 pub learnt : (c : ConfigNumbers) (n q : ℕ) (start later : Past) (a b : Submission) (r : ReapLine) (book : Book)
     (k : Call c n q start later a b r book) (x : ReapAnswers c (later ++ (pair_on q a b ∷ start)) r)
-    → x.queue ≡ q → cid_of x.entry ≡ cid_of b → is_success (status_in r.cqe) ≡ true
+    → x.queue ≡ q → cid_of x.entry ≡ cid_of b → is_success (cqe_status r.cqe) ≡ true
     → Learnt c n q start later a b r book
 learnt c n q start later a b r book k x on cid y =
     let j = length (published_entries start q) in
@@ -85,7 +85,7 @@ learnt c n q start later a b r book k x on cid y =
     } in
     let f = fused_later (Entry.Reap r ∷ later) begin q j fused in
     let w = pair_swaps c all q j x.post f.second k.legal f.second_published f.second_fuse reaped
-    (ap (λ (bytes : List ℕ). is_success (status_in bytes)) x.cqe ∙ y) in
+    (ap (λ (bytes : List ℕ). is_success (cqe_status bytes)) x.cqe ∙ y) in
     let split : all ≡ (Entry.Reap r ∷ (later ++ (pair_on q a b ∷ []))) ++ start =
     ap (λ (p : Past). Entry.Reap r ∷ p) (sym (append_assoc later (pair_on q a b ∷ []) start)) in
     record {

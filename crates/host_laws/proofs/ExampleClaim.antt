@@ -15,7 +15,7 @@ use Rattle.nvme_model.specs.declared.entry.PostLine.{PostLine}
 use Rattle.nvme_model.specs.declared.submission.Submission.{Submission}
 use Rattle.host_laws.specs.Beside.{IsSole}
 use Rattle.host_laws.specs.Book.{IsAlwaysApart}
-use Rattle.host_laws.specs.Calls.{IsProperPair, reaped_post, status_in}
+use Rattle.host_laws.specs.Calls.{IsProperPair, reaped_post, cqe_status}
 use Rattle.host_laws.specs.Batches.{pair_line, pair_on}
 use Rattle.host_laws.specs.Discipline.{others_keep}
 use Rattle.host_laws.specs.Claims.{IsClaim, IsRelease, IsWon, all_drawn, claim_of, claims_only_on, is_released_on}
@@ -80,7 +80,7 @@ pub held : (c : ConfigNumbers) (slots : Range) (q : ℕ) (later start : Past) (a
     → IsLegal c (later ++ (pair_on q a b ∷ start)) → disciplined c slots (later ++ (pair_on q a b ∷ start)) ≡ true
     → has_block slots (lba_of a) ≡ true → IsClaim a b n
     → reaped_post c (later ++ (pair_on q a b ∷ start)) q (suc (length (published_entries start q))) ≡ Some p
-    → is_success (status_in p.cqe) ≡ true
+    → is_success (cqe_status p.cqe) ≡ true
     → is_released_on c (later ++ (pair_on q a b ∷ start)) (completion_queue c q) (lba_of a) n ≡ false
     → Held c (later ++ (pair_on q a b ∷ start)) (claim_of start q a n)
 held c slots q later start a b n p h d v x r y u =
@@ -118,7 +118,7 @@ pub released : (c : ConfigNumbers) (slots : Range) (q : ℕ) (later past : Past)
     → has_block slots (lba_of a) ≡ true → IsRelease a b n → IsAlwaysApart c (later ++ (pair_on q a b ∷ past)) q
     → IsProperPair (later ++ (pair_on q a b ∷ past)) q (length (published_entries past q))
     → reaped_post c (later ++ (pair_on q a b ∷ past)) q (suc (length (published_entries past q))) ≡ Some p
-    → is_success (status_in p.cqe) ≡ true
+    → is_success (cqe_status p.cqe) ≡ true
 released c slots q later past a b n p h d v x s y r =
     let w = release_of past q a n in
     release_succeeds c slots (later ++ (pair_on q a b ∷ past)) w y.first y.second p h d

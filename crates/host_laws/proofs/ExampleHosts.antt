@@ -16,7 +16,7 @@ use Rattle.nvme_model.specs.declared.status.Status.{Status}
 use Rattle.nvme_model.specs.declared.step.Step.{Step}
 use Rattle.nvme_model.specs.declared.submission.Submission.{Submission}
 use Rattle.host_laws.specs.Beside.{is_beside}
-use Rattle.host_laws.specs.Calls.{reaped_post, says_yes, status_in, takes}
+use Rattle.host_laws.specs.Calls.{reaped_post, says_yes, cqe_status, takes}
 use Rattle.host_laws.specs.Discipline.{others_keep, pass_keeps}
 use Rattle.host_laws.specs.Claims.{all_drawn, claims_only_on, is_released_on}
 
@@ -56,7 +56,7 @@ free = served 3 1 (swap (slot_block (name 1 1)) zeros) held
 
 -- the status that was reaped for entry j of submission queue q
 abbrev status_for : Past → ℕ → ℕ → Option Status
-status_for past q j = option_map (λ (p : PostLine). status_in p.cqe) (reaped_post four past q j)
+status_for past q j = option_map (λ (p : PostLine). cqe_status p.cqe) (reaped_post four past q j)
 
 pub free_legal : legal four free ≡ true
 free_legal = refl

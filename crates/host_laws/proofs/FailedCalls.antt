@@ -5,13 +5,13 @@ use Rattle.std.proofs.Common.{Option, Some, None, inl, inr, ◌⊎◌, arith, eq
 use Rattle.std.proofs.lemmas.Bool.{or_right, cases_Bool}
 use Rattle.nvme_model.specs.declared.config.ConfigNumbers.{ConfigNumbers}
 use Rattle.nvme_model.specs.Statuses.{success, compare_failure, is_success, failed_fused, same_status}
-use Rattle.nvme_model.specs.Verdict.{taken, passed}
+use Rattle.nvme_model.specs.Verdict.{taken_entries, passed}
 use Rattle.nvme_model.specs.History.{Past}
 use Rattle.nvme_model.specs.Tickets.{Ticket, command, first_fields, posts_of}
 use Rattle.nvme_model.specs.Queues.{published_entries}
 use Rattle.nvme_model.specs.Operations.{op, op_by}
 use Rattle.nvme_model.specs.Open.{blocks_of}
-use Rattle.host_laws.specs.Calls.{reaped_post, status_in, FailsChecks, is_fault, is_known}
+use Rattle.host_laws.specs.Calls.{reaped_post, cqe_status, FailsChecks, is_fault, is_known}
 use Rattle.nvme_model.specs.Owed.{owed, owed_after, owed_by, some_no, all_done, all_ended}
 use Rattle.nvme_model.specs.Legal.{IsLegal}
 use Rattle.nvme_model.specs.declared.operation.Op.{Op}
@@ -75,8 +75,8 @@ failed_idle c past t h p =
 -- another status than success and 2/85, of an entry that is no second of a pair
 pub failed_checks : (c : ConfigNumbers) (past : Past) (q j : ℕ) (p : PostLine) (s : Submission) → IsLegal c past
     → slice_get (published_entries past q) j ≡ Some s → eqb (fuse s) 2 ≡ false
-    → reaped_post c past q j ≡ Some p → is_success (status_in p.cqe) ≡ false
-    → same_status (status_in p.cqe) compare_failure ≡ false → FailsChecks past q j
+    → reaped_post c past q j ≡ Some p → is_success (cqe_status p.cqe) ≡ false
+    → same_status (cqe_status p.cqe) compare_failure ≡ false → FailsChecks past q j
 failed_checks c past q j p s h e two r y z =
     let f = post_of c past q j p h r in
     let k = Tickets.ticket f.at.before p.ticket in
@@ -85,11 +85,11 @@ failed_checks c past q j p s h e two r y z =
           let there = seen c past q j p f h in
           let failed : passed k.verdict ≡ false = elim (cases_Bool (passed k.verdict)) [
             | inr n ↦ n
-            | inl ok ↦ elim (first_passed c f.at.before p.ticket k k.verdict (status_in p.cqe) ok
-                (subst (λ (i : ℕ). slice_get (owed c f.at.before p.ticket) i ≡ Some (status_in p.cqe)) x.posts
+            | inl ok ↦ elim (first_passed c f.at.before p.ticket k k.verdict (cqe_status p.cqe) ok
+                (subst (λ (i : ℕ). slice_get (owed c f.at.before p.ticket) i ≡ Some (cqe_status p.cqe)) x.posts
                 f.is.owed)) [
-                  | inl a ↦ clash (is_success (status_in p.cqe)) (ap is_success a) y
-                  | inr a ↦ clash (same_status (status_in p.cqe) compare_failure)
+                  | inl a ↦ clash (is_success (cqe_status p.cqe)) (ap is_success a) y
+                  | inr a ↦ clash (same_status (cqe_status p.cqe) compare_failure)
                       (ap (λ (w : Status). same_status w compare_failure) a) z
                 ]
           ] in
@@ -97,8 +97,8 @@ failed_checks c past q j p s h e two r y z =
           ap (λ (w : Ticket). passed w.verdict) there.ticket ∙ failed in
           record {
             ticket = p.ticket;
-            takes = takes_from past p.ticket q j (taken k.verdict) f.is.some there.known there.queue
-                (ap (λ (w : Ticket). taken w.verdict) there.ticket)
+            takes = takes_from past p.ticket q j (taken_entries k.verdict) f.is.some there.known there.queue
+                (ap (λ (w : Ticket). taken_entries w.verdict) there.ticket)
                 (omega (arith, there.number, x.number)) (omega (arith, there.number, x.number, (taken_some k.verdict)));
             first = (published_at c past p.ticket q j h f.is.some there.known there.queue
                 (omega (arith, there.number, x.number))).first;
@@ -145,9 +145,9 @@ after_known c past t k (Verdict.SingleFailed s) a b h = (fails_known s h, tt)
 after_known c past t k (Verdict.PairFailed s r) a b h = (fails_known s h.0, (fails_known r h.1, tt))
 
 pub status_known : (c : ConfigNumbers) (past : Past) (q j : ℕ) (p : PostLine) → IsLegal c past
-    → reaped_post c past q j ≡ Some p → IsKnown (status_in p.cqe)
+    → reaped_post c past q j ≡ Some p → IsKnown (cqe_status p.cqe)
 status_known c past q j p h r =
     let f = post_of c past q j p h r in
     let k = Tickets.ticket f.at.before p.ticket in
-    each_get IsKnown (owed c f.at.before p.ticket) (posts_of f.at.before p.ticket) (status_in p.cqe)
+    each_get IsKnown (owed c f.at.before p.ticket) (posts_of f.at.before p.ticket) (cqe_status p.cqe)
     (after_known c f.at.before p.ticket k k.verdict (command k 0) (command k 1) f.is.taken.verdict) f.is.owed

@@ -5,7 +5,7 @@ use Rattle.std.specs.List.{list_any}
 use Rattle.std.proofs.lemmas.Option.{slice_get_within}
 use Rattle.std.proofs.lemmas.Bool.{cases_lt}
 use Rattle.nvme_model.specs.declared.config.ConfigNumbers.{ConfigNumbers}
-use Rattle.nvme_model.specs.Verdict.{taken, passed}
+use Rattle.nvme_model.specs.Verdict.{taken_entries, passed}
 use Rattle.nvme_model.specs.History.{Past}
 use Rattle.nvme_model.specs.Tickets.{Ticket, tickets, command}
 use Rattle.nvme_model.specs.Queues.{published_entries}
@@ -41,13 +41,14 @@ not_before c later start t q j u h k l =
           let number = fetched_before_later c later start t h m in
           let f = ticket_taken c start t before x.some m in
           let queue : (Tickets.ticket start t).queue ≡ q = sym (ap (λ (z : Ticket). z.queue) same) ∙ x.queue in
-          let v : taken (Tickets.ticket (later ++ start) t).verdict ≡ taken (Tickets.ticket start t).verdict =
-          ap (λ (z : Ticket). taken z.verdict) same in
+          let v : taken_entries (Tickets.ticket (later ++ start) t).verdict
+          ≡ taken_entries (Tickets.ticket start t).verdict =
+          ap (λ (z : Ticket). taken_entries z.verdict) same in
           let first = slice_get_within (published_entries start (Tickets.ticket start t).queue) (fetched_before start t)
           (command (Tickets.ticket start t) 0) f.first in
           let count : length (published_entries start (Tickets.ticket start t).queue)
           ≡ length (published_entries start q) = ap (λ (z : ℕ). length (published_entries start z)) queue in
-          elim (cases_lt 1 (taken (Tickets.ticket start t).verdict)) [
+          elim (cases_lt 1 (taken_entries (Tickets.ticket start t).verdict)) [
             | inl two ↦
                 let second = slice_get_within (published_entries start (Tickets.ticket start t).queue)
                 (suc (fetched_before start t)) (command (Tickets.ticket start t) 1)

@@ -5,7 +5,7 @@ use Rattle.std.proofs.Common.{ap₂, ◌∙◌, subst, Option, Some, None, inl, 
 use Rattle.std.proofs.Common.{slice_get}
 use Rattle.std.proofs.lemmas.Bool.{and_parts, cases_Bool, cases_lt, cases_eq, cond-false}
 use Rattle.nvme_model.specs.declared.config.ConfigNumbers.{ConfigNumbers}
-use Rattle.nvme_model.specs.Verdict.{taken}
+use Rattle.nvme_model.specs.Verdict.{taken_entries}
 use Rattle.nvme_model.specs.History.{Past}
 use Rattle.nvme_model.specs.Tickets.{Ticket, tickets, posts_of, fetched_ticket}
 use Rattle.nvme_model.specs.Queues.{fetched_count}
@@ -41,7 +41,7 @@ pub record Known (past : Past) (q j : ℕ) : Type 0 where
   pub index : ℕ
   pub number : j ≡ fetched_before past ticket + index
   pub posted : index < posts_of past ticket
-  pub few : posts_of past ticket ≤ taken (Tickets.ticket past ticket).verdict
+  pub few : posts_of past ticket ≤ taken_entries (Tickets.ticket past ticket).verdict
 
 known_fetch : (c : ConfigNumbers) (past : Past) (f : FetchLine) (q j : ℕ) → IsLegal c (Entry.Fetch f ∷ past)
     → Known past q j → Known (Entry.Fetch f ∷ past) q j
@@ -62,7 +62,7 @@ known_fetch c past f q j h k =
       number = k.number ∙ ap (λ (x : ℕ). x + k.index)
           (sym (cond-false (eqb f.ticket k.ticket) (fetched_count past f.queue) (fetched_before past k.ticket) other));
       posted = k.posted;
-      few = omega (arith, k.few, ap (λ (x : Ticket). taken x.verdict) same);
+      few = omega (arith, k.few, ap (λ (x : Ticket). taken_entries x.verdict) same);
     }
 
 known_post : (c : ConfigNumbers) (past : Past) (p : PostLine) (q j : ℕ) → IsLegal c (Entry.Post p ∷ past)
@@ -81,13 +81,14 @@ known_post c past p q j h k =
     }
   where
     go : PostIs c past p → (b : Bool) → eqb p.ticket k.ticket ≡ b
-        → posts_of past k.ticket + cond b 1 0 ≤ taken (Tickets.ticket past k.ticket).verdict
+        → posts_of past k.ticket + cond b 1 0 ≤ taken_entries (Tickets.ticket past k.ticket).verdict
     go f false e = omega (arith, k.few)
     go f true e =
-        let below : posts_of past p.ticket < taken (Tickets.ticket past p.ticket).verdict =
+        let below : posts_of past p.ticket < taken_entries (Tickets.ticket past p.ticket).verdict =
         subst (λ (n : ℕ). posts_of past p.ticket < n) f.taken.count (ltb-true _ _ f.in_flight) in
-        let at : posts_of past k.ticket < taken (Tickets.ticket past k.ticket).verdict =
-        subst (λ (x : ℕ). posts_of past x < taken (Tickets.ticket past x).verdict) (eqb-true p.ticket k.ticket e)
+        let at : posts_of past k.ticket < taken_entries (Tickets.ticket past k.ticket).verdict =
+        subst (λ (x : ℕ). posts_of past x < taken_entries (Tickets.ticket past x).verdict)
+        (eqb-true p.ticket k.ticket e)
         below in
         omega (arith, at)
 
@@ -95,7 +96,7 @@ new_known : (c : ConfigNumbers) (past : Past) (p : PostLine) → IsLegal c (Entr
     → Known (Entry.Post p ∷ past) (Tickets.ticket past p.ticket).queue (next_number past p.ticket)
 new_known c past p h =
     let f = post_is c past p h in
-    let below : posts_of past p.ticket < taken (Tickets.ticket past p.ticket).verdict =
+    let below : posts_of past p.ticket < taken_entries (Tickets.ticket past p.ticket).verdict =
     subst (λ (n : ℕ). posts_of past p.ticket < n) f.taken.count (ltb-true _ _ f.in_flight) in
     let one = counted (eqb p.ticket p.ticket) (eq-eqb p.ticket p.ticket refl) in
     record {
@@ -184,7 +185,7 @@ fresh : (c : ConfigNumbers) (past : Past) (p : PostLine) (j : ℕ) → IsLegal c
 fresh c past p j h k e =
     let f = post_is c past p h in
     let before = (follows c past (Entry.Post p) h).before in
-    let below : posts_of past p.ticket < taken (Tickets.ticket past p.ticket).verdict =
+    let below : posts_of past p.ticket < taken_entries (Tickets.ticket past p.ticket).verdict =
     subst (λ (n : ℕ). posts_of past p.ticket < n) f.taken.count (ltb-true _ _ f.in_flight) in
     elim (cases_lt k.ticket p.ticket) [
       | inl l ↦ omega (

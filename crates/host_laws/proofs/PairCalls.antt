@@ -3,12 +3,12 @@ use Rattle.nvme_model.specs.Tickets
 use Rattle.std.proofs.Common.{◌≡◌, ℕ, suc, true, ◌∷◌, refl, sym, ap, ◌∙◌, subst, Some, inl, inr, arith, eqb, slice_get}
 use Rattle.nvme_model.specs.declared.config.ConfigNumbers.{ConfigNumbers}
 use Rattle.nvme_model.specs.Statuses.{compare_failure, is_success}
-use Rattle.nvme_model.specs.Verdict.{taken}
+use Rattle.nvme_model.specs.Verdict.{taken_entries}
 use Rattle.nvme_model.specs.History.{Past}
 use Rattle.nvme_model.specs.Tickets.{Ticket, command, first_fields, posts_of}
 use Rattle.nvme_model.specs.Queues.{published_entries}
 use Rattle.nvme_model.specs.Operations.{op, op_by}
-use Rattle.host_laws.specs.Calls.{says_yes, reaped_post, status_in, PairSwaps, PairDiffers}
+use Rattle.host_laws.specs.Calls.{says_yes, reaped_post, cqe_status, PairSwaps, PairDiffers}
 use Rattle.nvme_model.specs.Answered.{says_no}
 use Rattle.nvme_model.specs.Legal.{IsLegal}
 use Rattle.nvme_model.specs.declared.status.Verdict.{Verdict}
@@ -24,11 +24,11 @@ use Rattle.host_laws.proofs.Calls.{first_pair, second_fuse, compare_passes}
 
 pub pair_swaps : (c : ConfigNumbers) (past : Past) (q j : ℕ) (p : PostLine) (s : Submission) → IsLegal c past
     → slice_get (published_entries past q) (suc j) ≡ Some s → eqb (fuse s) 2 ≡ true
-    → reaped_post c past q (suc j) ≡ Some p → is_success (status_in p.cqe) ≡ true → PairSwaps past q j
+    → reaped_post c past q (suc j) ≡ Some p → is_success (cqe_status p.cqe) ≡ true → PairSwaps past q j
 pair_swaps c past q j p s h e fused r y =
     let f = post_of c past q (suc j) p h r in
     let k = Tickets.ticket f.at.before p.ticket in
-    let owes = f.is.owed ∙ ap Some (success_is (status_in p.cqe) y) in
+    let owes = f.is.owed ∙ ap Some (success_is (cqe_status p.cqe) y) in
     let ok = passes c f.at.before p.ticket (posts_of f.at.before p.ticket) k.verdict (command k 0) (command k 1) refl
     f.is.taken.verdict owes in
     elim (which c past q (suc j) p s f e) [
@@ -37,7 +37,7 @@ pair_swaps c past q j p s h e fused r y =
           let paired = two_pair k.verdict ok x.two in
           let yes = pair_says_yes c f.at.before p.ticket (posts_of f.at.before p.ticket) paired owes in
           let there = seen c past q (suc j) p f h in
-          let two = ap (λ (z : Ticket). taken z.verdict) there.ticket ∙ x.two in
+          let two = ap (λ (z : Ticket). taken_entries z.verdict) there.ticket ∙ x.two in
           let at = published_at c past p.ticket q j h f.is.some there.known there.queue
           (omega (arith, there.number, x.number)) in
           let all = yes_later c f.at.later (Entry.Post p ∷ f.at.before) p.ticket 0
@@ -45,7 +45,7 @@ pair_swaps c past q j p s h e fused r y =
           record {
             ticket = p.ticket;
             takes = takes_from past p.ticket q j 2 f.is.some there.known there.queue
-                (ap (λ (z : Ticket). taken z.verdict) there.ticket ∙ x.two)
+                (ap (λ (z : Ticket). taken_entries z.verdict) there.ticket ∙ x.two)
                 (omega (arith, there.number, x.number)) (omega (arith, there.number, x.number));
             first = at.first;
             second = at.second two;
@@ -57,11 +57,11 @@ pair_swaps c past q j p s h e fused r y =
 -- success for the first of a pair: its effect says yes
 pub first_swaps : (c : ConfigNumbers) (past : Past) (q j : ℕ) (p : PostLine) (s : Submission) → IsLegal c past
     → slice_get (published_entries past q) j ≡ Some s → eqb (fuse s) 1 ≡ true
-    → reaped_post c past q j ≡ Some p → is_success (status_in p.cqe) ≡ true → PairSwaps past q j
+    → reaped_post c past q j ≡ Some p → is_success (cqe_status p.cqe) ≡ true → PairSwaps past q j
 first_swaps c past q j p s h e one r y =
     let f = post_of c past q j p h r in
     let k = Tickets.ticket f.at.before p.ticket in
-    let owes = f.is.owed ∙ ap Some (success_is (status_in p.cqe) y) in
+    let owes = f.is.owed ∙ ap Some (success_is (cqe_status p.cqe) y) in
     let ok = passes c f.at.before p.ticket (posts_of f.at.before p.ticket) k.verdict (command k 0) (command k 1) refl
     f.is.taken.verdict owes in
     elim (which c past q j p s f e) [
@@ -69,7 +69,7 @@ first_swaps c past q j p s h e one r y =
           let paired = first_pair k.verdict (command k 0) (command k 1) s ok f.is.taken.verdict one x.entry in
           let yes = pair_says_yes c f.at.before p.ticket (posts_of f.at.before p.ticket) paired owes in
           let there = seen c past q j p f h in
-          let two = ap (λ (z : Ticket). taken z.verdict) there.ticket ∙ ap taken paired in
+          let two = ap (λ (z : Ticket). taken_entries z.verdict) there.ticket ∙ ap taken_entries paired in
           let at = published_at c past p.ticket q j h f.is.some there.known there.queue
           (omega (arith, there.number, x.number)) in
           let all = yes_later c f.at.later (Entry.Post p ∷ f.at.before) p.ticket 0
@@ -90,7 +90,7 @@ first_swaps c past q j p s h e one r y =
 
 pub pair_differs : (c : ConfigNumbers) (past : Past) (q j : ℕ) (p : PostLine) (s : Submission) → IsLegal c past
     → slice_get (published_entries past q) j ≡ Some s → eqb (fuse s) 1 ≡ true
-    → reaped_post c past q j ≡ Some p → status_in p.cqe ≡ compare_failure → PairDiffers past q j
+    → reaped_post c past q j ≡ Some p → cqe_status p.cqe ≡ compare_failure → PairDiffers past q j
 pair_differs c past q j p s h e one r y =
     let f = post_of c past q j p h r in
     let k = Tickets.ticket f.at.before p.ticket in
@@ -103,7 +103,7 @@ pair_differs c past q j p s h e one r y =
           let no = pair_says_no c f.at.before p.ticket (posts_of f.at.before p.ticket) compare_failure paired (inl refl)
           owes in
           let there = seen c past q j p f h in
-          let two = ap (λ (z : Ticket). taken z.verdict) there.ticket ∙ ap taken paired in
+          let two = ap (λ (z : Ticket). taken_entries z.verdict) there.ticket ∙ ap taken_entries paired in
           let at = published_at c past p.ticket q j h f.is.some there.known there.queue
           (omega (arith, there.number, x.number)) in
           let all = no_later c f.at.later (Entry.Post p ∷ f.at.before) p.ticket 0
@@ -111,7 +111,7 @@ pair_differs c past q j p s h e one r y =
           record {
             ticket = p.ticket;
             takes = takes_from past p.ticket q j 2 f.is.some there.known there.queue
-                (ap (λ (z : Ticket). taken z.verdict) there.ticket ∙ ap taken paired)
+                (ap (λ (z : Ticket). taken_entries z.verdict) there.ticket ∙ ap taken_entries paired)
                 (omega (arith, there.number, x.number)) (omega (arith, there.number, x.number));
             first = at.first;
             second = at.second two;

@@ -12,7 +12,7 @@ use Rattle.nvme_model.specs.Tickets.{command, cids, posts_of}
 use Rattle.nvme_model.specs.Queues.{published_entries, fetched_count}
 use Rattle.nvme_model.specs.Completions.{posted_completions, reaped_count, phase}
 use Rattle.nvme_model.specs.Legal.{IsLegal, is_cqe}
-use Rattle.host_laws.specs.Calls.{is_clean, posted_answers, reaped_post, post_if, status_in, PostedAnswer, ReapAnswers}
+use Rattle.host_laws.specs.Calls.{is_clean, posted_answers, reaped_post, post_if, cqe_status, PostedAnswer, ReapAnswers}
 use Rattle.nvme_model.specs.declared.status.Status.{Status}
 use Rattle.nvme_model.specs.declared.submission.Submission.{Submission}
 use Rattle.nvme_model.specs.declared.entry.PostLine.{PostLine}
@@ -122,13 +122,13 @@ entry_is c past q j p h at =
     let same = cids_at k.commands (posts_of at.before t) (record { entry = []; payload = [] }) below in
     ap (λ (x : List ℕ). (cqe_fields x).cid) f.cqe
     ∙ (cid_back (fetched_count at.before k.queue % c.sq_size) k.queue (get_or (cids k) (posts_of at.before t) 0)
-    (phase (length (posted_completions c at.before (completion_queue c k.queue))) c.cq_size) (status_in p.cqe)
+    (phase (length (posted_completions c at.before (completion_queue c k.queue))) c.cq_size) (cqe_status p.cqe)
     (omega (arith, same, l)) ∙ same) in
     let sqid : q < 65536 → (cqe_fields p.cqe).sqid ≡ q =
     λ l.
     ap (λ (x : List ℕ). (cqe_fields x).sqid) f.cqe
     ∙ (sqid_back (fetched_count at.before k.queue % c.sq_size) k.queue (get_or (cids k) (posts_of at.before t) 0)
-    (phase (length (posted_completions c at.before (completion_queue c k.queue))) c.cq_size) (status_in p.cqe)
+    (phase (length (posted_completions c at.before (completion_queue c k.queue))) c.cq_size) (cqe_status p.cqe)
     (omega (arith, at.queue, l)) ∙ at.queue) in
     let stands : slice_get (published_entries at.before q) j ≡ Some (command k (posts_of at.before t)) =
     subst (λ (x : ℕ). slice_get (published_entries at.before x) j ≡ Some (command k (posts_of at.before t))) at.queue
@@ -150,7 +150,7 @@ entry_is c past q j p h at =
           (published_later at.later (Entry.Post p ∷ at.before) q j (command k (posts_of at.before t)) stands);
       clean = ap is_clean f.cqe
           ∙ clean_bytes (fetched_count at.before k.queue % c.sq_size) k.queue (get_or (cids k) (posts_of at.before t) 0)
-          (phase (length (posted_completions c at.before (completion_queue c k.queue))) c.cq_size) (status_in p.cqe)
+          (phase (length (posted_completions c at.before (completion_queue c k.queue))) c.cq_size) (cqe_status p.cqe)
           (phase_small (length (posted_completions c at.before (completion_queue c k.queue))) c.cq_size) f.narrow;
       sqid = sqid;
       cid = cid;

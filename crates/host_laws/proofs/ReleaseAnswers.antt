@@ -12,7 +12,7 @@ use Rattle.nvme_model.specs.Slots.{Swap, disciplined, fetched_before, swaps}
 use Rattle.nvme_model.specs.Statuses.{compare_failure, failed_fused, is_success, same_status}
 use Rattle.nvme_model.specs.Tickets
 use Rattle.nvme_model.specs.Tickets.{Ticket, fetched_ticket, first_fields, tickets}
-use Rattle.nvme_model.specs.Verdict.{passed, taken}
+use Rattle.nvme_model.specs.Verdict.{passed, taken_entries}
 use Rattle.nvme_model.specs.declared.array.Range.{Range}
 use Rattle.nvme_model.specs.declared.config.ConfigNumbers.{ConfigNumbers}
 use Rattle.nvme_model.specs.declared.entry.Entry.{Entry}
@@ -22,7 +22,7 @@ use Rattle.nvme_model.specs.declared.submission.Submission.{Submission}
 use Rattle.nvme_model.proofs.Rules.{fetch_number, follows}
 use Rattle.nvme_model.proofs.Written.{clash}
 use Rattle.host_laws.specs.Book.{IsAlwaysApart}
-use Rattle.host_laws.specs.Calls.{is_proper, reaped_post, status_in, takes}
+use Rattle.host_laws.specs.Calls.{is_proper, reaped_post, cqe_status, takes}
 use Rattle.host_laws.proofs.Calls.{post_of, published_at, seen, takes_from, takes_later, takes_parts, which}
 use Rattle.host_laws.proofs.Discipline.{InArea}
 use Rattle.host_laws.proofs.Elements.{In, each_in, same_some}
@@ -52,7 +52,8 @@ taken_by_some c (Entry.Fetch f ∷ past) q j h l =
     ]
   where
     new : (b : Bool) → eqb f.queue q ≡ b → fetched_count past q ≤ j
-        → j < fetched_count past q + cond b (taken f.verdict) 0 → takes (Entry.Fetch f ∷ past) f.ticket q j ≡ true
+        → j < fetched_count past q + cond b (taken_entries f.verdict) 0
+        → takes (Entry.Fetch f ∷ past) f.ticket q j ≡ true
     new false e k m = absurd (omega (arith, k, m))
     new true e k m =
         let n = fetch_number c past f h in
@@ -62,8 +63,9 @@ taken_by_some c (Entry.Fetch f ∷ past) q j h l =
         let at : fetched_before (Entry.Fetch f ∷ past) f.ticket ≡ fetched_count past q =
         cond-true (eqb f.ticket f.ticket) (fetched_count past f.queue) (fetched_before past f.ticket)
         (eq-eqb f.ticket f.ticket refl) ∙ ap (fetched_count past) on in
-        takes_from (Entry.Fetch f ∷ past) f.ticket q j (taken f.verdict) (omega (arith, n)) (omega (arith, n))
-        (ap (λ (k : Ticket). k.queue) same ∙ on) (ap (λ (k : Ticket). taken k.verdict) same) (omega (arith, at, k))
+        takes_from (Entry.Fetch f ∷ past) f.ticket q j (taken_entries f.verdict) (omega (arith, n)) (omega (arith, n))
+        (ap (λ (k : Ticket). k.queue) same
+        ∙ on) (ap (λ (k : Ticket). taken_entries k.verdict) same) (omega (arith, at, k))
         (omega (arith, at, m))
 taken_by_some c (Entry.Publish p ∷ past) q j h l = let x =
     taken_by_some c past q j (follows c past (Entry.Publish p) h).before l in
@@ -123,15 +125,15 @@ its_verdict c slots past r a b t x k =
     (first_number c past t r.queue r.number a x.legal k x.first e.pair.first)
 
 first_succeeds : (c : ConfigNumbers) (slots : Range) (past : Past) (r : Swap) (a b : Submission) (p : PostLine)
-    → Released c slots past r a b → reaped_post c past r.queue r.number ≡ Some p → is_success (status_in p.cqe) ≡ true
+    → Released c slots past r a b → reaped_post c past r.queue r.number ≡ Some p → is_success (cqe_status p.cqe) ≡ true
 first_succeeds c slots past r a b p x e =
     let one = (entries_of c slots past r a b x).pair.first in
-    elim (cases_Bool (is_success (status_in p.cqe))) [
+    elim (cases_Bool (is_success (cqe_status p.cqe))) [
       | inl y ↦ y
-      | inr y ↦ elim (cases_Bool (same_status (status_in p.cqe) compare_failure)) [
+      | inr y ↦ elim (cases_Bool (same_status (cqe_status p.cqe) compare_failure)) [
         | inl z ↦ absurd (release_never_differs c slots past r x.legal x.kept x.there x.releases x.area
             (pair_differs c past r.queue r.number p a x.legal x.first one e
-            (status_eq (status_in p.cqe) compare_failure z)))
+            (status_eq (cqe_status p.cqe) compare_failure z)))
         | inr z ↦
             let f = failed_checks c past r.queue r.number p a x.legal x.first (one_not_two (fuse a) one) e y z in
             clash (passed (Tickets.ticket past f.ticket).verdict)
@@ -146,12 +148,13 @@ begins_no_ticket : (c : ConfigNumbers) (slots : Range) (past : Past) (r : Swap) 
     → Released c slots past r a b → 1 ≤ t → t ≤ tickets past → (Tickets.ticket past t).queue ≡ r.queue
     → fetched_before past t ≡ suc r.number → ⊥
 begins_no_ticket c slots past r a b t x some known queue number =
-    let w = subst (λ (q : ℕ). fetched_before past t + taken (Tickets.ticket past t).verdict ≤ fetched_count past q)
+    let w = subst (λ (q : ℕ).
+    fetched_before past t + taken_entries (Tickets.ticket past t).verdict ≤ fetched_count past q)
     queue (within_fetched c past t x.legal some known) in
     let u = taken_by_some c past r.queue r.number x.legal (omega (arith, w, number)) in
     let k = takes_parts past u.0 r.queue r.number u.1 in
     let pair = its_verdict c slots past r a b u.0 x u.1 in
-    let two : taken (Tickets.ticket past u.0).verdict ≡ 2 = ap taken pair in
+    let two : taken_entries (Tickets.ticket past u.0).verdict ≡ 2 = ap taken_entries pair in
     let at = first_number c past u.0 r.queue r.number a x.legal u.1 x.first
     (entries_of c slots past r a b x).pair.first in
     not_inside c past t u.0 x.legal some known k.some k.known (queue ∙ sym k.queue) (omega (arith, at, number))
@@ -159,7 +162,7 @@ begins_no_ticket c slots past r a b t x some known queue number =
 
 second_succeeds : (c : ConfigNumbers) (slots : Range) (past : Past) (r : Swap) (a b : Submission) (p : PostLine)
     → Released c slots past r a b → reaped_post c past r.queue (suc r.number) ≡ Some p
-    → is_success (status_in p.cqe) ≡ true
+    → is_success (cqe_status p.cqe) ≡ true
 second_succeeds c slots past r a b p x e =
     let f = post_of c past r.queue (suc r.number) p x.legal e in
     let there = seen c past r.queue (suc r.number) p f x.legal in
@@ -168,15 +171,15 @@ second_succeeds c slots past r a b p x e =
           (there.number ∙ y.number))
       | inr y ↦
           let at : fetched_before past p.ticket ≡ r.number = omega (arith, there.number, y.number) in
-          let two = ap (λ (z : Ticket). taken z.verdict) there.ticket ∙ y.two in
+          let two = ap (λ (z : Ticket). taken_entries z.verdict) there.ticket ∙ y.two in
           let takes = takes_from past p.ticket r.queue r.number 2 f.is.some there.known there.queue two
           (omega (arith, at)) (omega (arith, at)) in
           let verdict = its_verdict c slots past r a b p.ticket x takes in
           let before : (Tickets.ticket f.at.before p.ticket).verdict ≡ Verdict.Pair =
           sym (ap (λ (z : Ticket). z.verdict) there.ticket) ∙ verdict in
-          let owes = subst (λ (i : ℕ). slice_get (owed c f.at.before p.ticket) i ≡ Some (status_in p.cqe)) y.posts
+          let owes = subst (λ (i : ℕ). slice_get (owed c f.at.before p.ticket) i ≡ Some (cqe_status p.cqe)) y.posts
           f.is.owed in
-          elim (second_owed c f.at.before p.ticket (status_in p.cqe) before owes) [
+          elim (second_owed c f.at.before p.ticket (cqe_status p.cqe) before owes) [
             | inl z ↦ ap is_success z
             | inr z ↦
                 let no = pair_says_no c f.at.before p.ticket 1 failed_fused before (inr refl) (owes ∙ ap Some z) in
@@ -200,7 +203,7 @@ pub release_succeeds : (c : ConfigNumbers) (slots : Range) (past : Past) (r : Sw
     → IsAlwaysApart c past r.queue → slice_get (published_entries past r.queue) r.number ≡ Some a
     → slice_get (published_entries past r.queue) (suc r.number) ≡ Some b → is_proper a ≡ true → is_proper b ≡ true
     → (reaped_post c past r.queue r.number ≡ Some p) ⊎ (reaped_post c past r.queue (suc r.number) ≡ Some p)
-    → is_success (status_in p.cqe) ≡ true
+    → is_success (cqe_status p.cqe) ≡ true
 release_succeeds c slots past r a b p h d i e v ap1 ea eb pa pb o = go o
   where
     all : Released c slots past r a b
@@ -218,6 +221,6 @@ release_succeeds c slots past r a b p h d i e v ap1 ea eb pa pb o = go o
     }
 
     go : (reaped_post c past r.queue r.number ≡ Some p) ⊎ (reaped_post c past r.queue (suc r.number) ≡ Some p)
-        → is_success (status_in p.cqe) ≡ true
+        → is_success (cqe_status p.cqe) ≡ true
     go (inl x) = first_succeeds c slots past r a b p all x
     go (inr x) = second_succeeds c slots past r a b p all x

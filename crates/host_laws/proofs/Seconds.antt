@@ -16,7 +16,7 @@ use Rattle.nvme_model.specs.Slots.{fetched_before}
 use Rattle.nvme_model.specs.Statuses.{compare_failure, failed_fused, is_success, success}
 use Rattle.nvme_model.specs.Tickets.{Ticket, command, first_fields}
 use Rattle.nvme_model.specs.Value.{all_equal, value}
-use Rattle.nvme_model.specs.Verdict.{taken}
+use Rattle.nvme_model.specs.Verdict.{taken_entries}
 use Rattle.nvme_model.specs.declared.array.Range.{Range}
 use Rattle.nvme_model.specs.declared.config.ConfigNumbers.{ConfigNumbers}
 use Rattle.nvme_model.specs.declared.entry.Entry.{Entry}
@@ -26,7 +26,7 @@ use Rattle.nvme_model.specs.declared.status.Status.{Status}
 use Rattle.nvme_model.specs.declared.status.Verdict.{Verdict}
 use Rattle.nvme_model.specs.declared.submission.Submission.{Submission}
 use Rattle.nvme_model.proofs.Written.{clash}
-use Rattle.host_laws.specs.Calls.{IsFused, reaped_post, says_yes, status_in, takes, yes_at}
+use Rattle.host_laws.specs.Calls.{IsFused, reaped_post, says_yes, cqe_status, takes, yes_at}
 use Rattle.nvme_model.proofs.Bools.{not_true}
 use Rattle.host_laws.proofs.Calls.{PostOf, post_of, second_fuse, seen, takes_parts, which}
 use Rattle.host_laws.proofs.Elements.{same_some}
@@ -47,7 +47,7 @@ first_number c past t q j a h k e one =
     elim (cases_lt (fetched_before past t) j) [
       | inr m ↦ omega (arith, m, x.low)
       | inl m ↦
-          let two : taken (Tickets.ticket past t).verdict ≡ 2 =
+          let two : taken_entries (Tickets.ticket past t).verdict ≡ 2 =
           omega (
             arith,
             m,
@@ -104,7 +104,7 @@ record SecondOf (c : ConfigNumbers) (past : Past) (q j : ℕ) (r : PostLine) (t 
   is : PostOf c past q (suc j) r
   same : r.ticket ≡ t
   verdict : (Tickets.ticket is.at.before r.ticket).verdict ≡ Verdict.Pair
-  owes : slice_get (owed c is.at.before r.ticket) 1 ≡ Some (status_in r.cqe)
+  owes : slice_get (owed c is.at.before r.ticket) 1 ≡ Some (cqe_status r.cqe)
 
 -- it is of the ticket that takes the first
 second_of : (c : ConfigNumbers) (past : Past) (q j t : ℕ) (r : PostLine) → IsLegal c past → IsFused past q j
@@ -119,7 +119,8 @@ second_of c past q j t r h x taken_by pair b =
     let queues : (Tickets.ticket past r.ticket).queue ≡ (Tickets.ticket past t).queue = there.queue ∙ sym k.queue in
     elim (which c past q (suc j) r x.second f x.second_published) [
       | inl y ↦ absurd (not_inside c past r.ticket t h f.is.some there.known k.some k.known queues
-          (omega (arith, at, there.number, y.number)) (omega (arith, at, there.number, y.number, ap taken verdict)))
+          (omega (arith, at, there.number, y.number))
+          (omega (arith, at, there.number, y.number, ap taken_entries verdict)))
       | inr y ↦
           let same = one_ticket c past r.ticket t h f.is.some there.known k.some k.known queues
           (omega (arith, at, there.number, y.number)) in
@@ -128,20 +129,20 @@ second_of c past q j t r h x taken_by pair b =
             same = same;
             verdict = sym (ap (λ (z : Ticket). z.verdict) there.ticket)
                 ∙ (ap (λ (n : ℕ). (Tickets.ticket past n).verdict) same ∙ verdict);
-            owes = subst (λ (i : ℕ). slice_get (owed c f.at.before r.ticket) i ≡ Some (status_in r.cqe)) y.posts
+            owes = subst (λ (i : ℕ). slice_get (owed c f.at.before r.ticket) i ≡ Some (cqe_status r.cqe)) y.posts
                 f.is.owed;
           }
     ]
 
 -- Compare Failure for the first: the second fails with it
 pub second_fails : (c : ConfigNumbers) (past : Past) (q j : ℕ) (p r : PostLine) → IsLegal c past → IsFused past q j
-    → reaped_post c past q j ≡ Some p → status_in p.cqe ≡ compare_failure
-    → reaped_post c past q (suc j) ≡ Some r → status_in r.cqe ≡ failed_fused
+    → reaped_post c past q j ≡ Some p → cqe_status p.cqe ≡ compare_failure
+    → reaped_post c past q (suc j) ≡ Some r → cqe_status r.cqe ≡ failed_fused
 second_fails c past q j p r h x a e b =
     let d = pair_differs c past q j p x.first h x.first_published x.first_fuse a e in
     let g = second_of c past q j d.ticket r h x d.takes d.pair b in
     let f = g.is in
-    elim (second_owed c f.at.before r.ticket (status_in r.cqe) g.verdict g.owes) [
+    elim (second_owed c f.at.before r.ticket (cqe_status r.cqe) g.verdict g.owes) [
       | inr z ↦ z
       | inl z ↦
           let yes = pair_says_yes c f.at.before r.ticket 1 g.verdict (g.owes ∙ ap Some z) in
@@ -155,13 +156,13 @@ second_fails c past q j p r h x a e b =
 
 -- success for the first: the second succeeds with it
 pub second_succeeds : (c : ConfigNumbers) (past : Past) (q j : ℕ) (p r : PostLine) → IsLegal c past → IsFused past q j
-    → reaped_post c past q j ≡ Some p → is_success (status_in p.cqe) ≡ true
-    → reaped_post c past q (suc j) ≡ Some r → is_success (status_in r.cqe) ≡ true
+    → reaped_post c past q j ≡ Some p → is_success (cqe_status p.cqe) ≡ true
+    → reaped_post c past q (suc j) ≡ Some r → is_success (cqe_status r.cqe) ≡ true
 second_succeeds c past q j p r h x a e b =
     let d = first_swaps c past q j p x.first h x.first_published x.first_fuse a e in
     let g = second_of c past q j d.ticket r h x d.takes d.pair b in
     let f = g.is in
-    elim (second_owed c f.at.before r.ticket (status_in r.cqe) g.verdict g.owes) [
+    elim (second_owed c f.at.before r.ticket (cqe_status r.cqe) g.verdict g.owes) [
       | inl z ↦ ap is_success z
       | inr z ↦
           let no = pair_says_no c f.at.before r.ticket 1 failed_fused g.verdict (inr refl) (g.owes ∙ ap Some z) in

@@ -6,12 +6,12 @@ use Rattle.std.specs.List.{list_any}
 use Rattle.std.proofs.lemmas.Bool.{and_parts}
 use Rattle.nvme_model.specs.declared.config.ConfigNumbers.{ConfigNumbers}
 use Rattle.nvme_model.specs.Statuses.{success, compare_failure, is_success}
-use Rattle.nvme_model.specs.Verdict.{taken}
+use Rattle.nvme_model.specs.Verdict.{taken_entries}
 use Rattle.nvme_model.specs.History.{Past}
 use Rattle.nvme_model.specs.Tickets.{Ticket, command, first_fields, posts_of}
 use Rattle.nvme_model.specs.Queues.{published_entries}
 use Rattle.nvme_model.specs.Operations.{op, op_by, op_of_fields, is_pair, has_compare}
-use Rattle.host_laws.specs.Calls.{reaped_post, status_in, IsDone, CompareDiffers}
+use Rattle.host_laws.specs.Calls.{reaped_post, cqe_status, IsDone, CompareDiffers}
 use Rattle.nvme_model.specs.Answered.{says_no}
 use Rattle.nvme_model.specs.Owed.{some_no, all_ended, units_of, completion_data, read_data_by}
 use Rattle.nvme_model.specs.Legal.{IsLegal}
@@ -34,12 +34,12 @@ use Rattle.host_laws.proofs.Units.{some_compares}
 pub done : (c : ConfigNumbers) (past : Past) (q j : ℕ) (p : PostLine) (s : Submission) (o : Op) → IsLegal c past
     → slice_get (published_entries past q) j ≡ Some s → eqb (fuse s) 1 ≡ false → eqb (fuse s) 2 ≡ false
     → op_of_fields (sqe_fields s.entry) ≡ Some o → is_pair (Some o) ≡ false
-    → reaped_post c past q j ≡ Some p → is_success (status_in p.cqe) ≡ true → IsDone c past q j o p.payload
+    → reaped_post c past q j ≡ Some p → is_success (cqe_status p.cqe) ≡ true → IsDone c past q j o p.payload
 done c past q j p s o h e one two oe np r y =
     let f = post_of c past q j p h r in
     let before = f.at.before in
     let k = Tickets.ticket before p.ticket in
-    let owes = f.is.owed ∙ ap Some (success_is (status_in p.cqe) y) in
+    let owes = f.is.owed ∙ ap Some (success_is (cqe_status p.cqe) y) in
     let ok = passes c before p.ticket (posts_of before p.ticket) k.verdict (command k 0) (command k 1) refl
     f.is.taken.verdict owes in
     elim (which c past q j p s f e) [
@@ -55,14 +55,14 @@ done c past q j p s o h e one two oe np r y =
           let kept : Tickets.ticket all p.ticket ≡ k = ap (λ (z : Past). Tickets.ticket z p.ticket) (sym f.at.is)
           ∙ there.ticket in
           let bytes : p.payload ≡ completion_data c before p.ticket success = f.is.contents
-          ∙ ap (completion_data c before p.ticket) (success_is (status_in p.cqe) y) in
+          ∙ ap (completion_data c before p.ticket) (success_is (cqe_status p.cqe) y) in
           let same : completion_data c all p.ticket success ≡ completion_data c before p.ticket success =
           ap (λ (z : Ticket). read_data_by c all p.ticket (op z)) kept
           ∙ reads_by c f.at.later (Entry.Post p ∷ before) p.ticket (op k) l kept effects in
           record {
             ticket = p.ticket;
             takes = takes_from past p.ticket q j 1 f.is.some there.known there.queue
-                (ap (λ (z : Ticket). taken z.verdict) there.ticket ∙ ap taken single)
+                (ap (λ (z : Ticket). taken_entries z.verdict) there.ticket ∙ ap taken_entries single)
                 (omega (arith, there.number, x.number)) (omega (arith, there.number, x.number));
             first = (published_at c past p.ticket q j h f.is.some there.known there.queue
                 (omega (arith, there.number, x.number))).first;
@@ -88,7 +88,7 @@ compare_is Op.WriteZeroes n c = clash false c refl
 pub compare_differs : (c : ConfigNumbers) (past : Past) (q j : ℕ) (p : PostLine) (s : Submission) (o : Op)
     → IsLegal c past → slice_get (published_entries past q) j ≡ Some s → eqb (fuse s) 1 ≡ false → eqb (fuse s) 2 ≡ false
     → op_of_fields (sqe_fields s.entry) ≡ Some o → is_pair (Some o) ≡ false
-    → reaped_post c past q j ≡ Some p → status_in p.cqe ≡ compare_failure → CompareDiffers c past q j
+    → reaped_post c past q j ≡ Some p → cqe_status p.cqe ≡ compare_failure → CompareDiffers c past q j
 compare_differs c past q j p s o h e one two oe np r y =
     let f = post_of c past q j p h r in
     let before = f.at.before in
@@ -117,7 +117,7 @@ compare_differs c past q j p s o h e one two oe np r y =
           record {
             ticket = p.ticket;
             takes = takes_from past p.ticket q j 1 f.is.some there.known there.queue
-                (ap (λ (z : Ticket). taken z.verdict) there.ticket ∙ ap taken single)
+                (ap (λ (z : Ticket). taken_entries z.verdict) there.ticket ∙ ap taken_entries single)
                 (omega (arith, there.number, x.number)) (omega (arith, there.number, x.number));
             first = (published_at c past p.ticket q j h f.is.some there.known there.queue
                 (omega (arith, there.number, x.number))).first;
@@ -133,7 +133,7 @@ compare_differs c past q j p s o h e one two oe np r y =
 pub only_compares : (c : ConfigNumbers) (past : Past) (q j : ℕ) (p : PostLine) (s : Submission) (o : Op)
     → IsLegal c past → slice_get (published_entries past q) j ≡ Some s → eqb (fuse s) 1 ≡ false → eqb (fuse s) 2 ≡ false
     → op_of_fields (sqe_fields s.entry) ≡ Some o → is_pair (Some o) ≡ false
-    → reaped_post c past q j ≡ Some p → status_in p.cqe ≡ compare_failure → o ≡ Op.Compare
+    → reaped_post c past q j ≡ Some p → cqe_status p.cqe ≡ compare_failure → o ≡ Op.Compare
 only_compares c past q j p s o h e one two oe np r y =
     let f = post_of c past q j p h r in
     let before = f.at.before in

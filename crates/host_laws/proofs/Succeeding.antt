@@ -3,7 +3,7 @@ use Rattle.std.proofs.Common.{◌≡◌, ℕ, suc, ◌≤◌, ◌<◌, true, fal
 use Rattle.std.proofs.Common.{◌∙◌, subst, subst₂, Some, is_some, inl, inr, ◌⊎◌, arith, slice_get, append_assoc}
 use Rattle.std.proofs.lemmas.Bool.{eqb-false, cases_lt}
 use Rattle.nvme_model.specs.Array.{has_block}
-use Rattle.nvme_model.specs.EntryBytes.{blocks, slba, sqe_fields}
+use Rattle.nvme_model.specs.EntryBytes.{block_count, slba, sqe_fields}
 use Rattle.nvme_model.specs.History.{Past}
 use Rattle.nvme_model.specs.Legal.{IsLegal}
 use Rattle.nvme_model.specs.Queues.{fetched_count, published_entries, waiting}
@@ -21,8 +21,8 @@ use Rattle.nvme_model.specs.declared.submission.Submission.{Submission}
 use Rattle.nvme_model.proofs.Beginnings.{earlier}
 use Rattle.nvme_model.proofs.Checked.{ticket_checked}
 use Rattle.nvme_model.proofs.Rules.{follows}
-use Rattle.host_laws.specs.Book.{IsAlwaysApart, IsApart, cid_of}
-use Rattle.host_laws.specs.Calls.{IsWaiting, is_proper}
+use Rattle.host_laws.specs.Book.{IsAlwaysApart, HasDistinctCids, cid_of}
+use Rattle.host_laws.specs.Calls.{IsEntryWaiting, is_proper}
 use Rattle.host_laws.proofs.Apart.{no_conflict, unfetched_unreaped}
 use Rattle.host_laws.proofs.Beliefs.{claimed}
 use Rattle.host_laws.proofs.Discipline.{InArea, Keeps, has_area, kept}
@@ -53,8 +53,8 @@ won_inside c past k h i s =
     (slice_get (published_entries past k.queue) k.number) g.first w.first in
     let at : slba (first_fields (Tickets.ticket past w.ticket)) ≡ k.lba =
     sym (ap (λ (z : Submission). slba (sqe_fields z.entry)) same) ∙ sym g.lba in
-    let one : blocks (first_fields (Tickets.ticket past w.ticket)) ≡ 1 =
-    sym (ap (λ (z : Submission). blocks (sqe_fields z.entry)) same) ∙ (on_one g.old g.new g.pair).one in
+    let one : block_count (first_fields (Tickets.ticket past w.ticket)) ≡ 1 =
+    sym (ap (λ (z : Submission). block_count (sqe_fields z.entry)) same) ∙ (on_one g.old g.new g.pair).one in
     omega (arith, f, at, one)
 
 pub release_inside : (c : ConfigNumbers) (slots : Range) (past : Past) (r : Swap) → IsLegal c past
@@ -123,7 +123,8 @@ taken_as_pair c past s t a b h apart i l ea eb pa pb na nb some known queue numb
     (grown (suc s.number) g.new g.second) eb in
     let first = g.first ∙ ap Some old in
     let second = g.second ∙ ap Some next in
-    let apart2 : IsApart c f.before s.queue = apart (f.later ++ (Entry.Fetch f.fetch ∷ [])) f.before (sym later_is) in
+    let apart2 : HasDistinctCids c f.before s.queue =
+    apart (f.later ++ (Entry.Fetch f.fetch ∷ [])) f.before (sym later_is) in
     let waits : waiting f.before s.queue ≡ a ∷ b ∷ drop (suc (suc s.number)) (published_entries f.before s.queue) =
     ap (λ (n : ℕ). drop n (published_entries f.before s.queue)) at
     ∙ drop_two (published_entries f.before s.queue) s.number a b first second in
@@ -136,14 +137,14 @@ taken_as_pair c past s t a b h apart i l ea eb pa pb na nb some known queue numb
       first_free = no_conflict c f.before s.queue s.number a before apart2 (omega (arith, at)) first;
       second_free = no_conflict c f.before s.queue (suc s.number) b before apart2 (omega (arith, at)) second;
       apart = λ e.
-          let x : IsWaiting c f.before s.queue (cid_of b) s.number =
+          let x : IsEntryWaiting c f.before s.queue (cid_of b) s.number =
           record {
             entry = a;
             published = first;
             says = e;
             unreaped = unfetched_unreaped c f.before s.queue s.number before (omega (arith, at));
           } in
-          let y : IsWaiting c f.before s.queue (cid_of b) (suc s.number) =
+          let y : IsEntryWaiting c f.before s.queue (cid_of b) (suc s.number) =
           record {
             entry = b;
             published = second;

@@ -11,7 +11,7 @@ use Rattle.nvme_model.specs.History.{Past}
 use Rattle.nvme_model.specs.Tickets.{posts_of, cids}
 use Rattle.nvme_model.specs.Queues.{fetched_count}
 use Rattle.nvme_model.specs.Completions.{reaped_count, posted_completions, completion, phase}
-use Rattle.host_laws.specs.Calls.{posted_answers, status_in, reaped_post, post_if, PostedAnswer}
+use Rattle.host_laws.specs.Calls.{posted_answers, cqe_status, reaped_post, post_if, PostedAnswer}
 use Rattle.nvme_model.specs.Slots.{reaped_success, says_success, EntryCompletion, entry_completions, is_success_of}
 use Rattle.nvme_model.specs.Legal.{IsLegal}
 use Rattle.nvme_model.specs.declared.entry.PostLine.{PostLine}
@@ -32,7 +32,7 @@ use Rattle.host_laws.proofs.Calls.{success_is}
 word_success : (w : ℕ) → w / 2 ≡ 0 → ((w / 512) % 8 ≡ 0) × ((w / 2) % 256 ≡ 0)
 word_success w e = (omega (arith, e), omega (arith, e))
 
-pub says_is : (cqe : List ℕ) → says_success cqe ≡ true → is_success (status_in cqe) ≡ true
+pub says_is : (cqe : List ℕ) → says_success cqe ≡ true → is_success (cqe_status cqe) ≡ true
 says_is cqe h =
     let e = word_success (field 14 2 cqe) (eqb-true (field 14 2 cqe / 2) 0 h) in
     and_from _ _ (eq-eqb _ 0 e.0) (eq-eqb _ 0 e.1)
@@ -45,12 +45,12 @@ success_says : (h q cid p : ℕ) → p ≤ 1 → says_success (cqe_bytes h q cid
 success_says h q cid p l = eq-eqb _ 0 (word_phase p l)
 
 posted_says : (c : ConfigNumbers) (past : Past) (p : PostLine) → IsLegal c (Entry.Post p ∷ past)
-    → is_success (status_in p.cqe) ≡ true → says_success p.cqe ≡ true
+    → is_success (cqe_status p.cqe) ≡ true → says_success p.cqe ≡ true
 posted_says c past p h y =
     let f = post_is c past p h in
     let k = Tickets.ticket past p.ticket in
     let cqe : p.cqe ≡ completion c past p.ticket success = f.cqe
-    ∙ ap (completion c past p.ticket) (success_is (status_in p.cqe) y) in
+    ∙ ap (completion c past p.ticket) (success_is (cqe_status p.cqe) y) in
     ap says_success cqe
     ∙ success_says (fetched_count past k.queue % c.sq_size) k.queue (get_or (cids k) (posts_of past p.ticket) 0)
     (phase (length (posted_completions c past (completion_queue c k.queue))) c.cq_size)
@@ -61,7 +61,7 @@ posted_says c past p h y =
 pub record Success (c : ConfigNumbers) (past : Past) (q j : ℕ) : Type 0 where
   pub post : PostLine
   pub reaped : reaped_post c past q j ≡ Some post
-  pub says : is_success (status_in post.cqe) ≡ true
+  pub says : is_success (cqe_status post.cqe) ≡ true
 
 success_now : (c : ConfigNumbers) (past : Past) (r : ReapLine) (q j : ℕ) (o : Option EntryCompletion)
     → slice_get (entry_completions c past r.queue) (reaped_count past r.queue) ≡ o → is_success_of q j o ≡ true
@@ -124,7 +124,7 @@ entry_completion_at c past q i a h =
     mapped (x ∷ xs) (suc i) a h = mapped xs i a h
 
 pub reaped_is_success : (c : ConfigNumbers) (past : Past) (q j : ℕ) (p : PostLine) → IsLegal c past
-    → reaped_post c past q j ≡ Some p → is_success (status_in p.cqe) ≡ true → reaped_success c past q j ≡ true
+    → reaped_post c past q j ≡ Some p → is_success (cqe_status p.cqe) ≡ true → reaped_success c past q j ≡ true
 reaped_is_success c [] q j p h e y = absurd (let f : None ≡ Some p = e in cc)
 reaped_is_success c (Entry.Reap r ∷ past) q j p h e y =
     by_answer (slice_get (posted_answers c past r.queue) (reaped_count past r.queue)) refl e
@@ -143,7 +143,7 @@ reaped_is_success c (Entry.Reap r ∷ past) q j p h e y =
         let at = answer_at c past r.queue (reaped_count past r.queue) a f in
         let legal = earlier c at.later (Entry.Post a.post ∷ at.before)
         (subst (λ (x : Past). IsLegal c x) at.is before) in
-        let says = posted_says c at.before a.post legal (ap (λ (x : PostLine). is_success (status_in x.cqe)) z ∙ y) in
+        let says = posted_says c at.before a.post legal (ap (λ (x : PostLine). is_success (cqe_status x.cqe)) z ∙ y) in
         or_left (is_success_of q j (slice_get (entry_completions c past r.queue) (reaped_count past r.queue)))
         (reaped_success c past q j)
         (ap (is_success_of q j) (entry_completion_at c past r.queue (reaped_count past r.queue) a f)
@@ -151,14 +151,14 @@ reaped_is_success c (Entry.Reap r ∷ past) q j p h e y =
 
     by_number : (a : PostedAnswer) → slice_get (posted_answers c past r.queue) (reaped_count past r.queue) ≡ Some a
         → (x : Bool) → (eqb a.queue q && eqb a.number j) ≡ x → cond x (Some a.post) (reaped_post c past q j) ≡ Some p
-        → (reaped_post c past q j ≡ Some p → is_success (status_in p.cqe) ≡ true → reaped_success c past q j ≡ true)
+        → (reaped_post c past q j ≡ Some p → is_success (cqe_status p.cqe) ≡ true → reaped_success c past q j ≡ true)
         → reaped_success c (Entry.Reap r ∷ past) q j ≡ true
     by_number a f false n g ih = earlier_or (ih g y)
     by_number a f true n g ih = now a f n (same_some a.post p (Some a.post) refl g)
 
     by_answer : (o : Option PostedAnswer) → slice_get (posted_answers c past r.queue) (reaped_count past r.queue) ≡ o
         → post_if q j o (reaped_post c past q j) ≡ Some p
-        → (reaped_post c past q j ≡ Some p → is_success (status_in p.cqe) ≡ true → reaped_success c past q j ≡ true)
+        → (reaped_post c past q j ≡ Some p → is_success (cqe_status p.cqe) ≡ true → reaped_success c past q j ≡ true)
         → reaped_success c (Entry.Reap r ∷ past) q j ≡ true
     by_answer None f g ih = earlier_or (ih g y)
     by_answer (Some a) f g ih = by_number a f (eqb a.queue q && eqb a.number j) refl g ih

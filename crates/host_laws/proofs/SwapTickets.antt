@@ -5,7 +5,7 @@ use Rattle.std.proofs.Common.{sym, ap, ◌∙◌, subst, Some, None, arith, eqb,
 use Rattle.std.proofs.lemmas.Bool.{and_parts, and_from, or_left}
 use Rattle.std.proofs.lemmas.List.{take_all}
 use Rattle.nvme_model.specs.declared.config.ConfigNumbers.{ConfigNumbers}
-use Rattle.nvme_model.specs.EntryBytes.{Sqe, sqe_fields, slba, blocks}
+use Rattle.nvme_model.specs.EntryBytes.{Sqe, sqe_fields, slba, block_count}
 use Rattle.nvme_model.specs.Commands.{is_write, is_compare, is_read, is_write_zeroes}
 use Rattle.nvme_model.specs.History.{Past}
 use Rattle.nvme_model.specs.Tickets.{Ticket, tickets, command, first_fields}
@@ -18,7 +18,7 @@ use Rattle.nvme_model.specs.declared.operation.Op.{Op}
 use Rattle.nvme_model.specs.declared.status.Verdict.{Verdict}
 use Rattle.nvme_model.specs.declared.submission.Submission.{Submission}
 use Rattle.nvme_model.proofs.Written.{clash}
-use Rattle.nvme_model.specs.Verdict.{taken}
+use Rattle.nvme_model.specs.Verdict.{taken_entries}
 use Rattle.host_laws.proofs.Elements.{In, each_in, same_some}
 use Rattle.host_laws.proofs.Names.{name_length}
 use Rattle.host_laws.proofs.Verdicts.{fuse, VerdictIs}
@@ -32,8 +32,8 @@ pub record OnOne (a b : Submission) : Type 0 where
   pub first : eqb (fuse a) 1 ≡ true
   pub second : eqb (fuse b) 2 ≡ true
   pub slba : slba (sqe_fields a.entry) ≡ slba (sqe_fields b.entry)
-  pub one : blocks (sqe_fields a.entry) ≡ 1
-  pub second_one : blocks (sqe_fields b.entry) ≡ 1
+  pub one : block_count (sqe_fields a.entry) ≡ 1
+  pub second_one : block_count (sqe_fields b.entry) ≡ 1
 
 pub on_one : (a b : Submission) → is_pair_on_one a b ≡ true → OnOne a b
 on_one a b h =
@@ -61,7 +61,7 @@ pub record SwapTicket (past : Past) (t l : ℕ) : Type 0 where
   pub lba : swap.lba ≡ l
   pub op : op (Tickets.ticket past t) ≡ Some Op.Pair
   pub slba : slba (first_fields (Tickets.ticket past t)) ≡ l
-  pub one : blocks (first_fields (Tickets.ticket past t)) ≡ 1
+  pub one : block_count (first_fields (Tickets.ticket past t)) ≡ 1
   pub bytes : SwapData swap (compare_data (Tickets.ticket past t) l) (write_data (Tickets.ticket past t) l)
 
 -- the data of one block is the whole payload
@@ -88,7 +88,7 @@ swap_data k s l o e d =
 
 pub record Meets (slots : Range) (k : Ticket) (l : ℕ) : Type 0 where
   pub low : slba (first_fields k) ≤ l
-  pub high : l < slba (first_fields k) + blocks (first_fields k)
+  pub high : l < slba (first_fields k) + block_count (first_fields k)
   pub from : slots.slba ≤ l
   pub to : l < slots.slba + slots.blocks
 
@@ -107,13 +107,14 @@ writes_of e h = go (is_write e) (is_read e) (is_compare e) (is_write_zeroes e) h
 -- a write of a block of the area touches it
 pub touching : (slots : Range) (s : Submission) (l : ℕ)
     → (is_write (sqe_fields s.entry) || is_write_zeroes (sqe_fields s.entry)) ≡ true → slba (sqe_fields s.entry) ≤ l
-    → l < slba (sqe_fields s.entry) + blocks (sqe_fields s.entry)
+    → l < slba (sqe_fields s.entry) + block_count (sqe_fields s.entry)
     → slots.slba ≤ l → l < slots.slba + slots.blocks → touches slots s ≡ true
 touching slots s l w a b d e =
-    let some = and_from _ _ (lt-ltb 0 (blocks (sqe_fields s.entry)) (omega (arith, a, b)))
+    let some = and_from _ _ (lt-ltb 0 (block_count (sqe_fields s.entry)) (omega (arith, a, b)))
     (lt-ltb 0 slots.blocks (omega (arith, d, e))) in
     let begins = lt-ltb (slba (sqe_fields s.entry)) (slots.slba + slots.blocks) (omega (arith, a, e)) in
-    let ends = lt-ltb slots.slba (slba (sqe_fields s.entry) + blocks (sqe_fields s.entry)) (omega (arith, b, d)) in
+    let ends = lt-ltb slots.slba (slba (sqe_fields s.entry) + block_count (sqe_fields s.entry))
+    (omega (arith, b, d)) in
     and_from _ _ w (and_from _ _ some (and_from _ _ begins ends))
 
 pub swap_ticket : (c : ConfigNumbers) (slots : Range) (past : Past) (t l : ℕ) → IsLegal c past
@@ -149,7 +150,7 @@ swap_ticket c slots past t l h d a b w m = by_verdict (Tickets.ticket past t).ve
     by_verdict Verdict.Pair e k =
         let pair = subst (λ (v : Verdict).
         VerdictIs v (command (Tickets.ticket past t) 0) (command (Tickets.ticket past t) 1)) e k.verdict in
-        let second = k.second (ap taken e) in
+        let second = k.second (ap taken_entries e) in
         let s = swapped_by c slots past (Tickets.ticket past t).queue (suc (fetched_before past t))
         (command (Tickets.ticket past t) 1) d second
         (touching slots (command (Tickets.ticket past t) 1) l (or_left _ _ pair.writes)
@@ -164,8 +165,8 @@ swap_ticket c slots past t l h d a b w m = by_verdict (Tickets.ticket past t).ve
         (ap (slice_get (published_entries past (Tickets.ticket past t).queue)) number ∙ k.first) in
         let new = same_some f.new (command (Tickets.ticket past t) 1) _ second2
         (ap (slice_get (published_entries past (Tickets.ticket past t).queue)) s.number ∙ second) in
-        let one : blocks (first_fields (Tickets.ticket past t)) ≡ 1 =
-        sym (ap (λ (x : Submission). blocks (sqe_fields x.entry)) old) ∙ (on_one f.old f.new f.pair).one in
+        let one : block_count (first_fields (Tickets.ticket past t)) ≡ 1 =
+        sym (ap (λ (x : Submission). block_count (sqe_fields x.entry)) old) ∙ (on_one f.old f.new f.pair).one in
         let at : slba (first_fields (Tickets.ticket past t)) ≡ l = omega (arith, one, m.low, m.high) in
         let paired : op (Tickets.ticket past t) ≡ Some Op.Pair =
         ap (λ (v : Verdict). op_by v (first_fields (Tickets.ticket past t))) e in

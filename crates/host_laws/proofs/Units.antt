@@ -13,7 +13,7 @@ use Rattle.nvme_model.specs.Open.{unit_range}
 use Rattle.nvme_model.specs.Placed.{effect}
 use Rattle.host_laws.specs.Calls.{says_yes, IsDone}
 use Rattle.nvme_model.specs.Answered.{says_no, no_at}
-use Rattle.nvme_model.specs.Owed.{some_no, units_of, read_data_by, contents_at, numbered}
+use Rattle.nvme_model.specs.Owed.{some_no, units_of, read_data_by, contents_at, numbered_units}
 use Rattle.nvme_model.specs.Legal.{IsLegal}
 use Rattle.nvme_model.specs.declared.array.Range.{Range}
 use Rattle.nvme_model.specs.declared.operation.Op.{Op}
@@ -47,7 +47,7 @@ Effects c past t = list_all (λ u. is_some (effect past t u.0)) (units_of c past
 
 pub units_later : (c : ConfigNumbers) (past all : Past) (t : ℕ) → Tickets.ticket all t ≡ Tickets.ticket past t
     → units_of c all t ≡ units_of c past t
-units_later c past all t e = ap (λ (k : Ticket). numbered 0 (units c k)) e
+units_later c past all t e = ap (λ (k : Ticket). numbered_units 0 (units c k)) e
 
 pub effects_later : (c : ConfigNumbers) (later past : Past) (t : ℕ) → IsLegal c (later ++ past)
     → Tickets.ticket (later ++ past) t ≡ Tickets.ticket past t → Effects c past t → Effects c (later ++ past) t

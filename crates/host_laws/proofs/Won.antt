@@ -5,8 +5,8 @@ use Rattle.std.proofs.Common.{subst, subst₂, Option, Some, None, inl, inr, ari
 use Rattle.std.proofs.Common.{slice_get}
 use Rattle.std.proofs.lemmas.Bool.{and_parts, and_from, or_right, cases_lt, cond-true}
 use Rattle.nvme_model.specs.declared.config.ConfigNumbers.{ConfigNumbers}
-use Rattle.nvme_model.specs.EntryBytes.{sqe_fields, slba, blocks}
-use Rattle.nvme_model.specs.Verdict.{taken, passed}
+use Rattle.nvme_model.specs.EntryBytes.{sqe_fields, slba, block_count}
+use Rattle.nvme_model.specs.Verdict.{taken_entries, passed}
 use Rattle.nvme_model.specs.Array.{has_block}
 use Rattle.nvme_model.specs.History.{Past}
 use Rattle.nvme_model.specs.Tickets.{Ticket, command, first_fields, posts_of}
@@ -15,7 +15,7 @@ use Rattle.nvme_model.specs.Operations.{op, has_write, has_compare, compare_data
 use Rattle.nvme_model.specs.Open.{grants_of, unit_range}
 use Rattle.nvme_model.specs.Value.{value, all_equal, writes}
 use Rattle.nvme_model.specs.Placed.{effect}
-use Rattle.host_laws.specs.Calls.{says_yes, yes_at, status_in}
+use Rattle.host_laws.specs.Calls.{says_yes, yes_at, cqe_status}
 use Rattle.nvme_model.specs.Slots.{Swap, swaps, reaped_success, fetched_before}
 use Rattle.nvme_model.specs.Legal.{IsLegal}
 use Rattle.nvme_model.specs.declared.array.Range.{Range}
@@ -50,17 +50,17 @@ pub record Won (past : Past) (s : Swap) : Type 0 where
   pub bytes : SwapData s (value before s.lba) (value (Entry.Block block ∷ before) s.lba)
 
 abbrev pub whole : Ticket → Range
-whole k = record { slba = slba (first_fields k); blocks = blocks (first_fields k) }
+whole k = record { slba = slba (first_fields k); blocks = block_count (first_fields k) }
 
 effect_writes : (e : Past) (b : BlockLine) (k : Ticket) (l : ℕ) → Tickets.ticket e b.ticket ≡ k
     → unit_range e b.ticket b.unit ≡ whole k → op k ≡ Some Op.Pair → b.effect ≡ true
-    → all_equal (value e) k (whole k) ≡ true → slba (first_fields k) ≡ l → blocks (first_fields k) ≡ 1
+    → all_equal (value e) k (whole k) ≡ true → slba (first_fields k) ≡ l → block_count (first_fields k) ≡ 1
     → (value e l ≡ compare_data k l) × (value (Entry.Block b ∷ e) l ≡ write_data k l)
 effect_writes e b k l ke re p m y s o =
     let old = one_equal (value e) k (whole k) l s o y in
     let here : has_block (whole k) l ≡ true =
     and_from _ _ (le-leb (slba (first_fields k)) l (omega (arith, s)))
-    (lt-ltb l (slba (first_fields k) + blocks (first_fields k)) (omega (arith, s, o))) in
+    (lt-ltb l (slba (first_fields k) + block_count (first_fields k)) (omega (arith, s, o))) in
     let wrote : writes (value e) k (whole k) ≡ true =
     and_from _ _ (ap has_write p) (or_right (not (has_compare (op k))) (all_equal (value e) k (whole k)) y) in
     let all : (b.effect && has_block (unit_range e b.ticket b.unit) l
@@ -82,7 +82,7 @@ yes_some (Some e) k r h = (e, refl, (and_parts _ _ h).1)
 -- of a pair's ticket
 won_ticket : (c : ConfigNumbers) (past : Past) (t : ℕ) (s : Swap) → IsLegal c past
     → op (Tickets.ticket past t) ≡ Some Op.Pair → says_yes past t 0 ≡ true
-    → slba (first_fields (Tickets.ticket past t)) ≡ s.lba → blocks (first_fields (Tickets.ticket past t)) ≡ 1
+    → slba (first_fields (Tickets.ticket past t)) ≡ s.lba → block_count (first_fields (Tickets.ticket past t)) ≡ 1
     → SwapData s (command (Tickets.ticket past t) 0).payload (command (Tickets.ticket past t) 1).payload → Won past s
 won_ticket c past t s h p y a o d =
     let k = Tickets.ticket past t in
@@ -115,15 +115,15 @@ record AtPost (past : Past) (t : ℕ) (s : Swap) : Type 0 where
   op : op (Tickets.ticket past t) ≡ Some Op.Pair
   verdict : (Tickets.ticket past t).verdict ≡ Verdict.Pair
   slba : slba (first_fields (Tickets.ticket past t)) ≡ s.lba
-  one : blocks (first_fields (Tickets.ticket past t)) ≡ 1
+  one : block_count (first_fields (Tickets.ticket past t)) ≡ 1
   bytes : SwapData s (command (Tickets.ticket past t) 0).payload (command (Tickets.ticket past t) 1).payload
 
 record Numbers (past all : Past) (t : ℕ) (s : Swap) : Type 0 where
   first : slice_get (published_entries all s.queue) (fetched_before past t) ≡ Some (command (Tickets.ticket past t) 0)
-  second : taken (Tickets.ticket past t).verdict ≡ 2
+  second : taken_entries (Tickets.ticket past t).verdict ≡ 2
       → slice_get (published_entries all s.queue) (suc (fetched_before past t))
       ≡ Some (command (Tickets.ticket past t) 1)
-  below : posts_of past t < taken (Tickets.ticket past t).verdict
+  below : posts_of past t < taken_entries (Tickets.ticket past t).verdict
   number : fetched_before past t + posts_of past t ≡ suc s.number
 
 at_post : (past all : Past) (t : ℕ) (s : Swap) (v : Verdict) → (Tickets.ticket past t).verdict ≡ v → passed v ≡ true
@@ -132,13 +132,13 @@ at_post : (past all : Past) (t : ℕ) (s : Swap) (v : Verdict) → (Tickets.tick
 at_post past all t s (Verdict.SingleFailed x) e p k n f = clash false p refl
 at_post past all t s (Verdict.PairFailed x y) e p k n f = clash false p refl
 at_post past all t s Verdict.Single e p k n f =
-    let few : posts_of past t < 1 = subst (λ (v : Verdict). posts_of past t < taken v) e n.below in
+    let few : posts_of past t < 1 = subst (λ (v : Verdict). posts_of past t < taken_entries v) e n.below in
     let same = same_some f.new (command (Tickets.ticket past t) 0)
     (slice_get (published_entries all s.queue) (suc s.number)) f.second
     (ap (slice_get (published_entries all s.queue)) (omega (arith, n.number, few)) ∙ n.first) in
     clash (eqb (fuse f.new) 2) (on_one f.old f.new f.pair).second (ap (λ (x : Submission). eqb (fuse x) 2) same ∙ k.1)
 at_post past all t s Verdict.Pair e p k n f =
-    let few : posts_of past t < 2 = subst (λ (v : Verdict). posts_of past t < taken v) e n.below in
+    let few : posts_of past t < 2 = subst (λ (v : Verdict). posts_of past t < taken_entries v) e n.below in
     elim (cases_lt (posts_of past t) 1) [
       | inl z ↦
           let same = same_some f.new (command (Tickets.ticket past t) 0)
@@ -154,12 +154,13 @@ at_post past all t s Verdict.Pair e p k n f =
           (ap (slice_get (published_entries all s.queue)) at ∙ n.first) in
           let new = same_some f.new (command (Tickets.ticket past t) 1)
           (slice_get (published_entries all s.queue) (suc s.number)) f.second
-          (ap (λ (i : ℕ). slice_get (published_entries all s.queue) (suc i)) at ∙ n.second (ap taken e)) in
+          (ap (λ (i : ℕ). slice_get (published_entries all s.queue) (suc i)) at ∙ n.second (ap taken_entries e)) in
           record {
             op = ap (λ (v : Verdict). op_by v (first_fields (Tickets.ticket past t))) e;
             verdict = e;
             slba = sym (ap (λ (x : Submission). slba (sqe_fields x.entry)) old) ∙ sym f.lba;
-            one = sym (ap (λ (x : Submission). blocks (sqe_fields x.entry)) old) ∙ (on_one f.old f.new f.pair).one;
+            one = sym (ap (λ (x : Submission). block_count (sqe_fields x.entry)) old)
+                ∙ (on_one f.old f.new f.pair).one;
             bytes = subst₂ (λ (x y : Submission). SwapData s x.payload y.payload) old new f.bytes;
           }
     ]
@@ -187,7 +188,7 @@ won c past s h i r =
     let legal = earlier c at.later (Entry.Post found.post ∷ at.before) (subst (λ (x : Past). IsLegal c x) at.is h) in
     let p = post_is c at.before found.post legal in
     let k = Tickets.ticket at.before found.post.ticket in
-    let owes = p.owed ∙ ap Some (success_is (status_in found.post.cqe) found.says) in
+    let owes = p.owed ∙ ap Some (success_is (cqe_status found.post.cqe) found.says) in
     let ok = passes c at.before found.post.ticket (posts_of at.before found.post.ticket) k.verdict (command k 0)
     (command k 1) refl p.taken.verdict owes in
     let all : Past = at.later ++ (Entry.Post found.post ∷ at.before) in

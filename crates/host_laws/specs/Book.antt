@@ -6,7 +6,7 @@ use Rattle.nvme_model.specs.History.{Past}
 use Rattle.nvme_model.specs.Queues.{published_entries}
 use Rattle.nvme_model.specs.declared.config.ConfigNumbers.{ConfigNumbers}
 use Rattle.nvme_model.specs.declared.submission.Submission.{Submission}
-use Rattle.host_laws.specs.Calls.{IsWaiting}
+use Rattle.host_laws.specs.Calls.{IsEntryWaiting}
 
 -- the number of the entry of a submission queue that has a CID, if one is waited for
 abbrev pub Book : Type 0
@@ -39,12 +39,12 @@ without_entry book q cid r i = if (r == q) && (i == cid) then None else book r i
 -- For the submission queues of completion queue n the book has exactly the entries whose completions aren't reaped,
 -- each under its CID.
 abbrev pub IsBook : ConfigNumbers → Past → ℕ → Book → Type 0
-IsBook c past n book = (q cid j : ℕ) → completion_queue c q ≡ n → (book q cid ≡ Some j) ↔ IsWaiting c past q cid j
+IsBook c past n book = (q cid j : ℕ) → completion_queue c q ≡ n → (book q cid ≡ Some j) ↔ IsEntryWaiting c past q cid j
 
 -- no two entries of submission queue q that wait for their completions have one CID
-abbrev pub IsApart : ConfigNumbers → Past → ℕ → Type 0
-IsApart c past q = (cid i j : ℕ) → IsWaiting c past q cid i → IsWaiting c past q cid j → i ≡ j
+abbrev pub HasDistinctCids : ConfigNumbers → Past → ℕ → Type 0
+HasDistinctCids c past q = (cid i j : ℕ) → IsEntryWaiting c past q cid i → IsEntryWaiting c past q cid j → i ≡ j
 
 -- nor had any at an earlier place
 abbrev pub IsAlwaysApart : ConfigNumbers → Past → ℕ → Type 0
-IsAlwaysApart c past q = (later before : Past) → later ++ before ≡ past → IsApart c before q
+IsAlwaysApart c past q = (later before : Past) → later ++ before ≡ past → HasDistinctCids c before q

@@ -20,7 +20,7 @@ use Rattle.nvme_model.specs.Statuses.{same_status, success, unit_exceeded}
 use Rattle.nvme_model.specs.Tickets
 use Rattle.nvme_model.specs.Tickets.{Ticket, command, tickets}
 use Rattle.nvme_model.specs.Value.{all_equal, value}
-use Rattle.nvme_model.specs.Verdict.{has_invalid_field, passed, taken}
+use Rattle.nvme_model.specs.Verdict.{has_invalid_field, passed, taken_entries}
 use Rattle.nvme_model.specs.declared.array.Range.{Range}
 use Rattle.nvme_model.specs.declared.config.ConfigNumbers.{ConfigNumbers}
 use Rattle.nvme_model.specs.declared.entry.Entry.{Entry}
@@ -35,7 +35,8 @@ abbrev pub takes : Past → ℕ → ℕ → ℕ → Bool
 takes past t q j =
     let k = Tickets.ticket past t in
     let first = fetched_before past t in
-    nat_le 1 t && nat_le t (tickets past) && (k.queue == q) && nat_le first j && nat_lt j (first + taken k.verdict)
+    nat_le 1 t && nat_le t (tickets past) && (k.queue == q) && nat_le first j
+    && nat_lt j (first + taken_entries k.verdict)
 
 -- Entry j of submission queue q is published, as a command by itself that does o.
 pub record IsSingle (past : Past) (q j : ℕ) (o : Op) : Type 0 where
@@ -86,8 +87,8 @@ reaped_post c (Entry.Reap r ∷ past) q j =
 reaped_post c (_ ∷ past) q j = reaped_post c past q j
 
 -- the status that a completion's bytes say
-abbrev pub status_in : List ℕ → Status
-status_in cqe = record { sct = (cqe_fields cqe).sct; sc = (cqe_fields cqe).sc }
+abbrev pub cqe_status : List ℕ → Status
+cqe_status cqe = record { sct = (cqe_fields cqe).sct; sc = (cqe_fields cqe).sc }
 
 -- no field of the completion is set that this profile leaves zero
 abbrev pub is_clean : List ℕ → Bool
@@ -196,7 +197,7 @@ pub record ReapAnswers (c : ConfigNumbers) (past : Past) (r : ReapLine) : Type 0
       reaped_post c (Entry.Reap r ∷ past) q j ≡ reaped_post c past q j
 
 -- entry j of submission queue q has this CID, and its completion isn't reaped
-pub record IsWaiting (c : ConfigNumbers) (past : Past) (q cid j : ℕ) : Type 0 where
+pub record IsEntryWaiting (c : ConfigNumbers) (past : Past) (q cid j : ℕ) : Type 0 where
   pub entry : Submission
   pub published : slice_get (published_entries past q) j ≡ Some entry
   pub says : (sqe_fields entry.entry).cid ≡ cid

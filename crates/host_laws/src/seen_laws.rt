@@ -14,7 +14,8 @@ ghost use Rattle.nvme_model.specs.Slots.{Swap, swaps};
 ghost use Rattle.nvme_model.specs.Legal.{IsLegal};
 ghost use Rattle.host_laws.specs.Batches.{pair_on, single_on};
 ghost use Rattle.host_laws.specs.Beside.{IsBeside, IsSole};
-ghost use Rattle.host_laws.specs.Book.{Book, IsAlwaysApart, IsApart, IsBook, cid_of, empty_book, with_one, with_pair};
+ghost use Rattle.host_laws.specs.Book.{Book, IsAlwaysApart, HasDistinctCids, IsBook, cid_of, empty_book, with_one};
+ghost use Rattle.host_laws.specs.Book.{with_pair};
 ghost use Rattle.host_laws.specs.Book.{without_entry};
 ghost use Rattle.host_laws.specs.Calls.{IsFused, IsProperPair, IsSingle, takes, reaped_post, PairSwaps, PairDiffers};
 ghost use Rattle.host_laws.specs.Calls.{IsDone, CompareDiffers, FailsChecks, ReapAnswers};
@@ -102,12 +103,13 @@ pub fn a_book_is_kept()
 pub fn cids_stay_apart()
     ensures empty { (c : ConfigNumbers) (past : Past) (q : ℕ) → published_entries past q ≡ [] → IsAlwaysApart c past q }
     ensures book { (c : ConfigNumbers) (past : Past) (n : ℕ) (book : Book) (q : ℕ) → IsBook c past n book →
-        completion_queue c q ≡ n → IsApart c past q }
+        completion_queue c q ≡ n → HasDistinctCids c past q }
     ensures more { (c : ConfigNumbers) (e : Entry) (past : Past) (q : ℕ) → IsAlwaysApart c past q →
-        IsApart c (e ∷ past) q → IsAlwaysApart c (e ∷ past) q }
+        HasDistinctCids c (e ∷ past) q → IsAlwaysApart c (e ∷ past) q }
     ensures beside { (c : ConfigNumbers) (later past : Past) (n q : ℕ) → IsBeside c n later → completion_queue c q ≡ n →
         IsAlwaysApart c past q → IsAlwaysApart c (later ++ past) q }
-    ensures free { (c : ConfigNumbers) (past : Past) (q j : ℕ) (s : Submission) → IsLegal c past → IsApart c past q →
+    ensures free { (c : ConfigNumbers) (past : Past) (q j : ℕ) (s : Submission) → IsLegal c past
+        → HasDistinctCids c past q →
         fetched_count past q ≤ j → slice_get (published_entries past q) j ≡ Some s →
         is_in (cid_of s) (cids_in_use past q) ≡ false }
 {}

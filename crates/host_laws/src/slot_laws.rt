@@ -14,7 +14,7 @@ ghost use Rattle.nvme_model.specs.Statuses.{is_success};
 ghost use Rattle.nvme_model.specs.declared.entry.PostLine.{PostLine};
 ghost use Rattle.host_laws.specs.Book.{IsAlwaysApart};
 ghost use Rattle.host_laws.specs.Beside.{IsBeside};
-ghost use Rattle.host_laws.specs.Calls.{IsProperPair, PairDiffers, reaped_post, status_in};
+ghost use Rattle.host_laws.specs.Calls.{IsProperPair, PairDiffers, reaped_post, cqe_status};
 ghost use Rattle.host_laws.specs.Claims.{IsClaim, IsPublishedClaim, IsPublishedRelease, IsRelease, IsWon, all_drawn};
 ghost use Rattle.host_laws.specs.Claims.{claim_of, claims_only_on, is_claimed, is_released_on, lba_of, release_of};
 ghost use Rattle.host_laws.specs.Batches.{pair_line, pair_on};
@@ -85,11 +85,11 @@ pub fn a_release_succeeds()
     ensures first { (c : ConfigNumbers) (slots : Range) (past : Past) (r : Swap) (p : PostLine) → IsLegal c past →
         disciplined c slots past ≡ true → IsPublishedRelease slots past r → IsAlwaysApart c past r.queue →
         IsProperPair past r.queue r.number → reaped_post c past r.queue r.number ≡ Some p →
-        is_success (status_in p.cqe) ≡ true }
+        is_success (cqe_status p.cqe) ≡ true }
     ensures second { (c : ConfigNumbers) (slots : Range) (past : Past) (r : Swap) (p : PostLine) → IsLegal c past →
         disciplined c slots past ≡ true → IsPublishedRelease slots past r → IsAlwaysApart c past r.queue →
         IsProperPair past r.queue r.number → reaped_post c past r.queue (suc r.number) ≡ Some p →
-        is_success (status_in p.cqe) ≡ true }
+        is_success (cqe_status p.cqe) ≡ true }
 {}
 
 /// What a Publish of a pair is: a claim, or a release.

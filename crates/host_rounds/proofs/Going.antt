@@ -6,27 +6,27 @@ use Rattle.nvme_model.specs.declared.config.ConfigNumbers.{ConfigNumbers}
 use Rattle.meet_lock.specs.Passes.{seen}
 use Rattle.work_queue.specs.declared.notice.Notice.{Notice}
 use Rattle.work_queue.specs.declared.queue.QueuePass.{QueuePass}
-use Rattle.hosts.specs.Hands.{IsPlaceAt}
-use Rattle.hosts.specs.declared.hall.Hall.{Hall}
+use Rattle.shared_system.specs.Callers.{IsPlaceAt}
+use Rattle.shared_system.specs.declared.system.System.{System}
 use Rattle.driver_calls.proofs.Views.{follows_on, follows_self}
 use Rattle.driver_cas.specs.Drivers.{HasSettings, port_of}
-use Rattle.driver_cas.specs.Ports.{Follows, view_of}
+use Rattle.driver_cas.specs.Ports.{PortFollows, view_of}
 use Rattle.driver_cas.specs.declared.driver.Driver.{Driver}
 use Rattle.driver_cas.specs.declared.port.Port.{Ghosts}
 use Rattle.driver_cas.specs.declared.shared_port.SharedPort.{SharedPort}
 use Rattle.slot_alloc.specs.Areas.{area}
-use Rattle.slot_alloc.specs.Careful as careful
-use Rattle.slot_alloc.specs.Careful.{IsCareful, ReleasedName}
+use Rattle.slot_alloc.specs.SlotRules as slot_rules
+use Rattle.slot_alloc.specs.SlotRules.{KeepsSlotRules, ReleasedName}
 use Rattle.slot_hosts.specs.Hosts.{IsHost}
-use Rattle.host_rounds.specs.Hosts.{Goes, IsHosting}
+use Rattle.host_rounds.specs.Hosts.{HostContinues, IsHosting}
 use Rattle.host_rounds.specs.declared.owned.Host.{Host}
 
 -- a port is itself at a later time, and later than a later one
-later_same : (a : SharedPort) → Follows a a
+later_same : (a : SharedPort) → PortFollows a a
 later_same a =
     record { same_lock = refl; same_passes = refl; view = follows_self (view_of a); sole = refl }
 
-later_on : (a b c : SharedPort) → Follows a b → Follows b c → Follows a c
+later_on : (a b c : SharedPort) → PortFollows a b → PortFollows b c → PortFollows a c
 later_on a b c x y =
     record {
       same_lock = y.same_lock ∙ x.same_lock;
@@ -47,8 +47,8 @@ module _ {P : Type 0} {g : Ghosts P} where
       }
 
 module _ {G : Type 0} where
-  pub goes_same : (hall : Hall G) (h : Host) → IsHosting hall h → Goes hall h h
-  goes_same hall h of =
+  pub goes_same : (system : System G) (h : Host) → IsHosting system h → HostContinues system h h
+  goes_same system h of =
       record {
         of = of;
         settings = record { began = refl; host = refl; acwu = refl; slots = refl; queues = refl };
@@ -57,8 +57,9 @@ module _ {G : Type 0} where
         later = later_same (port_of h.driver);
       }
 
-  pub goes_far : (hall : Hall G) (h k m : Host) → Goes hall h k → Goes hall k m → Goes hall h m
-  goes_far hall h k m a b =
+  pub goes_far : (system : System G) (h k m : Host) → HostContinues system h k → HostContinues system k m
+      → HostContinues system h m
+  goes_far system h k m a b =
       record {
         of = b.of;
         settings = settings_on h.driver k.driver m.driver a.settings b.settings;
@@ -68,12 +69,13 @@ module _ {G : Type 0} where
       }
 
   -- whoever is a host stays one
-  pub host_on : (hall : Hall G) (h k : Host) → Goes hall h k → (c : ConfigNumbers) (slots : Range) (pass queue n : ℕ)
+  pub host_on : (system : System G) (h k : Host) → HostContinues system h k
+      → (c : ConfigNumbers) (slots : Range) (pass queue n : ℕ)
       → IsHost c slots pass queue n h.driver → IsHost c slots pass queue n k.driver
-  host_on hall h k a c slots pass queue n x =
+  host_on system h k a c slots pass queue n x =
       record {
         first = ap (λ (b : Snapshot SharedPort). seen b.value.pass) a.settings.began ∙ x.first;
-        careful = a.of.careful;
+        slot_rules = a.of.slot_rules;
         config = a.later.view.same_config ∙ x.config;
         area = a.settings.slots ∙ x.area;
         pass_is = a.later.view.same_pass ∙ x.pass_is;
@@ -82,19 +84,20 @@ module _ {G : Type 0} where
       }
 
   -- by a call of its driver
-  pub goes_called : (hall : Hall G) (h k m : Host) (released : Option ReleasedName) → Goes hall h k → m.slots ≡ k.slots
-      → m.queue ≡ k.queue → m.notices ≡ k.notices → (IsCareful k.driver → IsCareful m.driver)
-      → careful.GoesOn k.driver m.driver released → Goes hall h m
-  goes_called hall h k m released a slots queue notices kept x =
-      goes_far hall h k m a
+  pub goes_called : (system : System G) (h k m : Host) (released : Option ReleasedName) → HostContinues system h k
+      → m.slots ≡ k.slots
+      → m.queue ≡ k.queue → m.notices ≡ k.notices → (KeepsSlotRules k.driver → KeepsSlotRules m.driver)
+      → slot_rules.DriverContinues k.driver m.driver released → HostContinues system h m
+  goes_called system h k m released a slots queue notices kept x =
+      goes_far system h k m a
       (record {
         of =
             record {
               of = x.later.same_lock ∙ a.of.of;
               slots = x.settings.slots ∙ a.of.slots ∙ ap area (sym slots);
-              careful = kept a.of.careful;
-              queue = subst (λ (n : ℕ). (1 ≤ n) × (n ≤ length hall.notices.items)) (sym queue) a.of.queue;
-              place = subst (λ (z : ℕ × QueuePass Notice). IsPlaceAt hall (z.0 - 1) z.1)
+              slot_rules = kept a.of.slot_rules;
+              queue = subst (λ (n : ℕ). (1 ≤ n) × (n ≤ length system.notices.items)) (sym queue) a.of.queue;
+              place = subst (λ (z : ℕ × QueuePass Notice). IsPlaceAt system (z.0 - 1) z.1)
                   (λ i. (sym queue i, sym notices i)) a.of.place;
             };
         settings = x.settings;

@@ -4,12 +4,12 @@ use Rattle.nvme_model.specs.Config.{completion_queue}
 use Rattle.nvme_model.specs.declared.array.Range.{Range}
 use Rattle.nvme_model.specs.declared.config.ConfigNumbers.{ConfigNumbers}
 use Rattle.work_queue.specs.Engines as engine
-use Rattle.hosts.specs.Hands.{IsPlaceAt}
-use Rattle.hosts.specs.declared.hall.Hall.{Hall}
+use Rattle.shared_system.specs.Callers.{IsPlaceAt}
+use Rattle.shared_system.specs.declared.system.System.{System}
 use Rattle.driver_cas.specs.Drivers.{HasSettings, area_of, port_of}
-use Rattle.driver_cas.specs.Ports.{Follows, pass_of, queue_of}
+use Rattle.driver_cas.specs.Ports.{PortFollows, pass_of, queue_of}
 use Rattle.slot_alloc.specs.Areas.{area}
-use Rattle.slot_alloc.specs.Careful.{IsCareful}
+use Rattle.slot_alloc.specs.SlotRules.{KeepsSlotRules}
 use Rattle.host_rounds.specs.declared.owned.Host.{Host}
 
 -- the submission queue is there, and uses this completion queue
@@ -33,20 +33,20 @@ abbrev pub IsSlotArea : Range → Type 0
 IsSlotArea r = (1 ≤ r.blocks) × (r.slba + r.blocks ≤ 65536)
 
 module _ {G : Type 0} where
-  -- Its driver is of the hall's controller and has these slots, whose discipline it has kept, and its place is one of
+  -- Its driver is of the system's controller and has these slots, whose discipline it has kept, and its place is one of
   -- the notices of a completion queue.
-  pub record IsHosting (hall : Hall G) (h : Host) : Type 0 where
-    pub of : engine.IsOf hall.engine (pass_of (port_of h.driver))
+  pub record IsHosting (system : System G) (h : Host) : Type 0 where
+    pub of : engine.IsPassOfEngine system.engine (pass_of (port_of h.driver))
     pub slots : area_of h.driver ≡ area h.slots
-    pub careful : IsCareful h.driver
-    pub queue : (1 ≤ h.queue) × (h.queue ≤ length hall.notices.items)
-    pub place : IsPlaceAt hall (h.queue - 1) h.notices
+    pub slot_rules : KeepsSlotRules h.driver
+    pub queue : (1 ≤ h.queue) × (h.queue ≤ length system.notices.items)
+    pub place : IsPlaceAt system (h.queue - 1) h.notices
 
   -- It is so later, with the same settings, and its port is what it was at a later time: what its pass has seen begins
   -- with what it had.
-  pub record Goes (hall : Hall G) (h k : Host) : Type 0 where
-    pub of : IsHosting hall k
+  pub record HostContinues (system : System G) (h k : Host) : Type 0 where
+    pub of : IsHosting system k
     pub settings : HasSettings h.driver k.driver
     pub slots : k.slots ≡ h.slots
     pub queue : k.queue ≡ h.queue
-    pub later : Follows (port_of h.driver) (port_of k.driver)
+    pub later : PortFollows (port_of h.driver) (port_of k.driver)

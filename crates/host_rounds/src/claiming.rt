@@ -2,12 +2,12 @@
 
 ghost use Rattle.std.specs.Prelude.{◌≡◌, IfOk, IfSome};
 ghost use Rattle.slot_alloc.specs.Claims.{IsClaimingOf, IsHeldBy, IsUnreleased};
-ghost use Rattle.host_rounds.specs.Hosts.{Goes, IsHosting};
+ghost use Rattle.host_rounds.specs.Hosts.{HostContinues, IsHosting};
 
 use crate::owned::Host;
-use crate::pausing::{Next, next_after, pause, stops};
+use crate::pausing::{AfterFault, next_after, pause, stops};
 use driver_cas::{Fault, SharedPort};
-use hosts::Hall;
+use shared_system::System;
 use slot_alloc::{Claim, Claiming, Progress, poll_claim};
 use std::alloc::AllocError as NoMemory;
 use std::sync::Wait;
@@ -16,27 +16,27 @@ use std::sync::Wait;
 // set.
 fn begin<'a, R: Wait, G>(
     rt: &R,
-    hall: &Hall<G>,
+    system: &System<G>,
     host: &mut Host<'a>,
 ) -> Result<Option<Claiming<SharedPort<'a>>>, NoMemory>
-    requires { IsHosting hall.now host.old }
-    ensures goes { Goes hall.now host.old host.new }
+    requires { IsHosting system.now host.old }
+    ensures goes { HostContinues system.now host.old host.new }
     ensures of { IfOk result (λ o. IfSome o (λ k. IsClaimingOf host.new.driver k)) }
     ensures unreleased { IfOk result (λ o. IfSome o (λ k. IsUnreleased host.new.driver k)) }
 {
     for _ in rt.forever() {
-        if hall.stop.is_set() {
+        if system.stop.is_set() {
             return Ok(None);
         }
         match host.slots.claim_any(&mut host.driver) {
             Ok(claiming) => return Ok(Some(claiming)),
             Err(fault) => match next_after(fault) {
-                Next::Again => {}
-                Next::RoundEnds => return Ok(None),
-                Next::NoMemory => return Err(stops(hall)),
+                AfterFault::Again => {}
+                AfterFault::RoundEnds => return Ok(None),
+                AfterFault::NoMemory => return Err(stops(system)),
             },
         }
-        pause(rt, hall, host);
+        pause(rt, system, host);
     }
     unreachable!()
 }
@@ -44,19 +44,19 @@ fn begin<'a, R: Wait, G>(
 // Polls a claim until it ends; None where it didn't end with a slot, or the stop flag is set.
 fn wait<'a, R: Wait, G>(
     rt: &R,
-    hall: &Hall<G>,
+    system: &System<G>,
     host: &mut Host<'a>,
     claiming: Claiming<SharedPort<'a>>,
 ) -> Result<Option<Claim>, NoMemory>
-    requires own { IsHosting hall.now host.old }
+    requires own { IsHosting system.now host.old }
     requires of { IsClaimingOf host.old.driver claiming }
     requires unreleased { IsUnreleased host.old.driver claiming }
-    ensures goes { Goes hall.now host.old host.new }
+    ensures goes { HostContinues system.now host.old host.new }
     ensures held { IfOk result (λ o. IfSome o (λ claim. IsHeldBy host.new.driver claim)) }
 {
     let mut claiming = claiming;
     for _ in rt.forever() {
-        if hall.stop.is_set() {
+        if system.stop.is_set() {
             return Ok(None);
         }
         match poll_claim(&mut host.driver, claiming) {
@@ -64,13 +64,13 @@ fn wait<'a, R: Wait, G>(
             Progress::Pending(same) => claiming = same,
             Progress::Later(fault, same) => {
                 if fault == Fault::NoMemory {
-                    return Err(stops(hall));
+                    return Err(stops(system));
                 }
                 claiming = same;
             }
             Progress::Taken | Progress::AllTaken | Progress::Failed(_) => return Ok(None),
         }
-        pause(rt, hall, host);
+        pause(rt, system, host);
     }
     unreachable!()
 }
@@ -82,15 +82,15 @@ fn wait<'a, R: Wait, G>(
 /// `NoMemory` where a growth is refused. The stop flag is set then.
 pub(crate) fn take_slot<R: Wait, G>(
     rt: &R,
-    hall: &Hall<G>,
+    system: &System<G>,
     host: &mut Host<'_>,
 ) -> Result<Option<Claim>, NoMemory>
-    requires { IsHosting hall.now host.old }
-    ensures goes { Goes hall.now host.old host.new }
+    requires { IsHosting system.now host.old }
+    ensures goes { HostContinues system.now host.old host.new }
     ensures held { IfOk result (λ o. IfSome o (λ claim. IsHeldBy host.new.driver claim)) }
 {
-    match begin(rt, hall, host)? {
-        Some(claiming) => wait(rt, hall, host, claiming),
+    match begin(rt, system, host)? {
+        Some(claiming) => wait(rt, system, host, claiming),
         None => Ok(None),
     }
 }

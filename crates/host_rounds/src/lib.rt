@@ -2,12 +2,12 @@
 #![tactic(auto)]
 
 mod claiming;
-mod guests;
+mod host_threads;
 mod owned;
 mod pausing;
 mod releasing;
 mod rounds;
 
-pub use guests::{Play, run_hosts};
+pub use host_threads::{Play, run_hosts};
 pub use owned::{Host, host_of};
 pub use rounds::host;

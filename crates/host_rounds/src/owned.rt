@@ -3,24 +3,24 @@
 ghost use Rattle.std.specs.List.Sorted.{IsStrictlyIncreasing};
 ghost use Rattle.std.specs.Prelude.{◌≡◌, ◌≤◌, ◌<◌, ◌+◌, All, IfErr, IfOk, OnOk, length, true, vec_len};
 ghost use Rattle.meet_lock.specs.Passes.{IsSame, number, seen};
-ghost use Rattle.hosts.specs.Hands.{IsHostOf};
+ghost use Rattle.shared_system.specs.Callers.{IsHostOf};
 ghost use Rattle.driver_cas.specs.Drivers as driver;
 ghost use Rattle.driver_cas.specs.Ports.{pass_of};
 ghost use Rattle.slot_alloc.specs.Areas.{area};
 ghost use Rattle.slot_hosts.specs.Hosts.{IsHost};
 ghost use Rattle.host_rounds.specs.Hosts.{HasEach, HasEachBelow, IsHosting, IsSlotArea, port_queue, uses};
-ghost use Rattle.host_rounds.specs.Playing.{HostGoes};
+ghost use Rattle.host_rounds.specs.Playing.{HostPassesContinue};
 
 use driver_cas::{Driver, SharedPort};
 use history::Config;
-use hosts::{Hall, HostHand};
 use nvme_model::array::Range;
+use shared_system::{HostPasses, System};
 use slot_alloc::Slots;
 use slot_hosts::driver_laws::a_new_driver_is_a_host;
 use std::alloc::{AllocError as NoMemory, Global};
 use work_queue::{Notice, QueuePass};
 
-/// A host of a hall, with its driver.
+/// A host of a system, with its driver.
 #[derive(Drop)]
 pub struct Host<'a> {
     pub driver: Driver<SharedPort<'a>>,
@@ -33,8 +33,8 @@ pub struct Host<'a> {
 }
 
 impl<'a> Host<'a> {
-    /// Its hand, given back with all that its pass has seen. Completions that the driver's calls are owed stay owed.
-    pub fn into_hand(self) -> HostHand
+    /// Its passes, given back with all that its own has seen. Completions that the driver's calls are owed stay owed.
+    pub fn into_caller(self) -> HostPasses
         ensures pass { result.pass ≡ pass_of (driver.port_of self.entry.driver) }
         ensures rest { (result.queue ≡ self.entry.queue) × (result.notices ≡ self.entry.notices) }
     {
@@ -44,7 +44,7 @@ impl<'a> Host<'a> {
             notices,
             ..
         } = self;
-        HostHand {
+        HostPasses {
             pass: driver.into_port().into_pass(),
             queue,
             notices,
@@ -100,38 +100,38 @@ fn submission_queues(alloc: Global, config: &Config, queue: u16) -> Result<Vec<u
 ///
 /// # Errors
 ///
-/// The hand, where a growth is refused.
-#[tactic(auto, using(crate::proofs::Playing::hand_kept, crate::proofs::Playing::hand_same))]
+/// The passes, where a growth is refused.
+#[tactic(auto, using(crate::proofs::Playing::caller_kept, crate::proofs::Playing::caller_same))]
 pub fn host_of<'a, G>(
     alloc: Global,
     config: &Config,
-    hall: &'a Hall<G>,
-    hand: HostHand,
+    system: &'a System<G>,
+    caller: HostPasses,
     slots: Range,
-) -> Result<Host<'a>, HostHand>
-    requires hand { IsHostOf hall.now config.now hand }
+) -> Result<Host<'a>, HostPasses>
+    requires caller { IsHostOf system.now config.now caller }
     requires slots { IsSlotArea slots }
-    ensures hosting { IfOk result (IsHosting hall.entry.now) }
-    ensures queue { IfOk result (λ h. (h.queue ≡ hand.queue) × (port_queue h ≡ hand.queue)) }
-    ensures host { IfOk result (λ h. driver.host_of h.driver ≡ hand.queue) }
+    ensures hosting { IfOk result (IsHosting system.entry.now) }
+    ensures queue { IfOk result (λ h. (h.queue ≡ caller.queue) × (port_queue h ≡ caller.queue)) }
+    ensures host { IfOk result (λ h. driver.host_of h.driver ≡ caller.queue) }
     ensures acwu { IfOk result (λ h. driver.acwu_of h.driver ≡ config.now.atomic.acwu) }
     ensures slots { IfOk result (λ h. (driver.area_of h.driver ≡ slots) × (area h.slots ≡ slots)) }
-    ensures queues { IfOk result (λ h. HasEach config.now hand.queue (driver.queues_used h.driver)) }
-    ensures is { IfOk result (λ h. IsHost config.now slots (number hand.pass) hand.queue hand.queue h.driver) }
+    ensures queues { IfOk result (λ h. HasEach config.now caller.queue (driver.queues_used h.driver)) }
+    ensures is { IfOk result (λ h. IsHost config.now slots (number caller.pass) caller.queue caller.queue h.driver) }
     ensures pass { IfOk result (λ h. let p = pass_of (driver.port_of h.driver) in
-        IsSame hand.pass p × (seen p ≡ seen hand.pass)) }
-    ensures back { IfErr result (HostGoes hall.entry.now hand) }
+        IsSame caller.pass p × (seen p ≡ seen caller.pass)) }
+    ensures back { IfErr result (HostPassesContinue system.entry.now caller) }
 {
-    let Ok(queues) = submission_queues(alloc, config, hand.queue) else {
-        return Err(hand);
+    let Ok(queues) = submission_queues(alloc, config, caller.queue) else {
+        return Err(caller);
     };
-    let HostHand {
+    let HostPasses {
         pass,
         queue,
         notices,
-    } = hand;
+    } = caller;
     let acwu = config.numbers().atomic.acwu;
-    let port = SharedPort::new(&hall.engine, pass, queue);
+    let port = SharedPort::new(&system.engine, pass, queue);
     match Driver::new(alloc, port, u32::from(queue), acwu, slots, queues) {
         Ok(driver) => {
             a_new_driver_is_a_host(&driver);
@@ -142,7 +142,7 @@ pub fn host_of<'a, G>(
                 notices,
             })
         }
-        Err((port, _, _)) => Err(HostHand {
+        Err((port, _, _)) => Err(HostPasses {
             pass: port.into_pass(),
             queue,
             notices,

@@ -6,11 +6,11 @@ ghost use Rattle.slot_alloc.specs.Claims.{IsClaimingOf, IsHeldBy, IsReleasingOf,
 ghost use Rattle.slot_alloc.specs.declared.claim.Claim.{Claim};
 ghost use Rattle.slot_alloc.specs.declared.claiming.Claiming.{Claiming};
 ghost use Rattle.slot_alloc.specs.declared.release.Releasing.{Releasing};
-ghost use Rattle.host_rounds.specs.Hosts.{Goes, IsHosting};
+ghost use Rattle.host_rounds.specs.Hosts.{HostContinues, IsHosting};
 
 use crate::owned::Host;
 use driver_cas::Fault;
-use hosts::Hall;
+use shared_system::System;
 use slot_alloc::laws::an_untouched_driver_keeps_its_slots;
 use std::alloc::AllocError as NoMemory;
 use std::snapshot::Snapshot;
@@ -19,7 +19,7 @@ use std::thread::yield_now;
 
 /// What a host does after a fault.
 #[derive(Clone, Copy, Debug, PartialEq, Eq)]
-pub(crate) enum Next {
+pub(crate) enum AfterFault {
     /// It pauses, and asks again.
     Again,
     RoundEnds,
@@ -27,24 +27,24 @@ pub(crate) enum Next {
 }
 
 /// What a host does where it couldn't begin a call, or reap, for this cause.
-pub(crate) fn next_after(fault: Fault) -> Next {
+pub(crate) fn next_after(fault: Fault) -> AfterFault {
     match fault {
-        Fault::Busy | Fault::RingFull => Next::Again,
-        Fault::NoMemory => Next::NoMemory,
-        _ => Next::RoundEnds,
+        Fault::Busy | Fault::RingFull => AfterFault::Again,
+        Fault::NoMemory => AfterFault::NoMemory,
+        _ => AfterFault::RoundEnds,
     }
 }
 
 /// Ends all loops, for want of memory.
-pub(crate) fn stops<G>(hall: &Hall<G>) -> NoMemory {
-    hall.stop.set();
+pub(crate) fn stops<G>(system: &System<G>) -> NoMemory {
+    system.stop.set();
     NoMemory
 }
 
 /// Learns the next notice, or lets others run where there is none. What was begun and what is held stays so.
-pub(crate) fn pause<R: Wait, G>(rt: &R, hall: &Hall<G>, host: &mut Host<'_>)
-    requires { IsHosting hall.now host.old }
-    ensures goes { Goes hall.now host.old host.new }
+pub(crate) fn pause<R: Wait, G>(rt: &R, system: &System<G>, host: &mut Host<'_>)
+    requires { IsHosting system.now host.old }
+    ensures goes { HostContinues system.now host.old host.new }
     ensures held { (c : Claim) → IsHeldBy host.old.driver c → IsHeldBy host.new.driver c }
     ensures claiming { (k : Claiming SharedPort _) → IsClaimingOf host.old.driver k → IsClaimingOf host.new.driver k }
     ensures unreleased { (k : Claiming SharedPort _) → IsClaimingOf host.old.driver k →
@@ -56,7 +56,7 @@ pub(crate) fn pause<R: Wait, G>(rt: &R, hall: &Hall<G>, host: &mut Host<'_>)
     let place = usize::from(host.queue - 1);
     if !host
         .driver
-        .listen(rt, &hall.notices[place], &mut host.notices)
+        .listen(rt, &system.notices[place], &mut host.notices)
     {
         yield_now();
     }

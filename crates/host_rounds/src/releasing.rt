@@ -2,12 +2,12 @@
 
 ghost use Rattle.std.specs.Prelude.{◌≡◌, IfOk, IfSome};
 ghost use Rattle.slot_alloc.specs.Claims.{IsHeldBy, IsReleasingOf};
-ghost use Rattle.host_rounds.specs.Hosts.{Goes, IsHosting};
+ghost use Rattle.host_rounds.specs.Hosts.{HostContinues, IsHosting};
 
 use crate::owned::Host;
-use crate::pausing::{Next, next_after, pause, stops};
+use crate::pausing::{AfterFault, next_after, pause, stops};
 use driver_cas::{Fault, SharedPort};
-use hosts::Hall;
+use shared_system::System;
 use slot_alloc::laws::a_held_claim_stays;
 use slot_alloc::{Claim, Released, Releasing, poll_release};
 use std::alloc::AllocError as NoMemory;
@@ -18,18 +18,18 @@ use std::sync::Wait;
 // stop flag is set, and the slot is left held.
 fn begin<'a, R: Wait, G>(
     rt: &R,
-    hall: &Hall<G>,
+    system: &System<G>,
     host: &mut Host<'a>,
     claim: Claim,
 ) -> Result<Option<Releasing<SharedPort<'a>>>, NoMemory>
-    requires own { IsHosting hall.now host.old }
+    requires own { IsHosting system.now host.old }
     requires held { IsHeldBy host.old.driver claim }
-    ensures goes { Goes hall.now host.old host.new }
+    ensures goes { HostContinues system.now host.old host.new }
     ensures of { IfOk result (λ o. IfSome o (λ k. IsReleasingOf host.new.driver k)) }
 {
     let mut claim = claim;
     for _ in rt.forever() {
-        if hall.stop.is_set() {
+        if system.stop.is_set() {
             claim.leave();
             return Ok(None);
         }
@@ -37,21 +37,21 @@ fn begin<'a, R: Wait, G>(
         match host.slots.release(&mut host.driver, claim) {
             Ok(releasing) => return Ok(Some(releasing)),
             Err((back, fault)) => match next_after(fault) {
-                Next::Again => {
+                AfterFault::Again => {
                     a_held_claim_stays(&before, &host.driver, &back);
                     claim = back;
                 }
-                Next::RoundEnds => {
+                AfterFault::RoundEnds => {
                     back.leave();
                     return Ok(None);
                 }
-                Next::NoMemory => {
+                AfterFault::NoMemory => {
                     back.leave();
-                    return Err(stops(hall));
+                    return Err(stops(system));
                 }
             },
         }
-        pause(rt, hall, host);
+        pause(rt, system, host);
     }
     unreachable!()
 }
@@ -59,17 +59,17 @@ fn begin<'a, R: Wait, G>(
 // Polls a release until it ends, or the stop flag is set.
 fn wait<'a, R: Wait, G>(
     rt: &R,
-    hall: &Hall<G>,
+    system: &System<G>,
     host: &mut Host<'a>,
     releasing: Releasing<SharedPort<'a>>,
 ) -> Result<(), NoMemory>
-    requires own { IsHosting hall.now host.old }
+    requires own { IsHosting system.now host.old }
     requires of { IsReleasingOf host.old.driver releasing }
-    ensures goes { Goes hall.now host.old host.new }
+    ensures goes { HostContinues system.now host.old host.new }
 {
     let mut releasing = releasing;
     for _ in rt.forever() {
-        if hall.stop.is_set() {
+        if system.stop.is_set() {
             return Ok(());
         }
         match poll_release(&mut host.driver, releasing) {
@@ -77,12 +77,12 @@ fn wait<'a, R: Wait, G>(
             Released::Pending(same) => releasing = same,
             Released::Later(fault, same) => {
                 if fault == Fault::NoMemory {
-                    return Err(stops(hall));
+                    return Err(stops(system));
                 }
                 releasing = same;
             }
         }
-        pause(rt, hall, host);
+        pause(rt, system, host);
     }
     unreachable!()
 }
@@ -94,16 +94,16 @@ fn wait<'a, R: Wait, G>(
 /// `NoMemory` where a growth is refused. The stop flag is set then, and the slot may be held.
 pub(crate) fn give_back<R: Wait, G>(
     rt: &R,
-    hall: &Hall<G>,
+    system: &System<G>,
     host: &mut Host<'_>,
     claim: Claim,
 ) -> Result<(), NoMemory>
-    requires own { IsHosting hall.now host.old }
+    requires own { IsHosting system.now host.old }
     requires held { IsHeldBy host.old.driver claim }
-    ensures goes { Goes hall.now host.old host.new }
+    ensures goes { HostContinues system.now host.old host.new }
 {
-    match begin(rt, hall, host, claim)? {
-        Some(releasing) => wait(rt, hall, host, releasing),
+    match begin(rt, system, host, claim)? {
+        Some(releasing) => wait(rt, system, host, releasing),
         None => Ok(()),
     }
 }

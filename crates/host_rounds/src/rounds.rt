@@ -4,29 +4,29 @@ ghost use Rattle.std.specs.Prelude.{ℕ, ◌≡◌};
 ghost use Rattle.nvme_model.specs.declared.array.Range.{Range};
 ghost use Rattle.nvme_model.specs.declared.config.ConfigNumbers.{ConfigNumbers};
 ghost use Rattle.slot_hosts.specs.Hosts.{IsHost};
-ghost use Rattle.host_rounds.specs.Hosts.{Goes, IsHosting};
+ghost use Rattle.host_rounds.specs.Hosts.{HostContinues, IsHosting};
 
 use crate::claiming::take_slot;
 use crate::owned::Host;
 use crate::releasing::give_back;
-use hosts::Hall;
+use shared_system::System;
 use std::alloc::AllocError as NoMemory;
 use std::sync::Wait;
 
 // Claims any slot, and releases it.
-fn round<R: Wait, G>(rt: &R, hall: &Hall<G>, host: &mut Host<'_>) -> Result<(), NoMemory>
-    requires { IsHosting hall.now host.old }
-    ensures goes { Goes hall.now host.old host.new }
+fn round<R: Wait, G>(rt: &R, system: &System<G>, host: &mut Host<'_>) -> Result<(), NoMemory>
+    requires { IsHosting system.now host.old }
+    ensures goes { HostContinues system.now host.old host.new }
 {
-    match take_slot(rt, hall, host)? {
-        Some(claim) => give_back(rt, hall, host, claim),
+    match take_slot(rt, system, host)? {
+        Some(claim) => give_back(rt, system, host, claim),
         None => Ok(()),
     }
 }
 
 /// Claims any slot and releases it, so many times, or until the stop flag is set. A round in which all slots are had by
 /// others, or a claim fails, ends there. A slot that is held when the stop flag is set stays held. All that is added to
-/// the driver's pass is in the driver's log, and careful.
+/// the driver's pass is in the driver's log, and keeps the rules of slots.
 ///
 /// # Errors
 ///
@@ -34,20 +34,20 @@ fn round<R: Wait, G>(rt: &R, hall: &Hall<G>, host: &mut Host<'_>) -> Result<(), 
 #[tactic(auto, using(crate::proofs::Going::host_on))]
 pub fn host<R: Wait, G>(
     rt: &R,
-    hall: &Hall<G>,
+    system: &System<G>,
     host: &mut Host<'_>,
     rounds: u32,
 ) -> Result<(), NoMemory>
-    requires { IsHosting hall.now host.old }
-    ensures goes { Goes hall.now host.old host.new }
+    requires { IsHosting system.now host.old }
+    ensures goes { HostContinues system.now host.old host.new }
     ensures hosts { (c : ConfigNumbers) (slots : Range) (pass queue n : ℕ) →
         IsHost c slots pass queue n host.old.driver → IsHost c slots pass queue n host.new.driver }
 {
     for _ in 0..rounds {
-        if hall.stop.is_set() {
+        if system.stop.is_set() {
             return Ok(());
         }
-        round(rt, hall, host)?;
+        round(rt, system, host)?;
     }
     Ok(())
 }

@@ -4,13 +4,13 @@ ghost use Rattle.std.specs.Prelude.{IfOk, IfSome};
 ghost use Rattle.meet_lock.specs.Passes.{IsSame};
 ghost use Rattle.work_queue.specs.Engines as engine;
 ghost use Rattle.work_queue.specs.Notices.{IsNoticeOf};
-ghost use Rattle.hosts.specs.Hands.{IsOf};
+ghost use Rattle.shared_system.specs.Callers.{IsCallerOf};
 ghost use Rattle.host_tests.specs.Listening.{IsListening};
 
 use history_check::check;
-use hosts::{Hall, Hand, HostHand};
 use meet_lock::{Declined, Pass};
 use nvme_model::submission::{Payload, Submission, Submissions};
+use shared_system::{CallerPasses, HostPasses, System};
 use std::alloc::{AllocError as NoMemory, Global};
 use std::sync::Wait;
 use std::test::Fail;
@@ -21,10 +21,10 @@ use work_queue::{Notice, Open, Opened};
 /// How often a host looks for a notice.
 const TURNS: u32 = 20_000_000;
 
-/// A Write of A1: its identifier, its first block and how many.
-pub(crate) type Write = (u8, u8, u8);
+/// A Write of A1: its CID, its first block and how many.
+pub(crate) type WriteCall = (u8, u8, u8);
 
-fn adds(alloc: Global, batch: &mut Vec<Submission>, write: Write) -> Result<(), NoMemory> {
+fn adds(alloc: Global, batch: &mut Vec<Submission>, write: WriteCall) -> Result<(), NoMemory> {
     let (cid, block, blocks) = write;
     let mut entry = [0; 64];
     entry[0] = 1;
@@ -46,7 +46,7 @@ fn adds(alloc: Global, batch: &mut Vec<Submission>, write: Write) -> Result<(), 
 pub(crate) fn adds_all(
     alloc: Global,
     batch: &mut Vec<Submission>,
-    writes: &[Write],
+    writes: &[WriteCall],
 ) -> Result<(), NoMemory> {
     for write in writes {
         adds(alloc, batch, *write)?;
@@ -56,43 +56,43 @@ pub(crate) fn adds_all(
 
 /// Whether the batch is published on this submission queue.
 pub(crate) fn publishes<G>(
-    hall: &Hall<G>,
+    system: &System<G>,
     pass: &mut Pass<Core>,
     queue: u16,
     batch: Vec<Submission>,
 ) -> bool
-    requires { engine.IsOf hall.now.engine pass.old }
+    requires { engine.IsPassOfEngine system.now.engine pass.old }
     ensures { IsSame pass.old pass.new }
 {
     let request = Open::Publish(queue, Submissions::new(batch));
-    hall.engine.attempt_open(pass, request).is_ok()
+    system.engine.attempt_open(pass, request).is_ok()
 }
 
 // The next notice.
-fn popped<R: Wait, G>(rt: &R, hall: &Hall<G>, host: &mut HostHand) -> Option<Notice>
-    requires { IsListening hall.now host.old }
-    ensures same { IsListening hall.now host.new }
-    ensures notice { IfSome result (IsNoticeOf hall.now.engine) }
+fn popped<R: Wait, G>(rt: &R, system: &System<G>, host: &mut HostPasses) -> Option<Notice>
+    requires { IsListening system.now host.old }
+    ensures same { IsListening system.now host.new }
+    ensures notice { IfSome result (IsNoticeOf system.now.engine) }
 {
     let place = usize::from(host.queue.saturating_sub(1));
-    if place >= hall.notices.len() {
+    if place >= system.notices.len() {
         return None;
     }
-    hall.notices[place].pop(rt, &mut host.notices)
+    system.notices[place].pop(rt, &mut host.notices)
 }
 
 // Waits for a notice and learns it; the completion that it names, or None where the stop flag was set before or none
 // came.
-fn heard<R: Wait, G>(rt: &R, hall: &Hall<G>, host: &mut HostHand) -> Option<[u8; 16]>
-    requires { IsListening hall.now host.old }
-    ensures { IsListening hall.now host.new }
+fn heard<R: Wait, G>(rt: &R, system: &System<G>, host: &mut HostPasses) -> Option<[u8; 16]>
+    requires { IsListening system.now host.old }
+    ensures { IsListening system.now host.new }
 {
     for _ in 0..TURNS {
-        if let Some(mut notice) = popped(rt, hall, host) {
-            let _ = hall.engine.learn(&mut host.pass, &mut notice);
+        if let Some(mut notice) = popped(rt, system, host) {
+            let _ = system.engine.learn(&mut host.pass, &mut notice);
             return Some(notice.cqe());
         }
-        if hall.stop.is_set() {
+        if system.stop.is_set() {
             return None;
         }
         yield_now();
@@ -101,12 +101,12 @@ fn heard<R: Wait, G>(rt: &R, hall: &Hall<G>, host: &mut HostHand) -> Option<[u8;
 }
 
 // The next completion; None where there is none.
-fn reaped<R: Wait, G>(rt: &R, hall: &Hall<G>, host: &mut HostHand) -> Option<[u8; 16]>
-    requires { IsListening hall.now host.old }
-    ensures { IsListening hall.now host.new }
+fn reaped<R: Wait, G>(rt: &R, system: &System<G>, host: &mut HostPasses) -> Option<[u8; 16]>
+    requires { IsListening system.now host.old }
+    ensures { IsListening system.now host.new }
 {
     for _ in rt.forever() {
-        match hall
+        match system
             .engine
             .attempt_open(&mut host.pass, Open::Reap(host.queue))
         {
@@ -119,16 +119,21 @@ fn reaped<R: Wait, G>(rt: &R, hall: &Hall<G>, host: &mut HostHand) -> Option<[u8
 }
 
 /// Reaps so many completions, each at once when it was told; how many say success.
-pub(crate) fn reaps<R: Wait, G>(rt: &R, hall: &Hall<G>, host: &mut HostHand, count: u16) -> u16
-    requires { IsListening hall.now host.old }
-    ensures { IsListening hall.now host.new }
+pub(crate) fn reaps<R: Wait, G>(
+    rt: &R,
+    system: &System<G>,
+    host: &mut HostPasses,
+    count: u16,
+) -> u16
+    requires { IsListening system.now host.old }
+    ensures { IsListening system.now host.new }
 {
     let mut good = 0u16;
     for _ in 0..count {
-        let Some(_) = heard(rt, hall, host) else {
+        let Some(_) = heard(rt, system, host) else {
             return good;
         };
-        if let Some(cqe) = reaped(rt, hall, host) {
+        if let Some(cqe) = reaped(rt, system, host) {
             if cqe[14] <= 1 && cqe[15] == 0 {
                 good = good.saturating_add(1);
             }
@@ -138,11 +143,11 @@ pub(crate) fn reaps<R: Wait, G>(rt: &R, hall: &Hall<G>, host: &mut HostHand, cou
 }
 
 /// The controller, once all threads have ended, and the gate.
-pub(crate) fn closed<G: Drop>(hall: Hall<G>, hand: Hand) -> Result<(Core, G), Fail>
-    requires { IsOf hall hand }
+pub(crate) fn closed<G: Drop>(system: System<G>, caller: CallerPasses) -> Result<(Core, G), Fail>
+    requires { IsCallerOf system caller }
 {
-    let Hall { engine, gate, .. } = hall;
-    let Hand { pass, .. } = hand;
+    let System { engine, gate, .. } = system;
+    let CallerPasses { pass, .. } = caller;
     match engine.close(pass) {
         Some(core) => Ok((core, gate)),
         None => Err(Fail::from("the lock isn't free")),

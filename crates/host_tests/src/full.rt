@@ -1,6 +1,6 @@
 //! A fetcher beside a full queue.
 
-use crate::calls::Write;
+use crate::calls::WriteCall;
 use crate::played::{Numbers, played};
 use history::Config;
 use hosts::{Gate, Point};
@@ -52,7 +52,7 @@ impl Fetches {
 #[test]
 fn a_full_queue_keeps_each_work(rt: HostRuntime) -> Result<(), Fail> {
     let config = Config::new(8, 1, 1, 0, 0, 1, 32, 32, 32)?;
-    let mut writes: [Write; 20] = [(0, 0, 1); 20];
+    let mut writes: [WriteCall; 20] = [(0, 0, 1); 20];
     for cid in 0..20u8 {
         writes[usize::from(cid)] = (cid, 0, 1);
     }

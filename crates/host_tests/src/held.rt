@@ -24,14 +24,14 @@ const FOUR: u64 = 4;
 /// Holds the worker that has the first ticket, after its first Block, until a Block of another ticket was made or so
 /// many turns have passed; and counts how often a worker was about to make a Post.
 #[derive(Drop)]
-struct Holds {
+struct HoldsWorker {
     turns: u32,
     another: AtomicBool,
     late: AtomicBool,
     posting: AtomicU64,
 }
 
-impl Gate for Holds {
+impl Gate for HoldsWorker {
     fn pass(&self, point: Point, ticket: u64) {
         if point == Point::Posting {
             self.posting.fetch_add(1, Ordering::SeqCst);
@@ -45,7 +45,7 @@ impl Gate for Holds {
     }
 }
 
-impl Holds {
+impl HoldsWorker {
     fn hold(&self) {
         for _ in 0..self.turns {
             if self.another.load(Ordering::SeqCst) || self.late.load(Ordering::SeqCst) {
@@ -67,7 +67,7 @@ fn held<R: Threads + Wait + Sync>(
     turns: u32,
 ) -> Result<(bool, u64, u16, usize), Fail> {
     let config = Config::with_cqs(8, 1, 1, 0, 0, 2, 4, 4, 8, 1)?;
-    let gate = Holds {
+    let gate = HoldsWorker {
         turns,
         another: AtomicBool::new(false),
         late: AtomicBool::new(false),

@@ -1,12 +1,13 @@
 //! Writes that hosts publish and reap, beside a fetcher and workers that serve them.
 
 ghost use Rattle.std.specs.Prelude.{All, IfOk};
-ghost use Rattle.hosts.specs.Hands.{IsHostOf, IsOf, IsWorkerOf};
+ghost use Rattle.shared_system.specs.Callers.{IsHostOf, IsCallerOf, IsWorkerOf};
 ghost use Rattle.host_tests.specs.Listening.{IsListening};
 
-use crate::calls::{Write, adds_all, closed, legal_length, publishes, reaps};
+use crate::calls::{WriteCall, adds_all, closed, legal_length, publishes, reaps};
 use history::Config;
-use hosts::{Crew, Gate, Hall, Hand, Hands, HostHand, hall_of, run_crew};
+use hosts::{Crew, Gate, run_crew};
+use shared_system::{CallerPasses, Callers, HostPasses, System, system_of};
 use std::alloc::{AllocError as NoMemory, Global};
 use std::sync::Wait;
 use std::test::Fail;
@@ -21,9 +22,9 @@ pub(crate) struct Numbers {
 }
 
 // The same hosts, whatever they will have seen.
-fn listening<G>(_hall: &Hall<G>, _config: &Config, hosts: Vec<HostHand>) -> Vec<HostHand>
-    requires { All (IsHostOf _hall.now _config.now) hosts.items }
-    ensures { All (IsListening _hall.now) result.items }
+fn listening<G>(_system: &System<G>, _config: &Config, hosts: Vec<HostPasses>) -> Vec<HostPasses>
+    requires { All (IsHostOf _system.now _config.now) hosts.items }
+    ensures { All (IsListening _system.now) result.items }
 {
     hosts
 }
@@ -31,32 +32,32 @@ fn listening<G>(_hall: &Hall<G>, _config: &Config, hosts: Vec<HostHand>) -> Vec<
 // Publishes the Writes on this submission queue.
 fn sends<G>(
     alloc: Global,
-    hall: &Hall<G>,
-    host: &mut HostHand,
+    system: &System<G>,
+    host: &mut HostPasses,
     queue: u16,
-    writes: &[Write],
+    writes: &[WriteCall],
 ) -> bool
-    requires { IsListening hall.now host.old }
-    ensures { IsListening hall.now host.new }
+    requires { IsListening system.now host.old }
+    ensures { IsListening system.now host.new }
 {
     let mut batch = Vec::new(alloc);
-    adds_all(alloc, &mut batch, writes).is_ok() && publishes(hall, &mut host.pass, queue, batch)
+    adds_all(alloc, &mut batch, writes).is_ok() && publishes(system, &mut host.pass, queue, batch)
 }
 
 // Publishes them on so many; whether there was room and memory.
 fn sends_all<G>(
     alloc: Global,
-    hall: &Hall<G>,
-    host: &mut HostHand,
+    system: &System<G>,
+    host: &mut HostPasses,
     queues: u16,
-    writes: &[Write],
+    writes: &[WriteCall],
 ) -> bool
-    requires { IsListening hall.now host.old }
-    ensures { IsListening hall.now host.new }
+    requires { IsListening system.now host.old }
+    ensures { IsListening system.now host.new }
 {
     let mut all = true;
     for queue in 1..=queues {
-        all &= sends(alloc, hall, host, queue, writes);
+        all &= sends(alloc, system, host, queue, writes);
     }
     all
 }
@@ -64,16 +65,16 @@ fn sends_all<G>(
 // Publishes them by the last host; None where that can't be.
 fn sent<G>(
     alloc: Global,
-    hall: &Hall<G>,
-    hosts: &mut Vec<HostHand>,
+    system: &System<G>,
+    hosts: &mut Vec<HostPasses>,
     queues: u16,
-    writes: &[Write],
+    writes: &[WriteCall],
 ) -> Option<()>
-    requires { All (IsListening hall.now) hosts.old.items }
-    ensures { All (IsListening hall.now) hosts.new.items }
+    requires { All (IsListening system.now) hosts.old.items }
+    ensures { All (IsListening system.now) hosts.new.items }
 {
     let mut host = hosts.pop()?;
-    let all = sends_all(alloc, hall, &mut host, queues, writes);
+    let all = sends_all(alloc, system, &mut host, queues, writes);
     if hosts.push(host).is_ok() && all {
         Some(())
     } else {
@@ -82,20 +83,20 @@ fn sent<G>(
 }
 
 // Reaps so many completions of this host's queue; how many say success.
-fn ends_one<R: Wait, G>(rt: &R, hall: &Hall<G>, mut host: HostHand, count: u16) -> u16
-    requires { IsListening hall.now host }
+fn ends_one<R: Wait, G>(rt: &R, system: &System<G>, mut host: HostPasses, count: u16) -> u16
+    requires { IsListening system.now host }
 {
-    reaps(rt, hall, &mut host, count)
+    reaps(rt, system, &mut host, count)
 }
 
 // The same of each host's queue.
-fn reaped_by<R: Wait, G>(rt: &R, hall: &Hall<G>, mut hosts: Vec<HostHand>, count: u16) -> u16
-    requires { All (IsListening hall.now) hosts.items }
+fn reaped_by<R: Wait, G>(rt: &R, system: &System<G>, mut hosts: Vec<HostPasses>, count: u16) -> u16
+    requires { All (IsListening system.now) hosts.items }
 {
     let mut good = 0u16;
     for _ in 0..hosts.len() {
         if let Some(host) = hosts.pop() {
-            good = good.saturating_add(ends_one(rt, hall, host, count));
+            good = good.saturating_add(ends_one(rt, system, host, count));
         }
     }
     good
@@ -105,13 +106,13 @@ fn reaped_by<R: Wait, G>(rt: &R, hall: &Hall<G>, mut hosts: Vec<HostHand>, count
 fn both<R: Threads + Wait + Sync, G: Gate + Sync>(
     rt: &R,
     alloc: Global,
-    hall: &Hall<G>,
-    hands: Hands,
+    system: &System<G>,
+    callers: Callers,
     numbers: Numbers,
-) -> Result<(Hand, u16), NoMemory>
-    requires crew { IsOf hall.now hands.fetcher × All (IsWorkerOf hall.now) hands.workers.items }
-    requires hosts { All (IsListening hall.now) hands.hosts.items }
-    ensures { IfOk result (λ r. IsOf hall.now r.0) }
+) -> Result<(CallerPasses, u16), NoMemory>
+    requires crew { IsCallerOf system.now callers.fetcher × All (IsWorkerOf system.now) callers.workers.items }
+    requires hosts { All (IsListening system.now) callers.hosts.items }
+    ensures { IfOk result (λ r. IsCallerOf system.now r.0) }
 {
     let Crew {
         fetcher,
@@ -121,63 +122,63 @@ fn both<R: Threads + Wait + Sync, G: Gate + Sync>(
     } = run_crew(
         rt,
         alloc,
-        hall,
+        system,
         numbers.queues.max(1),
-        hands,
-        |hosts: Vec<HostHand>| -> u16
-            requires { All (IsListening hall.now) hosts.items }
-        { reaped_by(rt, hall, hosts, numbers.count) },
+        callers,
+        |hosts: Vec<HostPasses>| -> u16
+            requires { All (IsListening system.now) hosts.items }
+        { reaped_by(rt, system, hosts, numbers.count) },
     );
     ends?;
     Ok((fetcher, beside))
 }
 
-/// These hands, once the last host has published the Writes on so many submission queues.
+/// These callers, once the last host has published the Writes on so many submission queues.
 pub(crate) fn ready<G>(
     alloc: Global,
-    hall: &Hall<G>,
+    system: &System<G>,
     config: &Config,
-    hands: Hands,
+    callers: Callers,
     queues: u16,
-    writes: &[Write],
-) -> Result<Hands, NoMemory>
-    requires crew { IsOf hall.now hands.fetcher × All (IsWorkerOf hall.now) hands.workers.items }
-    requires hosts { All (IsHostOf hall.now config.now) hands.hosts.items }
-    ensures crew { IfOk result (λ h. IsOf hall.now h.fetcher × All (IsWorkerOf hall.now) h.workers.items) }
-    ensures hosts { IfOk result (λ h. All (IsListening hall.now) h.hosts.items) }
+    writes: &[WriteCall],
+) -> Result<Callers, NoMemory>
+    requires crew { IsCallerOf system.now callers.fetcher × All (IsWorkerOf system.now) callers.workers.items }
+    requires hosts { All (IsHostOf system.now config.now) callers.hosts.items }
+    ensures crew { IfOk result (λ h. IsCallerOf system.now h.fetcher × All (IsWorkerOf system.now) h.workers.items) }
+    ensures hosts { IfOk result (λ h. All (IsListening system.now) h.hosts.items) }
 {
-    let Hands {
+    let Callers {
         fetcher,
         workers,
         hosts,
-    } = hands;
-    let mut hosts = listening(hall, config, hosts);
-    if sent(alloc, hall, &mut hosts, queues, writes).is_none() {
+    } = callers;
+    let mut hosts = listening(system, config, hosts);
+    if sent(alloc, system, &mut hosts, queues, writes).is_none() {
         return Err(NoMemory);
     }
-    Ok(Hands {
+    Ok(Callers {
         fetcher,
         workers,
         hosts,
     })
 }
 
-// The Writes by these hands; the fetcher's comes back.
+// The Writes by these callers; the fetcher's passes come back.
 fn plays<R: Threads + Wait + Sync, G: Gate + Sync>(
     rt: &R,
     alloc: Global,
-    hall: &Hall<G>,
+    system: &System<G>,
     config: &Config,
-    hands: Hands,
+    callers: Callers,
     numbers: Numbers,
-    writes: &[Write],
-) -> Result<(Hand, u16), NoMemory>
-    requires crew { IsOf hall.now hands.fetcher × All (IsWorkerOf hall.now) hands.workers.items }
-    requires hosts { All (IsHostOf hall.now config.now) hands.hosts.items }
-    ensures { IfOk result (λ r. IsOf hall.now r.0) }
+    writes: &[WriteCall],
+) -> Result<(CallerPasses, u16), NoMemory>
+    requires crew { IsCallerOf system.now callers.fetcher × All (IsWorkerOf system.now) callers.workers.items }
+    requires hosts { All (IsHostOf system.now config.now) callers.hosts.items }
+    ensures { IfOk result (λ r. IsCallerOf system.now r.0) }
 {
-    let hands = ready(alloc, hall, config, hands, numbers.queues, writes)?;
-    both(rt, alloc, hall, hands, numbers)
+    let callers = ready(alloc, system, config, callers, numbers.queues, writes)?;
+    both(rt, alloc, system, callers, numbers)
 }
 
 /// The Writes on each submission queue: how many completions say success, how many entries the history has, which is
@@ -188,10 +189,10 @@ pub(crate) fn played<R: Threads + Wait + Sync, G: Gate + Drop + Sync>(
     config: &Config,
     gate: G,
     numbers: Numbers,
-    writes: &[Write],
+    writes: &[WriteCall],
 ) -> Result<(u16, usize, G), Fail> {
-    let (hall, hands) = hall_of(alloc, *config, gate, numbers.workers)?;
-    let (hand, good) = plays(rt, alloc, &hall, config, hands, numbers, writes)?;
-    let (core, gate) = closed(hall, hand)?;
+    let (system, callers) = system_of(alloc, *config, gate, numbers.workers)?;
+    let (caller, good) = plays(rt, alloc, &system, config, callers, numbers, writes)?;
+    let (core, gate) = closed(system, caller)?;
     Ok((good, legal_length(alloc, &core)?, gate))
 }

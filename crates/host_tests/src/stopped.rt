@@ -1,12 +1,13 @@
 //! A stop flag that is set while a worker is held.
 
 ghost use Rattle.std.specs.Prelude.{All, IfOk};
-ghost use Rattle.hosts.specs.Hands.{IsOf, IsWorkerOf};
+ghost use Rattle.shared_system.specs.Callers.{IsCallerOf, IsWorkerOf};
 
-use crate::calls::{Write, closed, legal_length};
+use crate::calls::{WriteCall, closed, legal_length};
 use crate::played::ready;
 use history::Config;
-use hosts::{Crew, Gate, Hall, Hand, Hands, HostHand, Point, hall_of, run_crew};
+use hosts::{Crew, Gate, Point, run_crew};
+use shared_system::{CallerPasses, Callers, HostPasses, System, system_of};
 use std::alloc::{AllocError as NoMemory, Global};
 use std::sync::Wait;
 use std::sync::atomic::{AtomicBool, AtomicU64, Ordering};
@@ -21,13 +22,13 @@ const FEW_TURNS: u32 = 1_000;
 
 /// Counts Fetches, and holds the worker after its first Grant until it is let go.
 #[derive(Drop)]
-struct Holds {
+struct HoldsWorker {
     fetched: AtomicU64,
     is_held: AtomicBool,
     is_free: AtomicBool,
 }
 
-impl Gate for Holds {
+impl Gate for HoldsWorker {
     fn pass(&self, point: Point, ticket: u64) {
         if point == Point::Fetched {
             self.fetched.fetch_add(1, Ordering::SeqCst);
@@ -43,9 +44,9 @@ impl Gate for Holds {
     }
 }
 
-impl Holds {
-    fn new() -> Holds {
-        Holds {
+impl HoldsWorker {
+    fn new() -> HoldsWorker {
+        HoldsWorker {
             fetched: AtomicU64::new(0),
             is_held: AtomicBool::new(false),
             is_free: AtomicBool::new(false),
@@ -59,9 +60,9 @@ impl Holds {
 }
 
 // Sets the stop flag once the worker is held and so many Fetches were made, and lets the worker go.
-fn stops(hall: &Hall<Holds>, fetches: u64) {
+fn stops(system: &System<HoldsWorker>, fetches: u64) {
     for _ in 0..TURNS {
-        if hall.gate.is_reached(fetches) {
+        if system.gate.is_reached(fetches) {
             break;
         }
         yield_now();
@@ -69,28 +70,28 @@ fn stops(hall: &Hall<Holds>, fetches: u64) {
     for _ in 0..FEW_TURNS {
         yield_now();
     }
-    hall.stop.set();
-    hall.gate.is_free.store(true, Ordering::SeqCst);
+    system.stop.set();
+    system.gate.is_free.store(true, Ordering::SeqCst);
 }
 
 // The crew, and who stops it.
 fn until_stopped<R: Threads + Wait + Sync>(
     rt: &R,
     alloc: Global,
-    hall: &Hall<Holds>,
-    hands: Hands,
+    system: &System<HoldsWorker>,
+    callers: Callers,
     fetches: u64,
-) -> Result<Hand, NoMemory>
-    requires crew { IsOf hall.now hands.fetcher × All (IsWorkerOf hall.now) hands.workers.items }
-    ensures { IfOk result (IsOf hall.now) }
+) -> Result<CallerPasses, NoMemory>
+    requires crew { IsCallerOf system.now callers.fetcher × All (IsWorkerOf system.now) callers.workers.items }
+    ensures { IfOk result (IsCallerOf system.now) }
 {
     let Crew { fetcher, ends, .. } = run_crew(
         rt,
         alloc,
-        hall,
+        system,
         1,
-        hands,
-        |_hosts: Vec<HostHand>| -> () { stops(hall, fetches) },
+        callers,
+        |_hosts: Vec<HostPasses>| -> () { stops(system, fetches) },
     );
     ends?;
     Ok(fetcher)
@@ -102,13 +103,13 @@ fn stopped<R: Threads + Wait + Sync>(
     rt: &R,
     alloc: Global,
     config: Config,
-    writes: &[Write],
+    writes: &[WriteCall],
     fetches: u64,
 ) -> Result<usize, Fail> {
-    let (hall, hands) = hall_of(alloc, config, Holds::new(), 1)?;
-    let hands = ready(alloc, &hall, &config, hands, 1, writes)?;
-    let hand = until_stopped(rt, alloc, &hall, hands, fetches)?;
-    let (core, _) = closed(hall, hand)?;
+    let (system, callers) = system_of(alloc, config, HoldsWorker::new(), 1)?;
+    let callers = ready(alloc, &system, &config, callers, 1, writes)?;
+    let caller = until_stopped(rt, alloc, &system, callers, fetches)?;
+    let (core, _) = closed(system, caller)?;
     legal_length(alloc, &core)
 }
 
@@ -127,7 +128,7 @@ fn a_fetcher_that_waits_for_room_is_stopped(rt: HostRuntime) -> Result<(), Fail>
 #[test]
 fn a_fetcher_beside_a_full_queue_is_stopped(rt: HostRuntime) -> Result<(), Fail> {
     let config = Config::new(8, 1, 1, 0, 0, 1, 32, 32, 32)?;
-    let mut writes: [Write; 20] = [(0, 0, 1); 20];
+    let mut writes: [WriteCall; 20] = [(0, 0, 1); 20];
     for cid in 0..20u8 {
         writes[usize::from(cid)] = (cid, 0, 1);
     }
@@ -138,16 +139,16 @@ fn a_fetcher_beside_a_full_queue_is_stopped(rt: HostRuntime) -> Result<(), Fail>
 // The crew where what runs beside it wants memory: it says so, and the flag is set.
 fn wants_memory<R: Threads + Wait + Sync>(rt: &R, alloc: Global) -> Result<(bool, bool), Fail> {
     let config = Config::new(8, 1, 1, 0, 0, 1, 8, 8, 8)?;
-    let (hall, hands) = hall_of(alloc, config, Holds::new(), 2)?;
+    let (system, callers) = system_of(alloc, config, HoldsWorker::new(), 2)?;
     let crew = run_crew(
         rt,
         alloc,
-        &hall,
+        &system,
         1,
-        hands,
-        |_hosts: Vec<HostHand>| -> Result<(), NoMemory> { Err(NoMemory) },
+        callers,
+        |_hosts: Vec<HostPasses>| -> Result<(), NoMemory> { Err(NoMemory) },
     );
-    Ok((crew.beside.is_err(), hall.stop.is_set()))
+    Ok((crew.beside.is_err(), system.stop.is_set()))
 }
 
 #[test]

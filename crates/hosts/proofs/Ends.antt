@@ -1,4 +1,4 @@
--- What the ends of threads came to, and which hands came back.
+-- What the ends of threads came to, and which passes came back.
 use Rattle.std.proofs.Common.{All, Err, IfOk, List, Ok, OnOk, Result, [], ap, arith, length, map, refl, reverse, subst}
 use Rattle.std.proofs.Common.{suc, sym, ◌++◌, ◌∙◌, ◌∷◌, ◌≡◌}
 use Rattle.std.specs.List.{AllZip}
@@ -65,7 +65,7 @@ module _ {E : Type 0} where
   says_ok (Ok u) = refl
   says_ok (Err e) = tt
 
--- ---- hands that come back
+-- ---- passes that come back
 
 module _ {H Q E : Type 0} where
   -- where more threads have to say Ok
@@ -83,29 +83,29 @@ module _ {H Q E : Type 0} where
 
   -- one that may have been started
   pub gave_one : {T F : Type 0} (kept : Q → H × Result (Unit {0}) E → Type 0) (promise : T → Q) (child : Result T F)
-      (joined end : Result (Unit {0}) E) (hand : H) → IfOk child (λ h. kept (promise h) (hand, end))
-      → IfOk child (λ h. GaveBack kept (result_and joined end) (promise h) hand)
-  gave_one kept promise (Ok h) joined end hand k = (end, k, both_last (end ≡ Ok tt) joined end (says_ok end))
-  gave_one kept promise (Err f) joined end hand k = tt
+      (joined end : Result (Unit {0}) E) (caller : H) → IfOk child (λ h. kept (promise h) (caller, end))
+      → IfOk child (λ h. GaveBack kept (result_and joined end) (promise h) caller)
+  gave_one kept promise (Ok h) joined end caller k = (end, k, both_last (end ≡ Ok tt) joined end (says_ok end))
+  gave_one kept promise (Err f) joined end caller k = tt
 
   -- one more
   pub gave_more : {X : Type 0} (kept : Q → H × Result (Unit {0}) E → Type 0) (f : X → Q) (ends r : Result (Unit {0}) E)
-      (child : X) (joined : List X) (hand : H) (back : List H)
-      → AllZip (GaveBack kept ends) (reverse (map f joined)) back → kept (f child) (hand, r)
-      → AllZip (GaveBack kept (result_and ends r)) (reverse (map f (child ∷ joined))) (back ++ hand ∷ [])
-  gave_more kept f ends r child joined hand back h k =
-      subst (λ l. AllZip (GaveBack kept (result_and ends r)) l (back ++ hand ∷ []))
+      (child : X) (joined : List X) (caller : H) (back : List H)
+      → AllZip (GaveBack kept ends) (reverse (map f joined)) back → kept (f child) (caller, r)
+      → AllZip (GaveBack kept (result_and ends r)) (reverse (map f (child ∷ joined))) (back ++ caller ∷ [])
+  gave_more kept f ends r child joined caller back h k =
+      subst (λ l. AllZip (GaveBack kept (result_and ends r)) l (back ++ caller ∷ []))
       (sym (reverse-cons (f child) (map f joined)))
-      (zip_append (GaveBack kept (result_and ends r)) (reverse (map f joined)) (f child ∷ []) back (hand ∷ [])
+      (zip_append (GaveBack kept (result_and ends r)) (reverse (map f joined)) (f child ∷ []) back (caller ∷ [])
       (gave_less kept ends r (reverse (map f joined)) back h) ((r, k, both_last (r ≡ Ok tt) ends r (says_ok r)), tt))
 
 module _ {H Q : Type 0} (goes : H → H → Type 0) (is_for : H → Q → Type 0) where
   -- one thread more
-  pub begun_more : {X : Type 0} (f : X → Q) (child : X) (started : List X) (hand : H) (begun : List H)
-      → AllZip is_for begun (reverse (map f started)) → is_for hand (f child)
-      → AllZip is_for (hand ∷ begun) (reverse (map f (started ++ child ∷ [])))
-  begun_more f child started hand begun h k =
-      subst (AllZip is_for (hand ∷ begun))
+  pub begun_more : {X : Type 0} (f : X → Q) (child : X) (started : List X) (caller : H) (begun : List H)
+      → AllZip is_for begun (reverse (map f started)) → is_for caller (f child)
+      → AllZip is_for (caller ∷ begun) (reverse (map f (started ++ child ∷ [])))
+  begun_more f child started caller begun h k =
+      subst (AllZip is_for (caller ∷ begun))
       (sym (ap reverse (map-append f started (child ∷ [])) ∙ reverse-append (map f started) (f child ∷ []))) (k, h)
 
   -- where one couldn't be started
@@ -134,7 +134,7 @@ module _ {H Q : Type 0} (goes : H → H → Type 0) (is_for : H → Q → Type 0
         runs = runs;
       }
 
-  -- all hands, where each thread's is as its promise says
+  -- all passes, where each thread's are as its promise says
   pub all_back : {E : Type 0} (kept : Q → H × Result (Unit {0}) E → Type 0) (ends : Result (Unit {0}) E)
       (old new back : List H) (ps : List Q) → AreParted goes is_for old new ps
       → AllZip (GaveBack kept ends) (reverse ps) back

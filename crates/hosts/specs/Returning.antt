@@ -8,8 +8,8 @@ module _ {H Q E : Type 0} where
   GaveBack kept ends promise back = (end : Result (Unit {0}) E) × kept promise (back, end) × OnOk ends (end ≡ Ok tt)
 
 module _ {H Q : Type 0} where
-  -- What became of these hands where threads were to be started with them, the last first: those behind `left` are what
-  -- the promises say, by the newest first, and the others stand in their places.
+  -- What became of these passes where threads were to be started with them, the last first: those behind `left` are
+  -- what the promises say, by the newest first, and the others stand in their places.
   pub record AreParted (goes : H → H → Type 0) (is_for : H → Q → Type 0) (old new : List H)
       (promises : List Q) : Type 0 where
     pub left : List H

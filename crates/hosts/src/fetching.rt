@@ -2,12 +2,13 @@
 
 ghost use Rattle.std.specs.Prelude.{◌≤◌};
 ghost use Rattle.hosts.specs.Declining.{IsFetchDeclined};
-ghost use Rattle.hosts.specs.Hands.{Goes, IsNoWork, IsOf, IsReady};
+ghost use Rattle.shared_system.specs.Callers.{Continues, IsCallerOf};
+ghost use Rattle.hosts.specs.Asking.{IsNoWork, IsFetchedReady};
 
 use crate::gate::{Gate, Point};
-use crate::hall::{Hall, Hand};
 use meet_lock::Declined;
 use nvme_model::refusal::Why;
+use shared_system::{CallerPasses, System};
 use std::alloc::AllocError as NoMemory;
 use std::sync::Wait;
 use std::thread::yield_now;
@@ -35,39 +36,49 @@ fn unfetched(declined: Declined) -> Fetched
             Why::NoQueue | Why::NoEntry => Fetched::Nothing,
             Why::JobsFull => Fetched::Again,
             Why::NoMemory => Fetched::NoMemory,
-            _ => unreachable!(),
+            Why::NoRoom
+            | Why::NoTicket
+            | Why::Conflict
+            | Why::WrongState
+            | Why::CqFull
+            | Why::NoCompletion
+            | Why::BadBatch
+            | Why::Busy => unreachable!(),
         },
         Declined::Refused(Refused::Publish(..)) => unreachable!(),
     }
 }
 
 // Asks for one Fetch of this submission queue.
-#[tactic(auto, using(crate::proofs::Going::goes_fetched, crate::proofs::Going::fetched_ready))]
-fn fetch<G: Gate>(hall: &Hall<G>, hand: &mut Hand, queue: u16) -> Fetched
-    requires { IsOf hall.now hand.old }
-    ensures goes { Goes hall.now hand.old hand.new }
-    ensures ready { IsReady hall.now result }
+#[tactic(auto, using(shared_system::proofs::Going::goes_fetched, shared_system::proofs::Going::fetched_ready))]
+fn fetch<G: Gate>(system: &System<G>, caller: &mut CallerPasses, queue: u16) -> Fetched
+    requires { IsCallerOf system.now caller.old }
+    ensures goes { Continues system.now caller.old caller.new }
+    ensures ready { IsFetchedReady system.now result }
 {
-    match hall.engine.attempt_open(&mut hand.pass, Open::Fetch(queue)) {
+    match system
+        .engine
+        .attempt_open(&mut caller.pass, Open::Fetch(queue))
+    {
         Ok(Opened::Fetched(work)) => Fetched::Work(work),
-        Ok(_) => unreachable!(),
+        Ok(Opened::Published | Opened::Reaped { .. }) => unreachable!(),
         Err(declined) => unfetched(declined),
     }
 }
 
 // Pushes the Work, again while the queue is full, until the stop flag is set.
-#[tactic(auto, using(crate::proofs::Going::goes_same, crate::proofs::Going::goes_push, crate::proofs::Going::goes_on))]
-fn put<R: Wait, G: Gate>(rt: &R, hall: &Hall<G>, hand: &mut Hand, work: Work)
-    requires own { IsOf hall.now hand.old }
-    requires ready { IsReady hall.now (Fetched.Work work) }
-    ensures goes { Goes hall.now hand.old hand.new }
+#[tactic(auto, using(shared_system::proofs::Going::goes_same, shared_system::proofs::Going::goes_push))]
+fn put<R: Wait, G: Gate>(rt: &R, system: &System<G>, caller: &mut CallerPasses, work: Work)
+    requires own { IsCallerOf system.now caller.old }
+    requires ready { IsFetchedReady system.now (Fetched.Work work) }
+    ensures goes { Continues system.now caller.old caller.new }
 {
     let mut work = work;
     for _ in rt.forever() {
-        if hall.stop.is_set() {
+        if system.stop.is_set() {
             return;
         }
-        match hall.works.push(rt, &mut hand.works, work) {
+        match system.works.push(rt, &mut caller.works, work) {
             Ok(()) => return,
             Err(back) => work = back,
         }
@@ -77,24 +88,24 @@ fn put<R: Wait, G: Gate>(rt: &R, hall: &Hall<G>, hand: &mut Hand, work: Work)
 }
 
 // Takes the next command of this submission queue, if one waits, and pushes its Work.
-#[tactic(auto, using(crate::proofs::Going::goes_same))]
+#[tactic(auto, using(shared_system::proofs::Going::goes_same))]
 pub(crate) fn serve<R: Wait, G: Gate>(
     rt: &R,
-    hall: &Hall<G>,
-    hand: &mut Hand,
+    system: &System<G>,
+    caller: &mut CallerPasses,
     queue: u16,
 ) -> Result<(), NoMemory>
-    requires { IsOf hall.now hand.old }
-    ensures goes { Goes hall.now hand.old hand.new }
+    requires { IsCallerOf system.now caller.old }
+    ensures goes { Continues system.now caller.old caller.new }
 {
     for _ in rt.forever() {
-        if hall.stop.is_set() {
+        if system.stop.is_set() {
             return Ok(());
         }
-        match fetch(hall, hand, queue) {
+        match fetch(system, caller, queue) {
             Fetched::Work(work) => {
-                hall.gate.pass(Point::Fetched, work.ticket());
-                put(rt, hall, hand, work);
+                system.gate.pass(Point::Fetched, work.ticket());
+                put(rt, system, caller, work);
                 return Ok(());
             }
             Fetched::Nothing => {
@@ -103,7 +114,7 @@ pub(crate) fn serve<R: Wait, G: Gate>(
             }
             Fetched::Again => yield_now(),
             Fetched::NoMemory => {
-                hall.stop.set();
+                system.stop.set();
                 return Err(NoMemory);
             }
         }
@@ -117,23 +128,23 @@ pub(crate) fn serve<R: Wait, G: Gate>(
 /// # Errors
 ///
 /// `NoMemory` where a growth is refused. The stop flag is set then.
-#[tactic(auto, using(crate::proofs::Going::goes_same))]
+#[tactic(auto, using(shared_system::proofs::Going::goes_same))]
 pub fn fetcher<R: Wait, G: Gate>(
     rt: &R,
-    hall: &Hall<G>,
-    hand: &mut Hand,
+    system: &System<G>,
+    caller: &mut CallerPasses,
     queues: u16,
 ) -> Result<(), NoMemory>
-    requires own { IsOf hall.now hand.old }
+    requires own { IsCallerOf system.now caller.old }
     requires some { 1 ≤ queues }
-    ensures goes { Goes hall.now hand.old hand.new }
+    ensures goes { Continues system.now caller.old caller.new }
 {
     for _ in rt.forever() {
-        if hall.stop.is_set() {
+        if system.stop.is_set() {
             return Ok(());
         }
         for k in 0..queues {
-            serve(rt, hall, hand, k + 1)?;
+            serve(rt, system, caller, k + 1)?;
         }
     }
     unreachable!()

@@ -7,12 +7,13 @@ ghost use Rattle.ticket_laws.specs.Tasks.{task_fault};
 ghost use Rattle.work_queue.specs.Duties.{duty_of, task_step};
 ghost use Rattle.work_queue.specs.Engines as engine;
 ghost use Rattle.hosts.specs.Declining.{IsTaskDeclined};
-ghost use Rattle.hosts.specs.Hands.{Goes, IsAnswered, IsNotMade, IsOf, IsTold};
+ghost use Rattle.shared_system.specs.Callers.{Continues, IsCallerOf};
+ghost use Rattle.hosts.specs.Asking.{IsTaskAnswered, IsNotMade, IsTaskTold};
 
 use crate::gate::Gate;
-use crate::hall::{Hall, Hand};
 use meet_lock::Declined;
 use nvme_model::refusal::Why;
+use shared_system::{CallerPasses, System};
 use std::alloc::AllocError as NoMemory;
 use std::sync::Wait;
 use std::thread::yield_now;
@@ -20,7 +21,7 @@ use step_core::{Answer, Refused};
 use work_queue::{Task, Work};
 
 /// What came of asking for a task.
-pub(crate) enum Tried {
+pub(crate) enum TriedTask {
     Made(Answer),
     /// Another caller had the controller, or it is refused for now.
     Again,
@@ -28,32 +29,45 @@ pub(crate) enum Tried {
 }
 
 // What comes of a task in its place that was declined.
-fn unmade(declined: Declined) -> Tried
+fn unmade(declined: Declined) -> TriedTask
     requires { IsTaskDeclined declined }
     ensures { IsNotMade result }
 {
     match declined {
-        Declined::Busy(_) => Tried::Again,
+        Declined::Busy(_) => TriedTask::Again,
         Declined::Refused(Refused::Step(why)) => match why {
-            Why::Conflict | Why::CqFull => Tried::Again,
-            Why::NoMemory => Tried::NoMemory,
-            _ => unreachable!(),
+            Why::Conflict | Why::CqFull => TriedTask::Again,
+            Why::NoMemory => TriedTask::NoMemory,
+            Why::NoQueue
+            | Why::NoRoom
+            | Why::NoEntry
+            | Why::JobsFull
+            | Why::NoTicket
+            | Why::WrongState
+            | Why::NoCompletion
+            | Why::BadBatch
+            | Why::Busy => unreachable!(),
         },
         Declined::Refused(Refused::Publish(..)) => unreachable!(),
     }
 }
 
 // Asks for a task that is in its place.
-fn attempt<G: Gate>(hall: &Hall<G>, hand: &mut Hand, work: &mut Work, task: Task) -> Tried
-    requires own { IsOf hall.now hand.old × engine.IsWorkOf hall.now.engine work.old }
+fn attempt<G: Gate>(
+    system: &System<G>,
+    caller: &mut CallerPasses,
+    work: &mut Work,
+    task: Task,
+) -> TriedTask
+    requires own { IsCallerOf system.now caller.old × engine.IsWorkOf system.now.engine work.old }
     requires allowed { task_fault (duty_of work.old.work) work.old.work.ticket (engine.its work.old)
         (task_step task work.old.work.ticket) ≡ None }
-    ensures goes { Goes hall.now hand.old hand.new }
-    ensures work { engine.IsWorkOf hall.now.engine work.new × (work.new.queue ≡ work.old.queue) }
-    ensures told { IsTold hand.new work.new.queue result }
+    ensures goes { Continues system.now caller.old caller.new }
+    ensures work { engine.IsWorkOf system.now.engine work.new × (work.new.queue ≡ work.old.queue) }
+    ensures told { IsTaskTold caller.new work.new.queue result }
 {
-    match hall.engine.attempt_work(&mut hand.pass, work, task) {
-        Ok(answer) => Tried::Made(answer),
+    match system.engine.attempt_work(&mut caller.pass, work, task) {
+        Ok(answer) => TriedTask::Made(answer),
         Err(declined) => unmade(declined),
     }
 }
@@ -63,30 +77,30 @@ fn attempt<G: Gate>(hall: &Hall<G>, hand: &mut Hand, work: &mut Work, task: Task
 /// # Errors
 ///
 /// `NoMemory` where a growth is refused. The stop flag is set then.
-#[tactic(auto, using(crate::proofs::Going::goes_same))]
+#[tactic(auto, using(shared_system::proofs::Going::goes_same))]
 pub(crate) fn insist<R: Wait, G: Gate>(
     rt: &R,
-    hall: &Hall<G>,
-    hand: &mut Hand,
+    system: &System<G>,
+    caller: &mut CallerPasses,
     work: &mut Work,
 ) -> Result<Option<Answer>, NoMemory>
-    requires own { IsOf hall.now hand.old × engine.IsWorkOf hall.now.engine work.old }
-    ensures goes { Goes hall.now hand.old hand.new }
-    ensures work { engine.IsWorkOf hall.now.engine work.new × (work.new.queue ≡ work.old.queue) }
-    ensures told { IsAnswered hand.new work.new.queue result }
+    requires own { IsCallerOf system.now caller.old × engine.IsWorkOf system.now.engine work.old }
+    ensures goes { Continues system.now caller.old caller.new }
+    ensures work { engine.IsWorkOf system.now.engine work.new × (work.new.queue ≡ work.old.queue) }
+    ensures told { IsTaskAnswered caller.new work.new.queue result }
 {
     for _ in rt.forever() {
-        if hall.stop.is_set() {
+        if system.stop.is_set() {
             return Ok(None);
         }
         let Some(task) = work.next_task() else {
             return Ok(None);
         };
-        match attempt(hall, hand, work, task) {
-            Tried::Made(answer) => return Ok(Some(answer)),
-            Tried::Again => yield_now(),
-            Tried::NoMemory => {
-                hall.stop.set();
+        match attempt(system, caller, work, task) {
+            TriedTask::Made(answer) => return Ok(Some(answer)),
+            TriedTask::Again => yield_now(),
+            TriedTask::NoMemory => {
+                system.stop.set();
                 return Err(NoMemory);
             }
         }

@@ -1,4 +1,4 @@
-//! Threads that were started, each with a hand that comes back.
+//! Threads that were started, each with passes that come back.
 
 ghost use Rattle.std.specs.List.{AllZip};
 ghost use Rattle.std.specs.Prelude.{◌+◌, ◌++◌, ◌≡◌, ◌≤◌, List, map, reverse, vec_len};
@@ -8,13 +8,13 @@ ghost use Rattle.hosts.specs.Returning.{GaveBack};
 use std::alloc::AllocError as NoMemory;
 use std::thread::{Promise, PromisedHandle, Threads};
 
-/// What a thread gives back: its hand, and whether it lacked memory.
+/// What a thread gives back: its passes, and whether it lacked memory.
 pub type Returned<H> = (H, Result<(), NoMemory>);
 
 /// The handles of threads that were started, each with what its end promises.
 pub type Handles<H, P> = Vec<PromisedHandle<Returned<H>, P>>;
 
-/// Joins all, and puts their hands behind `hands`, that of the last first. Ok is answered only where each says so.
+/// Joins all, and puts their passes behind `callers`, those of the last first. Ok is answered only where each says so.
 ///
 /// # Errors
 ///
@@ -22,10 +22,10 @@ pub type Handles<H, P> = Vec<PromisedHandle<Returned<H>, P>>;
 pub fn join_each<R: Threads, H: Drop, P: Promise<Returned<H>>>(
     rt: &R,
     mut started: Handles<H, P>,
-    hands: &mut Vec<H>,
+    callers: &mut Vec<H>,
 ) -> Result<(), NoMemory>
-    requires room { vec_len hands.old + vec_len started ≤ vec_capacity hands.old }
-    ensures back { (back : List H) × (hands.new.items ≡ hands.old.items ++ back)
+    requires room { vec_len callers.old + vec_len started ≤ vec_capacity callers.old }
+    ensures back { (back : List H) × (callers.new.items ≡ callers.old.items ++ back)
         × AllZip (GaveBack P.kept_by result) (reverse (map (λ h. h.promise) started.items)) back }
 {
     let mut ends = Ok(());
@@ -33,8 +33,8 @@ pub fn join_each<R: Threads, H: Drop, P: Promise<Returned<H>>>(
         let Some(child) = started.pop() else {
             unreachable!();
         };
-        let (hand, end) = child.join(rt);
-        hands.push_reserved(hand);
+        let (caller, end) = child.join(rt);
+        callers.push_reserved(caller);
         ends = ends.and(end);
     }
     ends

@@ -1,60 +1,69 @@
-//! Starts the threads of a crew. Where no thread can be had the stop flag is set, and the hand comes back.
+//! Starts the threads of a crew. Where no thread can be had the stop flag is set, and the passes come back.
 
 ghost use Rattle.std.specs.Prelude.{[], ◌+◌, ◌≡◌, ◌≤◌, All, IfErr, IfOk, OnOk, map, vec_len};
 ghost use Rattle.std.specs.Vec.{vec_capacity};
-ghost use Rattle.hosts.specs.Hands.{Goes, IsOf, IsWorkerOf, WorkerGoes};
+ghost use Rattle.shared_system.specs.Callers.{Continues, IsCallerOf, IsWorkerOf, WorkerContinues};
 ghost use Rattle.hosts.specs.Crews.{IsFetcherBack, IsWorkerBack};
 ghost use Rattle.hosts.specs.Returning.{AreParted};
 
 use crate::fetching::fetcher;
 use crate::gate::Gate;
-use crate::hall::{Hall, Hand, WorkerHand};
 use crate::joining::{Handles, Returned};
 use crate::working::worker;
+use shared_system::{CallerPasses, System, WorkerPasses};
 use std::alloc::AllocError as NoMemory;
 use std::snapshot::Snapshot;
 use std::sync::Wait;
 use std::thread::{Promise, PromisedHandle, Scope, Threads};
 
-/// The fetcher's hand comes back, of the same hall, and its pass has seen no less.
+/// The fetcher's passes come back, of the same system, and its pass of the engine has seen no less.
 #[derive(Drop)]
 pub(crate) struct FetcherBack<G> {
-    hall: Snapshot<Hall<G>>,
-    hand: Snapshot<Hand>,
+    system: Snapshot<System<G>>,
+    caller: Snapshot<CallerPasses>,
 }
 
-impl<G> Promise<Returned<Hand>> for FetcherBack<G> {
-    ghost kept_by = { λ p r. Goes p.hall.value p.hand.value r.0 };
+impl<G> Promise<Returned<CallerPasses>> for FetcherBack<G> {
+    ghost kept_by = { λ p r. Continues p.system.value p.caller.value r.0 };
 }
 
-/// The same of a worker's hand.
+/// The same of a worker's passes.
 #[derive(Drop)]
 pub(crate) struct WorkerBack<G> {
-    hall: Snapshot<Hall<G>>,
-    hand: Snapshot<WorkerHand>,
+    system: Snapshot<System<G>>,
+    caller: Snapshot<WorkerPasses>,
 }
 
-impl<G> Promise<Returned<WorkerHand>> for WorkerBack<G> {
-    ghost kept_by = { λ p r. WorkerGoes p.hall.value p.hand.value r.0 };
+impl<G> Promise<Returned<WorkerPasses>> for WorkerBack<G> {
+    ghost kept_by = { λ p r. WorkerContinues p.system.value p.caller.value r.0 };
 }
 
-/// The fetcher's thread, or its hand where none could be had.
-pub(crate) type Fetching<Q> = Result<PromisedHandle<Returned<Hand>, Q>, Hand>;
+/// The fetcher's thread, or its passes where none could be had.
+pub(crate) type Fetching<Q> = Result<PromisedHandle<Returned<CallerPasses>, Q>, CallerPasses>;
 
-fn fetches<R: Wait, G: Gate>(rt: &R, hall: &Hall<G>, mut hand: Hand, queues: u16) -> Returned<Hand>
-    requires own { IsOf hall.now hand }
+fn fetches<R: Wait, G: Gate>(
+    rt: &R,
+    system: &System<G>,
+    mut caller: CallerPasses,
+    queues: u16,
+) -> Returned<CallerPasses>
+    requires own { IsCallerOf system.now caller }
     requires some { 1 ≤ queues }
-    ensures { Goes hall.now hand result.0 }
+    ensures { Continues system.now caller result.0 }
 {
-    let end = fetcher(rt, hall, &mut hand, queues);
-    (hand, end)
+    let end = fetcher(rt, system, &mut caller, queues);
+    (caller, end)
 }
 
-fn works<R: Wait, G: Gate>(rt: &R, hall: &Hall<G>, mut own: WorkerHand) -> Returned<WorkerHand>
-    requires { IsWorkerOf hall.now own }
-    ensures { WorkerGoes hall.now own result.0 }
+fn works<R: Wait, G: Gate>(
+    rt: &R,
+    system: &System<G>,
+    mut own: WorkerPasses,
+) -> Returned<WorkerPasses>
+    requires { IsWorkerOf system.now own }
+    ensures { WorkerContinues system.now own result.0 }
 {
-    let end = worker(rt, hall, &mut own.hand, &mut own.notices);
+    let end = worker(rt, system, &mut own.caller, &mut own.notices);
     (own, end)
 }
 
@@ -62,63 +71,63 @@ fn works<R: Wait, G: Gate>(rt: &R, hall: &Hall<G>, mut own: WorkerHand) -> Retur
 pub(crate) fn start_fetcher<'s, E, R: Threads + Wait + Sync, G: Gate + Sync>(
     rt: &'s R,
     scope: &Scope<'s, E>,
-    hall: &'s Hall<G>,
-    hand: Hand,
+    system: &'s System<G>,
+    caller: CallerPasses,
     queues: u16,
 ) -> Fetching<FetcherBack<G>>
-    requires own { IsOf hall.now hand }
+    requires own { IsCallerOf system.now caller }
     requires some { 1 ≤ queues }
-    ensures starts { IfOk result (λ h. IsFetcherBack hall.now hand h.promise) }
-    ensures back { IfErr result (Goes hall.now hand) }
+    ensures starts { IfOk result (λ h. IsFetcherBack system.now caller h.promise) }
+    ensures back { IfErr result (Continues system.now caller) }
 {
     let promise = FetcherBack {
-        hall: Snapshot::of(hall),
-        hand: Snapshot::of(&hand),
+        system: Snapshot::of(system),
+        caller: Snapshot::of(&caller),
     };
     let started = scope.spawn_with(
         promise,
-        move || -> Returned<Hand>
-            requires { IsOf hall.now hand × (1 ≤ queues) }
-            ensures { Goes hall.entry.now hand result.0 }
-        { fetches(rt, hall, hand, queues) },
+        move || -> Returned<CallerPasses>
+            requires { IsCallerOf system.now caller × (1 ≤ queues) }
+            ensures { Continues system.entry.now caller result.0 }
+        { fetches(rt, system, caller, queues) },
     );
     match started {
         Ok(child) => Ok(child),
         Err(refused) => {
-            hall.stop.set();
+            system.stop.set();
             let run = refused.value;
-            let (hand, _) = run();
-            Err(hand)
+            let (caller, _) = run();
+            Err(caller)
         }
     }
 }
 
-// Starts the worker of this hand.
+// Starts a worker with these passes.
 fn start_worker<'s, E, R: Threads + Wait + Sync, G: Gate + Sync>(
     rt: &'s R,
     scope: &Scope<'s, E>,
-    hall: &'s Hall<G>,
-    own: WorkerHand,
-) -> Result<PromisedHandle<Returned<WorkerHand>, WorkerBack<G>>, WorkerHand>
-    requires { IsWorkerOf hall.now own }
-    ensures starts { IfOk result (λ h. IsWorkerBack hall.now own h.promise) }
-    ensures back { IfErr result (WorkerGoes hall.now own) }
+    system: &'s System<G>,
+    own: WorkerPasses,
+) -> Result<PromisedHandle<Returned<WorkerPasses>, WorkerBack<G>>, WorkerPasses>
+    requires { IsWorkerOf system.now own }
+    ensures starts { IfOk result (λ h. IsWorkerBack system.now own h.promise) }
+    ensures back { IfErr result (WorkerContinues system.now own) }
 {
     let promise = WorkerBack {
-        hall: Snapshot::of(hall),
-        hand: Snapshot::of(&own),
+        system: Snapshot::of(system),
+        caller: Snapshot::of(&own),
     };
     let started = scope.spawn_with(
         promise,
-        move || -> Returned<WorkerHand>
-            requires { IsWorkerOf hall.now own }
-            ensures { WorkerGoes hall.entry.now own result.0 }
-        { works(rt, hall, own) },
+        move || -> Returned<WorkerPasses>
+            requires { IsWorkerOf system.now own }
+            ensures { WorkerContinues system.entry.now own result.0 }
+        { works(rt, system, own) },
     );
     match started {
         Ok(child) => Ok(child),
         Err(refused) => {
-            hall.stop.set();
+            system.stop.set();
             let run = refused.value;
             let (own, _) = run();
             Err(own)
@@ -126,31 +135,32 @@ fn start_worker<'s, E, R: Threads + Wait + Sync, G: Gate + Sync>(
     }
 }
 
-/// Starts a worker for each hand, the last first. At `Err` one couldn't be started: those before it run, and the hands
-/// of the others stay.
+/// Starts a worker with each of these, the last first. At `Err` one couldn't be started: those before it run, and the
+/// passes of the others stay.
 pub(crate) fn start_workers<'s, E, R: Threads + Wait + Sync, G: Gate + Sync>(
     rt: &'s R,
     scope: &Scope<'s, E>,
-    hall: &'s Hall<G>,
-    hands: &mut Vec<WorkerHand>,
-    started: &mut Handles<WorkerHand, WorkerBack<G>>,
+    system: &'s System<G>,
+    callers: &mut Vec<WorkerPasses>,
+    started: &mut Handles<WorkerPasses, WorkerBack<G>>,
 ) -> Result<(), NoMemory>
-    requires hands { All (IsWorkerOf hall.now) hands.old.items }
+    requires callers { All (IsWorkerOf system.now) callers.old.items }
     requires none { started.old.items ≡ [] }
-    requires room { vec_len hands.old ≤ vec_capacity started.old }
-    ensures parted { AreParted (WorkerGoes hall.now) (IsWorkerBack hall.now) hands.old.items hands.new.items
+    requires room { vec_len callers.old ≤ vec_capacity started.old }
+    ensures parted { AreParted (WorkerContinues system.now)
+        (IsWorkerBack system.now) callers.old.items callers.new.items
         (map (λ h. h.promise) started.new.items) }
-    ensures room { vec_len hands.new + vec_len started.new ≤ vec_capacity hands.new }
-    ensures all { OnOk result (hands.new.items ≡ []) }
+    ensures room { vec_len callers.new + vec_len started.new ≤ vec_capacity callers.new }
+    ensures all { OnOk result (callers.new.items ≡ []) }
 {
-    for _ in 0..hands.len() {
-        let Some(own) = hands.pop() else {
+    for _ in 0..callers.len() {
+        let Some(own) = callers.pop() else {
             unreachable!();
         };
-        match start_worker(rt, scope, hall, own) {
+        match start_worker(rt, scope, system, own) {
             Ok(child) => started.push_reserved(child),
             Err(back) => {
-                hands.push_reserved(back);
+                callers.push_reserved(back);
                 return Err(NoMemory);
             }
         }

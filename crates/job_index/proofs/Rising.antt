@@ -6,7 +6,7 @@ use Rattle.std.proofs.lemmas.Bool.Decides.{nat_tests}
 use Rattle.std.proofs.lemmas.List.{map-append}
 use Rattle.std.proofs.lemmas.List.Folds.{list_all-append, list_all-map}
 use Rattle.std.specs.List.{filter, list_all, remove}
-use Rattle.job_index.specs.Keyed.{AreRising, IsPlaceOf, IsRising, all_above, all_below, has_ticket, key_of}
+use Rattle.job_index.specs.Keyed.{AreRising, IsAtPlace, AreKeyedRising, all_above, all_below, has_ticket, key_of}
 use Rattle.job_index.specs.Keyed.{keyed_beside, keys_of, tickets_of}
 use Rattle.job_index.specs.declared.tickets.Keyed.{Keyed}
 
@@ -76,7 +76,8 @@ is_some-key_of [] t = refl
 is_some-key_of (x ∷ xs) t = grind (arith, nat_tests, is_some-key_of xs t)
 
 -- they rise with one above all at the end
-pub IsRising-push : (ks : List Keyed) (k : Keyed) → IsRising ks → all_below k.ticket ks ≡ true → IsRising (ks ++ k ∷ [])
+pub IsRising-push : (ks : List Keyed) (k : Keyed) → AreKeyedRising ks → all_below k.ticket ks ≡ true
+    → AreKeyedRising (ks ++ k ∷ [])
 IsRising-push ks k r below =
     subst AreRising (sym (map-append (λ (x : Keyed). x.ticket) ks (k ∷ [])))
     (AreRising-push (tickets_of ks) k.ticket r (list_all-map (λ u. nat_lt u k.ticket) (λ x. x.ticket) ks ∙ below))
@@ -87,14 +88,14 @@ tickets-beside [] t = refl
 tickets-beside (x ∷ xs) t = grind (arith, nat_tests, tickets-beside xs t)
 
 -- they rise without one
-pub IsRising-beside : (ks : List Keyed) (t : ℕ) → IsRising ks → IsRising (keyed_beside ks t)
+pub IsRising-beside : (ks : List Keyed) (t : ℕ) → AreKeyedRising ks → AreKeyedRising (keyed_beside ks t)
 IsRising-beside ks t r =
     subst AreRising (sym (tickets-beside ks t)) (AreRising-filter (λ u. not (u == t)) (tickets_of ks) r)
 
 -- ---- a place
 
 -- a ticket with a place is there
-pub has_ticket_at : (ks : List Keyed) (t i : ℕ) → IsPlaceOf ks t i → has_ticket ks t ≡ true
+pub has_ticket_at : (ks : List Keyed) (t i : ℕ) → IsAtPlace ks t i → has_ticket ks t ≡ true
 has_ticket_at [] t i p = absurd (let q : None ≡ Some t = p in cc)
 has_ticket_at (x ∷ xs) t zero p =
     let q : Some x.ticket ≡ Some t = p in
@@ -103,11 +104,11 @@ has_ticket_at (x ∷ xs) t zero p =
 has_ticket_at (x ∷ xs) t (suc i) p = grind (arith, nat_tests, has_ticket_at xs t i p)
 
 -- the first ticket is below that of a later place
-first_below : (x : Keyed) (xs : List Keyed) (t i : ℕ) → IsRising (x ∷ xs) → IsPlaceOf xs t i → x.ticket < t
+first_below : (x : Keyed) (xs : List Keyed) (t i : ℕ) → AreKeyedRising (x ∷ xs) → IsAtPlace xs t i → x.ticket < t
 first_below x xs t i r p = above_each x.ticket (tickets_of xs) i t r.0 p
 
 -- the key at its place is the ticket's
-pub key_at : (ks : List Keyed) (t i : ℕ) → IsRising ks → IsPlaceOf ks t i → slice_get (keys_of ks) i ≡ key_of ks t
+pub key_at : (ks : List Keyed) (t i : ℕ) → AreKeyedRising ks → IsAtPlace ks t i → slice_get (keys_of ks) i ≡ key_of ks t
 key_at [] t i r p = refl
 key_at (x ∷ xs) t zero r p =
     let q : Some x.ticket ≡ Some t = p in
@@ -118,7 +119,7 @@ key_at (x ∷ xs) t (suc i) r p =
     grind (arith, nat_tests, key_at xs t i r.1 p)
 
 -- what is left without the place
-pub remove_at : (ks : List Keyed) (t i : ℕ) → IsRising ks → IsPlaceOf ks t i → remove ks i ≡ keyed_beside ks t
+pub remove_at : (ks : List Keyed) (t i : ℕ) → AreKeyedRising ks → IsAtPlace ks t i → remove ks i ≡ keyed_beside ks t
 remove_at [] t i r p = absurd (let q : None ≡ Some t = p in cc)
 remove_at (x ∷ xs) t zero r p =
     let q : Some x.ticket ≡ Some t = p in

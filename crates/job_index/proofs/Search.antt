@@ -4,7 +4,7 @@ use Rattle.std.proofs.Common.{◌+◌, ◌-◌, ◌/◌, ◌<◌, ◌^◌, ◌�
 use Rattle.std.proofs.Math.Nat.{mul-le-mul_left, mul_assoc, pow-suc}
 use Rattle.std.proofs.lemmas.Bool.{cases_lt, ne_eqb}
 use Rattle.std.proofs.lemmas.Bool.Decides.{nat_tests}
-use Rattle.job_index.specs.Keyed.{IsPlaceOf, IsRising, has_ticket, tickets_of}
+use Rattle.job_index.specs.Keyed.{IsAtPlace, AreKeyedRising, has_ticket, tickets_of}
 use Rattle.job_index.specs.declared.tickets.Keyed.{Keyed}
 use Rattle.job_index.proofs.Rising.{rises}
 
@@ -60,7 +60,7 @@ one_more ks t from to old now s l =
     omega (arith, power old now s.counted, mul-le-mul_left (2 ^ (now - old)) some, s.halved)
 
 -- a lower ticket in the middle leaves the upper half
-pub upper : (ks : List Keyed) (t from to old now u : ℕ) → IsRising ks → Searches ks t from to old now → from < to
+pub upper : (ks : List Keyed) (t from to old now u : ℕ) → AreKeyedRising ks → Searches ks t from to old now → from < to
     → slice_get (tickets_of ks) (from + (to - from) / 2) ≡ Some u → u < t
     → Searches ks t (from + (to - from) / 2 + 1) to old (now + 1)
 upper ks t from to old now u r s l h low =
@@ -81,7 +81,7 @@ upper ks t from to old now u r s l h low =
     }
 
 -- a higher one leaves the lower half
-pub lower : (ks : List Keyed) (t from to old now u : ℕ) → IsRising ks → Searches ks t from to old now → from < to
+pub lower : (ks : List Keyed) (t from to old now u : ℕ) → AreKeyedRising ks → Searches ks t from to old now → from < to
     → slice_get (tickets_of ks) (from + (to - from) / 2) ≡ Some u → t < u
     → Searches ks t from (from + (to - from) / 2) old (now + 1)
 lower ks t from to old now u r s l h high =
@@ -109,7 +109,7 @@ other_above t u l n = elim (cases_lt t u) [
 ]
 
 -- with no place left the ticket isn't there
-pub none_left : (ks : List Keyed) (t : ℕ) → ((i : ℕ) → IsPlaceOf ks t i → i < i) → has_ticket ks t ≡ false
+pub none_left : (ks : List Keyed) (t : ℕ) → ((i : ℕ) → IsAtPlace ks t i → i < i) → has_ticket ks t ≡ false
 none_left [] t none = refl
 none_left (k ∷ ks) t none =
     let other = ne_eqb k.ticket t (λ e. omega (arith, none 0 (ap Some e))) in

@@ -43,9 +43,9 @@ AreRising [] = Unit {0}
 AreRising (t ∷ ts) = (all_above t ts ≡ true) × AreRising ts
 
 -- the tickets rise
-abbrev pub IsRising : List Keyed → Type 0
-IsRising ks = AreRising (tickets_of ks)
+abbrev pub AreKeyedRising : List Keyed → Type 0
+AreKeyedRising ks = AreRising (tickets_of ks)
 
 -- the ticket is there, with so many lower ones
-abbrev pub IsPlaceOf : List Keyed → ℕ → ℕ → Type 0
-IsPlaceOf ks t i = slice_get (tickets_of ks) i ≡ Some t
+abbrev pub IsAtPlace : List Keyed → ℕ → ℕ → Type 0
+IsAtPlace ks t i = slice_get (tickets_of ks) i ≡ Some t

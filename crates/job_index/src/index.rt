@@ -2,9 +2,10 @@
 
 ghost use Rattle.std.specs.Prelude.{◌≡◌, ◌<◌, ◌≤◌, ◌+◌, ◌-◌, ◌*◌, ◌^◌, ◌++◌, ◌↔◌, [], ◌∷◌, IfOk, IfSome, IsTrue, Some};
 ghost use Rattle.std.specs.Prelude.{is_some, length, slice_get, true};
-ghost use Rattle.job_index.specs.Keyed.{IsPlaceOf, IsRising, all_below, has_ticket, key_of, keyed_beside, keys_of};
+ghost use Rattle.job_index.specs.Keyed.{IsAtPlace, AreKeyedRising, all_below, has_ticket, key_of, keyed_beside};
+ghost use Rattle.job_index.specs.Keyed.{keys_of};
 
-use crate::steps::Steps;
+use crate::steps::ProbeCount;
 use crate::tickets::Tickets;
 use std::alloc::{AllocError as NoMemory, Global};
 use std::marker::Model;
@@ -17,13 +18,13 @@ pub struct JobIndex {
 }
 
 impl Model for JobIndex {
-    ghost use Rattle.job_index.specs.Keyed.{IsRising, KeyedTickets};
+    ghost use Rattle.job_index.specs.Keyed.{AreKeyedRising, KeyedTickets};
 
     ghost Value = { KeyedTickets };
 
     ghost view = { λ x. x.tickets };
 
-    ghost invariant = { λ x. IsRising x.tickets.keyed };
+    ghost invariant = { λ x. AreKeyedRising x.tickets.keyed };
 }
 
 impl JobIndex {
@@ -56,7 +57,7 @@ impl JobIndex {
     }
 
     /// The key of a ticket, where it is there. It takes no more steps than the count of tickets has binary digits.
-    pub fn find<L: Ledger>(&self, t: u64, steps: &mut Steps<L>) -> Option<usize>
+    pub fn find<L: Ledger>(&self, t: u64, steps: &mut ProbeCount<L>) -> Option<usize>
         ensures key { result ≡ key_of self.now.keyed t }
         ensures any { is_some result ≡ has_ticket self.now.keyed t }
         ensures counted { steps.old ≤ steps.new }
@@ -88,7 +89,7 @@ impl JobIndex {
 
     /// Takes a ticket out, where it is there, and gives its key. It takes no more steps than the count of tickets has
     /// binary digits.
-    pub fn remove<L: Ledger>(&mut self, t: u64, steps: &mut Steps<L>) -> Option<usize>
+    pub fn remove<L: Ledger>(&mut self, t: u64, steps: &mut ProbeCount<L>) -> Option<usize>
         ensures key { result ≡ key_of self.old.keyed t }
         ensures rest { self.new ≡ record self.old { keyed = keyed_beside self.old.keyed t } }
         ensures counted { steps.old ≤ steps.new }
@@ -101,10 +102,10 @@ impl JobIndex {
     }
 
     // Where a ticket is.
-    fn place<L: Ledger>(&self, t: u64, steps: &mut Steps<L>) -> Option<usize>
-        ensures found { IfSome result (IsPlaceOf self.now.keyed t) }
+    fn place<L: Ledger>(&self, t: u64, steps: &mut ProbeCount<L>) -> Option<usize>
+        ensures found { IfSome result (IsAtPlace self.now.keyed t) }
         ensures any { is_some result ≡ has_ticket self.now.keyed t }
-        ensures law { IsRising self.now.keyed }
+        ensures law { AreKeyedRising self.now.keyed }
         ensures counted { steps.old ≤ steps.new }
         ensures cost { 2 ^ (steps.new - steps.old) ≤ 2 * length self.now.keyed + 1 }
     {

@@ -6,5 +6,5 @@ mod steps;
 mod tickets;
 
 pub use index::JobIndex;
-pub use steps::Steps;
+pub use steps::ProbeCount;
 pub use tickets::{Keyed, Tickets};

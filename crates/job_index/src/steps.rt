@@ -7,12 +7,12 @@ use std::sync::ledger::{Blank, Book, Ledger, Share};
 
 /// How many probes were made. It takes no bytes, and goes up one at a time.
 #[derive(Drop)]
-pub struct Steps<L: Ledger> {
+pub struct ProbeCount<L: Ledger> {
     book: Book<L>,
     share: Share<L>,
 }
 
-impl<L: Ledger> Model for Steps<L> {
+impl<L: Ledger> Model for ProbeCount<L> {
     ghost use Rattle.std.specs.Prelude.{◌<◌, ℕ};
 
     ghost Value = { ℕ };
@@ -22,16 +22,16 @@ impl<L: Ledger> Model for Steps<L> {
     ghost invariant = { λ s. 0 < s.share.parts };
 }
 
-impl<L: Ledger> Steps<L> {
+impl<L: Ledger> ProbeCount<L> {
     /// None were made yet.
-    pub fn new(blank: Blank) -> Steps<L>
+    pub fn new(blank: Blank) -> ProbeCount<L>
         requires name { blank.name ≡ L.name }
         requires parts { blank.parts ≡ L.parts }
         requires some { 0 < blank.parts }
         ensures none { result ≡ 0 }
     {
         let (book, share) = blank.open::<L>();
-        Steps { book, share }
+        ProbeCount { book, share }
     }
 
     /// One more was made.

@@ -4,7 +4,7 @@ ghost use Rattle.std.specs.List.{remove};
 ghost use Rattle.std.specs.Prelude.{◌≡◌, ◌<◌, ◌≤◌, ◌+◌, ◌++◌, ◌↔◌, [], ◌∷◌, IfOk, IsTrue, Some, length, slice_get};
 ghost use Rattle.job_index.specs.Keyed.{keys_of, tickets_of};
 
-use crate::steps::Steps;
+use crate::steps::ProbeCount;
 use std::alloc::{AllocError as NoMemory, Global};
 use std::marker::Model;
 use std::sync::ledger::Ledger;
@@ -65,7 +65,7 @@ impl Tickets {
     }
 
     /// The ticket at a place, which counts as one step.
-    pub fn probe<L: Ledger>(&self, i: usize, steps: &mut Steps<L>) -> u64
+    pub fn probe<L: Ledger>(&self, i: usize, steps: &mut ProbeCount<L>) -> u64
         requires within { i < length self.now.keyed }
         ensures ticket { slice_get (tickets_of self.now.keyed) i ≡ Some result }
         ensures one { steps.new ≡ steps.old + 1 }

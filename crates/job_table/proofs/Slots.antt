@@ -11,7 +11,8 @@ use Rattle.job_index.specs.Keyed as keyed
 use Rattle.job_index.specs.Keyed.{all_above, key_of, keyed_beside, keys_of}
 use Rattle.job_index.specs.declared.tickets.Keyed.{Keyed}
 use Rattle.job_index.proofs.Rising.{beside_absent, has_ticket_below, is_some-key_of}
-use Rattle.job_table.specs.Jobs.{AreRising, IsRising, all_below, has_ticket, job_of, jobs_beside, replaced, tickets_of}
+use Rattle.job_table.specs.Jobs.{AreRising, AreTicketsRising, all_jobs_below, has_job_of, job_of, jobs_beside, replaced}
+use Rattle.job_table.specs.Jobs.{job_tickets}
 use Rattle.job_table.specs.Slots.{HoldsEach, HoldsOne, jobs_in}
 use Rattle.job_table.specs.declared.job.Job.{Job}
 use Rattle.job_table.specs.declared.jobs.InFlight.{InFlight}
@@ -25,12 +26,12 @@ first_in s k ks e h = ap (λ (o : Option InFlight). cons_option o (jobs_in s ks)
 
 -- the tickets are those of the keys
 pub tickets_in : (s : Slab InFlight) (ks : List Keyed) → HoldsEach s ks
-    → tickets_of (jobs_in s ks) ≡ keyed.tickets_of ks
+    → job_tickets (jobs_in s ks) ≡ keyed.tickets_of ks
 tickets_in s [] h = refl
 tickets_in s (k ∷ ks) h =
     let later = tickets_in s ks h.1 in
     let is = h.0.ticket in
-    ap tickets_of (first_in s k ks h.0.one h.0.there) ∙ cc
+    ap job_tickets (first_in s k ks h.0.one h.0.there) ∙ cc
 
 -- as many
 pub length_in : (s : Slab InFlight) (ks : List Keyed) → HoldsEach s ks → length (jobs_in s ks) ≡ length ks
@@ -60,19 +61,19 @@ key_within s (k ∷ ks) (suc i) key h p = key_within s ks i key h.1 p
 
 -- the same tickets are in flight
 pub has_in : (s : Slab InFlight) (ks : List Keyed) (t : ℕ) → HoldsEach s ks
-    → has_ticket (jobs_in s ks) t ≡ keyed.has_ticket ks t
+    → has_job_of (jobs_in s ks) t ≡ keyed.has_ticket ks t
 has_in s [] t h = refl
 has_in s (k ∷ ks) t h =
-    ap (λ (xs : List InFlight). has_ticket xs t) (first_in s k ks h.0.one h.0.there)
-    ∙ ap (λ u. (u == t) || has_ticket (jobs_in s ks) t) h.0.ticket ∙ ap (λ b. (k.ticket == t) || b) (has_in s ks t h.1)
+    ap (λ (xs : List InFlight). has_job_of xs t) (first_in s k ks h.0.one h.0.there)
+    ∙ ap (λ u. (u == t) || has_job_of (jobs_in s ks) t) h.0.ticket ∙ ap (λ b. (k.ticket == t) || b) (has_in s ks t h.1)
 
 -- a ticket is above the same
 pub below_in : (s : Slab InFlight) (ks : List Keyed) (t : ℕ) → HoldsEach s ks
-    → all_below t (jobs_in s ks) ≡ keyed.all_below t ks
+    → all_jobs_below t (jobs_in s ks) ≡ keyed.all_below t ks
 below_in s [] t h = refl
 below_in s (k ∷ ks) t h =
-    ap (all_below t) (first_in s k ks h.0.one h.0.there)
-    ∙ ap (λ u. nat_lt u t && all_below t (jobs_in s ks)) h.0.ticket
+    ap (all_jobs_below t) (first_in s k ks h.0.one h.0.there)
+    ∙ ap (λ u. nat_lt u t && all_jobs_below t (jobs_in s ks)) h.0.ticket
     ∙ ap (λ b. nat_lt k.ticket t && b) (below_in s ks t h.1)
 
 -- ---- a look-up
@@ -128,12 +129,12 @@ found_in s (k ∷ ks) t key h p = elim (cases_eq k.ticket t) [
 
 -- a ticket with a key is in flight
 pub has_found : (s : Slab InFlight) (ks : List Keyed) (t key : ℕ) → HoldsEach s ks → key_of ks t ≡ Some key
-    → has_ticket (jobs_in s ks) t ≡ true
+    → has_job_of (jobs_in s ks) t ≡ true
 has_found s ks t key h p = has_in s ks t h ∙ sym (is_some-key_of ks t) ∙ ap is_some p
 
 -- one without isn't
 pub none_found : (s : Slab InFlight) (ks : List Keyed) (t : ℕ) → HoldsEach s ks → key_of ks t ≡ None
-    → has_ticket (jobs_in s ks) t ≡ false
+    → has_job_of (jobs_in s ks) t ≡ false
 none_found s ks t h p = has_in s ks t h ∙ sym (is_some-key_of ks t) ∙ ap is_some p
 
 -- its key has a job
@@ -152,7 +153,8 @@ job_found s ks t key e h p at =
     (f.job ∙ ap (λ (x : InFlight). Some x.job) same, ap (λ (x : InFlight). x.ticket) (sym same) ∙ f.ticket)
 
 -- the tickets in flight rise
-pub rises_in : (s : Slab InFlight) (ks : List Keyed) → HoldsEach s ks → keyed.IsRising ks → IsRising (jobs_in s ks)
+pub rises_in : (s : Slab InFlight) (ks : List Keyed) → HoldsEach s ks → keyed.AreKeyedRising ks
+    → AreTicketsRising (jobs_in s ks)
 rises_in s ks h r = subst AreRising (sym (tickets_in s ks h)) r
 
 -- none are in flight where none are there
@@ -176,7 +178,7 @@ only_absent (k ∷ ks) t key n =
     (λ e. absurd (true≢false (sym (eq-eqb k.ticket t e) ∙ p.0)), only_absent ks t key p.1)
 
 -- and where tickets rise
-pub only_key : (ks : List Keyed) (t key : ℕ) → keyed.IsRising ks → key_of ks t ≡ Some key → IsOnly ks t key
+pub only_key : (ks : List Keyed) (t key : ℕ) → keyed.AreKeyedRising ks → key_of ks t ≡ Some key → IsOnly ks t key
 only_key [] t key r p = tt
 only_key (k ∷ ks) t key r p = elim (cases_eq k.ticket t) [
   | inl e ↦
@@ -256,7 +258,7 @@ replaced_in s u (k ∷ ks) t key e j h o at is up =
 
 -- the table where the job that is lent ends as this
 pub lent_in : (s : Slab InFlight) (ks : List Keyed) (t key : ℕ) (e : InFlight) (j : Job) → HoldsEach s ks
-    → keyed.IsRising ks → key_of ks t ≡ Some key → get s key ≡ Some e
+    → keyed.AreKeyedRising ks → key_of ks t ≡ Some key → get s key ≡ Some e
     → (jobs_in (with_value s key (record { ticket = e.ticket; job = j })) ks ≡ replaced (jobs_in s ks) t j)
     × HoldsEach (with_value s key (record { ticket = e.ticket; job = j })) ks
 lent_in s ks t key e j h r p at =
@@ -281,7 +283,7 @@ length_lent s key e v at =
 -- ---- one ticket fewer
 
 -- one key fewer
-pub length_beside : (ks : List Keyed) (t key : ℕ) → keyed.IsRising ks → key_of ks t ≡ Some key
+pub length_beside : (ks : List Keyed) (t key : ℕ) → keyed.AreKeyedRising ks → key_of ks t ≡ Some key
     → length (keyed_beside ks t) + 1 ≡ length ks
 length_beside [] t key r p = absurd (let q : None ≡ Some key = p in cc)
 length_beside (k ∷ ks) t key r p = elim (cases_eq k.ticket t) [

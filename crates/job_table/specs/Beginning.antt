@@ -4,7 +4,7 @@ use Rattle.nvme_model.specs.declared.operation.Op.{Op}
 use Rattle.nvme_model.specs.declared.submission.Submission.{Submission}
 use Rattle.fused_match.specs.declared.judged.Judged.{Judged}
 use Rattle.fused_match.specs.declared.judged.Judged.TheVariants as judged
-use Rattle.block_exec.specs.Bytes.{blocks_in}
+use Rattle.block_exec.specs.Bytes.{first_blocks}
 
 -- zeros for what a Read will read
 abbrev pub read_first : Judged → List ℕ
@@ -17,8 +17,8 @@ payload_at ws i = (get_or ws i (record { entry = []; payload = [] })).payload
 
 -- the blocks that a ticket writes from its data, where these entries wait
 abbrev pub write_first : Judged → List Submission → List (List ℕ)
-write_first (judged.Single Op.Write r) ws = blocks_in r.blocks (payload_at ws 0)
-write_first (judged.Pair r) ws = blocks_in r.blocks (payload_at ws 1)
+write_first (judged.Single Op.Write r) ws = first_blocks r.blocks (payload_at ws 0)
+write_first (judged.Pair r) ws = first_blocks r.blocks (payload_at ws 1)
 write_first _ ws = []
 
 -- and they have them

@@ -2,7 +2,7 @@
 use Rattle.std.specs.List.{filter_map}
 use Rattle.std.specs.Prelude.{List, Some, [], length, ℕ, ◌∷◌, ◌≡◌, ◌≤◌}
 use Rattle.slab.specs.Slab.{Slab, get, slab_len}
-use Rattle.job_index.specs.Keyed.{IsRising, KeyedTickets}
+use Rattle.job_index.specs.Keyed.{AreKeyedRising, KeyedTickets}
 use Rattle.job_index.specs.declared.tickets.Keyed.{Keyed}
 use Rattle.job_table.specs.declared.jobs.InFlight.{InFlight}
 
@@ -22,8 +22,8 @@ HoldsEach s [] = Unit {0}
 HoldsEach s (k ∷ ks) = HoldsOne s k × HoldsEach s ks
 
 -- how a table is kept: the tickets rise, each at its key, no more than the limit, and there is room for that many
-pub record IsKept (limit : ℕ) (x : KeyedTickets) (s : Slab InFlight) : Type 0 where
-  pub rising : IsRising x.keyed
+pub record IsJobTable (limit : ℕ) (x : KeyedTickets) (s : Slab InFlight) : Type 0 where
+  pub rising : AreKeyedRising x.keyed
   pub each : HoldsEach s x.keyed
   pub count : slab_len s ≡ length x.keyed
   pub within : length x.keyed ≤ limit

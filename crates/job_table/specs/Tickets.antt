@@ -1,6 +1,6 @@
 -- What is kept of the tickets in flight of a history.
 use Rattle.std.specs.Prelude.{List, None, Option, Some, [], drop, if◌then◌else◌, length, replicate, ℕ, ◌*◌, ◌++◌, ◌-◌}
-use Rattle.nvme_model.specs.EntryBytes.{blocks, slba}
+use Rattle.nvme_model.specs.EntryBytes.{block_count, slba}
 use Rattle.nvme_model.specs.History.{Past}
 use Rattle.nvme_model.specs.Operations.{has_compare, op}
 use Rattle.nvme_model.specs.Tickets.{Ticket, cids, command, first_fields}
@@ -8,8 +8,8 @@ use Rattle.nvme_model.specs.declared.config.ConfigNumbers.{ConfigNumbers}
 use Rattle.nvme_model.specs.declared.operation.Op.{Op}
 use Rattle.nvme_model.specs.declared.submission.Submission.{Submission}
 use Rattle.ticket_laws.specs.Standing.{OpenUnit, Standing, flying, had, standing}
-use Rattle.block_exec.specs.Bytes.{blocks_in}
-use Rattle.ticket_course.specs.Shown.{stage_of}
+use Rattle.block_exec.specs.Bytes.{first_blocks}
+use Rattle.ticket_progress.specs.Shown.{standing_stage}
 use Rattle.job_table.specs.Jobs.{JobTable, jobs_by}
 use Rattle.job_table.specs.Keeping.{Keeping}
 
@@ -23,8 +23,8 @@ compare_bytes k = compare_by (op k) (command k 0)
 
 -- the blocks that it writes from its data, by the operation
 abbrev pub write_blocks_by : Option Op → Ticket → List (List ℕ)
-write_blocks_by (Some Op.Write) k = blocks_in (blocks (first_fields k)) (command k 0).payload
-write_blocks_by (Some Op.Pair) k = blocks_in (blocks (first_fields k)) (command k 1).payload
+write_blocks_by (Some Op.Write) k = first_blocks (block_count (first_fields k)) (command k 0).payload
+write_blocks_by (Some Op.Pair) k = first_blocks (block_count (first_fields k)) (command k 1).payload
 write_blocks_by _ k = []
 
 abbrev pub write_blocks : Ticket → List (List ℕ)
@@ -52,7 +52,7 @@ still_written c s = drop (written_so_far c s (op s.ticket)) (write_blocks s.tick
 
 -- what a Read has read so far, and zeros for the rest
 abbrev pub read_bytes_by : Option Op → Ticket → List ℕ → List ℕ
-read_bytes_by (Some Op.Read) k read = read ++ replicate (512 * blocks (first_fields k) - length read) 0
+read_bytes_by (Some Op.Read) k read = read ++ replicate (512 * block_count (first_fields k) - length read) 0
 read_bytes_by _ k read = []
 
 -- what is kept of a ticket that stands so
@@ -60,7 +60,7 @@ unfoldable pub job_by : ConfigNumbers → Standing → Keeping
 job_by c s =
     record {
       queue = s.ticket.queue;
-      course = record { stage = stage_of c s; cids = drop s.posts (cids s.ticket) };
+      progress = record { stage = standing_stage c s; cids = drop s.posts (cids s.ticket) };
       slba = slba (first_fields s.ticket);
       compare = compare_bytes s.ticket;
       write = still_written c s;

@@ -1,14 +1,14 @@
 //! A ticket in flight: how far it has come, and its data.
 
 ghost use Rattle.std.specs.Prelude.{◌≡◌, ◌≤◌, ◌<◌, ◌+◌, ◌^◌, ◌⊎◌, ◌↔◌, [], IsTrue, drop, false, if◌then◌else◌, length};
-ghost use Rattle.std.specs.Prelude.{take, true};
+ghost use Rattle.std.specs.Prelude.{take, true, ℕ};
 ghost use Rattle.block_array.specs.Blocks.{contents_of};
 ghost use Rattle.block_exec.specs.Bytes.{block_at, boxes_after, compare_length, needs_box, next_equal, takes_box};
 ghost use Rattle.block_exec.specs.Bytes.{volume_with};
 ghost use Rattle.block_exec.specs.Course.{next_done};
-ghost use Rattle.block_exec.specs.Progress.{has_ended, next_found};
+ghost use Rattle.block_exec.specs.Progress.{unit_has_ended, next_found};
 ghost use Rattle.fused_match.specs.Judged.{verdict_by};
-ghost use Rattle.nvme_model.specs.Verdict.{taken};
+ghost use Rattle.nvme_model.specs.Verdict.{taken_entries};
 ghost use Rattle.nvme_model.specs.declared.operation.Op.{Op as Operation};
 ghost use Rattle.job_table.specs.Keeping.{read_of};
 ghost use Rattle.job_table.specs.Parts.{HasPart, part_end, part_of};
@@ -20,7 +20,7 @@ use nvme_model::array::Range;
 use nvme_model::operation::{Found, Op};
 use nvme_model::submission::Payload;
 use std::marker::Model;
-use ticket_course::{Cids, Course};
+use ticket_progress::{OwedCids, TicketProgress};
 
 /// A ticket in flight.
 ///
@@ -29,7 +29,7 @@ use ticket_course::{Cids, Course};
 #[derive(Drop)]
 pub struct Job {
     queue: u16,
-    course: Course,
+    progress: TicketProgress,
     // The first of the blocks that its data is for.
     slba: u64,
     compare: Payload,
@@ -48,7 +48,7 @@ impl Model for Job {
 
     ghost view = { λ j. record {
       queue = j.queue;
-      course = j.course;
+      progress = j.progress;
       slba = j.slba;
       compare = j.compare;
       write = drop j.written (contents_of j.write.items);
@@ -71,16 +71,16 @@ pub struct Data {
 
 impl Job {
     ghost use Rattle.job_table.specs.Keeping.{CanMake, finds_equal, noted_job, opened_job, posted_job};
-    ghost use Rattle.ticket_course.specs.Stages.{IfOpen, IsFirst, IsSound, first_stage, is_open, owed_in};
+    ghost use Rattle.ticket_progress.specs.Stages.{IfOpen, IsFirstUnit, IsSound, first_ticket_stage, is_open, owed_in};
 
     /// A ticket of this queue that was judged so, with the CIDs of its commands and its data.
-    pub fn new(queue: u16, judged: &Judged, cids: Cids, all: Data) -> Job
-        requires cids { length cids ≡ taken (verdict_by judged.now) }
+    pub fn new(queue: u16, judged: &Judged, cids: OwedCids, all: Data) -> Job
+        requires cids { length cids ≡ taken_entries (verdict_by judged.now) }
         requires sound { IsSound judged.now }
         ensures value { result ≡
             record {
               queue = queue;
-              course = record { stage = first_stage judged.now; cids = cids };
+              progress = record { stage = first_ticket_stage judged.now; cids = cids };
               slba = all.slba;
               compare = all.compare;
               write = contents_of all.write.items;
@@ -89,7 +89,7 @@ impl Job {
     {
         Job {
             queue,
-            course: Course::new(judged, cids),
+            progress: TicketProgress::new(judged, cids),
             slba: all.slba,
             compare: all.compare,
             write: all.write,
@@ -106,10 +106,10 @@ impl Job {
     }
 
     /// How far it has come.
-    pub fn course(&self) -> Course
-        ensures value { result ≡ self.now.course }
+    pub fn progress(&self) -> TicketProgress
+        ensures value { result ≡ self.now.progress }
     {
-        self.course
+        self.progress
     }
 
     /// What a Read has read so far, and zeros for the rest.
@@ -119,31 +119,33 @@ impl Job {
         self.read.as_slice()
     }
 
-    /// The same, where nothing else of the ticket is needed any more.
-    pub fn into_read(self) -> Payload
-        ensures value { result ≡ self.read }
+    /// What it has read, and its boxes, of which the last are those that it had still to write, where nothing else of
+    /// the ticket is needed any more.
+    pub fn into_parts(self) -> (Payload, Vec<Box<[u8; 512]>>)
+        ensures read { result.0 ≡ self.read }
+        ensures write { (k : ℕ) × (drop k (contents_of result.1.items) ≡ self.write) }
     {
-        self.read
+        (self.read, self.write)
     }
 
     /// Opens the next unit, of these blocks.
     pub fn open(&mut self, range: Range)
-        requires first { IsFirst self.old.course.stage range }
+        requires first { IsFirstUnit self.old.progress.stage range }
         ensures opened { self.new ≡ opened_job self.old range }
     {
-        self.course.open(range);
+        self.progress.open(range);
     }
 
     /// Makes the next block of its open unit.
     pub fn make_block(&mut self, volume: &mut Volume) -> Done
-        requires open { is_open self.old.course.stage ≡ true }
-        requires ready { IfOpen self.old.course.stage (λ p. CanMake self.old p volume.old) }
-        ensures done { IfOpen self.old.course.stage (λ p. result ≡ next_done p (finds_equal self.old p volume.old)) }
-        ensures volume { IfOpen self.old.course.stage
+        requires open { is_open self.old.progress.stage ≡ true }
+        requires ready { IfOpen self.old.progress.stage (λ p. CanMake self.old p volume.old) }
+        ensures done { IfOpen self.old.progress.stage (λ p. result ≡ next_done p (finds_equal self.old p volume.old)) }
+        ensures volume { IfOpen self.old.progress.stage
             (λ p. volume.new ≡ volume_with p volume.old (block_at self.old.write 0) result.found) }
-        ensures job { IfOpen self.old.course.stage (λ p. self.new ≡ noted_job self.old p volume.old result.found) }
+        ensures job { IfOpen self.old.progress.stage (λ p. self.new ≡ noted_job self.old p volume.old result.found) }
     {
-        let Some(run) = self.course.run() else {
+        let Some(run) = self.progress.run() else {
             unreachable!();
         };
         let compare = self.compare.as_slice();
@@ -152,16 +154,16 @@ impl Job {
         let found = touch(run, self.slba, compare, boxes, self.written, read, volume);
         let count = written_then(self.written, run, found);
         self.written = count;
-        self.course.note(found)
+        self.progress.note(found)
     }
 
     /// Takes the completion that is owed next off what is owed, and says whether it was the last.
     pub fn post(&mut self) -> bool
-        requires owes { 0 < length (owed_in self.old.course.stage) }
+        requires owes { 0 < length (owed_in self.old.progress.stage) }
         ensures posted { self.new ≡ posted_job self.old }
-        ensures last { IsTrue result ↔ (length self.old.course.cids ≡ 1) }
+        ensures last { IsTrue result ↔ (length self.old.progress.cids ≡ 1) }
     {
-        self.course.post()
+        self.progress.post()
     }
 }
 
@@ -198,7 +200,7 @@ fn touch(
     read: &mut [u8],
     volume: &mut Volume,
 ) -> Found
-    requires unended { has_ended run ≡ false }
+    requires unended { unit_has_ended run ≡ false }
     requires within { run.range.slba + run.range.blocks ≤ length volume.old }
     requires start { slba ≤ run.range.slba }
     requires has_compare { HasPart compare.now slba run.range }
@@ -211,13 +213,12 @@ fn touch(
     ensures read { read.new ≡ read_of read.old slba run volume.old result }
     ensures size { length read.new ≡ length read.old }
 {
-    let mut run = run;
     let at = BLOCK * (run.range().slba - slba) as usize;
     let count = BLOCK * run.range().blocks as usize;
     let compare = part(compare, at, count);
     if run.op() == Op::Read {
         let read = &mut read[at..at + count];
-        return run.next_from(volume, compare, boxes, next, read).found;
+        return run.touch(volume, compare, boxes, next, read);
     }
-    run.next_from(volume, compare, boxes, next, &mut []).found
+    run.touch(volume, compare, boxes, next, &mut [])
 }

@@ -5,7 +5,7 @@ ghost use Rattle.std.specs.Borrow.{sem};
 ghost use Rattle.std.specs.Prelude.{◌≡◌, ◌<◌, ◌≤◌, ◌==◌, ◌++◌, ◌↔◌, [], ◌∷◌, IfErr, IfNone, IfOk, IfSome, IsTrue};
 ghost use Rattle.std.specs.Prelude.{MatchOption, None, OnErr, OnOk, Some, false, is_some, length, option_copied};
 ghost use Rattle.std.specs.Prelude.{slice_get, true};
-ghost use Rattle.job_table.specs.Jobs.{IsRising, all_below, has_ticket, job_of, jobs_beside};
+ghost use Rattle.job_table.specs.Jobs.{AreTicketsRising, all_jobs_below, has_job_of, job_of, jobs_beside};
 ghost use Rattle.slab.specs.Slab.{ContainsKey, get};
 
 use crate::job::Job;
@@ -33,13 +33,13 @@ pub struct Jobs {
 
 impl Model for Jobs {
     ghost use Rattle.job_table.specs.Jobs.{JobTable};
-    ghost use Rattle.job_table.specs.Slots.{IsKept, jobs_in};
+    ghost use Rattle.job_table.specs.Slots.{IsJobTable, jobs_in};
 
     ghost Value = { JobTable };
 
     ghost view = { λ t. record { limit = t.limit; jobs = jobs_in t.jobs t.index.keyed } };
 
-    ghost invariant = { λ t. IsKept t.limit t.index t.jobs };
+    ghost invariant = { λ t. IsJobTable t.limit t.index t.jobs };
 }
 
 impl Jobs {
@@ -64,7 +64,7 @@ impl Jobs {
     pub fn len(&self) -> usize
         ensures value { result ≡ length self.now.jobs }
         ensures most { result ≤ self.now.limit }
-        ensures law { IsRising self.now.jobs }
+        ensures law { AreTicketsRising self.now.jobs }
     {
         self.index.len()
     }
@@ -90,7 +90,7 @@ impl Jobs {
     ///
     /// The job, exactly where as many as the limit are in flight; nothing has changed.
     pub fn insert(&mut self, ticket: u64, job: Job) -> Result<(), Job>
-        requires above { all_below ticket self.old.jobs ≡ true }
+        requires above { all_jobs_below ticket self.old.jobs ≡ true }
         ensures ok { OnOk result
             (self.new ≡ record self.old { jobs = self.old.jobs ++ record { ticket = ticket; job = job } ∷ [] }) }
         ensures err { OnErr result (self.new ≡ self.old) }
@@ -108,8 +108,8 @@ impl Jobs {
 
     /// Whether the ticket is in flight.
     pub fn contains(&self, ticket: u64) -> bool
-        ensures value { result ≡ has_ticket self.now.jobs ticket }
-        ensures law { IsRising self.now.jobs }
+        ensures value { result ≡ has_job_of self.now.jobs ticket }
+        ensures law { AreTicketsRising self.now.jobs }
     {
         find(&self.index, ticket).is_some()
     }
@@ -117,8 +117,8 @@ impl Jobs {
     /// The job of a ticket, where it is in flight.
     pub fn get(&self, ticket: u64) -> Option<&Job>
         ensures value { option_copied result ≡ job_of self.now.jobs ticket }
-        ensures any { is_some result ≡ has_ticket self.now.jobs ticket }
-        ensures law { IsRising self.now.jobs }
+        ensures any { is_some result ≡ has_job_of self.now.jobs ticket }
+        ensures law { AreTicketsRising self.now.jobs }
     {
         match find(&self.index, ticket) {
             Some(key) => Some(&one(&self.jobs, key).job),
@@ -130,8 +130,8 @@ impl Jobs {
     pub fn get_mut(&mut self, ticket: u64) -> Option<&mut Job>
         ensures* writes_back { sem 𝓛 (LendsJobIf self.entry ticket result) }
         ensures value { option_copied_mut result ≡ job_of self.old.jobs ticket }
-        ensures any { is_some result ≡ has_ticket self.old.jobs ticket }
-        ensures law { IsRising self.old.jobs }
+        ensures any { is_some result ≡ has_job_of self.old.jobs ticket }
+        ensures law { AreTicketsRising self.old.jobs }
     {
         match find(&self.index, ticket) {
             Some(key) => Some(&mut self.jobs[key].job),
@@ -158,7 +158,7 @@ impl Jobs {
         ensures value { MatchOption result (slice_get self.now.jobs place ≡ None) (λ e.
             slice_get self.now.jobs place ≡ Some (record { ticket = e.0; job = e.1.now })) }
         ensures any { IsTrue (is_some result) ↔ (place < length self.now.jobs) }
-        ensures law { IsRising self.now.jobs }
+        ensures law { AreTicketsRising self.now.jobs }
     {
         if place >= self.index.len() {
             return None;

@@ -3,7 +3,7 @@
 ghost use Rattle.std.specs.Prelude.{◌≡◌, ◌<◌};
 ghost use Rattle.job_index.specs.Keyed.{key_of, keyed_beside};
 
-use job_index::{JobIndex, Steps};
+use job_index::{JobIndex, ProbeCount};
 use std::marker::Brand;
 use std::sync::ledger::{Blank, Ledger};
 
@@ -29,7 +29,7 @@ fn find_from<L: Ledger>(index: &JobIndex, ticket: u64, blank: Blank) -> Option<u
     requires some { 0 < blank.parts }
     ensures key { result ≡ key_of index.now.keyed ticket }
 {
-    let mut steps: Steps<L> = Steps::new(blank);
+    let mut steps: ProbeCount<L> = ProbeCount::new(blank);
     index.find(ticket, &mut steps)
 }
 
@@ -40,6 +40,6 @@ fn remove_from<L: Ledger>(index: &mut JobIndex, ticket: u64, blank: Blank) -> Op
     ensures key { result ≡ key_of index.old.keyed ticket }
     ensures rest { index.new ≡ record index.old { keyed = keyed_beside index.old.keyed ticket } }
 {
-    let mut steps: Steps<L> = Steps::new(blank);
+    let mut steps: ProbeCount<L> = ProbeCount::new(blank);
     index.remove(ticket, &mut steps)
 }

@@ -11,7 +11,7 @@ use Rattle.std.proofs.lemmas.Bool.{eqb-true}
 use Rattle.std.proofs.lemmas.List.{length-replicate, nil_from_length}
 use Rattle.hex.specs.Hex.{IsBytes, encode_upper}
 use Rattle.line_text.specs.Digits.{bytes_in}
-use Rattle.line_text.specs.Data.{all_same, block_text, blocks, block_of, then_block, blocks_in}
+use Rattle.line_text.specs.Data.{all_same, block_text, parted_blocks, spelled_block, then_block, bytes_of_blocks_in}
 use Rattle.line_text.proofs.HexLaws.{bytes_is, bytes_again}
 
 -- ---- equal bytes
@@ -91,8 +91,8 @@ picked false false s x y b e = absurd cc
 
 -- a block that is read has k bytes, and its part is its text
 block_by : (k : ℕ) (text : List ℕ) (o : Option (List ℕ)) (b : List ℕ) → 2 ≤ k → bytes_in text ≡ o
-    → block_of k o ≡ Some b → (length b ≡ k) × (text ≡ block_text b)
-unfolding block_of
+    → spelled_block k o ≡ Some b → (length b ≡ k) × (text ≡ block_text b)
+unfolding spelled_block
 block_by k text None b two h e = absurd cc
 block_by k text (Some bytes) b two h e =
     elim (picked (eqb (length bytes) 1) (eqb (length bytes) k) (all_same bytes) (replicate k (get_or bytes 0 0)) bytes b
@@ -118,13 +118,13 @@ block_by k text (Some bytes) b two h e =
     singleton (x ∷ y ∷ xs) h = absurd (omega arith)
 
 -- one byte stands for k copies
-block_one : (k x : ℕ) → block_of k (Some (x ∷ [])) ≡ Some (replicate k x)
-unfolding block_of
+block_one : (k x : ℕ) → spelled_block k (Some (x ∷ [])) ≡ Some (replicate k x)
+unfolding spelled_block
 block_one k x = refl
 
 -- k bytes that are not all equal stand for themselves
-block_many : (k : ℕ) (b : List ℕ) → 2 ≤ k → length b ≡ k → all_same b ≡ false → block_of k (Some b) ≡ Some b
-unfolding block_of
+block_many : (k : ℕ) (b : List ℕ) → 2 ≤ k → length b ≡ k → all_same b ≡ false → spelled_block k (Some b) ≡ Some b
+unfolding spelled_block
 block_many k b two long other = rw (not_one, ap (λ n. eqb n k) long ∙ eqb_same k, other) refl
   where
     not_one : eqb (length b) 1 ≡ false
@@ -132,15 +132,15 @@ block_many k b two long other = rw (not_one, ap (λ n. eqb n k) long ∙ eqb_sam
 
 -- a block's text is read as that block
 block_again : (k : ℕ) (text b : List ℕ) (s : Bool) → 2 ≤ k → IsBytes b → length b ≡ k → all_same b ≡ s
-    → text ≡ block_text b → block_of k (bytes_in text) ≡ Some b
+    → text ≡ block_text b → spelled_block k (bytes_in text) ≡ Some b
 block_again k text [] s two fits long same e = absurd (omega arith)
 block_again k text (x ∷ xs) true two fits long same e =
     let read : bytes_in text ≡ Some (x ∷ []) =
     bytes_again text (x ∷ []) (bytes_take 1 (x ∷ xs) fits) (e ∙ text_same (x ∷ xs) same) in
-    ap (block_of k) read ∙ block_one k x
+    ap (spelled_block k) read ∙ block_one k x
     ∙ ap Some (ap (λ n. replicate n x) (sym long) ∙ ap (λ l. x ∷ l) (replicate_of x xs same))
 block_again k text (x ∷ xs) false two fits long same e =
-    ap (block_of k) (bytes_again text (x ∷ xs) fits (e ∙ text_other (x ∷ xs) same))
+    ap (spelled_block k) (bytes_again text (x ∷ xs) fits (e ∙ text_other (x ∷ xs) same))
     ∙ block_many k (x ∷ xs) two long same
 
 -- ---- several blocks
@@ -153,9 +153,9 @@ parts_then (Some x) None bytes e = absurd cc
 parts_then (Some x) (Some y) bytes e = (x, y, refl, refl, cc)
 
 -- bytes that are read of some parts are as many blocks, and the parts are their texts
-pub blocks_are : (k : ℕ) (texts : List (List ℕ)) (bytes : List ℕ) → 2 ≤ k → blocks_in k texts ≡ Some bytes
-    → (length bytes ≡ length texts * k) × (map block_text (blocks k (length texts) bytes) ≡ texts)
-unfolding blocks_in blocks
+pub blocks_are : (k : ℕ) (texts : List (List ℕ)) (bytes : List ℕ) → 2 ≤ k → bytes_of_blocks_in k texts ≡ Some bytes
+    → (length bytes ≡ length texts * k) × (map block_text (parted_blocks k (length texts) bytes) ≡ texts)
+unfolding bytes_of_blocks_in parted_blocks
 blocks_are k [] bytes two e = (ap length none ∙ sym (zero_times k), refl)
   where
     none : bytes ≡ []
@@ -164,7 +164,7 @@ blocks_are k [] bytes two e = (ap length none ∙ sym (zero_times k), refl)
     zero_times : (n : ℕ) → 0 * n ≡ 0
     zero_times n = omega arith
 blocks_are k (text ∷ texts) bytes two e =
-    let p = parts_then (block_of k (bytes_in text)) (blocks_in k texts) bytes e in
+    let p = parts_then (spelled_block k (bytes_in text)) (bytes_of_blocks_in k texts) bytes e in
     let first = block_by k text (bytes_in text) p.0 two refl p.2 in
     let others = blocks_are k texts p.1 two p.3 in
     let front : take k bytes ≡ p.0 = ap (take k) p.4 ∙ ap (λ n. take n (p.0 ++ p.1)) (sym first.0)
@@ -173,8 +173,8 @@ blocks_are k (text ∷ texts) bytes two e =
     ∙ drop-append_seam p.0 p.1 in
     let long : length bytes ≡ length p.0 + length p.1 = ap length p.4 ∙ length-append p.0 p.1 in (
       sum_up k (length texts) (length bytes) (length p.0) (length p.1) long first.0 others.0,
-      ap (λ l. block_text l ∷ map block_text (blocks k (length texts) (drop k bytes))) front
-          ∙ ap (λ l. block_text p.0 ∷ map block_text (blocks k (length texts) l)) back
+      ap (λ l. block_text l ∷ map block_text (parted_blocks k (length texts) (drop k bytes))) front
+          ∙ ap (λ l. block_text p.0 ∷ map block_text (parted_blocks k (length texts) l)) back
           ∙ ap (λ l. block_text p.0 ∷ l) others.1
           ∙ ap (λ l. l ∷ texts) (sym first.1),
     )
@@ -184,8 +184,8 @@ blocks_are k (text ∷ texts) bytes two e =
 
 -- the texts of n blocks are read as those blocks
 pub blocks_again : (k n : ℕ) (bytes : List ℕ) → 2 ≤ k → IsBytes bytes → length bytes ≡ n * k
-    → blocks_in k (map block_text (blocks k n bytes)) ≡ Some bytes
-unfolding blocks_in blocks
+    → bytes_of_blocks_in k (map block_text (parted_blocks k n bytes)) ≡ Some bytes
+unfolding bytes_of_blocks_in parted_blocks
 blocks_again k zero bytes two fits long = ap Some (sym (nil_from_length bytes (long ∙ zero_times k)))
   where
     zero_times : (n : ℕ) → 0 * n ≡ 0
@@ -197,7 +197,7 @@ blocks_again k (suc n) bytes two fits long =
     let first = block_again k (block_text (take k bytes)) (take k bytes) (all_same (take k bytes)) two
     (bytes_take k bytes fits) front refl refl in
     let others = blocks_again k n (drop k bytes) two (bytes_drop k bytes fits) back in
-    ap (λ o. then_block o (blocks_in k (map block_text (blocks k n (drop k bytes))))) first
+    ap (λ o. then_block o (bytes_of_blocks_in k (map block_text (parted_blocks k n (drop k bytes))))) first
     ∙ ap (then_block (Some (take k bytes))) others ∙ ap Some (take-append-drop k bytes)
   where
     more : (n k : ℕ) → suc n * k ≡ k + n * k

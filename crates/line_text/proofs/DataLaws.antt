@@ -13,7 +13,8 @@ use Rattle.std.proofs.Math.Nat.{div-add-mod, mul-mod_left, mul-div_cancel}
 use Rattle.hex.specs.Hex.{IsBytes, encode_upper, encode_with, upper_digits}
 use Rattle.line_text.specs.Digits.{bytes_in}
 use Rattle.line_text.specs.Words.{Without}
-use Rattle.line_text.specs.Data.{all_same, block_text, blocks, data_text, blocks_in, unless_whole, data_in}
+use Rattle.line_text.specs.Data.{all_same, block_text, parted_blocks, data_text, bytes_of_blocks_in, unless_whole}
+use Rattle.line_text.specs.Data.{data_in}
 use Rattle.line_text.proofs.Spelling.{IsSpelling}
 use Rattle.line_text.proofs.NumberLaws.{bytes_eq_true}
 use Rattle.line_text.proofs.HexLaws.{bytes_is, bytes_again}
@@ -29,7 +30,7 @@ text_none k bytes none = rw none refl
 
 -- the text of whole blocks
 pub text_whole : (k : ℕ) (bytes : List ℕ) → 0 < length bytes → length bytes % k ≡ 0
-    → data_text k bytes ≡ join_with_byte 46 (map block_text (blocks k (length bytes / k) bytes))
+    → data_text k bytes ≡ join_with_byte 46 (map block_text (parted_blocks k (length bytes / k) bytes))
 unfolding data_text
 text_whole k bytes some whole = rw (not_zero (length bytes) some, whole) refl
   where
@@ -78,7 +79,7 @@ times_some (suc n) k a one two e = omega (arith, e, more n k)
 data_by : (k : ℕ) (text bytes : List ℕ) (p q : Bool) → 2 ≤ k → bytes_eq text (45 ∷ []) ≡ p
     → bytes_eq (take 1 text) (120 ∷ []) ≡ q
     → cond p (Some []) (cond q (unless_whole k (bytes_in (drop 1 text)))
-    (blocks_in k (slice_split (λ b. eqb b 46) text))) ≡ Some bytes
+    (bytes_of_blocks_in k (slice_split (λ b. eqb b 46) text))) ≡ Some bytes
     → text ≡ data_text k bytes
 data_by k text bytes true q two h i e =
     let none : [] ≡ bytes = cc in
@@ -95,7 +96,7 @@ data_by k text bytes false false two h i e =
     let sizes = counted k (length parts) (length bytes) two many x.0 in
     sym (join_with_byte-slice_split 46 text)
     ∙ ap (join_with_byte 46) (sym x.1)
-    ∙ ap (λ n. join_with_byte 46 (map block_text (blocks k n bytes))) (sym sizes.2)
+    ∙ ap (λ n. join_with_byte 46 (map block_text (parted_blocks k n bytes))) (sym sizes.2)
     ∙ sym (text_whole k bytes sizes.0 sizes.1)
   where
     counted : (k n a : ℕ) → 2 ≤ k → 1 ≤ n → a ≡ n * k → (0 < a) × (a % k ≡ 0) × (a / k ≡ n)
@@ -124,7 +125,7 @@ in_odd k digits = refl
 
 -- a digit begins blocks
 in_blocks : (k d : ℕ) (rest : List ℕ) → plain d ≡ true
-    → data_in k (d ∷ rest) ≡ blocks_in k (slice_split (λ b. eqb b 46) (d ∷ rest))
+    → data_in k (d ∷ rest) ≡ bytes_of_blocks_in k (slice_split (λ b. eqb b 46) (d ∷ rest))
 unfolding data_in
 in_blocks k d rest h = rw (plain_isnt 45 d refl h, plain_isnt 120 d refl h) refl
 
@@ -141,15 +142,15 @@ begins (x ∷ xs) h = by_same (all_same (x ∷ xs)) refl
     by_same false e = (get_or upper_digits (x / 16) 0, _, digit_plain (x / 16), text_other (x ∷ xs) e)
 
 -- no block's text has a dot in it
-texts_without : (k n : ℕ) (bytes : List ℕ) → AllByRecursion (Without 46) (map block_text (blocks k n bytes))
-unfolding blocks
+texts_without : (k n : ℕ) (bytes : List ℕ) → AllByRecursion (Without 46) (map block_text (parted_blocks k n bytes))
+unfolding parted_blocks
 texts_without k zero bytes = tt
 texts_without k (suc n) bytes = (upper_without 46 _ refl, texts_without k n (drop k bytes))
 
 -- what is spelled so is read
 pub data_again : (k : ℕ) (text bytes : List ℕ) → 2 ≤ k → IsBytes bytes → text ≡ data_text k bytes
     → data_in k text ≡ Some bytes
-unfolding blocks
+unfolding parted_blocks
 data_again k text bytes two fits e = by_length (length bytes) refl
   where
     sized : (n : ℕ) → length bytes % k ≡ 0 → length bytes / k ≡ n → length bytes ≡ n * k
@@ -162,19 +163,21 @@ data_again k text bytes two fits e = by_length (length bytes) refl
     whole : (n : ℕ) → 0 < length bytes → length bytes % k ≡ 0 → length bytes / k ≡ n → data_in k text ≡ Some bytes
     whole zero some rest count = absurd (omega (arith, sized 0 rest count))
     whole (suc n) some rest count =
-        let t : text ≡ join_with_byte 46 (map block_text (blocks k (suc n) bytes)) = e ∙ text_whole k bytes some rest
-        ∙ ap (λ m. join_with_byte 46 (map block_text (blocks k m bytes))) count in
+        let t : text ≡ join_with_byte 46 (map block_text (parted_blocks k (suc n) bytes)) = e
+        ∙ text_whole k bytes some rest
+        ∙ ap (λ m. join_with_byte 46 (map block_text (parted_blocks k m bytes))) count in
         let long : length bytes ≡ suc n * k = sized (suc n) rest count in
         let first : List ℕ = block_text (take k bytes) in
-        let others : List (List ℕ) = map block_text (blocks k n (drop k bytes)) in
+        let others : List (List ℕ) = map block_text (parted_blocks k n (drop k bytes)) in
         let front : 0 < length (take k bytes) = omega (arith, length-take k bytes) in
         let head = begins (take k bytes) front in
         let join = join_front 46 head.0 head.1 others in
         let shape : text ≡ head.0 ∷ join.0 = t ∙ ap (λ w. join_with_byte 46 (w ∷ others)) head.3 ∙ join.1 in
         ap (data_in k) shape
         ∙ in_blocks k head.0 join.0 head.2
-        ∙ ap (λ l. blocks_in k (slice_split (λ b. eqb b 46) l)) (sym shape ∙ t)
-        ∙ ap (blocks_in k) (words_again 46 first others (upper_without 46 _ refl) (texts_without k n (drop k bytes)))
+        ∙ ap (λ l. bytes_of_blocks_in k (slice_split (λ b. eqb b 46) l)) (sym shape ∙ t)
+        ∙ ap (bytes_of_blocks_in k)
+        (words_again 46 first others (upper_without 46 _ refl) (texts_without k n (drop k bytes)))
         ∙ blocks_again k (suc n) bytes two fits long
 
     by_rest : (b : Bool) → 0 < length bytes → eqb (length bytes % k) 0 ≡ b → data_in k text ≡ Some bytes
@@ -205,8 +208,8 @@ join_without c d (w ∷ v ∷ vs) p ps =
     without_append c w (d ∷ join_with_byte d (v ∷ vs)) ps.0 (p, join_without c d (v ∷ vs) p ps.1)
 
 -- no block's text has a space in it
-texts_spaceless : (k n : ℕ) (bytes : List ℕ) → AllByRecursion (Without 32) (map block_text (blocks k n bytes))
-unfolding blocks
+texts_spaceless : (k n : ℕ) (bytes : List ℕ) → AllByRecursion (Without 32) (map block_text (parted_blocks k n bytes))
+unfolding parted_blocks
 texts_spaceless k zero bytes = tt
 texts_spaceless k (suc n) bytes = (upper_without 32 _ refl, texts_spaceless k n (drop k bytes))
 

@@ -7,21 +7,21 @@ use Rattle.std.specs.Str.{bytes_eq}
 use Rattle.std.proofs.Math.Dec.{eqb}
 use Rattle.std.proofs.lemmas.List.{drop_more, get_or-map, length-map, drop_all, append_assoc}
 use Rattle.line_text.specs.Digits.{bytes_in}
-use Rattle.line_text.specs.Data.{all_same, block_of, then_block, blocks_in, unless_whole, data_in}
+use Rattle.line_text.specs.Data.{all_same, spelled_block, then_block, bytes_of_blocks_in, unless_whole, data_in}
 use Rattle.line_text.proofs.BlockLaws.{eqb_same}
 
 -- ---- what a block is by its tests
 
 -- a part that is no digits is no block
-pub block_nothing : (k : ℕ) (o : Option (List ℕ)) → o ≡ None → block_of k o ≡ None
-unfolding block_of
-block_nothing k o e = ap (block_of k) e
+pub block_nothing : (k : ℕ) (o : Option (List ℕ)) → o ≡ None → spelled_block k o ≡ None
+unfolding spelled_block
+block_nothing k o e = ap (spelled_block k) e
 
 -- one byte is a block of copies
 pub block_from_one : (k : ℕ) (o : Option (List ℕ)) (bytes : List ℕ) → o ≡ Some bytes → length bytes ≡ 1
-    → block_of k o ≡ Some (replicate k (get_or bytes 0 0))
-unfolding block_of
-block_from_one k o bytes e h = ap (block_of k) e ∙ rw h refl
+    → spelled_block k o ≡ Some (replicate k (get_or bytes 0 0))
+unfolding spelled_block
+block_from_one k o bytes e h = ap (spelled_block k) e ∙ rw h refl
 
 -- a number that differs from 1
 not_one : (n : ℕ) → (n ≡ 1 → ⊥) → eqb n 1 ≡ false
@@ -33,15 +33,15 @@ not_k n k h = grind (arith)
 
 -- neither one byte nor k are no block
 pub block_from_other : (k : ℕ) (o : Option (List ℕ)) (bytes : List ℕ) → o ≡ Some bytes → (length bytes ≡ 1 → ⊥)
-    → (length bytes ≡ k → ⊥) → block_of k o ≡ None
-unfolding block_of
-block_from_other k o bytes e h i = ap (block_of k) e ∙ rw (not_one (length bytes) h, not_k (length bytes) k i) refl
+    → (length bytes ≡ k → ⊥) → spelled_block k o ≡ None
+unfolding spelled_block
+block_from_other k o bytes e h i = ap (spelled_block k) e ∙ rw (not_one (length bytes) h, not_k (length bytes) k i) refl
 
 -- k bytes are a block unless they are all equal
 pub block_from_many : (k : ℕ) (o : Option (List ℕ)) (bytes : List ℕ) (s : Bool) → o ≡ Some bytes
-    → (length bytes ≡ 1 → ⊥) → length bytes ≡ k → all_same bytes ≡ s → block_of k o ≡ cond s None (Some bytes)
-unfolding block_of
-block_from_many k o bytes s e h i j = ap (block_of k) e
+    → (length bytes ≡ 1 → ⊥) → length bytes ≡ k → all_same bytes ≡ s → spelled_block k o ≡ cond s None (Some bytes)
+unfolding spelled_block
+block_from_many k o bytes s e h i j = ap (spelled_block k) e
     ∙ rw (not_one (length bytes) h, ap (λ n. eqb n k) i ∙ eqb_same k, j) refl
 
 -- the only byte of a list of one
@@ -53,35 +53,36 @@ one_is (x ∷ xs) d h = refl
 
 -- the first of the parts
 blocks_step : (k : ℕ) (texts : List (List ℕ)) (text : List ℕ)
-    → blocks_in k (text ∷ texts) ≡ then_block (block_of k (bytes_in text)) (blocks_in k texts)
-unfolding blocks_in
+    → bytes_of_blocks_in k (text ∷ texts) ≡ then_block (spelled_block k (bytes_in text)) (bytes_of_blocks_in k texts)
+unfolding bytes_of_blocks_in
 blocks_step k texts text = refl
 
 -- no parts are left
-blocks_end : (k : ℕ) → blocks_in k [] ≡ Some []
-unfolding blocks_in
+blocks_end : (k : ℕ) → bytes_of_blocks_in k [] ≡ Some []
+unfolding bytes_of_blocks_in
 blocks_end k = refl
 
 -- the part at place i
 parts_step : {X : Type 0} (f : X → List ℕ) (k : ℕ) (xs : List X) (i : ℕ) (d : X) (out : List ℕ) (all : Option (List ℕ))
     → i < length xs
-    → then_block (Some out) (blocks_in k (drop i (map f xs))) ≡ all
-    → then_block (Some out) (then_block (block_of k (bytes_in (f (get_or xs i d))))
-    (blocks_in k (drop (i + 1) (map f xs)))) ≡ all
+    → then_block (Some out) (bytes_of_blocks_in k (drop i (map f xs))) ≡ all
+    → then_block (Some out) (then_block (spelled_block k (bytes_in (f (get_or xs i d))))
+    (bytes_of_blocks_in k (drop (i + 1) (map f xs)))) ≡ all
 parts_step f k xs i d out all low h =
     let here : drop i (map f xs) ≡ f (get_or xs i d) ∷ drop (i + 1) (map f xs) =
     drop_more (map f xs) i (f d) (omega (arith, length-map xs f))
     ∙ ap (λ t. t ∷ drop (i + 1) (map f xs)) (get_or-map f xs i d (f d) low) in
     ap (then_block (Some out))
-    (sym (ap (blocks_in k) here ∙ blocks_step k (drop (i + 1) (map f xs)) (f (get_or xs i d)))) ∙ h
+    (sym (ap (bytes_of_blocks_in k) here ∙ blocks_step k (drop (i + 1) (map f xs)) (f (get_or xs i d)))) ∙ h
 
 -- a part that is no block ends it all
 pub part_bad : {X : Type 0} (f : X → List ℕ) (k : ℕ) (xs : List X) (i : ℕ) (d : X) (out : List ℕ)
     (all : Option (List ℕ)) → i < length xs
-    → then_block (Some out) (blocks_in k (drop i (map f xs))) ≡ all → block_of k (bytes_in (f (get_or xs i d))) ≡ None
+    → then_block (Some out) (bytes_of_blocks_in k (drop i (map f xs))) ≡ all
+    → spelled_block k (bytes_in (f (get_or xs i d))) ≡ None
     → None ≡ all
 part_bad f k xs i d out all low h none =
-    ap (λ o. then_block (Some out) (then_block o (blocks_in k (drop (i + 1) (map f xs))))) (sym none)
+    ap (λ o. then_block (Some out) (then_block o (bytes_of_blocks_in k (drop (i + 1) (map f xs))))) (sym none)
     ∙ parts_step f k xs i d out all low h
 
 -- a block may be added before or after
@@ -93,22 +94,23 @@ regroup out block (Some bytes) = ap Some (append_assoc out block bytes)
 -- a part that is a block is added
 pub part_good : {X : Type 0} (f : X → List ℕ) (k : ℕ) (xs : List X) (i : ℕ) (d : X) (out new block : List ℕ)
     (all : Option (List ℕ)) → i < length xs
-    → then_block (Some out) (blocks_in k (drop i (map f xs))) ≡ all
-    → block_of k (bytes_in (f (get_or xs i d))) ≡ Some block → new ≡ out ++ block
-    → then_block (Some new) (blocks_in k (drop (i + 1) (map f xs))) ≡ all
+    → then_block (Some out) (bytes_of_blocks_in k (drop i (map f xs))) ≡ all
+    → spelled_block k (bytes_in (f (get_or xs i d))) ≡ Some block → new ≡ out ++ block
+    → then_block (Some new) (bytes_of_blocks_in k (drop (i + 1) (map f xs))) ≡ all
 part_good f k xs i d out new block all low h some e =
-    ap (λ l. then_block (Some l) (blocks_in k (drop (i + 1) (map f xs)))) e
-    ∙ regroup out block (blocks_in k (drop (i + 1) (map f xs)))
-    ∙ ap (λ o. then_block (Some out) (then_block o (blocks_in k (drop (i + 1) (map f xs))))) (sym some)
+    ap (λ l. then_block (Some l) (bytes_of_blocks_in k (drop (i + 1) (map f xs)))) e
+    ∙ regroup out block (bytes_of_blocks_in k (drop (i + 1) (map f xs)))
+    ∙ ap (λ o. then_block (Some out) (then_block o (bytes_of_blocks_in k (drop (i + 1) (map f xs))))) (sym some)
     ∙ parts_step f k xs i d out all low h
 
 -- all parts were added
 pub parts_done : {X : Type 0} (f : X → List ℕ) (k : ℕ) (xs : List X) (i : ℕ) (out : List ℕ) (all : Option (List ℕ))
     → length xs ≤ i
-    → then_block (Some out) (blocks_in k (drop i (map f xs))) ≡ all → Some out ≡ all
+    → then_block (Some out) (bytes_of_blocks_in k (drop i (map f xs))) ≡ all → Some out ≡ all
 parts_done f k xs i out all high h =
     let none : drop i (map f xs) ≡ [] = drop_all i (map f xs) (omega (arith, length-map xs f)) in
-    ap Some (sym (append-nil out)) ∙ ap (then_block (Some out)) (sym (ap (blocks_in k) none ∙ blocks_end k)) ∙ h
+    ap Some (sym (append-nil out)) ∙ ap (then_block (Some out)) (sym (ap (bytes_of_blocks_in k) none ∙ blocks_end k))
+    ∙ h
 
 -- ---- the whole word
 
@@ -119,7 +121,7 @@ data_none k text h = rw h refl
 
 -- a word of blocks
 pub data_blocks : (k : ℕ) (text : List ℕ) → bytes_eq text (45 ∷ []) ≡ false → bytes_eq (take 1 text) (120 ∷ []) ≡ false
-    → data_in k text ≡ blocks_in k (slice_split (λ b. eqb b 46) text)
+    → data_in k text ≡ bytes_of_blocks_in k (slice_split (λ b. eqb b 46) text)
 unfolding data_in
 data_blocks k text h i = rw (h, i) refl
 

@@ -5,7 +5,7 @@ use Rattle.std.specs.List.{join_with_byte}
 use Rattle.std.proofs.Math.Dec.{eqb}
 use Rattle.std.proofs.Math.Nat.{div-eq-sub-div, div-eq_of_lt, mod-eq_of_lt, add-mod_right}
 use Rattle.hex.specs.Hex.{encode_upper}
-use Rattle.line_text.specs.Data.{block_text, blocks, data_text}
+use Rattle.line_text.specs.Data.{block_text, parted_blocks, data_text}
 use Rattle.line_text.proofs.DataLaws.{text_none, text_odd, odd_some, text_whole}
 
 -- ---- what is written
@@ -23,7 +23,7 @@ join_dotted t (u ∷ us) = ap (λ l. t ++ (46 ∷ l)) (join_dotted u us)
 
 -- the text of what is left, k bytes a block
 pub left_text : ℕ → List ℕ → List ℕ
-left_text k bytes = dotted (map block_text (blocks k (length bytes / k) bytes))
+left_text k bytes = dotted (map block_text (parted_blocks k (length bytes / k) bytes))
 
 -- one block fewer is left
 count_down : (k : ℕ) (bytes : List ℕ) → 0 < k → k ≤ length bytes → length bytes / k ≡ suc (length (drop k bytes) / k)
@@ -44,23 +44,24 @@ enough k n pos some whole = grind (arith, mod-eq_of_lt {n = n} {m = k})
 -- the next block is written
 pub left_next : (k : ℕ) (bytes : List ℕ) → 0 < k → k ≤ length bytes
     → left_text k bytes ≡ (46 ∷ block_text (take k bytes)) ++ left_text k (drop k bytes)
-unfolding blocks left_text dotted
-left_next k bytes pos some = ap (λ n. dotted (map block_text (blocks k n bytes))) (count_down k bytes pos some)
+unfolding parted_blocks left_text dotted
+left_next k bytes pos some = ap (λ n. dotted (map block_text (parted_blocks k n bytes))) (count_down k bytes pos some)
 
 -- nothing is left to write
 pub left_none : (k : ℕ) (bytes : List ℕ) → length bytes < k → left_text k bytes ≡ []
-unfolding blocks left_text dotted
-left_none k bytes few = ap (λ n. dotted (map block_text (blocks k n bytes))) (div-eq_of_lt few)
+unfolding parted_blocks left_text dotted
+left_none k bytes few = ap (λ n. dotted (map block_text (parted_blocks k n bytes))) (div-eq_of_lt few)
 
 -- the first block has no dot
 pub text_first : (k : ℕ) (bytes : List ℕ) → 0 < k → 0 < length bytes → length bytes % k ≡ 0
     → data_text k bytes ≡ block_text (take k bytes) ++ left_text k (drop k bytes)
-unfolding blocks left_text
+unfolding parted_blocks left_text
 text_first k bytes pos some whole =
     text_whole k bytes some whole
-    ∙ ap (λ n. join_with_byte 46 (map block_text (blocks k n bytes)))
+    ∙ ap (λ n. join_with_byte 46 (map block_text (parted_blocks k n bytes)))
     (count_down k bytes pos (enough k (length bytes) pos some whole))
-    ∙ join_dotted (block_text (take k bytes)) (map block_text (blocks k (length (drop k bytes) / k) (drop k bytes)))
+    ∙ join_dotted (block_text (take k bytes))
+    (map block_text (parted_blocks k (length (drop k bytes) / k) (drop k bytes)))
 
 -- the text of no bytes
 pub text_empty : (k : ℕ) (bytes : List ℕ) → bytes ≡ [] → data_text k bytes ≡ 45 ∷ []

@@ -5,7 +5,7 @@ use Rattle.std.specs.Prelude.{Option}
 use Rattle.std.specs.List.{AllByRecursion}
 use Rattle.std.proofs.Math.Dec.{eqb}
 use Rattle.std.proofs.lemmas.Bool.{eqb-true, eqb-false}
-use Rattle.line_text.specs.Lines.{NoFeed, lines_after, rest_after, whole_lines, rest_line, with_feeds, Gives}
+use Rattle.line_text.specs.Lines.{NoFeed, lines_after, rest_after, whole_lines, rest_line, with_feeds, GivesBytes}
 
 -- a byte that is no line feed
 not_feed : (b : Bool) (x : ℕ) → eqb x 10 ≡ b → x ≢ 10 → b ≡ false
@@ -63,7 +63,7 @@ rest_line-rest rest h = rest_of_rest [] rest h
 
 -- a whole line is the first of what was held, then read, and then may follow
 pub whole_is_first : (old new : Option (List ℕ)) (before after line more : List ℕ)
-    (g : Gives old new before after (line ++ 10 ∷ [])) → NoFeed line
+    (g : GivesBytes old new before after (line ++ 10 ∷ [])) → NoFeed line
     → (whole_lines (before ++ (g.bytes ++ more)) ≡ line ∷ whole_lines (after ++ more))
     × (rest_line (before ++ (g.bytes ++ more)) ≡ rest_line (after ++ more))
 whole_is_first old new before after line more g plain =
@@ -76,7 +76,7 @@ whole_is_first old new before after line more g plain =
     )
 
 -- the rest is all of what was held and then read, and has no line feed
-pub rest_is_last : (old new : Option (List ℕ)) (before after line : List ℕ) (g : Gives old new before after line)
+pub rest_is_last : (old new : Option (List ℕ)) (before after line : List ℕ) (g : GivesBytes old new before after line)
     → NoFeed line → after ≡ []
     → (whole_lines (before ++ g.bytes) ≡ []) × (rest_line (before ++ g.bytes) ≡ line)
 rest_is_last old new before after line g plain none =

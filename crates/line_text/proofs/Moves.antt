@@ -3,7 +3,7 @@ use Rattle.std.proofs.Common.{◌≡◌, ℕ, List, [], ◌∷◌, ◌++◌, sym
 use Rattle.std.specs.Prelude.{Option}
 use Rattle.std.specs.Io.KnownBytes.{Consumes, Keeps}
 use Rattle.std.proofs.KnownBytes.{Consumes-trans, Consumes-kept}
-use Rattle.line_text.specs.Lines.{NoFeed, Gives}
+use Rattle.line_text.specs.Lines.{NoFeed, GivesBytes}
 
 -- two lists without a line feed have none when joined
 pub no_feed_append : (xs ys : List ℕ) → NoFeed xs → NoFeed ys → NoFeed (xs ++ ys)
@@ -11,8 +11,8 @@ no_feed_append [] ys p q = q
 no_feed_append (x ∷ xs) ys p q = (p.0, no_feed_append xs ys p.1 q)
 
 -- the piece that a line feed ends makes the line whole
-pub gives_feed : (a b : Option (List ℕ)) (before mid after line piece : List ℕ) → Gives a b before mid line
-    → mid ≡ piece ++ 10 ∷ after → Gives a b before after ((line ++ piece) ++ 10 ∷ [])
+pub gives_feed : (a b : Option (List ℕ)) (before mid after line piece : List ℕ) → GivesBytes a b before mid line
+    → mid ≡ piece ++ 10 ∷ after → GivesBytes a b before after ((line ++ piece) ++ 10 ∷ [])
 gives_feed a b before mid after line piece g e =
     record {
       bytes = g.bytes;
@@ -22,8 +22,9 @@ gives_feed a b before mid after line piece g e =
     }
 
 -- all that was held goes to the line
-pub gives_all : (a b : Option (List ℕ)) (before mid after line piece : List ℕ) → Gives a b before mid line → mid ≡ piece
-    → after ≡ [] → Gives a b before after (line ++ piece)
+pub gives_all : (a b : Option (List ℕ)) (before mid after line piece : List ℕ) → GivesBytes a b before mid line
+    → mid ≡ piece
+    → after ≡ [] → GivesBytes a b before after (line ++ piece)
 gives_all a b before mid after line piece g e none =
     record {
       bytes = g.bytes;
@@ -33,8 +34,8 @@ gives_all a b before mid after line piece g e none =
     }
 
 -- then more is read
-pub gives_read : (a b c : Option (List ℕ)) (before line new held : List ℕ) → Gives a b before held line → held ≡ []
-    → Consumes b c new → Gives a c before new line
+pub gives_read : (a b c : Option (List ℕ)) (before line new held : List ℕ) → GivesBytes a b before held line → held ≡ []
+    → Consumes b c new → GivesBytes a c before new line
 gives_read a b c before line new held g none q =
     record {
       bytes = g.bytes ++ new;
@@ -44,8 +45,8 @@ gives_read a b c before line new held g none q =
     }
 
 -- or nothing is
-pub gives_kept : (a b c : Option (List ℕ)) (before line new held : List ℕ) → Gives a b before held line → held ≡ []
-    → new ≡ [] → Keeps b c → Gives a c before new line
+pub gives_kept : (a b c : Option (List ℕ)) (before line new held : List ℕ) → GivesBytes a b before held line → held ≡ []
+    → new ≡ [] → Keeps b c → GivesBytes a c before new line
 gives_kept a b c before line new held g none none' q =
     record {
       bytes = g.bytes;

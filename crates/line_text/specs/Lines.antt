@@ -46,16 +46,16 @@ abbrev pub Loses : Option (List ℕ) → Option (List ℕ) → Type 0
 Loses old new = (bytes : List ℕ) × Consumes old new bytes
 
 -- a reader gave some bytes: what was held before and these are what was given and what is held now
-pub record Gives (old new : Option (List ℕ)) (before after given : List ℕ) : Type 0 where
+pub record GivesBytes (old new : Option (List ℕ)) (before after given : List ℕ) : Type 0 where
   pub bytes : List ℕ
   pub consumed : Consumes old new bytes
   pub moved : before ++ bytes ≡ given ++ after
 
 -- a line, or what stands behind the last one
 abbrev pub GivesLine : NextLine → Option (List ℕ) → Option (List ℕ) → List ℕ → List ℕ → List ℕ → Type 0
-GivesLine Whole old new before after line = Gives old new before after (line ++ 10 ∷ []) × NoFeed line
-GivesLine Rest old new before after line = Gives old new before after line × NoFeed line × (after ≡ []) × IsAtEnd new
+GivesLine Whole old new before after line = GivesBytes old new before after (line ++ 10 ∷ []) × NoFeed line
+GivesLine Rest a b before after line = GivesBytes a b before after line × NoFeed line × (after ≡ []) × IsAtEnd b
 
 -- a beginning of a line
 abbrev pub GivesFront : Option (List ℕ) → Option (List ℕ) → List ℕ → List ℕ → List ℕ → Type 0
-GivesFront old new before after line = Gives old new before after line × NoFeed line
+GivesFront old new before after line = GivesBytes old new before after line × NoFeed line

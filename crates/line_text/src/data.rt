@@ -3,7 +3,7 @@ ghost use Rattle.std.specs.Prelude.{option_map};
 ghost use Rattle.std.specs.List.{slice_split, list_all};
 ghost use Rattle.hex.specs.Hex.{IsBytes};
 ghost use Rattle.line_text.specs.Digits.{bytes_in};
-ghost use Rattle.line_text.specs.Data.{all_same, data_text, data_in, block_of, blocks_in, ReadsBlock};
+ghost use Rattle.line_text.specs.Data.{all_same, data_text, data_in, spelled_block, bytes_of_blocks_in, ReadsBlock};
 
 use crate::digits::read_hex;
 use crate::words::split_words;
@@ -50,7 +50,7 @@ pub fn read_data(alloc: Global, word: &[u8]) -> Result<Option<Vec<u8>>, AllocErr
 
 fn read_blocks(alloc: Global, word: &[u8]) -> Result<Option<Vec<u8>>, AllocError>
     ensures { IfOk result
-        (λ read. option_map (λ v. v.items) read ≡ blocks_in 512 (slice_split (λ b. b == 46) word.now)) }
+        (λ read. option_map (λ v. v.items) read ≡ bytes_of_blocks_in 512 (slice_split (λ b. b == 46) word.now)) }
 {
     let parts = split_words(alloc, word, b'.')?;
     let mut out = Vec::new(alloc);
@@ -65,7 +65,7 @@ fn read_blocks(alloc: Global, word: &[u8]) -> Result<Option<Vec<u8>>, AllocError
 // Adds the block that the text spells, if it spells one.
 fn read_block(alloc: Global, text: &[u8], out: &mut Vec<u8>) -> Result<bool, AllocError>
     ensures { IfOk result
-        (λ found. ReadsBlock found (block_of 512 (bytes_in text.now)) out.old.items out.new.items) }
+        (λ found. ReadsBlock found (spelled_block 512 (bytes_in text.now)) out.old.items out.new.items) }
 {
     let Some(bytes) = read_hex(alloc, text)? else {
         return Ok(false);

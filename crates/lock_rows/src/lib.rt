@@ -1,15 +1,17 @@
 //! What tests of a shared controller stand on: the scripts of worked runs, what a controller of one caller makes of
-//! them, and an engine with its queues of works and notices, whose callers each own a hand of passes.
+//! them, and an engine with its queues of works and notices, whose callers each own a pass of each.
 #![tactic(auto)]
 
-mod hall;
 mod messages;
 mod plain;
+mod system;
 mod table;
 
-pub use crate::hall::{Crew, Hall, Hand, Spares, crew_of, hall_of, take_hand};
 pub use crate::messages::{
     NO_MEMORY, STRANGE, attempt, fetches, learns, noted, open, opens, pops, pushes, tells, works,
 };
-pub use crate::plain::{Run, config_of, number, run_of, text};
+pub use crate::plain::{ScriptRun, config_of, number, run_of, text};
+pub use crate::system::{
+    SpareCallers, TestCaller, TestSystem, ThreeCallers, crew_of, system_of, take_caller,
+};
 pub use crate::table::{CONFIG, LARGE, LARGE_PAIR, ROWS};

@@ -8,10 +8,10 @@ ghost use Rattle.work_queue.specs.Duties.{duty_of, task_step};
 ghost use Rattle.work_queue.specs.Engines.{its};
 ghost use Rattle.work_queue.specs.Notices.{IsNoticeOf};
 ghost use Rattle.work_queue.specs.Posted.{IsAnswerPosted};
-ghost use Rattle.lock_rows.specs.Hands.{IsFresh, IsFreshWork, IsOf, IsWorkOf};
+ghost use Rattle.lock_rows.specs.Callers.{IsFreshOpening, IsFreshWork, IsTestCallerOf, IsTestWork};
 
-use crate::hall::{Hall, Hand};
 use crate::plain::number;
+use crate::system::{TestCaller, TestSystem};
 use meet_lock::Declined;
 use std::sync::Wait;
 use std::thread::yield_now;
@@ -25,13 +25,13 @@ pub const NO_MEMORY: u8 = 11;
 pub const STRANGE: u8 = 99;
 
 /// A Publish, a Fetch or a Reap.
-#[tactic(auto, using(crate::proofs::Hands::fetched_fresh))]
-pub fn open(hall: &Hall, hand: &mut Hand, request: Open) -> Result<Opened, Declined>
-    requires { IsOf hall.now hand.old }
-    ensures same { IsOf hall.now hand.new }
-    ensures fresh { IfOk result (IsFresh hall.now) }
+#[tactic(auto, using(crate::proofs::Callers::fetched_fresh))]
+pub fn open(system: &TestSystem, caller: &mut TestCaller, request: Open) -> Result<Opened, Declined>
+    requires { IsTestCallerOf system.now caller.old }
+    ensures same { IsTestCallerOf system.now caller.new }
+    ensures fresh { IfOk result (IsFreshOpening system.now) }
 {
-    hall.engine.attempt_open(&mut hand.pass, request)
+    system.engine.attempt_open(&mut caller.pass, request)
 }
 
 /// The opening, asked again while another caller has the lock.
@@ -39,14 +39,19 @@ pub fn open(hall: &Hall, hand: &mut Hand, request: Open) -> Result<Opened, Decli
 /// # Errors
 ///
 /// The number of its refusal.
-pub fn opens<R: Wait>(rt: &R, hall: &Hall, hand: &mut Hand, request: Open) -> Result<Opened, u8>
-    requires { IsOf hall.now hand.old }
-    ensures same { IsOf hall.now hand.new }
-    ensures fresh { IfOk result (IsFresh hall.now) }
+pub fn opens<R: Wait>(
+    rt: &R,
+    system: &TestSystem,
+    caller: &mut TestCaller,
+    request: Open,
+) -> Result<Opened, u8>
+    requires { IsTestCallerOf system.now caller.old }
+    ensures same { IsTestCallerOf system.now caller.new }
+    ensures fresh { IfOk result (IsFreshOpening system.now) }
 {
     let mut next = request;
     for _ in rt.forever() {
-        match open(hall, hand, next) {
+        match open(system, caller, next) {
             Ok(opened) => return Ok(opened),
             Err(Declined::Busy(Step::Publish(queue, batch))) => next = Open::Publish(queue, batch),
             Err(Declined::Busy(Step::Fetch(queue))) => next = Open::Fetch(queue),
@@ -64,12 +69,17 @@ pub fn opens<R: Wait>(rt: &R, hall: &Hall, hand: &mut Hand, request: Open) -> Re
 /// # Errors
 ///
 /// The number of its refusal.
-pub fn fetches<R: Wait>(rt: &R, hall: &Hall, hand: &mut Hand, queue: u16) -> Result<Work, u8>
-    requires { IsOf hall.now hand.old }
-    ensures same { IsOf hall.now hand.new }
-    ensures fresh { IfOk result (IsFreshWork hall.now) }
+pub fn fetches<R: Wait>(
+    rt: &R,
+    system: &TestSystem,
+    caller: &mut TestCaller,
+    queue: u16,
+) -> Result<Work, u8>
+    requires { IsTestCallerOf system.now caller.old }
+    ensures same { IsTestCallerOf system.now caller.new }
+    ensures fresh { IfOk result (IsFreshWork system.now) }
 {
-    match opens(rt, hall, hand, Open::Fetch(queue)) {
+    match opens(rt, system, caller, Open::Fetch(queue)) {
         Ok(Opened::Fetched(work)) => Ok(work),
         Ok(_) => Err(STRANGE),
         Err(why) => Err(why),
@@ -77,22 +87,27 @@ pub fn fetches<R: Wait>(rt: &R, hall: &Hall, hand: &mut Hand, queue: u16) -> Res
 }
 
 /// The Work, put at the back; or it comes back.
-pub fn pushes<R: Wait>(rt: &R, hall: &Hall, hand: &mut Hand, work: Work) -> Result<(), Work>
-    requires own { IsOf hall.now hand.old }
-    requires fresh { IsFreshWork hall.now work }
-    ensures same { IsOf hall.now hand.new }
-    ensures back { IfErr result (IsFreshWork hall.now) }
+pub fn pushes<R: Wait>(
+    rt: &R,
+    system: &TestSystem,
+    caller: &mut TestCaller,
+    work: Work,
+) -> Result<(), Work>
+    requires own { IsTestCallerOf system.now caller.old }
+    requires fresh { IsFreshWork system.now work }
+    ensures same { IsTestCallerOf system.now caller.new }
+    ensures back { IfErr result (IsFreshWork system.now) }
 {
-    hall.works.push(rt, &mut hand.works, work)
+    system.works.push(rt, &mut caller.works, work)
 }
 
 /// The Work at the front.
-pub fn pops<R: Wait>(rt: &R, hall: &Hall, hand: &mut Hand) -> Option<Work>
-    requires { IsOf hall.now hand.old }
-    ensures same { IsOf hall.now hand.new }
-    ensures work { IfSome result (IsFreshWork hall.now) }
+pub fn pops<R: Wait>(rt: &R, system: &TestSystem, caller: &mut TestCaller) -> Option<Work>
+    requires { IsTestCallerOf system.now caller.old }
+    ensures same { IsTestCallerOf system.now caller.new }
+    ensures work { IfSome result (IsFreshWork system.now) }
 {
-    hall.works.pop(rt, &mut hand.works)
+    system.works.pop(rt, &mut caller.works)
 }
 
 /// The task, if no other caller has the lock.
@@ -101,19 +116,19 @@ pub fn pops<R: Wait>(rt: &R, hall: &Hall, hand: &mut Hand) -> Option<Work>
 ///
 /// As `Engine::attempt_work`.
 pub fn attempt(
-    hall: &Hall,
-    hand: &mut Hand,
+    system: &TestSystem,
+    caller: &mut TestCaller,
     work: &mut Work,
     task: Task,
 ) -> Result<Answer, Declined>
-    requires own { IsOf hall.now hand.old × IsWorkOf hall.now work.old }
+    requires own { IsTestCallerOf system.now caller.old × IsTestWork system.now work.old }
     requires allowed { task_fault (duty_of work.old.work) work.old.work.ticket (its work.old)
         (task_step task work.old.work.ticket) ≡ None }
-    ensures same { IsOf hall.now hand.new × IsWorkOf hall.now work.new }
-    ensures posted { IfOk result (IsAnswerPosted (config_of hand.new.pass) (entries (seen hand.new.pass))
+    ensures same { IsTestCallerOf system.now caller.new × IsTestWork system.now work.new }
+    ensures posted { IfOk result (IsAnswerPosted (config_of caller.new.pass) (entries (seen caller.new.pass))
         work.new.queue) }
 {
-    hall.engine.attempt_work(&mut hand.pass, work, task)
+    system.engine.attempt_work(&mut caller.pass, work, task)
 }
 
 /// A Notice of what was posted, where that is a completion and there is one completion queue.
@@ -122,40 +137,46 @@ pub fn attempt(
 ///
 /// The number of want of memory.
 pub fn noted(
-    hall: &Hall,
-    hand: &mut Hand,
+    system: &TestSystem,
+    caller: &mut TestCaller,
     _work: &Work,
     answer: &Answer,
 ) -> Result<Option<Notice>, u8>
-    requires own { IsOf hall.now hand.old }
-    requires posted { IsAnswerPosted (config_of hand.old.pass) (entries (seen hand.old.pass)) _work.now.queue
+    requires own { IsTestCallerOf system.now caller.old }
+    requires posted { IsAnswerPosted (config_of caller.old.pass) (entries (seen caller.old.pass)) _work.now.queue
         answer.now }
-    ensures same { IsOf hall.now hand.new }
-    ensures notice { IfOk result (λ n. IfSome n (IsNoticeOf hall.now.engine)) }
-    ensures posted { IsAnswerPosted (config_of hand.new.pass) (entries (seen hand.new.pass)) _work.now.queue
+    ensures same { IsTestCallerOf system.now caller.new }
+    ensures notice { IfOk result (λ n. IfSome n (IsNoticeOf system.now.engine)) }
+    ensures posted { IsAnswerPosted (config_of caller.new.pass) (entries (seen caller.new.pass)) _work.now.queue
         answer.now }
 {
     let Answer::Posted(cqe) = answer else {
         return Ok(None);
     };
-    if hall.config.numbers().cqs != 1 {
+    if system.config.numbers().cqs != 1 {
         return Ok(None);
     }
-    match Notice::new(&hall.engine, &mut hand.pass, 1, *cqe) {
+    match Notice::new(&system.engine, &mut caller.pass, 1, *cqe) {
         Ok(notice) => Ok(Some(notice)),
         Err(_) => Err(NO_MEMORY),
     }
 }
 
 /// That Notice, put into the queue; whether there was room and memory for it.
-pub fn tells<R: Wait>(rt: &R, hall: &Hall, hand: &mut Hand, _work: &Work, answer: &Answer) -> bool
-    requires own { IsOf hall.now hand.old }
-    requires posted { IsAnswerPosted (config_of hand.old.pass) (entries (seen hand.old.pass)) _work.now.queue
+pub fn tells<R: Wait>(
+    rt: &R,
+    system: &TestSystem,
+    caller: &mut TestCaller,
+    _work: &Work,
+    answer: &Answer,
+) -> bool
+    requires own { IsTestCallerOf system.now caller.old }
+    requires posted { IsAnswerPosted (config_of caller.old.pass) (entries (seen caller.old.pass)) _work.now.queue
         answer.now }
-    ensures { IsOf hall.now hand.new }
+    ensures { IsTestCallerOf system.now caller.new }
 {
-    match noted(hall, hand, _work, answer) {
-        Ok(Some(notice)) => hall.notices.push(rt, &mut hand.notices, notice).is_ok(),
+    match noted(system, caller, _work, answer) {
+        Ok(Some(notice)) => system.notices.push(rt, &mut caller.notices, notice).is_ok(),
         Ok(None) => true,
         Err(_) => false,
     }
@@ -169,20 +190,20 @@ pub fn tells<R: Wait>(rt: &R, hall: &Hall, hand: &mut Hand, _work: &Work, answer
 /// The number of its refusal.
 pub fn works<R: Wait>(
     rt: &R,
-    hall: &Hall,
-    hand: &mut Hand,
+    system: &TestSystem,
+    caller: &mut TestCaller,
     work: &mut Work,
 ) -> Result<Option<Answer>, u8>
-    requires { IsOf hall.now hand.old × IsWorkOf hall.now work.old }
-    ensures { IsOf hall.now hand.new × IsWorkOf hall.now work.new }
+    requires { IsTestCallerOf system.now caller.old × IsTestWork system.now work.old }
+    ensures { IsTestCallerOf system.now caller.new × IsTestWork system.now work.new }
 {
     for _ in rt.forever() {
         let Some(task) = work.next_task() else {
             return Ok(None);
         };
-        match attempt(hall, hand, work, task) {
+        match attempt(system, caller, work, task) {
             Ok(answer) => {
-                if !tells(rt, hall, hand, work, &answer) {
+                if !tells(rt, system, caller, work, &answer) {
                     return Err(NO_MEMORY);
                 }
                 return Ok(Some(answer));
@@ -200,14 +221,14 @@ pub fn works<R: Wait>(
 /// # Errors
 ///
 /// A number, where another caller had the lock.
-pub fn learns<R: Wait>(rt: &R, hall: &Hall, hand: &mut Hand) -> Result<bool, u8>
-    requires { IsOf hall.now hand.old }
-    ensures { IsOf hall.now hand.new }
+pub fn learns<R: Wait>(rt: &R, system: &TestSystem, caller: &mut TestCaller) -> Result<bool, u8>
+    requires { IsTestCallerOf system.now caller.old }
+    ensures { IsTestCallerOf system.now caller.new }
 {
-    let Some(mut notice) = hall.notices.pop(rt, &mut hand.notices) else {
+    let Some(mut notice) = system.notices.pop(rt, &mut caller.notices) else {
         return Ok(false);
     };
-    match hall.engine.learn(&mut hand.pass, &mut notice) {
+    match system.engine.learn(&mut caller.pass, &mut notice) {
         Ok(()) => Ok(true),
         Err(_) => Err(STRANGE),
     }

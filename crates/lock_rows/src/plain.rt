@@ -7,7 +7,7 @@ use step_core::{Core, Refused, Step};
 
 /// A run: its steps, how each was answered, and the lines of its history.
 #[derive(Drop)]
-pub struct Run {
+pub struct ScriptRun {
     pub steps: Vec<Step>,
     pub answers: Vec<u8>,
     pub lines: Vec<u8>,
@@ -62,7 +62,7 @@ fn step_of(alloc: Global, core: &Core, line: &str) -> Option<Step> {
 
 /// Makes one step of what a line asks for, which it takes twice: once to make it and once to keep it. Whether there was
 /// one; None where memory is refused.
-fn make_step(alloc: Global, core: &mut Core, line: &str, run: &mut Run) -> Option<bool> {
+fn make_step(alloc: Global, core: &mut Core, line: &str, run: &mut ScriptRun) -> Option<bool> {
     let Some(same) = step_of(alloc, core, line) else {
         return Some(false);
     };
@@ -73,7 +73,7 @@ fn make_step(alloc: Global, core: &mut Core, line: &str, run: &mut Run) -> Optio
 }
 
 /// Makes what a line asks for.
-fn make_line(alloc: Global, core: &mut Core, line: &str, run: &mut Run) -> Option<()> {
+fn make_line(alloc: Global, core: &mut Core, line: &str, run: &mut ScriptRun) -> Option<()> {
     let turns = if line == "settle" { 10_000 } else { 1 };
     for _ in 0..turns {
         if !make_step(alloc, core, line, run)? {
@@ -84,7 +84,7 @@ fn make_line(alloc: Global, core: &mut Core, line: &str, run: &mut Run) -> Optio
 }
 
 /// Makes the lines, which are parted by ` / `, and keeps those of the history.
-fn make_lines(alloc: Global, core: &mut Core, script: &str, run: &mut Run) -> Option<()> {
+fn make_lines(alloc: Global, core: &mut Core, script: &str, run: &mut ScriptRun) -> Option<()> {
     for line in script.split(" / ") {
         make_line(alloc, core, line, run)?;
     }
@@ -93,8 +93,8 @@ fn make_lines(alloc: Global, core: &mut Core, script: &str, run: &mut Run) -> Op
 }
 
 /// The run of a script by this controller.
-fn run_by(alloc: Global, core: &mut Core, script: &str) -> Option<Run> {
-    let mut run = Run {
+fn run_by(alloc: Global, core: &mut Core, script: &str) -> Option<ScriptRun> {
+    let mut run = ScriptRun {
         steps: Vec::new(alloc),
         answers: Vec::new(alloc),
         lines: Vec::new(alloc),
@@ -104,7 +104,7 @@ fn run_by(alloc: Global, core: &mut Core, script: &str) -> Option<Run> {
 }
 
 /// The run of a script whose lines are parted by ` / `; None where memory is refused.
-pub fn run_of(alloc: Global, config: Config, script: &str) -> Option<Run> {
+pub fn run_of(alloc: Global, config: Config, script: &str) -> Option<ScriptRun> {
     let mut core = Core::new(alloc, config).ok()?;
     run_by(alloc, &mut core, script)
 }

@@ -97,7 +97,7 @@ pub const ROWS: [(&str, &str); 22] = [
         CONFIG,
         "publish 1 write 0 1 18446744073709551615 65535 - / fetch 1 / settle / reap 1",
     ),
-    // An identifier in use.
+    // A CID in use.
     (
         CONFIG,
         "publish 1 write 0 5 0 0 A1 + write 0 5 1 0 B2 / fetch 1 / fetch 1 / settle / reap 1 / reap 1",

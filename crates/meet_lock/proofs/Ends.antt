@@ -9,7 +9,7 @@ use Rattle.atomic_table.specs.Table.{Final, Seen, State, opening}
 use Rattle.nvme_model.specs.History.{Past}
 use Rattle.nvme_model.specs.Passes.{IsBeginning, SharedPast, entries, places}
 use Rattle.nvme_model.specs.declared.config.ConfigNumbers.{ConfigNumbers}
-use Rattle.meet_lock.specs.Lock.{AreOfPasses, Fits, GoesOn, IsOneHistory, OwnsTicket, start, unmade}
+use Rattle.meet_lock.specs.Lock.{AreOfPasses, Fits, ExtendsByPasses, IsOneHistory, OwnsTicket, first_view, unmade}
 use Rattle.meet_lock.specs.declared.view.View.{View}
 use Rattle.meet_lock.proofs.Beginnings.{begins-same}
 use Rattle.meet_lock.proofs.Others.{only_own}
@@ -23,12 +23,12 @@ module _ {M : Type 0} (config : M → ConfigNumbers) (history : M → Past) (leg
   Rule = IsOneHistory config history legal owned c passes before
 
   pub opens : (m : M) → config m ≡ c → history m ≡ before → 0 < passes → legal c (history m)
-      → Rule (opening (0 ∷ []) (Some m ∷ []) (start c passes (history m)))
+      → Rule (opening (0 ∷ []) (Some m ∷ []) (first_view c passes (history m)))
   opens m is shows positive right =
       let log : SharedPast = unmade (history m) in
       let same : entries log ≡ history m = entries-unmade (history m) in
       let right' : legal c (entries log) = subst (legal c) (sym same) right in
-      let v : View = start c passes (history m) in
+      let v : View = first_view c passes (history m) in
       let only : (P : ℕ → View → Type 0) → P 0 v → (j : ℕ) (u : View) → get_elem? (v ∷ []) j ≡ some u → P j u =
       λ P p. only_view P v p in
       record {
@@ -48,7 +48,7 @@ module _ {M : Type 0} (config : M → ConfigNumbers) (history : M → Past) (leg
               right = λ _. (refl, right');
               mine = λ _. refl;
               heard = λ e. cc;
-              opens = λ _. subst (λ x. GoesOn passes (unmade x) log) shows (begins-same passes log);
+              opens = λ _. subst (λ x. ExtendsByPasses passes (unmade x) log) shows (begins-same passes log);
             });
         holding = only (λ j u. u.holds ≡ true → (j ≡ 0) × (0 ≢ 0) × (u.held ≡ log) × (0 < u.number)) (λ e. cc);
         numbered = only (λ j u. 0 < u.number → (0 ≡ j) × ((u.number ≤ 0) ⊎ (u.number ≡ passes)))
@@ -78,8 +78,8 @@ module _ {M : Type 0} (config : M → ConfigNumbers) (history : M → Past) (leg
       let zero_word : get_or s.words 0 0 ≡ 0 = ap (λ l. get_or l 0 0) final.2 ∙ (read_first ws n word ∙ free_is) in
       let h = r.free zero_word in
       let f = r.each id v final.1.1 in
-      let g : GoesOn v.passes v.seen r.log =
-      subst (λ k. GoesOn k v.seen r.log) (sym (f.of named)) (f.sees (inl named)) in
+      let g : ExtendsByPasses v.passes v.seen r.log =
+      subst (λ k. ExtendsByPasses k v.seen r.log) (sym (f.of named)) (f.sees (inl named)) in
       let number_is = (r.numbered id v final.1.1 named).1 in
       let at : get_elem? xs 0 ≡ some (Some h.0) = final.4 0 (Some h.0) h.1 in
       record {

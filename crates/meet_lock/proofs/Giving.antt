@@ -10,8 +10,9 @@ use Rattle.nvme_model.specs.History.{Past}
 use Rattle.nvme_model.specs.Passes.{SharedPast, entries, places}
 use Rattle.nvme_model.specs.declared.config.ConfigNumbers.{ConfigNumbers}
 use Rattle.nvme_model.specs.declared.entry.Entry.{Entry}
-use Rattle.meet_lock.specs.Lock.{Fits, GoesOn, IsAt, IsOneHistory, OwnsTicket, grown, noted, shown, unmade}
-use Rattle.meet_lock.specs.SeatSteps.{MayTell, left, wrote}
+use Rattle.meet_lock.specs.Lock.{Fits, ExtendsByPasses, IsMachineAt, IsOneHistory, OwnsTicket, grown, noted}
+use Rattle.meet_lock.specs.Lock.{view_given_back, unmade}
+use Rattle.meet_lock.specs.SeatSteps.{MayTell, gives_lock_back, wrote}
 use Rattle.ticket_laws.specs.Entries.{ticket_in}
 use Rattle.meet_lock.specs.declared.view.View.{View}
 use Rattle.meet_lock.proofs.Beginnings.{begins-more, begins-same}
@@ -54,7 +55,7 @@ module _ {M : Type 0} (config : M → ConfigNumbers) (history : M → Past) (leg
   -- the history is then more than it was, by entries of the holder's
   gives_back : (s : St) (r : Rule s) (id : ℕ) (v w : View) (machine : M) (log : SharedPast) → length s.homes ≡ 1
       → get_elem? s.views id ≡ some v → v.holds ≡ true → Gives v w log
-      → GoesOn passes r.log log → legal c (entries log) → IsAt config history c (entries log) machine
+      → ExtendsByPasses passes r.log log → legal c (entries log) → IsMachineAt config history c (entries log) machine
       → ((by : ℕ) → by ≢ v.number → places by log ≡ places by r.log)
       → (owner : ℕ → ℕ) → OwnsTicket owned owner log id w
       → ((j : ℕ) (u : View) → j ≢ id → get_elem? s.views j ≡ some u → OwnsTicket owned owner log j u)
@@ -78,14 +79,14 @@ module _ {M : Type 0} (config : M → ConfigNumbers) (history : M → Past) (leg
         each = views_stay (λ j u. Fits legal c passes before log u) s.views id w
             (record {
               of = λ _. is.count ∙ own.of h.3;
-              sees = λ _. subst (λ l. GoesOn passes l log) (sym is.seen) (begins-same passes log);
+              sees = λ _. subst (λ l. ExtendsByPasses passes l log) (sym is.seen) (begins-same passes log);
               right = λ _. (
                 is.configured ∙ (own.right (inl h.3)).0,
                 subst (λ l. legal c (entries l)) (sym is.seen) right,
               );
               mine = λ _. ap (places w.number) (sym is.seen);
               heard = λ e. let clash : true ≡ false = sym e ∙ is.deaf in cc;
-              opens = λ _. subst (λ l. GoesOn passes (unmade before) l) (sym is.seen)
+              opens = λ _. subst (λ l. ExtendsByPasses passes (unmade before) l) (sym is.seen)
                   (begins-more passes (unmade before) v.seen log (own.opens (inl h.3))
                   (begins-more passes v.seen r.log log (own.sees (inl h.3)) more));
             })
@@ -118,7 +119,7 @@ module _ {M : Type 0} (config : M → ConfigNumbers) (history : M → Past) (leg
 
   pub writes : (slots : ℕ) → slots ≡ 1 → (id : ℕ) (m : Me (Option M) View) (v : View) (machine : M) (e : Entry)
       → m ≡ (v, (0, Some machine) ∷ []) → v.holds ≡ true
-      → IsAt config history v.config (e ∷ entries v.held) machine → legal v.config (e ∷ entries v.held)
+      → IsMachineAt config history v.config (e ∷ entries v.held) machine → legal v.config (e ∷ entries v.held)
       → MayTell owned v (entries v.held) e
       → Allows Rule slots id m 0 (λ _. 0) (λ _. wrote history owned (step slots 0 0 0 none) m 0)
   writes slots one id m v machine e is holds shows right may =
@@ -164,8 +165,8 @@ module _ {M : Type 0} (config : M → ConfigNumbers) (history : M → Past) (leg
               let entry : e ≡ e' = cc in
               ap (λ x. (grown owned v x, [])) entry),
           (λ z. let t = (r.each id v at).heard z in (
-            subst (λ l. GoesOn v.passes v.told l) (sym h.2)
-                (subst (λ n. GoesOn n v.told r.log) (sym ((r.each id v at).of h.3)) t.0),
+            subst (λ l. ExtendsByPasses v.passes v.told l) (sym h.2)
+                (subst (λ n. ExtendsByPasses n v.told r.log) (sym ((r.each id v at).of h.3)) t.0),
             t.2 ∙ sym here.0,
           )),
           λ has. (own_ticket.1 has).1,
@@ -174,20 +175,21 @@ module _ {M : Type 0} (config : M → ConfigNumbers) (history : M → Past) (leg
 
   pub leaves : (slots : ℕ) → slots ≡ 1 → (id : ℕ) (m : Me (Option M) View) (v : View) (machine : M)
       → m ≡ (v, (0, Some machine) ∷ []) → v.holds ≡ true
-      → IsAt config history v.config (entries v.held) machine → legal v.config (entries v.held)
-      → Allows Rule slots id m 0 (λ _. 0) (λ _. left (step slots 0 0 0 none) m 0)
+      → IsMachineAt config history v.config (entries v.held) machine → legal v.config (entries v.held)
+      → Allows Rule slots id m 0 (λ _. 0) (λ _. gives_lock_back (step slots 0 0 0 none) m 0)
   leaves slots one id m v machine is holds shows right =
-      subst (λ (x : Me (Option M) View). Allows Rule slots id x 0 (λ _. 0) (λ _. left (step slots 0 0 0 none) x 0))
+      subst (λ (x : Me (Option M) View).
+      Allows Rule slots id x 0 (λ _. 0) (λ _. gives_lock_back (step slots 0 0 0 none) x 0))
       (sym is)
       (λ s r wide at small.
       let h = r.holding id v at holds in
       let here = (r.each id v at).right (inl h.3) in
       let had : (j : ℕ) (u : View) → get_elem? s.views j ≡ some u → OwnsTicket owned r.owner v.held j u =
       λ j u a. subst (λ l. OwnsTicket owned r.owner l j u) (sym h.2) (r.owners j u a) in (
-        shown v,
+        view_given_back v,
         gives,
         tt,
-        gives_back s r id v (shown v) machine v.held (wide ∙ one) at holds
+        gives_back s r id v (view_given_back v) machine v.held (wide ∙ one) at holds
             (record {
               number = refl;
               count = refl;
@@ -196,14 +198,14 @@ module _ {M : Type 0} (config : M → ConfigNumbers) (history : M → Past) (leg
               idle = refl;
               deaf = refl;
               seen = refl;
-            }) (subst (λ l. GoesOn passes r.log l) (sym h.2) (begins-same passes r.log))
+            }) (subst (λ l. ExtendsByPasses passes r.log l) (sym h.2) (begins-same passes r.log))
             (subst (λ x. legal x (entries v.held)) here.0 right) (shows.0 ∙ here.0, shows.1)
             (λ by _. ap (places by) h.2) r.owner (had id v at) (λ j u _ a. had j u a),
         (
           refl,
           (λ e. let t = (r.each id v at).heard e in (
-            subst (λ l. GoesOn v.passes v.told l) (sym h.2)
-                (subst (λ n. GoesOn n v.told r.log) (sym ((r.each id v at).of h.3)) t.0),
+            subst (λ l. ExtendsByPasses v.passes v.told l) (sym h.2)
+                (subst (λ n. ExtendsByPasses n v.told r.log) (sym ((r.each id v at).of h.3)) t.0),
             t.2 ∙ sym here.0,
           )),
           λ has. ((had id v at).1 has).1,

@@ -4,7 +4,7 @@ use Rattle.std.proofs.Common.{◌<◌, ◌∙◌, ◌≡◌, ◌≢◌, ◌∷�
 use Rattle.std.proofs.lemmas.Bool.{cond-false, cond-true}
 use Rattle.nvme_model.specs.Passes.{IsBeginning, SharedPast, places}
 use Rattle.nvme_model.specs.declared.entry.Entry.{Entry}
-use Rattle.meet_lock.specs.Lock.{AreOfPasses, GoesOn, noted}
+use Rattle.meet_lock.specs.Lock.{AreOfPasses, ExtendsByPasses, noted}
 use Rattle.meet_lock.proofs.Places.{places-front}
 
 -- nothing of a number that no pass has
@@ -15,7 +15,7 @@ later_above passes n (m ∷ later) log above made = let le = made.0.1 in
     cond-false (eqb m.0 n) _ _ (ne_eqb m.0 n (λ e. omega (arith, e, le, above)))
     ∙ later_above passes n later log above made.1
 
-pub places_above : (passes n : ℕ) (seen log : SharedPast) → passes < n → GoesOn passes seen log
+pub places_above : (passes n : ℕ) (seen log : SharedPast) → passes < n → ExtendsByPasses passes seen log
     → places n log ≡ places n seen
 places_above passes n seen log above g = ap (places n) (sym g.0.1) ∙ later_above passes n g.0.0 seen above g.1
 
@@ -25,7 +25,8 @@ later_nobody passes [] log made = refl
 later_nobody passes (m ∷ later) log made = let some = made.0.0 in
     cond-false (eqb m.0 0) _ _ (ne_eqb m.0 0 (λ e. omega (arith, e, some))) ∙ later_nobody passes later log made.1
 
-pub places_nobody : (passes : ℕ) (seen log : SharedPast) → GoesOn passes seen log → places 0 log ≡ places 0 seen
+pub places_nobody : (passes : ℕ) (seen log : SharedPast) → ExtendsByPasses passes seen log
+    → places 0 log ≡ places 0 seen
 places_nobody passes seen log g = ap (places 0) (sym g.0.1) ∙ later_nobody passes g.0.0 seen g.1
 
 one_more : (by : ℕ) (m : ℕ × Entry) (later seen : SharedPast) → m.0 ≡ by
@@ -46,10 +47,10 @@ none_later [] seen made same = refl
 none_later (m ∷ later) seen made same = let some = made.0.0 in let le = made.0.1 in
     absurd (one_more 1 m later seen (omega (arith, some, le)) same)
 
-pub only_own : (passes by : ℕ) (seen log : SharedPast) → passes ≡ 1 → by ≡ 1 → GoesOn passes seen log
+pub only_own : (passes by : ℕ) (seen log : SharedPast) → passes ≡ 1 → by ≡ 1 → ExtendsByPasses passes seen log
     → places by log ≡ places by seen → log ≡ seen
 only_own passes by seen log one is g same =
-    let g1 : GoesOn 1 seen log = subst (λ n. GoesOn n seen log) one g in
+    let g1 : ExtendsByPasses 1 seen log = subst (λ n. ExtendsByPasses n seen log) one g in
     let s1 : places 1 log ≡ places 1 seen = subst (λ n. places n log ≡ places n seen) is same in
     sym g1.0.1 ∙ none_later g1.0.0 seen g1.1 (ap (places 1) g1.0.1 ∙ s1)
 
@@ -64,7 +65,7 @@ newest m before [] seen e same = sym e
 newest m before (x ∷ later) seen e same =
     absurd (one_more m.0 x later seen (ap (λ l. first_number m l) e) (ap (places m.0) e ∙ same))
 
-pub newest_seen : (passes : ℕ) (m : ℕ × Entry) (before seen : SharedPast) → GoesOn passes seen (m ∷ before)
+pub newest_seen : (passes : ℕ) (m : ℕ × Entry) (before seen : SharedPast) → ExtendsByPasses passes seen (m ∷ before)
     → places m.0 (m ∷ before) ≡ places m.0 seen → m ∷ before ≡ seen
 newest_seen passes m before seen g same = newest m before g.0.0 seen g.0.1 same
 
@@ -76,6 +77,6 @@ not_nobody_from passes seen log [] e is made b = let long = ap length b.1 in let
 not_nobody_from passes seen log (m ∷ later) e is made b = let zero_is : m.0 ≡ 0 = ap (first_number m) is in
     let some = made.0.0 in omega (arith, zero_is, some)
 
-pub not_nobody : (passes : ℕ) (seen log : SharedPast) (e : Entry) → GoesOn passes seen (noted 0 e ∷ log)
+pub not_nobody : (passes : ℕ) (seen log : SharedPast) (e : Entry) → ExtendsByPasses passes seen (noted 0 e ∷ log)
     → IsBeginning seen log → ⊥
 not_nobody passes seen log e g b = not_nobody_from passes seen log g.0.0 e g.0.1 g.1 b

@@ -12,7 +12,7 @@ use Rattle.atomic_table.proofs.Lists.{set_again}
 use Rattle.nvme_model.specs.History.{Past}
 use Rattle.nvme_model.specs.Passes.{entries}
 use Rattle.nvme_model.specs.declared.config.ConfigNumbers.{ConfigNumbers}
-use Rattle.meet_lock.specs.Lock.{Fits, GoesOn, IsOneHistory, OwnsTicket, holding}
+use Rattle.meet_lock.specs.Lock.{Fits, ExtendsByPasses, IsOneHistory, OwnsTicket, holding}
 use Rattle.meet_lock.specs.SeatSteps.{took}
 use Rattle.meet_lock.specs.declared.view.View.{View}
 use Rattle.meet_lock.proofs.Views.{set_at, views_stay}
@@ -111,7 +111,7 @@ module _ {M : Type 0} (config : M → ConfigNumbers) (history : M → Past) (leg
             is = refl;
             at = (h.2.0 ∙ sym here.0, h.2.1);
             right = subst (λ x. legal x (entries r.log)) (sym here.0) r.right;
-            begins = subst (λ n. GoesOn n v.seen r.log) (sym (own.of named)) (own.sees (inl named));
+            begins = subst (λ n. ExtendsByPasses n v.seen r.log) (sym (own.of named)) (own.sees (inl named));
             counted = (named, counted);
             mine = own.mine named;
           }),

@@ -11,7 +11,8 @@ use Rattle.atomic_table.proofs.Lists.{at_longer, set_again, set_else}
 use Rattle.nvme_model.specs.History.{Past}
 use Rattle.nvme_model.specs.Passes.{SharedPast, entries, places}
 use Rattle.nvme_model.specs.declared.config.ConfigNumbers.{ConfigNumbers}
-use Rattle.meet_lock.specs.Lock.{Fits, GoesOn, IsLive, IsOneHistory, OwnsTicket, hearing, informed, longer, message}
+use Rattle.meet_lock.specs.Lock.{Fits, ExtendsByPasses, IsLive, IsOneHistory, OwnsTicket, hearing, informed, longer}
+use Rattle.meet_lock.specs.Lock.{message}
 use Rattle.meet_lock.specs.Lock.{message_held, spent, unmade}
 use Rattle.meet_lock.specs.SeatSteps.{looked, peeked, recalled}
 use Rattle.meet_lock.specs.declared.view.View.{View}
@@ -143,8 +144,8 @@ module _ {M : Type 0} (config : M → ConfigNumbers) (history : M → Past) (leg
   pub tells_held : (id : ℕ) (v : View) → v.holds ≡ true → Splits Rule id v v (message_held v)
   tells_held id v holds = splits id v (message_held v) refl refl refl (λ s r at. let h = r.holding id v at holds in
       let f = r.each id v at in
-      let whole : GoesOn passes v.held r.log =
-      subst (λ l. GoesOn passes l r.log) (sym h.2) (begins-same passes r.log) in
+      let whole : ExtendsByPasses passes v.held r.log =
+      subst (λ l. ExtendsByPasses passes l r.log) (sym h.2) (begins-same passes r.log) in
       record {
         of = λ n. absurd (omega arith);
         sees = λ _. whole;
@@ -152,7 +153,7 @@ module _ {M : Type 0} (config : M → ConfigNumbers) (history : M → Past) (leg
         mine = λ n. absurd (omega arith);
         heard = λ e. cc;
         opens = λ _. begins-more passes (unmade before) v.seen v.held (f.opens (inl h.3))
-            (subst (λ l. GoesOn passes v.seen l) (sym h.2) (f.sees (inl h.3)));
+            (subst (λ l. ExtendsByPasses passes v.seen l) (sym h.2) (f.sees (inl h.3)));
       })
 
   -- a seat takes in a message
@@ -193,21 +194,21 @@ module _ {M : Type 0} (config : M → ConfigNumbers) (history : M → Past) (leg
       let told = f.heard heard in
       let own = f.mine named in
       let l : SharedPast = longer v.seen v.told in
-      let had : GoesOn passes v.seen r.log = f.sees (inl named) in
+      let had : ExtendsByPasses passes v.seen r.log = f.sees (inl named) in
       let count = sym (f.of named) in
-      let sees : GoesOn passes l r.log =
-      longer_is (λ l. GoesOn passes l r.log) v.seen v.told (λ _. told.0) (λ _. had) in
+      let sees : ExtendsByPasses passes l r.log =
+      longer_is (λ l. ExtendsByPasses passes l r.log) v.seen v.told (λ _. told.0) (λ _. had) in
       let right : legal c (entries l) =
       longer_is (λ l. legal c (entries l)) v.seen v.told (λ _. told.1) (λ _. here.1) in
       let mine : places v.number l ≡ places v.number v.seen =
       longer_is (λ l. places v.number l ≡ places v.number v.seen) v.seen v.told
       (λ le. places_between passes v.number r.log v.seen v.told (shorter passes r.log v.seen v.told had told.0 le)
       told.0 own) (λ _. refl) in
-      let later : GoesOn passes v.seen l =
-      longer_is (λ l. GoesOn passes v.seen l) v.seen v.told (shorter passes r.log v.seen v.told had told.0)
+      let later : ExtendsByPasses passes v.seen l =
+      longer_is (λ l. ExtendsByPasses passes v.seen l) v.seen v.told (shorter passes r.log v.seen v.told had told.0)
       (λ _. begins-same passes v.seen) in
-      let told_too : GoesOn passes v.told l =
-      longer_is (λ l. GoesOn passes v.told l) v.seen v.told (λ _. begins-same passes v.told)
+      let told_too : ExtendsByPasses passes v.told l =
+      longer_is (λ l. ExtendsByPasses passes v.told l) v.seen v.told (λ _. begins-same passes v.told)
       (shorter passes r.log v.told v.seen told.0 had) in
       let w : View = informed v in (
         w,
@@ -228,8 +229,8 @@ module _ {M : Type 0} (config : M → ConfigNumbers) (history : M → Past) (leg
         (
           refl,
           mine,
-          subst (λ n. GoesOn n v.seen l) count later,
-          subst (λ n. GoesOn n v.told l) count told_too,
+          subst (λ n. ExtendsByPasses n v.seen l) count later,
+          subst (λ n. ExtendsByPasses n v.told l) count told_too,
           subst (λ x. legal x (entries l)) (sym here.0) right,
           told.2 ∙ sym here.0,
         ),
@@ -253,7 +254,8 @@ module _ {M : Type 0} (config : M → ConfigNumbers) (history : M → Past) (leg
         (
           refl,
           λ e. let t = f.heard e in (
-            subst (λ l. GoesOn v.passes v.told l) (sym h.2) (subst (λ n. GoesOn n v.told r.log) (sym (f.of h.3)) t.0),
+            subst (λ l. ExtendsByPasses v.passes v.told l) (sym h.2)
+                (subst (λ n. ExtendsByPasses n v.told r.log) (sym (f.of h.3)) t.0),
             t.2 ∙ sym (f.right (inl h.3)).0,
           ),
         ),
@@ -277,7 +279,7 @@ module _ {M : Type 0} (config : M → ConfigNumbers) (history : M → Past) (leg
         (
           refl,
           subst (λ x. legal x (entries v.seen)) (sym here.0) here.1,
-          subst (λ (z : ℕ × Past). GoesOn z.0 (unmade z.1) v.seen) (λ i. (sym (f.of named) i, sym is i))
+          subst (λ (z : ℕ × Past). ExtendsByPasses z.0 (unmade z.1) v.seen) (λ i. (sym (f.of named) i, sym is i))
               (f.opens (inl named)),
         ),
       )

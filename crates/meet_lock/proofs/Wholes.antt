@@ -4,7 +4,7 @@ use Rattle.std.proofs.Common.{◌∙◌, ◌≡◌, ◌∷◌}
 use Rattle.std.specs.Prelude.{slice_get}
 use Rattle.nvme_model.specs.History.{Past}
 use Rattle.nvme_model.specs.Passes.{SharedPast, entries, places}
-use Rattle.meet_lock.specs.Lock.{AreOfPasses, GoesOn}
+use Rattle.meet_lock.specs.Lock.{AreOfPasses, ExtendsByPasses}
 use Rattle.meet_lock.specs.Passes.{AllSaw, IsSeenWhole, mine, number, seen}
 use Rattle.meet_lock.specs.declared.pass.Pass.{Pass}
 use Rattle.meet_lock.proofs.Others.{newest_seen}
@@ -25,10 +25,10 @@ each_front P x xs first others (suc k) a e = others k a e
 
 module _ {M : Type 0} where
   saw_at : (n : ℕ) (held : SharedPast) (ps : List (Pass M)) → AllSaw n held ps → (k : ℕ) (p : Pass M)
-      → slice_get ps k ≡ Some p → GoesOn n (seen p) held × (places (number p) held ≡ mine p)
+      → slice_get ps k ≡ Some p → ExtendsByPasses n (seen p) held × (places (number p) held ≡ mine p)
   saw_at n held [] all k p e = cc
   saw_at n held (x ∷ ps) all zero p e = let same : x ≡ p = cc in
-      subst (λ (z : Pass M). GoesOn n (seen z) held × (places (number z) held ≡ mine z)) same all.0
+      subst (λ (z : Pass M). ExtendsByPasses n (seen z) held × (places (number z) held ≡ mine z)) same all.0
   saw_at n held (x ∷ ps) all (suc k) p e = saw_at n held ps all.1 k p e
 
   record Whole (held : SharedPast) (ps : List (Pass M)) : Type 0 where
@@ -51,7 +51,8 @@ module _ {M : Type 0} where
       let saw = saw_at n held ps all k q.0 q.1 in
       let num = numbers k q.0 q.1 in
       let by : number q.0 ≡ m.0 = omega (arith, num, some) in
-      let g : GoesOn n (seen q.0) (m ∷ later ++ seen p0) = subst (λ l. GoesOn n (seen q.0) l) (sym e) saw.0 in
+      let g : ExtendsByPasses n (seen q.0) (m ∷ later ++ seen p0) =
+      subst (λ l. ExtendsByPasses n (seen q.0) l) (sym e) saw.0 in
       let own : places m.0 (m ∷ later ++ seen p0) ≡ places m.0 (seen q.0) =
       subst (λ (z : ℕ × SharedPast). places z.0 z.1 ≡ places z.0 (seen q.0)) (λ i. (by i, sym e i)) saw.1 in
       record { place = k; pass = q.0; there = q.1; is = sym e ∙ newest_seen n m (later ++ seen p0) (seen q.0) g own }
@@ -68,6 +69,7 @@ module _ {M : Type 0} where
         pass = w.pass;
         there = w.there;
         whole = is ∙ ap entries w.is;
-        all = λ k p at. subst (λ (z : ℕ × SharedPast). GoesOn z.0 (seen p) z.1 × (places (number p) z.1 ≡ mine p))
+        all = λ k p at. subst (λ (z : ℕ × SharedPast). ExtendsByPasses z.0 (seen p) z.1
+            × (places (number p) z.1 ≡ mine p))
             (λ i. (sym long i, w.is i)) (saw_at n held ps all k p at);
       }

@@ -26,12 +26,12 @@ AreOfPasses passes [] = Unit {0}
 AreOfPasses passes (m ∷ shared) = ((0 < m.0) × (m.0 ≤ passes)) × AreOfPasses passes shared
 
 -- the history goes on from what was seen, by entries of passes alone
-abbrev pub GoesOn : ℕ → SharedPast → SharedPast → Type 0
-GoesOn passes seen shared = (b : IsBeginning seen shared) × AreOfPasses passes b.0
+abbrev pub ExtendsByPasses : ℕ → SharedPast → SharedPast → Type 0
+ExtendsByPasses passes seen shared = (b : IsBeginning seen shared) × AreOfPasses passes b.0
 
 -- the view of the first seat
-abbrev pub start : ConfigNumbers → ℕ → Past → View
-start c passes past =
+abbrev pub first_view : ConfigNumbers → ℕ → Past → View
+first_view c passes past =
     record {
       number = passes;
       passes = passes;
@@ -56,11 +56,11 @@ IsLive v = (0 < v.number) ⊎ (v.message ≡ true)
 pub record Fits (legal : ConfigNumbers → Past → Type 0) (c : ConfigNumbers) (passes : ℕ) (before : Past)
     (log : SharedPast) (v : View) : Type 0 where
   pub of : 0 < v.number → v.passes ≡ passes
-  pub sees : IsLive v → GoesOn passes v.seen log
+  pub sees : IsLive v → ExtendsByPasses passes v.seen log
   pub right : IsLive v → (v.config ≡ c) × legal c (entries v.seen)
   pub mine : 0 < v.number → places v.number log ≡ places v.number v.seen
-  pub heard : v.hears ≡ true → GoesOn passes v.told log × legal c (entries v.told) × (v.told_config ≡ c)
-  pub opens : IsLive v → GoesOn passes (unmade before) v.seen
+  pub heard : v.hears ≡ true → ExtendsByPasses passes v.told log × legal c (entries v.told) × (v.told_config ≡ c)
+  pub opens : IsLive v → ExtendsByPasses passes (unmade before) v.seen
 
 -- Where tickets have owners, a seat with a ticket is its only owner, and has all its entries, of which there is one.
 -- Where they have none, no seat has a ticket.
@@ -71,11 +71,11 @@ OwnsTicket owned owner log j v =
 
 module _ {M : Type 0} (config : M → ConfigNumbers) (history : M → Past) where
   -- the machine is this one's, with this history
-  abbrev pub IsAt : ConfigNumbers → Past → M → Type 0
-  IsAt c past m = (config m ≡ c) × (history m ≡ past)
+  abbrev pub IsMachineAt : ConfigNumbers → Past → M → Type 0
+  IsMachineAt c past m = (config m ≡ c) × (history m ≡ past)
 
   abbrev pub AtHome : ConfigNumbers → SharedPast → State (Option M) View → Type 0
-  AtHome c log s = (m : M) × (get_elem? s.homes 0 ≡ some (some (Some m))) × IsAt c (entries log) m
+  AtHome c log s = (m : M) × (get_elem? s.homes 0 ≡ some (some (Some m))) × IsMachineAt c (entries log) m
 
 -- between any two steps
 pub record IsOneHistory {M : Type 0} (config : M → ConfigNumbers) (history : M → Past)
@@ -122,8 +122,8 @@ grown owned v e =
     }
 
 -- it gave the lock back
-abbrev pub shown : View → View
-shown v = record v { holds = false; held = []; hears = false; told = []; seen = v.held }
+abbrev pub view_given_back : View → View
+view_given_back v = record v { holds = false; held = []; hears = false; told = []; seen = v.held }
 
 -- the first seat gives out the next number
 abbrev pub gives_left : View → View

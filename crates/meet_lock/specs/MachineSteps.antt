@@ -8,7 +8,7 @@ use Rattle.nvme_model.specs.declared.entry.Entry.{Entry}
 use Rattle.nvme_model.specs.declared.step.Step.{Step}
 use Rattle.controller_steps.specs.declared.answer.Answer.{Answer}
 use Rattle.controller_steps.specs.declared.answer.Refused.{Refused}
-use Rattle.meet_lock.specs.Lock.{grown, shown}
+use Rattle.meet_lock.specs.Lock.{grown, view_given_back}
 use Rattle.meet_lock.specs.declared.view.View.{View}
 
 module _ {M : Type 0} where
@@ -24,4 +24,4 @@ module _ {M : Type 0} where
   -- it was refused: the history is as it was
   abbrev pub MadeNone : (ConfigNumbers → Past → Step → Refused → Type 0) → Step → Me (Option M) View
       → Me (Option M) View → Refused → Type 0
-  MadeNone refuses step m n r = (n ≡ (shown m.0, [])) × refuses m.0.config (entries m.0.held) step r
+  MadeNone refuses step m n r = (n ≡ (view_given_back m.0, [])) × refuses m.0.config (entries m.0.held) step r

@@ -9,7 +9,7 @@ use Rattle.nvme_model.specs.declared.entry.Entry.{Entry}
 use Rattle.nvme_model.specs.declared.step.Step.{Step}
 use Rattle.controller_steps.specs.declared.answer.Answer.{Answer}
 use Rattle.controller_steps.specs.declared.answer.Refused.{Refused}
-use Rattle.meet_lock.specs.Lock.{AreOfPasses, GoesOn, noted, unmade}
+use Rattle.meet_lock.specs.Lock.{AreOfPasses, ExtendsByPasses, noted, unmade}
 use Rattle.ticket_laws.specs.Entries.{ticket_in}
 use Rattle.meet_lock.specs.declared.pass.Declined.{Declined}
 use Rattle.meet_lock.specs.declared.pass.Pass.{Pass}
@@ -25,8 +25,8 @@ IsNotBusy (Err (Declined.Busy s)) = ⊥
 IsNotBusy (Err (Declined.Refused r)) = Unit {0}
 
 -- the view of the first seat before any number was given out
-abbrev pub IsFirst : ℕ → View → Type 0
-IsFirst passes v =
+abbrev pub IsFirstView : ℕ → View → Type 0
+IsFirstView passes v =
     (v.number ≡ passes) × (v.passes ≡ passes) × (v.top ≡ 0) × (v.holds ≡ false) × (v.ticket ≡ 0) × (v.its ≡ [])
 
 module _ {M : Type 0} where
@@ -72,7 +72,7 @@ module _ {M : Type 0} where
     pub ends : seen q ≡ noted (number p) entry ∷ before
     pub adds : mine q ≡ length (seen q) ∷ mine p
     pub says : accepts (config_of p) (entries before) step entry a
-    pub goes : GoesOn (passes_of p) (seen p) before
+    pub goes : ExtendsByPasses (passes_of p) (seen p) before
     pub alone : passes_of p ≡ 1 → before ≡ seen p
 
   -- Where another caller held the lock nothing has changed, and the step comes back. A refusal is the machine's at what
@@ -86,14 +86,14 @@ module _ {M : Type 0} where
     pub same : seen q1 ≡ seen q2
     pub right : legal (config_of q1) (entries (seen q1))
     pub both : legal (config_of q2) (entries (seen q2))
-    pub first : GoesOn (passes_of p1) (seen p1) (seen q1)
-    pub second : GoesOn (passes_of p2) (seen p2) (seen q2)
+    pub first : ExtendsByPasses (passes_of p1) (seen p1) (seen q1)
+    pub second : ExtendsByPasses (passes_of p2) (seen p2) (seen q2)
 
   -- what the passes had seen goes on to the history held, which has no entries of theirs that they haven't seen
   abbrev pub AllSaw : ℕ → SharedPast → List (Pass M) → Type 0
   AllSaw passes held [] = Unit {0}
   AllSaw passes held (p ∷ ps) =
-      (GoesOn passes (seen p) held × (places (number p) held ≡ mine p)) × AllSaw passes held ps
+      (ExtendsByPasses passes (seen p) held × (places (number p) held ≡ mine p)) × AllSaw passes held ps
 
   -- the history is what one of the passes has seen, and each has seen a beginning of it, with all its own entries
   pub record IsSeenWhole (ps : List (Pass M)) (past : Past) : Type 0 where
@@ -102,7 +102,7 @@ module _ {M : Type 0} where
     pub there : slice_get ps place ≡ Some pass
     pub whole : past ≡ entries (seen pass)
     pub all : (k : ℕ) (p : Pass M) → slice_get ps k ≡ Some p
-        → GoesOn (length ps) (seen p) (seen pass) × (places (number p) (seen pass) ≡ mine p)
+        → ExtendsByPasses (length ps) (seen p) (seen pass) × (places (number p) (seen pass) ≡ mine p)
 
   -- ---- passes that are given out
 
@@ -124,8 +124,8 @@ module _ {M : Type 0} where
       × (m.0.its ≡ [])
 
   -- the k-th pass has the number k + 1, and the view of the first seat else
-  abbrev pub AllNew : TableId → View → List (Pass M) → Type 0
-  AllNew z v ps = (k : ℕ) (p : Pass M) → slice_get ps k ≡ Some p
+  abbrev pub AreNewPasses : TableId → View → List (Pass M) → Type 0
+  AreNewPasses z v ps = (k : ℕ) (p : Pass M) → slice_get ps k ≡ Some p
       → (p.seat.table_id ≡ z)
       × (number p ≡ k + 1)
       × (passes_of p ≡ v.passes)
@@ -135,12 +135,12 @@ module _ {M : Type 0} where
   -- ---- the seats of messages
 
   -- what a message has seen
-  abbrev pub told : NoteSeat M → SharedPast
-  told m = m.seat.me.0.seen
+  abbrev pub message_seen : NoteSeat M → SharedPast
+  message_seen m = m.seat.me.0.seen
 
   -- the configuration that the maker of a message knew
-  abbrev pub told_config : NoteSeat M → ConfigNumbers
-  told_config m = m.seat.me.0.config
+  abbrev pub message_config : NoteSeat M → ConfigNumbers
+  message_config m = m.seat.me.0.config
 
   -- the ticket that it owns, or 0, that ticket's entries, and what it has seen
   abbrev pub owned_ticket : TicketSeat M → ℕ
@@ -181,8 +181,8 @@ module _ {M : Type 0} where
 
 module _ {M K : Type 0} where
   -- the pass is one of this lock
-  abbrev pub IsOf : Shared M K → Pass M → Type 0
-  IsOf s p = p.seat.table_id ≡ s.table.shared.table_id
+  abbrev pub IsPassOfLock : Shared M K → Pass M → Type 0
+  IsPassOfLock s p = p.seat.table_id ≡ s.table.shared.table_id
 
   -- what the machine had when the lock was made
   abbrev pub opening_of : (M → Past) → Shared M K → Past
@@ -198,7 +198,8 @@ module _ {M K : Type 0} where
 
   -- After an accepted step that names a queue: beside what `Accepted` says, the seat owns the ticket of that entry,
   -- whose one entry it is, and has seen what the pass has.
-  pub record Opened (accepts : ConfigNumbers → Past → Step → Entry → Answer → Type 0) (s : Shared M K) (p q : Pass M)
+  pub record OpensTicket (accepts : ConfigNumbers → Past → Step → Entry → Answer → Type 0)
+      (s : Shared M K) (p q : Pass M)
       (step : Step) (a : Answer) (w : TicketSeat M) : Type 0 where
     pub by : Accepted accepts p q step a
     pub of : IsTicketOf s w

@@ -6,7 +6,7 @@ use Rattle.nvme_model.specs.History.{Past}
 use Rattle.nvme_model.specs.Passes.{SharedPast, entries, places}
 use Rattle.nvme_model.specs.declared.config.ConfigNumbers.{ConfigNumbers}
 use Rattle.nvme_model.specs.declared.entry.Entry.{Entry}
-use Rattle.meet_lock.specs.Lock.{GoesOn, IsAt, grown, holding, informed, shown, unmade}
+use Rattle.meet_lock.specs.Lock.{ExtendsByPasses, IsMachineAt, grown, holding, informed, view_given_back, unmade}
 use Rattle.ticket_laws.specs.Entries.{of_ticket, ticket_in}
 use Rattle.meet_lock.specs.declared.view.View.{View}
 
@@ -22,17 +22,17 @@ MayTell owned v past e = owned ≡ true
 
 -- what was told and seen doesn't go beyond what it saw under the lock
 abbrev pub SawAll : View → Type 0
-SawAll v = v.hears ≡ true → GoesOn v.passes v.told v.held × (v.told_config ≡ v.config)
+SawAll v = v.hears ≡ true → ExtendsByPasses v.passes v.told v.held × (v.told_config ≡ v.config)
 
 module _ {M : Type 0} (config : M → ConfigNumbers) (history : M → Past) (legal : ConfigNumbers → Past → Type 0) where
   -- the seat has the lock, and the machine
-  pub record Holds (v : View) (n : Me (Option M) View) : Type 0 where
+  pub record HoldsLock (v : View) (n : Me (Option M) View) : Type 0 where
     pub log : SharedPast
     pub machine : M
     pub is : n ≡ (holding v log, (0, Some machine) ∷ [])
-    pub at : IsAt config history v.config (entries log) machine
+    pub at : IsMachineAt config history v.config (entries log) machine
     pub right : legal v.config (entries log)
-    pub begins : GoesOn v.passes v.seen log
+    pub begins : ExtendsByPasses v.passes v.seen log
     pub counted : (0 < v.number) × (v.number ≤ v.passes)
     pub mine : places v.number log ≡ places v.number v.seen
 
@@ -40,9 +40,9 @@ module _ {M : Type 0} (config : M → ConfigNumbers) (history : M → Past) (leg
   pub record Out (v : View) (machine : M) (n : Me (Option M) View) : Type 0 where
     pub log : SharedPast
     pub is : n ≡ (holding v log, (0, None) ∷ [])
-    pub at : IsAt config history v.config (entries log) machine
+    pub at : IsMachineAt config history v.config (entries log) machine
     pub right : legal v.config (entries log)
-    pub begins : GoesOn v.passes v.seen log
+    pub begins : ExtendsByPasses v.passes v.seen log
     pub counted : (0 < v.number) × (v.number ≤ v.passes)
     pub mine : places v.number log ≡ places v.number v.seen
 
@@ -51,7 +51,7 @@ module _ {M : Type 0} (config : M → ConfigNumbers) (history : M → Past) (leg
     pub entry : Entry
     pub out : m.1 ≡ (0, None) ∷ []
     pub holds : m.0.holds ≡ true
-    pub at : IsAt config history m.0.config (entry ∷ entries m.0.held) machine
+    pub at : IsMachineAt config history m.0.config (entry ∷ entries m.0.held) machine
     pub right : legal m.0.config (entry ∷ entries m.0.held)
     pub may : MayTell owned m.0 (entries m.0.held) entry
 
@@ -59,7 +59,7 @@ module _ {M : Type 0} (config : M → ConfigNumbers) (history : M → Past) (leg
   pub record OutSame (machine : M) (m : Me (Option M) View) : Type 0 where
     pub out : m.1 ≡ (0, None) ∷ []
     pub holds : m.0.holds ≡ true
-    pub at : IsAt config history m.0.config (entries m.0.held) machine
+    pub at : IsMachineAt config history m.0.config (entries m.0.held) machine
     pub right : legal m.0.config (entries m.0.held)
 
   -- the lock was not free
@@ -70,7 +70,7 @@ module _ {M : Type 0} (config : M → ConfigNumbers) (history : M → Past) (leg
 
   -- a compare-exchange of the lock word found r
   abbrev pub took : Step (Option M) → Me (Option M) View → ℕ → Me (Option M) View → Type 0
-  took st m r n = (r ≡ 0 → Holds m.0 n) × (r ≢ 0 → Missed m n)
+  took st m r n = (r ≡ 0 → HoldsLock m.0 n) × (r ≢ 0 → Missed m n)
 
 -- the lock was given back with a machine that has one entry more
 abbrev pub wrote : {M : Type 0} → (M → Past) → Bool → Step (Option M) → Me (Option M) View → ℕ → Me (Option M) View
@@ -83,8 +83,8 @@ wrote {M} history owned st m r n =
 
 module _ {M : Type 0} where
   -- it was given back with the same history
-  abbrev pub left : Step (Option M) → Me (Option M) View → ℕ → Me (Option M) View → Type 0
-  left st m r n = (n ≡ (shown m.0, [])) × SawAll m.0 × KnowsTicket n.0
+  abbrev pub gives_lock_back : Step (Option M) → Me (Option M) View → ℕ → Me (Option M) View → Type 0
+  gives_lock_back st m r n = (n ≡ (view_given_back m.0, [])) × SawAll m.0 × KnowsTicket n.0
 
   -- a load, after which the seat has seen what it was told
   abbrev pub looked : (ConfigNumbers → Past → Type 0) → Step (Option M) → Me (Option M) View → ℕ → Me (Option M) View
@@ -92,8 +92,8 @@ module _ {M : Type 0} where
   looked legal st m r n =
       (n ≡ (informed m.0, m.1))
       × (places n.0.number n.0.seen ≡ places m.0.number m.0.seen)
-      × GoesOn m.0.passes m.0.seen n.0.seen
-      × GoesOn m.0.passes m.0.told n.0.seen
+      × ExtendsByPasses m.0.passes m.0.seen n.0.seen
+      × ExtendsByPasses m.0.passes m.0.told n.0.seen
       × legal n.0.config (entries n.0.seen)
       × (m.0.told_config ≡ m.0.config)
 
@@ -101,7 +101,7 @@ module _ {M : Type 0} where
   abbrev pub recalled : (ConfigNumbers → Past → Type 0) → Past → Step (Option M) → Me (Option M) View → ℕ
       → Me (Option M) View → Type 0
   recalled legal before st m r n =
-      (n ≡ m) × legal m.0.config (entries m.0.seen) × GoesOn m.0.passes (unmade before) m.0.seen
+      (n ≡ m) × legal m.0.config (entries m.0.seen) × ExtendsByPasses m.0.passes (unmade before) m.0.seen
 
   -- a load of the seat that holds the lock: what it was told doesn't go beyond what it holds
   abbrev pub peeked : Step (Option M) → Me (Option M) View → ℕ → Me (Option M) View → Type 0

@@ -2,7 +2,7 @@
 
 ghost use Rattle.std.specs.Prelude.{◌≡◌, false, ℕ};
 ghost use Rattle.meet_lock.specs.Passes.{config_of, seen};
-ghost use Rattle.nvme_model.specs.Kept.{Kept};
+ghost use Rattle.nvme_model.specs.Kept.{ControllerInvariant};
 ghost use Rattle.nvme_model.specs.Laws.{is_held};
 ghost use Rattle.nvme_model.specs.Legal.{IsLegal};
 ghost use Rattle.nvme_model.specs.Medium.{medium};
@@ -18,7 +18,7 @@ use controller_steps::Machine;
 ///
 /// What is asked of the pass is what `new`, `attempt`, `meet` and `learn` ensure of it.
 pub fn what_a_pass_has_seen<M: Machine>(pass: &Pass<M>)
-    requires knows { Kept (config_of pass.now) (entries (seen pass.now)) }
+    requires knows { ControllerInvariant (config_of pass.now) (entries (seen pass.now)) }
     ensures legal { IsLegal (config_of pass.now) (entries (seen pass.now)) }
     ensures array { IsOneAtATime (config_of pass.now) (entries (seen pass.now)) }
     ensures volume { (l : ℕ) → is_held (entries (seen pass.now)) l ≡ false

@@ -1,8 +1,8 @@
 //! The rule of the lock, and what each of its steps tells.
 
-ghost use Rattle.meet_lock.specs.Lock.{IsOneHistory, start, gives_left, gives_right, message, message_held};
+ghost use Rattle.meet_lock.specs.Lock.{IsOneHistory, first_view, gives_left, gives_right, message, message_held};
 ghost use Rattle.meet_lock.specs.Lock.{hearing, spent, unladen, laden, lading};
-ghost use Rattle.meet_lock.specs.SeatSteps.{took, wrote, left, looked, peeked, recalled};
+ghost use Rattle.meet_lock.specs.SeatSteps.{took, wrote, gives_lock_back, looked, peeked, recalled};
 
 use crate::owner::StepRight;
 use crate::view::{Origin, Start, View};
@@ -19,7 +19,7 @@ impl<M: Machine, K: StepRight> TableRule<Option<M>, View, Start<M>> for Lock<M, 
     ghost holds = { λ key. IsOneHistory M.config M.history M.legal K.owned (M.config key.machine.value) key.passes
         (M.history key.machine.value) };
 
-    ghost first = { λ key. start (M.config key.machine.value) key.passes (M.history key.machine.value) };
+    ghost first = { λ key. first_view (M.config key.machine.value) key.passes (M.history key.machine.value) };
 }
 
 pub(crate) struct Take<M> {
@@ -46,7 +46,7 @@ pub(crate) struct Leave<M> {
 }
 
 impl<M: Machine> Play<Option<M>, View> for Leave<M> {
-    ghost then = { left };
+    ghost then = { gives_lock_back };
 }
 
 /// A seat that took in a message looks.

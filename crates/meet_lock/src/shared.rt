@@ -22,7 +22,7 @@ use controller_steps::Machine;
 use std::alloc::{AllocError as NoMemory, Global};
 use std::snapshot::Snapshot;
 
-pub(crate) type Place<M> = Seat<Option<M>, View>;
+pub(crate) type SeatPlace<M> = Seat<Option<M>, View>;
 
 /// A machine that callers share. One word is its lock.
 ///
@@ -35,7 +35,8 @@ pub struct Shared<M: Machine, K: StepRight = AnyPass> {
 }
 
 impl<M: Machine, K: StepRight> Shared<M, K> {
-    ghost use Rattle.meet_lock.specs.Passes.{AllNew, IsFirst, IsNew, IsOf, config_of, mine, number, opening_of};
+    ghost use Rattle.meet_lock.specs.Passes.{AreNewPasses, IsFirstView, IsNew, IsPassOfLock, config_of, mine, number};
+    ghost use Rattle.meet_lock.specs.Passes.{opening_of};
     ghost use Rattle.meet_lock.specs.Passes.{passes_of, seen};
     ghost use Rattle.meet_lock.specs.declared.pass.Pass.{Pass};
 
@@ -53,9 +54,9 @@ impl<M: Machine, K: StepRight> Shared<M, K> {
         requires some { 0 < passes }
         requires legal { M.legal (M.config machine) (M.history machine) }
         ensures count { IfOk result (λ s. vec_len s.1 ≡ passes) }
-        ensures own { IfOk result (λ s. All (IsOf s.0) s.1.items) }
+        ensures own { IfOk result (λ s. All (IsPassOfLock s.0) s.1.items) }
         ensures each { IfOk result (λ s. (k : ℕ) (p : Pass M) → slice_get s.1.items k ≡ Some p
-            → IsOf s.0 p × IsNew passes (M.config machine) (M.history machine) (k + 1) p) }
+            → IsPassOfLock s.0 p × IsNew passes (M.config machine) (M.history machine) (k + 1) p) }
         ensures knows { IfOk result (λ s. (k : ℕ) (p : Pass M) → slice_get s.1.items k ≡ Some p
             → M.legal (config_of p) (entries (seen p))) }
         ensures opening { IfOk result (λ s. opening_of M.history s.0 ≡ M.history machine) }
@@ -86,13 +87,13 @@ impl<M: Machine, K: StepRight> Shared<M, K> {
     }
 
     // Gives out the numbers in order. The first seat has the last one.
-    fn deal(&self, mut first: Place<M>, passes: usize, given: &mut Vec<Pass<M>>)
+    fn deal(&self, mut first: SeatPlace<M>, passes: usize, given: &mut Vec<Pass<M>>)
         requires own { (first.table_id ≡ self.now.table.shared.table_id) × (first.id ≡ 0) × (first.me.1 ≡ []) }
-        requires fresh { (0 < passes) × IsFirst passes first.me.0 }
+        requires fresh { (0 < passes) × IsFirstView passes first.me.0 }
         requires room { (given.old.items ≡ []) × (passes ≤ vec_capacity given.old) }
         ensures count { vec_len given.new ≡ passes }
         ensures own { All (λ p. p.seat.table_id ≡ first.table_id) given.new.items }
-        ensures new { AllNew first.table_id first.me.0 given.new.items }
+        ensures new { AreNewPasses first.table_id first.me.0 given.new.items }
     {
         for _k in 1..passes {
             given.push_reserved(Pass::of(self.table.shared.split_seat::<Give>(&mut first)));
@@ -102,7 +103,7 @@ impl<M: Machine, K: StepRight> Shared<M, K> {
 
     /// The machine, where no pass had the lock.
     pub fn close(self, pass: Pass<M>) -> Option<M>
-        requires { IsOf self pass }
+        requires { IsPassOfLock self pass }
         ensures config { IfSome result (λ m. M.config m ≡ config_of pass) }
         ensures legal { IfSome result (λ m. M.legal (M.config m) (M.history m)) }
         ensures begins { IfSome result (λ m. (whole : SharedPast) × (M.history m ≡ entries whole)

@@ -5,12 +5,12 @@ use Rattle.std.proofs.Common.{ltb-false}
 use Rattle.std.proofs.lemmas.Bool.{and_parts, cases_Bool}
 use Rattle.nvme_model.specs.declared.config.AtomicParameters.{AtomicParameters}
 use Rattle.nvme_model.specs.declared.config.ConfigNumbers.{ConfigNumbers}
-use Rattle.nvme_model.specs.EntryBytes.{Sqe, sqe_fields, slba, blocks}
+use Rattle.nvme_model.specs.EntryBytes.{Sqe, sqe_fields, slba, block_count}
 use Rattle.nvme_model.specs.Commands.{is_flush, is_write, is_read, is_compare, is_write_zeroes, data_length}
 use Rattle.nvme_model.specs.Statuses.{missing_fused}
 use Rattle.nvme_model.specs.Cells.{pair_fits}
 use Rattle.nvme_model.specs.Verdict.{Item, item_of, command_faults, pair_faults, command_fault, pair_fault, of_command}
-use Rattle.nvme_model.specs.Verdict.{of_pair, pair_verdict, verdict_of, taken, same_verdict}
+use Rattle.nvme_model.specs.Verdict.{of_pair, pair_verdict, verdict_of, taken_entries, same_verdict}
 use Rattle.nvme_model.specs.History.{Past}
 use Rattle.nvme_model.specs.Queues.{waiting}
 use Rattle.nvme_model.specs.Tickets
@@ -29,8 +29,8 @@ use Rattle.nvme_model.proofs.Written.{clash}
 
 -- its range lies in the volume, it is not too long, and its data has its length
 pub record Checked (size : ℕ) (i : Item) : Type 0 where
-  pub inside : slba i.fields + blocks i.fields ≤ size
-  pub few : blocks i.fields ≤ 256
+  pub inside : slba i.fields + block_count i.fields ≤ size
+  pub few : block_count i.fields ≤ 256
   pub payload : i.length ≡ data_length i.fields
 
 op_not_flush : (e : Sqe) → is_some (op_of_fields e) ≡ true → is_flush e ≡ false
@@ -80,8 +80,8 @@ pub record PairChecked (u : AtomicParameters) (size : ℕ) (i j : Item) : Type 0
   pub first : Checked size i
   pub second : Checked size j
   pub start : slba i.fields ≡ slba j.fields
-  pub length : blocks i.fields ≡ blocks j.fields
-  pub fits : pair_fits u (slba i.fields) (blocks i.fields) ≡ true
+  pub length : block_count i.fields ≡ block_count j.fields
+  pub fits : pair_fits u (slba i.fields) (block_count i.fields) ≡ true
 
 none_of : (o : Option Status) → is_some o ≡ false → o ≡ None
 none_of None q = refl
@@ -221,7 +221,7 @@ fields_not_pair e = go (is_write e) (is_read e) (is_compare e) (is_write_zeroes 
 
 by_verdict : (c : ConfigNumbers) (in_use : List ℕ) (q : ℕ) (ws : List Submission) (v : Verdict)
     → same_verdict v (verdict_of c.atomic c.blocks in_use (map item_of ws)) ≡ true
-    → IsChecked c (record { queue = q; commands = take (taken v) ws; verdict = v })
+    → IsChecked c (record { queue = q; commands = take (taken_entries v) ws; verdict = v })
 by_verdict c in_use q ws (Verdict.SingleFailed s) e h = clash false h refl
 by_verdict c in_use q ws (Verdict.PairFailed s r) e h = clash false h refl
 by_verdict c in_use q [] Verdict.Single e h = clash false h refl
@@ -236,7 +236,11 @@ by_verdict c in_use q ws Verdict.Pair e h =
     go ws (pair_at c.atomic c.blocks in_use (map item_of ws) (ap is_passed_pair (pair_is _ e)))
   where
     go : (ws : List Submission) → PairAt c.atomic c.blocks (map item_of ws)
-        → TicketChecked c (record { queue = q; commands = take (taken Verdict.Pair) ws; verdict = Verdict.Pair })
+        → TicketChecked c (record {
+          queue = q;
+          commands = take (taken_entries Verdict.Pair) ws;
+          verdict = Verdict.Pair;
+        })
     go [] p = absurd p
     go (first ∷ []) p = absurd p
     go (first ∷ (second ∷ rest)) p = record { first = p.first; pair = λ x. p }

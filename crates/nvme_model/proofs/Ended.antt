@@ -6,7 +6,7 @@ use Rattle.std.specs.List.{list_any, filter, find}
 use Rattle.std.proofs.lemmas.Bool.{and_parts, and_from, or_left, or_right, or_cases, cond-true, cases_eq}
 use Rattle.nvme_model.specs.declared.config.AtomicParameters.{AtomicParameters}
 use Rattle.nvme_model.specs.declared.config.ConfigNumbers.{ConfigNumbers}
-use Rattle.nvme_model.specs.EntryBytes.{slba, blocks}
+use Rattle.nvme_model.specs.EntryBytes.{slba, block_count}
 use Rattle.nvme_model.specs.Tickets
 use Rattle.nvme_model.specs.History.{Past}
 use Rattle.nvme_model.specs.Tickets.{Ticket, first_fields}
@@ -46,7 +46,7 @@ granted_op c (Entry.Fetch f ∷ past) h =
     (each_both _ _ (granted past) (granted_facts c past before) (granted_op c past before))
 granted_op c (Entry.Grant g ∷ past) h =
     let k = Tickets.ticket past g.ticket in (
-      units_op c.atomic (op k) (slba (first_fields k)) (blocks (first_fields k)) (grants_of past g.ticket) g.range
+      units_op c.atomic (op k) (slba (first_fields k)) (block_count (first_fields k)) (grants_of past g.ticket) g.range
           (may_grant c past g h).range,
       granted_op c past (follows c past (Entry.Grant g) h).before,
     )

@@ -5,15 +5,15 @@ use Rattle.std.proofs.Common.{eq-eqb, eqb, eqb-true, nat_le, leb-true, le-leb, s
 use Rattle.std.specs.List.{list_any, list_all, filter}
 use Rattle.std.proofs.lemmas.Bool.{and_parts, or_parts, or_left, or_right, or_cases, cond-false, cases_Bool, cases_lt}
 use Rattle.nvme_model.specs.declared.config.ConfigNumbers.{ConfigNumbers}
-use Rattle.nvme_model.specs.EntryBytes.{slba, blocks}
+use Rattle.nvme_model.specs.EntryBytes.{slba, block_count}
 use Rattle.nvme_model.specs.Verdict.{passed}
 use Rattle.nvme_model.specs.History.{Past}
 use Rattle.nvme_model.specs.Tickets
-use Rattle.nvme_model.specs.Tickets.{Ticket, numbers, posts_of, in_flight, first_fields}
+use Rattle.nvme_model.specs.Tickets.{Ticket, numbers_down, posts_of, in_flight, first_fields}
 use Rattle.nvme_model.specs.Operations.{op, op_by, units, units_by}
 use Rattle.nvme_model.specs.Open.{granted, grants_of, blocks_made, is_differs, steps_needed, has_ended, open_units}
 use Rattle.nvme_model.specs.Open.{differed}
-use Rattle.nvme_model.specs.Owed.{numbered, all_ended}
+use Rattle.nvme_model.specs.Owed.{numbered_units, all_ended}
 use Rattle.nvme_model.specs.Refusals.{has_open, none_left, is_flush_ticket, owes_nothing_yet}
 use Rattle.nvme_model.specs.Legal.{IsLegal}
 use Rattle.nvme_model.specs.declared.array.Range.{Range}
@@ -175,20 +175,23 @@ idle_finished c past t h e =
           (ap (λ (i : ℕ). is_some (op (Tickets.ticket past i))) (eqb-true x.ticket t q) ∙ ap is_some e)))
           (granted past) (granted_op c past h));
       left = or_left _ _ (ap (λ (o : Option Op).
-          nat_le (length (units_by c.atomic o (slba (first_fields k)) (blocks (first_fields k)))) (grants_of past t)) e
+          nat_le (length (units_by c.atomic o (slba (first_fields k)) (block_count (first_fields k))))
+          (grants_of past t)) e
           ∙ le-leb 0 (grants_of past t) (omega arith));
     }
 
-pub all_numbered : (p : ℕ × Range → Bool) (v i j : ℕ) (r : Range) (rs : List Range) → list_all p (numbered v rs) ≡ true
+pub all_numbered : (p : ℕ × Range → Bool) (v i j : ℕ) (r : Range) (rs : List Range)
+    → list_all p (numbered_units v rs) ≡ true
     → slice_get rs i ≡ Some r → j ≡ v + i → p (j, r) ≡ true
 all_numbered p v i j r [] h e m = absurd (let f : None ≡ Some r = e in cc)
 all_numbered p v zero j r (s ∷ rs) h e m =
-    here j v (omega (arith, m)) (same_range s r e) (and_parts (p (v, s)) (list_all p (numbered (suc v) rs)) h).0
+    here j v (omega (arith, m)) (same_range s r e) (and_parts (p (v, s)) (list_all p (numbered_units (suc v) rs)) h).0
   where
     here : (j v : ℕ) → v ≡ j → s ≡ r → p (v, s) ≡ true → p (j, r) ≡ true
     here j v a b q = sym (ap₂ (λ (x : ℕ) (y : Range). p (x, y)) a b) ∙ q
 all_numbered p v (suc i) j r (s ∷ rs) h e m =
-    all_numbered p (suc v) i j r rs (and_parts (p (v, s)) (list_all p (numbered (suc v) rs)) h).1 e (omega (arith, m))
+    all_numbered p (suc v) i j r rs (and_parts (p (v, s)) (list_all p (numbered_units (suc v) rs)) h).1 e
+    (omega (arith, m))
 
 ended_some : (past : Past) (t u n : ℕ) → 1 ≤ n → has_ended past t u n ≡ true → 1 ≤ length (blocks_made past t u)
 ended_some past t u n l h = go (or_cases _ _ h)
@@ -228,7 +231,7 @@ ended_finished c past t h e =
     all_granted = elim (cases_lt (grants_of past t) (length (units c k))) [
       | inl l ↦ let r = some_at (units c k) (grants_of past t) l in
           let n = each_get (λ s. 1 ≤ s.blocks) (units c k) (grants_of past t) r.0
-          (units_some c.atomic (op k) (slba (first_fields k)) (blocks (first_fields k)) (omega arith)) r.1 in
+          (units_some c.atomic (op k) (slba (first_fields k)) (block_count (first_fields k)) (omega arith)) r.1 in
           absurd (omega (
             arith,
             unit_of_blocks c past t (grants_of past t) h

@@ -6,7 +6,7 @@ use Rattle.std.specs.List.{filter, find}
 use Rattle.std.proofs.lemmas.Bool.{and_from, and_left, and_right, cond-true, cond-false, cases_Bool}
 use Rattle.nvme_model.specs.declared.config.AtomicParameters.{AtomicParameters}
 use Rattle.nvme_model.specs.declared.config.ConfigNumbers.{ConfigNumbers}
-use Rattle.nvme_model.specs.EntryBytes.{slba, blocks}
+use Rattle.nvme_model.specs.EntryBytes.{slba, block_count}
 use Rattle.nvme_model.specs.Cut.{cut_within, longest}
 use Rattle.nvme_model.specs.History.{Past}
 use Rattle.nvme_model.specs.Tickets.{Ticket, ticket, tickets, first_fields}
@@ -59,7 +59,7 @@ new_grant c past g h =
     record {
       mode = m.same_mode ∙ mode_writes (has_write (op k));
       some = each_get (λ r. 1 ≤ r.blocks) (units c k) (grants_of past g.ticket) g.range
-          (units_some c.atomic (op k) (slba (first_fields k)) (blocks (first_fields k)) (omega arith)) m.range;
+          (units_some c.atomic (op k) (slba (first_fields k)) (block_count (first_fields k)) (omega arith)) m.range;
       range = ap range_of (cond-true (eqb g.ticket g.ticket && eqb g.unit g.unit) (Some g)
           (find (λ x. eqb x.ticket g.ticket && eqb x.unit g.unit) (granted past)) (and_from _ _ same_t same_u));
       number = grants_more (eqb g.ticket g.ticket) same_t m.unit;

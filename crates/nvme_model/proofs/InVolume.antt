@@ -3,7 +3,7 @@ use Rattle.std.proofs.Common.{◌≡◌, ℕ, zero, suc, ◌+◌, ◌-◌, ◌�
 use Rattle.nvme_model.specs.declared.config.AtomicParameters.{AtomicParameters}
 use Rattle.nvme_model.specs.declared.config.ConfigNumbers.{ConfigNumbers}
 use Rattle.nvme_model.specs.Cut.{cut_within, longest}
-use Rattle.nvme_model.specs.EntryBytes.{slba, blocks}
+use Rattle.nvme_model.specs.EntryBytes.{slba, block_count}
 use Rattle.nvme_model.specs.History.{Past}
 use Rattle.nvme_model.specs.Tickets
 use Rattle.nvme_model.specs.Tickets.{Ticket, first_fields, fetched_ticket, cids_in_use}
@@ -48,13 +48,14 @@ units_in_volume c past h =
     (each_both _ _ (granted past) (unit_at c past h) (granted_op c past h))
   where
     inside : (g : GrantLine) → slice_get (units c (Tickets.ticket past g.ticket)) g.unit ≡ Some g.range
-        → slba (first_fields (Tickets.ticket past g.ticket)) + blocks (first_fields (Tickets.ticket past g.ticket))
+        → slba (first_fields (Tickets.ticket past g.ticket)) + block_count
+        (first_fields (Tickets.ticket past g.ticket))
         ≤ c.blocks → g.range.slba + g.range.blocks ≤ c.blocks
     inside g e l =
         let k = Tickets.ticket past g.ticket in
         omega (
           arith,
           l,
-          each_get (λ r. r.slba + r.blocks ≤ slba (first_fields k) + blocks (first_fields k)) (units c k)
-              g.unit g.range (units_inside c.atomic (op k) (slba (first_fields k)) (blocks (first_fields k))) e,
+          each_get (λ r. r.slba + r.blocks ≤ slba (first_fields k) + block_count (first_fields k)) (units c k)
+              g.unit g.range (units_inside c.atomic (op k) (slba (first_fields k)) (block_count (first_fields k))) e,
         )

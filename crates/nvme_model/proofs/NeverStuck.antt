@@ -11,11 +11,11 @@ use Rattle.nvme_model.specs.declared.config.ConfigNumbers.{ConfigNumbers}
 use Rattle.nvme_model.specs.Verdict.{passed}
 use Rattle.nvme_model.specs.History.{Past}
 use Rattle.nvme_model.specs.Tickets
-use Rattle.nvme_model.specs.Tickets.{Ticket, numbers, posts_of, in_flight, first_fields}
+use Rattle.nvme_model.specs.Tickets.{Ticket, numbers_down, posts_of, in_flight, first_fields}
 use Rattle.nvme_model.specs.Operations.{op, units, mode}
 use Rattle.nvme_model.specs.Completions.{posted_completions, reaped_count}
 use Rattle.nvme_model.specs.Open.{granted, grants_of, has_ended, open_units, differed}
-use Rattle.nvme_model.specs.Owed.{numbered, all_ended}
+use Rattle.nvme_model.specs.Owed.{numbered_units, all_ended}
 use Rattle.nvme_model.specs.Refusals.{has_open, next_unit, none_left, conflicts_open, is_flush_ticket, owes_nothing_yet}
 use Rattle.nvme_model.specs.Refusals.{refusal}
 use Rattle.nvme_model.specs.Steps.{is_ready, next_steps, ready}
@@ -108,7 +108,7 @@ each_reverse P (x ∷ xs) h =
     let a = each_append P (reverse xs) (x ∷ []) (subst (λ (ys : List _). Each P ys) (reverse-append (x ∷ []) xs) h) in
     (a.1.0, each_reverse P xs a.0)
 
-each_number : (P : ℕ → Type 0) (n t : ℕ) → 1 ≤ t → t ≤ n → Each P (numbers n) → P t
+each_number : (P : ℕ → Type 0) (n t : ℕ) → 1 ≤ t → t ≤ n → Each P (numbers_down n) → P t
 each_number P zero t l m h = absurd (omega (arith, l, m))
 each_number P (suc n) t l m h = elim (cases_eq t (suc n)) [
   | inl e ↦ subst P (sym e) h.0
@@ -141,8 +141,8 @@ none_ready : (c : ConfigNumbers) (past : Past) (t : ℕ) → IsLegal c past → 
     → NoneReady c past t
 none_ready c past t h r i =
     let steps = λ (u : ℕ). Step.Grant u ∷ Step.Block u ∷ Step.Post u ∷ [] in
-    let all = each_reverse (λ u. Each (λ s. is_ready c past s ≡ false) (steps u)) (numbers (Tickets.tickets past))
-    (each_flat (λ s. is_ready c past s ≡ false) steps (reverse (numbers (Tickets.tickets past)))
+    let all = each_reverse (λ u. Each (λ s. is_ready c past s ≡ false) (steps u)) (numbers_down (Tickets.tickets past))
+    (each_flat (λ s. is_ready c past s ≡ false) steps (reverse (numbers_down (Tickets.tickets past)))
     (find_none (is_ready c past) (next_steps past) r)) in
     let some : 1 ≤ t = elim (cases_eq t 0) [
       | inl e ↦ absurd (omega (
@@ -210,7 +210,7 @@ all_have_ended c past t h e l =
     (λ i j r a m d. ended j r (ap (slice_get (units c (Tickets.ticket past t))) (same_place j i m) ∙ a))
     (all_true 0 (units c (Tickets.ticket past t)))
   where
-    all_true : (v : ℕ) (rs : List Range) → list_all (λ (u : ℕ × Range). true) (numbered v rs) ≡ true
+    all_true : (v : ℕ) (rs : List Range) → list_all (λ (u : ℕ × Range). true) (numbered_units v rs) ≡ true
     all_true v [] = refl
     all_true v (r ∷ rs) = all_true (suc v) rs
 

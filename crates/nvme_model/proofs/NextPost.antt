@@ -8,8 +8,8 @@ use Rattle.std.specs.List.{list_any, list_all}
 use Rattle.std.proofs.lemmas.Bool.{and_parts, and_from, or_parts, or_left, or_right, or_cases, cond-false, cases_Bool}
 use Rattle.std.proofs.lemmas.Bool.{cases_lt}
 use Rattle.nvme_model.specs.declared.config.ConfigNumbers.{ConfigNumbers}
-use Rattle.nvme_model.specs.EntryBytes.{slba, blocks, Sqe}
-use Rattle.nvme_model.specs.Verdict.{taken, passed}
+use Rattle.nvme_model.specs.EntryBytes.{slba, block_count, Sqe}
+use Rattle.nvme_model.specs.Verdict.{taken_entries, passed}
 use Rattle.nvme_model.specs.Statuses.{success, compare_failure, failed_fused}
 use Rattle.nvme_model.specs.Commands.{is_write, is_read, is_compare, is_write_zeroes}
 use Rattle.nvme_model.specs.Open
@@ -21,7 +21,8 @@ use Rattle.nvme_model.specs.Open.{granted, grants_of, blocks_made, has_ended, is
 use Rattle.nvme_model.specs.Queues.{waiting}
 use Rattle.nvme_model.specs.Placed.{effect}
 use Rattle.nvme_model.specs.Answered.{says_no, no_at, may_find}
-use Rattle.nvme_model.specs.Owed.{owed, owed_after, owed_by, numbered, all_ended, all_done, some_no, completion_data}
+use Rattle.nvme_model.specs.Owed.{owed, owed_after, owed_by, numbered_units, all_ended, all_done, some_no}
+use Rattle.nvme_model.specs.Owed.{completion_data}
 use Rattle.nvme_model.specs.Completions.{completion}
 use Rattle.nvme_model.specs.Refusals.{refusal, conditions, owes_nothing_yet, is_flush_ticket}
 use Rattle.nvme_model.specs.Steps.{post_entry, next_entry, marked}
@@ -52,14 +53,14 @@ use Rattle.nvme_model.proofs.Effects.{not_both}
 
 -- no ticket has more commands than its verdict takes
 pub commands_few : (past : Past) (t : ℕ)
-    → length (Tickets.ticket past t).commands ≤ taken (Tickets.ticket past t).verdict
+    → length (Tickets.ticket past t).commands ≤ taken_entries (Tickets.ticket past t).verdict
 commands_few [] t = omega arith
 commands_few (Entry.Fetch f ∷ past) t = go (eqb f.ticket t) (commands_few past t)
   where
-    go : (b : Bool) → length (Tickets.ticket past t).commands ≤ taken (Tickets.ticket past t).verdict
+    go : (b : Bool) → length (Tickets.ticket past t).commands ≤ taken_entries (Tickets.ticket past t).verdict
         → length (cond b (fetched_ticket past f.queue f.verdict) (Tickets.ticket past t)).commands
-        ≤ taken (cond b (fetched_ticket past f.queue f.verdict) (Tickets.ticket past t)).verdict
-    go true ih = rw (length-take (taken f.verdict) (waiting past f.queue)) (omega arith)
+        ≤ taken_entries (cond b (fetched_ticket past f.queue f.verdict) (Tickets.ticket past t)).verdict
+    go true ih = rw (length-take (taken_entries f.verdict) (waiting past f.queue)) (omega arith)
     go false ih = ih
 commands_few (e ∷ past) t = commands_few past t
 
@@ -139,10 +140,10 @@ unit_effect c past t u r h k e o d =
 
 pub numbered_all : (p q : ℕ × Range → Bool) (v : ℕ) (rs : List Range)
     → ((i j : ℕ) (r : Range) → slice_get rs i ≡ Some r → j ≡ v + i → p (j, r) ≡ true → q (j, r) ≡ true)
-    → list_all p (numbered v rs) ≡ true → list_all q (numbered v rs) ≡ true
+    → list_all p (numbered_units v rs) ≡ true → list_all q (numbered_units v rs) ≡ true
 numbered_all p q v [] f h = refl
 numbered_all p q v (r ∷ rs) f h =
-    let a = and_parts (p (v, r)) (list_all p (numbered (suc v) rs)) h in
+    let a = and_parts (p (v, r)) (list_all p (numbered_units (suc v) rs)) h in
     and_from _ _ (f 0 v r refl (omega arith) a.0)
     (numbered_all p q (suc v) rs (λ i j s e m. f (suc i) j s e (omega (arith, m))) a.1)
 
@@ -160,7 +161,7 @@ all_done_if c past t h k e =
     (ap (slice_get (units c (Tickets.ticket past t))) (same_place j i m) ∙ a)
     (each_get (λ s. 1 ≤ s.blocks) (units c (Tickets.ticket past t)) i r
     (units_some c.atomic (op (Tickets.ticket past t)) (slba (first_fields (Tickets.ticket past t)))
-    (blocks (first_fields (Tickets.ticket past t))) (omega arith)) a) d) e)
+    (block_count (first_fields (Tickets.ticket past t))) (omega arith)) a) d) e)
 
 -- ---- a `differs` is a no
 
@@ -268,7 +269,7 @@ no_kept c (Entry.Block b ∷ past) t u h k =
 no_kept c (e ∷ past) t u h k = no_kept c past t u (follows c past e h).before k
 
 numbered_any : (p : ℕ × Range → Bool) (v i j : ℕ) (r : Range) (rs : List Range) → slice_get rs i ≡ Some r → j ≡ v + i
-    → p (j, r) ≡ true → list_any p (numbered v rs) ≡ true
+    → p (j, r) ≡ true → list_any p (numbered_units v rs) ≡ true
 numbered_any p v i j r [] e m h = absurd (let f : None ≡ Some r = e in cc)
 numbered_any p v zero j r (s ∷ rs) e m h = or_left _ _ (here j v (omega (arith, m)) (same_range s r e) ∙ h)
   where
@@ -353,12 +354,12 @@ lone c past t p h d =
     let u = differs_unit past t d in
     let x = granted_unit c past t u.0 h (unit_of_blocks c past t u.0 h (some_made _ u.1)) in
     let k = Tickets.ticket past t in
-    let n = blocks (first_fields k) in
+    let n = block_count (first_fields k) in
     let same : units c k ≡ record { slba = slba (first_fields k); blocks = n } ∷ [] =
     ap (λ (o : Option Op). units_by c.atomic o (slba (first_fields k)) n) p in
     let first = first_only u.0 x.0.range (record { slba = slba (first_fields k); blocks = n })
     (ap (λ (rs : List Range). slice_get rs u.0) (sym same) ∙ x.1.at) in
-    subst (λ (rs : List Range). list_all (λ i. has_ended past t i.0 i.1.blocks) (numbered 0 rs) ≡ true) (sym same)
+    subst (λ (rs : List Range). list_all (λ i. has_ended past t i.0 i.1.blocks) (numbered_units 0 rs) ≡ true) (sym same)
     (and_from _ _ (or_right (nat_le (Open.steps_needed k n) (length (blocks_made past t 0))) _
     (subst (λ (i : ℕ). list_any (λ b. is_differs b.found) (blocks_made past t i) ≡ true) first u.1)) refl)
   where
@@ -379,7 +380,7 @@ pair_owed c past t p h k (inr d) =
 -- where something is owed all is
 pub owed_long : (c : ConfigNumbers) (past : Past) (t : ℕ) (v : Verdict) → (Tickets.ticket past t).verdict ≡ v
     → IsLegal c past → MarkedRight past → owes_nothing_yet c past t ≡ false
-    → taken v ≤ length (owed_after c past t (Tickets.ticket past t) v)
+    → taken_entries v ≤ length (owed_after c past t (Tickets.ticket past t) v)
 owed_long c past t (Verdict.SingleFailed s) e h k n = omega arith
 owed_long c past t (Verdict.PairFailed s r) e h k n = omega arith
 owed_long c past t Verdict.Single e h k n =

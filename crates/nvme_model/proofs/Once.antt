@@ -12,7 +12,7 @@ use Rattle.nvme_model.specs.Operations.{op, units}
 use Rattle.nvme_model.specs.Open.{unit_range}
 use Rattle.nvme_model.specs.Placed.{effect, effects_of, may_be_effect}
 use Rattle.nvme_model.specs.Answered.{no_at, says_no}
-use Rattle.nvme_model.specs.Owed.{numbered, some_no, all_done, all_ended}
+use Rattle.nvme_model.specs.Owed.{numbered_units, some_no, all_done, all_ended}
 use Rattle.nvme_model.specs.Legal.{IsLegal, block_fits}
 use Rattle.nvme_model.specs.declared.array.Range.{Range}
 use Rattle.nvme_model.specs.declared.entry.GrantLine.{GrantLine}
@@ -115,18 +115,19 @@ units_before c past t u (suc v) h l e =
 
 -- ---- a ticket that has posted
 
-some_unit : (p : ℕ → Bool) (v : ℕ) (rs : List Range) → list_any (λ x. p x.0) (numbered v rs) ≡ true
+some_unit : (p : ℕ → Bool) (v : ℕ) (rs : List Range) → list_any (λ x. p x.0) (numbered_units v rs) ≡ true
     → (w : ℕ) × (p w ≡ true)
 some_unit p v [] e = clash false e refl
 some_unit p v (r ∷ rs) e =
-    go (or_cases (p v) (list_any (λ x. p x.0) (numbered (suc v) rs)) e) (λ d. some_unit p (suc v) rs d)
+    go (or_cases (p v) (list_any (λ x. p x.0) (numbered_units (suc v) rs)) e) (λ d. some_unit p (suc v) rs d)
   where
-    go : (p v ≡ true) ⊎ (list_any (λ x. p x.0) (numbered (suc v) rs) ≡ true)
-        → (list_any (λ x. p x.0) (numbered (suc v) rs) ≡ true → (w : ℕ) × (p w ≡ true)) → (w : ℕ) × (p w ≡ true)
+    go : (p v ≡ true) ⊎ (list_any (λ x. p x.0) (numbered_units (suc v) rs) ≡ true)
+        → (list_any (λ x. p x.0) (numbered_units (suc v) rs) ≡ true → (w : ℕ) × (p w ≡ true)) → (w : ℕ) × (p w ≡ true)
     go (inl d) ih = (v, d)
     go (inr d) ih = ih d
 
-each_unit : (p : ℕ → Bool) (v u : ℕ) (rs : List Range) → list_all (λ x. p x.0) (numbered v rs) ≡ true → u < length rs
+each_unit : (p : ℕ → Bool) (v u : ℕ) (rs : List Range) → list_all (λ x. p x.0) (numbered_units v rs) ≡ true
+    → u < length rs
     → p (v + u) ≡ true
 each_unit p v u [] e l = absurd (omega (arith, l))
 each_unit p v zero (r ∷ rs) e l = let d : v ≡ v + 0 = omega arith in
@@ -134,7 +135,7 @@ each_unit p v zero (r ∷ rs) e l = let d : v ≡ v + 0 = omega arith in
 each_unit p v (suc u) (r ∷ rs) e l =
     let d : suc v + u ≡ v + suc u = omega arith in
     subst (λ (i : ℕ). p i ≡ true) d
-    (each_unit p (suc v) u rs (and_parts (p v) (list_all (λ x. p x.0) (numbered (suc v) rs)) e).1
+    (each_unit p (suc v) u rs (and_parts (p v) (list_all (λ x. p x.0) (numbered_units (suc v) rs)) e).1
     (omega (arith, l)))
 
 no_has_effect : (o : Option Past) (k : Ticket) (r : Range) → no_at o k r ≡ true → is_some o ≡ true

@@ -17,9 +17,10 @@ use Rattle.nvme_model.specs.Open.{unit_range, grants_of}
 use Rattle.nvme_model.specs.Value.{value, all_equal}
 use Rattle.nvme_model.specs.Placed.{effect}
 use Rattle.nvme_model.specs.Answered.{no_at, says_no}
-use Rattle.nvme_model.specs.Owed.{owed, owed_after, owed_by, numbered, units_of, all_ended, all_done, some_no}
+use Rattle.nvme_model.specs.Owed.{owed, owed_after, owed_by, numbered_units, units_of, all_ended, all_done, some_no}
 use Rattle.nvme_model.specs.Owed.{contents_at, read_data_by, completion_data}
-use Rattle.nvme_model.specs.Sequential.{Answer, Reply, Machine, answer_by, answers, answer_for, answer_of, is_no}
+use Rattle.nvme_model.specs.Sequential.{ArrayAnswer, ArrayReply, ArrayMachine, answer_by, effect_answers, answer_for}
+use Rattle.nvme_model.specs.Sequential.{array_answer, is_no}
 use Rattle.nvme_model.specs.Sequential.{bytes_of, said_no, sequential, statuses_by, statuses_after, sequential_statuses}
 use Rattle.nvme_model.specs.Sequential.{data_by, sequential_data, IsPosted, IsReaped}
 use Rattle.nvme_model.specs.Legal.{IsLegal, post_fits, is_cqe}
@@ -42,17 +43,17 @@ use Rattle.nvme_model.proofs.Sequential.{sequential_is}
 
 -- ---- the answer of a unit
 
-abbrev at_effect : Option Past → Ticket → Range → Option Answer
+abbrev at_effect : Option Past → Ticket → Range → Option ArrayAnswer
 at_effect None k r = None
 at_effect (Some before) k r = Some (answer_by (value before) (op k) k r)
 
 abbrev Answered : Past → ℕ → ℕ → Type 0
-Answered past t u = answer_for (answers past) t u
+Answered past t u = answer_for (effect_answers past) t u
     ≡ at_effect (effect past t u) (Tickets.ticket past t) (unit_range past t u)
 
 -- where it has no effect there is no answer, whatever ticket and range it is asked with
 none_yet : (past : Past) (t u : ℕ) (k : Ticket) (r : Range) → effect past t u ≡ None → Answered past t u
-    → answer_for (answers past) t u ≡ at_effect (effect past t u) k r
+    → answer_for (effect_answers past) t u ≡ at_effect (effect past t u) k r
 none_yet past t u k r e h =
     h ∙ (ap (λ (o : Option Past). at_effect o (Tickets.ticket past t) (unit_range past t u)) e
     ∙ sym (ap (λ (o : Option Past). at_effect o k r) e))
@@ -64,7 +65,7 @@ answered c (Entry.Fetch f ∷ past) t u h =
     elim (cases_lt (Tickets.tickets past) t) [
       | inl l ↦ none_yet past t u (Tickets.ticket (Entry.Fetch f ∷ past) t) (unit_range past t u)
           (no_effect past t u (no_blocks_yet c past t u before l)) (answered c past t u before)
-      | inr l ↦ subst (λ (k : Ticket). answer_for (answers past) t u
+      | inr l ↦ subst (λ (k : Ticket). answer_for (effect_answers past) t u
           ≡ at_effect (effect past t u) k (unit_range past t u)) (sym (ticket_kept c past f t h l))
           (answered c past t u before)
     ]
@@ -74,14 +75,14 @@ answered c (Entry.Grant g ∷ past) t u h =
       | inl e ↦ none_yet past t u (Tickets.ticket past t) (unit_range (Entry.Grant g ∷ past) t u)
           (no_effect past t u (no_blocks c past t u before (grants_before c past g t u h e)))
           (answered c past t u before)
-      | inr e ↦ subst (λ (r : Range). answer_for (answers past) t u
+      | inr e ↦ subst (λ (r : Range). answer_for (effect_answers past) t u
           ≡ at_effect (effect past t u) (Tickets.ticket past t) r) (sym (range_before past g t u e))
           (answered c past t u before)
     ]
 answered c (Entry.Block b ∷ past) t u h =
     go b.effect (eqb b.ticket t && eqb b.unit u) refl (answered c past t u (follows c past (Entry.Block b) h).before)
   where
-    reply : Reply
+    reply : ArrayReply
     reply = record {
       ticket = b.ticket;
       unit = b.unit;
@@ -89,8 +90,8 @@ answered c (Entry.Block b ∷ past) t u h =
           (unit_range past b.ticket b.unit);
     }
 
-    rest : Option Reply
-    rest = find (λ a. eqb a.ticket t && eqb a.unit u) (answers past)
+    rest : Option ArrayReply
+    rest = find (λ a. eqb a.ticket t && eqb a.unit u) (effect_answers past)
 
     triple : (x a b : Bool) → (x && a && b) ≡ (x && (a && b))
     triple true a b = refl
@@ -104,17 +105,18 @@ answered c (Entry.Block b ∷ past) t u h =
         refl
 
     go : (x y : Bool) → (eqb b.ticket t && eqb b.unit u) ≡ y → Answered past t u
-        → answer_of (find (λ a. eqb a.ticket t && eqb a.unit u) (cond x (reply ∷ answers past) (answers past)))
+        → array_answer (find (λ a. eqb a.ticket t
+        && eqb a.unit u) (cond x (reply ∷ effect_answers past) (effect_answers past)))
         ≡ at_effect (cond (x && eqb b.ticket t && eqb b.unit u) (Some past) (effect past t u)) (Tickets.ticket past t)
         (unit_range past t u)
     go false y e ih = ih
     go true true e ih =
-        ap answer_of (cond-true (eqb b.ticket t && eqb b.unit u) (Some reply) rest e)
+        ap array_answer (cond-true (eqb b.ticket t && eqb b.unit u) (Some reply) rest e)
         ∙ (ap Some (own e) ∙ ap (λ (o : Option Past). at_effect o (Tickets.ticket past t) (unit_range past t u))
         (sym (cond-true (true && eqb b.ticket t && eqb b.unit u) (Some past) (effect past t u)
         (triple true (eqb b.ticket t) (eqb b.unit u) ∙ e))))
     go true false e ih =
-        ap answer_of (cond-false (eqb b.ticket t && eqb b.unit u) (Some reply) rest e)
+        ap array_answer (cond-false (eqb b.ticket t && eqb b.unit u) (Some reply) rest e)
         ∙ (ih ∙ ap (λ (o : Option Past). at_effect o (Tickets.ticket past t) (unit_range past t u))
         (sym (cond-false (true && eqb b.ticket t && eqb b.unit u) (Some past) (effect past t u)
         (triple true (eqb b.ticket t) (eqb b.unit u) ∙ e))))
@@ -124,7 +126,7 @@ answered c (e ∷ past) t u h = answered c past t u (follows c past e h).before
 machine_answered : (c : ConfigNumbers) (past : Past) (t u : ℕ) → IsLegal c past
     → answer_for (sequential c past).replies t u
     ≡ at_effect (effect past t u) (Tickets.ticket past t) (unit_range past t u)
-machine_answered c past t u h = ap (λ (m : Machine). answer_for m.replies t u) (sequential_is c past h)
+machine_answered c past t u h = ap (λ (m : ArrayMachine). answer_for m.replies t u) (sequential_is c past h)
     ∙ answered c past t u h
 
 -- ---- it says no
@@ -160,7 +162,7 @@ said_is_no c past t h = any_same (λ u. is_no (answer_for (sequential c past).re
 
 flat_numbered : (f g : ℕ × Range → List ℕ) (v : ℕ) (rs : List Range)
     → ((i j : ℕ) (r : Range) → slice_get rs i ≡ Some r → j ≡ v + i → f (j, r) ≡ g (j, r))
-    → flat_map f (numbered v rs) ≡ flat_map g (numbered v rs)
+    → flat_map f (numbered_units v rs) ≡ flat_map g (numbered_units v rs)
 flat_numbered f g v [] h = refl
 flat_numbered f g v (r ∷ rs) h =
     ap₂ (λ (x y : List ℕ). x ++ y) (h 0 v r refl (omega arith))

@@ -10,8 +10,10 @@ use Rattle.nvme_model.specs.Tickets.{Ticket}
 use Rattle.nvme_model.specs.Operations.{op, compare_data, write_data, write_data_by}
 use Rattle.nvme_model.specs.Open.{unit_range, granted, open_units}
 use Rattle.nvme_model.specs.Value.{value, all_equal, writes}
-use Rattle.nvme_model.specs.Sequential.{Array, Answer, Request, Reply, Machine, holds, says, same_blocks, overwrite}
-use Rattle.nvme_model.specs.Sequential.{serve, answer_to, machine, operation, requests, sequential, answer_by, answers}
+use Rattle.nvme_model.specs.Sequential.{Array, ArrayAnswer, ArrayRequest, ArrayReply, ArrayMachine, holds, says}
+use Rattle.nvme_model.specs.Sequential.{same_blocks, overwrite}
+use Rattle.nvme_model.specs.Sequential.{serve, machine_after, machine, operation, requests, sequential, answer_by}
+use Rattle.nvme_model.specs.Sequential.{effect_answers}
 use Rattle.nvme_model.specs.Legal.{IsLegal}
 use Rattle.nvme_model.specs.declared.array.Range.{Range}
 use Rattle.nvme_model.specs.declared.operation.Op.{Op}
@@ -33,7 +35,7 @@ use Rattle.nvme_model.proofs.InVolume.{units_in_volume}
 abbrev after : Option Op → (ℕ → List ℕ) → Ticket → Range → ℕ → List ℕ
 after o f k r l = cond (has_block r l && writes_by o (all_equal f k r)) (write_data k l) (f l)
 
-abbrev served : Array → Answer → Array × Answer
+abbrev served : Array → ArrayAnswer → Array × ArrayAnswer
 served array answer = (array, answer)
 
 -- it writes nothing
@@ -109,10 +111,10 @@ entry_inside c past b h =
 -- ---- the theorem
 
 -- what the definitions say of the machine
-abbrev pub expected : ConfigNumbers → Past → Machine
-expected c past = record { contents = listed (value past) 0 c.blocks; replies = answers past }
+abbrev pub expected : ConfigNumbers → Past → ArrayMachine
+expected c past = record { contents = listed (value past) 0 c.blocks; replies = effect_answers past }
 
-abbrev with_contents : List Reply → Array → Machine
+abbrev with_contents : List ArrayReply → Array → ArrayMachine
 with_contents replies array = record { contents = array; replies = replies }
 
 pub sequential_is : (c : ConfigNumbers) (past : Past) → IsLegal c past → sequential c past ≡ expected c past
@@ -127,10 +129,10 @@ sequential_is c (Entry.Block b ∷ past) h =
     r : Range
     r = unit_range past b.ticket b.unit
 
-    request : Request
+    request : ArrayRequest
     request = record { ticket = b.ticket; unit = b.unit; operation = operation (op k) k r }
 
-    reply : Reply
+    reply : ArrayReply
     reply = record { ticket = b.ticket; unit = b.unit; answer = answer_by (value past) (op k) k r }
 
     go : (x : Bool) → b.effect ≡ x → sequential c past ≡ expected c past
@@ -139,16 +141,16 @@ sequential_is c (Entry.Block b ∷ past) h =
         → machine c.blocks (cond x (request ∷ requests past) (requests past))
         ≡ record {
           contents = listed (value (Entry.Block b ∷ past)) 0 c.blocks;
-          replies = cond x (reply ∷ answers past) (answers past);
+          replies = cond x (reply ∷ effect_answers past) (effect_answers past);
         }
     go false e ih s =
-        ih ∙ ap (with_contents (answers past))
+        ih ∙ ap (with_contents (effect_answers past))
         (listed_same (value past) (value (Entry.Block b ∷ past)) 0 c.blocks
         (λ l i j. sym (cond-false _ _ _ (and_left _ _ (and_left _ _ e)))))
     go true e ih s =
-        ap (λ (m : Machine). answer_to request (serve request.operation m.contents) m.replies) ih
-        ∙ (ap (λ (p : Array × Answer). answer_to request p (answers past)) s
-        ∙ ap (with_contents (reply ∷ answers past))
+        ap (λ (m : ArrayMachine). machine_after request (serve request.operation m.contents) m.replies) ih
+        ∙ (ap (λ (p : Array × ArrayAnswer). machine_after request p (effect_answers past)) s
+        ∙ ap (with_contents (reply ∷ effect_answers past))
         (listed_same (after (op k) (value past) k r) (value (Entry.Block b ∷ past)) 0 c.blocks
         (λ l i j. ap (λ (x : Bool).
         cond (x && has_block r l && writes (value past) k r) (write_data k l) (value past l)) (sym e))))
@@ -156,7 +158,7 @@ sequential_is c (e ∷ past) h = sequential_is c past (follows c past e h).befor
 
 pub contents_are : (c : ConfigNumbers) (past : Past) → IsLegal c past
     → (sequential c past).contents ≡ map (value past) (blocks_from 0 c.blocks)
-contents_are c past h = ap (λ (m : Machine). m.contents) (sequential_is c past h)
+contents_are c past h = ap (λ (m : ArrayMachine). m.contents) (sequential_is c past h)
 
-pub answers_are : (c : ConfigNumbers) (past : Past) → IsLegal c past → (sequential c past).replies ≡ answers past
-answers_are c past h = ap (λ (m : Machine). m.replies) (sequential_is c past h)
+pub answers_are : (c : ConfigNumbers) (past : Past) → IsLegal c past → (sequential c past).replies ≡ effect_answers past
+answers_are c past h = ap (λ (m : ArrayMachine). m.replies) (sequential_is c past h)

@@ -8,7 +8,7 @@ use Rattle.std.proofs.lemmas.List.Sums.{sum_by-cons}
 use Rattle.nvme_model.specs.declared.config.AtomicParameters.{AtomicParameters}
 use Rattle.nvme_model.specs.declared.config.ConfigNumbers.{ConfigNumbers}
 use Rattle.nvme_model.specs.Cut.{IsCut, cut}
-use Rattle.nvme_model.specs.EntryBytes.{slba, blocks}
+use Rattle.nvme_model.specs.EntryBytes.{slba, block_count}
 use Rattle.nvme_model.specs.History.{Past}
 use Rattle.nvme_model.specs.Tickets
 use Rattle.nvme_model.specs.Tickets.{Ticket, first_fields}
@@ -209,7 +209,7 @@ grants_within c past t h = go (grants_of past t) refl
         omega (arith, e, below_if (units c (Tickets.ticket past t)) n (Some x.0.range) x.1.at refl)
 
 pub blocks_within : (c : ConfigNumbers) (past : Past) (t : ℕ) → IsLegal c past
-    → blocks_of past t ≤ steps_needed (Tickets.ticket past t) (blocks (first_fields (Tickets.ticket past t)))
+    → blocks_of past t ≤ steps_needed (Tickets.ticket past t) (block_count (first_fields (Tickets.ticket past t)))
 blocks_within c past t h =
     let k = Tickets.ticket past t in
     let rs = units c k in
@@ -219,7 +219,7 @@ blocks_within c past t h =
     unit_blocks x.0 u x.1.ticket x.1.unit x.1.facts.range x.1.at in
     subst (λ (i : ℕ). made_of past t u ≤ steps_needed k i) same (few c past t u h) in
     let whole = sum_of_ranges rs (grants_of past t) in
-    let most = units_sum c.atomic (op k) (slba (first_fields k)) (blocks (first_fields k)) in
+    let most = units_sum c.atomic (op k) (slba (first_fields k)) (block_count (first_fields k)) in
     by_pair (is_pair (op k)) (sum_by (λ r. r.blocks) rs) each whole most (summed c past t h)
   where
     unit_blocks : (x : GrantLine) (u : ℕ) → x.ticket ≡ t → x.unit ≡ u → unit_range past x.ticket x.unit ≡ x.range
@@ -237,10 +237,10 @@ blocks_within c past t h =
         → made_of past t u ≤ cond x (2 * blocks_in (slice_get (units c (Tickets.ticket past t)) u))
         (blocks_in (slice_get (units c (Tickets.ticket past t)) u)))
         → sum_below (λ u. blocks_in (slice_get (units c (Tickets.ticket past t)) u)) (grants_of past t) ≤ total
-        → total ≤ blocks (first_fields (Tickets.ticket past t))
+        → total ≤ block_count (first_fields (Tickets.ticket past t))
         → Summed past t
-        → blocks_of past t ≤ cond x (2 * blocks (first_fields (Tickets.ticket past t)))
-        (blocks (first_fields (Tickets.ticket past t)))
+        → blocks_of past t ≤ cond x (2 * block_count (first_fields (Tickets.ticket past t)))
+        (block_count (first_fields (Tickets.ticket past t)))
     by_pair true total each whole most s =
         omega (
           arith,
@@ -268,6 +268,6 @@ idle_counts c past t h e =
     let none : length (units c (Tickets.ticket past t)) ≡ 0 =
     ap (λ (o : Option Op). length
     (units_by c.atomic o (slba (first_fields (Tickets.ticket past t)))
-    (blocks (first_fields (Tickets.ticket past t))))) e in
+    (block_count (first_fields (Tickets.ticket past t))))) e in
     let grants : grants_of past t ≡ 0 = omega (arith, none, grants_within c past t h) in
     (grants, summed c past t h ∙ ap (sum_below (made_of past t)) grants)

@@ -45,17 +45,17 @@ abbrev pub is_accepted : ConfigNumbers → Bool
 is_accepted c = is_none (config_fault c)
 
 -- the number that texts give a fault
-abbrev pub fault_number : ConfigFault → ℕ
-fault_number ConfigFault.AwunTooLarge = 21
-fault_number ConfigFault.AcwuTooLarge = 22
-fault_number ConfigFault.BoundaryBelowUnit = 23
-fault_number ConfigFault.OffsetPastBoundary = 24
-fault_number ConfigFault.Blocks = 25
-fault_number ConfigFault.Pairs = 26
-fault_number ConfigFault.SqSize = 27
-fault_number ConfigFault.CqSize = 28
-fault_number ConfigFault.Jobs = 29
-fault_number ConfigFault.CqCount = 30
+abbrev pub config_fault_number : ConfigFault → ℕ
+config_fault_number ConfigFault.AwunTooLarge = 21
+config_fault_number ConfigFault.AcwuTooLarge = 22
+config_fault_number ConfigFault.BoundaryBelowUnit = 23
+config_fault_number ConfigFault.OffsetPastBoundary = 24
+config_fault_number ConfigFault.Blocks = 25
+config_fault_number ConfigFault.Pairs = 26
+config_fault_number ConfigFault.SqSize = 27
+config_fault_number ConfigFault.CqSize = 28
+config_fault_number ConfigFault.Jobs = 29
+config_fault_number ConfigFault.CqCount = 30
 
 -- the completion queue that submission queue q uses (Base 2.0, Create I/O Submission Queue; the assignment is this
 -- profile's)

@@ -65,8 +65,8 @@ abbrev pub slba : Sqe → ℕ
 slba e = e.cdw10 + 2 ^ 32 * e.cdw11
 
 -- the number of blocks, from NLB, which is 0's based (NVM 1.0, Read command)
-abbrev pub blocks : Sqe → ℕ
-blocks e = e.cdw12 % 65536 + 1
+abbrev pub block_count : Sqe → ℕ
+block_count e = e.cdw12 % 65536 + 1
 
 -- A completion queue entry (Base 2.0, Completion Queue Entry).
 pub record Cqe : Type 0 where

@@ -22,7 +22,7 @@ WordsRight (Entry.Block b ∷ past) =
 WordsRight (_ ∷ past) = WordsRight past
 
 -- The history is legal, and its marks and words are where and what this controller makes them.
-pub record Kept (c : ConfigNumbers) (past : Past) : Type 0 where
+pub record ControllerInvariant (c : ConfigNumbers) (past : Past) : Type 0 where
   pub legal : IsLegal c past
   pub marks : MarkedRight past
   pub words : WordsRight past

@@ -2,7 +2,7 @@
 use Rattle.std.specs.Prelude.{map, ◌++◌, ◌∷◌, ◌≡◌}
 use Rattle.nvme_model.specs.Array.{blocks_from}
 use Rattle.nvme_model.specs.History.{Past}
-use Rattle.nvme_model.specs.Sequential.{IsPosted, IsReaped, answers, sequential}
+use Rattle.nvme_model.specs.Sequential.{IsPosted, IsReaped, effect_answers, sequential}
 use Rattle.nvme_model.specs.Value.{value}
 use Rattle.nvme_model.specs.declared.config.ConfigNumbers.{ConfigNumbers}
 use Rattle.nvme_model.specs.declared.entry.Entry.{Entry}
@@ -14,6 +14,6 @@ use Rattle.nvme_model.specs.declared.entry.ReapLine.{ReapLine}
 -- make, and each completion reaped is, byte for byte, the posted one of its number.
 pub record IsOneAtATime (c : ConfigNumbers) (past : Past) : Type 0 where
   pub contents : (sequential c past).contents ≡ map (value past) (blocks_from 0 c.blocks)
-  pub replies : (sequential c past).replies ≡ answers past
+  pub replies : (sequential c past).replies ≡ effect_answers past
   pub posted : (later before : Past) (p : PostLine) → past ≡ later ++ (Entry.Post p ∷ before) → IsPosted c before p
   pub reaped : (later before : Past) (r : ReapLine) → past ≡ later ++ (Entry.Reap r ∷ before) → IsReaped c before r

@@ -6,7 +6,7 @@ use Rattle.nvme_model.specs.Commands.{is_compare, is_read, is_write, is_write_ze
 use Rattle.nvme_model.specs.declared.config.AtomicParameters.{AtomicParameters}
 use Rattle.nvme_model.specs.declared.config.ConfigNumbers.{ConfigNumbers}
 use Rattle.nvme_model.specs.Cut.{cut}
-use Rattle.nvme_model.specs.EntryBytes.{Sqe, blocks, slba}
+use Rattle.nvme_model.specs.EntryBytes.{Sqe, block_count, slba}
 use Rattle.nvme_model.specs.Tickets.{Ticket, command, first_fields}
 use Rattle.nvme_model.specs.declared.array.Mode.{Mode}
 use Rattle.nvme_model.specs.declared.operation.Op.{Op}
@@ -58,7 +58,7 @@ units_by u (Some o) s n = cut u s n
 
 -- the units of a ticket
 abbrev pub units : ConfigNumbers → Ticket → List Range
-units c k = units_by c.atomic (op k) (slba (first_fields k)) (blocks (first_fields k))
+units c k = units_by c.atomic (op k) (slba (first_fields k)) (block_count (first_fields k))
 
 -- a unit that writes is Exclusive, any other Shared (this profile's)
 abbrev pub mode : Ticket → Mode

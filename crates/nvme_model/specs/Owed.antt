@@ -17,13 +17,13 @@ use Rattle.nvme_model.specs.declared.status.Status.{Status}
 use Rattle.nvme_model.specs.declared.status.Verdict.{Verdict}
 
 -- units with their numbers, from u on
-abbrev pub numbered : ℕ → List Range → List (ℕ × Range)
-numbered u [] = []
-numbered u (r ∷ rs) = (u, r) ∷ numbered (suc u) rs
+abbrev pub numbered_units : ℕ → List Range → List (ℕ × Range)
+numbered_units u [] = []
+numbered_units u (r ∷ rs) = (u, r) ∷ numbered_units (suc u) rs
 
 -- the units of ticket t, with their numbers
 abbrev pub units_of : ConfigNumbers → Past → ℕ → List (ℕ × Range)
-units_of c past t = numbered 0 (units c (ticket past t))
+units_of c past t = numbered_units 0 (units c (ticket past t))
 
 -- all units of ticket t have ended
 abbrev pub all_ended : ConfigNumbers → Past → ℕ → Bool

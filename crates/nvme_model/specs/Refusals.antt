@@ -11,7 +11,7 @@ use Rattle.nvme_model.specs.Operations.{mode, op, units}
 use Rattle.nvme_model.specs.Owed.{all_ended}
 use Rattle.nvme_model.specs.Queues.{fetched_count, published_entries}
 use Rattle.nvme_model.specs.Tables.{first_row}
-use Rattle.nvme_model.specs.Tickets.{in_flight, numbers, ticket, tickets}
+use Rattle.nvme_model.specs.Tickets.{in_flight, numbers_down, ticket, tickets}
 use Rattle.nvme_model.specs.Verdict.{passed}
 use Rattle.nvme_model.specs.declared.array.Mode.{Mode}
 use Rattle.nvme_model.specs.declared.operation.Op.{Op}
@@ -29,7 +29,7 @@ no_completion_queue c q = (q == 0) || nat_lt c.cqs q
 
 -- as many tickets are in flight as may be
 abbrev pub jobs_full : ConfigNumbers → Past → Bool
-jobs_full c past = nat_le c.jobs (count_by (in_flight past) (numbers (tickets past)))
+jobs_full c past = nat_le c.jobs (count_by (in_flight past) (numbers_down (tickets past)))
 
 -- a unit of ticket t is open
 abbrev pub has_open : Past → ℕ → Bool

@@ -32,10 +32,10 @@ pub data Operation : Type 0 where
   compare_and_write : (first : ℕ) → (old new : Array) → Operation
 
 -- what it answers: the blocks that it read, whether all compared blocks are equal, or nothing
-pub data Answer : Type 0 where
-  holds : Array → Answer
-  says : Bool → Answer
-  done : Answer
+pub data ArrayAnswer : Type 0 where
+  holds : Array → ArrayAnswer
+  says : Bool → ArrayAnswer
+  done : ArrayAnswer
 
 -- the same blocks
 abbrev pub same_blocks : Array → Array → Bool
@@ -48,7 +48,7 @@ abbrev pub overwrite : ℕ → Array → Array → Array
 overwrite first new array = take first array ++ (new ++ drop (first + length new) array)
 
 -- the array after one operation, and its answer
-abbrev pub serve : Operation → Array → Array × Answer
+abbrev pub serve : Operation → Array → Array × ArrayAnswer
 serve (read first count) array = (array, holds (take count (drop first array)))
 serve (compare first old) array = (array, says (same_blocks (take (length old) (drop first array)) old))
 serve (write first new) array = (overwrite first new array, done)
@@ -57,31 +57,31 @@ serve (compare_and_write first old new) array =
     (if same then overwrite first new array else array, says same)
 
 -- An operation that was asked, with the ticket and the unit that it is of.
-pub record Request : Type 0 where
+pub record ArrayRequest : Type 0 where
   pub ticket : ℕ
   pub unit : ℕ
   pub operation : Operation
 
 -- An answer, with the ticket and the unit that it is for.
-pub record Reply : Type 0 where
+pub record ArrayReply : Type 0 where
   pub ticket : ℕ
   pub unit : ℕ
-  pub answer : Answer
+  pub answer : ArrayAnswer
 
 -- The blocks as they are now, and the answers so far.
-pub record Machine : Type 0 where
+pub record ArrayMachine : Type 0 where
   pub contents : Array
-  pub replies : List Reply  -- the newest first
+  pub replies : List ArrayReply  -- the newest first
 
 -- the machine after a request that was served so
-abbrev pub answer_to : Request → Array × Answer → List Reply → Machine
-answer_to q served replies =
+abbrev pub machine_after : ArrayRequest → Array × ArrayAnswer → List ArrayReply → ArrayMachine
+machine_after q served replies =
     record { contents = served.0; replies = record { ticket = q.ticket; unit = q.unit; answer = served.1 } ∷ replies }
 
 -- n blocks of zeros, and then these requests one by one, the newest first
-abbrev pub machine : ℕ → List Request → Machine
+abbrev pub machine : ℕ → List ArrayRequest → ArrayMachine
 machine n [] = record { contents = replicate n zeros; replies = [] }
-machine n (q ∷ requests) = answer_to q (serve q.operation (machine n requests).contents) (machine n requests).replies
+machine n (q ∷ qs) = machine_after q (serve q.operation (machine n qs).contents) (machine n qs).replies
 
 -- what a unit of a ticket asks: its range, and the data that came with its commands
 abbrev pub operation : Option Op → Ticket → Range → Operation
@@ -94,7 +94,7 @@ operation (Some Op.Pair) k r =
 operation _ k r = read r.slba r.blocks
 
 -- the effects alone, in the order of the history, the newest first
-abbrev pub requests : Past → List Request
+abbrev pub requests : Past → List ArrayRequest
 requests [] = []
 requests (Entry.Block b ∷ past) =
     let k = ticket past b.ticket in
@@ -105,11 +105,11 @@ requests (Entry.Block b ∷ past) =
 requests (_ ∷ past) = requests past
 
 -- the machine that was asked them
-abbrev pub sequential : ConfigNumbers → Past → Machine
+abbrev pub sequential : ConfigNumbers → Past → ArrayMachine
 sequential c past = machine c.blocks (requests past)
 
 -- at these contents: the blocks of the range, or whether all are the Compare's data
-abbrev pub answer_by : (ℕ → List ℕ) → Option Op → Ticket → Range → Answer
+abbrev pub answer_by : (ℕ → List ℕ) → Option Op → Ticket → Range → ArrayAnswer
 answer_by contents (Some Op.Compare) k r = says (all_equal contents k r)
 answer_by contents (Some Op.Pair) k r = says (all_equal contents k r)
 answer_by contents (Some Op.Write) k r = done
@@ -117,35 +117,35 @@ answer_by contents (Some Op.WriteZeroes) k r = done
 answer_by contents _ k r = holds (map contents (blocks_from r.slba r.blocks))
 
 -- the answer of each effect at its place, the newest first
-abbrev pub answers : Past → List Reply
-answers [] = []
-answers (Entry.Block b ∷ past) =
+abbrev pub effect_answers : Past → List ArrayReply
+effect_answers [] = []
+effect_answers (Entry.Block b ∷ past) =
     let k = ticket past b.ticket in
     if b.effect
     then record {
       ticket = b.ticket;
       unit = b.unit;
       answer = answer_by (value past) (op k) k (unit_range past b.ticket b.unit);
-    } ∷ answers past
-    else answers past
-answers (_ ∷ past) = answers past
+    } ∷ effect_answers past
+    else effect_answers past
+effect_answers (_ ∷ past) = effect_answers past
 
 -- the answer for unit u of ticket t
-abbrev pub answer_of : Option Reply → Option Answer
-answer_of None = None
-answer_of (Some a) = Some a.answer
+abbrev pub array_answer : Option ArrayReply → Option ArrayAnswer
+array_answer None = None
+array_answer (Some a) = Some a.answer
 
 -- the answer for unit u of ticket t
-abbrev pub answer_for : List Reply → ℕ → ℕ → Option Answer
-answer_for replies t u = answer_of (find (λ a. (a.ticket == t) && (a.unit == u)) replies)
+abbrev pub answer_for : List ArrayReply → ℕ → ℕ → Option ArrayAnswer
+answer_for replies t u = array_answer (find (λ a. (a.ticket == t) && (a.unit == u)) replies)
 
 -- it says no
-abbrev pub is_no : Option Answer → Bool
+abbrev pub is_no : Option ArrayAnswer → Bool
 is_no (Some (says equal)) = not equal
 is_no _ = false
 
 -- the bytes that were read
-abbrev pub bytes_of : Option Answer → List ℕ
+abbrev pub bytes_of : Option ArrayAnswer → List ℕ
 bytes_of (Some (holds blocks)) = flat_map (λ b. b) blocks
 bytes_of _ = []
 

@@ -4,7 +4,7 @@ use Rattle.std.specs.Prelude.{Option, Some, None, List, [], ◌∷◌, ◌++◌,
 use Rattle.std.specs.List.{filter, list_any}
 use Rattle.nvme_model.specs.Config.{completion_queue}
 use Rattle.nvme_model.specs.declared.config.ConfigNumbers.{ConfigNumbers}
-use Rattle.nvme_model.specs.EntryBytes.{field, two_bytes, sqe_fields, slba, blocks}
+use Rattle.nvme_model.specs.EntryBytes.{field, two_bytes, sqe_fields, slba, block_count}
 use Rattle.nvme_model.specs.Commands.{is_write, is_compare, is_write_zeroes}
 use Rattle.nvme_model.specs.History.{Past}
 use Rattle.nvme_model.specs.Array.{has_block, overlap, zeros}
@@ -59,8 +59,8 @@ abbrev pub is_pair_on_one : Submission → Submission → Bool
 is_pair_on_one a b =
     let e = sqe_fields a.entry in
     let d = sqe_fields b.entry in
-    is_compare e && is_write d && (e.fuse == 1) && (d.fuse == 2) && (slba e == slba d) && (blocks e == 1)
-    && (blocks d == 1)
+    is_compare e && is_write d && (e.fuse == 1) && (d.fuse == 2) && (slba e == slba d) && (block_count e == 1)
+    && (block_count d == 1)
 
 -- a claim of this name or a release of it, if there is one
 abbrev pub swap_by : Bool → ℕ → ℕ → ℕ → Option Name → List Swap
@@ -148,7 +148,7 @@ believed c past l n =
 abbrev pub touches : Range → Submission → Bool
 touches slots s =
     let e = sqe_fields s.entry in
-    (is_write e || is_write_zeroes e) && overlap (record { slba = slba e; blocks = blocks e }) slots
+    (is_write e || is_write_zeroes e) && overlap (record { slba = slba e; blocks = block_count e }) slots
 
 -- the claims and releases of slots of this area
 abbrev pub in_area : Range → List Swap → List Swap

@@ -4,7 +4,7 @@ use Rattle.std.specs.Prelude.{Option, Some, None, List, [], ◌∷◌, length, s
 use Rattle.std.specs.List.{find, flat_map}
 use Rattle.nvme_model.specs.declared.config.ConfigNumbers.{ConfigNumbers}
 use Rattle.nvme_model.specs.History.{Past}
-use Rattle.nvme_model.specs.Tickets.{Ticket, ticket, tickets, numbers, next_verdict, posts_of}
+use Rattle.nvme_model.specs.Tickets.{Ticket, ticket, tickets, numbers_down, next_verdict, posts_of}
 use Rattle.nvme_model.specs.Operations.{op, mode, compare_data}
 use Rattle.nvme_model.specs.Open.{grants_of, blocks_made, open_units, is_differs}
 use Rattle.nvme_model.specs.Completions.{posted_completions, reaped_count, completion}
@@ -101,7 +101,7 @@ is_ready c past step = is_none (refusal c past step)
 
 -- a Grant, a Block and a Post of each ticket, in order of tickets
 abbrev pub next_steps : Past → List Step
-next_steps past = flat_map (λ t. Step.Grant t ∷ Step.Block t ∷ Step.Post t ∷ []) (reverse (numbers (tickets past)))
+next_steps past = flat_map (λ t. Step.Grant t ∷ Step.Block t ∷ Step.Post t ∷ []) (reverse (numbers_down (tickets past)))
 
 -- the first of them that isn't refused
 abbrev pub ready : ConfigNumbers → Past → Option Step

@@ -5,7 +5,7 @@ use Rattle.std.specs.Prelude.{◌==◌, ◌∷◌}
 use Rattle.nvme_model.specs.EntryBytes.{Sqe, sqe_fields}
 use Rattle.nvme_model.specs.History.{Past}
 use Rattle.nvme_model.specs.Queues.{waiting}
-use Rattle.nvme_model.specs.Verdict.{item_of, taken, verdict_of}
+use Rattle.nvme_model.specs.Verdict.{item_of, taken_entries, verdict_of}
 use Rattle.nvme_model.specs.declared.config.ConfigNumbers.{ConfigNumbers}
 use Rattle.nvme_model.specs.declared.entry.Entry.{Entry}
 use Rattle.nvme_model.specs.declared.submission.Submission.{Submission}
@@ -18,9 +18,9 @@ tickets (Entry.Fetch f ∷ past) = tickets past + 1
 tickets (_ ∷ past) = tickets past
 
 -- from n down to 1
-abbrev pub numbers : ℕ → List ℕ
-numbers zero = []
-numbers (suc n) = suc n ∷ numbers n
+abbrev pub numbers_down : ℕ → List ℕ
+numbers_down zero = []
+numbers_down (suc n) = suc n ∷ numbers_down n
 
 -- what one Fetch took
 pub record Ticket : Type 0 where
@@ -30,7 +30,7 @@ pub record Ticket : Type 0 where
 
 -- the ticket that a Fetch makes
 abbrev pub fetched_ticket : Past → ℕ → Verdict → Ticket
-fetched_ticket past q v = record { queue = q; commands = take (taken v) (waiting past q); verdict = v }
+fetched_ticket past q v = record { queue = q; commands = take (taken_entries v) (waiting past q); verdict = v }
 
 -- ticket t; one without a command where t wasn't fetched
 abbrev pub ticket : Past → ℕ → Ticket
@@ -64,7 +64,7 @@ in_flight past t = nat_lt (posts_of past t) (length (ticket past t).commands)
 abbrev pub cids_in_use : Past → ℕ → List ℕ
 cids_in_use past q =
     flat_map (λ t. if (ticket past t).queue == q then drop (posts_of past t) (cids (ticket past t)) else [])
-    (numbers (tickets past))
+    (numbers_down (tickets past))
 
 -- what a Fetch of queue q says now
 abbrev pub next_verdict : ConfigNumbers → Past → ℕ → Verdict

@@ -5,7 +5,7 @@ use Rattle.std.specs.Prelude.{true, unwrap_or, ℕ, ◌&&◌, ◌+◌, ◌/◌, 
 use Rattle.nvme_model.specs.Cells.{pair_fits}
 use Rattle.nvme_model.specs.Commands.{data_length, is_compare, is_flush, is_read, is_write, is_write_zeroes}
 use Rattle.nvme_model.specs.declared.config.AtomicParameters.{AtomicParameters}
-use Rattle.nvme_model.specs.EntryBytes.{Sqe, blocks, slba, sqe_fields}
+use Rattle.nvme_model.specs.EntryBytes.{Sqe, block_count, slba, sqe_fields}
 use Rattle.nvme_model.specs.Statuses.{cid_conflict, data_transfer_error, failed_fused, invalid_field, invalid_namespace}
 use Rattle.nvme_model.specs.Statuses.{invalid_opcode, missing_fused, out_of_range, same_status, success, unit_exceeded}
 use Rattle.nvme_model.specs.Tables.{first_row}
@@ -42,8 +42,8 @@ command_faults size in_use i =
     ∷ (has_invalid_field e, invalid_field)
     ∷ (is_in e.cid in_use, cid_conflict)
     ∷ (not (e.nsid == 1), invalid_namespace)
-    ∷ (not (is_flush e) && nat_lt 256 (blocks e), invalid_field)
-    ∷ (not (is_flush e) && nat_lt size (slba e + blocks e), out_of_range)
+    ∷ (not (is_flush e) && nat_lt 256 (block_count e), invalid_field)
+    ∷ (not (is_flush e) && nat_lt size (slba e + block_count e), out_of_range)
     ∷ (not (i.length == data_length e), data_transfer_error)
     ∷ []
 
@@ -63,8 +63,8 @@ pair_faults u size in_use first second =
     ∷ (is_in e.cid in_use || is_in d.cid in_use || (e.cid == d.cid), (cid_conflict, cid_conflict))
     ∷ (is_some e_fault, (unwrap_or e_fault success, failed_fused))
     ∷ (is_some d_fault, (failed_fused, unwrap_or d_fault success))
-    ∷ (not ((slba e == slba d) && (blocks e == blocks d)), (invalid_field, invalid_field))
-    ∷ (not (pair_fits u (slba e) (blocks e)), (unit_exceeded, unit_exceeded))
+    ∷ (not ((slba e == slba d) && (block_count e == block_count d)), (invalid_field, invalid_field))
+    ∷ (not (pair_fits u (slba e) (block_count e)), (unit_exceeded, unit_exceeded))
     ∷ []
 
 -- the statuses of a matched pair that fails its checks
@@ -98,11 +98,11 @@ verdict_of u size in_use (first ∷ rest) =
     else of_command (command_fault size in_use first))
 
 -- how many entries the Fetch took
-abbrev pub taken : Verdict → ℕ
-taken Verdict.Single = 1
-taken (Verdict.SingleFailed s) = 1
-taken Verdict.Pair = 2
-taken (Verdict.PairFailed s r) = 2
+abbrev pub taken_entries : Verdict → ℕ
+taken_entries Verdict.Single = 1
+taken_entries (Verdict.SingleFailed s) = 1
+taken_entries Verdict.Pair = 2
+taken_entries (Verdict.PairFailed s r) = 2
 
 -- the checks were passed
 abbrev pub passed : Verdict → Bool

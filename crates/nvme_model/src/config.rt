@@ -71,11 +71,11 @@ pub enum ConfigFault {
 }
 
 impl ConfigFault {
-    ghost use Rattle.nvme_model.specs.Config.{fault_number};
+    ghost use Rattle.nvme_model.specs.Config.{config_fault_number};
 
     /// The number that texts give it, 21 to 30.
     pub fn number(&self) -> u8
-        ensures { result ≡ fault_number self.now }
+        ensures { result ≡ config_fault_number self.now }
     {
         match self {
             ConfigFault::AwunTooLarge => 21,
@@ -93,7 +93,7 @@ impl ConfigFault {
 
     /// The fault of this number, where one has it.
     pub fn of_number(number: u8) -> Option<ConfigFault>
-        ensures value { IfSome result (λ fault. fault_number fault ≡ number) }
+        ensures value { IfSome result (λ fault. config_fault_number fault ≡ number) }
         ensures none { IfNone result ((number < 21) ⊎ (30 < number)) }
     {
         match number {

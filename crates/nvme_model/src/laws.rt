@@ -6,7 +6,7 @@ ghost use Rattle.std.specs.List.{list_any, sum_by};
 ghost use Rattle.nvme_model.specs.Config.{completion_queue};
 ghost use Rattle.nvme_model.specs.Cells.{is_atomic};
 ghost use Rattle.nvme_model.specs.Cut.{IsCut, cut};
-ghost use Rattle.nvme_model.specs.EntryBytes.{blocks};
+ghost use Rattle.nvme_model.specs.EntryBytes.{block_count};
 ghost use Rattle.nvme_model.specs.History.{Past};
 ghost use Rattle.nvme_model.specs.Tickets.{tickets, ticket, posts_of, in_flight, first_fields};
 ghost use Rattle.nvme_model.specs.Operations.{op, has_compare, is_pair, units};
@@ -20,7 +20,7 @@ ghost use Rattle.nvme_model.specs.Answered.{says_no};
 ghost use Rattle.nvme_model.specs.Refusals.{refusal};
 ghost use Rattle.nvme_model.specs.Legal.{IsLegal, IsLegalFile};
 ghost use Rattle.nvme_model.specs.FirstBad.{first_bad, IsFirstBad};
-ghost use Rattle.nvme_model.specs.Kept.{Kept};
+ghost use Rattle.nvme_model.specs.Kept.{ControllerInvariant};
 ghost use Rattle.nvme_model.specs.Steps.{after, next_entry, ready, run};
 ghost use Rattle.nvme_model.specs.OneAtATime.{IsOneAtATime};
 ghost use Rattle.nvme_model.specs.Laws.{Apart, MarkedRight, is_held, OwesToFull, IsNumber};
@@ -43,12 +43,14 @@ pub fn every_run_is_legal()
 /// What this controller keeps of its history: a history without an entry has it, each step keeps it, also one that is
 /// refused, and it gives that the history is legal and its marks stand where this controller puts them.
 pub fn what_a_controller_keeps()
-    ensures begins { (c : ConfigNumbers) → Kept c [] }
+    ensures begins { (c : ConfigNumbers) → ControllerInvariant c [] }
     ensures accepted { (c : ConfigNumbers) (past : Past) (step : Step) →
-        Kept c past → refusal c past step ≡ None → Kept c (next_entry c past step ∷ past) }
-    ensures after { (c : ConfigNumbers) (past : Past) (step : Step) → Kept c past → Kept c (after c past step) }
-    ensures legal { (c : ConfigNumbers) (past : Past) → Kept c past → IsLegal c past }
-    ensures marks { (c : ConfigNumbers) (past : Past) → Kept c past → MarkedRight past }
+        ControllerInvariant c past → refusal c past step ≡ None
+        → ControllerInvariant c (next_entry c past step ∷ past) }
+    ensures after { (c : ConfigNumbers) (past : Past) (step : Step) → ControllerInvariant c past
+        → ControllerInvariant c (after c past step) }
+    ensures legal { (c : ConfigNumbers) (past : Past) → ControllerInvariant c past → IsLegal c past }
+    ensures marks { (c : ConfigNumbers) (past : Past) → ControllerInvariant c past → MarkedRight past }
 {}
 
 /// An array of blocks that is asked the effects alone, one at a time and each done whole, in the order of the history:
@@ -108,7 +110,7 @@ pub fn a_ticket_has_few_steps()
     ensures grants { (c : ConfigNumbers) (past : Past) (t : ℕ) →
         IsLegal c past → grants_of past t ≤ length (units c (ticket past t)) }
     ensures blocks { (c : ConfigNumbers) (past : Past) (t : ℕ) →
-        IsLegal c past → blocks_of past t ≤ steps_needed (ticket past t) (blocks (first_fields (ticket past t))) }
+        IsLegal c past → blocks_of past t ≤ steps_needed (ticket past t) (block_count (first_fields (ticket past t))) }
     ensures idle { (c : ConfigNumbers) (past : Past) (t : ℕ) →
         IsLegal c past → op (ticket past t) ≡ None → (grants_of past t ≡ 0) × (blocks_of past t ≡ 0) }
 {}

@@ -98,11 +98,11 @@ pub enum Verdict {
 }
 
 impl Verdict {
-    ghost use Rattle.nvme_model.specs.Verdict.{taken};
+    ghost use Rattle.nvme_model.specs.Verdict.{taken_entries};
 
     /// How many entries the Fetch took, 1 or 2.
     pub fn taken(&self) -> u8
-        ensures { result ≡ taken self.now }
+        ensures { result ≡ taken_entries self.now }
     {
         match self {
             Verdict::Single | Verdict::SingleFailed(_) => 1,

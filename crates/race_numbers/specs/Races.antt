@@ -3,7 +3,7 @@ use Rattle.std.specs.Prelude.{Bool, List, Option, [], nat_lt, ℕ, ◌*◌, ◌�
 use Rattle.nvme_model.specs.Config.{is_outside}
 use Rattle.nvme_model.specs.Tables.{first_row}
 use Rattle.nvme_model.specs.declared.config.ConfigNumbers.{ConfigNumbers}
-use Rattle.history.specs.Config.{numbers}
+use Rattle.history.specs.Config.{config_numbers}
 use Rattle.race_numbers.specs.declared.race.Race.{Race}
 use Rattle.race_numbers.specs.declared.race.RaceUsage.{RaceUsage}
 
@@ -28,5 +28,5 @@ abbrev pub numbers_of : Race → ℕ × ℕ × ℕ × ℕ × ℕ
 numbers_of r = (r.hosts, r.workers, r.slots, r.rounds, r.queues)
 
 -- the configuration of its controller: a completion queue for each host, which all its submission queues use
-abbrev pub config_of : Race → ConfigNumbers
-config_of r = numbers 64 1 1 0 0 (r.hosts * r.queues) 8 8 16 r.hosts
+abbrev pub race_config : Race → ConfigNumbers
+race_config r = config_numbers 64 1 1 0 0 (r.hosts * r.queues) 8 8 16 r.hosts

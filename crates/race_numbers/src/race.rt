@@ -44,7 +44,7 @@ pub struct Race {
 }
 
 impl Race {
-    ghost use Rattle.race_numbers.specs.Races.{config_of, numbers_of, usage_of};
+    ghost use Rattle.race_numbers.specs.Races.{race_config, numbers_of, usage_of};
 
     /// A race of these numbers.
     ///
@@ -92,7 +92,7 @@ impl Race {
     /// The configuration of its controller: 64 blocks, units and pairs of at most two, 8 slots in each queue, 16
     /// tickets in flight, a completion queue for each host, and the hosts' submission queues.
     pub fn config(&self) -> Config
-        ensures value { result ≡ config_of self.now }
+        ensures value { result ≡ race_config self.now }
     {
         let pairs = self.hosts * self.queues;
         let Ok(config) = Config::with_cqs(64, 1, 1, 0, 0, pairs, 8, 8, 16, self.hosts) else {

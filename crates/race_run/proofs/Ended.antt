@@ -11,13 +11,14 @@ use Rattle.serving_laws.proofs.Servers.{fresh}
 use Rattle.closing_laws.specs.Closing.{HasDone}
 use Rattle.work_queue.specs.Engines.{EnginePass}
 use Rattle.work_queue.specs.declared.engine.Engine.{Engine}
-use Rattle.hosts.specs.Hands.{AreHandsOf, AreHostsOf, AreLastHosts, AreLastWorkers, Goes, IsOneOf, WorkerGoes}
-use Rattle.hosts.specs.declared.hall.Hall.{Hall}
-use Rattle.hosts.specs.declared.hall.Hand.{Hand}
-use Rattle.hosts.specs.declared.hall.HostHand.{HostHand}
-use Rattle.hosts.specs.declared.hall.WorkerHand.{WorkerHand}
-use Rattle.host_rounds.specs.Playing.{HasPlayed, HostGoes}
-use Rattle.host_rounds.specs.declared.guests.Play.{Play}
+use Rattle.shared_system.specs.Callers.{AreCallersOf, AreHostsOf, AreLastHosts, AreLastWorkers, Continues, IsOneOf}
+use Rattle.shared_system.specs.Callers.{WorkerContinues}
+use Rattle.shared_system.specs.declared.system.System.{System}
+use Rattle.shared_system.specs.declared.system.CallerPasses.{CallerPasses}
+use Rattle.shared_system.specs.declared.system.HostPasses.{HostPasses}
+use Rattle.shared_system.specs.declared.system.WorkerPasses.{WorkerPasses}
+use Rattle.host_rounds.specs.Playing.{HasPlayed, HostPassesContinue}
+use Rattle.host_rounds.specs.declared.host_threads.Play.{Play}
 use Rattle.race_run.specs.Ended.{EndDown, HasEnded, HaveEnded}
 
 -- ---- lists side by side
@@ -103,15 +104,15 @@ module _ (e : Engine) (c : ConfigNumbers) (slots : Range) (servers : ℕ) where
       → EndDown f e c slots servers top hs → EndDown f e c slots servers low hs
   down_from f top low hs same h = subst (λ (t : ℕ). EndDown f e c slots servers t hs) (sym same) h
 
--- ---- the hands of a race
+-- ---- the passes of a race
 
 -- the passes of hosts have numbers above those of all others
 above_all : (m k q n c : ℕ) → m ≡ k → k + c ≡ n + 1 + c + q → 1 ≤ q → m ≤ n + 1 → ⊥
 above_all m k q n c same last low below = omega (arith, same, last, low, below)
 
-module _ {G : Type 0} (hall : Hall G) (play : Play) (n : ℕ) where
-  served : (h k : Hand) → Goes hall h k → IsOneOf hall play.config (n + 1 + play.config.cqs) h.pass
-      → number h.pass ≤ n + 1 → HasEnded hall.engine play.config play.slots (n + 1) k.pass
+module _ {G : Type 0} (system : System G) (play : Play) (n : ℕ) where
+  served : (h k : CallerPasses) → Continues system h k → IsOneOf system play.config (n + 1 + play.config.cqs) h.pass
+      → number h.pass ≤ n + 1 → HasEnded system.engine play.config play.slots (n + 1) k.pass
   served h k goes one low =
       let same = goes.same.1 in
       record {
@@ -124,36 +125,36 @@ module _ {G : Type 0} (hall : Hall G) (play : Play) (n : ℕ) where
         };
       }
 
-  pub fetcher : (h k : Hand) → Goes hall h k
-      → IsOneOf hall play.config (n + 1 + play.config.cqs) h.pass × (number h.pass ≡ n + 1)
-      → (number k.pass ≡ n + 1) × HasEnded hall.engine play.config play.slots (n + 1) k.pass
+  pub fetcher : (h k : CallerPasses) → Continues system h k
+      → IsOneOf system play.config (n + 1 + play.config.cqs) h.pass × (number h.pass ≡ n + 1)
+      → (number k.pass ≡ n + 1) × HasEnded system.engine play.config play.slots (n + 1) k.pass
   fetcher h k goes one =
       let is = one.1 in
       (goes.same.1 ∙ is, served h k goes one.0 (omega (arith, is)))
 
-  pub workers : (ws vs : List WorkerHand)
-      → AreLastWorkers hall play.config (n + 1 + play.config.cqs) n ws → AllZip (WorkerGoes hall) ws vs
-      → EndDown (λ w. w.hand.pass) hall.engine play.config play.slots (n + 1) n vs
+  pub workers : (ws vs : List WorkerPasses)
+      → AreLastWorkers system play.config (n + 1 + play.config.cqs) n ws → AllZip (WorkerContinues system) ws vs
+      → EndDown (λ w. w.caller.pass) system.engine play.config play.slots (n + 1) n vs
   workers ws vs are zip = λ k v g.
-      let z = zip_at (WorkerGoes hall) ws vs zip k v g in
+      let z = zip_at (WorkerContinues system) ws vs zip k v g in
       let w = are k z.0 z.1 in
       let m = w.2 in
       let same = z.2.0.same.1 in
-      (omega (arith, m, same), served z.0.hand v.hand z.2.0 w.1 (omega (arith, m)))
+      (omega (arith, m, same), served z.0.caller v.caller z.2.0 w.1 (omega (arith, m)))
 
-  pub hosts : (hs gs : List HostHand) → AreLastHosts hall play.config (n + 1 + play.config.cqs) hs
-      → AllZip (HostGoes hall) hs gs → AllZip (HasPlayed hall play) hs gs
-      → EndDown (λ h. h.pass) hall.engine play.config play.slots (n + 1) (n + 1 + play.config.cqs) gs
+  pub hosts : (hs gs : List HostPasses) → AreLastHosts system play.config (n + 1 + play.config.cqs) hs
+      → AllZip (HostPassesContinue system) hs gs → AllZip (HasPlayed system play) hs gs
+      → EndDown (λ h. h.pass) system.engine play.config play.slots (n + 1) (n + 1 + play.config.cqs) gs
   hosts hs gs are zip played = λ k b g.
-      let z = zip_at (HostGoes hall) hs gs zip k b g in
-      let y = zip_at (HasPlayed hall play) hs gs played k b g in
+      let z = zip_at (HostPassesContinue system) hs gs zip k b g in
+      let y = zip_at (HasPlayed system play) hs gs played k b g in
       let w = are k z.0 z.1 in
       let same = z.2.same.1 in
       let place = w.1 in
       let last = w.2.1 in
       let low = w.0.queue.0 in
       let one : z.0 ≡ y.0 = let a = z.1 in let d = y.1 in let f : Some z.0 ≡ Some y.0 = sym a ∙ d in cc in
-      let p : HasPlayed hall play z.0 b = subst (λ h. HasPlayed hall play h b) (sym one) y.2 in
+      let p : HasPlayed system play z.0 b = subst (λ h. HasPlayed system play h b) (sym one) y.2 in
       let q : z.0.queue ≡ number b.pass - (n + 1) = omega (arith, same, last) in (
         omega (arith, same, place, last),
         record {

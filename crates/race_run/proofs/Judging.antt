@@ -11,7 +11,7 @@ use Rattle.nvme_model.proofs.FirstBad.{first_is_some, legal_is_none}
 use Rattle.race_run.specs.Races.{Races}
 use Rattle.closing_laws.specs.Closing.{KeepsSlots}
 use Rattle.race_run.specs.Slots.{PrintsSlots}
-use Rattle.race_run.specs.Texts.{history_text}
+use Rattle.history_text.specs.Texts.{history_text}
 use Rattle.race_run.specs.declared.fault.RaceFault.{RaceFault}
 use Rattle.race_run.specs.declared.fault.RaceFault.TheVariants.{NoMemory}
 

@@ -1,4 +1,3 @@
-pub mod LinesOut
 pub mod Judging
 pub mod Ended
 pub mod Returned

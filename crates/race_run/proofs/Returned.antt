@@ -1,10 +1,10 @@
 -- The controller that is closed with all passes.
 use Rattle.std.proofs.Common.{IfSome, List, None, Option, Some, arith, length, slice_get, subst, ℕ, ◌+◌, ◌<◌, ◌∙◌, ◌≡◌}
-use Rattle.nvme_model.specs.Kept.{Kept}
+use Rattle.nvme_model.specs.Kept.{ControllerInvariant}
 use Rattle.nvme_model.specs.Legal.{IsLegal}
 use Rattle.nvme_model.specs.declared.array.Range.{Range}
 use Rattle.nvme_model.specs.declared.config.ConfigNumbers.{ConfigNumbers}
-use Rattle.controller_steps.specs.State.{State}
+use Rattle.controller_steps.specs.State.{ControllerState}
 use Rattle.closing_laws.specs.Closing.{KeepsSlots}
 use Rattle.closing_laws.proofs.Rostering.{race_keeps}
 use Rattle.meet_lock.specs.Passes.{IsSeenWhole, config_of}
@@ -19,15 +19,15 @@ module _ (e : Engine) (c : ConfigNumbers) (slots : Range) (servers : ℕ) (ps : 
       → ((k : ℕ) (p : EnginePass) → slice_get ps k ≡ Some p → d ≡ config_of p) → d ≡ c
   same_config d f = let a = some_at ps 0 (omega (arith, count, some)) in f 0 a.0 a.1 ∙ (ended 0 a.0 a.1).1.config
 
-  pub closed_config : (o : Option State)
+  pub closed_config : (o : Option ControllerState)
       → IfSome o (λ core. (k : ℕ) (p : EnginePass) → slice_get ps k ≡ Some p → core.config ≡ config_of p)
       → IfSome o (λ core. core.config ≡ c)
   closed_config None f = tt
   closed_config (Some core) f = same_config core.config f
 
-  pub closed_slots : (o : Option State)
+  pub closed_slots : (o : Option ControllerState)
       → IfSome o (λ core. (k : ℕ) (p : EnginePass) → slice_get ps k ≡ Some p → core.config ≡ config_of p)
-      → IfSome o (λ core. Kept core.config core.past) → IfSome o (λ core. IsSeenWhole ps core.past)
+      → IfSome o (λ core. ControllerInvariant core.config core.past) → IfSome o (λ core. IsSeenWhole ps core.past)
       → IfSome o (λ core. KeepsSlots c slots core.past)
   closed_slots None f kept whole = tt
   closed_slots (Some core) f kept whole =

@@ -10,7 +10,7 @@ use Rattle.work_queue.specs.declared.engine.Engine.{Engine}
 
 -- A pass that came back. The first ones, so many, only serve; behind them is one for the host of each completion queue.
 pub record HasEnded (e : Engine) (c : ConfigNumbers) (slots : Range) (servers : ℕ) (p : EnginePass) : Type 0 where
-  pub of : engine.IsOf e p
+  pub of : engine.IsPassOfEngine e p
   pub config : config_of p ≡ c
   pub closing : IsClosing c slots servers p
 

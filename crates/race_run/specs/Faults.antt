@@ -4,11 +4,11 @@ use Rattle.race_run.specs.declared.fault.RaceFault.{RaceFault}
 use Rattle.race_run.specs.declared.fault.RaceFault.TheVariants.{BadAt, NoHistory, NoMemory, Output}
 
 -- the status with which the program then ends
-abbrev pub status_of : RaceFault → ℕ
-status_of NoHistory = 1
-status_of (BadAt k) = 1
-status_of Output = 3
-status_of NoMemory = 4
+abbrev pub race_exit_status : RaceFault → ℕ
+race_exit_status NoHistory = 1
+race_exit_status (BadAt k) = 1
+race_exit_status Output = 3
+race_exit_status NoMemory = 4
 
 -- it comes before anything is written
 abbrev pub IsEarly : RaceFault → Type 0

@@ -1,5 +1,4 @@
 pub mod Ended
 pub mod Slots
-pub mod Texts
 pub mod Faults
 pub mod Races

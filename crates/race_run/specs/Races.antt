@@ -7,7 +7,7 @@ use Rattle.nvme_model.specs.History.{Past}
 use Rattle.nvme_model.specs.Legal.{IsLegal}
 use Rattle.nvme_model.specs.declared.config.ConfigNumbers.{ConfigNumbers}
 use Rattle.nvme_model.specs.declared.entry.Entry.{Entry}
-use Rattle.race_run.specs.Texts.{history_text}
+use Rattle.history_text.specs.Texts.{history_text}
 use Rattle.race_run.specs.declared.fault.RaceFault.{RaceFault}
 use Rattle.race_run.specs.declared.fault.RaceFault.TheVariants.{BadAt, NoHistory, NoMemory, Output}
 
@@ -21,12 +21,13 @@ abbrev pub PrintsBeginning : ConfigNumbers → Option (List ℕ) → Option (Lis
 PrintsBeginning c old new = (past : Past) × IsLegal c past × AppendsFront old new (history_text c (reverse past))
 
 -- by what printing a history answered: its whole text was written, or a beginning of it
-abbrev pub Tells : ConfigNumbers → List Entry → Result (Unit {0}) RaceFault → Option (List ℕ) → Option (List ℕ) → Type 0
-Tells c entries (Ok x) old new = Appends old new (history_text c entries)
-Tells c entries (Err Output) old new = AppendsFront old new (history_text c entries)
-Tells c entries (Err NoMemory) old new = AppendsFront old new (history_text c entries)
-Tells c entries (Err NoHistory) old new = ⊥
-Tells c entries (Err (BadAt k)) old new = ⊥
+abbrev pub TellsHistory : ConfigNumbers → List Entry → Result (Unit {0}) RaceFault → Option (List ℕ) → Option (List ℕ)
+    → Type 0
+TellsHistory c entries (Ok x) old new = Appends old new (history_text c entries)
+TellsHistory c entries (Err Output) old new = AppendsFront old new (history_text c entries)
+TellsHistory c entries (Err NoMemory) old new = AppendsFront old new (history_text c entries)
+TellsHistory c entries (Err NoHistory) old new = ⊥
+TellsHistory c entries (Err (BadAt k)) old new = ⊥
 
 -- By what a race answered. That its history isn't legal it never answers.
 abbrev pub Races : ConfigNumbers → Result (Unit {0}) RaceFault → Option (List ℕ) → Option (List ℕ) → Type 0

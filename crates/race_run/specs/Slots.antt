@@ -7,7 +7,7 @@ use Rattle.nvme_model.specs.declared.array.Range.{Range}
 use Rattle.nvme_model.specs.declared.config.ConfigNumbers.{ConfigNumbers}
 use Rattle.closing_laws.specs.Closing.{KeepsSlots}
 use Rattle.race_numbers.specs.declared.race.Race.{Race}
-use Rattle.race_run.specs.Texts.{history_text}
+use Rattle.history_text.specs.Texts.{history_text}
 
 -- the slots of a race: blocks 0 to S - 1
 abbrev pub slots_of : Race → Range

@@ -1,7 +1,7 @@
 //! Why a race gave no legal history.
 
 ghost use Rattle.std.specs.Prelude.{◌≡◌};
-ghost use Rattle.race_run.specs.Faults.{status_of};
+ghost use Rattle.race_run.specs.Faults.{race_exit_status};
 
 use std::alloc::AllocError;
 use thiserror::Error;
@@ -26,7 +26,7 @@ pub enum RaceFault {
 impl RaceFault {
     /// The status with which the program then ends.
     pub fn status(&self) -> u8
-        ensures value { result ≡ status_of self.now }
+        ensures value { result ≡ race_exit_status self.now }
     {
         match self {
             RaceFault::NoHistory | RaceFault::BadAt(_) => 1,

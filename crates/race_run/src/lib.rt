@@ -3,10 +3,9 @@
 
 mod closing;
 mod fault;
-mod printing;
 mod racing;
 mod run;
 
 pub use fault::RaceFault;
-pub use printing::{PrintFault, print_history};
+pub use history_text::{PrintFault, print_history};
 pub use run::run_race;

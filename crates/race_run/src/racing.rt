@@ -3,10 +3,10 @@
 ghost use Rattle.std.specs.List.{AllZip};
 ghost use Rattle.std.specs.Prelude.{◌+◌, ◌≡◌, ◌≤◌, All, IfErr, IfOk, OnOk, vec_len};
 ghost use Rattle.meet_lock.specs.Passes.{number};
-ghost use Rattle.hosts.specs.Hands.{AreHandsOf, IsHostOf};
+ghost use Rattle.shared_system.specs.Callers.{AreCallersOf, IsHostOf};
 ghost use Rattle.host_rounds.specs.Hosts.{IsSlotArea};
-ghost use Rattle.host_rounds.specs.Playing.{HasPlayed, HostGoes};
-ghost use Rattle.race_numbers.specs.Races.{config_of};
+ghost use Rattle.host_rounds.specs.Playing.{HasPlayed, HostPassesContinue};
+ghost use Rattle.race_numbers.specs.Races.{race_config};
 ghost use Rattle.race_run.specs.Ended.{EndDown, HasEnded};
 ghost use Rattle.race_run.specs.Faults.{IsEarly};
 ghost use Rattle.closing_laws.specs.Closing.{KeepsSlots};
@@ -15,34 +15,35 @@ ghost use Rattle.race_run.specs.Slots.{slots_of};
 use crate::closing::{closed, room_for};
 use crate::fault::RaceFault;
 use host_rounds::{Play, run_hosts};
-use hosts::{Crew, Hall, Hands, HostHand, OpenGate, Returned, hall_of, run_crew};
+use hosts::{Crew, OpenGate, Returned, run_crew};
 use nvme_model::array::Range;
 use race_numbers::Race;
+use shared_system::{Callers, HostPasses, System, system_of};
 use std::alloc::{AllocError as NoMemory, Global};
 use std::sync::Wait;
 use std::thread::Threads;
 use step_core::Core;
 
-// The crew, and beside it the hosts, until these have ended. All hands come back, in the order in which they were
+// The crew, and beside it the hosts, until these have ended. All passes come back, in the order in which they were
 // given.
 #[tactic(auto, using(crate::proofs::Ended::fetcher, crate::proofs::Ended::workers, crate::proofs::Ended::hosts))]
 fn all_threads<R: Threads + Wait + Sync>(
     rt: &R,
     alloc: Global,
-    hall: &Hall<OpenGate>,
+    system: &System<OpenGate>,
     play: &Play,
     queues: u16,
-    hands: Hands,
+    callers: Callers,
     _workers: u16,
-) -> Result<Hands, NoMemory>
-    requires hands { AreHandsOf hall.now play.now.config _workers hands }
+) -> Result<Callers, NoMemory>
+    requires callers { AreCallersOf system.now play.now.config _workers callers }
     requires slots { IsSlotArea play.now.slots }
     requires queues { 1 ≤ queues }
-    ensures workers { IfOk result (λ h. EndDown (λ w. w.hand.pass) hall.now.engine play.now.config play.now.slots
+    ensures workers { IfOk result (λ h. EndDown (λ w. w.caller.pass) system.now.engine play.now.config play.now.slots
         (_workers + 1) _workers h.workers.items) }
     ensures fetcher { IfOk result (λ h. (number h.fetcher.pass ≡ _workers + 1)
-        × HasEnded hall.now.engine play.now.config play.now.slots (_workers + 1) h.fetcher.pass) }
-    ensures hosts { IfOk result (λ h. EndDown (λ g. g.pass) hall.now.engine play.now.config play.now.slots
+        × HasEnded system.now.engine play.now.config play.now.slots (_workers + 1) h.fetcher.pass) }
+    ensures hosts { IfOk result (λ h. EndDown (λ g. g.pass) system.now.engine play.now.config play.now.slots
         (_workers + 1) (_workers + 1 + play.now.config.cqs) h.hosts.items) }
     ensures counts { IfOk result (λ h. (vec_len h.workers ≡ _workers) × (vec_len h.hosts ≡ play.now.config.cqs)) }
 {
@@ -54,20 +55,20 @@ fn all_threads<R: Threads + Wait + Sync>(
     } = run_crew(
         rt,
         alloc,
-        hall,
+        system,
         queues,
-        hands,
-        |hosts: Vec<HostHand>| -> Returned<Vec<HostHand>>
-            requires { All (IsHostOf hall.now play.now.config) hosts.items × IsSlotArea play.now.slots }
-            ensures back { AllZip (HostGoes hall.entry.now) hosts.items result.0.items }
+        callers,
+        |hosts: Vec<HostPasses>| -> Returned<Vec<HostPasses>>
+            requires { All (IsHostOf system.now play.now.config) hosts.items × IsSlotArea play.now.slots }
+            ensures back { AllZip (HostPassesContinue system.entry.now) hosts.items result.0.items }
             ensures played { OnOk result.1
-                (AllZip (HasPlayed hall.entry.now play.entry.now) hosts.items result.0.items) }
-        { run_hosts(rt, alloc, hall, play, hosts) },
+                (AllZip (HasPlayed system.entry.now play.entry.now) hosts.items result.0.items) }
+        { run_hosts(rt, alloc, system, play, hosts) },
     );
     let (hosts, played) = beside;
     ends?;
     played?;
-    Ok(Hands {
+    Ok(Callers {
         fetcher,
         workers,
         hosts,
@@ -85,12 +86,12 @@ pub(crate) fn raced<R: Threads + Wait + Sync>(
     alloc: Global,
     race: &Race,
 ) -> Result<Core, RaceFault>
-    ensures config { IfOk result (λ core. core.config ≡ config_of race.now) }
-    ensures slots { IfOk result (λ core. KeepsSlots (config_of race.now) (slots_of race.now) core.past) }
+    ensures config { IfOk result (λ core. core.config ≡ race_config race.now) }
+    ensures slots { IfOk result (λ core. KeepsSlots (race_config race.now) (slots_of race.now) core.past) }
     ensures early { IfErr result IsEarly }
 {
     let config = race.config();
-    let (hall, hands) = hall_of(alloc, config, OpenGate, race.workers)?;
+    let (system, callers) = system_of(alloc, config, OpenGate, race.workers)?;
     let slots = Range {
         slba: 0,
         blocks: race.slots,
@@ -102,6 +103,6 @@ pub(crate) fn raced<R: Threads + Wait + Sync>(
     };
     let room = room_for(alloc, &play, race.workers)?;
     let queues = config.numbers().pairs;
-    let hands = all_threads(rt, alloc, &hall, &play, queues, hands, race.workers)?;
-    closed(hall, &play, hands, room).ok_or(RaceFault::NoHistory)
+    let callers = all_threads(rt, alloc, &system, &play, queues, callers, race.workers)?;
+    closed(system, &play, callers, room).ok_or(RaceFault::NoHistory)
 }

@@ -3,17 +3,17 @@
 ghost use Rattle.std.specs.Prelude.{◌≡◌, All, IfErr, OnOk, reverse};
 ghost use Rattle.history.specs.Lines.{HasLine};
 ghost use Rattle.nvme_model.specs.Legal.{IsLegalFile};
-ghost use Rattle.race_numbers.specs.Races.{config_of};
-ghost use Rattle.race_run.specs.Races.{Races, Tells};
+ghost use Rattle.race_numbers.specs.Races.{race_config};
+ghost use Rattle.race_run.specs.Races.{Races, TellsHistory};
 ghost use Rattle.closing_laws.specs.Closing.{KeepsSlots};
 ghost use Rattle.race_run.specs.Slots.{PrintsSlots, slots_of};
 ghost use Rattle.race_run.specs.declared.fault.RaceFault.{RaceFault};
 
 use crate::fault::RaceFault;
-use crate::printing::{PrintFault, print_history};
 use crate::racing::raced;
 use history::{Config, Entry};
 use history_check::{CheckFault, check};
+use history_text::{PrintFault, print_history};
 use nvme_model::array::Range;
 use race_numbers::Race;
 use std::alloc::Global;
@@ -28,7 +28,7 @@ fn tell<W: Write>(
     entries: &[Entry],
     writer: &mut W,
 ) -> Result<(), RaceFault>
-    ensures tells { Tells config.now entries.now result (W.contents writer.old) (W.contents writer.new) }
+    ensures tells { TellsHistory config.now entries.now result (W.contents writer.old) (W.contents writer.new) }
     ensures lines { OnOk result (All HasLine entries.now) }
 {
     match print_history(alloc, config, entries, writer) {
@@ -84,9 +84,9 @@ pub fn run_race<R: Threads + Wait + Sync, W: Write>(
     race: &Race,
     writer: &mut W,
 ) -> Result<(), RaceFault>
-    ensures races { Races (config_of race.now) result (W.contents writer.old) (W.contents writer.new) }
+    ensures races { Races (race_config race.now) result (W.contents writer.old) (W.contents writer.new) }
     ensures slots { OnOk result
-        (PrintsSlots (config_of race.now) (slots_of race.now) (W.contents writer.old) (W.contents writer.new)) }
+        (PrintsSlots (race_config race.now) (slots_of race.now) (W.contents writer.old) (W.contents writer.new)) }
 {
     let core = raced(rt, alloc, race)?;
     let config = core.config();

@@ -1,14 +1,15 @@
 //! Hosts that are stopped from outside.
 
 ghost use Rattle.std.specs.Prelude.{◌≡◌, All, IfOk};
-ghost use Rattle.hosts.specs.Hands.{IsHostOf, IsOf, IsWorkerOf};
+ghost use Rattle.shared_system.specs.Callers.{IsHostOf, IsCallerOf, IsWorkerOf};
 ghost use Rattle.host_rounds.specs.Hosts.{IsSlotArea};
 
 use history::Config;
 use history_check::check;
 use host_rounds::{Play, run_hosts};
-use hosts::{Crew, Gate, Hall, Hand, Hands, HostHand, Point, hall_of, run_crew};
+use hosts::{Crew, Gate, Point, run_crew};
 use nvme_model::array::Range;
+use shared_system::{CallerPasses, Callers, HostPasses, System, system_of};
 use std::alloc::{AllocError as NoMemory, Global};
 use std::sync::Wait;
 use std::sync::atomic::{AtomicUsize, Ordering};
@@ -24,11 +25,11 @@ const ENOUGH: usize = 500;
 
 /// Counts Fetches, Grants and Blocks.
 #[derive(Drop)]
-struct Steps {
+struct StepCount {
     made: AtomicUsize,
 }
 
-impl Gate for Steps {
+impl Gate for StepCount {
     fn pass(&self, point: Point, _ticket: u64) {
         if point != Point::Posting {
             self.made.fetch_add(1, Ordering::SeqCst);
@@ -37,49 +38,49 @@ impl Gate for Steps {
 }
 
 // Sets the stop flag once enough steps were made, or the hosts have ended.
-fn stops_late(hall: &Hall<Steps>) {
+fn stops_late(system: &System<StepCount>) {
     for _ in 0..u64::MAX {
-        if hall.stop.is_set() || hall.gate.made.load(Ordering::SeqCst) >= ENOUGH {
+        if system.stop.is_set() || system.gate.made.load(Ordering::SeqCst) >= ENOUGH {
             break;
         }
         yield_now();
     }
-    hall.stop.set();
+    system.stop.set();
 }
 
 // The hosts, and the stop flag behind them.
 fn hosts_to_the_end<R: Threads + Wait + Sync>(
     rt: &R,
     alloc: Global,
-    hall: &Hall<Steps>,
+    system: &System<StepCount>,
     play: &Play,
-    hands: Vec<HostHand>,
+    callers: Vec<HostPasses>,
 ) -> Result<(), NoMemory>
-    requires hands { All (IsHostOf hall.now play.now.config) hands.items }
+    requires callers { All (IsHostOf system.now play.now.config) callers.items }
     requires slots { IsSlotArea play.now.slots }
 {
-    let (_, ended) = run_hosts(rt, alloc, hall, play, hands);
-    hall.stop.set();
+    let (_, ended) = run_hosts(rt, alloc, system, play, callers);
+    system.stop.set();
     ended
 }
 
 // The hosts, and who stops them.
-fn guests<R: Threads + Wait + Sync>(
+fn play_hosts<R: Threads + Wait + Sync>(
     rt: &R,
     alloc: Global,
-    hall: &Hall<Steps>,
+    system: &System<StepCount>,
     play: &Play,
-    hands: Vec<HostHand>,
+    callers: Vec<HostPasses>,
 ) -> Result<(), NoMemory>
-    requires hands { All (IsHostOf hall.now play.now.config) hands.items }
+    requires callers { All (IsHostOf system.now play.now.config) callers.items }
     requires slots { IsSlotArea play.now.slots }
 {
     let (ended, ()) = join(
         rt,
         move || -> Result<(), NoMemory>
-            requires { All (IsHostOf hall.now play.now.config) hands.items × IsSlotArea play.now.slots }
-        { hosts_to_the_end(rt, alloc, hall, play, hands) },
-        || stops_late(hall),
+            requires { All (IsHostOf system.now play.now.config) callers.items × IsSlotArea play.now.slots }
+        { hosts_to_the_end(rt, alloc, system, play, callers) },
+        || stops_late(system),
     );
     ended
 }
@@ -88,14 +89,14 @@ fn guests<R: Threads + Wait + Sync>(
 fn all<R: Threads + Wait + Sync>(
     rt: &R,
     alloc: Global,
-    hall: &Hall<Steps>,
+    system: &System<StepCount>,
     play: &Play,
-    hands: Hands,
-) -> Result<Hand, NoMemory>
-    requires crew { IsOf hall.now hands.fetcher × All (IsWorkerOf hall.now) hands.workers.items }
-    requires hosts { All (IsHostOf hall.now play.now.config) hands.hosts.items }
+    callers: Callers,
+) -> Result<CallerPasses, NoMemory>
+    requires crew { IsCallerOf system.now callers.fetcher × All (IsWorkerOf system.now) callers.workers.items }
+    requires hosts { All (IsHostOf system.now play.now.config) callers.hosts.items }
     requires slots { IsSlotArea play.now.slots }
-    ensures { IfOk result (IsOf hall.now) }
+    ensures { IfOk result (IsCallerOf system.now) }
 {
     let Crew {
         fetcher,
@@ -105,12 +106,12 @@ fn all<R: Threads + Wait + Sync>(
     } = run_crew(
         rt,
         alloc,
-        hall,
+        system,
         2,
-        hands,
-        |hosts: Vec<HostHand>| -> Result<(), NoMemory>
-            requires { All (IsHostOf hall.now play.now.config) hosts.items × IsSlotArea play.now.slots }
-        { guests(rt, alloc, hall, play, hosts) },
+        callers,
+        |hosts: Vec<HostPasses>| -> Result<(), NoMemory>
+            requires { All (IsHostOf system.now play.now.config) hosts.items × IsSlotArea play.now.slots }
+        { play_hosts(rt, alloc, system, play, hosts) },
     );
     ends?;
     beside?;
@@ -119,18 +120,18 @@ fn all<R: Threads + Wait + Sync>(
 
 // The controller of a race that is stopped.
 fn stopped<R: Threads + Wait + Sync>(rt: &R, alloc: Global, config: Config) -> Result<Core, Fail> {
-    let gate = Steps {
+    let gate = StepCount {
         made: AtomicUsize::new(0),
     };
-    let (hall, hands) = hall_of(alloc, config, gate, 2)?;
+    let (system, callers) = system_of(alloc, config, gate, 2)?;
     let play = Play {
         config,
         slots: Range { slba: 0, blocks: 2 },
         rounds: ROUNDS,
     };
-    let hand = all(rt, alloc, &hall, &play, hands)?;
-    let Hall { engine, .. } = hall;
-    Ok(engine.close(hand.pass).ok_or("the lock isn't free")?)
+    let caller = all(rt, alloc, &system, &play, callers)?;
+    let System { engine, .. } = system;
+    Ok(engine.close(caller.pass).ok_or("the lock isn't free")?)
 }
 
 #[test]

@@ -9,7 +9,7 @@ use Rattle.nvme_model.specs.Open.{conflict}
 use Rattle.nvme_model.specs.Operations.{is_exclusive}
 use Rattle.nvme_model.specs.declared.array.Mode.{Mode}
 use Rattle.nvme_model.specs.declared.array.Range.{Range}
-use Rattle.range_reserve.specs.declared.held.Held.{Held}
+use Rattle.range_reserve.specs.declared.held.HeldRange.{HeldRange}
 use Rattle.range_reserve.specs.Reserved.{AreApart}
 
 -- ---- two ranges
@@ -114,24 +114,25 @@ none_at p (x ∷ xs) zero y h e = let f : Some x ≡ Some y = e in let g : x ≡
 none_at p (x ∷ xs) (suc i) y h e = none_at p xs i y (or_parts (p x) (list_any p xs) h).1 e
 
 -- two that don't conflict, of two tickets
-pub record ArePair (g h : Held) : Type 0 where
+pub record ArePair (g h : HeldRange) : Type 0 where
   pub conflict : conflict g.range g.mode h.range h.mode ≡ false
   pub ticket : g.ticket ≢ h.ticket
 
-turned : (g h : Held) → ArePair g h → ArePair h g
+turned : (g h : HeldRange) → ArePair g h → ArePair h g
 turned g h p = record {
   conflict = conflict-turned h.range h.mode g.range g.mode ∙ p.conflict;
   ticket = λ e. p.ticket (sym e);
 }
 
-first_pair : (x : Held) (xs : List Held) (i : ℕ) (y : Held) → AreApart (x ∷ xs) → slice_get xs i ≡ Some y → ArePair x y
+first_pair : (x : HeldRange) (xs : List HeldRange) (i : ℕ) (y : HeldRange) → AreApart (x ∷ xs) → slice_get xs i ≡ Some y
+    → ArePair x y
 first_pair x xs i y a e = record {
   conflict = none_at (λ h. conflict x.range x.mode h.range h.mode) xs i y a.2 e;
   ticket = λ (t : x.ticket ≡ y.ticket).
       true≢false (sym (eq-eqb y.ticket x.ticket (sym t)) ∙ none_at (λ h. h.ticket == x.ticket) xs i y a.1 e);
 }
 
-pub pair_at : (held : List Held) (i j : ℕ) (g h : Held) → AreApart held → i ≢ j → slice_get held i ≡ Some g
+pub pair_at : (held : List HeldRange) (i j : ℕ) (g h : HeldRange) → AreApart held → i ≢ j → slice_get held i ≡ Some g
     → slice_get held j ≡ Some h → ArePair g h
 pair_at [] i j g h a n d e = absurd (let f : None ≡ Some g = d in cc)
 pair_at (x ∷ xs) zero zero g h a n d e = absurd (n refl)
@@ -142,7 +143,7 @@ pair_at (x ∷ xs) (suc i) zero g h a n d e = let f : Some x ≡ Some h = e in l
 pair_at (x ∷ xs) (suc i) (suc j) g h a n d e = pair_at xs i j g h a.3 (λ (s : i ≡ j). n (ap suc s)) d e
 
 -- a block of an Exclusive range is in no other
-pub alone : (g h : Held) (l : ℕ) → ArePair g h → is_exclusive g.mode ≡ true → has_block g.range l ≡ true
+pub alone : (g h : HeldRange) (l : ℕ) → ArePair g h → is_exclusive g.mode ≡ true → has_block g.range l ≡ true
     → has_block h.range l ≡ false
 alone g h l p x b = false_from_ne_true (has_block h.range l) (λ (k : has_block h.range l ≡ true).
     true≢false (sym (and_from (overlap g.range h.range) (is_exclusive g.mode || is_exclusive h.mode)

@@ -5,7 +5,7 @@ ghost use Rattle.nvme_model.specs.Array.{overlap};
 ghost use Rattle.nvme_model.specs.Open.{conflict};
 ghost use Rattle.range_reserve.specs.Sorted.{has_conflict_before_end};
 
-use crate::held::Held;
+use crate::held::HeldRange;
 use nvme_model::array::{Mode, Range};
 use std::cmp::Ordering;
 
@@ -38,7 +38,7 @@ fn starts_before_end(range: Range, start: u64) -> bool
 }
 
 /// Whether the range conflicts with one of those, by rising start, that stand before the first that starts behind it.
-pub fn has_conflict_before_end(held: &[Held], range: Range, mode: Mode) -> bool
+pub fn has_conflict_before_end(held: &[HeldRange], range: Range, mode: Mode) -> bool
     ensures value { result ≡ has_conflict_before_end held.now range mode }
 {
     held.iter()

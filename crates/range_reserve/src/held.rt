@@ -9,15 +9,15 @@ use nvme_model::array::{Mode, Range};
 
 /// The range that a ticket holds, and how.
 #[derive(Clone, Copy, Debug, PartialEq, Eq)]
-pub struct Held {
+pub struct HeldRange {
     pub ticket: u64,
     pub range: Range,
     pub mode: Mode,
 }
 
 /// What the ticket holds, of those by rising ticket.
-pub fn held_by(held: &[Held], ticket: u64) -> Option<Held>
-    requires rising { IsRisingBy (λ (h : Held). h.ticket) held.now }
+pub fn held_by(held: &[HeldRange], ticket: u64) -> Option<HeldRange>
+    requires rising { IsRisingBy (λ (h : HeldRange). h.ticket) held.now }
     ensures value { result ≡ find (λ h. h.ticket == ticket) held.now }
 {
     let place = ticket_place(held, ticket);

@@ -7,5 +7,5 @@ pub mod laws;
 mod places;
 mod ranges;
 
-pub use held::Held;
+pub use held::HeldRange;
 pub use ranges::Ranges;

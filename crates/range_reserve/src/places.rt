@@ -2,9 +2,9 @@
 
 ghost use Rattle.std.specs.Prelude.{◌≡◌, ◌≤◌, length};
 ghost use Rattle.range_reserve.specs.Sorted.{IsRisingBy, held_key, place_by, start_key};
-ghost use Rattle.range_reserve.specs.declared.held.Held.{Held};
+ghost use Rattle.range_reserve.specs.declared.held.HeldRange.{HeldRange};
 
-use crate::held::Held;
+use crate::held::HeldRange;
 
 /// The start and then the ticket, as one number.
 fn start_key(start: u64, ticket: u64) -> u128
@@ -14,16 +14,16 @@ fn start_key(start: u64, ticket: u64) -> u128
 }
 
 /// How many of those by rising ticket are below this one.
-pub fn ticket_place(held: &[Held], ticket: u64) -> usize
-    requires rising { IsRisingBy (λ (h : Held). h.ticket) held.now }
-    ensures place { result ≡ place_by (λ (h : Held). h.ticket) ticket held.now }
+pub fn ticket_place(held: &[HeldRange], ticket: u64) -> usize
+    requires rising { IsRisingBy (λ (h : HeldRange). h.ticket) held.now }
+    ensures place { result ≡ place_by (λ (h : HeldRange). h.ticket) ticket held.now }
     ensures bound { result ≤ length held.now }
 {
     held.partition_point(|one| one.ticket < ticket)
 }
 
 /// How many of those by start stand before this start and ticket.
-pub fn start_place(held: &[Held], start: u64, ticket: u64) -> usize
+pub fn start_place(held: &[HeldRange], start: u64, ticket: u64) -> usize
     requires rising { IsRisingBy held_key held.now }
     ensures place { result ≡ place_by held_key (start_key start ticket) held.now }
     ensures bound { result ≤ length held.now }

@@ -3,11 +3,11 @@
 ghost use Rattle.std.specs.Prelude.{◌≡◌, ◌+◌, ◌-◌, ◌≤◌, ◌<◌, ◌↔◌, ◌⊎◌, [], ◌∷◌, IfErr, IsTrue, OnErr, OnOk, false};
 ghost use Rattle.std.specs.Prelude.{is_some, reverse, vec_capacity, vec_len};
 ghost use Rattle.nvme_model.specs.Array.{IsRange};
-ghost use Rattle.range_reserve.specs.Reserved.{AreApart, AreRising, has_conflict, has_ticket, held_beside};
+ghost use Rattle.range_reserve.specs.Reserved.{AreApart, AreHoldersRising, has_conflict, holds_range, held_beside};
 ghost use Rattle.range_reserve.specs.Reserved.{held_by, insert_held};
 
 use crate::conflicts::has_conflict_before_end;
-use crate::held::{Held, held_by};
+use crate::held::{HeldRange, held_by};
 use crate::places::{start_place, ticket_place};
 use nvme_model::array::{Mode, Range};
 use nvme_model::refusal::Why;
@@ -20,9 +20,9 @@ use std::marker::Model;
 #[derive(Drop)]
 pub struct Ranges {
     /// By rising ticket.
-    tickets: Vec<Held>,
+    tickets: Vec<HeldRange>,
     /// The same by rising start, and by ticket where starts are equal.
-    starts: Vec<Held>,
+    starts: Vec<HeldRange>,
     /// No range that was ever granted is longer.
     longest: u32,
 }
@@ -84,9 +84,9 @@ impl Ranges {
     /// What the ticket holds.
     pub fn holds(&self, ticket: u64) -> Option<(Range, Mode)>
         ensures holds { result ≡ held_by self.now.held ticket }
-        ensures any { is_some result ≡ has_ticket self.now.held ticket }
+        ensures any { is_some result ≡ holds_range self.now.held ticket }
         ensures law { AreApart self.now.held }
-        ensures rising { AreRising self.now.held }
+        ensures rising { AreHoldersRising self.now.held }
     {
         held_by(self.tickets.as_slice(), ticket).map(|one| (one.range, one.mode))
     }
@@ -98,7 +98,7 @@ impl Ranges {
     /// `Conflict` where one that is held conflicts with it; else `NoMemory` where there was no room and a growth is
     /// refused. What is held is then as before.
     pub fn grant(&mut self, ticket: u64, range: Range, mode: Mode) -> Result<(), Why>
-        requires free { has_ticket self.old.held ticket ≡ false }
+        requires free { holds_range self.old.held ticket ≡ false }
         requires range { IsRange range }
         ensures ok { OnOk result
             (self.new.held ≡ insert_held (record { ticket = ticket; range = range; mode = mode }) self.old.held) }
@@ -120,7 +120,7 @@ impl Ranges {
         if self.reserve(1).is_err() {
             return Err(Why::NoMemory);
         }
-        let held = Held {
+        let held = HeldRange {
             ticket,
             range,
             mode,
@@ -132,8 +132,8 @@ impl Ranges {
     /// Makes the ticket hold nothing; where it holds nothing, this changes nothing.
     pub fn release(&mut self, ticket: u64)
         ensures released { self.new.held ≡ held_beside self.old.held ticket }
-        ensures absent { has_ticket self.old.held ticket ≡ false → self.new.held ≡ self.old.held }
-        ensures free { has_ticket self.new.held ticket ≡ false }
+        ensures absent { holds_range self.old.held ticket ≡ false → self.new.held ≡ self.old.held }
+        ensures free { holds_range self.new.held ticket ≡ false }
         ensures room { self.old.room ≤ self.new.room }
         ensures law { AreApart self.new.held }
     {
@@ -149,9 +149,9 @@ impl Ranges {
     }
 
     // Keeps what its ticket is to hold in both orders; there is room, so neither is refused.
-    fn put(&mut self, held: Held)
+    fn put(&mut self, held: HeldRange)
         requires room { 1 ≤ self.old.room }
-        requires free { has_ticket self.old.held held.ticket ≡ false }
+        requires free { holds_range self.old.held held.ticket ≡ false }
         requires range { IsRange held.range }
         requires apart { has_conflict self.old.held held.range held.mode ≡ false }
         ensures held { self.new.held ≡ insert_held held self.old.held }

@@ -2,15 +2,15 @@
 
 ghost use Rattle.std.specs.Prelude.{◌≡◌, IfSome};
 ghost use Rattle.driver_cas.specs.Drivers.{IsCallOf};
-ghost use Rattle.history.specs.Config.{numbers};
+ghost use Rattle.history.specs.Config.{config_numbers};
 ghost use Rattle.work_queue.specs.Engines.{IsWorkOf};
-ghost use Rattle.driver_rows.specs.Benches.{AreOf, IsHostOf, IsServerOf};
+ghost use Rattle.driver_rows.specs.Benches.{AreBenchSpares, IsBenchHost, IsServerOf};
 
 use crate::runs::TURNS;
 use driver_cas::{Call, Fault, SharedPort};
 use driver_rows::{
-    Ask, Bench, Fill, Host, Server, Spares, Told, fetches, hand_of, hears, host_of, makes, polls,
-    starts,
+    AnswerWords, Ask, Bench, BenchHost, BenchSpares, Fill, Server, caller_of, fetches, hears,
+    host_of, makes, polls, starts,
 };
 use nvme_model::array::Range;
 use std::alloc::Global;
@@ -30,17 +30,17 @@ const A1: Fill = Fill(0xa1, 512);
 const B2: Fill = Fill(0xb2, 512);
 
 /// Calls, and what each is told.
-const CALLS: [(Ask, Told); 10] = [
-    (Ask::Write(2, A1), Told::Written),
-    (Ask::Read(2, 1), Told::Read(512, 0xa1)),
-    (Ask::Compare(2, A1), Told::Equal),
-    (Ask::Compare(2, B2), Told::Differs),
-    (Ask::CompareAndWrite(2, A1, B2), Told::Swapped),
-    (Ask::CompareAndWrite(2, A1, B2), Told::Differs),
-    (Ask::Read(2, 1), Told::Read(512, 0xb2)),
-    (Ask::WriteZeroes(2, 1), Told::Written),
-    (Ask::Read(1, 3), Told::Read(1536, 0)),
-    (Ask::Read(8, 1), Told::Failed(0, 0x80)),
+const CALLS: [(Ask, AnswerWords); 10] = [
+    (Ask::Write(2, A1), AnswerWords::Written),
+    (Ask::Read(2, 1), AnswerWords::Read(512, 0xa1)),
+    (Ask::Compare(2, A1), AnswerWords::Equal),
+    (Ask::Compare(2, B2), AnswerWords::Differs),
+    (Ask::CompareAndWrite(2, A1, B2), AnswerWords::Swapped),
+    (Ask::CompareAndWrite(2, A1, B2), AnswerWords::Differs),
+    (Ask::Read(2, 1), AnswerWords::Read(512, 0xb2)),
+    (Ask::WriteZeroes(2, 1), AnswerWords::Written),
+    (Ask::Read(1, 3), AnswerWords::Read(1536, 0)),
+    (Ask::Read(8, 1), AnswerWords::Failed(0, 0x80)),
 ];
 
 // Makes all tasks of a Work.
@@ -79,12 +79,12 @@ pub(crate) fn serves<R: Wait>(
 // Begins a call.
 fn begins<'a>(
     _bench: &Bench,
-    host: &mut Host<'a>,
+    host: &mut BenchHost<'a>,
     ask: Ask,
     told: &mut u64,
 ) -> Option<Call<SharedPort<'a>>>
-    requires { IsHostOf _bench.now host.old }
-    ensures same { IsHostOf _bench.now host.new }
+    requires { IsBenchHost _bench.now host.old }
+    ensures same { IsBenchHost _bench.now host.new }
     ensures call { IfSome result (IsCallOf host.new.driver) }
 {
     for _ in 0..TURNS {
@@ -100,12 +100,12 @@ fn begins<'a>(
 // Polls a call until it is answered.
 fn answers<'a>(
     _bench: &Bench,
-    host: &mut Host<'a>,
+    host: &mut BenchHost<'a>,
     call: Call<SharedPort<'a>>,
     told: &mut u64,
-) -> Option<Told>
-    requires { IsHostOf _bench.now host.old × IsCallOf host.old.driver call }
-    ensures { IsHostOf _bench.now host.new }
+) -> Option<AnswerWords>
+    requires { IsBenchHost _bench.now host.old × IsCallOf host.old.driver call }
+    ensures { IsBenchHost _bench.now host.new }
 {
     let mut next = call;
     for _ in 0..TURNS {
@@ -113,7 +113,7 @@ fn answers<'a>(
         let Some(same) = back else {
             return Some(now);
         };
-        if now == Told::Later(Fault::NoMemory) {
+        if now == AnswerWords::Later(Fault::NoMemory) {
             *told = told.wrapping_add(1);
         }
         next = same;
@@ -126,12 +126,12 @@ fn served<R: Wait>(
     rt: &R,
     bench: &Bench,
     server: &mut Server,
-    host: &mut Host<'_>,
+    host: &mut BenchHost<'_>,
     ask: Ask,
     told: &mut u64,
-) -> Option<Told>
-    requires { IsServerOf bench.now server.old × IsHostOf bench.now host.old }
-    ensures { IsServerOf bench.now server.new × IsHostOf bench.now host.new }
+) -> Option<AnswerWords>
+    requires { IsServerOf bench.now server.old × IsBenchHost bench.now host.old }
+    ensures { IsServerOf bench.now server.new × IsBenchHost bench.now host.new }
 {
     let call = begins(bench, host, ask, told)?;
     serves(rt, bench, server, 1, told);
@@ -144,10 +144,10 @@ fn makes_all<R: Wait>(
     rt: &R,
     bench: &Bench,
     server: &mut Server,
-    host: &mut Host<'_>,
+    host: &mut BenchHost<'_>,
     told: &mut u64,
 ) -> bool
-    requires { IsServerOf bench.now server.old × IsHostOf bench.now host.old }
+    requires { IsServerOf bench.now server.old × IsBenchHost bench.now host.old }
     ensures { IsServerOf bench.now server.new }
 {
     for (ask, wanted) in CALLS {
@@ -162,17 +162,17 @@ fn makes_all<R: Wait>(
 fn host<'a>(
     alloc: Global,
     bench: &'a Bench,
-    spares: &mut Spares,
+    spares: &mut BenchSpares,
     told: &mut u64,
-) -> Option<Host<'a>>
-    requires own { AreOf bench.now spares.old }
-    requires config { bench.now.config ≡ numbers 8 1 1 0 0 2 4 4 8 2 }
-    ensures { IfSome result (IsHostOf bench.entry.now) }
+) -> Option<BenchHost<'a>>
+    requires own { AreBenchSpares bench.now spares.old }
+    requires config { bench.now.config ≡ config_numbers 8 1 1 0 0 2 4 4 8 2 }
+    ensures { IfSome result (IsBenchHost bench.entry.now) }
 {
     for _ in 0..HOSTS {
         if let Ok(queues) = [1].to_vec(alloc) {
-            let hand = hand_of(bench, spares)?;
-            let host = host_of(alloc, bench, hand, 1, SLOTS, 1, queues);
+            let caller = caller_of(bench, spares)?;
+            let host = host_of(alloc, bench, caller, 1, SLOTS, 1, queues);
             if host.is_some() {
                 return host;
             }
@@ -188,11 +188,11 @@ pub(crate) fn are_answered<R: Wait>(
     alloc: Global,
     bench: &Bench,
     server: &mut Server,
-    spares: &mut Spares,
+    spares: &mut BenchSpares,
     told: &mut u64,
 ) -> bool
-    requires own { AreOf bench.now spares.old × IsServerOf bench.now server.old }
-    requires config { bench.now.config ≡ numbers 8 1 1 0 0 2 4 4 8 2 }
+    requires own { AreBenchSpares bench.now spares.old × IsServerOf bench.now server.old }
+    requires config { bench.now.config ≡ config_numbers 8 1 1 0 0 2 4 4 8 2 }
     ensures { IsServerOf bench.now server.new }
 {
     match host(alloc, bench, spares, told) {

@@ -1,13 +1,13 @@
 //! Hosts of one controller and its server: one that makes calls, or two that claim slots.
 
 ghost use Rattle.std.specs.Prelude.{◌≡◌, IfSome};
-ghost use Rattle.history.specs.Config.{numbers};
-ghost use Rattle.driver_rows.specs.Benches.{AreOf, IsServerOf};
+ghost use Rattle.history.specs.Config.{config_numbers};
+ghost use Rattle.driver_rows.specs.Benches.{AreBenchSpares, IsServerOf};
 
 use crate::calls::are_answered;
 use crate::runs::TURNS;
 use crate::slots::are_granted;
-use driver_rows::{Bench, Server, Spares, bench_of, hand_of};
+use driver_rows::{Bench, BenchSpares, Server, bench_of, caller_of};
 use history::Config;
 use std::alloc::Global;
 use std::sync::Wait;
@@ -18,8 +18,8 @@ use step_core::Core;
 const MOST: usize = 8;
 
 // A controller, and passes for its callers.
-fn bench(alloc: Global, config: Config, told: &mut u64) -> Option<(Bench, Spares)>
-    ensures own { IfSome result (λ b. AreOf b.0 b.1) }
+fn bench(alloc: Global, config: Config, told: &mut u64) -> Option<(Bench, BenchSpares)>
+    ensures own { IfSome result (λ b. AreBenchSpares b.0 b.1) }
     ensures config { IfSome result (λ b. b.0.config ≡ config) }
 {
     for _ in 0..TURNS {
@@ -37,12 +37,12 @@ fn are_served<R: Wait>(
     alloc: Global,
     bench: &Bench,
     server: &mut Server,
-    spares: &mut Spares,
+    spares: &mut BenchSpares,
     is_slots: bool,
     told: &mut u64,
 ) -> bool
-    requires own { AreOf bench.now spares.old × IsServerOf bench.now server.old }
-    requires config { bench.now.config ≡ numbers 8 1 1 0 0 2 4 4 8 2 }
+    requires own { AreBenchSpares bench.now spares.old × IsServerOf bench.now server.old }
+    requires config { bench.now.config ≡ config_numbers 8 1 1 0 0 2 4 4 8 2 }
     ensures { IsServerOf bench.now server.new }
 {
     if is_slots {
@@ -57,15 +57,15 @@ fn all_served<R: Wait>(
     rt: &R,
     alloc: Global,
     bench: &Bench,
-    spares: &mut Spares,
+    spares: &mut BenchSpares,
     is_slots: bool,
     told: &mut u64,
 ) -> Option<Server>
-    requires own { AreOf bench.now spares.old }
-    requires config { bench.now.config ≡ numbers 8 1 1 0 0 2 4 4 8 2 }
+    requires own { AreBenchSpares bench.now spares.old }
+    requires config { bench.now.config ≡ config_numbers 8 1 1 0 0 2 4 4 8 2 }
     ensures { IfSome result (IsServerOf bench.now) }
 {
-    let mut server = hand_of(bench, spares)?;
+    let mut server = caller_of(bench, spares)?;
     if are_served(rt, alloc, bench, &mut server, spares, is_slots, told) {
         Some(server)
     } else {

@@ -1,9 +1,9 @@
 //! A run's steps, each asked for again after want of memory.
 
 ghost use Rattle.std.specs.Prelude.{◌≡◌, [], IfSome};
-ghost use Rattle.meet_lock.specs.Passes.{IsOf, IsSame};
+ghost use Rattle.meet_lock.specs.Passes.{IsPassOfLock, IsSame};
 
-use crate::script::Run;
+use crate::script::RefusalRun;
 use history::Config;
 use meet_lock::{Declined, Pass, Shared};
 use nvme_model::refusal::Why;
@@ -75,7 +75,7 @@ pub(crate) fn insist(core: &mut Core, step: Step, told: &mut u64) {
 
 // A step by a pass; its refusal, if it is refused.
 fn attempt(shared: &Shared<Core>, pass: &mut Pass<Core>, step: Step) -> Option<Refused>
-    requires { IsOf shared.now pass.old }
+    requires { IsPassOfLock shared.now pass.old }
     ensures { IsSame pass.old pass.new }
 {
     match shared.attempt(pass, step) {
@@ -87,7 +87,7 @@ fn attempt(shared: &Shared<Core>, pass: &mut Pass<Core>, step: Step) -> Option<R
 
 // The same by a pass.
 fn insist_by_pass(shared: &Shared<Core>, pass: &mut Pass<Core>, step: Step, told: &mut u64)
-    requires { IsOf shared.now pass.old }
+    requires { IsPassOfLock shared.now pass.old }
     ensures { IsSame pass.old pass.new }
 {
     let mut asked = Some(step);
@@ -107,7 +107,7 @@ fn insist_by_pass(shared: &Shared<Core>, pass: &mut Pass<Core>, step: Step, told
 }
 
 /// All steps by a controller.
-pub(crate) fn by_steps(alloc: Global, run: Run, told: &mut u64) -> Option<Core> {
+pub(crate) fn by_steps(alloc: Global, run: RefusalRun, told: &mut u64) -> Option<Core> {
     let mut core = controller(alloc, run.config, told)?;
     for step in run.steps {
         insist(&mut core, step, told);
@@ -117,7 +117,7 @@ pub(crate) fn by_steps(alloc: Global, run: Run, told: &mut u64) -> Option<Core> 
 
 // All steps by the one pass of a lock.
 fn make_each(shared: &Shared<Core>, pass: &mut Pass<Core>, steps: Vec<Step>, told: &mut u64)
-    requires { IsOf shared.now pass.old }
+    requires { IsPassOfLock shared.now pass.old }
     ensures { IsSame pass.old pass.new }
 {
     for step in steps {
@@ -127,7 +127,7 @@ fn make_each(shared: &Shared<Core>, pass: &mut Pass<Core>, steps: Vec<Step>, tol
 
 // A lock of a new controller and its one pass, asked for again after want of memory.
 fn locked(alloc: Global, config: Config, told: &mut u64) -> Option<(Shared<Core>, Pass<Core>)>
-    ensures { IfSome result (λ l. IsOf l.0 l.1) }
+    ensures { IfSome result (λ l. IsPassOfLock l.0 l.1) }
 {
     let mut core = controller(alloc, config, told)?;
     for _ in 0..TURNS {
@@ -144,7 +144,7 @@ fn locked(alloc: Global, config: Config, told: &mut u64) -> Option<(Shared<Core>
 }
 
 /// All steps by the one pass of a lock.
-pub(crate) fn by_a_pass(alloc: Global, run: Run, told: &mut u64) -> Option<Core> {
+pub(crate) fn by_a_pass(alloc: Global, run: RefusalRun, told: &mut u64) -> Option<Core> {
     let (shared, mut pass) = locked(alloc, run.config, told)?;
     make_each(&shared, &mut pass, run.steps, told);
     shared.close(pass)

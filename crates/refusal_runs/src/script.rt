@@ -7,14 +7,14 @@ use step_core::Step;
 
 /// The steps of a run.
 #[derive(Drop)]
-pub(crate) struct Run {
+pub(crate) struct RefusalRun {
     pub config: Config,
     pub steps: Vec<Step>,
 }
 
 /// The run of a configuration line and lines that are parted by ` / `.
-pub(crate) fn run_of(alloc: Global, first: &str, lines: &str) -> Option<Run> {
+pub(crate) fn run_of(alloc: Global, first: &str, lines: &str) -> Option<RefusalRun> {
     let config = config_of(alloc, first)?;
-    let lock_rows::Run { steps, .. } = lock_rows::run_of(alloc, config, lines)?;
-    Some(Run { config, steps })
+    let lock_rows::ScriptRun { steps, .. } = lock_rows::run_of(alloc, config, lines)?;
+    Some(RefusalRun { config, steps })
 }

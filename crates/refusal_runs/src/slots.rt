@@ -1,8 +1,8 @@
 //! Two hosts that claim and release slots, and ask again after want of memory.
 
 ghost use Rattle.std.specs.Prelude.{◌≡◌, ◌<◌, ◌≤◌, IfSome};
-ghost use Rattle.history.specs.Config.{numbers};
-ghost use Rattle.driver_rows.specs.Benches.{AreOf, IsServerOf};
+ghost use Rattle.history.specs.Config.{config_numbers};
+ghost use Rattle.driver_rows.specs.Benches.{AreBenchSpares, IsServerOf};
 ghost use Rattle.driver_rows.specs.Claimants.{IsClaimant};
 ghost use Rattle.slot_alloc.specs.Areas.{area};
 
@@ -10,8 +10,8 @@ use crate::calls::serves;
 use crate::runs::TURNS;
 use driver_cas::Fault;
 use driver_rows::{
-    Bench, Came, Claimant, Server, Spares, asks, claimant_of, gives_back, hand_of, is_served,
-    polls_begun,
+    Bench, BenchSpares, Came, Claimant, Server, asks, caller_of, claimant_of, gives_back,
+    is_served, polls_begun,
 };
 use slot_alloc::Slots;
 use std::alloc::Global;
@@ -47,21 +47,21 @@ const TURN: [(u16, Wish, Came); 6] = [
 fn claimant<'a>(
     alloc: Global,
     bench: &'a Bench,
-    spares: &mut Spares,
+    spares: &mut BenchSpares,
     h: u16,
     slots: &Slots,
     told: &mut u64,
 ) -> Option<Claimant<'a>>
-    requires own { AreOf bench.now spares.old }
-    requires config { bench.now.config ≡ numbers 8 1 1 0 0 2 4 4 8 2 }
+    requires own { AreBenchSpares bench.now spares.old }
+    requires config { bench.now.config ≡ config_numbers 8 1 1 0 0 2 4 4 8 2 }
     requires number { (1 ≤ h) × (h ≤ 2) }
     requires slots { area slots.now ≡ record { slba = 0; blocks = 2 } }
-    ensures rest { AreOf bench.entry.now spares.new }
+    ensures rest { AreBenchSpares bench.entry.now spares.new }
     ensures claimant { IfSome result (IsClaimant bench.entry.now slots.now) }
 {
     for _ in 0..HOSTS {
-        let hand = hand_of(bench, spares)?;
-        let made = claimant_of(alloc, bench, hand, h, slots, COUNT);
+        let caller = caller_of(bench, spares)?;
+        let made = claimant_of(alloc, bench, caller, h, slots, COUNT);
         if made.is_some() {
             return made;
         }
@@ -198,11 +198,11 @@ pub(crate) fn are_granted<R: Wait>(
     alloc: Global,
     bench: &Bench,
     server: &mut Server,
-    spares: &mut Spares,
+    spares: &mut BenchSpares,
     told: &mut u64,
 ) -> bool
-    requires own { AreOf bench.now spares.old × IsServerOf bench.now server.old }
-    requires config { bench.now.config ≡ numbers 8 1 1 0 0 2 4 4 8 2 }
+    requires own { AreBenchSpares bench.now spares.old × IsServerOf bench.now server.old }
+    requires config { bench.now.config ≡ config_numbers 8 1 1 0 0 2 4 4 8 2 }
     ensures { IsServerOf bench.now server.new }
 {
     let slots = Slots::new(0, COUNT);

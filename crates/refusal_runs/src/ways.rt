@@ -6,7 +6,7 @@ use crate::many::run_many;
 use crate::promises::keep_promise;
 use crate::quiet::make_quiet;
 use crate::runs::{by_a_pass, by_steps, wants};
-use crate::script::{Run, run_of};
+use crate::script::{RefusalRun, run_of};
 use crate::works::by_works;
 use history::{Config, write_line};
 use lock_rows::ROWS;
@@ -20,7 +20,7 @@ use step_core::{Answer, Core, Refused, Step};
 
 /// What came of it.
 #[derive(Drop)]
-enum End {
+enum RunEnd {
     /// All is done; want of memory was told so often.
     Done(u64),
     /// All steps came back.
@@ -29,7 +29,7 @@ enum End {
 
 /// What the words ask for.
 #[derive(Clone, Copy)]
-struct Asked<'a> {
+struct AskedWay<'a> {
     way: &'a str,
     first: &'static str,
     lines: &'static str,
@@ -39,7 +39,7 @@ struct Asked<'a> {
 }
 
 // Shows a run as a script.
-fn show_script<R: Print>(rt: &R, asked: &Asked<'_>) -> Option<End> {
+fn show_script<R: Print>(rt: &R, asked: &AskedWay<'_>) -> Option<RunEnd> {
     let mut out = io::writer(rt);
     out.write_all(asked.first.as_bytes()).ok()?;
     out.write_all(b"\n").ok()?;
@@ -47,7 +47,7 @@ fn show_script<R: Print>(rt: &R, asked: &Asked<'_>) -> Option<End> {
         out.write_all(line.as_bytes()).ok()?;
         out.write_all(b"\n").ok()?;
     }
-    Some(End::Done(0))
+    Some(RunEnd::Done(0))
 }
 
 // Shows the lines of a controller's history.
@@ -61,7 +61,13 @@ fn show_history<R: Print>(rt: &R, core: &Core) -> Option<()> {
 }
 
 // The controller after a run whose steps are asked for again, or after the calls or the claims of a driver.
-fn core_of<R: Wait>(rt: &R, alloc: Global, way: &str, run: Run, told: &mut u64) -> Option<Core> {
+fn core_of<R: Wait>(
+    rt: &R,
+    alloc: Global,
+    way: &str,
+    run: RefusalRun,
+    told: &mut u64,
+) -> Option<Core> {
     match way {
         "steps" => by_steps(alloc, run, told),
         "attempts" => by_a_pass(alloc, run, told),
@@ -73,14 +79,14 @@ fn core_of<R: Wait>(rt: &R, alloc: Global, way: &str, run: Run, told: &mut u64) 
 }
 
 // One run, which isn't shown.
-fn makes<R: AllocGlobal + Wait>(rt: &R, asked: &Asked<'_>, told: &mut u64) -> Option<()> {
+fn makes<R: AllocGlobal + Wait>(rt: &R, asked: &AskedWay<'_>, told: &mut u64) -> Option<()> {
     let run = run_of(rt.alloc(), asked.first, asked.lines)?;
     core_of(rt, rt.alloc(), asked.way, run, told)?;
     Some(())
 }
 
 // So many.
-fn makes_all<R: AllocGlobal + Wait>(rt: &R, asked: &Asked<'_>, told: &mut u64) -> Option<()> {
+fn makes_all<R: AllocGlobal + Wait>(rt: &R, asked: &AskedWay<'_>, told: &mut u64) -> Option<()> {
     for _ in 0..asked.place {
         makes(rt, asked, told)?;
     }
@@ -88,19 +94,28 @@ fn makes_all<R: AllocGlobal + Wait>(rt: &R, asked: &Asked<'_>, told: &mut u64) -
 }
 
 // One that is shown.
-fn shows<R: Print + AllocGlobal + Wait>(rt: &R, way: &str, run: Run, told: &mut u64) -> Option<()> {
+fn shows<R: Print + AllocGlobal + Wait>(
+    rt: &R,
+    way: &str,
+    run: RefusalRun,
+    told: &mut u64,
+) -> Option<()> {
     let core = core_of(rt, rt.alloc(), way, run, told)?;
     show_history(rt, &core)
 }
 
 // All steps, each asked for again, in the last of so many runs and one.
-fn one_by_one<R: Print + AllocGlobal + Wait>(rt: &R, asked: &Asked<'_>, run: Run) -> Option<End> {
+fn one_by_one<R: Print + AllocGlobal + Wait>(
+    rt: &R,
+    asked: &AskedWay<'_>,
+    run: RefusalRun,
+) -> Option<RunEnd> {
     let mut told = 0;
     if !asked.is_first {
         makes_all(rt, asked, &mut told)?;
         shows(rt, asked.way, run, &mut told)?;
     }
-    Some(End::Done(told))
+    Some(RunEnd::Done(told))
 }
 
 // Makes all steps in one call; how many come back, if they do.
@@ -116,29 +131,29 @@ fn run_all(
 }
 
 // An answer for each step, or all come back and nothing has changed.
-fn answered(alloc: Global, core: &mut Core, steps: Vec<Step>) -> Option<End> {
+fn answered(alloc: Global, core: &mut Core, steps: Vec<Step>) -> Option<RunEnd> {
     let count = steps.len();
     let mut answers = Vec::new(alloc);
     match run_all(core, steps, &mut answers) {
-        None => (answers.len() == count).then_some(End::Done(wants(answers.as_slice()))),
+        None => (answers.len() == count).then_some(RunEnd::Done(wants(answers.as_slice()))),
         Some(back) => {
             let is_same = back == count && answers.is_empty() && core.history().len() == 0;
-            is_same.then_some(End::NoMemory)
+            is_same.then_some(RunEnd::NoMemory)
         }
     }
 }
 
 // All steps in one call.
-fn together(alloc: Global, config: Config, steps: Vec<Step>, is_first: bool) -> Option<End> {
+fn together(alloc: Global, config: Config, steps: Vec<Step>, is_first: bool) -> Option<RunEnd> {
     match Core::new(alloc, config) {
-        Ok(_) if is_first => Some(End::Done(0)),
+        Ok(_) if is_first => Some(RunEnd::Done(0)),
         Ok(mut core) => answered(alloc, &mut core, steps),
         Err(_) => None,
     }
 }
 
 // The same, in the last of so many runs and one.
-fn all_together(alloc: Global, asked: &Asked<'_>, run: Run) -> Option<End> {
+fn all_together(alloc: Global, asked: &AskedWay<'_>, run: RefusalRun) -> Option<RunEnd> {
     for _ in 0..asked.place {
         let before = run_of(alloc, asked.first, asked.lines)?;
         together(alloc, before.config, before.steps, false)?;
@@ -147,20 +162,22 @@ fn all_together(alloc: Global, asked: &Asked<'_>, run: Run) -> Option<End> {
 }
 
 // The steps that room was made for.
-fn promised(alloc: Global, run: Run, place: usize, is_first: bool) -> Option<End> {
+fn promised(alloc: Global, run: RefusalRun, place: usize, is_first: bool) -> Option<RunEnd> {
     match Core::new(alloc, run.config) {
-        Ok(mut core) => keep_promise(&mut core, run.steps, place, is_first).then_some(End::Done(0)),
+        Ok(mut core) => keep_promise(&mut core, run.steps, place, is_first).then_some(RunEnd::Done(
+            0,
+        )),
         Err(_) => None,
     }
 }
 
-fn done(done: Option<()>) -> Option<End> {
+fn done(done: Option<()>) -> Option<RunEnd> {
     done?;
-    Some(End::Done(0))
+    Some(RunEnd::Done(0))
 }
 
 // A way that makes steps of a row.
-fn by_row<R: Print + AllocGlobal + Wait>(rt: &R, asked: &Asked<'_>) -> Option<End> {
+fn by_row<R: Print + AllocGlobal + Wait>(rt: &R, asked: &AskedWay<'_>) -> Option<RunEnd> {
     let run = run_of(rt.alloc(), asked.first, asked.lines)?;
     match asked.way {
         "together" => all_together(rt.alloc(), asked, run),
@@ -170,7 +187,7 @@ fn by_row<R: Print + AllocGlobal + Wait>(rt: &R, asked: &Asked<'_>) -> Option<En
 }
 
 // A way.
-fn make<R: Print + AllocGlobal + Wait>(rt: &R, asked: &Asked<'_>) -> Option<End> {
+fn make<R: Print + AllocGlobal + Wait>(rt: &R, asked: &AskedWay<'_>) -> Option<RunEnd> {
     let alloc = rt.alloc();
     match asked.way {
         "script" => show_script(rt, asked),
@@ -190,10 +207,10 @@ fn is_first(words: &[String], place: usize) -> bool {
 }
 
 // What the words ask for.
-fn asked_of(words: &[String]) -> Option<Asked<'_>> {
+fn asked_of(words: &[String]) -> Option<AskedWay<'_>> {
     let row: usize = words.get(2)?.parse().ok()?;
     let (first, lines) = ROWS.get(row)?;
-    Some(Asked {
+    Some(AskedWay {
         way: words.get(1)?.as_str(),
         first,
         lines,
@@ -203,10 +220,10 @@ fn asked_of(words: &[String]) -> Option<Asked<'_>> {
 }
 
 // What came of what the words ask for.
-fn end_of<R: Files + Print + AllocGlobal + Wait>(rt: &R, words: &[String]) -> Option<End> {
+fn end_of<R: Files + Print + AllocGlobal + Wait>(rt: &R, words: &[String]) -> Option<RunEnd> {
     if words.get(1)?.as_str() == "many" {
         let told = run_many(rt, words.get(2)?.as_str(), is_first(words, 3))?;
-        return Some(End::Done(told));
+        return Some(RunEnd::Done(told));
     }
     make(rt, &asked_of(words)?)
 }
@@ -222,11 +239,11 @@ pub(crate) fn run_program<R: Env + Files + Print + Eprint + AllocGlobal + Wait>(
         return ExitCode::from(1);
     };
     match end_of(rt, words.as_slice()) {
-        Some(End::Done(told)) => {
+        Some(RunEnd::Done(told)) => {
             let _ = rt.eprintln(told);
             ExitCode::from(0)
         }
-        Some(End::NoMemory) => ExitCode::from(4),
+        Some(RunEnd::NoMemory) => ExitCode::from(4),
         None => ExitCode::from(1),
     }
 }

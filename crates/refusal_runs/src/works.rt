@@ -2,14 +2,14 @@
 //! Work asks for and tells of it. What is refused for want of memory is asked for again.
 
 ghost use Rattle.std.specs.Prelude.{IfSome};
-ghost use Rattle.lock_rows.specs.Hands.{AreOf, IsCrewOf, IsFreshWork, IsOf, IsWorkOf};
+ghost use Rattle.lock_rows.specs.Callers.{AreTestSpares, IsCrewOf, IsFreshWork, IsTestCallerOf, IsTestWork};
 
 use crate::runs::TURNS;
-use crate::script::Run;
+use crate::script::RefusalRun;
 use history::Config;
 use lock_rows::{
-    Crew, Hall, Hand, NO_MEMORY, Spares, crew_of, fetches, hall_of, learns, open, opens, pops,
-    pushes, works,
+    NO_MEMORY, SpareCallers, TestCaller, TestSystem, ThreeCallers, crew_of, fetches, learns, open,
+    opens, pops, pushes, system_of, works,
 };
 use meet_lock::Declined;
 use nvme_model::refusal::Why;
@@ -29,13 +29,13 @@ fn single(config: Config) -> Option<Config> {
     Config::from_numbers(&numbers).ok()
 }
 
-// The engine, its queues, and three hands.
-fn hall(alloc: Global, config: Config, told: &mut u64) -> Option<(Hall, Spares)>
-    ensures { IfSome result (λ h. AreOf h.0 h.1) }
+// The engine, its queues, and three callers.
+fn system(alloc: Global, config: Config, told: &mut u64) -> Option<(TestSystem, SpareCallers)>
+    ensures { IfSome result (λ h. AreTestSpares h.0 h.1) }
 {
     let config = single(config)?;
     for _ in 0..TURNS {
-        match hall_of(alloc, config, CAPACITY, 3) {
+        match system_of(alloc, config, CAPACITY, 3) {
             Ok(made) => return Some(made),
             Err(_) => *told = told.wrapping_add(1),
         }
@@ -45,18 +45,18 @@ fn hall(alloc: Global, config: Config, told: &mut u64) -> Option<(Hall, Spares)>
 
 // A Publish; it is asked again with the batch that came back.
 pub(crate) fn publishes(
-    hall: &Hall,
-    hand: &mut Hand,
+    system: &TestSystem,
+    caller: &mut TestCaller,
     queue: u16,
     batch: Submissions,
     told: &mut u64,
 )
-    requires { IsOf hall.now hand.old }
-    ensures { IsOf hall.now hand.new }
+    requires { IsTestCallerOf system.now caller.old }
+    ensures { IsTestCallerOf system.now caller.new }
 {
     let mut next = batch;
     for _ in 0..TURNS {
-        match open(hall, hand, Open::Publish(queue, next)) {
+        match open(system, caller, Open::Publish(queue, next)) {
             Err(Declined::Refused(Refused::Publish(Why::NoMemory, back))) => next = back,
             _ => return,
         }
@@ -67,20 +67,20 @@ pub(crate) fn publishes(
 // The Work of a Fetch, out of the queue.
 pub(crate) fn fetched<R: Wait>(
     rt: &R,
-    hall: &Hall,
-    crew: &mut Crew,
+    system: &TestSystem,
+    crew: &mut ThreeCallers,
     queue: u16,
     told: &mut u64,
 ) -> Option<Work>
-    requires { IsCrewOf hall.now crew.old }
-    ensures same { IsCrewOf hall.now crew.new }
-    ensures work { IfSome result (IsFreshWork hall.now) }
+    requires { IsCrewOf system.now crew.old }
+    ensures same { IsCrewOf system.now crew.new }
+    ensures work { IfSome result (IsFreshWork system.now) }
 {
     for _ in 0..TURNS {
-        match fetches(rt, hall, &mut crew.fetcher, queue) {
+        match fetches(rt, system, &mut crew.fetcher, queue) {
             Ok(work) => {
-                pushes(rt, hall, &mut crew.fetcher, work).ok()?;
-                return pops(rt, hall, &mut crew.worker);
+                pushes(rt, system, &mut crew.fetcher, work).ok()?;
+                return pops(rt, system, &mut crew.worker);
             }
             Err(NO_MEMORY) => *told = told.wrapping_add(1),
             Err(_) => return None,
@@ -90,13 +90,19 @@ pub(crate) fn fetched<R: Wait>(
 }
 
 // Makes all tasks of a Work, up to one that is refused for another cause.
-pub(crate) fn ends<R: Wait>(rt: &R, hall: &Hall, hand: &mut Hand, work: Work, told: &mut u64)
-    requires { IsOf hall.now hand.old × IsWorkOf hall.now work }
-    ensures { IsOf hall.now hand.new }
+pub(crate) fn ends<R: Wait>(
+    rt: &R,
+    system: &TestSystem,
+    caller: &mut TestCaller,
+    work: Work,
+    told: &mut u64,
+)
+    requires { IsTestCallerOf system.now caller.old × IsTestWork system.now work }
+    ensures { IsTestCallerOf system.now caller.new }
 {
     let mut work = work;
     for _ in 0..TURNS {
-        match works(rt, hall, hand, &mut work) {
+        match works(rt, system, caller, &mut work) {
             Ok(Some(_)) => {}
             Ok(None) => return,
             Err(NO_MEMORY) => *told = told.wrapping_add(1),
@@ -106,25 +112,25 @@ pub(crate) fn ends<R: Wait>(rt: &R, hall: &Hall, hand: &mut Hand, work: Work, to
 }
 
 // The host learns all that it was told.
-fn hears<R: Wait>(rt: &R, hall: &Hall, hand: &mut Hand)
-    requires { IsOf hall.now hand.old }
-    ensures { IsOf hall.now hand.new }
+fn hears<R: Wait>(rt: &R, system: &TestSystem, caller: &mut TestCaller)
+    requires { IsTestCallerOf system.now caller.old }
+    ensures { IsTestCallerOf system.now caller.new }
 {
     for _ in 0..CAPACITY {
-        if learns(rt, hall, hand) != Ok(true) {
+        if learns(rt, system, caller) != Ok(true) {
             return;
         }
     }
 }
 
 // The host learns, and reaps.
-fn reaps<R: Wait>(rt: &R, hall: &Hall, hand: &mut Hand, queue: u16, told: &mut u64)
-    requires { IsOf hall.now hand.old }
-    ensures { IsOf hall.now hand.new }
+fn reaps<R: Wait>(rt: &R, system: &TestSystem, caller: &mut TestCaller, queue: u16, told: &mut u64)
+    requires { IsTestCallerOf system.now caller.old }
+    ensures { IsTestCallerOf system.now caller.new }
 {
-    hears(rt, hall, hand);
+    hears(rt, system, caller);
     for _ in 0..TURNS {
-        match opens(rt, hall, hand, Open::Reap(queue)) {
+        match opens(rt, system, caller, Open::Reap(queue)) {
             Err(NO_MEMORY) => *told = told.wrapping_add(1),
             _ => return,
         }
@@ -132,53 +138,68 @@ fn reaps<R: Wait>(rt: &R, hall: &Hall, hand: &mut Hand, queue: u16, told: &mut u
 }
 
 // A step by the caller whose it is. A worker makes Grants, Blocks and Posts unasked.
-fn make<R: Wait>(rt: &R, hall: &Hall, crew: &mut Crew, step: Step, told: &mut u64)
-    requires { IsCrewOf hall.now crew.old }
-    ensures { IsCrewOf hall.now crew.new }
+fn make<R: Wait>(rt: &R, system: &TestSystem, crew: &mut ThreeCallers, step: Step, told: &mut u64)
+    requires { IsCrewOf system.now crew.old }
+    ensures { IsCrewOf system.now crew.new }
 {
     match step {
-        Step::Publish(queue, batch) => publishes(hall, &mut crew.host, queue, batch, told),
+        Step::Publish(queue, batch) => publishes(system, &mut crew.host, queue, batch, told),
         Step::Fetch(queue) => {
-            if let Some(work) = fetched(rt, hall, crew, queue, told) {
-                ends(rt, hall, &mut crew.worker, work, told);
+            if let Some(work) = fetched(rt, system, crew, queue, told) {
+                ends(rt, system, &mut crew.worker, work, told);
             }
         }
-        Step::Reap(queue) => reaps(rt, hall, &mut crew.host, queue, told),
+        Step::Reap(queue) => reaps(rt, system, &mut crew.host, queue, told),
         Step::Grant(_) | Step::Block(_) | Step::Post(_) => {}
     }
 }
 
 // All steps, each by the caller whose it is.
-fn make_each<R: Wait>(rt: &R, hall: &Hall, crew: &mut Crew, steps: Vec<Step>, told: &mut u64)
-    requires { IsCrewOf hall.now crew.old }
-    ensures { IsCrewOf hall.now crew.new }
+fn make_each<R: Wait>(
+    rt: &R,
+    system: &TestSystem,
+    crew: &mut ThreeCallers,
+    steps: Vec<Step>,
+    told: &mut u64,
+)
+    requires { IsCrewOf system.now crew.old }
+    ensures { IsCrewOf system.now crew.new }
 {
     for step in steps {
-        make(rt, hall, crew, step, told);
+        make(rt, system, crew, step, told);
     }
 }
 
 /// The engine, its queues, and who steps.
-pub(crate) fn manned(alloc: Global, config: Config, told: &mut u64) -> Option<(Hall, Crew)>
+pub(crate) fn manned(
+    alloc: Global,
+    config: Config,
+    told: &mut u64,
+) -> Option<(TestSystem, ThreeCallers)>
     ensures { IfSome result (λ h. IsCrewOf h.0 h.1) }
 {
-    let (hall, mut hands) = hall(alloc, config, told)?;
-    let crew = crew_of(alloc, &hall, &mut hands)?;
-    Some((hall, crew))
+    let (system, mut callers) = system(alloc, config, told)?;
+    let crew = crew_of(alloc, &system, &mut callers)?;
+    Some((system, crew))
 }
 
 /// The controller after the run.
-pub(crate) fn by_works<R: Wait>(rt: &R, alloc: Global, run: Run, told: &mut u64) -> Option<Core> {
-    let (hall, mut crew) = manned(alloc, run.config, told)?;
-    make_each(rt, &hall, &mut crew, run.steps, told);
-    closes(hall, crew)
+pub(crate) fn by_works<R: Wait>(
+    rt: &R,
+    alloc: Global,
+    run: RefusalRun,
+    told: &mut u64,
+) -> Option<Core> {
+    let (system, mut crew) = manned(alloc, run.config, told)?;
+    make_each(rt, &system, &mut crew, run.steps, told);
+    closes(system, crew)
 }
 
 // The controller, with the host's pass.
-pub(crate) fn closes(hall: Hall, crew: Crew) -> Option<Core>
-    requires { IsCrewOf hall crew }
+pub(crate) fn closes(system: TestSystem, crew: ThreeCallers) -> Option<Core>
+    requires { IsCrewOf system crew }
 {
-    let Hall { engine, .. } = hall;
-    let Crew { host, .. } = crew;
+    let TestSystem { engine, .. } = system;
+    let ThreeCallers { host, .. } = crew;
     engine.close(host.pass)
 }

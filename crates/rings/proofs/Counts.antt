@@ -11,7 +11,7 @@ use Rattle.std.proofs.lemmas.Nat.{div-add-mod', div-mul-add, mod_below}
 use Rattle.entry_codec.specs.Cqe.{phase_bit}
 use Rattle.nvme_model.specs.Completions.{phase}
 use Rattle.nvme_model.specs.declared.submission.Submission.{Submission}
-use Rattle.rings.specs.Completions.{Completed, CompletionRing, ShowsCompleted, posted_ring}
+use Rattle.rings.specs.Completions.{QueueCompletions, CompletionRing, ShowsCompleted, posted_ring}
 use Rattle.rings.specs.Submissions.{ShowsSubmitted, SubmissionRing, Submitted, advanced}
 use Rattle.rings.specs.declared.completion_ring.Completion.{Completion}
 
@@ -79,7 +79,7 @@ phase_more k m b some e =
     ]
 
 -- one more is posted
-pub completed_more : (s : Completed) (r r' : CompletionRing) (c : Completion)
+pub completed_more : (s : QueueCompletions) (r r' : CompletionRing) (c : Completion)
     → r' ≡ posted_ring r c → 0 < r.size → ShowsCompleted s r
     → ShowsCompleted (record s { posted = s.posted ++ c ∷ [] }) r'
 completed_more s r r' c e some h =
@@ -96,13 +96,13 @@ completed_more s r r' c e some h =
     })
 
 -- what waits first is the next to be reaped
-pub slice_get-reaped : (s : Completed) (r : CompletionRing) → ShowsCompleted s r
+pub slice_get-reaped : (s : QueueCompletions) (r : CompletionRing) → ShowsCompleted s r
     → slice_get r.waiting 0 ≡ slice_get s.posted s.reaped
 slice_get-reaped s r h = ap (λ (xs : List Completion). slice_get xs 0) h.waiting
     ∙ grind (arith, common_steps, gets, h.reaped)
 
 -- one more is reaped
-pub completed_reaped : (s : Completed) (r r' : CompletionRing)
+pub completed_reaped : (s : QueueCompletions) (r r' : CompletionRing)
     → r' ≡ record r { waiting = drop 1 r.waiting } → 0 < length r.waiting → ShowsCompleted s r
     → ShowsCompleted (record s { reaped = s.reaped + 1 }) r'
 completed_reaped s r r' e some h =

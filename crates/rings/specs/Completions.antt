@@ -14,13 +14,13 @@ pub record CompletionRing : Type 0 where
   pub waiting : List Completion
 
 -- all completions that were posted to a queue, whichever submission queues they are for, and how many were reaped
-pub record Completed : Type 0 where
+pub record QueueCompletions : Type 0 where
   pub posted : List Completion
   pub reaped : ℕ
 
 -- the ring shows this queue: what waits is what was posted and not reaped,
 -- and the tail and the phase are the count of the posted by division
-pub record ShowsCompleted (s : Completed) (r : CompletionRing) : Type 0 where
+pub record ShowsCompleted (s : QueueCompletions) (r : CompletionRing) : Type 0 where
   pub reaped : s.reaped ≤ length s.posted
   pub waiting : r.waiting ≡ drop s.reaped s.posted
   pub tail : r.tail ≡ length s.posted % r.size

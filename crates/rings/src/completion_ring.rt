@@ -4,10 +4,10 @@ ghost use Rattle.std.specs.Prelude.{◌≡◌, ◌+◌, ◌-◌, ◌%◌, ◌<�
 ghost use Rattle.std.specs.Prelude.{false, length, option_copied, slice_get, true};
 ghost use Rattle.entry_codec.specs.Cqe.{phase_bit};
 ghost use Rattle.nvme_model.specs.Completions.{phase};
-ghost use Rattle.rings.specs.Completions.{Completed, ShowsCompleted, is_full, posted_ring};
+ghost use Rattle.rings.specs.Completions.{QueueCompletions, ShowsCompleted, is_full, posted_ring};
 ghost use Rattle.rings.specs.Slots.{IsSize};
 
-use crate::slots::Slots;
+use crate::slots::RingSlots;
 use nvme_model::refusal::Why;
 use nvme_model::submission::Payload;
 use std::alloc::{AllocError as NoMemory, Global};
@@ -26,7 +26,7 @@ pub struct Completion {
 /// It holds at most one completion less than it has slots. Once made it takes no memory.
 #[derive(Drop)]
 pub struct CqRing {
-    slots: Slots<Completion>,
+    slots: RingSlots<Completion>,
     phase: bool,
 }
 
@@ -49,7 +49,7 @@ impl CqRing {
         ensures empty { IfOk result (λ ring. ring ≡ record { size = size; tail = 0; phase = true; waiting = [] }) }
         ensures counts { IfOk result (λ ring. ShowsCompleted (record { posted = []; reaped = 0 }) ring) }
     {
-        let slots = Slots::new(alloc, size)?;
+        let slots = RingSlots::new(alloc, size)?;
         Ok(CqRing { slots, phase: true })
     }
 
@@ -65,7 +65,7 @@ impl CqRing {
     pub fn len(&self) -> usize
         ensures value { result ≡ length self.now.waiting }
         ensures most { result < self.now.size }
-        ensures counts { (s : Completed) → ShowsCompleted s self.now → result + s.reaped ≡ length s.posted }
+        ensures counts { (s : QueueCompletions) → ShowsCompleted s self.now → result + s.reaped ≡ length s.posted }
     {
         self.slots.len()
     }
@@ -73,7 +73,7 @@ impl CqRing {
     /// Whether no completion waits.
     pub fn is_empty(&self) -> bool
         ensures value { result ≡ (length self.now.waiting == 0) }
-        ensures counts { (s : Completed) → ShowsCompleted s self.now → result ≡ (length s.posted == s.reaped) }
+        ensures counts { (s : QueueCompletions) → ShowsCompleted s self.now → result ≡ (length s.posted == s.reaped) }
     {
         self.len() == 0
     }
@@ -82,7 +82,7 @@ impl CqRing {
     pub fn is_full(&self) -> bool
         ensures value { result ≡ is_full self.now }
         ensures most { length self.now.waiting < self.now.size }
-        ensures counts { (s : Completed) →
+        ensures counts { (s : QueueCompletions) →
             ShowsCompleted s self.now → result ≡ (length s.posted - s.reaped == self.now.size - 1) }
     {
         self.len() == usize::from(self.size()) - 1
@@ -92,7 +92,7 @@ impl CqRing {
     /// and inverted in each further one.
     pub fn phase(&self) -> bool
         ensures value { result ≡ self.now.phase }
-        ensures counts { (s : Completed) →
+        ensures counts { (s : QueueCompletions) →
             ShowsCompleted s self.now → phase_bit result ≡ phase (length s.posted) self.now.size }
     {
         self.phase
@@ -110,7 +110,7 @@ impl CqRing {
         ensures full { OnErr result (is_full self.old ≡ true) }
         ensures why { IfErr result (λ e. e.0 ≡ Why.CqFull) }
         ensures back { IfErr result (λ e. e.1 ≡ payload) }
-        ensures counts { (s : Completed) → ShowsCompleted s self.old →
+        ensures counts { (s : QueueCompletions) → ShowsCompleted s self.old →
             OnOk result (ShowsCompleted
             (record s { posted = s.posted ++ record { cqe = cqe; payload = payload } ∷ [] }) self.new) }
     {
@@ -129,7 +129,7 @@ impl CqRing {
     /// The completion that is reaped next.
     pub fn front(&self) -> Option<&Completion>
         ensures value { option_copied result ≡ slice_get self.now.waiting 0 }
-        ensures counts { (s : Completed) →
+        ensures counts { (s : QueueCompletions) →
             ShowsCompleted s self.now → option_copied result ≡ slice_get s.posted s.reaped }
     {
         self.slots.get(0)
@@ -145,9 +145,9 @@ impl CqRing {
         ensures rest { OnOk result (self.new ≡ record self.old { waiting = drop 1 self.old.waiting }) }
         ensures err { OnErr result ((self.new ≡ self.old) × (self.old.waiting ≡ [])) }
         ensures why { IfErr result (λ why. why ≡ Why.NoCompletion) }
-        ensures counts { (s : Completed) → ShowsCompleted s self.old →
+        ensures counts { (s : QueueCompletions) → ShowsCompleted s self.old →
             OnOk result (ShowsCompleted (record s { reaped = s.reaped + 1 }) self.new) }
-        ensures numbered { (s : Completed) →
+        ensures numbered { (s : QueueCompletions) →
             ShowsCompleted s self.old → IfOk result (λ c. slice_get s.posted s.reaped ≡ Some c) }
     {
         if self.is_empty() {

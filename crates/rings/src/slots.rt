@@ -10,13 +10,13 @@ use std::marker::Model;
 ///
 /// One slot stays free, so that the registers tell a full ring from an empty one (Base 2.0, Full Queue).
 #[derive(Drop)]
-pub struct Slots<T> {
+pub struct RingSlots<T> {
     slots: Vec<Option<T>>,
     head: u16,
     tail: u16,
 }
 
-impl<T> Model for Slots<T> {
+impl<T> Model for RingSlots<T> {
     ghost use Rattle.std.specs.Prelude.{length};
     ghost use Rattle.rings.specs.Slots.{IsQueue, Queued, items_from, queued_code};
 
@@ -34,13 +34,13 @@ impl<T> Model for Slots<T> {
     ghost invariant = { λ s. IsQueue s.slots.items s.head s.tail (items_from s.head s.slots.items) };
 }
 
-impl<T: Drop> Slots<T> {
+impl<T: Drop> RingSlots<T> {
     /// That many slots, all free.
     ///
     /// # Errors
     ///
     /// `NoMemory` where a growth is refused.
-    pub fn new(alloc: Global, size: u16) -> Result<Slots<T>, NoMemory>
+    pub fn new(alloc: Global, size: u16) -> Result<RingSlots<T>, NoMemory>
         requires size { IsSize size }
         ensures empty { IfOk result (λ slots. slots ≡ record { size = size; head = 0; tail = 0; items = [] }) }
     {
@@ -48,7 +48,7 @@ impl<T: Drop> Slots<T> {
         for _ in 0..size {
             slots.push_reserved(None);
         }
-        Ok(Slots {
+        Ok(RingSlots {
             slots,
             head: 0,
             tail: 0,

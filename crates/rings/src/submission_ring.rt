@@ -6,7 +6,7 @@ ghost use Rattle.nvme_model.specs.Tables.{first_row};
 ghost use Rattle.rings.specs.Slots.{IsSize};
 ghost use Rattle.rings.specs.Submissions.{ShowsSubmitted, Submitted, advanced, batch_fault, batch_faults};
 
-use crate::slots::Slots;
+use crate::slots::RingSlots;
 use nvme_model::refusal::Why;
 use nvme_model::submission::{Submission, Submissions};
 use std::alloc::{AllocError as NoMemory, Global};
@@ -17,7 +17,7 @@ use std::marker::Model;
 /// It holds at most one entry less than it has slots. Once made it takes no memory.
 #[derive(Drop)]
 pub struct SqRing {
-    slots: Slots<Submission>,
+    slots: RingSlots<Submission>,
 }
 
 impl Model for SqRing {
@@ -42,7 +42,7 @@ impl SqRing {
         ensures empty { IfOk result (λ ring. ring ≡ record { size = size; head = 0; waiting = [] }) }
         ensures counts { IfOk result (λ ring. ShowsSubmitted (record { published = []; fetched = 0 }) ring) }
     {
-        let slots = Slots::new(alloc, size)?;
+        let slots = RingSlots::new(alloc, size)?;
         Ok(SqRing { slots })
     }
 
@@ -118,6 +118,16 @@ impl SqRing {
             self.slots.push(submission);
         }
         Ok(())
+    }
+
+    /// Puts one entry behind those that wait, where there is room for it.
+    pub fn push(&mut self, one: Submission)
+        requires room { length self.old.waiting + 1 < self.old.size }
+        ensures more { self.new ≡ record self.old { waiting = self.old.waiting ++ one ∷ [] } }
+        ensures counts { (s : Submitted) → ShowsSubmitted s self.old →
+            ShowsSubmitted (record s { published = s.published ++ one ∷ [] }) self.new }
+    {
+        self.slots.push(one);
     }
 
     /// The entry that waits with `k` before it.

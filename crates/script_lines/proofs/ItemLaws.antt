@@ -6,7 +6,7 @@ use Rattle.std.proofs.lemmas.List.{drop_more, get_or-map, length-map, drop_all}
 use Rattle.nvme_model.specs.declared.submission.Submission.{Submission}
 use Rattle.history.specs.BatchWords.{then_item}
 use Rattle.history.proofs.Joining.{joined}
-use Rattle.script_lines.specs.Commands.{item_in}
+use Rattle.script_lines.specs.Commands.{script_item_in}
 use Rattle.script_lines.specs.Batches.{items_in}
 
 -- the words of a part
@@ -15,7 +15,7 @@ words_of part = map (λ w. w.now) part.now
 
 -- the first of the parts
 items_step : (part : List (List ℕ)) (parts : List (List (List ℕ)))
-    → items_in (part ∷ parts) ≡ then_item (item_in part) (items_in parts)
+    → items_in (part ∷ parts) ≡ then_item (script_item_in part) (items_in parts)
 unfolding items_in
 items_step part parts = refl
 
@@ -34,7 +34,7 @@ joined-then front x (Some xs) = ap Some (append_assoc front (x ∷ []) xs)
 part_step : {X : Type 0} (f : X → List (List ℕ)) (xs : List X) (i : ℕ) (d : X) (front : List Submission)
     (all : Option (List Submission)) → i < length xs
     → joined front (items_in (drop i (map f xs))) ≡ all
-    → joined front (then_item (item_in (f (get_or xs i d))) (items_in (drop (i + 1) (map f xs)))) ≡ all
+    → joined front (then_item (script_item_in (f (get_or xs i d))) (items_in (drop (i + 1) (map f xs)))) ≡ all
 part_step f xs i d front all low h =
     let here : drop i (map f xs) ≡ f (get_or xs i d) ∷ drop (i + 1) (map f xs) =
     drop_more (map f xs) i (f d) (omega (arith, length-map xs f))
@@ -44,7 +44,7 @@ part_step f xs i d front all low h =
 -- a part that is no entry ends it all
 pub part_bad : {X : Type 0} (f : X → List (List ℕ)) (xs : List X) (i : ℕ) (d : X) (front : List Submission)
     (all : Option (List Submission)) → i < length xs
-    → joined front (items_in (drop i (map f xs))) ≡ all → item_in (f (get_or xs i d)) ≡ None → all ≡ None
+    → joined front (items_in (drop i (map f xs))) ≡ all → script_item_in (f (get_or xs i d)) ≡ None → all ≡ None
 part_bad f xs i d front all low h none =
     sym (part_step f xs i d front all low h)
     ∙ ap (λ o. joined front (then_item o (items_in (drop (i + 1) (map f xs))))) none
@@ -53,7 +53,8 @@ part_bad f xs i d front all low h none =
 pub part_good : {X : Type 0} (f : X → List (List ℕ)) (xs : List X) (i : ℕ) (d : X) (front new : List Submission)
     (x : Submission)
     (all : Option (List Submission)) → i < length xs
-    → joined front (items_in (drop i (map f xs))) ≡ all → item_in (f (get_or xs i d)) ≡ Some x → new ≡ front ++ x ∷ []
+    → joined front (items_in (drop i (map f xs))) ≡ all → script_item_in (f (get_or xs i d)) ≡ Some x
+    → new ≡ front ++ x ∷ []
     → joined new (items_in (drop (i + 1) (map f xs))) ≡ all
 part_good f xs i d front new x all low h some e =
     ap (λ l. joined l (items_in (drop (i + 1) (map f xs)))) e

@@ -45,8 +45,8 @@ command_from (Some opcode) (Some fuse) (Some cid) (Some slba) (Some nlb) =
 command_from _ _ _ _ _ = None
 
 -- the command that a name and four numbers spell
-abbrev pub command_in : (name fuse cid slba nlb : List ℕ) → Option (List ℕ)
-command_in name fuse cid slba nlb =
+abbrev pub command_entry_in : (name fuse cid slba nlb : List ℕ) → Option (List ℕ)
+command_entry_in name fuse cid slba nlb =
     command_from (opcode_in name) (fuse_in fuse) (number_in 16 cid) (number_in 64 slba) (number_in 16 nlb)
 
 -- the 64 bytes that the words of a `raw` entry spell
@@ -54,8 +54,8 @@ abbrev pub raw_in : (name digits : List ℕ) → Option (List ℕ)
 raw_in name digits = if bytes_eq name (codes "raw") then fixed_in 64 (bytes_in digits) else None
 
 -- the entry that words spell: `raw HEX DATA`, or a command's name, FUSE, CID, SLBA, NLB and data
-unfoldable pub item_in : List (List ℕ) → Option Submission
-item_in (name ∷ digits ∷ payload ∷ []) = item_from (raw_in name digits) (data_in 512 payload)
-item_in (name ∷ fuse ∷ cid ∷ slba ∷ nlb ∷ payload ∷ []) =
-    item_from (command_in name fuse cid slba nlb) (data_in 512 payload)
-item_in words = None
+unfoldable pub script_item_in : List (List ℕ) → Option Submission
+script_item_in (name ∷ digits ∷ payload ∷ []) = item_from (raw_in name digits) (data_in 512 payload)
+script_item_in (name ∷ fuse ∷ cid ∷ slba ∷ nlb ∷ payload ∷ []) =
+    item_from (command_entry_in name fuse cid slba nlb) (data_in 512 payload)
+script_item_in words = None

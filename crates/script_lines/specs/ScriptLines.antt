@@ -6,17 +6,17 @@ use Rattle.line_text.specs.Number.{number_in}
 use Rattle.nvme_model.specs.declared.step.Step.{Step}
 use Rattle.nvme_model.specs.declared.submission.Submission.{Submission}
 use Rattle.script_lines.specs.declared.line.ScriptLine.{ScriptLine}
-use Rattle.script_lines.specs.Batches.{batch_in}
+use Rattle.script_lines.specs.Batches.{script_batch_in}
 
 -- a Publish of these parts, where both are there
-abbrev pub publish_from : Option ℕ → Option (List Submission) → Option ScriptLine
-publish_from (Some queue) (Some items) = Some (ScriptLine.Step (Step.Publish queue items))
-publish_from _ _ = None
+abbrev pub script_publish_from : Option ℕ → Option (List Submission) → Option ScriptLine
+script_publish_from (Some queue) (Some items) = Some (ScriptLine.Step (Step.Publish queue items))
+script_publish_from _ _ = None
 
 -- the Publish that the words behind `publish` spell
-unfoldable pub publish_in : List (List ℕ) → Option ScriptLine
-publish_in [] = None
-publish_in (queue ∷ items) = publish_from (number_in 16 queue) (batch_in items)
+unfoldable pub script_publish_in : List (List ℕ) → Option ScriptLine
+script_publish_in [] = None
+script_publish_in (queue ∷ items) = script_publish_from (number_in 16 queue) (script_batch_in items)
 
 -- the step with this number, where it is there
 abbrev pub step_with : (ℕ → Step) → Option ℕ → Option ScriptLine
@@ -53,7 +53,7 @@ short_in kind words =
 -- what words say, by the first of them
 unfoldable pub script_words_in : List (List ℕ) → Option ScriptLine
 script_words_in [] = None
-script_words_in (kind ∷ words) = if bytes_eq kind (codes "publish") then publish_in words else short_in kind words
+script_words_in (kind ∷ more) = if bytes_eq kind (codes "publish") then script_publish_in more else short_in kind more
 
 -- what a line says: nothing where it begins with `#`, and else what its words say, with one space between each two
 unfoldable pub script_line_in : List ℕ → Option ScriptLine

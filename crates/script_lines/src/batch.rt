@@ -1,8 +1,8 @@
 //! The entries of a `publish` line.
 
 ghost use Rattle.std.specs.Prelude.{◌≡◌, IfOk, map};
-ghost use Rattle.history.specs.Gives.{Gives};
-ghost use Rattle.script_lines.specs.Batches.{batch_in, items_in, parts_in};
+ghost use Rattle.history.specs.Gives.{GivesRead};
+ghost use Rattle.script_lines.specs.Batches.{script_batch_in, items_in, parts_in};
 
 use crate::command::item_of;
 use history::LineFault;
@@ -19,7 +19,7 @@ fn parts_of<'a, 'w>(alloc: Global, words: &'a [&'w [u8]]) -> Result<Vec<&'a [&'w
 
 // The entries that these words spell.
 fn items_of(alloc: Global, parts: &[&[&[u8]]]) -> Result<Submissions, LineFault>
-    ensures { Gives result (items_in (map (λ part. map (λ w. w.now) part.now) parts.now)) }
+    ensures { GivesRead result (items_in (map (λ part. map (λ w. w.now) part.now) parts.now)) }
 {
     let mut items = Vec::new(alloc);
     for part in parts {
@@ -30,9 +30,9 @@ fn items_of(alloc: Global, parts: &[&[&[u8]]]) -> Result<Submissions, LineFault>
 }
 
 // The entries that words spell, at least one.
-#[tactic(auto, unfolding(crate::specs::Batches::batch_in))]
+#[tactic(auto, unfolding(crate::specs::Batches::script_batch_in))]
 pub(crate) fn batch_of(alloc: Global, words: &[&[u8]]) -> Result<Submissions, LineFault>
-    ensures { Gives result (batch_in (map (λ w. w.now) words.now)) }
+    ensures { GivesRead result (script_batch_in (map (λ w. w.now) words.now)) }
 {
     let parts = parts_of(alloc, words)?;
     items_of(alloc, parts.as_slice())

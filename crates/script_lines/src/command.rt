@@ -3,8 +3,8 @@
 ghost use Rattle.std.specs.Prelude.{◌≡◌, Some, map};
 ghost use Rattle.line_text.specs.Data.{data_in};
 ghost use Rattle.history.specs.BatchWords.{item_from};
-ghost use Rattle.history.specs.Gives.{Gives};
-ghost use Rattle.script_lines.specs.Commands.{command_in, fuse_in, item_in, opcode_in, raw_in};
+ghost use Rattle.history.specs.Gives.{GivesRead};
+ghost use Rattle.script_lines.specs.Commands.{command_entry_in, fuse_in, script_item_in, opcode_in, raw_in};
 
 use entry_codec::{Fuse, Sqe, encode_sqe, opcode};
 use history::LineFault;
@@ -49,7 +49,7 @@ fn fuse_of(word: &[u8]) -> Option<Fuse>
 
 // The bytes of the command that a name and four numbers spell.
 fn command_of(name: &[u8], fuse: &[u8], cid: &[u8], slba: &[u8], nlb: &[u8]) -> Option<[u8; 64]>
-    ensures { result ≡ command_in name.now fuse.now cid.now slba.now nlb.now }
+    ensures { result ≡ command_entry_in name.now fuse.now cid.now slba.now nlb.now }
 {
     let opcode = opcode_of(name)?;
     let fuse = fuse_of(fuse)?;
@@ -75,7 +75,7 @@ fn with_data(
     entry: Option<[u8; 64]>,
     payload: &[u8],
 ) -> Result<Submission, LineFault>
-    ensures { Gives result (item_from entry (data_in 512 payload.now)) }
+    ensures { GivesRead result (item_from entry (data_in 512 payload.now)) }
 {
     let Some(entry) = entry else {
         return Err(LineFault::Malformed);
@@ -90,9 +90,9 @@ fn with_data(
 }
 
 // The entry that words spell: `raw` and two more, or a command's name and five more.
-#[tactic(auto, unfolding(crate::specs::Commands::item_in))]
+#[tactic(auto, unfolding(crate::specs::Commands::script_item_in))]
 pub(crate) fn item_of(alloc: Global, words: &[&[u8]]) -> Result<Submission, LineFault>
-    ensures { Gives result (item_in (map (λ w. w.now) words.now)) }
+    ensures { GivesRead result (script_item_in (map (λ w. w.now) words.now)) }
 {
     if let [name, digits, payload] = words {
         return with_data(alloc, raw_of(name, digits), payload);

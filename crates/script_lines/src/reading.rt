@@ -2,8 +2,9 @@
 
 ghost use Rattle.std.specs.Prelude.{◌≡◌, Ok, codes, map, take, true};
 ghost use Rattle.std.specs.Str.{bytes_eq};
-ghost use Rattle.history.specs.Gives.{Gives};
-ghost use Rattle.script_lines.specs.ScriptLines.{one_number_in, publish_in, script_line_in, script_words_in, settle_in};
+ghost use Rattle.history.specs.Gives.{GivesRead};
+ghost use Rattle.script_lines.specs.ScriptLines.{one_number_in, script_publish_in, script_line_in, script_words_in};
+ghost use Rattle.script_lines.specs.ScriptLines.{settle_in};
 ghost use Rattle.script_lines.specs.ScriptLines.{short_in};
 
 use crate::batch::batch_of;
@@ -13,9 +14,9 @@ use line_text::{read_u16, read_u64, split_words};
 use nvme_model::step::Step;
 use std::alloc::Global;
 
-#[tactic(auto, unfolding(crate::specs::ScriptLines::publish_in))]
+#[tactic(auto, unfolding(crate::specs::ScriptLines::script_publish_in))]
 fn publish_of(alloc: Global, words: &[&[u8]]) -> Result<ScriptLine, LineFault>
-    ensures { Gives result (publish_in (map (λ w. w.now) words.now)) }
+    ensures { GivesRead result (script_publish_in (map (λ w. w.now) words.now)) }
 {
     let Some((queue, others)) = words.split_first() else {
         return Err(LineFault::Malformed);
@@ -94,7 +95,7 @@ fn short_of(kind: &[u8], words: &[&[u8]]) -> Option<ScriptLine>
 
 #[tactic(auto, unfolding(crate::specs::ScriptLines::script_words_in))]
 fn line_of(alloc: Global, words: &[&[u8]]) -> Result<ScriptLine, LineFault>
-    ensures { Gives result (script_words_in (map (λ w. w.now) words.now)) }
+    ensures { GivesRead result (script_words_in (map (λ w. w.now) words.now)) }
 {
     let Some((kind, others)) = words.split_first() else {
         return Err(LineFault::Malformed);
@@ -134,7 +135,7 @@ fn line_of(alloc: Global, words: &[&[u8]]) -> Result<ScriptLine, LineFault>
 /// comment needs.
 #[tactic(auto, unfolding(crate::specs::ScriptLines::script_line_in))]
 pub fn read_script_line(alloc: Global, line: &[u8]) -> Result<ScriptLine, LineFault>
-    ensures value { Gives result (script_line_in line.now) }
+    ensures value { GivesRead result (script_line_in line.now) }
     ensures comment { bytes_eq (codes "#") (take 1 line.now) ≡ true → result ≡ Ok ScriptLine.Comment }
 {
     if line.starts_with(b"#") {

@@ -11,7 +11,7 @@ use std::test::Fail;
 
 /// What is done with a text, and so the most bytes that its writer takes at a call.
 #[derive(Clone, Copy, PartialEq, Eq)]
-enum Work {
+enum TextWork {
     Run,
     Check,
     Follow,
@@ -30,41 +30,41 @@ const UNMARKED: &str =
     "publish 1 01000100010000000000000000000000000000000000000000000000000000000000000000000000030000000000000000000000000000000000000000000000 A1 / fetch 1 1 1 ok / grant 1 0 3 1 w / block 1 0 3 written - / post 1 00000000000000000100010001000100 - / reap 1 00000000000000000100010001000100";
 
 /// Texts whose reading or writing fails at each call in turn.
-const ENDED: &[(Work, &str)] = &[
-    (Work::Run, SCRIPT),
-    (Work::Check, WRITE),
-    (Work::Check, UNMARKED),
-    (Work::Follow, WRITE),
+const ENDED: &[(TextWork, &str)] = &[
+    (TextWork::Run, SCRIPT),
+    (TextWork::Check, WRITE),
+    (TextWork::Check, UNMARKED),
+    (TextWork::Follow, WRITE),
 ];
 
 /// Texts of which some end well, whose reading and writing fail at any two calls.
-const NAMED: &[(Work, &str)] = &[
-    (Work::Run, SCRIPT),
+const NAMED: &[(TextWork, &str)] = &[
+    (TextWork::Run, SCRIPT),
     (
-        Work::Run,
+        TextWork::Run,
         "# a comment that is longer than what one read gives / medium 0 / reap 1 / medium 9",
     ),
     (
-        Work::Run,
+        TextWork::Run,
         "medium 3 / publish 1 write 0 1 3 0 A1 / settle 1 / medium 3",
     ),
-    (Work::Run, "reap 1 / fetch 1 / / fetch 1"),
-    (Work::Run, "config 8 3 1 2 0 2 4 4 8 / reap 1"),
-    (Work::Run, "config 8 3 1 2 0 2 4 4 / reap 1"),
-    (Work::Check, WRITE),
-    (Work::Check, UNMARKED),
+    (TextWork::Run, "reap 1 / fetch 1 / / fetch 1"),
+    (TextWork::Run, "config 8 3 1 2 0 2 4 4 8 / reap 1"),
+    (TextWork::Run, "config 8 3 1 2 0 2 4 4 / reap 1"),
+    (TextWork::Check, WRITE),
+    (TextWork::Check, UNMARKED),
     (
-        Work::Check,
+        TextWork::Check,
         "fetch 1 1 1 ok / grant 1 0 3 1 w / block 1 0 3 written / reap 1 00000000000000000100010001000100",
     ),
-    (Work::Check, "config 8 3 1 2 0 2 4 4 8 / reap 1"),
-    (Work::Follow, WRITE),
-    (Work::Follow, UNMARKED),
+    (TextWork::Check, "config 8 3 1 2 0 2 4 4 8 / reap 1"),
+    (TextWork::Follow, WRITE),
+    (TextWork::Follow, UNMARKED),
 ];
 
 /// Which call of a reader and which of a writer fail, from 1, and how many bytes each takes at a call.
 #[derive(Clone, Copy)]
-struct Calls {
+struct FailingCalls {
     read: u64,
     write: u64,
     read_width: u64,
@@ -73,7 +73,7 @@ struct Calls {
 
 /// What failed, how it ended, and what was written.
 #[derive(Drop)]
-struct Made {
+struct MadeText {
     reader: bool,
     writer: bool,
     answer: Result<bool, RunFault>,
@@ -83,27 +83,33 @@ struct Made {
 /// Runs a script, or checks a history; whether all is well.
 fn answer_of(
     alloc: Global,
-    work: Work,
+    work: TextWork,
     reader: &mut FailingReader<'_>,
     writer: &mut FailingWriter,
 ) -> Result<bool, RunFault> {
     match work {
-        Work::Run => match run_script(alloc, reader, writer, all_kinds()) {
+        TextWork::Run => match run_script(alloc, reader, writer, all_kinds()) {
             Ok(()) => Ok(true),
             Err(fault) => Err(fault),
         },
-        Work::Check => check_text(alloc, reader, writer),
-        Work::Follow => follow_text(alloc, reader, writer),
+        TextWork::Check => check_text(alloc, reader, writer),
+        TextWork::Follow => follow_text(alloc, reader, writer),
     }
 }
 
 /// What comes of a text with these failures.
-fn made_with(alloc: Global, work: Work, text: &[u8], calls: Calls, kind: ErrorKind) -> Made {
+fn made_with(
+    alloc: Global,
+    work: TextWork,
+    text: &[u8],
+    calls: FailingCalls,
+    kind: ErrorKind,
+) -> MadeText {
     let mut reader = FailingReader::new(text, calls.read_width, calls.read, kind);
     let mut writer = FailingWriter::new(alloc, calls.write_width, calls.write, kind);
     let answer = answer_of(alloc, work, &mut reader, &mut writer);
     let FailingWriter { taken, failed, .. } = writer;
-    Made {
+    MadeText {
         reader: reader.failed,
         writer: failed,
         answer,
@@ -112,8 +118,8 @@ fn made_with(alloc: Global, work: Work, text: &[u8], calls: Calls, kind: ErrorKi
 }
 
 /// What comes of it without any.
-fn whole(alloc: Global, work: Work, text: &[u8]) -> Made {
-    let calls = Calls {
+fn whole(alloc: Global, work: TextWork, text: &[u8]) -> MadeText {
+    let calls = FailingCalls {
         read: 0,
         write: 0,
         read_width: 100_000,
@@ -123,7 +129,13 @@ fn whole(alloc: Global, work: Work, text: &[u8]) -> Made {
 }
 
 /// That it names what failed, and wrote a beginning of the whole, or all of it. A check that can't read writes nothing.
-fn name_the_cause(rt: &impl Abort, work: Work, made: &Made, whole: &Made, calls: Calls) {
+fn name_the_cause(
+    rt: &impl Abort,
+    work: TextWork,
+    made: &MadeText,
+    whole: &MadeText,
+    calls: FailingCalls,
+) {
     let want = if made.reader {
         Err(RunFault::Input)
     } else if made.writer {
@@ -136,17 +148,17 @@ fn name_the_cause(rt: &impl Abort, work: Work, made: &Made, whole: &Made, calls:
     let (taken, all) = (made.output.as_slice(), whole.output.as_slice());
     assert!(rt; all.starts_with(taken));
     assert!(rt; made.reader || made.writer || taken.len() == all.len());
-    assert!(rt; !made.reader || work == Work::Run || taken.is_empty());
+    assert!(rt; !made.reader || work == TextWork::Run || taken.is_empty());
 }
 
 /// Makes it with these failures, and looks at what comes of it; whether nothing failed.
 fn is_made(
     rt: &impl Abort,
     alloc: Global,
-    work: Work,
+    work: TextWork,
     text: &[u8],
-    whole: &Made,
-    calls: Calls,
+    whole: &MadeText,
+    calls: FailingCalls,
     kind: ErrorKind,
 ) -> bool {
     let made = made_with(alloc, work, text, calls, kind);
@@ -158,15 +170,15 @@ fn is_made(
 fn calls_made(
     rt: &impl Abort,
     alloc: Global,
-    work: Work,
+    work: TextWork,
     text: &[u8],
-    whole: &Made,
+    whole: &MadeText,
     is_reader: bool,
     width: u64,
 ) -> u64 {
     for at in 1..10_000u64 {
         let (read, write) = if is_reader { (at, 0) } else { (0, at) };
-        let calls = Calls {
+        let calls = FailingCalls {
             read,
             write,
             read_width: width,
@@ -180,7 +192,7 @@ fn calls_made(
 }
 
 /// That each call of a reader and each of a writer ends it.
-fn fail_each(rt: &impl Abort, alloc: Global, work: Work, text: &[u8], width: u64) {
+fn fail_each(rt: &impl Abort, alloc: Global, work: TextWork, text: &[u8], width: u64) {
     let whole = whole(alloc, work, text);
     let reads = calls_made(rt, alloc, work, text, &whole, true, width);
     assert!(rt; reads > 1 && reads.saturating_mul(width) > text.len() as u64);
@@ -200,12 +212,12 @@ fn a_failed_call_ends_the_work(rt: HostRuntime) -> Result<(), Fail> {
 }
 
 /// That each failure of both, by this kind of error, is named.
-fn name_causes(rt: &impl Abort, alloc: Global, work: Work, text: &[u8], kind: ErrorKind) {
+fn name_causes(rt: &impl Abort, alloc: Global, work: TextWork, text: &[u8], kind: ErrorKind) {
     let whole = whole(alloc, work, text);
-    let write_width = if work == Work::Run { 40 } else { 2 };
+    let write_width = if work == TextWork::Run { 40 } else { 2 };
     for read in 0..14u64 {
         for write in 0..20u64 {
-            let calls = Calls {
+            let calls = FailingCalls {
                 read,
                 write,
                 read_width: 40,
@@ -233,10 +245,10 @@ fn a_fault_names_what_failed(rt: HostRuntime) -> Result<(), Fail> {
 }
 
 /// That a call that is interrupted is made again, each of a reader and each of a writer.
-fn go_on(rt: &impl Abort, alloc: Global, work: Work, text: &[u8], width: u64) {
+fn go_on(rt: &impl Abort, alloc: Global, work: TextWork, text: &[u8], width: u64) {
     let whole = whole(alloc, work, text);
     for at in 1..10_000u64 {
-        let calls = Calls {
+        let calls = FailingCalls {
             read: at,
             write: at,
             read_width: width,
@@ -268,7 +280,7 @@ fn an_interrupted_call_is_made_again(rt: HostRuntime) -> Result<(), Fail> {
 fn a_check_that_follows_reads_no_further(rt: HostRuntime) -> Result<(), Fail> {
     let file = file_of(rt.alloc(), "fetch 1 1 1 ok / no line")?;
     let front = file_of(rt.alloc(), "fetch 1 1 1 ok")?;
-    let calls = Calls {
+    let calls = FailingCalls {
         read: (front.len() as u64).saturating_add(1),
         write: 0,
         read_width: 1,
@@ -276,7 +288,7 @@ fn a_check_that_follows_reads_no_further(rt: HostRuntime) -> Result<(), Fail> {
     };
     let made = made_with(
         rt.alloc(),
-        Work::Follow,
+        TextWork::Follow,
         file.as_bytes(),
         calls,
         ErrorKind::Other,
@@ -289,7 +301,7 @@ fn a_check_that_follows_reads_no_further(rt: HostRuntime) -> Result<(), Fail> {
 
 #[test]
 fn a_writer_that_takes_nothing_fails(rt: HostRuntime) -> Result<(), Fail> {
-    let calls = Calls {
+    let calls = FailingCalls {
         read: 0,
         write: 0,
         read_width: 7,

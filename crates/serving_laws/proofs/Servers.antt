@@ -3,7 +3,7 @@ use Rattle.std.proofs.Common.{Bool, List, None, Option, Some, [], ap, arith, con
 use Rattle.std.proofs.Common.{refl, subst, suc, sym, true, ℕ, ◌&&◌, ◌++◌, ◌||◌, ◌∙◌, ◌∷◌, ◌≡◌}
 use Rattle.std.proofs.lemmas.Bool.{and_from, and_parts, cond-true, or_right}
 use Rattle.nvme_model.specs.History.{Past}
-use Rattle.nvme_model.specs.Kept.{Kept}
+use Rattle.nvme_model.specs.Kept.{ControllerInvariant}
 use Rattle.nvme_model.specs.Passes.{IsBeginning, SharedPast, entries, places}
 use Rattle.nvme_model.specs.Steps.{block_entry, grant_entry, next_entry, post_entry}
 use Rattle.nvme_model.specs.declared.array.Range.{Range}
@@ -16,7 +16,7 @@ use Rattle.nvme_model.proofs.Written.{clash}
 use Rattle.controller_steps.specs.State.{Accepts, Refuses}
 use Rattle.controller_steps.specs.declared.answer.Answer.{Answer}
 use Rattle.host_laws.proofs.Beside.{places_grow}
-use Rattle.meet_lock.specs.Lock.{AreOfPasses, GoesOn}
+use Rattle.meet_lock.specs.Lock.{AreOfPasses, ExtendsByPasses}
 use Rattle.meet_lock.specs.Passes.{Accepted, Declines, IsSame, Knows, config_of, mine, number, passes_of, seen}
 use Rattle.meet_lock.specs.declared.pass.Declined.{Declined}
 use Rattle.work_queue.specs.Engines.{EnginePass}
@@ -55,7 +55,7 @@ serves_on : (k : ℕ) (old new : SharedPast) → IsBeginning old new → places 
 serves_on k old new b same h =
     subst (λ (s : SharedPast). serves k s ≡ true) b.1 (serves_later k b.0 old (ap (places k) b.1 ∙ same) h)
 
-of_passes_on : (n : ℕ) (old new : SharedPast) → GoesOn n old new → AreOfPasses n old → AreOfPasses n new
+of_passes_on : (n : ℕ) (old new : SharedPast) → ExtendsByPasses n old new → AreOfPasses n old → AreOfPasses n new
 of_passes_on n old new g h = subst (λ (s : SharedPast). AreOfPasses n s) g.0.1 (both n g.0.0 old g.1 h)
 
 -- ---- steps that serve
@@ -118,13 +118,15 @@ noted p q same stay x =
     server_from p q same (subst (λ (s : SharedPast). AreOfPasses (passes_of p) s) (sym stay) x.of_passes)
     (subst (λ (s : SharedPast). serves (number p) s ≡ true) (sym stay) x.serves)
 
-pub saw : (p q : EnginePass) → IsSame p q → mine q ≡ mine p → GoesOn (passes_of p) (seen p) (seen q) → IsServing p
+pub saw : (p q : EnginePass) → IsSame p q → mine q ≡ mine p → ExtendsByPasses (passes_of p) (seen p) (seen q)
+    → IsServing p
     → IsServing q
 saw p q same stay goes x =
     server_from p q same (of_passes_on (passes_of p) (seen p) (seen q) goes x.of_passes)
     (serves_on (number p) (seen p) (seen q) goes.0 (subst (λ (k : ℕ). places k (seen q) ≡ mine p) same.1 stay) x.serves)
 
-pub stepped : (p q : EnginePass) (step : Step) (a : Answer) → IsSame p q → Knows Kept p q → is_served step ≡ true
+pub stepped : (p q : EnginePass) (step : Step) (a : Answer) → IsSame p q → Knows ControllerInvariant p q
+    → is_served step ≡ true
     → Accepted Accepts p q step a → IsServing p → IsServing q
 stepped p q step a same k h acc x =
     let n = number p in
@@ -143,7 +145,7 @@ none_made : (p q : EnginePass) (step : Step) (d : Declined) → Declines Refuses
 none_made p q step (Declined.Busy s) d = d.2
 none_made p q step (Declined.Refused r) d = d.0
 
-pub declined : (p q : EnginePass) (step : Step) (d : Declined) → IsSame p q → Knows Kept p q
+pub declined : (p q : EnginePass) (step : Step) (d : Declined) → IsSame p q → Knows ControllerInvariant p q
     → Declines Refuses p q step d → IsServing p → IsServing q
 declined p q step d same k h x = saw p q same (none_made p q step d h) (k.1, k.2) x
 

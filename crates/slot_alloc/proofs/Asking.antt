@@ -8,7 +8,7 @@ use Rattle.nvme_model.specs.Array.{has_block}
 use Rattle.nvme_model.specs.declared.array.Range.{Range}
 use Rattle.nvme_model.specs.declared.status.Status.{Status}
 use Rattle.driver_calls.specs.declared.reply.Reply.{Reply}
-use Rattle.cid_table.specs.Cids.{Cids, held}
+use Rattle.cid_table.specs.Cids.{QueueCids, held}
 use Rattle.driver_cas.proofs.Drivers.{reaped_calls}
 use Rattle.driver_cas.specs.Drivers.{HasSettings, IsCallOf, area_of, host_of, made, serial_of}
 use Rattle.driver_cas.specs.SlotStarts.{IsClaimStart}
@@ -20,16 +20,16 @@ use Rattle.driver_cas.specs.declared.fault.Fault.{Fault}
 use Rattle.driver_cas.specs.declared.port.Port.{Ghosts}
 use Rattle.slot_calls.specs.Swaps.{log_released}
 use Rattle.slot_alloc.specs.Areas.{area, block_of}
-use Rattle.slot_alloc.specs.Careful.{GoesOn, IsCareful, ReleasedName, own_name}
+use Rattle.slot_alloc.specs.SlotRules.{DriverContinues, KeepsSlotRules, ReleasedName, own_name}
 use Rattle.slot_alloc.specs.Claims.{AreTaken, ClaimSays, IsAsking, IsClaimingOf, IsStageUnreleased, claims_in}
 use Rattle.slot_alloc.specs.Progresses.{told_of}
 use Rattle.slot_alloc.specs.declared.claiming.Claiming.{Claiming}
 use Rattle.slot_alloc.specs.declared.claiming.Lower.{Lower}
 use Rattle.slot_alloc.specs.declared.claiming.Reach.{Reach}
-use Rattle.slot_alloc.specs.declared.claiming.Stage.{Stage}
+use Rattle.slot_alloc.specs.declared.claiming.ClaimStage.{ClaimStage}
 use Rattle.slot_alloc.specs.declared.progress.Progress.{Progress}
 use Rattle.slot_alloc.specs.declared.slots.Slots.{Slots}
-use Rattle.slot_alloc.proofs.Starting.{Claims, asking_claimed, careful_claimed, careful_same, goes_on_claimed}
+use Rattle.slot_alloc.proofs.Starting.{Claims, asking_claimed, slot_rules_claimed, slot_rules_same, goes_on_claimed}
 use Rattle.slot_alloc.proofs.Starting.{goes_on_same, unreleased_claimed}
 
 -- the block of a slot lies in the area
@@ -52,7 +52,7 @@ module _ {P : Type 0} (g : Ghosts P) where
   -- what a claim's answer said it goes on to say
   pub says_on : ((a b c : P) → g.follows a b → g.follows b c → g.follows a c)
       → (d e began : Driver P g) (l : ℕ) (k : Call P) (serial : ℕ) (r : Result Reply Status)
-      (released : Option ReleasedName) → GoesOn d e released → ClaimSays d began l k serial r
+      (released : Option ReleasedName) → DriverContinues d e released → ClaimSays d began l k serial r
       → ClaimSays e began l k serial r
   says_on on d e began l k serial r released x s =
       record {
@@ -72,7 +72,7 @@ module _ {P : Type 0} (g : Ghosts P) where
 
   pub taken_on : ((a b c : P) → g.follows a b → g.follows b c → g.follows a c)
       → (d e began : Driver P g) (n : ℕ) (claims : List (Call P × ℕ)) (released : Option ReleasedName)
-      → GoesOn d e released → AreTaken d began n claims
+      → DriverContinues d e released → AreTaken d began n claims
       → AreTaken e began n claims
   taken_on on d e began n claims released x h =
       record {
@@ -111,7 +111,7 @@ module _ {P : Type 0} (g : Ghosts P) where
         slots = slots;
         reach = reach;
         slot = slot;
-        stage = Stage.Asked k serial;
+        stage = ClaimStage.Asked k serial;
         began = began;
         lower = claims;
       })
@@ -138,20 +138,20 @@ module _ {P : Type 0} (g : Ghosts P) where
 
   -- no release of its name was published
   pub unreleased_now : (d e : Driver P g) (slot : ℕ) (k : Call P) (serial : ℕ)
-      → Claims g d e (block_of (area_of d) slot) k serial → IsCareful d
-      → IsStageUnreleased e (block_of (area_of e) slot) (Stage.Asked k serial)
-  unreleased_now d e slot k serial c careful =
+      → Claims g d e (block_of (area_of d) slot) k serial → KeepsSlotRules d
+      → IsStageUnreleased e (block_of (area_of e) slot) (ClaimStage.Asked k serial)
+  unreleased_now d e slot k serial c slot_rules =
       subst (λ (r : Range). log_released (made e) (block_of r slot) (own_name e serial) ≡ false) (sym c.settings.slots)
-      (unreleased_claimed g d e (block_of (area_of d) slot) k serial c careful)
+      (unreleased_claimed g d e (block_of (area_of d) slot) k serial c slot_rules)
 
   -- it is due
   pub claiming_due : ((a b c : P) → g.follows a b → g.follows b c → g.follows a c)
-      → (d e : Driver P g) (k : Claiming P g) → IsClaimingOf d k → k.reach ≡ Reach.Any → GoesOn d e None
+      → (d e : Driver P g) (k : Claiming P g) → IsClaimingOf d k → k.reach ≡ Reach.Any → DriverContinues d e None
       → IsClaimingOf e (record {
         slots = k.slots;
         reach = k.reach;
         slot = k.slot;
-        stage = Stage.Due;
+        stage = ClaimStage.Due;
         began = k.began;
         lower = k.lower;
       })
@@ -176,11 +176,11 @@ module _ {P : Type 0} (g : Ghosts P) where
         slots = s.slots;
         serial = drawn;
         queues = s.queues;
-      }) later (inl x.0) (λ q i. ap (λ (c : Cids). is_free (held c q i)) x.1) of
+      }) later (inl x.0) (λ q i. ap (λ (c : QueueCids). is_free (held c q i)) x.1) of
 
   -- what is told of a start that was refused for another cause than want of serials or of room
   pub told_later : (k : Claiming P g) (f : Fault) → f ≢ Fault.NoSerial → f ≢ Fault.RingFull
-      → Progress.Later f (record k { stage = Stage.Due }) ≡ told_of k (Err f)
+      → Progress.Later f (record k { stage = ClaimStage.Due }) ≡ told_of k (Err f)
   told_later k Fault.RingFull n m = absurd (m refl)
   told_later k Fault.NoSerial n m = absurd (n refl)
   told_later k Fault.Busy n m = refl
@@ -192,14 +192,14 @@ module _ {P : Type 0} (g : Ghosts P) where
 
   -- for want of room
   pub told_full : (k : Claiming P g) (f : Fault) → f ≡ Fault.RingFull
-      → Progress.Pending (record k { stage = Stage.Due }) ≡ told_of k (Err f)
+      → Progress.Pending (record k { stage = ClaimStage.Due }) ≡ told_of k (Err f)
   told_full k f full = ap (λ (x : Fault). told_of k (Err x)) (sym full)
 
   -- what the start of a claim by itself leaves
   pub claim_kept : (d e : Driver P g) (l : ℕ) (r : Result (Call P × ℕ) Fault) → HasSettings d e
       → g.follows d.port e.port → IsClaimStart d e l r → 1 ≤ host_of d → host_of d < 4294967296
       → IfOk r (λ c. c.1 < 18446744073709551616)
-      → has_block (area_of d) l ≡ true → (IsCareful d → IsCareful e) × GoesOn d e None
+      → has_block (area_of d) l ≡ true → (KeepsSlotRules d → KeepsSlotRules e) × DriverContinues d e None
   claim_kept d e l (Ok c) settings later start named narrow fits inside =
       let k : Claims g d e l c.0 c.1 =
       record {
@@ -211,6 +211,6 @@ module _ {P : Type 0} (g : Ghosts P) where
         fits = fits;
         inside = inside;
       } in
-      (careful_claimed g d e l c.0 c.1 k, goes_on_claimed g d e l c.0 c.1 k)
+      (slot_rules_claimed g d e l c.0 c.1 k, goes_on_claimed g d e l c.0 c.1 k)
   claim_kept d e l (Err f) settings later start named narrow fits inside =
-      (careful_same g d e settings start.0 start.1.0, goes_on_same g d e settings start.0 later start.1.0)
+      (slot_rules_same g d e settings start.0 start.1.0, goes_on_same g d e settings start.0 later start.1.0)

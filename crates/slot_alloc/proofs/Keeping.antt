@@ -13,18 +13,18 @@ use Rattle.driver_calls.specs.declared.event.PortEvent.{PortEvent}
 use Rattle.driver_calls.proofs.Calls.{call_touches}
 use Rattle.driver_calls.specs.declared.request.CallData.{CallData}
 use Rattle.driver_calls.specs.declared.request.Request.{Request}
-use Rattle.driver_cas.specs.Drivers.{IsSame, area_of, host_of, made, serial_of as last_of}
+use Rattle.driver_cas.specs.Drivers.{IsSameDriver, area_of, host_of, made, serial_of as last_of}
 use Rattle.driver_cas.specs.Requests.{IsStart, pair_request_of, request_of}
 use Rattle.driver_cas.specs.Starts.{IsStarted}
 use Rattle.driver_cas.specs.declared.call.Call.{Call}
 use Rattle.driver_cas.specs.declared.driver.Driver.{Driver}
 use Rattle.driver_cas.specs.declared.fault.Fault.{Fault}
 use Rattle.driver_cas.specs.declared.port.Port.{Ghosts}
-use Rattle.slot_calls.proofs.Careful.{careful_outside}
-use Rattle.slot_calls.specs.Careful.{is_careful}
-use Rattle.slot_alloc.specs.Careful.{GoesOn, IsCareful, LogGoesOn}
+use Rattle.slot_calls.proofs.SlotRules.{slot_rules_outside}
+use Rattle.slot_calls.specs.SlotRules.{keeps_slot_rules}
+use Rattle.slot_alloc.specs.SlotRules.{DriverContinues, KeepsSlotRules, LogContinues}
 use Rattle.slot_alloc.proofs.Logs.{outside_on}
-use Rattle.slot_alloc.proofs.Starting.{careful_same, goes_on_same, settings_of}
+use Rattle.slot_alloc.proofs.Starting.{slot_rules_same, goes_on_same, settings_of}
 
 -- what a request that is no fault asks for: some blocks, of which none is a slot that it would write
 pub record IsSound (slots : Range) (q : Request) : Type 0 where
@@ -104,26 +104,26 @@ module _ {P : Type 0} (g : Ghosts P) where
       ∙ sound.outside
 
   pub start_kept : (d e : Driver P g) (rq : Result Request Fault) (contents : CallData) (r : Result (Call P) Fault)
-      → IsSame d e → g.follows d.port e.port → Sound (area_of d) rq → IsStart d e rq contents r
-      → (IsCareful d → IsCareful e) × GoesOn d e None
+      → IsSameDriver d e → g.follows d.port e.port → Sound (area_of d) rq → IsStart d e rq contents r
+      → (KeepsSlotRules d → KeepsSlotRules e) × DriverContinues d e None
   start_kept d e (Err f) contents r same later sound s =
       let settings = settings_of g d e same in
-      (careful_same g d e settings same.serial s.1.0, goes_on_same g d e settings same.serial later s.1.0)
+      (slot_rules_same g d e settings same.serial s.1.0, goes_on_same g d e settings same.serial later s.1.0)
   start_kept d e (Ok q) contents (Err f) same later sound s =
       let settings = settings_of g d e same in
-      (careful_same g d e settings same.serial s.0.0, goes_on_same g d e settings same.serial later s.0.0)
+      (slot_rules_same g d e settings same.serial s.0.0, goes_on_same g d e settings same.serial later s.0.0)
   start_kept d e (Ok q) contents (Ok k) same later sound s =
       let t = started_outside d e q contents k sound s in
       let drawn = same.serial in
-      let p : is_careful (area_of e) (host_of e) (last_of e) (made e)
-      ≡ is_careful (area_of d) (host_of d) (last_of d) (PortEvent.Sent k.queue s.batch ∷ made d) =
-      λ i. is_careful (same.slots i) (same.host i) (same.serial i) (s.published i) in (
-        λ careful. p ∙ careful_outside (area_of d) (host_of d) (last_of d) (made d) k.queue s.batch t careful,
+      let p : keeps_slot_rules (area_of e) (host_of e) (last_of e) (made e)
+      ≡ keeps_slot_rules (area_of d) (host_of d) (last_of d) (PortEvent.Sent k.queue s.batch ∷ made d) =
+      λ i. keeps_slot_rules (same.slots i) (same.host i) (same.serial i) (s.published i) in (
+        λ slot_rules. p ∙ slot_rules_outside (area_of d) (host_of d) (last_of d) (made d) k.queue s.batch t slot_rules,
         record {
           settings = settings_of g d e same;
           drawn = omega (arith, drawn);
           later = later;
-          log = subst (λ (log : List PortEvent). LogGoesOn (area_of d) (made d) log None) (sym s.published)
+          log = subst (λ (log : List PortEvent). LogContinues (area_of d) (made d) log None) (sym s.published)
               (outside_on (area_of d) (made d) k.queue s.batch t);
         },
       )

@@ -10,13 +10,13 @@ use Rattle.driver_cas.specs.Drivers.{IsOneMore}
 use Rattle.slot_calls.proofs.Staying.{believed_claim, believed_got, believed_other, believed_outside, released_claim}
 use Rattle.slot_calls.proofs.Staying.{released_other, released_outside}
 use Rattle.slot_calls.specs.Calls.{IsClaimBatch, IsName, IsReleaseBatch}
-use Rattle.slot_alloc.specs.Careful.{LogGoesOn, ReleasedName}
+use Rattle.slot_alloc.specs.SlotRules.{LogContinues, ReleasedName}
 
-pub same_on : (slots : Range) (log : List PortEvent) → LogGoesOn slots log log None
+pub same_on : (slots : Range) (log : List PortEvent) → LogContinues slots log log None
 same_on slots log = record { log = []; more = refl; believed = λ l n v a h. h; unreleased = λ l n v a h. h }
 
 pub got_on : (slots : Range) (log : List PortEvent) (cqe payload : List ℕ)
-    → LogGoesOn slots log (PortEvent.Got cqe payload ∷ log) None
+    → LogContinues slots log (PortEvent.Got cqe payload ∷ log) None
 got_on slots log cqe payload =
     record {
       log = PortEvent.Got cqe payload ∷ [];
@@ -26,7 +26,7 @@ got_on slots log cqe payload =
     }
 
 pub outside_on : (slots : Range) (log : List PortEvent) (q : ℕ) (batch : List Submission)
-    → list_any (touches slots) batch ≡ false → LogGoesOn slots log (PortEvent.Sent q batch ∷ log) None
+    → list_any (touches slots) batch ≡ false → LogContinues slots log (PortEvent.Sent q batch ∷ log) None
 outside_on slots log q batch t =
     record {
       log = PortEvent.Sent q batch ∷ [];
@@ -36,7 +36,7 @@ outside_on slots log q batch t =
     }
 
 pub claim_on : (slots : Range) (log : List PortEvent) (q k first second : ℕ) (m : Name) (batch : List Submission)
-    → IsName m → IsClaimBatch k first second m batch → LogGoesOn slots log (PortEvent.Sent q batch ∷ log) None
+    → IsName m → IsClaimBatch k first second m batch → LogContinues slots log (PortEvent.Sent q batch ∷ log) None
 claim_on slots log q k first second m batch x b =
     record {
       log = PortEvent.Sent q batch ∷ [];
@@ -51,7 +51,7 @@ other true h = absurd (let e : false ≡ true = h in cc)
 
 pub release_on : (slots : Range) (log : List PortEvent) (q k first second : ℕ) (m : Name) (batch : List Submission)
     → IsName m → IsReleaseBatch k first second m batch
-    → LogGoesOn slots log (PortEvent.Sent q batch ∷ log) (Some (k, m))
+    → LogContinues slots log (PortEvent.Sent q batch ∷ log) (Some (k, m))
 release_on slots log q k first second m batch x b =
     record {
       log = PortEvent.Sent q batch ∷ [];
@@ -63,8 +63,8 @@ release_on slots log q k first second m batch x b =
     }
 
 -- first one, then the other
-pub on_on : (slots : Range) (a b c : List PortEvent) → LogGoesOn slots a b None → LogGoesOn slots b c None
-    → LogGoesOn slots a c None
+pub on_on : (slots : Range) (a b c : List PortEvent) → LogContinues slots a b None → LogContinues slots b c None
+    → LogContinues slots a c None
 on_on slots a b c x y =
     record {
       log = y.log ++ x.log;
@@ -73,13 +73,13 @@ on_on slots a b c x y =
       unreleased = λ l n v o h. y.unreleased l n v o (x.unreleased l n v o h);
     }
 
-pub one_more_on : (slots : Range) (log more : List PortEvent) → IsOneMore log more → LogGoesOn slots log more None
+pub one_more_on : (slots : Range) (log more : List PortEvent) → IsOneMore log more → LogContinues slots log more None
 one_more_on slots log more (inl e) =
-    subst (λ (xs : List PortEvent). LogGoesOn slots log xs None) (sym e) (same_on slots log)
+    subst (λ (xs : List PortEvent). LogContinues slots log xs None) (sym e) (same_on slots log)
 one_more_on slots log more (inr e) =
-    subst (λ (xs : List PortEvent). LogGoesOn slots log xs None) (sym e.2) (got_on slots log e.0 e.1)
+    subst (λ (xs : List PortEvent). LogContinues slots log xs None) (sym e.2) (got_on slots log e.0 e.1)
 
 -- over the same area
 pub on_same : (slots area : Range) (a b : List PortEvent) (r : Option ReleasedName) → area ≡ slots
-    → LogGoesOn slots a b r → LogGoesOn area a b r
-on_same slots area a b r e h = subst (λ (s : Range). LogGoesOn s a b r) (sym e) h
+    → LogContinues slots a b r → LogContinues area a b r
+on_same slots area a b r e h = subst (λ (s : Range). LogContinues s a b r) (sym e) h

@@ -15,12 +15,13 @@ use Rattle.driver_cas.specs.declared.port.Port.{Ghosts}
 use Rattle.slot_alloc.specs.Areas.{block_of}
 use Rattle.slot_alloc.specs.Claims.{AreTaken, ClaimSays, IsClaimingOf}
 use Rattle.slot_alloc.specs.Claims.{claims_in, lower_of}
-use Rattle.slot_alloc.specs.Progresses.{AreAllTaken, GoesToNext, IsEnded, IsHeldOn, IsLost, IsLostOn, IsNext, IsPolled}
+use Rattle.slot_alloc.specs.Progresses.{AreAllTaken, GoesToNext, IsEnded, IsHeldOn, IsLost, IsLostOn, IsNextClaim}
+use Rattle.slot_alloc.specs.Progresses.{IsPolled}
 use Rattle.slot_alloc.specs.Progresses.{told_of}
 use Rattle.slot_alloc.specs.declared.claiming.Claiming.{Claiming}
 use Rattle.slot_alloc.specs.declared.claiming.Lower.{Lower}
 use Rattle.slot_alloc.specs.declared.claiming.Reach.{Reach}
-use Rattle.slot_alloc.specs.declared.claiming.Stage.{Stage}
+use Rattle.slot_alloc.specs.declared.claiming.ClaimStage.{ClaimStage}
 use Rattle.slot_alloc.specs.declared.progress.Progress.{Progress}
 
 pub any_reach : (r : Reach) → r ≢ Reach.One → r ≡ Reach.Any
@@ -77,7 +78,7 @@ module _ {P : Type 0} (g : Ghosts P) where
         slots = k.slots;
         reach = k.reach;
         slot = k.slot + 1;
-        stage = Stage.Due;
+        stage = ClaimStage.Due;
         began = k.began;
         lower = more;
       })
@@ -96,11 +97,11 @@ module _ {P : Type 0} (g : Ghosts P) where
   pub next_of : (d : Driver P g) (k : Claiming P g) (call : Call P) (serial : ℕ) (more : Snapshot (Lower P))
       → IsLost d k call serial → k.reach ≡ Reach.Any → k.slot + 1 ≢ k.slots.count
       → claims_in more.value ≡ lower_of k ++ (call, serial) ∷ []
-      → IsNext k (record {
+      → IsNextClaim k (record {
         slots = k.slots;
         reach = k.reach;
         slot = k.slot + 1;
-        stage = Stage.Due;
+        stage = ClaimStage.Due;
         began = k.began;
         lower = more;
       }) call serial
@@ -145,7 +146,7 @@ module _ {P : Type 0} (g : Ghosts P) where
         slots = k.slots;
         reach = k.reach;
         slot = k.slot;
-        stage = Stage.Due;
+        stage = ClaimStage.Due;
         began = k.began;
         lower = k.lower;
       }) call serial r → IsPolled d f k call serial r
@@ -155,7 +156,7 @@ module _ {P : Type 0} (g : Ghosts P) where
       | inl all ↦ subst (λ (x : Progress P g). IsPolled d f k call serial x) (sym all.0)
           (same all.1, subst (λ (x : Driver P g). AreAllTaken x k call serial) (sym all.1) all.2)
       | inr next ↦
-          let is : IsNext k next.0 call serial =
+          let is : IsNextClaim k next.0 call serial =
           record {
             any = next.1.any;
             slots = next.1.slots;

@@ -7,12 +7,13 @@ use Rattle.nvme_model.specs.Slots.{Name}
 use Rattle.nvme_model.specs.declared.array.Range.{Range}
 use Rattle.nvme_model.specs.declared.operation.Op.{Op}
 use Rattle.nvme_model.specs.declared.status.Status.{Status}
-use Rattle.host_laws.specs.Calls.{status_in}
-use Rattle.driver_calls.specs.Says.{outcome}
+use Rattle.host_laws.specs.Calls.{cqe_status}
+use Rattle.driver_calls.specs.Says.{call_outcome}
 use Rattle.driver_calls.specs.declared.event.PortEvent.{PortEvent}
 use Rattle.driver_calls.specs.declared.reply.Reply.{Reply}
-use Rattle.driver_cas.specs.Drivers.{AsksPort, IsBack, IsCallOf, IsOneMore, IsSame, Says, answer_to, area_of, made}
-use Rattle.driver_cas.specs.Drivers.{number_of, told as told_by}
+use Rattle.driver_cas.specs.Drivers.{AsksPort, IsBack, IsCallOf, IsOneMore, IsSameDriver, SaysOfPort, answer_to}
+use Rattle.driver_cas.specs.Drivers.{area_of, made}
+use Rattle.driver_cas.specs.Drivers.{number_of, poll_answer as told_by}
 use Rattle.driver_cas.specs.declared.call.Call.{Call}
 use Rattle.driver_cas.specs.declared.call.Poll.{Poll}
 use Rattle.driver_cas.specs.declared.driver.Driver.{Driver}
@@ -20,16 +21,16 @@ use Rattle.driver_cas.specs.declared.fault.Fault.{Fault}
 use Rattle.driver_cas.specs.declared.port.Port.{Ghosts}
 use Rattle.slot_calls.proofs.Winning.{claim_in_later, pair_answered, won_by_log}
 use Rattle.slot_calls.specs.Calls.{IsClaimIn}
-use Rattle.slot_calls.specs.Careful.{is_careful}
+use Rattle.slot_calls.specs.SlotRules.{keeps_slot_rules}
 use Rattle.slot_calls.specs.Swaps.{log_released}
 use Rattle.slot_alloc.specs.Areas.{block_of}
-use Rattle.slot_alloc.specs.Careful.{GoesOn, IsCareful, own_name}
-use Rattle.slot_alloc.specs.Claims.{ClaimSays, IsAsking, IsClaimingOf, IsAt, IsHeldBy, IsStageUnreleased}
+use Rattle.slot_alloc.specs.SlotRules.{DriverContinues, KeepsSlotRules, own_name}
+use Rattle.slot_alloc.specs.Claims.{ClaimSays, IsAsking, IsClaimingOf, IsAtSlot, IsHeldBy, IsStageUnreleased}
 use Rattle.slot_alloc.specs.Claims.{IsUnreleased, IsWonBy, lower_of}
 use Rattle.slot_alloc.specs.Progresses.{IsEnded, IsLost, IsPolled}
-use Rattle.slot_alloc.specs.Progresses.{IsProgress, IsQuiet, IsWaiting}
+use Rattle.slot_alloc.specs.Progresses.{IsProgress, IsQuiet, IsClaimWaiting}
 use Rattle.slot_alloc.specs.declared.claiming.Claiming.{Claiming}
-use Rattle.slot_alloc.specs.declared.claiming.Stage.{Stage}
+use Rattle.slot_alloc.specs.declared.claiming.ClaimStage.{ClaimStage}
 use Rattle.slot_alloc.specs.declared.progress.Progress.{Progress}
 use Rattle.slot_alloc.proofs.Asking.{inside_of, taken_on}
 use Rattle.slot_alloc.proofs.Logs.{on_on, on_same, one_more_on}
@@ -43,11 +44,11 @@ not_both r s x h e = cc
 
 -- a fused pair that was served is answered in one of two ways
 pub pair_reply : (log : List PortEvent) (q first second : ℕ) (reply : Reply)
-    → outcome log q Op.Pair first second ≡ Some (Ok reply) → reply ≢ Reply.Swapped → reply ≡ Reply.Differs
+    → call_outcome log q Op.Pair first second ≡ Some (Ok reply) → reply ≢ Reply.Swapped → reply ≡ Reply.Differs
 pair_reply log q first second reply h other =
     let a = pair_answered log q first second (Ok reply) h in
-    go (is_success (status_in a.first.cqe)) (is_success (status_in a.second.cqe))
-    (same_status (status_in a.first.cqe) compare_failure) (status_in a.second.cqe) (status_in a.first.cqe) a.by
+    go (is_success (cqe_status a.first.cqe)) (is_success (cqe_status a.second.cqe))
+    (same_status (cqe_status a.first.cqe) compare_failure) (cqe_status a.second.cqe) (cqe_status a.first.cqe) a.by
   where
     go : (b c d : Bool) (r s : Status)
         → cond b (cond c (Ok Reply.Swapped) (Err r)) (cond d (Ok Reply.Differs) (Err s)) ≡ Ok reply
@@ -57,27 +58,28 @@ pair_reply log q first second reply h other =
     go false c true r s e = one_reply (Ok Reply.Differs) Reply.Differs reply refl e
     go false c false r s e = absurd (not_both (Err s) s reply refl e)
 
--- a completion leaves a log as careful
-careful_more : (slots : Range) (host last : ℕ) (log more : List PortEvent) → IsOneMore log more
-    → is_careful slots host last more ≡ is_careful slots host last log
-careful_more slots host last log more (inl e) = ap (is_careful slots host last) e
-careful_more slots host last log more (inr e) = ap (is_careful slots host last) e.2
+-- after a completion a log keeps the rules as before
+slot_rules_more : (slots : Range) (host last : ℕ) (log more : List PortEvent) → IsOneMore log more
+    → keeps_slot_rules slots host last more ≡ keeps_slot_rules slots host last log
+slot_rules_more slots host last log more (inl e) = ap (keeps_slot_rules slots host last) e
+slot_rules_more slots host last log more (inr e) = ap (keeps_slot_rules slots host last) e.2
 
 module _ {P : Type 0} (g : Ghosts P) where
   -- what came of a call by a poll
   pub record Polls (d e : Driver P g) : Type 0 where
-    pub same : IsSame d e
+    pub same : IsSameDriver d e
     pub later : g.follows d.port e.port
     pub one : IsOneMore (made d) (made e)
 
-  pub careful_polled : (d e : Driver P g) → Polls d e → IsCareful d → IsCareful e
-  careful_polled d e x h =
+  pub slot_rules_polled : (d e : Driver P g) → Polls d e → KeepsSlotRules d → KeepsSlotRules e
+  slot_rules_polled d e x h =
       let s = x.same in
-      let p : is_careful (area_of e) e.host e.serial (made e) ≡ is_careful (area_of d) d.host d.serial (made e) =
-      λ i. is_careful (s.slots i) (s.host i) (s.serial i) (made e) in
-      p ∙ (careful_more (area_of d) d.host d.serial (made d) (made e) x.one ∙ h)
+      let p : keeps_slot_rules (area_of e) e.host e.serial (made e)
+      ≡ keeps_slot_rules (area_of d) d.host d.serial (made e) =
+      λ i. keeps_slot_rules (s.slots i) (s.host i) (s.serial i) (made e) in
+      p ∙ (slot_rules_more (area_of d) d.host d.serial (made d) (made e) x.one ∙ h)
 
-  pub goes_on_polled : (d e : Driver P g) → Polls d e → GoesOn d e None
+  pub goes_on_polled : (d e : Driver P g) → Polls d e → DriverContinues d e None
   goes_on_polled d e x =
       let drawn = x.same.serial in
       record {
@@ -116,22 +118,22 @@ module _ {P : Type 0} (g : Ghosts P) where
   -- ---- what came of the claim
 
   asked : (d : Driver P g) (k : Claiming P g) (call : Call P) (serial : ℕ) → IsClaimingOf d k
-      → k.stage ≡ Stage.Asked call serial
+      → k.stage ≡ ClaimStage.Asked call serial
       → IsAsking d (block_of (area_of d) k.slot) call serial × g.follows k.began.value.port call.start.value
   asked d k call serial of is =
-      subst (λ (s : Stage P). IsAt d k.began.value (block_of (area_of d) k.slot) k.reach s) is of.at
+      subst (λ (s : ClaimStage P). IsAtSlot d k.began.value (block_of (area_of d) k.slot) k.reach s) is of.at
 
   within : (d : Driver P g) (k : Claiming P g) → IsClaimingOf d k → k.slot < (area_of d).blocks
   within d k of = subst (λ (r : Range). k.slot < r.blocks) (sym of.area_is) of.inside
 
   pub claiming_polled : ((a b c : P) → g.follows a b → g.follows b c → g.follows a c)
       → (d e : Driver P g) (k : Claiming P g) (call : Call P) (serial : ℕ) → IsClaimingOf d k
-      → k.stage ≡ Stage.Asked call serial → Polls d e → IsCallOf e call
+      → k.stage ≡ ClaimStage.Asked call serial → Polls d e → IsCallOf e call
       → IsClaimingOf e (record {
         slots = k.slots;
         reach = k.reach;
         slot = k.slot;
-        stage = Stage.Asked call serial;
+        stage = ClaimStage.Asked call serial;
         began = k.began;
         lower = k.lower;
       })
@@ -155,7 +157,7 @@ module _ {P : Type 0} (g : Ghosts P) where
 
   -- the claim of the slot at hand is one of the name that the driver has for this serial
   claim_there : (d e : Driver P g) (k : Claiming P g) (call : Call P) (serial : ℕ) → IsClaimingOf d k
-      → k.stage ≡ Stage.Asked call serial → Polls d e
+      → k.stage ≡ ClaimStage.Asked call serial → Polls d e
       → IsClaimIn (made e) call.queue call.first call.second (number_of e call) (block_of (area_of e) k.slot)
       (own_name e serial)
   claim_there d e k call serial of is x =
@@ -165,15 +167,15 @@ module _ {P : Type 0} (g : Ghosts P) where
 
   -- the name of a claim that goes on isn't released
   pub still_polled : (d e : Driver P g) (k : Claiming P g) (call : Call P) (serial : ℕ) → IsClaimingOf d k
-      → k.stage ≡ Stage.Asked call serial → Polls d e → IsUnreleased d k
-      → IsStageUnreleased e (block_of (area_of e) k.slot) (Stage.Asked call serial)
+      → k.stage ≡ ClaimStage.Asked call serial → Polls d e → IsUnreleased d k
+      → IsStageUnreleased e (block_of (area_of e) k.slot) (ClaimStage.Asked call serial)
   still_polled d e k call serial of is x h =
       unreleased_polled d e k.slot call serial x (within d k of)
-      (subst (λ (s : Stage P). IsStageUnreleased d (block_of (area_of d) k.slot) s) is h)
+      (subst (λ (s : ClaimStage P). IsStageUnreleased d (block_of (area_of d) k.slot) s) is h)
 
   pub says_polled : ((a : P) → g.follows a a)
       → (d e : Driver P g) (k : Claiming P g) (call : Call P) (serial : ℕ) (r : Result Reply Status) → IsClaimingOf d k
-      → k.stage ≡ Stage.Asked call serial → Polls d e → answer_to e call ≡ Some r → Says e call (Some r)
+      → k.stage ≡ ClaimStage.Asked call serial → Polls d e → answer_to e call ≡ Some r → SaysOfPort e call (Some r)
       → ClaimSays e k.began.value (block_of (area_of e) k.slot) call serial r
   says_polled stays d e k call serial r of is x answer says =
       let a = asked d k call serial of is in
@@ -195,8 +197,8 @@ module _ {P : Type 0} (g : Ghosts P) where
 
   pub ended_polled : ((a : P) → g.follows a a)
       → (d e : Driver P g) (k : Claiming P g) (call : Call P) (serial : ℕ) (r : Result Reply Status) → IsClaimingOf d k
-      → k.stage ≡ Stage.Asked call serial → Polls d e → AsksPort d e call None → answer_to e call ≡ Some r
-      → Says e call (Some r)
+      → k.stage ≡ ClaimStage.Asked call serial → Polls d e → AsksPort d e call None → answer_to e call ≡ Some r
+      → SaysOfPort e call (Some r)
       → IsEnded d e k call serial r
   ended_polled stays d e k call serial r of is x asks answer says =
       record {
@@ -208,23 +210,25 @@ module _ {P : Type 0} (g : Ghosts P) where
 
   -- it goes on as it is
   pub waiting_polled : (d e : Driver P g) (k : Claiming P g) (call back : Call P) (serial : ℕ) (later : Option Fault)
-      → k.stage ≡ Stage.Asked call serial → back ≡ call → Polls d e → AsksPort d e call later → None ≡ answer_to e call
-      → IsWaiting d e k call later
+      → k.stage ≡ ClaimStage.Asked call serial → back ≡ call → Polls d e → AsksPort d e call later
+      → None ≡ answer_to e call
+      → IsClaimWaiting d e k call later
       (record {
         slots = k.slots;
         reach = k.reach;
         slot = k.slot;
-        stage = Stage.Asked back serial;
+        stage = ClaimStage.Asked back serial;
         began = k.began;
         lower = k.lower;
       })
   waiting_polled d e k call back serial later is same x asks waits =
-      let stage : Stage.Asked back serial ≡ k.stage = ap (λ (c : Call P). Stage.Asked c serial) same ∙ sym is in
+      let stage : ClaimStage.Asked back serial ≡ k.stage = ap (λ (c : Call P). ClaimStage.Asked c serial) same
+      ∙ sym is in
       record {
         quiet = quiet_polled d e x;
         asks = asks;
         waits = sym waits;
-        same = ap (λ (s : Stage P). record {
+        same = ap (λ (s : ClaimStage P). record {
           slots = k.slots;
           reach = k.reach;
           slot = k.slot;
@@ -235,7 +239,7 @@ module _ {P : Type 0} (g : Ghosts P) where
       }
 
   pub won_polled : (d e : Driver P g) (k : Claiming P g) (call : Call P) (serial : ℕ) → IsClaimingOf d k
-      → k.stage ≡ Stage.Asked call serial → Polls d e → answer_to e call ≡ Some (Ok Reply.Swapped)
+      → k.stage ≡ ClaimStage.Asked call serial → Polls d e → answer_to e call ≡ Some (Ok Reply.Swapped)
       → IsWonBy e (record { slot = k.slot; serial = serial })
   won_polled d e k call serial of is x answer =
       let there = claim_there d e k call serial of is x in
@@ -244,12 +248,12 @@ module _ {P : Type 0} (g : Ghosts P) where
         name = there.name;
         believed = won_by_log (made e) call.queue call.first call.second (number_of e call)
             (block_of (area_of e) k.slot) (own_name e serial) there
-            (subst (λ (o : Op). outcome (made e) call.queue o call.first call.second ≡ Some (Ok Reply.Swapped))
+            (subst (λ (o : Op). call_outcome (made e) call.queue o call.first call.second ≡ Some (Ok Reply.Swapped))
             (asked d k call serial of is).0.does answer);
       }
 
   pub held_polled : (d e : Driver P g) (k : Claiming P g) (call : Call P) (serial : ℕ) → IsClaimingOf d k
-      → k.stage ≡ Stage.Asked call serial → Polls d e
+      → k.stage ≡ ClaimStage.Asked call serial → Polls d e
       → IsWonBy e (record { slot = k.slot; serial = serial }) → IsUnreleased d k
       → IsHeldBy e (record { slot = k.slot; serial = serial })
   held_polled d e k call serial of is x won h =
@@ -257,14 +261,14 @@ module _ {P : Type 0} (g : Ghosts P) where
         inside = won.inside;
         name = won.name;
         believed = won.believed (unreleased_polled d e k.slot call serial x (within d k of)
-            (subst (λ (s : Stage P). IsStageUnreleased d (block_of (area_of d) k.slot) s) is h));
+            (subst (λ (s : ClaimStage P). IsStageUnreleased d (block_of (area_of d) k.slot) s) is h));
       }
 
   pub failed_polled : ((a : P) → g.follows a a)
       → (d e : Driver P g) (k : Claiming P g) (call : Call P) (serial : ℕ) (f : Fault) → IsClaimingOf d k
-      → k.stage ≡ Stage.Asked call serial → Polls d e
+      → k.stage ≡ ClaimStage.Asked call serial → Polls d e
       → AsksPort d e call None → IsBack call (Poll.Failed f) → told_by {P = P} (Poll.Failed f) ≡ answer_to e call
-      → Says e call (told_by {P = P} (Poll.Failed f)) → IsPolled d e k call serial (Progress.Failed f)
+      → SaysOfPort e call (told_by {P = P} (Poll.Failed f)) → IsPolled d e k call serial (Progress.Failed f)
   failed_polled stays d e k call serial (Fault.Status s) of is x asks back answer says =
       ended_polled stays d e k call serial (Err s) of is x asks (sym answer) says
   failed_polled stays d e k call serial Fault.Length of is x asks back answer says = absurd back
@@ -278,13 +282,13 @@ module _ {P : Type 0} (g : Ghosts P) where
   -- somebody else has the slot
   pub differs_ended : ((a : P) → g.follows a a)
       → (d e : Driver P g) (k : Claiming P g) (call : Call P) (serial : ℕ) (reply : Reply) → IsClaimingOf d k
-      → k.stage ≡ Stage.Asked call serial
+      → k.stage ≡ ClaimStage.Asked call serial
       → Polls d e → AsksPort d e call None → reply ≢ Reply.Swapped → answer_to e call ≡ Some (Ok reply)
-      → Says e call (Some (Ok reply)) → IsEnded d e k call serial (Ok Reply.Differs)
+      → SaysOfPort e call (Some (Ok reply)) → IsEnded d e k call serial (Ok Reply.Differs)
   differs_ended stays d e k call serial reply of is x asks other answer says =
       let a = asked d k call serial of is in
       let differs = pair_reply (made e) call.queue call.first call.second reply
-      (subst (λ (o : Op). outcome (made e) call.queue o call.first call.second ≡ Some (Ok reply)) a.0.does answer)
+      (subst (λ (o : Op). call_outcome (made e) call.queue o call.first call.second ≡ Some (Ok reply)) a.0.does answer)
       other in
       subst (λ (y : Reply). IsEnded d e k call serial (Ok y)) differs
       (ended_polled stays d e k call serial (Ok reply) of is x asks answer says)
@@ -296,7 +300,7 @@ module _ {P : Type 0} (g : Ghosts P) where
         slots = k.slots;
         reach = k.reach;
         slot = k.slot;
-        stage = Stage.Due;
+        stage = ClaimStage.Due;
         began = k.began;
         lower = k.lower;
       }) call serial
@@ -311,7 +315,7 @@ module _ {P : Type 0} (g : Ghosts P) where
 
   -- one moment after the other
   pub goes_on_on : ((a b c : P) → g.follows a b → g.follows b c → g.follows a c) → (d e f : Driver P g)
-      → GoesOn d e None → GoesOn e f None → GoesOn d f None
+      → DriverContinues d e None → DriverContinues e f None → DriverContinues d f None
   goes_on_on on d e f x y =
       let s = x.settings in
       let t = y.settings in
@@ -333,5 +337,5 @@ module _ {P : Type 0} (g : Ghosts P) where
 
   -- by the claim's stage
   pub by_stage : (d e : Driver P g) (k : Claiming P g) (call : Call P) (serial : ℕ) (r : Progress P g)
-      → k.stage ≡ Stage.Asked call serial → IsPolled d e k call serial r → IsProgress d e k k.stage r
-  by_stage d e k call serial r is h = subst (λ (s : Stage P). IsProgress d e k s r) (sym is) h
+      → k.stage ≡ ClaimStage.Asked call serial → IsPolled d e k call serial r → IsProgress d e k k.stage r
+  by_stage d e k call serial r is h = subst (λ (s : ClaimStage P). IsProgress d e k s r) (sym is) h

@@ -11,20 +11,20 @@ use Rattle.driver_calls.specs.Views.{since}
 use Rattle.driver_calls.specs.declared.event.PortEvent.{PortEvent}
 use Rattle.driver_calls.specs.declared.request.CallData.{CallData}
 use Rattle.driver_cas.proofs.Sending.{sent_call}
-use Rattle.driver_cas.specs.Drivers.{HasSettings, IsSame, area_of, host_of, made, number_of, serial_of}
+use Rattle.driver_cas.specs.Drivers.{HasSettings, IsSameDriver, area_of, host_of, made, number_of, serial_of}
 use Rattle.driver_cas.specs.SlotStarts.{IsClaimStart, claim_data}
 use Rattle.driver_cas.specs.Starts.{IsStarted}
 use Rattle.driver_cas.specs.declared.call.Call.{Call}
 use Rattle.driver_cas.specs.declared.driver.Driver.{Driver}
 use Rattle.driver_cas.specs.declared.port.Port.{Ghosts}
-use Rattle.slot_calls.proofs.Careful.{careful_claim}
+use Rattle.slot_calls.proofs.SlotRules.{slot_rules_claim}
 use Rattle.slot_calls.proofs.Claiming.{unreleased}
 use Rattle.slot_calls.proofs.Staying.{released_claim}
 use Rattle.slot_calls.proofs.Winning.{claim_in}
 use Rattle.slot_calls.specs.Calls.{IsClaimIn, IsName}
-use Rattle.slot_calls.specs.Careful.{is_careful}
+use Rattle.slot_calls.specs.SlotRules.{keeps_slot_rules}
 use Rattle.slot_calls.specs.Swaps.{log_released}
-use Rattle.slot_alloc.specs.Careful.{GoesOn, IsCareful, LogGoesOn, ReleasedName, own_name}
+use Rattle.slot_alloc.specs.SlotRules.{DriverContinues, KeepsSlotRules, LogContinues, ReleasedName, own_name}
 use Rattle.slot_alloc.specs.Claims.{IsAsking}
 use Rattle.slot_alloc.proofs.Logs.{claim_on, same_on}
 
@@ -32,7 +32,7 @@ some_same : (a b : ℕ) → Some a ≡ Some b → a ≡ b
 some_same a b h = cc
 
 module _ {P : Type 0} (g : Ghosts P) where
-  pub settings_of : (d e : Driver P g) → IsSame d e → HasSettings d e
+  pub settings_of : (d e : Driver P g) → IsSameDriver d e → HasSettings d e
   settings_of d e s = record { began = s.began; host = s.host; acwu = s.acwu; slots = s.slots; queues = s.queues }
 
   -- a call's number stays
@@ -54,27 +54,29 @@ module _ {P : Type 0} (g : Ghosts P) where
 
   -- ---- nothing was published
 
-  pub careful_same : (d e : Driver P g) → HasSettings d e → serial_of e ≡ serial_of d → made e ≡ made d → IsCareful d
-      → IsCareful e
-  careful_same d e s drawn m h =
-      let p : is_careful (area_of e) (host_of e) (serial_of e) (made e)
-      ≡ is_careful (area_of d) (host_of d) (serial_of d) (made d) =
-      λ i. is_careful (s.slots i) (s.host i) (drawn i) (m i) in
+  pub slot_rules_same : (d e : Driver P g) → HasSettings d e → serial_of e ≡ serial_of d → made e ≡ made d
+      → KeepsSlotRules d
+      → KeepsSlotRules e
+  slot_rules_same d e s drawn m h =
+      let p : keeps_slot_rules (area_of e) (host_of e) (serial_of e) (made e)
+      ≡ keeps_slot_rules (area_of d) (host_of d) (serial_of d) (made d) =
+      λ i. keeps_slot_rules (s.slots i) (s.host i) (drawn i) (m i) in
       p ∙ h
 
   pub goes_on_same : (d e : Driver P g) → HasSettings d e → serial_of e ≡ serial_of d → g.follows d.port e.port
-      → made e ≡ made d → GoesOn d e None
+      → made e ≡ made d → DriverContinues d e None
   goes_on_same d e s drawn later m =
       record {
         settings = s;
         drawn = omega (arith, drawn);
         later = later;
-        log = subst (λ (log : List PortEvent). LogGoesOn (area_of d) (made d) log None) (sym m)
+        log = subst (λ (log : List PortEvent). LogContinues (area_of d) (made d) log None) (sym m)
             (same_on (area_of d) (made d));
       }
 
   -- what goes on with nothing released goes on whatever is released
-  pub goes_on_any : (d e : Driver P g) (released : Option ReleasedName) → GoesOn d e None → GoesOn d e released
+  pub goes_on_any : (d e : Driver P g) (released : Option ReleasedName) → DriverContinues d e None
+      → DriverContinues d e released
   goes_on_any d e released x =
       record {
         settings = x.settings;
@@ -106,24 +108,26 @@ module _ {P : Type 0} (g : Ghosts P) where
   above : (d e : Driver P g) (l : ℕ) (k : Call P) (serial : ℕ) → Claims d e l k serial → serial_of d < serial
   above d e l k serial c = omega (arith, c.start.0)
 
-  pub careful_claimed : (d e : Driver P g) (l : ℕ) (k : Call P) (serial : ℕ) → Claims d e l k serial → IsCareful d
-      → IsCareful e
-  careful_claimed d e l k serial c careful =
+  pub slot_rules_claimed : (d e : Driver P g) (l : ℕ) (k : Call P) (serial : ℕ) → Claims d e l k serial
+      → KeepsSlotRules d
+      → KeepsSlotRules e
+  slot_rules_claimed d e l k serial c slot_rules =
       let s = c.start.2 in
-      let p : is_careful (area_of e) (host_of e) (serial_of e) (made e)
-      ≡ is_careful (area_of d) (host_of d) serial (PortEvent.Sent k.queue s.batch ∷ made d) =
-      λ i. is_careful (c.settings.slots i) (c.settings.host i) (c.start.1 i) (s.published i) in
-      p ∙ careful_claim (area_of d) (serial_of d) (made d) k.queue l k.first k.second (own_name d serial) s.batch
-      (name_is d e l k serial c) s.is c.inside (above d e l k serial c) careful
+      let p : keeps_slot_rules (area_of e) (host_of e) (serial_of e) (made e)
+      ≡ keeps_slot_rules (area_of d) (host_of d) serial (PortEvent.Sent k.queue s.batch ∷ made d) =
+      λ i. keeps_slot_rules (c.settings.slots i) (c.settings.host i) (c.start.1 i) (s.published i) in
+      p ∙ slot_rules_claim (area_of d) (serial_of d) (made d) k.queue l k.first k.second (own_name d serial) s.batch
+      (name_is d e l k serial c) s.is c.inside (above d e l k serial c) slot_rules
 
-  pub goes_on_claimed : (d e : Driver P g) (l : ℕ) (k : Call P) (serial : ℕ) → Claims d e l k serial → GoesOn d e None
+  pub goes_on_claimed : (d e : Driver P g) (l : ℕ) (k : Call P) (serial : ℕ) → Claims d e l k serial
+      → DriverContinues d e None
   goes_on_claimed d e l k serial c =
       let s = c.start.2 in
       record {
         settings = c.settings;
         drawn = omega (arith, c.start.0, c.start.1);
         later = c.later;
-        log = subst (λ (log : List PortEvent). LogGoesOn (area_of d) (made d) log None) (sym s.published)
+        log = subst (λ (log : List PortEvent). LogContinues (area_of d) (made d) log None) (sym s.published)
             (claim_on (area_of d) (made d) k.queue l k.first k.second (own_name d serial) s.batch
             (name_is d e l k serial c) s.is);
       }
@@ -146,14 +150,15 @@ module _ {P : Type 0} (g : Ghosts P) where
             s.free.unlike s.is));
       }
 
-  -- a driver that is careful has released no name under its next serial
-  pub unreleased_claimed : (d e : Driver P g) (l : ℕ) (k : Call P) (serial : ℕ) → Claims d e l k serial → IsCareful d
+  -- a driver that keeps the rules has released no name under its next serial
+  pub unreleased_claimed : (d e : Driver P g) (l : ℕ) (k : Call P) (serial : ℕ) → Claims d e l k serial
+      → KeepsSlotRules d
       → log_released (made e) l (own_name e serial) ≡ false
-  unreleased_claimed d e l k serial c careful =
+  unreleased_claimed d e l k serial c slot_rules =
       let s = c.start.2 in
       let n = own_name d serial in
       let x = name_is d e l k serial c in
       let p : log_released (made e) l (own_name e serial) ≡ log_released (PortEvent.Sent k.queue s.batch ∷ made d) l n =
       λ i. log_released (s.published i) l (record { host = c.settings.host i; serial = serial }) in
       p ∙ (released_claim (made d) k.queue l k.first k.second n s.batch l n x s.is
-      ∙ unreleased (area_of d) (host_of d) (serial_of d) (made d) l n careful c.inside (above d e l k serial c))
+      ∙ unreleased (area_of d) (host_of d) (serial_of d) (made d) l n slot_rules c.inside (above d e l k serial c))

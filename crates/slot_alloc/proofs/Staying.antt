@@ -13,26 +13,26 @@ use Rattle.slot_calls.proofs.Winning.{claim_in_later, release_in_later}
 use Rattle.slot_calls.specs.Calls.{IsClaimIn, IsReleaseIn}
 use Rattle.slot_calls.specs.Swaps.{log_released}
 use Rattle.slot_alloc.specs.Areas.{block_of}
-use Rattle.slot_alloc.specs.Careful.{GoesOn, ReleasedName, own_name}
-use Rattle.slot_alloc.specs.Claims.{IsAsking, IsAt, IsCallKept, IsClaimingOf, IsReleasingOf, IsStageUnreleased}
+use Rattle.slot_alloc.specs.SlotRules.{DriverContinues, ReleasedName, own_name}
+use Rattle.slot_alloc.specs.Claims.{IsAsking, IsAtSlot, IsCallKept, IsClaimingOf, IsReleasingOf, IsStageUnreleased}
 use Rattle.slot_alloc.specs.Claims.{IsUnreleased, is_other_claim, is_other_stage, lower_of}
 use Rattle.slot_alloc.specs.declared.claiming.Claiming.{Claiming}
 use Rattle.slot_alloc.specs.declared.claiming.Reach.{Reach}
-use Rattle.slot_alloc.specs.declared.claiming.Stage.{Stage}
+use Rattle.slot_alloc.specs.declared.claiming.ClaimStage.{ClaimStage}
 use Rattle.slot_alloc.specs.declared.release.Releasing.{Releasing}
 use Rattle.slot_alloc.proofs.Asking.{inside_of, taken_on}
 use Rattle.slot_alloc.proofs.Starting.{number_same}
 
 module _ {P : Type 0} (g : Ghosts P) where
   -- a pair's call stands in the later log
-  later_call : (d e : Driver P g) (released : Option ReleasedName) (x : GoesOn d e released) (k : Call P)
+  later_call : (d e : Driver P g) (released : Option ReleasedName) (x : DriverContinues d e released) (k : Call P)
       → k.op ≡ Op.Pair → IsCallOf e k → IsCallIn (x.log.log ++ made d) k.queue Op.Pair k.first k.second (number_of d k)
   later_call d e released x k does of =
       subst (λ (z : List PortEvent × ℕ × Op). IsCallIn z.0 k.queue z.2 k.first k.second z.1)
       (λ i. (x.log.more i, number_same g d e k x.settings i, does i)) of.published
 
   asking_on : (d e : Driver P g) (l : ℕ) (k : Call P) (serial : ℕ) (released : Option ReleasedName)
-      (x : GoesOn d e released) → IsCallOf e k → IsAsking d l k serial → IsAsking e l k serial
+      (x : DriverContinues d e released) → IsCallOf e k → IsAsking d l k serial → IsAsking e l k serial
   asking_on d e l k serial released x of a =
       record {
         of = of;
@@ -44,18 +44,19 @@ module _ {P : Type 0} (g : Ghosts P) where
             (later_call d e released x k a.does of));
       }
 
-  at_on : (d e began : Driver P g) (slot : ℕ) (reach : Reach) (stage : Stage P) (released : Option ReleasedName)
-      → GoesOn d e released → IsCallKept e stage
-      → IsAt d began (block_of (area_of d) slot) reach stage → IsAt e began (block_of (area_of e) slot) reach stage
-  at_on d e began slot reach (Stage.Asked call serial) released x kept at = (
+  at_on : (d e began : Driver P g) (slot : ℕ) (reach : Reach) (stage : ClaimStage P) (released : Option ReleasedName)
+      → DriverContinues d e released → IsCallKept e stage
+      → IsAtSlot d began (block_of (area_of d) slot) reach stage
+      → IsAtSlot e began (block_of (area_of e) slot) reach stage
+  at_on d e began slot reach (ClaimStage.Asked call serial) released x kept at = (
     subst (λ (r : Range). IsAsking e (block_of r slot) call serial) (sym x.settings.slots)
         (asking_on d e (block_of (area_of d) slot) call serial released x kept at.0),
     at.1,
   )
-  at_on d e began slot reach Stage.Due released x kept at = at
+  at_on d e began slot reach ClaimStage.Due released x kept at = at
 
   pub claiming_on : ((a b c : P) → g.follows a b → g.follows b c → g.follows a c)
-      → (d e : Driver P g) (k : Claiming P g) (released : Option ReleasedName) → GoesOn d e released
+      → (d e : Driver P g) (k : Claiming P g) (released : Option ReleasedName) → DriverContinues d e released
       → IsCallKept e k.stage → IsClaimingOf d k → IsClaimingOf e k
   claiming_on on d e k released x kept of =
       record {
@@ -67,12 +68,13 @@ module _ {P : Type 0} (g : Ghosts P) where
       }
 
   -- a name that wasn't released isn't, where another was
-  pub unreleased_on : (d e : Driver P g) (k : Claiming P g) (released : Option ReleasedName) → GoesOn d e released
+  pub unreleased_on : (d e : Driver P g) (k : Claiming P g) (released : Option ReleasedName)
+      → DriverContinues d e released
       → is_other_claim released d k ≡ true → IsClaimingOf d k → IsUnreleased d k → IsUnreleased e k
   unreleased_on d e k released x other of h =
       go k.stage released x (same released other) h
     where
-      other_stage : Option ReleasedName → Stage P → Bool
+      other_stage : Option ReleasedName → ClaimStage P → Bool
       other_stage None stage = true
       other_stage (Some r) stage = is_other_stage r d (block_of (area_of d) k.slot) stage
 
@@ -92,16 +94,17 @@ module _ {P : Type 0} (g : Ghosts P) where
           (record { host = x.settings.host i; serial = serial }) in
           p ∙ a
 
-      go : (stage : Stage P) (r : Option ReleasedName) → GoesOn d e r → other_stage r stage ≡ true
+      go : (stage : ClaimStage P) (r : Option ReleasedName) → DriverContinues d e r → other_stage r stage ≡ true
           → IsStageUnreleased d (block_of (area_of d) k.slot) stage
           → IsStageUnreleased e (block_of (area_of e) k.slot) stage
-      go (Stage.Asked call serial) None y o a =
+      go (ClaimStage.Asked call serial) None y o a =
           moved serial (y.log.unreleased (block_of (area_of d) k.slot) (own_name d serial) inside refl a)
-      go (Stage.Asked call serial) (Some r) y o a =
+      go (ClaimStage.Asked call serial) (Some r) y o a =
           moved serial (y.log.unreleased (block_of (area_of d) k.slot) (own_name d serial) inside o a)
-      go Stage.Due r y o a = tt
+      go ClaimStage.Due r y o a = tt
 
-  pub releasing_on : (d e : Driver P g) (k : Releasing P) (released : Option ReleasedName) → GoesOn d e released
+  pub releasing_on : (d e : Driver P g) (k : Releasing P) (released : Option ReleasedName)
+      → DriverContinues d e released
       → IsCallOf e k.call → IsReleasingOf d k → IsReleasingOf e k
   releasing_on d e k released x call_of of =
       record {

@@ -14,12 +14,12 @@ use Rattle.host_laws.specs.Beside.{IsSole}
 use Rattle.host_laws.specs.Calls.{PairDiffers, PairSwaps}
 use Rattle.driver_calls.proofs.Answering.{sole_before}
 use Rattle.driver_calls.specs.Says.{CallSays, FailedSays, ReplySays}
-use Rattle.driver_calls.specs.Views.{Follows, IsAlone, PortView}
+use Rattle.driver_calls.specs.Views.{ViewFollows, IsAlone, PortView}
 use Rattle.driver_calls.specs.declared.event.PortEvent.{PortEvent}
 use Rattle.driver_calls.specs.declared.reply.Reply.{Reply}
 
 -- the premise held before
-alone_before : (before : List PortEvent) (a b : PortView) → Follows a b → IsAlone before b → IsAlone before a
+alone_before : (before : List PortEvent) (a b : PortView) → ViewFollows a b → IsAlone before b → IsAlone before a
 alone_before before a b f h =
     record {
       none = h.none;
@@ -33,15 +33,15 @@ alone_before before a b f h =
     }
 
 -- what was seen then is the end of what is seen now
-grown : (a b : PortView) (f : Follows a b) → entries b.seen ≡ entries f.goes_on.0 ++ entries a.seen
+grown : (a b : PortView) (f : ViewFollows a b) → entries b.seen ≡ entries f.goes_on.0 ++ entries a.seen
 grown a b f = sym (λ i. entries (f.goes_on.1 i)) ∙ entries_append f.goes_on.0 a.seen
 
-legal_grown : (a b : PortView) (f : Follows a b) → IsLegal b.config (entries b.seen)
+legal_grown : (a b : PortView) (f : ViewFollows a b) → IsLegal b.config (entries b.seen)
     → IsLegal b.config (entries f.goes_on.0 ++ entries a.seen)
 legal_grown a b f legal = subst (λ (past : Past). IsLegal b.config past) (grown a b f) legal
 
 -- a pair's effect that said no goes on to stand there
-pub differs_on : (before : List PortEvent) (start a b : PortView) (q j : ℕ) (o : Op) → Follows a b
+pub differs_on : (before : List PortEvent) (start a b : PortView) (q j : ℕ) (o : Op) → ViewFollows a b
     → IsLegal b.config (entries b.seen) → o ≡ Op.Pair
     → (IsAlone before a → CallSays a.config (entries start.seen) (entries a.seen) q j o (Some (Ok Reply.Differs)))
     → IsAlone before b → PairDiffers (entries b.seen) q j
@@ -62,7 +62,7 @@ swapped_pair c start past q j Op.WriteZeroes h = absurd h
 swapped_pair c start past q j Op.Compare h = absurd h
 
 -- one that said yes does
-pub swaps_on : (before : List PortEvent) (start a b : PortView) (q j : ℕ) (o : Op) → Follows a b
+pub swaps_on : (before : List PortEvent) (start a b : PortView) (q j : ℕ) (o : Op) → ViewFollows a b
     → IsLegal b.config (entries b.seen)
     → (IsAlone before a → CallSays a.config (entries start.seen) (entries a.seen) q j o (Some (Ok Reply.Swapped)))
     → IsAlone before b → PairSwaps (entries b.seen) q j
@@ -81,7 +81,7 @@ failed_grown c later past q j s legal x = (
   failed_later c later past q j legal x.2,
 )
 
-pub failed_on : (before : List PortEvent) (start a b : PortView) (q j : ℕ) (o : Op) (s : Status) → Follows a b
+pub failed_on : (before : List PortEvent) (start a b : PortView) (q j : ℕ) (o : Op) (s : Status) → ViewFollows a b
     → IsLegal b.config (entries b.seen)
     → (IsAlone before a → CallSays a.config (entries start.seen) (entries a.seen) q j o (Some (Err s)))
     → IsAlone before b → FailedSays b.config (entries b.seen) q j s

@@ -17,5 +17,5 @@ abbrev pub slot_of : Claim → ℕ
 slot_of c = c.slot
 
 -- the serial of a claim
-abbrev pub serial_of : Claim → ℕ
-serial_of c = c.serial
+abbrev pub claim_serial : Claim → ℕ
+claim_serial c = c.serial

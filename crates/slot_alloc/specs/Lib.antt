@@ -1,5 +1,5 @@
 pub mod Areas
-pub mod Careful
+pub mod SlotRules
 pub mod Claims
 pub mod Progresses
 pub mod Releases

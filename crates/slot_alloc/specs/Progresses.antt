@@ -2,31 +2,31 @@
 use Rattle.std.specs.Prelude.{Err, None, Ok, Option, Result, Some, [], ℕ, ◌++◌, ◌+◌, ◌<◌, ◌∷◌, ◌≡◌, ◌⊎◌}
 use Rattle.nvme_model.specs.declared.status.Status.{Status}
 use Rattle.driver_calls.specs.declared.reply.Reply.{Reply}
-use Rattle.driver_cas.specs.Drivers.{AsksPort, IsApart, IsOneMore, IsSame, answer_to, area_of, made}
+use Rattle.driver_cas.specs.Drivers.{AsksPort, SharesNoCid, IsOneMore, IsSameDriver, answer_to, area_of, made}
 use Rattle.driver_cas.specs.SlotStarts.{IsClaimStart}
 use Rattle.driver_cas.specs.declared.call.Call.{Call}
 use Rattle.driver_cas.specs.declared.driver.Driver.{Driver}
 use Rattle.driver_cas.specs.declared.fault.Fault.{Fault}
 use Rattle.driver_cas.specs.declared.port.Port.{Ghosts}
-use Rattle.slot_alloc.specs.Areas.{area, block_of, serial_of, slot_of}
+use Rattle.slot_alloc.specs.Areas.{area, block_of, claim_serial, slot_of}
 use Rattle.slot_alloc.specs.Claims.{AreTaken, ClaimSays, IsClaimingOf, IsHeldBy, IsUnreleased, IsWonBy, lower_of}
 use Rattle.slot_alloc.specs.declared.claiming.Claiming.{Claiming}
 use Rattle.slot_alloc.specs.declared.claiming.Reach.{Reach}
-use Rattle.slot_alloc.specs.declared.claiming.Stage.{Stage}
+use Rattle.slot_alloc.specs.declared.claiming.ClaimStage.{ClaimStage}
 use Rattle.slot_alloc.specs.declared.progress.Progress.{Progress}
 use Rattle.slot_alloc.specs.declared.slots.Slots.{Slots}
 
 module _ {P : Type 0} where
   -- the call has no CID in common with that of the claim, if one is begun
-  abbrev pub IsBeside : Stage P → Call P → Type 0
-  IsBeside (Stage.Asked call serial) other = IsApart call other
-  IsBeside Stage.Due other = Unit {0}
+  abbrev pub IsBesideClaim : ClaimStage P → Call P → Type 0
+  IsBesideClaim (ClaimStage.Asked call serial) other = SharesNoCid call other
+  IsBesideClaim ClaimStage.Due other = Unit {0}
 
 module _ {P : Type 0} {g : Ghosts P} where
   -- the claim of slot i is begun
-  abbrev pub IsAskedFirst : Driver P g → Driver P g → ℕ → Stage P → Type 0
-  IsAskedFirst d e i (Stage.Asked call serial) = IsClaimStart d e (block_of (area_of d) i) (Ok (call, serial))
-  IsAskedFirst d e i Stage.Due = ⊥
+  abbrev pub IsAskedFirst : Driver P g → Driver P g → ℕ → ClaimStage P → Type 0
+  IsAskedFirst d e i (ClaimStage.Asked call serial) = IsClaimStart d e (block_of (area_of d) i) (Ok (call, serial))
+  IsAskedFirst d e i ClaimStage.Due = ⊥
 
   -- what `claim` and `claim_any` give: the claim of slot i is begun, or nothing has changed and it is told why
   abbrev pub IsFirstClaim : Driver P g → Driver P g → Slots → Reach → ℕ → Result (Claiming P g) Fault → Type 0
@@ -38,25 +38,26 @@ module _ {P : Type 0} {g : Ghosts P} where
   -- what is told of the start of the claim at hand: it goes on as it was begun, or is due. The faults that come last
   -- are Busy and NoMemory, since a start answers no others.
   abbrev pub told_of : Claiming P g → Result (Call P × ℕ) Fault → Progress P g
-  told_of k (Ok c) = Progress.Pending (record k { stage = Stage.Asked c.0 c.1 })
-  told_of k (Err Fault.RingFull) = Progress.Pending (record k { stage = Stage.Due })
+  told_of k (Ok c) = Progress.Pending (record k { stage = ClaimStage.Asked c.0 c.1 })
+  told_of k (Err Fault.RingFull) = Progress.Pending (record k { stage = ClaimStage.Due })
   told_of k (Err Fault.NoSerial) = Progress.Failed Fault.NoSerial
-  told_of k (Err f) = Progress.Later f (record k { stage = Stage.Due })
+  told_of k (Err f) = Progress.Later f (record k { stage = ClaimStage.Due })
 
   -- The pair of the slot at hand is published, or nothing is, and just that is told.
-  pub record IsAsked (d e : Driver P g) (k : Claiming P g) (r : Progress P g) : Type 0 where
+  pub record IsClaimAsked (d e : Driver P g) (k : Claiming P g) (r : Progress P g) : Type 0 where
     pub start : Result (Call P × ℕ) Fault
     pub is : IsClaimStart d e (block_of (area_of d) k.slot) start
     pub told : r ≡ told_of k start
 
   -- Nothing was published, and at most one completion was reaped.
   pub record IsQuiet (d e : Driver P g) : Type 0 where
-    pub same : IsSame d e
+    pub same : IsSameDriver d e
     pub one : IsOneMore (made d) (made e)
 
   -- Nothing was published, the call isn't answered, and the claim goes on as it is; the poll is put off for this fault,
   -- if for one, as the port answered.
-  pub record IsWaiting (d e : Driver P g) (k : Claiming P g) (call : Call P) (later : Option Fault) (j : Claiming P g)
+  pub record IsClaimWaiting (d e : Driver P g) (k : Claiming P g) (call : Call P) (later : Option Fault)
+      (j : Claiming P g)
       : Type 0 where
     pub quiet : IsQuiet d e
     pub asks : AsksPort d e call later
@@ -72,7 +73,7 @@ module _ {P : Type 0} {g : Ghosts P} where
     pub says : ClaimSays e k.began.value (block_of (area_of e) k.slot) call serial r
 
   -- It is the same claim of any slot at the next slot, if there is one; that of the one before was this.
-  pub record IsNext (k next : Claiming P g) (call : Call P) (serial : ℕ) : Type 0 where
+  pub record IsNextClaim (k next : Claiming P g) (call : Call P) (serial : ℕ) : Type 0 where
     pub any : k.reach ≡ Reach.Any
     pub slots : next.slots ≡ k.slots
     pub reach : next.reach ≡ k.reach
@@ -83,7 +84,7 @@ module _ {P : Type 0} {g : Ghosts P} where
 
   -- where any slot will do the next one's claim is tried, and just that is told
   abbrev pub TriesNext : Driver P g → Driver P g → Claiming P g → Call P → ℕ → Progress P g → Type 0
-  TriesNext d e k call serial r = (next : Claiming P g) × IsNext k next call serial × IsAsked d e next r
+  TriesNext d e k call serial r = (next : Claiming P g) × IsNextClaim k next call serial × IsClaimAsked d e next r
 
   -- The call was answered that somebody else has the slot at hand, and then the next one's claim was tried.
   pub record GoesToNext (d e : Driver P g) (k : Claiming P g) (call : Call P) (serial : ℕ) (r : Progress P g)
@@ -100,12 +101,12 @@ module _ {P : Type 0} {g : Ghosts P} where
   -- what a poll gives while the call claims the slot at hand, under this serial
   abbrev pub IsPolled : Driver P g → Driver P g → Claiming P g → Call P → ℕ → Progress P g → Type 0
   IsPolled d e k call serial (Progress.Pending j) =
-      IsWaiting d e k call None j ⊎ GoesToNext d e k call serial (Progress.Pending j)
+      IsClaimWaiting d e k call None j ⊎ GoesToNext d e k call serial (Progress.Pending j)
   IsPolled d e k call serial (Progress.Later f j) =
-      (IsWaiting d e k call (Some f) j × ((f ≡ Fault.Busy) ⊎ (f ≡ Fault.NoMemory)))
+      (IsClaimWaiting d e k call (Some f) j × ((f ≡ Fault.Busy) ⊎ (f ≡ Fault.NoMemory)))
       ⊎ GoesToNext d e k call serial (Progress.Later f j)
   IsPolled d e k call serial (Progress.Held c) =
-      (slot_of c ≡ k.slot) × (serial_of c ≡ serial) × IsEnded d e k call serial (Ok Reply.Swapped) × IsWonBy e c
+      (slot_of c ≡ k.slot) × (claim_serial c ≡ serial) × IsEnded d e k call serial (Ok Reply.Swapped) × IsWonBy e c
   IsPolled d e k call serial Progress.Taken =
       (k.reach ≡ Reach.One) × IsEnded d e k call serial (Ok Reply.Differs)
   IsPolled d e k call serial Progress.AllTaken =
@@ -117,9 +118,9 @@ module _ {P : Type 0} {g : Ghosts P} where
 
   -- what `poll_claim` gives: while the slot at hand is claimed, by what that call is answered; where its claim is due,
   -- that is tried
-  abbrev pub IsProgress : Driver P g → Driver P g → Claiming P g → Stage P → Progress P g → Type 0
-  IsProgress d e k (Stage.Asked call serial) r = IsPolled d e k call serial r
-  IsProgress d e k Stage.Due r = IsAsked d e k r
+  abbrev pub IsProgress : Driver P g → Driver P g → Claiming P g → ClaimStage P → Progress P g → Type 0
+  IsProgress d e k (ClaimStage.Asked call serial) r = IsPolled d e k call serial r
+  IsProgress d e k ClaimStage.Due r = IsClaimAsked d e k r
 
   -- The claim of the slot at hand was answered: somebody else has it.
   pub record IsLost (d : Driver P g) (k : Claiming P g) (call : Call P) (serial : ℕ) : Type 0 where
@@ -154,6 +155,6 @@ module _ {P : Type 0} {g : Ghosts P} where
 
   -- the call has no CID in common with that of the claim that goes on
   abbrev pub IsBesideOn : Progress P g → Call P → Type 0
-  IsBesideOn (Progress.Pending j) other = IsBeside j.stage other
-  IsBesideOn (Progress.Later f j) other = IsBeside j.stage other
+  IsBesideOn (Progress.Pending j) other = IsBesideClaim j.stage other
+  IsBesideOn (Progress.Later f j) other = IsBesideClaim j.stage other
   IsBesideOn _ other = Unit {0}

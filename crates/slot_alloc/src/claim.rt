@@ -10,7 +10,7 @@ pub struct Claim {
 }
 
 impl Claim {
-    ghost use Rattle.slot_alloc.specs.Areas.{serial_of, slot_of};
+    ghost use Rattle.slot_alloc.specs.Areas.{claim_serial, slot_of};
 
     /// The number of the slot.
     pub fn slot(&self) -> u32
@@ -22,7 +22,7 @@ impl Claim {
     /// Leaves the slot held: its number and the serial of its claim.
     pub fn leave(self) -> (u32, u64)
         ensures slot { result.0 ≡ slot_of self }
-        ensures serial { result.1 ≡ serial_of self }
+        ensures serial { result.1 ≡ claim_serial self }
     {
         let Claim { slot, serial } = self;
         (slot, serial)

@@ -3,9 +3,9 @@
 ghost use Rattle.std.specs.Prelude.{[], ◌≡◌, ◌<◌, ◌++◌, ◌∷◌, IfOk, None};
 ghost use Rattle.driver_cas.specs.Drivers.{IsCallOf, area_of};
 ghost use Rattle.slot_alloc.specs.Areas.{area};
-ghost use Rattle.slot_alloc.specs.Careful.{GoesOn, IsCareful};
+ghost use Rattle.slot_alloc.specs.SlotRules.{DriverContinues, KeepsSlotRules};
 ghost use Rattle.slot_alloc.specs.Claims.{IsClaimingOf, IsUnreleased, claims_in};
-ghost use Rattle.slot_alloc.specs.Progresses.{IsAsked, IsBesideOn, IsClaimingOn, IsFirstClaim, IsUnreleasedOn};
+ghost use Rattle.slot_alloc.specs.Progresses.{IsClaimAsked, IsBesideOn, IsClaimingOn, IsFirstClaim, IsUnreleasedOn};
 ghost use Rattle.slot_alloc.specs.declared.claiming.Reach.{Reach};
 ghost use Rattle.driver_cas.specs.declared.call.Call.{Call};
 
@@ -25,7 +25,7 @@ pub(crate) enum Reach {
 
 /// What was done about the slot at hand.
 #[derive(Drop)]
-pub(crate) enum Stage<P> {
+pub(crate) enum ClaimStage<P> {
     /// Its claim was begun, under this serial.
     Asked(Call<P>, u64),
     /// It has to be begun.
@@ -66,7 +66,7 @@ pub struct Claiming<P: Port> {
     pub(crate) reach: Reach,
     // The one at hand.
     pub(crate) slot: u32,
-    pub(crate) stage: Stage<P>,
+    pub(crate) stage: ClaimStage<P>,
     // The driver when the first claim was begun.
     pub(crate) began: Snapshot<Driver<P>>,
     // The claims of the lower slots, where any will do.
@@ -84,11 +84,11 @@ impl Slots {
         requires area { area_of driver.old ≡ area self.now }
         requires slot { slot < (area self.now).blocks }
         requires lower { reach ≡ Reach.Any → slot ≡ 0 }
-        ensures careful { IsCareful driver.old → IsCareful driver.new }
-        ensures goes_on { GoesOn driver.old driver.new None }
+        ensures slot_rules { KeepsSlotRules driver.old → KeepsSlotRules driver.new }
+        ensures goes_on { DriverContinues driver.old driver.new None }
         ensures is { IsFirstClaim driver.old driver.new self.now reach slot result }
         ensures of { IfOk result (λ k. IsClaimingOf driver.new k) }
-        ensures unreleased { IsCareful driver.old → IfOk result (λ k. IsUnreleased driver.new k) }
+        ensures unreleased { KeepsSlotRules driver.old → IfOk result (λ k. IsUnreleased driver.new k) }
     {
         let began = Snapshot::of(&*driver);
         let (call, serial) = driver.start_claim(self.block(slot))?;
@@ -96,7 +96,7 @@ impl Slots {
             slots: *self,
             reach,
             slot,
-            stage: Stage::Asked(call, serial),
+            stage: ClaimStage::Asked(call, serial),
             began,
             lower: no_claims(),
         })
@@ -110,11 +110,11 @@ impl Slots {
     pub fn claim<P: Port>(&self, driver: &mut Driver<P>, i: u32) -> Result<Claiming<P>, Fault>
         requires area { area_of driver.old ≡ area self.now }
         requires slot { i < (area self.now).blocks }
-        ensures careful { IsCareful driver.old → IsCareful driver.new }
-        ensures goes_on { GoesOn driver.old driver.new None }
+        ensures slot_rules { KeepsSlotRules driver.old → KeepsSlotRules driver.new }
+        ensures goes_on { DriverContinues driver.old driver.new None }
         ensures is { IsFirstClaim driver.old driver.new self.now Reach.One i result }
         ensures of { IfOk result (λ k. IsClaimingOf driver.new k) }
-        ensures unreleased { IsCareful driver.old → IfOk result (λ k. IsUnreleased driver.new k) }
+        ensures unreleased { KeepsSlotRules driver.old → IfOk result (λ k. IsUnreleased driver.new k) }
     {
         self.begin(driver, Reach::One, i)
     }
@@ -127,11 +127,11 @@ impl Slots {
     /// As `claim`.
     pub fn claim_any<P: Port>(&self, driver: &mut Driver<P>) -> Result<Claiming<P>, Fault>
         requires area { area_of driver.old ≡ area self.now }
-        ensures careful { IsCareful driver.old → IsCareful driver.new }
-        ensures goes_on { GoesOn driver.old driver.new None }
+        ensures slot_rules { KeepsSlotRules driver.old → KeepsSlotRules driver.new }
+        ensures goes_on { DriverContinues driver.old driver.new None }
         ensures is { IsFirstClaim driver.old driver.new self.now Reach.Any 0 result }
         ensures of { IfOk result (λ k. IsClaimingOf driver.new k) }
-        ensures unreleased { IsCareful driver.old → IfOk result (λ k. IsUnreleased driver.new k) }
+        ensures unreleased { KeepsSlotRules driver.old → IfOk result (λ k. IsUnreleased driver.new k) }
     {
         self.begin(driver, Reach::Any, 0)
     }
@@ -141,23 +141,23 @@ impl Slots {
 pub(crate) fn ask<P: Port>(driver: &mut Driver<P>, claiming: Claiming<P>) -> Progress<P>
     requires of { IsClaimingOf driver.old claiming }
     requires any { claiming.reach ≡ Reach.Any }
-    ensures careful { IsCareful driver.old → IsCareful driver.new }
-    ensures goes_on { GoesOn driver.old driver.new None }
-    ensures is { IsAsked driver.old driver.new claiming result }
+    ensures slot_rules { KeepsSlotRules driver.old → KeepsSlotRules driver.new }
+    ensures goes_on { DriverContinues driver.old driver.new None }
+    ensures is { IsClaimAsked driver.old driver.new claiming result }
     ensures of { IsClaimingOn driver.new result }
-    ensures unreleased { IsCareful driver.old → IsUnreleasedOn driver.new result }
+    ensures unreleased { KeepsSlotRules driver.old → IsUnreleasedOn driver.new result }
     ensures others { (other : Call P) →
         IsCallOf driver.old other → IsCallOf driver.new other × IsBesideOn result other }
 {
     let mut claiming = claiming;
     match driver.start_claim(claiming.slots.block(claiming.slot)) {
         Ok((call, serial)) => {
-            claiming.stage = Stage::Asked(call, serial);
+            claiming.stage = ClaimStage::Asked(call, serial);
             Progress::Pending(claiming)
         }
         Err(Fault::NoSerial) => Progress::Failed(Fault::NoSerial),
         Err(fault) => {
-            claiming.stage = Stage::Due;
+            claiming.stage = ClaimStage::Due;
             if fault == Fault::RingFull {
                 return Progress::Pending(claiming);
             }

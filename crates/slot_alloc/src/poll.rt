@@ -4,13 +4,13 @@ ghost use Rattle.std.specs.Prelude.{◌≡◌, ◌≢◌, None, false, true};
 ghost use Rattle.driver_calls.specs.declared.reply.Reply.{Reply};
 ghost use Rattle.driver_cas.specs.Drivers.{IsCallOf};
 ghost use Rattle.driver_cas.specs.declared.call.Call.{Call};
-ghost use Rattle.slot_alloc.specs.Careful.{GoesOn, IsCareful};
+ghost use Rattle.slot_alloc.specs.SlotRules.{DriverContinues, KeepsSlotRules};
 ghost use Rattle.slot_alloc.specs.Claims.{IsClaimingOf, IsUnreleased};
-ghost use Rattle.slot_alloc.specs.Progresses.{IsBeside, IsBesideOn, IsClaimingOn, IsHeldOn, IsLost, IsLostOn};
+ghost use Rattle.slot_alloc.specs.Progresses.{IsBesideClaim, IsBesideOn, IsClaimingOn, IsHeldOn, IsLost, IsLostOn};
 ghost use Rattle.slot_alloc.specs.Progresses.{IsProgress, IsUnreleasedOn};
 
 use crate::claim::Claim;
-use crate::claiming::{Claiming, Reach, Stage, ask, with};
+use crate::claiming::{ClaimStage, Claiming, Reach, ask, with};
 use crate::progress::Progress;
 use driver_cas::{Call, Driver, Poll, Port, Reply};
 use std::mem;
@@ -35,11 +35,11 @@ fn next<P: Port>(
     serial: u64,
 ) -> Progress<P>
     requires lost { IsLost driver.old claiming call.value serial }
-    ensures careful { IsCareful driver.old → IsCareful driver.new }
-    ensures goes_on { GoesOn driver.old driver.new None }
+    ensures slot_rules { KeepsSlotRules driver.old → KeepsSlotRules driver.new }
+    ensures goes_on { DriverContinues driver.old driver.new None }
     ensures is { IsLostOn driver.old driver.new claiming call.value serial result }
     ensures of { IsClaimingOn driver.new result }
-    ensures unreleased { IsCareful driver.old → IsUnreleasedOn driver.new result }
+    ensures unreleased { KeepsSlotRules driver.old → IsUnreleasedOn driver.new result }
     ensures others { (other : Call P) →
         IsCallOf driver.old other → IsCallOf driver.new other × IsBesideOn result other }
 {
@@ -58,7 +58,7 @@ fn next<P: Port>(
     if slot == slots.count {
         return Progress::AllTaken;
     }
-    let stage = Stage::Due;
+    let stage = ClaimStage::Due;
     let lower = with(lower, call, serial);
     let due = Claiming {
         slots,
@@ -75,27 +75,28 @@ fn next<P: Port>(
 /// the next slot's pair is published.
 pub fn poll_claim<P: Port>(driver: &mut Driver<P>, claiming: Claiming<P>) -> Progress<P>
     requires of { IsClaimingOf driver.old claiming }
-    ensures careful { IsCareful driver.old → IsCareful driver.new }
-    ensures goes_on { GoesOn driver.old driver.new None }
+    ensures slot_rules { KeepsSlotRules driver.old → KeepsSlotRules driver.new }
+    ensures goes_on { DriverContinues driver.old driver.new None }
     ensures is { IsProgress driver.old driver.new claiming claiming.stage result }
     ensures of { IsClaimingOn driver.new result }
     ensures held { IsUnreleased driver.old claiming → IsHeldOn driver.new result }
-    ensures unreleased { IsCareful driver.old → IsUnreleased driver.old claiming → IsUnreleasedOn driver.new result }
-    ensures others { (other : Call P) → IsCallOf driver.old other → IsBeside claiming.stage other →
+    ensures unreleased { KeepsSlotRules driver.old → IsUnreleased driver.old claiming
+        → IsUnreleasedOn driver.new result }
+    ensures others { (other : Call P) → IsCallOf driver.old other → IsBesideClaim claiming.stage other →
         IsCallOf driver.new other × IsBesideOn result other }
 {
     let mut claiming = claiming;
-    let Stage::Asked(call, serial) = mem::replace(&mut claiming.stage, Stage::Due) else {
+    let ClaimStage::Asked(call, serial) = mem::replace(&mut claiming.stage, ClaimStage::Due) else {
         return ask(driver, claiming);
     };
     let asked = Snapshot::of(&call);
     match driver.poll(call) {
         Poll::Pending(call) => {
-            claiming.stage = Stage::Asked(call, serial);
+            claiming.stage = ClaimStage::Asked(call, serial);
             Progress::Pending(claiming)
         }
         Poll::Later(fault, call) => {
-            claiming.stage = Stage::Asked(call, serial);
+            claiming.stage = ClaimStage::Asked(call, serial);
             Progress::Later(fault, claiming)
         }
         Poll::Done(reply) => {

@@ -1,13 +1,13 @@
 //! Releases.
 
 ghost use Rattle.std.specs.Prelude.{◌≡◌, IfOk, None};
-ghost use Rattle.driver_cas.specs.Drivers.{AsksPort, IsApart, IsCallOf, area_of};
+ghost use Rattle.driver_cas.specs.Drivers.{AsksPort, SharesNoCid, IsCallOf, area_of};
 ghost use Rattle.driver_cas.specs.declared.call.Call.{Call};
 ghost use Rattle.slot_alloc.specs.Areas.{area};
-ghost use Rattle.slot_alloc.specs.Careful.{GoesOn, IsCareful};
+ghost use Rattle.slot_alloc.specs.SlotRules.{DriverContinues, KeepsSlotRules};
 ghost use Rattle.slot_alloc.specs.Claims.{IsHeldBy, IsReleasingOf};
 ghost use Rattle.slot_alloc.specs.Progresses.{IsQuiet};
-ghost use Rattle.slot_alloc.specs.Releases.{IsReleaseBegun, IsReleased, later_released, released_by};
+ghost use Rattle.slot_alloc.specs.Releases.{IsReleaseBegun, IsReleasePolled, later_released, released_by};
 
 use crate::claim::Claim;
 use crate::poll::is_swapped;
@@ -37,8 +37,8 @@ impl Slots {
     ) -> Result<Releasing<P>, (Claim, Fault)>
         requires area { area_of driver.old ≡ area self.now }
         requires held { IsHeldBy driver.old claim }
-        ensures careful { IsCareful driver.old → IsCareful driver.new }
-        ensures goes_on { GoesOn driver.old driver.new (released_by driver.old claim result) }
+        ensures slot_rules { KeepsSlotRules driver.old → KeepsSlotRules driver.new }
+        ensures goes_on { DriverContinues driver.old driver.new (released_by driver.old claim result) }
         ensures is { IsReleaseBegun driver.old driver.new claim result }
         ensures of { IfOk result (λ k. IsReleasingOf driver.new k) }
         ensures others { (other : Call P) → IsCallOf driver.old other → IsCallOf driver.new other }
@@ -56,13 +56,13 @@ impl Slots {
 /// What has come of a release. Reaps at most one completion.
 pub fn poll_release<P: Port>(driver: &mut Driver<P>, releasing: Releasing<P>) -> Released<P>
     requires of { IsReleasingOf driver.old releasing }
-    ensures careful { IsCareful driver.old → IsCareful driver.new }
-    ensures goes_on { GoesOn driver.old driver.new None }
-    ensures is { IsReleased driver.new releasing result }
+    ensures slot_rules { KeepsSlotRules driver.old → KeepsSlotRules driver.new }
+    ensures goes_on { DriverContinues driver.old driver.new None }
+    ensures is { IsReleasePolled driver.new releasing result }
     ensures quiet { IsQuiet driver.old driver.new }
     ensures asks { AsksPort driver.old driver.new releasing.call (later_released result) }
     ensures others { (other : Call P) →
-        IsCallOf driver.old other → IsApart releasing.call other → IsCallOf driver.new other }
+        IsCallOf driver.old other → SharesNoCid releasing.call other → IsCallOf driver.new other }
 {
     let Releasing { slot, serial, call } = releasing;
     match driver.poll(call) {

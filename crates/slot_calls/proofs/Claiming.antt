@@ -1,4 +1,4 @@
--- What a careful log has claimed, and so what it may have released.
+-- What a log that keeps the rules of slots has claimed, and so what it may have released.
 use Rattle.std.proofs.Common.{Bool, List, [], ap, arith, cond, eqb, eqb-true, false, inl, inr, length, not, refl, subst}
 use Rattle.std.proofs.Common.{sym, true, ℕ, ◌&&◌, ◌+◌, ◌<◌, ◌∙◌, ◌∷◌, ◌≡◌, ◌⊎◌}
 use Rattle.std.specs.List.{list_any}
@@ -14,27 +14,28 @@ use Rattle.host_laws.proofs.Elements.{In, in_cases, in_filter, in_right}
 use Rattle.host_laws.proofs.Publishing.{no_swaps}
 use Rattle.driver_calls.specs.Log.{sent}
 use Rattle.driver_calls.specs.declared.event.PortEvent.{PortEvent}
-use Rattle.slot_calls.specs.Careful.{are_careful, is_careful, is_careful_batch, is_careful_swap, serials_below}
+use Rattle.slot_calls.specs.SlotRules.{each_keeps_slot_rules, keeps_slot_rules, batch_keeps_slot_rules}
+use Rattle.slot_calls.specs.SlotRules.{swap_keeps_slot_rules, serials_below}
 use Rattle.slot_calls.specs.Swaps.{log_believed, log_released, log_swaps}
-use Rattle.slot_calls.proofs.Careful.{below_parts, careful_parts, is_below}
+use Rattle.slot_calls.proofs.SlotRules.{below_parts, slot_rules_parts, is_below}
 use Rattle.slot_calls.proofs.Beliefs.{believed_parts}
 use Rattle.slot_calls.proofs.Staying.{releases_parts}
 
--- ---- the parts of a careful batch
+-- ---- the parts of a batch that keeps the rules
 
--- the parts of a careful swap
-pub record CarefulSwap (slots : Range) (host : ℕ) (log : List PortEvent) (of : List Swap) : Type 0 where
+-- the parts of a swap that keeps the rules
+pub record SwapRules (slots : Range) (host : ℕ) (log : List PortEvent) (of : List Swap) : Type 0 where
   pub swap : Swap
   pub alone : of ≡ swap ∷ []
   pub inside : has_block slots swap.lba ≡ true
   pub claim : swap.claims ≡ true → (swap.name.host ≡ host) × (serials_below slots swap.name.serial log ≡ true)
   pub release : swap.claims ≡ false → log_believed log swap.lba swap.name ≡ true
 
-pub careful_swap : (slots : Range) (host : ℕ) (log : List PortEvent) (of : List Swap)
-    → is_careful_swap slots host log of ≡ true → CarefulSwap slots host log of
-careful_swap slots host log [] h = clash false h refl
-careful_swap slots host log (s ∷ t ∷ of) h = clash false h refl
-careful_swap slots host log (s ∷ []) h =
+pub slot_rules_swap : (slots : Range) (host : ℕ) (log : List PortEvent) (of : List Swap)
+    → swap_keeps_slot_rules slots host log of ≡ true → SwapRules slots host log of
+slot_rules_swap slots host log [] h = clash false h refl
+slot_rules_swap slots host log (s ∷ t ∷ of) h = clash false h refl
+slot_rules_swap slots host log (s ∷ []) h =
     let a = and_parts (has_block slots s.lba)
     (cond s.claims (eqb s.name.host host && serials_below slots s.name.serial log) (log_believed log s.lba s.name))
     h in
@@ -52,23 +53,23 @@ careful_swap slots host log (s ∷ []) h =
     release true k e = clash true refl e
     release false k e = k
 
--- what a careful batch is
-pub data CarefulBatch (slots : Range) (host : ℕ) (log : List PortEvent) (q : ℕ) (batch : List Submission) : Type 0 where
-  outside : list_any (touches slots) batch ≡ false → CarefulBatch slots host log q batch
-  pair : length batch ≡ 2 → CarefulSwap slots host log (swaps_in q (length (sent log q)) batch)
-      → CarefulBatch slots host log q batch
+-- what a batch that keeps the rules is
+pub data BatchRules (slots : Range) (host : ℕ) (log : List PortEvent) (q : ℕ) (batch : List Submission) : Type 0 where
+  outside : list_any (touches slots) batch ≡ false → BatchRules slots host log q batch
+  pair : length batch ≡ 2 → SwapRules slots host log (swaps_in q (length (sent log q)) batch)
+      → BatchRules slots host log q batch
 
-pub careful_batch : (slots : Range) (host : ℕ) (log : List PortEvent) (q : ℕ) (batch : List Submission)
-    → is_careful_batch slots host log q batch ≡ true → CarefulBatch slots host log q batch
-careful_batch slots host log q batch h =
+pub slot_rules_batch : (slots : Range) (host : ℕ) (log : List PortEvent) (q : ℕ) (batch : List Submission)
+    → batch_keeps_slot_rules slots host log q batch ≡ true → BatchRules slots host log q batch
+slot_rules_batch slots host log q batch h =
     elim (or_cases (not (list_any (touches slots) batch))
-    (eqb (length batch) 2 && is_careful_swap slots host log (swaps_in q (length (sent log q)) batch)) h) [
-      | inl n ↦ CarefulBatch.outside (not_true (list_any (touches slots) batch) n)
+    (eqb (length batch) 2 && swap_keeps_slot_rules slots host log (swaps_in q (length (sent log q)) batch)) h) [
+      | inl n ↦ BatchRules.outside (not_true (list_any (touches slots) batch) n)
       | inr e ↦
           let a = and_parts (eqb (length batch) 2)
-          (is_careful_swap slots host log (swaps_in q (length (sent log q)) batch)) e in
-          CarefulBatch.pair (eqb-true (length batch) 2 a.0)
-          (careful_swap slots host log (swaps_in q (length (sent log q)) batch) a.1)
+          (swap_keeps_slot_rules slots host log (swaps_in q (length (sent log q)) batch)) e in
+          BatchRules.pair (eqb-true (length batch) 2 a.0)
+          (slot_rules_swap slots host log (swaps_in q (length (sent log q)) batch) a.1)
     ]
 
 -- ---- its claims
@@ -82,15 +83,16 @@ pub record ClaimedIn (log : List PortEvent) (l : ℕ) (n : Name) : Type 0 where
   pub name : swap.name ≡ n
 
 -- it stands there for each release
-pub claimed_before : (slots : Range) (host : ℕ) (log : List PortEvent) (r : Swap) → are_careful slots host log ≡ true
+pub claimed_before : (slots : Range) (host : ℕ) (log : List PortEvent) (r : Swap)
+    → each_keeps_slot_rules slots host log ≡ true
     → In r (log_swaps log) → r.claims ≡ false → has_block slots r.lba ≡ true → ClaimedIn log r.lba r.name
 claimed_before slots host [] r h i e v = absurd i
 claimed_before slots host (PortEvent.Got cqe payload ∷ log) r h i e v = let k =
     claimed_before slots host log r h i e v in
     record { swap = k.swap; there = k.there; claims = k.claims; lba = k.lba; name = k.name }
 claimed_before slots host (PortEvent.Sent q batch ∷ log) r h i e v =
-    let a = and_parts (are_careful slots host log) (is_careful_batch slots host log q batch) h in
-    go (careful_batch slots host log q batch a.1)
+    let a = and_parts (each_keeps_slot_rules slots host log) (batch_keeps_slot_rules slots host log q batch) h in
+    go (slot_rules_batch slots host log q batch a.1)
     (in_cases r (swaps_in q (length (sent log q)) batch) (log_swaps log) i)
     (λ j. claimed_before slots host log r a.0 j e v)
   where
@@ -103,13 +105,13 @@ claimed_before slots host (PortEvent.Sent q batch ∷ log) r h i e v =
       name = k.name;
     }
 
-    go : CarefulBatch slots host log q batch → In r (swaps_in q (length (sent log q)) batch) ⊎ In r (log_swaps log)
+    go : BatchRules slots host log q batch → In r (swaps_in q (length (sent log q)) batch) ⊎ In r (log_swaps log)
         → (In r (log_swaps log) → ClaimedIn log r.lba r.name) → ClaimedIn (PortEvent.Sent q batch ∷ log) r.lba r.name
     go b (inr j) ih = later (ih j)
-    go (CarefulBatch.outside t) (inl j) ih =
+    go (BatchRules.outside t) (inl j) ih =
         absurd (subst (λ (xs : List Swap). In r xs) (no_swaps slots q (length (sent log q)) batch t)
         (in_filter (λ w. has_block slots w.lba) (swaps_in q (length (sent log q)) batch) r j v))
-    go (CarefulBatch.pair two s) (inl j) ih = one (subst (λ (xs : List Swap). In r xs) s.alone j)
+    go (BatchRules.pair two s) (inl j) ih = one (subst (λ (xs : List Swap). In r xs) s.alone j)
       where
         one : In r (s.swap ∷ []) → ClaimedIn (PortEvent.Sent q batch ∷ log) r.lba r.name
         one (inl z) =
@@ -124,9 +126,10 @@ claimed_before slots host (PortEvent.Sent q batch ∷ log) r h i e v =
         one (inr z) = absurd z
 
 pub unreleased : (slots : Range) (host last : ℕ) (log : List PortEvent) (l : ℕ) (n : Name)
-    → is_careful slots host last log ≡ true → has_block slots l ≡ true → last < n.serial → log_released log l n ≡ false
+    → keeps_slot_rules slots host last log ≡ true → has_block slots l ≡ true → last < n.serial
+    → log_released log l n ≡ false
 unreleased slots host last log l n h v m =
-    let a = careful_parts slots host last log h in
+    let a = slot_rules_parts slots host last log h in
     none_any (λ s. releases s l n) (log_swaps log) (λ r i e.
     let x = releases_parts r l n e in
     let k = claimed_before slots host log r a.each i x.releases (ap (has_block slots) x.lba ∙ v) in
@@ -136,24 +139,25 @@ unreleased slots host last log l n h v m =
     (all_in (is_below (last + 1)) (in_area slots (log_swaps log)) k.swap a.below there) k.claims in
     omega (arith, low, m, ap (λ (w : Name). w.serial) (k.name ∙ x.name)))
 
--- a careful log claims under its host's number alone
-pub claimed_host : (slots : Range) (host : ℕ) (log : List PortEvent) (s : Swap) → are_careful slots host log ≡ true
+-- a log that keeps the rules claims under its host's number alone
+pub claimed_host : (slots : Range) (host : ℕ) (log : List PortEvent) (s : Swap)
+    → each_keeps_slot_rules slots host log ≡ true
     → In s (log_swaps log) → s.claims ≡ true → has_block slots s.lba ≡ true → s.name.host ≡ host
 claimed_host slots host [] s h i e v = absurd i
 claimed_host slots host (PortEvent.Got cqe payload ∷ log) s h i e v = claimed_host slots host log s h i e v
 claimed_host slots host (PortEvent.Sent q batch ∷ log) s h i e v =
-    let a = and_parts (are_careful slots host log) (is_careful_batch slots host log q batch) h in
-    go (careful_batch slots host log q batch a.1)
+    let a = and_parts (each_keeps_slot_rules slots host log) (batch_keeps_slot_rules slots host log q batch) h in
+    go (slot_rules_batch slots host log q batch a.1)
     (in_cases s (swaps_in q (length (sent log q)) batch) (log_swaps log) i)
     (λ j. claimed_host slots host log s a.0 j e v)
   where
-    go : CarefulBatch slots host log q batch → In s (swaps_in q (length (sent log q)) batch) ⊎ In s (log_swaps log)
+    go : BatchRules slots host log q batch → In s (swaps_in q (length (sent log q)) batch) ⊎ In s (log_swaps log)
         → (In s (log_swaps log) → s.name.host ≡ host) → s.name.host ≡ host
     go b (inr j) ih = ih j
-    go (CarefulBatch.outside t) (inl j) ih =
+    go (BatchRules.outside t) (inl j) ih =
         absurd (subst (λ (xs : List Swap). In s xs) (no_swaps slots q (length (sent log q)) batch t)
         (in_filter (λ w. has_block slots w.lba) (swaps_in q (length (sent log q)) batch) s j v))
-    go (CarefulBatch.pair two k) (inl j) ih = one (subst (λ (xs : List Swap). In s xs) k.alone j)
+    go (BatchRules.pair two k) (inl j) ih = one (subst (λ (xs : List Swap). In s xs) k.alone j)
       where
         one : In s (k.swap ∷ []) → s.name.host ≡ host
         one (inl z) = ap (λ (w : Swap). w.name.host) z ∙ (k.claim (ap (λ (w : Swap). w.claims) (sym z) ∙ e)).0

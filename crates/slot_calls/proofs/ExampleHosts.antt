@@ -70,7 +70,7 @@ first_held = record {
   legal = refl;
   premises = record { alone = record { none = refl; sole = refl }; elsewhere = refl; own_number = refl };
   tidy = refl;
-  careful = refl;
+  slot_rules = refl;
 }
 
 pub first_passed_on : IsSlotView [] area 1 1 (view 1 passed_on)
@@ -78,7 +78,7 @@ first_passed_on = record {
   legal = refl;
   premises = record { alone = record { none = refl; sole = refl }; elsewhere = refl; own_number = refl };
   tidy = refl;
-  careful = refl;
+  slot_rules = refl;
 }
 
 pub second_passed_on : IsSlotView [] area 2 2 (view 2 passed_on)
@@ -86,7 +86,7 @@ second_passed_on = record {
   legal = refl;
   premises = record { alone = record { none = refl; sole = refl }; elsewhere = refl; own_number = refl };
   tidy = refl;
-  careful = refl;
+  slot_rules = refl;
 }
 
 -- ---- what the logs say

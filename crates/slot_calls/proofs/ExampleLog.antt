@@ -1,4 +1,5 @@
--- The log of a host that claims slot 0, wins it and releases it: what is careful of it, and what is believed by it.
+-- The log of a host that claims slot 0, wins it and releases it: what of it keeps the rules, and what is believed by
+-- it.
 use Rattle.std.specs.Prelude.{List, [], false, refl, true, ℕ, ◌∷◌, ◌≡◌}
 use Rattle.nvme_model.specs.Array.{zeros}
 use Rattle.nvme_model.specs.EntryBytes.{cqe_bytes}
@@ -9,7 +10,7 @@ use Rattle.nvme_model.specs.declared.array.Range.{Range}
 use Rattle.nvme_model.specs.declared.status.Status.{Status}
 use Rattle.driver_calls.specs.Log.{is_tidy}
 use Rattle.driver_calls.specs.declared.event.PortEvent.{PortEvent}
-use Rattle.slot_calls.specs.Careful.{is_careful}
+use Rattle.slot_calls.specs.SlotRules.{keeps_slot_rules}
 use Rattle.slot_calls.specs.Swaps.{log_believed, log_released}
 
 abbrev area : Range
@@ -68,38 +69,38 @@ not_after_a_release = refl
 pub is_released : log_released released 0 (name 7 1) ≡ true
 is_released = refl
 
--- ---- what is careful
+-- ---- what keeps the rules
 
-pub claim_is_careful : is_careful area 7 1 claimed ≡ true
-claim_is_careful = refl
+pub claim_keeps_rules : keeps_slot_rules area 7 1 claimed ≡ true
+claim_keeps_rules = refl
 
-pub release_is_careful : is_careful area 7 1 released ≡ true
-release_is_careful = refl
+pub release_keeps_rules : keeps_slot_rules area 7 1 released ≡ true
+release_keeps_rules = refl
 
 -- not if its serial is above the last, nor if another host claims
-pub serial_above : is_careful area 7 0 claimed ≡ false
+pub serial_above : keeps_slot_rules area 7 0 claimed ≡ false
 serial_above = refl
 
-pub another_host : is_careful area 8 1 claimed ≡ false
+pub another_host : keeps_slot_rules area 8 1 claimed ≡ false
 another_host = refl
 
 -- a serial is used once, even where its claim was lost
-pub serial_again : is_careful area 7 1 (swap 1 zeros (slot_block (name 7 1)) ∷ lost) ≡ false
+pub serial_again : keeps_slot_rules area 7 1 (swap 1 zeros (slot_block (name 7 1)) ∷ lost) ≡ false
 serial_again = refl
 
-pub next_serial : is_careful area 7 2 (swap 1 zeros (slot_block (name 7 2)) ∷ lost) ≡ true
+pub next_serial : keeps_slot_rules area 7 2 (swap 1 zeros (slot_block (name 7 2)) ∷ lost) ≡ true
 next_serial = refl
 
 -- what isn't believed isn't released
-pub release_too_early : is_careful area 7 1 (swap 0 (slot_block (name 7 1)) zeros ∷ claimed) ≡ false
+pub release_too_early : keeps_slot_rules area 7 1 (swap 0 (slot_block (name 7 1)) zeros ∷ claimed) ≡ false
 release_too_early = refl
 
-pub release_twice : is_careful area 7 1 (swap 0 (slot_block (name 7 1)) zeros ∷ released) ≡ false
+pub release_twice : keeps_slot_rules area 7 1 (swap 0 (slot_block (name 7 1)) zeros ∷ released) ≡ false
 release_twice = refl
 
 -- nothing else is written there; outside the area anything is
-pub write_there : is_careful area 7 1 (PortEvent.Sent 3 (submit 1 0 0 1 0 zeros ∷ []) ∷ []) ≡ false
+pub write_there : keeps_slot_rules area 7 1 (PortEvent.Sent 3 (submit 1 0 0 1 0 zeros ∷ []) ∷ []) ≡ false
 write_there = refl
 
-pub write_outside : is_careful area 7 1 (PortEvent.Sent 3 (submit 1 0 0 2 0 zeros ∷ []) ∷ won) ≡ true
+pub write_outside : keeps_slot_rules area 7 1 (PortEvent.Sent 3 (submit 1 0 0 2 0 zeros ∷ []) ∷ won) ≡ true
 write_outside = refl

@@ -1,4 +1,4 @@
--- A batch that is careful by its log keeps the discipline.
+-- A batch that keeps the rules of slots by its log keeps the discipline.
 use Rattle.std.proofs.Common.{Bool, List, None, Option, Some, [], ap, arith, cond, eq-eqb, eqb, eqb-true, false, inl}
 use Rattle.std.proofs.Common.{inr, length, not, refl, subst, sym, true, ℕ, ◌&&◌, ◌++◌, ◌||◌, ◌∙◌, ◌∷◌, ◌≡◌}
 use Rattle.std.specs.List.{filter, list_all, list_any}
@@ -29,14 +29,14 @@ use Rattle.driver_calls.specs.Events.{event_at, events}
 use Rattle.driver_calls.specs.Log.{is_tidy, sent}
 use Rattle.driver_calls.specs.declared.event.PortEvent.{PortEvent}
 use Rattle.driver_calls.proofs.Logs.{tidy_before}
-use Rattle.slot_calls.specs.Careful.{are_careful, is_careful_batch, serials_below}
+use Rattle.slot_calls.specs.SlotRules.{each_keeps_slot_rules, batch_keeps_slot_rules, serials_below}
 use Rattle.slot_calls.specs.Hosts.{elsewhere_keeps}
 use Rattle.slot_calls.specs.Swaps.{log_believed, log_swaps}
-use Rattle.slot_calls.proofs.Careful.{below_parts, is_below}
+use Rattle.slot_calls.proofs.SlotRules.{below_parts, is_below}
 use Rattle.slot_calls.proofs.Believing.{log_believes, on_own_queue}
 use Rattle.slot_calls.proofs.Beliefs.{believed_parts}
 use Rattle.slot_calls.proofs.Knowing.{Knows, log_knows}
-use Rattle.slot_calls.proofs.Claiming.{CarefulBatch, CarefulSwap, careful_batch}
+use Rattle.slot_calls.proofs.Claiming.{BatchRules, SwapRules, slot_rules_batch}
 
 -- ---- what two entries are that have a claim or a release
 
@@ -105,10 +105,10 @@ fresh c slots host past n log m x e b =
     let low = below_parts m.serial w (all_in (is_below m.serial) (in_area slots (log_swaps log)) w b here) a.0 in
     omega (arith, low, ap (λ (k : Name). k.serial) same))
 
--- a pair that is a careful swap keeps the discipline
+-- a pair that is a swap by the rules keeps the discipline
 pair_keeps : (c : ConfigNumbers) (slots : Range) (host : ℕ) (past : Past) (n : ℕ) (log : List PortEvent) (q j : ℕ)
     (a b : Submission) → Before c slots host past n log → completion_queue c q ≡ n
-    → (s : CarefulSwap slots host log (swaps_in q j (a ∷ b ∷ []))) → SwapCase q j a b s.swap
+    → (s : SwapRules slots host log (swaps_in q j (a ∷ b ∷ []))) → SwapCase q j a b s.swap
     → keeps_discipline c slots past (record { queue = q; batch = a ∷ b ∷ [] }) ≡ true
 pair_keeps c slots host past n log q j a b x e s (SwapCase.claim m k z) =
     let own = s.claim (ap (λ (w : Swap). w.claims) z) in
@@ -133,13 +133,13 @@ pair_keeps c slots host past n log q j a b x e s (SwapCase.release m k z) =
 
 batch_keeps : (c : ConfigNumbers) (slots : Range) (host : ℕ) (past : Past) (n : ℕ) (log : List PortEvent) (q : ℕ)
     (batch : List Submission) → Before c slots host past n log → completion_queue c q ≡ n
-    → CarefulBatch slots host log q batch → keeps_discipline c slots past (record { queue = q; batch = batch }) ≡ true
-batch_keeps c slots host past n log q batch x e (CarefulBatch.outside t) =
+    → BatchRules slots host log q batch → keeps_discipline c slots past (record { queue = q; batch = batch }) ≡ true
+batch_keeps c slots host past n log q batch x e (BatchRules.outside t) =
     outside_keeps c slots past (record { queue = q; batch = batch }) t
-batch_keeps c slots host past n log q [] x e (CarefulBatch.pair two s) = absurd (omega (arith, two))
-batch_keeps c slots host past n log q (a ∷ []) x e (CarefulBatch.pair two s) = absurd (omega (arith, two))
-batch_keeps c slots host past n log q (a ∷ b ∷ u ∷ batch) x e (CarefulBatch.pair two s) = absurd (omega (arith, two))
-batch_keeps c slots host past n log q (a ∷ b ∷ []) x e (CarefulBatch.pair two s) =
+batch_keeps c slots host past n log q [] x e (BatchRules.pair two s) = absurd (omega (arith, two))
+batch_keeps c slots host past n log q (a ∷ []) x e (BatchRules.pair two s) = absurd (omega (arith, two))
+batch_keeps c slots host past n log q (a ∷ b ∷ u ∷ batch) x e (BatchRules.pair two s) = absurd (omega (arith, two))
+batch_keeps c slots host past n log q (a ∷ b ∷ []) x e (BatchRules.pair two s) =
     let there : In s.swap (swaps_in q (length (sent log q)) (a ∷ b ∷ [])) =
     subst (λ (xs : List Swap). In s.swap xs) (sym s.alone) (inl refl) in
     elim (in_cases s.swap (swap_of q (length (sent log q)) a b) [] there) [
@@ -151,13 +151,15 @@ batch_keeps c slots host past n log q (a ∷ b ∷ []) x e (CarefulBatch.pair tw
 -- ---- the whole history
 
 -- so it is of a beginning
-careful_before : (slots : Range) (host : ℕ) (xs log : List PortEvent) → are_careful slots host (xs ++ log) ≡ true
-    → are_careful slots host log ≡ true
-careful_before slots host [] log h = h
-careful_before slots host (PortEvent.Sent q batch ∷ xs) log h =
-    careful_before slots host xs log
-    (and_parts (are_careful slots host (xs ++ log)) (is_careful_batch slots host (xs ++ log) q batch) h).0
-careful_before slots host (PortEvent.Got cqe payload ∷ xs) log h = careful_before slots host xs log h
+slot_rules_before : (slots : Range) (host : ℕ) (xs log : List PortEvent)
+    → each_keeps_slot_rules slots host (xs ++ log) ≡ true
+    → each_keeps_slot_rules slots host log ≡ true
+slot_rules_before slots host [] log h = h
+slot_rules_before slots host (PortEvent.Sent q batch ∷ xs) log h =
+    slot_rules_before slots host xs log
+    (and_parts (each_keeps_slot_rules slots host (xs ++ log))
+    (batch_keeps_slot_rules slots host (xs ++ log) q batch) h).0
+slot_rules_before slots host (PortEvent.Got cqe payload ∷ xs) log h = slot_rules_before slots host xs log h
 
 own_before : (c : ConfigNumbers) (slots : Range) (e : Entry) (past : Past) (host n : ℕ)
     → claims_only_on c slots (e ∷ past) host n ≡ true → claims_only_on c slots past host n ≡ true
@@ -172,12 +174,12 @@ own_before c slots e past host n h =
         (swaps_later (e ∷ []) past w (of_filter (λ s. has_block slots s.lba) (swaps past) w i))
         (filtered (λ s. has_block slots s.lba) (swaps past) w i)
 
-pub careful_disciplined : (c : ConfigNumbers) (n p : ℕ) (slots : Range) (host : ℕ) (shared : SharedPast)
+pub slot_rules_disciplined : (c : ConfigNumbers) (n p : ℕ) (slots : Range) (host : ℕ) (shared : SharedPast)
     → IsLegal c (entries shared) → IsSole c n p shared → is_tidy (events c n p shared) ≡ true
     → elsewhere_keeps c slots n (entries shared) ≡ true → claims_only_on c slots (entries shared) host n ≡ true
-    → are_careful slots host (events c n p shared) ≡ true → disciplined c slots (entries shared) ≡ true
-careful_disciplined c n p slots host [] h o d k u y = refl
-careful_disciplined c n p slots host (m ∷ shared) h o d k u y =
+    → each_keeps_slot_rules slots host (events c n p shared) ≡ true → disciplined c slots (entries shared) ≡ true
+slot_rules_disciplined c n p slots host [] h o d k u y = refl
+slot_rules_disciplined c n p slots host (m ∷ shared) h o d k u y =
     let a = and_parts (is_beside c n m.1 || eqb m.0 p) (list_all (λ x. is_beside c n x.1 || eqb x.0 p) shared) o in
     let new = cond (eqb m.0 p) (event_at c n (entries shared) m.1) [] in
     let l = tidy_before new (events c n p shared) d in
@@ -185,14 +187,15 @@ careful_disciplined c n p slots host (m ∷ shared) h o d k u y =
     let e = and_parts (elsewhere_keeps c slots n (entries shared))
     (not (is_beside c n m.1) || keeps_at c slots (entries shared) m.1) k in
     let own = own_before c slots m.1 (entries shared) host n u in
-    let kept = careful_disciplined c n p slots host shared legal a.1 l e.0 own
-    (careful_before slots host new (events c n p shared) y) in
+    let kept = slot_rules_disciplined c n p slots host shared legal a.1 l e.0 own
+    (slot_rules_before slots host new (events c n p shared) y) in
     let knows = log_knows c n p shared legal a.1 l in
     by_entry m.1 refl a.0 e.1 y (record { legal = legal; kept = kept; own_number = own; knows = knows })
   where
     by_entry : (e : Entry) → m.1 ≡ e → (is_beside c n e || eqb m.0 p) ≡ true
         → (not (is_beside c n e) || keeps_at c slots (entries shared) e) ≡ true
-        → are_careful slots host (cond (eqb m.0 p) (event_at c n (entries shared) e) [] ++ events c n p shared) ≡ true
+        → each_keeps_slot_rules slots host (cond (eqb m.0 p) (event_at c n (entries shared) e) []
+        ++ events c n p shared) ≡ true
         → Before c slots host (entries shared) n (events c n p shared)
         → disciplined c slots (e ∷ entries shared) ≡ true
     by_entry (Entry.Fetch f) z x w y b = b.kept
@@ -206,7 +209,7 @@ careful_disciplined c n p slots host (m ∷ shared) h o d k u y =
       where
         go : (own mine : Bool) → eqb (completion_queue c f.queue) n ≡ own → (not own || mine) ≡ true
             → (not (not own) || keeps_discipline c slots (entries shared) f) ≡ true
-            → are_careful slots host
+            → each_keeps_slot_rules slots host
             (cond mine (cond own (PortEvent.Sent f.queue f.batch ∷ []) []) [] ++ events c n p shared) ≡ true
             → keeps_discipline c slots (entries shared) f ≡ true
         go false mine z x w y = w
@@ -214,6 +217,6 @@ careful_disciplined c n p slots host (m ∷ shared) h o d k u y =
         go true true z x w y =
             batch_keeps c slots host (entries shared) n (events c n p shared) f.queue f.batch b
             (eqb-true (completion_queue c f.queue) n z)
-            (careful_batch slots host (events c n p shared) f.queue f.batch
-            (and_parts (are_careful slots host (events c n p shared))
-            (is_careful_batch slots host (events c n p shared) f.queue f.batch) y).1)
+            (slot_rules_batch slots host (events c n p shared) f.queue f.batch
+            (and_parts (each_keeps_slot_rules slots host (events c n p shared))
+            (batch_keeps_slot_rules slots host (events c n p shared) f.queue f.batch) y).1)

@@ -22,7 +22,7 @@ use Rattle.nvme_model.proofs.Beginnings.{earlier}
 use Rattle.nvme_model.proofs.Written.{clash}
 use Rattle.host_laws.specs.Beside.{IsBeside, IsSole, is_beside}
 use Rattle.host_laws.specs.Book.{cid_of}
-use Rattle.host_laws.specs.Calls.{ReapAnswers, reaped_post, status_in}
+use Rattle.host_laws.specs.Calls.{ReapAnswers, reaped_post, cqe_status}
 use Rattle.host_laws.proofs.Beside.{reaped_post_beside, swaps_beside}
 use Rattle.host_laws.proofs.Book.{book_found}
 use Rattle.host_laws.proofs.Discipline.{swaps_later}
@@ -30,14 +30,14 @@ use Rattle.host_laws.proofs.Elements.{In, in_cases, in_left, in_right, same_some
 use Rattle.host_laws.proofs.Reaps.{reap_answers, reaped_later}
 use Rattle.host_laws.proofs.Successes.{Success}
 use Rattle.host_laws.proofs.SwapEntries.{swaps_in_queue}
-use Rattle.driver_calls.specs.Events.{IsTold, event_at, events, waiting_number}
+use Rattle.driver_calls.specs.Events.{IsToldByLog, event_at, events, waiting_number}
 use Rattle.driver_calls.specs.Log.{is_tidy, names_cid, newest, sent, state_of}
 use Rattle.driver_calls.specs.declared.event.PortEvent.{PortEvent}
 use Rattle.driver_calls.proofs.Books.{book_of}
 use Rattle.driver_calls.proofs.Following.{beside_no_event}
 use Rattle.driver_calls.proofs.Logs.{names_one, sent_narrow, tidy_before}
 use Rattle.driver_calls.proofs.Telling.{log_tells}
-use Rattle.slot_calls.specs.Swaps.{answers, is_number, log_success, log_swaps}
+use Rattle.slot_calls.specs.Swaps.{names_entry, is_number, log_success, log_swaps}
 
 -- the log has the claims and releases of completion queue n, and the successes
 pub record Knows (c : ConfigNumbers) (past : Past) (n : ℕ) (log : List PortEvent) : Type 0 where
@@ -109,7 +109,7 @@ record Named (log : List PortEvent) (r : ReapLine) (queue cid number : ℕ) : Ty
   found : book_of log queue cid ≡ Some number
 
 reap_named : (c : ConfigNumbers) (past : Past) (n : ℕ) (r : ReapLine) (log : List PortEvent) (x : ReapAnswers c past r)
-    → r.queue ≡ n → is_tidy log ≡ true → IsTold c past n log → Named log r x.queue (cid_of x.entry) x.number
+    → r.queue ≡ n → is_tidy log ≡ true → IsToldByLog c past n log → Named log r x.queue (cid_of x.entry) x.number
 reap_named c past n r log x e d t =
     let there = ap (λ (xs : List Submission). slice_get xs x.number) (sym (t.entries_are x.queue (x.own ∙ e)))
     ∙ x.published in
@@ -117,7 +117,7 @@ reap_named c past n r log x e d t =
     record {
       names = λ q i. names_one r.cqe x.queue (cid_of x.entry) q i x.clean (x.sqid narrow.queue) (x.cid narrow.cid);
       says = x.cid narrow.cid;
-      found = book_found c past r (book_of log) x (subst (λ (k : ℕ). IsTold c past k log) (sym e) t).book;
+      found = book_found c past r (book_of log) x (subst (λ (k : ℕ). IsToldByLog c past k log) (sym e) t).book;
     }
 
 is_some_number : (j : ℕ) (o : Option ℕ) → is_number j o ≡ true → o ≡ Some j
@@ -126,7 +126,7 @@ is_some_number j (Some i) h = ap Some (eqb-true i j h)
 
 -- an entry that a completion answers is the one that is reaped now
 answers_one : (log : List PortEvent) (r : ReapLine) (queue cid number q j : ℕ) → Named log r queue cid number
-    → answers log r.cqe q j ≡ true → (q ≡ queue) × (j ≡ number)
+    → names_entry log r.cqe q j ≡ true → (q ≡ queue) × (j ≡ number)
 answers_one log r queue cid number q j x h =
     let i = (cqe_fields r.cqe).cid in
     let a = and_parts (names_cid r.cqe q i) (is_number j (waiting_number (state_of log q i) (newest log q i))) h in
@@ -139,7 +139,7 @@ answers_one log r queue cid number q j x h =
 
 -- and that one is
 answers_it : (log : List PortEvent) (r : ReapLine) (queue cid number : ℕ) → Named log r queue cid number
-    → answers log r.cqe queue number ≡ true
+    → names_entry log r.cqe queue number ≡ true
 answers_it log r queue cid number x =
     let i = (cqe_fields r.cqe).cid in
     and_from (names_cid r.cqe queue i) (is_number number (waiting_number (state_of log queue i) (newest log queue i)))
@@ -147,7 +147,7 @@ answers_it log r queue cid number x =
     (ap (is_number number) (ap (book_of log queue) x.says ∙ x.found) ∙ eq-eqb number number refl)
 
 knows_got : (c : ConfigNumbers) (past : Past) (n : ℕ) (r : ReapLine) (payload : List ℕ) (log : List PortEvent)
-    → IsLegal c (Entry.Reap r ∷ past) → r.queue ≡ n → is_tidy log ≡ true → IsTold c past n log → Knows c past n log
+    → IsLegal c (Entry.Reap r ∷ past) → r.queue ≡ n → is_tidy log ≡ true → IsToldByLog c past n log → Knows c past n log
     → Knows c (Entry.Reap r ∷ past) n (PortEvent.Got r.cqe payload ∷ log)
 knows_got c past n r payload log h e d t k =
     record {
@@ -155,8 +155,8 @@ knows_got c past n r payload log h e d t k =
       own = k.own;
       known = k.known;
       success = λ q j y z. elim
-          (or_cases (answers log r.cqe q j && is_success (status_in r.cqe)) (log_success log q j) z) [
-            | inl w ↦ now q j (and_parts (answers log r.cqe q j) (is_success (status_in r.cqe)) w)
+          (or_cases (names_entry log r.cqe q j && is_success (cqe_status r.cqe)) (log_success log q j) z) [
+            | inl w ↦ now q j (and_parts (names_entry log r.cqe q j) (is_success (cqe_status r.cqe)) w)
             | inr w ↦ let s = k.success q j y w in
                 record {
                   post = s.post;
@@ -173,14 +173,14 @@ knows_got c past n r payload log h e d t k =
     named : Named log r x.queue (cid_of x.entry) x.number
     named = reap_named c past n r log x e d t
 
-    now : (q j : ℕ) → (answers log r.cqe q j ≡ true) × (is_success (status_in r.cqe) ≡ true)
+    now : (q j : ℕ) → (names_entry log r.cqe q j ≡ true) × (is_success (cqe_status r.cqe) ≡ true)
         → Success c (Entry.Reap r ∷ past) q j
     now q j w =
         let at = answers_one log r x.queue (cid_of x.entry) x.number q j named w.0 in
         record {
           post = x.post;
           reaped = ap₂ (reaped_post c (Entry.Reap r ∷ past)) at.0 at.1 ∙ x.reaped;
-          says = ap (λ (b : List ℕ). is_success (status_in b)) x.cqe ∙ w.1;
+          says = ap (λ (b : List ℕ). is_success (cqe_status b)) x.cqe ∙ w.1;
         }
 
     old : (q j : ℕ) → completion_queue c q ≡ n → Success c (Entry.Reap r ∷ past) q j → (q ≡ x.queue → j ≡ x.number → ⊥)
@@ -195,10 +195,10 @@ knows_got c past n r payload log h e d t k =
         same_some s.post x.post (reaped_post c (Entry.Reap r ∷ past) q j) s.reaped
         (ap₂ (reaped_post c (Entry.Reap r ∷ past)) a b ∙ x.reaped) in
         let bytes : s.post.cqe ≡ r.cqe = ap (λ (p : PostLine). p.cqe) post ∙ x.cqe in
-        or_left (answers log r.cqe q j && is_success (status_in r.cqe)) (log_success log q j)
-        (and_from (answers log r.cqe q j) (is_success (status_in r.cqe))
-        (ap₂ (answers log r.cqe) a b ∙ answers_it log r x.queue (cid_of x.entry) x.number named)
-        (ap (λ (b : List ℕ). is_success (status_in b)) (sym bytes) ∙ s.says))
+        or_left (names_entry log r.cqe q j && is_success (cqe_status r.cqe)) (log_success log q j)
+        (and_from (names_entry log r.cqe q j) (is_success (cqe_status r.cqe))
+        (ap₂ (names_entry log r.cqe) a b ∙ answers_it log r x.queue (cid_of x.entry) x.number named)
+        (ap (λ (b : List ℕ). is_success (cqe_status b)) (sym bytes) ∙ s.says))
 
     by_queue : (q j : ℕ) → completion_queue c q ≡ n → Success c (Entry.Reap r ∷ past) q j → (a b : Bool)
         → eqb q x.queue ≡ a → eqb j x.number ≡ b → log_success (PortEvent.Got r.cqe payload ∷ log) q j ≡ true
@@ -214,7 +214,8 @@ reap_event : (c : ConfigNumbers) (n : ℕ) (past : Past) (r : ReapLine) → eqb 
 reap_event c n past r h = (_, cond-true (eqb r.queue n) _ [] h)
 
 knows_own : (c : ConfigNumbers) (past : Past) (n : ℕ) (e : Entry) (log : List PortEvent) → IsLegal c (e ∷ past)
-    → is_tidy log ≡ true → IsTold c past n log → Knows c past n log → Knows c (e ∷ past) n (event_at c n past e ++ log)
+    → is_tidy log ≡ true → IsToldByLog c past n log → Knows c past n log
+    → Knows c (e ∷ past) n (event_at c n past e ++ log)
 knows_own c past n (Entry.Publish p) log h d t k = go (eqb (completion_queue c p.queue) n) refl
   where
     go : (b : Bool) → eqb (completion_queue c p.queue) n ≡ b
@@ -260,7 +261,7 @@ log_knows c n p (m ∷ shared) h o d =
     go (eqb m.0 p) refl a.0 l (log_tells c n p shared legal a.1 l) (log_knows c n p shared legal a.1 l)
   where
     go : (b : Bool) → eqb m.0 p ≡ b → (is_beside c n m.1 || eqb m.0 p) ≡ true → is_tidy (events c n p shared) ≡ true
-        → IsTold c (entries shared) n (events c n p shared)
+        → IsToldByLog c (entries shared) n (events c n p shared)
         → Knows c (entries shared) n (events c n p shared)
         → Knows c (m.1 ∷ entries shared) n (cond b (event_at c n (entries shared) m.1) [] ++ events c n p shared)
     go true z x l t k = knows_own c (entries shared) n m.1 (events c n p shared) h l t k

@@ -1,6 +1,6 @@
 pub mod Batches
 pub mod Beliefs
-pub mod Careful
+pub mod SlotRules
 pub mod Staying
 pub mod Claiming
 pub mod Winning

@@ -18,7 +18,7 @@ use Rattle.driver_calls.specs.declared.event.PortEvent.{PortEvent}
 use Rattle.driver_calls.proofs.Following.{all_beside_no_events}
 use Rattle.slot_calls.specs.Hosts.{IsSlotView, log_since}
 use Rattle.slot_calls.specs.Swaps.{log_believed}
-use Rattle.slot_calls.proofs.Careful.{careful_parts}
+use Rattle.slot_calls.proofs.SlotRules.{slot_rules_parts}
 use Rattle.slot_calls.proofs.Beliefs.{believed_parts}
 use Rattle.slot_calls.proofs.Claiming.{claimed_host}
 use Rattle.slot_calls.proofs.Views.{view_disciplined, view_holder, view_knows, whole_log}
@@ -40,7 +40,7 @@ believed_host before slots host last v l n x i k =
     let b = believed_parts (log_since before v) l n k in
     ap (λ (m : Name). m.host) (sym b.name)
     ∙ claimed_host slots host (log_since before v) b.swap
-    (careful_parts slots host last (log_since before v) x.careful).each b.there b.claims
+    (slot_rules_parts slots host last (log_since before v) x.slot_rules).each b.there b.claims
     (ap (has_block slots) b.lba ∙ i)
 
 pub other_hosts : (before other : List PortEvent) (slots : Range) (host last guest final : ℕ) (a b : PortView) (l : ℕ)

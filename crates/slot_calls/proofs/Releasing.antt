@@ -22,7 +22,7 @@ use Rattle.nvme_model.specs.declared.submission.Submission.{Submission}
 use Rattle.nvme_model.proofs.Beginnings.{earlier}
 use Rattle.host_laws.specs.Beside.{IsSole, is_beside}
 use Rattle.host_laws.specs.Book.{IsAlwaysApart}
-use Rattle.host_laws.specs.Calls.{reaped_post, status_in}
+use Rattle.host_laws.specs.Calls.{reaped_post, cqe_status}
 use Rattle.host_laws.proofs.Apart.{always_empty, always_more, book_apart}
 use Rattle.host_laws.proofs.Discipline.{area_has}
 use Rattle.host_laws.proofs.Names.{name_eq}
@@ -31,9 +31,9 @@ use Rattle.host_laws.proofs.Elements.{In, any_in, get_after, get_append}
 use Rattle.host_laws.proofs.Publishing.{release_at}
 use Rattle.host_laws.proofs.ReleaseAnswers.{release_succeeds}
 use Rattle.driver_calls.specs.Answers.{pair_answer_of}
-use Rattle.driver_calls.specs.Events.{IsTold, event_at, events}
+use Rattle.driver_calls.specs.Events.{IsToldByLog, event_at, events}
 use Rattle.driver_calls.specs.Log.{is_tidy, newest, sent}
-use Rattle.driver_calls.specs.Says.{outcome}
+use Rattle.driver_calls.specs.Says.{call_outcome}
 use Rattle.driver_calls.specs.Views.{PortView, log_of}
 use Rattle.driver_calls.specs.declared.event.PortEvent.{PortEvent}
 use Rattle.driver_calls.specs.declared.reply.Reply.{Reply}
@@ -44,9 +44,9 @@ use Rattle.slot_calls.specs.Calls.{IsName, IsReleaseBatch, IsReleaseIn, IsSentAs
 use Rattle.slot_calls.specs.Swaps.{log_believed}
 use Rattle.slot_calls.specs.Hosts.{IsSlotView, log_since}
 use Rattle.slot_calls.proofs.Batches.{pair_of, release_batch}
-use Rattle.slot_calls.proofs.Careful.{careful_parts}
+use Rattle.slot_calls.proofs.SlotRules.{slot_rules_parts}
 use Rattle.slot_calls.proofs.Claiming.{claimed_host}
-use Rattle.slot_calls.proofs.Views.{view_back, view_careful, view_disciplined, view_knows, view_tidy, whole_log}
+use Rattle.slot_calls.proofs.Views.{view_back, view_slot_rules, view_disciplined, view_knows, view_tidy, whole_log}
 use Rattle.slot_calls.proofs.Winning.{IsAnswered, pair_answered, swap_sent}
 
 -- ---- the CIDs
@@ -95,17 +95,18 @@ swapped s r a b = go (is_success s) (is_success r) a b
 
 -- an answered CID that names an entry tells its status
 status_told : (c : ConfigNumbers) (n q cid j : ℕ) (shared : SharedPast) (log : List PortEvent)
-    (a : IsAnswered log q cid) → IsTold c (entries shared) n log → completion_queue c q ≡ n → newest log q cid ≡ Some j
-    → ((p : PostLine) → reaped_post c (entries shared) q j ≡ Some p → is_success (status_in p.cqe) ≡ true)
-    → is_success (status_in a.cqe) ≡ true
+    (a : IsAnswered log q cid) → IsToldByLog c (entries shared) n log → completion_queue c q ≡ n
+    → newest log q cid ≡ Some j
+    → ((p : PostLine) → reaped_post c (entries shared) q j ≡ Some p → is_success (cqe_status p.cqe) ≡ true)
+    → is_success (cqe_status a.cqe) ≡ true
 status_told c n q cid j shared log a t e w f =
     let g = t.got q cid j a.cqe a.payload e a.state w in
-    ap (λ (bytes : List ℕ). is_success (status_in bytes)) (sym g.2) ∙ f g.0 g.1
+    ap (λ (bytes : List ℕ). is_success (cqe_status bytes)) (sym g.2) ∙ f g.0 g.1
 
 release_answered : (before : List PortEvent) (slots : Range) (host last : ℕ) (v : PortView) (q first second j l : ℕ)
     (n : Name) (r : Result Reply Status) → IsSlotView before slots host last v
     → IsReleaseIn (log_of v) q first second j l n → has_block slots l ≡ true
-    → outcome (log_of v) q Op.Pair first second ≡ Some r → r ≡ Ok Reply.Swapped
+    → call_outcome (log_of v) q Op.Pair first second ≡ Some r → r ≡ Ok Reply.Swapped
 release_answered before slots host last v q first second j l n r x k i h =
     let c = v.config in
     let past = entries v.seen in
@@ -136,19 +137,19 @@ release_answered before slots host last v q first second j l n r x k i h =
     release_succeeds c slots past swap two.first two.second p x.legal kept (knows.there swap here) refl
     (area_has slots l i) apart first_there second_there two.first_proper two.second_proper (inr o) in
     sym a.by
-    ∙ swapped (status_in a.first.cqe) (status_in a.second.cqe)
+    ∙ swapped (cqe_status a.first.cqe) (cqe_status a.second.cqe)
     (status_told c v.queue q first j v.seen log a.first told own k.call.1 first_succeeds)
     (status_told c v.queue q second (suc j) v.seen log a.second told own k.call.2 second_succeeds)
 
 pub release_answer : (before : List PortEvent) (slots : Range) (host last : ℕ) (v : PortView) (q first second j l : ℕ)
     (n : Name) (r : Result Reply Status) → IsSlotView before slots host last v
     → IsReleaseIn (log_since before v) q first second j l n → has_block slots l ≡ true
-    → outcome (log_since before v) q Op.Pair first second ≡ Some r → r ≡ Ok Reply.Swapped
+    → call_outcome (log_since before v) q Op.Pair first second ≡ Some r → r ≡ Ok Reply.Swapped
 release_answer before slots host last v q first second j l n r x k i h =
     let e = whole_log before slots host last v x in
     release_answered before slots host last v q first second j l n r x
     (subst (λ (log : List PortEvent). IsReleaseIn log q first second j l n) e k) i
-    (ap (λ (log : List PortEvent). outcome log q Op.Pair first second) (sym e) ∙ h)
+    (ap (λ (log : List PortEvent). call_outcome log q Op.Pair first second) (sym e) ∙ h)
 
 -- ---- a release that keeps the discipline
 
@@ -199,6 +200,6 @@ kept_is_believed before slots host last v q l first second n batch x y b i e h =
     let k = kept_release v.config slots (entries v.seen) q l first second n batch y b i h in
     let here = (view_knows before slots host last v x).known k.claim k.there (k.queue ∙ e) in
     let host_is = claimed_host slots host (log_of v) k.claim
-    (careful_parts slots host last (log_of v) (view_careful before slots host last v x)).each here k.claims
+    (slot_rules_parts slots host last (log_of v) (view_slot_rules before slots host last v x)).each here k.claims
     (ap (has_block slots) k.lba ∙ i) in
     view_back before slots host last v l n x i (ap (λ (m : Name). m.host) (sym k.name) ∙ host_is) k.believed

@@ -1,4 +1,4 @@
--- What a careful driver's log says of what its port saw.
+-- What the log of a driver that keeps the rules of slots says of what its port saw.
 use Rattle.std.proofs.Common.{List, Some, ap, sym, true, ℕ, ◌∙◌, ◌≡◌}
 use Rattle.nvme_model.specs.Array.{has_block}
 use Rattle.nvme_model.specs.Passes.{entries}
@@ -10,12 +10,12 @@ use Rattle.driver_calls.specs.Log.{is_tidy}
 use Rattle.driver_calls.specs.Views.{PortView, log_of, since}
 use Rattle.driver_calls.specs.declared.event.PortEvent.{PortEvent}
 use Rattle.driver_calls.proofs.Views.{since_none}
-use Rattle.slot_calls.specs.Careful.{is_careful}
+use Rattle.slot_calls.specs.SlotRules.{keeps_slot_rules}
 use Rattle.slot_calls.specs.Hosts.{IsSlotView, log_since}
 use Rattle.slot_calls.specs.Swaps.{log_believed}
-use Rattle.slot_calls.proofs.Careful.{careful_parts}
+use Rattle.slot_calls.proofs.SlotRules.{slot_rules_parts}
 use Rattle.slot_calls.proofs.Believing.{believes_back, log_believes}
-use Rattle.slot_calls.proofs.Keeping.{careful_disciplined}
+use Rattle.slot_calls.proofs.Keeping.{slot_rules_disciplined}
 use Rattle.slot_calls.proofs.Knowing.{Knows, log_knows}
 
 -- its driver made all that its port did
@@ -28,10 +28,11 @@ pub view_tidy : (before : List PortEvent) (slots : Range) (host last : ℕ) (v :
     → IsSlotView before slots host last v → is_tidy (log_of v) ≡ true
 view_tidy before slots host last v x = ap is_tidy (sym (whole_log before slots host last v x)) ∙ x.tidy
 
-pub view_careful : (before : List PortEvent) (slots : Range) (host last : ℕ) (v : PortView)
-    → IsSlotView before slots host last v → is_careful slots host last (log_of v) ≡ true
-view_careful before slots host last v x = ap (is_careful slots host last) (sym (whole_log before slots host last v x))
-    ∙ x.careful
+pub view_slot_rules : (before : List PortEvent) (slots : Range) (host last : ℕ) (v : PortView)
+    → IsSlotView before slots host last v → keeps_slot_rules slots host last (log_of v) ≡ true
+view_slot_rules before slots host last v x =
+    ap (keeps_slot_rules slots host last) (sym (whole_log before slots host last v x))
+    ∙ x.slot_rules
 
 pub view_knows : (before : List PortEvent) (slots : Range) (host last : ℕ) (v : PortView)
     → IsSlotView before slots host last v → Knows v.config (entries v.seen) v.queue (log_of v)
@@ -41,9 +42,9 @@ view_knows before slots host last v x =
 pub view_disciplined : (before : List PortEvent) (slots : Range) (host last : ℕ) (v : PortView)
     → IsSlotView before slots host last v → disciplined v.config slots (entries v.seen) ≡ true
 view_disciplined before slots host last v x =
-    careful_disciplined v.config v.queue v.pass slots host v.seen x.legal x.premises.alone.sole
+    slot_rules_disciplined v.config v.queue v.pass slots host v.seen x.legal x.premises.alone.sole
     (view_tidy before slots host last v x) x.premises.elsewhere x.premises.own_number
-    (careful_parts slots host last (log_of v) (view_careful before slots host last v x)).each
+    (slot_rules_parts slots host last (log_of v) (view_slot_rules before slots host last v x)).each
 
 -- ---- beliefs
 

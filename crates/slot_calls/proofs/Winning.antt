@@ -9,19 +9,19 @@ use Rattle.nvme_model.specs.Statuses.{compare_failure, is_success, same_status}
 use Rattle.nvme_model.specs.declared.operation.Op.{Op}
 use Rattle.nvme_model.specs.declared.status.Status.{Status}
 use Rattle.nvme_model.specs.declared.submission.Submission.{Submission}
-use Rattle.host_laws.specs.Calls.{is_clean, status_in}
+use Rattle.host_laws.specs.Calls.{is_clean, cqe_status}
 use Rattle.host_laws.proofs.Elements.{In, in_left, in_right}
 use Rattle.host_laws.proofs.Publishing.{claim_at}
 use Rattle.driver_calls.specs.Answers.{pair_answer_of}
 use Rattle.driver_calls.specs.Events.{waiting_number}
 use Rattle.driver_calls.specs.Log.{after_got, names_cid, newest, sent, state_of}
-use Rattle.driver_calls.specs.Says.{IsCallIn, outcome, pair_outcome}
+use Rattle.driver_calls.specs.Says.{IsCallIn, call_outcome, pair_outcome}
 use Rattle.driver_calls.specs.declared.event.CidState.{CidState}
 use Rattle.driver_calls.specs.declared.event.PortEvent.{PortEvent}
 use Rattle.driver_calls.specs.declared.reply.Reply.{Reply}
 use Rattle.driver_calls.proofs.Logs.{answered_before_sent}
 use Rattle.slot_calls.specs.Calls.{IsClaimBatch, IsClaimIn, IsName, IsReleaseBatch, IsReleaseIn, IsSentAs}
-use Rattle.slot_calls.specs.Swaps.{answers, is_number, log_believed, log_released, log_success, log_swaps}
+use Rattle.slot_calls.specs.Swaps.{names_entry, is_number, log_believed, log_released, log_success, log_swaps}
 use Rattle.slot_calls.proofs.Batches.{claim_batch}
 use Rattle.slot_calls.proofs.Beliefs.{believed_from}
 
@@ -92,7 +92,8 @@ swap_sent log q j batch s x e =
 
 -- an entry whose CID names it was answered with success
 pub answered_success : (log : List PortEvent) (q cid j : ℕ) (cqe payload : List ℕ)
-    → state_of log q cid ≡ CidState.Answered cqe payload → newest log q cid ≡ Some j → is_success (status_in cqe) ≡ true
+    → state_of log q cid ≡ CidState.Answered cqe payload → newest log q cid ≡ Some j
+    → is_success (cqe_status cqe) ≡ true
     → log_success log q j ≡ true
 answered_success [] q cid j cqe payload e w y = absurd (let f : CidState.Idle ≡ CidState.Answered cqe payload = e in cc)
 answered_success (PortEvent.Sent p batch ∷ log) q cid j cqe payload e w y =
@@ -112,10 +113,10 @@ answered_success (PortEvent.Got bytes read ∷ log) q cid j cqe payload e w y =
         let here : (names_cid bytes q cid && is_number j (waiting_number (state_of log q cid) (newest log q cid)))
         ≡ true = and_from _ _ n waits in
         or_left _ (log_success log q j)
-        (and_from (answers log bytes q j) (is_success (status_in bytes))
+        (and_from (names_entry log bytes q j) (is_success (cqe_status bytes))
         (subst (λ (i : ℕ). (names_cid bytes q i && is_number j (waiting_number (state_of log q i) (newest log q i)))
         ≡ true) (sym named) here)
-        (ap (λ (b : List ℕ). is_success (status_in b)) z ∙ y))
+        (ap (λ (b : List ℕ). is_success (cqe_status b)) z ∙ y))
 
     go : (b : Bool) (s : CidState) → names_cid bytes q cid ≡ b → state_of log q cid ≡ s
         → after_got b bytes read s ≡ CidState.Answered cqe payload
@@ -137,10 +138,10 @@ pub record IsAnswered (log : List PortEvent) (q cid : ℕ) : Type 0 where
 pub record PairAnswered (log : List PortEvent) (q cid next : ℕ) (r : Result Reply Status) : Type 0 where
   pub first : IsAnswered log q cid
   pub second : IsAnswered log q next
-  pub by : pair_answer_of (status_in first.cqe) (status_in second.cqe) ≡ r
+  pub by : pair_answer_of (cqe_status first.cqe) (cqe_status second.cqe) ≡ r
 
 pub pair_answered : (log : List PortEvent) (q first second : ℕ) (r : Result Reply Status)
-    → outcome log q Op.Pair first second ≡ Some r → PairAnswered log q first second r
+    → call_outcome log q Op.Pair first second ≡ Some r → PairAnswered log q first second r
 pair_answered log q first second r h = go (state_of log q first) (state_of log q second) refl refl h
   where
     go : (s t : CidState) → state_of log q first ≡ s → state_of log q second ≡ t → pair_outcome s t ≡ Some r
@@ -149,7 +150,7 @@ pair_answered log q first second r h = go (state_of log q first) (state_of log q
         record {
           first = record { cqe = a; payload = x; state = e };
           second = record { cqe = b; payload = y; state = f };
-          by = let z : Some (pair_answer_of (status_in a) (status_in b)) ≡ Some r = g in cc;
+          by = let z : Some (pair_answer_of (cqe_status a) (cqe_status b)) ≡ Some r = g in cc;
         }
     go (CidState.Answered a x) CidState.Idle e f g = absurd (let z : None ≡ Some r = g in cc)
     go (CidState.Answered a x) CidState.Waiting e f g = absurd (let z : None ≡ Some r = g in cc)
@@ -170,7 +171,7 @@ swapped_second s r h = go (is_success s) (is_success r) (same_status s compare_f
 -- ---- a claim that was won
 
 pub won_by_log : (log : List PortEvent) (q first second j l : ℕ) (n : Name) → IsClaimIn log q first second j l n
-    → outcome log q Op.Pair first second ≡ Some (Ok Reply.Swapped) → log_released log l n ≡ false
+    → call_outcome log q Op.Pair first second ≡ Some (Ok Reply.Swapped) → log_released log l n ≡ false
     → log_believed log l n ≡ true
 won_by_log log q first second j l n x h u =
     let a = pair_answered log q first second (Ok Reply.Swapped) h in
@@ -183,6 +184,6 @@ won_by_log log q first second j l n x h u =
       lba = refl;
       name = refl;
       success = answered_success log q second (suc j) a.second.cqe a.second.payload a.second.state x.call.2
-          (swapped_second (status_in a.first.cqe) (status_in a.second.cqe) a.by);
+          (swapped_second (cqe_status a.first.cqe) (cqe_status a.second.cqe) a.by);
       unreleased = u;
     })

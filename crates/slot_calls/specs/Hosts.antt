@@ -11,7 +11,7 @@ use Rattle.host_laws.specs.Discipline.{keeps_at}
 use Rattle.driver_calls.specs.Log.{is_tidy}
 use Rattle.driver_calls.specs.Views.{IsAlone, PortView, log_of, since}
 use Rattle.driver_calls.specs.declared.event.PortEvent.{PortEvent}
-use Rattle.slot_calls.specs.Careful.{is_careful}
+use Rattle.slot_calls.specs.SlotRules.{keeps_slot_rules}
 
 -- each Publish to a submission queue of another completion queue than n keeps the discipline at its own place
 abbrev pub elsewhere_keeps : ConfigNumbers → Range → ℕ → Past → Bool
@@ -30,9 +30,10 @@ pub record IsSlotHost (before : List PortEvent) (slots : Range) (host : ℕ) (no
 abbrev pub log_since : List PortEvent → PortView → List PortEvent
 log_since before v = since before (log_of v)
 
--- The premises hold of what a controller showed, and by its log the driver was careful, with serials up to `last`.
+-- The premises hold of what a controller showed, and by its log the driver kept the rules of slots, with serials up to
+-- `last`.
 pub record IsSlotView (before : List PortEvent) (slots : Range) (host last : ℕ) (v : PortView) : Type 0 where
   pub legal : IsLegal v.config (entries v.seen)
   pub premises : IsSlotHost before slots host v
   pub tidy : is_tidy (log_since before v) ≡ true
-  pub careful : is_careful slots host last (log_since before v) ≡ true
+  pub slot_rules : keeps_slot_rules slots host last (log_since before v) ≡ true

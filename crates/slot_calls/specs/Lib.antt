@@ -1,4 +1,4 @@
 pub mod Swaps
-pub mod Careful
+pub mod SlotRules
 pub mod Calls
 pub mod Hosts

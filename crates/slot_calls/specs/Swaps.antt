@@ -5,7 +5,7 @@ use Rattle.std.specs.List.{list_any}
 use Rattle.nvme_model.specs.EntryBytes.{cqe_fields}
 use Rattle.nvme_model.specs.Slots.{Name, Swap, releases, same_name, swaps_in}
 use Rattle.nvme_model.specs.Statuses.{is_success}
-use Rattle.host_laws.specs.Calls.{status_in}
+use Rattle.host_laws.specs.Calls.{cqe_status}
 use Rattle.driver_calls.specs.Events.{waiting_number}
 use Rattle.driver_calls.specs.Log.{names_cid, newest, sent, state_of}
 use Rattle.driver_calls.specs.declared.event.PortEvent.{PortEvent}
@@ -22,8 +22,8 @@ is_number j None = false
 is_number j (Some i) = i == j
 
 -- entry j of submission queue q waits, and this completion names it
-abbrev pub answers : List PortEvent → List ℕ → ℕ → ℕ → Bool
-answers log cqe q j =
+abbrev pub names_entry : List PortEvent → List ℕ → ℕ → ℕ → Bool
+names_entry log cqe q j =
     let cid = (cqe_fields cqe).cid in
     names_cid cqe q cid && is_number j (waiting_number (state_of log q cid) (newest log q cid))
 
@@ -32,7 +32,7 @@ abbrev pub log_success : List PortEvent → ℕ → ℕ → Bool
 log_success [] q j = false
 log_success (PortEvent.Sent p batch ∷ log) q j = log_success log q j
 log_success (PortEvent.Got cqe payload ∷ log) q j =
-    (answers log cqe q j && is_success (status_in cqe)) || log_success log q j
+    (names_entry log cqe q j && is_success (cqe_status cqe)) || log_success log q j
 
 -- a release of the name from the slot at block l was published
 abbrev pub log_released : List PortEvent → ℕ → Name → Bool

@@ -1,4 +1,5 @@
-//! What the log of a careful driver says of the history that its port saw, under the premises of a host.
+//! What the log of a driver that keeps the rules of slots says of the history that its port saw, under the premises of
+//! a host.
 
 ghost use Rattle.std.specs.Prelude.{◌≡◌, ◌≢◌, ℕ, List, true, Ok, Result, Some};
 ghost use Rattle.nvme_model.specs.Array.{has_block};
@@ -9,7 +10,7 @@ ghost use Rattle.nvme_model.specs.declared.array.Range.{Range};
 ghost use Rattle.nvme_model.specs.declared.operation.Op.{Op};
 ghost use Rattle.nvme_model.specs.declared.status.Status.{Status};
 ghost use Rattle.nvme_model.specs.declared.submission.Submission.{Submission};
-ghost use Rattle.driver_calls.specs.Says.{outcome};
+ghost use Rattle.driver_calls.specs.Says.{call_outcome};
 ghost use Rattle.driver_calls.specs.Views.{PortView};
 ghost use Rattle.driver_calls.specs.declared.event.PortEvent.{PortEvent};
 ghost use Rattle.driver_calls.specs.declared.reply.Reply.{Reply};
@@ -17,8 +18,8 @@ ghost use Rattle.slot_calls.specs.Calls.{IsName, IsReleaseBatch, IsReleaseIn};
 ghost use Rattle.slot_calls.specs.Hosts.{IsSlotView, log_since};
 ghost use Rattle.slot_calls.specs.Swaps.{log_believed};
 
-/// Where a driver is careful by its log, the whole history keeps the discipline of the slot area.
-pub fn careful_logs_keep_the_discipline()
+/// Where a driver keeps the rules of slots by its log, the whole history keeps the discipline of the slot area.
+pub fn logs_that_keep_the_rules_keep_the_discipline()
     ensures { (before : List PortEvent) (slots : Range) (host last : ℕ) (v : PortView) →
         IsSlotView before slots host last v → disciplined v.config slots (entries v.seen) ≡ true }
 {}
@@ -65,11 +66,12 @@ pub fn a_release_is_answered_by_success()
     ensures { (before : List PortEvent) (slots : Range) (host last : ℕ) (v : PortView) (q first second j l : ℕ)
         (n : Name) (r : Result Reply Status) → IsSlotView before slots host last v →
         IsReleaseIn (log_since before v) q first second j l n → has_block slots l ≡ true →
-        outcome (log_since before v) q Op.Pair first second ≡ Some r → r ≡ Ok Reply.Swapped }
+        call_outcome (log_since before v) q Op.Pair first second ≡ Some r → r ≡ Ok Reply.Swapped }
 {}
 
 /// A release that this driver publishes, and that keeps the discipline where it stands, is of a name that its log
-/// believes there. So where it is a premise that releases keep the discipline, the log stays careful by them.
+/// believes there. So where it is a premise that releases keep the discipline, the log goes on keeping the rules by
+/// them.
 pub fn a_release_that_keeps_the_discipline_is_believed()
     ensures { (before : List PortEvent) (slots : Range) (host last : ℕ) (v : PortView) (q l first second : ℕ) (n : Name)
         (batch : List Submission) → IsSlotView before slots host last v → IsName n →

@@ -8,32 +8,33 @@ ghost use Rattle.nvme_model.specs.declared.array.Range.{Range};
 ghost use Rattle.nvme_model.specs.declared.operation.Op.{Op};
 ghost use Rattle.nvme_model.specs.declared.submission.Submission.{Submission};
 ghost use Rattle.driver_calls.specs.Log.{sent};
-ghost use Rattle.driver_calls.specs.Says.{IsCallIn, outcome};
+ghost use Rattle.driver_calls.specs.Says.{IsCallIn, call_outcome};
 ghost use Rattle.driver_calls.specs.declared.event.PortEvent.{PortEvent};
 ghost use Rattle.driver_calls.specs.declared.reply.Reply.{Reply};
 ghost use Rattle.slot_calls.specs.Calls.{IsClaimBatch, IsClaimIn, IsName, IsReleaseBatch, IsReleaseIn};
-ghost use Rattle.slot_calls.specs.Careful.{is_careful};
+ghost use Rattle.slot_calls.specs.SlotRules.{keeps_slot_rules};
 ghost use Rattle.slot_calls.specs.Swaps.{log_believed, log_released};
 
-/// A log stays careful by whatever is reaped, by batches that touch no slot, by claims under serials above the last,
-/// and by releases of names that it believes.
-pub fn a_log_stays_careful()
-    ensures empty { (slots : Range) (host last : ℕ) → is_careful slots host last [] ≡ true }
+/// A log goes on keeping the rules of slots by whatever is reaped, by batches that touch no slot, by claims under
+/// serials above the last, and by releases of names that it believes.
+pub fn a_log_goes_on_keeping_the_rules()
+    ensures empty { (slots : Range) (host last : ℕ) → keeps_slot_rules slots host last [] ≡ true }
     ensures drawn { (slots : Range) (host last next : ℕ) (log : List PortEvent) → last ≤ next →
-        is_careful slots host last log ≡ true → is_careful slots host next log ≡ true }
+        keeps_slot_rules slots host last log ≡ true → keeps_slot_rules slots host next log ≡ true }
     ensures got { (slots : Range) (host last : ℕ) (log : List PortEvent) (cqe payload : List ℕ) →
-        is_careful slots host last log ≡ true → is_careful slots host last (PortEvent.Got cqe payload ∷ log) ≡ true }
+        keeps_slot_rules slots host last log ≡ true
+        → keeps_slot_rules slots host last (PortEvent.Got cqe payload ∷ log) ≡ true }
     ensures outside { (slots : Range) (host last : ℕ) (log : List PortEvent) (q : ℕ) (batch : List Submission) →
-        list_any (touches slots) batch ≡ false → is_careful slots host last log ≡ true →
-        is_careful slots host last (PortEvent.Sent q batch ∷ log) ≡ true }
+        list_any (touches slots) batch ≡ false → keeps_slot_rules slots host last log ≡ true →
+        keeps_slot_rules slots host last (PortEvent.Sent q batch ∷ log) ≡ true }
     ensures claim { (slots : Range) (last : ℕ) (log : List PortEvent) (q l first second : ℕ) (n : Name)
         (batch : List Submission) → IsName n → IsClaimBatch l first second n batch → has_block slots l ≡ true →
-        last < n.serial → is_careful slots n.host last log ≡ true →
-        is_careful slots n.host n.serial (PortEvent.Sent q batch ∷ log) ≡ true }
+        last < n.serial → keeps_slot_rules slots n.host last log ≡ true →
+        keeps_slot_rules slots n.host n.serial (PortEvent.Sent q batch ∷ log) ≡ true }
     ensures release { (slots : Range) (host last : ℕ) (log : List PortEvent) (q l first second : ℕ) (n : Name)
         (batch : List Submission) → IsName n → IsReleaseBatch l first second n batch → has_block slots l ≡ true →
-        log_believed log l n ≡ true → is_careful slots host last log ≡ true →
-        is_careful slots host last (PortEvent.Sent q batch ∷ log) ≡ true }
+        log_believed log l n ≡ true → keeps_slot_rules slots host last log ≡ true →
+        keeps_slot_rules slots host last (PortEvent.Sent q batch ∷ log) ≡ true }
 {}
 
 /// What a log believes of a slot of the area it goes on to believe, until that name is released there.
@@ -68,7 +69,7 @@ pub fn a_log_releases_what_it_says()
         (n : Name) → IsName m → IsReleaseBatch k first second m batch → ((k == l) && same_name m n) ≡ false →
         log_released (PortEvent.Sent q batch ∷ log) l n ≡ log_released log l n }
     ensures fresh { (slots : Range) (host last : ℕ) (log : List PortEvent) (l : ℕ) (n : Name) →
-        is_careful slots host last log ≡ true → has_block slots l ≡ true → last < n.serial →
+        keeps_slot_rules slots host last log ≡ true → has_block slots l ≡ true → last < n.serial →
         log_released log l n ≡ false }
 {}
 
@@ -94,6 +95,6 @@ pub fn a_call_is_in_its_log()
 /// A claim that was answered `Swapped` is believed by the log, as long as its name isn't released.
 pub fn a_won_claim_is_believed_by_its_log()
     ensures { (log : List PortEvent) (q first second j l : ℕ) (n : Name) → IsClaimIn log q first second j l n →
-        outcome log q Op.Pair first second ≡ Some (Ok Reply.Swapped) → log_released log l n ≡ false →
+        call_outcome log q Op.Pair first second ≡ Some (Ok Reply.Swapped) → log_released log l n ≡ false →
         log_believed log l n ≡ true }
 {}

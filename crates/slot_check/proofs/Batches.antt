@@ -1,18 +1,19 @@
 -- The claims, the releases and the Writes of a batch, entry by entry.
 use Rattle.std.proofs.Common.{◌≡◌, ℕ, zero, suc, ◌+◌, ◌<◌, ◌≤◌, Bool, true, false, not, ◌&&◌, ◌||◌, cond, List, []}
 use Rattle.std.proofs.Common.{◌∷◌, ◌++◌}
-use Rattle.std.proofs.Common.{length, refl, sym, ap, ap₂, ◌∙◌, arith, drop, get_or, eqb, None}
+use Rattle.std.proofs.Common.{length, refl, sym, ap, ap₂, ◌∙◌, arith, drop, get_or, eqb, None, Option, Some}
 use Rattle.std.specs.List.{list_any}
 use Rattle.std.specs.Str.{bytes_eq}
 use Rattle.std.proofs.lemmas.List.{append-nil, append_assoc, length-drop}
 use Rattle.std.proofs.lemmas.List.Elements.{filter-append}
 use Rattle.nvme_model.specs.Array.{has_block, zeros}
 use Rattle.nvme_model.specs.EntryBytes.{slba, sqe_fields}
-use Rattle.nvme_model.specs.Slots.{Swap, in_area, is_pair_on_one, name_of, only_swaps, swap_by, swap_of, swaps_in}
+use Rattle.nvme_model.specs.Slots.{Swap, in_area, is_pair_on_one, name_of, swap_by, swap_of, swaps_in}
 use Rattle.nvme_model.specs.Slots.{touches}
 use Rattle.nvme_model.specs.declared.array.Range.{Range}
 use Rattle.nvme_model.specs.declared.submission.Submission.{Submission}
 use Rattle.host_laws.proofs.Names.{bytes_are}
+use Rattle.slot_check.specs.Broken.{first_touched, write_alone}
 
 drop_at : {X : Type 0} (xs : List X) (i : ℕ) (d : X) → i < length xs → drop i xs ≡ get_or xs i d ∷ drop (suc i) xs
 drop_at [] i d l = absurd (omega (arith, l))
@@ -25,22 +26,29 @@ drop_is xs i x l e = drop_at xs i x l ∙ ap (λ y. y ∷ drop (suc i) xs) (sym 
 
 -- ---- Writes
 
-swapped : (t o : Bool) → (t && not o) ≡ false → (not t || o) ≡ true
-swapped true true h = refl
-swapped true false h = absurd cc
-swapped false o h = refl
+abbrev alone_or : Range → ℕ → ℕ → Submission → List Submission → List Swap → Bool → Option ℕ
+alone_or slots q j s batch of b = cond b (Some (first_touched slots s)) (write_alone slots q (suc j) batch of)
 
-pub only_next : (slots : Range) (q first : ℕ) (batch : List Submission) (of : List Swap) (i : ℕ) (s : Submission)
+-- this one isn't alone
+pub alone_next : (slots : Range) (q first : ℕ) (batch : List Submission) (of : List Swap) (i : ℕ) (s : Submission)
     → i < length batch → s ≡ get_or batch i s
     → (touches slots s && not (list_any (λ w. eqb (suc w.number) (first + i)) of)) ≡ false
-    → only_swaps slots q (first + (i + 1)) (drop (i + 1) batch) of ≡ only_swaps slots q (first + i) (drop i batch) of
-only_next slots q first batch of i s l e h =
+    → write_alone slots q (first + (i + 1)) (drop (i + 1) batch) of ≡ write_alone slots q (first + i) (drop i batch) of
+alone_next slots q first batch of i s l e h =
     let more : i + 1 ≡ suc i = omega arith in
     let n : first + (i + 1) ≡ suc (first + i) = omega arith in
-    (λ j. only_swaps slots q (n j) (drop (more j) batch) of)
-    ∙ ap (λ (b : Bool). b && only_swaps slots q (suc (first + i)) (drop (suc i) batch) of)
-    (sym (swapped (touches slots s) (list_any (λ w. eqb (suc w.number) (first + i)) of) h))
-    ∙ ap (λ (xs : List Submission). only_swaps slots q (first + i) xs of) (sym (drop_is batch i s l e))
+    (λ j. write_alone slots q (n j) (drop (more j) batch) of)
+    ∙ ap (alone_or slots q (first + i) s (drop (suc i) batch) of) (sym h)
+    ∙ ap (λ (xs : List Submission). write_alone slots q (first + i) xs of) (sym (drop_is batch i s l e))
+
+-- this one is
+pub alone_here : (slots : Range) (q first : ℕ) (batch : List Submission) (of : List Swap) (i : ℕ) (s : Submission)
+    → i < length batch → s ≡ get_or batch i s
+    → (touches slots s && not (list_any (λ w. eqb (suc w.number) (first + i)) of)) ≡ true
+    → Some (first_touched slots s) ≡ write_alone slots q (first + i) (drop i batch) of
+alone_here slots q first batch of i s l e h =
+    ap (alone_or slots q (first + i) s (drop (suc i) batch) of) (sym h)
+    ∙ ap (λ (xs : List Submission). write_alone slots q (first + i) xs of) (sym (drop_is batch i s l e))
 
 -- ---- claims and releases
 

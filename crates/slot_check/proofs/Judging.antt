@@ -18,19 +18,20 @@ use Rattle.nvme_model.specs.Slots.{Name, Swap, believed, disciplined, fresh_name
 use Rattle.nvme_model.specs.Slots.{keeps_discipline, name_of}
 use Rattle.nvme_model.specs.Slots.{on_its_queue, only_swaps, reaped_success, released_right, releases, same_name}
 use Rattle.nvme_model.specs.Slots.{swap_by, swap_of}
-use Rattle.nvme_model.specs.Slots.{swaps, swaps_in}
+use Rattle.nvme_model.specs.Slots.{swaps, swaps_in, touches}
 use Rattle.nvme_model.specs.declared.array.Range.{Range}
 use Rattle.nvme_model.specs.declared.config.ConfigNumbers.{ConfigNumbers}
 use Rattle.nvme_model.specs.declared.entry.Entry.{Entry}
 use Rattle.nvme_model.specs.declared.entry.PublishLine.{PublishLine}
 use Rattle.nvme_model.specs.declared.submission.Submission.{Submission}
-use Rattle.slot_check.specs.Batch.{fresh_in, release_broken_in}
-use Rattle.slot_check.specs.Broken.{first_of, publish_broken, release_broken}
+use Rattle.slot_check.specs.Batch.{claimed_twice_in, fresh_in, release_broken_in}
+use Rattle.slot_check.specs.Broken.{broken_by, claimed_twice, first_of, first_touched, publish_broken, release_broken}
+use Rattle.slot_check.specs.Broken.{write_alone}
 use Rattle.slot_check.specs.Names.{AreUnwon, KeptNames, KnowsNames, believes, keeps_queue}
-use Rattle.slot_check.specs.Watched.{Keeps, Kept}
+use Rattle.slot_check.specs.Watched.{IsSlotCheckState, SlotCheckState}
 use Rattle.slot_check.specs.declared.broken.BrokenDiscipline.{BrokenDiscipline}
 use Rattle.slot_check.specs.declared.broken.BrokenDiscipline.TheVariants.{ClaimedTwice, NoSwap, OtherQueue, Unbelieved}
-use Rattle.slot_check.proofs.Knowing.{believes_is, fresh_is, in_area_any, queue_is, unchanged}
+use Rattle.slot_check.proofs.Knowing.{believes_is, fresh_is, in_area_any, queue_is, twice_is, unchanged}
 use Rattle.slot_check.specs.Progress.{KnowsProgress}
 
 -- ---- releases
@@ -84,25 +85,24 @@ module _ (c : ConfigNumbers) (slots : Range) (past : Past) (k : KeptNames)
   releases_are earlier (s ∷ later) a =
       ap₂ first_of
       (ap₂ (λ (x y : Bool). cond s.claims None
-      (cond (x && not (list_any (λ w. releases w s.lba s.name) earlier)) (cond y None (Some OtherQueue))
-      (Some Unbelieved)))
+      (cond (x && not (list_any (λ w. releases w s.lba s.name) earlier)) (cond y None (Some (OtherQueue s.lba)))
+      (Some (Unbelieved s.lba))))
       (believed_is s.lba s.name a.0) (beside_is s a.0))
       (releases_are (earlier ++ s ∷ []) later a.1)
 
   pub judged_is : (p : PublishLine) (first : ℕ) (of : List Swap) → first ≡ length (published_entries past p.queue)
       → of ≡ in_area slots (swaps_in p.queue first p.batch)
-      → cond (only_swaps slots p.queue first p.batch of)
-      (cond (fresh_in k of) (release_broken_in c k [] of) (Some ClaimedTwice)) (Some NoSwap)
+      → broken_by (write_alone slots p.queue first p.batch of) (claimed_twice_in k of) (release_broken_in c k [] of)
       ≡ publish_broken c slots past p
   judged_is p first of e f =
       let j = length (published_entries past p.queue) in
       let all = in_area slots (swaps_in p.queue j p.batch) in
       let same : of ≡ all = f ∙ ap (λ (n : ℕ). in_area slots (swaps_in p.queue n p.batch)) e in
-      (λ t. cond (only_swaps slots p.queue (e t) p.batch (same t))
-      (cond (fresh_in k (same t)) (release_broken_in c k [] (same t)) (Some ClaimedTwice)) (Some NoSwap))
-      ∙ (λ t. cond (only_swaps slots p.queue j p.batch all)
-      (cond (fresh_is (reaped_success c past) (in_area slots (swaps past)) k all h t)
-      (releases_are [] all (area_in slots (swaps_in p.queue j p.batch)) t) (Some ClaimedTwice)) (Some NoSwap))
+      (λ t. broken_by (write_alone slots p.queue (e t) p.batch (same t)) (claimed_twice_in k (same t))
+      (release_broken_in c k [] (same t)))
+      ∙ (λ t. broken_by (write_alone slots p.queue j p.batch all)
+      (twice_is (reaped_success c past) (in_area slots (swaps past)) k all h t)
+      (releases_are [] all (area_in slots (swaps_in p.queue j p.batch)) t))
 
 -- ---- the discipline
 
@@ -127,7 +127,8 @@ none_broken c past xs ys (s ∷ later) e =
   where
     go : (claims b q x y : Bool) → x ≡ y
         → is_none (release_broken c past (xs ++ s ∷ []) later) ≡ released_right c past (s ∷ ys) later
-        → is_none (first_of (cond claims None (cond (b && not x) (cond q None (Some OtherQueue)) (Some Unbelieved)))
+        → is_none (first_of
+        (cond claims None (cond (b && not x) (cond q None (Some (OtherQueue s.lba))) (Some (Unbelieved s.lba))))
         (release_broken c past (xs ++ s ∷ []) later))
         ≡ ((claims || ((b && not y) && q)) && released_right c past (s ∷ ys) later)
     go true b q x y f ih = ih
@@ -138,19 +139,48 @@ none_broken c past xs ys (s ∷ later) e =
     go false true q true false f ih = absurd cc
     go false true q false true f ih = absurd cc
 
+-- no Write is alone exactly where each is of a claim or release
+alone_none : (slots : Range) (q j : ℕ) (batch : List Submission) (of : List Swap)
+    → is_none (write_alone slots q j batch of) ≡ only_swaps slots q j batch of
+alone_none slots q j [] of = refl
+alone_none slots q j (s ∷ batch) of =
+    go (touches slots s) (list_any (λ w. eqb (suc w.number) j) of) (alone_none slots q (suc j) batch of)
+  where
+    go : (t o : Bool) → is_none (write_alone slots q (suc j) batch of) ≡ only_swaps slots q (suc j) batch of
+        → is_none (cond (t && not o) (Some (first_touched slots s)) (write_alone slots q (suc j) batch of))
+        ≡ ((not t || o) && only_swaps slots q (suc j) batch of)
+    go true true ih = ih
+    go true false ih = refl
+    go false o ih = ih
+
+-- no name is claimed twice exactly where all are fresh
+twice_none : (xs before : List Swap) → is_none (claimed_twice xs before) ≡ fresh_names xs before
+twice_none [] before = refl
+twice_none (s ∷ later) before =
+    go s.claims (list_any (λ w. w.claims && same_name w.name s.name) (later ++ before)) (twice_none later before)
+  where
+    go : (a b : Bool) → is_none (claimed_twice later before) ≡ fresh_names later before
+        → is_none (cond (a && b) (Some s.lba) (claimed_twice later before))
+        ≡ ((not a || not b) && fresh_names later before)
+    go true true ih = refl
+    go true false ih = ih
+    go false b ih = ih
+
+none_of_three : (w t : Option ℕ) (o : Option BrokenDiscipline)
+    → is_none (broken_by w t o) ≡ ((is_none w && is_none t) && is_none o)
+none_of_three None None o = refl
+none_of_three None (Some l) o = refl
+none_of_three (Some l) t o = refl
+
 pub keeps_is : (c : ConfigNumbers) (slots : Range) (past : Past) (p : PublishLine)
     → is_none (publish_broken c slots past p) ≡ keeps_discipline c slots past p
 keeps_is c slots past p =
     let j = length (published_entries past p.queue) in
     let of = in_area slots (swaps_in p.queue j p.batch) in
-    go (only_swaps slots p.queue j p.batch of) (fresh_names of (in_area slots (swaps past)))
-    (release_broken c past [] of) (released_right c past [] of) (none_broken c past [] [] of (λ l n. refl))
-  where
-    go : (a b : Bool) (o : Option BrokenDiscipline) (d : Bool) → is_none o ≡ d
-        → is_none (cond a (cond b o (Some ClaimedTwice)) (Some NoSwap)) ≡ ((a && b) && d)
-    go true true o d e = e
-    go true false o d e = refl
-    go false b o d e = refl
+    none_of_three (write_alone slots p.queue j p.batch of) (claimed_twice of (in_area slots (swaps past)))
+    (release_broken c past [] of)
+    ∙ (λ t. (alone_none slots p.queue j p.batch of t && twice_none of (in_area slots (swaps past)) t)
+    && none_broken c past [] [] of (λ l n. refl) t)
 
 -- ---- entries that are new
 
@@ -217,21 +247,20 @@ unwon c slots past p first of h e f =
     (new_swaps p.queue (length (published_entries past p.queue)) first p.batch (omega (arith, e)))))
 
 -- nothing is broken, so the names are fresh
-pub fresh_where : (a b : Bool) (o : Option BrokenDiscipline)
-    → cond a (cond b o (Some ClaimedTwice)) (Some NoSwap) ≡ None → b ≡ true
-fresh_where true true o e = refl
-fresh_where true false o e = absurd cc
-fresh_where false b o e = absurd cc
+fresh_where : (w t : Option ℕ) (o : Option BrokenDiscipline) → broken_by w t o ≡ None → is_none t ≡ true
+fresh_where w None o e = refl
+fresh_where None (Some l) o e = absurd (let f : Some (ClaimedTwice l) ≡ None = e in cc)
+fresh_where (Some m) (Some l) o e = absurd (let f : Some (NoSwap m) ≡ None = e in cc)
 
-pub whole_is : (c : ConfigNumbers) (slots : Range) (past : Past) (p : PublishLine) (k : Kept) (first : ℕ)
-    (batch : List Submission) (of : List Swap) (o : Option BrokenDiscipline) → Keeps c slots past k
+pub whole_is : (c : ConfigNumbers) (slots : Range) (past : Past) (p : PublishLine) (k : SlotCheckState) (first : ℕ)
+    (batch : List Submission) (of : List Swap) (o : Option BrokenDiscipline) → IsSlotCheckState c slots past k
     → first ≡ k.progress.published p.queue → batch ≡ p.batch → of ≡ in_area slots (swaps_in p.queue first batch)
-    → o ≡ cond (only_swaps slots p.queue first batch of)
-    (cond (fresh_in k.names of) (release_broken_in c k.names [] of) (Some ClaimedTwice)) (Some NoSwap)
+    → o ≡ broken_by (write_alone slots p.queue first batch of) (claimed_twice_in k.names of)
+    (release_broken_in c k.names [] of)
     → o ≡ publish_broken c slots past p
 whole_is c slots past p k first batch of o h e b f g =
-    g ∙ (λ t. cond (only_swaps slots p.queue first (b t) of)
-    (cond (fresh_in k.names of) (release_broken_in c k.names [] of) (Some ClaimedTwice)) (Some NoSwap))
+    g ∙ (λ t. broken_by (write_alone slots p.queue first (b t) of) (claimed_twice_in k.names of)
+    (release_broken_in c k.names [] of))
     ∙ judged_is c slots past k.names h.names p first of (e ∙ h.progress.published p.queue)
     (f ∙ ap (λ (xs : List Submission). in_area slots (swaps_in p.queue first xs)) b)
 
@@ -239,8 +268,8 @@ pub none_where : (o : Option BrokenDiscipline) → false ≡ is_some o → o ≡
 none_where None e = refl
 none_where (Some b) e = absurd cc
 
-pub publish_keeps : (c : ConfigNumbers) (slots : Range) (past : Past) (p : PublishLine) (k m : Kept)
-    (reserved : KeptNames) (first : ℕ) (batch : List Submission) (of : List Swap) → Keeps c slots past k
+pub publish_keeps : (c : ConfigNumbers) (slots : Range) (past : Past) (p : PublishLine) (k m : SlotCheckState)
+    (reserved : KeptNames) (first : ℕ) (batch : List Submission) (of : List Swap) → IsSlotCheckState c slots past k
     → IsLegal c (Entry.Publish p ∷ past) → first ≡ k.progress.published p.queue → batch ≡ p.batch
     → of ≡ in_area slots (swaps_in p.queue first batch) → publish_broken c slots past p ≡ None
     → ((n : Name) → reserved.claim n ≡ k.names.claim n) → ((q j : ℕ) → reserved.won q j ≡ k.names.won q j)
@@ -248,7 +277,7 @@ pub publish_keeps : (c : ConfigNumbers) (slots : Range) (past : Past) (p : Publi
     → KnowsProgress c (Entry.Publish p ∷ past) m.progress
     → ((r : ℕ → ℕ → Bool) (xs : List Swap) → KnowsNames r xs reserved → fresh_in reserved of ≡ true → AreUnwon r of
     → KnowsNames r (of ++ xs) m.names)
-    → Keeps c slots (Entry.Publish p ∷ past) m
+    → IsSlotCheckState c slots (Entry.Publish p ∷ past) m
 publish_keeps c slots past p k m reserved first batch of h legal e b f none x y z prog adds =
     let r = reaped_success c past in
     let before = in_area slots (swaps past) in
@@ -260,8 +289,9 @@ publish_keeps c slots past p k m reserved first batch of h legal e b f none x y 
     let same : of ≡ all = here ∙ ap (λ (n : ℕ). in_area slots (swaps_in p.queue n p.batch)) count in
     let kr : KnowsNames r before reserved = unchanged r before k.names reserved x y z h.names in
     let fresh : fresh_names all before ≡ true =
-    fresh_where (only_swaps slots p.queue j p.batch all) (fresh_names all before)
-    (release_broken c past [] all) none in
+    sym (twice_none all before)
+    ∙ fresh_where (write_alone slots p.queue j p.batch all) (claimed_twice all before) (release_broken c past [] all)
+    none in
     let is_fresh : fresh_in reserved of ≡ true =
     fresh_is r before reserved of kr ∙ ap (λ (xs : List Swap). fresh_names xs before) same ∙ fresh in
     let added : KnowsNames r (of ++ before) m.names =

@@ -11,9 +11,10 @@ use Rattle.nvme_model.specs.Config.{completion_queue}
 use Rattle.nvme_model.specs.Slots.{Name, Swap, fresh_names, in_area, releases, same_name}
 use Rattle.nvme_model.specs.declared.array.Range.{Range}
 use Rattle.nvme_model.specs.declared.config.ConfigNumbers.{ConfigNumbers}
-use Rattle.slot_check.specs.Batch.{fresh_in}
+use Rattle.slot_check.specs.Batch.{claimed_twice_in, fresh_in}
+use Rattle.slot_check.specs.Broken.{claimed_twice}
 use Rattle.slot_check.specs.Names.{AreUnwon, KeptNames, KnowsNames, believes, claim_won, claims_by, claims_name}
-use Rattle.slot_check.specs.Names.{is_beside, keeps_queue}
+use Rattle.slot_check.specs.Names.{is_claim_of_release, keeps_queue}
 use Rattle.slot_check.specs.Names.{listed}
 
 -- ---- lists
@@ -152,6 +153,16 @@ fresh_is r of k (s ∷ later) h =
     ∙ sym (list_any-append (claims_name s.name) later of))
     (fresh_is r of k later h)
 
+pub twice_is : (r : ℕ → ℕ → Bool) (of : List Swap) (k : KeptNames) (xs : List Swap) → KnowsNames r of k
+    → claimed_twice_in k xs ≡ claimed_twice xs of
+twice_is r of k [] h = refl
+twice_is r of k (s ∷ later) h =
+    ap₂ (λ (x : Bool) (y : Option ℕ). cond (s.claims && x) (Some s.lba) y)
+    (ap (λ (x : Bool). list_any (claims_name s.name) later || x)
+    (sym (any_listed (claims_name s.name) of (k.claim s.name) (h.claim s.name)))
+    ∙ sym (list_any-append (claims_name s.name) later of))
+    (twice_is r of k later h)
+
 in_filter_holds : {X : Type 0} (p : X → Bool) (xs : List X) (x : X) (ys : List X) → filter p xs ≡ x ∷ ys
     → p x ≡ true
 in_filter_holds p [] x ys e = absurd cc
@@ -243,7 +254,7 @@ queue_is c r of k s h = go (k.claim s.name) ∙ sym found
     or_none true = refl
     or_none false = refl
 
-    go : (o : Option Swap) → is_beside c s o ≡ list_any test (listed o)
+    go : (o : Option Swap) → is_claim_of_release c s o ≡ list_any test (listed o)
     go None = refl
     go (Some w) = or_none (test w)
 

@@ -1,6 +1,6 @@
 mod Batches
 mod Bytes
-mod Discipline
+pub mod Discipline
 mod Judging
 mod Knowing
 mod Moving

@@ -13,7 +13,7 @@ use Rattle.nvme_model.specs.Legal.{IsLegal}
 use Rattle.nvme_model.specs.Queues.{fetched_count, waiting}
 use Rattle.nvme_model.specs.Slots.{EntryCompletion, entry_completion, entry_completions, fetched_before, says_success}
 use Rattle.nvme_model.specs.Tickets.{fetched_ticket, in_flight, posts_of, tickets}
-use Rattle.nvme_model.specs.Verdict.{taken}
+use Rattle.nvme_model.specs.Verdict.{taken_entries}
 use Rattle.nvme_model.specs.declared.config.ConfigNumbers.{ConfigNumbers}
 use Rattle.nvme_model.specs.declared.entry.Entry.{Entry}
 use Rattle.nvme_model.specs.declared.entry.FetchLine.{FetchLine}
@@ -31,19 +31,19 @@ module _ (c : ConfigNumbers) (past : Past) (f : FetchLine) (k m : KeptProgress) 
     (legal : IsLegal c (Entry.Fetch f ∷ past)) where
   fetched_flying : (t : ℕ)
       → m.flying t ≡ cond (eqb f.ticket t)
-      (Some (record { queue = f.queue; next = k.fetched f.queue; left = taken f.verdict })) (k.flying t)
+      (Some (record { queue = f.queue; next = k.fetched f.queue; left = taken_entries f.verdict })) (k.flying t)
       → in_flight (Entry.Fetch f ∷ past) t ≡ true → m.flying t ≡ Some (flying_of (Entry.Fetch f ∷ past) t)
   fetched_flying t e i = go (eqb f.ticket t) refl e i
     where
       go : (b : Bool) → eqb f.ticket t ≡ b
           → m.flying t ≡ cond b (Some
-          (record { queue = f.queue; next = k.fetched f.queue; left = taken f.verdict })) (k.flying t)
+          (record { queue = f.queue; next = k.fetched f.queue; left = taken_entries f.verdict })) (k.flying t)
           → ltb (posts_of past t) (length (cond b (fetched_ticket past f.queue f.verdict)
           (Tickets.ticket past t)).commands) ≡ true
           → m.flying t ≡ Some (record {
             queue = (cond b (fetched_ticket past f.queue f.verdict) (Tickets.ticket past t)).queue;
             next = cond b (fetched_count past f.queue) (fetched_before past t) + posts_of past t;
-            left = taken (cond b (fetched_ticket past f.queue f.verdict)
+            left = taken_entries (cond b (fetched_ticket past f.queue f.verdict)
                 (Tickets.ticket past t)).verdict - posts_of past t;
           })
       go false q e i = e ∙ h.flying t i
@@ -52,19 +52,19 @@ module _ (c : ConfigNumbers) (past : Past) (f : FetchLine) (k m : KeptProgress) 
           (omega (arith, eqb-true f.ticket t q, fetch_number c past f legal)) in
           let first : k.fetched f.queue ≡ fetched_count past f.queue + posts_of past t = omega
           (arith, h.fetched f.queue, none) in
-          let left : taken f.verdict ≡ taken f.verdict - posts_of past t = omega (arith, none) in
+          let left : taken_entries f.verdict ≡ taken_entries f.verdict - posts_of past t = omega (arith, none) in
           e ∙ (λ j. Some (record { queue = f.queue; next = first j; left = left j }))
 
   pub fetched : ((q : ℕ) → m.published q ≡ k.published q)
-      → ((q : ℕ) → m.fetched q ≡ k.fetched q + cond (eqb f.queue q) (taken f.verdict) 0)
+      → ((q : ℕ) → m.fetched q ≡ k.fetched q + cond (eqb f.queue q) (taken_entries f.verdict) 0)
       → ((q : ℕ) → m.posted q ≡ k.posted q) → ((q : ℕ) → m.reaped q ≡ k.reaped q)
       → ((t : ℕ) → m.flying t ≡ cond (eqb f.ticket t)
-      (Some (record { queue = f.queue; next = k.fetched f.queue; left = taken f.verdict })) (k.flying t))
+      (Some (record { queue = f.queue; next = k.fetched f.queue; left = taken_entries f.verdict })) (k.flying t))
       → ((q i : ℕ) → m.waiting q i ≡ k.waiting q i) → KnowsProgress c (Entry.Fetch f ∷ past) m
   fetched p e a b g w =
       record {
         published = λ q. p q ∙ h.published q;
-        fetched = λ q. e q ∙ ap (λ (x : ℕ). x + cond (eqb f.queue q) (taken f.verdict) 0) (h.fetched q);
+        fetched = λ q. e q ∙ ap (λ (x : ℕ). x + cond (eqb f.queue q) (taken_entries f.verdict) 0) (h.fetched q);
         posted = λ q. a q ∙ h.posted q;
         reaped = λ q. b q ∙ h.reaped q;
         flying = λ t i. fetched_flying t (g t) i;
@@ -74,15 +74,16 @@ module _ (c : ConfigNumbers) (past : Past) (f : FetchLine) (k m : KeptProgress) 
 -- ---- a Post
 
 -- a ticket has no more commands than its Fetch took
-few_commands : (past : Past) (t : ℕ) → length (Tickets.ticket past t).commands ≤ taken (Tickets.ticket past t).verdict
+few_commands : (past : Past) (t : ℕ)
+    → length (Tickets.ticket past t).commands ≤ taken_entries (Tickets.ticket past t).verdict
 few_commands [] t = omega arith
 few_commands (Entry.Fetch f ∷ past) t = go (eqb f.ticket t) (few_commands past t)
   where
-    go : (b : Bool) → length (Tickets.ticket past t).commands ≤ taken (Tickets.ticket past t).verdict
+    go : (b : Bool) → length (Tickets.ticket past t).commands ≤ taken_entries (Tickets.ticket past t).verdict
         → length (cond b (fetched_ticket past f.queue f.verdict) (Tickets.ticket past t)).commands
-        ≤ taken (cond b (fetched_ticket past f.queue f.verdict) (Tickets.ticket past t)).verdict
+        ≤ taken_entries (cond b (fetched_ticket past f.queue f.verdict) (Tickets.ticket past t)).verdict
     go false ih = ih
-    go true ih = omega (arith, length-take (taken f.verdict) (waiting past f.queue))
+    go true ih = omega (arith, length-take (taken_entries f.verdict) (waiting past f.queue))
 few_commands (Entry.Publish p ∷ past) t = few_commands past t
 few_commands (Entry.Grant p ∷ past) t = few_commands past t
 few_commands (Entry.Block p ∷ past) t = few_commands past t
@@ -138,7 +139,7 @@ module _ (c : ConfigNumbers) (past : Past) (p : PostLine) (k m : KeptProgress) (
           → m.flying t ≡ Some (record {
             queue = (Tickets.ticket past t).queue;
             next = fetched_before past t + (posts_of past t + cond b 1 0);
-            left = taken (Tickets.ticket past t).verdict - (posts_of past t + cond b 1 0);
+            left = taken_entries (Tickets.ticket past t).verdict - (posts_of past t + cond b 1 0);
           })
       go false q e i =
           let same : posts_of past t + 0 ≡ posts_of past t = omega arith in
@@ -146,15 +147,15 @@ module _ (c : ConfigNumbers) (past : Past) (p : PostLine) (k m : KeptProgress) (
           ∙ (λ j. Some (record {
             queue = (Tickets.ticket past t).queue;
             next = fetched_before past t + sym same j;
-            left = taken (Tickets.ticket past t).verdict - sym same j;
+            left = taken_entries (Tickets.ticket past t).verdict - sym same j;
           }))
       go true q e i =
           let more = ltb-true (posts_of past t + 1) (length (Tickets.ticket past t).commands) i in
-          let l = taken (Tickets.ticket past t).verdict - posts_of past t in
+          let l = taken_entries (Tickets.ticket past t).verdict - posts_of past t in
           let some : 1 < l = omega (arith, more, few_commands past t) in
           let next : (fetched_before past t + posts_of past t) + 1 ≡ fetched_before past t +
           (posts_of past t + 1) = omega arith in
-          let left : l - 1 ≡ taken (Tickets.ticket past t).verdict - (posts_of past t + 1) = omega arith in
+          let left : l - 1 ≡ taken_entries (Tickets.ticket past t).verdict - (posts_of past t + 1) = omega arith in
           e ∙ ap (λ (x : ℕ). moved_on (flying_of past x)) (eqb-true p.ticket t q)
           ∙ moved (fetched_before past t + posts_of past t) l some (nat_le l 1) refl
           ∙ (λ j. Some (record { queue = (Tickets.ticket past t).queue; next = next j; left = left j }))

@@ -47,9 +47,9 @@ claim_won k l None = false
 claim_won k l (Some w) = (w.lba == l) && unwrap_or (k.won w.queue (suc w.number)) false
 
 -- the claim is of the release's slot, on a queue that has the same completion queue
-abbrev pub is_beside : ConfigNumbers → Swap → Option Swap → Bool
-is_beside c s None = false
-is_beside c s (Some w) = (w.lba == s.lba) && (completion_queue c w.queue == completion_queue c s.queue)
+abbrev pub is_claim_of_release : ConfigNumbers → Swap → Option Swap → Bool
+is_claim_of_release c s None = false
+is_claim_of_release c s (Some w) = (w.lba == s.lba) && (completion_queue c w.queue == completion_queue c s.queue)
 
 -- It is what is kept of these claims and releases, where r says of which entries success was reaped.
 pub record KnowsNames (r : ℕ → ℕ → Bool) (of : List Swap) (k : KeptNames) : Type 0 where
@@ -63,7 +63,7 @@ believes k l n = claim_won k l (k.claim n) && not (k.released l n)
 
 -- the claim of the release's name is of its slot, on a queue that has the same completion queue
 abbrev pub keeps_queue : ConfigNumbers → KeptNames → Swap → Bool
-keeps_queue c k s = is_beside c s (k.claim s.name)
+keeps_queue c k s = is_claim_of_release c s (k.claim s.name)
 
 -- success wasn't reaped of the second entry of a claim
 abbrev pub AreUnwon : (ℕ → ℕ → Bool) → List Swap → Type 0

@@ -8,12 +8,12 @@ use Rattle.nvme_model.specs.History.{Past}
 use Rattle.nvme_model.specs.Queues.{fetched_count, published_entries}
 use Rattle.nvme_model.specs.Slots.{EntryCompletion, entry_completions, next_number, says_success}
 use Rattle.nvme_model.specs.Tickets.{in_flight, posts_of, ticket}
-use Rattle.nvme_model.specs.Verdict.{taken}
+use Rattle.nvme_model.specs.Verdict.{taken_entries}
 use Rattle.nvme_model.specs.declared.config.ConfigNumbers.{ConfigNumbers}
 use Rattle.slot_check.specs.declared.progress.Completed.{Completed}
 use Rattle.slot_check.specs.declared.progress.Flying.{Flying}
-use Rattle.slot_check.specs.declared.progress.Place.{Place}
-use Rattle.slot_check.specs.declared.progress.Progress.{Progress}
+use Rattle.slot_check.specs.declared.progress.CompletionPlace.{CompletionPlace}
+use Rattle.slot_check.specs.declared.progress.QueueProgress.{QueueProgress}
 
 -- how many entries were published and fetched, by submission queue, and how many completions were posted and reaped,
 -- by
@@ -27,7 +27,7 @@ pub record KeptProgress : Type 0 where
   pub waiting : ℕ → ℕ → Option Completed
 
 -- in these tables
-abbrev pub progress_in : Progress → KeptProgress
+abbrev pub progress_in : QueueProgress → KeptProgress
 progress_in x =
     record {
       published = λ q. unwrap_or (get nat_eq x.published q) 0;
@@ -35,7 +35,7 @@ progress_in x =
       posted = λ q. unwrap_or (get nat_eq x.posted q) 0;
       reaped = λ q. unwrap_or (get nat_eq x.reaped q) 0;
       flying = λ t. get nat_eq x.flying t;
-      waiting = λ q i. get_by (λ (p : Place). (q == p.queue) && (i == p.index)) x.waiting;
+      waiting = λ q i. get_by (λ (p : CompletionPlace). (q == p.queue) && (i == p.index)) x.waiting;
     }
 
 -- what is kept of ticket t: its queue, the number of the entry that its next completion is for, and how many of its
@@ -45,7 +45,7 @@ flying_of past t =
     record {
       queue = (ticket past t).queue;
       next = next_number past t;
-      left = taken (ticket past t).verdict - posts_of past t;
+      left = taken_entries (ticket past t).verdict - posts_of past t;
     }
 
 -- a ticket in flight behind one more completion, if it is in flight still

@@ -8,19 +8,19 @@ use Rattle.nvme_model.specs.declared.config.ConfigNumbers.{ConfigNumbers}
 use Rattle.slot_check.specs.Names.{KeptNames, KnowsNames, names_in}
 use Rattle.slot_check.specs.Progress.{KeptProgress, KnowsProgress, progress_in}
 use Rattle.slot_check.specs.declared.area.AreaCheck.{AreaCheck}
-use Rattle.slot_check.specs.declared.tables.Tables.{Tables}
+use Rattle.slot_check.specs.declared.tables.SlotTables.{SlotTables}
 
 -- what a check of the slots keeps
-pub record Kept : Type 0 where
+pub record SlotCheckState : Type 0 where
   pub progress : KeptProgress
   pub names : KeptNames
 
 -- in these tables
-abbrev pub kept_in : Tables → Kept
-kept_in t = record { progress = progress_in t.progress; names = names_in t.names }
+abbrev pub slot_check_state_in : SlotTables → SlotCheckState
+slot_check_state_in t = record { progress = progress_in t.progress; names = names_in t.names }
 
 -- It is what is kept of this legal history, which keeps the discipline of the area.
-pub record Keeps (c : ConfigNumbers) (area : Range) (past : Past) (k : Kept) : Type 0 where
+pub record IsSlotCheckState (c : ConfigNumbers) (area : Range) (past : Past) (k : SlotCheckState) : Type 0 where
   pub legal : IsLegal c past
   pub disciplined : disciplined c area past ≡ true
   pub progress : KnowsProgress c past k.progress
@@ -30,14 +30,14 @@ pub record Keeps (c : ConfigNumbers) (area : Range) (past : Past) (k : Kept) : T
 pub record AreaState : Type 0 where
   pub config : ConfigNumbers
   pub slots : Range
-  pub kept : Kept
+  pub kept : SlotCheckState
 
 -- of a check
 abbrev pub area_state : AreaCheck → AreaState
-area_state x = record { config = x.config; slots = x.slots; kept = kept_in x.tables }
+area_state x = record { config = x.config; slots = x.slots; kept = slot_check_state_in x.tables }
 
 -- It stands for this legal history, which keeps the discipline of the area.
 pub record Watches (c : ConfigNumbers) (area : Range) (past : Past) (x : AreaState) : Type 0 where
   pub config : x.config ≡ c
   pub slots : x.slots ≡ area
-  pub keeps : Keeps c area past x.kept
+  pub keeps : IsSlotCheckState c area past x.kept

@@ -7,12 +7,12 @@ ghost use Rattle.nvme_model.specs.Slots.{disciplined};
 ghost use Rattle.nvme_model.specs.declared.config.ConfigNumbers.{ConfigNumbers};
 ghost use Rattle.host_laws.specs.Discipline.{keeps_at};
 ghost use Rattle.slot_check.specs.Broken.{discipline_broken};
-ghost use Rattle.slot_check.specs.Watched.{Keeps, Watches, area_state, kept_in};
+ghost use Rattle.slot_check.specs.Watched.{IsSlotCheckState, Watches, area_state, slot_check_state_in};
 
 use crate::broken::BrokenDiscipline;
 use crate::names::Names;
-use crate::progress::Progress;
-use crate::tables::{Tables, take_fetch, take_post, take_publish, take_reap};
+use crate::progress::QueueProgress;
+use crate::tables::{SlotTables, take_fetch, take_post, take_publish, take_reap};
 use history::{Config, Entry};
 use nvme_model::array::Range;
 use std::alloc::{AllocError as NoMemory, Global};
@@ -25,7 +25,7 @@ pub struct AreaCheck {
     alloc: Global,
     config: Config,
     slots: Range,
-    tables: Tables,
+    tables: SlotTables,
 }
 
 // Takes an entry that may follow.
@@ -33,16 +33,17 @@ fn take_entry(
     alloc: Global,
     config: &Config,
     slots: Range,
-    tables: &mut Tables,
+    tables: &mut SlotTables,
     entry: &Entry,
 ) -> Result<Option<BrokenDiscipline>, NoMemory>
-    ensures broken { (past : Past) → Keeps config.now slots past (kept_in tables.old) →
+    ensures broken { (past : Past) → IsSlotCheckState config.now slots past (slot_check_state_in tables.old) →
         IfOk result (λ o. o ≡ discipline_broken config.now slots past entry.now) }
-    ensures kept { (past : Past) → Keeps config.now slots past (kept_in tables.old) →
+    ensures kept { (past : Past) → IsSlotCheckState config.now slots past (slot_check_state_in tables.old) →
         IsLegal config.now (entry.now ∷ past) →
-        IfOk result (λ o. o ≡ None → Keeps config.now slots (entry.now ∷ past) (kept_in tables.new)) }
-    ensures err { (past : Past) → Keeps config.now slots past (kept_in tables.old) →
-        OnErr result (Keeps config.now slots past (kept_in tables.new)) }
+        IfOk result (λ o. o ≡ None
+        → IsSlotCheckState config.now slots (entry.now ∷ past) (slot_check_state_in tables.new)) }
+    ensures err { (past : Past) → IsSlotCheckState config.now slots past (slot_check_state_in tables.old) →
+        OnErr result (IsSlotCheckState config.now slots past (slot_check_state_in tables.new)) }
 {
     match entry {
         Entry::Publish(line) => return take_publish(alloc, config, slots, tables, line),
@@ -64,8 +65,8 @@ impl AreaCheck {
             alloc,
             config: *config,
             slots,
-            tables: Tables {
-                progress: Progress::new(alloc),
+            tables: SlotTables {
+                progress: QueueProgress::new(alloc),
                 names: Names::new(alloc),
             },
         }

@@ -4,9 +4,10 @@ ghost use Rattle.std.specs.Prelude.{IfOk, OnOk, [], bytes_eq, is_some, length, n
 ghost use Rattle.std.specs.Prelude.{◌^◌, ◌||◌, ◌≡◌};
 ghost use Rattle.std.specs.List.{list_any};
 ghost use Rattle.nvme_model.specs.Array.{has_block, overlap, zeros};
-ghost use Rattle.nvme_model.specs.Slots.{in_area, is_pair_on_one, only_swaps, releases, swap_by, swap_of, swaps_in};
+ghost use Rattle.nvme_model.specs.Slots.{in_area, is_pair_on_one, releases, swap_by, swap_of, swaps_in};
 ghost use Rattle.nvme_model.specs.Slots.{touches};
-ghost use Rattle.slot_check.specs.Batch.{fresh_in, release_broken_in, release_wrong_in};
+ghost use Rattle.slot_check.specs.Batch.{claimed_twice_in, release_broken_in, release_wrong_in};
+ghost use Rattle.slot_check.specs.Broken.{first_touched, write_alone};
 ghost use Rattle.slot_check.specs.Names.{claims_name, listed, names_in};
 
 use crate::broken::BrokenDiscipline;
@@ -166,19 +167,33 @@ fn writes_alone(slots: Range, one: &Submission, number: u64, of: &[Swap]) -> boo
     touches(slots, one) && !is_second(of, number)
 }
 
-/// Whether each Write of a batch that touches an area is the second of one of these claims and releases.
-pub fn only_swaps(slots: Range, queue: u16, first: u64, batch: &[Submission], of: &[Swap]) -> bool
+// The first block of an area that an entry touches, where it touches it.
+fn first_touched(slots: Range, one: &Submission) -> u64
+    ensures value { result ≡ first_touched slots one.now }
+{
+    decode_sqe(&one.entry).slba().max(slots.slba)
+}
+
+/// The first Write of a batch that touches an area and is no second of one of these claims and releases, by the first
+/// block of the area that it touches.
+pub fn write_alone(
+    slots: Range,
+    queue: u16,
+    first: u64,
+    batch: &[Submission],
+    of: &[Swap],
+) -> Option<u64>
     requires room { first + length batch.now < 2 ^ 64 }
-    ensures value { result ≡ only_swaps slots queue first batch.now of.now }
+    ensures value { result ≡ write_alone slots queue first batch.now of.now }
 {
     let _ = queue;
     for place in 0..batch.len() {
         let number = first + place as u64;
         if writes_alone(slots, &batch[place], number, of) {
-            return false;
+            return Some(first_touched(slots, &batch[place]));
         }
     }
-    true
+    None
 }
 
 // Whether one of these claims this name.
@@ -196,16 +211,16 @@ fn is_repeated(names: &Names, swap: Swap, later: &[Swap]) -> bool
     swap.claims() && (is_named(later, swap.name()) || names.claim(swap.name()).is_some())
 }
 
-/// Whether no name is in two of these claims, or in one of them and one that was published.
-pub fn is_fresh(names: &Names, of: &[Swap]) -> bool
-    ensures value { result ≡ fresh_in (names_in names.now) of.now }
+/// The first of these claims whose name is in another of them or in one that was published, by its block.
+pub fn claimed_twice(names: &Names, of: &[Swap]) -> Option<u64>
+    ensures value { result ≡ claimed_twice_in (names_in names.now) of.now }
 {
     for place in 0..of.len() {
         if is_repeated(names, of[place], &of[place + 1..]) {
-            return false;
+            return Some(of[place].lba());
         }
     }
-    true
+    None
 }
 
 // Whether one of these releases this name of the slot at this block.
@@ -228,10 +243,10 @@ fn release_wrong(
         return None;
     }
     if !names.believes(swap.lba(), swap.name()) || is_given_up(earlier, swap.lba(), swap.name()) {
-        return Some(BrokenDiscipline::Unbelieved);
+        return Some(BrokenDiscipline::Unbelieved(swap.lba()));
     }
     if !names.keeps_queue(config, &swap) {
-        return Some(BrokenDiscipline::OtherQueue);
+        return Some(BrokenDiscipline::OtherQueue(swap.lba()));
     }
     None
 }

@@ -37,7 +37,7 @@ pub struct Completed {
 
 /// A place in a completion queue, counted from 0 and never reused.
 #[derive(Clone, Copy, Debug, Drop, PartialEq, Eq, Hash)]
-pub struct Place {
+pub struct CompletionPlace {
     pub queue: u16,
     pub index: u64,
 }
@@ -45,7 +45,7 @@ pub struct Place {
 /// How far the queues and the tickets have come. Nothing is kept of a ticket behind its last completion, nor of a
 /// completion that was reaped.
 #[derive(Drop)]
-pub struct Progress {
+pub struct QueueProgress {
     /// Entries, by submission queue.
     pub published: HashMap<u16, u64>,
     /// The same.
@@ -57,7 +57,7 @@ pub struct Progress {
     /// By ticket.
     pub flying: HashMap<u64, Flying>,
     /// The completions that weren't reaped yet.
-    pub waiting: HashMap<Place, Completed>,
+    pub waiting: HashMap<CompletionPlace, Completed>,
 }
 
 // How many are counted of a queue.
@@ -90,12 +90,12 @@ fn says_success(cqe: &[u8; 16]) -> bool
     LittleEndian::read_u16(&cqe[14..16]) / 2 == 0
 }
 
-impl Progress {
+impl QueueProgress {
     /// No step was made.
-    pub fn new(alloc: Global) -> Progress
+    pub fn new(alloc: Global) -> QueueProgress
         ensures knows { (c : ConfigNumbers) → KnowsProgress c [] (progress_in result) }
     {
-        Progress {
+        QueueProgress {
             published: HashMap::new(alloc),
             fetched: HashMap::new(alloc),
             posted: HashMap::new(alloc),
@@ -193,7 +193,10 @@ impl Progress {
             number: flying.next,
             success,
         };
-        let Ok(_) = self.waiting.insert(Place { queue, index }, completed) else {
+        let Ok(_) = self
+            .waiting
+            .insert(CompletionPlace { queue, index }, completed)
+        else {
             unreachable!();
         };
         if flying.left <= 1 {
@@ -246,7 +249,7 @@ impl Progress {
     {
         let index = count_of(&self.reaped, line.queue);
         add_count(&mut self.reaped, line.queue, 1)?;
-        let place = Place {
+        let place = CompletionPlace {
             queue: line.queue,
             index,
         };

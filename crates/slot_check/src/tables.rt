@@ -1,21 +1,19 @@
 //! What a check of the slots keeps, and what a Publish and a Reap make of it.
 
-ghost use Rattle.std.specs.Prelude.{IfOk, None, OnErr, OnOk, Some, [], if◌then◌else◌, length, ◌+◌, ◌<◌, ◌^◌, ◌∷◌, ◌≡◌};
+ghost use Rattle.std.specs.Prelude.{IfOk, None, OnErr, OnOk, [], length, ◌+◌, ◌<◌, ◌^◌, ◌∷◌, ◌≡◌};
 ghost use Rattle.nvme_model.specs.History.{Past};
 ghost use Rattle.nvme_model.specs.Legal.{IsLegal};
-ghost use Rattle.nvme_model.specs.Slots.{only_swaps};
 ghost use Rattle.nvme_model.specs.declared.config.ConfigNumbers.{ConfigNumbers};
 ghost use Rattle.nvme_model.specs.declared.entry.Entry.{Entry};
-ghost use Rattle.slot_check.specs.Batch.{fresh_in, release_broken_in};
-ghost use Rattle.slot_check.specs.Broken.{discipline_broken};
+ghost use Rattle.slot_check.specs.Batch.{claimed_twice_in, release_broken_in};
+ghost use Rattle.slot_check.specs.Broken.{broken_by, discipline_broken, write_alone};
 ghost use Rattle.slot_check.specs.Names.{names_in};
-ghost use Rattle.slot_check.specs.Watched.{Keeps, kept_in};
-ghost use Rattle.slot_check.specs.declared.broken.BrokenDiscipline.TheVariants.{ClaimedTwice, NoSwap};
+ghost use Rattle.slot_check.specs.Watched.{IsSlotCheckState, slot_check_state_in};
 
-use crate::batch::{is_fresh, only_swaps, release_broken, swaps_in_area};
+use crate::batch::{claimed_twice, release_broken, swaps_in_area, write_alone};
 use crate::broken::BrokenDiscipline;
 use crate::names::Names;
-use crate::progress::Progress;
+use crate::progress::QueueProgress;
 use crate::swap::Swap;
 use history::Config;
 use nvme_model::array::Range;
@@ -25,8 +23,8 @@ use std::alloc::{AllocError as NoMemory, Global};
 
 /// What a check of the slots keeps.
 #[derive(Drop)]
-pub struct Tables {
-    pub progress: Progress,
+pub struct SlotTables {
+    pub progress: QueueProgress,
     pub names: Names,
 }
 
@@ -41,15 +39,14 @@ fn judge_batch(
     of: &[Swap],
 ) -> Option<BrokenDiscipline>
     requires room { first + length batch.now < 2 ^ 64 }
-    ensures value { result ≡ (if only_swaps slots queue first batch.now of.now
-        then (if fresh_in (names_in names.now) of.now
-        then release_broken_in config.now (names_in names.now) [] of.now else Some ClaimedTwice) else Some NoSwap) }
+    ensures value { result ≡ broken_by (write_alone slots queue first batch.now of.now)
+        (claimed_twice_in (names_in names.now) of.now) (release_broken_in config.now (names_in names.now) [] of.now) }
 {
-    if !only_swaps(slots, queue, first, batch, of) {
-        return Some(BrokenDiscipline::NoSwap);
+    if let Some(lba) = write_alone(slots, queue, first, batch, of) {
+        return Some(BrokenDiscipline::NoSwap(lba));
     }
-    if !is_fresh(names, of) {
-        return Some(BrokenDiscipline::ClaimedTwice);
+    if let Some(lba) = claimed_twice(names, of) {
+        return Some(BrokenDiscipline::ClaimedTwice(lba));
     }
     release_broken(config, names, of)
 }
@@ -63,16 +60,17 @@ pub fn take_publish(
     alloc: Global,
     config: &Config,
     slots: Range,
-    tables: &mut Tables,
+    tables: &mut SlotTables,
     line: &PublishLine,
 ) -> Result<Option<BrokenDiscipline>, NoMemory>
-    ensures broken { (past : Past) → Keeps config.now slots past (kept_in tables.old) →
+    ensures broken { (past : Past) → IsSlotCheckState config.now slots past (slot_check_state_in tables.old) →
         IfOk result (λ o. o ≡ discipline_broken config.now slots past (Entry.Publish line.now)) }
-    ensures kept { (past : Past) → Keeps config.now slots past (kept_in tables.old) →
+    ensures kept { (past : Past) → IsSlotCheckState config.now slots past (slot_check_state_in tables.old) →
         IsLegal config.now (Entry.Publish line.now ∷ past) →
-        IfOk result (λ o. o ≡ None → Keeps config.now slots (Entry.Publish line.now ∷ past) (kept_in tables.new)) }
-    ensures err { (past : Past) → Keeps config.now slots past (kept_in tables.old) →
-        OnErr result (Keeps config.now slots past (kept_in tables.new)) }
+        IfOk result (λ o. o ≡ None
+        → IsSlotCheckState config.now slots (Entry.Publish line.now ∷ past) (slot_check_state_in tables.new)) }
+    ensures err { (past : Past) → IsSlotCheckState config.now slots past (slot_check_state_in tables.old) →
+        OnErr result (IsSlotCheckState config.now slots past (slot_check_state_in tables.new)) }
 {
     let first = tables.progress.published(line.queue);
     let batch = line.batch.as_slice();
@@ -96,12 +94,14 @@ pub fn take_publish(
 /// # Errors
 ///
 /// `NoMemory` where a growth is refused; what was kept is still kept.
-pub fn take_reap(tables: &mut Tables, line: &ReapLine) -> Result<(), NoMemory>
-    ensures kept { (c : ConfigNumbers) (area : Range) (past : Past) → Keeps c area past (kept_in tables.old) →
+pub fn take_reap(tables: &mut SlotTables, line: &ReapLine) -> Result<(), NoMemory>
+    ensures kept { (c : ConfigNumbers) (area : Range) (past : Past)
+        → IsSlotCheckState c area past (slot_check_state_in tables.old) →
         IsLegal c (Entry.Reap line.now ∷ past) →
-        OnOk result (Keeps c area (Entry.Reap line.now ∷ past) (kept_in tables.new)) }
-    ensures err { (c : ConfigNumbers) (area : Range) (past : Past) → Keeps c area past (kept_in tables.old) →
-        OnErr result (Keeps c area past (kept_in tables.new)) }
+        OnOk result (IsSlotCheckState c area (Entry.Reap line.now ∷ past) (slot_check_state_in tables.new)) }
+    ensures err { (c : ConfigNumbers) (area : Range) (past : Past)
+        → IsSlotCheckState c area past (slot_check_state_in tables.old) →
+        OnErr result (IsSlotCheckState c area past (slot_check_state_in tables.new)) }
 {
     let Some(completed) = tables.progress.reap(line)? else {
         return Ok(());
@@ -117,12 +117,14 @@ pub fn take_reap(tables: &mut Tables, line: &ReapLine) -> Result<(), NoMemory>
 /// # Errors
 ///
 /// `NoMemory` where a growth is refused; what was kept is still kept.
-pub fn take_fetch(tables: &mut Tables, line: &FetchLine) -> Result<(), NoMemory>
-    ensures kept { (c : ConfigNumbers) (area : Range) (past : Past) → Keeps c area past (kept_in tables.old) →
+pub fn take_fetch(tables: &mut SlotTables, line: &FetchLine) -> Result<(), NoMemory>
+    ensures kept { (c : ConfigNumbers) (area : Range) (past : Past)
+        → IsSlotCheckState c area past (slot_check_state_in tables.old) →
         IsLegal c (Entry.Fetch line.now ∷ past) →
-        OnOk result (Keeps c area (Entry.Fetch line.now ∷ past) (kept_in tables.new)) }
-    ensures err { (c : ConfigNumbers) (area : Range) (past : Past) → Keeps c area past (kept_in tables.old) →
-        OnErr result (Keeps c area past (kept_in tables.new)) }
+        OnOk result (IsSlotCheckState c area (Entry.Fetch line.now ∷ past) (slot_check_state_in tables.new)) }
+    ensures err { (c : ConfigNumbers) (area : Range) (past : Past)
+        → IsSlotCheckState c area past (slot_check_state_in tables.old) →
+        OnErr result (IsSlotCheckState c area past (slot_check_state_in tables.new)) }
 {
     tables.progress.fetch(line)?;
     Ok(())
@@ -133,12 +135,14 @@ pub fn take_fetch(tables: &mut Tables, line: &FetchLine) -> Result<(), NoMemory>
 /// # Errors
 ///
 /// `NoMemory` where a growth is refused; what was kept is still kept.
-pub fn take_post(config: &Config, tables: &mut Tables, line: &PostLine) -> Result<(), NoMemory>
-    ensures kept { (area : Range) (past : Past) → Keeps config.now area past (kept_in tables.old) →
+pub fn take_post(config: &Config, tables: &mut SlotTables, line: &PostLine) -> Result<(), NoMemory>
+    ensures kept { (area : Range) (past : Past)
+        → IsSlotCheckState config.now area past (slot_check_state_in tables.old) →
         IsLegal config.now (Entry.Post line.now ∷ past) →
-        OnOk result (Keeps config.now area (Entry.Post line.now ∷ past) (kept_in tables.new)) }
-    ensures err { (area : Range) (past : Past) → Keeps config.now area past (kept_in tables.old) →
-        OnErr result (Keeps config.now area past (kept_in tables.new)) }
+        OnOk result (IsSlotCheckState config.now area (Entry.Post line.now ∷ past) (slot_check_state_in tables.new)) }
+    ensures err { (area : Range) (past : Past)
+        → IsSlotCheckState config.now area past (slot_check_state_in tables.old) →
+        OnErr result (IsSlotCheckState config.now area past (slot_check_state_in tables.new)) }
 {
     tables.progress.post(config, line)?;
     Ok(())

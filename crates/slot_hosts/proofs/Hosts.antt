@@ -23,7 +23,7 @@ use Rattle.driver_cas.specs.Ports.{steps_of, view_of}
 use Rattle.driver_cas.specs.declared.shared_port.SharedPort.{SharedPort}
 use Rattle.meet_lock.specs.Lock.{AreOfPasses}
 use Rattle.meet_lock.specs.Passes.{config_of, mine, number, seen}
-use Rattle.slot_calls.specs.Careful.{is_careful}
+use Rattle.slot_calls.specs.SlotRules.{keeps_slot_rules}
 use Rattle.slot_hosts.specs.Rosters.{Roster, all_in_place, is_in_place, keeps_to}
 use Rattle.serving_laws.specs.Servers.{is_serving, serves}
 
@@ -104,14 +104,14 @@ own_entries c n p (m ∷ shared) e =
 
 -- ---- one driver
 
--- What is known of the port of a careful driver that was made when it had seen nothing, and of a beginning of what it
--- has seen in which all stands that its pass did.
+-- What is known of the port of a driver that keeps the rules of slots and was made when it had seen nothing, and of a
+-- beginning of what it has seen in which all stands that its pass did.
 pub record PortIn (slots : Range) (host last : ℕ) (began now : SharedPort) (met : SharedPast) : Type 0 where
   pub legal : IsLegal (config_of now.pass) (entries (seen now.pass))
   pub first : seen began.pass ≡ []
   pub counted : steps_of now + length (log_of (view_of began)) ≡ steps_of began + length (log_of (view_of now))
   pub tidy : is_tidy (since (log_of (view_of began)) (log_of (view_of now))) ≡ true
-  pub careful : is_careful slots host last (since (log_of (view_of began)) (log_of (view_of now))) ≡ true
+  pub slot_rules : keeps_slot_rules slots host last (since (log_of (view_of began)) (log_of (view_of now))) ≡ true
   pub begins : IsBeginning met (seen now.pass)
   pub whole : places (number now.pass) met ≡ mine now.pass
 
@@ -157,8 +157,8 @@ module _ (slots : Range) (host last : ℕ) (began now : SharedPort) (met : Share
   pub met_tidy : is_tidy (events_in now met) ≡ true
   met_tidy = ap is_tidy (sym made_log) ∙ x.tidy
 
-  pub met_careful : is_careful slots host last (events_in now met) ≡ true
-  met_careful = ap (is_careful slots host last) (sym made_log) ∙ x.careful
+  pub met_slot_rules : keeps_slot_rules slots host last (events_in now met) ≡ true
+  met_slot_rules = ap (keeps_slot_rules slots host last) (sym made_log) ∙ x.slot_rules
 
 -- ---- many passes
 

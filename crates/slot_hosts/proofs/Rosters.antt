@@ -1,4 +1,5 @@
--- Drivers that share a history, each careful by what it did itself, keep the discipline together.
+-- Drivers that share a history, each of which keeps the rules of slots by what it did itself, keep the discipline
+-- together.
 use Rattle.std.proofs.Common.{Bool, List, [], ap, cond, eq-eqb, eqb, eqb-true, false, inl, inr, length, not, refl, sym}
 use Rattle.std.proofs.Common.{true, ℕ, ◌+◌, ◌++◌, ◌||◌, ◌∙◌, ◌∷◌, ◌≡◌}
 use Rattle.std.specs.List.{filter, list_all}
@@ -31,25 +32,26 @@ use Rattle.driver_calls.specs.Views.{log_of}
 use Rattle.driver_calls.specs.declared.event.PortEvent.{PortEvent}
 use Rattle.driver_calls.proofs.Logs.{tidy_before}
 use Rattle.driver_calls.proofs.Views.{since_none}
-use Rattle.slot_calls.specs.Careful.{are_careful, is_careful, is_careful_batch, serials_below}
+use Rattle.slot_calls.specs.SlotRules.{each_keeps_slot_rules, keeps_slot_rules, batch_keeps_slot_rules, serials_below}
 use Rattle.slot_calls.specs.Hosts.{IsSlotView, elsewhere_keeps}
 use Rattle.slot_calls.specs.Swaps.{log_believed, log_swaps}
-use Rattle.slot_calls.proofs.Careful.{careful_parts, is_below}
+use Rattle.slot_calls.proofs.SlotRules.{slot_rules_parts, is_below}
 use Rattle.slot_calls.proofs.Claiming.{claimed_host}
-use Rattle.slot_calls.proofs.Keeping.{careful_disciplined}
+use Rattle.slot_calls.proofs.Keeping.{slot_rules_disciplined}
 use Rattle.slot_calls.proofs.Knowing.{Knows, log_knows}
 use Rattle.slot_calls.proofs.Meeting.{other_queues}
 use Rattle.serving_laws.specs.Servers.{is_serving}
-use Rattle.slot_hosts.specs.Rosters.{IsRosterOf, Roster, all_in_place, is_in_place, port_of}
+use Rattle.slot_hosts.specs.Rosters.{IsRosterOf, Roster, all_in_place, is_in_place, view_of_pass}
 
--- ---- a careful log without its newest events
+-- ---- a log that keeps the rules, without its newest events
 
-each_before : (slots : Range) (host : ℕ) (xs log : List PortEvent) → are_careful slots host (xs ++ log) ≡ true
-    → are_careful slots host log ≡ true
+each_before : (slots : Range) (host : ℕ) (xs log : List PortEvent) → each_keeps_slot_rules slots host (xs ++ log) ≡ true
+    → each_keeps_slot_rules slots host log ≡ true
 each_before slots host [] log h = h
 each_before slots host (PortEvent.Sent q batch ∷ xs) log h =
     each_before slots host xs log
-    (and_parts (are_careful slots host (xs ++ log)) (is_careful_batch slots host (xs ++ log) q batch) h).0
+    (and_parts (each_keeps_slot_rules slots host (xs ++ log))
+    (batch_keeps_slot_rules slots host (xs ++ log) q batch) h).0
 each_before slots host (PortEvent.Got cqe payload ∷ xs) log h = each_before slots host xs log h
 
 serials_before : (slots : Range) (serial : ℕ) (xs log : List PortEvent) → serials_below slots serial (xs ++ log) ≡ true
@@ -65,11 +67,12 @@ serials_before slots serial (PortEvent.Sent q batch ∷ xs) log h =
     (sym parted ∙ h)).1
 serials_before slots serial (PortEvent.Got cqe payload ∷ xs) log h = serials_before slots serial xs log h
 
-pub careful_back : (slots : Range) (host last : ℕ) (xs log : List PortEvent)
-    → is_careful slots host last (xs ++ log) ≡ true → is_careful slots host last log ≡ true
-careful_back slots host last xs log h =
-    let a = careful_parts slots host last (xs ++ log) h in
-    and_from (are_careful slots host log) (serials_below slots (last + 1) log) (each_before slots host xs log a.each)
+pub slot_rules_back : (slots : Range) (host last : ℕ) (xs log : List PortEvent)
+    → keeps_slot_rules slots host last (xs ++ log) ≡ true → keeps_slot_rules slots host last log ≡ true
+slot_rules_back slots host last xs log h =
+    let a = slot_rules_parts slots host last (xs ++ log) h in
+    and_from (each_keeps_slot_rules slots host log) (serials_below slots (last + 1) log)
+    (each_before slots host xs log a.each)
     (serials_before slots (last + 1) xs log a.below)
 
 -- so the roster of a history is that of each beginning
@@ -85,7 +88,7 @@ shorter c slots r m shared x =
           let a = x.drivers p d in
           record {
             tidy = tidy_before new log a.tidy;
-            careful = careful_back slots (r.host p) (r.last p) new log a.careful;
+            slot_rules = slot_rules_back slots (r.host p) (r.last p) new log a.slot_rules;
           };
       queues = x.queues;
       hosts = x.hosts;
@@ -204,7 +207,8 @@ own_number c slots r p shared d x =
         let o = owned c r shared w x.in_place there in
         let log = events c (r.queue o.pass) o.pass shared in
         let here = (knows c slots r o.pass shared o.drives x).known w there o.queue in
-        let each = (careful_parts slots (r.host o.pass) (r.last o.pass) log (x.drivers o.pass o.drives).careful).each in
+        let each = (slot_rules_parts slots (r.host o.pass) (r.last o.pass) log
+        (x.drivers o.pass o.drives).slot_rules).each in
         o.queue ∙ ap r.queue (x.hosts o.pass p o.drives d
         (sym (claimed_host slots (r.host o.pass) log w each here claims inside) ∙ e))
 
@@ -260,13 +264,13 @@ newest_keeps c slots r m shared x kept =
         → disciplined c slots (m.1 ∷ entries shared) ≡ true
     go true z h =
         let log = events c (r.queue m.0) m.0 (m ∷ shared) in
-        careful_disciplined c (r.queue m.0) m.0 slots (r.host m.0) (m ∷ shared) x.legal
+        slot_rules_disciplined c (r.queue m.0) m.0 slots (r.host m.0) (m ∷ shared) x.legal
         (sole c r m.0 (m ∷ shared) z x.queues x.in_place) (x.drivers m.0 z).tidy
         (and_from (elsewhere_keeps c slots (r.queue m.0) (entries shared)) _
         (elsewhere c slots (r.queue m.0) (entries shared) kept)
         (or_left (not (is_beside c (r.queue m.0) m.1)) (keeps_at c slots (entries shared) m.1) h))
         (own_number c slots r m.0 (m ∷ shared) z x)
-        (careful_parts slots (r.host m.0) (r.last m.0) log (x.drivers m.0 z).careful).each
+        (slot_rules_parts slots (r.host m.0) (r.last m.0) log (x.drivers m.0 z).slot_rules).each
     go false z h = serving_keeps c slots m.1 (entries shared) h kept
 
 pub all_keep : (c : ConfigNumbers) (slots : Range) (r : Roster) (shared : SharedPast) → IsRosterOf c slots r shared
@@ -278,7 +282,8 @@ all_keep c slots r (m ∷ shared) x =
 -- ---- the premises of a host
 
 pub slot_view : (c : ConfigNumbers) (slots : Range) (r : Roster) (shared : SharedPast) (p : ℕ)
-    → IsRosterOf c slots r shared → r.drives p ≡ true → IsSlotView [] slots (r.host p) (r.last p) (port_of c r shared p)
+    → IsRosterOf c slots r shared → r.drives p ≡ true
+    → IsSlotView [] slots (r.host p) (r.last p) (view_of_pass c r shared p)
 slot_view c slots r shared p x d =
     let log = events c (r.queue p) p shared in
     record {
@@ -289,20 +294,21 @@ slot_view c slots r shared p x d =
         own_number = own_number c slots r p shared d x;
       };
       tidy = ap is_tidy (since_none log) ∙ (x.drivers p d).tidy;
-      careful = ap (is_careful slots (r.host p) (r.last p)) (since_none log) ∙ (x.drivers p d).careful;
+      slot_rules = ap (keeps_slot_rules slots (r.host p) (r.last p)) (since_none log) ∙ (x.drivers p d).slot_rules;
     }
 
 -- no two drivers believe one slot
 pub one_believes : (c : ConfigNumbers) (slots : Range) (r : Roster) (shared : SharedPast) (p q l : ℕ) (n m : Name)
     → IsRosterOf c slots r shared → r.drives p ≡ true → r.drives q ≡ true → has_block slots l ≡ true
-    → log_believed (log_of (port_of c r shared p)) l n ≡ true → log_believed (log_of (port_of c r shared q)) l m ≡ true
+    → log_believed (log_of (view_of_pass c r shared p)) l n ≡ true
+    → log_believed (log_of (view_of_pass c r shared q)) l m ≡ true
     → p ≡ q
 one_believes c slots r shared p q l n m x d e v b k = elim (cases_Bool (eqb p q)) [
   | inl same ↦ eqb-true p q same
-  | inr apart ↦ absurd (other_queues [] [] slots (r.host p) (r.last p) (r.host q) (r.last q) (port_of c r shared p)
-      (port_of c r shared q) l n m
+  | inr apart ↦ absurd (other_queues [] [] slots (r.host p) (r.last p) (r.host q) (r.last q) (view_of_pass c r shared p)
+      (view_of_pass c r shared q) l n m
       (slot_view c slots r shared p x d) (slot_view c slots r shared q x e) refl refl v
-      (ap (λ (log : List PortEvent). log_believed log l n) (since_none (log_of (port_of c r shared p))) ∙ b)
-      (ap (λ (log : List PortEvent). log_believed log l m) (since_none (log_of (port_of c r shared q))) ∙ k)
+      (ap (λ (log : List PortEvent). log_believed log l n) (since_none (log_of (view_of_pass c r shared p))) ∙ b)
+      (ap (λ (log : List PortEvent). log_believed log l m) (since_none (log_of (view_of_pass c r shared q))) ∙ k)
       (λ f. eqb-false p q apart (x.queues p q d e f)))
 ]

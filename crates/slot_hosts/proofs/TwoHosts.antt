@@ -20,11 +20,11 @@ use Rattle.driver_cas.specs.Ports.{view_of}
 use Rattle.driver_cas.specs.declared.shared_port.SharedPort.{SharedPort}
 use Rattle.meet_lock.specs.Lock.{AreOfPasses}
 use Rattle.meet_lock.specs.Passes.{config_of, number}
-use Rattle.slot_calls.specs.Careful.{is_careful}
+use Rattle.slot_calls.specs.SlotRules.{keeps_slot_rules}
 use Rattle.slot_calls.specs.Swaps.{log_believed}
 use Rattle.slot_hosts.specs.Rosters.{IsRosterOf, Roster, is_in_place}
 use Rattle.serving_laws.specs.Servers.{is_serving, serves}
-use Rattle.slot_hosts.proofs.Hosts.{PortIn, every_from, every_in, is_own, made_log, met_careful, met_legal, met_own}
+use Rattle.slot_hosts.proofs.Hosts.{PortIn, every_from, every_in, is_own, made_log, met_slot_rules, met_legal, met_own}
 use Rattle.slot_hosts.proofs.Hosts.{met_tidy, numbered}
 use Rattle.slot_hosts.proofs.Rosters.{one_believes}
 
@@ -66,8 +66,8 @@ record Two (c : ConfigNumbers) (slots : Range) (p q n m ha hb la lb : ℕ) (met 
   own_too : list_all (is_own c m q) met ≡ true
   tidy : is_tidy (events c n p met) ≡ true
   tidy_too : is_tidy (events c m q met) ≡ true
-  careful : is_careful slots ha la (events c n p met) ≡ true
-  careful_too : is_careful slots hb lb (events c m q met) ≡ true
+  slot_rules : keeps_slot_rules slots ha la (events c n p met) ≡ true
+  slot_rules_too : keeps_slot_rules slots hb lb (events c m q met) ≡ true
   hosts : ha ≡ hb → ⊥
   queues : n ≡ m → ⊥
   others : (x : ℕ × Entry) → In x met → (eqb x.0 p || eqb x.0 q || is_serving x.1) ≡ true
@@ -89,23 +89,23 @@ is_roster c slots p q n m ha hb la lb met x =
       in_place = every_from (λ e. is_in_place c (roster p q n m ha hb la lb) e.0 e.1) met (λ e i.
           in_place_at c n m e.1 (eqb e.0 p) (eqb e.0 q) (every_in (is_own c n p) met e x.own i)
           (every_in (is_own c m q) met e x.own_too i) (x.others e i));
-      drivers = λ k d. let t = each k (eqb k p) refl d in record { tidy = t.0; careful = t.1 };
+      drivers = λ k d. let t = each k (eqb k p) refl d in record { tidy = t.0; slot_rules = t.1 };
       queues = picks_apart p q n m x.queues;
       hosts = picks_apart p q ha hb x.hosts;
     }
   where
     each : (k : ℕ) (b : Bool) → eqb k p ≡ b → (b || eqb k q) ≡ true
         → (is_tidy (events c (cond b n m) k met) ≡ true)
-        × (is_careful slots (cond b ha hb) (cond b la lb) (events c (cond b n m) k met) ≡ true)
+        × (keeps_slot_rules slots (cond b ha hb) (cond b la lb) (events c (cond b n m) k met) ≡ true)
     each k true z d =
         let e = sym (eqb-true k p z) in (
           subst (λ (j : ℕ). is_tidy (events c n j met) ≡ true) e x.tidy,
-          subst (λ (j : ℕ). is_careful slots ha la (events c n j met) ≡ true) e x.careful,
+          subst (λ (j : ℕ). keeps_slot_rules slots ha la (events c n j met) ≡ true) e x.slot_rules,
         )
     each k false z d =
         let e = sym (eqb-true k q d) in (
           subst (λ (j : ℕ). is_tidy (events c m j met) ≡ true) e x.tidy_too,
-          subst (λ (j : ℕ). is_careful slots hb lb (events c m j met) ≡ true) e x.careful_too,
+          subst (λ (j : ℕ). keeps_slot_rules slots hb lb (events c m j met) ≡ true) e x.slot_rules_too,
         )
 
 -- they never both believe one slot
@@ -159,9 +159,9 @@ never_both slots passes ha hb la lb began a start b met l name other x y z hosts
       tidy = met_tidy slots ha la began a met x;
       tidy_too = subst (λ (d : ConfigNumbers). is_tidy (events d n q met) ≡ true) z.config
           (met_tidy slots hb lb start b met y);
-      careful = met_careful slots ha la began a met x;
-      careful_too = subst (λ (d : ConfigNumbers). is_careful slots hb lb (events d n q met) ≡ true) z.config
-          (met_careful slots hb lb start b met y);
+      slot_rules = met_slot_rules slots ha la began a met x;
+      slot_rules_too = subst (λ (d : ConfigNumbers). keeps_slot_rules slots hb lb (events d n q met) ≡ true) z.config
+          (met_slot_rules slots hb lb start b met y);
       hosts = hosts;
       queues = z.queues;
       others = λ e i. let bounds = numbered passes met e z.of_passes i in

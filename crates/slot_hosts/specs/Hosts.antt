@@ -10,26 +10,26 @@ use Rattle.driver_cas.specs.Ports.{view_of}
 use Rattle.driver_cas.specs.declared.driver.Driver.{Driver}
 use Rattle.driver_cas.specs.declared.port.Port.{Ghosts}
 use Rattle.driver_cas.specs.declared.shared_port.SharedPort.{SharedPort}
-use Rattle.slot_alloc.specs.Careful.{IsCareful}
+use Rattle.slot_alloc.specs.SlotRules.{KeepsSlotRules}
 use Rattle.serving_laws.specs.Servers.{serves}
 
 module _ {g : Ghosts SharedPort} where
-  -- A careful driver whose port had seen nothing when the driver was made, of this configuration and slot area, with
-  -- these numbers: of its port's pass, of its completion queue, and of its host.
+  -- A driver that keeps the rules of slots, whose port had seen nothing when the driver was made, of this configuration
+  -- and slot area, with these numbers: of its port's pass, of its completion queue, and of its host.
   pub record IsHost (c : ConfigNumbers) (slots : Range) (pass queue host : ℕ) (d : Driver SharedPort g) : Type 0 where
     pub first : seen d.began.value.pass ≡ []
-    pub careful : IsCareful d
+    pub slot_rules : KeepsSlotRules d
     pub config : (view_of d.port).config ≡ c
     pub area : area_of d ≡ slots
     pub pass_is : (view_of d.port).pass ≡ pass
     pub queue_is : (view_of d.port).queue ≡ queue
     pub host_is : host_of d ≡ host
 
-  -- Its port had seen nothing when the driver was made; it is careful; and it has seen this history and maybe more, in
-  -- which all stands that its port's pass did.
+  -- Its port had seen nothing when the driver was made; it keeps the rules of slots; and it has seen this history and
+  -- maybe more, in which all stands that its port's pass did.
   pub record IsHostIn (d : Driver SharedPort g) (met : SharedPast) : Type 0 where
     pub first : seen d.began.value.pass ≡ []
-    pub careful : IsCareful d
+    pub slot_rules : KeepsSlotRules d
     pub begins : IsBeginning met (view_of d.port).seen
     pub whole : places (view_of d.port).pass met ≡ mine d.port.pass
 

@@ -10,7 +10,7 @@ use Rattle.host_laws.specs.Beside.{is_beside}
 use Rattle.driver_calls.specs.Events.{events}
 use Rattle.driver_calls.specs.Log.{is_tidy}
 use Rattle.driver_calls.specs.Views.{PortView}
-use Rattle.slot_calls.specs.Careful.{is_careful}
+use Rattle.slot_calls.specs.SlotRules.{keeps_slot_rules}
 use Rattle.serving_laws.specs.Servers.{is_serving}
 
 -- By the number of a pass: whether it is the pass of a driver's port; and if so the completion queue of that port, the
@@ -33,20 +33,21 @@ keeps_to c n p shared = list_all (λ m. not (m.0 == p) || not (is_beside c n m.1
 abbrev pub all_in_place : ConfigNumbers → Roster → SharedPast → Bool
 all_in_place c r shared = list_all (λ m. is_in_place c r m.0 m.1) shared
 
--- What pass p did for its driver: each of its batches was under free CIDs, and careful.
-pub record IsCarefulPass (c : ConfigNumbers) (slots : Range) (r : Roster) (p : ℕ) (shared : SharedPast) : Type 0 where
+-- What pass p did for its driver: each of its batches was under free CIDs, and kept the rules of slots.
+pub record PassKeepsSlotRules (c : ConfigNumbers) (slots : Range) (r : Roster) (p : ℕ)
+    (shared : SharedPast) : Type 0 where
   pub tidy : is_tidy (events c (r.queue p) p shared) ≡ true
-  pub careful : is_careful slots (r.host p) (r.last p) (events c (r.queue p) p shared) ≡ true
+  pub slot_rules : keeps_slot_rules slots (r.host p) (r.last p) (events c (r.queue p) p shared) ≡ true
 
--- The history is that of these drivers, each careful by what it did itself, and of servers. No two drivers have one
--- completion queue, nor one host number.
+-- The history is that of these drivers, each of which keeps the rules of slots by what it did itself, and of servers.
+-- No two drivers have one completion queue, nor one host number.
 pub record IsRosterOf (c : ConfigNumbers) (slots : Range) (r : Roster) (shared : SharedPast) : Type 0 where
   pub legal : IsLegal c (entries shared)
   pub in_place : all_in_place c r shared ≡ true
-  pub drivers : (p : ℕ) → r.drives p ≡ true → IsCarefulPass c slots r p shared
+  pub drivers : (p : ℕ) → r.drives p ≡ true → PassKeepsSlotRules c slots r p shared
   pub queues : (p q : ℕ) → r.drives p ≡ true → r.drives q ≡ true → r.queue p ≡ r.queue q → p ≡ q
   pub hosts : (p q : ℕ) → r.drives p ≡ true → r.drives q ≡ true → r.host p ≡ r.host q → p ≡ q
 
 -- what is known of the port of pass p
-abbrev pub port_of : ConfigNumbers → Roster → SharedPast → ℕ → PortView
-port_of c r shared p = record { config = c; queue = r.queue p; pass = p; seen = shared }
+abbrev pub view_of_pass : ConfigNumbers → Roster → SharedPast → ℕ → PortView
+view_of_pass c r shared p = record { config = c; queue = r.queue p; pass = p; seen = shared }

@@ -12,10 +12,10 @@ ghost use Rattle.driver_cas.specs.Drivers.{area_of, host_of, made, serial_of};
 ghost use Rattle.driver_cas.specs.Ports.{view_of};
 ghost use Rattle.driver_cas.specs.Starts.{IsUntouched};
 ghost use Rattle.slot_alloc.specs.Areas.{slot_of};
-ghost use Rattle.slot_alloc.specs.Careful.{GoesOn, IsCareful, ReleasedName};
+ghost use Rattle.slot_alloc.specs.SlotRules.{DriverContinues, KeepsSlotRules, ReleasedName};
 ghost use Rattle.slot_alloc.specs.Claims.{IsHeldBy};
 ghost use Rattle.slot_alloc.specs.declared.claim.Claim.{Claim};
-ghost use Rattle.slot_calls.specs.Careful.{is_careful};
+ghost use Rattle.slot_calls.specs.SlotRules.{keeps_slot_rules};
 ghost use Rattle.slot_hosts.specs.Hosts.{AreTwoHosts, IsHost, IsHostIn};
 ghost use Rattle.slot_hosts.specs.Rosters.{keeps_to};
 
@@ -31,10 +31,11 @@ pub fn a_new_driver_is_a_host(driver: &Driver<SharedPort<'_>>)
     let _ = driver;
 }
 
-/// A host stays one, with its numbers, over whatever it does carefully, and over meetings and notices.
+/// A host stays one, with its numbers, over whatever it does by the rules of slots, and over meetings and notices.
 pub fn a_host_goes_on(old: &Snapshot<Driver<SharedPort<'_>>>, new: &Driver<SharedPort<'_>>)
-    ensures careful { (c : ConfigNumbers) (slots : Range) (pass queue host : ℕ) (released : Option ReleasedName) →
-        GoesOn old.now.value new.now released → IsCareful new.now → IsHost c slots pass queue host old.now.value →
+    ensures slot_rules { (c : ConfigNumbers) (slots : Range) (pass queue host : ℕ) (released : Option ReleasedName) →
+        DriverContinues old.now.value new.now released → KeepsSlotRules new.now
+        → IsHost c slots pass queue host old.now.value →
         IsHost c slots pass queue host new.now }
     ensures untouched { (c : ConfigNumbers) (slots : Range) (pass queue host : ℕ) →
         IsUntouched old.now.value new.now → IsHost c slots pass queue host old.now.value →
@@ -55,15 +56,16 @@ pub fn what_a_host_did(driver: &Driver<SharedPort<'_>>)
         let v = view_of driver.now.port in keeps_to v.config v.queue v.pass met ≡ true }
     ensures tidy { (met : SharedPast) → IsHostIn driver.now met →
         let v = view_of driver.now.port in is_tidy (events v.config v.queue v.pass met) ≡ true }
-    ensures careful { (met : SharedPast) → IsHostIn driver.now met →
+    ensures slot_rules { (met : SharedPast) → IsHostIn driver.now met →
         let v = view_of driver.now.port in
-        is_careful (area_of driver.now) (host_of driver.now) (serial_of driver.now)
+        keeps_slot_rules (area_of driver.now) (host_of driver.now) (serial_of driver.now)
         (events v.config v.queue v.pass met) ≡ true }
 {
     let _ = driver;
 }
 
-/// Two careful drivers that have met, of an engine whose other passes serve, never both have a claim of one slot.
+/// Two drivers that keep the rules of slots and have met, of an engine whose other passes serve, never both have a
+/// claim of one slot.
 pub fn two_hosts_never_hold_one_slot(one: &Driver<SharedPort<'_>>, other: &Driver<SharedPort<'_>>)
     ensures { (passes : ℕ) (met : SharedPast) (claim second : Claim) → AreTwoHosts passes one.now other.now met →
         IsHeldBy one.now claim → IsHeldBy other.now second → slot_of claim ≢ slot_of second }

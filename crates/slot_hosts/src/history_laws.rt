@@ -10,17 +10,18 @@ ghost use Rattle.meet_lock.specs.Lock.{AreOfPasses};
 ghost use Rattle.driver_calls.specs.Views.{log_of};
 ghost use Rattle.slot_calls.specs.Hosts.{IsSlotView};
 ghost use Rattle.slot_calls.specs.Swaps.{log_believed};
-ghost use Rattle.slot_hosts.specs.Rosters.{IsRosterOf, Roster, all_in_place, keeps_to, port_of};
+ghost use Rattle.slot_hosts.specs.Rosters.{IsRosterOf, Roster, all_in_place, keeps_to, view_of_pass};
 ghost use Rattle.serving_laws.specs.Servers.{serves};
 
-/// Where each driver of a history is careful by what it did itself, and all else is served, the whole history keeps the
-/// discipline of the slot area; and the premises of a host, with all that follows from them, hold of each driver.
-pub fn careful_drivers_keep_the_discipline()
+/// Where each driver of a history keeps the rules of slots by what it did itself, and all else is served, the whole
+/// history keeps the discipline of the slot area; and the premises of a host, with all that follows from them, hold of
+/// each driver.
+pub fn drivers_that_keep_the_rules_keep_the_discipline()
     ensures whole { (c : ConfigNumbers) (slots : Range) (r : Roster) (shared : SharedPast) →
         IsRosterOf c slots r shared → disciplined c slots (entries shared) ≡ true }
     ensures each { (c : ConfigNumbers) (slots : Range) (r : Roster) (shared : SharedPast) (p : ℕ) →
         IsRosterOf c slots r shared → r.drives p ≡ true →
-        IsSlotView [] slots (r.host p) (r.last p) (port_of c r shared p) }
+        IsSlotView [] slots (r.host p) (r.last p) (view_of_pass c r shared p) }
 {}
 
 /// A history that passes alone made is that of drivers, each of which keeps to its queues, and of servers, where each
@@ -36,6 +37,6 @@ pub fn each_pass_drives_or_serves()
 pub fn one_driver_believes_a_slot()
     ensures { (c : ConfigNumbers) (slots : Range) (r : Roster) (shared : SharedPast) (p q l : ℕ) (n m : Name) →
         IsRosterOf c slots r shared → r.drives p ≡ true → r.drives q ≡ true → has_block slots l ≡ true →
-        log_believed (log_of (port_of c r shared p)) l n ≡ true →
-        log_believed (log_of (port_of c r shared q)) l m ≡ true → p ≡ q }
+        log_believed (log_of (view_of_pass c r shared p)) l n ≡ true →
+        log_believed (log_of (view_of_pass c r shared q)) l m ≡ true → p ≡ q }
 {}

@@ -1,14 +1,14 @@
 //! Sixteen hosts on one slot, each served in a random order.
 
 ghost use Rattle.std.specs.Prelude.{◌≡◌, ◌<◌, ◌≤◌, All, IfOk, IfSome};
-ghost use Rattle.driver_rows.specs.Benches.{AreOf, IsServerOf};
+ghost use Rattle.driver_rows.specs.Benches.{AreBenchSpares, IsServerOf};
 ghost use Rattle.driver_rows.specs.Claimants.{IsClaimant};
 ghost use Rattle.slot_alloc.specs.Areas.{area};
 
 use crate::rows::closes;
 use driver_rows::{
-    Bench, Came, Claimant, Server, Spares, Stage, answered, asks, bench_of, claimant_of,
-    gives_back, hand_of,
+    Bench, BenchSpares, Came, Claimant, ClaimantStage, Server, answered, asks, bench_of, caller_of,
+    claimant_of, gives_back,
 };
 use history::Config;
 use slot_alloc::Slots;
@@ -50,8 +50,8 @@ struct Tally {
 }
 
 // A bench of `config 8 1 1 0 0 16 4 4 32`, with passes for a server and each host.
-fn wide(alloc: Global) -> Result<(Bench, Spares), Fail>
-    ensures own { IfOk result (λ b. AreOf b.0 b.1) }
+fn wide(alloc: Global) -> Result<(Bench, BenchSpares), Fail>
+    ensures own { IfOk result (λ b. AreBenchSpares b.0 b.1) }
     ensures queues { IfOk result (λ b. (b.0.config.pairs ≡ 16) × (b.0.config.cqs ≡ 16)) }
 {
     let Ok(config) = Config::new(8, 1, 1, 0, 0, 16, 4, 4, 32) else {
@@ -96,20 +96,20 @@ fn leaves<'a>(
 fn crowd<'a>(
     alloc: Global,
     bench: &'a Bench,
-    spares: &mut Spares,
+    spares: &mut BenchSpares,
     slots: &Slots,
 ) -> Result<Vec<Claimant<'a>>, Fail>
-    requires own { AreOf bench.now spares.old }
+    requires own { AreBenchSpares bench.now spares.old }
     requires queues { (bench.now.config.pairs ≡ 16) × (bench.now.config.cqs ≡ 16) }
     requires slots { area slots.now ≡ record { slba = 0; blocks = 1 } }
     ensures { IfOk result (λ all. All (IsClaimant bench.entry.now slots.now) all.items) }
 {
     let mut all = Vec::new(alloc);
     for h in 1..=HOSTS {
-        let Some(hand) = hand_of(bench, spares) else {
+        let Some(caller) = caller_of(bench, spares) else {
             return Err(Fail::from("a host"));
         };
-        let Some(one) = claimant_of(alloc, bench, hand, h, slots, 1) else {
+        let Some(one) = claimant_of(alloc, bench, caller, h, slots, 1) else {
             return Err(Fail::from("a host"));
         };
         joins(bench, slots, &mut all, one)?;
@@ -134,12 +134,12 @@ fn turn<R: Abort + Wait>(
     ensures claimant { IsClaimant bench.now slots.now claimant.new }
 {
     let came = match claimant.stage {
-        Stage::Idle => asks(bench, slots, claimant, Some(0)),
-        Stage::Holding(_) => {
+        ClaimantStage::Idle => asks(bench, slots, claimant, Some(0)),
+        ClaimantStage::Holding(_) => {
             tally.holders = tally.holders.saturating_sub(1);
             gives_back(bench, slots, claimant)
         }
-        Stage::Claiming(_) | Stage::Releasing(_) => {
+        ClaimantStage::Claiming(_) | ClaimantStage::Releasing(_) => {
             answered(rt, bench, server, slots, claimant, 2)
         }
     };
@@ -221,15 +221,15 @@ fn served<R: Abort + Wait>(
     rt: &R,
     alloc: Global,
     bench: &Bench,
-    spares: &mut Spares,
+    spares: &mut BenchSpares,
     seed: u64,
     count: u32,
 ) -> Result<(Server, Tally), Fail>
-    requires own { AreOf bench.now spares.old }
+    requires own { AreBenchSpares bench.now spares.old }
     requires queues { (bench.now.config.pairs ≡ 16) × (bench.now.config.cqs ≡ 16) }
     ensures { IfOk result (λ s. IsServerOf bench.now s.0) }
 {
-    let Some(mut server) = hand_of(bench, spares) else {
+    let Some(mut server) = caller_of(bench, spares) else {
         return Err(Fail::from("a server"));
     };
     let slots = Slots::new(0, 1);

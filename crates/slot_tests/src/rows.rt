@@ -1,13 +1,13 @@
 //! Two hosts and one or two slots, every call served before the next, and the blocks' bytes.
 
 ghost use Rattle.std.specs.Prelude.{◌≡◌, ◌<◌, ◌≤◌, IfOk};
-ghost use Rattle.driver_rows.specs.Benches.{AreOf, IsServerOf};
+ghost use Rattle.driver_rows.specs.Benches.{AreBenchSpares, IsServerOf};
 ghost use Rattle.driver_rows.specs.Claimants.{IsClaimant};
 ghost use Rattle.slot_alloc.specs.Areas.{area};
 
 use driver_rows::{
-    Bench, Came, Claimant, Contents, Server, Spares, asks, claimants_of, claims, is_served, leaves,
-    meets, polls_begun, reads, releases, serves, small_bench,
+    Bench, BenchSpares, Came, Claimant, Contents, Server, asks, claimants_of, claims, is_served,
+    leaves, meets, polls_begun, reads, releases, serves, small_bench,
 };
 use history_check::check;
 use slot_alloc::Slots;
@@ -18,7 +18,7 @@ use std::test::Fail;
 
 /// What a host does, and what comes of it.
 #[derive(Clone, Copy)]
-enum Act {
+enum SlotAct {
     /// Claims slot 0.
     First(Came),
     /// Claims any slot.
@@ -54,7 +54,7 @@ fn does<R: Abort + Wait>(
     slots: &Slots,
     host: &mut Claimant<'_>,
     other: &mut Claimant<'_>,
-    act: Act,
+    act: SlotAct,
 )
     requires server { IsServerOf bench.now server.old }
     requires host { IsClaimant bench.now slots.now host.old }
@@ -65,33 +65,33 @@ fn does<R: Abort + Wait>(
     ensures other { IsClaimant bench.now slots.now other.new }
 {
     match act {
-        Act::First(want) => {
+        SlotAct::First(want) => {
             let came = claims(rt, bench, server, slots, host, Some(0));
             assert_eq!(rt; came, want);
         }
-        Act::Any(want) => {
+        SlotAct::Any(want) => {
             let came = claims(rt, bench, server, slots, host, None);
             assert_eq!(rt; came, want);
         }
-        Act::Asks => {
+        SlotAct::Asks => {
             let came = asks(bench, slots, host, Some(0));
             assert_eq!(rt; came, Came::Begun);
         }
-        Act::Waits => assert!(rt; is_served(rt, bench, server, slots, host)),
-        Act::Polls(want) => {
+        SlotAct::Waits => assert!(rt; is_served(rt, bench, server, slots, host)),
+        SlotAct::Polls(want) => {
             let came = polls_begun(bench, slots, host);
             assert_eq!(rt; came, want);
         }
-        Act::Meets => assert!(rt; meets(bench, slots, host, other)),
-        Act::Releases(want) => {
+        SlotAct::Meets => assert!(rt; meets(bench, slots, host, other)),
+        SlotAct::Releases(want) => {
             let came = releases(rt, bench, server, slots, host);
             assert_eq!(rt; came, want);
         }
-        Act::Leaves(want) => {
+        SlotAct::Leaves(want) => {
             let left = leaves(bench, slots, host);
             assert_eq!(rt; left, want);
         }
-        Act::Reads(lba, number, serial) => {
+        SlotAct::Reads(lba, number, serial) => {
             let contents = reads(rt, bench, server, slots, host, lba);
             assert!(rt; contents == Some(named(number, serial)));
         }
@@ -106,7 +106,7 @@ fn does_all<R: Abort + Wait>(
     slots: &Slots,
     one: &mut Claimant<'_>,
     two: &mut Claimant<'_>,
-    acts: &[(u8, Act)],
+    acts: &[(u8, SlotAct)],
 )
     requires server { IsServerOf bench.now server.old }
     requires one { IsClaimant bench.now slots.now one.old }
@@ -127,12 +127,12 @@ fn served<R: Abort + Wait>(
     rt: &R,
     alloc: Global,
     bench: &Bench,
-    spares: &mut Spares,
+    spares: &mut BenchSpares,
     slots: &Slots,
     count: u32,
-    acts: &[(u8, Act)],
+    acts: &[(u8, SlotAct)],
 ) -> Result<Server, Fail>
-    requires own { AreOf bench.now spares.old }
+    requires own { AreBenchSpares bench.now spares.old }
     requires queues { (bench.now.config.pairs ≡ 2) × (bench.now.config.cqs ≡ 2) }
     requires slots { area slots.now ≡ record { slba = 0; blocks = count } }
     requires count { (0 < count) × (count ≤ 2) }
@@ -171,7 +171,7 @@ fn plays<R: Abort + Wait>(
     alloc: Global,
     cq: u16,
     count: u32,
-    acts: &[(u8, Act)],
+    acts: &[(u8, SlotAct)],
     wants: &[(u64, Contents)],
 ) -> Result<(), Fail>
     requires { (0 < count) × (count ≤ 2) }
@@ -187,13 +187,13 @@ fn plays<R: Abort + Wait>(
 #[test]
 fn one_slot_goes_from_host_to_host(rt: HostRuntime) -> Result<(), Fail> {
     let acts = [
-        (1, Act::First(Came::Held(0))),
-        (2, Act::First(Came::Taken)),
-        (1, Act::Releases(Came::Released)),
-        (1, Act::Reads(0, 0, 0)),
-        (2, Act::First(Came::Held(0))),
-        (1, Act::Reads(0, 2, 2)),
-        (2, Act::Leaves(Some((0, 2)))),
+        (1, SlotAct::First(Came::Held(0))),
+        (2, SlotAct::First(Came::Taken)),
+        (1, SlotAct::Releases(Came::Released)),
+        (1, SlotAct::Reads(0, 0, 0)),
+        (2, SlotAct::First(Came::Held(0))),
+        (1, SlotAct::Reads(0, 2, 2)),
+        (2, SlotAct::Leaves(Some((0, 2)))),
     ];
     plays(&rt, rt.alloc(), 4, 1, &acts, &[(0, named(2, 2))])
 }
@@ -201,16 +201,16 @@ fn one_slot_goes_from_host_to_host(rt: HostRuntime) -> Result<(), Fail> {
 #[test]
 fn any_of_two_slots_is_claimed(rt: HostRuntime) -> Result<(), Fail> {
     let acts = [
-        (1, Act::Any(Came::Held(0))),
-        (1, Act::Leaves(Some((0, 1)))),
-        (2, Act::Any(Came::Held(1))),
-        (1, Act::Reads(1, 2, 2)),
-        (1, Act::Any(Came::AllTaken)),
-        (2, Act::Releases(Came::Released)),
-        (1, Act::Any(Came::Held(1))),
-        (2, Act::Reads(0, 1, 1)),
-        (2, Act::Reads(1, 1, 5)),
-        (1, Act::Leaves(Some((1, 5)))),
+        (1, SlotAct::Any(Came::Held(0))),
+        (1, SlotAct::Leaves(Some((0, 1)))),
+        (2, SlotAct::Any(Came::Held(1))),
+        (1, SlotAct::Reads(1, 2, 2)),
+        (1, SlotAct::Any(Came::AllTaken)),
+        (2, SlotAct::Releases(Came::Released)),
+        (1, SlotAct::Any(Came::Held(1))),
+        (2, SlotAct::Reads(0, 1, 1)),
+        (2, SlotAct::Reads(1, 1, 5)),
+        (1, SlotAct::Leaves(Some((1, 5)))),
     ];
     let wants = [(0, named(1, 1)), (1, named(1, 5))];
     plays(&rt, rt.alloc(), 4, 2, &acts, &wants)
@@ -220,26 +220,26 @@ fn any_of_two_slots_is_claimed(rt: HostRuntime) -> Result<(), Fail> {
 #[test]
 fn hosts_that_claim_meet(rt: HostRuntime) -> Result<(), Fail> {
     let acts = [
-        (1, Act::Meets),
-        (1, Act::Asks),
-        (1, Act::Meets),
-        (1, Act::Waits),
-        (1, Act::Meets),
-        (1, Act::Polls(Came::Pending)),
-        (1, Act::Meets),
-        (1, Act::Polls(Came::Held(0))),
-        (1, Act::Meets),
-        (2, Act::First(Came::Taken)),
-        (2, Act::Meets),
-        (2, Act::Any(Came::AllTaken)),
-        (1, Act::Releases(Came::Released)),
-        (1, Act::Meets),
-        (2, Act::Any(Came::Held(0))),
-        (2, Act::Meets),
-        (1, Act::Reads(0, 2, 3)),
-        (2, Act::Releases(Came::Released)),
-        (2, Act::Meets),
-        (2, Act::Reads(0, 0, 0)),
+        (1, SlotAct::Meets),
+        (1, SlotAct::Asks),
+        (1, SlotAct::Meets),
+        (1, SlotAct::Waits),
+        (1, SlotAct::Meets),
+        (1, SlotAct::Polls(Came::Pending)),
+        (1, SlotAct::Meets),
+        (1, SlotAct::Polls(Came::Held(0))),
+        (1, SlotAct::Meets),
+        (2, SlotAct::First(Came::Taken)),
+        (2, SlotAct::Meets),
+        (2, SlotAct::Any(Came::AllTaken)),
+        (1, SlotAct::Releases(Came::Released)),
+        (1, SlotAct::Meets),
+        (2, SlotAct::Any(Came::Held(0))),
+        (2, SlotAct::Meets),
+        (1, SlotAct::Reads(0, 2, 3)),
+        (2, SlotAct::Releases(Came::Released)),
+        (2, SlotAct::Meets),
+        (2, SlotAct::Reads(0, 0, 0)),
     ];
     plays(&rt, rt.alloc(), 4, 1, &acts, &[(0, named(0, 0))])
 }
@@ -248,13 +248,13 @@ fn hosts_that_claim_meet(rt: HostRuntime) -> Result<(), Fail> {
 #[test]
 fn a_dropped_claim_keeps_its_slot(rt: HostRuntime) -> Result<(), Fail> {
     let acts = [
-        (1, Act::Asks),
-        (1, Act::Leaves(None)),
-        (1, Act::Waits),
-        (2, Act::First(Came::Taken)),
-        (1, Act::First(Came::Taken)),
-        (2, Act::Any(Came::AllTaken)),
-        (1, Act::Reads(0, 1, 1)),
+        (1, SlotAct::Asks),
+        (1, SlotAct::Leaves(None)),
+        (1, SlotAct::Waits),
+        (2, SlotAct::First(Came::Taken)),
+        (1, SlotAct::First(Came::Taken)),
+        (2, SlotAct::Any(Came::AllTaken)),
+        (1, SlotAct::Reads(0, 1, 1)),
     ];
     plays(&rt, rt.alloc(), 8, 1, &acts, &[(0, named(1, 1))])
 }
@@ -263,12 +263,12 @@ fn a_dropped_claim_keeps_its_slot(rt: HostRuntime) -> Result<(), Fail> {
 #[test]
 fn a_slot_that_is_left_stays_held(rt: HostRuntime) -> Result<(), Fail> {
     let acts = [
-        (1, Act::First(Came::Held(0))),
-        (1, Act::Leaves(Some((0, 1)))),
-        (1, Act::Releases(Came::Nothing)),
-        (2, Act::Releases(Came::Nothing)),
-        (1, Act::Any(Came::AllTaken)),
-        (2, Act::First(Came::Taken)),
+        (1, SlotAct::First(Came::Held(0))),
+        (1, SlotAct::Leaves(Some((0, 1)))),
+        (1, SlotAct::Releases(Came::Nothing)),
+        (2, SlotAct::Releases(Came::Nothing)),
+        (1, SlotAct::Any(Came::AllTaken)),
+        (2, SlotAct::First(Came::Taken)),
     ];
     plays(&rt, rt.alloc(), 8, 1, &acts, &[(0, named(1, 1))])
 }
@@ -295,7 +295,7 @@ fn frees<R: Abort + Wait>(
         slots,
         one,
         two,
-        Act::First(Came::Held(0)),
+        SlotAct::First(Came::Held(0)),
     );
     does(
         rt,
@@ -304,7 +304,7 @@ fn frees<R: Abort + Wait>(
         slots,
         one,
         two,
-        Act::Leaves(Some((0, 1))),
+        SlotAct::Leaves(Some((0, 1))),
     );
     assert!(rt; one.host.driver.start_release(0, 1).is_ok());
     serves(rt, bench, server, 1);

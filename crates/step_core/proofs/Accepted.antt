@@ -7,7 +7,7 @@ use Rattle.nvme_model.specs.declared.step.Step.{Step}
 use Rattle.nvme_model.specs.History.{Past}
 use Rattle.nvme_model.specs.Refusals.{refusal}
 use Rattle.nvme_model.specs.Steps.{next_entry}
-use Rattle.controller_steps.specs.State.{Does, Room, State, TakesRoom, WantsMemory, answer_of, promised_after}
+use Rattle.controller_steps.specs.State.{Does, Room, ControllerState, TakesRoom, WantsMemory, answer_of, promised_after}
 use Rattle.controller_steps.specs.State.{refused_as}
 use Rattle.controller_steps.specs.declared.answer.Answer.{Answer}
 
@@ -17,12 +17,15 @@ ok_unless (Ok x) h n = refl
 ok_unless (Err e) h n = absurd (n e h)
 
 -- what is found of the value is so of the fields
-pub accepted : (inside old : State) (step : Step) (o : Option Why) → inside ≡ old → o ≡ refusal old.config old.past step
+pub accepted : (inside old : ControllerState) (step : Step) (o : Option Why) → inside ≡ old
+    → o ≡ refusal old.config old.past step
     → o ≡ None → refusal inside.config inside.past step ≡ None
-accepted inside old step o same found none = ap (λ (x : State). refusal x.config x.past step) same ∙ sym found ∙ none
+accepted inside old step o same found none = ap (λ (x : ControllerState). refusal x.config x.past step) same ∙ sym found
+    ∙ none
 
 -- what an accepted step does, by the entry that it adds
-pub does_accepted : (inside old : State) (step : Step) (a : Answer) (e : Entry) (p : Past) (n : ℕ) (room : Room)
+pub does_accepted : (inside old : ControllerState) (step : Step) (a : Answer) (e : Entry) (p : Past) (n : ℕ)
+    (room : Room)
     → inside ≡ old
     → refusal inside.config inside.past step ≡ None
     → e ≡ next_entry inside.config inside.past step
@@ -30,7 +33,12 @@ pub does_accepted : (inside old : State) (step : Step) (a : Answer) (e : Entry) 
     → p ≡ e ∷ inside.past → n ≡ promised_after step inside.promised → TakesRoom step inside.room room
     → Does old step (Ok a) (record { config = inside.config; past = p; promised = n; room = room })
 does_accepted inside old step a e p n room same none entry answer past promised takes =
-    subst (λ (x : State). Does x step (Ok a) (record { config = inside.config; past = p; promised = n; room = room }))
+    subst (λ (x : ControllerState). Does x step (Ok a) (record {
+      config = inside.config;
+      past = p;
+      promised = n;
+      room = room;
+    }))
     same (
       (none, refl, answer),
       (λ i. record {
@@ -43,11 +51,12 @@ does_accepted inside old step a e p n room same none entry answer past promised 
     )
 
 -- what a step does that wants memory and leaves all as it was
-pub does_wanting : (inside old : State) (step : Step) → inside ≡ old → refusal inside.config inside.past step ≡ None
+pub does_wanting : (inside old : ControllerState) (step : Step) → inside ≡ old
+    → refusal inside.config inside.past step ≡ None
     → WantsMemory inside step
     → Does old step (Err Why.NoMemory) old
 does_wanting inside old step same none wants =
-    subst (λ (x : State). Does x step (Err Why.NoMemory) x) same (
+    subst (λ (x : ControllerState). Does x step (Err Why.NoMemory) x) same (
       ap (λ (o : Option Why). refused_as step (unwrap_or o Why.NoMemory)) (sym none),
       refl,
       record { entries = omega arith; ranges = omega arith },

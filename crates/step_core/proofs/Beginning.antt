@@ -1,11 +1,10 @@
 -- A controller without a history, and its volume.
-use Rattle.std.proofs.Common.{◌≡◌, ℕ, suc, ◌%◌, ◌*◌, ◌==◌, ◌<◌, true, false, List, [], replicate, slice_get, Some, None}
-use Rattle.std.proofs.Common.{refl, sym, ap, ◌∙◌, subst, is_none, ltb-false}
+use Rattle.std.proofs.Common.{◌≡◌, ℕ, suc, ◌%◌, ◌*◌, ◌==◌, ◌<◌, false, List, [], replicate, slice_get, Some, None}
+use Rattle.std.proofs.Common.{refl, sym, ap, ◌∙◌, subst}
 use Rattle.std.proofs.Math.Nat.{zero-div, zero-mod}
-use Rattle.std.proofs.lemmas.Bool.{or_parts}
 use Rattle.std.proofs.lemmas.Option.{get_or_from_slice_get}
 use Rattle.nvme_model.specs.Array.{zeros}
-use Rattle.nvme_model.specs.Config.{config_fault, config_faults}
+use Rattle.nvme_model.specs.Config.{config_fault}
 use Rattle.nvme_model.specs.History.{Past}
 use Rattle.nvme_model.specs.Laws.{is_held}
 use Rattle.nvme_model.specs.Medium.{medium}
@@ -14,12 +13,9 @@ use Rattle.nvme_model.specs.Value.{value}
 use Rattle.nvme_model.specs.declared.config.ConfigNumbers.{ConfigNumbers}
 use Rattle.nvme_model.proofs.Medium.{medium_is_value}
 use Rattle.nvme_model.proofs.Accepted.{accepted}
-use Rattle.rings.specs.Completions.{CompletionRing}
-use Rattle.rings.specs.Slots.{IsSize}
-use Rattle.rings.specs.Submissions.{SubmissionRing}
 use Rattle.rings.specs.Queues.{completion_ring, submission_ring}
 use Rattle.cids_in_use.proofs.Counts.{none_used}
-use Rattle.step_core.specs.Kept.{CoreFields, IsKept}
+use Rattle.step_core.specs.Kept.{CoreFields, IsCoreOf}
 use Rattle.rings.proofs.Tables.{IsTable-replicate}
 use Rattle.rings.proofs.Beginnings.{completion_empty, submission_empty}
 
@@ -44,9 +40,9 @@ pub begins : (c m : ConfigNumbers) (p : Past) (f : CoreFields) → m ≡ c → c
     → f.in_use ≡ replicate m.pairs (record { room = 2 * m.jobs; cids = [] })
     → f.completion ≡ replicate m.cqs (completion_empty m.cq_size) → f.jobs ≡ record { limit = m.jobs; jobs = [] }
     → f.held ≡ [] → f.tickets ≡ 0
-    → IsKept c p f
+    → IsCoreOf c p f
 begins c m p f same accepted none vs ss us qs js rs ns =
-    subst (λ (x : ConfigNumbers). IsKept x p f) same (subst (λ (x : Past). IsKept m x f) (sym none) (record {
+    subst (λ (x : ConfigNumbers). IsCoreOf x p f) same (subst (λ (x : Past). IsCoreOf m x f) (sym none) (record {
       accepted = accepted;
       volume = IsTable-replicate (medium []) m.blocks zeros f.volume vs (λ k. refl);
       submission = IsTable-replicate _ m.pairs _ f.submission ss (λ k. submission_begins m (suc k));
@@ -61,7 +57,7 @@ begins c m p f same accepted none vs ss us qs js rs ns =
 -- ---- the volume
 
 -- a block is its value where no open Exclusive unit has it
-pub block_is_value : (c : ConfigNumbers) (past : Past) (fields : CoreFields) → IsKept c past fields
+pub block_is_value : (c : ConfigNumbers) (past : Past) (fields : CoreFields) → IsCoreOf c past fields
     → (l : ℕ) (b : List ℕ) → l < c.blocks → slice_get fields.volume l ≡ Some b → is_held past l ≡ false
     → b ≡ value past l
 block_is_value c past fields k l b within at free =

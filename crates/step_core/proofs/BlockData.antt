@@ -1,5 +1,5 @@
 -- The open unit of a Block: its data, and what its next Block finds.
-use Rattle.std.proofs.Common.{◌≡◌, ℕ, zero, suc, ◌+◌, ◌-◌, ◌*◌, ◌≤◌, ◌<◌, Bool, true, false, not, cond, List, [], drop}
+use Rattle.std.proofs.Common.{◌≡◌, ℕ, zero, suc, ◌+◌, ◌-◌, ◌*◌, ◌≤◌, ◌<◌, Bool, true, false, cond, List, [], drop}
 use Rattle.std.proofs.Common.{length, length-append, take, nat_le, bytes_eq, refl, sym, ap, ◌∙◌, subst, Option, Some}
 use Rattle.std.proofs.Common.{None, is_some, inl, inr, arith, eqb-true, replicate, slice_get, ◌==◌}
 use Rattle.std.specs.Prelude.{is_none}
@@ -15,7 +15,7 @@ use Rattle.nvme_model.specs.declared.operation.Found.{Found}
 use Rattle.nvme_model.specs.declared.operation.Op.{Op}
 use Rattle.nvme_model.specs.declared.step.Step.{Step}
 use Rattle.nvme_model.specs.Array.{zeros}
-use Rattle.nvme_model.specs.EntryBytes.{blocks, slba}
+use Rattle.nvme_model.specs.EntryBytes.{block_count, slba}
 use Rattle.nvme_model.specs.History.{Past}
 use Rattle.nvme_model.specs.Legal.{IsLegal}
 use Rattle.nvme_model.specs.Medium.{medium}
@@ -23,7 +23,7 @@ use Rattle.nvme_model.specs.Open.{blocks_made, granted, grants_of, is_differs, i
 use Rattle.nvme_model.specs.Open
 use Rattle.nvme_model.specs.Operations.{compare_data, has_compare, op, units}
 use Rattle.nvme_model.specs.Refusals.{conditions, has_open, refusal}
-use Rattle.ticket_laws.specs.Standing.{left, standing, unit_of}
+use Rattle.ticket_laws.specs.Standing.{blocks_left, standing, unit_of}
 use Rattle.nvme_model.specs.Steps.{marked}
 use Rattle.nvme_model.specs.Tickets.{Ticket, command, first_fields, ticket}
 use Rattle.nvme_model.proofs.Blocks.{OpenFacts, open_facts}
@@ -37,15 +37,15 @@ use Rattle.nvme_model.proofs.NextPost.{unit_at}
 use Rattle.nvme_model.proofs.Rules.{none_holds}
 use Rattle.block_exec.specs.Bytes.{compare_length, data_at}
 use Rattle.block_exec.specs.Course.{next_done}
-use Rattle.block_exec.specs.Progress.{Progress, found_by, has_ended, needed, next_block, next_place}
+use Rattle.block_exec.specs.Progress.{UnitProgress, found_by, unit_has_ended, needed, next_block, next_place}
 use Rattle.block_exec.specs.Units.{progress_of, unit_compare}
 use Rattle.block_exec.specs.declared.run.Done.{Done}
-use Rattle.block_exec.proofs.Histories.{has_ended-progress_of}
+use Rattle.block_exec.proofs.Histories.{unit_has_ended-progress_of}
 use Rattle.block_exec.proofs.Parts.{data_at-unit_compare, length-unit_compare}
 use Rattle.job_table.specs.Keeping.{finds_equal}
 use Rattle.job_table.specs.Parts.{HasPart, part_end, part_of}
-use Rattle.ticket_course.specs.Shown.{stage_by}
-use Rattle.ticket_course.specs.declared.course.Stage.TheVariants.{Open}
+use Rattle.ticket_progress.specs.Shown.{stage_by}
+use Rattle.ticket_progress.specs.declared.progress.TicketStage.TheVariants.{Open}
 use Rattle.job_table.specs.Tickets.{compare_bytes, job_at, job_by, read_bytes_by}
 use Rattle.rings.specs.Tables.{IsTable}
 use Rattle.step_core.proofs.Granting.{any_found, job_stage}
@@ -60,7 +60,7 @@ pub record IsUnit (c : ConfigNumbers) (past : Past) (t : ℕ) (g : GrantLine) (o
   pub facts : OpenFacts past g
   pub own : g.ticket ≡ t
   pub last : suc g.unit ≡ grants_of past t
-  pub inside : Within (slba (first_fields (ticket past t))) (blocks (first_fields (ticket past t))) g.range
+  pub inside : Within (slba (first_fields (ticket past t))) (block_count (first_fields (ticket past t))) g.range
   pub place : slice_get (units c (ticket past t)) g.unit ≡ Some g.range
 
 some_is : {X : Type 0} (o : Option X) → is_some o ≡ true → (x : X) × (o ≡ Some x)
@@ -99,7 +99,8 @@ unit_there c past t h up =
         own = own;
         last = last.0.0 last.0.1 ∙ ap (grants_of past) own;
         inside = subst (λ (s : ℕ).
-            Within (slba (first_fields (ticket past s))) (blocks (first_fields (ticket past s))) g.range) own lies.0.0;
+            Within (slba (first_fields (ticket past s))) (block_count (first_fields (ticket past s))) g.range) own
+            lies.0.0;
         place = ap (λ (s : ℕ). slice_get (units c (ticket past s)) g.unit) (sym own) ∙ there.0.0;
       },
     )
@@ -150,14 +151,15 @@ found_same Op.Compare n j a b e = ap (found_by Op.Compare n j) (e refl)
 found_same Op.Pair n j a b e = ap (found_by Op.Pair n j) (e refl)
 
 -- whether a block is the Compare's data counts where there is one
-pub done_same : (p : Progress) (a b : Bool) → (has_compare (Some p.op) ≡ true → a ≡ b) → next_done p a ≡ next_done p b
+pub done_same : (p : UnitProgress) (a b : Bool) → (has_compare (Some p.op) ≡ true → a ≡ b)
+    → next_done p a ≡ next_done p b
 done_same p a b e =
     let says : Found → Done =
     λ x. record {
       lba = next_block p;
       found = x;
       effect = marked (Some p.op) p.range.blocks p.made x;
-      ended = has_ended (record p { made = suc p.made; differed = is_differs x });
+      ended = unit_has_ended (record p { made = suc p.made; differed = is_differs x });
     } in
     ap says (found_same p.op p.range.blocks p.made a b e)
 
@@ -166,9 +168,9 @@ done_same p a b e =
 module _ (c : ConfigNumbers) (past : Past) (t : ℕ) (h : IsLegal c past) (g : GrantLine) (o : Op)
     (u : IsUnit c past t g o) where
   -- its unit goes on
-  pub unended : has_ended (progress_of past t g.unit o g.range) ≡ false
+  pub unended : unit_has_ended (progress_of past t g.unit o g.range) ≡ false
   unended =
-      has_ended-progress_of past t g.unit o g.range u.does
+      unit_has_ended-progress_of past t g.unit o g.range u.does
       ∙ ap (λ (s : ℕ). Open.has_ended past s g.unit g.range.blocks) (sym u.own) ∙ u.facts.goes_on
 
   -- nothing of it differs
@@ -177,8 +179,8 @@ module _ (c : ConfigNumbers) (past : Past) (t : ℕ) (h : IsLegal c past) (g : G
       (list_any (λ b. is_differs b.found) (blocks_made past t g.unit)) unended).1
 
   -- and its ticket stands so
-  pub stage_is : (job_at c past t).course.stage
-      ≡ Open (progress_of past t g.unit o g.range) g.unit (left c (standing past t))
+  pub stage_is : (job_at c past t).progress.stage
+      ≡ Open (progress_of past t g.unit o g.range) g.unit (blocks_left c (standing past t))
   stage_is =
       job_stage c (standing past t)
       ∙ ap (λ (x : Option GrantLine). stage_by c (standing past t) (op (ticket past t)) (option_map (unit_of past) x))
@@ -189,7 +191,7 @@ module _ (c : ConfigNumbers) (past : Past) (t : ℕ) (h : IsLegal c past) (g : G
         range = g.range;
         made = length (blocks_made past (u.own z) g.unit);
         differed = sym same_so_far z;
-      }) g.unit (left c (standing past t)))
+      }) g.unit (blocks_left c (standing past t)))
 
   -- the block that is due is one of the unit
   pub place_within : next_place (progress_of past t g.unit o g.range) < g.range.blocks
@@ -224,7 +226,7 @@ module _ (c : ConfigNumbers) (past : Past) (t : ℕ) (h : IsLegal c past) (g : G
       → part_end (slba (first_fields (ticket past t))) g.range
       ≤ length (read_bytes_by (op (ticket past t)) (ticket past t) read)
   read_long read e =
-      let total : ℕ = 512 * blocks (first_fields (ticket past t)) in
+      let total : ℕ = 512 * block_count (first_fields (ticket past t)) in
       subst (λ (w : Option Op). part_end (slba (first_fields (ticket past t))) g.range
       ≤ length (read_bytes_by w (ticket past t) read)) (sym (u.does ∙ ap Some e))
       (omega (
@@ -242,7 +244,7 @@ module _ (c : ConfigNumbers) (past : Past) (t : ℕ) (h : IsLegal c past) (g : G
       ≡ bytes_eq (medium past (next_block p)) (compare_data (ticket past t) (next_block p)))
   unfolding job_by
   finds_same v table e =
-      let p : Progress = progress_of past t g.unit o g.range in
+      let p : UnitProgress = progress_of past t g.unit o g.range in
       let lies : next_block p < c.blocks = omega (arith, range_inside, place_within) in
       ap (λ (xs : List ℕ). bytes_eq xs
       (data_at (part_of (compare_bytes (ticket past t)) (slba (first_fields (ticket past t))) g.range)

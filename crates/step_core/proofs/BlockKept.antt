@@ -11,7 +11,7 @@ use Rattle.nvme_model.specs.declared.entry.GrantLine.{GrantLine}
 use Rattle.nvme_model.specs.declared.operation.Found.{Found}
 use Rattle.nvme_model.specs.declared.operation.Op.{Op}
 use Rattle.nvme_model.specs.Array.{zeros}
-use Rattle.nvme_model.specs.EntryBytes.{blocks, slba}
+use Rattle.nvme_model.specs.EntryBytes.{block_count, slba}
 use Rattle.nvme_model.specs.History.{Past}
 use Rattle.nvme_model.specs.Legal.{IsLegal}
 use Rattle.nvme_model.specs.Medium.{medium}
@@ -24,7 +24,7 @@ use Rattle.ticket_laws.proofs.Left.{blocks_of_all, take_one_more}
 use Rattle.ticket_laws.proofs.Lengths.{medium_length}
 use Rattle.ticket_laws.proofs.ReadPlace.{read_length, read_placed, rest_of}
 use Rattle.block_exec.specs.Bytes.{block_at, put_at, volume_with, written_by}
-use Rattle.block_exec.specs.Progress.{Progress, found_by, needed, next_block}
+use Rattle.block_exec.specs.Progress.{UnitProgress, found_by, needed, next_block}
 use Rattle.block_exec.specs.Units.{progress_of}
 use Rattle.job_table.specs.Keeping.{read_of}
 use Rattle.job_table.specs.Parts.{part_of, with_part}
@@ -59,7 +59,7 @@ module _ (c : ConfigNumbers) (past : Past) (t : ℕ) (g : GrantLine) (o : Op) (u
   unfolding job_by
   volume_now v table = go (is_written f) refl
     where
-      p : Progress
+      p : UnitProgress
       p = progress_of past t g.unit o g.range
 
       f : Found
@@ -103,11 +103,12 @@ module _ (c : ConfigNumbers) (past : Past) (t : ℕ) (g : GrantLine) (o : Op) (u
       let us : List Range = units c k in
       let made : ℕ = length (blocks_made past t g.unit) in
       let does : op k ≡ Some Op.Read = u.does ∙ ap Some e in
-      let cut : us ≡ units_by c.atomic (Some Op.Read) s (blocks (first_fields k)) =
-      ap (λ (w : Option Op). units_by c.atomic w s (blocks (first_fields k))) does in
+      let cut : us ≡ units_by c.atomic (Some Op.Read) s (block_count (first_fields k)) =
+      ap (λ (w : Option Op). units_by c.atomic w s (block_count (first_fields k))) does in
       let starts : g.range.slba ≡ s + blocks_of_all (take g.unit us) =
-      cut_place c.atomic (units_by c.atomic (Some Op.Read) s (blocks (first_fields k))) s (blocks (first_fields k))
-      g.unit g.range (cut-is c.atomic s (blocks (first_fields k)))
+      cut_place c.atomic (units_by c.atomic (Some Op.Read) s (block_count (first_fields k))) s
+      (block_count (first_fields k))
+      g.unit g.range (cut-is c.atomic s (block_count (first_fields k)))
       (ap (λ (rs : List Range). slice_get rs g.unit) (sym cut) ∙ u.place)
       ∙ ap (λ (rs : List Range). s + blocks_of_all (take g.unit rs)) (sym cut) in
       let one : blocks_of_all (take (g.unit + 1) us) ≡ blocks_of_all (take g.unit us) + g.range.blocks =
@@ -175,11 +176,11 @@ module _ (c : ConfigNumbers) (past : Past) (t : ℕ) (g : GrantLine) (o : Op) (u
           ap (λ (xs : List ℕ). with_part (whole so_far) s g.range
           (put_at (part_of (whole so_far) s g.range) (made % g.range.blocks) xs)) (table.at l zeros lies)
           ∙ read_next so_far (zeros_of so_far) (zeros_of (so_far ++ medium past l)) (medium past l) s g.range made
-          place.1 place.0 (zeros_left so_far (medium past l) (512 * blocks (first_fields k)) 512
+          place.1 place.0 (zeros_left so_far (medium past l) (512 * block_count (first_fields k)) 512
           (medium_length c past l h))
         where
           zeros_of : List ℕ → List ℕ
-          zeros_of xs = replicate (512 * blocks (first_fields k) - length xs) 0
+          zeros_of xs = replicate (512 * block_count (first_fields k) - length xs) 0
 
           whole : List ℕ → List ℕ
           whole xs = xs ++ zeros_of xs

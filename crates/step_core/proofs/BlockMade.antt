@@ -13,35 +13,35 @@ use Rattle.nvme_model.specs.Legal.{IsLegal}
 use Rattle.nvme_model.specs.Medium.{medium}
 use Rattle.nvme_model.specs.Open.{open_units}
 use Rattle.nvme_model.specs.Refusals.{conditions, refusal}
-use Rattle.ticket_laws.specs.Standing.{left, standing}
+use Rattle.ticket_laws.specs.Standing.{blocks_left, standing}
 use Rattle.nvme_model.specs.Steps.{next_entry}
 use Rattle.nvme_model.specs.Tickets.{in_flight}
-use Rattle.nvme_model.specs.Kept.{Kept}
+use Rattle.nvme_model.specs.Kept.{ControllerInvariant}
 use Rattle.ticket_laws.proofs.Opening.{block_open_beside, block_open_on}
 use Rattle.nvme_model.proofs.Rules.{none_holds}
 use Rattle.ticket_laws.proofs.Standings.{block_other}
 use Rattle.range_reserve.specs.Reserved.{by_ticket, held_beside, held_of}
-use Rattle.range_reserve.specs.declared.held.Held.{Held}
+use Rattle.range_reserve.specs.declared.held.HeldRange.{HeldRange}
 use Rattle.range_reserve.proofs.Granted.{held_beside-map}
 use Rattle.range_reserve.proofs.Rising.{filter-by_ticket}
 use Rattle.block_exec.specs.Bytes.{block_at, volume_with}
 use Rattle.block_exec.specs.Course.{next_done}
-use Rattle.block_exec.specs.Progress.{Progress}
+use Rattle.block_exec.specs.Progress.{UnitProgress}
 use Rattle.block_exec.specs.Units.{progress_of}
 use Rattle.block_exec.specs.declared.run.Done.{Done}
 use Rattle.rings.specs.Completions.{CompletionRing}
 use Rattle.rings.specs.Submissions.{SubmissionRing}
-use Rattle.job_table.specs.Jobs.{JobTable, has_ticket, job_of, replaced}
+use Rattle.job_table.specs.Jobs.{JobTable, has_job_of, job_of, replaced}
 use Rattle.job_table.proofs.Tickets.{is_some-job_of}
 use Rattle.job_table.specs.Keeping.{CanMake, Keeping, finds_equal, noted_job, read_of, written_on}
-use Rattle.ticket_course.specs.Stages.{IfOpen, is_open, unit_in}
-use Rattle.ticket_course.specs.declared.course.Stage.{Stage}
-use Rattle.ticket_course.specs.declared.course.Stage.TheVariants.{Open}
+use Rattle.ticket_progress.specs.Stages.{IfOpen, is_open, unit_in}
+use Rattle.ticket_progress.specs.declared.progress.TicketStage.{TicketStage}
+use Rattle.ticket_progress.specs.declared.progress.TicketStage.TheVariants.{Open}
 use Rattle.rings.specs.Queues.{completion_ring, submission_ring}
 use Rattle.job_table.specs.Tickets.{job_at}
-use Rattle.step_core.specs.Kept.{CoreFields, IsKept}
+use Rattle.step_core.specs.Kept.{CoreFields, IsCoreOf}
 use Rattle.rings.specs.Tables.{IsTable}
-use Rattle.controller_steps.specs.State.{Does, Room, State, TakesRoom, answer_of}
+use Rattle.controller_steps.specs.State.{Does, Room, ControllerState, TakesRoom, answer_of}
 use Rattle.controller_steps.specs.declared.answer.Answer.{Answer}
 use Rattle.step_core.proofs.BlockData.{IsUnit, done_same, finds_same, stage_is, unit_found}
 use Rattle.nvme_model.proofs.Bools.{not_false}
@@ -68,11 +68,11 @@ completion_kept c past b q = refl
 
 -- the call that made it says so
 pub record IsMade (y : Keeping) (v : List (List ℕ)) (d : Done) (v' : List (List ℕ)) (y' : Keeping) : Type 0 where
-  pub done : IfOpen y.course.stage (λ p. d ≡ next_done p (finds_equal y p v))
-  pub volume : IfOpen y.course.stage (λ p. v' ≡ volume_with p v (block_at y.write 0) d.found)
-  pub job : IfOpen y.course.stage (λ p. y' ≡ noted_job y p v d.found)
+  pub done : IfOpen y.progress.stage (λ p. d ≡ next_done p (finds_equal y p v))
+  pub volume : IfOpen y.progress.stage (λ p. v' ≡ volume_with p v (block_at y.write 0) d.found)
+  pub job : IfOpen y.progress.stage (λ p. y' ≡ noted_job y p v d.found)
 
-module _ (c : ConfigNumbers) (past : Past) (fields : CoreFields) (k : IsKept c past fields) (t : ℕ)
+module _ (c : ConfigNumbers) (past : Past) (fields : CoreFields) (k : IsCoreOf c past fields) (t : ℕ)
     (none : refusal c past (Step.Block t) ≡ None) where
   abbrev v : List (List ℕ)
   v = fields.volume
@@ -86,7 +86,7 @@ module _ (c : ConfigNumbers) (past : Past) (fields : CoreFields) (k : IsKept c p
   abbrev j : JobTable
   j = fields.jobs
 
-  abbrev r : List Held
+  abbrev r : List HeldRange
   r = fields.held
 
   abbrev n : ℕ
@@ -99,7 +99,7 @@ module _ (c : ConfigNumbers) (past : Past) (fields : CoreFields) (k : IsKept c p
       ∙ ap (λ b. cond b (Some (job_at c past t)) None) (not_false (in_flight past t) rows.0)
 
   -- its ticket has a job
-  pub has_job : has_ticket j.jobs t ≡ true
+  pub has_job : has_job_of j.jobs t ≡ true
   has_job = sym (is_some-job_of j.jobs t) ∙ ap is_some there
 
   module _ (y : Keeping) (f : Some y ≡ job_of j.jobs t) where
@@ -110,36 +110,36 @@ module _ (c : ConfigNumbers) (past : Past) (fields : CoreFields) (k : IsKept c p
         some_inj h = cc
 
     stands_open : (g : GrantLine) (o : Op) → IsUnit c past t g o
-        → y.course.stage ≡ Open (progress_of past t g.unit o g.range) g.unit (left c (standing past t))
-    stands_open g o u = ap (λ (x : Keeping). x.course.stage) job_is ∙ stage_is c past t k.run.legal g o u
+        → y.progress.stage ≡ Open (progress_of past t g.unit o g.range) g.unit (blocks_left c (standing past t))
+    stands_open g o u = ap (λ (x : Keeping). x.progress.stage) job_is ∙ stage_is c past t k.run.legal g o u
 
     -- a unit of it is open
-    pub opened : is_open y.course.stage ≡ true
+    pub opened : is_open y.progress.stage ≡ true
     opened = let u = unit_found c past t k.run.legal none in ap is_open (stands_open u.0 u.1 u.2)
 
     -- its next Block can be made
-    pub ready : IfOpen y.course.stage (λ p. CanMake y p v)
+    pub ready : IfOpen y.progress.stage (λ p. CanMake y p v)
     ready =
         let u = unit_found c past t k.run.legal none in
-        subst (λ (x : Keeping). IfOpen x.course.stage (λ p. CanMake x p v)) (sym job_is)
-        (subst (λ (s : Stage). IfOpen s (λ p. CanMake (job_at c past t) p v))
+        subst (λ (x : Keeping). IfOpen x.progress.stage (λ p. CanMake x p v)) (sym job_is)
+        (subst (λ (s : TicketStage). IfOpen s (λ p. CanMake (job_at c past t) p v))
         (sym (stage_is c past t k.run.legal u.0 u.1 u.2))
         (can_make c past t k.run.legal u.0 u.1 u.2 v k.volume.size))
 
-    module _ (n' : ℕ) (number : n' ≡ unit_in (job_at c past t).course.stage) (d : Done) (v' : List (List ℕ))
+    module _ (n' : ℕ) (number : n' ≡ unit_in (job_at c past t).progress.stage) (d : Done) (v' : List (List ℕ))
         (y' : Keeping) (m : IsMade y v d v' y') where
       -- what a clause says of the job's open unit it says of the ticket's
-      at_run : (g : GrantLine) (o : Op) → IsUnit c past t g o → (P : Keeping → Progress → Type 0)
-          → IfOpen y.course.stage (P y) → P (job_at c past t) (progress_of past t g.unit o g.range)
+      at_run : (g : GrantLine) (o : Op) → IsUnit c past t g o → (P : Keeping → UnitProgress → Type 0)
+          → IfOpen y.progress.stage (P y) → P (job_at c past t) (progress_of past t g.unit o g.range)
       at_run g o u P h =
-          subst (λ (s : Stage). IfOpen s (P (job_at c past t))) (stage_is c past t k.run.legal g o u)
-          (subst (λ (x : Keeping). IfOpen x.course.stage (P x)) job_is h)
+          subst (λ (s : TicketStage). IfOpen s (P (job_at c past t))) (stage_is c past t k.run.legal g o u)
+          (subst (λ (x : Keeping). IfOpen x.progress.stage (P x)) job_is h)
 
       same : (g : GrantLine) (o : Op) → IsUnit c past t g o
           → next_done (progress_of past t g.unit o g.range)
           (finds_equal (job_at c past t) (progress_of past t g.unit o g.range) v) ≡ done_now past t g o
       same g o u =
-          let p : Progress = progress_of past t g.unit o g.range in
+          let p : UnitProgress = progress_of past t g.unit o g.range in
           done_same p (finds_equal (job_at c past t) p v) (is_equal past t g o)
           (finds_same c past t k.run.legal g o u v k.volume)
 
@@ -175,14 +175,14 @@ module _ (c : ConfigNumbers) (past : Past) (fields : CoreFields) (k : IsKept c p
           ∙ ap (answer_of c past) (entry_is c past t u.0 u.1 u.2)
 
       -- so the step is done
-      pub block_does : (x : State) (p p' : ℕ) (w w' : Room) (h past' : Past)
+      pub block_does : (x : ControllerState) (p p' : ℕ) (w w' : Room) (h past' : Past)
           → record { config = c; past = past; promised = p; room = w } ≡ x → h ≡ past
           → past' ≡ Entry.Block (record { ticket = t; unit = n'; lba = d.lba; found = d.found; effect = d.effect }) ∷ h
           → p' ≡ p - 1 → TakesRoom (Step.Block t) w w'
           → Does x (Step.Block t) (Ok (Answer.Blocked d))
           (record { config = c; past = past'; promised = p'; room = w' })
       block_does x p p' w w' h past' view same_past is_past is_left takes =
-          subst (λ (y : State). Does y (Step.Block t) (Ok (Answer.Blocked d))
+          subst (λ (y : ControllerState). Does y (Step.Block t) (Ok (Answer.Blocked d))
           (record { config = c; past = past'; promised = p'; room = w' })) view (
             (none, refl, answer_is),
             (λ z. record {
@@ -195,10 +195,10 @@ module _ (c : ConfigNumbers) (past : Past) (fields : CoreFields) (k : IsKept c p
           )
 
       -- the fields after it
-      pub kept : (h past' : Past) (r' : List Held) → h ≡ past
+      pub kept : (h past' : Past) (r' : List HeldRange) → h ≡ past
           → past' ≡ Entry.Block (record { ticket = t; unit = n'; lba = d.lba; found = d.found; effect = d.effect }) ∷ h
           → r' ≡ cond d.ended (held_beside r t) r
-          → IsKept c past' (record fields {
+          → IsCoreOf c past' (record fields {
             volume = v';
             jobs = record { limit = j.limit; jobs = replaced j.jobs t y' };
             held = r';
@@ -206,14 +206,14 @@ module _ (c : ConfigNumbers) (past : Past) (fields : CoreFields) (k : IsKept c p
       kept h past' r' same_past is_past is_r = let u = unit_found c past t k.run.legal none in by u.0 u.1 u.2
         where
           by : (g : GrantLine) (o : Op) → IsUnit c past t g o
-              → IsKept c past' (record fields {
+              → IsCoreOf c past' (record fields {
                 volume = v';
                 jobs = record { limit = j.limit; jobs = replaced j.jobs t y' };
                 held = r';
               })
           by g o u =
               let legal = legal_then g o u in
-              subst (λ (p : Past). IsKept c p
+              subst (λ (p : Past). IsCoreOf c p
               (record fields {
                 volume = v';
                 jobs = record { limit = j.limit; jobs = replaced j.jobs t y' };
@@ -240,7 +240,7 @@ module _ (c : ConfigNumbers) (past : Past) (fields : CoreFields) (k : IsKept c p
                 held = is_r ∙ (λ z. cond (says g o u z).ended (held_beside (k.held z) t) (k.held z))
                     ∙ held_now g o u (done_now past t g o).ended refl;
                 count = k.count;
-                run = subst (λ (x : Entry). Kept c (x ∷ past)) (sym (entry_is c past t g o u))
+                run = subst (λ (x : Entry). ControllerInvariant c (x ∷ past)) (sym (entry_is c past t g o u))
                     (next_kept c past (Step.Block t) k.run none);
               })
             where
@@ -255,7 +255,7 @@ module _ (c : ConfigNumbers) (past : Past) (fields : CoreFields) (k : IsKept c p
               own : (g : GrantLine) (o : Op) → IsUnit c past t g o
                   → y' ≡ job_at c (Entry.Block (line_now past t g o) ∷ past) t
               own g o u =
-                  let p : Progress = progress_of past t g.unit o g.range in
+                  let p : UnitProgress = progress_of past t g.unit o g.range in
                   let x : Keeping = job_at c past t in
                   at_run g o u (λ x p. y' ≡ noted_job x p v d.found) m.job
                   ∙ (λ z. noted_job x p v (says g o u z).found)

@@ -24,13 +24,13 @@ use Rattle.nvme_model.proofs.Holding.{range_of_entry}
 use Rattle.ticket_laws.proofs.Opening.{ends_with}
 use Rattle.ticket_laws.proofs.Standings.{after_block, block_off, block_on}
 use Rattle.block_exec.specs.Course.{next_done}
-use Rattle.block_exec.specs.Progress.{has_ended, next_block}
+use Rattle.block_exec.specs.Progress.{unit_has_ended, next_block}
 use Rattle.block_exec.specs.Units.{progress_of}
 use Rattle.block_exec.specs.declared.run.Done.{Done}
-use Rattle.block_exec.proofs.Histories.{block_entry-next_done, has_ended-progress_of, progress_of-stepped}
-use Rattle.ticket_course.specs.Shown.{stage_of}
-use Rattle.ticket_course.specs.Stages.{noted_in}
-use Rattle.ticket_course.proofs.Blocked.{blocked}
+use Rattle.block_exec.proofs.Histories.{block_entry-next_done, unit_has_ended-progress_of, progress_of-stepped}
+use Rattle.ticket_progress.specs.Shown.{standing_stage}
+use Rattle.ticket_progress.specs.Stages.{noted_in}
+use Rattle.ticket_progress.proofs.Blocked.{blocked}
 use Rattle.job_table.specs.Tickets.{compare_bytes, job_at, job_by, read_bytes_by, still_written}
 use Rattle.controller_steps.specs.State.{done_of}
 use Rattle.step_core.proofs.BlockData.{IsUnit, unended}
@@ -73,9 +73,9 @@ module _ (c : ConfigNumbers) (past : Past) (t : ℕ) (g : GrantLine) (o : Op) (u
     -- it ends the unit where the history says so
     pub ended_is : (done_now past t g o).ended ≡ ends_with past (line_now past t g o)
     ended_is =
-        ap has_ended (sym (progress_of-stepped past t g.unit o g.range (is_equal past t g o)
+        ap unit_has_ended (sym (progress_of-stepped past t g.unit o g.range (is_equal past t g o)
         (unended c past t h g o u)))
-        ∙ has_ended-progress_of (Entry.Block (line_now past t g o) ∷ past) t g.unit o g.range u.does
+        ∙ unit_has_ended-progress_of (Entry.Block (line_now past t g o) ∷ past) t g.unit o g.range u.does
         ∙ ap (λ (r : Range). Open.has_ended (Entry.Block (line_now past t g o) ∷ past) t g.unit r.blocks)
         (sym (range_of_entry past (line_now past t g o) g may))
 
@@ -101,9 +101,9 @@ module _ (c : ConfigNumbers) (past : Past) (t : ℕ) (g : GrantLine) (o : Op) (u
         go false e = block_on c past (line_now past t g o) g legal u.found may (sym ended_is ∙ e)
 
     -- and its stage
-    moved : noted_in (stage_of c (standing past t)) (done_now past t g o).found
-        ≡ stage_of c (after_block past (line_now past t g o) (unit_now past t g o))
-    moved = sym (blocked c past (line_now past t g o) legal) ∙ ap (stage_of c) stands
+    moved : noted_in (standing_stage c (standing past t)) (done_now past t g o).found
+        ≡ standing_stage c (after_block past (line_now past t g o) (unit_now past t g o))
+    moved = sym (blocked c past (line_now past t g o) legal) ∙ ap (standing_stage c) stands
 
     -- the job then, where this is what it still writes and has read
     pub job_now : (write : List (List ℕ)) (read : List ℕ)
@@ -111,8 +111,8 @@ module _ (c : ConfigNumbers) (past : Past) (t : ℕ) (g : GrantLine) (o : Op) (u
         → read ≡ read_bytes_by (op (ticket past t)) (ticket past t)
         (after_block past (line_now past t g o) (unit_now past t g o)).read
         → record (job_at c past t) {
-          course = record (job_at c past t).course
-              { stage = noted_in (job_at c past t).course.stage (done_now past t g o).found };
+          progress = record (job_at c past t).progress
+              { stage = noted_in (job_at c past t).progress.stage (done_now past t g o).found };
           write = write;
           read = read;
         }
@@ -121,7 +121,7 @@ module _ (c : ConfigNumbers) (past : Past) (t : ℕ) (g : GrantLine) (o : Op) (u
     job_now write read w e =
         (λ z. record {
           queue = (ticket past t).queue;
-          course = record { stage = moved z; cids = drop (posts_of past t) (cids (ticket past t)) };
+          progress = record { stage = moved z; cids = drop (posts_of past t) (cids (ticket past t)) };
           slba = slba (first_fields (ticket past t));
           compare = compare_bytes (ticket past t);
           write = w z;

@@ -12,13 +12,13 @@ use Rattle.nvme_model.specs.Open.{open_units}
 use Rattle.nvme_model.specs.Operations.{op}
 use Rattle.nvme_model.specs.Refusals.{has_open, refusal}
 use Rattle.nvme_model.specs.Tickets.{ticket}
-use Rattle.ticket_laws.specs.Standing.{Standing, left, standing, still_owed, unit_of}
-use Rattle.block_exec.specs.Progress.{Progress}
-use Rattle.ticket_course.specs.Shown.{stage_by}
-use Rattle.ticket_course.specs.Stages.{is_open}
-use Rattle.ticket_course.specs.declared.course.Stage.{Stage}
-use Rattle.ticket_course.specs.declared.course.Stage.TheVariants.{Owing, Waiting}
-use Rattle.ticket_course.proofs.Granted.{none_found}
+use Rattle.ticket_laws.specs.Standing.{Standing, blocks_left, standing, still_owed, unit_of}
+use Rattle.block_exec.specs.Progress.{UnitProgress}
+use Rattle.ticket_progress.specs.Shown.{stage_by}
+use Rattle.ticket_progress.specs.Stages.{is_open}
+use Rattle.ticket_progress.specs.declared.progress.TicketStage.{TicketStage}
+use Rattle.ticket_progress.specs.declared.progress.TicketStage.TheVariants.{Owing, Waiting}
+use Rattle.ticket_progress.proofs.Granted.{none_found}
 use Rattle.job_table.specs.Keeping.{Keeping}
 use Rattle.job_table.specs.Tickets.{job_at}
 use Rattle.step_core.specs.Found.{IsJob}
@@ -31,27 +31,27 @@ block_tests flies works = cond (not flies) (Some Why.NoTicket) (cond (not works)
 -- no stage is open without a unit
 none_open : (c : ConfigNumbers) (s : Standing) (o : Option Op) → is_open (stage_by c s o None) ≡ false
 none_open c s None = refl
-none_open c s (Some o) = go ((left c s).blocks == 0)
+none_open c s (Some o) = go ((blocks_left c s).blocks == 0)
   where
-    go : (b : Bool) → is_open (cond b (Owing (still_owed c s)) (Waiting o s.opened (left c s))) ≡ false
+    go : (b : Bool) → is_open (cond b (Owing (still_owed c s)) (Waiting o s.opened (blocks_left c s))) ≡ false
     go true = refl
     go false = refl
 
 -- a run is told where a unit is open
-pub told : (s : Stage) (o : Option Progress) → IsTrue (is_open s) ↔ (o ≢ None) → is_some o ≡ is_open s
+pub told : (s : TicketStage) (o : Option UnitProgress) → IsTrue (is_open s) ↔ (o ≢ None) → is_some o ≡ is_open s
 told s o e = go (is_open s) o e
   where
-    go : (b : Bool) (o : Option Progress) → IsTrue b ↔ (o ≢ None) → is_some o ≡ b
+    go : (b : Bool) (o : Option UnitProgress) → IsTrue b ↔ (o ≢ None) → is_some o ≡ b
     go true None e = absurd (e.0 refl refl)
     go true (Some p) e = refl
     go false None e = refl
     go false (Some p) e = absurd (let both : false ≡ true = e.1 (λ (n : Some p ≡ None). absurd cc) in cc)
 
 module _ (c : ConfigNumbers) (past : Past) (t : ℕ) (x : Keeping) (i : IsJob c past t x) where
-  opens : is_open x.course.stage ≡ has_open past t
-  opens = ap (λ (y : Keeping). is_open y.course.stage) i.is ∙ go (has_open past t) refl
+  opens : is_open x.progress.stage ≡ has_open past t
+  opens = ap (λ (y : Keeping). is_open y.progress.stage) i.is ∙ go (has_open past t) refl
     where
-      go : (b : Bool) → has_open past t ≡ b → is_open (job_at c past t).course.stage ≡ b
+      go : (b : Bool) → has_open past t ≡ b → is_open (job_at c past t).progress.stage ≡ b
       go true e = let u = unit_there c past t i.legal e in ap is_open (stage_is c past t i.legal u.0 u.1 u.2)
       go false e =
           ap is_open (job_stage c (standing past t))
@@ -61,7 +61,7 @@ module _ (c : ConfigNumbers) (past : Past) (t : ℕ) (x : Keeping) (i : IsJob c 
           ∙ none_open c (standing past t) (op (ticket past t))
 
   -- by whether a unit is open
-  pub block_tested : (b : Bool) → b ≡ is_open x.course.stage
+  pub block_tested : (b : Bool) → b ≡ is_open x.progress.stage
       → refusal c past (Step.Block t) ≡ cond b None (Some Why.WrongState)
   block_tested b e = (λ z. block_tests (i.flies z) (sym opens z)) ∙ ap (block_tests true) (sym e) ∙ by b
     where

@@ -18,8 +18,8 @@ use Rattle.nvme_model.specs.Refusals.{conditions, refusal}
 use Rattle.ticket_laws.specs.Standing.{flying}
 use Rattle.nvme_model.specs.Steps.{next_entry}
 use Rattle.nvme_model.specs.Tickets
-use Rattle.nvme_model.specs.Tickets.{Ticket, cids, cids_in_use, fetched_ticket, in_flight, next_verdict, numbers}
-use Rattle.nvme_model.specs.Verdict.{item_of, taken}
+use Rattle.nvme_model.specs.Tickets.{Ticket, cids, cids_in_use, fetched_ticket, in_flight, next_verdict, numbers_down}
+use Rattle.nvme_model.specs.Verdict.{item_of, taken_entries}
 use Rattle.nvme_model.specs.declared.config.AtomicParameters.{AtomicParameters}
 use Rattle.nvme_model.specs.declared.config.ConfigNumbers.{ConfigNumbers}
 use Rattle.nvme_model.specs.declared.entry.Entry.{Entry}
@@ -30,20 +30,20 @@ use Rattle.nvme_model.specs.declared.step.Step.{Step}
 use Rattle.nvme_model.specs.declared.submission.Submission.{Submission}
 use Rattle.nvme_model.proofs.Checked.{TicketChecked, ticket_checked}
 use Rattle.ticket_laws.proofs.Counts.{fetched_within, taken_some, taken_within}
-use Rattle.nvme_model.specs.Kept.{Kept}
+use Rattle.nvme_model.specs.Kept.{ControllerInvariant}
 use Rattle.nvme_model.proofs.Holding.{open_kept}
 use Rattle.nvme_model.proofs.Lists.{Each}
 use Rattle.nvme_model.proofs.Rules.{none_holds}
 use Rattle.ticket_laws.proofs.Unfetched.{fetch_flying, fetch_here, fetch_other, flying_known}
 use Rattle.ticket_laws.proofs.Waiting.{fetch_waits}
 use Rattle.fused_match.specs.Judged.{verdict_by}
-use Rattle.job_table.specs.Jobs.{JobTable, all_below, jobs_by}
+use Rattle.job_table.specs.Jobs.{JobTable, all_jobs_below, jobs_by}
 use Rattle.job_table.specs.Keeping.{Keeping}
 use Rattle.job_table.specs.declared.jobs.InFlight.{InFlight}
-use Rattle.job_table.proofs.Tables.{all_below-jobs_by, push-jobs_by}
+use Rattle.job_table.proofs.Tables.{all_jobs_below-jobs_by, push-jobs_by}
 use Rattle.range_reserve.specs.Reserved.{by_ticket, held_of}
-use Rattle.range_reserve.specs.declared.held.Held.{Held}
-use Rattle.ticket_course.specs.Stages.{IsSound}
+use Rattle.range_reserve.specs.declared.held.HeldRange.{HeldRange}
+use Rattle.ticket_progress.specs.Stages.{IsSound}
 use Rattle.rings.specs.Completions.{CompletionRing}
 use Rattle.rings.specs.Submissions.{SubmissionRing, advanced}
 use Rattle.job_table.specs.Beginning.{HasBlocks, read_first, write_first}
@@ -51,9 +51,9 @@ use Rattle.step_core.specs.Found.{IsFront, IsSqRing, first_job, kind_in}
 use Rattle.step_core.specs.declared.controller.fetch.Front.{Front}
 use Rattle.rings.specs.Queues.{completion_ring, submission_ring}
 use Rattle.job_table.specs.Tickets.{job_at, job_by, job_table, write_blocks}
-use Rattle.step_core.specs.Kept.{AreInUse, AreUsed, CoreFields, IsKept}
+use Rattle.step_core.specs.Kept.{AreAllQueueCids, AreQueueCids, CoreFields, IsCoreOf}
 use Rattle.cids_in_use.specs.Used.{UsedCids}
-use Rattle.controller_steps.specs.State.{Does, Room, State, TakesRoom, work_of}
+use Rattle.controller_steps.specs.State.{Does, Room, ControllerState, TakesRoom, work_of}
 use Rattle.controller_steps.specs.Works.{IsKind, TicketWork}
 use Rattle.controller_steps.specs.declared.answer.Answer.{Answer}
 use Rattle.controller_steps.specs.declared.work.Kind.{Kind}
@@ -78,11 +78,12 @@ fetch_line past t x = record { queue = t; ticket = Tickets.tickets past + 1; ver
 
 -- the ring that it takes from
 ring_here : (c : ConfigNumbers) (past : Past) (f : FetchLine)
-    → advanced (submission_ring c past f.queue) (taken f.verdict) ≡ submission_ring c (Entry.Fetch f ∷ past) f.queue
+    → advanced (submission_ring c past f.queue) (taken_entries f.verdict)
+    ≡ submission_ring c (Entry.Fetch f ∷ past) f.queue
 unfolding submission_ring
 ring_here c past f =
     let on : true ≡ eqb f.queue f.queue = sym (eq-eqb f.queue f.queue refl) in
-    let m = taken f.verdict in
+    let m = taken_entries f.verdict in
     let head = mod-add-mod (fetched_count past f.queue) c.sq_size m
     ∙ ap (λ b. (fetched_count past f.queue + cond b m 0) % c.sq_size) on in
     let waits = ap (λ b. drop (cond b m 0) (waiting past f.queue)) on ∙ sym (fetch_waits past f f.queue) in
@@ -94,8 +95,8 @@ ring_other : (c : ConfigNumbers) (past : Past) (f : FetchLine) (q : ℕ) → f.q
 unfolding submission_ring
 ring_other c past f q apart =
     let off = ne_eqb f.queue q apart in
-    let count : fetched_count past q + cond (eqb f.queue q) (taken f.verdict) 0 ≡ fetched_count past q =
-    ap (λ b. fetched_count past q + cond b (taken f.verdict) 0) off ∙ add-zero (fetched_count past q) in
+    let count : fetched_count past q + cond (eqb f.queue q) (taken_entries f.verdict) 0 ≡ fetched_count past q =
+    ap (λ b. fetched_count past q + cond b (taken_entries f.verdict) 0) off ∙ add-zero (fetched_count past q) in
     (λ i. record { size = c.sq_size; head = count i % c.sq_size; waiting = drop (count i) (published_entries past q) })
 
 -- completion queues stay
@@ -129,7 +130,7 @@ among (t ∷ ts) n u h e = elim (cases_Bool (t == u)) [
   | inr apart ↦ among ts n u h.1 (sym (ap (λ b. b || list_any (λ v. v == u) ts) apart) ∙ e)
 ]
 
-module _ (c : ConfigNumbers) (past : Past) (fields : CoreFields) (k : IsKept c past fields) (t : ℕ) (x : Front)
+module _ (c : ConfigNumbers) (past : Past) (fields : CoreFields) (k : IsCoreOf c past fields) (t : ℕ) (x : Front)
     (a : IsFetched c past t x) where
   abbrev v : List (List ℕ)
   v = fields.volume
@@ -143,7 +144,7 @@ module _ (c : ConfigNumbers) (past : Past) (fields : CoreFields) (k : IsKept c p
   abbrev j : JobTable
   j = fields.jobs
 
-  abbrev r : List Held
+  abbrev r : List HeldRange
   r = fields.held
 
   abbrev n : ℕ
@@ -165,14 +166,14 @@ module _ (c : ConfigNumbers) (past : Past) (fields : CoreFields) (k : IsKept c p
   legal = legal_after c past (Step.Fetch t) (Entry.Fetch (fetch_line past t x)) k.run a.0 entry_is
 
   -- its command waits, and so do both of a pair
-  taken_waits : taken (verdict_by x.judged) ≤ length (waiting past t)
+  taken_waits : taken_entries (verdict_by x.judged) ≤ length (waiting past t)
   taken_waits =
       let rows = none_holds (conditions c past (Step.Fetch t)) (ap is_none a.0) in
       let some = more _ _ (fetched_within c past t k.run.legal) rows.1.0 in
       let items = length-map (waiting past t) item_of in
       let most = taken_within c.atomic c.blocks (cids_in_use past t) (map item_of (waiting past t))
       (omega (arith, some, items, length-drop (fetched_count past t) (published_entries past t))) in
-      omega (arith, most, items, ap taken a.1.verdict)
+      omega (arith, most, items, ap taken_entries a.1.verdict)
     where
       more : (m f : ℕ) → f ≤ m → (m == f) ≡ false → f < m
       more m f l e = grind (arith, nat_tests)
@@ -195,32 +196,33 @@ module _ (c : ConfigNumbers) (past : Past) (fields : CoreFields) (k : IsKept c p
   ring_is ring there = there ∙ k.submission.at (t - 1) ring queue_place.1 ∙ ap (submission_ring c past) queue_place.0
 
   -- its commands are on the ring
-  pub can_take : (ring : SubmissionRing) (m : ℕ) → ring ≡ get_or s (t - 1) ring → m ≡ taken (verdict_by x.judged)
+  pub can_take : (ring : SubmissionRing) (m : ℕ) → ring ≡ get_or s (t - 1) ring
+      → m ≡ taken_entries (verdict_by x.judged)
       → m ≤ length ring.waiting
   unfolding submission_ring
   can_take ring m there is =
       omega (arith, taken_waits, ap (λ (y : SubmissionRing). length y.waiting) (ring_is ring there), is)
 
   -- what is judged is of the ticket
-  names : Names x.judged (ticket_by t x.judged (take (taken (verdict_by x.judged)) (waiting past t)))
+  names : Names x.judged (ticket_by t x.judged (take (taken_entries (verdict_by x.judged)) (waiting past t)))
   names = record { operation = a.1.operation; range = a.1.range }
 
   -- each of them has a CID
-  pub cids_are : length x.cids ≡ taken (verdict_by x.judged)
+  pub cids_are : length x.cids ≡ taken_entries (verdict_by x.judged)
   cids_are =
       omega (
         arith,
         ap (λ (ids : List ℕ). length ids) a.1.cids,
-        length-map (take (taken (verdict_by x.judged)) (waiting past t)) (λ s. (sqe_fields s.entry).cid),
-        length-take (taken (verdict_by x.judged)) (waiting past t),
+        length-map (take (taken_entries (verdict_by x.judged)) (waiting past t)) (λ s. (sqe_fields s.entry).cid),
+        length-take (taken_entries (verdict_by x.judged)) (waiting past t),
         taken_waits,
       )
 
   -- its number is above all that fly
-  pub is_above : all_below (n + 1) j.jobs ≡ true
+  pub is_above : all_jobs_below (n + 1) j.jobs ≡ true
   is_above =
-      ap₂ (λ (m : ℕ) (y : JobTable). all_below (m + 1) y.jobs) k.count k.jobs
-      ∙ all_below-jobs_by (job_at c past) (flying past) (Tickets.tickets past + 1)
+      ap₂ (λ (m : ℕ) (y : JobTable). all_jobs_below (m + 1) y.jobs) k.count k.jobs
+      ∙ all_jobs_below-jobs_by (job_at c past) (flying past) (Tickets.tickets past + 1)
       ∙ each_below (flying past) (Tickets.tickets past) (flying_known past)
 
   -- there is room for its job
@@ -259,23 +261,24 @@ module _ (c : ConfigNumbers) (past : Past) (fields : CoreFields) (k : IsKept c p
   pub work_fits : (u : AtomicParameters) (w : Kind) → u ≡ c.atomic → w ≡ kind_in x.judged → IsKind u w
   work_fits u w e f =
       subst₂ IsKind (sym e) (sym f)
-      (kind_fits c t x.judged (take (taken (verdict_by x.judged)) (waiting past t)) (blocks_most c k.accepted) names
+      (kind_fits c t x.judged (take (taken_entries (verdict_by x.judged)) (waiting past t))
+      (blocks_most c k.accepted) names
       checked)
 
   -- and what was judged can be
   pub sound_is : IsSound x.judged
-  sound_is = sound c.atomic t x.judged (take (taken (verdict_by x.judged)) (waiting past t)) names
+  sound_is = sound c.atomic t x.judged (take (taken_entries (verdict_by x.judged)) (waiting past t)) names
       (work_fits c.atomic (kind_in x.judged) refl refl)
 
   -- ---- what it leaves
 
   -- it has a command
-  some_taken : 0 < length (take (taken (verdict_by x.judged)) (waiting past t))
+  some_taken : 0 < length (take (taken_entries (verdict_by x.judged)) (waiting past t))
   some_taken = omega (
     arith,
     taken_waits,
     taken_some (verdict_by x.judged),
-    length-take (taken (verdict_by x.judged)) (waiting past t),
+    length-take (taken_entries (verdict_by x.judged)) (waiting past t),
   )
 
   -- its job
@@ -286,7 +289,8 @@ module _ (c : ConfigNumbers) (past : Past) (fields : CoreFields) (k : IsKept c p
       → job ≡ job_at c (Entry.Fetch (fetch_line past t x) ∷ past) (Tickets.tickets past + 1)
   job_is first write read job front wrote room made =
       made
-      ∙ fresh_job c t x (take (taken (verdict_by x.judged)) (waiting past t)) first write read names a.1.cids a.1.slba
+      ∙ fresh_job c t x (take (taken_entries (verdict_by x.judged)) (waiting past t)) first write read names a.1.cids
+      a.1.slba
       (front_command (waiting past t) t (verdict_by x.judged) first front) wrote room
       ∙ ap (job_by c) (sym (fetch_here c past (fetch_line past t x) legal))
 
@@ -312,13 +316,14 @@ module _ (c : ConfigNumbers) (past : Past) (fields : CoreFields) (k : IsKept c p
       )
 
   -- the ring that is left
-  ring_after : (ring later : SubmissionRing) (m : ℕ) → ring ≡ get_or s (t - 1) ring → m ≡ taken (verdict_by x.judged)
+  ring_after : (ring later : SubmissionRing) (m : ℕ) → ring ≡ get_or s (t - 1) ring
+      → m ≡ taken_entries (verdict_by x.judged)
       → later ≡ advanced ring m → later ≡ submission_ring c (Entry.Fetch (fetch_line past t x) ∷ past) t
   ring_after ring later m there is moved = moved ∙ ap₂ advanced (ring_is ring there) is
       ∙ ring_here c past (fetch_line past t x)
 
   -- the CIDs in use on its queue, without it
-  own_used : (u : UsedCids) → u ≡ get_or fields.in_use (t - 1) u → AreUsed c past t u
+  own_used : (u : UsedCids) → u ≡ get_or fields.in_use (t - 1) u → AreQueueCids c past t u
   own_used u there = used_at c.pairs (2 * c.jobs) (cids_in_use past) fields.in_use (t - 1) t u k.in_use
       (omega (arith, queue_place.0)) queue_place.1 there
 
@@ -331,7 +336,7 @@ module _ (c : ConfigNumbers) (past : Past) (fields : CoreFields) (k : IsKept c p
         arith,
         same_length u.cids (cids_in_use past t) own.cids,
         two_each past t,
-        less c.jobs (count_by (in_flight past) (numbers (Tickets.tickets past))) rows.1.1.0,
+        less c.jobs (count_by (in_flight past) (numbers_down (Tickets.tickets past))) rows.1.1.0,
         own.room,
         cids_are,
         two (verdict_by x.judged),
@@ -340,7 +345,7 @@ module _ (c : ConfigNumbers) (past : Past) (fields : CoreFields) (k : IsKept c p
       less : (m f : ℕ) → nat_le m f ≡ false → f < m
       less m f e = grind (arith, nat_tests)
 
-      two : (w : Verdict) → taken w ≤ 2
+      two : (w : Verdict) → taken_entries w ≤ 2
       two Verdict.Single = omega arith
       two (Verdict.SingleFailed s) = omega arith
       two Verdict.Pair = omega arith
@@ -348,17 +353,17 @@ module _ (c : ConfigNumbers) (past : Past) (fields : CoreFields) (k : IsKept c p
 
   -- they are in use with it
   used_after : (u y : UsedCids) → u ≡ get_or fields.in_use (t - 1) u → y ≡ record u { cids = u.cids ++ x.cids }
-      → AreInUse c (Entry.Fetch (fetch_line past t x) ∷ past) (set fields.in_use (t - 1) y)
+      → AreAllQueueCids c (Entry.Fetch (fetch_line past t x) ∷ past) (set fields.in_use (t - 1) y)
   used_after u y there more =
       used_set c.pairs (2 * c.jobs) (cids_in_use past) (cids_in_use (Entry.Fetch (fetch_line past t x) ∷ past))
       fields.in_use (t - 1) y k.in_use queue_place.1 here others
     where
-      own : AreUsed c past t u
+      own : AreQueueCids c past t u
       own = own_used u there
 
-      here : AreUsed c (Entry.Fetch (fetch_line past t x) ∷ past) (suc (t - 1)) y
-      here = subst (λ (m : ℕ). AreUsed c (Entry.Fetch (fetch_line past t x) ∷ past) m y) (sym queue_place.0)
-          (subst (AreUsed c (Entry.Fetch (fetch_line past t x) ∷ past) t) (sym more) (record {
+      here : AreQueueCids c (Entry.Fetch (fetch_line past t x) ∷ past) (suc (t - 1)) y
+      here = subst (λ (m : ℕ). AreQueueCids c (Entry.Fetch (fetch_line past t x) ∷ past) m y) (sym queue_place.0)
+          (subst (AreQueueCids c (Entry.Fetch (fetch_line past t x) ∷ past) t) (sym more) (record {
             cids = λ p.
                 let mine = count_fetched c past (fetch_line past t x) legal t p in
                 let on = ap (λ b. count_by p (cond b (cids (fetched_ticket past t (verdict_by x.judged))) []))
@@ -384,14 +389,14 @@ module _ (c : ConfigNumbers) (past : Past) (fields : CoreFields) (k : IsKept c p
   -- each field is what the history says
   pub fetch_kept : (first : Submission) (write : List (List ℕ)) (read : List ℕ) (job : Keeping)
       (ring later : SubmissionRing) (u y : UsedCids) (m : ℕ) (table : JobTable) (w : Verdict) (now then : Past)
-      → ring ≡ get_or s (t - 1) ring → m ≡ taken (verdict_by x.judged) → slice_get ring.waiting 0 ≡ Some first
+      → ring ≡ get_or s (t - 1) ring → m ≡ taken_entries (verdict_by x.judged) → slice_get ring.waiting 0 ≡ Some first
       → later ≡ advanced ring m
       → u ≡ get_or fields.in_use (t - 1) u → y ≡ record u { cids = u.cids ++ x.cids }
       → write ≡ write_blocks (fetched_ticket past t (verdict_by x.judged)) → read ≡ read_first x.judged
       → job ≡ first_job t x first write read
       → table ≡ record j { jobs = j.jobs ++ record { ticket = n + 1; job = job } ∷ [] } → w ≡ verdict_by x.judged
       → now ≡ past → then ≡ Entry.Fetch (record { queue = t; ticket = n + 1; verdict = w }) ∷ now
-      → IsKept c then (record fields {
+      → IsCoreOf c then (record fields {
         submission = set s (t - 1) later;
         in_use = set fields.in_use (t - 1) y;
         jobs = table;
@@ -410,7 +415,7 @@ module _ (c : ConfigNumbers) (past : Past) (fields : CoreFields) (k : IsKept c p
         jobs = table;
         tickets = n + 1;
       } in
-      let kept : IsKept c e all = record {
+      let kept : IsCoreOf c e all = record {
         accepted = k.accepted;
         volume = IsTable-same (medium past) (medium e) c.blocks v k.volume (λ l. refl);
         submission = IsTable-set (λ i. submission_ring c past (suc i)) (λ i. submission_ring c e (suc i)) c.pairs
@@ -423,12 +428,13 @@ module _ (c : ConfigNumbers) (past : Past) (fields : CoreFields) (k : IsKept c p
         jobs = table_is job table (job_is first write read job (waits ring first there front) wrote room made) put;
         held = k.held ∙ ap (λ (gs : List GrantLine). by_ticket (map held_of gs)) (sym (open_kept c past line legal));
         count = ap (λ i. i + 1) k.count;
-        run = subst (λ (y : Entry). Kept c (y ∷ past)) (sym entry_is) (stepped c past (Step.Fetch t) k.run a.0);
+        run = subst (λ (y : Entry). ControllerInvariant c (y ∷ past)) (sym entry_is)
+            (stepped c past (Step.Fetch t) k.run a.0);
       } in
-      subst (λ (y : Past). IsKept c y all) (sym h) kept
+      subst (λ (y : Past). IsCoreOf c y all) (sym h) kept
 
   -- the step is done, and the answer is the new ticket and its work
-  pub fetch_done : (y : State) (p : ℕ) (room left : Room) (w : Verdict) (now then : Past) (work : TicketWork)
+  pub fetch_done : (y : ControllerState) (p : ℕ) (room left : Room) (w : Verdict) (now then : Past) (work : TicketWork)
       (u : AtomicParameters) (kind : Kind) → record { config = c; past = past; promised = p; room = room } ≡ y
       → w ≡ verdict_by x.judged → now ≡ past
       → then ≡ Entry.Fetch (record { queue = t; ticket = n + 1; verdict = w }) ∷ now → u ≡ c.atomic
@@ -440,13 +446,13 @@ module _ (c : ConfigNumbers) (past : Past) (fields : CoreFields) (k : IsKept c p
       made ∙ (λ i. record {
         ticket = k.count i + 1;
         atomic = units i;
-        kind = (does ∙ kind_is t x.judged (take (taken (verdict_by x.judged)) (waiting past t)) names) i;
+        kind = (does ∙ kind_is t x.judged (take (taken_entries (verdict_by x.judged)) (waiting past t)) names) i;
       })
       ∙ ap (λ (v : Verdict). work_of c (Tickets.tickets past + 1) (fetched_ticket past t v)) a.1.verdict in
       let past_is : then ≡ next_entry c past (Step.Fetch t) ∷ past =
       pushed ∙ (λ i. Entry.Fetch (record { queue = t; ticket = k.count i + 1; verdict = says i }) ∷ same i)
       ∙ ap (λ (e : Entry). e ∷ past) entry_is in
-      subst (λ (z : State). Does z (Step.Fetch t) (Ok (Answer.Fetched work))
+      subst (λ (z : ControllerState). Does z (Step.Fetch t) (Ok (Answer.Fetched work))
       (record { config = c; past = then; promised = p; room = left })) view (
         (a.0, refl, ap (λ (v : TicketWork). Answer.Fetched v) work_is),
         (λ i. record { config = c; past = past_is i; promised = p; room = left }),

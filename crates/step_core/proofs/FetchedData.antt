@@ -3,13 +3,13 @@ use Rattle.std.proofs.Common.{◌≡◌, ℕ, ◌≤◌, ◌<◌, true, List, []
 use Rattle.std.proofs.Common.{arith}
 use Rattle.std.proofs.lemmas.List.{get_or-take}
 use Rattle.nvme_model.specs.Operations.{op}
-use Rattle.nvme_model.specs.Verdict.{taken}
+use Rattle.nvme_model.specs.Verdict.{taken_entries}
 use Rattle.nvme_model.specs.declared.config.ConfigNumbers.{ConfigNumbers}
 use Rattle.nvme_model.specs.declared.operation.Op.{Op}
 use Rattle.nvme_model.specs.declared.submission.Submission.{Submission}
 use Rattle.nvme_model.proofs.Checked.{TicketChecked}
 use Rattle.ticket_laws.proofs.Lengths.{has_data_if}
-use Rattle.block_exec.specs.Bytes.{blocks_in}
+use Rattle.block_exec.specs.Bytes.{first_blocks}
 use Rattle.fused_match.specs.Judged.{operation_in, verdict_by}
 use Rattle.fused_match.specs.declared.judged.Judged.{Judged}
 use Rattle.fused_match.specs.declared.judged.Judged.TheVariants as judged
@@ -24,9 +24,9 @@ data_beside ws n i l = ap (λ (s : Submission). s.payload) (get_or-take n ws i (
 
 -- the data has the blocks that the ticket writes
 pub has_blocks : (c : ConfigNumbers) (q : ℕ) (j : Judged) (ws : List Submission)
-    → Names j (ticket_by q j (take (taken (verdict_by j)) ws)) → taken (verdict_by j) ≤ length ws
-    → (is_some (op (ticket_by q j (take (taken (verdict_by j)) ws))) ≡ true
-    → TicketChecked c (ticket_by q j (take (taken (verdict_by j)) ws))) → HasBlocks j ws
+    → Names j (ticket_by q j (take (taken_entries (verdict_by j)) ws)) → taken_entries (verdict_by j) ≤ length ws
+    → (is_some (op (ticket_by q j (take (taken_entries (verdict_by j)) ws))) ≡ true
+    → TicketChecked c (ticket_by q j (take (taken_entries (verdict_by j)) ws))) → HasBlocks j ws
 has_blocks c q judged.Flush ws h l check = tt
 has_blocks c q (judged.Single Op.Read r) ws h l check = tt
 has_blocks c q (judged.Single Op.Compare r) ws h l check = tt
@@ -49,18 +49,20 @@ has_blocks c q (judged.SingleFailed s) ws h l check = tt
 has_blocks c q (judged.PairFailed s r) ws h l check = tt
 
 -- and they are those
-pub blocks_are : (q : ℕ) (j : Judged) (ws : List Submission) → Names j (ticket_by q j (take (taken (verdict_by j)) ws))
-    → write_first j ws ≡ write_blocks (ticket_by q j (take (taken (verdict_by j)) ws))
-blocks_are q j ws h = by j h ∙ ap (λ o. write_blocks_by o (ticket_by q j (take (taken (verdict_by j)) ws))) h.operation
+pub blocks_are : (q : ℕ) (j : Judged) (ws : List Submission)
+    → Names j (ticket_by q j (take (taken_entries (verdict_by j)) ws))
+    → write_first j ws ≡ write_blocks (ticket_by q j (take (taken_entries (verdict_by j)) ws))
+blocks_are q j ws h = by j h
+    ∙ ap (λ o. write_blocks_by o (ticket_by q j (take (taken_entries (verdict_by j)) ws))) h.operation
   where
-    by : (j : Judged) → Names j (ticket_by q j (take (taken (verdict_by j)) ws))
-        → write_first j ws ≡ write_blocks_by (operation_in j) (ticket_by q j (take (taken (verdict_by j)) ws))
+    by : (j : Judged) → Names j (ticket_by q j (take (taken_entries (verdict_by j)) ws))
+        → write_first j ws ≡ write_blocks_by (operation_in j) (ticket_by q j (take (taken_entries (verdict_by j)) ws))
     by judged.Flush h = refl
     by (judged.Single Op.Read r) h = refl
     by (judged.Single Op.Compare r) h = refl
     by (judged.Single Op.WriteZeroes r) h = refl
-    by (judged.Single Op.Write r) h = ap₂ blocks_in h.range.1 (sym (data_beside ws 1 0 (omega arith)))
+    by (judged.Single Op.Write r) h = ap₂ first_blocks h.range.1 (sym (data_beside ws 1 0 (omega arith)))
     by (judged.Single Op.Pair r) h = absurd (no_pair q r (take 1 ws) h)
-    by (judged.Pair r) h = ap₂ blocks_in h.range.1 (sym (data_beside ws 2 1 (omega arith)))
+    by (judged.Pair r) h = ap₂ first_blocks h.range.1 (sym (data_beside ws 2 1 (omega arith)))
     by (judged.SingleFailed s) h = refl
     by (judged.PairFailed s r) h = refl

@@ -3,9 +3,9 @@ use Rattle.std.proofs.Common.{◌≡◌, ℕ, ◌+◌, ◌-◌, ◌*◌, ◌≤�
 use Rattle.std.proofs.Common.{is_some, refl, sym, ap, ap₂, ◌∙◌, inl, inr, arith}
 use Rattle.nvme_model.specs.Cells.{pair_fits}
 use Rattle.nvme_model.specs.Commands.{is_compare, is_read, is_write, is_write_zeroes}
-use Rattle.nvme_model.specs.EntryBytes.{Sqe, blocks, slba}
+use Rattle.nvme_model.specs.EntryBytes.{Sqe, block_count, slba}
 use Rattle.nvme_model.specs.Operations.{has_compare, is_pair, op, op_of_fields}
-use Rattle.ticket_laws.specs.Standing.{fresh}
+use Rattle.ticket_laws.specs.Standing.{fresh_standing}
 use Rattle.nvme_model.specs.Tickets.{Ticket, cids, command, first_fields}
 use Rattle.nvme_model.specs.declared.array.Range.{Range}
 use Rattle.nvme_model.specs.declared.config.AtomicParameters.{AtomicParameters}
@@ -18,8 +18,8 @@ use Rattle.nvme_model.specs.Array.{IsRange}
 use Rattle.fused_match.specs.Judged.{NamesBlocks, operation_in, verdict_by}
 use Rattle.fused_match.specs.declared.judged.Judged.{Judged}
 use Rattle.fused_match.specs.declared.judged.Judged.TheVariants as judged
-use Rattle.ticket_course.specs.Stages.{IsSound, commands_in}
-use Rattle.ticket_course.proofs.Fetched.{fetched}
+use Rattle.ticket_progress.specs.Stages.{IsSound, commands_in}
+use Rattle.ticket_progress.proofs.Fetched.{fetched}
 use Rattle.step_core.specs.Found.{first_job, kind_in}
 use Rattle.job_table.specs.Beginning.{read_first}
 use Rattle.step_core.specs.declared.controller.fetch.Front.{Front}
@@ -126,9 +126,9 @@ sound u q (judged.PairFailed s r) cs h fits = tt
 -- ---- its job
 
 -- the room for what one command reads
-read_op : (k : Ticket) (o : Op) (r : Range) → r.blocks ≡ blocks (first_fields k)
+read_op : (k : Ticket) (o : Op) (r : Range) → r.blocks ≡ block_count (first_fields k)
     → read_first (judged.Single o r) ≡ read_bytes_by (Some o) k []
-read_op k Op.Read r e = ap (λ (n : ℕ). replicate n 0) (whole r.blocks (blocks (first_fields k)) e)
+read_op k Op.Read r e = ap (λ (n : ℕ). replicate n 0) (whole r.blocks (block_count (first_fields k)) e)
   where
     whole : (a b : ℕ) → a ≡ b → 512 * a ≡ 512 * b - 0
     whole a b e = omega (arith, e)
@@ -153,14 +153,14 @@ pub fresh_job : (c : ConfigNumbers) (q : ℕ) (f : Front) (cs : List Submission)
     → f.cids ≡ cids (ticket_by q f.judged cs) → f.slba ≡ slba (first_fields (ticket_by q f.judged cs))
     → first ≡ command (ticket_by q f.judged cs) 0
     → write ≡ write_blocks (ticket_by q f.judged cs) → read ≡ read_first f.judged
-    → first_job q f first write read ≡ job_by c (fresh (ticket_by q f.judged cs))
+    → first_job q f first write read ≡ job_by c (fresh_standing (ticket_by q f.judged cs))
 unfolding job_by
 fresh_job c q f cs first write read h ids start front wrote room =
     let k = ticket_by q f.judged cs in
     let e = h.operation in
     (λ i. record {
       queue = q;
-      course = record { stage = sym (fetched c k f.judged refl h.operation h.range) i; cids = ids i };
+      progress = record { stage = sym (fetched c k f.judged refl h.operation h.range) i; cids = ids i };
       slba = start i;
       compare = cond (has_compare (e i)) (front i).payload [];
       write = (wrote ∙ sym (fresh_blocks c k)) i;

@@ -13,7 +13,7 @@ use Rattle.nvme_model.specs.Queues.{fetched_count, published_entries, waiting}
 use Rattle.nvme_model.specs.Refusals.{jobs_full, no_queue, refusal}
 use Rattle.ticket_laws.specs.Standing.{flying}
 use Rattle.nvme_model.specs.Tickets.{cids_in_use, command}
-use Rattle.nvme_model.specs.Verdict.{Item, item_of, taken, verdict_of}
+use Rattle.nvme_model.specs.Verdict.{Item, item_of, taken_entries, verdict_of}
 use Rattle.nvme_model.specs.declared.config.AtomicParameters.{AtomicParameters}
 use Rattle.nvme_model.specs.declared.config.ConfigNumbers.{ConfigNumbers}
 use Rattle.nvme_model.specs.declared.refusal.Why.{Why}
@@ -33,7 +33,7 @@ use Rattle.step_core.specs.Found.{IsFront, IsSqRing}
 use Rattle.step_core.specs.declared.controller.fetch.Front.{Front}
 use Rattle.job_table.specs.Tickets.{job_at}
 use Rattle.rings.specs.Queues.{submission_ring}
-use Rattle.step_core.specs.Kept.{AreUsed, CoreFields, IsKept}
+use Rattle.step_core.specs.Kept.{AreQueueCids, CoreFields, IsCoreOf}
 use Rattle.cids_in_use.proofs.Counts.{same_in}
 
 -- ---- the limits of a configuration
@@ -49,7 +49,7 @@ le_is_eq : (a b : ℕ) → a ≤ b → (a == b) ≡ nat_le b a
 le_is_eq a b l = grind (arith, nat_tests)
 
 -- the table is full where as many tickets are in flight as may be
-pub full_is : (c : ConfigNumbers) (past : Past) (fields : CoreFields) → IsKept c past fields
+pub full_is : (c : ConfigNumbers) (past : Past) (fields : CoreFields) → IsCoreOf c past fields
     → length fields.jobs.jobs ≤ fields.jobs.limit → (length fields.jobs.jobs == fields.jobs.limit) ≡ jobs_full c past
 full_is c past fields k most =
     let j = fields.jobs in
@@ -133,14 +133,15 @@ front_verdict u size in_use (x ∷ (y ∷ ws)) first e =
 
 -- the first command of those that are taken
 pub front_command : (ws : List Submission) (q : ℕ) (v : Verdict) (first : Submission) → slice_get ws 0 ≡ Some first
-    → first ≡ command (record { queue = q; commands = take (taken v) ws; verdict = v }) 0
+    → first ≡ command (record { queue = q; commands = take (taken_entries v) ws; verdict = v }) 0
 front_command [] q v first e = absurd cc
 front_command (x ∷ ws) q v first e = by v
   where
     some_inj : Some x ≡ Some first → first ≡ x
     some_inj h = cc
 
-    by : (v : Verdict) → first ≡ command (record { queue = q; commands = take (taken v) (x ∷ ws); verdict = v }) 0
+    by : (v : Verdict) → first
+        ≡ command (record { queue = q; commands = take (taken_entries v) (x ∷ ws); verdict = v }) 0
     by Verdict.Single = some_inj e
     by (Verdict.SingleFailed s) = some_inj e
     by Verdict.Pair = some_inj e
@@ -149,7 +150,7 @@ front_command (x ∷ ws) q v first e = by v
 -- the CIDs of those that are taken, where two are looked at
 front_cids : (ws : List Submission) (j : Judged) (first : Submission) → slice_get ws 0 ≡ Some first
     → cids_taken j (item_of first) (option_map item_of (slice_get ws 1))
-    ≡ map (λ s. (sqe_fields s.entry).cid) (take (taken (verdict_by j)) ws)
+    ≡ map (λ s. (sqe_fields s.entry).cid) (take (taken_entries (verdict_by j)) ws)
 front_cids [] j first e = absurd cc
 front_cids (x ∷ []) j first e = by (verdict_by j)
   where
@@ -159,8 +160,8 @@ front_cids (x ∷ []) j first e = by (verdict_by j)
     same : (sqe_fields first.entry).cid ≡ (sqe_fields x.entry).cid
     same = ap (λ (s : Submission). (sqe_fields s.entry).cid) (some_inj e)
 
-    by : (v : Verdict) → map (λ (i : Item). i.fields.cid) (take (taken v) (item_of first ∷ []))
-        ≡ map (λ (s : Submission). (sqe_fields s.entry).cid) (take (taken v) (x ∷ []))
+    by : (v : Verdict) → map (λ (i : Item). i.fields.cid) (take (taken_entries v) (item_of first ∷ []))
+        ≡ map (λ (s : Submission). (sqe_fields s.entry).cid) (take (taken_entries v) (x ∷ []))
     by Verdict.Single = ap (λ n. n ∷ []) same
     by (Verdict.SingleFailed s) = ap (λ n. n ∷ []) same
     by Verdict.Pair = ap (λ n. n ∷ []) same
@@ -173,8 +174,8 @@ front_cids (x ∷ (y ∷ ws)) j first e = by (verdict_by j)
     same : (sqe_fields first.entry).cid ≡ (sqe_fields x.entry).cid
     same = ap (λ (s : Submission). (sqe_fields s.entry).cid) (some_inj e)
 
-    by : (v : Verdict) → map (λ (i : Item). i.fields.cid) (take (taken v) (item_of first ∷ item_of y ∷ []))
-        ≡ map (λ (s : Submission). (sqe_fields s.entry).cid) (take (taken v) (x ∷ y ∷ ws))
+    by : (v : Verdict) → map (λ (i : Item). i.fields.cid) (take (taken_entries v) (item_of first ∷ item_of y ∷ []))
+        ≡ map (λ (s : Submission). (sqe_fields s.entry).cid) (take (taken_entries v) (x ∷ y ∷ ws))
     by Verdict.Single = ap (λ n. n ∷ []) same
     by (Verdict.SingleFailed s) = ap (λ n. n ∷ []) same
     by Verdict.Pair = ap (λ n. n ∷ (sqe_fields y.entry).cid ∷ []) same
@@ -209,7 +210,7 @@ front_is c past q r f first second s there behind verdict operation range ids st
 
 -- what is judged by the CIDs that are kept of a queue is judged by those in use
 pub judged_by : (c : ConfigNumbers) (past : Past) (q : ℕ) (u : UsedCids) (j : Judged) (a : AtomicParameters) (size : ℕ)
-    (cids : List ℕ) (items : List Item) → AreUsed c past q u → cids ≡ u.cids
+    (cids : List ℕ) (items : List Item) → AreQueueCids c past q u → cids ≡ u.cids
     → a ≡ c.atomic → size ≡ c.blocks → verdict_by j ≡ verdict_of a size cids items
     → verdict_by j ≡ verdict_of c.atomic c.blocks (cids_in_use past q) items
 judged_by c past q u j a size cids items used is units blocks e =

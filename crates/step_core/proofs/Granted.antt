@@ -1,52 +1,50 @@
 -- A Grant that isn't refused: what the calls that make it require, and the fields after it.
-use Rattle.std.proofs.Common.{◌≡◌, ℕ, zero, suc, true, false, cond, List, ◌∷◌, drop, map, option_map, refl, sym, ap}
-use Rattle.std.proofs.Common.{◌∙◌, subst, Option, Some, None, is_some, is_ok, inl, inr, Result, Ok, Err, slice_get}
+use Rattle.std.proofs.Common.{◌≡◌, ℕ, suc, true, false, cond, List, ◌∷◌, drop, map, option_map, refl, sym, ap}
+use Rattle.std.proofs.Common.{◌∙◌, subst, Option, Some, None, is_some, is_ok, inl, inr, Result, Ok, Err}
 use Rattle.std.proofs.Common.{◌==◌, ◌⊎◌}
 use Rattle.std.specs.Prelude.{IfErr}
 use Rattle.std.proofs.lemmas.Bool.{or_parts}
 use Rattle.nvme_model.specs.declared.array.Range.{Range}
-use Rattle.nvme_model.specs.declared.config.AtomicParameters.{AtomicParameters}
 use Rattle.nvme_model.specs.declared.config.ConfigNumbers.{ConfigNumbers}
 use Rattle.nvme_model.specs.declared.entry.Entry.{Entry}
 use Rattle.nvme_model.specs.declared.entry.GrantLine.{GrantLine}
-use Rattle.nvme_model.specs.declared.operation.Op.{Op}
 use Rattle.nvme_model.specs.declared.refusal.Why.{Why}
 use Rattle.nvme_model.specs.declared.step.Step.{Step}
 use Rattle.nvme_model.specs.History.{Past}
 use Rattle.nvme_model.specs.Legal.{IsLegal}
 use Rattle.nvme_model.specs.Medium.{medium}
 use Rattle.nvme_model.specs.Open.{conflict, differed, grants_of, open_units}
-use Rattle.nvme_model.specs.Operations.{mode, op, units_by}
+use Rattle.nvme_model.specs.Operations.{mode, op}
 use Rattle.nvme_model.specs.Refusals.{conflicts_open, next_unit}
 use Rattle.ticket_laws.specs.Standing.{Standing, open_unit, standing, unit_of}
 use Rattle.nvme_model.specs.Steps.{grant_entry}
 use Rattle.nvme_model.specs.Tickets.{cids, first_fields, ticket}
 use Rattle.nvme_model.specs.EntryBytes.{slba}
-use Rattle.nvme_model.specs.Kept.{Kept}
+use Rattle.nvme_model.specs.Kept.{ControllerInvariant}
 use Rattle.ticket_laws.proofs.Left.{next_unit_left}
 use Rattle.ticket_laws.proofs.Opening.{grant_open}
 use Rattle.nvme_model.proofs.Rules.{MayGrant, may_grant}
 use Rattle.ticket_laws.proofs.Standings.{grant_here, grant_other}
-use Rattle.range_reserve.specs.Reserved.{by_ticket, has_conflict, has_ticket, held_of, insert_held}
+use Rattle.range_reserve.specs.Reserved.{by_ticket, has_conflict, holds_range, held_of, insert_held}
 use Rattle.range_reserve.proofs.Rising.{list_any-by_ticket}
-use Rattle.range_reserve.specs.declared.held.Held.{Held}
-use Rattle.range_reserve.proofs.Granted.{has_conflict-map, has_ticket-map}
+use Rattle.range_reserve.specs.declared.held.HeldRange.{HeldRange}
+use Rattle.range_reserve.proofs.Granted.{has_conflict-map, holds_range-map}
 use Rattle.nvme_model.specs.Array.{IsRange}
 use Rattle.rings.specs.Completions.{CompletionRing}
 use Rattle.rings.specs.Submissions.{SubmissionRing}
-use Rattle.job_table.specs.Jobs.{JobTable, has_ticket as has_ticket_in, job_of, replaced}
+use Rattle.job_table.specs.Jobs.{JobTable, has_job_of as has_ticket_in, job_of, replaced}
 use Rattle.job_table.proofs.Tickets.{is_some-job_of}
 use Rattle.job_table.specs.Keeping.{Keeping, opened_job}
-use Rattle.ticket_course.specs.Shown.{stage_of}
-use Rattle.ticket_course.specs.Stages.{IsFirst, opened_in}
-use Rattle.ticket_course.specs.declared.course.Stage.{Stage}
-use Rattle.ticket_course.proofs.Granted.{granted, none_found, units_of_op}
-use Rattle.ticket_course.proofs.Waits.{Waits, first_of, opens}
+use Rattle.ticket_progress.specs.Shown.{standing_stage}
+use Rattle.ticket_progress.specs.Stages.{IsFirstUnit, opened_in}
+use Rattle.ticket_progress.specs.declared.progress.TicketStage.{TicketStage}
+use Rattle.ticket_progress.proofs.Granted.{granted, none_found, units_of_op}
+use Rattle.ticket_progress.proofs.Waits.{Waits, first_of, opens}
 use Rattle.job_table.specs.Tickets.{compare_bytes, job_at, job_by, read_bytes_by, still_written}
 use Rattle.rings.specs.Queues.{completion_ring, submission_ring}
-use Rattle.step_core.specs.Kept.{CoreFields, IsKept}
-use Rattle.step_core.specs.Found.{IsNext}
-use Rattle.step_core.specs.declared.controller.next.Next.{Next}
+use Rattle.step_core.specs.Kept.{CoreFields, IsCoreOf}
+use Rattle.step_core.specs.Found.{IsNextStep}
+use Rattle.step_core.specs.declared.controller.next.ReadyStep.{ReadyStep}
 use Rattle.step_core.proofs.Bounds.{unit_range_is}
 use Rattle.step_core.proofs.Granting.{job_stage}
 use Rattle.step_core.proofs.Moves.{job_found, jobs_moved, legal_after, stepped}
@@ -57,13 +55,13 @@ use Rattle.step_core.proofs.Written.{granted_blocks, with_unit}
 
 -- only its stage is another
 opened_is : (c : ConfigNumbers) (s : Standing) (g : GrantLine)
-    → opened_in (stage_of c s) g.range ≡ stage_of c (with_unit s g)
+    → opened_in (standing_stage c s) g.range ≡ standing_stage c (with_unit s g)
     → still_written c s ≡ still_written c (with_unit s g) → opened_job (job_by c s) g.range ≡ job_by c (with_unit s g)
 unfolding job_by
 opened_is c s g e w =
     (λ z. record {
       queue = s.ticket.queue;
-      course = record { stage = e z; cids = drop s.posts (cids s.ticket) };
+      progress = record { stage = e z; cids = drop s.posts (cids s.ticket) };
       slba = slba (first_fields s.ticket);
       compare = compare_bytes s.ticket;
       write = w z;
@@ -104,8 +102,8 @@ line_mode past t (Some r) g e =
     let w : g ≡ record { ticket = t; unit = grants_of past t; range = r; mode = mode (ticket past t) } = cc in
     ap (λ (x : GrantLine). x.mode) w
 
-module _ (c : ConfigNumbers) (past : Past) (fields : CoreFields) (k : IsKept c past fields) (g : GrantLine)
-    (a : IsNext c past (Next.Grant g)) where
+module _ (c : ConfigNumbers) (past : Past) (fields : CoreFields) (k : IsCoreOf c past fields) (g : GrantLine)
+    (a : IsNextStep c past (ReadyStep.Grant g)) where
   abbrev v : List (List ℕ)
   v = fields.volume
 
@@ -118,7 +116,7 @@ module _ (c : ConfigNumbers) (past : Past) (fields : CoreFields) (k : IsKept c p
   abbrev j : JobTable
   j = fields.jobs
 
-  abbrev r : List Held
+  abbrev r : List HeldRange
   r = fields.held
 
   abbrev n : ℕ
@@ -140,15 +138,15 @@ module _ (c : ConfigNumbers) (past : Past) (fields : CoreFields) (k : IsKept c p
   goes_on = (or_parts _ (differed past g.ticket) may.left).1
 
   -- its ticket holds no range
-  pub free : has_ticket r g.ticket ≡ false
-  free = ap (λ (hs : List Held). has_ticket hs g.ticket) k.held
+  pub free : holds_range r g.ticket ≡ false
+  free = ap (λ (hs : List HeldRange). holds_range hs g.ticket) k.held
       ∙ list_any-by_ticket (λ h. h.ticket == g.ticket) (map held_of (open_units past))
-      ∙ has_ticket-map (open_units past) g.ticket ∙ may.closed
+      ∙ holds_range-map (open_units past) g.ticket ∙ may.closed
 
   -- the range is apart from those that are held
   pub apart : has_conflict r g.range g.mode ≡ false
   apart =
-      ap (λ (hs : List Held). has_conflict hs g.range g.mode) k.held
+      ap (λ (hs : List HeldRange). has_conflict hs g.range g.mode) k.held
       ∙ list_any-by_ticket (λ h. conflict g.range g.mode h.range h.mode) (map held_of (open_units past))
       ∙ has_conflict-map (open_units past) g.range g.mode
       ∙ (λ z. conflicts_open past (line_mode past g.ticket (next_unit c past g.ticket) g a.1 z) (sym next z))
@@ -186,36 +184,36 @@ module _ (c : ConfigNumbers) (past : Past) (fields : CoreFields) (k : IsKept c p
         some_inj h = cc
 
     -- its unit is the next one
-    pub first : IsFirst x.course.stage g.range
+    pub first : IsFirstUnit x.progress.stage g.range
     first =
-        subst (λ (y : Stage). IsFirst y g.range)
-        (sym (ap (λ (y : Keeping). y.course.stage) job_is ∙ job_stage c (standing past g.ticket)))
+        subst (λ (y : TicketStage). IsFirstUnit y g.range)
+        (sym (ap (λ (y : Keeping). y.progress.stage) job_is ∙ job_stage c (standing past g.ticket)))
         (first_of c (standing past g.ticket) g.range (op (ticket past g.ticket)) (open_unit past g.ticket) waiting
         range_is.0)
 
     own : opened_job x g.range ≡ job_at c (Entry.Grant g ∷ past) g.ticket
     own =
         ap (λ (y : Keeping). opened_job y g.range) job_is
-        ∙ opened_is c (standing past g.ticket) g (sym moved ∙ ap (stage_of c) here)
+        ∙ opened_is c (standing past g.ticket) g (sym moved ∙ ap (standing_stage c) here)
         (granted_blocks c (standing past g.ticket) g closed goes_on next)
         ∙ ap (job_by c) (sym here)
       where
         here : standing (Entry.Grant g ∷ past) g.ticket ≡ with_unit (standing past g.ticket) g
         here = grant_here c past g legal
 
-        moved : stage_of c (standing (Entry.Grant g ∷ past) g.ticket)
-            ≡ opened_in (stage_of c (standing past g.ticket)) g.range
+        moved : standing_stage c (standing (Entry.Grant g ∷ past) g.ticket)
+            ≡ opened_in (standing_stage c (standing past g.ticket)) g.range
         moved = granted c past g legal
 
     -- the fields after it
-    pub kept : (h past' : Past) (y : Keeping) (r' : List Held) → h ≡ past → past' ≡ Entry.Grant g ∷ h
+    pub kept : (h past' : Past) (y : Keeping) (r' : List HeldRange) → h ≡ past → past' ≡ Entry.Grant g ∷ h
         → y ≡ opened_job x g.range → r' ≡ insert_held (record { ticket = g.ticket; range = g.range; mode = g.mode }) r
-        → IsKept c past' (record fields {
+        → IsCoreOf c past' (record fields {
           jobs = record { limit = j.limit; jobs = replaced j.jobs g.ticket y };
           held = r';
         })
     kept h past' y r' same_past is_past is_y is_r =
-        subst (λ (p : Past). IsKept c p
+        subst (λ (p : Past). IsCoreOf c p
         (record fields { jobs = record { limit = j.limit; jobs = replaced j.jobs g.ticket y }; held = r' }))
         (sym (is_past ∙ ap (λ (w : Past). Entry.Grant g ∷ w) same_past))
         (record {
@@ -237,5 +235,6 @@ module _ (c : ConfigNumbers) (past : Past) (fields : CoreFields) (k : IsKept c p
           held = is_r ∙ ap (insert_held (record { ticket = g.ticket; range = g.range; mode = g.mode })) k.held
               ∙ ap (λ (gs : List GrantLine). by_ticket (map held_of gs)) (sym (grant_open c past g legal));
           count = k.count;
-          run = subst (λ (x : Entry). Kept c (x ∷ past)) (sym a.1) (stepped c past (Step.Grant g.ticket) k.run a.0);
+          run = subst (λ (x : Entry). ControllerInvariant c (x ∷ past)) (sym a.1)
+              (stepped c past (Step.Grant g.ticket) k.run a.0);
         })

@@ -10,8 +10,8 @@ use Rattle.nvme_model.specs.EntryBytes.{sqe_fields}
 use Rattle.nvme_model.specs.History.{Past}
 use Rattle.nvme_model.specs.Legal.{IsLegal}
 use Rattle.nvme_model.specs.Tickets
-use Rattle.nvme_model.specs.Tickets.{Ticket, cids, cids_in_use, fetched_ticket, in_flight, numbers, posts_of}
-use Rattle.nvme_model.specs.Verdict.{taken}
+use Rattle.nvme_model.specs.Tickets.{Ticket, cids, cids_in_use, fetched_ticket, in_flight, numbers_down, posts_of}
+use Rattle.nvme_model.specs.Verdict.{taken_entries}
 use Rattle.nvme_model.specs.declared.config.ConfigNumbers.{ConfigNumbers}
 use Rattle.nvme_model.specs.declared.entry.Entry.{Entry}
 use Rattle.nvme_model.specs.declared.entry.FetchLine.{FetchLine}
@@ -35,7 +35,7 @@ pub count_fetched : (c : ConfigNumbers) (past : Past) (f : FetchLine) → IsLega
     ≡ count_by p (cond (eqb f.queue q) (cids (fetched_ticket past f.queue f.verdict)) [])
     + count_by p (cids_in_use past q)
 count_fetched c past f h q p =
-    ap (λ (m : ℕ). count_by p (flat_map (left_on (Entry.Fetch f ∷ past) q) (numbers m)))
+    ap (λ (m : ℕ). count_by p (flat_map (left_on (Entry.Fetch f ∷ past) q) (numbers_down m)))
     (add-one (Tickets.tickets past))
     ∙ count_append p (left_on (Entry.Fetch f ∷ past) q (suc (Tickets.tickets past))) _
     ∙ (λ i. count_by p (first i) + count_by p (rest (Tickets.tickets past) (omega arith) i))
@@ -56,7 +56,7 @@ count_fetched c past f h q p =
             (eq-eqb f.ticket (suc (Tickets.tickets past)) (omega (arith, number)))
 
     rest : (m : ℕ) → m ≤ Tickets.tickets past
-        → flat_map (left_on (Entry.Fetch f ∷ past) q) (numbers m) ≡ flat_map (left_on past q) (numbers m)
+        → flat_map (left_on (Entry.Fetch f ∷ past) q) (numbers_down m) ≡ flat_map (left_on past q) (numbers_down m)
     rest zero l = refl
     rest (suc m) l =
         let other = cond-false (eqb f.ticket (suc m)) (fetched_ticket past f.queue f.verdict)
@@ -111,16 +111,16 @@ module _ (past : Past) (p : PostLine) (cid : ℕ)
 
   -- below it all keep theirs
   below : (m : ℕ) → m < p.ticket
-      → flat_map (left_on (Entry.Post p ∷ past) q) (numbers m) ≡ flat_map (left_on past q) (numbers m)
+      → flat_map (left_on (Entry.Post p ∷ past) q) (numbers_down m) ≡ flat_map (left_on past q) (numbers_down m)
   below zero l = refl
   below (suc m) l =
       ap₂ (λ (xs ys : List ℕ). xs ++ ys) (other (suc m) (λ (e : p.ticket ≡ suc m). omega (arith, e, l)))
       (below m (omega (arith, l)))
 
   one_fewer : (m : ℕ) → 0 < p.ticket → p.ticket ≤ m
-      → count_by f (flat_map (left_on past q) (numbers m))
+      → count_by f (flat_map (left_on past q) (numbers_down m))
       ≡ count_by f (cond (eqb (Tickets.ticket past p.ticket).queue q) (cid ∷ []) [])
-      + count_by f (flat_map (left_on (Entry.Post p ∷ past) q) (numbers m))
+      + count_by f (flat_map (left_on (Entry.Post p ∷ past) q) (numbers_down m))
   one_fewer zero some l = absurd (omega (arith, some, l))
   one_fewer (suc m) some l = elim (cases_eq p.ticket (suc m)) [
     | inl e ↦
@@ -129,16 +129,17 @@ module _ (past : Past) (p : PostLine) (cid : ℕ)
         + count_by f (left_on (Entry.Post p ∷ past) q t)) e in
         omega (
           arith,
-          count_append f (left_on past q (suc m)) (flat_map (left_on past q) (numbers m)),
+          count_append f (left_on past q (suc m)) (flat_map (left_on past q) (numbers_down m)),
           count_append f (left_on (Entry.Post p ∷ past) q (suc m))
-              (flat_map (left_on (Entry.Post p ∷ past) q) (numbers m)),
+              (flat_map (left_on (Entry.Post p ∷ past) q) (numbers_down m)),
           head,
           ap (count_by f) (below m (omega (arith, e))),
         )
     | inr n ↦ omega (
       arith,
-      count_append f (left_on past q (suc m)) (flat_map (left_on past q) (numbers m)),
-      count_append f (left_on (Entry.Post p ∷ past) q (suc m)) (flat_map (left_on (Entry.Post p ∷ past) q) (numbers m)),
+      count_append f (left_on past q (suc m)) (flat_map (left_on past q) (numbers_down m)),
+      count_append f (left_on (Entry.Post p ∷ past) q (suc m))
+          (flat_map (left_on (Entry.Post p ∷ past) q) (numbers_down m)),
       ap (count_by f) (other (suc m) n),
       one_fewer m some (omega (arith, n, l)),
     )
@@ -165,7 +166,7 @@ ticket_zero c (e ∷ past) h = ticket_zero c past (follows c past e h).before
 
 -- ---- how many there are
 
-taken_few : (v : Verdict) → taken v ≤ 2
+taken_few : (v : Verdict) → taken_entries v ≤ 2
 taken_few Verdict.Single = omega arith
 taken_few (Verdict.SingleFailed s) = omega arith
 taken_few Verdict.Pair = omega arith
@@ -173,7 +174,7 @@ taken_few (Verdict.PairFailed s t) = omega arith
 
 -- two at most of each ticket in flight
 pub two_each : (past : Past) (q : ℕ)
-    → length (cids_in_use past q) ≤ 2 * count_by (in_flight past) (numbers (Tickets.tickets past))
+    → length (cids_in_use past q) ≤ 2 * count_by (in_flight past) (numbers_down (Tickets.tickets past))
 two_each past q = go (Tickets.tickets past)
   where
     one : (t : ℕ) → length (left_on past q t) ≤ 2 * cond (in_flight past t) 1 0
@@ -194,13 +195,13 @@ two_each past q = go (Tickets.tickets past)
         by true = few
         by false = omega arith
 
-    go : (m : ℕ) → length (flat_map (left_on past q) (numbers m)) ≤ 2 * count_by (in_flight past) (numbers m)
+    go : (m : ℕ) → length (flat_map (left_on past q) (numbers_down m)) ≤ 2 * count_by (in_flight past) (numbers_down m)
     go zero = omega arith
     go (suc m) =
         omega (
           arith,
-          length-append (left_on past q (suc m)) (flat_map (left_on past q) (numbers m)),
+          length-append (left_on past q (suc m)) (flat_map (left_on past q) (numbers_down m)),
           one (suc m),
           go m,
-          count_cons (in_flight past) (suc m) (numbers m),
+          count_cons (in_flight past) (suc m) (numbers_down m),
         )

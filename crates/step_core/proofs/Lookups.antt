@@ -19,7 +19,7 @@ use Rattle.ticket_laws.proofs.Counts.{fetched_within}
 use Rattle.nvme_model.proofs.Runs.{reaped_posted}
 use Rattle.rings.specs.Queues.{completion_ring, submission_ring}
 use Rattle.job_table.specs.Tickets.{job_at}
-use Rattle.step_core.specs.Kept.{CoreFields, IsKept}
+use Rattle.step_core.specs.Kept.{CoreFields, IsCoreOf}
 use Rattle.step_core.specs.Found.{IsCqRing, IsJob, IsSqRing}
 use Rattle.step_core.proofs.Moves.{job_found}
 
@@ -50,7 +50,7 @@ there_if q n a b = or_from _ _ (ne_eqb q 0 a) (le_not_lt q n b)
     le_not_lt : (q n : ℕ) → q ≤ n → nat_lt n q ≡ false
     le_not_lt q n l = grind (arith, nat_tests)
 
-module _ (c : ConfigNumbers) (past : Past) (fields : CoreFields) (k : IsKept c past fields) where
+module _ (c : ConfigNumbers) (past : Past) (fields : CoreFields) (k : IsCoreOf c past fields) where
   abbrev s : List SubmissionRing
   s = fields.submission
 

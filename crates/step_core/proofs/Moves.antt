@@ -11,19 +11,21 @@ use Rattle.nvme_model.specs.Steps.{next_entry, after_by}
 use Rattle.ticket_laws.specs.Standing.{flying, standing}
 use Rattle.nvme_model.specs.Legal.{IsLegal}
 use Rattle.nvme_model.proofs.EveryRun.{after_kept}
-use Rattle.nvme_model.specs.Kept.{Kept}
+use Rattle.nvme_model.specs.Kept.{ControllerInvariant}
 use Rattle.ticket_laws.proofs.Flying.{has_flying}
 use Rattle.job_table.specs.Jobs.{jobs_by, job_of, replaced}
 use Rattle.job_table.proofs.Tables.{replaced-jobs_by_agree, job_of-jobs_by}
 use Rattle.job_table.specs.Tickets.{job_by, job_at}
 
 -- an accepted step keeps the history legal and its marks right
-pub stepped : (c : ConfigNumbers) (past : Past) (step : Step) → Kept c past → refusal c past step ≡ None
-    → Kept c (next_entry c past step ∷ past)
-stepped c past step k none = subst (λ (o : Option Why). Kept c (after_by c past step o)) none (after_kept c past step k)
+pub stepped : (c : ConfigNumbers) (past : Past) (step : Step) → ControllerInvariant c past → refusal c past step ≡ None
+    → ControllerInvariant c (next_entry c past step ∷ past)
+stepped c past step k none =
+    subst (λ (o : Option Why). ControllerInvariant c (after_by c past step o)) none (after_kept c past step k)
 
 -- the same by the entry
-pub legal_after : (c : ConfigNumbers) (past : Past) (step : Step) (e : Entry) → Kept c past → refusal c past step ≡ None
+pub legal_after : (c : ConfigNumbers) (past : Past) (step : Step) (e : Entry) → ControllerInvariant c past
+    → refusal c past step ≡ None
     → e ≡ next_entry c past step → IsLegal c (e ∷ past)
 legal_after c past step e k none same =
     subst (λ (x : Entry). IsLegal c (x ∷ past)) (sym same) (stepped c past step k none).legal

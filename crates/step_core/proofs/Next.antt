@@ -11,7 +11,7 @@ use Rattle.nvme_model.specs.declared.refusal.Why.{Why}
 use Rattle.nvme_model.specs.declared.step.Step.{Step}
 use Rattle.nvme_model.specs.History.{Past}
 use Rattle.nvme_model.specs.Tickets
-use Rattle.nvme_model.specs.Tickets.{in_flight, numbers}
+use Rattle.nvme_model.specs.Tickets.{in_flight, numbers_down}
 use Rattle.nvme_model.specs.Refusals.{refusal}
 use Rattle.nvme_model.specs.Steps.{is_ready, ready}
 use Rattle.ticket_laws.specs.Standing.{flying, rising}
@@ -20,7 +20,7 @@ use Rattle.job_table.specs.Keeping.{Keeping}
 use Rattle.job_table.specs.declared.jobs.InFlight.{InFlight}
 use Rattle.job_table.proofs.Tables.{length-jobs_by, slice_get-jobs_by}
 use Rattle.job_table.specs.Tickets.{job_at, job_table}
-use Rattle.controller_steps.specs.State.{Room, State}
+use Rattle.controller_steps.specs.State.{Room, ControllerState}
 use Rattle.step_core.specs.Found.{next_step}
 
 -- the steps of a ticket beside its Fetch
@@ -33,9 +33,9 @@ ready_among c past ts = find (is_ready c past) (flat_map steps_of ts)
 
 -- ---- lists
 
-rising_numbers : (n : ℕ) → reverse (numbers n) ≡ rising n
+rising_numbers : (n : ℕ) → reverse (numbers_down n) ≡ rising n
 rising_numbers zero = refl
-rising_numbers (suc n) = reverse-append (suc n ∷ []) (numbers n) ∙ ap (λ xs. xs ++ suc n ∷ []) (rising_numbers n)
+rising_numbers (suc n) = reverse-append (suc n ∷ []) (numbers_down n) ∙ ap (λ xs. xs ++ suc n ∷ []) (rising_numbers n)
 
 -- the first that is found, or what is found else
 abbrev pub or_else : Option Step → Option Step → Option Step
@@ -129,12 +129,12 @@ ticket_of (Some t) g e h = ap (λ (y : InFlight). Some y.ticket) (some_inj h)
     some_inj : {x y : InFlight} → Some x ≡ Some y → x ≡ y
     some_inj h = cc
 
-module _ (x : State) (j : JobTable) (c : ConfigNumbers) (past : Past) (m : ℕ) {w : Room}
+module _ (x : ControllerState) (j : JobTable) (c : ConfigNumbers) (past : Past) (m : ℕ) {w : Room}
     (view : record { config = c; past = past; promised = m; room = w } ≡ x) (table : j ≡ job_table c past) where
   -- the ticket at this place
   pub nth_ticket : (i : ℕ) (e : InFlight) → slice_get j.jobs i ≡ Some e → slice_get (flying x.past) i ≡ Some e.ticket
   nth_ticket i e h =
-      subst (λ (y : State). slice_get (flying y.past) i ≡ Some e.ticket) view
+      subst (λ (y : ControllerState). slice_get (flying y.past) i ≡ Some e.ticket) view
       (ticket_of (slice_get (flying past) i) (job_at c past) e
       (sym (slice_get-jobs_by (job_at c past) (flying past) i)
       ∙ ap (λ (y : JobTable). slice_get y.jobs i) (sym table) ∙ h))
@@ -142,4 +142,4 @@ module _ (x : State) (j : JobTable) (c : ConfigNumbers) (past : Past) (m : ℕ) 
   -- and how many there are
   pub count_tickets : length j.jobs ≡ length (flying x.past)
   count_tickets = ap (λ (y : JobTable). length y.jobs) table ∙ length-jobs_by (job_at c past) (flying past)
-      ∙ ap (λ (y : State). length (flying y.past)) view
+      ∙ ap (λ (y : ControllerState). length (flying y.past)) view

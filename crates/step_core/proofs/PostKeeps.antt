@@ -1,8 +1,8 @@
 -- What a Post leaves.
 use Rattle.std.proofs.Common.{◌≡◌, ◌≢◌, ℕ, zero, suc, drop, ◌*◌, ◌+◌, ◌-◌, ◌%◌, ◌≤◌, ◌<◌, Bool, true, false, cond, List}
 use Rattle.std.proofs.Common.{[], ◌∷◌, length, get_or, set, slice_get, Option, Some, None, refl, sym, ap, ◌∙◌, subst}
-use Rattle.std.proofs.Common.{arith, inl, inr, eqb, eq-eqb, ltb-true, ltb-false, ne_eqb, nat_lt, is_none}
-use Rattle.std.proofs.lemmas.Bool.{cases_eq, or_parts}
+use Rattle.std.proofs.Common.{arith, inl, inr, eqb, eq-eqb, ltb-true, ne_eqb, is_none}
+use Rattle.std.proofs.lemmas.Bool.{cases_eq}
 use Rattle.std.proofs.lemmas.List.{length-drop, length-map}
 use Rattle.std.proofs.Math.Nat.{mod-lt}
 use Rattle.nvme_model.specs.declared.config.ConfigNumbers.{ConfigNumbers}
@@ -12,7 +12,7 @@ use Rattle.nvme_model.specs.declared.operation.Op.{Op}
 use Rattle.nvme_model.specs.declared.status.Status.{Status}
 use Rattle.nvme_model.specs.declared.status.Verdict.{Verdict}
 use Rattle.nvme_model.specs.declared.step.Step.{Step}
-use Rattle.nvme_model.specs.Config.{completion_queue, config_fault, config_faults}
+use Rattle.nvme_model.specs.Config.{completion_queue}
 use Rattle.nvme_model.specs.EntryBytes.{sqe_fields}
 use Rattle.nvme_model.specs.History.{Past}
 use Rattle.nvme_model.specs.Tickets
@@ -20,28 +20,28 @@ use Rattle.nvme_model.specs.Tickets.{Ticket, cids, cids_in_use, first_fields, in
 use Rattle.nvme_model.specs.Operations.{op, op_by}
 use Rattle.nvme_model.specs.Completions.{posted_completions, reaped_count}
 use Rattle.nvme_model.specs.Refusals.{conditions}
-use Rattle.nvme_model.specs.Verdict.{taken}
+use Rattle.nvme_model.specs.Verdict.{taken_entries}
 use Rattle.nvme_model.proofs.Accepted.{accepted}
 use Rattle.nvme_model.proofs.Rules.{none_holds}
 use Rattle.nvme_model.specs.Steps.{next_entry, post_entry}
 use Rattle.ticket_laws.specs.Standing.{standing}
-use Rattle.nvme_model.specs.Kept.{Kept}
+use Rattle.nvme_model.specs.Kept.{ControllerInvariant}
 use Rattle.nvme_model.proofs.NextPost.{commands_few, not_flying}
 use Rattle.ticket_laws.proofs.Owing.{next_owed}
-use Rattle.range_reserve.specs.declared.held.Held.{Held}
+use Rattle.range_reserve.specs.declared.held.HeldRange.{HeldRange}
 use Rattle.rings.specs.Completions.{CompletionRing, is_full, posted_ring}
 use Rattle.rings.specs.Submissions.{SubmissionRing}
-use Rattle.job_table.specs.Jobs.{JobTable, has_ticket, job_of, jobs_beside, replaced}
+use Rattle.job_table.specs.Jobs.{JobTable, has_job_of, job_of, jobs_beside, replaced}
 use Rattle.job_table.specs.Keeping.{Keeping, posted_job}
-use Rattle.ticket_course.specs.Shown.{stage_of}
-use Rattle.ticket_course.specs.Stages.{owed_in}
-use Rattle.ticket_course.proofs.Owes.{owes as stage_owes}
-use Rattle.job_table.proofs.Tables.{has_ticket-jobs_by}
+use Rattle.ticket_progress.specs.Shown.{standing_stage}
+use Rattle.ticket_progress.specs.Stages.{owed_in}
+use Rattle.ticket_progress.proofs.Owes.{owes as stage_owes}
+use Rattle.job_table.proofs.Tables.{has_job_of-jobs_by}
 use Rattle.rings.specs.Queues.{completion_ring, submission_ring}
 use Rattle.job_table.specs.Tickets.{job_at, job_by, read_bytes_by}
-use Rattle.step_core.specs.Kept.{AreInUse, AreUsed, CoreFields, IsKept}
-use Rattle.step_core.specs.Found.{IsNext}
-use Rattle.step_core.specs.declared.controller.next.Next.{Next}
+use Rattle.step_core.specs.Kept.{AreAllQueueCids, AreQueueCids, CoreFields, IsCoreOf}
+use Rattle.step_core.specs.Found.{IsNextStep}
+use Rattle.step_core.specs.declared.controller.next.ReadyStep.{ReadyStep}
 use Rattle.step_core.specs.declared.controller.post.Due.{Due}
 use Rattle.step_core.proofs.Moves.{job_found, stepped}
 use Rattle.rings.proofs.Tables.{IsTable-same}
@@ -64,7 +64,7 @@ use Rattle.ticket_laws.specs.Standing.{flying}
 -- ---- a pair's first completion carries nothing
 
 -- where more than one completion is owed, nothing is read
-pub nothing_yet : (c : ConfigNumbers) (past : Past) (t : ℕ) → 1 < length (job_at c past t).course.cids
+pub nothing_yet : (c : ConfigNumbers) (past : Past) (t : ℕ) → 1 < length (job_at c past t).progress.cids
     → (job_at c past t).read ≡ []
 unfolding job_by
 nothing_yet c past t l = by_verdict (Tickets.ticket past t).verdict refl (commands_few past t)
@@ -91,7 +91,7 @@ nothing_yet c past t l = by_verdict (Tickets.ticket past t).verdict refl (comman
         go (Some Op.Pair) n = refl
         go (Some Op.Read) n = absurd (n refl)
 
-    by_verdict : (v : Verdict) → k.verdict ≡ v → length k.commands ≤ taken v
+    by_verdict : (v : Verdict) → k.verdict ≡ v → length k.commands ≤ taken_entries v
         → read_bytes_by (op k) k (standing past t).read ≡ []
     by_verdict Verdict.Single e m = absurd (omega (arith, two, m))
     by_verdict (Verdict.SingleFailed s) e m = absurd (omega (arith, two, m))
@@ -120,8 +120,8 @@ pub only_reads : (c : ConfigNumbers) (past : Past) (t : ℕ) → (job_at c past 
 unfolding job_by
 only_reads c past t some = reads_by (op (Tickets.ticket past t)) (Tickets.ticket past t) _ some
 
-module _ (c : ConfigNumbers) (past : Past) (fields : CoreFields) (k : IsKept c past fields)
-    (d : Due) (post : IsNext c past (Next.Post d)) where
+module _ (c : ConfigNumbers) (past : Past) (fields : CoreFields) (k : IsCoreOf c past fields)
+    (d : Due) (post : IsNextStep c past (ReadyStep.Post d)) where
   abbrev v : List (List ℕ)
   v = fields.volume
 
@@ -134,7 +134,7 @@ module _ (c : ConfigNumbers) (past : Past) (fields : CoreFields) (k : IsKept c p
   abbrev j : JobTable
   j = fields.jobs
 
-  abbrev r : List Held
+  abbrev r : List HeldRange
   r = fields.held
 
   abbrev n : ℕ
@@ -144,9 +144,9 @@ module _ (c : ConfigNumbers) (past : Past) (fields : CoreFields) (k : IsKept c p
   flies = not_flying _ (none_holds (conditions c past (Step.Post d.ticket)) (ap is_none post.0)).0
 
   -- the ticket is in the table
-  pub there : has_ticket j.jobs d.ticket ≡ true
-  there = ap (λ (x : JobTable). has_ticket x.jobs d.ticket) k.jobs
-      ∙ has_ticket-jobs_by (job_at c past) (flying past) d.ticket ∙ has_flying c past d.ticket k.run.legal ∙ flies
+  pub there : has_job_of j.jobs d.ticket ≡ true
+  there = ap (λ (x : JobTable). has_job_of x.jobs d.ticket) k.jobs
+      ∙ has_job_of-jobs_by (job_at c past) (flying past) d.ticket ∙ has_flying c past d.ticket k.run.legal ∙ flies
 
   -- with this job
   pub found : (x : Keeping) → job_of j.jobs d.ticket ≡ Some x → x ≡ job_at c past d.ticket
@@ -160,7 +160,7 @@ module _ (c : ConfigNumbers) (past : Past) (fields : CoreFields) (k : IsKept c p
   is_there = ap (λ (y : JobTable). job_of y.jobs d.ticket) k.jobs ∙ job_found c past d.ticket k.run.legal
       ∙ ap (λ b. cond b (Some (job_at c past d.ticket)) None) flies
 
-  some_cids : 0 < length (job_at c past d.ticket).course.cids
+  some_cids : 0 < length (job_at c past d.ticket).progress.cids
   unfolding job_by
   some_cids = omega (
     arith,
@@ -169,9 +169,9 @@ module _ (c : ConfigNumbers) (past : Past) (fields : CoreFields) (k : IsKept c p
     length-map (Tickets.ticket past d.ticket).commands (λ s. (sqe_fields s.entry).cid),
   )
 
-  some_owed : 0 < length (owed_in (job_at c past d.ticket).course.stage)
+  some_owed : 0 < length (owed_in (job_at c past d.ticket).progress.stage)
   unfolding job_by
-  some_owed = first (owed_in (stage_of c (standing past d.ticket)))
+  some_owed = first (owed_in (standing_stage c (standing past d.ticket)))
       (ap (λ xs. slice_get xs 0) (stage_owes c past d.ticket k.run.legal)
       ∙ next_owed c past d.ticket k.run.legal k.run.marks ∙ post.1.owed)
     where
@@ -180,8 +180,8 @@ module _ (c : ConfigNumbers) (past : Past) (fields : CoreFields) (k : IsKept c p
       first (x ∷ xs) e = omega arith
 
   -- it owes a completion
-  pub owes : (x : Keeping) → job_of j.jobs d.ticket ≡ Some x → 0 < length (owed_in x.course.stage)
-  owes x e = subst (λ (y : Keeping). 0 < length (owed_in y.course.stage)) (sym (found x e)) some_owed
+  pub owes : (x : Keeping) → job_of j.jobs d.ticket ≡ Some x → 0 < length (owed_in x.progress.stage)
+  owes x e = subst (λ (y : Keeping). 0 < length (owed_in y.progress.stage)) (sym (found x e)) some_owed
 
   -- ---- the ring it goes to
 
@@ -237,10 +237,10 @@ module _ (c : ConfigNumbers) (past : Past) (fields : CoreFields) (k : IsKept c p
   payload_is : cond d.last (job_at c past d.ticket).read [] ≡ (job_at c past d.ticket).read
   payload_is = go d.last (sym post.1.last)
     where
-      go : (b : Bool) → eqb (length (job_at c past d.ticket).course.cids) 1 ≡ b
+      go : (b : Bool) → eqb (length (job_at c past d.ticket).progress.cids) 1 ≡ b
           → cond b (job_at c past d.ticket).read [] ≡ (job_at c past d.ticket).read
       go true e = refl
-      go false e = sym (nothing_yet c past d.ticket (more (length (job_at c past d.ticket).course.cids) e some_cids))
+      go false e = sym (nothing_yet c past d.ticket (more (length (job_at c past d.ticket).progress.cids) e some_cids))
         where
           more : (m : ℕ) → eqb m 1 ≡ false → 0 < m → 1 < m
           more m e l = elim (cases_eq m 1) [
@@ -266,7 +266,7 @@ module _ (c : ConfigNumbers) (past : Past) (fields : CoreFields) (k : IsKept c p
     pub left : j' ≡ posted_table j d.ticket (job_at c past d.ticket)
     left = go d.last refl (sym post.1.last)
       where
-        go : (b : Bool) → d.last ≡ b → eqb (length (job_at c past d.ticket).course.cids) 1 ≡ b
+        go : (b : Bool) → d.last ≡ b → eqb (length (job_at c past d.ticket).progress.cids) 1 ≡ b
             → j' ≡ posted_table j d.ticket (job_at c past d.ticket)
         go true f e =
             (λ i. record { limit = limit i; jobs = last f i })
@@ -289,7 +289,7 @@ module _ (c : ConfigNumbers) (past : Past) (fields : CoreFields) (k : IsKept c p
   pub from_place : d.from - 1 < length fields.in_use
   from_place = omega (arith, from_there.0, from_there.1, k.in_use.size)
 
-  own_used : (u : UsedCids) → u ≡ get_or fields.in_use (d.from - 1) u → AreUsed c past d.from u
+  own_used : (u : UsedCids) → u ≡ get_or fields.in_use (d.from - 1) u → AreQueueCids c past d.from u
   own_used u e =
       used_at c.pairs (2 * c.jobs) (cids_in_use past) fields.in_use (d.from - 1) d.from u k.in_use
       (omega (arith, from_there.0)) (omega (arith, from_there.0, from_there.1)) e
@@ -325,7 +325,7 @@ module _ (c : ConfigNumbers) (past : Past) (fields : CoreFields) (k : IsKept c p
   -- and afterwards once less
   used_after : (u y : UsedCids) (copy : List ℕ) → u ≡ get_or fields.in_use (d.from - 1) u
       → IsPermutation u.cids (d.cid ∷ y.cids) → y.room ≡ u.room
-      → AreInUse c (Entry.Post (post_line copy) ∷ past) (set fields.in_use (d.from - 1) y)
+      → AreAllQueueCids c (Entry.Post (post_line copy) ∷ past) (set fields.in_use (d.from - 1) y)
   used_after u y copy e less room =
       used_set c.pairs (2 * c.jobs) (cids_in_use past) (cids_in_use (Entry.Post (post_line copy) ∷ past)) fields.in_use
       (d.from - 1) y k.in_use within_from here others
@@ -333,14 +333,14 @@ module _ (c : ConfigNumbers) (past : Past) (fields : CoreFields) (k : IsKept c p
       within_from : d.from - 1 < c.pairs
       within_from = omega (arith, from_there.0, from_there.1)
 
-      own : AreUsed c past d.from u
+      own : AreQueueCids c past d.from u
       own = own_used u e
 
       at_from : suc (d.from - 1) ≡ d.from
       at_from = omega (arith, from_there.0)
 
-      here : AreUsed c (Entry.Post (post_line copy) ∷ past) (suc (d.from - 1)) y
-      here = subst (λ (m : ℕ). AreUsed c (Entry.Post (post_line copy) ∷ past) m y) (sym at_from) (record {
+      here : AreQueueCids c (Entry.Post (post_line copy) ∷ past) (suc (d.from - 1)) y
+      here = subst (λ (m : ℕ). AreQueueCids c (Entry.Post (post_line copy) ∷ past) m y) (sym at_from) (record {
         cids = λ p. omega (arith, own.cids p, fewer copy d.from p, one_in p, one_less d.cid u.cids y.cids less p);
         room = room ∙ own.room;
       })
@@ -360,7 +360,7 @@ module _ (c : ConfigNumbers) (past : Past) (fields : CoreFields) (k : IsKept c p
       → j' ≡ posted_table j d.ticket (job_at c past d.ticket)
       → x' ≡ posted_ring x (record { cqe = d.cqe; payload = payload })
       → past' ≡ Entry.Post (record { ticket = d.ticket; cqe = d.cqe; payload = copy }) ∷ past
-      → IsKept c past' (record fields {
+      → IsCoreOf c past' (record fields {
         in_use = set fields.in_use (d.from - 1) y;
         completion = set q (d.queue - 1) x';
         jobs = j';
@@ -372,7 +372,7 @@ module _ (c : ConfigNumbers) (past : Past) (fields : CoreFields) (k : IsKept c p
       l ∙ (λ i. posted_ring (ring_is x e i) (record { cqe = d.cqe; payload = g i }))
       ∙ post_ring c past p d.queue k.run.legal cq_some (sym post.1.queue)
       ∙ ap (completion_ring c later) (sym suc_is) in
-      subst (λ (w : Past). IsKept c w
+      subst (λ (w : Past). IsCoreOf c w
       (record fields { in_use = set fields.in_use (d.from - 1) y; completion = set q (d.queue - 1) x'; jobs = j' }))
       (sym m) (record {
         accepted = k.accepted;
@@ -386,7 +386,7 @@ module _ (c : ConfigNumbers) (past : Past) (fields : CoreFields) (k : IsKept c p
             ∙ posted_table_is c past p flies some_owed;
         held = k.held;
         count = k.count;
-        run = subst (λ (y : Entry). Kept c (y ∷ past)) (sym (post_entry_is copy f))
+        run = subst (λ (y : Entry). ControllerInvariant c (y ∷ past)) (sym (post_entry_is copy f))
             (stepped c past (Step.Post d.ticket) k.run post.0);
       })
     where

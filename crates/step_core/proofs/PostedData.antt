@@ -11,7 +11,7 @@ use Rattle.nvme_model.specs.declared.operation.Op.{Op}
 use Rattle.nvme_model.specs.declared.status.Status.{Status}
 use Rattle.nvme_model.specs.declared.status.Verdict.{Verdict}
 use Rattle.nvme_model.specs.Statuses.{compare_failure, is_success, success}
-use Rattle.nvme_model.specs.EntryBytes.{blocks, slba}
+use Rattle.nvme_model.specs.EntryBytes.{block_count, slba}
 use Rattle.nvme_model.specs.History.{Past}
 use Rattle.nvme_model.specs.Tickets
 use Rattle.nvme_model.specs.Tickets.{Ticket, first_fields, in_flight, posts_of}
@@ -20,10 +20,10 @@ use Rattle.nvme_model.specs.Open.{differed, grants_of, unit_range}
 use Rattle.nvme_model.specs.Placed.{effect}
 use Rattle.nvme_model.specs.Answered.{no_at, says_no}
 use Rattle.nvme_model.specs.Value.{all_equal, value}
-use Rattle.nvme_model.specs.Owed.{all_done, all_ended, completion_data, numbered, owed, owed_after, owed_by}
+use Rattle.nvme_model.specs.Owed.{all_done, all_ended, completion_data, numbered_units, owed, owed_after, owed_by}
 use Rattle.nvme_model.specs.Owed.{read_data_by, some_no}
 use Rattle.ticket_laws.specs.Standing.{OpenUnit, bytes_read, had, open_unit, standing}
-use Rattle.nvme_model.specs.Kept.{Kept}
+use Rattle.nvme_model.specs.Kept.{ControllerInvariant}
 use Rattle.nvme_model.proofs.Apart.{fetched_if}
 use Rattle.ticket_laws.proofs.Owing.{has_run_is, no_is_differed}
 use Rattle.ticket_laws.proofs.ReadPlace.{read_length, read_placed, rest_of}
@@ -41,7 +41,7 @@ silent past t u h = go (effect past t u)
     go (Some before) = ap (λ b. b && not (all_equal (value before) (Tickets.ticket past t) (unit_range past t u))) h
 
 none_says_no : (past : Past) (t v : ℕ) (rs : List Range) → has_compare (op (Tickets.ticket past t)) ≡ false
-    → list_any (λ u. says_no past t u.0) (numbered v rs) ≡ false
+    → list_any (λ u. says_no past t u.0) (numbered_units v rs) ≡ false
 none_says_no past t v [] h = refl
 none_says_no past t v (r ∷ rs) h = (λ i. silent past t v h i || none_says_no past t (suc v) rs h i)
 
@@ -98,21 +98,22 @@ take_all zero (r ∷ rs) l = absurd (omega (arith, l))
 take_all (suc n) [] l = refl
 take_all (suc n) (r ∷ rs) l = ap (λ xs. r ∷ xs) (take_all n rs (omega (arith, l)))
 
-read_whole : (c : ConfigNumbers) (past : Past) (t : ℕ) → Kept c past → in_flight past t ≡ true
+read_whole : (c : ConfigNumbers) (past : Past) (t : ℕ) → ControllerInvariant c past → in_flight past t ≡ true
     → op (Tickets.ticket past t) ≡ Some Op.Read → all_ended c past t ≡ true
-    → length (bytes_read past t) ≡ 512 * blocks (first_fields (Tickets.ticket past t))
+    → length (bytes_read past t) ≡ 512 * block_count (first_fields (Tickets.ticket past t))
 read_whole c past t k f p ended =
     let calm : differed past t ≡ false = sym (no_is_differed c past t k.legal k.marks)
     ∙ no_no c past t (ap has_compare p) in
     let ran = and_parts (nat_le (length (units c (Tickets.ticket past t))) (grants_of past t))
     (is_none (open_unit past t)) (sym (has_run_is c past t k.legal calm) ∙ ended) in
-    let all : had c (standing past t) ≡ blocks (first_fields (Tickets.ticket past t)) =
+    let all : had c (standing past t) ≡ block_count (first_fields (Tickets.ticket past t)) =
     ap (λ rs. sum_by (λ (r : Range). r.blocks) rs)
     (take_all (grants_of past t) (units c (Tickets.ticket past t)) (leb-true _ _ ran.0))
     ∙ ap (λ o. sum_by (λ (r : Range). r.blocks)
     (units_by c.atomic o (slba (first_fields (Tickets.ticket past t)))
-    (blocks (first_fields (Tickets.ticket past t))))) p
-    ∙ cut_sum c.atomic (slba (first_fields (Tickets.ticket past t))) (blocks (first_fields (Tickets.ticket past t))) in
+    (block_count (first_fields (Tickets.ticket past t))))) p
+    ∙ cut_sum c.atomic (slba (first_fields (Tickets.ticket past t)))
+    (block_count (first_fields (Tickets.ticket past t))) in
     omega (
       arith,
       read_length c past t k.legal p,
@@ -127,7 +128,8 @@ read_whole c past t k f p ended =
 
 -- ---- what goes with the completion
 
-pub data_is : (c : ConfigNumbers) (past : Past) (t : ℕ) (s : Status) → Kept c past → in_flight past t ≡ true
+pub data_is : (c : ConfigNumbers) (past : Past) (t : ℕ) (s : Status) → ControllerInvariant c past
+    → in_flight past t ≡ true
     → slice_get (owed c past t) (posts_of past t) ≡ Some s → (job_at c past t).read ≡ completion_data c past t s
 unfolding job_by
 data_is c past t s k f e = go (op (Tickets.ticket past t)) refl
@@ -148,7 +150,7 @@ data_is c past t s k f e = go (op (Tickets.ticket past t)) refl
     go (Some Op.Pair) q = both (is_success s)
     go (Some Op.Read) q =
         let due = read_due c past t s q e in
-        let none : 512 * blocks (first_fields (Tickets.ticket past t)) - length (bytes_read past t) ≡ 0 =
+        let none : 512 * block_count (first_fields (Tickets.ticket past t)) - length (bytes_read past t) ≡ 0 =
         omega (arith, read_whole c past t k f q due.ended) in
         (λ i. bytes_read past t ++ replicate (none i) 0) ∙ append-nil (bytes_read past t)
         ∙ read_is c past t k.legal k.marks q due.ended

@@ -1,5 +1,5 @@
 -- The ring of a completion queue after one more Post.
-use Rattle.std.proofs.Common.{◌≡◌, ℕ, zero, suc, ◌%◌, ◌/◌, ◌≤◌, ◌<◌, Bool, true, false, cond, List, [], ◌∷◌, ◌++◌}
+use Rattle.std.proofs.Common.{◌≡◌, ℕ, zero, suc, ◌%◌, ◌/◌, ◌≤◌, ◌<◌, false, cond, List, [], ◌∷◌, ◌++◌}
 use Rattle.std.proofs.Common.{length, map, drop, refl, sym, ap, ◌∙◌, subst, arith, eqb, eq-eqb}
 use Rattle.std.proofs.lemmas.List.{append-nil, length-map}
 use Rattle.nvme_model.specs.declared.config.ConfigNumbers.{ConfigNumbers}
@@ -12,7 +12,7 @@ use Rattle.nvme_model.specs.Completions.{posted_completions, reaped_count}
 use Rattle.nvme_model.specs.Legal.{IsLegal}
 use Rattle.nvme_model.proofs.Runs.{reaped_posted}
 use Rattle.entry_codec.specs.Cqe.{phase_bit}
-use Rattle.rings.specs.Completions.{Completed, CompletionRing, ShowsCompleted, posted_ring}
+use Rattle.rings.specs.Completions.{QueueCompletions, CompletionRing, ShowsCompleted, posted_ring}
 use Rattle.rings.specs.declared.completion_ring.Completion.{Completion}
 use Rattle.rings.proofs.Counts.{completed_more}
 use Rattle.rings.specs.Queues.{completion_of, completion_ring}
@@ -28,7 +28,7 @@ ring_of m ps k = record {
 }
 
 -- these Posts without their tickets
-abbrev pub shown : List PostLine → ℕ → Completed
+abbrev pub shown : List PostLine → ℕ → QueueCompletions
 shown ps k = record { posted = map completion_of ps; reaped = k }
 
 map_drop : (k : ℕ) (ps : List PostLine) → map completion_of (drop k ps) ≡ drop k (map completion_of ps)

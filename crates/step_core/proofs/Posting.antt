@@ -1,30 +1,27 @@
 -- What a Post finds.
 use Rattle.std.proofs.Common.{◌≡◌, ℕ, zero, suc, ◌+◌, ◌-◌, ◌%◌, ◌≤◌, ◌<◌, Bool, true, false, not, cond, List, [], ◌∷◌}
 use Rattle.std.proofs.Common.{length, drop, get_or, slice_get, Option, Some, None, is_none, refl, sym, ap, ◌∙◌, subst}
-use Rattle.std.proofs.Common.{arith, eqb, ltb-true, ltb-false, nat_lt, add-one}
-use Rattle.std.proofs.lemmas.Bool.{or_parts}
+use Rattle.std.proofs.Common.{arith, eqb, ltb-true, add-one}
 use Rattle.std.proofs.lemmas.List.{length-map, length-drop}
 use Rattle.nvme_model.specs.declared.config.ConfigNumbers.{ConfigNumbers}
-use Rattle.nvme_model.specs.declared.entry.Entry.{Entry}
 use Rattle.nvme_model.specs.declared.refusal.Why.{Why}
 use Rattle.nvme_model.specs.declared.status.Status.{Status}
 use Rattle.nvme_model.specs.declared.step.Step.{Step}
-use Rattle.nvme_model.specs.Config.{completion_queue, config_fault, config_faults}
+use Rattle.nvme_model.specs.Config.{completion_queue}
 use Rattle.nvme_model.specs.History.{Past}
 use Rattle.nvme_model.specs.Tickets
 use Rattle.nvme_model.specs.Tickets.{Ticket, cids, in_flight, posts_of}
 use Rattle.nvme_model.specs.Queues.{fetched_count}
 use Rattle.nvme_model.specs.Completions.{posted_completions, reaped_count}
-use Rattle.nvme_model.specs.Refusals.{no_queue, owes_nothing_yet, refusal}
+use Rattle.nvme_model.specs.Refusals.{owes_nothing_yet, refusal}
 use Rattle.ticket_laws.specs.Standing.{standing, still_owed}
 use Rattle.nvme_model.specs.Legal.{IsLegal}
-use Rattle.nvme_model.specs.Kept.{Kept}
+use Rattle.nvme_model.specs.Kept.{ControllerInvariant}
 use Rattle.nvme_model.proofs.Accepted.{accepted}
-use Rattle.nvme_model.proofs.Rules.{follows, none_holds}
 use Rattle.ticket_laws.proofs.Owing.{has_next, next_owed}
 use Rattle.job_table.specs.Keeping.{Keeping}
-use Rattle.ticket_course.specs.Stages.{owed_in}
-use Rattle.ticket_course.proofs.Owes.{owes}
+use Rattle.ticket_progress.specs.Stages.{owed_in}
+use Rattle.ticket_progress.proofs.Owes.{owes}
 use Rattle.rings.specs.Completions.{CompletionRing, is_full}
 use Rattle.rings.specs.Submissions.{SubmissionRing}
 use Rattle.entry_codec.specs.Cqe.{completion_bytes, phase_bit}
@@ -33,9 +30,9 @@ use Rattle.completions.proofs.CompletionLemmas.{completion_bytes-completion}
 use Rattle.step_core.specs.declared.controller.post.Due.{Due}
 use Rattle.rings.specs.Queues.{completion_of, completion_ring, submission_ring}
 use Rattle.job_table.specs.Tickets.{job_by}
-use Rattle.step_core.specs.Kept.{CoreFields, IsKept}
+use Rattle.step_core.specs.Kept.{CoreFields, IsCoreOf}
 use Rattle.step_core.specs.Found.{IsDue, IsJob}
-use Rattle.controller_steps.specs.State.{Room, State}
+use Rattle.controller_steps.specs.State.{Room, ControllerState}
 use Rattle.std.proofs.Math.Nat.{mod-lt}
 use Rattle.nvme_model.proofs.TicketQueues.{HasQueue, queue_there, ticket_queue}
 
@@ -62,14 +59,15 @@ get_dropped (suc n) (x ∷ xs) = get_dropped n xs
 
 -- what is owed next by the stage is what the ticket still owes next
 next_by : (c : ConfigNumbers) (past : Past) (t : ℕ) (j : Keeping) → IsLegal c past → IsJob c past t j
-    → slice_get (still_owed c (standing past t)) 0 ≡ slice_get (owed_in j.course.stage) 0
+    → slice_get (still_owed c (standing past t)) 0 ≡ slice_get (owed_in j.progress.stage) 0
 unfolding job_by
 next_by c past t j h k = ap (λ xs. slice_get xs 0) (sym (owes c past t h))
-    ∙ ap (λ (x : Keeping). slice_get (owed_in x.course.stage) 0) (sym k.is)
+    ∙ ap (λ (x : Keeping). slice_get (owed_in x.progress.stage) 0) (sym k.is)
 
 -- where nothing is owed the Post is refused
-pub nothing_due : (c : ConfigNumbers) (past : Past) (t : ℕ) (j : Keeping) → Kept c past → IsJob c past t j
-    → slice_get (owed_in j.course.stage) 0 ≡ None → refusal c past (Step.Post t) ≡ Some Why.WrongState
+pub nothing_due : (c : ConfigNumbers) (past : Past) (t : ℕ) (j : Keeping) → ControllerInvariant c past
+    → IsJob c past t j
+    → slice_get (owed_in j.progress.stage) 0 ≡ None → refusal c past (Step.Post t) ≡ Some Why.WrongState
 unfolding job_by
 nothing_due c past t j r k e =
     let next : is_none (slice_get (still_owed c (standing past t)) 0) ≡ true =
@@ -82,8 +80,9 @@ nothing_due c past t j r k e =
     None)))
 
 -- where something is, it is refused exactly where the completion queue is full
-pub something_due : (c : ConfigNumbers) (past : Past) (t : ℕ) (j : Keeping) (s : Status) (b : Bool) → Kept c past
-    → IsJob c past t j → slice_get (owed_in j.course.stage) 0 ≡ Some s
+pub something_due : (c : ConfigNumbers) (past : Past) (t : ℕ) (j : Keeping) (s : Status) (b : Bool)
+    → ControllerInvariant c past
+    → IsJob c past t j → slice_get (owed_in j.progress.stage) 0 ≡ Some s
     → eqb (length (posted_completions c past (completion_queue c (Tickets.ticket past t).queue))
     - reaped_count past (completion_queue c (Tickets.ticket past t).queue)) (c.cq_size - 1) ≡ b
     → refusal c past (Step.Post t) ≡ cond b (Some Why.CqFull) None
@@ -124,13 +123,13 @@ due_full c past q x h e =
 
 -- the completion that is due
 pub due_is : (c : ConfigNumbers) (past : Past) (t : ℕ) (j : Keeping) (s : Status) (cid : ℕ) (x : CompletionRing)
-    (r : SubmissionRing) (cqe : Cqe) (d : Due) → Kept c past → IsJob c past t j
-    → slice_get (owed_in j.course.stage) 0 ≡ Some s → slice_get j.course.cids 0 ≡ Some cid
+    (r : SubmissionRing) (cqe : Cqe) (d : Due) → ControllerInvariant c past → IsJob c past t j
+    → slice_get (owed_in j.progress.stage) 0 ≡ Some s → slice_get j.progress.cids 0 ≡ Some cid
     → x ≡ completion_ring c past (completion_queue c (Tickets.ticket past t).queue)
     → r ≡ submission_ring c past j.queue
     → cqe ≡ record { sqhd = r.head; sqid = j.queue; cid = cid; phase = x.phase; status = s }
     → d.cqe ≡ completion_bytes cqe → d.from ≡ j.queue → d.cid ≡ cid → d.queue ≡ completion_queue c j.queue
-    → d.bytes ≡ length j.read → d.last ≡ eqb (length j.course.cids) 1 → IsDue c past (record d { ticket = t })
+    → d.bytes ≡ length j.read → d.last ≡ eqb (length j.progress.cids) 1 → IsDue c past (record d { ticket = t })
 unfolding job_by completion_ring submission_ring
 due_is c past t j s cid x r cqe d kept k due has ring sring fields bytes origin name queue read last =
     let of_queue : j.queue ≡ (Tickets.ticket past t).queue = ap (λ (y : Keeping). y.queue) k.is in
@@ -139,7 +138,7 @@ due_is c past t j s cid x r cqe d kept k due has ring sring fields bytes origin 
       owed = sym (next_owed c past t kept.legal kept.marks) ∙ next_by c past t j kept.legal k ∙ due;
       from = origin ∙ of_queue;
       queue = queue ∙ due_queue c past t j k;
-      cid = ap (λ (y : Keeping). slice_get y.course.cids 0) (sym k.is) ∙ has ∙ ap Some (sym name);
+      cid = ap (λ (y : Keeping). slice_get y.progress.cids 0) (sym k.is) ∙ has ∙ ap Some (sym name);
       cqe = bytes ∙ completion_bytes-completion c past t s cqe
           (ap (λ (y : Cqe). y.sqhd) fields ∙ ap (λ (y : SubmissionRing). y.head) sring
           ∙ ap (λ n. fetched_count past n % c.sq_size) of_queue)
@@ -147,11 +146,11 @@ due_is c past t j s cid x r cqe d kept k due has ring sring fields bytes origin 
           (ap (λ (y : Cqe). y.cid) fields
           ∙ sym (found_at (cids (Tickets.ticket past t)) (posts_of past t) cid 0
           (sym (get_dropped (posts_of past t) (cids (Tickets.ticket past t)))
-          ∙ ap (λ (y : Keeping). slice_get y.course.cids 0) (sym k.is) ∙ has)))
+          ∙ ap (λ (y : Keeping). slice_get y.progress.cids 0) (sym k.is) ∙ has)))
           (ap (λ (y : Cqe). phase_bit y.phase) fields ∙ ap (λ (y : CompletionRing). phase_bit y.phase) ring)
           (ap (λ (y : Cqe). y.status) fields);
       bytes = read ∙ ap (λ (y : Keeping). length y.read) k.is;
-      last = last ∙ ap (λ (y : Keeping). eqb (length y.course.cids) 1) k.is;
+      last = last ∙ ap (λ (y : Keeping). eqb (length y.progress.cids) 1) k.is;
     }
 
 -- a completion by its fields
@@ -163,8 +162,9 @@ fields_by x h h' q cid p p' s e head phase = e
 
 -- ---- what `post_due` finds
 
-module _ (c : ConfigNumbers) (past : Past) (fields : CoreFields) (k : IsKept c past fields)
-    (x : State) (m : ℕ) {w : Room} (view : record { config = c; past = past; promised = m; room = w } ≡ x) (t : ℕ)
+module _ (c : ConfigNumbers) (past : Past) (fields : CoreFields) (k : IsCoreOf c past fields)
+    (x : ControllerState) (m : ℕ) {w : Room} (view : record { config = c; past = past; promised = m; room = w }
+    ≡ x) (t : ℕ)
     (job : Keeping) (is : IsJob x.config x.past t job) where
   abbrev s : List SubmissionRing
   s = fields.submission
@@ -173,12 +173,12 @@ module _ (c : ConfigNumbers) (past : Past) (fields : CoreFields) (k : IsKept c p
   q = fields.completion
 
   mine : IsJob c past t job
-  mine = subst (λ (y : State). IsJob y.config y.past t job) (sym view) is
+  mine = subst (λ (y : ControllerState). IsJob y.config y.past t job) (sym view) is
 
   refused_so : (o : Option Why) → refusal c past (Step.Post t) ≡ o → refusal x.config x.past (Step.Post t) ≡ o
-  refused_so o e = subst (λ (y : State). refusal y.config y.past (Step.Post t) ≡ o) view e
+  refused_so o e = subst (λ (y : ControllerState). refusal y.config y.past (Step.Post t) ≡ o) view e
 
-  pub post_nothing : slice_get (owed_in job.course.stage) 0 ≡ None
+  pub post_nothing : slice_get (owed_in job.progress.stage) 0 ≡ None
       → refusal x.config x.past (Step.Post t) ≡ Some Why.WrongState
   post_nothing e = refused_so (Some Why.WrongState) (nothing_due c past t job k.run mine e)
 
@@ -205,7 +205,7 @@ module _ (c : ConfigNumbers) (past : Past) (fields : CoreFields) (k : IsKept c p
         ∙ ap (completion_ring c past)
         (sym (add-one ((n' - 1) % c.cqs)) ∙ ap (completion_queue c) of ∙ due_queue c past t job mine)
 
-    pub post_full : (o : Status) (y : CompletionRing) (b : Bool) → slice_get (owed_in job.course.stage) 0 ≡ Some o
+    pub post_full : (o : Status) (y : CompletionRing) (b : Bool) → slice_get (owed_in job.progress.stage) 0 ≡ Some o
         → y ≡ get_or q ((n' - 1) % c.cqs) y → is_full y ≡ b
         → refusal x.config x.past (Step.Post t) ≡ cond b (Some Why.CqFull) None
     post_full o y b due e f =
@@ -214,11 +214,11 @@ module _ (c : ConfigNumbers) (past : Past) (fields : CoreFields) (k : IsKept c p
         (sym (due_full c past (completion_queue c (Tickets.ticket past t).queue) y k.run.legal (ring_is y e)) ∙ f))
 
     pub post_is : (o : Status) (cid : ℕ) (y : CompletionRing) (z : SubmissionRing) (cqe : Cqe) (d : Due)
-        → slice_get (owed_in job.course.stage) 0 ≡ Some o → slice_get job.course.cids 0 ≡ Some cid
+        → slice_get (owed_in job.progress.stage) 0 ≡ Some o → slice_get job.progress.cids 0 ≡ Some cid
         → y ≡ get_or q ((n' - 1) % c.cqs) y → z ≡ get_or s (n' - 1) z
         → cqe ≡ record { sqhd = z.head; sqid = n'; cid = cid; phase = y.phase; status = o }
         → d.cqe ≡ completion_bytes cqe → d.from ≡ n' → d.cid ≡ cid → d.queue ≡ (n' - 1) % c.cqs + 1
-        → d.bytes ≡ length job.read → d.last ≡ eqb (length job.course.cids) 1 → d.ticket ≡ t → IsDue x.config x.past d
+        → d.bytes ≡ length job.read → d.last ≡ eqb (length job.progress.cids) 1 → d.ticket ≡ t → IsDue x.config x.past d
     post_is o cid y z cqe d due has e f fields bytes origin name queue read last at =
         let p : suc (n' - 1) ≡ n' = omega (arith, post_queue.low) in
         let sring : z ≡ submission_ring c past n' = f
@@ -227,6 +227,6 @@ module _ (c : ConfigNumbers) (past : Past) (fields : CoreFields) (k : IsKept c p
         let of_job : cqe ≡ record { sqhd = z.head; sqid = job.queue; cid = cid; phase = y.phase; status = o } = fields
         ∙ (λ i. record { sqhd = z.head; sqid = of i; cid = cid; phase = y.phase; status = o }) in
         subst (λ (u : ℕ). IsDue x.config x.past (record d { ticket = u })) (sym at)
-        (subst (λ (w : State). IsDue w.config w.past (record d { ticket = t })) view
+        (subst (λ (w : ControllerState). IsDue w.config w.past (record d { ticket = t })) view
         (due_is c past t job o cid y z cqe d k.run mine due has (ring_is y e) (sring ∙ ap (submission_ring c past) of)
         of_job bytes (origin ∙ of) name (queue ∙ ap (completion_queue c) of) read last))

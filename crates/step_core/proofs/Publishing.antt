@@ -1,6 +1,6 @@
 -- What a Publish finds, and what the fields are after it.
-use Rattle.std.proofs.Common.{◌≡◌, ◌≢◌, ℕ, suc, ◌-◌, ◌≤◌, ◌<◌, Bool, cond, List, [], ◌∷◌, ◌++◌, length, get_or, set}
-use Rattle.std.proofs.Common.{Some, None, refl, sym, ap, ◌∙◌, subst, arith, is_none, eq-eqb, ltb-false, ne_eqb}
+use Rattle.std.proofs.Common.{◌≡◌, ◌≢◌, ℕ, suc, ◌+◌, ◌-◌, ◌≤◌, ◌<◌, Bool, cond, List, [], ◌∷◌, ◌++◌, length, get_or}
+use Rattle.std.proofs.Common.{set, Some, None, refl, sym, ap, ◌∙◌, subst, arith, is_none, eq-eqb, ltb-false, ne_eqb}
 use Rattle.std.proofs.lemmas.Bool.{eqb-false, or_parts}
 use Rattle.std.proofs.lemmas.List.{append-nil, length-drop}
 use Rattle.nvme_model.specs.declared.config.ConfigNumbers.{ConfigNumbers}
@@ -12,15 +12,15 @@ use Rattle.nvme_model.specs.History.{Past}
 use Rattle.nvme_model.specs.Queues.{fetched_count, published_entries, waiting}
 use Rattle.nvme_model.specs.Refusals.{conditions, refusal}
 use Rattle.nvme_model.specs.Tables.{first_row}
-use Rattle.nvme_model.specs.Kept.{Kept}
+use Rattle.nvme_model.specs.Kept.{ControllerInvariant}
 use Rattle.nvme_model.proofs.Rules.{none_holds}
 use Rattle.ticket_laws.proofs.Waiting.{publish_waits}
-use Rattle.range_reserve.specs.declared.held.Held.{Held}
+use Rattle.range_reserve.specs.declared.held.HeldRange.{HeldRange}
 use Rattle.rings.specs.Completions.{CompletionRing}
 use Rattle.rings.specs.Submissions.{SubmissionRing, batch_fault, batch_faults}
 use Rattle.job_table.specs.Jobs.{JobTable}
 use Rattle.rings.specs.Queues.{completion_ring, submission_ring}
-use Rattle.step_core.specs.Kept.{CoreFields, IsKept}
+use Rattle.step_core.specs.Kept.{CoreFields, IsCoreOf}
 use Rattle.step_core.specs.Found.{IsSqRing}
 use Rattle.step_core.proofs.Lookups.{sq_read}
 use Rattle.step_core.proofs.Moves.{stepped}
@@ -49,12 +49,21 @@ publish_refused c past q batch r h =
 
 -- ---- an accepted Publish
 
+-- a batch of one entry
+pub single : (batch : List Submission) (x y : Submission) → length batch ≡ 1 → x ≡ get_or batch 0 x
+    → y.entry ≡ x.entry → y.payload ≡ x.payload → y ∷ [] ≡ batch
+single [] x y n is e p = absurd (omega (arith, n))
+single (b ∷ []) x y n is e p =
+    let same : y ≡ x = (λ i. record { entry = e i; payload = p i }) in ap (λ (z : Submission). z ∷ []) (same ∙ is)
+single (a ∷ b ∷ batch) x y n is e p = absurd (omega (arith, n))
+
 -- the entry that it adds
 abbrev pub published_entry : ℕ → List Submission → Entry
 published_entry t batch = Entry.Publish (record { queue = t; batch = batch })
 
 -- the ring of each other queue stays
-ring_stays : (c : ConfigNumbers) (past : Past) (t : ℕ) (batch : List Submission) (k : ℕ) → Kept c past → k ≢ t
+ring_stays : (c : ConfigNumbers) (past : Past) (t : ℕ) (batch : List Submission) (k : ℕ) → ControllerInvariant c past
+    → k ≢ t
     → submission_ring c (published_entry t batch ∷ past) k ≡ submission_ring c past k
 unfolding submission_ring
 ring_stays c past t batch k h ne = ap (λ (xs : List Submission). record (submission_ring c past k) { waiting = xs })
@@ -62,7 +71,7 @@ ring_stays c past t batch k h ne = ap (λ (xs : List Submission). record (submis
     ∙ ap (λ b. waiting past k ++ cond b batch []) (ne_eqb t k (λ e. ne (sym e))) ∙ append-nil (waiting past k))
 
 -- the ring that takes the batch
-ring_more : (c : ConfigNumbers) (past : Past) (t : ℕ) (batch : List Submission) → Kept c past
+ring_more : (c : ConfigNumbers) (past : Past) (t : ℕ) (batch : List Submission) → ControllerInvariant c past
     → record (submission_ring c past t) { waiting = (submission_ring c past t).waiting ++ batch }
     ≡ submission_ring c (published_entry t batch ∷ past) t
 unfolding submission_ring
@@ -77,7 +86,7 @@ unfolding completion_ring
 completion_stays c past t batch k = refl
 
 module _ (c : ConfigNumbers) (past : Past) (fields : CoreFields)
-    (k : IsKept c past fields) (t : ℕ) (batch : List Submission) (none : refusal c past (Step.Publish t batch) ≡ None)
+    (k : IsCoreOf c past fields) (t : ℕ) (batch : List Submission) (none : refusal c past (Step.Publish t batch) ≡ None)
   where
     abbrev v : List (List ℕ)
     v = fields.volume
@@ -91,7 +100,7 @@ module _ (c : ConfigNumbers) (past : Past) (fields : CoreFields)
     abbrev j : JobTable
     j = fields.jobs
 
-    abbrev r : List Held
+    abbrev r : List HeldRange
     r = fields.held
 
     abbrev n : ℕ
@@ -117,12 +126,19 @@ module _ (c : ConfigNumbers) (past : Past) (fields : CoreFields)
           let no : Some why ≡ None = sym e ∙ publish_refused c past t batch x publish_ring ∙ none in
           cc
 
+      -- the ring has room for a batch of one entry
+      pub publish_room : length batch ≡ 1 → length x.waiting + 1 < x.size
+      publish_room one =
+          let free = publish_refused c past t batch x publish_ring ∙ none in
+          let rows = none_holds (batch_faults x.size (length x.waiting) batch) (ap is_none free) in
+          let enough = ltb-false _ _ rows.1.0 in omega (arith, one, enough)
+
       -- the fields
       pub publish_keeps : (copy : List Submission) (y : SubmissionRing) (p : Past) → copy ≡ batch
           → y ≡ record x { waiting = x.waiting ++ batch } → p ≡ published_entry t copy ∷ past
-          → IsKept c p (record fields { submission = set s (t - 1) y })
+          → IsCoreOf c p (record fields { submission = set s (t - 1) y })
       publish_keeps copy y p same more adds =
-          subst (λ (p : Past). IsKept c p (record fields { submission = set s (t - 1) y })) (sym entry) (record {
+          subst (λ (p : Past). IsCoreOf c p (record fields { submission = set s (t - 1) y })) (sym entry) (record {
             accepted = k.accepted;
             volume = k.volume;
             submission = IsTable-set _ _ c.pairs (t - 1) s y k.submission within ring

@@ -15,19 +15,19 @@ use Rattle.nvme_model.specs.Completions.{posted_completions, reaped_count}
 use Rattle.nvme_model.specs.History.{Past}
 use Rattle.nvme_model.specs.Refusals.{conditions, refusal}
 use Rattle.nvme_model.specs.Steps.{next_entry, reap_entry}
-use Rattle.nvme_model.specs.Kept.{Kept}
+use Rattle.nvme_model.specs.Kept.{ControllerInvariant}
 use Rattle.nvme_model.proofs.Rules.{none_holds}
 use Rattle.nvme_model.proofs.Runs.{reaped_posted, some_at}
 use Rattle.ticket_laws.proofs.Waiting.{reap_waits}
-use Rattle.range_reserve.specs.declared.held.Held.{Held}
+use Rattle.range_reserve.specs.declared.held.HeldRange.{HeldRange}
 use Rattle.rings.specs.Completions.{CompletionRing}
 use Rattle.rings.specs.Submissions.{SubmissionRing}
 use Rattle.rings.specs.declared.completion_ring.Completion.{Completion}
 use Rattle.job_table.specs.Jobs.{JobTable}
 use Rattle.rings.specs.Queues.{completion_of, completion_ring, submission_ring}
-use Rattle.step_core.specs.Kept.{CoreFields, IsKept}
+use Rattle.step_core.specs.Kept.{CoreFields, IsCoreOf}
 use Rattle.step_core.specs.Found.{IsCqRing}
-use Rattle.controller_steps.specs.State.{answer_of, payload_of}
+use Rattle.controller_steps.specs.State.{answer_of, reaped_payload}
 use Rattle.controller_steps.specs.declared.answer.Answer.{Answer}
 use Rattle.step_core.proofs.Lookups.{cq_read}
 use Rattle.step_core.proofs.Moves.{stepped}
@@ -133,7 +133,7 @@ same_completion : {x y : Completion} → Some x ≡ Some y → x ≡ y
 same_completion h = cc
 
 module _ (c : ConfigNumbers) (past : Past) (fields : CoreFields)
-    (k : IsKept c past fields) (t : ℕ) (none : refusal c past (Step.Reap t) ≡ None) where
+    (k : IsCoreOf c past fields) (t : ℕ) (none : refusal c past (Step.Reap t) ≡ None) where
   abbrev v : List (List ℕ)
   v = fields.volume
 
@@ -146,7 +146,7 @@ module _ (c : ConfigNumbers) (past : Past) (fields : CoreFields)
   abbrev j : JobTable
   j = fields.jobs
 
-  abbrev r : List Held
+  abbrev r : List HeldRange
   r = fields.held
 
   abbrev n : ℕ
@@ -196,15 +196,15 @@ module _ (c : ConfigNumbers) (past : Past) (fields : CoreFields)
       pub reap_answers : Answer.Reaped d.cqe d.payload ≡ answer_of c past (next_entry c past (Step.Reap t))
       reap_answers =
           ap (λ (y : Completion). Answer.Reaped y.cqe y.payload) reap_completion
-          ∙ ap (λ (o : Option PostLine). Answer.Reaped next_post.0.cqe (payload_of o)) (sym next_post.1)
+          ∙ ap (λ (o : Option PostLine). Answer.Reaped next_post.0.cqe (reaped_payload o)) (sym next_post.1)
           ∙ ap (λ (o : Option PostLine). answer_of c past (reap_entry t o)) (sym next_post.1)
 
       -- the fields
       pub reap_keeps : (y : CompletionRing) (p : Past) → y ≡ record x { waiting = drop 1 x.waiting }
           → p ≡ reaped_entry t d ∷ past
-          → IsKept c p (record fields { completion = set q (t - 1) y })
+          → IsCoreOf c p (record fields { completion = set q (t - 1) y })
       reap_keeps y p rest more =
-          subst (λ (p : Past). IsKept c p (record fields { completion = set q (t - 1) y })) (sym more) (record {
+          subst (λ (p : Past). IsCoreOf c p (record fields { completion = set q (t - 1) y })) (sym more) (record {
             accepted = k.accepted;
             volume = k.volume;
             submission = IsTable-same _ _ c.pairs s k.submission (λ i. submission_stays c past t d (suc i));
@@ -214,7 +214,8 @@ module _ (c : ConfigNumbers) (past : Past) (fields : CoreFields)
             jobs = k.jobs;
             held = k.held;
             count = k.count;
-            run = subst (λ (e : Entry). Kept c (e ∷ past)) (sym reap_adds) (stepped c past (Step.Reap t) k.run none);
+            run = subst (λ (e : Entry). ControllerInvariant c (e ∷ past)) (sym reap_adds)
+                (stepped c past (Step.Reap t) k.run none);
           })
         where
           place : suc (t - 1) ≡ t

@@ -3,26 +3,27 @@ use Rattle.std.proofs.Common.{◌≡◌, List, [], ◌∷◌, ◌++◌, Result, 
 use mathlib.Core.List.{reverse}
 use Rattle.std.proofs.lemmas.List.{reverse-append}
 use Rattle.nvme_model.specs.declared.step.Step.{Step}
-use Rattle.nvme_model.specs.Kept.{Kept}
+use Rattle.nvme_model.specs.Kept.{ControllerInvariant}
 use Rattle.controller_steps.specs.declared.answer.Answer.{Answer}
 use Rattle.controller_steps.specs.declared.answer.Refused.{Refused}
-use Rattle.controller_steps.specs.State.{Runs, RunsOnto}
-use Rattle.controller_steps.specs.State.{Serves, State}
+use Rattle.controller_steps.specs.State.{RunsSteps, RunsOnto}
+use Rattle.controller_steps.specs.State.{Serves, ControllerState}
 use Rattle.step_core.proofs.Moves.{stepped}
 
 -- the history of a controller is legal, and its marks are right
-abbrev pub KeptBy : State → Type 0
-KeptBy x = Kept x.config x.past
+abbrev pub KeptBy : ControllerState → Type 0
+KeptBy x = ControllerInvariant x.config x.past
 
 -- after a step it is so again
-pub kept_served : (old new : State) (step : Step) (r : Result Answer Refused) → KeptBy old → Serves old step r new
+pub kept_served : (old new : ControllerState) (step : Step) (r : Result Answer Refused) → KeptBy old
+    → Serves old step r new
     → KeptBy new
 kept_served old new step (Ok a) k s = subst KeptBy (sym s.1) (stepped old.config old.past step k s.0.0)
 kept_served old new step (Err r) k s = subst KeptBy (sym s.1) k
 
 -- and after many
-pub kept_runs : (old new : State) (steps : List Step) (rs : List (Result Answer Refused)) → KeptBy old
-    → Runs old steps rs new → KeptBy new
+pub kept_runs : (old new : ControllerState) (steps : List Step) (rs : List (Result Answer Refused)) → KeptBy old
+    → RunsSteps old steps rs new → KeptBy new
 kept_runs old new [] [] k run = subst KeptBy (sym run) k
 kept_runs old new (step ∷ steps) (r ∷ rs) k run =
     kept_runs run.0 new steps rs (kept_served old run.0 step r k run.1) run.2
@@ -30,16 +31,16 @@ kept_runs old new [] (r ∷ rs) k run = absurd run
 kept_runs old new (step ∷ steps) [] k run = absurd run
 
 -- one step more
-Runs-push : (old mid new : State) (steps : List Step) (rs : List (Result Answer Refused)) (step : Step)
-    (r : Result Answer Refused) → Runs old steps rs mid → Serves mid step r new
-    → Runs old (steps ++ step ∷ []) (rs ++ r ∷ []) new
-Runs-push old mid new [] [] step r e served = (new, subst (λ (m : State). Serves m step r new) e served, refl)
+Runs-push : (old mid new : ControllerState) (steps : List Step) (rs : List (Result Answer Refused)) (step : Step)
+    (r : Result Answer Refused) → RunsSteps old steps rs mid → Serves mid step r new
+    → RunsSteps old (steps ++ step ∷ []) (rs ++ r ∷ []) new
+Runs-push old mid new [] [] step r e served = (new, subst (λ (m : ControllerState). Serves m step r new) e served, refl)
 Runs-push old mid new (s ∷ steps) (x ∷ rs) step r run served =
     (run.0, run.1, Runs-push run.0 mid new steps rs step r run.2 served)
 Runs-push old mid new [] (x ∷ rs) step r run served = absurd run
 Runs-push old mid new (s ∷ steps) [] step r run served = absurd run
 
-pub RunsOnto-push : (old mid new : State) (steps : List Step) (before out out' : List (Result Answer Refused))
+pub RunsOnto-push : (old mid new : ControllerState) (steps : List Step) (before out out' : List (Result Answer Refused))
     (step : Step) (r : Result Answer Refused) → RunsOnto old steps before out mid → Serves mid step r new
     → out' ≡ out ++ r ∷ []
     → RunsOnto old (steps ++ step ∷ []) before out' new

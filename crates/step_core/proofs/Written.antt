@@ -11,7 +11,7 @@ use Rattle.nvme_model.specs.declared.config.ConfigNumbers.{ConfigNumbers}
 use Rattle.nvme_model.specs.declared.entry.GrantLine.{GrantLine}
 use Rattle.nvme_model.specs.declared.operation.Found.{Found}
 use Rattle.nvme_model.specs.declared.operation.Op.{Op}
-use Rattle.nvme_model.specs.EntryBytes.{blocks, slba}
+use Rattle.nvme_model.specs.EntryBytes.{block_count, slba}
 use Rattle.nvme_model.specs.History.{Past}
 use Rattle.nvme_model.specs.Legal.{IsLegal}
 use Rattle.nvme_model.specs.Open.{blocks_made, differed, grants_of, is_written, open_units}
@@ -20,9 +20,9 @@ use Rattle.nvme_model.specs.Refusals.{has_open}
 use Rattle.nvme_model.specs.Tickets.{Ticket, command, first_fields, ticket}
 use Rattle.nvme_model.proofs.Cut.{cut-is}
 use Rattle.nvme_model.proofs.Finished.{differed_closed}
-use Rattle.ticket_laws.specs.Standing.{OpenUnit, Standing, fresh, had, standing, unit_of}
+use Rattle.ticket_laws.specs.Standing.{OpenUnit, Standing, fresh_standing, had, standing, unit_of}
 use Rattle.ticket_laws.proofs.Left.{blocks_of_all, take_one_more}
-use Rattle.block_exec.specs.Bytes.{block_at, blocks_in, data_at, needs_box_by, written_by}
+use Rattle.block_exec.specs.Bytes.{block_at, first_blocks, data_at, needs_box_by, written_by}
 use Rattle.block_exec.specs.Progress.{compared_as, found_by, needed, next_block}
 use Rattle.block_exec.specs.Units.{progress_of}
 use Rattle.job_table.specs.Keeping.{CanMake}
@@ -34,39 +34,40 @@ use Rattle.step_core.proofs.ReadBytes.{cut_place}
 
 -- ---- blocks of data
 
-pub length-blocks_in : (n : ℕ) (bytes : List ℕ) → length (blocks_in n bytes) ≡ n
-length-blocks_in zero bytes = refl
-length-blocks_in (suc n) bytes =
-    omega (arith, length-append (blocks_in n bytes) (data_at bytes n ∷ []), length-blocks_in n bytes)
+pub length-first_blocks : (n : ℕ) (bytes : List ℕ) → length (first_blocks n bytes) ≡ n
+length-first_blocks zero bytes = refl
+length-first_blocks (suc n) bytes =
+    omega (arith, length-append (first_blocks n bytes) (data_at bytes n ∷ []), length-first_blocks n bytes)
 
-block_in : (n : ℕ) (bytes : List ℕ) (i : ℕ) (d : List ℕ) → i < n → get_or (blocks_in n bytes) i d ≡ data_at bytes i
+block_in : (n : ℕ) (bytes : List ℕ) (i : ℕ) (d : List ℕ) → i < n → get_or (first_blocks n bytes) i d ≡ data_at bytes i
 block_in zero bytes i d l = absurd (omega (arith, l))
 block_in (suc n) bytes i d l = elim (cases_lt i n) [
-  | inl below ↦ get_or_append_left (blocks_in n bytes) (data_at bytes n ∷ []) d i
-      (omega (arith, below, length-blocks_in n bytes)) ∙ block_in n bytes i d below
+  | inl below ↦ get_or_append_left (first_blocks n bytes) (data_at bytes n ∷ []) d i
+      (omega (arith, below, length-first_blocks n bytes)) ∙ block_in n bytes i d below
   | inr high ↦ let same : n ≡ i = omega (arith, l, high) in
-      get_or_push (blocks_in n bytes) (data_at bytes n) d i (length-blocks_in n bytes ∙ same) ∙ ap (data_at bytes) same
+      get_or_push (first_blocks n bytes) (data_at bytes n) d i (length-first_blocks n bytes ∙ same)
+      ∙ ap (data_at bytes) same
 ]
 
 -- the first of them behind k others
-first_left : (n : ℕ) (bytes : List ℕ) (k : ℕ) → k < n → block_at (drop k (blocks_in n bytes)) 0 ≡ data_at bytes k
+first_left : (n : ℕ) (bytes : List ℕ) (k : ℕ) → k < n → block_at (drop k (first_blocks n bytes)) 0 ≡ data_at bytes k
 first_left n bytes k l =
-    get_or-drop k (blocks_in n bytes) 0 zeros ∙ ap (λ i. get_or (blocks_in n bytes) i zeros) (plus k)
+    get_or-drop k (first_blocks n bytes) 0 zeros ∙ ap (λ i. get_or (first_blocks n bytes) i zeros) (plus k)
     ∙ block_in n bytes k zeros l
   where
     plus : (k : ℕ) → k + 0 ≡ k
     plus k = omega arith
 
 -- there is one
-some_left : (n : ℕ) (bytes : List ℕ) (k : ℕ) → k < n → 0 < length (drop k (blocks_in n bytes))
-some_left n bytes k l = omega (arith, l, length-drop k (blocks_in n bytes), length-blocks_in n bytes)
+some_left : (n : ℕ) (bytes : List ℕ) (k : ℕ) → k < n → 0 < length (drop k (first_blocks n bytes))
+some_left n bytes k l = omega (arith, l, length-drop k (first_blocks n bytes), length-first_blocks n bytes)
 
 -- ---- a ticket that was just fetched writes all
 
-pub fresh_blocks : (c : ConfigNumbers) (k : Ticket) → still_written c (fresh k) ≡ write_blocks k
+pub fresh_blocks : (c : ConfigNumbers) (k : Ticket) → still_written c (fresh_standing k) ≡ write_blocks k
 fresh_blocks c k = by (op k)
   where
-    by : (o : Option Op) → drop (written_so_far c (fresh k) o) (write_blocks_by o k) ≡ write_blocks_by o k
+    by : (o : Option Op) → drop (written_so_far c (fresh_standing k) o) (write_blocks_by o k) ≡ write_blocks_by o k
     by None = refl
     by (Some Op.Read) = refl
     by (Some Op.Compare) = refl
@@ -112,7 +113,7 @@ granted_blocks c s g closed calm next = ap (λ n. drop n (write_blocks s.ticket)
     count (Some Op.Pair) e =
         let first = one_unit _ g.range s.opened
         (ap (λ (w : Option Op). slice_get
-        (units_by c.atomic w (slba (first_fields s.ticket)) (blocks (first_fields s.ticket))) s.opened) (sym e)
+        (units_by c.atomic w (slba (first_fields s.ticket)) (block_count (first_fields s.ticket))) s.opened) (sym e)
         ∙ next) in
         ap (pair_written c s) closed ∙ ap (λ b. cond b 0 (had c s)) calm
         ∙ ap (λ (i : ℕ). blocks_of_all (take i (units c s.ticket))) first.0 ∙ nothing g.range.blocks
@@ -130,7 +131,7 @@ module _ (c : ConfigNumbers) (past : Past) (t : ℕ) (h : IsLegal c past) (g : G
   start = slba (first_fields (ticket past t))
 
   abbrev count : ℕ
-  count = blocks (first_fields (ticket past t))
+  count = block_count (first_fields (ticket past t))
 
   abbrev made : ℕ
   made = length (blocks_made past t g.unit)

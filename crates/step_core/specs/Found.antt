@@ -23,11 +23,11 @@ use Rattle.rings.specs.Submissions.{SubmissionRing}
 use Rattle.fused_match.specs.Judged.{NamesBlocks, operation_in, verdict_by}
 use Rattle.fused_match.specs.declared.judged.Judged.{Judged}
 use Rattle.fused_match.specs.declared.judged.Judged.TheVariants as judged
-use Rattle.ticket_course.specs.Stages.{first_stage, unit_in}
+use Rattle.ticket_progress.specs.Stages.{first_ticket_stage, unit_in}
 use Rattle.job_table.specs.Keeping.{Keeping}
 use Rattle.job_table.specs.Tickets.{compare_by, job_at}
 use Rattle.step_core.specs.declared.controller.fetch.Front.{Front}
-use Rattle.step_core.specs.declared.controller.next.Next.{Next}
+use Rattle.step_core.specs.declared.controller.next.ReadyStep.{ReadyStep}
 use Rattle.step_core.specs.declared.controller.post.Due.{Due}
 use Rattle.controller_steps.specs.declared.work.Kind.{Kind}
 
@@ -55,10 +55,10 @@ pub record IsDue (c : ConfigNumbers) (past : Past) (d : Due) : Type 0 where
   pub owed : slice_get (owed c past d.ticket) (posts_of past d.ticket) ≡ Some status
   pub from : d.from ≡ (ticket past d.ticket).queue
   pub queue : d.queue ≡ completion_queue c (ticket past d.ticket).queue
-  pub cid : slice_get (job_at c past d.ticket).course.cids 0 ≡ Some d.cid
+  pub cid : slice_get (job_at c past d.ticket).progress.cids 0 ≡ Some d.cid
   pub cqe : d.cqe ≡ completion c past d.ticket status
   pub bytes : d.bytes ≡ length (job_at c past d.ticket).read
-  pub last : d.last ≡ (length (job_at c past d.ticket).course.cids == 1)
+  pub last : d.last ≡ (length (job_at c past d.ticket).progress.cids == 1)
 
 -- what a Fetch of queue q finds: what becomes of the entries at its front, the CIDs of those that it takes, and the
 -- first block that the first of them names
@@ -83,7 +83,7 @@ abbrev pub first_job : ℕ → Front → Submission → List (List ℕ) → List
 first_job q f first write read =
     record {
       queue = q;
-      course = record { stage = first_stage f.judged; cids = f.cids };
+      progress = record { stage = first_ticket_stage f.judged; cids = f.cids };
       slba = f.slba;
       compare = compare_by (operation_in f.judged) first;
       write = write;
@@ -95,14 +95,15 @@ abbrev pub next_step : ConfigNumbers → Past → ℕ → Option Step
 next_step c past t = find (is_ready c past) (Step.Grant t ∷ Step.Block t ∷ Step.Post t ∷ [])
 
 -- the step that was found
-abbrev pub step_of : Next → Step
-step_of (Next.Grant g) = Step.Grant g.ticket
-step_of (Next.Block t u) = Step.Block t
-step_of (Next.Post d) = Step.Post d.ticket
+abbrev pub ready_step_of : ReadyStep → Step
+ready_step_of (ReadyStep.Grant g) = Step.Grant g.ticket
+ready_step_of (ReadyStep.Block t u) = Step.Block t
+ready_step_of (ReadyStep.Post d) = Step.Post d.ticket
 
 -- nothing refuses it, and it adds this line, is of this unit, or gives this completion
-abbrev pub IsNext : ConfigNumbers → Past → Next → Type 0
-IsNext c past (Next.Grant g) =
+abbrev pub IsNextStep : ConfigNumbers → Past → ReadyStep → Type 0
+IsNextStep c past (ReadyStep.Grant g) =
     (refusal c past (Step.Grant g.ticket) ≡ None) × (Entry.Grant g ≡ next_entry c past (Step.Grant g.ticket))
-IsNext c past (Next.Block t u) = (refusal c past (Step.Block t) ≡ None) × (u ≡ unit_in (job_at c past t).course.stage)
-IsNext c past (Next.Post d) = (refusal c past (Step.Post d.ticket) ≡ None) × IsDue c past d
+IsNextStep c past (ReadyStep.Block t u) = (refusal c past (Step.Block t) ≡ None)
+    × (u ≡ unit_in (job_at c past t).progress.stage)
+IsNextStep c past (ReadyStep.Post d) = (refusal c past (Step.Post d.ticket) ≡ None) × IsDue c past d

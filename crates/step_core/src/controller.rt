@@ -2,7 +2,7 @@
 
 ghost use Rattle.std.specs.Prelude.{◌≡◌, ◌≤◌, ◌<◌, [], IfOk, IfSome, MatchOption, MatchResult, OnErr, OnOk};
 ghost use Rattle.std.specs.Prelude.{false, max, true};
-ghost use Rattle.nvme_model.specs.Kept.{Kept};
+ghost use Rattle.nvme_model.specs.Kept.{ControllerInvariant};
 ghost use Rattle.nvme_model.specs.Legal.{IsLegal};
 ghost use Rattle.nvme_model.specs.Medium.{medium};
 ghost use Rattle.nvme_model.specs.Refusals.{no_completion_queue, no_queue};
@@ -24,6 +24,7 @@ mod reap;
 mod room;
 mod steps;
 
+use crate::spare_boxes::SpareBoxes;
 use block_array::Volume;
 use cids_in_use::{CidsInUse, none_in_use};
 use history::{Config, History};
@@ -49,14 +50,15 @@ pub struct Core {
     tickets: u64,
     history: History,
     promised: usize,
+    spare: SpareBoxes,
 }
 
 impl Model for Core {
     ghost use Rattle.std.specs.Prelude.{◌+◌, ◌^◌, ◌<◌, ◌≤◌};
-    ghost use Rattle.step_core.specs.Kept.{IsKept};
-    ghost use Rattle.controller_steps.specs.State.{State};
+    ghost use Rattle.step_core.specs.Kept.{IsCoreOf};
+    ghost use Rattle.controller_steps.specs.State.{ControllerState};
 
-    ghost Value = { State };
+    ghost Value = { ControllerState };
 
     ghost view = { λ c. record {
       config = c.config;
@@ -66,7 +68,7 @@ impl Model for Core {
     } };
 
     ghost invariant = { λ c.
-        IsKept c.config c.history.past (record {
+        IsCoreOf c.config c.history.past (record {
           volume = c.volume;
           submission = c.submission.items;
           in_use = c.in_use.items;
@@ -87,7 +89,7 @@ impl Core {
     pub fn new(alloc: Global, config: Config) -> Result<Core, NoMemory>
         ensures ok { IfOk result (λ core.
             core ≡ record { config = config; past = []; promised = 0; room = core.room }) }
-        ensures kept { IfOk result (λ core. Kept core.config core.past) }
+        ensures kept { IfOk result (λ core. ControllerInvariant core.config core.past) }
     {
         let numbers = config.numbers();
         Ok(Core {
@@ -102,6 +104,7 @@ impl Core {
             tickets: 0,
             history: History::new(alloc),
             promised: 0,
+            spare: SpareBoxes::new(alloc)?,
         })
     }
 
@@ -137,7 +140,7 @@ impl Core {
         ensures full { OnErr result (LacksRoom self.old.room more) }
         ensures room { KeepsRoom self.old.room self.new.room }
         ensures promise { HasPromised self.new }
-        ensures kept { Kept self.new.config self.new.past }
+        ensures kept { ControllerInvariant self.new.config self.new.past }
     {
         let count = self.promised.max(more);
         self.history.reserve(count)?;
@@ -153,7 +156,7 @@ impl Core {
     pub fn history(&self) -> &History
         ensures past { result.now.past ≡ self.now.past }
         ensures legal { IsLegal self.now.config self.now.past }
-        ensures kept { Kept self.now.config self.now.past }
+        ensures kept { ControllerInvariant self.now.config self.now.past }
         ensures promise { HasPromised self.now }
     {
         &self.history

@@ -5,7 +5,7 @@ use controller_steps::{Answer, Machine, Refused};
 use nvme_model::step::Step;
 
 impl Machine for Core {
-    ghost use Rattle.nvme_model.specs.Kept.{Kept};
+    ghost use Rattle.nvme_model.specs.Kept.{ControllerInvariant};
     ghost use Rattle.controller_steps.specs.State.{Accepts, Refuses};
     ghost use Rattle.ticket_laws.proofs.NewEntries.{accepted_keeps, named_entry, new_entry};
 
@@ -13,7 +13,7 @@ impl Machine for Core {
 
     ghost history = { λ core. core.past };
 
-    ghost legal = { Kept };
+    ghost legal = { ControllerInvariant };
 
     ghost accepts = { Accepts };
 

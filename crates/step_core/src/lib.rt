@@ -3,6 +3,7 @@
 
 mod controller;
 mod core_machine;
+mod spare_boxes;
 
 pub use block_exec::Done;
 pub use controller::Core;

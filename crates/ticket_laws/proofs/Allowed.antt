@@ -6,7 +6,7 @@ use Rattle.std.specs.Prelude.{nat_le, nat_lt}
 use Rattle.nvme_model.specs.History.{Past}
 use Rattle.nvme_model.specs.Open.{differed, granted, has_ended, is_differs}
 use Rattle.nvme_model.specs.Operations.{is_pair, op, op_by, units}
-use Rattle.nvme_model.specs.Owed.{all_ended, numbered}
+use Rattle.nvme_model.specs.Owed.{all_ended, numbered_units}
 use Rattle.nvme_model.specs.Refusals.{has_open, is_flush_ticket, none_left, owes_nothing_yet, refusal}
 use Rattle.nvme_model.specs.Tickets
 use Rattle.nvme_model.specs.Tickets.{in_flight, posts_of}
@@ -49,7 +49,7 @@ all_same p q same (x ∷ xs) = λ i. same x i && all_same p q same xs i
 pub all_ended_same : (c : ConfigNumbers) (past : Past) (t : ℕ)
     → own_all_ended (duty_at c past t) (of_ticket t past) t ≡ all_ended c past t
 all_ended_same c past t =
-    all_same _ _ (λ u. ended_same past t u.0 u.1.blocks) (numbered 0 (units c (Tickets.ticket past t)))
+    all_same _ _ (λ u. ended_same past t u.0 u.1.blocks) (numbered_units 0 (units c (Tickets.ticket past t)))
 
 done_same : (c : ConfigNumbers) (past : Past) (t : ℕ)
     → own_done (duty_at c past t) (of_ticket t past) t ≡ not (in_flight past t)

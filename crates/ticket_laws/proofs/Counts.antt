@@ -14,11 +14,11 @@ use Rattle.nvme_model.specs.History.{Past}
 use Rattle.nvme_model.specs.Legal.{IsLegal}
 use Rattle.nvme_model.specs.Queues.{fetched_count, published_entries, waiting}
 use Rattle.ticket_laws.specs.Standing.{flying, rising}
-use Rattle.nvme_model.specs.Tickets.{next_verdict, cids, cids_in_use, in_flight, numbers, posts_of, tickets}
+use Rattle.nvme_model.specs.Tickets.{next_verdict, cids, cids_in_use, in_flight, numbers_down, posts_of, tickets}
 use Rattle.nvme_model.specs.Statuses.{missing_fused}
 use Rattle.nvme_model.specs.declared.config.AtomicParameters.{AtomicParameters}
 use Rattle.nvme_model.specs.Verdict.{Item, item_of, command_fault, is_in, of_command, of_pair, pair_fault, pair_verdict}
-use Rattle.nvme_model.specs.Verdict.{same_verdict, taken, verdict_of}
+use Rattle.nvme_model.specs.Verdict.{same_verdict, taken_entries, verdict_of}
 use Rattle.nvme_model.specs.declared.config.ConfigNumbers.{ConfigNumbers}
 use Rattle.nvme_model.specs.declared.entry.Entry.{Entry}
 use Rattle.nvme_model.specs.declared.status.Status.{Status}
@@ -29,7 +29,7 @@ use Rattle.nvme_model.proofs.Lists.{drop_map}
 
 -- ---- how many entries a Fetch takes
 
-same_taken : (v w : Verdict) → same_verdict v w ≡ true → taken v ≡ taken w
+same_taken : (v w : Verdict) → same_verdict v w ≡ true → taken_entries v ≡ taken_entries w
 same_taken Verdict.Single Verdict.Single e = refl
 same_taken (Verdict.SingleFailed s) (Verdict.SingleFailed r) e = refl
 same_taken Verdict.Pair Verdict.Pair e = refl
@@ -47,17 +47,17 @@ same_taken (Verdict.PairFailed s t) Verdict.Single e = absurd cc
 same_taken (Verdict.PairFailed s t) (Verdict.SingleFailed r) e = absurd cc
 same_taken (Verdict.PairFailed s t) Verdict.Pair e = absurd cc
 
-pub taken_some : (v : Verdict) → (1 ≤ taken v) × (taken v ≤ 2)
+pub taken_some : (v : Verdict) → (1 ≤ taken_entries v) × (taken_entries v ≤ 2)
 taken_some Verdict.Single = (omega arith, omega arith)
 taken_some (Verdict.SingleFailed s) = (omega arith, omega arith)
 taken_some Verdict.Pair = (omega arith, omega arith)
 taken_some (Verdict.PairFailed s r) = (omega arith, omega arith)
 
-taken_command : (o : Option Status) → taken (of_command o) ≡ 1
+taken_command : (o : Option Status) → taken_entries (of_command o) ≡ 1
 taken_command None = refl
 taken_command (Some s) = refl
 
-taken_pair : (o : Option (Status × Status)) → taken (of_pair o) ≡ 2
+taken_pair : (o : Option (Status × Status)) → taken_entries (of_pair o) ≡ 2
 taken_pair None = refl
 taken_pair (Some s) = refl
 
@@ -66,21 +66,22 @@ by_bool P true v w p q = p
 by_bool P false v w p q = q
 
 pair_within : (u : AtomicParameters) (size : ℕ) (in_use : List ℕ) (first : Item) (rest : List Item)
-    → taken (pair_verdict u size in_use first rest) ≤ suc (length rest)
+    → taken_entries (pair_verdict u size in_use first rest) ≤ suc (length rest)
 pair_within u size in_use first [] = omega arith
 pair_within u size in_use first (second ∷ rest) =
-    by_bool (λ v. taken v ≤ suc (suc (length rest))) (eqb second.fields.fuse 2)
+    by_bool (λ v. taken_entries v ≤ suc (suc (length rest))) (eqb second.fields.fuse 2)
     (of_pair (pair_fault u size in_use first second)) (Verdict.SingleFailed missing_fused)
     (omega (arith, taken_pair (pair_fault u size in_use first second))) (omega arith)
 
 -- a Fetch takes no more than waits
 pub taken_within : (u : AtomicParameters) (size : ℕ) (in_use : List ℕ) (items : List Item) → 0 < length items
-    → taken (verdict_of u size in_use items) ≤ length items
+    → taken_entries (verdict_of u size in_use items) ≤ length items
 taken_within u size in_use [] l = absurd (omega (arith, l))
 taken_within u size in_use (first ∷ rest) l =
-    by_bool (λ v. taken v ≤ suc (length rest)) (eqb first.fields.fuse 1) (pair_verdict u size in_use first rest) _
+    by_bool (λ v. taken_entries v ≤ suc (length rest)) (eqb first.fields.fuse 1)
+    (pair_verdict u size in_use first rest) _
     (pair_within u size in_use first rest)
-    (by_bool (λ v. taken v ≤ suc (length rest)) (eqb first.fields.fuse 2) (Verdict.SingleFailed missing_fused)
+    (by_bool (λ v. taken_entries v ≤ suc (length rest)) (eqb first.fields.fuse 2) (Verdict.SingleFailed missing_fused)
     (of_command (command_fault size in_use first)) (omega arith)
     (omega (arith, taken_command (command_fault size in_use first))))
 
@@ -100,8 +101,8 @@ fetched_within c (Entry.Fetch f ∷ past) q h =
   where
     one : (b : Bool) → eqb f.queue q ≡ b → IsLegal c past → fetched_count past q ≤ length (published_entries past q)
         → eqb (length (published_entries past f.queue)) (fetched_count past f.queue) ≡ false
-        → taken f.verdict ≡ taken (next_verdict c past f.queue)
-        → fetched_count past q + cond b (taken f.verdict) 0 ≤ length (published_entries past q)
+        → taken_entries f.verdict ≡ taken_entries (next_verdict c past f.queue)
+        → fetched_count past q + cond b (taken_entries f.verdict) 0 ≤ length (published_entries past q)
     one false e k l n t = omega (arith, l)
     one true e k l n t =
         let same : f.queue ≡ q = eqb-true _ _ e in
@@ -117,7 +118,7 @@ fetched_within c (Entry.Fetch f ∷ past) q h =
         length-map (waiting past f.queue) item_of in
         let most = taken_within c.atomic c.blocks (cids_in_use past f.queue) (map item_of (waiting past f.queue))
         (omega (arith, some, items)) in
-        subst (λ x. fetched_count past x + taken f.verdict ≤ length (published_entries past x)) same
+        subst (λ x. fetched_count past x + taken_entries f.verdict ≤ length (published_entries past x)) same
         (omega (arith, most, items, t, len, le))
       where
         more : {n p k : ℕ} → n ≡ p - k → k ≤ p → (p ≡ k → ⊥) → 0 < n
@@ -133,26 +134,27 @@ one_if : (b : Bool) (x : ℕ) → length (cond b (x ∷ []) []) ≡ cond b 1 0
 one_if true x = refl
 one_if false x = refl
 
-count_rising : (p : ℕ → Bool) (n : ℕ) → length (filter p (rising n)) ≡ count_by p (numbers n)
+count_rising : (p : ℕ → Bool) (n : ℕ) → length (filter p (rising n)) ≡ count_by p (numbers_down n)
 count_rising p zero = refl
 count_rising p (suc n) =
     ap length (filter-append p (rising n) (suc n ∷ []))
     ∙ length-append (filter p (rising n)) (cond (p (suc n)) (suc n ∷ []) [])
     ∙ (let a = count_rising p n in
     let b = one_if (p (suc n)) (suc n) in
-    let k : count_by p (numbers (suc n)) ≡ cond (p (suc n)) 1 0 + count_by p (numbers n) =
-    sum_by-cons (λ t. cond (p t) 1 0) (suc n) (numbers n) in
+    let k : count_by p (numbers_down (suc n)) ≡ cond (p (suc n)) 1 0 + count_by p (numbers_down n) =
+    sum_by-cons (λ t. cond (p t) 1 0) (suc n) (numbers_down n) in
     omega (arith, a, b, k))
 
-pub flying_count : (past : Past) → length (flying past) ≡ count_by (in_flight past) (numbers (Tickets.tickets past))
+pub flying_count : (past : Past)
+    → length (flying past) ≡ count_by (in_flight past) (numbers_down (Tickets.tickets past))
 flying_count past = count_rising (in_flight past) (Tickets.tickets past)
 
 -- ---- which CIDs are in use: by all tickets, and by those in flight alone
 
-list_any-numbers : (p : ℕ → Bool) (n : ℕ) → list_any p (numbers n) ≡ list_any p (rising n)
-list_any-numbers p zero = refl
-list_any-numbers p (suc n) =
-    ap (λ b. p (suc n) || b) (list_any-numbers p n) ∙ swap (p (suc n)) (list_any p (rising n))
+list_any-numbers_down : (p : ℕ → Bool) (n : ℕ) → list_any p (numbers_down n) ≡ list_any p (rising n)
+list_any-numbers_down p zero = refl
+list_any-numbers_down p (suc n) =
+    ap (λ b. p (suc n) || b) (list_any-numbers_down p n) ∙ swap (p (suc n)) (list_any p (rising n))
     ∙ sym (list_any-append p (rising n) (suc n ∷ []))
   where
     swap : (a b : Bool) → (a || b) ≡ (b || (a || false))
@@ -210,9 +212,9 @@ pub in_use_flying : (past : Past) (q cid : ℕ)
 in_use_flying past q cid =
     list_any-flat (λ m. eqb m cid)
     (λ t. cond (eqb (Tickets.ticket past t).queue q) (drop (posts_of past t) (cids (Tickets.ticket past t))) [])
-    (numbers (Tickets.tickets past))
-    ∙ any_same _ (owing past q cid) (numbers (Tickets.tickets past)) (one_ticket past q cid)
-    ∙ list_any-numbers (owing past q cid) (Tickets.tickets past)
+    (numbers_down (Tickets.tickets past))
+    ∙ any_same _ (owing past q cid) (numbers_down (Tickets.tickets past)) (one_ticket past q cid)
+    ∙ list_any-numbers_down (owing past q cid) (Tickets.tickets past)
     ∙ list_any-filter (owing past q cid) (in_flight past) (rising (Tickets.tickets past))
     (λ t e. landed t (ltb-false _ _ e))
   where

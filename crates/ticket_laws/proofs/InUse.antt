@@ -4,7 +4,7 @@ use Rattle.std.proofs.Common.{unwrap_or, eqb, nat_lt, ◌+◌}
 use Rattle.nvme_model.specs.declared.config.AtomicParameters.{AtomicParameters}
 use Rattle.nvme_model.specs.declared.status.Status.{Status}
 use Rattle.nvme_model.specs.Tables.{first_row}
-use Rattle.nvme_model.specs.EntryBytes.{blocks, slba}
+use Rattle.nvme_model.specs.EntryBytes.{block_count, slba}
 use Rattle.nvme_model.specs.Commands.{data_length, is_compare, is_flush, is_read, is_write, is_write_zeroes}
 use Rattle.nvme_model.specs.Cells.{pair_fits}
 use Rattle.nvme_model.specs.Statuses.{cid_conflict, data_transfer_error, failed_fused, invalid_field, invalid_namespace}
@@ -25,8 +25,8 @@ command_same size xs ys i h =
     ∷ (has_invalid_field e, invalid_field)
     ∷ (b, cid_conflict)
     ∷ (not (eqb e.nsid 1), invalid_namespace)
-    ∷ (not (is_flush e) && nat_lt 256 (blocks e), invalid_field)
-    ∷ (not (is_flush e) && nat_lt size (slba e + blocks e), out_of_range)
+    ∷ (not (is_flush e) && nat_lt 256 (block_count e), invalid_field)
+    ∷ (not (is_flush e) && nat_lt size (slba e + block_count e), out_of_range)
     ∷ (not (eqb i.length (data_length e)), data_transfer_error)
     ∷ [])) (h e.cid)
 
@@ -42,8 +42,8 @@ pair_same u size xs ys first second h =
     ∷ (h e.cid k || h d.cid k || eqb e.cid d.cid, (cid_conflict, cid_conflict))
     ∷ (is_some (x k), (unwrap_or (x k) success, failed_fused))
     ∷ (is_some (y k), (failed_fused, unwrap_or (y k) success))
-    ∷ (not (eqb (slba e) (slba d) && eqb (blocks e) (blocks d)), (invalid_field, invalid_field))
-    ∷ (not (pair_fits u (slba e) (blocks e)), (unit_exceeded, unit_exceeded))
+    ∷ (not (eqb (slba e) (slba d) && eqb (block_count e) (block_count d)), (invalid_field, invalid_field))
+    ∷ (not (pair_fits u (slba e) (block_count e)), (unit_exceeded, unit_exceeded))
     ∷ []))
 
 pair_verdict_same : (u : AtomicParameters) (size : ℕ) (xs ys : List ℕ) (first : Item) (rest : List Item) → SameIn xs ys

@@ -11,7 +11,7 @@ use Rattle.nvme_model.specs.Tickets
 use Rattle.nvme_model.specs.Tickets.{Ticket, cids_in_use, fetched_ticket, next_verdict, tickets}
 use Rattle.nvme_model.specs.Operations.{op, units}
 use Rattle.ticket_laws.specs.Tasks.{duty_at}
-use Rattle.nvme_model.specs.Verdict.{item_of, taken}
+use Rattle.nvme_model.specs.Verdict.{item_of, taken_entries}
 use Rattle.nvme_model.specs.declared.config.ConfigNumbers.{ConfigNumbers}
 use Rattle.nvme_model.specs.declared.entry.Entry.{Entry}
 use Rattle.nvme_model.specs.declared.step.Step.{Step}
@@ -59,11 +59,11 @@ more m f l e = grind (arith, nat_tests)
 
 -- a Fetch that nothing refuses takes as many entries as its verdict says
 pub fetched_commands : (c : ConfigNumbers) (past : Past) (q : ℕ) → IsLegal c past → refusal c past (Step.Fetch q) ≡ None
-    → length (fetched_ticket past q (next_verdict c past q)).commands ≡ taken (next_verdict c past q)
+    → length (fetched_ticket past q (next_verdict c past q)).commands ≡ taken_entries (next_verdict c past q)
 fetched_commands c past q h none =
     let rows = none_holds (conditions c past (Step.Fetch q)) (ap is_none none) in
     let some = more _ _ (fetched_within c past q h) rows.1.0 in
     let items = length-map (waiting past q) item_of in
     let most = taken_within c.atomic c.blocks (cids_in_use past q) (map item_of (waiting past q))
     (omega (arith, some, items, length-drop (fetched_count past q) (published_entries past q))) in
-    length-take-le (taken (next_verdict c past q)) (waiting past q) (omega (arith, most, items))
+    length-take-le (taken_entries (next_verdict c past q)) (waiting past q) (omega (arith, most, items))

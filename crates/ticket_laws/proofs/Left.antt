@@ -9,7 +9,7 @@ use Rattle.nvme_model.specs.declared.array.Range.{Range}
 use Rattle.nvme_model.specs.declared.config.AtomicParameters.{AtomicParameters}
 use Rattle.nvme_model.specs.declared.config.ConfigNumbers.{ConfigNumbers}
 use Rattle.nvme_model.specs.declared.operation.Op.{Op}
-use Rattle.nvme_model.specs.EntryBytes.{slba, blocks}
+use Rattle.nvme_model.specs.EntryBytes.{slba, block_count}
 use Rattle.nvme_model.specs.Cut.{IsCut, cut}
 use Rattle.nvme_model.specs.History.{Past}
 use Rattle.nvme_model.specs.Tickets
@@ -17,7 +17,7 @@ use Rattle.nvme_model.specs.Tickets.{Ticket, first_fields}
 use Rattle.nvme_model.specs.Operations.{op, units, units_by}
 use Rattle.nvme_model.specs.Open.{grants_of, differed}
 use Rattle.nvme_model.specs.Refusals.{next_unit, none_left}
-use Rattle.ticket_laws.specs.Standing.{Standing, standing, had, remaining, left, next_of, without}
+use Rattle.ticket_laws.specs.Standing.{Standing, standing, had, remaining, blocks_left, next_of, without}
 use Rattle.nvme_model.proofs.Cut.{cut-is, cut-unique}
 use Rattle.nvme_model.proofs.StepCounts.{cut_sum}
 
@@ -119,10 +119,10 @@ next_is u (Some Op.WriteZeroes) s n g l = cut_next u s n g
 
 -- the unit that a Grant opens is the first of what is left
 pub next_unit_left : (c : ConfigNumbers) (past : Past) (t : ℕ) → differed past t ≡ false
-    → next_unit c past t ≡ next_of c.atomic (op (Tickets.ticket past t)) (left c (standing past t))
+    → next_unit c past t ≡ next_of c.atomic (op (Tickets.ticket past t)) (blocks_left c (standing past t))
 next_unit_left c past t d =
     let k = Tickets.ticket past t in
-    next_is c.atomic (op k) (slba (first_fields k)) (blocks (first_fields k)) (grants_of past t) (omega arith)
+    next_is c.atomic (op k) (slba (first_fields k)) (block_count (first_fields k)) (grants_of past t) (omega arith)
     ∙ ap (λ b. next_of c.atomic (op k)
     (record {
       slba = slba (first_fields k) + had c (standing past t);
@@ -151,7 +151,7 @@ nothing_next u (Some Op.WriteZeroes) s = refl
 
 -- no unit is left to open where nothing is left
 pub none_left_is : (c : ConfigNumbers) (past : Past) (t : ℕ)
-    → none_left c past t ≡ is_none (next_of c.atomic (op (Tickets.ticket past t)) (left c (standing past t)))
+    → none_left c past t ≡ is_none (next_of c.atomic (op (Tickets.ticket past t)) (blocks_left c (standing past t)))
 none_left_is c past t = elim (cases_Bool (differed past t)) [
   | inl d ↦ or_any (nat_le (length (units c k)) (grants_of past t)) (differed past t) d
       ∙ sym (ap is_none (ap (λ b.
@@ -201,7 +201,7 @@ take_one_more g r rs e = ap (λ n. blocks_of_all (take n rs)) (add-one g) ∙ go
 -- what is left then
 pub left_after : (c : ConfigNumbers) (s s' : Standing) (r : Range) → s'.ticket ≡ s.ticket → s'.opened ≡ s.opened + 1
     → s'.differs ≡ s.differs → s.differs ≡ false
-    → slice_get (units c s.ticket) s.opened ≡ Some r → left c s' ≡ without (left c s) r.blocks
+    → slice_get (units c s.ticket) s.opened ≡ Some r → blocks_left c s' ≡ without (blocks_left c s) r.blocks
 left_after c s s' r k o d n e =
     let us = units c s.ticket in
     let h : had c s' ≡ had c s + r.blocks = ap₂ (λ (x : Ticket) (y : ℕ). blocks_of_all (take y (units c x))) k o

@@ -15,7 +15,7 @@ use Rattle.nvme_model.specs.declared.entry.GrantLine.{GrantLine}
 use Rattle.nvme_model.specs.declared.entry.BlockLine.{BlockLine}
 use Rattle.nvme_model.specs.declared.entry.Entry.{Entry}
 use Rattle.nvme_model.specs.Array.{zeros}
-use Rattle.nvme_model.specs.EntryBytes.{Sqe, sqe_fields, slba, blocks}
+use Rattle.nvme_model.specs.EntryBytes.{Sqe, sqe_fields, slba, block_count}
 use Rattle.nvme_model.specs.Commands.{is_write, is_read, is_compare, is_write_zeroes, data_length}
 use Rattle.nvme_model.specs.Cut.{cut_within, longest}
 use Rattle.nvme_model.specs.History.{Past}
@@ -65,14 +65,14 @@ units_lie c (Some Op.WriteZeroes) s n = cut_lies n c s n
 
 -- a granted unit lies in its ticket's range
 abbrev pub InTicket : Past → GrantLine → Type 0
-InTicket past g = let e = first_fields (Tickets.ticket past g.ticket) in Within (slba e) (blocks e) g.range
+InTicket past g = let e = first_fields (Tickets.ticket past g.ticket) in Within (slba e) (block_count e) g.range
 
 pub granted_lie : (c : ConfigNumbers) (past : Past) → IsLegal c past → Each (InTicket past) (granted past)
 granted_lie c past h =
     each_map (λ g. slice_get (units c (Tickets.ticket past g.ticket)) g.unit ≡ Some g.range) (InTicket past)
     (λ g e. let k = Tickets.ticket past g.ticket in
-    each_get (Within (slba (first_fields k)) (blocks (first_fields k))) (units c k) g.unit g.range
-    (units_lie c.atomic (op k) (slba (first_fields k)) (blocks (first_fields k))) e)
+    each_get (Within (slba (first_fields k)) (block_count (first_fields k))) (units c k) g.unit g.range
+    (units_lie c.atomic (op k) (slba (first_fields k)) (block_count (first_fields k))) e)
     (granted past) (unit_at c past h)
 
 -- ---- the data beside commands
@@ -104,7 +104,7 @@ fields_compare e h = go (is_write e) (is_read e) (is_compare e) (is_write_zeroes
     go false false false true h = absurd cc
     go false false false false h = absurd cc
 
-has_data : (e : Sqe) → (is_write e || is_compare e) ≡ true → data_length e ≡ 512 * blocks e
+has_data : (e : Sqe) → (is_write e || is_compare e) ≡ true → data_length e ≡ 512 * block_count e
 has_data e h = cond-true _ _ _ h
 
 or_either : (x y : Bool) → y ≡ true → (x || y) ≡ true
@@ -113,9 +113,9 @@ or_either false y h = h
 
 -- the data of a ticket that passed its checks, by what it does
 pub record HasData (k : Ticket) : Type 0 where
-  pub compare : has_compare (op k) ≡ true → length (command k 0).payload ≡ 512 * blocks (first_fields k)
-  pub write : op k ≡ Some Op.Write → length (command k 0).payload ≡ 512 * blocks (first_fields k)
-  pub pair : op k ≡ Some Op.Pair → length (command k 1).payload ≡ 512 * blocks (first_fields k)
+  pub compare : has_compare (op k) ≡ true → length (command k 0).payload ≡ 512 * block_count (first_fields k)
+  pub write : op k ≡ Some Op.Write → length (command k 0).payload ≡ 512 * block_count (first_fields k)
+  pub pair : op k ≡ Some Op.Pair → length (command k 1).payload ≡ 512 * block_count (first_fields k)
 
 pub has_data_if : (c : ConfigNumbers) (k : Ticket) → TicketChecked c k → HasData k
 has_data_if c k t =
@@ -169,7 +169,8 @@ block_length s n l bytes e a b =
 
 -- what a ticket writes at a block of its range
 pub written_length : (c : ConfigNumbers) (k : Ticket) (l : ℕ) → TicketChecked c k → has_write (op k) ≡ true
-    → slba (first_fields k) ≤ l → l < slba (first_fields k) + blocks (first_fields k) → length (write_data k l) ≡ 512
+    → slba (first_fields k) ≤ l → l < slba (first_fields k) + block_count (first_fields k)
+    → length (write_data k l) ≡ 512
 written_length c k l t w a b = go (op k) refl w
   where
     d : HasData k
@@ -177,8 +178,8 @@ written_length c k l t w a b = go (op k) refl w
 
     go : (o : Option Op) → op k ≡ o → has_write o ≡ true → length (write_data_by o k l) ≡ 512
     go (Some Op.Write) q h =
-        block_length (slba (first_fields k)) (blocks (first_fields k)) l (command k 0).payload (d.write q) a b
-    go (Some Op.Pair) q h = block_length (slba (first_fields k)) (blocks (first_fields k)) l (command k 1).payload
+        block_length (slba (first_fields k)) (block_count (first_fields k)) l (command k 0).payload (d.write q) a b
+    go (Some Op.Pair) q h = block_length (slba (first_fields k)) (block_count (first_fields k)) l (command k 1).payload
         (d.pair q) a b
     go (Some Op.WriteZeroes) q h = zeros_length
     go None q h = clash false h refl
@@ -205,14 +206,14 @@ writes_if (Some Op.Compare) n j Found.Differs h w = clash false w refl
 pub block_lies : (c : ConfigNumbers) (past : Past) (b : BlockLine) → IsLegal c (Entry.Block b ∷ past)
     → (slba (first_fields (Tickets.ticket past b.ticket)) ≤ b.lba)
     × (b.lba < slba (first_fields (Tickets.ticket past b.ticket))
-    + blocks (first_fields (Tickets.ticket past b.ticket)))
+    + block_count (first_fields (Tickets.ticket past b.ticket)))
 block_lies c past b h =
     let before = (follows c past (Entry.Block b) h).before in
     let m = may_block c past b h in
     let f = each_find (InTicket past) (λ x. eqb x.ticket b.ticket) (open_units past) m.0
     (each_filter (InTicket past) (InTicket past) _ (λ x p e. p) (granted past) (granted_lie c past before)) m.1 in
     subst (λ (t : ℕ). (slba (first_fields (Tickets.ticket past t)) ≤ b.lba)
-    × (b.lba < slba (first_fields (Tickets.ticket past t)) + blocks (first_fields (Tickets.ticket past t))))
+    × (b.lba < slba (first_fields (Tickets.ticket past t)) + block_count (first_fields (Tickets.ticket past t))))
     m.2.ticket (
       omega (arith, f.0.low, m.2.lba),
       omega (arith, f.0.high, m.2.lba, mod-lt (length (blocks_made past m.0.ticket m.0.unit)) m.2.unended.facts.some),

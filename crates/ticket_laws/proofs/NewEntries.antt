@@ -6,7 +6,7 @@ use Rattle.std.specs.List.{find}
 use Rattle.std.specs.Prelude.{slice_get, ◌==◌}
 use Rattle.nvme_model.specs.Completions.{posted_completions, reaped_count}
 use Rattle.nvme_model.specs.History.{Past}
-use Rattle.nvme_model.specs.Kept.{Kept}
+use Rattle.nvme_model.specs.Kept.{ControllerInvariant}
 use Rattle.nvme_model.specs.Legal.{IsLegal}
 use Rattle.nvme_model.specs.Open.{open_units}
 use Rattle.nvme_model.specs.Owed.{owed}
@@ -102,7 +102,7 @@ named_entry c past (Step.Fetch q) e is named = absurd (omega (arith, named))
 named_entry c past (Step.Reap q) e is named = absurd (omega (arith, named))
 
 -- what a controller keeps of its history, its accepted step keeps
-pub accepted_keeps : (c : ConfigNumbers) (past : Past) (step : Step) (e : Entry) → Kept c past
-    → refusal c past step ≡ None → e ≡ next_entry c past step → Kept c (e ∷ past)
+pub accepted_keeps : (c : ConfigNumbers) (past : Past) (step : Step) (e : Entry) → ControllerInvariant c past
+    → refusal c past step ≡ None → e ≡ next_entry c past step → ControllerInvariant c (e ∷ past)
 accepted_keeps c past step e k none is =
-    subst (λ (x : Entry). Kept c (x ∷ past)) (sym is) (step_kept c past step k (ap is_none none))
+    subst (λ (x : Entry). ControllerInvariant c (x ∷ past)) (sym is) (step_kept c past step k (ap is_none none))

@@ -24,7 +24,7 @@ use Rattle.nvme_model.specs.Open.{unit_range}
 use Rattle.nvme_model.specs.Value.{value, all_equal}
 use Rattle.nvme_model.specs.Placed.{effect}
 use Rattle.nvme_model.specs.Answered.{says_no, no_at}
-use Rattle.nvme_model.specs.Owed.{owed, owed_after, owed_by, numbered, all_ended, all_done, some_no}
+use Rattle.nvme_model.specs.Owed.{owed, owed_after, owed_by, numbered_units, all_ended, all_done, some_no}
 use Rattle.nvme_model.specs.Refusals.{has_open, is_flush_ticket, owes_nothing_yet}
 use Rattle.nvme_model.specs.Steps.{marked}
 use Rattle.nvme_model.specs.Legal.{IsLegal}
@@ -169,13 +169,14 @@ differs_known (Entry.Post e ∷ past) t u h = differs_known past t u h
 differs_known (Entry.Reap e ∷ past) t u h = differs_known past t u h
 
 any_numbered : (p : ℕ × Range → Bool) (q : ℕ → Bool) (v : ℕ) (rs : List Range)
-    → ((u : ℕ) (r : Range) → p (u, r) ≡ true → q u ≡ true) → list_any p (numbered v rs) ≡ true → (u : ℕ) × (q u ≡ true)
+    → ((u : ℕ) (r : Range) → p (u, r) ≡ true → q u ≡ true) → list_any p (numbered_units v rs) ≡ true
+    → (u : ℕ) × (q u ≡ true)
 any_numbered p q v [] f h = clash false h refl
 any_numbered p q v (r ∷ rs) f h =
-    go (or_cases (p (v, r)) (list_any p (numbered (suc v) rs)) h) (any_numbered p q (suc v) rs f)
+    go (or_cases (p (v, r)) (list_any p (numbered_units (suc v) rs)) h) (any_numbered p q (suc v) rs f)
   where
-    go : (p (v, r) ≡ true) ⊎ (list_any p (numbered (suc v) rs) ≡ true)
-        → (list_any p (numbered (suc v) rs) ≡ true → (u : ℕ) × (q u ≡ true)) → (u : ℕ) × (q u ≡ true)
+    go : (p (v, r) ≡ true) ⊎ (list_any p (numbered_units (suc v) rs) ≡ true)
+        → (list_any p (numbered_units (suc v) rs) ≡ true → (u : ℕ) × (q u ≡ true)) → (u : ℕ) × (q u ≡ true)
     go (inl e) ih = (v, f v r e)
     go (inr e) ih = ih e
 
@@ -209,7 +210,7 @@ run_ended : (c : ConfigNumbers) (past : Past) (t : ℕ) → IsLegal c past
 run_ended c past t h l o =
     numbered_all (λ u. true) (λ u. has_ended past t u.0 u.1.blocks) 0 (units c (Tickets.ticket past t))
     (λ i j r e m q. one j r (ap (slice_get (units c (Tickets.ticket past t))) (place i j m) ∙ e))
-    (all_true (numbered 0 (units c (Tickets.ticket past t))))
+    (all_true (numbered_units 0 (units c (Tickets.ticket past t))))
   where
     place : (i j : ℕ) → j ≡ 0 + i → j ≡ i
     place i j m = omega (arith, m)
@@ -278,7 +279,7 @@ done_ended c past t h k = go (all_ended c past t) refl
     go : (x : Bool) → all_ended c past t ≡ x → all_done c past t ≡ x
     go true e = all_done_if c past t h k e
     go false e = ap (λ y. y && list_all (λ u. is_some (effect past t u.0))
-        (numbered 0 (units c (Tickets.ticket past t)))) e
+        (numbered_units 0 (units c (Tickets.ticket past t)))) e
 
 -- a single command
 single_owed_is : (n d r : Bool) (e : Bool) → n ≡ d → (d ≡ false → e ≡ r)

@@ -9,7 +9,7 @@ use Rattle.nvme_model.specs.declared.config.ConfigNumbers.{ConfigNumbers}
 use Rattle.nvme_model.specs.declared.entry.GrantLine.{GrantLine}
 use Rattle.nvme_model.specs.declared.entry.FetchLine.{FetchLine}
 use Rattle.nvme_model.specs.declared.entry.Entry.{Entry}
-use Rattle.nvme_model.specs.Verdict.{taken}
+use Rattle.nvme_model.specs.Verdict.{taken_entries}
 use Rattle.nvme_model.specs.History.{Past}
 use Rattle.nvme_model.specs.Queues.{waiting}
 use Rattle.nvme_model.specs.Tickets
@@ -17,7 +17,7 @@ use Rattle.nvme_model.specs.Tickets.{Ticket, posts_of, in_flight, fetched_ticket
 use Rattle.nvme_model.specs.Open.{grants_of, granted, open_units, differed, is_differs, is_read_found}
 use Rattle.nvme_model.specs.Medium.{medium}
 use Rattle.nvme_model.specs.Legal.{IsLegal}
-use Rattle.ticket_laws.specs.Standing.{bytes_read, rising, flying, open_unit, unit_of, standing, fresh}
+use Rattle.ticket_laws.specs.Standing.{bytes_read, rising, flying, open_unit, unit_of, standing, fresh_standing}
 use Rattle.nvme_model.proofs.Lists.{Each, each_map, each_filter}
 use Rattle.ticket_laws.proofs.TicketLists.{filter_each, rising_each}
 use Rattle.nvme_model.proofs.Rules.{follows, fetch_number}
@@ -112,7 +112,7 @@ fetch_other c past f t h l =
 
 -- and the new one has begun nothing
 pub fetch_here : (c : ConfigNumbers) (past : Past) (f : FetchLine) → IsLegal c (Entry.Fetch f ∷ past)
-    → standing (Entry.Fetch f ∷ past) f.ticket ≡ fresh (fetched_ticket past f.queue f.verdict)
+    → standing (Entry.Fetch f ∷ past) f.ticket ≡ fresh_standing (fetched_ticket past f.queue f.verdict)
 fetch_here c past f h =
     let b = (follows c past (Entry.Fetch f) h).before in
     let n = fetch_number c past f h in
@@ -133,7 +133,7 @@ fetch_here c past f h =
 
 -- the tickets in flight
 pub fetch_flying : (c : ConfigNumbers) (past : Past) (f : FetchLine) → IsLegal c (Entry.Fetch f ∷ past)
-    → 0 < length (take (taken f.verdict) (waiting past f.queue))
+    → 0 < length (take (taken_entries f.verdict) (waiting past f.queue))
     → flying (Entry.Fetch f ∷ past) ≡ flying past ++ f.ticket ∷ []
 fetch_flying c past f h some =
     let b = (follows c past (Entry.Fetch f) h).before in

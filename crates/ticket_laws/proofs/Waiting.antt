@@ -8,7 +8,7 @@ use Rattle.nvme_model.specs.declared.entry.FetchLine.{FetchLine}
 use Rattle.nvme_model.specs.declared.entry.PostLine.{PostLine}
 use Rattle.nvme_model.specs.declared.entry.ReapLine.{ReapLine}
 use Rattle.nvme_model.specs.declared.entry.Entry.{Entry}
-use Rattle.nvme_model.specs.Verdict.{taken}
+use Rattle.nvme_model.specs.Verdict.{taken_entries}
 use Rattle.nvme_model.specs.History.{Past}
 use Rattle.nvme_model.specs.Queues.{published_entries, fetched_count, waiting}
 use Rattle.nvme_model.specs.Tickets.{ticket}
@@ -41,9 +41,9 @@ publish_waits c past p q h =
 
 -- a Fetch takes from the front
 pub fetch_waits : (past : Past) (f : FetchLine) (q : ℕ)
-    → waiting (Entry.Fetch f ∷ past) q ≡ drop (cond (eqb f.queue q) (taken f.verdict) 0) (waiting past q)
+    → waiting (Entry.Fetch f ∷ past) q ≡ drop (cond (eqb f.queue q) (taken_entries f.verdict) 0) (waiting past q)
 fetch_waits past f q = sym
-    (drop_twice (fetched_count past q) (cond (eqb f.queue q) (taken f.verdict) 0) (published_entries past q))
+    (drop_twice (fetched_count past q) (cond (eqb f.queue q) (taken_entries f.verdict) 0) (published_entries past q))
 
 -- ---- completion queues
 

@@ -13,13 +13,13 @@ use Rattle.nvme_model.proofs.NextPost.{granted_unit, unit_at, unit_of_blocks}
 use Rattle.ticket_laws.proofs.ReadSoFar.{ReadState, Reading, read_state, unit_bytes}
 use Rattle.nvme_model.proofs.Runs.{below_if, some_at}
 use Rattle.nvme_model.specs.Array.{blocks_from}
-use Rattle.nvme_model.specs.EntryBytes.{blocks, slba}
+use Rattle.nvme_model.specs.EntryBytes.{block_count, slba}
 use Rattle.nvme_model.specs.History.{Past}
 use Rattle.nvme_model.specs.Laws.{MarkedRight}
 use Rattle.nvme_model.specs.Legal.{IsLegal}
 use Rattle.nvme_model.specs.Open.{blocks_made, granted, grants_of, has_ended, is_differs, steps_needed, unit_range}
 use Rattle.nvme_model.specs.Operations.{is_pair, op, units}
-use Rattle.nvme_model.specs.Owed.{all_ended, contents_at, numbered, read_data_by}
+use Rattle.nvme_model.specs.Owed.{all_ended, contents_at, numbered_units, read_data_by}
 use Rattle.nvme_model.specs.Placed.{effect}
 use Rattle.ticket_laws.specs.Standing.{bytes_read}
 use Rattle.nvme_model.specs.Tickets.{first_fields}
@@ -29,7 +29,8 @@ use Rattle.nvme_model.specs.declared.entry.BlockLine.{BlockLine}
 use Rattle.nvme_model.specs.declared.operation.Op.{Op}
 use Rattle.nvme_model.specs.Tickets
 
-all_numbered : (P : ℕ × Range → Bool) (k i j : ℕ) (r : Range) (xs : List Range) → list_all P (numbered k xs) ≡ true
+all_numbered : (P : ℕ × Range → Bool) (k i j : ℕ) (r : Range) (xs : List Range)
+    → list_all P (numbered_units k xs) ≡ true
     → slice_get xs i ≡ Some r → j ≡ k + i → P (j, r) ≡ true
 all_numbered P k i j r [] a e n = absurd (let f : None ≡ Some r = e in cc)
 all_numbered P k zero j r (x ∷ xs) a e n =
@@ -51,7 +52,7 @@ unit_is c past t u r h k p at ended =
     let some : 1 ≤ r.blocks =
     each_get (λ s. 1 ≤ s.blocks) (units c (Tickets.ticket past t)) u r
     (units_some c.atomic (op (Tickets.ticket past t)) (slba (first_fields (Tickets.ticket past t)))
-    (blocks (first_fields (Tickets.ticket past t))) (omega arith)) at in
+    (block_count (first_fields (Tickets.ticket past t))) (omega arith)) at in
     let there : u < grants_of past t = unit_of_blocks c past t u h (some_made (or_cases _ _ ended) some) in
     let found = found_some (λ g. eqb g.ticket t && eqb g.unit u) (granted past) (some_granted c past t u h there) in
     let f = each_find (λ x. (GrantFacts past x
@@ -102,15 +103,15 @@ unit_is c past t u r h k p at ended =
 
 joined_numbered : (past : Past) (t : ℕ) (F : ℕ × Range → List ℕ) (xs : List Range) (k n : ℕ) → n ≡ k + length xs
     → ((i j : ℕ) (r : Range) → slice_get xs i ≡ Some r → j ≡ k + i → unit_bytes past t j ≡ F (j, r))
-    → joined past t n ≡ joined past t k ++ flat_map F (numbered k xs)
+    → joined past t n ≡ joined past t k ++ flat_map F (numbered_units k xs)
 joined_numbered past t F [] k n e h =
     let same : n ≡ k = omega (arith, e) in
     ap (joined past t) same ∙ sym (append-nil (joined past t k))
 joined_numbered past t F (x ∷ xs) k n e h =
     let here : k ≡ k + 0 = omega arith in
     joined_numbered past t F xs (suc k) n (omega (arith, e)) (λ i j r a q. h (suc i) j r a (omega (arith, q)))
-    ∙ append_assoc (joined past t k) (unit_bytes past t k) (flat_map F (numbered (suc k) xs))
-    ∙ ap (λ ys. joined past t k ++ (ys ++ flat_map F (numbered (suc k) xs))) (h 0 k x refl here)
+    ∙ append_assoc (joined past t k) (unit_bytes past t k) (flat_map F (numbered_units (suc k) xs))
+    ∙ ap (λ ys. joined past t k ++ (ys ++ flat_map F (numbered_units (suc k) xs))) (h 0 k x refl here)
 
 -- the data that a Read's completion carries
 pub read_is : (c : ConfigNumbers) (past : Past) (t : ℕ) → IsLegal c past → MarkedRight past

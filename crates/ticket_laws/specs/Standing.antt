@@ -74,8 +74,8 @@ standing past t =
     }
 
 -- where a ticket stands that was just fetched
-abbrev pub fresh : Ticket → Standing
-fresh k = record { ticket = k; opened = 0; unit = None; differs = false; posts = 0; read = [] }
+abbrev pub fresh_standing : Ticket → Standing
+fresh_standing k = record { ticket = k; opened = 0; unit = None; differs = false; posts = 0; read = [] }
 
 -- the blocks of the units that were opened, and of those that weren't
 abbrev pub had : ConfigNumbers → Standing → ℕ
@@ -86,8 +86,12 @@ abbrev pub remaining : ConfigNumbers → Standing → ℕ
 remaining c s = sum_by (λ r. r.blocks) (drop s.opened (units c s.ticket))
 
 -- the blocks of which no unit was opened; none after a `differs`
-abbrev pub left : ConfigNumbers → Standing → Range
-left c s = record { slba = slba (first_fields s.ticket) + had c s; blocks = if s.differs then 0 else remaining c s }
+abbrev pub blocks_left : ConfigNumbers → Standing → Range
+blocks_left c s = record {
+  slba = slba (first_fields s.ticket) + had c s;
+  blocks = if s.differs then 0
+      else remaining c s;
+}
 
 -- the unit that is opened next of these blocks
 abbrev pub next_of : AtomicParameters → Option Op → Range → Option Range

@@ -6,7 +6,7 @@ use Rattle.std.specs.Prelude.{true, ℕ, ◌&&◌, ◌*◌, ◌-◌, ◌||◌, �
 use Rattle.nvme_model.specs.History.{Past}
 use Rattle.nvme_model.specs.Open.{blocks_made, differed, granted, is_differs}
 use Rattle.nvme_model.specs.Operations.{is_pair, op, units}
-use Rattle.nvme_model.specs.Owed.{numbered}
+use Rattle.nvme_model.specs.Owed.{numbered_units}
 use Rattle.nvme_model.specs.Tables.{first_row}
 use Rattle.nvme_model.specs.Tickets
 use Rattle.nvme_model.specs.Tickets.{posts_of}
@@ -16,7 +16,7 @@ use Rattle.nvme_model.specs.declared.operation.Found.{Found}
 use Rattle.nvme_model.specs.declared.operation.Op.{Op}
 use Rattle.nvme_model.specs.declared.refusal.Why.{Why}
 use Rattle.nvme_model.specs.declared.step.Step.{Step}
-use Rattle.ticket_laws.specs.declared.stage.Stage.{Stage}
+use Rattle.ticket_laws.specs.declared.stage.DutyStage.{DutyStage}
 
 -- what a ticket has to do: its completions in all, its operation, None where it has no unit, and its units
 pub record Duty : Type 0 where
@@ -42,7 +42,7 @@ own_open o its t = list_any (λ g. not (own_ended o its t g.unit g.range.blocks)
 
 -- all its units have ended
 abbrev pub own_all_ended : Duty → Past → ℕ → Bool
-own_all_ended d its t = list_all (λ u. own_ended d.op its t u.0 u.1.blocks) (numbered 0 d.units)
+own_all_ended d its t = list_all (λ u. own_ended d.op its t u.0 u.1.blocks) (numbered_units 0 d.units)
 
 -- it isn't in flight
 abbrev pub own_done : Duty → Past → ℕ → Bool
@@ -73,7 +73,7 @@ IsInPlace _ = Unit {0}
 -- ---- how far a ticket has come
 
 -- by its entries
-abbrev pub own_stage : Duty → ℕ → Past → Stage
+abbrev pub own_stage : Duty → ℕ → Past → DutyStage
 own_stage d t its =
     record {
       left = length d.units - length (granted its);
@@ -83,17 +83,17 @@ own_stage d t its =
     }
 
 -- before any of its steps
-abbrev pub first_stage : Duty → Stage
-first_stage d = record { left = length d.units; owing = d.statuses; is_open = false; differs = false }
+abbrev pub first_duty_stage : Duty → DutyStage
+first_duty_stage d = record { left = length d.units; owing = d.statuses; is_open = false; differs = false }
 
 -- after a Grant, after a Block that found this and ended the unit or not, and after a Post
-abbrev pub after_grant : Stage → Stage
+abbrev pub after_grant : DutyStage → DutyStage
 after_grant s = record s { left = s.left - 1; is_open = true }
 
 -- the stage after a Block that found this, and that ended its unit or not
-abbrev pub after_block : Stage → Found → Bool → Stage
+abbrev pub after_block : DutyStage → Found → Bool → DutyStage
 after_block s f ended = record s { is_open = not ended; differs = is_differs f || s.differs }
 
 -- the stage after a Post
-abbrev pub after_post : Stage → Stage
+abbrev pub after_post : DutyStage → DutyStage
 after_post s = record s { owing = s.owing - 1 }

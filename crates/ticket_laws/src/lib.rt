@@ -8,14 +8,15 @@ ghost use Rattle.std.specs.Prelude.{is_none, length, slice_get, true, ◌⊎◌,
 ghost use Rattle.nvme_model.specs.History.{Past};
 ghost use Rattle.nvme_model.specs.Tickets.{fetched_ticket, in_flight, ticket, tickets, posts_of};
 ghost use Rattle.nvme_model.specs.Queues.{waiting};
-ghost use Rattle.nvme_model.specs.Verdict.{taken};
+ghost use Rattle.nvme_model.specs.Verdict.{taken_entries};
 ghost use Rattle.nvme_model.specs.Operations.{op, units};
 ghost use Rattle.nvme_model.specs.Open.{blocks_of, differed, grants_of, granted, has_ended, unit_range};
 ghost use Rattle.nvme_model.specs.Owed.{all_ended, owed, read_data_by};
 ghost use Rattle.nvme_model.specs.Refusals.{next_unit, none_left, owes_nothing_yet, refusal};
 ghost use Rattle.nvme_model.specs.Legal.{IsLegal};
 ghost use Rattle.nvme_model.specs.Laws.{MarkedRight};
-ghost use Rattle.ticket_laws.specs.Standing.{bytes_read, flying, fresh, left, next_of, owed_by_standing};
+ghost use Rattle.ticket_laws.specs.Standing.{bytes_read, flying, fresh_standing, blocks_left, next_of};
+ghost use Rattle.ticket_laws.specs.Standing.{owed_by_standing};
 ghost use Rattle.ticket_laws.specs.Standing.{standing, still_owed};
 ghost use Rattle.nvme_model.specs.declared.config.ConfigNumbers.{ConfigNumbers};
 ghost use Rattle.nvme_model.specs.declared.operation.Op.{Op};
@@ -32,13 +33,13 @@ ghost use Rattle.ticket_laws.specs.Entries.{named_ticket, names_queue, of_ticket
 ghost use Rattle.ticket_laws.specs.Tasks.{Duty, IsInPlace, after_block, after_grant, after_post, duty_at};
 ghost use Rattle.ticket_laws.specs.Tasks.{own_all_ended, own_open, own_stage, task_fault};
 
-pub use stage::Stage;
+pub use stage::DutyStage;
 
 /// A step moves its own ticket and no other: a new ticket has begun nothing, a Grant opens one more unit, a Post posts
 /// one more completion.
 pub fn a_step_moves_its_own_ticket()
     ensures fetched { (c : ConfigNumbers) (past : Past) (f : FetchLine) → IsLegal c (Entry.Fetch f ∷ past) →
-        standing (Entry.Fetch f ∷ past) f.ticket ≡ fresh (fetched_ticket past f.queue f.verdict) }
+        standing (Entry.Fetch f ∷ past) f.ticket ≡ fresh_standing (fetched_ticket past f.queue f.verdict) }
     ensures beside_fetch { (c : ConfigNumbers) (past : Past) (f : FetchLine) (t : ℕ) →
         IsLegal c (Entry.Fetch f ∷ past) → t ≤ tickets past → standing (Entry.Fetch f ∷ past) t ≡ standing past t }
     ensures granted { (c : ConfigNumbers) (past : Past) (g : GrantLine) →
@@ -75,9 +76,9 @@ pub fn a_read_sees_each_unit_at_one_moment()
 /// The unit that a Grant opens is the first of what is left, and there is none where nothing is.
 pub fn the_next_unit_is_the_first_of_what_is_left()
     ensures next { (c : ConfigNumbers) (past : Past) (t : ℕ) → differed past t ≡ false →
-        next_unit c past t ≡ next_of c.atomic (op (ticket past t)) (left c (standing past t)) }
+        next_unit c past t ≡ next_of c.atomic (op (ticket past t)) (blocks_left c (standing past t)) }
     ensures none { (c : ConfigNumbers) (past : Past) (t : ℕ) →
-        none_left c past t ≡ is_none (next_of c.atomic (op (ticket past t)) (left c (standing past t))) }
+        none_left c past t ≡ is_none (next_of c.atomic (op (ticket past t)) (blocks_left c (standing past t))) }
 {}
 
 /// The entry of a step is of the ticket that the step names; where it names none it is of no ticket, or of one that has

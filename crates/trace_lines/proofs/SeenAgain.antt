@@ -5,7 +5,7 @@ use Rattle.std.specs.List.{slice_split, join_with_byte}
 use Rattle.std.proofs.Math.Dec.{eqb}
 use Rattle.hex.specs.Hex.{encode_upper, IsBytes}
 use Rattle.history.specs.declared.line_fault.LineFault.{LineFault}
-use Rattle.history.specs.Gives.{Gives}
+use Rattle.history.specs.Gives.{GivesRead}
 use Rattle.history.specs.Lines.{entry_in, entry_line, entry_words_in, reap_in}
 use Rattle.history.proofs.LinesAgain.{entry_again, number_16}
 use Rattle.line_text.specs.Digits.{bytes_in, fixed_in}
@@ -63,6 +63,6 @@ seen_again (Seen.Reaped r) is =
     ∙ reaped_back r is
 
 -- at the call
-pub seen_only : (line : List ℕ) (r : Result Seen LineFault) (s : Seen) → Gives r (seen_in line) → HasSeenLine s
-    → line ≡ seen_line s → Gives r (Some s)
-seen_only line r s h is same = subst (Gives r) (ap seen_in same ∙ seen_again s is) h
+pub seen_only : (line : List ℕ) (r : Result Seen LineFault) (s : Seen) → GivesRead r (seen_in line) → HasSeenLine s
+    → line ≡ seen_line s → GivesRead r (Some s)
+seen_only line r s h is same = subst (GivesRead r) (ap seen_in same ∙ seen_again s is) h

@@ -7,7 +7,7 @@ use Rattle.std.proofs.Math.Dec.{eqb}
 use Rattle.std.proofs.lemmas.List.Splits.{join_with_byte-slice_split}
 use Rattle.hex.specs.Hex.{encode_upper}
 use Rattle.history.specs.declared.line_fault.LineFault.{LineFault}
-use Rattle.history.specs.Gives.{Gives}
+use Rattle.history.specs.Gives.{GivesRead}
 use Rattle.history.specs.Lines.{entry_in}
 use Rattle.history.proofs.LinesRead.{entry_is}
 use Rattle.line_text.specs.Number.{number_in}
@@ -74,6 +74,7 @@ seen_is line s h = by (entry_in line) refl h
     by (Some (Entry.Reap p)) e h = other h
 
 -- at the call
-pub seen_found : (line : List ℕ) (r : Result Seen LineFault) → Gives r (seen_in line) → IfOk r (λ s. line ≡ seen_line s)
+pub seen_found : (line : List ℕ) (r : Result Seen LineFault) → GivesRead r (seen_in line)
+    → IfOk r (λ s. line ≡ seen_line s)
 seen_found line (Ok s) h = seen_is line s h
 seen_found line (Err f) h = tt

@@ -2,7 +2,7 @@
 
 ghost use Rattle.std.specs.Prelude.{◌≡◌, ◌==◌, Some, IfOk, map};
 ghost use Rattle.std.specs.List.{slice_split};
-ghost use Rattle.history.specs.Gives.{Gives};
+ghost use Rattle.history.specs.Gives.{GivesRead};
 ghost use Rattle.seen_trace.specs.declared.seen.Seen.{Seen};
 ghost use Rattle.trace_lines.specs.SeenLines.{HasSeenLine, reaped_in, seen_in, seen_line};
 
@@ -14,7 +14,7 @@ use std::alloc::Global;
 
 #[tactic(auto, unfolding(crate::specs::SeenLines::reaped_in))]
 fn reaped_of(alloc: Global, words: &[&[u8]]) -> Result<Seen, LineFault>
-    ensures { Gives result (reaped_in (map (λ w. w.now) words.now)) }
+    ensures { GivesRead result (reaped_in (map (λ w. w.now) words.now)) }
 {
     let [kind, queue, cqe, payload] = words else {
         return Err(LineFault::Malformed);
@@ -39,7 +39,7 @@ fn reaped_of(alloc: Global, words: &[&[u8]]) -> Result<Seen, LineFault>
 }
 
 fn read_reaped(alloc: Global, line: &[u8]) -> Result<Seen, LineFault>
-    ensures { Gives result (reaped_in (slice_split (λ b. b == 32) line.now)) }
+    ensures { GivesRead result (reaped_in (slice_split (λ b. b == 32) line.now)) }
 {
     let words = split_words(alloc, line, b' ')?;
     reaped_of(alloc, words.as_slice())
@@ -47,7 +47,7 @@ fn read_reaped(alloc: Global, line: &[u8]) -> Result<Seen, LineFault>
 
 #[tactic(auto, unfolding(crate::specs::SeenLines::seen_in))]
 fn read_seen(alloc: Global, line: &[u8]) -> Result<Seen, LineFault>
-    ensures { Gives result (seen_in line.now) }
+    ensures { GivesRead result (seen_in line.now) }
 {
     match parse_line(alloc, line) {
         Err(LineFault::NoMemory) => Err(LineFault::NoMemory),
@@ -66,13 +66,13 @@ fn read_seen(alloc: Global, line: &[u8]) -> Result<Seen, LineFault>
 ///
 /// `Malformed` for whatever isn't a line of a trace; `NoMemory` where a growth was refused.
 pub fn parse_seen(alloc: Global, line: &[u8]) -> Result<Seen, LineFault>
-    ensures value { Gives result (seen_in line.now) }
+    ensures value { GivesRead result (seen_in line.now) }
 
     // What is read has this line.
     ensures found { IfOk result (λ s. line.now ≡ seen_line s) }
 
     // What has this line is read, unless memory runs out: so nothing else is malformed.
-    ensures only { (s : Seen) → HasSeenLine s → line.now ≡ seen_line s → Gives result (Some s) }
+    ensures only { (s : Seen) → HasSeenLine s → line.now ≡ seen_line s → GivesRead result (Some s) }
 {
     read_seen(alloc, line)
 }

@@ -58,7 +58,7 @@ const FREED: &[u8] =
 #[test]
 fn a_write_in_the_area_is_no_swap(rt: HostRuntime) -> Result<(), Fail> {
     let alloc = rt.alloc();
-    assert_eq!(rt; said(alloc, &[WITHIN])?, Some(BrokenDiscipline::NoSwap));
+    assert_eq!(rt; said(alloc, &[WITHIN])?, Some(BrokenDiscipline::NoSwap(4)));
     assert_eq!(rt; said(alloc, &[BELOW, ABOVE])?, None);
     Ok(())
 }
@@ -70,9 +70,31 @@ fn a_name_is_claimed_once_and_released_by_who_believes(rt: HostRuntime) -> Resul
     let second = named(alloc, SECOND, b"")?;
     let release = named(alloc, RELEASE, FREED)?;
     assert_eq!(rt; said(alloc, &[&claim])?, None);
-    let twice = Some(BrokenDiscipline::ClaimedTwice);
+    let twice = Some(BrokenDiscipline::ClaimedTwice(3));
     assert_eq!(rt; said(alloc, &[&claim, &second])?, twice);
-    let unbelieved = Some(BrokenDiscipline::Unbelieved);
+    let unbelieved = Some(BrokenDiscipline::Unbelieved(3));
     assert_eq!(rt; said(alloc, &[&claim, &release])?, unbelieved);
+    Ok(())
+}
+
+// How a claim on submission queue 1 is served and reaped.
+const FETCHED: &[u8] = b"fetch 1 1 2 ok";
+
+const FIRST: &[u8] = b"post 1 00000000000000000200010007000100 -";
+
+const POSTED: &[u8] = b"post 1 00000000000000000200010008000100 -";
+
+const COMPARED: &[u8] = b"reap 1 00000000000000000200010007000100";
+
+const WON: &[u8] = b"reap 1 00000000000000000200010008000100";
+
+#[test]
+fn a_release_stands_on_the_queue_of_its_claim(rt: HostRuntime) -> Result<(), Fail> {
+    let alloc = rt.alloc();
+    let claim = named(alloc, CLAIM, b"")?;
+    let release = named(alloc, RELEASE, FREED)?;
+    let lines: [&[u8]; 7] = [&claim, FETCHED, FIRST, POSTED, COMPARED, WON, &release];
+    let other = Some(BrokenDiscipline::OtherQueue(3));
+    assert_eq!(rt; said(alloc, &lines)?, other);
     Ok(())
 }

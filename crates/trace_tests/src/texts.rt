@@ -5,7 +5,7 @@ use seen_trace::Seen;
 use std::alloc::Global;
 use std::test::Fail;
 use trace_lines::parse_seen;
-use witness_check::{Verdict, certify, judge};
+use witness_check::{TraceVerdict, certify, judge};
 
 /// The entries of these lines.
 pub(crate) fn entries_of(alloc: Global, lines: &[&[u8]]) -> Result<Vec<Entry>, Fail> {
@@ -49,7 +49,7 @@ pub(crate) fn verdict(
     config: &Config,
     history: &[&[u8]],
     trace: &[&[u8]],
-) -> Result<Verdict, Fail> {
+) -> Result<TraceVerdict, Fail> {
     let entries = entries_of(alloc, history)?;
     let trace = trace_of(alloc, trace)?;
     Ok(judge(alloc, config, &trace, &entries)?)

@@ -14,7 +14,7 @@ use Rattle.seen_trace.specs.Observed.{observed, shown, with_shown}
 use Rattle.seen_trace.specs.declared.seen.Seen.{Seen}
 use Rattle.witness_check.specs.Compared.{Compared, IsComparedTo, IsSeenTo, bad_after, next_after, unlike_after}
 use Rattle.witness_check.specs.Differing.{Differ}
-use Rattle.witness_check.specs.Followed.{Compares, Followed, Follows, Tells}
+use Rattle.witness_check.specs.Followed.{Compares, Followed, FollowsHistory, TellsEntry}
 use Rattle.witness_check.specs.declared.difference.Difference.{Difference}
 use Rattle.witness_check.specs.declared.witness.Told.{Told}
 use Rattle.witness_check.specs.declared.witness.Told.TheVariants.{Bad, Hidden, Same, Unlike}
@@ -98,7 +98,7 @@ no_place c past e =
 
 -- a place for each thing that is told of an entry behind a legal history
 bad_next : (c : ConfigNumbers) (past : Past) (e : Entry) (next : Option Seen) (told : Told) (count : ℕ)
-    → None ≡ first_bad_of c past → count ≡ length past + 1 → Tells c past e next told
+    → None ≡ first_bad_of c past → count ≡ length past + 1 → TellsEntry c past e next told
     → bad_after told count ≡ first_bad_of c (e ∷ past)
 bad_next c past e next told count none same said =
     by told said ∙ ap (λ o. earlier_or o (cond (may_follow c past e) None (Some (length past + 1)))) none
@@ -112,7 +112,7 @@ bad_next c past e next told count none same said =
     well : legal c (e ∷ past) ≡ true → None ≡ cond (may_follow c past e) None (Some (length past + 1))
     well h = sym (ap (λ b. cond b None (Some (length past + 1))) (follows true h))
 
-    by : (t : Told) → Tells c past e next t
+    by : (t : Told) → TellsEntry c past e next t
         → bad_after t count ≡ cond (may_follow c past e) None (Some (length past + 1))
     by Bad h = ap Some same ∙ sym (ap (λ b. cond b None (Some (length past + 1))) (follows false h))
     by Hidden h = well h.0
@@ -137,7 +137,7 @@ compared_on c trace past e x count more some h =
 
 -- what is told of an entry that is legal
 told_seen : (c : ConfigNumbers) (past : Past) (e : Entry) (next : Option Seen) (told : Told) (count : ℕ)
-    → bad_after told count ≡ None → Tells c past e next told → Compares (shown c past e) next told
+    → bad_after told count ≡ None → TellsEntry c past e next told → Compares (shown c past e) next told
 told_seen c past e next Bad count none h = absurd (let f : Some count ≡ None = none in cc)
 told_seen c past e next Hidden count none h = h.1
 told_seen c past e next Same count none h = h.1
@@ -146,7 +146,8 @@ told_seen c past e next (Unlike d) count none h = h.1
 pub compared_next : (c : ConfigNumbers) (trace : List Seen) (past : Past) (e : Entry) (x : Compared) (y : Followed)
     (told : Told) (count after : ℕ) → count ≡ x.count + 1 → after ≡ x.next + 1 → is_some x.bad ≡ false
     → IsComparedTo c trace past x
-    → (Follows c past x.followed → Tells c past e (slice_get trace (x.next - 1)) told × Follows c (e ∷ past) y)
+    → (FollowsHistory c past x.followed → TellsEntry c past e (slice_get trace (x.next - 1)) told
+    × FollowsHistory c (e ∷ past) y)
     → IsComparedTo c trace (e ∷ past) (record {
       followed = y;
       count = count;
@@ -167,7 +168,7 @@ compared_next c trace past e x y told count after more one none h take =
     }
 
 -- before any entry
-pub compared_none : (c : ConfigNumbers) (trace : List Seen) (x : Followed) → Follows c [] x
+pub compared_none : (c : ConfigNumbers) (trace : List Seen) (x : Followed) → FollowsHistory c [] x
     → IsComparedTo c trace [] (record { followed = x; count = 0; bad = None; next = 1; unlike = None })
 compared_none c trace x h =
     record {

@@ -16,8 +16,8 @@ use Rattle.seen_trace.specs.declared.seen.ReapedLine.{ReapedLine}
 use Rattle.seen_trace.specs.declared.seen.Seen.{Seen}
 use Rattle.witness_check.specs.Compared.{Compared, IsComparedTo, IsSeenTo, IsVerdict}
 use Rattle.witness_check.specs.Differing.{Differ, DifferFirst, PublishesDiffer, ReapsDiffer}
-use Rattle.witness_check.specs.declared.comparison.Verdict.{Verdict}
-use Rattle.witness_check.specs.declared.comparison.Verdict.TheVariants.{Bad, Explained, Unlike}
+use Rattle.witness_check.specs.declared.comparison.TraceVerdict.{TraceVerdict}
+use Rattle.witness_check.specs.declared.comparison.TraceVerdict.TheVariants.{Bad, Explained, Unlike}
 use Rattle.witness_check.specs.declared.difference.Difference.{Difference}
 use Rattle.witness_check.specs.declared.difference.Difference.TheVariants.{Batch, Completion, Data, HistoryEnds, Kind}
 use Rattle.witness_check.specs.declared.difference.Difference.TheVariants.{Queue, TraceEnds}
@@ -227,7 +227,7 @@ module _ (c : ConfigNumbers) (past : Past) (trace : List Seen) where
       let same : reverse (observed c past) ≡ trace = ap reverse h.1 ∙ reverse-reverse trace in
       alike (slice_get trace n) d (subst (λ ys. Differ (slice_get ys n) (slice_get trace n) d) same g.1)
 
-  pub one_verdict : (v w : Verdict) → IsVerdict c past trace v → IsVerdict c past trace w → v ≡ w
+  pub one_verdict : (v w : TraceVerdict) → IsVerdict c past trace v → IsVerdict c past trace w → v ≡ w
   one_verdict Explained Explained h g = refl
   one_verdict Explained (Bad k) h g = absurd (legal_or_bad k h.0 g)
   one_verdict Explained (Unlike k d) h g = absurd (alike_or_unlike g.1 d h g.3)
@@ -244,6 +244,6 @@ module _ (c : ConfigNumbers) (past : Past) (trace : List Seen) where
       (subst (λ n. Differ (slice_get (reverse (observed c past)) n) (slice_get trace n) d) same h.3.1) g.3.1 in
       ap (λ n. Unlike n d) place ∙ ap (Unlike j) what
 
-  pub not_explained : (v : Verdict) → IsVerdict c past trace v → (v ≡ Explained → ⊥)
+  pub not_explained : (v : TraceVerdict) → IsVerdict c past trace v → (v ≡ Explained → ⊥)
       → Explains c past (reverse trace) → ⊥
   not_explained v h other g = other (one_verdict v Explained h g)

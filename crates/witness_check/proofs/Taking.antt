@@ -14,11 +14,11 @@ use Rattle.nvme_model.specs.declared.entry.Entry.{Entry}
 use Rattle.nvme_model.specs.declared.entry.PostLine.{PostLine}
 use Rattle.nvme_model.specs.declared.entry.ReapLine.{ReapLine}
 use Rattle.nvme_model.proofs.Rules.{follows}
-use Rattle.history_check.specs.Kept.{Stands, State}
+use Rattle.history_check.specs.Kept.{Stands, CheckerRun}
 use Rattle.rings.specs.Tables.{IsTable}
 use Rattle.seen_trace.specs.Observed.{next_payload, shown}
 use Rattle.seen_trace.specs.declared.seen.Seen.{Seen}
-use Rattle.witness_check.specs.Followed.{Compares, Followed, Follows, Tells, is_inner}
+use Rattle.witness_check.specs.Followed.{Compares, Followed, FollowsHistory, TellsEntry, is_inner}
 use Rattle.witness_check.specs.Waiting.{data_or_none, waiting_payloads}
 use Rattle.witness_check.specs.declared.witness.Told.{Told}
 use Rattle.witness_check.specs.declared.witness.Told.TheVariants.{Bad, Hidden, Same, Unlike}
@@ -30,11 +30,11 @@ abbrev pub IsWaiting : ConfigNumbers → Past → List (List (List ℕ)) → Typ
 IsWaiting c past ws = IsTable (λ k. waiting_payloads c past (suc k)) c.cqs ws
 
 -- what a checker says of an entry that it takes
-abbrev pub Took : State → Entry → Bool → State → Type 0
+abbrev pub Took : CheckerRun → Entry → Bool → CheckerRun → Type 0
 Took old e b new = (past : Past) → Stands old.config past old
     → (b ≡ legal old.config (e ∷ past)) × Stands old.config (e ∷ past) new
 
-module _ (c : ConfigNumbers) (past : Past) (e : Entry) (old new : State) (b : Bool) (stands : Stands c past old)
+module _ (c : ConfigNumbers) (past : Past) (e : Entry) (old new : CheckerRun) (b : Bool) (stands : Stands c past old)
     (took : Took old e b new) where
   -- of the history that it stands for
   answered : (b ≡ legal c (e ∷ past)) × Stands c (e ∷ past) new
@@ -44,7 +44,7 @@ module _ (c : ConfigNumbers) (past : Past) (e : Entry) (old new : State) (b : Bo
 
   -- a bad one
   pub told_bad : (ws : List (List (List ℕ))) (next : Option Seen) → b ≡ false
-      → Tells c past e next Bad × Follows c (e ∷ past) (record { checker = new; waiting = ws })
+      → TellsEntry c past e next Bad × FollowsHistory c (e ∷ past) (record { checker = new; waiting = ws })
   told_bad ws next bad = (
     sym answered.0 ∙ bad,
     record { stands = answered.1; waits = λ l. absurd (let f : false ≡ true = sym bad ∙ answered.0 ∙ l in cc) },
@@ -53,7 +53,7 @@ module _ (c : ConfigNumbers) (past : Past) (e : Entry) (old new : State) (b : Bo
   -- a legal one, where the data that waits goes on
   pub goes_on : (ws us : List (List (List ℕ))) → b ≡ true → (legal c past ≡ true → IsWaiting c past ws)
       → (config_fault c ≡ None → IsLegal c (e ∷ past) → IsWaiting c past ws → IsWaiting c (e ∷ past) us)
-      → IsLegal c (e ∷ past) × Follows c (e ∷ past) (record { checker = new; waiting = us })
+      → IsLegal c (e ∷ past) × FollowsHistory c (e ∷ past) (record { checker = new; waiting = us })
   goes_on ws us good waits more =
       let l : legal c (e ∷ past) ≡ true = sym answered.0 ∙ good in
       let keeps = answered.1.keeps (answered.1.answer ∙ l) in (
@@ -63,7 +63,7 @@ module _ (c : ConfigNumbers) (past : Past) (e : Entry) (old new : State) (b : Bo
 
 -- what is said of a legal entry goes by what is seen of it
 pub tells_by : (c : ConfigNumbers) (past : Past) (e : Entry) (next : Option Seen) (t : Told) → IsLegal c (e ∷ past)
-    → Compares (shown c past e) next t → Tells c past e next t
+    → Compares (shown c past e) next t → TellsEntry c past e next t
 tells_by c past e next Bad l h = absurd h
 tells_by c past e next Hidden l h = (l, h)
 tells_by c past e next Same l h = (l, h)
@@ -72,10 +72,10 @@ tells_by c past e next (Unlike d) l h = (l, h)
 -- ---- an entry of a ticket alone
 
 -- what waits stays
-pub told_hidden : (c : ConfigNumbers) (past : Past) (e : Entry) (old : Followed) (new : State) (next : Option Seen)
-    (b : Bool) → is_inner e ≡ true → Follows c past old
+pub told_hidden : (c : ConfigNumbers) (past : Past) (e : Entry) (old : Followed) (new : CheckerRun) (next : Option Seen)
+    (b : Bool) → is_inner e ≡ true → FollowsHistory c past old
     → b ≡ true → Took old.checker e b new
-    → Tells c past e next Hidden × Follows c (e ∷ past) (record { checker = new; waiting = old.waiting })
+    → TellsEntry c past e next Hidden × FollowsHistory c (e ∷ past) (record { checker = new; waiting = old.waiting })
 told_hidden c past (Entry.Fetch p) old new next b inner f good took =
     let r = goes_on c past (Entry.Fetch p) old.checker new b f.stands took old.waiting old.waiting good f.waits
     (λ _ _ w. w) in
@@ -95,7 +95,7 @@ told_hidden c past (Entry.Reap p) old new next b inner f good took = absurd (let
 -- ---- a Post
 
 -- its data waits behind the others of its queue
-more_waits : (c : ConfigNumbers) (past : Past) (p : PostLine) (i : ℕ) (ws us : List (List (List ℕ)))
+pub more_waits : (c : ConfigNumbers) (past : Past) (p : PostLine) (i : ℕ) (ws us : List (List (List ℕ)))
     → (0 < length ws → i ≡ ((cqe_fields p.cqe).sqid - 1) % length ws)
     → us ≡ set ws i (get_or ws i [] ++ p.payload ∷ []) → config_fault c ≡ None → IsLegal c (Entry.Post p ∷ past)
     → IsWaiting c past ws → IsWaiting c (Entry.Post p ∷ past) us
@@ -137,20 +137,22 @@ more_waits c past p i ws us place is accepted l t =
           ∙ append-nil (waiting_payloads c past (suc k)))
     ]
 
-pub told_posted : (c : ConfigNumbers) (past : Past) (p : PostLine) (e : Entry) (old : Followed) (new : State) (i : ℕ)
-    (us : List (List (List ℕ))) (next : Option Seen) (b : Bool) → e ≡ Entry.Post p → Follows c past old
+pub told_posted : (c : ConfigNumbers) (past : Past) (p : PostLine) (e : Entry) (old : Followed) (new : CheckerRun)
+    (i : ℕ)
+    (us : List (List (List ℕ))) (next : Option Seen) (b : Bool) → e ≡ Entry.Post p → FollowsHistory c past old
     → b ≡ true → Took old.checker e b new
     → (0 < length old.waiting → i ≡ ((cqe_fields p.cqe).sqid - 1) % length old.waiting)
     → us ≡ set old.waiting i (get_or old.waiting i [] ++ p.payload ∷ [])
-    → Tells c past e next Hidden × Follows c (e ∷ past) (record { checker = new; waiting = us })
+    → TellsEntry c past e next Hidden × FollowsHistory c (e ∷ past) (record { checker = new; waiting = us })
 told_posted c past p e old new i us next b kind f good took place is =
     subst (λ (x : Entry). Took old.checker x b new
-    → Tells c past x next Hidden × Follows c (x ∷ past) (record { checker = new; waiting = us })) (sym kind) there
+    → TellsEntry c past x next Hidden
+    × FollowsHistory c (x ∷ past) (record { checker = new; waiting = us })) (sym kind) there
     took
   where
     there : Took old.checker (Entry.Post p) b new
-        → Tells c past (Entry.Post p) next Hidden
-        × Follows c (Entry.Post p ∷ past) (record { checker = new; waiting = us })
+        → TellsEntry c past (Entry.Post p) next Hidden
+        × FollowsHistory c (Entry.Post p ∷ past) (record { checker = new; waiting = us })
     there t =
         let r = goes_on c past (Entry.Post p) old.checker new b f.stands t old.waiting us good f.waits
         (more_waits c past p i old.waiting us place is) in
@@ -159,8 +161,8 @@ told_posted c past p e old new i us next b kind f good took place is =
 -- ---- a Reap
 
 -- its data is gone
-fewer_wait : (c : ConfigNumbers) (past : Past) (r : ReapLine) (i : ℕ) (ws us : List (List (List ℕ))) → i + 1 ≡ r.queue
-    → i < c.cqs
+pub fewer_wait : (c : ConfigNumbers) (past : Past) (r : ReapLine) (i : ℕ) (ws us : List (List (List ℕ)))
+    → i + 1 ≡ r.queue → i < c.cqs
     → us ≡ set ws i (drop 1 (get_or ws i [])) → IsWaiting c past ws → IsWaiting c (Entry.Reap r ∷ past) us
 fewer_wait c past r i ws us next within is t =
     record {
@@ -189,18 +191,21 @@ fewer_wait c past r i ws us next within is t =
 abbrev pub reap_with : ReapLine → List ℕ → Seen
 reap_with r xs = Seen.Reaped (record { queue = r.queue; cqe = r.cqe; payload = xs })
 
-pub told_reaped : (c : ConfigNumbers) (past : Past) (r : ReapLine) (e : Entry) (old : Followed) (new : State) (i : ℕ)
+pub told_reaped : (c : ConfigNumbers) (past : Past) (r : ReapLine) (e : Entry) (old : Followed) (new : CheckerRun)
+    (i : ℕ)
     (us : List (List (List ℕ))) (d : Option (List ℕ)) (next : Option Seen) (t : Told) (b : Bool)
-    → e ≡ Entry.Reap r → Follows c past old → b ≡ true → Took old.checker e b new → i ≡ r.queue - 1
+    → e ≡ Entry.Reap r → FollowsHistory c past old → b ≡ true → Took old.checker e b new → i ≡ r.queue - 1
     → d ≡ slice_get (get_or old.waiting i []) 0 → us ≡ set old.waiting i (drop 1 (get_or old.waiting i []))
     → Compares (Some (reap_with r (data_or_none d))) next t
-    → Tells c past e next t × Follows c (e ∷ past) (record { checker = new; waiting = us })
+    → TellsEntry c past e next t × FollowsHistory c (e ∷ past) (record { checker = new; waiting = us })
 told_reaped c past r e old new i us d next t b kind f good took place first is said =
     subst (λ (x : Entry). Took old.checker x b new
-    → Tells c past x next t × Follows c (x ∷ past) (record { checker = new; waiting = us })) (sym kind) there took
+    → TellsEntry c past x next t
+    × FollowsHistory c (x ∷ past) (record { checker = new; waiting = us })) (sym kind) there took
   where
     there : Took old.checker (Entry.Reap r) b new
-        → Tells c past (Entry.Reap r) next t × Follows c (Entry.Reap r ∷ past) (record { checker = new; waiting = us })
+        → TellsEntry c past (Entry.Reap r) next t
+        × FollowsHistory c (Entry.Reap r ∷ past) (record { checker = new; waiting = us })
     there took =
         let a = answered c past (Entry.Reap r) old.checker new b f.stands took in
         let l : legal c (Entry.Reap r ∷ past) ≡ true = sym a.0 ∙ good in
@@ -218,3 +223,26 @@ told_reaped c past r e old new i us d next t b kind f good took place first is s
               (subst (λ (xs : List ℕ). Compares (Some (reap_with r xs)) next t) found said),
           rest.1,
         )
+
+-- ---- of a history that is known to be legal
+
+-- what a Reap shows is what waits first
+pub reaped_data : (c : ConfigNumbers) (past : Past) (r : ReapLine) (i : ℕ) (ws : List (List (List ℕ)))
+    (d : Option (List ℕ)) → IsLegal c (Entry.Reap r ∷ past) → i ≡ r.queue - 1 → d ≡ slice_get (get_or ws i []) 0
+    → IsWaiting c past ws → data_or_none d ≡ next_payload c past r.queue
+reaped_data c past r i ws d l place first table =
+    let h = reap_has_queue c past r l in
+    let at : i + 1 ≡ r.queue = omega (arith, place, h.low) in
+    let within : i < c.cqs = omega (arith, at, h.high) in
+    ap data_or_none first ∙ ap (λ (xs : List (List ℕ)). data_or_none (slice_get xs 0))
+    (table.at i [] within ∙ ap (waiting_payloads c past) (omega (arith, at)))
+    ∙ sym (reaped_is_first c past r.queue)
+
+-- and then it waits no more
+pub reaped_waits : (c : ConfigNumbers) (past : Past) (r : ReapLine) (i : ℕ) (ws us : List (List (List ℕ)))
+    → IsLegal c (Entry.Reap r ∷ past) → i ≡ r.queue - 1 → us ≡ set ws i (drop 1 (get_or ws i []))
+    → IsWaiting c past ws → IsWaiting c (Entry.Reap r ∷ past) us
+reaped_waits c past r i ws us l place is table =
+    let h = reap_has_queue c past r l in
+    let at : i + 1 ≡ r.queue = omega (arith, place, h.low) in
+    fewer_wait c past r i ws us at (omega (arith, at, h.high)) is table

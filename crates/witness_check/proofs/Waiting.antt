@@ -13,7 +13,7 @@ use Rattle.nvme_model.specs.declared.entry.PostLine.{PostLine}
 use Rattle.nvme_model.specs.declared.entry.ReapLine.{ReapLine}
 use Rattle.nvme_model.proofs.Runs.{reaped_posted}
 use Rattle.seen_trace.specs.Observed.{next_payload, payload_by}
-use Rattle.witness_check.specs.Waiting.{data_or_none, payloads_of, waiting_payloads}
+use Rattle.witness_check.specs.Waiting.{data_or_none, posted_payloads, waiting_payloads}
 
 -- ---- a Post
 
@@ -22,14 +22,14 @@ pub waits_posted : (c : ConfigNumbers) (past : Past) (p : PostLine) (q : ℕ) �
     → waiting_payloads c (Entry.Post p ∷ past) q ≡ waiting_payloads c past q
     ++ cond (completion_queue c (Tickets.ticket past p.ticket).queue == q) (p.payload ∷ []) []
 waits_posted c past p q h =
-    ap payloads_of (drop-append-le (reaped_count past q) (posted_completions c past q)
+    ap posted_payloads (drop-append-le (reaped_count past q) (posted_completions c past q)
     (cond (completion_queue c (Tickets.ticket past p.ticket).queue == q) (p ∷ []) []) (reaped_posted c past q h))
     ∙ map-append (λ (x : PostLine). x.payload) (drop (reaped_count past q) (posted_completions c past q))
     (cond (completion_queue c (Tickets.ticket past p.ticket).queue == q) (p ∷ []) [])
     ∙ ap (λ (xs : List (List ℕ)). waiting_payloads c past q ++ xs)
     (one (completion_queue c (Tickets.ticket past p.ticket).queue == q))
   where
-    one : (b : Bool) → payloads_of (cond b (p ∷ []) []) ≡ cond b (p.payload ∷ []) []
+    one : (b : Bool) → posted_payloads (cond b (p ∷ []) []) ≡ cond b (p.payload ∷ []) []
     one true = refl
     one false = refl
 
@@ -39,12 +39,12 @@ waits_posted c past p q h =
 pub waits_reaped : (c : ConfigNumbers) (past : Past) (r : ReapLine) (q : ℕ)
     → waiting_payloads c (Entry.Reap r ∷ past) q ≡ drop (cond (r.queue == q) 1 0) (waiting_payloads c past q)
 waits_reaped c past r q =
-    ap payloads_of (sym (drop-drop (cond (r.queue == q) 1 0) (reaped_count past q) (posted_completions c past q)))
+    ap posted_payloads (sym (drop-drop (cond (r.queue == q) 1 0) (reaped_count past q) (posted_completions c past q)))
     ∙ sym (drop-map (λ (x : PostLine). x.payload) (cond (r.queue == q) 1 0)
     (drop (reaped_count past q) (posted_completions c past q)))
 
 first_of : (n : ℕ) (xs : List PostLine)
-    → payload_by (slice_get xs n) ≡ data_or_none (slice_get (payloads_of (drop n xs)) 0)
+    → payload_by (slice_get xs n) ≡ data_or_none (slice_get (posted_payloads (drop n xs)) 0)
 first_of zero [] = refl
 first_of zero (x ∷ xs) = refl
 first_of (suc n) [] = refl

@@ -7,9 +7,9 @@ use Rattle.nvme_model.specs.declared.config.ConfigNumbers.{ConfigNumbers}
 use Rattle.seen_trace.specs.Observed.{Explains, observed}
 use Rattle.seen_trace.specs.declared.seen.Seen.{Seen}
 use Rattle.witness_check.specs.Differing.{Differ, DifferFirst}
-use Rattle.witness_check.specs.Followed.{Followed, Follows}
-use Rattle.witness_check.specs.declared.comparison.Verdict.{Verdict}
-use Rattle.witness_check.specs.declared.comparison.Verdict.TheVariants.{Bad, Explained, Unlike}
+use Rattle.witness_check.specs.Followed.{Followed, FollowsHistory}
+use Rattle.witness_check.specs.declared.comparison.TraceVerdict.{TraceVerdict}
+use Rattle.witness_check.specs.declared.comparison.TraceVerdict.TheVariants.{Bad, Explained, Unlike}
 use Rattle.witness_check.specs.declared.difference.Difference.{Difference}
 use Rattle.witness_check.specs.declared.witness.Told.{Told}
 
@@ -17,7 +17,7 @@ use Rattle.witness_check.specs.declared.witness.Told.{Told}
 
 -- Of a history, the newest first, and a trace, the oldest first: it explains the trace; or its first so many entries
 -- are the fewest that aren't legal; or it is legal, and this is the number, from 1, of the first thing that differs.
-abbrev pub IsVerdict : ConfigNumbers → Past → List Seen → Verdict → Type 0
+abbrev pub IsVerdict : ConfigNumbers → Past → List Seen → TraceVerdict → Type 0
 IsVerdict c past trace Explained = Explains c past (reverse trace)
 IsVerdict c past trace (Bad k) = IsFirstBad c (reverse past) k
 IsVerdict c past trace (Unlike k d) =
@@ -45,7 +45,7 @@ IsSeenTo trace seen next (Some d) =
 pub record IsComparedTo (c : ConfigNumbers) (trace : List Seen) (past : Past) (x : Compared) : Type 0 where
   pub counted : x.count ≡ length past
   pub first : x.bad ≡ first_bad_of c past
-  pub follows : x.bad ≡ None → Follows c past x.followed
+  pub follows : x.bad ≡ None → FollowsHistory c past x.followed
   pub seen : x.bad ≡ None → IsSeenTo trace (observed c past) x.next x.unlike
 
 -- ---- one more entry, by what is told of it

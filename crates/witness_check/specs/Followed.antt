@@ -16,11 +16,11 @@ use Rattle.witness_check.specs.declared.witness.Told.TheVariants.{Bad, Hidden, S
 
 -- a checker, and by completion queue the data of the completions that wait
 pub record Followed : Type 0 where
-  pub checker : kept.State
+  pub checker : kept.CheckerRun
   pub waiting : List (List (List ℕ))
 
 -- it is what is kept of this history
-pub record Follows (c : ConfigNumbers) (past : Past) (x : Followed) : Type 0 where
+pub record FollowsHistory (c : ConfigNumbers) (past : Past) (x : Followed) : Type 0 where
   pub stands : Stands c past x.checker
   pub waits : legal c past ≡ true → IsTable (λ k. waiting_payloads c past (suc k)) c.cqs x.waiting
 
@@ -39,8 +39,8 @@ Compares seen next Same = (s : Seen) × (seen ≡ Some s) × (next ≡ Some s)
 Compares seen next (Unlike d) = (s : Seen) × (seen ≡ Some s) × Differ (Some s) next d
 
 -- what is said of one more entry behind this history, where the trace says this next
-abbrev pub Tells : ConfigNumbers → Past → Entry → Option Seen → Told → Type 0
-Tells c past e next Bad = legal c (e ∷ past) ≡ false
-Tells c past e next Hidden = IsLegal c (e ∷ past) × Compares (shown c past e) next Hidden
-Tells c past e next Same = IsLegal c (e ∷ past) × Compares (shown c past e) next Same
-Tells c past e next (Unlike d) = IsLegal c (e ∷ past) × Compares (shown c past e) next (Unlike d)
+abbrev pub TellsEntry : ConfigNumbers → Past → Entry → Option Seen → Told → Type 0
+TellsEntry c past e next Bad = legal c (e ∷ past) ≡ false
+TellsEntry c past e next Hidden = IsLegal c (e ∷ past) × Compares (shown c past e) next Hidden
+TellsEntry c past e next Same = IsLegal c (e ∷ past) × Compares (shown c past e) next Same
+TellsEntry c past e next (Unlike d) = IsLegal c (e ∷ past) × Compares (shown c past e) next (Unlike d)

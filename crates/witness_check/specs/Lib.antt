@@ -2,3 +2,4 @@ pub mod Waiting
 pub mod Differing
 pub mod Followed
 pub mod Compared
+pub mod Seeing

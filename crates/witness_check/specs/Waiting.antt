@@ -6,12 +6,12 @@ use Rattle.nvme_model.specs.declared.config.ConfigNumbers.{ConfigNumbers}
 use Rattle.nvme_model.specs.declared.entry.PostLine.{PostLine}
 
 -- the data of each of these completions
-abbrev pub payloads_of : List PostLine → List (List ℕ)
-payloads_of posts = map (λ (p : PostLine). p.payload) posts
+abbrev pub posted_payloads : List PostLine → List (List ℕ)
+posted_payloads posts = map (λ (p : PostLine). p.payload) posts
 
 -- the data of what was posted to completion queue q and not reaped, that of the next one first
 abbrev pub waiting_payloads : ConfigNumbers → Past → ℕ → List (List ℕ)
-waiting_payloads c past q = payloads_of (drop (reaped_count past q) (posted_completions c past q))
+waiting_payloads c past q = posted_payloads (drop (reaped_count past q) (posted_completions c past q))
 
 -- the data of a completion, or none
 abbrev pub data_or_none : Option (List ℕ) → List ℕ

@@ -4,7 +4,7 @@ ghost use Rattle.std.specs.Prelude.{◌≡◌, ◌↔◌, IfOk, reverse, true};
 ghost use Rattle.seen_trace.specs.Observed.{Explains};
 ghost use Rattle.witness_check.specs.Compared.{IsVerdict};
 
-use crate::comparison::{Comparison, Verdict};
+use crate::comparison::{Comparison, TraceVerdict};
 use history::{Config, Entry};
 use seen_trace::Seen;
 use std::alloc::{AllocError as NoMemory, Global};
@@ -21,7 +21,7 @@ pub fn judge(
     config: &Config,
     trace: &[Seen],
     entries: &[Entry],
-) -> Result<Verdict, NoMemory>
+) -> Result<TraceVerdict, NoMemory>
     ensures value { IfOk result (IsVerdict config.now (reverse entries.now) trace.now) }
 {
     let mut comparison = Comparison::new(alloc, config)?;
@@ -47,8 +47,8 @@ pub fn certify(
         (λ b. (b ≡ true) ↔ Explains config.now (reverse entries.now) (reverse trace.now)) }
 {
     match judge(alloc, config, trace, entries)? {
-        Verdict::Explained => Ok(true),
-        Verdict::Bad(_) => Ok(false),
-        Verdict::Unlike(_, _) => Ok(false),
+        TraceVerdict::Explained => Ok(true),
+        TraceVerdict::Bad(_) => Ok(false),
+        TraceVerdict::Unlike(_, _) => Ok(false),
     }
 }

@@ -18,7 +18,7 @@ use std::marker::Model;
 
 /// What is said of a history and a trace.
 #[derive(Clone, Copy, Debug, PartialEq, Eq)]
-pub enum Verdict {
+pub enum TraceVerdict {
     /// The history explains the trace.
     Explained,
     /// The history isn't legal: the place of its first bad entry, from 1.
@@ -142,19 +142,19 @@ impl Comparison {
     }
 
     /// What is said of the entries that were taken.
-    pub fn verdict(&self, trace: &[Seen]) -> Verdict
+    pub fn verdict(&self, trace: &[Seen]) -> TraceVerdict
         ensures value { (c : ConfigNumbers) (past : Past) → IsComparedTo c trace.now past self.now →
             IsVerdict c past trace.now result }
     {
         if let Some(place) = self.bad {
-            return Verdict::Bad(place);
+            return TraceVerdict::Bad(place);
         }
         if let Some(difference) = self.unlike {
-            return Verdict::Unlike(self.next as u64, difference);
+            return TraceVerdict::Unlike(self.next as u64, difference);
         }
         if self.next <= trace.len() {
-            return Verdict::Unlike(self.next as u64, Difference::HistoryEnds);
+            return TraceVerdict::Unlike(self.next as u64, Difference::HistoryEnds);
         }
-        Verdict::Explained
+        TraceVerdict::Explained
     }
 }

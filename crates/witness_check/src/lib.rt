@@ -5,12 +5,16 @@ mod certifying;
 mod comparison;
 mod difference;
 mod laws;
+mod observer;
 mod payloads;
 mod same;
+mod sight;
 mod witness;
 
 pub use crate::certifying::{certify, judge};
-pub use crate::comparison::{Comparison, Verdict};
+pub use crate::comparison::{Comparison, TraceVerdict};
 pub use crate::difference::Difference;
 pub use crate::laws::a_history_has_one_verdict;
+pub use crate::observer::Observer;
+pub use crate::sight::Sight;
 pub use crate::witness::{Told, Witness};

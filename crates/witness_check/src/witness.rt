@@ -8,7 +8,7 @@ ghost use Rattle.nvme_model.specs.declared.config.ConfigNumbers.{ConfigNumbers};
 ghost use Rattle.nvme_model.specs.declared.entry.Entry.{Entry};
 ghost use Rattle.seen_trace.specs.declared.seen.Seen.{Seen};
 ghost use Rattle.witness_check.specs.Differing.{Distinguishes};
-ghost use Rattle.witness_check.specs.Followed.{Compares, Follows, Tells, is_inner};
+ghost use Rattle.witness_check.specs.Followed.{Compares, FollowsHistory, TellsEntry, is_inner};
 ghost use Rattle.witness_check.specs.Waiting.{data_or_none};
 
 use crate::difference::Difference;
@@ -62,7 +62,7 @@ fn sqid_of(cqe: &[u8; 16]) -> u16
 }
 
 // The place of the completion queue of a completion, of so many.
-fn place_of(cqe: &[u8; 16], count: usize) -> usize
+pub(crate) fn place_of(cqe: &[u8; 16], count: usize) -> usize
     ensures value { 0 < count → result ≡ ((cqe_fields cqe.now).sqid - 1) % count }
 {
     if count == 0 {
@@ -115,7 +115,7 @@ impl Witness {
     ///
     /// `NoMemory` where a growth is refused.
     pub fn new(alloc: Global, config: &Config) -> Result<Witness, NoMemory>
-        ensures ok { IfOk result (λ witness. Follows config.now [] witness) }
+        ensures ok { IfOk result (λ witness. FollowsHistory config.now [] witness) }
     {
         Ok(Witness {
             alloc,
@@ -127,8 +127,9 @@ impl Witness {
     // Takes an entry that neither hosts see nor a completion queue.
     fn take_hidden(&mut self, entry: &Entry) -> Result<Told, NoMemory>
         requires inner { is_inner entry.now ≡ true }
-        ensures ok { (c : ConfigNumbers) (past : Past) (next : Option Seen) → Follows c past self.old → IfOk result
-            (λ told. Tells c past entry.now next told × Follows c (entry.now ∷ past) self.new) }
+        ensures ok { (c : ConfigNumbers) (past : Past) (next : Option Seen) → FollowsHistory c past self.old
+            → IfOk result
+            (λ told. TellsEntry c past entry.now next told × FollowsHistory c (entry.now ∷ past) self.new) }
         ensures err { OnErr result (self.new ≡ self.old) }
     {
         if !self.checker.take(entry)? {
@@ -140,8 +141,9 @@ impl Witness {
     // Takes a Post. Its data waits from here on.
     fn take_post(&mut self, entry: &Entry, line: &PostLine) -> Result<Told, NoMemory>
         requires same { entry.now ≡ Entry.Post line.now }
-        ensures ok { (c : ConfigNumbers) (past : Past) (next : Option Seen) → Follows c past self.old → IfOk result
-            (λ told. Tells c past entry.now next told × Follows c (entry.now ∷ past) self.new) }
+        ensures ok { (c : ConfigNumbers) (past : Past) (next : Option Seen) → FollowsHistory c past self.old
+            → IfOk result
+            (λ told. TellsEntry c past entry.now next told × FollowsHistory c (entry.now ∷ past) self.new) }
         ensures err { OnErr result (self.new ≡ self.old) }
     {
         let place = place_of(&line.cqe, self.waiting.as_slice().len());
@@ -165,9 +167,9 @@ impl Witness {
         next: Option<&Seen>,
     ) -> Result<Told, NoMemory>
         requires same { entry.now ≡ Entry.Reap line.now }
-        ensures ok { (c : ConfigNumbers) (past : Past) → Follows c past self.old → IfOk result
-            (λ told. Tells c past entry.now (option_copied next.entry) told
-            × Follows c (entry.now ∷ past) self.new) }
+        ensures ok { (c : ConfigNumbers) (past : Past) → FollowsHistory c past self.old → IfOk result
+            (λ told. TellsEntry c past entry.now (option_copied next.entry) told
+            × FollowsHistory c (entry.now ∷ past) self.new) }
         ensures err { OnErr result (self.new ≡ self.old) }
     {
         if !self.checker.take(entry)? {
@@ -185,9 +187,9 @@ impl Witness {
     ///
     /// `NoMemory` where a growth is refused; the entry isn't taken, and nothing has changed.
     pub fn take(&mut self, entry: &Entry, next: Option<&Seen>) -> Result<Told, NoMemory>
-        ensures ok { (c : ConfigNumbers) (past : Past) → Follows c past self.old → IfOk result
-            (λ told. Tells c past entry.now (option_copied next.entry) told
-            × Follows c (entry.now ∷ past) self.new) }
+        ensures ok { (c : ConfigNumbers) (past : Past) → FollowsHistory c past self.old → IfOk result
+            (λ told. TellsEntry c past entry.now (option_copied next.entry) told
+            × FollowsHistory c (entry.now ∷ past) self.new) }
         ensures err { OnErr result (self.new ≡ self.old) }
     {
         match entry {

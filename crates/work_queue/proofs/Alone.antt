@@ -4,9 +4,9 @@ use Rattle.std.proofs.Common.{length, length-append, ◌++◌, ◌<◌, ◌∙�
 use Rattle.std.proofs.lemmas.List.{append-nil, length-map}
 use Rattle.atomic_table.specs.Seated.{TableId}
 use Rattle.crossbeam_queue.specs.Fifo.{Held}
-use Rattle.work_queue.specs.QueuePasses.{PushesAlone, capacity_of, known, passes_of}
+use Rattle.work_queue.specs.QueuePasses.{PushesAlone, capacity_of, known, queue_passes}
 use Rattle.work_queue.specs.QueueSteps.{Pops, PopsOwn}
-use Rattle.work_queue.specs.Queues.{IsMoment, after_push, entry, messages}
+use Rattle.work_queue.specs.Queues.{IsMoment, after_push, popped_entry, messages}
 use Rattle.work_queue.specs.declared.message.Popped.{Popped}
 use Rattle.work_queue.specs.declared.message.QueueView.{QueueView}
 use Rattle.work_queue.specs.declared.queue.MessageQueue.{MessageQueue}
@@ -26,10 +26,10 @@ module _ {T : Type 0} (lock : T → TableId) (ready : T → Type 0) where
       let by = told.alone one in (
         told.front.0,
         one_moment lock ready (x ∷ told.front.0) v named one told.front.1,
-        ap (λ (u : QueueView T). u.got) told.after ∙ (λ i. v.got ++ entry (by.0 i) (by.1 i) x ∷ []),
+        ap (λ (u : QueueView T). u.got) told.after ∙ (λ i. v.got ++ popped_entry (by.0 i) (by.1 i) x ∷ []),
       )
 
-  pub pushes_alone : (s : MessageQueue T) (p : QueuePass T) (w : QueueView T) (m : T) → passes_of p ≡ 1
+  pub pushes_alone : (s : MessageQueue T) (p : QueuePass T) (w : QueueView T) (m : T) → queue_passes p ≡ 1
       → (r : Result Unit T) → MatchResult r (λ _. w ≡ after_push (known p) m)
       (λ x. (x ≡ m) × (w ≡ known p) × Held (capacity_of s) (IsMoment lock ready (known p))) → PushesAlone s p r
   pushes_alone s p w m one (Ok u) told = tt

@@ -10,16 +10,16 @@ use Rattle.atomic_table.proofs.Lists.{at_longer, set_again, set_else}
 use Rattle.crossbeam_queue.specs.Fifo.{Forks, Learns, Merges}
 use Rattle.meet_lock.proofs.Views.{only_view, views_come, views_stay}
 use Rattle.work_queue.specs.Nowhere.{nowhere}
-use Rattle.work_queue.specs.QueueSteps.{HasOwn, Hears, IsNth}
+use Rattle.work_queue.specs.QueueSteps.{HasOwn, HearsPopped, IsNth}
 use Rattle.work_queue.specs.Queues.{Balanced, IsSeat, bound, by_popper, gives_left, gives_right, hearing, lock_of}
-use Rattle.work_queue.specs.Queues.{numbered, of_pusher, spent, telling, unbound}
+use Rattle.work_queue.specs.Queues.{numbered_messages, of_pusher, spent, telling, unbound}
 use Rattle.work_queue.specs.declared.message.Popped.{Popped}
 use Rattle.work_queue.specs.declared.message.QueueView.{QueueView}
 use Rattle.work_queue.proofs.Balancing.{bound_too, unlike}
 use Rattle.work_queue.proofs.Pushes.{at_slice, is_nth, popped_among, pushed_among, unpushed, untaken, within}
 
 -- what a pass heard is what the other popped
-pub agrees : {T : Type 0} (v p u w : QueueView T) → u ≡ hearing p (telling v) → Hears u → w ≡ v → HasOwn v
+pub agrees : {T : Type 0} (v p u w : QueueView T) → u ≡ hearing p (telling v) → HearsPopped u → w ≡ v → HasOwn v
     → (k : ℕ) (e : Popped T) → slice_get w.got k ≡ Some e
     → ((0 < e.pusher) × (e.pusher ≤ u.passes)) × (e.pusher ≡ u.number → IsNth u.put e.number e.item)
     × (e.pusher ≡ w.number → IsNth w.put e.number e.item)
@@ -187,10 +187,11 @@ module _ {T : Type 0} (lock : T → TableId) (ready : T → Type 0) where
             (λ not. let clash : true ≡ false = not in cc);
       }
     where
-      nothing : (n : ℕ) (es : List (Popped T)) (ts : List T) → of_pusher n es ≡ numbered 1 ts
+      nothing : (n : ℕ) (es : List (Popped T)) (ts : List T) → of_pusher n es ≡ numbered_messages 1 ts
           → ((k : ℕ) (e : Popped T) → get_elem? es k ≡ some e → e.pusher ≢ n) → ts ≡ []
       nothing n es [] is none = refl
-      nothing n es (t ∷ ts) is none = let clash : (1, t) ∷ numbered 2 ts ≡ [] = sym is ∙ unpushed n es none in cc
+      nothing n es (t ∷ ts) is none = let clash : (1, t) ∷ numbered_messages 2 ts ≡ [] = sym is ∙ unpushed n es none in
+          cc
 
   -- ---- what one is told of another
 
@@ -286,7 +287,7 @@ module _ {T : Type 0} (lock : T → TableId) (ready : T → Type 0) where
       (λ k e a. absurd (some-ne-none e (sym a)))
 
   -- and looks
-  pub compares : (pass : ℕ) (v : QueueView T) → 0 < v.number → Learns Rule pass v (λ items. Hears v)
+  pub compares : (pass : ℕ) (v : QueueView T) → 0 < v.number → Learns Rule pass v (λ items. HearsPopped v)
   compares pass v named items views h at k e a =
       let s = h.each pass v at named in
       let old : List (Popped T) = map (λ (p : ℕ × Popped T). p.1) h.popped in

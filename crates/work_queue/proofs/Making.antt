@@ -5,14 +5,14 @@ use Rattle.std.specs.List.{list_any}
 use Rattle.std.proofs.lemmas.Bool.{cond-true}
 use Rattle.nvme_model.specs.Commands.{is_compare, is_read, is_write, is_write_zeroes}
 use Rattle.nvme_model.specs.Completions.{posted_completions, reaped_count}
-use Rattle.nvme_model.specs.EntryBytes.{blocks, slba}
+use Rattle.nvme_model.specs.EntryBytes.{block_count, slba}
 use Rattle.nvme_model.specs.History.{Past}
 use Rattle.nvme_model.specs.Legal.{IsLegal}
 use Rattle.nvme_model.specs.Operations.{is_pair, op, op_of_fields, units, units_by}
 use Rattle.nvme_model.specs.Steps.{reap_entry}
 use Rattle.nvme_model.specs.Tickets
 use Rattle.nvme_model.specs.Tickets.{Ticket, fetched_ticket, first_fields, next_verdict, tickets}
-use Rattle.nvme_model.specs.Verdict.{taken}
+use Rattle.nvme_model.specs.Verdict.{taken_entries}
 use Rattle.nvme_model.specs.declared.config.ConfigNumbers.{ConfigNumbers}
 use Rattle.nvme_model.specs.declared.entry.Entry.{Entry}
 use Rattle.nvme_model.specs.declared.entry.FetchLine.{FetchLine}
@@ -25,7 +25,7 @@ use Rattle.controller_steps.specs.State.{answer_of, kind_by, work_of}
 use Rattle.controller_steps.specs.Works.{TicketWork}
 use Rattle.controller_steps.specs.declared.answer.Answer.{Answer}
 use Rattle.ticket_laws.specs.Entries.{ticket_in}
-use Rattle.ticket_laws.specs.Tasks.{first_stage, own_stage}
+use Rattle.ticket_laws.specs.Tasks.{first_duty_stage, own_stage}
 use Rattle.work_queue.proofs.Staging.{fetched_stage}
 use Rattle.ticket_laws.proofs.Later.{fetched_commands}
 use Rattle.controller_steps.specs.State.{Accepts}
@@ -46,7 +46,7 @@ by_op : (c : ConfigNumbers) (t : ℕ) (k : Ticket) (o : Option Op) → is_pair o
     → duty_of (record { ticket = t; atomic = c.atomic; kind = kind_by k o }) ≡ record {
       statuses = 1;
       op = o;
-      units = units_by c.atomic o (slba (first_fields k)) (blocks (first_fields k));
+      units = units_by c.atomic o (slba (first_fields k)) (block_count (first_fields k));
     }
 by_op c t k None e = refl
 by_op c t k (Some Op.Read) e = refl
@@ -58,7 +58,7 @@ by_op c t k (Some Op.Pair) e = absurd (let f : true ≡ false = e in cc)
 by_verdict : (c : ConfigNumbers) (t q : ℕ) (ks : List Submission) (v : Verdict)
     → duty_of (work_of c t (record { queue = q; commands = ks; verdict = v }))
     ≡ record {
-      statuses = taken v;
+      statuses = taken_entries v;
       op = op (record { queue = q; commands = ks; verdict = v });
       units = units c (record { queue = q; commands = ks; verdict = v });
     }
@@ -86,7 +86,7 @@ fresh_work c past q h now none =
     let t : ℕ = tickets past + 1 in
     let k : Ticket = fetched_ticket past q f.verdict in
     let here : Tickets.ticket (Entry.Fetch f ∷ past) t ≡ k = cond-true (eqb t t) _ _ (eq-eqb t t refl) in
-    let all : length k.commands ≡ taken f.verdict = fetched_commands c past q h none in
+    let all : length k.commands ≡ taken_entries f.verdict = fetched_commands c past q h none in
     let is : duty_of (work_of c t k) ≡ record { statuses = length k.commands; op = op k; units = units c k } =
     by_verdict c t q k.commands f.verdict ∙ (λ i. record { statuses = sym all i; op = op k; units = units c k }) in
     record {
@@ -102,7 +102,7 @@ fresh_work c past q h now none =
 pub fetched_work : (c : ConfigNumbers) (past : Past) (q : ℕ) (e : Entry) (a : Answer) (w : TicketWork) → IsLegal c past
     → IsLegal c (e ∷ past) → Accepts c past (Step.Fetch q) e a → a ≡ Answer.Fetched w
     → (ticket_in e ≡ w.ticket) × IsWorkAt c (e ∷ past) w q
-    × (first_stage (duty_of w) ≡ own_stage (duty_of w) w.ticket (e ∷ [])) × (is_fetch_of w.ticket e ≡ true)
+    × (first_duty_stage (duty_of w) ≡ own_stage (duty_of w) w.ticket (e ∷ [])) × (is_fetch_of w.ticket e ≡ true)
 fetched_work c past q e a w h now s is =
     let made : TicketWork = work_of c (tickets past + 1) (fetched_ticket past q (next_verdict c past q)) in
     let same : Answer.Fetched made ≡ Answer.Fetched w = sym (s.2 ∙ ap (answer_of c past) s.1) ∙ is in

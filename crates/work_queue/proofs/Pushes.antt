@@ -7,7 +7,7 @@ use Rattle.std.proofs.lemmas.List.Elements.{filter-append}
 use mathlib.Core.Option.{some, some-injective, some-ne-none}
 use lib.ListN.{get_elem?}
 use Rattle.work_queue.specs.QueueSteps.{IsNth}
-use Rattle.work_queue.specs.Queues.{by_popper, entry, messages, numbered, of_pusher}
+use Rattle.work_queue.specs.Queues.{by_popper, popped_entry, messages, numbered_messages, of_pusher}
 use Rattle.work_queue.specs.declared.message.Popped.{Popped}
 
 pub within : {A : Type 0} (l : List A) (j : ℕ) (a : A) → get_elem? l j ≡ some a → j < length l
@@ -39,27 +39,28 @@ module _ {T : Type 0} where
   of_pusher-append j xs ys = ap (map pushed) (filter-append (λ (e : Popped T). eqb e.pusher j) xs ys)
       ∙ map-append pushed (filter (λ e. eqb e.pusher j) xs) (filter (λ e. eqb e.pusher j) ys)
 
-  pub of_pusher-own : (j n : ℕ) (x : T) → of_pusher j (entry j n x ∷ []) ≡ (n, x) ∷ []
-  of_pusher-own j n x = ap (λ b. map pushed (cond b (entry j n x ∷ []) [])) (eq-eqb j j refl)
+  pub of_pusher-own : (j n : ℕ) (x : T) → of_pusher j (popped_entry j n x ∷ []) ≡ (n, x) ∷ []
+  of_pusher-own j n x = ap (λ b. map pushed (cond b (popped_entry j n x ∷ []) [])) (eq-eqb j j refl)
 
-  pub of_pusher-other : (j i n : ℕ) (x : T) → i ≢ j → of_pusher j (entry i n x ∷ []) ≡ []
-  of_pusher-other j i n x ne = ap (λ b. map pushed (cond b (entry i n x ∷ []) [])) (ne_eqb i j ne)
+  pub of_pusher-other : (j i n : ℕ) (x : T) → i ≢ j → of_pusher j (popped_entry i n x ∷ []) ≡ []
+  of_pusher-other j i n x ne = ap (λ b. map pushed (cond b (popped_entry i n x ∷ []) [])) (ne_eqb i j ne)
 
-  pub numbered-more : (k : ℕ) (xs : List T) (x : T)
-      → numbered k (xs ++ x ∷ []) ≡ numbered k xs ++ (k + length xs, x) ∷ []
-  numbered-more k [] x = ap (λ n. (n, x) ∷ []) (omega arith)
-  numbered-more k (y ∷ xs) x =
-      ap (λ l. (k, y) ∷ l) (numbered-more (k + 1) xs x ∙ ap (λ n. numbered (k + 1) xs ++ (n, x) ∷ []) (omega arith))
+  pub numbered_messages-more : (k : ℕ) (xs : List T) (x : T)
+      → numbered_messages k (xs ++ x ∷ []) ≡ numbered_messages k xs ++ (k + length xs, x) ∷ []
+  numbered_messages-more k [] x = ap (λ n. (n, x) ∷ []) (omega arith)
+  numbered_messages-more k (y ∷ xs) x =
+      ap (λ l. (k, y) ∷ l) (numbered_messages-more (k + 1) xs x
+      ∙ ap (λ n. numbered_messages (k + 1) xs ++ (n, x) ∷ []) (omega arith))
 
   -- in a numbered list each number before one is below it
-  pub before : (k : ℕ) (ts : List T) (xs ys : List (ℕ × T)) (n : ℕ) (x : T) → xs ++ (n, x) ∷ ys ≡ numbered k ts
+  pub before : (k : ℕ) (ts : List T) (xs ys : List (ℕ × T)) (n : ℕ) (x : T) → xs ++ (n, x) ∷ ys ≡ numbered_messages k ts
       → (k ≤ n) × ((i : ℕ) (d : ℕ × T) → get_elem? xs i ≡ some d → d.0 < n)
   before k [] [] ys n x e = cc
   before k [] (d ∷ xs) ys n x e = cc
   before k (t ∷ ts) [] ys n x e = let first : (n, x) ≡ (k, t) = cc in let same = ap (λ (z : ℕ × T). z.0) first in
       (omega (arith, same), λ i d a. absurd (some-ne-none d (sym a)))
   before k (t ∷ ts) (d ∷ xs) ys n x e =
-      let tails : xs ++ (n, x) ∷ ys ≡ numbered (k + 1) ts = cc in
+      let tails : xs ++ (n, x) ∷ ys ≡ numbered_messages (k + 1) ts = cc in
       let first : d ≡ (k, t) = cc in
       let r = before (k + 1) ts xs ys n x tails in
       let low = r.0 in
@@ -79,7 +80,7 @@ module _ {T : Type 0} where
     pub long : length front ≡ m
     pub number : n ≡ k + m
 
-  pub stands_at : (k : ℕ) (ts : List T) (m n : ℕ) (x : T) → get_elem? (numbered k ts) m ≡ some (n, x)
+  pub stands_at : (k : ℕ) (ts : List T) (m n : ℕ) (x : T) → get_elem? (numbered_messages k ts) m ≡ some (n, x)
       → Stands k ts m n x
   stands_at k [] m n x e = absurd (some-ne-none (n, x) (sym e))
   stands_at k (t ∷ ts) zero n x e =
@@ -92,14 +93,14 @@ module _ {T : Type 0} where
       let long = s.long in
       record { front = t ∷ s.front; rest = s.rest; is = ap (λ l. t ∷ l) s.is; long = ap suc long; number = omega arith }
 
-  pub is_nth : (ts : List T) (m n : ℕ) (x : T) → get_elem? (numbered 1 ts) m ≡ some (n, x) → IsNth ts n x
+  pub is_nth : (ts : List T) (m n : ℕ) (x : T) → get_elem? (numbered_messages 1 ts) m ≡ some (n, x) → IsNth ts n x
   is_nth ts m n x e =
       let s = stands_at 1 ts m n x e in
       let long = s.long in
       let number = s.number in
       (s.front, s.rest, s.is, omega arith)
 
-  pub number_at : (ts : List T) (m n : ℕ) (x : T) → get_elem? (numbered 1 ts) m ≡ some (n, x) → n ≡ m + 1
+  pub number_at : (ts : List T) (m n : ℕ) (x : T) → get_elem? (numbered_messages 1 ts) m ≡ some (n, x) → n ≡ m + 1
   number_at ts m n x e = let s = stands_at 1 ts m n x e in let number = s.number in omega arith
 
   -- ---- lists of pops
@@ -171,7 +172,7 @@ module _ {T : Type 0} where
   items_pushed [] = refl
   items_pushed (e ∷ es) = ap (λ l. e.item ∷ l) (items_pushed es)
 
-  pub items_numbered : (k : ℕ) (xs : List T) → map (λ (z : ℕ × T). z.1) (numbered k xs) ≡ xs
+  pub items_numbered : (k : ℕ) (xs : List T) → map (λ (z : ℕ × T). z.1) (numbered_messages k xs) ≡ xs
   items_numbered k [] = refl
   items_numbered k (x ∷ xs) = ap (λ l. x ∷ l) (items_numbered (k + 1) xs)
 

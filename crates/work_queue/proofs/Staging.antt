@@ -23,8 +23,8 @@ use Rattle.nvme_model.specs.declared.step.Step.{Step}
 use Rattle.controller_steps.specs.State.{answer_of}
 use Rattle.controller_steps.specs.declared.answer.Answer.{Answer}
 use Rattle.ticket_laws.specs.Entries.{of_ticket, ticket_in}
-use Rattle.ticket_laws.specs.Tasks.{Duty, duty_at, first_stage, own_all_ended, own_open, own_stage, task_fault}
-use Rattle.ticket_laws.specs.declared.stage.Stage.{Stage}
+use Rattle.ticket_laws.specs.Tasks.{Duty, duty_at, first_duty_stage, own_all_ended, own_open, own_stage, task_fault}
+use Rattle.ticket_laws.specs.declared.stage.DutyStage.{DutyStage}
 use Rattle.ticket_laws.proofs.NewEntries.{named_entry, of_ticket-own}
 use Rattle.ticket_laws.proofs.OwnEntries.{own_differed}
 use Rattle.ticket_laws.proofs.Stages.{block_stage, grant_stage, post_stage, run_over}
@@ -38,7 +38,7 @@ whole : (n : ℕ) → n ≡ n - 0
 whole n = omega arith
 
 -- just after the Fetch
-pub fetched_stage : (d : Duty) (t : ℕ) (f : FetchLine) → first_stage d ≡ own_stage d t (Entry.Fetch f ∷ [])
+pub fetched_stage : (d : Duty) (t : ℕ) (f : FetchLine) → first_duty_stage d ≡ own_stage d t (Entry.Fetch f ∷ [])
 fetched_stage d t f = λ i. record {
   left = whole (length d.units) i;
   owing = whole d.statuses i;
@@ -49,7 +49,7 @@ fetched_stage d t f = λ i. record {
 -- ---- after a task
 
 module _ (c : ConfigNumbers) (past : Past) (t : ℕ) where
-  abbrev stage : Stage
+  abbrev stage : DutyStage
   stage = own_stage (duty_at c past t) t (of_ticket t past)
 
   -- what the answer makes of it is what the entry makes of it
@@ -114,7 +114,7 @@ module _ (c : ConfigNumbers) (past : Past) (t : ℕ) where
   task_ticket task.Post e some is = named_entry c past (Step.Post t) e is some
 
   -- so where the ticket's entries are these, with this one more
-  pub stage_after : (k : Task) (e : Entry) (a : Answer) (d : Duty) (its more : Past) (s : Stage) → 0 < t
+  pub stage_after : (k : Task) (e : Entry) (a : Answer) (d : Duty) (its more : Past) (s : DutyStage) → 0 < t
       → IsLegal c (e ∷ past) → Accepts c past (task_step k t) e a → d ≡ duty_at c (e ∷ past) t
       → s ≡ own_stage d t its → more ≡ e ∷ its → of_ticket t (e ∷ past) ≡ more → answer_stage s a ≡ own_stage d t more
   stage_after k e a d its more s some h acc duty is grows all =

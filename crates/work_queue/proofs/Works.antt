@@ -11,14 +11,14 @@ use Rattle.nvme_model.specs.Tickets.{Ticket}
 use Rattle.nvme_model.specs.declared.config.ConfigNumbers.{ConfigNumbers}
 use Rattle.nvme_model.specs.declared.refusal.Why.{Why}
 use Rattle.nvme_model.specs.declared.step.Step.{Step}
-use Rattle.nvme_model.specs.Kept.{Kept}
-use Rattle.controller_steps.specs.State.{State, refused_as}
+use Rattle.nvme_model.specs.Kept.{ControllerInvariant}
+use Rattle.controller_steps.specs.State.{ControllerState, refused_as}
 use Rattle.controller_steps.specs.Works.{TicketWork}
 use Rattle.controller_steps.specs.declared.answer.Answer.{Answer}
 use Rattle.controller_steps.specs.declared.answer.Refused.{Refused}
 use Rattle.ticket_laws.specs.Entries.{of_ticket}
 use Rattle.ticket_laws.specs.Tasks.{Duty, IsInPlace, duty_at, own_stage, task_fault}
-use Rattle.ticket_laws.specs.declared.stage.Stage.{Stage}
+use Rattle.ticket_laws.specs.declared.stage.DutyStage.{DutyStage}
 use Rattle.ticket_laws.proofs.Allowed.{block_in_place, grant_in_place, post_in_place}
 use Rattle.ticket_laws.proofs.Later.{duty_later, ticket_later, tickets_later}
 use Rattle.controller_steps.specs.State.{Accepts, Refuses}
@@ -67,22 +67,25 @@ carried c old new x n b h w =
     (carry c (entries b.0) (entries old) x n (subst (λ past. IsLegal c past) (sym same) h) w)
 
 -- and of it after it was stepped
-pub learned_work : (q : Pass State) (w v : TicketSeat State) (x : TicketWork) (n : ℕ) → Learned q w v
-    → Kept (config_of q) (entries (seen q)) → IsWorkAt (ticket_config w) (entries (ticket_seen w)) x n
+pub learned_work : (q : Pass ControllerState) (w v : TicketSeat ControllerState) (x : TicketWork) (n : ℕ)
+    → Learned q w v
+    → ControllerInvariant (config_of q) (entries (seen q)) → IsWorkAt (ticket_config w) (entries (ticket_seen w)) x n
     → IsWorkAt (config_of q) (entries (seen q)) x n
 learned_work q w v x n l k at =
     carried (config_of q) (ticket_seen w) (seen q) x n l.0 k.legal
     (subst (λ c. IsWorkAt c (entries (ticket_seen w)) x n) l.2 at)
 
-moved_work : (q : Pass State) (w v : TicketSeat State) (x : TicketWork) (n : ℕ) → Learned q w v
-    → Kept (config_of q) (entries (seen q)) → IsWorkAt (ticket_config w) (entries (ticket_seen w)) x n
+moved_work : (q : Pass ControllerState) (w v : TicketSeat ControllerState) (x : TicketWork) (n : ℕ) → Learned q w v
+    → ControllerInvariant (config_of q) (entries (seen q)) → IsWorkAt (ticket_config w) (entries (ticket_seen w)) x n
     → IsWorkAt (ticket_config v) (entries (ticket_seen v)) x n
 moved_work q w v x n l k at =
     subst (λ (z : ConfigNumbers × SharedPast). IsWorkAt z.0 (entries z.1) x n) (λ i. (sym l.3 i, sym l.1 i))
     (learned_work q w v x n l k at)
 
-pub after_saw : (q : Pass State) (w v : TicketSeat State) (x : TicketWork) (n : ℕ) (r : Result Answer Declined)
-    → Saw q w v r → Kept (config_of q) (entries (seen q)) → IsWorkAt (ticket_config w) (entries (ticket_seen w)) x n
+pub after_saw : (q : Pass ControllerState) (w v : TicketSeat ControllerState) (x : TicketWork) (n : ℕ)
+    (r : Result Answer Declined)
+    → Saw q w v r → ControllerInvariant (config_of q) (entries (seen q))
+    → IsWorkAt (ticket_config w) (entries (ticket_seen w)) x n
     → IsWorkAt (ticket_config v) (entries (ticket_seen v)) x n
 after_saw q w v x n (Ok a) s k at = moved_work q w v x n s k at
 after_saw q w v x n (Err (Declined.Busy step)) s k at =
@@ -115,8 +118,9 @@ task_in_place c past t task.Grant none = no_fault_of (refusal c past (Step.Grant
 task_in_place c past t task.Block none = no_fault_of (refusal c past (Step.Block t)) (block_in_place c past t none)
 task_in_place c past t task.Post none = no_fault_of (refusal c past (Step.Post t)) (post_in_place c past t none)
 
-pub no_fault : (p q : Pass State) (w v : TicketSeat State) (x : TicketWork) (n : ℕ) (k : Task)
-    (r : Result Answer Declined) → config_of q ≡ config_of p → Kept (config_of q) (entries (seen q)) → Saw q w v r
+pub no_fault : (p q : Pass ControllerState) (w v : TicketSeat ControllerState) (x : TicketWork) (n : ℕ) (k : Task)
+    (r : Result Answer Declined) → config_of q ≡ config_of p → ControllerInvariant (config_of q) (entries (seen q))
+    → Saw q w v r
     → IsWorkAt (ticket_config w) (entries (ticket_seen w)) x n
     → (IsNotBusy r → of_ticket x.ticket (entries (seen q)) ≡ its v)
     → task_fault (duty_of x) x.ticket (its w) (task_step k x.ticket) ≡ None
@@ -137,8 +141,9 @@ no_fault p q w v x n k (Err (Declined.Refused r)) same kept s at whole none d =
 
 -- ---- how far it has come
 
-pub staged : (p q : Pass State) (w v : TicketSeat State) (x : TicketWork) (n : ℕ) (k : Task) (a : Answer) (s : Stage)
-    → config_of q ≡ config_of p → Kept (config_of q) (entries (seen q)) → Learned q w v
+pub staged : (p q : Pass ControllerState) (w v : TicketSeat ControllerState) (x : TicketWork) (n : ℕ) (k : Task)
+    (a : Answer) (s : DutyStage)
+    → config_of q ≡ config_of p → ControllerInvariant (config_of q) (entries (seen q)) → Learned q w v
     → IsWorkAt (ticket_config w) (entries (ticket_seen w)) x n → of_ticket x.ticket (entries (seen q)) ≡ its v
     → Worked Accepts p q w v (task_step k x.ticket) a → s ≡ own_stage (duty_of x) x.ticket (its w)
     → answer_stage s a ≡ own_stage (duty_of x) x.ticket (its v)
@@ -151,7 +156,7 @@ staged p q w v x n k a s same kept l at whole by is =
     (subst (λ (z : ConfigNumbers × Past). IsLegal z.0 z.1) (λ i. (same i, there i)) kept.legal) by.by.says
     (here.duty ∙ (λ i. duty_at (same i) (there i) x.ticket)) is by.more (ap (of_ticket x.ticket) (sym there) ∙ whole)
 
-pub next_of_work : (w : TicketSeat State) (x : TicketWork) (n : ℕ) (s : Stage) (o : Option Task)
+pub next_of_work : (w : TicketSeat ControllerState) (x : TicketWork) (n : ℕ) (s : DutyStage) (o : Option Task)
     → s ≡ own_stage (duty_of x) x.ticket (its w) → IsWorkAt (ticket_config w) (entries (ticket_seen w)) x n
     → of_ticket x.ticket (entries (ticket_seen w)) ≡ its w → o ≡ next_task s
     → IfSome o (λ k. task_fault (duty_of x) x.ticket (its w) (task_step k x.ticket) ≡ None)

@@ -6,7 +6,7 @@ use Rattle.nvme_model.specs.declared.config.ConfigNumbers.{ConfigNumbers}
 use Rattle.nvme_model.specs.declared.entry.Entry.{Entry}
 use Rattle.nvme_model.specs.declared.refusal.Why.{Why}
 use Rattle.nvme_model.specs.declared.step.Step.{Step}
-use Rattle.controller_steps.specs.State.{State}
+use Rattle.controller_steps.specs.State.{ControllerState}
 use Rattle.controller_steps.specs.declared.answer.Answer.{Answer}
 use Rattle.controller_steps.specs.declared.answer.Refused.{Refused}
 use Rattle.controller_steps.specs.State.{Accepts}
@@ -23,11 +23,11 @@ use Rattle.work_queue.specs.declared.work.Work.{Work}
 
 -- a caller's pass
 abbrev pub EnginePass : Type 0
-EnginePass = Pass State
+EnginePass = Pass ControllerState
 
 -- the pass is one of this engine
-abbrev pub IsOf : Engine → EnginePass → Type 0
-IsOf e p = Passes.IsOf e.shared p
+abbrev pub IsPassOfEngine : Engine → EnginePass → Type 0
+IsPassOfEngine e p = Passes.IsPassOfLock e.shared p
 
 -- what the controller had when the engine was made
 abbrev pub opening_of : Engine → Past
@@ -39,7 +39,7 @@ IsWorkOf e w = Passes.IsTicketOf e.shared w.owner
 
 -- a pass of the engine that has seen nothing
 pub record IsFreshPass (e : Engine) (c : ConfigNumbers) (p : EnginePass) : Type 0 where
-  pub of : IsOf e p
+  pub of : IsPassOfEngine e p
   pub config : Passes.config_of p ≡ c
   pub seen : Passes.seen p ≡ []
 

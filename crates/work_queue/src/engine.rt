@@ -3,7 +3,7 @@
 ghost use Rattle.std.specs.Prelude.{◌≡◌, ◌<◌, ◌+◌, All, None, Some, ℕ, IfErr, IfOk, IfSome, IsSome};
 ghost use Rattle.std.specs.Prelude.{[], slice_get, vec_len};
 ghost use Rattle.nvme_model.specs.Passes.{IsBeginning, SharedPast, entries, places};
-ghost use Rattle.nvme_model.specs.Kept.{Kept};
+ghost use Rattle.nvme_model.specs.Kept.{ControllerInvariant};
 
 use crate::stages::{stage_after, start_of};
 use crate::task::Task;
@@ -44,14 +44,15 @@ impl Engine {
     ghost use Rattle.controller_steps.specs.State.{Accepts, Refuses};
     ghost use Rattle.meet_lock.specs.Passes.{Declines, IsNew, IsNotBusy, IsSame, Knows, Met, Saw, Worked, config_of};
     ghost use Rattle.meet_lock.specs.Passes.{IsSeenWhole, mine, number, passes_of, seen};
-    ghost use Rattle.meet_lock.specs.Lock.{AreOfPasses, GoesOn, unmade};
+    ghost use Rattle.meet_lock.specs.Lock.{AreOfPasses, ExtendsByPasses, unmade};
     ghost use Rattle.meet_lock.specs.declared.pass.Pass.{Pass};
-    ghost use Rattle.controller_steps.specs.State.{State};
+    ghost use Rattle.controller_steps.specs.State.{ControllerState};
     ghost use Rattle.ticket_laws.specs.Entries.{of_ticket};
     ghost use Rattle.ticket_laws.specs.Tasks.{task_fault};
     ghost use Rattle.work_queue.specs.Duties.{duty_of, task_step};
     ghost use Rattle.work_queue.specs.Posted.{IsAnswerPosted};
-    ghost use Rattle.work_queue.specs.Engines.{IsFreshPass, IsNoTaskFault, IsOf, IsWorkOf, OpenedAs, its, open_step};
+    ghost use Rattle.work_queue.specs.Engines.{IsFreshPass, IsNoTaskFault, IsPassOfEngine, IsWorkOf, OpenedAs, its};
+    ghost use Rattle.work_queue.specs.Engines.{open_step};
     ghost use Rattle.work_queue.specs.Engines.{opening_of};
 
     /// The controller with a lock round it, and as many passes as asked for, numbered from 1 in order.
@@ -65,11 +66,11 @@ impl Engine {
         passes: usize,
     ) -> Result<(Engine, Vec<Pass<Core>>), (Core, NoMemory)>
         requires some { 0 < passes }
-        requires legal { Kept core.config core.past }
+        requires legal { ControllerInvariant core.config core.past }
         ensures count { IfOk result (λ e. vec_len e.1 ≡ passes) }
-        ensures own { IfOk result (λ e. All (IsOf e.0) e.1.items) }
-        ensures each { IfOk result (λ e. (k : ℕ) (p : Pass State) → slice_get e.1.items k ≡ Some p
-            → IsOf e.0 p × IsNew passes core.config core.past (k + 1) p) }
+        ensures own { IfOk result (λ e. All (IsPassOfEngine e.0) e.1.items) }
+        ensures each { IfOk result (λ e. (k : ℕ) (p : Pass ControllerState) → slice_get e.1.items k ≡ Some p
+            → IsPassOfEngine e.0 p × IsNew passes core.config core.past (k + 1) p) }
         ensures opening { IfOk result (λ e. opening_of e.0 ≡ core.past) }
         ensures err { IfErr result (λ e. e.0 ≡ core) }
     {
@@ -90,8 +91,8 @@ impl Engine {
     ) -> Result<(Engine, Vec<Pass<Core>>), NoMemory>
         requires { 0 < count }
         ensures count { IfOk result (λ e. vec_len e.1 ≡ count) }
-        ensures each { IfOk result (λ e. (k : ℕ) (p : Pass State) → slice_get e.1.items k ≡ Some p
-            → IsOf e.0 p × IsNew count config [] (k + 1) p) }
+        ensures each { IfOk result (λ e. (k : ℕ) (p : Pass ControllerState) → slice_get e.1.items k ≡ Some p
+            → IsPassOfEngine e.0 p × IsNew count config [] (k + 1) p) }
         ensures fresh { IfOk result (λ e. All (IsFreshPass e.0 config) e.1.items) }
         ensures opening { IfOk result (λ e. opening_of e.0 ≡ []) }
     {
@@ -109,9 +110,9 @@ impl Engine {
     /// `Busy` with the step, where another caller had the lock; nothing has changed. `Refused` by the refusals at what
     /// the pass has seen then.
     pub fn attempt_open(&self, pass: &mut Pass<Core>, request: Open) -> Result<Opened, Declined>
-        requires { IsOf self.now pass.old }
+        requires { IsPassOfEngine self.now pass.old }
         ensures same { IsSame pass.old pass.new }
-        ensures knows { Knows Kept pass.old pass.new }
+        ensures knows { Knows ControllerInvariant pass.old pass.new }
         ensures accepted { IfOk result (OpenedAs self.now pass.old pass.new request) }
         ensures declined { IfErr result (Declines Refuses pass.old pass.new (open_step request)) }
         ensures alone { passes_of pass.old ≡ 1 → IsNotBusy result }
@@ -155,12 +156,12 @@ impl Engine {
         work: &mut Work,
         task: Task,
     ) -> Result<Answer, Declined>
-        requires own { IsOf self.now pass.old × IsWorkOf self.now work.old }
+        requires own { IsPassOfEngine self.now pass.old × IsWorkOf self.now work.old }
         requires allowed { task_fault (duty_of work.old.work) work.old.work.ticket (its work.old)
             (task_step task work.old.work.ticket) ≡ None }
         ensures same { IsSame pass.old pass.new × IsWorkOf self.now work.new × (work.new.work ≡ work.old.work)
             × (work.new.queue ≡ work.old.queue) }
-        ensures knows { Knows Kept pass.old pass.new }
+        ensures knows { Knows ControllerInvariant pass.old pass.new }
         ensures accepted { IfOk result (Worked Accepts pass.old pass.new work.old.owner work.new.owner
             (task_step task work.old.work.ticket)) }
         ensures posted { IfOk result (IsAnswerPosted (config_of pass.new) (entries (seen pass.new)) work.old.queue) }
@@ -187,11 +188,11 @@ impl Engine {
     ///
     /// `Busy` where another caller had the lock; nothing has changed.
     pub fn meet(&self, first: &mut Pass<Core>, second: &mut Pass<Core>) -> Result<(), Busy>
-        requires first { IsOf self.now first.old }
-        requires second { IsOf self.now second.old }
+        requires first { IsPassOfEngine self.now first.old }
+        requires second { IsPassOfEngine self.now second.old }
         ensures first { IsSame first.old first.new × (mine first.new ≡ mine first.old) }
         ensures second { IsSame second.old second.new × (mine second.new ≡ mine second.old) }
-        ensures met { IfOk result (λ _. Met Kept first.old second.old first.new second.new) }
+        ensures met { IfOk result (λ _. Met ControllerInvariant first.old second.old first.new second.new) }
         ensures busy { IfErr result (λ _. (seen first.new ≡ seen first.old)
             × (seen second.new ≡ seen second.old)) }
     {
@@ -201,19 +202,19 @@ impl Engine {
     /// Tells what holds of whatever the pass has seen: it is what a controller keeps of its history, and goes on from
     /// what the controller had when the engine was made, by entries of passes alone. Takes neither lock nor memory.
     pub fn recall(&self, pass: &mut Pass<Core>)
-        requires { IsOf self.now pass.old }
+        requires { IsPassOfEngine self.now pass.old }
         ensures same { IsSame pass.old pass.new × (seen pass.new ≡ seen pass.old) }
-        ensures kept { Kept (config_of pass.new) (entries (seen pass.new)) }
-        ensures opens { GoesOn (passes_of pass.new) (unmade (opening_of self.now)) (seen pass.new) }
+        ensures kept { ControllerInvariant (config_of pass.new) (entries (seen pass.new)) }
+        ensures opens { ExtendsByPasses (passes_of pass.new) (unmade (opening_of self.now)) (seen pass.new) }
     {
         self.shared.recall(pass);
     }
 
     /// The controller, where no pass had the lock.
     pub fn close(self, pass: Pass<Core>) -> Option<Core>
-        requires { IsOf self pass }
+        requires { IsPassOfEngine self pass }
         ensures config { IfSome result (λ core. core.config ≡ config_of pass) }
-        ensures legal { IfSome result (λ core. Kept core.config core.past) }
+        ensures legal { IfSome result (λ core. ControllerInvariant core.config core.past) }
         ensures begins { IfSome result (λ core. (whole : SharedPast) × (core.past ≡ entries whole)
             × (b : IsBeginning (seen pass) whole) × AreOfPasses (passes_of pass) b.0
             × (places (number pass) whole ≡ mine pass)) }
@@ -228,11 +229,11 @@ impl Engine {
     ///
     /// None where the lock wasn't free, and where no pass is given.
     pub fn close_all(self, passes: Vec<Pass<Core>>) -> Option<Core>
-        requires all { (k : ℕ) (p : Pass State) → slice_get passes.items k ≡ Some p
-            → IsOf self p × (number p ≡ k + 1) × (passes_of p ≡ vec_len passes) }
-        ensures config { IfSome result (λ core. (k : ℕ) (p : Pass State) → slice_get passes.items k ≡ Some p
+        requires all { (k : ℕ) (p : Pass ControllerState) → slice_get passes.items k ≡ Some p
+            → IsPassOfEngine self p × (number p ≡ k + 1) × (passes_of p ≡ vec_len passes) }
+        ensures config { IfSome result (λ core. (k : ℕ) (p : Pass ControllerState) → slice_get passes.items k ≡ Some p
             → core.config ≡ config_of p) }
-        ensures legal { IfSome result (λ core. Kept core.config core.past) }
+        ensures legal { IfSome result (λ core. ControllerInvariant core.config core.past) }
         ensures whole { IfSome result (λ core. IsSeenWhole passes.items core.past) }
         ensures alone { vec_len passes ≡ 1 → IsSome result }
     {

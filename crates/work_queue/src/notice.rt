@@ -2,8 +2,8 @@
 
 ghost use Rattle.std.specs.Prelude.{◌≡◌, IfErr, IfOk, IsOk};
 ghost use Rattle.nvme_model.specs.Passes.{IsBeginning, entries};
-ghost use Rattle.nvme_model.specs.Kept.{Kept};
-ghost use Rattle.meet_lock.specs.Passes.{told, told_config};
+ghost use Rattle.nvme_model.specs.Kept.{ControllerInvariant};
+ghost use Rattle.meet_lock.specs.Passes.{message_seen, message_config};
 ghost use Rattle.work_queue.specs.Posted.{IsPostedTo};
 
 use crate::engine::Engine;
@@ -17,12 +17,12 @@ pub struct Notice {
     queue: u16,
     cqe: [u8; 16],
     pub(crate) note: NoteSeat<Core>,
-    ghost there: { IsPostedTo (told_config note) (entries (told note)) queue cqe },
+    ghost there: { IsPostedTo (message_config note) (entries (message_seen note)) queue cqe },
 }
 
 impl Notice {
     ghost use Rattle.meet_lock.specs.Passes.{IsSame, config_of, seen};
-    ghost use Rattle.work_queue.specs.Engines.{IsOf};
+    ghost use Rattle.work_queue.specs.Engines.{IsPassOfEngine};
     ghost use Rattle.work_queue.specs.Notices.{IsNoticeOf, notice_config, notice_seen};
 
     /// What the pass has seen, where this completion is posted to this completion queue. It takes no memory, and never
@@ -37,7 +37,7 @@ impl Notice {
         queue: u16,
         cqe: [u8; 16],
     ) -> Result<Notice, NoMemory>
-        requires own { IsOf engine.now pass.old }
+        requires own { IsPassOfEngine engine.now pass.old }
         requires there { IsPostedTo (config_of pass.old) (entries (seen pass.old)) queue cqe }
         ensures same { IsSame pass.old pass.new × (seen pass.new ≡ seen pass.old) }
         ensures notice { IfOk result (λ n. IsNoticeOf engine.now n × (notice_seen n ≡ seen pass.old)
@@ -65,7 +65,7 @@ impl Notice {
 
 impl Engine {
     ghost use Rattle.meet_lock.specs.Passes.{IsSame, Knows, config_of, mine, seen};
-    ghost use Rattle.work_queue.specs.Engines.{IsOf};
+    ghost use Rattle.work_queue.specs.Engines.{IsPassOfEngine};
     ghost use Rattle.work_queue.specs.Notices.{IsNoticeOf, ReapFinds, notice_config, notice_seen};
 
     /// The pass sees what the notice had seen, too. It takes neither lock nor memory, and is never Busy.
@@ -74,10 +74,10 @@ impl Engine {
     ///
     /// `Busy` stands in the signature alone: no call answers it.
     pub fn learn(&self, pass: &mut Pass<Core>, notice: &mut Notice) -> Result<(), Busy>
-        requires pass { IsOf self.now pass.old }
+        requires pass { IsPassOfEngine self.now pass.old }
         requires notice { IsNoticeOf self.now notice.old }
         ensures same { IsSame pass.old pass.new × (mine pass.new ≡ mine pass.old) }
-        ensures knows { IfOk result (λ _. Knows Kept pass.old pass.new) }
+        ensures knows { IfOk result (λ _. Knows ControllerInvariant pass.old pass.new) }
         ensures learned { IfOk result (λ _. IsBeginning (notice_seen notice.old) (seen pass.new)) }
         ensures config { notice_config notice.old ≡ config_of pass.old }
         ensures reaps { IfOk result (λ _. ReapFinds (notice_seen notice.old) notice.old.queue pass.new) }

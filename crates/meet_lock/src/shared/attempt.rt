@@ -8,7 +8,7 @@ use crate::shared::Shared;
 use controller_steps::{Answer, Machine, Step};
 
 impl<M: Machine> Shared<M, AnyPass> {
-    ghost use Rattle.meet_lock.specs.Passes.{Accepted, Declines, IsNotBusy, IsOf, IsSame, Knows, passes_of};
+    ghost use Rattle.meet_lock.specs.Passes.{Accepted, Declines, IsNotBusy, IsPassOfLock, IsSame, Knows, passes_of};
 
     /// Makes one step, if no other caller has the lock. It takes no memory but what the machine's step takes.
     ///
@@ -17,7 +17,7 @@ impl<M: Machine> Shared<M, AnyPass> {
     /// `Busy` with the step, where another caller had the lock; nothing has changed. `Refused` where the machine
     /// refused the step.
     pub fn attempt(&self, pass: &mut Pass<M>, step: Step) -> Result<Answer, Declined>
-        requires { IsOf self.now pass.old }
+        requires { IsPassOfLock self.now pass.old }
         ensures same { IsSame pass.old pass.new }
         ensures knows { Knows M.legal pass.old pass.new }
         ensures accepted { IfOk result (Accepted M.accepts pass.old pass.new step) }

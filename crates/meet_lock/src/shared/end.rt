@@ -2,21 +2,21 @@
 
 ghost use Rattle.std.specs.Prelude.{◌≡◌, ◌+◌, IfSome, IsSome, Some, ℕ, slice_get, true, vec_len};
 ghost use Rattle.nvme_model.specs.Passes.{places};
-ghost use Rattle.meet_lock.specs.Lock.{GoesOn};
+ghost use Rattle.meet_lock.specs.Lock.{ExtendsByPasses};
 ghost use Rattle.meet_lock.specs.SeatSteps.{IsSameSeat, SawAll};
 
 use crate::owner::StepRight;
 use crate::pass::Pass;
 use crate::plays::Peek;
-use crate::shared::{Place, Shared};
+use crate::shared::{SeatPlace, Shared};
 use controller_steps::Machine;
 
 impl<M: Machine, K: StepRight> Shared<M, K> {
-    ghost use Rattle.meet_lock.specs.Passes.{IsOf, IsSeenWhole, config_of, mine, number, passes_of, seen};
+    ghost use Rattle.meet_lock.specs.Passes.{IsPassOfLock, IsSeenWhole, config_of, mine, number, passes_of, seen};
     ghost use Rattle.meet_lock.specs.declared.pass.Pass.{Pass};
 
     // What the seat that holds the lock was told doesn't go beyond what it holds.
-    fn peek(&self, seat: &mut Place<M>)
+    fn peek(&self, seat: &mut SeatPlace<M>)
         requires own { seat.old.table_id ≡ self.now.table.shared.table_id }
         requires holds { seat.old.me.0.holds ≡ true }
         ensures same { IsSameSeat seat.old seat.new × (seat.new.me ≡ seat.old.me) }
@@ -26,14 +26,14 @@ impl<M: Machine, K: StepRight> Shared<M, K> {
     }
 
     // The seat that holds the lock hears a pass, and the pass sees what it holds.
-    fn compare(&self, seat: &mut Place<M>, mut pass: Pass<M>)
-        requires own { (seat.old.table_id ≡ self.now.table.shared.table_id) × IsOf self.now pass }
+    fn compare(&self, seat: &mut SeatPlace<M>, mut pass: Pass<M>)
+        requires own { (seat.old.table_id ≡ self.now.table.shared.table_id) × IsPassOfLock self.now pass }
         requires holds { seat.old.me.0.holds ≡ true }
         ensures same { IsSameSeat seat.old seat.new × (seat.new.me.0.holds ≡ true)
             × (seat.new.me.0.held ≡ seat.old.me.0.held) × (seat.new.me.0.passes ≡ seat.old.me.0.passes)
             × (seat.new.me.0.config ≡ seat.old.me.0.config) }
         ensures config { config_of pass ≡ seat.old.me.0.config }
-        ensures saw { GoesOn seat.old.me.0.passes (seen pass) seat.old.me.0.held
+        ensures saw { ExtendsByPasses seat.old.me.0.passes (seen pass) seat.old.me.0.held
             × (places (number pass) seat.old.me.0.held ≡ mine pass) }
     {
         let from_pass = self.tell(&mut pass.seat);
@@ -50,7 +50,7 @@ impl<M: Machine, K: StepRight> Shared<M, K> {
     /// None where the lock wasn't free, and where no pass is given.
     pub fn close_all(self, passes: Vec<Pass<M>>) -> Option<M>
         requires all { (k : ℕ) (p : Pass M) → slice_get passes.items k ≡ Some p
-            → IsOf self p × (number p ≡ k + 1) × (passes_of p ≡ vec_len passes) }
+            → IsPassOfLock self p × (number p ≡ k + 1) × (passes_of p ≡ vec_len passes) }
         ensures config { IfSome result (λ m. (k : ℕ) (p : Pass M) → slice_get passes.items k ≡ Some p
             → M.config m ≡ config_of p) }
         ensures legal { IfSome result (λ m. M.legal (M.config m) (M.history m)) }

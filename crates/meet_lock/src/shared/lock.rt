@@ -4,19 +4,19 @@ ghost use Rattle.std.specs.Prelude.{◌≡◌, [], ◌∷◌, IfErr, IfOk, Match
 ghost use Rattle.nvme_model.specs.Passes.{entries};
 ghost use Rattle.nvme_model.specs.declared.entry.Entry.{Entry};
 ghost use Rattle.controller_steps.specs.declared.answer.Answer.{Answer};
-ghost use Rattle.meet_lock.specs.Lock.{grown, shown};
+ghost use Rattle.meet_lock.specs.Lock.{grown, view_given_back};
 ghost use Rattle.meet_lock.specs.MachineSteps.{Made, MadeNone};
 ghost use Rattle.meet_lock.specs.SeatSteps.{IsIdle, IsSameSeat, KnowsTicket, MayTell, Missed};
 ghost use Rattle.meet_lock.specs.SeatSteps.{Out, OutMore, OutSame, SawAll};
 
 use crate::owner::StepRight;
 use crate::plays::{Leave, Take, Write};
-use crate::shared::{Place, Shared};
+use crate::shared::{SeatPlace, Shared};
 use controller_steps::{Answer, Machine, Refused, Step};
 
 impl<M: Machine, K: StepRight> Shared<M, K> {
     // Takes the lock, and the machine out of its slot.
-    pub(crate) fn take(&self, seat: &mut Place<M>) -> Option<M>
+    pub(crate) fn take(&self, seat: &mut SeatPlace<M>) -> Option<M>
         requires own { seat.old.table_id ≡ self.now.table.shared.table_id }
         requires idle { IsIdle seat.old.me }
         ensures same { IsSameSeat seat.old seat.new }
@@ -33,7 +33,7 @@ impl<M: Machine, K: StepRight> Shared<M, K> {
     // Makes the step of the machine that the seat took out, and gives it back.
     pub(crate) fn step_out(
         &self,
-        seat: &mut Place<M>,
+        seat: &mut SeatPlace<M>,
         mut machine: M,
         step: Step,
     ) -> Result<Answer, Refused>
@@ -60,7 +60,7 @@ impl<M: Machine, K: StepRight> Shared<M, K> {
     }
 
     // Puts the machine, which has one entry more, back into its slot, and gives the lock back.
-    pub(crate) fn give_more(&self, seat: &mut Place<M>, machine: M)
+    pub(crate) fn give_more(&self, seat: &mut SeatPlace<M>, machine: M)
         requires own { seat.old.table_id ≡ self.now.table.shared.table_id }
         requires out { OutMore M.config M.history M.legal K.owned machine seat.old.me }
         ensures same { IsSameSeat seat.old seat.new }
@@ -75,11 +75,11 @@ impl<M: Machine, K: StepRight> Shared<M, K> {
     }
 
     // The same, where the history is as it was.
-    pub(crate) fn give_same(&self, seat: &mut Place<M>, machine: M)
+    pub(crate) fn give_same(&self, seat: &mut SeatPlace<M>, machine: M)
         requires own { seat.old.table_id ≡ self.now.table.shared.table_id }
         requires out { OutSame M.config M.history M.legal machine seat.old.me }
         ensures same { IsSameSeat seat.old seat.new }
-        ensures shown { seat.new.me ≡ (shown seat.old.me.0, []) }
+        ensures shown { seat.new.me ≡ (view_given_back seat.old.me.0, []) }
         ensures told { SawAll seat.old.me.0 }
         ensures whole { KnowsTicket seat.new.me.0 }
     {

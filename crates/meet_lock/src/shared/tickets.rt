@@ -11,7 +11,8 @@ use crate::shared::Shared;
 use controller_steps::{Answer, Machine, Step};
 
 impl<M: Machine> Shared<M, TicketOwner> {
-    ghost use Rattle.meet_lock.specs.Passes.{Declines, IsNotBusy, IsOf, IsSame, IsTicketOf, Knows, Opened, Saw, Worked};
+    ghost use Rattle.meet_lock.specs.Passes.{Declines, IsNotBusy, IsPassOfLock, IsSame, IsTicketOf, Knows, OpensTicket};
+    ghost use Rattle.meet_lock.specs.Passes.{Saw, Worked};
     ghost use Rattle.meet_lock.specs.Passes.{its, owned_ticket, passes_of, seen};
 
     /// Makes a step that names a queue. Its seat owns the ticket that the step made, if it made one.
@@ -24,11 +25,11 @@ impl<M: Machine> Shared<M, TicketOwner> {
         pass: &mut Pass<M>,
         step: Step,
     ) -> Result<(Answer, TicketSeat<M>), Declined>
-        requires own { IsOf self.now pass.old }
+        requires own { IsPassOfLock self.now pass.old }
         requires open { names_queue step ≡ true }
         ensures same { IsSame pass.old pass.new }
         ensures knows { Knows M.legal pass.old pass.new }
-        ensures accepted { IfOk result (λ r. Opened M.accepts self.now pass.old pass.new step r.0 r.1) }
+        ensures accepted { IfOk result (λ r. OpensTicket M.accepts self.now pass.old pass.new step r.0 r.1) }
         ensures declined { IfErr result (Declines M.refuses pass.old pass.new step) }
         ensures alone { passes_of pass.old ≡ 1 → IsNotBusy result }
     {
@@ -55,7 +56,7 @@ impl<M: Machine> Shared<M, TicketOwner> {
         owner: &mut TicketSeat<M>,
         step: Step,
     ) -> Result<Answer, Declined>
-        requires own { IsOf self.now pass.old × IsTicketOf self.now owner.old }
+        requires own { IsPassOfLock self.now pass.old × IsTicketOf self.now owner.old }
         requires task { (0 < owned_ticket owner.old) × (named_ticket step ≡ owned_ticket owner.old) }
         ensures same { IsSame pass.old pass.new × IsTicketOf self.now owner.new
             × (owned_ticket owner.new ≡ owned_ticket owner.old) }

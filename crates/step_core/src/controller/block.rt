@@ -4,9 +4,9 @@ ghost use Rattle.std.specs.Prelude.{◌≡◌, ◌≤◌, MatchResult, Some, if�
 ghost use Rattle.nvme_model.specs.Refusals.{refusal};
 ghost use Rattle.nvme_model.specs.declared.step.Step.{Step};
 ghost use Rattle.range_reserve.specs.Reserved.{held_beside};
-ghost use Rattle.step_core.specs.Found.{IsJob, IsNext};
+ghost use Rattle.step_core.specs.Found.{IsJob, IsNextStep};
 ghost use Rattle.controller_steps.specs.State.{Does};
-ghost use Rattle.step_core.specs.declared.controller.next.Next.{Next};
+ghost use Rattle.step_core.specs.declared.controller.next.ReadyStep.{ReadyStep};
 
 use crate::controller::Core;
 use crate::controller::room::take_room;
@@ -21,12 +21,12 @@ impl Core {
     pub(super) fn open_unit(&self, ticket: u64, job: &Job) -> Result<u64, Why>
         requires job { IsJob self.now.config self.now.past ticket job.now }
         ensures value { MatchResult result
-            (λ u. IsNext self.now.config self.now.past (Next.Block ticket u))
+            (λ u. IsNextStep self.now.config self.now.past (ReadyStep.Block ticket u))
             (λ why. refusal self.now.config self.now.past (Step.Block ticket) ≡ Some why) }
     {
-        let course = job.course();
-        match course.run() {
-            Some(_) => Ok(course.unit()),
+        let progress = job.progress();
+        match progress.run() {
+            Some(_) => Ok(progress.unit()),
             None => Err(Why::WrongState),
         }
     }
@@ -42,7 +42,7 @@ impl Core {
 
     // Makes the next block of this open unit.
     pub(super) fn make_block(&mut self, ticket: u64, unit: u64) -> Result<Answer, Why>
-        requires block { IsNext self.old.config self.old.past (Next.Block ticket unit) }
+        requires block { IsNextStep self.old.config self.old.past (ReadyStep.Block ticket unit) }
         ensures does { Does self.old (Step.Block ticket) result self.new }
     {
         take_room(&mut self.history, &mut self.promised)?;

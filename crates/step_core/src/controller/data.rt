@@ -2,12 +2,13 @@
 
 ghost use Rattle.std.specs.Prelude.{◌≡◌, ◌≤◌, ◌<◌, ◌*◌, IfOk, OnErr, Some, length, true};
 ghost use Rattle.block_array.specs.Blocks.{contents_of};
-ghost use Rattle.block_exec.specs.Bytes.{blocks_in};
+ghost use Rattle.block_exec.specs.Bytes.{first_blocks};
 ghost use Rattle.fused_match.specs.Judged.{operation_in};
 ghost use Rattle.nvme_model.specs.declared.operation.Op.{Op as Operation};
 ghost use Rattle.job_table.specs.Beginning.{HasBlocks, payload_at, read_first, write_first};
 ghost use Rattle.controller_steps.specs.State.{needs_data};
 
+use crate::spare_boxes::SpareBoxes;
 use block_array::BLOCK;
 use fused_match::Judged;
 use nvme_model::operation::Op;
@@ -23,13 +24,18 @@ pub(crate) struct DataRoom {
 }
 
 /// The room for the data of a ticket that was judged so, whose entries are at the front of this ring.
-pub(super) fn data_room(alloc: Global, ring: &SqRing, judged: &Judged) -> Result<DataRoom, NoMemory>
+pub(super) fn data_room(
+    alloc: Global,
+    spare: &mut SpareBoxes,
+    ring: &SqRing,
+    judged: &Judged,
+) -> Result<DataRoom, NoMemory>
     requires has { HasBlocks judged.now ring.now.waiting }
     ensures write { IfOk result (λ room. contents_of room.write.items ≡ write_first judged.now ring.now.waiting) }
     ensures read { IfOk result (λ room. room.read ≡ read_first judged.now) }
     ensures wants { OnErr result (needs_data (operation_in judged.now) ≡ true) }
 {
-    let write = write_boxes(alloc, ring, judged)?;
+    let write = write_boxes(alloc, spare, ring, judged)?;
     let read = read_buffer(alloc, judged)?;
     Ok(DataRoom { write, read })
 }
@@ -37,6 +43,7 @@ pub(super) fn data_room(alloc: Global, ring: &SqRing, judged: &Judged) -> Result
 // Boxes with what a Write or a pair will write; none for anything else.
 fn write_boxes(
     alloc: Global,
+    spare: &mut SpareBoxes,
     ring: &SqRing,
     judged: &Judged,
 ) -> Result<Vec<Box<[u8; 512]>>, NoMemory>
@@ -45,8 +52,8 @@ fn write_boxes(
     ensures wants { OnErr result (needs_data (operation_in judged.now) ≡ true) }
 {
     match judged {
-        Judged::Single(Op::Write, range) => boxed(alloc, range.blocks, payload_at(ring, 0)),
-        Judged::Pair(range) => boxed(alloc, range.blocks, payload_at(ring, 1)),
+        Judged::Single(Op::Write, range) => boxed(alloc, spare, range.blocks, payload_at(ring, 0)),
+        Judged::Pair(range) => boxed(alloc, spare, range.blocks, payload_at(ring, 1)),
         _ => Ok(Vec::new(alloc)),
     }
 }
@@ -63,16 +70,21 @@ fn payload_at(ring: &SqRing, place: usize) -> &[u8]
 }
 
 // The first blocks of these bytes, each in a box.
-fn boxed(alloc: Global, count: u32, payload: &[u8]) -> Result<Vec<Box<[u8; 512]>>, NoMemory>
+fn boxed(
+    alloc: Global,
+    spare: &mut SpareBoxes,
+    count: u32,
+    payload: &[u8],
+) -> Result<Vec<Box<[u8; 512]>>, NoMemory>
     requires enough { 512 * count ≤ length payload.now }
-    ensures value { IfOk result (λ boxes. contents_of boxes.items ≡ blocks_in count payload.now) }
+    ensures value { IfOk result (λ boxes. contents_of boxes.items ≡ first_blocks count payload.now) }
 {
     let mut boxes = Vec::with_capacity(alloc, count as usize)?;
     for place in 0..count {
         let start = BLOCK * place as usize;
-        let mut block = [0; BLOCK];
+        let mut block = spare.take(alloc)?;
         block.copy_from_slice(&payload[start..start + BLOCK]);
-        boxes.push(Box::new(alloc, block)?)?;
+        boxes.push(block)?;
     }
     Ok(boxes)
 }

@@ -8,17 +8,18 @@ ghost use Rattle.fused_match.specs.Judged.{NamesBlocks, cids_taken, operation_in
 ghost use Rattle.nvme_model.specs.Operations.{op_by};
 ghost use Rattle.nvme_model.specs.Refusals.{jobs_full, no_queue, refusal};
 ghost use Rattle.nvme_model.specs.Tickets.{cids_in_use, fetched_ticket};
-ghost use Rattle.nvme_model.specs.Verdict.{item_of, taken, verdict_of};
+ghost use Rattle.nvme_model.specs.Verdict.{item_of, taken_entries, verdict_of};
 ghost use Rattle.nvme_model.specs.declared.step.Step.{Step};
 ghost use Rattle.step_core.specs.Found.{IsFront, first_job, kind_in};
 ghost use Rattle.job_table.specs.Beginning.{read_first};
 ghost use Rattle.job_table.specs.Tickets.{compare_by, write_blocks};
 ghost use Rattle.controller_steps.specs.State.{Does, needs_data};
-ghost use Rattle.ticket_course.specs.Stages.{IsSound};
+ghost use Rattle.ticket_progress.specs.Stages.{IsSound};
 
 use crate::controller::Core;
 use crate::controller::data::{DataRoom, data_room};
 use crate::controller::room::keep_room;
+use crate::spare_boxes::SpareBoxes;
 use cids_in_use::CidsInUse;
 use controller_steps::{Answer, Kind, Work};
 use fused_match::{Item, Judged, judge};
@@ -29,14 +30,15 @@ use nvme_model::refusal::Why;
 use nvme_model::submission::{Payload, Submission};
 use rings::SqRing;
 use std::alloc::{AllocError as NoMemory, Global};
-use ticket_course::Cids;
+use std::mem;
+use ticket_progress::OwedCids;
 
 // What a Fetch finds of the entries at the front of a queue: what becomes of them, the CIDs of those that it takes, and
 // the first block that the first of them names.
 #[derive(Clone, Copy)]
 pub(crate) struct Front {
     judged: Judged,
-    cids: Cids,
+    cids: OwedCids,
     slba: u64,
 }
 
@@ -65,17 +67,17 @@ fn op_of(judged: &Judged) -> Option<Op>
 }
 
 // The CIDs of the commands that are taken.
-fn taken_cids(judged: &Judged, first: &Item, second: Option<&Item>) -> Cids
+fn taken_cids(judged: &Judged, first: &Item, second: Option<&Item>) -> OwedCids
     ensures value { result ≡ cids_taken judged.now first.now (option_copied second.entry) }
 {
     match second {
-        Some(second) if judged.taken() == 2 => Cids::two(first.sqe().cid, second.sqe().cid),
-        _ => Cids::one(first.sqe().cid),
+        Some(second) if judged.taken() == 2 => OwedCids::two(first.sqe().cid, second.sqe().cid),
+        _ => OwedCids::one(first.sqe().cid),
     }
 }
 
 // Puts the CIDs of a ticket in use.
-fn put_in_use(used: &mut CidsInUse, cids: Cids)
+fn put_in_use(used: &mut CidsInUse, cids: OwedCids)
     requires room { length used.old.cids + length cids ≤ used.old.room }
     ensures more { used.new ≡ record used.old { cids = used.old.cids ++ cids } }
 {
@@ -103,7 +105,7 @@ fn compare_of(alloc: Global, op: Option<Op>, first: Submission) -> Payload
 
 // The job of a ticket that was just fetched, with the room that was made for its data.
 fn new_job(alloc: Global, queue: u16, front: Front, first: Submission, room: DataRoom) -> Job
-    requires cids { length front.cids ≡ taken (verdict_by front.judged) }
+    requires cids { length front.cids ≡ taken_entries (verdict_by front.judged) }
     requires sound { IsSound front.judged }
     ensures value { result ≡ first_job queue front first (contents_of room.write.items) room.read }
 {
@@ -174,7 +176,12 @@ impl Core {
     }
 
     // The room for the data of the ticket that a Fetch of this queue makes, where it finds this.
-    fn fetch_room(&self, queue: u16, front: &Front) -> Result<DataRoom, NoMemory>
+    fn fetch_room(
+        &self,
+        spare: &mut SpareBoxes,
+        queue: u16,
+        front: &Front,
+    ) -> Result<DataRoom, NoMemory>
         requires fetched { (refusal self.now.config self.now.past (Step.Fetch queue) ≡ None)
             × IsFront self.now.config self.now.past queue front.now }
         ensures write { IfOk result (λ room. contents_of room.write.items
@@ -185,7 +192,23 @@ impl Core {
         let Some(ring) = self.sq_ring(queue) else {
             unreachable!();
         };
-        data_room(self.alloc, ring, &front.judged)
+        data_room(self.alloc, spare, ring, &front.judged)
+    }
+
+    // The same, in boxes that were kept as far as there are some.
+    fn take_room(&mut self, queue: u16, front: &Front) -> Result<DataRoom, NoMemory>
+        requires fetched { (refusal self.old.config self.old.past (Step.Fetch queue) ≡ None)
+            × IsFront self.old.config self.old.past queue front.now }
+        ensures same { self.new ≡ self.old }
+        ensures write { IfOk result (λ room. contents_of room.write.items
+            ≡ write_blocks (fetched_ticket self.old.past queue (verdict_by front.now.judged))) }
+        ensures read { IfOk result (λ room. room.read ≡ read_first front.now.judged) }
+        ensures wants { OnErr result (needs_data (operation_in front.now.judged) ≡ true) }
+    {
+        let mut spare = mem::replace(&mut self.spare, SpareBoxes::none(self.alloc));
+        let room = self.fetch_room(&mut spare, queue, front);
+        self.spare = spare;
+        room
     }
 
     /// Takes the next command, or the next fused pair, of a submission queue.
@@ -193,7 +216,7 @@ impl Core {
         ensures does { Does self.old (Step.Fetch queue) result self.new }
     {
         let front = self.fetch_front(queue)?;
-        let Ok(room) = self.fetch_room(queue, &front) else {
+        let Ok(room) = self.take_room(queue, &front) else {
             return Err(Why::NoMemory);
         };
         keep_room(&mut self.history, self.promised)?;

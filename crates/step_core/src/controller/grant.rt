@@ -3,9 +3,9 @@
 ghost use Rattle.std.specs.Prelude.{◌≡◌, MatchResult, Some};
 ghost use Rattle.nvme_model.specs.Refusals.{refusal};
 ghost use Rattle.nvme_model.specs.declared.step.Step.{Step};
-ghost use Rattle.step_core.specs.Found.{IsJob, IsNext};
+ghost use Rattle.step_core.specs.Found.{IsJob, IsNextStep};
 ghost use Rattle.controller_steps.specs.State.{Does};
-ghost use Rattle.step_core.specs.declared.controller.next.Next.{Next};
+ghost use Rattle.step_core.specs.declared.controller.next.ReadyStep.{ReadyStep};
 
 use crate::controller::Core;
 use crate::controller::room::take_both;
@@ -19,20 +19,20 @@ impl Core {
     pub(super) fn grant_line(&self, ticket: u64, job: &Job) -> Result<GrantLine, Why>
         requires job { IsJob self.now.config self.now.past ticket job.now }
         ensures value { MatchResult result
-            (λ g. (g.ticket ≡ ticket) × IsNext self.now.config self.now.past (Next.Grant g))
+            (λ g. (g.ticket ≡ ticket) × IsNextStep self.now.config self.now.past (ReadyStep.Grant g))
             (λ why. refusal self.now.config self.now.past (Step.Grant ticket) ≡ Some why) }
     {
-        let course = job.course();
-        let Some(range) = course.next_unit(self.config.units()) else {
+        let progress = job.progress();
+        let Some(range) = progress.next_unit(self.config.units()) else {
             return Err(Why::WrongState);
         };
-        let mode = course.mode();
+        let mode = progress.mode();
         if self.ranges.conflicts(range, mode) {
             return Err(Why::Conflict);
         }
         Ok(GrantLine {
             ticket,
-            unit: course.unit(),
+            unit: progress.unit(),
             range: UnitRange::new(range.slba, range.blocks as u16),
             mode,
         })
@@ -49,7 +49,7 @@ impl Core {
 
     // Begins the unit of this line.
     pub(super) fn make_grant(&mut self, line: GrantLine) -> Result<Answer, Why>
-        requires line { IsNext self.old.config self.old.past (Next.Grant line) }
+        requires line { IsNextStep self.old.config self.old.past (ReadyStep.Grant line) }
         ensures does { Does self.old (Step.Grant line.ticket) result self.new }
     {
         let ticket = line.ticket;

@@ -2,13 +2,13 @@
 
 ghost use Rattle.std.specs.Prelude.{◌≡◌, IfNone, IfSome, MatchOption, option_map, slice_get, true, ℕ};
 ghost use Rattle.std.specs.Option.{option_and_then};
-ghost use Rattle.nvme_model.specs.Kept.{Kept};
+ghost use Rattle.nvme_model.specs.Kept.{ControllerInvariant};
 ghost use Rattle.nvme_model.specs.Legal.{IsLegal};
 ghost use Rattle.nvme_model.specs.Laws.{OwesToFull};
 ghost use Rattle.nvme_model.specs.Steps.{ready};
 ghost use Rattle.nvme_model.specs.Tickets.{in_flight};
 ghost use Rattle.ticket_laws.specs.Standing.{flying};
-ghost use Rattle.step_core.specs.Found.{IsJob, IsNext, next_step, step_of};
+ghost use Rattle.step_core.specs.Found.{IsJob, IsNextStep, next_step, ready_step_of};
 ghost use Rattle.nvme_model.specs.OneAtATime.{IsOneAtATime};
 ghost use Rattle.controller_steps.specs.State.{Serves};
 
@@ -21,22 +21,22 @@ use nvme_model::step::Step;
 
 // A step of a ticket that is ready, with what was found of it.
 #[derive(Clone, Copy)]
-pub(crate) enum Next {
+pub(crate) enum ReadyStep {
     Grant(GrantLine),
     // The next block of this unit.
     Block { ticket: u64, unit: u64 },
     Post(Due),
 }
 
-impl Next {
+impl ReadyStep {
     // The step.
     fn step(&self) -> Step
-        ensures value { result ≡ step_of self.now }
+        ensures value { result ≡ ready_step_of self.now }
     {
         match self {
-            Next::Grant(line) => Step::Grant(line.ticket),
-            Next::Block { ticket, .. } => Step::Block(*ticket),
-            Next::Post(due) => Step::Post(due.ticket),
+            ReadyStep::Grant(line) => Step::Grant(line.ticket),
+            ReadyStep::Block { ticket, .. } => Step::Block(*ticket),
+            ReadyStep::Post(due) => Step::Post(due.ticket),
         }
     }
 }
@@ -72,10 +72,10 @@ impl Core {
     }
 
     // What the least ticket that can go on does next.
-    fn next(&self) -> Option<Next>
-        ensures step { option_map step_of result ≡ ready self.now.config self.now.past }
-        ensures found { IfSome result (λ n. IsNext self.now.config self.now.past n) }
-        ensures kept { Kept self.now.config self.now.past }
+    fn next(&self) -> Option<ReadyStep>
+        ensures step { option_map ready_step_of result ≡ ready self.now.config self.now.past }
+        ensures found { IfSome result (λ n. IsNextStep self.now.config self.now.past n) }
+        ensures kept { ControllerInvariant self.now.config self.now.past }
     {
         for place in 0..self.jobs.len() {
             if let Some(next) = self.next_at(place) {
@@ -86,42 +86,42 @@ impl Core {
     }
 
     // What the ticket in flight with `place` lower ones in flight does next.
-    fn next_at(&self, place: usize) -> Option<Next>
-        ensures step { option_map step_of result
+    fn next_at(&self, place: usize) -> Option<ReadyStep>
+        ensures step { option_map ready_step_of result
             ≡ option_and_then (next_step self.now.config self.now.past) (slice_get (flying self.now.past) place) }
-        ensures found { IfSome result (λ n. IsNext self.now.config self.now.past n) }
+        ensures found { IfSome result (λ n. IsNextStep self.now.config self.now.past n) }
     {
         let (ticket, job) = self.jobs.nth(place)?;
         self.next_of(ticket, job)
     }
 
     // What this ticket does next.
-    fn next_of(&self, ticket: u64, job: &Job) -> Option<Next>
+    fn next_of(&self, ticket: u64, job: &Job) -> Option<ReadyStep>
         requires job { IsJob self.now.config self.now.past ticket job.now }
-        ensures step { option_map step_of result ≡ next_step self.now.config self.now.past ticket }
-        ensures found { IfSome result (λ n. IsNext self.now.config self.now.past n) }
+        ensures step { option_map ready_step_of result ≡ next_step self.now.config self.now.past ticket }
+        ensures found { IfSome result (λ n. IsNextStep self.now.config self.now.past n) }
     {
         if let Ok(line) = self.grant_line(ticket, job) {
-            return Some(Next::Grant(line));
+            return Some(ReadyStep::Grant(line));
         }
         if let Ok(unit) = self.open_unit(ticket, job) {
-            return Some(Next::Block { ticket, unit });
+            return Some(ReadyStep::Block { ticket, unit });
         }
         match self.post_due(ticket, job) {
-            Ok(due) => Some(Next::Post(due)),
+            Ok(due) => Some(ReadyStep::Post(due)),
             Err(_) => None,
         }
     }
 
     // Makes it.
-    fn make(&mut self, next: Next) -> Result<Answer, Refused>
-        requires next { IsNext self.old.config self.old.past next }
-        ensures serves { Serves self.old (step_of next) result self.new }
+    fn make(&mut self, next: ReadyStep) -> Result<Answer, Refused>
+        requires next { IsNextStep self.old.config self.old.past next }
+        ensures serves { Serves self.old (ready_step_of next) result self.new }
     {
         let done = match next {
-            Next::Grant(line) => self.make_grant(line),
-            Next::Block { ticket, unit } => self.make_block(ticket, unit),
-            Next::Post(due) => self.make_post(due),
+            ReadyStep::Grant(line) => self.make_grant(line),
+            ReadyStep::Block { ticket, unit } => self.make_block(ticket, unit),
+            ReadyStep::Post(due) => self.make_post(due),
         };
         done.map_err(Refused::Step)
     }

@@ -1,17 +1,18 @@
 //! Post: a ticket's next completion goes into its completion queue.
 
 ghost use Rattle.std.specs.Prelude.{◌≡◌, ◌<◌, [], MatchResult, Some, false, if◌then◌else◌, length, true};
-ghost use Rattle.job_table.specs.Jobs.{has_ticket, job_of, jobs_beside, replaced};
+ghost use Rattle.job_table.specs.Jobs.{has_job_of, job_of, jobs_beside, replaced};
 ghost use Rattle.job_table.specs.Keeping.{Keeping, posted_job};
 ghost use Rattle.nvme_model.specs.Refusals.{refusal};
 ghost use Rattle.nvme_model.specs.declared.step.Step.{Step};
-ghost use Rattle.step_core.specs.Found.{IsJob, IsNext};
+ghost use Rattle.step_core.specs.Found.{IsJob, IsNextStep};
 ghost use Rattle.controller_steps.specs.State.{Does};
-ghost use Rattle.step_core.specs.declared.controller.next.Next.{Next};
-ghost use Rattle.ticket_course.specs.Stages.{owed_in};
+ghost use Rattle.step_core.specs.declared.controller.next.ReadyStep.{ReadyStep};
+ghost use Rattle.ticket_progress.specs.Stages.{owed_in};
 
 use crate::controller::Core;
 use crate::controller::room::keep_room;
+use crate::spare_boxes::SpareBoxes;
 use completions::cqe_of;
 use controller_steps::Answer;
 use entry_codec::encode_cqe;
@@ -42,12 +43,12 @@ impl Core {
     pub(super) fn post_due(&self, ticket: u64, job: &Job) -> Result<Due, Why>
         requires job { IsJob self.now.config self.now.past ticket job.now }
         ensures value { MatchResult result
-            (λ d. (d.ticket ≡ ticket) × IsNext self.now.config self.now.past (Next.Post d))
+            (λ d. (d.ticket ≡ ticket) × IsNextStep self.now.config self.now.past (ReadyStep.Post d))
             (λ why. refusal self.now.config self.now.past (Step.Post ticket) ≡ Some why) }
     {
         let cqs = self.config.numbers().cqs;
-        let course = job.course();
-        let Some((status, cid)) = course.due() else {
+        let progress = job.progress();
+        let Some((status, cid)) = progress.due() else {
             return Err(Why::WrongState);
         };
         let queue = job.queue();
@@ -65,7 +66,7 @@ impl Core {
             queue: place + 1,
             cqe,
             bytes: job.read().len(),
-            last: course.cids().len() == 1,
+            last: progress.cids().len() == 1,
         })
     }
 
@@ -80,7 +81,7 @@ impl Core {
 
     // Posts this completion.
     pub(super) fn make_post(&mut self, due: Due) -> Result<Answer, Why>
-        requires due { IsNext self.old.config self.old.past (Next.Post due) }
+        requires due { IsNextStep self.old.config self.old.past (ReadyStep.Post due) }
         ensures does { Does self.old (Step.Post due.ticket) result self.new }
     {
         let Due { ticket, cqe, .. } = due;
@@ -88,7 +89,7 @@ impl Core {
             return Err(Why::NoMemory);
         };
         keep_room(&mut self.history, self.promised)?;
-        let payload = take_due(self.alloc, &mut self.jobs, due);
+        let payload = take_due(self.alloc, &mut self.jobs, &mut self.spare, due);
         self.in_use[due.from as usize - 1].remove(due.cid);
         copy.extend_from_slice(payload.as_slice()).unwrap();
         self.completion[due.queue as usize - 1]
@@ -105,9 +106,9 @@ impl Core {
 
 // Takes the completion that is due off what its ticket owes, and the ticket out of flight with its last one, and gives
 // the data that goes with it.
-fn take_due(alloc: Global, jobs: &mut Jobs, due: Due) -> Payload
-    requires flies { has_ticket jobs.old.jobs due.ticket ≡ true }
-    requires owes { (j : Keeping) → job_of jobs.old.jobs due.ticket ≡ Some j → 0 < length (owed_in j.course.stage) }
+fn take_due(alloc: Global, jobs: &mut Jobs, spare: &mut SpareBoxes, due: Due) -> Payload
+    requires flies { has_job_of jobs.old.jobs due.ticket ≡ true }
+    requires owes { (j : Keeping) → job_of jobs.old.jobs due.ticket ≡ Some j → 0 < length (owed_in j.progress.stage) }
     ensures limit { jobs.new.limit ≡ jobs.old.limit }
     ensures last { due.last ≡ true → jobs.new.jobs ≡ jobs_beside jobs.old.jobs due.ticket }
     ensures more { due.last ≡ false → (j : Keeping) → job_of jobs.old.jobs due.ticket ≡ Some j →
@@ -116,7 +117,9 @@ fn take_due(alloc: Global, jobs: &mut Jobs, due: Due) -> Payload
         result ≡ (if due.last then j.read else []) }
 {
     if due.last {
-        return jobs.remove(due.ticket).unwrap().into_read();
+        let (read, boxes) = jobs.remove(due.ticket).unwrap().into_parts();
+        spare.keep(boxes);
+        return read;
     }
     jobs.get_mut(due.ticket).unwrap().post();
     Payload::new(Vec::new(alloc))

@@ -1,7 +1,7 @@
 use Rattle.std.proofs.Common.{List, None, Option, [], ℕ}
 use Rattle.std.proofs.lemmas.Result.{err_from_is_err_and}
 use Rattle.casdisk_script.specs.Files.{entry_added}
-use Rattle.casdisk_script.specs.Script.{outcome}
+use Rattle.casdisk_script.specs.Script.{script_outcome}
 use Rattle.casdisk_script.proofs.Answering.{unread}
 use Rattle.casdisk_script.proofs.Faults.{same_in_memory}
 use Rattle.casdisk_script.proofs.Followed.{first_unfollowed, followed_to, lines_unfollowed}
@@ -21,7 +21,7 @@ returns-in-Ok-follow_lines-clause-followed g c =
     let none : Option (List ℕ) = None in
     let begun = c.in_ok-config.ensures.begun (λ c'. entry_added) none none tt in
     followed_to c.in_ok-config.config c.follow_lines.new.judge.bad.place _ _ c.in_ok-config.ensures.config
-    (c.in-Ok-follow_lines.ensures.follows (outcome (λ c'. entry_added)) c.in_ok-config.config [] _ begun
+    (c.in-Ok-follow_lines.ensures.follows (script_outcome (λ c'. entry_added)) c.in_ok-config.config [] _ begun
     c.in-Ok-new.ensures.begun c.in-Ok-new.ensures.none)
 
 pub returns-clause-unfollowed : goal.returns-clause-unfollowed
@@ -30,5 +30,6 @@ returns-clause-unfollowed g c =
     let begun = c.in_ok-config.ensures.begun (λ c'. entry_added) none none tt in
     lines_unfollowed c.in_ok-config.config c.follow_lines.new.judge.bad.place _ _ c.in_ok-config.ensures.config
     c.in-Err.fault
-    (c.in-Err.ensures.follows (outcome (λ c'. entry_added)) c.in_ok-config.config [] _ begun c.in-Ok-new.ensures.begun
+    (c.in-Err.ensures.follows
+    (script_outcome (λ c'. entry_added)) c.in_ok-config.config [] _ begun c.in-Ok-new.ensures.begun
     c.in-Ok-new.ensures.none)

@@ -2,7 +2,7 @@ use Rattle.std.proofs.Common.{[], Err, List, None, Ok, Option, Some, ℕ, ◌≡
 use mathlib.Core.List.{reverse}
 use Rattle.std.proofs.lemmas.Result.{err_from_is_err_and}
 use Rattle.casdisk_script.specs.Files.{entry_added}
-use Rattle.casdisk_script.specs.Script.{outcome}
+use Rattle.casdisk_script.specs.Script.{script_outcome}
 use Rattle.casdisk_script.proofs.Answering.{unread}
 use Rattle.casdisk_script.proofs.Faults.{same_in_memory}
 use Rattle.casdisk_script.proofs.Reaching.{makes_after, runs_after}
@@ -25,8 +25,9 @@ returns-in-Ok-run_lines-clause-whole g c =
     let begun = c.in_ok-config.ensures.begun (λ c'. entry_added) None none tt in
     let ran = c.in-Ok-run_lines.ensures.runs c.in_ok-config.config [] start in
     let made = c.in-Ok-run_lines.ensures.makes c.in_ok-config.config [] start in
-    let all = runs_after (outcome (λ c'. entry_added)) entry_added [] 2 _ _ _ None none some _ (Ok tt) begun ran in
-    let makes = makes_after (outcome (λ c'. entry_added)) entry_added [] 2 _ _ None none _ (Ok tt)
+    let all = runs_after (script_outcome (λ c'. entry_added)) entry_added [] 2 _ _ _ None none some _
+    (Ok tt) begun ran in
+    let makes = makes_after (script_outcome (λ c'. entry_added)) entry_added [] 2 _ _ None none _ (Ok tt)
     (λ past. c.run_lines.new.actor.entries.items ≡ reverse past) begun made in
     whole_history c.in_ok-config.config c.run_lines.new.actor.entries.items _ _ None some all makes
     c.in_ok-config.ensures.config
@@ -38,6 +39,7 @@ returns-clause-unread g c =
     let start : c.new-2.result.items ≡ [] = c.new-2.ensures.items in
     let begun = c.in_ok-config.ensures.begun (λ c'. entry_added) None none tt in
     let ran = c.in-Err.ensures.runs c.in_ok-config.config [] start in
-    let all = runs_after (outcome (λ c'. entry_added)) entry_added [] 2 _ _ _ None none some _ (Err c.in-Err.fault)
+    let all = runs_after (script_outcome (λ c'. entry_added)) entry_added [] 2 _ _ _ None none some _
+    (Err c.in-Err.fault)
     begun ran in
     rw c.in_memory.ensures.value (unread c.in-Err.fault _ _ None some all)

@@ -2,7 +2,7 @@ use Rattle.std.proofs.Common.{[], Err, List, None, Ok, Option, Some, eqb, not, �
 use Rattle.std.proofs.lemmas.Result.{err_from_is_err_and}
 use Rattle.casdisk_script.specs.Files.{entry_added}
 use Rattle.casdisk_script.specs.Judged.{HasJudged}
-use Rattle.casdisk_script.specs.Script.{outcome}
+use Rattle.casdisk_script.specs.Script.{script_outcome}
 use Rattle.casdisk_script.proofs.Answering.{unread, whole}
 use Rattle.casdisk_script.proofs.Faults.{same_in_memory}
 use Rattle.casdisk_script.proofs.Reaching.{makes_after, runs_after}
@@ -24,9 +24,10 @@ returns-in-Ok-run_lines-clause-whole g c =
     let begun = c.in_ok-config.ensures.begun (λ c'. entry_added) None none tt in
     let ran = c.in-Ok-run_lines.ensures.runs c.in_ok-config.config [] c.in-Ok-new.ensures.begun in
     let made = c.in-Ok-run_lines.ensures.makes c.in_ok-config.config [] c.in-Ok-new.ensures.begun in
-    let all = runs_after (outcome (λ c'. entry_added)) entry_added [] 2 _ _ _ None none some _ (Ok tt) begun ran in
+    let all = runs_after (script_outcome (λ c'. entry_added)) entry_added [] 2 _ _ _ None none some _
+    (Ok tt) begun ran in
     let judge = c.run_lines.new.actor in
-    let makes = makes_after (outcome (λ c'. entry_added)) entry_added [] 2 _ _ None none _ (Ok tt)
+    let makes = makes_after (script_outcome (λ c'. entry_added)) entry_added [] 2 _ _ None none _ (Ok tt)
     (λ past. HasJudged why c.in_ok-config.config past judge.checker judge.count judge.bad) begun made in
     whole why c.in_ok-config.config judge.checker judge.count judge.bad _ _ None some all makes
     c.in_ok-config.ensures.config
@@ -37,6 +38,7 @@ returns-clause-unread g c =
     let some = Some c.run_lines.new.writer.items in
     let begun = c.in_ok-config.ensures.begun (λ c'. entry_added) None none tt in
     let ran = c.in-Err.ensures.runs c.in_ok-config.config [] c.in-Ok-new.ensures.begun in
-    let all = runs_after (outcome (λ c'. entry_added)) entry_added [] 2 _ _ _ None none some _ (Err c.in-Err.fault)
+    let all = runs_after (script_outcome (λ c'. entry_added)) entry_added [] 2 _ _ _ None none some _
+    (Err c.in-Err.fault)
     begun ran in
     rw c.in_memory.ensures.value (unread c.in-Err.fault _ _ None some all)

@@ -7,10 +7,14 @@ use Rattle.casdisk_script.specs.Running.{Reaches}
 use Rattle.casdisk_script.proofs.running.run_lines.Given as goal
 
 abbrev pub invariant-loop-number : goal.invariant-loop-number
-invariant-loop-number g l = (k : ConfigNumbers) (past : Past) → g.M.LineMeaning.stands l.initial.actor k past
-    → (g.M.LineMeaning.meaning l.actor ≡ g.M.LineMeaning.meaning l.initial.actor)
-    × Reaches (g.M.LineMeaning.stands l.actor k)
-    (lines_from (g.M.LineMeaning.meaning l.initial.actor) past 2 l.initial.lines)
-    (g.M.LineMeaning.meaning l.initial.actor) l.number
-    (g.R.Read.remaining l.initial.reader) (g.R.Read.remaining l.reader) (g.W.Write.contents l.initial.writer)
-    (g.W.Write.contents l.writer) l.lines
+invariant-loop-number g l =
+    record {
+      fixed : g.M.LineMeaning.fixed l.actor ≡ g.M.LineMeaning.fixed l.initial.actor;
+      done : (k : ConfigNumbers) (past : Past) → g.M.LineMeaning.stands l.initial.actor k past
+          → (g.M.LineMeaning.meaning l.actor ≡ g.M.LineMeaning.meaning l.initial.actor)
+          × Reaches (g.M.LineMeaning.stands l.actor k)
+          (lines_from (g.M.LineMeaning.meaning l.initial.actor) past 2 l.initial.lines)
+          (g.M.LineMeaning.meaning l.initial.actor) l.number
+          (g.R.Read.remaining l.initial.reader) (g.R.Read.remaining l.reader) (g.W.Write.contents l.initial.writer)
+          (g.W.Write.contents l.writer) l.lines;
+    }

@@ -1,7 +1,7 @@
 use Rattle.std.proofs.Common.{[], Err, List, None, Ok, Option, Some, map, ℕ, ◌≡◌}
 use mathlib.Core.List.{reverse}
 use Rattle.std.proofs.lemmas.Result.{err_from_is_err_and}
-use Rattle.casdisk_script.specs.Script.{outcome}
+use Rattle.casdisk_script.specs.Script.{script_outcome}
 use Rattle.casdisk_script.specs.Traces.{seen_kept, thing_of}
 use Rattle.casdisk_script.proofs.Collected.{trace_unread, whole_trace}
 use Rattle.casdisk_script.proofs.Faults.{same_in_memory}
@@ -24,8 +24,8 @@ returns-in-Ok-run_lines-clause-whole g c =
     let begun = c.in_ok-config.ensures.begun (λ c'. seen_kept) None none tt in
     let ran = c.in-Ok-run_lines.ensures.runs c.in_ok-config.config [] start in
     let made = c.in-Ok-run_lines.ensures.makes c.in_ok-config.config [] start in
-    let all = runs_after (outcome (λ c'. seen_kept)) seen_kept [] 2 _ _ _ None none some _ (Ok tt) begun ran in
-    let makes = makes_after (outcome (λ c'. seen_kept)) seen_kept [] 2 _ _ None none _ (Ok tt)
+    let all = runs_after (script_outcome (λ c'. seen_kept)) seen_kept [] 2 _ _ _ None none some _ (Ok tt) begun ran in
+    let makes = makes_after (script_outcome (λ c'. seen_kept)) seen_kept [] 2 _ _ None none _ (Ok tt)
     (λ past. c.run_lines.new.actor.things.items ≡ reverse (map thing_of past)) begun made in
     whole_trace c.in_ok-config.config c.run_lines.new.actor.things.items _ _ None some all makes
     c.in_ok-config.ensures.config
@@ -37,6 +37,6 @@ returns-clause-unread g c =
     let start : c.new-2.result.items ≡ [] = c.new-2.ensures.items in
     let begun = c.in_ok-config.ensures.begun (λ c'. seen_kept) None none tt in
     let ran = c.in-Err.ensures.runs c.in_ok-config.config [] start in
-    let all = runs_after (outcome (λ c'. seen_kept)) seen_kept [] 2 _ _ _ None none some _ (Err c.in-Err.fault)
+    let all = runs_after (script_outcome (λ c'. seen_kept)) seen_kept [] 2 _ _ _ None none some _ (Err c.in-Err.fault)
     begun ran in
     rw c.in_memory.ensures.value (trace_unread c.in-Err.fault _ _ None some all)

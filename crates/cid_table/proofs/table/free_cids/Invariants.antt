@@ -1,5 +1,5 @@
 use Rattle.std.proofs.Common.{replicate, vec_capacity, ◌≡◌}
-use Rattle.cid_table.specs.declared.held.Held.TheVariants.{Free}
+use Rattle.cid_table.specs.declared.held.CidUse.TheVariants.{Free}
 use Rattle.cid_table.proofs.table.free_cids.Given as goal
 
 -- so many free CIDs, and room for the rest

@@ -5,9 +5,9 @@ use Rattle.driver_calls.specs.Events.{events}
 use Rattle.driver_calls.specs.Log.{is_tidy}
 use Rattle.driver_cas.specs.Drivers.{area_of, host_of, serial_of}
 use Rattle.meet_lock.specs.Passes.{config_of, number, seen}
-use Rattle.slot_calls.specs.Careful.{is_careful}
+use Rattle.slot_calls.specs.SlotRules.{keeps_slot_rules}
 use Rattle.slot_hosts.specs.Rosters.{keeps_to}
-use Rattle.slot_hosts.proofs.Hosts.{PortIn, met_careful, met_own, met_tidy}
+use Rattle.slot_hosts.proofs.Hosts.{PortIn, met_slot_rules, met_own, met_tidy}
 use Rattle.closing_laws.proofs.closing.what_a_hosts_pass_did.Goals as goal
 
 pub returns : goal.returns
@@ -20,7 +20,7 @@ returns c = λ config slots pass queue host x.
       first = x.first;
       counted = d.sole;
       tidy = d.tidy;
-      careful = x.careful;
+      slot_rules = x.slot_rules;
       begins = ([], refl);
       whole = refl;
     } in
@@ -33,8 +33,8 @@ returns c = λ config slots pass queue host x.
           (met_own (area_of d) (host_of d) (serial_of d) d.began.value d.port s a);
       tidy = subst (λ (z : ConfigNumbers × ℕ). is_tidy (events z.0 z.1 n s) ≡ true) (λ i. (ec i, eq i))
           (met_tidy (area_of d) (host_of d) (serial_of d) d.began.value d.port s a);
-      careful = subst (λ (z : ConfigNumbers × ℕ × Range × ℕ).
-          is_careful z.2 z.3 (serial_of d) (events z.0 z.1 n s) ≡ true)
+      slot_rules = subst (λ (z : ConfigNumbers × ℕ × Range × ℕ).
+          keeps_slot_rules z.2 z.3 (serial_of d) (events z.0 z.1 n s) ≡ true)
           (λ i. (ec i, eq i, x.area i, x.host_is i))
-          (met_careful (area_of d) (host_of d) (serial_of d) d.began.value d.port s a);
+          (met_slot_rules (area_of d) (host_of d) (serial_of d) d.began.value d.port s a);
     }

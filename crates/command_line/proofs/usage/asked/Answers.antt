@@ -4,7 +4,7 @@ use Rattle.std.proofs.lemmas.Result.{IfErr-weaker, IfOk-weaker}
 use Rattle.clap.specs.Words.{App, Text, found_of, is_simple, rows_of, subcommand_of, takes}
 use Rattle.clap.specs.declared.error.kind.ErrorKind.{ErrorKind}
 use Rattle.command_line.specs.Asking.{AreRefused, Asks}
-use Rattle.command_line.specs.CommandLine.{command_in, is_taken}
+use Rattle.command_line.specs.CommandLine.{subcommand_in, is_taken}
 use Rattle.command_line.specs.declared.request.Asked.{Asked}
 use Rattle.command_line.specs.declared.request.UsageFault.{UsageFault}
 use Rattle.command_line.proofs.Parsed.{both_parts, by_command, casdisk_is_simple, named}
@@ -22,7 +22,7 @@ returns-in-Some-clause-asks c =
     let parts = (c.in-Ok.ensures.matches (ap is_simple app_is ∙ casdisk_is_simple)).1
     ∙ ap (λ (a : App). subcommand_of a words) app_is in
     let both = both_parts _ _ _ c.in-Some.name.now rows (sym c.in-Some.ensures.name) (sym c.in-Some.ensures.rows) in
-    let entered : command_in words ≡ Some (c.in-Some.name.now, rows) =
+    let entered : subcommand_in words ≡ Some (c.in-Some.name.now, rows) =
     named words c.in-Some.name.now rows (sym parts ∙ both) in
     IfOk-weaker c.command_asked.result _ _ (λ a h. by_command words c.in-Some.name.now rows entered a h)
     c.command_asked.ensures.asks
@@ -35,7 +35,7 @@ returns-in-Some-clause-refuses c =
     let parts = (c.in-Ok.ensures.matches (ap is_simple app_is ∙ casdisk_is_simple)).1
     ∙ ap (λ (a : App). subcommand_of a words) app_is in
     let both = both_parts _ _ _ c.in-Some.name.now rows (sym c.in-Some.ensures.name) (sym c.in-Some.ensures.rows) in
-    let entered : command_in words ≡ Some (c.in-Some.name.now, rows) =
+    let entered : subcommand_in words ≡ Some (c.in-Some.name.now, rows) =
     named words c.in-Some.name.now rows (sym parts ∙ both) in
     IfErr-weaker c.command_asked.result _ _ (λ f h. by_options words c.in-Some.name.now rows entered f h)
     c.command_asked.ensures.refuses

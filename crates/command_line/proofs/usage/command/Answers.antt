@@ -13,5 +13,6 @@ returns c =
     let three = below_adds c.explain_command.result _ _ _ _ two c.explain_command.ensures c.in_ok-command-3.ensures in
     let four = below_adds c.race_command.result _ _ _ _ three c.race_command.ensures c.in_ok-command-4.ensures in
     let five = below_adds c.certify_command.result _ _ _ _ four c.certify_command.ensures c.in_ok-command-5.ensures in
-    IfOk-weaker c.with_command-6.result _ _
-    (λ m h. below_adds c.tell_command.result _ _ _ _ five c.tell_command.ensures h) c.with_command-6.ensures
+    let six = below_adds c.observe_command.result _ _ _ _ five c.observe_command.ensures c.in_ok-command-6.ensures in
+    IfOk-weaker c.with_command-7.result _ _
+    (λ m h. below_adds c.tell_command.result _ _ _ _ six c.tell_command.ensures h) c.with_command-7.ensures

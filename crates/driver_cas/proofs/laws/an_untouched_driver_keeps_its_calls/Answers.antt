@@ -1,5 +1,5 @@
 use Rattle.std.proofs.Common.{ap, inl}
-use Rattle.cid_table.specs.Cids.{Cids, held}
+use Rattle.cid_table.specs.Cids.{QueueCids, held}
 use Rattle.driver_cas.specs.Tables.{is_free}
 use Rattle.driver_cas.proofs.Drivers.{reaped_calls}
 use Rattle.driver_cas.proofs.laws.an_untouched_driver_keeps_its_calls.Goals as goal
@@ -7,4 +7,4 @@ use Rattle.driver_cas.proofs.laws.an_untouched_driver_keeps_its_calls.Goals as g
 pub returns : goal.returns
 returns g c = λ u k of.
     reaped_calls g.P.Port g.met.P.Port.goes_on c.args.old.now.value c.args.new.now k u.same u.later (inl u.as_before.0)
-    (λ q i. ap (λ (x : Cids). is_free (held x q i)) u.as_before.1) of
+    (λ q i. ap (λ (x : QueueCids). is_free (held x q i)) u.as_before.1) of

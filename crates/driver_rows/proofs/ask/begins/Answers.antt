@@ -1,4 +1,4 @@
-use Rattle.driver_rows.proofs.Calls.{asked_careful, asked_keeps, new_call}
+use Rattle.driver_rows.proofs.Calls.{asked_slot_rules, asked_keeps, new_call}
 use Rattle.driver_rows.proofs.ask.begins.Goals as goal
 
 pub returns-clause-keeps : goal.returns-clause-keeps
@@ -14,9 +14,9 @@ returns-clause-call g c =
     (asked_keeps c.of-before.result.value c.args.driver.now c.asked-begun.new.driver c.asked-begun.result
     c.of-before.ensures x.same x.later x.asked c.a_start_keeps_the_other_calls.ensures.call)
 
-pub returns-clause-careful : goal.returns-clause-careful
-returns-clause-careful g c =
+pub returns-clause-slot_rules : goal.returns-clause-slot_rules
+returns-clause-slot_rules g c =
     let x = c.asked-begun.ensures in
     let law = c.other_calls_touch_no_slot.ensures in
-    asked_careful c.of-before.result.value c.args.driver.now c.asked-begun.new.driver c.asked-begun.result
+    asked_slot_rules c.of-before.result.value c.args.driver.now c.asked-begun.new.driver c.asked-begun.result
     c.of-before.ensures x.same x.later x.asked law.start law.pair

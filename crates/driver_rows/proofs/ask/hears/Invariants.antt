@@ -1,7 +1,8 @@
-use Rattle.driver_rows.specs.Benches.{IsHostOf}
+use Rattle.driver_rows.specs.Benches.{IsBenchHost}
 use Rattle.driver_cas.specs.Starts.{IsUntouched}
-use Rattle.driver_rows.specs.Calls.{Keeps}
+use Rattle.driver_rows.specs.Calls.{KeepsCalls}
 use Rattle.driver_rows.proofs.ask.hears.Given as goal
 
 abbrev pub invariant-loop : goal.invariant-loop
-invariant-loop g l = IsHostOf l.bench l.host × Keeps l.fn.host l.host × IsUntouched l.fn.host.driver l.host.driver
+invariant-loop g l = IsBenchHost l.bench l.host × KeepsCalls l.fn.host l.host
+    × IsUntouched l.fn.host.driver l.host.driver

@@ -1,5 +1,5 @@
-use Rattle.driver_rows.specs.Benches.{IsHostOf, IsServerOf}
+use Rattle.driver_rows.specs.Benches.{IsBenchHost, IsServerOf}
 use Rattle.driver_tests.proofs.large.all_served.Given as goal
 
 abbrev pub invariant-loop-row : goal.invariant-loop-row
-invariant-loop-row g l = IsServerOf l.bench l.server × IsHostOf l.bench l.host
+invariant-loop-row g l = IsServerOf l.bench l.server × IsBenchHost l.bench l.host

@@ -1,5 +1,5 @@
-use Rattle.lock_rows.specs.Hands.{IsOf}
+use Rattle.lock_rows.specs.Callers.{IsTestCallerOf}
 use Rattle.engine_tests.proofs.capacity.empties.Given as goal
 
 abbrev pub invariant-loop-ticket : goal.invariant-loop-ticket
-invariant-loop-ticket g l = IsOf l.hall l.hand
+invariant-loop-ticket g l = IsTestCallerOf l.system l.caller

@@ -1,5 +1,5 @@
-use Rattle.lock_rows.specs.Hands.{IsCrewOf}
+use Rattle.lock_rows.specs.Callers.{IsCrewOf}
 use Rattle.engine_tests.proofs.crew.make_all.Given as goal
 
 abbrev pub invariant-loop-step : goal.invariant-loop-step
-invariant-loop-step g l = IsCrewOf l.hall l.crew
+invariant-loop-step g l = IsCrewOf l.system l.crew

@@ -1,5 +1,5 @@
-use Rattle.lock_rows.specs.Hands.{IsOf}
+use Rattle.lock_rows.specs.Callers.{IsTestCallerOf}
 use Rattle.engine_tests.proofs.crowd.pusher.Given as goal
 
 abbrev pub invariant-loop-cid : goal.invariant-loop-cid
-invariant-loop-cid g l = IsOf l.hall l.hand
+invariant-loop-cid g l = IsTestCallerOf l.system l.caller

@@ -1,5 +1,5 @@
-use Rattle.lock_rows.specs.Hands.{IsFreshWork, IsOf}
+use Rattle.lock_rows.specs.Callers.{IsFreshWork, IsTestCallerOf}
 use Rattle.engine_tests.proofs.crowd.puts.Given as goal
 
 abbrev pub invariant-loop : goal.invariant-loop
-invariant-loop g l = IsOf l.hall l.hand × IsFreshWork l.hall l.next
+invariant-loop g l = IsTestCallerOf l.system l.caller × IsFreshWork l.system l.next

@@ -1,5 +1,5 @@
-use Rattle.meet_lock.specs.Passes.{IsOf}
+use Rattle.meet_lock.specs.Passes.{IsPassOfLock}
 use Rattle.engine_tests.proofs.threads.writes.Given as goal
 
 abbrev pub invariant-loop-cid : goal.invariant-loop-cid
-invariant-loop-cid l = IsOf l.shared l.pass
+invariant-loop-cid l = IsPassOfLock l.shared l.pass

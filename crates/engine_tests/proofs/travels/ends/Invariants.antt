@@ -1,5 +1,5 @@
-use Rattle.lock_rows.specs.Hands.{IsOf, IsWorkOf}
+use Rattle.lock_rows.specs.Callers.{IsTestCallerOf, IsTestWork}
 use Rattle.engine_tests.proofs.travels.ends.Given as goal
 
 abbrev pub invariant-loop : goal.invariant-loop
-invariant-loop g l = IsOf l.hall l.hand × IsWorkOf l.hall l.work
+invariant-loop g l = IsTestCallerOf l.system l.caller × IsTestWork l.system l.work

@@ -2,11 +2,11 @@ use Rattle.std.proofs.Common.{List, ap, cond, length, set, subst, sym, ◌∙◌
 use Rattle.std.proofs.lemmas.Result.{err_from_is_err_and}
 use Rattle.checked_tickets.specs.Contents.{contents_in, written_in}
 use Rattle.checker_tables.specs.Judged.{block_fits_by}
-use Rattle.checker_tables.specs.Tables.{Flight}
+use Rattle.checker_tables.specs.Tables.{CheckedTicket}
 use Rattle.nvme_model.specs.Operations.{write_data}
 use Rattle.nvme_model.specs.Tickets.{Ticket}
-use Rattle.history_check.specs.Kept.{kept_in}
-use Rattle.history_check.specs.declared.fields.InFlight.{InFlight}
+use Rattle.history_check.specs.Kept.{checker_state_in}
+use Rattle.history_check.specs.declared.fields.CheckedInFlight.{CheckedInFlight}
 use Rattle.history_check.proofs.Blocking.{block_few, block_missing, block_no, block_one, block_open, block_range}
 use Rattle.history_check.proofs.Blocking.{block_whole, block_within, block_yes, moved_by, ticket_stays}
 use Rattle.history_check.proofs.Flights.{found_by, missing_by, placed_by, rises_by, set_same}
@@ -43,7 +43,7 @@ take_block-requires-clause-open c =
     c.as_slice.ensures.value c.ticket_place.ensures.value c.in-Some.is c.index_mut.ensures.value in
     let there = found_by _ _ _ k c.args.line.now.ticket c.in-Some.place c.index.result.now _ _ c.as_slice.ensures.value
     c.ticket_place.ensures.value c.in-Some.is c.index.ensures in
-    let yes = ap (λ (x : InFlight).
+    let yes = ap (λ (x : CheckedInFlight).
     block_fits_by (contents_in c.args.fields.now.volume) x.flight c.args.line.now x.flight.unit)
     (here.is ∙ sym there.is) ∙ sym c.in_ok-block_fits.ensures.value ∙ c.if-not-branch.false in
     block_open _ _ _ k c.args.line.now c.in-Some.place c.index_mut.result.now here yes
@@ -55,7 +55,7 @@ take_block-requires-clause-few c =
     c.as_slice.ensures.value c.ticket_place.ensures.value c.in-Some.is c.index_mut.ensures.value in
     let there = found_by _ _ _ k c.args.line.now.ticket c.in-Some.place c.index.result.now _ _ c.as_slice.ensures.value
     c.ticket_place.ensures.value c.in-Some.is c.index.ensures in
-    let yes = ap (λ (x : InFlight).
+    let yes = ap (λ (x : CheckedInFlight).
     block_fits_by (contents_in c.args.fields.now.volume) x.flight c.args.line.now x.flight.unit)
     (here.is ∙ sym there.is) ∙ sym c.in_ok-block_fits.ensures.value ∙ c.if-not-branch.false in
     block_few _ _ _ k c.args.line.now c.in-Some.place c.index_mut.result.now here yes
@@ -67,7 +67,7 @@ take_block-requires-clause-one c =
     c.as_slice.ensures.value c.ticket_place.ensures.value c.in-Some.is c.index_mut.ensures.value in
     let there = found_by _ _ _ k c.args.line.now.ticket c.in-Some.place c.index.result.now _ _ c.as_slice.ensures.value
     c.ticket_place.ensures.value c.in-Some.is c.index.ensures in
-    let yes = ap (λ (x : InFlight).
+    let yes = ap (λ (x : CheckedInFlight).
     block_fits_by (contents_in c.args.fields.now.volume) x.flight c.args.line.now x.flight.unit)
     (here.is ∙ sym there.is) ∙ sym c.in_ok-block_fits.ensures.value ∙ c.if-not-branch.false in
     block_one _ _ _ k c.args.line.now c.in-Some.place c.index_mut.result.now here yes
@@ -83,8 +83,8 @@ pub returns-in_err-done-clause-err : goal.returns-in_err-done-clause-err
 returns-in_err-done-clause-err c =
     let p = err_from_is_err_and c.from_residual-in_err-done.result c.from_residual-in_err-done.ensures.1 in
     rw p.1
-    (ap (λ (xs : List InFlight). record (kept_in c.args.fields.now) { flights = xs })
-    (ap (λ (f : Flight). set c.args.fields.now.flights.items c.in-Some.place
+    (ap (λ (xs : List CheckedInFlight). record (checker_state_in c.args.fields.now) { flights = xs })
+    (ap (λ (f : CheckedTicket). set c.args.fields.now.flights.items c.in-Some.place
     (record c.index_mut.result.now { flight = f })) c.in_err-done.ensures.err
     ∙ set_same c.args.fields.now.flights.items c.in-Some.place c.index_mut.result.now
     (placed_by _ _ _ c.requires.keeps.2 c.args.line.now.ticket c.in-Some.place _ _ c.as_slice.ensures.value
@@ -97,7 +97,7 @@ write_taken-requires-clause-within c =
     c.as_slice.ensures.value c.ticket_place.ensures.value c.in-Some.is c.index_mut.ensures.value in
     let there = found_by _ _ _ k c.args.line.now.ticket c.in-Some.place c.index.result.now _ _ c.as_slice.ensures.value
     c.ticket_place.ensures.value c.in-Some.is c.index.ensures in
-    let yes = ap (λ (x : InFlight).
+    let yes = ap (λ (x : CheckedInFlight).
     block_fits_by (contents_in c.args.fields.now.volume) x.flight c.args.line.now x.flight.unit)
     (here.is ∙ sym there.is) ∙ sym c.in_ok-block_fits.ensures.value ∙ c.if-not-branch.false in
     block_range _ _ _ k c.args.line.now c.in-Some.place c.index_mut.result.now here yes c.in_ok-done.done
@@ -110,7 +110,7 @@ write_taken-requires-clause-whole c =
     c.as_slice.ensures.value c.ticket_place.ensures.value c.in-Some.is c.index_mut.ensures.value in
     let there = found_by _ _ _ k c.args.line.now.ticket c.in-Some.place c.index.result.now _ _ c.as_slice.ensures.value
     c.ticket_place.ensures.value c.in-Some.is c.index.ensures in
-    let yes = ap (λ (x : InFlight).
+    let yes = ap (λ (x : CheckedInFlight).
     block_fits_by (contents_in c.args.fields.now.volume) x.flight c.args.line.now x.flight.unit)
     (here.is ∙ sym there.is) ∙ sym c.in_ok-block_fits.ensures.value ∙ c.if-not-branch.false in
     let same = c.ticket.ensures.value
@@ -127,7 +127,7 @@ returns-clause-took c = λ n past k.
     c.as_slice.ensures.value c.ticket_place.ensures.value c.in-Some.is c.index_mut.ensures.value in
     let there = found_by _ past _ k c.args.line.now.ticket c.in-Some.place c.index.result.now _ _
     c.as_slice.ensures.value c.ticket_place.ensures.value c.in-Some.is c.index.ensures in
-    let yes = ap (λ (x : InFlight).
+    let yes = ap (λ (x : CheckedInFlight).
     block_fits_by (contents_in c.args.fields.now.volume) x.flight c.args.line.now x.flight.unit)
     (here.is ∙ sym there.is) ∙ sym c.in_ok-block_fits.ensures.value ∙ c.if-not-branch.false in
     let same = c.ticket.ensures.value

@@ -1,11 +1,11 @@
 use Rattle.std.proofs.Common.{List, ap, arith, length, sym, take, ◌++◌, ◌<◌, ◌∙◌, ◌∷◌, []}
 use Rattle.std.specs.Option.{option_copied}
-use Rattle.checker_tables.specs.Tables.{fresh, tables}
+use Rattle.checker_tables.specs.Tables.{just_fetched, tables}
 use Rattle.nvme_model.specs.Tickets.{Ticket, cids}
 use Rattle.nvme_model.specs.declared.config.ConfigNumbers.{ConfigNumbers}
 use Rattle.rings.specs.Submissions.{SubmissionRing, advanced}
-use Rattle.history_check.specs.Rings.{submission_ring}
-use Rattle.history_check.specs.declared.fields.InFlight.{InFlight}
+use Rattle.history_check.specs.Rings.{checked_submission_ring}
+use Rattle.history_check.specs.declared.fields.CheckedInFlight.{CheckedInFlight}
 use Rattle.history_check.proofs.Fetching.{fetch_none, fetch_room, fetch_some, fetch_unfit, fetch_units, fetch_yes}
 use Rattle.history_check.proofs.Rings.{IsPlace, one_ring}
 use Rattle.history_check.proofs.fetch.take_fetch.Goals as goal
@@ -87,7 +87,7 @@ take_commands-first-requires-clause-within c =
       c.from.ensures,
       ap (λ (n : ConfigNumbers). n.jobs) c.numbers.ensures.value,
     ) in
-    let same = one_ring (submission_ring c.args.config.now (tables c.args.config.now c.requires.keeps.0))
+    let same = one_ring (checked_submission_ring c.args.config.now (tables c.args.config.now c.requires.keeps.0))
     c.args.config.now.pairs c.args.line.now.queue c.in-Some.place c.args.fields.now.submission.items
     c.index-ring.result.now c.index_mut.result.now k.shows.sq_rings place c.index-ring.ensures
     c.index_mut.ensures.value in
@@ -129,7 +129,7 @@ put_in_use-requires c =
       c.from.ensures,
       ap (λ (n : ConfigNumbers). n.jobs) c.numbers.ensures.value,
     ) in
-    let same = one_ring (submission_ring c.args.config.now (tables c.args.config.now c.requires.keeps.0))
+    let same = one_ring (checked_submission_ring c.args.config.now (tables c.args.config.now c.requires.keeps.0))
     c.args.config.now.pairs c.args.line.now.queue c.in-Some.place c.args.fields.now.submission.items
     c.index_mut.result.now c.index-ring.result.now k.shows.sq_rings place c.index_mut.ensures.value
     c.index-ring.ensures in
@@ -161,7 +161,8 @@ returns-clause-took c = λ past k.
       c.from.ensures,
       ap (λ (n : ConfigNumbers). n.jobs) c.numbers.ensures.value,
     ) in
-    let same = one_ring (submission_ring c.args.config.now (tables c.args.config.now past)) c.args.config.now.pairs
+    let same = one_ring (checked_submission_ring c.args.config.now
+    (tables c.args.config.now past)) c.args.config.now.pairs
     c.args.line.now.queue c.in-Some.place c.args.fields.now.submission.items c.index_mut.result.now
     c.index-ring.result.now k.shows.sq_rings place c.index_mut.ensures.value c.index-ring.ensures in
     fetch_yes _ past _ k c.args.line.now c.in-Some.place place c.index-ring.result.now c.index-ring.ensures
@@ -175,12 +176,12 @@ returns-clause-took c = λ past k.
     (record { ticket = c.args.line.now.ticket; flight = c.new.result; units = c.new-units.result })
     (λ i. record {
       ticket = c.args.line.now.ticket;
-      flight = (c.new.ensures.value ∙ ap fresh c.new-commands.ensures.value) i;
+      flight = (c.new.ensures.value ∙ ap just_fetched c.new-commands.ensures.value) i;
       units = (c.new-units.ensures ∙ c.in_ok-units_of.ensures.value) i;
     })
     c.push_reserved.new.self.items
     (c.push_reserved.ensures.items
-    ∙ ap (λ (xs : List InFlight). xs ++ record {
+    ∙ ap (λ (xs : List CheckedInFlight). xs ++ record {
       ticket = c.args.line.now.ticket;
       flight = c.new.result;
       units = c.new-units.result;

@@ -1,9 +1,9 @@
 use Rattle.std.proofs.Common.{Err, List, ap, arith, false, inl, inr, subst, sym, true, ◌<◌, ◌^◌, ◌∙◌, ◌≡◌}
-use Rattle.range_reserve.specs.Reserved.{has_conflict, has_ticket, held_of, insert_held}
-use Rattle.range_reserve.specs.declared.held.Held.{Held}
-use Rattle.checker_tables.specs.Tables.{Flight}
+use Rattle.range_reserve.specs.Reserved.{has_conflict, holds_range, held_of, insert_held}
+use Rattle.range_reserve.specs.declared.held.HeldRange.{HeldRange}
+use Rattle.checker_tables.specs.Tables.{CheckedTicket}
 use Rattle.checker_tables.specs.Taken.{opened_flight}
-use Rattle.history_check.specs.declared.fields.InFlight.{InFlight}
+use Rattle.history_check.specs.declared.fields.CheckedInFlight.{CheckedInFlight}
 use Rattle.history_check.proofs.Flights.{found_by, missing_by, rises_by}
 use Rattle.history_check.proofs.Granting.{grant_apart, grant_few, grant_free, grant_missing, grant_no, grant_range}
 use Rattle.history_check.proofs.Granting.{grant_yes}
@@ -31,7 +31,7 @@ grant-requires-clause-free c =
     let k = c.requires.keeps.2 in
     let there = found_by _ _ _ k c.args.line.now.ticket c.in-Some.place c.index.result.now _ _ c.as_slice.ensures.value
     c.ticket_place.ensures.value c.in-Some.is c.index.ensures in
-    ap (λ (hs : List Held). has_ticket hs c.args.line.now.ticket) c.reserve.ensures.held
+    ap (λ (hs : List HeldRange). holds_range hs c.args.line.now.ticket) c.reserve.ensures.held
     ∙ grant_free _ _ _ k c.args.line.now c.in-Some.place c.index.result.now there c.grant_fits.result
     c.grant_fits.ensures.value c.if-not-grant_fits.false
 
@@ -55,7 +55,7 @@ unreachable-requires c = elim c.in_default-grant.ensures.errors [
       let apart = grant_apart _ _ _ k c.args.line.now c.in-Some.place c.index.result.now there c.grant_fits.result
       c.grant_fits.ensures.value c.if-not-grant_fits.false in
       let both : true ≡ false = sym yes
-      ∙ ap (λ (hs : List Held). has_conflict hs c.args.line.now.range c.args.line.now.mode) c.reserve.ensures.held
+      ∙ ap (λ (hs : List HeldRange). has_conflict hs c.args.line.now.range c.args.line.now.mode) c.reserve.ensures.held
       ∙ apart in
       absurd cc
   | inr e ↦ omega (arith, c.grant.ensures.memory (c.in_default-grant.is ∙ ap Err e), c.in_ok-reserve.ensures.ok)
@@ -70,7 +70,7 @@ open-requires c =
     c.as_slice.ensures.value c.ticket_place.ensures.value c.in-Some.is c.index_mut.ensures.value in
     let few = grant_few _ _ _ k c.args.line.now c.in-Some.place c.index.result.now there c.grant_fits.result
     c.grant_fits.ensures.value c.if-not-grant_fits.false in
-    record { few = subst (λ (x : InFlight). x.flight.opened < 2 ^ 32) (there.is ∙ sym here.is) few }
+    record { few = subst (λ (x : CheckedInFlight). x.flight.opened < 2 ^ 32) (there.is ∙ sym here.is) few }
 
 pub returns-clause-took : goal.returns-clause-took
 returns-clause-took c = λ n past k.
@@ -80,7 +80,8 @@ returns-clause-took c = λ n past k.
     c.as_slice.ensures.value c.ticket_place.ensures.value c.in-Some.is c.index_mut.ensures.value in
     grant_yes n past _ k c.args.line.now c.in-Some.place c.index.result.now there c.grant_fits.result
     c.grant_fits.ensures.value c.if-not-grant_fits.false _ _
-    (ap (λ (f : Flight). record c.index_mut.result.now { flight = f }) c.open.ensures.value
-    ∙ ap (λ (x : InFlight). record x { flight = opened_flight x.flight c.args.line.now }) (here.is ∙ sym there.is))
+    (ap (λ (f : CheckedTicket). record c.index_mut.result.now { flight = f }) c.open.ensures.value
+    ∙ ap (λ (x : CheckedInFlight). record x { flight = opened_flight x.flight c.args.line.now }) (here.is
+    ∙ sym there.is))
     ((rw c.get-range.ensures.value at c.in-Ok.ensures.ok)
     ∙ ap (insert_held (held_of c.args.line.now)) c.reserve.ensures.held)

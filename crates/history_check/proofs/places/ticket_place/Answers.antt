@@ -1,6 +1,6 @@
 use Rattle.std.proofs.Common.{nat_lt, rules}
 use Rattle.std.proofs.lemmas.List.Sorted.{IsPartitionPoint-from_clause, IsPartitionedBy-ltb}
-use Rattle.history_check.specs.declared.fields.InFlight.{InFlight}
+use Rattle.history_check.specs.declared.fields.CheckedInFlight.{CheckedInFlight}
 use Rattle.history_check.proofs.Flights.{IsPoint, halves_none, halves_past, halves_some}
 use Rattle.history_check.proofs.places.ticket_place.Goals as goal
 use Rattle.history_check.proofs.places.ticket_place.Goals.{After-partition_point-place}
@@ -9,8 +9,9 @@ use Rattle.history_check.proofs.places.ticket_place.Goals.{else-place-flights-vi
 
 point : (c : After-partition_point-place) → IsPoint c.args.ticket c.args.flights.now c.partition_point-place.result
 point c =
-    let parted = IsPartitionedBy-ltb (λ (e : InFlight). e.ticket) c.args.flights.now c.args.ticket c.requires.rising in
-    IsPartitionPoint-from_clause (λ (e : InFlight). nat_lt e.ticket c.args.ticket) _ _
+    let parted = IsPartitionedBy-ltb
+    (λ (e : CheckedInFlight). e.ticket) c.args.flights.now c.args.ticket c.requires.rising in
+    IsPartitionPoint-from_clause (λ (e : CheckedInFlight). nat_lt e.ticket c.args.ticket) _ _
     c.partition_point-place.ensures.partitioned parted (λ a r q k. search rules)
 
 pub returns-then-flights-place : goal.returns-then-flights-place

@@ -1,18 +1,18 @@
 use Rattle.std.proofs.Common.{List, ap, arith, get_or, length, set, slice_get, subst, sym, true, ℕ, ◌%◌, ◌-◌, ◌∙◌}
-use Rattle.checker_tables.specs.Tables.{Flight}
+use Rattle.checker_tables.specs.Tables.{CheckedTicket}
 use Rattle.checker_tables.specs.Taken.{posted_flight}
 use Rattle.nvme_model.specs.Tickets.{Ticket}
 use Rattle.nvme_model.specs.declared.entry.Entry.{Entry}
 use Rattle.rings.specs.Completions.{CompletionRing, posted_ring}
-use Rattle.history_check.specs.Kept.{kept_in}
+use Rattle.history_check.specs.Kept.{checker_state_in}
 use Rattle.history_check.specs.Steps.{Took}
-use Rattle.history_check.specs.declared.fields.InFlight.{InFlight}
+use Rattle.history_check.specs.declared.fields.CheckedInFlight.{CheckedInFlight}
 use Rattle.nvme_model.specs.declared.config.ConfigNumbers.{ConfigNumbers}
 use Rattle.history_check.proofs.Flights.{found_by, missing_by, placed_by, rises_by}
 use Rattle.history_check.proofs.Posting.{post_count, post_cq_place, post_few, post_full, post_low, post_missing}
 use Rattle.history_check.proofs.Posting.{post_nothing, post_off, post_on, post_same, post_sq_place, post_unfit}
 use Rattle.checked_tickets.specs.Contents.{post_fits_at}
-use Rattle.checker_tables.specs.Judged.{owed_by}
+use Rattle.checker_tables.specs.Judged.{checked_owed}
 use Rattle.entry_codec.specs.Cqe.{phase_bit}
 use Rattle.history_check.proofs.post.take_post.Goals as goal
 
@@ -135,7 +135,7 @@ returns-then-not-post_fits c = record {
       (c.index-2.ensures ∙ (λ i. get_or c.args.fields.now.completion.items (at i) c.index-2.result.now)) _
       ((λ i. post_fits_at (sym c.head-head.ensures.value i) (phase_bit (sym c.phase-phase.ensures.value i))
       c.index-one.result.now.flight c.args.line.now
-      (slice_get (owed_by c.args.config.now c.index-one.result.now.flight) c.index-one.result.now.flight.posts))
+      (slice_get (checked_owed c.args.config.now c.index-one.result.now.flight) c.index-one.result.now.flight.posts))
       ∙ sym (c.post_fits.ensures.value c.args.config.now
       (post_count _ past _ k c.args.line.now c.in-Some.place c.index-one.result.now there _
       (ap length c.as_slice-2.ensures))) ∙ c.if-not-post_fits.true);
@@ -185,7 +185,7 @@ returns-then-flies_on c = record {
       let fits = (λ i. post_fits_at (sym c.head-head.ensures.value i)
       (phase_bit ((ap (λ (r : CompletionRing). r.phase) same ∙ sym c.phase-phase.ensures.value) i))
       c.index-one.result.now.flight c.args.line.now
-      (slice_get (owed_by c.args.config.now c.index-one.result.now.flight) c.index-one.result.now.flight.posts))
+      (slice_get (checked_owed c.args.config.now c.index-one.result.now.flight) c.index-one.result.now.flight.posts))
       ∙ sym (c.post_fits.ensures.value c.args.config.now count) ∙ c.if-not-post_fits.false in
       let more = c.in-Ok.ensures.ok
       ∙ ap (λ (xs : List ℕ). posted_ring c.index_mut.result.now
@@ -202,13 +202,13 @@ returns-then-flies_on c = record {
       let used = c.index_mut-2.ensures.value
       ∙ (λ i. get_or c.args.fields.now.in_use.items (from i - 1) c.index_mut-2.result.now) in
       subst (λ (n : ℕ). Took c.args.config.now past (Entry.Post c.args.line.now) true
-      (record (kept_in c.args.fields.now) {
+      (record (checker_state_in c.args.fields.now) {
         in_use = set c.args.fields.now.in_use.items (c.from-2.result - 1) c.remove.new.self;
         completion = set c.args.fields.now.completion.items n c.post.new.self;
         flights = fs;
       })) (sym at)
       (subst (λ (n : ℕ). Took c.args.config.now past (Entry.Post c.args.line.now) true
-      (record (kept_in c.args.fields.now) {
+      (record (checker_state_in c.args.fields.now) {
         in_use = set c.args.fields.now.in_use.items (n - 1) c.remove.new.self;
         completion = set c.args.fields.now.completion.items
             ((c.index-one.result.now.flight.ticket.queue - 1) % c.args.config.now.cqs) c.post.new.self;
@@ -220,9 +220,9 @@ returns-then-flies_on c = record {
       c.next_cid-cid.ensures.value c.index_mut-2.result.now c.remove.new.self used c.remove.ensures.one
       c.remove.ensures.room _
       (sym c.flies_on-flies_on.ensures.value ∙ c.if-flies_on.true)
-      (ap (λ (f : Flight). record c.index_mut-then-flies_on.result.now { flight = f })
+      (ap (λ (f : CheckedTicket). record c.index_mut-then-flies_on.result.now { flight = f })
       c.post-then-flies_on.ensures.value
-      ∙ ap (λ (x : InFlight). record x { flight = posted_flight x.flight }) (here.is ∙ sym there.is))));
+      ∙ ap (λ (x : CheckedInFlight). record x { flight = posted_flight x.flight }) (here.is ∙ sym there.is))));
 }
 
 pub remove-requires : goal.remove-requires
@@ -253,7 +253,7 @@ returns c = record {
       let fits = (λ i. post_fits_at (sym c.head-head.ensures.value i)
       (phase_bit ((ap (λ (r : CompletionRing). r.phase) same ∙ sym c.phase-phase.ensures.value) i))
       c.index-one.result.now.flight c.args.line.now
-      (slice_get (owed_by c.args.config.now c.index-one.result.now.flight) c.index-one.result.now.flight.posts))
+      (slice_get (checked_owed c.args.config.now c.index-one.result.now.flight) c.index-one.result.now.flight.posts))
       ∙ sym (c.post_fits.ensures.value c.args.config.now count) ∙ c.if-not-post_fits.false in
       let more = c.in-Ok.ensures.ok
       ∙ ap (λ (xs : List ℕ). posted_ring c.index_mut.result.now
@@ -262,14 +262,14 @@ returns c = record {
       let used = c.index_mut-2.ensures.value
       ∙ (λ i. get_or c.args.fields.now.in_use.items (from i - 1) c.index_mut-2.result.now) in
       subst (λ (n : ℕ). Took c.args.config.now past (Entry.Post c.args.line.now) true
-      (record (kept_in c.args.fields.now) {
+      (record (checker_state_in c.args.fields.now) {
         in_use = set c.args.fields.now.in_use.items (c.from-2.result - 1) c.remove.new.self;
         completion = set c.args.fields.now.completion.items n c.post.new.self;
         flights = c.remove-2.new.self.items;
       }))
       (sym at)
       (subst (λ (n : ℕ). Took c.args.config.now past (Entry.Post c.args.line.now) true
-      (record (kept_in c.args.fields.now) {
+      (record (checker_state_in c.args.fields.now) {
         in_use = set c.args.fields.now.in_use.items (n - 1) c.remove.new.self;
         completion = set c.args.fields.now.completion.items
             ((c.index-one.result.now.flight.ticket.queue - 1) % c.args.config.now.cqs) c.post.new.self;

@@ -1,6 +1,6 @@
 use Rattle.std.proofs.Common.{ap, arith, get_or, length, slice_get, sym, ◌%◌, ◌-◌, ◌∙◌}
 use Rattle.checked_tickets.specs.Explained.{post_wrong_at}
-use Rattle.checker_tables.specs.Judged.{owed_by}
+use Rattle.checker_tables.specs.Judged.{checked_owed}
 use Rattle.entry_codec.specs.Cqe.{phase_bit}
 use Rattle.nvme_model.specs.Tickets.{Ticket}
 use Rattle.nvme_model.specs.declared.config.ConfigNumbers.{ConfigNumbers}
@@ -120,7 +120,7 @@ returns c = record {
       c.post_wrong.ensures.value c.args.config.now count
       ∙ (λ i. post_wrong_at (c.head-head.ensures.value i) (phase_bit (c.phase.ensures.value i))
       c.index-one.result.now.flight c.args.line.now
-      (slice_get (owed_by c.args.config.now c.index-one.result.now.flight) c.index-one.result.now.flight.posts))
+      (slice_get (checked_owed c.args.config.now c.index-one.result.now.flight) c.index-one.result.now.flight.posts))
       ∙ tell_post _ past _ k c.args.line.now c.in-Some.place c.index-one.result.now there owes c.index-ring.result.now
       cq c.index.result.now sq (sym c.is_full.ensures.value ∙ c.if-is_full.false);
 }

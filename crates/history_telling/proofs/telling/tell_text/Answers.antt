@@ -1,7 +1,7 @@
 use Rattle.std.proofs.Common.{[], ◌++◌, ◌∷◌, refl}
 use Rattle.std.proofs.KnownBytes.{Appends-nil}
 use Rattle.history_words.specs.Told.{config_painted}
-use Rattle.history_telling.specs.ToldText.{told, told_line}
+use Rattle.history_telling.specs.ToldText.{told_text, told_line}
 use Rattle.casdisk_script.proofs.Reaching.{runs_after}
 use Rattle.history_telling.proofs.telling.tell_text.Goals as goal
 
@@ -20,4 +20,4 @@ returns g c =
     let sent = rw (c.as_bytes.ensures.value, c.in-Ok-config_words.ensures.value) at c.in-Ok-send_line.ensures.whole in
     let begun = c.in_ok-numbers.ensures.begun paint _ _ sent in
     let ran = c.run_lines.ensures.runs c.in_ok-numbers.numbers [] tt in
-    record { tells = runs_after (told paint) (told_line paint) [] 2 _ _ _ _ _ _ _ c.run_lines.result begun ran }
+    record { tells = runs_after (told_text paint) (told_line paint) [] 2 _ _ _ _ _ _ _ c.run_lines.result begun ran }

@@ -1,5 +1,5 @@
-use Rattle.host_rounds.specs.Hosts.{Goes}
+use Rattle.host_rounds.specs.Hosts.{HostContinues}
 use Rattle.host_rounds.proofs.claiming.begin.Given as goal
 
 abbrev pub invariant-loop : goal.invariant-loop
-invariant-loop g l = Goes l.hall l.fn.host l.host
+invariant-loop g l = HostContinues l.system l.fn.host l.host

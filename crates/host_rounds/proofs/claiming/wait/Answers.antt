@@ -9,18 +9,21 @@ loop-init g c = (goes_same _ _ c.requires.own, c.requires.of, c.requires.unrelea
 
 pub returns-in-Held-clause-goes : goal.returns-in-Held-clause-goes
 returns-in-Held-clause-goes g c =
-    goes_called _ _ _ _ None c.loop.invariant.0 refl refl refl c.poll_claim.ensures.careful c.poll_claim.ensures.goes_on
+    goes_called _ _ _ _ None c.loop.invariant.0 refl refl refl c.poll_claim.ensures.slot_rules
+    c.poll_claim.ensures.goes_on
 
 pub returns-in-Held-clause-held : goal.returns-in-Held-clause-held
 returns-in-Held-clause-held g c = c.in-Held.ensures.held c.loop.invariant.2
 
 pub returns-then-eq-clause-goes : goal.returns-then-eq-clause-goes
 returns-then-eq-clause-goes g c =
-    goes_called _ _ _ _ None c.loop.invariant.0 refl refl refl c.poll_claim.ensures.careful c.poll_claim.ensures.goes_on
+    goes_called _ _ _ _ None c.loop.invariant.0 refl refl refl c.poll_claim.ensures.slot_rules
+    c.poll_claim.ensures.goes_on
 
 pub returns-in-Taken-clause-goes : goal.returns-in-Taken-clause-goes
 returns-in-Taken-clause-goes g c =
-    goes_called _ _ _ _ None c.loop.invariant.0 refl refl refl c.poll_claim.ensures.careful c.poll_claim.ensures.goes_on
+    goes_called _ _ _ _ None c.loop.invariant.0 refl refl refl c.poll_claim.ensures.slot_rules
+    c.poll_claim.ensures.goes_on
 
 pub loop-preserved : goal.loop-preserved
 loop-preserved g c =
@@ -32,12 +35,12 @@ loop-preserved g c =
     let free : IsUnreleased c.poll_claim.new.driver c.match-poll_claim.claiming =
     elim c.match-poll_claim.branch [
       | in-Pending w ↦ rw w.claiming-is
-          (w.in-Pending.ensures.unreleased c.loop.invariant.0.of.careful c.loop.invariant.2)
+          (w.in-Pending.ensures.unreleased c.loop.invariant.0.of.slot_rules c.loop.invariant.2)
       | in-Later+else-eq w ↦ rw w.claiming-is
-          (w.in-Later.ensures.unreleased c.loop.invariant.0.of.careful c.loop.invariant.2)
+          (w.in-Later.ensures.unreleased c.loop.invariant.0.of.slot_rules c.loop.invariant.2)
     ] in (
       goes_far _ _ (record c.loop.host { driver = c.poll_claim.new.driver }) _
-          (goes_called _ _ _ _ None c.loop.invariant.0 refl refl refl c.poll_claim.ensures.careful
+          (goes_called _ _ _ _ None c.loop.invariant.0 refl refl refl c.poll_claim.ensures.slot_rules
           c.poll_claim.ensures.goes_on) c.pause.ensures.goes,
       c.pause.ensures.claiming c.match-poll_claim.claiming of,
       c.pause.ensures.unreleased c.match-poll_claim.claiming of free,

@@ -1,6 +1,6 @@
 use Rattle.slot_alloc.specs.Claims.{IsHeldBy}
-use Rattle.host_rounds.specs.Hosts.{Goes}
+use Rattle.host_rounds.specs.Hosts.{HostContinues}
 use Rattle.host_rounds.proofs.releasing.begin.Given as goal
 
 abbrev pub invariant-loop : goal.invariant-loop
-invariant-loop g l = Goes l.hall l.fn.host l.host × IsHeldBy l.host.driver l.claim
+invariant-loop g l = HostContinues l.system l.fn.host l.host × IsHeldBy l.host.driver l.claim

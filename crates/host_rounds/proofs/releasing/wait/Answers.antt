@@ -10,13 +10,13 @@ loop-init g c = (goes_same _ _ c.requires.own, c.requires.of)
 pub returns-in-Released : goal.returns-in-Released
 returns-in-Released g c =
     record {
-      goes = goes_called _ _ _ _ None c.loop.invariant.0 refl refl refl c.poll_release.ensures.careful
+      goes = goes_called _ _ _ _ None c.loop.invariant.0 refl refl refl c.poll_release.ensures.slot_rules
           c.poll_release.ensures.goes_on;
     }
 
 pub returns-then-eq : goal.returns-then-eq
 returns-then-eq g c = record {
-  goes = goes_called _ _ _ _ None c.loop.invariant.0 refl refl refl c.poll_release.ensures.careful
+  goes = goes_called _ _ _ _ None c.loop.invariant.0 refl refl refl c.poll_release.ensures.slot_rules
       c.poll_release.ensures.goes_on;
 }
 
@@ -28,7 +28,7 @@ loop-preserved g c =
       | in-Later+else-eq w ↦ rw w.releasing-is w.in-Later.ensures.is.1
     ] in (
       goes_far _ _ (record c.loop.host { driver = c.poll_release.new.driver }) _
-          (goes_called _ _ _ _ None c.loop.invariant.0 refl refl refl c.poll_release.ensures.careful
+          (goes_called _ _ _ _ None c.loop.invariant.0 refl refl refl c.poll_release.ensures.slot_rules
           c.poll_release.ensures.goes_on) c.pause.ensures.goes,
       c.pause.ensures.releasing c.match-poll_release.releasing of,
     )

@@ -1,6 +1,6 @@
 use Rattle.slot_alloc.specs.Claims.{IsReleasingOf}
-use Rattle.host_rounds.specs.Hosts.{Goes}
+use Rattle.host_rounds.specs.Hosts.{HostContinues}
 use Rattle.host_rounds.proofs.releasing.wait.Given as goal
 
 abbrev pub invariant-loop : goal.invariant-loop
-invariant-loop g l = Goes l.hall l.fn.host l.host × IsReleasingOf l.host.driver l.releasing
+invariant-loop g l = HostContinues l.system l.fn.host l.host × IsReleasingOf l.host.driver l.releasing

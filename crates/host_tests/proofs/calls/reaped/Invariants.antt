@@ -2,4 +2,4 @@ use Rattle.host_tests.specs.Listening.{IsListening}
 use Rattle.host_tests.proofs.calls.reaped.Given as goal
 
 abbrev pub invariant-loop : goal.invariant-loop
-invariant-loop g l = IsListening l.hall l.host
+invariant-loop g l = IsListening l.system l.host

@@ -3,4 +3,4 @@ use Rattle.host_tests.specs.Listening.{IsListening}
 use Rattle.host_tests.proofs.played.reaped_by.Given as goal
 
 abbrev pub invariant-loop : goal.invariant-loop
-invariant-loop g l = All (IsListening l.hall) l.hosts.items
+invariant-loop g l = All (IsListening l.system) l.hosts.items

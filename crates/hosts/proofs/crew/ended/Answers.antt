@@ -12,14 +12,14 @@ returns-clause-workers g c =
       b.0,
       b.1,
       subst (λ r. AllZip (GaveBack kept r) ps b.0) (sym c.and-all.ensures)
-          (gave_less kept c.and-joined.result c.fetched-hand.result.1 ps b.0
+          (gave_less kept c.and-joined.result c.fetched-caller.result.1 ps b.0
           (subst (λ r. AllZip (GaveBack kept r) ps b.0) (sym c.and-joined.ensures)
           (gave_too kept c.args.begun c.join_each-ends.result ps b.0 b.2))),
     )
 
 pub returns-clause-fetcher : goal.returns-clause-fetcher
 returns-clause-fetcher g c =
-    subst (λ r. IfOk c.args.fetching (λ h. GaveBack g.Q.Promise.kept_by r h.promise c.fetched-hand.result.0))
+    subst (λ r. IfOk c.args.fetching (λ h. GaveBack g.Q.Promise.kept_by r h.promise c.fetched-caller.result.0))
     (sym c.and-all.ensures)
-    (gave_one g.Q.Promise.kept_by (λ h. h.promise) c.args.fetching c.and-joined.result c.fetched-hand.result.1
-    c.fetched-hand.result.0 c.fetched-hand.ensures.runs)
+    (gave_one g.Q.Promise.kept_by (λ h. h.promise) c.args.fetching c.and-joined.result c.fetched-caller.result.1
+    c.fetched-caller.result.0 c.fetched-caller.ensures.runs)

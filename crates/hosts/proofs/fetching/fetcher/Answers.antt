@@ -1,4 +1,4 @@
-use Rattle.hosts.proofs.Going.{goes_on}
+use Rattle.shared_system.proofs.Going.{goes_on}
 use Rattle.hosts.proofs.fetching.fetcher.Goals as goal
 
 pub returns-in_err-serve : goal.returns-in_err-serve

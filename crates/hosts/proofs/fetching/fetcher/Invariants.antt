@@ -1,8 +1,8 @@
-use Rattle.hosts.specs.Hands.{Goes}
+use Rattle.shared_system.specs.Callers.{Continues}
 use Rattle.hosts.proofs.fetching.fetcher.Given as goal
 
 abbrev pub invariant-loop : goal.invariant-loop
-invariant-loop g l = Goes l.hall l.fn.hand l.hand
+invariant-loop g l = Continues l.system l.fn.caller l.caller
 
 abbrev pub invariant-loop-k : goal.invariant-loop-k
-invariant-loop-k g l = Goes l.hall l.fn.hand l.hand
+invariant-loop-k g l = Continues l.system l.fn.caller l.caller

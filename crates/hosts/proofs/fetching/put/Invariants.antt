@@ -1,6 +1,7 @@
-use Rattle.hosts.specs.Hands.{Goes, IsReady}
+use Rattle.shared_system.specs.Callers.{Continues}
+use Rattle.hosts.specs.Asking.{IsFetchedReady}
 use Rattle.hosts.specs.declared.fetching.Fetched.{Fetched}
 use Rattle.hosts.proofs.fetching.put.Given as goal
 
 abbrev pub invariant-loop : goal.invariant-loop
-invariant-loop g l = Goes l.hall l.fn.hand l.hand × IsReady l.hall (Fetched.Work l.work)
+invariant-loop g l = Continues l.system l.fn.caller l.caller × IsFetchedReady l.system (Fetched.Work l.work)

@@ -1,4 +1,4 @@
-use Rattle.hosts.proofs.Going.{goes_on}
+use Rattle.shared_system.proofs.Going.{goes_on}
 use Rattle.hosts.proofs.fetching.serve.Goals as goal
 
 pub returns-in-Work : goal.returns-in-Work

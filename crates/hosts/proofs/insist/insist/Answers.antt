@@ -1,5 +1,5 @@
 use Rattle.std.proofs.Common.{◌∙◌}
-use Rattle.hosts.proofs.Going.{goes_on}
+use Rattle.shared_system.proofs.Going.{goes_on}
 use Rattle.hosts.proofs.insist.insist.Goals as goal
 
 pub returns-in-Made-clause-goes : goal.returns-in-Made-clause-goes

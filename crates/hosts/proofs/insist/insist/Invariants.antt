@@ -1,8 +1,8 @@
 use Rattle.std.specs.Prelude.{◌≡◌}
 use Rattle.work_queue.specs.Engines as engine
-use Rattle.hosts.specs.Hands.{Goes}
+use Rattle.shared_system.specs.Callers.{Continues}
 use Rattle.hosts.proofs.insist.insist.Given as goal
 
 abbrev pub invariant-loop : goal.invariant-loop
-invariant-loop g l = Goes l.hall l.fn.hand l.hand × engine.IsWorkOf l.hall.engine l.work
+invariant-loop g l = Continues l.system l.fn.caller l.caller × engine.IsWorkOf l.system.engine l.work
     × (l.work.queue ≡ l.fn.work.queue)

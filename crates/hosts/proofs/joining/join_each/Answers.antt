@@ -12,17 +12,17 @@ pub loop-preserved : goal.loop-preserved
 loop-preserved g c =
     let i = c.loop.invariant in
     let child = c.in-Some.child in
-    let hand = c.join-hand.result.0 in (
+    let caller = c.join-caller.result.0 in (
       search rules,
       search rules,
       child ∷ i.2,
-      i.3 ++ hand ∷ [],
+      i.3 ++ caller ∷ [],
       i.4 ∙ (ap (λ l. l ++ i.2) c.in-Some.ensures.items ∙ append_assoc c.pop.new.self.items (child ∷ []) i.2),
       c.push_reserved.ensures.items
-          ∙ (ap (λ l. l ++ hand ∷ []) i.5 ∙ append_assoc c.args.hands.now.items i.3 (hand ∷ [])),
+          ∙ (ap (λ l. l ++ caller ∷ []) i.5 ∙ append_assoc c.args.callers.now.items i.3 (caller ∷ [])),
       rw c.and-ends.ensures
-          (gave_more g.P.Promise.kept_by (λ h. h.promise) c.loop.ends c.join-hand.result.1 child i.2 hand i.3 i.6
-          c.join-hand.ensures),
+          (gave_more g.P.Promise.kept_by (λ h. h.promise) c.loop.ends c.join-caller.result.1 child i.2 caller i.3 i.6
+          c.join-caller.ensures),
     )
 
 pub returns : goal.returns

@@ -1,4 +1,4 @@
-use Rattle.hosts.proofs.Going.{goes_on, notices_on}
+use Rattle.shared_system.proofs.Going.{goes_on, notices_on}
 use Rattle.hosts.proofs.working.finish.Goals as goal
 
 pub returns-in_err-answer-clause-goes : goal.returns-in_err-answer-clause-goes

@@ -1,4 +1,4 @@
-use Rattle.hosts.proofs.Going.{goes_on, notices_on}
+use Rattle.shared_system.proofs.Going.{goes_on, notices_on}
 use Rattle.hosts.proofs.working.worker.Goals as goal
 
 pub finish-requires-clause-notices : goal.finish-requires-clause-notices

@@ -1,6 +1,7 @@
 use Rattle.meet_lock.specs.Passes.{config_of}
-use Rattle.hosts.specs.Hands.{AreNoticesOf, Goes}
+use Rattle.shared_system.specs.Callers.{AreNoticesOf, Continues}
 use Rattle.hosts.proofs.working.worker.Given as goal
 
 abbrev pub invariant-loop : goal.invariant-loop
-invariant-loop g l = Goes l.hall l.fn.hand l.hand × AreNoticesOf l.hall (config_of l.hand.pass).cqs l.notices.items
+invariant-loop g l = Continues l.system l.fn.caller l.caller
+    × AreNoticesOf l.system (config_of l.caller.pass).cqs l.notices.items

@@ -1,17 +1,17 @@
 use Rattle.std.proofs.Common.{ap, arith, refl, ℕ, ◌+◌}
-use Rattle.hosts.specs.declared.hall.HostHand.{HostHand}
+use Rattle.shared_system.specs.declared.system.HostPasses.{HostPasses}
 use Rattle.race_run.proofs.Ended.{down_from}
 use Rattle.race_run.proofs.closing.put_hosts.Goals as goal
 
 pub loop-init : goal.loop-init
 loop-init c =
-    let e = c.args.hall.now.engine in
+    let e = c.args.system.now.engine in
     let p = c.args.play.now in
     let s = c.args.servers in
     let same = c.len-count.ensures in
     let have = c.requires.servers in
     let room = c.requires.room in (
-      down_from e p.config p.slots s (λ (h : HostHand). h.pass) _ _ c.args.hosts.items (ap (λ (n : ℕ). s + n) same)
+      down_from e p.config p.slots s (λ (h : HostPasses). h.pass) _ _ c.args.hosts.items (ap (λ (n : ℕ). s + n) same)
           c.requires.hosts,
       c.requires.passes,
       omega (arith, same),

@@ -5,7 +5,7 @@ use Rattle.race_run.proofs.closing.put_pass.Goals as goal
 
 pub returns-clause-passes : goal.returns-clause-passes
 returns-clause-passes c =
-    let e = c.args._hall.now.engine in
+    let e = c.args._system.now.engine in
     let p = c.args._play.now in
     let s = c.args._servers in
     let is = c.requires.number in

@@ -1,5 +1,5 @@
-use Rattle.driver_rows.specs.Benches.{IsHostOf}
+use Rattle.driver_rows.specs.Benches.{IsBenchHost}
 use Rattle.refusal_runs.proofs.calls.begins.Given as goal
 
 abbrev pub invariant-loop : goal.invariant-loop
-invariant-loop l = IsHostOf l._bench l.host
+invariant-loop l = IsBenchHost l._bench l.host

@@ -1,5 +1,5 @@
-use Rattle.driver_rows.specs.Benches.{AreOf}
+use Rattle.driver_rows.specs.Benches.{AreBenchSpares}
 use Rattle.refusal_runs.proofs.calls.host.Given as goal
 
 abbrev pub invariant-loop : goal.invariant-loop
-invariant-loop l = AreOf l.bench l.spares
+invariant-loop l = AreBenchSpares l.bench l.spares

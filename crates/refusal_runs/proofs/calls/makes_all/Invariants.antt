@@ -1,5 +1,5 @@
-use Rattle.driver_rows.specs.Benches.{IsHostOf, IsServerOf}
+use Rattle.driver_rows.specs.Benches.{IsBenchHost, IsServerOf}
 use Rattle.refusal_runs.proofs.calls.makes_all.Given as goal
 
 abbrev pub invariant-loop-ask : goal.invariant-loop-ask
-invariant-loop-ask g l = IsServerOf l.bench l.server × IsHostOf l.bench l.host
+invariant-loop-ask g l = IsServerOf l.bench l.server × IsBenchHost l.bench l.host

@@ -1,5 +1,5 @@
-use Rattle.lock_rows.specs.Hands.{IsCrewOf}
+use Rattle.lock_rows.specs.Callers.{IsCrewOf}
 use Rattle.refusal_runs.proofs.works.fetched.Given as goal
 
 abbrev pub invariant-loop : goal.invariant-loop
-invariant-loop g l = IsCrewOf l.hall l.crew
+invariant-loop g l = IsCrewOf l.system l.crew

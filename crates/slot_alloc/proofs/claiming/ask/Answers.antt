@@ -4,22 +4,22 @@ use Rattle.driver_cas.specs.declared.fault.Fault.{Fault}
 use Rattle.slot_alloc.specs.Areas.{block_of}
 use Rattle.slot_alloc.proofs.Asking.{call_kept, claiming_due, claiming_now, claims_of, start_of, told_full, told_later}
 use Rattle.slot_alloc.proofs.Asking.{unreleased_now}
-use Rattle.slot_alloc.proofs.Starting.{careful_claimed, careful_same, goes_on_claimed, goes_on_same}
+use Rattle.slot_alloc.proofs.Starting.{slot_rules_claimed, slot_rules_same, goes_on_claimed, goes_on_same}
 use Rattle.slot_alloc.proofs.claiming.ask.Goals as goal
 
-pub returns-in-Ok-clause-careful : goal.returns-in-Ok-clause-careful
-returns-in-Ok-clause-careful g c =
+pub returns-in-Ok-clause-slot_rules : goal.returns-in-Ok-clause-slot_rules
+returns-in-Ok-clause-slot_rules g c =
     let d = c.args.driver.now in
     let e = c.start_claim.new.self in
     let k = c.args.claiming in
     let x = c.in-Ok in
-    careful_claimed g.P.Port d e (block_of (area_of d) k.slot) x.call x.serial
+    slot_rules_claimed g.P.Port d e (block_of (area_of d) k.slot) x.call x.serial
     (claims_of g.P.Port d e k.slots k.slot c.block.result x.call x.serial c.block.ensures x.ensures.settings
     x.ensures.later x.ensures.is x.ensures.law.0 x.ensures.law.1 x.ensures.law.2 c.requires.of.area_is
     c.requires.of.inside)
 
 pub returns-in-Ok-clause-unreleased : goal.returns-in-Ok-clause-unreleased
-returns-in-Ok-clause-unreleased g c = λ careful.
+returns-in-Ok-clause-unreleased g c = λ slot_rules.
     let d = c.args.driver.now in
     let e = c.start_claim.new.self in
     let k = c.args.claiming in
@@ -27,7 +27,7 @@ returns-in-Ok-clause-unreleased g c = λ careful.
     unreleased_now g.P.Port d e k.slot x.call x.serial
     (claims_of g.P.Port d e k.slots k.slot c.block.result x.call x.serial c.block.ensures x.ensures.settings
     x.ensures.later x.ensures.is x.ensures.law.0 x.ensures.law.1 x.ensures.law.2 c.requires.of.area_is
-    c.requires.of.inside) careful
+    c.requires.of.inside) slot_rules
 
 pub returns-in-Ok-clause-goes_on : goal.returns-in-Ok-clause-goes_on
 returns-in-Ok-clause-goes_on g c =
@@ -66,10 +66,10 @@ returns-in-Ok-clause-of g c =
 pub returns-in-Ok-clause-others : goal.returns-in-Ok-clause-others
 returns-in-Ok-clause-others g c = c.in-Ok.ensures.is.2.others
 
-pub returns-then-eq-clause-careful : goal.returns-then-eq-clause-careful
-returns-then-eq-clause-careful g c =
+pub returns-then-eq-clause-slot_rules : goal.returns-then-eq-clause-slot_rules
+returns-then-eq-clause-slot_rules g c =
     let x = c.in-Err.ensures in
-    careful_same g.P.Port c.args.driver.now c.start_claim.new.self x.settings x.is.0 x.is.1.0
+    slot_rules_same g.P.Port c.args.driver.now c.start_claim.new.self x.settings x.is.0 x.is.1.0
 
 pub returns-then-eq-clause-goes_on : goal.returns-then-eq-clause-goes_on
 returns-then-eq-clause-goes_on g c =
@@ -105,10 +105,10 @@ returns-then-eq-clause-others g c =
       tt,
     )
 
-pub returns-else-eq-clause-careful : goal.returns-else-eq-clause-careful
-returns-else-eq-clause-careful g c =
+pub returns-else-eq-clause-slot_rules : goal.returns-else-eq-clause-slot_rules
+returns-else-eq-clause-slot_rules g c =
     let x = c.in-Err.ensures in
-    careful_same g.P.Port c.args.driver.now c.start_claim.new.self x.settings x.is.0 x.is.1.0
+    slot_rules_same g.P.Port c.args.driver.now c.start_claim.new.self x.settings x.is.0 x.is.1.0
 
 pub returns-else-eq-clause-goes_on : goal.returns-else-eq-clause-goes_on
 returns-else-eq-clause-goes_on g c =

@@ -2,8 +2,8 @@ use Rattle.driver_cas.specs.Drivers.{area_of, before, host_of, serial_of as last
 use Rattle.driver_cas.specs.Ports.{view_of}
 use Rattle.slot_calls.proofs.Views.{view_believed, view_holder}
 use Rattle.slot_calls.specs.Hosts.{IsSlotView}
-use Rattle.slot_alloc.specs.Areas.{block_of, serial_of, slot_of}
-use Rattle.slot_alloc.specs.Careful.{own_name}
+use Rattle.slot_alloc.specs.Areas.{block_of, claim_serial, slot_of}
+use Rattle.slot_alloc.specs.SlotRules.{own_name}
 use Rattle.slot_alloc.proofs.Asking.{inside_of}
 use Rattle.slot_alloc.proofs.laws.a_claim_holds_its_slot.Goals as goal
 
@@ -12,15 +12,15 @@ returns c =
     let d = c.args.driver.now in
     let k = c.args.claim.now in
     record {
-      believed = λ held careful host.
+      believed = λ held slot_rules host.
           let view : IsSlotView (before d) (area_of d) (host_of d) (last_of d) (view_of d.port) =
-          record { legal = d.port.legal; premises = host; tidy = d.tidy; careful = careful } in
+          record { legal = d.port.legal; premises = host; tidy = d.tidy; slot_rules = slot_rules } in
           view_believed (before d) (area_of d) (host_of d) (last_of d) (view_of d.port)
-          (block_of (area_of d) (slot_of k)) (own_name d (serial_of k)) view
+          (block_of (area_of d) (slot_of k)) (own_name d (claim_serial k)) view
           (inside_of (area_of d) (slot_of k) held.inside) held.believed;
-      holder = λ held careful host.
+      holder = λ held slot_rules host.
           let view : IsSlotView (before d) (area_of d) (host_of d) (last_of d) (view_of d.port) =
-          record { legal = d.port.legal; premises = host; tidy = d.tidy; careful = careful } in
+          record { legal = d.port.legal; premises = host; tidy = d.tidy; slot_rules = slot_rules } in
           view_holder (before d) (area_of d) (host_of d) (last_of d) (view_of d.port) (block_of (area_of d) (slot_of k))
-          (own_name d (serial_of k)) view (inside_of (area_of d) (slot_of k) held.inside) held.believed;
+          (own_name d (claim_serial k)) view (inside_of (area_of d) (slot_of k) held.inside) held.believed;
     }

@@ -1,4 +1,4 @@
-use Rattle.slot_alloc.proofs.Untouched.{careful_kept, claiming_kept, goes_on_kept, held_kept, releasing_kept}
+use Rattle.slot_alloc.proofs.Untouched.{slot_rules_kept, claiming_kept, goes_on_kept, held_kept, releasing_kept}
 use Rattle.slot_alloc.proofs.Untouched.{unreleased_kept}
 use Rattle.slot_alloc.proofs.laws.an_untouched_driver_keeps_its_slots.Goals as goal
 
@@ -8,7 +8,7 @@ returns g c =
     let e = c.args.new.now in
     let on = g.met.P.Port.goes_on in
     record {
-      careful = λ u careful. careful_kept g.P.Port d e u careful;
+      slot_rules = λ u slot_rules. slot_rules_kept g.P.Port d e u slot_rules;
       goes_on = λ u. goes_on_kept g.P.Port d e u;
       held = λ u claim held. held_kept g.P.Port d e claim u held;
       claiming = λ u k of. claiming_kept g.P.Port on d e k u of;

@@ -1,6 +1,6 @@
 use Rattle.driver_cas.specs.Drivers.{area_of}
 use Rattle.slot_alloc.proofs.Keeping.{pair_sound, request_sound, start_kept}
-use Rattle.slot_alloc.proofs.Polling.{careful_polled, goes_on_polled}
+use Rattle.slot_alloc.proofs.Polling.{slot_rules_polled, goes_on_polled}
 use Rattle.driver_cas.specs.Requests.{pair_request_of, request_of}
 use Rattle.slot_alloc.proofs.laws.other_calls_touch_no_slot.Goals as goal
 
@@ -16,7 +16,7 @@ returns g c =
           start_kept g.P.Port d e (pair_request_of acwu (area_of d) slba bytes others) contents result same later
           (pair_sound acwu (area_of d) slba bytes others) s;
       poll = λ same later one. (
-        careful_polled g.P.Port d e (record { same = same; later = later; one = one }),
+        slot_rules_polled g.P.Port d e (record { same = same; later = later; one = one }),
         goes_on_polled g.P.Port d e (record { same = same; later = later; one = one }),
       );
     }

@@ -1,12 +1,12 @@
 use Rattle.std.proofs.Common.{None, subst, Ok, Some, ap, inl, refl, ◌≡◌, sym, ◌∙◌}
 use Rattle.driver_calls.specs.declared.reply.Reply.{Reply}
-use Rattle.driver_cas.specs.Drivers.{Says}
+use Rattle.driver_cas.specs.Drivers.{SaysOfPort}
 use Rattle.driver_cas.specs.declared.call.Call.{Call}
 use Rattle.slot_alloc.proofs.Polling.{Polls, by_stage, claiming_polled, differs_ended, ended_polled, failed_polled}
 use Rattle.slot_alloc.proofs.Polling.{goes_on_on, goes_on_polled, held_polled, lost_polled}
 use Rattle.slot_alloc.proofs.Polling.{still_polled, waiting_polled, won_polled}
 use Rattle.slot_alloc.specs.Progresses.{IsLost, IsLostOn}
-use Rattle.slot_alloc.specs.declared.claiming.Stage.{Stage}
+use Rattle.slot_alloc.specs.declared.claiming.ClaimStage.{ClaimStage}
 use Rattle.slot_alloc.proofs.poll.poll_claim.Goals as goal
 use Rattle.slot_alloc.proofs.NextSlots.{lost_held, polled_lost}
 
@@ -34,25 +34,26 @@ returns-in-Pending-clause-of g c =
     let serial = c.in-Asked.serial in
     claiming_polled g.P.Port g.met.P.Port.goes_on c.args.driver.now c.poll.new.self c.args.claiming y.call serial
     c.requires.of (sym c.replace.ensures.value ∙ c.in-Asked.is
-    ∙ ap (λ (k : Call _). Stage.Asked k serial) (sym y.ensures.back))
+    ∙ ap (λ (k : Call _). ClaimStage.Asked k serial) (sym y.ensures.back))
     (record { same = x.same; later = x.later; one = x.one }) y.ensures.stays
 
 pub returns-in-Pending-clause-unreleased : goal.returns-in-Pending-clause-unreleased
-returns-in-Pending-clause-unreleased g c = λ careful unreleased.
+returns-in-Pending-clause-unreleased g c = λ slot_rules unreleased.
     let x = c.poll.ensures in
     let y = c.in-Pending in
     let serial = c.in-Asked.serial in
     still_polled g.P.Port c.args.driver.now c.poll.new.self c.args.claiming y.call serial c.requires.of
-    (sym c.replace.ensures.value ∙ c.in-Asked.is ∙ ap (λ (k : Call _). Stage.Asked k serial) (sym y.ensures.back))
+    (sym c.replace.ensures.value ∙ c.in-Asked.is ∙ ap (λ (k : Call _). ClaimStage.Asked k serial) (sym y.ensures.back))
     (record { same = x.same; later = x.later; one = x.one }) unreleased
 
 pub returns-in-Later-clause-unreleased : goal.returns-in-Later-clause-unreleased
-returns-in-Later-clause-unreleased g c = λ careful unreleased.
+returns-in-Later-clause-unreleased g c = λ slot_rules unreleased.
     let x = c.poll.ensures in
     let y = c.in-Later in
     let serial = c.in-Asked.serial in
     still_polled g.P.Port c.args.driver.now c.poll.new.self c.args.claiming y.call serial c.requires.of
-    (sym c.replace.ensures.value ∙ c.in-Asked.is ∙ ap (λ (k : Call _). Stage.Asked k serial) (sym y.ensures.back.0))
+    (sym c.replace.ensures.value ∙ c.in-Asked.is
+    ∙ ap (λ (k : Call _). ClaimStage.Asked k serial) (sym y.ensures.back.0))
     (record { same = x.same; later = x.later; one = x.one }) unreleased
 
 pub returns-in-Later-clause-goes_on : goal.returns-in-Later-clause-goes_on
@@ -82,7 +83,7 @@ returns-in-Later-clause-of g c =
     let serial = c.in-Asked.serial in
     claiming_polled g.P.Port g.met.P.Port.goes_on c.args.driver.now c.poll.new.self c.args.claiming y.call serial
     c.requires.of (sym c.replace.ensures.value ∙ c.in-Asked.is
-    ∙ ap (λ (k : Call _). Stage.Asked k serial) (sym y.ensures.back.0))
+    ∙ ap (λ (k : Call _). ClaimStage.Asked k serial) (sym y.ensures.back.0))
     (record { same = x.same; later = x.later; one = x.one }) y.ensures.stays
 
 pub next-requires : goal.next-requires
@@ -95,7 +96,7 @@ next-requires g c =
     let polls : Polls g.P.Port c.args.driver.now c.poll.new.self =
     record { same = x.same; later = x.later; one = x.one } in
     record {
-      lost = subst (λ (z : Stage _ × Call _).
+      lost = subst (λ (z : ClaimStage _ × Call _).
           IsLost c.poll.new.self (record {
             slots = k.slots;
             reach = k.reach;
@@ -148,7 +149,7 @@ returns-then-is_swapped-clause-is g c =
       refl,
       ended_polled g.P.Port g.met.P.Port.stays c.args.driver.now c.poll.new.self k call serial (Ok Reply.Swapped)
           c.requires.of is polls y.ensures.asks answer
-          (subst (λ (r : Reply). Says c.poll.new.self call (Some (Ok r))) yes y.ensures.says),
+          (subst (λ (r : Reply). SaysOfPort c.poll.new.self call (Some (Ok r))) yes y.ensures.says),
       won_polled g.P.Port c.args.driver.now c.poll.new.self k call serial c.requires.of is polls answer,
     )
 
@@ -193,7 +194,7 @@ returns-else-is_swapped-clause-is g c =
     (differs_ended g.P.Port g.met.P.Port.stays c.args.driver.now e k call serial y.reply c.requires.of is
     (record { same = x.same; later = x.later; one = x.one }) y.ensures.asks
     (c.is_swapped.ensures.no_other c.if-is_swapped.false) (sym y.ensures.answer) y.ensures.says)
-    (subst (λ (z : Stage _ × Call _).
+    (subst (λ (z : ClaimStage _ × Call _).
     IsLostOn e f (record {
       slots = k.slots;
       reach = k.reach;

@@ -1,6 +1,6 @@
 use Rattle.std.proofs.Common.{Ok, Some, ap, inr, refl, subst, sym, ◌∙◌}
 use Rattle.driver_calls.specs.declared.reply.Reply.{Reply}
-use Rattle.driver_cas.specs.Drivers.{IsCallOf, Says}
+use Rattle.driver_cas.specs.Drivers.{IsCallOf, SaysOfPort}
 use Rattle.driver_cas.specs.declared.call.Call.{Call}
 use Rattle.slot_alloc.proofs.GivingBack.{differs_polled, failed_release, releasing_polled, same_releasing}
 use Rattle.slot_alloc.proofs.Polling.{goes_on_polled}
@@ -80,6 +80,6 @@ returns-else-is_swapped-clause-is g c =
       refl,
       (
         sym y.ensures.answer ∙ ap (λ (r : Reply). Some (Ok r)) differs,
-        subst (λ (r : Reply). Says e k.call (Some (Ok r))) differs y.ensures.says,
+        subst (λ (r : Reply). SaysOfPort e k.call (Some (Ok r))) differs y.ensures.says,
       ),
     )

@@ -4,8 +4,8 @@ use Rattle.driver_cas.specs.Drivers.{area_of, host_of, serial_of}
 use Rattle.driver_cas.specs.Ports.{view_of}
 use Rattle.driver_cas.specs.declared.shared_port.SharedPort.{SharedPort}
 use Rattle.meet_lock.specs.Passes.{seen}
-use Rattle.slot_calls.specs.Careful.{is_careful}
-use Rattle.slot_hosts.proofs.GoingOn.{careful_first, none_done}
+use Rattle.slot_calls.specs.SlotRules.{keeps_slot_rules}
+use Rattle.slot_hosts.proofs.GoingOn.{slot_rules_first, none_done}
 use Rattle.slot_hosts.proofs.driver_laws.a_new_driver_is_a_host.Goals as goal
 
 pub returns : goal.returns
@@ -13,10 +13,10 @@ returns c = λ same none.
     let d = c.args.driver.now in
     record {
       first = ap (λ (p : SharedPort). seen p.pass) (sym same) ∙ none;
-      careful = subst (λ (p : SharedPort).
-          is_careful (area_of d) (host_of d) (serial_of d) (since (log_of (view_of p)) (log_of (view_of d.port)))
+      slot_rules = subst (λ (p : SharedPort).
+          keeps_slot_rules (area_of d) (host_of d) (serial_of d) (since (log_of (view_of p)) (log_of (view_of d.port)))
           ≡ true) same
-          (careful_first (area_of d) (host_of d) (serial_of d) (log_of (view_of d.port)) (none_done d.port none));
+          (slot_rules_first (area_of d) (host_of d) (serial_of d) (log_of (view_of d.port)) (none_done d.port none));
       config = refl;
       area = refl;
       pass_is = refl;

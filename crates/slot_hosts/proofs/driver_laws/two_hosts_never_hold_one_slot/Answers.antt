@@ -2,8 +2,8 @@ use Rattle.std.proofs.Common.{arith, subst, sym, true, ℕ, ◌≡◌}
 use Rattle.nvme_model.specs.declared.array.Range.{Range}
 use Rattle.host_laws.proofs.Discipline.{has_area}
 use Rattle.driver_cas.specs.Drivers.{area_of, host_of, made, serial_of as last_of}
-use Rattle.slot_alloc.specs.Areas.{block_of, serial_of, slot_of}
-use Rattle.slot_alloc.specs.Careful.{own_name}
+use Rattle.slot_alloc.specs.Areas.{block_of, claim_serial, slot_of}
+use Rattle.slot_alloc.specs.SlotRules.{own_name}
 use Rattle.slot_calls.specs.Swaps.{log_believed}
 use Rattle.slot_hosts.proofs.Hosts.{PortIn}
 use Rattle.slot_hosts.proofs.TwoHosts.{never_both}
@@ -21,7 +21,7 @@ returns c = λ passes met claim second x held held_too same.
       first = x.one.first;
       counted = d.sole;
       tidy = d.tidy;
-      careful = x.one.careful;
+      slot_rules = x.one.slot_rules;
       begins = x.one.begins;
       whole = x.one.whole;
     } in
@@ -31,12 +31,12 @@ returns c = λ passes met claim second x held held_too same.
       first = x.two.first;
       counted = e.sole;
       tidy = e.tidy;
-      careful = x.two.careful;
+      slot_rules = x.two.slot_rules;
       begins = x.two.begins;
       whole = x.two.whole;
     } in
     never_both (area_of d) passes (host_of d) (host_of e) (last_of d) (last_of e) d.began.value d.port e.began.value
-    e.port met l (own_name d (serial_of claim)) (own_name e (serial_of second)) first
+    e.port met l (own_name d (claim_serial claim)) (own_name e (claim_serial second)) first
     (subst (λ (s : Range). PortIn s (host_of e) (last_of e) e.began.value e.port met) x.area other)
     (record {
       config = x.config;
@@ -46,5 +46,5 @@ returns c = λ passes met claim second x held held_too same.
       others = x.others;
     })
     x.hosts (has_area (area_of d) l (record { from = omega arith; to = omega (arith, within) })) held.believed
-    (subst (λ (z : Range × ℕ). log_believed (made e) (block_of z.0 z.1) (own_name e (serial_of second)) ≡ true)
+    (subst (λ (z : Range × ℕ). log_believed (made e) (block_of z.0 z.1) (own_name e (claim_serial second)) ≡ true)
     (λ i. (x.area i, sym same i)) held_too.believed)

@@ -1,6 +1,6 @@
 use Rattle.nvme_model.specs.Passes.{SharedPast}
 use Rattle.driver_cas.specs.Drivers.{area_of, host_of, serial_of}
-use Rattle.slot_hosts.proofs.Hosts.{PortIn, made_log, met_careful, met_legal, met_own, met_tidy}
+use Rattle.slot_hosts.proofs.Hosts.{PortIn, made_log, met_slot_rules, met_legal, met_own, met_tidy}
 use Rattle.slot_hosts.proofs.driver_laws.what_a_host_did.Goals as goal
 
 pub returns-clause-log : goal.returns-clause-log
@@ -12,7 +12,7 @@ returns-clause-log c = λ met x.
       first = x.first;
       counted = d.sole;
       tidy = d.tidy;
-      careful = x.careful;
+      slot_rules = x.slot_rules;
       begins = x.begins;
       whole = x.whole;
     })
@@ -26,7 +26,7 @@ returns-clause-legal c = λ met x.
       first = x.first;
       counted = d.sole;
       tidy = d.tidy;
-      careful = x.careful;
+      slot_rules = x.slot_rules;
       begins = x.begins;
       whole = x.whole;
     })
@@ -40,7 +40,7 @@ returns-clause-own c = λ met x.
       first = x.first;
       counted = d.sole;
       tidy = d.tidy;
-      careful = x.careful;
+      slot_rules = x.slot_rules;
       begins = x.begins;
       whole = x.whole;
     })
@@ -54,21 +54,21 @@ returns-clause-tidy c = λ met x.
       first = x.first;
       counted = d.sole;
       tidy = d.tidy;
-      careful = x.careful;
+      slot_rules = x.slot_rules;
       begins = x.begins;
       whole = x.whole;
     })
 
-pub returns-clause-careful : goal.returns-clause-careful
-returns-clause-careful c = λ met x.
+pub returns-clause-slot_rules : goal.returns-clause-slot_rules
+returns-clause-slot_rules c = λ met x.
     let d = c.args.driver.now in
-    met_careful (area_of d) (host_of d) (serial_of d) d.began.value d.port met
+    met_slot_rules (area_of d) (host_of d) (serial_of d) d.began.value d.port met
     (record {
       legal = d.port.legal;
       first = x.first;
       counted = d.sole;
       tidy = d.tidy;
-      careful = x.careful;
+      slot_rules = x.slot_rules;
       begins = x.begins;
       whole = x.whole;
     })

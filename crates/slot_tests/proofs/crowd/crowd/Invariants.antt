@@ -1,7 +1,7 @@
 use Rattle.std.specs.Prelude.{All}
-use Rattle.driver_rows.specs.Benches.{AreOf}
+use Rattle.driver_rows.specs.Benches.{AreBenchSpares}
 use Rattle.driver_rows.specs.Claimants.{IsClaimant}
 use Rattle.slot_tests.proofs.crowd.crowd.Given as goal
 
 abbrev pub invariant-loop-h : goal.invariant-loop-h
-invariant-loop-h l = AreOf l.bench l.spares × All (IsClaimant l.bench l.slots) l.all.items
+invariant-loop-h l = AreBenchSpares l.bench l.spares × All (IsClaimant l.bench l.slots) l.all.items

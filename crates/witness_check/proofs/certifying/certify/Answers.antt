@@ -1,5 +1,5 @@
 use Rattle.std.proofs.Common.{false, reverse, sym, true, ◌≡◌, ◌∙◌}
-use Rattle.witness_check.specs.declared.comparison.Verdict.TheVariants.{Bad, Explained}
+use Rattle.witness_check.specs.declared.comparison.TraceVerdict.TheVariants.{Bad, Explained}
 use Rattle.witness_check.proofs.Judging.{not_explained}
 use Rattle.witness_check.proofs.certifying.certify.Goals as goal
 

@@ -7,6 +7,7 @@ returns-then-is_some g c = record {
   judged = λ k past h.
       rw c.in-Some.ensures.1 (judged_on _ k past c.args.entry.now _ _ c.args.self.now.count c.args.self.now.bad
       (sym c.is_some.ensures ∙ c.if-is_some.true) h);
+  err = tt;
 }
 
 pub returns : goal.returns
@@ -16,4 +17,5 @@ returns g c = record {
       (judged_next _ k past c.args.entry.now _ _ c.args.self.now.count c.args.self.now.bad
       (sym c.is_some.ensures ∙ c.if-is_some.false) h c.in_ok-follows.follows (c.in_ok-follows.ensures.ok past)
       c.in_ok-broken.broken (c.in_ok-broken.ensures.first past));
+  err = tt;
 }

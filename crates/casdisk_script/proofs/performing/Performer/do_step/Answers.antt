@@ -1,12 +1,12 @@
 use Rattle.std.proofs.Common.{ap, ◌∙◌}
-use Rattle.controller_steps.specs.State.{State}
+use Rattle.controller_steps.specs.State.{ControllerState}
 use Rattle.casdisk_script.proofs.Stepping.{config_served}
 use Rattle.casdisk_script.proofs.performing.Performer.do_step.Goals as goal
 
 pub returns-clause-same : goal.returns-clause-same
 returns-clause-same g c =
     let same = c.tell_answer.ensures.same in (
-      ap (λ (x : State). x.config) same.0
+      ap (λ (x : ControllerState). x.config) same.0
           ∙ config_served c.args.self.now.core c.step-answer.new.self c.args.step c.step-answer.result
           c.step-answer.ensures.serves,
       same.1,

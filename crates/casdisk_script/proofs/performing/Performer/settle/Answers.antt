@@ -1,6 +1,6 @@
 use Rattle.std.proofs.Common.{ap, option_map, refl, sym, ◌∙◌, arith}
 use Rattle.line_text.proofs.Known.{on_err}
-use Rattle.controller_steps.specs.State.{State}
+use Rattle.controller_steps.specs.State.{ControllerState}
 use Rattle.casdisk_script.proofs.Settling.{settled_none, settled_ready, settled_all, settled_next, settled_stopped}
 use Rattle.casdisk_script.proofs.Stepping.{config_served}
 use Rattle.casdisk_script.proofs.performing.Performer.settle.Goals as goal
@@ -10,7 +10,7 @@ loop-turn-init g c = record { config = refl; kinds = refl; settled = settled_non
 
 pub returns-in_default-clause-same : goal.returns-in_default-clause-same
 returns-in_default-clause-same g c = (
-  ap (λ (x : State). x.config) c.in_default.ensures.serves ∙ c.loop-turn.invariant.config,
+  ap (λ (x : ControllerState). x.config) c.in_default.ensures.serves ∙ c.loop-turn.invariant.config,
   c.loop-turn.invariant.kinds,
 )
 
@@ -24,7 +24,7 @@ pub returns-in_err-tell_answer-clause-same : goal.returns-in_err-tell_answer-cla
 returns-in_err-tell_answer-clause-same g c =
     let inv = c.loop-turn.invariant in
     let same = c.tell_answer.ensures.same in (
-      ap (λ (x : State). x.config) same.0
+      ap (λ (x : ControllerState). x.config) same.0
           ∙ config_served c.loop-turn.self.core c.step_ready.new.self c.in-Some._step c.in-Some.answer
           c.in-Some.ensures.serves ∙ inv.config,
       same.1 ∙ inv.kinds,
@@ -46,7 +46,7 @@ loop-turn-preserved g c =
     let done = rw (inv.config, inv.kinds) at
     (c.in_ok-tell_answer.ensures.done c.loop-turn.self.core c.in-Some._step c.in-Some.ensures.serves) in
     record {
-      config = ap (λ (x : State). x.config) same.0
+      config = ap (λ (x : ControllerState). x.config) same.0
           ∙ config_served c.loop-turn.self.core c.step_ready.new.self c.in-Some._step c.in-Some.answer
           c.in-Some.ensures.serves ∙ inv.config;
       kinds = same.1 ∙ inv.kinds;

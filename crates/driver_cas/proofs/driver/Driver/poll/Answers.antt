@@ -2,7 +2,7 @@ use Rattle.std.proofs.Common.{◌∙◌, Option, Result, refl, subst, sym}
 use Rattle.nvme_model.specs.declared.status.Status.{Status}
 use Rattle.driver_calls.specs.declared.reply.Reply.{Reply}
 use Rattle.driver_cas.specs.declared.call.Poll.{Poll}
-use Rattle.driver_cas.specs.Drivers.{Says, before, number_of}
+use Rattle.driver_cas.specs.Drivers.{SaysOfPort, before, number_of}
 use Rattle.driver_cas.proofs.Drivers.{asks_over, freed_some, later_ended, one_over, says_over, told_back}
 use Rattle.driver_cas.proofs.driver.Driver.poll.Goals as goal
 
@@ -53,7 +53,7 @@ returns-in-Err-clause-says g c =
     let d = c.reap.new.self in
     let k = c.args.call in
     let of = c.reap.ensures.calls k c.requires in
-    subst (λ (r : Option (Result Reply Status)). Says d k r) c.in-Err.ensures.waits
+    subst (λ (r : Option (Result Reply Status)). SaysOfPort d k r) c.in-Err.ensures.waits
     (g.met.P.Port.tells (before d) k.start.value d.port k.queue (number_of d k) k.first k.second k.op of.later
     (d.own k.queue of.known) d.tidy refl of.published)
 

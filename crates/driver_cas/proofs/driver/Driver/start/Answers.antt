@@ -1,7 +1,7 @@
 use Rattle.std.proofs.Common.{List, ℕ, get_or, rules, ◌<◌, ◌≡◌, ◌∙◌, ap, length, refl, subst, sym}
 use Rattle.std.specs.List.Sorted.{IsStrictlyIncreasing}
 use Rattle.std.specs.Prelude.{Contains}
-use Rattle.cid_table.specs.Cids.{Cids, queues_of}
+use Rattle.cid_table.specs.Cids.{QueueCids, queues_of}
 use Rattle.driver_cas.specs.Turns.{IsTurn}
 use Rattle.driver_cas.proofs.Starting.{begun, untouched_on, untouched_self}
 use Rattle.driver_cas.proofs.Passing.{contained, no_room, stopped, too_few, turn_now}
@@ -51,7 +51,7 @@ returns-in-Started-clause-is g c =
     i.untouched t.1 i.contents
     (subst (λ (q : ℕ). IsTurn d e.port r c.args.contents q) (sym t.0)
     (turn_now g.P.Port d e.port r c.args.contents c.loop-k.k (get_or c.queues.result.now c.loop-k.k 0)
-    (subst (λ (x : Cids). IsStrictlyIncreasing (queues_of x)) i.untouched.as_before.1 c.queues.ensures.law)
+    (subst (λ (x : QueueCids). IsStrictlyIncreasing (queues_of x)) i.untouched.as_before.1 c.queues.ensures.law)
     (subst (λ (xs : List ℕ). c.loop-k.k < length xs) c.queues-k-end.ensures.value c.loop-k-test.true)
     (ap (λ (xs : List ℕ). get_or xs c.loop-k.k 0) (c.queues.ensures.value ∙ ap queues_of i.untouched.as_before.1))
     i.passed))
@@ -70,7 +70,7 @@ returns-in-Stopped-clause-is g c =
     (subst (λ (xs : List ℕ). Contains xs (get_or c.queues.result.now c.loop-k.k 0)) same
     (contained c.queues.result.now c.loop-k.k within))
     (turn_now g.P.Port d e.port r c.args.contents c.loop-k.k (get_or c.queues.result.now c.loop-k.k 0)
-    (subst (λ (x : Cids). IsStrictlyIncreasing (queues_of x)) i.untouched.as_before.1 c.queues.ensures.law)
+    (subst (λ (x : QueueCids). IsStrictlyIncreasing (queues_of x)) i.untouched.as_before.1 c.queues.ensures.law)
     (subst (λ (xs : List ℕ). c.loop-k.k < length xs) c.queues-k-end.ensures.value c.loop-k-test.true)
     (ap (λ (xs : List ℕ). get_or xs c.loop-k.k 0) same) i.passed)
     i.untouched i.contents c.publish_to.ensures.later c.in-Stopped.ensures.tried

@@ -25,7 +25,7 @@ returns-clause-job c =
     ∙ ap (λ (bytes : List ℕ). read_of bytes j.slba p v f) c.as_mut_slice-read.ensures.value in
     let r = made (record {
       queue = j.queue;
-      course = j.course;
+      progress = j.progress;
       slba = j.slba;
       compare = j.compare;
       write = drop j.written (contents_of j.write.items);

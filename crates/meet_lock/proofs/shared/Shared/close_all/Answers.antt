@@ -6,7 +6,7 @@ use Rattle.atomic_table.specs.Table.{Me}
 use Rattle.nvme_model.specs.History.{Past}
 use Rattle.nvme_model.specs.Passes.{SharedPast, entries, places}
 use Rattle.nvme_model.specs.declared.config.ConfigNumbers.{ConfigNumbers}
-use Rattle.meet_lock.specs.Lock.{GoesOn}
+use Rattle.meet_lock.specs.Lock.{ExtendsByPasses}
 use Rattle.meet_lock.specs.Passes.{AllSaw, config_of, mine, number, seen}
 use Rattle.meet_lock.specs.declared.pass.Pass.{Pass}
 use Rattle.meet_lock.proofs.Wholes.{at_mid, each_front, seen_whole}
@@ -32,7 +32,8 @@ loop-pass-init g c =
         first ∷ [],
         sym items,
         (
-          subst (λ (z : ℕ × SharedPast). GoesOn z.0 (seen first) z.1 × (places (number first) z.1 ≡ mine first))
+          subst (λ (z : ℕ × SharedPast). ExtendsByPasses z.0 (seen first) z.1
+              × (places (number first) z.1 ≡ mine first))
               (λ i. (q.2 i, held i)) (o.begins, o.mine),
           tt,
         ),
@@ -70,7 +71,7 @@ loop-pass-preserved g c =
         pass ∷ t.0,
         sym (append_assoc left (pass ∷ []) t.0) ∙ (ap (λ l. l ++ t.0) (sym c.in-Some-pop.ensures.items) ∙ t.1),
         subst (λ (z : SharedPast). AllSaw (vec_len c.args.passes) z (pass ∷ t.0)) (sym s.2)
-            ((subst (λ (k : ℕ). GoesOn k (seen pass) c.loop-pass.seat.me.0.held) inv.count saw.0, saw.1), t.2),
+            ((subst (λ (k : ℕ). ExtendsByPasses k (seen pass) c.loop-pass.seat.me.0.held) inv.count saw.0, saw.1), t.2),
         subst (λ (z : ConfigNumbers). (k : ℕ) (p : Pass g.row.M.Denot) → slice_get (pass ∷ t.0) k ≡ Some p
             → config_of p ≡ z) (sym s.4)
             (each_front (λ (p : Pass g.row.M.Denot). config_of p ≡ c.loop-pass.seat.me.0.config) pass t.0

@@ -1,7 +1,7 @@
 use Rattle.std.proofs.Common.{Option, ap, refl, subst, sym, ◌∙◌, ◌≡◌}
 use Rattle.atomic_table.specs.Table.{Me}
 use Rattle.nvme_model.specs.Passes.{places}
-use Rattle.meet_lock.specs.Lock.{GoesOn, hearing, longer}
+use Rattle.meet_lock.specs.Lock.{ExtendsByPasses, hearing, longer}
 use Rattle.meet_lock.specs.SeatSteps.{SawAll}
 use Rattle.meet_lock.specs.declared.view.View.{View}
 use Rattle.meet_lock.proofs.Beginnings.{longer_end}
@@ -12,8 +12,8 @@ returns-clause-saw g c =
     let v : View = c.args.seat.now.me.0 in
     let w : View = c.args.pass.seat.me.0 in
     let saw = (subst (λ (z : Me (Option g.row.M.Denot) View). SawAll z.0) c.hear.ensures.1 c.peek.ensures.told) refl in
-    let begins : GoesOn v.passes w.seen v.held =
-    subst (λ (z : Me (Option g.row.M.Denot) View). GoesOn v.passes z.0.seen v.held)
+    let begins : ExtendsByPasses v.passes w.seen v.held =
+    subst (λ (z : Me (Option g.row.M.Denot) View). ExtendsByPasses v.passes z.0.seen v.held)
     c.tell-from_pass.ensures.message.1 saw.0 in
     let held : c.peek.new.seat.me.0.held ≡ v.held =
     ap (λ (z : Me (Option g.row.M.Denot) View). z.0.held) (c.peek.ensures.same.1 ∙ c.hear.ensures.1) in

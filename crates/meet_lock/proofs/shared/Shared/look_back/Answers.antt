@@ -2,7 +2,7 @@ use Rattle.std.proofs.Common.{Option, rules, subst, sym}
 use Rattle.atomic_table.specs.Table.{Me}
 use Rattle.nvme_model.specs.History.{Past}
 use Rattle.nvme_model.specs.Passes.{entries}
-use Rattle.meet_lock.specs.Lock.{GoesOn, unmade}
+use Rattle.meet_lock.specs.Lock.{ExtendsByPasses, unmade}
 use Rattle.meet_lock.specs.Passes.{opening_of}
 use Rattle.meet_lock.specs.declared.view.View.{View}
 use Rattle.meet_lock.proofs.Telling.{recalls}
@@ -19,8 +19,9 @@ load-requires g c = (
 pub returns-clause-recalled : goal.returns-clause-recalled
 returns-clause-recalled g c =
     let told = c.load.ensures.2 in
-    let opens = subst (λ (past : Past). GoesOn c.args.seat.now.me.0.passes (unmade past) c.args.seat.now.me.0.seen)
+    let opens = subst (λ (past : Past). ExtendsByPasses c.args.seat.now.me.0.passes
+    (unmade past) c.args.seat.now.me.0.seen)
     c.requires.origin told.2 in
     subst (λ (z : Me (Option g.row.M.Denot) View). g.M.Machine.legal z.0.config (entries z.0.seen)
-    × GoesOn z.0.passes (unmade (opening_of g.M.Machine.history c.args.self.now)) z.0.seen) (sym told.0)
+    × ExtendsByPasses z.0.passes (unmade (opening_of g.M.Machine.history c.args.self.now)) z.0.seen) (sym told.0)
     (told.1, opens)

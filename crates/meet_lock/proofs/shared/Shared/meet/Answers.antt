@@ -2,7 +2,7 @@ use Rattle.std.proofs.Common.{Option, ap, refl, subst, sym, ◌∙◌, ◌≡◌
 use Rattle.atomic_table.specs.Table.{Me}
 use Rattle.nvme_model.specs.Passes.{SharedPast, entries}
 use Rattle.nvme_model.specs.declared.config.ConfigNumbers.{ConfigNumbers}
-use Rattle.meet_lock.specs.Lock.{GoesOn, hearing, longer}
+use Rattle.meet_lock.specs.Lock.{ExtendsByPasses, hearing, longer}
 use Rattle.meet_lock.specs.SeatSteps.{SawAll}
 use Rattle.meet_lock.specs.declared.view.View.{View}
 use Rattle.meet_lock.proofs.Beginnings.{longer_end}
@@ -17,8 +17,8 @@ returns-clause-met g c =
     ∙ (c.hear.ensures.1 ∙ ap
     (λ (z : Me (Option g.row.M.Denot) View). (hearing z.0 c.tell-from_second.result.me.0, z.1)) o.is) in
     let saw = (subst (λ (z : Me (Option g.row.M.Denot) View). SawAll z.0) first c.give_same.ensures.told) refl in
-    let begins : GoesOn v.passes w.seen o.log =
-    subst (λ (z : Me (Option g.row.M.Denot) View). GoesOn v.passes z.0.seen o.log)
+    let begins : ExtendsByPasses v.passes w.seen o.log =
+    subst (λ (z : Me (Option g.row.M.Denot) View). ExtendsByPasses v.passes z.0.seen o.log)
     c.tell-from_second.ensures.message.1 saw.0 in
     let seen1 : c.give_same.new.seat.me.0.seen ≡ o.log =
     ap (λ (z : Me (Option g.row.M.Denot) View). z.0.seen) c.give_same.ensures.shown
@@ -42,6 +42,7 @@ returns-clause-met g c =
       right = subst (λ (z : ConfigNumbers × SharedPast). g.M.Machine.legal z.0 (entries z.1))
           (λ i. (sym config1 i, sym seen1 i)) o.right;
       both = c.look.ensures.told.2;
-      first = subst (λ (l : SharedPast). GoesOn v.passes v.seen l) (sym seen1) o.begins;
-      second = subst (λ (z : View). GoesOn z.passes z.seen c.look.new.seat.me.0.seen) heard c.look.ensures.told.0;
+      first = subst (λ (l : SharedPast). ExtendsByPasses v.passes v.seen l) (sym seen1) o.begins;
+      second = subst (λ (z : View).
+          ExtendsByPasses z.passes z.seen c.look.new.seat.me.0.seen) heard c.look.ensures.told.0;
     }

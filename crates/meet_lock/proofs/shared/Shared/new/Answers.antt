@@ -5,7 +5,7 @@ use Rattle.nvme_model.specs.Passes.{entries, places}
 use Rattle.nvme_model.specs.declared.config.ConfigNumbers.{ConfigNumbers}
 use Rattle.meet_lock.specs.declared.view.View.{View}
 use Rattle.meet_lock.proofs.Places.{entries-unmade, places-unmade}
-use Rattle.meet_lock.specs.Lock.{IsOneHistory, start}
+use Rattle.meet_lock.specs.Lock.{IsOneHistory, first_view}
 use Rattle.meet_lock.proofs.Ends.{opens}
 use Rattle.meet_lock.proofs.shared.Shared.new.Goals as goal
 
@@ -16,7 +16,7 @@ new-requires g c =
     let P : List (Option g.row.M.Denot) × g.row.M.Denot → Type 0 =
     λ p. IsOneHistory g.M.Machine.config g.M.Machine.history g.M.Machine.legal g.K.StepRight.owned
     (g.M.Machine.config p.1) c.args.passes (g.M.Machine.history p.1)
-    (opening (0 ∷ []) p.0 (start (g.M.Machine.config p.1) c.args.passes (g.M.Machine.history p.1))) in
+    (opening (0 ∷ []) p.0 (first_view (g.M.Machine.config p.1) c.args.passes (g.M.Machine.history p.1))) in
     subst P (λ i. (sym items i, sym c.of.ensures i))
     (opens g.M.Machine.config g.M.Machine.history g.M.Machine.legal g.K.StepRight.owned
     (g.M.Machine.config c.args.machine) c.args.passes (g.M.Machine.history c.args.machine) c.args.machine refl refl
@@ -27,7 +27,7 @@ returns-in-Ok-new-clause-each g c = λ k p at.
     let n = c.deal.ensures.new k p at in
     let f = c.in-Ok-new.ensures.ok in
     let is = ap (λ (z : Me (Option g.row.M.Denot) View). z.0) f.4
-    ∙ ap (λ m. start (g.M.Machine.config m) c.args.passes (g.M.Machine.history m)) c.of.ensures in
+    ∙ ap (λ m. first_view (g.M.Machine.config m) c.args.passes (g.M.Machine.history m)) c.of.ensures in
     let seen = n.4 ∙ ap (λ (x : View). x.seen) is in (
       n.0 ∙ f.2,
       (
@@ -44,7 +44,7 @@ returns-in-Ok-new-clause-knows g c = λ k p at.
     let n = c.deal.ensures.new k p at in
     let f = c.in-Ok-new.ensures.ok in
     let is = ap (λ (z : Me (Option g.row.M.Denot) View). z.0) f.4
-    ∙ ap (λ m. start (g.M.Machine.config m) c.args.passes (g.M.Machine.history m)) c.of.ensures in
+    ∙ ap (λ m. first_view (g.M.Machine.config m) c.args.passes (g.M.Machine.history m)) c.of.ensures in
     let config = n.3 ∙ ap (λ (x : View). x.config) is in
     let past = ap entries (n.4 ∙ ap (λ (x : View). x.seen) is) ∙ entries-unmade (g.M.Machine.history c.args.machine) in
     subst (λ (z : ConfigNumbers × Past). g.M.Machine.legal z.0 z.1) (λ i. (sym config i, sym past i)) c.requires.legal

@@ -1,14 +1,14 @@
 use Rattle.std.proofs.Common.{ap, is_some, rules, subst, sym, ◌∙◌, ◌≡◌}
-use Rattle.range_reserve.specs.Reserved.{AreApart, AreRising, Reserved, held_by}
+use Rattle.range_reserve.specs.Reserved.{AreApart, AreHoldersRising, Reserved, held_by}
 use Rattle.range_reserve.specs.Sorted.{IsRisingBy}
-use Rattle.range_reserve.specs.declared.held.Held.{Held}
+use Rattle.range_reserve.specs.declared.held.HeldRange.{HeldRange}
 use Rattle.range_reserve.proofs.BothOrders.{tickets_apart, tickets_rise, tickets_rising}
 use Rattle.range_reserve.proofs.Kept.{is_some-held_by}
 use Rattle.range_reserve.proofs.ranges.Ranges.holds.Goals as goal
 
 pub held_by-requires : goal.held_by-requires
 held_by-requires c = record {
-  rising = subst (IsRisingBy (λ (h : Held). h.ticket)) (sym c.as_slice.ensures.value)
+  rising = subst (IsRisingBy (λ (h : HeldRange). h.ticket)) (sym c.as_slice.ensures.value)
       (tickets_rise c.self.inside.longest c.self.inside.starts.items c.self.inside.tickets.items c.self.invariant);
 }
 
@@ -23,5 +23,5 @@ returns-clause-law c = subst (λ (v : Reserved). AreApart v.held) c.self.view_is
 
 pub returns-clause-rising : goal.returns-clause-rising
 returns-clause-rising c =
-    subst (λ (v : Reserved). AreRising v.held) c.self.view_is
+    subst (λ (v : Reserved). AreHoldersRising v.held) c.self.view_is
     (tickets_rising c.self.inside.longest c.self.inside.starts.items c.self.inside.tickets.items c.self.invariant)

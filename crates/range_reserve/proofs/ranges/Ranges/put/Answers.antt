@@ -1,15 +1,15 @@
 use Rattle.std.proofs.Common.{ap, arith, min, rules, subst, sym, vec_capacity, vec_len, ◌-◌, ◌∙◌, ◌≡◌, ◌≤◌, false}
 use Rattle.std.proofs.lemmas.Bool.{cond-true}
 use Rattle.std.specs.List.{insert}
-use Rattle.range_reserve.specs.Reserved.{Reserved, has_conflict, has_ticket, insert_held}
+use Rattle.range_reserve.specs.Reserved.{Reserved, has_conflict, holds_range, insert_held}
 use Rattle.range_reserve.specs.Sorted.{IsRisingBy, held_key, place_by}
-use Rattle.range_reserve.specs.declared.held.Held.{Held}
+use Rattle.range_reserve.specs.declared.held.HeldRange.{HeldRange}
 use Rattle.range_reserve.proofs.BothOrders.{AreBoth, both_put, ticket_put, tickets_apart, tickets_rise}
 use Rattle.range_reserve.proofs.ranges.Ranges.put.Goals as goal
 
 pub ticket_place-place-requires : goal.ticket_place-place-requires
 ticket_place-place-requires c = record {
-  rising = subst (IsRisingBy (λ (h : Held). h.ticket)) (sym c.as_slice.ensures.value)
+  rising = subst (IsRisingBy (λ (h : HeldRange). h.ticket)) (sym c.as_slice.ensures.value)
       (tickets_rise c.self.inside.longest c.self.inside.starts.items c.self.inside.tickets.items c.self.invariant);
 }
 
@@ -19,8 +19,8 @@ room : (c : goal.After-self-1)
     (vec_capacity c.self.inside.starts - vec_len c.self.inside.starts)
 room c = subst (λ (v : Reserved). 1 ≤ v.room) (sym c.self.view_is) c.requires.room
 
-free : (c : goal.After-self-1) → has_ticket c.self.inside.tickets.items c.args.held.ticket ≡ false
-free c = ap (λ (v : Reserved). has_ticket v.held c.args.held.ticket) c.self.view_is ∙ c.requires.free
+free : (c : goal.After-self-1) → holds_range c.self.inside.tickets.items c.args.held.ticket ≡ false
+free c = ap (λ (v : Reserved). holds_range v.held c.args.held.ticket) c.self.view_is ∙ c.requires.free
 
 apart : (c : goal.After-self-1) → has_conflict c.self.inside.tickets.items c.args.held.range c.args.held.mode ≡ false
 apart c = ap (λ (v : Reserved). has_conflict v.held c.args.held.range c.args.held.mode) c.self.view_is
@@ -31,7 +31,7 @@ in_tickets c =
     c.insert.ensures.items ∙ cond-true _ _ _ (c.insert.ensures.succeeds (omega (arith, room c)))
     ∙ ap (λ i. insert c.self.inside.tickets.items i c.args.held)
     (c.ticket_place-place.ensures.place
-    ∙ ap (place_by (λ (h : Held). h.ticket) c.args.held.ticket) c.as_slice.ensures.value)
+    ∙ ap (place_by (λ (h : HeldRange). h.ticket) c.args.held.ticket) c.as_slice.ensures.value)
     ∙ ticket_put c.self.inside.longest c.self.inside.starts.items c.self.inside.tickets.items c.self.invariant
     c.args.held (free c)
 

@@ -8,7 +8,7 @@ use Rattle.driver_cas.specs.declared.driver.Driver.{Driver}
 use Rattle.slot_alloc.specs.Areas.{block_of}
 use Rattle.slot_alloc.specs.Claims.{AreTaken, claims_in}
 use Rattle.slot_alloc.proofs.Asking.{claiming_now, claims_of, none_taken, unreleased_now}
-use Rattle.slot_alloc.proofs.Starting.{careful_claimed, goes_on_claimed, goes_on_same}
+use Rattle.slot_alloc.proofs.Starting.{slot_rules_claimed, goes_on_claimed, goes_on_same}
 use Rattle.slot_alloc.proofs.slots.Slots.begin.Goals as goal
 
 pub returns-in_err-call-clause-goes_on : goal.returns-in_err-call-clause-goes_on
@@ -26,25 +26,25 @@ returns-in_err-call-clause-is g c =
     ∙ ap (λ (r : Range). block_of r c.args.slot) (sym c.requires.area) in
     rw (p.1, p.2) (subst (λ (l : ℕ). IsClaimStart d e l (Err c.in_err-call.field-0.0)) at c.in_err-call.ensures.is)
 
-pub returns-clause-careful : goal.returns-clause-careful
-returns-clause-careful g c =
+pub returns-clause-slot_rules : goal.returns-clause-slot_rules
+returns-clause-slot_rules g c =
     let d = c.args.driver.now in
     let e = c.start_claim.new.self in
     let x = c.in_ok-call in
-    careful_claimed g.P.Port d e (block_of (area_of d) c.args.slot) x.call x.serial
+    slot_rules_claimed g.P.Port d e (block_of (area_of d) c.args.slot) x.call x.serial
     (claims_of g.P.Port d e c.args.self.now c.args.slot c.block.result x.call x.serial c.block.ensures
     x.ensures.settings x.ensures.later x.ensures.is x.ensures.law.0 x.ensures.law.1 x.ensures.law.2 c.requires.area
     c.requires.slot)
 
 pub returns-clause-unreleased : goal.returns-clause-unreleased
-returns-clause-unreleased g c = λ careful.
+returns-clause-unreleased g c = λ slot_rules.
     let d = c.args.driver.now in
     let e = c.start_claim.new.self in
     let x = c.in_ok-call in
     unreleased_now g.P.Port d e c.args.slot x.call x.serial
     (claims_of g.P.Port d e c.args.self.now c.args.slot c.block.result x.call x.serial c.block.ensures
     x.ensures.settings x.ensures.later x.ensures.is x.ensures.law.0 x.ensures.law.1 x.ensures.law.2 c.requires.area
-    c.requires.slot) careful
+    c.requires.slot) slot_rules
 
 pub returns-clause-goes_on : goal.returns-clause-goes_on
 returns-clause-goes_on g c =

@@ -3,15 +3,15 @@ use Rattle.nvme_model.specs.declared.array.Range.{Range}
 use Rattle.driver_cas.specs.Drivers.{area_of}
 use Rattle.driver_cas.specs.SlotStarts.{IsReleaseStart}
 use Rattle.slot_alloc.specs.Areas.{area, block_of}
-use Rattle.slot_alloc.proofs.GivingBack.{careful_released, goes_on_released, releases_of, releasing_now}
+use Rattle.slot_alloc.proofs.GivingBack.{slot_rules_released, goes_on_released, releases_of, releasing_now}
 use Rattle.slot_alloc.proofs.slots.Slots.release.Goals as goal
 
-pub returns-in-Ok-clause-careful : goal.returns-in-Ok-clause-careful
-returns-in-Ok-clause-careful g c =
+pub returns-in-Ok-clause-slot_rules : goal.returns-in-Ok-clause-slot_rules
+returns-in-Ok-clause-slot_rules g c =
     let d = c.args.driver.now in
     let e = c.start_release.new.self in
     let x = c.in-Ok.ensures in
-    careful_released g.P.Port d e c.args.claim c.in-Ok.call
+    slot_rules_released g.P.Port d e c.args.claim c.in-Ok.call
     (releases_of g.P.Port d e c.args.claim c.in-Ok.call (area c.args.self.now) c.block.result c.block.ensures
     c.requires.area x.same x.later x.is c.requires.held)
 

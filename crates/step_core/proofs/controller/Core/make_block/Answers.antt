@@ -1,20 +1,22 @@
 use Rattle.std.proofs.Common.{ap, arith, subst, sym, ◌∙◌}
 use Rattle.std.specs.Option.{option_copied_mut}
-use Rattle.step_core.specs.Found.{IsNext}
-use Rattle.step_core.specs.declared.controller.next.Next.{Next}
-use Rattle.controller_steps.specs.State.{State}
+use Rattle.step_core.specs.Found.{IsNextStep}
+use Rattle.step_core.specs.declared.controller.next.ReadyStep.{ReadyStep}
+use Rattle.controller_steps.specs.State.{ControllerState}
 use Rattle.step_core.proofs.BlockMade.{block_does, has_job, kept, opened, ready}
 use Rattle.step_core.proofs.controller.Core.make_block.Goals as goal
 
 pub unwrap-job-requires : goal.unwrap-job-requires
 unwrap-job-requires c =
-    let b = subst (λ (x : State). IsNext x.config x.past (Next.Block c.args.ticket c.args.unit)) (sym c.self.view_is)
+    let b = subst (λ (x : ControllerState). IsNextStep x.config x.past (ReadyStep.Block c.args.ticket c.args.unit))
+    (sym c.self.view_is)
     c.requires.block in
     c.get_mut.ensures.any ∙ has_job _ _ _ c.self.invariant.0 c.args.ticket b.0
 
 pub make_block-done-requires : goal.make_block-done-requires
 make_block-done-requires c =
-    let b = subst (λ (x : State). IsNext x.config x.past (Next.Block c.args.ticket c.args.unit)) (sym c.self.view_is)
+    let b = subst (λ (x : ControllerState). IsNextStep x.config x.past (ReadyStep.Block c.args.ticket c.args.unit))
+    (sym c.self.view_is)
     c.requires.block in
     let job = sym (ap option_copied_mut c.unwrap-job.ensures) ∙ c.get_mut.ensures.value in
     record {
@@ -24,7 +26,8 @@ make_block-done-requires c =
 
 pub invariant_of-self-2 : goal.invariant_of-self-2
 invariant_of-self-2 c =
-    let b = subst (λ (x : State). IsNext x.config x.past (Next.Block c.args.ticket c.args.unit)) (sym c.self.view_is)
+    let b = subst (λ (x : ControllerState). IsNextStep x.config x.past (ReadyStep.Block c.args.ticket c.args.unit))
+    (sym c.self.view_is)
     c.requires.block in
     let job = sym (ap option_copied_mut c.unwrap-job.ensures) ∙ c.get_mut.ensures.value in
     let made = c.make_block-done.ensures in (
@@ -40,7 +43,8 @@ invariant_of-self-2 c =
 
 pub returns : goal.returns
 returns c =
-    let b = subst (λ (x : State). IsNext x.config x.past (Next.Block c.args.ticket c.args.unit)) (sym c.self.view_is)
+    let b = subst (λ (x : ControllerState). IsNextStep x.config x.past (ReadyStep.Block c.args.ticket c.args.unit))
+    (sym c.self.view_is)
     c.requires.block in
     let job = sym (ap option_copied_mut c.unwrap-job.ensures) ∙ c.get_mut.ensures.value in
     let made = c.make_block-done.ensures in

@@ -1,9 +1,9 @@
 use Rattle.std.proofs.Common.{◌≡◌, ◌++◌, arith, ap, false, inr, length, refl, subst, sym, true, ◌∙◌}
 use Rattle.nvme_model.proofs.Written.{clash}
 use Rattle.nvme_model.specs.declared.step.Step.{Step}
-use Rattle.step_core.specs.Found.{IsNext}
-use Rattle.step_core.specs.declared.controller.next.Next.{Next}
-use Rattle.controller_steps.specs.State.{State, answer_of}
+use Rattle.step_core.specs.Found.{IsNextStep}
+use Rattle.step_core.specs.declared.controller.next.ReadyStep.{ReadyStep}
+use Rattle.controller_steps.specs.State.{ControllerState, answer_of}
 use Rattle.step_core.proofs.Accepted.{does_accepted, does_wanting, ok_unless, one_more}
 use Rattle.step_core.proofs.PostKeeps.{from_place, from_there, left, owes, place_there, not_full, post_entry_is}
 use Rattle.step_core.proofs.PostKeeps.{post_keeps, reads, taken_is, there, uses}
@@ -11,7 +11,8 @@ use Rattle.step_core.proofs.controller.Core.make_post.Goals as goal
 
 pub returns-in_default : goal.returns-in_default
 returns-in_default c =
-    let post = subst (λ (x : State). IsNext x.config x.past (Next.Post c.args.due)) (sym c.self.view_is)
+    let post = subst (λ (x : ControllerState). IsNextStep x.config x.past (ReadyStep.Post c.args.due))
+    (sym c.self.view_is)
     c.requires.due in
     record {
       does = does_wanting _ _ (Step.Post c.args.due.ticket) c.self.view_is post.0
@@ -21,37 +22,43 @@ returns-in_default c =
 
 pub take_due-payload-requires-clause-flies : goal.take_due-payload-requires-clause-flies
 take_due-payload-requires-clause-flies c =
-    let post = subst (λ (x : State). IsNext x.config x.past (Next.Post c.args.due)) (sym c.self.view_is)
+    let post = subst (λ (x : ControllerState). IsNextStep x.config x.past (ReadyStep.Post c.args.due))
+    (sym c.self.view_is)
     c.requires.due in
     there _ _ _ c.self.invariant.0 c.args.due post
 
 pub take_due-payload-requires-clause-owes : goal.take_due-payload-requires-clause-owes
 take_due-payload-requires-clause-owes c =
-    let post = subst (λ (x : State). IsNext x.config x.past (Next.Post c.args.due)) (sym c.self.view_is)
+    let post = subst (λ (x : ControllerState). IsNextStep x.config x.past (ReadyStep.Post c.args.due))
+    (sym c.self.view_is)
     c.requires.due in
     owes _ _ _ c.self.invariant.0 c.args.due post
 
 pub overflow_sub-due : goal.overflow_sub-due
 overflow_sub-due c =
-    let post = subst (λ (x : State). IsNext x.config x.past (Next.Post c.args.due)) (sym c.self.view_is)
+    let post = subst (λ (x : ControllerState). IsNextStep x.config x.past (ReadyStep.Post c.args.due))
+    (sym c.self.view_is)
     c.requires.due in
     (from_there _ _ _ c.self.invariant.0 c.args.due post).0
 
 pub index_mut-requires : goal.index_mut-requires
 index_mut-requires c =
-    let post = subst (λ (x : State). IsNext x.config x.past (Next.Post c.args.due)) (sym c.self.view_is)
+    let post = subst (λ (x : ControllerState). IsNextStep x.config x.past (ReadyStep.Post c.args.due))
+    (sym c.self.view_is)
     c.requires.due in
     omega (arith, from_place _ _ _ c.self.invariant.0 c.args.due post)
 
 pub index_mut-requires-2 : goal.index_mut-requires-2
 index_mut-requires-2 c =
-    let post = subst (λ (x : State). IsNext x.config x.past (Next.Post c.args.due)) (sym c.self.view_is)
+    let post = subst (λ (x : ControllerState). IsNextStep x.config x.past (ReadyStep.Post c.args.due))
+    (sym c.self.view_is)
     c.requires.due in
     omega (arith, place_there _ _ _ c.self.invariant.0 c.args.due post)
 
 pub unwrap-requires : goal.unwrap-requires
 unwrap-requires c =
-    let post = subst (λ (x : State). IsNext x.config x.past (Next.Post c.args.due)) (sym c.self.view_is)
+    let post = subst (λ (x : ControllerState). IsNextStep x.config x.past (ReadyStep.Post c.args.due))
+    (sym c.self.view_is)
     c.requires.due in
     let taken = taken_is _ _ _ c.self.invariant.0 c.args.due post c.take_due-payload.result
     c.take_due-payload.ensures.payload in
@@ -61,7 +68,8 @@ unwrap-requires c =
 
 pub unwrap-requires-2 : goal.unwrap-requires-2
 unwrap-requires-2 c =
-    let post = subst (λ (x : State). IsNext x.config x.past (Next.Post c.args.due)) (sym c.self.view_is)
+    let post = subst (λ (x : ControllerState). IsNextStep x.config x.past (ReadyStep.Post c.args.due))
+    (sym c.self.view_is)
     c.requires.due in
     ok_unless c.post.result c.post.ensures.full
     (λ e h. clash _ h (not_full _ _ _ c.self.invariant.0 c.args.due post c.index_mut-2.result.now
@@ -69,7 +77,8 @@ unwrap-requires-2 c =
 
 pub invariant_of-self-2 : goal.invariant_of-self-2
 invariant_of-self-2 c =
-    let post = subst (λ (x : State). IsNext x.config x.past (Next.Post c.args.due)) (sym c.self.view_is)
+    let post = subst (λ (x : ControllerState). IsNextStep x.config x.past (ReadyStep.Post c.args.due))
+    (sym c.self.view_is)
     c.requires.due in
     let taken = taken_is _ _ _ c.self.invariant.0 c.args.due post c.take_due-payload.result
     c.take_due-payload.ensures.payload in
@@ -93,7 +102,8 @@ invariant_of-self-2 c =
 
 pub returns : goal.returns
 returns c =
-    let post = subst (λ (x : State). IsNext x.config x.past (Next.Post c.args.due)) (sym c.self.view_is)
+    let post = subst (λ (x : ControllerState). IsNextStep x.config x.past (ReadyStep.Post c.args.due))
+    (sym c.self.view_is)
     c.requires.due in
     let taken = taken_is _ _ _ c.self.invariant.0 c.args.due post c.take_due-payload.result
     c.take_due-payload.ensures.payload in

@@ -1,6 +1,6 @@
 use Rattle.std.proofs.Common.{◌-◌, ◌%◌, ◌+◌, arith, ap, refl, sym, ◌∙◌, ◌==◌, get_or, length, slice_get}
 use Rattle.nvme_model.specs.declared.config.ConfigNumbers.{ConfigNumbers}
-use Rattle.ticket_course.specs.Stages.{Ticking, owed_in}
+use Rattle.ticket_progress.specs.Stages.{Ticking, owed_in}
 use Rattle.step_core.proofs.Posting.{fields_by, post_nothing, post_queue, post_some, post_place, post_head, post_full}
 use Rattle.step_core.proofs.Posting.{post_is}
 use Rattle.step_core.proofs.controller.Core.post_due.Goals as goal
@@ -9,7 +9,7 @@ pub returns-in_default : goal.returns-in_default
 returns-in_default c = record {
   value = post_nothing _ _ _ c.self.invariant.0 _ _ c.self.view_is c.args.ticket _ c.requires.job
       (sym (c.in_default.ensures.status
-      ∙ ap (λ (x : Ticking). slice_get (owed_in x.stage) 0) c.course-course.ensures.value));
+      ∙ ap (λ (x : Ticking). slice_get (owed_in x.stage) 0) c.progress-progress.ensures.value));
 }
 
 pub overflow_sub-place : goal.overflow_sub-place
@@ -41,7 +41,7 @@ returns-then-is_full c =
     get_or c.self.inside.completion.items ((c.queue-queue.result - 1) % n.cqs) c.index-ring.result.now)
     c.numbers-cqs.ensures.value in
     let owes = sym (c.in-Some.ensures'.status
-    ∙ ap (λ (x : Ticking). slice_get (owed_in x.stage) 0) c.course-course.ensures.value) in
+    ∙ ap (λ (x : Ticking). slice_get (owed_in x.stage) 0) c.progress-progress.ensures.value) in
     record {
       value = post_full _ _ _ c.self.invariant.0 _ _ c.self.view_is c.args.ticket _ c.requires.job _
           c.queue-queue.ensures.value c.in-Some.status c.index-ring.result.now _
@@ -66,8 +66,9 @@ returns c =
     get_or c.self.inside.completion.items ((c.queue-queue.result - 1) % n.cqs) c.index-ring.result.now)
     c.numbers-cqs.ensures.value in
     let owes = sym (c.in-Some.ensures.status
-    ∙ ap (λ (x : Ticking). slice_get (owed_in x.stage) 0) c.course-course.ensures.value) in
-    let has = ap (λ (x : Ticking). slice_get x.cids 0) (sym c.course-course.ensures.value) ∙ c.in-Some.ensures.cid in
+    ∙ ap (λ (x : Ticking). slice_get (owed_in x.stage) 0) c.progress-progress.ensures.value) in
+    let has = ap (λ (x : Ticking). slice_get x.cids 0) (sym c.progress-progress.ensures.value)
+    ∙ c.in-Some.ensures.cid in
     record {
       value = (
         refl,
@@ -83,7 +84,7 @@ returns c =
               (ap (λ (n : ConfigNumbers). (c.queue-queue.result - 1) % n.cqs + 1) c.numbers-cqs.ensures.value)
               (ap length c.read.ensures.value)
               (ap (λ n. n == 1) (c.len.ensures.value
-              ∙ ap length (c.cids.ensures.value ∙ ap (λ (x : Ticking). x.cids) c.course-course.ensures.value)))
+              ∙ ap length (c.cids.ensures.value ∙ ap (λ (x : Ticking). x.cids) c.progress-progress.ensures.value)))
               refl,
         ),
       );

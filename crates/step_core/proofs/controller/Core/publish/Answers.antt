@@ -16,7 +16,7 @@ pub invariant_of-self-2 : goal.invariant_of-self-2
 invariant_of-self-2 c =
     let step = Step.Publish c.args.queue c.args.batch in
     let none = accepted _ _ step _ c.self.view_is c.publish_refusal.ensures.value c.in_default.is in
-    let same = c.new.ensures ∙ c.in-Ok.ensures.same ∙ c.as_slice.ensures in
+    let same = c.new.ensures ∙ c.in-Ok.ensures.same ∙ c.as_slice-2.ensures in
     let more = one_more _ _ _ _ c.keep_room.ensures.past c.push_reserved.ensures.past in (
       publish_keeps _ _ _ c.self.invariant.0 c.args.queue c.args.batch none c.index_mut.result.now
           c.index_mut.ensures.value

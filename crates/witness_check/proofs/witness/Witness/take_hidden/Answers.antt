@@ -1,5 +1,5 @@
 use Rattle.std.proofs.Common.{subst, sym}
-use Rattle.witness_check.specs.Followed.{Followed, Follows}
+use Rattle.witness_check.specs.Followed.{Followed, FollowsHistory}
 use Rattle.witness_check.proofs.Taking.{told_hidden}
 use Rattle.witness_check.proofs.witness.Witness.take_hidden.Goals as goal
 
@@ -8,5 +8,5 @@ returns-clause-ok c = λ n past next f.
     told_hidden n past c.args.entry.now
     (record { checker = c.self.inside.checker; waiting = c.self.inside.waiting.items }) c.take.new.self next
     c.in_ok-take.field-0
-    c.requires.inner (subst (λ (x : Followed). Follows n past x) (sym c.self.view_is) f) c.if-not-branch.false
+    c.requires.inner (subst (λ (x : Followed). FollowsHistory n past x) (sym c.self.view_is) f) c.if-not-branch.false
     c.in_ok-take.ensures.ok

@@ -1,6 +1,6 @@
 use Rattle.std.proofs.Common.{ap, subst, sym, ◌<◌, ◌∙◌}
 use Rattle.crossbeam_queue.specs.Passes.{view}
-use Rattle.work_queue.specs.QueueSteps.{HasOwn, Hears}
+use Rattle.work_queue.specs.QueueSteps.{HasOwn, HearsPopped}
 use Rattle.work_queue.specs.Queues.{hearing}
 use Rattle.work_queue.specs.declared.message.QueueView.{QueueView}
 use Rattle.work_queue.proofs.Dealing.{agrees, compares, hears, owns_popped, tells}
@@ -37,5 +37,5 @@ returns-clause-matched g c = λ k e a.
     agrees was (view c.args.pusher.now.place) (view c.learn_as.new.pass) (view c.learn_as-2.new.pass)
     (c.learn_as.ensures.queue.1
     ∙ (c.absorb.ensures.rule ∙ ap (hearing (view c.args.pusher.now.place)) c.another-told.ensures.rule.1))
-    (subst Hears (sym c.learn_as.ensures.queue.1) c.learn_as.ensures.rule.1) (c.learn_as-2.ensures.queue.1 ∙ same)
+    (subst HearsPopped (sym c.learn_as.ensures.queue.1) c.learn_as.ensures.rule.1) (c.learn_as-2.ensures.queue.1 ∙ same)
     (subst HasOwn same c.learn_as-2.ensures.rule.1) k e a

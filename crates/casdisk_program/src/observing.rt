@@ -1,0 +1,75 @@
+//! The command `observe`.
+
+use crate::failure::{Failure, failure_of, unwritten};
+use crate::input::opened;
+use casdisk_script::RunFault;
+use line_reasons::Grammar;
+use observed_text::{TraceAnswer, observe_text};
+use std::fs;
+use std::io::{Print, Read, Write, sink, writer};
+use std::rt::Files;
+
+// Looks for a history that explains a trace, with what is written of it kept in memory, where alone writing can fail.
+fn observed<T: Read, V: Write, R: AllocGlobal>(
+    rt: &R,
+    trace: &mut T,
+    witness: &mut V,
+    said: &mut Vec<u8>,
+    steps: u64,
+) -> Result<TraceAnswer, RunFault> {
+    match observe_text(rt.alloc(), trace, witness, said, steps) {
+        Err(RunFault::Output) => Err(RunFault::NoMemory),
+        answer => answer,
+    }
+}
+
+// Writes the text of the history that was found into its file, made anew, and after that what is said.
+fn written<R: Files + Print + AllocGlobal>(
+    rt: &R,
+    found: Option<(&str, &[u8])>,
+    why: bool,
+    said: &[u8],
+) -> Result<(), Failure> {
+    if let Some((file, text)) = found {
+        if let Err(error) = fs::write(rt, file, text) {
+            return Err(unwritten(rt.alloc(), file, error.kind(), why));
+        }
+    }
+    if writer(rt).write_all(said).is_err() {
+        return Err(Failure::from(RunFault::Output));
+    }
+    Ok(())
+}
+
+// Looks for a history that explains a trace, and gives the status 0 where one was found, 1 where none was, 5 where the
+// steps were used up. Its text goes into the file of a witness where one is asked for, and nothing does where none was
+// found.
+pub(crate) fn observe_file<R: Files + Input + Print + AllocGlobal>(
+    rt: &R,
+    witness: Option<&str>,
+    steps: u64,
+    why: bool,
+    trace: &str,
+) -> Result<u8, Failure> {
+    let mut input = opened(rt, trace, why)?;
+    let mut said = Vec::new(rt.alloc());
+    let mut text = Vec::new(rt.alloc());
+    let answer = if witness.is_some() {
+        observed(rt, &mut input, &mut text, &mut said, steps)
+    } else {
+        observed(rt, &mut input, &mut sink(), &mut said, steps)
+    };
+    match answer {
+        Ok(answer) => {
+            let file = if answer == TraceAnswer::Explained {
+                witness
+            } else {
+                None
+            };
+            let found = file.map(|file| (file, text.as_slice()));
+            written(rt, found, why, said.as_slice())?;
+            Ok(answer.status())
+        }
+        Err(fault) => Err(failure_of(rt.alloc(), trace, &input, Grammar::Trace, fault)),
+    }
+}

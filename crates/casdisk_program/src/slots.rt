@@ -1,0 +1,153 @@
+//! Histories beside an area of slots.
+
+use crate::explaining::{ExplainedWords, WrongWords};
+use crate::failure::failure_of;
+use crate::input::opened;
+use crate::kept::Kept;
+use crate::program::{cause_of, meaning_of};
+use crate::unmarked::Unmarked;
+use casdisk_script::{Explained, RunFault};
+use command_line::SlotArea;
+use line_reasons::Grammar;
+use nvme_model::array::Range;
+use slot_texts::{ExplainedSlots, SlotsFault, WrongStep, check_slots, explain_slots};
+use std::alloc::Global;
+use std::io;
+use std::io::Read;
+use std::rt::Files;
+
+// The blocks of an area.
+fn blocks_of(area: SlotArea) -> Range {
+    Range {
+        slba: area.first,
+        blocks: area.count,
+    }
+}
+
+// The second line about a history that wasn't judged, where one was asked for.
+fn why_of<R: Read + Drop>(
+    alloc: Global,
+    file: &str,
+    read: &Kept<R>,
+    fault: SlotsFault,
+) -> Option<String> {
+    match fault {
+        SlotsFault::Run(run) => failure_of(alloc, file, read, Grammar::History, run).why,
+        _ => None,
+    }
+}
+
+// Says why a history wasn't judged, and gives the status of that.
+fn end_slots<R: Eprint>(rt: &R, fault: SlotsFault, why: Option<String>) -> u8 {
+    // (where standard error takes no words, the status says it alone; so below)
+    let _ = rt.eprintln(fault);
+    if let Some(why) = why {
+        let _ = rt.eprintln(why);
+    }
+    fault.status()
+}
+
+/// Checks a history and the discipline of these slots, and gives the status 0 where it is legal and keeps that, 1 where
+/// not, else that of the fault, whose words go to standard error.
+pub(crate) fn check_slots_file<R: Files + Input + Print + Eprint + AllocGlobal>(
+    rt: &R,
+    area: SlotArea,
+    why: bool,
+    file: &str,
+) -> u8 {
+    let alloc = rt.alloc();
+    let mut input = match opened(rt, file, why) {
+        Ok(input) => input,
+        Err(failure) => return end_slots(rt, SlotsFault::Run(failure.fault), failure.why),
+    };
+    let mut output = io::writer(rt);
+    match check_slots(alloc, blocks_of(area), &mut input, &mut output) {
+        Ok(true) => 0,
+        Ok(false) => 1,
+        Err(fault) => end_slots(rt, fault, why_of(alloc, file, &input, fault)),
+    }
+}
+
+// Says what an explanation of steps says, with the unit that ended without a mark.
+fn tell_words<R: Print>(
+    rt: &R,
+    explained: Explained,
+    unmarked: Option<Unmarked>,
+) -> Result<(), io::Error> {
+    rt.println(ExplainedWords {
+        explained,
+        unmarked,
+    })
+}
+
+// Says what is wrong with the steps of a history, in words.
+fn tell_steps<R: Files + Input + Print + AllocGlobal>(
+    rt: &R,
+    file: &str,
+    explained: Explained,
+) -> Result<(), io::Error> {
+    let told = explained;
+    let unmarked = cause_of(rt, file, told);
+    tell_words(rt, explained, unmarked)
+}
+
+// Says what is wrong with how a history uses slots from this block on, in words.
+fn tell_wrong<R: Print>(rt: &R, first: u64, step: WrongStep) -> Result<(), io::Error> {
+    rt.println(WrongWords { first, step })
+}
+
+// Says what is wrong with a history, in words.
+fn tell_explained<R: Files + Input + Print + AllocGlobal>(
+    rt: &R,
+    first: u64,
+    file: &str,
+    explained: ExplainedSlots,
+) -> Result<(), io::Error> {
+    match explained {
+        ExplainedSlots::Legal => tell_steps(rt, file, Explained::Legal),
+        ExplainedSlots::BadAt(step) => tell_steps(rt, file, Explained::BadAt(step)),
+        ExplainedSlots::SlotsBadAt(step) => tell_wrong(rt, first, step),
+    }
+}
+
+// Says why a history wasn't explained; of a configuration that is refused always what its number means.
+fn end_explained<R: Eprint>(rt: &R, fault: SlotsFault, why: Option<String>) -> u8 {
+    if why.is_none() {
+        if let SlotsFault::Run(run) = fault {
+            if let Some(meaning) = meaning_of(run) {
+                let _ = rt.eprintln(fault);
+                let _ = rt.eprintln(meaning);
+                return fault.status();
+            }
+        }
+    }
+    end_slots(rt, fault, why)
+}
+
+/// Explains a history and how it uses these slots, and gives the same statuses. Behind the words of a refused
+/// configuration it says what its number means.
+pub(crate) fn explain_slots_file<R: Files + Input + Print + Eprint + AllocGlobal>(
+    rt: &R,
+    area: SlotArea,
+    why: bool,
+    file: &str,
+) -> u8 {
+    let alloc = rt.alloc();
+    let mut input = match opened(rt, file, why) {
+        Ok(input) => input,
+        Err(failure) => return end_slots(rt, SlotsFault::Run(failure.fault), failure.why),
+    };
+    match explain_slots(alloc, blocks_of(area), &mut input) {
+        Ok(explained) => match tell_explained(rt, area.first, file, explained) {
+            Ok(()) => {
+                if explained == ExplainedSlots::Legal {
+                    0
+                } else {
+                    1
+                }
+            }
+            Err(_) => end_slots(rt, SlotsFault::Run(RunFault::Output), None),
+        },
+        Err(fault) => end_explained(rt, fault, why_of(alloc, file, &input, fault)),
+    }
+}

@@ -1,0 +1,105 @@
+//! The commands `check` and `explain`.
+
+ghost use Rattle.std.specs.Prelude.{◌≡◌, IfErr, IfOk, codes};
+ghost use Rattle.clap.specs.Words.{app_of, found_of, rows_of};
+ghost use Rattle.command_line.specs.Asking.{AsksBy, IsRaceInRange, IsRefusedBy};
+ghost use Rattle.command_line.specs.CommandLine.{check_app, explain_app};
+
+use crate::area::area_asked;
+use crate::options::{
+    HISTORY, QUIET, WHY, flag_asked, text_asked, text_of, with_area, with_flag, with_input,
+};
+use crate::request::{Asked, UsageFault};
+use clap::{ArgMatches, Command};
+use std::alloc::{AllocError, Global};
+
+const FOLLOW: &str = "Answer at the first bad step or bad line, and read no further";
+
+const SLOTS: &str = "Check the discipline of slots too, on COUNT blocks from block FIRST on";
+
+const ABOUT_CHECK: &str = "\
+Checks a history: prints 'legal', or 'bad at K' with its first bad line, from 1 behind the configuration";
+
+const ABOUT_EXPLAIN: &str = "\
+Checks a history like 'check', and says behind 'bad at K' which rule its line breaks";
+
+const ABOUT_HISTORIES: &str = "\
+A history is what 'casdisk run --show publish,fetch,grant,block,post,reap' prints: a configuration
+line, and then a line for each step that a controller made. Any controller may have made it: see
+docs/CHECKING.md.
+
+Exit status: 0 where it is legal, 1 where it isn't.";
+
+pub(crate) fn check_command<'a>(alloc: Global) -> Result<Command<'a>, AllocError>
+    ensures { IfOk result (λ c. app_of c ≡ check_app) }
+{
+    let command = Command::new(alloc, "check")
+        .about(ABOUT_CHECK)
+        .after_help(ABOUT_HISTORIES);
+    let command = with_flag(alloc, command, "follow", FOLLOW)?;
+    let command = with_area(alloc, command, SLOTS)?;
+    let command = with_flag(alloc, command, "quiet", QUIET)?;
+    let command = with_flag(alloc, command, "why", WHY)?;
+    with_input(alloc, command, "FILE", HISTORY)
+}
+
+pub(crate) fn explain_command<'a>(alloc: Global) -> Result<Command<'a>, AllocError>
+    ensures { IfOk result (λ c. app_of c ≡ explain_app) }
+{
+    let command = Command::new(alloc, "explain")
+        .about(ABOUT_EXPLAIN)
+        .after_help(ABOUT_HISTORIES);
+    let command = with_area(alloc, command, SLOTS)?;
+    let command = with_flag(alloc, command, "why", WHY)?;
+    with_input(alloc, command, "FILE", HISTORY)
+}
+
+pub(crate) fn check_asked<'a>(
+    alloc: Global,
+    matches: &ArgMatches<'a>,
+) -> Result<Asked<'a>, UsageFault>
+    ensures asks { IfOk result (AsksBy (codes "check") (rows_of (found_of matches.now))) }
+    ensures race { IfOk result IsRaceInRange }
+    ensures refuses { IfErr result (IsRefusedBy (codes "check") (rows_of (found_of matches.now))) }
+{
+    let area = match area_asked(alloc, matches) {
+        Ok(area) => area,
+        Err(fault) => return Err(fault),
+    };
+    let follow = flag_asked(matches, "follow");
+    if follow && area.is_some() {
+        return Err(text_of(alloc, "error: '--slots' and '--follow' exclude each other"));
+    }
+    match text_asked(matches, "FILE") {
+        Some(file) => Ok(Asked::Check {
+            follow,
+            area,
+            quiet: flag_asked(matches, "quiet"),
+            why: flag_asked(matches, "why"),
+            file,
+        }),
+        None => Err(text_of(alloc, "error: no file")),
+    }
+}
+
+pub(crate) fn explain_asked<'a>(
+    alloc: Global,
+    matches: &ArgMatches<'a>,
+) -> Result<Asked<'a>, UsageFault>
+    ensures asks { IfOk result (AsksBy (codes "explain") (rows_of (found_of matches.now))) }
+    ensures race { IfOk result IsRaceInRange }
+    ensures refuses { IfErr result (IsRefusedBy (codes "explain") (rows_of (found_of matches.now))) }
+{
+    let area = match area_asked(alloc, matches) {
+        Ok(area) => area,
+        Err(fault) => return Err(fault),
+    };
+    match text_asked(matches, "FILE") {
+        Some(file) => Ok(Asked::Explain {
+            area,
+            why: flag_asked(matches, "why"),
+            file,
+        }),
+        None => Err(text_of(alloc, "error: no file")),
+    }
+}

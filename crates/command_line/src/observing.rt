@@ -1,0 +1,76 @@
+//! The command `observe`.
+
+ghost use Rattle.std.specs.Prelude.{◌≡◌, IfErr, IfOk, codes};
+ghost use Rattle.clap.specs.Words.{app_of, found_of, rows_of};
+ghost use Rattle.command_line.specs.Asking.{AsksBy, IsRaceInRange, IsRefusedBy};
+ghost use Rattle.command_line.specs.CommandLine.{observe_app};
+
+use crate::options::{
+    WHY, flag_asked, number_asked, text_asked, text_of, with_default, with_flag, with_input,
+    with_text,
+};
+use crate::request::{Asked, UsageFault};
+use clap::{ArgMatches, Command};
+use std::alloc::{AllocError, Global};
+
+const ABOUT: &str = "\
+Looks for a history that explains what hosts saw: prints 'explained', 'not found: ' and why, or 'gave up'";
+
+const ABOUT_SEARCH: &str = "\
+A trace is what hosts saw of a controller, whoever's it was: see docs/OBSERVING.md. 'explained' is
+printed where a history was found that is legal and was seen as the trace. That none was found is no
+proof that there is none.
+
+Exit status: 0 where one was found, 1 where none was, 5 where N steps of search didn't decide.";
+
+pub(crate) fn observe_command<'a>(alloc: Global) -> Result<Command<'a>, AllocError>
+    ensures { IfOk result (λ c. app_of c ≡ observe_app) }
+{
+    let command = Command::new(alloc, "observe")
+        .about(ABOUT)
+        .after_help(ABOUT_SEARCH);
+    let command = with_text(
+        alloc,
+        command,
+        "witness",
+        "FILE",
+        "Write the history that was found into FILE",
+    )?;
+    let command = with_default(
+        alloc,
+        command,
+        "steps",
+        "N",
+        "Steps of search, at most",
+        "10000000",
+    )?;
+    let command = with_flag(alloc, command, "why", WHY)?;
+    with_input(
+        alloc,
+        command,
+        "TRACE",
+        "What hosts saw; - is standard input",
+    )
+}
+
+pub(crate) fn observe_asked<'a>(
+    alloc: Global,
+    matches: &ArgMatches<'a>,
+) -> Result<Asked<'a>, UsageFault>
+    ensures asks { IfOk result (AsksBy (codes "observe") (rows_of (found_of matches.now))) }
+    ensures race { IfOk result IsRaceInRange }
+    ensures refuses { IfErr result (IsRefusedBy (codes "observe") (rows_of (found_of matches.now))) }
+{
+    let Some(steps) = number_asked(matches, "steps") else {
+        return Err(text_of(alloc, "error: no steps"));
+    };
+    match text_asked(matches, "TRACE") {
+        Some(trace) => Ok(Asked::Observe {
+            witness: text_asked(matches, "witness"),
+            steps,
+            why: flag_asked(matches, "why"),
+            trace,
+        }),
+        None => Err(text_of(alloc, "error: no trace")),
+    }
+}

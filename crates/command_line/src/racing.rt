@@ -1,0 +1,114 @@
+//! The command `race`.
+
+ghost use Rattle.std.specs.Prelude.{◌≡◌, IfErr, IfOk, IfSome, Some, codes, ℕ};
+ghost use Rattle.clap.specs.Words.{app_of, found_of, rows_of};
+ghost use Rattle.command_line.specs.Asking.{AsksBy, IsRaceInRange, IsRefusedBy, SaysNumbers};
+ghost use Rattle.command_line.specs.CommandLine.{race_app, with_race_rules};
+
+use crate::options::{
+    QUIET, WHY, flag_asked, number_asked, text_of, with_default, with_flag, with_needed,
+};
+use crate::request::{Asked, UsageFault};
+use clap::{ArgMatches, Command};
+use race_numbers::{Race, RaceUsage};
+use std::alloc::{AllocError, Global};
+
+const TRACE: &str = "Print what hosts see, the lines of a trace, in place of the history's";
+
+const ABOUT_RACES: &str = "\
+Each host claims any slot by a fused Compare and Write, and releases it, round by round, on a thread
+of its own; workers on other threads serve the controller. What is printed is a history, which
+'casdisk check' reads, and which differs from run to run: see docs/RACE.md.
+
+All hosts have at most 16 submission queues.
+
+Exit status: 0 where all is done, 1 where there is no history, or it isn't legal, 2 after a bad
+command line, 3 after a failed output, 4 without memory or threads.";
+
+// The command with the numbers of a race.
+fn with_numbers<'a>(alloc: Global, command: Command<'a>) -> Result<Command<'a>, AllocError>
+    ensures { IfOk result (λ c. app_of c ≡ with_race_rules (app_of command.entry)) }
+{
+    let command = with_needed(alloc, command, "hosts", "H", "Hosts, 1 to 16")?;
+    let command = with_needed(alloc, command, "workers", "W", "Workers, 1 to 16")?;
+    let command = with_needed(alloc, command, "slots", "S", "Slots, 1 to 64")?;
+    let command = with_default(
+        alloc,
+        command,
+        "rounds",
+        "R",
+        "Rounds of each host, 1 to 1000",
+        "10",
+    )?;
+    with_default(
+        alloc,
+        command,
+        "queues",
+        "Z",
+        "Submission queues of each host, 1 to 16",
+        "1",
+    )
+}
+
+pub(crate) fn race_command<'a>(alloc: Global) -> Result<Command<'a>, AllocError>
+    ensures { IfOk result (λ c. app_of c ≡ race_app) }
+{
+    let command = Command::new(alloc, "race")
+        .about("Lets hosts race for slots on threads and prints the controller's history")
+        .after_help(ABOUT_RACES);
+    let command = with_numbers(alloc, command)?;
+    let command = with_flag(alloc, command, "trace", TRACE)?;
+    let command = with_flag(alloc, command, "quiet", QUIET)?;
+    with_flag(alloc, command, "why", WHY)
+}
+
+// The numbers of a race, where its options say all of them.
+fn numbers_asked(matches: &ArgMatches<'_>) -> Option<(u64, u64, u64, u64, u64)>
+    ensures says { IfSome result (λ n. SaysNumbers (rows_of (found_of matches.now)) n.0 n.1 n.2 n.3 n.4) }
+    ensures only { (h w s r q : ℕ) → SaysNumbers (rows_of (found_of matches.now)) h w s r q
+        → result ≡ Some (h, w, s, r, q) }
+{
+    let hosts = number_asked(matches, "hosts")?;
+    let workers = number_asked(matches, "workers")?;
+    let slots = number_asked(matches, "slots")?;
+    let rounds = number_asked(matches, "rounds")?;
+    let queues = number_asked(matches, "queues")?;
+    Some((hosts, workers, slots, rounds, queues))
+}
+
+// Why these are the numbers of no race; where it is asked why they have too many queues, in a second line.
+fn no_race(alloc: Global, usage: RaceUsage, why: bool, hosts: u64, queues: u64) -> UsageFault {
+    let text = if why && usage == RaceUsage::TooManyQueues {
+        format!(in alloc;
+            "{usage}\n{hosts} hosts with {queues} queues each: at most 16 queues in all"
+        )
+    } else {
+        format!(in alloc; "{usage}")
+    };
+    match text {
+        Ok(text) => UsageFault::Text(text),
+        Err(_) => UsageFault::NoMemory,
+    }
+}
+
+pub(crate) fn race_asked<'a>(
+    alloc: Global,
+    matches: &ArgMatches<'a>,
+) -> Result<Asked<'a>, UsageFault>
+    ensures asks { IfOk result (AsksBy (codes "race") (rows_of (found_of matches.now))) }
+    ensures race { IfOk result IsRaceInRange }
+    ensures refuses { IfErr result (IsRefusedBy (codes "race") (rows_of (found_of matches.now))) }
+{
+    let Some((hosts, workers, slots, rounds, queues)) = numbers_asked(matches) else {
+        return Err(text_of(alloc, "error: a number is missing"));
+    };
+    match Race::new(hosts, workers, slots, rounds, queues) {
+        Ok(race) => Ok(Asked::Race {
+            race,
+            trace: flag_asked(matches, "trace"),
+            quiet: flag_asked(matches, "quiet"),
+            why: flag_asked(matches, "why"),
+        }),
+        Err(usage) => Err(no_race(alloc, usage, flag_asked(matches, "why"), hosts, queues)),
+    }
+}

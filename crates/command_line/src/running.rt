@@ -1,0 +1,102 @@
+//! The command `run`.
+
+ghost use Rattle.std.specs.Prelude.{◌≡◌, IfErr, IfOk, codes};
+ghost use Rattle.clap.specs.Words.{app_of, found_of, rows_of};
+ghost use Rattle.command_line.specs.Asking.{AsksBy, IsNotShown, IsRaceInRange, IsRefusedBy, IsRefusedFor, SaysShown};
+ghost use Rattle.command_line.specs.CommandLine.{run_app};
+
+use crate::options::{WHY, flag_asked, text_asked, text_of, with_flag, with_input, with_text};
+use crate::request::{Asked, Shown, UsageFault};
+use crate::shown::no_kinds_in;
+use casdisk_script::kinds_of;
+use clap::{ArgMatches, Command};
+use history::all_kinds;
+use std::alloc::{AllocError, Global};
+
+const KINDS: &str = "Kinds of lines to show, joined by commas [default: all]";
+
+const TRACE: &str = "Print what hosts see, the lines of a trace, in place of a history's";
+
+const FLUSH: &str = "Send what each line prints as soon as it is made";
+
+const ABOUT_LINES: &str = "\
+The first line of the script is its configuration, of decimal numbers:
+  config BLOCKS AWUN ACWU NABSN NABO PAIRS SQ CQ JOBS
+  config2 BLOCKS AWUN ACWU NABSN NABO PAIRS SQ CQ JOBS CQS
+
+Each further line is one of these:
+  publish Q E + E + ..  puts entries into submission queue Q
+  fetch Q               takes its next command, or fused pair, as a ticket
+  grant T               begins the next unit of ticket T
+  block T               makes the next block of its open unit
+  post T                posts its next completion
+  reap Q                takes a completion out of completion queue Q
+  settle                makes each Grant, Block and Post that can be made
+  medium L              shows block L of the volume
+  # ..                  does nothing
+
+An entry E is NAME FUSE CID SLBA NLB DATA, where NAME is flush, write, read, compare or zeroes, or
+it is raw HEX DATA. DATA is - for none, A1 for a block of such bytes, or blocks joined by dots.
+
+Kinds of lines, each named by the word that it begins with:
+  publish, fetch, grant, block, post, reap, refused, medium
+
+With --trace a reap has behind its completion the data that was read, and no other line is printed
+but publish: see docs/OBSERVING.md.";
+
+pub(crate) fn run_command<'a>(alloc: Global) -> Result<Command<'a>, AllocError>
+    ensures { IfOk result (λ c. app_of c ≡ run_app) }
+{
+    let command = Command::new(alloc, "run")
+        .about("Runs a script over one controller and prints what each step did")
+        .after_help(ABOUT_LINES);
+    let command = with_text(alloc, command, "show", "KINDS", KINDS)?;
+    let command = with_flag(alloc, command, "trace", TRACE)?;
+    let command = with_flag(alloc, command, "flush", FLUSH)?;
+    let command = with_flag(alloc, command, "why", WHY)?;
+    with_input(alloc, command, "FILE", "The script; - is standard input")
+}
+
+// What the options of a run show: all kinds of lines where they name none.
+fn shown_asked(alloc: Global, matches: &ArgMatches<'_>) -> Result<Shown, UsageFault>
+    ensures says { IfOk result (SaysShown (rows_of (found_of matches.now))) }
+    ensures refuses { IfErr result (IsRefusedFor (IsNotShown (rows_of (found_of matches.now)))) }
+{
+    let trace = flag_asked(matches, "trace");
+    let Some(text) = text_asked(matches, "show") else {
+        if trace {
+            return Ok(Shown::Trace);
+        }
+        return Ok(Shown::Kinds(all_kinds()));
+    };
+    if trace {
+        return Err(text_of(alloc, "error: '--trace' and '--show' exclude each other"));
+    }
+    match kinds_of(text) {
+        Some(kinds) => Ok(Shown::Kinds(kinds)),
+        None => Err(no_kinds_in(alloc, text)),
+    }
+}
+
+pub(crate) fn run_asked<'a>(
+    alloc: Global,
+    matches: &ArgMatches<'a>,
+) -> Result<Asked<'a>, UsageFault>
+    ensures asks { IfOk result (AsksBy (codes "run") (rows_of (found_of matches.now))) }
+    ensures race { IfOk result IsRaceInRange }
+    ensures refuses { IfErr result (IsRefusedBy (codes "run") (rows_of (found_of matches.now))) }
+{
+    let shown = match shown_asked(alloc, matches) {
+        Ok(shown) => shown,
+        Err(fault) => return Err(fault),
+    };
+    match text_asked(matches, "FILE") {
+        Some(file) => Ok(Asked::Run {
+            shown,
+            flush: flag_asked(matches, "flush"),
+            why: flag_asked(matches, "why"),
+            file,
+        }),
+        None => Err(text_of(alloc, "error: no file")),
+    }
+}

@@ -1,0 +1,5 @@
+use Rattle.history_text.proofs.LinesOut.{Printed}
+use Rattle.history_text.proofs.printing.print_history.Given as goal
+
+abbrev pub invariant-loop-k : goal.invariant-loop-k
+invariant-loop-k g l = Printed l.config l.entries l.k (g.W.Write.contents l.fn.writer) (g.W.Write.contents l.writer)

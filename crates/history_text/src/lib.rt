@@ -1,0 +1,6 @@
+//! Writes a history as a text: its configuration line, and a line for each entry.
+#![tactic(auto)]
+
+mod printing;
+
+pub use crate::printing::{PrintFault, print_history};

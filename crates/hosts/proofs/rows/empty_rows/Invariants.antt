@@ -1,8 +1,0 @@
-use Rattle.std.proofs.Common.{All, [], vec_len, ◌≡◌, ◌≤◌}
-use Rattle.std.specs.Vec.{vec_capacity}
-use Rattle.hosts.specs.Hands.{ArePlaces}
-use Rattle.hosts.proofs.rows.empty_rows.Given as goal
-
-abbrev pub invariant-loop : goal.invariant-loop
-invariant-loop l = All (λ row. ArePlaces l.engine [] row.items) l.rows.items × (vec_len l.rows ≡ l.counter)
-    × (l.count ≤ vec_capacity l.rows)

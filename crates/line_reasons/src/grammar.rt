@@ -1,0 +1,219 @@
+//! Which lines there are, and what their words have to be, one after the other.
+
+use crate::form::Form;
+
+/// Which line a text has to be.
+#[derive(Clone, Copy, Debug, PartialEq, Eq)]
+pub enum Grammar {
+    /// The first line of any file.
+    Configuration,
+    /// A line of a script behind its first.
+    Script,
+    /// A line of a history behind its first.
+    History,
+    /// A line of a trace behind its first.
+    Trace,
+}
+
+static CONFIGURATION: [Form; 1] = [Form::Configuration];
+
+static KIND: [Form; 1] = [Form::Kind];
+
+static NINE: [Form; 9] = [
+    Form::Number32,
+    Form::Number16,
+    Form::Number16,
+    Form::Number16,
+    Form::Number16,
+    Form::Number16,
+    Form::Number16,
+    Form::Number16,
+    Form::Number16,
+];
+
+static TEN: [Form; 10] = [
+    Form::Number32,
+    Form::Number16,
+    Form::Number16,
+    Form::Number16,
+    Form::Number16,
+    Form::Number16,
+    Form::Number16,
+    Form::Number16,
+    Form::Number16,
+    Form::Number16,
+];
+
+static NUMBER_16: [Form; 1] = [Form::Number16];
+
+static NUMBER_64: [Form; 1] = [Form::Number64];
+
+static NAMED_BATCH: [Form; 2] = [Form::Number16, Form::Name];
+
+static NAMED: [Form; 1] = [Form::Name];
+
+static RAW: [Form; 3] = [Form::Entry, Form::Data, Form::More];
+
+static COMMAND: [Form; 6] = [
+    Form::Fuse,
+    Form::Number16,
+    Form::Number64,
+    Form::Number16,
+    Form::Data,
+    Form::More,
+];
+
+static BATCH: [Form; 4] = [Form::Number16, Form::Entry, Form::Data, Form::More];
+
+static FETCH: [Form; 3] = [Form::Number16, Form::Number64, Form::Count];
+
+static VERDICT: [Form; 1] = [Form::Verdict];
+
+static PAIR_VERDICT: [Form; 1] = [Form::PairVerdict];
+
+static STATUS: [Form; 1] = [Form::Status];
+
+static GRANT: [Form; 5] = [
+    Form::Number64,
+    Form::Number64,
+    Form::Number64,
+    Form::Number16,
+    Form::Mode,
+];
+
+static BLOCK: [Form; 5] = [
+    Form::Number64,
+    Form::Number64,
+    Form::Number64,
+    Form::Found,
+    Form::Mark,
+];
+
+static POST: [Form; 3] = [Form::Number64, Form::Completion, Form::Data];
+
+static REAP: [Form; 2] = [Form::Number16, Form::Completion];
+
+static REAP_WITH_DATA: [Form; 3] = [Form::Number16, Form::Completion, Form::Data];
+
+static NOTHING: [Form; 0] = [];
+
+// What follows a kind of lines of a script.
+fn behind_script_kind(word: &[u8]) -> Option<&'static [Form]> {
+    if word == b"publish".as_slice() {
+        return Some(&NAMED_BATCH);
+    }
+    if word == b"fetch".as_slice() || word == b"reap".as_slice() {
+        return Some(&NUMBER_16);
+    }
+    if word == b"settle".as_slice() {
+        return Some(&NOTHING);
+    }
+    if word == b"grant".as_slice()
+        || word == b"block".as_slice()
+        || word == b"post".as_slice()
+        || word == b"medium".as_slice()
+    {
+        return Some(&NUMBER_64);
+    }
+    None
+}
+
+// What follows a kind of lines of a history.
+fn behind_history_kind(word: &[u8]) -> Option<&'static [Form]> {
+    if word == b"publish".as_slice() {
+        return Some(&BATCH);
+    }
+    if word == b"fetch".as_slice() {
+        return Some(&FETCH);
+    }
+    if word == b"grant".as_slice() {
+        return Some(&GRANT);
+    }
+    if word == b"block".as_slice() {
+        return Some(&BLOCK);
+    }
+    if word == b"post".as_slice() {
+        return Some(&POST);
+    }
+    if word == b"reap".as_slice() {
+        return Some(&REAP);
+    }
+    None
+}
+
+// What follows a kind of lines of a trace.
+fn behind_trace_kind(word: &[u8]) -> Option<&'static [Form]> {
+    if word == b"publish".as_slice() {
+        return Some(&BATCH);
+    }
+    if word == b"reap".as_slice() {
+        return Some(&REAP_WITH_DATA);
+    }
+    None
+}
+
+// What follows the first word of a configuration line.
+fn behind_configuration(word: &[u8]) -> Option<&'static [Form]> {
+    if word == b"config".as_slice() {
+        return Some(&NINE);
+    }
+    if word == b"config2".as_slice() {
+        return Some(&TEN);
+    }
+    None
+}
+
+/// What the first word of a line has to be.
+pub(crate) fn first_form(grammar: Grammar) -> &'static [Form] {
+    match grammar {
+        Grammar::Configuration => &CONFIGURATION,
+        Grammar::Script | Grammar::History | Grammar::Trace => &KIND,
+    }
+}
+
+/// What follows the first word of a line; None where no line begins so.
+pub(crate) fn behind_first(grammar: Grammar, word: &[u8]) -> Option<&'static [Form]> {
+    match grammar {
+        Grammar::Configuration => behind_configuration(word),
+        Grammar::Script => behind_script_kind(word),
+        Grammar::History => behind_history_kind(word),
+        Grammar::Trace => behind_trace_kind(word),
+    }
+}
+
+/// What follows a word of this form, where `others` would.
+pub(crate) fn behind_word(
+    grammar: Grammar,
+    form: Form,
+    word: &[u8],
+    others: &'static [Form],
+) -> &'static [Form] {
+    match form {
+        Form::Name => {
+            if word == b"raw".as_slice() {
+                &RAW
+            } else {
+                &COMMAND
+            }
+        }
+        Form::More => match grammar {
+            Grammar::Script => &NAMED,
+            Grammar::Configuration | Grammar::History | Grammar::Trace => &RAW,
+        },
+        Form::Count => {
+            if word == b"1".as_slice() {
+                &VERDICT
+            } else {
+                &PAIR_VERDICT
+            }
+        }
+        Form::PairVerdict => {
+            if word == b"ok".as_slice() {
+                &NOTHING
+            } else {
+                &STATUS
+            }
+        }
+        _ => others,
+    }
+}

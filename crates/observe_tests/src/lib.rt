@@ -1,0 +1,5 @@
+//! Traces for which a history is looked for, by calls, as tests.
+#![tactic(auto)]
+
+#[cfg(test)]
+mod traces;

@@ -1,0 +1,109 @@
+//! Why no history was found, in words.
+
+use line_text::{Word, send, send_behind, send_words};
+use std::io::{Result as IoResult, Write};
+use trace_observed::{Command, Reason, Why};
+use trace_rings::Unfit;
+
+fn unfit_text(unfit: Unfit) -> &'static [u8] {
+    match unfit {
+        Unfit::Queue => b"there is no such queue",
+        Unfit::Reserved => b"DW0, DW1, CRD, More or DNR isn't zero",
+        Unfit::Phase => b"the phase tag isn't the one that is due",
+        Unfit::OtherQueue => b"its submission queue doesn't use this completion queue",
+    }
+}
+
+fn command_text(command: Command) -> &'static [u8] {
+    match command {
+        Command::Flush => b"the Flush",
+        Command::Write => b"the Write",
+        Command::Read => b"the Read",
+        Command::Compare => b"the Compare",
+        Command::WriteZeroes => b"the Write Zeroes",
+        Command::Other => b"the command",
+    }
+}
+
+// Writes which command it is: `the Read with CID 7 of queue 1 (line 12)`.
+fn send_command<W: Write>(reason: &Reason, writer: &mut W) -> IoResult<()> {
+    send_words(
+        writer,
+        &[
+            Word::Text(command_text(reason.command)),
+            Word::Text(b"with CID"),
+            Word::Number(u64::from(reason.cid)),
+            Word::Text(b"of queue"),
+            Word::Number(u64::from(reason.queue)),
+            Word::Text(b"(line"),
+            Word::Number((reason.published as u64).saturating_add(1)),
+        ],
+    )?;
+    send(writer, b")")
+}
+
+// Writes that no command with this identifier is out.
+fn send_nobody<W: Write>(reason: &Reason, writer: &mut W) -> IoResult<()> {
+    send_words(
+        writer,
+        &[
+            Word::Text(b"no command with CID"),
+            Word::Number(u64::from(reason.cid)),
+            Word::Text(b"of queue"),
+            Word::Number(u64::from(reason.queue)),
+            Word::Text(b"is out"),
+        ],
+    )
+}
+
+// Writes that a command found what nobody wrote.
+fn send_found<W: Write>(reason: &Reason, block: u64, writer: &mut W) -> IoResult<()> {
+    send_command(reason, writer)?;
+    send_behind(
+        writer,
+        &[
+            Word::Text(b"found in block"),
+            Word::Number(block),
+            Word::Text(b"what nobody wrote there"),
+        ],
+    )
+}
+
+// Writes what is the matter.
+fn send_why<W: Write>(reason: &Reason, writer: &mut W) -> IoResult<()> {
+    match reason.why {
+        Why::Unfit(unfit) => send(writer, unfit_text(unfit)),
+        Why::NoRoom => send(writer, b"no completion before it says that there is room"),
+        Why::NoCommand => send_nobody(reason, writer),
+        Why::Value(block) => send_found(reason, block, writer),
+        Why::Head => {
+            send_command(reason, writer)?;
+            send(writer, b" can't have this SQHD")
+        }
+        Why::Status => {
+            send_command(reason, writer)?;
+            send(writer, b" can't end with this status or this data")
+        }
+        Why::Order => {
+            send_command(reason, writer)?;
+            send(
+                writer,
+                b" can't be answered so in any order of what happened before",
+            )
+        }
+    }
+}
+
+/// Writes `not found: `, up to which line of the file, and why.
+pub(crate) fn send_reason<W: Write>(reason: &Reason, writer: &mut W) -> IoResult<()> {
+    send_words(
+        writer,
+        &[
+            Word::Text(b"not found: up to line"),
+            Word::Number((reason.lines as u64).saturating_add(1)),
+        ],
+    )?;
+    send(writer, b": ")?;
+    send_why(reason, writer)?;
+    send(writer, b"\n")
+}

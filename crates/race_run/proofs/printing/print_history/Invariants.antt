@@ -1,5 +1,0 @@
-use Rattle.race_run.proofs.LinesOut.{Printed}
-use Rattle.race_run.proofs.printing.print_history.Given as goal
-
-abbrev pub invariant-loop-k : goal.invariant-loop-k
-invariant-loop-k g l = Printed l.config l.entries l.k (g.W.Write.contents l.fn.writer) (g.W.Write.contents l.writer)

@@ -1,0 +1,13 @@
+-- What is said of a trace that a history was looked for.
+use Rattle.std.specs.Prelude.{List, reverse}
+use Rattle.nvme_model.specs.declared.config.ConfigNumbers.{ConfigNumbers}
+use Rattle.seen_trace.specs.Observed.{Explains}
+use Rattle.seen_trace.specs.declared.seen.Seen.{Seen}
+use Rattle.trace_observed.specs.declared.observing.Observed.{Observed}
+use Rattle.trace_observed.specs.declared.observing.Observed.TheVariants.{Explained, GaveUp, NotFound}
+
+-- where it is said that a history explains a trace, the newest first, it does; nothing is promised of anything else
+abbrev pub IsExplained : ConfigNumbers → List Seen → Observed → Type 0
+IsExplained c trace (Explained entries) = Explains c (reverse entries.items) trace
+IsExplained c trace (NotFound why) = Unit {0}
+IsExplained c trace GaveUp = Unit {0}

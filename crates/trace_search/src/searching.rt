@@ -1,0 +1,159 @@
+//! Looks for a history that explains a trace, by trying what can be done next and taking back what leads nowhere.
+
+use crate::choosing::Around;
+use crate::walk::{Choice, Walk};
+use std::alloc::{AllocError as NoMemory, Global};
+use std::collections::HashSet;
+use trace_rings::{Tables, number_at};
+
+/// What a search found.
+#[derive(Drop)]
+pub enum Found {
+    /// The steps of a history.
+    History(Walk),
+    /// None, in all that there is to try; so many first lines of the trace were explained on the way.
+    NotFound(usize),
+    /// The steps were used up.
+    GaveUp,
+}
+
+// A place to which the search comes back: how many steps were made, and where its choices begin.
+#[derive(Clone, Copy)]
+struct Branch {
+    moves: usize,
+    choices: usize,
+}
+
+// How a search ended.
+#[derive(Clone, Copy, PartialEq, Eq)]
+pub(crate) enum End {
+    Found,
+    Tried,
+    StepsUsed,
+}
+
+#[derive(Drop)]
+pub(crate) struct Seeker {
+    walk: Walk,
+    branches: Vec<Branch>,
+    choices: Vec<Choice>,
+    seen: HashSet<u64>,
+    near: Vec<usize>,
+    // the most lines that were taken
+    furthest: usize,
+}
+
+impl Seeker {
+    pub(crate) fn new(alloc: Global, tables: &Tables) -> Result<Seeker, NoMemory> {
+        Ok(Seeker {
+            walk: Walk::new(alloc, tables)?,
+            branches: Vec::new(alloc),
+            choices: Vec::new(alloc),
+            seen: HashSet::new(alloc),
+            near: Vec::new(alloc),
+            furthest: 0,
+        })
+    }
+
+    // Goes back to the newest place with a choice left, and takes that; or there is none.
+    fn go_back(&mut self, tables: &Tables) -> Result<bool, NoMemory> {
+        for _ in 0..=self.branches.len() {
+            let Some(branch) = self.branches.last().copied() else {
+                return Ok(false);
+            };
+            if self.choices.len() > branch.choices {
+                if let Some(choice) = self.choices.pop() {
+                    self.walk.undo_to(tables, branch.moves)?;
+                    self.walk.make(tables, choice)?;
+                    return Ok(true);
+                }
+            }
+            let _ = self.branches.pop();
+        }
+        Ok(false)
+    }
+
+    // Takes the best of what can be done, and keeps the others for later.
+    fn branch(&mut self, tables: &Tables) -> Result<bool, NoMemory> {
+        let choices = self.choices.len();
+        let near = std::mem::replace(&mut self.near, Vec::new(self.walk.alloc));
+        let around = self.walk.around(tables, near)?;
+        self.walk.add_choices(tables, &around, &mut self.choices)?;
+        self.walk
+            .put_best_last(tables, &around, choices, &mut self.choices);
+        let Around {
+            target: _,
+            tickets,
+            units_alone: _,
+        } = around;
+        self.near = tickets;
+        let moves = self.walk.moves.len();
+        if self.choices.len() <= choices {
+            return self.go_back(tables);
+        }
+        if self.choices.len() - choices > 1 {
+            if self.seen.contains(&self.walk.state()) {
+                self.choices.truncate(choices);
+                return self.go_back(tables);
+            }
+            let _ = self.seen.insert(self.walk.state())?;
+            self.branches.push(Branch { moves, choices })?;
+        }
+        if let Some(choice) = self.choices.pop() {
+            self.walk.make(tables, choice)?;
+        }
+        Ok(true)
+    }
+
+    /// Searches, so many steps at most.
+    pub(crate) fn run(&mut self, tables: &Tables, steps: u64) -> Result<End, NoMemory> {
+        for _ in 0..steps {
+            self.furthest = self.furthest.max(self.walk.at);
+            if self.walk.at >= tables.lines.len() {
+                return Ok(End::Found);
+            }
+            let goes_on = match self.walk.forced(tables) {
+                Some(choice) => {
+                    self.walk.make(tables, choice)?;
+                    true
+                }
+                None => self.branch(tables)?,
+            };
+            if !goes_on {
+                return Ok(End::Tried);
+            }
+        }
+        Ok(End::StepsUsed)
+    }
+}
+
+/// Looks for a history that explains the trace that these tables are of, in so many steps at most. It says nothing that
+/// could be relied on.
+///
+/// # Errors
+///
+/// `NoMemory` where a growth is refused.
+pub fn search_history(alloc: Global, tables: &Tables, steps: u64) -> Result<Found, NoMemory> {
+    let mut seeker = Seeker::new(alloc, tables)?;
+    match seeker.run(tables, steps)? {
+        End::StepsUsed => Ok(Found::GaveUp),
+        End::Tried => Ok(Found::NotFound(seeker.furthest)),
+        End::Found => {
+            if tables.unfit.is_some() {
+                return Ok(Found::NotFound(seeker.furthest));
+            }
+            Ok(Found::History(seeker.walk))
+        }
+    }
+}
+
+/// Whether a history is found that explains the trace that these tables are of.
+///
+/// # Errors
+///
+/// `NoMemory` where a growth is refused.
+pub fn is_found(alloc: Global, tables: &Tables, steps: u64) -> Result<bool, NoMemory> {
+    let mut seeker = Seeker::new(alloc, tables)?;
+    let end = seeker.run(tables, steps)?;
+    Ok(end == End::Found && tables.unfit.is_none())
+}

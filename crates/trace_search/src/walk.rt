@@ -1,0 +1,185 @@
+//! A history that is being made, and what it has made of the volume.
+
+use crate::ticket::{Kind, Ticket};
+use nvme_model::array::Range;
+use std::alloc::{AllocError as NoMemory, Global};
+use trace_rings::{Line, Tables, mixed, number_at, zeros};
+
+/// One step of a history in which each unit is one step.
+#[derive(Clone, Copy)]
+pub enum Move {
+    /// The next line of the trace.
+    Line,
+    /// A Fetch from this submission queue.
+    Fetch(usize),
+    /// The unit of this ticket: its number, its blocks, and how many are equal, of a comparing one, before one differs.
+    Unit(usize, u64, Range, u32),
+    /// A completion, of all that are reaped, of this ticket, which had so many before and stood at this place among
+    /// those in flight.
+    Post(usize, usize, u8, usize),
+}
+
+/// What can be done next.
+#[derive(Clone, Copy)]
+pub(crate) enum Choice {
+    Line,
+    /// A Fetch from this submission queue.
+    Fetch(usize),
+    /// The next unit of this ticket.
+    Unit(usize),
+    /// The next completion of this completion queue, of this ticket.
+    Post(usize, usize),
+}
+
+/// A history that is being made.
+#[derive(Drop)]
+pub struct Walk {
+    pub(crate) alloc: Global,
+    // how many lines of the trace were taken
+    pub(crate) at: usize,
+    // by submission queue
+    pub(crate) published: Vec<usize>,
+    pub(crate) fetched: Vec<usize>,
+    pub(crate) answered: Vec<usize>,
+    // by completion queue
+    pub(crate) posted: Vec<usize>,
+    pub(crate) reaped: Vec<usize>,
+    pub(crate) tickets: Vec<Ticket>,
+    pub(crate) in_flight: Vec<usize>,
+    // by block: its value, and the place of who wrote it
+    pub(crate) values: Vec<u64>,
+    pub(crate) writers: Vec<usize>,
+    // a number of all those values
+    pub(crate) sum: u64,
+    // by place: how many are still to find that value
+    pub(crate) left: Vec<usize>,
+    pub(crate) moves: Vec<Move>,
+    // what lay in the blocks that were written, the newest last
+    pub(crate) covered: Vec<(u64, usize)>,
+    // identifiers in use, while a Fetch is judged
+    pub(crate) in_use: Vec<u16>,
+}
+
+fn left_of(alloc: Global, tables: &Tables) -> Result<Vec<usize>, NoMemory> {
+    let mut left = Vec::new(alloc);
+    for need in tables.needs.as_slice() {
+        left.push(need.finders)?;
+    }
+    Ok(left)
+}
+
+impl Walk {
+    pub(crate) fn new(alloc: Global, tables: &Tables) -> Result<Walk, NoMemory> {
+        let pairs = usize::from(tables.numbers.pairs);
+        let cqs = usize::from(tables.numbers.cqs);
+        let mut values = Vec::new(alloc);
+        let mut writers = Vec::new(alloc);
+        for _ in 0..tables.numbers.blocks {
+            values.push(0)?;
+            writers.push(usize::MAX)?;
+        }
+        Ok(Walk {
+            alloc,
+            at: 0,
+            published: zeros(alloc, pairs)?,
+            fetched: zeros(alloc, pairs)?,
+            answered: zeros(alloc, pairs)?,
+            posted: zeros(alloc, cqs)?,
+            reaped: zeros(alloc, cqs)?,
+            tickets: Vec::new(alloc),
+            in_flight: Vec::new(alloc),
+            values,
+            writers,
+            sum: 0,
+            left: left_of(alloc, tables)?,
+            moves: Vec::new(alloc),
+            covered: Vec::new(alloc),
+            in_use: Vec::new(alloc),
+        })
+    }
+
+    /// The ticket with this number, from 0.
+    pub fn ticket(&self, number: usize) -> Option<Ticket> {
+        self.tickets.get(number).copied()
+    }
+
+    /// The steps that were made, the oldest first.
+    pub fn moves(&self) -> &[Move] {
+        self.moves.as_slice()
+    }
+
+    /// The value of a block.
+    pub(crate) fn value(&self, block: u64) -> u64 {
+        let place = block.min(65_536) as usize;
+        self.values.get(place).copied().unwrap_or(0)
+    }
+
+    /// The place of who wrote a block last.
+    pub(crate) fn writer(&self, block: u64) -> usize {
+        let place = block.min(65_536) as usize;
+        self.writers.get(place).copied().unwrap_or(usize::MAX)
+    }
+
+    /// The next line of the trace.
+    pub(crate) fn line(&self, tables: &Tables) -> Option<Line> {
+        tables.lines.get(self.at).copied()
+    }
+
+    /// Whether the next Post to this completion queue has room.
+    pub(crate) fn has_room(&self, tables: &Tables, cq: usize) -> bool {
+        let posted = number_at(&self.posted, cq);
+        let waiting = posted.saturating_sub(number_at(&self.reaped, cq));
+        waiting.saturating_add(1) < usize::from(tables.numbers.cq_size)
+    }
+
+    /// The blocks of the next unit of a ticket.
+    pub(crate) fn next_unit(&self, tables: &Tables, ticket: &Ticket) -> Option<Range> {
+        if !ticket.has_unit() || ticket.next > 65_535 {
+            return None;
+        }
+        if ticket.kind == Kind::Pair {
+            return Some(ticket.range);
+        }
+        let end = ticket.next.saturating_add(u64::from(ticket.left));
+        if end > 65_536 || ticket.left == 0 {
+            return None;
+        }
+        tables.units.cut(ticket.next, ticket.left).next()
+    }
+
+    /// A number that hardly any other place to go on from has.
+    pub(crate) fn state(&self) -> u64 {
+        let mut state = mixed(self.sum, self.at as u64);
+        for fetched in self.fetched.as_slice() {
+            state = mixed(state, *fetched as u64);
+        }
+        for posted in self.posted.as_slice() {
+            state = mixed(state, *posted as u64);
+        }
+        let mut all = 0u64;
+        for number in self.in_flight.as_slice() {
+            if let Some(ticket) = self.tickets.get(*number) {
+                let who = mixed(ticket.queue as u64, ticket.first as u64);
+                let far = mixed(ticket.unit, u64::from(ticket.posts));
+                let end = mixed(u64::from(ticket.taken), u64::from(ticket.differs));
+                all = all.wrapping_add(mixed(mixed(who, far), end));
+            }
+        }
+        mixed(state, all)
+    }
+
+    /// How many of these blocks have the values that a ticket is to find, before one has another.
+    pub(crate) fn equal(&self, tables: &Tables, ticket: &Ticket, range: &Range) -> u32 {
+        let Some(place) = ticket.finds else {
+            return 0;
+        };
+        let first = place.saturating_add(ticket.behind(range.slba));
+        for k in 0..range.blocks {
+            let due = tables.value(first.saturating_add(k as usize));
+            if self.value(range.slba.saturating_add(u64::from(k))) != due {
+                return k;
+            }
+        }
+        range.blocks
+    }
+}
