@@ -28,7 +28,8 @@ A history is what 'casdisk run --show publish,fetch,grant,block,post,reap' print
 line, and then a line for each step that a controller made. Any controller may have made it: see
 docs/CHECKING.md.
 
-Exit status: 0 where it is legal, 1 where it isn't.";
+Exit status: 0 where it is legal and, with --slots, keeps the discipline of slots; 1 where it isn't
+or doesn't.";
 
 pub(crate) fn check_command<'a>(alloc: Global) -> Result<Command<'a>, AllocError>
     ensures { IfOk result (λ c. app_of c ≡ check_app) }

@@ -5,16 +5,19 @@ ghost use Rattle.clap.specs.Words.{app_of, found_of, rows_of};
 ghost use Rattle.command_line.specs.Asking.{AsksBy, IsRaceInRange, IsRefusedBy};
 ghost use Rattle.command_line.specs.CommandLine.{tell_app};
 
-use crate::options::{HISTORY, flag_asked, text_asked, text_of, with_flag, with_input};
+use crate::options::{flag_asked, text_asked, text_of, with_flag, with_input};
 use crate::request::{Asked, UsageFault};
 use clap::{ArgMatches, Command};
 use std::alloc::{AllocError, Global};
 
+const LINES: &str = "The history or trace; - is standard input";
+
 const COLOR: &str = "Colour each line by its kind, by the codes of a terminal";
 
 const ABOUT_WORDS: &str = "\
-Each line of the history is told by one line, as soon as it is read: a command by its name and its
-blocks, a status by its name and its numbers. Whether the history is legal isn't asked: see 'check'.
+Each line is told by one line, as soon as it is read: a command by its name and its blocks, a status
+by its name and its numbers. Of a trace, each line is told as that of a history is. Whether it is
+legal, or can be explained, isn't asked: see 'check' and 'observe'.
 
 Exit status: 0 where all is told, 2 after a bad line or configuration.";
 
@@ -22,10 +25,10 @@ pub(crate) fn tell_command<'a>(alloc: Global) -> Result<Command<'a>, AllocError>
     ensures { IfOk result (λ c. app_of c ≡ tell_app) }
 {
     let command = Command::new(alloc, "tell")
-        .about("Tells a history in words, a line for a line")
+        .about("Tells a history or a trace in words, a line for a line")
         .after_help(ABOUT_WORDS);
     let command = with_flag(alloc, command, "color", COLOR)?;
-    with_input(alloc, command, "FILE", HISTORY)
+    with_input(alloc, command, "FILE", LINES)
 }
 
 pub(crate) fn tell_asked<'a>(
