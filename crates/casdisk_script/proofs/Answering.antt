@@ -6,7 +6,7 @@ use Rattle.std.proofs.KnownBytes.{Keeps-refl}
 use Rattle.line_text.specs.Lines.{whole_lines}
 use Rattle.nvme_model.specs.declared.config.ConfigNumbers.{ConfigNumbers}
 use Rattle.history_check.specs.Kept.{CheckerRun}
-use Rattle.casdisk_script.specs.Explained.{IsExplained, explained_of}
+use Rattle.casdisk_script.specs.Explained.{IsExplanation, explained_of}
 use Rattle.casdisk_script.specs.Fault.{fault_in_memory}
 use Rattle.casdisk_script.specs.Files.{ChecksText, EndsSo, HasHistory, IsAnswerOf, IsUnread, entry_added, file_of}
 use Rattle.casdisk_script.specs.Judged.{HasFirstBad, HasJudged, TellsAnswer, answer_text}
@@ -52,7 +52,7 @@ whole why c checker count bad (Some bytes) t w u ran makes known = (ran.1, (ran.
 
 module _ (bad : FirstBad) where
   pub explained : (r : Option (List ℕ)) → IfSome r (HasHistory (λ c past. HasFirstBad true c past bad))
-      → IfSome r (HasHistory (λ c past. IsExplained c past (explained_of bad.place bad.broken)))
+      → IfSome r (HasHistory (λ c past. IsExplanation c past (explained_of bad.place bad.broken)))
   explained None h = tt
   explained (Some bytes) h =
       (h.0, (h.1.0, h.1.1, explained_by h.1.0 (file_of bytes).past bad.place bad.broken h.1.2.place (h.1.2.rule refl)))

@@ -12,7 +12,7 @@ use Rattle.nvme_model.specs.declared.config.ConfigNumbers.{ConfigNumbers}
 use Rattle.nvme_model.specs.declared.entry.Entry.{Entry}
 use Rattle.nvme_model.proofs.FirstBad.{legal_is_none, none_is_legal, some_is_first}
 use Rattle.history_check.specs.Kept.{Stands, CheckerRun}
-use Rattle.casdisk_script.specs.Explained.{IsExplained, explained_of}
+use Rattle.casdisk_script.specs.Explained.{IsExplanation, explained_of}
 use Rattle.casdisk_script.specs.Files.{IsAnswer}
 use Rattle.casdisk_script.specs.Judged.{HasJudged, answer_text, first_rule}
 use Rattle.casdisk_script.specs.declared.judging.FirstBad.{FirstBad}
@@ -53,7 +53,7 @@ rule_is c (e ∷ past) = go (legal c past) refl (rule_is c past)
     go false h ih = ih ∙ h ∙ sym (ap (λ l. l && may_follow c past e) h)
 
 pub explained_by : (c : ConfigNumbers) (past : Past) (place : Option ℕ) (broken : Option Broken)
-    → place ≡ first_bad_of c past → broken ≡ first_rule c past → IsExplained c past (explained_of place broken)
+    → place ≡ first_bad_of c past → broken ≡ first_rule c past → IsExplanation c past (explained_of place broken)
 explained_by c past None broken e r = no_place c past e
 explained_by c past (Some place) None e r = sym (rule_is c past) ∙ ap is_none (sym r)
 explained_by c past (Some place) (Some b) e r = (some_is_first c (reverse past) place (of_file c past ∙ sym e), sym r)

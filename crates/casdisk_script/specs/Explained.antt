@@ -13,13 +13,13 @@ use Rattle.casdisk_script.specs.declared.explaining.Explained.TheVariants.{Legal
 use Rattle.casdisk_script.specs.declared.fault.RunFault.{RunFault}
 
 -- The history is legal; or this is the first place at which it isn't, and the first rule that the entry there breaks.
-abbrev pub IsExplained : ConfigNumbers → Past → Explained → Type 0
-IsExplained c past Legal = IsLegal c past
-IsExplained c past (BadAt step) = IsFirstBad c (reverse past) step.place × (first_rule c past ≡ Some step.broken)
+abbrev pub IsExplanation : ConfigNumbers → Past → Explained → Type 0
+IsExplanation c past Legal = IsLegal c past
+IsExplanation c past (BadAt step) = IsFirstBad c (reverse past) step.place × (first_rule c past ≡ Some step.broken)
 
 -- By what was answered: what the history of the whole file is, or why it isn't said.
 abbrev pub ExplainsText : Result Explained RunFault → Option (List ℕ) → Option (List ℕ) → Type 0
-ExplainsText (Ok x) input left = IsAtEnd left × IfSome input (HasHistory (λ c past. IsExplained c past x))
+ExplainsText (Ok x) input left = IsAtEnd left × IfSome input (HasHistory (λ c past. IsExplanation c past x))
 ExplainsText (Err f) input left = IsUnread f input left
 
 -- what the first entry that breaks a rule, if there is one, says of the history

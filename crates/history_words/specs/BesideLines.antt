@@ -78,15 +78,15 @@ volume_in (lba ∷ block ∷ []) = volume_told (number_in 64 lba) block
 volume_in words = None
 
 -- what was reaped of this queue, where two words say that
-unfoldable pub reaped_from : List ℕ → List (List ℕ) → Option (List ℕ)
-reaped_from queue (cqe ∷ payload ∷ []) =
+unfoldable pub reap_told_of : List ℕ → List (List ℕ) → Option (List ℕ)
+reap_told_of queue (cqe ∷ payload ∷ []) =
     seen_told (number_in 16 queue) (fixed_in 16 (bytes_in cqe)) (data_in 512 payload)
-reaped_from queue words = None
+reap_told_of queue words = None
 
 -- what was reaped, where three words say that
-unfoldable pub reaped_in : List (List ℕ) → Option (List ℕ)
-reaped_in [] = None
-reaped_in (queue ∷ words) = reaped_from queue words
+unfoldable pub reap_told_in : List (List ℕ) → Option (List ℕ)
+reap_told_in [] = None
+reap_told_in (queue ∷ words) = reap_told_of queue words
 
 -- what is told of these words
 unfoldable pub beside_in : List (List ℕ) → Option (List ℕ)
@@ -94,7 +94,7 @@ beside_in [] = None
 beside_in (kind ∷ words) =
     if bytes_eq kind (codes "refused") then refusal_in words
     else if bytes_eq kind (codes "medium") then volume_in words
-    else if bytes_eq kind (codes "reap") then reaped_in words
+    else if bytes_eq kind (codes "reap") then reap_told_in words
     else None
 
 -- the number of the colour of such a line: that of a Reap of a history, where it is one

@@ -6,7 +6,7 @@ ghost use Rattle.line_text.specs.Data.{data_in};
 ghost use Rattle.line_text.specs.Digits.{bytes_in, fixed_in};
 ghost use Rattle.line_text.specs.Number.{number_in};
 ghost use Rattle.history_words.specs.BesideLines.{beside_color, beside_in, beside_painted, block_told, bytes_told};
-ghost use Rattle.history_words.specs.BesideLines.{medium_told, reaped_from, reaped_in, reaped_told, refusal_in};
+ghost use Rattle.history_words.specs.BesideLines.{medium_told, reap_told_in, reap_told_of, reaped_told, refusal_in};
 ghost use Rattle.history_words.specs.BesideLines.{refusal_told, refusal_words, refused_told, seen_told, volume_in};
 ghost use Rattle.history_words.specs.BesideLines.{volume_told};
 
@@ -172,10 +172,10 @@ fn volume_of(alloc: Global, words: &[&[u8]]) -> Result<Option<String>, NoMemory>
 }
 
 // What was reaped of this queue, where two words say that.
-#[tactic(auto, unfolding(crate::specs::BesideLines::reaped_from))]
-fn reaped_from(alloc: Global, queue: &[u8], words: &[&[u8]]) -> Result<Option<String>, NoMemory>
+#[tactic(auto, unfolding(crate::specs::BesideLines::reap_told_of))]
+fn reap_told_of(alloc: Global, queue: &[u8], words: &[&[u8]]) -> Result<Option<String>, NoMemory>
     ensures value { IfOk result
-        (λ told. option_map string_bytes told ≡ reaped_from queue.now (map (λ w. w.now) words.now)) }
+        (λ told. option_map string_bytes told ≡ reap_told_of queue.now (map (λ w. w.now) words.now)) }
 {
     let [cqe, payload] = words else {
         return Ok(None);
@@ -184,14 +184,14 @@ fn reaped_from(alloc: Global, queue: &[u8], words: &[&[u8]]) -> Result<Option<St
 }
 
 // What was reaped, where three words say that.
-#[tactic(auto, unfolding(crate::specs::BesideLines::reaped_in))]
+#[tactic(auto, unfolding(crate::specs::BesideLines::reap_told_in))]
 fn reaped_of(alloc: Global, words: &[&[u8]]) -> Result<Option<String>, NoMemory>
-    ensures value { IfOk result (λ told. option_map string_bytes told ≡ reaped_in (map (λ w. w.now) words.now)) }
+    ensures value { IfOk result (λ told. option_map string_bytes told ≡ reap_told_in (map (λ w. w.now) words.now)) }
 {
     let Some((queue, others)) = words.split_first() else {
         return Ok(None);
     };
-    reaped_from(alloc, queue, others)
+    reap_told_of(alloc, queue, others)
 }
 
 #[tactic(auto, unfolding(crate::specs::BesideLines::beside_in))]

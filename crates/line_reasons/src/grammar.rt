@@ -19,19 +19,8 @@ static CONFIGURATION: [Form; 1] = [Form::Configuration];
 
 static KIND: [Form; 1] = [Form::Kind];
 
-static NINE: [Form; 9] = [
-    Form::Number32,
-    Form::Number16,
-    Form::Number16,
-    Form::Number16,
-    Form::Number16,
-    Form::Number16,
-    Form::Number16,
-    Form::Number16,
-    Form::Number16,
-];
-
-static TEN: [Form; 10] = [
+// The numbers of a configuration line; one with as many completion queues as pairs leaves out the last.
+static CONFIG_NUMBERS: [Form; 10] = [
     Form::Number32,
     Form::Number16,
     Form::Number16,
@@ -155,10 +144,10 @@ fn behind_trace_kind(word: &[u8]) -> Option<&'static [Form]> {
 // What follows the first word of a configuration line.
 fn behind_configuration(word: &[u8]) -> Option<&'static [Form]> {
     if word == b"config".as_slice() {
-        return Some(&NINE);
+        return Some(&CONFIG_NUMBERS[..9]);
     }
     if word == b"config2".as_slice() {
-        return Some(&TEN);
+        return Some(&CONFIG_NUMBERS);
     }
     None
 }

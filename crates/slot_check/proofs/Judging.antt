@@ -25,8 +25,8 @@ use Rattle.nvme_model.specs.declared.entry.Entry.{Entry}
 use Rattle.nvme_model.specs.declared.entry.PublishLine.{PublishLine}
 use Rattle.nvme_model.specs.declared.submission.Submission.{Submission}
 use Rattle.slot_check.specs.Batch.{claimed_twice_in, fresh_in, release_broken_in}
-use Rattle.slot_check.specs.Broken.{broken_by, claimed_twice, first_of, first_touched, publish_broken, release_broken}
-use Rattle.slot_check.specs.Broken.{write_alone}
+use Rattle.slot_check.specs.Broken.{claimed_twice, first_of, first_touched, publish_broken, release_broken}
+use Rattle.slot_check.specs.Broken.{slots_broken_by, write_alone}
 use Rattle.slot_check.specs.Names.{AreUnwon, KeptNames, KnowsNames, believes, keeps_queue}
 use Rattle.slot_check.specs.Watched.{IsSlotCheckState, SlotCheckState}
 use Rattle.slot_check.specs.declared.broken.BrokenDiscipline.{BrokenDiscipline}
@@ -92,15 +92,16 @@ module _ (c : ConfigNumbers) (slots : Range) (past : Past) (k : KeptNames)
 
   pub judged_is : (p : PublishLine) (first : ℕ) (of : List Swap) → first ≡ length (published_entries past p.queue)
       → of ≡ in_area slots (swaps_in p.queue first p.batch)
-      → broken_by (write_alone slots p.queue first p.batch of) (claimed_twice_in k of) (release_broken_in c k [] of)
+      → slots_broken_by (write_alone slots p.queue first p.batch of) (claimed_twice_in k of)
+      (release_broken_in c k [] of)
       ≡ publish_broken c slots past p
   judged_is p first of e f =
       let j = length (published_entries past p.queue) in
       let all = in_area slots (swaps_in p.queue j p.batch) in
       let same : of ≡ all = f ∙ ap (λ (n : ℕ). in_area slots (swaps_in p.queue n p.batch)) e in
-      (λ t. broken_by (write_alone slots p.queue (e t) p.batch (same t)) (claimed_twice_in k (same t))
+      (λ t. slots_broken_by (write_alone slots p.queue (e t) p.batch (same t)) (claimed_twice_in k (same t))
       (release_broken_in c k [] (same t)))
-      ∙ (λ t. broken_by (write_alone slots p.queue j p.batch all)
+      ∙ (λ t. slots_broken_by (write_alone slots p.queue j p.batch all)
       (twice_is (reaped_success c past) (in_area slots (swaps past)) k all h t)
       (releases_are [] all (area_in slots (swaps_in p.queue j p.batch)) t))
 
@@ -167,7 +168,7 @@ twice_none (s ∷ later) before =
     go false b ih = ih
 
 none_of_three : (w t : Option ℕ) (o : Option BrokenDiscipline)
-    → is_none (broken_by w t o) ≡ ((is_none w && is_none t) && is_none o)
+    → is_none (slots_broken_by w t o) ≡ ((is_none w && is_none t) && is_none o)
 none_of_three None None o = refl
 none_of_three None (Some l) o = refl
 none_of_three (Some l) t o = refl
@@ -247,7 +248,7 @@ unwon c slots past p first of h e f =
     (new_swaps p.queue (length (published_entries past p.queue)) first p.batch (omega (arith, e)))))
 
 -- nothing is broken, so the names are fresh
-fresh_where : (w t : Option ℕ) (o : Option BrokenDiscipline) → broken_by w t o ≡ None → is_none t ≡ true
+fresh_where : (w t : Option ℕ) (o : Option BrokenDiscipline) → slots_broken_by w t o ≡ None → is_none t ≡ true
 fresh_where w None o e = refl
 fresh_where None (Some l) o e = absurd (let f : Some (ClaimedTwice l) ≡ None = e in cc)
 fresh_where (Some m) (Some l) o e = absurd (let f : Some (NoSwap m) ≡ None = e in cc)
@@ -255,11 +256,11 @@ fresh_where (Some m) (Some l) o e = absurd (let f : Some (NoSwap m) ≡ None = e
 pub whole_is : (c : ConfigNumbers) (slots : Range) (past : Past) (p : PublishLine) (k : SlotCheckState) (first : ℕ)
     (batch : List Submission) (of : List Swap) (o : Option BrokenDiscipline) → IsSlotCheckState c slots past k
     → first ≡ k.progress.published p.queue → batch ≡ p.batch → of ≡ in_area slots (swaps_in p.queue first batch)
-    → o ≡ broken_by (write_alone slots p.queue first batch of) (claimed_twice_in k.names of)
+    → o ≡ slots_broken_by (write_alone slots p.queue first batch of) (claimed_twice_in k.names of)
     (release_broken_in c k.names [] of)
     → o ≡ publish_broken c slots past p
 whole_is c slots past p k first batch of o h e b f g =
-    g ∙ (λ t. broken_by (write_alone slots p.queue first (b t) of) (claimed_twice_in k.names of)
+    g ∙ (λ t. slots_broken_by (write_alone slots p.queue first (b t) of) (claimed_twice_in k.names of)
     (release_broken_in c k.names [] of))
     ∙ judged_is c slots past k.names h.names p first of (e ∙ h.progress.published p.queue)
     (f ∙ ap (λ (xs : List Submission). in_area slots (swaps_in p.queue first xs)) b)

@@ -65,8 +65,9 @@ release_broken c past earlier (s ∷ later) =
     first_of (release_wrong c past earlier s) (release_broken c past (earlier ++ s ∷ []) later)
 
 -- the first of a Write that is no claim or release, of a claim of a name that is claimed twice, and of this
-abbrev pub broken_by : Option ℕ → Option ℕ → Option BrokenDiscipline → Option BrokenDiscipline
-broken_by write claim release = first_of (option_map NoSwap write) (first_of (option_map ClaimedTwice claim) release)
+abbrev pub slots_broken_by : Option ℕ → Option ℕ → Option BrokenDiscipline → Option BrokenDiscipline
+slots_broken_by write claim release =
+    first_of (option_map NoSwap write) (first_of (option_map ClaimedTwice claim) release)
 
 -- The rule that a Publish breaks first: a Write in the area is no part of a claim or release; a name was claimed
 -- before; a release is wrong.
@@ -74,7 +75,7 @@ abbrev pub publish_broken : ConfigNumbers → Range → Past → PublishLine →
 publish_broken c slots past p =
     let j = length (published_entries past p.queue) in
     let of = in_area slots (swaps_in p.queue j p.batch) in
-    broken_by (write_alone slots p.queue j p.batch of) (claimed_twice of (in_area slots (swaps past)))
+    slots_broken_by (write_alone slots p.queue j p.batch of) (claimed_twice of (in_area slots (swaps past)))
     (release_broken c past [] of)
 
 -- The rule that an entry breaks first behind this history; other steps than a Publish break none.

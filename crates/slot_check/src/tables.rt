@@ -6,7 +6,7 @@ ghost use Rattle.nvme_model.specs.Legal.{IsLegal};
 ghost use Rattle.nvme_model.specs.declared.config.ConfigNumbers.{ConfigNumbers};
 ghost use Rattle.nvme_model.specs.declared.entry.Entry.{Entry};
 ghost use Rattle.slot_check.specs.Batch.{claimed_twice_in, release_broken_in};
-ghost use Rattle.slot_check.specs.Broken.{broken_by, discipline_broken, write_alone};
+ghost use Rattle.slot_check.specs.Broken.{discipline_broken, slots_broken_by, write_alone};
 ghost use Rattle.slot_check.specs.Names.{names_in};
 ghost use Rattle.slot_check.specs.Watched.{IsSlotCheckState, slot_check_state_in};
 
@@ -39,7 +39,7 @@ fn judge_batch(
     of: &[Swap],
 ) -> Option<BrokenDiscipline>
     requires room { first + length batch.now < 2 ^ 64 }
-    ensures value { result ≡ broken_by (write_alone slots queue first batch.now of.now)
+    ensures value { result ≡ slots_broken_by (write_alone slots queue first batch.now of.now)
         (claimed_twice_in (names_in names.now) of.now) (release_broken_in config.now (names_in names.now) [] of.now) }
 {
     if let Some(lba) = write_alone(slots, queue, first, batch, of) {

@@ -27,7 +27,7 @@ use Rattle.slot_texts.specs.Wrong.{HasJudgedSlots, first_wrong}
 use Rattle.slot_texts.specs.declared.fault.SlotsFault.{SlotsFault}
 use Rattle.slot_texts.specs.declared.fault.SlotsFault.TheVariants.{Beyond, NoSlots, Run}
 use Rattle.slot_texts.specs.declared.judging.WrongStep.{WrongStep}
-use Rattle.slot_texts.specs.declared.judging.Found.{Found}
+use Rattle.slot_texts.specs.declared.judging.JudgedSlots.{JudgedSlots}
 use Rattle.slot_texts.proofs.Wronging.{exactly, none_wrong, some_wrong}
 
 -- ---- of a history
@@ -61,7 +61,7 @@ module _ (c : ConfigNumbers) (slots : Range) (past : Past) where
 
 -- ---- of a file
 
-module _ (slots : Range) (found : Found) where
+module _ (slots : Range) (found : JudgedSlots) where
   answer_of : (bytes : List ℕ) → HasHistory (λ c past. HasFound false c slots past found) bytes
       → IsSlotsAnswerOf slots bytes (found_none found.bad.place found.wrong) (found_text found.bad.place found.wrong)
   answer_of bytes h =
@@ -140,7 +140,7 @@ same_range a b h =
     ap₂ (λ (x y : ℕ). let r : Range = record { slba = x; blocks = y } in r) first second
 
 found_in : (why : Bool) (c : ConfigNumbers) (slots kept : Range) (past : Past) (checker : CheckerRun) (count : ℕ)
-    (bad : FirstBad) (area : AreaState) (wrong : Option WrongStep) (found : Found) → found.bad ≡ bad
+    (bad : FirstBad) (area : AreaState) (wrong : Option WrongStep) (found : JudgedSlots) → found.bad ≡ bad
     → found.wrong ≡ wrong → slots ≡ kept → IsWithin c slots
     → HasJudgedSlots why c kept past checker count bad area wrong → HasFound why c slots past found
 found_in why c slots kept past checker count bad area wrong found e f same within h =
@@ -152,7 +152,7 @@ found_in why c slots kept past checker count bad area wrong found e f same withi
     }
 
 pub whole : (why : Bool) (c : ConfigNumbers) (slots kept : Range) (checker : CheckerRun) (count : ℕ) (bad : FirstBad)
-    (area : AreaState) (wrong : Option WrongStep) (found : Found) (r t w u : Option (List ℕ)) → found.bad ≡ bad
+    (area : AreaState) (wrong : Option WrongStep) (found : JudgedSlots) (r t w u : Option (List ℕ)) → found.bad ≡ bad
     → found.wrong ≡ wrong → (kept.slba ∷ kept.blocks ∷ []) ≡ (slots.slba ∷ slots.blocks ∷ []) → IsWithin c slots
     → RunsScript (script_outcome (λ c. entry_added)) (Ok tt) r t w u
     → Makes (script_outcome (λ c. entry_added)) (Ok tt) r

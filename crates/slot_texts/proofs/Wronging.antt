@@ -16,13 +16,13 @@ use Rattle.slot_check.specs.Broken.{discipline_broken}
 use Rattle.slot_check.specs.Watched.{AreaState, Watches}
 use Rattle.slot_check.specs.declared.broken.BrokenDiscipline.{BrokenDiscipline}
 use Rattle.slot_check.proofs.Discipline.{folds, none_broken_at}
-use Rattle.slot_texts.specs.Wrong.{BreaksFirst, HasJudgedSlots, first_wrong, wrong_by, wrong_or}
+use Rattle.slot_texts.specs.Wrong.{BreaksFirst, HasJudgedSlots, first_wrong, wrong_or, wrong_step_at}
 use Rattle.slot_texts.specs.declared.judging.WrongStep.{WrongStep}
 
 -- ---- the first that breaks it
 
 both_none : (o : Option WrongStep) (b : Option BrokenDiscipline) (n : ℕ)
-    → is_none (wrong_or o (wrong_by n b)) ≡ (is_none o && is_none b)
+    → is_none (wrong_or o (wrong_step_at n b)) ≡ (is_none o && is_none b)
 both_none None None n = refl
 both_none None (Some b) n = refl
 both_none (Some w) b n = refl
@@ -50,7 +50,7 @@ module _ (c : ConfigNumbers) (slots : Range) where
       go : (o : Option WrongStep) (b : Option BrokenDiscipline) → first_wrong c slots past ≡ o
           → discipline_broken c slots past e ≡ b
           → (first_wrong c slots past ≡ Some w → BreaksFirst c slots past w)
-          → wrong_or o (wrong_by (length past + 1) b) ≡ Some w → BreaksFirst c slots (e ∷ past) w
+          → wrong_or o (wrong_step_at (length past + 1) b) ≡ Some w → BreaksFirst c slots (e ∷ past) w
       go (Some x) b p q ih h =
           let earlier = ih (p ∙ h) in
           record {
@@ -90,9 +90,9 @@ stays : (o later : Option WrongStep) → is_some o ≡ true → o ≡ wrong_or o
 stays None later some = absurd (let f : false ≡ true = some in cc)
 stays (Some step) later some = refl
 
-none_by : (n : ℕ) (b : Option BrokenDiscipline) → wrong_by n b ≡ None → b ≡ None
+none_by : (n : ℕ) (b : Option BrokenDiscipline) → wrong_step_at n b ≡ None → b ≡ None
 none_by n None h = refl
-none_by n (Some b) h = absurd (let f : wrong_by n (Some b) ≡ None = h in cc)
+none_by n (Some b) h = absurd (let f : wrong_step_at n (Some b) ≡ None = h in cc)
 
 none_step : (o : Option WrongStep) → is_some o ≡ false → o ≡ None
 none_step None none = refl
@@ -118,7 +118,7 @@ module _ (why : Bool) (c : ConfigNumbers) (slots : Range) (past : Past) (e : Ent
   pub behind_wrong : HasJudgedSlots why c slots past x count bad area wrong → is_some wrong ≡ true
       → HasJudgedSlots why c slots (e ∷ past) y count' bad' area wrong
   behind_wrong h some =
-      let later = wrong_by (length past + 1) (discipline_broken c slots past e) in
+      let later = wrong_step_at (length past + 1) (discipline_broken c slots past e) in
       record {
         judged = now;
         first = λ none. stays wrong later some ∙ ap (λ o. wrong_or o later) (h.first (earlier h none));
@@ -130,17 +130,17 @@ module _ (why : Bool) (c : ConfigNumbers) (slots : Range) (past : Past) (e : Ent
       → is_some wrong ≡ false → (broken : Option BrokenDiscipline) (after : AreaState)
       → (Watches c slots past area → broken ≡ discipline_broken c slots past e)
       → (Watches c slots past area → IsLegal c (e ∷ past) → broken ≡ None → Watches c slots (e ∷ past) after)
-      → HasJudgedSlots why c slots (e ∷ past) y count' bad' after (wrong_by count' broken)
+      → HasJudgedSlots why c slots (e ∷ past) y count' bad' after (wrong_step_at count' broken)
   goes_on h none unbroken broken after breaks watches =
       let now_none = none_of bad'.place none in
       let was_none = earlier h now_none in
       let no_wrong = none_step wrong unbroken in
       let watching = h.watches was_none no_wrong in
       let counted : count' ≡ length past + 1 = now.counted ∙ sym (add-one (length past)) in
-      let later = wrong_by (length past + 1) (discipline_broken c slots past e) in
+      let later = wrong_step_at (length past + 1) (discipline_broken c slots past e) in
       record {
         judged = now;
-        first = λ _. ap₂ wrong_by counted (breaks watching)
+        first = λ _. ap₂ wrong_step_at counted (breaks watching)
             ∙ ap (λ o. wrong_or o later) (sym no_wrong ∙ h.first was_none);
         watches = λ _ nothing.
             watches watching (no_place c (e ∷ past) (sym now_none ∙ now.first.place)) (none_by count' broken nothing);

@@ -24,7 +24,7 @@ use Rattle.slot_texts.specs.declared.explaining.ExplainedSlots.TheVariants.{BadA
 use Rattle.slot_texts.specs.declared.fault.SlotsFault.{SlotsFault}
 use Rattle.slot_texts.specs.declared.fault.SlotsFault.TheVariants.{Beyond, NoSlots, Run}
 use Rattle.slot_texts.specs.declared.judging.WrongStep.{WrongStep}
-use Rattle.slot_texts.specs.declared.judging.Found.{Found}
+use Rattle.slot_texts.specs.declared.judging.JudgedSlots.{JudgedSlots}
 
 -- the line `slots bad at K`
 abbrev pub wrong_text : ℕ → List ℕ
@@ -96,7 +96,7 @@ slots_status (Beyond blocks) = 2
 -- ---- on the way there
 
 -- This was found in the history: its first bad entry, and where there is none, the first that breaks the discipline.
-pub record HasFound (why : Bool) (c : ConfigNumbers) (slots : Range) (past : Past) (found : Found) : Type 0 where
+pub record HasFound (why : Bool) (c : ConfigNumbers) (slots : Range) (past : Past) (found : JudgedSlots) : Type 0 where
   pub within : IsWithin c slots
   pub first : HasFirstBad why c past found.bad
   pub wrong : found.bad.place ≡ None → found.wrong ≡ first_wrong c slots past

@@ -26,9 +26,9 @@ pub record BreaksFirst (c : ConfigNumbers) (slots : Range) (past : Past) (step :
   pub rule : discipline_broken c slots before entry ≡ Some step.broken
 
 -- the entry at this place, where it breaks a rule
-abbrev pub wrong_by : ℕ → Option BrokenDiscipline → Option WrongStep
-wrong_by place None = None
-wrong_by place (Some broken) = Some (record { place = place; broken = broken })
+abbrev pub wrong_step_at : ℕ → Option BrokenDiscipline → Option WrongStep
+wrong_step_at place None = None
+wrong_step_at place (Some broken) = Some (record { place = place; broken = broken })
 
 -- an earlier one, or this one
 abbrev pub wrong_or : Option WrongStep → Option WrongStep → Option WrongStep
@@ -39,7 +39,7 @@ wrong_or (Some step) later = Some step
 abbrev pub first_wrong : ConfigNumbers → Range → Past → Option WrongStep
 first_wrong c slots [] = None
 first_wrong c slots (e ∷ past) =
-    wrong_or (first_wrong c slots past) (wrong_by (length past + 1) (discipline_broken c slots past e))
+    wrong_or (first_wrong c slots past) (wrong_step_at (length past + 1) (discipline_broken c slots past e))
 
 -- So many entries were judged, and this is the first bad one. Where there is none, the other is the first that breaks
 -- the discipline; where there is none of either, the check of the slots stands for the history.

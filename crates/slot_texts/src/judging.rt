@@ -5,7 +5,7 @@ ghost use Rattle.nvme_model.specs.History.{Past};
 ghost use Rattle.nvme_model.specs.declared.config.ConfigNumbers.{ConfigNumbers};
 ghost use Rattle.casdisk_script.specs.Files.{entry_added};
 ghost use Rattle.slot_check.specs.Watched.{area_state};
-ghost use Rattle.slot_texts.specs.Wrong.{HasJudgedSlots, wrong_by};
+ghost use Rattle.slot_texts.specs.Wrong.{HasJudgedSlots, wrong_step_at};
 
 use casdisk_script::{FirstBad, Judge, LineMeaning, Taken, WriteFault};
 use history::{Config, Entry, LineFault, parse_line};
@@ -24,7 +24,7 @@ pub struct WrongStep {
 // What was found in a history: its first entry that may not follow, and the first that breaks the discipline of the
 // slots, of which nothing is said where the history isn't legal.
 #[derive(Clone, Copy)]
-pub(crate) struct Found {
+pub(crate) struct JudgedSlots {
     pub(crate) bad: FirstBad,
     pub(crate) wrong: Option<WrongStep>,
 }
@@ -40,8 +40,8 @@ pub(crate) struct SlotJudge<const WHY: bool> {
 }
 
 // The entry at this place, where it breaks a rule.
-fn wrong_by(place: u64, broken: Option<BrokenDiscipline>) -> Option<WrongStep>
-    ensures value { result ≡ wrong_by place broken }
+fn wrong_step_at(place: u64, broken: Option<BrokenDiscipline>) -> Option<WrongStep>
+    ensures value { result ≡ wrong_step_at place broken }
 {
     match broken {
         Some(broken) => Some(WrongStep { place, broken }),
@@ -70,10 +70,10 @@ impl<const WHY: bool> SlotJudge<WHY> {
     }
 
     // What was found so far.
-    pub(crate) fn found(&self) -> Found
+    pub(crate) fn found(&self) -> JudgedSlots
         ensures value { (result.bad ≡ self.now.judge.bad) × (result.wrong ≡ self.now.wrong) }
     {
-        Found {
+        JudgedSlots {
             bad: self.judge.bad,
             wrong: self.wrong,
         }
@@ -96,7 +96,7 @@ impl<const WHY: bool> SlotJudge<WHY> {
             return Ok(());
         }
         let broken = self.area.take(entry)?;
-        self.wrong = wrong_by(self.judge.count, broken);
+        self.wrong = wrong_step_at(self.judge.count, broken);
         Ok(())
     }
 }

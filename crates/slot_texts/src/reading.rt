@@ -6,7 +6,7 @@ ghost use Rattle.casdisk_script.specs.Files.{HasHistory};
 ghost use Rattle.slot_texts.specs.Texts.{HasFound, IsUnjudged};
 
 use crate::fault::SlotsFault;
-use crate::judging::{Found, SlotJudge};
+use crate::judging::{JudgedSlots, SlotJudge};
 use casdisk_script::{RunFault, read_first, run_lines};
 use line_text::Lines;
 use nvme_model::array::Range;
@@ -25,7 +25,7 @@ pub(crate) fn judge_slots<const WHY: bool, R: Read>(
     alloc: Global,
     slots: Range,
     reader: &mut R,
-) -> Result<Found, SlotsFault>
+) -> Result<JudgedSlots, SlotsFault>
     ensures whole { IfOk result (λ found. IsAtEnd (R.remaining reader.new)
         × IfSome (R.remaining reader.old) (HasHistory (λ c past. HasFound WHY c slots past found))) }
     ensures unread { IfErr result

@@ -16,7 +16,7 @@ returns-then-is_some-2-clause-judged g c k past h =
 
 pub returns-clause-judged : goal.returns-clause-judged
 returns-clause-judged g c k past h =
-    rw c.wrong_by-self.ensures.value
+    rw c.wrong_step_at-self.ensures.value
     (goes_on _ k c.args.self.now.slots past c.args.entry.now c.args.self.now.judge.checker _
     c.args.self.now.judge.count _ c.args.self.now.judge.bad _ _ _ (c.in_ok-judge.ensures.judged k past h.judged) h
     (sym c.is_some.ensures ∙ c.if-is_some.false) (sym c.is_some-2.ensures ∙ c.if-is_some-2.false) _ _
