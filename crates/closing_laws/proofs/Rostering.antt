@@ -5,7 +5,7 @@ use Rattle.std.specs.List.{list_all}
 use Rattle.std.proofs.lemmas.Bool.{and_from, and_parts, cases_Bool, leb-true, le-leb, lt-ltb, ltb-false, ltb-true}
 use Rattle.nvme_model.specs.History.{Past}
 use Rattle.nvme_model.specs.Legal.{IsLegal}
-use Rattle.nvme_model.specs.Passes.{IsBeginning, SharedPast, places}
+use Rattle.nvme_model.specs.Passes.{IsBeginning, SharedPast, entries, places}
 use Rattle.nvme_model.specs.Slots.{disciplined}
 use Rattle.nvme_model.specs.declared.array.Range.{Range}
 use Rattle.nvme_model.specs.declared.config.ConfigNumbers.{ConfigNumbers}
@@ -18,17 +18,20 @@ use Rattle.host_laws.proofs.Beside.{places_grow}
 use Rattle.host_laws.proofs.Discipline.{area_has, kept_earlier}
 use Rattle.driver_calls.specs.Events.{events}
 use Rattle.driver_calls.specs.Log.{is_tidy}
+use Rattle.driver_calls.specs.declared.event.PortEvent.{PortEvent}
 use Rattle.driver_calls.proofs.Views.{events_declined}
 use Rattle.meet_lock.specs.Lock.{AreOfPasses, ExtendsByPasses}
 use Rattle.meet_lock.specs.Passes.{IsSeenWhole, mine, number, seen}
 use Rattle.meet_lock.proofs.Wholes.{some_at}
 use Rattle.serving_laws.specs.Servers.{is_serving, serves}
+use Rattle.slot_calls.proofs.Counting.{own_claims}
+use Rattle.slot_calls.specs.Counts.{claims_on, log_claims}
 use Rattle.slot_calls.specs.SlotRules.{keeps_slot_rules}
 use Rattle.slot_hosts.specs.Rosters.{IsRosterOf, Roster, all_in_place, keeps_to}
 use Rattle.slot_hosts.proofs.Hosts.{all_placed}
 use Rattle.slot_hosts.proofs.Rosters.{all_keep, slot_view}
 use Rattle.work_queue.specs.Engines.{EnginePass}
-use Rattle.closing_laws.specs.Closing.{AreClosing, HasDone, IsClosing, KeepsSlots}
+use Rattle.closing_laws.specs.Closing.{AreClosing, HasDone, HasRounds, HaveClaimed, IsClosing, KeepsSlots}
 
 -- ---- others add nothing of a pass's own
 
@@ -226,3 +229,31 @@ module _ (c : ConfigNumbers) (slots : Range) (servers : ℕ) (ps : List EnginePa
       kept_before : (later before : Past) → later ++ before ≡ past → disciplined c slots before ≡ true
       kept_before later before is =
           kept_earlier c slots later before (subst (λ (p : Past). disciplined c slots p ≡ true) (sym is) keeps)
+
+  -- the host of completion queue h claimed the first slot as often as its pass
+  pub race_rounds : (rounds : ℕ) → HaveClaimed c slots servers rounds ps → HasRounds c slots rounds past
+  unfolding roster
+  race_rounds rounds claimed = λ h low high.
+      let p = servers + h in
+      let d : drives p ≡ true =
+      and_from (ltb servers p) (leb p (servers + c.cqs)) (lt-ltb servers p (omega (arith, low)))
+      (le-leb p (servers + c.cqs) (omega (arith, high))) in
+      let is : p - servers ≡ h = omega arith in
+      let a = some_at ps (p - 1) (omega (arith, low, high, count)) in
+      let x = ended (p - 1) a.0 a.1 in
+      let w = whole.all (p - 1) a.0 a.1 in
+      let place = x.0 in
+      let n : number a.0 ≡ p = omega (arith, place, low) in
+      let did_it : log_claims (events c (number a.0 - servers) (number a.0) (seen a.0)) slots.slba ≡ rounds =
+      claimed (p - 1) a.0 a.1 (omega (arith, n, low)) in
+      let pl : places p shared ≡ places p (seen a.0) =
+      subst (λ (k : ℕ). places k shared ≡ places k (seen a.0)) n w.1 in
+      let ev : events c (p - servers) p shared ≡ events c (number a.0 - servers) (number a.0) (seen a.0) =
+      events_declined c (p - servers) p (seen a.0) shared pl w.0.0
+      ∙ (λ i. events c (sym n i - servers) (sym n i) (seen a.0)) in
+      let v = slot_view c slots roster shared p rostered d in
+      let own : claims_on c (entries shared) (p - servers) slots.slba
+      ≡ log_claims (events c (p - servers) p shared) slots.slba =
+      own_claims c (p - servers) p slots.slba shared v.legal v.premises.alone.sole (did p d).tidy in
+      (λ i. claims_on c (whole.whole i) (sym is i) slots.slba)
+      ∙ (own ∙ (ap (λ (log : List PortEvent). log_claims log slots.slba) ev ∙ did_it))

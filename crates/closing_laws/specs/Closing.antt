@@ -9,6 +9,7 @@ use Rattle.host_laws.specs.Claims.{claims_only_on}
 use Rattle.driver_calls.specs.Events.{events}
 use Rattle.driver_calls.specs.Log.{is_tidy}
 use Rattle.meet_lock.specs.Passes.{number, passes_of, seen}
+use Rattle.slot_calls.specs.Counts.{claims_on, log_claims}
 use Rattle.slot_calls.specs.SlotRules.{keeps_slot_rules}
 use Rattle.slot_hosts.specs.Rosters.{keeps_to}
 use Rattle.serving_laws.specs.Servers.{IsServing}
@@ -43,3 +44,16 @@ pub record KeepsSlots (c : ConfigNumbers) (slots : Range) (past : Past) : Type 0
   pub one : (later before : Past) (l : ℕ) (n m : Name) → later ++ before ≡ past → has_block slots l ≡ true
       → believed c before l n ≡ true → believed c before l m ≡ true → n ≡ m
   pub numbers : (h : ℕ) → 1 ≤ h → h ≤ c.cqs → claims_only_on c slots past h h ≡ true
+
+-- On the submission queues of this completion queue the pass published so many claims of the area's first slot.
+abbrev pub HasClaimed : ConfigNumbers → Range → ℕ → ℕ → EnginePass → Type 0
+HasClaimed c slots queue rounds p = log_claims (events c queue (number p) (seen p)) slots.slba ≡ rounds
+
+-- each pass behind the servers' did, on the queues of its own host
+abbrev pub HaveClaimed : ConfigNumbers → Range → ℕ → ℕ → List EnginePass → Type 0
+HaveClaimed c slots servers rounds ps = (k : ℕ) (p : EnginePass) → slice_get ps k ≡ Some p → servers < number p
+    → HasClaimed c slots (number p - servers) rounds p
+
+-- In the history each host claimed the area's first slot so often. A round of a host begins with such a claim.
+abbrev pub HasRounds : ConfigNumbers → Range → ℕ → Past → Type 0
+HasRounds c slots rounds past = (h : ℕ) → 1 ≤ h → h ≤ c.cqs → claims_on c past h slots.slba ≡ rounds

@@ -3,4 +3,7 @@
 
 mod closing;
 
-pub use closing::{all_passes_keep_the_slots, what_a_hosts_pass_did};
+pub use closing::{
+    all_passes_keep_the_slots, each_host_claimed_so_often, what_a_hosts_pass_claimed,
+    what_a_hosts_pass_did,
+};

@@ -1,5 +1,5 @@
 -- A host goes on from what it was.
-use Rattle.std.proofs.Common.{◌≡◌, ◌≤◌, ℕ, Option, arith, length, ◌-◌, ◌∙◌, refl, sym, subst, ap}
+use Rattle.std.proofs.Common.{◌≡◌, ◌≤◌, ℕ, List, Option, [], arith, length, ◌-◌, ◌∙◌, refl, sym, subst, ap, take}
 use Rattle.std.specs.declared.snapshot.Snapshot.{Snapshot}
 use Rattle.nvme_model.specs.declared.array.Range.{Range}
 use Rattle.nvme_model.specs.declared.config.ConfigNumbers.{ConfigNumbers}
@@ -9,15 +9,19 @@ use Rattle.work_queue.specs.declared.queue.QueuePass.{QueuePass}
 use Rattle.shared_system.specs.Callers.{IsPlaceAt}
 use Rattle.shared_system.specs.declared.system.System.{System}
 use Rattle.driver_calls.proofs.Views.{follows_on, follows_self}
-use Rattle.driver_cas.specs.Drivers.{HasSettings, port_of}
+use Rattle.driver_calls.specs.Views.{since}
+use Rattle.driver_calls.specs.declared.event.PortEvent.{PortEvent}
+use Rattle.driver_cas.specs.Drivers.{HasSettings, area_of, made, port_of}
 use Rattle.driver_cas.specs.Ports.{PortFollows, view_of}
 use Rattle.driver_cas.specs.declared.driver.Driver.{Driver}
 use Rattle.driver_cas.specs.declared.port.Port.{Ghosts}
 use Rattle.driver_cas.specs.declared.shared_port.SharedPort.{SharedPort}
-use Rattle.slot_alloc.specs.Areas.{area}
+use Rattle.slot_alloc.specs.Areas.{area, block_of}
+use Rattle.slot_calls.specs.Counts.{log_claims}
 use Rattle.slot_alloc.specs.SlotRules as slot_rules
 use Rattle.slot_alloc.specs.SlotRules.{KeepsSlotRules, ReleasedName}
 use Rattle.slot_hosts.specs.Hosts.{IsHost}
+use Rattle.slot_alloc.specs.Counts.{claims_made}
 use Rattle.host_rounds.specs.Hosts.{HostContinues, IsHosting}
 use Rattle.host_rounds.specs.declared.owned.Host.{Host}
 
@@ -105,3 +109,13 @@ module _ {G : Type 0} where
         queue = queue;
         later = x.later;
       })
+
+-- a driver that was made just now has published nothing
+module _ {P : Type 0} {g : Ghosts P} where
+  pub none_begun : (d : Driver P g) → d.port ≡ d.began.value → claims_made d 0 ≡ 0
+  none_begun d same =
+      let log = g.log d.began.value in
+      let all : made d ≡ since log log = ap (λ (p : P). since log (g.log p)) same in
+      let zero : length log - length log ≡ 0 = omega arith in
+      let none : since log log ≡ [] = ap (λ (n : ℕ). take n log) zero in
+      ap (λ (xs : List PortEvent). log_claims xs (block_of (area_of d) 0)) (all ∙ none)

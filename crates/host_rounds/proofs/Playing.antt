@@ -1,10 +1,11 @@
 -- What the threads of hosts give back.
 use Rattle.std.proofs.Common.{All, Err, List, Ok, OnOk, Result, [], ap, refl, reverse, subst, sym, ℕ, ◌-◌, ◌++◌, ◌∙◌}
-use Rattle.std.proofs.Common.{◌≡◌}
+use Rattle.std.proofs.Common.{arith, ◌≡◌}
 use Rattle.std.specs.List.{AllZip}
 use Rattle.nvme_model.specs.Passes.{IsBeginning, SharedPast}
+use Rattle.nvme_model.specs.declared.array.Range.{Range}
 use Rattle.nvme_model.specs.declared.config.ConfigNumbers.{ConfigNumbers}
-use Rattle.meet_lock.specs.Passes.{IsSame, config_of, number, seen}
+use Rattle.meet_lock.specs.Passes.{IsSame, seen}
 use Rattle.work_queue.specs.Engines as engine
 use Rattle.work_queue.specs.declared.notice.Notice.{Notice}
 use Rattle.work_queue.specs.declared.queue.QueuePass.{QueuePass}
@@ -13,10 +14,12 @@ use Rattle.shared_system.specs.declared.system.System.{System}
 use Rattle.shared_system.specs.declared.system.HostPasses.{HostPasses}
 use Rattle.hosts.proofs.Ends.{all_back, all_said, zip_same}
 use Rattle.hosts.specs.Returning.{AreParted, GaveBack}
-use Rattle.driver_cas.specs.Drivers.{port_of}
+use Rattle.driver_cas.specs.Drivers.{area_of, made, port_of}
 use Rattle.driver_cas.specs.Ports.{pass_of}
-use Rattle.host_rounds.specs.Hosts.{HostContinues}
+use Rattle.host_rounds.specs.Hosts.{HostContinues, rounds_begun}
 use Rattle.host_rounds.specs.Playing.{HasPlayed, HostPassesContinue, IsReturned, Promises}
+use Rattle.slot_alloc.specs.Areas.{block_of}
+use Rattle.slot_calls.specs.Counts.{log_claims}
 use Rattle.host_rounds.specs.declared.host_threads.Play.{Play}
 use Rattle.host_rounds.specs.declared.host_threads.Played.{Played}
 use Rattle.host_rounds.specs.declared.owned.Host.{Host}
@@ -76,9 +79,17 @@ module _ {G : Type 0} where
       (λ i. (x.of_system i, x.of_play i, x.of_caller i))
       k
 
-pub on_ok : {T E X : Type 0} (r : Result T E) → X → OnOk r X
-on_ok (Ok t) x = x
-on_ok (Err e) x = tt
+-- what follows of what holds at Ok
+pub played_on : {T E X Y : Type 0} (r : Result T E) → OnOk r X → (X → Y) → OnOk r Y
+played_on (Ok t) x f = f x
+played_on (Err e) x f = tt
+
+-- a host's rounds by the claims in its driver's log
+pub first_claims : (h : Host) (slots : Range) → area_of h.driver ≡ slots
+    → log_claims (made h.driver) slots.slba ≡ rounds_begun h
+first_claims h slots is =
+    let first : (area_of h.driver).slba ≡ block_of (area_of h.driver) 0 = omega arith in
+    (λ i. log_claims (made h.driver) (sym is i).slba) ∙ ap (log_claims (made h.driver)) first
 
 module _ {G : Type 0} where
   -- what all gave back, however their threads ended

@@ -9,6 +9,7 @@ use Rattle.shared_system.specs.declared.system.System.{System}
 use Rattle.driver_cas.specs.Drivers.{HasSettings, area_of, port_of}
 use Rattle.driver_cas.specs.Ports.{PortFollows, pass_of, queue_of}
 use Rattle.slot_alloc.specs.Areas.{area}
+use Rattle.slot_alloc.specs.Counts.{claims_made}
 use Rattle.slot_alloc.specs.SlotRules.{KeepsSlotRules}
 use Rattle.host_rounds.specs.declared.owned.Host.{Host}
 
@@ -27,6 +28,10 @@ HasEachBelow c queue m qs = (n : ℕ) → uses c queue n ≡ true → n < m → 
 -- the completion queue of the port of a host's driver
 abbrev pub port_queue : Host → ℕ
 port_queue h = queue_of (port_of h.driver)
+
+-- how many claims of the first slot a host's driver published: each of its rounds begins with one, and has no other
+abbrev pub rounds_begun : Host → ℕ
+rounds_begun h = claims_made h.driver 0
 
 -- some blocks, which lie among the first 65,536
 abbrev pub IsSlotArea : Range → Type 0

@@ -9,7 +9,7 @@ use Rattle.shared_system.specs.declared.system.HostPasses.{HostPasses}
 use Rattle.driver_cas.specs.Drivers.{area_of, host_of, port_of}
 use Rattle.driver_cas.specs.Ports.{pass_of}
 use Rattle.slot_hosts.specs.Hosts.{IsHost}
-use Rattle.closing_laws.specs.Closing.{HasDone}
+use Rattle.closing_laws.specs.Closing.{HasClaimed, HasDone}
 use Rattle.host_rounds.specs.Hosts.{HostContinues}
 use Rattle.host_rounds.specs.declared.host_threads.Play.{Play}
 use Rattle.host_rounds.specs.declared.host_threads.Played.{Played}
@@ -26,7 +26,8 @@ module _ {G : Type 0} where
     pub place : IsPlaceAt system (h.queue - 1) k.notices
 
   -- A host was made with these passes, with the number of its completion queue and these slots, and it went on by its
-  -- calls. All that its pass made is in its driver's log, and keeps the rules of slots; and this pass came back.
+  -- calls. All that its pass made is in its driver's log, keeps the rules of slots, and claims the first slot once a
+  -- round; and this pass came back.
   pub record HasPlayed (system : System G) (play : Play) (caller back : HostPasses) : Type 0 where
     pub first : Host
     pub last : Host
@@ -37,6 +38,7 @@ module _ {G : Type 0} where
     pub is : IsHost play.config play.slots (number caller.pass) caller.queue caller.queue last.driver
     pub gave : back.pass ≡ pass_of (port_of last.driver)
     pub done : HasDone play.config play.slots caller.queue caller.queue back.pass
+    pub claimed : HasClaimed play.config play.slots caller.queue play.rounds back.pass
 
   -- what a thread gives back for these passes
   abbrev pub IsReturned : {E : Type 0} → System G → Play → HostPasses → HostPasses × Result (Unit {0}) E → Type 0

@@ -1,8 +1,9 @@
 //! A claim of any slot, until it ends.
 
-ghost use Rattle.std.specs.Prelude.{◌≡◌, IfOk, IfSome};
+ghost use Rattle.std.specs.Prelude.{◌+◌, ◌≡◌, ◌≤◌, IfErr, IfOk, IfSome, OnOk};
 ghost use Rattle.slot_alloc.specs.Claims.{IsClaimingOf, IsHeldBy, IsUnreleased};
-ghost use Rattle.host_rounds.specs.Hosts.{HostContinues, IsHosting};
+ghost use Rattle.slot_alloc.specs.Counts.{IsPast};
+ghost use Rattle.host_rounds.specs.Hosts.{HostContinues, IsHosting, rounds_begun};
 
 use crate::owned::Host;
 use crate::pausing::{AfterFault, next_after, pause, stops};
@@ -12,29 +13,32 @@ use slot_alloc::{Claim, Claiming, Progress, poll_claim};
 use std::alloc::AllocError as NoMemory;
 use std::sync::Wait;
 
-// Begins to claim any slot, again while that is refused for now; None where it is refused for good, or the stop flag is
-// set.
+// Begins to claim any slot, again while that is refused for now. An error where it isn't begun: a growth is refused, or
+// the claim is for good, or the stop flag is set.
 fn begin<'a, R: Wait, G>(
     rt: &R,
     system: &System<G>,
     host: &mut Host<'a>,
-) -> Result<Option<Claiming<SharedPort<'a>>>, NoMemory>
+) -> Result<Claiming<SharedPort<'a>>, NoMemory>
     requires { IsHosting system.now host.old }
     ensures goes { HostContinues system.now host.old host.new }
-    ensures of { IfOk result (λ o. IfSome o (λ k. IsClaimingOf host.new.driver k)) }
-    ensures unreleased { IfOk result (λ o. IfSome o (λ k. IsUnreleased host.new.driver k)) }
+    ensures begun { OnOk result (rounds_begun host.new ≡ rounds_begun host.old + 1) }
+    ensures none { IfErr result (λ _. rounds_begun host.new ≡ rounds_begun host.old) }
+    ensures past { IfOk result (λ k. IsPast k 0) }
+    ensures of { IfOk result (λ k. IsClaimingOf host.new.driver k) }
+    ensures unreleased { IfOk result (λ k. IsUnreleased host.new.driver k) }
 {
     for _ in rt.forever() {
         if system.stop.is_set() {
-            return Ok(None);
+            return Err(NoMemory);
         }
         match host.slots.claim_any(&mut host.driver) {
-            Ok(claiming) => return Ok(Some(claiming)),
-            Err(fault) => match next_after(fault) {
-                AfterFault::Again => {}
-                AfterFault::RoundEnds => return Ok(None),
-                AfterFault::NoMemory => return Err(stops(system)),
-            },
+            Ok(claiming) => return Ok(claiming),
+            Err(fault) => {
+                if next_after(fault) != AfterFault::Again {
+                    return Err(stops(system));
+                }
+            }
         }
         pause(rt, system, host);
     }
@@ -52,6 +56,7 @@ fn wait<'a, R: Wait, G>(
     requires of { IsClaimingOf host.old.driver claiming }
     requires unreleased { IsUnreleased host.old.driver claiming }
     ensures goes { HostContinues system.now host.old host.new }
+    ensures begun { IsPast claiming.entry 0 → rounds_begun host.new ≡ rounds_begun host.old }
     ensures held { IfOk result (λ o. IfSome o (λ claim. IsHeldBy host.new.driver claim)) }
 {
     let mut claiming = claiming;
@@ -75,11 +80,11 @@ fn wait<'a, R: Wait, G>(
     unreachable!()
 }
 
-/// Claims any slot; None where it got none, or the stop flag is set.
+/// Claims any slot; None where it got none, or the stop flag was set after the claim was begun.
 ///
 /// # Errors
 ///
-/// `NoMemory` where a growth is refused. The stop flag is set then.
+/// `NoMemory` where the claim isn't begun, or a growth is refused later. The stop flag is set then.
 pub(crate) fn take_slot<R: Wait, G>(
     rt: &R,
     system: &System<G>,
@@ -87,10 +92,10 @@ pub(crate) fn take_slot<R: Wait, G>(
 ) -> Result<Option<Claim>, NoMemory>
     requires { IsHosting system.now host.old }
     ensures goes { HostContinues system.now host.old host.new }
+    ensures begun { OnOk result (rounds_begun host.new ≡ rounds_begun host.old + 1) }
+    ensures most { rounds_begun host.new ≤ rounds_begun host.old + 1 }
     ensures held { IfOk result (λ o. IfSome o (λ claim. IsHeldBy host.new.driver claim)) }
 {
-    match begin(rt, system, host)? {
-        Some(claiming) => wait(rt, system, host, claiming),
-        None => Ok(None),
-    }
+    let claiming = begin(rt, system, host)?;
+    wait(rt, system, host, claiming)
 }

@@ -11,7 +11,7 @@ ghost use Rattle.host_rounds.specs.Playing.{HasPlayed, HostPassesContinue, IsRet
 use crate::owned::host_of;
 use crate::pausing::stops;
 use crate::rounds::host;
-use closing_laws::what_a_hosts_pass_did;
+use closing_laws::{what_a_hosts_pass_claimed, what_a_hosts_pass_did};
 use history::Config;
 use hosts::{Handles, Returned, join_each};
 use nvme_model::array::Range;
@@ -29,11 +29,11 @@ pub struct Play {
     pub config: Config,
     /// The blocks that are slots.
     pub slots: Range,
-    /// How often each host claims a slot.
+    /// How many rounds each host makes.
     pub rounds: u32,
 }
 
-/// The passes come back; and at Ok a host was made with them, and went on by its calls alone.
+/// The passes come back; and at Ok a host was made with them, and went on by its calls alone, and began all its rounds.
 #[derive(Drop)]
 pub(crate) struct Played<G> {
     system: Snapshot<System<G>>,
@@ -63,6 +63,7 @@ fn plays<R: Wait, G>(
         Ok(mut own) => {
             let end = host(rt, system, &mut own, play.rounds);
             what_a_hosts_pass_did(&own.driver);
+            what_a_hosts_pass_claimed(&own.driver);
             (own.into_caller(), end)
         }
         Err(back) => (back, Err(stops(system))),
@@ -193,11 +194,12 @@ fn without_threads<G>(
 
 /// The rounds of a host with each of these passes, each on a thread of its own. All threads are joined, and the passes
 /// come back in the order in which they were given, however the rounds ended. Ok is answered only where each thread
-/// says so.
+/// says so, each of whose hosts then began all its rounds.
 ///
 /// # Errors
 ///
-/// `NoMemory` where a growth is refused or a thread couldn't be started. The stop flag is set then.
+/// `NoMemory` where a growth is refused, a thread couldn't be started, or a host couldn't begin a round, as where the
+/// stop flag was set. It is set then.
 pub fn run_hosts<R: Threads + Wait + Sync, G: Sync>(
     rt: &R,
     alloc: Global,

@@ -8,7 +8,7 @@ ghost use Rattle.driver_cas.specs.Drivers as driver;
 ghost use Rattle.driver_cas.specs.Ports.{pass_of};
 ghost use Rattle.slot_alloc.specs.Areas.{area};
 ghost use Rattle.slot_hosts.specs.Hosts.{IsHost};
-ghost use Rattle.host_rounds.specs.Hosts.{HasEach, HasEachBelow, IsHosting, IsSlotArea, port_queue, uses};
+ghost use Rattle.host_rounds.specs.Hosts.{HasEach, HasEachBelow, IsHosting, IsSlotArea, port_queue, rounds_begun, uses};
 ghost use Rattle.host_rounds.specs.Playing.{HostPassesContinue};
 
 use driver_cas::{Driver, SharedPort};
@@ -112,6 +112,7 @@ pub fn host_of<'a, G>(
     requires caller { IsHostOf system.now config.now caller }
     requires slots { IsSlotArea slots }
     ensures hosting { IfOk result (IsHosting system.entry.now) }
+    ensures none { IfOk result (λ h. rounds_begun h ≡ 0) }
     ensures queue { IfOk result (λ h. (h.queue ≡ caller.queue) × (port_queue h ≡ caller.queue)) }
     ensures host { IfOk result (λ h. driver.host_of h.driver ≡ caller.queue) }
     ensures acwu { IfOk result (λ h. driver.acwu_of h.driver ≡ config.now.atomic.acwu) }

@@ -6,7 +6,7 @@ ghost use Rattle.slot_alloc.specs.Claims.{IsClaimingOf, IsHeldBy, IsReleasingOf,
 ghost use Rattle.slot_alloc.specs.declared.claim.Claim.{Claim};
 ghost use Rattle.slot_alloc.specs.declared.claiming.Claiming.{Claiming};
 ghost use Rattle.slot_alloc.specs.declared.release.Releasing.{Releasing};
-ghost use Rattle.host_rounds.specs.Hosts.{HostContinues, IsHosting};
+ghost use Rattle.host_rounds.specs.Hosts.{HostContinues, IsHosting, rounds_begun};
 
 use crate::owned::Host;
 use driver_cas::Fault;
@@ -22,6 +22,7 @@ use std::thread::yield_now;
 pub(crate) enum AfterFault {
     /// It pauses, and asks again.
     Again,
+    /// It never will be made.
     RoundEnds,
     NoMemory,
 }
@@ -35,16 +36,18 @@ pub(crate) fn next_after(fault: Fault) -> AfterFault {
     }
 }
 
-/// Ends all loops, for want of memory.
+/// Ends all loops, since this one can't go on.
 pub(crate) fn stops<G>(system: &System<G>) -> NoMemory {
     system.stop.set();
     NoMemory
 }
 
-/// Learns the next notice, or lets others run where there is none. What was begun and what is held stays so.
+/// Learns the next notice, or lets others run where there is none. What was begun and what is held stays so, and no
+/// slot is claimed.
 pub(crate) fn pause<R: Wait, G>(rt: &R, system: &System<G>, host: &mut Host<'_>)
     requires { IsHosting system.now host.old }
     ensures goes { HostContinues system.now host.old host.new }
+    ensures begun { rounds_begun host.new ≡ rounds_begun host.old }
     ensures held { (c : Claim) → IsHeldBy host.old.driver c → IsHeldBy host.new.driver c }
     ensures claiming { (k : Claiming SharedPort _) → IsClaimingOf host.old.driver k → IsClaimingOf host.new.driver k }
     ensures unreleased { (k : Claiming SharedPort _) → IsClaimingOf host.old.driver k →

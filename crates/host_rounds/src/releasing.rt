@@ -2,7 +2,7 @@
 
 ghost use Rattle.std.specs.Prelude.{◌≡◌, IfOk, IfSome};
 ghost use Rattle.slot_alloc.specs.Claims.{IsHeldBy, IsReleasingOf};
-ghost use Rattle.host_rounds.specs.Hosts.{HostContinues, IsHosting};
+ghost use Rattle.host_rounds.specs.Hosts.{HostContinues, IsHosting, rounds_begun};
 
 use crate::owned::Host;
 use crate::pausing::{AfterFault, next_after, pause, stops};
@@ -25,6 +25,7 @@ fn begin<'a, R: Wait, G>(
     requires own { IsHosting system.now host.old }
     requires held { IsHeldBy host.old.driver claim }
     ensures goes { HostContinues system.now host.old host.new }
+    ensures begun { rounds_begun host.new ≡ rounds_begun host.old }
     ensures of { IfOk result (λ o. IfSome o (λ k. IsReleasingOf host.new.driver k)) }
 {
     let mut claim = claim;
@@ -66,6 +67,7 @@ fn wait<'a, R: Wait, G>(
     requires own { IsHosting system.now host.old }
     requires of { IsReleasingOf host.old.driver releasing }
     ensures goes { HostContinues system.now host.old host.new }
+    ensures begun { rounds_begun host.new ≡ rounds_begun host.old }
 {
     let mut releasing = releasing;
     for _ in rt.forever() {
@@ -101,6 +103,7 @@ pub(crate) fn give_back<R: Wait, G>(
     requires own { IsHosting system.now host.old }
     requires held { IsHeldBy host.old.driver claim }
     ensures goes { HostContinues system.now host.old host.new }
+    ensures begun { rounds_begun host.new ≡ rounds_begun host.old }
 {
     match begin(rt, system, host, claim)? {
         Some(releasing) => wait(rt, system, host, releasing),

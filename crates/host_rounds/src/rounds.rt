@@ -1,10 +1,10 @@
 //! The rounds of a host.
 
-ghost use Rattle.std.specs.Prelude.{ℕ, ◌≡◌};
+ghost use Rattle.std.specs.Prelude.{ℕ, OnOk, ◌+◌, ◌≡◌, ◌≤◌};
 ghost use Rattle.nvme_model.specs.declared.array.Range.{Range};
 ghost use Rattle.nvme_model.specs.declared.config.ConfigNumbers.{ConfigNumbers};
 ghost use Rattle.slot_hosts.specs.Hosts.{IsHost};
-ghost use Rattle.host_rounds.specs.Hosts.{HostContinues, IsHosting};
+ghost use Rattle.host_rounds.specs.Hosts.{HostContinues, IsHosting, rounds_begun};
 
 use crate::claiming::take_slot;
 use crate::owned::Host;
@@ -17,6 +17,8 @@ use std::sync::Wait;
 fn round<R: Wait, G>(rt: &R, system: &System<G>, host: &mut Host<'_>) -> Result<(), NoMemory>
     requires { IsHosting system.now host.old }
     ensures goes { HostContinues system.now host.old host.new }
+    ensures begun { OnOk result (rounds_begun host.new ≡ rounds_begun host.old + 1) }
+    ensures most { rounds_begun host.new ≤ rounds_begun host.old + 1 }
 {
     match take_slot(rt, system, host)? {
         Some(claim) => give_back(rt, system, host, claim),
@@ -24,13 +26,15 @@ fn round<R: Wait, G>(rt: &R, system: &System<G>, host: &mut Host<'_>) -> Result<
     }
 }
 
-/// Claims any slot and releases it, so many times, or until the stop flag is set. A round in which all slots are had by
-/// others, or a claim fails, ends there. A slot that is held when the stop flag is set stays held. All that is added to
-/// the driver's pass is in the driver's log, and keeps the rules of slots.
+/// Claims any slot and releases it, so many times. Each round begins with a claim of the first slot; one in which all
+/// slots are had by others, or a claim fails, ends there. A slot that is held when the stop flag is set stays held. All
+/// that is added to the driver's pass is in the driver's log, and keeps the rules of slots.
 ///
 /// # Errors
 ///
-/// `NoMemory` where a growth is refused. The stop flag is set then, and a slot may be held.
+/// `NoMemory` where a round can't be begun, since a growth is refused, the claim is for good, or the stop flag is set;
+/// and where a growth is refused later. The stop flag is set then, and a slot may be held. No more rounds were begun
+/// than were asked for.
 #[tactic(auto, using(crate::proofs::Going::host_on))]
 pub fn host<R: Wait, G>(
     rt: &R,
@@ -40,13 +44,12 @@ pub fn host<R: Wait, G>(
 ) -> Result<(), NoMemory>
     requires { IsHosting system.now host.old }
     ensures goes { HostContinues system.now host.old host.new }
+    ensures begun { OnOk result (rounds_begun host.new ≡ rounds_begun host.old + rounds) }
+    ensures most { rounds_begun host.new ≤ rounds_begun host.old + rounds }
     ensures hosts { (c : ConfigNumbers) (slots : Range) (pass queue n : ℕ) →
         IsHost c slots pass queue n host.old.driver → IsHost c slots pass queue n host.new.driver }
 {
     for _ in 0..rounds {
-        if system.stop.is_set() {
-            return Ok(());
-        }
         round(rt, system, host)?;
     }
     Ok(())

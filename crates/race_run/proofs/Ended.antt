@@ -2,16 +2,14 @@
 use Rattle.std.proofs.Common.{IfSome, List, None, Option, Some, [], ap, arith, length, refl, slice_get, subst, suc, sym}
 use Rattle.std.proofs.Common.{zero, ℕ, ◌+◌, ◌-◌}
 use Rattle.std.specs.Option.{option_to_list}
-use Rattle.std.proofs.Common.{◌++◌, ◌<◌, ◌∙◌, ◌∷◌, ◌≡◌, ◌≤◌}
+use Rattle.std.proofs.Common.{◌++◌, ◌∙◌, ◌∷◌, ◌≡◌, ◌≤◌}
 use Rattle.std.specs.List.{AllZip}
-use Rattle.nvme_model.specs.declared.array.Range.{Range}
-use Rattle.nvme_model.specs.declared.config.ConfigNumbers.{ConfigNumbers}
 use Rattle.meet_lock.specs.Passes.{number}
 use Rattle.serving_laws.proofs.Servers.{fresh}
-use Rattle.closing_laws.specs.Closing.{HasDone}
+use Rattle.closing_laws.specs.Closing.{HasClaimed, HasDone}
 use Rattle.work_queue.specs.Engines.{EnginePass}
 use Rattle.work_queue.specs.declared.engine.Engine.{Engine}
-use Rattle.shared_system.specs.Callers.{AreCallersOf, AreHostsOf, AreLastHosts, AreLastWorkers, Continues, IsOneOf}
+use Rattle.shared_system.specs.Callers.{AreLastHosts, AreLastWorkers, Continues, IsOneOf}
 use Rattle.shared_system.specs.Callers.{WorkerContinues}
 use Rattle.shared_system.specs.declared.system.System.{System}
 use Rattle.shared_system.specs.declared.system.CallerPasses.{CallerPasses}
@@ -63,46 +61,46 @@ snoc_each P (x ∷ xs) d f e (suc k) a g = snoc_each (λ n. P (suc n)) xs d (λ 
 
 -- ---- passes that are put together again
 
-module _ (e : Engine) (c : ConfigNumbers) (slots : Range) (servers : ℕ) where
-  pub passes_more : (ps : List EnginePass) (p : EnginePass) → HaveEnded e c slots servers ps
-      → HasEnded e c slots servers p → number p ≡ length ps + 1 → HaveEnded e c slots servers (ps ++ p ∷ [])
+module _ (e : Engine) (play : Play) (servers : ℕ) where
+  pub passes_more : (ps : List EnginePass) (p : EnginePass) → HaveEnded e play servers ps
+      → HasEnded e play servers p → number p ≡ length ps + 1 → HaveEnded e play servers (ps ++ p ∷ [])
   passes_more ps p h x n =
-      snoc_each (λ k q. (number q ≡ k + 1) × HasEnded e c slots servers q) ps p h (n, x)
+      snoc_each (λ k q. (number q ≡ k + 1) × HasEnded e play servers q) ps p h (n, x)
 
   pub end_rest : {H : Type 0} (f : H → EnginePass) (top : ℕ) (xs ys : List H)
-      → EndDown f e c slots servers top (xs ++ ys) → EndDown f e c slots servers top xs
+      → EndDown f e play servers top (xs ++ ys) → EndDown f e play servers top xs
   end_rest f top xs ys h = λ k x g. h k x (at_front xs ys k x g)
 
   pub end_last : {H : Type 0} (f : H → EnginePass) (top : ℕ) (xs : List H) (x : H)
-      → EndDown f e c slots servers top (xs ++ x ∷ [])
-      → (number (f x) + length xs ≡ top) × HasEnded e c slots servers (f x)
+      → EndDown f e play servers top (xs ++ x ∷ [])
+      → (number (f x) + length xs ≡ top) × HasEnded e play servers (f x)
   end_last f top xs x h = h (length xs) x (at_last xs x)
 
 -- what is left where the last is taken
-module _ (e : Engine) (c : ConfigNumbers) (slots : Range) (servers : ℕ) where
+module _ (e : Engine) (play : Play) (servers : ℕ) where
   pub popped_rest : {H : Type 0} (f : H → EnginePass) (top : ℕ) (old new : List H) (o : Option H)
-      → old ≡ new ++ option_to_list o → EndDown f e c slots servers top old → EndDown f e c slots servers top new
+      → old ≡ new ++ option_to_list o → EndDown f e play servers top old → EndDown f e play servers top new
   popped_rest f top old new o items h =
-      end_rest e c slots servers f top new (option_to_list o) (subst (EndDown f e c slots servers top) items h)
+      end_rest e play servers f top new (option_to_list o) (subst (EndDown f e play servers top) items h)
 
   -- and the one that was taken
   pub popped_last : {H : Type 0} (f : H → EnginePass) (top n : ℕ) (old new : List H) (o : Option H) → n ≡ length new
-      → old ≡ new ++ option_to_list o → EndDown f e c slots servers top old
-      → IfSome o (λ x. (number (f x) + n ≡ top) × HasEnded e c slots servers (f x))
+      → old ≡ new ++ option_to_list o → EndDown f e play servers top old
+      → IfSome o (λ x. (number (f x) + n ≡ top) × HasEnded e play servers (f x))
   popped_last f top n old new None same items h = tt
   popped_last f top n old new (Some x) same items h =
-      let r = end_last e c slots servers f top new x (subst (EndDown f e c slots servers top) items h) in
+      let r = end_last e play servers f top new x (subst (EndDown f e play servers top) items h) in
       (ap (λ (m : ℕ). number (f x) + m) same ∙ r.0, r.1)
 
   -- no pass came back yet
-  pub none_ended : (ps : List EnginePass) → ps ≡ [] → HaveEnded e c slots servers ps
-  none_ended ps is = subst (HaveEnded e c slots servers) (sym is)
+  pub none_ended : (ps : List EnginePass) → ps ≡ [] → HaveEnded e play servers ps
+  none_ended ps is = subst (HaveEnded e play servers) (sym is)
       (λ k p g. absurd (let h : None ≡ Some p = g in cc))
 
   -- by the same number, written otherwise
   pub down_from : {H : Type 0} (f : H → EnginePass) (top low : ℕ) (hs : List H) → low ≡ top
-      → EndDown f e c slots servers top hs → EndDown f e c slots servers low hs
-  down_from f top low hs same h = subst (λ (t : ℕ). EndDown f e c slots servers t hs) (sym same) h
+      → EndDown f e play servers top hs → EndDown f e play servers low hs
+  down_from f top low hs same h = subst (λ (t : ℕ). EndDown f e play servers t hs) (sym same) h
 
 -- ---- the passes of a race
 
@@ -112,7 +110,7 @@ above_all m k q n c same last low below = omega (arith, same, last, low, below)
 
 module _ {G : Type 0} (system : System G) (play : Play) (n : ℕ) where
   served : (h k : CallerPasses) → Continues system h k → IsOneOf system play.config (n + 1 + play.config.cqs) h.pass
-      → number h.pass ≤ n + 1 → HasEnded system.engine play.config play.slots (n + 1) k.pass
+      → number h.pass ≤ n + 1 → HasEnded system.engine play (n + 1) k.pass
   served h k goes one low =
       let same = goes.same.1 in
       record {
@@ -123,18 +121,19 @@ module _ {G : Type 0} (system : System G) (play : Play) (n : ℕ) where
           served = λ _. goes.serves (fresh h.pass one.0.seen);
           hosted = λ high. absurd (omega (arith, high, same, low));
         };
+        claimed = λ high. absurd (omega (arith, high, same, low));
       }
 
   pub fetcher : (h k : CallerPasses) → Continues system h k
       → IsOneOf system play.config (n + 1 + play.config.cqs) h.pass × (number h.pass ≡ n + 1)
-      → (number k.pass ≡ n + 1) × HasEnded system.engine play.config play.slots (n + 1) k.pass
+      → (number k.pass ≡ n + 1) × HasEnded system.engine play (n + 1) k.pass
   fetcher h k goes one =
       let is = one.1 in
       (goes.same.1 ∙ is, served h k goes one.0 (omega (arith, is)))
 
   pub workers : (ws vs : List WorkerPasses)
       → AreLastWorkers system play.config (n + 1 + play.config.cqs) n ws → AllZip (WorkerContinues system) ws vs
-      → EndDown (λ w. w.caller.pass) system.engine play.config play.slots (n + 1) n vs
+      → EndDown (λ w. w.caller.pass) system.engine play (n + 1) n vs
   workers ws vs are zip = λ k v g.
       let z = zip_at (WorkerContinues system) ws vs zip k v g in
       let w = are k z.0 z.1 in
@@ -144,7 +143,7 @@ module _ {G : Type 0} (system : System G) (play : Play) (n : ℕ) where
 
   pub hosts : (hs gs : List HostPasses) → AreLastHosts system play.config (n + 1 + play.config.cqs) hs
       → AllZip (HostPassesContinue system) hs gs → AllZip (HasPlayed system play) hs gs
-      → EndDown (λ h. h.pass) system.engine play.config play.slots (n + 1) (n + 1 + play.config.cqs) gs
+      → EndDown (λ h. h.pass) system.engine play (n + 1) (n + 1 + play.config.cqs) gs
   hosts hs gs are zip played = λ k b g.
       let z = zip_at (HostPassesContinue system) hs gs zip k b g in
       let y = zip_at (HasPlayed system play) hs gs played k b g in
@@ -166,5 +165,6 @@ module _ {G : Type 0} (system : System G) (play : Play) (n : ℕ) where
                 (above_all (number b.pass) (number z.0.pass) z.0.queue n play.config.cqs same last low below);
             hosted = λ above. subst (λ (i : ℕ). HasDone play.config play.slots i i b.pass) q p.done;
           };
+          claimed = λ above. subst (λ (i : ℕ). HasClaimed play.config play.slots i play.rounds b.pass) q p.claimed;
         },
       )

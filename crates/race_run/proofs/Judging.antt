@@ -9,8 +9,8 @@ use Rattle.nvme_model.specs.declared.config.ConfigNumbers.{ConfigNumbers}
 use Rattle.nvme_model.specs.declared.entry.Entry.{Entry}
 use Rattle.nvme_model.proofs.FirstBad.{first_is_some, legal_is_none}
 use Rattle.race_run.specs.Races.{Races}
-use Rattle.closing_laws.specs.Closing.{KeepsSlots}
-use Rattle.race_run.specs.Slots.{PrintsSlots}
+use Rattle.closing_laws.specs.Closing.{HasRounds, KeepsSlots}
+use Rattle.race_run.specs.Slots.{PrintsRounds, PrintsSlots}
 use Rattle.history_text.specs.Texts.{history_text}
 use Rattle.race_run.specs.declared.fault.RaceFault.{RaceFault}
 use Rattle.race_run.specs.declared.fault.RaceFault.TheVariants.{NoMemory}
@@ -36,5 +36,16 @@ kept_slots c slots entries old new legal keeps written = (
   reverse entries,
   legal,
   keeps,
+  subst (λ l. Appends old new (history_text c l)) (sym (reverse-reverse entries)) written,
+)
+
+-- and has its rounds
+pub kept_rounds : (c : ConfigNumbers) (slots : Range) (rounds : ℕ) (entries : List Entry) (old new : Option (List ℕ))
+    → IsLegalFile c entries → HasRounds c slots rounds (reverse entries) → Appends old new (history_text c entries)
+    → PrintsRounds c slots rounds old new
+kept_rounds c slots rounds entries old new legal has written = (
+  reverse entries,
+  legal,
+  has,
   subst (λ l. Appends old new (history_text c l)) (sym (reverse-reverse entries)) written,
 )

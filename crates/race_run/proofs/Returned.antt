@@ -2,34 +2,46 @@
 use Rattle.std.proofs.Common.{IfSome, List, None, Option, Some, arith, length, slice_get, subst, ℕ, ◌+◌, ◌<◌, ◌∙◌, ◌≡◌}
 use Rattle.nvme_model.specs.Kept.{ControllerInvariant}
 use Rattle.nvme_model.specs.Legal.{IsLegal}
-use Rattle.nvme_model.specs.declared.array.Range.{Range}
 use Rattle.nvme_model.specs.declared.config.ConfigNumbers.{ConfigNumbers}
 use Rattle.controller_steps.specs.State.{ControllerState}
-use Rattle.closing_laws.specs.Closing.{KeepsSlots}
-use Rattle.closing_laws.proofs.Rostering.{race_keeps}
+use Rattle.closing_laws.specs.Closing.{HasRounds, KeepsSlots}
+use Rattle.closing_laws.proofs.Rostering.{race_keeps, race_rounds}
 use Rattle.meet_lock.specs.Passes.{IsSeenWhole, config_of}
 use Rattle.meet_lock.proofs.Wholes.{some_at}
 use Rattle.work_queue.specs.Engines.{EnginePass}
 use Rattle.work_queue.specs.declared.engine.Engine.{Engine}
+use Rattle.host_rounds.specs.declared.host_threads.Play.{Play}
 use Rattle.race_run.specs.Ended.{HaveEnded}
 
-module _ (e : Engine) (c : ConfigNumbers) (slots : Range) (servers : ℕ) (ps : List EnginePass)
-    (ended : HaveEnded e c slots servers ps) (count : length ps ≡ servers + c.cqs) (some : 0 < servers) where
+module _ (e : Engine) (play : Play) (servers : ℕ) (ps : List EnginePass)
+    (ended : HaveEnded e play servers ps) (count : length ps ≡ servers + play.config.cqs) (some : 0 < servers) where
   same_config : (d : ConfigNumbers)
-      → ((k : ℕ) (p : EnginePass) → slice_get ps k ≡ Some p → d ≡ config_of p) → d ≡ c
+      → ((k : ℕ) (p : EnginePass) → slice_get ps k ≡ Some p → d ≡ config_of p) → d ≡ play.config
   same_config d f = let a = some_at ps 0 (omega (arith, count, some)) in f 0 a.0 a.1 ∙ (ended 0 a.0 a.1).1.config
 
   pub closed_config : (o : Option ControllerState)
       → IfSome o (λ core. (k : ℕ) (p : EnginePass) → slice_get ps k ≡ Some p → core.config ≡ config_of p)
-      → IfSome o (λ core. core.config ≡ c)
+      → IfSome o (λ core. core.config ≡ play.config)
   closed_config None f = tt
   closed_config (Some core) f = same_config core.config f
 
   pub closed_slots : (o : Option ControllerState)
       → IfSome o (λ core. (k : ℕ) (p : EnginePass) → slice_get ps k ≡ Some p → core.config ≡ config_of p)
       → IfSome o (λ core. ControllerInvariant core.config core.past) → IfSome o (λ core. IsSeenWhole ps core.past)
-      → IfSome o (λ core. KeepsSlots c slots core.past)
+      → IfSome o (λ core. KeepsSlots play.config play.slots core.past)
   closed_slots None f kept whole = tt
   closed_slots (Some core) f kept whole =
-      race_keeps c slots servers ps core.past some count (λ k p at. ((ended k p at).0, (ended k p at).1.closing)) whole
+      race_keeps play.config play.slots servers ps core.past some count
+      (λ k p at. ((ended k p at).0, (ended k p at).1.closing)) whole
       (subst (λ (d : ConfigNumbers). IsLegal d core.past) (same_config core.config f) kept.legal)
+
+  pub closed_rounds : (o : Option ControllerState)
+      → IfSome o (λ core. (k : ℕ) (p : EnginePass) → slice_get ps k ≡ Some p → core.config ≡ config_of p)
+      → IfSome o (λ core. ControllerInvariant core.config core.past) → IfSome o (λ core. IsSeenWhole ps core.past)
+      → IfSome o (λ core. HasRounds play.config play.slots play.rounds core.past)
+  closed_rounds None f kept whole = tt
+  closed_rounds (Some core) f kept whole =
+      race_rounds play.config play.slots servers ps core.past some count
+      (λ k p at. ((ended k p at).0, (ended k p at).1.closing)) whole
+      (subst (λ (d : ConfigNumbers). IsLegal d core.past) (same_config core.config f) kept.legal) play.rounds
+      (λ k p at. (ended k p at).1.claimed)

@@ -4,7 +4,7 @@ ghost use Rattle.std.specs.Prelude.{[], ◌+◌, ◌<◌, ◌≡◌, ◌≤◌, 
 ghost use Rattle.std.specs.Vec.{vec_capacity};
 ghost use Rattle.meet_lock.specs.Passes.{number};
 ghost use Rattle.race_run.specs.Ended.{EndDown, HasEnded, HaveEnded};
-ghost use Rattle.closing_laws.specs.Closing.{KeepsSlots};
+ghost use Rattle.closing_laws.specs.Closing.{HasRounds, KeepsSlots};
 
 use host_rounds::Play;
 use hosts::OpenGate;
@@ -22,11 +22,11 @@ fn put_pass(
     passes: &mut Vec<Pass<Core>>,
     pass: Pass<Core>,
 )
-    requires passes { HaveEnded _system.now.engine _play.now.config _play.now.slots _servers passes.old.items }
-    requires pass { HasEnded _system.now.engine _play.now.config _play.now.slots _servers pass }
+    requires passes { HaveEnded _system.now.engine _play.now _servers passes.old.items }
+    requires pass { HasEnded _system.now.engine _play.now _servers pass }
     requires number { number pass ≡ vec_len passes.old + 1 }
     requires room { vec_len passes.old < vec_capacity passes.old }
-    ensures passes { HaveEnded _system.now.engine _play.now.config _play.now.slots _servers passes.new.items }
+    ensures passes { HaveEnded _system.now.engine _play.now _servers passes.new.items }
     ensures len { vec_len passes.new ≡ vec_len passes.old + 1 }
     ensures capacity { vec_capacity passes.new ≡ vec_capacity passes.old }
 {
@@ -42,12 +42,12 @@ fn last_worker(
     _top: usize,
     workers: &mut Vec<WorkerPasses>,
 ) -> Option<WorkerPasses>
-    requires { EndDown (λ w. w.caller.pass) _system.now.engine _play.now.config _play.now.slots _servers _top
+    requires { EndDown (λ w. w.caller.pass) _system.now.engine _play.now _servers _top
         workers.old.items }
-    ensures rest { EndDown (λ w. w.caller.pass) _system.now.engine _play.now.config _play.now.slots _servers _top
+    ensures rest { EndDown (λ w. w.caller.pass) _system.now.engine _play.now _servers _top
         workers.new.items }
     ensures last { IfSome result (λ w. (number w.caller.pass + vec_len workers.new ≡ _top)
-        × HasEnded _system.now.engine _play.now.config _play.now.slots _servers w.caller.pass) }
+        × HasEnded _system.now.engine _play.now _servers w.caller.pass) }
     ensures count { MatchOption result (vec_len workers.old ≡ 0) (λ _. vec_len workers.new + 1 ≡ vec_len workers.old) }
 {
     workers.pop()
@@ -61,11 +61,11 @@ fn put_workers(
     mut workers: Vec<WorkerPasses>,
     passes: &mut Vec<Pass<Core>>,
 )
-    requires workers { EndDown (λ w. w.caller.pass) system.now.engine play.now.config play.now.slots servers
+    requires workers { EndDown (λ w. w.caller.pass) system.now.engine play.now servers
         (vec_len workers) workers.items }
     requires passes { passes.old.items ≡ [] }
     requires room { vec_len workers ≤ vec_capacity passes.old }
-    ensures passes { HaveEnded system.now.engine play.now.config play.now.slots servers passes.new.items }
+    ensures passes { HaveEnded system.now.engine play.now servers passes.new.items }
     ensures len { vec_len passes.new ≡ vec_len workers }
     ensures capacity { vec_capacity passes.new ≡ vec_capacity passes.old }
 {
@@ -87,11 +87,11 @@ fn last_host(
     _top: usize,
     hosts: &mut Vec<HostPasses>,
 ) -> Option<HostPasses>
-    requires { EndDown (λ h. h.pass) _system.now.engine _play.now.config _play.now.slots _servers _top hosts.old.items }
-    ensures rest { EndDown (λ h. h.pass) _system.now.engine _play.now.config _play.now.slots _servers _top
+    requires { EndDown (λ h. h.pass) _system.now.engine _play.now _servers _top hosts.old.items }
+    ensures rest { EndDown (λ h. h.pass) _system.now.engine _play.now _servers _top
         hosts.new.items }
     ensures last { IfSome result (λ h. (number h.pass + vec_len hosts.new ≡ _top)
-        × HasEnded _system.now.engine _play.now.config _play.now.slots _servers h.pass) }
+        × HasEnded _system.now.engine _play.now _servers h.pass) }
     ensures count { MatchOption result (vec_len hosts.old ≡ 0) (λ _. vec_len hosts.new + 1 ≡ vec_len hosts.old) }
 {
     hosts.pop()
@@ -105,12 +105,12 @@ fn put_hosts(
     mut hosts: Vec<HostPasses>,
     passes: &mut Vec<Pass<Core>>,
 )
-    requires hosts { EndDown (λ h. h.pass) system.now.engine play.now.config play.now.slots servers
+    requires hosts { EndDown (λ h. h.pass) system.now.engine play.now servers
         (servers + vec_len hosts) hosts.items }
-    requires passes { HaveEnded system.now.engine play.now.config play.now.slots servers passes.old.items }
+    requires passes { HaveEnded system.now.engine play.now servers passes.old.items }
     requires servers { vec_len passes.old ≡ servers }
     requires room { servers + vec_len hosts ≤ vec_capacity passes.old }
-    ensures passes { HaveEnded system.now.engine play.now.config play.now.slots servers passes.new.items }
+    ensures passes { HaveEnded system.now.engine play.now servers passes.new.items }
     ensures len { vec_len passes.new ≡ servers + vec_len hosts }
 {
     let count = hosts.len();
@@ -135,25 +135,26 @@ pub(crate) fn room_for(
     Vec::with_capacity(alloc, usize::from(workers) + 1 + usize::from(cqs))
 }
 
-/// The controller, closed with the passes of all who raced: its history keeps the slots. None where the lock wasn't
-/// free.
+/// The controller, closed with the passes of all who raced: its history keeps the slots, and has all rounds of each
+/// host. None where the lock wasn't free.
 pub(crate) fn closed(
     system: System<OpenGate>,
     play: &Play,
     callers: Callers,
     mut passes: Vec<Pass<Core>>,
 ) -> Option<Core>
-    requires workers { EndDown (λ w. w.caller.pass) system.engine play.now.config play.now.slots
+    requires workers { EndDown (λ w. w.caller.pass) system.engine play.now
         (vec_len callers.workers + 1) (vec_len callers.workers) callers.workers.items }
     requires fetcher { (number callers.fetcher.pass ≡ vec_len callers.workers + 1)
-        × HasEnded system.engine play.now.config play.now.slots (vec_len callers.workers + 1) callers.fetcher.pass }
-    requires hosts { EndDown (λ h. h.pass) system.engine play.now.config play.now.slots (vec_len callers.workers + 1)
+        × HasEnded system.engine play.now (vec_len callers.workers + 1) callers.fetcher.pass }
+    requires hosts { EndDown (λ h. h.pass) system.engine play.now (vec_len callers.workers + 1)
         (vec_len callers.workers + 1 + play.now.config.cqs) callers.hosts.items }
     requires count { vec_len callers.hosts ≡ play.now.config.cqs }
     requires few { vec_len callers.workers + 1 + play.now.config.cqs ≤ vec_capacity passes }
     requires room { passes.items ≡ [] }
     ensures config { IfSome result (λ core. core.config ≡ play.now.config) }
     ensures slots { IfSome result (λ core. KeepsSlots play.now.config play.now.slots core.past) }
+    ensures rounds { IfSome result (λ core. HasRounds play.now.config play.now.slots play.now.rounds core.past) }
 {
     let Callers {
         fetcher,

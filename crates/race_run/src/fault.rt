@@ -9,7 +9,7 @@ use thiserror::Error;
 /// Why a race ended early, or gave no history that is legal. Its words are what the program says on standard error.
 #[derive(Clone, Copy, Debug, Drop, Error, PartialEq, Eq)]
 pub enum RaceFault {
-    /// A growth was refused, or a thread couldn't be started.
+    /// A growth was refused, a thread couldn't be started, or a host couldn't begin a round.
     #[error("no memory")]
     NoMemory,
     /// The controller wasn't given back.

@@ -9,7 +9,7 @@ ghost use Rattle.host_rounds.specs.Playing.{HasPlayed, HostPassesContinue};
 ghost use Rattle.race_numbers.specs.Races.{race_config};
 ghost use Rattle.race_run.specs.Ended.{EndDown, HasEnded};
 ghost use Rattle.race_run.specs.Faults.{IsEarly};
-ghost use Rattle.closing_laws.specs.Closing.{KeepsSlots};
+ghost use Rattle.closing_laws.specs.Closing.{HasRounds, KeepsSlots};
 ghost use Rattle.race_run.specs.Slots.{slots_of};
 
 use crate::closing::{closed, room_for};
@@ -39,11 +39,11 @@ fn all_threads<R: Threads + Wait + Sync>(
     requires callers { AreCallersOf system.now play.now.config _workers callers }
     requires slots { IsSlotArea play.now.slots }
     requires queues { 1 ≤ queues }
-    ensures workers { IfOk result (λ h. EndDown (λ w. w.caller.pass) system.now.engine play.now.config play.now.slots
+    ensures workers { IfOk result (λ h. EndDown (λ w. w.caller.pass) system.now.engine play.now
         (_workers + 1) _workers h.workers.items) }
     ensures fetcher { IfOk result (λ h. (number h.fetcher.pass ≡ _workers + 1)
-        × HasEnded system.now.engine play.now.config play.now.slots (_workers + 1) h.fetcher.pass) }
-    ensures hosts { IfOk result (λ h. EndDown (λ g. g.pass) system.now.engine play.now.config play.now.slots
+        × HasEnded system.now.engine play.now (_workers + 1) h.fetcher.pass) }
+    ensures hosts { IfOk result (λ h. EndDown (λ g. g.pass) system.now.engine play.now
         (_workers + 1) (_workers + 1 + play.now.config.cqs) h.hosts.items) }
     ensures counts { IfOk result (λ h. (vec_len h.workers ≡ _workers) × (vec_len h.hosts ≡ play.now.config.cqs)) }
 {
@@ -75,12 +75,12 @@ fn all_threads<R: Threads + Wait + Sync>(
     })
 }
 
-/// The controller after a race: its history keeps the slots.
+/// The controller after a race: its history keeps the slots, and has all rounds of each host.
 ///
 /// # Errors
 ///
-/// `NoMemory` where a growth was refused or a thread couldn't be started; `NoHistory` where the controller wasn't given
-/// back.
+/// `NoMemory` where a growth was refused, a thread couldn't be started or a host couldn't begin a round; `NoHistory`
+/// where the controller wasn't given back.
 pub(crate) fn raced<R: Threads + Wait + Sync>(
     rt: &R,
     alloc: Global,
@@ -88,6 +88,8 @@ pub(crate) fn raced<R: Threads + Wait + Sync>(
 ) -> Result<Core, RaceFault>
     ensures config { IfOk result (λ core. core.config ≡ race_config race.now) }
     ensures slots { IfOk result (λ core. KeepsSlots (race_config race.now) (slots_of race.now) core.past) }
+    ensures rounds { IfOk result
+        (λ core. HasRounds (race_config race.now) (slots_of race.now) race.now.rounds core.past) }
     ensures early { IfErr result IsEarly }
 {
     let config = race.config();

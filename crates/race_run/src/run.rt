@@ -1,12 +1,12 @@
 //! A race, its text, and its check.
 
-ghost use Rattle.std.specs.Prelude.{◌≡◌, All, IfErr, OnOk, reverse};
+ghost use Rattle.std.specs.Prelude.{◌≡◌, All, IfErr, OnOk, reverse, ℕ};
 ghost use Rattle.history.specs.Lines.{HasLine};
 ghost use Rattle.nvme_model.specs.Legal.{IsLegalFile};
 ghost use Rattle.race_numbers.specs.Races.{race_config};
 ghost use Rattle.race_run.specs.Races.{Races, TellsHistory};
-ghost use Rattle.closing_laws.specs.Closing.{KeepsSlots};
-ghost use Rattle.race_run.specs.Slots.{PrintsSlots, slots_of};
+ghost use Rattle.closing_laws.specs.Closing.{HasRounds, KeepsSlots};
+ghost use Rattle.race_run.specs.Slots.{PrintsRounds, PrintsSlots, slots_of};
 ghost use Rattle.race_run.specs.declared.fault.RaceFault.{RaceFault};
 
 use crate::fault::RaceFault;
@@ -63,6 +63,8 @@ fn finish<W: Write>(
     requires slots { KeepsSlots config.now _slots.now (reverse entries.now) }
     ensures races { Races config.now result (W.contents writer.old) (W.contents writer.new) }
     ensures slots { OnOk result (PrintsSlots config.now _slots.now (W.contents writer.old) (W.contents writer.new)) }
+    ensures rounds { (rounds : ℕ) → HasRounds config.now _slots.now rounds (reverse entries.now) → OnOk result
+        (PrintsRounds config.now _slots.now rounds (W.contents writer.old) (W.contents writer.new)) }
 {
     tell(alloc, config, entries, writer)?;
     judge(alloc, config, entries)?;
@@ -71,13 +73,14 @@ fn finish<W: Write>(
 
 /// Lets hosts race for slots on threads, and writes the configuration line and the controller's whole history; then
 /// checks the history. What was written keeps the discipline of the slots: nowhere in it has a slot two believed names,
-/// and each believed name is its holder.
+/// and each believed name is its holder. And each host began just the rounds of the race: on its own queues it claimed
+/// slot 0 once a round.
 ///
 /// # Errors
 ///
-/// `NoMemory` where a growth was refused or a thread couldn't be started; `NoHistory`, after nothing was written, where
-/// the controller wasn't given back; `Output` after a beginning of the text. `BadAt` would name the first place at
-/// which the history isn't legal; it never comes, since what the controller gives is.
+/// `NoMemory` where a growth was refused, a thread couldn't be started or a host couldn't begin a round; `NoHistory`,
+/// after nothing was written, where the controller wasn't given back; `Output` after a beginning of the text. `BadAt`
+/// would name the first place at which the history isn't legal; it never comes, since what the controller gives is.
 pub fn run_race<R: Threads + Wait + Sync, W: Write>(
     rt: &R,
     alloc: Global,
@@ -87,6 +90,9 @@ pub fn run_race<R: Threads + Wait + Sync, W: Write>(
     ensures races { Races (race_config race.now) result (W.contents writer.old) (W.contents writer.new) }
     ensures slots { OnOk result
         (PrintsSlots (race_config race.now) (slots_of race.now) (W.contents writer.old) (W.contents writer.new)) }
+    ensures rounds { OnOk result
+        (PrintsRounds (race_config race.now) (slots_of race.now) race.now.rounds (W.contents writer.old)
+        (W.contents writer.new)) }
 {
     let core = raced(rt, alloc, race)?;
     let config = core.config();

@@ -85,18 +85,18 @@ fn play_hosts<R: Threads + Wait + Sync>(
     ended
 }
 
-// The crew, and beside it the hosts.
+// The crew, and beside it the hosts; and whether these say that they made all their rounds.
 fn all<R: Threads + Wait + Sync>(
     rt: &R,
     alloc: Global,
     system: &System<StepCount>,
     play: &Play,
     callers: Callers,
-) -> Result<CallerPasses, NoMemory>
+) -> Result<(CallerPasses, bool), NoMemory>
     requires crew { IsCallerOf system.now callers.fetcher × All (IsWorkerOf system.now) callers.workers.items }
     requires hosts { All (IsHostOf system.now play.now.config) callers.hosts.items }
     requires slots { IsSlotArea play.now.slots }
-    ensures { IfOk result (IsCallerOf system.now) }
+    ensures { IfOk result (λ r. IsCallerOf system.now r.0) }
 {
     let Crew {
         fetcher,
@@ -114,12 +114,15 @@ fn all<R: Threads + Wait + Sync>(
         { play_hosts(rt, alloc, system, play, hosts) },
     );
     ends?;
-    beside?;
-    Ok(fetcher)
+    Ok((fetcher, beside.is_ok()))
 }
 
-// The controller of a race that is stopped.
-fn stopped<R: Threads + Wait + Sync>(rt: &R, alloc: Global, config: Config) -> Result<Core, Fail> {
+// The controller of a race that is stopped, and whether its hosts say that they made all their rounds.
+fn stopped<R: Threads + Wait + Sync>(
+    rt: &R,
+    alloc: Global,
+    config: Config,
+) -> Result<(Core, bool), Fail> {
     let gate = StepCount {
         made: AtomicUsize::new(0),
     };
@@ -129,15 +132,17 @@ fn stopped<R: Threads + Wait + Sync>(rt: &R, alloc: Global, config: Config) -> R
         slots: Range { slba: 0, blocks: 2 },
         rounds: ROUNDS,
     };
-    let caller = all(rt, alloc, &system, &play, callers)?;
+    let (caller, is_whole) = all(rt, alloc, &system, &play, callers)?;
     let System { engine, .. } = system;
-    Ok(engine.close(caller.pass).ok_or("the lock isn't free")?)
+    let core = engine.close(caller.pass).ok_or("the lock isn't free")?;
+    Ok((core, is_whole))
 }
 
 #[test]
 fn a_stop_flag_ends_all_loops(rt: HostRuntime) -> Result<(), Fail> {
     let config = Config::new(64, 1, 1, 0, 0, 2, 8, 8, 16)?;
-    let core = stopped(&rt, rt.alloc(), config)?;
+    let (core, is_whole) = stopped(&rt, rt.alloc(), config)?;
+    assert!(rt; !is_whole);
     let history = core.history().as_slice();
     assert!(rt; history.len() >= ENOUGH);
     assert!(rt; check(rt.alloc(), &core.config(), history).is_ok());

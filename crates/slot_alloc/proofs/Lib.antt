@@ -8,3 +8,4 @@ pub mod Keeping
 pub mod Staying
 pub mod Taking
 pub mod Untouched
+pub mod Counting

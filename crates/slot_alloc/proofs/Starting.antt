@@ -101,7 +101,8 @@ module _ {P : Type 0} (g : Ghosts P) where
     pub fits : serial < 18446744073709551616
     pub inside : has_block (area_of d) l ≡ true
 
-  name_is : (d e : Driver P g) (l : ℕ) (k : Call P) (serial : ℕ) → Claims d e l k serial → IsName (own_name d serial)
+  pub name_is : (d e : Driver P g) (l : ℕ) (k : Call P) (serial : ℕ) → Claims d e l k serial
+      → IsName (own_name d serial)
   name_is d e l k serial c =
       record { host = c.named; host_fits = c.narrow; serial = omega (arith, c.start.0); serial_fits = c.fits }
 

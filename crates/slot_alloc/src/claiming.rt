@@ -1,10 +1,11 @@
 //! Claims that were begun.
 
-ghost use Rattle.std.specs.Prelude.{[], ◌≡◌, ◌<◌, ◌++◌, ◌∷◌, IfOk, None};
+ghost use Rattle.std.specs.Prelude.{[], ◌≡◌, ◌<◌, ◌++◌, ◌∷◌, IfOk, None, ℕ};
 ghost use Rattle.driver_cas.specs.Drivers.{IsCallOf, area_of};
 ghost use Rattle.slot_alloc.specs.Areas.{area};
 ghost use Rattle.slot_alloc.specs.SlotRules.{DriverContinues, KeepsSlotRules};
 ghost use Rattle.slot_alloc.specs.Claims.{IsClaimingOf, IsUnreleased, claims_in};
+ghost use Rattle.slot_alloc.specs.Counts.{AddsClaim, IsPast, IsPastOn, claims_made};
 ghost use Rattle.slot_alloc.specs.Progresses.{IsClaimAsked, IsBesideOn, IsClaimingOn, IsFirstClaim, IsUnreleasedOn};
 ghost use Rattle.slot_alloc.specs.declared.claiming.Reach.{Reach};
 ghost use Rattle.driver_cas.specs.declared.call.Call.{Call};
@@ -87,6 +88,8 @@ impl Slots {
         ensures slot_rules { KeepsSlotRules driver.old → KeepsSlotRules driver.new }
         ensures goes_on { DriverContinues driver.old driver.new None }
         ensures is { IsFirstClaim driver.old driver.new self.now reach slot result }
+        ensures claims { AddsClaim driver.old driver.new slot result }
+        ensures past { IfOk result (λ k. IsPast k slot) }
         ensures of { IfOk result (λ k. IsClaimingOf driver.new k) }
         ensures unreleased { KeepsSlotRules driver.old → IfOk result (λ k. IsUnreleased driver.new k) }
     {
@@ -113,6 +116,8 @@ impl Slots {
         ensures slot_rules { KeepsSlotRules driver.old → KeepsSlotRules driver.new }
         ensures goes_on { DriverContinues driver.old driver.new None }
         ensures is { IsFirstClaim driver.old driver.new self.now Reach.One i result }
+        ensures claims { AddsClaim driver.old driver.new i result }
+        ensures past { IfOk result (λ k. IsPast k i) }
         ensures of { IfOk result (λ k. IsClaimingOf driver.new k) }
         ensures unreleased { KeepsSlotRules driver.old → IfOk result (λ k. IsUnreleased driver.new k) }
     {
@@ -130,6 +135,8 @@ impl Slots {
         ensures slot_rules { KeepsSlotRules driver.old → KeepsSlotRules driver.new }
         ensures goes_on { DriverContinues driver.old driver.new None }
         ensures is { IsFirstClaim driver.old driver.new self.now Reach.Any 0 result }
+        ensures claims { AddsClaim driver.old driver.new 0 result }
+        ensures past { IfOk result (λ k. IsPast k 0) }
         ensures of { IfOk result (λ k. IsClaimingOf driver.new k) }
         ensures unreleased { KeepsSlotRules driver.old → IfOk result (λ k. IsUnreleased driver.new k) }
     {
@@ -144,6 +151,8 @@ pub(crate) fn ask<P: Port>(driver: &mut Driver<P>, claiming: Claiming<P>) -> Pro
     ensures slot_rules { KeepsSlotRules driver.old → KeepsSlotRules driver.new }
     ensures goes_on { DriverContinues driver.old driver.new None }
     ensures is { IsClaimAsked driver.old driver.new claiming result }
+    ensures claims { (i : ℕ) → i < claiming.slot →
+        (claims_made driver.new i ≡ claims_made driver.old i) × IsPastOn result i }
     ensures of { IsClaimingOn driver.new result }
     ensures unreleased { KeepsSlotRules driver.old → IsUnreleasedOn driver.new result }
     ensures others { (other : Call P) →

@@ -27,6 +27,7 @@ ghost use Rattle.slot_alloc.specs.Areas.{block_of, claim_serial, slot_of};
 ghost use Rattle.slot_alloc.specs.SlotRules.{DriverContinues, KeepsSlotRules, ReleasedName, is_another, own_name};
 ghost use Rattle.slot_alloc.specs.Claims.{ClaimSays, IsCallKept, IsClaimingOf, IsHeldBy, IsReleasingOf, IsUnreleased};
 ghost use Rattle.slot_alloc.specs.Claims.{is_other_claim, release_call, claim_stage};
+ghost use Rattle.slot_alloc.specs.Counts.{AddsNoClaim};
 ghost use Rattle.slot_alloc.specs.Progresses.{IsQuiet};
 ghost use Rattle.slot_alloc.specs.Releases.{IsReleasePolled};
 ghost use Rattle.slot_alloc.specs.declared.claim.Claim.{Claim};
@@ -128,11 +129,12 @@ pub fn a_begun_claim_stays<P: Port>(
     let _ = claiming;
 }
 
-/// What was begun and what is held stays so where the driver did nothing: over `meet`, `meet_pass` and `listen`, and
-/// after a fault of a start call.
+/// What was begun and what is held stays so, and no slot is claimed, where the driver did nothing: over `meet`,
+/// `meet_pass` and `listen`, and after a fault of a start call.
 pub fn an_untouched_driver_keeps_its_slots<P: Port>(old: &Snapshot<Driver<P>>, new: &Driver<P>)
     ensures slot_rules { IsUntouched old.now.value new.now → KeepsSlotRules old.now.value → KeepsSlotRules new.now }
     ensures goes_on { IsUntouched old.now.value new.now → DriverContinues old.now.value new.now None }
+    ensures claims { IsUntouched old.now.value new.now → AddsNoClaim old.now.value new.now }
     ensures held { IsUntouched old.now.value new.now →
         (c : Claim) → IsHeldBy old.now.value c → IsHeldBy new.now c }
     ensures claiming { IsUntouched old.now.value new.now →

@@ -1,11 +1,12 @@
 //! Polling a claim.
 
-ghost use Rattle.std.specs.Prelude.{◌≡◌, ◌≢◌, None, false, true};
+ghost use Rattle.std.specs.Prelude.{◌≡◌, ◌≢◌, ◌≤◌, None, false, true, ℕ};
 ghost use Rattle.driver_calls.specs.declared.reply.Reply.{Reply};
 ghost use Rattle.driver_cas.specs.Drivers.{IsCallOf};
 ghost use Rattle.driver_cas.specs.declared.call.Call.{Call};
 ghost use Rattle.slot_alloc.specs.SlotRules.{DriverContinues, KeepsSlotRules};
 ghost use Rattle.slot_alloc.specs.Claims.{IsClaimingOf, IsUnreleased};
+ghost use Rattle.slot_alloc.specs.Counts.{IsPast, IsPastOn, claims_made};
 ghost use Rattle.slot_alloc.specs.Progresses.{IsBesideClaim, IsBesideOn, IsClaimingOn, IsHeldOn, IsLost, IsLostOn};
 ghost use Rattle.slot_alloc.specs.Progresses.{IsProgress, IsUnreleasedOn};
 
@@ -38,6 +39,8 @@ fn next<P: Port>(
     ensures slot_rules { KeepsSlotRules driver.old → KeepsSlotRules driver.new }
     ensures goes_on { DriverContinues driver.old driver.new None }
     ensures is { IsLostOn driver.old driver.new claiming call.value serial result }
+    ensures claims { (i : ℕ) → i ≤ claiming.slot →
+        (claims_made driver.new i ≡ claims_made driver.old i) × IsPastOn result i }
     ensures of { IsClaimingOn driver.new result }
     ensures unreleased { KeepsSlotRules driver.old → IsUnreleasedOn driver.new result }
     ensures others { (other : Call P) →
@@ -78,6 +81,8 @@ pub fn poll_claim<P: Port>(driver: &mut Driver<P>, claiming: Claiming<P>) -> Pro
     ensures slot_rules { KeepsSlotRules driver.old → KeepsSlotRules driver.new }
     ensures goes_on { DriverContinues driver.old driver.new None }
     ensures is { IsProgress driver.old driver.new claiming claiming.stage result }
+    ensures claims { (i : ℕ) → IsPast claiming i →
+        (claims_made driver.new i ≡ claims_made driver.old i) × IsPastOn result i }
     ensures of { IsClaimingOn driver.new result }
     ensures held { IsUnreleased driver.old claiming → IsHeldOn driver.new result }
     ensures unreleased { KeepsSlotRules driver.old → IsUnreleased driver.old claiming

@@ -6,6 +6,7 @@ ghost use Rattle.driver_cas.specs.declared.call.Call.{Call};
 ghost use Rattle.slot_alloc.specs.Areas.{area};
 ghost use Rattle.slot_alloc.specs.SlotRules.{DriverContinues, KeepsSlotRules};
 ghost use Rattle.slot_alloc.specs.Claims.{IsHeldBy, IsReleasingOf};
+ghost use Rattle.slot_alloc.specs.Counts.{AddsNoClaim};
 ghost use Rattle.slot_alloc.specs.Progresses.{IsQuiet};
 ghost use Rattle.slot_alloc.specs.Releases.{IsReleaseBegun, IsReleasePolled, later_released, released_by};
 
@@ -40,6 +41,7 @@ impl Slots {
         ensures slot_rules { KeepsSlotRules driver.old → KeepsSlotRules driver.new }
         ensures goes_on { DriverContinues driver.old driver.new (released_by driver.old claim result) }
         ensures is { IsReleaseBegun driver.old driver.new claim result }
+        ensures claims { AddsNoClaim driver.old driver.new }
         ensures of { IfOk result (λ k. IsReleasingOf driver.new k) }
         ensures others { (other : Call P) → IsCallOf driver.old other → IsCallOf driver.new other }
     {
@@ -59,6 +61,7 @@ pub fn poll_release<P: Port>(driver: &mut Driver<P>, releasing: Releasing<P>) ->
     ensures slot_rules { KeepsSlotRules driver.old → KeepsSlotRules driver.new }
     ensures goes_on { DriverContinues driver.old driver.new None }
     ensures is { IsReleasePolled driver.new releasing result }
+    ensures claims { AddsNoClaim driver.old driver.new }
     ensures quiet { IsQuiet driver.old driver.new }
     ensures asks { AsksPort driver.old driver.new releasing.call (later_released result) }
     ensures others { (other : Call P) →

@@ -7,6 +7,7 @@ pub mod Winning
 pub mod Knowing
 pub mod Believing
 pub mod Keeping
+pub mod Counting
 pub mod Views
 pub mod Meeting
 pub mod Releasing

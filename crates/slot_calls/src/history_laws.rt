@@ -4,17 +4,23 @@
 ghost use Rattle.std.specs.Prelude.{◌≡◌, ◌≢◌, ℕ, List, true, Ok, Result, Some};
 ghost use Rattle.nvme_model.specs.Array.{has_block};
 ghost use Rattle.nvme_model.specs.Config.{completion_queue};
-ghost use Rattle.nvme_model.specs.Passes.{entries};
+ghost use Rattle.nvme_model.specs.Legal.{IsLegal};
+ghost use Rattle.nvme_model.specs.Passes.{SharedPast, entries};
 ghost use Rattle.nvme_model.specs.Slots.{Name, believed, disciplined, holder, keeps_discipline};
 ghost use Rattle.nvme_model.specs.declared.array.Range.{Range};
+ghost use Rattle.nvme_model.specs.declared.config.ConfigNumbers.{ConfigNumbers};
 ghost use Rattle.nvme_model.specs.declared.operation.Op.{Op};
 ghost use Rattle.nvme_model.specs.declared.status.Status.{Status};
 ghost use Rattle.nvme_model.specs.declared.submission.Submission.{Submission};
+ghost use Rattle.host_laws.specs.Beside.{IsSole};
+ghost use Rattle.driver_calls.specs.Events.{events};
+ghost use Rattle.driver_calls.specs.Log.{is_tidy};
 ghost use Rattle.driver_calls.specs.Says.{call_outcome};
 ghost use Rattle.driver_calls.specs.Views.{PortView};
 ghost use Rattle.driver_calls.specs.declared.event.PortEvent.{PortEvent};
 ghost use Rattle.driver_calls.specs.declared.reply.Reply.{Reply};
 ghost use Rattle.slot_calls.specs.Calls.{IsName, IsReleaseBatch, IsReleaseIn};
+ghost use Rattle.slot_calls.specs.Counts.{claims_on, log_claims};
 ghost use Rattle.slot_calls.specs.Hosts.{IsSlotView, log_since};
 ghost use Rattle.slot_calls.specs.Swaps.{log_believed};
 
@@ -78,4 +84,12 @@ pub fn a_release_that_keeps_the_discipline_is_believed()
         IsReleaseBatch l first second n batch → has_block slots l ≡ true → completion_queue v.config q ≡ v.queue →
         keeps_discipline v.config slots (entries v.seen) (record { queue = q; batch = batch }) ≡ true →
         log_believed (log_since before v) l n ≡ true }
+{}
+
+/// Where one port alone uses the queues of a completion queue, its log has as many claims of a slot as the history has
+/// on them.
+pub fn a_log_has_the_claims_of_its_queues()
+    ensures { (c : ConfigNumbers) (queue pass l : ℕ) (shared : SharedPast) → IsLegal c (entries shared) →
+        IsSole c queue pass shared → is_tidy (events c queue pass shared) ≡ true →
+        claims_on c (entries shared) queue l ≡ log_claims (events c queue pass shared) l }
 {}

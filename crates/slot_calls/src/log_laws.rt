@@ -1,6 +1,7 @@
 //! What a driver's log says of its claims and releases, by itself.
 
 ghost use Rattle.std.specs.Prelude.{◌≡◌, ◌≤◌, ◌<◌, ◌&&◌, ◌==◌, ◌∷◌, ◌++◌, ℕ, List, [], true, false, length, Ok, Some};
+ghost use Rattle.std.specs.Prelude.{if◌then◌else◌, suc};
 ghost use Rattle.std.specs.List.{list_any};
 ghost use Rattle.nvme_model.specs.Array.{has_block};
 ghost use Rattle.nvme_model.specs.Slots.{Name, same_name, touches};
@@ -12,6 +13,7 @@ ghost use Rattle.driver_calls.specs.Says.{IsCallIn, call_outcome};
 ghost use Rattle.driver_calls.specs.declared.event.PortEvent.{PortEvent};
 ghost use Rattle.driver_calls.specs.declared.reply.Reply.{Reply};
 ghost use Rattle.slot_calls.specs.Calls.{IsClaimBatch, IsClaimIn, IsName, IsReleaseBatch, IsReleaseIn};
+ghost use Rattle.slot_calls.specs.Counts.{log_claims};
 ghost use Rattle.slot_calls.specs.SlotRules.{keeps_slot_rules};
 ghost use Rattle.slot_calls.specs.Swaps.{log_believed, log_released};
 
@@ -71,6 +73,20 @@ pub fn a_log_releases_what_it_says()
     ensures fresh { (slots : Range) (host last : ℕ) (log : List PortEvent) (l : ℕ) (n : Name) →
         keeps_slot_rules slots host last log ≡ true → has_block slots l ≡ true → last < n.serial →
         log_released log l n ≡ false }
+{}
+
+/// A claim adds one to a log's claims of its slot, and to those of no other. A release adds none, and what is reaped
+/// adds none.
+pub fn a_log_counts_its_claims()
+    ensures got { (log : List PortEvent) (cqe payload : List ℕ) (l : ℕ) →
+        log_claims (PortEvent.Got cqe payload ∷ log) l ≡ log_claims log l }
+    ensures claim { (log : List PortEvent) (q k first second : ℕ) (m : Name) (batch : List Submission) (l : ℕ) →
+        IsName m → IsClaimBatch k first second m batch →
+        log_claims (PortEvent.Sent q batch ∷ log) l
+        ≡ (if k == l then suc (log_claims log l) else log_claims log l) }
+    ensures release { (log : List PortEvent) (q k first second : ℕ) (m : Name) (batch : List Submission) (l : ℕ) →
+        IsName m → IsReleaseBatch k first second m batch →
+        log_claims (PortEvent.Sent q batch ∷ log) l ≡ log_claims log l }
 {}
 
 /// The call whose batch was published just now is a claim, or a release, by the log, and it is so in each later log in

@@ -1,23 +1,25 @@
-use Rattle.std.proofs.Common.{None, refl}
+use Rattle.std.proofs.Common.{None, refl, ◌∙◌}
 use Rattle.slot_alloc.specs.Claims.{IsReleasingOf}
 use Rattle.host_rounds.proofs.Going.{goes_called, goes_far, goes_same}
 use Rattle.host_rounds.proofs.releasing.wait.Goals as goal
 use Rattle.host_rounds.proofs.releasing.wait.Goals.{in-Pending, in-Later+else-eq}
 
 pub loop-init : goal.loop-init
-loop-init g c = (goes_same _ _ c.requires.own, c.requires.of)
+loop-init g c = (goes_same _ _ c.requires.own, c.requires.of, refl)
 
 pub returns-in-Released : goal.returns-in-Released
 returns-in-Released g c =
     record {
       goes = goes_called _ _ _ _ None c.loop.invariant.0 refl refl refl c.poll_release.ensures.slot_rules
           c.poll_release.ensures.goes_on;
+      begun = c.poll_release.ensures.claims 0 ∙ c.loop.invariant.2;
     }
 
 pub returns-then-eq : goal.returns-then-eq
 returns-then-eq g c = record {
   goes = goes_called _ _ _ _ None c.loop.invariant.0 refl refl refl c.poll_release.ensures.slot_rules
       c.poll_release.ensures.goes_on;
+  begun = c.poll_release.ensures.claims 0 ∙ c.loop.invariant.2;
 }
 
 pub loop-preserved : goal.loop-preserved
@@ -31,4 +33,5 @@ loop-preserved g c =
           (goes_called _ _ _ _ None c.loop.invariant.0 refl refl refl c.poll_release.ensures.slot_rules
           c.poll_release.ensures.goes_on) c.pause.ensures.goes,
       c.pause.ensures.releasing c.match-poll_release.releasing of,
+      c.pause.ensures.begun ∙ (c.poll_release.ensures.claims 0 ∙ c.loop.invariant.2),
     )

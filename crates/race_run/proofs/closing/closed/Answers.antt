@@ -1,15 +1,15 @@
-use Rattle.std.proofs.Common.{arith, length, subst, sym, vec_len, ℕ, ◌+◌, ◌∙◌, ◌≡◌}
+use Rattle.std.proofs.Common.{arith, length, subst, sym, vec_len, ℕ, ◌+◌, ◌≡◌}
 use Rattle.shared_system.specs.declared.system.HostPasses.{HostPasses}
 use Rattle.shared_system.specs.declared.system.WorkerPasses.{WorkerPasses}
 use Rattle.race_run.specs.Ended.{EndDown}
-use Rattle.race_run.proofs.Returned.{closed_config, closed_slots}
+use Rattle.race_run.proofs.Returned.{closed_config, closed_rounds, closed_slots}
 use Rattle.race_run.proofs.closing.closed.Goals as goal
 
 pub put_workers-requires-clause-workers : goal.put_workers-requires-clause-workers
 put_workers-requires-clause-workers c =
     let p = c.args.play.now in
     let ws = c.args.callers.workers in
-    subst (λ (n : ℕ). EndDown (λ (w : WorkerPasses). w.caller.pass) c.args.system.engine p.config p.slots (n + 1)
+    subst (λ (n : ℕ). EndDown (λ (w : WorkerPasses). w.caller.pass) c.args.system.engine p (n + 1)
     (vec_len ws)
     ws.items) (sym c.len-servers.ensures) c.requires.workers
 
@@ -18,9 +18,9 @@ put_hosts-requires-clause-hosts c =
     let p = c.args.play.now in
     let hs = c.args.callers.hosts.items in
     let n = c.len-servers.result in
-    let all = subst (λ (n : ℕ). EndDown (λ (h : HostPasses). h.pass) c.args.system.engine p.config p.slots (n + 1)
+    let all = subst (λ (n : ℕ). EndDown (λ (h : HostPasses). h.pass) c.args.system.engine p (n + 1)
     (n + 1 + p.config.cqs) hs) (sym c.len-servers.ensures) c.requires.hosts in
-    subst (λ (m : ℕ). EndDown (λ (h : HostPasses). h.pass) c.args.system.engine p.config p.slots (n + 1) (n + 1 + m) hs)
+    subst (λ (m : ℕ). EndDown (λ (h : HostPasses). h.pass) c.args.system.engine p (n + 1) (n + 1 + m) hs)
     (sym c.requires.count) all
 
 pub close_all-requires : goal.close_all-requires
@@ -43,8 +43,10 @@ returns c =
     let long = sym c.put_hosts.new.passes.ok.0 in
     let all : length ps ≡ c.len-servers.result + 1 + play.config.cqs = omega (arith, len, count, long) in
     record {
-      config = closed_config system.engine play.config play.slots _ ps c.put_hosts.ensures.passes all (omega arith)
+      config = closed_config system.engine play _ ps c.put_hosts.ensures.passes all (omega arith)
           c.close_all.result c.close_all.ensures.config;
-      slots = closed_slots system.engine play.config play.slots _ ps c.put_hosts.ensures.passes all (omega arith)
+      slots = closed_slots system.engine play _ ps c.put_hosts.ensures.passes all (omega arith)
+          c.close_all.result c.close_all.ensures.config c.close_all.ensures.legal c.close_all.ensures.whole;
+      rounds = closed_rounds system.engine play _ ps c.put_hosts.ensures.passes all (omega arith)
           c.close_all.result c.close_all.ensures.config c.close_all.ensures.legal c.close_all.ensures.whole;
     }

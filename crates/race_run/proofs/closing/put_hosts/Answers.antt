@@ -11,7 +11,7 @@ loop-init c =
     let same = c.len-count.ensures in
     let have = c.requires.servers in
     let room = c.requires.room in (
-      down_from e p.config p.slots s (λ (h : HostPasses). h.pass) _ _ c.args.hosts.items (ap (λ (n : ℕ). s + n) same)
+      down_from e p s (λ (h : HostPasses). h.pass) _ _ c.args.hosts.items (ap (λ (n : ℕ). s + n) same)
           c.requires.hosts,
       c.requires.passes,
       omega (arith, same),

@@ -10,6 +10,6 @@ returns-clause-passes c =
     let s = c.args._servers in
     let is = c.requires.number in
     let long = c.args.passes.now.ok.0 in
-    subst (HaveEnded e p.config p.slots s) (sym c.push_reserved.ensures.items)
-    (passes_more e p.config p.slots s c.args.passes.now.items c.args.pass c.requires.passes c.requires.pass
+    subst (HaveEnded e p s) (sym c.push_reserved.ensures.items)
+    (passes_more e p s c.args.passes.now.items c.args.pass c.requires.passes c.requires.pass
     (omega (arith, is, long)))

@@ -12,9 +12,9 @@ loop-init c =
     let none = ap length c.requires.passes in
     let long = c.args.passes.now.ok.0 in
     let room = c.requires.room in (
-      down_from e p.config p.slots s
+      down_from e p s
           (λ (w : WorkerPasses). w.caller.pass) _ _ c.args.workers.items same c.requires.workers,
-      none_ended e p.config p.slots s c.args.passes.now.items c.requires.passes,
+      none_ended e p s c.args.passes.now.items c.requires.passes,
       omega (arith, same),
       omega (arith, none, long),
       refl,

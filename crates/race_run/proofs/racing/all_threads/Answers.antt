@@ -1,7 +1,5 @@
 use Rattle.std.proofs.Common.{arith}
-use Rattle.std.specs.List.{AllZip}
-use Rattle.std.specs.Prelude.{OnOk}
-use Rattle.host_rounds.specs.Playing.{HasPlayed, HostPassesContinue}
+use Rattle.host_rounds.specs.Playing.{HostPassesContinue}
 use Rattle.shared_system.specs.Callers.{WorkerContinues}
 use Rattle.race_run.proofs.Ended.{hosts, workers, zip_length}
 use Rattle.race_run.proofs.racing.all_threads.Goals as goal

@@ -1,4 +1,3 @@
-use Rattle.history_check.specs.Checks.{Checks}
 use Rattle.race_run.proofs.Judging.{none_bad}
 use Rattle.race_run.proofs.run.judge.Goals as goal
 

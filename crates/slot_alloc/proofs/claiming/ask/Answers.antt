@@ -1,10 +1,12 @@
-use Rattle.std.proofs.Common.{Err, Ok, refl, rules, ◌≡◌, ◌≢◌}
+use Rattle.std.proofs.Common.{Err, Ok, arith, refl, rules, ◌≡◌, ◌≢◌}
 use Rattle.driver_cas.specs.Drivers.{area_of}
 use Rattle.driver_cas.specs.declared.fault.Fault.{Fault}
 use Rattle.slot_alloc.specs.Areas.{block_of}
 use Rattle.slot_alloc.proofs.Asking.{call_kept, claiming_due, claiming_now, claims_of, start_of, told_full, told_later}
 use Rattle.slot_alloc.proofs.Asking.{unreleased_now}
+use Rattle.slot_alloc.proofs.Counting.{counts_claimed, counts_same, not_counted}
 use Rattle.slot_alloc.proofs.Starting.{slot_rules_claimed, slot_rules_same, goes_on_claimed, goes_on_same}
+use Rattle.slot_alloc.specs.Counts.{claims_made}
 use Rattle.slot_alloc.proofs.claiming.ask.Goals as goal
 
 pub returns-in-Ok-clause-slot_rules : goal.returns-in-Ok-clause-slot_rules
@@ -144,3 +146,32 @@ returns-else-eq-clause-others g c =
           x.is.0 x.later x.is.1 of,
       tt,
     )
+
+pub returns-in-Ok-clause-claims : goal.returns-in-Ok-clause-claims
+returns-in-Ok-clause-claims g c = λ i less.
+    let d = c.args.driver.now in
+    let e = c.start_claim.new.self in
+    let k = c.args.claiming in
+    let x = c.in-Ok in (
+      not_counted i k.slot (claims_made e i) (claims_made d i) less
+          (counts_claimed g.P.Port d e k.slot x.call x.serial
+          (claims_of g.P.Port d e k.slots k.slot c.block.result x.call x.serial c.block.ensures x.ensures.settings
+          x.ensures.later x.ensures.is x.ensures.law.0 x.ensures.law.1 x.ensures.law.2 c.requires.of.area_is
+          c.requires.of.inside) i),
+      omega (arith, less),
+    )
+
+pub returns-in-Err-NoSerial-clause-claims : goal.returns-in-Err-NoSerial-clause-claims
+returns-in-Err-NoSerial-clause-claims g c = λ i less.
+    let x = c.in-Err-NoSerial.ensures in
+    (counts_same g.P.Port c.args.driver.now c.start_claim.new.self x.settings.slots x.is.1.0 i, tt)
+
+pub returns-then-eq-clause-claims : goal.returns-then-eq-clause-claims
+returns-then-eq-clause-claims g c = λ i less.
+    let x = c.in-Err.ensures in
+    (counts_same g.P.Port c.args.driver.now c.start_claim.new.self x.settings.slots x.is.1.0 i, less)
+
+pub returns-else-eq-clause-claims : goal.returns-else-eq-clause-claims
+returns-else-eq-clause-claims g c = λ i less.
+    let x = c.in-Err.ensures in
+    (counts_same g.P.Port c.args.driver.now c.start_claim.new.self x.settings.slots x.is.1.0 i, less)

@@ -2,6 +2,7 @@ use Rattle.std.proofs.Common.{None, subst, Ok, Some, ap, inl, refl, ◌≡◌, s
 use Rattle.driver_calls.specs.declared.reply.Reply.{Reply}
 use Rattle.driver_cas.specs.Drivers.{SaysOfPort}
 use Rattle.driver_cas.specs.declared.call.Call.{Call}
+use Rattle.slot_alloc.proofs.Counting.{behind_asked, counts_polled}
 use Rattle.slot_alloc.proofs.Polling.{Polls, by_stage, claiming_polled, differs_ended, ended_polled, failed_polled}
 use Rattle.slot_alloc.proofs.Polling.{goes_on_on, goes_on_polled, held_polled, lost_polled}
 use Rattle.slot_alloc.proofs.Polling.{still_polled, waiting_polled, won_polled}
@@ -204,3 +205,47 @@ returns-else-is_swapped-clause-is g c =
       lower = k.lower;
     }) z.1 serial c.next.result) (λ i. (c.replace.ensures.after i, c.of-asked.ensures i))
     c.next.ensures.is))
+
+pub returns-in-Pending-clause-claims : goal.returns-in-Pending-clause-claims
+returns-in-Pending-clause-claims g c = λ i past.
+    let x = c.poll.ensures in (
+      counts_polled g.P.Port c.args.driver.now c.poll.new.self
+          (record { same = x.same; later = x.later; one = x.one }) i,
+      behind_asked g.P.Port i c.args.claiming.slot c.in-Asked.call c.in-Asked.serial c.args.claiming.stage
+          (sym c.replace.ensures.value ∙ c.in-Asked.is) past,
+    )
+
+pub returns-in-Later-clause-claims : goal.returns-in-Later-clause-claims
+returns-in-Later-clause-claims g c = λ i past.
+    let x = c.poll.ensures in (
+      counts_polled g.P.Port c.args.driver.now c.poll.new.self
+          (record { same = x.same; later = x.later; one = x.one }) i,
+      behind_asked g.P.Port i c.args.claiming.slot c.in-Asked.call c.in-Asked.serial c.args.claiming.stage
+          (sym c.replace.ensures.value ∙ c.in-Asked.is) past,
+    )
+
+pub returns-in-Failed-clause-claims : goal.returns-in-Failed-clause-claims
+returns-in-Failed-clause-claims g c = λ i past.
+    let x = c.poll.ensures in (
+      counts_polled g.P.Port c.args.driver.now c.poll.new.self
+          (record { same = x.same; later = x.later; one = x.one }) i,
+      tt,
+    )
+
+pub returns-then-is_swapped-clause-claims : goal.returns-then-is_swapped-clause-claims
+returns-then-is_swapped-clause-claims g c = λ i past.
+    let x = c.poll.ensures in (
+      counts_polled g.P.Port c.args.driver.now c.poll.new.self
+          (record { same = x.same; later = x.later; one = x.one }) i,
+      tt,
+    )
+
+pub returns-else-is_swapped-clause-claims : goal.returns-else-is_swapped-clause-claims
+returns-else-is_swapped-clause-claims g c = λ i past.
+    let x = c.poll.ensures in
+    let y = c.next.ensures.claims i (behind_asked g.P.Port i c.args.claiming.slot c.in-Asked.call c.in-Asked.serial
+    c.args.claiming.stage (sym c.replace.ensures.value ∙ c.in-Asked.is) past) in (
+      y.0 ∙ counts_polled g.P.Port c.args.driver.now c.poll.new.self
+          (record { same = x.same; later = x.later; one = x.one }) i,
+      y.1,
+    )

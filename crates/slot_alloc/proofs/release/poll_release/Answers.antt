@@ -2,6 +2,7 @@ use Rattle.std.proofs.Common.{Ok, Some, ap, inr, refl, subst, sym, ◌∙◌}
 use Rattle.driver_calls.specs.declared.reply.Reply.{Reply}
 use Rattle.driver_cas.specs.Drivers.{IsCallOf, SaysOfPort}
 use Rattle.driver_cas.specs.declared.call.Call.{Call}
+use Rattle.slot_alloc.proofs.Counting.{counts_polled}
 use Rattle.slot_alloc.proofs.GivingBack.{differs_polled, failed_release, releasing_polled, same_releasing}
 use Rattle.slot_alloc.proofs.Polling.{goes_on_polled}
 use Rattle.slot_alloc.specs.Claims.{IsReleasingOf}
@@ -83,3 +84,28 @@ returns-else-is_swapped-clause-is g c =
         subst (λ (r : Reply). SaysOfPort e k.call (Some (Ok r))) differs y.ensures.says,
       ),
     )
+
+pub returns-in-Failed-clause-claims : goal.returns-in-Failed-clause-claims
+returns-in-Failed-clause-claims g c =
+    let x = c.poll.ensures in
+    counts_polled g.P.Port c.args.driver.now c.poll.new.self (record { same = x.same; later = x.later; one = x.one })
+
+pub returns-then-is_swapped-clause-claims : goal.returns-then-is_swapped-clause-claims
+returns-then-is_swapped-clause-claims g c =
+    let x = c.poll.ensures in
+    counts_polled g.P.Port c.args.driver.now c.poll.new.self (record { same = x.same; later = x.later; one = x.one })
+
+pub returns-else-is_swapped-clause-claims : goal.returns-else-is_swapped-clause-claims
+returns-else-is_swapped-clause-claims g c =
+    let x = c.poll.ensures in
+    counts_polled g.P.Port c.args.driver.now c.poll.new.self (record { same = x.same; later = x.later; one = x.one })
+
+pub returns-in-Pending-clause-claims : goal.returns-in-Pending-clause-claims
+returns-in-Pending-clause-claims g c =
+    let x = c.poll.ensures in
+    counts_polled g.P.Port c.args.driver.now c.poll.new.self (record { same = x.same; later = x.later; one = x.one })
+
+pub returns-in-Later-clause-claims : goal.returns-in-Later-clause-claims
+returns-in-Later-clause-claims g c =
+    let x = c.poll.ensures in
+    counts_polled g.P.Port c.args.driver.now c.poll.new.self (record { same = x.same; later = x.later; one = x.one })

@@ -8,6 +8,7 @@ use Rattle.driver_cas.specs.declared.driver.Driver.{Driver}
 use Rattle.slot_alloc.specs.Areas.{block_of}
 use Rattle.slot_alloc.specs.Claims.{AreTaken, claims_in}
 use Rattle.slot_alloc.proofs.Asking.{claiming_now, claims_of, none_taken, unreleased_now}
+use Rattle.slot_alloc.proofs.Counting.{counts_claimed, counts_same}
 use Rattle.slot_alloc.proofs.Starting.{slot_rules_claimed, goes_on_claimed, goes_on_same}
 use Rattle.slot_alloc.proofs.slots.Slots.begin.Goals as goal
 
@@ -90,3 +91,19 @@ returns-clause-of g c =
     subst (λ (n : ℕ). AreTaken d began.value n (claims_in c.no_claims.result.value)) (sym none)
     (subst (λ (claims : List (Call _ × ℕ)). AreTaken d began.value 0 claims) (sym c.no_claims.ensures)
     (none_taken g.P.Port d began.value)))
+
+pub returns-clause-claims : goal.returns-clause-claims
+returns-clause-claims g c =
+    let d = c.args.driver.now in
+    let e = c.start_claim.new.self in
+    let x = c.in_ok-call in
+    counts_claimed g.P.Port d e c.args.slot x.call x.serial
+    (claims_of g.P.Port d e c.args.self.now c.args.slot c.block.result x.call x.serial c.block.ensures
+    x.ensures.settings x.ensures.later x.ensures.is x.ensures.law.0 x.ensures.law.1 x.ensures.law.2 c.requires.area
+    c.requires.slot)
+
+pub returns-in_err-call-clause-claims : goal.returns-in_err-call-clause-claims
+returns-in_err-call-clause-claims g c =
+    let p = err_from_is_err_and c.from_residual.result c.from_residual.ensures.1 in
+    rw p.1 (counts_same g.P.Port c.args.driver.now c.start_claim.new.self c.start_claim.ensures.settings.slots
+    c.in_err-call.ensures.is.1.0)
