@@ -1,4 +1,4 @@
--- Two hosts that have met, and then a server.
+-- Two hosts that have met, and then two passes that serve.
 use Rattle.std.proofs.Common.{None, Option, Some, [], ap, arith, false, inl, inr, is_some, refl, subst, sym, true, ℕ}
 use Rattle.std.proofs.Common.{◌&&◌, ◌∙◌, ◌≡◌}
 use Rattle.std.specs.Prelude.{IfSome}
@@ -17,7 +17,8 @@ use Rattle.slot_alloc.specs.Areas.{slot_of}
 use Rattle.slot_alloc.specs.Claims.{IsHeldBy}
 use Rattle.slot_alloc.specs.declared.claim.Claim.{Claim}
 use Rattle.slot_hosts.specs.Hosts.{AreTwoHosts, IsHost}
-use Rattle.serving_laws.specs.Servers.{serves}
+use Rattle.serving_laws.specs.Servers.{IsServing, serves}
+use Rattle.driver_calls.proofs.Views.{begins_on}
 use Rattle.holding_example.specs.Holding.{one_slot}
 
 -- of two that exclude each other one isn't there
@@ -28,22 +29,29 @@ one_alone P Q (Some a) None h k f = refl
 one_alone P Q (Some a) (Some b) h k f = absurd (f a b h k)
 
 module _ {g : Ghosts SharedPort} where
-  -- the first, before it met the server and now, the second, and the server's pass
-  pub are_two : (c : ConfigNumbers) (one met two : Driver SharedPort g) (q : EnginePass) → IsHost c one_slot 1 1 1 one
-      → IsHost c one_slot 2 2 2 two → SawMore met.port one.port → seen met.port.pass ≡ seen two.port.pass
-      → number q ≡ 3 → passes_of q ≡ 3 → seen one.port.pass ≡ seen q
-      → ((s : SharedPast) → IsBeginning s (seen q) → AreOfPasses (passes_of q) s × (serves (number q) s ≡ true))
-      → AreTwoHosts 3 one two (seen met.port.pass)
-  are_two c one met two q x y saw same last three there has =
+  -- The second met the first, and then the first met two passes that serve.
+  pub are_two : (c : ConfigNumbers) (met once one two : Driver SharedPort g) (q r : EnginePass)
+      → IsHost c one_slot 3 1 1 one → IsHost c one_slot 4 2 2 two → SawMore met.port once.port
+      → SawMore once.port one.port
+      → seen met.port.pass ≡ seen two.port.pass
+      → number q ≡ 1 → passes_of q ≡ 4 → IsServing q → seen once.port.pass ≡ seen q
+      → number r ≡ 2 → IsServing r → seen one.port.pass ≡ seen r
+      → ((p : EnginePass) (s : SharedPast) → IsServing p → IsBeginning s (seen p)
+      → AreOfPasses (passes_of p) s × (serves (number p) s ≡ true))
+      → AreTwoHosts 4 one two (seen met.port.pass)
+  are_two c met once one two q r x y first second same q_is four q_serves at_q r_is r_serves at_r has =
       let s = seen met.port.pass in
-      let begins : IsBeginning s (seen one.port.pass) = saw.follows.view.goes_on in
-      let h = has s (subst (λ (l : SharedPast). IsBeginning s l) there begins) in
+      let early : IsBeginning s (seen once.port.pass) = first.follows.view.goes_on in
+      let begins : IsBeginning s (seen one.port.pass) = begins_on s _ _ early second.follows.view.goes_on in
+      let h = has q s q_serves (subst (λ (l : SharedPast). IsBeginning s l) at_q early) in
+      let k = has r s r_serves (subst (λ (l : SharedPast). IsBeginning s l) at_r begins) in
       record {
         one = record {
           first = x.first;
           slot_rules = x.slot_rules;
           begins = begins;
-          whole = ap (λ (k : ℕ). places k s) saw.follows.view.same_pass ∙ sym saw.mine_stay;
+          whole = ap (λ (k : ℕ). places k s) (second.follows.view.same_pass ∙ first.follows.view.same_pass)
+              ∙ sym (second.mine_stay ∙ first.mine_stay);
         };
         two = record {
           first = y.first;
@@ -56,13 +64,15 @@ module _ {g : Ghosts SharedPort} where
         area = y.area ∙ sym x.area;
         hosts = λ e. omega (arith, e, x.host_is, y.host_is);
         queues = λ e. omega (arith, e, x.queue_is, y.queue_is);
-        of_passes = subst (λ (n : ℕ). AreOfPasses n s) three h.0;
-        others = λ k low high. elim (cases_eq k 1) [
-          | inl e ↦ inl (e ∙ sym x.pass_is)
-          | inr first ↦ elim (cases_eq k 2) [
-            | inl e ↦ inr (inl (e ∙ sym y.pass_is))
-            | inr second ↦ inr (inr (subst (λ (n : ℕ). serves n s ≡ true)
-                (last ∙ omega (arith, first, second, low, high)) h.1))
+        of_passes = subst (λ (n : ℕ). AreOfPasses n s) four h.0;
+        others = λ n low high. elim (cases_eq n 1) [
+          | inl e ↦ inr (inr (subst (λ (m : ℕ). serves m s ≡ true) (q_is ∙ sym e) h.1))
+          | inr not_one ↦ elim (cases_eq n 2) [
+            | inl e ↦ inr (inr (subst (λ (m : ℕ). serves m s ≡ true) (r_is ∙ sym e) k.1))
+            | inr not_two ↦ elim (cases_eq n 3) [
+              | inl e ↦ inl (e ∙ sym x.pass_is)
+              | inr not_three ↦ inr (inl (omega (arith, not_one, not_two, not_three, low, high) ∙ sym y.pass_is))
+            ]
           ]
         ];
       }

@@ -1,82 +1,163 @@
 //! Hosts that ask for the one slot, and a server.
 
-ghost use Rattle.std.specs.Prelude.{IfOk, IfSome, [], vec_len, ◌≡◌, ◌≤◌, ◌∷◌};
-ghost use Rattle.history.specs.Config.{config_numbers};
-ghost use Rattle.meet_lock.specs.Passes.{number, seen};
-ghost use Rattle.driver_rows.specs.Benches.{AreNumbered, AreBenchSpares, IsServerOf};
-ghost use Rattle.holding_example.specs.Holding.{HoldsClaim, IsAsker, IsThird, one_slot};
+ghost use Rattle.std.specs.Prelude.{IfSome, vec_len, ◌≡◌, ◌+◌};
+ghost use Rattle.driver_cas.specs.Listening.{SawMore};
+ghost use Rattle.holding_example.specs.Holding.{HoldsClaim, IsAsker, IsOnlyWorker, IsServerPass, one_slot, two_pairs};
+ghost use Rattle.meet_lock.specs.Passes.{seen};
+ghost use Rattle.shared_system.specs.Callers.{AreCallersOf, AreLastHosts, AreLastWorkers, IsHostOf, IsLastPass};
 ghost use Rattle.slot_alloc.specs.Areas.{area};
 ghost use Rattle.slot_alloc.specs.Claims.{IsClaimingOf, IsUnreleased};
 ghost use Rattle.slot_alloc.specs.Progresses.{IsClaimingOn, IsHeldOn, IsUnreleasedOn};
 
-use driver_cas::SharedPort;
-use driver_rows::{Bench, BenchHost, BenchSpares, Server, caller_of, hears, host_of, serves};
+use driver_cas::{Driver, SharedPort};
+use history::Config;
+use meet_lock::Pass;
 use nvme_model::array::Range;
 use serving_laws::a_server_goes_on;
+use shared_system::{Callers, HostPasses, System, WorkerPasses, serve};
 use slot_alloc::laws::an_untouched_driver_keeps_its_slots;
 use slot_alloc::{Claim, Claiming, Progress, Slots, poll_claim};
-use slot_hosts::driver_laws::a_host_goes_on;
-use std::alloc::{AllocError as NoMemory, Global};
+use slot_hosts::driver_laws::{a_host_goes_on, a_new_driver_is_a_host};
+use std::alloc::Global;
 use std::snapshot::Snapshot;
 use std::sync::Wait;
+use step_core::Core;
+use work_queue::{Notice, QueuePass};
 
 /// What a host holds: its claim, which was left held.
 pub(crate) type HeldClaim = Option<Snapshot<Claim>>;
 
-// A list of one queue.
-fn queues_of(alloc: Global, queue: u16) -> Result<Vec<u16>, NoMemory>
-    ensures { IfOk result (λ q. q.items ≡ queue ∷ []) }
-{
-    let mut queues = Vec::new(alloc);
-    queues.push(queue)?;
-    Ok(queues)
+/// The host of a completion queue: its driver, and its pass of the queue of notices.
+#[derive(Drop)]
+pub(crate) struct Asker<'a> {
+    pub(crate) driver: Driver<SharedPort<'a>>,
+    pub(crate) notices: QueuePass<Notice>,
 }
 
-// Host h.
-fn asker_of<'a>(alloc: Global, bench: &'a Bench, caller: Server, h: u16) -> Option<BenchHost<'a>>
-    requires caller { IsServerOf bench.now caller × (seen caller.pass ≡ []) × (number caller.pass ≡ h) }
-    requires two { (1 ≤ h) × (h ≤ bench.now.config.pairs) × (bench.now.config.cqs ≡ bench.now.config.pairs) }
-    ensures { IfSome result (IsAsker bench.entry.now h) }
-{
-    let Ok(queues) = queues_of(alloc, h) else {
-        return None;
-    };
-    let slots = Range { slba: 0, blocks: 1 };
-    host_of(alloc, bench, caller, u32::from(h), slots, h, queues)
+/// All who have passes of the system: its worker, which serves, its fetcher, which does nothing, and hosts 1 and 2.
+#[derive(Drop)]
+pub(crate) struct Seats<'a> {
+    pub(crate) server: WorkerPasses,
+    pub(crate) fetcher: Pass<Core>,
+    pub(crate) one: Asker<'a>,
+    pub(crate) two: Asker<'a>,
 }
 
-/// A server with the last of three passes, and hosts 1 and 2; None where memory is refused.
+// The one worker.
+#[tactic(auto, using(crate::proofs::Seats::only_worker))]
+fn worker_of(
+    _system: &System<()>,
+    _config: &Config,
+    mut workers: Vec<WorkerPasses>,
+) -> Option<WorkerPasses>
+    requires each { AreLastWorkers _system.now _config.now 4 1 workers.items }
+    requires count { vec_len workers ≡ 1 }
+    ensures { IfSome result (IsOnlyWorker _system.now) }
+{
+    workers.pop()
+}
+
+// The passes of the last of these hosts.
+#[tactic(auto, using(crate::proofs::Seats::last_host, crate::proofs::Seats::hosts_rest))]
+fn next_passes(
+    _system: &System<()>,
+    _config: &Config,
+    hosts: &mut Vec<HostPasses>,
+) -> Option<HostPasses>
+    requires { AreLastHosts _system.now _config.now 4 hosts.old.items }
+    ensures rest { AreLastHosts _system.now _config.now 4 hosts.new.items }
+    ensures host { IfSome result (λ h. IsHostOf _system.now _config.now h × IsLastPass _config.now 4 h) }
+    ensures queue { IfSome result (λ h. h.queue + vec_len hosts.new ≡ _config.now.cqs) }
+    ensures count { IfSome result (λ _. vec_len hosts.new + 1 ≡ vec_len hosts.old) }
+{
+    hosts.pop()
+}
+
+// Host h, whose slot is block 0; None where memory is refused.
+#[tactic(auto, using(crate::proofs::Seats::owns_own))]
+fn asker_of<'a>(
+    alloc: Global,
+    config: &Config,
+    system: &'a System<()>,
+    passes: HostPasses,
+    h: u16,
+) -> Option<Asker<'a>>
+    requires passes { IsHostOf system.now config.now passes × IsLastPass config.now 4 passes }
+    requires queue { passes.queue ≡ h }
+    requires config { config.now ≡ two_pairs }
+    ensures { IfSome result (IsAsker system.entry.now h) }
+{
+    let HostPasses { pass, notices, .. } = passes;
+    let queues = [h].to_vec(alloc).ok()?;
+    let acwu = config.numbers().atomic.acwu;
+    let port = SharedPort::new(&system.engine, pass, h);
+    let slot = Range { slba: 0, blocks: 1 };
+    match Driver::new(alloc, port, u32::from(h), acwu, slot, queues) {
+        Ok(driver) => {
+            a_new_driver_is_a_host(&driver);
+            Some(Asker { driver, notices })
+        }
+        Err(_) => None,
+    }
+}
+
+// Hosts 1 and 2; None where memory is refused.
+fn askers_of<'a>(
+    alloc: Global,
+    config: &Config,
+    system: &'a System<()>,
+    mut hosts: Vec<HostPasses>,
+) -> Option<(Asker<'a>, Asker<'a>)>
+    requires hosts { AreLastHosts system.now config.now 4 hosts.items × (vec_len hosts ≡ 2) }
+    requires config { config.now ≡ two_pairs }
+    ensures { IfSome result (λ a. IsAsker system.entry.now 1 a.0 × IsAsker system.entry.now 2 a.1) }
+{
+    let first = next_passes(system, config, &mut hosts)?;
+    let second = next_passes(system, config, &mut hosts)?;
+    let one = asker_of(alloc, config, system, first, 1)?;
+    let two = asker_of(alloc, config, system, second, 2)?;
+    Some((one, two))
+}
+
+/// All who have passes of the system; None where memory is refused.
+#[tactic(auto, using(crate::proofs::Seats::fetcher_serves))]
 pub(crate) fn seats_of<'a>(
     alloc: Global,
-    bench: &'a Bench,
-    spares: &mut BenchSpares,
-) -> Option<(Server, BenchHost<'a>, BenchHost<'a>)>
-    requires own { AreBenchSpares bench.now spares.old }
-    requires three { AreNumbered 3 spares.old × (vec_len spares.old.passes ≡ 3) }
-    requires config { bench.now.config ≡ config_numbers 8 1 1 0 0 2 4 4 8 2 }
-    ensures server { IfSome result (λ s. IsThird bench.entry.now s.0) }
-    ensures one { IfSome result (λ s. IsAsker bench.entry.now 1 s.1) }
-    ensures two { IfSome result (λ s. IsAsker bench.entry.now 2 s.2) }
+    config: &Config,
+    system: &'a System<()>,
+    callers: Callers,
+) -> Option<Seats<'a>>
+    requires callers { AreCallersOf system.now config.now 1 callers }
+    requires config { config.now ≡ two_pairs }
+    ensures server { IfSome result (λ s. IsOnlyWorker system.entry.now s.server) }
+    ensures fetcher { IfSome result (λ s. IsServerPass system.entry.now 2 s.fetcher) }
+    ensures hosts { IfSome result (λ s. IsAsker system.entry.now 1 s.one × IsAsker system.entry.now 2 s.two) }
 {
-    let server = caller_of(bench, spares)?;
-    a_server_goes_on();
-    let second = caller_of(bench, spares)?;
-    let first = caller_of(bench, spares)?;
-    let one = asker_of(alloc, bench, first, 1)?;
-    let two = asker_of(alloc, bench, second, 2)?;
-    Some((server, one, two))
+    let Callers {
+        fetcher,
+        workers,
+        hosts,
+    } = callers;
+    let server = worker_of(system, config, workers)?;
+    let (one, two) = askers_of(alloc, config, system, hosts)?;
+    Some(Seats {
+        server,
+        fetcher: fetcher.pass,
+        one,
+        two,
+    })
 }
 
 // Begins to ask for the slot.
 fn begins<'a>(
-    _bench: &Bench,
+    _system: &System<()>,
     slots: &Slots,
-    host: &mut BenchHost<'a>,
+    host: &mut Asker<'a>,
     _h: u16,
 ) -> Option<Claiming<SharedPort<'a>>>
-    requires host { IsAsker _bench.now _h host.old }
+    requires host { IsAsker _system.now _h host.old }
     requires slots { area slots.now ≡ one_slot }
-    ensures host { IsAsker _bench.now _h host.new }
+    ensures host { IsAsker _system.now _h host.new }
     ensures claiming { IfSome result (λ k. IsClaimingOf host.new.driver k × IsUnreleased host.new.driver k) }
 {
     let old = Snapshot::of(&host.driver);
@@ -85,35 +166,45 @@ fn begins<'a>(
     claiming.ok()
 }
 
-// Learns of each completion.
+// Serves what was published to queue h.
+fn serves<R: Wait>(rt: &R, system: &System<()>, server: &mut WorkerPasses, h: u16)
+    requires { IsOnlyWorker system.now server.old }
+    ensures { IsOnlyWorker system.now server.new }
+{
+    serve(rt, system, server, h);
+}
+
+// Learns of the next completion, if one was posted.
 fn listens<'a, R: Wait>(
     rt: &R,
-    bench: &Bench,
-    host: &mut BenchHost<'a>,
-    _h: u16,
+    system: &System<()>,
+    host: &mut Asker<'a>,
+    h: u16,
     _claiming: &Claiming<SharedPort<'a>>,
 )
-    requires host { IsAsker bench.now _h host.old }
+    requires host { IsAsker system.now h host.old }
     requires claiming { IsClaimingOf host.old.driver _claiming.now × IsUnreleased host.old.driver _claiming.now }
-    ensures host { IsAsker bench.now _h host.new }
+    ensures host { IsAsker system.now h host.new }
     ensures claiming { IsClaimingOf host.new.driver _claiming.now × IsUnreleased host.new.driver _claiming.now }
 {
     let old = Snapshot::of(&host.driver);
-    hears(rt, bench, host);
+    let place = usize::from(h - 1);
+    host.driver
+        .listen(rt, &system.notices[place], &mut host.notices);
     a_host_goes_on(&old, &host.driver);
     an_untouched_driver_keeps_its_slots(&old, &host.driver);
 }
 
 // Asks what has come of it.
 fn polls<'a>(
-    _bench: &Bench,
-    host: &mut BenchHost<'a>,
+    _system: &System<()>,
+    host: &mut Asker<'a>,
     _h: u16,
     claiming: Claiming<SharedPort<'a>>,
 ) -> Progress<SharedPort<'a>>
-    requires host { IsAsker _bench.now _h host.old }
+    requires host { IsAsker _system.now _h host.old }
     requires claiming { IsClaimingOf host.old.driver claiming × IsUnreleased host.old.driver claiming }
-    ensures host { IsAsker _bench.now _h host.new }
+    ensures host { IsAsker _system.now _h host.new }
     ensures claiming { IsClaimingOn host.new.driver result }
     ensures unreleased { IsUnreleasedOn host.new.driver result }
     ensures held { IsHeldOn host.new.driver result }
@@ -126,20 +217,20 @@ fn polls<'a>(
 
 // Polls a claim at most so many times; what the host holds then.
 fn answered<'a>(
-    bench: &Bench,
-    host: &mut BenchHost<'a>,
+    system: &System<()>,
+    host: &mut Asker<'a>,
     h: u16,
     claiming: Claiming<SharedPort<'a>>,
     most: u32,
 ) -> HeldClaim
-    requires host { IsAsker bench.now h host.old }
+    requires host { IsAsker system.now h host.old }
     requires claiming { IsClaimingOf host.old.driver claiming × IsUnreleased host.old.driver claiming }
-    ensures host { IsAsker bench.now h host.new }
+    ensures host { IsAsker system.now h host.new }
     ensures held { HoldsClaim host.new result }
 {
     let mut claiming = claiming;
     for _ in 0..most {
-        match polls(bench, host, h, claiming) {
+        match polls(system, host, h, claiming) {
             Progress::Pending(next) => claiming = next,
             Progress::Held(claim) => {
                 let held = Snapshot::of(&claim);
@@ -153,39 +244,41 @@ fn answered<'a>(
     None
 }
 
-/// Host h asks for the slot, is served, and leaves it held where it was free.
+/// Host h asks for the slot, is served, and leaves it held where it was free. A pair has two completions: the host
+/// listens twice, and polls at most twice.
 pub(crate) fn asks<R: Wait>(
     rt: &R,
-    bench: &Bench,
-    server: &mut Server,
+    system: &System<()>,
+    server: &mut WorkerPasses,
     slots: &Slots,
-    host: &mut BenchHost<'_>,
+    host: &mut Asker<'_>,
     h: u16,
 ) -> HeldClaim
-    requires host { IsAsker bench.now h host.old }
-    requires server { IsThird bench.now server.old }
+    requires host { IsAsker system.now h host.old }
+    requires server { IsOnlyWorker system.now server.old }
     requires slots { area slots.now ≡ one_slot }
-    ensures host { IsAsker bench.now h host.new }
-    ensures server { IsThird bench.now server.new }
+    ensures host { IsAsker system.now h host.new }
+    ensures server { IsOnlyWorker system.now server.new }
     ensures held { HoldsClaim host.new result }
 {
-    let claiming = begins(bench, slots, host, h)?;
-    serves(rt, bench, server, h);
-    listens(rt, bench, host, h, &claiming);
-    answered(bench, host, h, claiming, 2)
+    let claiming = begins(system, slots, host, h)?;
+    serves(rt, system, server, h);
+    listens(rt, system, host, h, &claiming);
+    listens(rt, system, host, h, &claiming);
+    answered(system, host, h, claiming, 2)
 }
 
 /// Both hosts have seen one history; None where another caller had the controller. What they hold they hold still.
 pub(crate) fn meets(
-    _bench: &Bench,
-    one: &mut BenchHost<'_>,
-    two: &mut BenchHost<'_>,
+    _system: &System<()>,
+    one: &mut Asker<'_>,
+    two: &mut Asker<'_>,
     _held: &(HeldClaim, HeldClaim),
 ) -> Option<()>
-    requires hosts { IsAsker _bench.now 1 one.old × IsAsker _bench.now 2 two.old }
+    requires hosts { IsAsker _system.now 1 one.old × IsAsker _system.now 2 two.old }
     requires held { HoldsClaim one.old _held.now.0 × HoldsClaim two.old _held.now.1 }
-    ensures one { IsAsker _bench.now 1 one.new }
-    ensures two { IsAsker _bench.now 2 two.new }
+    ensures one { IsAsker _system.now 1 one.new }
+    ensures two { IsAsker _system.now 2 two.new }
     ensures held { HoldsClaim one.new _held.now.0 × HoldsClaim two.new _held.now.1 }
     ensures met { IfSome result (λ _. seen one.new.driver.port.pass ≡ seen two.new.driver.port.pass) }
 {
@@ -196,4 +289,30 @@ pub(crate) fn meets(
     an_untouched_driver_keeps_its_slots(&first, &one.driver);
     an_untouched_driver_keeps_its_slots(&second, &two.driver);
     met.ok()
+}
+
+/// Host 1 and a pass that serves have seen one history; None where another caller had the controller. What the host
+/// holds it holds still.
+pub(crate) fn meets_server(
+    _system: &System<()>,
+    host: &mut Asker<'_>,
+    pass: &mut Pass<Core>,
+    _k: u16,
+    _held: &HeldClaim,
+) -> Option<()>
+    requires host { IsAsker _system.now 1 host.old }
+    requires pass { IsServerPass _system.now _k pass.old }
+    requires held { HoldsClaim host.old _held.now }
+    ensures host { IsAsker _system.now 1 host.new }
+    ensures pass { IfSome result (λ _. IsServerPass _system.now _k pass.new) }
+    ensures held { HoldsClaim host.new _held.now }
+    ensures saw { SawMore host.old.driver.port host.new.driver.port }
+    ensures met { IfSome result (λ _. seen host.new.driver.port.pass ≡ seen pass.new) }
+{
+    let old = Snapshot::of(&host.driver);
+    let met_pass = host.driver.meet_pass(pass);
+    a_host_goes_on(&old, &host.driver);
+    an_untouched_driver_keeps_its_slots(&old, &host.driver);
+    a_server_goes_on();
+    met_pass.ok()
 }

@@ -2,41 +2,38 @@
 #![tactic(auto)]
 
 ghost use Rattle.std.specs.Prelude.{IfSome, false, ◌&&◌, ◌≡◌};
-ghost use Rattle.holding_example.specs.Holding.{HoldsClaim, IsAsker, IsThird};
+ghost use Rattle.holding_example.specs.Holding.{HoldsClaim, IsAsker, IsServerPass};
 
 mod asking;
 
-use asking::{HeldClaim, asks, meets, seats_of};
-use driver_rows::{Bench, BenchHost, Server, small_bench};
-use serving_laws::{a_server_goes_on, what_a_server_has_seen};
+use asking::{Asker, HeldClaim, Seats, asks, meets, meets_server, seats_of};
+use history::Config;
+use meet_lock::Pass;
+use serving_laws::what_a_server_has_seen;
+use shared_system::{System, system_of};
 use slot_alloc::Slots;
-use slot_alloc::laws::an_untouched_driver_keeps_its_slots;
-use slot_hosts::driver_laws::{a_host_goes_on, two_hosts_never_hold_one_slot};
+use slot_hosts::driver_laws::two_hosts_never_hold_one_slot;
 use std::process::ExitCode;
-use std::snapshot::Snapshot;
 use std::sync::Wait;
+use step_core::Core;
 
-// The hosts meet, and then the first meets the server. Which of them holds the slot; never do both.
+// The hosts meet, and then the first meets the worker and the fetcher. Which of them holds the slot; never do both.
 fn who_holds(
-    bench: &Bench,
-    server: &mut Server,
-    one: &mut BenchHost<'_>,
-    two: &mut BenchHost<'_>,
+    system: &System<()>,
+    worker: &mut Pass<Core>,
+    fetcher: &mut Pass<Core>,
+    one: &mut Asker<'_>,
+    two: &mut Asker<'_>,
     held: &(HeldClaim, HeldClaim),
 ) -> Option<(bool, bool)>
-    requires server { IsThird bench.now server.old }
-    requires hosts { IsAsker bench.now 1 one.old × IsAsker bench.now 2 two.old }
+    requires passes { IsServerPass system.now 1 worker.old × IsServerPass system.now 2 fetcher.old }
+    requires hosts { IsAsker system.now 1 one.old × IsAsker system.now 2 two.old }
     requires held { HoldsClaim one.old held.now.0 × HoldsClaim two.old held.now.1 }
     ensures { IfSome result (λ h. (h.0 && h.1) ≡ false) }
 {
-    meets(bench, one, two, held)?;
-    let met = Snapshot::of(&one.driver);
-    let Ok(()) = one.driver.meet_pass(&mut server.pass) else {
-        return None;
-    };
-    a_host_goes_on(&met, &one.driver);
-    an_untouched_driver_keeps_its_slots(&met, &one.driver);
-    a_server_goes_on();
+    meets(system, one, two, held)?;
+    meets_server(system, one, worker, 1, &held.0)?;
+    meets_server(system, one, fetcher, 2, &held.0)?;
     what_a_server_has_seen();
     two_hosts_never_hold_one_slot(&one.driver, &two.driver);
     Some((held.0.is_some(), held.1.is_some()))
@@ -47,11 +44,29 @@ fn contest<R: AllocGlobal + Wait>(rt: &R) -> Option<(bool, bool)>
     ensures { IfSome result (λ h. (h.0 && h.1) ≡ false) }
 {
     let slots = Slots::new(0, 1);
-    let (bench, mut spares) = small_bench(rt.alloc(), 4, 3)?;
-    let (mut server, mut one, mut two) = seats_of(rt.alloc(), &bench, &mut spares)?;
-    let first = asks(rt, &bench, &mut server, &slots, &mut one, 1);
-    let second = asks(rt, &bench, &mut server, &slots, &mut two, 2);
-    who_holds(&bench, &mut server, &mut one, &mut two, &(first, second))
+    let Ok(config) = Config::new(8, 1, 1, 0, 0, 2, 4, 4, 8) else {
+        return None;
+    };
+    let Ok((system, callers)) = system_of(rt.alloc(), config, (), 1) else {
+        return None;
+    };
+    let Seats {
+        mut server,
+        mut fetcher,
+        mut one,
+        mut two,
+    } = seats_of(rt.alloc(), &config, &system, callers)?;
+    let first = asks(rt, &system, &mut server, &slots, &mut one, 1);
+    let second = asks(rt, &system, &mut server, &slots, &mut two, 2);
+    let worker = &mut server.caller.pass;
+    who_holds(
+        &system,
+        worker,
+        &mut fetcher,
+        &mut one,
+        &mut two,
+        &(first, second),
+    )
 }
 
 fn main(rt: HostRuntime) -> ExitCode {
