@@ -1,4 +1,5 @@
-//! Histories in words: a line for a line, with the names that the standard gives commands, statuses and fields.
+//! Says histories in words, for whoever reads one: a line for a line, with the names that the standard gives commands,
+//! statuses and fields.
 #![tactic(auto)]
 
 mod beside;

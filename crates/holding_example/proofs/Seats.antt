@@ -1,6 +1,6 @@
 -- Who has which pass of the system.
-use Rattle.std.proofs.Common.{All, Bool, List, None, Some, [], arith, eq-eqb, le-leb, length-append, refl, sym, true, ℕ}
-use Rattle.std.proofs.Common.{◌&&◌, ◌+◌, ◌++◌, ◌∙◌, ◌∷◌, ◌≡◌, ◌≤◌, length, slice_get, suc, zero}
+use Rattle.std.proofs.Common.{All, Bool, List, None, Some, [], arith, eq-eqb, le-leb, length-append, refl, true, ℕ}
+use Rattle.std.proofs.Common.{◌&&◌, ◌+◌, ◌++◌, ◌∷◌, ◌≡◌, ◌≤◌, length, slice_get, suc, zero}
 use Rattle.std.proofs.lemmas.List.Elements.{All-cons, All-nil, All-same}
 use Rattle.nvme_model.specs.Config.{completion_queue}
 use Rattle.nvme_model.proofs.Numbers.{own_queue}

@@ -1,4 +1,5 @@
-//! Whether a legal history keeps the discipline of an area of lock slots.
+//! Says whether the hosts of a legal history keep the discipline of an area of lock slots, and which rule an entry
+//! breaks first: for whoever checks a history.
 #![tactic(auto)]
 
 mod area;
