@@ -5,7 +5,7 @@ use seen_trace::Seen;
 use std::alloc::Global;
 use std::test::Fail;
 use trace_lines::parse_seen;
-use trace_observed::{Observed, Why, observe};
+use trace_observed::{Observed, Obstacle, observe};
 use trace_rings::Unfit;
 
 // A Write of A1 to block 3 by queue 1, answered; a Read of it by queue 2, answered.
@@ -44,7 +44,7 @@ fn trace_of(alloc: Global, lines: &[&[u8]]) -> Result<Vec<Seen>, Fail> {
 #[derive(Clone, Copy, Debug, PartialEq, Eq)]
 enum Said {
     Explained,
-    NotFound(usize, Why),
+    NotFound(usize, Obstacle),
     GaveUp,
 }
 
@@ -80,23 +80,23 @@ fn none_is_found_for_what_no_controller_gives(rt: HostRuntime) -> Result<(), Fai
     let stale = [TRACE[0], TRACE[1], TRACE[2], STALE];
     assert_eq!(rt;
         asked(alloc, &config()?, &stale, 1000)?,
-        Said::NotFound(4, Why::Status)
+        Said::NotFound(4, Obstacle::Status)
     );
     let older: &[u8] = b"reap 2 00000000000000000100020002000100 00";
     let stale = [TRACE[0], TRACE[1], TRACE[2], older];
     assert_eq!(rt;
         asked(alloc, &config()?, &stale, 1000)?,
-        Said::NotFound(4, Why::Order)
+        Said::NotFound(4, Obstacle::Order)
     );
     let failed: &[u8] = b"reap 1 00000000000000000100010001000101 -";
     assert_eq!(rt;
         asked(alloc, &config()?, &[TRACE[0], failed], 1000)?,
-        Said::NotFound(2, Why::Status)
+        Said::NotFound(2, Obstacle::Status)
     );
     let phase: &[u8] = b"reap 1 00000000000000000100010001000000 -";
     assert_eq!(rt;
         asked(alloc, &config()?, &[TRACE[0], phase], 1000)?,
-        Said::NotFound(2, Why::Unfit(Unfit::Phase))
+        Said::NotFound(2, Obstacle::Unfit(Unfit::Phase))
     );
     Ok(())
 }

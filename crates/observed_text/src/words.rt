@@ -2,7 +2,7 @@
 
 use line_text::{Word, send, send_behind, send_words};
 use std::io::{Result as IoResult, Write};
-use trace_observed::{Command, Reason, Why};
+use trace_observed::{CommandName, Obstacle, Unexplained};
 use trace_rings::Unfit;
 
 fn unfit_text(unfit: Unfit) -> &'static [u8] {
@@ -14,19 +14,19 @@ fn unfit_text(unfit: Unfit) -> &'static [u8] {
     }
 }
 
-fn command_text(command: Command) -> &'static [u8] {
+fn command_text(command: CommandName) -> &'static [u8] {
     match command {
-        Command::Flush => b"the Flush",
-        Command::Write => b"the Write",
-        Command::Read => b"the Read",
-        Command::Compare => b"the Compare",
-        Command::WriteZeroes => b"the Write Zeroes",
-        Command::Other => b"the command",
+        CommandName::Flush => b"the Flush",
+        CommandName::Write => b"the Write",
+        CommandName::Read => b"the Read",
+        CommandName::Compare => b"the Compare",
+        CommandName::WriteZeroes => b"the Write Zeroes",
+        CommandName::Other => b"the command",
     }
 }
 
 // Writes which command it is: `the Read with CID 7 of queue 1 (line 12)`.
-fn send_command<W: Write>(reason: &Reason, writer: &mut W) -> IoResult<()> {
+fn send_command<W: Write>(reason: &Unexplained, writer: &mut W) -> IoResult<()> {
     send_words(
         writer,
         &[
@@ -43,7 +43,7 @@ fn send_command<W: Write>(reason: &Reason, writer: &mut W) -> IoResult<()> {
 }
 
 // Writes that no command with this identifier is out.
-fn send_nobody<W: Write>(reason: &Reason, writer: &mut W) -> IoResult<()> {
+fn send_nobody<W: Write>(reason: &Unexplained, writer: &mut W) -> IoResult<()> {
     send_words(
         writer,
         &[
@@ -57,7 +57,7 @@ fn send_nobody<W: Write>(reason: &Reason, writer: &mut W) -> IoResult<()> {
 }
 
 // Writes that a command found what nobody wrote.
-fn send_found<W: Write>(reason: &Reason, block: u64, writer: &mut W) -> IoResult<()> {
+fn send_found<W: Write>(reason: &Unexplained, block: u64, writer: &mut W) -> IoResult<()> {
     send_command(reason, writer)?;
     send_behind(
         writer,
@@ -70,21 +70,21 @@ fn send_found<W: Write>(reason: &Reason, block: u64, writer: &mut W) -> IoResult
 }
 
 // Writes what is the matter.
-fn send_why<W: Write>(reason: &Reason, writer: &mut W) -> IoResult<()> {
+fn send_why<W: Write>(reason: &Unexplained, writer: &mut W) -> IoResult<()> {
     match reason.why {
-        Why::Unfit(unfit) => send(writer, unfit_text(unfit)),
-        Why::NoRoom => send(writer, b"no completion before it says that there is room"),
-        Why::NoCommand => send_nobody(reason, writer),
-        Why::Value(block) => send_found(reason, block, writer),
-        Why::Head => {
+        Obstacle::Unfit(unfit) => send(writer, unfit_text(unfit)),
+        Obstacle::NoRoom => send(writer, b"no completion before it says that there is room"),
+        Obstacle::NoCommand => send_nobody(reason, writer),
+        Obstacle::Value(block) => send_found(reason, block, writer),
+        Obstacle::Head => {
             send_command(reason, writer)?;
             send(writer, b" can't have this SQHD")
         }
-        Why::Status => {
+        Obstacle::Status => {
             send_command(reason, writer)?;
             send(writer, b" can't end with this status or this data")
         }
-        Why::Order => {
+        Obstacle::Order => {
             send_command(reason, writer)?;
             send(
                 writer,
@@ -95,7 +95,7 @@ fn send_why<W: Write>(reason: &Reason, writer: &mut W) -> IoResult<()> {
 }
 
 /// Writes `not found: `, up to which line of the file, and why.
-pub(crate) fn send_reason<W: Write>(reason: &Reason, writer: &mut W) -> IoResult<()> {
+pub(crate) fn send_reason<W: Write>(reason: &Unexplained, writer: &mut W) -> IoResult<()> {
     send_words(
         writer,
         &[

@@ -8,4 +8,4 @@ mod reason;
 mod reasons;
 
 pub use crate::observing::{Observed, observe};
-pub use crate::reason::{Command, Reason, Why};
+pub use crate::reason::{CommandName, Obstacle, Unexplained};

@@ -4,13 +4,13 @@ ghost use Rattle.std.specs.Prelude.{IfOk, reverse};
 ghost use Rattle.trace_observed.specs.Observed.{IsExplained};
 
 use crate::beginnings::least_beginning;
-use crate::reason::Reason;
+use crate::reason::Unexplained;
 use crate::reasons::reason_of;
 use history::{Config, Entry};
 use seen_trace::Seen;
 use std::alloc::{AllocError as NoMemory, Global};
 use trace_rings::read_tables;
-use trace_search::{Found, search_history};
+use trace_search::{Outcome, search_history};
 use trace_witness::write_witness;
 use witness_check::certify;
 
@@ -20,7 +20,7 @@ pub enum Observed {
     /// This history explains it, the oldest entry first.
     Explained(Vec<Entry>),
     /// No history was found, in all that there is to try, and maybe this is why. Nothing is promised of it.
-    NotFound(Reason),
+    NotFound(Unexplained),
     /// The steps were used up, or what was found explains something else.
     GaveUp,
 }
@@ -32,7 +32,7 @@ fn reason(
     trace: &[Seen],
     known: usize,
     steps: u64,
-) -> Result<Reason, NoMemory> {
+) -> Result<Unexplained, NoMemory> {
     let lines = least_beginning(alloc, config, trace, known, steps)?;
     let front = match trace.get(..lines) {
         Some(front) => front,
@@ -72,12 +72,12 @@ pub fn observe(
 {
     let tables = read_tables(alloc, config, trace)?;
     match search_history(alloc, &tables, steps)? {
-        Found::NotFound(known) => {
+        Outcome::NotFound(known) => {
             let reason = reason(alloc, config, trace, known, steps)?;
             Ok(Observed::NotFound(reason))
         }
-        Found::GaveUp => Ok(Observed::GaveUp),
-        Found::History(walk) => {
+        Outcome::GaveUp => Ok(Observed::GaveUp),
+        Outcome::History(walk) => {
             let entries = write_witness(alloc, &tables, trace, &walk)?;
             certified(alloc, config, trace, entries)
         }

@@ -4,7 +4,7 @@ use trace_rings::Unfit;
 
 /// What is the matter with the last of the first lines for which no history was found.
 #[derive(Clone, Copy, Debug, PartialEq, Eq)]
-pub enum Why {
+pub enum Obstacle {
     /// The line itself can't be so.
     Unfit(Unfit),
     /// No completion before it says that there is room.
@@ -23,7 +23,7 @@ pub enum Why {
 
 /// What a command is called.
 #[derive(Clone, Copy, Debug, PartialEq, Eq)]
-pub enum Command {
+pub enum CommandName {
     Flush,
     Write,
     Read,
@@ -34,14 +34,14 @@ pub enum Command {
 
 /// Why no history was found.
 #[derive(Clone, Copy, Debug, Drop, PartialEq, Eq)]
-pub struct Reason {
+pub struct Unexplained {
     /// For so many first lines of the trace, the fewest, none was found.
     pub lines: usize,
-    pub why: Why,
+    pub why: Obstacle,
     /// The submission queue, from 1, and the identifier of the command that the last of them is for.
     pub queue: u16,
     pub cid: u16,
-    pub command: Command,
+    pub command: CommandName,
     /// The number of the line, from 1, at which it was published.
     pub published: usize,
 }

@@ -1,24 +1,24 @@
 //! What is the matter with the last of so many lines.
 
-use crate::reason::{Command, Reason, Why};
+use crate::reason::{CommandName, Obstacle, Unexplained};
 use entry_codec::{Sqe, Status};
 use fused_match::{Judged, judge};
 use nvme_model::operation::Op;
-use trace_rings::{Awaited, Line, Published, Tables};
+use trace_rings::{Awaited, Line, Published, TraceTables};
 
-fn command_of(sqe: &Sqe) -> Command {
+fn command_of(sqe: &Sqe) -> CommandName {
     if sqe.is_flush() {
-        Command::Flush
+        CommandName::Flush
     } else if sqe.is_write() {
-        Command::Write
+        CommandName::Write
     } else if sqe.is_read() {
-        Command::Read
+        CommandName::Read
     } else if sqe.is_compare() {
-        Command::Compare
+        CommandName::Compare
     } else if sqe.is_write_zeroes() {
-        Command::WriteZeroes
+        CommandName::WriteZeroes
     } else {
-        Command::Other
+        CommandName::Other
     }
 }
 
@@ -47,7 +47,7 @@ fn can_end(judged: &Judged, second: bool, status: Status, length: usize) -> bool
 }
 
 // What becomes of the entry of this number, or of the pair that it is the second of.
-fn judged_at(tables: &Tables, queue: usize, number: usize) -> Option<(Judged, bool)> {
+fn judged_at(tables: &TraceTables, queue: usize, number: usize) -> Option<(Judged, bool)> {
     let entry = tables.entry(queue, number)?;
     let before = number.checked_sub(1);
     if entry.item.sqe().fuse() == 2 {
@@ -85,7 +85,7 @@ fn is_of_the_moment(status: Status) -> bool {
 }
 
 // Whether an entry writes this value to a block.
-fn writes(tables: &Tables, entry: &Published, block: u64, value: u64) -> bool {
+fn writes(tables: &TraceTables, entry: &Published, block: u64, value: u64) -> bool {
     let sqe = entry.item.sqe();
     let place = block.saturating_sub(sqe.slba());
     sqe.is_write()
@@ -95,7 +95,7 @@ fn writes(tables: &Tables, entry: &Published, block: u64, value: u64) -> bool {
 }
 
 // Whether any entry writes this value to a block.
-fn is_written(tables: &Tables, block: u64, value: u64) -> bool {
+fn is_written(tables: &TraceTables, block: u64, value: u64) -> bool {
     if value == 0 {
         return true;
     }
@@ -110,7 +110,7 @@ fn is_written(tables: &Tables, block: u64, value: u64) -> bool {
 }
 
 // The first block of a Read whose value nobody writes.
-fn unwritten(tables: &Tables, sqe: &Sqe, completion: &Awaited) -> Option<u64> {
+fn unwritten(tables: &TraceTables, sqe: &Sqe, completion: &Awaited) -> Option<u64> {
     if !sqe.is_read() || completion.cqe.status != Status::SUCCESS {
         return None;
     }
@@ -139,7 +139,7 @@ fn next_at(number: usize, head: usize, size: usize) -> usize {
 }
 
 // Whether the SQHD of a completion, the last one, can mean a number of entries that were published.
-fn has_head(tables: &Tables, completion: &Awaited) -> bool {
+fn has_head(tables: &TraceTables, completion: &Awaited) -> bool {
     let size = usize::from(tables.numbers.sq_size);
     let mut fetched = 0usize;
     let count = match tables.awaited.get(completion.queue) {
@@ -161,31 +161,31 @@ fn has_head(tables: &Tables, completion: &Awaited) -> bool {
     }
 }
 
-fn why_of(tables: &Tables, completion: &Awaited, entry: &Published) -> Why {
+fn why_of(tables: &TraceTables, completion: &Awaited, entry: &Published) -> Obstacle {
     let sqe = entry.item.sqe();
     let status = completion.cqe.status;
     if let Some((judged, second)) = judged_at(tables, completion.queue, completion.entry) {
         if !can_end(&judged, second, status, completion.length) && !is_of_the_moment(status) {
-            return Why::Status;
+            return Obstacle::Status;
         }
     }
     if !has_head(tables, completion) {
-        return Why::Head;
+        return Obstacle::Head;
     }
     match unwritten(tables, &sqe, completion) {
-        Some(block) => Why::Value(block),
-        None => Why::Order,
+        Some(block) => Obstacle::Value(block),
+        None => Obstacle::Order,
     }
 }
 
 // What is the matter with a completion, the last line.
-fn completion_reason(tables: &Tables, lines: usize, completion: &Awaited) -> Reason {
-    let mut reason = Reason {
+fn completion_reason(tables: &TraceTables, lines: usize, completion: &Awaited) -> Unexplained {
+    let mut reason = Unexplained {
         lines,
-        why: Why::NoCommand,
+        why: Obstacle::NoCommand,
         queue: completion.cqe.sqid,
         cid: completion.cqe.cid,
-        command: Command::Other,
+        command: CommandName::Other,
         published: 0,
     };
     if let Some(entry) = tables.entry(completion.queue, completion.entry) {
@@ -199,18 +199,18 @@ fn completion_reason(tables: &Tables, lines: usize, completion: &Awaited) -> Rea
 }
 
 /// What is the matter with the last of so many lines, which these tables are of.
-pub(crate) fn reason_of(tables: &Tables, lines: usize) -> Reason {
-    let plain = Reason {
+pub(crate) fn reason_of(tables: &TraceTables, lines: usize) -> Unexplained {
+    let plain = Unexplained {
         lines,
-        why: Why::NoRoom,
+        why: Obstacle::NoRoom,
         queue: 0,
         cid: 0,
-        command: Command::Other,
+        command: CommandName::Other,
         published: 0,
     };
     if let Some(unfit) = tables.unfit {
-        return Reason {
-            why: Why::Unfit(unfit),
+        return Unexplained {
+            why: Obstacle::Unfit(unfit),
             ..plain
         };
     }

@@ -10,5 +10,5 @@ mod values;
 
 pub use crate::numbers::{number_at, set_number, zeros};
 pub use crate::scanning::read_tables;
-pub use crate::tables::{Awaited, Line, Need, Published, Tables, Unfit};
+pub use crate::tables::{Awaited, Line, Need, Published, TraceTables, Unfit};
 pub use crate::values::mixed;

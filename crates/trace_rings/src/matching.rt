@@ -1,6 +1,6 @@
 //! Which completion seems to be for which entry, and what that says of the values of blocks.
 
-use crate::tables::{Awaited, Need, Published, Tables};
+use crate::tables::{Awaited, Need, Published, TraceTables};
 use crate::values::mixed;
 use entry_codec::{Sqe, Status};
 use std::alloc::{AllocError as NoMemory, Global};
@@ -24,7 +24,7 @@ fn entries_by_cid(alloc: Global, entries: &[Published]) -> Result<Vec<(u16, usiz
     Ok(by_cid)
 }
 
-impl Tables {
+impl TraceTables {
     // The line at which an entry with this identifier is published, or none ever.
     fn line_of(&self, queue: usize, cid: u16, known: Option<&(u16, usize)>) -> usize {
         let Some((other, number)) = known else {
@@ -119,7 +119,7 @@ impl Sources {
     }
 
     // Notes what an entry would write.
-    fn note_writes(&mut self, tables: &mut Tables, entry: &Published) -> Result<(), NoMemory> {
+    fn note_writes(&mut self, tables: &mut TraceTables, entry: &Published) -> Result<(), NoMemory> {
         let sqe = entry.item.sqe();
         if !sqe.is_write() || entry.item.length() != sqe.data_length() {
             return Ok(());
@@ -147,7 +147,14 @@ impl Sources {
     }
 
     // Notes that a command found this value in this block.
-    fn note_found(&self, tables: &mut Tables, block: u64, value: u64, line: usize, due: usize) {
+    fn note_found(
+        &self,
+        tables: &mut TraceTables,
+        block: u64,
+        value: u64,
+        line: usize,
+        due: usize,
+    ) {
         let Some(place) = self.place(block, value) else {
             return;
         };
@@ -159,7 +166,7 @@ impl Sources {
     }
 
     // Notes what the command of a completion found.
-    fn note_completion(&self, tables: &mut Tables, completion: &Awaited) {
+    fn note_completion(&self, tables: &mut TraceTables, completion: &Awaited) {
         let Some((entry, slba, blocks, values)) = found_by(tables, completion) else {
             return;
         };
@@ -171,7 +178,7 @@ impl Sources {
     }
 
     // Links what a pair found to what it wrote.
-    fn link_pair(&self, tables: &mut Tables, heads: &mut Vec<bool>, completion: &Awaited) {
+    fn link_pair(&self, tables: &mut TraceTables, heads: &mut Vec<bool>, completion: &Awaited) {
         let Some((entry, slba, blocks, values)) = found_by(tables, completion) else {
             return;
         };
@@ -193,7 +200,7 @@ impl Sources {
 }
 
 // A pair found what lies at one place, and wrote what lies at another one.
-fn link(tables: &mut Tables, heads: &mut Vec<bool>, from: usize, to: usize) {
+fn link(tables: &mut TraceTables, heads: &mut Vec<bool>, from: usize, to: usize) {
     if !tables.need(from).alone || !tables.need(to).alone {
         return;
     }
@@ -206,7 +213,7 @@ fn link(tables: &mut Tables, heads: &mut Vec<bool>, from: usize, to: usize) {
 }
 
 // What holds of a chain holds of each of its places.
-fn join_chain(tables: &mut Tables, head: usize) {
+fn join_chain(tables: &mut TraceTables, head: usize) {
     let mut place = head;
     let mut until = 0usize;
     let mut due = usize::MAX;
@@ -236,7 +243,7 @@ fn join_chain(tables: &mut Tables, head: usize) {
 }
 
 // Links pairs to what they found, and joins the chains that come of it.
-fn join_chains(alloc: Global, sources: &Sources, tables: &mut Tables) -> Result<(), NoMemory> {
+fn join_chains(alloc: Global, sources: &Sources, tables: &mut TraceTables) -> Result<(), NoMemory> {
     let mut heads = Vec::new(alloc);
     for _ in 0..tables.needs.len() {
         heads.push(true)?;
@@ -256,7 +263,7 @@ fn join_chains(alloc: Global, sources: &Sources, tables: &mut Tables) -> Result<
 }
 
 // The entry of a completion that says that all values were found, its blocks, and where the values lie.
-fn found_by(tables: &Tables, completion: &Awaited) -> Option<(Published, u64, usize, usize)> {
+fn found_by(tables: &TraceTables, completion: &Awaited) -> Option<(Published, u64, usize, usize)> {
     if !completion.sure || completion.cqe.status != Status::SUCCESS {
         return None;
     }
@@ -285,7 +292,7 @@ fn no_needs(alloc: Global, count: usize) -> Result<Vec<Need>, NoMemory> {
 }
 
 // Notes what all entries would write.
-fn note_all_writes(sources: &mut Sources, tables: &mut Tables) -> Result<(), NoMemory> {
+fn note_all_writes(sources: &mut Sources, tables: &mut TraceTables) -> Result<(), NoMemory> {
     for queue in 0..tables.entries.len() {
         let count = match tables.entries.get(queue) {
             Some(entries) => entries.len(),
@@ -301,7 +308,7 @@ fn note_all_writes(sources: &mut Sources, tables: &mut Tables) -> Result<(), NoM
 }
 
 /// Matches completions and entries, and fills in what has to happen around the values of blocks.
-pub(crate) fn match_completions(alloc: Global, tables: &mut Tables) -> Result<(), NoMemory> {
+pub(crate) fn match_completions(alloc: Global, tables: &mut TraceTables) -> Result<(), NoMemory> {
     for queue in 0..tables.entries.len() {
         if let Some(by_cid) = tables.by_cid.get_mut(queue) {
             by_cid.sort()?;

@@ -1,7 +1,7 @@
 //! A trace, read into tables.
 
 use crate::matching::match_completions;
-use crate::tables::{Awaited, Line, Published, Tables, Unfit};
+use crate::tables::{Awaited, Line, Published, TraceTables, Unfit};
 use crate::values::{add_values, empty_lists};
 use entry_codec::{Cqe, decode_cqe};
 use fused_match::Item;
@@ -10,9 +10,9 @@ use nvme_model::entry::PublishLine;
 use seen_trace::{ReapedLine, Seen};
 use std::alloc::{AllocError as NoMemory, Global};
 
-fn empty_tables(alloc: Global, config: &Config) -> Result<Tables, NoMemory> {
+fn empty_tables(alloc: Global, config: &Config) -> Result<TraceTables, NoMemory> {
     let numbers = config.numbers();
-    Ok(Tables {
+    Ok(TraceTables {
         numbers,
         units: config.units(),
         lines: Vec::new(alloc),
@@ -28,7 +28,7 @@ fn empty_tables(alloc: Global, config: &Config) -> Result<Tables, NoMemory> {
     })
 }
 
-impl Tables {
+impl TraceTables {
     // Adds the entries of a Publish.
     fn add_entries(&mut self, queue: usize, line: &PublishLine) -> Result<(), NoMemory> {
         let number = self.lines.len();
@@ -166,7 +166,11 @@ impl Tables {
 /// # Errors
 ///
 /// `NoMemory` alone.
-pub fn read_tables(alloc: Global, config: &Config, trace: &[Seen]) -> Result<Tables, NoMemory> {
+pub fn read_tables(
+    alloc: Global,
+    config: &Config,
+    trace: &[Seen],
+) -> Result<TraceTables, NoMemory> {
     let mut tables = empty_tables(alloc, config)?;
     for seen in trace {
         let unfit = tables.add_line(seen)?;

@@ -91,7 +91,7 @@ pub enum Unfit {
 
 /// The tables of a trace.
 #[derive(Drop)]
-pub struct Tables {
+pub struct TraceTables {
     pub numbers: ConfigNumbers,
     pub units: Units,
     /// By line.
@@ -116,7 +116,7 @@ pub struct Tables {
     pub crowded: bool,
 }
 
-impl Tables {
+impl TraceTables {
     /// The entry of a submission queue with this number.
     pub fn entry(&self, queue: usize, number: usize) -> Option<Published> {
         self.entries.get(queue)?.get(number).copied()

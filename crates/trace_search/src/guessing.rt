@@ -1,114 +1,116 @@
 //! Which of the units that can be made next is most likely right.
 
-use crate::choosing::Around;
-use crate::ticket::{Gives, Ticket};
-use crate::walk::{Choice, Walk};
+use crate::choosing::{Around, can_make, goes_before};
 use nvme_model::array::Range;
-use trace_rings::Tables;
+use trace_rings::TraceTables;
+use trace_walk::{Choice, Gives, SoughtTicket, Walk};
 
-impl Walk {
-    // What a ticket writes to a block.
-    fn value_given(&self, tables: &Tables, ticket: &Ticket, block: u64) -> u64 {
-        match ticket.gives {
-            Gives::Values(first) => tables.value(first.saturating_add(ticket.behind(block))),
-            Gives::Zeros | Gives::Nothing => 0,
-        }
+// What a ticket writes to a block.
+fn value_given(walk: &Walk, tables: &TraceTables, ticket: &SoughtTicket, block: u64) -> u64 {
+    match ticket.gives {
+        Gives::Values(first) => tables.value(first.saturating_add(ticket.behind(block))),
+        Gives::Zeros | Gives::Nothing => 0,
     }
+}
 
-    // A ticket that is to write a block, this value or another one, first one that can be made now.
-    fn who_writes(
-        &self,
-        tables: &Tables,
-        around: &Around,
-        block: u64,
-        wanted: Option<u64>,
-        unwanted: u64,
-    ) -> Option<usize> {
-        let mut later = None;
-        for number in around.tickets.as_slice() {
-            let Some(ticket) = self.tickets.get(*number) else {
-                continue;
-            };
-            if !ticket.writes() || !ticket.will_reach(block) {
-                continue;
-            }
-            let value = self.value_given(tables, ticket, block);
-            let serves = match wanted {
-                Some(wanted) => value == wanted,
-                None => value != unwanted,
-            };
-            if serves && self.can_make(tables, *number, around) {
-                return Some(*number);
-            }
-            if serves && later.is_none() {
-                later = Some(*number);
-            }
-        }
-        later
-    }
-
-    // The first of these blocks whose value isn't what a ticket is to find, and that value.
-    fn missing(&self, tables: &Tables, ticket: &Ticket, range: &Range) -> Option<(u64, u64)> {
-        let place = ticket.finds?;
-        let equal = self.equal(tables, ticket, range);
-        if equal >= range.blocks {
-            return None;
-        }
-        let block = range.slba.saturating_add(u64::from(equal));
-        Some((
-            block,
-            tables.value(place.saturating_add(ticket.behind(block))),
-        ))
-    }
-
-    // The ticket that has to make a unit so that this one can, where it can't itself.
-    fn helper(&self, tables: &Tables, around: &Around, number: usize) -> Option<usize> {
-        let ticket = self.ticket(number)?;
-        let range = self.next_unit(tables, &ticket)?;
-        if let Some((block, value)) = self.missing(tables, &ticket, &range) {
-            let value = Some(value);
-            return self.who_writes(tables, around, block, value, 0);
-        }
-        if ticket.writes() {
-            return self.goes_before(tables, number, &range, &around.tickets);
-        }
-        let value = self.value(range.slba);
-        self.who_writes(tables, around, range.slba, None, value)
-    }
-
-    // The unit that brings the next line nearer.
-    fn guess(&self, tables: &Tables, around: &Around) -> Option<usize> {
-        let mut number = around.target?;
-        for _ in 0..around.tickets.len() {
-            if self.can_make(tables, number, around) {
-                return Some(number);
-            }
-            number = self.helper(tables, around, number)?;
-        }
-        None
-    }
-
-    /// Puts the unit that is most likely right last among these choices, from place `first` on.
-    pub(crate) fn put_best_last(
-        &self,
-        tables: &Tables,
-        around: &Around,
-        first: usize,
-        choices: &mut Vec<Choice>,
-    ) {
-        let Some(best) = self.guess(tables, around) else {
-            return;
+// A ticket that is to write a block, this value or another one, first one that can be made now.
+fn who_writes(
+    walk: &Walk,
+    tables: &TraceTables,
+    around: &Around,
+    block: u64,
+    wanted: Option<u64>,
+    unwanted: u64,
+) -> Option<usize> {
+    let mut later = None;
+    for number in around.tickets.as_slice() {
+        let Some(ticket) = walk.tickets.get(*number) else {
+            continue;
         };
-        let last = choices.len().saturating_sub(1);
-        for place in first..choices.len() {
-            let is_best = match choices.get(place) {
-                Some(Choice::Unit(number)) => *number == best,
-                _ => false,
-            };
-            if is_best && place < choices.len() && last < choices.len() {
-                choices.swap(place, last);
-                return;
-            }
+        if !ticket.writes() || !ticket.will_reach(block) {
+            continue;
+        }
+        let value = value_given(walk, tables, ticket, block);
+        let serves = match wanted {
+            Some(wanted) => value == wanted,
+            None => value != unwanted,
+        };
+        if serves && can_make(walk, tables, *number, around) {
+            return Some(*number);
+        }
+        if serves && later.is_none() {
+            later = Some(*number);
+        }
+    }
+    later
+}
+
+// The first of these blocks whose value isn't what a ticket is to find, and that value.
+fn missing(
+    walk: &Walk,
+    tables: &TraceTables,
+    ticket: &SoughtTicket,
+    range: &Range,
+) -> Option<(u64, u64)> {
+    let place = ticket.finds?;
+    let equal = walk.equal(tables, ticket, range);
+    if equal >= range.blocks {
+        return None;
+    }
+    let block = range.slba.saturating_add(u64::from(equal));
+    Some((
+        block,
+        tables.value(place.saturating_add(ticket.behind(block))),
+    ))
+}
+
+// The ticket that has to make a unit so that this one can, where it can't itself.
+fn helper(walk: &Walk, tables: &TraceTables, around: &Around, number: usize) -> Option<usize> {
+    let ticket = walk.ticket(number)?;
+    let range = walk.next_unit(tables, &ticket)?;
+    if let Some((block, value)) = missing(walk, tables, &ticket, &range) {
+        let value = Some(value);
+        return who_writes(walk, tables, around, block, value, 0);
+    }
+    if ticket.writes() {
+        return goes_before(walk, tables, number, &range, &around.tickets);
+    }
+    let value = walk.value(range.slba);
+    who_writes(walk, tables, around, range.slba, None, value)
+}
+
+// The unit that brings the next line nearer.
+fn guess(walk: &Walk, tables: &TraceTables, around: &Around) -> Option<usize> {
+    let mut number = around.target?;
+    for _ in 0..around.tickets.len() {
+        if can_make(walk, tables, number, around) {
+            return Some(number);
+        }
+        number = helper(walk, tables, around, number)?;
+    }
+    None
+}
+
+/// Puts the unit that is most likely right last among these choices, from place `first` on.
+pub(crate) fn put_best_last(
+    walk: &Walk,
+    tables: &TraceTables,
+    around: &Around,
+    first: usize,
+    choices: &mut Vec<Choice>,
+) {
+    let Some(best) = guess(walk, tables, around) else {
+        return;
+    };
+    let last = choices.len().saturating_sub(1);
+    for place in first..choices.len() {
+        let is_best = match choices.get(place) {
+            Some(Choice::Unit(number)) => *number == best,
+            _ => false,
+        };
+        if is_best && place < choices.len() && last < choices.len() {
+            choices.swap(place, last);
+            return;
         }
     }
 }

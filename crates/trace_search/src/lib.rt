@@ -4,12 +4,6 @@
 mod choosing;
 mod forced;
 mod guessing;
-mod making;
 mod searching;
-mod ticket;
-mod undoing;
-mod walk;
 
-pub use crate::searching::{Found, is_found, search_history};
-pub use crate::ticket::{Gives, Kind, Ticket, status_of};
-pub use crate::walk::{Move, Walk};
+pub use crate::searching::{Outcome, is_found, search_history};

@@ -1,14 +1,16 @@
 //! Looks for a history that explains a trace, by trying what can be done next and taking back what leads nowhere.
 
-use crate::choosing::Around;
-use crate::walk::{Choice, Walk};
+use crate::choosing::{Around, add_choices, look_around};
+use crate::forced::forced;
+use crate::guessing::put_best_last;
 use std::alloc::{AllocError as NoMemory, Global};
 use std::collections::HashSet;
-use trace_rings::{Tables, number_at};
+use trace_rings::TraceTables;
+use trace_walk::{Choice, Walk};
 
 /// What a search found.
 #[derive(Drop)]
-pub enum Found {
+pub enum Outcome {
     /// The steps of a history.
     History(Walk),
     /// None, in all that there is to try; so many first lines of the trace were explained on the way.
@@ -44,7 +46,7 @@ pub(crate) struct Seeker {
 }
 
 impl Seeker {
-    pub(crate) fn new(alloc: Global, tables: &Tables) -> Result<Seeker, NoMemory> {
+    pub(crate) fn new(alloc: Global, tables: &TraceTables) -> Result<Seeker, NoMemory> {
         Ok(Seeker {
             walk: Walk::new(alloc, tables)?,
             branches: Vec::new(alloc),
@@ -56,7 +58,7 @@ impl Seeker {
     }
 
     // Goes back to the newest place with a choice left, and takes that; or there is none.
-    fn go_back(&mut self, tables: &Tables) -> Result<bool, NoMemory> {
+    fn go_back(&mut self, tables: &TraceTables) -> Result<bool, NoMemory> {
         for _ in 0..=self.branches.len() {
             let Some(branch) = self.branches.last().copied() else {
                 return Ok(false);
@@ -74,20 +76,19 @@ impl Seeker {
     }
 
     // Takes the best of what can be done, and keeps the others for later.
-    fn branch(&mut self, tables: &Tables) -> Result<bool, NoMemory> {
+    fn branch(&mut self, tables: &TraceTables) -> Result<bool, NoMemory> {
         let choices = self.choices.len();
         let near = std::mem::replace(&mut self.near, Vec::new(self.walk.alloc));
-        let around = self.walk.around(tables, near)?;
-        self.walk.add_choices(tables, &around, &mut self.choices)?;
-        self.walk
-            .put_best_last(tables, &around, choices, &mut self.choices);
+        let around = look_around(&self.walk, tables, near)?;
+        add_choices(&self.walk, tables, &around, &mut self.choices)?;
+        put_best_last(&self.walk, tables, &around, choices, &mut self.choices);
         let Around {
             target: _,
             tickets,
             units_alone: _,
         } = around;
         self.near = tickets;
-        let moves = self.walk.moves.len();
+        let moves = self.walk.moves().len();
         if self.choices.len() <= choices {
             return self.go_back(tables);
         }
@@ -106,13 +107,13 @@ impl Seeker {
     }
 
     /// Searches, so many steps at most.
-    pub(crate) fn run(&mut self, tables: &Tables, steps: u64) -> Result<End, NoMemory> {
+    pub(crate) fn run(&mut self, tables: &TraceTables, steps: u64) -> Result<End, NoMemory> {
         for _ in 0..steps {
             self.furthest = self.furthest.max(self.walk.at);
             if self.walk.at >= tables.lines.len() {
                 return Ok(End::Found);
             }
-            let goes_on = match self.walk.forced(tables) {
+            let goes_on = match forced(&self.walk, tables) {
                 Some(choice) => {
                     self.walk.make(tables, choice)?;
                     true
@@ -133,16 +134,20 @@ impl Seeker {
 /// # Errors
 ///
 /// `NoMemory` where a growth is refused.
-pub fn search_history(alloc: Global, tables: &Tables, steps: u64) -> Result<Found, NoMemory> {
+pub fn search_history(
+    alloc: Global,
+    tables: &TraceTables,
+    steps: u64,
+) -> Result<Outcome, NoMemory> {
     let mut seeker = Seeker::new(alloc, tables)?;
     match seeker.run(tables, steps)? {
-        End::StepsUsed => Ok(Found::GaveUp),
-        End::Tried => Ok(Found::NotFound(seeker.furthest)),
+        End::StepsUsed => Ok(Outcome::GaveUp),
+        End::Tried => Ok(Outcome::NotFound(seeker.furthest)),
         End::Found => {
             if tables.unfit.is_some() {
-                return Ok(Found::NotFound(seeker.furthest));
+                return Ok(Outcome::NotFound(seeker.furthest));
             }
-            Ok(Found::History(seeker.walk))
+            Ok(Outcome::History(seeker.walk))
         }
     }
 }
@@ -152,7 +157,7 @@ pub fn search_history(alloc: Global, tables: &Tables, steps: u64) -> Result<Foun
 /// # Errors
 ///
 /// `NoMemory` where a growth is refused.
-pub fn is_found(alloc: Global, tables: &Tables, steps: u64) -> Result<bool, NoMemory> {
+pub fn is_found(alloc: Global, tables: &TraceTables, steps: u64) -> Result<bool, NoMemory> {
     let mut seeker = Seeker::new(alloc, tables)?;
     let end = seeker.run(tables, steps)?;
     Ok(end == End::Found && tables.unfit.is_none())

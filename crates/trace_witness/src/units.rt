@@ -4,7 +4,7 @@ use history::{BlockLine, Entry, GrantLine, UnitRange};
 use nvme_model::array::Range;
 use nvme_model::operation::Found;
 use std::alloc::AllocError as NoMemory;
-use trace_search::Ticket;
+use trace_walk::SoughtTicket;
 
 /// Entries that are written, the oldest first.
 #[derive(Drop)]
@@ -36,7 +36,7 @@ impl UnitWriter {
         ticket: u64,
         unit: u64,
         range: &Range,
-        known: &Ticket,
+        known: &SoughtTicket,
     ) -> Result<(), NoMemory> {
         self.entries.push(Entry::Grant(GrantLine {
             ticket,
@@ -92,7 +92,7 @@ impl UnitWriter {
         unit: u64,
         range: &Range,
         equal: u32,
-        known: &Ticket,
+        known: &SoughtTicket,
     ) -> Result<(), NoMemory> {
         self.grant(ticket, unit, range, known)?;
         if known.compares() {

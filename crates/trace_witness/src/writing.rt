@@ -8,8 +8,8 @@ use nvme_model::status::Verdict;
 use nvme_model::submission::{Batch, Payload, copies_of};
 use seen_trace::{ReapedLine, Seen};
 use std::alloc::{AllocError as NoMemory, Global};
-use trace_rings::{Tables, number_at, set_number, zeros};
-use trace_search::{Gives, Move, Ticket, Walk, status_of};
+use trace_rings::{TraceTables, number_at, set_number, zeros};
+use trace_walk::{Gives, Move, SoughtTicket, Walk, status_of};
 
 #[derive(Drop)]
 struct Writer {
@@ -100,9 +100,9 @@ impl Writer {
     // A completion that isn't reaped.
     fn post_unseen(
         &mut self,
-        tables: &Tables,
+        tables: &TraceTables,
         ticket: u64,
-        known: &Ticket,
+        known: &SoughtTicket,
     ) -> Result<(), NoMemory> {
         let Some(code) = known.owes() else {
             return Ok(());
@@ -139,11 +139,11 @@ impl Writer {
 
     fn post(
         &mut self,
-        tables: &Tables,
+        tables: &TraceTables,
         trace: &[Seen],
         which: usize,
         ticket: u64,
-        known: &Ticket,
+        known: &SoughtTicket,
     ) -> Result<(), NoMemory> {
         let line = self.reaps.get(which).copied().unwrap_or(usize::MAX);
         match trace.get(line) {
@@ -203,7 +203,7 @@ impl Writer {
     }
 
     // Notes who wrote these blocks.
-    fn note_written(&mut self, tables: &Tables, range: &Range, known: &Ticket) {
+    fn note_written(&mut self, tables: &TraceTables, range: &Range, known: &SoughtTicket) {
         let mut entry = known.first;
         if known.compares() {
             entry = entry.saturating_add(1);
@@ -227,12 +227,12 @@ impl Writer {
 
     fn note_unit(
         &mut self,
-        tables: &Tables,
+        tables: &TraceTables,
         trace: &[Seen],
         ticket: u64,
         range: &Range,
         equal: u32,
-        known: &Ticket,
+        known: &SoughtTicket,
     ) -> Result<(), NoMemory> {
         if known.writes() && (!known.compares() || equal >= range.blocks) {
             self.note_written(tables, range, known);
@@ -246,10 +246,10 @@ impl Writer {
 
     fn known_step(
         &mut self,
-        tables: &Tables,
+        tables: &TraceTables,
         trace: &[Seen],
         step: Move,
-        known: &mut Ticket,
+        known: &mut SoughtTicket,
     ) -> Result<(), NoMemory> {
         match step {
             Move::Line | Move::Fetch(_) => Ok(()),
@@ -267,7 +267,7 @@ impl Writer {
 
     fn step(
         &mut self,
-        tables: &Tables,
+        tables: &TraceTables,
         trace: &[Seen],
         walk: &Walk,
         step: Move,
@@ -286,7 +286,7 @@ impl Writer {
 }
 
 // What a history says of a ticket's checks.
-fn verdict_of(known: &Ticket) -> Verdict {
+fn verdict_of(known: &SoughtTicket) -> Verdict {
     let first = status_of(known.codes[0]);
     let second = status_of(known.codes[1]);
     match (known.taken == 2, known.failed) {
@@ -302,7 +302,7 @@ fn wire_number(queue: usize) -> u16 {
     queue.min(65_534) as u16 + 1
 }
 
-fn new_writer(alloc: Global, tables: &Tables, trace: &[Seen]) -> Result<Writer, NoMemory> {
+fn new_writer(alloc: Global, tables: &TraceTables, trace: &[Seen]) -> Result<Writer, NoMemory> {
     let mut sources = Vec::new(alloc);
     for _ in 0..tables.numbers.blocks {
         sources.push((usize::MAX, 0, 0))?;
@@ -335,7 +335,7 @@ fn number_of(number: usize) -> u64 {
 /// `NoMemory` where a growth is refused.
 pub fn write_witness(
     alloc: Global,
-    tables: &Tables,
+    tables: &TraceTables,
     trace: &[Seen],
     walk: &Walk,
 ) -> Result<Vec<Entry>, NoMemory> {

@@ -14,7 +14,7 @@ pub enum Gives {
 
 /// What a ticket does with its blocks; nothing, where it is a Flush or failed its checks.
 #[derive(Clone, Copy, PartialEq, Eq)]
-pub enum Kind {
+pub enum SoughtOp {
     Idle,
     Read,
     Compare,
@@ -25,11 +25,11 @@ pub enum Kind {
 
 /// A ticket of the history that is looked for.
 #[derive(Clone, Copy)]
-pub struct Ticket {
+pub struct SoughtTicket {
     pub queue: usize,
     // its first entry's number
     pub first: usize,
-    pub kind: Kind,
+    pub kind: SoughtOp,
     // how many entries it has, and whether they failed their checks
     pub taken: u8,
     pub failed: bool,
@@ -52,21 +52,21 @@ pub struct Ticket {
     pub gives: Gives,
 }
 
-impl Ticket {
+impl SoughtTicket {
     /// Whether a unit of it is still to come.
     pub fn has_unit(&self) -> bool {
-        self.kind != Kind::Idle && self.left > 0 && !self.differs
+        self.kind != SoughtOp::Idle && self.left > 0 && !self.differs
     }
 
     pub fn writes(&self) -> bool {
         match self.kind {
-            Kind::Write | Kind::WriteZeroes | Kind::Pair => true,
-            Kind::Idle | Kind::Read | Kind::Compare => false,
+            SoughtOp::Write | SoughtOp::WriteZeroes | SoughtOp::Pair => true,
+            SoughtOp::Idle | SoughtOp::Read | SoughtOp::Compare => false,
         }
     }
 
     pub fn compares(&self) -> bool {
-        self.kind == Kind::Compare || self.kind == Kind::Pair
+        self.kind == SoughtOp::Compare || self.kind == SoughtOp::Pair
     }
 
     pub fn mode(&self) -> Mode {
@@ -97,7 +97,7 @@ impl Ticket {
     /// The number of the status that it owes, where it has ended.
     pub fn owes(&self) -> Option<u16> {
         let first = self.posts == 0;
-        if self.kind == Kind::Idle {
+        if self.kind == SoughtOp::Idle {
             return Some(if first { self.codes[0] } else { self.codes[1] });
         }
         if self.differs {
@@ -123,7 +123,7 @@ impl Ticket {
     }
 
     /// Whether blocks that both are still to reach are the same.
-    pub fn meets(&self, other: &Ticket) -> bool {
+    pub fn meets(&self, other: &SoughtTicket) -> bool {
         let both = self.has_unit() && other.has_unit();
         both && self.next < other.next.saturating_add(u64::from(other.left))
             && other.next < self.next.saturating_add(u64::from(self.left))
@@ -131,7 +131,7 @@ impl Ticket {
 }
 
 /// A number of a status; that of success is 0.
-pub fn code_of(status: Status) -> u16 {
+pub(crate) fn code_of(status: Status) -> u16 {
     u16::from(status.sct()) * 256 + u16::from(status.sc())
 }
 

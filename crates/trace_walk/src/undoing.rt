@@ -1,14 +1,14 @@
 //! Takes back the newest steps of a history.
 
 use crate::making::is_sure;
-use crate::ticket::Ticket;
+use crate::ticket::SoughtTicket;
 use crate::walk::{Move, Walk};
 use nvme_model::array::Range;
 use std::alloc::AllocError as NoMemory;
-use trace_rings::{Line, Tables, number_at, set_number};
+use trace_rings::{Line, TraceTables, number_at, set_number};
 
 impl Walk {
-    fn undo_line(&mut self, tables: &Tables) {
+    fn undo_line(&mut self, tables: &TraceTables) {
         self.at = self.at.saturating_sub(1);
         match self.line(tables) {
             Some(Line::Publish(queue, before, _)) => set_number(&mut self.published, queue, before),
@@ -37,7 +37,7 @@ impl Walk {
     }
 
     // One more is to find what these blocks have.
-    fn unnote_found(&mut self, tables: &Tables, ticket: &Ticket, range: &Range) {
+    fn unnote_found(&mut self, tables: &TraceTables, ticket: &SoughtTicket, range: &Range) {
         if !is_sure(tables, ticket) {
             return;
         }
@@ -49,7 +49,14 @@ impl Walk {
         }
     }
 
-    fn undo_unit(&mut self, tables: &Tables, number: usize, unit: u64, range: &Range, equal: u32) {
+    fn undo_unit(
+        &mut self,
+        tables: &TraceTables,
+        number: usize,
+        unit: u64,
+        range: &Range,
+        equal: u32,
+    ) {
         let Some(ticket) = self.ticket(number) else {
             return;
         };
@@ -70,7 +77,7 @@ impl Walk {
 
     fn undo_post(
         &mut self,
-        tables: &Tables,
+        tables: &TraceTables,
         number: usize,
         posts: u8,
         place: usize,
@@ -91,7 +98,7 @@ impl Walk {
         Ok(())
     }
 
-    fn undo(&mut self, tables: &Tables, step: Move) -> Result<(), NoMemory> {
+    fn undo(&mut self, tables: &TraceTables, step: Move) -> Result<(), NoMemory> {
         match step {
             Move::Line => self.undo_line(tables),
             Move::Fetch(queue) => self.undo_fetch(queue),
@@ -106,7 +113,7 @@ impl Walk {
     }
 
     /// Takes back all but the first so many steps.
-    pub(crate) fn undo_to(&mut self, tables: &Tables, count: usize) -> Result<(), NoMemory> {
+    pub fn undo_to(&mut self, tables: &TraceTables, count: usize) -> Result<(), NoMemory> {
         for _ in count..self.moves.len() {
             if let Some(step) = self.moves.pop() {
                 self.undo(tables, step)?;

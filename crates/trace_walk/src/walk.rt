@@ -1,9 +1,9 @@
 //! A history that is being made, and what it has made of the volume.
 
-use crate::ticket::{Kind, Ticket};
+use crate::ticket::{SoughtOp, SoughtTicket};
 use nvme_model::array::Range;
 use std::alloc::{AllocError as NoMemory, Global};
-use trace_rings::{Line, Tables, mixed, number_at, zeros};
+use trace_rings::{Line, TraceTables, mixed, number_at, zeros};
 
 /// One step of a history in which each unit is one step.
 #[derive(Clone, Copy)]
@@ -21,7 +21,7 @@ pub enum Move {
 
 /// What can be done next.
 #[derive(Clone, Copy)]
-pub(crate) enum Choice {
+pub enum Choice {
     Line,
     /// A Fetch from this submission queue.
     Fetch(usize),
@@ -34,25 +34,25 @@ pub(crate) enum Choice {
 /// A history that is being made.
 #[derive(Drop)]
 pub struct Walk {
-    pub(crate) alloc: Global,
+    pub alloc: Global,
     // how many lines of the trace were taken
-    pub(crate) at: usize,
+    pub at: usize,
     // by submission queue
-    pub(crate) published: Vec<usize>,
-    pub(crate) fetched: Vec<usize>,
-    pub(crate) answered: Vec<usize>,
+    pub published: Vec<usize>,
+    pub fetched: Vec<usize>,
+    pub answered: Vec<usize>,
     // by completion queue
-    pub(crate) posted: Vec<usize>,
-    pub(crate) reaped: Vec<usize>,
-    pub(crate) tickets: Vec<Ticket>,
-    pub(crate) in_flight: Vec<usize>,
+    pub posted: Vec<usize>,
+    pub reaped: Vec<usize>,
+    pub tickets: Vec<SoughtTicket>,
+    pub in_flight: Vec<usize>,
     // by block: its value, and the place of who wrote it
     pub(crate) values: Vec<u64>,
     pub(crate) writers: Vec<usize>,
     // a number of all those values
     pub(crate) sum: u64,
     // by place: how many are still to find that value
-    pub(crate) left: Vec<usize>,
+    pub left: Vec<usize>,
     pub(crate) moves: Vec<Move>,
     // what lay in the blocks that were written, the newest last
     pub(crate) covered: Vec<(u64, usize)>,
@@ -60,7 +60,7 @@ pub struct Walk {
     pub(crate) in_use: Vec<u16>,
 }
 
-fn left_of(alloc: Global, tables: &Tables) -> Result<Vec<usize>, NoMemory> {
+fn left_of(alloc: Global, tables: &TraceTables) -> Result<Vec<usize>, NoMemory> {
     let mut left = Vec::new(alloc);
     for need in tables.needs.as_slice() {
         left.push(need.finders)?;
@@ -69,7 +69,7 @@ fn left_of(alloc: Global, tables: &Tables) -> Result<Vec<usize>, NoMemory> {
 }
 
 impl Walk {
-    pub(crate) fn new(alloc: Global, tables: &Tables) -> Result<Walk, NoMemory> {
+    pub fn new(alloc: Global, tables: &TraceTables) -> Result<Walk, NoMemory> {
         let pairs = usize::from(tables.numbers.pairs);
         let cqs = usize::from(tables.numbers.cqs);
         let mut values = Vec::new(alloc);
@@ -99,7 +99,7 @@ impl Walk {
     }
 
     /// The ticket with this number, from 0.
-    pub fn ticket(&self, number: usize) -> Option<Ticket> {
+    pub fn ticket(&self, number: usize) -> Option<SoughtTicket> {
         self.tickets.get(number).copied()
     }
 
@@ -109,35 +109,35 @@ impl Walk {
     }
 
     /// The value of a block.
-    pub(crate) fn value(&self, block: u64) -> u64 {
+    pub fn value(&self, block: u64) -> u64 {
         let place = block.min(65_536) as usize;
         self.values.get(place).copied().unwrap_or(0)
     }
 
     /// The place of who wrote a block last.
-    pub(crate) fn writer(&self, block: u64) -> usize {
+    pub fn writer(&self, block: u64) -> usize {
         let place = block.min(65_536) as usize;
         self.writers.get(place).copied().unwrap_or(usize::MAX)
     }
 
     /// The next line of the trace.
-    pub(crate) fn line(&self, tables: &Tables) -> Option<Line> {
+    pub fn line(&self, tables: &TraceTables) -> Option<Line> {
         tables.lines.get(self.at).copied()
     }
 
     /// Whether the next Post to this completion queue has room.
-    pub(crate) fn has_room(&self, tables: &Tables, cq: usize) -> bool {
+    pub fn has_room(&self, tables: &TraceTables, cq: usize) -> bool {
         let posted = number_at(&self.posted, cq);
         let waiting = posted.saturating_sub(number_at(&self.reaped, cq));
         waiting.saturating_add(1) < usize::from(tables.numbers.cq_size)
     }
 
     /// The blocks of the next unit of a ticket.
-    pub(crate) fn next_unit(&self, tables: &Tables, ticket: &Ticket) -> Option<Range> {
+    pub fn next_unit(&self, tables: &TraceTables, ticket: &SoughtTicket) -> Option<Range> {
         if !ticket.has_unit() || ticket.next > 65_535 {
             return None;
         }
-        if ticket.kind == Kind::Pair {
+        if ticket.kind == SoughtOp::Pair {
             return Some(ticket.range);
         }
         let end = ticket.next.saturating_add(u64::from(ticket.left));
@@ -148,7 +148,7 @@ impl Walk {
     }
 
     /// A number that hardly any other place to go on from has.
-    pub(crate) fn state(&self) -> u64 {
+    pub fn state(&self) -> u64 {
         let mut state = mixed(self.sum, self.at as u64);
         for fetched in self.fetched.as_slice() {
             state = mixed(state, *fetched as u64);
@@ -162,14 +162,15 @@ impl Walk {
                 let who = mixed(ticket.queue as u64, ticket.first as u64);
                 let far = mixed(ticket.unit, u64::from(ticket.posts));
                 let end = mixed(u64::from(ticket.taken), u64::from(ticket.differs));
-                all = all.wrapping_add(mixed(mixed(who, far), end));
+                let codes = mixed(u64::from(ticket.codes[0]), u64::from(ticket.codes[1]));
+                all = all.wrapping_add(mixed(mixed(who, far), mixed(end, codes)));
             }
         }
         mixed(state, all)
     }
 
     /// How many of these blocks have the values that a ticket is to find, before one has another.
-    pub(crate) fn equal(&self, tables: &Tables, ticket: &Ticket, range: &Range) -> u32 {
+    pub fn equal(&self, tables: &TraceTables, ticket: &SoughtTicket, range: &Range) -> u32 {
         let Some(place) = ticket.finds else {
             return 0;
         };

@@ -1,17 +1,17 @@
-//! Makes one more step of a history, and takes the newest one back.
+//! Makes one more step of a history.
 
-use crate::ticket::{Gives, Kind, Ticket, code_of};
+use crate::ticket::{Gives, SoughtOp, SoughtTicket, code_of};
 use crate::walk::{Choice, Move, Walk};
 use entry_codec::{Cqe, Status};
 use fused_match::{Judged, judge};
 use nvme_model::array::Range;
 use nvme_model::operation::Op;
 use std::alloc::AllocError as NoMemory;
-use trace_rings::{Awaited, Line, Published, Tables, mixed, number_at, set_number};
+use trace_rings::{Awaited, Line, Published, TraceTables, mixed, number_at, set_number};
 
 // The completion that a ticket which passed its checks is to have: the next one for its queue with its identifier that
 // says success or Compare Failure.
-fn wanted_by(tables: &Tables, queue: usize, cid: u16, answered: usize) -> Option<usize> {
+fn wanted_by(tables: &TraceTables, queue: usize, cid: u16, answered: usize) -> Option<usize> {
     let by_cid = tables.by_cid.get(queue)?;
     let first = by_cid.partition_point(|known| (known.0, known.1) < (cid, answered));
     for place in first..by_cid.len() {
@@ -29,42 +29,47 @@ fn wanted_by(tables: &Tables, queue: usize, cid: u16, answered: usize) -> Option
 }
 
 // What a ticket is to find: of a Read what its completion has, else what lies beside it.
-fn found_at(tables: &Tables, kind: Kind, first: &Published, want: Option<usize>) -> Option<usize> {
+fn found_at(
+    tables: &TraceTables,
+    kind: SoughtOp,
+    first: &Published,
+    want: Option<usize>,
+) -> Option<usize> {
     match kind {
-        Kind::Read => Some(tables.completion(want?)?.values),
-        Kind::Compare | Kind::Pair => Some(first.values),
-        Kind::Write | Kind::WriteZeroes | Kind::Idle => None,
+        SoughtOp::Read => Some(tables.completion(want?)?.values),
+        SoughtOp::Compare | SoughtOp::Pair => Some(first.values),
+        SoughtOp::Write | SoughtOp::WriteZeroes | SoughtOp::Idle => None,
     }
 }
 
-fn given_at(kind: Kind, first: &Published, second: Option<&Published>) -> Gives {
+fn given_at(kind: SoughtOp, first: &Published, second: Option<&Published>) -> Gives {
     match kind {
-        Kind::Read | Kind::Compare | Kind::Idle => Gives::Nothing,
-        Kind::WriteZeroes => Gives::Zeros,
-        Kind::Write => Gives::Values(first.values),
-        Kind::Pair => match second {
+        SoughtOp::Read | SoughtOp::Compare | SoughtOp::Idle => Gives::Nothing,
+        SoughtOp::WriteZeroes => Gives::Zeros,
+        SoughtOp::Write => Gives::Values(first.values),
+        SoughtOp::Pair => match second {
             Some(second) => Gives::Values(second.values),
             None => Gives::Nothing,
         },
     }
 }
 
-fn kind_of(op: Op) -> Kind {
+fn kind_of(op: Op) -> SoughtOp {
     match op {
-        Op::Read => Kind::Read,
-        Op::Compare => Kind::Compare,
-        Op::Write => Kind::Write,
-        Op::WriteZeroes => Kind::WriteZeroes,
-        Op::Pair => Kind::Pair,
+        Op::Read => SoughtOp::Read,
+        Op::Compare => SoughtOp::Compare,
+        Op::Write => SoughtOp::Write,
+        Op::WriteZeroes => SoughtOp::WriteZeroes,
+        Op::Pair => SoughtOp::Pair,
     }
 }
 
 // A ticket of these entries that has done nothing.
-fn idle_ticket(queue: usize, number: usize, cids: [u16; 2], taken: u8) -> Ticket {
-    Ticket {
+fn idle_ticket(queue: usize, number: usize, cids: [u16; 2], taken: u8) -> SoughtTicket {
+    SoughtTicket {
         queue,
         first: number,
-        kind: Kind::Idle,
+        kind: SoughtOp::Idle,
         taken,
         failed: false,
         codes: [0, 0],
@@ -82,7 +87,7 @@ fn idle_ticket(queue: usize, number: usize, cids: [u16; 2], taken: u8) -> Ticket
 }
 
 // What becomes of a ticket by its checks.
-fn judge_ticket(ticket: &mut Ticket, judged: Judged) {
+fn judge_ticket(ticket: &mut SoughtTicket, judged: Judged) {
     match judged {
         Judged::Flush => {}
         Judged::Single(op, range) => {
@@ -90,7 +95,7 @@ fn judge_ticket(ticket: &mut Ticket, judged: Judged) {
             ticket.range = range;
         }
         Judged::Pair(range) => {
-            ticket.kind = Kind::Pair;
+            ticket.kind = SoughtOp::Pair;
             ticket.range = range;
         }
         Judged::SingleFailed(status) => {
@@ -127,18 +132,18 @@ impl Walk {
 
     fn new_ticket(
         &self,
-        tables: &Tables,
+        tables: &TraceTables,
         queue: usize,
         judged: Judged,
         first: &Published,
         second: Option<&Published>,
-    ) -> Ticket {
+    ) -> SoughtTicket {
         let cid = first.item.sqe().cid;
         let other = second.map_or(cid, |second| second.item.sqe().cid);
         let number = number_at(&self.fetched, queue);
         let mut ticket = idle_ticket(queue, number, [cid, other], judged.taken());
         judge_ticket(&mut ticket, judged);
-        if ticket.kind != Kind::Idle {
+        if ticket.kind != SoughtOp::Idle {
             ticket.next = ticket.range.slba;
             ticket.left = ticket.range.blocks;
             ticket.want = wanted_by(tables, queue, cid, number_at(&self.answered, queue));
@@ -148,7 +153,7 @@ impl Walk {
         ticket
     }
 
-    fn make_fetch(&mut self, tables: &Tables, queue: usize) -> Result<(), NoMemory> {
+    fn make_fetch(&mut self, tables: &TraceTables, queue: usize) -> Result<(), NoMemory> {
         let number = number_at(&self.fetched, queue);
         let Some(first) = tables.entry(queue, number) else {
             return Ok(());
@@ -178,7 +183,7 @@ impl Walk {
         Ok(())
     }
 
-    fn make_line(&mut self, tables: &Tables) -> Result<(), NoMemory> {
+    fn make_line(&mut self, tables: &TraceTables) -> Result<(), NoMemory> {
         match self.line(tables) {
             Some(Line::Publish(queue, _, after)) => set_number(&mut self.published, queue, after),
             Some(Line::Reap(cq)) => {
@@ -193,7 +198,7 @@ impl Walk {
     }
 
     // One fewer is to find what these blocks have.
-    fn note_found(&mut self, tables: &Tables, ticket: &Ticket, range: &Range) {
+    fn note_found(&mut self, tables: &TraceTables, ticket: &SoughtTicket, range: &Range) {
         if !is_sure(tables, ticket) {
             return;
         }
@@ -207,8 +212,8 @@ impl Walk {
 
     fn write_blocks(
         &mut self,
-        tables: &Tables,
-        ticket: &Ticket,
+        tables: &TraceTables,
+        ticket: &SoughtTicket,
         range: &Range,
     ) -> Result<(), NoMemory> {
         for k in 0..range.blocks {
@@ -237,7 +242,7 @@ impl Walk {
         set_number(&mut self.writers, place, writer);
     }
 
-    fn make_unit(&mut self, tables: &Tables, number: usize) -> Result<(), NoMemory> {
+    fn make_unit(&mut self, tables: &TraceTables, number: usize) -> Result<(), NoMemory> {
         let Some(ticket) = self.ticket(number) else {
             return Ok(());
         };
@@ -269,7 +274,12 @@ impl Walk {
         set_number(&mut self.answered, queue, answered);
     }
 
-    fn make_post(&mut self, tables: &Tables, cq: usize, number: usize) -> Result<(), NoMemory> {
+    fn make_post(
+        &mut self,
+        tables: &TraceTables,
+        cq: usize,
+        number: usize,
+    ) -> Result<(), NoMemory> {
         let Some(ticket) = self.ticket(number) else {
             return Ok(());
         };
@@ -295,7 +305,7 @@ impl Walk {
     }
 
     /// Makes one more step.
-    pub(crate) fn make(&mut self, tables: &Tables, choice: Choice) -> Result<(), NoMemory> {
+    pub fn make(&mut self, tables: &TraceTables, choice: Choice) -> Result<(), NoMemory> {
         match choice {
             Choice::Line => self.make_line(tables),
             Choice::Fetch(queue) => self.make_fetch(tables, queue),
@@ -306,7 +316,7 @@ impl Walk {
 }
 
 /// Whether it is sure which completion a ticket has, and that it says success.
-pub(crate) fn is_sure(tables: &Tables, ticket: &Ticket) -> bool {
+pub fn is_sure(tables: &TraceTables, ticket: &SoughtTicket) -> bool {
     match wanted_completion(tables, ticket) {
         Some(completion) => completion.sure && completion.cqe.status == Status::SUCCESS,
         None => false,
@@ -314,16 +324,16 @@ pub(crate) fn is_sure(tables: &Tables, ticket: &Ticket) -> bool {
 }
 
 /// The completion that a ticket is to have.
-pub(crate) fn wanted_completion(tables: &Tables, ticket: &Ticket) -> Option<Awaited> {
+pub fn wanted_completion(tables: &TraceTables, ticket: &SoughtTicket) -> Option<Awaited> {
     tables.completion(ticket.want?)
 }
 
 /// Whether a completion can be the next one of a ticket.
-pub(crate) fn fits(ticket: &Ticket, which: usize, cqe: &Cqe, length: usize) -> bool {
+pub fn fits(ticket: &SoughtTicket, which: usize, cqe: &Cqe, length: usize) -> bool {
     if ticket.cid() != cqe.cid || ticket.owes() != Some(code_of(cqe.status)) {
         return false;
     }
-    if ticket.kind == Kind::Read {
+    if ticket.kind == SoughtOp::Read {
         return ticket.want == Some(which);
     }
     length == 0
