@@ -1,0 +1,84 @@
+//! Whether the product says of small traces what a search says that makes every step: observe CASDISK FOLDER FIRST-SEED
+//! HOW-MANY. A trace of which they differ is left in the folder.
+
+use outside::brute::{Said, brute};
+use outside::change::{Change, change};
+use outside::making::{MOST_ENTRIES, random_trace};
+use std::path::Path;
+use std::sync::atomic::{AtomicU64, Ordering::Relaxed};
+use trials::lists::Random;
+use trials::program::Program;
+
+/// How many states are looked at before a trace is left undecided.
+const MOST_STATES: usize = 200_000;
+
+/// Of each change how many traces were explained, were not, and were left undecided.
+static SAID: [[AtomicU64; 3]; Change::ALL.len()] = [const { [const { AtomicU64::new(0) }; 3] }; Change::ALL.len()];
+
+static WITNESSES: AtomicU64 = AtomicU64::new(0);
+
+// What is to be said; and the file of a witness, which is looked at now and then.
+fn compare(program: &Program, seed: u64) {
+    let random = Random::new(seed ^ 0x0B5E_47E5);
+    let mut trace = random_trace(&random);
+    let which = if random.one_in(4) { 0 } else { random.up_to(Change::ALL.len() as u64) as usize };
+    change(&mut trace, Change::ALL[which], &random);
+    let said = brute(&trace, MOST_STATES);
+    let file = program.put("trace", &trace.text());
+    let witness = program.room.join("witness");
+    let asked = random.one_in(8);
+    let _ = std::fs::remove_file(&witness);
+    let (status, output, words) = if asked {
+        program.run(&["observe", "--witness", witness.to_str().expect("a name"), &file])
+    } else {
+        program.run(&["observe", &file])
+    };
+    let is_explained = status == 0 && output == b"explained\n" && words.is_empty();
+    let (is_right, place) = match said {
+        Said::Explained => (is_explained, 0),
+        Said::Not(lines) => {
+            // (the first line is that of the configuration)
+            let front = format!("not found: up to line {}: ", lines + 1);
+            (status == 1 && output.starts_with(front.as_bytes()) && words.is_empty(), 1)
+        }
+        Said::Undecided => (status <= 1 && words.is_empty(), 2),
+    };
+    assert!(is_right, "seed {seed}: {said:?}, and the program says {}: {file}", String::from_utf8_lossy(&output));
+    if asked && is_explained {
+        let history = std::fs::read(&witness).expect("a witness");
+        assert!(trace.is_explained_by(&history), "seed {seed}: the witness doesn't explain {file}");
+        WITNESSES.fetch_add(1, Relaxed);
+    }
+    SAID[which][place].fetch_add(1, Relaxed);
+}
+
+fn main() {
+    let words: Vec<String> = std::env::args().skip(1).collect();
+    let [casdisk, folder, first, many] = &words[..] else {
+        panic!("observe CASDISK FOLDER FIRST-SEED HOW-MANY");
+    };
+    let (first, many): (u64, u64) = (first.parse().expect("a number"), many.parse().expect("a number"));
+    let threads = std::thread::available_parallelism().map_or(2, |n| n.get()) as u64;
+    std::thread::scope(|scope| {
+        for part in 0..threads {
+            let program = Program::new(Path::new(casdisk), Path::new(""), &Path::new(folder).join(part.to_string()));
+            scope.spawn(move || {
+                (first + part..first + many).step_by(threads as usize).for_each(|seed| compare(&program, seed));
+            });
+        }
+    });
+    let mut sums = [0; 3];
+    for (change, counts) in Change::ALL.iter().zip(&SAID) {
+        let counts = counts.each_ref().map(|count| count.load(Relaxed));
+        let [explained, not, undecided] = counts;
+        println!("{}: explained {explained}, not {not}, undecided {undecided}", change.name());
+        sums.iter_mut().zip(counts).for_each(|(sum, count)| *sum += count);
+        assert!(many < 5000 || (explained > 0 && not > 0) || *change == Change::Nothing && not == 0, "one answer alone");
+    }
+    let [explained, not, undecided] = sums;
+    assert!(undecided * 50 <= many, "the search that makes every step left too many undecided");
+    println!(
+        "{many} traces of up to {MOST_ENTRIES} entries, {} witnesses: both find {explained} explained and {not} not, and of {undecided} there was too much to try",
+        WITNESSES.load(Relaxed)
+    );
+}

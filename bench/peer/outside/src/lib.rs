@@ -1,0 +1,7 @@
+//! Small traces, right and wrong, and whether any history explains one, by a search that leaves nothing out.
+
+pub mod brute;
+pub mod change;
+pub mod making;
+pub mod state;
+pub mod trace;
