@@ -1,6 +1,6 @@
 //! The command `certify`.
 
-use crate::failure::{Failure, failure_of};
+use crate::failure::{Failure, end_fault, failure_of};
 use crate::input::opened;
 use casdisk_script::{CertifyFault, RunFault, certify_text};
 use line_reasons::Grammar;
@@ -75,13 +75,7 @@ pub(crate) fn certify_files<R: Files + Input + Print + Eprint + AllocGlobal>(
         Ok(false) => ExitCode::from(1),
         Err(failure) => {
             let CertifyFailure { fault, why } = failure;
-            let status = fault.status();
-            // (where standard error takes no words, the status says it alone)
-            let _ = rt.eprintln(fault);
-            if let Some(why) = why {
-                let _ = rt.eprintln(why);
-            }
-            ExitCode::from(status)
+            ExitCode::from(end_fault(rt, fault, fault.status(), why))
         }
     }
 }

@@ -7,7 +7,7 @@ use line_reasons::{Cause, Grammar, why_bad};
 use nvme_model::config::{ConfigFault, ConfigNumbers};
 use std::alloc::Global;
 use std::fmt;
-use std::io::{ErrorKind, Read};
+use std::io::{Eprint, ErrorKind, Read};
 
 /// Why a command failed; and the second line about it, where one was asked for and something is known.
 #[derive(Drop)]
@@ -20,6 +20,27 @@ impl From<RunFault> for Failure {
     fn from(fault: RunFault) -> Failure {
         Failure { fault, why: None }
     }
+}
+
+/// Says why a command failed, and then the second line where there is one; gives this status.
+pub(crate) fn end_fault<R: Eprint, F: fmt::Display + Drop>(
+    rt: &R,
+    fault: F,
+    status: u8,
+    why: Option<String>,
+) -> u8 {
+    // (where standard error takes no words, the status says it alone)
+    let _ = rt.eprintln(fault);
+    if let Some(why) = why {
+        let _ = rt.eprintln(why);
+    }
+    status
+}
+
+/// Says why a command failed, and gives the status of its fault.
+pub(crate) fn end_failure<R: Eprint>(rt: &R, failure: Failure) -> u8 {
+    let Failure { fault, why } = failure;
+    end_fault(rt, fault, fault.status(), why)
 }
 
 // The system's own cause.

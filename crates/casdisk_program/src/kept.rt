@@ -18,17 +18,17 @@ pub(crate) struct Kept<R: Read + Drop> {
 
 // How many bytes lines have, and how many lines that are.
 #[derive(Clone, Copy)]
-struct Whole {
+struct WholeLines {
     bytes: usize,
     lines: u64,
 }
 
 // The lines of a text that end in it.
-fn whole_of(text: &[u8]) -> Whole {
-    let mut whole = Whole { bytes: 0, lines: 0 };
+fn whole_of(text: &[u8]) -> WholeLines {
+    let mut whole = WholeLines { bytes: 0, lines: 0 };
     for at in 0..text.len() {
         if text[at] == b'\n' {
-            whole = Whole {
+            whole = WholeLines {
                 bytes: at + 1,
                 lines: whole.lines.saturating_add(1),
             };

@@ -2,18 +2,18 @@
 #![tactic(auto)]
 
 mod certify;
-mod explaining;
+mod drawing;
 mod failure;
 mod in_words;
 mod input;
 mod kept;
-mod laws;
 mod observing;
 mod program;
 mod progress;
+mod randoms;
+mod shrinking;
 mod slots;
 mod tracing;
 mod unmarked;
 
-pub use crate::laws::{a_history_is_read_back, what_a_race_wrote_is_legal};
 pub use crate::program::run_program;

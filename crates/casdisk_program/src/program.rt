@@ -1,18 +1,22 @@
 //! The whole program, over any runtime.
 
 use crate::certify::certify_files;
-use crate::explaining::ExplainedWords;
-use crate::failure::{Failure, failure_of};
+use crate::drawing::draw_file;
+use crate::failure::{Failure, end_failure, failure_of};
 use crate::in_words::tell_file;
 use crate::input::{opened, size_of};
 use crate::observing::observe_file;
 use crate::progress::{CountedReader, CountedWriter, Counter};
+use crate::randoms::random_file;
+use crate::shrinking::shrink_file;
 use crate::slots::{check_slots_file, explain_slots_file};
 use crate::tracing::{trace_race, trace_run};
-use crate::unmarked::{Unmarked, unmarked_unit};
+use crate::unmarked::unmarked_unit;
 use broken_rules::Broken;
 use casdisk_script::{Explained, RunFault, check_text, explain_text, follow_text, run_script};
 use command_line::{Asked, Shown, UsageFault, asked};
+use drawn_text::DrawOptions;
+use explained_words::{ExplainedWords, Unmarked};
 use history::Kinds;
 use line_reasons::Grammar;
 use nvme_model::config::ConfigFault;
@@ -112,6 +116,19 @@ fn finish<R: Threads + Wait + Sync + Files + Clock + Input + Print + Eprint + Al
             trace,
         } => observe_file(rt, witness, steps, why, trace),
         Asked::Tell { color, file } => tell_file(rt, color, file).map_err(Failure::from),
+        Asked::Draw {
+            from,
+            to,
+            why,
+            file,
+        } => Ok(draw_file(rt, range_of(from, to), why, file)),
+        Asked::Random {
+            seed,
+            lines,
+            config,
+            like,
+        } => Ok(random_file(rt, seed, lines, config, like)),
+        Asked::Shrink { why, script } => Ok(shrink_file(rt, why, script)),
         Asked::Race {
             race,
             trace: true,
@@ -125,20 +142,16 @@ fn finish<R: Threads + Wait + Sync + Files + Clock + Input + Print + Eprint + Al
     };
     match outcome {
         Ok(status) => ExitCode::from(status),
-        Err(failure) => end_failed(rt, failure),
+        Err(failure) => ExitCode::from(end_failure(rt, failure)),
     }
 }
 
-// Says why a command failed, and gives the status of its fault.
-fn end_failed<R: Eprint>(rt: &R, failure: Failure) -> ExitCode {
-    let Failure { fault, why } = failure;
-    let status = fault.status();
-    // (where standard error takes no words, the status says it alone; so below)
-    let _ = rt.eprintln(fault);
-    if let Some(why) = why {
-        let _ = rt.eprintln(why);
+// The steps that are drawn: from the first or to the last where none is named.
+fn range_of(from: Option<u64>, to: Option<u64>) -> DrawOptions {
+    DrawOptions {
+        from: from.unwrap_or(1),
+        to: to.unwrap_or(u64::MAX),
     }
-    ExitCode::from(status)
 }
 
 // Lets hosts race.

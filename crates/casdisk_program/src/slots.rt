@@ -1,13 +1,12 @@
 //! Histories beside an area of slots.
 
-use crate::explaining::{ExplainedWords, WrongWords};
-use crate::failure::failure_of;
-use crate::input::opened;
+use crate::failure::{end_fault, failure_of};
+use crate::input::{Source, opened};
 use crate::kept::Kept;
 use crate::program::{cause_of, meaning_of};
-use crate::unmarked::Unmarked;
 use casdisk_script::{Explained, RunFault};
 use command_line::SlotArea;
+use explained_words::{ExplainedWords, Unmarked, WrongStepWords};
 use line_reasons::Grammar;
 use nvme_model::array::Range;
 use slot_texts::{ExplainedSlots, SlotsFault, WrongStep, check_slots, explain_slots};
@@ -39,12 +38,19 @@ fn why_of<R: Read + Drop>(
 
 // Says why a history wasn't judged, and gives the status of that.
 fn end_slots<R: Eprint>(rt: &R, fault: SlotsFault, why: Option<String>) -> u8 {
-    // (where standard error takes no words, the status says it alone; so below)
-    let _ = rt.eprintln(fault);
-    if let Some(why) = why {
-        let _ = rt.eprintln(why);
+    end_fault(rt, fault, fault.status(), why)
+}
+
+// Opens a history, or says why it can't be opened and gives the status of that.
+fn slots_input<R: Files + Input + Eprint + AllocGlobal>(
+    rt: &R,
+    file: &str,
+    why: bool,
+) -> Result<Kept<Source<R::File, R::Reader>>, u8> {
+    match opened(rt, file, why) {
+        Ok(input) => Ok(input),
+        Err(failure) => Err(end_slots(rt, SlotsFault::Run(failure.fault), failure.why)),
     }
-    fault.status()
 }
 
 /// Checks a history and the discipline of these slots, and gives the status 0 where it is legal and keeps that, 1 where
@@ -56,9 +62,9 @@ pub(crate) fn check_slots_file<R: Files + Input + Print + Eprint + AllocGlobal>(
     file: &str,
 ) -> u8 {
     let alloc = rt.alloc();
-    let mut input = match opened(rt, file, why) {
+    let mut input = match slots_input(rt, file, why) {
         Ok(input) => input,
-        Err(failure) => return end_slots(rt, SlotsFault::Run(failure.fault), failure.why),
+        Err(status) => return status,
     };
     let mut output = io::writer(rt);
     match check_slots(alloc, blocks_of(area), &mut input, &mut output) {
@@ -93,7 +99,7 @@ fn tell_steps<R: Files + Input + Print + AllocGlobal>(
 
 // Says what is wrong with how a history uses slots from this block on, in words.
 fn tell_wrong<R: Print>(rt: &R, first: u64, step: WrongStep) -> Result<(), io::Error> {
-    rt.println(WrongWords { first, step })
+    rt.println(WrongStepWords { first, step })
 }
 
 // Says what is wrong with a history, in words.
@@ -133,9 +139,9 @@ pub(crate) fn explain_slots_file<R: Files + Input + Print + Eprint + AllocGlobal
     file: &str,
 ) -> u8 {
     let alloc = rt.alloc();
-    let mut input = match opened(rt, file, why) {
+    let mut input = match slots_input(rt, file, why) {
         Ok(input) => input,
-        Err(failure) => return end_slots(rt, SlotsFault::Run(failure.fault), failure.why),
+        Err(status) => return status,
     };
     match explain_slots(alloc, blocks_of(area), &mut input) {
         Ok(explained) => match tell_explained(rt, area.first, file, explained) {

@@ -1,16 +1,10 @@
 //! Why a ticket owes no completion: a unit of it that ended without a mark.
 
 use crate::input::open;
+use explained_words::Unmarked;
 use history::{Entry, parse_line};
 use line_text::{Lines, NextLine};
 use std::rt::Files;
-
-/// A unit that ended without a mark, and the line of the file with its last block.
-#[derive(Clone, Copy)]
-pub(crate) struct Unmarked {
-    pub(crate) unit: u64,
-    pub(crate) line: u64,
-}
 
 // The unit of this ticket that has no mark behind this entry, whose line has this number.
 fn unmarked_behind(

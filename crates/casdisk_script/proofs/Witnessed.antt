@@ -9,6 +9,8 @@ use Rattle.line_text.specs.Lines.{whole_lines}
 use Rattle.nvme_model.specs.History.{Past}
 use Rattle.nvme_model.specs.declared.config.ConfigNumbers.{ConfigNumbers}
 use Rattle.nvme_model.specs.declared.entry.Entry.{Entry}
+use Rattle.seen_trace.specs.Aside.{history_numbers}
+use Rattle.seen_trace.specs.declared.options.TraceOptions.{TraceOptions}
 use Rattle.seen_trace.specs.declared.seen.Seen.{Seen}
 use Rattle.witness_check.specs.Compared.{IsVerdict}
 use Rattle.witness_check.specs.declared.comparison.TraceVerdict.{TraceVerdict}
@@ -17,7 +19,7 @@ use Rattle.casdisk_script.specs.Certified.{TellsVerdict}
 use Rattle.casdisk_script.specs.Files.{HasHistory, IsUnread, entry_added, file_of}
 use Rattle.casdisk_script.specs.Running.{Makes, RunsScript}
 use Rattle.casdisk_script.specs.Script.{first_config, script_outcome}
-use Rattle.casdisk_script.specs.Traces.{HasTrace, trace_in}
+use Rattle.casdisk_script.specs.Traces.{HasTrace, options_of, trace_in}
 use Rattle.casdisk_script.specs.declared.certify_fault.CertifyFault.{CertifyFault}
 use Rattle.casdisk_script.specs.declared.certify_fault.CertifyFault.TheVariants.{History, OtherConfig, Output, Trace}
 use Rattle.casdisk_script.specs.declared.fault.RunFault.{RunFault}
@@ -39,33 +41,40 @@ whole_history c entries (Some bytes) t w u ran makes known = (ran.1, (ran.0.0, (
 
 -- ---- both were read
 
-module _ (c d : ConfigNumbers) (things : List Seen) (entries : List Entry) where
+module _ (o : TraceOptions) (b c d : ConfigNumbers) (things : List Seen) (entries : List Entry) where
   -- the trace is this one
   abbrev IsTrace : List ℕ → Type 0
-  IsTrace = HasTrace (λ k xs. (k ≡ c) × (xs ≡ things))
+  IsTrace = HasTrace (λ p k xs. (p ≡ o) × (k ≡ b) × (xs ≡ things) × (c ≡ history_numbers p k))
 
   -- the history is this one
   abbrev IsHistory : List ℕ → Type 0
   IsHistory = HasHistory (λ k past. (k ≡ d) × (entries ≡ reverse past))
 
+  -- the configuration of a history of the trace
+  of_trace : (t : List ℕ) → (trace : IsTrace t) → history_numbers (options_of t) trace.1.0 ≡ c
+  of_trace t trace = sym trace.1.2.3
+
   verdict_of : (v : TraceVerdict) (t h : List ℕ) → IsTrace t → IsHistory h → c ≡ d
-      → IsVerdict c (reverse entries) things v
+      → IsVerdict o c (reverse entries) things v
       → IsVerdictOf v t h
   verdict_of v t h trace history same says =
       let whole : reverse entries ≡ (file_of h).past = ap reverse history.1.2.1 ∙ reverse-reverse (file_of h).past in
-      let one = subst (λ (k : ConfigNumbers). IsVerdict k (reverse entries) things v) (sym trace.1.2.0) says in
-      let two = subst (λ (xs : List Seen). IsVerdict trace.1.0 (reverse entries) xs v) (sym trace.1.2.1) one in
-      let three = subst (λ (past : Past). IsVerdict trace.1.0 past (trace_in t) v) whole two in (
+      let one = subst (λ (k : ConfigNumbers). IsVerdict o k (reverse entries) things v) (same ∙ sym history.1.2.0)
+      says in
+      let two = subst (λ (xs : List Seen). IsVerdict o history.1.0 (reverse entries) xs v) (sym trace.1.2.2) one in
+      let three = subst (λ (past : Past). IsVerdict o history.1.0 past (trace_in t) v) whole two in
+      let four = subst (λ (p : TraceOptions). IsVerdict p history.1.0 (file_of h).past (trace_in t) v)
+      (sym trace.1.2.0) three in (
         trace.0,
         (
           trace.1.0,
           trace.1.1,
-          (history.0, (history.1.0, history.1.1, (trace.1.2.0 ∙ same ∙ sym history.1.2.0, three))),
+          (history.0, (history.1.0, history.1.1, (of_trace t trace ∙ same ∙ sym history.1.2.0, four))),
         ),
       )
 
   has_verdict : (v : TraceVerdict) (Holds : TraceVerdict → Type 0) (t h : Option (List ℕ)) → IfSome t IsTrace
-      → IfSome h IsHistory → c ≡ d → IsVerdict c (reverse entries) things v → Holds v → HasTextVerdict Holds t h
+      → IfSome h IsHistory → c ≡ d → IsVerdict o c (reverse entries) things v → Holds v → HasTextVerdict Holds t h
   has_verdict v Holds None h trace history same says holds = tt
   has_verdict v Holds (Some t) None trace history same says holds = tt
   has_verdict v Holds (Some t) (Some h) trace history same says holds =
@@ -73,7 +82,7 @@ module _ (c d : ConfigNumbers) (things : List Seen) (entries : List Entry) where
 
   pub certified : (v : TraceVerdict) (res : Result Bool CertifyFault) (t u h l x y : Option (List ℕ))
       → IsAtEnd u × IfSome t IsTrace → IsAtEnd l × IfSome h IsHistory
-      → (c ≡ d) × IsVerdict c (reverse entries) things v → TellsVerdict v res x y → CertifiesText res t u h l x y
+      → (c ≡ d) × IsVerdict o c (reverse entries) things v → TellsVerdict v res x y → CertifiesText res t u h l x y
   certified v (Ok answer) t u h l x y trace history says told =
       (trace.0, history.0, has_verdict v _ t h trace.1 history.1 says.0 says.1 told)
   certified v (Err (Trace f)) t u h l x y trace history says told = absurd told
@@ -91,7 +100,7 @@ module _ (c d : ConfigNumbers) (things : List Seen) (entries : List Entry) where
     history.1.0,
     trace.1.1,
     history.1.1,
-    λ e. other (sym trace.1.2.0 ∙ e ∙ history.1.2.0),
+    λ e. other (sym (of_trace t trace) ∙ e ∙ history.1.2.0),
   )
 
   -- nothing is said

@@ -6,16 +6,17 @@ use Rattle.std.specs.List.{join_with_byte}
 use Rattle.line_text.specs.Known.{AppendsFront}
 use Rattle.line_text.specs.Lines.{whole_lines}
 use Rattle.nvme_model.specs.declared.config.ConfigNumbers.{ConfigNumbers}
+use Rattle.seen_trace.specs.Aside.{history_numbers}
 use Rattle.witness_check.specs.Compared.{IsVerdict}
 use Rattle.witness_check.specs.declared.comparison.TraceVerdict.{TraceVerdict}
 use Rattle.witness_check.specs.declared.comparison.TraceVerdict.TheVariants.{Bad, Explained, Unlike}
 use Rattle.witness_check.specs.declared.difference.Difference.{Difference}
-use Rattle.witness_check.specs.declared.difference.Difference.TheVariants.{Batch, Completion, Data, HistoryEnds, Kind}
-use Rattle.witness_check.specs.declared.difference.Difference.TheVariants.{Queue, TraceEnds}
+use Rattle.witness_check.specs.declared.difference.Difference.TheVariants.{Batch, Completion, Contents, Data}
+use Rattle.witness_check.specs.declared.difference.Difference.TheVariants.{HistoryEnds, Kind, Queue, TraceEnds}
 use Rattle.casdisk_script.specs.Fault.{exit_status}
 use Rattle.casdisk_script.specs.Files.{HasHistory, IsUnread, bad_text}
 use Rattle.casdisk_script.specs.Script.{first_config}
-use Rattle.casdisk_script.specs.Traces.{HasTrace, IsTraceUnread}
+use Rattle.casdisk_script.specs.Traces.{HasTrace, IsTraceUnread, options_of}
 use Rattle.casdisk_script.specs.declared.certify_fault.CertifyFault.{CertifyFault}
 use Rattle.casdisk_script.specs.declared.certify_fault.CertifyFault.TheVariants.{History, OtherConfig, Output, Trace}
 use Rattle.casdisk_script.specs.declared.fault.RunFault.TheVariants.{NoMemory}
@@ -36,6 +37,7 @@ difference_text Queue = codes ": the queue" ++ 10 ∷ []
 difference_text Batch = codes ": the entries" ++ 10 ∷ []
 difference_text Completion = codes ": the completion" ++ 10 ∷ []
 difference_text Data = codes ": the data" ++ 10 ∷ []
+difference_text Contents = codes ": what was there isn't written before it" ++ 10 ∷ []
 
 -- the line of a verdict
 abbrev pub verdict_text : TraceVerdict → List ℕ
@@ -49,21 +51,22 @@ explains Explained = true
 explains (Bad k) = false
 explains (Unlike k d) = false
 
--- the verdict on the texts of a trace and of a history, which have one configuration
+-- The verdict on the texts of a trace and of a history, whose configuration is the one that a history of the trace has.
 abbrev pub IsVerdictOf : TraceVerdict → List ℕ → List ℕ → Type 0
 IsVerdictOf v trace history =
-    HasTrace (λ c things. HasHistory (λ d past. (c ≡ d) × IsVerdict c past things v) history) trace
+    HasTrace (λ o c things.
+    HasHistory (λ d past. (history_numbers o c ≡ d) × IsVerdict o d past things v) history) trace
 
 -- two texts, where they are known, have a verdict, of which this holds
 abbrev pub HasTextVerdict : (TraceVerdict → Type 0) → Option (List ℕ) → Option (List ℕ) → Type 0
 HasTextVerdict Holds trace history =
     IfSome trace (λ t. IfSome history (λ h. (v : TraceVerdict) × IsVerdictOf v t h × Holds v))
 
--- the first lines of two texts have configurations that differ
+-- the configuration of a history isn't the one that a history of the trace has
 abbrev pub HaveOtherConfigs : List ℕ → List ℕ → Type 0
 HaveOtherConfigs trace history =
     (c d : ConfigNumbers) × (first_config (whole_lines trace) ≡ Some c) × (first_config (whole_lines history) ≡ Some d)
-    × (c ≢ d)
+    × (history_numbers (options_of trace) c ≢ d)
 
 -- By why nothing is said: which of the texts wasn't read, or that they have two configurations.
 abbrev pub IsUnsaid : CertifyFault → (trace trace_left history history_left : Option (List ℕ)) → Type 0

@@ -27,16 +27,17 @@ fn same_config(one: &Config, other: &Config) -> bool
 
 // Compares a history with a trace.
 fn compare(alloc: Global, trace: &Trace, told: &ReadHistory) -> Result<TraceVerdict, CertifyFault>
-    ensures whole { IfOk result (λ v. (trace.now.config ≡ told.now.config)
-        × IsVerdict trace.now.config (reverse told.now.entries.items) trace.now.things.items v) }
-    ensures failed { IfErr result (IsUncompared trace.now.config told.now.config) }
+    ensures whole { IfOk result (λ v. (trace.now.history ≡ told.now.config)
+        × IsVerdict trace.now.options trace.now.history (reverse told.now.entries.items) trace.now.things.items v) }
+    ensures failed { IfErr result (IsUncompared trace.now.history told.now.config) }
 {
-    if !same_config(&trace.config, &told.config) {
+    if !same_config(&trace.history, &told.config) {
         return Err(CertifyFault::OtherConfig);
     }
     match judge(
         alloc,
-        &trace.config,
+        &trace.options,
+        &trace.history,
         trace.things.as_slice(),
         told.entries.as_slice(),
     ) {
@@ -57,6 +58,7 @@ fn difference_text(difference: Difference) -> &'static [u8]
         Difference::Batch => b": the entries\n",
         Difference::Completion => b": the completion\n",
         Difference::Data => b": the data\n",
+        Difference::Contents => b": what was there isn't written before it\n",
     }
 }
 
@@ -98,7 +100,8 @@ fn tell_verdict<W: Write>(verdict: TraceVerdict, writer: &mut W) -> Result<bool,
     }
 }
 
-/// Reads a trace to its reader's end, and then a history of the same configuration to its own, and writes one line:
+/// Reads a trace to its reader's end, and then a history to its own, of the configuration that a history of that trace
+/// has: the same, or one with a queue pair more where the trace says that contents are unknown. It writes one line:
 /// `explained` where the history is legal and was seen as the trace; `bad at K` where it isn't legal, with the first
 /// place K, from 1, at which it isn't; or `seen K: ` and what differs, with the number K, from 1, of the first thing
 /// seen that differs. Answers whether the trace is explained.
@@ -106,7 +109,7 @@ fn tell_verdict<W: Write>(verdict: TraceVerdict, writer: &mut W) -> Result<bool,
 /// # Errors
 ///
 /// `Trace` and `History` with why that text wasn't read, as `check_text` says it, and `OtherConfig` where both were and
-/// their configurations differ, all after nothing was written; `Output` after a beginning of the line.
+/// their configurations aren't so, all after nothing was written; `Output` after a beginning of the line.
 pub fn certify_text<T: Read, R: Read, W: Write>(
     alloc: Global,
     trace: &mut T,

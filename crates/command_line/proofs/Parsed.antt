@@ -6,7 +6,7 @@ use Rattle.std.specs.declared.num.ParseIntError.{ParseIntError}
 use Rattle.clap.specs.Words.{ReadsOne, Row, Text, one_of}
 use Rattle.clap.proofs.OnLiterals.{clap_on_literals}
 use Rattle.clap.specs.Words.{is_simple, subcommand_of}
-use Rattle.command_line.specs.Asking.{Asks, AsksBy, SaysNumber}
+use Rattle.command_line.specs.Asking.{Asks, AsksBy, MaySayNumber, SaysNumber}
 use Rattle.command_line.specs.CommandLine.{casdisk_app, subcommand_in}
 use Rattle.command_line.specs.declared.request.Asked.{Asked}
 
@@ -42,6 +42,17 @@ pub reads_it : (G : Text → Result ℕ ParseIntError → Type 0) (o : Option Te
 reads_it G o name rows r is only value n says =
     same_number G says.0 r (λ x. only says.0 x) (value says.0 (is ∙ says.1)) n says.2
 
+-- a number that may be said
+pub may_say : (name : Text) (rows : List Row) (r : Option ℕ) → IfSome r (SaysNumber name rows)
+    → ((n : ℕ) → SaysNumber name rows n → r ≡ Some n) → MaySayNumber name rows r
+may_say name rows None says only = λ n h. (let bad : None ≡ Some n = only n h in absurd cc)
+may_say name rows (Some m) says only = says
+
+-- none is said where none was read
+pub says_none : (name : Text) (rows : List Row) → ((n : ℕ) → SaysNumber name rows n → None ≡ Some n)
+    → (n : ℕ) → SaysNumber name rows n → ⊥
+says_none name rows only n h = let bad : None ≡ Some n = only n h in cc
+
 -- a command's name and its matches, from both parts
 pub both_parts : {X : Type 0} (s : Option X) (g : X → Text) (h : X → List Row) (name : Text) (rows : List Row)
     → option_map g s ≡ Some name
@@ -72,5 +83,8 @@ by_command words name rows e (Asked.Explain area why file) h = (name, rows, e, h
 by_command words name rows e (Asked.Certify why trace history) h = (name, rows, e, h)
 by_command words name rows e (Asked.Observe witness steps why trace) h = (name, rows, e, h)
 by_command words name rows e (Asked.Tell color file) h = (name, rows, e, h)
+by_command words name rows e (Asked.Draw from to why file) h = (name, rows, e, h)
+by_command words name rows e (Asked.Random seed lines config like) h = (name, rows, e, h)
+by_command words name rows e (Asked.Shrink why script) h = (name, rows, e, h)
 by_command words name rows e (Asked.Race r trace quiet why) h = (name, rows, e, h)
 by_command words name rows e (Asked.Show text) h = absurd h

@@ -3,17 +3,17 @@ use Rattle.std.proofs.Common.{◌≡◌, ◌∙◌, ◌⊎◌, Bool, true, false
 use Rattle.std.specs.Prelude.{option_map}
 use Rattle.clap.specs.Words.{Row, Text, subcommand_of, takes}
 use Rattle.clap.specs.declared.error.kind.ErrorKind.{ErrorKind}
-use Rattle.command_line.specs.Asking.{AreRefused, AskNothing, IsRefusedBy, IsRefusedFor}
+use Rattle.command_line.specs.Asking.{AreRefused, AskNothing, IsRefusedBy, HasCause}
 use Rattle.command_line.specs.CommandLine.{casdisk_app, subcommand_in, is_taken}
 use Rattle.command_line.specs.declared.request.UsageFault.{UsageFault}
 
 -- what may be refused for this may be refused
-pub refused_for : (P : Type 0) (f : UsageFault) → P → IsRefusedFor P f
+pub refused_for : (P : Type 0) (f : UsageFault) → P → HasCause P f
 refused_for P (UsageFault.Text text) h = h
 refused_for P UsageFault.NoMemory h = tt
 
 -- what is refused for this is refused for what follows from it
-pub refused_further : (P Q : Type 0) (f : UsageFault) → (P → Q) → IsRefusedFor P f → IsRefusedFor Q f
+pub refused_further : (P Q : Type 0) (f : UsageFault) → (P → Q) → HasCause P f → HasCause Q f
 refused_further P Q (UsageFault.Text text) g h = g h
 refused_further P Q UsageFault.NoMemory g h = tt
 

@@ -47,6 +47,11 @@ pub record SaysNumbers (rows : List Row) (hosts workers slots rounds queues : �
 abbrev pub SaysText : Text → List Row → Text → Type 0
 SaysText name rows text = first_of name rows ≡ Some text
 
+-- the number that an option says, none where it says none
+abbrev pub MaySayNumber : Text → List Row → Option ℕ → Type 0
+MaySayNumber name rows None = (n : ℕ) → SaysNumber name rows n → ⊥
+MaySayNumber name rows (Some n) = SaysNumber name rows n
+
 -- the text that an option says, none where it isn't there
 abbrev pub MaySayText : Text → List Row → Option (Bor Text) → Type 0
 MaySayText name rows text = first_of name rows ≡ option_map (λ t. t.now) text
@@ -117,6 +122,26 @@ pub record SaysTell (rows : List Row) (color : Bool) (file : Text) : Type 0 wher
   pub colors : SaysFlag (codes "color") rows color
   pub reads : SaysText (codes "FILE") rows file
 
+-- what the options of `draw` say
+pub record SaysDraw (rows : List Row) (from to : Option ℕ) (why : Bool) (file : Text) : Type 0 where
+  pub begins : MaySayNumber (codes "from") rows from
+  pub ends : MaySayNumber (codes "to") rows to
+  pub reason : SaysFlag (codes "why") rows why
+  pub reads : SaysText (codes "FILE") rows file
+
+-- what the options of `random` say
+pub record SaysRandom (rows : List Row) (seed lines : ℕ) (config like : Option (Bor Text)) : Type 0 where
+  pub begins : SaysNumber (codes "seed") rows seed
+  pub length : SaysNumber (codes "lines") rows lines
+  pub numbers : MaySayText (codes "config") rows config
+  pub kind : MaySayText (codes "like") rows like
+
+-- what the options of `shrink` say; its script isn't standard input, which has the answers
+pub record SaysShrink (rows : List Row) (why : Bool) (script : Text) : Type 0 where
+  pub reason : SaysFlag (codes "why") rows why
+  pub reads : SaysText (codes "SCRIPT") rows script
+  pub other : script ≢ codes "-"
+
 -- what the options of `race` say
 pub record SaysRace (rows : List Row) (r : Race) (trace quiet why : Bool) : Type 0 where
   pub numbers : SaysNumbers rows r.hosts r.workers r.slots r.rounds r.queues
@@ -140,6 +165,10 @@ AsksBy name rows (Asked.Certify why trace history) =
 AsksBy name rows (Asked.Observe witness steps why trace) =
     (name ≡ codes "observe") × SaysObserve rows witness steps why trace.now
 AsksBy name rows (Asked.Tell color file) = (name ≡ codes "tell") × SaysTell rows color file.now
+AsksBy name rows (Asked.Draw from to why file) = (name ≡ codes "draw") × SaysDraw rows from to why file.now
+AsksBy name rows (Asked.Random seed lines config like) =
+    (name ≡ codes "random") × SaysRandom rows seed lines config like
+AsksBy name rows (Asked.Shrink why script) = (name ≡ codes "shrink") × SaysShrink rows why script.now
 AsksBy name rows (Asked.Race r trace quiet why) = (name ≡ codes "race") × SaysRace rows r trace quiet why
 AsksBy name rows (Asked.Show text) = ⊥
 
@@ -157,7 +186,8 @@ Asks words asked = AsksByCommand words asked
 abbrev pub IsOther : Text → Type 0
 IsOther name =
     (name ≢ codes "run") × (name ≢ codes "check") × (name ≢ codes "explain") × (name ≢ codes "certify")
-    × (name ≢ codes "observe") × (name ≢ codes "race") × (name ≢ codes "tell")
+    × (name ≢ codes "observe") × (name ≢ codes "race") × (name ≢ codes "tell") × (name ≢ codes "draw")
+    × (name ≢ codes "random") × (name ≢ codes "shrink")
 
 -- no file is named
 abbrev pub IsNoFile : List Row → Type 0
@@ -188,6 +218,15 @@ AreNoInputs rows =
 abbrev pub IsNoSearch : List Row → Type 0
 IsNoSearch rows = (first_of (codes "TRACE") rows ≡ None) ⊎ ((n : ℕ) → SaysNumber (codes "steps") rows n → ⊥)
 
+-- no seed is named, or no number of lines
+abbrev pub IsNoRandom : List Row → Type 0
+IsNoRandom rows =
+    ((n : ℕ) → SaysNumber (codes "seed") rows n → ⊥) ⊎ ((n : ℕ) → SaysNumber (codes "lines") rows n → ⊥)
+
+-- no script is named, or it is standard input
+abbrev pub IsNoScript : List Row → Type 0
+IsNoScript rows = (first_of (codes "SCRIPT") rows ≡ None) ⊎ (first_of (codes "SCRIPT") rows ≡ Some (codes "-"))
+
 -- The options of a command of this name ask for nothing: no file is named where one has to be, what is to be shown is
 -- unknown, the words of an area are no area, two options exclude each other, or the numbers are those of no race. There
 -- is no other command.
@@ -200,20 +239,23 @@ AskNothing name rows =
     ⊎ ((name ≡ codes "certify") × AreNoInputs rows)
     ⊎ ((name ≡ codes "observe") × IsNoSearch rows)
     ⊎ ((name ≡ codes "tell") × IsNoFile rows)
+    ⊎ ((name ≡ codes "draw") × IsNoFile rows)
+    ⊎ ((name ≡ codes "random") × IsNoRandom rows)
+    ⊎ ((name ≡ codes "shrink") × IsNoScript rows)
     ⊎ IsOther name
 
 -- a text says why something is refused only where this holds
-abbrev pub IsRefusedFor : Type 0 → UsageFault → Type 0
-IsRefusedFor P UsageFault.NoMemory = Unit {0}
-IsRefusedFor P (UsageFault.Text text) = P
+abbrev pub HasCause : Type 0 → UsageFault → Type 0
+HasCause P UsageFault.NoMemory = Unit {0}
+HasCause P (UsageFault.Text text) = P
 
 -- a text says why options are refused only where they ask for nothing
 abbrev pub IsRefusedBy : Text → List Row → UsageFault → Type 0
-IsRefusedBy name rows fault = IsRefusedFor (AskNothing name rows) fault
+IsRefusedBy name rows fault = HasCause (AskNothing name rows) fault
 
 -- A text says why the words are refused only where they are no command line of the program by clap's definitions, or
 -- name a command whose options ask for nothing.
 abbrev pub AreRefused : List Text → UsageFault → Type 0
 AreRefused words fault =
-    IsRefusedFor ((is_taken words ≡ false) ⊎ (subcommand_in words ≡ None)
+    HasCause ((is_taken words ≡ false) ⊎ (subcommand_in words ≡ None)
     ⊎ ((name : Text) × (rows : List Row) × (subcommand_in words ≡ Some (name, rows)) × AskNothing name rows)) fault

@@ -84,6 +84,27 @@ observe_app =
 abbrev pub tell_app : App
 tell_app = with_rule (with_rule (new_app (codes "tell")) (flag_rule (codes "color"))) (input_rule (codes "FILE"))
 
+-- a command with the range of what is drawn
+abbrev pub with_range_rules : App → App
+with_range_rules a = with_rule (with_rule a (number_rule (codes "from"))) (number_rule (codes "to"))
+
+-- the command `draw` with its options
+abbrev pub draw_app : App
+draw_app =
+    with_rule (with_rule (with_range_rules (new_app (codes "draw"))) (flag_rule (codes "why")))
+    (input_rule (codes "FILE"))
+
+-- the command `random` with its options
+abbrev pub random_app : App
+random_app =
+    with_rule (with_rule (with_rule (with_rule (new_app (codes "random")) (needed_rule (codes "seed")))
+    (default_rule (codes "lines") (codes "100"))) (text_rule (codes "config"))) (text_rule (codes "like"))
+
+-- the command `shrink` with its options
+abbrev pub shrink_app : App
+shrink_app =
+    with_rule (with_rule (new_app (codes "shrink")) (flag_rule (codes "why"))) (input_rule (codes "SCRIPT"))
+
 -- the program, with a version, of which one command has to be named
 abbrev pub top_app : App
 top_app = let a = new_app (codes "casdisk") in
@@ -93,8 +114,9 @@ top_app = let a = new_app (codes "casdisk") in
 abbrev pub casdisk_app : App
 casdisk_app =
     with_subcommand (with_subcommand (with_subcommand (with_subcommand (with_subcommand (with_subcommand
-    (with_subcommand top_app run_app.top) check_app.top) explain_app.top) race_app.top) certify_app.top)
-    observe_app.top) tell_app.top
+    (with_subcommand (with_subcommand (with_subcommand (with_subcommand top_app run_app.top) check_app.top)
+    explain_app.top) race_app.top) certify_app.top) observe_app.top) tell_app.top) draw_app.top) random_app.top)
+    shrink_app.top
 
 -- the command that the words name, and what they give its options
 unfoldable pub subcommand_in : List Text → Option (Text × List Row)

@@ -2,7 +2,7 @@
 
 ghost use Rattle.std.specs.Prelude.{◌≡◌, IfErr, IfOk, IfSome, Some, map};
 ghost use Rattle.clap.specs.Words.{found_of, rows_of};
-ghost use Rattle.command_line.specs.Asking.{IsAreaOf, IsNoArea, IsRefusedFor, SaysArea};
+ghost use Rattle.command_line.specs.Asking.{IsAreaOf, IsNoArea, HasCause, SaysArea};
 ghost use Rattle.command_line.specs.declared.request.SlotArea.{SlotArea};
 
 use crate::options::{text_of, words_asked};
@@ -36,7 +36,7 @@ pub(crate) fn area_asked(
     matches: &ArgMatches<'_>,
 ) -> Result<Option<SlotArea>, UsageFault>
     ensures says { IfOk result (SaysArea (rows_of (found_of matches.now))) }
-    ensures refuses { IfErr result (IsRefusedFor (IsNoArea (rows_of (found_of matches.now)))) }
+    ensures refuses { IfErr result (HasCause (IsNoArea (rows_of (found_of matches.now)))) }
 {
     let Some(words) = words_asked(matches, "slots") else {
         return Ok(None);

@@ -4,12 +4,15 @@
 mod area;
 mod certify;
 mod checking;
+mod drawing;
 mod observing;
 mod options;
 mod racing;
+mod randoms;
 mod request;
 mod running;
 mod shown;
+mod shrinking;
 mod telling;
 mod usage;
 

@@ -129,6 +129,19 @@ pub(crate) fn with_area<'a>(
     command.arg(area_option(alloc, help))
 }
 
+/// The command with one more number, which may be left out.
+pub(crate) fn with_number<'a>(
+    alloc: Global,
+    command: Command<'a>,
+    name: &'static str,
+    value: &'static str,
+    help: &'static str,
+) -> Result<Command<'a>, AllocError>
+    ensures { IfOk result (λ c. app_of c ≡ with_rule (app_of command.entry) (number_rule name.entry.now)) }
+{
+    command.arg(number_option(alloc, name, value, help))
+}
+
 /// The command with one more of its numbers, which has to be there.
 pub(crate) fn with_needed<'a>(
     alloc: Global,

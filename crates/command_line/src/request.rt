@@ -70,6 +70,27 @@ pub enum Asked<'a> {
         color: bool,
         file: &'a str,
     },
+    /// To draw the steps of the history in this file from one place to another, where none is named from its first or
+    /// to its last.
+    Draw {
+        from: Option<u64>,
+        to: Option<u64>,
+        why: bool,
+        file: &'a str,
+    },
+    /// To print a script of so many lines, which this seed makes; by these numbers of a configuration and of this kind,
+    /// where they are named.
+    Random {
+        seed: u64,
+        lines: u64,
+        config: Option<&'a str>,
+        like: Option<&'a str>,
+    },
+    /// To make the script in this file small, by questions.
+    Shrink {
+        why: bool,
+        script: &'a str,
+    },
     /// To let hosts race, and print the history, or its trace.
     Race {
         race: Race,

@@ -2,7 +2,7 @@
 
 ghost use Rattle.std.specs.Prelude.{◌≡◌, IfErr, IfOk, codes};
 ghost use Rattle.clap.specs.Words.{app_of, found_of, rows_of};
-ghost use Rattle.command_line.specs.Asking.{AsksBy, IsNotShown, IsRaceInRange, IsRefusedBy, IsRefusedFor, SaysShown};
+ghost use Rattle.command_line.specs.Asking.{AsksBy, IsNotShown, IsRaceInRange, IsRefusedBy, HasCause, SaysShown};
 ghost use Rattle.command_line.specs.CommandLine.{run_app};
 
 use crate::options::{WHY, flag_asked, text_asked, text_of, with_flag, with_input, with_text};
@@ -60,7 +60,7 @@ pub(crate) fn run_command<'a>(alloc: Global) -> Result<Command<'a>, AllocError>
 // What the options of a run show: all kinds of lines where they name none.
 fn shown_asked(alloc: Global, matches: &ArgMatches<'_>) -> Result<Shown, UsageFault>
     ensures says { IfOk result (SaysShown (rows_of (found_of matches.now))) }
-    ensures refuses { IfErr result (IsRefusedFor (IsNotShown (rows_of (found_of matches.now)))) }
+    ensures refuses { IfErr result (HasCause (IsNotShown (rows_of (found_of matches.now)))) }
 {
     let trace = flag_asked(matches, "trace");
     let Some(text) = text_asked(matches, "show") else {

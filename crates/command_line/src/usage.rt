@@ -3,15 +3,18 @@
 ghost use Rattle.std.specs.Prelude.{◌≡◌, IfErr, IfOk, IsOkAnd, map, string_bytes, true};
 ghost use Rattle.clap.specs.Words.{app_of, found_of, rows_of, with_subcommand};
 ghost use Rattle.command_line.specs.Asking.{AreRefused, Asks, AsksBy, IsRaceInRange, IsRefusedBy};
-ghost use Rattle.command_line.specs.CommandLine.{casdisk_app};
+ghost use Rattle.command_line.specs.CommandLine.{casdisk_app, top_app};
 
 use crate::certify::{certify_asked, certify_command};
 use crate::checking::{check_asked, check_command, explain_asked, explain_command};
+use crate::drawing::{draw_asked, draw_command};
 use crate::observing::{observe_asked, observe_command};
 use crate::options::text_of;
 use crate::racing::{race_asked, race_command};
+use crate::randoms::{random_asked, random_command};
 use crate::request::{Asked, UsageFault};
 use crate::running::{run_asked, run_command};
+use crate::shrinking::{shrink_asked, shrink_command};
 use crate::telling::{tell_asked, tell_command};
 use clap::error::ErrorKind;
 use clap::{ArgMatches, Command};
@@ -37,21 +40,30 @@ fn with_command<'a>(
     command.subcommand(below?)
 }
 
-fn command<'a>(alloc: Global) -> Result<Command<'a>, AllocError>
-    ensures { IfOk result (λ c. app_of c ≡ casdisk_app) }
+// The program, without its commands.
+fn top_command<'a>(alloc: Global) -> Command<'a>
+    ensures { app_of result ≡ top_app }
 {
-    let command = Command::new(alloc, "casdisk")
+    Command::new(alloc, "casdisk")
         .version("0.1.0")
         .about("An NVM Express controller in software, around the fused Compare and Write")
         .after_help(ABOUT_SCRIPTS)
-        .subcommand_required(true);
-    let command = with_command(command, run_command(alloc))?;
+        .subcommand_required(true)
+}
+
+fn command<'a>(alloc: Global) -> Result<Command<'a>, AllocError>
+    ensures { IfOk result (λ c. app_of c ≡ casdisk_app) }
+{
+    let command = with_command(top_command(alloc), run_command(alloc))?;
     let command = with_command(command, check_command(alloc))?;
     let command = with_command(command, explain_command(alloc))?;
     let command = with_command(command, race_command(alloc))?;
     let command = with_command(command, certify_command(alloc))?;
     let command = with_command(command, observe_command(alloc))?;
-    with_command(command, tell_command(alloc))
+    let command = with_command(command, tell_command(alloc))?;
+    let command = with_command(command, draw_command(alloc))?;
+    let command = with_command(command, random_command(alloc))?;
+    with_command(command, shrink_command(alloc))
 }
 
 // What the options of a command of this name ask for.
@@ -78,6 +90,12 @@ fn command_asked<'a>(
         run_asked(alloc, matches)
     } else if name == "tell" {
         tell_asked(alloc, matches)
+    } else if name == "draw" {
+        draw_asked(alloc, matches)
+    } else if name == "random" {
+        random_asked(alloc, matches)
+    } else if name == "shrink" {
+        shrink_asked(alloc, matches)
     } else {
         Err(text_of(alloc, "error: no command"))
     }

@@ -44,8 +44,8 @@ module _ {P : Type 0} (g : Ghosts P) where
 
   -- ---- the same driver under another serial
 
-  call_of_same : (d e : Driver P g) (k : Call P) → e.began ≡ d.began → e.port ≡ d.port → e.cids ≡ d.cids → IsCallOf d k
-      → IsCallOf e k
+  pub call_of_same : (d e : Driver P g) (k : Call P) → e.began ≡ d.began → e.port ≡ d.port → e.cids ≡ d.cids
+      → IsCallOf d k → IsCallOf e k
   call_of_same d e k b p c of =
       record {
         later = subst (λ (q : P). g.follows k.start.value q) (sym p) of.later;

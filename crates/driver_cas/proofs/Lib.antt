@@ -7,3 +7,4 @@ pub mod Sending
 pub mod Starting
 pub mod Passing
 pub mod Drawing
+pub mod Overtaking

@@ -11,3 +11,4 @@ pub mod Starts
 pub mod Tries
 pub mod Requests
 pub mod SlotStarts
+pub mod TakeoverStarts

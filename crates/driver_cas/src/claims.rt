@@ -16,7 +16,7 @@ use nvme_model::operation::Op;
 const ZEROS: [u8; 512] = [0; 512];
 
 // A fused pair on one block.
-fn swap(lba: u64) -> Request
+pub(crate) fn swap(lba: u64) -> Request
     ensures { result ≡ swap_request lba }
 {
     Request {

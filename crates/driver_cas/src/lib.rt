@@ -14,6 +14,7 @@ mod port;
 mod shared_port;
 mod start;
 mod table;
+mod takeovers;
 
 pub use call::{Call, Poll};
 pub use driver::Driver;

@@ -93,8 +93,12 @@ fn fields_text(alloc: Global, sqe: &Sqe) -> Result<String, NoMemory>
     )
 }
 
-// A command in words.
-fn command_text(alloc: Global, entry: &[u8; 64]) -> Result<String, NoMemory>
+/// A submission queue entry in words: its command, its blocks, its CID, and how it is fused.
+///
+/// # Errors
+///
+/// `NoMemory` alone.
+pub fn command_words(alloc: Global, entry: &[u8; 64]) -> Result<String, NoMemory>
     ensures value { IfOk result (λ text. string_bytes text ≡ command_told (sqe_fields entry.now)) }
 {
     let sqe = decode_sqe(entry);
@@ -105,7 +109,7 @@ fn command_text(alloc: Global, entry: &[u8; 64]) -> Result<String, NoMemory>
 fn push_next(alloc: Global, text: &mut String, item: &Submission) -> Result<(), NoMemory>
     ensures value { OnOk result (string_bytes text.new ≡ string_bytes text.old ++ next_told item.now) }
 {
-    let command = command_text(alloc, &item.entry)?;
+    let command = command_words(alloc, &item.entry)?;
     let next = joined(alloc, &["; ", command.as_str()])?;
     text.push_str(next.as_str())
 }
@@ -118,7 +122,7 @@ pub(crate) fn batch_text(alloc: Global, items: &[Submission]) -> Result<String, 
     let Some((first, others)) = items.split_first() else {
         return Ok(String::new(alloc));
     };
-    let mut text = command_text(alloc, &first.entry)?;
+    let mut text = command_words(alloc, &first.entry)?;
     for item in others {
         push_next(alloc, &mut text, item)?;
     }

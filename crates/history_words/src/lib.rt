@@ -13,6 +13,7 @@ mod paint;
 mod texts;
 
 pub use crate::beside::beside_words;
+pub use crate::commands::command_words;
 pub use crate::completions::completion_words;
 pub use crate::configurations::config_words;
 pub use crate::entries::entry_words;

@@ -41,6 +41,16 @@ pub enum Form {
     Found,
     /// Whether a unit takes effect.
     Mark,
+    /// What a line of a trace's head is about.
+    Topic,
+    /// That contents are unknown.
+    Unknown,
+    /// That any status will do.
+    Any,
+    /// The first field of a completion that is ignored.
+    Field,
+    /// One more such field, or the end of the line.
+    MoreFields,
 }
 
 impl fmt::Display for Form {
@@ -63,6 +73,12 @@ impl fmt::Display for Form {
             Form::Mode => "r or w",
             Form::Found => "read, equal, differs or written",
             Form::Mark => "* or -",
+            Form::Topic => "contents, statuses or ignore",
+            Form::Unknown => "unknown",
+            Form::Any => "any",
+            Form::Field => "DNR, MORE, CRD, DW0, DW1 or SQHD",
+            Form::MoreFields =>
+                "one more of DNR, MORE, CRD, DW0, DW1 and SQHD, in this order, or the end of the line",
         })
     }
 }

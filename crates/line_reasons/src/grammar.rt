@@ -84,6 +84,16 @@ static REAP: [Form; 2] = [Form::Number16, Form::Completion];
 
 static REAP_WITH_DATA: [Form; 3] = [Form::Number16, Form::Completion, Form::Data];
 
+static OPTION: [Form; 1] = [Form::Topic];
+
+static UNKNOWN: [Form; 1] = [Form::Unknown];
+
+static ANY: [Form; 1] = [Form::Any];
+
+static FIELDS: [Form; 2] = [Form::Field, Form::MoreFields];
+
+static MORE_FIELDS: [Form; 1] = [Form::MoreFields];
+
 static NOTHING: [Form; 0] = [];
 
 // What follows a kind of lines of a script.
@@ -138,6 +148,9 @@ fn behind_trace_kind(word: &[u8]) -> Option<&'static [Form]> {
     if word == b"reap".as_slice() {
         return Some(&REAP_WITH_DATA);
     }
+    if word == b"observe".as_slice() {
+        return Some(&OPTION);
+    }
     None
 }
 
@@ -168,6 +181,17 @@ pub(crate) fn behind_first(grammar: Grammar, word: &[u8]) -> Option<&'static [Fo
         Grammar::History => behind_history_kind(word),
         Grammar::Trace => behind_trace_kind(word),
     }
+}
+
+// What follows what a line of a trace's head is about.
+fn behind_topic(word: &[u8]) -> &'static [Form] {
+    if word == b"contents".as_slice() {
+        return &UNKNOWN;
+    }
+    if word == b"statuses".as_slice() {
+        return &ANY;
+    }
+    &FIELDS
 }
 
 /// What follows a word of this form, where `others` would.
@@ -203,6 +227,8 @@ pub(crate) fn behind_word(
                 &STATUS
             }
         }
+        Form::Topic => behind_topic(word),
+        Form::MoreFields => &MORE_FIELDS,
         _ => others,
     }
 }

@@ -9,7 +9,7 @@ use crate::walk::first_wrong;
 use history::{LineFault, parse_line, read_config_line};
 use script_lines::read_script_line;
 use std::alloc::{AllocError as NoMemory, Global};
-use trace_lines::parse_seen;
+use trace_lines::{parse_option, parse_seen};
 
 /// Why a line is none: what stands at a column, counted in bytes from 1; behind its last byte where it ends too early.
 #[derive(Clone, Copy, Debug, PartialEq, Eq)]
@@ -26,7 +26,12 @@ fn is_line(alloc: Global, grammar: Grammar, line: &[u8]) -> Result<bool, NoMemor
         Grammar::Configuration => read_config_line(alloc, line).err(),
         Grammar::Script => read_script_line(alloc, line).err(),
         Grammar::History => parse_line(alloc, line).err(),
-        Grammar::Trace => parse_seen(alloc, line).err(),
+        Grammar::Trace => {
+            if parse_option(line).is_some() {
+                return Ok(true);
+            }
+            parse_seen(alloc, line).err()
+        }
     };
     match fault {
         None => Ok(true),

@@ -272,6 +272,14 @@ fn wrong_name(form: Form, word: &[u8]) -> Option<Wrong>
         Form::Mode => word == b"r".as_slice() || word == b"w".as_slice(),
         Form::Found => is_one(word, b"read", b"equal", b"differs", b"written"),
         Form::Mark => word == b"*".as_slice() || word == b"-".as_slice(),
+        Form::Topic => is_one(word, b"contents", b"statuses", b"ignore", b"ignore"),
+        Form::Unknown => word == b"unknown".as_slice(),
+        Form::Any => word == b"any".as_slice(),
+        Form::Field | Form::MoreFields => {
+            is_one(word, b"DNR", b"MORE", b"CRD", b"DW0")
+                || word == b"DW1".as_slice()
+                || word == b"SQHD".as_slice()
+        }
         _ => true,
     };
     wrong_choice(form, chosen)

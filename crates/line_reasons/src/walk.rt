@@ -38,7 +38,7 @@ fn wrong_end(due: &[Form], at: usize) -> Wrong
     ensures { result.at ≡ at }
 {
     let cause = match due.first() {
-        None | Some(Form::More) => Cause::Unknown,
+        None | Some(Form::More) | Some(Form::MoreFields) => Cause::Unknown,
         Some(form) => Cause::Ends(*form),
     };
     Wrong { at, cause }

@@ -2,4 +2,6 @@
 #![tactic(auto)]
 
 #[cfg(test)]
+mod options;
+#[cfg(test)]
 mod traces;

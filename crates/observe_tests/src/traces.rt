@@ -1,7 +1,7 @@
 //! What is answered where a history is looked for.
 
 use history::Config;
-use seen_trace::Seen;
+use seen_trace::{Seen, TraceOptions};
 use std::alloc::Global;
 use std::test::Fail;
 use trace_lines::parse_seen;
@@ -29,7 +29,7 @@ const SHARED: [&[u8]; 5] = [
 ];
 
 // What these lines of a trace say.
-fn trace_of(alloc: Global, lines: &[&[u8]]) -> Result<Vec<Seen>, Fail> {
+pub(crate) fn trace_of(alloc: Global, lines: &[&[u8]]) -> Result<Vec<Seen>, Fail> {
     let mut trace = Vec::new(alloc);
     for line in lines {
         let Ok(seen) = parse_seen(alloc, line) else {
@@ -50,7 +50,7 @@ enum Said {
 
 fn asked(alloc: Global, config: &Config, lines: &[&[u8]], steps: u64) -> Result<Said, Fail> {
     let trace = trace_of(alloc, lines)?;
-    match observe(alloc, config, &trace, steps)? {
+    match observe(alloc, &TraceOptions::none(), config, config, &trace, steps)? {
         Observed::Explained(_) => Ok(Said::Explained),
         Observed::NotFound(reason) => Ok(Said::NotFound(reason.lines, reason.why)),
         Observed::GaveUp => Ok(Said::GaveUp),

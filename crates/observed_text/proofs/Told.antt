@@ -4,8 +4,10 @@ use Rattle.std.specs.Prelude.{IfSome, Option, Result, Ok, Err}
 use Rattle.std.specs.Io.KnownBytes.{IsAtEnd}
 use Rattle.std.proofs.KnownBytes.{Keeps-refl}
 use Rattle.nvme_model.specs.declared.config.ConfigNumbers.{ConfigNumbers}
+use Rattle.seen_trace.specs.Aside.{history_numbers}
+use Rattle.seen_trace.specs.declared.options.TraceOptions.{TraceOptions}
 use Rattle.seen_trace.specs.declared.seen.Seen.{Seen}
-use Rattle.casdisk_script.specs.Traces.{HasTrace, IsTraceUnread}
+use Rattle.casdisk_script.specs.Traces.{HasTrace, IsTraceUnread, options_of}
 use Rattle.casdisk_script.specs.declared.fault.RunFault.{RunFault}
 use Rattle.casdisk_script.specs.declared.fault.RunFault.TheVariants.{BadConfig, BadLine, Input, NoMemory, Output}
 use Rattle.observed_text.specs.Observing.{AnswersTrace, ObservesText}
@@ -20,21 +22,33 @@ unread Input t left v w h = (h, Keeps-refl v, Keeps-refl w)
 unread Output t left v w h = tt
 unread NoMemory t left v w h = Keeps-refl w
 
-module _ (c : ConfigNumbers) (things : List Seen) where
+module _ (o : TraceOptions) (b c : ConfigNumbers) (things : List Seen) where
+  -- the trace is this one
+  abbrev IsTrace : List ℕ → Type 0
+  IsTrace = HasTrace (λ p k xs. (p ≡ o) × (k ≡ b) × (xs ≡ things) × (c ≡ history_numbers p k))
+
   -- what holds of what was read holds of the trace
-  has_trace : (P : ConfigNumbers → List Seen → Type 0) (t : Option (List ℕ))
-      → IfSome t (HasTrace (λ k xs. (k ≡ c) × (xs ≡ things))) → P c things → IfSome t (HasTrace P)
+  has_trace : (P : TraceOptions → ConfigNumbers → List Seen → Type 0) (t : Option (List ℕ)) → IfSome t IsTrace
+      → P o c things → IfSome t (HasTrace (λ p k xs. P p (history_numbers p k) xs))
   has_trace P None read holds = tt
   has_trace P (Some t) read holds =
-      let one = subst (λ (k : ConfigNumbers). P k things) (sym read.1.2.0) holds in
-      (read.0, (read.1.0, read.1.1, subst (λ (xs : List Seen). P read.1.0 xs) (sym read.1.2.1) one))
+      let one = subst (λ (k : ConfigNumbers). P o k things) read.1.2.3 holds in
+      let two = subst (λ (p : TraceOptions). P p (history_numbers (options_of t) read.1.0) things)
+      (sym read.1.2.0) one in (
+        read.0,
+        (
+          read.1.0,
+          read.1.1,
+          subst (λ (xs : List Seen). P (options_of t) (history_numbers (options_of t) read.1.0) xs)
+              (sym read.1.2.2) two,
+        ),
+      )
 
   -- all lines were read, and this was answered on what they say
-  pub told : (res : Result TraceAnswer RunFault) (t left v x w y : Option (List ℕ))
-      → IsAtEnd left × IfSome t (HasTrace (λ k xs. (k ≡ c) × (xs ≡ things)))
-      → AnswersTrace c things res v x w y → ObservesText res t left v x w y
+  pub told : (res : Result TraceAnswer RunFault) (t left v x w y : Option (List ℕ)) → IsAtEnd left × IfSome t IsTrace
+      → AnswersTrace o c things res v x w y → ObservesText res t left v x w y
   told (Ok answer) t left v x w y read answered =
-      (read.0, has_trace (λ k xs. AnswersTrace k xs (Ok answer) v x w y) t read.1 answered)
+      (read.0, has_trace (λ p k xs. AnswersTrace p k xs (Ok answer) v x w y) t read.1 answered)
   told (Err Output) t left v x w y read answered = tt
   told (Err NoMemory) t left v x w y read answered = answered
   told (Err Input) t left v x w y read answered = absurd answered

@@ -9,14 +9,14 @@ ghost use Rattle.observed_text.specs.Observing.{AnswersTrace, ObservesText};
 
 use crate::answer::TraceAnswer;
 use crate::words::send_reason;
-use casdisk_script::{RunFault, read_trace};
+use casdisk_script::{RunFault, Trace, read_trace};
 use history::{Config, Entry};
 use history_text::{PrintFault, print_history};
 use line_text::send;
-use seen_trace::Seen;
+use seen_trace::{Seen, TraceOptions};
 use std::alloc::Global;
 use std::io::{Read, Write};
-use trace_observed::{Observed, observe};
+use trace_observed::{Observed, Unexplained, observe};
 
 // Writes the history that was found.
 fn write_witness<V: Write>(
@@ -50,45 +50,78 @@ fn send_answer<W: Write>(line: &[u8], writer: &mut W) -> Result<(), RunFault>
 // Writes a history that explains what was seen, and that it does.
 fn tell_explained<V: Write, W: Write>(
     alloc: Global,
+    options: &TraceOptions,
     config: &Config,
     things: &[Seen],
     entries: &[Entry],
     witness: &mut V,
     writer: &mut W,
 ) -> Result<TraceAnswer, RunFault>
-    requires explains { Explains config.now (reverse entries.now) (reverse things.now) }
-    ensures told { AnswersTrace config.now things.now result (V.contents witness.old) (V.contents witness.new)
-        (W.contents writer.old) (W.contents writer.new) }
+    requires explains { Explains options.now config.now (reverse entries.now) (reverse things.now) }
+    ensures told { AnswersTrace options.now config.now things.now result (V.contents witness.old)
+        (V.contents witness.new) (W.contents writer.old) (W.contents writer.new) }
 {
+    let _ = options;
     let _ = things;
     write_witness(alloc, config, entries, witness)?;
     send_answer(b"explained\n", writer)?;
     Ok(TraceAnswer::Explained)
 }
 
+// How many lines of the file stand before what was seen.
+fn lines_before(options: &TraceOptions) -> usize {
+    let mut lines = 1;
+    if options.contents_unknown {
+        lines += 1;
+    }
+    if options.statuses_any {
+        lines += 1;
+    }
+    if options.ignored != TraceOptions::none().ignored {
+        lines += 1;
+    }
+    lines
+}
+
+// The same reason, with the lines numbered as in the file.
+fn in_file(options: &TraceOptions, reason: Unexplained) -> Unexplained {
+    let before = lines_before(options);
+    Unexplained {
+        lines: reason.lines.saturating_add(before),
+        published: reason.published.saturating_add(before),
+        ..reason
+    }
+}
+
 // Looks for a history that explains what was seen, and writes it and what is said.
 fn tell_trace<V: Write, W: Write>(
     alloc: Global,
-    config: &Config,
-    things: &[Seen],
+    trace: &Trace,
     steps: u64,
     witness: &mut V,
     writer: &mut W,
 ) -> Result<TraceAnswer, RunFault>
-    ensures told { AnswersTrace config.now things.now result (V.contents witness.old) (V.contents witness.new)
-        (W.contents writer.old) (W.contents writer.new) }
+    ensures told { AnswersTrace trace.now.options trace.now.history trace.now.things.items result
+        (V.contents witness.old) (V.contents witness.new) (W.contents writer.old) (W.contents writer.new) }
 {
-    match observe(alloc, config, things, steps) {
+    let Trace {
+        config,
+        options,
+        history,
+        things,
+    } = trace;
+    match observe(alloc, options, config, history, things.as_slice(), steps) {
         Err(_) => Err(RunFault::NoMemory),
         Ok(Observed::Explained(entries)) => tell_explained(
             alloc,
-            config,
-            things,
+            options,
+            history,
+            things.as_slice(),
             entries.as_slice(),
             witness,
             writer,
         ),
-        Ok(Observed::NotFound(reason)) => match send_reason(&reason, writer) {
+        Ok(Observed::NotFound(reason)) => match send_reason(&in_file(options, reason), writer) {
             Ok(()) => Ok(TraceAnswer::NotFound),
             Err(_) => Err(RunFault::Output),
         },
@@ -118,12 +151,5 @@ pub fn observe_text<T: Read, V: Write, W: Write>(
         (V.contents witness.old) (V.contents witness.new) (W.contents writer.old) (W.contents writer.new) }
 {
     let seen = read_trace(alloc, trace)?;
-    tell_trace(
-        alloc,
-        &seen.config,
-        seen.things.as_slice(),
-        steps,
-        witness,
-        writer,
-    )
+    tell_trace(alloc, &seen, steps, witness, writer)
 }

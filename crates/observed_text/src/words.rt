@@ -36,7 +36,7 @@ fn send_command<W: Write>(reason: &Unexplained, writer: &mut W) -> IoResult<()> 
             Word::Text(b"of queue"),
             Word::Number(u64::from(reason.queue)),
             Word::Text(b"(line"),
-            Word::Number((reason.published as u64).saturating_add(1)),
+            Word::Number(reason.published as u64),
         ],
     )?;
     send(writer, b")")
@@ -94,13 +94,13 @@ fn send_why<W: Write>(reason: &Unexplained, writer: &mut W) -> IoResult<()> {
     }
 }
 
-/// Writes `not found: `, up to which line of the file, and why.
+/// Writes `not found: `, up to which line of the file, and why; lines are numbered as in the file.
 pub(crate) fn send_reason<W: Write>(reason: &Unexplained, writer: &mut W) -> IoResult<()> {
     send_words(
         writer,
         &[
             Word::Text(b"not found: up to line"),
-            Word::Number((reason.lines as u64).saturating_add(1)),
+            Word::Number(reason.lines as u64),
         ],
     )?;
     send(writer, b": ")?;

@@ -1,1 +1,3 @@
+pub mod Pointwise
+pub mod Aside
 pub mod Beginnings

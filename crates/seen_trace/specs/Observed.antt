@@ -1,11 +1,13 @@
 -- What hosts see of a history: what was published, and what was reaped with the data beside it.
-use Rattle.std.specs.Prelude.{Bool, List, None, Option, Some, [], false, slice_get, true, ℕ, ◌≡◌, ◌∷◌}
+use Rattle.std.specs.Prelude.{Bool, List, None, Option, Some, [], false, slice_get, true, ℕ, ◌∷◌}
 use Rattle.nvme_model.specs.Completions.{posted_completions, reaped_count}
 use Rattle.nvme_model.specs.History.{Past}
 use Rattle.nvme_model.specs.Legal.{IsLegal}
 use Rattle.nvme_model.specs.declared.config.ConfigNumbers.{ConfigNumbers}
 use Rattle.nvme_model.specs.declared.entry.Entry.{Entry}
 use Rattle.nvme_model.specs.declared.entry.PostLine.{PostLine}
+use Rattle.seen_trace.specs.Aside.{ReadsTrace, aside_pair}
+use Rattle.seen_trace.specs.declared.options.TraceOptions.{TraceOptions}
 use Rattle.seen_trace.specs.declared.seen.Seen.{Seen}
 
 -- the data beside a completion that was posted
@@ -40,6 +42,7 @@ abbrev pub observed : ConfigNumbers → Past → List Seen
 observed c [] = []
 observed c (e ∷ past) = with_shown (shown c past e) (observed c past)
 
--- the history is legal, and this is what hosts saw of it, the newest first
-abbrev pub Explains : ConfigNumbers → Past → List Seen → Type 0
-Explains c past trace = IsLegal c past × (observed c past ≡ trace)
+-- The history is legal, and what hosts saw of it is this trace, the newest first, as these options read it. Where
+-- contents are unknown the configuration is the history's, whose last queue pair the trace doesn't have.
+abbrev pub Explains : TraceOptions → ConfigNumbers → Past → List Seen → Type 0
+Explains o c past trace = IsLegal c past × ReadsTrace o (aside_pair o c) (observed c past) trace

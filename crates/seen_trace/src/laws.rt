@@ -1,16 +1,26 @@
 //! The laws of traces: each is the contract of a function that does nothing.
 
-ghost use Rattle.std.specs.Prelude.{◌≡◌, ◌≤◌, ◌∷◌, ◌++◌, List, false, length, true};
+ghost use Rattle.std.specs.Prelude.{◌≡◌, ◌≤◌, ◌∷◌, ◌++◌, ◌↔◌, List, false, length, true};
 ghost use Rattle.nvme_model.specs.History.{Past};
+ghost use Rattle.nvme_model.specs.Legal.{IsLegal};
 ghost use Rattle.nvme_model.specs.declared.config.ConfigNumbers.{ConfigNumbers};
 ghost use Rattle.nvme_model.specs.declared.entry.Entry.{Entry};
+ghost use Rattle.seen_trace.specs.Options.{no_options};
 ghost use Rattle.seen_trace.specs.Observed.{Explains, is_seen, observed};
+ghost use Rattle.seen_trace.specs.declared.options.TraceOptions.{TraceOptions};
 ghost use Rattle.seen_trace.specs.declared.seen.Seen.{Seen};
 
-/// Where a history explains a trace, each beginning of it explains a beginning of the trace.
+/// Where a history explains a trace, each beginning of it explains a beginning of the trace, whatever the options.
 pub fn beginnings_are_explained()
-    ensures { (c : ConfigNumbers) (later past : Past) (trace : List Seen) → Explains c (later ++ past) trace →
-        (more : List Seen) × (trace ≡ more ++ observed c past) × Explains c past (observed c past) }
+    ensures { (o : TraceOptions) (c : ConfigNumbers) (later past : Past) (trace : List Seen) →
+        Explains o c (later ++ past) trace →
+        (more earlier : List Seen) × (trace ≡ more ++ earlier) × Explains o c past earlier }
+{}
+
+/// Without options a history explains exactly what hosts saw of it: each byte of each line is compared.
+pub fn no_option_leaves_nothing_out()
+    ensures { (c : ConfigNumbers) (past : Past) (trace : List Seen) →
+        Explains no_options c past trace ↔ (IsLegal c past × (observed c past ≡ trace)) }
 {}
 
 /// A Publish and a Reap are one thing more that is seen, and of any other entry nothing is.

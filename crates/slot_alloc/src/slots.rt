@@ -21,8 +21,8 @@ impl Slots {
         Slots { first, count }
     }
 
-    // The block of a slot.
-    pub(crate) fn block(self, slot: u32) -> u64
+    /// The block of a slot.
+    pub fn block(self, slot: u32) -> u64
         requires { block_of (area self) slot < 18446744073709551616 }
         ensures { result ≡ block_of (area self) slot }
     {

@@ -1,2 +1,3 @@
 pub mod SeenAgain
 pub mod SeenRead
+pub mod OptionsRead

@@ -1,1 +1,2 @@
 pub mod SeenLines
+pub mod OptionLines

@@ -1,6 +1,8 @@
-//! The law of the lines of a trace: it is the contract of a function that does nothing.
+//! The laws of the lines of a trace: each is the contract of a function that does nothing.
 
 ghost use Rattle.std.specs.Prelude.{◌≡◌, ℕ, List, Some};
+ghost use Rattle.trace_lines.specs.OptionLines.{option_in, option_line};
+ghost use Rattle.trace_lines.specs.declared.options.TraceOption.{TraceOption};
 ghost use Rattle.seen_trace.specs.declared.seen.Seen.{Seen};
 ghost use Rattle.trace_lines.specs.SeenLines.{HasSeenLine, seen_in, seen_line};
 
@@ -9,4 +11,9 @@ pub fn seen_lines_have_one_spelling()
     ensures read_back { (s : Seen) → HasSeenLine s → seen_in (seen_line s) ≡ Some s }
     ensures one_seen { (s t : Seen) → HasSeenLine s → HasSeenLine t → seen_line s ≡ seen_line t → s ≡ t }
     ensures written_back { (line : List ℕ) (s : Seen) → seen_in line ≡ Some s → seen_line s ≡ line }
+{}
+
+/// A line that says an option is the only one that says it.
+pub fn option_lines_have_one_spelling()
+    ensures { (line : List ℕ) (o : TraceOption) → option_in line ≡ Some o → option_line o ≡ line }
 {}

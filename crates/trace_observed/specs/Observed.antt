@@ -2,12 +2,13 @@
 use Rattle.std.specs.Prelude.{List, reverse}
 use Rattle.nvme_model.specs.declared.config.ConfigNumbers.{ConfigNumbers}
 use Rattle.seen_trace.specs.Observed.{Explains}
+use Rattle.seen_trace.specs.declared.options.TraceOptions.{TraceOptions}
 use Rattle.seen_trace.specs.declared.seen.Seen.{Seen}
 use Rattle.trace_observed.specs.declared.observing.Observed.{Observed}
 use Rattle.trace_observed.specs.declared.observing.Observed.TheVariants.{Explained, GaveUp, NotFound}
 
 -- where it is said that a history explains a trace, the newest first, it does; nothing is promised of anything else
-abbrev pub IsExplained : ConfigNumbers → List Seen → Observed → Type 0
-IsExplained c trace (Explained entries) = Explains c (reverse entries.items) trace
-IsExplained c trace (NotFound why) = Unit {0}
-IsExplained c trace GaveUp = Unit {0}
+abbrev pub IsExplained : TraceOptions → ConfigNumbers → List Seen → Observed → Type 0
+IsExplained o c trace (Explained entries) = Explains o c (reverse entries.items) trace
+IsExplained o c trace (NotFound why) = Unit {0}
+IsExplained o c trace GaveUp = Unit {0}

@@ -1,7 +1,7 @@
 //! The fewest first lines of a trace for which no history is found.
 
 use history::Config;
-use seen_trace::Seen;
+use seen_trace::{Seen, TraceOptions};
 use std::alloc::{AllocError as NoMemory, Global};
 use trace_rings::read_tables;
 use trace_search::is_found;
@@ -9,6 +9,7 @@ use trace_search::is_found;
 // Whether a history is found for so many first lines.
 fn begins(
     alloc: Global,
+    options: &TraceOptions,
     config: &Config,
     trace: &[Seen],
     lines: usize,
@@ -16,8 +17,8 @@ fn begins(
 ) -> Result<bool, NoMemory> {
     match trace.get(..lines) {
         Some(front) => {
-            let tables = read_tables(alloc, config, front)?;
-            is_found(alloc, &tables, steps)
+            let mut tables = read_tables(alloc, options, config, front)?;
+            is_found(alloc, &mut tables, steps)
         }
         None => Ok(false),
     }
@@ -30,6 +31,7 @@ fn begins(
 /// `NoMemory` alone.
 pub(crate) fn least_beginning(
     alloc: Global,
+    options: &TraceOptions,
     config: &Config,
     trace: &[Seen],
     known: usize,
@@ -46,7 +48,7 @@ pub(crate) fn least_beginning(
         if next >= missing {
             break;
         }
-        if begins(alloc, config, trace, next, steps)? {
+        if begins(alloc, options, config, trace, next, steps)? {
             found = next;
         } else {
             missing = next;
@@ -58,7 +60,7 @@ pub(crate) fn least_beginning(
             return Ok(missing);
         }
         let middle = found.saturating_add(missing.saturating_sub(found) / 2);
-        if begins(alloc, config, trace, middle, steps)? {
+        if begins(alloc, options, config, trace, middle, steps)? {
             found = middle;
         } else {
             missing = middle;

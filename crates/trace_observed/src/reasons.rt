@@ -84,11 +84,17 @@ fn is_of_the_moment(status: Status) -> bool {
         || status == Status::FAILED_FUSED
 }
 
+// Whether a status says that nothing was done.
+fn is_nothing(status: Status) -> bool {
+    status != Status::SUCCESS && status != Status::COMPARE_FAILURE
+}
+
 // Whether an entry writes this value to a block.
 fn writes(tables: &TraceTables, entry: &Published, block: u64, value: u64) -> bool {
     let sqe = entry.item.sqe();
     let place = block.saturating_sub(sqe.slba());
     sqe.is_write()
+        && !entry.refused
         && block >= sqe.slba()
         && place < u64::from(sqe.blocks())
         && tables.value(entry.values.saturating_add(place.min(65_535) as usize)) == value
@@ -111,7 +117,8 @@ fn is_written(tables: &TraceTables, block: u64, value: u64) -> bool {
 
 // The first block of a Read whose value nobody writes.
 fn unwritten(tables: &TraceTables, sqe: &Sqe, completion: &Awaited) -> Option<u64> {
-    if !sqe.is_read() || completion.cqe.status != Status::SUCCESS {
+    let unknown = tables.options.contents_unknown;
+    if unknown || !sqe.is_read() || completion.cqe.status != Status::SUCCESS {
         return None;
     }
     for k in 0..completion.length / 512 {
@@ -165,11 +172,15 @@ fn why_of(tables: &TraceTables, completion: &Awaited, entry: &Published) -> Obst
     let sqe = entry.item.sqe();
     let status = completion.cqe.status;
     if let Some((judged, second)) = judged_at(tables, completion.queue, completion.entry) {
-        if !can_end(&judged, second, status, completion.length) && !is_of_the_moment(status) {
+        let any = tables.options.statuses_any && is_nothing(status);
+        if !any
+            && !can_end(&judged, second, status, completion.length)
+            && !is_of_the_moment(status)
+        {
             return Obstacle::Status;
         }
     }
-    if !has_head(tables, completion) {
+    if !tables.options.ignored.sqhd && !has_head(tables, completion) {
         return Obstacle::Head;
     }
     match unwritten(tables, &sqe, completion) {

@@ -4,11 +4,12 @@
 
 mod matching;
 mod numbers;
+mod refusing;
 mod scanning;
 mod tables;
 mod values;
 
 pub use crate::numbers::{number_at, set_number, zeros};
 pub use crate::scanning::read_tables;
-pub use crate::tables::{Awaited, Line, Need, Published, TraceTables, Unfit};
+pub use crate::tables::{Awaited, Line, NOBODYS, Need, OPEN, Published, TraceTables, Unfit};
 pub use crate::values::mixed;

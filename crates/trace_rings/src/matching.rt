@@ -1,15 +1,17 @@
 //! Which completion seems to be for which entry, and what that says of the values of blocks.
 
-use crate::tables::{Awaited, Need, Published, TraceTables};
+use crate::refusing::refuse_entries;
+use crate::tables::{Awaited, NOBODYS, Need, Published, TraceTables};
 use crate::values::mixed;
 use entry_codec::{Sqe, Status};
 use std::alloc::{AllocError as NoMemory, Global};
 use std::collections::HashMap;
 
-// The places of values by block and value.
+// The places of values by block and value, and the first lines at which they are published.
 #[derive(Drop)]
 struct Sources {
     places: HashMap<u64, usize>,
+    lines: HashMap<u64, usize>,
 }
 
 // The identifiers of the entries of a submission queue beside their numbers, in order.
@@ -114,6 +116,43 @@ fn blocks_of(sqe: &Sqe, size: u32) -> Option<(u64, usize)> {
 }
 
 impl Sources {
+    // Notes that a value is published at this line, where that matters.
+    fn note_line(&mut self, tables: &TraceTables, what: u64, line: usize) -> Result<(), NoMemory> {
+        if tables.first.is_empty() {
+            return Ok(());
+        }
+        let known = self.lines.get(&what).copied().unwrap_or(usize::MAX);
+        if line < known {
+            let _ = self.lines.insert(what, line)?;
+        }
+        Ok(())
+    }
+
+    // Notes that a block held this value, where nobody can have written what a completion found there.
+    fn note_first(&self, tables: &mut TraceTables, block: u64, value: u64, line: usize) {
+        let published = self.lines.get(&mixed(block, value)).copied();
+        if published.unwrap_or(usize::MAX) < line {
+            return;
+        }
+        if let Some(known) = tables.first.get_mut(block.min(65_536) as usize) {
+            if *known == NOBODYS {
+                *known = value;
+            }
+        }
+    }
+
+    // Notes what blocks held, by what the command of a completion found.
+    fn note_firsts(&self, tables: &mut TraceTables, completion: &Awaited) {
+        let Some((_, slba, blocks, values)) = found_by(tables, completion) else {
+            return;
+        };
+        for k in 0..blocks {
+            let value = tables.value(values.saturating_add(k));
+            let block = slba.saturating_add(k as u64);
+            self.note_first(tables, block, value, completion.line);
+        }
+    }
+
     fn place(&self, block: u64, value: u64) -> Option<usize> {
         self.places.get(&mixed(block, value)).copied()
     }
@@ -121,7 +160,7 @@ impl Sources {
     // Notes what an entry would write.
     fn note_writes(&mut self, tables: &mut TraceTables, entry: &Published) -> Result<(), NoMemory> {
         let sqe = entry.item.sqe();
-        if !sqe.is_write() || entry.item.length() != sqe.data_length() {
+        if entry.refused || !sqe.is_write() || entry.item.length() != sqe.data_length() {
             return Ok(());
         }
         let Some((slba, blocks)) = blocks_of(&sqe, tables.numbers.blocks) else {
@@ -132,6 +171,7 @@ impl Sources {
             let value = tables.value(place);
             let block = slba.saturating_add(k as u64);
             let known = self.places.insert(mixed(block, value), place)?;
+            self.note_line(tables, mixed(block, value), entry.line)?;
             let alone = known.is_none() && value != 0;
             if let Some(need) = tables.needs.get_mut(place) {
                 need.alone = alone;
@@ -158,6 +198,12 @@ impl Sources {
         let Some(place) = self.place(block, value) else {
             return;
         };
+        if !tables.first.is_empty() && tables.first(block) == value {
+            if let Some(need) = tables.needs.get_mut(place) {
+                need.alone = false;
+            }
+            return;
+        }
         if let Some(need) = tables.needs.get_mut(place) {
             need.finders = need.finders.saturating_add(1);
             need.until = need.until.max(line);
@@ -319,12 +365,23 @@ pub(crate) fn match_completions(alloc: Global, tables: &mut TraceTables) -> Resu
         };
         tables.match_queue(queue, &by_cid);
     }
+    if tables.options.statuses_any {
+        refuse_entries(alloc, tables)?;
+    }
     tables.needs = no_needs(alloc, tables.values.len())?;
     let mut sources = Sources {
         places: HashMap::new(alloc),
+        lines: HashMap::new(alloc),
     };
     note_all_writes(&mut sources, tables)?;
     let count = tables.completions.len();
+    if !tables.first.is_empty() {
+        for number in 0..count {
+            if let Some(completion) = tables.completion(number) {
+                sources.note_firsts(tables, &completion);
+            }
+        }
+    }
     for number in 0..count {
         if let Some(completion) = tables.completion(number) {
             sources.note_completion(tables, &completion);

@@ -1,18 +1,29 @@
 //! A trace, read into tables.
 
 use crate::matching::match_completions;
-use crate::tables::{Awaited, Line, Published, TraceTables, Unfit};
+use crate::tables::{Awaited, Line, NOBODYS, Published, TraceTables, Unfit};
 use crate::values::{add_values, empty_lists};
 use entry_codec::{Cqe, decode_cqe};
 use fused_match::Item;
 use history::Config;
 use nvme_model::entry::PublishLine;
-use seen_trace::{ReapedLine, Seen};
+use seen_trace::{ReapedLine, Seen, TraceOptions, read_completion};
 use std::alloc::{AllocError as NoMemory, Global};
 
-fn empty_tables(alloc: Global, config: &Config) -> Result<TraceTables, NoMemory> {
+fn empty_tables(
+    alloc: Global,
+    options: &TraceOptions,
+    config: &Config,
+) -> Result<TraceTables, NoMemory> {
     let numbers = config.numbers();
+    let mut first = Vec::new(alloc);
+    if options.contents_unknown {
+        for _ in 0..numbers.blocks {
+            first.push(NOBODYS)?;
+        }
+    }
     Ok(TraceTables {
+        options: *options,
         numbers,
         units: config.units(),
         lines: Vec::new(alloc),
@@ -23,6 +34,7 @@ fn empty_tables(alloc: Global, config: &Config) -> Result<TraceTables, NoMemory>
         by_cid: empty_lists(alloc, numbers.pairs)?,
         values: Vec::new(alloc),
         needs: Vec::new(alloc),
+        first,
         unfit: None,
         crowded: false,
     })
@@ -43,6 +55,8 @@ impl TraceTables {
                     item: Item::of(submission),
                     values,
                     answered: usize::MAX,
+                    refused: false,
+                    doubtful: false,
                 })?;
             }
             place = place.saturating_add(1);
@@ -126,7 +140,7 @@ impl TraceTables {
             return Ok(Some(Unfit::Queue));
         }
         let cq = usize::from(line.queue - 1);
-        let Ok(cqe) = decode_cqe(&line.cqe) else {
+        let Ok(cqe) = decode_cqe(&read_completion(&self.options, &line.cqe)) else {
             return Ok(Some(Unfit::Reserved));
         };
         let unfit = self.misfit(cq, &cqe);
@@ -161,17 +175,18 @@ impl TraceTables {
     }
 }
 
-/// The tables of a trace, up to the first line that can't be so.
+/// The tables of a trace that these options read, up to the first line that can't be so.
 ///
 /// # Errors
 ///
 /// `NoMemory` alone.
 pub fn read_tables(
     alloc: Global,
+    options: &TraceOptions,
     config: &Config,
     trace: &[Seen],
 ) -> Result<TraceTables, NoMemory> {
-    let mut tables = empty_tables(alloc, config)?;
+    let mut tables = empty_tables(alloc, options, config)?;
     for seen in trace {
         let unfit = tables.add_line(seen)?;
         if unfit.is_some() {

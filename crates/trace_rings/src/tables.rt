@@ -4,6 +4,13 @@ use atomic_units::Units;
 use entry_codec::Cqe;
 use fused_match::Item;
 use nvme_model::config::ConfigNumbers;
+use seen_trace::TraceOptions;
+
+/// The value of a block that is still open. No block of bytes has it.
+pub const OPEN: u64 = 2;
+
+/// The value of a block that held what nobody writes or finds. No block of bytes has it.
+pub const NOBODYS: u64 = 4;
 
 /// One entry that was published.
 #[derive(Clone, Copy)]
@@ -16,6 +23,10 @@ pub struct Published {
     pub values: usize,
     /// The line of the completion that seems to be its own.
     pub answered: usize,
+    /// Whether it was refused, where any status will do: then its item is one of namespace 0.
+    pub refused: bool,
+    /// Whether it may have been, as far as the completions say.
+    pub doubtful: bool,
 }
 
 /// One completion that was reaped.
@@ -92,6 +103,7 @@ pub enum Unfit {
 /// The tables of a trace.
 #[derive(Drop)]
 pub struct TraceTables {
+    pub options: TraceOptions,
     pub numbers: ConfigNumbers,
     pub units: Units,
     /// By line.
@@ -110,6 +122,8 @@ pub struct TraceTables {
     pub values: Vec<u64>,
     /// What has to happen around them, by place.
     pub needs: Vec<Need>,
+    /// By block, what it held at the beginning; none, where all held zeros.
+    pub first: Vec<u64>,
     /// Why the line behind these can't be, where there is one.
     pub unfit: Option<Unfit>,
     /// Whether there may be more tickets than may be in flight.
@@ -150,6 +164,28 @@ impl TraceTables {
     /// The value at this place; that of zeros where there is none.
     pub fn value(&self, place: usize) -> u64 {
         self.values.get(place).copied().unwrap_or(0)
+    }
+
+    /// What a block held at the beginning.
+    pub fn first(&self, block: u64) -> u64 {
+        let place = block.min(65_536) as usize;
+        self.first.get(place).copied().unwrap_or(0)
+    }
+
+    /// Leaves open what blocks held whose first answer may be what was written there.
+    pub fn leave_open(&mut self) {
+        for place in 0..self.first.len() {
+            if let Some(value) = self.first.get_mut(place) {
+                if *value == NOBODYS {
+                    *value = OPEN;
+                }
+            }
+        }
+        for place in 0..self.needs.len() {
+            if let Some(need) = self.needs.get_mut(place) {
+                need.alone = false;
+            }
+        }
     }
 
     /// What has to happen around the value at this place.

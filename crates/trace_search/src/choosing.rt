@@ -1,6 +1,8 @@
 //! What can be done next where nothing can be done at once.
 
-use crate::forced::{FetchDue, fetching, finds_all, has_data, is_at_head, line_fits, users};
+use crate::forced::{
+    FetchDue, fetching, finds_all, has_data, is_at_head, is_doubtful, line_fits, users,
+};
 use entry_codec::Status;
 use nvme_model::array::Range;
 use std::alloc::AllocError as NoMemory;
@@ -141,6 +143,9 @@ fn may_make(
         };
     };
     let success = completion.cqe.status == Status::SUCCESS;
+    if ticket.compares() && !success && !walk.is_known(range) {
+        return !finds_all(walk, tables, ticket, range);
+    }
     match ticket.kind {
         SoughtOp::Read => success
             && has_data(ticket, &completion)
@@ -305,6 +310,9 @@ fn add_fetches(
     }
     for queue in 0..walk.fetched.len() {
         if fetching(walk, tables, queue) != FetchDue::Never {
+            if is_doubtful(walk, tables, queue) {
+                choices.push(Choice::Refuse(queue))?;
+            }
             choices.push(Choice::Fetch(queue))?;
         }
     }
@@ -318,7 +326,13 @@ fn can_post(walk: &Walk, tables: &TraceTables, cq: usize, ticket: &SoughtTicket)
     };
     is_at_head(walk, tables, &completion).0
         && ticket.queue == completion.queue
-        && fits(ticket, which, &completion.cqe, completion.length)
+        && fits(
+            &tables.options,
+            ticket,
+            which,
+            &completion.cqe,
+            completion.length,
+        )
 }
 
 // Adds the Posts that can be made now.

@@ -38,8 +38,36 @@ pub(crate) fn line_fits(walk: &Walk, tables: &TraceTables) -> (bool, bool) {
     }
 }
 
+// Whether an entry with this identifier is published and not fetched.
+fn is_waiting(walk: &Walk, tables: &TraceTables, queue: usize, cid: u16) -> bool {
+    for number in number_at(&walk.fetched, queue)..number_at(&walk.published, queue) {
+        if let Some(entry) = tables.entry(queue, number) {
+            if entry.item.sqe().cid == cid {
+                return true;
+            }
+        }
+    }
+    false
+}
+
+// Whether a Fetch is to be made, where SQHDs say nothing: at once, unless its identifiers may still be in use.
+fn fetching_freely(walk: &Walk, tables: &TraceTables, queue: usize, fetched: usize) -> FetchDue {
+    for number in fetched..fetched.saturating_add(2) {
+        if let Some(entry) = tables.entry(queue, number) {
+            if users(walk, queue, entry.item.sqe().cid).0 > 0 {
+                return FetchDue::Maybe;
+            }
+        }
+    }
+    FetchDue::Now
+}
+
 /// Whether as many entries are fetched as this completion says, and that number is sure.
 pub(crate) fn is_at_head(walk: &Walk, tables: &TraceTables, completion: &Awaited) -> (bool, bool) {
+    if tables.options.ignored.sqhd {
+        let reuses = is_waiting(walk, tables, completion.queue, completion.cqe.cid);
+        return (true, !reuses);
+    }
     let size = usize::from(tables.numbers.sq_size);
     let fetched = number_at(&walk.fetched, completion.queue);
     let head = fetched.checked_rem(size) == Some(usize::from(completion.cqe.sqhd));
@@ -75,7 +103,15 @@ fn forced_post_to(walk: &Walk, tables: &TraceTables, cq: usize) -> Option<Choice
     }
     let (count, number) = users(walk, completion.queue, completion.cqe.cid);
     let ticket = walk.ticket(number)?;
-    if count == 1 && fits(&ticket, which, &completion.cqe, completion.length) {
+    if count == 1
+        && fits(
+            &tables.options,
+            &ticket,
+            which,
+            &completion.cqe,
+            completion.length,
+        )
+    {
         return Some(Choice::Post(cq, number));
     }
     None
@@ -109,6 +145,9 @@ fn is_right_now(walk: &Walk, tables: &TraceTables, ticket: &SoughtTicket, range:
     let Some(completion) = wanted_completion(tables, ticket) else {
         return false;
     };
+    if !walk.is_known(range) {
+        return false;
+    }
     let success = completion.cqe.status == Status::SUCCESS;
     match ticket.kind {
         SoughtOp::Read => success
@@ -140,6 +179,9 @@ pub(crate) fn fetching(walk: &Walk, tables: &TraceTables, queue: usize) -> Fetch
     if published == fetched.saturating_add(1) && splits_a_pair(walk, tables, queue) {
         return FetchDue::Maybe;
     }
+    if tables.options.ignored.sqhd {
+        return fetching_freely(walk, tables, queue, fetched);
+    }
     let Some(completion) = tables.awaited(queue, number_at(&walk.answered, queue)) else {
         return FetchDue::Now;
     };
@@ -153,12 +195,21 @@ pub(crate) fn fetching(walk: &Walk, tables: &TraceTables, queue: usize) -> Fetch
     }
 }
 
+/// Whether the next entry of a submission queue may have been refused.
+pub(crate) fn is_doubtful(walk: &Walk, tables: &TraceTables, queue: usize) -> bool {
+    match tables.entry(queue, number_at(&walk.fetched, queue)) {
+        Some(entry) => entry.doubtful,
+        None => false,
+    }
+}
+
 fn forced_fetch(walk: &Walk, tables: &TraceTables) -> Option<Choice> {
     if tables.crowded {
         return None;
     }
     for queue in 0..walk.fetched.len() {
-        if fetching(walk, tables, queue) == FetchDue::Now {
+        let now = fetching(walk, tables, queue) == FetchDue::Now;
+        if now && !is_doubtful(walk, tables, queue) {
             return Some(Choice::Fetch(queue));
         }
     }

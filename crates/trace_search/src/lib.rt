@@ -6,4 +6,4 @@ mod forced;
 mod guessing;
 mod searching;
 
-pub use crate::searching::{Outcome, is_found, search_history};
+pub use crate::searching::{Outcome, is_found, search_all};

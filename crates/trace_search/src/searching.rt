@@ -41,8 +41,9 @@ pub(crate) struct Seeker {
     choices: Vec<Choice>,
     seen: HashSet<u64>,
     near: Vec<usize>,
-    // the most lines that were taken
+    // the most lines that were taken, and how many steps are left
     furthest: usize,
+    left: u64,
 }
 
 impl Seeker {
@@ -54,6 +55,7 @@ impl Seeker {
             seen: HashSet::new(alloc),
             near: Vec::new(alloc),
             furthest: 0,
+            left: 0,
         })
     }
 
@@ -108,7 +110,8 @@ impl Seeker {
 
     /// Searches, so many steps at most.
     pub(crate) fn run(&mut self, tables: &TraceTables, steps: u64) -> Result<End, NoMemory> {
-        for _ in 0..steps {
+        for used in 0..steps {
+            self.left = steps.saturating_sub(used);
             self.furthest = self.furthest.max(self.walk.at);
             if self.walk.at >= tables.lines.len() {
                 return Ok(End::Found);
@@ -128,28 +131,53 @@ impl Seeker {
     }
 }
 
-/// Looks for a history that explains the trace that these tables are of, in so many steps at most. It says nothing that
-/// could be relied on.
+// Has the entries be refused that this history takes to be so.
+fn note_refused(walk: &Walk, tables: &mut TraceTables) {
+    for ticket in walk.tickets.as_slice() {
+        if ticket.refused {
+            tables.refuse(ticket.queue, ticket.first);
+        }
+    }
+}
+
+// What was found by a search that ended so.
+fn found_by(seeker: Seeker, tables: &mut TraceTables, end: End) -> Outcome {
+    match end {
+        End::StepsUsed => Outcome::GaveUp,
+        End::Tried => Outcome::NotFound(seeker.furthest),
+        End::Found => {
+            if tables.unfit.is_some() {
+                return Outcome::NotFound(seeker.furthest);
+            }
+            note_refused(&seeker.walk, tables);
+            Outcome::History(seeker.walk)
+        }
+    }
+}
+
+/// Looks for a history that explains the trace that these tables are of, in so many steps at most. Where contents are
+/// unknown it first takes it that no block held what only later Writes write, and then leaves that open. The entries
+/// that a found history takes to be refused are refused in the tables behind it. It says nothing that could be relied
+/// on.
 ///
 /// # Errors
 ///
 /// `NoMemory` where a growth is refused.
-pub fn search_history(
+pub fn search_all(
     alloc: Global,
-    tables: &TraceTables,
+    tables: &mut TraceTables,
     steps: u64,
 ) -> Result<Outcome, NoMemory> {
     let mut seeker = Seeker::new(alloc, tables)?;
-    match seeker.run(tables, steps)? {
-        End::StepsUsed => Ok(Outcome::GaveUp),
-        End::Tried => Ok(Outcome::NotFound(seeker.furthest)),
-        End::Found => {
-            if tables.unfit.is_some() {
-                return Ok(Outcome::NotFound(seeker.furthest));
-            }
-            Ok(Outcome::History(seeker.walk))
-        }
+    let end = seeker.run(tables, steps)?;
+    if end != End::Tried || !tables.options.contents_unknown {
+        return Ok(found_by(seeker, tables, end));
     }
+    tables.leave_open();
+    let mut other = Seeker::new(alloc, tables)?;
+    let end = other.run(tables, seeker.left)?;
+    other.furthest = other.furthest.max(seeker.furthest);
+    Ok(found_by(other, tables, end))
 }
 
 /// Whether a history is found that explains the trace that these tables are of.
@@ -157,8 +185,9 @@ pub fn search_history(
 /// # Errors
 ///
 /// `NoMemory` where a growth is refused.
-pub fn is_found(alloc: Global, tables: &TraceTables, steps: u64) -> Result<bool, NoMemory> {
-    let mut seeker = Seeker::new(alloc, tables)?;
-    let end = seeker.run(tables, steps)?;
-    Ok(end == End::Found && tables.unfit.is_none())
+pub fn is_found(alloc: Global, tables: &mut TraceTables, steps: u64) -> Result<bool, NoMemory> {
+    match search_all(alloc, tables, steps)? {
+        Outcome::History(_) => Ok(true),
+        Outcome::NotFound(_) | Outcome::GaveUp => Ok(false),
+    }
 }

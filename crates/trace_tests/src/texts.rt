@@ -1,7 +1,7 @@
 //! Lines of a history and of a trace, as values.
 
 use history::{Config, Entry, parse_line};
-use seen_trace::Seen;
+use seen_trace::{Seen, TraceOptions};
 use std::alloc::Global;
 use std::test::Fail;
 use trace_lines::parse_seen;
@@ -40,7 +40,7 @@ pub(crate) fn explains(
 ) -> Result<bool, Fail> {
     let entries = entries_of(alloc, history)?;
     let trace = trace_of(alloc, trace)?;
-    Ok(certify(alloc, config, &trace, &entries)?)
+    Ok(certify(alloc, &TraceOptions::none(), config, &trace, &entries)?)
 }
 
 /// What is said of the entries of these lines beside the trace of those.
@@ -52,5 +52,5 @@ pub(crate) fn verdict(
 ) -> Result<TraceVerdict, Fail> {
     let entries = entries_of(alloc, history)?;
     let trace = trace_of(alloc, trace)?;
-    Ok(judge(alloc, config, &trace, &entries)?)
+    Ok(judge(alloc, &TraceOptions::none(), config, &trace, &entries)?)
 }

@@ -2,11 +2,12 @@
 //! it: what is found is certified.
 #![tactic(auto)]
 
+mod fitting;
 mod making;
 mod ticket;
 mod undoing;
 mod walk;
 
-pub use crate::making::{fits, is_sure, wanted_completion};
+pub use crate::fitting::{fits, is_sure, wanted_completion};
 pub use crate::ticket::{Gives, SoughtOp, SoughtTicket, status_of};
-pub use crate::walk::{Choice, Move, Walk};
+pub use crate::walk::{Choice, Fixed, Move, Walk};

@@ -1,13 +1,14 @@
 //! Makes one more step of a history.
 
+use crate::fitting::is_sure;
 use crate::ticket::{Gives, SoughtOp, SoughtTicket, code_of};
-use crate::walk::{Choice, Move, Walk};
-use entry_codec::{Cqe, Status};
+use crate::walk::{Choice, Fixed, Move, Walk};
+use entry_codec::Status;
 use fused_match::{Judged, judge};
 use nvme_model::array::Range;
 use nvme_model::operation::Op;
 use std::alloc::AllocError as NoMemory;
-use trace_rings::{Awaited, Line, Published, TraceTables, mixed, number_at, set_number};
+use trace_rings::{Line, NOBODYS, OPEN, Published, TraceTables, mixed, number_at, set_number};
 
 // The completion that a ticket which passed its checks is to have: the next one for its queue with its identifier that
 // says success or Compare Failure.
@@ -72,6 +73,7 @@ fn idle_ticket(queue: usize, number: usize, cids: [u16; 2], taken: u8) -> Sought
         kind: SoughtOp::Idle,
         taken,
         failed: false,
+        refused: false,
         codes: [0, 0],
         want: None,
         cids,
@@ -153,11 +155,20 @@ impl Walk {
         ticket
     }
 
-    fn make_fetch(&mut self, tables: &TraceTables, queue: usize) -> Result<(), NoMemory> {
+    // Fetches the next entry, or the next pair, of a submission queue: as it was published, or as one that was refused.
+    fn make_fetch(
+        &mut self,
+        tables: &TraceTables,
+        queue: usize,
+        refused: bool,
+    ) -> Result<(), NoMemory> {
         let number = number_at(&self.fetched, queue);
-        let Some(first) = tables.entry(queue, number) else {
+        let Some(mut first) = tables.entry(queue, number) else {
             return Ok(());
         };
+        if refused {
+            first = first.refused();
+        }
         let after = number.saturating_add(1);
         let mut second = None;
         if after < number_at(&self.published, queue) {
@@ -173,7 +184,8 @@ impl Walk {
             &tables.units,
             size,
         );
-        let ticket = self.new_ticket(tables, queue, judged, &first, second.as_ref());
+        let mut ticket = self.new_ticket(tables, queue, judged, &first, second.as_ref());
+        ticket.refused = refused;
         let made = self.tickets.len();
         self.moves.push(Move::Fetch(queue))?;
         self.tickets.push(ticket)?;
@@ -242,6 +254,37 @@ impl Walk {
         set_number(&mut self.writers, place, writer);
     }
 
+    // Notes what this unit, of which so many blocks are equal, says of what its blocks held at the beginning.
+    fn fix_blocks(
+        &mut self,
+        tables: &TraceTables,
+        ticket: &SoughtTicket,
+        range: &Range,
+        equal: u32,
+    ) -> Result<(), NoMemory> {
+        let Some(first) = ticket.finds else {
+            return Ok(());
+        };
+        for k in 0..range.blocks.min(equal.saturating_add(1)) {
+            let block = range.slba.saturating_add(u64::from(k));
+            let value = tables.value(first.saturating_add(ticket.behind(block)));
+            let held = k < equal;
+            let known = self.value(block);
+            if known == OPEN || known == NOBODYS && !held {
+                self.fixed.push(Fixed {
+                    step: self.moves.len(),
+                    block,
+                    value,
+                    held,
+                })?;
+                if held {
+                    self.put(block, value, usize::MAX);
+                }
+            }
+        }
+        Ok(())
+    }
+
     fn make_unit(&mut self, tables: &TraceTables, number: usize) -> Result<(), NoMemory> {
         let Some(ticket) = self.ticket(number) else {
             return Ok(());
@@ -253,6 +296,9 @@ impl Walk {
         let differs = ticket.compares() && equal < range.blocks;
         if ticket.finds.is_some() && equal == range.blocks {
             self.note_found(tables, &ticket, &range);
+        }
+        if !tables.first.is_empty() {
+            self.fix_blocks(tables, &ticket, &range, equal)?;
         }
         if ticket.writes() && !differs {
             self.write_blocks(tables, &ticket, &range)?;
@@ -308,33 +354,10 @@ impl Walk {
     pub fn make(&mut self, tables: &TraceTables, choice: Choice) -> Result<(), NoMemory> {
         match choice {
             Choice::Line => self.make_line(tables),
-            Choice::Fetch(queue) => self.make_fetch(tables, queue),
+            Choice::Fetch(queue) => self.make_fetch(tables, queue, false),
+            Choice::Refuse(queue) => self.make_fetch(tables, queue, true),
             Choice::Unit(number) => self.make_unit(tables, number),
             Choice::Post(cq, number) => self.make_post(tables, cq, number),
         }
     }
-}
-
-/// Whether it is sure which completion a ticket has, and that it says success.
-pub fn is_sure(tables: &TraceTables, ticket: &SoughtTicket) -> bool {
-    match wanted_completion(tables, ticket) {
-        Some(completion) => completion.sure && completion.cqe.status == Status::SUCCESS,
-        None => false,
-    }
-}
-
-/// The completion that a ticket is to have.
-pub fn wanted_completion(tables: &TraceTables, ticket: &SoughtTicket) -> Option<Awaited> {
-    tables.completion(ticket.want?)
-}
-
-/// Whether a completion can be the next one of a ticket.
-pub fn fits(ticket: &SoughtTicket, which: usize, cqe: &Cqe, length: usize) -> bool {
-    if ticket.cid() != cqe.cid || ticket.owes() != Some(code_of(cqe.status)) {
-        return false;
-    }
-    if ticket.kind == SoughtOp::Read {
-        return ticket.want == Some(which);
-    }
-    length == 0
 }

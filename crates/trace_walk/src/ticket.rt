@@ -33,6 +33,8 @@ pub struct SoughtTicket {
     // how many entries it has, and whether they failed their checks
     pub taken: u8,
     pub failed: bool,
+    // whether its first entry is one that was refused, and the tables leave that open
+    pub refused: bool,
     // the numbers of the statuses that it owes, where it has no unit
     pub codes: [u16; 2],
     // the completion that its first is to have

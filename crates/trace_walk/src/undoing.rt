@@ -1,11 +1,11 @@
 //! Takes back the newest steps of a history.
 
-use crate::making::is_sure;
+use crate::fitting::is_sure;
 use crate::ticket::SoughtTicket;
 use crate::walk::{Move, Walk};
 use nvme_model::array::Range;
 use std::alloc::AllocError as NoMemory;
-use trace_rings::{Line, TraceTables, number_at, set_number};
+use trace_rings::{Line, OPEN, TraceTables, number_at, set_number};
 
 impl Walk {
     fn undo_line(&mut self, tables: &TraceTables) {
@@ -49,6 +49,22 @@ impl Walk {
         }
     }
 
+    // What the step that is taken back fixed of the beginning is open again.
+    fn unfix_blocks(&mut self) {
+        for _ in 0..self.fixed.len() {
+            let Some(one) = self.fixed.last().copied() else {
+                return;
+            };
+            if one.step < self.moves.len() {
+                return;
+            }
+            let _ = self.fixed.pop();
+            if one.held {
+                self.put(one.block, OPEN, usize::MAX);
+            }
+        }
+    }
+
     fn undo_unit(
         &mut self,
         tables: &TraceTables,
@@ -64,6 +80,7 @@ impl Walk {
         if ticket.writes() && !differs {
             self.uncover(range);
         }
+        self.unfix_blocks();
         if ticket.finds.is_some() && equal == range.blocks {
             self.unnote_found(tables, &ticket, range);
         }

@@ -1,9 +1,11 @@
 //! A history that is being made, and what it has made of the volume.
 
+use crate::fitting::wanted_completion;
 use crate::ticket::{SoughtOp, SoughtTicket};
+use entry_codec::Status;
 use nvme_model::array::Range;
 use std::alloc::{AllocError as NoMemory, Global};
-use trace_rings::{Line, TraceTables, mixed, number_at, zeros};
+use trace_rings::{Line, OPEN, TraceTables, mixed, number_at, zeros};
 
 /// One step of a history in which each unit is one step.
 #[derive(Clone, Copy)]
@@ -25,10 +27,23 @@ pub enum Choice {
     Line,
     /// A Fetch from this submission queue.
     Fetch(usize),
+    /// A Fetch from this submission queue, of an entry that was refused.
+    Refuse(usize),
     /// The next unit of this ticket.
     Unit(usize),
     /// The next completion of this completion queue, of this ticket.
     Post(usize, usize),
+}
+
+/// What a step fixed of what a block held at the beginning.
+#[derive(Clone, Copy)]
+pub struct Fixed {
+    /// The step.
+    pub(crate) step: usize,
+    pub block: u64,
+    pub value: u64,
+    /// Whether the block held this value, or another one.
+    pub held: bool,
 }
 
 /// A history that is being made.
@@ -56,6 +71,10 @@ pub struct Walk {
     pub(crate) moves: Vec<Move>,
     // what lay in the blocks that were written, the newest last
     pub(crate) covered: Vec<(u64, usize)>,
+    // what of the beginning was fixed, the newest last
+    pub(crate) fixed: Vec<Fixed>,
+    // whether what some block held is open
+    pub(crate) has_open: bool,
     // identifiers in use, while a Fetch is judged
     pub(crate) in_use: Vec<u16>,
 }
@@ -68,14 +87,25 @@ fn left_of(alloc: Global, tables: &TraceTables) -> Result<Vec<usize>, NoMemory> 
     Ok(left)
 }
 
+// Whether the completion of a comparing ticket says Compare Failure.
+fn has_to_fail(tables: &TraceTables, ticket: &SoughtTicket) -> bool {
+    match wanted_completion(tables, ticket) {
+        Some(completion) => ticket.compares() && completion.cqe.status == Status::COMPARE_FAILURE,
+        None => false,
+    }
+}
+
 impl Walk {
     pub fn new(alloc: Global, tables: &TraceTables) -> Result<Walk, NoMemory> {
         let pairs = usize::from(tables.numbers.pairs);
         let cqs = usize::from(tables.numbers.cqs);
         let mut values = Vec::new(alloc);
         let mut writers = Vec::new(alloc);
-        for _ in 0..tables.numbers.blocks {
-            values.push(0)?;
+        let mut has_open = false;
+        for block in 0..tables.numbers.blocks {
+            let value = tables.first(u64::from(block));
+            has_open = has_open || value == OPEN;
+            values.push(value)?;
             writers.push(usize::MAX)?;
         }
         Ok(Walk {
@@ -94,6 +124,8 @@ impl Walk {
             left: left_of(alloc, tables)?,
             moves: Vec::new(alloc),
             covered: Vec::new(alloc),
+            fixed: Vec::new(alloc),
+            has_open,
             in_use: Vec::new(alloc),
         })
     }
@@ -106,6 +138,34 @@ impl Walk {
     /// The steps that were made, the oldest first.
     pub fn moves(&self) -> &[Move] {
         self.moves.as_slice()
+    }
+
+    /// What was fixed of the beginning, the oldest first.
+    pub fn fixed(&self) -> &[Fixed] {
+        self.fixed.as_slice()
+    }
+
+    /// Whether what each of these blocks holds is known.
+    pub fn is_known(&self, range: &Range) -> bool {
+        if !self.has_open {
+            return true;
+        }
+        for k in 0..range.blocks {
+            if self.value(range.slba.saturating_add(u64::from(k))) == OPEN {
+                return false;
+            }
+        }
+        true
+    }
+
+    // Whether a block whose beginning is open can have held this value.
+    fn may_hold(&self, block: u64, value: u64) -> bool {
+        for one in self.fixed.as_slice() {
+            if one.block == block && one.value == value && !one.held {
+                return false;
+            }
+        }
+        true
     }
 
     /// The value of a block.
@@ -177,7 +237,10 @@ impl Walk {
         let first = place.saturating_add(ticket.behind(range.slba));
         for k in 0..range.blocks {
             let due = tables.value(first.saturating_add(k as usize));
-            if self.value(range.slba.saturating_add(u64::from(k))) != due {
+            let block = range.slba.saturating_add(u64::from(k));
+            let value = self.value(block);
+            let open = value == OPEN && !has_to_fail(tables, ticket) && self.may_hold(block, due);
+            if value != due && !open {
                 return k;
             }
         }

@@ -2,6 +2,7 @@
 //! so nobody has to trust it.
 #![tactic(auto)]
 
+mod beginning;
 mod units;
 mod writing;
 

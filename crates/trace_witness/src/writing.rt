@@ -1,54 +1,79 @@
 //! The history whose steps a search found.
 
+use crate::beginning::{Source, ZEROS, add_block, first_sources, write_beginning};
 use crate::units::UnitWriter;
 use entry_codec::{Cqe, encode_cqe};
 use history::{Entry, FetchLine, PostLine, PublishLine, ReapLine};
 use nvme_model::array::Range;
 use nvme_model::status::Verdict;
 use nvme_model::submission::{Batch, Payload, copies_of};
-use seen_trace::{ReapedLine, Seen};
+use seen_trace::{ReapedLine, Seen, TraceOptions, refused};
 use std::alloc::{AllocError as NoMemory, Global};
-use trace_rings::{TraceTables, number_at, set_number, zeros};
+use trace_rings::{Line, TraceTables, number_at, set_number, zeros};
 use trace_walk::{Gives, Move, SoughtTicket, Walk, status_of};
 
 #[derive(Drop)]
 struct Writer {
     alloc: Global,
     units: UnitWriter,
-    // how many lines of the trace, and how many Fetches, were written
+    // how many lines of the trace, how many Reaps of it, and how many Fetches, were written; and how many tickets stand
+    // for what was there
     lines: usize,
+    reaped: usize,
     tickets: u64,
-    // by completion, the line of its Reap
+    before: u64,
+    // by completion, the line of its Reap, and its bytes, where they aren't the trace's
     reaps: Vec<usize>,
+    cqes: Vec<Option<[u8; 16]>>,
     // by submission queue, how many entries were fetched; by completion queue, how many completions were posted
     fetched: Vec<usize>,
     posted: Vec<usize>,
     // by block: the line, the entry there, and the block of its data that was written last
-    sources: Vec<(usize, usize, usize)>,
+    sources: Vec<Source>,
     // by ticket, what a Read read whose completion isn't reaped
     reads: Vec<(u64, Vec<u8>)>,
 }
 
-fn copy_publish(alloc: Global, line: &PublishLine) -> Result<Entry, NoMemory> {
-    let batch = copies_of(alloc, line.batch.as_slice())?;
+// The entries of a Publish, those that were refused as a history has them.
+fn copy_publish(
+    alloc: Global,
+    tables: &TraceTables,
+    place: usize,
+    line: &PublishLine,
+) -> Result<Entry, NoMemory> {
+    let mut batch = copies_of(alloc, line.batch.as_slice())?;
+    if let Some(Line::Publish(queue, before, _)) = tables.lines.get(place).copied() {
+        for k in 0..batch.len() {
+            let known = tables.entry(queue, before.saturating_add(k));
+            if known.is_some_and(|known| known.refused) {
+                let bytes = refused(&batch[k].entry);
+                batch[k].entry = bytes;
+            }
+        }
+    }
     Ok(Entry::Publish(PublishLine {
         queue: line.queue,
         batch: Batch::new(batch),
     }))
 }
 
-fn reap_of(line: &ReapedLine) -> Entry {
+fn reap_of(line: &ReapedLine, cqe: Option<[u8; 16]>) -> Entry {
     Entry::Reap(ReapLine {
         queue: line.queue,
-        cqe: line.cqe,
+        cqe: cqe.unwrap_or(line.cqe),
     })
 }
 
-fn post_of(alloc: Global, ticket: u64, line: &ReapedLine) -> Result<Entry, NoMemory> {
+fn post_of(
+    alloc: Global,
+    ticket: u64,
+    line: &ReapedLine,
+    cqe: [u8; 16],
+) -> Result<Entry, NoMemory> {
     let payload = Payload::copy_of(alloc, line.payload.as_slice())?;
     Ok(Entry::Post(PostLine {
         ticket,
-        cqe: line.cqe,
+        cqe,
         payload,
     }))
 }
@@ -68,11 +93,15 @@ fn reaps_of(alloc: Global, trace: &[Seen]) -> Result<Vec<usize>, NoMemory> {
 }
 
 impl Writer {
-    fn line(&mut self, trace: &[Seen]) -> Result<(), NoMemory> {
+    fn line(&mut self, tables: &TraceTables, trace: &[Seen]) -> Result<(), NoMemory> {
         if let Some(seen) = trace.get(self.lines) {
             let entry = match seen {
-                Seen::Published(line) => copy_publish(self.alloc, line)?,
-                Seen::Reaped(line) => reap_of(line),
+                Seen::Published(line) => copy_publish(self.alloc, tables, self.lines, line)?,
+                Seen::Reaped(line) => {
+                    let cqe = self.cqes.get(self.reaped).copied().flatten();
+                    self.reaped = self.reaped.saturating_add(1);
+                    reap_of(line, cqe)
+                }
             };
             self.units.entries.push(entry)?;
         }
@@ -86,7 +115,7 @@ impl Writer {
             return Ok(());
         };
         self.tickets = self.tickets.saturating_add(1);
-        let ticket = self.tickets;
+        let ticket = self.before.saturating_add(self.tickets);
         let fetched = number_at(&self.fetched, queue).saturating_add(usize::from(known.taken));
         set_number(&mut self.fetched, queue, fetched);
         self.units.entries.push(Entry::Fetch(FetchLine {
@@ -95,6 +124,21 @@ impl Writer {
             verdict: verdict_of(&known),
         }))?;
         Ok(())
+    }
+
+    // The bytes of the next completion of a ticket that owes the status of this number.
+    fn cqe_of(&self, tables: &TraceTables, known: &SoughtTicket, code: u16) -> [u8; 16] {
+        let cq = tables.cq_of(known.queue);
+        let fetched = number_at(&self.fetched, known.queue);
+        let head = fetched.checked_rem(usize::from(tables.numbers.sq_size));
+        let round = number_at(&self.posted, cq).checked_div(usize::from(tables.numbers.cq_size));
+        encode_cqe(&Cqe {
+            sqhd: head.unwrap_or(0).min(65_535) as u16,
+            sqid: wire_number(known.queue),
+            cid: known.cid(),
+            phase: round.unwrap_or(0) % 2 == 0,
+            status: status_of(code),
+        })
     }
 
     // A completion that isn't reaped.
@@ -107,17 +151,7 @@ impl Writer {
         let Some(code) = known.owes() else {
             return Ok(());
         };
-        let cq = tables.cq_of(known.queue);
-        let fetched = number_at(&self.fetched, known.queue);
-        let head = fetched.checked_rem(usize::from(tables.numbers.sq_size));
-        let round = number_at(&self.posted, cq).checked_div(usize::from(tables.numbers.cq_size));
-        let cqe = encode_cqe(&Cqe {
-            sqhd: head.unwrap_or(0).min(65_535) as u16,
-            sqid: wire_number(known.queue),
-            cid: known.cid(),
-            phase: round.unwrap_or(0) % 2 == 0,
-            status: status_of(code),
-        });
+        let cqe = self.cqe_of(tables, known, code);
         let payload = self.payload_of(ticket, code)?;
         self.units.entries.push(Entry::Post(PostLine {
             ticket,
@@ -148,7 +182,14 @@ impl Writer {
         let line = self.reaps.get(which).copied().unwrap_or(usize::MAX);
         match trace.get(line) {
             Some(Seen::Reaped(line)) => {
-                let entry = post_of(self.alloc, ticket, line)?;
+                let mut cqe = line.cqe;
+                if tables.options != TraceOptions::none() {
+                    cqe = self.cqe_of(tables, known, known.owes().unwrap_or(0));
+                }
+                if let Some(told) = self.cqes.get_mut(which) {
+                    *told = Some(cqe);
+                }
+                let entry = post_of(self.alloc, ticket, line, cqe)?;
                 self.units.entries.push(entry)?;
             }
             _ => self.post_unseen(tables, ticket, known)?,
@@ -162,28 +203,8 @@ impl Writer {
     // The bytes of a block as it was written last.
     fn add_block(&self, trace: &[Seen], block: u64, bytes: &mut Vec<u8>) -> Result<(), NoMemory> {
         let place = block.min(65_536) as usize;
-        let source = self
-            .sources
-            .get(place)
-            .copied()
-            .unwrap_or((usize::MAX, 0, 0));
-        if let Some(Seen::Published(line)) = trace.get(source.0) {
-            if let Some(submission) = line.batch.as_slice().get(source.1) {
-                if let Some(data) = submission
-                    .payload
-                    .as_slice()
-                    .chunks_exact(512)
-                    .nth(source.2)
-                {
-                    bytes.extend_from_slice(data)?;
-                    return Ok(());
-                }
-            }
-        }
-        for _ in 0..512 {
-            bytes.push(0)?;
-        }
-        Ok(())
+        let source = self.sources.get(place).copied().unwrap_or(ZEROS);
+        add_block(trace, source, bytes)
     }
 
     // Notes what a unit reads whose ticket's completion isn't reaped.
@@ -208,8 +229,8 @@ impl Writer {
         if known.compares() {
             entry = entry.saturating_add(1);
         }
-        let mut line = usize::MAX;
-        let mut item = 0;
+        let mut line = ZEROS.0;
+        let mut item = ZEROS.1;
         if let (Gives::Values(_), Some(published)) = (
             known.gives,
             tables.entry(known.queue, entry),
@@ -255,10 +276,11 @@ impl Writer {
             Move::Line | Move::Fetch(_) => Ok(()),
             Move::Post(which, number, posts, _) => {
                 known.posts = posts;
-                self.post(tables, trace, which, number_of(number), known)
+                let ticket = self.before.saturating_add(number_of(number));
+                self.post(tables, trace, which, ticket, known)
             }
             Move::Unit(number, unit, range, equal) => {
-                let ticket = number_of(number);
+                let ticket = self.before.saturating_add(number_of(number));
                 self.note_unit(tables, trace, ticket, &range, equal, known)?;
                 self.units.unit(ticket, unit, &range, equal, known)
             }
@@ -273,7 +295,7 @@ impl Writer {
         step: Move,
     ) -> Result<(), NoMemory> {
         let number = match step {
-            Move::Line => return self.line(trace),
+            Move::Line => return self.line(tables, trace),
             Move::Fetch(queue) => return self.fetch(queue, walk),
             Move::Post(_, number, _, _) => number,
             Move::Unit(number, _, _, _) => number,
@@ -302,19 +324,35 @@ fn wire_number(queue: usize) -> u16 {
     queue.min(65_534) as u16 + 1
 }
 
-fn new_writer(alloc: Global, tables: &TraceTables, trace: &[Seen]) -> Result<Writer, NoMemory> {
-    let mut sources = Vec::new(alloc);
-    for _ in 0..tables.numbers.blocks {
-        sources.push((usize::MAX, 0, 0))?;
+// As many completions as are reaped, without bytes.
+fn no_cqes(alloc: Global, count: usize) -> Result<Vec<Option<[u8; 16]>>, NoMemory> {
+    let mut cqes = Vec::new(alloc);
+    for _ in 0..count {
+        cqes.push(None)?;
     }
+    Ok(cqes)
+}
+
+fn new_writer(
+    alloc: Global,
+    tables: &TraceTables,
+    trace: &[Seen],
+    walk: &Walk,
+) -> Result<Writer, NoMemory> {
+    let sources = first_sources(alloc, tables, walk)?;
+    let mut entries = Vec::new(alloc);
+    let before = write_beginning(alloc, tables, trace, &sources, &mut entries)?;
+    let reaps = reaps_of(alloc, trace)?;
+    let cqes = no_cqes(alloc, reaps.len())?;
     Ok(Writer {
         alloc,
-        units: UnitWriter {
-            entries: Vec::new(alloc),
-        },
+        units: UnitWriter { entries },
         lines: 0,
+        reaped: 0,
         tickets: 0,
-        reaps: reaps_of(alloc, trace)?,
+        before,
+        reaps,
+        cqes,
         fetched: zeros(alloc, usize::from(tables.numbers.pairs))?,
         posted: zeros(alloc, usize::from(tables.numbers.cqs))?,
         sources,
@@ -328,7 +366,7 @@ fn number_of(number: usize) -> u64 {
 }
 
 /// The entries of the history whose steps were found for this trace, the oldest first. They are right only as far as
-/// the search was.
+/// the search was. Where contents are unknown they begin with the Writes that stand for what was there.
 ///
 /// # Errors
 ///
@@ -339,7 +377,7 @@ pub fn write_witness(
     trace: &[Seen],
     walk: &Walk,
 ) -> Result<Vec<Entry>, NoMemory> {
-    let mut writer = new_writer(alloc, tables, trace)?;
+    let mut writer = new_writer(alloc, tables, trace, walk)?;
     for step in walk.moves() {
         writer.step(tables, trace, walk, *step)?;
     }

@@ -1,46 +1,36 @@
 -- What is said of a history and a trace.
-use Rattle.std.proofs.Common.{◌≡◌, ℕ, zero, suc, ◌+◌, ◌<◌, ◌≤◌, List, [], ◌∷◌, ◌++◌, length}
-use Rattle.std.proofs.Common.{take, Option, Some, None, slice_get, refl, sym, ap, ◌∙◌, subst, arith, inl, inr}
+use Rattle.std.proofs.Common.{◌≡◌, ℕ, zero, suc, ◌+◌, ◌==◌, ◌<◌, ◌≤◌, ◌⊎◌, Bool, true, false, cond, List, [], ◌∷◌, ◌++◌}
+use Rattle.std.proofs.Common.{length, take, Option, Some, None, slice_get, refl, sym, ap, ◌∙◌, subst, arith, inl, inr}
+use Rattle.std.proofs.Common.{length-append}
 use mathlib.Core.List.{reverse}
-use Rattle.std.proofs.lemmas.Bool.{cases_lt}
-use Rattle.std.proofs.lemmas.List.{length-take-le, reverse-append, reverse-reverse, take-take}
-use Rattle.std.proofs.lemmas.List.{take_all, take_at}
+use Rattle.std.proofs.lemmas.Bool.{and_parts}
+use Rattle.std.proofs.lemmas.List.{length-reverse, length-take-le, reverse-append, reverse-reverse, take_all}
 use Rattle.nvme_model.specs.FirstBad.{IsFirstBad, first_bad_of}
 use Rattle.nvme_model.specs.History.{Past}
 use Rattle.nvme_model.specs.Legal.{IsLegal, IsLegalFile}
 use Rattle.nvme_model.specs.declared.config.ConfigNumbers.{ConfigNumbers}
-use Rattle.nvme_model.specs.declared.entry.PublishLine.{PublishLine}
 use Rattle.nvme_model.proofs.FirstBad.{first_is_some, legal_is_none, one_first, some_is_first}
+use Rattle.seen_trace.specs.Aside.{aside_pair, comes_first, in_turn, is_aside, own}
 use Rattle.seen_trace.specs.Observed.{Explains, observed}
-use Rattle.seen_trace.specs.declared.seen.ReapedLine.{ReapedLine}
+use Rattle.seen_trace.specs.Options.{Pointwise, ReadsAs}
+use Rattle.seen_trace.specs.declared.options.TraceOptions.{TraceOptions}
 use Rattle.seen_trace.specs.declared.seen.Seen.{Seen}
+use Rattle.seen_trace.proofs.Aside.{first_before, own_behind}
+use Rattle.seen_trace.proofs.Pointwise.{parted, same_length}
 use Rattle.witness_check.specs.Compared.{Compared, IsComparedTo, IsSeenTo, IsVerdict}
-use Rattle.witness_check.specs.Differing.{Differ, DifferFirst, PublishesDiffer, ReapsDiffer}
+use Rattle.witness_check.specs.Differing.{Differ, DifferFirst, DiffersBehind, StandsFor}
 use Rattle.witness_check.specs.declared.comparison.TraceVerdict.{TraceVerdict}
 use Rattle.witness_check.specs.declared.comparison.TraceVerdict.TheVariants.{Bad, Explained, Unlike}
 use Rattle.witness_check.specs.declared.difference.Difference.{Difference}
-use Rattle.witness_check.specs.declared.difference.Difference.TheVariants.{Batch, Completion, Data, HistoryEnds, Kind}
-use Rattle.witness_check.specs.declared.difference.Difference.TheVariants.{Queue, TraceEnds}
+use Rattle.witness_check.specs.declared.difference.Difference.TheVariants.{HistoryEnds}
 use Rattle.witness_check.proofs.Comparing.{no_place}
+use Rattle.witness_check.proofs.Differing.{alike, one_difference}
 
 -- ---- of what is kept
 
--- what stands behind a beginning of a list
-at_end : (xs : List Seen) (x : Seen) (more : List Seen) (n : ℕ) → length xs ≡ n
-    → slice_get ((xs ++ x ∷ []) ++ more) n ≡ Some x
-at_end [] x more zero e = refl
-at_end [] x more (suc n) e = absurd (omega (arith, e))
-at_end (y ∷ ys) x more zero e = absurd (omega (arith, e))
-at_end (y ∷ ys) x more (suc n) e = at_end ys x more n (omega (arith, e))
-
--- a list is its own beginning, and one that is longer has one thing more
-ends_here : (xs : List Seen) (n : ℕ) → n < length xs → Differ (slice_get (take n xs) n) (slice_get xs n) HistoryEnds
-ends_here [] n l = absurd (omega (arith, l))
-ends_here (x ∷ xs) zero l = refl
-ends_here (x ∷ xs) (suc n) l = ends_here xs n (omega (arith, l))
-
-module _ (c : ConfigNumbers) (trace : List Seen) (past : Past) (x : Compared) (h : IsComparedTo c trace past x) where
-  pub said_bad : (k : ℕ) → x.bad ≡ Some k → IsVerdict c past trace (Bad k)
+module _ (o : TraceOptions) (c : ConfigNumbers) (trace : List Seen) (past : Past) (x : Compared)
+    (h : IsComparedTo o c trace past x) where
+  pub said_bad : (k : ℕ) → x.bad ≡ Some k → IsVerdict o c past trace (Bad k)
   said_bad k e =
       some_is_first c (reverse past) k (ap (first_bad_of c) (reverse-reverse past) ∙ sym h.first ∙ e)
 
@@ -48,141 +38,34 @@ module _ (c : ConfigNumbers) (trace : List Seen) (past : Past) (x : Compared) (h
   legal_if e = no_place c past (sym e ∙ h.first)
 
   -- what was seen differs
-  pub said_unlike : (d : Difference) → x.bad ≡ None → x.unlike ≡ Some d → IsVerdict c past trace (Unlike x.next d)
+  pub said_unlike : (d : Difference) → x.bad ≡ None → x.unlike ≡ Some d → IsVerdict o c past trace (Unlike x.next d)
   said_unlike d e is =
-      let s = subst (λ u. IsSeenTo trace (observed c past) x.next u) is (h.seen e) in
-      let n = s.0 in
-      let few = length-take-le n trace s.2 in
-      let turned : reverse (observed c past) ≡ (take n trace ++ s.4 ∷ []) ++ reverse s.3 =
-      ap reverse s.5 ∙ reverse-append s.3 (s.4 ∷ reverse (take n trace))
-      ∙ ap (λ (ys : List Seen). ys ++ reverse s.3) (reverse-append (s.4 ∷ []) (reverse (take n trace)))
-      ∙ ap (λ (ys : List Seen). (ys ++ s.4 ∷ []) ++ reverse s.3) (reverse-reverse (take n trace)) in
-      let front : take n ((take n trace ++ s.4 ∷ []) ++ reverse s.3) ≡ take n trace =
-      ap (take n) (ap (λ (ys : List Seen). ys) (assoc (take n trace) s.4 (reverse s.3)))
-      ∙ take_at (take n trace) (s.4 ∷ reverse s.3) n few in (
-        legal_if e,
-        n,
-        s.1,
-        (
-          ap (take n) turned ∙ front,
-          subst (λ o. Differ o (slice_get trace n) d)
-              (sym (ap (λ ys. slice_get ys n) turned ∙ at_end (take n trace) s.4 (reverse s.3) n few)) s.6,
-        ),
-      )
-    where
-      assoc : (xs : List Seen) (y : Seen) (ys : List Seen) → (xs ++ y ∷ []) ++ ys ≡ xs ++ (y ∷ ys)
-      assoc [] y ys = refl
-      assoc (z ∷ xs) y ys = ap (λ (l : List Seen). z ∷ l) (assoc xs y ys)
+      let s = subst (λ u. IsSeenTo o (aside_pair o c) trace (observed c past) x.next x.out u) is (h.seen e) in
+      (legal_if e, s.0, s.1, inr (s.2, s.3, s.4, s.5, s.6, s.7))
 
-  module _ (good : x.bad ≡ None) (alike : x.unlike ≡ None) where
-    so_far : IsSeenTo trace (observed c past) x.next None
-    so_far = subst (λ u. IsSeenTo trace (observed c past) x.next u) alike (h.seen good)
+  module _ (good : x.bad ≡ None) (same : x.unlike ≡ None) where
+    so_far : IsSeenTo o (aside_pair o c) trace (observed c past) x.next x.out None
+    so_far = subst (λ u. IsSeenTo o (aside_pair o c) trace (observed c past) x.next x.out u) same (h.seen good)
 
     -- the trace goes on
-    pub said_more : x.next ≤ length trace → IsVerdict c past trace (Unlike x.next HistoryEnds)
+    pub said_more : x.next ≤ length trace → IsVerdict o c past trace (Unlike x.next HistoryEnds)
     said_more l =
         let s = so_far in
-        let n = s.0 in
-        let turned : reverse (observed c past) ≡ take n trace = ap reverse s.3 ∙ reverse-reverse (take n trace) in (
+        (legal_if good, s.0, s.1, inl (s.3, omega (arith, s.1, l), refl))
+
+    -- it has ended
+    pub said_explained : length trace < x.next → IsVerdict o c past trace Explained
+    said_explained l =
+        let s = so_far in (
           legal_if good,
-          n,
-          s.1,
           (
-            ap (take n) turned ∙ take-take n n trace (omega arith),
-            subst (λ ys. Differ (slice_get ys n) (slice_get trace n) HistoryEnds) (sym turned)
-                (ends_here trace n (omega (arith, s.1, l))),
+            s.3.1.0,
+            subst (λ (ts : List Seen). Pointwise (ReadsAs o) (own (aside_pair o c) (observed c past)) (reverse ts))
+                (take_all s.0 trace (omega (arith, s.1, l))) s.3.1.1,
           ),
         )
 
-    -- it has ended
-    pub said_explained : length trace < x.next → IsVerdict c past trace Explained
-    said_explained l =
-        let s = so_far in
-        (legal_if good, s.3 ∙ ap reverse (take_all s.0 trace (omega (arith, s.1, l))))
-
--- ---- nothing differs from itself
-
-alike_publish : (p : PublishLine) (d : Difference) → PublishesDiffer p p d → ⊥
-alike_publish p Queue h = h refl
-alike_publish p Batch h = h.1 refl
-alike_publish p TraceEnds h = h
-alike_publish p HistoryEnds h = h
-alike_publish p Kind h = h
-alike_publish p Completion h = h
-alike_publish p Data h = h
-
-alike_reap : (r : ReapedLine) (d : Difference) → ReapsDiffer r r d → ⊥
-alike_reap r Queue h = h refl
-alike_reap r Completion h = h.1 refl
-alike_reap r Data h = h.2 refl
-alike_reap r TraceEnds h = h
-alike_reap r HistoryEnds h = h
-alike_reap r Kind h = h
-alike_reap r Batch h = h
-
-alike : (o : Option Seen) (d : Difference) → Differ o o d → ⊥
-alike None d h = h
-alike (Some (Seen.Published p)) d h = alike_publish p d h
-alike (Some (Seen.Reaped r)) d h = alike_reap r d h
-
--- ---- one thing differs first
-
-one_publish : (p t : PublishLine) (d e : Difference) → PublishesDiffer p t d → PublishesDiffer p t e → d ≡ e
-one_publish p t Queue Queue h g = refl
-one_publish p t Queue Batch h g = absurd (h g.0)
-one_publish p t Batch Queue h g = absurd (g h.0)
-one_publish p t Batch Batch h g = refl
-one_publish p t Queue TraceEnds h g = absurd g
-one_publish p t Queue HistoryEnds h g = absurd g
-one_publish p t Queue Kind h g = absurd g
-one_publish p t Queue Completion h g = absurd g
-one_publish p t Queue Data h g = absurd g
-one_publish p t Batch TraceEnds h g = absurd g
-one_publish p t Batch HistoryEnds h g = absurd g
-one_publish p t Batch Kind h g = absurd g
-one_publish p t Batch Completion h g = absurd g
-one_publish p t Batch Data h g = absurd g
-one_publish p t TraceEnds e h g = absurd h
-one_publish p t HistoryEnds e h g = absurd h
-one_publish p t Kind e h g = absurd h
-one_publish p t Completion e h g = absurd h
-one_publish p t Data e h g = absurd h
-
-one_reap : (r t : ReapedLine) (d e : Difference) → ReapsDiffer r t d → ReapsDiffer r t e → d ≡ e
-one_reap r t Queue Queue h g = refl
-one_reap r t Queue Completion h g = absurd (h g.0)
-one_reap r t Queue Data h g = absurd (h g.0)
-one_reap r t Completion Queue h g = absurd (g h.0)
-one_reap r t Completion Completion h g = refl
-one_reap r t Completion Data h g = absurd (h.1 g.1)
-one_reap r t Data Queue h g = absurd (g h.0)
-one_reap r t Data Completion h g = absurd (g.1 h.1)
-one_reap r t Data Data h g = refl
-one_reap r t Queue TraceEnds h g = absurd g
-one_reap r t Queue HistoryEnds h g = absurd g
-one_reap r t Queue Kind h g = absurd g
-one_reap r t Queue Batch h g = absurd g
-one_reap r t Completion TraceEnds h g = absurd g
-one_reap r t Completion HistoryEnds h g = absurd g
-one_reap r t Completion Kind h g = absurd g
-one_reap r t Completion Batch h g = absurd g
-one_reap r t Data TraceEnds h g = absurd g
-one_reap r t Data HistoryEnds h g = absurd g
-one_reap r t Data Kind h g = absurd g
-one_reap r t Data Batch h g = absurd g
-one_reap r t TraceEnds e h g = absurd h
-one_reap r t HistoryEnds e h g = absurd h
-one_reap r t Kind e h g = absurd h
-one_reap r t Batch e h g = absurd h
-
-one_difference : (o u : Option Seen) (d e : Difference) → Differ o u d → Differ o u e → d ≡ e
-one_difference None None d e h g = absurd h
-one_difference None (Some t) d e h g = h ∙ sym g
-one_difference (Some s) None d e h g = h ∙ sym g
-one_difference (Some (Seen.Published p)) (Some (Seen.Published t)) d e h g = one_publish p t d e h g
-one_difference (Some (Seen.Published p)) (Some (Seen.Reaped t)) d e h g = h ∙ sym g
-one_difference (Some (Seen.Reaped r)) (Some (Seen.Published t)) d e h g = h ∙ sym g
-one_difference (Some (Seen.Reaped r)) (Some (Seen.Reaped t)) d e h g = one_reap r t d e h g
+-- ---- places in lists
 
 -- what stands within a beginning
 get_taken : (n m : ℕ) (xs : List Seen) → n < m → slice_get (take m xs) n ≡ slice_get xs n
@@ -191,28 +74,107 @@ get_taken n (suc m) [] l = refl
 get_taken zero (suc m) (x ∷ xs) l = refl
 get_taken (suc n) (suc m) (x ∷ xs) l = get_taken n m xs (omega (arith, l))
 
--- nothing differs before the first place
-not_before : (seen trace : List Seen) (n m : ℕ) (d e : Difference) → DifferFirst seen trace n d
-    → DifferFirst seen trace m e → n < m → ⊥
-not_before seen trace n m d e h g l =
-    let same : slice_get seen n ≡ slice_get trace n = sym (get_taken n m seen l)
-    ∙ ap (λ ys. slice_get ys n) g.0 ∙ get_taken n m trace l in
-    alike (slice_get trace n) d (subst (λ o. Differ o (slice_get trace n) d) same h.1)
+-- what stands behind a list
+at_end : (xs : List Seen) (x : Seen) (more : List Seen) (n : ℕ) → length xs ≡ n
+    → slice_get ((xs ++ x ∷ []) ++ more) n ≡ Some x
+at_end [] x more zero e = refl
+at_end [] x more (suc n) e = absurd (omega (arith, e))
+at_end (y ∷ ys) x more zero e = absurd (omega (arith, e))
+at_end (y ∷ ys) x more (suc n) e = at_end ys x more n (omega (arith, e))
 
-one_place : (seen trace : List Seen) (n m : ℕ) (d e : Difference) → DifferFirst seen trace n d
-    → DifferFirst seen trace m e → n ≡ m
-one_place seen trace n m d e h g =
-    elim (cases_lt n m) [
-      | inl l ↦ absurd (not_before seen trace n m d e h g l)
-      | inr l ↦ elim (cases_lt m n) [
-        | inl k ↦ absurd (not_before seen trace m n e d g h k)
-        | inr k ↦ omega (arith, l, k)
-      ]
-    ]
+-- one of two parts of a list lies within the other
+abbrev Parts : Seen → List Seen → Seen → List Seen → Type 0
+Parts s before t earlier =
+    ((s ≡ t) × (before ≡ earlier))
+    ⊎ (((more : List Seen) × (earlier ≡ more ++ (s ∷ before))) ⊎ ((more : List Seen) × (before ≡ more ++ (t ∷
+    earlier))))
+
+head_same : (x y : Seen) (xs ys : List Seen) → x ∷ xs ≡ y ∷ ys → (x ≡ y) × (xs ≡ ys)
+head_same x y xs ys e = (cc, cc)
+
+two_parts : (later more before earlier : List Seen) (s t : Seen) → later ++ (s ∷ before) ≡ more ++ (t ∷ earlier)
+    → Parts s before t earlier
+two_parts [] [] before earlier s t e = inl (head_same s t before earlier e)
+two_parts [] (x ∷ more) before earlier s t e = inr (inr (more, (head_same s x before (more ++ (t ∷ earlier)) e).1))
+two_parts (x ∷ later) [] before earlier s t e =
+    inr (inl (later, sym (head_same x t (later ++ (s ∷ before)) earlier e).1))
+two_parts (x ∷ later) (y ∷ more) before earlier s t e =
+    two_parts later more before earlier s t (head_same x y (later ++ (s ∷ before)) (more ++ (t ∷ earlier)) e).1
+
+-- ---- what stands for a trace
+
+module _ (o : TraceOptions) (a : Option ℕ) (trace : List Seen) where
+  -- how many lines
+  stands_long : (seen : List Seen) (n : ℕ) → StandsFor o a seen trace n → length (own a seen) ≡ n
+  stands_long seen n h =
+      same_length (ReadsAs o) (own a seen) (reverse (take n trace)) h.1.1 ∙ length-reverse (take n trace)
+      ∙ length-take-le n trace h.0
+
+  -- a line that something stands for is there
+  found : (later before : List Seen) (s v : Seen) (ys vs : List Seen) (n m : ℕ) → n < m → length vs ≡ n
+      → reverse (take m trace) ≡ ys ++ (v ∷ vs) → slice_get trace n ≡ Some v
+  found later before s v ys vs n m l long e =
+      let turned : take m trace ≡ (reverse vs ++ v ∷ []) ++ reverse ys =
+      sym (reverse-reverse (take m trace)) ∙ ap reverse e ∙ reverse-append ys (v ∷ vs)
+      ∙ ap (λ (zs : List Seen). zs ++ reverse ys) (reverse-append (v ∷ []) vs) in
+      sym (get_taken n m trace l) ∙ ap (λ zs. slice_get zs n) turned
+      ∙ at_end (reverse vs) v (reverse ys) n (length-reverse vs ∙ long)
+
+  -- nothing differs within what stands for a trace
+  never_there : (all later before : List Seen) (s : Seen) (n m : ℕ) (d : Difference) → all ≡ later ++ (s ∷ before)
+      → StandsFor o a all trace m → StandsFor o a before trace n → DiffersBehind o a before s (slice_get trace n) d → ⊥
+  never_there all later before s n m d is h g (inl late) =
+      let first = first_before a later (s ∷ before) (subst (λ (xs : List Seen). comes_first a xs ≡ true) is h.1.0) in
+      let turn : in_turn a before s ≡ true = (and_parts (comes_first a before) (in_turn a before s) first).1 in
+      let w : false ≡ true = sym late.0 ∙ turn in
+      cc
+  never_there all later before s n m d is h g (inr other) =
+      let reads = subst (λ (xs : List Seen). Pointwise (ReadsAs o) xs (reverse (take m trace)))
+      (ap (own a) is ∙ own_behind a later (s ∷ before)
+      ∙ ap (λ b. own a later ++ cond b (own a before) (s ∷ own a before)) other.1) h.1.1 in
+      let p = parted (ReadsAs o) (own a later) (s ∷ own a before) (reverse (take m trace)) reads in
+      by p.0 p.1 p.2 p.4
+    where
+      by : (ys vs : List Seen) → reverse (take m trace) ≡ ys ++ vs → Pointwise (ReadsAs o) (s ∷ own a before) vs → ⊥
+      by ys [] e r = absurd r
+      by ys (v ∷ vs) e r =
+          let long : length vs ≡ n = sym (same_length (ReadsAs o) (own a before) vs r.1) ∙ stands_long before n g in
+          let whole : length (reverse (take m trace)) ≡ m = length-reverse (take m trace) ∙ length-take-le m trace h.0
+          in
+          let less : n < m = omega (arith, sym whole ∙ ap length e ∙ length-append ys (v ∷ vs), long) in
+          let there = found later before s v ys vs n m less long e in
+          alike o s v d r.0 (subst (λ u. Differ o (Some s) u d) there other.2)
+
+  -- one thing differs behind what was seen
+  one_behind : (before : List Seen) (s : Seen) (next : Option Seen) (d e : Difference)
+      → DiffersBehind o a before s next d → DiffersBehind o a before s next e → d ≡ e
+  one_behind before s next d e (inl h) (inl g) = h.1 ∙ sym g.1
+  one_behind before s next d e (inl h) (inr g) = absurd (let w : false ≡ true = sym h.0 ∙ g.0 in cc)
+  one_behind before s next d e (inr h) (inl g) = absurd (let w : false ≡ true = sym g.0 ∙ h.0 in cc)
+  one_behind before s next d e (inr h) (inr g) = one_difference o (Some s) next d e h.2 g.2
+
+  -- one place is first
+  one_first_place : (seen : List Seen) (n m : ℕ) (d e : Difference) → DifferFirst o a seen trace n d
+      → DifferFirst o a seen trace m e → (n ≡ m) × (d ≡ e)
+  one_first_place seen n m d e (inl h) (inl g) =
+      (sym (stands_long seen n h.0) ∙ stands_long seen m g.0, h.2 ∙ sym g.2)
+  one_first_place seen n m d e (inl h) (inr g) = absurd (never_there seen g.0 g.1 g.2 m n e g.3 h.0 g.4 g.5)
+  one_first_place seen n m d e (inr h) (inl g) = absurd (never_there seen h.0 h.1 h.2 n m d h.3 g.0 h.4 h.5)
+  one_first_place seen n m d e (inr h) (inr g) = by (two_parts h.0 g.0 h.1 g.1 h.2 g.2 (sym h.3 ∙ g.3))
+    where
+      by : Parts h.2 h.1 g.2 g.1 → (n ≡ m) × (d ≡ e)
+      by (inl p) =
+          let same : n ≡ m = sym (stands_long h.1 n h.4) ∙ ap (λ xs. length (own a xs)) p.1 ∙ stands_long g.1 m g.4 in
+          let one = subst (λ k. DiffersBehind o a h.1 h.2 (slice_get trace k) d) same h.5 in
+          let two = subst (λ (xs : List Seen). DiffersBehind o a xs h.2 (slice_get trace m) d) p.1 one in
+          let three = subst (λ (y : Seen). DiffersBehind o a g.1 y (slice_get trace m) d) p.0 two in
+          (same, one_behind g.1 g.2 (slice_get trace m) d e three g.5)
+      by (inr (inl p)) = absurd (never_there g.1 p.0 h.1 h.2 n m d p.1 g.4 h.4 h.5)
+      by (inr (inr p)) = absurd (never_there h.1 p.0 g.1 g.2 m n e p.1 h.4 g.4 g.5)
 
 -- ---- one verdict
 
-module _ (c : ConfigNumbers) (past : Past) (trace : List Seen) where
+module _ (o : TraceOptions) (c : ConfigNumbers) (past : Past) (trace : List Seen) where
   -- a legal history has no first bad place
   legal_or_bad : (k : ℕ) → IsLegal c past → IsFirstBad c (reverse past) k → ⊥
   legal_or_bad k l h =
@@ -221,13 +183,31 @@ module _ (c : ConfigNumbers) (past : Past) (trace : List Seen) where
       cc
 
   -- where it explains the trace nothing differs
-  alike_or_unlike : (n : ℕ) (d : Difference) → Explains c past (reverse trace)
-      → DifferFirst (reverse (observed c past)) trace n d → ⊥
+  alike_or_unlike : (n : ℕ) (d : Difference) → Explains o c past (reverse trace)
+      → DifferFirst o (aside_pair o c) (observed c past) trace n d → ⊥
   alike_or_unlike n d h g =
-      let same : reverse (observed c past) ≡ trace = ap reverse h.1 ∙ reverse-reverse trace in
-      alike (slice_get trace n) d (subst (λ ys. Differ (slice_get ys n) (slice_get trace n) d) same g.1)
+      let a = aside_pair o c in
+      let whole : StandsFor o a (observed c past) trace (length trace) = (
+        omega arith,
+        (
+          h.1.0,
+          subst (λ (ts : List Seen). Pointwise (ReadsAs o) (own a (observed c past)) (reverse ts))
+              (sym (take_all (length trace) trace (omega arith))) h.1.1,
+        ),
+      ) in
+      by whole g
+    where
+      by : StandsFor o (aside_pair o c) (observed c past) trace (length trace)
+          → DifferFirst o (aside_pair o c) (observed c past) trace n d → ⊥
+      by whole (inl k) =
+          let a = aside_pair o c in
+          let same : n ≡ length trace = sym (stands_long o a trace (observed c past) n k.0)
+          ∙ stands_long o a trace (observed c past) (length trace) whole in
+          absurd (omega (arith, same, k.1))
+      by whole (inr k) =
+          never_there o (aside_pair o c) trace (observed c past) k.0 k.1 k.2 n (length trace) d k.3 whole k.4 k.5
 
-  pub one_verdict : (v w : TraceVerdict) → IsVerdict c past trace v → IsVerdict c past trace w → v ≡ w
+  pub one_verdict : (v w : TraceVerdict) → IsVerdict o c past trace v → IsVerdict o c past trace w → v ≡ w
   one_verdict Explained Explained h g = refl
   one_verdict Explained (Bad k) h g = absurd (legal_or_bad k h.0 g)
   one_verdict Explained (Unlike k d) h g = absurd (alike_or_unlike g.1 d h g.3)
@@ -237,13 +217,10 @@ module _ (c : ConfigNumbers) (past : Past) (trace : List Seen) where
   one_verdict (Unlike k d) Explained h g = absurd (alike_or_unlike h.1 d g h.3)
   one_verdict (Unlike k d) (Bad j) h g = absurd (legal_or_bad j h.0 g)
   one_verdict (Unlike k d) (Unlike j e) h g =
-      let same : h.1 ≡ g.1 = one_place (reverse (observed c past)) trace h.1 g.1 d e h.3 g.3 in
-      let place : k ≡ j = h.2 ∙ ap (λ n. n + 1) same ∙ sym g.2 in
-      let what : d ≡ e =
-      one_difference (slice_get (reverse (observed c past)) g.1) (slice_get trace g.1) d e
-      (subst (λ n. Differ (slice_get (reverse (observed c past)) n) (slice_get trace n) d) same h.3.1) g.3.1 in
-      ap (λ n. Unlike n d) place ∙ ap (Unlike j) what
+      let same = one_first_place o (aside_pair o c) trace (observed c past) h.1 g.1 d e h.3 g.3 in
+      let place : k ≡ j = h.2 ∙ ap (λ n. n + 1) same.0 ∙ sym g.2 in
+      ap (λ n. Unlike n d) place ∙ ap (Unlike j) same.1
 
-  pub not_explained : (v : TraceVerdict) → IsVerdict c past trace v → (v ≡ Explained → ⊥)
-      → Explains c past (reverse trace) → ⊥
+  pub not_explained : (v : TraceVerdict) → IsVerdict o c past trace v → (v ≡ Explained → ⊥)
+      → Explains o c past (reverse trace) → ⊥
   not_explained v h other g = other (one_verdict v Explained h g)

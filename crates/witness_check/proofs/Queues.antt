@@ -39,7 +39,7 @@ ticket_queue c (Entry.Post e ∷ past) t h = ticket_queue c past t (follows c pa
 ticket_queue c (Entry.Reap e ∷ past) t h = ticket_queue c past t (follows c past (Entry.Reap e) h).before
 
 -- there are few
-few_pairs : (c : ConfigNumbers) → config_fault c ≡ None → c.pairs ≤ 16
+pub few_pairs : (c : ConfigNumbers) → config_fault c ≡ None → c.pairs ≤ 16
 few_pairs c e = ltb-false _ _
     (or_parts (nat_lt c.pairs 1) (nat_lt 16 c.pairs) (none_holds (config_faults c) (ap is_none e)).1.1.1.1.1.0).1
 

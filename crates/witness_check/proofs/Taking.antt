@@ -17,6 +17,7 @@ use Rattle.nvme_model.proofs.Rules.{follows}
 use Rattle.history_check.specs.Kept.{Stands, CheckerRun}
 use Rattle.rings.specs.Tables.{IsTable}
 use Rattle.seen_trace.specs.Observed.{next_payload, shown}
+use Rattle.seen_trace.specs.declared.options.TraceOptions.{TraceOptions}
 use Rattle.seen_trace.specs.declared.seen.Seen.{Seen}
 use Rattle.witness_check.specs.Followed.{Compares, Followed, FollowsHistory, TellsEntry, is_inner}
 use Rattle.witness_check.specs.Waiting.{data_or_none, waiting_payloads}
@@ -43,9 +44,9 @@ module _ (c : ConfigNumbers) (past : Past) (e : Entry) (old new : CheckerRun) (b
       (took past (subst (λ (d : ConfigNumbers). Stands d past old) (sym stands.same) stands))
 
   -- a bad one
-  pub told_bad : (ws : List (List (List ℕ))) (next : Option Seen) → b ≡ false
-      → TellsEntry c past e next Bad × FollowsHistory c (e ∷ past) (record { checker = new; waiting = ws })
-  told_bad ws next bad = (
+  pub told_bad : (o : TraceOptions) (ws : List (List (List ℕ))) (next : Option Seen) → b ≡ false
+      → TellsEntry o c past e next Bad × FollowsHistory c (e ∷ past) (record { checker = new; waiting = ws })
+  told_bad o ws next bad = (
     sym answered.0 ∙ bad,
     record { stands = answered.1; waits = λ l. absurd (let f : false ≡ true = sym bad ∙ answered.0 ∙ l in cc) },
   )
@@ -62,35 +63,37 @@ module _ (c : ConfigNumbers) (past : Past) (e : Entry) (old new : CheckerRun) (b
       )
 
 -- what is said of a legal entry goes by what is seen of it
-pub tells_by : (c : ConfigNumbers) (past : Past) (e : Entry) (next : Option Seen) (t : Told) → IsLegal c (e ∷ past)
-    → Compares (shown c past e) next t → TellsEntry c past e next t
-tells_by c past e next Bad l h = absurd h
-tells_by c past e next Hidden l h = (l, h)
-tells_by c past e next Same l h = (l, h)
-tells_by c past e next (Unlike d) l h = (l, h)
+pub tells_by : (o : TraceOptions) (c : ConfigNumbers) (past : Past) (e : Entry) (next : Option Seen) (t : Told)
+    → IsLegal c (e ∷ past)
+    → Compares o (shown c past e) next t → TellsEntry o c past e next t
+tells_by o c past e next Bad l h = absurd h
+tells_by o c past e next Hidden l h = (l, h)
+tells_by o c past e next Same l h = (l, h)
+tells_by o c past e next (Unlike d) l h = (l, h)
 
 -- ---- an entry of a ticket alone
 
 -- what waits stays
-pub told_hidden : (c : ConfigNumbers) (past : Past) (e : Entry) (old : Followed) (new : CheckerRun) (next : Option Seen)
+pub told_hidden : (o : TraceOptions) (c : ConfigNumbers) (past : Past) (e : Entry) (old : Followed) (new : CheckerRun)
+    (next : Option Seen)
     (b : Bool) → is_inner e ≡ true → FollowsHistory c past old
     → b ≡ true → Took old.checker e b new
-    → TellsEntry c past e next Hidden × FollowsHistory c (e ∷ past) (record { checker = new; waiting = old.waiting })
-told_hidden c past (Entry.Fetch p) old new next b inner f good took =
+    → TellsEntry o c past e next Hidden × FollowsHistory c (e ∷ past) (record { checker = new; waiting = old.waiting })
+told_hidden o c past (Entry.Fetch p) old new next b inner f good took =
     let r = goes_on c past (Entry.Fetch p) old.checker new b f.stands took old.waiting old.waiting good f.waits
     (λ _ _ w. w) in
     ((r.0, refl), r.1)
-told_hidden c past (Entry.Grant p) old new next b inner f good took =
+told_hidden o c past (Entry.Grant p) old new next b inner f good took =
     let r = goes_on c past (Entry.Grant p) old.checker new b f.stands took old.waiting old.waiting good f.waits
     (λ _ _ w. w) in
     ((r.0, refl), r.1)
-told_hidden c past (Entry.Block p) old new next b inner f good took =
+told_hidden o c past (Entry.Block p) old new next b inner f good took =
     let r = goes_on c past (Entry.Block p) old.checker new b f.stands took old.waiting old.waiting good f.waits
     (λ _ _ w. w) in
     ((r.0, refl), r.1)
-told_hidden c past (Entry.Publish p) old new next b inner f good took = absurd (let w : false ≡ true = inner in cc)
-told_hidden c past (Entry.Post p) old new next b inner f good took = absurd (let w : false ≡ true = inner in cc)
-told_hidden c past (Entry.Reap p) old new next b inner f good took = absurd (let w : false ≡ true = inner in cc)
+told_hidden o c past (Entry.Publish p) old new next b inner f good took = absurd (let w : false ≡ true = inner in cc)
+told_hidden o c past (Entry.Post p) old new next b inner f good took = absurd (let w : false ≡ true = inner in cc)
+told_hidden o c past (Entry.Reap p) old new next b inner f good took = absurd (let w : false ≡ true = inner in cc)
 
 -- ---- a Post
 
@@ -137,21 +140,22 @@ more_waits c past p i ws us place is accepted l t =
           ∙ append-nil (waiting_payloads c past (suc k)))
     ]
 
-pub told_posted : (c : ConfigNumbers) (past : Past) (p : PostLine) (e : Entry) (old : Followed) (new : CheckerRun)
+pub told_posted : (o : TraceOptions) (c : ConfigNumbers) (past : Past) (p : PostLine) (e : Entry) (old : Followed)
+    (new : CheckerRun)
     (i : ℕ)
     (us : List (List (List ℕ))) (next : Option Seen) (b : Bool) → e ≡ Entry.Post p → FollowsHistory c past old
     → b ≡ true → Took old.checker e b new
     → (0 < length old.waiting → i ≡ ((cqe_fields p.cqe).sqid - 1) % length old.waiting)
     → us ≡ set old.waiting i (get_or old.waiting i [] ++ p.payload ∷ [])
-    → TellsEntry c past e next Hidden × FollowsHistory c (e ∷ past) (record { checker = new; waiting = us })
-told_posted c past p e old new i us next b kind f good took place is =
+    → TellsEntry o c past e next Hidden × FollowsHistory c (e ∷ past) (record { checker = new; waiting = us })
+told_posted o c past p e old new i us next b kind f good took place is =
     subst (λ (x : Entry). Took old.checker x b new
-    → TellsEntry c past x next Hidden
+    → TellsEntry o c past x next Hidden
     × FollowsHistory c (x ∷ past) (record { checker = new; waiting = us })) (sym kind) there
     took
   where
     there : Took old.checker (Entry.Post p) b new
-        → TellsEntry c past (Entry.Post p) next Hidden
+        → TellsEntry o c past (Entry.Post p) next Hidden
         × FollowsHistory c (Entry.Post p ∷ past) (record { checker = new; waiting = us })
     there t =
         let r = goes_on c past (Entry.Post p) old.checker new b f.stands t old.waiting us good f.waits
@@ -191,20 +195,21 @@ fewer_wait c past r i ws us next within is t =
 abbrev pub reap_with : ReapLine → List ℕ → Seen
 reap_with r xs = Seen.Reaped (record { queue = r.queue; cqe = r.cqe; payload = xs })
 
-pub told_reaped : (c : ConfigNumbers) (past : Past) (r : ReapLine) (e : Entry) (old : Followed) (new : CheckerRun)
+pub told_reaped : (o : TraceOptions) (c : ConfigNumbers) (past : Past) (r : ReapLine) (e : Entry) (old : Followed)
+    (new : CheckerRun)
     (i : ℕ)
     (us : List (List (List ℕ))) (d : Option (List ℕ)) (next : Option Seen) (t : Told) (b : Bool)
     → e ≡ Entry.Reap r → FollowsHistory c past old → b ≡ true → Took old.checker e b new → i ≡ r.queue - 1
     → d ≡ slice_get (get_or old.waiting i []) 0 → us ≡ set old.waiting i (drop 1 (get_or old.waiting i []))
-    → Compares (Some (reap_with r (data_or_none d))) next t
-    → TellsEntry c past e next t × FollowsHistory c (e ∷ past) (record { checker = new; waiting = us })
-told_reaped c past r e old new i us d next t b kind f good took place first is said =
+    → Compares o (Some (reap_with r (data_or_none d))) next t
+    → TellsEntry o c past e next t × FollowsHistory c (e ∷ past) (record { checker = new; waiting = us })
+told_reaped o c past r e old new i us d next t b kind f good took place first is said =
     subst (λ (x : Entry). Took old.checker x b new
-    → TellsEntry c past x next t
+    → TellsEntry o c past x next t
     × FollowsHistory c (x ∷ past) (record { checker = new; waiting = us })) (sym kind) there took
   where
     there : Took old.checker (Entry.Reap r) b new
-        → TellsEntry c past (Entry.Reap r) next t
+        → TellsEntry o c past (Entry.Reap r) next t
         × FollowsHistory c (Entry.Reap r ∷ past) (record { checker = new; waiting = us })
     there took =
         let a = answered c past (Entry.Reap r) old.checker new b f.stands took in
@@ -219,8 +224,8 @@ told_reaped c past r e old new i us d next t b kind f good took place first is s
         ∙ sym (reaped_is_first c past r.queue) in
         let rest = goes_on c past (Entry.Reap r) old.checker new b f.stands took old.waiting us good f.waits
         (λ _ _ w. fewer_wait c past r i old.waiting us at within is w) in (
-          tells_by c past (Entry.Reap r) next t l
-              (subst (λ (xs : List ℕ). Compares (Some (reap_with r xs)) next t) found said),
+          tells_by o c past (Entry.Reap r) next t l
+              (subst (λ (xs : List ℕ). Compares o (Some (reap_with r xs)) next t) found said),
           rest.1,
         )
 

@@ -8,6 +8,8 @@ use Rattle.history_check.specs.Kept.{Stands}
 use Rattle.history_check.specs.Kept as kept
 use Rattle.rings.specs.Tables.{IsTable}
 use Rattle.seen_trace.specs.Observed.{shown}
+use Rattle.seen_trace.specs.Options.{ReadsAs}
+use Rattle.seen_trace.specs.declared.options.TraceOptions.{TraceOptions}
 use Rattle.seen_trace.specs.declared.seen.Seen.{Seen}
 use Rattle.witness_check.specs.Differing.{Differ}
 use Rattle.witness_check.specs.Waiting.{waiting_payloads}
@@ -31,16 +33,16 @@ is_inner (Entry.Grant g) = true
 is_inner (Entry.Block b) = true
 is_inner _ = false
 
--- what is said where hosts see this of an entry, and the trace says that next
-abbrev pub Compares : Option Seen → Option Seen → Told → Type 0
-Compares seen next Bad = ⊥
-Compares seen next Hidden = seen ≡ None
-Compares seen next Same = (s : Seen) × (seen ≡ Some s) × (next ≡ Some s)
-Compares seen next (Unlike d) = (s : Seen) × (seen ≡ Some s) × Differ (Some s) next d
+-- what is said where hosts see this of an entry, and the trace says that next, as options read it
+abbrev pub Compares : TraceOptions → Option Seen → Option Seen → Told → Type 0
+Compares o seen next Bad = ⊥
+Compares o seen next Hidden = seen ≡ None
+Compares o seen next Same = (s t : Seen) × (seen ≡ Some s) × (next ≡ Some t) × ReadsAs o s t
+Compares o seen next (Unlike d) = (s : Seen) × (seen ≡ Some s) × Differ o (Some s) next d
 
 -- what is said of one more entry behind this history, where the trace says this next
-abbrev pub TellsEntry : ConfigNumbers → Past → Entry → Option Seen → Told → Type 0
-TellsEntry c past e next Bad = legal c (e ∷ past) ≡ false
-TellsEntry c past e next Hidden = IsLegal c (e ∷ past) × Compares (shown c past e) next Hidden
-TellsEntry c past e next Same = IsLegal c (e ∷ past) × Compares (shown c past e) next Same
-TellsEntry c past e next (Unlike d) = IsLegal c (e ∷ past) × Compares (shown c past e) next (Unlike d)
+abbrev pub TellsEntry : TraceOptions → ConfigNumbers → Past → Entry → Option Seen → Told → Type 0
+TellsEntry o c past e next Bad = legal c (e ∷ past) ≡ false
+TellsEntry o c past e next Hidden = IsLegal c (e ∷ past) × Compares o (shown c past e) next Hidden
+TellsEntry o c past e next Same = IsLegal c (e ∷ past) × Compares o (shown c past e) next Same
+TellsEntry o c past e next (Unlike d) = IsLegal c (e ∷ past) × Compares o (shown c past e) next (Unlike d)

@@ -1,5 +1,6 @@
 pub mod Waiting
 pub mod Differing
 pub mod Followed
+pub mod Turns
 pub mod Compared
 pub mod Seeing

@@ -6,25 +6,28 @@ ghost use Rattle.witness_check.specs.Compared.{IsVerdict};
 
 use crate::comparison::{Comparison, TraceVerdict};
 use history::{Config, Entry};
-use seen_trace::Seen;
+use seen_trace::{Seen, TraceOptions};
 use std::alloc::{AllocError as NoMemory, Global};
 
 /// What is said of these entries and this trace, each the oldest first: that they explain it; or else the first bad
 /// entry; or else, where they are a legal history, what hosts first saw of them that the trace doesn't say, or what it
-/// says that hosts didn't see. It takes any entries and any trace, whoever made them.
+/// says that hosts didn't see, as these options read it. It takes any entries and any trace, whoever made them.
+///
+/// The configuration is the history's: where contents are unknown, its last queue pair is one that the trace lacks.
 ///
 /// # Errors
 ///
 /// `NoMemory` where a growth is refused; nothing is said.
 pub fn judge(
     alloc: Global,
+    options: &TraceOptions,
     config: &Config,
     trace: &[Seen],
     entries: &[Entry],
 ) -> Result<TraceVerdict, NoMemory>
-    ensures value { IfOk result (IsVerdict config.now (reverse entries.now) trace.now) }
+    ensures value { IfOk result (IsVerdict options.now config.now (reverse entries.now) trace.now) }
 {
-    let mut comparison = Comparison::new(alloc, config)?;
+    let mut comparison = Comparison::new(alloc, options, config)?;
     for place in 0..entries.len() {
         comparison.take(trace, &entries[place])?;
     }
@@ -32,21 +35,24 @@ pub fn judge(
 }
 
 /// Whether these entries, the oldest first, are a legal history of this configuration, and hosts saw it as this trace,
-/// the oldest first. It takes any entries and any trace, whoever made them.
+/// the oldest first, as these options read it. It takes any entries and any trace, whoever made them.
+///
+/// The configuration is the history's: where contents are unknown, its last queue pair is one that the trace lacks.
 ///
 /// # Errors
 ///
 /// `NoMemory` where a growth is refused; nothing is said.
 pub fn certify(
     alloc: Global,
+    options: &TraceOptions,
     config: &Config,
     trace: &[Seen],
     entries: &[Entry],
 ) -> Result<bool, NoMemory>
     ensures value { IfOk result
-        (λ b. (b ≡ true) ↔ Explains config.now (reverse entries.now) (reverse trace.now)) }
+        (λ b. (b ≡ true) ↔ Explains options.now config.now (reverse entries.now) (reverse trace.now)) }
 {
-    match judge(alloc, config, trace, entries)? {
+    match judge(alloc, options, config, trace, entries)? {
         TraceVerdict::Explained => Ok(true),
         TraceVerdict::Bad(_) => Ok(false),
         TraceVerdict::Unlike(_, _) => Ok(false),

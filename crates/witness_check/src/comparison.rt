@@ -4,15 +4,18 @@ ghost use Rattle.std.specs.Option.{option_copied};
 ghost use Rattle.std.specs.Prelude.{◌≡◌, ◌∷◌, ◌-◌, [], IfOk, List, OnErr, OnOk, slice_get};
 ghost use Rattle.nvme_model.specs.History.{Past};
 ghost use Rattle.nvme_model.specs.declared.config.ConfigNumbers.{ConfigNumbers};
+ghost use Rattle.seen_trace.specs.declared.options.TraceOptions.{TraceOptions};
 ghost use Rattle.seen_trace.specs.declared.seen.Seen.{Seen};
 ghost use Rattle.witness_check.specs.Compared.{IsComparedTo, IsVerdict};
 ghost use Rattle.witness_check.specs.Compared.{bad_after as the_bad_after, next_after as the_next_after};
-ghost use Rattle.witness_check.specs.Compared.{unlike_after as the_unlike_after};
+ghost use Rattle.witness_check.specs.Compared.{out_after as the_out_after, unlike_after as the_unlike_after};
+ghost use Rattle.witness_check.specs.Turns.{differs_at as the_differs_at};
 
 use crate::difference::Difference;
+use crate::turn::{Turn, aside_pair, is_aside_entry, out_with, turn_of};
 use crate::witness::{Told, Witness};
 use history::{Config, Entry};
-use seen_trace::Seen;
+use seen_trace::{Seen, TraceOptions};
 use std::alloc::{AllocError as NoMemory, Global};
 use std::marker::Model;
 
@@ -32,6 +35,9 @@ pub enum TraceVerdict {
 /// call: always the same one.
 #[derive(Drop)]
 pub struct Comparison {
+    options: TraceOptions,
+    // the queue pair that the trace doesn't have
+    aside: Option<u16>,
     witness: Witness,
     // how many entries were taken
     count: u64,
@@ -39,6 +45,8 @@ pub struct Comparison {
     bad: Option<u64>,
     // the number, from 1, of what the trace says next
     next: usize,
+    // how many commands of that queue pair are out
+    out: u64,
     // what differs there
     unlike: Option<Difference>,
 }
@@ -49,10 +57,13 @@ impl Model for Comparison {
     ghost Value = { Compared };
 
     ghost view = { λ x. record {
+      options = x.options;
+      aside = x.aside;
       followed = x.witness;
       count = x.count;
       bad = x.bad;
       next = x.next;
+      out = x.out;
       unlike = x.unlike;
     } };
 }
@@ -76,39 +87,79 @@ fn bad_after(told: Told, count: u64) -> Option<u64>
 }
 
 // The number of what the trace says next after what is told of one more entry, where `after` is one more.
-fn next_after(told: Told, unlike: Option<Difference>, next: usize, after: usize) -> usize
-    ensures value { result ≡ the_next_after told unlike next after }
+fn next_after(
+    told: Told,
+    turn: Turn,
+    unlike: Option<Difference>,
+    next: usize,
+    after: usize,
+) -> usize
+    ensures value { result ≡ the_next_after told turn unlike next after }
 {
-    match (told, unlike) {
-        (Told::Same, None) => after,
+    match (told, turn, unlike) {
+        (Told::Same, Turn::Own, None) => after,
         _ => next,
     }
 }
 
-// What differs there then.
-fn unlike_after(told: Told, unlike: Option<Difference>) -> Option<Difference>
-    ensures value { result ≡ the_unlike_after told unlike }
+// How many commands of the queue pair that the trace doesn't have are out then, where with this entry there are `more`.
+fn out_after(told: Told, turn: Turn, unlike: Option<Difference>, out: u64, more: u64) -> u64
+    ensures value { result ≡ the_out_after told turn unlike out more }
 {
-    match (told, unlike) {
-        (Told::Unlike(difference), None) => Some(difference),
-        _ => unlike,
+    match (told, turn, unlike) {
+        (Told::Same, Turn::Aside, None) => more,
+        (Told::Unlike(_), Turn::Aside, None) => more,
+        _ => out,
+    }
+}
+
+// What differs at something whose turn this is, where this differs from what the trace says next.
+fn differs_at(turn: Turn, this: Option<Difference>) -> Option<Difference>
+    ensures value { result ≡ the_differs_at turn this }
+{
+    match turn {
+        Turn::Own => this,
+        Turn::Aside => None,
+        Turn::Late => Some(Difference::Contents),
+    }
+}
+
+// What differs there then.
+fn unlike_after(told: Told, turn: Turn, unlike: Option<Difference>) -> Option<Difference>
+    ensures value { result ≡ the_unlike_after told turn unlike }
+{
+    if let Some(difference) = unlike {
+        return Some(difference);
+    }
+    match told {
+        Told::Bad | Told::Hidden => None,
+        Told::Same => differs_at(turn, None),
+        Told::Unlike(difference) => differs_at(turn, Some(difference)),
     }
 }
 
 impl Comparison {
-    /// One that has taken no entry.
+    /// One that has taken no entry, of a history of this configuration and a trace that these options read.
     ///
     /// # Errors
     ///
     /// `NoMemory` where a growth is refused.
-    pub fn new(alloc: Global, config: &Config) -> Result<Comparison, NoMemory>
-        ensures begun { (trace : List Seen) → IfOk result (λ x. IsComparedTo config.now trace [] x) }
+    pub fn new(
+        alloc: Global,
+        options: &TraceOptions,
+        config: &Config,
+    ) -> Result<Comparison, NoMemory>
+        ensures begun { (trace : List Seen) → IfOk result
+            (λ x. IsComparedTo options.now config.now trace [] x) }
     {
         Ok(Comparison {
+            options: *options,
+            aside: aside_pair(options, config),
             witness: Witness::new(alloc, config)?,
             count: 0,
             bad: None,
             next: 1,
+            out: 0,
             unlike: None,
         })
     }
@@ -119,8 +170,8 @@ impl Comparison {
     ///
     /// `NoMemory` where a growth is refused; the entry isn't taken, and nothing has changed.
     pub fn take(&mut self, trace: &[Seen], entry: &Entry) -> Result<(), NoMemory>
-        ensures ok { (c : ConfigNumbers) (past : Past) → IsComparedTo c trace.now past self.old →
-            OnOk result (IsComparedTo c trace.now (entry.now ∷ past) self.new) }
+        ensures ok { (o : TraceOptions) (c : ConfigNumbers) (past : Past) → IsComparedTo o c trace.now past self.old →
+            OnOk result (IsComparedTo o c trace.now (entry.now ∷ past) self.new) }
         ensures err { OnErr result (self.new ≡ self.old) }
     {
         let Some(count) = self.count.checked_add(1) else {
@@ -133,18 +184,25 @@ impl Comparison {
             self.count = count;
             return Ok(());
         }
-        let told = self.witness.take(entry, thing_of(trace, self.next))?;
+        let Some(more) = out_with(entry, self.out) else {
+            return Err(NoMemory);
+        };
+        let turn = turn_of(is_aside_entry(self.aside, entry), self.out, self.next);
+        let thing = thing_of(trace, self.next);
+        let told = self.witness.take(&self.options, entry, thing)?;
         self.count = count;
         self.bad = bad_after(told, count);
-        self.next = next_after(told, self.unlike, self.next, after);
-        self.unlike = unlike_after(told, self.unlike);
+        self.next = next_after(told, turn, self.unlike, self.next, after);
+        self.out = out_after(told, turn, self.unlike, self.out, more);
+        self.unlike = unlike_after(told, turn, self.unlike);
         Ok(())
     }
 
     /// What is said of the entries that were taken.
     pub fn verdict(&self, trace: &[Seen]) -> TraceVerdict
-        ensures value { (c : ConfigNumbers) (past : Past) → IsComparedTo c trace.now past self.now →
-            IsVerdict c past trace.now result }
+        ensures value { (o : TraceOptions) (c : ConfigNumbers) (past : Past) → IsComparedTo o c trace.now past
+            self.now →
+            IsVerdict o c past trace.now result }
     {
         if let Some(place) = self.bad {
             return TraceVerdict::Bad(place);

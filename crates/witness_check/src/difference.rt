@@ -17,4 +17,6 @@ pub enum Difference {
     Completion,
     /// The data of a Reap.
     Data,
+    /// What was there at the beginning wasn't written before it, or not to its end.
+    Contents,
 }

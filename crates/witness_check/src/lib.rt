@@ -9,6 +9,7 @@ mod observer;
 mod payloads;
 mod same;
 mod sight;
+mod turn;
 mod witness;
 
 pub use crate::certifying::{certify, judge};
@@ -17,4 +18,5 @@ pub use crate::difference::Difference;
 pub use crate::laws::a_history_has_one_verdict;
 pub use crate::observer::Observer;
 pub use crate::sight::Sight;
+pub use crate::turn::Turn;
 pub use crate::witness::{Told, Witness};

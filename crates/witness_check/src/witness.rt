@@ -6,6 +6,7 @@ ghost use Rattle.nvme_model.specs.EntryBytes.{cqe_fields};
 ghost use Rattle.nvme_model.specs.History.{Past};
 ghost use Rattle.nvme_model.specs.declared.config.ConfigNumbers.{ConfigNumbers};
 ghost use Rattle.nvme_model.specs.declared.entry.Entry.{Entry};
+ghost use Rattle.seen_trace.specs.declared.options.TraceOptions.{TraceOptions};
 ghost use Rattle.seen_trace.specs.declared.seen.Seen.{Seen};
 ghost use Rattle.witness_check.specs.Differing.{Distinguishes};
 ghost use Rattle.witness_check.specs.Followed.{Compares, FollowsHistory, TellsEntry, is_inner};
@@ -14,12 +15,12 @@ ghost use Rattle.witness_check.specs.Waiting.{data_or_none};
 use crate::difference::Difference;
 use crate::payloads::{Payloads, no_payloads, pop_at, push_at};
 use crate::same::{publish_differs, reap_differs};
-use byteorder::{ByteOrder, LittleEndian};
+use crate::turn::sqid_of;
 use history::{Config, Entry};
 use history_check::Checker;
 use nvme_model::entry::{PostLine, PublishLine, ReapLine};
 use nvme_model::submission::Payload;
-use seen_trace::Seen;
+use seen_trace::{Seen, TraceOptions};
 use std::alloc::{AllocError as NoMemory, Global};
 use std::marker::Model;
 
@@ -54,13 +55,6 @@ impl Model for Witness {
     ghost view = { λ w. record { checker = w.checker; waiting = w.waiting.items } };
 }
 
-// The submission queue that a completion is for.
-fn sqid_of(cqe: &[u8; 16]) -> u16
-    ensures value { result ≡ (cqe_fields cqe.now).sqid }
-{
-    LittleEndian::read_u16(&cqe[10..12])
-}
-
 // The place of the completion queue of a completion, of so many.
 pub(crate) fn place_of(cqe: &[u8; 16], count: usize) -> usize
     ensures value { 0 < count → result ≡ ((cqe_fields cqe.now).sqid - 1) % count }
@@ -73,7 +67,8 @@ pub(crate) fn place_of(cqe: &[u8; 16], count: usize) -> usize
 
 // What is said of something that hosts see, where this is what differs from what the trace says next.
 fn same_or_unlike(difference: Option<Difference>) -> Told
-    ensures value { (s t : Seen) → Distinguishes s t difference → Compares (Some s) (Some t) result }
+    ensures value { (o : TraceOptions) (s t : Seen) → Distinguishes o s t difference → Compares o (Some s) (Some t)
+        result }
 {
     match difference {
         None => Told::Same,
@@ -82,18 +77,23 @@ fn same_or_unlike(difference: Option<Difference>) -> Told
 }
 
 // What is said of a legal Publish.
-fn told_publish(line: &PublishLine, next: Option<&Seen>) -> Told
-    ensures value { Compares (Some (Seen.Published line.now)) (option_copied next.entry) result }
+fn told_publish(options: &TraceOptions, line: &PublishLine, next: Option<&Seen>) -> Told
+    ensures value { Compares options.now (Some (Seen.Published line.now)) (option_copied next.entry) result }
 {
     match next {
         None => Told::Unlike(Difference::TraceEnds),
-        Some(next) => same_or_unlike(publish_differs(line, next)),
+        Some(next) => same_or_unlike(publish_differs(options, line, next)),
     }
 }
 
 // What is said of a legal Reap with this data.
-fn told_reap(line: &ReapLine, payload: Option<&Payload>, next: Option<&Seen>) -> Told
-    ensures value { Compares (Some (Seen.Reaped (record {
+fn told_reap(
+    options: &TraceOptions,
+    line: &ReapLine,
+    payload: Option<&Payload>,
+    next: Option<&Seen>,
+) -> Told
+    ensures value { Compares options.now (Some (Seen.Reaped (record {
       queue = line.now.queue;
       cqe = line.now.cqe;
       payload = data_or_none (option_copied payload.entry);
@@ -103,8 +103,8 @@ fn told_reap(line: &ReapLine, payload: Option<&Payload>, next: Option<&Seen>) ->
         return Told::Unlike(Difference::TraceEnds);
     };
     match payload {
-        None => same_or_unlike(reap_differs(line, &[], next)),
-        Some(payload) => same_or_unlike(reap_differs(line, payload.as_slice(), next)),
+        None => same_or_unlike(reap_differs(options, line, &[], next)),
+        Some(payload) => same_or_unlike(reap_differs(options, line, payload.as_slice(), next)),
     }
 }
 
@@ -127,9 +127,9 @@ impl Witness {
     // Takes an entry that neither hosts see nor a completion queue.
     fn take_hidden(&mut self, entry: &Entry) -> Result<Told, NoMemory>
         requires inner { is_inner entry.now ≡ true }
-        ensures ok { (c : ConfigNumbers) (past : Past) (next : Option Seen) → FollowsHistory c past self.old
-            → IfOk result
-            (λ told. TellsEntry c past entry.now next told × FollowsHistory c (entry.now ∷ past) self.new) }
+        ensures ok { (o : TraceOptions) (c : ConfigNumbers) (past : Past) (next : Option Seen) →
+            FollowsHistory c past self.old → IfOk result
+            (λ told. TellsEntry o c past entry.now next told × FollowsHistory c (entry.now ∷ past) self.new) }
         ensures err { OnErr result (self.new ≡ self.old) }
     {
         if !self.checker.take(entry)? {
@@ -141,9 +141,9 @@ impl Witness {
     // Takes a Post. Its data waits from here on.
     fn take_post(&mut self, entry: &Entry, line: &PostLine) -> Result<Told, NoMemory>
         requires same { entry.now ≡ Entry.Post line.now }
-        ensures ok { (c : ConfigNumbers) (past : Past) (next : Option Seen) → FollowsHistory c past self.old
-            → IfOk result
-            (λ told. TellsEntry c past entry.now next told × FollowsHistory c (entry.now ∷ past) self.new) }
+        ensures ok { (o : TraceOptions) (c : ConfigNumbers) (past : Past) (next : Option Seen) →
+            FollowsHistory c past self.old → IfOk result
+            (λ told. TellsEntry o c past entry.now next told × FollowsHistory c (entry.now ∷ past) self.new) }
         ensures err { OnErr result (self.new ≡ self.old) }
     {
         let place = place_of(&line.cqe, self.waiting.as_slice().len());
@@ -162,13 +162,14 @@ impl Witness {
     // Takes a Reap, and lets its data go.
     fn take_reap(
         &mut self,
+        options: &TraceOptions,
         entry: &Entry,
         line: &ReapLine,
         next: Option<&Seen>,
     ) -> Result<Told, NoMemory>
         requires same { entry.now ≡ Entry.Reap line.now }
         ensures ok { (c : ConfigNumbers) (past : Past) → FollowsHistory c past self.old → IfOk result
-            (λ told. TellsEntry c past entry.now (option_copied next.entry) told
+            (λ told. TellsEntry options.now c past entry.now (option_copied next.entry) told
             × FollowsHistory c (entry.now ∷ past) self.new) }
         ensures err { OnErr result (self.new ≡ self.old) }
     {
@@ -177,29 +178,34 @@ impl Witness {
         }
         let place = usize::from(line.queue.saturating_sub(1));
         let payload = pop_at(&mut self.waiting, place);
-        Ok(told_reap(line, payload.as_ref(), next))
+        Ok(told_reap(options, line, payload.as_ref(), next))
     }
 
     /// Takes the next entry, and says whether the entries with it are legal and, where hosts see it, whether the trace
-    /// says the same next.
+    /// says the same next, as these options read it.
     ///
     /// # Errors
     ///
     /// `NoMemory` where a growth is refused; the entry isn't taken, and nothing has changed.
-    pub fn take(&mut self, entry: &Entry, next: Option<&Seen>) -> Result<Told, NoMemory>
+    pub fn take(
+        &mut self,
+        options: &TraceOptions,
+        entry: &Entry,
+        next: Option<&Seen>,
+    ) -> Result<Told, NoMemory>
         ensures ok { (c : ConfigNumbers) (past : Past) → FollowsHistory c past self.old → IfOk result
-            (λ told. TellsEntry c past entry.now (option_copied next.entry) told
+            (λ told. TellsEntry options.now c past entry.now (option_copied next.entry) told
             × FollowsHistory c (entry.now ∷ past) self.new) }
         ensures err { OnErr result (self.new ≡ self.old) }
     {
         match entry {
             Entry::Post(line) => self.take_post(entry, line),
-            Entry::Reap(line) => self.take_reap(entry, line, next),
+            Entry::Reap(line) => self.take_reap(options, entry, line, next),
             Entry::Publish(line) => {
                 if !self.checker.take(entry)? {
                     return Ok(Told::Bad);
                 }
-                Ok(told_publish(line, next))
+                Ok(told_publish(options, line, next))
             }
             Entry::Fetch(_) | Entry::Grant(_) | Entry::Block(_) => self.take_hidden(entry),
         }

@@ -1,11 +1,15 @@
 //! Whether a legal history is seen as a trace: each step that may be made, with each word and each mark, is made.
 
+use crate::options::Options;
 use crate::state::{Does, Flight, Hashes, MOST_BLOCKS, MOST_IN_FLIGHT, MOST_QUEUES, Open, State};
 use crate::trace::{Line, Trace, blocks_of};
 use peer::sqe::{Sqe, cqe_bytes};
 use peer::verdict::{Item, judge, operation};
 use peer::{BLOCK, Config, Op, Range, Status, Verdict};
 use std::collections::{HashMap, HashSet};
+
+// The value of a block of which nothing was found out yet.
+const OPEN: u8 = 255;
 
 const SUCCESS: u16 = 0;
 const COMPARE_FAILURE: u16 = 0x285;
@@ -56,6 +60,9 @@ impl Values {
 
 struct Brute {
     config: Config,
+    options: Options,
+    // how many values there are, that of zeros among them; one more stands for all others
+    values: u8,
     lines: Vec<Next>,
     entries: [Vec<Published>; MOST_QUEUES],
     reaped: [Vec<Reaped>; MOST_QUEUES],
@@ -71,6 +78,8 @@ impl Brute {
         let mut values = Values::default();
         let mut brute = Brute {
             config,
+            options: trace.options,
+            values: 0,
             lines: Vec::new(),
             entries: Default::default(),
             reaped: Default::default(),
@@ -102,6 +111,7 @@ impl Brute {
             brute.published.push(published);
             brute.taken.push(taken);
         }
+        brute.values = values.0.len() as u8 + 1;
         brute
     }
 
@@ -137,7 +147,19 @@ impl Brute {
         }
         let entries = &self.entries[queue][usize::from(first)..usize::from(published)];
         let front = &entries[0].item;
-        let verdict = judge(front, entries.get(1).map(|entry| &entry.item), &self.in_use(state, queue), &self.config);
+        let second = entries.get(1).map(|entry| &entry.item);
+        self.add_judged(state, queue, front, second, next);
+        if self.options.statuses_any {
+            // (as one of namespace 0)
+            let mut refused = Item { sqe: front.sqe, length: front.length };
+            refused.sqe.nsid = 0;
+            self.add_judged(state, queue, &refused, second, next);
+        }
+    }
+
+    fn add_judged(&self, state: &State, queue: usize, front: &Item, second: Option<&Item>, next: &mut Vec<State>) {
+        let first = state.fetched[queue];
+        let verdict = judge(front, second, &self.in_use(state, queue), &self.config);
         let number = |status: Status| u16::from(status.sct) << 8 | u16::from(status.sc);
         let failed = match verdict {
             Verdict::SingleFailed(one) => Some([number(one); 2]),
@@ -246,6 +268,18 @@ impl Brute {
 
     // The next Block of the open unit, with this word and with or without the mark.
     fn add_block(&self, state: &State, place: usize, says: Option<bool>, marked: bool, next: &mut Vec<State>) {
+        let flight = &state.flights[place];
+        let Some(open) = flight.open else { return };
+        let finds = flight.does == Does::Read || flight.does.compares();
+        let unknown = (open.slba..open.slba + open.blocks).find(|block| state.values[usize::from(*block)] == OPEN);
+        if let (true, true, Some(block)) = (marked, finds, unknown) {
+            for value in 0..=self.values {
+                let mut known = *state;
+                known.values[usize::from(block)] = value;
+                self.add_block(&known, place, says, marked, next);
+            }
+            return;
+        }
         let mut after = *state;
         let flight = &mut after.flights[place];
         let Some(open) = flight.open.as_mut() else { return };
@@ -314,10 +348,10 @@ impl Brute {
             let head = u16::from(state.fetched[queue]) % self.config.sq_size;
             let phase = u16::from(posted) / self.config.cq_size % 2 == 0;
             let status_of = Status { sct: (status >> 8) as u8, sc: status as u8 };
-            let cqe = cqe_bytes(status_of, self.cid(flight, flight.posted), u16::from(flight.queue) + 1, head, phase);
+            let made = cqe_bytes(status_of, self.cid(flight, flight.posted), u16::from(flight.queue) + 1, head, phase);
             let entry = &self.entries[queue][usize::from(flight.first)];
             let blocks = if flight.does == Does::Read && status == SUCCESS { entry.item.sqe.blocks as usize } else { 0 };
-            if reaped.cqe != cqe || reaped.values.as_deref() != Some(&flight.read[..blocks]) {
+            if self.options.read(&reaped.cqe) != self.options.read(&made) || reaped.values.as_deref() != Some(&flight.read[..blocks]) {
                 return;
             }
         }
@@ -352,7 +386,11 @@ fn search(trace: &Trace, most: usize) -> Said {
     assert!(usize::from(trace.config.pairs) <= MOST_QUEUES && BLOCK == 512);
     let brute = Brute::of_trace(trace);
     let mut seen: HashSet<State, Hashes> = HashSet::default();
-    let mut next = vec![State::default()];
+    let mut start = State::default();
+    if trace.options.contents_unknown {
+        start.values = [OPEN; MOST_BLOCKS];
+    }
+    let mut next = vec![start];
     let mut furthest = 0;
     while let Some(state) = next.pop() {
         furthest = furthest.max(usize::from(state.at));
@@ -375,7 +413,7 @@ pub fn brute(trace: &Trace, most: usize) -> Said {
     let Said::Not(furthest) = said else { return said };
     // (what isn't reaped in a beginning is free there)
     for lines in furthest + 1..=trace.lines.len() {
-        let front = Trace { config: trace.config, lines: trace.lines[..lines].to_vec() };
+        let front = Trace { config: trace.config, options: trace.options, lines: trace.lines[..lines].to_vec() };
         said = search(&front, most);
         match said {
             Said::Explained => {}

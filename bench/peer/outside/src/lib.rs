@@ -3,5 +3,6 @@
 pub mod brute;
 pub mod change;
 pub mod making;
+pub mod options;
 pub mod state;
 pub mod trace;

@@ -1,6 +1,7 @@
 //! What hosts see of a controller that makes steps at random.
 
 use crate::state::{MOST_BLOCKS, MOST_IN_FLIGHT};
+use crate::options::{Options, is_nothing};
 use crate::trace::{Line, Trace};
 use peer::sqe::command;
 use peer::{Answer, BLOCK, Config, Core, Step, Submission};
@@ -92,14 +93,65 @@ impl Entries<'_> {
     }
 }
 
+fn random_options(random: &Random, config: &Config) -> Options {
+    if !random.one_in(3) {
+        return Options::default();
+    }
+    Options {
+        contents_unknown: config.cqs == config.pairs && random.one_in(2),
+        statuses_any: random.one_in(2),
+        ignored: std::array::from_fn(|_| random.one_in(3)),
+    }
+}
+
+// Writes what blocks hold at the beginning, by the queue pair that the trace doesn't have; says how many tickets it takes.
+fn fill(core: &mut Core, config: &Config, random: &Random) -> u64 {
+    let mut tickets = 0;
+    for block in 0..u64::from(config.blocks) {
+        if random.one_in(3) {
+            continue;
+        }
+        let payload = vec![[0xA1, 0xB2, 0xC3, 1 + random.up_to(28) as u8][random.up_to(4) as usize]; BLOCK];
+        let batch = vec![Submission { entry: command(WRITE, 0, 0, block, 0), payload }];
+        core.step(Step::Publish(config.pairs, batch)).expect("room");
+        tickets += 1;
+        for step in [Step::Fetch(config.pairs), Step::Grant(tickets), Step::Block(tickets), Step::Post(tickets), Step::Reap(config.pairs)] {
+            assert!(core.step(step).is_ok(), "a Write alone");
+        }
+    }
+    tickets
+}
+
+// Other statuses where any will do, and other bits where they are ignored.
+fn disguise(trace: &mut Trace, random: &Random) {
+    let options = trace.options;
+    for line in &mut trace.lines {
+        let Line::Reap(_, cqe, _) = line else { continue };
+        let word = u16::from_le_bytes([cqe[14], cqe[15]]);
+        if options.statuses_any && is_nothing(word >> 1 & 0x7FF) {
+            let status = [0x01, 0x02, 0x09, 0x80, 0x1FF, 0x281][random.up_to(6) as usize];
+            cqe[14..].copy_from_slice(&(word & 0xF001 | status << 1).to_le_bytes());
+        }
+        if random.one_in(2) {
+            options.scramble(cqe, || random.up_to(256) as u8);
+        }
+    }
+}
+
 /// What hosts see of a controller of a random configuration, up to some step.
-pub fn random_trace(random: &Random) -> Trace {
+/// What its head says, and what the options leave open, is chosen by `head`; none says nothing.
+pub fn random_trace(random: &Random, head: Option<&Random>) -> Trace {
     let config = random_config(random);
-    let mut core = Core::new(config);
-    let mut trace = Trace { config, lines: Vec::new() };
+    let options = head.map(|head| random_options(head, &config)).unwrap_or_default();
+    let mut trace = Trace { config, options, lines: Vec::new() };
+    let mut core = Core::new(trace.history_config());
+    let before = match head {
+        Some(head) if options.contents_unknown => fill(&mut core, &trace.history_config(), head),
+        _ => 0,
+    };
     let mut left = MOST_ENTRIES - random.up_to(if random.one_in(3) { MOST_ENTRIES } else { 4 });
     let mut entries = Entries { random, blocks: u64::from(config.blocks), unlike: random.one_in(3), made: 0 };
-    let mut fetched = 0;
+    let mut fetched = before;
     // (that of who is slow to answer has more in flight)
     let eager = 1 + random.up_to(4);
     for _ in 0..if random.one_in(8) { 40 } else { 250 } {
@@ -129,6 +181,9 @@ pub fn random_trace(random: &Random) -> Trace {
                 let _ = core.step(step(ticket));
             }
         }
+    }
+    if let Some(head) = head {
+        disguise(&mut trace, head);
     }
     trace
 }

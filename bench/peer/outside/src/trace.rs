@@ -1,5 +1,6 @@
 //! What hosts see of a controller, and its text.
 
+use crate::options::Options;
 use peer::text::{entry_line, put_entry};
 use peer::{BLOCK, Config, Entry, Submission};
 
@@ -12,6 +13,7 @@ pub enum Line {
 #[derive(Clone, Debug, PartialEq, Eq)]
 pub struct Trace {
     pub config: Config,
+    pub options: Options,
     pub lines: Vec<Line>,
 }
 
@@ -38,6 +40,7 @@ impl Trace {
     pub fn text(&self) -> Vec<u8> {
         let mut out = Vec::new();
         put_config(&mut out, &self.config);
+        out.extend_from_slice(self.options.text().as_bytes());
         for line in &self.lines {
             match line {
                 Line::Publish(queue, batch) => put_entry(&mut out, &Entry::Publish { queue: *queue, batch: batch.clone() }),
@@ -52,7 +55,7 @@ impl Trace {
 
     /// What hosts see of a history of this configuration.
     pub fn of_history(config: Config, entries: &[Entry]) -> Trace {
-        let mut trace = Trace { config, lines: Vec::new() };
+        let mut trace = Trace { config, options: Options::default(), lines: Vec::new() };
         let mut queues = Vec::new();
         let mut posts: Vec<Vec<&Vec<u8>>> = vec![Vec::new(); usize::from(config.cqs) + 1];
         let mut reaps = vec![0; usize::from(config.cqs) + 1];
@@ -75,15 +78,54 @@ impl Trace {
         trace
     }
 
+    /// The configuration of a history of it.
+    pub fn history_config(&self) -> Config {
+        let mut config = self.config;
+        if self.options.contents_unknown {
+            if config.cqs == config.pairs {
+                config.cqs += 1;
+            }
+            config.pairs += 1;
+        }
+        config
+    }
+
+    // Whether these lines, which hosts saw of a history, stand for this trace: where contents are unknown those of the
+    // last queue pair come first, and none of its commands is out when others come.
+    fn is_read_from(&self, lines: &[Line]) -> bool {
+        let pair = self.history_config().pairs;
+        let mut own = Vec::new();
+        let mut out = 0;
+        for line in lines {
+            let (aside, more) = match line {
+                Line::Publish(queue, batch) => (*queue == pair, batch.len() as i64),
+                Line::Reap(_, cqe, _) => (u16::from_le_bytes([cqe[10], cqe[11]]) == pair, -1),
+            };
+            if !(self.options.contents_unknown && aside) {
+                if out != 0 {
+                    return false;
+                }
+                own.push(line);
+            } else if own.is_empty() {
+                out += more;
+            } else {
+                return false;
+            }
+        }
+        own.len() == self.lines.len() && own.iter().zip(&self.lines).all(|(one, told)| self.options.reads(one, told))
+    }
+
     /// Whether this text is that of a legal history that hosts saw as this trace.
     pub fn is_explained_by(&self, text: &[u8]) -> bool {
         let mut first = Vec::new();
-        put_config(&mut first, &self.config);
+        let config = self.history_config();
+        put_config(&mut first, &config);
         let Some(rest) = text.strip_prefix(&first[..]) else { return false };
         let lines = rest.split_inclusive(|byte| *byte == b'\n');
         let entries: Option<Vec<Entry>> = lines.map(|line| entry_line(line.strip_suffix(b"\n")?)).collect();
         entries.is_some_and(|entries| {
-            peer::check::check(&self.config, &entries).is_ok() && Trace::of_history(self.config, &entries) == *self
+            let seen = Trace::of_history(config, &entries);
+            peer::check::check(&config, &entries).is_ok() && self.is_read_from(&seen.lines)
         })
     }
 }

@@ -2,7 +2,9 @@
 
 pub mod asked;
 pub mod at_random;
+pub mod drawn;
 pub mod edits;
+mod list;
 pub mod lists;
 pub mod program;
 pub mod rounds;

@@ -1,24 +1,13 @@
-//! Lists of steps: the workloads, and random ones.
+//! The workloads, as lists of steps.
 
-use crate::asked::{Asked, Numbers, step_of};
+use crate::asked::{Numbers, step_of};
+pub use crate::list::List;
 use peer::sqe::command;
 use peer::{Answer, Config, Core, Kind};
 use std::cell::Cell;
-use std::collections::VecDeque;
-
-/// Steps, and the bytes of their entries.
-pub struct List {
-    pub numbers: Numbers,
-    pub asked: Vec<Asked>,
-    pub bytes: Vec<u8>,
-}
 
 pub fn numbers(blocks: u32, awun: u16) -> Numbers {
     Numbers { blocks, awun, acwu: awun, nabsn: 0, nabo: 0, pairs: 1, sq_size: 8, cq_size: 8, jobs: 8, cqs: 1 }
-}
-
-fn other(kind: u32, number: u64) -> Asked {
-    Asked { kind, count: 0, number, at: 0, first: 0, second: 0 }
 }
 
 pub const FLUSH: u8 = 0x00;
@@ -26,44 +15,6 @@ pub const WRITE: u8 = 0x01;
 pub const READ: u8 = 0x02;
 pub const COMPARE: u8 = 0x05;
 pub const ZEROES: u8 = 0x08;
-
-impl List {
-    pub fn new(numbers: Numbers) -> List {
-        List { numbers, asked: Vec::new(), bytes: Vec::new() }
-    }
-
-    /// Puts an entry with its data among the bytes, and says where.
-    pub fn entry(&mut self, entry: &[u8; 64], data: &[u8]) -> usize {
-        let at = self.bytes.len();
-        self.bytes.extend_from_slice(entry);
-        self.bytes.extend_from_slice(data);
-        at
-    }
-
-    pub fn publish(&mut self, queue: u16, count: u32, at: usize, first: usize, second: usize) {
-        self.asked.push(Asked { kind: 0, count, number: u64::from(queue), at, first, second });
-    }
-
-    pub fn fetch(&mut self, queue: u16) {
-        self.asked.push(other(1, u64::from(queue)));
-    }
-
-    pub fn grant(&mut self, ticket: u64) {
-        self.asked.push(other(2, ticket));
-    }
-
-    pub fn block(&mut self, ticket: u64) {
-        self.asked.push(other(3, ticket));
-    }
-
-    pub fn post(&mut self, ticket: u64) {
-        self.asked.push(other(4, ticket));
-    }
-
-    pub fn reap(&mut self, queue: u16) {
-        self.asked.push(other(5, u64::from(queue)));
-    }
-}
 
 fn pattern(blocks: usize, seed: usize) -> Vec<u8> {
     (0..512 * blocks).map(|place| (place * 7 + seed * 13 + 1) as u8).collect()
@@ -236,6 +187,25 @@ pub fn grants_beside(tickets: u16, units: u16, turns: usize) -> List {
     list
 }
 
+/// Writes of 16 blocks, one ticket after the other, from block 8 on over boundaries at 11 and 19: units of 3, 8 and 5 blocks.
+pub fn over_boundaries(turns: usize) -> List {
+    let numbers = Numbers { nabsn: 7, nabo: 3, ..numbers(1024, 7) };
+    let mut list = List::new(numbers);
+    let write = list.entry(&command(WRITE, 0, 1, 8, 15), &pattern(16, 1));
+    for turn in 0..turns as u64 {
+        let ticket = turn + 1;
+        list.publish(1, 1, write, 16 * 512, 0);
+        list.fetch(1);
+        for blocks in [3, 8, 5] {
+            list.grant(ticket);
+            (0..blocks).for_each(|_| list.block(ticket));
+        }
+        list.post(ticket);
+        list.reap(1);
+    }
+    list
+}
+
 /// 256 tickets in flight on 16 queues, each a Write of 16 blocks in units of one, of which one is always open.
 pub fn many_open(turns: usize) -> List {
     let numbers =
@@ -389,184 +359,4 @@ pub fn mixed(seed: u64, steps: usize) -> List {
         }
     }
     list
-}
-
-/// A short list of random steps, right and wrong, over a random small configuration.
-pub fn random_list(seed: u64) -> List {
-    let random = Random::new(seed);
-    let awun = random.up_to(4) as u16;
-    let acwu = random.up_to(4) as u16;
-    let nabsn = if random.one_in(2) { 0 } else { awun.max(acwu) + random.up_to(3) as u16 };
-    let pairs = 1 + random.up_to(3) as u16;
-    let numbers = Numbers {
-        blocks: 1 + random.up_to(24) as u32,
-        awun,
-        acwu,
-        nabsn,
-        nabo: random.up_to(u64::from(nabsn) + 1) as u16,
-        pairs,
-        sq_size: 2 + random.up_to(6) as u16,
-        cq_size: 2 + random.up_to(5) as u16,
-        jobs: 1 + random.up_to(6) as u16,
-        cqs: 1 + random.up_to(u64::from(pairs)) as u16,
-    };
-    let mut list = List::new(numbers);
-    // the tickets that the peer has in flight there, so that most steps are of these
-    let mut core = Core::new(config_of(&numbers));
-    let mut recent: VecDeque<u64> = VecDeque::new();
-    let mut fetched = 0;
-    let mut told = 0;
-    let entry = |random: &Random, fuse: u8, opcode: u8, like: Option<(u64, u16)>| {
-        let blocks = u64::from(numbers.blocks);
-        let (slba, nlb) = like.unwrap_or((random.up_to(blocks + 1), random.up_to(if random.one_in(20) { 300 } else { 5 }) as u16));
-        let (slba, nlb) = if opcode == FLUSH && !random.one_in(8) { (0, 0) } else { (slba, nlb) };
-        let mut bytes = command(opcode, fuse, random.up_to(if random.one_in(3) { 4 } else { 4000 }) as u16, slba, nlb);
-        if random.one_in(25) {
-            let place = random.up_to(64) as usize;
-            bytes[place] = random.up_to(4) as u8;
-        }
-        let needs = if opcode == WRITE || opcode == COMPARE { 512 * (usize::from(nlb) + 1) } else { 0 };
-        let length = if random.one_in(30) { random.up_to(1200) as usize } else { needs };
-        let mut data = vec![0; length];
-        for block in data.chunks_mut(512) {
-            block.fill([0, 0, 0, 0xA1, 0xB2][random.up_to(5) as usize]);
-            if random.one_in(12) {
-                let place = random.up_to(block.len() as u64) as usize;
-                block[place] = random.up_to(256) as u8;
-            }
-        }
-        (bytes, data, (slba, nlb))
-    };
-    for _ in 0..20 + random.up_to(160) {
-        for asked in &list.asked[told..] {
-            match core.step(step_of(&list.bytes, asked).unwrap()) {
-                Ok(Answer::Fetched(ticket, _)) => {
-                    fetched = ticket;
-                    recent.push_back(ticket);
-                    if recent.len() > 5 {
-                        recent.pop_front();
-                    }
-                }
-                Err(refused) if refused.why() == peer::Why::NoTicket => recent.retain(|ticket| *ticket != asked.number),
-                _ => {}
-            }
-        }
-        told = list.asked.len();
-        let queue = random.up_to(u64::from(pairs) + if random.one_in(20) { 3 } else { 0 }) as u16 + u16::from(!random.one_in(30));
-        let ticket = match random.up_to(12) {
-            0 => random.up_to(fetched + 3),
-            _ if recent.is_empty() => 1,
-            _ => recent[random.up_to(recent.len() as u64) as usize],
-        };
-        match random.up_to(20) {
-            0..=3 => {
-                if random.one_in(40) {
-                    list.publish(queue, 0, 0, 0, 0);
-                    continue;
-                }
-                let opcode = [WRITE, READ, COMPARE, ZEROES, FLUSH, WRITE, READ, 0x7F][random.up_to(if random.one_in(20) { 8 } else { 7 }) as usize];
-                let fuse = if random.one_in(15) { random.up_to(4) as u8 } else { 0 };
-                if random.one_in(3) {
-                    let (one, data, like) = entry(&random, 1, COMPARE, None);
-                    let like = (!random.one_in(8)).then_some(like);
-                    let (two, more, _) = entry(&random, 2, if random.one_in(12) { READ } else { WRITE }, like);
-                    let at = list.entry(&one, &data);
-                    list.entry(&two, &more);
-                    list.publish(queue, 2, at, data.len(), more.len());
-                } else {
-                    let (one, data, _) = entry(&random, fuse, opcode, None);
-                    let at = list.entry(&one, &data);
-                    if random.one_in(6) {
-                        let (two, more, _) = entry(&random, 0, opcode, None);
-                        list.entry(&two, &more);
-                        list.publish(queue, 2, at, data.len(), more.len());
-                    } else {
-                        list.publish(queue, 1, at, data.len(), 0);
-                    }
-                }
-            }
-            4..=6 => {
-                list.fetch(queue);
-            }
-            7..=9 => list.grant(ticket),
-            10..=14 => list.block(ticket),
-            15..=17 => list.post(ticket),
-            _ => list.reap(queue),
-        }
-    }
-    list
-}
-
-fn put_hex(out: &mut Vec<u8>, bytes: &[u8]) {
-    for byte in bytes {
-        out.extend_from_slice(format!("{byte:02X}").as_bytes());
-    }
-}
-
-fn put_data(out: &mut Vec<u8>, data: &[u8]) {
-    if data.is_empty() {
-        out.push(b'-');
-    } else if data.len() % 512 != 0 {
-        out.push(b'x');
-        put_hex(out, data);
-    } else {
-        for (place, block) in data.chunks(512).enumerate() {
-            if place > 0 {
-                out.push(b'.');
-            }
-            let same = block.iter().all(|byte| *byte == block[0]);
-            put_hex(out, if same { &block[..1] } else { block });
-        }
-    }
-}
-
-impl List {
-    /// The configuration line.
-    pub fn config_text(&self) -> String {
-        let n = self.numbers;
-        let nine = format!(
-            "{} {} {} {} {} {} {} {} {}",
-            n.blocks, n.awun, n.acwu, n.nabsn, n.nabo, n.pairs, n.sq_size, n.cq_size, n.jobs
-        );
-        if n.cqs == n.pairs { format!("config {nine}\n") } else { format!("config2 {nine} {}\n", n.cqs) }
-    }
-
-    /// The lines of a script that asks for these steps; a Publish without an entry has none.
-    pub fn line(&self, asked: &Asked, out: &mut Vec<u8>) {
-        let kind = ["publish", "fetch", "grant", "block", "post", "reap"][asked.kind as usize];
-        if asked.kind != 0 {
-            out.extend_from_slice(format!("{kind} {}\n", asked.number).as_bytes());
-            return;
-        }
-        if asked.count == 0 {
-            return;
-        }
-        out.extend_from_slice(format!("{kind} {}", asked.number).as_bytes());
-        let mut at = asked.at;
-        for (place, length) in [asked.first, asked.second][..asked.count as usize].iter().enumerate() {
-            out.extend_from_slice(if place == 0 { b" raw " } else { b" + raw " });
-            put_hex(out, &self.bytes[at..at + 64]);
-            out.push(b' ');
-            put_data(out, &self.bytes[at + 64..at + 64 + length]);
-            at += 64 + length;
-        }
-        out.push(b'\n');
-    }
-
-    /// The whole script; with `random`, lines `settle`, `medium` and comments among the others.
-    pub fn script(&self, random: Option<&Random>) -> Vec<u8> {
-        let mut out = self.config_text().into_bytes();
-        for asked in &self.asked {
-            self.line(asked, &mut out);
-            if let Some(random) = random {
-                match random.up_to(40) {
-                    0 => out.extend_from_slice(b"settle\n"),
-                    1 | 2 => out.extend_from_slice(format!("medium {}\n", random.up_to(30)).as_bytes()),
-                    3 => out.extend_from_slice(b"# a comment\n"),
-                    _ => {}
-                }
-            }
-        }
-        out
-    }
 }

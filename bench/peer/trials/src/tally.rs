@@ -1,5 +1,6 @@
 //! How many refusals were tried, and how many went wrong.
 
+use crate::drawn::Seed;
 use crate::program::{Ended, Program};
 use std::sync::atomic::{AtomicU64, Ordering::Relaxed};
 
@@ -14,7 +15,7 @@ pub struct Tally {
 }
 
 impl Tally {
-    /// Counts what was tried, and says what is wrong: of which run or seed, and at which refusal.
+    /// Counts what was tried, and says what is wrong: of which run, and at which refusal.
     pub fn see(&self, what: &str, run: u64, number: u64, is_right: bool) {
         self.see_many(what, run, number, 1, is_right);
     }
@@ -23,9 +24,26 @@ impl Tally {
     pub fn see_many(&self, what: &str, run: u64, number: u64, refusals: u64, is_right: bool) {
         self.tried.fetch_add(refusals, Relaxed);
         if !is_right {
-            self.wrong.fetch_add(1, Relaxed);
-            println!("{what}, run {run}, refusal {number}: wrong");
+            self.is_wrong(&format!("{what}, run {run}, refusal {number}"));
         }
+    }
+
+    /// The same of a script that is drawn by a seed.
+    pub fn see_drawn(&self, what: &str, seed: Seed, is_right: bool) {
+        self.see_many_drawn(what, seed, 1, is_right);
+    }
+
+    /// The same of several refusals.
+    pub fn see_many_drawn(&self, what: &str, seed: Seed, refusals: u64, is_right: bool) {
+        self.tried.fetch_add(refusals, Relaxed);
+        if !is_right {
+            self.is_wrong(&format!("{what}, script `{seed}`"));
+        }
+    }
+
+    fn is_wrong(&self, what: &str) {
+        self.wrong.fetch_add(1, Relaxed);
+        println!("{what}: wrong");
     }
 }
 

@@ -70,9 +70,9 @@ fn row(repeats: usize, name: &str, list: &List) {
 
 fn head(name: &str) {
     let beside = if cfg!(feature = "boxed") {
-        ", beside the peer with boxed blocks"
-    } else if cfg!(feature = "direct") {
-        ", beside the peer of tables"
+        ", beside the boxed peer"
+    } else if cfg!(feature = "indexed") {
+        ", beside the indexed peer"
     } else {
         ""
     };
@@ -192,11 +192,11 @@ fn main() {
         }
         for (name, script) in [
             ("scripts: Writes of one byte's blocks, with settle", plain),
-            ("scripts: Writes of 1 block, all bytes spelled", writes(numbers(1024, 0), 1, 2_000).script(None)),
-            ("scripts: fused pairs", pairs(numbers(1024, 0), 2_000).script(None)),
-            ("scripts: Reads of 256 blocks", reads(numbers(1024, 255), 256, 40).script(None)),
-            ("scripts: Writes of 256 blocks", writes(numbers(1024, 255), 256, 40).script(None)),
-            ("scripts: 16 queues, mixed", mixed(7, 20_000).script(None)),
+            ("scripts: Writes of 1 block, all bytes spelled", writes(numbers(1024, 0), 1, 2_000).script()),
+            ("scripts: fused pairs", pairs(numbers(1024, 0), 2_000).script()),
+            ("scripts: Reads of 256 blocks", reads(numbers(1024, 255), 256, 40).script()),
+            ("scripts: Writes of 256 blocks", writes(numbers(1024, 255), 256, 40).script()),
+            ("scripts: 16 queues, mixed", mixed(7, 20_000).script()),
         ] {
             let lines = script.iter().filter(|byte| **byte == b'\n').count() as f64;
             let mut output = Vec::new();
@@ -236,7 +236,7 @@ fn main() {
                 }
                 let list = make(steps);
                 let mut text = Vec::new();
-                by_hand::script(&list.script(None), &mut text);
+                by_hand::script(&list.script(), &mut text);
                 let text: Vec<u8> = text
                     .split_inclusive(|byte| *byte == b'\n')
                     .filter(|line| !line.starts_with(b"refused") && !line.starts_with(b"config"))

@@ -24,5 +24,5 @@ fn main() {
         }
         _ => panic!("no workload {name}"),
     };
-    std::fs::write(file, list.script(None)).expect("written");
+    std::fs::write(file, list.script()).expect("written");
 }

@@ -49,8 +49,8 @@ fn main() {
     }
     println!("\n| text | lines | product bytes/line | peer bytes/line | ratio | product allocations/line | peer allocations/line |\n|---|---|---|---|---|---|---|");
     for (name, script) in [
-        ("script: Writes of 1 block", writes(numbers(1024, 0), 1, 2_000).script(None)),
-        ("script: mixed", mixed(7, 20_000).script(None)),
+        ("script: Writes of 1 block", writes(numbers(1024, 0), 1, 2_000).script()),
+        ("script: mixed", mixed(7, 20_000).script()),
     ] {
         let mut output = Vec::new();
         by_hand::script(&script, &mut output);

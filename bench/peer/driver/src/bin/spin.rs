@@ -15,6 +15,7 @@ fn main() {
         "pairs" => pairs(numbers(1024, 0), 15_000),
         "reads256" => reads(numbers(1024, 255), 256, 400),
         "writes256" => writes(numbers(1024, 255), 256, 400),
+        "bounded" => over_boundaries(5_000),
         "mixed" => mixed(7, 200_000),
         "open" => many_open(15),
         "flight" => in_flight(256, 20_000),
@@ -25,7 +26,7 @@ fn main() {
     let (n, a, b) = (&list.numbers, &list.asked[..], &list.bytes[..]);
     let (mut script, mut output) = (Vec::new(), Vec::new());
     if name.contains('-') {
-        script = list.script(None);
+        script = list.script();
         by_hand::script(&script, &mut output);
     }
     let history: Vec<u8> = output

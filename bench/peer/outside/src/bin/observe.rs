@@ -20,10 +20,11 @@ const ONCE_WRONG: [u64; 4] = [397_382, 661_011, 725_346, 761_699];
 
 static WITNESSES: AtomicU64 = AtomicU64::new(0);
 
-// What is to be said; and the file of a witness, which is looked at now and then.
-fn compare(program: &Program, seed: u64) {
+// What is to be said; and the file of a witness, which is looked at now and then. Some traces have options.
+fn compare(program: &Program, seed: u64, has_head: bool) {
     let random = Random::new(seed ^ 0x0B5E_47E5);
-    let mut trace = random_trace(&random);
+    let head = Random::new(seed ^ 0x0071_0115);
+    let mut trace = random_trace(&random, has_head.then_some(&head));
     let which = if random.one_in(4) { 0 } else { random.up_to(Change::ALL.len() as u64) as usize };
     change(&mut trace, Change::ALL[which], &random);
     let said = brute(&trace, MOST_STATES);
@@ -40,8 +41,9 @@ fn compare(program: &Program, seed: u64) {
     let (is_right, place) = match said {
         Said::Explained => (is_explained, 0),
         Said::Not(lines) => {
-            // (the first line is that of the configuration)
-            let front = format!("not found: up to line {}: ", lines + 1);
+            // (the first lines are the head)
+            let head = 1 + trace.options.text().lines().count();
+            let front = format!("not found: up to line {}: ", lines + head);
             (status == 1 && output.starts_with(front.as_bytes()) && words.is_empty(), 1)
         }
         Said::Undecided => (status <= 1 && words.is_empty(), 2),
@@ -66,12 +68,12 @@ fn main() {
         for part in 0..threads {
             let program = Program::new(Path::new(casdisk), Path::new(""), &Path::new(folder).join(part.to_string()));
             scope.spawn(move || {
-                (first + part..first + many).step_by(threads as usize).for_each(|seed| compare(&program, seed));
+                (first + part..first + many).step_by(threads as usize).for_each(|seed| compare(&program, seed, true));
             });
         }
     });
     let program = Program::new(Path::new(casdisk), Path::new(""), &Path::new(folder).join("once"));
-    ONCE_WRONG.iter().for_each(|seed| compare(&program, *seed));
+    ONCE_WRONG.iter().for_each(|seed| compare(&program, *seed, false));
     let many = many + ONCE_WRONG.len() as u64;
     let mut sums = [0; 3];
     for (change, counts) in Change::ALL.iter().zip(&SAID) {

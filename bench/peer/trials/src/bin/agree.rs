@@ -1,11 +1,13 @@
-//! Whether the product and the peer agree on random scripts, and on checks of the history of each, as it is and edited
-//! in each way: agree CASDISK FOLDER FIRST-SEED HOW-MANY. What differs is left in the folder.
+//! Whether the product and the peer agree on scripts that the product draws by seeds, and on checks of the history of
+//! each, as it is and edited in each way: agree CASDISK FOLDER FIRST-SEED HOW-MANY. A failure says its seed, and what
+//! differs is left in the folder.
 
 use peer::script::{Kinds, RunFault, check_text, run_script};
 use std::path::Path;
 use std::sync::atomic::{AtomicU64, Ordering::Relaxed};
+use trials::drawn::Seed;
 use trials::edits::{Edit, edited, history_of};
-use trials::lists::{List, Random, in_flight, many_open, mixed, numbers, pairs, random_list, reads, writes};
+use trials::lists::{List, Random, in_flight, many_open, mixed, numbers, pairs, reads, writes};
 use trials::program::Program;
 
 static LINES: AtomicU64 = AtomicU64::new(0);
@@ -61,8 +63,7 @@ fn same_checks(program: &Program, output: &[u8], seed: u64) {
 }
 
 fn compare(program: &Program, seed: u64) {
-    let random = Random::new(seed ^ 0xABCD);
-    let output = same_script(program, &random_list(seed).script(Some(&random)), seed);
+    let output = same_script(program, &Seed(seed).script(program), seed);
     same_checks(program, &output, seed);
 }
 
@@ -95,7 +96,7 @@ fn main() {
     });
     let program = Program::new(Path::new(casdisk), Path::new(""), &Path::new(folder).join("long"));
     for list in long_lists() {
-        let output = same_script(&program, &list.script(None), 0);
+        let output = same_script(&program, &list.script(), 0);
         same_checks(&program, &output, 0);
     }
     println!("{} scripts, {} lines of text, and the checks of their histories: all agree", many + 7, LINES.load(Relaxed));

@@ -1,10 +1,12 @@
 //! Refuses each allocation of the product's programs in turn, in each worked run, and looks at what follows; then some at
-//! random. It prints how many refusals were tried and how many went wrong:
-//! refusals CASDISK RUNS LIBRARY FOLDER HOW-MANY-SCRIPTS, where RUNS is the program `refusal_runs`, LIBRARY refuse.so.
+//! random, of scripts that the product draws by seeds. It prints how many refusals were tried, and which went wrong:
+//! refusals CASDISK RUNS LIBRARY FOLDER HOW-MANY-SCRIPTS FIRST-SEED, where RUNS is the program `refusal_runs`, LIBRARY
+//! refuse.so.
 
 use std::path::Path;
 use std::sync::atomic::{AtomicUsize, Ordering::Relaxed};
-use trials::at_random::{asked_again, by_program};
+use trials::at_random::{TIMES, asked_again, by_program};
+use trials::drawn::Seed;
 use trials::program::Program;
 use trials::tally::{Bench, Tally};
 use trials::worked::{EARLY, ROWS, long_race, long_race_asks, once, race, race_asks, row};
@@ -13,7 +15,7 @@ use trials::worked::{EARLY, ROWS, long_race, long_race_asks, once, race, race_as
 const TOGETHER: u64 = 250;
 
 /// One in so many random scripts is run by the program, too.
-const BY_PROGRAM: u64 = 25;
+const BY_PROGRAM: u64 = 6;
 
 #[derive(Clone, Copy)]
 enum Task {
@@ -22,7 +24,8 @@ enum Task {
     Race(u64),
     /// The allocation that is refused, and how many such a race asks for.
     LongRace(u64, u64),
-    ByProgram(u64),
+    ByProgram(Seed),
+    /// The first seed.
     AskedAgain(u64),
 }
 
@@ -38,22 +41,22 @@ fn do_task(bench: &Bench, task: Task) {
 }
 
 // All tasks, the longest first.
-fn tasks_of(race_asks: u64, long_race_asks: u64, scripts: u64) -> Vec<Task> {
+fn tasks_of(race_asks: u64, long_race_asks: u64, scripts: u64, first: u64) -> Vec<Task> {
     let mut tasks: Vec<Task> = (0..ROWS).map(Task::Row).collect();
     tasks.push(Task::Once);
-    tasks.extend((0..scripts).step_by(TOGETHER as usize).map(Task::AskedAgain));
+    tasks.extend((first..first + scripts).step_by(TOGETHER as usize).map(Task::AskedAgain));
     tasks.extend((1..=race_asks).map(Task::Race));
     tasks.extend((1..=EARLY).map(|number| Task::LongRace(number, long_race_asks)));
-    tasks.extend((0..scripts / BY_PROGRAM).map(Task::ByProgram));
+    tasks.extend((first..first + scripts / BY_PROGRAM).map(Seed).map(Task::ByProgram));
     tasks
 }
 
 fn main() {
     let words: Vec<String> = std::env::args().skip(1).collect();
-    let [casdisk, runs, library, folder, scripts] = &words[..] else {
-        panic!("refusals CASDISK RUNS LIBRARY FOLDER HOW-MANY-SCRIPTS");
+    let [casdisk, runs, library, folder, scripts, first] = &words[..] else {
+        panic!("refusals CASDISK RUNS LIBRARY FOLDER HOW-MANY-SCRIPTS FIRST-SEED");
     };
-    let scripts: u64 = scripts.parse().expect("a number");
+    let (scripts, first): (u64, u64) = (scripts.parse().expect("a number"), first.parse().expect("a number"));
     let threads = std::thread::available_parallelism().map_or(2, |n| n.get());
     let (tally, next) = (Tally::default(), AtomicUsize::new(0));
     let bench_of = |part: usize| {
@@ -62,7 +65,7 @@ fn main() {
         Bench { casdisk: program(casdisk), runs: program(runs), tally: &tally }
     };
     let race_asks = race_asks(&bench_of(0));
-    let tasks = tasks_of(race_asks, long_race_asks(&bench_of(0)), scripts);
+    let tasks = tasks_of(race_asks, long_race_asks(&bench_of(0)), scripts, first);
     std::thread::scope(|scope| {
         for part in 0..threads {
             let (bench, tasks, next) = (bench_of(part), &tasks, &next);
@@ -74,7 +77,7 @@ fn main() {
         }
     });
     let (tried, wrong) = (tally.tried.load(Relaxed), tally.wrong.load(Relaxed));
-    println!("{ROWS} worked runs, races of {race_asks} allocations, {scripts} random scripts");
+    println!("{ROWS} worked runs, races of {race_asks} allocations, {scripts} random scripts from seed {first} on, {TIMES} times");
     println!("{tried} refusals tried, {wrong} wrong");
     std::process::exit(i32::from(wrong > 0));
 }

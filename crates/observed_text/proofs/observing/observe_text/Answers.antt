@@ -9,9 +9,9 @@ returns-in_err-seen g c =
 
 pub returns : goal.returns
 returns g c =
-    let answered = rw c.as_slice.ensures.value at c.tell_trace.ensures.told in
+    let seen = c.in_ok-seen.seen in
     record {
       observes =
-          told c.in_ok-seen.seen.config c.in_ok-seen.seen.things.items c.tell_trace.result _ _ _ _ _ _
-          c.in_ok-seen.ensures.whole answered;
+          told seen.options seen.config seen.history seen.things.items c.tell_trace.result _ _ _ _ _ _
+          c.in_ok-seen.ensures.whole c.tell_trace.ensures.told;
     }

@@ -1,5 +1,5 @@
 use Rattle.std.proofs.Common.{false, reverse, sym, true, ◌≡◌, ◌∙◌}
-use Rattle.witness_check.specs.declared.comparison.TraceVerdict.TheVariants.{Bad, Explained}
+use Rattle.witness_check.specs.declared.comparison.TraceVerdict.TheVariants.{Bad, Explained, Unlike}
 use Rattle.witness_check.proofs.Judging.{not_explained}
 use Rattle.witness_check.proofs.certifying.certify.Goals as goal
 
@@ -7,7 +7,18 @@ pub returns-in-Bad : goal.returns-in-Bad
 returns-in-Bad c = record {
   value = (
     λ z. absurd (let w : false ≡ true = z in cc),
-    λ h. absurd (not_explained c.args.config.now (reverse c.args.entries.now) c.args.trace.now c.in_ok-judge.field-0
+    λ h. absurd (not_explained c.args.options.now c.args.config.now (reverse c.args.entries.now) c.args.trace.now
+        c.in_ok-judge.field-0
         c.in_ok-judge.ensures.value (λ e. let w : Explained ≡ Bad c.in-Bad.field-0 = sym e ∙ c.in-Bad.is in cc) h),
+  );
+}
+
+pub returns-in-Unlike : goal.returns-in-Unlike
+returns-in-Unlike c = record {
+  value = (
+    λ z. absurd (let w : false ≡ true = z in cc),
+    λ h. absurd (not_explained c.args.options.now c.args.config.now (reverse c.args.entries.now) c.args.trace.now
+        c.in_ok-judge.field-0 c.in_ok-judge.ensures.value
+        (λ e. let w : Explained ≡ Unlike c.in-Unlike.field-0 c.in-Unlike.field-1 = sym e ∙ c.in-Unlike.is in cc) h),
   );
 }

@@ -5,4 +5,4 @@ use Rattle.witness_check.specs.Compared.{IsComparedTo}
 use Rattle.witness_check.proofs.certifying.judge.Given as goal
 
 abbrev pub invariant-loop-place : goal.invariant-loop-place
-invariant-loop-place l = IsComparedTo l.config l.trace (reverse (take l.place l.entries)) l.comparison
+invariant-loop-place l = IsComparedTo l.options l.config l.trace (reverse (take l.place l.entries)) l.comparison

@@ -5,8 +5,8 @@ use Rattle.witness_check.proofs.Taking.{told_posted}
 use Rattle.witness_check.proofs.witness.Witness.take_post.Goals as goal
 
 pub returns-clause-ok : goal.returns-clause-ok
-returns-clause-ok c = λ n past next f.
-    told_posted n past c.args.line.now c.args.entry.now
+returns-clause-ok c = λ o n past next f.
+    told_posted o n past c.args.line.now c.args.entry.now
     (record { checker = c.self.inside.checker; waiting = c.self.inside.waiting.items }) c.take.new.self
     c.place_of-place.result c.push_at.new.queues.items next c.in_ok-take.field-0
     c.requires.same (subst (λ (x : Followed). FollowsHistory n past x) (sym c.self.view_is) f) c.if-not-branch.false

@@ -1,0 +1,61 @@
+//! The command `random`.
+
+ghost use Rattle.std.specs.Prelude.{◌≡◌, IfErr, IfOk, codes};
+ghost use Rattle.clap.specs.Words.{app_of, found_of, rows_of};
+ghost use Rattle.command_line.specs.Asking.{AsksBy, IsRaceInRange, IsRefusedBy};
+ghost use Rattle.command_line.specs.CommandLine.{random_app};
+
+use crate::options::{number_asked, text_asked, text_of, with_default, with_needed, with_text};
+use crate::request::{Asked, UsageFault};
+use clap::{ArgMatches, Command};
+use std::alloc::{AllocError, Global};
+
+const CONFIG: &str = "Numbers of the configuration line, as '64 0 0 0 0 2 8 8 16'";
+
+const LIKE: &str =
+    "Which steps: single, pairs, units, queues, hostile, slots, mixed [default: mixed]";
+
+const ABOUT_SEEDS: &str = "\
+A seed makes the same script everywhere, byte for byte. Most of its steps are accepted, some aren't.
+Give it to a controller of your own and to 'casdisk run', and compare: see docs/TESTING-YOURS.md.";
+
+pub(crate) fn random_command<'a>(alloc: Global) -> Result<Command<'a>, AllocError>
+    ensures { IfOk result (λ c. app_of c ≡ random_app) }
+{
+    let command = Command::new(alloc, "random")
+        .about("Prints a random script, the same for the same seed")
+        .after_help(ABOUT_SEEDS);
+    let command = with_needed(alloc, command, "seed", "N", "The seed")?;
+    let command = with_default(
+        alloc,
+        command,
+        "lines",
+        "L",
+        "Lines behind the configuration line",
+        "100",
+    )?;
+    let command = with_text(alloc, command, "config", "NUMBERS", CONFIG)?;
+    with_text(alloc, command, "like", "KIND", LIKE)
+}
+
+pub(crate) fn random_asked<'a>(
+    alloc: Global,
+    matches: &ArgMatches<'a>,
+) -> Result<Asked<'a>, UsageFault>
+    ensures asks { IfOk result (AsksBy (codes "random") (rows_of (found_of matches.now))) }
+    ensures race { IfOk result IsRaceInRange }
+    ensures refuses { IfErr result (IsRefusedBy (codes "random") (rows_of (found_of matches.now))) }
+{
+    let Some(seed) = number_asked(matches, "seed") else {
+        return Err(text_of(alloc, "error: no seed"));
+    };
+    match number_asked(matches, "lines") {
+        Some(lines) => Ok(Asked::Random {
+            seed,
+            lines,
+            config: text_asked(matches, "config"),
+            like: text_asked(matches, "like"),
+        }),
+        None => Err(text_of(alloc, "error: no number of lines")),
+    }
+}

@@ -1,0 +1,5 @@
+pub mod Rows
+pub mod Bars
+pub mod Tickets
+pub mod Picture
+pub mod Columns

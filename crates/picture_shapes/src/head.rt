@@ -1,0 +1,64 @@
+//! The heads of the columns, one a step.
+
+ghost use Rattle.std.specs.Prelude.{◌≡◌, IfOk};
+ghost use Rattle.picture_shapes.specs.Picture.{head_of, kind_of, is_marked};
+
+use crate::words::Words;
+use history_words::{Paint, entry_words};
+use nvme_model::entry::Entry;
+use std::alloc::{AllocError as NoMemory, Global};
+
+/// The kind of an entry.
+#[derive(Clone, Copy, Debug, PartialEq, Eq)]
+pub enum Kind {
+    Publish,
+    Fetch,
+    Grant,
+    Block,
+    Post,
+    Reap,
+}
+
+/// The head of a column: the place of its entry, its kind, whether a unit takes effect there, and its line in words.
+#[derive(Debug, Drop)]
+pub struct Head {
+    pub place: u64,
+    pub kind: Kind,
+    pub mark: bool,
+    pub words: Words,
+}
+
+fn kind_of(entry: &Entry) -> Kind
+    ensures value { result ≡ kind_of entry.now }
+{
+    match entry {
+        Entry::Publish(_) => Kind::Publish,
+        Entry::Fetch(_) => Kind::Fetch,
+        Entry::Grant(_) => Kind::Grant,
+        Entry::Block(_) => Kind::Block,
+        Entry::Post(_) => Kind::Post,
+        Entry::Reap(_) => Kind::Reap,
+    }
+}
+
+fn is_marked(entry: &Entry) -> bool
+    ensures value { result ≡ is_marked entry.now }
+{
+    match entry {
+        Entry::Block(line) => line.effect,
+        _ => false,
+    }
+}
+
+/// The head of an entry's column.
+pub(crate) fn head_of(alloc: Global, place: u64, entry: &Entry) -> Result<Head, NoMemory>
+    ensures value { IfOk result (λ head. head ≡ head_of place entry.now) }
+{
+    let words = entry_words(alloc, entry, Paint::Plain)?;
+    Ok(Head {
+        place,
+        kind: kind_of(entry),
+        mark: is_marked(entry),
+        words: Words::new(words),
+    })
+}

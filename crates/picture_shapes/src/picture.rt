@@ -1,0 +1,156 @@
+//! The picture of a history, made entry by entry.
+
+ghost use Rattle.std.specs.Prelude.{◌≡◌, OnOk, option_map};
+ghost use Rattle.picture_shapes.specs.Picture.{no_picture, picture_after, picture_ended, with_head};
+
+use crate::bars::Bars;
+use crate::head::{Head, head_of};
+use crate::tickets::Tickets;
+use crate::words::Words;
+use history::{Config, Entry};
+use std::alloc::{AllocError as NoMemory, Global};
+use std::marker::Model;
+
+/// The first bad step of a history: its place, and which rule it breaks, in words.
+#[derive(Debug, Drop)]
+pub struct BadStep {
+    pub place: u64,
+    pub words: Words,
+}
+
+/// What is drawn of the entries from one place to another: a column each, with what was open before and what is open
+/// behind. Its size grows with what is drawn, and not with the entries before it.
+#[derive(Drop)]
+pub struct Picture {
+    alloc: Global,
+    from: u64,
+    to: u64,
+    last: u64,
+    heads: Vec<Head>,
+    bars: Bars,
+    tickets: Tickets,
+    bad: Option<BadStep>,
+}
+
+impl Model for Picture {
+    ghost use Rattle.picture_shapes.specs.Picture.{PictureState};
+
+    ghost Value = { PictureState };
+
+    ghost view = { λ p. record {
+      from = p.from;
+      to = p.to;
+      last = p.last;
+      heads = p.heads.items;
+      bars = p.bars;
+      tickets = p.tickets;
+      bad = p.bad;
+    } };
+}
+
+impl Picture {
+    /// A picture of the entries at these places, from 1, with none taken yet.
+    pub fn new(alloc: Global, from: u64, to: u64) -> Picture
+        ensures none { result ≡ no_picture from to }
+    {
+        Picture {
+            alloc,
+            from,
+            to,
+            last: 0,
+            heads: Vec::new(alloc),
+            bars: Bars::new(alloc),
+            tickets: Tickets::new(alloc),
+            bad: None,
+        }
+    }
+
+    // Adds the head of a column, from `from` on.
+    fn add_head(&mut self, place: u64, entry: &Entry) -> Result<(), NoMemory>
+        ensures value { OnOk result (self.new ≡ with_head place entry.now self.old) }
+    {
+        if place < self.from {
+            return Ok(());
+        }
+        let head = head_of(self.alloc, place, entry)?;
+        if self.heads.push(head).is_err() {
+            return Err(NoMemory);
+        }
+        Ok(())
+    }
+
+    /// Takes the entry at this place, which may follow.
+    ///
+    /// # Errors
+    ///
+    /// `NoMemory` where a growth is refused.
+    pub fn take(&mut self, config: &Config, place: u64, entry: &Entry) -> Result<(), NoMemory>
+        ensures value { OnOk result (self.new ≡ picture_after config.now place entry.now self.old) }
+    {
+        if self.to < place {
+            return Ok(());
+        }
+        self.bars.take(config, self.from, place, entry)?;
+        self.tickets.take(self.from, place, entry)?;
+        self.add_head(place, entry)?;
+        self.last = place;
+        Ok(())
+    }
+
+    /// Takes the entry at this place, which is the first that may not follow, with the rule that it breaks in words.
+    /// Nothing is drawn of it but its head and the words.
+    ///
+    /// # Errors
+    ///
+    /// `NoMemory` where a growth is refused.
+    pub fn take_bad(&mut self, place: u64, entry: &Entry, words: Words) -> Result<(), NoMemory>
+        ensures value { OnOk result (self.new ≡ picture_ended words place entry.now self.old) }
+    {
+        if self.to < place {
+            return Ok(());
+        }
+        self.add_head(place, entry)?;
+        self.last = place;
+        if self.from <= place {
+            self.bad = Some(BadStep { place, words });
+        }
+        Ok(())
+    }
+
+    pub fn from(&self) -> u64
+        ensures { result ≡ self.now.from }
+    {
+        self.from
+    }
+
+    /// The place of the last entry that was taken, up to `to`.
+    pub fn last(&self) -> u64
+        ensures { result ≡ self.now.last }
+    {
+        self.last
+    }
+
+    pub fn heads(&self) -> &[Head]
+        ensures { result.now ≡ self.now.heads }
+    {
+        self.heads.as_slice()
+    }
+
+    pub fn bars(&self) -> &Bars
+        ensures { result.now ≡ self.now.bars }
+    {
+        &self.bars
+    }
+
+    pub fn tickets(&self) -> &Tickets
+        ensures { result.now ≡ self.now.tickets }
+    {
+        &self.tickets
+    }
+
+    pub fn bad(&self) -> Option<&BadStep>
+        ensures { option_map (λ bad. bad.now) result ≡ self.now.bad }
+    {
+        self.bad.as_ref()
+    }
+}

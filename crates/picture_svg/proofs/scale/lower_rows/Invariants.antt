@@ -1,0 +1,7 @@
+-- How many there are so far.
+use Rattle.std.proofs.Common.{◌≡◌, take, nat_lt}
+use Rattle.std.specs.List.{count_by}
+use Rattle.picture_svg.proofs.scale.lower_rows.Given as goal
+
+abbrev pub invariant-loop-row : goal.invariant-loop-row
+invariant-loop-row l = l.count ≡ count_by (λ row. nat_lt row.lane l.lane) (take l.row-index l.rows)

@@ -1,0 +1,17 @@
+//! Draws scripts by a seed: lines of a kind, of which a controller accepts about nine steps in ten.
+#![tactic(auto)]
+
+mod commands;
+mod config;
+mod data;
+mod hostile;
+mod kind;
+mod publishing;
+mod scene;
+mod script;
+mod steps;
+mod swaps;
+
+pub use crate::config::draw_config;
+pub use crate::kind::Kind;
+pub use crate::script::{draw_script, write_random};

@@ -1,0 +1,118 @@
+//! Claims and releases of slots.
+
+ghost use Rattle.std.specs.Prelude.{◌≡◌, ◌⊎◌, IfOk, IfSome};
+ghost use Rattle.nvme_model.specs.Array.{zeros};
+ghost use Rattle.random_script.specs.Kinds.{IsSwap};
+
+use crate::commands::{TwoEntries, drawn_cid};
+use entry_codec::Fuse;
+use nvme_model::submission::Payload;
+use random_numbers::RandomNumbers;
+use script_text::{Command, CommandName, EntryForm, WrittenEntry};
+use std::alloc::{AllocError as NoMemory, Global};
+use step_core::Core;
+
+/// A claim or a release on a submission queue.
+#[derive(Drop)]
+pub(crate) struct Swap {
+    pub(crate) queue: u16,
+    pub(crate) two: TwoEntries,
+}
+
+// The block of a free slot.
+fn free_block(alloc: Global) -> Result<Payload, NoMemory>
+    ensures free { IfOk result (λ p. p ≡ zeros) }
+{
+    Payload::copy_of(alloc, &[0; 512])
+}
+
+// The name of a claim of this host, which has the number of its queue.
+fn name_block(alloc: Global, host: u16, random: &mut RandomNumbers) -> Result<Payload, NoMemory> {
+    let mut block = [0u8; 512];
+    block[0] = (host % 256) as u8;
+    block[8] = 1 + random.below(250) as u8;
+    Payload::copy_of(alloc, &block)
+}
+
+// A pair on this block with this data.
+fn swap_on(slot: u64, random: &mut RandomNumbers, found: Payload, written: Payload) -> TwoEntries
+    requires one { (found ≡ zeros) ⊎ (written ≡ zeros) }
+    ensures swap { IsSwap result.first result.second }
+{
+    let cid = random.below(500) as u16;
+    let compare = Command {
+        name: CommandName::Compare,
+        fuse: Fuse::First,
+        cid,
+        slba: slot,
+        nlb: 0,
+    };
+    let write = Command {
+        name: CommandName::Write,
+        fuse: Fuse::Second,
+        cid: cid + 500,
+        slba: slot,
+        nlb: 0,
+    };
+    TwoEntries {
+        first: WrittenEntry {
+            form: EntryForm::Named(compare),
+            payload: found,
+        },
+        second: WrittenEntry {
+            form: EntryForm::Named(write),
+            payload: written,
+        },
+    }
+}
+
+// A claim of a slot by the host of a queue.
+fn claim(alloc: Global, random: &mut RandomNumbers, slot: u64, queue: u16) -> Result<Swap, NoMemory>
+    ensures swap { IfOk result (λ s. IsSwap s.two.first s.two.second) }
+{
+    let found = free_block(alloc)?;
+    let written = name_block(alloc, queue, random)?;
+    Ok(Swap {
+        queue,
+        two: swap_on(slot, random, found, written),
+    })
+}
+
+// A release of the slot that has this block, by its holder.
+fn release(
+    alloc: Global,
+    random: &mut RandomNumbers,
+    slot: u64,
+    block: &[u8; 512],
+) -> Result<Swap, NoMemory>
+    ensures swap { IfOk result (λ s. IsSwap s.two.first s.two.second) }
+{
+    let found = Payload::copy_of(alloc, block)?;
+    let written = free_block(alloc)?;
+    Ok(Swap {
+        queue: u16::from(block[0]),
+        two: swap_on(slot, random, found, written),
+    })
+}
+
+/// A claim of a slot where it is free, and else a release by its holder; in one case in four a claim, free or not. The
+/// slots are the first four blocks of the volume, and the host of a queue has its number.
+pub(crate) fn drawn_swap(
+    alloc: Global,
+    core: &Core,
+    random: &mut RandomNumbers,
+) -> Result<Swap, NoMemory>
+    ensures swap { IfOk result (λ s. IsSwap s.two.first s.two.second) }
+{
+    let numbers = core.config().numbers();
+    let queue = 1 + random.below(u32::from(numbers.pairs).max(1)).min(15) as u16;
+    let slot = u64::from(random.below(numbers.blocks.min(4).max(1)));
+    let claims = random.one_in(4);
+    let Some(block) = core.medium(slot) else {
+        return claim(alloc, random, slot, queue);
+    };
+    if claims || block[0] == 0 {
+        return claim(alloc, random, slot, queue);
+    }
+    release(alloc, random, slot, block)
+}

@@ -1,0 +1,4 @@
+pub mod Orders
+pub mod Parts
+pub mod Asking
+pub mod Counting

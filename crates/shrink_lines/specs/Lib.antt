@@ -1,0 +1,4 @@
+pub mod Smaller
+pub mod Asked
+pub mod Shrinking
+pub mod Scanning

@@ -1,0 +1,3 @@
+pub mod LinesOut
+pub mod LinesIn
+pub mod Ending

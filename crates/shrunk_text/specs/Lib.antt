@@ -1,0 +1,4 @@
+pub mod Status
+pub mod Texts
+pub mod Talk
+pub mod Shrinking

@@ -1,0 +1,57 @@
+use Rattle.std.proofs.Common.{Err, Ok, ap, refl, subst, sym, ℕ, ◌<◌, ◌∙◌, ◌≡◌}
+use Rattle.std.proofs.lemmas.Result.{err_from_is_err_and}
+use Rattle.nvme_model.specs.declared.array.Range.{Range}
+use Rattle.driver_cas.specs.Drivers.{area_of}
+use Rattle.driver_cas.specs.TakeoverStarts.{IsTakeoverStart}
+use Rattle.slot_alloc.specs.Areas.{block_of}
+use Rattle.slot_takeover.proofs.Starting.{taking_now}
+use Rattle.slot_takeover.proofs.taking.take_over.Goals as goal
+
+pub returns-in_err-call-clause-is : goal.returns-in_err-call-clause-is
+returns-in_err-call-clause-is g c =
+    let d = c.args.driver.now in
+    let e = c.start_takeover.new.self in
+    let p = err_from_is_err_and c.from_residual.result c.from_residual.ensures.1 in
+    let at : c.block.result ≡ block_of (area_of d) c.args.i = c.block.ensures
+    ∙ ap (λ (r : Range). block_of r c.args.i) (sym c.requires.area) in
+    rw (p.1, p.2)
+    (subst (λ (l : ℕ). IsTakeoverStart d e l c.args.dead.host c.args.dead.serial (Err c.in_err-call.field-0.0)) at
+    c.in_err-call.ensures.is)
+
+pub returns-clause-is : goal.returns-clause-is
+returns-clause-is g c =
+    let d = c.args.driver.now in
+    let e = c.start_takeover.new.self in
+    let x = c.in_ok-call in
+    let at : c.block.result ≡ block_of (area_of d) c.args.i = c.block.ensures
+    ∙ ap (λ (r : Range). block_of r c.args.i) (sym c.requires.area) in (
+      refl,
+      refl,
+      subst (λ (l : ℕ). IsTakeoverStart d e l c.args.dead.host c.args.dead.serial (Ok (x.call, x.serial))) at
+          x.ensures.is,
+    )
+
+pub returns-clause-of : goal.returns-clause-of
+returns-clause-of g c =
+    let d = c.args.driver.now in
+    let e = c.start_takeover.new.self in
+    let x = c.in_ok-call in
+    let at : c.block.result ≡ block_of (area_of d) c.args.i = c.block.ensures
+    ∙ ap (λ (r : Range). block_of r c.args.i) (sym c.requires.area) in
+    taking_now g.P.Port d e c.args.i c.args.dead x.call x.serial
+    (record {
+      settings = x.ensures.settings;
+      start = subst (λ (l : ℕ). IsTakeoverStart d e l c.args.dead.host c.args.dead.serial (Ok (x.call, x.serial))) at
+          x.ensures.is;
+      inside = subst (λ (r : Range). c.args.i < r.blocks) (sym c.requires.area) c.requires.slot;
+      other = c.requires.other;
+      dead_name = record {
+        host = c.requires.named.0;
+        host_fits = c.fits.ensures.law.0;
+        serial = c.requires.named.1;
+        serial_fits = c.fits.ensures.law.1;
+      };
+      named = x.ensures.law.0;
+      narrow = x.ensures.law.1;
+      fits = x.ensures.law.2;
+    })

@@ -1,0 +1,69 @@
+-- Who holds a slot, by what a Read of its block gave.
+use Rattle.std.specs.Prelude.{Err, List, None, Ok, Option, Result, Some, [], bytes_eq, if◌then◌else◌, ℕ, ◌<◌, ◌≡◌, ◌⊎◌}
+use Rattle.nvme_model.specs.Array.{zeros}
+use Rattle.nvme_model.specs.Slots.{Name, name_of}
+use Rattle.nvme_model.specs.declared.operation.Op.{Op}
+use Rattle.driver_calls.specs.Says.{IsCallIn}
+use Rattle.driver_calls.specs.declared.reply.Reply.{Reply}
+use Rattle.driver_calls.specs.declared.request.CallData.{CallData}
+use Rattle.driver_cas.specs.Drivers.{IsCallOf, answer_to, area_of}
+use Rattle.driver_cas.specs.Tries.{IsTryBegun}
+use Rattle.driver_cas.specs.declared.driver.Driver.{Driver}
+use Rattle.driver_cas.specs.declared.fault.Fault.{Fault}
+use Rattle.driver_cas.specs.declared.port.Port.{Ghosts}
+use Rattle.slot_alloc.specs.Areas.{block_of}
+use Rattle.slot_alloc.specs.Releases.{IsCallAnswered}
+use Rattle.slot_takeover.specs.declared.holder.Holder.{Holder}
+use Rattle.slot_takeover.specs.declared.holder.HolderPoll.{HolderPoll}
+use Rattle.slot_takeover.specs.declared.holder.ReadingHolder.{ReadingHolder}
+
+-- whoever a name that a block spells is, or somebody foreign where it spells none
+abbrev pub holder_named : Option Name → Holder
+holder_named None = Holder.Foreign
+holder_named (Some n) = Holder.Of (record { host = n.host; serial = n.serial })
+
+-- who holds a slot whose block has these bytes: nobody where they are zeros
+abbrev pub holder_in : List ℕ → Holder
+holder_in bytes = if bytes_eq bytes zeros then Holder.Free else holder_named (name_of bytes)
+
+-- the bytes that a Read read
+abbrev pub bytes_read : Reply → List ℕ
+bytes_read (Reply.Read bytes) = bytes
+bytes_read _ = []
+
+-- the reply is to a Read
+abbrev pub IsRead : Reply → Type 0
+IsRead (Reply.Read bytes) = Unit {0}
+IsRead _ = ⊥
+
+module _ {P : Type 0} where
+  -- the fault for which a poll of the question is put off, if for one
+  abbrev pub later_reading : HolderPoll P → Option Fault
+  later_reading (HolderPoll.Later f j) = Some f
+  later_reading _ = None
+
+module _ {P : Type 0} {g : Ghosts P} where
+  -- The driver began to read the block of this slot, which isn't answered.
+  pub record IsReadingOf (d : Driver P g) (k : ReadingHolder P) : Type 0 where
+    pub of : IsCallOf d k.call
+    pub does : k.call.op ≡ Op.Read
+    pub inside : k.slot < (area_of d).blocks
+
+  -- the Read of the block of slot i is begun, or nothing has changed and it is told why
+  abbrev pub IsHolderBegun : Driver P g → Driver P g → ℕ → Result (ReadingHolder P) Fault → Type 0
+  IsHolderBegun d e i (Ok k) =
+      (k.slot ≡ i) × IsTryBegun d e (record { op = Op.Read; slba = block_of (area_of d) i; blocks = 1 })
+      (CallData.One []) (Ok k.call)
+  IsHolderBegun d e i (Err f) =
+      IsTryBegun d e (record { op = Op.Read; slba = block_of (area_of d) i; blocks = 1 }) (CallData.One []) (Err f)
+
+  -- What `poll_holder` gives: once the Read is answered with the block's bytes at one moment, who held the slot by
+  -- them.
+  abbrev pub IsHolderPolled : Driver P g → ReadingHolder P → HolderPoll P → Type 0
+  IsHolderPolled e k (HolderPoll.Pending j) = (j ≡ k) × IsReadingOf e j × (answer_to e k.call ≡ None)
+  IsHolderPolled e k (HolderPoll.Later f j) =
+      (j ≡ k) × IsReadingOf e j × ((f ≡ Fault.Busy) ⊎ (f ≡ Fault.NoMemory)) × (answer_to e k.call ≡ None)
+  IsHolderPolled e k (HolderPoll.Done h) =
+      (bytes : List ℕ) × (h ≡ holder_in bytes) × IsCallAnswered e k.call (Ok (Reply.Read bytes))
+  IsHolderPolled e k (HolderPoll.Failed (Fault.Status s)) = IsCallAnswered e k.call (Err s)
+  IsHolderPolled e k (HolderPoll.Failed _) = ⊥

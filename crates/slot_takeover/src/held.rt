@@ -1,0 +1,30 @@
+//! A slot that was taken over.
+
+ghost use Rattle.std.specs.Prelude.{◌≡◌};
+
+/// A slot that was taken over, with the serial of its takeover. It can't be copied, and has to be spent: by
+/// `give_back`, or by `leave`.
+pub struct HeldSlot {
+    pub(crate) slot: u32,
+    pub(crate) serial: u64,
+}
+
+impl HeldSlot {
+    ghost use Rattle.slot_takeover.specs.Takeovers.{held_serial, slot_held};
+
+    /// The number of the slot.
+    pub fn slot(&self) -> u32
+        ensures { result ≡ slot_held self.now }
+    {
+        self.slot
+    }
+
+    /// Leaves the slot held: its number and the serial of its takeover.
+    pub fn leave(self) -> (u32, u64)
+        ensures slot { result.0 ≡ slot_held self }
+        ensures serial { result.1 ≡ held_serial self }
+    {
+        let HeldSlot { slot, serial } = self;
+        (slot, serial)
+    }
+}

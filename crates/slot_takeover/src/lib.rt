@@ -1,0 +1,17 @@
+//! Takes over the slots of a host that is fenced, by Compare and Write, and tells who holds a slot.
+#![tactic(auto)]
+
+mod giving_back;
+mod held;
+mod holder;
+pub mod laws;
+mod name;
+mod polling;
+mod taking;
+
+pub use giving_back::{GivenBack, GivingBack, give_back, poll_given_back};
+pub use held::HeldSlot;
+pub use holder::{Holder, HolderPoll, ReadingHolder, poll_holder, read_holder};
+pub use name::Name;
+pub use polling::{TakeoverProgress, poll_takeover};
+pub use taking::{TakingOver, take_over};

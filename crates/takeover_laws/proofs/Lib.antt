@@ -1,0 +1,16 @@
+pub mod Entries
+pub mod Discipline
+pub mod Movers
+pub mod Changes
+pub mod Effects
+pub mod Taking
+pub mod Beliefs
+pub mod Fencing
+pub mod Without
+pub mod Givers
+pub mod Losing
+pub mod Releases
+pub mod Succeeding
+pub mod Winning
+pub mod ExampleTakeovers
+pub mod Publishing

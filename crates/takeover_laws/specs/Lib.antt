@@ -1,0 +1,3 @@
+pub mod Takeovers
+pub mod Rules
+pub mod Effects

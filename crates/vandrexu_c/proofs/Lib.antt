@@ -1,0 +1,3 @@
+pub mod Marks
+mod Batches
+mod Ready

@@ -1,0 +1,109 @@
+//! The entries of a Publish.
+
+ghost use Rattle.std.specs.Prelude.{◌≡◌, ◌++◌, ◌⊎◌, IfErr, IfOk, None, OnOk, Some, List};
+ghost use Rattle.nvme_model.specs.declared.submission.Submission.{Submission as TheSubmission};
+ghost use Rattle.vandrexu_c.specs.Batches.{TellsPublish, submissions_of};
+ghost use Rattle.vandrexu_c.specs.Machines.{KeepsMachine, MachineState};
+
+use crate::controller::{NO_HANDLE, NO_MEMORY};
+use crate::held::{Handle, put_in, take_out};
+use nvme_model::submission::{Payload, Submission, Submissions};
+use std::alloc::Global;
+
+const BAD_ENTRY: u32 = 106;
+
+/// A submission queue entry, and how many bytes of data belong to it.
+#[repr(C)]
+#[derive(Clone, Copy)]
+pub struct EntryBytes {
+    pub bytes: [u8; 64],
+    pub count: usize,
+}
+
+// An entry with its data, in memory of its own.
+fn submission_of(alloc: Global, entry: &EntryBytes, bytes: &[u8]) -> Result<Submission, u32>
+    ensures value { IfOk result (λ s. s ≡ record { entry = entry.now.bytes; payload = bytes.now }) }
+    ensures fault { IfErr result (λ n. n ≡ 11) }
+{
+    match Payload::copy_of(alloc, bytes) {
+        Ok(payload) => Ok(Submission {
+            entry: entry.bytes,
+            payload,
+        }),
+        Err(_) => Err(NO_MEMORY),
+    }
+}
+
+// Adds the entries with their data; a fault by its number.
+#[tactic(auto, using(crate::proofs::Batches::too_short))]
+fn add_all(
+    alloc: Global,
+    items: &mut Vec<Submission>,
+    entries: &[EntryBytes],
+    bytes: &[u8],
+) -> Result<(), u32>
+    ensures all { OnOk result ((xs : List TheSubmission) × (submissions_of entries.now bytes.now ≡ Some xs)
+        × (items.new.items ≡ items.old.items ++ xs)) }
+    ensures fault { IfErr result (λ n. (n ≡ 11) ⊎ ((n ≡ 106) × (submissions_of entries.now bytes.now ≡ None))) }
+{
+    let Some((first, others)) = entries.split_first() else {
+        if bytes.is_empty() {
+            return Ok(());
+        }
+        return Err(BAD_ENTRY);
+    };
+    if first.count > bytes.len() {
+        return Err(BAD_ENTRY);
+    }
+    let (own, behind) = bytes.split_at(first.count);
+    let item = submission_of(alloc, first, own)?;
+    if items.push(item).is_err() {
+        return Err(NO_MEMORY);
+    }
+    add_all(alloc, items, others, behind)
+}
+
+// The entries with their data; a fault by its number.
+fn batch_of(alloc: Global, entries: &[EntryBytes], bytes: &[u8]) -> Result<Submissions, u32>
+    ensures all { IfOk result (λ xs. submissions_of entries.now bytes.now ≡ Some xs) }
+    ensures fault { IfErr result (λ n. (n ≡ 11) ⊎ ((n ≡ 106) × (submissions_of entries.now bytes.now ≡ None))) }
+{
+    let mut items = Vec::new(alloc);
+    match add_all(alloc, &mut items, entries, bytes) {
+        Ok(()) => Ok(Submissions::new(items)),
+        Err(number) => Err(number),
+    }
+}
+
+/// Publishes all entries, or none: 0; or the number of the refusal; or 106 where `bytes` isn't just the data of the
+/// entries, one behind the other; or 101 where the handle owns nothing.
+#[unsafe(no_mangle)]
+#[tactic(auto, using(crate::proofs::Marks::told_ok, crate::proofs::Marks::told_err))]
+pub extern "C" fn vandrexu_controller_publish(
+    alloc: Global,
+    controller: &mut Handle,
+    queue: u16,
+    entries: &[EntryBytes],
+    bytes: &[u8],
+) -> u32
+    ensures no_handle { controller.old.held.core ≡ None → (result ≡ 101) × (controller.new.held.core ≡ None) }
+    ensures publishes { (m : MachineState) → controller.old.held.core ≡ Some m →
+        KeepsMachine controller.new.held.core (TellsPublish m queue entries.now bytes.now result) }
+{
+    let Some(mut machine) = take_out(alloc, controller) else {
+        return NO_HANDLE;
+    };
+    let batch = match batch_of(alloc, entries, bytes) {
+        Ok(batch) => batch,
+        Err(number) => {
+            put_in(controller, machine);
+            return number;
+        }
+    };
+    let done = machine.as_mut().publish(queue, batch);
+    put_in(controller, machine);
+    match done {
+        Ok(()) => 0,
+        Err(number) => number,
+    }
+}

@@ -1,0 +1,180 @@
+//! A checker: made, freed, and given the lines of a history, one at a time.
+
+ghost use Rattle.std.specs.Prelude.{◌≡◌, ◌⊎◌, [], IfErr, IfOk, None, OnOk, Some, false, length, true};
+ghost use Rattle.nvme_model.specs.declared.entry.Entry.{Entry as TheEntry};
+ghost use Rattle.history.specs.Lines.{entry_in};
+ghost use Rattle.history_check.specs.Kept.{CheckerRun, Stands};
+ghost use Rattle.vandrexu_c.specs.Checkers.{IsNewChecker, IsNext, KeepsChecker, MayRefuseChecker};
+ghost use Rattle.vandrexu_c.specs.Checkers.{TellsEntry, TellsNone, TellsTaken, TellsWhy};
+ghost use Rattle.vandrexu_c.specs.Numbers.{numbers_of};
+
+use crate::configuration::{Numbers, config_of};
+use crate::controller::{IN_USE, NO_HANDLE, NO_MEMORY, TOO_SMALL};
+use crate::judge::{CheckerHandle, Judge, put_checker, take_checker};
+use broken_rules::Broken;
+use history::{Config, Entry, LineFault, parse_line};
+use history_check::Checker;
+use std::alloc::{AllocError as NoMemory, Global};
+
+const BAD_LINE: u32 = 107;
+
+const NOT_LEGAL: u32 = 108;
+
+// A checker in a box.
+fn judge_of(alloc: Global, config: &Config) -> Result<Box<Judge>, NoMemory>
+    ensures { IfOk result (λ b. Stands config.now [] b.value) }
+{
+    let checker = Checker::new(alloc, config)?;
+    Ok(Box::new(alloc, Judge { checker })?)
+}
+
+/// Makes a checker of histories of this configuration that has taken no line, and puts it into the handle: 0; or the
+/// first fault of the configuration, 21 to 30; or 11 where memory is refused; or 102 where the handle owns one. The
+/// handle is then as before.
+#[unsafe(no_mangle)]
+#[tactic(auto, using(crate::proofs::Marks::no_checker_of))]
+pub extern "C" fn vandrexu_checker_new(
+    alloc: Global,
+    config: &Numbers,
+    checker: &mut CheckerHandle,
+) -> u32
+    ensures done { result ≡ 0 → IsNewChecker (numbers_of config.now) checker.new.held.run }
+    ensures failed { (result ≡ 0 → ⊥) → checker.new.held.run ≡ checker.old.held.run }
+    ensures cause { (result ≡ 0 → ⊥) → MayRefuseChecker (numbers_of config.now) checker.old.held.run result }
+{
+    if checker.live != 0 {
+        return IN_USE;
+    }
+    let accepted = match config_of(config) {
+        Ok(accepted) => accepted,
+        Err(fault) => return u32::from(fault.number()),
+    };
+    let Ok(judge) = judge_of(alloc, &accepted) else {
+        return NO_MEMORY;
+    };
+    put_checker(checker, judge);
+    0
+}
+
+/// Frees what the handle owns. Nothing is done where it owns nothing.
+#[unsafe(no_mangle)]
+pub extern "C" fn vandrexu_checker_free(alloc: Global, checker: &mut CheckerHandle)
+    ensures { checker.new.held.run ≡ None }
+{
+    drop(take_checker(alloc, checker));
+}
+
+// Takes an entry behind those that were taken: a fault, or whether all are legal, by its number.
+fn judged(checker: &mut Checker, entry: &Entry) -> u32
+    ensures { TellsEntry checker.old entry.now result checker.new }
+{
+    match checker.take(entry) {
+        Ok(true) => 0,
+        Ok(false) => NOT_LEGAL,
+        Err(_) => NO_MEMORY,
+    }
+}
+
+// Takes the entry of a line, by the number that it is answered.
+fn taken(alloc: Global, checker: &mut Checker, line: &[u8]) -> u32
+    ensures { TellsTaken checker.old line.now result checker.new }
+{
+    match parse_line(alloc, line) {
+        Ok(entry) => judged(checker, &entry),
+        Err(LineFault::Malformed) => BAD_LINE,
+        Err(LineFault::NoMemory) => NO_MEMORY,
+    }
+}
+
+/// Takes the next line of a history, without its line feed: 0 where all lines so far are legal; or 108 where they
+/// aren't, from then on always; or 107 where it is no line of a history, and 11 where memory is refused, and it isn't
+/// taken; or 101 where the handle owns nothing.
+#[unsafe(no_mangle)]
+pub extern "C" fn vandrexu_checker_take_line(
+    alloc: Global,
+    checker: &mut CheckerHandle,
+    line: &[u8],
+) -> u32
+    ensures no_handle { checker.old.held.run ≡ None → (result ≡ 101) × (checker.new.held.run ≡ None) }
+    ensures takes { (r : CheckerRun) → checker.old.held.run ≡ Some r →
+        KeepsChecker checker.new.held.run (TellsTaken r line.now result) }
+{
+    let Some(mut judge) = take_checker(alloc, checker) else {
+        return NO_HANDLE;
+    };
+    let number = taken(alloc, &mut judge.as_mut().checker, line);
+    put_checker(checker, judge);
+    number
+}
+
+// The words of a broken rule.
+fn words_of(alloc: Global, broken: &Broken) -> Result<String, u32>
+    ensures fault { IfErr result (λ n. n ≡ 11) }
+{
+    match broken.to_string(alloc) {
+        Ok(words) => Ok(words),
+        Err(_) => Err(NO_MEMORY),
+    }
+}
+
+// The words of the first rule that an entry would break; or 0 where it would break none, or 11.
+fn broken_by(alloc: Global, checker: &Checker, entry: &Entry) -> Result<String, u32>
+    ensures broken { OnOk result (IsNext false checker.now entry.now) }
+    ensures none { IfErr result (λ n. (n ≡ 11) ⊎ ((n ≡ 0) × IsNext true checker.now entry.now)) }
+{
+    match checker.why(entry) {
+        Ok(Some(broken)) => words_of(alloc, &broken),
+        Ok(None) => Err(0),
+        Err(_) => Err(NO_MEMORY),
+    }
+}
+
+// The words of the first rule that a line would break; or 0 where it would break none, or a fault.
+fn why_of(alloc: Global, checker: &Checker, line: &[u8]) -> Result<String, u32>
+    ensures broken { OnOk result ((e : TheEntry) × (entry_in line.now ≡ Some e) × IsNext false checker.now e) }
+    ensures none { IfErr result (λ n. TellsNone checker.now line.now n) }
+{
+    let entry = match parse_line(alloc, line) {
+        Ok(entry) => entry,
+        Err(LineFault::Malformed) => return Err(BAD_LINE),
+        Err(LineFault::NoMemory) => return Err(NO_MEMORY),
+    };
+    let words = broken_by(alloc, checker, &entry)?;
+    Ok(words)
+}
+
+/// Says what the next line would be answered, and takes it not: 0; or 108, and the beginning of `out` has the words of
+/// the first rule that it breaks; or 103 where `out` is too short for them, and nothing is written there; or 107 where
+/// it is no line of a history; or 11 where memory is refused; or 101 where the handle owns nothing. At 108 and 103
+/// `needed` is the number of the words' bytes.
+#[unsafe(no_mangle)]
+pub extern "C" fn vandrexu_checker_why(
+    alloc: Global,
+    checker: &mut CheckerHandle,
+    line: &[u8],
+    out: &mut [u8],
+    needed: &mut usize,
+) -> u32
+    ensures no_handle { checker.old.held.run ≡ None → result ≡ 101 }
+    ensures same { checker.new.held.run ≡ checker.old.held.run }
+    ensures tells { (r : CheckerRun) → checker.old.held.run ≡ Some r →
+        TellsWhy r line.now (length out.old) result needed.new }
+    ensures kept { (result ≡ 108 → ⊥) → out.new ≡ out.old }
+{
+    let Some(judge) = take_checker(alloc, checker) else {
+        return NO_HANDLE;
+    };
+    let told = why_of(alloc, &judge.as_ref().checker, line);
+    put_checker(checker, judge);
+    let words = match told {
+        Ok(words) => words,
+        Err(number) => return number,
+    };
+    let count = words.len();
+    *needed = count;
+    if out.len() < count {
+        return TOO_SMALL;
+    }
+    out[..count].copy_from_slice(words.as_bytes());
+    NOT_LEGAL
+}

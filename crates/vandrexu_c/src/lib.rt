@@ -1,0 +1,12 @@
+//! The controller and the checker for callers in C, one function each: include/vandrexu.h says how they are called.
+#![tactic(auto)]
+
+mod answers;
+mod batch;
+mod checker;
+mod configuration;
+mod controller;
+mod held;
+mod judge;
+mod machine;
+mod steps;

@@ -1,0 +1,194 @@
+//! The steps of a controller.
+
+ghost use Rattle.std.specs.Prelude.{◌≡◌, None, Some};
+ghost use Rattle.nvme_model.specs.Steps.{ready};
+ghost use Rattle.nvme_model.specs.declared.step.Step.{Step as TheStep};
+ghost use Rattle.vandrexu_c.specs.Machines.{KeepsMachine, MachineState};
+ghost use Rattle.vandrexu_c.specs.Steps.{IsBlocked, IsFetched, IsGranted, IsPosted, TellsReady, TellsReap, TellsStep};
+
+use crate::answers::{BlockedStep, FetchedWork, GrantedUnit, ReadyStep, step_in};
+use crate::controller::NO_HANDLE;
+use crate::held::{Handle, put_in, take_out};
+use std::alloc::Global;
+
+const NOTHING_READY: u32 = 105;
+
+/// Fetches the next command, or fused pair, of a submission queue, as a ticket: 0, and what that has to do; or the
+/// number of the refusal; or 101 where the handle owns nothing. `work` is written at 0 alone.
+#[unsafe(no_mangle)]
+#[tactic(auto, using(crate::proofs::Marks::told_ok, crate::proofs::Marks::told_err))]
+pub extern "C" fn vandrexu_controller_fetch(
+    alloc: Global,
+    controller: &mut Handle,
+    queue: u16,
+    work: &mut FetchedWork,
+) -> u32
+    ensures no_handle { controller.old.held.core ≡ None → (result ≡ 101) × (controller.new.held.core ≡ None) }
+    ensures serves { (m : MachineState) → controller.old.held.core ≡ Some m →
+        KeepsMachine controller.new.held.core (TellsStep m (TheStep.Fetch queue) (IsFetched work.new) result) }
+    ensures kept { (result ≡ 0 → ⊥) → work.new ≡ work.old }
+{
+    let Some(mut machine) = take_out(alloc, controller) else {
+        return NO_HANDLE;
+    };
+    let done = machine.as_mut().fetch(queue);
+    put_in(controller, machine);
+    match done {
+        Ok(told) => {
+            *work = told;
+            0
+        }
+        Err(number) => number,
+    }
+}
+
+/// Begins the next unit of a ticket: 0, and its blocks; or the number of the refusal; or 101 where the handle owns
+/// nothing. `granted` is written at 0 alone.
+#[unsafe(no_mangle)]
+#[tactic(auto, using(crate::proofs::Marks::told_ok, crate::proofs::Marks::told_err))]
+pub extern "C" fn vandrexu_controller_grant(
+    alloc: Global,
+    controller: &mut Handle,
+    ticket: u64,
+    granted: &mut GrantedUnit,
+) -> u32
+    ensures no_handle { controller.old.held.core ≡ None → (result ≡ 101) × (controller.new.held.core ≡ None) }
+    ensures serves { (m : MachineState) → controller.old.held.core ≡ Some m →
+        KeepsMachine controller.new.held.core (TellsStep m (TheStep.Grant ticket) (IsGranted granted.new) result) }
+    ensures kept { (result ≡ 0 → ⊥) → granted.new ≡ granted.old }
+{
+    let Some(mut machine) = take_out(alloc, controller) else {
+        return NO_HANDLE;
+    };
+    let done = machine.as_mut().grant(ticket);
+    put_in(controller, machine);
+    match done {
+        Ok(told) => {
+            *granted = told;
+            0
+        }
+        Err(number) => number,
+    }
+}
+
+/// Makes the next block of a ticket's open unit: 0, and what it found and did; or the number of the refusal; or 101
+/// where the handle owns nothing. `blocked` is written at 0 alone.
+#[unsafe(no_mangle)]
+#[tactic(auto, using(crate::proofs::Marks::told_ok, crate::proofs::Marks::told_err))]
+pub extern "C" fn vandrexu_controller_block(
+    alloc: Global,
+    controller: &mut Handle,
+    ticket: u64,
+    blocked: &mut BlockedStep,
+) -> u32
+    ensures no_handle { controller.old.held.core ≡ None → (result ≡ 101) × (controller.new.held.core ≡ None) }
+    ensures serves { (m : MachineState) → controller.old.held.core ≡ Some m →
+        KeepsMachine controller.new.held.core (TellsStep m (TheStep.Block ticket) (IsBlocked blocked.new) result) }
+    ensures kept { (result ≡ 0 → ⊥) → blocked.new ≡ blocked.old }
+{
+    let Some(mut machine) = take_out(alloc, controller) else {
+        return NO_HANDLE;
+    };
+    let done = machine.as_mut().block(ticket);
+    put_in(controller, machine);
+    match done {
+        Ok(told) => {
+            *blocked = told;
+            0
+        }
+        Err(number) => number,
+    }
+}
+
+/// Posts the next completion of a ticket: 0, and its 16 bytes; or the number of the refusal; or 101 where the handle
+/// owns nothing. `cqe` is written at 0 alone.
+#[unsafe(no_mangle)]
+#[tactic(auto, using(crate::proofs::Marks::told_ok, crate::proofs::Marks::told_err))]
+pub extern "C" fn vandrexu_controller_post(
+    alloc: Global,
+    controller: &mut Handle,
+    ticket: u64,
+    cqe: &mut [u8; 16],
+) -> u32
+    ensures no_handle { controller.old.held.core ≡ None → (result ≡ 101) × (controller.new.held.core ≡ None) }
+    ensures serves { (m : MachineState) → controller.old.held.core ≡ Some m →
+        KeepsMachine controller.new.held.core (TellsStep m (TheStep.Post ticket) (IsPosted cqe.new) result) }
+    ensures kept { (result ≡ 0 → ⊥) → cqe.new ≡ cqe.old }
+{
+    let Some(mut machine) = take_out(alloc, controller) else {
+        return NO_HANDLE;
+    };
+    let done = machine.as_mut().post(ticket);
+    put_in(controller, machine);
+    match done {
+        Ok(told) => {
+            *cqe = told;
+            0
+        }
+        Err(number) => number,
+    }
+}
+
+/// Takes the next completion of a completion queue: 0, its 16 bytes, and how many bytes a successful Read read, which
+/// the controller keeps until the next Reap; or the number of the refusal; or 101 where the handle owns nothing. `cqe`
+/// and `count` are written at 0 alone.
+#[unsafe(no_mangle)]
+#[tactic(auto, using(crate::proofs::Marks::told_ok, crate::proofs::Marks::told_err))]
+pub extern "C" fn vandrexu_controller_reap(
+    alloc: Global,
+    controller: &mut Handle,
+    queue: u16,
+    cqe: &mut [u8; 16],
+    count: &mut usize,
+) -> u32
+    ensures no_handle { controller.old.held.core ≡ None → (result ≡ 101) × (controller.new.held.core ≡ None) }
+    ensures serves { (m : MachineState) → controller.old.held.core ≡ Some m →
+        KeepsMachine controller.new.held.core (TellsReap m (TheStep.Reap queue) cqe.new count.new result) }
+    ensures kept { (result ≡ 0 → ⊥) → (cqe.new ≡ cqe.old) × (count.new ≡ count.old) }
+{
+    let Some(mut machine) = take_out(alloc, controller) else {
+        return NO_HANDLE;
+    };
+    let done = machine.as_mut().reap(queue);
+    let length = machine.as_ref().payload.len();
+    put_in(controller, machine);
+    match done {
+        Ok(taken) => {
+            *cqe = taken;
+            *count = length;
+            0
+        }
+        Err(number) => number,
+    }
+}
+
+/// The Grant, Block or Post of the least ticket that can go on by itself: 0; or 105 where none can; or 101 where the
+/// handle owns nothing. `step` is written at 0 alone.
+#[unsafe(no_mangle)]
+pub extern "C" fn vandrexu_controller_ready(
+    alloc: Global,
+    controller: &mut Handle,
+    step: &mut ReadyStep,
+) -> u32
+    ensures no_handle { controller.old.held.core ≡ None → result ≡ 101 }
+    ensures same { controller.new.held.core ≡ controller.old.held.core }
+    ensures tells { (m : MachineState) → controller.old.held.core ≡ Some m →
+        TellsReady (ready m.core.config m.core.past) result step.new }
+    ensures kept { (result ≡ 0 → ⊥) → step.new ≡ step.old }
+{
+    let Some(machine) = take_out(alloc, controller) else {
+        return NO_HANDLE;
+    };
+    let found = machine.as_ref().core.ready();
+    put_in(controller, machine);
+    let Some(next) = found else {
+        return NOTHING_READY;
+    };
+    match step_in(&next) {
+        Some(told) => {
+            *step = told;
+            0
+        }
+        None => unreachable!(),
+    }
+}

@@ -1,0 +1,242 @@
+/* Vandrexu for C: an NVM Express controller in memory, around the fused Compare and Write, and a checker of histories.
+ *
+ * Link libvandrexu_c.a and heap.c, which calls malloc, realloc and free of the program. Nothing here waits, starts a
+ * thread, takes a lock, or reads or writes anything but the memory that it is given and that it allocates. docs/LIBRARY.md
+ * has a first program, and says what is proved of a call.
+ *
+ * Of every call: no pointer is null, also where a count is 0; what an argument points to is the caller's own, is not in
+ * what a handle owns, and no two arguments overlap, but where both are only read. A call is not made from a signal
+ * handler, nor from a child that a process with threads forked. What a call is answered is proved for all else. */
+#ifndef VANDREXU_H
+#define VANDREXU_H
+
+#include <assert.h>
+#include <stddef.h>
+#include <stdint.h>
+
+#ifdef __cplusplus
+extern "C" {
+#define VANDREXU_LAYOUT(what) static_assert(what, "layout")
+#else
+#define VANDREXU_LAYOUT(what) _Static_assert(what, "layout")
+#endif
+
+#define VANDREXU_VERSION "0.1.0"
+
+/* What a call answers: 0, or a number that says why not. All but 0 leave everything as before, but where a call says
+ * otherwise. */
+enum vandrexu_status {
+    VANDREXU_DONE = 0,
+    /* why a step is refused, as in the texts of casdisk */
+    VANDREXU_NO_QUEUE = 1,
+    VANDREXU_NO_ROOM = 2,
+    VANDREXU_NO_ENTRY = 3,
+    VANDREXU_JOBS_FULL = 4,
+    VANDREXU_NO_TICKET = 5,
+    VANDREXU_CONFLICT = 6,
+    VANDREXU_WRONG_STATE = 7,
+    VANDREXU_CQ_FULL = 8,
+    VANDREXU_NO_COMPLETION = 9,
+    VANDREXU_BAD_BATCH = 10,
+    VANDREXU_NO_MEMORY = 11, /* also of every other call that allocates */
+    /* why a configuration is refused */
+    VANDREXU_AWUN_TOO_LARGE = 21,
+    VANDREXU_ACWU_TOO_LARGE = 22,
+    VANDREXU_BOUNDARY_BELOW_UNIT = 23,
+    VANDREXU_OFFSET_PAST_BOUNDARY = 24,
+    VANDREXU_BAD_BLOCKS = 25,
+    VANDREXU_BAD_PAIRS = 26,
+    VANDREXU_BAD_SQ_SIZE = 27,
+    VANDREXU_BAD_CQ_SIZE = 28,
+    VANDREXU_BAD_JOBS = 29,
+    VANDREXU_BAD_CQS = 30,
+    /* of these calls alone */
+    VANDREXU_NO_HANDLE = 101,     /* the handle owns nothing */
+    VANDREXU_IN_USE = 102,        /* the handle owns something already */
+    VANDREXU_TOO_SMALL = 103,     /* the room is too small; *needed says how much is wanted */
+    VANDREXU_NO_BLOCK = 104,      /* the volume has no such block */
+    VANDREXU_NOTHING_READY = 105, /* no ticket can go on by itself */
+    VANDREXU_BAD_ENTRY = 106,     /* the data aren't just those of the entries */
+    VANDREXU_BAD_LINE = 107,      /* no line of a history */
+    VANDREXU_NOT_LEGAL = 108      /* the history with this line isn't legal */
+};
+
+/* A handle lies in the caller's memory. It is zeros before its `_new` and after its `_free`. Between them the caller
+ * neither reads its fields for anything nor writes them. It may be moved, as by memcpy, if the old place is not used
+ * again: two that own the same would free it twice. One call at a time has it. It may be used on another thread than
+ * before, if the caller orders the two uses, by a lock or a join. */
+typedef struct vandrexu_controller {
+    void *at;
+    uint32_t live;
+} vandrexu_controller;
+
+typedef struct vandrexu_checker {
+    void *at;
+    uint32_t live;
+} vandrexu_checker;
+
+#define VANDREXU_CONTROLLER_NONE {0, 0}
+#define VANDREXU_CHECKER_NONE {0, 0}
+
+/* ---- A configuration ---- */
+
+typedef struct vandrexu_config {
+    uint32_t blocks;  /* of 512 bytes, 1 to 65536 */
+    uint16_t awun;    /* the most blocks of a unit, 0's based, 0 to 255 */
+    uint16_t acwu;    /* the most blocks of a fused pair, 0's based, 0 to 255 */
+    uint16_t nabsn;   /* blocks from a boundary to the next, 0's based; 0 is for none */
+    uint16_t nabo;    /* the block of the first boundary */
+    uint16_t pairs;   /* submission queues, numbered from 1, 1 to 16 */
+    uint16_t sq_size; /* slots of a submission queue, 2 to 1024 */
+    uint16_t cq_size; /* slots of a completion queue, 2 to 1024 */
+    uint16_t jobs;    /* the most tickets in flight, 1 to 256 */
+    uint16_t cqs;     /* completion queues, 1 to pairs */
+} vandrexu_config;
+
+/* 0, or the first of the faults 21 to 30 that holds. */
+uint32_t vandrexu_config_fault(const vandrexu_config *config);
+
+/* ---- A controller ---- */
+
+/* 0, and the handle owns a controller with no history and blocks of zeros; 11, 21 to 30, VANDREXU_IN_USE. */
+uint32_t vandrexu_controller_new(const vandrexu_config *config, vandrexu_controller *controller);
+
+/* Frees it, and leaves the handle zeros. Nothing is done to one that owns nothing. */
+void vandrexu_controller_free(vandrexu_controller *controller);
+
+/* Makes the memory of the next `more` Grants, Blocks and Reaps, so that none of them is answered 11. */
+uint32_t vandrexu_controller_reserve(vandrexu_controller *controller, size_t more);
+
+/* A submission queue entry, and how many bytes of data belong to it. */
+typedef struct vandrexu_entry {
+    uint8_t bytes[64];
+    size_t count;
+} vandrexu_entry;
+
+/* Publishes all entries, or none. The data of the entries lies one behind the other in `data`, and nothing else does:
+ * else VANDREXU_BAD_ENTRY. */
+uint32_t vandrexu_controller_publish(vandrexu_controller *controller, uint16_t queue, const vandrexu_entry *entries,
+                                     size_t count, const uint8_t *data, size_t data_length);
+
+enum vandrexu_kind { VANDREXU_FAILED = 1, VANDREXU_FLUSH = 2, VANDREXU_UNITS = 3, VANDREXU_PAIR = 4 };
+enum vandrexu_op { VANDREXU_READ = 1, VANDREXU_COMPARE = 2, VANDREXU_WRITE = 3, VANDREXU_WRITE_ZEROES = 4 };
+enum vandrexu_mode { VANDREXU_SHARED = 1, VANDREXU_EXCLUSIVE = 2 };
+enum vandrexu_found { VANDREXU_FOUND_READ = 1, VANDREXU_EQUAL = 2, VANDREXU_DIFFERS = 3, VANDREXU_WRITTEN = 4 };
+
+/* What a fetched ticket has to do. What a kind does not have is 0. */
+typedef struct vandrexu_work {
+    uint64_t ticket; /* numbered from 1 */
+    uint64_t slba;
+    uint32_t blocks;
+    uint32_t kind;
+    uint32_t op;       /* of VANDREXU_UNITS */
+    uint32_t statuses; /* of VANDREXU_FAILED: 1 or 2 */
+} vandrexu_work;
+
+uint32_t vandrexu_controller_fetch(vandrexu_controller *controller, uint16_t queue, vandrexu_work *work);
+
+typedef struct vandrexu_granted {
+    uint64_t unit; /* of the ticket, from 0 */
+    uint64_t slba;
+    uint32_t blocks;
+    uint32_t mode;
+} vandrexu_granted;
+
+uint32_t vandrexu_controller_grant(vandrexu_controller *controller, uint64_t ticket, vandrexu_granted *granted);
+
+typedef struct vandrexu_blocked {
+    uint64_t lba;
+    uint32_t found;
+    uint8_t effect; /* 1: the unit takes effect by this step */
+    uint8_t ended;  /* 1: the unit has ended */
+    uint8_t zeros[2];
+} vandrexu_blocked;
+
+uint32_t vandrexu_controller_block(vandrexu_controller *controller, uint64_t ticket, vandrexu_blocked *blocked);
+
+/* `cqe` is 16 bytes. */
+uint32_t vandrexu_controller_post(vandrexu_controller *controller, uint64_t ticket, uint8_t *cqe);
+
+/* Reaps the next completion of a completion queue: `cqe` is 16 bytes, and *count is how many bytes a successful Read
+ * read, else 0. They stay with the controller until the next Reap, and are had by vandrexu_controller_data. */
+uint32_t vandrexu_controller_reap(vandrexu_controller *controller, uint16_t queue, uint8_t *cqe, size_t *count);
+
+/* Copies the data of the last reaped completion: *needed bytes; VANDREXU_TOO_SMALL. */
+uint32_t vandrexu_controller_data(vandrexu_controller *controller, uint8_t *out, size_t room, size_t *needed);
+
+/* A Grant, Block or Post, which names a ticket. */
+enum vandrexu_step_kind { VANDREXU_STEP_GRANT = 2, VANDREXU_STEP_BLOCK = 3, VANDREXU_STEP_POST = 4 };
+typedef struct vandrexu_step {
+    uint64_t ticket;
+    uint32_t kind;
+} vandrexu_step;
+
+/* The step of the least ticket that can go on; VANDREXU_NOTHING_READY. It isn't made: see vandrexu_settle below. */
+uint32_t vandrexu_controller_ready(vandrexu_controller *controller, vandrexu_step *step);
+
+/* The block as it lies in the volume: `out` is 512 bytes; VANDREXU_NO_BLOCK. */
+uint32_t vandrexu_controller_medium(vandrexu_controller *controller, uint64_t lba, uint8_t *out);
+
+/* How many entries the history has. */
+uint32_t vandrexu_controller_history_count(vandrexu_controller *controller, uint64_t *count);
+
+/* ---- A checker of histories, which keeps no line ---- */
+
+/* 0, and the handle owns a checker of histories of this configuration that has taken no line; 11, 21 to 30,
+ * VANDREXU_IN_USE. */
+uint32_t vandrexu_checker_new(const vandrexu_config *config, vandrexu_checker *checker);
+
+/* Frees it, and leaves the handle zeros. Nothing is done to one that owns nothing. */
+void vandrexu_checker_free(vandrexu_checker *checker);
+
+/* Takes the next line of a history, an entry's, without its line feed: 0 where all lines so far are legal;
+ * VANDREXU_NOT_LEGAL where they aren't, and from then on for each; VANDREXU_BAD_LINE and 11, where it isn't taken. The
+ * configuration's line, which a history's file begins with, is no entry's. */
+uint32_t vandrexu_checker_take_line(vandrexu_checker *checker, const uint8_t *line, size_t length);
+
+/* What the next line would be answered; it isn't taken: 0; VANDREXU_NOT_LEGAL, and `out` begins with the words of the
+ * first rule that it breaks, *needed bytes; VANDREXU_TOO_SMALL for those words, *needed says how many they are;
+ * VANDREXU_BAD_LINE; 11. */
+uint32_t vandrexu_checker_why(vandrexu_checker *checker, const uint8_t *line, size_t length, uint8_t *out, size_t room,
+                              size_t *needed);
+
+/* ---- Of these calls alone, nothing of which is proved by itself ---- */
+
+/* Makes what is ready until nothing is: 0, or the first other answer, which is 11 or VANDREXU_NO_HANDLE. */
+static inline uint32_t vandrexu_settle(vandrexu_controller *controller)
+{
+    for (;;) {
+        vandrexu_step step;
+        vandrexu_granted granted;
+        vandrexu_blocked blocked;
+        uint8_t cqe[16];
+        uint32_t status = vandrexu_controller_ready(controller, &step);
+        if (status == VANDREXU_NOTHING_READY)
+            return VANDREXU_DONE;
+        if (status != VANDREXU_DONE)
+            return status;
+        if (step.kind == VANDREXU_STEP_GRANT)
+            status = vandrexu_controller_grant(controller, step.ticket, &granted);
+        else if (step.kind == VANDREXU_STEP_BLOCK)
+            status = vandrexu_controller_block(controller, step.ticket, &blocked);
+        else
+            status = vandrexu_controller_post(controller, step.ticket, cqe);
+        if (status != VANDREXU_DONE)
+            return status;
+    }
+}
+
+VANDREXU_LAYOUT(sizeof(void *) == 8 && sizeof(size_t) == 8);
+VANDREXU_LAYOUT(sizeof(vandrexu_controller) == 16 && offsetof(vandrexu_controller, live) == 8);
+VANDREXU_LAYOUT(sizeof(vandrexu_checker) == 16 && offsetof(vandrexu_checker, live) == 8);
+VANDREXU_LAYOUT(sizeof(vandrexu_config) == 24 && offsetof(vandrexu_config, cqs) == 20);
+VANDREXU_LAYOUT(sizeof(vandrexu_entry) == 72 && offsetof(vandrexu_entry, count) == 64);
+VANDREXU_LAYOUT(sizeof(vandrexu_work) == 32 && offsetof(vandrexu_work, statuses) == 28);
+VANDREXU_LAYOUT(sizeof(vandrexu_granted) == 24 && offsetof(vandrexu_granted, mode) == 20);
+VANDREXU_LAYOUT(sizeof(vandrexu_blocked) == 16 && offsetof(vandrexu_blocked, ended) == 13);
+VANDREXU_LAYOUT(sizeof(vandrexu_step) == 16 && offsetof(vandrexu_step, kind) == 8);
+
+#ifdef __cplusplus
+}
+#endif
+#endif
