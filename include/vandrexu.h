@@ -1,6 +1,6 @@
 /* Vandrexu for C: an NVM Express controller in memory, around the fused Compare and Write, and a checker of histories.
  *
- * Link libvandrexu_c.a and heap.c, which calls malloc, realloc and free of the program. Nothing here waits, starts a
+ * Link libvandrexu_c.a. It takes its memory from malloc, realloc and free of the program. Nothing here waits, starts a
  * thread, takes a lock, or reads or writes anything but the memory that it is given and that it allocates. docs/LIBRARY.md
  * has a first program, and says what is proved of a call.
  *

@@ -1,27 +1,27 @@
 -- How a conversation ends.
-use Rattle.std.proofs.Common.{◌≡◌, ◌∙◌, ◌∷◌, Bool, List, Option, None, Some, ℕ, Result, Ok, Err, inl, inr, subst, sym}
+use Rattle.std.proofs.Common.{◌≡◌, ◌∙◌, ◌∷◌, List, Option, None, Some, ℕ, Result, Ok, Err, inl, inr, refl}
 use Rattle.std.specs.Prelude.{IfSome}
 use Rattle.std.specs.Io.KnownBytes.{IsAtEnd}
 use Rattle.line_text.specs.Lines.{with_feeds}
 use Rattle.shrink_lines.specs.declared.shrinking.Shrunk.{Shrunk}
 use Rattle.shrink_lines.specs.declared.shrinking.Shrunk.TheVariants.{Passes, Smallest}
-use Rattle.shrunk_text.specs.Shrinking.{Begins, Converses, ShrinksText}
+use Rattle.shrunk_text.specs.Shrinking.{Begins, Converses, ShrinksText, StoppedBehind}
+use Rattle.shrunk_text.specs.Talk.{SaysTry, StopsTalk}
 use Rattle.shrunk_text.specs.Texts.{script_text}
 use Rattle.shrunk_text.specs.declared.conversation.Conversation.{Conversation}
 use Rattle.shrunk_text.specs.declared.fault.ShrinkFault.{ShrinkFault}
 use Rattle.shrunk_text.specs.declared.fault.ShrinkFault.TheVariants.{BadAnswer, Ended, Input, NoMemory, Output, Script}
 use Rattle.shrunk_text.proofs.LinesOut.{feeds_next}
 use Rattle.shrink_lines.specs.Shrinking.{ShrinksLines}
-use Rattle.shrink_lines.specs.Smaller.{HasPart}
 use Rattle.shrink_lines.specs.declared.question.Unanswered.{Unanswered}
-use Rattle.shrink_lines.proofs.Parts.{part_refl}
 
--- a part is left where there was no answer
-pub part_left : {Q : Type 0} (asks : Q → List (List ℕ) → Bool → Q → Type 0)
-    (stops : Q → List (List ℕ) → Unanswered → Q → Type 0) (first after : Q) (whole lines : List (List ℕ)) (n : ℕ)
-    (why : Unanswered) → ShrinksLines asks stops first after whole lines n (Err why) → HasPart whole lines
-part_left asks stops first after whole lines n why (inl h) = subst (HasPart whole) (sym h.0) (part_refl whole)
-part_left asks stops first after whole lines n why (inr s) = s.before.part
+-- the smallest lines so far, where there was no answer
+pub stopped : {R W : Type 0} (contents : W → Option (List ℕ)) (remaining : R → Option (List ℕ))
+    (begun after : Conversation R W) (whole lines : List (List ℕ)) (why : Unanswered)
+    → ShrinksLines (SaysTry contents remaining) StopsTalk begun after whole lines 4000 (Err why)
+    → StoppedBehind contents remaining begun after whole lines why
+stopped contents remaining begun after whole lines why (inl h) = (begun, inl (refl, h.0), inr (whole, h.1))
+stopped contents remaining begun after whole lines why (inr s) = (s.mid, inr s.before, s.last)
 
 module _ {R W : Type 0} (contents : W → Option (List ℕ)) (remaining : R → Option (List ℕ)) (old : Conversation R W)
     (first : List ℕ) (whole : List (List ℕ)) (begun after : Conversation R W) (b : Begins old first begun) where

@@ -2,7 +2,7 @@
 use Rattle.std.proofs.Common.{List, Option, [], append-nil, append_assoc, ap, refl, sym, ℕ, ◌++◌, ◌∙◌, ◌∷◌, ◌≡◌}
 use Rattle.std.proofs.Common.{None, Some}
 use Rattle.std.specs.Prelude.{IfSome}
-use Rattle.std.specs.Io.KnownBytes.{Consumes, IsAtEnd}
+use Rattle.std.specs.Io.KnownBytes.{IsAtEnd}
 use Rattle.line_text.specs.Lines.{GivesBytes, with_feeds}
 use Rattle.shrunk_text.proofs.LinesOut.{feeds_none}
 

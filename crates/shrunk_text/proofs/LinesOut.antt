@@ -1,5 +1,5 @@
 -- Lines as a text, one by one.
-use Rattle.std.proofs.Common.{List, Option, [], append-nil, append_assoc, ap, arith, drop, get_or, length, refl, subst}
+use Rattle.std.proofs.Common.{List, Option, [], append-nil, append_assoc, ap, drop, get_or, length, refl, subst}
 use Rattle.std.proofs.Common.{sym, ℕ, ◌+◌, ◌++◌, ◌<◌, ◌∙◌, ◌∷◌, ◌≡◌, ◌≤◌}
 use Rattle.std.proofs.lemmas.List.{drop_all, drop_more}
 use Rattle.std.proofs.KnownBytes.{Appends-trans}

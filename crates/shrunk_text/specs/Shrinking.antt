@@ -1,15 +1,15 @@
 -- What a conversation makes of a script.
-use Rattle.std.specs.Prelude.{ℕ, Bool, List, Option, Result, Ok, Err, IfSome, false, ◌≡◌}
+use Rattle.std.specs.Prelude.{ℕ, List, Option, Result, Ok, Err, IfSome, false, ◌≡◌, ◌⊎◌}
 use Rattle.std.specs.Io.KnownBytes.{Appends, IsAtEnd}
-use Rattle.shrink_lines.specs.Shrinking.{IsSmallest, most_asked}
-use Rattle.shrink_lines.specs.Smaller.{HasPart}
+use Rattle.shrink_lines.specs.Shrinking.{IsSmallest, StillFails, most_asked}
+use Rattle.shrink_lines.specs.declared.question.Unanswered.{Unanswered}
 use Rattle.shrink_lines.specs.declared.shrinking.Shrunk.{Shrunk}
 use Rattle.shrink_lines.specs.declared.shrinking.Shrunk.TheVariants.{Passes, Smallest}
-use Rattle.shrunk_text.specs.Talk.{SaysTry}
+use Rattle.shrunk_text.specs.Talk.{SaysTry, StopsTalk}
 use Rattle.shrunk_text.specs.Texts.{script_text, smallest_text}
 use Rattle.shrunk_text.specs.declared.conversation.Conversation.{Conversation}
 use Rattle.shrunk_text.specs.declared.fault.ShrinkFault.{ShrinkFault}
-use Rattle.shrunk_text.specs.declared.fault.ShrinkFault.TheVariants.{BadAnswer, Ended, Input, NoMemory, Output, Script}
+use Rattle.shrunk_text.specs.declared.fault.ShrinkFault.TheVariants.{BadAnswer, Ended, Script}
 
 -- the conversation has this first line, and is else as it was
 pub record Begins {R W : Type 0} (old : Conversation R W) (first : List ℕ) (begun : Conversation R W) : Type 0 where
@@ -26,9 +26,23 @@ abbrev pub TellsSmallest : {R W : Type 0} → (W → Option (List ℕ)) → (mid
 TellsSmallest contents mid after lines =
     Appends (contents mid.writer) (contents after.writer) (smallest_text mid.failing mid.first.items lines)
 
+-- The smallest lines so far: all of them, where there was no answer yet, or lines that were answered to fail.
+abbrev pub AreSmallestSoFar : {R W : Type 0} → (W → Option (List ℕ)) → (R → Option (List ℕ)) →
+    (begun mid : Conversation R W) → (whole lines : List (List ℕ)) → Type 0
+AreSmallestSoFar contents remaining begun mid whole lines =
+    ((mid ≡ begun) × (lines ≡ whole))
+    ⊎ StillFails (SaysTry contents remaining) begun mid whole lines (most_asked whole 4000)
+
+-- These were the smallest lines so far, when there was no answer about some candidate, for this reason, or no memory.
+abbrev pub StoppedBehind : {R W : Type 0} → (W → Option (List ℕ)) → (R → Option (List ℕ)) →
+    (begun after : Conversation R W) → (whole lines : List (List ℕ)) → Unanswered → Type 0
+StoppedBehind {R} {W} contents remaining begun after whole lines why =
+    (mid : Conversation R W) × AreSmallestSoFar contents remaining begun mid whole lines
+    × ((mid ≡ after) ⊎ ((candidate : List (List ℕ)) × StopsTalk mid candidate why after))
+
 -- By what was answered about the lines behind the first: the smallest lines, by the candidates and the answers about
--- them, were written; the one candidate, all lines, passed; or the answers ended, and a part of the lines with some
--- words made smaller was written as the smallest so far.
+-- them, were written; the one candidate, all lines, passed; the answers ended, and the smallest lines so far were
+-- written; or an answer was none, and the number of its candidate is told.
 abbrev pub Converses : {R W : Type 0} → (W → Option (List ℕ)) → (R → Option (List ℕ)) → Conversation R W →
     List (List ℕ) → Result Shrunk ShrinkFault → Conversation R W → Type 0
 Converses {R} {W} contents remaining begun whole (Ok Smallest) after =
@@ -37,7 +51,12 @@ Converses {R} {W} contents remaining begun whole (Ok Smallest) after =
     × TellsSmallest contents mid after lines
 Converses contents remaining begun whole (Ok Passes) after = SaysTry contents remaining begun whole false after
 Converses {R} {W} contents remaining begun whole (Err Ended) after =
-    (mid : Conversation R W) × (lines : List (List ℕ)) × HasPart whole lines × TellsSmallest contents mid after lines
+    (last : Conversation R W) × (lines : List (List ℕ))
+    × StoppedBehind contents remaining begun last whole lines Unanswered.Ended
+    × TellsSmallest contents last after lines
+Converses contents remaining begun whole (Err (BadAnswer number)) after =
+    (number ≡ after.tries)
+    × ((lines : List (List ℕ)) × StoppedBehind contents remaining begun after whole lines Unanswered.BadAnswer)
 Converses contents remaining begun whole (Err (Script fault)) after = ⊥
 Converses contents remaining begun whole (Err fault) after = Unit {0}
 

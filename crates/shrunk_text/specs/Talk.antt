@@ -4,6 +4,7 @@ use Rattle.std.specs.Io.KnownBytes.{Appends}
 use Rattle.line_text.specs.Lines.{GivesLine}
 use Rattle.line_text.specs.declared.lines.NextLine.{NextLine}
 use Rattle.shrink_lines.specs.declared.question.Unanswered.{Unanswered}
+use Rattle.shrink_lines.specs.declared.question.Unanswered.TheVariants.{BadAnswer, Ended, Input, NoMemory, Output}
 use Rattle.shrunk_text.specs.Texts.{answer_word, try_text}
 use Rattle.shrunk_text.specs.declared.conversation.Conversation.{Conversation}
 
@@ -19,6 +20,15 @@ pub record SaysTry {R W : Type 0} (contents : W → Option (List ℕ)) (remainin
   pub tries : after.tries ≡ before.tries + 1
   pub failing : after.failing ≡ (if fails then before.tries + 1 else before.failing)
 
--- There was no answer, for this reason; the first line of the script is as it was.
+-- Where an answer was missing, or was none, the candidate had the next number; else it may not have been written.
+abbrev pub StopsAt : {R W : Type 0} → (before after : Conversation R W) → Unanswered → Type 0
+StopsAt before after BadAnswer = after.tries ≡ before.tries + 1
+StopsAt before after Ended = after.tries ≡ before.tries + 1
+StopsAt before after Input = after.tries ≡ before.tries + 1
+StopsAt before after Output = Unit {0}
+StopsAt before after NoMemory = Unit {0}
+
+-- There was no answer, for this reason; the first line of the script, and which candidate failed last, are as before.
 abbrev pub StopsTalk : {R W : Type 0} → Conversation R W → List (List ℕ) → Unanswered → Conversation R W → Type 0
-StopsTalk before lines why after = after.first.items ≡ before.first.items
+StopsTalk before lines why after =
+    (after.first.items ≡ before.first.items) × (after.failing ≡ before.failing) × StopsAt before after why

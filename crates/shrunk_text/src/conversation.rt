@@ -1,9 +1,10 @@
 //! A conversation about candidates.
 
-ghost use Rattle.std.specs.Prelude.{◌+◌, ◌≡◌, IfOk, OnOk, Some, [], codes, false, true};
+ghost use Rattle.std.specs.Prelude.{◌+◌, ◌≡◌, ◌⊎◌, IfErr, IfOk, OnOk, Some, [], codes, false, true};
 ghost use Rattle.std.specs.Io.KnownBytes.{Appends};
 ghost use Rattle.line_text.specs.Lines.{GivesLine};
 ghost use Rattle.line_text.specs.declared.lines.NextLine.{NextLine as TheNext};
+ghost use Rattle.shrink_lines.specs.declared.question.Unanswered.TheVariants.{NoMemory as NoRoom, Output as NoOutput};
 ghost use Rattle.shrunk_text.specs.Talk.{SaysTry, StopsTalk};
 ghost use Rattle.shrunk_text.specs.Texts.{answer_word, try_text};
 
@@ -95,6 +96,7 @@ impl<R: Read, W: Write> Conversation<R, W> {
         ensures kept { (self.new.answers ≡ self.old.answers) × (self.new.ahead ≡ self.old.ahead)
             × (self.new.first.items ≡ self.old.first.items) × (self.new.failing ≡ self.old.failing) }
         ensures asked { OnOk result (self.new.tries ≡ self.old.tries + 1) }
+        ensures fault { IfErr result (λ why. (why ≡ NoOutput) ⊎ (why ≡ NoRoom)) }
         ensures whole { OnOk result (Appends (W.contents self.old.writer) (W.contents self.new.writer)
             (try_text (self.old.tries + 1) self.old.first.items lines.now)) }
     {

@@ -1,15 +1,29 @@
-use Rattle.shrunk_text.specs.Talk.{SaysTry, StopsTalk}
-use Rattle.shrunk_text.proofs.Ending.{part_left}
+use Rattle.std.proofs.Common.{refl}
+use Rattle.shrink_lines.specs.declared.question.Unanswered.TheVariants.{BadAnswer, Ended}
+use Rattle.shrunk_text.proofs.Ending.{stopped}
 use Rattle.shrunk_text.proofs.shrinking.give_up.Goals as goal
 
 pub returns-in-Ok : goal.returns-in-Ok
 returns-in-Ok g c =
     record {
-      converses = λ begun whole h. (
-        c.args.talk.now,
-        c.args.lines.now,
-        part_left (SaysTry g.W.Write.contents g.R.Read.remaining) StopsTalk begun c.args.talk.now whole c.args.lines.now
-            4000 c.args.why h,
-        c.in-Ok.ensures.told,
-      );
+      converses = λ begun whole h.
+          let s = rw c.in-Ended.is at h in (
+            c.args.talk.now,
+            c.args.lines.now,
+            stopped g.W.Write.contents g.R.Read.remaining begun c.args.talk.now whole c.args.lines.now Ended s,
+            c.in-Ok.ensures.told,
+          );
+    }
+
+pub returns-in-BadAnswer : goal.returns-in-BadAnswer
+returns-in-BadAnswer g c =
+    record {
+      converses = λ begun whole h.
+          let s = rw c.in-BadAnswer.is at h in (
+            refl,
+            (
+              c.args.lines.now,
+              stopped g.W.Write.contents g.R.Read.remaining begun c.args.talk.now whole c.args.lines.now BadAnswer s,
+            ),
+          );
     }
