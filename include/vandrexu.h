@@ -58,7 +58,11 @@ enum vandrexu_status {
     VANDREXU_NOTHING_READY = 105, /* no ticket can go on by itself */
     VANDREXU_BAD_ENTRY = 106,     /* the data aren't just those of the entries */
     VANDREXU_BAD_LINE = 107,      /* no line of a history */
-    VANDREXU_NOT_LEGAL = 108      /* the history with this line isn't legal */
+    VANDREXU_NOT_LEGAL = 108,     /* the history with this line isn't legal */
+    VANDREXU_NOT_EXPLAINED = 109, /* the history isn't legal, or hosts saw something else of it; or no history was found */
+    VANDREXU_BAD_HISTORY = 110,   /* the history beside a trace has a line that is none, or its configuration is refused */
+    VANDREXU_OTHER_CONFIG = 111,  /* a trace and a history that don't belong together */
+    VANDREXU_GAVE_UP = 112        /* the steps of a search were used up */
 };
 
 /* A handle lies in the caller's memory. It is zeros before its `_new` and after its `_free`. Between them the caller
@@ -199,6 +203,49 @@ uint32_t vandrexu_checker_take_line(vandrexu_checker *checker, const uint8_t *li
  * VANDREXU_BAD_LINE; 11. */
 uint32_t vandrexu_checker_why(vandrexu_checker *checker, const uint8_t *line, size_t length, uint8_t *out, size_t room,
                               size_t *needed);
+
+/* ---- Whole texts, from memory to memory, as casdisk takes them ---- */
+
+/* Each gives what casdisk prints, at the begin of `out`, and *needed is its length; where `room` is less than that, the
+ * answer is VANDREXU_TOO_SMALL, and nothing is written there. *line is 0, or the line, from 1, that an answer is about.
+ * Nothing is kept between two calls. 21 to 30 are for the configuration in the text's first line. */
+
+/* The kinds of lines that a run shows: a sum of these. */
+enum vandrexu_lines {
+    VANDREXU_PUBLISH_LINES = 1,
+    VANDREXU_FETCH_LINES = 2,
+    VANDREXU_GRANT_LINES = 4,
+    VANDREXU_BLOCK_LINES = 8,
+    VANDREXU_POST_LINES = 16,
+    VANDREXU_REAP_LINES = 32,
+    VANDREXU_REFUSED_LINES = 64,
+    VANDREXU_MEDIUM_LINES = 128,
+    VANDREXU_ALL_LINES = 255
+};
+
+/* Runs a script: 0; VANDREXU_BAD_LINE with its first bad line, and the text of the lines before it; 21 to 30; 11, with a
+ * beginning of the text. */
+uint32_t vandrexu_run_text(const uint8_t *script, size_t script_length, uint8_t kinds, uint8_t *out, size_t room,
+                           size_t *needed, uint64_t *line);
+
+/* Checks a history: 0 where it is legal, VANDREXU_NOT_LEGAL where it isn't; VANDREXU_BAD_LINE with its first bad line,
+ * 21 to 30 and 11. */
+uint32_t vandrexu_check_text(const uint8_t *history, size_t history_length, uint8_t *out, size_t room, size_t *needed,
+                             uint64_t *line);
+
+/* Says whether a history explains a trace: 0 where it does, VANDREXU_NOT_EXPLAINED where it doesn't; VANDREXU_BAD_LINE
+ * with the first bad line of the trace, and 21 to 30 for its configuration; VANDREXU_BAD_HISTORY with the first bad line
+ * of the history, its first one for its configuration; VANDREXU_OTHER_CONFIG; 11. */
+uint32_t vandrexu_certify_text(const uint8_t *trace, size_t trace_length, const uint8_t *history, size_t history_length,
+                               uint8_t *out, size_t room, size_t *needed, uint64_t *line);
+
+/* Looks for a history that explains a trace, in `steps` steps at most (casdisk takes 10,000,000): 0, and the history is at
+ * the begin of `history`, *found its length; VANDREXU_NOT_EXPLAINED where none was found, of which nothing is promised, and
+ * VANDREXU_GAVE_UP; VANDREXU_BAD_LINE with the first bad line of the trace, 21 to 30 and 11. VANDREXU_TOO_SMALL is for
+ * either room. */
+uint32_t vandrexu_observe_text(const uint8_t *trace, size_t trace_length, uint64_t steps, uint8_t *history,
+                               size_t history_room, size_t *found, uint8_t *out, size_t room, size_t *needed,
+                               uint64_t *line);
 
 /* ---- Of these calls alone, nothing of which is proved by itself ---- */
 

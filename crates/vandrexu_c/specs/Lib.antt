@@ -6,3 +6,4 @@ pub mod Numbers
 pub mod Owned
 pub mod OwnedJudge
 pub mod Steps
+pub mod TextCalls

@@ -16,9 +16,9 @@ use history::{Config, Entry, LineFault, parse_line};
 use history_check::Checker;
 use std::alloc::{AllocError as NoMemory, Global};
 
-const BAD_LINE: u32 = 107;
+pub(crate) const BAD_LINE: u32 = 107;
 
-const NOT_LEGAL: u32 = 108;
+pub(crate) const NOT_LEGAL: u32 = 108;
 
 // A checker in a box.
 fn judge_of(alloc: Global, config: &Config) -> Result<Box<Judge>, NoMemory>

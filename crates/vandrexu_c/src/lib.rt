@@ -10,3 +10,4 @@ mod held;
 mod judge;
 mod machine;
 mod steps;
+mod texts;
