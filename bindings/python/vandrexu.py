@@ -188,7 +188,8 @@ class RawChecker(Structure):
 class RawConfig(Structure):
     """vandrexu_config"""
     _fields_ = [("blocks", c_uint32), ("awun", c_uint16), ("acwu", c_uint16), ("nabsn", c_uint16), ("nabo", c_uint16),
-                ("pairs", c_uint16), ("sq_size", c_uint16), ("cq_size", c_uint16), ("jobs", c_uint16), ("cqs", c_uint16)]
+                ("pairs", c_uint16), ("sq_size", c_uint16), ("cq_size", c_uint16), ("jobs", c_uint16),
+                ("cqs", c_uint16)]
 
 
 class RawEntry(Structure):
@@ -244,7 +245,8 @@ _ARGUMENTS = {
 
 def _load() -> ctypes.CDLL:
     """The shared library, each of its functions with its arguments."""
-    path = os.environ.get("VANDREXU_LIBRARY") or os.path.join(os.path.dirname(os.path.abspath(__file__)), "libvandrexu.so")
+    beside = os.path.join(os.path.dirname(os.path.abspath(__file__)), "libvandrexu.so")
+    path = os.environ.get("VANDREXU_LIBRARY") or beside
     try:
         library = ctypes.CDLL(path)
     except OSError as error:

@@ -37,8 +37,10 @@ class Calls(unittest.TestCase):
 
     def test_each_fault_of_a_configuration(self):
         rows = [
-            ("config 8 256 1 0 0 2 4 4 8", Status.AWUN_TOO_LARGE), ("config 8 1 256 0 0 2 4 4 8", Status.ACWU_TOO_LARGE),
-            ("config 8 3 1 2 0 2 4 4 8", Status.BOUNDARY_BELOW_UNIT), ("config 8 1 1 3 4 2 4 4 8", Status.OFFSET_PAST_BOUNDARY),
+            ("config 8 256 1 0 0 2 4 4 8", Status.AWUN_TOO_LARGE),
+            ("config 8 1 256 0 0 2 4 4 8", Status.ACWU_TOO_LARGE),
+            ("config 8 3 1 2 0 2 4 4 8", Status.BOUNDARY_BELOW_UNIT),
+            ("config 8 1 1 3 4 2 4 4 8", Status.OFFSET_PAST_BOUNDARY),
             ("config 0 1 1 0 0 2 4 4 8", Status.BAD_BLOCKS), ("config 65537 1 1 0 0 2 4 4 8", Status.BAD_BLOCKS),
             ("config 8 1 1 0 0 17 4 4 8", Status.BAD_PAIRS), ("config 8 1 1 0 0 2 1 4 8", Status.BAD_SQ_SIZE),
             ("config 8 1 1 0 0 2 4 1025 8", Status.BAD_CQ_SIZE), ("config 8 1 1 0 0 2 4 4 0", Status.BAD_JOBS),
@@ -51,7 +53,8 @@ class Calls(unittest.TestCase):
                 self.assertIsInstance(self.refused(fault, made, config), BadConfig)
 
     def test_the_line_of_a_configuration(self):
-        for line in ("config 8 1 1 0 0 2 4 4 8", "config2 8 1 1 0 0 2 4 4 8 1", "config 65536 0 0 7 3 16 1024 1024 256"):
+        for line in ("config 8 1 1 0 0 2 4 4 8", "config2 8 1 1 0 0 2 4 4 8 1",
+                     "config 65536 0 0 7 3 16 1024 1024 256"):
             self.assertEqual(str(Config.of_line(line)), line)
         for line in ("", "config", "config 8 1 1 0 0 2 4 4", "config 8 1 1 0 0 2 4 4 8 2", "config2 8 1 1 0 0 2 4 4 8",
                      "config2 8 1 1 0 0 2 4 4 8 2", "config 8  1 1 0 0 2 4 4 8", "config 08 1 1 0 0 2 4 4 8",
@@ -80,7 +83,7 @@ class Calls(unittest.TestCase):
             self.assertEqual(disk.step(Step(StepKind.BLOCK, 1)), Blocked(3, Found.EQUAL, True, False))
             self.assertEqual(disk.block(1), Blocked(3, Found.WRITTEN, False, True))
             self.assertEqual(disk.medium(3), A1)
-            self.assertIsInstance(self.refused(Status.NO_BLOCK, disk.medium, 8), IndexError)
+            self.assertIsInstance(self.refused(Status.NO_BLOCK, disk.medium, 8), NoBlock)
             self.assertEqual(disk.post(1).hex(), "00000000000000000200010007000100")
             disk.settle()
             self.refused(Status.NO_TICKET, disk.post, 1)
@@ -116,7 +119,8 @@ class Calls(unittest.TestCase):
     def test_arguments_that_are_none(self):
         with Controller(TWO) as disk:
             for call, arguments in ((disk.fetch, (65536,)), (disk.fetch, (-1,)), (disk.grant, (2 ** 64,)),
-                                    (disk.medium, (-1,)), (Entry.read, (65536, 0)), (Entry.read, (1, 0, 0)), (Config, (-1,))):
+                                    (disk.medium, (-1,)), (Entry.read, (65536, 0)), (Entry.read, (1, 0, 0)),
+                                    (Config, (-1,))):
                 self.assertRaises(OverflowError, call, *arguments)
             self.assertRaises(ValueError, disk.publish, 1, [Entry(bytes(63))])
             self.assertEqual(disk.history_count(), 0)
@@ -171,9 +175,10 @@ class Calls(unittest.TestCase):
         self.assertEqual([publish(byref(raw), 1, byref(entry), 1, A1, it) for it in (511, 0, 512)],
                          [Status.BAD_ENTRY, Status.BAD_ENTRY, Status.DONE])
         words = c_size_t(7)
-        why = lambda room_, size: library.vandrexu_checker_why(byref(judge), b"fetch 1 1 1 ok", 14, room_, size, byref(words))
-        self.assertEqual((why(room, 4), words.value, bytes(room)), (Status.TOO_SMALL, 28, b"\7" * 512))
-        self.assertEqual((why(room, 512), bytes(room)[:29]), (Status.NOT_LEGAL, b"refused 3: no entry to fetch\7"))
+        line = b"fetch 1 1 1 ok"
+        why = lambda size: library.vandrexu_checker_why(byref(judge), line, len(line), room, size, byref(words))
+        self.assertEqual((why(4), words.value, bytes(room)), (Status.TOO_SMALL, 28, b"\7" * 512))
+        self.assertEqual((why(512), bytes(room)[:29]), (Status.NOT_LEGAL, b"refused 3: no entry to fetch\7"))
         library.vandrexu_controller_free(byref(raw))
         library.vandrexu_checker_free(byref(judge))
 
@@ -243,8 +248,8 @@ class Calls(unittest.TestCase):
         header = re.sub(r"/\*.*?\*/", "", read("include/vandrexu.h"), flags=re.S)
         enums = {name: dict(re.findall(r"VANDREXU_(\w+) = (\d+)", members))
                  for name, members in re.findall(r"enum vandrexu_(\w+) \{(.*?)\}", header, flags=re.S)}
-        mine = {"status": (Status, ""), "kind": (Kind, ""), "op": (Op, ""), "mode": (Mode, ""), "found": (Found, "FOUND_"),
-                "step_kind": (StepKind, "STEP_")}
+        mine = {"status": (Status, ""), "kind": (Kind, ""), "op": (Op, ""), "mode": (Mode, ""),
+                "found": (Found, "FOUND_"), "step_kind": (StepKind, "STEP_")}
         self.assertEqual(set(enums), set(mine))
         for name, (enum, prefix) in mine.items():
             self.assertEqual({it.name: int(it) for it in enum},
@@ -252,8 +257,9 @@ class Calls(unittest.TestCase):
 
     def test_the_layouts_and_functions_are_those_of_the_header(self):
         header = re.sub(r"/\*.*?\*/", "", read("include/vandrexu.h"), flags=re.S)
+        pointer = ctypes.c_void_p
         kinds = {"uint8_t": c_uint8, "uint16_t": ctypes.c_uint16, "uint32_t": ctypes.c_uint32, "uint64_t": c_uint64,
-                 "size_t": c_size_t, "void *": ctypes.c_void_p}
+                 "size_t": c_size_t, "void *": pointer}
         structs = re.findall(r"typedef struct vandrexu_(\w+) \{(.*?)\}", header, flags=re.S)
         self.assertEqual(len(structs), 8)
         for name, members in structs:
@@ -266,12 +272,12 @@ class Calls(unittest.TestCase):
             self.assertEqual([it[0] for it in raw._fields_], [it[0] for it in made], name)
             self.assertEqual(sizeof(raw), sizeof(wanted), name)
             for field, _ in made:
-                mine, theirs = getattr(raw, field), getattr(wanted, field)
-                self.assertEqual((mine.offset, mine.size), (theirs.offset, theirs.size), f"{name}.{field}")
+                mine, due = getattr(raw, field), getattr(wanted, field)
+                self.assertEqual((mine.offset, mine.size), (due.offset, due.size), f"{name}.{field}")
         functions = dict(re.findall(r"^(?:uint32_t|void) (vandrexu_\w+)\(([^)]*)\);", header, flags=re.M))
         self.assertEqual(set(functions), set(vandrexu._ARGUMENTS))
         for name, arguments in functions.items():
-            wide = [ctypes.sizeof(ctypes.c_void_p) if "*" in it else sizeof(kinds[it.split()[0]]) for it in arguments.split(",")]
+            wide = [sizeof(pointer if "*" in it else kinds[it.split()[0]]) for it in arguments.split(",")]
             self.assertEqual([sizeof(it) for it in vandrexu._ARGUMENTS[name]], wide, name)
 
 

@@ -1,8 +1,8 @@
 //! The declarations of `include/vandrexu.h`, name by name, and the memory of the archive. What a call does, what it is
 //! given and what it answers stands in that header; the crate `vandrexu` has it in safe Rust.
 //!
-//! The build is told by `VANDREXU_LIB_DIR` in which folder libvandrexu_c.a lies. tests/header.rs compares each constant,
-//! layout and function with the header.
+//! The build is told by `VANDREXU_LIB_DIR` in which folder libvandrexu_c.a lies. tests/header.rs compares each
+//! constant, layout and function with the header.
 #![no_std]
 #![allow(non_camel_case_types, missing_docs)]
 

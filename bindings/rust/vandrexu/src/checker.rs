@@ -7,8 +7,8 @@ use vandrexu_sys as sys;
 
 /// Checks the history of a controller line by line, and keeps no line. It is freed where it is dropped.
 ///
-/// The lines are those of docs/CHECKING.md, without their line feeds. The configuration line, with which a history's file
-/// begins, is no step: it is what [`Checker::new`] is given.
+/// The lines are those of docs/CHECKING.md, without their line feeds. The configuration line, with which a history's
+/// file begins, is no step: it is what [`Checker::new`] is given.
 ///
 /// ```
 /// use vandrexu::{Checker, Config, Error};
