@@ -1,0 +1,740 @@
+"""An NVM Express controller in memory, around the fused Compare and Write, and a checker of histories.
+
+Whoever tests a device or its driver in Python has both at hand. The controller makes one step at a time, when it is
+asked; the checker says of each line of a log whether the controller that wrote it did right.
+
+>>> with Controller(Config.of_line("config 8 1 1 0 0 2 4 4 8")) as disk:
+...     disk.publish(1, [Entry.compare(7, 3, bytes(512)).first(), Entry.write(8, 3, b"\\xA1" * 512).second()])
+...     disk.fetch(1)
+...     disk.settle()
+...     [reaped.completion.is_success for reaped in disk.completions(1)]
+...     disk.medium(3) == b"\\xA1" * 512
+Work(ticket=1, kind=<Kind.PAIR: 4>, slba=3, blocks=1, op=None, statuses=0)
+[True, True]
+True
+
+It stands on the shared library that is made of libvandrexu_c.a, each function of which is proved; this file is only
+tested. VANDREXU_LIBRARY names that library; else it is libvandrexu.so beside this file (docs/LIBRARY.md).
+
+A handle may go from thread to thread; calls of one take turns. It isn't called in a child that a process with threads
+forked.
+"""
+from __future__ import annotations
+
+import ctypes
+import os
+import threading
+from collections.abc import Iterable, Iterator
+from ctypes import POINTER, Structure, byref, c_char_p, c_size_t, c_uint8, c_uint16, c_uint32, c_uint64, c_void_p
+from dataclasses import astuple, dataclass
+from enum import IntEnum
+from typing import NamedTuple
+
+BLOCK = 512
+"""How many bytes a block of the volume has."""
+
+# ---- What a call answers
+
+
+class Status(IntEnum):
+    """The statuses of vandrexu.h."""
+    DONE = 0
+    NO_QUEUE = 1
+    NO_ROOM = 2
+    NO_ENTRY = 3
+    JOBS_FULL = 4
+    NO_TICKET = 5
+    CONFLICT = 6
+    WRONG_STATE = 7
+    CQ_FULL = 8
+    NO_COMPLETION = 9
+    BAD_BATCH = 10
+    NO_MEMORY = 11
+    AWUN_TOO_LARGE = 21
+    ACWU_TOO_LARGE = 22
+    BOUNDARY_BELOW_UNIT = 23
+    OFFSET_PAST_BOUNDARY = 24
+    BAD_BLOCKS = 25
+    BAD_PAIRS = 26
+    BAD_SQ_SIZE = 27
+    BAD_CQ_SIZE = 28
+    BAD_JOBS = 29
+    BAD_CQS = 30
+    NO_HANDLE = 101
+    IN_USE = 102
+    TOO_SMALL = 103
+    NO_BLOCK = 104
+    NOTHING_READY = 105
+    BAD_ENTRY = 106
+    BAD_LINE = 107
+    NOT_LEGAL = 108
+
+
+WORDS: dict[Status, str] = {
+    Status.DONE: "done",
+    Status.NO_QUEUE: "no such queue",
+    Status.NO_ROOM: "no room in the submission queue",
+    Status.NO_ENTRY: "no entry to fetch",
+    Status.JOBS_FULL: "as many tickets in flight as may be",
+    Status.NO_TICKET: "no such ticket in flight",
+    Status.CONFLICT: "conflict with an open unit",
+    Status.WRONG_STATE: "not the ticket's turn",
+    Status.CQ_FULL: "completion queue full",
+    Status.NO_COMPLETION: "no completion to reap",
+    Status.BAD_BATCH: "no entry to publish",
+    Status.NO_MEMORY: "no memory",
+    Status.AWUN_TOO_LARGE: "AWUN is above 255",
+    Status.ACWU_TOO_LARGE: "ACWU is above 255",
+    Status.BOUNDARY_BELOW_UNIT: "NABSN isn't 0, and AWUN or ACWU is above it",
+    Status.OFFSET_PAST_BOUNDARY: "NABO is above NABSN",
+    Status.BAD_BLOCKS: "BLOCKS isn't 1 to 65,536",
+    Status.BAD_PAIRS: "PAIRS isn't 1 to 16",
+    Status.BAD_SQ_SIZE: "SQ isn't 2 to 1,024",
+    Status.BAD_CQ_SIZE: "CQ isn't 2 to 1,024",
+    Status.BAD_JOBS: "JOBS isn't 1 to 256",
+    Status.BAD_CQS: "CQS is 0 or above PAIRS",
+    Status.NO_HANDLE: "the handle owns nothing",
+    Status.IN_USE: "the handle owns something already",
+    Status.TOO_SMALL: "the room is too small",
+    Status.NO_BLOCK: "the volume has no such block",
+    Status.NOTHING_READY: "no ticket can go on by itself",
+    Status.BAD_ENTRY: "the data aren't just those of the entries",
+    Status.BAD_LINE: "no line of a history",
+    Status.NOT_LEGAL: "the history with this line isn't legal",
+}
+"""What each status says."""
+
+
+class Error(Exception):
+    """A call did nothing: all but what it says otherwise is as before.
+
+    >>> try:
+    ...     Controller(Config(blocks=0))
+    ... except BadConfig as error:
+    ...     print(int(error.status), error)
+    25 BLOCKS isn't 1 to 65,536
+    """
+
+    def __init__(self, status: Status):
+        super().__init__(status)
+        self.status = status
+
+    def __str__(self) -> str:
+        return WORDS[self.status]
+
+
+class Refused(Error):
+    """A step is refused: statuses 1 to 10."""
+
+
+class BadConfig(Error):
+    """A configuration is refused: statuses 21 to 30."""
+
+
+class NoMemory(Error, MemoryError):
+    """There is no memory: status 11."""
+
+
+class NoHandle(Error):
+    """The handle owns nothing, since it is closed: status 101."""
+
+
+class NoBlock(Error, IndexError):
+    """The volume has no such block: status 104."""
+
+
+class BadLine(Error, ValueError):
+    """This is no line of a history, or of a configuration: status 107."""
+
+
+class NotLegal(Error):
+    """The history with this line isn't legal: status 108."""
+
+
+_ERRORS = {
+    Status.NO_MEMORY: NoMemory, Status.NO_HANDLE: NoHandle, Status.NO_BLOCK: NoBlock, Status.BAD_LINE: BadLine,
+    Status.NOT_LEGAL: NotLegal,
+}
+
+
+def _error(number: int) -> Error:
+    """The exception of a status."""
+    status = Status(number)
+    if 1 <= status <= 10:
+        return Refused(status)
+    if 21 <= status <= 30:
+        return BadConfig(status)
+    return _ERRORS.get(status, Error)(status)
+
+
+def _want(number: int) -> None:
+    """Raises what a status says, where it isn't 0."""
+    if number != Status.DONE:
+        raise _error(number)
+
+
+# ---- The structs of vandrexu.h, and its functions
+
+class RawController(Structure):
+    """vandrexu_controller"""
+    _fields_ = [("at", c_void_p), ("live", c_uint32)]
+
+
+class RawChecker(Structure):
+    """vandrexu_checker"""
+    _fields_ = [("at", c_void_p), ("live", c_uint32)]
+
+
+class RawConfig(Structure):
+    """vandrexu_config"""
+    _fields_ = [("blocks", c_uint32), ("awun", c_uint16), ("acwu", c_uint16), ("nabsn", c_uint16), ("nabo", c_uint16),
+                ("pairs", c_uint16), ("sq_size", c_uint16), ("cq_size", c_uint16), ("jobs", c_uint16),
+                ("cqs", c_uint16)]
+
+
+class RawEntry(Structure):
+    """vandrexu_entry"""
+    _fields_ = [("bytes", c_uint8 * 64), ("count", c_size_t)]
+
+
+class RawWork(Structure):
+    """vandrexu_work"""
+    _fields_ = [("ticket", c_uint64), ("slba", c_uint64), ("blocks", c_uint32), ("kind", c_uint32), ("op", c_uint32),
+                ("statuses", c_uint32)]
+
+
+class RawGranted(Structure):
+    """vandrexu_granted"""
+    _fields_ = [("unit", c_uint64), ("slba", c_uint64), ("blocks", c_uint32), ("mode", c_uint32)]
+
+
+class RawBlocked(Structure):
+    """vandrexu_blocked"""
+    _fields_ = [("lba", c_uint64), ("found", c_uint32), ("effect", c_uint8), ("ended", c_uint8), ("zeros", c_uint8 * 2)]
+
+
+class RawStep(Structure):
+    """vandrexu_step"""
+    _fields_ = [("ticket", c_uint64), ("kind", c_uint32)]
+
+
+_Bytes = POINTER(c_uint8)
+_Controller = POINTER(RawController)
+_Checker = POINTER(RawChecker)
+_ARGUMENTS = {
+    "vandrexu_config_fault": [POINTER(RawConfig)],
+    "vandrexu_controller_new": [POINTER(RawConfig), _Controller],
+    "vandrexu_controller_free": [_Controller],
+    "vandrexu_controller_reserve": [_Controller, c_size_t],
+    "vandrexu_controller_publish": [_Controller, c_uint16, POINTER(RawEntry), c_size_t, c_char_p, c_size_t],
+    "vandrexu_controller_fetch": [_Controller, c_uint16, POINTER(RawWork)],
+    "vandrexu_controller_grant": [_Controller, c_uint64, POINTER(RawGranted)],
+    "vandrexu_controller_block": [_Controller, c_uint64, POINTER(RawBlocked)],
+    "vandrexu_controller_post": [_Controller, c_uint64, _Bytes],
+    "vandrexu_controller_reap": [_Controller, c_uint16, _Bytes, POINTER(c_size_t)],
+    "vandrexu_controller_data": [_Controller, _Bytes, c_size_t, POINTER(c_size_t)],
+    "vandrexu_controller_ready": [_Controller, POINTER(RawStep)],
+    "vandrexu_controller_medium": [_Controller, c_uint64, _Bytes],
+    "vandrexu_controller_history_count": [_Controller, POINTER(c_uint64)],
+    "vandrexu_checker_new": [POINTER(RawConfig), _Checker],
+    "vandrexu_checker_free": [_Checker],
+    "vandrexu_checker_take_line": [_Checker, c_char_p, c_size_t],
+    "vandrexu_checker_why": [_Checker, c_char_p, c_size_t, _Bytes, c_size_t, POINTER(c_size_t)],
+}
+
+
+def _load() -> ctypes.CDLL:
+    """The shared library, each of its functions with its arguments."""
+    beside = os.path.join(os.path.dirname(os.path.abspath(__file__)), "libvandrexu.so")
+    path = os.environ.get("VANDREXU_LIBRARY") or beside
+    try:
+        library = ctypes.CDLL(path)
+    except OSError as error:
+        raise ImportError(f"VANDREXU_LIBRARY names the library, else it lies beside vandrexu.py: {error}") from error
+    for name, arguments in _ARGUMENTS.items():
+        function = getattr(library, name)
+        function.argtypes = arguments
+        function.restype = None if name.endswith("_free") else c_uint32
+    return library
+
+
+library = _load()
+"""The functions of vandrexu.h, as they are for C."""
+
+
+# ---- Configurations and entries
+
+@dataclass(frozen=True)
+class Config:
+    """A configuration, with the limits of docs/SCRIPTS.md; `cqs` is `pairs` unless it is given.
+
+    >>> Config(blocks=8, pairs=2).fault() is None
+    True
+    >>> Config(jobs=0).fault()
+    <Status.BAD_JOBS: 29>
+    """
+    blocks: int = 1024
+    awun: int = 0
+    acwu: int = 0
+    nabsn: int = 0
+    nabo: int = 0
+    pairs: int = 1
+    sq_size: int = 64
+    cq_size: int = 64
+    jobs: int = 64
+    cqs: int | None = None
+
+    def __post_init__(self) -> None:
+        if self.cqs is None:
+            object.__setattr__(self, "cqs", self.pairs)
+        for number, bits in zip(astuple(self), [32] + [16] * 9):
+            _fits(number, bits)
+
+    @classmethod
+    def of_line(cls, line: str) -> Config:
+        """Reads the line with which a history, a script and a trace begin. It may still have a fault.
+
+        >>> Config.of_line("config2 8 1 1 0 0 2 4 4 8 1").cqs
+        1
+        >>> Config.of_line("config 8 1 1 0 0 2 4 4")
+        Traceback (most recent call last):
+        vandrexu.BadLine: no line of a history
+        """
+        word, *words = line.split(" ")
+        spelled = all(it.isascii() and it.isdigit() and (it == "0" or it[0] != "0") for it in words)
+        if not spelled or (word, len(words)) not in [("config", 9), ("config2", 10)] or words[9:] == words[5:6]:
+            raise BadLine(Status.BAD_LINE)
+        try:
+            return cls(*map(int, words))
+        except OverflowError:
+            raise BadLine(Status.BAD_LINE) from None
+
+    def __str__(self) -> str:
+        """Its line, without a line feed."""
+        numbers = [str(it) for it in astuple(self)]
+        return " ".join(["config", *numbers[:9]] if self.cqs == self.pairs else ["config2", *numbers])
+
+    def fault(self) -> Status | None:
+        """The first fault of it."""
+        number = library.vandrexu_config_fault(byref(self._raw()))
+        return Status(number) if number else None
+
+    def _raw(self) -> RawConfig:
+        return RawConfig(*astuple(self))
+
+
+def _fits(number: int, bits: int) -> int:
+    """The number, where it has so many bits at most."""
+    if not 0 <= number < 1 << bits:
+        raise OverflowError(f"{number} isn't a number of {bits} bits")
+    return number
+
+
+class Entry(NamedTuple):
+    """A submission queue entry of 64 bytes, and the data that travels beside it.
+
+    >>> entry = Entry.write(7, 3, bytes(1024), blocks=2)
+    >>> entry.entry[:8].hex(), entry.entry[40:50].hex(), len(entry.data)
+    ('0100070001000000', '03000000000000000100', 1024)
+    """
+    entry: bytes
+    data: bytes = b""
+
+    @staticmethod
+    def flush(cid: int) -> Entry:
+        """A Flush, which has no blocks."""
+        return _named(0x00, cid, 0, 1, b"")
+
+    @staticmethod
+    def write(cid: int, slba: int, data: bytes, blocks: int = 1) -> Entry:
+        """A Write of so many blocks from this one on."""
+        return _named(0x01, cid, slba, blocks, data)
+
+    @staticmethod
+    def read(cid: int, slba: int, blocks: int = 1) -> Entry:
+        """A Read of so many blocks from this one on."""
+        return _named(0x02, cid, slba, blocks, b"")
+
+    @staticmethod
+    def compare(cid: int, slba: int, data: bytes, blocks: int = 1) -> Entry:
+        """A Compare of so many blocks from this one on."""
+        return _named(0x05, cid, slba, blocks, data)
+
+    @staticmethod
+    def write_zeroes(cid: int, slba: int, blocks: int = 1) -> Entry:
+        """A Write Zeroes of so many blocks from this one on."""
+        return _named(0x08, cid, slba, blocks, b"")
+
+    def first(self) -> Entry:
+        """The same as the first of a fused pair."""
+        return self._fused(1)
+
+    def second(self) -> Entry:
+        """The same as the second of a fused pair."""
+        return self._fused(2)
+
+    def _fused(self, fuse: int) -> Entry:
+        return self._replace(entry=self.entry[:1] + bytes([self.entry[1] & ~3 | fuse]) + self.entry[2:])
+
+
+def _named(opcode: int, cid: int, slba: int, blocks: int, data: bytes) -> Entry:
+    head = bytes([opcode, 0]) + cid.to_bytes(2, "little") + (1).to_bytes(4, "little") + bytes(32)
+    return Entry(head + slba.to_bytes(8, "little") + (blocks - 1).to_bytes(2, "little") + bytes(14), bytes(data))
+
+
+# ---- What steps answer
+
+class Kind(IntEnum):
+    """What a ticket has to do."""
+    FAILED = 1
+    FLUSH = 2
+    UNITS = 3
+    PAIR = 4
+
+
+class Op(IntEnum):
+    """What the units of a command do."""
+    READ = 1
+    COMPARE = 2
+    WRITE = 3
+    WRITE_ZEROES = 4
+
+
+class Mode(IntEnum):
+    """How a unit holds its blocks."""
+    SHARED = 1
+    EXCLUSIVE = 2
+
+
+class Found(IntEnum):
+    """What was done or found at a block."""
+    READ = 1
+    EQUAL = 2
+    DIFFERS = 3
+    WRITTEN = 4
+
+
+class StepKind(IntEnum):
+    """What a ticket does next."""
+    GRANT = 2
+    BLOCK = 3
+    POST = 4
+
+
+class Work(NamedTuple):
+    """A fetched ticket, numbered from 1: `op` is of a command by itself, `statuses` of one whose checks failed."""
+    ticket: int
+    kind: Kind
+    slba: int
+    blocks: int
+    op: Op | None
+    statuses: int
+
+
+class Granted(NamedTuple):
+    """A unit that began, counted from 0."""
+    unit: int
+    slba: int
+    blocks: int
+    mode: Mode
+
+
+class Blocked(NamedTuple):
+    """A block that was made: whether the unit takes effect by it, and whether the unit has ended."""
+    lba: int
+    found: Found
+    effect: bool
+    ended: bool
+
+
+class Step(NamedTuple):
+    """A step that a ticket makes."""
+    kind: StepKind
+    ticket: int
+
+
+class Completion(bytes):
+    """A completion queue entry of 16 bytes.
+
+    >>> failed = Completion.fromhex("00000000000000000200010007000B05")
+    >>> failed.sqhd, failed.sqid, failed.cid, failed.phase, failed.status, failed.is_success
+    (2, 1, 7, 1, (2, 133), False)
+    """
+
+    def _word(self, at: int) -> int:
+        return int.from_bytes(self[at:at + 2], "little")
+
+    @property
+    def sqhd(self) -> int:
+        """How many entries of the submission queue were fetched, modulo its size."""
+        return self._word(8)
+
+    @property
+    def sqid(self) -> int:
+        """The number of the submission queue."""
+        return self._word(10)
+
+    @property
+    def cid(self) -> int:
+        """The command identifier."""
+        return self._word(12)
+
+    @property
+    def phase(self) -> int:
+        """The phase tag."""
+        return self[14] & 1
+
+    @property
+    def status(self) -> tuple[int, int]:
+        """The status code type and the status code."""
+        return self._word(14) >> 9 & 7, self._word(14) >> 1 & 0xFF
+
+    @property
+    def is_success(self) -> bool:
+        """Whether the status is Successful Completion, 0/00."""
+        return self.status == (0, 0)
+
+
+class Reaped(NamedTuple):
+    """A completion that was reaped, and what a successful Read read."""
+    completion: Completion
+    data: bytes
+
+
+# ---- The controller and the checker
+
+class _Handle:
+    """What owns something until it is closed. Calls of one handle take turns."""
+    _new: str
+    _free: str
+    _raw_type: type[Structure]
+
+    def __init__(self, config: Config):
+        self.config = config
+        self._turn = threading.Lock()
+        self._raw = self._raw_type()
+        _want(getattr(library, self._new)(byref(config._raw()), byref(self._raw)))
+
+    def _ask(self, name: str, *arguments: object) -> None:
+        """Makes a call, and raises what it answers."""
+        with self._turn:
+            _want(getattr(library, name)(byref(self._raw), *arguments))
+
+    def close(self) -> None:
+        """Frees it; from then on its calls raise NoHandle. Nothing is done to one that is closed."""
+        with self._turn:
+            getattr(library, self._free)(byref(self._raw))
+
+    def __enter__(self):
+        return self
+
+    def __exit__(self, *_: object) -> None:
+        self.close()
+
+    def __del__(self) -> None:
+        if hasattr(self, "_raw"):
+            self.close()
+
+
+class Controller(_Handle):
+    """A controller with its volume, its queues and its history. It is freed where its `with` ends, by `close`, or where
+    it is forgotten.
+
+    Each call makes one step, or none and raises why. Nothing happens by itself: a published entry waits until it is
+    fetched, and a ticket goes on by `grant`, `block` and `post`, or by `settle`.
+
+    >>> disk = Controller(Config())
+    >>> disk.history_count()
+    0
+    >>> disk.fetch(1)
+    Traceback (most recent call last):
+    vandrexu.Refused: no entry to fetch
+    >>> disk.close()
+    >>> disk.fetch(1)
+    Traceback (most recent call last):
+    vandrexu.NoHandle: the handle owns nothing
+    """
+    _new, _free, _raw_type = "vandrexu_controller_new", "vandrexu_controller_free", RawController
+
+    def reserve(self, more: int) -> None:
+        """Makes the memory of so many Grants, Blocks and Reaps that come next, so that none of them raises NoMemory."""
+        self._ask("vandrexu_controller_reserve", _fits(more, 64))
+
+    def publish(self, queue: int, entries: Iterable[Entry]) -> None:
+        """Publishes all these entries to a submission queue, or none."""
+        entries = list(entries)
+        data = b"".join(it.data for it in entries)
+        # (an array of one at least, since no pointer may be null)
+        raw = (RawEntry * max(1, len(entries)))()
+        for place, it in enumerate(entries):
+            if len(it.entry) != 64:
+                raise ValueError(f"an entry has 64 bytes, and not {len(it.entry)}")
+            raw[place].bytes[:] = it.entry
+            raw[place].count = len(it.data)
+        self._ask("vandrexu_controller_publish", _fits(queue, 16), raw, len(entries), data, len(data))
+
+    def fetch(self, queue: int) -> Work:
+        """Takes the next command of a submission queue, or a fused pair, as the next ticket.
+
+        >>> with Controller(Config()) as disk:
+        ...     disk.publish(1, [Entry.read(7, 3)])
+        ...     disk.fetch(1)
+        Work(ticket=1, kind=<Kind.UNITS: 3>, slba=3, blocks=1, op=<Op.READ: 1>, statuses=0)
+        """
+        work = RawWork()
+        self._ask("vandrexu_controller_fetch", _fits(queue, 16), byref(work))
+        op = Op(work.op) if work.op else None
+        return Work(work.ticket, Kind(work.kind), work.slba, work.blocks, op, work.statuses)
+
+    def grant(self, ticket: int) -> Granted:
+        """The ticket's next unit begins, and holds its blocks."""
+        granted = RawGranted()
+        self._ask("vandrexu_controller_grant", _fits(ticket, 64), byref(granted))
+        return Granted(granted.unit, granted.slba, granted.blocks, Mode(granted.mode))
+
+    def block(self, ticket: int) -> Blocked:
+        """The next block of the ticket's open unit is read, compared or written.
+
+        >>> with Controller(Config()) as disk:
+        ...     disk.publish(1, [Entry.compare(7, 3, b"\\xA1" * 512)])
+        ...     ticket = disk.fetch(1).ticket
+        ...     disk.grant(ticket).mode
+        ...     disk.block(ticket)
+        ...     disk.post(ticket).status
+        <Mode.SHARED: 1>
+        Blocked(lba=3, found=<Found.DIFFERS: 3>, effect=True, ended=True)
+        (2, 133)
+        """
+        blocked = RawBlocked()
+        self._ask("vandrexu_controller_block", _fits(ticket, 64), byref(blocked))
+        return Blocked(blocked.lba, Found(blocked.found), blocked.effect == 1, blocked.ended == 1)
+
+    def post(self, ticket: int) -> Completion:
+        """The next completion that the ticket owes goes into its completion queue."""
+        cqe = (c_uint8 * 16)()
+        self._ask("vandrexu_controller_post", _fits(ticket, 64), cqe)
+        return Completion(cqe)
+
+    def step(self, step: Step) -> Granted | Blocked | Completion:
+        """Makes a Grant, Block or Post."""
+        calls = {StepKind.GRANT: self.grant, StepKind.BLOCK: self.block, StepKind.POST: self.post}
+        return calls[step.kind](step.ticket)
+
+    def ready(self) -> Step | None:
+        """The step of the least ticket that can go on. It isn't made."""
+        step = RawStep()
+        try:
+            self._ask("vandrexu_controller_ready", byref(step))
+        except Error as error:
+            if error.status != Status.NOTHING_READY:
+                raise
+            return None
+        return Step(StepKind(step.kind), step.ticket)
+
+    def steps(self) -> Iterator[tuple[Step, Granted | Blocked | Completion]]:
+        """Makes each step that is ready, as it is asked for, until nothing is.
+
+        >>> with Controller(Config()) as disk:
+        ...     disk.publish(1, [Entry.write(7, 3, b"\\xA1" * 512)])
+        ...     ticket = disk.fetch(1).ticket
+        ...     [step.kind.name for step, _ in disk.steps()]
+        ['GRANT', 'BLOCK', 'POST']
+        """
+        while step := self.ready():
+            yield step, self.step(step)
+
+    def settle(self) -> None:
+        """Makes what is ready until nothing is."""
+        for _ in self.steps():
+            pass
+
+    def reap(self, queue: int) -> Reaped:
+        """Takes the next completion of a completion queue, with what a successful Read read."""
+        cqe, count = (c_uint8 * 16)(), c_size_t()
+        with self._turn:
+            handle = byref(self._raw)
+            _want(library.vandrexu_controller_reap(handle, _fits(queue, 16), cqe, byref(count)))
+            data = (c_uint8 * max(1, count.value))()
+            _want(library.vandrexu_controller_data(handle, data, count.value, byref(count)))
+        return Reaped(Completion(cqe), bytes(data)[:count.value])
+
+    def completions(self, queue: int) -> Iterator[Reaped]:
+        """Takes completions of a completion queue, as they are asked for, until none is there.
+
+        >>> with Controller(Config()) as disk:
+        ...     disk.publish(1, [Entry.read(7, 3)])
+        ...     ticket = disk.fetch(1).ticket
+        ...     disk.settle()
+        ...     [(it.completion.cid, it.data == bytes(512)) for it in disk.completions(1)]
+        [(7, True)]
+        """
+        while True:
+            try:
+                reaped = self.reap(queue)
+            except Refused as error:
+                if error.status != Status.NO_COMPLETION:
+                    raise
+                return
+            yield reaped
+
+    def medium(self, lba: int) -> bytes:
+        """The block as it lies in the volume, also in the middle of a unit."""
+        block = (c_uint8 * BLOCK)()
+        self._ask("vandrexu_controller_medium", _fits(lba, 64), block)
+        return bytes(block)
+
+    def history_count(self) -> int:
+        """How many steps were made."""
+        count = c_uint64()
+        self._ask("vandrexu_controller_history_count", byref(count))
+        return count.value
+
+
+class Checker(_Handle):
+    """Checks the history of a controller line by line, and keeps no line. It is freed where its `with` ends, by
+    `close`, or where it is forgotten.
+
+    The lines are those of docs/CHECKING.md, without their line feeds. The configuration line, with which a history's
+    file begins, is no step: it is what the checker is made of.
+
+    >>> with Checker(Config()) as checker:
+    ...     checker.take_line("publish 1 0000070001" + "0" * 118 + " -")
+    ...     checker.take_line("fetch 1 1 1 ok")
+    ...     checker.why("fetch 1 2 1 ok")
+    ...     checker.take_line("fetch 1 2 1 ok")
+    Traceback (most recent call last):
+    vandrexu.NotLegal: the history with this line isn't legal
+    """
+    _new, _free, _raw_type = "vandrexu_checker_new", "vandrexu_checker_free", RawChecker
+
+    def take_line(self, line: str | bytes) -> None:
+        """Takes the next line of the history. NotLegal is raised where the history with it isn't legal, and from then
+        on for each; BadLine and NoMemory, where it isn't taken."""
+        line = _bytes_of(line)
+        self._ask("vandrexu_checker_take_line", line, len(line))
+
+    def why(self, line: str | bytes) -> str | None:
+        """The words of the first rule that the next line would break, and None where the history with it would be
+        legal. The line isn't taken.
+
+        >>> with Checker(Config()) as checker:
+        ...     checker.why("fetch 1 1 1 ok")
+        'refused 3: no entry to fetch'
+        """
+        line, needed = _bytes_of(line), c_size_t(128)
+        while True:
+            room = needed.value
+            words = (c_uint8 * room)()
+            try:
+                self._ask("vandrexu_checker_why", line, len(line), words, room, byref(needed))
+                return None
+            except NotLegal:
+                return bytes(words)[:needed.value].decode()
+            except Error as error:
+                if error.status != Status.TOO_SMALL:
+                    raise
+
+
+def _bytes_of(line: str | bytes) -> bytes:
+    """The bytes of a line, also of one that was read as text and is none."""
+    return line.encode("utf-8", "surrogateescape") if isinstance(line, str) else bytes(line)

@@ -1,0 +1,202 @@
+//! The declarations of `include/vandrexu.h`, name by name, and the memory of the archive. What a call does, what it is
+//! given and what it answers stands in that header; the crate `vandrexu` has it in safe Rust.
+//!
+//! The build is told by `VANDREXU_LIB_DIR` in which folder libvandrexu_c.a lies. tests/header.rs compares each
+//! constant, layout and function with the header.
+#![no_std]
+#![allow(non_camel_case_types, missing_docs)]
+
+mod heap;
+
+use core::ffi::c_void;
+use core::ptr;
+
+/// The version of the header.
+pub const VANDREXU_VERSION: &str = "0.1.0";
+
+// ---- What a call answers
+
+pub const VANDREXU_DONE: u32 = 0;
+pub const VANDREXU_NO_QUEUE: u32 = 1;
+pub const VANDREXU_NO_ROOM: u32 = 2;
+pub const VANDREXU_NO_ENTRY: u32 = 3;
+pub const VANDREXU_JOBS_FULL: u32 = 4;
+pub const VANDREXU_NO_TICKET: u32 = 5;
+pub const VANDREXU_CONFLICT: u32 = 6;
+pub const VANDREXU_WRONG_STATE: u32 = 7;
+pub const VANDREXU_CQ_FULL: u32 = 8;
+pub const VANDREXU_NO_COMPLETION: u32 = 9;
+pub const VANDREXU_BAD_BATCH: u32 = 10;
+pub const VANDREXU_NO_MEMORY: u32 = 11;
+pub const VANDREXU_AWUN_TOO_LARGE: u32 = 21;
+pub const VANDREXU_ACWU_TOO_LARGE: u32 = 22;
+pub const VANDREXU_BOUNDARY_BELOW_UNIT: u32 = 23;
+pub const VANDREXU_OFFSET_PAST_BOUNDARY: u32 = 24;
+pub const VANDREXU_BAD_BLOCKS: u32 = 25;
+pub const VANDREXU_BAD_PAIRS: u32 = 26;
+pub const VANDREXU_BAD_SQ_SIZE: u32 = 27;
+pub const VANDREXU_BAD_CQ_SIZE: u32 = 28;
+pub const VANDREXU_BAD_JOBS: u32 = 29;
+pub const VANDREXU_BAD_CQS: u32 = 30;
+pub const VANDREXU_NO_HANDLE: u32 = 101;
+pub const VANDREXU_IN_USE: u32 = 102;
+pub const VANDREXU_TOO_SMALL: u32 = 103;
+pub const VANDREXU_NO_BLOCK: u32 = 104;
+pub const VANDREXU_NOTHING_READY: u32 = 105;
+pub const VANDREXU_BAD_ENTRY: u32 = 106;
+pub const VANDREXU_BAD_LINE: u32 = 107;
+pub const VANDREXU_NOT_LEGAL: u32 = 108;
+
+// ---- What a step says
+
+pub const VANDREXU_FAILED: u32 = 1;
+pub const VANDREXU_FLUSH: u32 = 2;
+pub const VANDREXU_UNITS: u32 = 3;
+pub const VANDREXU_PAIR: u32 = 4;
+pub const VANDREXU_READ: u32 = 1;
+pub const VANDREXU_COMPARE: u32 = 2;
+pub const VANDREXU_WRITE: u32 = 3;
+pub const VANDREXU_WRITE_ZEROES: u32 = 4;
+pub const VANDREXU_SHARED: u32 = 1;
+pub const VANDREXU_EXCLUSIVE: u32 = 2;
+pub const VANDREXU_FOUND_READ: u32 = 1;
+pub const VANDREXU_EQUAL: u32 = 2;
+pub const VANDREXU_DIFFERS: u32 = 3;
+pub const VANDREXU_WRITTEN: u32 = 4;
+pub const VANDREXU_STEP_GRANT: u32 = 2;
+pub const VANDREXU_STEP_BLOCK: u32 = 3;
+pub const VANDREXU_STEP_POST: u32 = 4;
+
+// ---- Handles, which are neither cloned nor copied: two that own the same would free it twice
+
+#[repr(C)]
+#[derive(Debug)]
+pub struct vandrexu_controller {
+    pub at: *mut c_void,
+    pub live: u32,
+}
+
+#[repr(C)]
+#[derive(Debug)]
+pub struct vandrexu_checker {
+    pub at: *mut c_void,
+    pub live: u32,
+}
+
+pub const VANDREXU_CONTROLLER_NONE: vandrexu_controller = vandrexu_controller { at: ptr::null_mut(), live: 0 };
+pub const VANDREXU_CHECKER_NONE: vandrexu_checker = vandrexu_checker { at: ptr::null_mut(), live: 0 };
+
+// ---- What is lent to calls
+
+#[repr(C)]
+#[derive(Clone, Copy, Debug, Default, PartialEq, Eq)]
+pub struct vandrexu_config {
+    pub blocks: u32,
+    pub awun: u16,
+    pub acwu: u16,
+    pub nabsn: u16,
+    pub nabo: u16,
+    pub pairs: u16,
+    pub sq_size: u16,
+    pub cq_size: u16,
+    pub jobs: u16,
+    pub cqs: u16,
+}
+
+#[repr(C)]
+#[derive(Clone, Copy, Debug, PartialEq, Eq)]
+pub struct vandrexu_entry {
+    pub bytes: [u8; 64],
+    pub count: usize,
+}
+
+#[repr(C)]
+#[derive(Clone, Copy, Debug, Default, PartialEq, Eq)]
+pub struct vandrexu_work {
+    pub ticket: u64,
+    pub slba: u64,
+    pub blocks: u32,
+    pub kind: u32,
+    pub op: u32,
+    pub statuses: u32,
+}
+
+#[repr(C)]
+#[derive(Clone, Copy, Debug, Default, PartialEq, Eq)]
+pub struct vandrexu_granted {
+    pub unit: u64,
+    pub slba: u64,
+    pub blocks: u32,
+    pub mode: u32,
+}
+
+#[repr(C)]
+#[derive(Clone, Copy, Debug, Default, PartialEq, Eq)]
+pub struct vandrexu_blocked {
+    pub lba: u64,
+    pub found: u32,
+    pub effect: u8,
+    pub ended: u8,
+    pub zeros: [u8; 2],
+}
+
+#[repr(C)]
+#[derive(Clone, Copy, Debug, Default, PartialEq, Eq)]
+pub struct vandrexu_step {
+    pub ticket: u64,
+    pub kind: u32,
+}
+
+unsafe extern "C" {
+    pub fn vandrexu_config_fault(config: *const vandrexu_config) -> u32;
+    pub fn vandrexu_controller_new(config: *const vandrexu_config, controller: *mut vandrexu_controller) -> u32;
+    pub fn vandrexu_controller_free(controller: *mut vandrexu_controller);
+    pub fn vandrexu_controller_reserve(controller: *mut vandrexu_controller, more: usize) -> u32;
+    pub fn vandrexu_controller_publish(
+        controller: *mut vandrexu_controller,
+        queue: u16,
+        entries: *const vandrexu_entry,
+        count: usize,
+        data: *const u8,
+        data_length: usize,
+    ) -> u32;
+    pub fn vandrexu_controller_fetch(controller: *mut vandrexu_controller, queue: u16, work: *mut vandrexu_work)
+    -> u32;
+    pub fn vandrexu_controller_grant(
+        controller: *mut vandrexu_controller,
+        ticket: u64,
+        granted: *mut vandrexu_granted,
+    ) -> u32;
+    pub fn vandrexu_controller_block(
+        controller: *mut vandrexu_controller,
+        ticket: u64,
+        blocked: *mut vandrexu_blocked,
+    ) -> u32;
+    pub fn vandrexu_controller_post(controller: *mut vandrexu_controller, ticket: u64, cqe: *mut u8) -> u32;
+    pub fn vandrexu_controller_reap(
+        controller: *mut vandrexu_controller,
+        queue: u16,
+        cqe: *mut u8,
+        count: *mut usize,
+    ) -> u32;
+    pub fn vandrexu_controller_data(
+        controller: *mut vandrexu_controller,
+        out: *mut u8,
+        room: usize,
+        needed: *mut usize,
+    ) -> u32;
+    pub fn vandrexu_controller_ready(controller: *mut vandrexu_controller, step: *mut vandrexu_step) -> u32;
+    pub fn vandrexu_controller_medium(controller: *mut vandrexu_controller, lba: u64, out: *mut u8) -> u32;
+    pub fn vandrexu_controller_history_count(controller: *mut vandrexu_controller, count: *mut u64) -> u32;
+    pub fn vandrexu_checker_new(config: *const vandrexu_config, checker: *mut vandrexu_checker) -> u32;
+    pub fn vandrexu_checker_free(checker: *mut vandrexu_checker);
+    pub fn vandrexu_checker_take_line(checker: *mut vandrexu_checker, line: *const u8, length: usize) -> u32;
+    pub fn vandrexu_checker_why(
+        checker: *mut vandrexu_checker,
+        line: *const u8,
+        length: usize,
+        out: *mut u8,
+        room: usize,
+        needed: *mut usize,
+    ) -> u32;
+}

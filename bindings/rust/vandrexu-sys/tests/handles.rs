@@ -1,0 +1,79 @@
+//! What the calls answer that safe Rust can't ask: handles that own nothing or something already, rooms that are too
+//! small, and data that aren't those of the entries.
+use std::ptr;
+use vandrexu_sys::*;
+
+const CONFIG: vandrexu_config = vandrexu_config {
+    blocks: 8,
+    awun: 1,
+    acwu: 1,
+    nabsn: 0,
+    nabo: 0,
+    pairs: 1,
+    sq_size: 4,
+    cq_size: 4,
+    jobs: 8,
+    cqs: 1,
+};
+
+/// An entry of one block of namespace 1.
+fn entry(opcode: u8, cid: u8, count: usize) -> vandrexu_entry {
+    let mut bytes = [0; 64];
+    (bytes[0], bytes[2], bytes[4]) = (opcode, cid, 1);
+    vandrexu_entry { bytes, count }
+}
+
+#[test]
+fn a_handle_owns_nothing_before_it_is_made_and_after_it_is_freed() {
+    let (mut disk, mut checker) = (VANDREXU_CONTROLLER_NONE, VANDREXU_CHECKER_NONE);
+    let mut work = vandrexu_work::default();
+    unsafe {
+        for _ in 0..2 {
+            assert_eq!(vandrexu_controller_fetch(&mut disk, 1, &mut work), VANDREXU_NO_HANDLE);
+            assert_eq!(vandrexu_checker_take_line(&mut checker, b"".as_ptr(), 0), VANDREXU_NO_HANDLE);
+            assert_eq!(vandrexu_controller_new(&CONFIG, &mut disk), VANDREXU_DONE);
+            assert_eq!(vandrexu_checker_new(&CONFIG, &mut checker), VANDREXU_DONE);
+            assert_eq!(vandrexu_controller_new(&CONFIG, &mut disk), VANDREXU_IN_USE);
+            assert_eq!(vandrexu_checker_new(&CONFIG, &mut checker), VANDREXU_IN_USE);
+            for _ in 0..2 {
+                vandrexu_controller_free(&mut disk);
+                vandrexu_checker_free(&mut checker);
+                assert_eq!((disk.at, disk.live), (ptr::null_mut(), 0));
+                assert_eq!((checker.at, checker.live), (ptr::null_mut(), 0));
+            }
+        }
+    }
+    assert_eq!(work, vandrexu_work::default());
+}
+
+#[test]
+fn a_room_that_is_too_small_is_told_how_much_is_wanted() {
+    let mut disk = VANDREXU_CONTROLLER_NONE;
+    let (mut work, mut granted, mut blocked) =
+        (vandrexu_work::default(), vandrexu_granted::default(), vandrexu_blocked::default());
+    let (mut cqe, mut count, mut out, data) = ([0; 16], 7, [7; 512], [0xA1; 512]);
+    unsafe {
+        assert_eq!(vandrexu_controller_new(&CONFIG, &mut disk), VANDREXU_DONE);
+        let entries = [entry(1, 1, 512), entry(2, 2, 0)];
+        let mut publish =
+            |count, length| vandrexu_controller_publish(&mut disk, 1, entries.as_ptr(), count, data.as_ptr(), length);
+        assert_eq!(
+            (publish(2, 511), publish(2, 0), publish(1, 511)),
+            (VANDREXU_BAD_ENTRY, VANDREXU_BAD_ENTRY, VANDREXU_BAD_ENTRY)
+        );
+        assert_eq!(publish(2, 512), VANDREXU_DONE);
+        for ticket in 1..=2 {
+            assert_eq!(vandrexu_controller_fetch(&mut disk, 1, &mut work), VANDREXU_DONE);
+            assert_eq!(vandrexu_controller_grant(&mut disk, ticket, &mut granted), VANDREXU_DONE);
+            assert_eq!(vandrexu_controller_block(&mut disk, ticket, &mut blocked), VANDREXU_DONE);
+            assert_eq!(vandrexu_controller_post(&mut disk, ticket, cqe.as_mut_ptr()), VANDREXU_DONE);
+            assert_eq!(vandrexu_controller_reap(&mut disk, 1, cqe.as_mut_ptr(), &mut count), VANDREXU_DONE);
+        }
+        assert_eq!(count, 512);
+        assert_eq!(vandrexu_controller_data(&mut disk, out.as_mut_ptr(), 511, &mut count), VANDREXU_TOO_SMALL);
+        assert_eq!((count, out), (512, [7; 512]));
+        assert_eq!(vandrexu_controller_data(&mut disk, out.as_mut_ptr(), 512, &mut count), VANDREXU_DONE);
+        assert_eq!(out, data);
+        vandrexu_controller_free(&mut disk);
+    }
+}

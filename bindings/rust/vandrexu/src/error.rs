@@ -1,0 +1,143 @@
+//! What a call answers where it didn't do what it says.
+use std::fmt;
+
+/// What a call answers.
+pub type Result<T> = std::result::Result<T, Error>;
+
+macro_rules! errors {
+    ($($(#[$about:meta])* $name:ident = $status:ident, $words:literal;)*) => {
+        /// Why a call did nothing: all but what a call says otherwise is as before.
+        ///
+        /// ```
+        /// use vandrexu::{Config, Controller, Error};
+        ///
+        /// let mut disk = Controller::new(&Config::default())?;
+        /// assert_eq!(disk.fetch(1), Err(Error::NoEntry));
+        /// assert_eq!(Error::NoEntry.to_string(), "no entry to fetch");
+        /// assert_eq!(Error::NoEntry.status(), 3);
+        /// # Ok::<(), Error>(())
+        /// ```
+        #[derive(Clone, Copy, Debug, PartialEq, Eq, Hash)]
+        #[non_exhaustive]
+        pub enum Error {
+            $($(#[$about])* #[doc = concat!("Status ", stringify!($status), ": ", $words, ".")] $name,)*
+            /// A status that vandrexu.h doesn't have: the archive isn't of this version.
+            Unknown(u32),
+        }
+
+        impl Error {
+            /// Each error but [`Error::Unknown`], in the order of their statuses.
+            pub const ALL: &[Error] = &[$(Error::$name),*];
+
+            /// The number of vandrexu.h.
+            #[must_use]
+            pub fn status(self) -> u32 {
+                match self {
+                    $(Error::$name => vandrexu_sys::$status,)*
+                    Error::Unknown(status) => status,
+                }
+            }
+
+            /// The error of this number.
+            fn of(status: u32) -> Error {
+                match status {
+                    $(vandrexu_sys::$status => Error::$name,)*
+                    other => Error::Unknown(other),
+                }
+            }
+        }
+
+        impl fmt::Display for Error {
+            fn fmt(&self, f: &mut fmt::Formatter<'_>) -> fmt::Result {
+                match self {
+                    $(Error::$name => f.write_str($words),)*
+                    Error::Unknown(status) => write!(f, "status {status}, which this version doesn't have"),
+                }
+            }
+        }
+    };
+}
+
+errors! {
+    NoQueue = VANDREXU_NO_QUEUE, "no such queue";
+    NoRoom = VANDREXU_NO_ROOM, "no room in the submission queue";
+    NoEntry = VANDREXU_NO_ENTRY, "no entry to fetch";
+    JobsFull = VANDREXU_JOBS_FULL, "as many tickets in flight as may be";
+    NoTicket = VANDREXU_NO_TICKET, "no such ticket in flight";
+    Conflict = VANDREXU_CONFLICT, "conflict with an open unit";
+    WrongState = VANDREXU_WRONG_STATE, "not the ticket's turn";
+    CqFull = VANDREXU_CQ_FULL, "completion queue full";
+    NoCompletion = VANDREXU_NO_COMPLETION, "no completion to reap";
+    BadBatch = VANDREXU_BAD_BATCH, "no entry to publish";
+    NoMemory = VANDREXU_NO_MEMORY, "no memory";
+    AwunTooLarge = VANDREXU_AWUN_TOO_LARGE, "AWUN is above 255";
+    AcwuTooLarge = VANDREXU_ACWU_TOO_LARGE, "ACWU is above 255";
+    BoundaryBelowUnit = VANDREXU_BOUNDARY_BELOW_UNIT, "NABSN isn't 0, and AWUN or ACWU is above it";
+    OffsetPastBoundary = VANDREXU_OFFSET_PAST_BOUNDARY, "NABO is above NABSN";
+    BadBlocks = VANDREXU_BAD_BLOCKS, "BLOCKS isn't 1 to 65,536";
+    BadPairs = VANDREXU_BAD_PAIRS, "PAIRS isn't 1 to 16";
+    BadSqSize = VANDREXU_BAD_SQ_SIZE, "SQ isn't 2 to 1,024";
+    BadCqSize = VANDREXU_BAD_CQ_SIZE, "CQ isn't 2 to 1,024";
+    BadJobs = VANDREXU_BAD_JOBS, "JOBS isn't 1 to 256";
+    BadCqs = VANDREXU_BAD_CQS, "CQS is 0 or above PAIRS";
+    /// (A [`Controller`](crate::Controller) and a [`Checker`](crate::Checker) own something until they are dropped.)
+    NoHandle = VANDREXU_NO_HANDLE, "the handle owns nothing";
+    /// (Each handle of this crate is made once.)
+    InUse = VANDREXU_IN_USE, "the handle owns something already";
+    /// (This crate asks again with the room that is wanted.)
+    TooSmall = VANDREXU_TOO_SMALL, "the room is too small";
+    NoBlock = VANDREXU_NO_BLOCK, "the volume has no such block";
+    /// (`None` of [`Controller::ready`](crate::Controller::ready).)
+    NothingReady = VANDREXU_NOTHING_READY, "no ticket can go on by itself";
+    /// (An [`Entry`](crate::Entry) has its data with it.)
+    BadEntry = VANDREXU_BAD_ENTRY, "the data aren't just those of the entries";
+    BadLine = VANDREXU_BAD_LINE, "no line of a history";
+    NotLegal = VANDREXU_NOT_LEGAL, "the history with this line isn't legal";
+}
+
+impl std::error::Error for Error {}
+
+/// What a status says: Ok of VANDREXU_DONE alone.
+pub(crate) fn told(status: u32) -> Result<()> {
+    if status == vandrexu_sys::VANDREXU_DONE { Ok(()) } else { Err(Error::of(status)) }
+}
+
+#[cfg(test)]
+mod tests {
+    use super::{Error, told};
+
+    const SCRIPTS: &str = include_str!("../../../../docs/SCRIPTS.md");
+    const CHECKING: &str = include_str!("../../../../docs/CHECKING.md");
+    const HEADER: &str = include_str!("../../../../include/vandrexu.h");
+
+    #[test]
+    fn each_status_of_the_header_is_an_error_with_this_number() {
+        let part =
+            HEADER.split_once("enum vandrexu_status {").and_then(|it| it.1.split_once('}')).expect("the statuses").0;
+        let numbers: Vec<u32> = part
+            .lines()
+            .filter_map(|line| line.split_once(" = "))
+            .map(|(_, behind)| behind.split(',').next().unwrap_or_default().split(' ').next().unwrap_or_default())
+            .map(|number| number.parse().expect("a number"))
+            .collect();
+        assert_eq!(numbers[0], 0);
+        assert_eq!(Error::ALL.iter().map(|it| it.status()).collect::<Vec<_>>(), numbers[1..]);
+        for error in Error::ALL {
+            assert_eq!(told(error.status()), Err(*error));
+        }
+        assert_eq!(told(0), Ok(()));
+        assert_eq!(told(99), Err(Error::Unknown(99)));
+        assert_eq!(Error::Unknown(99).to_string(), "status 99, which this version doesn't have");
+    }
+
+    #[test]
+    fn the_words_are_those_of_the_pages() {
+        for error in Error::ALL {
+            match error.status() {
+                number @ 1..=10 => assert!(CHECKING.contains(&format!("| {number} | `{error}` |")), "{error}"),
+                number @ 21..=30 => assert!(SCRIPTS.contains(&format!("| {number} | {error} |")), "{error}"),
+                _ => {}
+            }
+        }
+    }
+}

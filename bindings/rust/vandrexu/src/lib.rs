@@ -1,0 +1,58 @@
+//! An NVM Express controller in memory, around the fused Compare and Write, and a checker of histories.
+//!
+//! Whoever tests firmware, or builds locks over Compare and Write, has both in a program of their own. The controller
+//! makes one step at a time, when it is asked; the checker says of each line of a log whether the controller that wrote
+//! it did right.
+//!
+//! ```
+//! use vandrexu::{Config, Controller, Entry};
+//!
+//! let mut disk = Controller::new(&Config::of_line("config 8 1 1 0 0 2 4 4 8")?)?;
+//! let (free, mine) = ([0; 512], [0xA1; 512]);
+//! disk.publish(1, &[Entry::compare(7, 3, &free).first(), Entry::write(8, 3, &mine).second()])?;
+//! disk.fetch(1)?;
+//! disk.settle()?;
+//! assert!(disk.completions(1).all(|it| it.is_ok_and(|it| it.completion.is_success())));
+//! assert_eq!(disk.medium(3)?, mine);
+//! # Ok::<(), vandrexu::Error>(())
+//! ```
+//!
+//! It stands on the archive libvandrexu_c.a, each function of which is proved; this crate is only tested
+//! (docs/LIBRARY.md). A handle goes to another thread, and is used by one at a time:
+//!
+//! ```
+//! fn goes<T: Send>() {}
+//! goes::<vandrexu::Controller>();
+//! goes::<vandrexu::Checker>();
+//! ```
+//!
+//! ```compile_fail,E0277
+//! fn is_shared<T: Sync>() {}
+//! is_shared::<vandrexu::Controller>();
+//! ```
+//!
+//! ```compile_fail,E0277
+//! fn is_shared<T: Sync>() {}
+//! is_shared::<vandrexu::Checker>();
+//! ```
+mod answers;
+mod checker;
+mod config;
+mod controller;
+mod entry;
+mod error;
+mod iterators;
+
+pub use answers::{Blocked, Completion, Found, Granted, Made, Mode, Op, Reaped, Step, Task, Work};
+pub use checker::Checker;
+pub use config::Config;
+pub use controller::Controller;
+pub use entry::Entry;
+pub use error::{Error, Result};
+pub use iterators::{Completions, Steps};
+
+/// The version of the archive's header.
+pub const VERSION: &str = vandrexu_sys::VANDREXU_VERSION;
+
+/// How many bytes a block of the volume has.
+pub const BLOCK: usize = 512;
