@@ -1,7 +1,7 @@
 use Rattle.work_queue.specs.Duties.{task_step}
 use Rattle.hosts.proofs.Declining.{task_declined}
 use Rattle.shared_system.proofs.Going.{goes_declined, goes_worked}
-use Rattle.hosts.proofs.insist.attempt.Goals as goal
+use Rattle.hosts.proofs.attempting.attempt.Goals as goal
 
 pub unmade-requires : goal.unmade-requires
 unmade-requires g c =

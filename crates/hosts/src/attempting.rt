@@ -1,22 +1,17 @@
-//! A task that is asked for again.
+//! A task of a Work, asked for once.
 
-ghost use Rattle.std.specs.Prelude.{◌≡◌, IfOk, IfSome, None};
-ghost use Rattle.nvme_model.specs.Passes.{entries};
-ghost use Rattle.meet_lock.specs.Passes.{config_of, seen};
+ghost use Rattle.std.specs.Prelude.{◌≡◌, None};
 ghost use Rattle.ticket_laws.specs.Tasks.{task_fault};
 ghost use Rattle.work_queue.specs.Duties.{duty_of, task_step};
 ghost use Rattle.work_queue.specs.Engines as engine;
 ghost use Rattle.hosts.specs.Declining.{IsTaskDeclined};
 ghost use Rattle.shared_system.specs.Callers.{Continues, IsCallerOf};
-ghost use Rattle.hosts.specs.Asking.{IsTaskAnswered, IsNotMade, IsTaskTold};
+ghost use Rattle.hosts.specs.Asking.{IsNotMade, IsTaskTold};
 
 use crate::gate::Gate;
 use meet_lock::Declined;
 use nvme_model::refusal::Why;
 use shared_system::{CallerPasses, System};
-use std::alloc::AllocError as NoMemory;
-use std::sync::Wait;
-use std::thread::yield_now;
 use step_core::{Answer, Refused};
 use work_queue::{Task, Work};
 
@@ -52,8 +47,8 @@ fn unmade(declined: Declined) -> TriedTask
     }
 }
 
-// Asks for a task that is in its place.
-fn attempt<G: Gate>(
+/// Asks for a task that is in its place.
+pub(crate) fn attempt<G: Gate>(
     system: &System<G>,
     caller: &mut CallerPasses,
     work: &mut Work,
@@ -63,47 +58,12 @@ fn attempt<G: Gate>(
     requires allowed { task_fault (duty_of work.old.work) work.old.work.ticket (engine.its work.old)
         (task_step task work.old.work.ticket) ≡ None }
     ensures goes { Continues system.now caller.old caller.new }
-    ensures work { engine.IsWorkOf system.now.engine work.new × (work.new.queue ≡ work.old.queue) }
+    ensures work { engine.IsWorkOf system.now.engine work.new × (work.new.work ≡ work.old.work)
+        × (work.new.queue ≡ work.old.queue) }
     ensures told { IsTaskTold caller.new work.new.queue result }
 {
     match system.engine.attempt_work(&mut caller.pass, work, task) {
         Ok(answer) => TriedTask::Made(answer),
         Err(declined) => unmade(declined),
     }
-}
-
-/// Asks for the next task of a Work, again while it is refused for now; None where it has none or the stop flag is set.
-///
-/// # Errors
-///
-/// `NoMemory` where a growth is refused. The stop flag is set then.
-#[tactic(auto, using(shared_system::proofs::Going::goes_same))]
-pub(crate) fn insist<R: Wait, G: Gate>(
-    rt: &R,
-    system: &System<G>,
-    caller: &mut CallerPasses,
-    work: &mut Work,
-) -> Result<Option<Answer>, NoMemory>
-    requires own { IsCallerOf system.now caller.old × engine.IsWorkOf system.now.engine work.old }
-    ensures goes { Continues system.now caller.old caller.new }
-    ensures work { engine.IsWorkOf system.now.engine work.new × (work.new.queue ≡ work.old.queue) }
-    ensures told { IsTaskAnswered caller.new work.new.queue result }
-{
-    for _ in rt.forever() {
-        if system.stop.is_set() {
-            return Ok(None);
-        }
-        let Some(task) = work.next_task() else {
-            return Ok(None);
-        };
-        match attempt(system, caller, work, task) {
-            TriedTask::Made(answer) => return Ok(Some(answer)),
-            TriedTask::Again => yield_now(),
-            TriedTask::NoMemory => {
-                system.stop.set();
-                return Err(NoMemory);
-            }
-        }
-    }
-    unreachable!()
 }
