@@ -1,5 +1,6 @@
 -- A host goes on from what it was.
-use Rattle.std.proofs.Common.{◌≡◌, ◌≤◌, ℕ, List, Option, [], arith, length, ◌-◌, ◌∙◌, refl, sym, subst, ap, take}
+use Rattle.std.proofs.Common.{◌≡◌, ◌≤◌, ℕ, List, Option, [], arith, false, length, ◌-◌, ◌∙◌, refl, sym, subst, ap}
+use Rattle.std.proofs.Common.{take, true}
 use Rattle.std.specs.declared.snapshot.Snapshot.{Snapshot}
 use Rattle.nvme_model.specs.declared.array.Range.{Range}
 use Rattle.nvme_model.specs.declared.config.ConfigNumbers.{ConfigNumbers}
@@ -24,6 +25,9 @@ use Rattle.slot_hosts.specs.Hosts.{IsHost}
 use Rattle.slot_alloc.specs.Counts.{claims_made}
 use Rattle.host_rounds.specs.Hosts.{HostContinues, IsHosting}
 use Rattle.host_rounds.specs.declared.owned.Host.{Host}
+use Rattle.host_rounds.specs.Stages.{are_over}
+use Rattle.host_rounds.specs.declared.stage.RoundStage.{RoundStage}
+use Rattle.host_rounds.specs.declared.stage.RoundStage.TheVariants as stage
 
 -- a port is itself at a later time, and later than a later one
 later_same : (a : SharedPort) → PortFollows a a
@@ -119,3 +123,10 @@ module _ {P : Type 0} {g : Ghosts P} where
       let zero : length log - length log ≡ 0 = omega arith in
       let none : since log log ≡ [] = ap (λ (n : ℕ). take n log) zero in
       ap (λ (xs : List PortEvent). log_claims xs (block_of (area_of d) 0)) (all ∙ none)
+
+-- of rounds that are over none is left
+pub none_left : (left : ℕ) (s : RoundStage) → are_over left s ≡ true → left ≡ 0
+none_left left stage.Ready e = grind (arith, e)
+none_left left (stage.Claiming k) e = absurd (let f : false ≡ true = e in cc)
+none_left left (stage.Holding k) e = absurd (let f : false ≡ true = e in cc)
+none_left left (stage.Releasing k) e = absurd (let f : false ≡ true = e in cc)

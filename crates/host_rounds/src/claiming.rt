@@ -1,101 +1,103 @@
-//! A claim of any slot, until it ends.
+//! Turns of a host that claims.
 
-ghost use Rattle.std.specs.Prelude.{◌+◌, ◌≡◌, ◌≤◌, IfErr, IfOk, IfSome, OnOk};
-ghost use Rattle.slot_alloc.specs.Claims.{IsClaimingOf, IsHeldBy, IsUnreleased};
+ghost use Rattle.std.specs.Prelude.{◌+◌, ◌≡◌, ◌≤◌, IfErr, IfOk};
+ghost use Rattle.slot_alloc.specs.Claims.{IsClaimingOf, IsUnreleased};
 ghost use Rattle.slot_alloc.specs.Counts.{IsPast};
 ghost use Rattle.host_rounds.specs.Hosts.{HostContinues, IsHosting, rounds_begun};
+ghost use Rattle.host_rounds.specs.Stages.{IsStageOf};
+ghost use Rattle.host_rounds.specs.declared.stage.RoundStage.{RoundStage};
 
 use crate::owned::Host;
 use crate::pausing::{AfterFault, next_after, pause, stops};
+use crate::stage::{KeptClaim, RoundStage, Rounds};
 use driver_cas::{Fault, SharedPort};
 use shared_system::System;
-use slot_alloc::{Claim, Claiming, Progress, poll_claim};
+use slot_alloc::{Claiming, Progress, poll_claim};
 use std::alloc::AllocError as NoMemory;
 use std::sync::Wait;
 
-// Begins to claim any slot, again while that is refused for now. An error where it isn't begun: a growth is refused, or
-// the claim is for good, or the stop flag is set.
-fn begin<'a, R: Wait, G>(
+/// Begins a round: claims any slot. Where that is refused for now the host pauses.
+///
+/// # Errors
+///
+/// `NoMemory` where it isn't begun: a growth is refused, or the claim is for good. The stop flag is set then.
+pub(crate) fn begin<'a, R: Wait, G>(
     rt: &R,
     system: &System<G>,
     host: &mut Host<'a>,
-) -> Result<Claiming<SharedPort<'a>>, NoMemory>
-    requires { IsHosting system.now host.old }
+    left: u32,
+) -> Result<Rounds<'a>, NoMemory>
+    requires own { IsHosting system.now host.old }
+    requires some { 1 ≤ left }
     ensures goes { HostContinues system.now host.old host.new }
-    ensures begun { OnOk result (rounds_begun host.new ≡ rounds_begun host.old + 1) }
+    ensures stage { IfOk result (λ r. IsStageOf host.new r.stage) }
+    ensures sum { IfOk result (λ r. rounds_begun host.new + r.left ≡ rounds_begun host.old + left) }
     ensures none { IfErr result (λ _. rounds_begun host.new ≡ rounds_begun host.old) }
-    ensures past { IfOk result (λ k. IsPast k 0) }
-    ensures of { IfOk result (λ k. IsClaimingOf host.new.driver k) }
-    ensures unreleased { IfOk result (λ k. IsUnreleased host.new.driver k) }
 {
-    for _ in rt.forever() {
-        if system.stop.is_set() {
-            return Err(NoMemory);
-        }
-        match host.slots.claim_any(&mut host.driver) {
-            Ok(claiming) => return Ok(claiming),
-            Err(fault) => {
-                if next_after(fault) != AfterFault::Again {
-                    return Err(stops(system));
-                }
+    match host.slots.claim_any(&mut host.driver) {
+        Ok(claiming) => Ok(Rounds {
+            left: left - 1,
+            stage: RoundStage::Claiming(claiming),
+        }),
+        Err(fault) => {
+            if next_after(fault) != AfterFault::Again {
+                return Err(stops(system));
             }
+            pause(rt, system, host);
+            Ok(Rounds {
+                left,
+                stage: RoundStage::Ready,
+            })
         }
-        pause(rt, system, host);
     }
-    unreachable!()
 }
 
-// Polls a claim until it ends; None where it didn't end with a slot, or the stop flag is set.
-fn wait<'a, R: Wait, G>(
+/// Pauses while a claim hasn't ended.
+pub(crate) fn waits_claiming<'a, R: Wait, G>(
     rt: &R,
     system: &System<G>,
     host: &mut Host<'a>,
     claiming: Claiming<SharedPort<'a>>,
-) -> Result<Option<Claim>, NoMemory>
+) -> RoundStage<'a>
     requires own { IsHosting system.now host.old }
-    requires of { IsClaimingOf host.old.driver claiming }
-    requires unreleased { IsUnreleased host.old.driver claiming }
+    requires of { IsClaimingOf host.old.driver claiming × IsUnreleased host.old.driver claiming }
+    requires past { IsPast claiming 0 }
     ensures goes { HostContinues system.now host.old host.new }
-    ensures begun { IsPast claiming.entry 0 → rounds_begun host.new ≡ rounds_begun host.old }
-    ensures held { IfOk result (λ o. IfSome o (λ claim. IsHeldBy host.new.driver claim)) }
+    ensures stage { IsStageOf host.new result }
+    ensures begun { rounds_begun host.new ≡ rounds_begun host.old }
+    ensures same { result ≡ RoundStage.Claiming claiming.entry }
 {
-    let mut claiming = claiming;
-    for _ in rt.forever() {
-        if system.stop.is_set() {
-            return Ok(None);
-        }
-        match poll_claim(&mut host.driver, claiming) {
-            Progress::Held(claim) => return Ok(Some(claim)),
-            Progress::Pending(same) => claiming = same,
-            Progress::Later(fault, same) => {
-                if fault == Fault::NoMemory {
-                    return Err(stops(system));
-                }
-                claiming = same;
-            }
-            Progress::Taken | Progress::AllTaken | Progress::Failed(_) => return Ok(None),
-        }
-        pause(rt, system, host);
-    }
-    unreachable!()
+    pause(rt, system, host);
+    RoundStage::Claiming(claiming)
 }
 
-/// Claims any slot; None where it got none, or the stop flag was set after the claim was begun.
+/// Polls a claim of any slot. Where it hasn't ended the host pauses; where it ended without a slot the round does.
 ///
 /// # Errors
 ///
-/// `NoMemory` where the claim isn't begun, or a growth is refused later. The stop flag is set then.
-pub(crate) fn take_slot<R: Wait, G>(
+/// `NoMemory` where a growth is refused. The stop flag is set then.
+pub(crate) fn polls<'a, R: Wait, G>(
     rt: &R,
     system: &System<G>,
-    host: &mut Host<'_>,
-) -> Result<Option<Claim>, NoMemory>
-    requires { IsHosting system.now host.old }
+    host: &mut Host<'a>,
+    claiming: Claiming<SharedPort<'a>>,
+) -> Result<RoundStage<'a>, NoMemory>
+    requires own { IsHosting system.now host.old }
+    requires of { IsClaimingOf host.old.driver claiming × IsUnreleased host.old.driver claiming }
+    requires past { IsPast claiming 0 }
     ensures goes { HostContinues system.now host.old host.new }
-    ensures begun { OnOk result (rounds_begun host.new ≡ rounds_begun host.old + 1) }
-    ensures most { rounds_begun host.new ≤ rounds_begun host.old + 1 }
-    ensures held { IfOk result (λ o. IfSome o (λ claim. IsHeldBy host.new.driver claim)) }
+    ensures stage { IfOk result (IsStageOf host.new) }
+    ensures begun { rounds_begun host.new ≡ rounds_begun host.old }
 {
-    let claiming = begin(rt, system, host)?;
-    wait(rt, system, host, claiming)
+    match poll_claim(&mut host.driver, claiming) {
+        Progress::Held(claim) => Ok(RoundStage::Holding(KeptClaim { claim })),
+        Progress::Pending(same) => Ok(waits_claiming(rt, system, host, same)),
+        Progress::Later(fault, same) => {
+            if fault == Fault::NoMemory {
+                return Err(stops(system));
+            }
+            Ok(waits_claiming(rt, system, host, same))
+        }
+        Progress::Taken | Progress::AllTaken | Progress::Failed(_) => Ok(RoundStage::Ready),
+    }
 }

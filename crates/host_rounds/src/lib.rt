@@ -1,4 +1,4 @@
-//! Runs hosts on threads of their own, for a race: each claims slots and releases them, round by round.
+//! Runs hosts, for a race: each claims slots and releases them, round by round, on a thread of its own or turn by turn.
 #![tactic(auto)]
 
 mod claiming;
@@ -7,7 +7,9 @@ mod owned;
 mod pausing;
 mod releasing;
 mod rounds;
+mod stage;
 
 pub use host_threads::{Play, run_hosts};
 pub use owned::{Host, host_of};
-pub use rounds::host;
+pub use rounds::{busy_turn, host, host_turn};
+pub use stage::{KeptClaim, RoundStage, Rounds};

@@ -1,14 +1,13 @@
 -- What came of what a loop asked for.
-use Rattle.std.specs.Prelude.{Ok, Option, Result, Some, ℕ}
+use Rattle.std.specs.Prelude.{ℕ}
 use Rattle.nvme_model.specs.Passes.{entries}
 use Rattle.meet_lock.specs.Passes.{config_of, seen}
-use Rattle.controller_steps.specs.declared.answer.Answer.{Answer}
 use Rattle.work_queue.specs.Posted.{IsAnswerPosted}
 use Rattle.shared_system.specs.Callers.{IsPushableWork}
 use Rattle.shared_system.specs.declared.system.CallerPasses.{CallerPasses}
 use Rattle.shared_system.specs.declared.system.System.{System}
 use Rattle.hosts.specs.declared.fetching.Fetched.{Fetched}
-use Rattle.hosts.specs.declared.insist.TriedTask.{TriedTask}
+use Rattle.hosts.specs.declared.attempting.TriedTask.{TriedTask}
 
 -- no Work came of it
 abbrev pub IsNoWork : Fetched → Type 0
@@ -29,7 +28,3 @@ module _ {G : Type 0} where
 abbrev pub IsTaskTold : CallerPasses → ℕ → TriedTask → Type 0
 IsTaskTold h q (TriedTask.Made a) = IsAnswerPosted (config_of h.pass) (entries (seen h.pass)) q a
 IsTaskTold h q _ = Unit {0}
-
-abbrev pub IsTaskAnswered : {E : Type 0} → CallerPasses → ℕ → Result (Option Answer) E → Type 0
-IsTaskAnswered h q (Ok (Some a)) = IsAnswerPosted (config_of h.pass) (entries (seen h.pass)) q a
-IsTaskAnswered h q _ = Unit {0}

@@ -1,9 +1,11 @@
 //! Who fetches.
 
-ghost use Rattle.std.specs.Prelude.{◌≤◌};
+ghost use Rattle.std.specs.Prelude.{◌≡◌, ◌≤◌, ◌+◌, ◌%◌, IfOk};
 ghost use Rattle.hosts.specs.Declining.{IsFetchDeclined};
-ghost use Rattle.shared_system.specs.Callers.{Continues, IsCallerOf};
+ghost use Rattle.shared_system.specs.Callers.{Continues, IsCallerOf, IsPushableWork};
 ghost use Rattle.hosts.specs.Asking.{IsNoWork, IsFetchedReady};
+ghost use Rattle.hosts.specs.Stages.{IsFetchStage, IsFetchTurn, IsQueueIn};
+ghost use Rattle.hosts.specs.declared.fetching.FetchStage.{FetchStage};
 
 use crate::gate::{Gate, Point};
 use meet_lock::Declined;
@@ -14,6 +16,15 @@ use std::sync::Wait;
 use std::thread::yield_now;
 use step_core::Refused;
 use work_queue::{Open, Opened, Work};
+
+/// What a fetcher does in its next turn.
+#[derive(Drop)]
+pub enum FetchStage {
+    /// It asks for a Fetch of this submission queue.
+    Asks(u16),
+    /// It pushes this Work, and then asks for a Fetch of this submission queue.
+    Pushes(Work, u16),
+}
 
 /// What came of asking for a Fetch.
 enum Fetched {
@@ -66,64 +77,103 @@ fn fetch<G: Gate>(system: &System<G>, caller: &mut CallerPasses, queue: u16) -> 
     }
 }
 
-// Pushes the Work, again while the queue is full, until the stop flag is set.
-#[tactic(auto, using(shared_system::proofs::Going::goes_same, shared_system::proofs::Going::goes_push))]
-fn put<R: Wait, G: Gate>(rt: &R, system: &System<G>, caller: &mut CallerPasses, work: Work)
-    requires own { IsCallerOf system.now caller.old }
-    requires ready { IsFetchedReady system.now (Fetched.Work work) }
-    ensures goes { Continues system.now caller.old caller.new }
+// The submission queue whose turn is behind this one's.
+fn queue_after(queue: u16, queues: u16) -> u16
+    requires some { 1 ≤ queues }
+    ensures value { result ≡ queue % queues + 1 }
+    ensures inside { IsQueueIn queues result }
 {
-    let mut work = work;
-    for _ in rt.forever() {
-        if system.stop.is_set() {
-            return;
-        }
-        match system.works.push(rt, &mut caller.works, work) {
-            Ok(()) => return,
-            Err(back) => work = back,
-        }
-        yield_now();
-    }
-    unreachable!()
+    queue % queues + 1
 }
 
-// Takes the next command of this submission queue, if one waits, and pushes its Work.
+// Takes the next command of this submission queue, if one waits. Where it can't be taken for now that queue is asked
+// again, else the next one.
 #[tactic(auto, using(shared_system::proofs::Going::goes_same))]
-pub(crate) fn serve<R: Wait, G: Gate>(
+fn asks<G: Gate>(
+    system: &System<G>,
+    caller: &mut CallerPasses,
+    queues: u16,
+    queue: u16,
+) -> Result<FetchStage, NoMemory>
+    requires own { IsCallerOf system.now caller.old }
+    requires queue { IsQueueIn queues queue }
+    ensures goes { Continues system.now caller.old caller.new }
+    ensures stage { IfOk result (IsFetchStage system.now queues) }
+    ensures next { IfOk result (IsFetchTurn queues (FetchStage.Asks queue)) }
+{
+    let after = queue_after(queue, queues);
+    match fetch(system, caller, queue) {
+        Fetched::Work(work) => {
+            system.gate.pass(Point::Fetched, work.ticket());
+            Ok(FetchStage::Pushes(work, after))
+        }
+        Fetched::Nothing => {
+            yield_now();
+            Ok(FetchStage::Asks(after))
+        }
+        Fetched::Again => {
+            yield_now();
+            Ok(FetchStage::Asks(queue))
+        }
+        Fetched::NoMemory => {
+            system.stop.set();
+            Err(NoMemory)
+        }
+    }
+}
+
+// Pushes the Work, which stays where the queue is full.
+#[tactic(auto, using(shared_system::proofs::Going::goes_push))]
+fn pushes<R: Wait, G: Gate>(
     rt: &R,
     system: &System<G>,
     caller: &mut CallerPasses,
+    _queues: u16,
+    work: Work,
     queue: u16,
-) -> Result<(), NoMemory>
-    requires { IsCallerOf system.now caller.old }
+) -> FetchStage
+    requires own { IsCallerOf system.now caller.old }
+    requires ready { IsPushableWork system.now work }
+    requires queue { IsQueueIn _queues queue }
     ensures goes { Continues system.now caller.old caller.new }
+    ensures stage { IsFetchStage system.now _queues result }
+    ensures next { IsFetchTurn _queues (FetchStage.Pushes work queue) result }
 {
-    for _ in rt.forever() {
-        if system.stop.is_set() {
-            return Ok(());
-        }
-        match fetch(system, caller, queue) {
-            Fetched::Work(work) => {
-                system.gate.pass(Point::Fetched, work.ticket());
-                put(rt, system, caller, work);
-                return Ok(());
-            }
-            Fetched::Nothing => {
-                yield_now();
-                return Ok(());
-            }
-            Fetched::Again => yield_now(),
-            Fetched::NoMemory => {
-                system.stop.set();
-                return Err(NoMemory);
-            }
+    match system.works.push(rt, &mut caller.works, work) {
+        Ok(()) => FetchStage::Asks(queue),
+        Err(back) => {
+            yield_now();
+            FetchStage::Pushes(back, queue)
         }
     }
-    unreachable!()
 }
 
-/// Goes round the submission queues from 1 to `queues`, takes a command of each that has one, and pushes its Work,
-/// until the stop flag is set.
+/// One turn of a fetcher of the submission queues from 1 to `queues`: it asks for one Fetch, or pushes the Work that it
+/// has. Lets others run where nothing came of it. A command is taken of each queue that has one, in turn.
+///
+/// # Errors
+///
+/// `NoMemory` where a growth is refused; nothing was fetched. The stop flag is set then.
+pub fn fetch_turn<R: Wait, G: Gate>(
+    rt: &R,
+    system: &System<G>,
+    caller: &mut CallerPasses,
+    queues: u16,
+    stage: FetchStage,
+) -> Result<FetchStage, NoMemory>
+    requires own { IsCallerOf system.now caller.old }
+    requires stage { IsFetchStage system.now queues stage }
+    ensures goes { Continues system.now caller.old caller.new }
+    ensures stage { IfOk result (IsFetchStage system.now queues) }
+    ensures next { IfOk result (IsFetchTurn queues stage) }
+{
+    match stage {
+        FetchStage::Asks(queue) => asks(system, caller, queues, queue),
+        FetchStage::Pushes(work, queue) => { Ok(pushes(rt, system, caller, queues, work, queue)) }
+    }
+}
+
+/// Makes a fetcher's turns, from the first submission queue on, until the stop flag is set.
 ///
 /// # Errors
 ///
@@ -139,13 +189,12 @@ pub fn fetcher<R: Wait, G: Gate>(
     requires some { 1 ≤ queues }
     ensures goes { Continues system.now caller.old caller.new }
 {
+    let mut stage = FetchStage::Asks(1);
     for _ in rt.forever() {
         if system.stop.is_set() {
             return Ok(());
         }
-        for k in 0..queues {
-            serve(rt, system, caller, k + 1)?;
-        }
+        stage = fetch_turn(rt, system, caller, queues, stage)?;
     }
     unreachable!()
 }

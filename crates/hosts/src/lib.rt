@@ -1,17 +1,17 @@
 //! Runs a fetcher, workers and hosts on threads over one engine.
 #![tactic(auto)]
 
+mod attempting;
 mod crew;
 mod fetching;
 mod gate;
-mod insist;
 mod joining;
 mod starting;
 mod telling;
 mod working;
 
 pub use crew::{Crew, run_crew};
-pub use fetching::fetcher;
+pub use fetching::{FetchStage, fetch_turn, fetcher};
 pub use gate::{Gate, OpenGate, Point};
 pub use joining::{Handles, Returned, join_each};
-pub use working::worker;
+pub use working::{WorkStage, work_turn, worker};

@@ -1,1 +1,2 @@
+pub mod Biases
 pub mod Races

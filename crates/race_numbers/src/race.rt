@@ -21,6 +21,8 @@ pub enum RaceUsage {
     /// The hosts would have more than 16 submission queues in all.
     #[error("too many queues")]
     TooManyQueues,
+    #[error("error: '--bias' has weights from 1 to 100")]
+    Bias,
 }
 
 /// The numbers of a race, which are in their ranges.

@@ -38,17 +38,17 @@ zip_at R (x ∷ xs) [] h k y e = absurd h
 zip_at R (x ∷ xs) (z ∷ ys) h zero y e = let same : z ≡ y = cc in (x, refl, subst (R x) same h.0)
 zip_at R (x ∷ xs) (z ∷ ys) h (suc k) y e = zip_at R xs ys h.1 k y e
 
-at_front : {A : Type 0} (xs ys : List A) (k : ℕ) (a : A) → slice_get xs k ≡ Some a → slice_get (xs ++ ys) k ≡ Some a
+pub at_front : {A : Type 0} (xs ys : List A) (k : ℕ) (a : A) → slice_get xs k ≡ Some a → slice_get (xs ++ ys) k ≡ Some a
 at_front [] ys k a g = absurd (let h : None ≡ Some a = g in cc)
 at_front (x ∷ xs) ys zero a g = g
 at_front (x ∷ xs) ys (suc k) a g = at_front xs ys k a g
 
-at_last : {A : Type 0} (xs : List A) (a : A) → slice_get (xs ++ a ∷ []) (length xs) ≡ Some a
+pub at_last : {A : Type 0} (xs : List A) (a : A) → slice_get (xs ++ a ∷ []) (length xs) ≡ Some a
 at_last [] a = refl
 at_last (x ∷ xs) a = at_last xs a
 
 -- what holds of each, and of one more at its place, holds of all
-snoc_each : {A : Type 0} (P : ℕ → A → Type 0) (xs : List A) (d : A)
+pub snoc_each : {A : Type 0} (P : ℕ → A → Type 0) (xs : List A) (d : A)
     → ((k : ℕ) (a : A) → slice_get xs k ≡ Some a → P k a) → P (length xs) d → (k : ℕ) (a : A)
     → slice_get (xs ++ d ∷ []) k ≡ Some a → P k a
 snoc_each P [] d f e zero a g =
@@ -109,7 +109,7 @@ above_all : (m k q n c : ℕ) → m ≡ k → k + c ≡ n + 1 + c + q → 1 ≤ 
 above_all m k q n c same last low below = omega (arith, same, last, low, below)
 
 module _ {G : Type 0} (system : System G) (play : Play) (n : ℕ) where
-  served : (h k : CallerPasses) → Continues system h k → IsOneOf system play.config (n + 1 + play.config.cqs) h.pass
+  pub served : (h k : CallerPasses) → Continues system h k → IsOneOf system play.config (n + 1 + play.config.cqs) h.pass
       → number h.pass ≤ n + 1 → HasEnded system.engine play (n + 1) k.pass
   served h k goes one low =
       let same = goes.same.1 in

@@ -124,11 +124,7 @@ fn put_hosts(
 }
 
 /// Room for the passes of so many workers, a fetcher and a host of each completion queue.
-pub(crate) fn room_for(
-    alloc: Global,
-    play: &Play,
-    workers: u16,
-) -> Result<Vec<Pass<Core>>, NoMemory>
+pub fn room_for(alloc: Global, play: &Play, workers: u16) -> Result<Vec<Pass<Core>>, NoMemory>
     ensures { IfOk result (λ r. (r.items ≡ []) × (workers + 1 + play.now.config.cqs ≤ vec_capacity r)) }
 {
     let cqs = play.config.numbers().cqs;
@@ -137,7 +133,7 @@ pub(crate) fn room_for(
 
 /// The controller, closed with the passes of all who raced: its history keeps the slots, and has all rounds of each
 /// host. None where the lock wasn't free.
-pub(crate) fn closed(
+pub fn closed(
     system: System<OpenGate>,
     play: &Play,
     callers: Callers,

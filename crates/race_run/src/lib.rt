@@ -6,6 +6,7 @@ mod fault;
 mod racing;
 mod run;
 
+pub use closing::{closed, room_for};
 pub use fault::RaceFault;
 pub use history_text::{PrintFault, print_history};
-pub use run::run_race;
+pub use run::{run_race, tell_race};

@@ -20,6 +20,7 @@ use std::alloc::Global;
 use std::io::Write;
 use std::sync::Wait;
 use std::thread::Threads;
+use step_core::Core;
 
 // Writes a history's text.
 fn tell<W: Write>(
@@ -71,6 +72,36 @@ fn finish<W: Write>(
     Ok(())
 }
 
+/// Writes the configuration line and the whole history of a race's controller, and checks it.
+///
+/// # Errors
+///
+/// `NoMemory` where a growth was refused, and `Output`, after a beginning of the text. `BadAt` would name the first
+/// place at which the history isn't legal; it never comes, since what the controller gives is.
+pub fn tell_race<W: Write>(
+    alloc: Global,
+    race: &Race,
+    core: &Core,
+    writer: &mut W,
+) -> Result<(), RaceFault>
+    requires config { core.now.config ≡ race_config race.now }
+    requires slots { KeepsSlots (race_config race.now) (slots_of race.now) core.now.past }
+    requires rounds { HasRounds (race_config race.now) (slots_of race.now) race.now.rounds core.now.past }
+    ensures races { Races (race_config race.now) result (W.contents writer.old) (W.contents writer.new) }
+    ensures slots { OnOk result
+        (PrintsSlots (race_config race.now) (slots_of race.now) (W.contents writer.old) (W.contents writer.new)) }
+    ensures rounds { OnOk result
+        (PrintsRounds (race_config race.now) (slots_of race.now) race.now.rounds (W.contents writer.old)
+        (W.contents writer.new)) }
+{
+    let config = core.config();
+    let slots = Range {
+        slba: 0,
+        blocks: race.slots,
+    };
+    finish(alloc, &config, &slots, core.history().as_slice(), writer)
+}
+
 /// Lets hosts race for slots on threads, and writes the configuration line and the controller's whole history; then
 /// checks the history. What was written keeps the discipline of the slots: nowhere in it has a slot two believed names,
 /// and each believed name is its holder. And each host began just the rounds of the race: on its own queues it claimed
@@ -95,10 +126,5 @@ pub fn run_race<R: Threads + Wait + Sync, W: Write>(
         (W.contents writer.new)) }
 {
     let core = raced(rt, alloc, race)?;
-    let config = core.config();
-    let slots = Range {
-        slba: 0,
-        blocks: race.slots,
-    };
-    finish(alloc, &config, &slots, core.history().as_slice(), writer)
+    tell_race(alloc, race, &core, writer)
 }

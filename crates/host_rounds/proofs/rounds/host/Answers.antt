@@ -1,18 +1,21 @@
-use Rattle.std.proofs.Common.{arith}
+use Rattle.std.proofs.Common.{arith, subst, sym}
+use Rattle.host_rounds.specs.Stages.{IsStageOf}
 use Rattle.host_rounds.proofs.Going.{goes_far, goes_same, host_on}
 use Rattle.host_rounds.proofs.rounds.host.Goals as goal
 
 pub loop-init : goal.loop-init
-loop-init g c = (goes_same _ _ c.requires, omega arith)
-
-pub returns-in_err-round-clause-goes : goal.returns-in_err-round-clause-goes
-returns-in_err-round-clause-goes g c = goes_far _ _ _ _ c.loop.invariant.0 c.round.ensures.goes
-
-pub returns-in_err-round-clause-hosts : goal.returns-in_err-round-clause-hosts
-returns-in_err-round-clause-hosts g c = host_on _ _ _ (goes_far _ _ _ _ c.loop.invariant.0 c.round.ensures.goes)
+loop-init g c =
+    let left = c.of-now.ensures.left in
+    (goes_same _ _ c.requires, subst (IsStageOf c.args.host.now) (sym c.of-now.ensures.stage) tt, omega (arith, left))
 
 pub loop-preserved : goal.loop-preserved
 loop-preserved g c =
-    let was = c.loop.invariant.1 in
-    let more = c.in_ok-round.ensures.begun in
-    (goes_far _ _ _ _ c.loop.invariant.0 c.round.ensures.goes, omega (arith, was, more))
+    let was = c.loop.invariant.2 in
+    let sum = c.in_ok-now.ensures.sum in
+    (goes_far _ _ _ _ c.loop.invariant.0 c.host_turn.ensures.goes, c.in_ok-now.ensures.stage, omega (arith, was, sum))
+
+pub returns-in_err-now-clause-goes : goal.returns-in_err-now-clause-goes
+returns-in_err-now-clause-goes g c = goes_far _ _ _ _ c.loop.invariant.0 c.host_turn.ensures.goes
+
+pub returns-in_err-now-clause-hosts : goal.returns-in_err-now-clause-hosts
+returns-in_err-now-clause-hosts g c = host_on _ _ _ (goes_far _ _ _ _ c.loop.invariant.0 c.host_turn.ensures.goes)

@@ -1,8 +1,8 @@
 use Rattle.shared_system.proofs.Going.{goes_on}
 use Rattle.hosts.proofs.fetching.fetcher.Goals as goal
 
-pub returns-in_err-serve : goal.returns-in_err-serve
-returns-in_err-serve g c = record { goes = goes_on _ _ _ _ c.loop-k.invariant c.serve.ensures.goes }
+pub returns-in_err-stage : goal.returns-in_err-stage
+returns-in_err-stage g c = record { goes = goes_on _ _ _ _ c.loop.invariant.0 c.fetch_turn.ensures.goes }
 
-pub loop-k-preserved : goal.loop-k-preserved
-loop-k-preserved g c = goes_on _ _ _ _ c.loop-k.invariant c.serve.ensures.goes
+pub loop-preserved : goal.loop-preserved
+loop-preserved g c = (goes_on _ _ _ _ c.loop.invariant.0 c.fetch_turn.ensures.goes, c.in_ok-stage.ensures.stage)

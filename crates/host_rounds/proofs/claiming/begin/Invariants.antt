@@ -1,6 +1,0 @@
-use Rattle.std.proofs.Common.{◌≡◌}
-use Rattle.host_rounds.specs.Hosts.{HostContinues, rounds_begun}
-use Rattle.host_rounds.proofs.claiming.begin.Given as goal
-
-abbrev pub invariant-loop : goal.invariant-loop
-invariant-loop g l = HostContinues l.system l.fn.host l.host × (rounds_begun l.host ≡ rounds_begun l.fn.host)

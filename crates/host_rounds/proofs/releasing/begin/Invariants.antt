@@ -1,8 +1,0 @@
-use Rattle.std.proofs.Common.{◌≡◌}
-use Rattle.slot_alloc.specs.Claims.{IsHeldBy}
-use Rattle.host_rounds.specs.Hosts.{HostContinues, rounds_begun}
-use Rattle.host_rounds.proofs.releasing.begin.Given as goal
-
-abbrev pub invariant-loop : goal.invariant-loop
-invariant-loop g l = HostContinues l.system l.fn.host l.host × IsHeldBy l.host.driver l.claim
-    × (rounds_begun l.host ≡ rounds_begun l.fn.host)

@@ -1,5 +1,0 @@
-use Rattle.shared_system.specs.Callers.{Continues}
-use Rattle.hosts.proofs.fetching.serve.Given as goal
-
-abbrev pub invariant-loop : goal.invariant-loop
-invariant-loop g l = Continues l.system l.fn.caller l.caller

@@ -1,0 +1,11 @@
+//! Runs a race of hosts for slots on one thread, its turns drawn from a seed: the same seed gives the same history
+//! everywhere.
+#![tactic(auto)]
+
+mod drawing;
+mod racers;
+mod racing;
+mod run;
+mod turns;
+
+pub use run::run_seeded_race;
