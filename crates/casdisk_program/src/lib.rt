@@ -11,6 +11,7 @@ mod observing;
 mod program;
 mod progress;
 mod randoms;
+mod seeding;
 mod shrinking;
 mod slots;
 mod tracing;

@@ -2,12 +2,13 @@
 
 use crate::certify::certify_files;
 use crate::drawing::draw_file;
-use crate::failure::{Failure, end_failure, failure_of};
+use crate::failure::{Failure, end_failure, end_fault, failure_of};
 use crate::in_words::tell_file;
 use crate::input::{opened, size_of};
 use crate::observing::observe_file;
 use crate::progress::{CountedReader, CountedWriter, Counter};
 use crate::randoms::random_file;
+use crate::seeding::{RaceAsked, Turns, race_asked, race_into, race_seeds};
 use crate::shrinking::shrink_file;
 use crate::slots::{check_slots_file, explain_slots_file};
 use crate::tracing::{trace_race, trace_run};
@@ -21,7 +22,7 @@ use history::Kinds;
 use line_reasons::Grammar;
 use nvme_model::config::ConfigFault;
 use race_numbers::Race;
-use race_run::{RaceFault, run_race};
+use race_run::RaceFault;
 use std::io::{BufWriter, Read, Write};
 use std::process::ExitCode;
 use std::rt::{Env, Files};
@@ -131,10 +132,18 @@ fn finish<R: Threads + Wait + Sync + Files + Clock + Input + Print + Eprint + Al
         Asked::Shrink { why, script } => Ok(shrink_file(rt, why, script)),
         Asked::Race {
             race,
-            trace: true,
-            ..
-        } => return trace_race(rt, &race),
-        Asked::Race { race, quiet, .. } => return race_hosts(rt, &race, told && !quiet),
+            seed,
+            seeds,
+            bias,
+            trace,
+            quiet,
+            why: _,
+        } => {
+            return match race_asked(seed, seeds, bias, trace) {
+                Ok(asked) => race_as_asked(rt, &race, asked, trace, told && !quiet),
+                Err(words) => ExitCode::from(end_fault(rt, words, 2, None)),
+            };
+        }
         Asked::Show(text) => match rt.print(text.as_str()) {
             Ok(()) => Ok(0),
             Err(_) => Err(Failure::from(RunFault::Output)),
@@ -154,17 +163,41 @@ fn range_of(from: Option<u64>, to: Option<u64>) -> DrawOptions {
     }
 }
 
+// Lets hosts race once, or by each of several seeds.
+fn race_as_asked<R: Threads + Wait + Sync + Clock + Print + Eprint + AllocGlobal>(
+    rt: &R,
+    race: &Race,
+    asked: RaceAsked,
+    trace: bool,
+    told: bool,
+) -> ExitCode {
+    match asked {
+        RaceAsked::Many(first, last, bias) => match race_seeds(rt, race, first, last, &bias) {
+            Ok(()) => ExitCode::from(0),
+            Err(fault) => end_race(rt, fault),
+        },
+        RaceAsked::One(turns) => {
+            if trace {
+                trace_race(rt, race, turns)
+            } else {
+                race_hosts(rt, race, turns, told)
+            }
+        }
+    }
+}
+
 // Lets hosts race.
 fn race_hosts<R: Threads + Wait + Sync + Clock + Print + Eprint + AllocGlobal>(
     rt: &R,
     race: &Race,
+    turns: Turns,
     told: bool,
 ) -> ExitCode {
     let counted = CountedWriter::new(Counter::new(rt, told, None), io::writer(rt));
     let Ok(mut output) = BufWriter::with_capacity(rt.alloc(), BUFFER, counted) else {
         return end_race(rt, RaceFault::NoMemory);
     };
-    let done = run_race(rt, rt.alloc(), race, &mut output);
+    let done = race_into(rt, race, turns, &mut output);
     if output.flush().is_err() {
         return end_race(rt, RaceFault::Output);
     }

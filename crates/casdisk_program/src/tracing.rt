@@ -3,11 +3,12 @@
 use crate::failure::{Failure, failure_of};
 use crate::input::opened;
 use crate::program::BUFFER;
+use crate::seeding::{Turns, race_into};
 use casdisk_script::{RunFault, kinds_of, run_script, trace_text};
 use history::{Kinds, all_kinds};
 use line_reasons::Grammar;
 use race_numbers::Race;
-use race_run::{RaceFault, run_race};
+use race_run::RaceFault;
 use std::io;
 use std::io::{BufWriter, Write};
 use std::process::ExitCode;
@@ -62,9 +63,10 @@ pub(crate) fn trace_run<R: Files + Input + Print + AllocGlobal>(
 fn raced<R: Threads + Wait + Sync + Print + AllocGlobal>(
     rt: &R,
     race: &Race,
+    turns: Turns,
 ) -> Result<(), RaceFault> {
     let mut history: Vec<u8> = Vec::new(rt.alloc());
-    match run_race(rt, rt.alloc(), race, &mut history) {
+    match race_into(rt, race, turns, &mut history) {
         Ok(()) => {}
         Err(RaceFault::Output) => return Err(RaceFault::NoMemory),
         Err(fault) => return Err(fault),
@@ -80,8 +82,9 @@ fn raced<R: Threads + Wait + Sync + Print + AllocGlobal>(
 pub(crate) fn trace_race<R: Threads + Wait + Sync + Print + Eprint + AllocGlobal>(
     rt: &R,
     race: &Race,
+    turns: Turns,
 ) -> ExitCode {
-    match raced(rt, race) {
+    match raced(rt, race, turns) {
         Ok(()) => ExitCode::from(0),
         Err(fault) => {
             // (where standard error takes no words, the status says it alone)

@@ -86,5 +86,5 @@ by_command words name rows e (Asked.Tell color file) h = (name, rows, e, h)
 by_command words name rows e (Asked.Draw from to why file) h = (name, rows, e, h)
 by_command words name rows e (Asked.Random seed lines config like) h = (name, rows, e, h)
 by_command words name rows e (Asked.Shrink why script) h = (name, rows, e, h)
-by_command words name rows e (Asked.Race r trace quiet why) h = (name, rows, e, h)
+by_command words name rows e (Asked.Race r seed seeds bias trace quiet why) h = (name, rows, e, h)
 by_command words name rows e (Asked.Show text) h = absurd h

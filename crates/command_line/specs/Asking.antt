@@ -16,7 +16,8 @@ use Rattle.command_line.specs.declared.request.UsageFault.{UsageFault}
 
 -- the numbers of a race that is asked for are in their ranges
 abbrev pub IsRaceInRange : Asked → Type 0
-IsRaceInRange (Asked.Race r trace quiet why) = usage_of r.hosts r.workers r.slots r.rounds r.queues ≡ None
+IsRaceInRange (Asked.Race r seed seeds bias trace quiet why) =
+    usage_of r.hosts r.workers r.slots r.rounds r.queues ≡ None
 IsRaceInRange _ = Unit {0}
 
 -- the kinds that are named, all where none are
@@ -143,8 +144,12 @@ pub record SaysShrink (rows : List Row) (why : Bool) (script : Text) : Type 0 wh
   pub other : script ≢ codes "-"
 
 -- what the options of `race` say
-pub record SaysRace (rows : List Row) (r : Race) (trace quiet why : Bool) : Type 0 where
+pub record SaysRace (rows : List Row) (r : Race) (seed : Option ℕ) (seeds bias : Option (Bor Text))
+    (trace quiet why : Bool) : Type 0 where
   pub numbers : SaysNumbers rows r.hosts r.workers r.slots r.rounds r.queues
+  pub begins : MaySayNumber (codes "seed") rows seed
+  pub many : MaySayText (codes "seeds") rows seeds
+  pub weights : MaySayText (codes "bias") rows bias
   pub traces : SaysFlag (codes "trace") rows trace
   pub hushed : SaysFlag (codes "quiet") rows quiet
   pub reason : SaysFlag (codes "why") rows why
@@ -169,7 +174,8 @@ AsksBy name rows (Asked.Draw from to why file) = (name ≡ codes "draw") × Says
 AsksBy name rows (Asked.Random seed lines config like) =
     (name ≡ codes "random") × SaysRandom rows seed lines config like
 AsksBy name rows (Asked.Shrink why script) = (name ≡ codes "shrink") × SaysShrink rows why script.now
-AsksBy name rows (Asked.Race r trace quiet why) = (name ≡ codes "race") × SaysRace rows r trace quiet why
+AsksBy name rows (Asked.Race r seed seeds bias trace quiet why) =
+    (name ≡ codes "race") × SaysRace rows r seed seeds bias trace quiet why
 AsksBy name rows (Asked.Show text) = ⊥
 
 -- the words name a command, whose options ask for it

@@ -62,11 +62,17 @@ with_race_rules a =
     (needed_rule (codes "workers"))) (needed_rule (codes "slots")))
     (default_rule (codes "rounds") (codes "10"))) (default_rule (codes "queues") (codes "1"))
 
+-- a command with what the turns of a race are drawn from
+abbrev pub with_turn_rules : App → App
+with_turn_rules a =
+    with_rule (with_rule (with_rule a (number_rule (codes "seed"))) (text_rule (codes "seeds")))
+    (text_rule (codes "bias"))
+
 -- the command `race` with its options
 abbrev pub race_app : App
 race_app =
-    with_rule (with_rule (with_rule (with_race_rules (new_app (codes "race"))) (flag_rule (codes "trace")))
-    (flag_rule (codes "quiet"))) (flag_rule (codes "why"))
+    with_rule (with_rule (with_rule (with_turn_rules (with_race_rules (new_app (codes "race"))))
+    (flag_rule (codes "trace"))) (flag_rule (codes "quiet"))) (flag_rule (codes "why"))
 
 -- the command `certify` with its files
 abbrev pub certify_app : App

@@ -2,11 +2,12 @@
 
 ghost use Rattle.std.specs.Prelude.{◌≡◌, IfErr, IfOk, codes};
 ghost use Rattle.clap.specs.Words.{app_of, found_of, rows_of};
-ghost use Rattle.command_line.specs.Asking.{AsksBy, IsRaceInRange, IsRefusedBy, MaySayNumber};
+ghost use Rattle.command_line.specs.Asking.{AsksBy, IsRaceInRange, IsRefusedBy};
 ghost use Rattle.command_line.specs.CommandLine.{draw_app, with_range_rules};
 
 use crate::options::{
-    HISTORY, WHY, flag_asked, number_asked, text_asked, text_of, with_flag, with_input, with_number,
+    HISTORY, WHY, flag_asked, number_may_be, text_asked, text_of, with_flag, with_input,
+    with_number,
 };
 use crate::request::{Asked, UsageFault};
 use clap::{ArgMatches, Command};
@@ -57,11 +58,4 @@ pub(crate) fn draw_asked<'a>(
         }),
         None => Err(text_of(alloc, "error: no file")),
     }
-}
-
-// The number that this option says, none where it says none.
-fn number_may_be(matches: &ArgMatches<'_>, name: &'static str) -> Option<u64>
-    ensures { MaySayNumber name.entry.now (rows_of (found_of matches.now)) result }
-{
-    number_asked(matches, name)
 }

@@ -2,7 +2,7 @@
 
 ghost use Rattle.std.specs.Prelude.{◌≡◌, IfOk, IfSome, Some, map, option_map, ℕ};
 ghost use Rattle.clap.specs.Words.{all_of, app_of, first_of, found_of, rows_of, rule_of, with_rule};
-ghost use Rattle.command_line.specs.Asking.{SaysFlag, SaysNumber};
+ghost use Rattle.command_line.specs.Asking.{MaySayNumber, SaysFlag, SaysNumber};
 ghost use Rattle.command_line.specs.CommandLine.{area_rule, default_rule, flag_rule, input_rule, needed_rule};
 ghost use Rattle.command_line.specs.CommandLine.{number_rule, text_rule};
 
@@ -208,4 +208,11 @@ pub(crate) fn words_asked<'m, 'a>(
         ≡ all_of name.entry.now (rows_of (found_of matches.now)) }
 {
     matches.get_strs(name)
+}
+
+/// The number that this option says, none where it says none.
+pub(crate) fn number_may_be(matches: &ArgMatches<'_>, name: &'static str) -> Option<u64>
+    ensures { MaySayNumber name.entry.now (rows_of (found_of matches.now)) result }
+{
+    number_asked(matches, name)
 }

@@ -3,10 +3,11 @@
 ghost use Rattle.std.specs.Prelude.{◌≡◌, IfErr, IfOk, IfSome, Some, codes, ℕ};
 ghost use Rattle.clap.specs.Words.{app_of, found_of, rows_of};
 ghost use Rattle.command_line.specs.Asking.{AsksBy, IsRaceInRange, IsRefusedBy, SaysNumbers};
-ghost use Rattle.command_line.specs.CommandLine.{race_app, with_race_rules};
+ghost use Rattle.command_line.specs.CommandLine.{race_app, with_race_rules, with_turn_rules};
 
 use crate::options::{
-    QUIET, WHY, flag_asked, number_asked, text_of, with_default, with_flag, with_needed,
+    QUIET, WHY, flag_asked, number_asked, number_may_be, text_asked, text_of, with_default,
+    with_flag, with_needed, with_number, with_text,
 };
 use crate::request::{Asked, UsageFault};
 use clap::{ArgMatches, Command};
@@ -15,10 +16,20 @@ use std::alloc::{AllocError, Global};
 
 const TRACE: &str = "Print what hosts see, the lines of a trace, in place of the history's";
 
+const SEED: &str = "Race on one thread, by turns that this seed draws";
+
+const SEEDS: &str = "Race once by each seed from A to B, and say of each that it is legal";
+
+const BIAS: &str = "How often who acts, as 'host=3,worker=1,fetcher=1'";
+
 const ABOUT_RACES: &str = "\
 Each host claims any slot by a fused Compare and Write, and releases it, round by round, on a thread
 of its own; workers on other threads serve the controller. What is printed is a history, which
 'casdisk check' reads, and which differs from run to run: see docs/RACE.md.
+
+With a seed all of them are on one thread, and a draw says who acts next, by weights of 1 to 100,
+and who finds the controller busy. The same numbers, seed and weights print the same history
+everywhere, byte for byte.
 
 All hosts have at most 16 submission queues.
 
@@ -50,6 +61,15 @@ fn with_numbers<'a>(alloc: Global, command: Command<'a>) -> Result<Command<'a>, 
     )
 }
 
+// The command with what the turns of a race are drawn from.
+fn with_turns<'a>(alloc: Global, command: Command<'a>) -> Result<Command<'a>, AllocError>
+    ensures { IfOk result (λ c. app_of c ≡ with_turn_rules (app_of command.entry)) }
+{
+    let command = with_number(alloc, command, "seed", "N", SEED)?;
+    let command = with_text(alloc, command, "seeds", "A..B", SEEDS)?;
+    with_text(alloc, command, "bias", "WEIGHTS", BIAS)
+}
+
 pub(crate) fn race_command<'a>(alloc: Global) -> Result<Command<'a>, AllocError>
     ensures { IfOk result (λ c. app_of c ≡ race_app) }
 {
@@ -57,6 +77,7 @@ pub(crate) fn race_command<'a>(alloc: Global) -> Result<Command<'a>, AllocError>
         .about("Lets hosts race for slots on threads and prints the controller's history")
         .after_help(ABOUT_RACES);
     let command = with_numbers(alloc, command)?;
+    let command = with_turns(alloc, command)?;
     let command = with_flag(alloc, command, "trace", TRACE)?;
     let command = with_flag(alloc, command, "quiet", QUIET)?;
     with_flag(alloc, command, "why", WHY)
@@ -105,6 +126,9 @@ pub(crate) fn race_asked<'a>(
     match Race::new(hosts, workers, slots, rounds, queues) {
         Ok(race) => Ok(Asked::Race {
             race,
+            seed: number_may_be(matches, "seed"),
+            seeds: text_asked(matches, "seeds"),
+            bias: text_asked(matches, "bias"),
             trace: flag_asked(matches, "trace"),
             quiet: flag_asked(matches, "quiet"),
             why: flag_asked(matches, "why"),

@@ -91,9 +91,13 @@ pub enum Asked<'a> {
         why: bool,
         script: &'a str,
     },
-    /// To let hosts race, and print the history, or its trace.
+    /// To let hosts race, and print the history, or its trace: on threads, or by turns that this seed makes. Where
+    /// several seeds are named, to let them race once by each. The weights of the turns are those that are named.
     Race {
         race: Race,
+        seed: Option<u64>,
+        seeds: Option<&'a str>,
+        bias: Option<&'a str>,
         trace: bool,
         quiet: bool,
         why: bool,

@@ -1,6 +1,6 @@
 use Rattle.clap.specs.Words.{found_of, rows_of}
 use Rattle.command_line.proofs.Parsed.{may_say}
-use Rattle.command_line.proofs.drawing.number_may_be.Goals as goal
+use Rattle.command_line.proofs.options.number_may_be.Goals as goal
 
 pub returns : goal.returns
 returns c =
