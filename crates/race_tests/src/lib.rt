@@ -2,10 +2,13 @@
 //! rules of slots off their histories.
 //!
 //! - `faults`: a write that fails ends a race, and each fault has its words.
+//! - `seeded`: a race by a seed has the history of its seed.
 //! - `stops`: a stop flag ends all loops.
 #![tactic(auto)]
 
 #[cfg(test)]
 mod faults;
+#[cfg(test)]
+mod seeded;
 #[cfg(test)]
 mod stops;
