@@ -57,7 +57,7 @@ enum vandrexu_status {
     VANDREXU_NO_BLOCK = 104,      /* the volume has no such block */
     VANDREXU_NOTHING_READY = 105, /* no ticket can go on by itself */
     VANDREXU_BAD_ENTRY = 106,     /* the data aren't just those of the entries */
-    VANDREXU_BAD_LINE = 107,      /* no line of a history */
+    VANDREXU_BAD_LINE = 107,      /* no line of a history, or of the text that is read */
     VANDREXU_NOT_LEGAL = 108,     /* the history with this line isn't legal */
     VANDREXU_NOT_EXPLAINED = 109, /* the history isn't legal, or hosts saw something else of it; or no history was found */
     VANDREXU_BAD_HISTORY = 110,   /* the history beside a trace has a line that is none, or its configuration is refused */

@@ -27,7 +27,7 @@ import threading
 from collections.abc import Iterable, Iterator
 from ctypes import POINTER, Structure, byref, c_char_p, c_size_t, c_uint8, c_uint16, c_uint32, c_uint64, c_void_p
 from dataclasses import astuple, dataclass
-from enum import IntEnum
+from enum import IntEnum, IntFlag
 from typing import NamedTuple
 
 BLOCK = 512
@@ -68,6 +68,10 @@ class Status(IntEnum):
     BAD_ENTRY = 106
     BAD_LINE = 107
     NOT_LEGAL = 108
+    NOT_EXPLAINED = 109
+    BAD_HISTORY = 110
+    OTHER_CONFIG = 111
+    GAVE_UP = 112
 
 
 WORDS: dict[Status, str] = {
@@ -101,6 +105,10 @@ WORDS: dict[Status, str] = {
     Status.BAD_ENTRY: "the data aren't just those of the entries",
     Status.BAD_LINE: "no line of a history",
     Status.NOT_LEGAL: "the history with this line isn't legal",
+    Status.NOT_EXPLAINED: "the trace isn't explained",
+    Status.BAD_HISTORY: "the history beside the trace has a line that is none",
+    Status.OTHER_CONFIG: "a trace and a history that don't belong together",
+    Status.GAVE_UP: "the steps of the search were used up",
 }
 """What each status says."""
 
@@ -114,6 +122,11 @@ class Error(Exception):
     ...     print(int(error.status), error)
     25 BLOCKS isn't 1 to 65,536
     """
+
+    line: int | None = None
+    """The line of a text that it is about, from 1."""
+    text: str = ""
+    """What a call about a text wrote before."""
 
     def __init__(self, status: Status):
         super().__init__(status)
@@ -148,12 +161,29 @@ class BadLine(Error, ValueError):
 
 
 class NotLegal(Error):
-    """The history with this line isn't legal: status 108."""
+    """The history, or the history with this line, isn't legal: status 108."""
+
+
+class NotExplained(Error):
+    """A history doesn't explain a trace, or none was found that does: status 109."""
+
+
+class BadHistory(Error, ValueError):
+    """The history beside a trace has a line that is none, or its configuration is refused: status 110."""
+
+
+class OtherConfig(Error, ValueError):
+    """A trace and a history that don't belong together: status 111."""
+
+
+class GaveUp(Error):
+    """The steps of a search were used up: status 112."""
 
 
 _ERRORS = {
     Status.NO_MEMORY: NoMemory, Status.NO_HANDLE: NoHandle, Status.NO_BLOCK: NoBlock, Status.BAD_LINE: BadLine,
-    Status.NOT_LEGAL: NotLegal,
+    Status.NOT_LEGAL: NotLegal, Status.NOT_EXPLAINED: NotExplained, Status.BAD_HISTORY: BadHistory,
+    Status.OTHER_CONFIG: OtherConfig, Status.GAVE_UP: GaveUp,
 }
 
 
@@ -221,6 +251,7 @@ class RawStep(Structure):
 _Bytes = POINTER(c_uint8)
 _Controller = POINTER(RawController)
 _Checker = POINTER(RawChecker)
+_TEXT = [_Bytes, c_size_t, POINTER(c_size_t), POINTER(c_uint64)]
 _ARGUMENTS = {
     "vandrexu_config_fault": [POINTER(RawConfig)],
     "vandrexu_controller_new": [POINTER(RawConfig), _Controller],
@@ -240,6 +271,10 @@ _ARGUMENTS = {
     "vandrexu_checker_free": [_Checker],
     "vandrexu_checker_take_line": [_Checker, c_char_p, c_size_t],
     "vandrexu_checker_why": [_Checker, c_char_p, c_size_t, _Bytes, c_size_t, POINTER(c_size_t)],
+    "vandrexu_run_text": [c_char_p, c_size_t, c_uint8, *_TEXT],
+    "vandrexu_check_text": [c_char_p, c_size_t, *_TEXT],
+    "vandrexu_certify_text": [c_char_p, c_size_t, c_char_p, c_size_t, *_TEXT],
+    "vandrexu_observe_text": [c_char_p, c_size_t, c_uint64, _Bytes, c_size_t, POINTER(c_size_t), *_TEXT],
 }
 
 
@@ -738,3 +773,90 @@ class Checker(_Handle):
 def _bytes_of(line: str | bytes) -> bytes:
     """The bytes of a line, also of one that was read as text and is none."""
     return line.encode("utf-8", "surrogateescape") if isinstance(line, str) else bytes(line)
+
+
+# ---- Whole texts
+
+class Lines(IntFlag):
+    """The kinds of lines that a run shows."""
+    PUBLISH = 1
+    FETCH = 2
+    GRANT = 4
+    BLOCK = 8
+    POST = 16
+    REAP = 32
+    REFUSED = 64
+    MEDIUM = 128
+    HISTORY = 63
+    ALL = 255
+
+
+def _told(number: int, line: int, text: str) -> str:
+    """What a call about a text gave, or its error with the line and what was written before."""
+    if number == Status.DONE:
+        return text
+    error = _error(number)
+    error.line, error.text = line or None, text
+    raise error
+
+
+def _text(name: str, *arguments: object) -> str:
+    """What a call about a text gives: asks with some room, and once more where that is too short."""
+    needed, line = c_size_t(4096), c_uint64()
+    while True:
+        room = needed.value
+        out = (c_uint8 * room)()
+        number = getattr(library, name)(*arguments, out, room, byref(needed), byref(line))
+        if number != Status.TOO_SMALL:
+            return _told(number, line.value, bytes(out)[:needed.value].decode())
+
+
+def run_text(script: str | bytes, lines: Lines = Lines.ALL) -> str:
+    """Runs a script (docs/SCRIPTS.md), and returns what a run of it prints, the lines of these kinds. BadLine has the
+    first bad line, and the text of the lines before it.
+
+    >>> print(run_text("config 8 1 1 0 0 1 4 4 8\\nfetch 1\\n"), end="")
+    config 8 1 1 0 0 1 4 4 8
+    refused 3
+    """
+    script = _bytes_of(script)
+    return _text("vandrexu_run_text", script, len(script), lines)
+
+
+def check_text(history: str | bytes) -> str:
+    """Checks a history (docs/CHECKING.md) with its configuration line, and returns the line that says that it is legal.
+    NotLegal has the line that says where it isn't, BadLine the first bad line.
+
+    >>> check_text("config 8 1 1 0 0 1 4 4 8\\n")
+    'legal\\n'
+    """
+    history = _bytes_of(history)
+    return _text("vandrexu_check_text", history, len(history))
+
+
+def certify_text(trace: str | bytes, history: str | bytes) -> str:
+    """Says whether a history explains a trace (docs/OBSERVING.md), and returns the line that says so. NotExplained has
+    the line that says why not; BadLine is about the trace, BadHistory about the history."""
+    trace, history = _bytes_of(trace), _bytes_of(history)
+    return _text("vandrexu_certify_text", trace, len(trace), history, len(history))
+
+
+def observe_text(trace: str | bytes, steps: int = 10_000_000) -> str:
+    """Looks for a history that explains a trace, in so many steps at most, and returns it. NotExplained, where none was
+    found, promises nothing; GaveUp says that the steps were used up.
+
+    >>> publish = "publish 1 0000070001" + "0" * 118 + " -"
+    >>> trace = f"config 8 1 1 0 0 1 4 4 8\\n{publish}\\nreap 1 00000000000000000100010007000100 -\\n"
+    >>> certify_text(trace, observe_text(trace))
+    'explained\\n'
+    """
+    trace = _bytes_of(trace)
+    found, needed, line = c_size_t(4096), c_size_t(256), c_uint64()
+    while True:
+        room, words = found.value, needed.value
+        history, out = (c_uint8 * room)(), (c_uint8 * words)()
+        number = library.vandrexu_observe_text(trace, len(trace), steps, history, room, byref(found), out, words,
+                                               byref(needed), byref(line))
+        if number != Status.TOO_SMALL:
+            _told(number, line.value, bytes(out)[:needed.value].decode())
+            return bytes(history)[:found.value].decode()

@@ -235,6 +235,43 @@ class Calls(unittest.TestCase):
         self.assertTrue(issubclass(NoMemory, MemoryError))
         self.assertEqual(Completion(16).status, (0, 0))
 
+    # ---- whole texts
+
+    def test_each_answer_about_a_text(self):
+        lines, head, other = vandrexu.Lines, "config 8 1 1 0 0 1 4 4 8\n", "config 8 1 1 0 0 17 4 4 8\n"
+        flush = head + "publish 1 flush 0 7 0 0 -\nfetch 1\nsettle\nreap 1\n"
+        history = vandrexu.run_text(flush, lines.HISTORY)
+        self.assertEqual(history.splitlines()[1:3], [FLUSH, "fetch 1 1 1 ok"])
+        reap = "reap 1 00000000000000000100010007000100"
+        self.assertEqual(history.splitlines()[-1], reap)
+        trace = f"{head}{FLUSH}\n{reap} -\n"
+        wrong = trace.replace("07000100 -", "07000500 -")
+        self.assertGreater(len(vandrexu.run_text(flush + "medium 3\n" * 900)), 8192)
+        self.assertEqual(vandrexu.check_text(history), "legal\n")
+        self.assertEqual(vandrexu.certify_text(trace, history), "explained\n")
+        self.assertEqual(vandrexu.check_text(vandrexu.observe_text(trace)), "legal\n")
+        rows = [
+            (Status.BAD_LINE, 3, head + "refused 3\n", vandrexu.run_text, head + "fetch 1\nfetch it\n"),
+            (Status.BAD_PAIRS, None, "", vandrexu.run_text, other),
+            (Status.NOT_LEGAL, None, "bad at 1\n", vandrexu.check_text, head + "fetch 1 1 1 ok\n"),
+            (Status.BAD_LINE, 2, "", vandrexu.check_text, head + "none\n"),
+            (Status.BAD_PAIRS, None, "", vandrexu.check_text, other),
+            (Status.NOT_EXPLAINED, None, "seen 2: the completion\n", vandrexu.certify_text, wrong, history),
+            (Status.BAD_LINE, 2, "", vandrexu.certify_text, head + "none\n", history),
+            (Status.BAD_PAIRS, None, "", vandrexu.certify_text, other, history),
+            (Status.BAD_HISTORY, 2, "", vandrexu.certify_text, trace, head + "none\n"),
+            (Status.BAD_HISTORY, 1, "", vandrexu.certify_text, trace, other),
+            (Status.OTHER_CONFIG, None, "", vandrexu.certify_text, trace, "config 9 1 1 0 0 1 4 4 8\n"),
+            (Status.GAVE_UP, None, "gave up\n", vandrexu.observe_text, trace, 0),
+            (Status.BAD_LINE, 2, "", vandrexu.observe_text, head + "none\n"),
+            (Status.BAD_PAIRS, None, "", vandrexu.observe_text, other),
+        ]
+        for status, line, text, call, *arguments in rows:
+            error = self.refused(status, call, *arguments)
+            self.assertEqual((error.line, error.text), (line, text), arguments)
+        error = self.refused(Status.NOT_EXPLAINED, vandrexu.observe_text, wrong)
+        self.assertTrue(error.text.startswith("not found: "))
+
     def test_the_words_are_those_of_the_pages(self):
         checking, scripts = read("docs/CHECKING.md"), read("docs/SCRIPTS.md")
         self.assertEqual(set(vandrexu.WORDS), set(Status))
@@ -250,6 +287,9 @@ class Calls(unittest.TestCase):
                  for name, members in re.findall(r"enum vandrexu_(\w+) \{(.*?)\}", header, flags=re.S)}
         mine = {"status": (Status, ""), "kind": (Kind, ""), "op": (Op, ""), "mode": (Mode, ""),
                 "found": (Found, "FOUND_"), "step_kind": (StepKind, "STEP_")}
+        lines = {it: int(value) for it, value in enums.pop("lines").items()}
+        kinds = vandrexu.Lines.__members__.items()
+        self.assertEqual(lines, {f"{it}_LINES": int(kind) for it, kind in kinds if it != "HISTORY"})
         self.assertEqual(set(enums), set(mine))
         for name, (enum, prefix) in mine.items():
             self.assertEqual({it.name: int(it) for it in enum},

@@ -1,12 +1,10 @@
-//! The declarations of `include/vandrexu.h`, name by name, and the memory of the archive. What a call does, what it is
-//! given and what it answers stands in that header; the crate `vandrexu` has it in safe Rust.
+//! The declarations of `include/vandrexu.h`, name by name. What a call does, what it is given and what it answers stands
+//! in that header; the crate `vandrexu` has it in safe Rust.
 //!
 //! The build is told by `VANDREXU_LIB_DIR` in which folder libvandrexu_c.a lies. tests/header.rs compares each
 //! constant, layout and function with the header.
 #![no_std]
 #![allow(non_camel_case_types, missing_docs)]
-
-mod heap;
 
 use core::ffi::c_void;
 use core::ptr;
@@ -46,6 +44,10 @@ pub const VANDREXU_NOTHING_READY: u32 = 105;
 pub const VANDREXU_BAD_ENTRY: u32 = 106;
 pub const VANDREXU_BAD_LINE: u32 = 107;
 pub const VANDREXU_NOT_LEGAL: u32 = 108;
+pub const VANDREXU_NOT_EXPLAINED: u32 = 109;
+pub const VANDREXU_BAD_HISTORY: u32 = 110;
+pub const VANDREXU_OTHER_CONFIG: u32 = 111;
+pub const VANDREXU_GAVE_UP: u32 = 112;
 
 // ---- What a step says
 
@@ -66,6 +68,18 @@ pub const VANDREXU_WRITTEN: u32 = 4;
 pub const VANDREXU_STEP_GRANT: u32 = 2;
 pub const VANDREXU_STEP_BLOCK: u32 = 3;
 pub const VANDREXU_STEP_POST: u32 = 4;
+
+// ---- The kinds of lines of a run
+
+pub const VANDREXU_PUBLISH_LINES: u32 = 1;
+pub const VANDREXU_FETCH_LINES: u32 = 2;
+pub const VANDREXU_GRANT_LINES: u32 = 4;
+pub const VANDREXU_BLOCK_LINES: u32 = 8;
+pub const VANDREXU_POST_LINES: u32 = 16;
+pub const VANDREXU_REAP_LINES: u32 = 32;
+pub const VANDREXU_REFUSED_LINES: u32 = 64;
+pub const VANDREXU_MEDIUM_LINES: u32 = 128;
+pub const VANDREXU_ALL_LINES: u32 = 255;
 
 // ---- Handles, which are neither cloned nor copied: two that own the same would free it twice
 
@@ -198,5 +212,44 @@ unsafe extern "C" {
         out: *mut u8,
         room: usize,
         needed: *mut usize,
+    ) -> u32;
+    pub fn vandrexu_run_text(
+        script: *const u8,
+        script_length: usize,
+        kinds: u8,
+        out: *mut u8,
+        room: usize,
+        needed: *mut usize,
+        line: *mut u64,
+    ) -> u32;
+    pub fn vandrexu_check_text(
+        history: *const u8,
+        history_length: usize,
+        out: *mut u8,
+        room: usize,
+        needed: *mut usize,
+        line: *mut u64,
+    ) -> u32;
+    pub fn vandrexu_certify_text(
+        trace: *const u8,
+        trace_length: usize,
+        history: *const u8,
+        history_length: usize,
+        out: *mut u8,
+        room: usize,
+        needed: *mut usize,
+        line: *mut u64,
+    ) -> u32;
+    pub fn vandrexu_observe_text(
+        trace: *const u8,
+        trace_length: usize,
+        steps: u64,
+        history: *mut u8,
+        history_room: usize,
+        found: *mut usize,
+        out: *mut u8,
+        room: usize,
+        needed: *mut usize,
+        line: *mut u64,
     ) -> u32;
 }

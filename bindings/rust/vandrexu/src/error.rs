@@ -93,6 +93,10 @@ errors! {
     BadEntry = VANDREXU_BAD_ENTRY, "the data aren't just those of the entries";
     BadLine = VANDREXU_BAD_LINE, "no line of a history";
     NotLegal = VANDREXU_NOT_LEGAL, "the history with this line isn't legal";
+    NotExplained = VANDREXU_NOT_EXPLAINED, "the trace isn't explained";
+    BadHistory = VANDREXU_BAD_HISTORY, "the history beside the trace has a line that is none";
+    OtherConfig = VANDREXU_OTHER_CONFIG, "a trace and a history that don't belong together";
+    GaveUp = VANDREXU_GAVE_UP, "the steps of the search were used up";
 }
 
 impl std::error::Error for Error {}

@@ -42,6 +42,7 @@ mod controller;
 mod entry;
 mod error;
 mod iterators;
+mod texts;
 
 pub use answers::{Blocked, Completion, Found, Granted, Made, Mode, Op, Reaped, Step, Task, Work};
 pub use checker::Checker;
@@ -50,6 +51,7 @@ pub use controller::Controller;
 pub use entry::Entry;
 pub use error::{Error, Result};
 pub use iterators::{Completions, Steps};
+pub use texts::{Lines, TextError, certify_text, check_text, observe_text, run_text};
 
 /// The version of the archive's header.
 pub const VERSION: &str = vandrexu_sys::VANDREXU_VERSION;
