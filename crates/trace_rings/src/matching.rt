@@ -2,8 +2,8 @@
 
 use crate::refusing::refuse_entries;
 use crate::tables::{Awaited, NOBODYS, Need, Published, TraceTables};
-use crate::values::mixed;
-use entry_codec::{Sqe, Status};
+use crate::values::{blocks_of, mixed};
+use entry_codec::Status;
 use std::alloc::{AllocError as NoMemory, Global};
 use std::collections::HashMap;
 
@@ -106,15 +106,6 @@ impl TraceTables {
     }
 }
 
-// The blocks that a command reads, compares or writes, where it can pass its checks.
-fn blocks_of(sqe: &Sqe, size: u32) -> Option<(u64, usize)> {
-    let end = sqe.slba().checked_add(u64::from(sqe.blocks()))?;
-    if sqe.blocks() > 256 || end > u64::from(size) {
-        return None;
-    }
-    Some((sqe.slba(), sqe.blocks() as usize))
-}
-
 impl Sources {
     // Notes that a value is published at this line, where that matters.
     fn note_line(&mut self, tables: &TraceTables, what: u64, line: usize) -> Result<(), NoMemory> {
@@ -157,9 +148,24 @@ impl Sources {
         self.places.get(&mixed(block, value)).copied()
     }
 
+    // Notes what an entry would write zeros to.
+    fn note_zeros(&mut self, tables: &TraceTables, entry: &Published) -> Result<(), NoMemory> {
+        let Some((slba, blocks)) = blocks_of(&entry.item.sqe(), tables.numbers.blocks) else {
+            return Ok(());
+        };
+        for k in 0..blocks {
+            let block = slba.saturating_add(k as u64);
+            self.note_line(tables, mixed(block, 0), entry.line)?;
+        }
+        Ok(())
+    }
+
     // Notes what an entry would write.
     fn note_writes(&mut self, tables: &mut TraceTables, entry: &Published) -> Result<(), NoMemory> {
         let sqe = entry.item.sqe();
+        if !entry.refused && sqe.is_write_zeroes() {
+            return self.note_zeros(tables, entry);
+        }
         if entry.refused || !sqe.is_write() || entry.item.length() != sqe.data_length() {
             return Ok(());
         }

@@ -1,6 +1,7 @@
 //! Blocks as values: blocks of zeros are 0, and two blocks that differ hardly ever have one value.
 
 use byteorder::{ByteOrder, LittleEndian};
+use entry_codec::Sqe;
 use std::alloc::{AllocError as NoMemory, Global};
 
 /// A number that hardly any other pair of numbers has.
@@ -40,4 +41,13 @@ pub(crate) fn empty_lists<T: Drop>(alloc: Global, count: u16) -> Result<Vec<Vec<
         lists.push(Vec::new(alloc))?;
     }
     Ok(lists)
+}
+
+/// The blocks that a command reads, compares or writes, where it can pass its checks.
+pub(crate) fn blocks_of(sqe: &Sqe, size: u32) -> Option<(u64, usize)> {
+    let end = sqe.slba().checked_add(u64::from(sqe.blocks()))?;
+    if sqe.blocks() > 256 || end > u64::from(size) {
+        return None;
+    }
+    Some((sqe.slba(), sqe.blocks() as usize))
 }

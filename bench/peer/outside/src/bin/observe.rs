@@ -15,8 +15,10 @@ const MOST_STATES: usize = 200_000;
 /// Of each change how many traces were explained, were not, and were left undecided.
 static SAID: [[AtomicU64; 3]; Change::ALL.len()] = [const { [const { AtomicU64::new(0) }; 3] }; Change::ALL.len()];
 
-/// Seeds of traces of which an earlier search said what isn't so. They are compared in each run.
-const ONCE_WRONG: [u64; 4] = [397_382, 661_011, 725_346, 761_699];
+/// Seeds of traces of which an earlier search said what isn't so, and whether they have a head. They are compared in each
+/// run.
+const ONCE_WRONG: [(u64, bool); 6] =
+    [(397_382, false), (661_011, false), (725_346, false), (761_699, false), (36_156, true), (74_053, true)];
 
 static WITNESSES: AtomicU64 = AtomicU64::new(0);
 
@@ -73,7 +75,7 @@ fn main() {
         }
     });
     let program = Program::new(Path::new(casdisk), Path::new(""), &Path::new(folder).join("once"));
-    ONCE_WRONG.iter().for_each(|seed| compare(&program, *seed, false));
+    ONCE_WRONG.iter().for_each(|(seed, has_head)| compare(&program, *seed, *has_head));
     let many = many + ONCE_WRONG.len() as u64;
     let mut sums = [0; 3];
     for (change, counts) in Change::ALL.iter().zip(&SAID) {
