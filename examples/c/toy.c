@@ -1,10 +1,12 @@
 /* Tests a toy device beside the controller: toy none|loser|phase|zeroes [SEED]
  *
- * Both are given the same random commands, of which one is under way at a time, or a fused pair. What hosts see of the
- * toy is written to standard output as a trace, which `casdisk observe` judges (docs/OBSERVING.md). The first line at
- * which the controller answers otherwise is told on standard error, and ends it with 1. */
+ * Both are given the same random commands, of which one is under way at a time, or a fused pair, until they answer
+ * otherwise: then the line is told on standard error. What hosts saw of the toy is a trace (docs/OBSERVING.md), which
+ * is written to standard output. The library judges it: it looks for a history that explains the trace, and certifies
+ * the one that it finds. What it says is told, and where it finds none the toy ends with 1. */
 #include "vandrexu.h"
 
+#include <stdarg.h>
 #include <stdio.h>
 #include <stdlib.h>
 #include <string.h>
@@ -91,11 +93,11 @@ static void toy_serve(struct toy *toy, const struct batch *batch, struct answer 
 static uint32_t serve(vandrexu_controller *disk, const struct batch *batch, struct answer *answer)
 {
     vandrexu_work work;
-    size_t length = 0, count;
+    size_t total = 0, count;
     uint32_t status;
     for (size_t place = 0; place < batch->count; place++)
-        length += batch->entries[place].count;
-    status = vandrexu_controller_publish(disk, batch->queue, batch->entries, batch->count, batch->data, length);
+        total += batch->entries[place].count;
+    status = vandrexu_controller_publish(disk, batch->queue, batch->entries, batch->count, batch->data, total);
     if (status == VANDREXU_DONE)
         status = vandrexu_controller_fetch(disk, batch->queue, &work);
     if (status == VANDREXU_DONE)
@@ -109,18 +111,33 @@ static uint32_t serve(vandrexu_controller *disk, const struct batch *batch, stru
 
 /* ---- The trace ---- */
 
-static void put_hex(const uint8_t *bytes, size_t length)
+static char trace[1 << 20];
+static size_t trace_length;
+
+static void put(const char *format, ...)
 {
-    for (size_t i = 0; i < length; i++)
-        printf("%02X", bytes[i]);
+    va_list words;
+    int count;
+    va_start(words, format);
+    count = vsnprintf(trace + trace_length, sizeof trace - trace_length, format, words);
+    va_end(words);
+    if (count < 0 || (size_t)count >= sizeof trace - trace_length)
+        exit(4);
+    trace_length += (size_t)count;
+}
+
+static void put_hex(const uint8_t *bytes, size_t count)
+{
+    for (size_t i = 0; i < count; i++)
+        put("%02X", bytes[i]);
 }
 
 /* Blocks of equal bytes, each told by one of them. */
-static void put_data(const uint8_t *data, size_t length)
+static void put_data(const uint8_t *data, size_t count)
 {
-    fputs(length == 0 ? " -" : " ", stdout);
-    for (size_t at = 0; at < length; at += BLOCK) {
-        fputs(at == 0 ? "" : ".", stdout);
+    put(count == 0 ? " -" : " ");
+    for (size_t at = 0; at < count; at += BLOCK) {
+        put(at == 0 ? "" : ".");
         put_hex(data + at, 1);
     }
 }
@@ -128,22 +145,41 @@ static void put_data(const uint8_t *data, size_t length)
 static void put_publish(const struct batch *batch)
 {
     const uint8_t *data = batch->data;
-    printf("publish %u ", batch->queue);
+    put("publish %u ", batch->queue);
     for (size_t place = 0; place < batch->count; place++) {
-        fputs(place == 0 ? "" : " + ", stdout);
+        put(place == 0 ? "" : " + ");
         put_hex(batch->entries[place].bytes, 64);
         put_data(data, batch->entries[place].count);
         data += batch->entries[place].count;
     }
-    puts("");
+    put("\n");
 }
 
 static void put_reap(const struct batch *batch, size_t place, const struct answer *answer)
 {
-    printf("reap %u ", batch->queue);
+    put("reap %u ", batch->queue);
     put_hex(answer->cqe[place], 16);
     put_data(answer->data, answer->length);
-    puts("");
+    put("\n");
+}
+
+/* Tells what the library says of the trace: 0 where a history explains it, which is then certified, 1 where none was
+ * found, 4 for anything else. */
+static int judge(void)
+{
+    static uint8_t history[1 << 20], words[4096];
+    const uint8_t *seen = (const uint8_t *)trace;
+    size_t found, needed;
+    uint64_t line;
+    uint32_t status = vandrexu_observe_text(seen, trace_length, 10000000, history, sizeof history, &found, words,
+                                            sizeof words, &needed, &line);
+    if (status != VANDREXU_DONE && status != VANDREXU_NOT_EXPLAINED)
+        return 4;
+    fwrite(words, 1, needed, stderr);
+    if (status == VANDREXU_NOT_EXPLAINED)
+        return 1;
+    status = vandrexu_certify_text(seen, trace_length, history, found, words, sizeof words, &needed, &line);
+    return status == VANDREXU_DONE ? 0 : 4;
 }
 
 /* ---- Random batches ---- */
@@ -201,7 +237,7 @@ static int is_alike(const struct answer *toy, const struct answer *right, size_t
            && memcmp(toy->data, right->data, right->length) == 0;
 }
 
-/* Gives both the same batches until they answer otherwise: 0, 1 where they do, 4 where the controller can't go on. */
+/* Gives both the same batches until they answer otherwise; 4 where the controller can't go on, else 0. */
 static int compare(struct toy *toy, vandrexu_controller *disk)
 {
     unsigned line = 1;
@@ -219,7 +255,7 @@ static int compare(struct toy *toy, vandrexu_controller *disk)
             line++;
             if (!is_alike(&mine, &right, place)) {
                 fprintf(stderr, "line %u: the controller answers otherwise\n", line);
-                return 1;
+                return 0;
             }
         }
     }
@@ -242,10 +278,11 @@ int main(int argc, char **argv)
         fputs("toy none|loser|phase|zeroes [SEED]: SEED is a number above 0\n", stderr);
         return 2;
     }
-    printf("config %d 1 1 0 0 %d %d %d 8\n", BLOCKS, QUEUES, SLOTS, SLOTS);
+    put("config %d 1 1 0 0 %d %d %d 8\n", BLOCKS, QUEUES, SLOTS, SLOTS);
     if (vandrexu_controller_new(&config, &disk) != VANDREXU_DONE)
         return 4;
     status = compare(&toy, &disk);
     vandrexu_controller_free(&disk);
-    return status;
+    fwrite(trace, 1, trace_length, stdout);
+    return status == 0 ? judge() : status;
 }

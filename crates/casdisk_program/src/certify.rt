@@ -2,21 +2,24 @@
 
 use crate::failure::{Failure, end_fault, failure_of};
 use crate::input::opened;
+use crate::kept::Kept;
 use casdisk_script::{CertifyFault, RunFault, certify_text};
 use line_reasons::Grammar;
+use std::alloc::Global;
 use std::io;
+use std::io::{Read, Write};
 use std::process::ExitCode;
 use std::rt::Files;
 
 /// Why a history wasn't compared with a trace; and the second line about it, where one was asked for.
 #[derive(Drop)]
-struct CertifyFailure {
-    fault: CertifyFault,
-    why: Option<String>,
+pub(crate) struct CertifyFailure {
+    pub(crate) fault: CertifyFault,
+    pub(crate) why: Option<String>,
 }
 
-// The failure of the trace.
-fn of_trace(failure: Failure) -> CertifyFailure {
+/// The failure of the trace.
+pub(crate) fn of_trace(failure: Failure) -> CertifyFailure {
     let Failure { fault, why } = failure;
     CertifyFailure {
         fault: CertifyFault::Trace(fault),
@@ -24,12 +27,41 @@ fn of_trace(failure: Failure) -> CertifyFailure {
     }
 }
 
-// The failure of the history.
-fn of_history(failure: Failure) -> CertifyFailure {
+/// The failure of the history.
+pub(crate) fn of_history(failure: Failure) -> CertifyFailure {
     let Failure { fault, why } = failure;
     CertifyFailure {
         fault: CertifyFault::History(fault),
         why,
+    }
+}
+
+/// Compares a history with a trace, which were opened, writes what is said of that, and says whether it explains it.
+pub(crate) fn compared<T: Read + Drop, H: Read + Drop, W: Write>(
+    alloc: Global,
+    trace_file: &str,
+    trace: &mut Kept<T>,
+    history_file: &str,
+    history: &mut Kept<H>,
+    writer: &mut W,
+) -> Result<bool, CertifyFailure> {
+    match certify_text(alloc, trace, history, writer) {
+        Ok(answer) => Ok(answer),
+        Err(CertifyFault::Trace(fault)) => Err(of_trace(failure_of(
+            alloc,
+            trace_file,
+            trace,
+            Grammar::Trace,
+            fault,
+        ))),
+        Err(CertifyFault::History(fault)) => Err(of_history(failure_of(
+            alloc,
+            history_file,
+            history,
+            Grammar::History,
+            fault,
+        ))),
+        Err(fault) => Err(CertifyFailure { fault, why: None }),
     }
 }
 
@@ -42,25 +74,20 @@ fn certified<R: Files + Input + Print + AllocGlobal>(
 ) -> Result<bool, CertifyFailure> {
     let mut trace = opened(rt, trace_file, why).map_err(of_trace)?;
     let mut history = opened(rt, history_file, why).map_err(of_history)?;
-    let alloc = rt.alloc();
-    match certify_text(alloc, &mut trace, &mut history, &mut io::writer(rt)) {
-        Ok(answer) => Ok(answer),
-        Err(CertifyFault::Trace(fault)) => Err(of_trace(failure_of(
-            alloc,
-            trace_file,
-            &trace,
-            Grammar::Trace,
-            fault,
-        ))),
-        Err(CertifyFault::History(fault)) => Err(of_history(failure_of(
-            alloc,
-            history_file,
-            &history,
-            Grammar::History,
-            fault,
-        ))),
-        Err(fault) => Err(CertifyFailure { fault, why: None }),
-    }
+    compared(
+        rt.alloc(),
+        trace_file,
+        &mut trace,
+        history_file,
+        &mut history,
+        &mut io::writer(rt),
+    )
+}
+
+/// Says why a history wasn't compared with a trace, and gives the status of that.
+pub(crate) fn end_certify<R: Eprint>(rt: &R, failure: CertifyFailure) -> u8 {
+    let CertifyFailure { fault, why } = failure;
+    end_fault(rt, fault, fault.status(), why)
 }
 
 // Compares a history with a trace, and gives the status 0 where it explains it, 1 where not, else that of the fault.
@@ -73,9 +100,6 @@ pub(crate) fn certify_files<R: Files + Input + Print + Eprint + AllocGlobal>(
     match certified(rt, why, trace, history) {
         Ok(true) => ExitCode::from(0),
         Ok(false) => ExitCode::from(1),
-        Err(failure) => {
-            let CertifyFailure { fault, why } = failure;
-            ExitCode::from(end_fault(rt, fault, fault.status(), why))
-        }
+        Err(failure) => ExitCode::from(end_certify(rt, failure)),
     }
 }

@@ -1,14 +1,41 @@
 //! The command `draw`.
 
+use crate::certify::{CertifyFailure, compared, end_certify, of_history, of_trace};
 use crate::failure::{end_failure, end_fault, failure_of};
 use crate::input::opened;
-use crate::program::BUFFER;
-use casdisk_script::RunFault;
+use crate::kept::Kept;
+use casdisk_script::{CertifyFault, RunFault};
+use command_line::SlotArea;
 use drawn_text::{DrawFault, DrawOptions, draw_text};
+use lane_shapes::LanesShown;
 use line_reasons::Grammar;
+use nvme_model::array::Range;
+use picture_shapes::{Aspect, Subject};
+use seeded_program::BUFFER;
 use std::io;
 use std::io::{BufWriter, Read, Write};
 use std::rt::Files;
+
+/// The lanes that are shown besides.
+pub(crate) fn lanes_of(blocks: bool, area: Option<SlotArea>) -> LanesShown {
+    let slots = match area {
+        Some(area) => Some(Range {
+            slba: area.first,
+            blocks: area.count,
+        }),
+        None => None,
+    };
+    LanesShown { blocks, slots }
+}
+
+// What is drawn: from the first step or to the last where none is named.
+fn options_of(from: Option<u64>, to: Option<u64>, aspect: Aspect) -> DrawOptions {
+    DrawOptions {
+        from: from.unwrap_or(1),
+        to: to.unwrap_or(u64::MAX),
+        aspect,
+    }
+}
 
 // Draws a history on standard output.
 fn drawn<R: Print + AllocGlobal, I: Read>(
@@ -26,27 +53,110 @@ fn drawn<R: Print + AllocGlobal, I: Read>(
     answer
 }
 
-/// Draws a history, and gives the status 0 where it is legal, 1 where it isn't, else that of the fault, whose words go
-/// to standard error.
-pub(crate) fn draw_file<R: Files + Input + Print + Eprint + AllocGlobal>(
+// Draws a history that was opened, and gives the status 0 where it is legal, 1 where it isn't, else that of the fault.
+fn draw_input<R: Print + Eprint + AllocGlobal, I: Read + Drop>(
     rt: &R,
-    options: DrawOptions,
-    why: bool,
+    options: &DrawOptions,
     file: &str,
+    input: &mut Kept<I>,
 ) -> u8 {
-    let mut input = match opened(rt, file, why) {
-        Ok(input) => input,
-        Err(failure) => return end_failure(rt, failure),
-    };
-    match drawn(rt, &options, &mut input) {
+    match drawn(rt, options, input) {
         Ok(true) => 0,
         Ok(false) => 1,
         Err(DrawFault::Run(fault)) => {
             end_failure(
                 rt,
-                failure_of(rt.alloc(), file, &input, Grammar::History, fault),
+                failure_of(rt.alloc(), file, input, Grammar::History, fault),
             )
         }
         Err(fault) => end_fault(rt, fault, fault.status(), None),
+    }
+}
+
+// The whole text of a history.
+fn text_of<R: Files + Input + AllocGlobal>(
+    rt: &R,
+    why: bool,
+    file: &str,
+) -> Result<Vec<u8>, CertifyFailure> {
+    let mut input = opened(rt, file, why).map_err(of_history)?;
+    let mut text: Vec<u8> = Vec::new(rt.alloc());
+    match input.read_to_end(&mut text) {
+        Ok(_) => Ok(text),
+        Err(_) => Err(of_history(failure_of(
+            rt.alloc(),
+            file,
+            &input,
+            Grammar::History,
+            RunFault::Input,
+        ))),
+    }
+}
+
+// Whether a history explains a trace; where it doesn't, prints what is said of that.
+fn explains<R: Files + Input + Print + AllocGlobal>(
+    rt: &R,
+    why: bool,
+    trace_file: &str,
+    file: &str,
+    history: &[u8],
+) -> Result<bool, CertifyFailure> {
+    let alloc = rt.alloc();
+    let mut trace = opened(rt, trace_file, why).map_err(of_trace)?;
+    let mut text = Kept::new(alloc, history, why);
+    let mut said: Vec<u8> = Vec::new(alloc);
+    let explained = compared(alloc, trace_file, &mut trace, file, &mut text, &mut said)?;
+    if !explained && io::writer(rt).write_all(said.as_slice()).is_err() {
+        return Err(CertifyFailure {
+            fault: CertifyFault::Output,
+            why: None,
+        });
+    }
+    Ok(explained)
+}
+
+// Draws a history as the witness of a trace, where it explains it; else says what `certify` says, and gives its status.
+fn draw_witness<R: Files + Input + Print + Eprint + AllocGlobal>(
+    rt: &R,
+    options: DrawOptions,
+    trace: &str,
+    why: bool,
+    file: &str,
+) -> u8 {
+    let text = match text_of(rt, why, file) {
+        Ok(text) => text,
+        Err(failure) => return end_certify(rt, failure),
+    };
+    match explains(rt, why, trace, file, text.as_slice()) {
+        Ok(true) => {
+            let mut history = Kept::new(rt.alloc(), text.as_slice(), why);
+            draw_input(rt, &options, file, &mut history)
+        }
+        Ok(false) => 1,
+        Err(failure) => end_certify(rt, failure),
+    }
+}
+
+/// Draws a history, and gives the status 0 where it is legal, 1 where it isn't, else that of the fault, whose words go
+/// to standard error. As the witness of a trace it is drawn only where it explains that.
+pub(crate) fn draw_file<R: Files + Input + Print + Eprint + AllocGlobal>(
+    rt: &R,
+    from: Option<u64>,
+    to: Option<u64>,
+    lanes: LanesShown,
+    trace: Option<&str>,
+    why: bool,
+    file: &str,
+) -> u8 {
+    if let Some(trace) = trace {
+        let subject = Subject::Witness;
+        let options = options_of(from, to, Aspect { subject, lanes });
+        return draw_witness(rt, options, trace, why, file);
+    }
+    let subject = Subject::History;
+    let options = options_of(from, to, Aspect { subject, lanes });
+    match opened(rt, file, why) {
+        Ok(mut input) => draw_input(rt, &options, file, &mut input),
+        Err(failure) => end_failure(rt, failure),
     }
 }

@@ -1,28 +1,24 @@
 //! The whole program, over any runtime.
 
 use crate::certify::certify_files;
-use crate::drawing::draw_file;
+use crate::drawing::{draw_file, lanes_of};
 use crate::failure::{Failure, end_failure, end_fault, failure_of};
 use crate::in_words::tell_file;
 use crate::input::{opened, size_of};
 use crate::observing::observe_file;
-use crate::progress::{CountedReader, CountedWriter, Counter};
-use crate::randoms::random_file;
-use crate::seeding::{RaceAsked, Turns, race_asked, race_into, race_seeds};
 use crate::shrinking::shrink_file;
 use crate::slots::{check_slots_file, explain_slots_file};
-use crate::tracing::{trace_race, trace_run};
+use crate::tracing::trace_run;
 use crate::unmarked::unmarked_unit;
 use broken_rules::Broken;
 use casdisk_script::{Explained, RunFault, check_text, explain_text, follow_text, run_script};
 use command_line::{Asked, Shown, UsageFault, asked};
-use drawn_text::DrawOptions;
+use counted_bytes::{CountedReader, Counter};
 use explained_words::{ExplainedWords, Unmarked};
 use history::Kinds;
 use line_reasons::Grammar;
 use nvme_model::config::ConfigFault;
-use race_numbers::Race;
-use race_run::RaceFault;
+use seeded_program::{BUFFER, race_as_asked, race_asked, random_file};
 use std::io::{BufWriter, Read, Write};
 use std::process::ExitCode;
 use std::rt::{Env, Files};
@@ -30,9 +26,6 @@ use std::sync::Wait;
 use std::thread::Threads;
 use std::time::Clock;
 use std::{env, io};
-
-/// How many bytes of output wait before they go out.
-pub(crate) const BUFFER: usize = 65_536;
 
 /// Does what the words of the command line ask, and says with which status the program ends: 0 where it is done,
 /// 1 where a history isn't legal or doesn't explain a trace, a search found none, or a race gave none, 2 after a bad
@@ -120,9 +113,15 @@ fn finish<R: Threads + Wait + Sync + Files + Clock + Input + Print + Eprint + Al
         Asked::Draw {
             from,
             to,
+            blocks,
+            area,
+            trace,
             why,
             file,
-        } => Ok(draw_file(rt, range_of(from, to), why, file)),
+        } => {
+            let lanes = lanes_of(blocks, area);
+            Ok(draw_file(rt, from, to, lanes, trace, why, file))
+        }
         Asked::Random {
             seed,
             lines,
@@ -132,6 +131,7 @@ fn finish<R: Threads + Wait + Sync + Files + Clock + Input + Print + Eprint + Al
         Asked::Shrink { why, script } => Ok(shrink_file(rt, why, script)),
         Asked::Race {
             race,
+            crash,
             seed,
             seeds,
             bias,
@@ -139,7 +139,7 @@ fn finish<R: Threads + Wait + Sync + Files + Clock + Input + Print + Eprint + Al
             quiet,
             why: _,
         } => {
-            return match race_asked(seed, seeds, bias, trace) {
+            return match race_asked(&race, crash, seed, seeds, bias, trace) {
                 Ok(asked) => race_as_asked(rt, &race, asked, trace, told && !quiet),
                 Err(words) => ExitCode::from(end_fault(rt, words, 2, None)),
             };
@@ -153,63 +153,6 @@ fn finish<R: Threads + Wait + Sync + Files + Clock + Input + Print + Eprint + Al
         Ok(status) => ExitCode::from(status),
         Err(failure) => ExitCode::from(end_failure(rt, failure)),
     }
-}
-
-// The steps that are drawn: from the first or to the last where none is named.
-fn range_of(from: Option<u64>, to: Option<u64>) -> DrawOptions {
-    DrawOptions {
-        from: from.unwrap_or(1),
-        to: to.unwrap_or(u64::MAX),
-    }
-}
-
-// Lets hosts race once, or by each of several seeds.
-fn race_as_asked<R: Threads + Wait + Sync + Clock + Print + Eprint + AllocGlobal>(
-    rt: &R,
-    race: &Race,
-    asked: RaceAsked,
-    trace: bool,
-    told: bool,
-) -> ExitCode {
-    match asked {
-        RaceAsked::Many(first, last, bias) => match race_seeds(rt, race, first, last, &bias) {
-            Ok(()) => ExitCode::from(0),
-            Err(fault) => end_race(rt, fault),
-        },
-        RaceAsked::One(turns) => {
-            if trace {
-                trace_race(rt, race, turns)
-            } else {
-                race_hosts(rt, race, turns, told)
-            }
-        }
-    }
-}
-
-// Lets hosts race.
-fn race_hosts<R: Threads + Wait + Sync + Clock + Print + Eprint + AllocGlobal>(
-    rt: &R,
-    race: &Race,
-    turns: Turns,
-    told: bool,
-) -> ExitCode {
-    let counted = CountedWriter::new(Counter::new(rt, told, None), io::writer(rt));
-    let Ok(mut output) = BufWriter::with_capacity(rt.alloc(), BUFFER, counted) else {
-        return end_race(rt, RaceFault::NoMemory);
-    };
-    let done = race_into(rt, race, turns, &mut output);
-    if output.flush().is_err() {
-        return end_race(rt, RaceFault::Output);
-    }
-    match done {
-        Ok(()) => ExitCode::from(0),
-        Err(fault) => end_race(rt, fault),
-    }
-}
-
-fn end_race<R: Eprint>(rt: &R, fault: RaceFault) -> ExitCode {
-    let _ = rt.eprintln(fault);
-    ExitCode::from(fault.status())
 }
 
 // Runs a script, and then gives the status 0. Its text goes out in pieces, the last of them before a fault is told;
@@ -268,7 +211,7 @@ fn check_file<R: Files + Clock + Input + Print + Eprint + AllocGlobal>(
     match answer {
         Ok(true) => Ok(0),
         Ok(false) => Ok(1),
-        Err(fault) => Err(failure_of(rt.alloc(), file, input.source(), Grammar::History, fault)),
+        Err(fault) => Err(failure_of(rt.alloc(), file, &input.source, Grammar::History, fault)),
     }
 }
 

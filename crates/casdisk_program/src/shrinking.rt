@@ -2,8 +2,8 @@
 
 use crate::failure::{end_failure, end_fault, failure_of};
 use crate::input::opened;
-use crate::program::BUFFER;
 use line_reasons::Grammar;
+use seeded_program::BUFFER;
 use shrunk_text::{Conversation, ShrinkFault, Shrunk, shrink_text, shrunk_status};
 use std::io;
 use std::io::{BufWriter, Read, Write};

@@ -1,7 +1,7 @@
 -- What the lines of a trace keep.
 use Rattle.std.proofs.Common.{◌≡◌, ℕ, ◌+◌, ◌<◌, ◌≤◌, ◌==◌, ◌&&◌, ◌||◌, not, Bool, true, false, cond, List, [], ◌∷◌}
 use Rattle.std.proofs.Common.{◌++◌}
-use Rattle.std.proofs.Common.{None, Some, drop, inl, inr, refl, sym, ap, ◌∙◌, is_some, is_none, arith, subst}
+use Rattle.std.proofs.Common.{None, Some, drop, inl, inr, refl, sym, ap, ◌∙◌, is_some, arith, subst}
 use Rattle.std.proofs.Common.{append_assoc, append-nil}
 use mathlib.Core.List.{reverse}
 use Rattle.std.specs.Prelude.{IfSome, Option, Ok, Err, nat_lt, option_map}
@@ -14,7 +14,6 @@ use Rattle.nvme_model.specs.Config.{config_fault}
 use Rattle.nvme_model.specs.History.{Past}
 use Rattle.nvme_model.specs.declared.config.ConfigFault.{ConfigFault}
 use Rattle.nvme_model.specs.declared.config.ConfigNumbers.{ConfigNumbers}
-use Rattle.nvme_model.specs.declared.entry.Entry.{Entry}
 use Rattle.history.specs.ConfigLine.{config_in}
 use Rattle.seen_trace.specs.Aside.{history_numbers}
 use Rattle.seen_trace.specs.Options.{no_options}
@@ -33,8 +32,8 @@ use Rattle.casdisk_script.specs.Script.{bad_line}
 use Rattle.casdisk_script.specs.Script.{cut, done, first_config, lines_print, script_outcome, script_prints}
 use Rattle.casdisk_script.specs.Traces.{HasCollected, HasTrace, IsTraceUnread, TakesOption, TraceEndsSo, bit}
 use Rattle.casdisk_script.specs.Traces.{config_after, has_room}
-use Rattle.casdisk_script.specs.Traces.{kept_as, kept_by, kept_option, line_kept, may_stand, option_kept_as, option_of}
-use Rattle.casdisk_script.specs.Traces.{options_kept, options_of, rank_kept, things_in, things_kept, trace_in}
+use Rattle.casdisk_script.specs.Traces.{kept_as, kept_by, kept_option, line_kept, may_stand, option_kept_as}
+use Rattle.casdisk_script.specs.Traces.{options_kept, rank_kept, things_in, things_kept}
 use Rattle.casdisk_script.specs.Traces.{unless_option, wider_config, with_thing}
 use Rattle.casdisk_script.specs.declared.fault.RunFault.{RunFault}
 use Rattle.casdisk_script.specs.declared.fault.RunFault.TheVariants.{BadLine, BadConfig, Input, Output, NoMemory}

@@ -4,7 +4,7 @@ use Rattle.std.proofs.Common.{ℕ, ◌∙◌}
 use mathlib.Core.List.{reverse}
 use Rattle.std.proofs.lemmas.List.{reverse-reverse}
 use Rattle.std.proofs.KnownBytes.{Keeps-refl}
-use Rattle.std.specs.Io.KnownBytes.{IsAtEnd, Keeps}
+use Rattle.std.specs.Io.KnownBytes.{IsAtEnd}
 use Rattle.std.specs.Prelude.{IfSome}
 use Rattle.nvme_model.specs.FirstBad.{IsFirstBad}
 use Rattle.nvme_model.specs.History.{Past}

@@ -9,7 +9,7 @@ use Rattle.nvme_model.specs.declared.config.ConfigNumbers.{ConfigNumbers}
 use Rattle.trace_texts.specs.TraceText.{trace_text}
 use Rattle.casdisk_script.specs.Files.{HasHistory, IsUnread}
 use Rattle.casdisk_script.specs.declared.fault.RunFault.{RunFault}
-use Rattle.casdisk_script.specs.declared.fault.RunFault.TheVariants.{BadConfig, BadLine, Input, NoMemory, Output}
+use Rattle.casdisk_script.specs.declared.fault.RunFault.TheVariants.{NoMemory, Output}
 
 -- By what was answered of a history: its trace was written where it is legal, nothing where it isn't, or a beginning.
 abbrev pub WritesTrace : ConfigNumbers → Past → Result Bool RunFault → (old new : Option (List ℕ)) → Type 0

@@ -6,9 +6,10 @@ ghost use Rattle.casdisk_script.specs.Tracing.{TracesText, WritesTrace};
 use crate::fault::RunFault;
 use crate::history_reading::{ReadHistory, read_history};
 use history_check::{CheckFault, check};
+use history_text::PrintFault;
 use std::alloc::Global;
 use std::io::{Read, Write};
-use trace_texts::{TracePrintFault, print_trace};
+use trace_texts::print_trace;
 
 // Writes the trace of a history, where it is legal, and says whether it is.
 fn write_trace<W: Write>(
@@ -26,8 +27,8 @@ fn write_trace<W: Write>(
     }
     match print_trace(alloc, &told.config, told.entries.as_slice(), writer) {
         Ok(()) => Ok(true),
-        Err(TracePrintFault::Output) => Err(RunFault::Output),
-        Err(TracePrintFault::NoMemory) => Err(RunFault::NoMemory),
+        Err(PrintFault::Output) => Err(RunFault::Output),
+        Err(PrintFault::NoMemory) => Err(RunFault::NoMemory),
     }
 }
 

@@ -5,7 +5,7 @@ use Rattle.std.specs.Str.Parse.{ParsesUnsigned}
 use Rattle.std.specs.declared.num.ParseIntError.{ParseIntError}
 use Rattle.clap.specs.Words.{ReadsOne, Row, Text, one_of}
 use Rattle.clap.proofs.OnLiterals.{clap_on_literals}
-use Rattle.clap.specs.Words.{is_simple, subcommand_of}
+use Rattle.clap.specs.Words.{is_simple, is_simple_and_free, subcommand_of}
 use Rattle.command_line.specs.Asking.{Asks, AsksBy, MaySayNumber, SaysNumber}
 use Rattle.command_line.specs.CommandLine.{casdisk_app, subcommand_in}
 use Rattle.command_line.specs.declared.request.Asked.{Asked}
@@ -69,6 +69,11 @@ pub casdisk_is_simple : is_simple casdisk_app ≡ true
 unfolding clap_on_literals
 casdisk_is_simple = refl
 
+-- nor has an option a rule on another one
+pub casdisk_is_free : is_simple_and_free casdisk_app ≡ true
+unfolding clap_on_literals
+casdisk_is_free = refl
+
 pub named : (words : List Text) (name : Text) (rows : List Row) → subcommand_of casdisk_app words ≡ Some (name, rows)
     → subcommand_in words ≡ Some (name, rows)
 unfolding subcommand_in
@@ -83,8 +88,8 @@ by_command words name rows e (Asked.Explain area why file) h = (name, rows, e, h
 by_command words name rows e (Asked.Certify why trace history) h = (name, rows, e, h)
 by_command words name rows e (Asked.Observe witness steps why trace) h = (name, rows, e, h)
 by_command words name rows e (Asked.Tell color file) h = (name, rows, e, h)
-by_command words name rows e (Asked.Draw from to why file) h = (name, rows, e, h)
+by_command words name rows e (Asked.Draw from to blocks area trace why file) h = (name, rows, e, h)
 by_command words name rows e (Asked.Random seed lines config like) h = (name, rows, e, h)
 by_command words name rows e (Asked.Shrink why script) h = (name, rows, e, h)
-by_command words name rows e (Asked.Race r seed seeds bias trace quiet why) h = (name, rows, e, h)
+by_command words name rows e (Asked.Race r crash seed seeds bias trace quiet why) h = (name, rows, e, h)
 by_command words name rows e (Asked.Show text) h = absurd h

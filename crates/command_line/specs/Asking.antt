@@ -1,14 +1,15 @@
 -- What a command line asks for.
-use Rattle.std.specs.Prelude.{Bool, List, None, Ok, Option, Some, [], codes, false, is_some, option_map, true, ◌&&◌}
-use Rattle.std.specs.Prelude.{◌≡◌, ◌≢◌, ◌∷◌, ◌⊎◌, ℕ}
+use Rattle.std.specs.Prelude.{Bool, List, None, Ok, Option, Some, [], bytes_eq, codes, false, is_some, nat_le}
+use Rattle.std.specs.Prelude.{option_map, true, unwrap_or, ◌&&◌, ◌-◌, ◌^◌, ◌≡◌, ◌≢◌, ◌∷◌, ◌⊎◌, ℕ}
 use Rattle.std.specs.Borrow.{Bor}
 use Rattle.std.specs.Str.Parse.{ParsesUnsigned}
 use Rattle.std.specs.declared.num.ParseIntError.{ParseIntError}
-use Rattle.clap.specs.Words.{Row, Text, all_of, first_of, one_of}
+use Rattle.clap.specs.Words.{IsAmong, Row, Text, all_of, first_of, one_of}
+use Rattle.clap.specs.declared.error.kind.ErrorKind.{ErrorKind}
 use Rattle.casdisk_script.specs.Kinds.{kinds_in}
 use Rattle.race_numbers.specs.Races.{usage_of}
 use Rattle.race_numbers.specs.declared.race.Race.{Race}
-use Rattle.command_line.specs.CommandLine.{subcommand_in, is_taken}
+use Rattle.command_line.specs.CommandLine.{faults_in, are_words_taken, subcommand_in}
 use Rattle.command_line.specs.declared.request.Asked.{Asked}
 use Rattle.command_line.specs.declared.request.Shown.{Shown}
 use Rattle.command_line.specs.declared.request.SlotArea.{SlotArea}
@@ -16,7 +17,7 @@ use Rattle.command_line.specs.declared.request.UsageFault.{UsageFault}
 
 -- the numbers of a race that is asked for are in their ranges
 abbrev pub IsRaceInRange : Asked → Type 0
-IsRaceInRange (Asked.Race r seed seeds bias trace quiet why) =
+IsRaceInRange (Asked.Race r crash seed seeds bias trace quiet why) =
     usage_of r.hosts r.workers r.slots r.rounds r.queues ≡ None
 IsRaceInRange _ = Unit {0}
 
@@ -123,10 +124,30 @@ pub record SaysTell (rows : List Row) (color : Bool) (file : Text) : Type 0 wher
   pub colors : SaysFlag (codes "color") rows color
   pub reads : SaysText (codes "FILE") rows file
 
+-- whether there is a step from the first of these places to the last, counted from 1, where both may be left out
+abbrev pub is_step_range : (from to : Option ℕ) → Bool
+is_step_range from to =
+    nat_le 1 (unwrap_or from 1) && nat_le 1 (unwrap_or to 1)
+    && nat_le (unwrap_or from 1) (unwrap_or to (2 ^ 64 - 1))
+
+-- the range of steps that the options say
+abbrev pub IsStepRange : List Row → (from to : Option ℕ) → Type 0
+IsStepRange rows from to =
+    MaySayNumber (codes "from") rows from × MaySayNumber (codes "to") rows to × (is_step_range from to ≡ true)
+
+-- a trace and a history are both standard input
+abbrev pub is_one_input : Option Text → Text → Bool
+is_one_input None file = false
+is_one_input (Some trace) file = bytes_eq trace (codes "-") && bytes_eq file (codes "-")
+
 -- what the options of `draw` say
-pub record SaysDraw (rows : List Row) (from to : Option ℕ) (why : Bool) (file : Text) : Type 0 where
-  pub begins : MaySayNumber (codes "from") rows from
-  pub ends : MaySayNumber (codes "to") rows to
+pub record SaysDraw (rows : List Row) (from to : Option ℕ) (blocks : Bool) (area : Option SlotArea)
+    (trace : Option (Bor Text)) (why : Bool) (file : Text) : Type 0 where
+  pub range : IsStepRange rows from to
+  pub values : SaysFlag (codes "blocks") rows blocks
+  pub slots : SaysArea rows area
+  pub saw : MaySayText (codes "trace") rows trace
+  pub two : is_one_input (first_of (codes "trace") rows) file ≡ false
   pub reason : SaysFlag (codes "why") rows why
   pub reads : SaysText (codes "FILE") rows file
 
@@ -144,9 +165,10 @@ pub record SaysShrink (rows : List Row) (why : Bool) (script : Text) : Type 0 wh
   pub other : script ≢ codes "-"
 
 -- what the options of `race` say
-pub record SaysRace (rows : List Row) (r : Race) (seed : Option ℕ) (seeds bias : Option (Bor Text))
+pub record SaysRace (rows : List Row) (r : Race) (crash seed : Option ℕ) (seeds bias : Option (Bor Text))
     (trace quiet why : Bool) : Type 0 where
   pub numbers : SaysNumbers rows r.hosts r.workers r.slots r.rounds r.queues
+  pub dying : MaySayNumber (codes "crash") rows crash
   pub begins : MaySayNumber (codes "seed") rows seed
   pub many : MaySayText (codes "seeds") rows seeds
   pub weights : MaySayText (codes "bias") rows bias
@@ -170,12 +192,13 @@ AsksBy name rows (Asked.Certify why trace history) =
 AsksBy name rows (Asked.Observe witness steps why trace) =
     (name ≡ codes "observe") × SaysObserve rows witness steps why trace.now
 AsksBy name rows (Asked.Tell color file) = (name ≡ codes "tell") × SaysTell rows color file.now
-AsksBy name rows (Asked.Draw from to why file) = (name ≡ codes "draw") × SaysDraw rows from to why file.now
+AsksBy name rows (Asked.Draw from to blocks area trace why file) =
+    (name ≡ codes "draw") × SaysDraw rows from to blocks area trace why file.now
 AsksBy name rows (Asked.Random seed lines config like) =
     (name ≡ codes "random") × SaysRandom rows seed lines config like
 AsksBy name rows (Asked.Shrink why script) = (name ≡ codes "shrink") × SaysShrink rows why script.now
-AsksBy name rows (Asked.Race r seed seeds bias trace quiet why) =
-    (name ≡ codes "race") × SaysRace rows r seed seeds bias trace quiet why
+AsksBy name rows (Asked.Race r crash seed seeds bias trace quiet why) =
+    (name ≡ codes "race") × SaysRace rows r crash seed seeds bias trace quiet why
 AsksBy name rows (Asked.Show text) = ⊥
 
 -- the words name a command, whose options ask for it
@@ -183,9 +206,27 @@ abbrev pub AsksByCommand : List Text → Asked → Type 0
 AsksByCommand words asked =
     (name : Text) × (rows : List Row) × (subcommand_in words ≡ Some (name, rows)) × AsksBy name rows asked
 
--- the words ask for it; a text is shown only where clap takes them for no command line, as where they ask for help
+-- an error of this kind is what clap answers to words that ask for help or for the version
+abbrev pub IsShowing : ErrorKind → Type 0
+IsShowing kind = (kind ≡ ErrorKind.DisplayHelp) ⊎ (kind ≡ ErrorKind.DisplayVersion)
+
+-- what is answered where clap makes an error of this kind: a text, where the words ask for one
+abbrev pub IsShownBy : ErrorKind → Asked → Type 0
+IsShownBy kind (Asked.Show text) = IsShowing kind
+IsShownBy kind asked = ⊥
+
+-- what is told where clap makes an error of this kind: its text, unless memory was refused or the words ask for a text
+abbrev pub IsToldBy : ErrorKind → UsageFault → Type 0
+IsToldBy kind (UsageFault.Text text) = (kind ≢ ErrorKind.OutOfMemory) × (IsShowing kind → ⊥)
+IsToldBy kind UsageFault.NoMemory = Unit {0}
+
+-- the words are no command line of the program, and clap may answer them by an error of a kind for which this holds
+abbrev pub IsNoneBy : (ErrorKind → Type 0) → List Text → Type 0
+IsNoneBy P words = (are_words_taken words ≡ false) × ((kind : ErrorKind) × IsAmong kind (faults_in words) × P kind)
+
+-- the words ask for it; a text is shown only where clap finds that they ask for help or for the version
 abbrev pub Asks : List Text → Asked → Type 0
-Asks words (Asked.Show text) = is_taken words ≡ false
+Asks words (Asked.Show text) = IsNoneBy IsShowing words
 Asks words asked = AsksByCommand words asked
 
 -- no command has this name
@@ -214,6 +255,18 @@ IsNoArea rows =
 abbrev pub FollowsArea : List Row → Type 0
 FollowsArea rows = (a : SlotArea) × SaysArea rows (Some a) × SaysFlag (codes "follow") rows true
 
+-- a range of steps is named that has none
+abbrev pub IsNoRange : List Row → Type 0
+IsNoRange rows =
+    (from : Option ℕ) × (to : Option ℕ) × MaySayNumber (codes "from") rows from × MaySayNumber (codes "to") rows to
+    × (is_step_range from to ≡ false)
+
+-- the trace and the history that are named are both standard input
+abbrev pub IsOneInput : List Row → Type 0
+IsOneInput rows =
+    (file : Text) × (first_of (codes "FILE") rows ≡ Some file)
+    × (is_one_input (first_of (codes "trace") rows) file ≡ true)
+
 -- no trace or no history is named, or both are standard input
 abbrev pub AreNoInputs : List Row → Type 0
 AreNoInputs rows =
@@ -234,8 +287,8 @@ abbrev pub IsNoScript : List Row → Type 0
 IsNoScript rows = (first_of (codes "SCRIPT") rows ≡ None) ⊎ (first_of (codes "SCRIPT") rows ≡ Some (codes "-"))
 
 -- The options of a command of this name ask for nothing: no file is named where one has to be, what is to be shown is
--- unknown, the words of an area are no area, two options exclude each other, or the numbers are those of no race. There
--- is no other command.
+-- unknown, the words of an area are no area, a range has no step, two options exclude each other, or the numbers are
+-- those of no race. There is no other command.
 abbrev pub AskNothing : Text → List Row → Type 0
 AskNothing name rows =
     ((name ≡ codes "run") × (IsNoFile rows ⊎ IsNotShown rows))
@@ -245,7 +298,7 @@ AskNothing name rows =
     ⊎ ((name ≡ codes "certify") × AreNoInputs rows)
     ⊎ ((name ≡ codes "observe") × IsNoSearch rows)
     ⊎ ((name ≡ codes "tell") × IsNoFile rows)
-    ⊎ ((name ≡ codes "draw") × IsNoFile rows)
+    ⊎ ((name ≡ codes "draw") × (IsNoFile rows ⊎ IsNoArea rows ⊎ IsNoRange rows ⊎ IsOneInput rows))
     ⊎ ((name ≡ codes "random") × IsNoRandom rows)
     ⊎ ((name ≡ codes "shrink") × IsNoScript rows)
     ⊎ IsOther name
@@ -259,9 +312,9 @@ HasCause P (UsageFault.Text text) = P
 abbrev pub IsRefusedBy : Text → List Row → UsageFault → Type 0
 IsRefusedBy name rows fault = HasCause (AskNothing name rows) fault
 
--- A text says why the words are refused only where they are no command line of the program by clap's definitions, or
--- name a command whose options ask for nothing.
+-- A text says why the words are refused only where clap finds that they are no command line of the program, and not
+-- because they ask for help or for the version; or where they name a command whose options ask for nothing.
 abbrev pub AreRefused : List Text → UsageFault → Type 0
 AreRefused words fault =
-    HasCause ((is_taken words ≡ false) ⊎ (subcommand_in words ≡ None)
+    HasCause (IsNoneBy (λ kind. IsShowing kind → ⊥) words ⊎ (subcommand_in words ≡ None)
     ⊎ ((name : Text) × (rows : List Row) × (subcommand_in words ≡ Some (name, rows)) × AskNothing name rows)) fault

@@ -1,6 +1,7 @@
 -- The program's command line, as clap's definitions see it.
 use Rattle.std.specs.Prelude.{Bool, List, Option, Some, [], codes, true, ◌∷◌}
-use Rattle.clap.specs.Words.{App, Row, Rule, Text, new_app, new_rule, subcommand_of, takes, with_rule, with_subcommand}
+use Rattle.clap.specs.Words.{App, Kinds, Row, Rule, Text, fault_of, new_app, new_rule, subcommand_of, takes, with_rule}
+use Rattle.clap.specs.Words.{with_subcommand}
 use Rattle.clap.specs.declared.builder.action.ArgAction.TheVariants.{Set, SetTrue}
 use Rattle.clap.specs.declared.builder.value_parser.ValueParser.TheVariants.{Unsigned}
 
@@ -65,8 +66,8 @@ with_race_rules a =
 -- a command with what the turns of a race are drawn from
 abbrev pub with_turn_rules : App → App
 with_turn_rules a =
-    with_rule (with_rule (with_rule a (number_rule (codes "seed"))) (text_rule (codes "seeds")))
-    (text_rule (codes "bias"))
+    with_rule (with_rule (with_rule (with_rule a (number_rule (codes "crash"))) (number_rule (codes "seed")))
+    (text_rule (codes "seeds"))) (text_rule (codes "bias"))
 
 -- the command `race` with its options
 abbrev pub race_app : App
@@ -94,10 +95,15 @@ tell_app = with_rule (with_rule (new_app (codes "tell")) (flag_rule (codes "colo
 abbrev pub with_range_rules : App → App
 with_range_rules a = with_rule (with_rule a (number_rule (codes "from"))) (number_rule (codes "to"))
 
+-- a command with what is shown besides
+abbrev pub with_lane_rules : App → App
+with_lane_rules a =
+    with_rule (with_rule (with_rule a (flag_rule (codes "blocks"))) area_rule) (text_rule (codes "trace"))
+
 -- the command `draw` with its options
 abbrev pub draw_app : App
 draw_app =
-    with_rule (with_rule (with_range_rules (new_app (codes "draw"))) (flag_rule (codes "why")))
+    with_rule (with_rule (with_lane_rules (with_range_rules (new_app (codes "draw")))) (flag_rule (codes "why")))
     (input_rule (codes "FILE"))
 
 -- the command `random` with its options
@@ -128,6 +134,10 @@ casdisk_app =
 unfoldable pub subcommand_in : List Text → Option (Text × List Row)
 subcommand_in words = subcommand_of casdisk_app words
 
+-- The kinds of error that clap may have for the words, none where they are a command line of the program.
+unfoldable pub faults_in : List Text → Kinds
+faults_in words = fault_of casdisk_app words
+
 -- the words are a command line of the program
-unfoldable pub is_taken : List Text → Bool
-is_taken words = takes casdisk_app words
+unfoldable pub are_words_taken : List Text → Bool
+are_words_taken words = takes casdisk_app words

@@ -1,17 +1,32 @@
 //! The command `draw`.
 
-ghost use Rattle.std.specs.Prelude.{◌≡◌, IfErr, IfOk, codes};
+ghost use Rattle.std.specs.Prelude.{◌≡◌, IfErr, IfOk, codes, is_none, option_map};
 ghost use Rattle.clap.specs.Words.{app_of, found_of, rows_of};
-ghost use Rattle.command_line.specs.Asking.{AsksBy, IsRaceInRange, IsRefusedBy};
-ghost use Rattle.command_line.specs.CommandLine.{draw_app, with_range_rules};
+ghost use Rattle.command_line.specs.Asking.{AsksBy, HasCause, IsNoRange, IsRaceInRange, IsStepRange, IsRefusedBy};
+ghost use Rattle.command_line.specs.Asking.{is_one_input, is_step_range};
+ghost use Rattle.command_line.specs.CommandLine.{draw_app, with_lane_rules, with_range_rules};
 
+use crate::area::area_asked;
 use crate::options::{
-    HISTORY, WHY, flag_asked, number_may_be, text_asked, text_of, with_flag, with_input,
-    with_number,
+    HISTORY, WHY, flag_asked, number_may_be, text_asked, text_of, with_area, with_flag, with_input,
+    with_number, with_text,
 };
 use crate::request::{Asked, UsageFault};
 use clap::{ArgMatches, Command};
 use std::alloc::{AllocError, Global};
+
+const BLOCKS: &str = "Show the value of each block that is touched";
+
+const SLOTS: &str =
+    "Show who holds each slot and is believed to, on COUNT blocks from block FIRST on";
+
+const TRACE: &str = "Draw it only if it explains what hosts saw, and show what they saw";
+
+const FROM_IS_0: &str = "error: '--from' is the place of a step, from 1";
+
+const TO_IS_0: &str = "error: '--to' is the place of a step, from 1";
+
+const FROM_BEHIND: &str = "error: '--from' is a later step than '--to'";
 
 const ABOUT_PICTURES: &str = "\
 What is printed is one SVG, which any browser opens. A history is what 'casdisk run' prints: a
@@ -19,8 +34,12 @@ configuration line, and then a line for each step; K counts those lines from 1. 
 isn't legal, the picture ends with its first bad step. At most 10000 steps are drawn: see
 docs/DRAWING.md.
 
-Exit status: 0 where it is drawn, 1 where the history isn't legal, 2 after a bad line or
-configuration, or where there are too many steps.";
+With --trace, a history that doesn't explain TRACE isn't drawn: what is printed then is what
+'casdisk certify TRACE FILE' prints.
+
+Exit status: 0 where it is drawn, 1 where the history isn't legal or doesn't explain the trace, 2
+after a bad line or configuration, where the slots go beyond the volume, or where there are too many
+steps.";
 
 // The command with its range of steps.
 fn with_range<'a>(alloc: Global, command: Command<'a>) -> Result<Command<'a>, AllocError>
@@ -30,6 +49,15 @@ fn with_range<'a>(alloc: Global, command: Command<'a>) -> Result<Command<'a>, Al
     with_number(alloc, command, "to", "K", "End with step K")
 }
 
+// The command with what it shows besides.
+fn with_lanes<'a>(alloc: Global, command: Command<'a>) -> Result<Command<'a>, AllocError>
+    ensures { IfOk result (λ c. app_of c ≡ with_lane_rules (app_of command.entry)) }
+{
+    let command = with_flag(alloc, command, "blocks", BLOCKS)?;
+    let command = with_area(alloc, command, SLOTS)?;
+    with_text(alloc, command, "trace", "TRACE", TRACE)
+}
+
 pub(crate) fn draw_command<'a>(alloc: Global) -> Result<Command<'a>, AllocError>
     ensures { IfOk result (λ c. app_of c ≡ draw_app) }
 {
@@ -37,8 +65,55 @@ pub(crate) fn draw_command<'a>(alloc: Global) -> Result<Command<'a>, AllocError>
         .about("Draws a history as a picture, an SVG")
         .after_help(ABOUT_PICTURES);
     let command = with_range(alloc, command)?;
+    let command = with_lanes(alloc, command)?;
     let command = with_flag(alloc, command, "why", WHY)?;
     with_input(alloc, command, "FILE", HISTORY)
+}
+
+// What is wrong with a range of steps, if something is.
+fn range_fault(from: Option<u64>, to: Option<u64>) -> Option<&'static str>
+    ensures value { is_none result ≡ is_step_range from to }
+{
+    if from.unwrap_or(1) == 0 {
+        return Some(FROM_IS_0);
+    }
+    if to.unwrap_or(1) == 0 {
+        return Some(TO_IS_0);
+    }
+    if to.unwrap_or(u64::MAX) < from.unwrap_or(1) {
+        return Some(FROM_BEHIND);
+    }
+    None
+}
+
+/// A range of steps, of which the first and the last may be left out.
+#[derive(Clone, Copy)]
+struct StepRange {
+    from: Option<u64>,
+    to: Option<u64>,
+}
+
+// The range of steps that the options say.
+fn range_asked(alloc: Global, matches: &ArgMatches<'_>) -> Result<StepRange, UsageFault>
+    ensures says { IfOk result (λ r. IsStepRange (rows_of (found_of matches.now)) r.from r.to) }
+    ensures refuses { IfErr result (HasCause (IsNoRange (rows_of (found_of matches.now)))) }
+{
+    let from = number_may_be(matches, "from");
+    let to = number_may_be(matches, "to");
+    match range_fault(from, to) {
+        Some(words) => Err(text_of(alloc, words)),
+        None => Ok(StepRange { from, to }),
+    }
+}
+
+// Whether the trace and the history are both standard input.
+fn is_one_input(trace: Option<&str>, file: &str) -> bool
+    ensures value { result ≡ is_one_input (option_map (λ t. t.now) trace.entry) file.now }
+{
+    match trace {
+        Some(trace) => trace == "-" && file == "-",
+        None => false,
+    }
 }
 
 pub(crate) fn draw_asked<'a>(
@@ -49,13 +124,28 @@ pub(crate) fn draw_asked<'a>(
     ensures race { IfOk result IsRaceInRange }
     ensures refuses { IfErr result (IsRefusedBy (codes "draw") (rows_of (found_of matches.now))) }
 {
-    match text_asked(matches, "FILE") {
-        Some(file) => Ok(Asked::Draw {
-            from: number_may_be(matches, "from"),
-            to: number_may_be(matches, "to"),
-            why: flag_asked(matches, "why"),
-            file,
-        }),
-        None => Err(text_of(alloc, "error: no file")),
+    let range = match range_asked(alloc, matches) {
+        Ok(range) => range,
+        Err(fault) => return Err(fault),
+    };
+    let area = match area_asked(alloc, matches) {
+        Ok(area) => area,
+        Err(fault) => return Err(fault),
+    };
+    let Some(file) = text_asked(matches, "FILE") else {
+        return Err(text_of(alloc, "error: no file"));
+    };
+    let trace = text_asked(matches, "trace");
+    if is_one_input(trace, file) {
+        return Err(text_of(alloc, "error: TRACE and FILE are both standard input"));
     }
+    Ok(Asked::Draw {
+        from: range.from,
+        to: range.to,
+        blocks: flag_asked(matches, "blocks"),
+        area,
+        trace,
+        why: flag_asked(matches, "why"),
+        file,
+    })
 }

@@ -16,6 +16,8 @@ use std::alloc::{AllocError, Global};
 
 const TRACE: &str = "Print what hosts see, the lines of a trace, in place of the history's";
 
+const CRASH: &str = "So many hosts die, and the others take their slots over";
+
 const SEED: &str = "Race on one thread, by turns that this seed draws";
 
 const SEEDS: &str = "Race once by each seed from A to B, and say of each that it is legal";
@@ -31,10 +33,15 @@ With a seed all of them are on one thread, and a draw says who acts next, by wei
 and who finds the controller busy. The same numbers, seed and weights print the same history
 everywhere, byte for byte.
 
+With --crash some hosts stop for ever in the middle of what they do, drawn by the seed, 1 where none
+is named. Once the others have made their rounds, they take the dead hosts' slots over and give them
+back. A dead host publishes nothing from then on.
+
 All hosts have at most 16 submission queues.
 
-Exit status: 0 where all is done, 1 where there is no history, or it isn't legal, 2 after a bad
-command line, 3 after a failed output, 4 without memory or threads.";
+Exit status: 0 where all is done, 1 where there is no history, or it isn't legal or breaks the
+rules of its slots, 2 after a bad command line, 3 after a failed output, 4 without memory or
+threads.";
 
 // The command with the numbers of a race.
 fn with_numbers<'a>(alloc: Global, command: Command<'a>) -> Result<Command<'a>, AllocError>
@@ -65,6 +72,7 @@ fn with_numbers<'a>(alloc: Global, command: Command<'a>) -> Result<Command<'a>, 
 fn with_turns<'a>(alloc: Global, command: Command<'a>) -> Result<Command<'a>, AllocError>
     ensures { IfOk result (λ c. app_of c ≡ with_turn_rules (app_of command.entry)) }
 {
+    let command = with_number(alloc, command, "crash", "N", CRASH)?;
     let command = with_number(alloc, command, "seed", "N", SEED)?;
     let command = with_text(alloc, command, "seeds", "A..B", SEEDS)?;
     with_text(alloc, command, "bias", "WEIGHTS", BIAS)
@@ -126,6 +134,7 @@ pub(crate) fn race_asked<'a>(
     match Race::new(hosts, workers, slots, rounds, queues) {
         Ok(race) => Ok(Asked::Race {
             race,
+            crash: number_may_be(matches, "crash"),
             seed: number_may_be(matches, "seed"),
             seeds: text_asked(matches, "seeds"),
             bias: text_asked(matches, "bias"),

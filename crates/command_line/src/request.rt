@@ -71,10 +71,13 @@ pub enum Asked<'a> {
         file: &'a str,
     },
     /// To draw the steps of the history in this file from one place to another, where none is named from its first or
-    /// to its last.
+    /// to its last; with the values of blocks, with an area of slots, and as the witness of the trace in another file.
     Draw {
         from: Option<u64>,
         to: Option<u64>,
+        blocks: bool,
+        area: Option<SlotArea>,
+        trace: Option<&'a str>,
         why: bool,
         file: &'a str,
     },
@@ -92,9 +95,11 @@ pub enum Asked<'a> {
         script: &'a str,
     },
     /// To let hosts race, and print the history, or its trace: on threads, or by turns that this seed makes. Where
-    /// several seeds are named, to let them race once by each. The weights of the turns are those that are named.
+    /// several seeds are named, to let them race once by each. The weights of the turns are those that are named. So
+    /// many of the hosts die.
     Race {
         race: Race,
+        crash: Option<u64>,
         seed: Option<u64>,
         seeds: Option<&'a str>,
         bias: Option<&'a str>,

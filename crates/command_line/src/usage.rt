@@ -1,8 +1,8 @@
 //! The command line.
 
 ghost use Rattle.std.specs.Prelude.{◌≡◌, IfErr, IfOk, IsOkAnd, map, string_bytes, true};
-ghost use Rattle.clap.specs.Words.{app_of, found_of, rows_of, with_subcommand};
-ghost use Rattle.command_line.specs.Asking.{AreRefused, Asks, AsksBy, IsRaceInRange, IsRefusedBy};
+ghost use Rattle.clap.specs.Words.{app_of, found_of, kind_of, rows_of, with_subcommand};
+ghost use Rattle.command_line.specs.Asking.{AreRefused, Asks, AsksBy, IsRaceInRange, IsRefusedBy, IsShownBy, IsToldBy};
 ghost use Rattle.command_line.specs.CommandLine.{casdisk_app, top_app};
 
 use crate::certify::{certify_asked, certify_command};
@@ -17,7 +17,7 @@ use crate::running::{run_asked, run_command};
 use crate::shrinking::{shrink_asked, shrink_command};
 use crate::telling::{tell_asked, tell_command};
 use clap::error::ErrorKind;
-use clap::{ArgMatches, Command};
+use clap::{ArgMatches, Command, Error};
 use std::alloc::{AllocError, Global};
 
 const ABOUT_SCRIPTS: &str = "\
@@ -101,6 +101,21 @@ fn command_asked<'a>(
     }
 }
 
+// What is answered to words of which clap makes this error: its text where they ask for help or for the version, and
+// else that it is one.
+fn untaken<'a>(alloc: Global, error: &Error) -> Result<Asked<'a>, UsageFault>
+    ensures shown { IfOk result (IsShownBy (kind_of error.now)) }
+    ensures told { IfErr result (IsToldBy (kind_of error.now)) }
+{
+    match error.kind() {
+        ErrorKind::OutOfMemory => Err(UsageFault::NoMemory),
+        ErrorKind::DisplayHelp | ErrorKind::DisplayVersion => {
+            Ok(Asked::Show(error.to_string(alloc)?))
+        }
+        _ => Err(UsageFault::Text(error.to_string(alloc)?)),
+    }
+}
+
 /// Reads the words that the program was started with, its name first. The numbers of a race that is asked for are in
 /// their ranges.
 ///
@@ -115,15 +130,7 @@ pub fn asked<'a>(alloc: Global, words: &'a [String]) -> Result<Asked<'a>, UsageF
 {
     let matches = match command(alloc)?.try_get_matches_from(words) {
         Ok(matches) => matches,
-        Err(error) => {
-            return match error.kind() {
-                ErrorKind::OutOfMemory => Err(UsageFault::NoMemory),
-                ErrorKind::DisplayHelp | ErrorKind::DisplayVersion => {
-                    Ok(Asked::Show(error.to_string(alloc)?))
-                }
-                _ => Err(UsageFault::Text(error.to_string(alloc)?)),
-            };
-        }
+        Err(error) => return untaken(alloc, &error),
     };
     match matches.subcommand() {
         Some((name, inner)) => command_asked(alloc, name, inner),

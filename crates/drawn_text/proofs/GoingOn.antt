@@ -12,6 +12,7 @@ use Rattle.casdisk_script.specs.Judged.{HasJudged}
 use Rattle.casdisk_script.specs.declared.judging.FirstBad.{FirstBad}
 use Rattle.history_check.specs.Kept.{CheckerRun}
 use Rattle.picture_shapes.specs.Picture.{PictureState, picture_after, picture_of, picture_step}
+use Rattle.picture_shapes.specs.declared.picture.Aspect.{Aspect}
 use Rattle.drawn_text.specs.Drawn.{HasDrawn, drawn_next, end_of, steps_drawn, steps_to}
 use Rattle.drawn_text.specs.declared.drawer.DrawOptions.{DrawOptions}
 
@@ -48,13 +49,13 @@ step_words c v w None None n e s t p q h = ap (picture_after c n e) h
 step_words c v w None (Some k) n e s t p q h = absurd (let no : ⊥ = cc in no)
 step_words c v w (Some k) b n e s t p q h = absurd (let no : ⊥ = cc in no)
 
-same_words : (c : ConfigNumbers) (from to : ℕ) (v w : List ℕ) (past : Past) → first_bad_of c past ≡ None
-    → picture_of c from to v past ≡ picture_of c from to w past
-same_words c from to v w [] h = refl
-same_words c from to v w (e ∷ past) h =
+same_words : (c : ConfigNumbers) (from to : ℕ) (a : Aspect) (v w : List ℕ) (past : Past) → first_bad_of c past ≡ None
+    → picture_of c from to a v past ≡ picture_of c from to a w past
+same_words c from to a v w [] h = refl
+same_words c from to a v w (e ∷ past) h =
     let before = earlier_none (first_bad_of c past) _ h in
     step_words c v w (first_bad_of c past) (first_bad_of c (e ∷ past)) (length past + 1) e
-    (picture_of c from to v past) (picture_of c from to w past) before h (same_words c from to v w past before)
+    (picture_of c from to a v past) (picture_of c from to a w past) before h (same_words c from to a v w past before)
 
 -- a step of equals
 step_same : (c d : ConfigNumbers) (w : List ℕ) (a b g : Option ℕ) (n m : ℕ) (e : Entry) (s t : PictureState) → c ≡ d
@@ -105,18 +106,18 @@ goes_on c o past e config x y n m bad bad' s t w h none j d =
     before : end_of c past ≡ length past
     before = ap (λ a. unwrap_or a (length past)) clean
 
-    all : steps_drawn c o (e ∷ past) ≤ 10000 → t ≡ picture_of c o.from o.to w (e ∷ past)
+    all : steps_drawn c o (e ∷ past) ≤ 10000 → t ≡ picture_of c o.from o.to o.aspect w (e ∷ past)
     all few =
         let here : steps_to o.from o.to m ≤ 10000 = subst (λ k. steps_to o.from o.to k ≤ 10000) ends few in
         let low : length past ≤ m = omega (arith, count) in
         let old : steps_to o.from o.to (length past) ≤ 10000 = few_before o.from o.to (length past) m low here in
         let old' : steps_drawn c o past ≤ 10000 =
         subst (λ k. steps_to o.from o.to k ≤ 10000) (sym before) old in
-        let drawn : s ≡ picture_of c o.from o.to w past =
-        h.drawn old' ∙ same_words c o.from o.to h.words w past clean in
+        let drawn : s ≡ picture_of c o.from o.to o.aspect w past =
+        h.drawn old' ∙ same_words c o.from o.to o.aspect h.words w past clean in
         d ∙ next_few config o.from o.to w bad'.place m e s (not_more (steps_to o.from o.to m) here)
         ∙ step_same config c w (first_bad_of c past) bad'.place (first_bad_of c (e ∷ past)) m (length past + 1) e s
-        (picture_of c o.from o.to w past) h.same clean j.first.place count drawn
+        (picture_of c o.from o.to o.aspect w past) h.same clean j.first.place count drawn
 
 -- an entry behind one that is bad
 pub stays : (c : ConfigNumbers) (o : DrawOptions) (past : Past) (e : Entry) (config : ConfigNumbers) (x y : CheckerRun)
@@ -133,11 +134,11 @@ stays c o past e config x y n m bad bad' s h some j =
     ended : is_some (first_bad_of c past) ≡ true
     ended = ap is_some (sym h.judged.first.place) ∙ some
 
-    all : steps_drawn c o (e ∷ past) ≤ 10000 → s ≡ picture_of c o.from o.to h.words (e ∷ past)
+    all : steps_drawn c o (e ∷ past) ≤ 10000 → s ≡ picture_of c o.from o.to o.aspect h.words (e ∷ past)
     all few =
         let same : end_of c past ≡ end_of c (e ∷ past) =
         end_stays (first_bad_of c past) _ (length past) (length (e ∷ past)) ended in
         let old : steps_drawn c o past ≤ 10000 = subst (λ k. steps_to o.from o.to k ≤ 10000) (sym same) few in
         h.drawn old
         ∙ sym (step_stays c h.words (first_bad_of c past) (first_bad_of c (e ∷ past)) (length past + 1) e
-        (picture_of c o.from o.to h.words past) ended)
+        (picture_of c o.from o.to o.aspect h.words past) ended)

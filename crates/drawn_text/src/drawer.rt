@@ -4,12 +4,12 @@ ghost use Rattle.std.specs.Prelude.{◌≡◌, ◌∷◌, [], IfOk, List, OnOk, 
 ghost use Rattle.nvme_model.specs.History.{Past};
 ghost use Rattle.nvme_model.specs.declared.config.ConfigNumbers.{ConfigNumbers};
 ghost use Rattle.casdisk_script.specs.Files.{entry_added};
-ghost use Rattle.drawn_text.specs.Drawn.{HasDrawn, drawn_next, steps_to};
+ghost use Rattle.drawn_text.specs.Drawn.{HasDrawn, drawn_next, options_list, steps_to};
 
 use broken_rules::Broken;
 use casdisk_script::{BadStep, Explained, FirstBad, Judge, LineMeaning, Taken, WriteFault};
 use history::{Config, Entry, LineFault, parse_line};
-use picture_shapes::{Picture, Words};
+use picture_shapes::{Aspect, Picture, PictureWords};
 use std::alloc::{AllocError as NoMemory, Global};
 use std::io::Write;
 use std::string::ToString;
@@ -17,11 +17,12 @@ use std::string::ToString;
 /// The most steps that are drawn.
 pub(crate) const MOST_STEPS: u64 = 10_000;
 
-/// What is drawn of a history: its steps from one place to another, from 1.
+/// What is drawn of a history: its steps from one place to another, from 1, and what is shown besides.
 #[derive(Clone, Copy, Debug, PartialEq, Eq)]
 pub struct DrawOptions {
     pub from: u64,
     pub to: u64,
+    pub aspect: Aspect,
 }
 
 // Judges and draws the entries of lines, and keeps none of them.
@@ -44,12 +45,12 @@ pub(crate) fn steps_to(options: &DrawOptions, place: u64) -> u64
 }
 
 // Says which rule the first bad step breaks.
-fn bad_words(alloc: Global, place: u64, broken: Option<Broken>) -> Result<Words, NoMemory> {
+fn bad_words(alloc: Global, place: u64, broken: Option<Broken>) -> Result<PictureWords, NoMemory> {
     let Some(broken) = broken else {
-        return Ok(Words::new(String::new(alloc)));
+        return Ok(PictureWords::new(String::new(alloc)));
     };
     let words = Explained::BadAt(BadStep { place, broken }).to_string(alloc)?;
-    Ok(Words::new(words))
+    Ok(PictureWords::new(words))
 }
 
 // Draws the entry at this place, where no bad one precedes it, and there aren't too many to draw.
@@ -91,7 +92,7 @@ impl Drawer {
             config: *config,
             options: *options,
             judge: Judge::new(alloc, config)?,
-            picture: Picture::new(alloc, options.from, options.to),
+            picture: Picture::new(alloc, options.from, options.to, options.aspect),
         })
     }
 
@@ -130,7 +131,7 @@ impl LineMeaning for Drawer {
 
     ghost meaning = { λ _. entry_added };
 
-    ghost fixed = { λ m. m.options.from ∷ m.options.to ∷ [] };
+    ghost fixed = { λ m. options_list m.options };
 
     fn take_line<W: Write>(&mut self, line: &[u8], _writer: &mut W) -> Result<Taken, WriteFault> {
         let entry = match parse_line(self.alloc, line) {

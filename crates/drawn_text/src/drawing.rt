@@ -54,8 +54,10 @@ fn write_drawn<W: Write>(
 ///
 /// # Errors
 ///
-/// `TooLong` with the number of steps, where there are more than 10,000 to draw; `Run` with the faults of `check_text`.
-/// But for `Run(Output)`, which comes after a beginning of the text, nothing was written.
+/// `NoSlots` where there is an area of slots without a block, before anything is read; `Beyond` with the blocks of the
+/// volume, where the area goes beyond it, as soon as the configuration line is read; `TooLong` with the number of
+/// steps, where there are more than 10,000 to draw; `Run` with the faults of `check_text`. But for `Run(Output)`, which
+/// comes after a beginning of the text, nothing was written.
 pub fn draw_text<R: Read, W: Write>(
     alloc: Global,
     options: &DrawOptions,
@@ -67,6 +69,6 @@ pub fn draw_text<R: Read, W: Write>(
 {
     match read_drawing(alloc, options, reader) {
         Ok(drawer) => write_drawn(alloc, options, &drawer, writer),
-        Err(fault) => Err(DrawFault::Run(fault)),
+        Err(fault) => Err(fault),
     }
 }

@@ -15,6 +15,12 @@ pub enum DrawFault {
     /// There are more than 10,000 steps to draw, which is how many there are.
     #[error("too long to draw: {0} steps; give --from and --to")]
     TooLong(u64),
+    /// The area of slots has no block.
+    #[error("there is no slot to draw: COUNT is 0")]
+    NoSlots,
+    /// The area of slots goes beyond the volume, which has this many blocks.
+    #[error("the slots go beyond the volume, which has {0} blocks")]
+    Beyond(u32),
 }
 
 impl DrawFault {
@@ -24,7 +30,7 @@ impl DrawFault {
     {
         match self {
             DrawFault::Run(fault) => fault.status(),
-            DrawFault::TooLong(_) => 2,
+            DrawFault::TooLong(_) | DrawFault::NoSlots | DrawFault::Beyond(_) => 2,
         }
     }
 }

@@ -7,7 +7,7 @@ ghost use Rattle.driver_rows.specs.Benches.{AreBenchSpares, uses};
 
 use crate::callers::{on_both, server_of};
 use crate::sent::{Sent, one, published_in, two};
-use crate::turns::{Turn, turns_all};
+use crate::turns::{BenchTurn, turns_all};
 use crate::under_way::pass_of;
 use driver_cas::Fault;
 use driver_rows::{AnswerWords, Ask, Bench, BenchSpares, Fill, bench_of};
@@ -44,7 +44,7 @@ fn pass_after<R: Abort + Wait>(
     alloc: Global,
     bench: &Bench,
     spares: &mut BenchSpares,
-    turns: &[Turn],
+    turns: &[BenchTurn],
 ) -> Result<Pass<Core>, Fail>
     requires own { AreBenchSpares bench.now spares.old }
     requires some { 1 ≤ bench.now.config.cqs }
@@ -64,7 +64,7 @@ pub(crate) fn core_after<R: Abort + Wait>(
     rt: &R,
     alloc: Global,
     sq: u16,
-    turns: &[Turn],
+    turns: &[BenchTurn],
 ) -> Result<Core, Fail> {
     let (bench, mut spares) = narrow(alloc, sq)?;
     let pass = pass_after(rt, alloc, &bench, &mut spares, turns)?;
@@ -80,7 +80,7 @@ fn publishes<R: Abort + Wait>(
     rt: &R,
     alloc: Global,
     sq: u16,
-    turns: &[Turn],
+    turns: &[BenchTurn],
     all: &[Sent],
 ) -> Result<(), Fail> {
     let core = core_after(rt, alloc, sq, turns)?;
@@ -92,22 +92,22 @@ fn publishes<R: Abort + Wait>(
 #[test]
 fn one_entry_fills_a_queue(rt: HostRuntime) -> Result<(), Fail> {
     let turns = [
-        Turn::Refused(PAIR, FULL),
-        Turn::Begin(READ),
-        Turn::Begin(READ),
-        Turn::Refused(READ, FULL),
-        Turn::Refused(PAIR, FULL),
-        Turn::Serve(1),
-        Turn::Begin(READ),
-        Turn::Refused(READ, FULL),
-        Turn::Serve(1),
-        Turn::Serve(2),
-        Turn::Listen(true),
-        Turn::Listen(true),
-        Turn::Listen(true),
-        Turn::End(0, 1, ZEROS),
-        Turn::End(0, 2, ZEROS),
-        Turn::End(0, 1, ZEROS),
+        BenchTurn::Refused(PAIR, FULL),
+        BenchTurn::Begin(READ),
+        BenchTurn::Begin(READ),
+        BenchTurn::Refused(READ, FULL),
+        BenchTurn::Refused(PAIR, FULL),
+        BenchTurn::Serve(1),
+        BenchTurn::Begin(READ),
+        BenchTurn::Refused(READ, FULL),
+        BenchTurn::Serve(1),
+        BenchTurn::Serve(2),
+        BenchTurn::Listen(true),
+        BenchTurn::Listen(true),
+        BenchTurn::Listen(true),
+        BenchTurn::End(0, 1, ZEROS),
+        BenchTurn::End(0, 2, ZEROS),
+        BenchTurn::End(0, 1, ZEROS),
     ];
     publishes(
         &rt,
@@ -122,31 +122,31 @@ fn one_entry_fills_a_queue(rt: HostRuntime) -> Result<(), Fail> {
 #[test]
 fn two_entries_fill_a_queue(rt: HostRuntime) -> Result<(), Fail> {
     let turns = [
-        Turn::Begin(READ),
-        Turn::Begin(PAIR),
-        Turn::Begin(READ),
-        Turn::Refused(READ, FULL),
-        Turn::Refused(PAIR, FULL),
-        Turn::Serve(2),
-        Turn::Begin(READ),
-        Turn::Refused(PAIR, FULL),
-        Turn::Serve(1),
-        Turn::Begin(PAIR),
-        Turn::Serve(1),
-        Turn::Serve(2),
-        Turn::Listen(true),
-        Turn::Listen(true),
-        Turn::Listen(true),
-        Turn::Listen(true),
-        Turn::Listen(true),
-        Turn::Listen(true),
-        Turn::Listen(true),
-        Turn::Listen(false),
-        Turn::End(0, 3, ZEROS),
-        Turn::End(0, 1, AnswerWords::Differs),
-        Turn::End(0, 1, ZEROS),
-        Turn::End(0, 3, ZEROS),
-        Turn::End(0, 1, AnswerWords::Differs),
+        BenchTurn::Begin(READ),
+        BenchTurn::Begin(PAIR),
+        BenchTurn::Begin(READ),
+        BenchTurn::Refused(READ, FULL),
+        BenchTurn::Refused(PAIR, FULL),
+        BenchTurn::Serve(2),
+        BenchTurn::Begin(READ),
+        BenchTurn::Refused(PAIR, FULL),
+        BenchTurn::Serve(1),
+        BenchTurn::Begin(PAIR),
+        BenchTurn::Serve(1),
+        BenchTurn::Serve(2),
+        BenchTurn::Listen(true),
+        BenchTurn::Listen(true),
+        BenchTurn::Listen(true),
+        BenchTurn::Listen(true),
+        BenchTurn::Listen(true),
+        BenchTurn::Listen(true),
+        BenchTurn::Listen(true),
+        BenchTurn::Listen(false),
+        BenchTurn::End(0, 3, ZEROS),
+        BenchTurn::End(0, 1, AnswerWords::Differs),
+        BenchTurn::End(0, 1, ZEROS),
+        BenchTurn::End(0, 3, ZEROS),
+        BenchTurn::End(0, 1, AnswerWords::Differs),
     ];
     let all = [one(1, 0), two(2, 0, 1), one(1, 1), one(2, 2), two(1, 2, 3)];
     publishes(&rt, rt.alloc(), 3, &turns, &all)

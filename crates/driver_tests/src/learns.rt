@@ -7,7 +7,7 @@ ghost use Rattle.driver_tests.specs.Flights.{AreInFlight};
 
 use crate::callers::{on_own, server_of};
 use crate::full::core_after;
-use crate::turns::{Turn, turns};
+use crate::turns::{BenchTurn, turns};
 use crate::under_way::{CallsInFlight, meets, meets_server};
 use driver_rows::{AnswerWords, Ask, Bench, BenchSpares, Fill, Server, bench_of, small_bench};
 use history::Config;
@@ -26,8 +26,8 @@ const ZEROS: AnswerWords = AnswerWords::Read(512, 0);
 /// What one of two hosts does with a server, or both.
 #[derive(Clone, Copy)]
 enum Deed {
-    One(Turn),
-    Two(Turn),
+    One(BenchTurn),
+    Two(BenchTurn),
     /// They meet, and neither is Busy.
     Meet,
     /// The first meets the server, and neither is Busy.
@@ -125,17 +125,17 @@ fn last_hosts_do<R: Abort + Wait>(rt: &R, alloc: Global, all: &[Deed]) -> Result
 // Host a writes, host b reads what it wrote, and they meet between all that.
 fn round(byte: u8, a: u16, b: u16) -> [Deed; 13] {
     [
-        Deed::One(Turn::Begin(Ask::Write(2, Fill(byte, 512)))),
+        Deed::One(BenchTurn::Begin(Ask::Write(2, Fill(byte, 512)))),
         Deed::Meet,
-        Deed::One(Turn::Serve(a)),
-        Deed::One(Turn::Listen(true)),
-        Deed::One(Turn::End(0, 1, AnswerWords::Written)),
+        Deed::One(BenchTurn::Serve(a)),
+        Deed::One(BenchTurn::Listen(true)),
+        Deed::One(BenchTurn::End(0, 1, AnswerWords::Written)),
         Deed::Meet,
         Deed::MeetServer,
-        Deed::Two(Turn::Begin(READ)),
-        Deed::Two(Turn::Serve(b)),
-        Deed::Two(Turn::Listen(true)),
-        Deed::Two(Turn::End(0, 1, AnswerWords::Read(512, byte))),
+        Deed::Two(BenchTurn::Begin(READ)),
+        Deed::Two(BenchTurn::Serve(b)),
+        Deed::Two(BenchTurn::Listen(true)),
+        Deed::Two(BenchTurn::End(0, 1, AnswerWords::Read(512, byte))),
         Deed::Meet,
         Deed::Meet,
     ]
@@ -169,18 +169,18 @@ fn hosts_of_later_queues_meet(rt: HostRuntime) -> Result<(), Fail> {
 #[test]
 fn only_notices_are_counted(rt: HostRuntime) -> Result<(), Fail> {
     let all = [
-        Deed::One(Turn::Begin(READ)),
-        Deed::One(Turn::Begin(READ)),
-        Deed::One(Turn::Listen(false)),
-        Deed::One(Turn::Serve(1)),
+        Deed::One(BenchTurn::Begin(READ)),
+        Deed::One(BenchTurn::Begin(READ)),
+        Deed::One(BenchTurn::Listen(false)),
+        Deed::One(BenchTurn::Serve(1)),
         Deed::Meet,
-        Deed::One(Turn::End(0, 1, AnswerWords::Pending)),
-        Deed::One(Turn::Listen(true)),
-        Deed::One(Turn::Listen(true)),
-        Deed::One(Turn::Listen(false)),
-        Deed::One(Turn::End(0, 2, ZEROS)),
-        Deed::One(Turn::Begin(READ)),
-        Deed::One(Turn::End(0, 1, AnswerWords::Pending)),
+        Deed::One(BenchTurn::End(0, 1, AnswerWords::Pending)),
+        Deed::One(BenchTurn::Listen(true)),
+        Deed::One(BenchTurn::Listen(true)),
+        Deed::One(BenchTurn::Listen(false)),
+        Deed::One(BenchTurn::End(0, 2, ZEROS)),
+        Deed::One(BenchTurn::Begin(READ)),
+        Deed::One(BenchTurn::End(0, 1, AnswerWords::Pending)),
     ];
     hosts_do(&rt, rt.alloc(), &all)
 }
@@ -189,18 +189,18 @@ fn only_notices_are_counted(rt: HostRuntime) -> Result<(), Fail> {
 #[test]
 fn a_notice_of_another_queue_is_not_counted(rt: HostRuntime) -> Result<(), Fail> {
     let all = [
-        Deed::Two(Turn::Begin(READ)),
-        Deed::Two(Turn::Serve(2)),
-        Deed::One(Turn::Begin(READ)),
-        Deed::One(Turn::Begin(READ)),
-        Deed::One(Turn::Serve(1)),
-        Deed::One(Turn::Listen(true)),
-        Deed::One(Turn::End(0, 1, AnswerWords::Pending)),
-        Deed::One(Turn::Listen(true)),
-        Deed::One(Turn::Listen(true)),
-        Deed::One(Turn::Listen(false)),
-        Deed::One(Turn::End(0, 2, ZEROS)),
-        Deed::Two(Turn::End(0, 1, AnswerWords::Pending)),
+        Deed::Two(BenchTurn::Begin(READ)),
+        Deed::Two(BenchTurn::Serve(2)),
+        Deed::One(BenchTurn::Begin(READ)),
+        Deed::One(BenchTurn::Begin(READ)),
+        Deed::One(BenchTurn::Serve(1)),
+        Deed::One(BenchTurn::Listen(true)),
+        Deed::One(BenchTurn::End(0, 1, AnswerWords::Pending)),
+        Deed::One(BenchTurn::Listen(true)),
+        Deed::One(BenchTurn::Listen(true)),
+        Deed::One(BenchTurn::Listen(false)),
+        Deed::One(BenchTurn::End(0, 2, ZEROS)),
+        Deed::Two(BenchTurn::End(0, 1, AnswerWords::Pending)),
     ];
     hosts_do(&rt, rt.alloc(), &all)
 }
@@ -226,10 +226,10 @@ fn is_written<R: Abort>(rt: &R, alloc: Global, core: &Core) -> Result<(), Fail> 
 #[test]
 fn the_pass_comes_back(rt: HostRuntime) -> Result<(), Fail> {
     let turns = [
-        Turn::Begin(Ask::Write(2, Fill(0xa1, 512))),
-        Turn::Serve(1),
-        Turn::Listen(true),
-        Turn::End(0, 1, AnswerWords::Written),
+        BenchTurn::Begin(Ask::Write(2, Fill(0xa1, 512))),
+        BenchTurn::Serve(1),
+        BenchTurn::Listen(true),
+        BenchTurn::End(0, 1, AnswerWords::Written),
     ];
     let core = core_after(&rt, rt.alloc(), 4, &turns)?;
     is_written(&rt, rt.alloc(), &core)

@@ -10,7 +10,7 @@ use std::process::Abort;
 use std::sync::Wait;
 
 #[derive(Clone, Copy)]
-pub(crate) enum Turn {
+pub(crate) enum BenchTurn {
     /// The host begins a call. It is in flight behind the others.
     Begin(Ask),
     /// The host begins a call, which is refused so.
@@ -30,27 +30,27 @@ pub(crate) fn turns<R: Abort + Wait>(
     bench: &Bench,
     server: &mut Server,
     flight: &mut CallsInFlight<'_>,
-    turn: Turn,
+    turn: BenchTurn,
 )
     requires { IsServerOf bench.now server.old × AreInFlight bench.now flight.old.host flight.old.calls.items }
     ensures { IsServerOf bench.now server.new × AreInFlight bench.now flight.new.host flight.new.calls.items }
 {
     match turn {
-        Turn::Begin(ask) => {
+        BenchTurn::Begin(ask) => {
             let begun = launches(bench, flight, ask);
             assert_eq!(rt; begun, Ok(()));
         }
-        Turn::Refused(ask, fault) => {
+        BenchTurn::Refused(ask, fault) => {
             let begun = launches(bench, flight, ask);
             let want = Err(fault);
             assert_eq!(rt; begun, want);
         }
-        Turn::Serve(queue) => assert!(rt; serves(rt, bench, server, queue)),
-        Turn::Listen(took) => {
+        BenchTurn::Serve(queue) => assert!(rt; serves(rt, bench, server, queue)),
+        BenchTurn::Listen(took) => {
             let heard = listens(rt, bench, flight);
             assert_eq!(rt; heard, took);
         }
-        Turn::End(place, polls, told) => {
+        BenchTurn::End(place, polls, told) => {
             let ended = lands(bench, flight, place, polls);
             let want = Some((told, polls));
             assert_eq!(rt; ended, want);
@@ -64,7 +64,7 @@ pub(crate) fn turns_all<R: Abort + Wait>(
     bench: &Bench,
     server: &mut Server,
     flight: &mut CallsInFlight<'_>,
-    all: &[Turn],
+    all: &[BenchTurn],
 )
     requires { IsServerOf bench.now server.old × AreInFlight bench.now flight.old.host flight.old.calls.items }
     ensures { IsServerOf bench.now server.new × AreInFlight bench.now flight.new.host flight.new.calls.items }

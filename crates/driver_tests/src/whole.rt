@@ -46,7 +46,7 @@ enum Deed {
 
 /// Which host does it, or both.
 #[derive(Clone, Copy)]
-enum Turn {
+enum HostsTurn {
     One(Deed),
     Two(Deed),
     /// They meet, and neither is Busy.
@@ -202,7 +202,7 @@ fn do_all<R: Abort + Wait>(
     slots: &Slots,
     one: &mut Claimant<'_>,
     two: &mut Claimant<'_>,
-    all: &[Turn],
+    all: &[HostsTurn],
 )
     requires crew { AreCrewOf bench.now works.now crew.old.fetcher crew.old.into crew.old.worker crew.old.out }
     requires one { IsClaimant bench.now slots.now one.old }
@@ -214,9 +214,9 @@ fn do_all<R: Abort + Wait>(
 {
     for turn in all {
         match *turn {
-            Turn::One(deed) => does(rt, bench, works, crew, slots, one, deed),
-            Turn::Two(deed) => does(rt, bench, works, crew, slots, two, deed),
-            Turn::Meet => assert!(rt; meets(bench, slots, one, two)),
+            HostsTurn::One(deed) => does(rt, bench, works, crew, slots, one, deed),
+            HostsTurn::Two(deed) => does(rt, bench, works, crew, slots, two, deed),
+            HostsTurn::Meet => assert!(rt; meets(bench, slots, one, two)),
         }
     }
 }
@@ -263,7 +263,7 @@ fn pass_after<R: Abort + Wait>(
     spares: &mut BenchSpares,
     works: &WorkQueue,
     places: &mut Vec<QueuePass<Work>>,
-    all: &[Turn],
+    all: &[HostsTurn],
 ) -> Result<Pass<Core>, Fail>
     requires own { AreBenchSpares bench.now spares.old }
     requires places { All (IsPlaceOf bench.now.engine works.now) places.old.items }
@@ -279,7 +279,7 @@ fn pass_after<R: Abort + Wait>(
 }
 
 // The controller after all of this.
-fn core_after<R: Abort + Wait>(rt: &R, alloc: Global, all: &[Turn]) -> Result<Core, Fail> {
+fn core_after<R: Abort + Wait>(rt: &R, alloc: Global, all: &[HostsTurn]) -> Result<Core, Fail> {
     let (bench, mut spares) = small_bench(alloc, 4, 4).ok_or("memory")?;
     let (works, mut places) = MessageQueue::<Work>::new(alloc, &bench.engine, 4, 2)?;
     let pass = pass_after(rt, alloc, &bench, &mut spares, &works, &mut places, all)?;
@@ -297,24 +297,24 @@ fn all_calls_in_one_run(rt: HostRuntime) -> Result<(), Fail> {
     let a1 = Fill(0xa1, 512);
     let b2 = Fill(0xb2, 512);
     let all = [
-        Turn::One(Deed::Asks(Ask::Write(2, a1), AnswerWords::Written)),
-        Turn::One(Deed::Asks(Ask::WriteZeroes(3, 1), AnswerWords::Written)),
-        Turn::Two(Deed::Asks(Ask::Read(2, 1), AnswerWords::Read(512, 0xa1))),
-        Turn::Two(Deed::Asks(Ask::Compare(2, a1), AnswerWords::Equal)),
-        Turn::Meet,
-        Turn::Two(Deed::Asks(Ask::CompareAndWrite(2, a1, b2), AnswerWords::Swapped)),
-        Turn::One(Deed::Asks(Ask::Compare(2, a1), AnswerWords::Differs)),
-        Turn::One(Deed::Meets),
-        Turn::One(Deed::Claims(Came::Held(0))),
-        Turn::Two(Deed::Claims(Came::Taken)),
-        Turn::Two(Deed::ClaimsAny(Came::Held(1))),
-        Turn::Meet,
-        Turn::One(Deed::Releases),
-        Turn::Two(Deed::Leaves(1, 3)),
-        Turn::Two(Deed::ClaimsAny(Came::Held(0))),
-        Turn::One(Deed::ClaimsAny(Came::AllTaken)),
-        Turn::Two(Deed::Releases),
-        Turn::One(Deed::Asks(Ask::Read(0, 1), AnswerWords::Read(512, 0))),
+        HostsTurn::One(Deed::Asks(Ask::Write(2, a1), AnswerWords::Written)),
+        HostsTurn::One(Deed::Asks(Ask::WriteZeroes(3, 1), AnswerWords::Written)),
+        HostsTurn::Two(Deed::Asks(Ask::Read(2, 1), AnswerWords::Read(512, 0xa1))),
+        HostsTurn::Two(Deed::Asks(Ask::Compare(2, a1), AnswerWords::Equal)),
+        HostsTurn::Meet,
+        HostsTurn::Two(Deed::Asks(Ask::CompareAndWrite(2, a1, b2), AnswerWords::Swapped)),
+        HostsTurn::One(Deed::Asks(Ask::Compare(2, a1), AnswerWords::Differs)),
+        HostsTurn::One(Deed::Meets),
+        HostsTurn::One(Deed::Claims(Came::Held(0))),
+        HostsTurn::Two(Deed::Claims(Came::Taken)),
+        HostsTurn::Two(Deed::ClaimsAny(Came::Held(1))),
+        HostsTurn::Meet,
+        HostsTurn::One(Deed::Releases),
+        HostsTurn::Two(Deed::Leaves(1, 3)),
+        HostsTurn::Two(Deed::ClaimsAny(Came::Held(0))),
+        HostsTurn::One(Deed::ClaimsAny(Came::AllTaken)),
+        HostsTurn::Two(Deed::Releases),
+        HostsTurn::One(Deed::Asks(Ask::Read(0, 1), AnswerWords::Read(512, 0))),
     ];
     let core = core_after(&rt, rt.alloc(), &all)?;
     assert!(rt; check(rt.alloc(), &core.config(), core.history().as_slice()).is_ok());

@@ -1,14 +1,12 @@
 -- Where the units of a ticket lie, and how many there are.
-use Rattle.std.proofs.Common.{◌≡◌, ℕ, ◌+◌, ◌≤◌, true, List, [], ◌∷◌, length, ap, refl, Option, Some, None, is_some}
-use Rattle.std.proofs.Common.{arith, ltb-false, slice_get}
-use Rattle.std.specs.Prelude.{is_none}
-use Rattle.std.proofs.lemmas.Bool.{or_parts}
+use Rattle.std.proofs.Common.{◌≡◌, ℕ, ◌+◌, ◌≤◌, true, List, [], ◌∷◌, length, refl, Option, Some, None, is_some}
+use Rattle.std.proofs.Common.{arith, slice_get}
 use Rattle.std.proofs.lemmas.List.Sums.{sum_by-cons}
 use Rattle.nvme_model.specs.declared.array.Range.{Range}
 use Rattle.nvme_model.specs.declared.config.AtomicParameters.{AtomicParameters}
 use Rattle.nvme_model.specs.declared.config.ConfigNumbers.{ConfigNumbers}
 use Rattle.nvme_model.specs.declared.operation.Op.{Op}
-use Rattle.nvme_model.specs.Config.{config_fault, config_faults}
+use Rattle.nvme_model.specs.Config.{config_fault}
 use Rattle.nvme_model.specs.EntryBytes.{block_count, slba}
 use Rattle.nvme_model.specs.History.{Past}
 use Rattle.nvme_model.specs.Legal.{IsLegal}
@@ -20,8 +18,7 @@ use Rattle.nvme_model.proofs.Granted.{units_some}
 use Rattle.ticket_laws.proofs.Left.{blocks_of_all}
 use Rattle.ticket_laws.proofs.Lengths.{units_lie}
 use Rattle.nvme_model.proofs.Lists.{Each, each_get}
-use Rattle.nvme_model.proofs.Rules.{none_holds}
-use Rattle.nvme_model.proofs.StepCounts.{cut_sum, grants_within}
+use Rattle.nvme_model.proofs.StepCounts.{grants_within}
 use Rattle.nvme_model.specs.Array.{IsRange}
 use Rattle.nvme_model.proofs.Accepted.{accepted}
 use Rattle.ticket_laws.proofs.Bounds.{units_sum}

@@ -16,7 +16,6 @@ use Rattle.fused_match.specs.Judged as matched
 use Rattle.fused_match.specs.Judged.{NamesBlocks, operation_in, waiting_items}
 use Rattle.fused_match.specs.declared.judged.Judged.{Judged}
 use Rattle.fused_match.specs.declared.judged.Judged.TheVariants as judgement
-use Rattle.nvme_model.specs.Commands.{is_compare, is_read, is_write, is_write_zeroes}
 use Rattle.nvme_model.specs.Cut.{cut}
 use Rattle.nvme_model.specs.EntryBytes.{Sqe, block_count, slba, sqe_fields}
 use Rattle.nvme_model.specs.History.{Past}

@@ -8,6 +8,7 @@ pub mod Publishing
 pub mod Fetching
 pub mod Granting
 pub mod Blocking
+pub mod PostRing
 pub mod Posting
 pub mod Reaping
 pub mod Standing

@@ -1,12 +1,11 @@
 -- What a Post finds, and what is kept after it.
-use Rattle.std.proofs.Common.{◌≡◌, ◌≢◌, ℕ, zero, suc, ◌*◌, ◌+◌, ◌-◌, ◌%◌, ◌/◌, ◌≤◌, ◌<◌, ◌^◌, ◌==◌, ◌&&◌, Bool, true}
-use Rattle.std.proofs.Common.{false, not, cond, List, [], ◌∷◌, ◌++◌, length, get_or, map, replicate, set, slice_get}
-use Rattle.std.proofs.Common.{Some, None, is_none, refl, sym, ap, ◌∙◌, subst, arith, eqb, eq-eqb, ne_eqb, ltb-true}
-use Rattle.std.proofs.Common.{ltb-false, nat_lt, add-one}
+use Rattle.std.proofs.Common.{◌≡◌, ◌≢◌, ℕ, suc, ◌*◌, ◌+◌, ◌-◌, ◌%◌, ◌/◌, ◌≤◌, ◌<◌, ◌^◌, ◌==◌, Bool, true}
+use Rattle.std.proofs.Common.{false, not, cond, List, [], ◌∷◌, ◌++◌, length, get_or, map, set, slice_get}
+use Rattle.std.proofs.Common.{refl, sym, ap, ◌∙◌, subst, arith, eq-eqb, ne_eqb, ltb-true}
+use Rattle.std.proofs.Common.{add-one}
 use Rattle.std.specs.List.{count_by, filter, remove}
 use Rattle.std.specs.List.Sorted.{IsPermutation}
-use Rattle.std.proofs.lemmas.Bool.{or_parts}
-use Rattle.std.proofs.lemmas.List.{append-nil, length-map, length-replicate, length_push, map-append}
+use Rattle.std.proofs.lemmas.List.{append-nil, length-map, map-append}
 use Rattle.std.proofs.Math.Nat.{mod-lt}
 use Rattle.checked_tickets.specs.Contents.{post_fits_at}
 use Rattle.checked_tickets.proofs.Posting.{by_rings}
@@ -16,25 +15,19 @@ use Rattle.checker_tables.specs.Judged.{flies, in_use, judged, checked_owed, owe
 use Rattle.checker_tables.specs.Tables.{CheckedTicket, flight, tables}
 use Rattle.checker_tables.specs.Taken.{flies_on, posted_flight, tables_after}
 use Rattle.entry_codec.specs.Cqe.{phase_bit}
-use Rattle.nvme_model.specs.Completions.{phase}
-use Rattle.nvme_model.specs.Config.{completion_queue, config_fault, config_faults}
+use Rattle.nvme_model.specs.Config.{completion_queue}
 use Rattle.nvme_model.specs.History.{Past}
-use Rattle.nvme_model.specs.Legal.{IsLegal}
 use Rattle.nvme_model.specs.Operations.{units}
-use Rattle.nvme_model.specs.Refusals.{no_queue}
 use Rattle.nvme_model.specs.Tickets
 use Rattle.nvme_model.specs.Tickets.{cids}
 use Rattle.nvme_model.specs.declared.config.ConfigNumbers.{ConfigNumbers}
 use Rattle.nvme_model.specs.declared.entry.Entry.{Entry}
 use Rattle.nvme_model.specs.declared.entry.PostLine.{PostLine}
-use Rattle.nvme_model.specs.declared.refusal.Why.{Why}
 use Rattle.nvme_model.proofs.NextPost.{commands_few}
 use Rattle.nvme_model.proofs.Accepted.{accepted}
-use Rattle.nvme_model.proofs.Rules.{follows, none_holds}
-use Rattle.rings.specs.Completions.{QueueCompletions, CompletionRing, ShowsCompleted, is_full, posted_ring}
+use Rattle.rings.specs.Completions.{CompletionRing, is_full, posted_ring}
 use Rattle.rings.specs.Submissions.{SubmissionRing}
 use Rattle.rings.specs.declared.completion_ring.Completion.{Completion}
-use Rattle.rings.proofs.Counts.{completed_more}
 use Rattle.ticket_laws.specs.Standing.{flying}
 use Rattle.ticket_laws.proofs.Counts.{taken_some}
 use Rattle.ticket_laws.proofs.Flying.{flying_rises}
@@ -46,58 +39,9 @@ use Rattle.history_check.proofs.Flights.{IsThere, less_one, set_place}
 use Rattle.history_check.proofs.InUse.{in_use_posted}
 use Rattle.history_check.proofs.Following.{none_flies, took_not}
 use Rattle.history_check.proofs.Rings.{IsPlace, apart, ring_at}
+use Rattle.history_check.proofs.PostRing.{form_full, form_unfit, post_form, ring_next}
 use Rattle.rings.proofs.Tables.{IsTable-set}
 use Rattle.nvme_model.proofs.TicketQueues.{HasQueue, queue_there, ticket_queue}
-use Rattle.entry_codec.proofs.Phases.{same_bit}
-
--- ---- the queue of a ticket
-
--- ---- the ring after one more
-
-abbrev filled : ℕ → Completion → QueueCompletions
-filled n d = record { posted = replicate n d; reaped = 0 }
-
-abbrev filled_ring : ℕ → ℕ → Completion → CompletionRing
-filled_ring m n d = record { size = m; tail = n % m; phase = (n / m) % 2 == 0; waiting = replicate n d }
-
-shows_filled : (m n : ℕ) (d : Completion) → ShowsCompleted (filled n d) (filled_ring m n d)
-shows_filled m n d =
-    let l : length (replicate n d) ≡ n = length-replicate n d in
-    record { reaped = omega arith; waiting = refl; tail = ap (λ x. x % m) (sym l); phase = ap (λ x. phase x m) (sym l) }
-
--- the tail and the phase after one more
-ring_next : (m n : ℕ) (d : Completion) (xs : List Completion) → 0 < m
-    → posted_ring (record { size = m; tail = n % m; phase = (n / m) % 2 == 0; waiting = xs }) d ≡ record {
-      size = m;
-      tail = (n + 1) % m;
-      phase = ((n + 1) / m) % 2 == 0;
-      waiting = xs ++ d ∷ [];
-    }
-ring_next m n d xs some =
-    let r = completed_more (filled n d) (filled_ring m n d) (posted_ring (filled_ring m n d) d) d refl some
-    (shows_filled m n d) in
-    let l : length (replicate n d ++ d ∷ []) ≡ n + 1 = length_push (replicate n d) d
-    ∙ ap (λ x. x + 1) (length-replicate n d) in
-    let tail : (n % m + 1) % m ≡ (n + 1) % m = r.tail ∙ ap (λ x. x % m) l in
-    let bit = same_bit (posted_ring (filled_ring m n d) d).phase (((n + 1) / m) % 2 == 0)
-    (r.phase ∙ ap (λ x. phase x m) l) in
-    (λ i. record { size = m; tail = tail i; phase = bit i; waiting = xs ++ d ∷ [] })
-
--- ---- the rule
-
-abbrev post_form : Bool → Bool → Bool → Bool → Bool
-post_form flies nothing full fits =
-    is_none (cond (not flies) (Some Why.NoTicket)
-    (cond nothing (Some Why.WrongState) (cond full (Some Why.CqFull) None))) && fits
-
-form_unfit : (nothing full : Bool) → post_form true nothing full false ≡ false
-form_unfit true full = refl
-form_unfit false true = refl
-form_unfit false false = refl
-
-form_full : (nothing fits : Bool) → post_form true nothing true fits ≡ false
-form_full true fits = refl
-form_full false fits = refl
 
 module _ (c : ConfigNumbers) (past : Past) (k : CheckerState) (keeps : IsCheckerState c past k) (p : PostLine) where
   -- its ticket isn't in flight

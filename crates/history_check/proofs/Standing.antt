@@ -1,8 +1,7 @@
 -- Which history a checker stands for.
 use Rattle.std.proofs.Common.{◌≡◌, ℕ, suc, ◌%◌, ◌*◌, ◌==◌, ◌&&◌, Bool, true, List, [], ◌∷◌, length, replicate, None}
-use Rattle.std.proofs.Common.{is_none, refl, sym, ap, ◌∙◌, subst, ltb-false}
+use Rattle.std.proofs.Common.{refl, sym, ap, ◌∙◌, subst}
 use Rattle.std.proofs.Math.Nat.{zero-div, zero-mod}
-use Rattle.std.proofs.lemmas.Bool.{or_parts}
 use Rattle.std.proofs.lemmas.List.{get_or-replicate, length-replicate}
 use Rattle.checked_tickets.specs.Contents.{contents_in}
 use Rattle.checker_tables.specs.Judged.{in_use}
@@ -12,7 +11,7 @@ use Rattle.cids_in_use.proofs.Counts.{none_used}
 use Rattle.checker_tables.proofs.Judging.{judged_is}
 use Rattle.checker_tables.proofs.Taking.{taken_is}
 use Rattle.nvme_model.specs.Array.{zeros}
-use Rattle.nvme_model.specs.Config.{config_fault, config_faults}
+use Rattle.nvme_model.specs.Config.{config_fault}
 use Rattle.nvme_model.specs.History.{Past}
 use Rattle.nvme_model.specs.Legal.{legal, may_follow}
 use Rattle.nvme_model.specs.declared.config.ConfigNumbers.{ConfigNumbers}
@@ -20,7 +19,6 @@ use Rattle.nvme_model.specs.declared.entry.Entry.{Entry}
 use Rattle.nvme_model.proofs.Accepted.{accepted}
 use Rattle.range_reserve.specs.declared.held.HeldRange.{HeldRange}
 use Rattle.rings.specs.Completions.{CompletionRing}
-use Rattle.rings.specs.Slots.{IsSize}
 use Rattle.rings.specs.Submissions.{SubmissionRing}
 use Rattle.history_check.specs.Kept.{IsCheckerState, CheckerState, ShowsTables, Stands, CheckerRun}
 use Rattle.history_check.specs.Rings.{checked_completion_ring, checked_submission_ring}

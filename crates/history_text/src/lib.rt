@@ -3,4 +3,4 @@
 
 mod printing;
 
-pub use crate::printing::{PrintFault, print_history};
+pub use crate::printing::{PrintFault, print_bytes, print_config, print_history};

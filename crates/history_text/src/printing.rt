@@ -24,8 +24,12 @@ pub enum PrintFault {
     NoMemory,
 }
 
-// Writes a line at once.
-fn send_text<W: Write>(line: &[u8], writer: &mut W) -> Result<(), PrintFault>
+/// Writes bytes as a line at once: the bytes, and a line feed.
+///
+/// # Errors
+///
+/// `Output` after a beginning of the line.
+pub fn print_bytes<W: Write>(line: &[u8], writer: &mut W) -> Result<(), PrintFault>
     ensures whole { OnOk result (Appends (W.contents writer.old) (W.contents writer.new) (line.now ++ 10 ∷ [])) }
     ensures front { OnErr result
         (AppendsFront (W.contents writer.old) (W.contents writer.new) (line.now ++ 10 ∷ [])) }
@@ -36,8 +40,12 @@ fn send_text<W: Write>(line: &[u8], writer: &mut W) -> Result<(), PrintFault>
     }
 }
 
-// Writes the configuration line, made in `line`.
-fn print_config<W: Write>(
+/// Writes the configuration line, made in `line` in place of what that held.
+///
+/// # Errors
+///
+/// `Output` after a beginning of the line; `NoMemory`, before anything is written, where it couldn't be made.
+pub fn print_config<W: Write>(
     config: &Config,
     line: &mut Vec<u8>,
     writer: &mut W,
@@ -51,7 +59,7 @@ fn print_config<W: Write>(
     if write_config_line(&config.numbers(), line).is_err() {
         return Err(PrintFault::NoMemory);
     }
-    send_text(line.as_slice(), writer)
+    print_bytes(line.as_slice(), writer)
 }
 
 // Writes the line of an entry, made in `line`.
@@ -70,7 +78,7 @@ fn print_entry<W: Write>(
     if write_line(entry, line).is_err() {
         return Err(PrintFault::NoMemory);
     }
-    send_text(line.as_slice(), writer)
+    print_bytes(line.as_slice(), writer)
 }
 
 /// Writes a configuration line and the line of each entry, the oldest first.

@@ -9,7 +9,8 @@ use Rattle.atomic_table.specs.Table.{Final, Seen, State, opening}
 use Rattle.nvme_model.specs.History.{Past}
 use Rattle.nvme_model.specs.Passes.{IsBeginning, SharedPast, entries, places}
 use Rattle.nvme_model.specs.declared.config.ConfigNumbers.{ConfigNumbers}
-use Rattle.meet_lock.specs.Lock.{AreOfPasses, Fits, ExtendsByPasses, IsOneHistory, OwnsTicket, first_view, unmade}
+use Rattle.meet_lock.specs.Lock.{AreGathered, AreOfPasses, Fits, ExtendsByPasses, IsOneHistory, OwnsTicket, first_view}
+use Rattle.meet_lock.specs.Lock.{unmade}
 use Rattle.meet_lock.specs.declared.view.View.{View}
 use Rattle.meet_lock.proofs.Beginnings.{begins-same}
 use Rattle.meet_lock.proofs.Others.{only_own}
@@ -53,10 +54,11 @@ module _ {M : Type 0} (config : M → ConfigNumbers) (history : M → Past) (leg
         holding = only (λ j u. u.holds ≡ true → (j ≡ 0) × (0 ≢ 0) × (u.held ≡ log) × (0 < u.number)) (λ e. cc);
         numbered = only (λ j u. 0 < u.number → (0 ≡ j) × ((u.number ≤ 0) ⊎ (u.number ≡ passes)))
             (λ _. (refl, inr refl));
-        first = λ u a. only (λ j u. (u.top ≡ 0) × (0 < u.number)) (refl, positive) 0 u a;
+        first = λ u a. only (λ j u. (u.top ≡ 0) × (u.number ≡ passes)) (refl, refl) 0 u a;
         below = positive;
         owners = only (OwnsTicket owned (λ _. 0) log) ((λ _. refl), λ has. absurd (omega arith));
         ungiven = λ by above not. places-unmade by (history m) (λ e. omega arith);
+        gathers = only (λ j u. AreGathered c passes 0 (λ _. 0) log j u.number u.gathered) tt;
       }
 
   -- what the machine is that a closed table had at home

@@ -10,12 +10,14 @@ use Rattle.nvme_model.specs.History.{Past}
 use Rattle.nvme_model.specs.Passes.{SharedPast, entries, places}
 use Rattle.nvme_model.specs.declared.config.ConfigNumbers.{ConfigNumbers}
 use Rattle.nvme_model.specs.declared.entry.Entry.{Entry}
-use Rattle.meet_lock.specs.Lock.{Fits, ExtendsByPasses, IsMachineAt, IsOneHistory, OwnsTicket, grown, noted}
-use Rattle.meet_lock.specs.Lock.{view_given_back, unmade}
+use Rattle.meet_lock.specs.Lock.{AreGathered, Fits, ExtendsByPasses, IsMachineAt, IsOneHistory, OwnsTicket, grown}
+use Rattle.meet_lock.specs.Lock.{noted, view_given_back, unmade}
 use Rattle.meet_lock.specs.SeatSteps.{MayTell, gives_lock_back, wrote}
 use Rattle.ticket_laws.specs.Entries.{ticket_in}
+use Rattle.meet_lock.specs.declared.view.Gathered.{Gathered}
 use Rattle.meet_lock.specs.declared.view.View.{View}
 use Rattle.meet_lock.proofs.Beginnings.{begins-more, begins-same}
+use Rattle.meet_lock.proofs.Gathered.{gathered_grow}
 use Rattle.meet_lock.proofs.Owners.{grown_owns, others_own, with_owner}
 use Rattle.meet_lock.proofs.Places.{places-other}
 use Rattle.meet_lock.proofs.Views.{views_stay}
@@ -51,6 +53,7 @@ module _ {M : Type 0} (config : M → ConfigNumbers) (history : M → Past) (leg
     pub idle : w.holds ≡ false
     pub deaf : w.hears ≡ false
     pub seen : w.seen ≡ log
+    pub gathered : w.gathered ≡ v.gathered
 
   -- the history is then more than it was, by entries of the holder's
   gives_back : (s : St) (r : Rule s) (id : ℕ) (v w : View) (machine : M) (log : SharedPast) → length s.homes ≡ 1
@@ -106,15 +109,22 @@ module _ {M : Type 0} (config : M → ConfigNumbers) (history : M → Past) (leg
             → (r.seat_of u.number ≡ j) × ((u.number ≤ r.top) ⊎ (u.number ≡ passes))) s.views id w
             (λ _. subst (λ n. (r.seat_of n ≡ id) × ((n ≤ r.top) ⊎ (n ≡ passes))) (sym is.number) nv)
             (λ j u _. r.numbered j u);
-        first = λ u a. views_stay (λ j u. j ≡ 0 → (u.top ≡ r.top) × (0 < u.number)) s.views id w
+        first = λ u a. views_stay (λ j u. j ≡ 0 → (u.top ≡ r.top) × (u.number ≡ passes)) s.views id w
             (λ z. let t = r.first v (subst (λ i. get_elem? s.views i ≡ some v) z at) in
-            (is.top ∙ t.0, subst (λ n. 0 < n) (sym is.number) t.1))
+            (is.top ∙ t.0, is.number ∙ t.1))
             (λ j u _ a z. r.first u (subst (λ i. get_elem? s.views i ≡ some u) z a)) 0 u a refl;
         below = r.below;
         owners = views_stay (OwnsTicket owned owner log) s.views id w own_ticket other_tickets;
         ungiven = λ by above not.
             others by (λ e. ⊎_elim (λ (le : v.number ≤ r.top). absurd (omega arith))
             (λ (is : v.number ≡ passes). absurd (not (e ∙ is))) nv.1) ∙ r.ungiven by above not;
+        gathers = views_stay (λ j u. AreGathered c passes r.top r.seat_of log j u.number u.gathered) s.views id w
+            (subst (λ (x : ℕ × List Gathered). AreGathered c passes r.top r.seat_of log id x.0 x.1)
+            (λ i. (sym is.number i, sym is.gathered i))
+            (gathered_grow c passes r.top r.seat_of r.log log id v.number v.number more others (λ n _ ne. ne) v.gathered
+            (r.gathers id v at)))
+            (λ j u ne a. gathered_grow c passes r.top r.seat_of r.log log j u.number v.number more others
+            (λ n e _ same. ne (sym e ∙ (ap r.seat_of same ∙ nv.0))) u.gathered (r.gathers j u a));
       }
 
   pub writes : (slots : ℕ) → slots ≡ 1 → (id : ℕ) (m : Me (Option M) View) (v : View) (machine : M) (e : Entry)
@@ -151,6 +161,7 @@ module _ {M : Type 0} (config : M → ConfigNumbers) (history : M → Past) (leg
               idle = refl;
               deaf = refl;
               seen = refl;
+              gathered = refl;
             }) (
               (noted v.number e ∷ [], ap (λ l. noted v.number e ∷ l) (sym h.2)),
               ((h.3, small_number), tt),
@@ -198,6 +209,7 @@ module _ {M : Type 0} (config : M → ConfigNumbers) (history : M → Past) (leg
               idle = refl;
               deaf = refl;
               seen = refl;
+              gathered = refl;
             }) (subst (λ l. ExtendsByPasses passes r.log l) (sym h.2) (begins-same passes r.log))
             (subst (λ x. legal x (entries v.held)) here.0 right) (shows.0 ∙ here.0, shows.1)
             (λ by _. ap (places by) h.2) r.owner (had id v at) (λ j u _ a. had j u a),

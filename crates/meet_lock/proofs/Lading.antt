@@ -1,5 +1,6 @@
 -- Messages with a ticket: a seat gives its ticket to one, and takes one in.
-use Rattle.std.proofs.Common.{Bool, Option, arith, false, inr, length, length-set, refl, set, subst, sym, true, ⊎_elim}
+use Rattle.std.proofs.Common.{Bool, Option, arith, false, inl, inr, length, length-set, refl, set, subst, sym, true}
+use Rattle.std.proofs.Common.{⊎_elim}
 use Rattle.std.proofs.Common.{ℕ, ◌∙◌, ◌≡◌, ◌≢◌}
 use mathlib.Core.Option.{some}
 use lib.ListN.{get_elem?}
@@ -31,13 +32,13 @@ module _ {M : Type 0} (config : M → ConfigNumbers) (history : M → Past) (leg
       let owner : ℕ → ℕ = with_owner r.owner v.ticket n in
       let l : View = unladen v in
       let r1 = turns_view config history legal owned c passes before s r id v l at
-      (record { number = refl; holds = refl; held = λ _. refl; top = λ _. refl })
+      (record { number = refl; holds = refl; held = λ _. refl; top = λ _. refl; gathered = inl refl })
       (record { of = f.of; sees = f.sees; right = f.right; mine = f.mine; heard = f.heard; opens = f.opens })
       owner ((λ _. refl), λ has. absurd (omega arith))
       (λ j u ne a. moved_other owned r.owner r.log id j n v u ne own (r.owners j u a)) in
       let s1 : St = record { words = s.words; homes = s.homes; views = set s.views id l } in
       let long : length (set s.views id l) ≡ n = length-set s.views id l in
-      comes config history legal owned c passes before s1 r1 (laden v) refl refl
+      comes config history legal owned c passes before s1 r1 (laden v) refl refl refl
       (record {
         of = λ z. absurd (omega arith);
         sees = λ _. f.sees live;
@@ -64,6 +65,7 @@ module _ {M : Type 0} (config : M → ConfigNumbers) (history : M → Past) (leg
         holds = sym idle;
         held = λ e. let clash : true ≡ false = sym e ∙ idle in cc;
         top = λ n. absurd (omega arith);
+        gathered = inr refl;
       })
       (spent_fits config history legal owned c passes before r.log) r.owner ((λ _. refl), λ has. absurd (omega arith))
       (λ j u _. r.owners j u) in
@@ -79,7 +81,7 @@ module _ {M : Type 0} (config : M → ConfigNumbers) (history : M → Past) (leg
       moved_other owned r.owner r.log other j id m u t.0 its (r.owners j u t.1))
       (at_set s.views other j spent u a) in
       let r2 = turns_view config history legal owned c passes before s1 r1 id v w here
-      (record { number = refl; holds = refl; held = λ _. refl; top = λ _. refl })
+      (record { number = refl; holds = refl; held = λ _. refl; top = λ _. refl; gathered = inl refl })
       (record {
         of = f.of;
         sees = f.sees;

@@ -9,8 +9,9 @@ use Rattle.atomic_table.proofs.Lists.{at_longer, set_else}
 use Rattle.nvme_model.specs.History.{Past}
 use Rattle.nvme_model.specs.Passes.{places}
 use Rattle.nvme_model.specs.declared.config.ConfigNumbers.{ConfigNumbers}
-use Rattle.meet_lock.specs.Lock.{Fits, IsOneHistory, OwnsTicket, gives_left, gives_right}
+use Rattle.meet_lock.specs.Lock.{AreGathered, Fits, IsOneHistory, OwnsTicket, gives_left, gives_right}
 use Rattle.meet_lock.specs.declared.view.View.{View}
+use Rattle.meet_lock.proofs.Gathered.{gathered_move}
 use Rattle.meet_lock.proofs.Places.{places-none}
 use Rattle.meet_lock.proofs.Views.{at_snoc_where, some_seat, views_stay}
 
@@ -27,7 +28,9 @@ module _ {M : Type 0} (config : M → ConfigNumbers) (history : M → Past) (leg
       let l : View = gives_left v in
       let w : View = gives_right v in
       let n : ℕ = v.top + 1 in
-      let some_number : 0 < v.number = (r.first v (subst (λ i. get_elem? s.views i ≡ some v) zero_is at)).1 in
+      let last : v.number ≡ passes = (r.first v (subst (λ i. get_elem? s.views i ≡ some v) zero_is at)).1 in
+      let below = r.below in
+      let some_number : 0 < v.number = omega (arith, last, below) in
       let passes_is : v.passes ≡ passes = f.of some_number in
       let new : places n r.log ≡ [] = r.ungiven n (omega arith) (λ e. omega arith) in
       let number : ℕ → ℕ = λ k. cond (eqb k n) (length s.views) (r.seat_of k) in
@@ -35,6 +38,8 @@ module _ {M : Type 0} (config : M → ConfigNumbers) (history : M → Past) (leg
       let old : (k : ℕ) → (k ≤ r.top) ⊎ (k ≡ passes) → number k ≡ r.seat_of k =
       λ k c. ap (λ b. cond b (length s.views) (r.seat_of k))
       (ne_eqb k n (λ e. ⊎_elim (λ (le : k ≤ r.top). omega arith) (λ (is : k ≡ passes). omega arith) c)) in
+      let wider : (k : ℕ) → (k ≤ r.top) ⊎ (k ≡ passes) → (k ≤ n) ⊎ (k ≡ passes) =
+      λ k le. ⊎_elim (λ (le : k ≤ r.top). inl (omega (arith, le, top_is))) (λ (is : k ≡ passes). inr is) le in
       let views : List View = set s.views id l in
       let K : (ℕ → View → Type 0) → Type 0 = λ P. (j : ℕ) (u : View) → get_elem? (views ++ w ∷ []) j ≡ some u → P j u in
       let cases : (P : ℕ → View → Type 0) → P id l
@@ -81,10 +86,15 @@ module _ {M : Type 0} (config : M → ConfigNumbers) (history : M → Past) (leg
               ⊎_elim (λ (le : u.number ≤ r.top). inl (omega arith)) (λ (is : u.number ≡ passes). inr is) t.1,
             ))
             (λ _. (ap (λ b. cond b (length s.views) (r.seat_of n)) (eq-eqb n n refl), inl (le_refl n)));
-        first = λ u a. cases (λ j u. j ≡ 0 → (u.top ≡ n) × (0 < u.number)) (λ _. (refl, some_number))
+        first = λ u a. cases (λ j u. j ≡ 0 → (u.top ≡ n) × (u.number ≡ passes)) (λ _. (refl, last))
             (λ j u ne _ z. absurd (ne (z ∙ sym zero_is))) (λ z. absurd (some_seat s.views id v at z)) 0 u a refl;
         below = omega arith;
         owners = cases (OwnsTicket owned r.owner r.log) (r.owners id v at) (λ j u _. r.owners j u)
             ((λ _. refl), λ has. absurd (omega arith));
         ungiven = λ by above not. r.ungiven by (omega arith) not;
+        gathers = cases (λ j u. AreGathered c passes n number r.log j u.number u.gathered)
+            (gathered_move c passes r.top n r.seat_of number r.log id v.number wider (λ k e le. old k le ∙ e) v.gathered
+            (r.gathers id v at))
+            (λ j u _ a. gathered_move c passes r.top n r.seat_of number r.log j u.number wider (λ k e le. old k le ∙ e)
+            u.gathered (r.gathers j u a)) tt;
       }

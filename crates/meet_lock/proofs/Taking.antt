@@ -12,9 +12,10 @@ use Rattle.atomic_table.proofs.Lists.{set_again}
 use Rattle.nvme_model.specs.History.{Past}
 use Rattle.nvme_model.specs.Passes.{entries}
 use Rattle.nvme_model.specs.declared.config.ConfigNumbers.{ConfigNumbers}
-use Rattle.meet_lock.specs.Lock.{Fits, ExtendsByPasses, IsOneHistory, OwnsTicket, holding}
-use Rattle.meet_lock.specs.SeatSteps.{took}
+use Rattle.meet_lock.specs.Lock.{AreGathered, Fits, ExtendsByPasses, IsOneHistory, OwnsTicket, holding}
+use Rattle.meet_lock.specs.SeatSteps.{AllBegin, HasAllPasses, took}
 use Rattle.meet_lock.specs.declared.view.View.{View}
+use Rattle.meet_lock.proofs.Gathered.{gathered_begin, gathered_seat}
 use Rattle.meet_lock.proofs.Views.{set_at, views_stay}
 
 module _ {M : Type 0} (config : M → ConfigNumbers) (history : M → Past) (legal : ConfigNumbers → Past → Type 0)
@@ -39,6 +40,26 @@ module _ {M : Type 0} (config : M → ConfigNumbers) (history : M → Past) (leg
       let a : t.0.number ≡ 1 = first t.0.number h.3 nh.1 in
       let b : v.number ≡ 1 = first v.number named nv.1 in
       let same : r.holder ≡ id = sym nh.0 ∙ (ap r.seat_of (a ∙ sym b) ∙ nv.0) in
+      let both : t.0 ≡ v = some-injective t.0 v (sym t.1 ∙ (ap (get_elem? s.views) same ∙ at)) in
+      let clash : true ≡ false = sym t.2 ∙ (ap (λ (x : View). x.holds) both ∙ idle) in
+      cc
+
+  -- where each other pass was joined to it, too
+  pub nobody_else : (s : St) (r : Rule s) (id : ℕ) (v : View) → get_elem? s.views id ≡ some v → v.holds ≡ false
+      → 0 < v.number → get_or s.words 0 0 ≢ 0 → v.passes ≡ passes → HasAllPasses v → ⊥
+  nobody_else s r id v at idle named busy count all =
+      let below = r.below in
+      let t = r.taken busy in
+      let h = r.holding r.holder t.0 t.1 t.2 in
+      let nh = r.numbered r.holder t.0 t.1 h.3 in
+      let nv = r.numbered id v at named in
+      let le : t.0.number ≤ v.passes =
+      ⊎_elim (λ (le : t.0.number ≤ r.top). omega (arith, le, below, count))
+      (λ (e : t.0.number ≡ passes). omega (arith, e, count)) nh.1 in
+      let same : r.holder ≡ id = dite (ℕ_discrete t.0.number v.number)
+      (λ e. sym nh.0 ∙ (ap r.seat_of e ∙ nv.0))
+      (λ ne. sym nh.0 ∙ gathered_seat c passes r.top r.seat_of r.log id v.number t.0.number v.gathered
+      (all t.0.number h.3 le ne) (r.gathers id v at)) in
       let both : t.0 ≡ v = some-injective t.0 v (sym t.1 ∙ (ap (get_elem? s.views) same ∙ at)) in
       let clash : true ≡ false = sym t.2 ∙ (ap (λ (x : View). x.holds) both ∙ idle) in
       cc
@@ -77,12 +98,14 @@ module _ {M : Type 0} (config : M → ConfigNumbers) (history : M → Past) (leg
         numbered = views_stay (λ j u. 0 < u.number
             → (r.seat_of u.number ≡ j) × ((u.number ≤ r.top) ⊎ (u.number ≡ passes))) s.views id w (r.numbered id v at)
             (λ j u _. r.numbered j u);
-        first = λ u a. views_stay (λ j u. j ≡ 0 → (u.top ≡ r.top) × (0 < u.number)) s.views id w
+        first = λ u a. views_stay (λ j u. j ≡ 0 → (u.top ≡ r.top) × (u.number ≡ passes)) s.views id w
             (λ z. r.first v (subst (λ i. get_elem? s.views i ≡ some v) z at))
             (λ j u _ a z. r.first u (subst (λ i. get_elem? s.views i ≡ some u) z a)) 0 u a refl;
         below = r.below;
         owners = views_stay (OwnsTicket owned r.owner r.log) s.views id w (r.owners id v at) (λ j u _. r.owners j u);
         ungiven = r.ungiven;
+        gathers = views_stay (λ j u. AreGathered c passes r.top r.seat_of r.log j u.number u.gathered) s.views id w
+            (r.gathers id v at) (λ j u _. r.gathers j u);
       }
 
   takes_free : (slots id : ℕ) (v : View) → v.holds ≡ false → 0 < v.number
@@ -114,6 +137,9 @@ module _ {M : Type 0} (config : M → ConfigNumbers) (history : M → Past) (leg
             begins = subst (λ n. ExtendsByPasses n v.seen r.log) (sym (own.of named)) (own.sees (inl named));
             counted = (named, counted);
             mine = own.mine named;
+            gathered = subst (λ (x : ConfigNumbers × ℕ). AllBegin x.0 x.1 r.log v.gathered)
+                (λ i. (sym here.0 i, sym (own.of named) i))
+                (gathered_begin c passes r.top r.seat_of r.log id v.number v.gathered (r.gathers id v at));
           }),
           λ ne. absurd (ne e),
         ),
@@ -132,6 +158,7 @@ module _ {M : Type 0} (config : M → ConfigNumbers) (history : M → Past) (leg
           λ _. record {
             same = refl;
             several = λ one. only_one s r id v at idle named ne (sym (own.of named) ∙ one);
+            missing = nobody_else s r id v at idle named ne (own.of named);
             right = subst (λ x. legal x (entries v.seen)) (sym here.0) here.1;
           },
         ),

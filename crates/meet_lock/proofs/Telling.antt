@@ -1,5 +1,6 @@
 -- Messages: a seat makes one, takes one in, and looks.
-use Rattle.std.proofs.Common.{Bool, Option, [], ap, arith, false, get_or, inl, inr, length, refl, set, subst, sym, true}
+use Rattle.std.proofs.Common.{Bool, List, Option, [], ap, arith, false, get_or, inl, inr, length, refl, set, subst, sym}
+use Rattle.std.proofs.Common.{true}
 use Rattle.std.proofs.Common.{⊎_elim, ℕ, ◌++◌, ◌<◌, ◌∙◌, ◌≡◌, ◌≢◌, ◌≤◌, ◌⊎◌, ◌∷◌}
 use mathlib.Core.Logic.{dite}
 use mathlib.Core.Option.{none, some, some-injective}
@@ -11,10 +12,10 @@ use Rattle.atomic_table.proofs.Lists.{at_longer, set_again, set_else}
 use Rattle.nvme_model.specs.History.{Past}
 use Rattle.nvme_model.specs.Passes.{SharedPast, entries, places}
 use Rattle.nvme_model.specs.declared.config.ConfigNumbers.{ConfigNumbers}
-use Rattle.meet_lock.specs.Lock.{Fits, ExtendsByPasses, IsLive, IsOneHistory, OwnsTicket, hearing, informed, longer}
-use Rattle.meet_lock.specs.Lock.{message}
-use Rattle.meet_lock.specs.Lock.{message_held, spent, unmade}
-use Rattle.meet_lock.specs.SeatSteps.{looked, peeked, recalled}
+use Rattle.meet_lock.specs.Lock.{AreGathered, Fits, ExtendsByPasses, IsLive, IsOneHistory, OwnsTicket, hearing}
+use Rattle.meet_lock.specs.Lock.{informed, longer, message, message_held, spent, unmade}
+use Rattle.meet_lock.specs.SeatSteps.{looked, recalled}
+use Rattle.meet_lock.specs.declared.view.Gathered.{Gathered}
 use Rattle.meet_lock.specs.declared.view.View.{View}
 use Rattle.meet_lock.proofs.Beginnings.{begins-more, begins-same, longer_is, places_between, shorter}
 use Rattle.meet_lock.proofs.Views.{set_at, some_seat, views_come, views_stay}
@@ -40,12 +41,13 @@ module _ {M : Type 0} (config : M → ConfigNumbers) (history : M → Past) (leg
       }
 
   -- a seat with no number comes
-  pub comes : (s : St) (r : Rule s) (m : View) → m.number ≡ 0 → m.holds ≡ false → Fits legal c passes before r.log m
+  pub comes : (s : St) (r : Rule s) (m : View) → m.number ≡ 0 → m.holds ≡ false → m.gathered ≡ []
+      → Fits legal c passes before r.log m
       → length s.views ≢ 0
       → (owner : ℕ → ℕ) → ((j : ℕ) (u : View) → get_elem? s.views j ≡ some u → OwnsTicket owned owner r.log j u)
       → OwnsTicket owned owner r.log (length s.views) m
       → Rule record { words = s.words; homes = s.homes; views = s.views ++ m ∷ [] }
-  comes s r m no_number idle fits seats owner old_tickets new_ticket =
+  comes s r m no_number idle no_passes fits seats owner old_tickets new_ticket =
       record {
         log = r.log;
         holder = r.holder;
@@ -63,11 +65,13 @@ module _ {M : Type 0} (config : M → ConfigNumbers) (history : M → Past) (leg
         numbered = views_come (λ j u. 0 < u.number
             → (r.seat_of u.number ≡ j) × ((u.number ≤ r.top) ⊎ (u.number ≡ passes))) s.views m r.numbered
             (λ named. absurd (omega arith));
-        first = λ u a. views_come (λ j u. j ≡ 0 → (u.top ≡ r.top) × (0 < u.number)) s.views m
+        first = λ u a. views_come (λ j u. j ≡ 0 → (u.top ≡ r.top) × (u.number ≡ passes)) s.views m
             (λ j u b z. r.first u (subst (λ i. get_elem? s.views i ≡ some u) z b)) (λ z. absurd (seats z)) 0 u a refl;
         below = r.below;
         owners = views_come (OwnsTicket owned owner r.log) s.views m old_tickets new_ticket;
         ungiven = r.ungiven;
+        gathers = views_come (λ j u. AreGathered c passes r.top r.seat_of r.log j u.number u.gathered) s.views m
+            r.gathers (subst (AreGathered c passes r.top r.seat_of r.log (length s.views) m.number) (sym no_passes) tt);
       }
 
   -- what stays of a view
@@ -76,6 +80,7 @@ module _ {M : Type 0} (config : M → ConfigNumbers) (history : M → Past) (leg
     pub holds : w.holds ≡ v.holds
     pub held : v.holds ≡ true → w.held ≡ v.held
     pub top : 0 < v.number → w.top ≡ v.top
+    pub gathered : (w.gathered ≡ v.gathered) ⊎ (w.gathered ≡ [])
 
   -- a view changes in what it has seen and heard
   abbrev pub turns_view : (s : St) (r : Rule s) (id : ℕ) (v w : View) → get_elem? s.views id ≡ some v → Turns v w
@@ -110,27 +115,35 @@ module _ {M : Type 0} (config : M → ConfigNumbers) (history : M → Past) (leg
             → (r.seat_of u.number ≡ j) × ((u.number ≤ r.top) ⊎ (u.number ≡ passes))) s.views id w
             (subst (λ n. 0 < n → (r.seat_of n ≡ id) × ((n ≤ r.top) ⊎ (n ≡ passes))) (sym is.number)
             (r.numbered id v at)) (λ j u _. r.numbered j u);
-        first = λ u a. views_stay (λ j u. j ≡ 0 → (u.top ≡ r.top) × (0 < u.number)) s.views id w
+        first = λ u a. views_stay (λ j u. j ≡ 0 → (u.top ≡ r.top) × (u.number ≡ passes)) s.views id w
             (λ z. let t = r.first v (subst (λ i. get_elem? s.views i ≡ some v) z at) in
-            (is.top t.1 ∙ t.0, subst (λ n. 0 < n) (sym is.number) t.1))
+            let below = r.below in
+            let last = t.1 in
+            (is.top (omega (arith, last, below)) ∙ t.0, is.number ∙ last))
             (λ j u _ a z. r.first u (subst (λ i. get_elem? s.views i ≡ some u) z a)) 0 u a refl;
         below = r.below;
         owners = views_stay (OwnsTicket owned owner r.log) s.views id w own_ticket other_tickets;
         ungiven = r.ungiven;
+        gathers = views_stay (λ j u. AreGathered c passes r.top r.seat_of r.log j u.number u.gathered) s.views id w
+            (⊎_elim (λ (e : w.gathered ≡ v.gathered). subst (λ (x : ℕ × List Gathered).
+            AreGathered c passes r.top r.seat_of r.log id x.0 x.1) (λ i. (sym is.number i, sym e i))
+            (r.gathers id v at))
+            (λ (e : w.gathered ≡ []). subst (AreGathered c passes r.top r.seat_of r.log id w.number) (sym e) tt)
+            is.gathered) (λ j u _. r.gathers j u);
       }
 
-  splits : (id : ℕ) (v m : View) → m.ticket ≡ 0 → m.number ≡ 0 → m.holds ≡ false
+  splits : (id : ℕ) (v m : View) → m.ticket ≡ 0 → m.number ≡ 0 → m.holds ≡ false → m.gathered ≡ []
       → ((s : St) (r : Rule s) → get_elem? s.views id ≡ some v → Fits legal c passes before r.log m)
       → Splits Rule id v v m
-  splits id v m no_ticket no_number idle fits s r at =
+  splits id v m no_ticket no_number idle no_passes fits s r at =
       subst (λ l. Rule record { words = s.words; homes = s.homes; views = l ++ m ∷ [] })
       (sym (set_again s.views id v at))
-      (comes s r m no_number idle (fits s r at) (some_seat s.views id v at) r.owner r.owners
+      (comes s r m no_number idle no_passes (fits s r at) (some_seat s.views id v at) r.owner r.owners
       ((λ _. no_ticket), λ has. absurd (omega arith)))
 
   -- a message with what the seat has seen
   pub tells : (id : ℕ) (v : View) → IsLive v → Splits Rule id v v (message v)
-  tells id v live = splits id v (message v) refl refl refl (λ s r at. let f = r.each id v at in
+  tells id v live = splits id v (message v) refl refl refl refl (λ s r at. let f = r.each id v at in
       record {
         of = λ n. absurd (omega arith);
         sees = λ _. f.sees live;
@@ -142,7 +155,7 @@ module _ {M : Type 0} (config : M → ConfigNumbers) (history : M → Past) (leg
 
   -- a message with the history, of the seat that holds the lock
   pub tells_held : (id : ℕ) (v : View) → v.holds ≡ true → Splits Rule id v v (message_held v)
-  tells_held id v holds = splits id v (message_held v) refl refl refl (λ s r at. let h = r.holding id v at holds in
+  tells_held id v holds = splits id v (message_held v) refl refl refl refl (λ s r at. let h = r.holding id v at holds in
       let f = r.each id v at in
       let whole : ExtendsByPasses passes v.held r.log =
       subst (λ l. ExtendsByPasses passes l r.log) (sym h.2) (begins-same passes r.log) in
@@ -164,7 +177,7 @@ module _ {M : Type 0} (config : M → ConfigNumbers) (history : M → Past) (leg
       let f = r.each id v at in
       let told = r.each other m there in
       let r1 = turns_view s r id v (hearing v m) at
-      (record { number = refl; holds = refl; held = λ _. refl; top = λ _. refl })
+      (record { number = refl; holds = refl; held = λ _. refl; top = λ _. refl; gathered = inl refl })
       (record {
         of = f.of;
         sees = f.sees;
@@ -181,6 +194,7 @@ module _ {M : Type 0} (config : M → ConfigNumbers) (history : M → Past) (leg
         holds = sym idle;
         held = λ e. let clash : true ≡ false = sym e ∙ idle in cc;
         top = λ n. absurd (omega arith);
+        gathered = inr refl;
       })
       (spent_fits r1.log) r1.owner ((λ _. refl), λ has. absurd (omega arith)) (λ j u _. r1.owners j u)
 
@@ -216,7 +230,8 @@ module _ {M : Type 0} (config : M → ConfigNumbers) (history : M → Past) (leg
         tt,
         subst (λ ws. Rule record { words = ws; homes = s.homes; views = set s.views id w })
             (sym (set-get_or s.words 0 0))
-            (turns_view s r id v w at (record { number = refl; holds = refl; held = λ _. refl; top = λ _. refl })
+            (turns_view s r id v w at
+            (record { number = refl; holds = refl; held = λ _. refl; top = λ _. refl; gathered = inl refl })
             (record {
               of = f.of;
               sees = λ _. sees;
@@ -233,31 +248,6 @@ module _ {M : Type 0} (config : M → ConfigNumbers) (history : M → Past) (leg
           subst (λ n. ExtendsByPasses n v.told l) count told_too,
           subst (λ x. legal x (entries l)) (sym here.0) right,
           told.2 ∙ sym here.0,
-        ),
-      )
-
-  -- the seat that holds the lock looks
-  pub peeks : (slots id : ℕ) (m : Me (Option M) View) → m.0.holds ≡ true
-      → Allows Rule slots id m 0 (λ n. n) (peeked (step slots 0 0 0 none) m)
-  peeks slots id m holds s r wide at small =
-      let v : View = m.0 in
-      let h = r.holding id v at holds in
-      let f = r.each id v at in
-      let back : Rule record { words = s.words; homes = s.homes; views = set s.views id v } =
-      subst (λ l. Rule record { words = s.words; homes = s.homes; views = l }) (sym (set_again s.views id v at))
-      r in (
-        v,
-        keeps,
-        tt,
-        subst (λ ws. Rule record { words = ws; homes = s.homes; views = set s.views id v })
-            (sym (set-get_or s.words 0 0)) back,
-        (
-          refl,
-          λ e. let t = f.heard e in (
-            subst (λ l. ExtendsByPasses v.passes v.told l) (sym h.2)
-                (subst (λ n. ExtendsByPasses n v.told r.log) (sym (f.of h.3)) t.0),
-            t.2 ∙ sym (f.right (inl h.3)).0,
-          ),
         ),
       )
 

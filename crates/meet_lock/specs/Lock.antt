@@ -1,6 +1,7 @@
 -- The rule of the lock. There is one history. Word 0 is 0 where the lock is free, and then the machine is at home and
 -- its history is this one. Where it isn't 0, one seat holds the lock.
-use Rattle.std.specs.Prelude.{Bool, Option, Some, [], false, if◌then◌else◌, length, map, nat_le, slice_index, true, ℕ}
+use Rattle.std.specs.Prelude.{Bool, List, Option, Some, [], false, if◌then◌else◌, length, map, nat_le, slice_index}
+use Rattle.std.specs.Prelude.{true, ℕ}
 use Rattle.std.specs.Prelude.{◌+◌, ◌<◌, ◌≡◌, ◌≢◌, ◌≤◌, ◌⊎◌, ◌∷◌}
 use mathlib.Core.Option.{some}
 use lib.ListN.{get_elem?}
@@ -10,6 +11,7 @@ use Rattle.nvme_model.specs.Passes.{IsBeginning, SharedPast, entries, places}
 use Rattle.nvme_model.specs.declared.config.ConfigNumbers.{ConfigNumbers}
 use Rattle.nvme_model.specs.declared.entry.Entry.{Entry}
 use Rattle.ticket_laws.specs.Entries.{of_ticket, ticket_in}
+use Rattle.meet_lock.specs.declared.view.Gathered.{Gathered}
 use Rattle.meet_lock.specs.declared.view.View.{View}
 
 -- an entry beside the number of the pass that made it
@@ -46,6 +48,7 @@ first_view c passes past =
       hears = false;
       told = [];
       told_config = c;
+      gathered = [];
     }
 
 -- it is the seat of a pass, or of a message that wasn't taken in yet
@@ -61,6 +64,22 @@ pub record Fits (legal : ConfigNumbers → Past → Type 0) (c : ConfigNumbers) 
   pub mine : 0 < v.number → places v.number log ≡ places v.number v.seen
   pub heard : v.hears ≡ true → ExtendsByPasses passes v.told log × legal c (entries v.told) × (v.told_config ≡ c)
   pub opens : IsLive v → ExtendsByPasses passes (unmade before) v.seen
+
+-- what a seat at place j, whose number is `own`, has of a pass that was joined to it: that number is the number of no
+-- seat, and what the pass had seen is a beginning of the history, with all its entries
+pub record IsGathered (c : ConfigNumbers) (passes top : ℕ) (seat_of : ℕ → ℕ) (log : SharedPast) (j own : ℕ)
+    (g : Gathered) : Type 0 where
+  pub seat : seat_of g.number ≡ j
+  pub other : g.number ≢ own
+  pub given : (g.number ≤ top) ⊎ (g.number ≡ passes)
+  pub configured : g.config ≡ c
+  pub sees : ExtendsByPasses passes g.seen log
+  pub mine : places g.number log ≡ places g.number g.seen
+
+abbrev pub AreGathered : ConfigNumbers → ℕ → ℕ → (ℕ → ℕ) → SharedPast → ℕ → ℕ → List Gathered → Type 0
+AreGathered c passes top seat_of log j own [] = Unit {0}
+AreGathered c passes top seat_of log j own (g ∷ gs) =
+    IsGathered c passes top seat_of log j own g × AreGathered c passes top seat_of log j own gs
 
 -- Where tickets have owners, a seat with a ticket is its only owner, and has all its entries, of which there is one.
 -- Where they have none, no seat has a ticket.
@@ -97,10 +116,12 @@ pub record IsOneHistory {M : Type 0} (config : M → ConfigNumbers) (history : M
       → (j ≡ holder) × (slice_index s.words 0 ≢ 0) × (v.held ≡ log) × (0 < v.number)
   pub numbered : (j : ℕ) (v : View) → get_elem? s.views j ≡ some v → 0 < v.number
       → (seat_of v.number ≡ j) × ((v.number ≤ top) ⊎ (v.number ≡ passes))
-  pub first : (v : View) → get_elem? s.views 0 ≡ some v → (v.top ≡ top) × (0 < v.number)
+  pub first : (v : View) → get_elem? s.views 0 ≡ some v → (v.top ≡ top) × (v.number ≡ passes)
   pub below : top < passes
   pub owners : (j : ℕ) (v : View) → get_elem? s.views j ≡ some v → OwnsTicket owned owner log j v
   pub ungiven : (by : ℕ) → top < by → by ≢ passes → places by log ≡ []
+  pub gathers : (j : ℕ) (v : View) → get_elem? s.views j ≡ some v
+      → AreGathered c passes top seat_of log j v.number v.gathered
 
 -- ---- what each step and each note make of a view
 
@@ -130,7 +151,7 @@ abbrev pub gives_left : View → View
 gives_left v = record v { top = v.top + 1 }
 
 abbrev pub gives_right : View → View
-gives_right v = record v { number = v.top + 1; top = 0; ticket = 0; its = [] }
+gives_right v = record v { number = v.top + 1; top = 0; ticket = 0; its = []; gathered = [] }
 
 -- a message, which has seen what the seat has
 abbrev pub message : View → View
@@ -145,6 +166,7 @@ message v =
       told = [];
       ticket = 0;
       its = [];
+      gathered = [];
     }
 
 -- a message, which has seen the history of the seat that holds the lock
@@ -161,11 +183,22 @@ message_held v =
       told = [];
       ticket = 0;
       its = [];
+      gathered = [];
     }
 
 -- a message with the ticket of the seat, and the seat without it
 abbrev pub laden : View → View
-laden v = record v { number = 0; top = 0; holds = false; held = []; message = true; hears = false; told = [] }
+laden v =
+    record v {
+      number = 0;
+      top = 0;
+      holds = false;
+      held = [];
+      message = true;
+      hears = false;
+      told = [];
+      gathered = [];
+    }
 
 abbrev pub unladen : View → View
 unladen v = record v { ticket = 0; its = [] }
@@ -207,7 +240,16 @@ spent =
       hears = false;
       told = [];
       told_config = no_config;
+      gathered = [];
     }
+
+-- what stays of a pass that is joined to a seat
+abbrev pub gathered_of : View → Gathered
+gathered_of m = record { number = m.number; config = m.config; seen = m.seen }
+
+-- the seat took in a pass
+abbrev pub gathering : View → View → View
+gathering v m = record v { gathered = gathered_of m ∷ v.gathered }
 
 -- the longer of two beginnings
 abbrev pub longer : SharedPast → SharedPast → SharedPast

@@ -1,5 +1,5 @@
 -- What a step of a seat tells, and a seat with and without the machine.
-use Rattle.std.specs.Prelude.{Bool, None, Option, Some, [], false, true, ℕ, ◌<◌, ◌≤◌, ◌≡◌, ◌≢◌, ◌⊎◌, ◌∷◌}
+use Rattle.std.specs.Prelude.{Bool, List, None, Option, Some, [], false, true, ℕ, ◌<◌, ◌≤◌, ◌≡◌, ◌≢◌, ◌⊎◌, ◌∷◌}
 use Rattle.atomic_table.specs.Table.{Me, Step}
 use Rattle.atomic_table.specs.declared.shared.Seat.{Seat}
 use Rattle.nvme_model.specs.History.{Past}
@@ -8,6 +8,7 @@ use Rattle.nvme_model.specs.declared.config.ConfigNumbers.{ConfigNumbers}
 use Rattle.nvme_model.specs.declared.entry.Entry.{Entry}
 use Rattle.meet_lock.specs.Lock.{ExtendsByPasses, IsMachineAt, grown, holding, informed, view_given_back, unmade}
 use Rattle.ticket_laws.specs.Entries.{of_ticket, ticket_in}
+use Rattle.meet_lock.specs.declared.view.Gathered.{Gathered}
 use Rattle.meet_lock.specs.declared.view.View.{View}
 
 -- all entries of its ticket, in what it has seen, are those that it has
@@ -19,6 +20,22 @@ abbrev pub MayTell : Bool → View → Past → Entry → Type 0
 MayTell owned v past e = owned ≡ true
     → ((v.ticket ≡ 0) × (v.its ≡ []) × ((ticket_in e ≡ 0) ⊎ (of_ticket (ticket_in e) past ≡ [])))
     ⊎ ((0 < v.ticket) × (ticket_in e ≡ v.ticket))
+
+-- one of these has this number
+abbrev pub HasNumber : ℕ → List Gathered → Type 0
+HasNumber n [] = ⊥
+HasNumber n (g ∷ gs) = (g.number ≡ n) ⊎ HasNumber n gs
+
+-- each pass but itself was joined to it
+abbrev pub HasAllPasses : View → Type 0
+HasAllPasses v = (n : ℕ) → 0 < n → n ≤ v.passes → n ≢ v.number → HasNumber n v.gathered
+
+-- what each pass that was joined had seen is a beginning of the history, with all its entries
+abbrev pub AllBegin : ConfigNumbers → ℕ → SharedPast → List Gathered → Type 0
+AllBegin c passes log [] = Unit {0}
+AllBegin c passes log (g ∷ gs) =
+    ((g.config ≡ c) × ExtendsByPasses passes g.seen log × (places g.number log ≡ places g.number g.seen))
+    × AllBegin c passes log gs
 
 -- what was told and seen doesn't go beyond what it saw under the lock
 abbrev pub SawAll : View → Type 0
@@ -35,6 +52,7 @@ module _ {M : Type 0} (config : M → ConfigNumbers) (history : M → Past) (leg
     pub begins : ExtendsByPasses v.passes v.seen log
     pub counted : (0 < v.number) × (v.number ≤ v.passes)
     pub mine : places v.number log ≡ places v.number v.seen
+    pub gathered : AllBegin v.config v.passes log v.gathered
 
   -- the seat has the lock, and the machine is out of its slot
   pub record Out (v : View) (machine : M) (n : Me (Option M) View) : Type 0 where
@@ -45,6 +63,7 @@ module _ {M : Type 0} (config : M → ConfigNumbers) (history : M → Past) (leg
     pub begins : ExtendsByPasses v.passes v.seen log
     pub counted : (0 < v.number) × (v.number ≤ v.passes)
     pub mine : places v.number log ≡ places v.number v.seen
+    pub gathered : AllBegin v.config v.passes log v.gathered
 
   -- and it has one entry more than the lock's history
   pub record OutMore (owned : Bool) (machine : M) (m : Me (Option M) View) : Type 0 where
@@ -66,6 +85,7 @@ module _ {M : Type 0} (config : M → ConfigNumbers) (history : M → Past) (leg
   pub record Missed (m n : Me (Option M) View) : Type 0 where
     pub same : n ≡ m
     pub several : m.0.passes ≢ 1
+    pub missing : HasAllPasses m.0 → ⊥
     pub right : legal m.0.config (entries m.0.seen)
 
   -- a compare-exchange of the lock word found r
@@ -102,10 +122,6 @@ module _ {M : Type 0} where
       → Me (Option M) View → Type 0
   recalled legal before st m r n =
       (n ≡ m) × legal m.0.config (entries m.0.seen) × ExtendsByPasses m.0.passes (unmade before) m.0.seen
-
-  -- a load of the seat that holds the lock: what it was told doesn't go beyond what it holds
-  abbrev pub peeked : Step (Option M) → Me (Option M) View → ℕ → Me (Option M) View → Type 0
-  peeked st m r n = (n ≡ m) × SawAll m.0
 
   abbrev pub IsIdle : Me (Option M) View → Type 0
   IsIdle m = (m.1 ≡ []) × (m.0.holds ≡ false) × (0 < m.0.number)

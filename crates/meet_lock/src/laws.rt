@@ -1,12 +1,14 @@
 //! What is known of what a pass of a controller has seen.
 
 ghost use Rattle.std.specs.Prelude.{◌≡◌, false, ℕ};
-ghost use Rattle.meet_lock.specs.Passes.{config_of, seen};
+ghost use Rattle.meet_lock.specs.Lock.{ExtendsByPasses, unmade};
+ghost use Rattle.meet_lock.specs.Passes.{config_of, passes_of, seen};
+ghost use Rattle.nvme_model.specs.History.{Past};
 ghost use Rattle.nvme_model.specs.Kept.{ControllerInvariant};
 ghost use Rattle.nvme_model.specs.Laws.{is_held};
 ghost use Rattle.nvme_model.specs.Legal.{IsLegal};
 ghost use Rattle.nvme_model.specs.Medium.{medium};
-ghost use Rattle.nvme_model.specs.Passes.{entries};
+ghost use Rattle.nvme_model.specs.Passes.{IsBeginning, SharedPast, entries};
 ghost use Rattle.nvme_model.specs.Value.{value};
 ghost use Rattle.nvme_model.specs.OneAtATime.{IsOneAtATime};
 
@@ -23,6 +25,17 @@ pub fn what_a_pass_has_seen<M: Machine>(pass: &Pass<M>)
     ensures array { IsOneAtATime (config_of pass.now) (entries (seen pass.now)) }
     ensures volume { (l : ℕ) → is_held (entries (seen pass.now)) l ≡ false
         → medium (entries (seen pass.now)) l ≡ value (entries (seen pass.now)) l }
+{
+    let _ = pass;
+}
+
+/// What came between two moments of what a pass has seen is entries of passes alone: the earlier begins the later, and
+/// `recall` told at both that it goes on, by such entries, from what the machine had when the lock was made.
+pub fn what_came_between_is_of_passes<M: Machine>(pass: &Pass<M>)
+    ensures { (opening : Past) (before : SharedPast)
+        → ExtendsByPasses (passes_of pass.now) (unmade opening) before
+        → ExtendsByPasses (passes_of pass.now) (unmade opening) (seen pass.now) → IsBeginning before (seen pass.now)
+        → ExtendsByPasses (passes_of pass.now) before (seen pass.now) }
 {
     let _ = pass;
 }

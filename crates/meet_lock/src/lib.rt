@@ -13,7 +13,7 @@ mod shared;
 mod view;
 
 pub use controller_steps::Machine;
-pub use laws::what_a_pass_has_seen;
+pub use laws::{what_a_pass_has_seen, what_came_between_is_of_passes};
 pub use owner::{AnyPass, StepRight, TicketOwner};
 pub use pass::{Busy, Declined, Pass};
 pub use seats::{NoteSeat, TicketSeat};

@@ -1,8 +1,8 @@
 //! The rule of the lock, and what each of its steps tells.
 
 ghost use Rattle.meet_lock.specs.Lock.{IsOneHistory, first_view, gives_left, gives_right, message, message_held};
-ghost use Rattle.meet_lock.specs.Lock.{hearing, spent, unladen, laden, lading};
-ghost use Rattle.meet_lock.specs.SeatSteps.{took, wrote, gives_lock_back, looked, peeked, recalled};
+ghost use Rattle.meet_lock.specs.Lock.{gathering, hearing, spent, unladen, laden, lading};
+ghost use Rattle.meet_lock.specs.SeatSteps.{took, wrote, gives_lock_back, looked, recalled};
 
 use crate::owner::StepRight;
 use crate::view::{Origin, Start, View};
@@ -68,13 +68,6 @@ impl<M: Machine, J: Origin> Play<Option<M>, View> for Recall<M, J> {
     ghost then = { recalled M.legal J.past };
 }
 
-/// The seat that holds the lock looks.
-pub(crate) struct Peek;
-
-impl<M> Play<Option<M>, View> for Peek {
-    ghost then = { peeked };
-}
-
 /// The first seat gives out the next number.
 pub(crate) struct Give;
 
@@ -125,6 +118,15 @@ pub(crate) struct Load;
 
 impl Join<View> for Load {
     ghost both = { lading };
+
+    ghost spent = { spent };
+}
+
+/// A seat takes in a pass: nobody steps by its number any more.
+pub(crate) struct Gather;
+
+impl Join<View> for Gather {
+    ghost both = { gathering };
 
     ghost spent = { spent };
 }

@@ -8,6 +8,7 @@ use Rattle.nvme_model.specs.declared.entry.Entry.{Entry}
 use Rattle.picture_shapes.specs.Columns.{column_of, columns_of}
 use Rattle.picture_shapes.specs.Picture.{PictureState, head_of, picture_of, picture_step}
 use Rattle.picture_shapes.specs.declared.head.Head.{Head}
+use Rattle.picture_shapes.specs.declared.picture.Aspect.{Aspect}
 
 -- what a step leaves of the ends of a picture, and the column that it adds
 record Steps (from to : ℕ) (heads : List Head) (s : PictureState) : Type 0 where
@@ -60,13 +61,13 @@ next c from to w a b n e s heads h =
           ∙ ap (λ f. heads ++ column_of f s.to n e a) h.from_is ∙ ap (λ t. heads ++ column_of from t n e a) h.to_is;
     }
 
-all : (c : ConfigNumbers) (from to : ℕ) (w : List ℕ) (past : Past)
-    → Steps from to (columns_of c from to past) (picture_of c from to w past)
-all c from to w [] = record { from_is = refl; to_is = refl; heads_are = refl }
-all c from to w (e ∷ past) =
+all : (c : ConfigNumbers) (from to : ℕ) (a : Aspect) (w : List ℕ) (past : Past)
+    → Steps from to (columns_of c from to past) (picture_of c from to a w past)
+all c from to a w [] = record { from_is = refl; to_is = refl; heads_are = refl }
+all c from to a w (e ∷ past) =
     next c from to w (first_bad_of c past) (first_bad_of c (e ∷ past)) (length past + 1) e
-    (picture_of c from to w past) (columns_of c from to past) (all c from to w past)
+    (picture_of c from to a w past) (columns_of c from to past) (all c from to a w past)
 
-pub one_column : (c : ConfigNumbers) (from to : ℕ) (w : List ℕ) (past : Past)
-    → (picture_of c from to w past).heads ≡ columns_of c from to past
-one_column c from to w past = (all c from to w past).heads_are
+pub one_column : (c : ConfigNumbers) (from to : ℕ) (a : Aspect) (w : List ℕ) (past : Past)
+    → (picture_of c from to a w past).heads ≡ columns_of c from to past
+one_column c from to a w past = (all c from to a w past).heads_are

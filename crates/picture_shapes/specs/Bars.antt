@@ -22,15 +22,15 @@ use Rattle.picture_shapes.specs.declared.bar.Bar.{Bar}
 use Rattle.picture_shapes.specs.declared.bar.Cell.{Cell}
 use Rattle.picture_shapes.specs.declared.bar.OpenBar.{OpenBar}
 use Rattle.picture_shapes.specs.declared.bar.Posting.{Posting}
-use Rattle.picture_shapes.specs.declared.bar.Stage.{Stage}
-use Rattle.picture_shapes.specs.declared.bar.Stage.TheVariants.{Fetched, Posted, Published, Second}
-use Rattle.picture_shapes.specs.declared.rows.Row.{Row}
+use Rattle.picture_shapes.specs.declared.bar.BarStage.{BarStage}
+use Rattle.picture_shapes.specs.declared.bar.BarStage.TheVariants.{Fetched, Posted, Published, Second}
+use Rattle.picture_shapes.specs.declared.rows.LaneRow.{LaneRow}
 
 -- The bars so far: the rows of the submission queues and of the completion queues, the entries that aren't reaped, in
 -- the order in which they were published or else posted, those that are, and the cells of their blocks.
 pub record BarsState : Type 0 where
-  pub rows : List Row
-  pub waits : List Row
+  pub rows : List LaneRow
+  pub waits : List LaneRow
   pub pending : List OpenBar
   pub done : List Bar
   pub cells : List Cell
@@ -42,7 +42,7 @@ no_bars = record { rows = []; waits = []; pending = []; done = []; cells = [] }
 -- ---- where an entry is
 
 -- whether two stages are the same
-abbrev pub same_stage : Stage → Stage → Bool
+abbrev pub same_stage : BarStage → BarStage → Bool
 same_stage (Published q) (Published r) = q == r
 same_stage (Fetched t) (Fetched u) = t == u
 same_stage (Second t) (Second u) = t == u
@@ -50,11 +50,11 @@ same_stage (Posted q) (Posted r) = q == r
 same_stage s r = false
 
 -- whether an entry has come so far
-abbrev pub is_at : Stage → OpenBar → Bool
+abbrev pub is_at : BarStage → OpenBar → Bool
 is_at stage x = same_stage x.stage stage
 
 -- where the first entry is that has come so far
-abbrev pub stage_place : Stage → List OpenBar → Option ℕ
+abbrev pub stage_place : BarStage → List OpenBar → Option ℕ
 stage_place stage pending = position (is_at stage) pending
 
 -- the first of two, where it is there
@@ -63,7 +63,7 @@ or_place None other = other
 or_place (Some i) other = Some i
 
 -- where the first entry is that has come so far, or else so
-abbrev pub either_place : Stage → Stage → List OpenBar → Option ℕ
+abbrev pub either_place : BarStage → BarStage → List OpenBar → Option ℕ
 either_place one other pending = or_place (stage_place one pending) (stage_place other pending)
 
 -- ---- Publish
@@ -103,7 +103,7 @@ bars_published c place queue (x ∷ xs) s =
 -- ---- Fetch
 
 -- an entry that was fetched at this place
-abbrev pub as_fetched : (place ticket : ℕ) → Stage → OpenBar → OpenBar
+abbrev pub as_fetched : (place ticket : ℕ) → BarStage → OpenBar → OpenBar
 as_fetched place ticket stage x =
     record {
       stage = stage;
@@ -111,17 +111,17 @@ as_fetched place ticket stage x =
     }
 
 -- the list with an entry fetched
-abbrev pub fetched_there : (place ticket : ℕ) → Stage → List OpenBar → ℕ → Option OpenBar → List OpenBar
+abbrev pub fetched_there : (place ticket : ℕ) → BarStage → List OpenBar → ℕ → Option OpenBar → List OpenBar
 fetched_there place ticket stage pending i None = pending
 fetched_there place ticket stage pending i (Some x) = slice_set pending i (as_fetched place ticket stage x)
 
 -- the same, where there is a place
-abbrev pub fetched_at : (place ticket : ℕ) → Stage → List OpenBar → Option ℕ → List OpenBar
+abbrev pub fetched_at : (place ticket : ℕ) → BarStage → List OpenBar → Option ℕ → List OpenBar
 fetched_at place ticket stage pending None = pending
 fetched_at place ticket stage pending (Some i) = fetched_there place ticket stage pending i (slice_get pending i)
 
 -- The entry that waits first in a submission queue is fetched.
-abbrev pub first_fetched : (queue place ticket : ℕ) → Stage → List OpenBar → List OpenBar
+abbrev pub first_fetched : (queue place ticket : ℕ) → BarStage → List OpenBar → List OpenBar
 first_fetched queue place ticket stage pending =
     fetched_at place ticket stage pending (stage_place (Published queue) pending)
 
@@ -137,13 +137,13 @@ bars_fetched place f s =
 -- ---- Block
 
 -- where the entry of a Block is: what is written is the second's of a pair, and all else the first's
-abbrev pub block_place_by : Found → ℕ → List OpenBar → Option ℕ
-block_place_by Found.Written ticket pending = either_place (Second ticket) (Fetched ticket) pending
-block_place_by found ticket pending = either_place (Fetched ticket) (Second ticket) pending
+abbrev pub bar_place_by_found : Found → ℕ → List OpenBar → Option ℕ
+bar_place_by_found Found.Written ticket pending = either_place (Second ticket) (Fetched ticket) pending
+bar_place_by_found found ticket pending = either_place (Fetched ticket) (Second ticket) pending
 
 -- the same, by its line
-abbrev pub block_place : BlockLine → List OpenBar → Option ℕ
-block_place b pending = block_place_by b.found b.ticket pending
+abbrev pub bar_place_of_block : BlockLine → List OpenBar → Option ℕ
+bar_place_of_block b pending = bar_place_by_found b.found b.ticket pending
 
 -- the cell of a Block in the row of its entry
 abbrev pub cell_of : ℕ → BlockLine → Option OpenBar → List Cell
@@ -160,7 +160,9 @@ cell_at place b pending (Some i) = cell_of place b (slice_get pending i)
 abbrev pub bars_made : (from place : ℕ) → BlockLine → BarsState → BarsState
 bars_made from place b s =
     record s {
-      cells = if nat_lt place from then s.cells else s.cells ++ cell_at place b s.pending (block_place b s.pending);
+      cells =
+          if nat_lt place from then s.cells
+          else s.cells ++ cell_at place b s.pending (bar_place_of_block b s.pending);
     }
 
 -- ---- Post
@@ -206,7 +208,7 @@ bars_posted place p s = posted_at place p s (either_place (Fetched p.ticket) (Se
 -- ---- Reap
 
 -- the rows of completion queues without that of a completion
-abbrev pub waits_freed : ℕ → Option Posting → List Row → List Row
+abbrev pub waits_freed : ℕ → Option Posting → List LaneRow → List LaneRow
 waits_freed queue None waits = waits
 waits_freed queue (Some p) waits = rows_freed queue p.row waits
 

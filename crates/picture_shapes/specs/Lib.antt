@@ -1,5 +1,5 @@
 pub mod Rows
 pub mod Bars
-pub mod Tickets
+pub mod TicketBoxes
 pub mod Picture
 pub mod Columns

@@ -3,13 +3,13 @@
 ghost use Rattle.std.specs.Prelude.{◌≡◌, ◌<◌, IfSome, length};
 ghost use Rattle.picture_shapes.specs.Bars.{same_stage, stage_place};
 
-use crate::words::Words;
+use crate::picture_words::PictureWords;
 use nvme_model::operation::Found;
 use nvme_model::status::Status;
 
 /// How far an entry has come that isn't reaped.
 #[derive(Clone, Copy, Debug, PartialEq, Eq)]
-pub enum Stage {
+pub enum BarStage {
     /// It waits in this submission queue.
     Published(u16),
     /// It is the command of this ticket, or the first of its pair.
@@ -22,7 +22,7 @@ pub enum Stage {
 
 /// The fetch of an entry.
 #[derive(Clone, Copy, Debug, PartialEq, Eq)]
-pub struct Fetching {
+pub struct EntryFetch {
     pub place: u64,
     pub ticket: u64,
 }
@@ -35,7 +35,7 @@ pub struct Posting {
     pub cid: u16,
     pub status: Status,
     /// The completion in words.
-    pub words: Words,
+    pub words: PictureWords,
 }
 
 /// An entry, from its Publish to its Reap, by the places of its steps.
@@ -46,9 +46,9 @@ pub struct Bar {
     pub completions: u16,
     pub row: usize,
     /// Its command in words.
-    pub words: Words,
+    pub words: PictureWords,
     pub published: u64,
-    pub fetched: Option<Fetching>,
+    pub fetched: Option<EntryFetch>,
     pub posted: Option<Posting>,
     pub reaped: Option<u64>,
 }
@@ -56,7 +56,7 @@ pub struct Bar {
 /// An entry that isn't reaped yet.
 #[derive(Debug, Drop)]
 pub struct OpenBar {
-    pub stage: Stage,
+    pub stage: BarStage,
     pub bar: Bar,
 }
 
@@ -71,20 +71,20 @@ pub struct Cell {
 }
 
 // Whether two stages are the same.
-fn same_stage(one: Stage, other: Stage) -> bool
+fn same_stage(one: BarStage, other: BarStage) -> bool
     ensures value { result ≡ same_stage one other }
 {
     match (one, other) {
-        (Stage::Published(a), Stage::Published(b)) => a == b,
-        (Stage::Fetched(a), Stage::Fetched(b)) => a == b,
-        (Stage::Second(a), Stage::Second(b)) => a == b,
-        (Stage::Posted(a), Stage::Posted(b)) => a == b,
+        (BarStage::Published(a), BarStage::Published(b)) => a == b,
+        (BarStage::Fetched(a), BarStage::Fetched(b)) => a == b,
+        (BarStage::Second(a), BarStage::Second(b)) => a == b,
+        (BarStage::Posted(a), BarStage::Posted(b)) => a == b,
         _ => false,
     }
 }
 
 /// Where the first entry is that has come so far.
-pub(crate) fn stage_place(pending: &[OpenBar], stage: Stage) -> Option<usize>
+pub(crate) fn stage_place(pending: &[OpenBar], stage: BarStage) -> Option<usize>
     ensures value { result ≡ stage_place stage pending.now }
     ensures bound { IfSome result (λ i. i < length pending.now) }
 {

@@ -3,14 +3,14 @@
 ghost use Rattle.std.specs.Prelude.{◌≡◌, ◌+◌, ◌<◌, ◌≤◌, IfSome, OnOk, length};
 ghost use Rattle.nvme_model.specs.Config.{completion_queue};
 ghost use Rattle.nvme_model.specs.EntryBytes.{field};
-ghost use Rattle.picture_shapes.specs.Bars.{as_fetched, bar_freed, bar_published, bars_after, bars_fetched};
-ghost use Rattle.picture_shapes.specs.Bars.{bars_made, bars_posted};
-ghost use Rattle.picture_shapes.specs.Bars.{bars_published, bars_reaped, block_place, either_place, first_fetched};
+ghost use Rattle.picture_shapes.specs.Bars.{as_fetched, bar_freed, bar_place_of_block, bar_published, bars_after};
+ghost use Rattle.picture_shapes.specs.Bars.{bars_fetched, bars_made, bars_posted, bars_published, bars_reaped};
+ghost use Rattle.picture_shapes.specs.Bars.{either_place, first_fetched};
 ghost use Rattle.picture_shapes.specs.Bars.{no_bars, status_of};
 
-use crate::bar::{Bar, Cell, Fetching, OpenBar, Posting, Stage, stage_place};
-use crate::rows::{Row, Rows};
-use crate::words::Words;
+use crate::bar::{Bar, BarStage, Cell, EntryFetch, OpenBar, Posting, stage_place};
+use crate::picture_words::PictureWords;
+use crate::rows::{LaneRow, Rows};
 use byteorder::{ByteOrder, LittleEndian};
 use history::{BlockLine, Config, Entry, FetchLine, PostLine, PublishLine, ReapLine};
 use history_words::{command_words, completion_words};
@@ -71,25 +71,25 @@ fn completions_of(config: &Config, queue: u16) -> u16
 }
 
 // An entry is fetched.
-fn mark_fetched(one: &mut OpenBar, place: u64, ticket: u64, stage: Stage)
+fn mark_fetched(one: &mut OpenBar, place: u64, ticket: u64, stage: BarStage)
     ensures value { one.new ≡ as_fetched place ticket stage one.old }
 {
     one.stage = stage;
-    one.bar.fetched = Some(Fetching { place, ticket });
+    one.bar.fetched = Some(EntryFetch { place, ticket });
 }
 
 // The entry that waits first in a submission queue is fetched.
-fn fetch_first(pending: &mut Vec<OpenBar>, queue: u16, place: u64, ticket: u64, stage: Stage)
+fn fetch_first(pending: &mut Vec<OpenBar>, queue: u16, place: u64, ticket: u64, stage: BarStage)
     ensures value { pending.new.items ≡ first_fetched queue place ticket stage pending.old.items }
 {
-    let Some(i) = stage_place(pending.as_slice(), Stage::Published(queue)) else {
+    let Some(i) = stage_place(pending.as_slice(), BarStage::Published(queue)) else {
         return;
     };
     mark_fetched(&mut pending[i], place, ticket, stage);
 }
 
 // Where the entry of a ticket is, of two that may be it.
-fn either_place(pending: &[OpenBar], one: Stage, other: Stage) -> Option<usize>
+fn either_place(pending: &[OpenBar], one: BarStage, other: BarStage) -> Option<usize>
     ensures value { result ≡ either_place one other pending.now }
     ensures bound { IfSome result (λ i. i < length pending.now) }
 {
@@ -100,12 +100,12 @@ fn either_place(pending: &[OpenBar], one: Stage, other: Stage) -> Option<usize>
 }
 
 // Where the entry of a Block is: what is written is the second's of a pair.
-fn block_place(pending: &[OpenBar], line: &BlockLine) -> Option<usize>
-    ensures value { result ≡ block_place line.now pending.now }
+fn bar_place_of_block(pending: &[OpenBar], line: &BlockLine) -> Option<usize>
+    ensures value { result ≡ bar_place_of_block line.now pending.now }
     ensures bound { IfSome result (λ i. i < length pending.now) }
 {
-    let first = Stage::Fetched(line.ticket);
-    let second = Stage::Second(line.ticket);
+    let first = BarStage::Fetched(line.ticket);
+    let second = BarStage::Second(line.ticket);
     match line.found {
         Found::Written => either_place(pending, second, first),
         Found::Read | Found::Equal | Found::Differs => either_place(pending, first, second),
@@ -144,13 +144,13 @@ impl Bars {
             queue,
             completions: completions_of(config, queue),
             row,
-            words: Words::new(words),
+            words: PictureWords::new(words),
             published: place,
             fetched: None,
             posted: None,
             reaped: None,
         };
-        let stage = Stage::Published(queue);
+        let stage = BarStage::Published(queue);
         if self.pending.push(OpenBar { stage, bar }).is_err() {
             return Err(NoMemory);
         }
@@ -177,7 +177,7 @@ impl Bars {
             line.queue,
             place,
             ticket,
-            Stage::Fetched(ticket),
+            BarStage::Fetched(ticket),
         );
         if line.verdict.taken() == 2 {
             fetch_first(
@@ -185,7 +185,7 @@ impl Bars {
                 line.queue,
                 place,
                 ticket,
-                Stage::Second(ticket),
+                BarStage::Second(ticket),
             );
         }
     }
@@ -196,7 +196,7 @@ impl Bars {
         if place < from {
             return Ok(());
         }
-        let Some(i) = block_place(self.pending.as_slice(), line) else {
+        let Some(i) = bar_place_of_block(self.pending.as_slice(), line) else {
             return Ok(());
         };
         self.cells.push(Cell {
@@ -212,8 +212,8 @@ impl Bars {
     fn post(&mut self, place: u64, line: &PostLine) -> Result<(), NoMemory>
         ensures value { OnOk result (self.new ≡ bars_posted place line.now self.old) }
     {
-        let first = Stage::Fetched(line.ticket);
-        let second = Stage::Second(line.ticket);
+        let first = BarStage::Fetched(line.ticket);
+        let second = BarStage::Second(line.ticket);
         let Some(i) = either_place(self.pending.as_slice(), first, second) else {
             return Ok(());
         };
@@ -225,9 +225,9 @@ impl Bars {
             row,
             cid: u16_at(&line.cqe, 12),
             status: status_of(&line.cqe),
-            words: Words::new(words),
+            words: PictureWords::new(words),
         });
-        let stage = Stage::Posted(bar.completions);
+        let stage = BarStage::Posted(bar.completions);
         if self.pending.push(OpenBar { stage, bar }).is_err() {
             return Err(NoMemory);
         }
@@ -247,7 +247,7 @@ impl Bars {
     fn reap(&mut self, from: u64, place: u64, line: &ReapLine) -> Result<(), NoMemory>
         ensures value { OnOk result (self.new ≡ bars_reaped from place line.now self.old) }
     {
-        let Some(i) = stage_place(self.pending.as_slice(), Stage::Posted(line.queue)) else {
+        let Some(i) = stage_place(self.pending.as_slice(), BarStage::Posted(line.queue)) else {
             return Ok(());
         };
         let OpenBar { stage: _, mut bar } = self.pending.remove(i);
@@ -290,14 +290,14 @@ impl Bars {
     }
 
     /// The rows of the submission queues.
-    pub fn rows(&self) -> &[Row]
+    pub fn rows(&self) -> &[LaneRow]
         ensures { result.now ≡ self.now.rows }
     {
         self.rows.as_slice()
     }
 
     /// The rows of the completion queues.
-    pub fn waits(&self) -> &[Row]
+    pub fn waits(&self) -> &[LaneRow]
         ensures { result.now ≡ self.now.waits }
     {
         self.waits.as_slice()

@@ -1,16 +1,16 @@
 //! The heads of the columns, one a step.
 
 ghost use Rattle.std.specs.Prelude.{◌≡◌, IfOk};
-ghost use Rattle.picture_shapes.specs.Picture.{head_of, kind_of, is_marked};
+ghost use Rattle.picture_shapes.specs.Picture.{head_of, entry_kind, is_marked};
 
-use crate::words::Words;
+use crate::picture_words::PictureWords;
 use history_words::{Paint, entry_words};
 use nvme_model::entry::Entry;
 use std::alloc::{AllocError as NoMemory, Global};
 
 /// The kind of an entry.
 #[derive(Clone, Copy, Debug, PartialEq, Eq)]
-pub enum Kind {
+pub enum EntryKind {
     Publish,
     Fetch,
     Grant,
@@ -23,21 +23,21 @@ pub enum Kind {
 #[derive(Debug, Drop)]
 pub struct Head {
     pub place: u64,
-    pub kind: Kind,
+    pub kind: EntryKind,
     pub mark: bool,
-    pub words: Words,
+    pub words: PictureWords,
 }
 
-fn kind_of(entry: &Entry) -> Kind
-    ensures value { result ≡ kind_of entry.now }
+fn entry_kind(entry: &Entry) -> EntryKind
+    ensures value { result ≡ entry_kind entry.now }
 {
     match entry {
-        Entry::Publish(_) => Kind::Publish,
-        Entry::Fetch(_) => Kind::Fetch,
-        Entry::Grant(_) => Kind::Grant,
-        Entry::Block(_) => Kind::Block,
-        Entry::Post(_) => Kind::Post,
-        Entry::Reap(_) => Kind::Reap,
+        Entry::Publish(_) => EntryKind::Publish,
+        Entry::Fetch(_) => EntryKind::Fetch,
+        Entry::Grant(_) => EntryKind::Grant,
+        Entry::Block(_) => EntryKind::Block,
+        Entry::Post(_) => EntryKind::Post,
+        Entry::Reap(_) => EntryKind::Reap,
     }
 }
 
@@ -57,8 +57,8 @@ pub(crate) fn head_of(alloc: Global, place: u64, entry: &Entry) -> Result<Head, 
     let words = entry_words(alloc, entry, Paint::Plain)?;
     Ok(Head {
         place,
-        kind: kind_of(entry),
+        kind: entry_kind(entry),
         mark: is_marked(entry),
-        words: Words::new(words),
+        words: PictureWords::new(words),
     })
 }

@@ -5,17 +5,34 @@ ghost use Rattle.picture_shapes.specs.Picture.{no_picture, picture_after, pictur
 
 use crate::bars::Bars;
 use crate::head::{Head, head_of};
-use crate::tickets::Tickets;
-use crate::words::Words;
+use crate::picture_words::PictureWords;
+use crate::ticket_boxes::TicketBoxes;
 use history::{Config, Entry};
+use lane_shapes::{Lanes, LanesShown};
 use std::alloc::{AllocError as NoMemory, Global};
 use std::marker::Model;
 
 /// The first bad step of a history: its place, and which rule it breaks, in words.
 #[derive(Debug, Drop)]
-pub struct BadStep {
+pub struct BadColumn {
     pub place: u64,
-    pub words: Words,
+    pub words: PictureWords,
+}
+
+/// Of what a picture is.
+#[derive(Clone, Copy, Debug, PartialEq, Eq)]
+pub enum Subject {
+    /// A history.
+    History,
+    /// A history that explains what hosts saw, of which each Publish and each Reap is what they saw.
+    Witness,
+}
+
+/// What a picture shows besides entries and tickets: of what it is, and which lanes of blocks and of slots.
+#[derive(Clone, Copy, Debug, PartialEq, Eq)]
+pub struct Aspect {
+    pub subject: Subject,
+    pub lanes: LanesShown,
 }
 
 /// What is drawn of the entries from one place to another: a column each, with what was open before and what is open
@@ -25,11 +42,13 @@ pub struct Picture {
     alloc: Global,
     from: u64,
     to: u64,
+    subject: Subject,
     last: u64,
     heads: Vec<Head>,
     bars: Bars,
-    tickets: Tickets,
-    bad: Option<BadStep>,
+    tickets: TicketBoxes,
+    lanes: Lanes,
+    bad: Option<BadColumn>,
 }
 
 impl Model for Picture {
@@ -40,27 +59,31 @@ impl Model for Picture {
     ghost view = { λ p. record {
       from = p.from;
       to = p.to;
+      subject = p.subject;
       last = p.last;
       heads = p.heads.items;
       bars = p.bars;
       tickets = p.tickets;
+      lanes = p.lanes;
       bad = p.bad;
     } };
 }
 
 impl Picture {
     /// A picture of the entries at these places, from 1, with none taken yet.
-    pub fn new(alloc: Global, from: u64, to: u64) -> Picture
-        ensures none { result ≡ no_picture from to }
+    pub fn new(alloc: Global, from: u64, to: u64, aspect: Aspect) -> Picture
+        ensures none { result ≡ no_picture from to aspect }
     {
         Picture {
             alloc,
             from,
             to,
+            subject: aspect.subject,
             last: 0,
             heads: Vec::new(alloc),
             bars: Bars::new(alloc),
-            tickets: Tickets::new(alloc),
+            tickets: TicketBoxes::new(alloc),
+            lanes: Lanes::new(alloc, aspect.lanes),
             bad: None,
         }
     }
@@ -92,6 +115,7 @@ impl Picture {
         }
         self.bars.take(config, self.from, place, entry)?;
         self.tickets.take(self.from, place, entry)?;
+        self.lanes.take(config, self.from, place, entry)?;
         self.add_head(place, entry)?;
         self.last = place;
         Ok(())
@@ -103,7 +127,12 @@ impl Picture {
     /// # Errors
     ///
     /// `NoMemory` where a growth is refused.
-    pub fn take_bad(&mut self, place: u64, entry: &Entry, words: Words) -> Result<(), NoMemory>
+    pub fn take_bad(
+        &mut self,
+        place: u64,
+        entry: &Entry,
+        words: PictureWords,
+    ) -> Result<(), NoMemory>
         ensures value { OnOk result (self.new ≡ picture_ended words place entry.now self.old) }
     {
         if self.to < place {
@@ -112,7 +141,7 @@ impl Picture {
         self.add_head(place, entry)?;
         self.last = place;
         if self.from <= place {
-            self.bad = Some(BadStep { place, words });
+            self.bad = Some(BadColumn { place, words });
         }
         Ok(())
     }
@@ -121,6 +150,13 @@ impl Picture {
         ensures { result ≡ self.now.from }
     {
         self.from
+    }
+
+    /// Of what it is a picture.
+    pub fn subject(&self) -> Subject
+        ensures { result ≡ self.now.subject }
+    {
+        self.subject
     }
 
     /// The place of the last entry that was taken, up to `to`.
@@ -142,13 +178,20 @@ impl Picture {
         &self.bars
     }
 
-    pub fn tickets(&self) -> &Tickets
+    pub fn tickets(&self) -> &TicketBoxes
         ensures { result.now ≡ self.now.tickets }
     {
         &self.tickets
     }
 
-    pub fn bad(&self) -> Option<&BadStep>
+    /// The lanes of blocks and of slots.
+    pub fn lanes(&self) -> &Lanes
+        ensures { result.now ≡ self.now.lanes }
+    {
+        &self.lanes
+    }
+
+    pub fn bad(&self) -> Option<&BadColumn>
         ensures { option_map (λ bad. bad.now) result ≡ self.now.bad }
     {
         self.bad.as_ref()

@@ -2,14 +2,14 @@
 
 ghost use Rattle.std.specs.Prelude.{◌≡◌, [], IfOk, OnOk};
 ghost use Rattle.std.specs.List.{position};
-ghost use Rattle.picture_shapes.specs.Rows.{is_free, row_taken, rows_freed, rows_taken};
+ghost use Rattle.picture_shapes.specs.Rows.{is_row_free, row_taken, rows_freed, rows_taken};
 
 use std::alloc::{AllocError as NoMemory, Global};
 use std::marker::Model;
 
 /// A row of a lane, and whether something is open in it.
 #[derive(Clone, Copy, Debug, PartialEq, Eq)]
-pub struct Row {
+pub struct LaneRow {
     pub lane: u16,
     pub used: bool,
 }
@@ -17,21 +17,21 @@ pub struct Row {
 /// The rows of some lanes, in the order in which they were first taken.
 #[derive(Drop)]
 pub struct Rows {
-    rows: Vec<Row>,
+    rows: Vec<LaneRow>,
 }
 
 impl Model for Rows {
     ghost use Rattle.std.specs.Prelude.{List};
-    ghost use Rattle.picture_shapes.specs.declared.rows.Row.{Row};
+    ghost use Rattle.picture_shapes.specs.declared.rows.LaneRow.{LaneRow};
 
-    ghost Value = { List Row };
+    ghost Value = { List LaneRow };
 
     ghost view = { λ r. r.rows.items };
 }
 
 // The first free row of a lane.
-fn free_row(rows: &[Row], lane: u16) -> Option<usize>
-    ensures value { result ≡ position (is_free lane) rows.now }
+fn free_row(rows: &[LaneRow], lane: u16) -> Option<usize>
+    ensures value { result ≡ position (is_row_free lane) rows.now }
 {
     rows.iter().position(|row| row.lane == lane && !row.used)
 }
@@ -55,7 +55,7 @@ impl Rows {
         ensures index { IfOk result (λ i. i ≡ row_taken lane self.old) }
         ensures rows { OnOk result (self.new ≡ rows_taken lane self.old) }
     {
-        let used = Row { lane, used: true };
+        let used = LaneRow { lane, used: true };
         match free_row(self.rows.as_slice(), lane) {
             Some(i) => {
                 if i < self.rows.len() {
@@ -76,11 +76,11 @@ impl Rows {
         ensures { self.new ≡ rows_freed lane row self.old }
     {
         if row < self.rows.len() {
-            self.rows[row] = Row { lane, used: false };
+            self.rows[row] = LaneRow { lane, used: false };
         }
     }
 
-    pub fn as_slice(&self) -> &[Row]
+    pub fn as_slice(&self) -> &[LaneRow]
         ensures { result.now ≡ self.now }
     {
         self.rows.as_slice()

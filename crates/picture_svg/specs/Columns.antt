@@ -2,19 +2,20 @@
 use Rattle.std.specs.Prelude.{List, None, Option, Some, [], codes, decimal, if◌then◌else◌, ℕ, ◌+◌, ◌∷◌}
 use Rattle.std.specs.List.{concat}
 use Rattle.picture_shapes.specs.declared.head.Head.{Head}
-use Rattle.picture_shapes.specs.declared.head.Kind.{Kind}
-use Rattle.picture_shapes.specs.declared.picture.BadStep.{BadStep}
-use Rattle.picture_svg.specs.Pieces.{escaped}
-use Rattle.picture_svg.specs.Scale.{ScaleState, bottom_of, column_left}
+use Rattle.picture_shapes.specs.declared.head.EntryKind.{EntryKind}
+use Rattle.picture_shapes.specs.declared.picture.BadColumn.{BadColumn}
+use Rattle.svg_pieces.specs.Pieces.{escaped}
+use Rattle.picture_svg.specs.Scale.{ScaleState, bottom_of}
+use Rattle.svg_pieces.specs.Columns.{column_left}
 
 -- the name of a kind
-abbrev pub kind_name : Kind → List ℕ
-kind_name Kind.Publish = codes "publish"
-kind_name Kind.Fetch = codes "fetch"
-kind_name Kind.Grant = codes "grant"
-kind_name Kind.Block = codes "block"
-kind_name Kind.Post = codes "post"
-kind_name Kind.Reap = codes "reap"
+abbrev pub kind_name : EntryKind → List ℕ
+kind_name EntryKind.Publish = codes "publish"
+kind_name EntryKind.Fetch = codes "fetch"
+kind_name EntryKind.Grant = codes "grant"
+kind_name EntryKind.Block = codes "block"
+kind_name EntryKind.Post = codes "post"
+kind_name EntryKind.Reap = codes "reap"
 
 -- The rule of a mark, from the head of its column right through all rows, and a star above it.
 abbrev pub mark_svg : ScaleState → Head → List ℕ
@@ -52,28 +53,28 @@ head_svg s h =
     concat (line_svg h ∷ hover_svg s h ∷ place_svg s h ∷ kind_svg s h ∷ mark_svg s h ∷ codes "</g>" ∷ (10 ∷ []) ∷ [])
 
 -- the column of the first bad step, hatched
-abbrev pub shade_svg : ScaleState → BadStep → List ℕ
+abbrev pub shade_svg : ScaleState → BadColumn → List ℕ
 shade_svg s b =
     concat (codes "<rect class='y' x='" ∷ decimal (column_left s.from b.place)
     ∷ codes "' width='88' height='" ∷ decimal (bottom_of s) ∷ codes "'/>" ∷ [])
 
 -- the rule through it
-abbrev pub rule_svg : ScaleState → BadStep → List ℕ
+abbrev pub rule_svg : ScaleState → BadColumn → List ℕ
 rule_svg s b =
     concat (codes "<path class='r' d='M" ∷ decimal (column_left s.from b.place + 44) ∷ codes " 44V"
     ∷ decimal (bottom_of s) ∷ codes "'/>" ∷ [])
 
 -- why it is bad, in words below all rows
-abbrev pub why_svg : ScaleState → BadStep → List ℕ
+abbrev pub why_svg : ScaleState → BadColumn → List ℕ
 why_svg s b =
     concat (codes "<text class='e' x='8' y='" ∷ decimal (bottom_of s + 20) ∷ codes "'>" ∷ escaped b.words
     ∷ codes "</text>" ∷ (10 ∷ []) ∷ [])
 
 -- The rule through the first bad step, and why it is bad.
-abbrev pub bad_step_svg : ScaleState → BadStep → List ℕ
+abbrev pub bad_step_svg : ScaleState → BadColumn → List ℕ
 bad_step_svg s b = concat (shade_svg s b ∷ rule_svg s b ∷ why_svg s b ∷ [])
 
 -- the same, where there is one
-abbrev pub bad_svg : ScaleState → Option BadStep → List ℕ
+abbrev pub bad_svg : ScaleState → Option BadColumn → List ℕ
 bad_svg s None = []
 bad_svg s (Some b) = bad_step_svg s b

@@ -8,13 +8,14 @@ use Rattle.history.specs.Marks.{found_word}
 use Rattle.history_words.specs.Names.{status_name}
 use Rattle.picture_shapes.specs.declared.bar.Bar.{Bar}
 use Rattle.picture_shapes.specs.declared.bar.Cell.{Cell}
-use Rattle.picture_shapes.specs.declared.bar.Fetching.{Fetching}
+use Rattle.picture_shapes.specs.declared.bar.EntryFetch.{EntryFetch}
 use Rattle.picture_shapes.specs.declared.bar.OpenBar.{OpenBar}
 use Rattle.picture_shapes.specs.declared.bar.Posting.{Posting}
-use Rattle.picture_svg.specs.Boxes.{rect_svg, words_svg}
-use Rattle.picture_svg.specs.Pieces.{escaped}
-use Rattle.picture_svg.specs.Scale.{ScaleState, column_left, left_of, right_of, top_at}
-use Rattle.picture_svg.specs.declared.boxes.Frame.{Frame}
+use Rattle.svg_pieces.specs.Boxes.{rect_svg, words_svg}
+use Rattle.svg_pieces.specs.Pieces.{escaped}
+use Rattle.picture_svg.specs.Scale.{ScaleState, top_at}
+use Rattle.svg_pieces.specs.Columns.{column_left, left_end_of, right_end_of, room}
+use Rattle.svg_pieces.specs.declared.boxes.Frame.{Frame}
 
 -- the rectangle between these ends
 abbrev pub frame : (left right top height : ℕ) → Frame
@@ -25,9 +26,9 @@ abbrev pub status_class : StatusCode → List ℕ
 status_class s = if (s.sct == 0) && (s.sc == 0) then codes "w" else codes "f"
 
 -- the place of a post
-abbrev pub place_of : Option Posting → Option ℕ
-place_of None = None
-place_of (Some p) = Some p.place
+abbrev pub posting_place : Option Posting → Option ℕ
+posting_place None = None
+posting_place (Some p) = Some p.place
 
 -- what is said of an entry under the pointer: its command, and its completion where there is one
 abbrev pub title_by : List ℕ → Option Posting → List ℕ
@@ -43,60 +44,56 @@ title_svg b = title_by b.words b.posted
 abbrev pub frame_svg : ScaleState → Bar → List ℕ
 frame_svg s b =
     rect_svg (codes "b")
-    (frame (left_of s.from b.published) (right_of s.from s.columns b.reaped) (top_at s.rows b.row + 3) 40)
+    (frame (left_end_of s.from b.published) (right_end_of s.from s.columns b.reaped) (top_at s.rows b.row + 3) 40)
 
 -- the ticket in a bar, from its Fetch to the Post of this entry
-abbrev pub ticket_by : ScaleState → ℕ → Option ℕ → Option Fetching → List ℕ
+abbrev pub ticket_by : ScaleState → ℕ → Option ℕ → Option EntryFetch → List ℕ
 ticket_by s top posted None = []
 ticket_by s top posted (Some f) =
-    let left = left_of s.from f.place in
-    rect_svg (codes "t") (frame left (right_of s.from s.columns posted) (top + 23) 18)
+    let left = left_end_of s.from f.place in
+    rect_svg (codes "t") (frame left (right_end_of s.from s.columns posted) (top + 23) 18)
     ++ concat (codes "<text class='d' x='" ∷ decimal (left + 40) ∷ codes "' y='" ∷ decimal (top + 36)
     ∷ codes "'>ticket " ∷ decimal f.ticket ∷ codes "</text>" ∷ [])
 
 -- the same, of a bar
 abbrev pub ticket_svg : ScaleState → Bar → List ℕ
-ticket_svg s b = ticket_by s (top_at s.rows b.row) (place_of b.posted) b.fetched
+ticket_svg s b = ticket_by s (top_at s.rows b.row) (posting_place b.posted) b.fetched
 
 -- the part of a bar in which its completion waits
 abbrev pub tail_by : ScaleState → ℕ → Option ℕ → Option Posting → List ℕ
 tail_by s top reaped None = []
 tail_by s top reaped (Some p) =
     rect_svg (status_class p.status)
-    (frame (right_of s.from s.columns (Some p.place)) (right_of s.from s.columns reaped) (top + 23) 18)
+    (frame (right_end_of s.from s.columns (Some p.place)) (right_end_of s.from s.columns reaped) (top + 23) 18)
 
 -- the same, of a bar
 abbrev pub tail_svg : ScaleState → Bar → List ℕ
 tail_svg s b = tail_by s (top_at s.rows b.row) b.reaped b.posted
 
--- how many characters have room in so many pixels
-abbrev pub room : ℕ → ℕ
-room pixels = (pixels - 12) / 7
-
 -- the words on a bar
 abbrev pub label_svg : ScaleState → Bar → List ℕ
 label_svg s b =
-    let left = left_of s.from b.published in
-    words_svg (left + 8) (top_at s.rows b.row + 17) b.words (room (right_of s.from s.columns b.reaped - left))
+    let left = left_end_of s.from b.published in
+    words_svg (left + 8) (top_at s.rows b.row + 17) b.words (room (right_end_of s.from s.columns b.reaped - left))
 
 -- the box of a completion, while it waits in its completion queue
 abbrev pub box_svg : ScaleState → Option ℕ → Posting → List ℕ
 box_svg s reaped p =
     rect_svg (status_class p.status)
-    (frame (left_of s.from p.place) (right_of s.from s.columns reaped) (top_at s.waits p.row + 3) 40)
+    (frame (left_end_of s.from p.place) (right_end_of s.from s.columns reaped) (top_at s.waits p.row + 3) 40)
 
 -- its CID
 abbrev pub cid_svg : ScaleState → Posting → List ℕ
 cid_svg s p =
-    concat (codes "<text x='" ∷ decimal (left_of s.from p.place + 8) ∷ codes "' y='"
+    concat (codes "<text x='" ∷ decimal (left_end_of s.from p.place + 8) ∷ codes "' y='"
     ∷ decimal (top_at s.waits p.row + 19) ∷ codes "'>CID " ∷ decimal p.cid ∷ codes "</text>" ∷ [])
 
 -- the name of its status, as much of it as has room
 abbrev pub status_svg : ScaleState → Option ℕ → Posting → List ℕ
 status_svg s reaped p =
-    let left = left_of s.from p.place in
+    let left = left_end_of s.from p.place in
     words_svg (left + 8) (top_at s.waits p.row + 35) (status_name p.status)
-    (room (right_of s.from s.columns reaped - left))
+    (room (right_end_of s.from s.columns reaped - left))
 
 -- A completion, while it waits in its completion queue: from its Post to its Reap.
 abbrev pub posted_svg : ScaleState → Option ℕ → Posting → List ℕ

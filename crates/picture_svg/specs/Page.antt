@@ -3,21 +3,24 @@ use Rattle.std.specs.Prelude.{List, None, Option, Some, [], codes, decimal, flat
 use Rattle.std.specs.Prelude.{◌+◌, ◌∷◌}
 use Rattle.std.specs.List.{concat}
 use Rattle.picture_shapes.specs.Picture.{PictureState}
-use Rattle.picture_shapes.specs.declared.picture.BadStep.{BadStep}
+use Rattle.picture_shapes.specs.declared.picture.BadColumn.{BadColumn}
 use Rattle.picture_svg.specs.Columns.{bad_svg, head_svg}
 use Rattle.picture_svg.specs.Entries.{bar_svg, cell_svg, open_svg}
-use Rattle.picture_svg.specs.Lanes.{lanes_svg, tickets_lane_svg}
-use Rattle.picture_svg.specs.Scale.{ScaleState, bottom_of, edge_of, scale_of}
+use Rattle.lane_svg.specs.Lanes as lane_text
+use Rattle.picture_svg.specs.Lanes.{queue_names_svg, tickets_lane_svg}
+use Rattle.picture_svg.specs.Scale.{ScaleState, bottom_of, scale_of}
+use Rattle.svg_pieces.specs.Columns.{edge_of}
+use Rattle.picture_svg.specs.Seen.{seen_svg}
 use Rattle.picture_svg.specs.Tickets.{flying_svg, ticket_box_svg, unit_svg}
 use Rattle.picture_svg.specs.declared.style.TheConstants.{BARS, MARKS, STYLE}
 
 -- how many bytes the words of the first bad step have
-abbrev pub bad_length : Option BadStep → ℕ
+abbrev pub bad_length : Option BadColumn → ℕ
 bad_length None = 0
 bad_length (Some b) = length b.words
 
 -- how wide the picture is: its columns, and at least the words below them
-abbrev pub width_of : ScaleState → Option BadStep → ℕ
+abbrev pub width_of : ScaleState → Option BadColumn → ℕ
 width_of s bad = max (max (edge_of s.columns + 8) 800) (16 + 8 * min (bad_length bad) 100000)
 
 -- what is seen of the picture, which is all
@@ -56,8 +59,8 @@ closing_svg s =
 -- the names of all lanes
 abbrev pub names_svg : ScaleState → PictureState → List ℕ
 names_svg s p =
-    concat (lanes_svg s s.rows (codes "submission") p.bars.rows
-    ∷ lanes_svg s s.waits (codes "completion") p.bars.waits ∷ tickets_lane_svg s p.tickets.rows ∷ [])
+    concat (queue_names_svg s s.rows (codes "submission") p.bars.rows
+    ∷ queue_names_svg s s.waits (codes "completion") p.bars.waits ∷ tickets_lane_svg s p.tickets.rows ∷ [])
 
 -- the bars of the entries that were reaped
 abbrev pub done_svg : ScaleState → PictureState → List ℕ
@@ -91,12 +94,16 @@ heads_svg s p = flat_map (head_svg s) p.heads
 abbrev pub shapes_svg : ScaleState → PictureState → List ℕ
 shapes_svg s p = concat (done_svg s p ∷ pending_svg s p ∷ tickets_svg s p ∷ in_flight_svg s p ∷ units_svg s p ∷ [])
 
--- The text of a picture on a scale: the lanes with their bars and boxes, the heads with their marks, the cells, and the
--- rule through the first bad step.
+-- the lanes of blocks and of slots
+abbrev pub beside_svg : ScaleState → PictureState → List ℕ
+beside_svg s p = lane_text.lanes_svg s.lanes p.lanes
+
+-- The text of a picture on a scale: the columns that hosts saw, where it is of a witness, the lanes with their bars and
+-- boxes, those of blocks and of slots, the heads with their marks, the cells, and the rule through the first bad step.
 abbrev pub page_svg : ScaleState → PictureState → List ℕ
 page_svg s p =
-    concat (opening_svg s p ∷ names_svg s p ∷ shapes_svg s p ∷ heads_svg s p ∷ cells_svg s p ∷ bad_svg s p.bad
-    ∷ closing_svg s ∷ [])
+    concat (opening_svg s p ∷ seen_svg s p.heads p.subject ∷ names_svg s p ∷ shapes_svg s p
+    ∷ beside_svg s p ∷ heads_svg s p ∷ cells_svg s p ∷ bad_svg s p.bad ∷ closing_svg s ∷ [])
 
 -- The SVG text of a picture: each of its shapes once.
 abbrev pub picture_svg : PictureState → List ℕ

@@ -5,21 +5,21 @@ ghost use Rattle.picture_svg.specs.Columns.{bad_step_svg, bad_svg, head_svg, hov
 ghost use Rattle.picture_svg.specs.Columns.{mark_svg, place_svg, rule_svg, shade_svg, why_svg};
 
 use crate::drawn::Drawn;
-use crate::pieces::{Piece, push_all};
 use crate::scale::Scale;
-use picture_shapes::{BadStep, Head, Kind, Picture};
+use picture_shapes::{BadColumn, EntryKind, Head, Picture};
 use std::alloc::AllocError as NoMemory;
+use svg_pieces::{Piece, push_all};
 
-fn kind_name(kind: Kind) -> &'static [u8]
+fn kind_name(kind: EntryKind) -> &'static [u8]
     ensures value { result.now ≡ kind_name kind }
 {
     match kind {
-        Kind::Publish => b"publish",
-        Kind::Fetch => b"fetch",
-        Kind::Grant => b"grant",
-        Kind::Block => b"block",
-        Kind::Post => b"post",
-        Kind::Reap => b"reap",
+        EntryKind::Publish => b"publish",
+        EntryKind::Fetch => b"fetch",
+        EntryKind::Grant => b"grant",
+        EntryKind::Block => b"block",
+        EntryKind::Post => b"post",
+        EntryKind::Reap => b"reap",
     }
 }
 
@@ -124,7 +124,7 @@ impl Drawn for Head {
 }
 
 // The column of the first bad step, hatched.
-fn push_shade(text: &mut Vec<u8>, scale: &Scale, bad: &BadStep) -> Result<(), NoMemory>
+fn push_shade(text: &mut Vec<u8>, scale: &Scale, bad: &BadColumn) -> Result<(), NoMemory>
     ensures value { OnOk result (text.new.items ≡ text.old.items ++ shade_svg scale.now bad.now) }
 {
     push_all(
@@ -140,7 +140,7 @@ fn push_shade(text: &mut Vec<u8>, scale: &Scale, bad: &BadStep) -> Result<(), No
 }
 
 // The rule through it.
-fn push_rule(text: &mut Vec<u8>, scale: &Scale, bad: &BadStep) -> Result<(), NoMemory>
+fn push_rule(text: &mut Vec<u8>, scale: &Scale, bad: &BadColumn) -> Result<(), NoMemory>
     ensures value { OnOk result (text.new.items ≡ text.old.items ++ rule_svg scale.now bad.now) }
 {
     push_all(
@@ -156,7 +156,7 @@ fn push_rule(text: &mut Vec<u8>, scale: &Scale, bad: &BadStep) -> Result<(), NoM
 }
 
 // Which rule of a history it breaks.
-fn push_why(text: &mut Vec<u8>, scale: &Scale, bad: &BadStep) -> Result<(), NoMemory>
+fn push_why(text: &mut Vec<u8>, scale: &Scale, bad: &BadColumn) -> Result<(), NoMemory>
     ensures value { OnOk result (text.new.items ≡ text.old.items ++ why_svg scale.now bad.now) }
 {
     push_all(
@@ -172,7 +172,7 @@ fn push_why(text: &mut Vec<u8>, scale: &Scale, bad: &BadStep) -> Result<(), NoMe
 }
 
 // The rule through the first bad step, and why it is bad.
-fn push_bad_step(text: &mut Vec<u8>, scale: &Scale, bad: &BadStep) -> Result<(), NoMemory>
+fn push_bad_step(text: &mut Vec<u8>, scale: &Scale, bad: &BadColumn) -> Result<(), NoMemory>
     ensures value { OnOk result (text.new.items ≡ text.old.items ++ bad_step_svg scale.now bad.now) }
 {
     push_shade(text, scale, bad)?;

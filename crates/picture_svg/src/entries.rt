@@ -3,19 +3,18 @@
 ghost use Rattle.std.specs.Prelude.{◌≡◌, ◌++◌, ◌≤◌, OnOk, option_map};
 ghost use Rattle.picture_svg.specs.Entries.{bar_svg, box_svg, cell_svg, cid_svg, effect_word, found_class};
 ghost use Rattle.picture_svg.specs.Entries.{found_svg, frame_svg, label_svg, status_svg};
-ghost use Rattle.picture_svg.specs.Entries.{open_svg, place_of, posted_svg, status_class, tail_svg};
+ghost use Rattle.picture_svg.specs.Entries.{open_svg, posting_place, posted_svg, status_class, tail_svg};
 ghost use Rattle.picture_svg.specs.Entries.{ticket_svg, title_svg, wait_svg};
 ghost use Rattle.history.specs.Marks.{found_word};
 
-use crate::boxes::{Frame, push_rect, push_words};
 use crate::drawn::Drawn;
-use crate::pieces::{Piece, push_all};
-use crate::scale::{Scale, room};
+use crate::scale::Scale;
 use history_words::status_name;
 use nvme_model::operation::Found;
 use nvme_model::status::Status;
 use picture_shapes::{Bar, Cell, OpenBar, Posting};
 use std::alloc::AllocError as NoMemory;
+use svg_pieces::{Frame, Piece, push_all, push_rect, push_words, room};
 
 // The class of a completion: one that says success, or another.
 fn status_class(status: Status) -> &'static [u8]
@@ -29,8 +28,8 @@ fn status_class(status: Status) -> &'static [u8]
 }
 
 // The place of a post.
-fn place_of(posted: Option<&Posting>) -> Option<u64>
-    ensures value { result ≡ place_of (option_map (λ p. p.now) posted.entry) }
+fn posting_place(posted: Option<&Posting>) -> Option<u64>
+    ensures value { result ≡ posting_place (option_map (λ p. p.now) posted.entry) }
 {
     match posted {
         Some(posted) => Some(posted.place),
@@ -88,7 +87,7 @@ fn push_ticket(text: &mut Vec<u8>, scale: &Scale, bar: &Bar) -> Result<(), NoMem
     let left = scale.left(fetched.place);
     let frame = Frame {
         left,
-        right: scale.right(place_of(bar.posted.as_ref())),
+        right: scale.right(posting_place(bar.posted.as_ref())),
         top: top + 23,
         height: 18,
     };

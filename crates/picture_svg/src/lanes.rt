@@ -2,16 +2,16 @@
 
 ghost use Rattle.std.specs.Prelude.{◌≡◌, ◌++◌, ◌==◌, ◌≤◌, OnOk};
 ghost use Rattle.std.specs.List.{list_any};
-ghost use Rattle.picture_svg.specs.Lanes.{in_flight_svg, lane_svg, lanes_svg, line_svg, row_svg, tickets_lane_svg};
-ghost use Rattle.picture_svg.specs.Lanes.{tickets_line_svg};
+ghost use Rattle.picture_svg.specs.Lanes.{in_flight_svg, lane_svg, line_svg, queue_names_svg, row_svg};
+ghost use Rattle.picture_svg.specs.Lanes.{tickets_lane_svg, tickets_line_svg};
 
-use crate::pieces::{Piece, push_all};
 use crate::scale::{Scale, top_at};
-use picture_shapes::Row;
+use picture_shapes::LaneRow;
 use std::alloc::AllocError as NoMemory;
+use svg_pieces::{Piece, push_all};
 
 // Whether an earlier row is of this lane.
-fn is_named(rows: &[Row], lane: u16) -> bool
+fn is_named(rows: &[LaneRow], lane: u16) -> bool
     ensures value { result ≡ list_any (λ row. row.lane == lane) rows.now }
 {
     rows.iter().any(|row| row.lane == lane)
@@ -69,8 +69,8 @@ fn push_row(
     scale: &Scale,
     top: u64,
     name: &[u8],
-    before: &[Row],
-    row: Row,
+    before: &[LaneRow],
+    row: LaneRow,
 ) -> Result<(), NoMemory>
     requires top { top ≤ 46000066 }
     ensures value { OnOk result (text.new.items ≡ text.old.items ++ row_svg scale.now top name.now before.now row) }
@@ -87,10 +87,10 @@ pub(crate) fn push_lanes(
     scale: &Scale,
     tops: &[u64],
     name: &[u8],
-    rows: &[Row],
+    rows: &[LaneRow],
 ) -> Result<(), NoMemory>
     ensures value { OnOk result (text.new.items ≡ text.old.items
-        ++ lanes_svg scale.now tops.now name.now rows.now) }
+        ++ queue_names_svg scale.now tops.now name.now rows.now) }
 {
     for i in 0..rows.len() {
         push_row(text, scale, top_at(tops, i), name, &rows[..i], rows[i])?;
@@ -118,7 +118,7 @@ fn push_in_flight(text: &mut Vec<u8>, scale: &Scale) -> Result<(), NoMemory>
 pub(crate) fn push_tickets_lane(
     text: &mut Vec<u8>,
     scale: &Scale,
-    rows: &[Row],
+    rows: &[LaneRow],
 ) -> Result<(), NoMemory>
     ensures value { OnOk result (text.new.items ≡ text.old.items ++ tickets_lane_svg scale.now rows.now) }
 {

@@ -1,14 +1,13 @@
 //! The picture of a history as SVG text.
 #![tactic(auto)]
 
-mod boxes;
 mod columns;
 mod drawn;
 mod entries;
 mod lanes;
 mod page;
-mod pieces;
 mod scale;
+mod seen;
 mod style;
 mod tickets;
 

@@ -1,7 +1,8 @@
 //! The whole text.
 
 ghost use Rattle.std.specs.Prelude.{◌≡◌, ◌+◌, ◌++◌, IfOk, OnOk};
-ghost use Rattle.picture_svg.specs.Page.{bad_length, cells_svg, closing_svg, done_svg, ground_svg, heads_svg};
+ghost use Rattle.picture_svg.specs.Page.{bad_length, beside_svg, cells_svg, closing_svg, done_svg, ground_svg};
+ghost use Rattle.picture_svg.specs.Page.{heads_svg};
 ghost use Rattle.picture_svg.specs.Page.{in_flight_svg, names_svg, note_svg, opening_svg, page_svg, pending_svg};
 ghost use Rattle.picture_svg.specs.Page.{picture_svg, shapes_svg, size_svg, tickets_svg, units_svg, view_svg};
 ghost use Rattle.picture_svg.specs.Page.{width_of};
@@ -10,11 +11,13 @@ ghost use Rattle.picture_svg.specs.Scale.{bottom_of};
 use crate::columns::push_bad;
 use crate::drawn::push_each;
 use crate::lanes::{push_lanes, push_tickets_lane};
-use crate::pieces::{Piece, push_all};
 use crate::scale::Scale;
+use crate::seen::push_seen;
 use crate::style::{BARS, MARKS, STYLE, bars_note, marks_note, style};
+use lane_svg::push_lanes as push_block_lanes;
 use picture_shapes::Picture;
 use std::alloc::{AllocError as NoMemory, Global};
+use svg_pieces::{Piece, push_all};
 
 // How many bytes the words of the first bad step have.
 fn bad_length(picture: &Picture) -> u64
@@ -214,13 +217,22 @@ fn push_shapes(text: &mut Vec<u8>, scale: &Scale, picture: &Picture) -> Result<(
     Ok(())
 }
 
+// The lanes of blocks and of slots.
+fn push_beside(text: &mut Vec<u8>, scale: &Scale, picture: &Picture) -> Result<(), NoMemory>
+    ensures value { OnOk result (text.new.items ≡ text.old.items ++ beside_svg scale.now picture.now) }
+{
+    push_block_lanes(text, scale.lanes(), picture.lanes())
+}
+
 // The whole text.
 fn push_page(text: &mut Vec<u8>, scale: &Scale, picture: &Picture) -> Result<(), NoMemory>
     ensures value { OnOk result (text.new.items ≡ text.old.items ++ page_svg scale.now picture.now) }
 {
     push_opening(text, scale, picture)?;
+    push_seen(text, scale, picture)?;
     push_names(text, scale, picture)?;
     push_shapes(text, scale, picture)?;
+    push_beside(text, scale, picture)?;
     push_heads(text, scale, picture)?;
     push_cells(text, scale, picture)?;
     push_bad(text, scale, picture)?;

@@ -1,13 +1,16 @@
 //! Where columns and rows lie.
 
-ghost use Rattle.std.specs.Prelude.{◌≡◌, ◌==◌, ◌-◌, ◌/◌, ◌≤◌, IfOk, length, min, nat_lt};
+ghost use Rattle.std.specs.Prelude.{◌≡◌, ◌==◌, ◌-◌, ◌≤◌, IfOk, length, min, nat_lt};
 ghost use Rattle.std.specs.List.{count_by};
-ghost use Rattle.picture_svg.specs.Scale.{bottom_of, column_left, edge_of, left_of, right_of, scale_by, scale_of};
-ghost use Rattle.picture_svg.specs.Scale.{top_at, top_of, tops};
+ghost use Rattle.svg_pieces.specs.Columns.{column_left, edge_of, left_end_of, right_end_of};
+ghost use Rattle.picture_svg.specs.Scale.{bottom_of, scale_by, scale_of, top_at, tops};
 
-use picture_shapes::{Picture, Row};
+use lane_shapes::Lanes;
+use lane_svg::Layout;
+use picture_shapes::{LaneRow, Picture};
 use std::alloc::{AllocError as NoMemory, Global};
 use std::marker::Model;
+use svg_pieces::{Columns, top_of};
 
 /// Where columns and rows lie, in pixels.
 #[derive(Debug, Drop)]
@@ -17,6 +20,7 @@ pub(crate) struct Scale {
     rows: Vec<u64>,
     waits: Vec<u64>,
     tickets: Vec<u64>,
+    lanes: Layout,
     bottom: u64,
 }
 
@@ -31,12 +35,13 @@ impl Model for Scale {
       rows = s.rows.items;
       waits = s.waits.items;
       tickets = s.tickets.items;
+      lanes = s.lanes;
       bottom = s.bottom;
     } };
 }
 
 // How many rows are of a lane with a lower number.
-fn lower_rows(rows: &[Row], lane: u16) -> u64
+fn lower_rows(rows: &[LaneRow], lane: u16) -> u64
     ensures value { result ≡ count_by (λ row. nat_lt row.lane lane) rows.now }
 {
     let mut count = 0;
@@ -49,7 +54,7 @@ fn lower_rows(rows: &[Row], lane: u16) -> u64
 }
 
 // How many rows are of a lane.
-fn lane_rows(rows: &[Row], lane: u16) -> u64
+fn lane_rows(rows: &[LaneRow], lane: u16) -> u64
     ensures value { result ≡ count_by (λ row. row.lane == lane) rows.now }
 {
     let mut count = 0;
@@ -61,15 +66,8 @@ fn lane_rows(rows: &[Row], lane: u16) -> u64
     count
 }
 
-// The top of the row with this number from above.
-fn top_of(rank: u64) -> u64
-    ensures value { result ≡ top_of rank }
-{
-    66 + 46 * rank.min(1_000_000)
-}
-
 // The tops of rows, of which so many lie above.
-fn tops(alloc: Global, above: u64, rows: &[Row]) -> Result<Vec<u64>, NoMemory>
+fn tops(alloc: Global, above: u64, rows: &[LaneRow]) -> Result<Vec<u64>, NoMemory>
     ensures value { IfOk result (λ list. list.items ≡ tops above rows.now) }
 {
     let mut list = Vec::with_capacity(alloc, rows.len())?;
@@ -82,7 +80,7 @@ fn tops(alloc: Global, above: u64, rows: &[Row]) -> Result<Vec<u64>, NoMemory>
 }
 
 // How many rows there are, of a million at most.
-fn row_count(rows: &[Row]) -> u64
+fn row_count(rows: &[LaneRow]) -> u64
     ensures value { result ≡ min (length rows.now) 1000000 }
     ensures bound { result ≤ 1000000 }
 {
@@ -101,22 +99,28 @@ fn scale_by(
     alloc: Global,
     from: u64,
     last: u64,
-    rows: &[Row],
-    waits: &[Row],
-    tickets: &[Row],
+    rows: &[LaneRow],
+    waits: &[LaneRow],
+    tickets: &[LaneRow],
+    lanes: &Lanes,
 ) -> Result<Scale, NoMemory>
-    ensures value { IfOk result (λ scale. scale ≡ scale_by from last rows.now waits.now tickets.now) }
+    ensures value { IfOk result
+        (λ scale. scale ≡ scale_by from last rows.now waits.now tickets.now lanes.now) }
 {
     let above = row_count(rows);
     let more = above + row_count(waits);
     let all = more + row_count(tickets);
+    let count = column_count(from, last);
+    let lanes = Layout::new(alloc, Columns { from, count }, all, lanes)?;
+    let bottom = top_of(lanes.rows_below());
     Ok(Scale {
         from,
-        columns: column_count(from, last),
+        columns: count,
         rows: tops(alloc, 0, rows)?,
         waits: tops(alloc, above, waits)?,
         tickets: tops(alloc, more, tickets)?,
-        bottom: top_of(all),
+        lanes,
+        bottom,
     })
 }
 
@@ -138,7 +142,18 @@ impl Scale {
             bars.rows(),
             bars.waits(),
             tickets,
+            picture.lanes(),
         )
+    }
+
+    // Where the columns lie.
+    fn columns(&self) -> Columns
+        ensures value { result ≡ record { from = self.now.from; count = self.now.columns } }
+    {
+        Columns {
+            from: self.from,
+            count: self.columns,
+        }
     }
 
     /// The left edge of a step's column; of a step before the first, that of the picture.
@@ -146,19 +161,15 @@ impl Scale {
         ensures value { result ≡ column_left self.now.from place }
         ensures bound { result ≤ 880084 }
     {
-        84 + 88 * place.saturating_sub(self.from).min(10_000)
+        self.columns().column(place)
     }
 
     /// The left end of what begins at this step, or began before the first column.
     pub(crate) fn left(&self, place: u64) -> u64
-        ensures value { result ≡ left_of self.now.from place }
+        ensures value { result ≡ left_end_of self.now.from place }
         ensures bound { result ≤ 880088 }
     {
-        if place < self.from {
-            84
-        } else {
-            self.column(place) + 4
-        }
+        self.columns().left(place)
     }
 
     /// The right edge of the last column.
@@ -166,17 +177,21 @@ impl Scale {
         ensures value { result ≡ edge_of self.now.columns }
         ensures bound { result ≤ 880084 }
     {
-        84 + 88 * self.columns.min(10_000)
+        self.columns().edge()
     }
 
     /// The right end of what ends at this step, or is still open.
     pub(crate) fn right(&self, place: Option<u64>) -> u64
-        ensures value { result ≡ right_of self.now.from self.now.columns place }
+        ensures value { result ≡ right_end_of self.now.from self.now.columns place }
     {
-        match place {
-            Some(place) => self.column(place) + 84,
-            None => self.edge(),
-        }
+        self.columns().right(place)
+    }
+
+    /// Where the lanes of blocks and of slots lie.
+    pub(crate) fn lanes(&self) -> &Layout
+        ensures { result.now ≡ self.now.lanes }
+    {
+        &self.lanes
     }
 
     /// The top of a row of a submission queue.
@@ -235,11 +250,4 @@ pub(crate) fn top_at(tops: &[u64], row: usize) -> u64
         Some(top) => (*top).min(46_000_066),
         None => 66,
     }
-}
-
-/// How many characters have room in so many pixels.
-pub(crate) fn room(pixels: u64) -> u64
-    ensures value { result ≡ (pixels - 12) / 7 }
-{
-    pixels.saturating_sub(12) / 7
 }

@@ -27,6 +27,16 @@ pub(crate) fn style() -> &'static [u8]
     STYLE
 }
 
+pub(crate) const SEEN_STYLE: &[u8] = b"<style>.q{fill:#5b84b1;fill-opacity:.16}</style>
+";
+
+/// The style of what hosts saw.
+pub(crate) fn seen_style() -> &'static [u8]
+    ensures value { result.now ≡ SEEN_STYLE.now }
+{
+    SEEN_STYLE
+}
+
 pub(crate) const BARS: &[u8] =
     b"A bar is an entry, from its publish to its reap; in it its ticket, from its fetch to its post.";
 

@@ -1,15 +1,14 @@
 //! The tickets in flight and their units.
 
 ghost use Rattle.std.specs.Prelude.{◌≡◌, ◌++◌, OnOk};
-ghost use Rattle.picture_svg.specs.Tickets.{flying_svg, number_svg, range_told, ticket_box_svg, unit_here_svg};
+ghost use Rattle.picture_svg.specs.Tickets.{flying_svg, number_svg, unit_range_told, ticket_box_svg, unit_here_svg};
 ghost use Rattle.picture_svg.specs.Tickets.{unit_svg};
 
-use crate::boxes::{Frame, push_rect};
 use crate::drawn::Drawn;
-use crate::pieces::{Piece, push_all};
 use crate::scale::Scale;
-use picture_shapes::{Flying, TicketBox, UnitBox};
+use picture_shapes::{OpenTicket, TicketBox, UnitBox};
 use std::alloc::AllocError as NoMemory;
+use svg_pieces::{Frame, Piece, push_all, push_rect};
 
 impl Drawn for TicketBox {
     ghost svg = { ticket_box_svg };
@@ -42,7 +41,7 @@ impl Drawn for TicketBox {
 
 // The blocks of a unit.
 fn push_range(text: &mut Vec<u8>, unit: &UnitBox) -> Result<(), NoMemory>
-    ensures value { OnOk result (text.new.items ≡ text.old.items ++ range_told unit.now) }
+    ensures value { OnOk result (text.new.items ≡ text.old.items ++ unit_range_told unit.now) }
 {
     if unit.blocks == 1 {
         return push_all(text, &[Piece::Raw(b"block "), Piece::Number(unit.slba)]);
@@ -105,7 +104,7 @@ fn push_unit(text: &mut Vec<u8>, scale: &Scale, unit: Option<UnitBox>) -> Result
     }
 }
 
-impl Drawn for Flying {
+impl Drawn for OpenTicket {
     ghost svg = { flying_svg };
 
     fn push_svg(&self, text: &mut Vec<u8>, scale: &Scale) -> Result<(), NoMemory> {

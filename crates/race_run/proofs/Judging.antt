@@ -8,12 +8,13 @@ use Rattle.nvme_model.specs.declared.array.Range.{Range}
 use Rattle.nvme_model.specs.declared.config.ConfigNumbers.{ConfigNumbers}
 use Rattle.nvme_model.specs.declared.entry.Entry.{Entry}
 use Rattle.nvme_model.proofs.FirstBad.{first_is_some, legal_is_none}
-use Rattle.race_run.specs.Races.{Races}
+use Rattle.race_run.specs.Faults.{IsLate}
+use Rattle.race_run.specs.Races.{Races, TellsHistory}
 use Rattle.closing_laws.specs.Closing.{HasRounds, KeepsSlots}
 use Rattle.race_run.specs.Slots.{PrintsRounds, PrintsSlots}
 use Rattle.history_text.specs.Texts.{history_text}
 use Rattle.race_run.specs.declared.fault.RaceFault.{RaceFault}
-use Rattle.race_run.specs.declared.fault.RaceFault.TheVariants.{NoMemory}
+use Rattle.race_run.specs.declared.fault.RaceFault.TheVariants.{BadAt, NoMemory, Output}
 
 pub none_bad : (c : ConfigNumbers) (entries : List Entry) (k : ℕ) → IsLegalFile c entries → IsFirstBad c entries k → ⊥
 none_bad c entries k h bad = let e : None ≡ Some k = sym (legal_is_none c entries h) ∙ first_is_some c entries k bad in
@@ -27,6 +28,13 @@ unjudged c entries f old new legal written is =
     ap (history_text c) (reverse-reverse entries) ∙ sym (append-nil (history_text c entries)) in
     subst (λ (x : RaceFault). Races c (Err x) old new) (sym is)
     (reverse entries, legal, record { front = history_text c entries; rest = []; whole = same; written = written })
+
+-- what isn't written is so for want of memory, or since writing failed
+pub told_late : (c : ConfigNumbers) (entries : List Entry) (f : RaceFault) (old new : Option (List ℕ))
+    → TellsHistory c entries (Err f) old new → IsLate f
+told_late c entries (BadAt k) old new told = told
+told_late c entries Output old new told = tt
+told_late c entries NoMemory old new told = tt
 
 -- what was written whole keeps its slots
 pub kept_slots : (c : ConfigNumbers) (slots : Range) (entries : List Entry) (old new : Option (List ℕ))
@@ -49,3 +57,6 @@ kept_rounds c slots rounds entries old new legal has written = (
   has,
   subst (λ l. Appends old new (history_text c l)) (sym (reverse-reverse entries)) written,
 )
+
+-- for what is written and judged
+pub ruleset finishing = (unjudged, kept_slots, told_late)

@@ -1,5 +1,5 @@
 -- The controller that is closed with all passes.
-use Rattle.std.proofs.Common.{IfSome, List, None, Option, Some, arith, length, slice_get, subst, ℕ, ◌+◌, ◌<◌, ◌∙◌, ◌≡◌}
+use Rattle.std.proofs.Common.{List, Some, arith, length, slice_get, subst, ℕ, ◌+◌, ◌<◌, ◌∙◌, ◌≡◌}
 use Rattle.nvme_model.specs.Kept.{ControllerInvariant}
 use Rattle.nvme_model.specs.Legal.{IsLegal}
 use Rattle.nvme_model.specs.declared.config.ConfigNumbers.{ConfigNumbers}
@@ -19,28 +19,24 @@ module _ (e : Engine) (play : Play) (servers : ℕ) (ps : List EnginePass)
       → ((k : ℕ) (p : EnginePass) → slice_get ps k ≡ Some p → d ≡ config_of p) → d ≡ play.config
   same_config d f = let a = some_at ps 0 (omega (arith, count, some)) in f 0 a.0 a.1 ∙ (ended 0 a.0 a.1).1.config
 
-  pub closed_config : (o : Option ControllerState)
-      → IfSome o (λ core. (k : ℕ) (p : EnginePass) → slice_get ps k ≡ Some p → core.config ≡ config_of p)
-      → IfSome o (λ core. core.config ≡ play.config)
-  closed_config None f = tt
-  closed_config (Some core) f = same_config core.config f
+  pub closed_config : (core : ControllerState)
+      → ((k : ℕ) (p : EnginePass) → slice_get ps k ≡ Some p → core.config ≡ config_of p) → core.config ≡ play.config
+  closed_config core f = same_config core.config f
 
-  pub closed_slots : (o : Option ControllerState)
-      → IfSome o (λ core. (k : ℕ) (p : EnginePass) → slice_get ps k ≡ Some p → core.config ≡ config_of p)
-      → IfSome o (λ core. ControllerInvariant core.config core.past) → IfSome o (λ core. IsSeenWhole ps core.past)
-      → IfSome o (λ core. KeepsSlots play.config play.slots core.past)
-  closed_slots None f kept whole = tt
-  closed_slots (Some core) f kept whole =
+  pub closed_slots : (core : ControllerState)
+      → ((k : ℕ) (p : EnginePass) → slice_get ps k ≡ Some p → core.config ≡ config_of p)
+      → ControllerInvariant core.config core.past → IsSeenWhole ps core.past
+      → KeepsSlots play.config play.slots core.past
+  closed_slots core f kept whole =
       race_keeps play.config play.slots servers ps core.past some count
       (λ k p at. ((ended k p at).0, (ended k p at).1.closing)) whole
       (subst (λ (d : ConfigNumbers). IsLegal d core.past) (same_config core.config f) kept.legal)
 
-  pub closed_rounds : (o : Option ControllerState)
-      → IfSome o (λ core. (k : ℕ) (p : EnginePass) → slice_get ps k ≡ Some p → core.config ≡ config_of p)
-      → IfSome o (λ core. ControllerInvariant core.config core.past) → IfSome o (λ core. IsSeenWhole ps core.past)
-      → IfSome o (λ core. HasRounds play.config play.slots play.rounds core.past)
-  closed_rounds None f kept whole = tt
-  closed_rounds (Some core) f kept whole =
+  pub closed_rounds : (core : ControllerState)
+      → ((k : ℕ) (p : EnginePass) → slice_get ps k ≡ Some p → core.config ≡ config_of p)
+      → ControllerInvariant core.config core.past → IsSeenWhole ps core.past
+      → HasRounds play.config play.slots play.rounds core.past
+  closed_rounds core f kept whole =
       race_rounds play.config play.slots servers ps core.past some count
       (λ k p at. ((ended k p at).0, (ended k p at).1.closing)) whole
       (subst (λ (d : ConfigNumbers). IsLegal d core.past) (same_config core.config f) kept.legal) play.rounds

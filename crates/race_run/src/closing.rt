@@ -132,13 +132,13 @@ pub fn room_for(alloc: Global, play: &Play, workers: u16) -> Result<Vec<Pass<Cor
 }
 
 /// The controller, closed with the passes of all who raced: its history keeps the slots, and has all rounds of each
-/// host. None where the lock wasn't free.
+/// host.
 pub fn closed(
     system: System<OpenGate>,
     play: &Play,
     callers: Callers,
     mut passes: Vec<Pass<Core>>,
-) -> Option<Core>
+) -> Core
     requires workers { EndDown (λ w. w.caller.pass) system.engine play.now
         (vec_len callers.workers + 1) (vec_len callers.workers) callers.workers.items }
     requires fetcher { (number callers.fetcher.pass ≡ vec_len callers.workers + 1)
@@ -148,9 +148,9 @@ pub fn closed(
     requires count { vec_len callers.hosts ≡ play.now.config.cqs }
     requires few { vec_len callers.workers + 1 + play.now.config.cqs ≤ vec_capacity passes }
     requires room { passes.items ≡ [] }
-    ensures config { IfSome result (λ core. core.config ≡ play.now.config) }
-    ensures slots { IfSome result (λ core. KeepsSlots play.now.config play.now.slots core.past) }
-    ensures rounds { IfSome result (λ core. HasRounds play.now.config play.now.slots play.now.rounds core.past) }
+    ensures config { result.config ≡ play.now.config }
+    ensures slots { KeepsSlots play.now.config play.now.slots result.past }
+    ensures rounds { HasRounds play.now.config play.now.slots play.now.rounds result.past }
 {
     let Callers {
         fetcher,
@@ -162,5 +162,8 @@ pub fn closed(
     put_pass(&system, play, servers, &mut passes, fetcher.pass);
     put_hosts(&system, play, servers, hosts, &mut passes);
     let System { engine, .. } = system;
-    engine.close_all(passes)
+    match engine.close_all(passes) {
+        Some(core) => core,
+        None => unreachable!(),
+    }
 }

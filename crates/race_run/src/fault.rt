@@ -12,9 +12,6 @@ pub enum RaceFault {
     /// A growth was refused, a thread couldn't be started, or a host couldn't begin a round.
     #[error("no memory")]
     NoMemory,
-    /// The controller wasn't given back.
-    #[error("no history")]
-    NoHistory,
     /// The history up to this place, from 1, isn't legal, and shorter beginnings are.
     #[error("bad at {0}")]
     BadAt(u64),
@@ -29,7 +26,7 @@ impl RaceFault {
         ensures value { result ≡ race_exit_status self.now }
     {
         match self {
-            RaceFault::NoHistory | RaceFault::BadAt(_) => 1,
+            RaceFault::BadAt(_) => 1,
             RaceFault::Output => 3,
             RaceFault::NoMemory => 4,
         }

@@ -14,9 +14,9 @@ ghost use Rattle.race_run.specs.Slots.{slots_of};
 
 use crate::closing::{closed, room_for};
 use crate::fault::RaceFault;
+use crate::play::play_of;
 use host_rounds::{Play, run_hosts};
 use hosts::{Crew, OpenGate, Returned, run_crew};
-use nvme_model::array::Range;
 use race_numbers::Race;
 use shared_system::{Callers, HostPasses, System, system_of};
 use std::alloc::{AllocError as NoMemory, Global};
@@ -79,8 +79,7 @@ fn all_threads<R: Threads + Wait + Sync>(
 ///
 /// # Errors
 ///
-/// `NoMemory` where a growth was refused, a thread couldn't be started or a host couldn't begin a round; `NoHistory`
-/// where the controller wasn't given back.
+/// `NoMemory` where a growth was refused, a thread couldn't be started or a host couldn't begin a round.
 pub(crate) fn raced<R: Threads + Wait + Sync>(
     rt: &R,
     alloc: Global,
@@ -92,19 +91,10 @@ pub(crate) fn raced<R: Threads + Wait + Sync>(
         (λ core. HasRounds (race_config race.now) (slots_of race.now) race.now.rounds core.past) }
     ensures early { IfErr result IsEarly }
 {
-    let config = race.config();
-    let (system, callers) = system_of(alloc, config, OpenGate, race.workers)?;
-    let slots = Range {
-        slba: 0,
-        blocks: race.slots,
-    };
-    let play = Play {
-        config,
-        slots,
-        rounds: race.rounds,
-    };
+    let play = play_of(race);
+    let (system, callers) = system_of(alloc, play.config, OpenGate, race.workers)?;
     let room = room_for(alloc, &play, race.workers)?;
-    let queues = config.numbers().pairs;
+    let queues = play.config.numbers().pairs;
     let callers = all_threads(rt, alloc, &system, &play, queues, callers, race.workers)?;
-    closed(system, &play, callers, room).ok_or(RaceFault::NoHistory)
+    Ok(closed(system, &play, callers, room))
 }

@@ -4,6 +4,7 @@ ghost use Rattle.std.specs.Prelude.{◌≡◌, All, IfErr, OnOk, reverse, ℕ};
 ghost use Rattle.history.specs.Lines.{HasLine};
 ghost use Rattle.nvme_model.specs.Legal.{IsLegalFile};
 ghost use Rattle.race_numbers.specs.Races.{race_config};
+ghost use Rattle.race_run.specs.Faults.{IsLate};
 ghost use Rattle.race_run.specs.Races.{Races, TellsHistory};
 ghost use Rattle.closing_laws.specs.Closing.{HasRounds, KeepsSlots};
 ghost use Rattle.race_run.specs.Slots.{PrintsRounds, PrintsSlots, slots_of};
@@ -52,7 +53,7 @@ fn judge(alloc: Global, config: &Config, entries: &[Entry]) -> Result<(), RaceFa
 }
 
 // Writes and checks a history, which keeps these slots.
-#[tactic(auto, using(crate::proofs::Judging::unjudged, crate::proofs::Judging::kept_slots))]
+#[tactic(auto, using(crate::proofs::Judging::finishing))]
 fn finish<W: Write>(
     alloc: Global,
     config: &Config,
@@ -66,6 +67,7 @@ fn finish<W: Write>(
     ensures slots { OnOk result (PrintsSlots config.now _slots.now (W.contents writer.old) (W.contents writer.new)) }
     ensures rounds { (rounds : ℕ) → HasRounds config.now _slots.now rounds (reverse entries.now) → OnOk result
         (PrintsRounds config.now _slots.now rounds (W.contents writer.old) (W.contents writer.new)) }
+    ensures late { IfErr result IsLate }
 {
     tell(alloc, config, entries, writer)?;
     judge(alloc, config, entries)?;
@@ -93,6 +95,7 @@ pub fn tell_race<W: Write>(
     ensures rounds { OnOk result
         (PrintsRounds (race_config race.now) (slots_of race.now) race.now.rounds (W.contents writer.old)
         (W.contents writer.new)) }
+    ensures late { IfErr result IsLate }
 {
     let config = core.config();
     let slots = Range {
@@ -109,9 +112,9 @@ pub fn tell_race<W: Write>(
 ///
 /// # Errors
 ///
-/// `NoMemory` where a growth was refused, a thread couldn't be started or a host couldn't begin a round; `NoHistory`,
-/// after nothing was written, where the controller wasn't given back; `Output` after a beginning of the text. `BadAt`
-/// would name the first place at which the history isn't legal; it never comes, since what the controller gives is.
+/// `NoMemory` where a growth was refused, a thread couldn't be started or a host couldn't begin a round; `Output` after
+/// a beginning of the text. `BadAt` would name the first place at which the history isn't legal; it never comes, since
+/// what the controller gives is.
 pub fn run_race<R: Threads + Wait + Sync, W: Write>(
     rt: &R,
     alloc: Global,

@@ -56,7 +56,6 @@ fn a_failed_write_ends_the_race(rt: HostRuntime) -> Result<(), Fail> {
 #[test]
 fn faults_have_their_words_and_statuses(rt: HostRuntime) -> Result<(), Fail> {
     let rows = [
-        (RaceFault::NoHistory, "no history", 1),
         (RaceFault::BadAt(7), "bad at 7", 1),
         (RaceFault::Output, "output failed", 3),
         (RaceFault::NoMemory, "no memory", 4),

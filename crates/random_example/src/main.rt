@@ -3,7 +3,7 @@
 
 use history_text::PrintFault;
 use random_numbers::RandomNumbers;
-use random_script::{Kind, draw_config, write_random};
+use random_script::{ScriptKind, draw_config, write_random};
 use std::io;
 use std::io::Write;
 use std::process::ExitCode;
@@ -12,18 +12,22 @@ const SEED: u64 = 47;
 
 const LINES: u32 = 12;
 
-const KINDS: [Kind; 7] = [
-    Kind::Single,
-    Kind::Pairs,
-    Kind::Units,
-    Kind::Queues,
-    Kind::Hostile,
-    Kind::Slots,
-    Kind::Mixed,
+const KINDS: [ScriptKind; 7] = [
+    ScriptKind::Single,
+    ScriptKind::Pairs,
+    ScriptKind::Units,
+    ScriptKind::Queues,
+    ScriptKind::Hostile,
+    ScriptKind::Slots,
+    ScriptKind::Mixed,
 ];
 
 // Writes the script of a kind.
-fn show<R: AllocGlobal, W: Write>(rt: &R, kind: Kind, writer: &mut W) -> Result<(), PrintFault> {
+fn show<R: AllocGlobal, W: Write>(
+    rt: &R,
+    kind: ScriptKind,
+    writer: &mut W,
+) -> Result<(), PrintFault> {
     let mut random = RandomNumbers::from_seed(SEED);
     let config = draw_config(&mut random, kind);
     write_random(rt.alloc(), &mut random, config, kind, LINES, writer)

@@ -9,17 +9,17 @@ use Rattle.history_text.specs.declared.printing.PrintFault.{PrintFault}
 use Rattle.nvme_model.specs.declared.config.ConfigNumbers.{ConfigNumbers}
 use Rattle.random_script.specs.Kinds.{IsOfKind}
 use Rattle.random_script.specs.Scripts.{AreOfKind, WritesScript}
-use Rattle.random_script.specs.declared.kind.Kind.{Kind}
-use Rattle.script_text.specs.Texts.{IsRead, script_text}
+use Rattle.random_script.specs.declared.script_kind.ScriptKind.{ScriptKind}
+use Rattle.script_text.specs.Texts.{IsScriptLine, script_text}
 use Rattle.script_text.specs.declared.written.WrittenLine.{WrittenLine}
 
 -- no line
-pub none_drawn : (kind : Kind) → AreOfKind kind 0 []
+pub none_drawn : (kind : ScriptKind) → AreOfKind kind 0 []
 none_drawn kind = record { count_is = omega arith; of_kind = λ j d low. absurd (omega arith) }
 
 -- one line more
-pub one_drawn : (kind : Kind) (n : ℕ) (xs : List WrittenLine) (x : WrittenLine) → AreOfKind kind n xs → IsOfKind kind x
-    → AreOfKind kind (n + 1) (xs ++ x ∷ [])
+pub one_drawn : (kind : ScriptKind) (n : ℕ) (xs : List WrittenLine) (x : WrittenLine) → AreOfKind kind n xs
+    → IsOfKind kind x → AreOfKind kind (n + 1) (xs ++ x ∷ [])
 one_drawn kind n xs x are is =
     record {
       count_is = omega (arith, are.count_is, length-append xs (x ∷ []));
@@ -27,9 +27,10 @@ one_drawn kind n xs x are is =
     }
 
 -- they were written, or a beginning was
-pub written : (kind : Kind) (c : ConfigNumbers) (n : ℕ) (lines : List WrittenLine) (r : Result (Unit {0}) PrintFault)
-    (old new : Option (List ℕ)) → AreOfKind kind n lines → OnOk r (Appends old new (script_text c lines))
-    → OnErr r (AppendsFront old new (script_text c lines)) → OnOk r (All IsRead lines)
+pub written : (kind : ScriptKind) (c : ConfigNumbers) (n : ℕ) (lines : List WrittenLine)
+    (r : Result (Unit {0}) PrintFault) (old new : Option (List ℕ)) → AreOfKind kind n lines
+    → OnOk r (Appends old new (script_text c lines))
+    → OnErr r (AppendsFront old new (script_text c lines)) → OnOk r (All IsScriptLine lines)
     → WritesScript kind c n r old new
 written kind c n lines (Ok done) old new are whole front read = (lines, are, read, whole)
 written kind c n lines (Err fault) old new are whole front read = inr (lines, are, front)

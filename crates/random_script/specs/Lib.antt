@@ -1,2 +1,3 @@
+pub mod Configs
 pub mod Kinds
 pub mod Scripts

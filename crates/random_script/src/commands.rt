@@ -1,15 +1,15 @@
 //! Commands that have a name.
 
 ghost use Rattle.std.specs.Prelude.{◌≡◌, ◌≢◌, ◌≤◌, IfOk};
-ghost use Rattle.random_script.specs.Kinds.{IsAlone, IsLong, IsPair, IsShort};
-ghost use Rattle.script_text.specs.declared.written.CommandName.{CommandName as TheName};
+ghost use Rattle.random_script.specs.Kinds.{IsSingleCommand, IsLong, IsPair, IsShort};
+ghost use Rattle.script_text.specs.declared.written.CommandWord.{CommandWord as TheName};
 ghost use Rattle.script_text.specs.declared.written.EntryForm.{EntryForm as TheForm};
 
 use crate::data::{drawn_data, held_data};
 use entry_codec::Fuse;
 use nvme_model::submission::Payload;
 use random_numbers::RandomNumbers;
-use script_text::{Command, CommandName, EntryForm, WrittenEntry};
+use script_text::{CommandWord, EntryForm, WrittenCommand, WrittenEntry};
 use std::alloc::{AllocError as NoMemory, Global};
 use step_core::Core;
 
@@ -50,14 +50,14 @@ pub(crate) fn drawn_cid(random: &mut RandomNumbers) -> u16 {
 }
 
 // A command that has blocks.
-fn drawn_operation(random: &mut RandomNumbers) -> CommandName
+fn drawn_operation(random: &mut RandomNumbers) -> CommandWord
     ensures { result ≢ TheName.Flush }
 {
     match random.below(9) {
-        0..=2 => CommandName::Write,
-        3..=5 => CommandName::Read,
-        6..=7 => CommandName::Compare,
-        _ => CommandName::WriteZeroes,
+        0..=2 => CommandWord::Write,
+        3..=5 => CommandWord::Read,
+        6..=7 => CommandWord::Compare,
+        _ => CommandWord::WriteZeroes,
     }
 }
 
@@ -66,22 +66,22 @@ fn drawn_payload(
     alloc: Global,
     core: &Core,
     random: &mut RandomNumbers,
-    command: &Command,
+    command: &WrittenCommand,
 ) -> Result<Payload, NoMemory> {
     let blocks = u32::from(command.nlb) + 1;
     if random.one_in(24) {
         return Ok(Payload::new(Vec::new(alloc)));
     }
     let data = match command.name {
-        CommandName::Write => drawn_data(alloc, random, blocks)?,
-        CommandName::Compare => {
+        CommandWord::Write => drawn_data(alloc, random, blocks)?,
+        CommandWord::Compare => {
             if random.one_in(2) {
                 held_data(alloc, core, command.slba, blocks)?
             } else {
                 drawn_data(alloc, random, blocks)?
             }
         }
-        CommandName::Flush | CommandName::Read | CommandName::WriteZeroes => Vec::new(alloc),
+        CommandWord::Flush | CommandWord::Read | CommandWord::WriteZeroes => Vec::new(alloc),
     };
     Ok(Payload::new(data))
 }
@@ -91,7 +91,7 @@ fn with_payload(
     alloc: Global,
     core: &Core,
     random: &mut RandomNumbers,
-    command: Command,
+    command: WrittenCommand,
 ) -> Result<WrittenEntry, NoMemory>
     ensures form { IfOk result (λ x. x.form ≡ TheForm.Named command) }
 {
@@ -109,20 +109,20 @@ pub(crate) fn drawn_alone(
     random: &mut RandomNumbers,
     extent: Extent,
 ) -> Result<WrittenEntry, NoMemory>
-    ensures alone { IfOk result (λ x. IsAlone x.form) }
+    ensures alone { IfOk result (λ x. IsSingleCommand x.form) }
     ensures short { extent.nlb ≡ 0 → IfOk result (λ x. IsShort x.form) }
 {
     let cid = drawn_cid(random);
     let command = if random.one_in(10) {
-        Command {
-            name: CommandName::Flush,
+        WrittenCommand {
+            name: CommandWord::Flush,
             fuse: Fuse::Normal,
             cid,
             slba: 0,
             nlb: 0,
         }
     } else {
-        Command {
+        WrittenCommand {
             name: drawn_operation(random),
             fuse: Fuse::Normal,
             cid,
@@ -142,7 +142,7 @@ pub(crate) fn drawn_long(
     ensures long { IfOk result (λ x. IsLong x.form) }
 {
     let extent = drawn_extent(core, random, 12);
-    let command = Command {
+    let command = WrittenCommand {
         name: drawn_operation(random),
         fuse: Fuse::Normal,
         cid: drawn_cid(random),
@@ -162,15 +162,15 @@ pub(crate) fn drawn_pair(
 {
     let most = core.config().numbers().atomic.acwu.min(255) + 1;
     let extent = drawn_extent(core, random, most);
-    let compare = Command {
-        name: CommandName::Compare,
+    let compare = WrittenCommand {
+        name: CommandWord::Compare,
         fuse: Fuse::First,
         cid: drawn_cid(random),
         slba: extent.slba,
         nlb: extent.nlb,
     };
-    let write = Command {
-        name: CommandName::Write,
+    let write = WrittenCommand {
+        name: CommandWord::Write,
         fuse: Fuse::Second,
         cid: drawn_cid(random),
         slba: extent.slba,

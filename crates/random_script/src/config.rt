@@ -1,8 +1,9 @@
 //! A small configuration that suits a kind.
 
 ghost use Rattle.std.specs.Prelude.{◌<◌, ◌≤◌};
+ghost use Rattle.random_script.specs.Configs.{IsSmall, Suits};
 
-use crate::kind::Kind;
+use crate::script_kind::ScriptKind;
 use history::Config;
 use random_numbers::RandomNumbers;
 
@@ -16,7 +17,11 @@ fn between(random: &mut RandomNumbers, first: u16, last: u16) -> u16
 }
 
 // Rings of few slots, so that they are often full.
-fn narrow(random: &mut RandomNumbers) -> Config {
+fn narrow(random: &mut RandomNumbers) -> Config
+    ensures small { IsSmall result }
+    ensures submissions { result.sq_size ≤ 4 }
+    ensures completions { result.cq_size ≤ 4 }
+{
     let pairs = between(random, 1, 3);
     let sq = between(random, 3, 4);
     let cq = between(random, 2, 4);
@@ -29,7 +34,10 @@ fn narrow(random: &mut RandomNumbers) -> Config {
 }
 
 // Boundaries in most cases, and units of few blocks.
-fn bounded(random: &mut RandomNumbers) -> Config {
+fn bounded(random: &mut RandomNumbers) -> Config
+    ensures small { IsSmall result }
+    ensures room { 12 ≤ result.blocks }
+{
     let awun = between(random, 0, 3);
     let acwu = between(random, 0, 3);
     let nabsn = if random.one_in(4) {
@@ -47,7 +55,10 @@ fn bounded(random: &mut RandomNumbers) -> Config {
 }
 
 // Anything that is small; a fused pair finds room.
-fn small(random: &mut RandomNumbers) -> Config {
+fn small(random: &mut RandomNumbers) -> Config
+    ensures small { IsSmall result }
+    ensures room { 4 ≤ result.sq_size }
+{
     let blocks = between(random, 4, 24);
     let awun = between(random, 0, 3);
     let acwu = between(random, 0, 3);
@@ -71,10 +82,17 @@ fn small(random: &mut RandomNumbers) -> Config {
 }
 
 /// A small configuration that suits a kind, for a script of which none is asked for.
-pub fn draw_config(random: &mut RandomNumbers, kind: Kind) -> Config {
+pub fn draw_config(random: &mut RandomNumbers, kind: ScriptKind) -> Config
+    ensures small { IsSmall result }
+    ensures suits { Suits kind result }
+{
     match kind {
-        Kind::Queues => narrow(random),
-        Kind::Units => bounded(random),
-        Kind::Single | Kind::Pairs | Kind::Hostile | Kind::Slots | Kind::Mixed => small(random),
+        ScriptKind::Queues => narrow(random),
+        ScriptKind::Units => bounded(random),
+        ScriptKind::Single
+        | ScriptKind::Pairs
+        | ScriptKind::Hostile
+        | ScriptKind::Slots
+        | ScriptKind::Mixed => small(random),
     }
 }

@@ -5,13 +5,13 @@ mod commands;
 mod config;
 mod data;
 mod hostile;
-mod kind;
 mod publishing;
 mod scene;
 mod script;
+mod script_kind;
 mod steps;
 mod swaps;
 
 pub use crate::config::draw_config;
-pub use crate::kind::Kind;
 pub use crate::script::{draw_script, write_random};
+pub use crate::script_kind::ScriptKind;

@@ -2,11 +2,11 @@
 
 ghost use Rattle.std.specs.Prelude.{◌≡◌, IfOk};
 ghost use Rattle.random_script.specs.Kinds.{IsPublishOf};
-ghost use Rattle.random_script.specs.declared.kind.Kind.{Kind as TheKind};
+ghost use Rattle.random_script.specs.declared.script_kind.ScriptKind.{ScriptKind as TheKind};
 
 use crate::commands::{Extent, drawn_alone, drawn_extent, drawn_long, drawn_pair};
 use crate::hostile::drawn_hostile;
-use crate::kind::Kind;
+use crate::script_kind::ScriptKind;
 use crate::swaps::drawn_swap;
 use random_numbers::RandomNumbers;
 use script_text::PublishWords;
@@ -113,17 +113,17 @@ pub(crate) fn drawn_publish(
     alloc: Global,
     core: &Core,
     random: &mut RandomNumbers,
-    kind: Kind,
+    kind: ScriptKind,
 ) -> Result<PublishWords, NoMemory>
     ensures kind { IfOk result (λ p. IsPublishOf kind p.first p.second) }
 {
     match kind {
-        Kind::Single => single(alloc, core, random),
-        Kind::Pairs => pair(alloc, core, random),
-        Kind::Units => long(alloc, core, random),
-        Kind::Queues => short(alloc, core, random),
-        Kind::Hostile => hostile(alloc, core, random),
-        Kind::Slots => swap(alloc, core, random),
-        Kind::Mixed => any(alloc, core, random),
+        ScriptKind::Single => single(alloc, core, random),
+        ScriptKind::Pairs => pair(alloc, core, random),
+        ScriptKind::Units => long(alloc, core, random),
+        ScriptKind::Queues => short(alloc, core, random),
+        ScriptKind::Hostile => hostile(alloc, core, random),
+        ScriptKind::Slots => swap(alloc, core, random),
+        ScriptKind::Mixed => any(alloc, core, random),
     }
 }

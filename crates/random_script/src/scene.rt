@@ -10,7 +10,7 @@ use step_core::Core;
 
 // A ticket in flight.
 #[derive(Clone, Copy)]
-struct Flying {
+struct OwingTicket {
     ticket: u64,
     // completions that it hasn't posted
     owed: u8,
@@ -21,7 +21,7 @@ struct Flying {
 pub(crate) struct Scene {
     pub(crate) alloc: Global,
     pub(crate) core: Core,
-    flying: Vec<Flying>,
+    flying: Vec<OwingTicket>,
     // tickets so far
     fetched: u64,
 }
@@ -84,7 +84,7 @@ impl Scene {
     // A ticket was fetched.
     fn begun(&mut self, work: &Work) -> Result<(), NoMemory> {
         self.fetched = work.ticket();
-        self.flying.push(Flying {
+        self.flying.push(OwingTicket {
             ticket: work.ticket(),
             owed: owed_by(work.kind()),
         })?;

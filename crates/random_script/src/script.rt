@@ -3,8 +3,8 @@
 ghost use Rattle.std.specs.Prelude.{IfOk};
 ghost use Rattle.random_script.specs.Scripts.{AreOfKind, WritesScript};
 
-use crate::kind::Kind;
 use crate::scene::Scene;
+use crate::script_kind::ScriptKind;
 use crate::steps::drawn_line;
 use history::Config;
 use history_text::PrintFault;
@@ -23,7 +23,7 @@ pub fn draw_script(
     alloc: Global,
     random: &mut RandomNumbers,
     config: Config,
-    kind: Kind,
+    kind: ScriptKind,
     count: u32,
 ) -> Result<Vec<WrittenLine>, NoMemory>
     ensures lines { IfOk result (λ v. AreOfKind kind count v.items) }
@@ -48,7 +48,7 @@ pub fn write_random<W: Write>(
     alloc: Global,
     random: &mut RandomNumbers,
     config: Config,
-    kind: Kind,
+    kind: ScriptKind,
     count: u32,
     writer: &mut W,
 ) -> Result<(), PrintFault>

@@ -3,9 +3,9 @@
 ghost use Rattle.std.specs.Prelude.{IfOk, IfSome};
 ghost use Rattle.random_script.specs.Kinds.{IsOfKind};
 
-use crate::kind::Kind;
 use crate::publishing::drawn_publish;
 use crate::scene::Scene;
+use crate::script_kind::ScriptKind;
 use random_numbers::RandomNumbers;
 use script_text::WrittenLine;
 use std::alloc::AllocError as NoMemory;
@@ -21,9 +21,9 @@ enum Act {
 }
 
 // What comes next. On rings that fill and wrap a dozen lines fill them, and a dozen drain them.
-fn drawn_act(random: &mut RandomNumbers, kind: Kind, turn: u32) -> Act {
+fn drawn_act(random: &mut RandomNumbers, kind: ScriptKind, turn: u32) -> Act {
     let fills = match kind {
-        Kind::Queues => Some(turn / 12 % 2 == 0),
+        ScriptKind::Queues => Some(turn / 12 % 2 == 0),
         _ => None,
     };
     match (fills, random.below(16)) {
@@ -65,7 +65,7 @@ fn if_made(scene: &mut Scene, line: WrittenLine) -> Result<Option<WrittenLine>, 
 fn publish(
     scene: &mut Scene,
     random: &mut RandomNumbers,
-    kind: Kind,
+    kind: ScriptKind,
 ) -> Result<Option<WrittenLine>, NoMemory>
     ensures kind { IfOk result (λ o. IfSome o (IsOfKind kind)) }
 {
@@ -77,7 +77,7 @@ fn publish(
 fn fetch(
     scene: &mut Scene,
     random: &mut RandomNumbers,
-    kind: Kind,
+    kind: ScriptKind,
 ) -> Result<Option<WrittenLine>, NoMemory>
     ensures kind { IfOk result (λ o. IfSome o (IsOfKind kind)) }
 {
@@ -98,7 +98,7 @@ fn fetch(
 fn reap(
     scene: &mut Scene,
     random: &mut RandomNumbers,
-    kind: Kind,
+    kind: ScriptKind,
 ) -> Result<Option<WrittenLine>, NoMemory>
     ensures kind { IfOk result (λ o. IfSome o (IsOfKind kind)) }
 {
@@ -116,7 +116,11 @@ fn reap(
 }
 
 // A step of this ticket that is accepted, if one is.
-fn serve_one(scene: &mut Scene, ticket: u64, kind: Kind) -> Result<Option<WrittenLine>, NoMemory>
+fn serve_one(
+    scene: &mut Scene,
+    ticket: u64,
+    kind: ScriptKind,
+) -> Result<Option<WrittenLine>, NoMemory>
     ensures kind { IfOk result (λ o. IfSome o (IsOfKind kind)) }
 {
     let _ = kind;
@@ -139,7 +143,7 @@ fn serve_one(scene: &mut Scene, ticket: u64, kind: Kind) -> Result<Option<Writte
 fn serve(
     scene: &mut Scene,
     random: &mut RandomNumbers,
-    kind: Kind,
+    kind: ScriptKind,
 ) -> Result<Option<WrittenLine>, NoMemory>
     ensures kind { IfOk result (λ o. IfSome o (IsOfKind kind)) }
 {
@@ -158,7 +162,7 @@ fn serve(
 fn acted(
     scene: &mut Scene,
     random: &mut RandomNumbers,
-    kind: Kind,
+    kind: ScriptKind,
     act: Act,
 ) -> Result<Option<WrittenLine>, NoMemory>
     ensures kind { IfOk result (λ o. IfSome o (IsOfKind kind)) }
@@ -183,7 +187,7 @@ fn look(scene: &Scene, random: &mut RandomNumbers) -> WrittenLine
 fn careful(
     scene: &mut Scene,
     random: &mut RandomNumbers,
-    kind: Kind,
+    kind: ScriptKind,
     turn: u32,
 ) -> Result<WrittenLine, NoMemory>
     ensures kind { IfOk result (IsOfKind kind) }
@@ -226,7 +230,7 @@ fn careless(scene: &mut Scene, random: &mut RandomNumbers) -> Result<WrittenLine
 fn careless_publish(
     scene: &mut Scene,
     random: &mut RandomNumbers,
-    kind: Kind,
+    kind: ScriptKind,
 ) -> Result<WrittenLine, NoMemory>
     ensures kind { IfOk result (IsOfKind kind) }
 {
@@ -240,7 +244,7 @@ fn careless_publish(
 pub(crate) fn drawn_line(
     scene: &mut Scene,
     random: &mut RandomNumbers,
-    kind: Kind,
+    kind: ScriptKind,
     turn: u32,
 ) -> Result<WrittenLine, NoMemory>
     ensures kind { IfOk result (IsOfKind kind) }

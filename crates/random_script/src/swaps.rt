@@ -1,20 +1,21 @@
 //! Claims and releases of slots.
 
-ghost use Rattle.std.specs.Prelude.{◌≡◌, ◌⊎◌, IfOk, IfSome};
+ghost use Rattle.std.specs.Prelude.{◌≡◌, ◌≢◌, ◌<◌, ◌≤◌, IfOk};
 ghost use Rattle.nvme_model.specs.Array.{zeros};
-ghost use Rattle.random_script.specs.Kinds.{IsSwap};
+ghost use Rattle.nvme_model.specs.Slots as slots;
+ghost use Rattle.random_script.specs.Kinds.{IsHeldBlock, IsSwap, IsSwapData};
 
 use crate::commands::{TwoEntries, drawn_cid};
 use entry_codec::Fuse;
 use nvme_model::submission::Payload;
 use random_numbers::RandomNumbers;
-use script_text::{Command, CommandName, EntryForm, WrittenEntry};
+use script_text::{CommandWord, EntryForm, WrittenCommand, WrittenEntry};
 use std::alloc::{AllocError as NoMemory, Global};
 use step_core::Core;
 
 /// A claim or a release on a submission queue.
 #[derive(Drop)]
-pub(crate) struct Swap {
+pub(crate) struct DrawnSwap {
     pub(crate) queue: u16,
     pub(crate) two: TwoEntries,
 }
@@ -26,29 +27,46 @@ fn free_block(alloc: Global) -> Result<Payload, NoMemory>
     Payload::copy_of(alloc, &[0; 512])
 }
 
+// The block of a slot that is held under this name.
+fn block_of(host: u8, serial: u8) -> [u8; 512]
+    ensures value { result ≡ slots.slot_block (record { host = host; serial = serial }) }
+{
+    let mut block = [0; 512];
+    block[0] = host;
+    block[8] = serial;
+    block
+}
+
+// The serial of a claim.
+fn drawn_serial(random: &mut RandomNumbers) -> u8
+    ensures some { 1 ≤ result }
+{
+    1 + random.below(250) as u8
+}
+
 // The name of a claim of this host, which has the number of its queue.
-fn name_block(alloc: Global, host: u16, random: &mut RandomNumbers) -> Result<Payload, NoMemory> {
-    let mut block = [0u8; 512];
-    block[0] = (host % 256) as u8;
-    block[8] = 1 + random.below(250) as u8;
-    Payload::copy_of(alloc, &block)
+fn name_block(alloc: Global, host: u8, random: &mut RandomNumbers) -> Result<Payload, NoMemory>
+    requires some { 1 ≤ host }
+    ensures held { IfOk result IsHeldBlock }
+{
+    Payload::copy_of(alloc, &block_of(host, drawn_serial(random)))
 }
 
 // A pair on this block with this data.
 fn swap_on(slot: u64, random: &mut RandomNumbers, found: Payload, written: Payload) -> TwoEntries
-    requires one { (found ≡ zeros) ⊎ (written ≡ zeros) }
+    requires one { IsSwapData found written }
     ensures swap { IsSwap result.first result.second }
 {
     let cid = random.below(500) as u16;
-    let compare = Command {
-        name: CommandName::Compare,
+    let compare = WrittenCommand {
+        name: CommandWord::Compare,
         fuse: Fuse::First,
         cid,
         slba: slot,
         nlb: 0,
     };
-    let write = Command {
-        name: CommandName::Write,
+    let write = WrittenCommand {
+        name: CommandWord::Write,
         fuse: Fuse::Second,
         cid: cid + 500,
         slba: slot,
@@ -67,12 +85,19 @@ fn swap_on(slot: u64, random: &mut RandomNumbers, found: Payload, written: Paylo
 }
 
 // A claim of a slot by the host of a queue.
-fn claim(alloc: Global, random: &mut RandomNumbers, slot: u64, queue: u16) -> Result<Swap, NoMemory>
+fn claim(
+    alloc: Global,
+    random: &mut RandomNumbers,
+    slot: u64,
+    queue: u16,
+) -> Result<DrawnSwap, NoMemory>
+    requires low { 1 ≤ queue }
+    requires high { queue < 256 }
     ensures swap { IfOk result (λ s. IsSwap s.two.first s.two.second) }
 {
     let found = free_block(alloc)?;
-    let written = name_block(alloc, queue, random)?;
-    Ok(Swap {
+    let written = name_block(alloc, queue as u8, random)?;
+    Ok(DrawnSwap {
         queue,
         two: swap_on(slot, random, found, written),
     })
@@ -84,12 +109,13 @@ fn release(
     random: &mut RandomNumbers,
     slot: u64,
     block: &[u8; 512],
-) -> Result<Swap, NoMemory>
+) -> Result<DrawnSwap, NoMemory>
+    requires { block.now ≢ zeros }
     ensures swap { IfOk result (λ s. IsSwap s.two.first s.two.second) }
 {
     let found = Payload::copy_of(alloc, block)?;
     let written = free_block(alloc)?;
-    Ok(Swap {
+    Ok(DrawnSwap {
         queue: u16::from(block[0]),
         two: swap_on(slot, random, found, written),
     })
@@ -101,7 +127,7 @@ pub(crate) fn drawn_swap(
     alloc: Global,
     core: &Core,
     random: &mut RandomNumbers,
-) -> Result<Swap, NoMemory>
+) -> Result<DrawnSwap, NoMemory>
     ensures swap { IfOk result (λ s. IsSwap s.two.first s.two.second) }
 {
     let numbers = core.config().numbers();

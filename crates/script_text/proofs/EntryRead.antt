@@ -1,12 +1,11 @@
 -- The words of an entry are read as that entry.
-use Rattle.std.proofs.Common.{◌≡◌, ℕ, ◌<◌, ◌^◌, Bool, false, List, [], ◌∷◌, ◌++◌, Option, None, Some, refl, ap, ◌∙◌}
+use Rattle.std.proofs.Common.{◌≡◌, ℕ, ◌<◌, ◌^◌, false, List, Some, refl, ap, ◌∙◌}
 use Rattle.std.proofs.Common.{arith}
 use Rattle.std.specs.Prelude.{codes, decimal}
 use Rattle.std.specs.List.{AllByRecursion}
 use Rattle.std.specs.Str.{bytes_eq}
-use Rattle.hex.specs.Hex.{encode_upper, IsBytes}
+use Rattle.hex.specs.Hex.{IsBytes}
 use Rattle.line_text.specs.Number.{number_in}
-use Rattle.line_text.specs.Digits.{bytes_in, fixed_in}
 use Rattle.line_text.specs.Data.{data_text, data_in}
 use Rattle.line_text.specs.Words.{Without}
 use Rattle.line_text.proofs.NumberLaws.{decimal_spaceless}
@@ -15,21 +14,20 @@ use Rattle.line_text.proofs.WordLaws.{upper_without}
 use Rattle.entry_codec.specs.declared.fuse.Fuse.{Fuse}
 use Rattle.entry_codec.specs.declared.fuse.Fuse.TheVariants.{Normal, First, Second, Reserved}
 use Rattle.entry_codec.specs.Fuse.{fuse_number}
-use Rattle.nvme_model.specs.declared.submission.Submission.{Submission}
 use Rattle.history.specs.BatchWords.{item_from}
 use Rattle.script_lines.specs.Commands.{command_from, fuse_from, fuse_in, opcode_in, script_item_in}
 use Rattle.script_text.specs.Asked.{form_bytes, name_opcode, submission_asked}
-use Rattle.script_text.specs.Written.{HasEntry, HasForm, entry_words, name_text}
-use Rattle.script_text.specs.declared.written.CommandName.{CommandName}
-use Rattle.script_text.specs.declared.written.CommandName.TheVariants.{Flush, Write, Read, Compare, WriteZeroes}
+use Rattle.script_text.specs.Written.{HasEntry, HasForm, form_words, name_text}
+use Rattle.script_text.specs.declared.written.CommandWord.{CommandWord}
+use Rattle.script_text.specs.declared.written.CommandWord.TheVariants.{Flush, Write, Read, Compare, WriteZeroes}
 use Rattle.script_text.specs.declared.written.EntryForm.{EntryForm}
 use Rattle.script_text.specs.declared.written.EntryForm.TheVariants.{Named, Raw}
 use Rattle.script_text.specs.declared.written.WrittenEntry.{WrittenEntry}
-use Rattle.script_text.proofs.WordsRead.{all_append, data_isnt, digits_arent, number_16, number_64, number_isnt}
+use Rattle.script_text.proofs.WordsRead.{data_isnt, digits_arent, number_16, number_64, number_isnt}
 use Rattle.script_text.proofs.WordsRead.{payload_again, raw_again}
 
 -- a name is that of its opcode
-name_again : (name : CommandName) → opcode_in (name_text name) ≡ Some (name_opcode name)
+name_again : (name : CommandWord) → opcode_in (name_text name) ≡ Some (name_opcode name)
 name_again Flush = refl
 name_again Write = refl
 name_again Read = refl
@@ -51,7 +49,7 @@ fuse_small Second = omega arith
 fuse_small Reserved = omega arith
 
 -- a name has no space in it
-name_spaceless : (name : CommandName) → Without 32 (name_text name)
+name_spaceless : (name : CommandWord) → Without 32 (name_text name)
 name_spaceless Flush = (refl, (refl, (refl, (refl, (refl, tt)))))
 name_spaceless Write = (refl, (refl, (refl, (refl, (refl, tt)))))
 name_spaceless Read = (refl, (refl, (refl, (refl, tt))))
@@ -59,7 +57,7 @@ name_spaceless Compare = (refl, (refl, (refl, (refl, (refl, (refl, (refl, tt))))
 name_spaceless WriteZeroes = (refl, (refl, (refl, (refl, (refl, (refl, tt))))))
 
 -- a name isn't `+`
-name_isnt : (name : CommandName) → bytes_eq (name_text name) (codes "+") ≡ false
+name_isnt : (name : CommandWord) → bytes_eq (name_text name) (codes "+") ≡ false
 name_isnt Flush = refl
 name_isnt Write = refl
 name_isnt Read = refl
@@ -68,7 +66,7 @@ name_isnt WriteZeroes = refl
 
 -- the words of an entry with its data are read as these
 form_again : (f : EntryForm) (payload : List ℕ) → HasForm f → IsBytes payload
-    → script_item_in (entry_words f payload) ≡ Some (record { entry = form_bytes f; payload = payload })
+    → script_item_in (form_words f payload) ≡ Some (record { entry = form_bytes f; payload = payload })
 unfolding script_item_in
 form_again (Named c) payload fits bytes =
     ap (λ o. item_from (command_from o (fuse_in (decimal (fuse_number c.fuse))) (number_in 16 (decimal c.cid))
@@ -93,15 +91,15 @@ form_again (Raw raw) payload fits bytes =
 
 -- the words of an entry are read as that entry
 pub entry_again : (x : WrittenEntry) → HasEntry x
-    → script_item_in (entry_words x.form x.payload) ≡ Some (submission_asked x)
+    → script_item_in (form_words x.form x.payload) ≡ Some (submission_asked x)
 entry_again x is = form_again x.form x.payload is.form is.payload
 
 -- they have no space in them
-pub entry_spaceless : (x : WrittenEntry) → HasEntry x → AllByRecursion (Without 32) (entry_words x.form x.payload)
+pub entry_spaceless : (x : WrittenEntry) → HasEntry x → AllByRecursion (Without 32) (form_words x.form x.payload)
 entry_spaceless x is = form_spaceless x.form x.payload is.form
   where
     form_spaceless : (f : EntryForm) (payload : List ℕ) → HasForm f
-        → AllByRecursion (Without 32) (entry_words f payload)
+        → AllByRecursion (Without 32) (form_words f payload)
     form_spaceless (Named c) payload fits = (
       name_spaceless c.name,
       (
@@ -120,11 +118,11 @@ entry_spaceless x is = form_spaceless x.form x.payload is.form
 
 -- none of them is `+`
 pub entry_isnt : (x : WrittenEntry) → HasEntry x
-    → AllByRecursion (λ word. bytes_eq word (codes "+") ≡ false) (entry_words x.form x.payload)
+    → AllByRecursion (λ word. bytes_eq word (codes "+") ≡ false) (form_words x.form x.payload)
 entry_isnt x is = form_isnt x.form x.payload is.form is.payload
   where
     form_isnt : (f : EntryForm) (payload : List ℕ) → HasForm f → IsBytes payload
-        → AllByRecursion (λ word. bytes_eq word (codes "+") ≡ false) (entry_words f payload)
+        → AllByRecursion (λ word. bytes_eq word (codes "+") ≡ false) (form_words f payload)
     form_isnt (Named c) payload fits bytes = (
       name_isnt c.name,
       (

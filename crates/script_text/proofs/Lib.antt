@@ -1,5 +1,4 @@
 pub mod WordsRead
 pub mod EntryRead
 pub mod LineRead
-pub mod LinesOut
 pub mod PublishText

@@ -1,21 +1,19 @@
 -- What the words of a line spell, and what isn't in them.
 use Rattle.std.proofs.Common.{◌≡◌, ℕ, ◌<◌, ◌^◌, Bool, true, false, List, [], ◌∷◌, ◌++◌, length, Option, None, Some}
-use Rattle.std.proofs.Common.{All, refl, sym, ap, ◌∙◌, subst, arith}
+use Rattle.std.proofs.Common.{refl, sym, ap, ◌∙◌, subst, arith}
 use Rattle.std.specs.Prelude.{codes, decimal}
 use Rattle.std.specs.List.{AllByRecursion}
 use Rattle.std.specs.Str.{bytes_eq}
 use Rattle.std.specs.Str.Parse.{AllDigits}
 use Rattle.std.specs.Char.{digit_value}
 use Rattle.std.proofs.lemmas.Fmt.{decimal_is_IsNumeral}
-use Rattle.std.proofs.lemmas.List.Elements.{All-from_recursion}
 use Rattle.hex.specs.Hex.{encode_upper, IsBytes}
 use Rattle.line_text.specs.Number.{number_in}
 use Rattle.line_text.specs.Digits.{bytes_in, fixed_in}
 use Rattle.line_text.specs.Data.{data_text, data_in, bytes_of_blocks_in, spelled_block}
-use Rattle.line_text.specs.Words.{Without}
-use Rattle.line_text.proofs.NumberLaws.{bytes_eq_true, number_some, number_is}
-use Rattle.line_text.proofs.HexLaws.{bytes_again, bytes_is, fixed_some}
-use Rattle.line_text.proofs.DataLaws.{data_again, data_is}
+use Rattle.line_text.proofs.NumberLaws.{bytes_eq_true, number_some}
+use Rattle.line_text.proofs.HexLaws.{bytes_again, fixed_some}
+use Rattle.line_text.proofs.DataLaws.{data_again}
 
 -- a number of 16 bits
 pub number_16 : (n : ℕ) → n < 2 ^ 16 → number_in 16 (decimal n) ≡ Some n

@@ -5,8 +5,8 @@ use Rattle.nvme_model.specs.declared.step.Step.{Step}
 use Rattle.nvme_model.specs.declared.submission.Submission.{Submission}
 use Rattle.script_lines.specs.Commands.{command_bytes}
 use Rattle.script_lines.specs.declared.line.ScriptLine.{ScriptLine}
-use Rattle.script_text.specs.declared.written.CommandName.{CommandName}
-use Rattle.script_text.specs.declared.written.CommandName.TheVariants.{Flush, Write, Read, Compare, WriteZeroes}
+use Rattle.script_text.specs.declared.written.CommandWord.{CommandWord}
+use Rattle.script_text.specs.declared.written.CommandWord.TheVariants.{Flush, Write, Read, Compare, WriteZeroes}
 use Rattle.script_text.specs.declared.written.EntryForm.{EntryForm}
 use Rattle.script_text.specs.declared.written.EntryForm.TheVariants.{Named, Raw}
 use Rattle.script_text.specs.declared.written.WrittenEntry.{WrittenEntry}
@@ -15,7 +15,7 @@ use Rattle.script_text.specs.declared.written.WrittenLine.TheVariants.{Publish, 
 use Rattle.script_text.specs.declared.written.WrittenLine.TheVariants.{Settle, Medium}
 
 -- the opcode of a command's name (Base 2.0, Flush command; NVM 1.0, Write, Read, Compare and Write Zeroes commands)
-abbrev pub name_opcode : CommandName → ℕ
+abbrev pub name_opcode : CommandWord → ℕ
 name_opcode Flush = 0
 name_opcode Write = 1
 name_opcode Read = 2

@@ -13,5 +13,5 @@ abbrev pub script_text : ConfigNumbers → List WrittenLine → List ℕ
 script_text c lines = with_feeds (config_line c ∷ map line_text lines)
 
 -- The text of the line is one of a script, and asks for what its words say.
-abbrev pub IsRead : WrittenLine → Type 0
-IsRead line = script_line_in (line_text line) ≡ Some (asked line)
+abbrev pub IsScriptLine : WrittenLine → Type 0
+IsScriptLine line = script_line_in (line_text line) ≡ Some (asked line)

@@ -4,19 +4,17 @@ use Rattle.std.specs.List.{join_with_byte}
 use Rattle.hex.specs.Hex.{encode_upper, IsBytes}
 use Rattle.line_text.specs.Data.{data_text}
 use Rattle.entry_codec.specs.Fuse.{fuse_number}
-use Rattle.script_text.specs.declared.written.Command.{Command}
-use Rattle.script_text.specs.declared.written.CommandName.{CommandName}
-use Rattle.script_text.specs.declared.written.CommandName.TheVariants.{Flush, Write, Read, Compare, WriteZeroes}
+use Rattle.script_text.specs.declared.written.CommandWord.{CommandWord}
+use Rattle.script_text.specs.declared.written.CommandWord.TheVariants.{Flush, Write, Read, Compare, WriteZeroes}
 use Rattle.script_text.specs.declared.written.EntryForm.{EntryForm}
 use Rattle.script_text.specs.declared.written.EntryForm.TheVariants.{Named, Raw}
-use Rattle.script_text.specs.declared.written.PublishWords.{PublishWords}
 use Rattle.script_text.specs.declared.written.WrittenEntry.{WrittenEntry}
 use Rattle.script_text.specs.declared.written.WrittenLine.{WrittenLine}
 use Rattle.script_text.specs.declared.written.WrittenLine.TheVariants.{Publish, Fetch, Grant, Block, Post, Reap}
 use Rattle.script_text.specs.declared.written.WrittenLine.TheVariants.{Settle, Medium}
 
 -- the name of a command
-abbrev pub name_text : CommandName → List ℕ
+abbrev pub name_text : CommandWord → List ℕ
 name_text Flush = codes "flush"
 name_text Write = codes "write"
 name_text Read = codes "read"
@@ -24,21 +22,21 @@ name_text Compare = codes "compare"
 name_text WriteZeroes = codes "zeroes"
 
 -- the words of an entry: `raw HEX DATA`, or a command's name, FUSE, CID, SLBA, NLB and data
-abbrev pub entry_words : EntryForm → List ℕ → List (List ℕ)
-entry_words (Named c) payload =
+abbrev pub form_words : EntryForm → List ℕ → List (List ℕ)
+form_words (Named c) payload =
     name_text c.name ∷ decimal (fuse_number c.fuse) ∷ decimal c.cid ∷ decimal c.slba ∷ decimal c.nlb
     ∷ data_text 512 payload ∷ []
-entry_words (Raw bytes) payload = codes "raw" ∷ encode_upper bytes ∷ data_text 512 payload ∷ []
+form_words (Raw bytes) payload = codes "raw" ∷ encode_upper bytes ∷ data_text 512 payload ∷ []
 
 -- the words of a second entry, behind `+`
 abbrev pub second_words : Option WrittenEntry → List (List ℕ)
 second_words None = []
-second_words (Some x) = codes "+" ∷ entry_words x.form x.payload
+second_words (Some x) = codes "+" ∷ form_words x.form x.payload
 
 -- The words of a line of a script.
 unfoldable pub line_words : WrittenLine → List (List ℕ)
 line_words (Publish p) =
-    codes "publish" ∷ decimal p.queue ∷ (entry_words p.first.form p.first.payload ++ second_words p.second)
+    codes "publish" ∷ decimal p.queue ∷ (form_words p.first.form p.first.payload ++ second_words p.second)
 line_words (Fetch queue) = codes "fetch" ∷ decimal queue ∷ []
 line_words (Grant ticket) = codes "grant" ∷ decimal ticket ∷ []
 line_words (Block ticket) = codes "block" ∷ decimal ticket ∷ []

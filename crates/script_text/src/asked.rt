@@ -5,21 +5,21 @@ ghost use Rattle.script_text.specs.Asked.{form_bytes, name_opcode, second_asked,
 ghost use Rattle.script_text.specs.Asked.{step_asked as the_step_asked};
 ghost use Rattle.std.specs.Prelude.{◌∷◌};
 
-use crate::written::{CommandName, EntryForm, PublishWords, WrittenEntry, WrittenLine};
+use crate::written::{CommandWord, EntryForm, PublishWords, WrittenEntry, WrittenLine};
 use entry_codec::{Sqe, encode_sqe, opcode};
 use nvme_model::step::Step;
 use nvme_model::submission::{Payload, Submission, Submissions};
 use std::alloc::{AllocError as NoMemory, Global};
 
-fn opcode_of(name: CommandName) -> u8
+fn opcode_of(name: CommandWord) -> u8
     ensures value { result ≡ name_opcode name }
 {
     match name {
-        CommandName::Flush => opcode::FLUSH,
-        CommandName::Write => opcode::WRITE,
-        CommandName::Read => opcode::READ,
-        CommandName::Compare => opcode::COMPARE,
-        CommandName::WriteZeroes => opcode::WRITE_ZEROES,
+        CommandWord::Flush => opcode::FLUSH,
+        CommandWord::Write => opcode::WRITE,
+        CommandWord::Read => opcode::READ,
+        CommandWord::Compare => opcode::COMPARE,
+        CommandWord::WriteZeroes => opcode::WRITE_ZEROES,
     }
 }
 

@@ -13,5 +13,5 @@ pub use crate::laws::written_lines_are_read;
 pub use crate::printing::print_script;
 pub use crate::writing::write_script_line;
 pub use crate::written::{
-    Command, CommandName, EntryForm, PublishWords, WrittenEntry, WrittenLine,
+    CommandWord, EntryForm, PublishWords, WrittenCommand, WrittenEntry, WrittenLine,
 };

@@ -3,47 +3,15 @@
 ghost use Rattle.std.specs.Prelude.{◌++◌, ◌∷◌, [], All, OnErr, OnOk};
 ghost use Rattle.std.specs.Io.KnownBytes.{Appends};
 ghost use Rattle.line_text.specs.Known.{AppendsFront};
-ghost use Rattle.history.specs.ConfigLine.{config_line};
-ghost use Rattle.script_text.specs.Texts.{IsRead, script_text};
+ghost use Rattle.script_text.specs.Texts.{IsScriptLine, script_text};
 ghost use Rattle.script_text.specs.Written.{line_text};
 
 use crate::writing::write_script_line;
 use crate::written::WrittenLine;
-use history::{Config, write_config_line};
-use history_text::PrintFault;
-use line_text::send_line;
+use history::Config;
+use history_text::{PrintFault, print_bytes, print_config};
 use std::alloc::Global;
 use std::io::Write;
-
-// Writes a line at once.
-fn send_text<W: Write>(line: &[u8], writer: &mut W) -> Result<(), PrintFault>
-    ensures whole { OnOk result (Appends (W.contents writer.old) (W.contents writer.new) (line.now ++ 10 ∷ [])) }
-    ensures front { OnErr result
-        (AppendsFront (W.contents writer.old) (W.contents writer.new) (line.now ++ 10 ∷ [])) }
-{
-    match send_line(writer, line) {
-        Ok(()) => Ok(()),
-        Err(_) => Err(PrintFault::Output),
-    }
-}
-
-// Writes the configuration line, made in `text`.
-fn print_config<W: Write>(
-    config: &Config,
-    text: &mut Vec<u8>,
-    writer: &mut W,
-) -> Result<(), PrintFault>
-    ensures whole { OnOk result
-        (Appends (W.contents writer.old) (W.contents writer.new) (config_line config.now ++ 10 ∷ [])) }
-    ensures front { OnErr result
-        (AppendsFront (W.contents writer.old) (W.contents writer.new) (config_line config.now ++ 10 ∷ [])) }
-{
-    text.clear();
-    if write_config_line(&config.numbers(), text).is_err() {
-        return Err(PrintFault::NoMemory);
-    }
-    send_text(text.as_slice(), writer)
-}
 
 // Writes a line, made in `text`.
 fn print_line<W: Write>(
@@ -55,13 +23,13 @@ fn print_line<W: Write>(
         (Appends (W.contents writer.old) (W.contents writer.new) (line_text line.now ++ 10 ∷ [])) }
     ensures front { OnErr result
         (AppendsFront (W.contents writer.old) (W.contents writer.new) (line_text line.now ++ 10 ∷ [])) }
-    ensures read { IsRead line.now }
+    ensures read { IsScriptLine line.now }
 {
     text.clear();
     if write_script_line(line, text).is_err() {
         return Err(PrintFault::NoMemory);
     }
-    send_text(text.as_slice(), writer)
+    print_bytes(text.as_slice(), writer)
 }
 
 /// Writes a script: its configuration line, and each line. Each is a line of a script, and asks for what its words say.
@@ -79,7 +47,7 @@ pub fn print_script<W: Write>(
         (Appends (W.contents writer.old) (W.contents writer.new) (script_text config.now lines.now)) }
     ensures front { OnErr result
         (AppendsFront (W.contents writer.old) (W.contents writer.new) (script_text config.now lines.now)) }
-    ensures read { OnOk result (All IsRead lines.now) }
+    ensures read { OnOk result (All IsScriptLine lines.now) }
 {
     let mut text = Vec::new(alloc);
     print_config(config, &mut text, writer)?;

@@ -5,34 +5,34 @@ ghost use Rattle.std.specs.Io.KnownBytes.{Appends};
 ghost use Rattle.std.specs.List.{join_with_byte};
 ghost use Rattle.line_text.specs.Known.{AppendsFront};
 ghost use Rattle.line_text.specs.Words.{behind};
-ghost use Rattle.script_text.specs.Texts.{IsRead};
-ghost use Rattle.script_text.specs.Written.{entry_words, line_text, name_text, second_words};
+ghost use Rattle.script_text.specs.Texts.{IsScriptLine};
+ghost use Rattle.script_text.specs.Written.{form_words, line_text, name_text, second_words};
 ghost use Rattle.script_text.specs.declared.written.WrittenLine.{WrittenLine as TheLine};
 
 use crate::laws::written_lines_are_read;
 use crate::lines_there::fits;
-use crate::written::{CommandName, EntryForm, PublishWords, WrittenEntry, WrittenLine};
+use crate::written::{CommandWord, EntryForm, PublishWords, WrittenEntry, WrittenLine};
 use line_text::{Word, send, send_behind, send_words};
 use std::io::{Result as IoResult, Write};
 
-fn text_of(name: CommandName) -> &'static [u8]
+fn text_of(name: CommandWord) -> &'static [u8]
     ensures value { result.now ≡ name_text name }
 {
     match name {
-        CommandName::Flush => b"flush",
-        CommandName::Write => b"write",
-        CommandName::Read => b"read",
-        CommandName::Compare => b"compare",
-        CommandName::WriteZeroes => b"zeroes",
+        CommandWord::Flush => b"flush",
+        CommandWord::Write => b"write",
+        CommandWord::Read => b"read",
+        CommandWord::Compare => b"compare",
+        CommandWord::WriteZeroes => b"zeroes",
     }
 }
 
 // Writes the words of an entry, each behind a space.
 fn send_entry<W: Write>(entry: &WrittenEntry, writer: &mut W) -> IoResult<()>
     ensures whole { OnOk result (Appends (W.contents writer.old) (W.contents writer.new)
-        (behind 32 (entry_words entry.now.form entry.now.payload))) }
+        (behind 32 (form_words entry.now.form entry.now.payload))) }
     ensures front { OnErr result (AppendsFront (W.contents writer.old) (W.contents writer.new)
-        (behind 32 (entry_words entry.now.form entry.now.payload))) }
+        (behind 32 (form_words entry.now.form entry.now.payload))) }
 {
     match &entry.form {
         EntryForm::Named(c) => send_behind(
@@ -60,9 +60,9 @@ fn send_entry<W: Write>(entry: &WrittenEntry, writer: &mut W) -> IoResult<()>
 // Writes `+` and the words of an entry, each behind a space.
 fn send_plus<W: Write>(entry: &WrittenEntry, writer: &mut W) -> IoResult<()>
     ensures whole { OnOk result (Appends (W.contents writer.old) (W.contents writer.new)
-        ((32 ∷ 43 ∷ []) ++ behind 32 (entry_words entry.now.form entry.now.payload))) }
+        ((32 ∷ 43 ∷ []) ++ behind 32 (form_words entry.now.form entry.now.payload))) }
     ensures front { OnErr result (AppendsFront (W.contents writer.old) (W.contents writer.new)
-        ((32 ∷ 43 ∷ []) ++ behind 32 (entry_words entry.now.form entry.now.payload))) }
+        ((32 ∷ 43 ∷ []) ++ behind 32 (form_words entry.now.form entry.now.payload))) }
 {
     send(writer, b" +")?;
     send_entry(entry, writer)
@@ -86,11 +86,11 @@ fn send_second<W: Write>(second: &Option<WrittenEntry>, writer: &mut W) -> IoRes
 fn send_parts<W: Write>(words: &PublishWords, writer: &mut W) -> IoResult<()>
     ensures whole { OnOk result (Appends (W.contents writer.old) (W.contents writer.new)
         (join_with_byte 32 (codes "publish" ∷ decimal words.now.queue ∷ [])
-        ++ (behind 32 (entry_words words.now.first.form words.now.first.payload)
+        ++ (behind 32 (form_words words.now.first.form words.now.first.payload)
         ++ behind 32 (second_words words.now.second)))) }
     ensures front { OnErr result (AppendsFront (W.contents writer.old) (W.contents writer.new)
         (join_with_byte 32 (codes "publish" ∷ decimal words.now.queue ∷ [])
-        ++ (behind 32 (entry_words words.now.first.form words.now.first.payload)
+        ++ (behind 32 (form_words words.now.first.form words.now.first.payload)
         ++ behind 32 (second_words words.now.second)))) }
 {
     send_words(
@@ -103,10 +103,10 @@ fn send_parts<W: Write>(words: &PublishWords, writer: &mut W) -> IoResult<()>
 // Writes the words of the entries, each behind a space.
 fn send_entries<W: Write>(words: &PublishWords, writer: &mut W) -> IoResult<()>
     ensures whole { OnOk result (Appends (W.contents writer.old) (W.contents writer.new)
-        (behind 32 (entry_words words.now.first.form words.now.first.payload)
+        (behind 32 (form_words words.now.first.form words.now.first.payload)
         ++ behind 32 (second_words words.now.second))) }
     ensures front { OnErr result (AppendsFront (W.contents writer.old) (W.contents writer.new)
-        (behind 32 (entry_words words.now.first.form words.now.first.payload)
+        (behind 32 (form_words words.now.first.form words.now.first.payload)
         ++ behind 32 (second_words words.now.second))) }
 {
     send_entry(&words.first, writer)?;
@@ -142,7 +142,7 @@ pub fn write_script_line<W: Write>(line: &WrittenLine, writer: &mut W) -> IoResu
         (Appends (W.contents writer.old) (W.contents writer.new) (line_text line.now)) }
     ensures front { OnErr result
         (AppendsFront (W.contents writer.old) (W.contents writer.new) (line_text line.now)) }
-    ensures read { IsRead line.now }
+    ensures read { IsScriptLine line.now }
 {
     fits(line);
     written_lines_are_read();

@@ -5,7 +5,7 @@ use nvme_model::submission::Payload;
 
 /// The commands that have a name in a script.
 #[derive(Clone, Copy, Debug, PartialEq, Eq)]
-pub enum CommandName {
+pub enum CommandWord {
     Flush,
     Write,
     Read,
@@ -15,8 +15,8 @@ pub enum CommandName {
 
 /// A command on namespace 1, by its name and its numbers.
 #[derive(Clone, Copy, Debug, PartialEq, Eq)]
-pub struct Command {
-    pub name: CommandName,
+pub struct WrittenCommand {
+    pub name: CommandWord,
     pub fuse: Fuse,
     pub cid: u16,
     /// The first block.
@@ -29,7 +29,7 @@ pub struct Command {
 #[derive(Clone, Copy, Debug, PartialEq, Eq)]
 pub enum EntryForm {
     /// By the name of its command and four numbers.
-    Named(Command),
+    Named(WrittenCommand),
     /// By its 64 bytes, whatever they are.
     Raw([u8; 64]),
 }

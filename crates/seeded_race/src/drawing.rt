@@ -9,7 +9,7 @@ use random_numbers::RandomNumbers;
 
 /// Who makes a turn.
 #[derive(Clone, Copy, Debug, PartialEq, Eq)]
-pub(crate) enum Actor {
+pub enum Actor {
     Fetcher,
     /// The worker at this place.
     Worker(u16),
@@ -45,7 +45,7 @@ fn actor_at(race: &Race, bias: &Bias, n: u32) -> Actor
 }
 
 /// Draws who makes the next turn, each by its weight.
-pub(crate) fn next_actor(race: &Race, bias: &Bias, random: &mut RandomNumbers) -> Actor
+pub fn next_actor(race: &Race, bias: &Bias, random: &mut RandomNumbers) -> Actor
     ensures value { result ≡ actor_of race.now bias.now (word_of random.old % weight_of_all race.now bias.now) }
     ensures moved { random.new ≡ moved_on random.old }
     ensures inside { IsActorIn race.now result }

@@ -8,4 +8,8 @@ mod racing;
 mod run;
 mod turns;
 
+pub use drawing::{Actor, next_actor};
+pub use racers::{Racer, Racers};
+pub use racing::{all_racers, turn_of};
 pub use run::run_seeded_race;
+pub use turns::{fetcher_turn, worker_turn};

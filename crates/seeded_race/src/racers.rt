@@ -16,14 +16,14 @@ use std::alloc::{AllocError as NoMemory, Global};
 
 /// A host, and its rounds.
 #[derive(Drop)]
-pub(crate) struct Racer<'a> {
+pub struct Racer<'a> {
     pub host: Host<'a>,
     pub rounds: Rounds<'a>,
 }
 
 /// All callers, each with what it has in hand.
 #[derive(Drop)]
-pub(crate) struct Racers<'a> {
+pub struct Racers<'a> {
     pub fetcher: CallerPasses,
     pub fetching: FetchStage,
     pub workers: Vec<WorkerPasses>,

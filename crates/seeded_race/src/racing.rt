@@ -2,6 +2,7 @@
 
 ghost use Rattle.std.specs.Prelude.{◌+◌, ◌≡◌, ◌≤◌, ◌<◌, All, IfErr, IfOk, OnOk, true, vec_len};
 ghost use Rattle.meet_lock.specs.Passes.{number};
+ghost use Rattle.random_numbers.specs.Drawn.{moved_on};
 ghost use Rattle.shared_system.specs.Callers.{AreCallersOf};
 ghost use Rattle.host_rounds.specs.Hosts.{IsSlotArea};
 ghost use Rattle.race_numbers.specs.Races.{race_config};
@@ -18,9 +19,8 @@ use crate::racers::{Racer, Racers, hosts_back, racers_of};
 use crate::turns::{busy_racer_turn, fetcher_turn, racer_turn, worker_turn};
 use host_rounds::Play;
 use hosts::{FetchStage, OpenGate, WorkStage};
-use nvme_model::array::Range;
 use race_numbers::{Bias, Race};
-use race_run::{RaceFault, closed, room_for};
+use race_run::{RaceFault, closed, play_of, room_for};
 use random_numbers::RandomNumbers;
 use shared_system::{Callers, System, system_of};
 use std::alloc::{AllocError as NoMemory, Global};
@@ -110,22 +110,27 @@ fn waits<R: Wait>(
     }
 }
 
-// One turn: a draw says whose it is, and another whether the controller is busy.
-fn turn<R: Wait>(
+/// One turn of a caller; a draw says whether it finds the controller busy.
+///
+/// # Errors
+///
+/// `NoMemory` where a growth is refused, or a round can't be begun.
+pub fn turn_of<R: Wait>(
     rt: &R,
     system: &System<OpenGate>,
     play: &Play,
     race: &Race,
-    bias: &Bias,
     queues: u16,
     racers: &mut Racers<'_>,
+    actor: Actor,
     random: &mut RandomNumbers,
 ) -> Result<(), NoMemory>
     requires racers { AreAllRacers system.now play.now race.now queues racers.old }
     requires some { 1 ≤ queues }
-    ensures { OnOk result (AreAllRacers system.now play.now race.now queues racers.new) }
+    requires actor { IsActorIn race.now actor }
+    ensures racers { OnOk result (AreAllRacers system.now play.now race.now queues racers.new) }
+    ensures moved { random.new ≡ moved_on random.old }
 {
-    let actor = next_actor(race, bias, random);
     if random.one_in(BUSY) {
         waits(rt, system, play, race, queues, racers, actor);
         return Ok(());
@@ -133,7 +138,7 @@ fn turn<R: Wait>(
     acts(rt, system, play, race, queues, racers, actor)
 }
 
-// Turns until the rounds of all hosts are over.
+// Turns until the rounds of all hosts are over. A draw says whose each is.
 fn to_the_end<R: Wait>(
     rt: &R,
     system: &System<OpenGate>,
@@ -153,7 +158,8 @@ fn to_the_end<R: Wait>(
         if are_all_over(&racers.hosts) {
             return Ok(());
         }
-        turn(rt, system, play, race, bias, queues, racers, random)?;
+        let actor = next_actor(race, bias, random);
+        turn_of(rt, system, play, race, queues, racers, actor, random)?;
     }
     unreachable!()
 }
@@ -174,8 +180,12 @@ fn idle_workers(
     Ok(working)
 }
 
-// All callers, with nothing in hand.
-fn all_racers<'a>(
+/// All callers of a race, with nothing in hand.
+///
+/// # Errors
+///
+/// `NoMemory` where a growth is refused.
+pub fn all_racers<'a>(
     alloc: Global,
     system: &'a System<OpenGate>,
     play: &Play,
@@ -286,8 +296,7 @@ fn all_turns<R: Wait>(
 ///
 /// # Errors
 ///
-/// `NoMemory` where a growth was refused or a host couldn't begin a round; `NoHistory` where the controller wasn't
-/// given back.
+/// `NoMemory` where a growth was refused or a host couldn't begin a round.
 pub(crate) fn raced<R: Wait>(
     rt: &R,
     alloc: Global,
@@ -301,18 +310,9 @@ pub(crate) fn raced<R: Wait>(
         (λ core. HasRounds (race_config race.now) (slots_of race.now) race.now.rounds core.past) }
     ensures early { IfErr result IsEarly }
 {
-    let config = race.config();
-    let (system, callers) = system_of(alloc, config, OpenGate, race.workers)?;
-    let slots = Range {
-        slba: 0,
-        blocks: race.slots,
-    };
-    let play = Play {
-        config,
-        slots,
-        rounds: race.rounds,
-    };
+    let play = play_of(race);
+    let (system, callers) = system_of(alloc, play.config, OpenGate, race.workers)?;
     let room = room_for(alloc, &play, race.workers)?;
     let callers = all_turns(rt, alloc, &system, &play, race, bias, seed, callers)?;
-    closed(system, &play, callers, room).ok_or(RaceFault::NoHistory)
+    Ok(closed(system, &play, callers, room))
 }

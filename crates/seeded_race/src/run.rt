@@ -20,8 +20,7 @@ use std::sync::Wait;
 ///
 /// # Errors
 ///
-/// `NoMemory` where a growth was refused or a host couldn't begin a round; `NoHistory`, after nothing was written,
-/// where the controller wasn't given back; `Output` after a beginning of the text.
+/// `NoMemory` where a growth was refused or a host couldn't begin a round; `Output` after a beginning of the text.
 pub fn run_seeded_race<R: Wait, W: Write>(
     rt: &R,
     alloc: Global,

@@ -3,8 +3,9 @@
 ghost use Rattle.std.specs.Prelude.{◌≡◌, ◌≤◌, ◌<◌, ◌+◌, All, OnOk, vec_len};
 ghost use Rattle.meet_lock.specs.Passes.{number};
 ghost use Rattle.shared_system.specs.Callers.{IsWorkerOf, WorkerContinues};
-ghost use Rattle.hosts.specs.Stages.{IsFetchStage, IsWorkStage};
+ghost use Rattle.hosts.specs.Stages.{IsFetchStage, IsFetchTurn, IsWorkStage, IsWorkTurn};
 ghost use Rattle.seeded_race.specs.Racers.{AreRaceWorkers, AreRacers, IsRaceFetcher, IsRacer, racer_pass};
+ghost use Rattle.seeded_race.specs.Turns.{MovesAt};
 
 use crate::racers::Racer;
 use host_rounds::{Play, RoundStage, Rounds, busy_turn, host_turn};
@@ -19,7 +20,7 @@ use std::sync::Wait;
 /// # Errors
 ///
 /// `NoMemory` where a growth is refused.
-pub(crate) fn fetcher_turn<R: Wait>(
+pub fn fetcher_turn<R: Wait>(
     rt: &R,
     system: &System<OpenGate>,
     _play: &Play,
@@ -33,6 +34,7 @@ pub(crate) fn fetcher_turn<R: Wait>(
     requires some { 1 ≤ queues }
     ensures fetcher { IsRaceFetcher system.now _play.now _servers fetcher.new }
     ensures fetching { IsFetchStage system.now queues fetching.new }
+    ensures next { OnOk result (IsFetchTurn queues fetching.old fetching.new) }
 {
     let stage = mem::replace(fetching, FetchStage::Asks(1));
     *fetching = fetch_turn(rt, system, fetcher, queues, stage)?;
@@ -50,6 +52,7 @@ fn work_once<R: Wait>(
     requires working { IsWorkStage system.now working.old }
     ensures worker { WorkerContinues system.now worker.old worker.new }
     ensures working { IsWorkStage system.now working.new }
+    ensures next { OnOk result (IsWorkTurn working.old working.new) }
 {
     let stage = mem::replace(working, WorkStage::Idle);
     *working = work_turn(rt, system, &mut worker.caller, &mut worker.notices, stage)?;
@@ -61,7 +64,7 @@ fn work_once<R: Wait>(
 /// # Errors
 ///
 /// `NoMemory` where a growth is refused.
-pub(crate) fn worker_turn<R: Wait>(
+pub fn worker_turn<R: Wait>(
     rt: &R,
     system: &System<OpenGate>,
     _play: &Play,
@@ -76,6 +79,8 @@ pub(crate) fn worker_turn<R: Wait>(
     ensures workers { AreRaceWorkers system.now _play.now (_top + 1) _top workers.new.items }
     ensures working { All (IsWorkStage system.now) working.new.items }
     ensures count { (vec_len workers.new ≡ vec_len workers.old) × (vec_len working.new ≡ vec_len working.old) }
+    ensures goes { MovesAt (WorkerContinues system.now) place workers.old.items workers.new.items }
+    ensures next { OnOk result (MovesAt IsWorkTurn place working.old.items working.new.items) }
 {
     work_once(rt, system, &mut workers[place], &mut working[place])
 }

@@ -3,11 +3,12 @@ use Rattle.std.proofs.Common.{◌≡◌, ℕ, suc, ◌+◌, ◌<◌, ◌≤◌, 
 use Rattle.std.proofs.Common.{inr}
 use Rattle.std.proofs.Common.{refl, sym, subst, arith, Result, Ok, Err}
 use Rattle.std.specs.Prelude.{Contains, remove}
-use Rattle.shrink_lines.specs.Asked.{Asked, AsksTo, WasFailing, WasPassing}
+use Rattle.shrink_lines.specs.Asked.{AskedCandidate, AsksTo, WasFailing, WasPassing}
 use Rattle.shrink_lines.specs.Scanning.{Ends}
-use Rattle.shrink_lines.specs.Shrinking.{AreNeeded, StillFails, Stopped}
-use Rattle.shrink_lines.specs.Smaller.{HasPart}
+use Rattle.shrink_lines.specs.Shrinking.{AreNeeded, AreParts, StillFails, Stopped}
+use Rattle.shrink_lines.specs.Smaller.{HasSmallerPart}
 use Rattle.shrink_lines.specs.declared.question.Unanswered.{Unanswered}
+use Rattle.shrink_lines.specs.declared.question.Unanswered.TheVariants.{NoMemory}
 use Rattle.shrink_lines.proofs.Parts.{part_refl, part_trans, part_without}
 
 -- what was asked before was asked
@@ -18,21 +19,26 @@ there xs y x h = (suc h.0, omega (arith, h.1), h.2)
 here : {X : Type 0} (xs : List X) (x : X) → Contains (x ∷ xs) x
 here xs x = (0, omega arith, refl)
 
+-- all lines but one are a part
+pub rest_part : (lines rest : List (List ℕ)) (k : ℕ) → rest ≡ remove lines k → HasSmallerPart lines rest
+rest_part lines rest k same = subst (HasSmallerPart lines) (sym same) (part_without lines k)
+
 module _ {Q : Type 0} (asks : Q → List (List ℕ) → Bool → Q → Type 0) (first mid after : Q)
     (whole lines candidate : List (List ℕ)) (n : ℕ) where
   -- a run is one answer longer
-  longer : (past : List Asked) (b : Bool) → AsksTo asks first past mid → asks mid candidate b after
+  longer : (past : List AskedCandidate) (b : Bool) → AsksTo asks first past mid → asks mid candidate b after
       → AsksTo asks first (record { lines = candidate; fails = b } ∷ past) after
   unfolding AsksTo
   longer past b run now = (mid, run, now)
 
   -- other lines passed
-  pub passed : StillFails asks first mid whole lines n → asks mid candidate false after
+  pub passed : StillFails asks first mid whole lines n → asks mid candidate false after → HasSmallerPart lines candidate
       → StillFails asks first after whole lines (n + 1)
-  passed s now =
+  passed s now part =
       record {
         asked = record { lines = candidate; fails = false } ∷ s.asked;
         run = longer s.asked false s.run now;
+        parts = (part_trans whole lines candidate s.part part, s.parts);
         fails = there s.asked (record { lines = candidate; fails = false }) (record { lines = lines; fails = true })
             s.fails;
         part = s.part;
@@ -40,12 +46,13 @@ module _ {Q : Type 0} (asks : Q → List (List ℕ) → Bool → Q → Type 0) (
       }
 
   -- other lines failed
-  pub failed : StillFails asks first mid whole lines n → asks mid candidate true after → HasPart lines candidate
+  pub failed : StillFails asks first mid whole lines n → asks mid candidate true after → HasSmallerPart lines candidate
       → StillFails asks first after whole candidate (n + 1)
   failed s now part =
       record {
         asked = record { lines = candidate; fails = true } ∷ s.asked;
         run = longer s.asked true s.run now;
+        parts = (part_trans whole lines candidate s.part part, s.parts);
         fails = here s.asked (record { lines = candidate; fails = true });
         part = part_trans whole lines candidate s.part part;
         few = omega (arith, s.few);
@@ -55,9 +62,11 @@ module _ {Q : Type 0} (asks : Q → List (List ℕ) → Bool → Q → Type 0) (
   pub needs : (k from : ℕ) → AreNeeded asks first mid whole lines n from k → candidate ≡ remove lines k
       → asks mid candidate false after → AreNeeded asks first after whole lines (n + 1) from (k + 1)
   needs k from s same now =
+      let part : HasSmallerPart lines candidate = rest_part lines candidate k same in
       record {
         asked = record { lines = candidate; fails = false } ∷ s.asked;
         run = longer s.asked false s.run now;
+        parts = (part_trans whole lines candidate s.part part, s.parts);
         fails = there s.asked (record { lines = candidate; fails = false }) (record { lines = lines; fails = true })
             s.fails;
         part = s.part;
@@ -83,10 +92,11 @@ module _ {Q : Type 0} (asks : Q → List (List ℕ) → Bool → Q → Type 0) (
   pub leaves : (k from : ℕ) → AreNeeded asks first mid whole lines n from k → candidate ≡ remove lines k
       → asks mid candidate true after → AreNeeded asks first after whole candidate (n + 1) k k
   leaves k from s same now =
-      let part : HasPart lines candidate = subst (HasPart lines) (sym same) (part_without lines k) in
+      let part : HasSmallerPart lines candidate = rest_part lines candidate k same in
       record {
         asked = record { lines = candidate; fails = true } ∷ s.asked;
         run = longer s.asked true s.run now;
+        parts = (part_trans whole lines candidate s.part part, s.parts);
         fails = here s.asked (record { lines = candidate; fails = true });
         part = part_trans whole lines candidate s.part part;
         few = omega (arith, s.few);
@@ -102,6 +112,7 @@ module _ {Q : Type 0} (asks : Q → List (List ℕ) → Bool → Q → Type 0) w
       record {
         asked = record { lines = whole; fails = true } ∷ [];
         run = (first, refl, now);
+        parts = (part_refl whole, tt);
         fails = here [] (record { lines = whole; fails = true });
         part = part_refl whole;
         few = omega arith;
@@ -111,7 +122,14 @@ module _ {Q : Type 0} (asks : Q → List (List ℕ) → Bool → Q → Type 0) w
   pub more : (first after : Q) (whole lines : List (List ℕ)) (n m : ℕ) → n ≤ m
       → StillFails asks first after whole lines n → StillFails asks first after whole lines m
   more first after whole lines n m le s =
-      record { asked = s.asked; run = s.run; fails = s.fails; part = s.part; few = omega (arith, s.few, le) }
+      record {
+        asked = s.asked;
+        run = s.run;
+        parts = s.parts;
+        fails = s.fails;
+        part = s.part;
+        few = omega (arith, s.few, le);
+      }
 
   -- nothing is needed yet
   pub unscanned : (first after : Q) (whole lines : List (List ℕ)) (n : ℕ)
@@ -120,6 +138,7 @@ module _ {Q : Type 0} (asks : Q → List (List ℕ) → Bool → Q → Type 0) w
       record {
         asked = s.asked;
         run = s.run;
+        parts = s.parts;
         fails = s.fails;
         part = s.part;
         few = s.few;
@@ -130,7 +149,14 @@ module _ {Q : Type 0} (asks : Q → List (List ℕ) → Bool → Q → Type 0) w
   pub scanned : (first after : Q) (whole lines : List (List ℕ)) (n from to : ℕ)
       → AreNeeded asks first after whole lines n from to → StillFails asks first after whole lines n
   scanned first after whole lines n from to s =
-      record { asked = s.asked; run = s.run; fails = s.fails; part = s.part; few = s.few }
+      record {
+        asked = s.asked;
+        run = s.run;
+        parts = s.parts;
+        fails = s.fails;
+        part = s.part;
+        few = s.few;
+      }
 
   -- at most more things, and fewer places
   pub wider : (first after : Q) (whole lines : List (List ℕ)) (n m from low to high : ℕ) → n ≤ m → from ≤ low
@@ -139,6 +165,7 @@ module _ {Q : Type 0} (asks : Q → List (List ℕ) → Bool → Q → Type 0) w
       record {
         asked = s.asked;
         run = s.run;
+        parts = s.parts;
         fails = s.fails;
         part = s.part;
         few = omega (arith, s.few, le);
@@ -149,20 +176,20 @@ module _ {Q : Type 0} (asks : Q → List (List ℕ) → Bool → Q → Type 0)
     (stops : Q → List (List ℕ) → Unanswered → Q → Type 0) where
   -- no answer about other lines
   pub unanswered : (first mid after : Q) (whole lines candidate : List (List ℕ)) (n : ℕ) (why : Unanswered)
-      → StillFails asks first mid whole lines n → stops mid candidate why after
+      → StillFails asks first mid whole lines n → HasSmallerPart lines candidate → stops mid candidate why after
       → Stopped asks stops first after whole lines (n + 1) why
-  unanswered first mid after whole lines candidate n why s now =
+  unanswered first mid after whole lines candidate n why s part now =
       record {
         mid = mid;
         before = more asks first mid whole lines n (n + 1) (omega arith) s;
-        last = inr (candidate, now);
+        last = inr (candidate, part_trans whole lines candidate s.part part, now);
       }
 
-  -- nothing was asked
-  pub unasked : (first after : Q) (whole lines : List (List ℕ)) (n m : ℕ) (why : Unanswered) → n ≤ m
+  -- nothing was asked, without memory
+  pub unasked : (first after : Q) (whole lines : List (List ℕ)) (n m : ℕ) (why : Unanswered) → why ≡ NoMemory → n ≤ m
       → StillFails asks first after whole lines n → Stopped asks stops first after whole lines m why
-  unasked first after whole lines n m why le s =
-      record { mid = after; before = more asks first after whole lines n m le s; last = inl refl }
+  unasked first after whole lines n m why no_room le s =
+      record { mid = after; before = more asks first after whole lines n m le s; last = inl (refl, no_room) }
 
   -- at most more things
   pub stopped_more : (first after : Q) (whole lines : List (List ℕ)) (n m : ℕ) (why : Unanswered) → n ≤ m

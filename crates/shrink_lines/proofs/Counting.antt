@@ -16,3 +16,9 @@ fewer_rounds m k le =
     let one : k * (k + 1) ≤ k * (m + 1) = mul-le-mul_left k (omega arith) in
     let two : (m + 1) * k ≤ (m + 1) * m = mul-le-mul_left (m + 1) le in
     omega (arith, one, two)
+
+-- one round is among them
+pub one_round : (m : ℕ) → m ≤ m * (m + 1)
+one_round m =
+    let le : m * 1 ≤ m * (m + 1) = mul-le-mul_left m (omega arith) in
+    omega (arith, le)

@@ -26,7 +26,7 @@ abbrev pub IsSmallerLine : List ℕ → List ℕ → Type 0
 IsSmallerLine line other = AreAtMost (slice_split (λ b. b == 32) line) (slice_split (λ b. b == 32) other)
 
 -- Of the whole, some lines in their order, with some words of theirs made smaller.
-unfoldable pub HasPart : (whole part : List (List ℕ)) → Type 0
-HasPart whole [] = Unit {0}
-HasPart [] (x ∷ xs) = ⊥
-HasPart (y ∷ ys) (x ∷ xs) = HasPart ys (x ∷ xs) ⊎ (IsSmallerLine x y × HasPart ys xs)
+unfoldable pub HasSmallerPart : (whole part : List (List ℕ)) → Type 0
+HasSmallerPart whole [] = Unit {0}
+HasSmallerPart [] (x ∷ xs) = ⊥
+HasSmallerPart (y ∷ ys) (x ∷ xs) = HasSmallerPart ys (x ∷ xs) ⊎ (IsSmallerLine x y × HasSmallerPart ys xs)

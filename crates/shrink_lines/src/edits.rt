@@ -1,12 +1,12 @@
 //! What may be tried: lines left out, and words made smaller.
 
 ghost use Rattle.std.specs.Prelude.{[], ◌++◌, ◌∷◌, IfOk, List, OnOk, ℕ};
-ghost use Rattle.shrink_lines.specs.Smaller.{HasPart};
+ghost use Rattle.shrink_lines.specs.Smaller.{HasSmallerPart};
 
 use crate::blocks::with_blocks;
-use crate::line::Line;
 use crate::smaller::is_smaller_line;
-use crate::tickets::{Ticket, without_ticket};
+use crate::text_line::TextLine;
+use crate::tickets::{TicketLines, without_ticket};
 use crate::word_edits::{with_word, with_words};
 use std::alloc::{AllocError as NoMemory, Global};
 
@@ -15,7 +15,7 @@ use std::alloc::{AllocError as NoMemory, Global};
 pub(crate) enum Change {
     LeftOut,
     Kept,
-    Changed(Line),
+    Changed(TextLine),
 }
 
 /// What may be tried.
@@ -44,11 +44,11 @@ pub(crate) enum Edit {
         nlb: u64,
     },
     /// A ticket is left out, and those behind it have the number before.
-    Ticket(Ticket),
+    Ticket(TicketLines),
 }
 
 // What an edit makes of the line at a place.
-fn change_of(alloc: Global, edit: &Edit, k: usize, line: &Line) -> Result<Change, NoMemory> {
+fn change_of(alloc: Global, edit: &Edit, k: usize, line: &TextLine) -> Result<Change, NoMemory> {
     match edit {
         Edit::Without { from, to } => {
             if *from <= k && k < *to {
@@ -61,7 +61,7 @@ fn change_of(alloc: Global, edit: &Edit, k: usize, line: &Line) -> Result<Change
                 return Ok(Change::Kept);
             }
             let text = with_words(alloc, line.as_slice(), old.as_slice(), new.as_slice())?;
-            Ok(Change::Changed(Line::new(text)))
+            Ok(Change::Changed(TextLine::new(text)))
         }
         Edit::Word {
             line: at,
@@ -72,37 +72,37 @@ fn change_of(alloc: Global, edit: &Edit, k: usize, line: &Line) -> Result<Change
                 return Ok(Change::Kept);
             }
             let text = with_word(alloc, line.as_slice(), *word, new.as_slice())?;
-            Ok(Change::Changed(Line::new(text)))
+            Ok(Change::Changed(TextLine::new(text)))
         }
         Edit::Blocks { line: at, nlb } => {
             if *at != k {
                 return Ok(Change::Kept);
             }
             let text = with_blocks(alloc, line.as_slice(), *nlb)?;
-            Ok(Change::Changed(Line::new(text)))
+            Ok(Change::Changed(TextLine::new(text)))
         }
         Edit::Ticket(ticket) => without_ticket(alloc, ticket, k, line),
     }
 }
 
 // Puts a copy of a line at the end.
-fn add_copy(alloc: Global, out: &mut Vec<Line>, line: &Line) -> Result<(), NoMemory>
-    ensures kept { (whole : List (List ℕ)) → HasPart whole out.old.items →
-        OnOk result (HasPart (whole ++ line.now ∷ []) out.new.items) }
+fn add_copy(alloc: Global, out: &mut Vec<TextLine>, line: &TextLine) -> Result<(), NoMemory>
+    ensures kept { (whole : List (List ℕ)) → HasSmallerPart whole out.old.items →
+        OnOk result (HasSmallerPart (whole ++ line.now ∷ []) out.new.items) }
 {
-    out.push(Line::copy_of(alloc, line.as_slice())?)?;
+    out.push(TextLine::copy_of(alloc, line.as_slice())?)?;
     Ok(())
 }
 
 // Puts a changed line at the end where it is smaller, and else a copy of the line.
 fn add_smaller(
     alloc: Global,
-    out: &mut Vec<Line>,
-    line: &Line,
-    changed: Line,
+    out: &mut Vec<TextLine>,
+    line: &TextLine,
+    changed: TextLine,
 ) -> Result<(), NoMemory>
-    ensures kept { (whole : List (List ℕ)) → HasPart whole out.old.items →
-        OnOk result (HasPart (whole ++ line.now ∷ []) out.new.items) }
+    ensures kept { (whole : List (List ℕ)) → HasSmallerPart whole out.old.items →
+        OnOk result (HasSmallerPart (whole ++ line.now ∷ []) out.new.items) }
 {
     if !is_smaller_line(alloc, changed.as_slice(), line.as_slice())? {
         return add_copy(alloc, out, line);
@@ -114,12 +114,12 @@ fn add_smaller(
 // Puts what becomes of a line at the end.
 fn add_changed(
     alloc: Global,
-    out: &mut Vec<Line>,
-    line: &Line,
+    out: &mut Vec<TextLine>,
+    line: &TextLine,
     change: Change,
 ) -> Result<(), NoMemory>
-    ensures kept { (whole : List (List ℕ)) → HasPart whole out.old.items →
-        OnOk result (HasPart (whole ++ line.now ∷ []) out.new.items) }
+    ensures kept { (whole : List (List ℕ)) → HasSmallerPart whole out.old.items →
+        OnOk result (HasSmallerPart (whole ++ line.now ∷ []) out.new.items) }
 {
     match change {
         Change::LeftOut => Ok(()),
@@ -133,8 +133,12 @@ fn add_changed(
 /// # Errors
 ///
 /// `NoMemory` alone.
-pub(crate) fn edited(alloc: Global, lines: &[Line], edit: &Edit) -> Result<Vec<Line>, NoMemory>
-    ensures part { IfOk result (λ v. HasPart lines.now v.items) }
+pub(crate) fn edited(
+    alloc: Global,
+    lines: &[TextLine],
+    edit: &Edit,
+) -> Result<Vec<TextLine>, NoMemory>
+    ensures part { IfOk result (λ v. HasSmallerPart lines.now v.items) }
 {
     let mut out = Vec::new(alloc);
     for k in 0..lines.len() {

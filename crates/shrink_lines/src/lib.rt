@@ -4,18 +4,18 @@
 
 mod blocks;
 mod edits;
-mod line;
 mod numbers;
 mod planning;
 mod question;
 mod shrinking;
 mod single;
 mod smaller;
+mod text_line;
 mod tickets;
 mod trying;
 mod word_edits;
 mod words;
 
-pub use crate::line::Line;
 pub use crate::question::{Question, Unanswered};
 pub use crate::shrinking::{Shrunk, shrink_lines};
+pub use crate::text_line::TextLine;

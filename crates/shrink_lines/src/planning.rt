@@ -2,8 +2,8 @@
 
 use crate::blocks::most_blocks;
 use crate::edits::Edit;
-use crate::line::Line;
 use crate::numbers::{Search, digits_of};
+use crate::text_line::TextLine;
 use crate::tickets::{count_fetches, ticket_at};
 use crate::words::{may_be_data, smaller_data};
 use line_text::{read_u64, split_words};
@@ -75,7 +75,7 @@ fn halves(count: usize) -> Stage {
     }
 }
 
-fn next_part(lines: &[Line], size: usize, at: usize) -> Next {
+fn next_part(lines: &[TextLine], size: usize, at: usize) -> Next {
     if at < lines.len() {
         return Next::Try(Edit::Without {
             from: at,
@@ -94,7 +94,7 @@ fn next_part(lines: &[Line], size: usize, at: usize) -> Next {
     })
 }
 
-fn next_ticket(lines: &[Line], number: u64, with_publish: bool) -> Next {
+fn next_ticket(lines: &[TextLine], number: u64, with_publish: bool) -> Next {
     if number == 0 {
         return Next::Stage(Stage::Blocks {
             line: 0,
@@ -122,7 +122,7 @@ fn after_ticket(number: u64, with_publish: bool, worked: bool) -> Stage {
 
 fn next_blocks(
     alloc: Global,
-    lines: &[Line],
+    lines: &[TextLine],
     line: usize,
     search: Option<Search>,
 ) -> Result<Next, NoMemory> {
@@ -217,7 +217,7 @@ fn next_of_word(
 
 fn next_word(
     alloc: Global,
-    lines: &[Line],
+    lines: &[TextLine],
     line: usize,
     word: usize,
     stage: WordStage,
@@ -293,7 +293,7 @@ impl Plan {
     }
 
     // What comes next in this stage.
-    fn stage_next(&self, alloc: Global, lines: &[Line]) -> Result<Next, NoMemory> {
+    fn stage_next(&self, alloc: Global, lines: &[TextLine]) -> Result<Next, NoMemory> {
         match self.stage {
             Stage::Parts { size, at } => Ok(next_part(lines, size, at)),
             Stage::Tickets {
@@ -325,7 +325,7 @@ impl Plan {
     pub(crate) fn next(
         &mut self,
         alloc: Global,
-        lines: &[Line],
+        lines: &[TextLine],
         worked: bool,
     ) -> Result<Option<Edit>, NoMemory> {
         if self.tried {

@@ -3,7 +3,7 @@
 ghost use Rattle.std.specs.Prelude.{Bool, IfErr, IfOk, List, ℕ};
 ghost use Rattle.shrink_lines.specs.declared.question.Unanswered.{Unanswered as TheUnanswered};
 
-use crate::line::Line;
+use crate::text_line::TextLine;
 use std::alloc::AllocError;
 use thiserror::Error;
 
@@ -47,7 +47,7 @@ pub trait Question {
     ghost stops: { Self → List (List ℕ) → TheUnanswered → Self → Type 0 };
 
     /// Whether these lines still fail.
-    fn still_fails(&mut self, lines: &[Line]) -> Result<bool, Unanswered>
+    fn still_fails(&mut self, lines: &[TextLine]) -> Result<bool, Unanswered>
         ensures answered { IfOk result (λ fails. asks self.old lines.now fails self.new) }
         ensures stopped { IfErr result (λ why. stops self.old lines.now why self.new) };
 }

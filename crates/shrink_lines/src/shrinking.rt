@@ -4,9 +4,9 @@ ghost use Rattle.std.specs.Prelude.{◌*◌, ◌+◌, List, length, ℕ};
 ghost use Rattle.shrink_lines.specs.Scanning.{Ends};
 ghost use Rattle.shrink_lines.specs.Shrinking.{ShrinksLines, StillFails};
 
-use crate::line::Line;
 use crate::question::{Question, Unanswered};
 use crate::single::leave_out_lines;
+use crate::text_line::TextLine;
 use crate::trying::run_plan;
 use std::alloc::Global;
 
@@ -22,7 +22,7 @@ pub enum Shrunk {
 // Makes lines small that were answered to fail.
 fn shrink_failing<Q: Question>(
     alloc: Global,
-    lines: &mut Vec<Line>,
+    lines: &mut Vec<TextLine>,
     question: &mut Q,
     tries: u32,
 ) -> Result<(), Unanswered>
@@ -48,7 +48,7 @@ fn shrink_failing<Q: Question>(
 /// Why there was no answer, or `NoMemory`; the lines are then the smallest so far.
 pub fn shrink_lines<Q: Question>(
     alloc: Global,
-    lines: &mut Vec<Line>,
+    lines: &mut Vec<TextLine>,
     question: &mut Q,
     tries: u32,
 ) -> Result<Shrunk, Unanswered>

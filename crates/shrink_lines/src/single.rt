@@ -5,12 +5,12 @@ ghost use Rattle.std.specs.Prelude.{vec_len};
 ghost use Rattle.shrink_lines.specs.Shrinking.{AreNeeded, StillFails};
 ghost use Rattle.shrink_lines.specs.Scanning.{Scans, LeavesOut, Ends};
 
-use crate::line::{Line, add_copies};
 use crate::question::{Question, Unanswered};
+use crate::text_line::{TextLine, add_copies};
 use std::alloc::{AllocError as NoMemory, Global};
 
 // Copies of all lines but one.
-fn without(alloc: Global, lines: &[Line], k: usize) -> Result<Vec<Line>, NoMemory>
+fn without(alloc: Global, lines: &[TextLine], k: usize) -> Result<Vec<TextLine>, NoMemory>
     requires { k < length lines.now }
     ensures rest { IfOk result (λ v. v.items ≡ remove lines.now k) }
     ensures len { IfOk result (λ v. vec_len v + 1 ≡ length lines.now) }
@@ -24,7 +24,7 @@ fn without(alloc: Global, lines: &[Line], k: usize) -> Result<Vec<Line>, NoMemor
 // Leaves a line out where the others still fail; whether they do.
 fn leave_out<Q: Question>(
     alloc: Global,
-    lines: &mut Vec<Line>,
+    lines: &mut Vec<TextLine>,
     k: usize,
     question: &mut Q,
 ) -> Result<bool, Unanswered>
@@ -48,7 +48,7 @@ fn leave_out<Q: Question>(
 // are left are needed.
 fn scan<Q: Question>(
     alloc: Global,
-    lines: &mut Vec<Line>,
+    lines: &mut Vec<TextLine>,
     question: &mut Q,
 ) -> Result<usize, Unanswered>
     ensures scans { (first : Q) (whole : List (List ℕ)) (n : ℕ) →
@@ -76,7 +76,7 @@ fn scan<Q: Question>(
 /// Leaves out single lines until each that is left is needed.
 pub(crate) fn leave_out_lines<Q: Question>(
     alloc: Global,
-    lines: &mut Vec<Line>,
+    lines: &mut Vec<TextLine>,
     question: &mut Q,
 ) -> Result<(), Unanswered>
     ensures ends { (first : Q) (whole : List (List ℕ)) (n : ℕ) →

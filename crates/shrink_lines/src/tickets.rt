@@ -1,13 +1,13 @@
 //! Scripts without one of their tickets.
 
 use crate::edits::Change;
-use crate::line::Line;
+use crate::text_line::TextLine;
 use line_text::{read_u64, send_number, split_words};
 use std::alloc::{AllocError as NoMemory, Global};
 
 /// A ticket, and the lines that bring it.
 #[derive(Clone, Copy, Drop)]
-pub(crate) struct Ticket {
+pub(crate) struct TicketLines {
     /// Its number, that of its line among the `fetch` lines.
     pub(crate) number: u64,
     /// The place of its `fetch` line.
@@ -33,7 +33,7 @@ fn numbered(alloc: Global, kind: &[u8], number: u64) -> Result<Change, NoMemory>
     text.extend_from_slice(kind)?;
     text.push(b' ')?;
     match send_number(&mut text, number) {
-        Ok(()) => Ok(Change::Changed(Line::new(text))),
+        Ok(()) => Ok(Change::Changed(TextLine::new(text))),
         Err(_) => Err(NoMemory),
     }
 }
@@ -41,9 +41,9 @@ fn numbered(alloc: Global, kind: &[u8], number: u64) -> Result<Change, NoMemory>
 /// What becomes of the line at a place without this ticket.
 pub(crate) fn without_ticket(
     alloc: Global,
-    ticket: &Ticket,
+    ticket: &TicketLines,
     k: usize,
-    line: &Line,
+    line: &TextLine,
 ) -> Result<Change, NoMemory> {
     if k == ticket.fetch || ticket.publish == Some(k) {
         return Ok(Change::LeftOut);
@@ -68,7 +68,7 @@ fn queue_of<'a>(line: &'a [u8], kind: &[u8]) -> Option<&'a [u8]> {
 }
 
 // The place of the publish that has this number among those of its queue.
-fn publish_at(lines: &[Line], queue: &[u8], number: u64) -> Option<usize> {
+fn publish_at(lines: &[TextLine], queue: &[u8], number: u64) -> Option<usize> {
     let mut seen = 0u64;
     for k in 0..lines.len() {
         if queue_of(lines[k].as_slice(), b"publish ") == Some(queue) {
@@ -82,7 +82,7 @@ fn publish_at(lines: &[Line], queue: &[u8], number: u64) -> Option<usize> {
 }
 
 // Which one of the fetches of its queue the line at a place is.
-fn number_on_queue(lines: &[Line], queue: &[u8], place: usize) -> u64 {
+fn number_on_queue(lines: &[TextLine], queue: &[u8], place: usize) -> u64 {
     let mut seen = 0u64;
     for k in 0..lines.len() {
         if k <= place && queue_of(lines[k].as_slice(), b"fetch ") == Some(queue) {
@@ -93,7 +93,11 @@ fn number_on_queue(lines: &[Line], queue: &[u8], place: usize) -> u64 {
 }
 
 /// The ticket with this number and, as far as can be guessed, its lines.
-pub(crate) fn ticket_at(lines: &[Line], number: u64, with_publish: bool) -> Option<Ticket> {
+pub(crate) fn ticket_at(
+    lines: &[TextLine],
+    number: u64,
+    with_publish: bool,
+) -> Option<TicketLines> {
     let mut seen = 0u64;
     for k in 0..lines.len() {
         if let Some(queue) = queue_of(lines[k].as_slice(), b"fetch ") {
@@ -104,7 +108,7 @@ pub(crate) fn ticket_at(lines: &[Line], number: u64, with_publish: bool) -> Opti
                 } else {
                     None
                 };
-                return Some(Ticket {
+                return Some(TicketLines {
                     number,
                     fetch: k,
                     publish,
@@ -116,7 +120,7 @@ pub(crate) fn ticket_at(lines: &[Line], number: u64, with_publish: bool) -> Opti
 }
 
 /// How many `fetch` lines there are.
-pub(crate) fn count_fetches(lines: &[Line]) -> u64 {
+pub(crate) fn count_fetches(lines: &[TextLine]) -> u64 {
     let mut seen = 0u64;
     for k in 0..lines.len() {
         if lines[k].as_slice().starts_with(b"fetch ") {

@@ -2,16 +2,16 @@
 
 ghost use Rattle.std.specs.Prelude.{◌+◌, List, ℕ};
 ghost use Rattle.shrink_lines.specs.Shrinking.{GoesOn, StillFails};
-ghost use Rattle.shrink_lines.specs.Smaller.{HasPart};
+ghost use Rattle.shrink_lines.specs.Smaller.{HasSmallerPart};
 
 use crate::edits::{Edit, edited};
-use crate::line::Line;
 use crate::planning::Plan;
 use crate::question::{Question, Unanswered};
+use crate::text_line::TextLine;
 use std::alloc::Global;
 
 // Whether these are the same lines.
-fn are_same(lines: &[Line], others: &[Line]) -> bool {
+fn are_same(lines: &[TextLine], others: &[TextLine]) -> bool {
     if lines.len() != others.len() {
         return false;
     }
@@ -25,11 +25,11 @@ fn are_same(lines: &[Line], others: &[Line]) -> bool {
 
 // Asks about other lines, and keeps them where they fail.
 fn keep_failing<Q: Question>(
-    lines: &mut Vec<Line>,
-    candidate: Vec<Line>,
+    lines: &mut Vec<TextLine>,
+    candidate: Vec<TextLine>,
     question: &mut Q,
 ) -> Result<bool, Unanswered>
-    requires part { HasPart lines.old.items candidate.items }
+    requires part { HasSmallerPart lines.old.items candidate.items }
     ensures goes { (first : Q) (whole : List (List ℕ)) (n : ℕ) →
         StillFails Q.asks first question.old whole lines.old.items n →
         GoesOn Q.asks Q.stops first question.new whole lines.new.items (n + 1) result }
@@ -44,7 +44,7 @@ fn keep_failing<Q: Question>(
 // Asks about the lines that an edit makes, if it changes any, and keeps them where they fail.
 fn try_edit<Q: Question>(
     alloc: Global,
-    lines: &mut Vec<Line>,
+    lines: &mut Vec<TextLine>,
     edit: &Edit,
     question: &mut Q,
 ) -> Result<bool, Unanswered>
@@ -62,7 +62,7 @@ fn try_edit<Q: Question>(
 /// Tries edits as they are planned, at most so many.
 pub(crate) fn run_plan<Q: Question>(
     alloc: Global,
-    lines: &mut Vec<Line>,
+    lines: &mut Vec<TextLine>,
     question: &mut Q,
     tries: u32,
 ) -> Result<(), Unanswered>

@@ -1,36 +1,52 @@
 -- How a conversation ends.
-use Rattle.std.proofs.Common.{◌≡◌, ◌∙◌, ◌∷◌, List, Option, None, Some, ℕ, Result, Ok, Err, inl, inr, refl}
+use Rattle.std.proofs.Common.{◌≡◌, ◌∙◌, ◌∷◌, List, Option, None, Some, ℕ, Result, Ok, Err, ◌⊎◌, inl, inr, refl}
 use Rattle.std.specs.Prelude.{IfSome}
 use Rattle.std.specs.Io.KnownBytes.{IsAtEnd}
 use Rattle.line_text.specs.Lines.{with_feeds}
 use Rattle.shrink_lines.specs.declared.shrinking.Shrunk.{Shrunk}
 use Rattle.shrink_lines.specs.declared.shrinking.Shrunk.TheVariants.{Passes, Smallest}
-use Rattle.shrunk_text.specs.Shrinking.{Begins, Converses, ShrinksText, StoppedBehind}
+use Rattle.shrunk_text.specs.Shrinking.{BeginsTalk, Converses, ShrinksText, StoppedBehind}
 use Rattle.shrunk_text.specs.Talk.{SaysTry, StopsTalk}
-use Rattle.shrunk_text.specs.Texts.{script_text}
+use Rattle.shrunk_text.specs.Texts.{whole_script}
 use Rattle.shrunk_text.specs.declared.conversation.Conversation.{Conversation}
 use Rattle.shrunk_text.specs.declared.fault.ShrinkFault.{ShrinkFault}
 use Rattle.shrunk_text.specs.declared.fault.ShrinkFault.TheVariants.{BadAnswer, Ended, Input, NoMemory, Output, Script}
 use Rattle.shrunk_text.proofs.LinesOut.{feeds_next}
 use Rattle.shrink_lines.specs.Shrinking.{ShrinksLines}
+use Rattle.shrink_lines.specs.Smaller.{HasSmallerPart}
 use Rattle.shrink_lines.specs.declared.question.Unanswered.{Unanswered}
+use Rattle.shrink_lines.specs.declared.question.Unanswered.TheVariants.{NoMemory as NoRoom}
+use Rattle.shrink_lines.proofs.Parts.{part_refl}
+
+-- the candidate about which there was no answer, where memory wasn't wanting
+candidate_of : {R W : Type 0} (contents : W → Option (List ℕ)) (remaining : R → Option (List ℕ))
+    (mid after : Conversation R W) (whole : List (List ℕ)) (why : Unanswered) → (why ≡ NoRoom → ⊥)
+    → ((mid ≡ after) × (why ≡ NoRoom))
+    ⊎ ((candidate : List (List ℕ)) × HasSmallerPart whole candidate
+    × StopsTalk contents remaining mid candidate why after)
+    → (candidate : List (List ℕ)) × HasSmallerPart whole candidate
+    × StopsTalk contents remaining mid candidate why after
+candidate_of contents remaining mid after whole why other (inl h) = absurd (other h.1)
+candidate_of contents remaining mid after whole why other (inr h) = h
 
 -- the smallest lines so far, where there was no answer
 pub stopped : {R W : Type 0} (contents : W → Option (List ℕ)) (remaining : R → Option (List ℕ))
-    (begun after : Conversation R W) (whole lines : List (List ℕ)) (why : Unanswered)
-    → ShrinksLines (SaysTry contents remaining) StopsTalk begun after whole lines 4000 (Err why)
+    (begun after : Conversation R W) (whole lines : List (List ℕ)) (why : Unanswered) → (why ≡ NoRoom → ⊥)
+    → ShrinksLines (SaysTry contents remaining) (StopsTalk contents remaining) begun after whole lines 4000 (Err why)
     → StoppedBehind contents remaining begun after whole lines why
-stopped contents remaining begun after whole lines why (inl h) = (begun, inl (refl, h.0), inr (whole, h.1))
-stopped contents remaining begun after whole lines why (inr s) = (s.mid, inr s.before, s.last)
+stopped contents remaining begun after whole lines why other (inl h) =
+    (begun, inl (refl, h.0), (whole, part_refl whole, h.1))
+stopped contents remaining begun after whole lines why other (inr s) =
+    (s.mid, inr s.before, candidate_of contents remaining s.mid after whole why other s.last)
 
 module _ {R W : Type 0} (contents : W → Option (List ℕ)) (remaining : R → Option (List ℕ)) (old : Conversation R W)
-    (first : List ℕ) (whole : List (List ℕ)) (begun after : Conversation R W) (b : Begins old first begun) where
+    (first : List ℕ) (whole : List (List ℕ)) (begun after : Conversation R W) (b : BeginsTalk old first begun) where
   -- the script is known, where its bytes are
   known : (input : Option (List ℕ)) (r : Result Shrunk ShrinkFault)
       → IfSome input (λ bytes. bytes ≡ with_feeds (first ∷ whole))
       → Converses contents remaining begun whole r after
-      → IfSome input (λ bytes. (f : List ℕ) × (w : List (List ℕ)) × (bytes ≡ script_text f w)
-      × ((d : Conversation R W) × Begins old f d × Converses contents remaining d w r after))
+      → IfSome input (λ bytes. (f : List ℕ) × (w : List (List ℕ)) × (bytes ≡ whole_script f w)
+      × ((d : Conversation R W) × BeginsTalk old f d × Converses contents remaining d w r after))
   known None r e k = tt
   known (Some xs) r e k = (first, whole, e ∙ feeds_next first whole, (begun, b, k))
 

@@ -1,9 +1,11 @@
 -- Lines that were read, one by one.
-use Rattle.std.proofs.Common.{List, Option, [], append-nil, append_assoc, ap, refl, sym, ℕ, ◌++◌, ◌∙◌, ◌∷◌, ◌≡◌}
-use Rattle.std.proofs.Common.{None, Some}
+use Rattle.std.proofs.Common.{Bool, List, None, Option, Some, [], append-nil, append_assoc, ap, length, refl, suc, sym}
+use Rattle.std.proofs.Common.{eq-eqb, false, true≢false, ℕ, ◌++◌, ◌==◌, ◌∙◌, ◌∷◌, ◌≡◌}
+use Rattle.std.proofs.KnownBytes.{Consumes-trans}
 use Rattle.std.specs.Prelude.{IfSome}
 use Rattle.std.specs.Io.KnownBytes.{IsAtEnd}
-use Rattle.line_text.specs.Lines.{GivesBytes, with_feeds}
+use Rattle.line_text.specs.Lines.{GivesBytes, Loses, NoFeed, with_feeds}
+use Rattle.shrunk_text.specs.Reading.{IsBadEnd}
 use Rattle.shrunk_text.proofs.LinesOut.{feeds_none}
 
 -- these lines were read, and these bytes are held
@@ -43,17 +45,65 @@ took_line lines line (Some xs) (Some ys) (Some zs) before after t g =
     ∙ sym (append_assoc (with_feeds lines) (line ++ 10 ∷ []) (after ++ zs))
     ∙ ap (λ l. l ++ (after ++ zs)) (sym (feeds_more lines line))
 
--- the end was read
-pub took_all : (lines : List (List ℕ)) (line : List ℕ) (old mid new : Option (List ℕ)) (before after : List ℕ)
-    → Took lines old mid before → GivesBytes mid new before after line → line ≡ [] → after ≡ [] → IsAtEnd new
-    → IfSome old (λ bytes. bytes ≡ with_feeds lines)
-took_all lines line None mid new before after t g none end at = tt
-took_all lines line (Some xs) None new before after t g none end at = absurd t
-took_all lines line (Some xs) (Some ys) None before after t g none end at = absurd g.consumed
-took_all lines line (Some xs) (Some ys) (Some zs) before after t g none end at =
+-- some bytes were read
+pub took_loses : (lines : List (List ℕ)) (old new : Option (List ℕ)) (held : List ℕ) → Took lines old new held
+    → Loses old new
+took_loses lines None new held t = ([], tt)
+took_loses lines (Some xs) None held t = absurd t
+took_loses lines (Some xs) (Some ys) held t =
+    (with_feeds lines ++ held, t ∙ sym (append_assoc (with_feeds lines) held ys))
+
+-- and then some more
+pub took_more : (lines : List (List ℕ)) (old mid new : Option (List ℕ)) (before after given : List ℕ)
+    → Took lines old mid before → GivesBytes mid new before after given → Loses old new
+took_more lines old mid new before after given t g =
+    let first = took_loses lines old mid before t in
+    (first.0 ++ g.bytes, Consumes-trans old mid new first.0 g.bytes first.1 g.consumed)
+
+-- the end was read behind this
+pub took_rest : (lines : List (List ℕ)) (line : List ℕ) (old mid new : Option (List ℕ)) (before after : List ℕ)
+    → Took lines old mid before → GivesBytes mid new before after line → after ≡ [] → IsAtEnd new
+    → IfSome old (λ bytes. bytes ≡ with_feeds lines ++ line)
+took_rest lines line None mid new before after t g end at = tt
+took_rest lines line (Some xs) None new before after t g end at = absurd t
+took_rest lines line (Some xs) (Some ys) None before after t g end at = absurd g.consumed
+took_rest lines line (Some xs) (Some ys) (Some zs) before after t g end at =
     t ∙ ap (λ l. with_feeds lines ++ (before ++ l)) g.consumed
     ∙ ap (λ l. with_feeds lines ++ l) (moved before g.bytes line after zs g.moved)
-    ∙ ap (λ l. with_feeds lines ++ (l ++ (after ++ zs))) none
-    ∙ ap (λ l. with_feeds lines ++ (l ++ zs)) end
-    ∙ ap (λ l. with_feeds lines ++ l) at
-    ∙ append-nil (with_feeds lines)
+    ∙ ap (λ l. with_feeds lines ++ (line ++ (l ++ zs))) end
+    ∙ ap (λ l. with_feeds lines ++ (line ++ l)) at
+    ∙ ap (λ l. with_feeds lines ++ l) (append-nil line)
+
+-- nothing stands behind the last line feed
+pub all_ended : (lines : List (List ℕ)) (line : List ℕ) (old : Option (List ℕ))
+    → IfSome old (λ bytes. bytes ≡ with_feeds lines ++ line) → line ≡ []
+    → IfSome old (λ bytes. bytes ≡ with_feeds lines)
+all_ended lines line None e none = tt
+all_ended lines line (Some xs) e none = e ∙ ap (λ l. with_feeds lines ++ l) none ∙ append-nil (with_feeds lines)
+
+-- something does
+pub bad_end : (lines : List (List ℕ)) (line : List ℕ) (old : Option (List ℕ))
+    → IfSome old (λ bytes. bytes ≡ with_feeds lines ++ line) → NoFeed line → (line ≡ [] → ⊥)
+    → IfSome old (IsBadEnd (suc (length lines)))
+bad_end lines line None e none some = tt
+bad_end lines line (Some xs) e none some =
+    record { lines = lines; rest = line; is = e; no_feed = none; number = refl; some = λ n. absurd (some n) }
+
+-- a line that isn't empty has a byte
+pub some_byte : (n : ℕ) (xs : List ℕ) (b : Bool) → n ≡ length xs → b ≡ (n == 0) → b ≡ false → xs ≡ [] → ⊥
+some_byte n xs b l is off e =
+    true≢false (sym (eq-eqb n 0 (l ∙ ap (λ (ys : List ℕ). length ys) e)) ∙ sym is ∙ off)
+
+-- there is no line
+pub no_line : (lines : List (List ℕ)) (old : Option (List ℕ)) → IfSome old (λ bytes. bytes ≡ with_feeds lines)
+    → lines ≡ [] → IfSome old (IsBadEnd 1)
+no_line lines None e none = tt
+no_line lines (Some xs) e none =
+    record {
+      lines = [];
+      rest = [];
+      is = e ∙ ap with_feeds none ∙ sym (append-nil (with_feeds []));
+      no_feed = tt;
+      number = refl;
+      some = λ n. refl;
+    }

@@ -1,4 +1,5 @@
 pub mod Status
 pub mod Texts
+pub mod Reading
 pub mod Talk
 pub mod Shrinking

@@ -2,17 +2,19 @@
 use Rattle.std.specs.Prelude.{ℕ, List, Option, Result, Ok, Err, IfSome, false, ◌≡◌, ◌⊎◌}
 use Rattle.std.specs.Io.KnownBytes.{Appends, IsAtEnd}
 use Rattle.shrink_lines.specs.Shrinking.{IsSmallest, StillFails, most_asked}
+use Rattle.shrink_lines.specs.Smaller.{HasSmallerPart}
 use Rattle.shrink_lines.specs.declared.question.Unanswered.{Unanswered}
 use Rattle.shrink_lines.specs.declared.shrinking.Shrunk.{Shrunk}
 use Rattle.shrink_lines.specs.declared.shrinking.Shrunk.TheVariants.{Passes, Smallest}
+use Rattle.shrunk_text.specs.Reading.{IsUnreadScript}
 use Rattle.shrunk_text.specs.Talk.{SaysTry, StopsTalk}
-use Rattle.shrunk_text.specs.Texts.{script_text, smallest_text}
+use Rattle.shrunk_text.specs.Texts.{whole_script, smallest_text}
 use Rattle.shrunk_text.specs.declared.conversation.Conversation.{Conversation}
 use Rattle.shrunk_text.specs.declared.fault.ShrinkFault.{ShrinkFault}
 use Rattle.shrunk_text.specs.declared.fault.ShrinkFault.TheVariants.{BadAnswer, Ended, Script}
 
 -- the conversation has this first line, and is else as it was
-pub record Begins {R W : Type 0} (old : Conversation R W) (first : List ℕ) (begun : Conversation R W) : Type 0 where
+pub record BeginsTalk {R W : Type 0} (old : Conversation R W) (first : List ℕ) (begun : Conversation R W) : Type 0 where
   pub answers : begun.answers ≡ old.answers
   pub writer : begun.writer ≡ old.writer
   pub ahead : begun.ahead ≡ old.ahead
@@ -33,12 +35,14 @@ AreSmallestSoFar contents remaining begun mid whole lines =
     ((mid ≡ begun) × (lines ≡ whole))
     ⊎ StillFails (SaysTry contents remaining) begun mid whole lines (most_asked whole 4000)
 
--- These were the smallest lines so far, when there was no answer about some candidate, for this reason, or no memory.
+-- These were the smallest lines so far, when there was no answer about a candidate, for this reason. The candidate is a
+-- part of all lines, with some words made smaller.
 abbrev pub StoppedBehind : {R W : Type 0} → (W → Option (List ℕ)) → (R → Option (List ℕ)) →
     (begun after : Conversation R W) → (whole lines : List (List ℕ)) → Unanswered → Type 0
 StoppedBehind {R} {W} contents remaining begun after whole lines why =
     (mid : Conversation R W) × AreSmallestSoFar contents remaining begun mid whole lines
-    × ((mid ≡ after) ⊎ ((candidate : List (List ℕ)) × StopsTalk mid candidate why after))
+    × ((candidate : List (List ℕ)) × HasSmallerPart whole candidate
+    × StopsTalk contents remaining mid candidate why after)
 
 -- By what was answered about the lines behind the first: the smallest lines, by the candidates and the answers about
 -- them, were written; the one candidate, all lines, passed; the answers ended, and the smallest lines so far were
@@ -60,12 +64,13 @@ Converses contents remaining begun whole (Err (BadAnswer number)) after =
 Converses contents remaining begun whole (Err (Script fault)) after = ⊥
 Converses contents remaining begun whole (Err fault) after = Unit {0}
 
--- By how it ended: the script wasn't read, and nothing was written; or it is its first line and others, and this is
--- what was said about these.
+-- By how it ended: the script wasn't read, for this reason, and nothing was written; or it is its first line and
+-- others, and this is what was said about these.
 abbrev pub ShrinksText : {R W : Type 0} → (W → Option (List ℕ)) → (R → Option (List ℕ)) →
     (input left : Option (List ℕ)) → Conversation R W → Result Shrunk ShrinkFault → Conversation R W → Type 0
-ShrinksText contents remaining input left old (Err (Script fault)) after = after ≡ old
+ShrinksText contents remaining input left old (Err (Script fault)) after =
+    (after ≡ old) × IsUnreadScript fault input left
 ShrinksText {R} {W} contents remaining input left old result after =
     IsAtEnd left
-    × IfSome input (λ bytes. (first : List ℕ) × (whole : List (List ℕ)) × (bytes ≡ script_text first whole)
-    × ((begun : Conversation R W) × Begins old first begun × Converses contents remaining begun whole result after))
+    × IfSome input (λ bytes. (first : List ℕ) × (whole : List (List ℕ)) × (bytes ≡ whole_script first whole)
+    × ((begun : Conversation R W) × BeginsTalk old first begun × Converses contents remaining begun whole result after))

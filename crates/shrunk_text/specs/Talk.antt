@@ -1,5 +1,5 @@
 -- What is said about a candidate.
-use Rattle.std.specs.Prelude.{ℕ, Bool, List, Option, ◌+◌, ◌≡◌, if◌then◌else◌}
+use Rattle.std.specs.Prelude.{ℕ, Bool, List, Option, false, true, ◌+◌, ◌≡◌, if◌then◌else◌}
 use Rattle.std.specs.Io.KnownBytes.{Appends}
 use Rattle.line_text.specs.Lines.{GivesLine}
 use Rattle.line_text.specs.declared.lines.NextLine.{NextLine}
@@ -20,15 +20,36 @@ pub record SaysTry {R W : Type 0} (contents : W → Option (List ℕ)) (remainin
   pub tries : after.tries ≡ before.tries + 1
   pub failing : after.failing ≡ (if fails then before.tries + 1 else before.failing)
 
--- Where an answer was missing, or was none, the candidate had the next number; else it may not have been written.
-abbrev pub StopsAt : {R W : Type 0} → (before after : Conversation R W) → Unanswered → Type 0
-StopsAt before after BadAnswer = after.tries ≡ before.tries + 1
-StopsAt before after Ended = after.tries ≡ before.tries + 1
-StopsAt before after Input = after.tries ≡ before.tries + 1
-StopsAt before after Output = Unit {0}
-StopsAt before after NoMemory = Unit {0}
+-- The candidate with the next number was written.
+pub record WasAsked {R W : Type 0} (contents : W → Option (List ℕ)) (before : Conversation R W)
+    (lines : List (List ℕ)) (after : Conversation R W) : Type 0 where
+  pub written : Appends (contents before.writer) (contents after.writer)
+      (try_text (before.tries + 1) before.first.items lines)
+  pub tries : after.tries ≡ before.tries + 1
+
+-- By why there is no answer: the next line of the answers is another word; they are at their end, with no whole line
+-- left; or a line of them couldn't be read.
+abbrev pub HasNoAnswer : (input left : Option (List ℕ)) → (before after : List ℕ) → Unanswered → Type 0
+HasNoAnswer input left before after BadAnswer =
+    (word : List ℕ) × GivesLine NextLine.Whole input left before after word × (word ≡ answer_word true → ⊥)
+    × (word ≡ answer_word false → ⊥)
+HasNoAnswer input left before after Ended =
+    (rest : List ℕ) × GivesLine NextLine.Rest input left before after rest
+HasNoAnswer input left before after Output = ⊥
+HasNoAnswer input left before after why = Unit {0}
+
+-- Where an answer was missing, or was none, the candidate was written; where it couldn't be, no answer was read.
+abbrev pub StopsAt : {R W : Type 0} → (W → Option (List ℕ)) → (R → Option (List ℕ)) → (before : Conversation R W) →
+    List (List ℕ) → Unanswered → (after : Conversation R W) → Type 0
+StopsAt contents remaining before lines Output after = (after.answers ≡ before.answers) × (after.ahead ≡ before.ahead)
+StopsAt contents remaining before lines NoMemory after = Unit {0}
+StopsAt contents remaining before lines why after =
+    WasAsked contents before lines after
+    × HasNoAnswer (remaining before.answers) (remaining after.answers) before.ahead after.ahead why
 
 -- There was no answer, for this reason; the first line of the script, and which candidate failed last, are as before.
-abbrev pub StopsTalk : {R W : Type 0} → Conversation R W → List (List ℕ) → Unanswered → Conversation R W → Type 0
-StopsTalk before lines why after =
-    (after.first.items ≡ before.first.items) × (after.failing ≡ before.failing) × StopsAt before after why
+pub record StopsTalk {R W : Type 0} (contents : W → Option (List ℕ)) (remaining : R → Option (List ℕ))
+    (before : Conversation R W) (lines : List (List ℕ)) (why : Unanswered) (after : Conversation R W) : Type 0 where
+  pub first : after.first.items ≡ before.first.items
+  pub failing : after.failing ≡ before.failing
+  pub at : StopsAt contents remaining before lines why after

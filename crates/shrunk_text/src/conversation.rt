@@ -1,16 +1,16 @@
 //! A conversation about candidates.
 
-ghost use Rattle.std.specs.Prelude.{◌+◌, ◌≡◌, ◌⊎◌, IfErr, IfOk, OnOk, Some, [], codes, false, true};
+ghost use Rattle.std.specs.Prelude.{◌+◌, ◌≡◌, ◌⊎◌, IfErr, IfOk, None, OnOk, Some, [], codes, false, true};
 ghost use Rattle.std.specs.Io.KnownBytes.{Appends};
 ghost use Rattle.line_text.specs.Lines.{GivesLine};
 ghost use Rattle.line_text.specs.declared.lines.NextLine.{NextLine as TheNext};
 ghost use Rattle.shrink_lines.specs.declared.question.Unanswered.TheVariants.{NoMemory as NoRoom, Output as NoOutput};
-ghost use Rattle.shrunk_text.specs.Talk.{SaysTry, StopsTalk};
+ghost use Rattle.shrunk_text.specs.Talk.{HasNoAnswer, SaysTry, StopsTalk};
 ghost use Rattle.shrunk_text.specs.Texts.{answer_word, try_text};
 
 use crate::printing::send_flushed;
 use line_text::{Lines, NextLine, ReadFault};
-use shrink_lines::{Line, Question, Unanswered};
+use shrink_lines::{Question, TextLine, Unanswered};
 use std::alloc::{AllocError as NoMemory, Global};
 use std::io::{Read, Write};
 
@@ -61,6 +61,7 @@ impl<R, W> Conversation<R, W> {
 fn answer_of(word: &[u8]) -> Option<bool>
     ensures fails { result ≡ Some true → word.now ≡ codes "fails" }
     ensures passes { result ≡ Some false → word.now ≡ codes "passes" }
+    ensures none { result ≡ None → (word.now ≡ codes "fails" → ⊥) × (word.now ≡ codes "passes" → ⊥) }
 {
     if word == b"fails".as_slice() {
         return Some(true);
@@ -78,6 +79,8 @@ impl<R: Read, W: Write> Conversation<R, W> {
             × (self.new.tries ≡ self.old.tries) × (self.new.failing ≡ self.old.failing) }
         ensures answered { IfOk result (λ fails. GivesLine TheNext.Whole (R.remaining self.old.answers)
             (R.remaining self.new.answers) self.old.ahead self.new.ahead (answer_word fails)) }
+        ensures none { IfErr result (HasNoAnswer (R.remaining self.old.answers) (R.remaining self.new.answers)
+            self.old.ahead self.new.ahead) }
     {
         match self.ahead.next_line(&mut self.answers, &mut self.word) {
             Err(ReadFault::Input) => return Err(Unanswered::Input),
@@ -92,7 +95,7 @@ impl<R: Read, W: Write> Conversation<R, W> {
     }
 
     // Writes a candidate.
-    fn ask(&mut self, lines: &[Line]) -> Result<(), Unanswered>
+    fn ask(&mut self, lines: &[TextLine]) -> Result<(), Unanswered>
         ensures kept { (self.new.answers ≡ self.old.answers) × (self.new.ahead ≡ self.old.ahead)
             × (self.new.first.items ≡ self.old.first.items) × (self.new.failing ≡ self.old.failing) }
         ensures asked { OnOk result (self.new.tries ≡ self.old.tries + 1) }
@@ -114,9 +117,9 @@ impl<R: Read, W: Write> Conversation<R, W> {
 impl<R: Read, W: Write> Question for Conversation<R, W> {
     ghost asks = { λ c lines fails d. SaysTry W.contents R.remaining c lines fails d };
 
-    ghost stops = { StopsTalk };
+    ghost stops = { λ c lines why d. StopsTalk W.contents R.remaining c lines why d };
 
-    fn still_fails(&mut self, lines: &[Line]) -> Result<bool, Unanswered> {
+    fn still_fails(&mut self, lines: &[TextLine]) -> Result<bool, Unanswered> {
         self.ask(lines)?;
         let fails = self.answer()?;
         if fails {

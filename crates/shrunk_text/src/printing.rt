@@ -4,14 +4,14 @@ ghost use Rattle.std.specs.Prelude.{◌++◌, ◌∷◌, [], OnErr, OnOk, codes}
 ghost use Rattle.std.specs.Io.KnownBytes.{Appends};
 ghost use Rattle.line_text.specs.Known.{AppendsFront};
 ghost use Rattle.line_text.specs.Lines.{with_feeds};
-ghost use Rattle.shrunk_text.specs.Texts.{end_text, numbered_text, script_text, smallest_text, try_text};
+ghost use Rattle.shrunk_text.specs.Texts.{end_text, numbered_text, whole_script, smallest_text, try_text};
 
 use line_text::{Word, send, send_line, send_words};
-use shrink_lines::Line;
+use shrink_lines::TextLine;
 use std::io::{Result as IoResult, Write};
 
 // Writes lines, each with its line feed.
-fn send_lines<W: Write>(lines: &[Line], writer: &mut W) -> IoResult<()>
+fn send_lines<W: Write>(lines: &[TextLine], writer: &mut W) -> IoResult<()>
     ensures whole { OnOk result (Appends (W.contents writer.old) (W.contents writer.new) (with_feeds lines.now)) }
     ensures front { OnErr result
         (AppendsFront (W.contents writer.old) (W.contents writer.new) (with_feeds lines.now)) }
@@ -23,11 +23,11 @@ fn send_lines<W: Write>(lines: &[Line], writer: &mut W) -> IoResult<()>
 }
 
 // Writes a script: its first line, and the others.
-fn send_script<W: Write>(first: &[u8], lines: &[Line], writer: &mut W) -> IoResult<()>
+fn send_script<W: Write>(first: &[u8], lines: &[TextLine], writer: &mut W) -> IoResult<()>
     ensures whole { OnOk result
-        (Appends (W.contents writer.old) (W.contents writer.new) (script_text first.now lines.now)) }
+        (Appends (W.contents writer.old) (W.contents writer.new) (whole_script first.now lines.now)) }
     ensures front { OnErr result
-        (AppendsFront (W.contents writer.old) (W.contents writer.new) (script_text first.now lines.now)) }
+        (AppendsFront (W.contents writer.old) (W.contents writer.new) (whole_script first.now lines.now)) }
 {
     send_line(writer, first)?;
     send_lines(lines, writer)
@@ -45,18 +45,18 @@ fn send_numbered<'a, W: Write>(kind: &'a [u8], number: u64, writer: &mut W) -> I
 }
 
 // Writes a script, and `end`.
-fn send_ended<W: Write>(first: &[u8], lines: &[Line], writer: &mut W) -> IoResult<()>
+fn send_ended<W: Write>(first: &[u8], lines: &[TextLine], writer: &mut W) -> IoResult<()>
     ensures whole { OnOk result (Appends (W.contents writer.old) (W.contents writer.new)
-        (script_text first.now lines.now ++ end_text)) }
+        (whole_script first.now lines.now ++ end_text)) }
     ensures front { OnErr result (AppendsFront (W.contents writer.old) (W.contents writer.new)
-        (script_text first.now lines.now ++ end_text)) }
+        (whole_script first.now lines.now ++ end_text)) }
 {
     send_script(first, lines, writer)?;
     send(writer, b"end\n")
 }
 
 // Writes a candidate: `try N`, its script, and `end`.
-fn send_try<W: Write>(number: u64, first: &[u8], lines: &[Line], writer: &mut W) -> IoResult<()>
+fn send_try<W: Write>(number: u64, first: &[u8], lines: &[TextLine], writer: &mut W) -> IoResult<()>
     ensures whole { OnOk result
         (Appends (W.contents writer.old) (W.contents writer.new) (try_text number first.now lines.now)) }
     ensures front { OnErr result
@@ -70,7 +70,7 @@ fn send_try<W: Write>(number: u64, first: &[u8], lines: &[Line], writer: &mut W)
 pub(crate) fn send_flushed<W: Write>(
     number: u64,
     first: &[u8],
-    lines: &[Line],
+    lines: &[TextLine],
     writer: &mut W,
 ) -> IoResult<()>
     ensures whole { OnOk result
@@ -87,7 +87,7 @@ pub(crate) fn send_flushed<W: Write>(
 pub(crate) fn send_smallest<W: Write>(
     number: u64,
     first: &[u8],
-    lines: &[Line],
+    lines: &[TextLine],
     writer: &mut W,
 ) -> IoResult<()>
     ensures whole { OnOk result

@@ -1,6 +1,6 @@
 //! The smallest script, by a conversation.
 
-ghost use Rattle.std.specs.Prelude.{◌∷◌, ◌≡◌, Err, IfSome, List, Ok, OnOk, ℕ};
+ghost use Rattle.std.specs.Prelude.{[], ◌∷◌, ◌≡◌, Err, IfSome, List, None, Ok, OnOk, ℕ};
 ghost use Rattle.shrink_lines.specs.Shrinking.{ShrinksLines};
 ghost use Rattle.shrunk_text.specs.Shrinking.{Converses, ShrinksText, TellsSmallest};
 ghost use Rattle.shrunk_text.specs.Talk.{SaysTry, StopsTalk};
@@ -11,7 +11,7 @@ use crate::fault::ShrinkFault;
 use crate::printing::send_smallest;
 use crate::reading::read_lines;
 use casdisk_script::RunFault;
-use shrink_lines::{Line, Shrunk, Unanswered, shrink_lines};
+use shrink_lines::{Shrunk, TextLine, Unanswered, shrink_lines};
 use std::alloc::Global;
 use std::io::{Read, Result as IoResult, Write};
 
@@ -19,7 +19,10 @@ use std::io::{Read, Result as IoResult, Write};
 pub const TRIES: u32 = 4000;
 
 // Writes the smallest script so far.
-fn tell_smallest<R: Read, W: Write>(talk: &mut Conversation<R, W>, lines: &[Line]) -> IoResult<()>
+fn tell_smallest<R: Read, W: Write>(
+    talk: &mut Conversation<R, W>,
+    lines: &[TextLine],
+) -> IoResult<()>
     ensures told { OnOk result (TellsSmallest W.contents talk.old talk.new lines.now) }
 {
     send_smallest(talk.failing, talk.first.as_slice(), lines, &mut talk.writer)
@@ -28,11 +31,12 @@ fn tell_smallest<R: Read, W: Write>(talk: &mut Conversation<R, W>, lines: &[Line
 // Ends a conversation that came to its end.
 fn end<R: Read, W: Write>(
     talk: &mut Conversation<R, W>,
-    lines: &[Line],
+    lines: &[TextLine],
     shrunk: Shrunk,
 ) -> Result<Shrunk, ShrinkFault>
     ensures converses { (begun : TheTalk R W) (whole : List (List ℕ)) →
-        ShrinksLines (SaysTry W.contents R.remaining) StopsTalk begun talk.old whole lines.now 4000 (Ok shrunk) →
+        ShrinksLines (SaysTry W.contents R.remaining) (StopsTalk W.contents R.remaining) begun talk.old whole lines.now
+        4000 (Ok shrunk) →
         Converses W.contents R.remaining begun whole result talk.new }
 {
     match shrunk {
@@ -47,11 +51,12 @@ fn end<R: Read, W: Write>(
 // Ends a conversation that had no answer.
 fn give_up<R: Read, W: Write>(
     talk: &mut Conversation<R, W>,
-    lines: &[Line],
+    lines: &[TextLine],
     why: Unanswered,
 ) -> Result<Shrunk, ShrinkFault>
     ensures converses { (begun : TheTalk R W) (whole : List (List ℕ)) →
-        ShrinksLines (SaysTry W.contents R.remaining) StopsTalk begun talk.old whole lines.now 4000 (Err why) →
+        ShrinksLines (SaysTry W.contents R.remaining) (StopsTalk W.contents R.remaining) begun talk.old whole lines.now
+        4000 (Err why) →
         Converses W.contents R.remaining begun whole result talk.new }
 {
     match why {
@@ -70,7 +75,7 @@ fn give_up<R: Read, W: Write>(
 fn converse<R: Read, W: Write>(
     alloc: Global,
     talk: &mut Conversation<R, W>,
-    lines: &mut Vec<Line>,
+    lines: &mut Vec<TextLine>,
 ) -> Result<Shrunk, ShrinkFault>
     ensures converses { Converses W.contents R.remaining talk.old lines.old.items result talk.new }
 {
@@ -81,8 +86,9 @@ fn converse<R: Read, W: Write>(
 }
 
 // The first line of a script.
-fn take_first(lines: &mut Vec<Line>) -> Option<Line>
+fn take_first(lines: &mut Vec<TextLine>) -> Option<TextLine>
     ensures first { IfSome result (λ first. lines.old.items ≡ first ∷ lines.new.items) }
+    ensures none { result ≡ None → lines.old.items ≡ [] }
 {
     if lines.is_empty() {
         return None;
@@ -98,9 +104,10 @@ fn take_first(lines: &mut Vec<Line>) -> Option<Line>
 ///
 /// # Errors
 ///
-/// `Script` where the script wasn't read, before anything is written; `BadAnswer` with the number of the first line of
-/// the answers that is none; `Ended` where the answers end before, after `smallest N` and the smallest script so far;
-/// `Input`, `Output` and `NoMemory`.
+/// `Script` where the script wasn't read, before anything is written: `BadLine` with the number of its last line where
+/// that has no line feed, and 1 where there is no line; `Input` and `NoMemory`. `BadAnswer` with the number of the
+/// first line of the answers that is none; `Ended` where the answers end before, after `smallest N` and the smallest
+/// script so far; `Input`, `Output` and `NoMemory`.
 pub fn shrink_text<T: Read, R: Read, W: Write>(
     alloc: Global,
     script: &mut T,

@@ -1,5 +1,5 @@
 -- The claims, the releases and the Writes of a batch, entry by entry.
-use Rattle.std.proofs.Common.{◌≡◌, ℕ, zero, suc, ◌+◌, ◌<◌, ◌≤◌, Bool, true, false, not, ◌&&◌, ◌||◌, cond, List, []}
+use Rattle.std.proofs.Common.{◌≡◌, ℕ, zero, suc, ◌+◌, ◌<◌, ◌≤◌, Bool, true, false, not, ◌&&◌, cond, List, []}
 use Rattle.std.proofs.Common.{◌∷◌, ◌++◌}
 use Rattle.std.proofs.Common.{length, refl, sym, ap, ap₂, ◌∙◌, arith, drop, get_or, eqb, None, Option, Some}
 use Rattle.std.specs.List.{list_any}
@@ -15,12 +15,12 @@ use Rattle.nvme_model.specs.declared.submission.Submission.{Submission}
 use Rattle.host_laws.proofs.Names.{bytes_are}
 use Rattle.slot_check.specs.Broken.{first_touched, write_alone}
 
-drop_at : {X : Type 0} (xs : List X) (i : ℕ) (d : X) → i < length xs → drop i xs ≡ get_or xs i d ∷ drop (suc i) xs
+pub drop_at : {X : Type 0} (xs : List X) (i : ℕ) (d : X) → i < length xs → drop i xs ≡ get_or xs i d ∷ drop (suc i) xs
 drop_at [] i d l = absurd (omega (arith, l))
 drop_at (x ∷ xs) zero d l = refl
 drop_at (x ∷ xs) (suc i) d l = drop_at xs i d (omega (arith, l))
 
-drop_is : {X : Type 0} (xs : List X) (i : ℕ) (x : X) → i < length xs → x ≡ get_or xs i x
+pub drop_is : {X : Type 0} (xs : List X) (i : ℕ) (x : X) → i < length xs → x ≡ get_or xs i x
     → drop i xs ≡ x ∷ drop (suc i) xs
 drop_is xs i x l e = drop_at xs i x l ∙ ap (λ y. y ∷ drop (suc i) xs) (sym e)
 

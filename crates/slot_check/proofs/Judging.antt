@@ -1,38 +1,31 @@
 -- What is judged by the tables is what the definitions say of the history.
-use Rattle.std.proofs.Common.{◌≡◌, ℕ, suc, ◌≤◌, Bool, true, false, not, ◌&&◌, ◌||◌, cond, List, [], ◌∷◌, ◌++◌}
-use Rattle.std.proofs.Common.{length, refl, sym, ap, ap₂, ◌∙◌, arith, eqb, eqb-true, subst, None, Some, Option}
-use Rattle.std.proofs.Common.{is_none, is_some}
-use Rattle.std.specs.List.{filter, list_any}
-use Rattle.std.proofs.lemmas.Bool.{and_from}
-use Rattle.std.proofs.lemmas.List.Elements.{filter-append}
-use Rattle.host_laws.proofs.Book.{new_unreaped}
-use Rattle.host_laws.proofs.Successes.{success_reaped}
-use Rattle.nvme_model.specs.Array.{has_block, zeros}
-use Rattle.nvme_model.specs.EntryBytes.{slba, sqe_fields}
-use Rattle.std.specs.Str.{bytes_eq}
+use Rattle.std.proofs.Common.{◌≡◌, ℕ, suc, Bool, true, false, not, ◌&&◌, ◌||◌, cond, List, [], ◌∷◌, ◌++◌, length, map}
+use Rattle.std.proofs.Common.{refl, ap, ap₂, ◌∙◌, eqb, eqb-true, None, Some, Option, is_none}
+use Rattle.std.specs.List.{find, list_all, list_any}
+use Rattle.std.specs.Option.{option_map}
+use Rattle.std.proofs.lemmas.List.Folds.{list_any-append}
+use Rattle.nvme_model.specs.Array.{has_block}
 use Rattle.nvme_model.specs.Config.{completion_queue}
 use Rattle.nvme_model.specs.History.{Past}
-use Rattle.nvme_model.specs.Legal.{IsLegal}
 use Rattle.nvme_model.specs.Queues.{published_entries}
-use Rattle.nvme_model.specs.Slots.{Name, Swap, believed, disciplined, fresh_names, in_area, is_pair_on_one}
-use Rattle.nvme_model.specs.Slots.{keeps_discipline, name_of}
-use Rattle.nvme_model.specs.Slots.{on_its_queue, only_swaps, reaped_success, released_right, releases, same_name}
-use Rattle.nvme_model.specs.Slots.{swap_by, swap_of}
-use Rattle.nvme_model.specs.Slots.{swaps, swaps_in, touches}
+use Rattle.nvme_model.specs.Slots.{Name, Swap, fresh_names, in_area, only_swaps, reaped_success, releases, same_name}
+use Rattle.nvme_model.specs.Slots.{swaps, touches}
 use Rattle.nvme_model.specs.declared.array.Range.{Range}
 use Rattle.nvme_model.specs.declared.config.ConfigNumbers.{ConfigNumbers}
-use Rattle.nvme_model.specs.declared.entry.Entry.{Entry}
 use Rattle.nvme_model.specs.declared.entry.PublishLine.{PublishLine}
 use Rattle.nvme_model.specs.declared.submission.Submission.{Submission}
-use Rattle.slot_check.specs.Batch.{claimed_twice_in, fresh_in, release_broken_in}
-use Rattle.slot_check.specs.Broken.{claimed_twice, first_of, first_touched, publish_broken, release_broken}
-use Rattle.slot_check.specs.Broken.{slots_broken_by, write_alone}
-use Rattle.slot_check.specs.Names.{AreUnwon, KeptNames, KnowsNames, believes, keeps_queue}
-use Rattle.slot_check.specs.Watched.{IsSlotCheckState, SlotCheckState}
+use Rattle.takeover_laws.specs.Rules.{keeps_takeover_discipline, releases_right, takeovers_within, takes_right}
+use Rattle.takeover_laws.specs.Takeovers.{Takeover, giving, is_given_on, is_kept, is_taken, moves, moves_in, takeovers}
+use Rattle.takeover_laws.specs.Takeovers.{takeovers_in}
+use Rattle.slot_check.specs.Batch.{claimed_twice_in, release_broken_in, takeover_broken_in}
+use Rattle.slot_check.specs.Broken.{claimed_twice, cut_off_at, cuts_off, first_of, first_touched, is_given}
+use Rattle.slot_check.specs.Broken.{publish_broken, release_broken, release_fault, slots_broken_by, takeover_broken}
+use Rattle.slot_check.specs.Broken.{write_alone}
+use Rattle.slot_check.specs.Names.{KeptNames, KnowsNames, believes, gives}
+use Rattle.slot_check.specs.Takeovers.{KeptTakeovers, KnowsTakeovers}
 use Rattle.slot_check.specs.declared.broken.BrokenDiscipline.{BrokenDiscipline}
-use Rattle.slot_check.specs.declared.broken.BrokenDiscipline.TheVariants.{ClaimedTwice, NoSwap, OtherQueue, Unbelieved}
-use Rattle.slot_check.proofs.Knowing.{believes_is, fresh_is, in_area_any, queue_is, twice_is, unchanged}
-use Rattle.slot_check.specs.Progress.{KnowsProgress}
+use Rattle.slot_check.specs.declared.broken.BrokenDiscipline.TheVariants.{NeverGiven, OwnQueue}
+use Rattle.slot_check.proofs.Knowing.{any_same, believes_is, gives_is, in_area_any, twice_is}
 
 -- ---- releases
 
@@ -59,51 +52,107 @@ lba_of_release true true d h = refl
 lba_of_release true false d h = absurd cc
 lba_of_release false b d h = absurd cc
 
+-- no takeover releases a name
+no_giving : (ws : List Takeover) (l : ℕ) (n : Name) → list_any (λ s. releases s l n) (map giving ws) ≡ false
+no_giving [] l n = refl
+no_giving (w ∷ ws) l n = no_giving ws l n
+
+or_none : (b x : Bool) → x ≡ false → (b || x) ≡ b
+or_none true x e = refl
+or_none false x e = e
+
+released_moves : (past : Past) (l : ℕ) (n : Name)
+    → list_any (λ s. releases s l n) (moves past) ≡ list_any (λ s. releases s l n) (swaps past)
+released_moves past l n = list_any-append (λ s. releases s l n) (swaps past) (map giving (takeovers past))
+    ∙ or_none (list_any (λ s. releases s l n) (swaps past)) _ (no_giving (takeovers past) l n)
+
+and_true : (b : Bool) → (b && true) ≡ b
+and_true true = refl
+and_true false = refl
+
+abbrev AllWithin : Range → List Takeover → Type 0
+AllWithin slots [] = Unit {0}
+AllWithin slots (w ∷ ws) = (has_block slots w.lba ≡ true) × AllWithin slots ws
+
+within : (slots : Range) (ws : List Takeover) → AllWithin slots (takeovers_within slots ws)
+within slots [] = tt
+within slots (w ∷ ws) = go (has_block slots w.lba) refl (within slots ws)
+  where
+    go : (b : Bool) → has_block slots w.lba ≡ b → AllWithin slots (takeovers_within slots ws)
+        → AllWithin slots (cond b (w ∷ takeovers_within slots ws) (takeovers_within slots ws))
+    go true e ih = (e, ih)
+    go false e ih = ih
+
 module _ (c : ConfigNumbers) (slots : Range) (past : Past) (k : KeptNames)
-    (h : KnowsNames (reaped_success c past) (in_area slots (swaps past)) k) where
-  believed_is : (l : ℕ) (n : Name) → has_block slots l ≡ true → believes k l n ≡ believed c past l n
-  believed_is l n i = believes_is (reaped_success c past) (in_area slots (swaps past)) k l n h
+    (h : KnowsNames (reaped_success c past) (in_area slots (moves past)) k) where
+  -- what a name's claim gives is what some claim or takeover of the history does
+  pub given_is : (l : ℕ) (n : Name) (test : Swap → Bool) → has_block slots l ≡ true
+      → gives l test (k.claim n)
+      ≡ list_any (λ s. ((s.claims && eqb s.lba l) && same_name s.name n) && test s) (moves past)
+  given_is l n test i = gives_is (reaped_success c past) (in_area slots (moves past)) k l n test h
+      ∙ in_area_any slots l (λ s. ((s.claims && eqb s.lba l) && same_name s.name n) && test s) (moves past) i
+      (λ s e. eqb-true s.lba l (lba_first s.claims (eqb s.lba l) (same_name s.name n) (test s) e))
+
+  kept_is : (l : ℕ) (n : Name) → has_block slots l ≡ true → believes k l n ≡ is_kept c past l n
+  kept_is l n i = believes_is (reaped_success c past) (in_area slots (moves past)) k l n h
       ∙ ap₂ (λ (x y : Bool). x && not y)
       (in_area_any slots l (λ s. ((s.claims && eqb s.lba l) && same_name s.name n) && reaped_success c past s.queue
       (suc s.number))
-      (swaps past) i
+      (moves past) i
       (λ s e. eqb-true s.lba l (lba_first s.claims (eqb s.lba l) (same_name s.name n)
       (reaped_success c past s.queue (suc s.number)) e)))
-      (in_area_any slots l (λ s. releases s l n) (swaps past) i
-      (λ s e. eqb-true s.lba l (lba_of_release (not s.claims) (eqb s.lba l) (same_name s.name n) e)))
+      (in_area_any slots l (λ s. releases s l n) (moves past) i
+      (λ s e. eqb-true s.lba l (lba_of_release (not s.claims) (eqb s.lba l) (same_name s.name n) e))
+      ∙ released_moves past l n)
 
-  beside_is : (s : Swap) → has_block slots s.lba ≡ true → keeps_queue c k s ≡ on_its_queue c past s
-  beside_is s i = queue_is c (reaped_success c past) (in_area slots (swaps past)) k s h
-      ∙ in_area_any slots s.lba (λ w. ((w.claims && eqb w.lba s.lba) && same_name w.name s.name)
-      && eqb (completion_queue c w.queue) (completion_queue c s.queue)) (swaps past) i
-      (λ w e. eqb-true w.lba s.lba (lba_first w.claims (eqb w.lba s.lba) (same_name w.name s.name)
-      (eqb (completion_queue c w.queue) (completion_queue c s.queue)) e))
-
-  releases_are : (earlier xs : List Swap) → AllIn slots xs
-      → release_broken_in c k earlier xs ≡ release_broken c past earlier xs
-  releases_are earlier [] a = refl
-  releases_are earlier (s ∷ later) a =
+  releases_are : (taken : ℕ → Name → Bool)
+      → ((l : ℕ) (n : Name) → has_block slots l ≡ true → taken l n ≡ is_taken past l n) → (earlier xs : List Swap)
+      → AllIn slots xs → release_broken_in c k taken earlier xs ≡ release_broken c past earlier xs
+  releases_are taken t earlier [] a = refl
+  releases_are taken t earlier (s ∷ later) a =
       ap₂ first_of
-      (ap₂ (λ (x y : Bool). cond s.claims None
-      (cond (x && not (list_any (λ w. releases w s.lba s.name) earlier)) (cond y None (Some (OtherQueue s.lba)))
-      (Some (Unbelieved s.lba))))
-      (believed_is s.lba s.name a.0) (beside_is s a.0))
-      (releases_are (earlier ++ s ∷ []) later a.1)
+      (λ i. cond s.claims None (release_fault s.lba
+      (kept_is s.lba s.name a.0 i && not (list_any (λ w. releases w s.lba s.name) earlier))
+      (t s.lba s.name a.0 i)
+      (given_is s.lba s.name (λ w. eqb (completion_queue c w.queue) (completion_queue c s.queue)) a.0 i)))
+      (releases_are taken t (earlier ++ s ∷ []) later a.1)
 
-  pub judged_is : (p : PublishLine) (first : ℕ) (of : List Swap) → first ≡ length (published_entries past p.queue)
-      → of ≡ in_area slots (swaps_in p.queue first p.batch)
+  takeovers_are : (ws : List Takeover) → AllWithin slots ws
+      → takeover_broken_in c k ws ≡ takeover_broken c past ws
+  takeovers_are [] a = refl
+  takeovers_are (w ∷ ws) a =
+      ap₂ first_of
+      (ap₂ (λ (x y : Bool). cond x None (cond y (Some (OwnQueue w.lba)) (Some (NeverGiven w.lba))))
+      (given_is w.lba w.dead (λ s. not (eqb (completion_queue c s.queue) (completion_queue c w.queue))) a.0)
+      (given_is w.lba w.dead (λ _. true) a.0
+      ∙ any_same (λ s. ((s.claims && eqb s.lba w.lba) && same_name s.name w.dead) && true)
+      (λ s. (s.claims && eqb s.lba w.lba) && same_name s.name w.dead) (moves past)
+      (λ s. and_true ((s.claims && eqb s.lba w.lba) && same_name s.name w.dead))))
+      (takeovers_are ws a.1)
+
+  pub judged_is : (p : PublishLine) (first : ℕ) (of : List Swap) (ws : List Takeover) (kept : KeptTakeovers)
+      → KnowsTakeovers c slots past kept
+      → first ≡ length (published_entries past p.queue)
+      → of ≡ in_area slots (moves_in p.queue first p.batch)
+      → ws ≡ takeovers_within slots (takeovers_in p.queue first p.batch)
       → slots_broken_by (write_alone slots p.queue first p.batch of) (claimed_twice_in k of)
-      (release_broken_in c k [] of)
+      (release_broken_in c k kept.taken [] of) (takeover_broken_in c k ws) (kept.cut (completion_queue c p.queue))
       ≡ publish_broken c slots past p
-  judged_is p first of e f =
+  judged_is p first of ws kept t e f g =
       let j = length (published_entries past p.queue) in
-      let all = in_area slots (swaps_in p.queue j p.batch) in
-      let same : of ≡ all = f ∙ ap (λ (n : ℕ). in_area slots (swaps_in p.queue n p.batch)) e in
-      (λ t. slots_broken_by (write_alone slots p.queue (e t) p.batch (same t)) (claimed_twice_in k (same t))
-      (release_broken_in c k [] (same t)))
-      ∙ (λ t. slots_broken_by (write_alone slots p.queue j p.batch all)
-      (twice_is (reaped_success c past) (in_area slots (swaps past)) k all h t)
-      (releases_are [] all (area_in slots (swaps_in p.queue j p.batch)) t))
+      let all = in_area slots (moves_in p.queue j p.batch) in
+      let these = takeovers_within slots (takeovers_in p.queue j p.batch) in
+      let same : of ≡ all = f ∙ ap (λ (n : ℕ). in_area slots (moves_in p.queue n p.batch)) e in
+      let same_ws : ws ≡ these =
+      g ∙ ap (λ (n : ℕ). takeovers_within slots (takeovers_in p.queue n p.batch)) e in
+      (λ i. slots_broken_by (write_alone slots p.queue (e i) p.batch (same i)) (claimed_twice_in k (same i))
+      (release_broken_in c k kept.taken [] (same i)) (takeover_broken_in c k (same_ws i))
+      (t.cut (completion_queue c p.queue) i))
+      ∙ (λ i. slots_broken_by (write_alone slots p.queue j p.batch all)
+      (twice_is (reaped_success c past) (in_area slots (moves past)) k all h i)
+      (releases_are kept.taken t.taken [] all (area_in slots (moves_in p.queue j p.batch)) i)
+      (takeovers_are these (within slots (takeovers_in p.queue j p.batch)) i)
+      (cut_off_at c slots past (completion_queue c p.queue)))
 
 -- ---- the discipline
 
@@ -118,27 +167,29 @@ any_back p (x ∷ xs) s = ap (λ (b : Bool). p x || b) (any_back p xs s) ∙ swa
 
 none_broken : (c : ConfigNumbers) (past : Past) (xs ys of : List Swap)
     → ((l : ℕ) (n : Name) → list_any (λ w. releases w l n) xs ≡ list_any (λ w. releases w l n) ys)
-    → is_none (release_broken c past xs of) ≡ released_right c past ys of
+    → is_none (release_broken c past xs of) ≡ releases_right c past ys of
 none_broken c past xs ys [] e = refl
 none_broken c past xs ys (s ∷ later) e =
-    go s.claims (believed c past s.lba s.name) (on_its_queue c past s)
+    go s.claims (is_kept c past s.lba s.name) (is_taken past s.lba s.name)
+    (is_given_on c past (completion_queue c s.queue) s.lba s.name)
     (list_any (λ w. releases w s.lba s.name) xs) (list_any (λ w. releases w s.lba s.name) ys) (e s.lba s.name)
     (none_broken c past (xs ++ s ∷ []) (s ∷ ys) later (λ l n. any_back (λ w. releases w l n) xs s
     ∙ ap (λ (b : Bool). releases s l n || b) (e l n)))
   where
-    go : (claims b q x y : Bool) → x ≡ y
-        → is_none (release_broken c past (xs ++ s ∷ []) later) ≡ released_right c past (s ∷ ys) later
-        → is_none (first_of
-        (cond claims None (cond (b && not x) (cond q None (Some (OtherQueue s.lba))) (Some (Unbelieved s.lba))))
+    go : (claims b t q x y : Bool) → x ≡ y
+        → is_none (release_broken c past (xs ++ s ∷ []) later) ≡ releases_right c past (s ∷ ys) later
+        → is_none (first_of (cond claims None (release_fault s.lba (b && not x) t q))
         (release_broken c past (xs ++ s ∷ []) later))
-        ≡ ((claims || ((b && not y) && q)) && released_right c past (s ∷ ys) later)
-    go true b q x y f ih = ih
-    go false true true false false f ih = ih
-    go false true false false false f ih = refl
-    go false true q true true f ih = refl
-    go false false q x y f ih = refl
-    go false true q true false f ih = absurd cc
-    go false true q false true f ih = absurd cc
+        ≡ ((claims || (((b && not t) && not y) && q)) && releases_right c past (s ∷ ys) later)
+    go true b t q x y f ih = refl ∙ ih
+    go false true false true false false f ih = ih
+    go false true false false false false f ih = refl
+    go false true true q false false f ih = refl
+    go false true false q true true f ih = refl
+    go false true true q true true f ih = refl
+    go false false t q x y f ih = refl
+    go false true t q true false f ih = absurd cc
+    go false true t q false true f ih = absurd cc
 
 -- no Write is alone exactly where each is of a claim or release
 alone_none : (slots : Range) (q j : ℕ) (batch : List Submission) (of : List Swap)
@@ -155,7 +206,7 @@ alone_none slots q j (s ∷ batch) of =
     go false o ih = ih
 
 -- no name is claimed twice exactly where all are fresh
-twice_none : (xs before : List Swap) → is_none (claimed_twice xs before) ≡ fresh_names xs before
+pub twice_none : (xs before : List Swap) → is_none (claimed_twice xs before) ≡ fresh_names xs before
 twice_none [] before = refl
 twice_none (s ∷ later) before =
     go s.claims (list_any (λ w. w.claims && same_name w.name s.name) (later ++ before)) (twice_none later before)
@@ -167,145 +218,49 @@ twice_none (s ∷ later) before =
     go true false ih = ih
     go false b ih = ih
 
-none_of_three : (w t : Option ℕ) (o : Option BrokenDiscipline)
-    → is_none (slots_broken_by w t o) ≡ ((is_none w && is_none t) && is_none o)
-none_of_three None None o = refl
-none_of_three None (Some l) o = refl
-none_of_three (Some l) t o = refl
-
-pub keeps_is : (c : ConfigNumbers) (slots : Range) (past : Past) (p : PublishLine)
-    → is_none (publish_broken c slots past p) ≡ keeps_discipline c slots past p
-keeps_is c slots past p =
-    let j = length (published_entries past p.queue) in
-    let of = in_area slots (swaps_in p.queue j p.batch) in
-    none_of_three (write_alone slots p.queue j p.batch of) (claimed_twice of (in_area slots (swaps past)))
-    (release_broken c past [] of)
-    ∙ (λ t. (alone_none slots p.queue j p.batch of t && twice_none of (in_area slots (swaps past)) t)
-    && none_broken c past [] [] of (λ l n. refl) t)
-
--- ---- entries that are new
-
-abbrev NewOn : ℕ → ℕ → List Swap → Type 0
-NewOn q j [] = Unit {0}
-NewOn q j (s ∷ xs) = ((s.queue ≡ q) × (j ≤ s.number)) × NewOn q j xs
-
-new_append : (q j : ℕ) (xs ys : List Swap) → NewOn q j xs → NewOn q j ys → NewOn q j (xs ++ ys)
-new_append q j [] ys a b = b
-new_append q j (x ∷ xs) ys a b = (a.0, new_append q j xs ys a.1 b)
-
-new_swap : (q j n : ℕ) (a b : Submission) → j ≤ n → NewOn q j (swap_of q n a b)
-new_swap q j n a b l = pick (is_pair_on_one a b) _
-    (new_append q j (cond (bytes_eq a.payload zeros) (swap_by true q n (slba (sqe_fields a.entry))
-    (name_of b.payload)) [])
-    (cond (bytes_eq b.payload zeros) (swap_by false q n (slba (sqe_fields a.entry)) (name_of a.payload)) [])
-    (pick (bytes_eq a.payload zeros) _ (by true (slba (sqe_fields a.entry)) (name_of b.payload)))
-    (pick (bytes_eq b.payload zeros) _ (by false (slba (sqe_fields a.entry)) (name_of a.payload))))
+-- no takeover is wrong exactly where each is right
+takes_none : (c : ConfigNumbers) (past : Past) (ws : List Takeover)
+    → is_none (takeover_broken c past ws) ≡ list_all (takes_right c past) ws
+takes_none c past [] = refl
+takes_none c past (w ∷ ws) = go (takes_right c past w) (is_given past w.lba w.dead) (takes_none c past ws)
   where
-    pick : (x : Bool) (xs : List Swap) → NewOn q j xs → NewOn q j (cond x xs [])
-    pick true xs h = h
-    pick false xs h = tt
+    go : (a b : Bool) → is_none (takeover_broken c past ws) ≡ list_all (takes_right c past) ws
+        → is_none (first_of (cond a None (cond b (Some (OwnQueue w.lba)) (Some (NeverGiven w.lba))))
+        (takeover_broken c past ws)) ≡ (a && list_all (takes_right c past) ws)
+    go true b ih = ih
+    go false true ih = refl
+    go false false ih = refl
 
-    by : (claims : Bool) (m : ℕ) (o : Option Name) → NewOn q j (swap_by claims q n m o)
-    by claims m None = tt
-    by claims m (Some name) = ((refl, l), tt)
-
-new_swaps : (q j n : ℕ) (batch : List Submission) → j ≤ n → NewOn q j (swaps_in q n batch)
-new_swaps q j n [] l = tt
-new_swaps q j n (a ∷ []) l = tt
-new_swaps q j n (a ∷ b ∷ rest) l =
-    new_append q j (swap_of q n a b) (swaps_in q (suc n) (b ∷ rest)) (new_swap q j n a b l)
-    (new_swaps q j (suc n) (b ∷ rest) (omega (arith, l)))
-
-new_filter : (q j : ℕ) (p : Swap → Bool) (xs : List Swap) → NewOn q j xs → NewOn q j (filter p xs)
-new_filter q j p [] h = tt
-new_filter q j p (x ∷ xs) h = go (p x) (new_filter q j p xs h.1)
+none_found : (test : Takeover → Bool) (ws : List Takeover)
+    → is_none (option_map (λ (w : Takeover). w.lba) (find test ws)) ≡ not (list_any test ws)
+none_found test [] = refl
+none_found test (w ∷ ws) = go (test w) (none_found test ws)
   where
-    go : (b : Bool) → NewOn q j (filter p xs) → NewOn q j (cond b (x ∷ filter p xs) (filter p xs))
-    go true ih = (h.0, ih)
+    go : (b : Bool) → is_none (option_map (λ (w : Takeover). w.lba) (find test ws)) ≡ not (list_any test ws)
+        → is_none (option_map (λ (w : Takeover). w.lba) (cond b (Some w) (find test ws)))
+        ≡ not (b || list_any test ws)
+    go true ih = refl
     go false ih = ih
 
-new_unwon : (c : ConfigNumbers) (past : Past) (q : ℕ) (xs : List Swap) → IsLegal c past
-    → NewOn q (length (published_entries past q)) xs → AreUnwon (reaped_success c past) xs
-new_unwon c past q [] h n = tt
-new_unwon c past q (s ∷ xs) h n = (go (reaped_success c past s.queue (suc s.number)) refl, new_unwon c past q xs h n.1)
-  where
-    go : (b : Bool) → reaped_success c past s.queue (suc s.number) ≡ b → b ≡ false
-    go false e = refl
-    go true e =
-        let x = success_reaped c past s.queue (suc s.number) h e in
-        let none = new_unreaped c past s.queue (suc s.number) h
-        (subst (λ (z : ℕ). length (published_entries past z) ≤ suc s.number) (sym n.0.0) (omega (arith, n.0.1))) in
-        absurd (let clash : None ≡ Some x.post = sym none ∙ x.reaped in cc)
+none_of_five : (w t : Option ℕ) (o u : Option BrokenDiscipline) (d : Option ℕ)
+    → is_none (slots_broken_by w t o u d)
+    ≡ ((((is_none w && is_none t) && is_none o) && is_none u) && is_none d)
+none_of_five None None None None None = refl
+none_of_five None None None None (Some l) = refl
+none_of_five None None None (Some b) d = refl
+none_of_five None None (Some b) u d = refl
+none_of_five None (Some l) o u d = refl
+none_of_five (Some l) t o u d = refl
 
-pub unwon : (c : ConfigNumbers) (slots : Range) (past : Past) (p : PublishLine) (first : ℕ) (of : List Swap)
-    → IsLegal c past → first ≡ length (published_entries past p.queue)
-    → of ≡ in_area slots (swaps_in p.queue first p.batch) → AreUnwon (reaped_success c past) of
-unwon c slots past p first of h e f =
-    new_unwon c past p.queue of h (subst (λ (xs : List Swap). NewOn p.queue (length
-    (published_entries past p.queue)) xs)
-    (sym f) (new_filter p.queue (length (published_entries past p.queue)) (λ s. has_block slots s.lba)
-    (swaps_in p.queue first p.batch)
-    (new_swaps p.queue (length (published_entries past p.queue)) first p.batch (omega (arith, e)))))
-
--- nothing is broken, so the names are fresh
-fresh_where : (w t : Option ℕ) (o : Option BrokenDiscipline) → slots_broken_by w t o ≡ None → is_none t ≡ true
-fresh_where w None o e = refl
-fresh_where None (Some l) o e = absurd (let f : Some (ClaimedTwice l) ≡ None = e in cc)
-fresh_where (Some m) (Some l) o e = absurd (let f : Some (NoSwap m) ≡ None = e in cc)
-
-pub whole_is : (c : ConfigNumbers) (slots : Range) (past : Past) (p : PublishLine) (k : SlotCheckState) (first : ℕ)
-    (batch : List Submission) (of : List Swap) (o : Option BrokenDiscipline) → IsSlotCheckState c slots past k
-    → first ≡ k.progress.published p.queue → batch ≡ p.batch → of ≡ in_area slots (swaps_in p.queue first batch)
-    → o ≡ slots_broken_by (write_alone slots p.queue first batch of) (claimed_twice_in k.names of)
-    (release_broken_in c k.names [] of)
-    → o ≡ publish_broken c slots past p
-whole_is c slots past p k first batch of o h e b f g =
-    g ∙ (λ t. slots_broken_by (write_alone slots p.queue first (b t) of) (claimed_twice_in k.names of)
-    (release_broken_in c k.names [] of))
-    ∙ judged_is c slots past k.names h.names p first of (e ∙ h.progress.published p.queue)
-    (f ∙ ap (λ (xs : List Submission). in_area slots (swaps_in p.queue first xs)) b)
-
-pub none_where : (o : Option BrokenDiscipline) → false ≡ is_some o → o ≡ None
-none_where None e = refl
-none_where (Some b) e = absurd cc
-
-pub publish_keeps : (c : ConfigNumbers) (slots : Range) (past : Past) (p : PublishLine) (k m : SlotCheckState)
-    (reserved : KeptNames) (first : ℕ) (batch : List Submission) (of : List Swap) → IsSlotCheckState c slots past k
-    → IsLegal c (Entry.Publish p ∷ past) → first ≡ k.progress.published p.queue → batch ≡ p.batch
-    → of ≡ in_area slots (swaps_in p.queue first batch) → publish_broken c slots past p ≡ None
-    → ((n : Name) → reserved.claim n ≡ k.names.claim n) → ((q j : ℕ) → reserved.won q j ≡ k.names.won q j)
-    → ((l : ℕ) (n : Name) → reserved.released l n ≡ k.names.released l n)
-    → KnowsProgress c (Entry.Publish p ∷ past) m.progress
-    → ((r : ℕ → ℕ → Bool) (xs : List Swap) → KnowsNames r xs reserved → fresh_in reserved of ≡ true → AreUnwon r of
-    → KnowsNames r (of ++ xs) m.names)
-    → IsSlotCheckState c slots (Entry.Publish p ∷ past) m
-publish_keeps c slots past p k m reserved first batch of h legal e b f none x y z prog adds =
-    let r = reaped_success c past in
-    let before = in_area slots (swaps past) in
+pub keeps_is : (c : ConfigNumbers) (slots : Range) (past : Past) (p : PublishLine)
+    → is_none (publish_broken c slots past p) ≡ keeps_takeover_discipline c slots past p
+keeps_is c slots past p =
     let j = length (published_entries past p.queue) in
-    let all = in_area slots (swaps_in p.queue j p.batch) in
-    let count : first ≡ j = e ∙ h.progress.published p.queue in
-    let here : of ≡ in_area slots (swaps_in p.queue first p.batch) =
-    f ∙ ap (λ (xs : List Submission). in_area slots (swaps_in p.queue first xs)) b in
-    let same : of ≡ all = here ∙ ap (λ (n : ℕ). in_area slots (swaps_in p.queue n p.batch)) count in
-    let kr : KnowsNames r before reserved = unchanged r before k.names reserved x y z h.names in
-    let fresh : fresh_names all before ≡ true =
-    sym (twice_none all before)
-    ∙ fresh_where (write_alone slots p.queue j p.batch all) (claimed_twice all before) (release_broken c past [] all)
-    none in
-    let is_fresh : fresh_in reserved of ≡ true =
-    fresh_is r before reserved of kr ∙ ap (λ (xs : List Swap). fresh_names xs before) same ∙ fresh in
-    let added : KnowsNames r (of ++ before) m.names =
-    adds r before kr is_fresh (unwon c slots past p first of h.legal count here) in
-    let area : of ++ before ≡ in_area slots (swaps_in p.queue j p.batch ++ swaps past) =
-    ap (λ (xs : List Swap). xs ++ before) same
-    ∙ sym (filter-append (λ s. has_block slots s.lba) (swaps_in p.queue j p.batch) (swaps past)) in
-    let named : KnowsNames r (in_area slots (swaps_in p.queue j p.batch ++ swaps past)) m.names =
-    subst (λ (xs : List Swap). KnowsNames r xs m.names) area added in
-    record {
-      legal = legal;
-      disciplined = and_from (disciplined c slots past) (keeps_discipline c slots past p) h.disciplined
-          (sym (keeps_is c slots past p) ∙ ap is_none none);
-      progress = prog;
-      names = record { claim = named.claim; won = named.won; released = named.released };
-    }
+    let of = in_area slots (moves_in p.queue j p.batch) in
+    let ws = takeovers_within slots (takeovers_in p.queue j p.batch) in
+    none_of_five (write_alone slots p.queue j p.batch of) (claimed_twice of (in_area slots (moves past)))
+    (release_broken c past [] of) (takeover_broken c past ws)
+    (cut_off_at c slots past (completion_queue c p.queue))
+    ∙ (λ i. (((alone_none slots p.queue j p.batch of i && twice_none of (in_area slots (moves past)) i)
+    && none_broken c past [] [] of (λ l n. refl) i) && takes_none c past ws i)
+    && none_found (cuts_off c slots past (completion_queue c p.queue)) (takeovers past) i)

@@ -1,21 +1,19 @@
 -- What the tables of names say is true of the claims and releases that were published.
 use Rattle.std.proofs.Common.{◌≡◌, ℕ, suc, Bool, true, false, not, ◌&&◌, ◌||◌, cond, refl, sym, ap, ap₂, ◌∙◌, eqb}
-use Rattle.std.proofs.Common.{eqb-true}
+use Rattle.std.proofs.Common.{append-nil, append_assoc, eqb-true}
 use Rattle.std.proofs.Common.{List, [], ◌∷◌, ◌++◌, Option, Some, None, is_some, subst, eq-eqb, unwrap_or, zero}
 use Rattle.std.proofs.Common.{◌<◌, arith, drop, get_or, length}
 use Rattle.std.specs.List.{filter, list_any}
 use Rattle.std.proofs.lemmas.Bool.{and_parts, and_from}
+use Rattle.std.proofs.lemmas.List.Elements.{filter-append}
 use Rattle.std.proofs.lemmas.List.Folds.{list_any-append}
 use Rattle.nvme_model.specs.Array.{has_block}
-use Rattle.nvme_model.specs.Config.{completion_queue}
 use Rattle.nvme_model.specs.Slots.{Name, Swap, fresh_names, in_area, releases, same_name}
 use Rattle.nvme_model.specs.declared.array.Range.{Range}
-use Rattle.nvme_model.specs.declared.config.ConfigNumbers.{ConfigNumbers}
 use Rattle.slot_check.specs.Batch.{claimed_twice_in, fresh_in}
 use Rattle.slot_check.specs.Broken.{claimed_twice}
-use Rattle.slot_check.specs.Names.{AreUnwon, KeptNames, KnowsNames, believes, claim_won, claims_by, claims_name}
-use Rattle.slot_check.specs.Names.{is_claim_of_release, keeps_queue}
-use Rattle.slot_check.specs.Names.{listed}
+use Rattle.slot_check.specs.Names.{AreUnwon, KeptNames, KnowsNames, believes, claims_by, claims_name}
+use Rattle.slot_check.specs.Names.{gives, listed}
 
 -- ---- lists
 
@@ -210,53 +208,89 @@ order true false true e = refl
 order true false false e = refl
 order false b d e = refl
 
+-- what a name's claim gives is what some claim of the name does
+pub gives_is : (r : ℕ → ℕ → Bool) (of : List Swap) (k : KeptNames) (l : ℕ) (n : Name) (test : Swap → Bool)
+    → KnowsNames r of k
+    → gives l test (k.claim n) ≡ list_any (λ s. ((s.claims && eqb s.lba l) && same_name s.name n) && test s) of
+gives_is r of k l n test h = go (k.claim n) ∙ sym found
+  where
+    both : Swap → Bool
+    both s = eqb s.lba l && test s
+
+    found : list_any (λ s. ((s.claims && eqb s.lba l) && same_name s.name n) && test s) of
+        ≡ list_any both (listed (k.claim n))
+    found = any_same _ (λ s. claims_name n s && both s) of
+        (λ s. order s.claims (eqb s.lba l) (same_name s.name n) (test s))
+        ∙ any_filter (claims_name n) both of ∙ ap (list_any both) (h.claim n)
+
+    or_none : (b : Bool) → b ≡ (b || false)
+    or_none true = refl
+    or_none false = refl
+
+    go : (o : Option Swap) → gives l test o ≡ list_any both (listed o)
+    go None = refl
+    go (Some w) = or_none (both w)
+
 pub believes_is : (r : ℕ → ℕ → Bool) (of : List Swap) (k : KeptNames) (l : ℕ) (n : Name) → KnowsNames r of k
     → believes k l n
     ≡ (list_any (λ s. ((s.claims && eqb s.lba l) && same_name s.name n) && r s.queue (suc s.number)) of
     && not (list_any (λ s. releases s l n) of))
-believes_is r of k l n h = ap₂ (λ (x y : Bool). x && not y) (go (k.claim n) refl ∙ sym found) (h.released l n)
+believes_is r of k l n h =
+    ap₂ (λ (x y : Bool). x && not y)
+    (won_is (k.claim n) refl ∙ gives_is r of k l n (λ s. r s.queue (suc s.number)) h) (h.released l n)
   where
-    test : Swap → Bool
-    test s = eqb s.lba l && r s.queue (suc s.number)
+    won_is : (o : Option Swap) → k.claim n ≡ o → gives l (λ w. unwrap_or (k.won w.queue (suc w.number)) false) o
+        ≡ gives l (λ w. r w.queue (suc w.number)) o
+    won_is None e = refl
+    won_is (Some w) e = ap (λ (x : Option Bool). eqb w.lba l && unwrap_or x false) (won_of r of k n w h e)
 
-    found : list_any (λ s. ((s.claims && eqb s.lba l) && same_name s.name n) && r s.queue (suc s.number)) of
-        ≡ list_any test (listed (k.claim n))
-    found = any_same _ (λ s. claims_name n s && test s) of
-        (λ s. order s.claims (eqb s.lba l) (same_name s.name n) (r s.queue (suc s.number)))
-        ∙ any_filter (claims_name n) test of ∙ ap (list_any test) (h.claim n)
+-- ---- two lists, each in two parts
 
-    or_none : (b : Bool) → b ≡ (b || false)
-    or_none true = refl
-    or_none false = refl
+longer : (o : Option Swap) (x y : Swap) (zs : List Swap) → x ∷ y ∷ zs ≡ listed o → ⊥
+longer None x y zs e = absurd cc
+longer (Some s) x y zs e = absurd (let l : suc (suc (length zs)) ≡ 1 = ap length e in omega (arith, l))
 
-    go : (o : Option Swap) → k.claim n ≡ o → claim_won k l o ≡ list_any test (listed o)
-    go None e = refl
-    go (Some w) e = ap (λ (x : Option Bool). eqb w.lba l && unwrap_or x false) (won_of r of k n w h e) ∙ or_none
-        (test w)
+-- of four parts that have one element at most the order doesn't matter
+regroup : (o : Option Swap) (a g b h : List Swap) → (a ++ g) ++ (b ++ h) ≡ listed o → (a ++ b) ++ (g ++ h) ≡ listed o
+regroup o [] [] b h e = e
+regroup o [] (x ∷ g) [] h e = e
+regroup o [] (x ∷ []) (y ∷ b) h e = absurd (longer o x y (b ++ h) e)
+regroup o [] (x ∷ z ∷ g) (y ∷ b) h e = absurd (longer o x z (g ++ ((y ∷ b) ++ h)) e)
+regroup o (x ∷ a) [] b h e = append_assoc (x ∷ a) b h
+    ∙ ap (λ (xs : List Swap). xs ++ (b ++ h)) (sym (append-nil (x ∷ a))) ∙ e
+regroup o (x ∷ []) (y ∷ g) b h e = absurd (longer o x y (g ++ (b ++ h)) e)
+regroup o (x ∷ z ∷ a) (y ∷ g) b h e = absurd (longer o x z ((a ++ (y ∷ g)) ++ (b ++ h)) e)
 
-pub queue_is : (c : ConfigNumbers) (r : ℕ → ℕ → Bool) (of : List Swap) (k : KeptNames) (s : Swap) → KnowsNames r of k
-    → keeps_queue c k s
-    ≡ list_any (λ w. ((w.claims && eqb w.lba s.lba) && same_name w.name s.name)
-    && eqb (completion_queue c w.queue) (completion_queue c s.queue)) of
-queue_is c r of k s h = go (k.claim s.name) ∙ sym found
+pub regrouped : (r : ℕ → ℕ → Bool) (a g b h : List Swap) (k : KeptNames) → KnowsNames r ((a ++ g) ++ (b ++ h)) k
+    → KnowsNames r ((a ++ b) ++ (g ++ h)) k
+regrouped r a g b h k x =
+    record {
+      claim = λ n. four (claims_name n) a b g h
+          ∙ regroup (k.claim n) (filter (claims_name n) a) (filter (claims_name n) g) (filter (claims_name n) b)
+          (filter (claims_name n) h) (sym (four (claims_name n) a g b h) ∙ x.claim n);
+      won = λ q j. x.won q j ∙ ap (λ (y : Bool). cond y (Some (r q j)) None) (any_four (claims_by q j));
+      released = λ l n. x.released l n ∙ any_four (λ s. releases s l n);
+    }
   where
-    test : Swap → Bool
-    test w = eqb w.lba s.lba && eqb (completion_queue c w.queue) (completion_queue c s.queue)
+    four : (p : Swap → Bool) (xs ys zs us : List Swap) → filter p ((xs ++ ys) ++ (zs ++ us))
+        ≡ (filter p xs ++ filter p ys) ++ (filter p zs ++ filter p us)
+    four p xs ys zs us = filter-append p (xs ++ ys) (zs ++ us)
+        ∙ ap₂ (λ (x y : List Swap). x ++ y) (filter-append p xs ys) (filter-append p zs us)
 
-    found : list_any (λ w. ((w.claims && eqb w.lba s.lba) && same_name w.name s.name)
-        && eqb (completion_queue c w.queue) (completion_queue c s.queue)) of ≡ list_any test (listed (k.claim s.name))
-    found = any_same _ (λ w. claims_name s.name w && test w) of
-        (λ w. order w.claims (eqb w.lba s.lba) (same_name w.name s.name)
-        (eqb (completion_queue c w.queue) (completion_queue c s.queue)))
-        ∙ any_filter (claims_name s.name) test of ∙ ap (list_any test) (h.claim s.name)
+    exchange : (x y z u : Bool) → ((x || y) || (z || u)) ≡ ((x || z) || (y || u))
+    exchange true y z u = refl
+    exchange false true true u = refl
+    exchange false true false u = refl
+    exchange false false z u = refl
 
-    or_none : (b : Bool) → b ≡ (b || false)
-    or_none true = refl
-    or_none false = refl
+    any_parts : (p : Swap → Bool) (xs ys zs us : List Swap) → list_any p ((xs ++ ys) ++ (zs ++ us))
+        ≡ ((list_any p xs || list_any p ys) || (list_any p zs || list_any p us))
+    any_parts p xs ys zs us = list_any-append p (xs ++ ys) (zs ++ us)
+        ∙ ap₂ (λ (x y : Bool). x || y) (list_any-append p xs ys) (list_any-append p zs us)
 
-    go : (o : Option Swap) → is_claim_of_release c s o ≡ list_any test (listed o)
-    go None = refl
-    go (Some w) = or_none (test w)
+    any_four : (p : Swap → Bool) → list_any p ((a ++ g) ++ (b ++ h)) ≡ list_any p ((a ++ b) ++ (g ++ h))
+    any_four p = any_parts p a g b h ∙ exchange (list_any p a) (list_any p g) (list_any p b) (list_any p h)
+        ∙ sym (any_parts p a b g h)
 
 -- ---- the area
 

@@ -1,7 +1,11 @@
 mod Batches
 mod Bytes
+mod Cutting
 pub mod Discipline
 mod Judging
 mod Knowing
-mod Moving
+mod NewTakeovers
+mod Publishing
+mod Standing
+mod TakingOver
 mod Updated

@@ -1,6 +1,5 @@
 -- What a change of a table leaves.
 use Rattle.std.proofs.Common.{◌≡◌, ℕ, Bool, true, false, not, ◌&&◌, ◌||◌, cond, refl, sym, ◌∙◌, eqb}
-use Rattle.std.proofs.Common.{Err, Ok, OnErr, Result}
 use Rattle.nvme_model.specs.Slots.{Name, Swap, releases, same_name}
 
 pub set_where : {X : Type 0} (b s : Bool) (x o n : X) → s ≡ true → n ≡ cond b x o → n ≡ cond (b && s) x o
@@ -20,7 +19,3 @@ released_added s b o n l m e f h = h ∙ (λ t. cond (f t) true o)
     go : (x : Bool) → cond x true o ≡ (x || o)
     go true = refl
     go false = refl
-
-pub on_err : {X E : Type 0} (r : Result X E) (P : Type 0) → P → OnErr r P
-on_err (Ok x) P p = tt
-on_err (Err e) P p = p

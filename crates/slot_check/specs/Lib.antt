@@ -1,5 +1,5 @@
 pub mod Batch
 pub mod Broken
 pub mod Names
-pub mod Progress
+pub mod Takeovers
 pub mod Watched

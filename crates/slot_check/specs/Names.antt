@@ -1,4 +1,5 @@
--- What a check of the slots keeps of the claims and releases of its area.
+-- What a check of the slots keeps of the names of its area. What gives a slot is called a claim here, be it a claim or
+-- a takeover.
 use Rattle.std.specs.Prelude.{Bool, List, None, Option, Some, [], if◌then◌else◌, false, not, suc, unwrap_or, ℕ, ◌&&◌}
 use Rattle.std.specs.Prelude.{◌==◌, ◌∷◌, ◌≡◌}
 use Rattle.std.specs.HashMap.{get_by}
@@ -41,15 +42,10 @@ abbrev pub listed : Option Swap → List Swap
 listed None = []
 listed (Some s) = s ∷ []
 
--- the claim is of the slot at block l, and its success was reaped
-abbrev pub claim_won : KeptNames → ℕ → Option Swap → Bool
-claim_won k l None = false
-claim_won k l (Some w) = (w.lba == l) && unwrap_or (k.won w.queue (suc w.number)) false
-
--- the claim is of the release's slot, on a queue that has the same completion queue
-abbrev pub is_claim_of_release : ConfigNumbers → Swap → Option Swap → Bool
-is_claim_of_release c s None = false
-is_claim_of_release c s (Some w) = (w.lba == s.lba) && (completion_queue c w.queue == completion_queue c s.queue)
+-- the claim is of the slot at block l, and passes the test
+abbrev pub gives : ℕ → (Swap → Bool) → Option Swap → Bool
+gives l test None = false
+gives l test (Some w) = (w.lba == l) && test w
 
 -- It is what is kept of these claims and releases, where r says of which entries success was reaped.
 pub record KnowsNames (r : ℕ → ℕ → Bool) (of : List Swap) (k : KeptNames) : Type 0 where
@@ -57,13 +53,14 @@ pub record KnowsNames (r : ℕ → ℕ → Bool) (of : List Swap) (k : KeptNames
   pub won : (q j : ℕ) → k.won q j ≡ (if list_any (claims_by q j) of then Some (r q j) else None)
   pub released : (l : ℕ) (n : Name) → k.released l n ≡ list_any (λ s. releases s l n) of
 
--- the name is believed of the slot at block l, as this is kept
+-- its own host believes the name of the slot at block l, as this is kept
 abbrev pub believes : KeptNames → ℕ → Name → Bool
-believes k l n = claim_won k l (k.claim n) && not (k.released l n)
+believes k l n = gives l (λ w. unwrap_or (k.won w.queue (suc w.number)) false) (k.claim n) && not (k.released l n)
 
 -- the claim of the release's name is of its slot, on a queue that has the same completion queue
 abbrev pub keeps_queue : ConfigNumbers → KeptNames → Swap → Bool
-keeps_queue c k s = is_claim_of_release c s (k.claim s.name)
+keeps_queue c k s =
+    gives s.lba (λ w. completion_queue c w.queue == completion_queue c s.queue) (k.claim s.name)
 
 -- success wasn't reaped of the second entry of a claim
 abbrev pub AreUnwon : (ℕ → ℕ → Bool) → List Swap → Type 0

@@ -6,20 +6,25 @@ ghost use Rattle.nvme_model.specs.Legal.{IsLegal};
 ghost use Rattle.nvme_model.specs.Slots.{disciplined};
 ghost use Rattle.nvme_model.specs.declared.config.ConfigNumbers.{ConfigNumbers};
 ghost use Rattle.host_laws.specs.Discipline.{keeps_at};
-ghost use Rattle.slot_check.specs.Broken.{discipline_broken};
+ghost use Rattle.takeover_laws.specs.Rules.{takeover_disciplined};
+ghost use Rattle.takeover_laws.specs.Takeovers.{takeovers};
+ghost use Rattle.slot_check.specs.Broken.{discipline_broken, keeps_takeovers_at};
 ghost use Rattle.slot_check.specs.Watched.{IsSlotCheckState, Watches, area_state, slot_check_state_in};
 
 use crate::broken::BrokenDiscipline;
 use crate::names::Names;
-use crate::progress::QueueProgress;
-use crate::tables::{SlotTables, take_fetch, take_post, take_publish, take_reap};
+use crate::tables::{SlotTables, take_block, take_fetch, take_post, take_publish, take_reap};
+use crate::takeovers::Takeovers;
 use history::{Config, Entry};
 use nvme_model::array::Range;
+use queue_progress::QueueProgress;
 use std::alloc::{AllocError as NoMemory, Global};
 
-/// Says of each entry of a legal history that it takes which rule of the discipline of an area of slots it breaks. It
-/// keeps the names that were claimed and released in the area, the counts of the queues, the tickets in flight and the
-/// completions that weren't reaped; how long an entry takes doesn't grow with the history.
+/// Says of each entry of a legal history that it takes which rule of the discipline of an area of slots it breaks. A
+/// history with takeovers says itself whose slots are taken over: from there on that host has to be fenced. The check
+/// keeps the names that were given a slot of the area, released or taken over, the takeovers, the completion queues
+/// that were cut off, the counts of the queues, the tickets in flight and the completions that weren't reaped; how long
+/// an entry takes doesn't grow with the history.
 #[derive(Drop)]
 pub struct AreaCheck {
     alloc: Global,
@@ -50,7 +55,8 @@ fn take_entry(
         Entry::Fetch(line) => take_fetch(tables, line)?,
         Entry::Post(line) => take_post(config, tables, line)?,
         Entry::Reap(line) => take_reap(tables, line)?,
-        Entry::Grant(_) | Entry::Block(_) => {}
+        Entry::Block(line) => take_block(tables, line)?,
+        Entry::Grant(_) => {}
     }
     Ok(None)
 }
@@ -68,6 +74,7 @@ impl AreaCheck {
             tables: SlotTables {
                 progress: QueueProgress::new(alloc),
                 names: Names::new(alloc),
+                takeovers: Takeovers::new(alloc),
             },
         }
     }
@@ -100,9 +107,16 @@ impl AreaCheck {
 }
 
 /// An entry breaks no rule exactly where it keeps the discipline, and a history keeps it exactly where each entry does.
+/// Where there is no takeover, that is the discipline of claims and releases alone.
 pub fn none_is_broken_where_the_discipline_is_kept()
     ensures none { (c : ConfigNumbers) (slots : Range) (past : Past) (entry : Entry) →
-        is_none (discipline_broken c slots past entry) ≡ keeps_at c slots past entry }
+        is_none (discipline_broken c slots past entry) ≡ keeps_takeovers_at c slots past entry }
     ensures fold { (c : ConfigNumbers) (slots : Range) (past : Past) (entry : Entry) →
-        disciplined c slots (entry ∷ past) ≡ (disciplined c slots past && keeps_at c slots past entry) }
+        takeover_disciplined c slots (entry ∷ past)
+        ≡ (takeover_disciplined c slots past && keeps_takeovers_at c slots past entry) }
+    ensures without { (c : ConfigNumbers) (slots : Range) (past : Past) (entry : Entry) →
+        takeovers (entry ∷ past) ≡ [] →
+        is_none (discipline_broken c slots past entry) ≡ keeps_at c slots past entry }
+    ensures as_before { (c : ConfigNumbers) (slots : Range) (past : Past) → takeovers past ≡ [] →
+        takeover_disciplined c slots past ≡ disciplined c slots past }
 {}

@@ -1,4 +1,4 @@
-//! The claims, the releases and the Writes of a batch.
+//! The claims, the releases, the takeovers and the Writes of a batch.
 
 ghost use Rattle.std.specs.Prelude.{IfOk, OnOk, [], bytes_eq, is_some, length, not, suc, ◌&&◌, ◌++◌, ◌+◌, ◌<◌, ◌==◌};
 ghost use Rattle.std.specs.Prelude.{◌^◌, ◌||◌, ◌≡◌};
@@ -6,21 +6,26 @@ ghost use Rattle.std.specs.List.{list_any};
 ghost use Rattle.nvme_model.specs.Array.{has_block, overlap, zeros};
 ghost use Rattle.nvme_model.specs.Slots.{in_area, is_pair_on_one, releases, swap_by, swap_of, swaps_in};
 ghost use Rattle.nvme_model.specs.Slots.{touches};
-ghost use Rattle.slot_check.specs.Batch.{claimed_twice_in, release_broken_in, release_wrong_in};
+ghost use Rattle.slot_check.specs.Batch.{claimed_twice_in, release_broken_in, release_wrong_in, takeover_broken_in};
+ghost use Rattle.slot_check.specs.Batch.{takeover_wrong_in};
 ghost use Rattle.slot_check.specs.Broken.{first_touched, write_alone};
 ghost use Rattle.slot_check.specs.Names.{claims_name, listed, names_in};
+ghost use Rattle.slot_check.specs.Takeovers.{takeovers_kept};
 
 use crate::broken::BrokenDiscipline;
 use crate::names::Names;
 use crate::swap::{Name, Swap, name_of};
+use crate::takeover::Takeover;
+use crate::takeovers::Takeovers;
 use entry_codec::decode_sqe;
 use history::Config;
 use nvme_model::array::Range;
 use nvme_model::submission::Submission;
+use queue_progress::completion_queue;
 use std::alloc::{AllocError as NoMemory, Global};
 
-// Whether an area has a block.
-fn has_block(slots: Range, lba: u64) -> bool
+/// Whether an area has a block.
+pub fn has_block(slots: Range, lba: u64) -> bool
     ensures value { result ≡ has_block slots lba }
 {
     slots.slba <= lba && u128::from(lba) < u128::from(slots.slba) + u128::from(slots.blocks)
@@ -46,8 +51,8 @@ fn touches(slots: Range, one: &Submission) -> bool
     (entry.is_write() || entry.is_write_zeroes()) && overlaps(entry.slba(), entry.blocks(), slots)
 }
 
-// Whether two entries are a pair on one block.
-fn is_pair_on_one(a: &Submission, b: &Submission) -> bool
+/// Whether two entries are a pair on one block.
+pub fn is_pair_on_one(a: &Submission, b: &Submission) -> bool
     ensures value { result ≡ is_pair_on_one a.now b.now }
 {
     let first = decode_sqe(&a.entry);
@@ -234,16 +239,21 @@ fn is_given_up(of: &[Swap], lba: u64, name: Name) -> bool
 fn release_wrong(
     config: &Config,
     names: &Names,
+    takeovers: &Takeovers,
     swap: Swap,
     earlier: &[Swap],
 ) -> Option<BrokenDiscipline>
-    ensures value { result ≡ release_wrong_in config.now (names_in names.now) earlier.now swap }
+    ensures value { result ≡
+        release_wrong_in config.now (names_in names.now) (takeovers_kept takeovers.now).taken earlier.now swap }
 {
     if swap.claims() {
         return None;
     }
     if !names.believes(swap.lba(), swap.name()) || is_given_up(earlier, swap.lba(), swap.name()) {
         return Some(BrokenDiscipline::Unbelieved(swap.lba()));
+    }
+    if takeovers.is_taken(swap.lba(), swap.name()) {
+        return Some(BrokenDiscipline::TakenOver(swap.lba()));
     }
     if !names.keeps_queue(config, &swap) {
         return Some(BrokenDiscipline::OtherQueue(swap.lba()));
@@ -252,11 +262,50 @@ fn release_wrong(
 }
 
 /// What the first wrong release of these breaks.
-pub fn release_broken(config: &Config, names: &Names, of: &[Swap]) -> Option<BrokenDiscipline>
-    ensures value { result ≡ release_broken_in config.now (names_in names.now) [] of.now }
+pub fn release_broken(
+    config: &Config,
+    names: &Names,
+    takeovers: &Takeovers,
+    of: &[Swap],
+) -> Option<BrokenDiscipline>
+    ensures value { result ≡
+        release_broken_in config.now (names_in names.now) (takeovers_kept takeovers.now).taken [] of.now }
 {
     for place in 0..of.len() {
-        if let Some(broken) = release_wrong(config, names, of[place], &of[..place]) {
+        let wrong = release_wrong(config, names, takeovers, of[place], &of[..place]);
+        if let Some(broken) = wrong {
+            return Some(broken);
+        }
+    }
+    None
+}
+
+// What a takeover breaks.
+fn takeover_wrong(config: &Config, names: &Names, takeover: Takeover) -> Option<BrokenDiscipline>
+    ensures value { result ≡ takeover_wrong_in config.now (names_in names.now) takeover }
+{
+    let Some(claim) = names.claim(takeover.dead()) else {
+        return Some(BrokenDiscipline::NeverGiven(takeover.lba()));
+    };
+    if claim.lba() != takeover.lba() {
+        return Some(BrokenDiscipline::NeverGiven(takeover.lba()));
+    }
+    if completion_queue(config, claim.queue()) == completion_queue(config, takeover.queue()) {
+        return Some(BrokenDiscipline::OwnQueue(takeover.lba()));
+    }
+    None
+}
+
+/// What the first wrong one of these takeovers breaks.
+pub fn takeover_broken(
+    config: &Config,
+    names: &Names,
+    takeovers: &[Takeover],
+) -> Option<BrokenDiscipline>
+    ensures value { result ≡ takeover_broken_in config.now (names_in names.now) takeovers.now }
+{
+    for place in 0..takeovers.len() {
+        if let Some(broken) = takeover_wrong(config, names, takeovers[place]) {
             return Some(broken);
         }
     }

@@ -27,9 +27,9 @@ abbrev pub holder_in : List ℕ → Holder
 holder_in bytes = if bytes_eq bytes zeros then Holder.Free else holder_named (name_of bytes)
 
 -- the bytes that a Read read
-abbrev pub bytes_read : Reply → List ℕ
-bytes_read (Reply.Read bytes) = bytes
-bytes_read _ = []
+abbrev pub payload_of_read : Reply → List ℕ
+payload_of_read (Reply.Read bytes) = bytes
+payload_of_read _ = []
 
 -- the reply is to a Read
 abbrev pub IsRead : Reply → Type 0

@@ -7,7 +7,7 @@ ghost use Rattle.driver_cas.specs.Drivers.{AsksPort, IsCallOf, IsSameDriver, Sha
 ghost use Rattle.driver_cas.specs.declared.call.Call.{Call};
 ghost use Rattle.slot_alloc.specs.Areas.{area};
 ghost use Rattle.slot_alloc.specs.Progresses.{IsQuiet};
-ghost use Rattle.slot_takeover.specs.Holders.{IsHolderBegun, IsHolderPolled, IsRead, IsReadingOf, bytes_read};
+ghost use Rattle.slot_takeover.specs.Holders.{IsHolderBegun, IsHolderPolled, IsRead, IsReadingOf, payload_of_read};
 ghost use Rattle.slot_takeover.specs.Holders.{holder_in, holder_named, later_reading};
 
 use crate::name::Name;
@@ -121,7 +121,7 @@ fn holder_of(bytes: &[u8]) -> Holder
 // Who holds a slot by what a Read of its block was answered.
 fn holder_by(reply: Reply) -> Holder
     requires read { IsRead reply }
-    ensures value { result ≡ holder_in (bytes_read reply) }
+    ensures value { result ≡ holder_in (payload_of_read reply) }
 {
     match reply {
         Reply::Read(payload) => holder_of(payload.as_slice()),

@@ -1,6 +1,6 @@
 -- What is said of a file beside an area, from what was found.
-use Rattle.std.proofs.Common.{Bool, List, None, Option, Some, [], ap, ap₂, false, inl, inr, is_none, refl, subst, sym}
-use Rattle.std.proofs.Common.{true, ℕ, ◌∙◌, ◌∷◌, ◌≡◌}
+use Rattle.std.proofs.Common.{Bool, List, None, Option, Some, [], ap, ap₂, arith, false, inl, inr, is_none, refl, subst}
+use Rattle.std.proofs.Common.{sym, true, ℕ, ◌∙◌, ◌∷◌, ◌≡◌, ◌≤◌}
 use Rattle.std.specs.Prelude.{Err, IfSome, Ok}
 use Rattle.std.specs.Io.KnownBytes.{IsAtEnd}
 use Rattle.std.proofs.KnownBytes.{Keeps-refl}
@@ -13,6 +13,7 @@ use Rattle.nvme_model.specs.declared.config.ConfigNumbers.{ConfigNumbers}
 use Rattle.broken_rules.specs.declared.broken.Broken.{Broken}
 use Rattle.history_check.specs.Kept.{CheckerRun}
 use Rattle.casdisk_script.specs.Files.{HasHistory, entry_added, file_of}
+use Rattle.casdisk_script.specs.Followed.{StopsFirst}
 use Rattle.casdisk_script.specs.Judged.{HasFirstBad, first_rule}
 use Rattle.casdisk_script.specs.Running.{Makes, RunsScript}
 use Rattle.casdisk_script.specs.Script.{first_config, script_outcome}
@@ -21,8 +22,9 @@ use Rattle.casdisk_script.specs.declared.fault.RunFault.TheVariants.{BadConfig, 
 use Rattle.casdisk_script.specs.declared.judging.FirstBad.{FirstBad}
 use Rattle.casdisk_script.proofs.Placing.{answered_by, explained_by, no_place, not_legal}
 use Rattle.slot_check.specs.Watched.{AreaState}
-use Rattle.slot_texts.specs.Texts.{ChecksSlots, HasFound, IsExplainedSlots, IsSlotsAnswer, IsSlotsAnswerOf, IsUnjudged}
-use Rattle.slot_texts.specs.Texts.{IsUndisciplined, IsWithin, TellsFound, explained_slots_of, found_none, found_text}
+use Rattle.slot_texts.specs.Texts.{ChecksSlots, HasArea, HasAreaByThen, HasFound, IsExplainedSlots, IsSlotsAnswer}
+use Rattle.slot_texts.specs.Texts.{IsSlotsAnswerOf, IsUndisciplined, IsUnjudged, IsWithin, TellsFound}
+use Rattle.slot_texts.specs.Texts.{explained_slots_of, found_none, found_text}
 use Rattle.slot_texts.specs.Wrong.{HasJudgedSlots, first_wrong}
 use Rattle.slot_texts.specs.declared.fault.SlotsFault.{SlotsFault}
 use Rattle.slot_texts.specs.declared.fault.SlotsFault.TheVariants.{Beyond, NoSlots, Run}
@@ -77,11 +79,12 @@ module _ (slots : Range) (found : JudgedSlots) where
         ),
       )
 
-  pub answered : (answer : Bool) (r t v x : Option (List ℕ)) → IsAtEnd t
+  pub answered : (answer : Bool) (r t v x : Option (List ℕ)) → 1 ≤ slots.blocks → IsAtEnd t
       → IfSome r (HasHistory (λ c past. HasFound false c slots past found))
       → TellsFound found.bad.place found.wrong (Ok answer) v x → ChecksSlots slots (Ok answer) r t v x
-  answered answer None t v x end h told = (end, tt)
-  answered answer (Some bytes) t v x end h told = (
+  answered answer None t v x some end h told = (some, end, tt)
+  answered answer (Some bytes) t v x some end h told = (
+    some,
     end,
     (
       found_text found.bad.place found.wrong,
@@ -91,16 +94,17 @@ module _ (slots : Range) (found : JudgedSlots) where
     ),
   )
 
-  pub untold : (fault : RunFault) (r t v x : Option (List ℕ))
+  pub untold : (fault : RunFault) (r t v x : Option (List ℕ)) → 1 ≤ slots.blocks → IsAtEnd t
       → IfSome r (HasHistory (λ c past. HasFound false c slots past found))
       → TellsFound found.bad.place found.wrong (Err fault) v x → ChecksSlots slots (Err (Run fault)) r t v x
-  untold (BadLine n) r t v x h told = absurd told
-  untold (BadConfig n) r t v x h told = absurd told
-  untold Input r t v x h told = absurd told
-  untold Output None t v x h told = tt
-  untold Output (Some bytes) t v x h told =
-      (found_none found.bad.place found.wrong, found_text found.bad.place found.wrong, answer_of bytes h, told)
-  untold NoMemory r t v x h told = absurd told
+  untold (BadLine n) r t v x some end h told = absurd told
+  untold (BadConfig n) r t v x some end h told = absurd told
+  untold Input r t v x some end h told = absurd told
+  untold Output None t v x some end h told = (some, end, tt)
+  untold Output (Some bytes) t v x some end h told =
+      let line = found_text found.bad.place found.wrong in
+      (some, end, (found_none found.bad.place found.wrong, line, answer_of bytes h, told))
+  untold NoMemory r t v x some end h told = absurd told
 
   pub explained : (r : Option (List ℕ)) → IfSome r (HasHistory (λ c past. HasFound true c slots past found))
       → IfSome r (HasHistory (λ c past. IsWithin c slots
@@ -126,10 +130,34 @@ pub unjudged : (slots : Range) (fault : SlotsFault) (r t v : Option (List ℕ)) 
 unjudged slots (Run (BadLine n)) r t v h = (h, Keeps-refl v)
 unjudged slots (Run (BadConfig n)) r t v h = (h, Keeps-refl v)
 unjudged slots (Run Input) r t v h = (h, Keeps-refl v)
-unjudged slots (Run Output) r t v h = absurd h
+unjudged slots (Run Output) r t v h = absurd h.2
 unjudged slots (Run NoMemory) r t v h = (h, Keeps-refl v)
 unjudged slots NoSlots r t v h = (h, Keeps-refl v)
 unjudged slots (Beyond blocks) r t v h = (h, Keeps-refl v)
+
+-- ---- nothing was judged
+
+-- the first line wasn't read
+pub first_unread : (slots : Range) (f : RunFault) (r t : Option (List ℕ)) → StopsFirst f r t → HasAreaByThen slots f r
+first_unread slots (BadLine n) r t h = λ more. absurd (omega (arith, h, more))
+first_unread slots (BadConfig n) r t h = tt
+first_unread slots Input r t h = tt
+first_unread slots Output r t h = tt
+first_unread slots NoMemory r t h = tt
+
+has_area : (slots : Range) (c : ConfigNumbers) (r : Option (List ℕ)) → IsWithin c slots
+    → IfSome r (λ bytes. first_config (whole_lines bytes) ≡ Some c) → IfSome r (HasArea slots)
+has_area slots c None within known = tt
+has_area slots c (Some bytes) within known = (c, known, within)
+
+-- a line behind it wasn't
+pub unread_behind : (slots : Range) (f : RunFault) (c : ConfigNumbers) (r : Option (List ℕ)) → IsWithin c slots
+    → IfSome r (λ bytes. first_config (whole_lines bytes) ≡ Some c) → HasAreaByThen slots f r
+unread_behind slots (BadLine n) c r within known = λ more. has_area slots c r within known
+unread_behind slots (BadConfig n) c r within known = tt
+unread_behind slots Input c r within known = tt
+unread_behind slots Output c r within known = tt
+unread_behind slots NoMemory c r within known = tt
 
 -- ---- from what the reading of its lines gave
 

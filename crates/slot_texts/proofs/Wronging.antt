@@ -4,7 +4,7 @@ use Rattle.std.proofs.Common.{sym, true, ℕ, ◌&&◌, ◌+◌, ◌∙◌, ◌�
 use Rattle.nvme_model.specs.FirstBad.{earlier_or, first_bad_of}
 use Rattle.nvme_model.specs.History.{Past}
 use Rattle.nvme_model.specs.Legal.{IsLegal}
-use Rattle.nvme_model.specs.Slots.{disciplined}
+use Rattle.takeover_laws.specs.Rules.{takeover_disciplined}
 use Rattle.nvme_model.specs.declared.array.Range.{Range}
 use Rattle.nvme_model.specs.declared.config.ConfigNumbers.{ConfigNumbers}
 use Rattle.nvme_model.specs.declared.entry.Entry.{Entry}
@@ -32,14 +32,14 @@ inside a b h = cc
 
 module _ (c : ConfigNumbers) (slots : Range) where
   -- there is none exactly where the discipline is kept
-  pub exactly : (past : Past) → is_none (first_wrong c slots past) ≡ disciplined c slots past
+  pub exactly : (past : Past) → is_none (first_wrong c slots past) ≡ takeover_disciplined c slots past
   exactly [] = refl
   exactly (e ∷ past) =
       both_none (first_wrong c slots past) (discipline_broken c slots past e) (length past + 1)
       ∙ ap₂ (λ (x y : Bool). x && y) (exactly past) (none_broken_at c slots past e)
       ∙ sym (folds c slots past e)
 
-  pub none_wrong : (past : Past) → first_wrong c slots past ≡ None → disciplined c slots past ≡ true
+  pub none_wrong : (past : Past) → first_wrong c slots past ≡ None → takeover_disciplined c slots past ≡ true
   none_wrong past h = sym (exactly past) ∙ ap is_none h
 
   pub some_wrong : (past : Past) (w : WrongStep) → first_wrong c slots past ≡ Some w → BreaksFirst c slots past w

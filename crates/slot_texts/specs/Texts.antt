@@ -8,7 +8,7 @@ use Rattle.line_text.specs.Lines.{whole_lines}
 use Rattle.nvme_model.specs.FirstBad.{IsFirstBad}
 use Rattle.nvme_model.specs.History.{Past}
 use Rattle.nvme_model.specs.Legal.{IsLegal}
-use Rattle.nvme_model.specs.Slots.{disciplined}
+use Rattle.takeover_laws.specs.Rules.{takeover_disciplined}
 use Rattle.nvme_model.specs.declared.array.Range.{Range}
 use Rattle.nvme_model.specs.declared.config.ConfigNumbers.{ConfigNumbers}
 use Rattle.broken_rules.specs.declared.broken.Broken.{Broken}
@@ -17,7 +17,7 @@ use Rattle.casdisk_script.specs.Files.{HasHistory, IsAnswer, IsUnread, bad_text,
 use Rattle.casdisk_script.specs.Judged.{HasFirstBad, first_rule}
 use Rattle.casdisk_script.specs.Script.{first_config}
 use Rattle.casdisk_script.specs.declared.fault.RunFault.{RunFault}
-use Rattle.casdisk_script.specs.declared.fault.RunFault.TheVariants.{Output}
+use Rattle.casdisk_script.specs.declared.fault.RunFault.TheVariants.{BadLine, Output}
 use Rattle.slot_texts.specs.Wrong.{BreaksFirst, first_wrong}
 use Rattle.slot_texts.specs.declared.explaining.ExplainedSlots.{ExplainedSlots}
 use Rattle.slot_texts.specs.declared.explaining.ExplainedSlots.TheVariants.{BadAt, Legal, SlotsBadAt}
@@ -38,12 +38,12 @@ IsWithin c slots = slots.slba + slots.blocks ≤ c.blocks
 -- The history is legal and breaks the discipline of the area, and this step is the first that does.
 abbrev pub IsUndisciplined : ConfigNumbers → Range → Past → WrongStep → Type 0
 IsUndisciplined c slots past step =
-    IsLegal c past × (disciplined c slots past ≡ false) × BreaksFirst c slots past step
+    IsLegal c past × (takeover_disciplined c slots past ≡ false) × BreaksFirst c slots past step
 
 -- The answer on a history beside an area, and its line: `legal` where it is legal and keeps the discipline; `bad at K`
 -- where it isn't legal, whatever is true of the slots; else `slots bad at K`.
 abbrev pub IsSlotsAnswer : ConfigNumbers → Range → Past → Bool → List ℕ → Type 0
-IsSlotsAnswer c slots past true text = IsAnswer c past true text × (disciplined c slots past ≡ true)
+IsSlotsAnswer c slots past true text = IsAnswer c past true text × (takeover_disciplined c slots past ≡ true)
 IsSlotsAnswer c slots past false text =
     IsAnswer c past false text
     ⊎ ((step : WrongStep) × IsUndisciplined c slots past step × (text ≡ wrong_text step.place))
@@ -53,30 +53,45 @@ abbrev pub IsSlotsAnswerOf : Range → List ℕ → Bool → List ℕ → Type 0
 IsSlotsAnswerOf slots input answer text =
     HasHistory (λ c past. IsWithin c slots × IsSlotsAnswer c slots past answer text) input
 
--- By why a file wasn't judged: it wasn't read; the area has no block; or the volume of its configuration, of so many
--- blocks, lacks blocks of the area.
+-- the volume of a file's configuration, of so many blocks, lacks blocks of the area
+abbrev pub IsBeyond : Range → ℕ → List ℕ → Type 0
+IsBeyond slots blocks bytes =
+    (c : ConfigNumbers) × (first_config (whole_lines bytes) ≡ Some c) × (c.blocks ≡ blocks)
+    × (blocks < slots.slba + slots.blocks)
+
+-- the volume of a file's configuration has the area
+abbrev pub HasArea : Range → List ℕ → Type 0
+HasArea slots bytes = (c : ConfigNumbers) × (first_config (whole_lines bytes) ≡ Some c) × IsWithin c slots
+
+-- where a line behind the first is told to be bad, the volume has the area
+abbrev pub HasAreaByThen : Range → RunFault → Option (List ℕ) → Type 0
+HasAreaByThen slots (BadLine n) input = 1 < n → IfSome input (HasArea slots)
+HasAreaByThen slots fault input = Unit {0}
+
+-- By why a file wasn't judged: the area has no block, and nothing was read; or it has one, and the file wasn't read; or
+-- the volume of its configuration, of so many blocks, lacks blocks of the area.
 abbrev pub IsUnjudged : Range → SlotsFault → Option (List ℕ) → Option (List ℕ) → Type 0
-IsUnjudged slots (Run fault) input left = IsUnread fault input left
+IsUnjudged slots (Run fault) input left =
+    (1 ≤ slots.blocks) × HasAreaByThen slots fault input × IsUnread fault input left
 IsUnjudged slots NoSlots input left = (slots.blocks ≡ 0) × (left ≡ input)
-IsUnjudged slots (Beyond blocks) input left =
-    IfSome input (λ bytes. (c : ConfigNumbers) × (first_config (whole_lines bytes) ≡ Some c) × (c.blocks ≡ blocks)
-    × (blocks < slots.slba + slots.blocks))
+IsUnjudged slots (Beyond blocks) input left = (1 ≤ slots.blocks) × IfSome input (IsBeyond slots blocks)
 
 -- By what a check of a file beside an area answered: its one line, and the reader at its end; nothing; or a beginning
--- of that line.
+-- of that line, and the reader at its end. But for `NoSlots` the area has a block.
 abbrev pub ChecksSlots : Range → Result Bool SlotsFault → (input left old new : Option (List ℕ)) → Type 0
 ChecksSlots slots (Ok answer) input left old new =
-    IsAtEnd left
+    (1 ≤ slots.blocks) × IsAtEnd left
     × IfSome input (λ bytes. (text : List ℕ) × IsSlotsAnswerOf slots bytes answer text × Appends old new text)
 ChecksSlots slots (Err (Run Output)) input left old new =
-    IfSome input (λ bytes. (answer : Bool) × (text : List ℕ) × IsSlotsAnswerOf slots bytes answer text
+    (1 ≤ slots.blocks) × IsAtEnd left
+    × IfSome input (λ bytes. (answer : Bool) × (text : List ℕ) × IsSlotsAnswerOf slots bytes answer text
     × AppendsFront old new text)
 ChecksSlots slots (Err fault) input left old new = IsUnjudged slots fault input left × Keeps old new
 
 -- The history is legal and keeps the discipline; or this is the first place at which it isn't legal, with the rule that
 -- is broken there; or it is legal, and this is the first step that breaks the discipline.
 abbrev pub IsExplainedSlots : ConfigNumbers → Range → Past → ExplainedSlots → Type 0
-IsExplainedSlots c slots past Legal = IsLegal c past × (disciplined c slots past ≡ true)
+IsExplainedSlots c slots past Legal = IsLegal c past × (takeover_disciplined c slots past ≡ true)
 IsExplainedSlots c slots past (BadAt step) =
     IsFirstBad c (reverse past) step.place × (first_rule c past ≡ Some step.broken)
 IsExplainedSlots c slots past (SlotsBadAt step) = IsUndisciplined c slots past step
@@ -84,7 +99,8 @@ IsExplainedSlots c slots past (SlotsBadAt step) = IsUndisciplined c slots past s
 -- By what was answered: what the history of the whole file is, or why it isn't said.
 abbrev pub ExplainsSlots : Range → Result ExplainedSlots SlotsFault → Option (List ℕ) → Option (List ℕ) → Type 0
 ExplainsSlots slots (Ok x) input left =
-    IsAtEnd left × IfSome input (HasHistory (λ c past. IsWithin c slots × IsExplainedSlots c slots past x))
+    (1 ≤ slots.blocks) × IsAtEnd left
+    × IfSome input (HasHistory (λ c past. IsWithin c slots × IsExplainedSlots c slots past x))
 ExplainsSlots slots (Err fault) input left = IsUnjudged slots fault input left
 
 -- the status with which the program ends

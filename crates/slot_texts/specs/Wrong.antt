@@ -1,7 +1,7 @@
 -- The first entry of a history that breaks the discipline of an area of slots.
 use Rattle.std.specs.Prelude.{Bool, None, Option, Some, [], false, length, true, ℕ, ◌++◌, ◌+◌, ◌∷◌, ◌≡◌}
 use Rattle.nvme_model.specs.History.{Past}
-use Rattle.nvme_model.specs.Slots.{disciplined}
+use Rattle.takeover_laws.specs.Rules.{takeover_disciplined}
 use Rattle.nvme_model.specs.declared.array.Range.{Range}
 use Rattle.nvme_model.specs.declared.config.ConfigNumbers.{ConfigNumbers}
 use Rattle.nvme_model.specs.declared.entry.Entry.{Entry}
@@ -21,8 +21,8 @@ pub record BreaksFirst (c : ConfigNumbers) (slots : Range) (past : Past) (step :
   pub before : Past
   pub whole : past ≡ later ++ entry ∷ before
   pub place : step.place ≡ length before + 1
-  pub kept : disciplined c slots before ≡ true
-  pub broken : disciplined c slots (entry ∷ before) ≡ false
+  pub kept : takeover_disciplined c slots before ≡ true
+  pub broken : takeover_disciplined c slots (entry ∷ before) ≡ false
   pub rule : discipline_broken c slots before entry ≡ Some step.broken
 
 -- the entry at this place, where it breaks a rule

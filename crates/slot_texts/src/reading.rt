@@ -1,6 +1,6 @@
 //! The text of a history, judged beside an area of slots.
 
-ghost use Rattle.std.specs.Prelude.{◌+◌, ◌≡◌, ◌≤◌, IfErr, IfOk, IfSome, IsTrue, ◌↔◌};
+ghost use Rattle.std.specs.Prelude.{◌+◌, ◌≡◌, ◌≤◌, IfErr, IfOk, IfSome, IsTrue, OnOk, ◌↔◌};
 ghost use Rattle.std.specs.Io.KnownBytes.{IsAtEnd};
 ghost use Rattle.casdisk_script.specs.Files.{HasHistory};
 ghost use Rattle.slot_texts.specs.Texts.{HasFound, IsUnjudged};
@@ -28,6 +28,7 @@ pub(crate) fn judge_slots<const WHY: bool, R: Read>(
 ) -> Result<JudgedSlots, SlotsFault>
     ensures whole { IfOk result (λ found. IsAtEnd (R.remaining reader.new)
         × IfSome (R.remaining reader.old) (HasHistory (λ c past. HasFound WHY c slots past found))) }
+    ensures slots { OnOk result (1 ≤ slots.blocks) }
     ensures unread { IfErr result
         (λ fault. IsUnjudged slots fault (R.remaining reader.old) (R.remaining reader.new)) }
 {

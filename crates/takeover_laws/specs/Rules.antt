@@ -83,5 +83,5 @@ takeover_line past q a dead n =
     record { queue = q; number = length (published_entries past q); lba = lba_of a; dead = dead; name = n }
 
 -- a claim or a takeover for this name stands in the slot area
-abbrev pub is_used : Range → Past → Name → Bool
-is_used slots past n = list_any (λ w. w.claims && same_name w.name n) (in_area slots (moves past))
+abbrev pub is_name_used : Range → Past → Name → Bool
+is_name_used slots past n = list_any (λ w. w.claims && same_name w.name n) (in_area slots (moves past))

@@ -14,7 +14,7 @@ ghost use Rattle.nvme_model.specs.declared.array.Range.{Range};
 ghost use Rattle.nvme_model.specs.declared.config.ConfigNumbers.{ConfigNumbers};
 ghost use Rattle.nvme_model.specs.declared.entry.Entry.{Entry};
 ghost use Rattle.nvme_model.specs.declared.entry.PublishLine.{PublishLine};
-ghost use Rattle.takeover_laws.specs.Rules.{IsFenced, IsTakeover, is_cut_off, is_used, keeps_takeover_discipline};
+ghost use Rattle.takeover_laws.specs.Rules.{IsFenced, IsTakeover, is_cut_off, is_name_used, keeps_takeover_discipline};
 ghost use Rattle.takeover_laws.specs.Rules.{takeover_disciplined, takeover_line, takes_right};
 ghost use Rattle.takeover_laws.specs.Takeovers.{is_given_on, still_believed, takeovers, takeovers_in};
 
@@ -42,7 +42,7 @@ pub fn a_host_that_is_taken_over_is_fenced()
 /// no Write and no Write Zeroes touches the slot area. Each beginning of a disciplined history is disciplined.
 pub fn the_takeover_discipline_is_kept()
     ensures claim { (c : ConfigNumbers) (slots : Range) (past : Past) (q : ℕ) (a b : Submission) (n : Name) →
-        IsClaim a b n → has_block slots (lba_of a) ≡ true → is_used slots past n ≡ false →
+        IsClaim a b n → has_block slots (lba_of a) ≡ true → is_name_used slots past n ≡ false →
         is_cut_off c slots past (completion_queue c q) ≡ false →
         keeps_takeover_discipline c slots past (pair_line q a b) ≡ true }
     ensures release { (c : ConfigNumbers) (slots : Range) (past : Past) (q : ℕ) (a b : Submission) (n : Name) →
@@ -51,7 +51,7 @@ pub fn the_takeover_discipline_is_kept()
         is_cut_off c slots past (completion_queue c q) ≡ false →
         keeps_takeover_discipline c slots past (pair_line q a b) ≡ true }
     ensures takeover { (c : ConfigNumbers) (slots : Range) (past : Past) (q : ℕ) (a b : Submission) (dead n : Name) →
-        IsTakeover a b dead n → has_block slots (lba_of a) ≡ true → is_used slots past n ≡ false →
+        IsTakeover a b dead n → has_block slots (lba_of a) ≡ true → is_name_used slots past n ≡ false →
         takes_right c past (takeover_line past q a dead n) ≡ true →
         is_cut_off c slots past (completion_queue c q) ≡ false →
         keeps_takeover_discipline c slots past (pair_line q a b) ≡ true }

@@ -9,7 +9,7 @@ use std::test::Fail;
 
 // What is said of the last of these lines.
 fn said(alloc: Global, lines: &[&[u8]]) -> Result<Option<BrokenDiscipline>, Fail> {
-    let config = Config::new(8, 1, 1, 0, 0, 2, 4, 4, 8)?;
+    let config = Config::new(8, 1, 1, 0, 0, 3, 4, 4, 8)?;
     let slots = Range { slba: 3, blocks: 2 };
     let mut area = AreaCheck::new(alloc, &config, slots);
     let entries = entries_of(alloc, lines)?;

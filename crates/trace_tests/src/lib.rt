@@ -9,6 +9,8 @@ mod sessions;
 #[cfg(test)]
 mod shared_queue;
 #[cfg(test)]
+mod takeovers;
+#[cfg(test)]
 mod texts;
 #[cfg(test)]
 mod verdicts;

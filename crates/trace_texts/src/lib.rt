@@ -5,4 +5,4 @@ mod laws;
 mod printing;
 
 pub use crate::laws::a_trace_goes_on_line_by_line;
-pub use crate::printing::{TracePrintFault, print_sight, print_trace};
+pub use crate::printing::{print_sight, print_trace};

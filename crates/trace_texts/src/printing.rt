@@ -1,8 +1,7 @@
 //! What hosts saw of a history as a text.
 
-ghost use Rattle.std.specs.Prelude.{◌++◌, ◌∷◌, [], OnErr, OnOk, reverse};
+ghost use Rattle.std.specs.Prelude.{◌∷◌, OnErr, OnOk, reverse};
 ghost use Rattle.std.specs.Io.KnownBytes.{Appends};
-ghost use Rattle.history.specs.ConfigLine.{config_line};
 ghost use Rattle.line_text.specs.Known.{AppendsFront};
 ghost use Rattle.nvme_model.specs.History.{Past};
 ghost use Rattle.nvme_model.specs.Legal.{IsLegal, IsLegalFile};
@@ -10,55 +9,13 @@ ghost use Rattle.seen_trace.specs.Observed.{shown};
 ghost use Rattle.trace_texts.specs.TraceText.{seen_text, trace_text};
 ghost use Rattle.witness_check.specs.Seeing.{AreWaitingPayloads, seen_of};
 
-use history::{Config, Entry, write_config_line, write_publish};
-use line_text::send_line;
+use history::{Config, Entry, write_publish};
+use history_text::{PrintFault, print_bytes, print_config};
 use seen_trace::Seen;
 use std::alloc::Global;
 use std::io::Write;
-use thiserror::Error;
 use trace_lines::write_seen;
 use witness_check::{Observer, Sight};
-
-/// Why a trace wasn't printed whole.
-#[derive(Clone, Copy, Debug, Drop, Error, PartialEq, Eq)]
-pub enum TracePrintFault {
-    /// Writing failed.
-    #[error("output failed")]
-    Output,
-    /// A growth was refused.
-    #[error("no memory")]
-    NoMemory,
-}
-
-// Writes a line at once.
-fn send_text<W: Write>(line: &[u8], writer: &mut W) -> Result<(), TracePrintFault>
-    ensures whole { OnOk result (Appends (W.contents writer.old) (W.contents writer.new) (line.now ++ 10 ∷ [])) }
-    ensures front { OnErr result
-        (AppendsFront (W.contents writer.old) (W.contents writer.new) (line.now ++ 10 ∷ [])) }
-{
-    match send_line(writer, line) {
-        Ok(()) => Ok(()),
-        Err(_) => Err(TracePrintFault::Output),
-    }
-}
-
-// Writes the configuration line, made in `line`.
-fn print_config<W: Write>(
-    config: &Config,
-    line: &mut Vec<u8>,
-    writer: &mut W,
-) -> Result<(), TracePrintFault>
-    ensures whole { OnOk result
-        (Appends (W.contents writer.old) (W.contents writer.new) (config_line config.now ++ 10 ∷ [])) }
-    ensures front { OnErr result
-        (AppendsFront (W.contents writer.old) (W.contents writer.new) (config_line config.now ++ 10 ∷ [])) }
-{
-    line.clear();
-    if write_config_line(&config.numbers(), line).is_err() {
-        return Err(TracePrintFault::NoMemory);
-    }
-    send_text(line.as_slice(), writer)
-}
 
 /// Writes the line of what hosts see of an entry, made in `line`; nothing where they see nothing.
 ///
@@ -70,7 +27,7 @@ pub fn print_sight<W: Write>(
     sight: Sight<'_>,
     line: &mut Vec<u8>,
     writer: &mut W,
-) -> Result<(), TracePrintFault>
+) -> Result<(), PrintFault>
     ensures whole { OnOk result
         (Appends (W.contents writer.old) (W.contents writer.new) (seen_text (seen_of sight.entry))) }
     ensures front { OnErr result
@@ -83,9 +40,9 @@ pub fn print_sight<W: Write>(
         Sight::Reaped(reaped) => write_seen(&Seen::Reaped(reaped), line),
     };
     if written.is_err() {
-        return Err(TracePrintFault::NoMemory);
+        return Err(PrintFault::NoMemory);
     }
-    send_text(line.as_slice(), writer)
+    print_bytes(line.as_slice(), writer)
 }
 
 // Writes the line of what hosts see of the next entry of a legal history.
@@ -95,7 +52,7 @@ fn print_next<W: Write>(
     entry: &Entry,
     line: &mut Vec<u8>,
     writer: &mut W,
-) -> Result<(), TracePrintFault>
+) -> Result<(), PrintFault>
     ensures whole { (past : Past) → IsLegal config.now (entry.now ∷ past) →
         AreWaitingPayloads config.now past observer.old → OnOk result
         (Appends (W.contents writer.old) (W.contents writer.new) (seen_text (shown config.now past entry.now))) }
@@ -110,7 +67,7 @@ fn print_next<W: Write>(
     let _accepted = config.numbers();
     match observer.take(entry) {
         Ok(sight) => print_sight(sight, line, writer),
-        Err(_) => Err(TracePrintFault::NoMemory),
+        Err(_) => Err(PrintFault::NoMemory),
     }
 }
 
@@ -124,7 +81,7 @@ pub fn print_trace<W: Write>(
     config: &Config,
     entries: &[Entry],
     writer: &mut W,
-) -> Result<(), TracePrintFault>
+) -> Result<(), PrintFault>
     requires legal { IsLegalFile config.now entries.now }
     ensures whole { OnOk result
         (Appends (W.contents writer.old) (W.contents writer.new) (trace_text config.now (reverse entries.now))) }
@@ -134,7 +91,7 @@ pub fn print_trace<W: Write>(
     let mut line = Vec::new(alloc);
     print_config(config, &mut line, writer)?;
     let Ok(mut observer) = Observer::new(alloc, config) else {
-        return Err(TracePrintFault::NoMemory);
+        return Err(PrintFault::NoMemory);
     };
     for k in 0..entries.len() {
         print_next(&mut observer, config, &entries[k], &mut line, writer)?;

@@ -7,12 +7,12 @@ use Rattle.nvme_model.specs.Steps.{is_ready, ready}
 use Rattle.nvme_model.specs.Tickets.{numbers_down, tickets}
 use Rattle.nvme_model.specs.declared.config.ConfigNumbers.{ConfigNumbers}
 use Rattle.nvme_model.specs.declared.step.Step.{Step}
-use Rattle.vandrexu_c.specs.Answers.{step_of}
-use Rattle.vandrexu_c.specs.declared.answers.ReadyStep.{ReadyStep}
+use Rattle.vandrexu_c.specs.Answers.{next_step_of}
+use Rattle.vandrexu_c.specs.declared.answers.NextStep.{NextStep}
 
 -- a step of a ticket
 abbrev IsOfTicket : Step → Type 0
-IsOfTicket s = (t : ReadyStep) × (step_of s ≡ Some t)
+IsOfTicket s = (t : NextStep) × (next_step_of s ≡ Some t)
 
 steps : ℕ → List Step
 steps t = Step.Grant t ∷ Step.Block t ∷ Step.Post t ∷ []
@@ -34,10 +34,10 @@ found p s (t ∷ ts) e =
     (found p s ts) (p (Step.Post t))) (p (Step.Block t))) (p (Step.Grant t)) e
 
 pub is_of_ticket : (c : ConfigNumbers) (past : Past) (s : Step) → ready c past ≡ Some s
-    → (t : ReadyStep) × (step_of s ≡ Some t)
+    → (t : NextStep) × (next_step_of s ≡ Some t)
 unfolding steps
 is_of_ticket c past s e = found (is_ready c past) s (reverse (numbers_down (tickets past))) e
 
 -- so it isn't none
-pub no_step : (s : Step) → (t : ReadyStep) × (step_of s ≡ Some t) → step_of s ≡ None → ⊥
+pub no_step : (s : Step) → (t : NextStep) × (next_step_of s ≡ Some t) → next_step_of s ≡ None → ⊥
 no_step s h n = let bad : None ≡ Some h.0 = sym n ∙ h.1 in cc

@@ -13,7 +13,7 @@ use Rattle.controller_steps.specs.declared.work.Kind.{Kind}
 use Rattle.vandrexu_c.specs.declared.answers.BlockedStep.{BlockedStep}
 use Rattle.vandrexu_c.specs.declared.answers.FetchedWork.{FetchedWork}
 use Rattle.vandrexu_c.specs.declared.answers.GrantedUnit.{GrantedUnit}
-use Rattle.vandrexu_c.specs.declared.answers.ReadyStep.{ReadyStep}
+use Rattle.vandrexu_c.specs.declared.answers.NextStep.{NextStep}
 
 -- the number of an operation
 abbrev pub op_number : Op → ℕ
@@ -49,8 +49,8 @@ kind_work t (Kind.Units o r) =
 kind_work t (Kind.Pair r) = record { ticket = t; slba = r.slba; blocks = r.blocks; kind = 4; op = 0; statuses = 0 }
 
 -- the work of a ticket
-abbrev pub work_of : TicketWork → FetchedWork
-work_of w = kind_work w.ticket w.kind
+abbrev pub fetched_work_of : TicketWork → FetchedWork
+fetched_work_of w = kind_work w.ticket w.kind
 
 -- a granted unit
 abbrev pub granted_of : ℕ → Range → Mode → GrantedUnit
@@ -67,11 +67,11 @@ blocked_of d = record {
 }
 
 -- a step of a ticket that goes on by itself; none for any other
-abbrev pub step_of : Step → Option ReadyStep
-step_of (Step.Grant t) = Some (record { ticket = t; kind = 2 })
-step_of (Step.Block t) = Some (record { ticket = t; kind = 3 })
-step_of (Step.Post t) = Some (record { ticket = t; kind = 4 })
-step_of _ = None
+abbrev pub next_step_of : Step → Option NextStep
+next_step_of (Step.Grant t) = Some (record { ticket = t; kind = 2 })
+next_step_of (Step.Block t) = Some (record { ticket = t; kind = 3 })
+next_step_of (Step.Post t) = Some (record { ticket = t; kind = 4 })
+next_step_of _ = None
 
 -- the number of a refusal
 abbrev pub refused_number : Refused → ℕ

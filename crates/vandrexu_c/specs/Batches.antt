@@ -3,7 +3,7 @@ use Rattle.std.specs.Prelude.{List, None, Option, Some, [], cond, drop, length, 
 use Rattle.std.specs.Prelude.{◌⊎◌}
 use Rattle.nvme_model.specs.declared.step.Step.{Step}
 use Rattle.nvme_model.specs.declared.submission.Submission.{Submission}
-use Rattle.vandrexu_c.specs.Machines.{MachineState}
+use Rattle.vandrexu_c.specs.OwnedStates.{OwnedState}
 use Rattle.vandrexu_c.specs.Steps.{TellsStep}
 use Rattle.vandrexu_c.specs.declared.batch.EntryBytes.{EntryBytes}
 
@@ -18,7 +18,7 @@ submissions_of (e ∷ es) bytes =
 
 -- These entries are published: refused by 106 where the data aren't theirs, or by 11 where memory for their copies is
 -- refused, and then nothing has changed; or the controller serves the Publish of just them.
-abbrev pub TellsPublish : MachineState → ℕ → List EntryBytes → List ℕ → ℕ → MachineState → Type 0
+abbrev pub TellsPublish : OwnedState → ℕ → List EntryBytes → List ℕ → ℕ → OwnedState → Type 0
 TellsPublish old queue entries bytes number new =
     ((number ≡ 106) × (submissions_of entries bytes ≡ None) × (new ≡ old))
     ⊎ ((number ≡ 11) × (new ≡ old))

@@ -36,8 +36,8 @@ legal_number true = 0
 legal_number false = 108
 
 -- An entry was offered: memory was refused, and it wasn't taken; or it was, and it is told whether all are legal.
-abbrev pub TellsEntry : CheckerRun → Entry → ℕ → CheckerRun → Type 0
-TellsEntry old e number new =
+abbrev pub TellsWhetherLegal : CheckerRun → Entry → ℕ → CheckerRun → Type 0
+TellsWhetherLegal old e number new =
     ((number ≡ 11) × (new ≡ old))
     ⊎ ((past : Past) → Stands old.config past old →
     (number ≡ legal_number (legal old.config (e ∷ past))) × Stands old.config (e ∷ past) new)
@@ -47,7 +47,7 @@ abbrev pub TellsTaken : CheckerRun → List ℕ → ℕ → CheckerRun → Type 
 TellsTaken old line number new =
     ((number ≡ 107) × (entry_in line ≡ None) × (new ≡ old))
     ⊎ ((number ≡ 11) × (new ≡ old))
-    ⊎ ((e : Entry) × (entry_in line ≡ Some e) × TellsEntry old e number new)
+    ⊎ ((e : Entry) × (entry_in line ≡ Some e) × TellsWhetherLegal old e number new)
 
 -- whether this entry, behind those that were taken, is legal
 abbrev pub IsNext : Bool → CheckerRun → Entry → Type 0

@@ -1,9 +1,9 @@
 pub mod Answers
 pub mod Batches
 pub mod Checkers
-pub mod Machines
-pub mod Numbers
+pub mod GivenConfig
 pub mod Owned
-pub mod OwnedJudge
+pub mod OwnedChecker
+pub mod OwnedStates
 pub mod Steps
 pub mod TextCalls

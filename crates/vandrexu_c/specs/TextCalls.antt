@@ -14,14 +14,14 @@ use Rattle.casdisk_script.specs.declared.fault.RunFault.TheVariants.{BadConfig, 
 use Rattle.observed_text.specs.Observing.{ObservesText}
 use Rattle.observed_text.specs.declared.answer.TraceAnswer.{TraceAnswer}
 use Rattle.observed_text.specs.declared.answer.TraceAnswer.TheVariants.{Explained, GaveUp, NotFound}
-use Rattle.vandrexu_c.specs.declared.texts.Told.{Told}
+use Rattle.vandrexu_c.specs.declared.texts.TextAnswer.{TextAnswer}
 
 -- a number, and the line that it is about, from 1; 0 for none
-abbrev pub told : ℕ → ℕ → Told
+abbrev pub told : ℕ → ℕ → TextAnswer
 told number line = record { number = number; line = line }
 
 -- Why a text wasn't read to its end. It lies in memory, and so does what is written: only want of memory can fail.
-abbrev pub told_fault : RunFault → Told
+abbrev pub told_fault : RunFault → TextAnswer
 told_fault (BadLine n) = told 107 n
 told_fault (BadConfig n) = told n 0
 told_fault Input = told 11 0
@@ -29,18 +29,18 @@ told_fault Output = told 11 0
 told_fault NoMemory = told 11 0
 
 -- what a run answered
-abbrev pub told_run : Result (Unit {0}) RunFault → Told
+abbrev pub told_run : Result (Unit {0}) RunFault → TextAnswer
 told_run (Ok done) = told 0 0
 told_run (Err fault) = told_fault fault
 
 -- what a check answered
-abbrev pub told_check : Result Bool RunFault → Told
+abbrev pub told_check : Result Bool RunFault → TextAnswer
 told_check (Ok true) = told 0 0
 told_check (Ok false) = told 108 0
 told_check (Err fault) = told_fault fault
 
 -- why the text of a history wasn't read, beside a trace's; of a configuration that is refused its first line is told
-abbrev pub told_history_fault : RunFault → Told
+abbrev pub told_history_fault : RunFault → TextAnswer
 told_history_fault (BadLine n) = told 110 n
 told_history_fault (BadConfig n) = told 110 1
 told_history_fault Input = told 11 0
@@ -48,20 +48,20 @@ told_history_fault Output = told 11 0
 told_history_fault NoMemory = told 11 0
 
 -- why a trace and a history weren't compared
-abbrev pub told_certify_fault : CertifyFault → Told
+abbrev pub told_certify_fault : CertifyFault → TextAnswer
 told_certify_fault (Trace fault) = told_fault fault
 told_certify_fault (History fault) = told_history_fault fault
 told_certify_fault OtherConfig = told 111 0
 told_certify_fault certify.Output = told 11 0
 
 -- what was answered about a trace and a history
-abbrev pub told_certify : Result Bool CertifyFault → Told
+abbrev pub told_certify : Result Bool CertifyFault → TextAnswer
 told_certify (Ok true) = told 0 0
 told_certify (Ok false) = told 109 0
 told_certify (Err fault) = told_certify_fault fault
 
 -- what was answered about a trace
-abbrev pub told_observe : Result TraceAnswer RunFault → Told
+abbrev pub told_observe : Result TraceAnswer RunFault → TextAnswer
 told_observe (Ok Explained) = told 0 0
 told_observe (Ok NotFound) = told 109 0
 told_observe (Ok GaveUp) = told 112 0
@@ -74,7 +74,7 @@ pub record GivesAll (text old new : List ℕ) (needed : ℕ) : Type 0 where
   pub short : length old < length text → new ≡ old
 
 -- a text is given with what is told; where the room is too short for it, that is told alone
-pub record GivesText (what : Told) (text old new : List ℕ) (needed line result : ℕ) : Type 0 where
+pub record GivesText (what : TextAnswer) (text old new : List ℕ) (needed line result : ℕ) : Type 0 where
   pub gives : GivesAll text old new needed
   pub line_is : line ≡ what.line
   pub done : length text ≤ length old → result ≡ what.number

@@ -3,7 +3,7 @@
 ghost use Rattle.std.specs.Prelude.{◌≡◌};
 ghost use Rattle.vandrexu_c.specs.Answers.{blocked_of, found_number, granted_of, mode_number, op_number};
 ghost use Rattle.vandrexu_c.specs.Answers.{refused_number};
-ghost use Rattle.vandrexu_c.specs.Answers.{step_of, work_of};
+ghost use Rattle.vandrexu_c.specs.Answers.{fetched_work_of, next_step_of};
 
 use controller_steps::{Kind, Refused, Step, Work};
 use nvme_model::array::{Mode, Range};
@@ -53,7 +53,7 @@ pub struct BlockedStep {
 /// A Grant, a Block or a Post of a ticket.
 #[repr(C)]
 #[derive(Clone, Copy)]
-pub struct ReadyStep {
+pub struct NextStep {
     pub ticket: u64,
     /// 2 for a Grant, 3 for a Block, 4 for a Post.
     pub kind: u32,
@@ -93,7 +93,7 @@ fn found_in(found: Found) -> u32
 
 /// The work of a ticket.
 pub(crate) fn work_in(work: &Work) -> FetchedWork
-    ensures { result ≡ work_of work.now }
+    ensures { result ≡ fetched_work_of work.now }
 {
     let none = FetchedWork {
         ticket: work.ticket(),
@@ -152,19 +152,19 @@ pub(crate) fn blocked_in(done: &Done) -> BlockedStep
 }
 
 /// The step that is ready, None where it is none of a ticket.
-pub(crate) fn step_in(step: &Step) -> Option<ReadyStep>
-    ensures { result ≡ step_of step.now }
+pub(crate) fn step_in(step: &Step) -> Option<NextStep>
+    ensures { result ≡ next_step_of step.now }
 {
     match step {
-        Step::Grant(ticket) => Some(ReadyStep {
+        Step::Grant(ticket) => Some(NextStep {
             ticket: *ticket,
             kind: 2,
         }),
-        Step::Block(ticket) => Some(ReadyStep {
+        Step::Block(ticket) => Some(NextStep {
             ticket: *ticket,
             kind: 3,
         }),
-        Step::Post(ticket) => Some(ReadyStep {
+        Step::Post(ticket) => Some(NextStep {
             ticket: *ticket,
             kind: 4,
         }),

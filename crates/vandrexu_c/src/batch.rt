@@ -3,7 +3,7 @@
 ghost use Rattle.std.specs.Prelude.{◌≡◌, ◌++◌, ◌⊎◌, IfErr, IfOk, None, OnOk, Some, List};
 ghost use Rattle.nvme_model.specs.declared.submission.Submission.{Submission as TheSubmission};
 ghost use Rattle.vandrexu_c.specs.Batches.{TellsPublish, submissions_of};
-ghost use Rattle.vandrexu_c.specs.Machines.{KeepsMachine, MachineState};
+ghost use Rattle.vandrexu_c.specs.OwnedStates.{KeepsOwned, OwnedState};
 
 use crate::controller::{NO_HANDLE, NO_MEMORY};
 use crate::held::{Handle, put_in, take_out};
@@ -87,21 +87,21 @@ pub extern "C" fn vandrexu_controller_publish(
     bytes: &[u8],
 ) -> u32
     ensures no_handle { controller.old.held.core ≡ None → (result ≡ 101) × (controller.new.held.core ≡ None) }
-    ensures publishes { (m : MachineState) → controller.old.held.core ≡ Some m →
-        KeepsMachine controller.new.held.core (TellsPublish m queue entries.now bytes.now result) }
+    ensures publishes { (m : OwnedState) → controller.old.held.core ≡ Some m →
+        KeepsOwned controller.new.held.core (TellsPublish m queue entries.now bytes.now result) }
 {
-    let Some(mut machine) = take_out(alloc, controller) else {
+    let Some(mut owned) = take_out(alloc, controller) else {
         return NO_HANDLE;
     };
     let batch = match batch_of(alloc, entries, bytes) {
         Ok(batch) => batch,
         Err(number) => {
-            put_in(controller, machine);
+            put_in(controller, owned);
             return number;
         }
     };
-    let done = machine.as_mut().publish(queue, batch);
-    put_in(controller, machine);
+    let done = owned.as_mut().publish(queue, batch);
+    put_in(controller, owned);
     match done {
         Ok(()) => 0,
         Err(number) => number,

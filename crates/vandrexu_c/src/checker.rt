@@ -5,12 +5,12 @@ ghost use Rattle.nvme_model.specs.declared.entry.Entry.{Entry as TheEntry};
 ghost use Rattle.history.specs.Lines.{entry_in};
 ghost use Rattle.history_check.specs.Kept.{CheckerRun, Stands};
 ghost use Rattle.vandrexu_c.specs.Checkers.{IsNewChecker, IsNext, KeepsChecker, MayRefuseChecker};
-ghost use Rattle.vandrexu_c.specs.Checkers.{TellsEntry, TellsNone, TellsTaken, TellsWhy};
-ghost use Rattle.vandrexu_c.specs.Numbers.{numbers_of};
+ghost use Rattle.vandrexu_c.specs.Checkers.{TellsWhetherLegal, TellsNone, TellsTaken, TellsWhy};
+ghost use Rattle.vandrexu_c.specs.GivenConfig.{given_numbers};
 
-use crate::configuration::{Numbers, config_of};
+use crate::configuration::{GivenConfig, config_of};
 use crate::controller::{IN_USE, NO_HANDLE, NO_MEMORY, TOO_SMALL};
-use crate::judge::{CheckerHandle, Judge, put_checker, take_checker};
+use crate::owned_checker::{CheckerHandle, OwnedChecker, put_checker, take_checker};
 use broken_rules::Broken;
 use history::{Config, Entry, LineFault, parse_line};
 use history_check::Checker;
@@ -21,11 +21,11 @@ pub(crate) const BAD_LINE: u32 = 107;
 pub(crate) const NOT_LEGAL: u32 = 108;
 
 // A checker in a box.
-fn judge_of(alloc: Global, config: &Config) -> Result<Box<Judge>, NoMemory>
+fn own_checker(alloc: Global, config: &Config) -> Result<Box<OwnedChecker>, NoMemory>
     ensures { IfOk result (λ b. Stands config.now [] b.value) }
 {
     let checker = Checker::new(alloc, config)?;
-    Ok(Box::new(alloc, Judge { checker })?)
+    Ok(Box::new(alloc, OwnedChecker { checker })?)
 }
 
 /// Makes a checker of histories of this configuration that has taken no line, and puts it into the handle: 0; or the
@@ -35,12 +35,12 @@ fn judge_of(alloc: Global, config: &Config) -> Result<Box<Judge>, NoMemory>
 #[tactic(auto, using(crate::proofs::Marks::no_checker_of))]
 pub extern "C" fn vandrexu_checker_new(
     alloc: Global,
-    config: &Numbers,
+    config: &GivenConfig,
     checker: &mut CheckerHandle,
 ) -> u32
-    ensures done { result ≡ 0 → IsNewChecker (numbers_of config.now) checker.new.held.run }
+    ensures done { result ≡ 0 → IsNewChecker (given_numbers config.now) checker.new.held.run }
     ensures failed { (result ≡ 0 → ⊥) → checker.new.held.run ≡ checker.old.held.run }
-    ensures cause { (result ≡ 0 → ⊥) → MayRefuseChecker (numbers_of config.now) checker.old.held.run result }
+    ensures cause { (result ≡ 0 → ⊥) → MayRefuseChecker (given_numbers config.now) checker.old.held.run result }
 {
     if checker.live != 0 {
         return IN_USE;
@@ -49,10 +49,10 @@ pub extern "C" fn vandrexu_checker_new(
         Ok(accepted) => accepted,
         Err(fault) => return u32::from(fault.number()),
     };
-    let Ok(judge) = judge_of(alloc, &accepted) else {
+    let Ok(owned) = own_checker(alloc, &accepted) else {
         return NO_MEMORY;
     };
-    put_checker(checker, judge);
+    put_checker(checker, owned);
     0
 }
 
@@ -66,7 +66,7 @@ pub extern "C" fn vandrexu_checker_free(alloc: Global, checker: &mut CheckerHand
 
 // Takes an entry behind those that were taken: a fault, or whether all are legal, by its number.
 fn judged(checker: &mut Checker, entry: &Entry) -> u32
-    ensures { TellsEntry checker.old entry.now result checker.new }
+    ensures { TellsWhetherLegal checker.old entry.now result checker.new }
 {
     match checker.take(entry) {
         Ok(true) => 0,
@@ -99,11 +99,11 @@ pub extern "C" fn vandrexu_checker_take_line(
     ensures takes { (r : CheckerRun) → checker.old.held.run ≡ Some r →
         KeepsChecker checker.new.held.run (TellsTaken r line.now result) }
 {
-    let Some(mut judge) = take_checker(alloc, checker) else {
+    let Some(mut owned) = take_checker(alloc, checker) else {
         return NO_HANDLE;
     };
-    let number = taken(alloc, &mut judge.as_mut().checker, line);
-    put_checker(checker, judge);
+    let number = taken(alloc, &mut owned.as_mut().checker, line);
+    put_checker(checker, owned);
     number
 }
 
@@ -161,11 +161,11 @@ pub extern "C" fn vandrexu_checker_why(
         TellsWhy r line.now (length out.old) result needed.new }
     ensures kept { (result ≡ 108 → ⊥) → out.new ≡ out.old }
 {
-    let Some(judge) = take_checker(alloc, checker) else {
+    let Some(owned) = take_checker(alloc, checker) else {
         return NO_HANDLE;
     };
-    let told = why_of(alloc, &judge.as_ref().checker, line);
-    put_checker(checker, judge);
+    let told = why_of(alloc, &owned.as_ref().checker, line);
+    put_checker(checker, owned);
     let words = match told {
         Ok(words) => words,
         Err(number) => return number,

@@ -2,7 +2,7 @@
 
 ghost use Rattle.std.specs.Prelude.{◌≡◌, IfErr, IfOk, None, OnOk, Some};
 ghost use Rattle.nvme_model.specs.Config.{config_fault};
-ghost use Rattle.vandrexu_c.specs.Numbers.{fault_number, numbers_of};
+ghost use Rattle.vandrexu_c.specs.GivenConfig.{fault_number, given_numbers};
 
 use history::Config;
 use nvme_model::config::{AtomicParameters, ConfigFault, ConfigNumbers};
@@ -10,7 +10,7 @@ use nvme_model::config::{AtomicParameters, ConfigFault, ConfigNumbers};
 /// The numbers of a configuration, as they lie in C.
 #[repr(C)]
 #[derive(Clone, Copy)]
-pub struct Numbers {
+pub struct GivenConfig {
     pub blocks: u32,
     pub awun: u16,
     pub acwu: u16,
@@ -24,8 +24,8 @@ pub struct Numbers {
 }
 
 // The same numbers.
-fn numbers_in(numbers: &Numbers) -> ConfigNumbers
-    ensures { result ≡ numbers_of numbers.now }
+fn numbers_in(numbers: &GivenConfig) -> ConfigNumbers
+    ensures { result ≡ given_numbers numbers.now }
 {
     ConfigNumbers {
         blocks: numbers.blocks,
@@ -44,18 +44,18 @@ fn numbers_in(numbers: &Numbers) -> ConfigNumbers
 }
 
 /// The configuration of these numbers.
-pub(crate) fn config_of(numbers: &Numbers) -> Result<Config, ConfigFault>
-    ensures value { IfOk result (λ c. c ≡ numbers_of numbers.now) }
-    ensures accepted { OnOk result (config_fault (numbers_of numbers.now) ≡ None) }
-    ensures fault { IfErr result (λ f. config_fault (numbers_of numbers.now) ≡ Some f) }
+pub(crate) fn config_of(numbers: &GivenConfig) -> Result<Config, ConfigFault>
+    ensures value { IfOk result (λ c. c ≡ given_numbers numbers.now) }
+    ensures accepted { OnOk result (config_fault (given_numbers numbers.now) ≡ None) }
+    ensures fault { IfErr result (λ f. config_fault (given_numbers numbers.now) ≡ Some f) }
 {
     Config::from_numbers(&numbers_in(numbers))
 }
 
 /// 0 where the configuration is accepted, else its first fault, 21 to 30.
 #[unsafe(no_mangle)]
-pub extern "C" fn vandrexu_config_fault(config: &Numbers) -> u32
-    ensures { result ≡ fault_number (config_fault (numbers_of config.now)) }
+pub extern "C" fn vandrexu_config_fault(config: &GivenConfig) -> u32
+    ensures { result ≡ fault_number (config_fault (given_numbers config.now)) }
 {
     match config_of(config) {
         Ok(_) => 0,

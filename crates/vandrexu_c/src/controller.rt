@@ -2,12 +2,12 @@
 
 ghost use Rattle.std.specs.Prelude.{◌++◌, ◌≡◌, ◌<◌, ◌≤◌, IfOk, None, Some, [], drop, length};
 ghost use Rattle.nvme_model.specs.Medium.{medium};
-ghost use Rattle.vandrexu_c.specs.Machines.{IsNew, KeepsMachine, MachineState, MayRefuse, Reserves};
-ghost use Rattle.vandrexu_c.specs.Numbers.{numbers_of};
+ghost use Rattle.vandrexu_c.specs.OwnedStates.{IsNewController, KeepsOwned, OwnedState, MayRefuse, Reserves};
+ghost use Rattle.vandrexu_c.specs.GivenConfig.{given_numbers};
 
-use crate::configuration::{Numbers, config_of};
+use crate::configuration::{GivenConfig, config_of};
 use crate::held::{Handle, put_in, take_out};
-use crate::machine::Machine;
+use crate::owned_controller::OwnedController;
 use std::alloc::{AllocError as NoMemory, Global};
 use step_core::Core;
 
@@ -22,14 +22,14 @@ pub(crate) const TOO_SMALL: u32 = 103;
 const NO_BLOCK: u32 = 104;
 
 // A controller in a box.
-fn machine_of(alloc: Global, core: Core) -> Result<Box<Machine>, NoMemory>
+fn own_controller(alloc: Global, core: Core) -> Result<Box<OwnedController>, NoMemory>
     ensures { IfOk result (λ b. (b.value.core ≡ core) × (b.value.payload ≡ [])) }
 {
-    let machine = Machine {
+    let owned = OwnedController {
         core,
         payload: Vec::new(alloc),
     };
-    Ok(Box::new(alloc, machine)?)
+    Ok(Box::new(alloc, owned)?)
 }
 
 /// Makes a controller with no history and blocks of zeros, and puts it into the handle: 0; or the first fault of the
@@ -39,12 +39,12 @@ fn machine_of(alloc: Global, core: Core) -> Result<Box<Machine>, NoMemory>
 #[tactic(auto, using(crate::proofs::Marks::none_of))]
 pub extern "C" fn vandrexu_controller_new(
     alloc: Global,
-    config: &Numbers,
+    config: &GivenConfig,
     controller: &mut Handle,
 ) -> u32
-    ensures done { result ≡ 0 → IsNew (numbers_of config.now) controller.new.held.core }
+    ensures done { result ≡ 0 → IsNewController (given_numbers config.now) controller.new.held.core }
     ensures failed { (result ≡ 0 → ⊥) → controller.new.held.core ≡ controller.old.held.core }
-    ensures cause { (result ≡ 0 → ⊥) → MayRefuse (numbers_of config.now) controller.old.held.core result }
+    ensures cause { (result ≡ 0 → ⊥) → MayRefuse (given_numbers config.now) controller.old.held.core result }
 {
     if controller.live != 0 {
         return IN_USE;
@@ -56,10 +56,10 @@ pub extern "C" fn vandrexu_controller_new(
     let Ok(core) = Core::new(alloc, accepted) else {
         return NO_MEMORY;
     };
-    let Ok(machine) = machine_of(alloc, core) else {
+    let Ok(owned) = own_controller(alloc, core) else {
         return NO_MEMORY;
     };
-    put_in(controller, machine);
+    put_in(controller, owned);
     0
 }
 
@@ -80,14 +80,14 @@ pub extern "C" fn vandrexu_controller_reserve(
     more: usize,
 ) -> u32
     ensures no_handle { controller.old.held.core ≡ None → (result ≡ 101) × (controller.new.held.core ≡ None) }
-    ensures reserves { (m : MachineState) → controller.old.held.core ≡ Some m →
-        KeepsMachine controller.new.held.core (λ n. Reserves m more result n) }
+    ensures reserves { (m : OwnedState) → controller.old.held.core ≡ Some m →
+        KeepsOwned controller.new.held.core (λ n. Reserves m more result n) }
 {
-    let Some(mut machine) = take_out(alloc, controller) else {
+    let Some(mut owned) = take_out(alloc, controller) else {
         return NO_HANDLE;
     };
-    let done = machine.as_mut().core.reserve(more);
-    put_in(controller, machine);
+    let done = owned.as_mut().core.reserve(more);
+    put_in(controller, owned);
     match done {
         Ok(()) => 0,
         Err(_) => NO_MEMORY,
@@ -105,17 +105,17 @@ pub extern "C" fn vandrexu_controller_medium(
 ) -> u32
     ensures no_handle { controller.old.held.core ≡ None → result ≡ 101 }
     ensures same { controller.new.held.core ≡ controller.old.held.core }
-    ensures no_block { (m : MachineState) → controller.old.held.core ≡ Some m →
+    ensures no_block { (m : OwnedState) → controller.old.held.core ≡ Some m →
         m.core.config.blocks ≤ lba → result ≡ 104 }
-    ensures block { (m : MachineState) → controller.old.held.core ≡ Some m →
+    ensures block { (m : OwnedState) → controller.old.held.core ≡ Some m →
         lba < m.core.config.blocks → (result ≡ 0) × (out.new ≡ medium m.core.past lba) }
     ensures kept { (result ≡ 0 → ⊥) → out.new ≡ out.old }
 {
-    let Some(machine) = take_out(alloc, controller) else {
+    let Some(owned) = take_out(alloc, controller) else {
         return NO_HANDLE;
     };
-    let found = machine.as_ref().core.medium(lba).copied();
-    put_in(controller, machine);
+    let found = owned.as_ref().core.medium(lba).copied();
+    put_in(controller, owned);
     match found {
         Some(block) => {
             *out = block;
@@ -137,23 +137,23 @@ pub extern "C" fn vandrexu_controller_data(
 ) -> u32
     ensures no_handle { controller.old.held.core ≡ None → result ≡ 101 }
     ensures same { controller.new.held.core ≡ controller.old.held.core }
-    ensures done { (m : MachineState) → controller.old.held.core ≡ Some m → result ≡ 0 →
+    ensures done { (m : OwnedState) → controller.old.held.core ≡ Some m → result ≡ 0 →
         (needed.new ≡ length m.payload) × (out.new ≡ m.payload ++ drop (length m.payload) out.old) }
-    ensures too_small { (m : MachineState) → controller.old.held.core ≡ Some m → (result ≡ 0 → ⊥) →
+    ensures too_small { (m : OwnedState) → controller.old.held.core ≡ Some m → (result ≡ 0 → ⊥) →
         (result ≡ 103) × (needed.new ≡ length m.payload) × (length out.old < length m.payload) }
     ensures kept { (result ≡ 0 → ⊥) → out.new ≡ out.old }
 {
-    let Some(machine) = take_out(alloc, controller) else {
+    let Some(owned) = take_out(alloc, controller) else {
         return NO_HANDLE;
     };
-    let count = machine.as_ref().payload.len();
+    let count = owned.as_ref().payload.len();
     *needed = count;
     if out.len() < count {
-        put_in(controller, machine);
+        put_in(controller, owned);
         return TOO_SMALL;
     }
-    out[..count].copy_from_slice(machine.as_ref().payload.as_slice());
-    put_in(controller, machine);
+    out[..count].copy_from_slice(owned.as_ref().payload.as_slice());
+    put_in(controller, owned);
     0
 }
 
@@ -166,15 +166,15 @@ pub extern "C" fn vandrexu_controller_history_count(
 ) -> u32
     ensures no_handle { controller.old.held.core ≡ None → result ≡ 101 }
     ensures same { controller.new.held.core ≡ controller.old.held.core }
-    ensures done { (m : MachineState) → controller.old.held.core ≡ Some m →
+    ensures done { (m : OwnedState) → controller.old.held.core ≡ Some m →
         (result ≡ 0) × (count.new ≡ length m.core.past) }
     ensures kept { (result ≡ 0 → ⊥) → count.new ≡ count.old }
 {
-    let Some(machine) = take_out(alloc, controller) else {
+    let Some(owned) = take_out(alloc, controller) else {
         return NO_HANDLE;
     };
-    let entries = machine.as_ref().core.history().len() as u64;
-    put_in(controller, machine);
+    let entries = owned.as_ref().core.history().len() as u64;
+    put_in(controller, owned);
     *count = entries;
     0
 }

@@ -1,9 +1,9 @@
 //! A handle: it lies in the caller's memory, and owns a controller or nothing.
 
 ghost use Rattle.std.specs.Prelude.{◌≡◌, ◌<◌, MatchOption, None, Option, Some};
-ghost use Rattle.vandrexu_c.specs.Machines.{MachineState, mark};
+ghost use Rattle.vandrexu_c.specs.OwnedStates.{OwnedState, mark};
 
-use crate::machine::Machine;
+use crate::owned_controller::OwnedController;
 use box_parts::Parts;
 use std::alloc::Global;
 use std::marker::{Model, Send};
@@ -13,7 +13,7 @@ use std::marker::{Model, Send};
 #[derive(Drop)]
 pub struct Held {
     at: *mut u8,
-    ghost core: { Option MachineState },
+    ghost core: { Option OwnedState },
 }
 
 impl Model for Held {
@@ -34,20 +34,20 @@ impl Held {
         }
     }
 
-    pub(crate) fn of(parts: Parts<Machine, Global>) -> Held
+    pub(crate) fn of(parts: Parts<OwnedController, Global>) -> Held
         ensures { result.core ≡ Some parts.value }
     {
         let Parts { ptr, alloc: _ } = parts;
         Held { at: ptr as *mut u8 }
     }
 
-    pub(crate) fn into_parts(self, alloc: Global) -> Parts<Machine, Global>
+    pub(crate) fn into_parts(self, alloc: Global) -> Parts<OwnedController, Global>
         requires { 0 < mark self.core }
         ensures { self.core ≡ Some result.value }
     {
         let Held { at } = self;
         Parts {
-            ptr: at as *mut Machine,
+            ptr: at as *mut OwnedController,
             alloc,
         }
     }
@@ -63,7 +63,7 @@ pub struct Handle {
 
 // Takes the controller out of a handle.
 #[tactic(auto, using(crate::proofs::Marks::none_of))]
-pub(crate) fn take_out(alloc: Global, handle: &mut Handle) -> Option<Box<Machine>>
+pub(crate) fn take_out(alloc: Global, handle: &mut Handle) -> Option<Box<OwnedController>>
     ensures value { MatchOption result (handle.old.held.core ≡ None) (λ b. handle.old.held.core ≡ Some b.value) }
     ensures emptied { handle.new.held.core ≡ None }
 {
@@ -79,12 +79,12 @@ pub(crate) fn take_out(alloc: Global, handle: &mut Handle) -> Option<Box<Machine
 }
 
 // Puts a controller into a handle that has none.
-pub(crate) fn put_in(handle: &mut Handle, machine: Box<Machine>)
+pub(crate) fn put_in(handle: &mut Handle, owned: Box<OwnedController>)
     requires { handle.old.held.core ≡ None }
-    ensures { handle.new.held.core ≡ Some machine.value }
+    ensures { handle.new.held.core ≡ Some owned.value }
 {
     let full = Handle {
-        held: Held::of(Parts::of(machine)),
+        held: Held::of(Parts::of(owned)),
         live: 1,
     };
     let Handle { held: _, live: _ } = std::mem::replace(handle, full);

@@ -3,10 +3,11 @@
 ghost use Rattle.std.specs.Prelude.{◌≡◌, None, Some};
 ghost use Rattle.nvme_model.specs.Steps.{ready};
 ghost use Rattle.nvme_model.specs.declared.step.Step.{Step as TheStep};
-ghost use Rattle.vandrexu_c.specs.Machines.{KeepsMachine, MachineState};
-ghost use Rattle.vandrexu_c.specs.Steps.{IsBlocked, IsFetched, IsGranted, IsPosted, TellsReady, TellsReap, TellsStep};
+ghost use Rattle.vandrexu_c.specs.OwnedStates.{KeepsOwned, OwnedState};
+ghost use Rattle.vandrexu_c.specs.Steps.{TellsBlocked, TellsFetched, TellsGranted, TellsPosted, TellsReady};
+ghost use Rattle.vandrexu_c.specs.Steps.{TellsReap, TellsStep};
 
-use crate::answers::{BlockedStep, FetchedWork, GrantedUnit, ReadyStep, step_in};
+use crate::answers::{BlockedStep, FetchedWork, GrantedUnit, NextStep, step_in};
 use crate::controller::NO_HANDLE;
 use crate::held::{Handle, put_in, take_out};
 use std::alloc::Global;
@@ -24,15 +25,15 @@ pub extern "C" fn vandrexu_controller_fetch(
     work: &mut FetchedWork,
 ) -> u32
     ensures no_handle { controller.old.held.core ≡ None → (result ≡ 101) × (controller.new.held.core ≡ None) }
-    ensures serves { (m : MachineState) → controller.old.held.core ≡ Some m →
-        KeepsMachine controller.new.held.core (TellsStep m (TheStep.Fetch queue) (IsFetched work.new) result) }
+    ensures serves { (m : OwnedState) → controller.old.held.core ≡ Some m →
+        KeepsOwned controller.new.held.core (TellsStep m (TheStep.Fetch queue) (TellsFetched work.new) result) }
     ensures kept { (result ≡ 0 → ⊥) → work.new ≡ work.old }
 {
-    let Some(mut machine) = take_out(alloc, controller) else {
+    let Some(mut owned) = take_out(alloc, controller) else {
         return NO_HANDLE;
     };
-    let done = machine.as_mut().fetch(queue);
-    put_in(controller, machine);
+    let done = owned.as_mut().fetch(queue);
+    put_in(controller, owned);
     match done {
         Ok(told) => {
             *work = told;
@@ -53,15 +54,15 @@ pub extern "C" fn vandrexu_controller_grant(
     granted: &mut GrantedUnit,
 ) -> u32
     ensures no_handle { controller.old.held.core ≡ None → (result ≡ 101) × (controller.new.held.core ≡ None) }
-    ensures serves { (m : MachineState) → controller.old.held.core ≡ Some m →
-        KeepsMachine controller.new.held.core (TellsStep m (TheStep.Grant ticket) (IsGranted granted.new) result) }
+    ensures serves { (m : OwnedState) → controller.old.held.core ≡ Some m →
+        KeepsOwned controller.new.held.core (TellsStep m (TheStep.Grant ticket) (TellsGranted granted.new) result) }
     ensures kept { (result ≡ 0 → ⊥) → granted.new ≡ granted.old }
 {
-    let Some(mut machine) = take_out(alloc, controller) else {
+    let Some(mut owned) = take_out(alloc, controller) else {
         return NO_HANDLE;
     };
-    let done = machine.as_mut().grant(ticket);
-    put_in(controller, machine);
+    let done = owned.as_mut().grant(ticket);
+    put_in(controller, owned);
     match done {
         Ok(told) => {
             *granted = told;
@@ -82,15 +83,15 @@ pub extern "C" fn vandrexu_controller_block(
     blocked: &mut BlockedStep,
 ) -> u32
     ensures no_handle { controller.old.held.core ≡ None → (result ≡ 101) × (controller.new.held.core ≡ None) }
-    ensures serves { (m : MachineState) → controller.old.held.core ≡ Some m →
-        KeepsMachine controller.new.held.core (TellsStep m (TheStep.Block ticket) (IsBlocked blocked.new) result) }
+    ensures serves { (m : OwnedState) → controller.old.held.core ≡ Some m →
+        KeepsOwned controller.new.held.core (TellsStep m (TheStep.Block ticket) (TellsBlocked blocked.new) result) }
     ensures kept { (result ≡ 0 → ⊥) → blocked.new ≡ blocked.old }
 {
-    let Some(mut machine) = take_out(alloc, controller) else {
+    let Some(mut owned) = take_out(alloc, controller) else {
         return NO_HANDLE;
     };
-    let done = machine.as_mut().block(ticket);
-    put_in(controller, machine);
+    let done = owned.as_mut().block(ticket);
+    put_in(controller, owned);
     match done {
         Ok(told) => {
             *blocked = told;
@@ -111,15 +112,15 @@ pub extern "C" fn vandrexu_controller_post(
     cqe: &mut [u8; 16],
 ) -> u32
     ensures no_handle { controller.old.held.core ≡ None → (result ≡ 101) × (controller.new.held.core ≡ None) }
-    ensures serves { (m : MachineState) → controller.old.held.core ≡ Some m →
-        KeepsMachine controller.new.held.core (TellsStep m (TheStep.Post ticket) (IsPosted cqe.new) result) }
+    ensures serves { (m : OwnedState) → controller.old.held.core ≡ Some m →
+        KeepsOwned controller.new.held.core (TellsStep m (TheStep.Post ticket) (TellsPosted cqe.new) result) }
     ensures kept { (result ≡ 0 → ⊥) → cqe.new ≡ cqe.old }
 {
-    let Some(mut machine) = take_out(alloc, controller) else {
+    let Some(mut owned) = take_out(alloc, controller) else {
         return NO_HANDLE;
     };
-    let done = machine.as_mut().post(ticket);
-    put_in(controller, machine);
+    let done = owned.as_mut().post(ticket);
+    put_in(controller, owned);
     match done {
         Ok(told) => {
             *cqe = told;
@@ -142,16 +143,16 @@ pub extern "C" fn vandrexu_controller_reap(
     count: &mut usize,
 ) -> u32
     ensures no_handle { controller.old.held.core ≡ None → (result ≡ 101) × (controller.new.held.core ≡ None) }
-    ensures serves { (m : MachineState) → controller.old.held.core ≡ Some m →
-        KeepsMachine controller.new.held.core (TellsReap m (TheStep.Reap queue) cqe.new count.new result) }
+    ensures serves { (m : OwnedState) → controller.old.held.core ≡ Some m →
+        KeepsOwned controller.new.held.core (TellsReap m (TheStep.Reap queue) cqe.new count.new result) }
     ensures kept { (result ≡ 0 → ⊥) → (cqe.new ≡ cqe.old) × (count.new ≡ count.old) }
 {
-    let Some(mut machine) = take_out(alloc, controller) else {
+    let Some(mut owned) = take_out(alloc, controller) else {
         return NO_HANDLE;
     };
-    let done = machine.as_mut().reap(queue);
-    let length = machine.as_ref().payload.len();
-    put_in(controller, machine);
+    let done = owned.as_mut().reap(queue);
+    let length = owned.as_ref().payload.len();
+    put_in(controller, owned);
     match done {
         Ok(taken) => {
             *cqe = taken;
@@ -168,19 +169,19 @@ pub extern "C" fn vandrexu_controller_reap(
 pub extern "C" fn vandrexu_controller_ready(
     alloc: Global,
     controller: &mut Handle,
-    step: &mut ReadyStep,
+    step: &mut NextStep,
 ) -> u32
     ensures no_handle { controller.old.held.core ≡ None → result ≡ 101 }
     ensures same { controller.new.held.core ≡ controller.old.held.core }
-    ensures tells { (m : MachineState) → controller.old.held.core ≡ Some m →
+    ensures tells { (m : OwnedState) → controller.old.held.core ≡ Some m →
         TellsReady (ready m.core.config m.core.past) result step.new }
     ensures kept { (result ≡ 0 → ⊥) → step.new ≡ step.old }
 {
-    let Some(machine) = take_out(alloc, controller) else {
+    let Some(owned) = take_out(alloc, controller) else {
         return NO_HANDLE;
     };
-    let found = machine.as_ref().core.ready();
-    put_in(controller, machine);
+    let found = owned.as_ref().core.ready();
+    put_in(controller, owned);
     let Some(next) = found else {
         return NOTHING_READY;
     };

@@ -25,24 +25,24 @@ const GAVE_UP: u32 = 112;
 
 /// What a call answers: its number, and the line that this is about, from 1; 0 for none.
 #[derive(Clone, Copy)]
-pub(crate) struct Told {
+pub(crate) struct TextAnswer {
     pub(crate) number: u32,
     pub(crate) line: u64,
 }
 
 // No line is told.
-fn plain(number: u32) -> Told
+fn plain(number: u32) -> TextAnswer
     ensures { (result.number ≡ number) × (result.line ≡ 0) }
 {
-    Told { number, line: 0 }
+    TextAnswer { number, line: 0 }
 }
 
 // Why a text wasn't read to its end.
-fn told_fault(fault: RunFault) -> Told
+fn told_fault(fault: RunFault) -> TextAnswer
     ensures { result ≡ told_fault fault }
 {
     match fault {
-        RunFault::BadLine(line) => Told {
+        RunFault::BadLine(line) => TextAnswer {
             number: BAD_LINE,
             line,
         },
@@ -52,7 +52,7 @@ fn told_fault(fault: RunFault) -> Told
 }
 
 // What a run answered.
-fn told_run(done: Result<(), RunFault>) -> Told
+fn told_run(done: Result<(), RunFault>) -> TextAnswer
     ensures { result ≡ told_run done }
 {
     match done {
@@ -62,7 +62,7 @@ fn told_run(done: Result<(), RunFault>) -> Told
 }
 
 // What a check answered.
-fn told_check(done: Result<bool, RunFault>) -> Told
+fn told_check(done: Result<bool, RunFault>) -> TextAnswer
     ensures { result ≡ told_check done }
 {
     match done {
@@ -73,15 +73,15 @@ fn told_check(done: Result<bool, RunFault>) -> Told
 }
 
 // Why the text of a history wasn't read, beside a trace's.
-fn told_history_fault(fault: RunFault) -> Told
+fn told_history_fault(fault: RunFault) -> TextAnswer
     ensures { result ≡ told_history_fault fault }
 {
     match fault {
-        RunFault::BadLine(line) => Told {
+        RunFault::BadLine(line) => TextAnswer {
             number: BAD_HISTORY,
             line,
         },
-        RunFault::BadConfig(_) => Told {
+        RunFault::BadConfig(_) => TextAnswer {
             number: BAD_HISTORY,
             line: 1,
         },
@@ -90,7 +90,7 @@ fn told_history_fault(fault: RunFault) -> Told
 }
 
 // Why a trace and a history weren't compared.
-fn told_certify_fault(fault: CertifyFault) -> Told
+fn told_certify_fault(fault: CertifyFault) -> TextAnswer
     ensures { result ≡ told_certify_fault fault }
 {
     match fault {
@@ -102,7 +102,7 @@ fn told_certify_fault(fault: CertifyFault) -> Told
 }
 
 // What was answered about a trace and a history.
-fn told_certify(done: Result<bool, CertifyFault>) -> Told
+fn told_certify(done: Result<bool, CertifyFault>) -> TextAnswer
     ensures { result ≡ told_certify done }
 {
     match done {
@@ -113,7 +113,7 @@ fn told_certify(done: Result<bool, CertifyFault>) -> Told
 }
 
 // What was answered about a trace.
-fn told_observe(done: Result<TraceAnswer, RunFault>) -> Told
+fn told_observe(done: Result<TraceAnswer, RunFault>) -> TextAnswer
     ensures { result ≡ told_observe done }
 {
     match done {
@@ -140,7 +140,7 @@ fn fits(text: &[u8], out: &mut [u8], needed: &mut usize) -> bool
 }
 
 // Gives a text, with what is told; where the room is too short for it, that is told alone.
-fn give(what: Told, text: &[u8], out: &mut [u8], needed: &mut usize, line: &mut u64) -> u32
+fn give(what: TextAnswer, text: &[u8], out: &mut [u8], needed: &mut usize, line: &mut u64) -> u32
     ensures { GivesText what text.now out.old out.new needed.new line.new result }
 {
     *line = what.line;

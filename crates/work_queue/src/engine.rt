@@ -227,7 +227,7 @@ impl Engine {
     /// The controller, closed with all its passes, in the order in which `new` gave them: its history is what one of
     /// them has seen.
     ///
-    /// None where the lock wasn't free, and where no pass is given.
+    /// None where no pass is given.
     pub fn close_all(self, passes: Vec<Pass<Core>>) -> Option<Core>
         requires all { (k : ℕ) (p : Pass ControllerState) → slice_get passes.items k ≡ Some p
             → IsPassOfEngine self p × (number p ≡ k + 1) × (passes_of p ≡ vec_len passes) }
@@ -235,7 +235,7 @@ impl Engine {
             → core.config ≡ config_of p) }
         ensures legal { IfSome result (λ core. ControllerInvariant core.config core.past) }
         ensures whole { IfSome result (λ core. IsSeenWhole passes.items core.past) }
-        ensures alone { vec_len passes ≡ 1 → IsSome result }
+        ensures some { 0 < vec_len passes → IsSome result }
     {
         self.shared.close_all(passes)
     }

@@ -45,6 +45,15 @@ pub fn writes(numbers: Numbers, blocks: u16, count: usize) -> List {
     list
 }
 
+/// A script as bench/scripts has it: so many Writes of one block, four lines for each, one of them `settle`.
+pub fn settled(count: usize) -> String {
+    let mut text = String::from("config 8 1 1 0 0 2 4 4 8\n");
+    for turn in 0..count {
+        text += &format!("publish 1 write 0 {} 3 0 A1\nfetch 1\nsettle\nreap 1\n", turn % 65_536);
+    }
+    text
+}
+
 /// Reads of so many blocks, one ticket after the other.
 pub fn reads(numbers: Numbers, blocks: u16, count: usize) -> List {
     let mut list = List::new(numbers);
@@ -91,11 +100,17 @@ pub fn pairs(numbers: Numbers, count: usize) -> List {
 
 /// So many tickets in flight, each a Write of one block with its unit open; in turn the oldest ends and a new one comes.
 pub fn in_flight(tickets: u16, turns: usize) -> List {
-    let mut numbers = numbers(4096, 0);
-    numbers.jobs = tickets;
+    grown(4096, 8, tickets, turns)
+}
+
+/// The same on a volume of so many blocks, at least 512, with so many slots in each queue.
+pub fn grown(blocks: u32, slots: u16, tickets: u16, turns: usize) -> List {
+    let mut numbers = numbers(blocks, 0);
+    (numbers.sq_size, numbers.cq_size, numbers.jobs) = (slots, slots, tickets);
     let mut list = List::new(numbers);
+    let stride = u64::from(blocks) / 512;
     let entries: Vec<usize> = (0..512u16)
-        .map(|place| list.entry(&command(WRITE, 0, place, u64::from(place) * 8, 0), &pattern(1, usize::from(place))))
+        .map(|place| list.entry(&command(WRITE, 0, place, u64::from(place) * stride, 0), &pattern(1, usize::from(place))))
         .collect();
     let mut newest = 0;
     let mut begin = |list: &mut List| {

@@ -14,14 +14,7 @@ fn main() {
         "reads256" => reads(numbers(1024, 255), 256, steps / 261),
         "writes256" => writes(numbers(1024, 255), 256, steps / 261),
         "mixed" => mixed(7, steps),
-        // as the repository's bench/scripts: four lines for each Write, one of them `settle`
-        "writes" => {
-            let mut text = String::from("config 8 1 1 0 0 2 4 4 8\n");
-            for turn in 0..steps / 4 {
-                text += &format!("publish 1 write 0 {} 3 0 A1\nfetch 1\nsettle\nreap 1\n", turn % 65_536);
-            }
-            return std::fs::write(file, text).expect("written");
-        }
+        "writes" => return std::fs::write(file, settled(steps / 4)).expect("written"),
         _ => panic!("no workload {name}"),
     };
     std::fs::write(file, list.script()).expect("written");

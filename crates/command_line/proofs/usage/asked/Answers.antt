@@ -1,18 +1,13 @@
-use Rattle.std.proofs.Common.{List, ap, map, string_bytes, subst, sym, ◌≡◌, ◌∙◌}
-use Rattle.std.specs.Prelude.{IfErr, IfOk, Result, Some}
+use Rattle.std.proofs.Common.{List, ap, map, string_bytes, subst, sym, true, ◌≡◌, ◌∙◌}
+use Rattle.std.specs.Prelude.{Some}
 use Rattle.std.proofs.lemmas.Result.{IfErr-weaker, IfOk-weaker}
-use Rattle.clap.specs.Words.{App, Text, found_of, is_simple, rows_of, subcommand_of, takes}
+use Rattle.clap.specs.Words.{App, HasKind, Text, fault_of, found_of, is_simple, is_simple_and_free, rows_of}
+use Rattle.clap.specs.Words.{kind_of, subcommand_of, takes}
 use Rattle.clap.specs.declared.error.kind.ErrorKind.{ErrorKind}
-use Rattle.command_line.specs.Asking.{AreRefused, Asks}
-use Rattle.command_line.specs.CommandLine.{subcommand_in, is_taken}
-use Rattle.command_line.specs.declared.request.Asked.{Asked}
-use Rattle.command_line.specs.declared.request.UsageFault.{UsageFault}
-use Rattle.command_line.proofs.Parsed.{both_parts, by_command, casdisk_is_simple, named}
-use Rattle.command_line.proofs.Refused.{by_no_command, by_options, by_words, names_none, no_parts, not_true, shown}
-use Rattle.command_line.proofs.Refused.{taken}
+use Rattle.command_line.specs.CommandLine.{are_words_taken, subcommand_in}
+use Rattle.command_line.proofs.Parsed.{both_parts, by_command, casdisk_is_free, casdisk_is_simple, named}
+use Rattle.command_line.proofs.Refused.{by_error, by_no_command, by_options, by_showing, names_none, no_parts, taken}
 use Rattle.command_line.proofs.usage.asked.Goals as goal
-use Rattle.command_line.proofs.usage.asked.Goals.{in-OutOfMemory, in-DisplayHelp+in_ok-to_string-in-DisplayHelp}
-use Rattle.command_line.proofs.usage.asked.Goals.{in_default+in_ok-to_string-in_default}
 
 pub returns-in-Some-clause-asks : goal.returns-in-Some-clause-asks
 returns-in-Some-clause-asks c =
@@ -53,29 +48,20 @@ pub returns-in-Err-clause-refuses : goal.returns-in-Err-clause-refuses
 returns-in-Err-clause-refuses c =
     let words : List Text = map string_bytes c.args.words.now in
     let app_is = c.in_ok-command.ensures in
-    elim c.match-kind.branch [
-      | in-OutOfMemory w ↦ subst (λ (r : Result Asked UsageFault). IfErr r (AreRefused words)) (sym w.result-is) tt
-      | in-DisplayHelp+in_ok-to_string-in-DisplayHelp w ↦ subst
-          (λ (r : Result Asked UsageFault). IfErr r (AreRefused words)) (sym w.result-is) tt
-      | in_default+in_ok-to_string-in_default w ↦
-          let not_taken = not_true (is_taken words) (c.kind.result ≡ ErrorKind.OutOfMemory)
-          (λ h. c.kind.ensures ∙ c.in-Err.ensures.passes
-          (ap (λ (a : App). takes a words) app_is ∙ sym (taken words) ∙ h)) (λ k. w.in_default.not-OutOfMemory k) in
-          subst (λ (r : Result Asked UsageFault). IfErr r (AreRefused words)) (sym w.result-is)
-          (by_words words not_taken (UsageFault.Text w.in_ok-to_string-in_default.field-0))
-    ]
+    let error = c.in-Err.error in
+    let kinds = subst (λ (a : App). HasKind (fault_of a words) error) app_is
+    (c.in-Err.ensures.kinds (ap is_simple_and_free app_is ∙ casdisk_is_free)) in
+    let none : are_words_taken words ≡ true → kind_of error ≡ ErrorKind.OutOfMemory =
+    λ h. c.in-Err.ensures.passes (ap (λ (a : App). takes a words) app_is ∙ sym (taken words) ∙ h) in
+    IfErr-weaker c.untaken.result _ _ (λ f h. by_error words error none kinds f h) c.untaken.ensures.told
 
 pub returns-in-Err-clause-asks : goal.returns-in-Err-clause-asks
 returns-in-Err-clause-asks c =
     let words : List Text = map string_bytes c.args.words.now in
     let app_is = c.in_ok-command.ensures in
-    elim c.match-kind.branch [
-      | in-OutOfMemory w ↦ subst (λ (r : Result Asked UsageFault). IfOk r (Asks words)) (sym w.result-is) tt
-      | in-DisplayHelp+in_ok-to_string-in-DisplayHelp w ↦
-          let not_taken = not_true (is_taken words) (c.kind.result ≡ ErrorKind.OutOfMemory)
-          (λ h. c.kind.ensures ∙ c.in-Err.ensures.passes
-          (ap (λ (a : App). takes a words) app_is ∙ sym (taken words) ∙ h)) (shown _ w.in-DisplayHelp.is) in
-          subst (λ (r : Result Asked UsageFault). IfOk r (Asks words)) (sym w.result-is) not_taken
-      | in_default+in_ok-to_string-in_default w ↦ subst (λ (r : Result Asked UsageFault). IfOk r (Asks words))
-          (sym w.result-is) tt
-    ]
+    let error = c.in-Err.error in
+    let kinds = subst (λ (a : App). HasKind (fault_of a words) error) app_is
+    (c.in-Err.ensures.kinds (ap is_simple_and_free app_is ∙ casdisk_is_free)) in
+    let none : are_words_taken words ≡ true → kind_of error ≡ ErrorKind.OutOfMemory =
+    λ h. c.in-Err.ensures.passes (ap (λ (a : App). takes a words) app_is ∙ sym (taken words) ∙ h) in
+    IfOk-weaker c.untaken.result _ _ (λ a h. by_showing words error none kinds a h) c.untaken.ensures.shown

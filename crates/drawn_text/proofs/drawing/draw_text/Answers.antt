@@ -9,6 +9,7 @@ returns-in-Ok g c = record {
   draws =
       let d = c.in-Ok.drawer in
       let whole = c.in-Ok.ensures.whole in
-      written c.args.options.now d.judge.bad.place d.judge.count d.picture c.write_drawn.result _ _ _ _ whole.0 whole.1
+      written c.args.options.now d.judge.bad.place d.judge.count d.picture c.write_drawn.result _ _ _ _ whole.0
+      c.in-Ok.ensures.slots whole.1
       c.write_drawn.ensures.writes;
 }

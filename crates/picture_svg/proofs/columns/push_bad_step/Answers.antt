@@ -1,6 +1,6 @@
 use Rattle.std.proofs.Common.{[], ◌∷◌}
 use Rattle.picture_svg.specs.Columns.{rule_svg, shade_svg, why_svg}
-use Rattle.picture_svg.proofs.Chains.{last, next}
+use Rattle.svg_pieces.proofs.Chains.{last, next}
 use Rattle.picture_svg.proofs.columns.push_bad_step.Goals as goal
 
 pub returns : goal.returns

@@ -1,7 +1,7 @@
 use Rattle.std.proofs.Common.{[], ◌++◌, ◌∷◌}
 use Rattle.std.specs.Prelude.{codes}
 use Rattle.picture_svg.specs.Lanes.{tickets_line_svg}
-use Rattle.picture_svg.proofs.Chains.{last, next}
+use Rattle.svg_pieces.proofs.Chains.{last, next}
 use Rattle.picture_svg.proofs.lanes.push_in_flight.Goals as goal
 
 pub returns : goal.returns

@@ -1,6 +1,6 @@
 use Rattle.std.proofs.Common.{◌+◌, ◌++◌, ap, append_assoc, drop, false, get_or, sym, take, ◌∙◌}
 use Rattle.std.proofs.lemmas.List.{drop_more}
-use Rattle.picture_shapes.specs.declared.rows.Row.{Row}
+use Rattle.picture_shapes.specs.declared.rows.LaneRow.{LaneRow}
 use Rattle.picture_svg.specs.Lanes.{lanes_from, row_svg}
 use Rattle.picture_svg.specs.Scale.{top_at}
 use Rattle.picture_svg.proofs.lanes.push_lanes.Goals as goal
@@ -13,7 +13,7 @@ loop-i-preserved c =
     let rows = c.args.rows.now in
     let i = c.loop-i.i in
     let text = c.loop-i.text.items in
-    let none : Row = record { lane = 0; used = false } in
+    let none : LaneRow = record { lane = 0; used = false } in
     let row = get_or rows i none in
     let rest = lanes_from s tops name rows (i + 1) (drop (i + 1) rows) in
     c.loop-i.invariant

@@ -42,11 +42,12 @@ returns c =
     let ps = c.put_hosts.new.passes.items in
     let long = sym c.put_hosts.new.passes.ok.0 in
     let all : length ps ≡ c.len-servers.result + 1 + play.config.cqs = omega (arith, len, count, long) in
+    let core = c.in-Some.core in
+    let is = c.in-Some.ensures in
     record {
-      config = closed_config system.engine play _ ps c.put_hosts.ensures.passes all (omega arith)
-          c.close_all.result c.close_all.ensures.config;
-      slots = closed_slots system.engine play _ ps c.put_hosts.ensures.passes all (omega arith)
-          c.close_all.result c.close_all.ensures.config c.close_all.ensures.legal c.close_all.ensures.whole;
-      rounds = closed_rounds system.engine play _ ps c.put_hosts.ensures.passes all (omega arith)
-          c.close_all.result c.close_all.ensures.config c.close_all.ensures.legal c.close_all.ensures.whole;
+      config = closed_config system.engine play _ ps c.put_hosts.ensures.passes all (omega arith) core is.config;
+      slots = closed_slots system.engine play _ ps c.put_hosts.ensures.passes all (omega arith) core is.config is.legal
+          is.whole;
+      rounds = closed_rounds system.engine play _ ps c.put_hosts.ensures.passes all (omega arith) core is.config
+          is.legal is.whole;
     }

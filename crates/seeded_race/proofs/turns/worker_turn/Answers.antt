@@ -1,11 +1,12 @@
 use Rattle.std.proofs.Common.{arith, vec_len, ℕ, ◌+◌, ◌≡◌}
 use Rattle.std.proofs.lemmas.Option.{slice_get_read}
 use Rattle.meet_lock.specs.Passes.{number}
-use Rattle.shared_system.specs.Callers.{IsWorkerOf}
+use Rattle.shared_system.specs.Callers.{IsWorkerOf, WorkerContinues}
 use Rattle.shared_system.specs.declared.system.WorkerPasses.{WorkerPasses}
 use Rattle.race_run.specs.Ended.{HasEnded}
 use Rattle.seeded_race.proofs.Callers.{served_on}
-use Rattle.seeded_race.proofs.Each.{each_set}
+use Rattle.hosts.specs.Stages.{IsWorkTurn}
+use Rattle.seeded_race.proofs.Each.{both_on, each_set, moves_set}
 use Rattle.seeded_race.proofs.turns.worker_turn.Goals as goal
 
 pub work_once-requires-clause-worker : goal.work_once-requires-clause-worker
@@ -35,3 +36,20 @@ returns-clause-workers g c =
       served_on system play (top + 1) old.caller c.work_once.new.worker.caller goes.0 (omega (arith, n)) was.1,
       goes.1,
     )
+
+pub returns-clause-goes : goal.returns-clause-goes
+returns-clause-goes g c =
+    let long = c.args.workers.now.ok.0 in
+    let old = c.index_mut.result.now in
+    moves_set (WorkerContinues c.args.system.now) c.args.workers.now.items c.args.place old c.work_once.new.worker
+    (slice_get_read c.args.workers.now.items (vec_len c.args.workers.now) c.args.place old (omega (arith, long))
+    c.requires.place.0 c.index_mut.ensures.value) c.work_once.ensures.worker
+
+pub returns-clause-next : goal.returns-clause-next
+returns-clause-next g c =
+    let long = c.args.working.now.ok.0 in
+    let old = c.index_mut-2.result.now in
+    both_on c.work_once.result c.work_once.ensures.next c.work_once.ensures.next (λ so _.
+    moves_set IsWorkTurn c.args.working.now.items c.args.place old c.work_once.new.working
+    (slice_get_read c.args.working.now.items (vec_len c.args.working.now) c.args.place old (omega (arith, long))
+    c.requires.place.1 c.index_mut-2.ensures.value) so)

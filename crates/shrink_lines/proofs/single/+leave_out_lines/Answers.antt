@@ -1,6 +1,7 @@
-use Rattle.std.proofs.Common.{◌<◌, arith, vec_len}
-use Rattle.shrink_lines.proofs.Asking.{ends_more, scanned}
-use Rattle.shrink_lines.proofs.Counting.{rounds}
+use Rattle.std.proofs.Common.{◌+◌, ◌<◌, arith, vec_len}
+use Rattle.std.proofs.lemmas.Result.{err_from_is_err_and}
+use Rattle.shrink_lines.proofs.Asking.{ends_more, scanned, stopped_more, wider}
+use Rattle.shrink_lines.proofs.Counting.{one_round, rounds}
 use Rattle.shrink_lines.proofs.single.+leave_out_lines.Goals as goal
 
 pub returns : goal.returns
@@ -12,4 +13,21 @@ returns g t c =
           (omega (arith, rounds (vec_len c.args.lines.now) (vec_len c.scan.new.lines) low))
           (c.leave_out_lines.ensures.ends first whole _
           (scanned g.Q.Question.asks first _ whole _ _ _ _ (c.in_ok-scan.ensures.scans first whole n h)));
+    }
+
+pub returns-in_err-scan : goal.returns-in_err-scan
+returns-in_err-scan g t c =
+    let p = err_from_is_err_and c.from_residual.result c.from_residual.ensures.1 in
+    record {
+      ends = λ first whole n h. rw (p.1, p.2) (stopped_more g.Q.Question.asks g.Q.Question.stops first _ whole _
+          (n + vec_len c.args.lines.now) _ _ (omega (arith, one_round (vec_len c.args.lines.now)))
+          (c.in_err-scan.ensures.scans first whole n h));
+    }
+
+pub returns-then-branch-eq0 : goal.returns-then-branch-eq0
+returns-then-branch-eq0 g t c =
+    record {
+      ends = λ first whole n h. wider g.Q.Question.asks first _ whole _ (n + vec_len c.args.lines.now) _ _ 0 _ _
+          (omega (arith, one_round (vec_len c.args.lines.now))) (omega (arith, c.if-branch-eq0.true)) (omega arith)
+          (c.in_ok-scan.ensures.scans first whole n h);
     }

@@ -8,7 +8,8 @@ returns-in_err-edit g c =
     let p = err_from_is_err_and c.from_residual.result c.from_residual.ensures.1 in
     record {
       goes = λ first whole n h. rw p.1 (unasked g.Q.Question.asks g.Q.Question.stops first _ whole _
-          (n + c.loop-turn.turn) _ p.0 (omega (arith, c.loop-turn-test.true)) (c.loop-turn.invariant first whole n h));
+          (n + c.loop-turn.turn) _ p.0 p.2 (omega (arith, c.loop-turn-test.true))
+          (c.loop-turn.invariant first whole n h));
     }
 
 pub returns-in_err-worked : goal.returns-in_err-worked

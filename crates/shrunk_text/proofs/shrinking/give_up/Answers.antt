@@ -10,7 +10,8 @@ returns-in-Ok g c =
           let s = rw c.in-Ended.is at h in (
             c.args.talk.now,
             c.args.lines.now,
-            stopped g.W.Write.contents g.R.Read.remaining begun c.args.talk.now whole c.args.lines.now Ended s,
+            stopped g.W.Write.contents g.R.Read.remaining begun c.args.talk.now whole c.args.lines.now Ended
+                (λ e. let no : ⊥ = cc in no) s,
             c.in-Ok.ensures.told,
           );
     }
@@ -23,7 +24,8 @@ returns-in-BadAnswer g c =
             refl,
             (
               c.args.lines.now,
-              stopped g.W.Write.contents g.R.Read.remaining begun c.args.talk.now whole c.args.lines.now BadAnswer s,
+              stopped g.W.Write.contents g.R.Read.remaining begun c.args.talk.now whole c.args.lines.now BadAnswer
+                  (λ e. let no : ⊥ = cc in no) s,
             ),
           );
     }

@@ -1,21 +1,38 @@
-use Rattle.std.proofs.Common.{None, sym, ◌∙◌, ◌≡◌}
+use Rattle.std.proofs.Common.{List, None, ap₂, map, sym, ◌++◌, ◌∙◌, ◌≡◌}
 use Rattle.nvme_model.specs.History.{Past}
+use Rattle.nvme_model.specs.Slots.{Swap}
+use Rattle.takeover_laws.specs.Takeovers.{Takeover, giving}
 use Rattle.slot_check.specs.Broken.{publish_broken}
 use Rattle.slot_check.specs.Names.{names_in}
+use Rattle.slot_check.specs.Takeovers.{takeovers_kept}
 use Rattle.slot_check.specs.Watched.{IsSlotCheckState, slot_check_state_in}
-use Rattle.slot_check.proofs.Judging.{none_where, publish_keeps, whole_is}
+use Rattle.slot_check.proofs.Publishing.{BatchIs, none_where, publish_keeps, whole_is}
 use Rattle.slot_check.proofs.tables.take_publish.Goals as goal
 
 pub returns-then-is_some-clause-broken : goal.returns-then-is_some-clause-broken
-returns-then-is_some-clause-broken c = λ past h.
+returns-then-is_some-clause-broken c =
+    let batch : BatchIs c.args.slots c.args.line.now.queue c.published-first.result c.as_slice-batch.result.now
+    c.as_slice-moves.result.now c.as_slice-takeovers.result.now = record {
+      moves = c.as_slice-moves.ensures.value ∙ c.in_ok-add_givings.ensures.ok
+          ∙ ap₂ (λ (xs : List Swap) (ws : List Takeover). xs ++ map giving ws) c.in_ok-moves.ensures.value
+          (c.as_slice.ensures.value ∙ sym c.as_slice-takeovers.ensures.value);
+      takeovers = c.as_slice-takeovers.ensures.value ∙ c.in_ok-takeovers.ensures.value;
+    } in
+    λ past h.
     whole_is c.args.config.now c.args.slots past c.args.line.now
     (slot_check_state_in c.args.tables.now) c.published-first.result
-    c.as_slice-batch.result.now c.as_slice-of.result.now c.judge_batch-broken.result h c.published-first.ensures.value
-    c.as_slice-batch.ensures.value (c.as_slice-of.ensures.value ∙ c.in_ok-of.ensures.value)
-    c.judge_batch-broken.ensures.value
+    c.as_slice-batch.result.now c.as_slice-moves.result.now c.as_slice-takeovers.result.now c.judge_batch-broken.result
+    h c.published-first.ensures.value c.as_slice-batch.ensures.value batch c.judge_batch-broken.ensures.value
 
 pub returns : goal.returns
 returns c =
+    let batch : BatchIs c.args.slots c.args.line.now.queue c.published-first.result c.as_slice-batch.result.now
+    c.as_slice-moves.result.now c.as_slice-takeovers.result.now = record {
+      moves = c.as_slice-moves.ensures.value ∙ c.in_ok-add_givings.ensures.ok
+          ∙ ap₂ (λ (xs : List Swap) (ws : List Takeover). xs ++ map giving ws) c.in_ok-moves.ensures.value
+          (c.as_slice.ensures.value ∙ sym c.as_slice-takeovers.ensures.value);
+      takeovers = c.as_slice-takeovers.ensures.value ∙ c.in_ok-takeovers.ensures.value;
+    } in
     let none : c.judge_batch-broken.result ≡ None = none_where c.judge_batch-broken.result c.if-is_some.ensures in
     let broken : (past : Past)
     → IsSlotCheckState c.args.config.now c.args.slots past (slot_check_state_in c.args.tables.now)
@@ -23,18 +40,32 @@ returns c =
     λ past h. sym none
     ∙ whole_is c.args.config.now c.args.slots past c.args.line.now
     (slot_check_state_in c.args.tables.now) c.published-first.result
-    c.as_slice-batch.result.now c.as_slice-of.result.now c.judge_batch-broken.result h c.published-first.ensures.value
-    c.as_slice-batch.ensures.value (c.as_slice-of.ensures.value ∙ c.in_ok-of.ensures.value)
-    c.judge_batch-broken.ensures.value in
+    c.as_slice-batch.result.now c.as_slice-moves.result.now c.as_slice-takeovers.result.now c.judge_batch-broken.result
+    h c.published-first.ensures.value c.as_slice-batch.ensures.value batch c.judge_batch-broken.ensures.value in
     record {
       broken = broken;
       kept = λ past h legal e.
           publish_keeps c.args.config.now c.args.slots past c.args.line.now (slot_check_state_in c.args.tables.now)
-          (slot_check_state_in (record { progress = c.publish.new.self; names = c.add_all.new.self }))
-          (names_in c.reserve.new.self) c.published-first.result c.as_slice-batch.result.now c.as_slice-of.result.now h
-          legal c.published-first.ensures.value c.as_slice-batch.ensures.value
-          (c.as_slice-of.ensures.value ∙ c.in_ok-of.ensures.value) (sym (broken past h)) c.reserve.ensures.claims
-          c.reserve.ensures.won c.reserve.ensures.released
-          (c.in_ok-publish.ensures.ok c.args.config.now past h.progress) c.add_all.ensures.knows;
+          (slot_check_state_in (record {
+            progress = c.publish.new.self;
+            names = c.add_all-2.new.self;
+            takeovers = c.add_all.new.self;
+          }))
+          (names_in c.reserve.new.self) (takeovers_kept c.reserve-2.new.self) c.published-first.result
+          c.as_slice-batch.result.now c.as_slice-moves.result.now c.as_slice-takeovers.result.now h
+          legal c.published-first.ensures.value c.as_slice-batch.ensures.value batch (sym (broken past h))
+          (c.in_ok-publish.ensures.ok c.args.config.now past h.progress)
+          (record {
+            claim = c.reserve.ensures.claims;
+            won = c.reserve.ensures.won;
+            released = c.reserve.ensures.released;
+            begun = c.reserve-2.ensures.begun;
+            taken = c.reserve-2.ensures.taken;
+            cut = c.reserve-2.ensures.cut;
+            new_begun = c.add_all.ensures.begun;
+            new_taken = c.add_all.ensures.taken;
+            new_cut = c.add_all.ensures.cut;
+            knows = c.add_all-2.ensures.knows;
+          });
       err = λ past h. tt;
     }

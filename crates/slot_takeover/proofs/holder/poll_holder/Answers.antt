@@ -2,7 +2,7 @@ use Rattle.std.proofs.Common.{Ok, Some, ap, subst, sym, ◌∙◌}
 use Rattle.driver_calls.specs.declared.reply.Reply.{Reply}
 use Rattle.driver_cas.specs.Drivers.{IsCallOf, SaysOfPort}
 use Rattle.driver_cas.specs.declared.call.Call.{Call}
-use Rattle.slot_takeover.specs.Holders.{IsReadingOf, bytes_read, holder_in}
+use Rattle.slot_takeover.specs.Holders.{IsReadingOf, payload_of_read, holder_in}
 use Rattle.slot_takeover.specs.declared.holder.ReadingHolder.{ReadingHolder}
 use Rattle.slot_takeover.proofs.Reading.{is_read, reading_failed, reading_polled, reads, same_reading}
 use Rattle.slot_takeover.proofs.holder.poll_holder.Goals as goal
@@ -53,7 +53,7 @@ returns-in-Done-clause-is g c =
     let y = c.in-Done in
     let r = reads g.P.Port e k y.reply c.requires.of.does (sym y.ensures.answer) in (
       r.bytes,
-      c.holder_by.ensures.value ∙ ap (λ (z : Reply). holder_in (bytes_read z)) r.is,
+      c.holder_by.ensures.value ∙ ap (λ (z : Reply). holder_in (payload_of_read z)) r.is,
       (
         sym y.ensures.answer ∙ ap (λ (z : Reply). Some (Ok z)) r.is,
         subst (λ (z : Reply). SaysOfPort e k.call (Some (Ok z))) r.is y.ensures.says,

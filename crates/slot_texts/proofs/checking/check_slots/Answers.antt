@@ -12,12 +12,14 @@ pub returns-in-Ok : goal.returns-in-Ok
 returns-in-Ok g c = record {
   checks =
       let whole = c.in_ok-found.ensures.whole in
-      answered c.args.slots c.in_ok-found.found c.in-Ok.answer _ _ _ _ whole.0 whole.1 c.in-Ok.ensures.told;
+      answered c.args.slots c.in_ok-found.found c.in-Ok.answer _ _ _ _ c.in_ok-found.ensures.slots whole.0 whole.1
+      c.in-Ok.ensures.told;
 }
 
 pub returns-in-Err : goal.returns-in-Err
 returns-in-Err g c = record {
   checks =
       let whole = c.in_ok-found.ensures.whole in
-      untold c.args.slots c.in_ok-found.found c.in-Err.fault _ _ _ _ whole.1 c.in-Err.ensures.told;
+      untold c.args.slots c.in_ok-found.found c.in-Err.fault _ _ _ _ c.in_ok-found.ensures.slots whole.0 whole.1
+      c.in-Err.ensures.told;
 }

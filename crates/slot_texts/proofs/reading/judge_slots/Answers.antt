@@ -2,6 +2,7 @@ use Rattle.std.proofs.Common.{Err, List, None, Ok, Option, Some, [], ap, eqb, no
 use Rattle.std.proofs.Common.{rules}
 use Rattle.nvme_model.specs.declared.array.Range.{Range}
 use Rattle.nvme_model.specs.declared.config.ConfigNumbers.{ConfigNumbers}
+use Rattle.casdisk_script.specs.Fault.{fault_in_memory}
 use Rattle.casdisk_script.specs.Files.{entry_added}
 use Rattle.casdisk_script.specs.Script.{script_outcome}
 use Rattle.casdisk_script.proofs.Answering.{unread}
@@ -10,7 +11,7 @@ use Rattle.casdisk_script.proofs.Reaching.{makes_after, runs_after}
 use Rattle.slot_check.specs.Watched.{area_state}
 use Rattle.slot_texts.specs.Texts.{IsWithin}
 use Rattle.slot_texts.specs.Wrong.{HasJudgedSlots}
-use Rattle.slot_texts.proofs.Found.{whole}
+use Rattle.slot_texts.proofs.Found.{first_unread, unread_behind, whole}
 use Rattle.slot_texts.proofs.reading.judge_slots.Goals as goal
 
 pub returns-in-Err-clause-unread : goal.returns-in-Err-clause-unread
@@ -18,7 +19,8 @@ returns-in-Err-clause-unread g c =
     let none : Option (List ℕ) = None in
     let f = c.in-Err.fault in
     let stops = unread f _ _ none none (c.in-Err.ensures.stopped (λ c'. entry_added) none) in
-    rw (same_in_memory f c.in-Err.ensures.read) at stops
+    let some : 1 ≤ c.args.slots.blocks = search rules in
+    (some, first_unread c.args.slots f _ _ c.in-Err.ensures.first, rw (same_in_memory f c.in-Err.ensures.read) at stops)
 
 pub returns-in-Ok-run_lines-clause-whole : goal.returns-in-Ok-run_lines-clause-whole
 returns-in-Ok-run_lines-clause-whole g c =
@@ -51,4 +53,14 @@ returns-clause-unread g c =
     let ran = c.in-Err-run_lines.ensures.runs c.in-Ok-read_first.config [] c.in-Ok-new.ensures.begun in
     let all = runs_after (script_outcome (λ c'. entry_added)) entry_added [] 2 _ _ _ None none some _
     (Err c.in-Err-run_lines.fault) begun ran in
-    rw c.in_memory.ensures.value (unread c.in-Err-run_lines.fault _ _ None some all)
+    let config = c.in-Ok-read_first.config in
+    let slot : 1 ≤ c.args.slots.blocks = search rules in
+    let few : c.args.slots.slba + c.args.slots.blocks ≤ c.numbers-blocks.result.blocks = search rules in
+    let within : IsWithin config c.args.slots = subst (λ (d : ConfigNumbers). IsWithin d c.args.slots)
+    c.numbers-blocks.ensures.value few in
+    rw c.in_memory.ensures.value (
+      slot,
+      unread_behind c.args.slots (fault_in_memory c.in-Err-run_lines.fault) config _ within
+          c.in-Ok-read_first.ensures.config,
+      unread c.in-Err-run_lines.fault _ _ None some all,
+    )

@@ -1,6 +1,6 @@
 use Rattle.std.proofs.Common.{[], ◌∷◌}
 use Rattle.picture_svg.specs.Columns.{hover_svg, kind_svg, line_svg, mark_svg, place_svg}
-use Rattle.picture_svg.proofs.Chains.{last, next}
+use Rattle.svg_pieces.proofs.Chains.{last, next}
 use Rattle.picture_svg.proofs.columns.HeadDrawn.push_svg.Goals as goal
 
 pub returns : goal.returns

@@ -11,9 +11,9 @@ use denote.Struct.Owning.{shape, fields, to}
 use denote.Param.Send.{IsSend, Quiet, part_keyless, AllSend, owning_send, struct_send, sendable}
 use Rattle.std.proofs.Crossing as heap
 use Rattle.std.specs.Prelude.{Option, Some, None}
-use Rattle.vandrexu_c.specs.Machines.{MachineState}
-use Rattle.vandrexu_c.specs.contracts.machine.Machine as machine
-use Rattle.vandrexu_c.proofs.machine.Machine.TheSendSync.{the_send}
+use Rattle.vandrexu_c.specs.OwnedStates.{OwnedState}
+use Rattle.vandrexu_c.specs.contracts.owned_controller.OwnedController as controller
+use Rattle.vandrexu_c.proofs.owned_controller.OwnedController.TheSendSync.{the_send}
 use Rattle.vandrexu_c.specs.Owned.{owned}
 use Rattle.vandrexu_c.specs.contracts.held.Held.{the_row, the_type}
 
@@ -25,11 +25,11 @@ lies : (R : RattleType) → IsSend R → (p : Ptr) (x : R.Denot) → Keyless (li
 lies R s (block_ptr b o) x = part_keyless R s full_share x b o
 lies R s null_ptr x = tt
 
-owned_keyless : (p : Ptr) (o : Option MachineState) → Keyless (owned p o)
+owned_keyless : (p : Ptr) (o : Option OwnedState) → Keyless (owned p o)
 owned_keyless p None = tt
 owned_keyless p (Some s) = (
-  lies machine.the_row the_send p s,
-  heap.frees.frees (record { memory = record { seal = tt } }) (raw (lone (machine.the_row).mir)) p,
+  lies controller.the_row the_send p s,
+  heap.frees.frees (record { memory = record { seal = tt } }) (raw (lone (controller.the_row).mir)) p,
 )
 
 pub send : IsSend the_row

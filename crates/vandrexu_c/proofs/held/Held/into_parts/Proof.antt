@@ -31,10 +31,10 @@ use Rattle.std.specs.contracts.alloc.Global as global
 use Rattle.std.specs.contracts.impls.GlobalAllocator.TheImpl.{ghosts}
 use Rattle.std.proofs.alloc.Global.TheLaws as global_laws
 use Rattle.box_parts.specs.contracts.Parts as parts
-use Rattle.vandrexu_c.specs.Machines.{MachineState}
-use Rattle.vandrexu_c.specs.contracts.machine.Machine as machine
+use Rattle.vandrexu_c.specs.OwnedStates.{OwnedState}
+use Rattle.vandrexu_c.specs.contracts.owned_controller.OwnedController as controller
 use Rattle.vandrexu_c.specs.Owned.{owned}
-use Rattle.vandrexu_c.specs.Machines.{mark}
+use Rattle.vandrexu_c.specs.OwnedStates.{mark}
 use Rattle.vandrexu_c.proofs.Marks.{some_of}
 use Rattle.vandrexu_c.specs.contracts.held.Held as held
 use Rattle.vandrexu_c.specs.contracts.held.Held.into_parts as f
@@ -42,7 +42,7 @@ use Rattle.vandrexu_c.proofs.held.Held.into_parts.Statement.{statement}
 use Rattle.vandrexu_c.proofs.held.Held.into_parts.Code as code
 
 abbrev To : RattleType
-To = parts.the_row machine.the_row global.the_row ghosts
+To = parts.the_row controller.the_row global.the_row ghosts
 
 abbrev al : Al
 al = record {
@@ -70,14 +70,14 @@ into_parts_spec 𝓤 𝓛 𝓜 𝓡 wired =
     qed 𝓛 ((‵ ftrue ⊛ ‵ (owns (held.the_row ∷ global.the_row ∷ []) z.0.3 z.0.4)) ∷ raw (fact 𝓤
     (0 < mark d.core)) ∷ []) ∵
     move ! (1 ∷ []) $
-    heard ! (0 < mark d.core) (λ live. let s : MachineState = (some_of d.core live).0 in
+    heard ! (0 < mark d.core) (λ live. let s : OwnedState = (some_of d.core live).0 in
     let es : d.core ≡ Some s = (some_of d.core live).1 in split ! $ drop ! $ fsplit ! $ move ! (1 ∷ []) $ fsplit ! $
     handle_tells al ! g z.0.4.1.0 (λ h eh fits. keep ! (2 ∷ 0 ∷ []) $
     -- [the handle; the allocator]
     fsplit ! $ fpick ! (λ vss. fsplit ! $ feq_l ! (λ ev. fsplit ! $ feq_l ! (λ ep. drop ! $
-    rewrite ! 0 (λ (k : Option MachineState). ‵ (owned d.at k)) es refl $
+    rewrite ! 0 (λ (k : Option OwnedState). ‵ (owned d.at k)) es refl $
     in_a_block ! d.at (λ q. owned q (Some s)) (fst∗ 𝓤 (never 𝓤)
-    (sem 𝓛 (ghosts.dealloc_token g (bare (lone (machine.the_row).mir)) null_ptr))) (λ b o e.
+    (sem 𝓛 (ghosts.dealloc_token g (bare (lone (controller.the_row).mir)) null_ptr))) (λ b o e.
     let v : Val = vstruct (vcons (vptr b o) vnil) in
     let w : Val = vstruct (vcons (vptr b o) (vcons h vnil)) in
     let is : us ≡ v ∷ [] =
@@ -107,7 +107,7 @@ into_parts_spec 𝓤 𝓛 𝓜 𝓡 wired =
     feq_i ! (List Val) (vptr b o ∷ []) (ptr_val (block_ptr b o) ∷ []) refl $ fjoin ! $
     feq_i ! (List Val) (w ∷ []) (w ∷ []) refl $ fjoin ! $
     fpack ! (Valss (RawPtr ∷ global.the_row ∷ []))
-    (within (shape (parts.the_type machine.the_row global.the_row ghosts)) (
+    (within (shape (parts.the_type controller.the_row global.the_row ghosts)) (
       block_ptr b o,
       (
         g,

@@ -30,7 +30,7 @@ use Rattle.std.specs.contracts.alloc.Global as global
 use Rattle.std.specs.contracts.impls.GlobalAllocator.TheImpl.{ghosts}
 use Rattle.std.proofs.alloc.Global.TheLaws as global_laws
 use Rattle.box_parts.specs.contracts.Parts as parts
-use Rattle.vandrexu_c.specs.contracts.machine.Machine as machine
+use Rattle.vandrexu_c.specs.contracts.owned_controller.OwnedController as controller
 use Rattle.vandrexu_c.specs.declared.held.Held.{Held}
 use Rattle.vandrexu_c.specs.Owned.{owned}
 use Rattle.vandrexu_c.specs.contracts.held.Held.{the_type}
@@ -39,7 +39,7 @@ use Rattle.vandrexu_c.proofs.held.Held.of.Statement.{statement}
 use Rattle.vandrexu_c.proofs.held.Held.of.Code as code
 
 abbrev From : RattleType
-From = parts.the_row machine.the_row global.the_row ghosts
+From = parts.the_row controller.the_row global.the_row ghosts
 
 abbrev al : Al
 al = record {
@@ -68,7 +68,7 @@ of_spec 𝓤 𝓛 𝓜 𝓡 wired =
     -- [the allocator; nothing; the box]
     move ! (2 ∷ []) $
     in_a_block ! p.ptr (λ q. owned q (Some p.value)) (fst∗ 𝓤 (never 𝓤)
-    (sem 𝓛 (ghosts.dealloc_token p.alloc (bare (lone (machine.the_row).mir)) null_ptr))) (λ b o e.
+    (sem 𝓛 (ghosts.dealloc_token p.alloc (bare (lone (controller.the_row).mir)) null_ptr))) (λ b o e.
     keep ! (0 ∷ []) $
     let w : Val = vstruct (vcons (vptr b o) (vcons h vnil)) in
     let is : vs ≡ w ∷ [] =

@@ -1,0 +1,5 @@
+pub mod Ending
+pub mod Freeing
+pub mod Judged
+pub mod Telling
+pub mod Waiting

@@ -1,0 +1,5 @@
+pub mod Contents
+pub mod LaneEntries
+pub mod Blocks
+pub mod Beliefs
+pub mod Lanes

@@ -1,0 +1,5 @@
+pub mod Layout
+pub mod Boxes
+pub mod Spans
+pub mod Names
+pub mod Lanes

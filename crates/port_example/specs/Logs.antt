@@ -1,0 +1,10 @@
+-- What a port did, as a driver's contracts see it.
+use Rattle.std.specs.Prelude.{List, [], ◌∷◌}
+use Rattle.driver_calls.specs.declared.event.PortEvent.{PortEvent}
+use Rattle.port_example.specs.declared.Done.{Done, Got', Nothing, Sent'}
+
+-- the events, the newest first
+abbrev pub log_of : Done → List PortEvent
+log_of Nothing = []
+log_of (Sent' marker earlier queue batch) = PortEvent.Sent queue batch.value ∷ log_of earlier
+log_of (Got' marker earlier cqe payload) = PortEvent.Got cqe payload.value ∷ log_of earlier

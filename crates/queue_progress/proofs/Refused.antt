@@ -1,0 +1,6 @@
+-- What holds where a growth is refused.
+use Rattle.std.proofs.Common.{Err, Ok, OnErr, Result}
+
+pub on_err : {X E : Type 0} (r : Result X E) (P : Type 0) → P → OnErr r P
+on_err (Ok x) P p = tt
+on_err (Err e) P p = p

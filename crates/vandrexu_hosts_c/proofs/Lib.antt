@@ -1,0 +1,5 @@
+mod Calls
+pub mod Marks
+pub mod Queues
+mod Sent
+pub mod Works

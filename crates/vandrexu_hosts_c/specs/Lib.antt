@@ -1,0 +1,10 @@
+pub mod Answers
+pub mod Configurations
+pub mod Disks
+pub mod Driving
+pub mod HostStates
+pub mod Hosts
+pub mod Making
+pub mod OwnedDisk
+pub mod OwnedHost
+pub mod Replies

@@ -1,0 +1,92 @@
+//! The handle of a disk: it lies in the caller's memory, and owns a disk or nothing.
+
+ghost use Rattle.std.specs.Prelude.{◌≡◌, ◌<◌, MatchOption, None, Option, Some};
+ghost use Rattle.vandrexu_hosts_c.specs.Disks.{disk_mark};
+ghost use Rattle.vandrexu_hosts_c.specs.declared.disk.Disk.{Disk as TheDisk};
+
+use crate::disk::Disk;
+use box_parts::Parts;
+use std::alloc::Global;
+use std::marker::{Model, Send};
+
+/// The pointer of a handle, and what it owns: a disk, or nothing.
+#[repr(C)]
+#[derive(Drop)]
+pub struct HeldDisk {
+    at: *mut u8,
+    ghost disk: { Option TheDisk },
+}
+
+impl Model for HeldDisk {
+    ghost use Rattle.vandrexu_hosts_c.specs.OwnedDisk.{owned_disk};
+
+    ghost also_owns = { λ h. owned_disk h.at h.disk };
+}
+
+// A handle may be used on another thread than the one that made it.
+unsafe impl Send for HeldDisk {}
+
+impl HeldDisk {
+    pub(crate) fn none() -> HeldDisk
+        ensures { result.disk ≡ None }
+    {
+        HeldDisk {
+            at: std::ptr::null_mut(),
+        }
+    }
+
+    pub(crate) fn of(parts: Parts<Disk, Global>) -> HeldDisk
+        ensures { result.disk ≡ Some parts.value }
+    {
+        let Parts { ptr, alloc: _ } = parts;
+        HeldDisk { at: ptr as *mut u8 }
+    }
+
+    pub(crate) fn into_parts(self, alloc: Global) -> Parts<Disk, Global>
+        requires { 0 < disk_mark self.disk }
+        ensures { self.disk ≡ Some result.value }
+    {
+        let HeldDisk { at } = self;
+        Parts {
+            ptr: at as *mut Disk,
+            alloc,
+        }
+    }
+}
+
+/// What C holds of a disk: zeros before the first call and after the last.
+#[repr(C)]
+pub struct DiskHandle {
+    pub(crate) held: HeldDisk,
+    pub(crate) live: u32,
+    ghost marked: { live ≡ disk_mark held.disk },
+}
+
+// Takes the disk out of a handle.
+#[tactic(auto, using(crate::proofs::Marks::no_disk_of))]
+pub(crate) fn take_disk(alloc: Global, handle: &mut DiskHandle) -> Option<Box<Disk>>
+    ensures value { MatchOption result (handle.old.held.disk ≡ None) (λ b. handle.old.held.disk ≡ Some b.value) }
+    ensures emptied { handle.new.held.disk ≡ None }
+{
+    let empty = DiskHandle {
+        held: HeldDisk::none(),
+        live: 0,
+    };
+    let DiskHandle { held, live } = std::mem::replace(handle, empty);
+    if live == 0 {
+        return None;
+    }
+    Some(held.into_parts(alloc).into_box())
+}
+
+// Puts a disk into a handle that has none.
+pub(crate) fn put_disk(handle: &mut DiskHandle, disk: Box<Disk>)
+    requires { handle.old.held.disk ≡ None }
+    ensures { handle.new.held.disk ≡ Some disk.value }
+{
+    let full = DiskHandle {
+        held: HeldDisk::of(Parts::of(disk)),
+        live: 1,
+    };
+    let DiskHandle { held: _, live: _ } = std::mem::replace(handle, full);
+}

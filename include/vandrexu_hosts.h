@@ -1,0 +1,127 @@
+/* Vandrexu for C: hosts of one controller in memory, each with a driver, around the fused Compare and Write.
+ *
+ * Link libvandrexu_c.a. What vandrexu.h says of every call, of handles, and of the numbers that calls answer is so here
+ * too. A disk is a controller that many handles share: its own, by which it is served, and one for each host. Each host
+ * has a submission queue, and one call at a time, which somebody polls. Handles of one disk may be used by unlike threads
+ * at once, each by one at a time.
+ *
+ * Two hosts that have unlike submission queues of one completion queue take each other's completions: give each host a
+ * completion queue of its own, as with `cqs` equal to `pairs`. What a call is answered is then proved to be true of the
+ * history of the controller. */
+#ifndef VANDREXU_HOSTS_H
+#define VANDREXU_HOSTS_H
+
+#include "vandrexu.h"
+
+#ifdef __cplusplus
+extern "C" {
+#endif
+
+/* What a call answers beside the numbers of vandrexu.h. */
+enum vandrexu_host_status {
+    VANDREXU_BUSY = 12, /* of vandrexu_disk_fetch, _task and _serve: another handle of the disk had the controller */
+    /* why a host's call isn't started, or wasn't served */
+    VANDREXU_CALL_LENGTH = 41,    /* no block, or data that isn't whole blocks, or two data of unlike lengths */
+    VANDREXU_CALL_TOO_LONG = 42,  /* more than 256 blocks, or of a pair more than `acwu` and one */
+    VANDREXU_CALL_NO_ROOM = 43,   /* no room in the submission queue */
+    VANDREXU_CALL_FAILED = 44,    /* a completion with another status than those that a reply tells */
+    VANDREXU_CALL_BUSY = 45,      /* another handle of the disk had the controller */
+    VANDREXU_CALL_NO_MEMORY = 46, /* memory was refused */
+    /* of these calls alone */
+    VANDREXU_UNFINISHED = 113, /* what was fetched before isn't finished */
+    VANDREXU_NO_HOST = 114,    /* as many hosts were made as the disk was made for */
+    VANDREXU_BAD_NUMBER = 115, /* a host has no number 0 */
+    VANDREXU_IN_CALL = 116,    /* the host has a call */
+    VANDREXU_NO_CALL = 117     /* the host has no call */
+};
+
+typedef struct vandrexu_disk {
+    void *at;
+    uint32_t live;
+} vandrexu_disk;
+
+typedef struct vandrexu_host {
+    void *at;
+    uint32_t live;
+} vandrexu_host;
+
+#define VANDREXU_DISK_NONE {0, 0}
+#define VANDREXU_HOST_NONE {0, 0}
+
+/* ---- A disk ---- */
+
+/* 0, and the handle owns a controller with no history and blocks of zeros, of which so many hosts can be made; 11, 21 to
+ * 30, VANDREXU_IN_USE. */
+uint32_t vandrexu_disk_new(const vandrexu_config *config, uint16_t hosts, vandrexu_disk *disk);
+
+/* Frees it, and leaves the handle zeros. Hosts that were made of it stay, and the controller with them: but nobody serves
+ * it then. Nothing is done to one that owns nothing. */
+void vandrexu_disk_free(vandrexu_disk *disk);
+
+/* Fetches the next command, or fused pair, of a submission queue, and makes all that it has to do: 0. At a refusal, as
+ * VANDREXU_NO_ENTRY, 8, 11 or VANDREXU_BUSY, what was fetched and isn't finished is kept, and the next call goes on with
+ * that, whichever queue it names. */
+uint32_t vandrexu_disk_serve(vandrexu_disk *disk, uint16_t queue);
+
+/* The same in steps. Fetches, and keeps what has to be done; VANDREXU_UNFINISHED where something is kept. */
+uint32_t vandrexu_disk_fetch(vandrexu_disk *disk, uint16_t queue);
+
+/* Makes the next Grant, Block or Post of what is kept; VANDREXU_NOTHING_READY where there is none, and nothing is kept
+ * then. */
+uint32_t vandrexu_disk_task(vandrexu_disk *disk);
+
+/* ---- A host ---- */
+
+/* 0, and the host's handle owns a host of this number, not 0, with a driver on this submission queue; VANDREXU_NO_QUEUE,
+ * VANDREXU_NO_HOST, VANDREXU_BAD_NUMBER, 11, VANDREXU_IN_USE. No other host of the disk should have the number or the
+ * queue. */
+uint32_t vandrexu_host_new(vandrexu_disk *disk, uint32_t number, uint16_t queue, vandrexu_host *host);
+
+/* Frees it, and leaves the handle zeros; a call that isn't answered is forgotten, and its pass isn't given back. Nothing
+ * is done to one that owns nothing. */
+void vandrexu_host_free(vandrexu_host *host);
+
+/* Each begins a call: its entries are published. 41 to 43, 45 and 46, and then nothing was; VANDREXU_IN_CALL. Data is 512
+ * bytes a block, and is copied. */
+uint32_t vandrexu_host_read(vandrexu_host *host, uint64_t lba, uint32_t blocks);
+uint32_t vandrexu_host_write(vandrexu_host *host, uint64_t lba, const uint8_t *data, size_t length);
+uint32_t vandrexu_host_compare(vandrexu_host *host, uint64_t lba, const uint8_t *data, size_t length);
+
+/* Writes the desired data where the blocks hold the expected data, as one fused pair. */
+uint32_t vandrexu_host_compare_and_write(vandrexu_host *host, uint64_t lba, const uint8_t *expected,
+                                         size_t expected_length, const uint8_t *desired, size_t desired_length);
+
+/* What became of a call. */
+enum vandrexu_reply_kind {
+    VANDREXU_REPLY_PENDING = 1, /* not all its completions were reaped */
+    VANDREXU_REPLY_READ = 2,    /* what was read is had by vandrexu_host_data */
+    VANDREXU_REPLY_WRITTEN = 3,
+    VANDREXU_REPLY_EQUAL = 4,   /* a Compare's data was on the blocks */
+    VANDREXU_REPLY_DIFFERS = 5, /* that of a Compare, or of a Compare and Write, was not */
+    VANDREXU_REPLY_SWAPPED = 6, /* a Compare and Write's was, and its blocks were written */
+    VANDREXU_REPLY_FAILED = 7   /* with the status beside it */
+};
+
+typedef struct vandrexu_reply {
+    uint32_t kind;
+    uint8_t sct; /* of VANDREXU_REPLY_FAILED: the Status Code Type */
+    uint8_t sc;  /* and the Status Code */
+    uint8_t zeros[2];
+} vandrexu_reply;
+
+/* Reaps at most one completion of the host's completion queue: 0, and what became of the call, which is over but where it
+ * is pending; 44, where it failed, and it is over; 45 and 46, and it goes on; VANDREXU_NO_CALL. Where it isn't over, and
+ * where there is none, the reply says pending. */
+uint32_t vandrexu_host_poll(vandrexu_host *host, vandrexu_reply *reply);
+
+/* Copies what the host read last: *needed bytes; VANDREXU_TOO_SMALL. */
+uint32_t vandrexu_host_data(vandrexu_host *host, uint8_t *out, size_t room, size_t *needed);
+
+VANDREXU_LAYOUT(sizeof(vandrexu_disk) == 16 && offsetof(vandrexu_disk, live) == 8);
+VANDREXU_LAYOUT(sizeof(vandrexu_host) == 16 && offsetof(vandrexu_host, live) == 8);
+VANDREXU_LAYOUT(sizeof(vandrexu_reply) == 8 && offsetof(vandrexu_reply, sct) == 4);
+
+#ifdef __cplusplus
+}
+#endif
+#endif

@@ -1,0 +1,403 @@
+/* Calls each function of vandrexu_hosts.h, with each of its answers. Exits with 1 at the first that isn't as it should be.
+ *
+ * Compiled with REFUSES it has a heap of its own in place of heap.c, refuses each allocation of a run in turn, and wants
+ * that to be told and nothing to be lost. */
+#include "vandrexu_hosts.h"
+
+#include <pthread.h>
+#include <stdatomic.h>
+#include <stdio.h>
+#include <stdlib.h>
+#include <string.h>
+
+#define WANT(what)                                                                                                     \
+    do {                                                                                                               \
+        if (!(what)) {                                                                                                 \
+            fprintf(stderr, "hosts.c:%d: %s\n", __LINE__, #what);                                                      \
+            exit(1);                                                                                                   \
+        }                                                                                                              \
+    } while (0)
+
+/* Two pairs, each with a completion queue of its own, and pairs of two blocks at most. */
+static const vandrexu_config config = {8, 1, 1, 0, 0, 2, 4, 4, 8, 2};
+
+static const uint8_t zeros[512];
+
+static void fill(uint8_t *block, uint8_t with)
+{
+    memset(block, with, 512);
+}
+
+#ifndef REFUSES
+/* Polls until the call is over, and wants this of it. */
+static void over(vandrexu_host *host, uint32_t kind)
+{
+    vandrexu_reply reply;
+    do
+        WANT(vandrexu_host_poll(host, &reply) == VANDREXU_DONE);
+    while (reply.kind == VANDREXU_REPLY_PENDING);
+    WANT(reply.kind == kind && reply.sct == 0 && reply.sc == 0);
+    WANT(vandrexu_host_poll(host, &reply) == VANDREXU_NO_CALL);
+}
+
+static void serve(vandrexu_disk *disk, uint16_t queue)
+{
+    WANT(vandrexu_disk_serve(disk, queue) == VANDREXU_DONE);
+}
+
+/* Handles of zeros are answered, and nothing else is written. */
+static void nothing(void)
+{
+    vandrexu_disk disk = VANDREXU_DISK_NONE;
+    vandrexu_host host = VANDREXU_HOST_NONE;
+    vandrexu_reply reply = {9, 9, 9, {9, 9}};
+    uint8_t out[1] = {9};
+    size_t needed = 7;
+    WANT(vandrexu_disk_serve(&disk, 1) == VANDREXU_NO_HANDLE);
+    WANT(vandrexu_disk_fetch(&disk, 1) == VANDREXU_NO_HANDLE);
+    WANT(vandrexu_disk_task(&disk) == VANDREXU_NO_HANDLE);
+    WANT(vandrexu_host_new(&disk, 1, 1, &host) == VANDREXU_NO_HANDLE);
+    WANT(vandrexu_host_read(&host, 0, 1) == VANDREXU_NO_HANDLE);
+    WANT(vandrexu_host_write(&host, 0, zeros, 512) == VANDREXU_NO_HANDLE);
+    WANT(vandrexu_host_compare(&host, 0, zeros, 512) == VANDREXU_NO_HANDLE);
+    WANT(vandrexu_host_compare_and_write(&host, 0, zeros, 512, zeros, 512) == VANDREXU_NO_HANDLE);
+    WANT(vandrexu_host_poll(&host, &reply) == VANDREXU_NO_HANDLE && reply.kind == 9 && reply.sc == 9);
+    WANT(vandrexu_host_data(&host, out, 1, &needed) == VANDREXU_NO_HANDLE && out[0] == 9);
+    vandrexu_disk_free(&disk);
+    vandrexu_host_free(&host);
+    WANT(disk.at == NULL && disk.live == 0 && host.at == NULL && host.live == 0);
+}
+
+/* What a disk and its hosts are refused for. */
+static void made(void)
+{
+    vandrexu_config bad = config;
+    vandrexu_disk disk = VANDREXU_DISK_NONE;
+    vandrexu_host one = VANDREXU_HOST_NONE, two = VANDREXU_HOST_NONE;
+    bad.cqs = 3;
+    WANT(vandrexu_disk_new(&bad, 1, &disk) == VANDREXU_BAD_CQS && disk.live == 0);
+    WANT(vandrexu_disk_new(&config, 1, &disk) == VANDREXU_DONE);
+    WANT(vandrexu_disk_new(&config, 1, &disk) == VANDREXU_IN_USE);
+    WANT(vandrexu_host_new(&disk, 0, 1, &one) == VANDREXU_BAD_NUMBER);
+    WANT(vandrexu_host_new(&disk, 1, 0, &one) == VANDREXU_NO_QUEUE);
+    WANT(vandrexu_host_new(&disk, 1, 3, &one) == VANDREXU_NO_QUEUE && one.live == 0);
+    WANT(vandrexu_host_new(&disk, 1, 1, &one) == VANDREXU_DONE);
+    WANT(vandrexu_host_new(&disk, 1, 1, &one) == VANDREXU_IN_USE);
+    WANT(vandrexu_host_new(&disk, 2, 2, &two) == VANDREXU_NO_HOST && two.live == 0);
+    vandrexu_host_free(&one);
+    vandrexu_host_free(&one);
+    vandrexu_disk_free(&disk);
+    vandrexu_disk_free(&disk);
+    WANT(vandrexu_disk_new(&config, 0, &disk) == VANDREXU_DONE);
+    WANT(vandrexu_host_new(&disk, 1, 1, &one) == VANDREXU_NO_HOST);
+    vandrexu_disk_free(&disk);
+    WANT(disk.at == NULL && disk.live == 0 && one.at == NULL && one.live == 0);
+}
+
+/* Two hosts swap one block; the second one served finds that of the first. */
+static void swaps(void)
+{
+    vandrexu_disk disk = VANDREXU_DISK_NONE;
+    vandrexu_host one = VANDREXU_HOST_NONE, two = VANDREXU_HOST_NONE;
+    vandrexu_reply reply;
+    uint8_t a[1024], b[512], got[1024];
+    size_t needed = 7;
+    memset(a, 0xA1, sizeof a);
+    fill(b, 0xB2);
+    WANT(vandrexu_disk_new(&config, 2, &disk) == VANDREXU_DONE);
+    WANT(vandrexu_host_new(&disk, 1, 1, &one) == VANDREXU_DONE);
+    WANT(vandrexu_host_new(&disk, 2, 2, &two) == VANDREXU_DONE);
+    WANT(vandrexu_host_poll(&one, &reply) == VANDREXU_NO_CALL);
+    WANT(vandrexu_host_data(&one, got, 0, &needed) == VANDREXU_DONE && needed == 0);
+    WANT(vandrexu_disk_serve(&disk, 1) == VANDREXU_NO_ENTRY);
+    WANT(vandrexu_disk_serve(&disk, 3) == VANDREXU_NO_QUEUE);
+    WANT(vandrexu_host_compare_and_write(&one, 3, zeros, 512, a, 512) == VANDREXU_DONE);
+    WANT(vandrexu_host_compare_and_write(&one, 3, zeros, 512, a, 512) == VANDREXU_IN_CALL);
+    WANT(vandrexu_host_write(&one, 3, a, 512) == VANDREXU_IN_CALL);
+    WANT(vandrexu_host_read(&one, 3, 1) == VANDREXU_IN_CALL);
+    WANT(vandrexu_host_compare(&one, 3, a, 512) == VANDREXU_IN_CALL);
+    WANT(vandrexu_host_compare_and_write(&two, 3, zeros, 512, b, 512) == VANDREXU_DONE);
+    WANT(vandrexu_host_poll(&one, &reply) == VANDREXU_DONE && reply.kind == VANDREXU_REPLY_PENDING);
+    serve(&disk, 2);
+    serve(&disk, 1);
+    over(&one, VANDREXU_REPLY_DIFFERS);
+    over(&two, VANDREXU_REPLY_SWAPPED);
+    WANT(vandrexu_host_write(&one, 4, a, 1024) == VANDREXU_DONE);
+    serve(&disk, 1);
+    over(&one, VANDREXU_REPLY_WRITTEN);
+    WANT(vandrexu_host_compare(&two, 4, a, 1024) == VANDREXU_DONE);
+    serve(&disk, 2);
+    over(&two, VANDREXU_REPLY_EQUAL);
+    WANT(vandrexu_host_compare(&two, 3, a, 512) == VANDREXU_DONE);
+    serve(&disk, 2);
+    over(&two, VANDREXU_REPLY_DIFFERS);
+    WANT(vandrexu_host_read(&two, 3, 2) == VANDREXU_DONE);
+    serve(&disk, 2);
+    over(&two, VANDREXU_REPLY_READ);
+    memset(got, 0, sizeof got);
+    WANT(vandrexu_host_data(&two, got, 1023, &needed) == VANDREXU_TOO_SMALL && needed == 1024 && got[0] == 0);
+    WANT(vandrexu_host_data(&two, got, 1024, &needed) == VANDREXU_DONE && needed == 1024);
+    WANT(memcmp(got, b, 512) == 0 && memcmp(got + 512, a, 512) == 0);
+    vandrexu_host_free(&one);
+    vandrexu_disk_free(&disk);
+    WANT(vandrexu_host_write(&two, 0, a, 512) == VANDREXU_DONE);
+    vandrexu_host_free(&two);
+}
+
+/* What a call is refused for, and one that fails. */
+static void faults(void)
+{
+    vandrexu_disk disk = VANDREXU_DISK_NONE;
+    vandrexu_host host = VANDREXU_HOST_NONE;
+    vandrexu_reply reply;
+    uint8_t data[2048] = {0};
+    WANT(vandrexu_disk_new(&config, 1, &disk) == VANDREXU_DONE);
+    WANT(vandrexu_host_new(&disk, 1, 1, &host) == VANDREXU_DONE);
+    WANT(vandrexu_host_read(&host, 0, 0) == VANDREXU_CALL_LENGTH);
+    WANT(vandrexu_host_read(&host, 0, 257) == VANDREXU_CALL_TOO_LONG);
+    WANT(vandrexu_host_write(&host, 0, data, 511) == VANDREXU_CALL_LENGTH);
+    WANT(vandrexu_host_compare(&host, 0, data, 0) == VANDREXU_CALL_LENGTH);
+    WANT(vandrexu_host_compare_and_write(&host, 0, data, 512, data, 1024) == VANDREXU_CALL_LENGTH);
+    WANT(vandrexu_host_compare_and_write(&host, 0, data, 1536, data, 1536) == VANDREXU_CALL_TOO_LONG);
+    WANT(vandrexu_host_poll(&host, &reply) == VANDREXU_NO_CALL);
+    WANT(vandrexu_host_read(&host, 8, 1) == VANDREXU_DONE);
+    serve(&disk, 1);
+    /* LBA Out of Range */
+    WANT(vandrexu_host_poll(&host, &reply) == VANDREXU_CALL_FAILED);
+    WANT(reply.kind == VANDREXU_REPLY_FAILED && reply.sct == 0 && reply.sc == 0x80);
+    WANT(vandrexu_host_poll(&host, &reply) == VANDREXU_NO_CALL);
+    vandrexu_host_free(&host);
+    vandrexu_disk_free(&disk);
+}
+
+/* A disk that is served in steps; what isn't finished is kept. */
+static void steps(void)
+{
+    vandrexu_disk disk = VANDREXU_DISK_NONE;
+    vandrexu_host one = VANDREXU_HOST_NONE;
+    uint8_t data[512];
+    int tasks = 0;
+    fill(data, 0x5A);
+    WANT(vandrexu_disk_new(&config, 1, &disk) == VANDREXU_DONE);
+    WANT(vandrexu_host_new(&disk, 7, 2, &one) == VANDREXU_DONE);
+    WANT(vandrexu_disk_task(&disk) == VANDREXU_NOTHING_READY);
+    WANT(vandrexu_disk_fetch(&disk, 2) == VANDREXU_NO_ENTRY);
+    WANT(vandrexu_host_write(&one, 1, data, 512) == VANDREXU_DONE);
+    WANT(vandrexu_disk_fetch(&disk, 2) == VANDREXU_DONE);
+    WANT(vandrexu_disk_fetch(&disk, 2) == VANDREXU_UNFINISHED);
+    while (vandrexu_disk_task(&disk) == VANDREXU_DONE)
+        tasks++;
+    /* a Grant, a Block, a Post */
+    WANT(tasks == 3);
+    WANT(vandrexu_disk_task(&disk) == VANDREXU_NOTHING_READY);
+    over(&one, VANDREXU_REPLY_WRITTEN);
+    WANT(vandrexu_host_write(&one, 1, data, 512) == VANDREXU_DONE);
+    WANT(vandrexu_disk_fetch(&disk, 2) == VANDREXU_DONE);
+    /* it goes on with what was fetched, whichever queue is named */
+    WANT(vandrexu_disk_serve(&disk, 1) == VANDREXU_DONE);
+    over(&one, VANDREXU_REPLY_WRITTEN);
+    vandrexu_disk_free(&disk);
+    vandrexu_host_free(&one);
+}
+
+/* No handle is left behind. */
+static void many(void)
+{
+    for (int i = 0; i < 20000; i++) {
+        vandrexu_disk disk = VANDREXU_DISK_NONE;
+        vandrexu_host host = VANDREXU_HOST_NONE;
+        WANT(vandrexu_disk_new(&config, 1, &disk) == VANDREXU_DONE);
+        WANT(vandrexu_host_new(&disk, 1, 1, &host) == VANDREXU_DONE);
+        if (i % 2 == 0)
+            vandrexu_disk_free(&disk);
+        vandrexu_host_free(&host);
+        vandrexu_disk_free(&disk);
+    }
+}
+
+static atomic_int running;
+
+/* A thread has one host, and adds to a count that lies in a block by Compare and Write. */
+static void *adds(void *at)
+{
+    vandrexu_host *host = at;
+    uint8_t old[512] = {0}, new[512];
+    for (int added = 0; added < 200;) {
+        vandrexu_reply reply;
+        uint32_t told;
+        memcpy(new, old, sizeof new);
+        new[0] = (uint8_t)(old[0] + 1);
+        new[1] = (uint8_t)(old[1] + (new[0] == 0));
+        while ((told = vandrexu_host_compare_and_write(host, 0, old, 512, new, 512)) == VANDREXU_CALL_BUSY)
+            ;
+        WANT(told == VANDREXU_DONE);
+        while ((told = vandrexu_host_poll(host, &reply)) == VANDREXU_CALL_BUSY
+               || (told == VANDREXU_DONE && reply.kind == VANDREXU_REPLY_PENDING))
+            ;
+        WANT(told == VANDREXU_DONE);
+        if (reply.kind == VANDREXU_REPLY_SWAPPED) {
+            added++;
+            memcpy(old, new, sizeof old);
+            continue;
+        }
+        WANT(reply.kind == VANDREXU_REPLY_DIFFERS);
+        while ((told = vandrexu_host_read(host, 0, 1)) == VANDREXU_CALL_BUSY)
+            ;
+        WANT(told == VANDREXU_DONE);
+        while ((told = vandrexu_host_poll(host, &reply)) == VANDREXU_CALL_BUSY
+               || (told == VANDREXU_DONE && reply.kind == VANDREXU_REPLY_PENDING))
+            ;
+        size_t needed;
+        WANT(told == VANDREXU_DONE && reply.kind == VANDREXU_REPLY_READ);
+        WANT(vandrexu_host_data(host, old, 512, &needed) == VANDREXU_DONE && needed == 512);
+    }
+    atomic_fetch_sub(&running, 1);
+    return NULL;
+}
+
+/* Two hosts and the disk on a thread each. */
+static void threads(void)
+{
+    vandrexu_disk disk = VANDREXU_DISK_NONE;
+    vandrexu_host hosts[2] = {VANDREXU_HOST_NONE, VANDREXU_HOST_NONE};
+    pthread_t ids[2];
+    uint8_t wanted[512] = {400 % 256, 400 / 256};
+    WANT(vandrexu_disk_new(&config, 2, &disk) == VANDREXU_DONE);
+    for (int i = 0; i < 2; i++)
+        WANT(vandrexu_host_new(&disk, (uint32_t)i + 1, (uint16_t)(i + 1), &hosts[i]) == VANDREXU_DONE);
+    atomic_store(&running, 2);
+    for (int i = 0; i < 2; i++)
+        WANT(pthread_create(&ids[i], NULL, adds, &hosts[i]) == 0);
+    while (atomic_load(&running) > 0)
+        for (uint16_t queue = 1; queue <= 2; queue++) {
+            uint32_t told = vandrexu_disk_serve(&disk, queue);
+            WANT(told == VANDREXU_DONE || told == VANDREXU_NO_ENTRY || told == VANDREXU_BUSY);
+        }
+    for (int i = 0; i < 2; i++)
+        WANT(pthread_join(ids[i], NULL) == 0);
+    WANT(vandrexu_host_compare(&hosts[0], 0, wanted, 512) == VANDREXU_DONE);
+    serve(&disk, 1);
+    over(&hosts[0], VANDREXU_REPLY_EQUAL);
+    for (int i = 0; i < 2; i++)
+        vandrexu_host_free(&hosts[i]);
+    vandrexu_disk_free(&disk);
+}
+
+int main(void)
+{
+    nothing();
+    made();
+    swaps();
+    faults();
+    steps();
+    many();
+    threads();
+    puts("hosts: as they should be");
+    return 0;
+}
+#else
+#include <stdbool.h>
+
+struct tried {
+    bool there;
+    void *at;
+};
+
+static char nowhere;
+static long refused_at, allocations, blocks;
+
+static struct tried told(void *block, long more)
+{
+    struct tried answer = {block != NULL, block != NULL ? block : &nowhere};
+    blocks += block != NULL ? more : 0;
+    return answer;
+}
+
+struct tried rattle_alloc(size_t size, size_t alignment)
+{
+    return told(++allocations == refused_at ? NULL : malloc(size != 0 ? size : alignment), 1);
+}
+
+struct tried rattle_realloc(void *block, size_t kept, size_t size, size_t alignment)
+{
+    (void)kept;
+    return told(++allocations == refused_at ? NULL : realloc(block, size != 0 ? size : alignment), 0);
+}
+
+void rattle_dealloc(void *block)
+{
+    blocks--;
+    free(block);
+}
+
+static int refusals;
+
+static int is_refusal(uint32_t answer)
+{
+    int is = answer == VANDREXU_NO_MEMORY || answer == VANDREXU_CALL_NO_MEMORY;
+    refusals += is;
+    return is;
+}
+
+/* Each call is asked again where memory was refused, which no call does twice. */
+#define TRY(call)                                                                                                      \
+    do {                                                                                                               \
+        if (is_refusal(call))                                                                                          \
+            WANT((call) == VANDREXU_DONE);                                                                             \
+    } while (0)
+
+static void poll(vandrexu_host *host, uint32_t kind)
+{
+    vandrexu_reply reply;
+    do {
+        uint32_t answer = vandrexu_host_poll(host, &reply);
+        if (is_refusal(answer))
+            WANT(reply.kind == VANDREXU_REPLY_PENDING);
+        else
+            WANT(answer == VANDREXU_DONE);
+    } while (reply.kind == VANDREXU_REPLY_PENDING);
+    WANT(reply.kind == kind);
+}
+
+static void run_refused(long at)
+{
+    vandrexu_disk disk = VANDREXU_DISK_NONE;
+    vandrexu_host one = VANDREXU_HOST_NONE, two = VANDREXU_HOST_NONE;
+    uint8_t data[512], got[512];
+    size_t needed;
+    fill(data, 0xC3);
+    refused_at = at;
+    allocations = blocks = 0;
+    TRY(vandrexu_disk_new(&config, 2, &disk));
+    TRY(vandrexu_host_new(&disk, 1, 1, &one));
+    /* no pass was lost */
+    TRY(vandrexu_host_new(&disk, 2, 2, &two));
+    TRY(vandrexu_host_compare_and_write(&one, 3, zeros, 512, data, 512));
+    TRY(vandrexu_disk_serve(&disk, 1));
+    poll(&one, VANDREXU_REPLY_SWAPPED);
+    TRY(vandrexu_host_read(&two, 3, 1));
+    TRY(vandrexu_disk_serve(&disk, 2));
+    poll(&two, VANDREXU_REPLY_READ);
+    WANT(vandrexu_host_data(&two, got, 512, &needed) == VANDREXU_DONE && memcmp(got, data, 512) == 0);
+    vandrexu_disk_free(&disk);
+    vandrexu_host_free(&one);
+    vandrexu_host_free(&two);
+    WANT(blocks == 0);
+}
+
+int main(void)
+{
+    long all, refused = 0;
+    run_refused(0);
+    WANT(refusals == 0);
+    all = allocations;
+    for (long at = 1; at <= all; at++) {
+        refusals = 0;
+        run_refused(at);
+        refused += refusals;
+    }
+    printf("allocations: %ld, refused and told: %ld\n", all, refused);
+    WANT(all > 10 && refused == all);
+    return 0;
+}
+#endif
