@@ -184,6 +184,14 @@ uint32_t vandrexu_controller_medium(vandrexu_controller *controller, uint64_t lb
 /* How many entries the history has. */
 uint32_t vandrexu_controller_history_count(vandrexu_controller *controller, uint64_t *count);
 
+/* Copies lines of the history, as many whole ones as fit, each with its line feed: *needed bytes, and *next is the place
+ * behind them. Place 0 is the configuration's line, place k the k-th entry's, which is the k of `bad at k`. So all lines
+ * from 0 on are the text that casdisk prints of a run, and checks. Behind the last one nothing is copied, and *next is
+ * `from`. VANDREXU_TOO_SMALL where not one line fits: *needed is the length of the first. 11. It takes as long as the
+ * lines that are copied, and the next one, are; what stands before `from` costs nothing. */
+uint32_t vandrexu_controller_history(vandrexu_controller *controller, uint64_t from, uint8_t *out, size_t room,
+                                     size_t *needed, uint64_t *next);
+
 /* ---- A checker of histories, which keeps no line ---- */
 
 /* 0, and the handle owns a checker of histories of this configuration that has taken no line; 11, 21 to 30,

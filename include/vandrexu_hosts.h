@@ -84,6 +84,7 @@ void vandrexu_host_free(vandrexu_host *host);
 /* Each begins a call: its entries are published. 41 to 43, 45 and 46, and then nothing was; VANDREXU_IN_CALL. Data is 512
  * bytes a block, and is copied. */
 uint32_t vandrexu_host_read(vandrexu_host *host, uint64_t lba, uint32_t blocks);
+uint32_t vandrexu_host_write_zeroes(vandrexu_host *host, uint64_t lba, uint32_t blocks);
 uint32_t vandrexu_host_write(vandrexu_host *host, uint64_t lba, const uint8_t *data, size_t length);
 uint32_t vandrexu_host_compare(vandrexu_host *host, uint64_t lba, const uint8_t *data, size_t length);
 
@@ -95,7 +96,7 @@ uint32_t vandrexu_host_compare_and_write(vandrexu_host *host, uint64_t lba, cons
 enum vandrexu_reply_kind {
     VANDREXU_REPLY_PENDING = 1, /* not all its completions were reaped */
     VANDREXU_REPLY_READ = 2,    /* what was read is had by vandrexu_host_data */
-    VANDREXU_REPLY_WRITTEN = 3,
+    VANDREXU_REPLY_WRITTEN = 3, /* of a Write, and of a Write Zeroes */
     VANDREXU_REPLY_EQUAL = 4,   /* a Compare's data was on the blocks */
     VANDREXU_REPLY_DIFFERS = 5, /* that of a Compare, or of a Compare and Write, was not */
     VANDREXU_REPLY_SWAPPED = 6, /* a Compare and Write's was, and its blocks were written */

@@ -1,4 +1,5 @@
-"""An NVM Express controller in memory, around the fused Compare and Write, and a checker of histories.
+"""An NVM Express controller in memory, around the fused Compare and Write, hosts with a driver each, and a checker of
+histories.
 
 Whoever tests a device or its driver in Python has both at hand. The controller makes one step at a time, when it is
 asked; the checker says of each line of a log whether the controller that wrote it did right.
@@ -37,7 +38,7 @@ BLOCK = 512
 
 
 class Status(IntEnum):
-    """The statuses of vandrexu.h."""
+    """The statuses of vandrexu.h and of vandrexu_hosts.h."""
     DONE = 0
     NO_QUEUE = 1
     NO_ROOM = 2
@@ -50,6 +51,7 @@ class Status(IntEnum):
     NO_COMPLETION = 9
     BAD_BATCH = 10
     NO_MEMORY = 11
+    BUSY = 12
     AWUN_TOO_LARGE = 21
     ACWU_TOO_LARGE = 22
     BOUNDARY_BELOW_UNIT = 23
@@ -60,6 +62,12 @@ class Status(IntEnum):
     BAD_CQ_SIZE = 28
     BAD_JOBS = 29
     BAD_CQS = 30
+    CALL_LENGTH = 41
+    CALL_TOO_LONG = 42
+    CALL_NO_ROOM = 43
+    CALL_FAILED = 44
+    CALL_BUSY = 45
+    CALL_NO_MEMORY = 46
     NO_HANDLE = 101
     IN_USE = 102
     TOO_SMALL = 103
@@ -72,6 +80,11 @@ class Status(IntEnum):
     BAD_HISTORY = 110
     OTHER_CONFIG = 111
     GAVE_UP = 112
+    UNFINISHED = 113
+    NO_HOST = 114
+    BAD_NUMBER = 115
+    IN_CALL = 116
+    NO_CALL = 117
 
 
 WORDS: dict[Status, str] = {
@@ -87,6 +100,7 @@ WORDS: dict[Status, str] = {
     Status.NO_COMPLETION: "no completion to reap",
     Status.BAD_BATCH: "no entry to publish",
     Status.NO_MEMORY: "no memory",
+    Status.BUSY: "another handle of the disk had the controller",
     Status.AWUN_TOO_LARGE: "AWUN is above 255",
     Status.ACWU_TOO_LARGE: "ACWU is above 255",
     Status.BOUNDARY_BELOW_UNIT: "NABSN isn't 0, and AWUN or ACWU is above it",
@@ -97,6 +111,12 @@ WORDS: dict[Status, str] = {
     Status.BAD_CQ_SIZE: "CQ isn't 2 to 1,024",
     Status.BAD_JOBS: "JOBS isn't 1 to 256",
     Status.BAD_CQS: "CQS is 0 or above PAIRS",
+    Status.CALL_LENGTH: "no block, or data that isn't whole blocks, or two data of unlike lengths",
+    Status.CALL_TOO_LONG: "more blocks than a call may have",
+    Status.CALL_NO_ROOM: "no room in the submission queue for a call",
+    Status.CALL_FAILED: "the call failed",
+    Status.CALL_BUSY: "another handle of the disk had the controller, for a call",
+    Status.CALL_NO_MEMORY: "no memory for a call",
     Status.NO_HANDLE: "the handle owns nothing",
     Status.IN_USE: "the handle owns something already",
     Status.TOO_SMALL: "the room is too small",
@@ -109,6 +129,11 @@ WORDS: dict[Status, str] = {
     Status.BAD_HISTORY: "the history beside the trace has a line that is none",
     Status.OTHER_CONFIG: "a trace and a history that don't belong together",
     Status.GAVE_UP: "the steps of the search were used up",
+    Status.UNFINISHED: "what was fetched before isn't finished",
+    Status.NO_HOST: "as many hosts were made as the disk was made for",
+    Status.BAD_NUMBER: "a host has no number 0",
+    Status.IN_CALL: "the host has a call",
+    Status.NO_CALL: "the host has no call",
 }
 """What each status says."""
 
@@ -145,7 +170,15 @@ class BadConfig(Error):
 
 
 class NoMemory(Error, MemoryError):
-    """There is no memory: status 11."""
+    """There is no memory: status 11, and 46 for a host's call."""
+
+
+class Busy(Error):
+    """Another handle of the disk had the controller: status 12, and 45 for a host's call. Ask again."""
+
+
+class CallRefused(Error):
+    """A host's call isn't begun: statuses 41 to 43."""
 
 
 class NoHandle(Error):
@@ -183,7 +216,9 @@ class GaveUp(Error):
 _ERRORS = {
     Status.NO_MEMORY: NoMemory, Status.NO_HANDLE: NoHandle, Status.NO_BLOCK: NoBlock, Status.BAD_LINE: BadLine,
     Status.NOT_LEGAL: NotLegal, Status.NOT_EXPLAINED: NotExplained, Status.BAD_HISTORY: BadHistory,
-    Status.OTHER_CONFIG: OtherConfig, Status.GAVE_UP: GaveUp,
+    Status.OTHER_CONFIG: OtherConfig, Status.GAVE_UP: GaveUp, Status.BUSY: Busy, Status.CALL_BUSY: Busy,
+    Status.CALL_NO_MEMORY: NoMemory, Status.CALL_LENGTH: CallRefused, Status.CALL_TOO_LONG: CallRefused,
+    Status.CALL_NO_ROOM: CallRefused,
 }
 
 
@@ -203,7 +238,7 @@ def _want(number: int) -> None:
         raise _error(number)
 
 
-# ---- The structs of vandrexu.h, and its functions
+# ---- The structs of vandrexu.h and vandrexu_hosts.h, and their functions
 
 class RawController(Structure):
     """vandrexu_controller"""
@@ -212,6 +247,16 @@ class RawController(Structure):
 
 class RawChecker(Structure):
     """vandrexu_checker"""
+    _fields_ = [("at", c_void_p), ("live", c_uint32)]
+
+
+class RawDisk(Structure):
+    """vandrexu_disk"""
+    _fields_ = [("at", c_void_p), ("live", c_uint32)]
+
+
+class RawHost(Structure):
+    """vandrexu_host"""
     _fields_ = [("at", c_void_p), ("live", c_uint32)]
 
 
@@ -248,9 +293,16 @@ class RawStep(Structure):
     _fields_ = [("ticket", c_uint64), ("kind", c_uint32)]
 
 
+class RawReply(Structure):
+    """vandrexu_reply"""
+    _fields_ = [("kind", c_uint32), ("sct", c_uint8), ("sc", c_uint8), ("zeros", c_uint8 * 2)]
+
+
 _Bytes = POINTER(c_uint8)
 _Controller = POINTER(RawController)
 _Checker = POINTER(RawChecker)
+_Disk = POINTER(RawDisk)
+_Host = POINTER(RawHost)
 _TEXT = [_Bytes, c_size_t, POINTER(c_size_t), POINTER(c_uint64)]
 _ARGUMENTS = {
     "vandrexu_config_fault": [POINTER(RawConfig)],
@@ -267,6 +319,7 @@ _ARGUMENTS = {
     "vandrexu_controller_ready": [_Controller, POINTER(RawStep)],
     "vandrexu_controller_medium": [_Controller, c_uint64, _Bytes],
     "vandrexu_controller_history_count": [_Controller, POINTER(c_uint64)],
+    "vandrexu_controller_history": [_Controller, c_uint64, _Bytes, c_size_t, POINTER(c_size_t), POINTER(c_uint64)],
     "vandrexu_checker_new": [POINTER(RawConfig), _Checker],
     "vandrexu_checker_free": [_Checker],
     "vandrexu_checker_take_line": [_Checker, c_char_p, c_size_t],
@@ -275,6 +328,20 @@ _ARGUMENTS = {
     "vandrexu_check_text": [c_char_p, c_size_t, *_TEXT],
     "vandrexu_certify_text": [c_char_p, c_size_t, c_char_p, c_size_t, *_TEXT],
     "vandrexu_observe_text": [c_char_p, c_size_t, c_uint64, _Bytes, c_size_t, POINTER(c_size_t), *_TEXT],
+    "vandrexu_disk_new": [POINTER(RawConfig), c_uint16, _Disk],
+    "vandrexu_disk_free": [_Disk],
+    "vandrexu_disk_serve": [_Disk, c_uint16],
+    "vandrexu_disk_fetch": [_Disk, c_uint16],
+    "vandrexu_disk_task": [_Disk],
+    "vandrexu_host_new": [_Disk, c_uint32, c_uint16, _Host],
+    "vandrexu_host_free": [_Host],
+    "vandrexu_host_read": [_Host, c_uint64, c_uint32],
+    "vandrexu_host_write_zeroes": [_Host, c_uint64, c_uint32],
+    "vandrexu_host_write": [_Host, c_uint64, c_char_p, c_size_t],
+    "vandrexu_host_compare": [_Host, c_uint64, c_char_p, c_size_t],
+    "vandrexu_host_compare_and_write": [_Host, c_uint64, c_char_p, c_size_t, c_char_p, c_size_t],
+    "vandrexu_host_poll": [_Host, POINTER(RawReply)],
+    "vandrexu_host_data": [_Host, _Bytes, c_size_t, POINTER(c_size_t)],
 }
 
 
@@ -294,7 +361,7 @@ def _load() -> ctypes.CDLL:
 
 
 library = _load()
-"""The functions of vandrexu.h, as they are for C."""
+"""The functions of vandrexu.h and vandrexu_hosts.h, as they are for C."""
 
 
 # ---- Configurations and entries
@@ -536,7 +603,7 @@ class Reaped(NamedTuple):
     data: bytes
 
 
-# ---- The controller and the checker
+# ---- The controller, the checker, a disk and its hosts
 
 class _Handle:
     """What owns something until it is closed. Calls of one handle take turns."""
@@ -544,11 +611,15 @@ class _Handle:
     _free: str
     _raw_type: type[Structure]
 
-    def __init__(self, config: Config):
+    def __init__(self, config: Config, *more: object):
         self.config = config
+        self._hold(byref(config._raw()), *more)
+
+    def _hold(self, *arguments: object) -> None:
+        """Makes what it owns."""
         self._turn = threading.Lock()
         self._raw = self._raw_type()
-        _want(getattr(library, self._new)(byref(config._raw()), byref(self._raw)))
+        _want(getattr(library, self._new)(*arguments, byref(self._raw)))
 
     def _ask(self, name: str, *arguments: object) -> None:
         """Makes a call, and raises what it answers."""
@@ -724,6 +795,32 @@ class Controller(_Handle):
         self._ask("vandrexu_controller_history_count", byref(count))
         return count.value
 
+    def history(self, start: int = 0) -> Iterator[str]:
+        """The lines of the history from a place on, without their line feeds. Place 0 is the configuration's line, and
+        place k the k-th step's; what stands before costs nothing. Steps that are made meanwhile are told, too.
+
+        >>> with Controller(Config()) as disk:
+        ...     disk.publish(1, [Entry.flush(7)])
+        ...     work = disk.fetch(1)
+        ...     disk.settle()
+        ...     list(disk.history(2))
+        ['fetch 1 1 1 ok', 'post 1 00000000000000000100010007000100 -']
+        """
+        place, room = _fits(start, 64), 4096
+        while True:
+            out, needed, behind = (c_uint8 * room)(), c_size_t(), c_uint64()
+            try:
+                self._ask("vandrexu_controller_history", place, out, room, byref(needed), byref(behind))
+            except Error as error:
+                if error.status != Status.TOO_SMALL:
+                    raise
+                room = needed.value
+                continue
+            if behind.value == place:
+                return
+            place = behind.value
+            yield from bytes(out)[:needed.value].decode().splitlines()
+
 
 class Checker(_Handle):
     """Checks the history of a controller line by line, and keeps no line. It is freed where its `with` ends, by
@@ -768,6 +865,151 @@ class Checker(_Handle):
             except Error as error:
                 if error.status != Status.TOO_SMALL:
                     raise
+
+
+class Disk(_Handle):
+    """A controller that hosts share. It is served by this handle, and freed where its `with` ends, by `close`, or where
+    it is forgotten; hosts that were made of it stay, but nobody serves them then.
+
+    Nothing happens by itself: what a host asks for waits until the disk serves its submission queue. Two hosts take
+    each other's completions where their queues have one completion queue: give each its own, as `pairs` alone does.
+
+    >>> with Disk(Config(pairs=2), 2) as disk, disk.host(1, 1) as one, disk.host(2, 2) as two:
+    ...     one.compare_and_write(3, bytes(512), b"\\xA1" * 512)
+    ...     two.compare_and_write(3, bytes(512), b"\\xB2" * 512)
+    ...     disk.serve(2)
+    ...     disk.serve(1)
+    ...     [two.poll().kind.name for _ in "12"], [one.poll().kind.name for _ in "12"]
+    (['PENDING', 'SWAPPED'], ['PENDING', 'DIFFERS'])
+    """
+    _new, _free, _raw_type = "vandrexu_disk_new", "vandrexu_disk_free", RawDisk
+
+    def __init__(self, config: Config, hosts: int):
+        """A disk with no history, whose blocks are zeros, of which so many hosts can be made."""
+        super().__init__(config, _fits(hosts, 16))
+
+    def host(self, number: int, queue: int) -> Host:
+        """A host of this number, with a driver on this submission queue. No other host should have the number or the
+        queue."""
+        return Host(self, number, queue)
+
+    def serve(self, queue: int) -> None:
+        """Fetches the next command of a submission queue, or a fused pair, and makes all that it has to do. Where
+        Refused, NoMemory or Busy is raised what was fetched is kept: the next call goes on with it, whichever queue it
+        names."""
+        self._ask("vandrexu_disk_serve", _fits(queue, 16))
+
+    def fetch(self, queue: int) -> None:
+        """Fetches the next command of a submission queue, or a fused pair, and keeps what has to be done."""
+        self._ask("vandrexu_disk_fetch", _fits(queue, 16))
+
+    def task(self) -> bool:
+        """Makes the next step of what is kept, and says whether there was one.
+
+        >>> with Disk(Config(), 1) as disk, disk.host(1, 1) as host:
+        ...     host.read(3, 1)
+        ...     disk.fetch(1)
+        ...     [disk.task() for _ in range(4)]
+        [True, True, True, False]
+        """
+        try:
+            self._ask("vandrexu_disk_task")
+        except Error as error:
+            if error.status != Status.NOTHING_READY:
+                raise
+            return False
+        return True
+
+
+class ReplyKind(IntEnum):
+    """What became of a host's call."""
+    PENDING = 1
+    READ = 2
+    WRITTEN = 3
+    EQUAL = 4
+    DIFFERS = 5
+    SWAPPED = 6
+    FAILED = 7
+
+
+class Reply(NamedTuple):
+    """What became of a host's call: what a Read read, and the Status Code Type and Status Code of one that failed."""
+    kind: ReplyKind
+    data: bytes = b""
+    status: tuple[int, int] | None = None
+
+
+class Host(_Handle):
+    """A host of a Disk, with a driver, and one call at a time. It is freed where its `with` ends, by `close`, or where
+    it is forgotten.
+
+    A call is begun, and then polled until it is over.
+
+    >>> with Disk(Config(), 1) as disk, disk.host(1, 1) as host:
+    ...     host.write(3, b"\\xA1" * 1024)
+    ...     host.poll()
+    ...     disk.serve(1)
+    ...     host.poll()
+    ...     host.write_zeroes(3, 1)
+    ...     disk.serve(1)
+    ...     host.poll()
+    ...     host.read(3, 2)
+    ...     disk.serve(1)
+    ...     host.poll().data == bytes(512) + b"\\xA1" * 512
+    Reply(kind=<ReplyKind.PENDING: 1>, data=b'', status=None)
+    Reply(kind=<ReplyKind.WRITTEN: 3>, data=b'', status=None)
+    Reply(kind=<ReplyKind.WRITTEN: 3>, data=b'', status=None)
+    True
+    """
+    _new, _free, _raw_type = "vandrexu_host_new", "vandrexu_host_free", RawHost
+
+    def __init__(self, disk: Disk, number: int, queue: int):
+        _fits(number, 32), _fits(queue, 16)
+        self.config, self.number, self.queue = disk.config, number, queue
+        with disk._turn:
+            self._hold(byref(disk._raw), number, queue)
+
+    def read(self, lba: int, blocks: int = 1) -> None:
+        """Begins to read so many blocks."""
+        self._ask("vandrexu_host_read", _fits(lba, 64), _fits(blocks, 32))
+
+    def write_zeroes(self, lba: int, blocks: int = 1) -> None:
+        """Begins to write zeros to so many blocks."""
+        self._ask("vandrexu_host_write_zeroes", _fits(lba, 64), _fits(blocks, 32))
+
+    def write(self, lba: int, data: bytes) -> None:
+        """Begins to write this data, 512 bytes a block."""
+        data = bytes(data)
+        self._ask("vandrexu_host_write", _fits(lba, 64), data, len(data))
+
+    def compare(self, lba: int, data: bytes) -> None:
+        """Begins to compare this data, 512 bytes a block, with what is there."""
+        data = bytes(data)
+        self._ask("vandrexu_host_compare", _fits(lba, 64), data, len(data))
+
+    def compare_and_write(self, lba: int, expected: bytes, desired: bytes) -> None:
+        """Begins to write the desired data where the blocks hold the expected data, as one fused pair."""
+        old, new = bytes(expected), bytes(desired)
+        self._ask("vandrexu_host_compare_and_write", _fits(lba, 64), old, len(old), new, len(new))
+
+    def poll(self) -> Reply:
+        """Reaps at most one completion, and says what became of the call, which is over but where it is pending."""
+        reply, needed = RawReply(), c_size_t()
+        with self._turn:
+            handle = byref(self._raw)
+            number = library.vandrexu_host_poll(handle, byref(reply))
+            if number != Status.CALL_FAILED:
+                _want(number)
+            kind = ReplyKind(reply.kind)
+            if kind == ReplyKind.FAILED:
+                return Reply(kind, status=(reply.sct, reply.sc))
+            if kind != ReplyKind.READ:
+                return Reply(kind)
+            # (the first call, with no room, says how much there is)
+            library.vandrexu_host_data(handle, (c_uint8 * 1)(), 0, byref(needed))
+            data = (c_uint8 * max(1, needed.value))()
+            _want(library.vandrexu_host_data(handle, data, needed.value, byref(needed)))
+        return Reply(kind, bytes(data)[:needed.value])
 
 
 def _bytes_of(line: str | bytes) -> bytes:

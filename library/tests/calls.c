@@ -56,7 +56,7 @@ static void zeros(void)
     vandrexu_step step;
     uint8_t cqe[16] = {0}, block[512] = {0};
     size_t count = 7;
-    uint64_t entries = 7;
+    uint64_t entries = 7, next = 7;
     memset(&work, 0, sizeof work);
     memset(&granted, 0, sizeof granted);
     memset(&blocked, 0, sizeof blocked);
@@ -72,8 +72,10 @@ static void zeros(void)
     WANT(vandrexu_controller_ready(&none, &step) == VANDREXU_NO_HANDLE);
     WANT(vandrexu_controller_medium(&none, 0, block) == VANDREXU_NO_HANDLE);
     WANT(vandrexu_controller_history_count(&none, &entries) == VANDREXU_NO_HANDLE);
+    WANT(vandrexu_controller_history(&none, 0, block, 512, &count, &next) == VANDREXU_NO_HANDLE);
     WANT(vandrexu_settle(&none) == VANDREXU_NO_HANDLE);
-    WANT(count == 7 && entries == 7 && is_zeros(&work, sizeof work) && is_zeros(&granted, sizeof granted));
+    WANT(count == 7 && entries == 7 && next == 7 && is_zeros(block, 512));
+    WANT(is_zeros(&work, sizeof work) && is_zeros(&granted, sizeof granted));
     WANT(is_zeros(&blocked, sizeof blocked) && is_zeros(&step, sizeof step) && is_zeros(cqe, 16));
     vandrexu_controller_free(&none);
     WANT(none.at == NULL && none.live == 0);
@@ -304,39 +306,7 @@ static void threads(void)
 }
 
 #ifdef REFUSES
-/* The heap of the archive, which refuses the allocation of this number, from 1; 0 refuses none. */
-static long refused_at, allocations, blocks;
-
-struct tried {
-    _Bool there;
-    void *at;
-};
-
-static char nowhere;
-
-static struct tried told(void *block, long more)
-{
-    struct tried answer = {block != NULL, block != NULL ? block : &nowhere};
-    blocks += block != NULL ? more : 0;
-    return answer;
-}
-
-struct tried rattle_alloc(size_t size, size_t alignment)
-{
-    return told(++allocations == refused_at ? NULL : malloc(size != 0 ? size : alignment), 1);
-}
-
-struct tried rattle_realloc(void *block, size_t kept, size_t size, size_t alignment)
-{
-    (void)kept;
-    return told(++allocations == refused_at ? NULL : realloc(block, size != 0 ? size : alignment), 0);
-}
-
-void rattle_dealloc(void *block)
-{
-    blocks--;
-    free(block);
-}
+#include "refusing.h"
 
 /* What a run is answered where its allocation of this number is refused: each call is asked again where memory was. */
 static uint32_t again(uint32_t first, int *refusals)

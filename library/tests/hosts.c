@@ -59,6 +59,7 @@ static void nothing(void)
     WANT(vandrexu_host_new(&disk, 1, 1, &host) == VANDREXU_NO_HANDLE);
     WANT(vandrexu_host_read(&host, 0, 1) == VANDREXU_NO_HANDLE);
     WANT(vandrexu_host_write(&host, 0, zeros, 512) == VANDREXU_NO_HANDLE);
+    WANT(vandrexu_host_write_zeroes(&host, 0, 1) == VANDREXU_NO_HANDLE);
     WANT(vandrexu_host_compare(&host, 0, zeros, 512) == VANDREXU_NO_HANDLE);
     WANT(vandrexu_host_compare_and_write(&host, 0, zeros, 512, zeros, 512) == VANDREXU_NO_HANDLE);
     WANT(vandrexu_host_poll(&host, &reply) == VANDREXU_NO_HANDLE && reply.kind == 9 && reply.sc == 9);
@@ -115,6 +116,7 @@ static void swaps(void)
     WANT(vandrexu_host_compare_and_write(&one, 3, zeros, 512, a, 512) == VANDREXU_IN_CALL);
     WANT(vandrexu_host_write(&one, 3, a, 512) == VANDREXU_IN_CALL);
     WANT(vandrexu_host_read(&one, 3, 1) == VANDREXU_IN_CALL);
+    WANT(vandrexu_host_write_zeroes(&one, 3, 1) == VANDREXU_IN_CALL);
     WANT(vandrexu_host_compare(&one, 3, a, 512) == VANDREXU_IN_CALL);
     WANT(vandrexu_host_compare_and_write(&two, 3, zeros, 512, b, 512) == VANDREXU_DONE);
     WANT(vandrexu_host_poll(&one, &reply) == VANDREXU_DONE && reply.kind == VANDREXU_REPLY_PENDING);
@@ -138,6 +140,27 @@ static void swaps(void)
     WANT(vandrexu_host_data(&two, got, 1023, &needed) == VANDREXU_TOO_SMALL && needed == 1024 && got[0] == 0);
     WANT(vandrexu_host_data(&two, got, 1024, &needed) == VANDREXU_DONE && needed == 1024);
     WANT(memcmp(got, b, 512) == 0 && memcmp(got + 512, a, 512) == 0);
+    /* zeros on block 4 alone; block 3 stays as it is, and so does block 5 */
+    WANT(vandrexu_host_write_zeroes(&one, 4, 1) == VANDREXU_DONE);
+    serve(&disk, 1);
+    over(&one, VANDREXU_REPLY_WRITTEN);
+    WANT(vandrexu_host_read(&two, 3, 2) == VANDREXU_DONE);
+    serve(&disk, 2);
+    over(&two, VANDREXU_REPLY_READ);
+    WANT(vandrexu_host_data(&two, got, 1024, &needed) == VANDREXU_DONE && needed == 1024);
+    WANT(memcmp(got, b, 512) == 0 && memcmp(got + 512, zeros, 512) == 0);
+    WANT(vandrexu_host_compare(&two, 5, a, 512) == VANDREXU_DONE);
+    serve(&disk, 2);
+    over(&two, VANDREXU_REPLY_EQUAL);
+    WANT(vandrexu_host_write_zeroes(&one, 3, 3) == VANDREXU_DONE);
+    serve(&disk, 1);
+    over(&one, VANDREXU_REPLY_WRITTEN);
+    WANT(vandrexu_host_compare(&two, 3, zeros, 512) == VANDREXU_DONE);
+    serve(&disk, 2);
+    over(&two, VANDREXU_REPLY_EQUAL);
+    WANT(vandrexu_host_compare(&two, 5, zeros, 512) == VANDREXU_DONE);
+    serve(&disk, 2);
+    over(&two, VANDREXU_REPLY_EQUAL);
     vandrexu_host_free(&one);
     vandrexu_disk_free(&disk);
     WANT(vandrexu_host_write(&two, 0, a, 512) == VANDREXU_DONE);
@@ -155,6 +178,8 @@ static void faults(void)
     WANT(vandrexu_host_new(&disk, 1, 1, &host) == VANDREXU_DONE);
     WANT(vandrexu_host_read(&host, 0, 0) == VANDREXU_CALL_LENGTH);
     WANT(vandrexu_host_read(&host, 0, 257) == VANDREXU_CALL_TOO_LONG);
+    WANT(vandrexu_host_write_zeroes(&host, 0, 0) == VANDREXU_CALL_LENGTH);
+    WANT(vandrexu_host_write_zeroes(&host, 0, 257) == VANDREXU_CALL_TOO_LONG);
     WANT(vandrexu_host_write(&host, 0, data, 511) == VANDREXU_CALL_LENGTH);
     WANT(vandrexu_host_compare(&host, 0, data, 0) == VANDREXU_CALL_LENGTH);
     WANT(vandrexu_host_compare_and_write(&host, 0, data, 512, data, 1024) == VANDREXU_CALL_LENGTH);
@@ -296,39 +321,7 @@ int main(void)
     return 0;
 }
 #else
-#include <stdbool.h>
-
-struct tried {
-    bool there;
-    void *at;
-};
-
-static char nowhere;
-static long refused_at, allocations, blocks;
-
-static struct tried told(void *block, long more)
-{
-    struct tried answer = {block != NULL, block != NULL ? block : &nowhere};
-    blocks += block != NULL ? more : 0;
-    return answer;
-}
-
-struct tried rattle_alloc(size_t size, size_t alignment)
-{
-    return told(++allocations == refused_at ? NULL : malloc(size != 0 ? size : alignment), 1);
-}
-
-struct tried rattle_realloc(void *block, size_t kept, size_t size, size_t alignment)
-{
-    (void)kept;
-    return told(++allocations == refused_at ? NULL : realloc(block, size != 0 ? size : alignment), 0);
-}
-
-void rattle_dealloc(void *block)
-{
-    blocks--;
-    free(block);
-}
+#include "refusing.h"
 
 static int refusals;
 
@@ -375,6 +368,9 @@ static void run_refused(long at)
     TRY(vandrexu_host_compare_and_write(&one, 3, zeros, 512, data, 512));
     TRY(vandrexu_disk_serve(&disk, 1));
     poll(&one, VANDREXU_REPLY_SWAPPED);
+    TRY(vandrexu_host_write_zeroes(&one, 4, 2));
+    TRY(vandrexu_disk_serve(&disk, 1));
+    poll(&one, VANDREXU_REPLY_WRITTEN);
     TRY(vandrexu_host_read(&two, 3, 1));
     TRY(vandrexu_disk_serve(&disk, 2));
     poll(&two, VANDREXU_REPLY_READ);

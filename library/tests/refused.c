@@ -2,42 +2,11 @@
  * call can do without; nothing is kept, and the same call is answered as ever where memory is there again. */
 #include "vandrexu.h"
 
+#include "refusing.h"
+
 #include <stdio.h>
 #include <stdlib.h>
 #include <string.h>
-
-static long refused_at, allocations, blocks;
-
-struct tried {
-    _Bool there;
-    void *at;
-};
-
-static char nowhere;
-
-static struct tried told(void *block, long more)
-{
-    struct tried answer = {block != NULL, block != NULL ? block : &nowhere};
-    blocks += block != NULL ? more : 0;
-    return answer;
-}
-
-struct tried rattle_alloc(size_t size, size_t alignment)
-{
-    return told(++allocations == refused_at ? NULL : malloc(size != 0 ? size : alignment), 1);
-}
-
-struct tried rattle_realloc(void *block, size_t kept, size_t size, size_t alignment)
-{
-    (void)kept;
-    return told(++allocations == refused_at ? NULL : realloc(block, size != 0 ? size : alignment), 0);
-}
-
-void rattle_dealloc(void *block)
-{
-    blocks--;
-    free(block);
-}
 
 #define HEAD "config 8 1 1 0 0 2 4 4 8\n"
 static const char script[] = HEAD "publish 1 write 0 7 3 0 A1\nfetch 1\nsettle\nreap 1\npublish 1 read 0 8 3 0 -\nfetch 1\nsettle\nreap 1\n";

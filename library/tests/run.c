@@ -1,5 +1,6 @@
 /* Runs a script over a controller, by the calls of vandrexu.h, and prints what `casdisk run --show reap,refused,medium`
- * prints: run FILE. A line that is none ends it with 2. */
+ * prints: run FILE. A line that is none ends it with 2. `run FILE pieces` prints in place of that the history, in pieces of
+ * each size, which have to be the same text put together. */
 #include "vandrexu.h"
 
 #include <ctype.h>
@@ -7,7 +8,9 @@
 #include <stdlib.h>
 #include <string.h>
 
-enum { BLOCK = 512, WORDS = 8192 };
+enum { BLOCK = 512, WORDS = 8192, TEXT = 64 * 1024 * 1024 };
+
+static int quiet;
 
 static unsigned long long number(const char *word)
 {
@@ -82,7 +85,7 @@ static size_t entry_of(char **words, vandrexu_entry *entry, uint8_t *data)
 static uint32_t publish(vandrexu_controller *disk, char **words, size_t count)
 {
     static vandrexu_entry entries[WORDS / 3];
-    static uint8_t data[64 * 1024 * 1024];
+    static uint8_t data[TEXT];
     size_t batch = 0, length = 0;
     for (size_t at = 2; at < count; at++) {
         at += entry_of(words + at, &entries[batch], data + length);
@@ -100,6 +103,8 @@ static void print_hex(const uint8_t *bytes, size_t count)
 static void medium(vandrexu_controller *disk, uint64_t lba)
 {
     uint8_t block[BLOCK];
+    if (quiet)
+        return;
     printf("medium %llu ", (unsigned long long)lba);
     if (vandrexu_controller_medium(disk, lba, block) == VANDREXU_NO_BLOCK)
         printf("none");
@@ -138,7 +143,7 @@ static uint32_t step(vandrexu_controller *disk, char **words, size_t count)
     if (strcmp(words[0], "reap") != 0)
         exit(2);
     status = vandrexu_controller_reap(disk, (uint16_t)number(words[1]), cqe, &length);
-    if (status == VANDREXU_DONE) {
+    if (status == VANDREXU_DONE && !quiet) {
         printf("reap %s ", words[1]);
         print_hex(cqe, 16);
         printf("\n");
@@ -175,6 +180,36 @@ static vandrexu_config config_of(char **words, size_t count)
     return config;
 }
 
+/* The history in pieces of this size, put together; a line that is longer has a piece of its own. */
+static size_t pieces(vandrexu_controller *disk, size_t size, uint8_t *text)
+{
+    size_t length = 0, needed;
+    uint64_t from = 0, next;
+    for (;;) {
+        size_t room = size < TEXT - length ? size : TEXT - length;
+        uint32_t status = vandrexu_controller_history(disk, from, text + length, room, &needed, &next);
+        if (status == VANDREXU_TOO_SMALL)
+            status = vandrexu_controller_history(disk, from, text + length, needed, &needed, &next);
+        if (status != VANDREXU_DONE)
+            exit(5);
+        if (next == from)
+            return needed == 0 ? length : 0;
+        from = next;
+        length += needed;
+    }
+}
+
+/* Prints the history, and wants it to be the same in pieces of each size. */
+static void print_history(vandrexu_controller *disk)
+{
+    static uint8_t all[TEXT], text[TEXT];
+    size_t length = pieces(disk, TEXT, all);
+    for (size_t size = 0; size <= length + 1; size += length < 2000 || size < 200 || length - size < 3 ? 1 : size / 4)
+        if (pieces(disk, size, text) != length || memcmp(all, text, length) != 0)
+            exit(6);
+    fwrite(all, 1, length, stdout);
+}
+
 int main(int argc, char **argv)
 {
     static char *words[WORDS];
@@ -186,7 +221,9 @@ int main(int argc, char **argv)
     uint32_t status;
     if (script == NULL || getline(&line, &room, script) < 0)
         return 3;
-    fputs(line, stdout);
+    quiet = argc > 2;
+    if (!quiet)
+        fputs(line, stdout);
     config = config_of(words, words_of(line, words));
     status = vandrexu_controller_new(&config, &disk);
     if (status != VANDREXU_DONE)
@@ -197,11 +234,14 @@ int main(int argc, char **argv)
             continue;
         count = words_of(line, words);
         status = count > 0 ? step(&disk, words, count) : VANDREXU_NO_HANDLE;
-        if (status >= VANDREXU_NO_QUEUE && status <= VANDREXU_BAD_BATCH)
-            printf("refused %u\n", status);
-        else if (status != VANDREXU_DONE)
+        if (status >= VANDREXU_NO_QUEUE && status <= VANDREXU_BAD_BATCH) {
+            if (!quiet)
+                printf("refused %u\n", status);
+        } else if (status != VANDREXU_DONE)
             return 4;
     }
+    if (quiet)
+        print_history(&disk);
     vandrexu_controller_free(&disk);
     free(line);
     fclose(script);

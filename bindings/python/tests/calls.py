@@ -10,8 +10,9 @@ import unittest
 from ctypes import byref, c_size_t, c_uint8, c_uint64, sizeof
 
 import vandrexu
-from vandrexu import (BadConfig, BadLine, Blocked, Checker, Completion, Config, Controller, Entry, Found, Granted, Kind,
-                      Mode, NoBlock, NoHandle, NoMemory, NotLegal, Op, Refused, Status, Step, StepKind, Work, library)
+from vandrexu import (BadConfig, BadLine, Blocked, Checker, Completion, Config, Controller, Disk, Entry, Found, Granted,
+                      Host, Kind, Mode, NoBlock, NoHandle, NoMemory, NotLegal, Op, Refused, ReplyKind, Status, Step,
+                      StepKind, Work, library)
 
 TOP = os.path.join(os.path.dirname(os.path.abspath(__file__)), "../../..")
 TWO = Config.of_line("config 8 1 1 0 0 2 4 4 8")
@@ -23,6 +24,11 @@ FLUSH = "publish 1 0000070001" + "0" * 118 + " -"
 def read(path):
     with open(os.path.join(TOP, path), encoding="utf-8") as it:
         return it.read()
+
+
+def headers():
+    """Both headers, without their comments."""
+    return re.sub(r"/\*.*?\*/", "", read("include/vandrexu.h") + read("include/vandrexu_hosts.h"), flags=re.S)
 
 
 class Calls(unittest.TestCase):
@@ -153,6 +159,7 @@ class Calls(unittest.TestCase):
             for call, arguments in ((disk.reserve, (1,)), (disk.publish, (1, [Entry.flush(1)])), (disk.fetch, (1,)),
                                     (disk.grant, (1,)), (disk.block, (1,)), (disk.post, (1,)), (disk.reap, (1,)),
                                     (disk.ready, ()), (disk.settle, ()), (disk.medium, (0,)), (disk.history_count, ()),
+                                    (lambda: next(disk.history()), ()),
                                     (checker.take_line, (FLUSH,)), (checker.why, (FLUSH,))):
                 self.assertIsInstance(self.refused(Status.NO_HANDLE, call, *arguments), NoHandle)
 
@@ -204,6 +211,8 @@ class Calls(unittest.TestCase):
             Checker(SMALL).close()
             Controller(SMALL)
             Checker(SMALL)
+            with Disk(SMALL, 1) as disk:
+                Host(disk, 1, 1)
         # (each has a page at least)
         self.assertLess(pages(), before + 5000)
 
@@ -282,11 +291,12 @@ class Calls(unittest.TestCase):
                 self.assertIn(f"| {status:d} | {words} |", scripts)
 
     def test_the_numbers_are_those_of_the_header(self):
-        header = re.sub(r"/\*.*?\*/", "", read("include/vandrexu.h"), flags=re.S)
+        header = headers()
         enums = {name: dict(re.findall(r"VANDREXU_(\w+) = (\d+)", members))
                  for name, members in re.findall(r"enum vandrexu_(\w+) \{(.*?)\}", header, flags=re.S)}
         mine = {"status": (Status, ""), "kind": (Kind, ""), "op": (Op, ""), "mode": (Mode, ""),
-                "found": (Found, "FOUND_"), "step_kind": (StepKind, "STEP_")}
+                "found": (Found, "FOUND_"), "step_kind": (StepKind, "STEP_"), "reply_kind": (ReplyKind, "REPLY_")}
+        enums["status"] |= enums.pop("host_status")
         lines = {it: int(value) for it, value in enums.pop("lines").items()}
         kinds = vandrexu.Lines.__members__.items()
         self.assertEqual(lines, {f"{it}_LINES": int(kind) for it, kind in kinds if it != "HISTORY"})
@@ -296,12 +306,12 @@ class Calls(unittest.TestCase):
                              {it.removeprefix(prefix): int(value) for it, value in enums[name].items()})
 
     def test_the_layouts_and_functions_are_those_of_the_header(self):
-        header = re.sub(r"/\*.*?\*/", "", read("include/vandrexu.h"), flags=re.S)
+        header = headers()
         pointer = ctypes.c_void_p
         kinds = {"uint8_t": c_uint8, "uint16_t": ctypes.c_uint16, "uint32_t": ctypes.c_uint32, "uint64_t": c_uint64,
                  "size_t": c_size_t, "void *": pointer}
         structs = re.findall(r"typedef struct vandrexu_(\w+) \{(.*?)\}", header, flags=re.S)
-        self.assertEqual(len(structs), 8)
+        self.assertEqual(len(structs), 11)
         for name, members in structs:
             made = []
             for kind, field, many in re.findall(r"(\w+ \*?)(\w+)(?:\[(\d+)\])?;", members):

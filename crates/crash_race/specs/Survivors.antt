@@ -4,6 +4,7 @@ use Rattle.work_queue.specs.Engines as engine
 use Rattle.shared_system.specs.Callers.{IsPlaceAt}
 use Rattle.shared_system.specs.declared.system.HostPasses.{HostPasses}
 use Rattle.shared_system.specs.declared.system.System.{System}
+use Rattle.nvme_model.specs.Slots.{Name}
 use Rattle.driver_cas.specs.Drivers.{area_of, host_of, port_of}
 use Rattle.driver_cas.specs.Ports.{pass_of}
 use Rattle.hosts.specs.Stages.{IsFetchStage, IsWorkStage}
@@ -14,7 +15,6 @@ use Rattle.seeded_race.specs.Racers.{AreRaceWorkers, IsRaceFetcher}
 use Rattle.slot_alloc.specs.Areas.{area}
 use Rattle.slot_takeover.specs.Holders.{IsReadingOf}
 use Rattle.slot_takeover.specs.Takeovers.{HoldsTaken, IsGivingBackOf, IsTakingOverOf}
-use Rattle.slot_takeover.specs.declared.name.Name.{Name}
 use Rattle.crash_race.specs.Fates.{is_dead_host}
 use Rattle.crash_race.specs.declared.fate.Fate.{Fate}
 use Rattle.crash_race.specs.declared.survivor.Called.{Called}

@@ -5,7 +5,8 @@ ghost use Rattle.std.specs.Prelude.{◌≡◌};
 use driver_cas::{Fault, SharedPort};
 use host_rounds::Host;
 use shared_system::HostPasses;
-use slot_takeover::{GivingBack, HeldSlot, Name, ReadingHolder, TakingOver};
+use slot_names::Name;
+use slot_takeover::{GivingBack, HeldSlot, ReadingHolder, TakingOver};
 
 /// A slot that was taken over, and may be dropped: it then stays held.
 pub(crate) struct KeptSlot {

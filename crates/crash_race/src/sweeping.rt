@@ -14,9 +14,10 @@ use driver_cas::SharedPort;
 use host_rounds::{Host, Play};
 use hosts::OpenGate;
 use shared_system::System;
+use slot_names::Name;
 use slot_takeover::laws::an_untouched_driver_keeps_its_takeovers;
 use slot_takeover::{
-    GivenBack, GivingBack, HeldSlot, Holder, HolderPoll, Name, ReadingHolder, TakeoverProgress,
+    GivenBack, GivingBack, HeldSlot, Holder, HolderPoll, ReadingHolder, TakeoverProgress,
     TakingOver, give_back, poll_given_back, poll_holder, poll_takeover, read_holder, take_over,
 };
 use std::alloc::AllocError as NoMemory;

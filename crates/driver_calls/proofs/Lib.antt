@@ -8,4 +8,3 @@ pub mod Answering
 pub mod Views
 pub mod Commands
 pub mod Calls
-pub mod Bytes

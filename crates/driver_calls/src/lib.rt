@@ -7,10 +7,8 @@ mod event;
 pub mod laws;
 mod reply;
 mod request;
-mod slot;
 
 pub use batch::{batch_of, room_for, taken_back};
 pub use event::{CidState, PortEvent};
 pub use reply::{Reply, answer_to, pair_answer_to};
 pub use request::{CallData, Request};
-pub use slot::slot_block;

@@ -9,8 +9,9 @@ use crate::call::Call;
 use crate::driver::Driver;
 use crate::fault::Fault;
 use crate::port::Port;
-use driver_calls::{Request, slot_block};
+use driver_calls::Request;
 use nvme_model::operation::Op;
+use slot_names::slot_block;
 
 // The block of a slot that nobody holds.
 const ZEROS: [u8; 512] = [0; 512];

@@ -1,30 +1,10 @@
 //! What lies in a block, as much of it as a picture shows.
 
-ghost use Rattle.std.specs.Prelude.{◌≡◌, ◌+◌, ◌%◌, ◌≤◌, bytes_eq, length};
+ghost use Rattle.std.specs.Prelude.{◌≡◌, ◌+◌, ◌%◌, bytes_eq};
 ghost use Rattle.nvme_model.specs.Array.{zeros};
-ghost use Rattle.nvme_model.specs.EntryBytes.{field};
-ghost use Rattle.nvme_model.specs.Slots as slots;
 ghost use Rattle.lane_shapes.specs.Contents.{content_of, digits_of, first_byte, sums, unwritten};
 
-use byteorder::{ByteOrder, LittleEndian};
-use std::marker::Model;
-
-/// The name of a claim: its host number and its serial.
-#[derive(Clone, Copy, Debug, PartialEq, Eq)]
-pub struct Name {
-    pub host: u32,
-    pub serial: u64,
-}
-
-impl Model for Name {
-    ghost use Rattle.nvme_model.specs.Slots as slots;
-
-    ghost Value = { slots.Name };
-
-    ghost view = { λ n. record { host = n.host; serial = n.serial } };
-
-    ghost inverse = { λ n. record { host = n.host; serial = n.serial } };
-}
+use slot_names::{Name, name_of};
 
 /// What lies in a block: the ticket that wrote it, none where none did; two hexadecimal digits of its bytes; whether
 /// they are zeros; and the name that they spell, where they are those of a held slot.
@@ -71,53 +51,6 @@ fn digits_of(bytes: &[u8]) -> u8
     ensures value { result ≡ digits_of bytes.now }
 {
     sum_of(first_byte(bytes), sums(bytes))
-}
-
-// The block of a slot that is held under this name.
-fn block_of(host: u32, serial: u64) -> [u8; 512]
-    ensures value { result ≡ slots.slot_block (record { host = host; serial = serial }) }
-{
-    let mut block = [0; 512];
-    block[0..4].copy_from_slice(&host.to_le_bytes());
-    block[8..16].copy_from_slice(&serial.to_le_bytes());
-    block
-}
-
-// The host number of a block.
-fn host_in(bytes: &[u8]) -> u32
-    requires { 4 ≤ length bytes.now }
-    ensures value { result ≡ field 0 4 bytes.now }
-{
-    LittleEndian::read_u32(&bytes[0..4])
-}
-
-// The serial of a block.
-fn serial_in(bytes: &[u8]) -> u64
-    requires { 16 ≤ length bytes.now }
-    ensures value { result ≡ field 8 8 bytes.now }
-{
-    LittleEndian::read_u64(&bytes[8..16])
-}
-
-/// The name that a block spells, where it spells one.
-pub(crate) fn name_of(bytes: &[u8]) -> Option<Name>
-    ensures value { result ≡ slots.name_of bytes.now }
-{
-    if bytes.len() != 512 {
-        return None;
-    }
-    let host = host_in(bytes);
-    let serial = serial_in(bytes);
-    if host == 0 {
-        return None;
-    }
-    if serial == 0 {
-        return None;
-    }
-    if bytes != block_of(host, serial).as_slice() {
-        return None;
-    }
-    Some(Name { host, serial })
 }
 
 /// Whether the bytes are those of a block of zeros.

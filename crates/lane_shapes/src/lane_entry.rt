@@ -7,10 +7,11 @@ ghost use Rattle.lane_shapes.specs.LaneEntries.{block_behind, claimed_slot_name,
 ghost use Rattle.lane_shapes.specs.LaneEntries.{lane_entry_place, released_slot_name, same_lane_entry_stage};
 ghost use Rattle.lane_shapes.specs.LaneEntries.{slot_named, win_place, writer_place, writes_for, written_at};
 
-use crate::content::{Content, Name, content_of, is_zeros, name_of};
+use crate::content::{Content, content_of, is_zeros};
 use entry_codec::decode_sqe;
 use nvme_model::array::Range;
 use nvme_model::submission::Submission;
+use slot_names::{Name, name_of};
 
 /// A slot and a name.
 #[derive(Clone, Copy, Debug, PartialEq, Eq)]

@@ -13,7 +13,7 @@ mod lanes;
 pub use crate::belief::{Belief, Beliefs};
 pub use crate::block::{BlockNow, Span, SpanKind};
 pub use crate::blocks::Blocks;
-pub use crate::content::{Content, Name};
+pub use crate::content::Content;
 pub use crate::lane_entries::LaneEntries;
 pub use crate::lane_entry::{LaneEntry, LaneEntryStage, SlotName, Win};
 pub use crate::lanes::{Lanes, LanesShown};

@@ -5,7 +5,8 @@ ghost use Rattle.lane_svg.specs.Boxes.{writer_label, claim_label, extent_svg, he
 ghost use Rattle.lane_svg.specs.Boxes.{hued_svg, label_open, name_label, name_told, room_in, two_digits, value_hue};
 ghost use Rattle.lane_svg.specs.Boxes.{value_label, writer_told};
 
-use lane_shapes::{Content, Name};
+use lane_shapes::Content;
+use slot_names::Name;
 use std::alloc::AllocError as NoMemory;
 use svg_pieces::{Frame, Piece, push_all, room};
 

@@ -13,7 +13,8 @@ use crate::boxes::{
     value_hue,
 };
 use crate::layout::Layout;
-use lane_shapes::{Belief, BlockNow, Content, Name, Span, SpanKind};
+use lane_shapes::{Belief, BlockNow, Content, Span, SpanKind};
+use slot_names::Name;
 use std::alloc::AllocError as NoMemory;
 use svg_pieces::{Frame, Piece, push_all, push_rect};
 

@@ -22,7 +22,7 @@ use Rattle.nvme_model.specs.declared.entry.ReapLine.{ReapLine}
 use Rattle.nvme_model.proofs.Bools.{not_false}
 use Rattle.nvme_model.proofs.Rules.{fetch_number, follows}
 use Rattle.ticket_laws.proofs.Unfetched.{no_posts}
-use Rattle.queue_progress.specs.Progress.{KeptProgress, KnowsProgress, completed_of, flying_of, moved_on}
+use Rattle.queue_progress.specs.Progress.{KeptProgress, KnowsProgress, completed_of, flying_of, after_completion}
 use Rattle.queue_progress.specs.declared.progress.Flying.{Flying}
 
 -- ---- a Fetch
@@ -114,11 +114,11 @@ module _ (c : ConfigNumbers) (past : Past) (p : PostLine) (k m : KeptProgress) (
   flies = h.flying p.ticket (not_false _ (follows c past (Entry.Post p) legal).allowed.0)
 
   posted_flying : (t : ℕ)
-      → m.flying t ≡ cond (eqb p.ticket t) (moved_on (flying_of past p.ticket)) (k.flying t)
+      → m.flying t ≡ cond (eqb p.ticket t) (after_completion (flying_of past p.ticket)) (k.flying t)
       → in_flight (Entry.Post p ∷ past) t ≡ true → m.flying t ≡ Some (flying_of (Entry.Post p ∷ past) t)
   posted_flying t e i = go (eqb p.ticket t) refl e i
     where
-      moved : (n l : ℕ) → 1 < l → (b : Bool) → nat_le l 1 ≡ b → moved_on (record {
+      moved : (n l : ℕ) → 1 < l → (b : Bool) → nat_le l 1 ≡ b → after_completion (record {
         queue =
             (Tickets.ticket past t).queue;
         next = n;
@@ -134,7 +134,7 @@ module _ (c : ConfigNumbers) (past : Past) (p : PostLine) (k m : KeptProgress) (
       }))) q
 
       go : (b : Bool) → eqb p.ticket t ≡ b
-          → m.flying t ≡ cond b (moved_on (flying_of past p.ticket)) (k.flying t)
+          → m.flying t ≡ cond b (after_completion (flying_of past p.ticket)) (k.flying t)
           → ltb (posts_of past t + cond b 1 0) (length (Tickets.ticket past t).commands) ≡ true
           → m.flying t ≡ Some (record {
             queue = (Tickets.ticket past t).queue;
@@ -156,7 +156,7 @@ module _ (c : ConfigNumbers) (past : Past) (p : PostLine) (k m : KeptProgress) (
           let next : (fetched_before past t + posts_of past t) + 1 ≡ fetched_before past t +
           (posts_of past t + 1) = omega arith in
           let left : l - 1 ≡ taken_entries (Tickets.ticket past t).verdict - (posts_of past t + 1) = omega arith in
-          e ∙ ap (λ (x : ℕ). moved_on (flying_of past x)) (eqb-true p.ticket t q)
+          e ∙ ap (λ (x : ℕ). after_completion (flying_of past x)) (eqb-true p.ticket t q)
           ∙ moved (fetched_before past t + posts_of past t) l some (nat_le l 1) refl
           ∙ (λ j. Some (record { queue = (Tickets.ticket past t).queue; next = next j; left = left j }))
 
@@ -207,7 +207,7 @@ module _ (c : ConfigNumbers) (past : Past) (p : PostLine) (k m : KeptProgress) (
       → ((q : ℕ) → m.published q ≡ k.published q) → ((q : ℕ) → m.fetched q ≡ k.fetched q)
       → ((q : ℕ) → m.reaped q ≡ k.reaped q)
       → ((q : ℕ) → m.posted q ≡ k.posted q + cond (eqb cq q) 1 0)
-      → ((t : ℕ) → m.flying t ≡ cond (eqb p.ticket t) (moved_on f) (k.flying t))
+      → ((t : ℕ) → m.flying t ≡ cond (eqb p.ticket t) (after_completion f) (k.flying t))
       → ((q i : ℕ) → m.waiting q i ≡ cond (eqb cq q && eqb (k.posted cq) i)
       (Some (record { queue = f.queue; number = f.next; success = s })) (k.waiting q i))
       → KnowsProgress c (Entry.Post p ∷ past) m
@@ -221,7 +221,7 @@ module _ (c : ConfigNumbers) (past : Past) (p : PostLine) (k m : KeptProgress) (
             ∙ ap (λ (x : ℕ). length (entry_completions c past q) + cond (eqb x q) 1 0) queue
             ∙ one_more q (eqb (completion_queue c (Tickets.ticket past p.ticket).queue) q);
         reaped = λ q. d q ∙ h.reaped q;
-        flying = λ t i. posted_flying t (g t ∙ ap (λ (x : Flying). cond (eqb p.ticket t) (moved_on x)
+        flying = λ t i. posted_flying t (g t ∙ ap (λ (x : Flying). cond (eqb p.ticket t) (after_completion x)
             (k.flying t)) is) i;
         waiting = λ q i l. posted_waiting q i
             (w q i ∙ (λ j. cond (eqb (queue j) q && eqb (k.posted (queue j)) i)

@@ -49,8 +49,8 @@ flying_of past t =
     }
 
 -- a ticket in flight behind one more completion, if it is in flight still
-abbrev pub moved_on : Flying → Option Flying
-moved_on f =
+abbrev pub after_completion : Flying → Option Flying
+after_completion f =
     if nat_le f.left 1 then None else Some (record { queue = f.queue; next = f.next + 1; left = f.left - 1 })
 
 -- what is kept of a completion: for which entry it is, and whether it says success

@@ -9,7 +9,7 @@ ghost use Rattle.nvme_model.specs.Legal.{IsLegal};
 ghost use Rattle.nvme_model.specs.Slots.{says_success};
 ghost use Rattle.nvme_model.specs.declared.config.ConfigNumbers.{ConfigNumbers};
 ghost use Rattle.nvme_model.specs.declared.entry.Entry.{Entry};
-ghost use Rattle.queue_progress.specs.Progress.{KnowsProgress, moved_on, progress_in};
+ghost use Rattle.queue_progress.specs.Progress.{KnowsProgress, after_completion, progress_in};
 
 use crate::queue::completion_queue;
 use byteorder::{ByteOrder, LittleEndian};
@@ -177,7 +177,7 @@ impl QueueProgress {
         ensures posted { OnOk result ((q : ℕ) →
             (progress_in self.new).posted q ≡ (progress_in self.old).posted q + (if queue == q then 1 else 0)) }
         ensures flying { OnOk result ((t : ℕ) → (progress_in self.new).flying t ≡
-            (if ticket == t then moved_on flying else (progress_in self.old).flying t)) }
+            (if ticket == t then after_completion flying else (progress_in self.old).flying t)) }
         ensures waiting { OnOk result ((q i : ℕ) → (progress_in self.new).waiting q i ≡
             (if (queue == q) && ((progress_in self.old).posted queue == i)
             then Some (record { queue = flying.queue; number = flying.next; success = success })

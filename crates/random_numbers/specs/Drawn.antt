@@ -8,8 +8,8 @@ unfoldable pub seeded : ℕ → Lcg
 seeded seed = started 64 multiplier_64 seed (increment_of 64 54)
 
 -- The next word of a generator, 32 bits.
-unfoldable pub word_of : Lcg → ℕ
-word_of g = (pcg32 g).0
+unfoldable pub drawn_word : Lcg → ℕ
+drawn_word g = (pcg32 g).0
 
 -- The generator behind its next word.
 unfoldable pub moved_on : Lcg → Lcg

@@ -1,7 +1,7 @@
 //! Numbers drawn from a seed.
 
 ghost use Rattle.std.specs.Prelude.{◌%◌, ◌<◌, ◌==◌, ◌≡◌};
-ghost use Rattle.random_numbers.specs.Drawn.{moved_on, seeded, word_of};
+ghost use Rattle.random_numbers.specs.Drawn.{drawn_word, moved_on, seeded};
 
 use rand_core::utils::NextWord;
 use rand_pcg::Pcg32;
@@ -39,9 +39,9 @@ impl RandomNumbers {
     }
 
     // The next word of 32 bits.
-    #[tactic(auto, unfolding(crate::specs::Drawn::word_of, crate::specs::Drawn::moved_on))]
+    #[tactic(auto, unfolding(crate::specs::Drawn::drawn_word, crate::specs::Drawn::moved_on))]
     fn word(&mut self) -> u32
-        ensures value { result ≡ word_of self.old }
+        ensures value { result ≡ drawn_word self.old }
         ensures moved { self.new ≡ moved_on self.old }
     {
         self.pcg.next_word()
@@ -51,7 +51,7 @@ impl RandomNumbers {
     pub fn below(&mut self, n: u32) -> u32
         requires { 0 < n }
         ensures range { result < n }
-        ensures value { result ≡ word_of self.old % n }
+        ensures value { result ≡ drawn_word self.old % n }
         ensures moved { self.new ≡ moved_on self.old }
     {
         self.word() % n
@@ -60,7 +60,7 @@ impl RandomNumbers {
     /// Whether the next number below `n` is 0, as one in `n` is.
     pub fn one_in(&mut self, n: u32) -> bool
         requires { 0 < n }
-        ensures value { result ≡ (word_of self.old % n == 0) }
+        ensures value { result ≡ (drawn_word self.old % n == 0) }
         ensures moved { self.new ≡ moved_on self.old }
     {
         self.below(n) == 0

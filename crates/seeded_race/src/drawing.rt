@@ -1,7 +1,7 @@
 //! Who makes the next turn.
 
 ghost use Rattle.std.specs.Prelude.{◌≡◌, ◌≤◌, ◌%◌};
-ghost use Rattle.random_numbers.specs.Drawn.{moved_on, word_of};
+ghost use Rattle.random_numbers.specs.Drawn.{drawn_word, moved_on};
 ghost use Rattle.seeded_race.specs.Drawing.{IsActorIn, actor_of, weight_of_all};
 
 use race_numbers::{Bias, Race};
@@ -46,7 +46,7 @@ fn actor_at(race: &Race, bias: &Bias, n: u32) -> Actor
 
 /// Draws who makes the next turn, each by its weight.
 pub fn next_actor(race: &Race, bias: &Bias, random: &mut RandomNumbers) -> Actor
-    ensures value { result ≡ actor_of race.now bias.now (word_of random.old % weight_of_all race.now bias.now) }
+    ensures value { result ≡ actor_of race.now bias.now (drawn_word random.old % weight_of_all race.now bias.now) }
     ensures moved { random.new ≡ moved_on random.old }
     ensures inside { IsActorIn race.now result }
 {

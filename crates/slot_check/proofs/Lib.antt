@@ -1,5 +1,4 @@
 mod Batches
-mod Bytes
 mod Cutting
 pub mod Discipline
 mod Judging

@@ -14,7 +14,7 @@ ghost use Rattle.slot_check.specs.Takeovers.{takeovers_kept};
 
 use crate::broken::BrokenDiscipline;
 use crate::names::Names;
-use crate::swap::{Name, Swap, name_of};
+use crate::swap::Swap;
 use crate::takeover::Takeover;
 use crate::takeovers::Takeovers;
 use entry_codec::decode_sqe;
@@ -22,6 +22,7 @@ use history::Config;
 use nvme_model::array::Range;
 use nvme_model::submission::Submission;
 use queue_progress::completion_queue;
+use slot_names::{Name, name_of};
 use std::alloc::{AllocError as NoMemory, Global};
 
 /// Whether an area has a block.

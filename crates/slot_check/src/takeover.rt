@@ -6,10 +6,11 @@ ghost use Rattle.takeover_laws.specs.Takeovers.{giving, takeover_by, takeover_of
 ghost use Rattle.slot_check.specs.Takeovers.{listed_takeover};
 
 use crate::batch::{has_block, is_pair_on_one};
-use crate::swap::{Name, Swap, name_of};
+use crate::swap::Swap;
 use entry_codec::decode_sqe;
 use nvme_model::array::Range;
 use nvme_model::submission::Submission;
+use slot_names::{Name, name_of};
 use std::alloc::{AllocError as NoMemory, Global};
 use std::marker::Model;
 

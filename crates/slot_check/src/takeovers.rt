@@ -10,10 +10,10 @@ ghost use Rattle.slot_check.specs.Takeovers.{KnowsTakeovers, begins_at, begun_by
 ghost use Rattle.slot_check.specs.Takeovers.{takes_name};
 
 use crate::names::{EntryNumber, Names, SlotName};
-use crate::swap::Name;
 use crate::takeover::Takeover;
 use history::Config;
 use queue_progress::completion_queue;
+use slot_names::Name;
 use std::alloc::{AllocError as NoMemory, Global};
 use std::collections::{HashMap, HashSet};
 

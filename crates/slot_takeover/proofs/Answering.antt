@@ -28,7 +28,7 @@ use Rattle.slot_alloc.proofs.Polling.{pair_reply}
 use Rattle.slot_alloc.proofs.Starting.{number_same, settings_of}
 use Rattle.slot_takeover.specs.Polls.{IsTakeoverPolled}
 use Rattle.slot_takeover.specs.Takeovers.{HoldsTaken, IsTakeoverBatch, IsTakeoverIn, IsTakingOverOf}
-use Rattle.slot_takeover.specs.Takeovers.{held_serial, name_of_numbers, slot_held}
+use Rattle.slot_takeover.specs.Takeovers.{held_serial, slot_held}
 use Rattle.slot_takeover.specs.declared.held.HeldSlot.{HeldSlot}
 use Rattle.slot_takeover.specs.declared.polling.TakeoverProgress.{TakeoverProgress}
 use Rattle.slot_takeover.specs.declared.taking.TakingOver.{TakingOver}
@@ -79,14 +79,14 @@ module _ {P : Type 0} (g : Ghosts P) where
   -- the takeover stands in the log after a poll
   pub takeover_there : (d e : Driver P g) (k : TakingOver P) → IsTakingOverOf d k → IsQuiet d e
       → IsTakeoverIn (made e) k.call.queue k.call.first k.call.second (number_of e k.call)
-      (block_of (area_of e) k.slot) (name_of_numbers k.dead) (own_name e k.serial)
+      (block_of (area_of e) k.slot) k.dead (own_name e k.serial)
   takeover_there d e k of x =
       subst (λ (z : ℕ × ℕ × Range).
-      IsTakeoverIn (made e) k.call.queue k.call.first k.call.second z.0 (block_of z.2 k.slot) (name_of_numbers k.dead)
+      IsTakeoverIn (made e) k.call.queue k.call.first k.call.second z.0 (block_of z.2 k.slot) k.dead
       (record { host = z.1; serial = k.serial }))
       (λ i. (sym (number_same g d e k.call (settings_of g d e x.same)) i, sym x.same.host i, sym x.same.slots i))
       (takeover_more (made d) (made e) k.call.queue k.call.first k.call.second (number_of d k.call)
-      (block_of (area_of d) k.slot) (name_of_numbers k.dead) (own_name d k.serial) x.one of.takeover)
+      (block_of (area_of d) k.slot) k.dead (own_name d k.serial) x.one of.takeover)
 
   inside_there : (d e : Driver P g) (k : TakingOver P) → IsTakingOverOf d k → IsQuiet d e → k.slot < (area_of e).blocks
   inside_there d e k of x = subst (λ (r : Range). k.slot < r.blocks) (sym x.same.slots) of.inside
@@ -129,7 +129,7 @@ module _ {P : Type 0} (g : Ghosts P) where
         first = k.call.first;
         second = k.call.second;
         number = number_of e k.call;
-        dead = name_of_numbers k.dead;
+        dead = k.dead;
         batch = t.batch;
         name = t.name;
         dead_name = t.dead_name;

@@ -1,5 +1,6 @@
 -- A takeover that was begun.
 use Rattle.std.proofs.Common.{List, Ok, Some, [], arith, ap, refl, subst, sym, true, ℕ, ◌∙◌, ◌∷◌, ◌<◌, ◌≡◌, ◌≢◌, ◌≤◌}
+use Rattle.nvme_model.specs.Slots.{Name}
 use Rattle.nvme_model.specs.declared.array.Range.{Range}
 use Rattle.nvme_model.specs.declared.operation.Op.{Op}
 use Rattle.driver_calls.specs.declared.event.PortEvent.{PortEvent}
@@ -13,24 +14,23 @@ use Rattle.slot_calls.specs.Calls.{IsName}
 use Rattle.slot_alloc.specs.Areas.{block_of}
 use Rattle.slot_alloc.specs.SlotRules.{own_name}
 use Rattle.slot_alloc.proofs.Starting.{number_now}
-use Rattle.slot_takeover.specs.Takeovers.{IsTakeoverIn, IsTakingOverOf, name_of_numbers}
-use Rattle.slot_takeover.specs.declared.name.Name.{Name as NameNumbers}
+use Rattle.slot_takeover.specs.Takeovers.{IsTakeoverIn, IsTakingOverOf}
 use Rattle.slot_takeover.specs.declared.taking.TakingOver.{TakingOver}
 use Rattle.slot_takeover.proofs.Names.{unlike}
 
 module _ {P : Type 0} (g : Ghosts P) where
   -- what is known of a takeover that was begun
-  pub record Begun (d e : Driver P g) (i : ℕ) (dead : NameNumbers) (k : Call P) (serial : ℕ) : Type 0 where
+  pub record Begun (d e : Driver P g) (i : ℕ) (dead : Name) (k : Call P) (serial : ℕ) : Type 0 where
     pub settings : HasSettings d e
     pub start : IsTakeoverStart d e (block_of (area_of d) i) dead.host dead.serial (Ok (k, serial))
     pub inside : i < (area_of d).blocks
     pub other : dead.host ≢ host_of d
-    pub dead_name : IsName (name_of_numbers dead)
+    pub dead_name : IsName dead
     pub named : 1 ≤ host_of d
     pub narrow : host_of d < 4294967296
     pub fits : serial < 18446744073709551616
 
-  pub taking_now : (d e : Driver P g) (i : ℕ) (dead : NameNumbers) (k : Call P) (serial : ℕ)
+  pub taking_now : (d e : Driver P g) (i : ℕ) (dead : Name) (k : Call P) (serial : ℕ)
       → Begun d e i dead k serial
       → IsTakingOverOf e (record { slot = i; dead = dead; serial = serial; call = k })
   taking_now d e i dead k serial x =
@@ -41,7 +41,7 @@ module _ {P : Type 0} (g : Ghosts P) where
       let name : IsName (own_name d serial) =
       record { host = x.named; host_fits = x.narrow; serial = omega (arith, x.start.0); serial_fits = x.fits } in
       let now : IsTakeoverIn (PortEvent.Sent k.queue s.batch ∷ made d) k.queue k.first k.second _ l
-      (name_of_numbers dead) (own_name d serial) =
+      dead (own_name d serial) =
       record {
         dead_name = x.dead_name;
         name = name;
@@ -56,7 +56,7 @@ module _ {P : Type 0} (g : Ghosts P) where
         does = s.does;
         inside = subst (λ (r : Range). i < r.blocks) (sym x.settings.slots) x.inside;
         takeover = subst (λ (z : List PortEvent × ℕ × ℕ × Range).
-            IsTakeoverIn z.0 k.queue k.first k.second z.1 (block_of z.3 i) (name_of_numbers dead)
+            IsTakeoverIn z.0 k.queue k.first k.second z.1 (block_of z.3 i) dead
             (record { host = z.2; serial = serial }))
             (λ i. (sym s.published i, sym number i, sym x.settings.host i, sym x.settings.slots i)) now;
       }

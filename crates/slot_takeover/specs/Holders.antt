@@ -20,7 +20,7 @@ use Rattle.slot_takeover.specs.declared.holder.ReadingHolder.{ReadingHolder}
 -- whoever a name that a block spells is, or somebody foreign where it spells none
 abbrev pub holder_named : Option Name → Holder
 holder_named None = Holder.Foreign
-holder_named (Some n) = Holder.Of (record { host = n.host; serial = n.serial })
+holder_named (Some n) = Holder.Of n
 
 -- who holds a slot whose block has these bytes: nobody where they are zeros
 abbrev pub holder_in : List ℕ → Holder

@@ -21,7 +21,6 @@ use Rattle.slot_calls.specs.Calls.{IsName, IsReleaseIn, IsSentAs}
 use Rattle.slot_calls.specs.Swaps.{log_success}
 use Rattle.slot_takeover.specs.declared.giving_back.GivingBack.{GivingBack}
 use Rattle.slot_takeover.specs.declared.held.HeldSlot.{HeldSlot}
-use Rattle.slot_takeover.specs.declared.name.Name.{Name as NameNumbers}
 use Rattle.slot_takeover.specs.declared.taking.TakingOver.{TakingOver}
 
 -- the slot that was taken over
@@ -35,10 +34,6 @@ held_serial h = h.serial
 -- the call of a takeover
 abbrev pub takeover_call : {P : Type 0} → TakingOver P → Call P
 takeover_call k = k.call
-
--- the name of these numbers
-abbrev pub name_of_numbers : NameNumbers → Name
-name_of_numbers n = record { host = n.host; serial = n.serial }
 
 -- the two entries of a takeover of the slot at block l from a dead name for another
 abbrev pub IsTakeoverBatch : ℕ → ℕ → ℕ → Name → Name → List Submission → Type 0
@@ -63,10 +58,10 @@ module _ {P : Type 0} {g : Ghosts P} where
     pub does : k.call.op ≡ Op.Pair
     pub inside : k.slot < (area_of d).blocks
     pub takeover : IsTakeoverIn (made d) k.call.queue k.call.first k.call.second (number_of d k.call)
-        (block_of (area_of d) k.slot) (name_of_numbers k.dead) (own_name d k.serial)
+        (block_of (area_of d) k.slot) k.dead (own_name d k.serial)
 
   -- the takeover of slot i from the dead name is begun, or nothing has changed and it is told why
-  abbrev pub IsTakeoverBegun : Driver P g → Driver P g → ℕ → NameNumbers → Result (TakingOver P) Fault → Type 0
+  abbrev pub IsTakeoverBegun : Driver P g → Driver P g → ℕ → Name → Result (TakingOver P) Fault → Type 0
   IsTakeoverBegun d e i dead (Ok k) =
       (k.slot ≡ i) × (k.dead ≡ dead)
       × IsTakeoverStart d e (block_of (area_of d) i) dead.host dead.serial (Ok (k.call, k.serial))

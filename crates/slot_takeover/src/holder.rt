@@ -1,7 +1,6 @@
 //! Who holds a slot, as it was at one moment.
 
-ghost use Rattle.std.specs.Prelude.{◌≡◌, ◌<◌, ◌≤◌, IfOk, length};
-ghost use Rattle.nvme_model.specs.EntryBytes.{field};
+ghost use Rattle.std.specs.Prelude.{◌≡◌, ◌<◌, IfOk};
 ghost use Rattle.nvme_model.specs.Slots.{name_of};
 ghost use Rattle.driver_cas.specs.Drivers.{AsksPort, IsCallOf, IsSameDriver, SharesNoCid, area_of};
 ghost use Rattle.driver_cas.specs.declared.call.Call.{Call};
@@ -10,11 +9,9 @@ ghost use Rattle.slot_alloc.specs.Progresses.{IsQuiet};
 ghost use Rattle.slot_takeover.specs.Holders.{IsHolderBegun, IsHolderPolled, IsRead, IsReadingOf, payload_of_read};
 ghost use Rattle.slot_takeover.specs.Holders.{holder_in, holder_named, later_reading};
 
-use crate::name::Name;
-use byteorder::{ByteOrder, LittleEndian};
-use driver_calls::slot_block;
 use driver_cas::{Call, Driver, Fault, Poll, Port, Reply};
 use slot_alloc::Slots;
+use slot_names::{Name, name_of};
 
 // The block of a slot that nobody holds.
 const ZEROS: [u8; 512] = [0; 512];
@@ -71,41 +68,14 @@ pub fn read_holder<P: Port>(
     Ok(ReadingHolder { slot: i, call })
 }
 
-// The host number of a block.
-fn host_in(bytes: &[u8]) -> u32
-    requires { 4 ≤ length bytes.now }
-    ensures value { result ≡ field 0 4 bytes.now }
-{
-    LittleEndian::read_u32(&bytes[0..4])
-}
-
-// The serial of a block.
-fn serial_in(bytes: &[u8]) -> u64
-    requires { 16 ≤ length bytes.now }
-    ensures value { result ≡ field 8 8 bytes.now }
-{
-    LittleEndian::read_u64(&bytes[8..16])
-}
-
 // The name that a block spells, or somebody foreign where it spells none.
 fn named_by(bytes: &[u8]) -> Holder
     ensures value { result ≡ holder_named (name_of bytes.now) }
 {
-    if bytes.len() != 512 {
-        return Holder::Foreign;
+    match name_of(bytes) {
+        Some(name) => Holder::Of(name),
+        None => Holder::Foreign,
     }
-    let host = host_in(bytes);
-    let serial = serial_in(bytes);
-    if host == 0 {
-        return Holder::Foreign;
-    }
-    if serial == 0 {
-        return Holder::Foreign;
-    }
-    if bytes != slot_block(host, serial).as_slice() {
-        return Holder::Foreign;
-    }
-    Holder::Of(Name { host, serial })
 }
 
 // Who holds a slot of which the block has these bytes.

@@ -5,13 +5,11 @@ mod giving_back;
 mod held;
 mod holder;
 pub mod laws;
-mod name;
 mod polling;
 mod taking;
 
 pub use giving_back::{GivenBack, GivingBack, give_back, poll_given_back};
 pub use held::HeldSlot;
 pub use holder::{Holder, HolderPoll, ReadingHolder, poll_holder, read_holder};
-pub use name::Name;
 pub use polling::{TakeoverProgress, poll_takeover};
 pub use taking::{TakingOver, take_over};

@@ -6,9 +6,9 @@ ghost use Rattle.driver_cas.specs.declared.call.Call.{Call};
 ghost use Rattle.slot_alloc.specs.Areas.{area};
 ghost use Rattle.slot_takeover.specs.Takeovers.{IsTakeoverBegun, IsTakingOverOf};
 
-use crate::name::Name;
 use driver_cas::{Call, Driver, Fault, Port};
 use slot_alloc::Slots;
+use slot_names::Name;
 
 /// A takeover that was begun. It can't be copied, and one that is dropped keeps its CIDs, and its slot if it is won.
 #[derive(Drop)]
@@ -24,6 +24,20 @@ fn fits(host: u32, serial: u64)
     ensures law { (host < 4294967296) × (serial < 18446744073709551616) }
 {
     let _ = (host, serial);
+}
+
+// The host number of a name.
+fn host_of_name(name: &Name) -> u32
+    ensures value { result ≡ name.now.host }
+{
+    name.host
+}
+
+// The serial of a name.
+fn serial_of_name(name: &Name) -> u64
+    ensures value { result ≡ name.now.serial }
+{
+    name.serial
 }
 
 /// Begins to take slot `i` over from the name of a dead host: one fused pair is published, from that name to this
@@ -47,8 +61,10 @@ pub fn take_over<P: Port>(
     ensures is { IsTakeoverBegun driver.old driver.new i dead result }
     ensures of { IfOk result (λ k. IsTakingOverOf driver.new k) }
 {
-    fits(dead.host, dead.serial);
-    let (call, serial) = driver.start_takeover(slots.block(i), dead.host, dead.serial)?;
+    let dead_host = host_of_name(&dead);
+    let dead_serial = serial_of_name(&dead);
+    fits(dead_host, dead_serial);
+    let (call, serial) = driver.start_takeover(slots.block(i), dead_host, dead_serial)?;
     Ok(TakingOver {
         slot: i,
         dead,

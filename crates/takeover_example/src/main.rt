@@ -16,7 +16,8 @@ use host::{Parties, SlotHost, parties_of};
 use polling::{holder_read, is_given_back, won};
 use shared_system::{System, WorkerPasses, serve, system_of};
 use slot_alloc::Slots;
-use slot_takeover::{HeldSlot, Holder, Name, TakingOver, give_back, read_holder, take_over};
+use slot_names::Name;
+use slot_takeover::{HeldSlot, Holder, TakingOver, give_back, read_holder, take_over};
 use std::process::ExitCode;
 use std::sync::Wait;
 
@@ -58,12 +59,75 @@ fn reads<R: Wait, G>(
     holder_read(rt, system, slots, host, reading)
 }
 
+// The name of a host that died: its number, and the serial of its claim.
+#[derive(Clone, Copy)]
+struct DeadName {
+    host: u32,
+    serial: u64,
+}
+
+// The name under which a slot is held.
+fn dead_name_of(holder: Holder) -> Option<DeadName> {
+    match holder {
+        Holder::Of(name) => Some(DeadName {
+            host: name.host,
+            serial: name.serial,
+        }),
+        Holder::Free | Holder::Foreign => None,
+    }
+}
+
+// Who holds a slot, in a word.
+fn holder_word(holder: Holder) -> &'static str {
+    match holder {
+        Holder::Free => "nobody",
+        Holder::Of(_name) => "a host",
+        Holder::Foreign => "somebody foreign",
+    }
+}
+
+// The name under which slot 0 is held, where the host is told one.
+fn reads_name<R: Wait, G>(
+    rt: &R,
+    system: &System<G>,
+    server: &mut WorkerPasses,
+    slots: &Slots,
+    host: &mut SlotHost<'_>,
+) -> Option<DeadName>
+    requires own { IsWorkerOf system.now server.old × IsSlotHost system.now slots.now host.old }
+    requires slots { area slots.now ≡ record { slba = 0; blocks = 1 } }
+    ensures own { IsWorkerOf system.now server.new × IsSlotHost system.now slots.now host.new }
+{
+    match reads(rt, system, server, slots, host) {
+        Some(holder) => dead_name_of(holder),
+        None => None,
+    }
+}
+
+// Who holds slot 0, in a word, where the host is told.
+fn reads_word<R: Wait, G>(
+    rt: &R,
+    system: &System<G>,
+    server: &mut WorkerPasses,
+    slots: &Slots,
+    host: &mut SlotHost<'_>,
+) -> Option<&'static str>
+    requires own { IsWorkerOf system.now server.old × IsSlotHost system.now slots.now host.old }
+    requires slots { area slots.now ≡ record { slba = 0; blocks = 1 } }
+    ensures own { IsWorkerOf system.now server.new × IsSlotHost system.now slots.now host.new }
+{
+    match reads(rt, system, server, slots, host) {
+        Some(holder) => Some(holder_word(holder)),
+        None => None,
+    }
+}
+
 // The host begins to take slot 0 over from a name of another host.
 fn begins<'a, G>(
     _system: &System<G>,
     slots: &Slots,
     host: &mut SlotHost<'a>,
-    dead: Name,
+    dead: DeadName,
 ) -> Option<TakingOver<SharedPort<'a>>>
     requires host { IsSlotHost _system.now slots.now host.old }
     requires slots { area slots.now ≡ record { slba = 0; blocks = 1 } }
@@ -73,7 +137,11 @@ fn begins<'a, G>(
     if dead.host == u32::from(host.queue) || dead.host == 0 || dead.serial == 0 {
         return None;
     }
-    take_over(slots, &mut host.driver, 0, dead).ok()
+    let name = Name {
+        host: dead.host,
+        serial: dead.serial,
+    };
+    take_over(slots, &mut host.driver, 0, name).ok()
 }
 
 // The host gives slot 0 back; whether that is done. Else the slot may stay held.
@@ -110,7 +178,7 @@ fn both_take_over<R: Wait, G>(
     slots: &Slots,
     first: &mut SlotHost<'_>,
     second: &mut SlotHost<'_>,
-    dead: Name,
+    dead: DeadName,
 ) -> Option<(bool, bool)>
     requires server { IsWorkerOf system.now server.old }
     requires first { IsSlotHost system.now slots.now first.old }
@@ -166,15 +234,17 @@ fn runs<R: AllocGlobal + Print + Wait>(rt: &R) -> Option<()> {
         mut three,
     } = parties_of(rt.alloc(), &config, &system, &slots, callers)?;
     let claimed = claims_and_dies(rt, &system, &mut server, &slots, one);
-    let Some(Holder::Of(dead)) = reads(rt, &system, &mut server, &slots, &mut two) else {
-        return None;
-    };
+    let dead = reads_name(rt, &system, &mut server, &slots, &mut two)?;
     let done = both_take_over(rt, &system, &mut server, &slots, &mut two, &mut three, dead)?;
-    let holder = reads(rt, &system, &mut server, &slots, &mut three)?;
+    let holder = reads_word(rt, &system, &mut server, &slots, &mut three)?;
     println!(rt; "host 1 claims slot 0, and dies: {claimed}").ok()?;
-    println!(rt; "host 2 reads who holds it: {dead:?}").ok()?;
+    println!(rt;
+        "host 2 reads who holds it: host {}, serial {}",
+        dead.host, dead.serial
+    )
+    .ok()?;
     println!(rt; "hosts 2 and 3 take it over; who has it gives it back: {done:?}").ok()?;
-    println!(rt; "host 3 reads who holds it then: {holder:?}").ok()
+    println!(rt; "host 3 reads who holds it then: {holder}").ok()
 }
 
 fn main(rt: HostRuntime) -> ExitCode {

@@ -30,7 +30,9 @@ pub(crate) fn holder_read<'a, R: Wait, G>(
     listens(rt, system, slots, host);
     match poll_holder(&mut host.driver, reading) {
         HolderPoll::Done(holder) => Some(holder),
-        HolderPoll::Pending(_) | HolderPoll::Later(_, _) | HolderPoll::Failed(_) => None,
+        HolderPoll::Pending(_reading) => None,
+        HolderPoll::Later(_fault, _reading) => None,
+        HolderPoll::Failed(_fault) => None,
     }
 }
 

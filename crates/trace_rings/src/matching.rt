@@ -369,6 +369,7 @@ pub(crate) fn match_completions(alloc: Global, tables: &mut TraceTables) -> Resu
             Some(entries) => entries_by_cid(alloc, entries)?,
             None => Vec::new(alloc),
         };
+        tables.note_reused(queue, &by_cid);
         tables.match_queue(queue, &by_cid);
     }
     if tables.options.statuses_any {

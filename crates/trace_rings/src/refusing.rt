@@ -20,6 +20,21 @@ impl Published {
 }
 
 impl TraceTables {
+    // Notes whose identifiers later entries of a submission queue have.
+    pub(crate) fn note_reused(&mut self, queue: usize, by_cid: &[(u16, usize)]) {
+        let mut later: Option<u16> = None;
+        for (cid, number) in by_cid.iter().rev() {
+            if later == Some(*cid) {
+                if let Some(entries) = self.entries.get_mut(queue) {
+                    if let Some(entry) = entries.get_mut(*number) {
+                        entry.reused = true;
+                    }
+                }
+            }
+            later = Some(*cid);
+        }
+    }
+
     /// Has an entry be one that was refused.
     pub fn refuse(&mut self, queue: usize, number: usize) {
         if let Some(entries) = self.entries.get_mut(queue) {
@@ -64,14 +79,27 @@ fn refuse_entry(tables: &mut TraceTables, completion: &Awaited) {
     }
 }
 
+// Whether it can matter that an entry which isn't answered was refused: it then has ended without an effect, so that
+// its ticket and its identifiers are free for others.
+fn matters(tables: &TraceTables, queue: usize, number: usize, entry: &Published) -> bool {
+    if tables.crowded || entry.reused {
+        return true;
+    }
+    match tables.entry(queue, number.saturating_add(1)) {
+        Some(second) => entry.item.sqe().fuse() == 1 && second.reused,
+        None => false,
+    }
+}
+
 // An entry that passes its checks may have been refused, where a completion that says that nothing was done may be its
-// own.
+// own, or where it may have ended unseen.
 fn doubt_entry(tables: &mut TraceTables, doubts: &HashSet<u64>, queue: usize, number: usize) {
     let Some(entry) = tables.entry(queue, number) else {
         return;
     };
     let is_sure = entry.answered != usize::MAX || entry.refused;
-    if is_sure || !doubts.contains(&user_of(queue, entry.item.sqe().cid)) {
+    let may_be = doubts.contains(&user_of(queue, entry.item.sqe().cid));
+    if is_sure || !may_be && !matters(tables, queue, number, &entry) {
         return;
     }
     if !passes(tables, queue, number, &entry) {
@@ -105,9 +133,6 @@ pub(crate) fn refuse_entries(alloc: Global, tables: &mut TraceTables) -> Result<
                 let _ = doubts.insert(user_of(completion.queue, completion.cqe.cid))?;
             }
         }
-    }
-    if doubts.is_empty() {
-        return Ok(());
     }
     for queue in 0..tables.entries.len() {
         let count = match tables.entries.get(queue) {

@@ -57,6 +57,7 @@ impl TraceTables {
                     answered: usize::MAX,
                     refused: false,
                     doubtful: false,
+                    reused: false,
                 })?;
             }
             place = place.saturating_add(1);

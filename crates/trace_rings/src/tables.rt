@@ -27,6 +27,8 @@ pub struct Published {
     pub refused: bool,
     /// Whether it may have been, as far as the completions say.
     pub doubtful: bool,
+    /// Whether a later entry of its queue has its identifier.
+    pub reused: bool,
 }
 
 /// One completion that was reaped.

@@ -1,5 +1,6 @@
 //! What can be done next where nothing can be done at once.
 
+use crate::comparing::add_compared;
 use crate::forced::{
     FetchDue, fetching, finds_all, has_data, is_at_head, is_doubtful, line_fits, users,
 };
@@ -292,7 +293,11 @@ fn add_units(
     choices: &mut Vec<Choice>,
 ) -> Result<(), NoMemory> {
     for number in around.tickets.iter().rev() {
-        if can_make(walk, tables, *number, around) {
+        if !can_make(walk, tables, *number, around) {
+            continue;
+        }
+        let is_added = add_compared(walk, tables, *number, choices)?;
+        if !is_added {
             choices.push(Choice::Unit(*number))?;
         }
     }

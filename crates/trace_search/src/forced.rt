@@ -38,19 +38,25 @@ pub(crate) fn line_fits(walk: &Walk, tables: &TraceTables) -> (bool, bool) {
     }
 }
 
-// Whether an entry with this identifier is published and not fetched.
-fn is_waiting(walk: &Walk, tables: &TraceTables, queue: usize, cid: u16) -> bool {
-    for number in number_at(&walk.fetched, queue)..number_at(&walk.published, queue) {
-        if let Some(entry) = tables.entry(queue, number) {
-            if entry.item.sqe().cid == cid {
-                return true;
+// Whether an entry that is published before a completion is reaped, and isn't fetched yet, has its identifier.
+fn is_reused(walk: &Walk, tables: &TraceTables, completion: &Awaited) -> bool {
+    let Some(entries) = tables.entries.get(completion.queue) else {
+        return false;
+    };
+    for number in number_at(&walk.fetched, completion.queue)..entries.len() {
+        match entries.get(number) {
+            Some(entry) if entry.line < completion.line => {
+                if entry.item.sqe().cid == completion.cqe.cid {
+                    return true;
+                }
             }
+            _ => return false,
         }
     }
     false
 }
 
-// Whether a Fetch is to be made, where SQHDs say nothing: at once, unless its identifiers may still be in use.
+// Whether a Fetch is to be made, where no SQHD says more: at once, unless its identifiers may still be in use.
 fn fetching_freely(walk: &Walk, tables: &TraceTables, queue: usize, fetched: usize) -> FetchDue {
     for number in fetched..fetched.saturating_add(2) {
         if let Some(entry) = tables.entry(queue, number) {
@@ -65,8 +71,7 @@ fn fetching_freely(walk: &Walk, tables: &TraceTables, queue: usize, fetched: usi
 /// Whether as many entries are fetched as this completion says, and that number is sure.
 pub(crate) fn is_at_head(walk: &Walk, tables: &TraceTables, completion: &Awaited) -> (bool, bool) {
     if tables.options.ignored.sqhd {
-        let reuses = is_waiting(walk, tables, completion.queue, completion.cqe.cid);
-        return (true, !reuses);
+        return (true, !is_reused(walk, tables, completion));
     }
     let size = usize::from(tables.numbers.sq_size);
     let fetched = number_at(&walk.fetched, completion.queue);
@@ -183,7 +188,7 @@ pub(crate) fn fetching(walk: &Walk, tables: &TraceTables, queue: usize) -> Fetch
         return fetching_freely(walk, tables, queue, fetched);
     }
     let Some(completion) = tables.awaited(queue, number_at(&walk.answered, queue)) else {
-        return FetchDue::Now;
+        return fetching_freely(walk, tables, queue, fetched);
     };
     let (head, sure) = is_at_head(walk, tables, &completion);
     if !head {

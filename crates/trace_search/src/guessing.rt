@@ -106,6 +106,7 @@ pub(crate) fn put_best_last(
     for place in first..choices.len() {
         let is_best = match choices.get(place) {
             Some(Choice::Unit(number)) => *number == best,
+            Some(Choice::Compared(number, _)) => *number == best,
             _ => false,
         };
         if is_best && place < choices.len() && last < choices.len() {

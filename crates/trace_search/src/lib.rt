@@ -2,6 +2,7 @@
 #![tactic(auto)]
 
 mod choosing;
+mod comparing;
 mod forced;
 mod guessing;
 mod searching;

@@ -285,14 +285,23 @@ impl Walk {
         Ok(())
     }
 
-    fn make_unit(&mut self, tables: &TraceTables, number: usize) -> Result<(), NoMemory> {
+    // Makes the next unit of a ticket, of which so many blocks are equal where that is given.
+    fn make_unit(
+        &mut self,
+        tables: &TraceTables,
+        number: usize,
+        given: Option<u32>,
+    ) -> Result<(), NoMemory> {
         let Some(ticket) = self.ticket(number) else {
             return Ok(());
         };
         let Some(range) = self.next_unit(tables, &ticket) else {
             return Ok(());
         };
-        let equal = self.equal(tables, &ticket, &range);
+        let equal = match given {
+            Some(equal) => equal,
+            None => self.equal(tables, &ticket, &range),
+        };
         let differs = ticket.compares() && equal < range.blocks;
         if ticket.finds.is_some() && equal == range.blocks {
             self.note_found(tables, &ticket, &range);
@@ -356,7 +365,8 @@ impl Walk {
             Choice::Line => self.make_line(tables),
             Choice::Fetch(queue) => self.make_fetch(tables, queue, false),
             Choice::Refuse(queue) => self.make_fetch(tables, queue, true),
-            Choice::Unit(number) => self.make_unit(tables, number),
+            Choice::Unit(number) => self.make_unit(tables, number, None),
+            Choice::Compared(number, equal) => self.make_unit(tables, number, Some(equal)),
             Choice::Post(cq, number) => self.make_post(tables, cq, number),
         }
     }

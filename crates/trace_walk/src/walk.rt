@@ -31,6 +31,9 @@ pub enum Choice {
     Refuse(usize),
     /// The next unit of this ticket.
     Unit(usize),
+    /// The next unit of this ticket, which compares: so many blocks are equal before one differs, and what is open of
+    /// them is fixed so.
+    Compared(usize, u32),
     /// The next completion of this completion queue, of this ticket.
     Post(usize, usize),
 }
@@ -207,9 +210,22 @@ impl Walk {
         tables.units.cut(ticket.next, ticket.left).next()
     }
 
+    // A number of what blocks that are open didn't hold.
+    fn not_held(&self) -> u64 {
+        let mut all = 0u64;
+        if self.has_open {
+            for one in self.fixed.as_slice() {
+                if !one.held && self.value(one.block) == OPEN {
+                    all = all.wrapping_add(mixed(one.block, one.value));
+                }
+            }
+        }
+        all
+    }
+
     /// A number that hardly any other place to go on from has.
     pub fn state(&self) -> u64 {
-        let mut state = mixed(self.sum, self.at as u64);
+        let mut state = mixed(self.sum.wrapping_add(self.not_held()), self.at as u64);
         for fetched in self.fetched.as_slice() {
             state = mixed(state, *fetched as u64);
         }
@@ -227,6 +243,29 @@ impl Walk {
             }
         }
         mixed(state, all)
+    }
+
+    /// Whether so many of these blocks can have the values that a ticket is to find, before one has another.
+    pub fn may_be_equal(
+        &self,
+        tables: &TraceTables,
+        ticket: &SoughtTicket,
+        range: &Range,
+        equal: u32,
+    ) -> bool {
+        let Some(place) = ticket.finds else {
+            return false;
+        };
+        for k in 0..range.blocks.min(equal.saturating_add(1)) {
+            let block = range.slba.saturating_add(u64::from(k));
+            let due = tables.value(place.saturating_add(ticket.behind(block)));
+            let value = self.value(block);
+            let may_hold = value == due || value == OPEN && self.may_hold(block, due);
+            if k < equal && !may_hold || k == equal && value == due {
+                return false;
+            }
+        }
+        true
     }
 
     /// How many of these blocks have the values that a ticket is to find, before one has another.

@@ -1,3 +1,4 @@
 pub mod Marks
 mod Batches
+mod PieceGiven
 mod Ready

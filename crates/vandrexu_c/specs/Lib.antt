@@ -1,9 +1,9 @@
 pub mod Answers
 pub mod Batches
 pub mod Checkers
-pub mod GivenConfig
+pub mod FaultNumbers
+pub mod HistoryLines
 pub mod Owned
 pub mod OwnedChecker
 pub mod OwnedStates
 pub mod Steps
-pub mod TextCalls

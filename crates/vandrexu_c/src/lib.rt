@@ -7,7 +7,7 @@ mod checker;
 mod configuration;
 mod controller;
 mod held;
+mod lines;
 mod owned_checker;
 mod owned_controller;
 mod steps;
-mod texts;

@@ -1,5 +1,4 @@
 pub mod Answers
-pub mod Configurations
 pub mod Disks
 pub mod Driving
 pub mod HostStates

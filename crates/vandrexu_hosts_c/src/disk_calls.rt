@@ -1,14 +1,14 @@
 //! A disk: made, freed, and served.
 
 ghost use Rattle.std.specs.Prelude.{◌≡◌, IfOk, None, Some};
-ghost use Rattle.vandrexu_hosts_c.specs.Configurations.{given_numbers};
+ghost use Rattle.given_config.specs.Configurations.{given_numbers};
 ghost use Rattle.vandrexu_hosts_c.specs.Disks.{FetchTells, IsNewDisk, KeepsDisk, MayRefuseDisk, ServesDisk, TaskTells};
 ghost use Rattle.vandrexu_hosts_c.specs.declared.disk.Disk.{Disk as TheDisk};
 
-use crate::configuration::{GivenConfig, config_of};
 use crate::disk::Disk;
 use crate::disk_handle::{DiskHandle, put_disk, take_disk};
 use crate::numbers::{IN_USE, NO_HANDLE, NO_MEMORY};
+use given_config::{GivenConfig, config_of};
 use history::Config;
 use std::alloc::{AllocError as NoMemory, Global};
 

@@ -75,6 +75,19 @@ impl DrivenHost {
         keep(&mut self.call, started)
     }
 
+    /// Begins to write zeros.
+    pub(crate) fn start_write_zeroes(&mut self, lba: u64, blocks: u32) -> u32
+        ensures { StartTells self.old self.new
+            (request_of (acwu_of self.old.driver) (area_of self.old.driver) Op.WriteZeroes lba (512 * blocks))
+            (CallData.One []) result }
+    {
+        if self.call.is_some() {
+            return IN_CALL;
+        }
+        let started = self.driver.start_write_zeroes(lba, blocks);
+        keep(&mut self.call, started)
+    }
+
     /// Begins to write.
     pub(crate) fn start_write(&mut self, lba: u64, contents: &[u8]) -> u32
         ensures { StartTells self.old self.new

@@ -78,6 +78,27 @@ pub extern "C" fn vandrexu_host_read(
     told
 }
 
+/// Begins to write zeros to so many blocks from block `lba` on; answers as `vandrexu_host_read`.
+#[unsafe(no_mangle)]
+pub extern "C" fn vandrexu_host_write_zeroes(
+    alloc: Global,
+    host: &mut HostHandle,
+    lba: u64,
+    blocks: u32,
+) -> u32
+    ensures no_handle { host.old.held.host ≡ None → (result ≡ 101) × (host.new.held.host ≡ None) }
+    ensures starts { (h : HostState) → host.old.held.host ≡ Some h → KeepsHost host.new.held.host (λ i. StartTells h i
+        (request_of (acwu_of h.driver) (area_of h.driver) Op.WriteZeroes lba (512 * blocks)) (CallData.One [])
+        result) }
+{
+    let Some(mut owned) = take_host(alloc, host) else {
+        return NO_HANDLE;
+    };
+    let told = owned.as_mut().start_write_zeroes(lba, blocks);
+    put_host(host, owned);
+    told
+}
+
 /// Begins to write this data, 512 bytes a block, from block `lba` on; answers as `vandrexu_host_read`.
 #[unsafe(no_mangle)]
 pub extern "C" fn vandrexu_host_write(

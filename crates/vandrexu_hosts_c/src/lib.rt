@@ -1,7 +1,6 @@
 //! Hosts of one controller for callers in C, one function each: include/vandrexu_hosts.h says how they are called.
 #![tactic(auto)]
 
-mod configuration;
 mod disk;
 mod disk_calls;
 mod disk_handle;

@@ -1,8 +1,8 @@
-//! The declarations of `include/vandrexu.h`, name by name. What a call does, what it is given and what it answers stands
-//! in that header; the crate `vandrexu` has it in safe Rust.
+//! The declarations of `include/vandrexu.h` and `include/vandrexu_hosts.h`, name by name. What a call does, what it is
+//! given and what it answers stands in these headers; the crate `vandrexu` has it in safe Rust.
 //!
 //! The build is told by `VANDREXU_LIB_DIR` in which folder libvandrexu_c.a lies. tests/header.rs compares each
-//! constant, layout and function with the header.
+//! constant, layout and function with the headers.
 #![no_std]
 #![allow(non_camel_case_types, missing_docs)]
 
@@ -49,6 +49,21 @@ pub const VANDREXU_BAD_HISTORY: u32 = 110;
 pub const VANDREXU_OTHER_CONFIG: u32 = 111;
 pub const VANDREXU_GAVE_UP: u32 = 112;
 
+// ---- What a call about a disk or a host answers besides
+
+pub const VANDREXU_BUSY: u32 = 12;
+pub const VANDREXU_CALL_LENGTH: u32 = 41;
+pub const VANDREXU_CALL_TOO_LONG: u32 = 42;
+pub const VANDREXU_CALL_NO_ROOM: u32 = 43;
+pub const VANDREXU_CALL_FAILED: u32 = 44;
+pub const VANDREXU_CALL_BUSY: u32 = 45;
+pub const VANDREXU_CALL_NO_MEMORY: u32 = 46;
+pub const VANDREXU_UNFINISHED: u32 = 113;
+pub const VANDREXU_NO_HOST: u32 = 114;
+pub const VANDREXU_BAD_NUMBER: u32 = 115;
+pub const VANDREXU_IN_CALL: u32 = 116;
+pub const VANDREXU_NO_CALL: u32 = 117;
+
 // ---- What a step says
 
 pub const VANDREXU_FAILED: u32 = 1;
@@ -68,6 +83,16 @@ pub const VANDREXU_WRITTEN: u32 = 4;
 pub const VANDREXU_STEP_GRANT: u32 = 2;
 pub const VANDREXU_STEP_BLOCK: u32 = 3;
 pub const VANDREXU_STEP_POST: u32 = 4;
+
+// ---- What became of a host's call
+
+pub const VANDREXU_REPLY_PENDING: u32 = 1;
+pub const VANDREXU_REPLY_READ: u32 = 2;
+pub const VANDREXU_REPLY_WRITTEN: u32 = 3;
+pub const VANDREXU_REPLY_EQUAL: u32 = 4;
+pub const VANDREXU_REPLY_DIFFERS: u32 = 5;
+pub const VANDREXU_REPLY_SWAPPED: u32 = 6;
+pub const VANDREXU_REPLY_FAILED: u32 = 7;
 
 // ---- The kinds of lines of a run
 
@@ -97,8 +122,24 @@ pub struct vandrexu_checker {
     pub live: u32,
 }
 
+#[repr(C)]
+#[derive(Debug)]
+pub struct vandrexu_disk {
+    pub at: *mut c_void,
+    pub live: u32,
+}
+
+#[repr(C)]
+#[derive(Debug)]
+pub struct vandrexu_host {
+    pub at: *mut c_void,
+    pub live: u32,
+}
+
 pub const VANDREXU_CONTROLLER_NONE: vandrexu_controller = vandrexu_controller { at: ptr::null_mut(), live: 0 };
 pub const VANDREXU_CHECKER_NONE: vandrexu_checker = vandrexu_checker { at: ptr::null_mut(), live: 0 };
+pub const VANDREXU_DISK_NONE: vandrexu_disk = vandrexu_disk { at: ptr::null_mut(), live: 0 };
+pub const VANDREXU_HOST_NONE: vandrexu_host = vandrexu_host { at: ptr::null_mut(), live: 0 };
 
 // ---- What is lent to calls
 
@@ -161,6 +202,15 @@ pub struct vandrexu_step {
     pub kind: u32,
 }
 
+#[repr(C)]
+#[derive(Clone, Copy, Debug, Default, PartialEq, Eq)]
+pub struct vandrexu_reply {
+    pub kind: u32,
+    pub sct: u8,
+    pub sc: u8,
+    pub zeros: [u8; 2],
+}
+
 unsafe extern "C" {
     pub fn vandrexu_config_fault(config: *const vandrexu_config) -> u32;
     pub fn vandrexu_controller_new(config: *const vandrexu_config, controller: *mut vandrexu_controller) -> u32;
@@ -202,6 +252,14 @@ unsafe extern "C" {
     pub fn vandrexu_controller_ready(controller: *mut vandrexu_controller, step: *mut vandrexu_step) -> u32;
     pub fn vandrexu_controller_medium(controller: *mut vandrexu_controller, lba: u64, out: *mut u8) -> u32;
     pub fn vandrexu_controller_history_count(controller: *mut vandrexu_controller, count: *mut u64) -> u32;
+    pub fn vandrexu_controller_history(
+        controller: *mut vandrexu_controller,
+        from: u64,
+        out: *mut u8,
+        room: usize,
+        needed: *mut usize,
+        next: *mut u64,
+    ) -> u32;
     pub fn vandrexu_checker_new(config: *const vandrexu_config, checker: *mut vandrexu_checker) -> u32;
     pub fn vandrexu_checker_free(checker: *mut vandrexu_checker);
     pub fn vandrexu_checker_take_line(checker: *mut vandrexu_checker, line: *const u8, length: usize) -> u32;
@@ -252,4 +310,25 @@ unsafe extern "C" {
         needed: *mut usize,
         line: *mut u64,
     ) -> u32;
+    pub fn vandrexu_disk_new(config: *const vandrexu_config, hosts: u16, disk: *mut vandrexu_disk) -> u32;
+    pub fn vandrexu_disk_free(disk: *mut vandrexu_disk);
+    pub fn vandrexu_disk_serve(disk: *mut vandrexu_disk, queue: u16) -> u32;
+    pub fn vandrexu_disk_fetch(disk: *mut vandrexu_disk, queue: u16) -> u32;
+    pub fn vandrexu_disk_task(disk: *mut vandrexu_disk) -> u32;
+    pub fn vandrexu_host_new(disk: *mut vandrexu_disk, number: u32, queue: u16, host: *mut vandrexu_host) -> u32;
+    pub fn vandrexu_host_free(host: *mut vandrexu_host);
+    pub fn vandrexu_host_read(host: *mut vandrexu_host, lba: u64, blocks: u32) -> u32;
+    pub fn vandrexu_host_write_zeroes(host: *mut vandrexu_host, lba: u64, blocks: u32) -> u32;
+    pub fn vandrexu_host_write(host: *mut vandrexu_host, lba: u64, data: *const u8, length: usize) -> u32;
+    pub fn vandrexu_host_compare(host: *mut vandrexu_host, lba: u64, data: *const u8, length: usize) -> u32;
+    pub fn vandrexu_host_compare_and_write(
+        host: *mut vandrexu_host,
+        lba: u64,
+        expected: *const u8,
+        expected_length: usize,
+        desired: *const u8,
+        desired_length: usize,
+    ) -> u32;
+    pub fn vandrexu_host_poll(host: *mut vandrexu_host, reply: *mut vandrexu_reply) -> u32;
+    pub fn vandrexu_host_data(host: *mut vandrexu_host, out: *mut u8, room: usize, needed: *mut usize) -> u32;
 }

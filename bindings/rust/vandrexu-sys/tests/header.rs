@@ -1,11 +1,13 @@
-//! Reads include/vandrexu.h, and compares with it what this crate declares: its constants, layouts and functions.
+//! Reads include/vandrexu.h and include/vandrexu_hosts.h, and compares with them what this crate declares: its constants,
+//! layouts and functions.
 use std::collections::BTreeMap;
 use std::mem::{offset_of, size_of};
 
-const HEADER: &str = include_str!("../../../../include/vandrexu.h");
+const HEADER: &str =
+    concat!(include_str!("../../../../include/vandrexu.h"), include_str!("../../../../include/vandrexu_hosts.h"));
 const DECLARED: &str = include_str!("../src/lib.rs");
 
-/// The header without its comments.
+/// The headers without their comments.
 fn header() -> String {
     let parts = HEADER.split("/*").map(|part| part.split_once("*/").map_or(part, |(_, behind)| behind));
     parts.collect()
@@ -16,7 +18,7 @@ fn between<'a>(text: &'a str, before: &'a str, after: &'a str) -> impl Iterator<
     text.split(before).skip(1).filter_map(move |part| part.split_once(after).map(|(it, _)| it))
 }
 
-/// The names and values of all enums of the header.
+/// The names and values of all enums of the headers.
 fn enumerated() -> BTreeMap<String, u32> {
     let text = header();
     let mut found = BTreeMap::new();
@@ -50,12 +52,21 @@ fn the_constants_are_those_of_the_header() {
         VANDREXU_FOUND_READ VANDREXU_EQUAL VANDREXU_DIFFERS VANDREXU_WRITTEN
         VANDREXU_STEP_GRANT VANDREXU_STEP_BLOCK VANDREXU_STEP_POST
         VANDREXU_NOT_EXPLAINED VANDREXU_BAD_HISTORY VANDREXU_OTHER_CONFIG VANDREXU_GAVE_UP
+        VANDREXU_BUSY VANDREXU_CALL_LENGTH VANDREXU_CALL_TOO_LONG VANDREXU_CALL_NO_ROOM VANDREXU_CALL_FAILED
+        VANDREXU_CALL_BUSY VANDREXU_CALL_NO_MEMORY VANDREXU_UNFINISHED VANDREXU_NO_HOST VANDREXU_BAD_NUMBER
+        VANDREXU_IN_CALL VANDREXU_NO_CALL
+        VANDREXU_REPLY_PENDING VANDREXU_REPLY_READ VANDREXU_REPLY_WRITTEN VANDREXU_REPLY_EQUAL VANDREXU_REPLY_DIFFERS
+        VANDREXU_REPLY_SWAPPED VANDREXU_REPLY_FAILED
         VANDREXU_PUBLISH_LINES VANDREXU_FETCH_LINES VANDREXU_GRANT_LINES VANDREXU_BLOCK_LINES VANDREXU_POST_LINES
         VANDREXU_REAP_LINES VANDREXU_REFUSED_LINES VANDREXU_MEDIUM_LINES VANDREXU_ALL_LINES
     };
     assert_eq!(declared, enumerated());
     let constants = DECLARED.matches("pub const VANDREXU_").count();
-    assert_eq!(constants, declared.len() + 3, "a constant is compared with nothing: the version and two handles aside");
+    assert_eq!(
+        constants,
+        declared.len() + 5,
+        "a constant is compared with nothing: the version and four handles aside"
+    );
 }
 
 #[test]
@@ -122,6 +133,9 @@ fn the_layouts_are_those_of_the_header() {
     let declared = layouts! {
         vandrexu_controller { at live }
         vandrexu_checker { at live }
+        vandrexu_disk { at live }
+        vandrexu_host { at live }
+        vandrexu_reply { kind sct sc zeros }
         vandrexu_config { blocks awun acwu nabsn nabo pairs sq_size cq_size jobs cqs }
         vandrexu_entry { bytes count }
         vandrexu_work { ticket slba blocks kind op statuses }

@@ -1,7 +1,7 @@
 //! The controller.
 use crate::answers::{Blocked, Completion, Granted, Made, Reaped, Step, Work};
 use crate::error::{Error, Result, told};
-use crate::iterators::{Completions, Steps};
+use crate::iterators::{Completions, HistoryLines, Steps};
 use crate::{BLOCK, Config, Entry};
 use std::cell::UnsafeCell;
 use std::fmt;
@@ -254,6 +254,42 @@ impl Controller {
         let status = unsafe { sys::vandrexu_controller_history_count(self.at(), &mut count) };
         assert_eq!(told(status), Ok(()), "a controller has its handle until it is dropped");
         count
+    }
+
+    /// The lines of the history from a place on, without their line feeds. Place 0 is the configuration's line, and place
+    /// k the k-th step's; what stands before costs nothing.
+    ///
+    /// ```
+    /// use vandrexu::{Config, Controller, Entry};
+    ///
+    /// let mut disk = Controller::new(&Config::default())?;
+    /// disk.publish(1, &[Entry::flush(7)])?;
+    /// disk.fetch(1)?;
+    /// let lines = disk.history(0).collect::<Result<Vec<_>, _>>()?;
+    /// assert_eq!(lines[0], Config::default().to_string());
+    /// assert_eq!(lines[2], "fetch 1 1 1 ok");
+    /// disk.settle()?;
+    /// assert_eq!(disk.history(3).next(), Some(Ok("post 1 00000000000000000100010007000100 -".into())));
+    /// # Ok::<(), vandrexu::Error>(())
+    /// ```
+    pub fn history(&self, from: u64) -> HistoryLines<'_> {
+        HistoryLines::of(self, from)
+    }
+
+    /// A piece of the history in this room, which grows where not one line fits: its length, and the place behind it.
+    pub(crate) fn piece(&self, from: u64, room: &mut Vec<u8>) -> Result<(usize, u64)> {
+        loop {
+            let (mut needed, mut next) = (0, 0);
+            // SAFETY: as `at` says; so many bytes are there.
+            let status = unsafe {
+                sys::vandrexu_controller_history(self.at(), from, room.as_mut_ptr(), room.len(), &mut needed, &mut next)
+            };
+            match told(status) {
+                Ok(()) => return Ok((needed, next)),
+                Err(Error::TooSmall) => room.resize(needed, 0),
+                Err(other) => return Err(other),
+            }
+        }
     }
 }
 

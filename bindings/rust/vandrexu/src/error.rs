@@ -70,6 +70,8 @@ errors! {
     NoCompletion = VANDREXU_NO_COMPLETION, "no completion to reap";
     BadBatch = VANDREXU_BAD_BATCH, "no entry to publish";
     NoMemory = VANDREXU_NO_MEMORY, "no memory";
+    /// (Of [`Disk`](crate::Disk); nothing was done.)
+    Busy = VANDREXU_BUSY, "another handle of the disk had the controller";
     AwunTooLarge = VANDREXU_AWUN_TOO_LARGE, "AWUN is above 255";
     AcwuTooLarge = VANDREXU_ACWU_TOO_LARGE, "ACWU is above 255";
     BoundaryBelowUnit = VANDREXU_BOUNDARY_BELOW_UNIT, "NABSN isn't 0, and AWUN or ACWU is above it";
@@ -80,7 +82,15 @@ errors! {
     BadCqSize = VANDREXU_BAD_CQ_SIZE, "CQ isn't 2 to 1,024";
     BadJobs = VANDREXU_BAD_JOBS, "JOBS isn't 1 to 256";
     BadCqs = VANDREXU_BAD_CQS, "CQS is 0 or above PAIRS";
-    /// (A [`Controller`](crate::Controller) and a [`Checker`](crate::Checker) own something until they are dropped.)
+    CallLength = VANDREXU_CALL_LENGTH, "no block, or data that isn't whole blocks, or two data of unlike lengths";
+    CallTooLong = VANDREXU_CALL_TOO_LONG, "more blocks than a call may have";
+    CallNoRoom = VANDREXU_CALL_NO_ROOM, "no room in the submission queue for a call";
+    /// ([`Reply::Failed`](crate::Reply::Failed) in place of it.)
+    CallFailed = VANDREXU_CALL_FAILED, "the call failed";
+    /// (Of [`Host`](crate::Host); nothing was done.)
+    CallBusy = VANDREXU_CALL_BUSY, "another handle of the disk had the controller, for a call";
+    CallNoMemory = VANDREXU_CALL_NO_MEMORY, "no memory for a call";
+    /// (What is made owns something until it is dropped.)
     NoHandle = VANDREXU_NO_HANDLE, "the handle owns nothing";
     /// (Each handle of this crate is made once.)
     InUse = VANDREXU_IN_USE, "the handle owns something already";
@@ -97,6 +107,11 @@ errors! {
     BadHistory = VANDREXU_BAD_HISTORY, "the history beside the trace has a line that is none";
     OtherConfig = VANDREXU_OTHER_CONFIG, "a trace and a history that don't belong together";
     GaveUp = VANDREXU_GAVE_UP, "the steps of the search were used up";
+    Unfinished = VANDREXU_UNFINISHED, "what was fetched before isn't finished";
+    NoHost = VANDREXU_NO_HOST, "as many hosts were made as the disk was made for";
+    BadNumber = VANDREXU_BAD_NUMBER, "a host has no number 0";
+    InCall = VANDREXU_IN_CALL, "the host has a call";
+    NoCall = VANDREXU_NO_CALL, "the host has no call";
 }
 
 impl std::error::Error for Error {}
@@ -113,17 +128,23 @@ mod tests {
     const SCRIPTS: &str = include_str!("../../../../docs/SCRIPTS.md");
     const CHECKING: &str = include_str!("../../../../docs/CHECKING.md");
     const HEADER: &str = include_str!("../../../../include/vandrexu.h");
+    const HOSTS: &str = include_str!("../../../../include/vandrexu_hosts.h");
+
+    /// The numbers of an enum of a header.
+    fn numbers_of(header: &str, name: &str) -> Vec<u32> {
+        let (_, behind) = header.split_once(&format!("enum {name} {{")).expect("the statuses");
+        let lines = behind.split('}').next().unwrap_or_default().lines();
+        lines
+            .filter_map(|line| line.split_once(" = "))
+            .map(|(_, behind)| behind.split([',', ' ', '\n']).next().unwrap_or_default())
+            .map(|number| number.parse().expect("a number"))
+            .collect()
+    }
 
     #[test]
-    fn each_status_of_the_header_is_an_error_with_this_number() {
-        let part =
-            HEADER.split_once("enum vandrexu_status {").and_then(|it| it.1.split_once('}')).expect("the statuses").0;
-        let numbers: Vec<u32> = part
-            .lines()
-            .filter_map(|line| line.split_once(" = "))
-            .map(|(_, behind)| behind.split(',').next().unwrap_or_default().split(' ').next().unwrap_or_default())
-            .map(|number| number.parse().expect("a number"))
-            .collect();
+    fn each_status_of_the_headers_is_an_error_with_this_number() {
+        let mut numbers = [numbers_of(HEADER, "vandrexu_status"), numbers_of(HOSTS, "vandrexu_host_status")].concat();
+        numbers.sort_unstable();
         assert_eq!(numbers[0], 0);
         assert_eq!(Error::ALL.iter().map(|it| it.status()).collect::<Vec<_>>(), numbers[1..]);
         for error in Error::ALL {

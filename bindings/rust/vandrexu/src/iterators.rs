@@ -1,4 +1,4 @@
-//! Iterators over the steps that are ready and the completions that are there.
+//! Iterators over the steps that are ready, the completions that are there, and the lines of a history.
 use crate::answers::{Made, Reaped, Step};
 use crate::controller::Controller;
 use crate::error::{Error, Result};
@@ -59,5 +59,52 @@ impl Iterator for Completions<'_> {
                 Some(reaped)
             }
         }
+    }
+}
+
+/// The lines of a history: [`Controller::history`].
+#[derive(Debug)]
+#[must_use = "no line is had before it is asked for"]
+pub struct HistoryLines<'a> {
+    controller: &'a Controller,
+    // the place of the first line that isn't in the room, and what of the room wasn't given yet
+    next: u64,
+    room: Vec<u8>,
+    left: std::ops::Range<usize>,
+    failed: bool,
+}
+
+impl<'a> HistoryLines<'a> {
+    pub(crate) fn of(controller: &'a Controller, from: u64) -> HistoryLines<'a> {
+        HistoryLines { controller, next: from, room: vec![0; 4096], left: 0..0, failed: false }
+    }
+
+    // Fills the room with the next lines.
+    fn fill(&mut self) -> Result<()> {
+        let (length, next) = self.controller.piece(self.next, &mut self.room)?;
+        (self.left, self.next) = (0..length, next);
+        Ok(())
+    }
+}
+
+impl Iterator for HistoryLines<'_> {
+    type Item = Result<String>;
+
+    /// The next line. After an error there is none.
+    fn next(&mut self) -> Option<Self::Item> {
+        if self.failed {
+            return None;
+        }
+        if self.left.is_empty() {
+            if let Err(error) = self.fill() {
+                self.failed = true;
+                return Some(Err(error));
+            }
+        }
+        let text = &self.room[self.left.clone()];
+        let length = text.iter().position(|byte| *byte == b'\n')?;
+        let line = String::from_utf8_lossy(&text[..length]).into_owned();
+        self.left.start += length + 1;
+        Some(Ok(line))
     }
 }

@@ -1,4 +1,5 @@
-//! An NVM Express controller in memory, around the fused Compare and Write, and a checker of histories.
+//! An NVM Express controller in memory, around the fused Compare and Write, hosts with a driver each, and a checker of
+//! histories.
 //!
 //! Whoever tests firmware, or builds locks over Compare and Write, has both in a program of their own. The controller
 //! makes one step at a time, when it is asked; the checker says of each line of a log whether the controller that wrote
@@ -24,6 +25,8 @@
 //! fn goes<T: Send>() {}
 //! goes::<vandrexu::Controller>();
 //! goes::<vandrexu::Checker>();
+//! goes::<vandrexu::Disk>();
+//! goes::<vandrexu::Host>();
 //! ```
 //!
 //! ```compile_fail,E0277
@@ -35,12 +38,23 @@
 //! fn is_shared<T: Sync>() {}
 //! is_shared::<vandrexu::Checker>();
 //! ```
+//!
+//! ```compile_fail,E0277
+//! fn is_shared<T: Sync>() {}
+//! is_shared::<vandrexu::Disk>();
+//! ```
+//!
+//! ```compile_fail,E0277
+//! fn is_shared<T: Sync>() {}
+//! is_shared::<vandrexu::Host>();
+//! ```
 mod answers;
 mod checker;
 mod config;
 mod controller;
 mod entry;
 mod error;
+mod hosts;
 mod iterators;
 mod texts;
 
@@ -50,7 +64,8 @@ pub use config::Config;
 pub use controller::Controller;
 pub use entry::Entry;
 pub use error::{Error, Result};
-pub use iterators::{Completions, Steps};
+pub use hosts::{Disk, Host, Reply};
+pub use iterators::{Completions, HistoryLines, Steps};
 pub use texts::{Lines, TextError, certify_text, check_text, observe_text, run_text};
 
 /// The version of the archive's header.

@@ -17,8 +17,16 @@ static SAID: [[AtomicU64; 3]; Change::ALL.len()] = [const { [const { AtomicU64::
 
 /// Seeds of traces of which an earlier search said what isn't so, and whether they have a head. They are compared in each
 /// run.
-const ONCE_WRONG: [(u64, bool); 6] =
-    [(397_382, false), (661_011, false), (725_346, false), (761_699, false), (36_156, true), (74_053, true)];
+const ONCE_WRONG: [(u64, bool); 8] = [
+    (397_382, false),
+    (661_011, false),
+    (725_346, false),
+    (761_699, false),
+    (36_156, true),
+    (74_053, true),
+    (471_508, true),
+    (622_787, true),
+];
 
 static WITNESSES: AtomicU64 = AtomicU64::new(0);
 

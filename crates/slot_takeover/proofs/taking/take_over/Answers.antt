@@ -15,8 +15,13 @@ returns-in_err-call-clause-is g c =
     let at : c.block.result ≡ block_of (area_of d) c.args.i = c.block.ensures
     ∙ ap (λ (r : Range). block_of r c.args.i) (sym c.requires.area) in
     rw (p.1, p.2)
-    (subst (λ (l : ℕ). IsTakeoverStart d e l c.args.dead.host c.args.dead.serial (Err c.in_err-call.field-0.0)) at
-    c.in_err-call.ensures.is)
+    (subst (λ (s : ℕ). IsTakeoverStart d e (block_of (area_of d) c.args.i) c.args.dead.host s
+    (Err c.in_err-call.field-0.0)) c.serial_of_name-dead_serial.ensures.value
+    (subst (λ (h : ℕ). IsTakeoverStart d e (block_of (area_of d) c.args.i) h c.serial_of_name-dead_serial.result
+    (Err c.in_err-call.field-0.0)) c.host_of_name-dead_host.ensures.value
+    (subst (λ (l : ℕ). IsTakeoverStart d e l c.host_of_name-dead_host.result c.serial_of_name-dead_serial.result
+    (Err c.in_err-call.field-0.0)) at
+    c.in_err-call.ensures.is)))
 
 pub returns-clause-is : goal.returns-clause-is
 returns-clause-is g c =
@@ -27,8 +32,13 @@ returns-clause-is g c =
     ∙ ap (λ (r : Range). block_of r c.args.i) (sym c.requires.area) in (
       refl,
       refl,
-      subst (λ (l : ℕ). IsTakeoverStart d e l c.args.dead.host c.args.dead.serial (Ok (x.call, x.serial))) at
-          x.ensures.is,
+      subst (λ (s : ℕ). IsTakeoverStart d e (block_of (area_of d) c.args.i) c.args.dead.host s
+          (Ok (x.call, x.serial))) c.serial_of_name-dead_serial.ensures.value
+          (subst (λ (h : ℕ). IsTakeoverStart d e (block_of (area_of d) c.args.i) h c.serial_of_name-dead_serial.result
+          (Ok (x.call, x.serial))) c.host_of_name-dead_host.ensures.value
+          (subst (λ (l : ℕ). IsTakeoverStart d e l c.host_of_name-dead_host.result c.serial_of_name-dead_serial.result
+          (Ok (x.call, x.serial))) at
+          x.ensures.is)),
     )
 
 pub returns-clause-of : goal.returns-clause-of
@@ -38,18 +48,25 @@ returns-clause-of g c =
     let x = c.in_ok-call in
     let at : c.block.result ≡ block_of (area_of d) c.args.i = c.block.ensures
     ∙ ap (λ (r : Range). block_of r c.args.i) (sym c.requires.area) in
+    let host = c.host_of_name-dead_host.ensures.value in
+    let serial = c.serial_of_name-dead_serial.ensures.value in
     taking_now g.P.Port d e c.args.i c.args.dead x.call x.serial
     (record {
       settings = x.ensures.settings;
-      start = subst (λ (l : ℕ). IsTakeoverStart d e l c.args.dead.host c.args.dead.serial (Ok (x.call, x.serial))) at
-          x.ensures.is;
+      start = subst (λ (s : ℕ). IsTakeoverStart d e (block_of (area_of d) c.args.i) c.args.dead.host s
+          (Ok (x.call, x.serial))) serial
+          (subst (λ (h : ℕ). IsTakeoverStart d e (block_of (area_of d) c.args.i) h c.serial_of_name-dead_serial.result
+          (Ok (x.call, x.serial))) host
+          (subst (λ (l : ℕ). IsTakeoverStart d e l c.host_of_name-dead_host.result c.serial_of_name-dead_serial.result
+          (Ok (x.call, x.serial))) at
+          x.ensures.is));
       inside = subst (λ (r : Range). c.args.i < r.blocks) (sym c.requires.area) c.requires.slot;
       other = c.requires.other;
       dead_name = record {
         host = c.requires.named.0;
-        host_fits = c.fits.ensures.law.0;
+        host_fits = subst (λ (h : ℕ). h < 4294967296) host c.fits.ensures.law.0;
         serial = c.requires.named.1;
-        serial_fits = c.fits.ensures.law.1;
+        serial_fits = subst (λ (s : ℕ). s < 18446744073709551616) serial c.fits.ensures.law.1;
       };
       named = x.ensures.law.0;
       narrow = x.ensures.law.1;

@@ -1,0 +1,161 @@
+#!/usr/bin/env python3
+"""Tests of vandrexu.py: the lines of histories, and disks and their hosts with each of their answers."""
+import sys
+import threading
+import unittest
+
+import vandrexu
+from vandrexu import (BadConfig, Busy, CallRefused, Config, Controller, Disk, Entry, NoHandle, Refused, Reply,
+                      ReplyKind, Status)
+
+TWO = Config.of_line("config 8 1 1 0 0 2 4 4 8")
+A1 = b"\xA1" * 512
+
+
+class Hosts(unittest.TestCase):
+    def refused(self, status, call, *arguments):
+        with self.assertRaises(vandrexu.Error) as caught:
+            call(*arguments)
+        self.assertEqual(caught.exception.status, status)
+        self.assertEqual(str(caught.exception), vandrexu.WORDS[status])
+        return caught.exception
+
+    # ---- the lines of a history
+
+    def test_a_history_in_pieces(self):
+        with Controller(Config(blocks=1024, awun=255)) as disk:
+            self.assertEqual(list(disk.history()), [str(disk.config)])
+            self.assertEqual(list(disk.history(1)), [])
+            # (lines longer than any piece)
+            data = bytes(range(256)) * 128
+            for cid in range(3):
+                disk.publish(1, [Entry.write(cid, 3, data, 64)])
+                disk.fetch(1)
+                disk.settle()
+                disk.reap(1)
+            lines = list(disk.history())
+            self.assertEqual(len(lines), disk.history_count() + 1)
+            blocks = ".".join(data[at:at + 512].hex().upper() for at in range(0, len(data), 512))
+            steps = "".join(f"publish 1 write 0 {cid} 3 63 {blocks}\nfetch 1\nsettle\nreap 1\n" for cid in range(3))
+            text = vandrexu.run_text(f"{disk.config}\n{steps}", vandrexu.Lines.HISTORY)
+            self.assertEqual(text.splitlines(), lines)
+            for start in (1, 2, 69, len(lines) - 1, len(lines), len(lines) + 7, 2 ** 64 - 1):
+                self.assertEqual(list(disk.history(start)), lines[start:])
+            self.assertRaises(OverflowError, lambda: list(disk.history(-1)))
+            # what is made while it is read is told, too
+            more = disk.history(len(lines) - 1)
+            self.assertEqual(next(more), lines[-1])
+            disk.publish(1, [Entry.flush(9)])
+            self.assertEqual(len(list(more)), 1)
+
+    # ---- a disk and its hosts
+
+    def over(self, disk, host):
+        """Serves a host's queue, and polls until its call is over."""
+        disk.serve(host.queue)
+        while (reply := host.poll()).kind == ReplyKind.PENDING:
+            pass
+        return reply
+
+    def test_what_hosts_are_refused(self):
+        self.assertIsInstance(self.refused(Status.BAD_JOBS, Disk, Config(jobs=0), 1), BadConfig)
+        with Disk(TWO, 1) as disk:
+            self.refused(Status.BAD_NUMBER, disk.host, 0, 1)
+            self.assertIsInstance(self.refused(Status.NO_QUEUE, disk.host, 1, 3), Refused)
+            with disk.host(1, 1) as host:
+                self.refused(Status.NO_HOST, disk.host, 2, 2)
+                self.refused(Status.NO_ENTRY, disk.serve, 1)
+                self.refused(Status.NO_QUEUE, disk.serve, 3)
+                self.refused(Status.NO_ENTRY, disk.fetch, 1)
+                self.assertIs(disk.task(), False)
+                self.refused(Status.NO_CALL, host.poll)
+                for status, call, *arguments in (
+                        (Status.CALL_LENGTH, host.read, 0, 0), (Status.CALL_TOO_LONG, host.read, 0, 257),
+                        (Status.CALL_LENGTH, host.write_zeroes, 0, 0),
+                        (Status.CALL_TOO_LONG, host.write_zeroes, 0, 257),
+                        (Status.CALL_LENGTH, host.write, 0, b""), (Status.CALL_LENGTH, host.compare, 0, bytes(511)),
+                        (Status.CALL_LENGTH, host.compare_and_write, 0, bytes(512), bytes(1024)),
+                        (Status.CALL_TOO_LONG, host.compare_and_write, 0, bytes(1536), bytes(1536))):
+                    self.assertIsInstance(self.refused(status, call, *arguments), CallRefused)
+                host.write(0, A1)
+                for call, arguments in ((host.read, (0,)), (host.write, (0, A1)), (host.write_zeroes, (0,)),
+                                        (host.compare, (0, A1)), (host.compare_and_write, (0, A1, A1))):
+                    self.refused(Status.IN_CALL, call, *arguments)
+                disk.fetch(1)
+                self.refused(Status.UNFINISHED, disk.fetch, 2)
+                disk.serve(2)
+                self.assertEqual(host.poll(), Reply(ReplyKind.WRITTEN))
+                for call, arguments in ((host.read, (-1,)), (host.read, (0, 2 ** 32)), (disk.serve, (65536,)),
+                                        (disk.host, (2 ** 32, 1)), (Disk, (TWO, 65536))):
+                    self.assertRaises(OverflowError, call, *arguments)
+
+    def test_each_reply(self):
+        disk = Disk(TWO, 2)
+        one, two = disk.host(1, 1), disk.host(2, 2)
+        one.compare_and_write(3, bytes(1024), A1 + A1)
+        self.assertEqual(one.poll(), Reply(ReplyKind.PENDING))
+        self.assertEqual(self.over(disk, one), Reply(ReplyKind.SWAPPED))
+        two.compare_and_write(3, bytes(512), bytes(512))
+        self.assertEqual(self.over(disk, two), Reply(ReplyKind.DIFFERS))
+        two.compare(4, A1)
+        self.assertEqual(self.over(disk, two), Reply(ReplyKind.EQUAL))
+        two.compare(4, bytes(512))
+        self.assertEqual(self.over(disk, two), Reply(ReplyKind.DIFFERS))
+        one.write_zeroes(4)
+        self.assertEqual(self.over(disk, one), Reply(ReplyKind.WRITTEN))
+        two.read(3, 2)
+        self.assertEqual(self.over(disk, two), Reply(ReplyKind.READ, A1 + bytes(512)))
+        two.read(8)
+        self.assertEqual(self.over(disk, two), Reply(ReplyKind.FAILED, status=(0, 0x80)))
+        self.refused(Status.NO_CALL, two.poll)
+        disk.close()
+        one.write(0, A1)
+        self.assertEqual(one.poll(), Reply(ReplyKind.PENDING))
+        one.close()
+        for call, arguments in ((disk.serve, (1,)), (disk.fetch, (1,)), (disk.task, ()), (disk.host, (1, 1)),
+                                (one.read, (0,)), (one.write, (0, A1)), (one.write_zeroes, (0,)),
+                                (one.compare, (0, A1)), (one.compare_and_write, (0, A1, A1)), (one.poll, ())):
+            self.assertIsInstance(self.refused(Status.NO_HANDLE, call, *arguments), NoHandle)
+
+    def test_hosts_count_together(self):
+        """Two hosts on threads of their own add to one block by Compare and Write, and no turn is lost."""
+        def ask(call, *arguments):
+            while True:
+                try:
+                    return call(*arguments)
+                except Busy:
+                    pass
+
+        def reply_of(host):
+            while (reply := ask(host.poll)).kind == ReplyKind.PENDING:
+                pass
+            return reply
+
+        def adds(host):
+            old, added = bytes(512), 0
+            while added < 40:
+                new = (int.from_bytes(old[:2], "little") + 1).to_bytes(2, "little") + bytes(510)
+                ask(host.compare_and_write, 0, old, new)
+                if reply_of(host).kind == ReplyKind.SWAPPED:
+                    old, added = new, added + 1
+                else:
+                    ask(host.read, 0)
+                    old = reply_of(host).data
+
+        with Disk(TWO, 2) as disk:
+            hosts = [disk.host(queue, queue) for queue in (1, 2)]
+            threads = [threading.Thread(target=adds, args=(it,)) for it in hosts]
+            for thread in threads:
+                thread.start()
+            while any(it.is_alive() for it in threads):
+                for queue in (1, 2):
+                    try:
+                        disk.serve(queue)
+                    except (Busy, Refused) as error:
+                        self.assertIn(error.status, (Status.BUSY, Status.NO_ENTRY))
+            hosts[0].read(0)
+            self.assertEqual(self.over(disk, hosts[0]).data, (80).to_bytes(2, "little") + bytes(510))
+
+
+if __name__ == "__main__":
+    unittest.main(argv=[sys.argv[0], *sys.argv[1:]])

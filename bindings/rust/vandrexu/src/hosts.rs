@@ -1,0 +1,296 @@
+//! A disk that hosts share, and hosts with a driver each.
+use crate::Config;
+use crate::error::{Error, Result, told};
+use std::cell::UnsafeCell;
+use std::fmt;
+use vandrexu_sys as sys;
+
+/// A controller that hosts share. It is served by this handle, and freed where it and its hosts are dropped.
+///
+/// Nothing happens by itself: what a host asks for waits until the disk serves its submission queue. Two hosts take each
+/// other's completions where their queues have one completion queue: give each its own, as with `cqs` equal to `pairs`.
+///
+/// ```
+/// use vandrexu::{Config, Disk, Reply};
+///
+/// let mut disk = Disk::new(&Config { pairs: 2, cqs: 2, ..Config::default() }, 2)?;
+/// let (mut one, mut two) = (disk.host(1, 1)?, disk.host(2, 2)?);
+/// let (free, mine) = ([0; 512], [0xA1; 512]);
+/// one.compare_and_write(3, &free, &mine)?;
+/// two.compare_and_write(3, &free, &[0xB2; 512])?;
+/// disk.serve(2)?;
+/// disk.serve(1)?;
+/// // (a pair has two completions, and each poll reaps one)
+/// assert_eq!((two.poll()?, two.poll()?), (Reply::Pending, Reply::Swapped));
+/// assert_eq!((one.poll()?, one.poll()?), (Reply::Pending, Reply::Differs));
+/// # Ok::<(), vandrexu::Error>(())
+/// ```
+#[must_use = "a disk that is dropped serves nobody"]
+pub struct Disk {
+    handle: UnsafeCell<sys::vandrexu_disk>,
+}
+
+// SAFETY: a handle may be used on another thread than before, and what it shares with hosts is behind a lock.
+unsafe impl Send for Disk {}
+
+impl Disk {
+    /// A disk with no history, whose blocks are zeros, of which so many hosts can be made.
+    ///
+    /// # Errors
+    /// The configuration's [`fault`](Config::fault); [`Error::NoMemory`].
+    pub fn new(config: &Config, hosts: u16) -> Result<Disk> {
+        let mut handle = sys::VANDREXU_DISK_NONE;
+        // SAFETY: both are there during the call, and aren't the same.
+        told(unsafe { sys::vandrexu_disk_new(&config.raw(), hosts, &mut handle) })?;
+        Ok(Disk { handle: UnsafeCell::new(handle) })
+    }
+
+    /// A host of this number, with a driver on this submission queue. No other host should have the number or the queue.
+    ///
+    /// ```
+    /// use vandrexu::{Config, Disk, Error};
+    ///
+    /// let mut disk = Disk::new(&Config::default(), 1)?;
+    /// assert_eq!(disk.host(0, 1).err(), Some(Error::BadNumber));
+    /// assert_eq!(disk.host(1, 2).err(), Some(Error::NoQueue));
+    /// let one = disk.host(1, 1)?;
+    /// assert_eq!(disk.host(2, 1).err(), Some(Error::NoHost));
+    /// # drop(one);
+    /// # Ok::<(), Error>(())
+    /// ```
+    ///
+    /// # Errors
+    /// [`Error::BadNumber`] of 0, [`Error::NoQueue`], [`Error::NoHost`], [`Error::NoMemory`].
+    pub fn host(&mut self, number: u32, queue: u16) -> Result<Host> {
+        let mut handle = sys::VANDREXU_HOST_NONE;
+        // SAFETY: nobody else has this handle, which isn't Sync; the host's is new.
+        told(unsafe { sys::vandrexu_host_new(self.handle.get(), number, queue, &mut handle) })?;
+        Ok(Host { handle: UnsafeCell::new(handle) })
+    }
+
+    /// Fetches the next command of a submission queue, or a fused pair, and makes all that it has to do.
+    ///
+    /// # Errors
+    /// [`Error::NoEntry`], [`Error::NoQueue`], [`Error::JobsFull`]; [`Error::CqFull`], [`Error::NoMemory`] and
+    /// [`Error::Busy`], where what was fetched is kept: the next call goes on with it, whichever queue it names.
+    pub fn serve(&mut self, queue: u16) -> Result<()> {
+        // SAFETY: as in host.
+        told(unsafe { sys::vandrexu_disk_serve(self.handle.get(), queue) })
+    }
+
+    /// Fetches the next command of a submission queue, or a fused pair, and keeps what has to be done.
+    ///
+    /// # Errors
+    /// Those of [`serve`](Disk::serve); [`Error::Unfinished`] where something is kept.
+    pub fn fetch(&mut self, queue: u16) -> Result<()> {
+        // SAFETY: as in host.
+        told(unsafe { sys::vandrexu_disk_fetch(self.handle.get(), queue) })
+    }
+
+    /// Makes the next step of what is kept, and says whether there was one.
+    ///
+    /// ```
+    /// use vandrexu::{Config, Disk};
+    ///
+    /// let mut disk = Disk::new(&Config::default(), 1)?;
+    /// let mut host = disk.host(1, 1)?;
+    /// host.read(3, 1)?;
+    /// disk.fetch(1)?;
+    /// let mut steps = 0;
+    /// while disk.task()? {
+    ///     steps += 1;
+    /// }
+    /// assert_eq!(steps, 3);
+    /// # Ok::<(), vandrexu::Error>(())
+    /// ```
+    ///
+    /// # Errors
+    /// [`Error::CqFull`], [`Error::NoMemory`], [`Error::Busy`].
+    pub fn task(&mut self) -> Result<bool> {
+        // SAFETY: as in host.
+        match told(unsafe { sys::vandrexu_disk_task(self.handle.get()) }) {
+            Ok(()) => Ok(true),
+            Err(Error::NothingReady) => Ok(false),
+            Err(other) => Err(other),
+        }
+    }
+}
+
+impl Drop for Disk {
+    fn drop(&mut self) {
+        // SAFETY: nobody else has the handle; it is used no more.
+        unsafe { sys::vandrexu_disk_free(self.handle.get()) }
+    }
+}
+
+impl fmt::Debug for Disk {
+    fn fmt(&self, f: &mut fmt::Formatter<'_>) -> fmt::Result {
+        f.debug_struct("Disk").finish_non_exhaustive()
+    }
+}
+
+/// What became of a host's call.
+#[derive(Clone, Debug, PartialEq, Eq)]
+#[must_use]
+pub enum Reply {
+    /// Not all its completions were reaped.
+    Pending,
+    /// It read this.
+    Read(Vec<u8>),
+    /// It wrote, also zeros.
+    Written,
+    /// A Compare's data was on the blocks.
+    Equal,
+    /// The data of a Compare, or of a Compare and Write, wasn't on the blocks.
+    Differs,
+    /// A Compare and Write's data was on the blocks, and they were written.
+    Swapped,
+    /// It failed, with this Status Code Type and Status Code.
+    Failed {
+        /// The Status Code Type.
+        sct: u8,
+        /// The Status Code.
+        sc: u8,
+    },
+}
+
+/// A host of a [`Disk`], with a driver, and one call at a time. It is freed where it is dropped.
+///
+/// A call is begun, and then polled until it is over. A host outlives its disk's handle, but is served no more.
+///
+/// ```
+/// use vandrexu::{Config, Disk, Error, Reply};
+///
+/// let mut disk = Disk::new(&Config::default(), 1)?;
+/// let mut host = disk.host(1, 1)?;
+/// host.write(3, &[0xA1; 1024])?;
+/// assert_eq!(host.read(3, 1), Err(Error::InCall));
+/// assert_eq!(host.poll()?, Reply::Pending);
+/// disk.serve(1)?;
+/// assert_eq!(host.poll()?, Reply::Written);
+/// assert_eq!(host.poll(), Err(Error::NoCall));
+/// host.write_zeroes(3, 1)?;
+/// disk.serve(1)?;
+/// assert_eq!(host.poll()?, Reply::Written);
+/// host.read(3, 2)?;
+/// disk.serve(1)?;
+/// assert_eq!(host.poll()?, Reply::Read([[0; 512], [0xA1; 512]].concat()));
+/// # Ok::<(), Error>(())
+/// ```
+#[must_use = "a host that is dropped takes its place on the disk with it"]
+pub struct Host {
+    handle: UnsafeCell<sys::vandrexu_host>,
+}
+
+// SAFETY: as of Disk.
+unsafe impl Send for Host {}
+
+impl Host {
+    /// Begins to read so many blocks.
+    ///
+    /// # Errors
+    /// [`Error::InCall`]; [`Error::CallLength`] of no block, [`Error::CallTooLong`], [`Error::CallNoRoom`],
+    /// [`Error::CallBusy`], [`Error::CallNoMemory`]: nothing was published.
+    pub fn read(&mut self, lba: u64, blocks: u32) -> Result<()> {
+        // SAFETY: nobody else has the handle, which isn't Sync.
+        told(unsafe { sys::vandrexu_host_read(self.handle.get(), lba, blocks) })
+    }
+
+    /// Begins to write zeros to so many blocks.
+    ///
+    /// # Errors
+    /// As [`read`](Host::read).
+    pub fn write_zeroes(&mut self, lba: u64, blocks: u32) -> Result<()> {
+        // SAFETY: as in read.
+        told(unsafe { sys::vandrexu_host_write_zeroes(self.handle.get(), lba, blocks) })
+    }
+
+    /// Begins to write this data, 512 bytes a block.
+    ///
+    /// # Errors
+    /// As [`read`](Host::read); [`Error::CallLength`] also of data that isn't whole blocks.
+    pub fn write(&mut self, lba: u64, data: &[u8]) -> Result<()> {
+        // SAFETY: as in read; a slice has an address that isn't null.
+        told(unsafe { sys::vandrexu_host_write(self.handle.get(), lba, data.as_ptr(), data.len()) })
+    }
+
+    /// Begins to compare this data, 512 bytes a block, with what is there.
+    ///
+    /// # Errors
+    /// As [`write`](Host::write).
+    pub fn compare(&mut self, lba: u64, data: &[u8]) -> Result<()> {
+        // SAFETY: as in write.
+        told(unsafe { sys::vandrexu_host_compare(self.handle.get(), lba, data.as_ptr(), data.len()) })
+    }
+
+    /// Begins to write the desired data where the blocks hold the expected data, as one fused pair.
+    ///
+    /// # Errors
+    /// As [`write`](Host::write); [`Error::CallLength`] also of two data of unlike lengths, and [`Error::CallTooLong`] of
+    /// more than `acwu` and one blocks.
+    pub fn compare_and_write(&mut self, lba: u64, expected: &[u8], desired: &[u8]) -> Result<()> {
+        let (old, new) = (expected, desired);
+        // SAFETY: as in write; both are only read.
+        told(unsafe {
+            sys::vandrexu_host_compare_and_write(
+                self.handle.get(),
+                lba,
+                old.as_ptr(),
+                old.len(),
+                new.as_ptr(),
+                new.len(),
+            )
+        })
+    }
+
+    /// Reaps at most one completion, and says what became of the call, which is over but where it is pending.
+    ///
+    /// # Errors
+    /// [`Error::NoCall`]; [`Error::CallBusy`] and [`Error::CallNoMemory`], where the call goes on.
+    pub fn poll(&mut self) -> Result<Reply> {
+        let mut reply = sys::vandrexu_reply::default();
+        // SAFETY: as in read.
+        match told(unsafe { sys::vandrexu_host_poll(self.handle.get(), &mut reply) }) {
+            Ok(()) | Err(Error::CallFailed) => {}
+            Err(other) => return Err(other),
+        }
+        Ok(match reply.kind {
+            sys::VANDREXU_REPLY_PENDING => Reply::Pending,
+            sys::VANDREXU_REPLY_READ => Reply::Read(self.data()?),
+            sys::VANDREXU_REPLY_WRITTEN => Reply::Written,
+            sys::VANDREXU_REPLY_EQUAL => Reply::Equal,
+            sys::VANDREXU_REPLY_DIFFERS => Reply::Differs,
+            sys::VANDREXU_REPLY_SWAPPED => Reply::Swapped,
+            sys::VANDREXU_REPLY_FAILED => Reply::Failed { sct: reply.sct, sc: reply.sc },
+            other => panic!("the archive answered the reply {other}, which this version doesn't have"),
+        })
+    }
+
+    // What was read last.
+    fn data(&mut self) -> Result<Vec<u8>> {
+        let (mut data, mut needed) = (Vec::new(), 0);
+        loop {
+            // SAFETY: as in read; so many bytes are there, and an empty Vec has an address that isn't null.
+            let status =
+                unsafe { sys::vandrexu_host_data(self.handle.get(), data.as_mut_ptr(), data.len(), &mut needed) };
+            match told(status) {
+                Ok(()) => return Ok(data),
+                Err(Error::TooSmall) => data.resize(needed, 0),
+                Err(other) => return Err(other),
+            }
+        }
+    }
+}
+
+impl Drop for Host {
+    fn drop(&mut self) {
+        // SAFETY: nobody else has the handle; it is used no more.
+        unsafe { sys::vandrexu_host_free(self.handle.get()) }
+    }
+}
+
+impl fmt::Debug for Host {
+    fn fmt(&self, f: &mut fmt::Formatter<'_>) -> fmt::Result {
+        f.debug_struct("Host").finish_non_exhaustive()
+    }
+}

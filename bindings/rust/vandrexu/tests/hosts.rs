@@ -1,0 +1,174 @@
+//! The answers of disks and hosts, and the lines of histories, that no example shows.
+use std::thread;
+use vandrexu::{Config, Controller, Disk, Entry, Error, Host, Lines, Reply, run_text};
+
+const TWO: Config =
+    Config { blocks: 8, awun: 1, acwu: 1, nabsn: 0, nabo: 0, pairs: 2, sq_size: 4, cq_size: 4, jobs: 8, cqs: 2 };
+
+/// Serves a queue, and polls until the call is over.
+fn over(disk: &mut Disk, queue: u16, host: &mut Host) -> Reply {
+    disk.serve(queue).expect("it is served");
+    loop {
+        match host.poll().expect("it has a call") {
+            Reply::Pending => {}
+            reply => return reply,
+        }
+    }
+}
+
+#[test]
+fn what_is_refused() -> Result<(), Error> {
+    assert_eq!(Disk::new(&Config { jobs: 0, ..TWO }, 1).err(), Some(Error::BadJobs));
+    let mut disk = Disk::new(&TWO, 1)?;
+    assert_eq!((disk.host(0, 1).err(), disk.host(1, 3).err()), (Some(Error::BadNumber), Some(Error::NoQueue)));
+    let mut host = disk.host(1, 1)?;
+    assert_eq!(disk.host(2, 2).err(), Some(Error::NoHost));
+    assert_eq!(
+        (disk.serve(1), disk.serve(3), disk.fetch(1)),
+        (Err(Error::NoEntry), Err(Error::NoQueue), Err(Error::NoEntry))
+    );
+    assert_eq!((disk.task(), host.poll()), (Ok(false), Err(Error::NoCall)));
+    assert_eq!((host.read(0, 0), host.read(0, 257)), (Err(Error::CallLength), Err(Error::CallTooLong)));
+    assert_eq!((host.write_zeroes(0, 0), host.write_zeroes(0, 257)), (Err(Error::CallLength), Err(Error::CallTooLong)));
+    assert_eq!((host.write(0, &[]), host.compare(0, &[0; 511])), (Err(Error::CallLength), Err(Error::CallLength)));
+    assert_eq!(host.compare_and_write(0, &[0; 512], &[0; 1024]), Err(Error::CallLength));
+    assert_eq!(host.compare_and_write(0, &[0; 1536], &[0; 1536]), Err(Error::CallTooLong));
+    host.write(0, &[0; 512])?;
+    for call in [
+        host.read(0, 1),
+        host.write(0, &[0; 512]),
+        host.write_zeroes(0, 1),
+        host.compare(0, &[0; 512]),
+        host.compare_and_write(0, &[0; 512], &[0; 512]),
+    ] {
+        assert_eq!(call, Err(Error::InCall));
+    }
+    disk.fetch(1)?;
+    assert_eq!(disk.fetch(2), Err(Error::Unfinished));
+    assert_eq!(disk.serve(2), Ok(()));
+    assert_eq!(host.poll(), Ok(Reply::Written));
+    assert_eq!((format!("{disk:?}"), format!("{host:?}")), ("Disk { .. }".to_owned(), "Host { .. }".to_owned()));
+    Ok(())
+}
+
+#[test]
+fn each_reply() -> Result<(), Error> {
+    let mut disk = Disk::new(&TWO, 2)?;
+    let (mut one, mut two) = (disk.host(1, 1)?, disk.host(2, 2)?);
+    one.compare_and_write(3, &[0; 1024], &[0xA1; 1024])?;
+    assert_eq!(one.poll(), Ok(Reply::Pending));
+    assert_eq!(over(&mut disk, 1, &mut one), Reply::Swapped);
+    two.compare_and_write(3, &[0; 512], &[0xB2; 512])?;
+    assert_eq!(over(&mut disk, 2, &mut two), Reply::Differs);
+    two.compare(4, &[0xA1; 512])?;
+    assert_eq!(over(&mut disk, 2, &mut two), Reply::Equal);
+    two.compare(4, &[0xB2; 512])?;
+    assert_eq!(over(&mut disk, 2, &mut two), Reply::Differs);
+    one.write_zeroes(4, 1)?;
+    assert_eq!(over(&mut disk, 1, &mut one), Reply::Written);
+    two.read(3, 2)?;
+    assert_eq!(over(&mut disk, 2, &mut two), Reply::Read([[0xA1; 512], [0; 512]].concat()));
+    two.read(8, 1)?;
+    assert_eq!(over(&mut disk, 2, &mut two), Reply::Failed { sct: 0, sc: 0x80 });
+    assert_eq!(two.poll(), Err(Error::NoCall));
+    drop(disk);
+    one.write(0, &[0; 512])?;
+    assert_eq!(one.poll(), Ok(Reply::Pending));
+    Ok(())
+}
+
+/// Begins a call, or polls, until nobody else has the controller.
+fn when_free<T>(mut ask: impl FnMut() -> Result<T, Error>) -> T {
+    loop {
+        match ask() {
+            Err(Error::Busy | Error::CallBusy) => thread::yield_now(),
+            done => return done.expect("it is done"),
+        }
+    }
+}
+
+/// Polls until the call is over.
+fn reply_of(host: &mut Host) -> Reply {
+    loop {
+        match when_free(|| host.poll()) {
+            Reply::Pending => thread::yield_now(),
+            reply => return reply,
+        }
+    }
+}
+
+/// Adds to a count that lies in block 0 by Compare and Write, so many times.
+fn add(host: &mut Host, times: u32) {
+    let mut old = [0; 512];
+    let mut added = 0;
+    while added < times {
+        let mut new = old;
+        let count = u16::from_le_bytes([old[0], old[1]]) + 1;
+        new[..2].copy_from_slice(&count.to_le_bytes());
+        when_free(|| host.compare_and_write(0, &old, &new));
+        match reply_of(host) {
+            Reply::Swapped => (old, added) = (new, added + 1),
+            Reply::Differs => {
+                when_free(|| host.read(0, 1));
+                let Reply::Read(data) = reply_of(host) else { panic!("a Read reads") };
+                old.copy_from_slice(&data);
+            }
+            other => panic!("{other:?}"),
+        }
+    }
+}
+
+#[test]
+fn hosts_on_threads_of_their_own_count_together() {
+    let mut disk = Disk::new(&TWO, 2).expect("memory");
+    let hosts = [1, 2].map(|queue| disk.host(queue.into(), queue).expect("memory"));
+    let threads = hosts.map(|mut host| {
+        thread::spawn(move || {
+            add(&mut host, 100);
+            host
+        })
+    });
+    while threads.iter().any(|it| !it.is_finished()) {
+        for queue in 1..=2 {
+            match disk.serve(queue) {
+                Ok(()) | Err(Error::NoEntry | Error::Busy) => {}
+                Err(other) => panic!("{other}"),
+            }
+        }
+        thread::yield_now();
+    }
+    let [one, _two] = threads;
+    let mut host = one.join().expect("it ends");
+    host.read(0, 1).expect("it has no call");
+    let Reply::Read(data) = over(&mut disk, 1, &mut host) else { panic!("a Read reads") };
+    assert_eq!((u16::from_le_bytes([data[0], data[1]]), &data[2..]), (200, &[0; 510][..]));
+}
+
+#[test]
+fn the_lines_of_a_history_are_what_a_run_prints() -> Result<(), Error> {
+    let mut disk = Controller::new(&Config { blocks: 1024, awun: 255, ..TWO })?;
+    assert_eq!(disk.history(0).collect::<Result<Vec<_>, _>>()?, ["config 1024 255 1 0 0 2 4 4 8"]);
+    assert_eq!(disk.history(1).count(), 0);
+    // lines longer than any piece
+    let data: Vec<u8> = (0..64 * 512).map(|at| (at % 251) as u8).collect();
+    for cid in 0..3 {
+        disk.publish(1, &[Entry::write(cid, 3, &data).blocks(64)])?;
+        disk.fetch(1)?;
+        disk.settle()?;
+        disk.reap(1)?;
+    }
+    let lines = disk.history(0).collect::<Result<Vec<_>, _>>()?;
+    assert_eq!(lines.len() as u64, disk.history_count() + 1);
+    let hex: String = data.iter().map(|it| format!("{it:02X}")).collect();
+    let blocks: Vec<_> = hex.as_bytes().chunks(1024).map(|it| String::from_utf8_lossy(it).into_owned()).collect();
+    let step = |cid| format!("publish 1 write 0 {cid} 3 63 {}\nfetch 1\nsettle\nreap 1\n", blocks.join("."));
+    let script = format!("{}\n{}{}{}", lines[0], step(0), step(1), step(2));
+    let text = run_text(script, Lines::HISTORY).expect("the script is one");
+    assert_eq!(String::from_utf8_lossy(&text).lines().collect::<Vec<_>>(), lines);
+    for from in [1, 2, 69, lines.len() - 1, lines.len(), lines.len() + 7] {
+        let rest = disk.history(from as u64).collect::<Result<Vec<_>, _>>()?;
+        assert_eq!(rest, lines[from.min(lines.len())..]);
+    }
+    assert_eq!(disk.history(u64::MAX).count(), 0);
+    Ok(())
+}

@@ -1,0 +1,27 @@
+-- What a call that asks for lines of a controller's history answers.
+use Rattle.std.specs.Prelude.{List, [], drop, length, reverse, ℕ, ◌+◌, ◌++◌, ◌<◌, ◌≡◌, ◌≢◌, ◌≤◌}
+use Rattle.controller_steps.specs.State.{ControllerState}
+use Rattle.history_pieces.specs.Pieces.{text_of_first}
+use Rattle.history_text.specs.Texts.{history_lines}
+
+-- the lines of a controller's history from this place on: place 0 is the configuration's, place k the k-th entry's
+abbrev pub lines_from : ControllerState → ℕ → List (List ℕ)
+lines_from s place = drop place (history_lines s.config (reverse s.past))
+
+-- The first so many of these lines, which begin at `from`, are copied, and the rest of the room is as before: at least
+-- one of them where there is one, and as many as fit.
+pub record CopiesLines (lines : List (List ℕ)) (from : ℕ) (old new : List ℕ) (needed next : ℕ) : Type 0 where
+  pub count : ℕ
+  pub there : count ≤ length lines
+  pub next_is : next ≡ from + count
+  pub needed_is : needed ≡ length (text_of_first count lines)
+  pub fits : needed ≤ length old
+  pub copied : new ≡ text_of_first count lines ++ drop needed old
+  pub some : lines ≢ [] → 0 < count
+  pub most : count < length lines → length old < length (text_of_first (count + 1) lines)
+
+-- not the first of these lines fits into this room, and how many bytes it has is told
+pub record LacksRoomForLine (lines : List (List ℕ)) (room needed : ℕ) : Type 0 where
+  pub there : lines ≢ []
+  pub needed_is : needed ≡ length (text_of_first 1 lines)
+  pub short : room < needed
