@@ -1,6 +1,10 @@
 -- The two laws of numbers: what is read is spelled so, and what is spelled so is read.
 use Rattle.std.proofs.Common.{◌≡◌, ℕ, ◌^◌, ◌<◌, ◌≤◌, Bool, true, false, cond, List, [], ◌∷◌, None, Some, refl, sym, ap}
-use Rattle.std.proofs.Common.{◌∙◌, subst, arith}
+use Rattle.std.proofs.Common.{◌∙◌, ◌+◌, ◌*◌, subst, arith, zero, suc, length, get_or, take}
+use borrow.Author.Count.{below_more}
+use Rattle.std.proofs.lemmas.List.{take_all}
+use Rattle.std.proofs.lemmas.Int.Digits.{digits_value_more}
+use Rattle.std.proofs.lemmas.Str.Parse.{digits_value-take-le, numerals_by_value, tells_digits}
 use Rattle.std.specs.Prelude.{Option, Result, Ok, Err, IfSome, nat_lt, ◌&&◌, decimal}
 use Rattle.std.specs.Result.{OkIff, result_ok}
 use Rattle.std.specs.Str.{bytes_eq}
@@ -9,7 +13,9 @@ use Rattle.std.specs.Char.{digit_value}
 use Rattle.std.specs.List.{AllByRecursion}
 use Rattle.std.proofs.Math.Dec.{eqb}
 use Rattle.std.proofs.lemmas.Bool.{eqb-true}
-use Rattle.std.proofs.lemmas.Fmt.{decimal_is_IsNumeral}
+use Rattle.std.proofs.lemmas.Fmt.{decimal-digits_value, decimal_digit, decimal_is_IsNumeral, decimal_nonempty}
+use Rattle.std.proofs.lemmas.Fmt.{first_decimal}
+use Rattle.std.specs.Option.{SomeIff}
 use Rattle.std.proofs.lemmas.Slice.Eq.{bytes_eq-Decides}
 use Rattle.std.proofs.lemmas.Bool.{ltb-true, lt-ltb}
 use Rattle.line_text.specs.Number.{number_in}
@@ -123,3 +129,78 @@ digits_spaceless (c ∷ cs) h = (digit_spaceless c (eqb c 32) refl h.0, digits_s
 -- nor has a number
 pub decimal_spaceless : (n : ℕ) → n < 2 ^ 64 → AllByRecursion (λ x. eqb x 32 ≡ false) (decimal n)
 decimal_spaceless n fits = digits_spaceless (decimal n) (decimal_is_IsNumeral n fits).0.1
+
+-- ---- digits added up
+
+-- each is a digit
+pub digits_by_index : (cs : List ℕ) → ((k : ℕ) → k < length cs → digit_value (get_or cs k 0) < 10) → AllDigits 10 cs
+digits_by_index [] h = tt
+digits_by_index (c ∷ cs) h = (h 0 (omega arith), digits_by_index cs (λ k l. h (suc k) (omega (arith, l))))
+
+pub digit_of : (cs : List ℕ) → AllDigits 10 cs → (k : ℕ) → k < length cs → digit_value (get_or cs k 0) < 10
+digit_of [] h k l = absurd (omega (arith, l))
+digit_of (c ∷ cs) h zero l = h.0
+digit_of (c ∷ cs) h (suc k) l = digit_of cs h.1 k (omega (arith, l))
+
+-- those up to here are digits whose number is n
+pub record AddedUp (word : List ℕ) (i n : ℕ) : Type 0 where
+  pub digits : (k : ℕ) → k < i → digit_value (get_or word k 0) < 10
+  pub value : n ≡ digits_value 10 (take i word)
+  pub fits : n < 18446744073709551616
+
+pub one_more_digit : (word : List ℕ) (i n m : ℕ) → i < length word → AddedUp word i n
+    → digit_value (get_or word i 0) < 10 → n * 10 + digit_value (get_or word i 0) < 18446744073709551616
+    → m ≡ n * 10 + digit_value (get_or word i 0) → AddedUp word (i + 1) m
+one_more_digit word i n m l a d f e = record {
+  digits = below_more (λ k. digit_value (get_or word k 0) < 10) i a.digits d;
+  value = e ∙ ap (λ v. v * 10 + digit_value (get_or word i 0)) a.value ∙ sym (digits_value_more 10 word i l);
+  fits = omega (arith, e, f);
+}
+
+pub all_digits : (word : List ℕ) (i n : ℕ) → length word ≤ i → AddedUp word i n
+    → (AllDigits 10 word × (digits_value 10 word < 18446744073709551616)) × (n ≡ digits_value 10 word)
+all_digits word i n l a =
+    let value : n ≡ digits_value 10 word = a.value ∙ ap (digits_value 10) (take_all i word l) in (
+      (
+        digits_by_index word (λ k m. a.digits k (omega (arith, l, m))),
+        subst (λ v. v < 18446744073709551616) value a.fits,
+      ),
+      value,
+    )
+
+pub no_digit : (word : List ℕ) (i n : ℕ) → i < length word → AddedUp word i n
+    → ((digit_value (get_or word i 0) < 10) × (n * 10 + digit_value (get_or word i 0) < 18446744073709551616) → ⊥)
+    → AllDigits 10 word × (digits_value 10 word < 18446744073709551616) → ⊥
+no_digit word i n l a refused all =
+    let more = digits_value_more 10 word i l in
+    let some = digits_value-take-le 10 word (i + 1) (omega arith) in
+    refused (
+      digit_of word all.0 i l,
+      omega (arith, all.1, some, more, ap (λ v. v * 10) a.value),
+    )
+
+-- no number is spelled by no digit
+pub no_word : (word : List ℕ) → length word ≤ 0 → number_in 64 word ≡ None
+no_word word l = number_none 64 word (λ n small e. omega (arith, l, ap length e, decimal_nonempty n small))
+
+-- nor by more that begin with 0
+pub zero_first : (word : List ℕ) → get_or word 0 0 ≡ 48 → 1 < length word → number_in 64 word ≡ None
+zero_first word z l = number_none 64 word spelled
+  where
+    spelled : (n : ℕ) → n < 2 ^ 64 → word ≡ decimal n → ⊥
+    spelled zero small e = omega (arith, l, ap length (e ∙ decimal_digit 0 (omega arith)))
+    spelled (suc n) small e =
+        omega (arith, z, ap (λ w. get_or w 0 0) e, first_decimal (suc n) (omega arith) small)
+
+-- else its digits added up are the number
+pub number_added : (word : List ℕ) (r : Option ℕ) → 0 < length word → (get_or word 0 0 ≡ 48 → length word ≡ 1)
+    → SomeIff r (AllDigits 10 word × (digits_value 10 word < 18446744073709551616)) (digits_value 10 word)
+    → r ≡ number_in 64 word
+number_added word (Some n) some lead h =
+    let fits : n < 2 ^ 64 = omega (arith, h.0.1, h.1) in
+    sym (number_some 64 n word fits fits
+    (sym (decimal-digits_value (numerals_by_value (AllDigits 10) tells_digits) word h.0.0 some lead h.0.1)
+    ∙ ap decimal (sym h.1)))
+number_added word None some lead h = sym (number_none 64 word (λ n small e.
+    let is = decimal_is_IsNumeral n small in
+    h (subst (AllDigits 10) (sym e) is.0.1, omega (arith, small, ap (digits_value 10) e, is.1))))

@@ -5,3 +5,4 @@ pub mod Rising
 pub mod Orders
 pub mod Windows
 pub mod BothOrders
+pub mod Putting

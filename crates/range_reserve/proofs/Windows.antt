@@ -111,15 +111,15 @@ behind r m h l = and_left (overlap r h.range) _
     (and_right _ _ (and_right _ (nat_lt h.range.slba (r.slba + r.blocks)) (le-ltb h.range.slba (r.slba + r.blocks) l)))
 
 none_behind : (longest k : ℕ) (r : Range) (m : Mode) (xs : List HeldRange) → start_key (r.slba + r.blocks) 0 ≤ k
-    → list_all (λ y. nat_le k (held_key y)) xs ≡ true → list_all (holder_fits longest) xs ≡ true
+    → list_all (λ y. nat_lt k (held_key y)) xs ≡ true → list_all (holder_fits longest) xs ≡ true
     → has_conflict xs r m ≡ false
 none_behind longest k r m [] l a f = refl
 none_behind longest k r m (x ∷ xs) l a f =
-    let b = and_parts (nat_le k (held_key x)) (list_all (λ y. nat_le k (held_key y)) xs) a in
+    let b = and_parts (nat_lt k (held_key x)) (list_all (λ y. nat_lt k (held_key y)) xs) a in
     let g = and_parts (holder_fits longest x) (list_all (holder_fits longest) xs) f in
     let j = and_parts (nat_le x.range.blocks longest) (nat_lt x.ticket 18446744073709551616) g.0 in
     or_from _ _
-    (behind r m x (omega (arith, l, leb-true k (held_key x) b.0, ltb-true x.ticket 18446744073709551616 j.1)))
+    (behind r m x (omega (arith, l, ltb-true k (held_key x) b.0, ltb-true x.ticket 18446744073709551616 j.1)))
     (none_behind longest k r m xs l b.1 g.1)
 
 up_to_end : (longest : ℕ) (r : Range) (m : Mode) (xs : List HeldRange) → IsRisingBy held_key xs

@@ -4,6 +4,7 @@
 mod conflicts;
 mod held;
 pub mod laws;
+mod living;
 mod places;
 mod ranges;
 

@@ -1,13 +1,14 @@
 //! The ranges that tickets hold.
 
-ghost use Rattle.std.specs.Prelude.{◌≡◌, ◌+◌, ◌-◌, ◌≤◌, ◌<◌, ◌↔◌, ◌⊎◌, [], ◌∷◌, IfErr, IsTrue, OnErr, OnOk, false};
-ghost use Rattle.std.specs.Prelude.{is_some, reverse, vec_capacity, vec_len};
+ghost use Rattle.std.specs.Prelude.{◌≡◌, ◌+◌, ◌-◌, ◌/◌, ◌≤◌, ◌<◌, ◌↔◌, ◌⊎◌, [], ◌∷◌, IfErr, IsTrue, OnErr, OnOk, false};
+ghost use Rattle.std.specs.Prelude.{is_some, vec_capacity};
 ghost use Rattle.nvme_model.specs.Array.{IsRange};
 ghost use Rattle.range_reserve.specs.Reserved.{AreApart, AreHoldersRising, has_conflict, holds_range, held_beside};
 ghost use Rattle.range_reserve.specs.Reserved.{held_by, insert_held};
 
 use crate::conflicts::has_conflict_before_end;
-use crate::held::{HeldRange, held_by};
+use crate::held::{HeldRange, held_at, held_by, let_go};
+use crate::living::{put_by_start, put_by_ticket};
 use crate::places::{start_place, ticket_place};
 use nvme_model::array::{Mode, Range};
 use nvme_model::refusal::Why;
@@ -19,28 +20,32 @@ use std::marker::Model;
 /// Each ticket holds one range at most, and no two ranges conflict: they share no block, or both are Shared.
 #[derive(Drop)]
 pub struct Ranges {
-    /// By rising ticket.
+    /// By rising ticket. What was let go stays here and in the other list, with no blocks, until a grant takes its
+    /// place.
     tickets: Vec<HeldRange>,
     /// The same by rising start, and by ticket where starts are equal.
     starts: Vec<HeldRange>,
     /// No range that was ever granted is longer.
     longest: u32,
+    /// How many are held.
+    live: usize,
 }
 
 impl Model for Ranges {
-    ghost use Rattle.std.specs.Prelude.{◌≡◌, ◌-◌, min, vec_capacity, vec_len};
-    ghost use Rattle.range_reserve.specs.Reserved.{Reserved, by_ticket};
-    ghost use Rattle.range_reserve.specs.Sorted.{AreByStart};
+    ghost use Rattle.std.specs.Prelude.{◌≡◌, ◌-◌, ◌/◌, length, min, vec_capacity};
+    ghost use Rattle.range_reserve.specs.Reserved.{Reserved};
+    ghost use Rattle.range_reserve.specs.Sorted.{AreBoth, living};
 
     ghost Value = { Reserved };
 
-    // A grant needs no memory where both lists have room.
+    // A grant needs no memory where what is held is less than half of what each list has room for.
     ghost view = { λ r. record {
-      held = r.tickets.items;
-      room = min (vec_capacity r.tickets - vec_len r.tickets) (vec_capacity r.starts - vec_len r.starts);
+      held = living r.tickets.items;
+      room = min (vec_capacity r.tickets / 2) (vec_capacity r.starts / 2) - r.live;
     } };
 
-    ghost invariant = { λ r. (by_ticket r.starts.items ≡ r.tickets.items) × AreByStart r.longest r.starts.items };
+    ghost invariant = { λ r. AreBoth r.longest r.starts.items r.tickets.items
+        × (r.live ≡ length (living r.tickets.items)) };
 }
 
 impl Ranges {
@@ -52,6 +57,7 @@ impl Ranges {
             tickets: Vec::new(alloc),
             starts: Vec::new(alloc),
             longest: 0,
+            live: 0,
         }
     }
 
@@ -67,8 +73,8 @@ impl Ranges {
         ensures room { self.old.room ≤ self.new.room }
         ensures held { self.new.held ≡ self.old.held }
     {
-        self.tickets.reserve(more)?;
-        self.starts.reserve(more)
+        reserve_twice(&mut self.tickets, self.live, more)?;
+        reserve_twice(&mut self.starts, self.live, more)
     }
 
     /// Whether a grant of this range would be a conflict with one that is held.
@@ -137,12 +143,13 @@ impl Ranges {
         ensures room { self.old.room ≤ self.new.room }
         ensures law { AreApart self.new.held }
     {
-        match held_by(self.tickets.as_slice(), ticket) {
+        let place = ticket_place(self.tickets.as_slice(), ticket);
+        match held_at(self.tickets.as_slice(), place, ticket) {
             Some(held) => {
-                let place = ticket_place(self.tickets.as_slice(), ticket);
-                self.tickets.remove(place);
                 let start = start_place(self.starts.as_slice(), held.range.slba, ticket);
-                self.starts.remove(start);
+                self.tickets[place] = let_go(held);
+                self.starts[start] = let_go(held);
+                self.live -= 1;
             }
             None => {}
         }
@@ -158,10 +165,24 @@ impl Ranges {
         ensures law { AreApart self.new.held }
         ensures room { self.old.room ≤ self.new.room + 1 }
     {
-        let place = ticket_place(self.tickets.as_slice(), held.ticket);
-        let start = start_place(self.starts.as_slice(), held.range.slba, held.ticket);
-        let _in_tickets = self.tickets.insert(place, held).is_ok();
-        let _in_starts = self.starts.insert(start, held).is_ok();
+        put_by_ticket(&mut self.tickets, self.live, held);
+        put_by_start(&mut self.starts, self.live, held);
         self.longest = self.longest.max(held.range.blocks);
+        self.live += 1;
     }
+}
+
+// Makes the list twice as long as those that live and `more` need: so many may die before it is full.
+fn reserve_twice(list: &mut Vec<HeldRange>, live: usize, more: usize) -> Result<(), NoMemory>
+    ensures ok { OnOk result (more ≤ vec_capacity list.new / 2 - live) }
+    ensures full { OnErr result (vec_capacity list.old / 2 - live < more) }
+    ensures capacity { vec_capacity list.old ≤ vec_capacity list.new }
+    ensures items { list.new.items ≡ list.old.items }
+{
+    if more <= (list.capacity() / 2).saturating_sub(live) {
+        return Ok(());
+    }
+    let all = live.checked_add(more).ok_or(NoMemory)?;
+    let twice = all.checked_mul(2).ok_or(NoMemory)?;
+    list.reserve(twice.saturating_sub(list.len()))
 }

@@ -1,39 +1,25 @@
-use Rattle.std.proofs.Common.{◌≡◌, ◌<◌, ◌^◌, Ok, sym, ap, subst, ◌∙◌, arith}
-use Rattle.std.specs.Prelude.{decimal}
-use Rattle.std.proofs.lemmas.Fmt.{parse-decimal, IsAscii-decimal}
-use Rattle.std.proofs.lemmas.Str.{IsUtf8-from_ascii}
-use Rattle.std.specs.Str.{IsUtf8, bytes_eq}
-use Rattle.line_text.proofs.NumberLaws.{number_some, number_none, number_spelled, bytes_eq_true, bytes_eq_refl}
+use Rattle.std.proofs.Common.{◌≡◌, arith, get_or, length, sym, ◌∙◌}
+use Rattle.line_text.proofs.NumberLaws.{no_word, number_added, number_spelled, zero_first}
 use Rattle.line_text.proofs.number.read_u64.Goals as goal
+use Rattle.line_text.proofs.number.read_u64.Goals.{else-first-eq48-via-else-first-eq48}
+use Rattle.line_text.proofs.number.read_u64.Goals.{else-first-eq48-via-then-first-eq48+else-word-gt1}
 
-pub returns-in_default : goal.returns-in_default
-returns-in_default c = number_spelled 64 _ _ (omega arith)
-    (sym (number_none 64 _ (λ n small e.
-    c.in_default.ensures.cases.0 (subst IsUtf8 (sym e) (IsUtf8-from_ascii _ (IsAscii-decimal n small))))))
+pub returns-in_err-first : goal.returns-in_err-first
+returns-in_err-first c = number_spelled 64 _ _ (omega arith)
+    (c.from_residual.ensures ∙ sym (no_word c.args.word.now c.in_err-first.ensures.item.3))
 
-pub returns-in_default-parse : goal.returns-in_default-parse
-returns-in_default-parse c =
+pub returns-then-word-gt1 : goal.returns-then-word-gt1
+returns-then-word-gt1 c = number_spelled 64 _ _ (omega arith)
+    (sym (zero_first c.args.word.now (sym (c.in_ok-first.ensures.item.3.1 0) ∙ c.if-first-eq48.true)
+    (omega (arith, c.if-word-gt1.true))))
+
+pub returns : goal.returns
+returns c =
+    let there = c.in_ok-first.ensures.item.3 in
+    let alone : get_or c.args.word.now 0 0 ≡ 48 → length c.args.word.now ≡ 1 = λ zero.
+    elim c.else-first-eq48.branch [
+      | else-first-eq48-via-then-first-eq48+else-word-gt1 w ↦ omega (arith, there.0, w.if-word-gt1.false)
+      | else-first-eq48-via-else-first-eq48 w ↦ absurd (w.if-first-eq48.false (there.1 0 ∙ zero))
+    ] in
     number_spelled 64 _ _ (omega arith)
-    (sym (number_none 64 _ (λ n small e.
-    c.in_default-parse.not-Ok n
-    (parse-decimal 64 n c.in-Ok.text.now c.parse.result small small (c.in-Ok.ensures.cases.0 ∙ e)
-    c.parse.ensures.value.0))))
-
-pub returns-then-eq : goal.returns-then-eq
-returns-then-eq c =
-    let fits : c.in-Ok-parse.n < 2 ^ 64 = omega arith in
-    let same : c.args.word.now ≡ decimal c.in-Ok-parse.n = sym (bytes_eq_true _ _ (sym c.eq.ensures ∙ c.if-eq.true))
-    ∙ c.as_bytes.ensures.value ∙ c.format.ensures.text in
-    number_spelled 64 _ _ (omega arith) (sym (number_some 64 c.in-Ok-parse.n c.args.word.now fits fits same))
-
-pub returns-else-eq : goal.returns-else-eq
-returns-else-eq c =
-    number_spelled 64 _ _ (omega arith) (sym (number_none 64 _ (λ n small e.
-    let read : c.parse.result ≡ Ok n =
-    parse-decimal 64 n c.in-Ok.text.now c.parse.result small small (c.in-Ok.ensures.cases.0 ∙ e)
-    c.parse.ensures.value.0 in
-    let one : c.in-Ok-parse.n ≡ n = cc in
-    let same : c.as_bytes.result.now ≡ c.args.word.now = c.as_bytes.ensures.value ∙ c.format.ensures.text
-    ∙ ap decimal one ∙ sym e in
-    let yes = c.eq.ensures ∙ ap (λ l. bytes_eq l c.args.word.now) same ∙ bytes_eq_refl c.args.word.now in
-    absurd cc)))
+    (number_added c.args.word.now c.added_up.result there.0 alone c.added_up.ensures)

@@ -19,9 +19,9 @@ returns-clause-conflicts c =
     ∙ ap (λ xs. has_conflict_before_end xs c.args.range c.args.mode)
     (part ∙ ap (drop c.start_place-first.result) c.as_slice-2.ensures.value)
     ∙ ap (λ n. has_conflict_before_end (drop n starts) c.args.range c.args.mode) first
-    ∙ in_window c.self.inside.longest starts c.self.inside.tickets.items c.self.invariant c.args.range c.args.mode
+    ∙ in_window c.self.inside.longest starts c.self.inside.tickets.items c.self.invariant.0 c.args.range c.args.mode
     ∙ ap (λ (v : Reserved). has_conflict v.held c.args.range c.args.mode) c.self.view_is
 
 pub returns-clause-law : goal.returns-clause-law
 returns-clause-law c = subst (λ (v : Reserved). AreApart v.held) c.self.view_is
-    (tickets_apart c.self.inside.longest c.self.inside.starts.items c.self.inside.tickets.items c.self.invariant)
+    (tickets_apart c.self.inside.longest c.self.inside.starts.items c.self.inside.tickets.items c.self.invariant.0)
