@@ -1,5 +1,5 @@
-"""An NVM Express controller in memory, around the fused Compare and Write, hosts with a driver each, and a checker of
-histories.
+"""An NVM Express controller in memory, around the fused Compare and Write, hosts with a driver each, slots that hosts
+claim and release, and a checker of histories.
 
 Whoever tests a device or its driver in Python has both at hand. The controller makes one step at a time, when it is
 asked; the checker says of each line of a log whether the controller that wrote it did right.
@@ -38,7 +38,7 @@ BLOCK = 512
 
 
 class Status(IntEnum):
-    """The statuses of vandrexu.h and of vandrexu_hosts.h."""
+    """The statuses of vandrexu.h, vandrexu_hosts.h and vandrexu_slots.h."""
     DONE = 0
     NO_QUEUE = 1
     NO_ROOM = 2
@@ -68,6 +68,7 @@ class Status(IntEnum):
     CALL_FAILED = 44
     CALL_BUSY = 45
     CALL_NO_MEMORY = 46
+    CALL_NO_SERIAL = 48
     NO_HANDLE = 101
     IN_USE = 102
     TOO_SMALL = 103
@@ -85,6 +86,12 @@ class Status(IntEnum):
     BAD_NUMBER = 115
     IN_CALL = 116
     NO_CALL = 117
+    NO_SLOT = 118
+    NOT_HELD = 119
+    HELD = 120
+    TOOK_OVER = 121
+    BAD_NAME = 122
+    BAD_AREA = 123
 
 
 WORDS: dict[Status, str] = {
@@ -117,6 +124,7 @@ WORDS: dict[Status, str] = {
     Status.CALL_FAILED: "the call failed",
     Status.CALL_BUSY: "another handle of the disk had the controller, for a call",
     Status.CALL_NO_MEMORY: "no memory for a call",
+    Status.CALL_NO_SERIAL: "the host has used the last serial",
     Status.NO_HANDLE: "the handle owns nothing",
     Status.IN_USE: "the handle owns something already",
     Status.TOO_SMALL: "the room is too small",
@@ -134,6 +142,12 @@ WORDS: dict[Status, str] = {
     Status.BAD_NUMBER: "a host has no number 0",
     Status.IN_CALL: "the host has a call",
     Status.NO_CALL: "the host has no call",
+    Status.NO_SLOT: "no such slot",
+    Status.NOT_HELD: "the host hasn't the slot",
+    Status.HELD: "the host has the slot",
+    Status.TOOK_OVER: "the host has begun a takeover, and claims nothing any more",
+    Status.BAD_NAME: "the name has a zero in it, or is of the host itself",
+    Status.BAD_AREA: "there would be no slot, or one behind block 65,535",
 }
 """What each status says."""
 
@@ -178,7 +192,11 @@ class Busy(Error):
 
 
 class CallRefused(Error):
-    """A host's call isn't begun: statuses 41 to 43."""
+    """A host's call isn't begun: statuses 41 to 43, and 48."""
+
+
+class SlotRefused(Error):
+    """A slot host isn't made, or its call about a slot isn't begun: statuses 118 to 123."""
 
 
 class NoHandle(Error):
@@ -218,7 +236,7 @@ _ERRORS = {
     Status.NOT_LEGAL: NotLegal, Status.NOT_EXPLAINED: NotExplained, Status.BAD_HISTORY: BadHistory,
     Status.OTHER_CONFIG: OtherConfig, Status.GAVE_UP: GaveUp, Status.BUSY: Busy, Status.CALL_BUSY: Busy,
     Status.CALL_NO_MEMORY: NoMemory, Status.CALL_LENGTH: CallRefused, Status.CALL_TOO_LONG: CallRefused,
-    Status.CALL_NO_ROOM: CallRefused,
+    Status.CALL_NO_ROOM: CallRefused, Status.CALL_NO_SERIAL: CallRefused,
 }
 
 
@@ -229,6 +247,8 @@ def _error(number: int) -> Error:
         return Refused(status)
     if 21 <= status <= 30:
         return BadConfig(status)
+    if 118 <= status <= 123:
+        return SlotRefused(status)
     return _ERRORS.get(status, Error)(status)
 
 
@@ -238,7 +258,7 @@ def _want(number: int) -> None:
         raise _error(number)
 
 
-# ---- The structs of vandrexu.h and vandrexu_hosts.h, and their functions
+# ---- The structs of vandrexu.h, vandrexu_hosts.h and vandrexu_slots.h, and their functions
 
 class RawController(Structure):
     """vandrexu_controller"""
@@ -257,6 +277,11 @@ class RawDisk(Structure):
 
 class RawHost(Structure):
     """vandrexu_host"""
+    _fields_ = [("at", c_void_p), ("live", c_uint32)]
+
+
+class RawSlotHost(Structure):
+    """vandrexu_slot_host"""
     _fields_ = [("at", c_void_p), ("live", c_uint32)]
 
 
@@ -298,11 +323,18 @@ class RawReply(Structure):
     _fields_ = [("kind", c_uint32), ("sct", c_uint8), ("sc", c_uint8), ("zeros", c_uint8 * 2)]
 
 
+class RawSlotReply(Structure):
+    """vandrexu_slot_reply"""
+    _fields_ = [("kind", c_uint32), ("slot", c_uint32), ("serial", c_uint64), ("host", c_uint32), ("sct", c_uint8),
+                ("sc", c_uint8), ("zeros", c_uint8 * 2)]
+
+
 _Bytes = POINTER(c_uint8)
 _Controller = POINTER(RawController)
 _Checker = POINTER(RawChecker)
 _Disk = POINTER(RawDisk)
 _Host = POINTER(RawHost)
+_SlotHost = POINTER(RawSlotHost)
 _TEXT = [_Bytes, c_size_t, POINTER(c_size_t), POINTER(c_uint64)]
 _ARGUMENTS = {
     "vandrexu_config_fault": [POINTER(RawConfig)],
@@ -342,6 +374,14 @@ _ARGUMENTS = {
     "vandrexu_host_compare_and_write": [_Host, c_uint64, c_char_p, c_size_t, c_char_p, c_size_t],
     "vandrexu_host_poll": [_Host, POINTER(RawReply)],
     "vandrexu_host_data": [_Host, _Bytes, c_size_t, POINTER(c_size_t)],
+    "vandrexu_slot_host_new": [_Disk, c_uint32, c_uint16, c_uint64, c_uint32, _SlotHost],
+    "vandrexu_slot_host_free": [_SlotHost],
+    "vandrexu_slot_claim": [_SlotHost, c_uint32],
+    "vandrexu_slot_claim_any": [_SlotHost],
+    "vandrexu_slot_release": [_SlotHost, c_uint32],
+    "vandrexu_slot_take_over": [_SlotHost, c_uint32, c_uint32, c_uint64],
+    "vandrexu_slot_ask_holder": [_SlotHost, c_uint32],
+    "vandrexu_slot_poll": [_SlotHost, POINTER(RawSlotReply)],
 }
 
 
@@ -361,7 +401,7 @@ def _load() -> ctypes.CDLL:
 
 
 library = _load()
-"""The functions of vandrexu.h and vandrexu_hosts.h, as they are for C."""
+"""The functions of vandrexu.h, vandrexu_hosts.h and vandrexu_slots.h, as they are for C."""
 
 
 # ---- Configurations and entries
@@ -893,6 +933,12 @@ class Disk(_Handle):
         queue."""
         return Host(self, number, queue)
 
+    def slot_host(self, number: int, queue: int, first: int, count: int) -> SlotHost:
+        """A slot host of this number, with a driver on this submission queue, and `count` slots from block `first` on:
+        slot i is block `first` + i. All slot hosts of a disk should have the same slots. No two hosts of it, of either
+        kind, should have the same number or queue. No other call should write to the blocks of slots."""
+        return SlotHost(self, number, queue, first, count)
+
     def serve(self, queue: int) -> None:
         """Fetches the next command of a submission queue, or a fused pair, and makes all that it has to do. Where
         Refused, NoMemory or Busy is raised what was fetched is kept: the next call goes on with it, whichever queue it
@@ -1010,6 +1056,114 @@ class Host(_Handle):
             data = (c_uint8 * max(1, needed.value))()
             _want(library.vandrexu_host_data(handle, data, needed.value, byref(needed)))
         return Reply(kind, bytes(data)[:needed.value])
+
+
+class SlotReplyKind(IntEnum):
+    """What became of a slot host's call. HELD and TAKEN are of a claim and of a takeover, RELEASED of a release, and
+    FREE, OF_NAME and FOREIGN of the question who holds a slot."""
+    PENDING = 1
+    HELD = 2
+    TAKEN = 3
+    RELEASED = 4
+    FREE = 5
+    OF_NAME = 6
+    FOREIGN = 7
+    FAILED = 8
+
+
+class Name(NamedTuple):
+    """Who holds a slot: a host, by the serial of its claim or of its takeover. A host uses each serial once."""
+    host: int
+    serial: int
+
+
+class SlotReply(NamedTuple):
+    """What became of a slot host's call: the slot that is the host's now, the name of who holds a slot, and the Status
+    Code Type and Status Code of a call that failed."""
+    kind: SlotReplyKind
+    slot: int | None = None
+    name: Name | None = None
+    status: tuple[int, int] | None = None
+
+
+class SlotHost(_Handle):
+    """A host of a Disk that claims slots and releases them, with a driver, and one call at a time. It is freed where
+    its `with` ends, by `close`, or where it is forgotten. Its slots then stay held by their names, and another host may
+    take them over.
+
+    A slot is a lock: one block of the disk. The block holds zeros while the slot is free, and else the name of who has
+    it (docs/SLOTS.md). A call is begun, and then polled until it is over.
+
+    >>> def over(disk, host):
+    ...     disk.serve(host.queue)
+    ...     while (reply := host.poll()).kind == SlotReplyKind.PENDING:
+    ...         pass
+    ...     return reply
+    >>> disk = Disk(Config(pairs=2), 2)
+    >>> one, two = disk.slot_host(1, 1, 2, 4), disk.slot_host(2, 2, 2, 4)
+    >>> one.claim(0)
+    >>> over(disk, one)
+    SlotReply(kind=<SlotReplyKind.HELD: 2>, slot=0, name=None, status=None)
+    >>> two.claim(0)
+    >>> over(disk, two).kind.name
+    'TAKEN'
+    >>> one.close()
+    >>> two.ask_holder(0)
+    >>> name = over(disk, two).name
+    >>> name
+    Name(host=1, serial=1)
+    >>> two.take_over(0, name)
+    >>> over(disk, two).kind.name
+    'HELD'
+    >>> two.claim(1)
+    Traceback (most recent call last):
+    vandrexu.SlotRefused: the host has begun a takeover, and claims nothing any more
+    """
+    _new, _free, _raw_type = "vandrexu_slot_host_new", "vandrexu_slot_host_free", RawSlotHost
+
+    def __init__(self, disk: Disk, number: int, queue: int, first: int, count: int):
+        _fits(number, 32), _fits(queue, 16), _fits(first, 64), _fits(count, 32)
+        self.config, self.number, self.queue, self.first, self.count = disk.config, number, queue, first, count
+        with disk._turn:
+            self._hold(byref(disk._raw), number, queue, first, count)
+
+    def claim(self, slot: int) -> None:
+        """Begins to claim a slot: to swap zeros for the host's next name."""
+        self._ask("vandrexu_slot_claim", _fits(slot, 32))
+
+    def claim_any(self) -> None:
+        """Begins to claim the first slot that nobody has: slot 0, and each further one by a poll, once the one before is
+        answered to be somebody's, so the disk is served between two polls. TAKEN is told where each was, at a moment of
+        its own."""
+        self._ask("vandrexu_slot_claim_any")
+
+    def release(self, slot: int) -> None:
+        """Begins to release a slot that was claimed or taken over: to swap the host's name for zeros. From then on the
+        host has it no more, whatever comes of it."""
+        self._ask("vandrexu_slot_release", _fits(slot, 32))
+
+    def take_over(self, slot: int, dead: Name) -> None:
+        """Begins to take a slot over: to swap the name of a dead host for the host's next name. From its first takeover
+        on a host claims nothing any more. That the dead host does nothing any more is yours to see."""
+        host, serial = dead
+        self._ask("vandrexu_slot_take_over", _fits(slot, 32), _fits(host, 32), _fits(serial, 64))
+
+    def ask_holder(self, slot: int) -> None:
+        """Begins to ask who holds a slot: to read its block."""
+        self._ask("vandrexu_slot_ask_holder", _fits(slot, 32))
+
+    def poll(self) -> SlotReply:
+        """Reaps at most one completion, and says what became of the call, which is over but where it is pending."""
+        reply = RawSlotReply()
+        with self._turn:
+            number = library.vandrexu_slot_poll(byref(self._raw), byref(reply))
+        if number != Status.CALL_FAILED:
+            _want(number)
+        kind = SlotReplyKind(reply.kind)
+        return SlotReply(kind,
+                         slot=reply.slot if kind == SlotReplyKind.HELD else None,
+                         name=Name(reply.host, reply.serial) if kind == SlotReplyKind.OF_NAME else None,
+                         status=(reply.sct, reply.sc) if kind == SlotReplyKind.FAILED else None)
 
 
 def _bytes_of(line: str | bytes) -> bytes:

@@ -1,5 +1,5 @@
 #!/usr/bin/env python3
-"""Tests of vandrexu.py: each call with each of its answers, what lies below it, and the header."""
+"""Tests of vandrexu.py: each call with each of its answers, what lies below it, and the headers."""
 import ctypes
 import os
 import pickle
@@ -11,8 +11,8 @@ from ctypes import byref, c_size_t, c_uint8, c_uint64, sizeof
 
 import vandrexu
 from vandrexu import (BadConfig, BadLine, Blocked, Checker, Completion, Config, Controller, Disk, Entry, Found, Granted,
-                      Host, Kind, Mode, NoBlock, NoHandle, NoMemory, NotLegal, Op, Refused, ReplyKind, Status, Step,
-                      StepKind, Work, library)
+                      Host, Kind, Mode, NoBlock, NoHandle, NoMemory, NotLegal, Op, Refused, ReplyKind, SlotHost,
+                      SlotReplyKind, Status, Step, StepKind, Work, library)
 
 TOP = os.path.join(os.path.dirname(os.path.abspath(__file__)), "../../..")
 TWO = Config.of_line("config 8 1 1 0 0 2 4 4 8")
@@ -27,8 +27,9 @@ def read(path):
 
 
 def headers():
-    """Both headers, without their comments."""
-    return re.sub(r"/\*.*?\*/", "", read("include/vandrexu.h") + read("include/vandrexu_hosts.h"), flags=re.S)
+    """The headers, without their comments."""
+    text = "".join(read(f"include/{it}.h") for it in ("vandrexu", "vandrexu_hosts", "vandrexu_slots"))
+    return re.sub(r"/\*.*?\*/", "", text, flags=re.S)
 
 
 class Calls(unittest.TestCase):
@@ -211,8 +212,9 @@ class Calls(unittest.TestCase):
             Checker(SMALL).close()
             Controller(SMALL)
             Checker(SMALL)
-            with Disk(SMALL, 1) as disk:
+            with Disk(SMALL, 2) as disk:
                 Host(disk, 1, 1)
+                SlotHost(disk, 2, 1, 0, 8)
         # (each has a page at least)
         self.assertLess(pages(), before + 5000)
 
@@ -295,8 +297,9 @@ class Calls(unittest.TestCase):
         enums = {name: dict(re.findall(r"VANDREXU_(\w+) = (\d+)", members))
                  for name, members in re.findall(r"enum vandrexu_(\w+) \{(.*?)\}", header, flags=re.S)}
         mine = {"status": (Status, ""), "kind": (Kind, ""), "op": (Op, ""), "mode": (Mode, ""),
-                "found": (Found, "FOUND_"), "step_kind": (StepKind, "STEP_"), "reply_kind": (ReplyKind, "REPLY_")}
-        enums["status"] |= enums.pop("host_status")
+                "found": (Found, "FOUND_"), "step_kind": (StepKind, "STEP_"), "reply_kind": (ReplyKind, "REPLY_"),
+                "slot_reply_kind": (SlotReplyKind, "SLOT_")}
+        enums["status"] |= enums.pop("host_status") | enums.pop("slot_status")
         lines = {it: int(value) for it, value in enums.pop("lines").items()}
         kinds = vandrexu.Lines.__members__.items()
         self.assertEqual(lines, {f"{it}_LINES": int(kind) for it, kind in kinds if it != "HISTORY"})
@@ -311,13 +314,13 @@ class Calls(unittest.TestCase):
         kinds = {"uint8_t": c_uint8, "uint16_t": ctypes.c_uint16, "uint32_t": ctypes.c_uint32, "uint64_t": c_uint64,
                  "size_t": c_size_t, "void *": pointer}
         structs = re.findall(r"typedef struct vandrexu_(\w+) \{(.*?)\}", header, flags=re.S)
-        self.assertEqual(len(structs), 11)
+        self.assertEqual(len(structs), 13)
         for name, members in structs:
             made = []
             for kind, field, many in re.findall(r"(\w+ \*?)(\w+)(?:\[(\d+)\])?;", members):
                 kind = kinds[kind.strip()]
                 made.append((field, kind * int(many) if many else kind))
-            raw = getattr(vandrexu, f"Raw{name.capitalize()}")
+            raw = getattr(vandrexu, "Raw" + "".join(it.capitalize() for it in name.split("_")))
             wanted = type("Wanted", (ctypes.Structure,), {"_fields_": made})
             self.assertEqual([it[0] for it in raw._fields_], [it[0] for it in made], name)
             self.assertEqual(sizeof(raw), sizeof(wanted), name)

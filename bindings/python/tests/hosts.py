@@ -88,6 +88,10 @@ class Hosts(unittest.TestCase):
                 for call, arguments in ((host.read, (-1,)), (host.read, (0, 2 ** 32)), (disk.serve, (65536,)),
                                         (disk.host, (2 ** 32, 1)), (Disk, (TWO, 65536))):
                     self.assertRaises(OverflowError, call, *arguments)
+        # a queue of two entries takes one at a time
+        with Disk(Config.of_line("config 8 1 1 0 0 1 2 4 8"), 1) as disk, disk.host(1, 1) as host:
+            refusal = self.refused(Status.CALL_NO_ROOM, host.compare_and_write, 0, A1, A1)
+            self.assertIsInstance(refusal, CallRefused)
 
     def test_each_reply(self):
         disk = Disk(TWO, 2)

@@ -4,23 +4,11 @@ use denote.Struct.Declared.{shape}
 use Rattle.std.proofs.Crossing.{crosses}
 use Rattle.std.proofs.option.Option.TheSendSync as option_sent
 use Rattle.std.specs.contracts.option.Option as option
-use Rattle.cid_table.specs.contracts.table.CidTable as table
 use Rattle.own_port.specs.contracts.port.OwnPort as port
-use Rattle.own_port.proofs.port.OwnPort.TheSendSync as port_sent
-use Rattle.own_port.specs.contracts.port.OwnPortPort.TheImpl.{ghosts}
 use Rattle.driver_cas.specs.contracts.call.Call as call
-use Rattle.driver_cas.specs.contracts.driver.Driver as driver
+use Rattle.disk_handles.proofs.Sent.{call_send, driver_send}
 use Rattle.vandrexu_hosts_c.specs.contracts.host.DrivenHost as host
 use Rattle.vandrexu_hosts_c.specs.contracts.host.DrivenHost.TheInside as inside
-
-table_send : IsSend table.the_row
-table_send = search (crosses, sendable) depth 20
-
-call_send : IsSend (call.the_row port.the_row)
-call_send = search (crosses, sendable) depth 20
-
-driver_send : IsSend (driver.the_field port.the_row ghosts).row
-driver_send = search (port_sent.the_send, table_send, crosses, sendable) depth 20
 
 kept_send : IsSend (option.the_field (call.the_row port.the_row)).row
 kept_send = option_sent.the_field_send _ call_send

@@ -1,10 +1,6 @@
 -- What contracts say of a host.
-use Rattle.std.specs.Prelude.{None, Option, Result, Some, [], ℕ, ◌∷◌, ◌≡◌}
-use Rattle.nvme_model.specs.Config.{completion_queue}
+use Rattle.std.specs.Prelude.{None, Option, Result, Some, [], ℕ, ◌≡◌}
 use Rattle.nvme_model.specs.declared.config.ConfigNumbers.{ConfigNumbers}
-use Rattle.cid_table.specs.Cids.{held, queues_of}
-use Rattle.cid_table.specs.declared.held.CidUse.{CidUse}
-use Rattle.work_queue.specs.Engines.{IsFreshPass}
 use Rattle.work_queue.specs.declared.engine.Engine.{Engine}
 use Rattle.driver_calls.specs.declared.request.CallData.{CallData}
 use Rattle.driver_calls.specs.declared.request.Request.{Request}
@@ -12,8 +8,8 @@ use Rattle.driver_cas.specs.declared.call.Call.{Call}
 use Rattle.driver_cas.specs.declared.call.Poll.{Poll}
 use Rattle.driver_cas.specs.declared.driver.Driver.{Driver}
 use Rattle.driver_cas.specs.declared.fault.Fault.{Fault}
-use Rattle.driver_cas.specs.declared.port.Port.{Ghosts}
-use Rattle.own_port.specs.OwnPorts.{engine_of, pass_of, queue_of}
+use Rattle.disk_handles.specs.Making.{IsNewDriver}
+use Rattle.own_port.specs.contracts.port.OwnPortPort.TheImpl.{ghosts}
 use Rattle.own_port.specs.declared.port.OwnPort.{OwnPort}
 use Rattle.vandrexu_hosts_c.specs.Driving.{IsCallPolled, Starts}
 use Rattle.vandrexu_hosts_c.specs.HostStates.{HostState}
@@ -31,23 +27,15 @@ abbrev pub KeepsHost : Option HostState → (HostState → Type 0) → Type 0
 KeepsHost None P = ⊥
 KeepsHost (Some h) P = P h
 
-module _ {g : Ghosts OwnPort} where
-  -- a driver of this engine with no slots, over a pass that has seen nothing, as this host on this submission queue
-  pub record IsNewDriver (eng : Engine) (c : ConfigNumbers) (number queue : ℕ) (d : Driver OwnPort g) : Type 0 where
-    pub engine : engine_of d.port ≡ eng
-    pub pass : IsFreshPass eng c (pass_of d.port)
-    pub queue_is : queue_of d.port ≡ completion_queue c queue
-    pub began : d.began.value ≡ d.port
-    pub host : d.host ≡ number
-    pub acwu : d.acwu ≡ c.atomic.acwu
-    pub slots : d.slots ≡ record { slba = 0; blocks = 0 }
-    pub serial : d.serial ≡ 0
-    pub queues : queues_of d.cids ≡ queue ∷ []
-    pub free : (q cid : ℕ) → held d.cids q cid ≡ CidUse.Free
+-- a host with this driver and no call, which has read nothing
+pub record IsHostOver (d : Driver OwnPort ghosts) (h : HostState) : Type 0 where
+  pub driver_is : h.driver ≡ d
+  pub no_call : h.call ≡ None
+  pub nothing_read : h.payload ≡ []
 
--- a host with a new driver and no call, which has read nothing
+-- a host with a new driver, which has no slots, and no call, which has read nothing
 pub record IsNewHost (eng : Engine) (c : ConfigNumbers) (number queue : ℕ) (h : HostState) : Type 0 where
-  pub driver : IsNewDriver eng c number queue h.driver
+  pub driver : IsNewDriver eng c number queue (record { slba = 0; blocks = 0 }) h.driver
   pub no_call : h.call ≡ None
   pub nothing_read : h.payload ≡ []
 

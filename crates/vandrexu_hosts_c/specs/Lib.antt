@@ -1,9 +1,6 @@
-pub mod Answers
-pub mod Disks
 pub mod Driving
 pub mod HostStates
 pub mod Hosts
 pub mod Making
-pub mod OwnedDisk
 pub mod OwnedHost
 pub mod Replies

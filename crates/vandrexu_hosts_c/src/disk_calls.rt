@@ -2,12 +2,12 @@
 
 ghost use Rattle.std.specs.Prelude.{◌≡◌, IfOk, None, Some};
 ghost use Rattle.given_config.specs.Configurations.{given_numbers};
-ghost use Rattle.vandrexu_hosts_c.specs.Disks.{FetchTells, IsNewDisk, KeepsDisk, MayRefuseDisk, ServesDisk, TaskTells};
-ghost use Rattle.vandrexu_hosts_c.specs.declared.disk.Disk.{Disk as TheDisk};
+ghost use Rattle.disk_handles.specs.Disks.{FetchTells, IsNewDisk, KeepsDisk, MayRefuseDisk, ServesDisk, TaskTells};
+ghost use Rattle.disk_handles.specs.Handles.{disk_in};
+ghost use Rattle.disk_handles.specs.declared.disk.Disk.{Disk as TheDisk};
 
-use crate::disk::Disk;
-use crate::disk_handle::{DiskHandle, put_disk, take_disk};
-use crate::numbers::{IN_USE, NO_HANDLE, NO_MEMORY};
+use disk_handles::numbers::{IN_USE, NO_HANDLE, NO_MEMORY};
+use disk_handles::{Disk, DiskHandle};
 use given_config::{GivenConfig, config_of};
 use history::Config;
 use std::alloc::{AllocError as NoMemory, Global};
@@ -24,18 +24,17 @@ fn disk_of(alloc: Global, config: Config, hosts: u16) -> Result<Box<Disk>, NoMem
 /// 0; or the first fault of the configuration, 21 to 30; or 11 where memory is refused; or 102 where the handle owns
 /// one. The handle is then as before.
 #[unsafe(no_mangle)]
-#[tactic(auto, using(crate::proofs::Marks::no_disk_of))]
 pub extern "C" fn vandrexu_disk_new(
     alloc: Global,
     config: &GivenConfig,
     hosts: u16,
     disk: &mut DiskHandle,
 ) -> u32
-    ensures done { result ≡ 0 → KeepsDisk disk.new.held.disk (IsNewDisk (given_numbers config.now) hosts) }
-    ensures failed { (result ≡ 0 → ⊥) → disk.new.held.disk ≡ disk.old.held.disk }
-    ensures cause { (result ≡ 0 → ⊥) → MayRefuseDisk (given_numbers config.now) disk.old.held.disk result }
+    ensures done { result ≡ 0 → KeepsDisk (disk_in disk.new) (IsNewDisk (given_numbers config.now) hosts) }
+    ensures failed { (result ≡ 0 → ⊥) → disk_in disk.new ≡ disk_in disk.old }
+    ensures cause { (result ≡ 0 → ⊥) → MayRefuseDisk (given_numbers config.now) (disk_in disk.old) result }
 {
-    if disk.live != 0 {
+    if disk.owns() {
         return IN_USE;
     }
     let accepted = match config_of(config) {
@@ -45,31 +44,31 @@ pub extern "C" fn vandrexu_disk_new(
     let Ok(made) = disk_of(alloc, accepted, hosts) else {
         return NO_MEMORY;
     };
-    put_disk(disk, made);
+    disk.put(made);
     0
 }
 
 /// Frees what the handle owns. Nothing is done where it owns nothing. Hosts that were made of it stay.
 #[unsafe(no_mangle)]
 pub extern "C" fn vandrexu_disk_free(alloc: Global, disk: &mut DiskHandle)
-    ensures { disk.new.held.disk ≡ None }
+    ensures { disk_in disk.new ≡ None }
 {
-    drop(take_disk(alloc, disk));
+    drop(disk.take(alloc));
 }
 
 /// Fetches the next command, or fused pair, of a submission queue, and keeps what it has to do: 0; or the number of the
 /// refusal; or 113 where what was fetched before isn't finished; or 101 where the handle owns nothing.
 #[unsafe(no_mangle)]
 pub extern "C" fn vandrexu_disk_fetch(alloc: Global, disk: &mut DiskHandle, queue: u16) -> u32
-    ensures no_handle { disk.old.held.disk ≡ None → (result ≡ 101) × (disk.new.held.disk ≡ None) }
-    ensures fetches { (d : TheDisk) → disk.old.held.disk ≡ Some d →
-        KeepsDisk disk.new.held.disk (λ e. FetchTells d e queue result) }
+    ensures no_handle { disk_in disk.old ≡ None → (result ≡ 101) × (disk_in disk.new ≡ None) }
+    ensures fetches { (d : TheDisk) → disk_in disk.old ≡ Some d →
+        KeepsDisk (disk_in disk.new) (λ e. FetchTells d e queue result) }
 {
-    let Some(mut owned) = take_disk(alloc, disk) else {
+    let Some(mut owned) = disk.take(alloc) else {
         return NO_HANDLE;
     };
     let told = owned.as_mut().fetch(queue);
-    put_disk(disk, owned);
+    disk.put(owned);
     told
 }
 
@@ -77,15 +76,15 @@ pub extern "C" fn vandrexu_disk_fetch(alloc: Global, disk: &mut DiskHandle, queu
 /// 105 where there is none, and all its completions are posted; or 101 where the handle owns nothing.
 #[unsafe(no_mangle)]
 pub extern "C" fn vandrexu_disk_task(alloc: Global, disk: &mut DiskHandle) -> u32
-    ensures no_handle { disk.old.held.disk ≡ None → (result ≡ 101) × (disk.new.held.disk ≡ None) }
-    ensures makes { (d : TheDisk) → disk.old.held.disk ≡ Some d →
-        KeepsDisk disk.new.held.disk (λ e. TaskTells d e result) }
+    ensures no_handle { disk_in disk.old ≡ None → (result ≡ 101) × (disk_in disk.new ≡ None) }
+    ensures makes { (d : TheDisk) → disk_in disk.old ≡ Some d →
+        KeepsDisk (disk_in disk.new) (λ e. TaskTells d e result) }
 {
-    let Some(mut owned) = take_disk(alloc, disk) else {
+    let Some(mut owned) = disk.take(alloc) else {
         return NO_HANDLE;
     };
     let told = owned.as_mut().task();
-    put_disk(disk, owned);
+    disk.put(owned);
     told
 }
 
@@ -94,14 +93,14 @@ pub extern "C" fn vandrexu_disk_task(alloc: Global, disk: &mut DiskHandle) -> u3
 /// or 101 where the handle owns nothing.
 #[unsafe(no_mangle)]
 pub extern "C" fn vandrexu_disk_serve(alloc: Global, disk: &mut DiskHandle, queue: u16) -> u32
-    ensures no_handle { disk.old.held.disk ≡ None → (result ≡ 101) × (disk.new.held.disk ≡ None) }
-    ensures serves { (d : TheDisk) → disk.old.held.disk ≡ Some d →
-        KeepsDisk disk.new.held.disk (λ e. ServesDisk d e queue result) }
+    ensures no_handle { disk_in disk.old ≡ None → (result ≡ 101) × (disk_in disk.new ≡ None) }
+    ensures serves { (d : TheDisk) → disk_in disk.old ≡ Some d →
+        KeepsDisk (disk_in disk.new) (λ e. ServesDisk d e queue result) }
 {
-    let Some(mut owned) = take_disk(alloc, disk) else {
+    let Some(mut owned) = disk.take(alloc) else {
         return NO_HANDLE;
     };
     let told = owned.as_mut().serve(queue);
-    put_disk(disk, owned);
+    disk.put(owned);
     told
 }

@@ -5,17 +5,19 @@ ghost use Rattle.nvme_model.specs.declared.operation.Op.{Op};
 ghost use Rattle.driver_calls.specs.declared.request.CallData.{CallData};
 ghost use Rattle.driver_cas.specs.Drivers.{acwu_of, area_of};
 ghost use Rattle.driver_cas.specs.Requests.{pair_request_of, request_of};
-ghost use Rattle.vandrexu_hosts_c.specs.Disks.{KeepsDisk};
+ghost use Rattle.disk_handles.specs.Disks.{KeepsDisk};
+ghost use Rattle.disk_handles.specs.Handles.{disk_in};
+ghost use Rattle.disk_handles.specs.declared.disk.Disk.{Disk as TheDisk};
 ghost use Rattle.vandrexu_hosts_c.specs.HostStates.{HostState};
 ghost use Rattle.vandrexu_hosts_c.specs.Hosts.{KeepsHost, PollTells, StartTells};
 ghost use Rattle.vandrexu_hosts_c.specs.Making.{MakesHost};
-ghost use Rattle.vandrexu_hosts_c.specs.declared.disk.Disk.{Disk as TheDisk};
 
-use crate::disk_handle::{DiskHandle, put_disk, take_disk};
 use crate::host_handle::{HostHandle, put_host, take_host};
 use crate::making::give_into;
-use crate::numbers::{IN_USE, NO_HANDLE, TOO_SMALL};
+use crate::numbers::TOO_SMALL;
 use crate::reply::HostReply;
+use disk_handles::DiskHandle;
+use disk_handles::numbers::{IN_USE, NO_HANDLE};
 use std::alloc::Global;
 
 /// Makes a host of this number, not 0, on this submission queue, with one of the passes of the disk, and puts it into
@@ -32,20 +34,20 @@ pub extern "C" fn vandrexu_host_new(
     host: &mut HostHandle,
 ) -> u32
     ensures in_use { (h : HostState) → host.old.held.host ≡ Some h →
-        (result ≡ 102) × (host.new.held.host ≡ Some h) × (disk.new.held.disk ≡ disk.old.held.disk) }
-    ensures no_disk { host.old.held.host ≡ None → disk.old.held.disk ≡ None →
-        (result ≡ 101) × (host.new.held.host ≡ None) × (disk.new.held.disk ≡ None) }
-    ensures makes { (d : TheDisk) → host.old.held.host ≡ None → disk.old.held.disk ≡ Some d →
-        KeepsDisk disk.new.held.disk (λ e. MakesHost d e number queue result host.new.held.host) }
+        (result ≡ 102) × (host.new.held.host ≡ Some h) × (disk_in disk.new ≡ disk_in disk.old) }
+    ensures no_disk { host.old.held.host ≡ None → disk_in disk.old ≡ None →
+        (result ≡ 101) × (host.new.held.host ≡ None) × (disk_in disk.new ≡ None) }
+    ensures makes { (d : TheDisk) → host.old.held.host ≡ None → disk_in disk.old ≡ Some d →
+        KeepsDisk (disk_in disk.new) (λ e. MakesHost d e number queue result host.new.held.host) }
 {
     if host.live != 0 {
         return IN_USE;
     }
-    let Some(mut owned) = take_disk(alloc, disk) else {
+    let Some(mut owned) = disk.take(alloc) else {
         return NO_HANDLE;
     };
     let told = give_into(alloc, owned.as_mut(), number, queue, host);
-    put_disk(disk, owned);
+    disk.put(owned);
     told
 }
 

@@ -1,9 +1,7 @@
 //! Hosts of one controller for callers in C, one function each: include/vandrexu_hosts.h says how they are called.
 #![tactic(auto)]
 
-mod disk;
 mod disk_calls;
-mod disk_handle;
 mod host;
 mod host_calls;
 mod host_handle;

@@ -1,5 +1,5 @@
-//! The declarations of `include/vandrexu.h` and `include/vandrexu_hosts.h`, name by name. What a call does, what it is
-//! given and what it answers stands in these headers; the crate `vandrexu` has it in safe Rust.
+//! The declarations of `include/vandrexu.h`, `include/vandrexu_hosts.h` and `include/vandrexu_slots.h`, name by name. What
+//! a call does, what it is given and what it answers stands in these headers; the crate `vandrexu` has it in safe Rust.
 //!
 //! The build is told by `VANDREXU_LIB_DIR` in which folder libvandrexu_c.a lies. tests/header.rs compares each
 //! constant, layout and function with the headers.
@@ -64,6 +64,16 @@ pub const VANDREXU_BAD_NUMBER: u32 = 115;
 pub const VANDREXU_IN_CALL: u32 = 116;
 pub const VANDREXU_NO_CALL: u32 = 117;
 
+// ---- What a call about slots answers besides
+
+pub const VANDREXU_CALL_NO_SERIAL: u32 = 48;
+pub const VANDREXU_NO_SLOT: u32 = 118;
+pub const VANDREXU_NOT_HELD: u32 = 119;
+pub const VANDREXU_HELD: u32 = 120;
+pub const VANDREXU_TOOK_OVER: u32 = 121;
+pub const VANDREXU_BAD_NAME: u32 = 122;
+pub const VANDREXU_BAD_AREA: u32 = 123;
+
 // ---- What a step says
 
 pub const VANDREXU_FAILED: u32 = 1;
@@ -93,6 +103,17 @@ pub const VANDREXU_REPLY_EQUAL: u32 = 4;
 pub const VANDREXU_REPLY_DIFFERS: u32 = 5;
 pub const VANDREXU_REPLY_SWAPPED: u32 = 6;
 pub const VANDREXU_REPLY_FAILED: u32 = 7;
+
+// ---- What became of a slot host's call
+
+pub const VANDREXU_SLOT_PENDING: u32 = 1;
+pub const VANDREXU_SLOT_HELD: u32 = 2;
+pub const VANDREXU_SLOT_TAKEN: u32 = 3;
+pub const VANDREXU_SLOT_RELEASED: u32 = 4;
+pub const VANDREXU_SLOT_FREE: u32 = 5;
+pub const VANDREXU_SLOT_OF_NAME: u32 = 6;
+pub const VANDREXU_SLOT_FOREIGN: u32 = 7;
+pub const VANDREXU_SLOT_FAILED: u32 = 8;
 
 // ---- The kinds of lines of a run
 
@@ -136,10 +157,18 @@ pub struct vandrexu_host {
     pub live: u32,
 }
 
+#[repr(C)]
+#[derive(Debug)]
+pub struct vandrexu_slot_host {
+    pub at: *mut c_void,
+    pub live: u32,
+}
+
 pub const VANDREXU_CONTROLLER_NONE: vandrexu_controller = vandrexu_controller { at: ptr::null_mut(), live: 0 };
 pub const VANDREXU_CHECKER_NONE: vandrexu_checker = vandrexu_checker { at: ptr::null_mut(), live: 0 };
 pub const VANDREXU_DISK_NONE: vandrexu_disk = vandrexu_disk { at: ptr::null_mut(), live: 0 };
 pub const VANDREXU_HOST_NONE: vandrexu_host = vandrexu_host { at: ptr::null_mut(), live: 0 };
+pub const VANDREXU_SLOT_HOST_NONE: vandrexu_slot_host = vandrexu_slot_host { at: ptr::null_mut(), live: 0 };
 
 // ---- What is lent to calls
 
@@ -206,6 +235,18 @@ pub struct vandrexu_step {
 #[derive(Clone, Copy, Debug, Default, PartialEq, Eq)]
 pub struct vandrexu_reply {
     pub kind: u32,
+    pub sct: u8,
+    pub sc: u8,
+    pub zeros: [u8; 2],
+}
+
+#[repr(C)]
+#[derive(Clone, Copy, Debug, Default, PartialEq, Eq)]
+pub struct vandrexu_slot_reply {
+    pub kind: u32,
+    pub slot: u32,
+    pub serial: u64,
+    pub host: u32,
     pub sct: u8,
     pub sc: u8,
     pub zeros: [u8; 2],
@@ -331,4 +372,19 @@ unsafe extern "C" {
     ) -> u32;
     pub fn vandrexu_host_poll(host: *mut vandrexu_host, reply: *mut vandrexu_reply) -> u32;
     pub fn vandrexu_host_data(host: *mut vandrexu_host, out: *mut u8, room: usize, needed: *mut usize) -> u32;
+    pub fn vandrexu_slot_host_new(
+        disk: *mut vandrexu_disk,
+        number: u32,
+        queue: u16,
+        first: u64,
+        count: u32,
+        host: *mut vandrexu_slot_host,
+    ) -> u32;
+    pub fn vandrexu_slot_host_free(host: *mut vandrexu_slot_host);
+    pub fn vandrexu_slot_claim(host: *mut vandrexu_slot_host, slot: u32) -> u32;
+    pub fn vandrexu_slot_claim_any(host: *mut vandrexu_slot_host) -> u32;
+    pub fn vandrexu_slot_release(host: *mut vandrexu_slot_host, slot: u32) -> u32;
+    pub fn vandrexu_slot_take_over(host: *mut vandrexu_slot_host, slot: u32, dead_host: u32, dead_serial: u64) -> u32;
+    pub fn vandrexu_slot_ask_holder(host: *mut vandrexu_slot_host, slot: u32) -> u32;
+    pub fn vandrexu_slot_poll(host: *mut vandrexu_slot_host, reply: *mut vandrexu_slot_reply) -> u32;
 }

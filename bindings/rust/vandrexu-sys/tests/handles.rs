@@ -47,6 +47,36 @@ fn a_handle_owns_nothing_before_it_is_made_and_after_it_is_freed() {
 }
 
 #[test]
+fn so_does_the_handle_of_a_slot_host() {
+    let (mut disk, mut host) = (VANDREXU_DISK_NONE, VANDREXU_SLOT_HOST_NONE);
+    let mut reply = vandrexu_slot_reply { kind: 9, ..Default::default() };
+    unsafe {
+        for _ in 0..2 {
+            assert_eq!(vandrexu_slot_host_new(&mut disk, 1, 1, 2, 4, &mut host), VANDREXU_NO_HANDLE);
+            for answer in [
+                vandrexu_slot_claim(&mut host, 0),
+                vandrexu_slot_claim_any(&mut host),
+                vandrexu_slot_release(&mut host, 0),
+                vandrexu_slot_take_over(&mut host, 0, 2, 1),
+                vandrexu_slot_ask_holder(&mut host, 0),
+                vandrexu_slot_poll(&mut host, &mut reply),
+            ] {
+                assert_eq!(answer, VANDREXU_NO_HANDLE);
+            }
+            assert_eq!(vandrexu_disk_new(&CONFIG, 2, &mut disk), VANDREXU_DONE);
+            assert_eq!(vandrexu_slot_host_new(&mut disk, 1, 1, 2, 4, &mut host), VANDREXU_DONE);
+            assert_eq!(vandrexu_slot_host_new(&mut disk, 1, 1, 2, 4, &mut host), VANDREXU_IN_USE);
+            for _ in 0..2 {
+                vandrexu_disk_free(&mut disk);
+                vandrexu_slot_host_free(&mut host);
+                assert_eq!((host.at, host.live), (ptr::null_mut(), 0));
+            }
+        }
+    }
+    assert_eq!(reply, vandrexu_slot_reply { kind: 9, ..Default::default() });
+}
+
+#[test]
 fn a_room_that_is_too_small_is_told_how_much_is_wanted() {
     let mut disk = VANDREXU_CONTROLLER_NONE;
     let (mut work, mut granted, mut blocked) =

@@ -1,10 +1,13 @@
-//! Reads include/vandrexu.h and include/vandrexu_hosts.h, and compares with them what this crate declares: its constants,
-//! layouts and functions.
+//! Reads include/vandrexu.h, include/vandrexu_hosts.h and include/vandrexu_slots.h, and compares with them what this crate
+//! declares: its constants, layouts and functions.
 use std::collections::BTreeMap;
 use std::mem::{offset_of, size_of};
 
-const HEADER: &str =
-    concat!(include_str!("../../../../include/vandrexu.h"), include_str!("../../../../include/vandrexu_hosts.h"));
+const HEADER: &str = concat!(
+    include_str!("../../../../include/vandrexu.h"),
+    include_str!("../../../../include/vandrexu_hosts.h"),
+    include_str!("../../../../include/vandrexu_slots.h")
+);
 const DECLARED: &str = include_str!("../src/lib.rs");
 
 /// The headers without their comments.
@@ -57,6 +60,10 @@ fn the_constants_are_those_of_the_header() {
         VANDREXU_IN_CALL VANDREXU_NO_CALL
         VANDREXU_REPLY_PENDING VANDREXU_REPLY_READ VANDREXU_REPLY_WRITTEN VANDREXU_REPLY_EQUAL VANDREXU_REPLY_DIFFERS
         VANDREXU_REPLY_SWAPPED VANDREXU_REPLY_FAILED
+        VANDREXU_CALL_NO_SERIAL VANDREXU_NO_SLOT VANDREXU_NOT_HELD VANDREXU_HELD VANDREXU_TOOK_OVER VANDREXU_BAD_NAME
+        VANDREXU_BAD_AREA
+        VANDREXU_SLOT_PENDING VANDREXU_SLOT_HELD VANDREXU_SLOT_TAKEN VANDREXU_SLOT_RELEASED VANDREXU_SLOT_FREE
+        VANDREXU_SLOT_OF_NAME VANDREXU_SLOT_FOREIGN VANDREXU_SLOT_FAILED
         VANDREXU_PUBLISH_LINES VANDREXU_FETCH_LINES VANDREXU_GRANT_LINES VANDREXU_BLOCK_LINES VANDREXU_POST_LINES
         VANDREXU_REAP_LINES VANDREXU_REFUSED_LINES VANDREXU_MEDIUM_LINES VANDREXU_ALL_LINES
     };
@@ -64,8 +71,8 @@ fn the_constants_are_those_of_the_header() {
     let constants = DECLARED.matches("pub const VANDREXU_").count();
     assert_eq!(
         constants,
-        declared.len() + 5,
-        "a constant is compared with nothing: the version and four handles aside"
+        declared.len() + 6,
+        "a constant is compared with nothing: the version and five handles aside"
     );
 }
 
@@ -135,7 +142,9 @@ fn the_layouts_are_those_of_the_header() {
         vandrexu_checker { at live }
         vandrexu_disk { at live }
         vandrexu_host { at live }
+        vandrexu_slot_host { at live }
         vandrexu_reply { kind sct sc zeros }
+        vandrexu_slot_reply { kind slot serial host sct sc zeros }
         vandrexu_config { blocks awun acwu nabsn nabo pairs sq_size cq_size jobs cqs }
         vandrexu_entry { bytes count }
         vandrexu_work { ticket slba blocks kind op statuses }
@@ -144,18 +153,21 @@ fn the_layouts_are_those_of_the_header() {
         vandrexu_step { ticket kind }
     };
     assert_eq!(declared, laid_out());
-    // what the header itself asserts of them
-    let mut asserted = 0;
-    for part in between(HEADER, "VANDREXU_LAYOUT(sizeof(vandrexu_", ");") {
+    // what the headers themselves assert of them
+    let number = |text: &str| text.split([' ', ')']).next().and_then(|it| it.parse::<usize>().ok()).expect("a number");
+    let mut sized = 0;
+    for part in HEADER.split("sizeof(vandrexu_").skip(1) {
         let (name, rest) = part.split_once(") == ").expect("a struct, and its size");
-        let (size, rest) = rest.split_once(" && offsetof(").expect("a size, and a field");
-        let (field, offset) = rest.split_once(", ").and_then(|it| it.1.split_once(") == ")).expect("a field's offset");
-        let layout = &declared[&format!("vandrexu_{name}")];
-        assert_eq!(size, layout.size.to_string(), "{name}");
-        assert!(layout.fields.contains(&(field.to_owned(), offset.parse().expect("a number"))), "{name}.{field}");
-        asserted += 1;
+        assert_eq!(number(rest), declared[&format!("vandrexu_{name}")].size, "{name}");
+        sized += 1;
     }
-    assert_eq!(asserted, declared.len());
+    assert_eq!(sized, declared.len());
+    for part in HEADER.split("offsetof(vandrexu_").skip(1) {
+        let (name, rest) = part.split_once(", ").expect("a struct, and a field");
+        let (field, rest) = rest.split_once(") == ").expect("a field, and its offset");
+        let layout = &declared[&format!("vandrexu_{name}")];
+        assert!(layout.fields.contains(&(field.to_owned(), number(rest))), "{name}.{field}");
+    }
 }
 
 /// The functions that the header declares, as Rust declares them, without spaces.

@@ -85,11 +85,12 @@ errors! {
     CallLength = VANDREXU_CALL_LENGTH, "no block, or data that isn't whole blocks, or two data of unlike lengths";
     CallTooLong = VANDREXU_CALL_TOO_LONG, "more blocks than a call may have";
     CallNoRoom = VANDREXU_CALL_NO_ROOM, "no room in the submission queue for a call";
-    /// ([`Reply::Failed`](crate::Reply::Failed) in place of it.)
+    /// ([`Reply::Failed`](crate::Reply::Failed) or [`SlotReply::Failed`](crate::SlotReply::Failed) in place of it.)
     CallFailed = VANDREXU_CALL_FAILED, "the call failed";
-    /// (Of [`Host`](crate::Host); nothing was done.)
+    /// (Of [`Host`](crate::Host) and [`SlotHost`](crate::SlotHost); nothing was done.)
     CallBusy = VANDREXU_CALL_BUSY, "another handle of the disk had the controller, for a call";
     CallNoMemory = VANDREXU_CALL_NO_MEMORY, "no memory for a call";
+    CallNoSerial = VANDREXU_CALL_NO_SERIAL, "the host has used the last serial";
     /// (What is made owns something until it is dropped.)
     NoHandle = VANDREXU_NO_HANDLE, "the handle owns nothing";
     /// (Each handle of this crate is made once.)
@@ -112,6 +113,12 @@ errors! {
     BadNumber = VANDREXU_BAD_NUMBER, "a host has no number 0";
     InCall = VANDREXU_IN_CALL, "the host has a call";
     NoCall = VANDREXU_NO_CALL, "the host has no call";
+    NoSlot = VANDREXU_NO_SLOT, "no such slot";
+    NotHeld = VANDREXU_NOT_HELD, "the host hasn't the slot";
+    Held = VANDREXU_HELD, "the host has the slot";
+    TookOver = VANDREXU_TOOK_OVER, "the host has begun a takeover, and claims nothing any more";
+    BadName = VANDREXU_BAD_NAME, "the name has a zero in it, or is of the host itself";
+    BadArea = VANDREXU_BAD_AREA, "there would be no slot, or one behind block 65,535";
 }
 
 impl std::error::Error for Error {}
@@ -129,6 +136,7 @@ mod tests {
     const CHECKING: &str = include_str!("../../../../docs/CHECKING.md");
     const HEADER: &str = include_str!("../../../../include/vandrexu.h");
     const HOSTS: &str = include_str!("../../../../include/vandrexu_hosts.h");
+    const SLOTS: &str = include_str!("../../../../include/vandrexu_slots.h");
 
     /// The numbers of an enum of a header.
     fn numbers_of(header: &str, name: &str) -> Vec<u32> {
@@ -143,7 +151,12 @@ mod tests {
 
     #[test]
     fn each_status_of_the_headers_is_an_error_with_this_number() {
-        let mut numbers = [numbers_of(HEADER, "vandrexu_status"), numbers_of(HOSTS, "vandrexu_host_status")].concat();
+        let mut numbers = [
+            numbers_of(HEADER, "vandrexu_status"),
+            numbers_of(HOSTS, "vandrexu_host_status"),
+            numbers_of(SLOTS, "vandrexu_slot_status"),
+        ]
+        .concat();
         numbers.sort_unstable();
         assert_eq!(numbers[0], 0);
         assert_eq!(Error::ALL.iter().map(|it| it.status()).collect::<Vec<_>>(), numbers[1..]);

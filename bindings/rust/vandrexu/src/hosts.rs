@@ -27,7 +27,7 @@ use vandrexu_sys as sys;
 /// ```
 #[must_use = "a disk that is dropped serves nobody"]
 pub struct Disk {
-    handle: UnsafeCell<sys::vandrexu_disk>,
+    pub(crate) handle: UnsafeCell<sys::vandrexu_disk>,
 }
 
 // SAFETY: a handle may be used on another thread than before, and what it shares with hosts is behind a lock.

@@ -1,5 +1,5 @@
-//! An NVM Express controller in memory, around the fused Compare and Write, hosts with a driver each, and a checker of
-//! histories.
+//! An NVM Express controller in memory, around the fused Compare and Write, hosts with a driver each, slots that hosts
+//! claim and release, and a checker of histories.
 //!
 //! Whoever tests firmware, or builds locks over Compare and Write, has both in a program of their own. The controller
 //! makes one step at a time, when it is asked; the checker says of each line of a log whether the controller that wrote
@@ -27,6 +27,7 @@
 //! goes::<vandrexu::Checker>();
 //! goes::<vandrexu::Disk>();
 //! goes::<vandrexu::Host>();
+//! goes::<vandrexu::SlotHost>();
 //! ```
 //!
 //! ```compile_fail,E0277
@@ -48,6 +49,11 @@
 //! fn is_shared<T: Sync>() {}
 //! is_shared::<vandrexu::Host>();
 //! ```
+//!
+//! ```compile_fail,E0277
+//! fn is_shared<T: Sync>() {}
+//! is_shared::<vandrexu::SlotHost>();
+//! ```
 mod answers;
 mod checker;
 mod config;
@@ -56,6 +62,7 @@ mod entry;
 mod error;
 mod hosts;
 mod iterators;
+mod slots;
 mod texts;
 
 pub use answers::{Blocked, Completion, Found, Granted, Made, Mode, Op, Reaped, Step, Task, Work};
@@ -66,6 +73,7 @@ pub use entry::Entry;
 pub use error::{Error, Result};
 pub use hosts::{Disk, Host, Reply};
 pub use iterators::{Completions, HistoryLines, Steps};
+pub use slots::{Name, SlotHost, SlotReply};
 pub use texts::{Lines, TextError, certify_text, check_text, observe_text, run_text};
 
 /// The version of the archive's header.

@@ -1,6 +1,8 @@
 //! The answers of calls that no example shows.
 use std::thread;
-use vandrexu::{Blocked, Checker, Config, Controller, Entry, Error, Found, Granted, Made, Mode, Op, Step, Task, Work};
+use vandrexu::{
+    Blocked, Checker, Config, Controller, Disk, Entry, Error, Found, Granted, Made, Mode, Op, Step, Task, Work,
+};
 
 const SMALL: Config =
     Config { blocks: 8, awun: 1, acwu: 1, nabsn: 0, nabo: 0, pairs: 1, sq_size: 4, cq_size: 2, jobs: 2, cqs: 1 };
@@ -151,6 +153,8 @@ fn what_is_dropped_gives_its_memory_back() {
     for _ in 0..10_000 {
         let disk = Controller::new(&SMALL).expect("memory");
         drop((disk, Checker::new(&SMALL).expect("memory")));
+        let mut disk = Disk::new(&SMALL, 2).expect("memory");
+        drop((disk.host(1, 1).expect("memory"), disk.slot_host(2, 1, 0, 8).expect("memory"), disk));
     }
     // (each has a page at least)
     assert!(pages() < before + 5_000);

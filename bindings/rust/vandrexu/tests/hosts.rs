@@ -48,6 +48,9 @@ fn what_is_refused() -> Result<(), Error> {
     assert_eq!(disk.serve(2), Ok(()));
     assert_eq!(host.poll(), Ok(Reply::Written));
     assert_eq!((format!("{disk:?}"), format!("{host:?}")), ("Disk { .. }".to_owned(), "Host { .. }".to_owned()));
+    // a queue of two entries takes one at a time
+    let mut disk = Disk::new(&Config { sq_size: 2, ..TWO }, 1)?;
+    assert_eq!(disk.host(1, 1)?.compare_and_write(0, &[0; 512], &[0; 512]), Err(Error::CallNoRoom));
     Ok(())
 }
 

@@ -1,6 +1,6 @@
 use Rattle.std.proofs.Common.{sym}
 use Rattle.vandrexu_hosts_c.proofs.Calls.{polls_of}
-use Rattle.vandrexu_hosts_c.proofs.Works.{one_kept, some_kept}
+use Rattle.disk_handles.proofs.Works.{one_kept, some_kept}
 use Rattle.vandrexu_hosts_c.proofs.host.DrivenHost.poll.Goals as goal
 
 pub poll-polled-requires : goal.poll-polled-requires

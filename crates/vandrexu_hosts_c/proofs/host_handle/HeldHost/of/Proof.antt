@@ -1,4 +1,4 @@
--- `of` keeps the pointer of the parts, and the handle owns what they owned_host.
+-- `of` keeps the pointer of the parts, and the handle owns what they owned.
 use Rattle.std.proofs.Common.{◌≡◌, List, [], ◌∷◌, ◌++◌, refl, sym, subst}
 use Rattle.std.proofs.raw_atomic.Walks.{proved_at}
 use Rattle.std.proofs.alloc.Calls.{Al, handle_tells, Goes-blank}

@@ -1,0 +1,236 @@
+//! Hosts that claim the slots of a disk, release them, and take over those of a host that died.
+use crate::Disk;
+use crate::error::{Error, Result, told};
+use std::cell::UnsafeCell;
+use std::fmt;
+use vandrexu_sys as sys;
+
+impl Disk {
+    /// A slot host of this number, with a driver on this submission queue, and `count` slots from block `first` on: slot i
+    /// is block `first` + i.
+    ///
+    /// All slot hosts of a disk should have the same slots. No two hosts of it, of either kind, should have the same
+    /// number or queue. No other call should write to the blocks of slots.
+    ///
+    /// ```
+    /// use vandrexu::{Config, Disk, Error};
+    ///
+    /// let mut disk = Disk::new(&Config::default(), 1)?;
+    /// assert_eq!(disk.slot_host(1, 1, 2, 0).err(), Some(Error::BadArea));
+    /// assert_eq!(disk.slot_host(0, 1, 2, 4).err(), Some(Error::BadNumber));
+    /// assert_eq!(disk.slot_host(1, 2, 2, 4).err(), Some(Error::NoQueue));
+    /// let one = disk.slot_host(1, 1, 2, 4)?;
+    /// assert_eq!(disk.slot_host(2, 1, 2, 4).err(), Some(Error::NoHost));
+    /// # drop(one);
+    /// # Ok::<(), Error>(())
+    /// ```
+    ///
+    /// # Errors
+    /// [`Error::BadArea`] of no slot, or of one behind block 65,535; [`Error::BadNumber`] of 0, [`Error::NoQueue`],
+    /// [`Error::NoHost`], [`Error::NoMemory`].
+    pub fn slot_host(&mut self, number: u32, queue: u16, first: u64, count: u32) -> Result<SlotHost> {
+        let mut handle = sys::VANDREXU_SLOT_HOST_NONE;
+        // SAFETY: nobody else has the disk's handle, which isn't Sync; the host's is new.
+        told(unsafe { sys::vandrexu_slot_host_new(self.handle.get(), number, queue, first, count, &mut handle) })?;
+        Ok(SlotHost { handle: UnsafeCell::new(handle) })
+    }
+}
+
+/// Who holds a slot: a host, by the serial of its claim or of its takeover.
+///
+/// A host uses each serial once.
+#[derive(Clone, Copy, Debug, PartialEq, Eq, Hash)]
+pub struct Name {
+    /// The number of the host.
+    pub host: u32,
+    /// The serial, from 1.
+    pub serial: u64,
+}
+
+/// What became of a slot host's call.
+#[derive(Clone, Copy, Debug, PartialEq, Eq, Hash)]
+#[must_use]
+pub enum SlotReply {
+    /// Not all its completions were reaped.
+    Pending,
+    /// Of a claim and of a takeover: this slot is the host's.
+    Held(u32),
+    /// Of a claim: somebody else has the slot. Of a takeover: it hasn't that name any more.
+    Taken,
+    /// Of a release: nobody has the slot by this host's name.
+    Released,
+    /// Of the question who holds a slot: nobody.
+    Free,
+    /// Of the question who holds a slot: whoever has this name.
+    Of(Name),
+    /// Of the question who holds a slot: its block is neither zeros nor a name.
+    Foreign,
+    /// It failed, with this Status Code Type and Status Code.
+    Failed {
+        /// The Status Code Type.
+        sct: u8,
+        /// The Status Code.
+        sc: u8,
+    },
+}
+
+/// A host of a [`Disk`] that claims slots and releases them, with a driver, and one call at a time. It is freed where it
+/// is dropped.
+///
+/// A slot is a lock: one block of the disk. The block holds zeros while the slot is free, and else the [`Name`] of who
+/// has it (docs/SLOTS.md). A call is begun, and then polled until it is over.
+///
+/// ```
+/// use vandrexu::{Config, Disk, Error, SlotHost, SlotReply};
+///
+/// // Polls until the call is over, while the disk serves the host's queue.
+/// fn over(disk: &mut Disk, queue: u16, host: &mut SlotHost) -> Result<SlotReply, Error> {
+///     disk.serve(queue)?;
+///     loop {
+///         match host.poll()? {
+///             SlotReply::Pending => {}
+///             reply => return Ok(reply),
+///         }
+///     }
+/// }
+///
+/// let mut disk = Disk::new(&Config { pairs: 2, cqs: 2, ..Config::default() }, 2)?;
+/// let (mut one, mut two) = (disk.slot_host(1, 1, 2, 4)?, disk.slot_host(2, 2, 2, 4)?);
+/// one.claim(0)?;
+/// assert_eq!(two.release(0), Err(Error::NotHeld));
+/// assert_eq!(over(&mut disk, 1, &mut one)?, SlotReply::Held(0));
+/// two.claim(0)?;
+/// assert_eq!(over(&mut disk, 2, &mut two)?, SlotReply::Taken);
+/// one.release(0)?;
+/// assert_eq!(over(&mut disk, 1, &mut one)?, SlotReply::Released);
+/// two.claim(0)?;
+/// assert_eq!(over(&mut disk, 2, &mut two)?, SlotReply::Held(0));
+/// # Ok::<(), Error>(())
+/// ```
+///
+/// What a host has at a slot is kept in its handle. Where the handle is dropped, the slot stays held by its name, and
+/// another host may [take it over](SlotHost::take_over). A host outlives its disk's handle, but is served no more.
+#[must_use = "a host that is dropped takes its place on the disk with it"]
+pub struct SlotHost {
+    handle: UnsafeCell<sys::vandrexu_slot_host>,
+}
+
+// SAFETY: as of Disk.
+unsafe impl Send for SlotHost {}
+
+impl SlotHost {
+    /// Begins to claim a slot: to swap zeros for the host's next name.
+    ///
+    /// # Errors
+    /// [`Error::InCall`], [`Error::NoSlot`]; [`Error::Held`]; [`Error::TookOver`] of a host that has begun a takeover;
+    /// [`Error::CallNoRoom`], [`Error::CallBusy`], [`Error::CallNoMemory`], [`Error::CallNoSerial`]: nothing was
+    /// published.
+    pub fn claim(&mut self, slot: u32) -> Result<()> {
+        // SAFETY: nobody else has the handle, which isn't Sync.
+        told(unsafe { sys::vandrexu_slot_claim(self.handle.get(), slot) })
+    }
+
+    /// Begins to claim the first slot that nobody has: slot 0, and each further one by a [`poll`](SlotHost::poll), once
+    /// the one before is answered to be somebody's, so the disk is served between two polls. [`SlotReply::Taken`] is
+    /// told where each was, at a moment of its own.
+    ///
+    /// # Errors
+    /// [`Error::InCall`]; [`Error::TookOver`] of a host that has begun a takeover; [`Error::CallNoRoom`],
+    /// [`Error::CallBusy`], [`Error::CallNoMemory`], [`Error::CallNoSerial`]: nothing was published.
+    pub fn claim_any(&mut self) -> Result<()> {
+        // SAFETY: as of claim.
+        told(unsafe { sys::vandrexu_slot_claim_any(self.handle.get()) })
+    }
+
+    /// Begins to release a slot that was claimed or taken over: to swap the host's name for zeros. From then on the host
+    /// has it no more, whatever comes of it.
+    ///
+    /// # Errors
+    /// [`Error::InCall`], [`Error::NoSlot`]; [`Error::NotHeld`]; [`Error::CallNoRoom`], [`Error::CallBusy`],
+    /// [`Error::CallNoMemory`]: nothing was published, and the host has the slot still.
+    pub fn release(&mut self, slot: u32) -> Result<()> {
+        // SAFETY: as in claim.
+        told(unsafe { sys::vandrexu_slot_release(self.handle.get(), slot) })
+    }
+
+    /// Begins to take a slot over: to swap the name of a dead host for the host's next name. From its first takeover on a
+    /// host claims nothing any more.
+    ///
+    /// That the dead host does nothing any more is yours to see.
+    ///
+    /// ```
+    /// use vandrexu::{Config, Disk, Error, Name, SlotReply};
+    ///
+    /// let mut disk = Disk::new(&Config { pairs: 2, cqs: 2, ..Config::default() }, 2)?;
+    /// let (mut one, mut two) = (disk.slot_host(1, 1, 2, 4)?, disk.slot_host(2, 2, 2, 4)?);
+    /// one.claim(0)?;
+    /// disk.serve(1)?;
+    /// drop(one);
+    /// let dead = Name { host: 1, serial: 1 };
+    /// two.ask_holder(0)?;
+    /// disk.serve(2)?;
+    /// assert_eq!(two.poll()?, SlotReply::Of(dead));
+    /// two.take_over(0, dead)?;
+    /// disk.serve(2)?;
+    /// // (a takeover is a fused pair: it has two completions, and each poll reaps one)
+    /// assert_eq!((two.poll()?, two.poll()?), (SlotReply::Pending, SlotReply::Held(0)));
+    /// assert_eq!(two.claim(1), Err(Error::TookOver));
+    /// # Ok::<(), Error>(())
+    /// ```
+    ///
+    /// # Errors
+    /// [`Error::InCall`], [`Error::NoSlot`]; [`Error::Held`]; [`Error::BadName`] of a name with a zero in it, or of the
+    /// host itself; [`Error::CallNoRoom`], [`Error::CallBusy`], [`Error::CallNoMemory`], [`Error::CallNoSerial`]:
+    /// nothing was published.
+    pub fn take_over(&mut self, slot: u32, dead: Name) -> Result<()> {
+        // SAFETY: as in claim.
+        told(unsafe { sys::vandrexu_slot_take_over(self.handle.get(), slot, dead.host, dead.serial) })
+    }
+
+    /// Begins to ask who holds a slot: to read its block.
+    ///
+    /// # Errors
+    /// [`Error::InCall`], [`Error::NoSlot`]; [`Error::CallNoRoom`], [`Error::CallBusy`], [`Error::CallNoMemory`]:
+    /// nothing was published.
+    pub fn ask_holder(&mut self, slot: u32) -> Result<()> {
+        // SAFETY: as in claim.
+        told(unsafe { sys::vandrexu_slot_ask_holder(self.handle.get(), slot) })
+    }
+
+    /// Reaps at most one completion, and says what became of the call, which is over but where it is pending.
+    ///
+    /// # Errors
+    /// [`Error::NoCall`]; [`Error::CallBusy`] and [`Error::CallNoMemory`], where the call goes on.
+    pub fn poll(&mut self) -> Result<SlotReply> {
+        let mut reply = sys::vandrexu_slot_reply::default();
+        // SAFETY: as in claim.
+        match told(unsafe { sys::vandrexu_slot_poll(self.handle.get(), &mut reply) }) {
+            Ok(()) | Err(Error::CallFailed) => {}
+            Err(other) => return Err(other),
+        }
+        Ok(match reply.kind {
+            sys::VANDREXU_SLOT_PENDING => SlotReply::Pending,
+            sys::VANDREXU_SLOT_HELD => SlotReply::Held(reply.slot),
+            sys::VANDREXU_SLOT_TAKEN => SlotReply::Taken,
+            sys::VANDREXU_SLOT_RELEASED => SlotReply::Released,
+            sys::VANDREXU_SLOT_FREE => SlotReply::Free,
+            sys::VANDREXU_SLOT_OF_NAME => SlotReply::Of(Name { host: reply.host, serial: reply.serial }),
+            sys::VANDREXU_SLOT_FOREIGN => SlotReply::Foreign,
+            sys::VANDREXU_SLOT_FAILED => SlotReply::Failed { sct: reply.sct, sc: reply.sc },
+            other => panic!("the archive answered the reply {other}, which this version doesn't have"),
+        })
+    }
+}
+
+impl Drop for SlotHost {
+    fn drop(&mut self) {
+        // SAFETY: nobody else has the handle; it is used no more.
+        unsafe { sys::vandrexu_slot_host_free(self.handle.get()) }
+    }
+}
+
+impl fmt::Debug for SlotHost {
+    fn fmt(&self, f: &mut fmt::Formatter<'_>) -> fmt::Result {
+        f.debug_struct("SlotHost").finish_non_exhaustive()
+    }
+}

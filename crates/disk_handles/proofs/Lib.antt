@@ -1,0 +1,4 @@
+pub mod Marks
+pub mod Queues
+pub mod Sent
+pub mod Works

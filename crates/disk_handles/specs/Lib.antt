@@ -1,0 +1,5 @@
+pub mod Answers
+pub mod Disks
+pub mod Handles
+pub mod Making
+pub mod OwnedDisk

@@ -1,0 +1,17 @@
+//! Numbers that calls with a handle answer, beside those of refusals, of faults of configurations and of calls.
+
+pub const NO_QUEUE: u32 = 1;
+
+pub const NO_MEMORY: u32 = 11;
+
+pub const NO_HANDLE: u32 = 101;
+
+pub const IN_USE: u32 = 102;
+
+pub const NOTHING_READY: u32 = 105;
+
+pub const UNFINISHED: u32 = 113;
+
+pub const NO_HOST: u32 = 114;
+
+pub const BAD_NUMBER: u32 = 115;

@@ -1,0 +1,11 @@
+pub mod Bars
+pub mod Beginning
+pub mod Fresh
+pub mod Keeping
+pub mod Marks
+pub mod Places
+pub mod Polled
+pub mod Releasing
+pub mod Sent
+pub mod Staying
+pub mod Takeovers

@@ -1,0 +1,17 @@
+//! The numbers that calls of slots answer, beside those that all calls with a handle answer.
+
+pub(crate) const IN_CALL: u32 = 116;
+
+pub(crate) const NO_CALL: u32 = 117;
+
+pub(crate) const NO_SLOT: u32 = 118;
+
+pub(crate) const NOT_HELD: u32 = 119;
+
+pub(crate) const HELD: u32 = 120;
+
+pub(crate) const TOOK_OVER: u32 = 121;
+
+pub(crate) const BAD_NAME: u32 = 122;
+
+pub(crate) const BAD_AREA: u32 = 123;

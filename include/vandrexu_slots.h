@@ -1,0 +1,104 @@
+/* Vandrexu for C: slots of a controller in memory, claimed, released and taken over by the fused Compare and Write.
+ *
+ * Link libvandrexu_c.a. What vandrexu.h and vandrexu_hosts.h say of every call, of handles, of disks and of the numbers
+ * that calls answer is so here too. A slot is a lock: one block of a disk, which holds zeros while nobody has it, and else
+ * the name of who has it: the number of a host, and a serial that the host uses once. A slot host is a host that claims
+ * slots and releases them, and takes over those of a host that died; docs/SLOTS.md says by which rules. Like any host it has
+ * a submission queue, and one call at a time, which somebody polls.
+ *
+ * What a host has at a slot is kept in its handle. Where the handle is freed, the slot stays held by its name. */
+#ifndef VANDREXU_SLOTS_H
+#define VANDREXU_SLOTS_H
+
+#include "vandrexu_hosts.h"
+
+#ifdef __cplusplus
+extern "C" {
+#endif
+
+/* What a call answers beside the numbers of vandrexu.h and vandrexu_hosts.h. */
+enum vandrexu_slot_status {
+    VANDREXU_CALL_NO_SERIAL = 48, /* the host has used the last serial */
+    /* of these calls alone */
+    VANDREXU_NO_SLOT = 118,   /* there is no such slot */
+    VANDREXU_NOT_HELD = 119,  /* the host hasn't the slot */
+    VANDREXU_HELD = 120,      /* the host has the slot */
+    VANDREXU_TOOK_OVER = 121, /* the host has begun a takeover, and claims nothing any more */
+    VANDREXU_BAD_NAME = 122,  /* the name has a zero in it, or is of the host itself */
+    VANDREXU_BAD_AREA = 123   /* there would be no slot, or one behind block 65,535 */
+};
+
+typedef struct vandrexu_slot_host {
+    void *at;
+    uint32_t live;
+} vandrexu_slot_host;
+
+#define VANDREXU_SLOT_HOST_NONE {0, 0}
+
+/* 0, and the host's handle owns a host of this number, not 0, with a driver on this submission queue, and so many slots
+ * from block `first` on: slot i is block first + i. VANDREXU_BAD_AREA, and the numbers of vandrexu_host_new. All hosts of a
+ * disk should have the same slots, and no two of them, of either kind, the same number or queue; no other call should write
+ * to the blocks of slots. */
+uint32_t vandrexu_slot_host_new(vandrexu_disk *disk, uint32_t number, uint16_t queue, uint64_t first, uint32_t count,
+                                vandrexu_slot_host *host);
+
+/* Frees it, and leaves the handle zeros. What the host has stays held, and a call that isn't answered is forgotten: who
+ * knows that the host is gone may take its slots over. Nothing is done to one that owns nothing. */
+void vandrexu_slot_host_free(vandrexu_slot_host *host);
+
+/* Each begins a call about slot i: its entries are published. 43, 45 and 46, and then nothing was, and the host has what it
+ * had; VANDREXU_IN_CALL, VANDREXU_NO_SLOT. */
+
+/* To claim it: to swap zeros for the host's next name. 48; VANDREXU_HELD, VANDREXU_TOOK_OVER. */
+uint32_t vandrexu_slot_claim(vandrexu_slot_host *host, uint32_t slot);
+
+/* To claim the first slot that nobody has: slot 0, and each further one by a poll, once the one before is answered to be
+ * somebody's. VANDREXU_SLOT_TAKEN is then told where each was, at a moment of its own. 48; VANDREXU_TOOK_OVER. */
+uint32_t vandrexu_slot_claim_any(vandrexu_slot_host *host);
+
+/* To release it, which was claimed or taken over: to swap the host's name for zeros. From then on the host has it no more,
+ * whatever comes of it. VANDREXU_NOT_HELD. */
+uint32_t vandrexu_slot_release(vandrexu_slot_host *host, uint32_t slot);
+
+/* To take it over: to swap the name of a dead host, its number and its serial, for the host's next name. That the dead host
+ * does nothing any more is yours to see. 48; VANDREXU_HELD, VANDREXU_BAD_NAME. */
+uint32_t vandrexu_slot_take_over(vandrexu_slot_host *host, uint32_t slot, uint32_t dead_host, uint64_t dead_serial);
+
+/* To ask who holds it: to read its block. */
+uint32_t vandrexu_slot_ask_holder(vandrexu_slot_host *host, uint32_t slot);
+
+/* What became of a call. */
+enum vandrexu_slot_reply_kind {
+    VANDREXU_SLOT_PENDING = 1,  /* not all its completions were reaped */
+    VANDREXU_SLOT_HELD = 2,     /* of a claim and of a takeover: the slot is the host's */
+    VANDREXU_SLOT_TAKEN = 3,    /* somebody else has it; of a takeover, or it has no longer that name */
+    VANDREXU_SLOT_RELEASED = 4, /* nobody has it by this host's name */
+    VANDREXU_SLOT_FREE = 5,     /* of the question who holds it: nobody */
+    VANDREXU_SLOT_OF_NAME = 6,  /* whoever has the name beside it */
+    VANDREXU_SLOT_FOREIGN = 7,  /* its block is neither zeros nor a name */
+    VANDREXU_SLOT_FAILED = 8    /* with the status beside it */
+};
+
+typedef struct vandrexu_slot_reply {
+    uint32_t kind;
+    uint32_t slot;   /* of VANDREXU_SLOT_HELD: which */
+    uint64_t serial; /* of VANDREXU_SLOT_OF_NAME: the serial */
+    uint32_t host;   /* and the number of the host */
+    uint8_t sct;     /* of VANDREXU_SLOT_FAILED: the Status Code Type */
+    uint8_t sc;      /* and the Status Code */
+    uint8_t zeros[2];
+} vandrexu_slot_reply;
+
+/* Reaps at most one completion of the host's completion queue: 0, and what became of the call, which is over but where it
+ * is pending; 44, where it failed, and it is over; 45 and 46, and it goes on; VANDREXU_NO_CALL. Where it isn't over, and
+ * where there is none, the reply says pending. */
+uint32_t vandrexu_slot_poll(vandrexu_slot_host *host, vandrexu_slot_reply *reply);
+
+VANDREXU_LAYOUT(sizeof(vandrexu_slot_host) == 16 && offsetof(vandrexu_slot_host, live) == 8);
+VANDREXU_LAYOUT(sizeof(vandrexu_slot_reply) == 24 && offsetof(vandrexu_slot_reply, serial) == 8);
+VANDREXU_LAYOUT(offsetof(vandrexu_slot_reply, host) == 16 && offsetof(vandrexu_slot_reply, sct) == 20);
+
+#ifdef __cplusplus
+}
+#endif
+#endif

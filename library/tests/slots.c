@@ -1,0 +1,445 @@
+/* Calls each function of vandrexu_slots.h, with each of its answers. Exits with 1 at the first that isn't as it should be.
+ *
+ * Compiled with REFUSES it has a heap of its own in place of heap.c, refuses each allocation of a run in turn, and wants
+ * that to be told and nothing to be lost. */
+#include "vandrexu_slots.h"
+
+#include <pthread.h>
+#include <sched.h>
+#include <stdatomic.h>
+#include <stdio.h>
+#include <stdlib.h>
+#include <string.h>
+
+#define WANT(what)                                                                                                     \
+    do {                                                                                                               \
+        if (!(what)) {                                                                                                 \
+            fprintf(stderr, "slots.c:%d: %s\n", __LINE__, #what);                                                      \
+            exit(1);                                                                                                   \
+        }                                                                                                              \
+    } while (0)
+
+/* Two pairs, each with a completion queue of its own; slots are the blocks 2 to 5. */
+static const vandrexu_config config = {8, 1, 1, 0, 0, 2, 4, 4, 8, 2};
+
+enum { FIRST = 2, COUNT = 4 };
+#ifndef REFUSES
+static void serve(vandrexu_disk *disk, uint16_t queue)
+{
+    WANT(vandrexu_disk_serve(disk, queue) == VANDREXU_DONE);
+}
+
+/* Serves the host's call, which was begun, and polls until it is over; wants this of it. */
+static vandrexu_slot_reply over(vandrexu_disk *disk, uint16_t queue, vandrexu_slot_host *host, uint32_t kind)
+{
+    vandrexu_slot_reply reply, none;
+    serve(disk, queue);
+    do
+        WANT(vandrexu_slot_poll(host, &reply) == VANDREXU_DONE);
+    while (reply.kind == VANDREXU_SLOT_PENDING);
+    WANT(reply.kind == kind && reply.sct == 0 && reply.sc == 0);
+    WANT(vandrexu_slot_poll(host, &none) == VANDREXU_NO_CALL && none.kind == VANDREXU_SLOT_PENDING);
+    return reply;
+}
+
+static void two_hosts(vandrexu_disk *disk, vandrexu_slot_host *one, vandrexu_slot_host *two)
+{
+    WANT(vandrexu_disk_new(&config, 2, disk) == VANDREXU_DONE);
+    WANT(vandrexu_slot_host_new(disk, 1, 1, FIRST, COUNT, one) == VANDREXU_DONE);
+    WANT(vandrexu_slot_host_new(disk, 2, 2, FIRST, COUNT, two) == VANDREXU_DONE);
+}
+
+/* Handles of zeros are answered, and nothing else is written. */
+static void nothing(void)
+{
+    vandrexu_disk disk = VANDREXU_DISK_NONE;
+    vandrexu_slot_host host = VANDREXU_SLOT_HOST_NONE;
+    vandrexu_slot_reply reply = {9, 9, 9, 9, 9, 9, {9, 9}};
+    WANT(vandrexu_slot_host_new(&disk, 1, 1, FIRST, COUNT, &host) == VANDREXU_NO_HANDLE);
+    WANT(vandrexu_slot_claim(&host, 0) == VANDREXU_NO_HANDLE);
+    WANT(vandrexu_slot_claim_any(&host) == VANDREXU_NO_HANDLE);
+    WANT(vandrexu_slot_release(&host, 0) == VANDREXU_NO_HANDLE);
+    WANT(vandrexu_slot_take_over(&host, 0, 2, 1) == VANDREXU_NO_HANDLE);
+    WANT(vandrexu_slot_ask_holder(&host, 0) == VANDREXU_NO_HANDLE);
+    WANT(vandrexu_slot_poll(&host, &reply) == VANDREXU_NO_HANDLE && reply.kind == 9 && reply.serial == 9);
+    vandrexu_slot_host_free(&host);
+    WANT(host.at == NULL && host.live == 0);
+}
+
+/* What a slot host is refused for; one that was freed is one of zeros. */
+static void made(void)
+{
+    vandrexu_disk disk = VANDREXU_DISK_NONE;
+    vandrexu_slot_host one = VANDREXU_SLOT_HOST_NONE, two = VANDREXU_SLOT_HOST_NONE;
+    WANT(vandrexu_disk_new(&config, 1, &disk) == VANDREXU_DONE);
+    WANT(vandrexu_slot_host_new(&disk, 1, 1, FIRST, 0, &one) == VANDREXU_BAD_AREA);
+    WANT(vandrexu_slot_host_new(&disk, 1, 1, 65536, 1, &one) == VANDREXU_BAD_AREA);
+    WANT(vandrexu_slot_host_new(&disk, 1, 1, UINT64_MAX, UINT32_MAX, &one) == VANDREXU_BAD_AREA);
+    WANT(vandrexu_slot_host_new(&disk, 0, 1, FIRST, COUNT, &one) == VANDREXU_BAD_NUMBER);
+    WANT(vandrexu_slot_host_new(&disk, 1, 0, FIRST, COUNT, &one) == VANDREXU_NO_QUEUE);
+    WANT(vandrexu_slot_host_new(&disk, 1, 3, FIRST, COUNT, &one) == VANDREXU_NO_QUEUE && one.live == 0);
+    WANT(vandrexu_slot_host_new(&disk, 1, 1, FIRST, COUNT, &one) == VANDREXU_DONE);
+    WANT(vandrexu_slot_host_new(&disk, 1, 1, FIRST, COUNT, &one) == VANDREXU_IN_USE);
+    WANT(vandrexu_slot_host_new(&disk, 2, 2, FIRST, COUNT, &two) == VANDREXU_NO_HOST && two.live == 0);
+    WANT(vandrexu_slot_claim(&one, 0) == VANDREXU_DONE);
+    vandrexu_slot_host_free(&one);
+    vandrexu_slot_host_free(&one);
+    WANT(one.at == NULL && one.live == 0 && vandrexu_slot_claim(&one, 0) == VANDREXU_NO_HANDLE);
+    vandrexu_disk_free(&disk);
+    WANT(vandrexu_disk_new(&config, 1, &disk) == VANDREXU_DONE);
+    WANT(vandrexu_slot_host_new(&disk, 7, 1, 65535, 1, &one) == VANDREXU_DONE);
+    vandrexu_disk_free(&disk);
+    vandrexu_slot_host_free(&one);
+}
+
+/* Two hosts claim one slot: who is served first has it, and the other one when it was released. */
+static void claims(void)
+{
+    vandrexu_disk disk = VANDREXU_DISK_NONE;
+    vandrexu_slot_host one = VANDREXU_SLOT_HOST_NONE, two = VANDREXU_SLOT_HOST_NONE;
+    vandrexu_slot_reply reply;
+    two_hosts(&disk, &one, &two);
+    WANT(vandrexu_slot_poll(&one, &reply) == VANDREXU_NO_CALL && reply.kind == VANDREXU_SLOT_PENDING);
+    WANT(vandrexu_slot_claim(&one, COUNT) == VANDREXU_NO_SLOT);
+    WANT(vandrexu_slot_release(&one, COUNT) == VANDREXU_NO_SLOT);
+    WANT(vandrexu_slot_take_over(&one, UINT32_MAX, 2, 1) == VANDREXU_NO_SLOT);
+    WANT(vandrexu_slot_ask_holder(&one, COUNT) == VANDREXU_NO_SLOT);
+    WANT(vandrexu_slot_release(&one, 1) == VANDREXU_NOT_HELD);
+    WANT(vandrexu_slot_claim(&one, 1) == VANDREXU_DONE);
+    WANT(vandrexu_slot_claim(&one, 1) == VANDREXU_IN_CALL);
+    WANT(vandrexu_slot_release(&one, 1) == VANDREXU_IN_CALL);
+    WANT(vandrexu_slot_take_over(&one, 1, 2, 1) == VANDREXU_IN_CALL);
+    WANT(vandrexu_slot_ask_holder(&one, 1) == VANDREXU_IN_CALL);
+    WANT(vandrexu_slot_poll(&one, &reply) == VANDREXU_DONE && reply.kind == VANDREXU_SLOT_PENDING);
+    WANT(vandrexu_slot_claim(&two, 1) == VANDREXU_DONE);
+    reply = over(&disk, 2, &two, VANDREXU_SLOT_HELD);
+    WANT(reply.slot == 1);
+    over(&disk, 1, &one, VANDREXU_SLOT_TAKEN);
+    WANT(vandrexu_slot_release(&one, 1) == VANDREXU_NOT_HELD);
+    WANT(vandrexu_slot_claim(&two, 1) == VANDREXU_HELD);
+    /* who holds it, and who another one */
+    WANT(vandrexu_slot_ask_holder(&one, 1) == VANDREXU_DONE);
+    reply = over(&disk, 1, &one, VANDREXU_SLOT_OF_NAME);
+    WANT(reply.host == 2 && reply.serial == 1);
+    WANT(vandrexu_slot_ask_holder(&two, 0) == VANDREXU_DONE);
+    over(&disk, 2, &two, VANDREXU_SLOT_FREE);
+    /* a second slot beside it */
+    WANT(vandrexu_slot_claim(&two, 3) == VANDREXU_DONE);
+    reply = over(&disk, 2, &two, VANDREXU_SLOT_HELD);
+    WANT(reply.slot == 3);
+    WANT(vandrexu_slot_release(&two, 1) == VANDREXU_DONE);
+    over(&disk, 2, &two, VANDREXU_SLOT_RELEASED);
+    WANT(vandrexu_slot_release(&two, 1) == VANDREXU_NOT_HELD);
+    WANT(vandrexu_slot_claim(&one, 1) == VANDREXU_DONE);
+    reply = over(&disk, 1, &one, VANDREXU_SLOT_HELD);
+    WANT(reply.slot == 1);
+    WANT(vandrexu_slot_ask_holder(&two, 1) == VANDREXU_DONE);
+    reply = over(&disk, 2, &two, VANDREXU_SLOT_OF_NAME);
+    /* the first of its claims was of a slot that was taken */
+    WANT(reply.host == 1 && reply.serial == 2);
+    WANT(vandrexu_slot_release(&two, 3) == VANDREXU_DONE);
+    over(&disk, 2, &two, VANDREXU_SLOT_RELEASED);
+    vandrexu_slot_host_free(&one);
+    vandrexu_slot_host_free(&two);
+    vandrexu_disk_free(&disk);
+}
+
+/* Claims any slot, each one once it is served, and wants this of it. */
+static vandrexu_slot_reply any(vandrexu_disk *disk, uint16_t queue, vandrexu_slot_host *host, uint32_t kind)
+{
+    vandrexu_slot_reply reply;
+    WANT(vandrexu_slot_claim_any(host) == VANDREXU_DONE);
+    WANT(vandrexu_slot_claim_any(host) == VANDREXU_IN_CALL);
+    do {
+        uint32_t answer = vandrexu_disk_serve(disk, queue);
+        WANT(answer == VANDREXU_DONE || answer == VANDREXU_NO_ENTRY);
+        WANT(vandrexu_slot_poll(host, &reply) == VANDREXU_DONE);
+    } while (reply.kind == VANDREXU_SLOT_PENDING);
+    WANT(reply.kind == kind);
+    return reply;
+}
+
+/* Of any slots each host gets the first that nobody has, and none where all are somebody's. */
+static void claims_any(void)
+{
+    vandrexu_disk disk = VANDREXU_DISK_NONE;
+    vandrexu_slot_host one = VANDREXU_SLOT_HOST_NONE, two = VANDREXU_SLOT_HOST_NONE;
+    vandrexu_slot_reply reply;
+    two_hosts(&disk, &one, &two);
+    for (uint32_t slot = 0; slot < COUNT; slot += 2) {
+        reply = any(&disk, 1, &one, VANDREXU_SLOT_HELD);
+        WANT(reply.slot == slot);
+        reply = any(&disk, 2, &two, VANDREXU_SLOT_HELD);
+        WANT(reply.slot == slot + 1);
+    }
+    any(&disk, 1, &one, VANDREXU_SLOT_TAKEN);
+    WANT(vandrexu_slot_release(&two, 1) == VANDREXU_DONE);
+    over(&disk, 2, &two, VANDREXU_SLOT_RELEASED);
+    reply = any(&disk, 1, &one, VANDREXU_SLOT_HELD);
+    WANT(reply.slot == 1 && vandrexu_slot_claim(&one, 1) == VANDREXU_HELD);
+    vandrexu_slot_host_free(&two);
+    WANT(vandrexu_slot_ask_holder(&one, 3) == VANDREXU_DONE);
+    reply = over(&disk, 1, &one, VANDREXU_SLOT_OF_NAME);
+    WANT(vandrexu_slot_take_over(&one, 3, reply.host, reply.serial) == VANDREXU_DONE);
+    over(&disk, 1, &one, VANDREXU_SLOT_HELD);
+    WANT(vandrexu_slot_claim_any(&one) == VANDREXU_TOOK_OVER);
+    vandrexu_slot_host_free(&one);
+    vandrexu_disk_free(&disk);
+}
+
+/* A host takes the slots over of one that is gone, and claims nothing any more. */
+static void takeovers(void)
+{
+    vandrexu_disk disk = VANDREXU_DISK_NONE;
+    vandrexu_slot_host one = VANDREXU_SLOT_HOST_NONE, two = VANDREXU_SLOT_HOST_NONE;
+    vandrexu_slot_reply reply;
+    two_hosts(&disk, &one, &two);
+    WANT(vandrexu_slot_claim(&one, 0) == VANDREXU_DONE);
+    over(&disk, 1, &one, VANDREXU_SLOT_HELD);
+    WANT(vandrexu_slot_claim(&one, 2) == VANDREXU_DONE);
+    over(&disk, 1, &one, VANDREXU_SLOT_HELD);
+    WANT(vandrexu_slot_claim(&two, 3) == VANDREXU_DONE);
+    over(&disk, 2, &two, VANDREXU_SLOT_HELD);
+    vandrexu_slot_host_free(&one);
+    WANT(vandrexu_slot_ask_holder(&two, 0) == VANDREXU_DONE);
+    reply = over(&disk, 2, &two, VANDREXU_SLOT_OF_NAME);
+    WANT(reply.host == 1 && reply.serial == 1);
+    WANT(vandrexu_slot_take_over(&two, 0, 0, 1) == VANDREXU_BAD_NAME);
+    WANT(vandrexu_slot_take_over(&two, 0, 1, 0) == VANDREXU_BAD_NAME);
+    WANT(vandrexu_slot_take_over(&two, 0, 2, 1) == VANDREXU_BAD_NAME);
+    WANT(vandrexu_slot_take_over(&two, 3, 1, 1) == VANDREXU_HELD);
+    WANT(vandrexu_slot_take_over(&two, 0, reply.host, reply.serial) == VANDREXU_DONE);
+    reply = over(&disk, 2, &two, VANDREXU_SLOT_HELD);
+    WANT(reply.slot == 0);
+    WANT(vandrexu_slot_claim(&two, 1) == VANDREXU_TOOK_OVER);
+    WANT(vandrexu_slot_claim(&two, 0) == VANDREXU_HELD);
+    /* another name than the one it has */
+    WANT(vandrexu_slot_take_over(&two, 2, 1, 1) == VANDREXU_DONE);
+    over(&disk, 2, &two, VANDREXU_SLOT_TAKEN);
+    WANT(vandrexu_slot_take_over(&two, 2, 1, 2) == VANDREXU_DONE);
+    reply = over(&disk, 2, &two, VANDREXU_SLOT_HELD);
+    WANT(reply.slot == 2);
+    WANT(vandrexu_slot_ask_holder(&two, 2) == VANDREXU_DONE);
+    reply = over(&disk, 2, &two, VANDREXU_SLOT_OF_NAME);
+    WANT(reply.host == 2 && reply.serial == 4);
+    /* what was taken over is released, and what was claimed before */
+    for (uint32_t slot = 0; slot < COUNT; slot++)
+        if (slot != 1) {
+            WANT(vandrexu_slot_release(&two, slot) == VANDREXU_DONE);
+            over(&disk, 2, &two, VANDREXU_SLOT_RELEASED);
+            WANT(vandrexu_slot_ask_holder(&two, slot) == VANDREXU_DONE);
+            over(&disk, 2, &two, VANDREXU_SLOT_FREE);
+        }
+    vandrexu_slot_host_free(&two);
+    vandrexu_disk_free(&disk);
+}
+
+/* A slot whose block is no name, one that there is no block for, and the host of another kind beside. */
+static void foreign(void)
+{
+    vandrexu_disk disk = VANDREXU_DISK_NONE;
+    vandrexu_slot_host one = VANDREXU_SLOT_HOST_NONE;
+    vandrexu_host two = VANDREXU_HOST_NONE;
+    vandrexu_slot_reply reply;
+    vandrexu_reply written;
+    uint8_t data[512];
+    memset(data, 0xEE, sizeof data);
+    WANT(vandrexu_disk_new(&config, 2, &disk) == VANDREXU_DONE);
+    WANT(vandrexu_slot_host_new(&disk, 1, 1, FIRST, 100, &one) == VANDREXU_DONE);
+    WANT(vandrexu_host_new(&disk, 2, 2, &two) == VANDREXU_DONE);
+    WANT(vandrexu_host_write(&two, FIRST, data, sizeof data) == VANDREXU_DONE);
+    serve(&disk, 2);
+    WANT(vandrexu_host_poll(&two, &written) == VANDREXU_DONE && written.kind == VANDREXU_REPLY_WRITTEN);
+    WANT(vandrexu_slot_ask_holder(&one, 0) == VANDREXU_DONE);
+    over(&disk, 1, &one, VANDREXU_SLOT_FOREIGN);
+    WANT(vandrexu_slot_claim(&one, 0) == VANDREXU_DONE);
+    over(&disk, 1, &one, VANDREXU_SLOT_TAKEN);
+    /* LBA Out of Range */
+    WANT(vandrexu_slot_claim(&one, 99) == VANDREXU_DONE);
+    serve(&disk, 1);
+    do
+        WANT(vandrexu_slot_poll(&one, &reply) == VANDREXU_DONE || reply.kind == VANDREXU_SLOT_FAILED);
+    while (reply.kind == VANDREXU_SLOT_PENDING);
+    WANT(reply.kind == VANDREXU_SLOT_FAILED && reply.sct == 0 && reply.sc == 0x80);
+    WANT(vandrexu_slot_release(&one, 99) == VANDREXU_NOT_HELD);
+    WANT(vandrexu_slot_ask_holder(&one, 99) == VANDREXU_DONE);
+    serve(&disk, 1);
+    WANT(vandrexu_slot_poll(&one, &reply) == VANDREXU_CALL_FAILED);
+    WANT(reply.kind == VANDREXU_SLOT_FAILED && reply.sct == 0 && reply.sc == 0x80);
+    WANT(vandrexu_slot_poll(&one, &reply) == VANDREXU_NO_CALL);
+    vandrexu_slot_host_free(&one);
+    vandrexu_host_free(&two);
+    vandrexu_disk_free(&disk);
+}
+
+/* No handle is left behind, whatever it has. */
+static void many(void)
+{
+    for (int i = 0; i < 20000; i++) {
+        vandrexu_disk disk = VANDREXU_DISK_NONE;
+        vandrexu_slot_host host = VANDREXU_SLOT_HOST_NONE;
+        WANT(vandrexu_disk_new(&config, 1, &disk) == VANDREXU_DONE);
+        WANT(vandrexu_slot_host_new(&disk, 1, 1, FIRST, COUNT, &host) == VANDREXU_DONE);
+        if (i % 2 == 0)
+            WANT(vandrexu_slot_claim(&host, 0) == VANDREXU_DONE);
+        if (i % 4 == 0)
+            over(&disk, 1, &host, VANDREXU_SLOT_HELD);
+        if (i % 3 == 0)
+            vandrexu_disk_free(&disk);
+        vandrexu_slot_host_free(&host);
+        vandrexu_disk_free(&disk);
+    }
+}
+
+static atomic_int running, holders;
+
+/* What became of the host's call, which another thread serves. */
+static uint32_t told(vandrexu_slot_host *host)
+{
+    vandrexu_slot_reply reply;
+    for (;;) {
+        uint32_t answer = vandrexu_slot_poll(host, &reply);
+        WANT(answer == VANDREXU_DONE || answer == VANDREXU_CALL_BUSY);
+        if (reply.kind != VANDREXU_SLOT_PENDING)
+            return reply.kind;
+        sched_yield();
+    }
+}
+
+/* A thread has one host, which claims slot 0 so often; no other one has it meanwhile. */
+static void *locks(void *at)
+{
+    vandrexu_slot_host *host = at;
+    for (int had = 0; had < 100;) {
+        uint32_t answer;
+        while ((answer = vandrexu_slot_claim(host, 0)) == VANDREXU_CALL_BUSY)
+            ;
+        WANT(answer == VANDREXU_DONE);
+        if (told(host) != VANDREXU_SLOT_HELD)
+            continue;
+        had++;
+        WANT(atomic_fetch_add(&holders, 1) == 0);
+        atomic_fetch_sub(&holders, 1);
+        while ((answer = vandrexu_slot_release(host, 0)) == VANDREXU_CALL_BUSY)
+            ;
+        WANT(answer == VANDREXU_DONE && told(host) == VANDREXU_SLOT_RELEASED);
+    }
+    atomic_fetch_sub(&running, 1);
+    return NULL;
+}
+
+/* Two hosts and the disk on a thread each. */
+static void threads(void)
+{
+    vandrexu_disk disk = VANDREXU_DISK_NONE;
+    vandrexu_slot_host hosts[2] = {VANDREXU_SLOT_HOST_NONE, VANDREXU_SLOT_HOST_NONE};
+    pthread_t ids[2];
+    two_hosts(&disk, &hosts[0], &hosts[1]);
+    atomic_store(&running, 2);
+    for (int i = 0; i < 2; i++)
+        WANT(pthread_create(&ids[i], NULL, locks, &hosts[i]) == 0);
+    while (atomic_load(&running) > 0)
+        for (uint16_t queue = 1; queue <= 2; queue++) {
+            uint32_t answer = vandrexu_disk_serve(&disk, queue);
+            WANT(answer == VANDREXU_DONE || answer == VANDREXU_NO_ENTRY || answer == VANDREXU_BUSY);
+            if (answer != VANDREXU_DONE)
+                sched_yield();
+        }
+    for (int i = 0; i < 2; i++)
+        WANT(pthread_join(ids[i], NULL) == 0);
+    for (int i = 0; i < 2; i++)
+        vandrexu_slot_host_free(&hosts[i]);
+    vandrexu_disk_free(&disk);
+}
+
+int main(void)
+{
+    nothing();
+    made();
+    claims();
+    claims_any();
+    takeovers();
+    foreign();
+    many();
+    threads();
+    puts("slots: as they should be");
+    return 0;
+}
+#else
+#include "refusing.h"
+
+static int refusals;
+
+static int is_refusal(uint32_t answer)
+{
+    int is = answer == VANDREXU_NO_MEMORY || answer == VANDREXU_CALL_NO_MEMORY;
+    refusals += is;
+    return is;
+}
+
+/* Each call is asked again where memory was refused, which no call does twice. */
+#define TRY(call)                                                                                                      \
+    do {                                                                                                               \
+        if (is_refusal(call))                                                                                          \
+            WANT((call) == VANDREXU_DONE);                                                                             \
+    } while (0)
+
+static void poll(vandrexu_disk *disk, uint16_t queue, vandrexu_slot_host *host, uint32_t kind)
+{
+    vandrexu_slot_reply reply;
+    TRY(vandrexu_disk_serve(disk, queue));
+    do {
+        uint32_t answer = vandrexu_slot_poll(host, &reply);
+        if (is_refusal(answer))
+            WANT(reply.kind == VANDREXU_SLOT_PENDING);
+        else
+            WANT(answer == VANDREXU_DONE);
+    } while (reply.kind == VANDREXU_SLOT_PENDING);
+    WANT(reply.kind == kind);
+}
+
+static void run_refused(long at)
+{
+    vandrexu_disk disk = VANDREXU_DISK_NONE;
+    vandrexu_slot_host one = VANDREXU_SLOT_HOST_NONE, two = VANDREXU_SLOT_HOST_NONE;
+    refused_at = at;
+    allocations = blocks = 0;
+    TRY(vandrexu_disk_new(&config, 2, &disk));
+    TRY(vandrexu_slot_host_new(&disk, 1, 1, FIRST, COUNT, &one));
+    /* no pass was lost */
+    TRY(vandrexu_slot_host_new(&disk, 2, 2, FIRST, COUNT, &two));
+    TRY(vandrexu_slot_claim(&one, 0));
+    poll(&disk, 1, &one, VANDREXU_SLOT_HELD);
+    TRY(vandrexu_slot_claim(&one, 1));
+    poll(&disk, 1, &one, VANDREXU_SLOT_HELD);
+    /* a release that was refused left the host its slot */
+    TRY(vandrexu_slot_release(&one, 1));
+    poll(&disk, 1, &one, VANDREXU_SLOT_RELEASED);
+    TRY(vandrexu_slot_ask_holder(&two, 0));
+    poll(&disk, 2, &two, VANDREXU_SLOT_OF_NAME);
+    TRY(vandrexu_slot_take_over(&two, 0, 1, 1));
+    poll(&disk, 2, &two, VANDREXU_SLOT_HELD);
+    TRY(vandrexu_slot_release(&two, 0));
+    poll(&disk, 2, &two, VANDREXU_SLOT_RELEASED);
+    vandrexu_disk_free(&disk);
+    vandrexu_slot_host_free(&one);
+    vandrexu_slot_host_free(&two);
+    WANT(blocks == 0);
+}
+
+int main(void)
+{
+    long all, refused = 0;
+    run_refused(0);
+    WANT(refusals == 0);
+    all = allocations;
+    for (long at = 1; at <= all; at++) {
+        refusals = 0;
+        run_refused(at);
+        refused += refusals;
+    }
+    printf("allocations: %ld, refused and told: %ld\n", all, refused);
+    WANT(all > 10 && refused == all);
+    return 0;
+}
+#endif
