@@ -1,7 +1,7 @@
 -- How a drawing goes on with an entry.
 use Rattle.std.proofs.Common.{Bool, List, None, Option, Some, [], ap, arith, cond, false, is_some, length, nat_lt, refl}
-use Rattle.std.proofs.Common.{subst, suc, sym, true, ℕ, ◌+◌, ◌-◌, ◌∙◌, ◌∷◌, ◌≡◌, ◌≤◌}
-use Rattle.std.specs.Prelude.{min, unwrap_or}
+use Rattle.std.proofs.Common.{subst, suc, sym, true, ℕ, ◌+◌, ◌∙◌, ◌∷◌, ◌≡◌, ◌≤◌}
+use Rattle.std.specs.Prelude.{unwrap_or}
 use Rattle.std.proofs.lemmas.Bool.Decides.{nat_tests}
 use Rattle.nvme_model.specs.FirstBad.{earlier_or, first_bad_of}
 use Rattle.nvme_model.specs.History.{Past}

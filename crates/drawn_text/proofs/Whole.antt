@@ -1,16 +1,15 @@
 -- What is said of a file that is drawn, from what was drawn.
-use Rattle.std.proofs.Common.{Bool, List, None, Option, Some, [], ap, ap₂, arith, false, is_none, length, refl, subst}
-use Rattle.std.proofs.Common.{sym, true, ℕ, ◌∙◌, ◌∷◌, ◌≡◌, ◌<◌, ◌≤◌}
+use Rattle.std.proofs.Common.{Bool, List, None, Option, Some, ap, ap₂, arith, false, is_none, length, refl, subst}
+use Rattle.std.proofs.Common.{true, ℕ, ◌∙◌, ◌≡◌, ◌≤◌}
 use Rattle.std.specs.Prelude.{Err, IfSome, Ok, Result, unwrap_or}
-use Rattle.std.specs.Io.KnownBytes.{Appends, IsAtEnd}
+use Rattle.std.specs.Io.KnownBytes.{IsAtEnd}
 use Rattle.std.proofs.KnownBytes.{Keeps-refl}
-use Rattle.line_text.specs.Known.{AppendsFront}
 use Rattle.line_text.specs.Lines.{whole_lines}
 use Rattle.nvme_model.specs.FirstBad.{first_bad_of}
 use Rattle.nvme_model.specs.History.{Past}
 use Rattle.nvme_model.specs.declared.array.Range.{Range}
 use Rattle.nvme_model.specs.declared.config.ConfigNumbers.{ConfigNumbers}
-use Rattle.casdisk_script.specs.Files.{HasHistory, IsUnread, entry_added, file_of}
+use Rattle.casdisk_script.specs.Files.{HasHistory, entry_added, file_of}
 use Rattle.casdisk_script.specs.Followed.{StopsFirst}
 use Rattle.casdisk_script.specs.Running.{Makes, RunsScript}
 use Rattle.casdisk_script.specs.Script.{first_config, script_outcome}
@@ -19,7 +18,7 @@ use Rattle.casdisk_script.specs.declared.fault.RunFault.{RunFault}
 use Rattle.casdisk_script.specs.declared.fault.RunFault.TheVariants.{BadConfig, BadLine, Input, NoMemory, Output}
 use Rattle.casdisk_script.specs.declared.judging.FirstBad.{FirstBad}
 use Rattle.history_check.specs.Kept.{CheckerRun}
-use Rattle.picture_shapes.specs.Picture.{PictureState, picture_of}
+use Rattle.picture_shapes.specs.Picture.{PictureState}
 use Rattle.picture_shapes.specs.declared.picture.Subject.{Subject}
 use Rattle.picture_svg.specs.Page.{picture_svg}
 use Rattle.drawn_text.specs.Drawing.{DrawsText, HasArea, IsDrawn, HasAreaByThen, IsTooLong, IsUndrawn, WritesDrawn}

@@ -1,5 +1,5 @@
 -- What lies in a block, as much of it as a picture shows.
-use Rattle.std.specs.Prelude.{List, None, Option, Some, [], bytes_eq, true, ℕ, ◌%◌, ◌+◌, ◌∷◌}
+use Rattle.std.specs.Prelude.{List, None, Some, [], bytes_eq, true, ℕ, ◌%◌, ◌+◌, ◌∷◌}
 use Rattle.nvme_model.specs.Array.{zeros}
 use Rattle.nvme_model.specs.Slots.{name_of}
 use Rattle.lane_shapes.specs.declared.content.Content.{Content}

@@ -1,5 +1,5 @@
 -- The lanes of blocks and of slots.
-use Rattle.std.specs.Prelude.{Bool, List, None, Option, Some, [], false, if◌then◌else◌, is_some, ℕ, ◌&&◌, ◌++◌, ◌||◌}
+use Rattle.std.specs.Prelude.{Bool, List, None, Option, Some, [], false, if◌then◌else◌, is_some, ℕ, ◌&&◌, ◌||◌}
 use Rattle.std.specs.Prelude.{◌∷◌}
 use Rattle.nvme_model.specs.Array.{has_block}
 use Rattle.nvme_model.specs.declared.array.Range.{Range}

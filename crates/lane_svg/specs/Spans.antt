@@ -1,5 +1,5 @@
 -- What lies in blocks, and who holds slots and believes that it does.
-use Rattle.std.specs.Prelude.{List, None, Option, Some, [], codes, decimal, if◌then◌else◌, ℕ, ◌++◌, ◌+◌, ◌∷◌}
+use Rattle.std.specs.Prelude.{List, None, Option, Some, [], codes, decimal, if◌then◌else◌, ℕ, ◌+◌, ◌∷◌}
 use Rattle.std.specs.List.{concat}
 use Rattle.nvme_model.specs.Slots.{Name}
 use Rattle.lane_shapes.specs.Blocks.{differs, medium_span, seen_span}

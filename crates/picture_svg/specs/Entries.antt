@@ -1,6 +1,6 @@
 -- The bars of entries, the cells in them, and the completions that wait.
-use Rattle.std.specs.Prelude.{Bool, List, None, Option, Some, [], codes, decimal, false, if◌then◌else◌, true, ℕ, ◌&&◌}
-use Rattle.std.specs.Prelude.{◌++◌, ◌+◌, ◌-◌, ◌/◌, ◌==◌, ◌∷◌}
+use Rattle.std.specs.Prelude.{Bool, List, None, Option, Some, [], codes, decimal, if◌then◌else◌, ℕ, ◌&&◌}
+use Rattle.std.specs.Prelude.{◌++◌, ◌+◌, ◌-◌, ◌==◌, ◌∷◌}
 use Rattle.std.specs.List.{concat}
 use Rattle.nvme_model.specs.Codes.{StatusCode}
 use Rattle.nvme_model.specs.declared.operation.Found.{Found}

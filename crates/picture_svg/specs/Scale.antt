@@ -1,6 +1,6 @@
 -- Where columns, rows and lanes lie, in pixels.
-use Rattle.std.specs.Prelude.{List, None, Option, Some, [], if◌then◌else◌, length, min, nat_lt, slice_get, take, ℕ, ◌*◌}
-use Rattle.std.specs.Prelude.{◌+◌, ◌-◌, ◌/◌, ◌==◌, ◌∷◌, suc}
+use Rattle.std.specs.Prelude.{List, None, Option, Some, [], length, min, nat_lt, slice_get, take, ℕ}
+use Rattle.std.specs.Prelude.{◌+◌, ◌-◌, ◌==◌, ◌∷◌}
 use Rattle.std.specs.List.{count_by}
 use Rattle.lane_shapes.specs.Lanes.{LanesState}
 use Rattle.lane_svg.specs.Layout.{LayoutState, layout_of, rows_below}

@@ -1,11 +1,11 @@
 -- What was asked so far, and one thing more.
-use Rattle.std.proofs.Common.{◌≡◌, ℕ, suc, ◌+◌, ◌<◌, ◌≤◌, Bool, true, false, List, [], ◌∷◌, length, get_or, ◌⊎◌, inl}
+use Rattle.std.proofs.Common.{◌≡◌, ℕ, suc, ◌+◌, ◌<◌, ◌≤◌, Bool, true, false, List, [], ◌∷◌, length, ◌⊎◌, inl}
 use Rattle.std.proofs.Common.{inr}
 use Rattle.std.proofs.Common.{refl, sym, subst, arith, Result, Ok, Err}
 use Rattle.std.specs.Prelude.{Contains, remove}
-use Rattle.shrink_lines.specs.Asked.{AskedCandidate, AsksTo, WasFailing, WasPassing}
+use Rattle.shrink_lines.specs.Asked.{AskedCandidate, AsksTo, WasPassing}
 use Rattle.shrink_lines.specs.Scanning.{Ends}
-use Rattle.shrink_lines.specs.Shrinking.{AreNeeded, AreParts, StillFails, Stopped}
+use Rattle.shrink_lines.specs.Shrinking.{AreNeeded, StillFails, Stopped}
 use Rattle.shrink_lines.specs.Smaller.{HasSmallerPart}
 use Rattle.shrink_lines.specs.declared.question.Unanswered.{Unanswered}
 use Rattle.shrink_lines.specs.declared.question.Unanswered.TheVariants.{NoMemory}

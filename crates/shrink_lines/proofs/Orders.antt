@@ -1,11 +1,11 @@
 -- The order of words and of lines.
-use Rattle.std.proofs.Common.{◌≡◌, ℕ, suc, ◌+◌, ◌<◌, ◌≤◌, Bool, true, false, List, [], ◌∷◌, length, drop, get_or, map}
+use Rattle.std.proofs.Common.{◌≡◌, ℕ, ◌+◌, ◌<◌, ◌≤◌, Bool, true, false, List, [], ◌∷◌, length, drop, get_or, map}
 use Rattle.std.proofs.Common.{◌⊎◌, inl, inr, refl, sym, ap, ◌∙◌, subst, arith}
 use Rattle.std.specs.Prelude.{nat_lt, ◌&&◌, ◌||◌}
 use Rattle.std.specs.List.{slice_split}
 use Rattle.std.proofs.Math.Dec.{eqb}
 use Rattle.std.proofs.lemmas.Bool.{eqb-true, eq-eqb, ltb-true, lt-ltb}
-use Rattle.std.proofs.lemmas.List.{drop_more, drop_all, get_or-map, length-map}
+use Rattle.std.proofs.lemmas.List.{drop_more, drop_all}
 use Rattle.shrink_lines.specs.Smaller.{AreAtMost, IsAtMost, IsSmallerLine, in_order}
 
 -- what the first bytes say

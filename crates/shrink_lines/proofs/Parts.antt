@@ -1,8 +1,7 @@
 -- Lines of which some are left out, and some have words made smaller.
-use Rattle.std.proofs.Common.{◌≡◌, ℕ, zero, suc, ◌+◌, ◌<◌, ◌≤◌, List, [], ◌∷◌, ◌++◌, length, take, drop, ◌⊎◌, inl, inr}
-use Rattle.std.proofs.Common.{refl, sym, ap, ◌∙◌, subst, arith, add-one, get_or}
+use Rattle.std.proofs.Common.{ℕ, zero, suc, ◌≤◌, List, [], ◌∷◌, ◌++◌, length, inl, inr}
+use Rattle.std.proofs.Common.{arith}
 use Rattle.std.specs.Prelude.{remove}
-use Rattle.std.proofs.lemmas.List.{take_more, take_all}
 use Rattle.shrink_lines.specs.Smaller.{HasSmallerPart, IsSmallerLine}
 use Rattle.shrink_lines.proofs.Orders.{line_refl, line_trans}
 

@@ -4,7 +4,7 @@ use Rattle.std.specs.Io.KnownBytes.{Appends}
 use Rattle.line_text.specs.Lines.{GivesLine}
 use Rattle.line_text.specs.declared.lines.NextLine.{NextLine}
 use Rattle.shrink_lines.specs.declared.question.Unanswered.{Unanswered}
-use Rattle.shrink_lines.specs.declared.question.Unanswered.TheVariants.{BadAnswer, Ended, Input, NoMemory, Output}
+use Rattle.shrink_lines.specs.declared.question.Unanswered.TheVariants.{BadAnswer, Ended, NoMemory, Output}
 use Rattle.shrunk_text.specs.Texts.{answer_word, try_text}
 use Rattle.shrunk_text.specs.declared.conversation.Conversation.{Conversation}
 

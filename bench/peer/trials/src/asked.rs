@@ -1,8 +1,7 @@
-//! Steps as they lie in memory, for the peer and for a library of functions with C names.
+//! Steps as they lie in memory.
 
 use peer::{Config, Step, Submission};
 
-#[repr(C)]
 #[derive(Clone, Copy, Debug)]
 pub struct Numbers {
     pub blocks: u32,
@@ -19,7 +18,6 @@ pub struct Numbers {
 
 /// One step: kind 0 to 5 is Publish, Fetch, Grant, Block, Post, Reap; `number` is its queue or ticket. A Publish has
 /// `count` entries, from `at` on: 64 bytes each, and then `first` or `second` bytes of data.
-#[repr(C)]
 #[derive(Clone, Copy, Debug)]
 pub struct Asked {
     pub kind: u32,

@@ -54,6 +54,41 @@ pub fn settled(count: usize) -> String {
     text
 }
 
+/// The steps of `settled`.
+pub fn settled_steps(count: usize) -> List {
+    let mut list = List::new(Numbers { pairs: 2, sq_size: 4, cq_size: 4, cqs: 2, jobs: 8, ..numbers(8, 1) });
+    for turn in 0..count {
+        let ticket = turn as u64 + 1;
+        let entry = list.entry(&command(WRITE, 0, (turn % 65_536) as u16, 3, 0), &[0xA1; 512]);
+        list.publish(1, 1, entry, 512, 0);
+        list.fetch(1);
+        list.grant(ticket);
+        list.block(ticket);
+        list.post(ticket);
+        list.reap(1);
+    }
+    list
+}
+
+/// The lines of a script for a queue that there isn't, and so for tickets that there aren't: each step is refused.
+pub fn refused(script: &[u8]) -> Vec<u8> {
+    let mut out = Vec::new();
+    for line in script.split_inclusive(|byte| *byte == b'\n') {
+        let name = line.split(|byte| *byte == b' ').next().unwrap_or(line);
+        match name {
+            b"publish" | b"fetch" | b"reap" => {
+                let rest = &line[name.len() + 1..];
+                let digits = rest.iter().take_while(|byte| byte.is_ascii_digit()).count();
+                out.extend_from_slice(name);
+                out.extend_from_slice(b" 65535");
+                out.extend_from_slice(&rest[digits..]);
+            }
+            _ => out.extend_from_slice(line),
+        }
+    }
+    out
+}
+
 /// Reads of so many blocks, one ticket after the other.
 pub fn reads(numbers: Numbers, blocks: u16, count: usize) -> List {
     let mut list = List::new(numbers);

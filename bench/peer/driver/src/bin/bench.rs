@@ -1,8 +1,9 @@
 //! Times the product and the peer by calls, interleaved, and prints medians and ratios: bench [REPEATS] [WORD..]
 //! runs the tables whose names contain one of the words.
 
-use driver::both::{by_hand, product};
+use driver::{by_hand, product};
 use trials::lists::*;
+use std::cell::RefCell;
 use std::hint::black_box;
 use std::time::Instant;
 
@@ -43,9 +44,8 @@ fn compare(repeats: usize, ours: impl Fn() -> u64, theirs: impl Fn() -> u64) -> 
 fn row(repeats: usize, name: &str, list: &List) {
     let (n, a, b) = (&list.numbers, &list.asked[..], &list.bytes[..]);
     let steps = a.len() as f64;
-    let whole = compare(repeats, || product::run(n, a, b, false, &mut []), || by_hand::run(n, a, b, false, &mut []));
-    let empty = compare(repeats, || product::run(n, &[], b, false, &mut []), || by_hand::run(n, &[], b, false, &mut []));
-    let built = compare(repeats, || product::build(a, b), || by_hand::build(a, b));
+    let whole = compare(repeats, || product::run(n, a, b), || by_hand::run(n, a, b));
+    let empty = compare(repeats, || product::run(n, &[], b), || by_hand::run(n, &[], b));
     let (mut all, mut freed) = (Vec::new(), Vec::new());
     for _ in 0..repeats {
         let (one, two) = by_hand::run_timed(n, a, b);
@@ -53,8 +53,8 @@ fn row(repeats: usize, name: &str, list: &List) {
         freed.push(two as f64);
     }
     let freed = median(&mut freed) / median(&mut all);
-    let net = |all: f64, empty: f64, built: f64| (all - empty - built) / steps;
-    let (mine, other) = (net(whole.ours, empty.ours, built.ours), net(whole.theirs, empty.theirs, built.theirs));
+    let net = |all: f64, empty: f64| (all - empty) / steps;
+    let (mine, other) = (net(whole.ours, empty.ours), net(whole.theirs, empty.theirs));
     println!(
         "| {name} | {steps} | {:.1} | {:.1} | {:.2} | {:.2} | {mine:.1} | {other:.1} | {:.2} | {:.1} M | {:.1} M | {:.0} % |",
         whole.ours / steps,
@@ -77,7 +77,7 @@ fn head(name: &str) {
         ""
     };
     println!("\n{name}{beside}\n");
-    println!("| workload | steps | product ns/step | peer ns/step | ratio | ratio of least | product less building | peer less building | ratio | product steps/s | peer steps/s | peer: freeing, of the steps |");
+    println!("| workload | steps | product ns/step | peer ns/step | ratio | ratio of least | product less an empty run | peer less an empty run | ratio | product steps/s | peer steps/s | peer: freeing, of the steps |");
     println!("|---|---|---|---|---|---|---|---|---|---|---|---|");
 }
 
@@ -151,9 +151,9 @@ fn main() {
             let of = |beside: u16| {
                 let (list, base) = (make(beside, turns), make(beside, 16));
                 let (n, a, b) = (&list.numbers, &list.asked[..], &list.bytes[..]);
-                let all = compare(repeats, || product::run(n, a, b, false, &mut []), || by_hand::run(n, a, b, false, &mut []));
+                let all = compare(repeats, || product::run(n, a, b), || by_hand::run(n, a, b));
                 let (a, b) = (&base.asked[..], &base.bytes[..]);
-                let less = compare(repeats, || product::run(n, a, b, false, &mut []), || by_hand::run(n, a, b, false, &mut []));
+                let less = compare(repeats, || product::run(n, a, b), || by_hand::run(n, a, b));
                 let turns = if units > 1.0 { turns as f64 / 16.0 * units } else { turns as f64 };
                 ((all.ours - less.ours) / turns, (all.theirs - less.theirs) / turns)
             };
@@ -186,38 +186,40 @@ fn main() {
     }
     if wants("texts") {
         println!("\nTexts in memory\n\n| text | bytes | product ns/line | peer ns/line | ratio |\n|---|---|---|---|---|");
-        let mut plain = b"config 8 1 1 0 0 2 4 4 8\n".to_vec();
-        for turn in 0..5_000 {
-            plain.extend_from_slice(format!("publish 1 write 0 {} 3 0 A1\nfetch 1\nsettle\nreap 1\n", turn % 65_536).as_bytes());
-        }
-        for (name, script) in [
-            ("scripts: Writes of one byte's blocks, with settle", plain),
-            ("scripts: Writes of 1 block, all bytes spelled", writes(numbers(1024, 0), 1, 2_000).script()),
-            ("scripts: fused pairs", pairs(numbers(1024, 0), 2_000).script()),
-            ("scripts: Reads of 256 blocks", reads(numbers(1024, 255), 256, 40).script()),
-            ("scripts: Writes of 256 blocks", writes(numbers(1024, 255), 256, 40).script()),
-            ("scripts: 16 queues, mixed", mixed(7, 20_000).script()),
+        for (name, list, script) in [
+            ("scripts: Writes of one byte's blocks, with settle", settled_steps(5_000), Some(settled(5_000).into())),
+            ("scripts: Writes of 1 block, all bytes spelled", writes(numbers(1024, 0), 1, 2_000), None),
+            ("scripts: fused pairs", pairs(numbers(1024, 0), 2_000), None),
+            ("scripts: Reads of 256 blocks", reads(numbers(1024, 255), 256, 40), None),
+            ("scripts: Writes of 256 blocks", writes(numbers(1024, 255), 256, 40), None),
+            ("scripts: 16 queues, mixed", mixed(7, 20_000), None),
         ] {
-            let lines = script.iter().filter(|byte| **byte == b'\n').count() as f64;
+            let script: Vec<u8> = script.unwrap_or_else(|| list.script());
+            let (n, lines_of) = (&list.numbers, |text: &[u8]| text.iter().filter(|byte| **byte == b'\n').count() as f64);
             let mut output = Vec::new();
             by_hand::script(&script, &mut output);
+            let lines = lines_of(&script);
             // neither text is copied out
-            let row = compare(repeats, || product::script(&script, &mut []).0, || by_hand::script(&script, &mut Vec::new()));
+            let row = compare(repeats, || product::script(&script), || by_hand::script(&script, &mut Vec::new()));
             println!("| {name} | {} | {:.0} | {:.0} | {:.2} |", script.len(), row.ours / lines, row.theirs / lines, row.ours / row.theirs);
-            let lines = output.iter().filter(|byte| **byte == b'\n').count() as f64;
-            let row = compare(repeats, || product::parse(&output), || by_hand::parse(&output));
+            let lines = lines_of(&output);
+            let row = compare(repeats, || product::parse(n, &output), || by_hand::parse(&output));
             println!("| its history, read | {} | {:.0} | {:.0} | {:.2} |", output.len(), row.ours / lines, row.theirs / lines, row.ours / row.theirs);
-            let read = row;
-            let row = compare(repeats, || product::print(&output, 4), || by_hand::print(&output, 4));
-            let (ours, theirs) = ((row.ours - read.ours) / 4.0, (row.theirs - read.theirs) / 4.0);
-            println!("| its history, written | {} | {:.0} | {:.0} | {:.2} |", output.len(), ours / lines, theirs / lines, ours / theirs);
-            let lines = script.iter().filter(|byte| **byte == b'\n').count() as f64;
+            let (ours, theirs) = (RefCell::new((product::controller_of(n, &list.asked, &list.bytes), vec![0; 1 << 20])), by_hand::history_of(&output));
+            let write = || {
+                let (controller, room) = &mut *ours.borrow_mut();
+                product::print(controller, room, 4)
+            };
+            let row = compare(repeats, write, || by_hand::print(&theirs, 4));
+            println!("| its history, written | {} | {:.0} | {:.0} | {:.2} |", output.len(), row.ours / 4.0 / lines, row.theirs / 4.0 / lines, row.ours / row.theirs);
+            let script = refused(&script);
+            let lines = lines_of(&script);
             let row = compare(repeats, || product::read_script(&script), || by_hand::read_script(&script));
-            println!("| the script, read | {} | {:.0} | {:.0} | {:.2} |", script.len(), row.ours / lines, row.theirs / lines, row.ours / row.theirs);
+            println!("| the script, read and refused | {} | {:.0} | {:.0} | {:.2} |", script.len(), row.ours / lines, row.theirs / lines, row.ours / row.theirs);
         }
     }
     if wants("check") {
-        println!("\nChecks of entries in memory\n\n| history | entries | product us | peer us | ratio | product ns/entry | peer ns/entry | product: times the last | peer: times the last |\n|---|---|---|---|---|---|---|---|---|");
+        println!("\nLines of a history read and checked, in memory\n\n| history | entries | product us | peer us | ratio | product ns/entry | peer ns/entry | product: times the last | peer: times the last |\n|---|---|---|---|---|---|---|---|---|");
         type Make = fn(usize) -> List;
         let makes: [(&str, Make); 6] = [
             ("Writes of 1 block", |steps| writes(numbers(1024, 0), 1, steps / 6)),
@@ -229,11 +231,7 @@ fn main() {
         ];
         for (name, make) in makes {
             let mut last = (0.0, 0.0);
-            for steps in [100, 1_000, 2_000, 4_000, 10_000, 100_000] {
-                // the longest take the product many seconds, so only two kinds of them are timed
-                if steps == 10_000 && !name.starts_with("Writes of 1 ") && !name.contains("256") {
-                    continue;
-                }
+            for steps in [100, 1_000, 10_000, 100_000] {
                 let list = make(steps);
                 let mut text = Vec::new();
                 by_hand::script(&list.script(), &mut text);
@@ -244,23 +242,9 @@ fn main() {
                     .concat();
                 let entries = text.iter().filter(|byte| **byte == b'\n').count();
                 let n = &list.numbers;
-                // the reading of the text is taken away, and the peer is timed over as many checks as are worth timing
-                let many = (2_000_000 / steps).max(2) as u64;
-                let hand = |times| {
-                    let mut all: Vec<f64> = (0..repeats).map(|_| time(|| assert_eq!(by_hand::check_entries(n, &text, times), times))).collect();
-                    median(&mut all)
-                };
-                let ours_of = |times: u64, repeats: usize| {
-                    let mut all: Vec<f64> = (0..repeats).map(|_| time(|| assert_eq!(product::check_entries(n, &text, times), times))).collect();
-                    median(&mut all)
-                };
-                let theirs = (hand(many) - hand(0)) / many as f64;
-                if steps > 10_000 {
-                    println!("| {name} | {entries} | | {:.1} | | | {:.1} | | {:.1} |", theirs / 1e3, theirs / entries as f64, theirs / last.1);
-                    continue;
-                }
-                let times = if steps <= 1_000 { 20 } else { 1 };
-                let ours = (ours_of(times, repeats.min(if steps > 4_000 { 5 } else { 11 })) - ours_of(0, repeats)) / times as f64;
+                let times = (100_000 / steps) as u64;
+                let row = compare(repeats, || product::check_lines(n, &text, times), || by_hand::check_lines(n, &text, times));
+                let (ours, theirs) = (row.ours / times as f64, row.theirs / times as f64);
                 println!(
                     "| {name} | {entries} | {:.1} | {:.1} | {:.0} | {:.0} | {:.1} | {:.1} | {:.1} |",
                     ours / 1e3,

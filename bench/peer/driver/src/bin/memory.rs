@@ -1,6 +1,6 @@
 //! The memory of the product and of the peer: the peak of a run less that of an empty one, for each step.
 
-use driver::both::{by_hand, product};
+use driver::{by_hand, product};
 use trials::lists::*;
 use driver::memory::counted;
 
@@ -30,33 +30,28 @@ fn main() {
     ] {
         let (n, a, b) = (&list.numbers, &list.asked[..], &list.bytes[..]);
         let steps = a.len() as f64;
-        let (ours, our_calls, our_largest) = counted(|| product::run(n, a, b, false, &mut []));
-        let (theirs, their_calls, their_largest) = counted(|| by_hand::run(n, a, b, false, &mut []));
-        let (our_base, _, _) = counted(|| product::run(n, &[], b, false, &mut []));
-        let (their_base, _, _) = counted(|| by_hand::run(n, &[], b, false, &mut []));
-        let (our_built, _, _) = counted(|| product::build(a, b));
-        let (_, built, _) = counted(|| by_hand::build(a, b));
-        let _ = our_built;
+        let (ours, our_calls, our_largest) = counted(|| product::run(n, a, b));
+        let (theirs, their_calls, their_largest) = counted(|| by_hand::run(n, a, b));
+        let (our_base, _, _) = counted(|| product::run(n, &[], b));
+        let (their_base, _, _) = counted(|| by_hand::run(n, &[], b));
         println!(
             "| {name} | {steps} | {:.1} | {:.1} | {:.2} | {:.2} | {:.2} | {our_largest} | {their_largest} |",
             (ours - our_base) as f64 / steps,
             (theirs - their_base) as f64 / steps,
             (ours - our_base) as f64 / (theirs - their_base) as f64,
-            (our_calls - built) as f64 / steps,
-            (their_calls - built) as f64 / steps,
+            our_calls as f64 / steps,
+            their_calls as f64 / steps,
         );
         println!("| .. an empty controller | | {our_base} | {their_base} | {:.2} | | | | |", our_base as f64 / their_base as f64);
     }
     println!("\n| text | lines | product bytes/line | peer bytes/line | ratio | product allocations/line | peer allocations/line |\n|---|---|---|---|---|---|---|");
-    for (name, script) in [
-        ("script: Writes of 1 block", writes(numbers(1024, 0), 1, 2_000).script()),
-        ("script: mixed", mixed(7, 20_000).script()),
-    ] {
+    for (name, list) in [("script: Writes of 1 block", writes(numbers(1024, 0), 1, 2_000)), ("script: mixed", mixed(7, 20_000))] {
+        let script = list.script();
         let mut output = Vec::new();
         by_hand::script(&script, &mut output);
         let history: Vec<u8> = output.split_inclusive(|byte| *byte == b'\n').filter(|line| !line.starts_with(b"refused")).collect::<Vec<_>>().concat();
         let lines = history.iter().filter(|byte| **byte == b'\n').count() as f64;
-        let (ours, our_calls, _) = counted(|| product::parse(&history));
+        let (ours, our_calls, _) = counted(|| product::parse(&list.numbers, &history));
         let (theirs, their_calls, _) = counted(|| by_hand::parse(&history));
         println!("| {name}, its history read | {lines} | {:.1} | {:.1} | {:.2} | {:.2} | {:.2} |", ours as f64 / lines, theirs as f64 / lines, ours as f64 / theirs as f64, our_calls as f64 / lines, their_calls as f64 / lines);
     }

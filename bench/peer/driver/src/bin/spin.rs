@@ -2,8 +2,7 @@
 //! stand what is done of its texts: -script runs its script, -read reads the script's lines, -parse those of its history,
 //! -print writes them, five times, and -check checks their entries. BLOCKS:SLOTS:TICKETS:TURNS is `grown` of these numbers.
 
-use driver::both::{by_hand, product};
-use trials::asked::Numbers;
+use driver::{by_hand, product};
 use trials::lists::*;
 use std::time::Instant;
 
@@ -24,8 +23,7 @@ fn main() {
         "flight" => in_flight(256, 20_000),
         "short" => mixed(7, 4_000),
         "lines" => writes(numbers(1024, 0), 1, 333),
-        // (its script is another one, of this configuration)
-        "settled" => writes(Numbers { pairs: 2, sq_size: 4, cq_size: 4, cqs: 2, ..numbers(8, 1) }, 1, 1),
+        "settled" => settled_steps(2_500),
         _ => {
             let sizes: Vec<u32> = name.split(':').map(|word| word.parse().expect("a workload, or four numbers")).collect();
             let &[blocks, slots, tickets, turns] = &sizes[..] else { panic!("no workload {name}") };
@@ -33,40 +31,46 @@ fn main() {
         }
     };
     let (n, a, b) = (&list.numbers, &list.asked[..], &list.bytes[..]);
-    let (mut script, mut output) = (Vec::new(), Vec::new());
-    if name.contains('-') {
+    let (mut script, mut output, mut room) = (Vec::new(), Vec::new(), vec![0; 1 << 20]);
+    let does = name.split('-').nth(1);
+    if does.is_some() {
         script = if name.starts_with("settled") { settled(2_500).into() } else { list.script() };
     }
     // (where the script itself is run, it isn't run before, or a profiler counts it twice)
-    if name.contains('-') && !name.ends_with("-script") {
+    if matches!(does, Some("parse" | "print" | "check")) {
         by_hand::script(&script, &mut output);
+    }
+    if does == Some("read") {
+        script = refused(&script);
     }
     let history: Vec<u8> = output
         .split_inclusive(|byte| *byte == b'\n')
         .filter(|line| !line.starts_with(b"refused") && !line.starts_with(b"config"))
         .collect::<Vec<_>>()
         .concat();
+    let written = (does == Some("print")).then(|| (product::controller_of(n, a, b), by_hand::history_of(&history)));
+    let (mut ours, theirs) = written.unzip();
     let start = Instant::now();
     for _ in 0..times {
-        std::hint::black_box(match (side.as_str(), name.split('-').nth(1)) {
-            ("product", None) => product::run(n, a, b, false, &mut []),
-            ("product", Some("script")) => product::script(&script, &mut []).0,
+        std::hint::black_box(match (side.as_str(), does) {
+            ("product", None) => product::run(n, a, b),
+            ("product", Some("script")) => product::script(&script),
             ("product", Some("read")) => product::read_script(&script),
-            ("product", Some("parse")) => product::parse(&history),
-            ("product", Some("print")) => product::print(&history, 5),
-            ("product", Some("check")) => product::check_entries(n, &history, 1),
-            ("peer", None) => by_hand::run(n, a, b, false, &mut []),
+            ("product", Some("parse")) => product::parse(n, &history),
+            ("product", Some("print")) => product::print(ours.as_mut().unwrap(), &mut room, 5),
+            ("product", Some("check")) => product::check_lines(n, &history, 1),
+            ("peer", None) => by_hand::run(n, a, b),
             ("peer", Some("script")) => by_hand::script(&script, &mut Vec::new()),
             ("peer", Some("read")) => by_hand::read_script(&script),
             ("peer", Some("parse")) => by_hand::parse(&history),
-            ("peer", Some("print")) => by_hand::print(&history, 5),
-            ("peer", Some("check")) => by_hand::check_entries(n, &history, 1),
+            ("peer", Some("print")) => by_hand::print(theirs.as_ref().unwrap(), 5),
+            ("peer", Some("check")) => by_hand::check_lines(n, &history, 1),
             _ => panic!("product or peer, and script, read, parse, print or check"),
         });
     }
     let all = start.elapsed().as_nanos() as f64 / times as f64;
     let lines = |text: &[u8]| text.iter().filter(|byte| **byte == b'\n').count();
-    let (what, count) = match name.split('-').nth(1) {
+    let (what, count) = match does {
         None => ("step", a.len()),
         Some("script" | "read") => ("line", lines(&script)),
         Some(_) => ("line", lines(&history)),

@@ -1,5 +1,5 @@
 use Rattle.std.proofs.Common.{Err, List, None, Ok, Option, Some, [], ap, false, rules, subst, true, ℕ, ◌∙◌}
-use Rattle.std.proofs.Common.{◌∷◌, ◌≡◌}
+use Rattle.std.proofs.Common.{◌≡◌}
 use Rattle.nvme_model.specs.declared.config.ConfigNumbers.{ConfigNumbers}
 use Rattle.casdisk_script.specs.Fault.{fault_in_memory}
 use Rattle.casdisk_script.specs.Files.{entry_added}
@@ -8,7 +8,6 @@ use Rattle.casdisk_script.proofs.Answering.{unread}
 use Rattle.casdisk_script.proofs.Faults.{same_in_memory}
 use Rattle.casdisk_script.proofs.Reaching.{makes_after, runs_after}
 use Rattle.drawn_text.specs.Drawn.{HasDrawn, has_no_slot, is_within, options_list}
-use Rattle.drawn_text.specs.declared.drawer.DrawOptions.{DrawOptions}
 use Rattle.drawn_text.proofs.Whole.{first_unread, unread_behind, whole}
 use Rattle.drawn_text.proofs.reading.read_drawing.Goals as goal
 

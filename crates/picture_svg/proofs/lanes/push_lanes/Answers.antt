@@ -2,7 +2,6 @@ use Rattle.std.proofs.Common.{◌+◌, ◌++◌, ap, append_assoc, drop, false, 
 use Rattle.std.proofs.lemmas.List.{drop_more}
 use Rattle.picture_shapes.specs.declared.rows.LaneRow.{LaneRow}
 use Rattle.picture_svg.specs.Lanes.{lanes_from, row_svg}
-use Rattle.picture_svg.specs.Scale.{top_at}
 use Rattle.picture_svg.proofs.lanes.push_lanes.Goals as goal
 
 pub loop-i-preserved : goal.loop-i-preserved

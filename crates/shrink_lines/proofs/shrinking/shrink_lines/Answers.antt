@@ -1,4 +1,4 @@
-use Rattle.std.proofs.Common.{inl, inr, refl}
+use Rattle.std.proofs.Common.{inr}
 use Rattle.std.proofs.lemmas.Result.{err_from_is_err_and}
 use Rattle.shrink_lines.proofs.Asking.{begins}
 use Rattle.shrink_lines.proofs.shrinking.shrink_lines.Goals as goal
