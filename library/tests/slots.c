@@ -408,7 +408,7 @@ static void run_refused(long at)
     TRY(vandrexu_slot_host_new(&disk, 1, 1, FIRST, COUNT, &one));
     /* no pass was lost */
     TRY(vandrexu_slot_host_new(&disk, 2, 2, FIRST, COUNT, &two));
-    TRY(vandrexu_slot_claim(&one, 0));
+    TRY(vandrexu_slot_claim_any(&one));
     poll(&disk, 1, &one, VANDREXU_SLOT_HELD);
     TRY(vandrexu_slot_claim(&one, 1));
     poll(&disk, 1, &one, VANDREXU_SLOT_HELD);
