@@ -2,6 +2,7 @@
 
 ghost use Rattle.std.specs.Arc.{arc_value};
 ghost use Rattle.std.specs.Prelude.{◌+◌, ◌≡◌, ◌≤◌, IfErr, IfOk, OnErr, OnOk};
+ghost use Rattle.driver_cas.specs.Drivers.{port_of};
 ghost use Rattle.nvme_model.specs.Config.{completion_queue as queue_for};
 ghost use Rattle.own_port.specs.OwnPorts.{engine_of, pass_of, queue_of};
 ghost use Rattle.work_queue.specs.Engines.{IsFreshPass};
@@ -108,7 +109,7 @@ pub fn give_driver(
 
 /// Takes a new driver apart, and puts its pass back into its disk.
 pub fn take_back(disk: &mut Disk, driver: Driver<OwnPort>)
-    requires pass { IsFreshPass (disk_engine disk.old) (disk_config disk.old) (pass_of driver.port) }
+    requires pass { IsFreshPass (disk_engine disk.old) (disk_config disk.old) (pass_of (port_of driver)) }
     requires room { HasRoom disk.old }
     ensures same { HasGiven disk.old disk.new }
     ensures one { passes_left disk.new ≡ passes_left disk.old + 1 }

@@ -1,11 +1,11 @@
 -- How a word of data is read, step by step.
-use Rattle.std.proofs.Common.{◌≡◌, ℕ, ◌+◌, ◌%◌, ◌<◌, ◌≤◌, Bool, true, false, cond, List, [], ◌∷◌, ◌++◌, map, length}
+use Rattle.std.proofs.Common.{◌≡◌, ℕ, ◌%◌, Bool, true, false, cond, List, [], ◌∷◌, ◌++◌, length}
 use Rattle.std.proofs.Common.{take, drop, get_or, None, Some, refl, sym, ap, ◌∙◌, arith, append-nil}
 use Rattle.std.specs.Prelude.{Option, replicate}
 use Rattle.std.specs.List.{slice_split}
 use Rattle.std.specs.Str.{bytes_eq}
 use Rattle.std.proofs.Math.Dec.{eqb}
-use Rattle.std.proofs.lemmas.List.{drop_more, get_or-map, length-map, drop_all, append_assoc}
+use Rattle.std.proofs.lemmas.List.{append_assoc}
 use Rattle.line_text.specs.Digits.{bytes_in}
 use Rattle.line_text.specs.Data.{all_same, spelled_block, then_block, bytes_of_blocks_in, unless_whole, data_in}
 use Rattle.line_text.proofs.BlockLaws.{eqb_same}
@@ -51,66 +51,35 @@ one_is (x ∷ xs) d h = refl
 
 -- ---- the loop over the parts
 
--- the first of the parts
-blocks_step : (k : ℕ) (texts : List (List ℕ)) (text : List ℕ)
-    → bytes_of_blocks_in k (text ∷ texts) ≡ then_block (spelled_block k (bytes_in text)) (bytes_of_blocks_in k texts)
-unfolding bytes_of_blocks_in
-blocks_step k texts text = refl
-
--- no parts are left
-blocks_end : (k : ℕ) → bytes_of_blocks_in k [] ≡ Some []
-unfolding bytes_of_blocks_in
-blocks_end k = refl
-
--- the part at place i
-parts_step : {X : Type 0} (f : X → List ℕ) (k : ℕ) (xs : List X) (i : ℕ) (d : X) (out : List ℕ) (all : Option (List ℕ))
-    → i < length xs
-    → then_block (Some out) (bytes_of_blocks_in k (drop i (map f xs))) ≡ all
-    → then_block (Some out) (then_block (spelled_block k (bytes_in (f (get_or xs i d))))
-    (bytes_of_blocks_in k (drop (i + 1) (map f xs)))) ≡ all
-parts_step f k xs i d out all low h =
-    let here : drop i (map f xs) ≡ f (get_or xs i d) ∷ drop (i + 1) (map f xs) =
-    drop_more (map f xs) i (f d) (omega (arith, length-map xs f))
-    ∙ ap (λ t. t ∷ drop (i + 1) (map f xs)) (get_or-map f xs i d (f d) low) in
-    ap (then_block (Some out))
-    (sym (ap (bytes_of_blocks_in k) here ∙ blocks_step k (drop (i + 1) (map f xs)) (f (get_or xs i d)))) ∙ h
-
--- a part that is no block ends it all
-pub part_bad : {X : Type 0} (f : X → List ℕ) (k : ℕ) (xs : List X) (i : ℕ) (d : X) (out : List ℕ)
-    (all : Option (List ℕ)) → i < length xs
-    → then_block (Some out) (bytes_of_blocks_in k (drop i (map f xs))) ≡ all
-    → spelled_block k (bytes_in (f (get_or xs i d))) ≡ None
-    → None ≡ all
-part_bad f k xs i d out all low h none =
-    ap (λ o. then_block (Some out) (then_block o (bytes_of_blocks_in k (drop (i + 1) (map f xs))))) (sym none)
-    ∙ parts_step f k xs i d out all low h
-
 -- a block may be added before or after
 regroup : (out block : List ℕ) (others : Option (List ℕ))
     → then_block (Some (out ++ block)) others ≡ then_block (Some out) (then_block (Some block) others)
 regroup out block None = refl
 regroup out block (Some bytes) = ap Some (append_assoc out block bytes)
 
+-- a part that is no block ends it all
+pub part_bad : (k : ℕ) (text : List ℕ) (texts : List (List ℕ)) (out : List ℕ) (all : Option (List ℕ))
+    → then_block (Some out) (bytes_of_blocks_in k (text ∷ texts)) ≡ all → spelled_block k (bytes_in text) ≡ None
+    → None ≡ all
+unfolding bytes_of_blocks_in
+part_bad k text texts out all h none =
+    ap (λ o. then_block (Some out) (then_block o (bytes_of_blocks_in k texts))) (sym none) ∙ h
+
 -- a part that is a block is added
-pub part_good : {X : Type 0} (f : X → List ℕ) (k : ℕ) (xs : List X) (i : ℕ) (d : X) (out new block : List ℕ)
-    (all : Option (List ℕ)) → i < length xs
-    → then_block (Some out) (bytes_of_blocks_in k (drop i (map f xs))) ≡ all
-    → spelled_block k (bytes_in (f (get_or xs i d))) ≡ Some block → new ≡ out ++ block
-    → then_block (Some new) (bytes_of_blocks_in k (drop (i + 1) (map f xs))) ≡ all
-part_good f k xs i d out new block all low h some e =
-    ap (λ l. then_block (Some l) (bytes_of_blocks_in k (drop (i + 1) (map f xs)))) e
-    ∙ regroup out block (bytes_of_blocks_in k (drop (i + 1) (map f xs)))
-    ∙ ap (λ o. then_block (Some out) (then_block o (bytes_of_blocks_in k (drop (i + 1) (map f xs))))) (sym some)
-    ∙ parts_step f k xs i d out all low h
+pub part_good : (k : ℕ) (text : List ℕ) (texts : List (List ℕ)) (out new block : List ℕ) (all : Option (List ℕ))
+    → then_block (Some out) (bytes_of_blocks_in k (text ∷ texts)) ≡ all
+    → spelled_block k (bytes_in text) ≡ Some block → new ≡ out ++ block
+    → then_block (Some new) (bytes_of_blocks_in k texts) ≡ all
+unfolding bytes_of_blocks_in
+part_good k text texts out new block all h some e =
+    ap (λ l. then_block (Some l) (bytes_of_blocks_in k texts)) e ∙ regroup out block (bytes_of_blocks_in k texts)
+    ∙ ap (λ o. then_block (Some out) (then_block o (bytes_of_blocks_in k texts))) (sym some) ∙ h
 
 -- all parts were added
-pub parts_done : {X : Type 0} (f : X → List ℕ) (k : ℕ) (xs : List X) (i : ℕ) (out : List ℕ) (all : Option (List ℕ))
-    → length xs ≤ i
-    → then_block (Some out) (bytes_of_blocks_in k (drop i (map f xs))) ≡ all → Some out ≡ all
-parts_done f k xs i out all high h =
-    let none : drop i (map f xs) ≡ [] = drop_all i (map f xs) (omega (arith, length-map xs f)) in
-    ap Some (sym (append-nil out)) ∙ ap (then_block (Some out)) (sym (ap (bytes_of_blocks_in k) none ∙ blocks_end k))
-    ∙ h
+pub parts_done : (k : ℕ) (out : List ℕ) (all : Option (List ℕ)) → then_block (Some out) (bytes_of_blocks_in k []) ≡ all
+    → Some out ≡ all
+unfolding bytes_of_blocks_in
+parts_done k out all h = ap Some (sym (append-nil out)) ∙ h
 
 -- ---- the whole word
 

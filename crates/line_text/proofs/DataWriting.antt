@@ -1,11 +1,12 @@
 -- How a word of data is written, block by block.
 use Rattle.std.proofs.Common.{◌≡◌, ℕ, suc, add-one, ◌+◌, ◌-◌, ◌/◌, ◌%◌, ◌<◌, ◌≤◌, false, List, [], ◌∷◌, ◌++◌, map}
-use Rattle.std.proofs.Common.{length, take, drop, sym, ap, ◌∙◌, arith, length-drop, append-nil}
+use Rattle.std.proofs.Common.{Bool, if◌then◌else◌, length, take, drop, sym, ap, ◌∙◌, arith, length-drop, append-nil}
+use Rattle.std.proofs.Common.{take_all, true}
 use Rattle.std.specs.List.{join_with_byte}
 use Rattle.std.proofs.Math.Dec.{eqb}
 use Rattle.std.proofs.Math.Nat.{div-eq-sub-div, div-eq_of_lt, mod-eq_of_lt, add-mod_right}
 use Rattle.hex.specs.Hex.{encode_upper}
-use Rattle.line_text.specs.Data.{block_text, parted_blocks, data_text}
+use Rattle.line_text.specs.Data.{all_same, block_text, parted_blocks, data_text}
 use Rattle.line_text.proofs.DataLaws.{text_none, text_odd, odd_some, text_whole}
 
 -- ---- what is written
@@ -74,3 +75,14 @@ text_other_length k bytes odd = let b = not_zero (length bytes % k) odd in text_
   where
     not_zero : (n : ℕ) → (n ≡ 0 → ⊥) → eqb n 0 ≡ false
     not_zero n h = grind (arith)
+
+-- the text of one block of equal bytes
+pub text_of_equal : (bytes : List ℕ) → length bytes ≡ 512 → all_same bytes ≡ true
+    → data_text 512 bytes ≡ encode_upper (take 1 bytes)
+text_of_equal bytes long same =
+    let whole : length bytes % 512 ≡ 0 = ap (λ n. n % 512) long in
+    text_first 512 bytes (omega arith) (omega (arith, long)) whole
+    ∙ ap (λ l. block_text l ++ left_text 512 (drop 512 bytes)) (take_all 512 bytes (omega (arith, long)))
+    ∙ ap (λ l. block_text bytes ++ l) (left_none 512 (drop 512 bytes) (omega (arith, length-drop 512 bytes, long)))
+    ∙ append-nil (block_text bytes)
+    ∙ ap (λ (b : Bool). encode_upper (if b then take 1 bytes else bytes)) same

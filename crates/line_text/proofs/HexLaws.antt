@@ -85,6 +85,31 @@ fixed_is n None bytes e = absurd cc
 fixed_is n (Some xs) bytes e = let h = if_some (eqb (length xs) n) xs bytes e in
     (ap Some h.1, ap length (sym h.1) ∙ eqb-true _ _ h.0)
 
+-- two digits a byte
+encode_length : (bytes : List ℕ) → length (encode_upper bytes) ≡ 2 * length bytes
+unfolding encode_with
+encode_length [] = refl
+encode_length (x ∷ xs) = let others = encode_length xs in omega (arith, others)
+
+-- what two digits spell is one byte
+pub one_by_two : (text bytes : List ℕ) → bytes_in text ≡ Some bytes → length text ≡ 2 → length bytes ≡ 1
+one_by_two text bytes e two =
+    let long = ap length (bytes_is text bytes e) in let twice = encode_length bytes in omega (arith, long, twice, two)
+
+-- and what others spell isn't
+pub two_by_one : (text bytes : List ℕ) → bytes_in text ≡ Some bytes → length bytes ≡ 1 → length text ≡ 2
+two_by_one text bytes e one =
+    let long = ap length (bytes_is text bytes e) in let twice = encode_length bytes in omega (arith, long, twice, one)
+
+-- two digits that spell no byte spell nothing
+pub nothing_by_two : (text : List ℕ) → length text ≡ 2 → fixed_in 1 (bytes_in text) ≡ None → bytes_in text ≡ None
+nothing_by_two text two none = by (bytes_in text) refl none
+  where
+    by : (o : Option (List ℕ)) → bytes_in text ≡ o → fixed_in 1 o ≡ None → bytes_in text ≡ None
+    by None e n = e
+    by (Some bytes) e n =
+        let kept = sym (fixed_some 1 (Some bytes) bytes refl (one_by_two text bytes e two)) ∙ n in absurd cc
+
 -- ---- what hex decodes without lower-case letters is spelled in upper case
 
 -- the digit at each of the first n places of the table

@@ -1,11 +1,15 @@
 -- Words between separators, and what no word has in it.
 use Rattle.std.proofs.Common.{◌≡◌, ℕ, zero, suc, ◌+◌, ◌/◌, ◌%◌, ◌<◌, ◌≤◌, Bool, true, false, cond, List, [], ◌∷◌, ◌++◌}
-use Rattle.std.proofs.Common.{map, drop, length, get_or, refl, sym, ap, ◌∙◌, arith}
+use Rattle.std.proofs.Common.{map, drop, drop-cons, length, get_or, refl, subst, sym, take, take-append-drop}
+use Rattle.std.proofs.Common.{take_all, ap, ◌∙◌, arith}
+use Rattle.std.proofs.Common.{◌-◌, length-drop}
+use Rattle.memchr.specs.Find.{NoneBefore, Nowhere}
 use Rattle.std.specs.Prelude.{nat_lt, ◌&&◌, ◌||◌}
 use Rattle.std.specs.List.{list_all, slice_split, onto_first, join_with_byte, AllByRecursion}
 use Rattle.std.proofs.Math.Dec.{eqb}
 use Rattle.std.proofs.lemmas.List.Splits.{slice_split_none, slice_split_at}
-use Rattle.std.proofs.lemmas.List.{append-nil, drop_more, drop_all, get_or-map, length-map}
+use Rattle.std.proofs.lemmas.List.{append-nil, append_assoc, drop-drop, drop_more, drop_all, get_or-map, length-map}
+use Rattle.std.proofs.lemmas.List.{map-append}
 use Rattle.std.proofs.lemmas.List.Elements.{All-from_recursion}
 use Rattle.hex.specs.Hex.{encode_upper, encode_with, upper_digits}
 use Rattle.line_text.specs.Words.{behind, Without}
@@ -21,6 +25,67 @@ words_again c word (next ∷ words) p ps =
   where
     same : (n : ℕ) → eqb n n ≡ true
     same n = grind (arith)
+
+-- no separator before place n
+lacks_take : (c : ℕ) (xs : List ℕ) (n : ℕ) → ((k : ℕ) → k < n → eqb (get_or xs k 0) c ≡ true → ⊥)
+    → Without c (take n xs)
+lacks_take c xs zero h = tt
+lacks_take c [] (suc n) h = tt
+lacks_take c (x ∷ xs) (suc n) h =
+    (not_true (eqb x c) (h 0 (omega arith)), lacks_take c xs n (λ k lt. h (suc k) (omega (arith, lt))))
+  where
+    not_true : (b : Bool) → (b ≡ true → ⊥) → b ≡ false
+    not_true true h = absurd (h refl)
+    not_true false h = refl
+
+-- the word before the first separator, and then the others
+pub split_first : (c : ℕ) (line front next : List ℕ) (at : ℕ)
+    → NoneBefore (λ k. eqb (get_or line k 0) c ≡ true) 0 (length line) at → eqb (get_or line at 0) c ≡ true
+    → front ≡ take at line → next ≡ drop (at + 1) line
+    → slice_split (λ b. eqb b c) line ≡ front ∷ slice_split (λ b. eqb b c) next
+split_first c line front next at none here e f =
+    let room : at < length line = none.high in
+    let place : suc at ≡ at + 1 = omega arith in
+    let after : drop (suc at) line ≡ next = ap (λ n. drop n line) place ∙ sym f in
+    let all : line ≡ front ++ get_or line at 0 ∷ next = sym (take-append-drop at line)
+    ∙ ap (λ l. l ++ drop at line) (sym e)
+    ∙ ap (λ l. front ++ l) (drop-cons line at 0 room ∙ ap (λ l. get_or line at 0 ∷ l) after) in
+    let lacks : Without c front =
+    subst (Without c) (sym e) (lacks_take c line at (λ k lt same. none.before k (omega arith) lt same)) in
+    ap (slice_split (λ b. eqb b c)) all
+    ∙ slice_split_at (λ b. eqb b c) front (get_or line at 0) next
+    (All-from_recursion (λ x. eqb x c ≡ false) front lacks)
+    here
+
+-- one word
+pub split_last : (c : ℕ) (line : List ℕ) → Nowhere (λ k. eqb (get_or line k 0) c ≡ true) 0 (length line)
+    → slice_split (λ b. eqb b c) line ≡ line ∷ []
+split_last c line none =
+    let whole : take (length line) line ≡ line = take_all (length line) line (omega arith) in
+    slice_split_none (λ b. eqb b c) line
+    (All-from_recursion (λ x. eqb x c ≡ false) line
+    (subst (Without c) whole (lacks_take c line (length line) (λ k lt same. none k (omega arith) lt same))))
+
+-- what stands behind the separator
+pub next_is : (rest back next : List ℕ) (at : ℕ) → back ≡ drop at rest → next ≡ take (length back - 1) (drop 1 back)
+    → next ≡ drop (at + 1) rest
+next_is rest back next at b e =
+    e ∙ take_all (length back - 1) (drop 1 back) (omega (arith, length-drop 1 back)) ∙ ap (drop 1) b
+    ∙ drop-drop 1 at rest ∙ ap (λ n. drop n rest) (omega arith)
+
+module _ {X : Type 0} (f : X → List ℕ) (split : List ℕ → List (List ℕ)) where
+  -- one word more
+  pub word_more : (xs ys : List X) (w : X) (rest next : List ℕ) (all : List (List ℕ)) → ys ≡ xs ++ w ∷ []
+      → split rest ≡ f w ∷ split next → map f xs ++ split rest ≡ all → map f ys ++ split next ≡ all
+  word_more xs ys w rest next all e s h =
+      ap (λ l. map f l ++ split next) e ∙ ap (λ l. l ++ split next) (map-append f xs (w ∷ []))
+      ∙ append_assoc (map f xs) (f w ∷ []) (split next) ∙ ap (λ l. map f xs ++ l) (sym s) ∙ h
+
+  -- and the last one
+  pub word_last : (xs ys : List X) (w : X) (rest : List ℕ) (all : List (List ℕ)) → ys ≡ xs ++ w ∷ []
+      → split rest ≡ f w ∷ [] → map f xs ++ split rest ≡ all → map f ys ≡ all
+  word_last xs ys w rest all e s h =
+      ap (map f) e ∙ map-append f xs (w ∷ []) ∙ ap (λ l. map f xs ++ l) (sym s) ∙ h
 
 -- one more byte in front of the first part
 onto_first_without : (c x : ℕ) (parts : List (List ℕ)) → eqb x c ≡ false → AllByRecursion (Without c) parts

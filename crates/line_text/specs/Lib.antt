@@ -4,3 +4,4 @@ pub mod Number
 pub mod Digits
 pub mod Data
 pub mod Words
+pub mod Unsent

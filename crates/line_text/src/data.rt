@@ -1,12 +1,12 @@
-ghost use Rattle.std.specs.Prelude.{◌≡◌, ◌<◌, ◌^◌, ◌==◌, ◌++◌, ℕ, List, Some, IfOk, IfSome, OnOk, replicate};
+ghost use Rattle.std.specs.Prelude.{◌≡◌, ◌<◌, ◌^◌, ◌==◌, ◌++◌, ℕ, List, Some, IfOk, IfSome, OnOk, length, replicate};
 ghost use Rattle.std.specs.Prelude.{option_map};
 ghost use Rattle.std.specs.List.{slice_split, list_all};
 ghost use Rattle.hex.specs.Hex.{IsBytes};
 ghost use Rattle.line_text.specs.Digits.{bytes_in};
 ghost use Rattle.line_text.specs.Data.{all_same, data_text, data_in, spelled_block, bytes_of_blocks_in, ReadsBlock};
 
-use crate::digits::read_hex;
-use crate::words::split_words;
+use crate::digits::{read_fixed, read_hex};
+use memchr::memchr;
 use std::alloc::{AllocError, Global};
 
 /// How many bytes a block has.
@@ -52,12 +52,17 @@ fn read_blocks(alloc: Global, word: &[u8]) -> Result<Option<Vec<u8>>, AllocError
     ensures { IfOk result
         (λ read. option_map (λ v. v.items) read ≡ bytes_of_blocks_in 512 (slice_split (λ b. b == 46) word.now)) }
 {
-    let parts = split_words(alloc, word, b'.')?;
     let mut out = Vec::new(alloc);
-    for part in parts.as_slice() {
+    let mut rest = word;
+    while let Some(end) = memchr(b'.', rest) {
+        let (part, behind) = rest.split_at(end);
         if !read_block(alloc, part, &mut out)? {
             return Ok(None);
         }
+        rest = &behind[1..];
+    }
+    if !read_block(alloc, rest, &mut out)? {
+        return Ok(None);
     }
     Ok(Some(out))
 }
@@ -67,13 +72,12 @@ fn read_block(alloc: Global, text: &[u8], out: &mut Vec<u8>) -> Result<bool, All
     ensures { IfOk result
         (λ found. ReadsBlock found (spelled_block 512 (bytes_in text.now)) out.old.items out.new.items) }
 {
+    if text.len() == 2 {
+        return read_equal(text, out);
+    }
     let Some(bytes) = read_hex(alloc, text)? else {
         return Ok(false);
     };
-    if bytes.len() == 1 {
-        add_equal::<BLOCK>(out, bytes[0])?;
-        return Ok(true);
-    }
     if bytes.len() != BLOCK {
         return Ok(false);
     }
@@ -82,6 +86,19 @@ fn read_block(alloc: Global, text: &[u8], out: &mut Vec<u8>) -> Result<bool, All
         return Ok(false);
     }
     out.extend_from_slice(bytes.as_slice())?;
+    Ok(true)
+}
+
+// Adds a block of equal bytes, where the text spells one byte.
+fn read_equal(text: &[u8], out: &mut Vec<u8>) -> Result<bool, AllocError>
+    requires { length text.now ≡ 2 }
+    ensures { IfOk result
+        (λ found. ReadsBlock found (spelled_block 512 (bytes_in text.now)) out.old.items out.new.items) }
+{
+    let Some(bytes) = read_fixed::<1>(text) else {
+        return Ok(false);
+    };
+    add_equal::<BLOCK>(out, bytes[0])?;
     Ok(true)
 }
 

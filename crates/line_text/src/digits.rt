@@ -97,7 +97,7 @@ fn send_piece<W: Write>(writer: &mut W, bytes: &[u8]) -> IoResult<()>
     send(writer, text)
 }
 
-fn spell(bytes: &[u8], text: &mut [u8])
+pub(crate) fn spell(bytes: &[u8], text: &mut [u8])
     requires { length text.old ≡ 2 * length bytes.now }
     ensures { text.new ≡ encode_upper bytes.now }
 {

@@ -8,6 +8,7 @@ mod laws;
 mod lines;
 mod number;
 mod output;
+mod unsent;
 mod words;
 
 pub use crate::data::{BLOCK, read_data};

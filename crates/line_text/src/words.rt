@@ -8,8 +8,13 @@ use crate::data_out::send_data;
 use crate::digits::send_hex;
 use crate::number::send_number;
 use crate::output::send;
+use crate::unsent::Unsent;
+use memchr::memchr;
 use std::alloc::{AllocError, Global};
 use std::io::{Result as IoResult, Write};
+
+// Most lines have no more words.
+const WORDS: usize = 12;
 
 /// One word of a line, by what it spells.
 #[derive(Clone, Copy)]
@@ -33,7 +38,15 @@ pub fn split_words<'a>(alloc: Global, line: &'a [u8], at: u8) -> Result<Vec<&'a 
     ensures { IfOk result
         (λ words. map (λ word. word.now) words.items ≡ slice_split (λ b. b == at) line.now) }
 {
-    line.split(|b| *b == at).collect(alloc)
+    let mut words = Vec::with_capacity(alloc, WORDS)?;
+    let mut rest = line;
+    while let Some(end) = memchr(at, rest) {
+        let (word, behind) = rest.split_at(end);
+        words.push(word)?;
+        rest = &behind[1..];
+    }
+    words.push(rest)?;
+    Ok(words)
 }
 
 /// Writes the words, with one space between each two.
@@ -50,6 +63,10 @@ pub fn send_words<W: Write>(writer: &mut W, words: &[Word<'_>]) -> IoResult<()>
     let Some((first, others)) = words.split_first() else {
         return Ok(());
     };
+    let mut unsent = Unsent::new();
+    if unsent.add_word(*first) && unsent.add_behind(others) {
+        return unsent.send_all(writer);
+    }
     send_word(writer, *first)?;
     send_behind(writer, others)
 }
@@ -65,6 +82,10 @@ pub fn send_behind<W: Write>(writer: &mut W, words: &[Word<'_>]) -> IoResult<()>
     ensures front { OnErr result
         (AppendsFront (W.contents writer.old) (W.contents writer.new) (behind 32 (map word_text words.now))) }
 {
+    let mut unsent = Unsent::new();
+    if unsent.add_behind(words) {
+        return unsent.send_all(writer);
+    }
     for word in words {
         send_spaced(writer, *word)?;
     }

@@ -1,5 +1,7 @@
 -- All passes together have seen the whole.
-use Rattle.std.proofs.Common.{IfSome, IsSome, List, MatchOption, None, Option, Some, [], ap, arith, inl, inr, length}
+use Rattle.std.specs.Box.{box_value}
+use Rattle.std.proofs.Common.{Box, option_map, IfSome, IsSome, List, MatchOption, None, Option, Some, [], ap, arith}
+use Rattle.std.proofs.Common.{inl, inr, length}
 use Rattle.std.proofs.Common.{length-append, refl, subst, suc, sym, zero}
 use Rattle.std.proofs.Common.{ℕ, ◌+◌, ◌-◌, ◌++◌, ◌<◌, ◌∙◌, ◌≡◌, ◌∷◌}
 use Rattle.std.specs.Prelude.{slice_get}
@@ -19,14 +21,16 @@ some_at [] k lt = absurd (omega (arith, lt))
 some_at (x ∷ xs) zero lt = (x, refl)
 some_at (x ∷ xs) (suc k) lt = some_at xs k (omega (arith, lt))
 
-pub if_some : {A : Type 0} (P : Type 0) (Q R : A → Type 0) (x : Option A) → MatchOption x P Q
-    → ((a : A) → Q a → R a) → IfSome x R
-if_some P Q R None m f = tt
-if_some P Q R (Some a) m f = f a m
+-- what holds of what lies in the box
+pub of_box : {A Z : Type 0} (R : A → Type 0) (P : Type 0) (Q : Box A Z → Type 0) (x : Option (Box A Z))
+    → MatchOption x P Q → ((b : Box A Z) → Q b → R (box_value b)) → IfSome (option_map box_value x) R
+of_box R P Q None m f = tt
+of_box R P Q (Some b) m f = f b m
 
-pub is_some : {A : Type 0} (P : Type 0) (Q : A → Type 0) (x : Option A) → MatchOption x P Q → (P → ⊥) → IsSome x
-is_some P Q None m never = absurd (never m)
-is_some P Q (Some a) m never = refl
+pub box_is_some : {A Z : Type 0} (P : Type 0) (Q : Box A Z → Type 0) (x : Option (Box A Z)) → MatchOption x P Q
+    → (P → ⊥) → IsSome (option_map box_value x)
+box_is_some P Q None m never = absurd (never m)
+box_is_some P Q (Some b) m never = refl
 
 pub at_mid : {A : Type 0} (xs ys : List A) (a : A) → slice_get (xs ++ a ∷ ys) (length xs) ≡ Some a
 at_mid [] ys a = refl
@@ -50,7 +54,7 @@ module _ {M : Type 0} where
   with_same v (p ∷ ps) = with_same v ps
 
   -- where the first one was idle, it still is
-  pub with_idle : (last : Pass M) (ps : List (Pass M)) (me : Me (Option M) View) → me.1 ≡ []
+  pub with_idle : {B : Type 0} (last : Pass M) (ps : List (Pass M)) (me : Me (Option B) View) → me.1 ≡ []
       → me.0 ≡ with_passes last.seat.me.0 ps → IsIdle me
   with_idle last ps me out is =
       let same = with_same last.seat.me.0 ps in (
@@ -156,10 +160,10 @@ module _ {M : Type 0} where
       }
 
   -- the seat that all passes were joined to has the lock
-  module _ (config : M → ConfigNumbers) (history : M → Past) (legal : ConfigNumbers → Past → Type 0) (n : ℕ)
-      (ps all : List (Pass M)) (last : Pass M) (is : ps ++ last ∷ [] ≡ all) (long : length all ≡ n)
-      (numbers : AreNumbered n all) (v : View) (w : v ≡ with_passes last.seat.me.0 ps) (machine : M)
-      (end : Me (Option M) View) (out : Out config history legal v machine end) where
+  module _ {B : Type 0} (config : B → ConfigNumbers) (history : B → Past) (legal : ConfigNumbers → Past → Type 0)
+      (n : ℕ) (ps all : List (Pass M)) (last : Pass M) (is : ps ++ last ∷ [] ≡ all) (long : length all ≡ n)
+      (numbers : AreNumbered n all) (v : View) (w : v ≡ with_passes last.seat.me.0 ps) (machine : B)
+      (end : Me (Option B) View) (out : Out config history legal v machine end) where
     abbrev Joined : View
     Joined = with_passes last.seat.me.0 ps
 

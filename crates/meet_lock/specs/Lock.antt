@@ -1,7 +1,8 @@
 -- The rule of the lock. There is one history. Word 0 is 0 where the lock is free, and then the machine is at home and
 -- its history is this one. Where it isn't 0, one seat holds the lock.
-use Rattle.std.specs.Prelude.{Bool, List, Option, Some, [], false, if◌then◌else◌, length, map, nat_le, slice_index}
+use Rattle.std.specs.Prelude.{Bool, Box, List, Option, Some, [], false, if◌then◌else◌, length, map, nat_le, slice_index}
 use Rattle.std.specs.Prelude.{true, ℕ}
+use Rattle.std.specs.Box.{box_value}
 use Rattle.std.specs.Prelude.{◌+◌, ◌<◌, ◌≡◌, ◌≢◌, ◌≤◌, ◌⊎◌, ◌∷◌}
 use mathlib.Core.Option.{some}
 use lib.ListN.{get_elem?}
@@ -26,6 +27,10 @@ unmade past = map (noted 0) past
 abbrev pub AreOfPasses : ℕ → SharedPast → Type 0
 AreOfPasses passes [] = Unit {0}
 AreOfPasses passes (m ∷ shared) = ((0 < m.0) × (m.0 ≤ passes)) × AreOfPasses passes shared
+
+-- what is said of a machine, said of a box that holds it
+abbrev pub boxed : {M Z R : Type 0} → (M → R) → Box M Z → R
+boxed said b = said (box_value b)
 
 -- the history goes on from what was seen, by entries of passes alone
 abbrev pub ExtendsByPasses : ℕ → SharedPast → SharedPast → Type 0

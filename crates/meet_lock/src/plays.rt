@@ -1,6 +1,6 @@
 //! The rule of the lock, and what each of its steps tells.
 
-ghost use Rattle.meet_lock.specs.Lock.{IsOneHistory, first_view, gives_left, gives_right, message, message_held};
+ghost use Rattle.meet_lock.specs.Lock.{IsOneHistory, boxed, first_view, gives_left, gives_right, message, message_held};
 ghost use Rattle.meet_lock.specs.Lock.{gathering, hearing, spent, unladen, laden, lading};
 ghost use Rattle.meet_lock.specs.SeatSteps.{took, wrote, gives_lock_back, looked, recalled};
 
@@ -15,9 +15,9 @@ pub(crate) struct Lock<M, K> {
     right: PhantomData<K>,
 }
 
-impl<M: Machine, K: StepRight> TableRule<Option<M>, View, Start<M>> for Lock<M, K> {
-    ghost holds = { λ key. IsOneHistory M.config M.history M.legal K.owned (M.config key.machine.value) key.passes
-        (M.history key.machine.value) };
+impl<M: Machine, K: StepRight> TableRule<Option<Box<M>>, View, Start<M>> for Lock<M, K> {
+    ghost holds = { λ key. IsOneHistory (boxed M.config) (boxed M.history) M.legal K.owned
+        (M.config key.machine.value) key.passes (M.history key.machine.value) };
 
     ghost first = { λ key. first_view (M.config key.machine.value) key.passes (M.history key.machine.value) };
 }
@@ -26,8 +26,8 @@ pub(crate) struct Take<M> {
     machine: PhantomData<M>,
 }
 
-impl<M: Machine> Play<Option<M>, View> for Take<M> {
-    ghost then = { took M.config M.history M.legal };
+impl<M: Machine> Play<Option<Box<M>>, View> for Take<M> {
+    ghost then = { took (boxed M.config) (boxed M.history) M.legal };
 }
 
 /// Gives the lock back, with one entry more.
@@ -36,8 +36,8 @@ pub(crate) struct Write<M, K> {
     right: PhantomData<K>,
 }
 
-impl<M: Machine, K: StepRight> Play<Option<M>, View> for Write<M, K> {
-    ghost then = { wrote M.history K.owned };
+impl<M: Machine, K: StepRight> Play<Option<Box<M>>, View> for Write<M, K> {
+    ghost then = { wrote (boxed M.history) K.owned };
 }
 
 /// Gives the lock back, with the same history.
@@ -45,7 +45,7 @@ pub(crate) struct Leave<M> {
     machine: PhantomData<M>,
 }
 
-impl<M: Machine> Play<Option<M>, View> for Leave<M> {
+impl<M: Machine> Play<Option<Box<M>>, View> for Leave<M> {
     ghost then = { gives_lock_back };
 }
 
@@ -54,7 +54,7 @@ pub(crate) struct Look<M> {
     machine: PhantomData<M>,
 }
 
-impl<M: Machine> Play<Option<M>, View> for Look<M> {
+impl<M: Machine> Play<Option<Box<M>>, View> for Look<M> {
     ghost then = { looked M.legal };
 }
 
@@ -64,7 +64,7 @@ pub(crate) struct Recall<M, J> {
     origin: PhantomData<J>,
 }
 
-impl<M: Machine, J: Origin> Play<Option<M>, View> for Recall<M, J> {
+impl<M: Machine, J: Origin> Play<Option<Box<M>>, View> for Recall<M, J> {
     ghost then = { recalled M.legal J.past };
 }
 

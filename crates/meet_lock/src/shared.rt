@@ -1,7 +1,8 @@
 //! A machine behind a lock: making it, giving out its passes, and closing it.
 
 ghost use Rattle.std.specs.Prelude.{◌≡◌, ◌≤◌, ◌<◌, [], IfOk, IfErr, IfSome, IsSome, ℕ, ◌+◌};
-ghost use Rattle.std.specs.Prelude.{Some, slice_get, vec_len, All};
+ghost use Rattle.std.specs.Prelude.{Some, option_map, slice_get, vec_len, All};
+ghost use Rattle.std.specs.Box.{box_value};
 ghost use Rattle.std.specs.Vec.{vec_capacity};
 ghost use Rattle.nvme_model.specs.Passes.{IsBeginning, SharedPast, entries, places};
 ghost use Rattle.meet_lock.specs.Lock.{AreOfPasses};
@@ -22,7 +23,17 @@ use controller_steps::Machine;
 use std::alloc::{AllocError as NoMemory, Global};
 use std::snapshot::Snapshot;
 
-pub(crate) type SeatPlace<M> = Seat<Option<M>, View>;
+pub(crate) type SeatPlace<M> = Seat<Option<Box<M>>, View>;
+
+// The machine of a box, where there is one.
+pub(crate) fn unboxed<M>(machine: Option<Box<M>>) -> Option<M>
+    ensures { result ≡ option_map box_value machine }
+{
+    match machine {
+        Some(machine) => Some(Box::into_inner(machine)),
+        None => None,
+    }
+}
 
 /// A machine that callers share. One word is its lock.
 ///
@@ -30,7 +41,7 @@ pub(crate) type SeatPlace<M> = Seat<Option<M>, View>;
 /// it.
 #[derive(Drop)]
 pub struct Shared<M: Machine, K: StepRight = AnyPass> {
-    pub(crate) table: Table<Option<M>, View, Start<M>, Lock<M, K>, Global>,
+    pub(crate) table: Table<Option<Box<M>>, View, Start<M>, Lock<M, K>, Global>,
     ghost sized: { (table.shared.table_id.words ≡ 1) × (table.shared.table_id.slots ≡ 1) },
 }
 
@@ -72,6 +83,10 @@ impl<M: Machine, K: StepRight> Shared<M, K> {
             passes: passes as u64,
             machine: Snapshot::of(&machine),
         };
+        let machine = match Box::new(alloc, machine) {
+            Ok(machine) => machine,
+            Err(refused) => return Err((refused.value, NoMemory)),
+        };
         slots.push_reserved(Some(machine));
         match Table::new(alloc, &[0], slots, &key) {
             Ok((table, seat)) => {
@@ -81,7 +96,7 @@ impl<M: Machine, K: StepRight> Shared<M, K> {
             }
             Err(TableRefused { mut slots }) => {
                 let machine = slots.pop().unwrap().unwrap();
-                Err((machine, NoMemory))
+                Err((Box::into_inner(machine), NoMemory))
             }
         }
     }
@@ -118,6 +133,6 @@ impl<M: Machine, K: StepRight> Shared<M, K> {
         let word = closed.word(0);
         let slot = closed.take(0);
         closed.free();
-        if word == 0 { slot } else { None }
+        if word == 0 { unboxed(slot) } else { None }
     }
 }

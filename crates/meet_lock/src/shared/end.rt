@@ -7,7 +7,7 @@ ghost use Rattle.meet_lock.specs.SeatSteps.{IsIdle, IsSameSeat};
 use crate::owner::StepRight;
 use crate::pass::Pass;
 use crate::plays::Gather;
-use crate::shared::{SeatPlace, Shared};
+use crate::shared::{SeatPlace, Shared, unboxed};
 use controller_steps::Machine;
 
 impl<M: Machine, K: StepRight> Shared<M, K> {
@@ -47,6 +47,6 @@ impl<M: Machine, K: StepRight> Shared<M, K> {
         while let Some(pass) = rest.pop() {
             self.gather(&mut seat, pass);
         }
-        self.take(&mut seat)
+        unboxed(self.take(&mut seat))
     }
 }

@@ -4,7 +4,7 @@ ghost use Rattle.std.specs.Prelude.{◌≡◌, [], ◌∷◌, IfErr, IfOk, Match
 ghost use Rattle.nvme_model.specs.Passes.{entries};
 ghost use Rattle.nvme_model.specs.declared.entry.Entry.{Entry};
 ghost use Rattle.controller_steps.specs.declared.answer.Answer.{Answer};
-ghost use Rattle.meet_lock.specs.Lock.{grown, view_given_back};
+ghost use Rattle.meet_lock.specs.Lock.{boxed, grown, view_given_back};
 ghost use Rattle.meet_lock.specs.MachineSteps.{Made, MadeNone};
 ghost use Rattle.meet_lock.specs.SeatSteps.{IsIdle, IsSameSeat, KnowsTicket, MayTell, Missed};
 ghost use Rattle.meet_lock.specs.SeatSteps.{Out, OutMore, OutSame, SawAll};
@@ -14,14 +14,25 @@ use crate::plays::{Leave, Take, Write};
 use crate::shared::{SeatPlace, Shared};
 use controller_steps::{Answer, Machine, Refused, Step};
 
+// Makes the step of the machine in the box.
+fn stepped<M: Machine>(machine: &mut Box<M>, step: Step) -> Result<Answer, Refused>
+    ensures config { boxed M.config machine.new ≡ boxed M.config machine.old }
+    ensures accepted { IfOk result (λ a. (e : Entry) × (boxed M.history machine.new ≡ e ∷ boxed M.history machine.old)
+        × M.accepts (boxed M.config machine.old) (boxed M.history machine.old) step e a) }
+    ensures refused { IfErr result (λ r. (boxed M.history machine.new ≡ boxed M.history machine.old)
+        × M.refuses (boxed M.config machine.old) (boxed M.history machine.old) step r) }
+{
+    machine.step(step)
+}
+
 impl<M: Machine, K: StepRight> Shared<M, K> {
     // Takes the lock, and the machine out of its slot.
-    pub(crate) fn take(&self, seat: &mut SeatPlace<M>) -> Option<M>
+    pub(crate) fn take(&self, seat: &mut SeatPlace<M>) -> Option<Box<M>>
         requires own { seat.old.table_id ≡ self.now.table.shared.table_id }
         requires idle { IsIdle seat.old.me }
         ensures same { IsSameSeat seat.old seat.new }
-        ensures taken { MatchOption result (Missed M.config M.history M.legal seat.old.me seat.new.me)
-            (λ machine. Out M.config M.history M.legal seat.old.me.0 machine seat.new.me) }
+        ensures taken { MatchOption result (Missed (boxed M.config) (boxed M.history) M.legal seat.old.me seat.new.me)
+            (λ machine. Out (boxed M.config) (boxed M.history) M.legal seat.old.me.0 machine seat.new.me) }
     {
         let shared = &self.table.shared;
         if shared.compare_exchange::<Take<M>>(seat, 0, 0, 1) != 0 {
@@ -34,11 +45,11 @@ impl<M: Machine, K: StepRight> Shared<M, K> {
     pub(crate) fn step_out(
         &self,
         seat: &mut SeatPlace<M>,
-        mut machine: M,
+        mut machine: Box<M>,
         step: Step,
     ) -> Result<Answer, Refused>
         requires own { seat.old.table_id ≡ self.now.table.shared.table_id }
-        requires out { OutSame M.config M.history M.legal machine seat.old.me }
+        requires out { OutSame (boxed M.config) (boxed M.history) M.legal machine seat.old.me }
         requires may { (e : Entry) (a : Answer) → M.accepts seat.old.me.0.config (entries seat.old.me.0.held) step e a
             → MayTell K.owned seat.old.me.0 (entries seat.old.me.0.held) e }
         ensures same { IsSameSeat seat.old seat.new }
@@ -47,7 +58,7 @@ impl<M: Machine, K: StepRight> Shared<M, K> {
         ensures told { SawAll seat.old.me.0 }
         ensures whole { KnowsTicket seat.new.me.0 }
     {
-        match machine.step(step) {
+        match stepped(&mut machine, step) {
             Ok(answer) => {
                 self.give_more(seat, machine);
                 Ok(answer)
@@ -60,11 +71,11 @@ impl<M: Machine, K: StepRight> Shared<M, K> {
     }
 
     // Puts the machine, which has one entry more, back into its slot, and gives the lock back.
-    pub(crate) fn give_more(&self, seat: &mut SeatPlace<M>, machine: M)
+    pub(crate) fn give_more(&self, seat: &mut SeatPlace<M>, machine: Box<M>)
         requires own { seat.old.table_id ≡ self.now.table.shared.table_id }
-        requires out { OutMore M.config M.history M.legal K.owned machine seat.old.me }
+        requires out { OutMore (boxed M.config) (boxed M.history) M.legal K.owned machine seat.old.me }
         ensures same { IsSameSeat seat.old seat.new }
-        ensures more { (e : Entry) → M.history machine ≡ e ∷ entries seat.old.me.0.held
+        ensures more { (e : Entry) → boxed M.history machine ≡ e ∷ entries seat.old.me.0.held
             → seat.new.me ≡ (grown K.owned seat.old.me.0 e, []) }
         ensures told { SawAll seat.old.me.0 }
         ensures whole { KnowsTicket seat.new.me.0 }
@@ -75,9 +86,9 @@ impl<M: Machine, K: StepRight> Shared<M, K> {
     }
 
     // The same, where the history is as it was.
-    pub(crate) fn give_same(&self, seat: &mut SeatPlace<M>, machine: M)
+    pub(crate) fn give_same(&self, seat: &mut SeatPlace<M>, machine: Box<M>)
         requires own { seat.old.table_id ≡ self.now.table.shared.table_id }
-        requires out { OutSame M.config M.history M.legal machine seat.old.me }
+        requires out { OutSame (boxed M.config) (boxed M.history) M.legal machine seat.old.me }
         ensures same { IsSameSeat seat.old seat.new }
         ensures shown { seat.new.me ≡ (view_given_back seat.old.me.0, []) }
         ensures told { SawAll seat.old.me.0 }

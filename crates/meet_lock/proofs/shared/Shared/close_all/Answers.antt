@@ -1,13 +1,15 @@
-use Rattle.std.proofs.Common.{List, [], ap, append_assoc, arith, length, length-append, refl, subst, sym, vec_len}
+use Rattle.std.proofs.Common.{IfSome, IsSome, List, Some, [], ap, append_assoc, arith, length, length-append, refl}
+use Rattle.std.proofs.Common.{subst, sym, vec_len, ℕ}
 use Rattle.std.proofs.Common.{◌++◌, ◌∙◌, ◌≡◌, ◌∷◌}
 use Rattle.std.specs.Prelude.{slice_get}
 use Rattle.std.proofs.lemmas.List.{nil_from_length}
 use Rattle.atomic_table.specs.Table.{Me}
-use Rattle.meet_lock.specs.Lock.{gathering}
+use Rattle.meet_lock.specs.Lock.{boxed, gathering}
+use Rattle.meet_lock.specs.Passes.{IsSeenWhole, config_of}
 use Rattle.meet_lock.specs.SeatSteps.{HasAllPasses}
 use Rattle.meet_lock.specs.declared.pass.Pass.{Pass}
 use Rattle.meet_lock.specs.declared.view.View.{View}
-use Rattle.meet_lock.proofs.Wholes.{AreNumbered, at_mid, closed_config, closed_whole, has_all, if_some, is_some}
+use Rattle.meet_lock.proofs.Wholes.{AreNumbered, at_mid, box_is_some, closed_config, closed_whole, has_all, of_box}
 use Rattle.meet_lock.proofs.Wholes.{with_idle}
 use Rattle.meet_lock.proofs.shared.Shared.close_all.Goals as goal
 
@@ -95,9 +97,11 @@ returns-clause-whole g c =
     let long : length c.args.passes.items ≡ vec_len c.args.passes = sym c.args.passes.ok.0 in
     let numbers : AreNumbered (vec_len c.args.passes) c.args.passes.items =
     λ k p at. let is = c.requires.all k p at in (is.1, is.2) in
-    if_some _ _ _ c.take.result c.take.ensures.taken
-    (λ machine out. closed_whole g.M.Machine.config g.M.Machine.history g.M.Machine.legal (vec_len c.args.passes) t.1
-    c.args.passes.items t.0 all long numbers c.loop-pass.seat.me.0 t.3 machine c.take.new.seat.me out)
+    subst (λ o. IfSome o (λ m. IsSeenWhole c.args.passes.items (g.M.Machine.history m))) (sym c.unboxed.ensures)
+    (of_box (λ m. IsSeenWhole c.args.passes.items (g.M.Machine.history m)) _ _ c.take.result c.take.ensures.taken
+    (λ machine out. closed_whole (boxed g.M.Machine.config) (boxed g.M.Machine.history) g.M.Machine.legal (vec_len
+    c.args.passes) t.1
+    c.args.passes.items t.0 all long numbers c.loop-pass.seat.me.0 t.3 machine c.take.new.seat.me out))
 
 pub returns-clause-config : goal.returns-clause-config
 returns-clause-config g c =
@@ -109,9 +113,13 @@ returns-clause-config g c =
     let long : length c.args.passes.items ≡ vec_len c.args.passes = sym c.args.passes.ok.0 in
     let numbers : AreNumbered (vec_len c.args.passes) c.args.passes.items =
     λ k p at. let is = c.requires.all k p at in (is.1, is.2) in
-    if_some _ _ _ c.take.result c.take.ensures.taken
-    (λ machine out. closed_config g.M.Machine.config g.M.Machine.history g.M.Machine.legal (vec_len c.args.passes) t.1
-    c.args.passes.items t.0 all long numbers c.loop-pass.seat.me.0 t.3 machine c.take.new.seat.me out)
+    subst (λ o. IfSome o (λ m. (k : ℕ) (p : Pass g.row.M.Denot) → slice_get c.args.passes.items k ≡ Some p
+    → g.M.Machine.config m ≡ config_of p)) (sym c.unboxed.ensures)
+    (of_box (λ m. (k : ℕ) (p : Pass g.row.M.Denot) → slice_get c.args.passes.items k ≡ Some p
+    → g.M.Machine.config m ≡ config_of p) _ _ c.take.result c.take.ensures.taken
+    (λ machine out. closed_config (boxed g.M.Machine.config) (boxed g.M.Machine.history) g.M.Machine.legal (vec_len
+    c.args.passes) t.1
+    c.args.passes.items t.0 all long numbers c.loop-pass.seat.me.0 t.3 machine c.take.new.seat.me out))
 
 pub returns-clause-some : goal.returns-clause-some
 returns-clause-some g c =
@@ -123,5 +131,5 @@ returns-clause-some g c =
     let long : length (t.1 ++ t.0 ∷ []) ≡ vec_len c.args.passes = ap length all ∙ sym c.args.passes.ok.0 in
     let numbers : AreNumbered (vec_len c.args.passes) (t.1 ++ t.0 ∷ []) =
     λ k p at. let is = c.requires.all k p (ap (λ l. slice_get l k) (sym all) ∙ at) in (is.1, is.2) in
-    λ _. is_some _ _ c.take.result c.take.ensures.taken
-    (λ missed. missed.missing (subst HasAllPasses (sym t.3) (has_all (vec_len c.args.passes) t.1 t.0 long numbers)))
+    λ _. subst IsSome (sym c.unboxed.ensures) (box_is_some _ _ c.take.result c.take.ensures.taken
+    (λ missed. missed.missing (subst HasAllPasses (sym t.3) (has_all (vec_len c.args.passes) t.1 t.0 long numbers))))

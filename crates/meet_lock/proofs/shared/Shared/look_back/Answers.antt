@@ -1,18 +1,18 @@
-use Rattle.std.proofs.Common.{Option, rules, subst, sym}
-use Rattle.atomic_table.specs.Table.{Me}
+use Rattle.std.proofs.Common.{rules, subst, sym}
 use Rattle.nvme_model.specs.History.{Past}
 use Rattle.nvme_model.specs.Passes.{entries}
-use Rattle.meet_lock.specs.Lock.{ExtendsByPasses, unmade}
+use Rattle.meet_lock.specs.Lock.{ExtendsByPasses, boxed, unmade}
 use Rattle.meet_lock.specs.Passes.{opening_of}
-use Rattle.meet_lock.specs.declared.view.View.{View}
 use Rattle.meet_lock.proofs.Telling.{recalls}
+use Rattle.meet_lock.proofs.Views.{Seated}
 use Rattle.meet_lock.proofs.shared.Shared.look_back.Goals as goal
 
 pub load-requires : goal.load-requires
 load-requires g c = (
   c.requires.own,
   search rules,
-  recalls g.M.Machine.config g.M.Machine.history g.M.Machine.legal g.K.StepRight.owned _ _ _ _ _ _ _ c.requires.origin
+  recalls (boxed g.M.Machine.config) (boxed g.M.Machine.history) g.M.Machine.legal g.K.StepRight.owned _ _ _ _ _ _ _
+      c.requires.origin
       c.requires.named,
 )
 
@@ -22,6 +22,6 @@ returns-clause-recalled g c =
     let opens = subst (λ (past : Past). ExtendsByPasses c.args.seat.now.me.0.passes
     (unmade past) c.args.seat.now.me.0.seen)
     c.requires.origin told.2 in
-    subst (λ (z : Me (Option g.row.M.Denot) View). g.M.Machine.legal z.0.config (entries z.0.seen)
+    subst (λ (z : Seated g.row.M.Denot). g.M.Machine.legal z.0.config (entries z.0.seen)
     × ExtendsByPasses z.0.passes (unmade (opening_of g.M.Machine.history c.args.self.now)) z.0.seen) (sym told.0)
     (told.1, opens)
