@@ -44,11 +44,6 @@ unfolding spelled_block
 block_from_many k o bytes s e h i j = ap (spelled_block k) e
     ∙ rw (not_one (length bytes) h, ap (λ n. eqb n k) i ∙ eqb_same k, j) refl
 
--- the only byte of a list of one
-pub one_is : (bytes : List ℕ) (d : ℕ) → length bytes ≡ 1 → get_or bytes 0 d ≡ get_or bytes 0 0
-one_is [] d h = absurd (omega arith)
-one_is (x ∷ xs) d h = refl
-
 -- ---- the loop over the parts
 
 -- a block may be added before or after

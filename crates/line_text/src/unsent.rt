@@ -39,7 +39,8 @@ impl Unsent {
 
     // Adds bytes, where there is room for them.
     fn add(&mut self, bytes: &[u8]) -> bool
-        ensures { result ≡ true → unsent self.new ≡ unsent self.old ++ bytes.now }
+        ensures added { result ≡ true → unsent self.new ≡ unsent self.old ++ bytes.now }
+        ensures room { length (unsent self.old) + length bytes.now ≤ 256 → result ≡ true }
     {
         if bytes.len() > ROOM - self.len {
             return false;
@@ -52,7 +53,8 @@ impl Unsent {
 
     // Adds the digits of bytes, where there is room for them.
     fn add_hex(&mut self, bytes: &[u8]) -> bool
-        ensures { result ≡ true → unsent self.new ≡ unsent self.old ++ encode_upper bytes.now }
+        ensures added { result ≡ true → unsent self.new ≡ unsent self.old ++ encode_upper bytes.now }
+        ensures room { length (unsent self.old) + 2 * length bytes.now ≤ 256 → result ≡ true }
     {
         if bytes.len() > (ROOM - self.len) / 2 {
             return false;

@@ -15,8 +15,7 @@ loop-word-preserved c =
     let none : Word = Text (record { ref_ptr = (0, 0); now = [] }) in
     let next : List ℕ = 32 ∷ word_text (get_or c.args.words.now c.loop-word.word-index none) in
     let e = one_more word_text 32 c.args.words.now c.loop-word.word-index (behind 32 (map word_text c.args.words.now))
-    at.0 none c.loop-word-test.true at.2 in
-    (
+    at.0 none c.loop-word-test.true at.2 in (
       _,
       c.add_spaced.ensures c.if-not-add_spaced.false ∙ ap (λ l. l ++ next) at.1 ∙ append_assoc _ at.0 next,
       e ∙ sym (append_assoc at.0 _ _),
