@@ -2,38 +2,33 @@
 
 use driver_cas::{Fault, PortFault};
 use nvme_model::status::Status;
+use std::alloc::Global;
+use std::process::Abort;
 use std::test::Fail;
+
+// Fails unless a fault has these words and this number.
+fn has(rt: &impl Abort, alloc: Global, fault: Fault, words: &str, number: u8) -> Result<(), Fail> {
+    let text = fault.to_string(alloc)?;
+    assert_eq!(rt; text.as_str(), words);
+    assert_eq!(rt; fault.number(), number);
+    Ok(())
+}
 
 #[test]
 fn faults_have_their_words_and_numbers(rt: HostRuntime) -> Result<(), Fail> {
-    let rows = [
-        (
-            Fault::Length,
-            "not whole blocks, or data of unlike lengths",
-            41,
-        ),
-        (Fault::TooLong, "too many blocks", 42),
-        (
-            Fault::RingFull,
-            "too few CIDs, or no room in a submission queue",
-            43,
-        ),
-        (Fault::Status(Status::OUT_OF_RANGE), "status 0/80", 44),
-        (Fault::Busy, "busy", 45),
-        (Fault::NoMemory, "no memory", 46),
-        (
-            Fault::SlotArea,
-            "the slot area is written by claims and releases alone",
-            47,
-        ),
-        (Fault::NoSerial, "no serial is left", 48),
-    ];
-    for (fault, words, number) in rows {
-        let text = fault.to_string(rt.alloc())?;
-        assert_eq!(rt; text.as_str(), words);
-        assert_eq!(rt; fault.number(), number);
-    }
-    Ok(())
+    let alloc = rt.alloc();
+    let words = "not whole blocks, or data of unlike lengths";
+    has(&rt, alloc, Fault::Length, words, 41)?;
+    has(&rt, alloc, Fault::TooLong, "too many blocks", 42)?;
+    let words = "too few CIDs, or no room in a submission queue";
+    has(&rt, alloc, Fault::RingFull, words, 43)?;
+    let past = Fault::Status(Status::OUT_OF_RANGE);
+    has(&rt, alloc, past, "status 0/80", 44)?;
+    has(&rt, alloc, Fault::Busy, "busy", 45)?;
+    has(&rt, alloc, Fault::NoMemory, "no memory", 46)?;
+    let words = "the slot area is written by claims and releases alone";
+    has(&rt, alloc, Fault::SlotArea, words, 47)?;
+    has(&rt, alloc, Fault::NoSerial, "no serial is left", 48)
 }
 
 #[test]

@@ -15,6 +15,16 @@ use slot_takeover::{
 };
 use std::sync::Wait;
 
+// The holder, where the question is answered; another one ends.
+fn told<P>(poll: HolderPoll<P>) -> Option<Holder> {
+    match poll {
+        HolderPoll::Done(holder) => Some(holder),
+        HolderPoll::Pending(_reading) => None,
+        HolderPoll::Later(_fault, _reading) => None,
+        HolderPoll::Failed(_fault) => None,
+    }
+}
+
 /// Who holds the slot, once its block was read: a Read has one completion.
 pub(crate) fn holder_read<'a, R: Wait, G>(
     rt: &R,
@@ -28,12 +38,7 @@ pub(crate) fn holder_read<'a, R: Wait, G>(
     ensures host { IsSlotHost system.now slots.now host.new }
 {
     listens(rt, system, slots, host);
-    match poll_holder(&mut host.driver, reading) {
-        HolderPoll::Done(holder) => Some(holder),
-        HolderPoll::Pending(_reading) => None,
-        HolderPoll::Later(_fault, _reading) => None,
-        HolderPoll::Failed(_fault) => None,
-    }
+    told(poll_holder(&mut host.driver, reading))
 }
 
 // Asks what has come of a takeover: the slot if it was won. It comes back where it isn't answered yet.
