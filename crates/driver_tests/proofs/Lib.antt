@@ -1,2 +1,1 @@
 pub mod Fetched
-pub mod InFlight

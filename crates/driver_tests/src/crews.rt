@@ -5,8 +5,7 @@ ghost use Rattle.work_queue.specs.QueuePasses.{IsPlaceOf};
 ghost use Rattle.driver_rows.specs.Benches.{AreBenchSpares, IsServerOf};
 ghost use Rattle.driver_tests.specs.Crews.{AreCrewOf, IsBenchWork};
 
-use crate::callers::server_of;
-use driver_rows::{Bench, BenchSpares, Server, ends};
+use driver_rows::{Bench, BenchSpares, Server, caller_of, ends};
 use lock_rows::number;
 use meet_lock::Declined;
 use std::process::Abort;
@@ -56,8 +55,8 @@ pub(crate) fn crew_of(
 {
     let into = place_of(bench, works, places)?;
     let out = place_of(bench, works, places)?;
-    let fetcher = server_of(bench, spares)?;
-    let worker = server_of(bench, spares)?;
+    let fetcher = caller_of(bench, spares).ok_or("a fetcher")?;
+    let worker = caller_of(bench, spares).ok_or("a worker")?;
     Ok(ServerPair {
         fetcher,
         into,

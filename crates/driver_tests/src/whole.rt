@@ -10,13 +10,12 @@ ghost use Rattle.driver_rows.specs.Claimants.{IsClaimant, IsClaimantReady};
 ghost use Rattle.slot_alloc.specs.Areas.{area};
 ghost use Rattle.driver_tests.specs.Crews.{AreCrewOf};
 
-use crate::callers::server_of;
 use crate::crews::{ServerPair, crew_of, crew_serves};
 use driver_cas::{Call, SharedPort};
 use driver_rows::{
     AnswerWords, Ask, Bench, BenchHost, BenchSpares, Came, Claimant, ClaimantStage, Fill, asks,
-    begins_call, claimant_of, gives_back, hears_all, leaves, meets, meets_server, polls_begun,
-    polls_call, small_bench,
+    begins_call, caller_of, claimant_of, gives_back, hears_all, leaves, meets, meets_server,
+    polls_begun, polls_call, small_bench,
 };
 use history_check::check;
 use meet_lock::Pass;
@@ -236,7 +235,7 @@ fn host<'a>(
     ensures rest { AreBenchSpares bench.now spares.new }
     ensures host { IfOk result (IsClaimant bench.entry.now slots.now) }
 {
-    let caller = server_of(bench, spares)?;
+    let caller = caller_of(bench, spares).ok_or("a caller")?;
     match claimant_of(alloc, bench, caller, h, slots, 2) {
         Some(claimant) => Ok(claimant),
         None => Err(Fail::from("a host")),

@@ -5,9 +5,8 @@ ghost use Rattle.meet_lock.specs.Passes.{IsPassOfLock, IsSame, number, passes_of
 ghost use Rattle.work_queue.specs.Engines.{EnginePass};
 ghost use Rattle.engine_tests.specs.Threes.{AreThree};
 
-use crate::systems::lines_in;
 use history::Config;
-use lock_rows::number;
+use lock_rows::{number, text};
 use meet_lock::{Declined, Pass, Shared};
 use std::alloc::{AllocError as NoMemory, Global};
 use std::test::Fail;
@@ -153,6 +152,11 @@ fn ended(alloc: Global, shared: Shared<Core>, passes: Three, count: u8) -> Resul
         return unlocked_by_all(alloc, shared, passes);
     }
     unlocked(shared, passes.0)
+}
+
+/// The lines of a controller's history.
+pub(crate) fn lines_in(alloc: Global, core: Core) -> Result<Vec<u8>, NoMemory> {
+    text(alloc, core.history().as_slice())
 }
 
 /// How each of the steps by so many passes was answered, and the lines of the history.

@@ -4,12 +4,11 @@
 ghost use Rattle.lock_rows.specs.Callers.{IsCrewOf, IsTestCallerOf};
 
 use crate::crew::make_all;
-use crate::passes::made_by_passes;
-use crate::systems::{closed, crewed, lines_in};
+use crate::passes::{lines_in, made_by_passes};
 use history::Config;
 use lock_rows::{
-    CONFIG, LARGE, LARGE_PAIR, ROWS, ScriptRun, TestCaller, TestSystem, ThreeCallers, config_of,
-    run_of,
+    CONFIG, LARGE, LARGE_PAIR, ROWS, ScriptRun, TestCaller, TestSystem, ThreeCallers, closed,
+    config_of, crewed, run_of,
 };
 use std::alloc::Global;
 use std::process::Abort;
@@ -123,11 +122,11 @@ fn made_by_crew<R: Wait>(
     config: Config,
     steps: Vec<Step>,
 ) -> Result<(RunMade, u64), Fail> {
-    let (system, mut crew) = crewed(alloc, config, 16)?;
+    let (system, mut crew) = crewed(alloc, config, 16).ok_or("three callers")?;
     let answers = make_all(rt, alloc, &system, &mut crew, steps)?;
     let learnt = crew.learnt;
     let host = host_of(&system, crew);
-    let core = closed(system, host)?;
+    let core = closed(system, host).ok_or("the lock isn't free")?;
     Ok(((answers, lines_in(alloc, core)?), learnt))
 }
 

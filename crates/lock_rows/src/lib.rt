@@ -2,16 +2,20 @@
 //! them, and an engine with its queues of works and notices, whose callers each own a pass of each.
 #![tactic(auto)]
 
+mod commands;
 mod messages;
 mod plain;
 mod system;
 mod table;
 
+pub use crate::commands::{Command, WRITE, begun, flush, items_of};
 pub use crate::messages::{
-    NO_MEMORY, STRANGE, attempt, fetches, learns, noted, open, opens, pops, pushes, tells, works,
+    LATE, NO_MEMORY, STRANGE, attempt, fetches, learns, noted, open, opens, pops, pushes, tells,
+    works,
 };
 pub use crate::plain::{ScriptRun, config_of, number, run_of, text};
 pub use crate::system::{
-    SpareCallers, TestCaller, TestSystem, ThreeCallers, crew_of, system_of, take_caller,
+    SpareCallers, TestCaller, TestSystem, ThreeCallers, closed, crew_of, crewed, system_of,
+    take_caller,
 };
-pub use crate::table::{CONFIG, LARGE, LARGE_PAIR, ROWS};
+pub use crate::table::{CONFIG, LARGE, LARGE_PAIR, ONE_QUEUE, ROWS};

@@ -21,6 +21,9 @@ use work_queue::{Notice, Open, Opened, Task, Work};
 /// The number of want of memory.
 pub const NO_MEMORY: u8 = 11;
 
+/// A number of no refusal: a wait that was too long.
+pub const LATE: u8 = 97;
+
 /// A number of no refusal: another step came back, or another message was there.
 pub const STRANGE: u8 = 99;
 

@@ -1,6 +1,7 @@
 //! What callers share, and what each owns.
 
-ghost use Rattle.std.specs.Prelude.{◌<◌, IfOk, IfSome};
+ghost use Rattle.std.specs.Prelude.{◌≡◌, ◌<◌, IfOk, IfSome};
+ghost use Rattle.meet_lock.specs.Passes.{config_of};
 ghost use Rattle.lock_rows.specs.Callers.{AreTestSpares, IsCrewOf, IsTestCallerOf};
 
 use history::Config;
@@ -113,4 +114,23 @@ pub fn system_of(
         notices: notice_places,
     };
     Ok((system, callers))
+}
+
+/// A system of a new controller, whose queues have so many places, with three callers. None where memory is refused.
+pub fn crewed(alloc: Global, config: Config, capacity: usize) -> Option<(TestSystem, ThreeCallers)>
+    requires { 0 < capacity }
+    ensures { IfSome result (λ h. IsCrewOf h.0 h.1) }
+{
+    let (system, mut callers) = system_of(alloc, config, capacity, 3).ok()?;
+    let crew = crew_of(alloc, &system, &mut callers)?;
+    Some((system, crew))
+}
+
+/// The controller, once nobody has the lock.
+pub fn closed(system: TestSystem, caller: TestCaller) -> Option<Core>
+    requires { IsTestCallerOf system caller }
+    ensures { IfSome result (λ core. core.config ≡ config_of caller.pass) }
+{
+    let TestSystem { engine, .. } = system;
+    engine.close(caller.pass)
 }

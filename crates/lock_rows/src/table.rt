@@ -3,6 +3,9 @@
 /// The configuration of most rows.
 pub const CONFIG: &str = "config 8 1 1 0 0 2 4 4 8";
 
+/// One queue pair, and 32 tickets in flight.
+pub const ONE_QUEUE: &str = "config 8 1 1 0 0 1 4 4 32";
+
 /// Worked runs: the configuration, and the lines, parted by ` / `.
 pub const ROWS: [(&str, &str); 22] = [
     // Nothing is there to reap.

@@ -1,8 +1,0 @@
-use Rattle.driver_rows.specs.Benches.{IsServerOf}
-use Rattle.driver_tests.specs.Flights.{AreInFlight}
-use Rattle.driver_tests.proofs.learns.does_all.Given as goal
-
-abbrev pub invariant-loop-deed : goal.invariant-loop-deed
-invariant-loop-deed g l =
-    IsServerOf l.bench l.server × AreInFlight l.bench l.one.host l.one.calls.items
-    × AreInFlight l.bench l.two.host l.two.calls.items

@@ -1,5 +1,0 @@
-use Rattle.driver_tests.specs.Flights.{AreInFlight}
-use Rattle.driver_tests.proofs.wide.all_begun.Given as goal
-
-abbrev pub invariant-loop-number : goal.invariant-loop-number
-invariant-loop-number g l = AreInFlight l.bench l.flight.host l.flight.calls.items

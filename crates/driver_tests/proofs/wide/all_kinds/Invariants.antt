@@ -1,6 +1,0 @@
-use Rattle.driver_rows.specs.Benches.{IsServerOf}
-use Rattle.driver_tests.specs.Flights.{AreInFlight}
-use Rattle.driver_tests.proofs.wide.all_kinds.Given as goal
-
-abbrev pub invariant-loop-kind : goal.invariant-loop-kind
-invariant-loop-kind g l = IsServerOf l.bench l.server × AreInFlight l.bench l.flight.host l.flight.calls.items

@@ -1,5 +1,0 @@
-use Rattle.lock_rows.specs.Callers.{IsTestCallerOf}
-use Rattle.engine_tests.proofs.capacity.empties.Given as goal
-
-abbrev pub invariant-loop-ticket : goal.invariant-loop-ticket
-invariant-loop-ticket g l = IsTestCallerOf l.system l.caller

@@ -1,6 +1,0 @@
-use Rattle.std.proofs.Common.{All}
-use Rattle.lock_rows.specs.Callers.{AreTestSpares, IsTestCallerOf}
-use Rattle.engine_tests.proofs.carries.some_callers.Given as goal
-
-abbrev pub invariant-loop : goal.invariant-loop
-invariant-loop l = AreTestSpares l.system l.spares × All (IsTestCallerOf l.system) l.callers.items

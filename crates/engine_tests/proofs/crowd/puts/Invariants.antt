@@ -1,5 +1,0 @@
-use Rattle.lock_rows.specs.Callers.{IsFreshWork, IsTestCallerOf}
-use Rattle.engine_tests.proofs.crowd.puts.Given as goal
-
-abbrev pub invariant-loop : goal.invariant-loop
-invariant-loop g l = IsTestCallerOf l.system l.caller × IsFreshWork l.system l.next

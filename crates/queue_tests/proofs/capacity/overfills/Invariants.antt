@@ -1,0 +1,5 @@
+use Rattle.lock_rows.specs.Callers.{IsTestCallerOf}
+use Rattle.queue_tests.proofs.capacity.overfills.Given as goal
+
+abbrev pub invariant-loop-cid : goal.invariant-loop-cid
+invariant-loop-cid g l = IsTestCallerOf l.system l.caller
