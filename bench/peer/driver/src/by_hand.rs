@@ -1,9 +1,9 @@
 //! The peer, by functions of the same shape as the product's.
 
-use peer::Core;
+use peer::{Config, Core};
 use std::hint::black_box;
 use std::time::Instant;
-use trials::asked::{Asked, Numbers, config_of, step_of};
+use trials::asked::{Asked, step_of};
 
 /// Makes a step, and says whether it was accepted; None where its entries don't lie among the bytes.
 #[inline(never)]
@@ -21,14 +21,14 @@ fn run_all(core: &mut Core, asked: &[Asked], bytes: &[u8]) -> Option<u64> {
 
 /// Makes all steps over a new controller; how many were accepted.
 #[inline(never)]
-pub fn run(numbers: &Numbers, asked: &[Asked], bytes: &[u8]) -> u64 {
-    config_of(numbers).and_then(|config| run_all(&mut Core::new(config), asked, bytes)).unwrap_or(u64::MAX)
+pub fn run(config: &Config, asked: &[Asked], bytes: &[u8]) -> u64 {
+    run_all(&mut Core::new(*config), asked, bytes).unwrap_or(u64::MAX)
 }
 
 /// The same; how many nanoseconds the steps took, and how many it took to let the controller go.
 #[inline(never)]
-pub fn run_timed(numbers: &Numbers, asked: &[Asked], bytes: &[u8]) -> (u64, u64) {
-    let mut core = Core::new(config_of(numbers).expect("a configuration"));
+pub fn run_timed(config: &Config, asked: &[Asked], bytes: &[u8]) -> (u64, u64) {
+    let mut core = Core::new(*config);
     let start = Instant::now();
     run_all(&mut core, asked, bytes).expect("entries among the bytes");
     let steps = start.elapsed().as_nanos() as u64;
@@ -39,8 +39,8 @@ pub fn run_timed(numbers: &Numbers, asked: &[Asked], bytes: &[u8]) -> (u64, u64)
 
 /// Makes all steps, and then asks what is ready so many times; how often it was something.
 #[inline(never)]
-pub fn ready(numbers: &Numbers, asked: &[Asked], bytes: &[u8], times: u64) -> u64 {
-    let mut core = Core::new(config_of(numbers).expect("a configuration"));
+pub fn ready(config: &Config, asked: &[Asked], bytes: &[u8], times: u64) -> u64 {
+    let mut core = Core::new(*config);
     run_all(&mut core, asked, bytes).expect("entries among the bytes");
     (0..times).filter(|_| core.ready().is_some()).count() as u64
 }
@@ -64,9 +64,8 @@ fn entries_of(text: &[u8]) -> impl Iterator<Item = peer::Entry> {
 
 /// Reads and checks the lines of a history so many times; how often they were legal.
 #[inline(never)]
-pub fn check_lines(numbers: &Numbers, text: &[u8], times: u64) -> u64 {
-    let config = config_of(numbers).expect("a configuration");
-    let is_legal = |_: &u64| peer::check::check(&config, black_box(&entries_of(text).collect::<Vec<_>>())).is_ok();
+pub fn check_lines(config: &Config, text: &[u8], times: u64) -> u64 {
+    let is_legal = |_: &u64| peer::check::check(config, black_box(&entries_of(text).collect::<Vec<_>>())).is_ok();
     (0..times).filter(is_legal).count() as u64
 }
 

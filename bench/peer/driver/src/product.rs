@@ -1,6 +1,7 @@
 //! The product, by the functions of its library for C, whose text calls give what the program prints.
 
-use trials::asked::{Asked, Numbers};
+use peer::Config;
+use trials::asked::Asked;
 use vandrexu_sys as sys;
 
 /// A controller of the product.
@@ -10,8 +11,8 @@ pub struct Controller {
     data: Vec<u8>,
 }
 
-fn config_of(numbers: &Numbers) -> sys::vandrexu_config {
-    let n = *numbers;
+fn config_of(config: &Config) -> sys::vandrexu_config {
+    let n = *config;
     sys::vandrexu_config {
         blocks: n.blocks,
         awun: n.awun,
@@ -34,10 +35,10 @@ fn entry_at(bytes: &[u8], at: usize, length: usize) -> Option<(sys::vandrexu_ent
 }
 
 impl Controller {
-    pub fn new(numbers: &Numbers) -> Option<Controller> {
+    pub fn new(config: &Config) -> Option<Controller> {
         let mut handle = sys::VANDREXU_CONTROLLER_NONE;
         // SAFETY: both are there during the call, and aren't the same.
-        let status = unsafe { sys::vandrexu_controller_new(&config_of(numbers), &mut handle) };
+        let status = unsafe { sys::vandrexu_controller_new(&config_of(config), &mut handle) };
         (status == sys::VANDREXU_DONE).then_some(Controller { handle, data: Vec::new() })
     }
 
@@ -100,14 +101,14 @@ impl Drop for Controller {
 
 /// Makes all steps over a new controller; how many were accepted. What a Read read stays with the controller.
 #[inline(never)]
-pub fn run(numbers: &Numbers, asked: &[Asked], bytes: &[u8]) -> u64 {
-    Controller::new(numbers).and_then(|mut it| it.run_all(asked, bytes)).unwrap_or(u64::MAX)
+pub fn run(config: &Config, asked: &[Asked], bytes: &[u8]) -> u64 {
+    Controller::new(config).and_then(|mut it| it.run_all(asked, bytes)).unwrap_or(u64::MAX)
 }
 
 /// Makes all steps, and then asks what is ready so many times; how often it was something.
 #[inline(never)]
-pub fn ready(numbers: &Numbers, asked: &[Asked], bytes: &[u8], times: u64) -> u64 {
-    let mut it = Controller::new(numbers).expect("a configuration");
+pub fn ready(config: &Config, asked: &[Asked], bytes: &[u8], times: u64) -> u64 {
+    let mut it = Controller::new(config).expect("a configuration");
     it.run_all(asked, bytes).expect("entries among the bytes");
     let mut step = Default::default();
     // SAFETY: the handle and the step are there during the call.
@@ -115,8 +116,8 @@ pub fn ready(numbers: &Numbers, asked: &[Asked], bytes: &[u8], times: u64) -> u6
 }
 
 /// Makes all steps, for `print`.
-pub fn controller_of(numbers: &Numbers, asked: &[Asked], bytes: &[u8]) -> Controller {
-    let mut it = Controller::new(numbers).expect("a configuration");
+pub fn controller_of(config: &Config, asked: &[Asked], bytes: &[u8]) -> Controller {
+    let mut it = Controller::new(config).expect("a configuration");
     it.run_all(asked, bytes).expect("entries among the bytes");
     it
 }
@@ -172,10 +173,10 @@ pub fn read_script(script: &[u8]) -> u64 {
 struct Checker(sys::vandrexu_checker);
 
 impl Checker {
-    fn new(numbers: &Numbers) -> Checker {
+    fn new(config: &Config) -> Checker {
         let mut handle = sys::VANDREXU_CHECKER_NONE;
         // SAFETY: both are there during the call, and aren't the same.
-        let status = unsafe { sys::vandrexu_checker_new(&config_of(numbers), &mut handle) };
+        let status = unsafe { sys::vandrexu_checker_new(&config_of(config), &mut handle) };
         assert_eq!(status, sys::VANDREXU_DONE);
         Checker(handle)
     }
@@ -199,9 +200,9 @@ fn lines_of(text: &[u8]) -> impl Iterator<Item = &[u8]> {
 
 /// Reads and checks the lines of a history so many times; how often they were legal.
 #[inline(never)]
-pub fn check_lines(numbers: &Numbers, text: &[u8], times: u64) -> u64 {
+pub fn check_lines(config: &Config, text: &[u8], times: u64) -> u64 {
     let is_legal = |_: &u64| {
-        let mut checker = Checker::new(numbers);
+        let mut checker = Checker::new(config);
         lines_of(text).all(|line| checker.take(line) == sys::VANDREXU_DONE)
     };
     (0..times).filter(is_legal).count() as u64
@@ -209,8 +210,8 @@ pub fn check_lines(numbers: &Numbers, text: &[u8], times: u64) -> u64 {
 
 /// Reads the lines of a history, behind one that makes it illegal, so that none is checked; how many are lines.
 #[inline(never)]
-pub fn parse(numbers: &Numbers, text: &[u8]) -> u64 {
-    let mut checker = Checker::new(numbers);
+pub fn parse(config: &Config, text: &[u8]) -> u64 {
+    let mut checker = Checker::new(config);
     assert_eq!(checker.take(b"fetch 1 2 1 ok"), sys::VANDREXU_NOT_LEGAL);
     lines_of(text).filter(|line| checker.take(line) == sys::VANDREXU_NOT_LEGAL).count() as u64
 }

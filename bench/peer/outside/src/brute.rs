@@ -1,19 +1,15 @@
 //! Whether a legal history is seen as a trace: each step that may be made, with each word and each mark, is made.
 
 use crate::options::Options;
-use crate::state::{Does, Flight, Hashes, MOST_BLOCKS, MOST_IN_FLIGHT, MOST_QUEUES, Open, State};
+use crate::state::{Flight, Hashes, MOST_BLOCKS, MOST_IN_FLIGHT, MOST_QUEUES, Open, State};
 use crate::trace::{Line, Trace, blocks_of};
-use peer::sqe::{Sqe, cqe_bytes};
+use peer::sqe::cqe_bytes;
 use peer::verdict::{Item, judge, operation};
-use peer::{BLOCK, Config, Op, Range, Status, Verdict};
+use peer::{BLOCK, COMPARE_FAILURE, Config, FAILED_FUSED, Op, Range, SUCCESS, Status, Verdict};
 use std::collections::{HashMap, HashSet};
 
 // The value of a block of which nothing was found out yet.
 const OPEN: u8 = 255;
-
-const SUCCESS: u16 = 0;
-const COMPARE_FAILURE: u16 = 0x285;
-const FAILED_FUSED: u16 = 0x09;
 
 /// What was found out.
 #[derive(Clone, Copy, Debug, PartialEq, Eq)]
@@ -93,7 +89,7 @@ impl Brute {
                 Line::Publish(queue, batch) if config.has_queue(*queue) => {
                     let queue = usize::from(*queue) - 1;
                     for submission in batch {
-                        let item = Item { sqe: Sqe::decode(&submission.entry), length: submission.payload.len() };
+                        let item = Item::of(submission);
                         let values = values.numbers(&submission.payload).unwrap_or_default();
                         brute.entries[queue].push(Published { item, values });
                     }
@@ -159,26 +155,15 @@ impl Brute {
 
     fn add_judged(&self, state: &State, queue: usize, front: &Item, second: Option<&Item>, next: &mut Vec<State>) {
         let first = state.fetched[queue];
-        let verdict = judge(front, second, &self.in_use(state, queue), &self.config);
-        let number = |status: Status| u16::from(status.sct) << 8 | u16::from(status.sc);
+        let in_use = self.in_use(state, queue);
+        let verdict = judge(front, second, &|cid| in_use.contains(&cid), &self.config);
         let failed = match verdict {
-            Verdict::SingleFailed(one) => Some([number(one); 2]),
-            Verdict::PairFailed(one, other) => Some([number(one), number(other)]),
+            Verdict::SingleFailed(one) => Some([one; 2]),
+            Verdict::PairFailed(one, other) => Some([one, other]),
             Verdict::Single | Verdict::Pair => None,
         };
-        let (does, range) = match operation(verdict, &front.sqe) {
-            None => (Does::Nothing, Range { slba: 0, blocks: 0 }),
-            Some((op, range)) => {
-                let does = match op {
-                    Op::Read => Does::Read,
-                    Op::Compare => Does::Compare,
-                    Op::Write => Does::Write,
-                    Op::WriteZeroes => Does::Zeroes,
-                    Op::Pair => Does::Pair,
-                };
-                (does, range)
-            }
-        };
+        let (op, range) = operation(verdict, &front.sqe).unzip();
+        let range = range.unwrap_or(Range { slba: 0, blocks: 0 });
         let taken = verdict.taken() as u8;
         let mut after = *state;
         after.fetched[queue] += taken;
@@ -187,7 +172,7 @@ impl Brute {
             first,
             taken,
             failed,
-            does,
+            op,
             next: range.slba as u8,
             left: range.blocks as u8,
             ..Flight::default()
@@ -197,16 +182,17 @@ impl Brute {
 
     fn add_grant(&self, state: &State, place: usize, next: &mut Vec<State>) {
         let flight = state.flights[place];
-        if flight.does == Does::Nothing || flight.left == 0 || flight.differed || flight.open.is_some() {
+        let Some(op) = flight.op else { return };
+        if flight.left == 0 || flight.differed || flight.open.is_some() {
             return;
         }
         let left = Range { slba: u64::from(flight.next), blocks: u32::from(flight.left) };
-        let unit = if flight.does == Does::Pair { left } else { self.config.first_unit(left) };
+        let unit = if op == Op::Pair { left } else { self.config.first_unit(left) };
         let (slba, blocks) = (unit.slba as u8, unit.blocks as u8);
         let conflicts = state.flights().iter().any(|other| {
             other.open.is_some_and(|open| {
                 let meet = open.slba < slba + blocks && slba < open.slba + open.blocks;
-                meet && (other.does.writes() || flight.does.writes())
+                meet && (other.writes() || flight.writes())
             })
         });
         if conflicts {
@@ -233,7 +219,7 @@ impl Brute {
         let flight = state.flights[place];
         let Some(mut open) = flight.open else { return false };
         let mut equal = 0;
-        if flight.does.compares() {
+        if flight.compares() {
             for k in 0..open.blocks {
                 let block = open.slba + k;
                 equal |= u8::from(state.values[usize::from(block)] == self.value(&flight, 0, block)) << k;
@@ -244,16 +230,16 @@ impl Brute {
                 return false;
             }
         }
-        let says_no = flight.does.compares() && equal != (1u8 << open.blocks).wrapping_sub(1);
+        let says_no = flight.compares() && equal != (1u8 << open.blocks).wrapping_sub(1);
         let first = self.entries[usize::from(flight.queue)][usize::from(flight.first)].item.sqe.slba as u8;
         for k in 0..open.blocks {
             let block = open.slba + k;
             let value = &mut state.values[usize::from(block)];
-            match flight.does {
-                Does::Read => state.flights[place].read[usize::from(block - first)] = *value,
-                Does::Write => *value = self.value(&flight, 0, block),
-                Does::Pair if !says_no => *value = self.value(&flight, 1, block),
-                Does::Zeroes => *value = 0,
+            match flight.op {
+                Some(Op::Read) => state.flights[place].read[usize::from(block - first)] = *value,
+                Some(Op::Write) => *value = self.value(&flight, 0, block),
+                Some(Op::Pair) if !says_no => *value = self.value(&flight, 1, block),
+                Some(Op::WriteZeroes) => *value = 0,
                 _ => {}
             }
         }
@@ -270,7 +256,7 @@ impl Brute {
     fn add_block(&self, state: &State, place: usize, says: Option<bool>, marked: bool, next: &mut Vec<State>) {
         let flight = &state.flights[place];
         let Some(open) = flight.open else { return };
-        let finds = flight.does == Does::Read || flight.does.compares();
+        let finds = flight.op == Some(Op::Read) || flight.compares();
         let unknown = (open.slba..open.slba + open.blocks).find(|block| state.values[usize::from(*block)] == OPEN);
         if let (true, true, Some(block)) = (marked, finds, unknown) {
             for value in 0..=self.values {
@@ -296,7 +282,7 @@ impl Brute {
         }
         let flight = &mut after.flights[place];
         let Some(open) = flight.open else { return };
-        let needed = if flight.does == Does::Pair { 2 * open.blocks } else { open.blocks };
+        let needed = if flight.op == Some(Op::Pair) { 2 * open.blocks } else { open.blocks };
         let differs = says == Some(false);
         flight.differed |= differs;
         if differs || open.made == needed {
@@ -309,7 +295,7 @@ impl Brute {
         let flight = &state.flights[place];
         let Some(open) = flight.open else { return };
         let words: &[Option<bool>] =
-            if flight.does.compares() && open.made < open.blocks { &[Some(false), Some(true)] } else { &[None] };
+            if flight.compares() && open.made < open.blocks { &[Some(false), Some(true)] } else { &[None] };
         for says in words {
             self.add_block(state, place, *says, false, next);
             self.add_block(state, place, *says, true, next);
@@ -317,19 +303,19 @@ impl Brute {
     }
 
     // The status of the next completion of a ticket, where it owes one.
-    fn owed(flight: &Flight) -> Option<u16> {
+    fn owed(flight: &Flight) -> Option<Status> {
         let second = usize::from(flight.posted);
         if let Some(failed) = flight.failed {
             return Some(failed[second]);
         }
-        if flight.does == Does::Nothing {
+        if flight.op.is_none() {
             return Some(SUCCESS);
         }
         let all_ended = flight.left == 0 && flight.open.is_none();
         if !all_ended && !flight.differed {
             return None;
         }
-        if flight.said_no && (flight.does != Does::Pair || all_ended) {
+        if flight.said_no && (flight.op != Some(Op::Pair) || all_ended) {
             return Some([COMPARE_FAILURE, FAILED_FUSED][second]);
         }
         (all_ended && flight.effects == flight.granted).then_some(SUCCESS)
@@ -347,10 +333,9 @@ impl Brute {
         if let Some(reaped) = self.reaped[cq].get(usize::from(posted)) {
             let head = u16::from(state.fetched[queue]) % self.config.sq_size;
             let phase = u16::from(posted) / self.config.cq_size % 2 == 0;
-            let status_of = Status { sct: (status >> 8) as u8, sc: status as u8 };
-            let made = cqe_bytes(status_of, self.cid(flight, flight.posted), u16::from(flight.queue) + 1, head, phase);
+            let made = cqe_bytes(status, self.cid(flight, flight.posted), u16::from(flight.queue) + 1, head, phase);
             let entry = &self.entries[queue][usize::from(flight.first)];
-            let blocks = if flight.does == Does::Read && status == SUCCESS { entry.item.sqe.blocks as usize } else { 0 };
+            let blocks = if flight.op == Some(Op::Read) && status == SUCCESS { entry.item.sqe.blocks as usize } else { 0 };
             if self.options.read(&reaped.cqe) != self.options.read(&made) || reaped.values.as_deref() != Some(&flight.read[..blocks]) {
                 return;
             }

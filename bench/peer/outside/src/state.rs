@@ -1,32 +1,11 @@
 //! All that can matter of a history for what may follow it.
 
+use peer::{Mode, Op, Status};
 use std::hash::{BuildHasherDefault, Hasher};
 
 pub const MOST_BLOCKS: usize = 4;
 pub const MOST_IN_FLIGHT: usize = 4;
 pub const MOST_QUEUES: usize = 2;
-
-/// What a ticket does with its blocks.
-#[derive(Clone, Copy, Debug, Default, PartialEq, Eq, Hash)]
-pub enum Does {
-    #[default]
-    Nothing,
-    Read,
-    Compare,
-    Write,
-    Zeroes,
-    Pair,
-}
-
-impl Does {
-    pub fn compares(self) -> bool {
-        self == Does::Compare || self == Does::Pair
-    }
-
-    pub fn writes(self) -> bool {
-        matches!(self, Does::Write | Does::Zeroes | Does::Pair)
-    }
-}
 
 /// The unit that is open. Bit k is for its k-th block.
 #[derive(Clone, Copy, Debug, Default, PartialEq, Eq, Hash)]
@@ -47,8 +26,9 @@ pub struct Flight {
     pub first: u8,
     pub taken: u8,
     pub posted: u8,
-    pub failed: Option<[u16; 2]>,
-    pub does: Does,
+    pub failed: Option<[Status; 2]>,
+    /// What it does with its blocks.
+    pub op: Option<Op>,
     /// The blocks that no unit was granted for yet.
     pub next: u8,
     pub left: u8,
@@ -59,6 +39,16 @@ pub struct Flight {
     pub open: Option<Open>,
     /// What it read, by its blocks.
     pub read: [u8; MOST_BLOCKS],
+}
+
+impl Flight {
+    pub fn compares(&self) -> bool {
+        self.op.is_some_and(Op::compares)
+    }
+
+    pub fn writes(&self) -> bool {
+        self.op.is_some_and(|op| op.mode() == Mode::Exclusive)
+    }
 }
 
 #[derive(Clone, Copy, Debug, Default, PartialEq, Eq, Hash)]

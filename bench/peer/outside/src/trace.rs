@@ -1,7 +1,7 @@
 //! What hosts see of a controller, and its text.
 
 use crate::options::Options;
-use peer::text::{entry_line, put_entry};
+use peer::text::{entry_line, put_config, put_entry};
 use peer::{BLOCK, Config, Entry, Submission};
 
 #[derive(Clone, Debug, PartialEq, Eq)]
@@ -15,17 +15,6 @@ pub struct Trace {
     pub config: Config,
     pub options: Options,
     pub lines: Vec<Line>,
-}
-
-fn put_config(out: &mut Vec<u8>, n: &Config) {
-    let word = if n.cqs == n.pairs { "config" } else { "config2" };
-    let numbers =
-        format!("{word} {} {} {} {} {} {} {} {} {}", n.blocks, n.awun, n.acwu, n.nabsn, n.nabo, n.pairs, n.sq_size, n.cq_size, n.jobs);
-    out.extend_from_slice(numbers.as_bytes());
-    if n.cqs != n.pairs {
-        out.extend_from_slice(format!(" {}", n.cqs).as_bytes());
-    }
-    out.push(b'\n');
 }
 
 // The words of a line of a history but its first two.

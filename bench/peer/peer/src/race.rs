@@ -1,7 +1,8 @@
 //! Hosts that race for slots on threads, each call to the controller under one mutex, as a good engineer would write it first.
 
-use crate::model::*;
 use crate::Core;
+use crate::model::*;
+use crate::sqe::command;
 use std::collections::VecDeque;
 use std::sync::Mutex;
 use std::sync::atomic::{AtomicBool, AtomicU64, Ordering};
@@ -109,17 +110,6 @@ struct Host<'a> {
     cid: u16,
 }
 
-// The entry of a command on one block.
-fn command(opcode: u8, fuse: u8, cid: u16, slot: u32) -> [u8; 64] {
-    let mut bytes = [0; 64];
-    bytes[0] = opcode;
-    bytes[1] = fuse;
-    bytes[2..4].copy_from_slice(&cid.to_le_bytes());
-    bytes[4] = 1;
-    bytes[40..44].copy_from_slice(&slot.to_le_bytes());
-    bytes
-}
-
 fn name(host: u16, serial: u64) -> Vec<u8> {
     let mut block = vec![0; BLOCK];
     block[..4].copy_from_slice(&u32::from(host).to_le_bytes());
@@ -133,8 +123,8 @@ impl Host<'_> {
         let (one, two) = (self.cid % 64, (self.cid + 1) % 64);
         self.cid = (self.cid + 2) % 64;
         let mut batch = vec![
-            Submission { entry: command(0x05, 1, one, slot), payload: old },
-            Submission { entry: command(0x01, 2, two, slot), payload: new },
+            Submission { entry: command(0x05, 1, one, slot.into(), 0), payload: old },
+            Submission { entry: command(0x01, 2, two, slot.into(), 0), payload: new },
         ];
         while let Err(refused) = self.shared.step(Step::Publish(self.number, batch)) {
             let Refused::Publish(Why::NoRoom, back) = refused else { panic!("{refused:?}") };

@@ -1,20 +1,6 @@
 //! Steps as they lie in memory.
 
-use peer::{Config, Step, Submission};
-
-#[derive(Clone, Copy, Debug)]
-pub struct Numbers {
-    pub blocks: u32,
-    pub awun: u16,
-    pub acwu: u16,
-    pub nabsn: u16,
-    pub nabo: u16,
-    pub pairs: u16,
-    pub sq_size: u16,
-    pub cq_size: u16,
-    pub jobs: u16,
-    pub cqs: u16,
-}
+use peer::{Step, Submission};
 
 /// One step: kind 0 to 5 is Publish, Fetch, Grant, Block, Post, Reap; `number` is its queue or ticket. A Publish has
 /// `count` entries, from `at` on: 64 bytes each, and then `first` or `second` bytes of data.
@@ -26,23 +12,6 @@ pub struct Asked {
     pub at: usize,
     pub first: usize,
     pub second: usize,
-}
-
-pub fn config_of(numbers: &Numbers) -> Option<Config> {
-    let n = *numbers;
-    let config = Config {
-        blocks: n.blocks,
-        awun: n.awun,
-        acwu: n.acwu,
-        nabsn: n.nabsn,
-        nabo: n.nabo,
-        pairs: n.pairs,
-        sq_size: n.sq_size,
-        cq_size: n.cq_size,
-        jobs: n.jobs,
-        cqs: n.cqs,
-    };
-    config.fault().is_none().then_some(config)
 }
 
 fn submission_at(bytes: &[u8], at: usize, length: usize) -> Option<Submission> {

@@ -27,7 +27,7 @@ fn drawn(bench: &Bench, seed: Seed, random: &Random, script: &[u8]) {
     let now = bench.casdisk.refusing(&seed.words().each_ref().map(|word| word.as_str()), Refused::from(number));
     let is_whole = (now.status, now.refused, now.held) == (0, 0, 0) && now.output == script;
     let is_right = is_whole || now.refused > 0 && is_told_early(&now, script);
-    bench.tally.see_drawn(&format!("no memory from allocation {number} on while it is drawn"), seed, is_right);
+    bench.tally.see(format_args!("no memory from allocation {number} on while it is drawn, script `{seed}`"), 1, is_right);
 }
 
 // A history of a script that isn't whole, checked with memory or without.
@@ -42,7 +42,7 @@ fn checked(bench: &Bench, seed: Seed, random: &Random, output: &[u8]) {
     let now = bench.casdisk.refusing(&["check", &file], refused);
     let is_legal = now.status == 0 && now.output == b"legal\n" && now.held == 0;
     let is_right = is_legal || now.refused > 0 && is_told_early(&now, b"");
-    bench.tally.see_drawn("a check of what was printed", seed, is_right);
+    bench.tally.see(format_args!("a check of what was printed, script `{seed}`"), 1, is_right);
 }
 
 /// The script of a seed by the program, without memory from some growth on: its text is that of the peer, or a beginning. What
@@ -58,7 +58,7 @@ pub fn by_program(bench: &Bench, seed: Seed) {
     let now = bench.casdisk.refusing(&["run", &file], refused);
     let is_whole = now.status == status && now.output == theirs && now.held == 0;
     let is_right = is_whole || now.refused > 0 && is_told_early(&now, &theirs);
-    bench.tally.see_drawn(&format!("no memory at allocation {number} of a run"), seed, is_right);
+    bench.tally.see(format_args!("no memory at allocation {number} of a run, script `{seed}`"), 1, is_right);
     checked(bench, seed, &random, &now.output);
 }
 
@@ -92,6 +92,6 @@ pub fn asked_again(bench: &Bench, first: u64, count: u64) {
         let is_right = (now.status, now.held, right) == (0, 0, count) && left.is_empty() && now.refused > 0;
         // the first script that isn't as it should be, where one isn't
         let seed = Seed(first + right.min(count - 1));
-        bench.tally.see_many_drawn(&format!("{count} scripts from seed {first} on"), seed, now.refused, is_right);
+        bench.tally.see(format_args!("{count} scripts from seed {first} on, script `{seed}`"), now.refused, is_right);
     }
 }

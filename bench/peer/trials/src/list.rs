@@ -1,10 +1,12 @@
 //! A list of steps, and the script that asks for them.
 
-use crate::asked::{Asked, Numbers};
+use crate::asked::Asked;
+use peer::Config;
+use peer::text::{put_config, put_data, put_hex};
 
-/// Steps, and the bytes of their entries.
+/// Steps over a configuration, and the bytes of their entries.
 pub struct List {
-    pub numbers: Numbers,
+    pub config: Config,
     pub asked: Vec<Asked>,
     pub bytes: Vec<u8>,
 }
@@ -14,8 +16,8 @@ fn other(kind: u32, number: u64) -> Asked {
 }
 
 impl List {
-    pub fn new(numbers: Numbers) -> List {
-        List { numbers, asked: Vec::new(), bytes: Vec::new() }
+    pub fn new(config: Config) -> List {
+        List { config, asked: Vec::new(), bytes: Vec::new() }
     }
 
     /// Puts an entry with its data among the bytes, and says where.
@@ -49,40 +51,17 @@ impl List {
     pub fn reap(&mut self, queue: u16) {
         self.asked.push(other(5, u64::from(queue)));
     }
-}
 
-fn put_hex(out: &mut Vec<u8>, bytes: &[u8]) {
-    for byte in bytes {
-        out.extend_from_slice(format!("{byte:02X}").as_bytes());
-    }
-}
-
-fn put_data(out: &mut Vec<u8>, data: &[u8]) {
-    if data.is_empty() {
-        out.push(b'-');
-    } else if data.len() % 512 != 0 {
-        out.push(b'x');
-        put_hex(out, data);
-    } else {
-        for (place, block) in data.chunks(512).enumerate() {
-            if place > 0 {
-                out.push(b'.');
-            }
-            let same = block.iter().all(|byte| *byte == block[0]);
-            put_hex(out, if same { &block[..1] } else { block });
+    /// A command of one entry, alone from its Publish to its Reap; its units have so many blocks.
+    pub fn alone(&mut self, ticket: u64, at: usize, length: usize, units: &[u16]) {
+        self.publish(1, 1, at, length, 0);
+        self.fetch(1);
+        for blocks in units {
+            self.grant(ticket);
+            (0..*blocks).for_each(|_| self.block(ticket));
         }
-    }
-}
-
-impl List {
-    // The configuration line.
-    fn config_text(&self) -> String {
-        let n = self.numbers;
-        let nine = format!(
-            "{} {} {} {} {} {} {} {} {}",
-            n.blocks, n.awun, n.acwu, n.nabsn, n.nabo, n.pairs, n.sq_size, n.cq_size, n.jobs
-        );
-        if n.cqs == n.pairs { format!("config {nine}\n") } else { format!("config2 {nine} {}\n", n.cqs) }
+        self.post(ticket);
+        self.reap(1);
     }
 
     // The line of a script that asks for this step; a Publish without an entry has none.
@@ -109,7 +88,8 @@ impl List {
 
     /// The whole script.
     pub fn script(&self) -> Vec<u8> {
-        let mut out = self.config_text().into_bytes();
+        let mut out = Vec::new();
+        put_config(&mut out, &self.config);
         self.asked.iter().for_each(|asked| self.line(asked, &mut out));
         out
     }

@@ -1,13 +1,13 @@
 //! The workloads, as lists of steps.
 
-use crate::asked::{Numbers, step_of};
+use crate::asked::step_of;
 pub use crate::list::List;
 use peer::sqe::command;
-use peer::{Answer, Config, Core, Kind};
+use peer::{Answer, Config, Core, Kind, Refused, Why};
 use std::cell::Cell;
 
-pub fn numbers(blocks: u32, awun: u16) -> Numbers {
-    Numbers { blocks, awun, acwu: awun, nabsn: 0, nabo: 0, pairs: 1, sq_size: 8, cq_size: 8, jobs: 8, cqs: 1 }
+pub fn numbers(blocks: u32, awun: u16) -> Config {
+    Config { blocks, awun, acwu: awun, nabsn: 0, nabo: 0, pairs: 1, sq_size: 8, cq_size: 8, jobs: 8, cqs: 1 }
 }
 
 pub const FLUSH: u8 = 0x00;
@@ -21,7 +21,7 @@ fn pattern(blocks: usize, seed: usize) -> Vec<u8> {
 }
 
 /// Writes of so many blocks, one ticket after the other.
-pub fn writes(numbers: Numbers, blocks: u16, count: usize) -> List {
+pub fn writes(numbers: Config, blocks: u16, count: usize) -> List {
     let mut list = List::new(numbers);
     let places = (numbers.blocks as usize / usize::from(blocks)).min(if blocks == 1 { 256 } else { 4 });
     let stride = numbers.blocks as usize / places;
@@ -32,20 +32,12 @@ pub fn writes(numbers: Numbers, blocks: u16, count: usize) -> List {
         })
         .collect();
     for turn in 0..count {
-        let ticket = turn as u64 + 1;
-        list.publish(1, 1, entries[turn % places], 512 * usize::from(blocks), 0);
-        list.fetch(1);
-        list.grant(ticket);
-        for _ in 0..blocks {
-            list.block(ticket);
-        }
-        list.post(ticket);
-        list.reap(1);
+        list.alone(turn as u64 + 1, entries[turn % places], 512 * usize::from(blocks), &[blocks]);
     }
     list
 }
 
-/// A script as bench/scripts has it: so many Writes of one block, four lines for each, one of them `settle`.
+/// A script of so many Writes of one block, four lines for each, one of them `settle`.
 pub fn settled(count: usize) -> String {
     let mut text = String::from("config 8 1 1 0 0 2 4 4 8\n");
     for turn in 0..count {
@@ -56,16 +48,10 @@ pub fn settled(count: usize) -> String {
 
 /// The steps of `settled`.
 pub fn settled_steps(count: usize) -> List {
-    let mut list = List::new(Numbers { pairs: 2, sq_size: 4, cq_size: 4, cqs: 2, jobs: 8, ..numbers(8, 1) });
+    let mut list = List::new(Config { pairs: 2, sq_size: 4, cq_size: 4, cqs: 2, jobs: 8, ..numbers(8, 1) });
     for turn in 0..count {
-        let ticket = turn as u64 + 1;
         let entry = list.entry(&command(WRITE, 0, (turn % 65_536) as u16, 3, 0), &[0xA1; 512]);
-        list.publish(1, 1, entry, 512, 0);
-        list.fetch(1);
-        list.grant(ticket);
-        list.block(ticket);
-        list.post(ticket);
-        list.reap(1);
+        list.alone(turn as u64 + 1, entry, 512, &[1]);
     }
     list
 }
@@ -90,25 +76,17 @@ pub fn refused(script: &[u8]) -> Vec<u8> {
 }
 
 /// Reads of so many blocks, one ticket after the other.
-pub fn reads(numbers: Numbers, blocks: u16, count: usize) -> List {
+pub fn reads(numbers: Config, blocks: u16, count: usize) -> List {
     let mut list = List::new(numbers);
     let entry = list.entry(&command(READ, 0, 1, 0, blocks - 1), &[]);
     for turn in 0..count {
-        let ticket = turn as u64 + 1;
-        list.publish(1, 1, entry, 0, 0);
-        list.fetch(1);
-        list.grant(ticket);
-        for _ in 0..blocks {
-            list.block(ticket);
-        }
-        list.post(ticket);
-        list.reap(1);
+        list.alone(turn as u64 + 1, entry, 0, &[blocks]);
     }
     list
 }
 
 /// Fused pairs of one block that all win, one ticket after the other.
-pub fn pairs(numbers: Numbers, count: usize) -> List {
+pub fn pairs(numbers: Config, count: usize) -> List {
     let mut list = List::new(numbers);
     let (zeros, ones) = ([0; 512], [0xA1; 512]);
     let pair = |list: &mut List, from: &[u8], to: &[u8]| {
@@ -180,13 +158,7 @@ pub fn idle_in_flight(tickets: u16, turns: usize) -> List {
         list.grant(u64::from(place) + 1);
     }
     for turn in 0..turns as u64 {
-        let ticket = u64::from(tickets) + turn;
-        list.publish(1, 1, entries[511], 512, 0);
-        list.fetch(1);
-        list.grant(ticket);
-        list.block(ticket);
-        list.post(ticket);
-        list.reap(1);
+        list.alone(u64::from(tickets) + turn, entries[511], 512, &[1]);
     }
     list
 }
@@ -203,10 +175,7 @@ pub fn flushes_beside(tickets: u16, turns: usize) -> List {
         list.fetch(1);
     }
     for turn in 0..turns as u64 {
-        list.publish(1, 1, flush, 0, 0);
-        list.fetch(1);
-        list.post(u64::from(tickets) + turn + 1);
-        list.reap(1);
+        list.alone(u64::from(tickets) + turn + 1, flush, 0, &[]);
     }
     list
 }
@@ -224,34 +193,18 @@ pub fn grants_beside(tickets: u16, units: u16, turns: usize) -> List {
     }
     let write = list.entry(&command(WRITE, 0, 1000, 0, units - 1), &pattern(usize::from(units), 1));
     for turn in 0..turns as u64 {
-        let ticket = u64::from(tickets) + turn + 1;
-        list.publish(1, 1, write, 512 * usize::from(units), 0);
-        list.fetch(1);
-        for _ in 0..units {
-            list.grant(ticket);
-            list.block(ticket);
-        }
-        list.post(ticket);
-        list.reap(1);
+        list.alone(u64::from(tickets) + turn + 1, write, 512 * usize::from(units), &vec![1; usize::from(units)]);
     }
     list
 }
 
 /// Writes of 16 blocks, one ticket after the other, from block 8 on over boundaries at 11 and 19: units of 3, 8 and 5 blocks.
 pub fn over_boundaries(turns: usize) -> List {
-    let numbers = Numbers { nabsn: 7, nabo: 3, ..numbers(1024, 7) };
+    let numbers = Config { nabsn: 7, nabo: 3, ..numbers(1024, 7) };
     let mut list = List::new(numbers);
     let write = list.entry(&command(WRITE, 0, 1, 8, 15), &pattern(16, 1));
     for turn in 0..turns as u64 {
-        let ticket = turn + 1;
-        list.publish(1, 1, write, 16 * 512, 0);
-        list.fetch(1);
-        for blocks in [3, 8, 5] {
-            list.grant(ticket);
-            (0..blocks).for_each(|_| list.block(ticket));
-        }
-        list.post(ticket);
-        list.reap(1);
+        list.alone(turn + 1, write, 16 * 512, &[3, 8, 5]);
     }
     list
 }
@@ -259,7 +212,7 @@ pub fn over_boundaries(turns: usize) -> List {
 /// 256 tickets in flight on 16 queues, each a Write of 16 blocks in units of one, of which one is always open.
 pub fn many_open(turns: usize) -> List {
     let numbers =
-        Numbers { blocks: 65_536, awun: 0, acwu: 0, nabsn: 0, nabo: 0, pairs: 16, sq_size: 32, cq_size: 32, jobs: 256, cqs: 16 };
+        Config { blocks: 65_536, awun: 0, acwu: 0, nabsn: 0, nabo: 0, pairs: 16, sq_size: 32, cq_size: 32, jobs: 256, cqs: 16 };
     let mut list = List::new(numbers);
     let entries: Vec<usize> = (0..512u64)
         .map(|place| list.entry(&command(WRITE, 0, place as u16, place * 128 % 65_536, 15), &pattern(16, place as usize)))
@@ -312,21 +265,6 @@ impl Random {
     }
 }
 
-pub fn config_of(n: &Numbers) -> Config {
-    Config {
-        blocks: n.blocks,
-        awun: n.awun,
-        acwu: n.acwu,
-        nabsn: n.nabsn,
-        nabo: n.nabo,
-        pairs: n.pairs,
-        sq_size: n.sq_size,
-        cq_size: n.cq_size,
-        jobs: n.jobs,
-        cqs: n.cqs,
-    }
-}
-
 #[derive(Clone, Copy, PartialEq)]
 enum Due {
     Grant,
@@ -334,10 +272,15 @@ enum Due {
     Post,
 }
 
+// The answer to the last step of a list.
+fn last_of(list: &List, core: &mut Core) -> Result<Answer, Refused> {
+    core.step(step_of(&list.bytes, list.asked.last().expect("a step")).expect("its entries"))
+}
+
 /// 16 queues and about 256 tickets in flight, of all operations on 1 to 8 blocks: so many steps.
 pub fn mixed(seed: u64, steps: usize) -> List {
     let numbers =
-        Numbers { blocks: 65_536, awun: 3, acwu: 7, nabsn: 0, nabo: 0, pairs: 16, sq_size: 64, cq_size: 64, jobs: 256, cqs: 16 };
+        Config { blocks: 65_536, awun: 3, acwu: 7, nabsn: 0, nabo: 0, pairs: 16, sq_size: 64, cq_size: 64, jobs: 256, cqs: 16 };
     let random = Random::new(seed);
     let mut list = List::new(numbers);
     // entries with their data, of each operation; the first 64 blocks of each are bytes that a Compare finds
@@ -361,7 +304,7 @@ pub fn mixed(seed: u64, steps: usize) -> List {
         };
         stock.push(one);
     }
-    let mut core = Core::new(config_of(&numbers));
+    let mut core = Core::new(numbers);
     let mut flying: Vec<(u64, u16, u32, Due)> = Vec::new();
     let mut next = 0;
     while list.asked.len() < steps {
@@ -370,11 +313,11 @@ pub fn mixed(seed: u64, steps: usize) -> List {
             let (count, at, first, second) = stock[next % 1024];
             next += 1;
             list.publish(queue, count, at, first, second);
-            if core.step(step_of(&list.bytes, list.asked.last().unwrap()).unwrap()).is_err() {
+            if last_of(&list, &mut core).is_err() {
                 continue;
             }
             list.fetch(queue);
-            if let Ok(Answer::Fetched(ticket, kind)) = core.step(step_of(&list.bytes, list.asked.last().unwrap()).unwrap()) {
+            if let Ok(Answer::Fetched(ticket, kind)) = last_of(&list, &mut core) {
                 flying.push(match kind {
                     Kind::Failed(owed) => (ticket, queue, u32::from(owed), Due::Post),
                     Kind::Flush => (ticket, queue, 1, Due::Post),
@@ -391,7 +334,7 @@ pub fn mixed(seed: u64, steps: usize) -> List {
             Due::Block => list.block(ticket),
             Due::Post => list.post(ticket),
         }
-        let answer = core.step(step_of(&list.bytes, list.asked.last().unwrap()).unwrap());
+        let answer = last_of(&list, &mut core);
         match answer {
             Ok(Answer::Granted(..)) => flying[place].3 = Due::Block,
             Ok(Answer::Blocked(done)) if done.ended => flying[place].3 = Due::Grant,
@@ -399,12 +342,12 @@ pub fn mixed(seed: u64, steps: usize) -> List {
             Ok(Answer::Posted(_)) => {
                 flying[place].2 -= 1;
                 list.reap(queue);
-                let _ = core.step(step_of(&list.bytes, list.asked.last().unwrap()).unwrap());
+                let _ = last_of(&list, &mut core);
                 if owed == 1 {
                     flying.swap_remove(place);
                 }
             }
-            Err(refused) if due == Due::Grant && refused.why() == peer::Why::WrongState => flying[place].3 = Due::Post,
+            Err(refused) if due == Due::Grant && refused.why() == Why::WrongState => flying[place].3 = Due::Post,
             _ => {}
         }
     }

@@ -107,3 +107,24 @@ impl Program {
         (ran.status.code().unwrap_or(-1), ran.stdout, String::from_utf8_lossy(&ran.stderr).into_owned())
     }
 }
+
+/// Compares by each seed that the command line names, NAME CASDISK FOLDER FIRST-SEED HOW-MANY, on all processors, each
+/// thread in a folder of its own; a program in another folder for what comes then, and how many seeds there were.
+pub fn by_seeds(compare: impl Fn(&Program, u64) + Sync) -> (Program, u64) {
+    let words: Vec<String> = std::env::args().skip(1).collect();
+    let [casdisk, folder, first, many] = &words[..] else {
+        panic!("CASDISK FOLDER FIRST-SEED HOW-MANY");
+    };
+    let (first, many): (u64, u64) = (first.parse().expect("a number"), many.parse().expect("a number"));
+    let program = |name: &str| Program::new(Path::new(casdisk), Path::new(""), &Path::new(folder).join(name));
+    let threads = std::thread::available_parallelism().map_or(2, |n| n.get()) as u64;
+    std::thread::scope(|scope| {
+        for part in 0..threads {
+            let (program, compare) = (program(&part.to_string()), &compare);
+            scope.spawn(move || {
+                (first + part..first + many).step_by(threads as usize).for_each(|seed| compare(&program, seed));
+            });
+        }
+    });
+    (program("last"), many)
+}

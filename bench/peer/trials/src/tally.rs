@@ -1,7 +1,7 @@
 //! How many refusals were tried, and how many went wrong.
 
-use crate::drawn::Seed;
 use crate::program::{Ended, Program};
+use std::fmt;
 use std::sync::atomic::{AtomicU64, Ordering::Relaxed};
 
 /// The program's status for want of memory.
@@ -15,35 +15,13 @@ pub struct Tally {
 }
 
 impl Tally {
-    /// Counts what was tried, and says what is wrong: of which run, and at which refusal.
-    pub fn see(&self, what: &str, run: u64, number: u64, is_right: bool) {
-        self.see_many(what, run, number, 1, is_right);
-    }
-
-    /// The same of several refusals.
-    pub fn see_many(&self, what: &str, run: u64, number: u64, refusals: u64, is_right: bool) {
+    /// Counts what was tried, so many refusals, and says of what isn't right which it is.
+    pub fn see(&self, which: fmt::Arguments, refusals: u64, is_right: bool) {
         self.tried.fetch_add(refusals, Relaxed);
         if !is_right {
-            self.is_wrong(&format!("{what}, run {run}, refusal {number}"));
+            self.wrong.fetch_add(1, Relaxed);
+            println!("{which}: wrong");
         }
-    }
-
-    /// The same of a script that is drawn by a seed.
-    pub fn see_drawn(&self, what: &str, seed: Seed, is_right: bool) {
-        self.see_many_drawn(what, seed, 1, is_right);
-    }
-
-    /// The same of several refusals.
-    pub fn see_many_drawn(&self, what: &str, seed: Seed, refusals: u64, is_right: bool) {
-        self.tried.fetch_add(refusals, Relaxed);
-        if !is_right {
-            self.is_wrong(&format!("{what}, script `{seed}`"));
-        }
-    }
-
-    fn is_wrong(&self, what: &str) {
-        self.wrong.fetch_add(1, Relaxed);
-        println!("{what}: wrong");
     }
 }
 

@@ -35,9 +35,10 @@ fn program(bench: &Bench, words: &[&str], row: u64) -> Ended {
         let one = bench.casdisk.refusing(words, Refused::one(number));
         let is_whole = one.status == 0 && one.output == whole.output && one.held == 0;
         let is_right = (is_whole || is_told_early(&one, &whole.output)) && one.refused == 1;
-        bench.tally.see(words[0], row, number, is_right);
+        bench.tally.see(format_args!("{}, run {row}, refusal {number}", words[0]), 1, is_right);
         let all = bench.casdisk.refusing(words, Refused::from(number));
-        bench.tally.see("no memory from there on", row, number, is_told_early(&all, &whole.output));
+        let is_right = is_told_early(&all, &whole.output);
+        bench.tally.see(format_args!("no memory from there on, run {row}, refusal {number}"), 1, is_right);
     }
     whole
 }
@@ -62,7 +63,7 @@ fn comments(bench: &Bench, row: u64, script: &[u8], asked: u64) {
     }
     let file = bench.casdisk.put("more", &more);
     let now = bench.casdisk.refusing(&["run", &file], Refused::NONE);
-    bench.tally.see("comments", row, asked, now.status == 0 && now.asked == asked);
+    bench.tally.see(format_args!("comments, run {row}"), 1, now.status == 0 && now.asked == asked);
 }
 
 // Each allocation of a run whose steps are asked again: want of memory is told once at most, and the history is that of the
@@ -77,7 +78,8 @@ fn steps(bench: &Bench, way: &str, row: u64) {
         let one = bench.runs.refusing(&words, Refused::one(number));
         let is_back = way == "together" && one.status == NO_MEMORY;
         let is_whole = one.status == 0 && one.output == whole.output && matches!(&one.words[..], b"0\n" | b"1\n");
-        bench.tally.see(way, row, number, (is_back || is_whole) && one.refused == 1 && one.held == 0);
+        let is_right = (is_back || is_whole) && one.refused == 1 && one.held == 0;
+        bench.tally.see(format_args!("{way}, run {row}, refusal {number}"), 1, is_right);
     }
     often(bench, way, row, &whole);
 }
@@ -89,7 +91,8 @@ fn often(bench: &Bench, way: &str, row: u64, whole: &Ended) {
     let again = |times: u64| bench.runs.refusing(&[way, &row, &(times - 1).to_string(), WHOLE], Refused::NONE);
     let (few, many) = (again(4), again(OFTEN));
     let is_same = (many.status, &many.output, many.held) == (0, &whole.output, 0);
-    bench.tally.see_many(way, few.most as u64, many.most as u64, 0, is_same && many.most - few.most < OFTEN as i64);
+    let is_right = is_same && many.most - few.most < OFTEN as i64;
+    bench.tally.see(format_args!("{way}, run {row}, {} bytes and then {}", few.most, many.most), 0, is_right);
 }
 
 // After room was made for the Grants, Blocks and Reaps that come next, every later allocation is refused.
@@ -103,7 +106,7 @@ fn promised(bench: &Bench, row: u64) {
             return;
         }
         let now = bench.runs.refusing(&["promised", &row_word, &place_word, WHOLE], Refused::from(before.asked + 1));
-        bench.tally.see("promised steps", row, place, now.status == 0 && now.held == 0);
+        bench.tally.see(format_args!("promised steps, run {row}, step {place}"), 1, now.status == 0 && now.held == 0);
     }
 }
 
@@ -121,7 +124,7 @@ fn quiet(bench: &Bench) {
     let before = bench.runs.refusing(&["quiet", "0", "0", FIRST], Refused::NONE);
     let now = bench.runs.refusing(&["quiet", "0", "0", WHOLE], Refused::from(before.asked + 1));
     let is_right = (now.status, now.asked, now.held) == (0, before.asked, 0);
-    bench.tally.see("calls that take no memory", 0, before.asked, is_right);
+    bench.tally.see(format_args!("calls that take no memory"), 1, is_right);
 }
 
 // A Publish asks for its data once.
@@ -130,7 +133,7 @@ fn one_copy(bench: &Bench) {
         let before = bench.runs.refusing(&["publish", "0", blocks, FIRST], Refused::NONE);
         bench.runs.refusing(&["publish", "0", blocks, WHOLE], Refused::NONE).bytes - before.bytes
     };
-    bench.tally.see_many("the copy of a Publish", 256, asked("256"), 0, asked("256") - asked("1") == 255 * 512);
+    bench.tally.see(format_args!("the copy of a Publish"), 0, asked("256") - asked("1") == 255 * 512);
 }
 
 // Blocks take no memory but for the history, which has a Publish, a Fetch and a Grant before them: when it has grown it is at
@@ -145,10 +148,11 @@ fn doubling(bench: &Bench) {
             continue;
         }
         let entries = 3 + blocks - 1;
-        bench.tally.see_many("a growth of the history", entries, full, 0, now == last + 1 && entries >= 2 * full);
+        let is_right = now == last + 1 && entries >= 2 * full;
+        bench.tally.see(format_args!("a growth of the history from {full} to {entries} entries"), 0, is_right);
         (last, full, growths) = (now, entries, growths + 1);
     }
-    bench.tally.see_many("growths of the history", 256, growths, 0, (4..=8).contains(&growths));
+    bench.tally.see(format_args!("{growths} growths of the history"), 0, (4..=8).contains(&growths));
 }
 
 /// What is tried once: the calls and the claims of a driver, and how memory is taken.
@@ -185,10 +189,10 @@ fn is_whole_race(ended: &Ended, [hosts, slots, rounds]: [u64; 3]) -> bool {
 pub fn race(bench: &Bench, number: u64) {
     let one = bench.casdisk.refusing(&RACE, Refused::one(number));
     let is_right = is_whole_race(&one, SMALL) || one.refused == 1 && is_told(&one);
-    bench.tally.see("a race", 0, number, is_right && is_legal(bench, &one.output));
+    bench.tally.see(format_args!("a race, refusal {number}"), 1, is_right && is_legal(bench, &one.output));
     let all = bench.casdisk.refusing(&RACE, Refused::from(number));
     let is_right = all.refused == 0 && is_whole_race(&all, SMALL) || all.refused > 0 && is_told(&all);
-    bench.tally.see("a race without memory from there on", 0, number, is_right && is_legal(bench, &all.output));
+    bench.tally.see(format_args!("a race without memory from {number} on"), 1, is_right && is_legal(bench, &all.output));
 }
 
 /// How many allocations a long race asks for at the least: that differs from race to race.
@@ -203,5 +207,5 @@ pub fn long_race_asks(bench: &Bench) -> u64 {
 pub fn long_race(bench: &Bench, number: u64, asks: u64) {
     let one = bench.casdisk.refusing(&LONG_RACE, Refused::one(number));
     let is_early = one.refused == 1 && is_told(&one) && one.asked < number + (asks - number) / 4;
-    bench.tally.see("a long race", 0, number, is_early || is_whole_race(&one, LONG));
+    bench.tally.see(format_args!("a long race, refusal {number}"), 1, is_early || is_whole_race(&one, LONG));
 }

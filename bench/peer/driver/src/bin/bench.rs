@@ -42,7 +42,7 @@ fn compare(repeats: usize, ours: impl Fn() -> u64, theirs: impl Fn() -> u64) -> 
 }
 
 fn row(repeats: usize, name: &str, list: &List) {
-    let (n, a, b) = (&list.numbers, &list.asked[..], &list.bytes[..]);
+    let (n, a, b) = (&list.config, &list.asked[..], &list.bytes[..]);
     let steps = a.len() as f64;
     let whole = compare(repeats, || product::run(n, a, b), || by_hand::run(n, a, b));
     let empty = compare(repeats, || product::run(n, &[], b), || by_hand::run(n, &[], b));
@@ -69,14 +69,8 @@ fn row(repeats: usize, name: &str, list: &List) {
 }
 
 fn head(name: &str) {
-    let beside = if cfg!(feature = "boxed") {
-        ", beside the boxed peer"
-    } else if cfg!(feature = "indexed") {
-        ", beside the indexed peer"
-    } else {
-        ""
-    };
-    println!("\n{name}{beside}\n");
+    let peer = if cfg!(feature = "boxed") { "boxed" } else { "indexed" };
+    println!("\n{name}, beside the {peer} peer\n");
     println!("| workload | steps | product ns/step | peer ns/step | ratio | ratio of least | product less an empty run | peer less an empty run | ratio | product steps/s | peer steps/s | peer: freeing, of the steps |");
     println!("|---|---|---|---|---|---|---|---|---|---|---|---|");
 }
@@ -97,12 +91,6 @@ fn main() {
         row(repeats, "(e) 16 queues, 256 tickets, mixed", &mixed(7, 200_000));
         row(repeats, "(f) the same, 256 open units", &many_open(15));
     }
-    if wants("length") {
-        head("Growth with the history's length: Writes of 1 block");
-        for count in [167, 1_667, 16_667, 166_667] {
-            row(repeats, &format!("{} steps", 6 * count), &writes(numbers(1024, 0), 1, count));
-        }
-    }
     if wants("flight") {
         head("Growth with tickets in flight: the oldest ends, a new one comes, all have open units");
         for tickets in [1, 2, 4, 8, 16, 32, 64, 128, 256] {
@@ -115,25 +103,10 @@ fn main() {
             row(repeats, &format!("{tickets} in flight"), &idle_in_flight(tickets, 10_000));
         }
     }
-    if wants("queue") {
-        head("Growth with the slots of the queues: Writes of 1 block");
-        for slots in [2, 16, 128, 1024] {
-            let mut numbers = numbers(1024, 0);
-            (numbers.sq_size, numbers.cq_size) = (slots, slots);
-            row(repeats, &format!("{slots} slots"), &writes(numbers, 1, 10_000));
-        }
-    }
     if wants("volume") {
         head("Growth with the blocks of the volume: Writes of 1 block");
         for blocks in [16, 1024, 65_536] {
             row(repeats, &format!("{blocks} blocks"), &writes(numbers(blocks, 0), 1, 10_000));
-        }
-    }
-    if wants("span") {
-        head("Growth with the blocks of a command: Writes, then Reads");
-        for blocks in [1, 4, 16, 64, 256] {
-            row(repeats, &format!("Writes of {blocks}"), &writes(numbers(1024, 255), blocks, 20_000 / usize::from(blocks)));
-            row(repeats, &format!("Reads of {blocks}"), &reads(numbers(1024, 255), blocks, 20_000 / usize::from(blocks)));
         }
     }
     if wants("parts") {
@@ -150,7 +123,7 @@ fn main() {
             let turns = 16_000;
             let of = |beside: u16| {
                 let (list, base) = (make(beside, turns), make(beside, 16));
-                let (n, a, b) = (&list.numbers, &list.asked[..], &list.bytes[..]);
+                let (n, a, b) = (&list.config, &list.asked[..], &list.bytes[..]);
                 let all = compare(repeats, || product::run(n, a, b), || by_hand::run(n, a, b));
                 let (a, b) = (&base.asked[..], &base.bytes[..]);
                 let less = compare(repeats, || product::run(n, a, b), || by_hand::run(n, a, b));
@@ -179,7 +152,7 @@ fn main() {
             }
             list.post(1);
             let times = 20_000;
-            let (n, a, b) = (&list.numbers, &list.asked[..], &list.bytes[..]);
+            let (n, a, b) = (&list.config, &list.asked[..], &list.bytes[..]);
             let row = compare(repeats, || product::ready(n, a, b, times), || by_hand::ready(n, a, b, times));
             println!("| {tickets} | {:.1} | {:.1} | {:.2} |", row.ours / times as f64, row.theirs / times as f64, row.ours / row.theirs);
         }
@@ -195,7 +168,7 @@ fn main() {
             ("scripts: 16 queues, mixed", mixed(7, 20_000), None),
         ] {
             let script: Vec<u8> = script.unwrap_or_else(|| list.script());
-            let (n, lines_of) = (&list.numbers, |text: &[u8]| text.iter().filter(|byte| **byte == b'\n').count() as f64);
+            let (n, lines_of) = (&list.config, |text: &[u8]| text.iter().filter(|byte| **byte == b'\n').count() as f64);
             let mut output = Vec::new();
             by_hand::script(&script, &mut output);
             let lines = lines_of(&script);
@@ -241,7 +214,7 @@ fn main() {
                     .collect::<Vec<_>>()
                     .concat();
                 let entries = text.iter().filter(|byte| **byte == b'\n').count();
-                let n = &list.numbers;
+                let n = &list.config;
                 let times = (100_000 / steps) as u64;
                 let row = compare(repeats, || product::check_lines(n, &text, times), || by_hand::check_lines(n, &text, times));
                 let (ours, theirs) = (row.ours / times as f64, row.theirs / times as f64);

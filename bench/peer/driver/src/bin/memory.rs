@@ -14,12 +14,7 @@ fn main() {
         ("Flushes, refused steps left out", {
             let mut list = List::new(numbers(16, 0));
             let entry = list.entry(&peer::sqe::command(FLUSH, 0, 0, 0, 0), &[]);
-            for ticket in 1..=26_214 {
-                list.publish(1, 1, entry, 0, 0);
-                list.fetch(1);
-                list.post(ticket);
-                list.reap(1);
-            }
+            (1..=26_214).for_each(|ticket| list.alone(ticket, entry, 0, &[]));
             list
         }),
         ("fused pairs of 1 block", pairs(numbers(1024, 0), 14_563)),
@@ -28,7 +23,7 @@ fn main() {
         ("16 queues, 256 tickets, mixed", mixed(7, 131_000)),
         ("256 open units", many_open(12)),
     ] {
-        let (n, a, b) = (&list.numbers, &list.asked[..], &list.bytes[..]);
+        let (n, a, b) = (&list.config, &list.asked[..], &list.bytes[..]);
         let steps = a.len() as f64;
         let (ours, our_calls, our_largest) = counted(|| product::run(n, a, b));
         let (theirs, their_calls, their_largest) = counted(|| by_hand::run(n, a, b));
@@ -51,7 +46,7 @@ fn main() {
         by_hand::script(&script, &mut output);
         let history: Vec<u8> = output.split_inclusive(|byte| *byte == b'\n').filter(|line| !line.starts_with(b"refused")).collect::<Vec<_>>().concat();
         let lines = history.iter().filter(|byte| **byte == b'\n').count() as f64;
-        let (ours, our_calls, _) = counted(|| product::parse(&list.numbers, &history));
+        let (ours, our_calls, _) = counted(|| product::parse(&list.config, &history));
         let (theirs, their_calls, _) = counted(|| by_hand::parse(&history));
         println!("| {name}, its history read | {lines} | {:.1} | {:.1} | {:.2} | {:.2} | {:.2} |", ours as f64 / lines, theirs as f64 / lines, ours as f64 / theirs as f64, our_calls as f64 / lines, their_calls as f64 / lines);
     }

@@ -30,7 +30,7 @@ fn main() {
             grown(blocks, slots as u16, tickets as u16, turns as usize)
         }
     };
-    let (n, a, b) = (&list.numbers, &list.asked[..], &list.bytes[..]);
+    let (n, a, b) = (&list.config, &list.asked[..], &list.bytes[..]);
     let (mut script, mut output, mut room) = (Vec::new(), Vec::new(), vec![0; 1 << 20]);
     let does = name.split('-').nth(1);
     if does.is_some() {
@@ -73,6 +73,7 @@ fn main() {
     let (what, count) = match does {
         None => ("step", a.len()),
         Some("script" | "read") => ("line", lines(&script)),
+        Some("print") => ("line", 5 * lines(&history)),
         Some(_) => ("line", lines(&history)),
     };
     println!("{side} {name}: {:.1} ns a {what} of {count}", all / count as f64);

@@ -4,10 +4,9 @@
 use outside::brute::{Said, brute};
 use outside::change::{Change, change};
 use outside::making::{MOST_ENTRIES, random_trace};
-use std::path::Path;
 use std::sync::atomic::{AtomicU64, Ordering::Relaxed};
 use trials::lists::Random;
-use trials::program::Program;
+use trials::program::{Program, by_seeds};
 
 /// How many states are looked at before a trace is left undecided.
 const MOST_STATES: usize = 200_000;
@@ -68,21 +67,7 @@ fn compare(program: &Program, seed: u64, has_head: bool) {
 }
 
 fn main() {
-    let words: Vec<String> = std::env::args().skip(1).collect();
-    let [casdisk, folder, first, many] = &words[..] else {
-        panic!("observe CASDISK FOLDER FIRST-SEED HOW-MANY");
-    };
-    let (first, many): (u64, u64) = (first.parse().expect("a number"), many.parse().expect("a number"));
-    let threads = std::thread::available_parallelism().map_or(2, |n| n.get()) as u64;
-    std::thread::scope(|scope| {
-        for part in 0..threads {
-            let program = Program::new(Path::new(casdisk), Path::new(""), &Path::new(folder).join(part.to_string()));
-            scope.spawn(move || {
-                (first + part..first + many).step_by(threads as usize).for_each(|seed| compare(&program, seed, true));
-            });
-        }
-    });
-    let program = Program::new(Path::new(casdisk), Path::new(""), &Path::new(folder).join("once"));
+    let (program, many) = by_seeds(|program, seed| compare(program, seed, true));
     ONCE_WRONG.iter().for_each(|(seed, has_head)| compare(&program, *seed, *has_head));
     let many = many + ONCE_WRONG.len() as u64;
     let mut sums = [0; 3];

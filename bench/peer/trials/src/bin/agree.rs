@@ -3,12 +3,11 @@
 //! differs is left in the folder.
 
 use peer::script::{Kinds, RunFault, check_text, run_script};
-use std::path::Path;
 use std::sync::atomic::{AtomicU64, Ordering::Relaxed};
 use trials::drawn::Seed;
 use trials::edits::{Edit, edited, history_of};
 use trials::lists::{List, Random, in_flight, many_open, mixed, numbers, pairs, reads, writes};
-use trials::program::Program;
+use trials::program::{Program, by_seeds};
 
 static LINES: AtomicU64 = AtomicU64::new(0);
 
@@ -80,21 +79,7 @@ fn long_lists() -> [List; 7] {
 }
 
 fn main() {
-    let words: Vec<String> = std::env::args().skip(1).collect();
-    let [casdisk, folder, first, many] = &words[..] else {
-        panic!("agree CASDISK FOLDER FIRST-SEED HOW-MANY");
-    };
-    let (first, many): (u64, u64) = (first.parse().expect("a number"), many.parse().expect("a number"));
-    let threads = std::thread::available_parallelism().map_or(2, |n| n.get()) as u64;
-    std::thread::scope(|scope| {
-        for part in 0..threads {
-            let program = Program::new(Path::new(casdisk), Path::new(""), &Path::new(folder).join(part.to_string()));
-            scope.spawn(move || {
-                (first + part..first + many).step_by(threads as usize).for_each(|seed| compare(&program, seed));
-            });
-        }
-    });
-    let program = Program::new(Path::new(casdisk), Path::new(""), &Path::new(folder).join("long"));
+    let (program, many) = by_seeds(compare);
     for list in long_lists() {
         let output = same_script(&program, &list.script(), 0);
         same_checks(&program, &output, 0);

@@ -1,0 +1,77 @@
+#!/usr/bin/env python3
+"""Reads crates.txt, in which a crate stands behind those that it stands on.
+
+    .ci/crates.py above CRATE ..          prints these crates and those that stand on them, in the order of crates.txt
+    .ci/crates.py below CRATE ..          the crates that these stand on, without them; `needed`: with them
+    .ci/crates.py room FOLDER CRATE ..    makes a folder a tree of these crates alone, for an `rt ci` of its own
+"""
+import os
+import shutil
+import sys
+
+TOP = os.path.normpath(f"{os.path.dirname(os.path.abspath(__file__))}/..")
+# What of a crate a check or a run reads.
+READ = ("src", "specs", "proofs", "data", "args", "stdin", "stdout", "status")
+# The parts, each a title with its crates, and each crate's line by its name. (The first comment says what the file is.)
+PARTS, LINES = [], {}
+with open(f"{TOP}/crates.txt", encoding="utf-8") as lines:
+    for number, line in enumerate(lines):
+        if number and line.startswith("# "):
+            PARTS.append((line[2:].strip(), []))
+        elif line := line.partition("#")[0].strip():
+            name = line.partition(":")[0].split()[0]
+            LINES[name] = line
+            if PARTS:
+                PARTS[-1][1].append(name)
+
+
+def libraries():
+    """Returns the libraries that each crate's line names, by the crate's name."""
+    return {name: line.partition(":")[2].split() for name, line in LINES.items()}
+
+
+def below(names):
+    """Returns the crates that these stand on, without them, lowest first."""
+    found = set()
+    for crate, named in reversed(libraries().items()):
+        found.update(named if crate in names or crate in found else ())
+    return [it for it in LINES if it in found and it not in names]
+
+
+def above(names):
+    """Returns these crates and those that stand on them, in order."""
+    found = {*names}
+    for crate, named in libraries().items():
+        found.update([crate] if found.intersection(named) else [])
+    return [it for it in LINES if it in found]
+
+
+def make_room(folder, names):
+    """Makes a folder a tree of these crates alone."""
+    os.makedirs(f"{folder}/crates")
+    shutil.copy(f"{TOP}/HANDLES", folder)
+    with open(f"{folder}/crates.txt", "w", encoding="utf-8") as it:
+        it.writelines(f"{LINES[name]}\n" for name in LINES if name in names)
+    for name in names:
+        os.mkdir(f"{folder}/crates/{name}")
+        for part in READ:
+            path = f"{TOP}/crates/{name}/{part}"
+            if os.path.exists(path):
+                (shutil.copytree if os.path.isdir(path) else shutil.copy)(path, f"{folder}/crates/{name}/{part}")
+
+
+def main(words):
+    way, *names = words or [""]
+    folder = names.pop(0) if way == "room" and names else ""
+    ways = {"above": above, "below": below, "needed": lambda it: [*below(it), *it], "room": lambda it: make_room(folder, it)}
+    lost = [it for it in names if it not in LINES]
+    if way not in ways or not names or lost:
+        print(f"crates.py: crates.txt has no crate {lost[0]}" if lost else __doc__, file=sys.stderr)
+        return 2
+    for name in ways[way](names) or ():
+        print(name)
+    return 0
+
+
+if __name__ == "__main__":
+    sys.exit(main(sys.argv[1:]))
