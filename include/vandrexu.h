@@ -257,7 +257,9 @@ uint32_t vandrexu_observe_text(const uint8_t *trace, size_t trace_length, uint64
 
 /* ---- Of these calls alone, nothing of which is proved by itself ---- */
 
-/* Makes what is ready until nothing is: 0, or the first other answer, which is 11 or VANDREXU_NO_HANDLE. */
+/* Makes what is ready until nothing is: 0, or the first other answer, which is 11 or VANDREXU_NO_HANDLE. A loop here,
+ * since whoever steps a controller wants to look between two steps; `vandrexu_controller_ready` is proved to name the
+ * next one. */
 static inline uint32_t vandrexu_settle(vandrexu_controller *controller)
 {
     for (;;) {

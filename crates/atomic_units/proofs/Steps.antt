@@ -1,10 +1,9 @@
 -- The cut, one unit at a time.
-use Rattle.std.proofs.Common.{◌≡◌, ℕ, zero, suc, ◌+◌, ◌-◌, ◌≤◌, List, [], ◌∷◌, refl, ap, ◌∙◌, arith, true}
-use Rattle.nvme_model.specs.Cells.{is_atomic}
+use Rattle.std.proofs.Common.{◌≡◌, ℕ, zero, suc, ◌+◌, ◌-◌, ◌≤◌, List, ◌∷◌, refl, ap, arith}
 use Rattle.nvme_model.specs.Cut.{IsCut, cut, cut_within, longest}
 use Rattle.nvme_model.specs.declared.array.Range.{Range}
 use Rattle.nvme_model.specs.declared.config.AtomicParameters.{AtomicParameters}
-use Rattle.nvme_model.proofs.Cut.{atomic_parts, cut-is, longest_facts, longest_is}
+use Rattle.nvme_model.proofs.Cut.{atomic_parts, cut-is, longest_facts}
 
 pub longest_some : (u : AtomicParameters) (s n : ℕ) → 1 ≤ n → 1 ≤ longest u s n
 longest_some u s zero l = absurd (omega (arith, l))
@@ -38,12 +37,3 @@ cut_step u s (suc n) l =
 -- the list that is the cut keeps its law
 pub is_cut : (u : AtomicParameters) (s n : ℕ) (rs : List Range) → rs ≡ cut u s n → IsCut u s n rs
 is_cut u s n rs e = rw e (cut-is u s n)
-
--- an atomic range is cut into itself
-pub cut_of_atomic : (u : AtomicParameters) (s n : ℕ) → is_atomic u s n ≡ true
-    → cut u s n ≡ record { slba = s; blocks = n } ∷ []
-cut_of_atomic u s n h =
-    let some : 1 ≤ n = (atomic_parts u s n h).some in
-    let all : longest u s n ≡ n = longest_is u s n n (omega arith) h (λ l. absurd (omega (arith, l))) in
-    let none : n - n ≡ 0 = omega arith in
-    cut_step u s n some ∙ rw all (ap (λ k. record { slba = s; blocks = n } ∷ cut u (s + n) k) none)

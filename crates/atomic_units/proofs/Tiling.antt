@@ -1,6 +1,6 @@
 -- Units adjoin, and have each block once.
 use Rattle.std.proofs.Common.{◌≡◌, ℕ, ◌+◌, ◌-◌, ◌≤◌, ◌<◌, true, false, cond, leb, List, [], ◌∷◌, count_by, refl, sym}
-use Rattle.std.proofs.Common.{◌∙◌, arith, inl, inr, le-leb, lt-ltb, le-ltb}
+use Rattle.std.proofs.Common.{◌∙◌, arith, inl, inr, le-ltb}
 use Rattle.std.proofs.lemmas.Bool.{and_from, and_left, and_right, cases_lt, cond-false, cond-true, lt-leb}
 use Rattle.std.proofs.lemmas.List.Sums.{sum_by-cons}
 use Rattle.nvme_model.specs.Array.{has_block}
@@ -8,6 +8,7 @@ use Rattle.nvme_model.specs.Cut.{IsCut}
 use Rattle.nvme_model.specs.declared.array.Range.{Range}
 use Rattle.nvme_model.specs.declared.config.AtomicParameters.{AtomicParameters}
 use Rattle.nvme_model.proofs.Cut.{atomic_parts}
+use Rattle.nvme_model.proofs.HasBlock.{has_inside}
 use Rattle.atomic_units.specs.Tiles.{Adjoin, all_atomic}
 
 pub adjoin_from : (u : AtomicParameters) (s n : ℕ) (rs : List Range) → IsCut u s n rs → Adjoin s n rs
@@ -20,9 +21,6 @@ all_atomic_from u s n [] h = refl
 all_atomic_from u s n (r ∷ rs) h = and_from _ _ (rw h.0 h.2) (all_atomic_from u (s + r.blocks) (n - r.blocks) rs h.4)
 
 -- ---- which ranges have a block
-
-pub has_inside : (r : Range) (l : ℕ) → r.slba ≤ l → l < r.slba + r.blocks → has_block r l ≡ true
-has_inside r l a b = and_from _ _ (le-leb r.slba l a) (lt-ltb l (r.slba + r.blocks) b)
 
 pub has_before : (r : Range) (l : ℕ) → l < r.slba → has_block r l ≡ false
 has_before r l a = and_left (leb r.slba l) _ (lt-leb r.slba l a)

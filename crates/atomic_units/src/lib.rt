@@ -1,5 +1,5 @@
-//! Cuts commands into units at boundaries, and says which blocks are atomic. The controller serves a unit as one
-//! operation.
+//! Cuts commands into atomic units at boundaries, for a controller, which serves a unit as one operation, and says
+//! which blocks are atomic.
 #![tactic(auto)]
 
 mod cells;

@@ -99,6 +99,8 @@ impl Run {
         self.differed || self.made >= needed
     }
 
+    // All boxes of the job are given, with the place of the one that is due, so that a job makes no
+    // slice of them for a unit and has no proofs about one.
     /// Reads, compares or writes the block that is due, and doesn't count the step; what is written comes from the box
     /// at this place.
     pub fn touch(

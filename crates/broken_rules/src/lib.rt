@@ -1,5 +1,4 @@
-//! Names the rule that an entry of a history breaks, for an explanation: the first, with what stands there and what is
-//! due.
+//! Names the first rule that a step of a history breaks, for an explanation: what stands there, and what is due.
 #![tactic(auto)]
 
 mod broken;

@@ -1,4 +1,4 @@
-//! Runs scripts on an NVM Express controller in software: see `casdisk --help`.
+//! The program, for whoever runs scripts, checks histories or lets hosts race: see `casdisk --help`.
 #![tactic(auto)]
 
 use casdisk_program::run_program;

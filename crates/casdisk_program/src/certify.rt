@@ -1,10 +1,10 @@
 //! The command `certify`.
 
 use crate::failure::{Failure, end_fault, failure_of};
+use crate::grammar::Grammar;
 use crate::input::opened;
 use crate::kept::Kept;
-use casdisk_script::{CertifyFault, RunFault, certify_text};
-use line_reasons::Grammar;
+use casdisk_texts::{CertifyFault, RunFault, certify_text};
 use std::alloc::Global;
 use std::io;
 use std::io::{Read, Write};

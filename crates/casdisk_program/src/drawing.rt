@@ -2,16 +2,15 @@
 
 use crate::certify::{CertifyFailure, compared, end_certify, of_history, of_trace};
 use crate::failure::{end_failure, end_fault, failure_of};
+use crate::grammar::Grammar;
 use crate::input::opened;
 use crate::kept::Kept;
-use casdisk_script::{CertifyFault, RunFault};
+use crate::output_buffer::BUFFER;
+use casdisk_texts::{CertifyFault, RunFault};
 use command_line::SlotArea;
-use drawn_text::{DrawFault, DrawOptions, draw_text};
-use lane_shapes::LanesShown;
-use line_reasons::Grammar;
 use nvme_model::array::Range;
-use picture_shapes::{Aspect, Subject};
-use seeded_program::BUFFER;
+use picture_shapes::{Aspect, LanesShown, Subject};
+use picture_svg::{DrawFault, DrawOptions, draw_text};
 use std::io;
 use std::io::{BufWriter, Read, Write};
 use std::rt::Files;

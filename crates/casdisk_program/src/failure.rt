@@ -1,9 +1,11 @@
 //! Why a command failed, in the words that it has always, and in those of `--why`.
 
+use crate::cause::Cause;
+use crate::grammar::Grammar;
 use crate::kept::Kept;
-use casdisk_script::RunFault;
+use crate::reason::why_bad;
+use casdisk_texts::RunFault;
 use history::read_config_line;
-use line_reasons::{Cause, Grammar, why_bad};
 use nvme_model::config::{ConfigFault, ConfigNumbers};
 use std::alloc::Global;
 use std::fmt;

@@ -1,10 +1,10 @@
 //! The command that tells a history in words.
 
 use crate::input::open;
-use casdisk_script::RunFault;
-use history_telling::tell_text;
+use crate::output_buffer::BUFFER;
+use casdisk_texts::RunFault;
+use file_commands::tell_text;
 use history_words::Paint;
-use seeded_program::BUFFER;
 use std::io;
 use std::io::{BufWriter, Write};
 use std::rt::Files;

@@ -1,10 +1,10 @@
 //! The command `observe`.
 
 use crate::failure::{Failure, failure_of, unwritten};
+use crate::grammar::Grammar;
 use crate::input::opened;
-use casdisk_script::RunFault;
-use line_reasons::Grammar;
-use observed_text::{TraceAnswer, observe_text};
+use casdisk_texts::RunFault;
+use file_commands::{TraceAnswer, observe_text};
 use std::fs;
 use std::io::{Print, Read, Write, sink, writer};
 use std::rt::Files;

@@ -1,24 +1,28 @@
 //! The whole program, over any runtime.
 
 use crate::certify::certify_files;
+use crate::counter::Counter;
 use crate::drawing::{draw_file, lanes_of};
 use crate::failure::{Failure, end_failure, end_fault, failure_of};
+use crate::grammar::Grammar;
 use crate::in_words::tell_file;
 use crate::input::{opened, size_of};
 use crate::observing::observe_file;
+use crate::output_buffer::BUFFER;
+use crate::racing::race_as_asked;
+use crate::randoms::random_file;
+use crate::reader::CountedReader;
+use crate::seeding::race_asked;
 use crate::shrinking::shrink_file;
 use crate::slots::{check_slots_file, explain_slots_file};
 use crate::tracing::trace_run;
 use crate::unmarked::unmarked_unit;
+use crate::words::{ExplainedWords, Unmarked};
 use broken_rules::Broken;
-use casdisk_script::{Explained, RunFault, check_text, explain_text, follow_text, run_script};
+use casdisk_texts::{Explained, RunFault, check_text, explain_text, follow_text, run_script};
 use command_line::{Asked, Shown, UsageFault, asked};
-use counted_bytes::{CountedReader, Counter};
-use explained_words::{ExplainedWords, Unmarked};
 use history::Kinds;
-use line_reasons::Grammar;
 use nvme_model::config::ConfigFault;
-use seeded_program::{BUFFER, race_as_asked, race_asked, random_file};
 use std::io::{BufWriter, Read, Write};
 use std::process::ExitCode;
 use std::rt::{Env, Files};

@@ -1,10 +1,10 @@
 //! The command `shrink`.
 
 use crate::failure::{end_failure, end_fault, failure_of};
+use crate::grammar::Grammar;
 use crate::input::opened;
-use line_reasons::Grammar;
-use seeded_program::BUFFER;
-use shrunk_text::{Conversation, ShrinkFault, Shrunk, shrink_text, shrunk_status};
+use crate::output_buffer::BUFFER;
+use shrink::{Conversation, ShrinkFault, Shrunk, shrink_text, shrunk_status};
 use std::io;
 use std::io::{BufWriter, Read, Write};
 use std::rt::Files;

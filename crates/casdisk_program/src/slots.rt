@@ -1,15 +1,15 @@
 //! Histories beside an area of slots.
 
 use crate::failure::{end_fault, failure_of};
+use crate::grammar::Grammar;
 use crate::input::{Source, opened};
 use crate::kept::Kept;
 use crate::program::{cause_of, meaning_of};
-use casdisk_script::{Explained, RunFault};
+use crate::words::{ExplainedWords, Unmarked, WrongStepWords};
+use casdisk_texts::{Explained, RunFault};
 use command_line::SlotArea;
-use explained_words::{ExplainedWords, Unmarked, WrongStepWords};
-use line_reasons::Grammar;
+use file_commands::{ExplainedSlots, SlotsFault, WrongStep, check_slots, explain_slots};
 use nvme_model::array::Range;
-use slot_texts::{ExplainedSlots, SlotsFault, WrongStep, check_slots, explain_slots};
 use std::alloc::Global;
 use std::io;
 use std::io::Read;

@@ -1,11 +1,11 @@
 //! What hosts see of a script's run, in place of the history.
 
 use crate::failure::{Failure, failure_of};
+use crate::grammar::Grammar;
 use crate::input::opened;
-use casdisk_script::{kinds_of, run_script};
+use crate::race_tracing::print_trace;
+use casdisk_texts::{kinds_of, run_script};
 use history::{Kinds, all_kinds};
-use line_reasons::Grammar;
-use seeded_program::print_trace;
 use std::rt::Files;
 
 // The kinds of lines of a history.

@@ -1,7 +1,7 @@
 //! Why a ticket owes no completion: a unit of it that ended without a mark.
 
 use crate::input::open;
-use explained_words::Unmarked;
+use crate::words::Unmarked;
 use history::{Entry, parse_line};
 use line_text::{Lines, NextLine};
 use std::rt::Files;

@@ -6,7 +6,7 @@ use Rattle.std.specs.Str.Parse.{ParsesUnsigned}
 use Rattle.std.specs.declared.num.ParseIntError.{ParseIntError}
 use Rattle.clap.specs.Words.{IsAmong, Row, Text, all_of, first_of, one_of}
 use Rattle.clap.specs.declared.error.kind.ErrorKind.{ErrorKind}
-use Rattle.casdisk_script.specs.Kinds.{kinds_in}
+use Rattle.casdisk_texts.specs.Kinds.{kinds_in}
 use Rattle.race_numbers.specs.Races.{usage_of}
 use Rattle.race_numbers.specs.declared.race.Race.{Race}
 use Rattle.command_line.specs.CommandLine.{faults_in, are_words_taken, subcommand_in}

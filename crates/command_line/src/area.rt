@@ -24,6 +24,8 @@ fn area_of(words: &[&str]) -> Option<SlotArea>
     let Ok(first) = first.parse::<u64>() else {
         return None;
     };
+
+    // `clap` reads both numbers with 64 bits; that COUNT is below 2^32 is asked behind it.
     let Ok(count) = count.parse::<u32>() else {
         return None;
     };

@@ -1,4 +1,5 @@
-//! Reads the command line of the program, by `clap`'s own definitions, and says what it asks for.
+//! Reads the command line, for the program, by `clap`'s own definitions, and says what it asks for. It is apart from
+//! `casdisk_program` since its own check takes minutes.
 #![tactic(auto)]
 
 mod area;

@@ -8,7 +8,7 @@ ghost use Rattle.command_line.specs.CommandLine.{run_app};
 use crate::options::{WHY, flag_asked, text_asked, text_of, with_flag, with_input, with_text};
 use crate::request::{Asked, Shown, UsageFault};
 use crate::shown::no_kinds_in;
-use casdisk_script::kinds_of;
+use casdisk_texts::kinds_of;
 use clap::{ArgMatches, Command};
 use history::all_kinds;
 use std::alloc::{AllocError, Global};

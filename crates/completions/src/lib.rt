@@ -1,5 +1,5 @@
-//! Makes the completions that a ticket owes, and the queue entry of each; and lists of at most two values, which take
-//! no memory.
+//! Makes the completions that a ticket owes, and the queue entry of each, for a controller and for a checker. Has lists
+//! of at most two values, too, which take no memory.
 #![tactic(auto)]
 
 mod entry;

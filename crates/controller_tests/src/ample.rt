@@ -2,8 +2,7 @@
 
 use block_array::Volume;
 use history::{Entry, History, ReapLine};
-use job_index::JobIndex;
-use job_table::Jobs;
+use job_table::{JobIndex, Jobs};
 use nvme_model::array::{Mode, Range};
 use nvme_model::refusal::Why;
 use range_reserve::Ranges;

@@ -15,7 +15,8 @@ use Rattle.driver_calls.specs.Log.{after_got, has_free_cid, is_idle, is_tidy_bat
 use Rattle.driver_calls.specs.declared.event.CidState.{CidState}
 use Rattle.driver_calls.specs.declared.event.PortEvent.{PortEvent}
 use Rattle.std.proofs.lemmas.Bool.{and_parts}
-use Rattle.driver_calls.proofs.Logs.{eqb_swapped, tidy_pair}
+use Rattle.plain_lemmas.proofs.Numbers.{eqb_swapped}
+use Rattle.driver_calls.proofs.Logs.{tidy_pair}
 
 -- the entries that wait by a log
 abbrev pub book_of : List PortEvent → Book

@@ -2,7 +2,7 @@
 use Rattle.std.proofs.Common.{◌≡◌, ℕ, suc, Bool, true, false, cond, List, [], ◌∷◌, ◌++◌, length, refl, sym, ap, ap₂}
 use Rattle.std.proofs.Common.{◌∙◌, arith, eq-eqb, eqb, append_assoc}
 use Rattle.std.specs.List.{list_all}
-use Rattle.std.proofs.lemmas.Bool.{and_parts, cond-true, cond-false}
+use Rattle.std.proofs.lemmas.Bool.{and_parts, cond-false, cond-true, not-true}
 use Rattle.nvme_model.specs.Config.{completion_queue}
 use Rattle.nvme_model.specs.History.{Past}
 use Rattle.nvme_model.specs.Passes.{SharedPast, entries, places}
@@ -10,7 +10,6 @@ use Rattle.nvme_model.specs.declared.config.ConfigNumbers.{ConfigNumbers}
 use Rattle.nvme_model.specs.declared.entry.Entry.{Entry}
 use Rattle.host_laws.specs.Beside.{IsBeside, is_beside}
 use Rattle.host_laws.proofs.Beside.{places_grow}
-use Rattle.nvme_model.proofs.Bools.{not_true}
 use Rattle.driver_calls.specs.Events.{event_at, events}
 use Rattle.driver_calls.specs.declared.event.PortEvent.{PortEvent}
 
@@ -45,8 +44,8 @@ own_comes_first c n p m e later seen o =
 -- an entry beside a completion queue is no event there
 pub beside_no_event : (c : ConfigNumbers) (n : ℕ) (past : Past) (e : Entry) → is_beside c n e ≡ true
     → event_at c n past e ≡ []
-beside_no_event c n past (Entry.Publish p) h = cond-false (eqb (completion_queue c p.queue) n) _ [] (not_true _ h)
-beside_no_event c n past (Entry.Reap r) h = cond-false (eqb r.queue n) _ [] (not_true _ h)
+beside_no_event c n past (Entry.Publish p) h = cond-false (eqb (completion_queue c p.queue) n) _ [] (not-true _ h)
+beside_no_event c n past (Entry.Reap r) h = cond-false (eqb r.queue n) _ [] (not-true _ h)
 beside_no_event c n past (Entry.Fetch p) h = refl
 beside_no_event c n past (Entry.Grant p) h = refl
 beside_no_event c n past (Entry.Block p) h = refl

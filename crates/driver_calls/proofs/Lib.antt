@@ -1,3 +1,4 @@
+pub mod OwnQueue
 pub mod Following
 pub mod Logs
 pub mod Books

@@ -2,7 +2,8 @@
 use Rattle.std.proofs.Common.{◌≡◌, ℕ, zero, suc, ◌<◌, Bool, true, false, not, ◌&&◌, cond, List, [], ◌∷◌, ◌++◌, length}
 use Rattle.std.proofs.Common.{refl, sym, ap, ap₂, ◌∙◌, subst, Option, Some, None, inl, inr, eq-eqb, eqb, eqb-true}
 use Rattle.std.proofs.Common.{ltb-true, nat_lt, slice_get}
-use Rattle.std.proofs.lemmas.Bool.{and_parts, or_parts, cases_Bool, cond-false, eqb-false, ne_eqb}
+use Rattle.std.proofs.lemmas.Bool.{and_parts, or_parts, cond-false}
+use Rattle.plain_lemmas.proofs.Numbers.{eqb_swapped}
 use Rattle.nvme_model.specs.EntryBytes.{cqe_fields}
 use Rattle.nvme_model.specs.declared.submission.Submission.{Submission}
 use Rattle.host_laws.specs.Book.{cid_of}
@@ -148,13 +149,6 @@ sent_narrow (PortEvent.Sent p batch ∷ log) q j s h e =
     new l t false z i x = absurd (let f : None ≡ Some s = x in cc)
 
 -- ---- which CID a completion names
-
--- the test is the same either way round
-pub eqb_swapped : (a b : ℕ) → eqb a b ≡ eqb b a
-eqb_swapped a b = elim (cases_Bool (eqb a b)) [
-  | inl e ↦ e ∙ sym (eq-eqb b a (sym (eqb-true a b e)))
-  | inr e ↦ e ∙ sym (ne_eqb b a (λ f. eqb-false a b e (sym f)))
-]
 
 -- a completion of this submission queue and CID names them and no others
 pub names_one : (cqe : List ℕ) (a b q cid : ℕ) → is_clean cqe ≡ true → (cqe_fields cqe).sqid ≡ a

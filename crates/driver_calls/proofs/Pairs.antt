@@ -8,7 +8,7 @@ use Rattle.nvme_model.specs.declared.config.ConfigNumbers.{ConfigNumbers}
 use Rattle.nvme_model.specs.declared.entry.PostLine.{PostLine}
 use Rattle.nvme_model.specs.declared.operation.Op.{Op}
 use Rattle.nvme_model.proofs.Unwritten.{unwritten}
-use Rattle.nvme_model.proofs.Written.{clash}
+use Rattle.nvme_model.proofs.Cut.{clash}
 use Rattle.host_laws.specs.Calls.{IsFused, reaped_post, cqe_status, takes}
 use Rattle.host_laws.proofs.FailedCalls.{failed_checks}
 use Rattle.host_laws.proofs.PairCalls.{pair_differs, pair_swaps}

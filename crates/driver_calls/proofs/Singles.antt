@@ -8,7 +8,7 @@ use Rattle.nvme_model.specs.declared.config.ConfigNumbers.{ConfigNumbers}
 use Rattle.nvme_model.specs.declared.entry.PostLine.{PostLine}
 use Rattle.nvme_model.specs.declared.operation.Op.{Op}
 use Rattle.nvme_model.specs.declared.status.Status.{Status}
-use Rattle.nvme_model.proofs.Written.{clash}
+use Rattle.nvme_model.proofs.Cut.{clash}
 use Rattle.host_laws.specs.Calls.{IsDone, IsSingle, reaped_post, cqe_status, takes}
 use Rattle.host_laws.proofs.FailedCalls.{failed_checks}
 use Rattle.host_laws.proofs.SingleCalls.{compare_differs, done, only_compares}

@@ -22,7 +22,7 @@ use Rattle.host_laws.proofs.Beside.{published_beside, reaped_post_beside}
 use Rattle.host_laws.proofs.Book.{book_beside, book_empty, book_found, book_reaped}
 use Rattle.host_laws.proofs.Elements.{same_some}
 use Rattle.host_laws.proofs.Reaps.{reap_answers, reaped_later}
-use Rattle.controller_steps.specs.State.{reaped_payload}
+use Rattle.controller_interface.specs.State.{reaped_payload}
 use Rattle.driver_calls.specs.Events.{IsToldByLog, event_at, events, waiting_number}
 use Rattle.driver_calls.specs.Log.{after_got, is_tidy, is_tidy_batch, names_cid, newest, state_of}
 use Rattle.driver_calls.specs.declared.event.CidState.{CidState}

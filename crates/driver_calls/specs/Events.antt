@@ -11,7 +11,7 @@ use Rattle.nvme_model.specs.declared.entry.Entry.{Entry}
 use Rattle.nvme_model.specs.declared.entry.PostLine.{PostLine}
 use Rattle.host_laws.specs.Book.{IsBook}
 use Rattle.host_laws.specs.Calls.{reaped_post}
-use Rattle.controller_steps.specs.State.{reaped_payload}
+use Rattle.controller_interface.specs.State.{reaped_payload}
 use Rattle.driver_calls.specs.Log.{newest, sent, state_of}
 use Rattle.driver_calls.specs.declared.event.CidState.{CidState}
 use Rattle.driver_calls.specs.declared.event.PortEvent.{PortEvent}

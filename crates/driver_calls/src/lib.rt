@@ -1,4 +1,4 @@
-//! Says what a driver's calls are told, by what its port published and reaped for it.
+//! Says what a driver's calls are told, for drivers and for laws over their logs: by what a port published and reaped.
 #![tactic(auto)]
 
 mod batch;

@@ -5,7 +5,7 @@ use Rattle.std.specs.declared.snapshot.Snapshot.{Snapshot}
 use Rattle.nvme_model.specs.Array.{zeros}
 use Rattle.nvme_model.specs.Slots.{slot_block}
 use Rattle.nvme_model.specs.declared.operation.Op.{Op}
-use Rattle.cid_table.specs.Cids.{QueueCids, queues_of}
+use Rattle.driver_cas.specs.Cids.{QueueCids, queues_of}
 use Rattle.driver_calls.specs.Log.{sent}
 use Rattle.driver_calls.specs.Says.{IsCallIn}
 use Rattle.driver_calls.specs.Views.{since}

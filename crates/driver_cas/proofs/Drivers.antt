@@ -5,12 +5,12 @@ use Rattle.std.specs.Prelude.{Err, IfErr, IfNone, IfOk, IfSome, Ok, ◌≢◌}
 use Rattle.std.specs.List.{Contains}
 use Rattle.std.proofs.lemmas.Bool.{and_from, cases_Bool, cond-true, cond-false, or_left, or_right}
 use Rattle.std.specs.declared.snapshot.Snapshot.{Snapshot}
-use Rattle.nvme_model.proofs.Written.{clash}
 use Rattle.nvme_model.specs.Operations.{is_pair}
 use Rattle.nvme_model.specs.declared.operation.Op.{Op}
 use Rattle.nvme_model.specs.declared.status.Status.{Status}
-use Rattle.cid_table.specs.Cids.{QueueCids, held}
-use Rattle.cid_table.specs.declared.held.CidUse.{CidUse}
+use Rattle.nvme_model.proofs.Cut.{clash}
+use Rattle.driver_cas.specs.Cids.{QueueCids, held}
+use Rattle.driver_cas.specs.declared.held.CidUse.{CidUse}
 use Rattle.driver_calls.specs.Log.{sent}
 use Rattle.driver_calls.specs.Says.{IsCallIn}
 use Rattle.driver_calls.specs.Views.{since}

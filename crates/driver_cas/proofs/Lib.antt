@@ -1,3 +1,5 @@
+pub mod CidsLemmas
+mod Places
 pub mod Ports
 pub mod Following
 pub mod Listening
@@ -8,3 +10,4 @@ pub mod Starting
 pub mod Passing
 pub mod Drawing
 pub mod Overtaking
+pub mod OwnFollowing

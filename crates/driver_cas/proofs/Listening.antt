@@ -1,7 +1,7 @@
 -- A pass, a port and a driver that saw more.
 use Rattle.std.proofs.Common.{◌≡◌, ℕ, List, ap, ap₂, inl, length, ◌∙◌}
 use Rattle.std.specs.declared.snapshot.Snapshot.{Snapshot}
-use Rattle.cid_table.specs.Cids.{QueueCids, held}
+use Rattle.driver_cas.specs.Cids.{QueueCids, held}
 use Rattle.nvme_model.specs.Passes.{IsBeginning}
 use Rattle.meet_lock.specs.Passes.{IsSame, mine, seen}
 use Rattle.work_queue.specs.Engines.{EnginePass}

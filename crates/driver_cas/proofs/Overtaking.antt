@@ -4,7 +4,7 @@ use Rattle.std.specs.Prelude.{Err, Result}
 use Rattle.std.specs.declared.snapshot.Snapshot.{Snapshot}
 use Rattle.nvme_model.specs.Slots.{slot_block}
 use Rattle.nvme_model.specs.declared.operation.Op.{Op}
-use Rattle.cid_table.specs.Cids.{QueueCids}
+use Rattle.driver_cas.specs.Cids.{QueueCids}
 use Rattle.driver_calls.specs.Entries.{IsBatch}
 use Rattle.driver_calls.specs.Views.{since}
 use Rattle.driver_calls.specs.declared.request.CallData.{CallData}

@@ -6,7 +6,7 @@ use Rattle.std.specs.Prelude.{Contains, Err}
 use Rattle.std.proofs.lemmas.List.Elements.{All-get_or}
 use Rattle.std.proofs.lemmas.List.{get_or_default}
 use Rattle.nvme_model.specs.declared.operation.Op.{Op}
-use Rattle.cid_table.specs.Cids.{QueueCids, NoneFreeBelow, queues_of}
+use Rattle.driver_cas.specs.Cids.{QueueCids, NoneFreeBelow, queues_of}
 use Rattle.driver_calls.specs.Entries.{IsBatch}
 use Rattle.driver_calls.specs.declared.request.CallData.{CallData}
 use Rattle.driver_calls.specs.declared.request.Request.{Request}

@@ -32,9 +32,9 @@ use Rattle.driver_cas.specs.Reaps.{IsReapDeclined, IsReapFault, IsReapAnswered, 
 use Rattle.driver_cas.specs.declared.fault.PortFault.{PortFault}
 use Rattle.driver_cas.specs.declared.port.Reaped.{Reaped}
 use Rattle.work_queue.specs.Engines.{EnginePass}
-use Rattle.controller_steps.specs.State.{Accepts, Refuses, answer_of, reaped_payload}
-use Rattle.controller_steps.specs.declared.answer.Answer.{Answer}
-use Rattle.controller_steps.specs.declared.answer.Refused.{Refused}
+use Rattle.controller_interface.specs.State.{Accepts, Refuses, answer_of, reaped_payload}
+use Rattle.controller_interface.specs.declared.answer.Answer.{Answer}
+use Rattle.controller_interface.specs.declared.answer.Refused.{Refused}
 use Rattle.driver_calls.specs.Events.{event_at, events}
 use Rattle.driver_calls.specs.Views.{PortView, owns}
 use Rattle.driver_calls.specs.declared.event.PortEvent.{PortEvent}

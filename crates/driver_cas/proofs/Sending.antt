@@ -2,20 +2,21 @@
 use Rattle.std.proofs.Common.{◌≡◌, ℕ, Bool, true, false, not, cond, ◌&&◌, ◌||◌, eqb, List, [], ◌∷◌, ◌++◌, length, suc}
 use Rattle.std.proofs.Common.{Some, refl, sym, ap, ap₂, ◌∙◌, subst, inl, inr, eq-eqb, arith, ◌<◌, ◌≤◌, nat_lt, lt-ltb}
 use Rattle.std.proofs.lemmas.Bool.{and_from, cases_Bool, cond-true, cond-false, ne_eqb}
+use Rattle.plain_lemmas.proofs.Numbers.{eqb_swapped}
 use Rattle.nvme_model.specs.Operations.{is_pair}
 use Rattle.nvme_model.specs.declared.operation.Op.{Op}
 use Rattle.nvme_model.specs.declared.submission.Submission.{Submission}
 use Rattle.host_laws.specs.Book.{cid_of}
 use Rattle.host_laws.proofs.Elements.{get_append}
-use Rattle.cid_table.specs.Cids.{QueueCids, held}
-use Rattle.cid_table.specs.declared.held.CidUse.{CidUse}
+use Rattle.driver_cas.specs.Cids.{QueueCids, held}
+use Rattle.driver_cas.specs.declared.held.CidUse.{CidUse}
 use Rattle.driver_calls.specs.Log.{has_cid, has_free_cid, is_idle, is_tidy, is_tidy_batch, newest, newest_number, sent}
 use Rattle.driver_calls.specs.Log.{state_of}
 use Rattle.driver_calls.specs.Says.{IsCallIn, IsFusedIn, IsSingleIn}
 use Rattle.driver_calls.specs.Views.{since}
 use Rattle.driver_calls.specs.declared.event.CidState.{CidState}
 use Rattle.driver_calls.specs.declared.event.PortEvent.{PortEvent}
-use Rattle.driver_calls.proofs.Logs.{eqb_swapped, unnamed_number}
+use Rattle.driver_calls.proofs.Logs.{unnamed_number}
 use Rattle.driver_calls.specs.Entries.{IsBatch, IsCommand, entry_count, first_opcode}
 use Rattle.driver_calls.specs.declared.request.CallData.{CallData}
 use Rattle.driver_calls.proofs.Calls.{by_call, call_fused, call_single, one_made}

@@ -8,9 +8,9 @@ use Rattle.std.specs.declared.snapshot.Snapshot.{Snapshot}
 use Rattle.nvme_model.specs.Operations.{is_pair}
 use Rattle.nvme_model.specs.declared.operation.Op.{Op}
 use Rattle.nvme_model.specs.declared.submission.Submission.{Submission}
-use Rattle.nvme_model.proofs.Written.{clash}
-use Rattle.cid_table.specs.Cids.{QueueCids, held}
-use Rattle.cid_table.specs.declared.held.CidUse.{CidUse}
+use Rattle.nvme_model.proofs.Cut.{clash}
+use Rattle.driver_cas.specs.Cids.{QueueCids, held}
+use Rattle.driver_cas.specs.declared.held.CidUse.{CidUse}
 use Rattle.driver_calls.specs.Log.{has_cid, sent}
 use Rattle.driver_calls.specs.Says.{IsCallIn}
 use Rattle.driver_calls.specs.Views.{since}

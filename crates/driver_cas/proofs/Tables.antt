@@ -1,23 +1,25 @@
 -- A table of CIDs fits what its port did, also after a completion; and then it tells what a call is answered.
 use Rattle.std.proofs.Common.{◌≡◌, ℕ, Bool, true, false, ◌&&◌, eqb, List, ◌∷◌, Option, Some, None, is_some, refl, sym}
-use Rattle.std.proofs.Common.{ap, ap₂, ◌∙◌, subst, inl, inr, eqb-true, eq-eqb, Result, length, take, arith, suc, ◌-◌}
+use Rattle.std.proofs.Common.{ap, ap₂, ◌∙◌, subst, inl, inr, eqb-true, Result, length, take, arith, suc, ◌-◌}
 use Rattle.std.proofs.Common.{◌≤◌, ◌||◌}
 use Rattle.std.specs.Prelude.{IfNone, IfSome, bytes_eq}
 use Rattle.std.proofs.lemmas.Slice.Eq.{bytes_eq-Decides}
 use Rattle.driver_calls.specs.Answers.{command_answer, pair_answer_of}
 use Rattle.std.proofs.lemmas.Bool.{and_parts, and_from, cases_Bool, cond-true, cond-false, or_cases}
+use Rattle.plain_lemmas.proofs.Numbers.{eqb_swapped}
 use Rattle.nvme_model.specs.EntryBytes.{cqe_fields}
 use Rattle.nvme_model.specs.EntryBytes.{Cqe as CqeFields}
 use Rattle.nvme_model.specs.Statuses.{same_status}
 use Rattle.nvme_model.specs.declared.operation.Op.{Op}
 use Rattle.nvme_model.specs.declared.status.Status.{Status}
 use Rattle.host_laws.specs.Calls.{is_clean, cqe_status}
+use Rattle.host_laws.proofs.Verdicts.{status_eq}
 use Rattle.entry_codec.specs.Cqe.{completion_fields}
 use Rattle.entry_codec.specs.declared.cqe.Cqe.{Cqe}
-use Rattle.nvme_model.proofs.Written.{clash}
-use Rattle.cid_table.specs.Cids.{ChangesOnly, QueueCids, answered, held, answered_status}
-use Rattle.cid_table.specs.declared.held.CidUse.{CidUse}
+use Rattle.driver_cas.specs.Cids.{ChangesOnly, QueueCids, answered, held, answered_status}
+use Rattle.driver_cas.specs.declared.held.CidUse.{CidUse}
 use Rattle.nvme_model.specs.Operations.{is_pair}
+use Rattle.nvme_model.proofs.Runs.{status_same}
 use Rattle.driver_calls.specs.Log.{after_got, is_idle, is_tidy, names_cid, state_of}
 use Rattle.driver_calls.specs.Views.{since}
 use Rattle.driver_calls.specs.Says.{one_outcome, call_outcome, pair_outcome}
@@ -51,11 +53,6 @@ named_fits (CidUse.Answered r q) (CidState.Answered c p) cqe payload status s b 
 
 -- ---- what a call is answered
 
-same_answer : (s r : Status) → same_status s r ≡ true → s ≡ r
-same_answer s r h =
-    let a = and_parts (eqb s.sct r.sct) (eqb s.sc r.sc) h in
-    ap₂ (λ (x y : ℕ). record { sct = x; sc = y }) (eqb-true s.sct r.sct a.0) (eqb-true s.sc r.sc a.1)
-
 one_told : (o : Op) (h : CidUse) (st : CidState) → use_fits h st ≡ true → is_free h ≡ false
     → one_outcome o st ≡ one_answer o h
 one_told o CidUse.Free st f e = absurd (let g : true ≡ false = e in cc)
@@ -66,7 +63,7 @@ one_told o (CidUse.Answered r q) CidState.Idle f e = absurd (let g : false ≡ t
 one_told o (CidUse.Answered r q) CidState.Waiting f e = absurd (let g : false ≡ true = f in cc)
 one_told o (CidUse.Answered r q) (CidState.Answered c p) f e =
     let a = and_parts (same_status (cqe_status c) r) (bytes_eq p q) f in
-    ap₂ (λ (s : Status) (b : List ℕ). Some (command_answer o s b)) (same_answer (cqe_status c) r a.0)
+    ap₂ (λ (s : Status) (b : List ℕ). Some (command_answer o s b)) (status_eq (cqe_status c) r a.0)
     (bytes_same p q a.1)
 
 pair_told : (h g : CidUse) (st su : CidState) → use_fits h st ≡ true → is_free h ≡ false → use_fits g su ≡ true
@@ -89,8 +86,8 @@ pair_told (CidUse.Answered r q) (CidUse.Answered s t) (CidState.Answered c p) Ci
     absurd (let x : false ≡ true = d in cc)
 pair_told (CidUse.Answered r q) (CidUse.Answered s t) (CidState.Answered c p) (CidState.Answered x y) f e d k =
     ap₂ (λ (u v : Status). Some (pair_answer_of u v))
-    (same_answer (cqe_status c) r (and_parts (same_status (cqe_status c) r) (bytes_eq p q) f).0)
-    (same_answer (cqe_status x) s (and_parts (same_status (cqe_status x) s) (bytes_eq y t) d).0)
+    (status_eq (cqe_status c) r (and_parts (same_status (cqe_status c) r) (bytes_eq p q) f).0)
+    (status_eq (cqe_status x) s (and_parts (same_status (cqe_status x) s) (bytes_eq y t) d).0)
 
 -- the table tells what a call is answered whose CIDs are in use
 pub table_tells : (cids : QueueCids) (log : List PortEvent) (o : Op) (queue first second : ℕ) → Matches cids log
@@ -120,23 +117,11 @@ reads cqe k h =
       status = ap (λ (e : CqeFields). record { sct = e.sct; sc = e.sc }) (sym h);
     }
 
-same_self : (s : Status) → same_status s s ≡ true
-same_self s = and_from (eqb s.sct s.sct) (eqb s.sc s.sc) (eq-eqb s.sct s.sct refl) (eq-eqb s.sc s.sc refl)
-
-swapped : (a b : ℕ) → eqb a b ≡ eqb b a
-swapped a b = elim (cases_Bool (eqb b a)) [
-  | inl h ↦ eq-eqb a b (sym (eqb-true b a h)) ∙ sym h
-  | inr h ↦ elim (cases_Bool (eqb a b)) [
-    | inl k ↦ absurd (clash (eqb b a) (eq-eqb b a (sym (eqb-true a b k))) h)
-    | inr k ↦ k ∙ sym h
-  ]
-]
-
 names : (cqe : List ℕ) (k : Cqe) (q i : ℕ) → Reads cqe k → names_cid cqe q i ≡ (eqb q k.sqid && eqb i k.cid)
 names cqe k q i r =
     ap (λ (b : Bool). b && eqb (cqe_fields cqe).sqid q && eqb (cqe_fields cqe).cid i) r.clean
-    ∙ ap₂ (λ (a b : Bool). a && b) (ap (λ (n : ℕ). eqb n q) r.sqid ∙ swapped k.sqid q)
-    (ap (λ (n : ℕ). eqb n i) r.cid ∙ swapped k.cid i)
+    ∙ ap₂ (λ (a b : Bool). a && b) (ap (λ (n : ℕ). eqb n q) r.sqid ∙ eqb_swapped k.sqid q)
+    (ap (λ (n : ℕ). eqb n i) r.cid ∙ eqb_swapped k.cid i)
 
 unnamed : (cqe payload : List ℕ) (st : CidState) → after_got false cqe payload st ≡ st
 unnamed cqe payload CidState.Idle = refl
@@ -158,7 +143,7 @@ got_matches old new cqe payload k fields changes log m q i =
           ap₂ use_fits (changes q i ∙ cond-true _ _ _ h)
           (ap₂ (λ (b : Bool) (st : CidState). after_got b cqe payload st) (n ∙ h) same)
           ∙ named_fits (held old k.sqid k.cid) (state_of log k.sqid k.cid) cqe payload k.status
-          (ap (λ (s : Status). same_status s k.status) r.status ∙ same_self k.status) (bytes_self payload)
+          (ap (λ (s : Status). same_status s k.status) r.status ∙ status_same k.status) (bytes_self payload)
           (m k.sqid k.cid)
       | inr h ↦
           ap₂ use_fits (changes q i ∙ cond-false _ _ _ h)

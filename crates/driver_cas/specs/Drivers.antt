@@ -3,7 +3,7 @@ use Rattle.std.specs.Prelude.{Contains, Err, List, None, Ok, Option, Result, Som
 use Rattle.std.specs.Prelude.{length, true, ℕ, ◌&&◌, ◌∷◌, ◌≡◌, ◌⊎◌}
 use Rattle.nvme_model.specs.declared.array.Range.{Range}
 use Rattle.nvme_model.specs.declared.status.Status.{Status}
-use Rattle.cid_table.specs.Cids.{QueueCids, held, queues_of}
+use Rattle.driver_cas.specs.Cids.{QueueCids, held, queues_of}
 use Rattle.driver_calls.specs.Log.{sent}
 use Rattle.driver_calls.specs.Says.{IsCallIn, call_outcome}
 use Rattle.driver_calls.specs.Views.{since}

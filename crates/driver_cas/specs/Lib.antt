@@ -1,3 +1,4 @@
+pub mod Cids
 pub mod Faults
 pub mod Made
 pub mod Passes
@@ -12,3 +13,4 @@ pub mod Tries
 pub mod Requests
 pub mod SlotStarts
 pub mod TakeoverStarts
+pub mod OwnPorts

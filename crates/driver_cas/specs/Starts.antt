@@ -2,8 +2,8 @@
 use Rattle.std.specs.Prelude.{List, if◌then◌else◌, ℕ, ◌∷◌, ◌≡◌, ◌⊎◌}
 use Rattle.nvme_model.specs.declared.operation.Op.{Op}
 use Rattle.nvme_model.specs.declared.submission.Submission.{Submission}
-use Rattle.cid_table.specs.Cids.{QueueCids, held}
-use Rattle.cid_table.specs.declared.held.CidUse.{CidUse}
+use Rattle.driver_cas.specs.Cids.{QueueCids, held}
+use Rattle.driver_cas.specs.declared.held.CidUse.{CidUse}
 use Rattle.driver_calls.specs.declared.event.PortEvent.{PortEvent}
 use Rattle.driver_calls.specs.Entries.{IsBatch}
 use Rattle.driver_calls.specs.declared.request.CallData.{CallData}

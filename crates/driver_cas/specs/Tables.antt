@@ -5,8 +5,8 @@ use Rattle.nvme_model.specs.Operations.{is_pair}
 use Rattle.nvme_model.specs.Statuses.{same_status}
 use Rattle.nvme_model.specs.declared.operation.Op.{Op}
 use Rattle.host_laws.specs.Calls.{cqe_status}
-use Rattle.cid_table.specs.Cids.{QueueCids, held}
-use Rattle.cid_table.specs.declared.held.CidUse.{CidUse}
+use Rattle.driver_cas.specs.Cids.{QueueCids, held}
+use Rattle.driver_cas.specs.declared.held.CidUse.{CidUse}
 use Rattle.driver_calls.specs.Answers.{command_answer, pair_answer_of}
 use Rattle.driver_calls.specs.Log.{is_idle, state_of}
 use Rattle.driver_calls.specs.declared.event.CidState.{CidState}

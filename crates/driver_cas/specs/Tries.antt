@@ -1,6 +1,6 @@
 -- What contracts say of trying the submission queues.
 use Rattle.std.specs.Prelude.{Contains, Err, List, Ok, Result, [], length, vec_capacity, ℕ, ◌∷◌, ◌≡◌, ◌≤◌, ◌⊎◌}
-use Rattle.cid_table.specs.Cids.{queues_of}
+use Rattle.driver_cas.specs.Cids.{queues_of}
 use Rattle.nvme_model.specs.declared.operation.Op.{Op}
 use Rattle.nvme_model.specs.declared.submission.Submission.{Submission}
 use Rattle.driver_calls.specs.Entries.{IsBatch, entry_count}

@@ -4,8 +4,8 @@ use Rattle.std.specs.Prelude.{Contains, List, Some, get_or, length, suc, true, z
 use Rattle.nvme_model.specs.Operations.{is_pair}
 use Rattle.nvme_model.specs.declared.operation.Op.{Op}
 use Rattle.nvme_model.specs.declared.submission.Submission.{Submission}
-use Rattle.cid_table.specs.Cids.{AtMostOneFree, QueueCids, NoneFreeBelow, held, queues_of}
-use Rattle.cid_table.specs.declared.held.CidUse.{CidUse}
+use Rattle.driver_cas.specs.Cids.{AtMostOneFree, QueueCids, NoneFreeBelow, held, queues_of}
+use Rattle.driver_cas.specs.declared.held.CidUse.{CidUse}
 use Rattle.driver_calls.specs.Entries.{IsBatch}
 use Rattle.driver_calls.specs.declared.request.CallData.{CallData}
 use Rattle.driver_calls.specs.declared.request.Request.{Request}

@@ -14,6 +14,7 @@ pub struct Call<P> {
     // Of a pair alone.
     pub(crate) second: u16,
     // The port just before the call's Publish.
+    // For contracts alone, and why `Call` and `Poll` name the port's type.
     pub(crate) start: Snapshot<P>,
 }
 

@@ -1,7 +1,7 @@
 //! Starting a call.
 
 ghost use Rattle.std.specs.Prelude.{[], ◌*◌, ◌+◌, ◌≡◌, ◌≤◌, All, false, length, true};
-ghost use Rattle.cid_table.specs.Cids.{queues_of};
+ghost use Rattle.driver_cas.specs.Cids.{queues_of};
 ghost use Rattle.driver_calls.specs.Entries.{entry_count};
 ghost use Rattle.driver_calls.specs.declared.request.CallData.{CallData};
 ghost use Rattle.nvme_model.specs.Array.{overlap as overlap_of};

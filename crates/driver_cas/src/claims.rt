@@ -11,7 +11,7 @@ use crate::fault::Fault;
 use crate::port::Port;
 use driver_calls::Request;
 use nvme_model::operation::Op;
-use slot_names::slot_block;
+use nvme_model::slot_block;
 
 // The block of a slot that nobody holds.
 const ZEROS: [u8; 512] = [0; 512];

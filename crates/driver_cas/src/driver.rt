@@ -2,14 +2,14 @@
 
 ghost use Rattle.std.specs.List.Sorted.{IsStrictlyIncreasing};
 ghost use Rattle.std.specs.Prelude.{◌≡◌, ◌≤◌, ◌+◌, All, Contains, IfErr, IfOk, [], length, true, ℕ};
-ghost use Rattle.cid_table.specs.Cids.{held, queues_of};
-ghost use Rattle.cid_table.specs.declared.held.CidUse.{CidUse};
+ghost use Rattle.driver_cas.specs.Cids.{held, queues_of};
+ghost use Rattle.driver_cas.specs.declared.held.CidUse.{CidUse};
 ghost use Rattle.driver_calls.specs.Log.{is_tidy, state_of};
 ghost use Rattle.driver_calls.specs.Views.{since};
 ghost use Rattle.driver_cas.specs.Tables.{use_fits};
 
+use crate::cid_table::CidTable;
 use crate::port::Port;
-use cid_table::CidTable;
 use nvme_model::array::Range;
 use std::alloc::{AllocError as NoMemory, Global};
 use std::snapshot::Snapshot;

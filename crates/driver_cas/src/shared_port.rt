@@ -130,6 +130,9 @@ impl<'a> SharedPort<'a> {
             return Ok(None);
         }
         let reaped = try_reap(self.engine, &mut self.pass, self.queue)?;
+
+        // A Reap that found no completion forgets the notices that were counted: none was unreaped
+        // at that moment, so one that is told of twice isn't asked for twice.
         self.counted = if reaped.is_some() {
             self.counted - 1
         } else {

@@ -5,16 +5,16 @@ ghost use Rattle.std.specs.Prelude.{true, vec_capacity};
 ghost use Rattle.driver_calls.specs.Entries.{entry_count, payloads_of};
 ghost use Rattle.driver_cas.specs.Drivers.{IsSameDriver};
 ghost use Rattle.driver_cas.specs.Tries.{IsTryBegun, IsNotSent, IsTried};
-ghost use Rattle.cid_table.specs.Cids.{queues_of};
+ghost use Rattle.driver_cas.specs.Cids.{queues_of};
 ghost use Rattle.driver_calls.specs.declared.event.PortEvent.{PortEvent};
 ghost use Rattle.driver_cas.specs.Starts.{IsSent, IsTaken};
 ghost use Rattle.driver_cas.specs.Turns.{AreFree, HasTooFew};
 
 use crate::call::Call;
+use crate::cid_table::{CidTable, TwoCids};
 use crate::driver::Driver;
 use crate::fault::{Fault, PortFault};
 use crate::port::Port;
-use cid_table::{CidTable, TwoCids};
 use driver_calls::{CallData, Request, batch_of, taken_back};
 use nvme_model::operation::Op;
 use nvme_model::submission::{Submission, Submissions};

@@ -1,15 +1,15 @@
 //! What a driver's table of CIDs becomes by completions and by answers.
 
 ghost use Rattle.std.specs.Prelude.{◌≡◌, ◌≢◌, ℕ, Err, IfErr, IfNone, IfOk, IfSome, List, Ok, Option, ◌∷◌};
-ghost use Rattle.cid_table.specs.Cids.{held, queues_of};
+ghost use Rattle.driver_cas.specs.Cids.{held, queues_of};
 ghost use Rattle.driver_calls.specs.declared.event.PortEvent.{PortEvent};
 ghost use Rattle.driver_cas.specs.Made.{after_reap};
 ghost use Rattle.driver_cas.specs.Tables.{SameFreeCids, AreCidsReleased, Matches, Reaps, table_outcome};
 ghost use Rattle.driver_cas.specs.declared.port.Reaped.{Reaped};
 
+use crate::cid_table::CidTable;
 use crate::fault::PortFault;
 use crate::port::{Port, Reaped};
-use cid_table::CidTable;
 use driver_calls::{Reply, answer_to, pair_answer_to};
 use entry_codec::decode_cqe;
 use nvme_model::operation::Op;

@@ -10,7 +10,7 @@ use crate::claims::swap;
 use crate::driver::Driver;
 use crate::fault::Fault;
 use crate::port::Port;
-use slot_names::slot_block;
+use nvme_model::slot_block;
 
 impl<P: Port> Driver<P> {
     /// Begins to take over the slot at block `lba`: to swap the name of the dead host and its serial for the name of

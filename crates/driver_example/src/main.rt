@@ -1,4 +1,4 @@
-//! A Write, and then a Compare and Write of the block that it wrote, served on the same thread.
+//! The program of docs/DRIVER.md: a Write, and then a Compare and Write of its block, served on the same thread.
 #![tactic(auto)]
 
 ghost use Rattle.std.specs.Prelude.{IfSome, ◌≡◌};

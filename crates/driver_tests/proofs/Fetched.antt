@@ -1,14 +1,14 @@
 -- What a fetched Work is.
 use Rattle.std.proofs.Common.{ap, ◌∙◌}
 use Rattle.nvme_model.specs.declared.entry.Entry.{Entry}
-use Rattle.controller_steps.specs.declared.answer.Answer.{Answer}
-use Rattle.controller_steps.specs.declared.work.Work.{Work as Duty}
+use Rattle.controller_interface.specs.declared.answer.Answer.{Answer}
+use Rattle.controller_interface.specs.declared.work.Work.{Work as Duty}
 use Rattle.work_queue.specs.Duties.{is_only_fetch}
 use Rattle.work_queue.specs.Engines as engine
 use Rattle.work_queue.specs.declared.engine.Open.{Open}
 use Rattle.work_queue.specs.declared.engine.Opened.TheVariants as opened
 use Rattle.work_queue.specs.declared.work.Work.{Work}
-use Rattle.driver_rows.specs.declared.bench.Bench.{Bench}
+use Rattle.driver_testing.specs.declared.bench.Bench.{Bench}
 use Rattle.driver_tests.specs.Crews.{IsBenchWork}
 
 by_answer : (b : Bench) (q : engine.EnginePass) (e : Entry) (a : Answer) (w : Work)

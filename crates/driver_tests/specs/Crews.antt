@@ -6,9 +6,9 @@ use Rattle.work_queue.specs.QueuePasses.{IsPlaceOf}
 use Rattle.work_queue.specs.declared.queue.MessageQueue.{MessageQueue}
 use Rattle.work_queue.specs.declared.queue.QueuePass.{QueuePass}
 use Rattle.work_queue.specs.declared.work.Work.{Work}
-use Rattle.driver_rows.specs.Benches.{IsServerOf}
-use Rattle.driver_rows.specs.declared.bench.Bench.{Bench}
-use Rattle.driver_rows.specs.declared.bench.Server.{Server}
+use Rattle.driver_testing.specs.Benches.{IsServerOf}
+use Rattle.driver_testing.specs.declared.bench.Bench.{Bench}
+use Rattle.driver_testing.specs.declared.bench.Server.{Server}
 
 -- what both own is of what they share
 pub record AreCrewOf (b : Bench) (works : MessageQueue Work) (fetcher : Server) (into : QueuePass Work)

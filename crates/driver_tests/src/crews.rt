@@ -2,11 +2,11 @@
 
 ghost use Rattle.std.specs.Prelude.{◌≡◌, All, IfOk, IfSome};
 ghost use Rattle.work_queue.specs.QueuePasses.{IsPlaceOf};
-ghost use Rattle.driver_rows.specs.Benches.{AreBenchSpares, IsServerOf};
+ghost use Rattle.driver_testing.specs.Benches.{AreBenchSpares, IsServerOf};
 ghost use Rattle.driver_tests.specs.Crews.{AreCrewOf, IsBenchWork};
 
-use driver_rows::{Bench, BenchSpares, Server, caller_of, ends};
-use lock_rows::number;
+use driver_testing::{Bench, BenchSpares, Server, caller_of, ends};
+use lock_testing::number;
 use meet_lock::Declined;
 use std::process::Abort;
 use std::sync::Wait;

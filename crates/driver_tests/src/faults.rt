@@ -4,7 +4,7 @@ ghost use Rattle.std.specs.Prelude.{◌≡◌};
 ghost use Rattle.driver_cas.specs.Drivers.{area_of};
 
 use driver_cas::{Driver, Fault, PortFault};
-use driver_rows::{Ask, Did, Fake, Fill, begins, driver_of};
+use driver_testing::{Ask, Did, Fake, Fill, begins, driver_of};
 use nvme_model::submission::Submission;
 use std::alloc::Global;
 use std::process::Abort;

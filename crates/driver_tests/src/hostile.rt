@@ -3,7 +3,7 @@
 ghost use Rattle.driver_cas.specs.Drivers.{IsCallOf};
 
 use driver_cas::{Call, Driver, Fault, PortFault};
-use driver_rows::{AnswerWords, Ask, Fake, Script, begins, driver_of, good, polled};
+use driver_testing::{AnswerWords, Ask, Fake, Script, begins, driver_of, good, polled};
 use std::alloc::Global;
 use std::process::Abort;
 use std::test::Fail;

@@ -3,12 +3,12 @@
 ghost use Rattle.std.specs.Prelude.{◌≡◌, ◌≤◌, IfOk, true};
 ghost use Rattle.history.specs.Config.{config_numbers};
 ghost use Rattle.driver_cas.specs.Drivers.{IsCallOf, IsSameDriver, port_of};
-ghost use Rattle.driver_rows.specs.Benches.{AreBenchSpares, IsBenchHost, IsServerOf, uses};
-ghost use Rattle.driver_rows.specs.Calls.{IsCallAsked};
+ghost use Rattle.driver_testing.specs.Benches.{AreBenchSpares, IsBenchHost, IsServerOf, uses};
+ghost use Rattle.driver_testing.specs.Calls.{IsCallAsked};
 
 use driver_cas::laws::a_start_keeps_the_other_calls;
 use driver_cas::{Call, Driver, Fault, Port, SharedPort};
-use driver_rows::{
+use driver_testing::{
     AnswerWords, Ask, Bench, BenchHost, BenchSpares, Fill, Server, answers, asked, bench_of,
     desk_of, hears, serves,
 };

@@ -1,5 +1,5 @@
-//! Tests of a driver: what its calls are answered, by a controller and by a port that answers what it is told to, and
-//! all calls in one run. Those with many calls in flight are in `flight_tests`.
+//! Tests of what a driver's calls are answered, by a controller and by a hostile port, and of all calls in one run.
+//! Those with many calls in flight are in `flight_tests`, apart since the check of each takes minutes.
 #![tactic(auto)]
 
 #[cfg(test)]

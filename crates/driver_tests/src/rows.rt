@@ -1,10 +1,10 @@
 //! What each call is answered, served before the next.
 
 ghost use Rattle.std.specs.Prelude.{◌≤◌};
-ghost use Rattle.driver_rows.specs.Benches.{IsBenchHost, IsServerOf};
+ghost use Rattle.driver_testing.specs.Benches.{IsBenchHost, IsServerOf};
 
 use driver_cas::Fault;
-use driver_rows::{
+use driver_testing::{
     AnswerWords, Ask, Bench, BenchHost, Fill, Server, answers, desk_of, hears, serves, small_bench,
     starts,
 };

@@ -5,14 +5,14 @@ ghost use Rattle.std.specs.Prelude.{◌≡◌, ◌<◌, ◌≤◌, All, IfOk, If
 ghost use Rattle.work_queue.specs.Engines.{IsPassOfEngine};
 ghost use Rattle.work_queue.specs.QueuePasses.{IsPlaceOf};
 ghost use Rattle.driver_cas.specs.Drivers.{IsCallOf};
-ghost use Rattle.driver_rows.specs.Benches.{AreBenchSpares, IsServerOf};
-ghost use Rattle.driver_rows.specs.Claimants.{IsClaimant, IsClaimantReady};
+ghost use Rattle.driver_testing.specs.Benches.{AreBenchSpares, IsServerOf};
+ghost use Rattle.driver_testing.specs.Claimants.{IsClaimant, IsClaimantReady};
 ghost use Rattle.slot_alloc.specs.Areas.{area};
 ghost use Rattle.driver_tests.specs.Crews.{AreCrewOf};
 
 use crate::crews::{ServerPair, crew_of, crew_serves};
 use driver_cas::{Call, SharedPort};
-use driver_rows::{
+use driver_testing::{
     AnswerWords, Ask, Bench, BenchHost, BenchSpares, Came, Claimant, ClaimantStage, Fill, asks,
     begins_call, caller_of, claimant_of, gives_back, hears_all, leaves, meets, meets_server,
     polls_begun, polls_call, small_bench,

@@ -5,7 +5,7 @@ ghost use Rattle.meet_lock.specs.Passes.{IsPassOfLock, IsSame};
 use history::{
     BlockLine, Entry, FetchLine, GrantLine, PostLine, PublishLine, ReapLine, UnitRange, write_line,
 };
-use lock_rows::{Command, LATE, NO_MEMORY, STRANGE, items_of, number};
+use lock_testing::{Command, LATE, NO_MEMORY, STRANGE, items_of, number};
 use meet_lock::{Declined, Pass, Shared};
 use nvme_model::status::Verdict;
 use nvme_model::submission::{Batch, Payload};

@@ -1,10 +1,10 @@
 //! The steps of a run through an engine, its works and its notices, by three callers of one thread.
 
 ghost use Rattle.std.specs.Prelude.{All, IfOk, IfSome};
-ghost use Rattle.lock_rows.specs.Callers.{IsCrewOf, IsFreshWork, IsTestCallerOf, IsTestWork};
+ghost use Rattle.lock_testing.specs.Callers.{IsCrewOf, IsFreshWork, IsTestCallerOf, IsTestWork};
 
 use crate::passes::BUSY;
-use lock_rows::{
+use lock_testing::{
     NO_MEMORY, TestCaller, TestSystem, ThreeCallers, attempt, learns, number, open, pops, pushes,
     tells,
 };

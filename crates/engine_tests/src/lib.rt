@@ -1,5 +1,5 @@
-//! A controller that callers share, as tests of `meet_lock` and of an engine of `work_queue`. What its queues hold and
-//! carry is tested in `queue_tests`.
+//! Tests of a controller that callers share, for `meet_lock` and for an engine of `work_queue`. What its queues hold
+//! and carry is tested in `queue_tests`, apart since the check of each takes minutes.
 //!
 //! - `rows`: worked runs by passes of a lock, and by works and notices on one thread.
 //! - `threads`: four threads write through one lock, and the history has what each was told.

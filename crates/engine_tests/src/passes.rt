@@ -6,7 +6,7 @@ ghost use Rattle.work_queue.specs.Engines.{EnginePass};
 ghost use Rattle.engine_tests.specs.Threes.{AreThree};
 
 use history::Config;
-use lock_rows::{number, text};
+use lock_testing::{number, text};
 use meet_lock::{Declined, Pass, Shared};
 use std::alloc::{AllocError as NoMemory, Global};
 use std::test::Fail;

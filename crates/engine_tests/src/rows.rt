@@ -1,12 +1,12 @@
 //! Worked runs by passes of a lock and by an engine's crew, answer for answer and line for line as by a controller of
 //! one caller.
 
-ghost use Rattle.lock_rows.specs.Callers.{IsCrewOf, IsTestCallerOf};
+ghost use Rattle.lock_testing.specs.Callers.{IsCrewOf, IsTestCallerOf};
 
 use crate::crew::make_all;
 use crate::passes::{lines_in, made_by_passes};
 use history::Config;
-use lock_rows::{
+use lock_testing::{
     CONFIG, LARGE, LARGE_PAIR, ROWS, ScriptRun, TestCaller, TestSystem, ThreeCallers, closed,
     config_of, crewed, run_of,
 };

@@ -6,7 +6,7 @@ ghost use Rattle.meet_lock.specs.Passes.{IsPassOfLock};
 use crate::accounts::{Account, TRIES, writes_one};
 use crate::passes::{shared_of, unlocked};
 use history::{Entry, write_line};
-use lock_rows::{Command, WRITE, config_of, text};
+use lock_testing::{Command, WRITE, config_of, text};
 use meet_lock::{Pass, Shared};
 use std::alloc::{AllocError, Global};
 use std::process::Abort;

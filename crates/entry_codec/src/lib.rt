@@ -1,4 +1,5 @@
-//! Reads and writes submission queue entries and completion queue entries as bytes.
+//! Reads and writes submission queue entries and completion queue entries as bytes, for controllers, checkers and
+//! drivers.
 #![tactic(auto)]
 
 mod cqe;

@@ -9,13 +9,13 @@ use Rattle.std.proofs.lemmas.List.Edits.{get_or-remove_above, get_or-remove_belo
 use Rattle.std.proofs.lemmas.List.Elements.{All-cons, All-push}
 use Rattle.std.proofs.lemmas.List.Kept.{AllPairs-cons}
 use Rattle.std.proofs.lemmas.List.Quantifiers.{all_pairs_push, all_pairs_remove}
-use Rattle.nvme_model.proofs.Written.{clash}
+use Rattle.nvme_model.proofs.Cut.{clash}
 use Rattle.driver_cas.specs.Drivers.{SharesNoCid, IsCallOf}
 use Rattle.driver_cas.specs.Tables.{is_its_cid}
 use Rattle.driver_cas.specs.declared.call.Call.{Call}
 use Rattle.driver_cas.specs.declared.driver.Driver.{Driver}
 use Rattle.driver_cas.specs.declared.port.Port.{Ghosts}
-use Rattle.driver_rows.specs.Calls.{IsNewCall, StayCalls}
+use Rattle.driver_testing.specs.Calls.{IsNewCall, StayCalls}
 use Rattle.flight_tests.specs.Flights.{AreCallsOf}
 
 module _ {P : Type 0} where

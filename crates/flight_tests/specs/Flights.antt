@@ -5,9 +5,9 @@ use Rattle.driver_cas.specs.declared.call.Call.{Call}
 use Rattle.driver_cas.specs.declared.driver.Driver.{Driver}
 use Rattle.driver_cas.specs.declared.port.Port.{Ghosts}
 use Rattle.driver_cas.specs.declared.shared_port.SharedPort.{SharedPort}
-use Rattle.driver_rows.specs.Benches.{IsBenchHost}
-use Rattle.driver_rows.specs.declared.bench.Bench.{Bench}
-use Rattle.driver_rows.specs.declared.bench.BenchHost.{BenchHost}
+use Rattle.driver_testing.specs.Benches.{IsBenchHost}
+use Rattle.driver_testing.specs.declared.bench.Bench.{Bench}
+use Rattle.driver_testing.specs.declared.bench.BenchHost.{BenchHost}
 
 module _ {P : Type 0} {g : Ghosts P} where
   -- All are the driver's, and no two of them have a CID in common.

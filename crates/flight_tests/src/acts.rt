@@ -4,7 +4,7 @@ ghost use Rattle.flight_tests.specs.Flights.{AreCallsOf};
 
 use crate::flights::{begins_one, ends_one, no_calls};
 use driver_cas::{Call, Driver, Fault};
-use driver_rows::{AnswerWords, Ask, Fake};
+use driver_testing::{AnswerWords, Ask, Fake};
 use std::alloc::Global;
 use std::process::Abort;
 

@@ -1,11 +1,11 @@
 //! Hosts on the completion queues of a bench.
 
 ghost use Rattle.std.specs.Prelude.{◌≡◌, ◌≤◌, IfOk, IfSome, true};
-ghost use Rattle.driver_rows.specs.Benches.{AreBenchSpares, IsBenchHost, IsServerOf, uses};
+ghost use Rattle.driver_testing.specs.Benches.{AreBenchSpares, IsBenchHost, IsServerOf, uses};
 ghost use Rattle.flight_tests.specs.Flights.{AreInFlight};
 
 use crate::under_way::{CallsInFlight, flight_of};
-use driver_rows::{Bench, BenchHost, BenchSpares, Server, caller_of, host_of};
+use driver_testing::{Bench, BenchHost, BenchSpares, Server, caller_of, host_of};
 use nvme_model::array::Range;
 use std::alloc::Global;
 use std::test::Fail;

@@ -6,7 +6,7 @@ ghost use Rattle.std.specs.Prelude.{◌≤◌, length};
 use crate::acts::{CallAct, acts_all};
 use crate::sent::{Sent, one, published, two};
 use driver_cas::{Fault, PortFault};
-use driver_rows::{AnswerWords, Ask, Fill, Script, driver_of, good};
+use driver_testing::{AnswerWords, Ask, Fill, Script, driver_of, good};
 use std::alloc::Global;
 use std::process::Abort;
 use std::test::Fail;

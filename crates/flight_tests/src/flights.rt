@@ -5,7 +5,7 @@ ghost use Rattle.driver_cas.specs.Drivers.{IsCallOf, port_of};
 ghost use Rattle.flight_tests.specs.Flights.{AreCallsOf};
 
 use driver_cas::{Call, Driver, Fault, Port};
-use driver_rows::{AnswerWords, Ask, begins, polled};
+use driver_testing::{AnswerWords, Ask, begins, polled};
 use std::alloc::Global;
 
 /// No calls.

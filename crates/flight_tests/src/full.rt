@@ -3,14 +3,14 @@
 ghost use Rattle.std.specs.Prelude.{◌≡◌, ◌≤◌, IfOk, true};
 ghost use Rattle.history.specs.Config.{config_numbers};
 ghost use Rattle.work_queue.specs.Engines.{IsPassOfEngine};
-ghost use Rattle.driver_rows.specs.Benches.{AreBenchSpares, uses};
+ghost use Rattle.driver_testing.specs.Benches.{AreBenchSpares, uses};
 
 use crate::callers::{on_both, server_of};
 use crate::sent::{Sent, one, published_in, two};
 use crate::turns::{BenchTurn, turns_all};
 use crate::under_way::pass_of;
 use driver_cas::Fault;
-use driver_rows::{AnswerWords, Ask, Bench, BenchSpares, Fill, bench_of};
+use driver_testing::{AnswerWords, Ask, Bench, BenchSpares, Fill, bench_of};
 use history::Config;
 use meet_lock::Pass;
 use std::alloc::Global;

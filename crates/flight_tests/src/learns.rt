@@ -2,17 +2,17 @@
 
 ghost use Rattle.std.specs.Prelude.{◌≡◌, ◌≤◌, IfOk, true};
 ghost use Rattle.history.specs.Config.{config_numbers};
-ghost use Rattle.driver_rows.specs.Benches.{AreBenchSpares, IsServerOf, uses};
+ghost use Rattle.driver_testing.specs.Benches.{AreBenchSpares, IsServerOf, uses};
 ghost use Rattle.flight_tests.specs.Flights.{AreInFlight};
 
 use crate::callers::{on_own, server_of};
 use crate::full::core_after;
 use crate::turns::{BenchTurn, turns};
 use crate::under_way::{CallsInFlight, meets, meets_server};
-use driver_rows::{AnswerWords, Ask, Bench, BenchSpares, Fill, Server, bench_of, small_bench};
+use driver_testing::{AnswerWords, Ask, Bench, BenchSpares, Fill, Server, bench_of, small_bench};
 use history::Config;
 use history_check::check;
-use lock_rows::text;
+use lock_testing::text;
 use std::alloc::{AllocError as NoMemory, Global};
 use std::process::Abort;
 use std::sync::Wait;

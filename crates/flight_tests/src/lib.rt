@@ -1,5 +1,5 @@
 //! Tests of a driver with many calls in flight: their CIDs, submission queues that are full, and what hosts learn of
-//! others.
+//! others. They are apart from `driver_tests` since the check of each takes minutes.
 #![tactic(auto)]
 
 #[cfg(test)]

@@ -1,7 +1,7 @@
 //! What a driver published.
 
 use driver_cas::Driver;
-use driver_rows::{Did, Fake};
+use driver_testing::{Did, Fake};
 use history::Entry;
 use nvme_model::submission::Submission;
 use std::alloc::{AllocError as NoMemory, Global};

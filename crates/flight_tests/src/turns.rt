@@ -1,11 +1,11 @@
 //! What a test has a host and a server do, in turn.
 
-ghost use Rattle.driver_rows.specs.Benches.{IsServerOf};
+ghost use Rattle.driver_testing.specs.Benches.{IsServerOf};
 ghost use Rattle.flight_tests.specs.Flights.{AreInFlight};
 
 use crate::under_way::{CallsInFlight, lands, launches, listens};
 use driver_cas::Fault;
-use driver_rows::{AnswerWords, Ask, Bench, Server, serves};
+use driver_testing::{AnswerWords, Ask, Bench, Server, serves};
 use std::process::Abort;
 use std::sync::Wait;
 

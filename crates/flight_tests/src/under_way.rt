@@ -2,12 +2,12 @@
 
 ghost use Rattle.std.specs.Prelude.{All};
 ghost use Rattle.work_queue.specs.Engines.{IsPassOfEngine, IsWorkOf};
-ghost use Rattle.driver_rows.specs.Benches.{IsBenchHost, IsServerOf};
+ghost use Rattle.driver_testing.specs.Benches.{IsBenchHost, IsServerOf};
 ghost use Rattle.flight_tests.specs.Flights.{AreInFlight};
 
 use crate::flights::{begins_one, ends_one, no_calls};
 use driver_cas::{Call, Fault, SharedPort};
-use driver_rows::{AnswerWords, Ask, Bench, BenchHost, Server, ends, fetches, hears};
+use driver_testing::{AnswerWords, Ask, Bench, BenchHost, Server, ends, fetches, hears};
 use meet_lock::Pass;
 use std::alloc::{AllocError as NoMemory, Global};
 use std::sync::Wait;

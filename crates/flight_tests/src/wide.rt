@@ -2,13 +2,13 @@
 
 ghost use Rattle.std.specs.Prelude.{◌≡◌, IfOk};
 ghost use Rattle.history.specs.Config.{config_numbers};
-ghost use Rattle.driver_rows.specs.Benches.{AreBenchSpares, IsServerOf};
+ghost use Rattle.driver_testing.specs.Benches.{AreBenchSpares, IsServerOf};
 ghost use Rattle.flight_tests.specs.Flights.{AreInFlight};
 
 use crate::callers::{on_both, server_of};
 use crate::under_way::{CallsInFlight, ends_newest, fetches_all, hears_all, lands, launches};
 use driver_cas::Fault;
-use driver_rows::{AnswerWords, Ask, Bench, BenchSpares, Fill, Server, bench_of};
+use driver_testing::{AnswerWords, Ask, Bench, BenchSpares, Fill, Server, bench_of};
 use history::Config;
 use std::alloc::{AllocError as NoMemory, Global};
 use std::process::Abort;

@@ -1,4 +1,5 @@
-//! Says what a Fetch makes of the entries at the front of a submission queue: matching, and the checks of both tables.
+//! Says what a Fetch makes of the entries at the front of a submission queue, for a controller and for a checker:
+//! matching, and checks.
 #![tactic(auto)]
 
 mod checks;

@@ -3,10 +3,10 @@ use Rattle.std.proofs.Common.{◌≡◌, ℕ, Bool, true, false, cond, List, [],
 use Rattle.std.specs.Prelude.{Option, codes, decimal}
 use Rattle.std.specs.List.{AllByRecursion}
 use Rattle.std.specs.Str.{bytes_eq}
+use Rattle.plain_lemmas.proofs.Lists.{bytes_eq_true}
 use Rattle.hex.specs.Hex.{encode_upper}
 use Rattle.line_text.specs.Digits.{bytes_in, fixed_in}
 use Rattle.line_text.specs.Data.{data_text, data_in}
-use Rattle.line_text.proofs.NumberLaws.{bytes_eq_true}
 use Rattle.line_text.proofs.HexLaws.{bytes_is, bytes_again, fixed_is, fixed_some}
 use Rattle.line_text.specs.Words.{Without}
 use Rattle.line_text.proofs.DataLaws.{data_is, data_again, data_spaceless}

@@ -7,9 +7,11 @@ use Rattle.std.specs.Str.{bytes_eq}
 use Rattle.std.proofs.Math.Dec.{eqb}
 use Rattle.std.proofs.lemmas.Bool.{eqb-true}
 use Rattle.std.proofs.lemmas.List.Splits.{join_with_byte-slice_split}
+use Rattle.plain_lemmas.proofs.Numbers.{eqb_same}
+use Rattle.plain_lemmas.proofs.Lists.{bytes_eq_true}
 use Rattle.line_text.specs.Number.{number_in}
 use Rattle.line_text.specs.Words.{Without}
-use Rattle.line_text.proofs.NumberLaws.{number_is, decimal_spaceless, bytes_eq_true}
+use Rattle.line_text.proofs.NumberLaws.{number_is, decimal_spaceless}
 use Rattle.line_text.proofs.WordLaws.{words_again}
 use Rattle.nvme_model.specs.declared.config.AtomicParameters.{AtomicParameters}
 use Rattle.nvme_model.specs.declared.config.ConfigNumbers.{ConfigNumbers}
@@ -83,10 +85,6 @@ nine_is b w x y z p s q j more c h =
           ∙ ap (λ v. decimal c.pairs ∷ decimal c.sq_size ∷ decimal c.cq_size ∷ v ∷ more) (number_is 16 c.jobs j k.5).0),
       k.6,
     )
-
--- a number is equal to itself
-eqb_same : (n : ℕ) → eqb n n ≡ true
-eqb_same n = grind arith
 
 -- the words of a configuration with as many completion queues as submission queues
 words_even : (c : ConfigNumbers) → c.cqs ≡ c.pairs → codes "config" ∷ nine_words c ≡ config_words c

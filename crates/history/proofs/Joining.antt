@@ -17,7 +17,7 @@ joined front None = None
 joined front (Some xs) = Some (front ++ xs)
 
 -- one more entry
-joined_then : (front : List Submission) (x : Submission) (o : Option (List Submission))
+pub joined_then : (front : List Submission) (x : Submission) (o : Option (List Submission))
     → joined (front ++ x ∷ []) o ≡ joined front (then_item (Some x) o)
 joined_then front x None = refl
 joined_then front x (Some xs) = ap Some (append_assoc front (x ∷ []) xs)

@@ -8,3 +8,4 @@ pub mod LinesRead
 pub mod LinesAgain
 pub mod OneSpelling
 pub mod ConfigLaws
+pub mod LinesOut

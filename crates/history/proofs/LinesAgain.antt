@@ -43,16 +43,16 @@ pub number_32 : (n : ℕ) → n < 2 ^ 32 → number_in 32 (decimal n) ≡ Some n
 number_32 n small = number_some 32 n (decimal n) small (omega arith) refl
 
 -- a number of 64 bits
-number_64 : (n : ℕ) → n < 2 ^ 64 → number_in 64 (decimal n) ≡ Some n
+pub number_64 : (n : ℕ) → n < 2 ^ 64 → number_in 64 (decimal n) ≡ Some n
 number_64 n small = number_some 64 n (decimal n) small small refl
 
 -- the bytes of a completion
-cqe_again : (cqe : List ℕ) → length cqe ≡ 16 → IsBytes cqe → fixed_in 16 (bytes_in (encode_upper cqe)) ≡ Some cqe
+pub cqe_again : (cqe : List ℕ) → length cqe ≡ 16 → IsBytes cqe → fixed_in 16 (bytes_in (encode_upper cqe)) ≡ Some cqe
 cqe_again cqe long fits =
     fixed_some 16 (bytes_in (encode_upper cqe)) cqe (bytes_again (encode_upper cqe) cqe fits refl) long
 
 -- data
-payload_again : (payload : List ℕ) → IsBytes payload → data_in 512 (data_text 512 payload) ≡ Some payload
+pub payload_again : (payload : List ℕ) → IsBytes payload → data_in 512 (data_text 512 payload) ≡ Some payload
 payload_again payload fits = data_again 512 (data_text 512 payload) payload (omega arith) fits refl
 
 -- ---- each kind

@@ -5,11 +5,12 @@ use Rattle.std.specs.List.{slice_split, join_with_byte}
 use Rattle.std.specs.Str.{bytes_eq}
 use Rattle.std.proofs.Math.Dec.{eqb}
 use Rattle.std.proofs.lemmas.List.Splits.{join_with_byte-slice_split}
+use Rattle.plain_lemmas.proofs.Lists.{bytes_eq_true}
 use Rattle.hex.specs.Hex.{encode_upper}
 use Rattle.line_text.specs.Number.{number_in}
 use Rattle.line_text.specs.Digits.{bytes_in, fixed_in}
 use Rattle.line_text.specs.Data.{data_in}
-use Rattle.line_text.proofs.NumberLaws.{number_is, bytes_eq_true}
+use Rattle.line_text.proofs.NumberLaws.{number_is}
 use Rattle.line_text.proofs.HexLaws.{bytes_is, fixed_is}
 use Rattle.line_text.proofs.DataLaws.{data_is}
 use Rattle.nvme_model.specs.declared.entry.Entry.{Entry}

@@ -2,8 +2,8 @@
 use Rattle.std.proofs.Common.{◌≡◌, ℕ, Bool, true, false, cond, List, None, Some, refl, ap, ◌∙◌}
 use Rattle.std.specs.Prelude.{codes}
 use Rattle.std.specs.Str.{bytes_eq}
+use Rattle.plain_lemmas.proofs.Lists.{bytes_eq_true}
 use Rattle.line_text.specs.Words.{Without}
-use Rattle.line_text.proofs.NumberLaws.{bytes_eq_true}
 use Rattle.nvme_model.specs.declared.array.Mode.{Mode}
 use Rattle.nvme_model.specs.declared.operation.Found.{Found}
 use Rattle.history.specs.Marks.{mode_word, mode_in, found_word, found_in, mark_word, mark_in}

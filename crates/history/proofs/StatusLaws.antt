@@ -6,10 +6,10 @@ use Rattle.std.specs.List.{AllByRecursion}
 use Rattle.std.specs.Str.{bytes_eq}
 use Rattle.std.proofs.Math.Dec.{eqb}
 use Rattle.std.proofs.lemmas.Bool.{eqb-true, ltb-true, lt-ltb}
+use Rattle.plain_lemmas.proofs.Lists.{bytes_eq_true}
 use Rattle.hex.specs.Hex.{encode_upper, IsBytes}
 use Rattle.line_text.specs.Digits.{bytes_in, fixed_in}
 use Rattle.line_text.specs.Words.{Without}
-use Rattle.line_text.proofs.NumberLaws.{bytes_eq_true}
 use Rattle.line_text.proofs.HexLaws.{bytes_is, bytes_again, fixed_is, fixed_some}
 use Rattle.line_text.proofs.WordLaws.{upper_without}
 use Rattle.nvme_model.specs.Statuses.{status}

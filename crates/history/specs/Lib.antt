@@ -6,3 +6,4 @@ pub mod StatusWord
 pub mod Marks
 pub mod BatchWords
 pub mod Lines
+pub mod Texts

@@ -1,4 +1,4 @@
-//! Configurations, histories, and the one line of each entry, both ways, for whoever prints a history or reads one.
+//! Configurations, histories, and the one line of each step, both ways, for whoever prints a history or reads one.
 #![tactic(auto)]
 
 mod batch;
@@ -10,6 +10,7 @@ mod line_fault;
 mod lines_there;
 mod marks;
 mod past;
+mod printing;
 mod reading;
 mod status_word;
 mod writing;
@@ -21,6 +22,7 @@ pub use crate::laws::{configurations_have_one_spelling, lines_have_one_spelling}
 pub use crate::line_fault::LineFault;
 pub use crate::lines_there::publish_fits;
 pub use crate::past::History;
+pub use crate::printing::{PrintFault, print_bytes, print_config, print_history};
 pub use crate::reading::parse_line;
 pub use crate::writing::{write_line, write_publish};
 pub use nvme_model::entry::{

@@ -6,15 +6,15 @@ use Rattle.std.specs.Prelude.{IfSome}
 use Rattle.std.specs.List.{filter, find}
 use Rattle.std.proofs.lemmas.Bool.{and_parts, or_parts}
 use Rattle.std.proofs.lemmas.Bool.Decides.{nat_tests}
-use Rattle.checked_tickets.specs.Contents.{contents_in, written_in}
-use Rattle.checked_tickets.specs.declared.flight.TakenBlock.{TakenBlock}
-use Rattle.checker_tables.specs.Effects.{placed, does_read, word_of}
-use Rattle.checker_tables.specs.Judged.{block_fits_by, flies, judged}
-use Rattle.cids_in_use.specs.Used.{AreInUse}
-use Rattle.checker_tables.specs.Tables.{CheckedTicket, CheckedUnit, Tables, flight, tables, checked_unit_of}
-use Rattle.checker_tables.specs.Taken.{SameIn, blocked, blocked_flight, ends_by, tables_after, value_after}
-use Rattle.checker_tables.proofs.Placing.{effect_granted, effect_placed}
-use Rattle.checker_tables.proofs.Within.{fits_same, flight_same, value_same}
+use Rattle.history_check.specs.Contents.{contents_in, written_in}
+use Rattle.history_check.specs.declared.flight.TakenBlock.{TakenBlock}
+use Rattle.history_check.specs.Effects.{placed, does_read, word_of}
+use Rattle.history_check.specs.Judged.{block_fits_by, flies, judged}
+use Rattle.rings.specs.Used.{AreInUse}
+use Rattle.history_check.specs.Tables.{CheckedTicket, CheckedUnit, Tables, flight, tables, checked_unit_of}
+use Rattle.history_check.specs.Taken.{SameIn, blocked, blocked_flight, ends_by, tables_after, value_after}
+use Rattle.history_check.proofs.Placing.{effect_granted, effect_placed}
+use Rattle.history_check.proofs.Within.{fits_same, flight_same, value_same}
 use Rattle.nvme_model.specs.Answered.{may_find}
 use Rattle.nvme_model.specs.Array.{has_block}
 use Rattle.nvme_model.specs.History.{Past}

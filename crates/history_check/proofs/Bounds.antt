@@ -1,17 +1,15 @@
 -- Where the units of a ticket lie, and how many there are.
-use Rattle.std.proofs.Common.{◌≡◌, ℕ, ◌+◌, ◌≤◌, true, List, [], ◌∷◌, length, refl, Option, Some, None, is_some}
+use Rattle.std.proofs.Common.{◌≡◌, ℕ, ◌+◌, ◌≤◌, true, List, [], ◌∷◌, length, Some, None, is_some}
 use Rattle.std.proofs.Common.{arith, slice_get}
 use Rattle.std.proofs.lemmas.List.Sums.{sum_by-cons}
 use Rattle.nvme_model.specs.declared.array.Range.{Range}
-use Rattle.nvme_model.specs.declared.config.AtomicParameters.{AtomicParameters}
 use Rattle.nvme_model.specs.declared.config.ConfigNumbers.{ConfigNumbers}
-use Rattle.nvme_model.specs.declared.operation.Op.{Op}
 use Rattle.nvme_model.specs.Config.{config_fault}
 use Rattle.nvme_model.specs.EntryBytes.{block_count, slba}
 use Rattle.nvme_model.specs.History.{Past}
 use Rattle.nvme_model.specs.Legal.{IsLegal}
 use Rattle.nvme_model.specs.Open.{grants_of}
-use Rattle.nvme_model.specs.Operations.{op, units, units_by}
+use Rattle.nvme_model.specs.Operations.{op, units}
 use Rattle.nvme_model.specs.Tickets.{first_fields, ticket}
 use Rattle.nvme_model.proofs.Checked.{ticket_checked}
 use Rattle.nvme_model.proofs.Granted.{units_some}
@@ -21,6 +19,7 @@ use Rattle.nvme_model.proofs.Lists.{Each, each_get}
 use Rattle.nvme_model.proofs.StepCounts.{grants_within}
 use Rattle.nvme_model.specs.Array.{IsRange}
 use Rattle.nvme_model.proofs.Accepted.{accepted}
+use Rattle.nvme_model.proofs.UnitsWork.{units_of_op}
 use Rattle.ticket_laws.proofs.Bounds.{units_sum}
 
 -- ---- the blocks of a list of units
@@ -29,15 +28,9 @@ few_units : (rs : List Range) → Each (λ r. 1 ≤ r.blocks) rs → length rs �
 few_units [] e = omega arith
 few_units (r ∷ rs) e = omega (arith, few_units rs e.1, e.0, sum_by-cons (λ (x : Range). x.blocks) r rs)
 
--- one that has a unit works on blocks
-unit_works : (u : AtomicParameters) (o : Option Op) (s n i : ℕ) (r : Range) → slice_get (units_by u o s n) i ≡ Some r
-    → is_some o ≡ true
-unit_works u None s n i r e = absurd (let f : None ≡ Some r = e in cc)
-unit_works u (Some o) s n i r e = refl
-
 pub has_op : (c : ConfigNumbers) (past : Past) (t i : ℕ) (r : Range) → slice_get (units c (ticket past t)) i ≡ Some r
     → is_some (op (ticket past t)) ≡ true
-has_op c past t i r e = unit_works c.atomic (op (ticket past t)) (slba (first_fields (ticket past t)))
+has_op c past t i r e = units_of_op c.atomic (op (ticket past t)) (slba (first_fields (ticket past t)))
     (block_count (first_fields (ticket past t))) i r e
 
 -- ---- of a ticket that works on blocks

@@ -7,11 +7,11 @@ use Rattle.std.specs.List.{count_by}
 use Rattle.std.proofs.lemmas.Bool.{and_parts, lt-leb}
 use Rattle.std.proofs.lemmas.List.{append-nil, length-map, length-take}
 use Rattle.std.proofs.Math.Nat.{mod-add-mod}
-use Rattle.checker_tables.specs.Judged.{in_use, judged, checked_verdict}
-use Rattle.checker_tables.specs.Tables.{flight, just_fetched, tables}
-use Rattle.checker_tables.specs.Taken.{fetched_by, tables_after}
-use Rattle.cids_in_use.specs.Used.{AreUsed, UsedCids}
-use Rattle.cids_in_use.proofs.Counts.{count_append, same_in, same_length, used_at, used_set}
+use Rattle.history_check.specs.Judged.{in_use, judged, checked_verdict}
+use Rattle.history_check.specs.Tables.{flight, just_fetched, tables}
+use Rattle.history_check.specs.Taken.{fetched_by, tables_after}
+use Rattle.rings.specs.Used.{AreUsed, UsedCids}
+use Rattle.rings.proofs.CidCounts.{count_append, same_in, same_length, used_at, used_set}
 use Rattle.fused_match.specs.Judged as matched
 use Rattle.fused_match.specs.Judged.{NamesBlocks, operation_in, waiting_items}
 use Rattle.fused_match.specs.declared.judged.Judged.{Judged}

@@ -11,7 +11,7 @@ use Rattle.nvme_model.proofs.Beginnings.{beginning}
 use Rattle.history_check.specs.Kept.{Stands, CheckerRun}
 
 -- the entries up to a place, the newest first
-one_more : (entries : List Entry) (i : ℕ) (e : Entry) → i < length entries → e ≡ get_or entries i e
+pub one_more : (entries : List Entry) (i : ℕ) (e : Entry) → i < length entries → e ≡ get_or entries i e
     → reverse (take (i + 1) entries) ≡ e ∷ reverse (take i entries)
 one_more entries i e l there =
     ap reverse (take_more entries i e l) ∙ reverse-append (take i entries) (get_or entries i e ∷ [])

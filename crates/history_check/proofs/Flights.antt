@@ -10,8 +10,8 @@ use Rattle.std.proofs.lemmas.Bool.Decides.{nat_tests}
 use Rattle.std.proofs.lemmas.List.{map-append}
 use Rattle.std.proofs.lemmas.List.Quantifiers.{position-Some}
 use Rattle.std.proofs.lemmas.List.Sums.{position_or_len_is}
-use Rattle.checker_tables.specs.Judged.{flies}
-use Rattle.checker_tables.specs.Tables.{Tables, tables}
+use Rattle.history_check.specs.Judged.{flies}
+use Rattle.history_check.specs.Tables.{Tables, tables}
 use Rattle.nvme_model.specs.History.{Past}
 use Rattle.nvme_model.specs.declared.config.ConfigNumbers.{ConfigNumbers}
 use Rattle.nvme_model.proofs.Lists.{Each, each_get, each_map}

@@ -1,9 +1,9 @@
 -- Whether an entry may follow.
 use Rattle.std.proofs.Common.{◌≡◌, ◌&&◌, Bool, true, false, not, cond, ◌∷◌, Option, Some, is_none, refl, sym, ◌∙◌}
 use Rattle.std.proofs.lemmas.Bool.{and_from}
-use Rattle.checker_tables.specs.Judged.{judged}
-use Rattle.checker_tables.specs.Tables.{tables}
-use Rattle.checker_tables.proofs.Judging.{judged_is}
+use Rattle.history_check.specs.Judged.{judged}
+use Rattle.history_check.specs.Tables.{tables}
+use Rattle.history_check.proofs.Judging.{judged_is}
 use Rattle.nvme_model.specs.History.{Past}
 use Rattle.nvme_model.specs.Legal.{IsLegal, legal, may_follow}
 use Rattle.nvme_model.specs.declared.config.ConfigNumbers.{ConfigNumbers}

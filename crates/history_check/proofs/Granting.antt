@@ -4,10 +4,10 @@ use Rattle.std.proofs.Common.{List, [], ◌∷◌, length, map, set, slice_get, 
 use Rattle.std.proofs.Common.{refl, sym, ap, ◌∙◌, subst, arith, ne_eqb, eq-eqb}
 use Rattle.std.specs.Bool.{beq}
 use Rattle.std.proofs.lemmas.Bool.Decides.{nat_tests}
-use Rattle.checker_tables.specs.Judged.{conflicts_by, flies, judged}
-use Rattle.cids_in_use.specs.Used.{AreInUse}
-use Rattle.checker_tables.specs.Tables.{CheckedTicket, Tables, flight, tables}
-use Rattle.checker_tables.specs.Taken.{opened_flight, tables_after}
+use Rattle.history_check.specs.Judged.{conflicts_by, flies, judged}
+use Rattle.rings.specs.Used.{AreInUse}
+use Rattle.history_check.specs.Tables.{CheckedTicket, Tables, flight, tables}
+use Rattle.history_check.specs.Taken.{opened_flight, tables_after}
 use Rattle.nvme_model.specs.History.{Past}
 use Rattle.nvme_model.specs.Legal.{IsLegal, is_range}
 use Rattle.nvme_model.specs.Open.{conflict, open_units}

@@ -4,10 +4,10 @@ use Rattle.std.proofs.Common.{false, get_or, length, ltb-false, ltb-true, ne_eqb
 use Rattle.std.proofs.Common.{zero, ℕ, ◌*◌, ◌+◌, ◌++◌, ◌<◌, ◌==◌, ◌∙◌, ◌∷◌, ◌≡◌, ◌≢◌, ◌≤◌}
 use Rattle.std.specs.List.{count_by, filter, flat_map}
 use Rattle.std.proofs.lemmas.List.{append-nil, drop_all, drop_more, length-append, length-drop, length-map}
-use Rattle.checker_tables.specs.Judged.{cids_left, flies, in_use}
-use Rattle.checker_tables.specs.Tables.{CheckedTicket, Tables, flight, just_fetched, tables}
-use Rattle.checker_tables.specs.Taken.{fetched_by, flies_on, posted_flight, tables_after, with_flight}
-use Rattle.cids_in_use.proofs.Counts.{count_append}
+use Rattle.history_check.specs.Judged.{cids_left, flies, in_use}
+use Rattle.history_check.specs.Tables.{CheckedTicket, Tables, flight, just_fetched, tables}
+use Rattle.history_check.specs.Taken.{fetched_by, flies_on, posted_flight, tables_after, with_flight}
+use Rattle.rings.proofs.CidCounts.{count_append}
 use Rattle.nvme_model.specs.EntryBytes.{sqe_fields}
 use Rattle.nvme_model.specs.History.{Past}
 use Rattle.nvme_model.specs.Tickets.{cids, ticket}

@@ -7,13 +7,13 @@ use Rattle.std.specs.List.{count_by, filter, remove}
 use Rattle.std.specs.List.Sorted.{IsPermutation}
 use Rattle.std.proofs.lemmas.List.{append-nil, length-map, map-append}
 use Rattle.std.proofs.Math.Nat.{mod-lt}
-use Rattle.checked_tickets.specs.Contents.{post_fits_at}
-use Rattle.checked_tickets.proofs.Posting.{by_rings}
-use Rattle.cids_in_use.specs.Used.{AreInUse, AreUsed, UsedCids, is_used}
-use Rattle.cids_in_use.proofs.Counts.{count_append, count_cons, is_among, one_less, used_at, used_set}
-use Rattle.checker_tables.specs.Judged.{flies, in_use, judged, checked_owed, owes_nothing, post_fits_by}
-use Rattle.checker_tables.specs.Tables.{CheckedTicket, flight, tables}
-use Rattle.checker_tables.specs.Taken.{flies_on, posted_flight, tables_after}
+use Rattle.history_check.specs.Contents.{post_fits_at}
+use Rattle.history_check.proofs.TicketPosting.{by_rings}
+use Rattle.rings.specs.Used.{AreInUse, AreUsed, UsedCids, is_used}
+use Rattle.rings.proofs.CidCounts.{count_append, count_cons, is_among, one_less, used_at, used_set}
+use Rattle.history_check.specs.Judged.{flies, in_use, judged, checked_owed, owes_nothing, post_fits_by}
+use Rattle.history_check.specs.Tables.{CheckedTicket, flight, tables}
+use Rattle.history_check.specs.Taken.{flies_on, posted_flight, tables_after}
 use Rattle.entry_codec.specs.Cqe.{phase_bit}
 use Rattle.nvme_model.specs.Config.{completion_queue}
 use Rattle.nvme_model.specs.History.{Past}

@@ -2,9 +2,9 @@
 use Rattle.std.proofs.Common.{◌≡◌, ◌≢◌, ℕ, suc, ◌&&◌, Bool, true, false, cond, List, [], ◌++◌, get_or, set, Option}
 use Rattle.std.proofs.Common.{Some, None, is_none, refl, sym, ap, ◌∙◌, arith, eq-eqb, ne_eqb}
 use Rattle.std.proofs.lemmas.List.{append-nil}
-use Rattle.checker_tables.specs.Judged.{judged}
-use Rattle.checker_tables.specs.Tables.{Tables, tables}
-use Rattle.checker_tables.specs.Taken.{tables_after}
+use Rattle.history_check.specs.Judged.{judged}
+use Rattle.history_check.specs.Tables.{Tables, tables}
+use Rattle.history_check.specs.Taken.{tables_after}
 use Rattle.nvme_model.specs.History.{Past}
 use Rattle.nvme_model.specs.Refusals.{no_queue}
 use Rattle.nvme_model.specs.declared.config.ConfigNumbers.{ConfigNumbers}

@@ -3,9 +3,9 @@ use Rattle.std.proofs.Common.{◌≡◌, ◌≢◌, ℕ, suc, ◌&&◌, ◌==◌
 use Rattle.std.proofs.Common.{length, map, set, slice_get, Some, None, bytes_eq, is_none, refl, sym, ap, ◌∙◌, arith}
 use Rattle.std.proofs.Common.{eq-eqb, ne_eqb}
 use Rattle.std.proofs.lemmas.List.{drop-map}
-use Rattle.checker_tables.specs.Judged.{judged}
-use Rattle.checker_tables.specs.Tables.{tables}
-use Rattle.checker_tables.specs.Taken.{tables_after}
+use Rattle.history_check.specs.Judged.{judged}
+use Rattle.history_check.specs.Tables.{tables}
+use Rattle.history_check.specs.Taken.{tables_after}
 use Rattle.nvme_model.specs.History.{Past}
 use Rattle.nvme_model.specs.Legal.{is_cqe}
 use Rattle.nvme_model.specs.declared.config.ConfigNumbers.{ConfigNumbers}

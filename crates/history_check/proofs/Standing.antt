@@ -3,13 +3,13 @@ use Rattle.std.proofs.Common.{◌≡◌, ℕ, suc, ◌%◌, ◌*◌, ◌==◌, �
 use Rattle.std.proofs.Common.{refl, sym, ap, ◌∙◌, subst}
 use Rattle.std.proofs.Math.Nat.{zero-div, zero-mod}
 use Rattle.std.proofs.lemmas.List.{get_or-replicate, length-replicate}
-use Rattle.checked_tickets.specs.Contents.{contents_in}
-use Rattle.checker_tables.specs.Judged.{in_use}
-use Rattle.checker_tables.specs.Tables.{Tables, tables}
-use Rattle.cids_in_use.specs.Used.{UsedCids}
-use Rattle.cids_in_use.proofs.Counts.{none_used}
-use Rattle.checker_tables.proofs.Judging.{judged_is}
-use Rattle.checker_tables.proofs.Taking.{taken_is}
+use Rattle.history_check.specs.Contents.{contents_in}
+use Rattle.history_check.specs.Judged.{in_use}
+use Rattle.history_check.specs.Tables.{Tables, tables}
+use Rattle.rings.specs.Used.{UsedCids}
+use Rattle.rings.proofs.CidCounts.{none_used}
+use Rattle.history_check.proofs.Judging.{judged_is}
+use Rattle.history_check.proofs.Taking.{taken_is}
 use Rattle.nvme_model.specs.Array.{zeros}
 use Rattle.nvme_model.specs.Config.{config_fault}
 use Rattle.nvme_model.specs.History.{Past}

@@ -9,12 +9,12 @@ use Rattle.broken_rules.specs.Broken.{first_broken, refused_or}
 use Rattle.broken_rules.specs.Rows.{block_broken, fetch_broken, grant_broken, reap_broken}
 use Rattle.broken_rules.specs.declared.broken.Broken.{Broken}
 use Rattle.broken_rules.proofs.Exactly.{exactly}
-use Rattle.checked_tickets.specs.Contents.{contents_in}
-use Rattle.checked_tickets.specs.Explained.{block_wrong_by, due_in, post_wrong_at}
-use Rattle.checker_tables.specs.Judged.{conflicts_by, flies, next_by, checked_owed, owes_nothing}
-use Rattle.cids_in_use.specs.Used.{UsedCids}
-use Rattle.checker_tables.specs.Tables.{CheckedTicket, flight, tables, checked_unit_of}
-use Rattle.checker_tables.proofs.Within.{right_same}
+use Rattle.history_check.specs.Contents.{contents_in}
+use Rattle.history_check.specs.Explained.{block_wrong_by, due_in, post_wrong_at}
+use Rattle.history_check.specs.Judged.{conflicts_by, flies, next_by, checked_owed, owes_nothing}
+use Rattle.rings.specs.Used.{UsedCids}
+use Rattle.history_check.specs.Tables.{CheckedTicket, flight, tables, checked_unit_of}
+use Rattle.history_check.proofs.Within.{right_same}
 use Rattle.entry_codec.specs.Cqe.{phase_bit}
 use Rattle.fused_match.specs.Judged as matched
 use Rattle.fused_match.specs.Judged.{NamesBlocks, operation_in, waiting_items}

@@ -1,9 +1,9 @@
 -- What a checker keeps, and of which history.
 use Rattle.std.specs.Prelude.{Bool, List, None, length, map, suc, true, ℕ, ◌*◌, ◌<◌, ◌≡◌}
-use Rattle.checked_tickets.specs.Contents.{contents_in}
-use Rattle.checker_tables.specs.Judged.{in_use}
-use Rattle.checker_tables.specs.Tables.{Tables, tables}
-use Rattle.cids_in_use.specs.Used.{AreInUse, UsedCids}
+use Rattle.history_check.specs.Contents.{contents_in}
+use Rattle.history_check.specs.Judged.{in_use}
+use Rattle.history_check.specs.Tables.{Tables, tables}
+use Rattle.rings.specs.Used.{AreInUse, UsedCids}
 use Rattle.nvme_model.specs.Config.{config_fault}
 use Rattle.nvme_model.specs.History.{Past}
 use Rattle.nvme_model.specs.Legal.{IsLegal, legal}

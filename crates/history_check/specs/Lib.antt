@@ -1,3 +1,10 @@
+pub mod Effects
+pub mod Tables
+pub mod Judged
+pub mod Taken
+pub mod Pass
+pub mod Contents
+pub mod Explained
 pub mod Checks
 pub mod Rings
 pub mod Kept

@@ -1,6 +1,6 @@
 -- The rings of the queues, as tables.
 use Rattle.std.specs.Prelude.{[], map, ℕ, ◌%◌, ◌/◌, ◌==◌}
-use Rattle.checker_tables.specs.Tables.{Tables}
+use Rattle.history_check.specs.Tables.{Tables}
 use Rattle.nvme_model.specs.declared.config.ConfigNumbers.{ConfigNumbers}
 use Rattle.nvme_model.specs.declared.entry.PostLine.{PostLine}
 use Rattle.rings.specs.Completions.{CompletionRing}

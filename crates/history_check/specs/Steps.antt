@@ -2,10 +2,10 @@
 use Rattle.std.specs.Bool.{beq}
 use Rattle.std.specs.Prelude.{Bool, List, None, Option, Some, [], false, is_some, not, true, ◌&&◌, ◌+◌, ◌==◌, ◌||◌, ◌∷◌}
 use Rattle.std.specs.Prelude.{◌≡◌, ◌≤◌}
-use Rattle.checker_tables.specs.Judged as rules
-use Rattle.checker_tables.specs.Tables.{tables}
-use Rattle.checker_tables.specs.Tables.{CheckedTicket}
-use Rattle.checker_tables.specs.Taken.{tables_after}
+use Rattle.history_check.specs.Judged as rules
+use Rattle.history_check.specs.Tables.{tables}
+use Rattle.history_check.specs.Tables.{CheckedTicket}
+use Rattle.history_check.specs.Taken.{tables_after}
 use Rattle.fused_match.specs.declared.judged.Judged.{Judged}
 use Rattle.fused_match.specs.declared.judged.Judged.TheVariants as judged
 use Rattle.nvme_model.specs.Cut.{cut}

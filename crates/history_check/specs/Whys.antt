@@ -4,9 +4,9 @@ use Rattle.std.specs.Prelude.{true, ◌%◌, ◌||◌}
 use Rattle.broken_rules.specs.Broken.{refused_or}
 use Rattle.broken_rules.specs.Rows.{fetch_broken, grant_broken, reap_broken}
 use Rattle.broken_rules.specs.declared.broken.Broken.{Broken}
-use Rattle.checked_tickets.specs.Explained.{block_wrong_by, post_wrong_at}
-use Rattle.checker_tables.specs.Judged.{next_by, checked_owed, refusal_by, checked_verdict}
-use Rattle.checker_tables.specs.Tables.{CheckedTicket, Tables}
+use Rattle.history_check.specs.Explained.{block_wrong_by, post_wrong_at}
+use Rattle.history_check.specs.Judged.{next_by, checked_owed, refusal_by, checked_verdict}
+use Rattle.history_check.specs.Tables.{CheckedTicket, Tables}
 use Rattle.nvme_model.specs.Completions.{phase}
 use Rattle.nvme_model.specs.Config.{completion_queue}
 use Rattle.nvme_model.specs.History.{step_of}

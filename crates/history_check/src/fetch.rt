@@ -14,17 +14,17 @@ ghost use Rattle.nvme_model.specs.Tickets.{cids};
 ghost use Rattle.nvme_model.specs.Verdict.{item_of, same_verdict, verdict_of};
 ghost use Rattle.history_check.specs.Steps.{HasUnits, units_in_order};
 
+use crate::commands::Commands;
 use crate::fields::{CheckedInFlight, Fields, TicketUnits};
+use crate::flight::CheckedTicket;
 use crate::places::ring_place;
 use broken_rules::same_verdict;
-use checked_tickets::{CheckedTicket, Commands};
-use cids_in_use::CidsInUse;
 use fused_match::{Item, Judged, judge};
 use history::Config;
 use nvme_model::array::Range;
 use nvme_model::entry::FetchLine;
 use nvme_model::submission::Submission;
-use rings::SqRing;
+use rings::{CidsInUse, SqRing};
 use std::alloc::{AllocError as NoMemory, Global};
 
 // What a check sees of the entry behind the first of a ring, if there is one.

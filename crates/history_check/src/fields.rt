@@ -2,13 +2,12 @@
 
 ghost use Rattle.std.specs.Prelude.{◌≡◌, [], IfOk};
 
+use crate::flight::CheckedTicket;
 use block_array::Volume;
-use checked_tickets::CheckedTicket;
-use cids_in_use::{CidsInUse, none_in_use};
 use history::Config;
 use nvme_model::array::Range;
 use range_reserve::Ranges;
-use rings::{CqRing, SqRing, cq_rings, sq_rings};
+use rings::{CidsInUse, CqRing, SqRing, cq_rings, none_in_use, sq_rings};
 use std::alloc::{AllocError as NoMemory, Global};
 use std::marker::Model;
 

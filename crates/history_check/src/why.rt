@@ -4,7 +4,7 @@ ghost use Rattle.std.specs.Prelude.{◌≡◌, IfOk, OnErr, slice_get, true};
 ghost use Rattle.nvme_model.specs.History.{Past};
 ghost use Rattle.nvme_model.specs.declared.config.ConfigNumbers.{ConfigNumbers};
 ghost use Rattle.nvme_model.specs.declared.entry.Entry.{Entry};
-ghost use Rattle.checker_tables.specs.Tables.{tables};
+ghost use Rattle.history_check.specs.Tables.{tables};
 ghost use Rattle.history_check.specs.Kept.{IsCheckerState, checker_state_in};
 ghost use Rattle.history_check.specs.Whys.{broken_by, grant_why, why_needs_memory};
 

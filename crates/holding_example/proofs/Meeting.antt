@@ -16,8 +16,8 @@ use Rattle.driver_cas.specs.declared.shared_port.SharedPort.{SharedPort}
 use Rattle.slot_alloc.specs.Areas.{slot_of}
 use Rattle.slot_alloc.specs.Claims.{IsHeldBy}
 use Rattle.slot_alloc.specs.declared.claim.Claim.{Claim}
-use Rattle.slot_hosts.specs.Hosts.{AreTwoHosts, IsHost}
-use Rattle.serving_laws.specs.Servers.{IsServing, serves}
+use Rattle.many_host_laws.specs.Hosts.{AreTwoHosts, IsHost}
+use Rattle.shared_system.specs.Servers.{IsServing, serves}
 use Rattle.driver_calls.proofs.Views.{begins_on}
 use Rattle.holding_example.specs.Holding.{one_slot}
 

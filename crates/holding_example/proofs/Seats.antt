@@ -1,27 +1,15 @@
 -- Who has which pass of the system.
-use Rattle.std.proofs.Common.{All, Bool, List, None, Some, [], arith, eq-eqb, le-leb, length-append, refl, true, ℕ}
-use Rattle.std.proofs.Common.{◌&&◌, ◌+◌, ◌++◌, ◌∷◌, ◌≡◌, ◌≤◌, length, slice_get, suc, zero}
-use Rattle.std.proofs.lemmas.List.Elements.{All-cons, All-nil, All-same}
-use Rattle.nvme_model.specs.Config.{completion_queue}
-use Rattle.nvme_model.proofs.Numbers.{own_queue}
+use Rattle.std.proofs.Common.{List, [], arith, length-append}
+use Rattle.std.proofs.Common.{◌+◌, ◌++◌, ◌∷◌, ◌≡◌, length}
+use Rattle.plain_lemmas.proofs.Lists.{at_front, at_last}
 use Rattle.nvme_model.specs.declared.config.ConfigNumbers.{ConfigNumbers}
-use Rattle.driver_calls.specs.Views.{PortView, owns}
-use Rattle.serving_laws.proofs.Servers.{fresh}
+use Rattle.shared_system.proofs.Servers.{fresh}
 use Rattle.shared_system.specs.Callers.{AreCallersOf, AreLastHosts, AreLastWorkers, IsHostOf, IsLastPass}
 use Rattle.shared_system.specs.declared.system.Callers.{Callers}
 use Rattle.shared_system.specs.declared.system.HostPasses.{HostPasses}
 use Rattle.shared_system.specs.declared.system.System.{System}
 use Rattle.shared_system.specs.declared.system.WorkerPasses.{WorkerPasses}
 use Rattle.holding_example.specs.Holding.{IsOnlyWorker, IsServerPass}
-
-at_front : {A : Type 0} (xs ys : List A) (k : ℕ) (a : A) → slice_get xs k ≡ Some a → slice_get (xs ++ ys) k ≡ Some a
-at_front [] ys k a g = absurd (let h : None ≡ Some a = g in cc)
-at_front (x ∷ xs) ys zero a g = g
-at_front (x ∷ xs) ys (suc k) a g = at_front xs ys k a g
-
-at_last : {A : Type 0} (xs : List A) (a : A) → slice_get (xs ++ a ∷ []) (length xs) ≡ Some a
-at_last [] a = refl
-at_last (x ∷ xs) a = at_last xs a
 
 -- the last of the workers, where there is one, has the first pass
 pub only_worker : (system : System (Unit {0})) (c : ConfigNumbers) (ws : List WorkerPasses) (w : WorkerPasses)
@@ -61,16 +49,3 @@ pub last_host : (system : System (Unit {0})) (c : ConfigNumbers) (hs : List Host
     → AreLastHosts system c 4 (hs ++ h ∷ [])
     → IsHostOf system c h × (h.queue + length hs ≡ c.cqs) × IsLastPass c 4 h
 last_host system c hs h each = each (length hs) h (at_last hs h)
-
-three : (a b d : Bool) → a ≡ true → b ≡ true → d ≡ true → (a && b && d) ≡ true
-three a b d x y z = λ i. x i && y i && z i
-
--- with as many completion queues as submission queues, a port owns the submission queue of its number
-pub owns_own : (v : PortView) (qs : List ℕ) → 1 ≤ v.queue → v.queue ≤ v.config.pairs → v.config.cqs ≡ v.config.pairs
-    → qs ≡ v.queue ∷ [] → All (λ q. owns v q ≡ true) qs
-owns_own v qs l m e is =
-    All-same (λ q. owns v q ≡ true) qs (v.queue ∷ []) is
-    (All-cons (λ q. owns v q ≡ true) v.queue []
-    (three _ _ _ (le-leb 1 v.queue l) (le-leb v.queue v.config.pairs m)
-    (eq-eqb (completion_queue v.config v.queue) v.queue (own_queue v.config v.queue e l m)))
-    (All-nil (λ q. owns v q ≡ true)))

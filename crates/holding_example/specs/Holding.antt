@@ -8,13 +8,13 @@ use Rattle.meet_lock.specs.Passes.{number, passes_of}
 use Rattle.work_queue.specs.Engines as engine
 use Rattle.driver_cas.specs.Drivers.{port_of}
 use Rattle.driver_cas.specs.Ports.{pass_of}
-use Rattle.serving_laws.specs.Servers.{IsServing}
+use Rattle.shared_system.specs.Servers.{IsServing}
 use Rattle.shared_system.specs.Callers.{IsPlaceAt, IsWorkerOf}
 use Rattle.shared_system.specs.declared.system.System.{System}
 use Rattle.shared_system.specs.declared.system.WorkerPasses.{WorkerPasses}
 use Rattle.slot_alloc.specs.Claims.{IsHeldBy}
 use Rattle.slot_alloc.specs.declared.claim.Claim.{Claim}
-use Rattle.slot_hosts.specs.Hosts.{IsHost}
+use Rattle.many_host_laws.specs.Hosts.{IsHost}
 use Rattle.holding_example.specs.declared.asking.Asker.{Asker}
 
 -- the one slot, at block 0

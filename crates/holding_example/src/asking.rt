@@ -11,13 +11,12 @@ ghost use Rattle.slot_alloc.specs.Progresses.{IsClaimingOn, IsHeldOn, IsUnreleas
 
 use driver_cas::{Driver, SharedPort};
 use history::Config;
+use many_host_laws::driver_laws::{a_host_goes_on, a_new_driver_is_a_host};
 use meet_lock::Pass;
 use nvme_model::array::Range;
-use serving_laws::a_server_goes_on;
-use shared_system::{Callers, HostPasses, System, WorkerPasses, serve};
+use shared_system::{Callers, HostPasses, System, WorkerPasses, a_server_goes_on, serve};
 use slot_alloc::laws::an_untouched_driver_keeps_its_slots;
 use slot_alloc::{Claim, Claiming, Progress, Slots, poll_claim};
-use slot_hosts::driver_laws::{a_host_goes_on, a_new_driver_is_a_host};
 use std::alloc::Global;
 use std::snapshot::Snapshot;
 use std::sync::Wait;

@@ -1,4 +1,5 @@
-//! Two hosts ask for one slot, served on the same thread. When one of them holds it, the other doesn't.
+//! Two hosts and one slot, for programs that prove who holds it: when one of them holds it, the other doesn't. They are
+//! served on the same thread.
 #![tactic(auto)]
 
 ghost use Rattle.std.specs.Prelude.{IfSome, false, ◌&&◌, ◌≡◌};
@@ -8,11 +9,10 @@ mod asking;
 
 use asking::{Asker, HeldClaim, Seats, asks, meets, meets_server, seats_of};
 use history::Config;
+use many_host_laws::driver_laws::two_hosts_never_hold_one_slot;
 use meet_lock::Pass;
-use serving_laws::what_a_server_has_seen;
-use shared_system::{System, system_of};
+use shared_system::{System, system_of, what_a_server_has_seen};
 use slot_alloc::Slots;
-use slot_hosts::driver_laws::two_hosts_never_hold_one_slot;
 use std::process::ExitCode;
 use std::sync::Wait;
 use step_core::Core;

@@ -3,7 +3,7 @@ use Rattle.std.proofs.Common.{◌≡◌, ℕ, suc, ◌+◌, ◌≤◌, Bool, tru
 use Rattle.std.proofs.Common.{length, refl, sym, ap, ◌∙◌, Option, Some, None, inl, inr, ◌⊎◌, arith, eq-eqb, eqb}
 use Rattle.std.proofs.Common.{eqb-true, slice_get}
 use Rattle.std.specs.List.{list_all, list_any}
-use Rattle.std.proofs.lemmas.Bool.{cond-true, and_parts, and_from, or_cases, cases_Bool, cond-false}
+use Rattle.std.proofs.lemmas.Bool.{and_from, and_parts, cases_Bool, cond-false, cond-true, not-true, or_cases}
 use Rattle.std.proofs.lemmas.List.{append-nil, map-append}
 use Rattle.std.proofs.lemmas.List.Folds.{list_any-append}
 use Rattle.nvme_model.specs.Completions.{reaped_count}
@@ -15,7 +15,6 @@ use Rattle.nvme_model.specs.Slots.{Name, Swap, releases, swaps, swaps_in}
 use Rattle.nvme_model.specs.declared.config.ConfigNumbers.{ConfigNumbers}
 use Rattle.nvme_model.specs.declared.entry.Entry.{Entry}
 use Rattle.nvme_model.specs.declared.entry.PostLine.{PostLine}
-use Rattle.nvme_model.proofs.Written.{clash}
 use Rattle.host_laws.specs.Beside.{IsBeside, IsSole, is_beside}
 use Rattle.host_laws.specs.Calls.{PostedAnswer, posted_answers, post_if, reaped_post}
 use Rattle.host_laws.specs.Claims.{is_released_on}
@@ -24,10 +23,10 @@ use Rattle.host_laws.proofs.Elements.{In, any_in, in_cases}
 use Rattle.host_laws.proofs.SwapEntries.{swaps_in_queue}
 use Rattle.nvme_model.specs.declared.entry.PublishLine.{PublishLine}
 use Rattle.nvme_model.specs.declared.submission.Submission.{Submission}
-use Rattle.nvme_model.proofs.Bools.{not_true}
+use Rattle.nvme_model.proofs.Cut.{clash}
 
 not_equal : (n m : ℕ) → not (eqb n m) ≡ true → n ≡ m → ⊥
-not_equal n m h e = clash (eqb n m) (eq-eqb n m e) (not_true (eqb n m) h)
+not_equal n m h e = clash (eqb n m) (eq-eqb n m e) (not-true (eqb n m) h)
 
 -- ---- submission queues
 

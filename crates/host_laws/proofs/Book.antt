@@ -16,7 +16,7 @@ use Rattle.nvme_model.specs.declared.entry.PostLine.{PostLine}
 use Rattle.nvme_model.specs.declared.entry.PublishLine.{PublishLine}
 use Rattle.nvme_model.specs.declared.entry.ReapLine.{ReapLine}
 use Rattle.nvme_model.specs.declared.submission.Submission.{Submission}
-use Rattle.nvme_model.proofs.Written.{clash}
+use Rattle.nvme_model.proofs.Cut.{clash}
 use Rattle.host_laws.specs.Beside.{IsBeside}
 use Rattle.host_laws.specs.Book.{Book, IsBook, cid_of, empty_book, with_entry, without_entry}
 use Rattle.host_laws.specs.Calls.{IsEntryWaiting, ReapAnswers, reaped_post}

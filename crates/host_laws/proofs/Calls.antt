@@ -4,6 +4,7 @@ use Rattle.std.proofs.Common.{subst₂, ◌≡◌, ℕ, suc, ◌+◌, ◌≤◌,
 use Rattle.std.proofs.Common.{subst, Some, inl, inr, ◌⊎◌, arith, eq-eqb, eqb, eqb-true, nat_le, nat_lt, le-leb}
 use Rattle.std.proofs.Common.{leb-true, lt-ltb, ltb-true, slice_get}
 use Rattle.std.proofs.lemmas.Bool.{and_parts, and_from, cases_Bool, cases_lt}
+use Rattle.ticket_laws.proofs.Later.{ticket_later, tickets_later}
 use Rattle.nvme_model.specs.declared.config.ConfigNumbers.{ConfigNumbers}
 use Rattle.nvme_model.specs.Statuses.{success, compare_failure, is_success}
 use Rattle.nvme_model.specs.Verdict.{taken_entries, passed}
@@ -21,13 +22,14 @@ use Rattle.nvme_model.specs.declared.entry.PostLine.{PostLine}
 use Rattle.nvme_model.specs.declared.entry.Entry.{Entry}
 use Rattle.nvme_model.proofs.Rules.{follows}
 use Rattle.nvme_model.proofs.Beginnings.{earlier}
-use Rattle.nvme_model.proofs.Written.{clash}
+use Rattle.nvme_model.proofs.TakenEntries.{taken_two}
+use Rattle.nvme_model.proofs.Cut.{clash}
 use Rattle.host_laws.proofs.Elements.{same_some}
 use Rattle.host_laws.proofs.Taken.{ticket_taken}
-use Rattle.host_laws.proofs.Verdicts.{fuse, one_not_two, VerdictIs, Fails, taken_two}
+use Rattle.host_laws.proofs.Verdicts.{fuse, one_not_two, VerdictIs, Fails}
 use Rattle.host_laws.proofs.Statuses.{PostIs, post_is}
 use Rattle.host_laws.proofs.Outcomes.{failed_owes}
-use Rattle.host_laws.proofs.Later.{published_later, tickets_later, ticket_later, fetched_before_later}
+use Rattle.host_laws.proofs.Later.{published_later, fetched_before_later}
 use Rattle.host_laws.proofs.PostedAnswers.{PostedAt, reaped_posted_at}
 
 pub record Takes (past : Past) (t q j : ℕ) : Type 0 where

@@ -63,7 +63,7 @@ pub kept_earlier : (c : ConfigNumbers) (slots : Range) (later past : Past) → d
 kept_earlier c slots [] past h = h
 kept_earlier c slots (e ∷ later) past h = kept_earlier c slots later past (kept_before c slots e (later ++ past) h)
 
-only_at : (slots : Range) (q j : ℕ) (batch : List Submission) (of : List Swap) (m : ℕ) (s : Submission)
+pub only_at : (slots : Range) (q j : ℕ) (batch : List Submission) (of : List Swap) (m : ℕ) (s : Submission)
     → only_swaps slots q j batch of ≡ true → slice_get batch m ≡ Some s → touches slots s ≡ true
     → list_any (λ w. eqb (suc w.number) (j + m)) of ≡ true
 only_at slots q j [] of m s h g t = absurd (let f : None ≡ Some s = g in cc)

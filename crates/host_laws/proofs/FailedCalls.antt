@@ -19,10 +19,10 @@ use Rattle.nvme_model.specs.declared.status.Status.{Status}
 use Rattle.nvme_model.specs.declared.status.Verdict.{Verdict}
 use Rattle.nvme_model.specs.declared.submission.Submission.{Submission}
 use Rattle.nvme_model.specs.declared.entry.PostLine.{PostLine}
-use Rattle.nvme_model.proofs.Written.{clash}
 use Rattle.nvme_model.specs.EntryBytes.{Sqe}
 use Rattle.nvme_model.proofs.StepCounts.{idle_counts}
 use Rattle.nvme_model.proofs.Lists.{Each, each_get}
+use Rattle.nvme_model.proofs.Cut.{clash}
 use Rattle.host_laws.proofs.Elements.{same_some}
 use Rattle.host_laws.proofs.Verdicts.{fuse, Fails, VerdictIs}
 use Rattle.host_laws.proofs.TicketsApart.{taken_some}

@@ -15,12 +15,12 @@ use Rattle.host_laws.specs.Calls.{reaped_post, IsEntryWaiting}
 use Rattle.nvme_model.specs.Legal.{IsLegal}
 use Rattle.nvme_model.specs.declared.submission.Submission.{Submission}
 use Rattle.nvme_model.specs.Config.{completion_queue}
+use Rattle.nvme_model.proofs.TakenEntries.{taken_two}
 use Rattle.host_laws.proofs.Elements.{In, in_cases}
 use Rattle.host_laws.proofs.Taken.{ticket_taken}
 use Rattle.host_laws.proofs.TicketsApart.{ranges_apart, within_fetched}
 use Rattle.host_laws.proofs.OneAnswer.{Known, posted_answers_known, reaped_at}
 use Rattle.host_laws.proofs.Reaps.{none_if}
-use Rattle.host_laws.proofs.Verdicts.{taken_two}
 use Rattle.host_laws.specs.Book.{cid_of}
 
 in_flat : {X : Type 0} (f : X → List ℕ) (xs : List X) (n : ℕ) → In n (flat_map f xs) → (x : X) × In x xs × In n (f x)

@@ -4,6 +4,7 @@ use Rattle.std.proofs.Common.{◌≡◌, ℕ, suc, ◌≤◌, true, List, ◌++�
 use Rattle.std.specs.List.{list_any}
 use Rattle.std.proofs.lemmas.Option.{slice_get_within}
 use Rattle.std.proofs.lemmas.Bool.{cases_lt}
+use Rattle.ticket_laws.proofs.Later.{ticket_later}
 use Rattle.nvme_model.specs.declared.config.ConfigNumbers.{ConfigNumbers}
 use Rattle.nvme_model.specs.Verdict.{taken_entries, passed}
 use Rattle.nvme_model.specs.History.{Past}
@@ -22,12 +23,12 @@ use Rattle.nvme_model.proofs.Pairs.{no_blocks_yet}
 use Rattle.nvme_model.proofs.Effects.{no_effect}
 use Rattle.nvme_model.proofs.Beginnings.{earlier}
 use Rattle.host_laws.proofs.Taken.{ticket_taken}
-use Rattle.host_laws.proofs.Later.{published_later, ticket_later, fetched_before_later, yes_later, no_later}
+use Rattle.host_laws.proofs.Later.{published_later, fetched_before_later, yes_later, no_later}
 use Rattle.host_laws.proofs.Calls.{command_later, takes_parts, takes_later}
 use Rattle.host_laws.proofs.Units.{units_later, effects_later, none_no_later, reads_by, any_more}
 use Rattle.host_laws.proofs.FailedCalls.{failed_idle}
-use Rattle.host_laws.proofs.Verdicts.{taken_two}
 use Rattle.nvme_model.specs.declared.operation.Op.{Op}
+use Rattle.nvme_model.proofs.TakenEntries.{taken_two}
 
 pub not_before : (c : ConfigNumbers) (later start : Past) (t q j u : ℕ) → IsLegal c (later ++ start)
     → takes (later ++ start) t q j ≡ true → length (published_entries start q) ≤ j → effect start t u ≡ None

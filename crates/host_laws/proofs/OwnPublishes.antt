@@ -16,7 +16,7 @@ use Rattle.nvme_model.specs.declared.config.ConfigNumbers.{ConfigNumbers}
 use Rattle.nvme_model.specs.declared.entry.Entry.{Entry}
 use Rattle.nvme_model.specs.declared.entry.PublishLine.{PublishLine}
 use Rattle.nvme_model.specs.declared.submission.Submission.{Submission}
-use Rattle.nvme_model.proofs.Written.{clash}
+use Rattle.nvme_model.proofs.Cut.{clash}
 use Rattle.host_laws.specs.Batches.{pair_line, pair_on}
 use Rattle.host_laws.specs.Claims.{IsWon, all_drawn, is_drawn, is_released_on}
 use Rattle.host_laws.proofs.Claims.{all_from, all_in, drawn_from, drawn_parts, none_any, won_believed}

@@ -15,7 +15,7 @@ use Rattle.nvme_model.specs.declared.status.Verdict.{Verdict}
 use Rattle.nvme_model.specs.declared.submission.Submission.{Submission}
 use Rattle.nvme_model.specs.declared.entry.PostLine.{PostLine}
 use Rattle.nvme_model.specs.declared.entry.Entry.{Entry}
-use Rattle.nvme_model.proofs.Written.{clash}
+use Rattle.nvme_model.proofs.Cut.{clash}
 use Rattle.host_laws.proofs.Verdicts.{fuse, one_not_two}
 use Rattle.host_laws.proofs.Outcomes.{passes, pair_says_yes, pair_says_no}
 use Rattle.host_laws.proofs.Later.{yes_later, no_later}

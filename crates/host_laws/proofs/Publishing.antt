@@ -18,11 +18,11 @@ use Rattle.nvme_model.specs.Slots.{fresh_names, released_right, in_area, keeps_d
 use Rattle.nvme_model.specs.declared.array.Range.{Range}
 use Rattle.nvme_model.specs.declared.submission.Submission.{Submission}
 use Rattle.nvme_model.specs.declared.entry.PublishLine.{PublishLine}
-use Rattle.nvme_model.proofs.Written.{clash}
 use Rattle.nvme_model.specs.Config.{completion_queue}
 use Rattle.host_laws.specs.Batches.{pair_line}
 use Rattle.host_laws.proofs.SwapTickets.{on_one, touching}
 use Rattle.nvme_model.specs.Commands.{is_write, is_write_zeroes}
+use Rattle.nvme_model.proofs.Cut.{clash}
 use Rattle.host_laws.proofs.Names.{bytes_are, zeros_unnamed}
 use Rattle.host_laws.proofs.Discipline.{InArea, has_area}
 
@@ -46,7 +46,7 @@ release_at q j l n = record { claims = false; queue = q; number = j; lba = l; na
 same_bytes : (a b : List ℕ) → a ≡ b → bytes_eq a b ≡ true
 same_bytes a b e = (bytes_eq-Decides a b).1 e
 
-not_zeros : (a : List ℕ) (n : Name) → name_of a ≡ Some n → bytes_eq a zeros ≡ false
+pub not_zeros : (a : List ℕ) (n : Name) → name_of a ≡ Some n → bytes_eq a zeros ≡ false
 not_zeros a n h = elim (cases_Bool (bytes_eq a zeros)) [
   | inl e ↦ absurd (zeros_unnamed n (sym (ap name_of (bytes_are a zeros e)) ∙ h))
   | inr e ↦ e
@@ -60,16 +60,16 @@ pub release_swaps : (q j : ℕ) (a b : Submission) (n : Name) → is_pair_on_one
     → b.payload ≡ zeros → swaps_in q j (a ∷ b ∷ []) ≡ release_at q j (slba (sqe_fields a.entry)) n ∷ []
 release_swaps q j a b n p m z = rw (p, same_bytes b.payload zeros z, not_zeros a.payload n m, m) refl
 
-one_in : (slots : Range) (s : Swap) (of : List Swap) → of ≡ s ∷ [] → InArea slots s.lba → in_area slots of ≡ s ∷ []
+pub one_in : (slots : Range) (s : Swap) (of : List Swap) → of ≡ s ∷ [] → InArea slots s.lba → in_area slots of ≡ s ∷ []
 one_in slots s of e a = ap (in_area slots) e ∙ cond-true (has_block slots s.lba) (s ∷ []) [] (has_area slots s.lba a)
 
-compare_no_touch : (slots : Range) (a b : Submission) → is_pair_on_one a b ≡ true → touches slots a ≡ false
+pub compare_no_touch : (slots : Range) (a b : Submission) → is_pair_on_one a b ≡ true → touches slots a ≡ false
 compare_no_touch slots a b h = and_left _ _ (not_write (sqe_fields a.entry).opcode (on_one a b h).compares)
   where
     not_write : (n : ℕ) → eqb n 5 ≡ true → (eqb n 1 || eqb n 8) ≡ false
     not_write n e = rw (eqb-true n 5 e) refl
 
-pair_only : (slots : Range) (q j : ℕ) (a b : Submission) (s : Swap) → is_pair_on_one a b ≡ true → s.number ≡ j
+pub pair_only : (slots : Range) (q j : ℕ) (a b : Submission) (s : Swap) → is_pair_on_one a b ≡ true → s.number ≡ j
     → only_swaps slots q j (a ∷ b ∷ []) (s ∷ []) ≡ true
 pair_only slots q j a b s p e =
     and_from _ _ (or_left _ _ (ap not (compare_no_touch slots a b p)))
@@ -105,7 +105,8 @@ release_keeps c slots past q a b n p m z i k o =
 
 -- ---- a Publish of which no Write touches the area
 
-no_only : (slots : Range) (q j : ℕ) (batch : List Submission) (of : List Swap) → list_any (touches slots) batch ≡ false
+pub no_only : (slots : Range) (q j : ℕ) (batch : List Submission) (of : List Swap)
+    → list_any (touches slots) batch ≡ false
     → only_swaps slots q j batch of ≡ true
 no_only slots q j [] of h = refl
 no_only slots q j (s ∷ batch) of h =

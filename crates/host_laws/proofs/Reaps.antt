@@ -22,13 +22,14 @@ use Rattle.nvme_model.proofs.Rules.{follows}
 use Rattle.nvme_model.proofs.Beginnings.{earlier}
 use Rattle.nvme_model.specs.Refusals.{no_queue}
 use Rattle.nvme_model.specs.Config.{completion_queue}
+use Rattle.nvme_model.proofs.CqeFields.{sqid_back}
+use Rattle.nvme_model.proofs.TakenEntries.{taken_two}
 use Rattle.host_laws.proofs.Elements.{get_cases}
 use Rattle.host_laws.proofs.Names.{bytes_are}
 use Rattle.host_laws.proofs.Statuses.{Narrow, phase_small, post_is}
 use Rattle.host_laws.proofs.Later.{published_later}
 use Rattle.host_laws.proofs.PostedAnswers.{PostedAt, answer_at, answer_own, posts_are}
 use Rattle.host_laws.proofs.OneAnswer.{numbers_differ, reaped_at}
-use Rattle.host_laws.proofs.Verdicts.{taken_two}
 use Rattle.host_laws.specs.Book.{cid_of}
 
 -- ---- the submission queues that are
@@ -72,11 +73,6 @@ published_real c (Entry.Reap p ∷ past) q i s h e =
 cid_back : (h q cid p : ℕ) (s : Status) → cid < 65536 → (cqe_fields (cqe_bytes h q cid p s)).cid ≡ cid
 cid_back h q cid p s l =
     let e : cid % 256 + 256 * ((cid / 256) % 256 + 256 * 0) ≡ cid = omega (arith, l) in
-    e
-
-sqid_back : (h q cid p : ℕ) (s : Status) → q < 65536 → (cqe_fields (cqe_bytes h q cid p s)).sqid ≡ q
-sqid_back h q cid p s l =
-    let e : q % 256 + 256 * ((q / 256) % 256 + 256 * 0) ≡ q = omega (arith, l) in
     e
 
 word_clean : (w : ℕ) → w < 4096 → let v = w % 256 + 256 * ((w / 256) % 256 + 256 * 0) in

@@ -20,7 +20,7 @@ use Rattle.nvme_model.specs.declared.entry.PostLine.{PostLine}
 use Rattle.nvme_model.specs.declared.status.Verdict.{Verdict}
 use Rattle.nvme_model.specs.declared.submission.Submission.{Submission}
 use Rattle.nvme_model.proofs.Rules.{fetch_number, follows}
-use Rattle.nvme_model.proofs.Written.{clash}
+use Rattle.nvme_model.proofs.Cut.{clash}
 use Rattle.host_laws.specs.Book.{IsAlwaysApart}
 use Rattle.host_laws.specs.Calls.{is_proper, reaped_post, cqe_status, takes}
 use Rattle.host_laws.proofs.Calls.{post_of, published_at, seen, takes_from, takes_later, takes_parts, which}

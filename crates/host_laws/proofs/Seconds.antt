@@ -2,13 +2,12 @@
 use Rattle.nvme_model.specs.Tickets
 use Rattle.std.proofs.Common.{subst₂, ◌≡◌, ℕ, suc, Bool, true, false, not, ◌&&◌, cond, [], ◌∷◌, refl, sym, ap, ◌∙◌}
 use Rattle.std.proofs.Common.{subst, Option, Some, None, inl, inr, ◌⊎◌, arith, eqb, slice_get}
-use Rattle.std.proofs.lemmas.Bool.{and_parts, cases_lt}
+use Rattle.std.proofs.lemmas.Bool.{and_parts, cases_lt, not-true}
 use Rattle.nvme_model.specs.Answered.{no_at, says_no}
-use Rattle.nvme_model.specs.EntryBytes.{Sqe}
 use Rattle.nvme_model.specs.History.{Past}
 use Rattle.nvme_model.specs.Legal.{IsLegal}
 use Rattle.nvme_model.specs.Open.{unit_range}
-use Rattle.nvme_model.specs.Operations.{has_compare, is_pair, op, op_by}
+use Rattle.nvme_model.specs.Operations.{has_compare, op, op_by}
 use Rattle.nvme_model.specs.Owed.{all_done, all_ended, owed, owed_after, owed_by, some_no}
 use Rattle.nvme_model.specs.Placed.{effect}
 use Rattle.nvme_model.specs.Queues.{published_entries}
@@ -25,9 +24,9 @@ use Rattle.nvme_model.specs.declared.operation.Op.{Op}
 use Rattle.nvme_model.specs.declared.status.Status.{Status}
 use Rattle.nvme_model.specs.declared.status.Verdict.{Verdict}
 use Rattle.nvme_model.specs.declared.submission.Submission.{Submission}
-use Rattle.nvme_model.proofs.Written.{clash}
+use Rattle.nvme_model.proofs.TakenEntries.{taken_two}
+use Rattle.nvme_model.proofs.Cut.{clash}
 use Rattle.host_laws.specs.Calls.{IsFused, reaped_post, says_yes, cqe_status, takes, yes_at}
-use Rattle.nvme_model.proofs.Bools.{not_true}
 use Rattle.host_laws.proofs.Calls.{PostOf, post_of, second_fuse, seen, takes_parts, which}
 use Rattle.host_laws.proofs.Elements.{same_some}
 use Rattle.host_laws.proofs.Later.{no_later, yes_later}
@@ -35,7 +34,8 @@ use Rattle.host_laws.proofs.Outcomes.{pair_says_no, pair_says_yes}
 use Rattle.host_laws.proofs.PairCalls.{first_swaps, pair_differs}
 use Rattle.host_laws.proofs.Taken.{ticket_taken}
 use Rattle.host_laws.proofs.TicketsApart.{not_inside, one_ticket, taken_some}
-use Rattle.host_laws.proofs.Verdicts.{fuse, not_pair, one_not_two, taken_two}
+use Rattle.host_laws.proofs.Verdicts.{fuse, one_not_two}
+use Rattle.host_laws.proofs.Releases.{pair_op}
 
 -- an entry with FUSE 01b is the first of the ticket that takes it
 pub first_number : (c : ConfigNumbers) (past : Past) (t q j : ℕ) (a : Submission) → IsLegal c past
@@ -89,13 +89,7 @@ yes_or_no None k r y n = absurd (let f : false ≡ true = y in cc)
 yes_or_no (Some before) k r y n =
     let a = and_parts (has_compare (op k)) (all_equal (value before) k r) y in
     let b = and_parts (has_compare (op k)) (not (all_equal (value before) k r)) n in
-    clash (all_equal (value before) k r) a.1 (not_true _ b.1)
-
-pair_passed : (v : Verdict) (e : Sqe) → op_by v e ≡ Some Op.Pair → v ≡ Verdict.Pair
-pair_passed Verdict.Pair e h = refl
-pair_passed Verdict.Single e h = clash (is_pair (op_by Verdict.Single e)) (ap is_pair h) (not_pair e)
-pair_passed (Verdict.SingleFailed s) e h = absurd (let f : None ≡ Some Op.Pair = h in cc)
-pair_passed (Verdict.PairFailed s r) e h = absurd (let f : None ≡ Some Op.Pair = h in cc)
+    clash (all_equal (value before) k r) a.1 (not-true _ b.1)
 
 -- ---- the second behind its first
 
@@ -114,7 +108,7 @@ second_of c past q j t r h x taken_by pair b =
     let f = post_of c past q (suc j) r h b in
     let there = seen c past q (suc j) r f h in
     let k = takes_parts past t q j taken_by in
-    let verdict = pair_passed (Tickets.ticket past t).verdict (first_fields (Tickets.ticket past t)) pair in
+    let verdict = pair_op (Tickets.ticket past t).verdict (first_fields (Tickets.ticket past t)) pair in
     let at = first_number c past t q j x.first h taken_by x.first_published x.first_fuse in
     let queues : (Tickets.ticket past r.ticket).queue ≡ (Tickets.ticket past t).queue = there.queue ∙ sym k.queue in
     elim (which c past q (suc j) r x.second f x.second_published) [

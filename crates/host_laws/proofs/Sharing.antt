@@ -23,7 +23,7 @@ entry_keeps c slots (Entry.Block p) past d k = d
 entry_keeps c slots (Entry.Post p) past d k = d
 entry_keeps c slots (Entry.Reap p) past d k = d
 
-entry_kept : (c : ConfigNumbers) (slots : Range) (e : Entry) (past : Past) → disciplined c slots (e ∷ past) ≡ true
+pub entry_kept : (c : ConfigNumbers) (slots : Range) (e : Entry) (past : Past) → disciplined c slots (e ∷ past) ≡ true
     → keeps_at c slots past e ≡ true
 entry_kept c slots (Entry.Publish p) past d =
     (and_parts (disciplined c slots past) (keeps_discipline c slots past p) d).1

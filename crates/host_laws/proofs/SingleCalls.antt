@@ -21,8 +21,8 @@ use Rattle.nvme_model.specs.declared.status.Verdict.{Verdict}
 use Rattle.nvme_model.specs.declared.submission.Submission.{Submission}
 use Rattle.nvme_model.specs.declared.entry.PostLine.{PostLine}
 use Rattle.nvme_model.specs.declared.entry.Entry.{Entry}
-use Rattle.nvme_model.proofs.Written.{clash}
 use Rattle.nvme_model.specs.EntryBytes.{sqe_fields}
+use Rattle.nvme_model.proofs.Cut.{clash}
 use Rattle.host_laws.proofs.Verdicts.{fuse}
 use Rattle.host_laws.proofs.Outcomes.{passes, single_done, single_no}
 use Rattle.host_laws.proofs.Later.{no_later}

@@ -2,6 +2,7 @@
 use Rattle.std.proofs.Common.{◌≡◌, ℕ, suc, ◌≤◌, ◌<◌, true, false, List, [], ◌∷◌, ◌++◌, length, map, drop, refl, sym, ap}
 use Rattle.std.proofs.Common.{◌∙◌, subst, subst₂, Some, is_some, inl, inr, ◌⊎◌, arith, slice_get, append_assoc}
 use Rattle.std.proofs.lemmas.Bool.{eqb-false, cases_lt}
+use Rattle.ticket_laws.proofs.Counts.{fetched_within}
 use Rattle.nvme_model.specs.Array.{has_block}
 use Rattle.nvme_model.specs.EntryBytes.{block_count, slba, sqe_fields}
 use Rattle.nvme_model.specs.History.{Past}
@@ -34,7 +35,6 @@ use Rattle.host_laws.proofs.Passing.{ProperPair, fetched_as_pair}
 use Rattle.host_laws.proofs.Successes.{success_reaped}
 use Rattle.host_laws.proofs.SwapEntries.{SwapOf, swaps_are}
 use Rattle.host_laws.proofs.SwapTickets.{on_one}
-use Rattle.host_laws.proofs.Taken.{fetched_published}
 use Rattle.host_laws.proofs.UniqueNames.{release_right}
 use Rattle.host_laws.proofs.Verdicts.{fetch_verdict}
 
@@ -167,7 +167,7 @@ taken_as_pair c past s t a b h apart i l ea eb pa pb na nb some known queue numb
     still_waits : (c : ConfigNumbers) (before : Past) (f : FetchLine) → IsLegal c (Entry.Fetch f ∷ before) → (q j : ℕ)
         → f.queue ≡ q → fetched_count before q ≡ j → j < length (published_entries before q)
     still_waits c before f h q j e n =
-        let l = fetched_published c before f.queue (follows c before (Entry.Fetch f) h).before in
+        let l = fetched_within c before f.queue (follows c before (Entry.Fetch f) h).before in
         let d = eqb-false _ _ (follows c before (Entry.Fetch f) h).allowed.1.0 in
         let m : fetched_count before f.queue < length (published_entries before f.queue) =
         elim (cases_lt (fetched_count before f.queue) (length (published_entries before f.queue))) [

@@ -19,8 +19,8 @@ use Rattle.nvme_model.specs.declared.entry.ReapLine.{ReapLine}
 use Rattle.nvme_model.specs.declared.entry.Entry.{Entry}
 use Rattle.nvme_model.proofs.Rules.{follows}
 use Rattle.nvme_model.proofs.Beginnings.{earlier}
-use Rattle.nvme_model.proofs.Written.{clash}
 use Rattle.nvme_model.specs.Config.{completion_queue}
+use Rattle.nvme_model.proofs.Cut.{clash}
 use Rattle.host_laws.proofs.Elements.{same_some}
 use Rattle.host_laws.proofs.Statuses.{post_is, phase_small}
 use Rattle.host_laws.proofs.PostedAnswers.{answer_at, to_entry_completion, entry_completions_map, entry_completions_are}

@@ -17,8 +17,8 @@ use Rattle.nvme_model.specs.declared.array.Range.{Range}
 use Rattle.nvme_model.specs.declared.operation.Op.{Op}
 use Rattle.nvme_model.specs.declared.status.Verdict.{Verdict}
 use Rattle.nvme_model.specs.declared.submission.Submission.{Submission}
-use Rattle.nvme_model.proofs.Written.{clash}
 use Rattle.nvme_model.specs.Verdict.{taken_entries}
+use Rattle.nvme_model.proofs.Cut.{clash}
 use Rattle.host_laws.proofs.Elements.{In, each_in, same_some}
 use Rattle.host_laws.proofs.Names.{name_length}
 use Rattle.host_laws.proofs.Verdicts.{fuse, VerdictIs}
@@ -65,7 +65,7 @@ pub record SwapTicket (past : Past) (t l : ℕ) : Type 0 where
   pub bytes : SwapData swap (compare_data (Tickets.ticket past t) l) (write_data (Tickets.ticket past t) l)
 
 -- the data of one block is the whole payload
-whole : (bs : List ℕ) (l s : ℕ) → l ≡ s → length bs ≡ 512 → take 512 (drop (512 * (l - s)) bs) ≡ bs
+pub whole : (bs : List ℕ) (l s : ℕ) → l ≡ s → length bs ≡ 512 → take 512 (drop (512 * (l - s)) bs) ≡ bs
 whole bs l s e n =
     let z : 512 * (l - s) ≡ 0 = omega (arith, e) in
     rw (z) (take_all 512 bs (omega (arith, n)))
@@ -92,7 +92,7 @@ pub record Meets (slots : Range) (k : Ticket) (l : ℕ) : Type 0 where
   pub from : slots.slba ≤ l
   pub to : l < slots.slba + slots.blocks
 
-writes_of : (e : Sqe) → has_write (op_of_fields e) ≡ true → (is_write e || is_write_zeroes e) ≡ true
+pub writes_of : (e : Sqe) → has_write (op_of_fields e) ≡ true → (is_write e || is_write_zeroes e) ≡ true
 writes_of e h = go (is_write e) (is_read e) (is_compare e) (is_write_zeroes e) h
   where
     go : (a b d z : Bool) → has_write

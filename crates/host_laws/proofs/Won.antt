@@ -4,6 +4,7 @@ use Rattle.std.proofs.Common.{◌≡◌, ℕ, suc, ◌+◌, ◌<◌, true, false
 use Rattle.std.proofs.Common.{subst, subst₂, Option, Some, None, inl, inr, arith, eqb, lt-ltb, ltb-true, le-leb}
 use Rattle.std.proofs.Common.{slice_get}
 use Rattle.std.proofs.lemmas.Bool.{and_parts, and_from, or_right, cases_lt, cond-true}
+use Rattle.ticket_laws.proofs.Later.{ticket_later}
 use Rattle.nvme_model.specs.declared.config.ConfigNumbers.{ConfigNumbers}
 use Rattle.nvme_model.specs.EntryBytes.{sqe_fields, slba, block_count}
 use Rattle.nvme_model.specs.Verdict.{taken_entries, passed}
@@ -26,12 +27,12 @@ use Rattle.nvme_model.specs.declared.entry.BlockLine.{BlockLine}
 use Rattle.nvme_model.specs.declared.entry.Entry.{Entry}
 use Rattle.nvme_model.proofs.Rules.{follows}
 use Rattle.nvme_model.proofs.Beginnings.{earlier}
-use Rattle.nvme_model.proofs.Written.{clash}
+use Rattle.nvme_model.proofs.Cut.{clash}
 use Rattle.host_laws.proofs.Elements.{In, each_in, same_some}
 use Rattle.host_laws.proofs.Verdicts.{fuse, one_not_two, VerdictIs}
 use Rattle.host_laws.proofs.Statuses.{post_is}
 use Rattle.host_laws.proofs.Outcomes.{pair_says_yes, passes}
-use Rattle.host_laws.proofs.Later.{published_later, ticket_later, grants_later, effect_at, block_facts, range_at}
+use Rattle.host_laws.proofs.Later.{published_later, grants_later, effect_at, block_facts, range_at}
 use Rattle.host_laws.proofs.Later.{pair_range}
 use Rattle.host_laws.proofs.PostedAnswers.{reaped_posted_at}
 use Rattle.host_laws.proofs.Calls.{success_is}
@@ -52,7 +53,7 @@ pub record Won (past : Past) (s : Swap) : Type 0 where
 abbrev pub whole : Ticket → Range
 whole k = record { slba = slba (first_fields k); blocks = block_count (first_fields k) }
 
-effect_writes : (e : Past) (b : BlockLine) (k : Ticket) (l : ℕ) → Tickets.ticket e b.ticket ≡ k
+pub effect_writes : (e : Past) (b : BlockLine) (k : Ticket) (l : ℕ) → Tickets.ticket e b.ticket ≡ k
     → unit_range e b.ticket b.unit ≡ whole k → op k ≡ Some Op.Pair → b.effect ≡ true
     → all_equal (value e) k (whole k) ≡ true → slba (first_fields k) ≡ l → block_count (first_fields k) ≡ 1
     → (value e l ≡ compare_data k l) × (value (Entry.Block b ∷ e) l ≡ write_data k l)
@@ -74,7 +75,7 @@ effect_writes e b k l ke re p m y s o =
           ∙ ap (λ (x : Ticket). write_data x l) ke,
     )
 
-yes_some : (o : Option Past) (k : Ticket) (r : Range) → yes_at o k r ≡ true
+pub yes_some : (o : Option Past) (k : Ticket) (r : Range) → yes_at o k r ≡ true
     → (e : Past) × (o ≡ Some e) × (all_equal (value e) k r ≡ true)
 yes_some None k r h = absurd (let f : false ≡ true = h in cc)
 yes_some (Some e) k r h = (e, refl, (and_parts _ _ h).1)

@@ -4,3 +4,6 @@ pub mod Beside
 pub mod Book
 pub mod Claims
 pub mod Discipline
+pub mod Takeovers
+pub mod Rules
+pub mod Effects

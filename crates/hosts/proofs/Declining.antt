@@ -7,8 +7,8 @@ use Rattle.nvme_model.specs.Refusals.{refusal}
 use Rattle.nvme_model.specs.Tables.{first_row}
 use Rattle.nvme_model.specs.declared.config.ConfigNumbers.{ConfigNumbers}
 use Rattle.nvme_model.specs.declared.refusal.Why.{Why}
-use Rattle.controller_steps.specs.State.{Refuses, refused_as}
-use Rattle.controller_steps.specs.declared.answer.Refused.{Refused}
+use Rattle.controller_interface.specs.State.{Refuses, refused_as}
+use Rattle.controller_interface.specs.declared.answer.Refused.{Refused}
 use Rattle.meet_lock.specs.Passes.{Declines, config_of, seen}
 use Rattle.meet_lock.specs.declared.pass.Declined.{Declined}
 use Rattle.work_queue.specs.Duties.{task_step}

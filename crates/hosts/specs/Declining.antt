@@ -1,6 +1,6 @@
 -- Why what a loop asks for is declined.
 use Rattle.nvme_model.specs.declared.refusal.Why.{Why}
-use Rattle.controller_steps.specs.declared.answer.Refused.{Refused}
+use Rattle.controller_interface.specs.declared.answer.Refused.{Refused}
 use Rattle.meet_lock.specs.declared.pass.Declined.{Declined}
 
 -- of a Fetch: another caller had the controller, or it is refused for its queue, for the tickets in flight, or for want

@@ -149,6 +149,9 @@ pub fn run_crew<R: Threads + Wait + Sync, G: Gate + Sync, T, F: FnOnce(Vec<HostP
     let Ok(started) = Vec::with_capacity(alloc, callers.workers.len()) else {
         return without_threads(system, callers, beside);
     };
+
+    // One scope has the fetcher and the workers, and another, within it, the hosts: a function that
+    // is passed in can't itself be run on a thread.
     thread::scope(
         thread::scope_env(),
         rt,

@@ -1,4 +1,5 @@
-//! Runs a fetcher, workers and hosts on threads over one engine.
+//! Has the loops of fetchers and workers, for programs that serve a shared controller on several threads. A program's
+//! hosts run beside them; those of races are in `race_hosts`.
 #![tactic(auto)]
 
 mod attempting;

@@ -95,6 +95,9 @@ pub(crate) fn start_fetcher<'s, E, R: Threads + Wait + Sync, G: Gate + Sync>(
         Ok(child) => Ok(child),
         Err(refused) => {
             system.stop.set();
+
+            // The refused start gives the closure back, which is run at once: its loop sees the
+            // flag and ends. So passes come back in one way.
             let run = refused.value;
             let (caller, _) = run();
             Err(caller)

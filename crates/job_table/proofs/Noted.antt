@@ -10,9 +10,9 @@ use Rattle.block_exec.specs.Bytes.{block_at, boxes_after, takes_box}
 use Rattle.block_exec.specs.Course.{done_by}
 use Rattle.block_exec.specs.Progress.{UnitProgress, next_block}
 use Rattle.block_exec.specs.declared.run.Done.{Done}
-use Rattle.ticket_progress.specs.Stages.{IfOpen, Ticking, is_open, noted_in}
-use Rattle.ticket_progress.specs.declared.progress.TicketStage.{TicketStage}
-use Rattle.ticket_progress.specs.declared.progress.TicketStage.TheVariants.{Open, Owing, Waiting}
+use Rattle.job_table.specs.Stages.{IfOpen, Ticking, is_open, noted_in}
+use Rattle.job_table.specs.declared.progress.TicketStage.{TicketStage}
+use Rattle.job_table.specs.declared.progress.TicketStage.TheVariants.{Open, Owing, Waiting}
 use Rattle.job_table.specs.Keeping.{Keeping, noted_job, read_of, written_on}
 
 -- a list that came back with as many elements

@@ -7,10 +7,10 @@ use Rattle.std.proofs.lemmas.List.Sums.{sum_by-set}
 use Rattle.std.specs.List.{cons_option, find}
 use Rattle.slab.specs.Slab.{ContainsKey, Slab, Updates, get, slab_len, with_value}
 use Rattle.slab.proofs.SlabLemmas.{ContainsKey-within, Updates-with_value}
-use Rattle.job_index.specs.Keyed as keyed
-use Rattle.job_index.specs.Keyed.{all_above, key_of, keyed_beside, keys_of}
-use Rattle.job_index.specs.declared.tickets.Keyed.{Keyed}
-use Rattle.job_index.proofs.Rising.{beside_absent, has_ticket_below, is_some-key_of}
+use Rattle.job_table.specs.Keyed as keyed
+use Rattle.job_table.specs.Keyed.{all_above, key_of, keyed_beside, keys_of}
+use Rattle.job_table.specs.declared.tickets.Keyed.{Keyed}
+use Rattle.job_table.proofs.Rising.{beside_absent, has_ticket_below, is_some-key_of}
 use Rattle.job_table.specs.Jobs.{AreRising, AreTicketsRising, all_jobs_below, has_job_of, job_of, jobs_beside, replaced}
 use Rattle.job_table.specs.Jobs.{job_tickets}
 use Rattle.job_table.specs.Slots.{HoldsEach, HoldsOne, jobs_in}

@@ -6,7 +6,7 @@ use Rattle.nvme_model.specs.declared.operation.Found.{Found}
 use Rattle.nvme_model.specs.declared.operation.Op.{Op}
 use Rattle.block_exec.specs.Bytes.{compare_length, needs_box, next_equal, read_after, takes_box}
 use Rattle.block_exec.specs.Progress.{UnitProgress}
-use Rattle.ticket_progress.specs.Stages.{Ticking, noted_in, opened_in, posted_in}
+use Rattle.job_table.specs.Stages.{Ticking, noted_in, opened_in, posted_in}
 use Rattle.job_table.specs.Parts.{HasPart, part_end, part_of, with_part}
 
 -- a ticket: its queue, how far it has come, and its data, which is for the blocks from `slba` on: what it compares

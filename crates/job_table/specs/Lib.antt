@@ -1,3 +1,6 @@
+pub mod Keyed
+pub mod Stages
+pub mod Shown
 pub mod Parts
 pub mod Keeping
 pub mod Jobs

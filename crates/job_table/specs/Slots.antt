@@ -2,8 +2,8 @@
 use Rattle.std.specs.List.{filter_map}
 use Rattle.std.specs.Prelude.{List, Some, [], length, ℕ, ◌∷◌, ◌≡◌, ◌≤◌}
 use Rattle.slab.specs.Slab.{Slab, get, slab_len}
-use Rattle.job_index.specs.Keyed.{AreKeyedRising, KeyedTickets}
-use Rattle.job_index.specs.declared.tickets.Keyed.{Keyed}
+use Rattle.job_table.specs.Keyed.{AreKeyedRising, KeyedTickets}
+use Rattle.job_table.specs.declared.tickets.Keyed.{Keyed}
 use Rattle.job_table.specs.declared.jobs.InFlight.{InFlight}
 
 -- the tickets in flight, by the keys in this order

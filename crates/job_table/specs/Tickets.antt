@@ -9,7 +9,7 @@ use Rattle.nvme_model.specs.declared.operation.Op.{Op}
 use Rattle.nvme_model.specs.declared.submission.Submission.{Submission}
 use Rattle.ticket_laws.specs.Standing.{OpenUnit, Standing, flying, had, standing}
 use Rattle.block_exec.specs.Bytes.{first_blocks}
-use Rattle.ticket_progress.specs.Shown.{standing_stage}
+use Rattle.job_table.specs.Shown.{standing_stage}
 use Rattle.job_table.specs.Jobs.{JobTable, jobs_by}
 use Rattle.job_table.specs.Keeping.{Keeping}
 

@@ -13,6 +13,8 @@ ghost use Rattle.nvme_model.specs.declared.operation.Op.{Op as Operation};
 ghost use Rattle.job_table.specs.Keeping.{read_of};
 ghost use Rattle.job_table.specs.Parts.{HasPart, part_end, part_of};
 
+use crate::cids::OwedCids;
+use crate::progress::TicketProgress;
 use block_array::{BLOCK, Volume};
 use block_exec::{Done, Run};
 use fused_match::Judged;
@@ -20,7 +22,6 @@ use nvme_model::array::Range;
 use nvme_model::operation::{Found, Op};
 use nvme_model::submission::Payload;
 use std::marker::Model;
-use ticket_progress::{OwedCids, TicketProgress};
 
 /// A ticket in flight.
 ///
@@ -71,7 +72,7 @@ pub struct Data {
 
 impl Job {
     ghost use Rattle.job_table.specs.Keeping.{CanMake, finds_equal, noted_job, opened_job, posted_job};
-    ghost use Rattle.ticket_progress.specs.Stages.{IfOpen, IsFirstUnit, IsSound, first_ticket_stage, is_open, owed_in};
+    ghost use Rattle.job_table.specs.Stages.{IfOpen, IsFirstUnit, IsSound, first_ticket_stage, is_open, owed_in};
 
     /// A ticket of this queue that was judged so, with the CIDs of its commands and its data.
     pub fn new(queue: u16, judged: &Judged, cids: OwedCids, all: Data) -> Job

@@ -8,9 +8,9 @@ ghost use Rattle.std.specs.Prelude.{slice_get, true};
 ghost use Rattle.job_table.specs.Jobs.{AreTicketsRising, all_jobs_below, has_job_of, job_of, jobs_beside};
 ghost use Rattle.slab.specs.Slab.{ContainsKey, get};
 
+use crate::index::JobIndex;
 use crate::job::Job;
 use crate::uncounted::{find, remove};
-use job_index::JobIndex;
 use slab::Slab;
 use std::alloc::{AllocError as NoMemory, Global};
 use std::marker::Model;
@@ -28,6 +28,8 @@ pub struct InFlight {
 pub struct Jobs {
     limit: usize,
     index: JobIndex,
+    // Each has its ticket beside its job, so that no two tickets have one key without a word about
+    // keys. A ticket that ends moves 16 bytes of the index for each one behind it, and no job.
     jobs: Slab<InFlight>,
 }
 

@@ -1,9 +1,10 @@
 //! Searches of which nobody counts the steps.
 
 ghost use Rattle.std.specs.Prelude.{◌≡◌, ◌<◌};
-ghost use Rattle.job_index.specs.Keyed.{key_of, keyed_beside};
+ghost use Rattle.job_table.specs.Keyed.{key_of, keyed_beside};
 
-use job_index::{JobIndex, ProbeCount};
+use crate::index::JobIndex;
+use crate::steps::ProbeCount;
 use std::marker::Brand;
 use std::sync::ledger::{Blank, Ledger};
 

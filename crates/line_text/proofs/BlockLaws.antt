@@ -9,16 +9,13 @@ use Rattle.std.proofs.Math.Dec.{eqb}
 use Rattle.std.proofs.Math.Seq.{take-append_seam, drop-append_seam}
 use Rattle.std.proofs.lemmas.Bool.{eqb-true}
 use Rattle.std.proofs.lemmas.List.{length-replicate, nil_from_length}
+use Rattle.plain_lemmas.proofs.Numbers.{eqb_same}
 use Rattle.hex.specs.Hex.{IsBytes, encode_upper}
 use Rattle.line_text.specs.Digits.{bytes_in}
 use Rattle.line_text.specs.Data.{all_same, block_text, parted_blocks, spelled_block, then_block, bytes_of_blocks_in}
 use Rattle.line_text.proofs.HexLaws.{bytes_is, bytes_again}
 
 -- ---- equal bytes
-
--- a number is equal to itself
-pub eqb_same : (n : ℕ) → eqb n n ≡ true
-eqb_same n = grind (arith)
 
 -- what an `and` that holds shows
 both_true : (a b : Bool) → (a && b) ≡ true → (a ≡ true) × (b ≡ true)

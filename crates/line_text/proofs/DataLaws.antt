@@ -10,13 +10,13 @@ use Rattle.std.proofs.lemmas.Bool.{eqb-true, eqb-false}
 use Rattle.std.proofs.lemmas.List.{nil_from_length}
 use Rattle.std.proofs.lemmas.List.Splits.{join_with_byte-slice_split, length-slice_split}
 use Rattle.std.proofs.Math.Nat.{div-add-mod, mul-mod_left, mul-div_cancel}
+use Rattle.plain_lemmas.proofs.Lists.{bytes_eq_true}
 use Rattle.hex.specs.Hex.{IsBytes, encode_upper, encode_with, upper_digits}
 use Rattle.line_text.specs.Digits.{bytes_in}
 use Rattle.line_text.specs.Words.{Without}
 use Rattle.line_text.specs.Data.{all_same, block_text, parted_blocks, data_text, bytes_of_blocks_in, unless_whole}
 use Rattle.line_text.specs.Data.{data_in}
 use Rattle.line_text.proofs.Spelling.{IsSpelling}
-use Rattle.line_text.proofs.NumberLaws.{bytes_eq_true}
 use Rattle.line_text.proofs.HexLaws.{bytes_is, bytes_again}
 use Rattle.line_text.proofs.WordLaws.{words_again, upper_without, plain, plain_isnt, digit_plain, join_front}
 use Rattle.line_text.proofs.BlockLaws.{text_same, text_other, blocks_are, blocks_again}

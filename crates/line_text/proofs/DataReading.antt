@@ -6,9 +6,9 @@ use Rattle.std.specs.List.{slice_split}
 use Rattle.std.specs.Str.{bytes_eq}
 use Rattle.std.proofs.Math.Dec.{eqb}
 use Rattle.std.proofs.lemmas.List.{append_assoc}
+use Rattle.plain_lemmas.proofs.Numbers.{eqb_same}
 use Rattle.line_text.specs.Digits.{bytes_in}
 use Rattle.line_text.specs.Data.{all_same, spelled_block, then_block, bytes_of_blocks_in, unless_whole, data_in}
-use Rattle.line_text.proofs.BlockLaws.{eqb_same}
 
 -- ---- what a block is by its tests
 

@@ -11,9 +11,10 @@ use Rattle.hex.proofs.HexLemmas.{decode_of-encode_upper, decode_of-even, decode_
 use Rattle.hex.proofs.HexLemmas.{decode_sized-twice}
 use Rattle.std.proofs.Math.Dec.{eqb}
 use Rattle.std.proofs.lemmas.Bool.{and_parts, cases_lt, eqb-true, leb-true, lt-ltb, le-ltb, ltb-true}
+use Rattle.plain_lemmas.proofs.Lists.{bytes_eq_true}
 use Rattle.line_text.specs.Digits.{if_upper, bytes_in, fixed_in}
 use Rattle.line_text.proofs.Spelling.{IsSpelling}
-use Rattle.line_text.proofs.NumberLaws.{bytes_eq_true, bytes_eq_refl}
+use Rattle.line_text.proofs.NumberLaws.{bytes_eq_refl}
 
 -- a value under a test
 if_some : (b : Bool) (x y : List ℕ) → cond b (Some x) None ≡ Some y → (b ≡ true) × (x ≡ y)

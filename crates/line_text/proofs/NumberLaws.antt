@@ -18,11 +18,8 @@ use Rattle.std.proofs.lemmas.Fmt.{first_decimal}
 use Rattle.std.specs.Option.{SomeIff}
 use Rattle.std.proofs.lemmas.Slice.Eq.{bytes_eq-Decides}
 use Rattle.std.proofs.lemmas.Bool.{ltb-true, lt-ltb}
+use Rattle.plain_lemmas.proofs.Lists.{bytes_eq_true}
 use Rattle.line_text.specs.Number.{number_in}
-
--- what a test of equal bytes shows
-pub bytes_eq_true : (xs ys : List ℕ) → bytes_eq xs ys ≡ true → xs ≡ ys
-bytes_eq_true xs ys h = (bytes_eq-Decides xs ys).0 h
 
 -- a list of bytes is equal to itself
 pub bytes_eq_refl : (xs : List ℕ) → bytes_eq xs xs ≡ true

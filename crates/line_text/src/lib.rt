@@ -1,4 +1,4 @@
-//! Reads and writes words that have one spelling each, and lines, with each fault told apart.
+//! Reads and writes lines and their words, for all crates of texts: each has one spelling, and faults are told apart.
 #![tactic(auto)]
 
 mod data;

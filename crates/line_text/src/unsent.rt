@@ -10,6 +10,8 @@ use itoa::Buffer;
 use std::io::{Result as IoResult, Write};
 
 // Most lines are shorter.
+// What doesn't fit is seen before anything is written, so spelling needs no answer of the writer.
+// Of a longer line each word is written by itself.
 const ROOM: usize = 256;
 
 /// The bytes that were spelled of a line, of which none was written.

@@ -5,6 +5,7 @@ use Rattle.std.proofs.Common.{inl, inr, length}
 use Rattle.std.proofs.Common.{length-append, refl, subst, suc, sym, zero}
 use Rattle.std.proofs.Common.{ℕ, ◌+◌, ◌-◌, ◌++◌, ◌<◌, ◌∙◌, ◌≡◌, ◌∷◌}
 use Rattle.std.specs.Prelude.{slice_get}
+use Rattle.plain_lemmas.proofs.Lists.{at_front}
 use Rattle.atomic_table.specs.Table.{Me}
 use Rattle.nvme_model.specs.History.{Past}
 use Rattle.nvme_model.specs.Passes.{SharedPast, entries, places}
@@ -35,11 +36,6 @@ box_is_some P Q (Some b) m never = refl
 pub at_mid : {A : Type 0} (xs ys : List A) (a : A) → slice_get (xs ++ a ∷ ys) (length xs) ≡ Some a
 at_mid [] ys a = refl
 at_mid (x ∷ xs) ys a = at_mid xs ys a
-
-at_front : {A : Type 0} (xs ys : List A) (k : ℕ) (a : A) → slice_get xs k ≡ Some a → slice_get (xs ++ ys) k ≡ Some a
-at_front [] ys k a e = cc
-at_front (x ∷ xs) ys zero a e = e
-at_front (x ∷ xs) ys (suc k) a e = at_front xs ys k a e
 
 module _ {M : Type 0} where
   -- a view that these passes were joined to, the last first

@@ -7,8 +7,8 @@ use Rattle.nvme_model.specs.Passes.{IsBeginning, SharedPast, entries, places}
 use Rattle.nvme_model.specs.declared.config.ConfigNumbers.{ConfigNumbers}
 use Rattle.nvme_model.specs.declared.entry.Entry.{Entry}
 use Rattle.nvme_model.specs.declared.step.Step.{Step}
-use Rattle.controller_steps.specs.declared.answer.Answer.{Answer}
-use Rattle.controller_steps.specs.declared.answer.Refused.{Refused}
+use Rattle.controller_interface.specs.declared.answer.Answer.{Answer}
+use Rattle.controller_interface.specs.declared.answer.Refused.{Refused}
 use Rattle.meet_lock.specs.Lock.{AreOfPasses, ExtendsByPasses, noted, unmade}
 use Rattle.ticket_laws.specs.Entries.{ticket_in}
 use Rattle.meet_lock.specs.declared.pass.Declined.{Declined}

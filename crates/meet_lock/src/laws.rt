@@ -13,7 +13,7 @@ ghost use Rattle.nvme_model.specs.Value.{value};
 ghost use Rattle.nvme_model.specs.OneAtATime.{IsOneAtATime};
 
 use crate::pass::Pass;
-use controller_steps::Machine;
+use controller_interface::Machine;
 
 /// What a pass of a controller has seen is legal; what callers got there is what an array of blocks gives that serves
 /// one operation at a time; and where no open unit writes a block, the volume then held its value.

@@ -1,4 +1,4 @@
-//! A machine that callers share, each with a pass that knows a beginning of the one history.
+//! A lock round a controller, for callers that share it: each has a pass that knows a beginning of the one history.
 //!
 //! A step takes the lock word by one compare-exchange and never waits: where another caller has the lock, the answer is
 //! Busy.
@@ -12,7 +12,7 @@ mod seats;
 mod shared;
 mod view;
 
-pub use controller_steps::Machine;
+pub use controller_interface::Machine;
 pub use laws::{what_a_pass_has_seen, what_came_between_is_of_passes};
 pub use owner::{AnyPass, StepRight, TicketOwner};
 pub use pass::{Busy, Declined, Pass};

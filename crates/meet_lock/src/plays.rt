@@ -7,7 +7,7 @@ ghost use Rattle.meet_lock.specs.SeatSteps.{took, wrote, gives_lock_back, looked
 use crate::owner::StepRight;
 use crate::view::{Origin, Start, View};
 use atomic_table::{Join, Play, Split, TableRule};
-use controller_steps::Machine;
+use controller_interface::Machine;
 use std::marker::PhantomData;
 
 pub(crate) struct Lock<M, K> {

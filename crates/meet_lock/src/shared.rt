@@ -19,10 +19,11 @@ use crate::pass::Pass;
 use crate::plays::{Give, Lock};
 use crate::view::{Start, View};
 use atomic_table::{Refused as TableRefused, Seat, Table};
-use controller_steps::Machine;
+use controller_interface::Machine;
 use std::alloc::{AllocError as NoMemory, Global};
 use std::snapshot::Snapshot;
 
+// Without a box each attempt moves the whole machine twice.
 pub(crate) type SeatPlace<M> = Seat<Option<Box<M>>, View>;
 
 // The machine of a box, where there is one.

@@ -33,10 +33,10 @@ use Rattle.nvme_model.proofs.Granted.{GrantFacts, granted_facts}
 use Rattle.nvme_model.proofs.Blocks.{MayBlock, may_block, no_blocks, same_made, made_lbas, lbas, made_in_order, at_key}
 use Rattle.nvme_model.proofs.Blocks.{range_before}
 use Rattle.nvme_model.proofs.Effects.{came, is_write_op}
-use Rattle.nvme_model.proofs.Written.{clash}
 use Rattle.nvme_model.proofs.Holding.{holds, both_conflict, conflict_both, range_of_entry, due_within, false_if}
 use Rattle.nvme_model.proofs.Holding.{untouched, grant_key}
 use Rattle.nvme_model.proofs.Medium.{medium_state, Against, against_found, each_none, found_state, is_open, unfilter}
+use Rattle.nvme_model.proofs.Cut.{clash}
 
 -- ---- the volume at a block that is compared
 

@@ -4,10 +4,10 @@ use Rattle.std.proofs.Common.{length, map, refl, sym, ap, ap₂, ◌∙◌, subs
 use Rattle.std.proofs.Common.{ne_eqb, eqb-true, eqb}
 use Rattle.std.specs.List.{filter, find}
 use Rattle.std.proofs.lemmas.Bool.{and_parts, and_from, and_left, and_right, cond-true, cond-false, cases_Bool}
+use Rattle.std.proofs.lemmas.Bool.{not-true}
 use Rattle.nvme_model.specs.declared.config.ConfigNumbers.{ConfigNumbers}
 use Rattle.nvme_model.specs.Tickets
 use Rattle.nvme_model.specs.History.{Past}
-use Rattle.nvme_model.specs.Tickets.{Ticket}
 use Rattle.nvme_model.specs.Operations.{op}
 use Rattle.nvme_model.specs.Open.{grants_of, granted, open_units, has_ended, blocks_made, unit_range, range_of}
 use Rattle.nvme_model.specs.Placed.{effect}
@@ -20,7 +20,6 @@ use Rattle.nvme_model.specs.declared.entry.Entry.{Entry}
 use Rattle.nvme_model.proofs.Lists.{Each, each_filter, each_find}
 use Rattle.nvme_model.proofs.Rules.{follows, may_grant}
 use Rattle.nvme_model.proofs.Granted.{GrantFacts, granted_facts}
-use Rattle.nvme_model.proofs.Bools.{not_true}
 
 -- an open unit
 pub record OpenFacts (past : Past) (g : GrantLine) : Type 0 where
@@ -30,7 +29,7 @@ pub record OpenFacts (past : Past) (g : GrantLine) : Type 0 where
 pub open_facts : (c : ConfigNumbers) (past : Past) → IsLegal c past → Each (OpenFacts past) (open_units past)
 open_facts c past h =
     each_filter (GrantFacts past) (OpenFacts past) (λ g. not (has_ended past g.ticket g.unit g.range.blocks))
-    (λ g f e. record { facts = f; goes_on = not_true _ e }) (granted past) (granted_facts c past h)
+    (λ g f e. record { facts = f; goes_on = not-true _ e }) (granted past) (granted_facts c past h)
 
 -- A Block entry b of the open unit g.
 pub record MayBlock (past : Past) (b : BlockLine) (g : GrantLine) : Type 0 where

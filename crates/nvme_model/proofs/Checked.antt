@@ -1,8 +1,8 @@
 -- What a ticket that passed its checks has: its range, and the data beside its commands.
-use Rattle.std.proofs.Common.{◌≡◌, ℕ, ◌+◌, ◌≤◌, Bool, true, false, not, ◌&&◌, cond, List, [], ◌∷◌, map, take, refl, sym}
+use Rattle.std.proofs.Common.{◌≡◌, ℕ, ◌+◌, ◌≤◌, Bool, true, false, not, ◌&&◌, cond, List, [], ◌∷◌, map, take, refl}
 use Rattle.std.proofs.Common.{ap, Option, Some, None, is_some, is_none, inl, inr, arith, eqb, eqb-true, ne_eqb}
 use Rattle.std.proofs.Common.{ltb-false}
-use Rattle.std.proofs.lemmas.Bool.{and_parts, cases_Bool}
+use Rattle.std.proofs.lemmas.Bool.{and_parts, cases_Bool, not-false}
 use Rattle.nvme_model.specs.declared.config.AtomicParameters.{AtomicParameters}
 use Rattle.nvme_model.specs.declared.config.ConfigNumbers.{ConfigNumbers}
 use Rattle.nvme_model.specs.EntryBytes.{Sqe, sqe_fields, slba, block_count}
@@ -14,7 +14,7 @@ use Rattle.nvme_model.specs.Verdict.{of_pair, pair_verdict, verdict_of, taken_en
 use Rattle.nvme_model.specs.History.{Past}
 use Rattle.nvme_model.specs.Queues.{waiting}
 use Rattle.nvme_model.specs.Tickets
-use Rattle.nvme_model.specs.Tickets.{Ticket, command, first_fields, fetched_ticket, cids_in_use}
+use Rattle.nvme_model.specs.Tickets.{Ticket, command, fetched_ticket, cids_in_use}
 use Rattle.nvme_model.specs.Operations.{op, op_of_fields, is_pair}
 use Rattle.nvme_model.specs.Legal.{IsLegal}
 use Rattle.nvme_model.specs.declared.operation.Op.{Op}
@@ -23,7 +23,8 @@ use Rattle.nvme_model.specs.declared.status.Verdict.{Verdict}
 use Rattle.nvme_model.specs.declared.submission.Submission.{Submission}
 use Rattle.nvme_model.specs.declared.entry.Entry.{Entry}
 use Rattle.nvme_model.proofs.Rules.{follows, none_holds}
-use Rattle.nvme_model.proofs.Written.{clash}
+use Rattle.nvme_model.proofs.NextPost.{not_pair}
+use Rattle.nvme_model.proofs.Cut.{clash}
 
 -- ---- one command that passed its checks
 
@@ -58,10 +59,6 @@ unless_flush false true f g = g
 unless_flush false false f g = refl
 unless_flush true y f g = clash true refl f
 
-unnot : (b : Bool) → not b ≡ false → b ≡ true
-unnot true q = refl
-unnot false q = sym q
-
 command_checked : (size : ℕ) (in_use : List ℕ) (i : Item) → command_fault size in_use i ≡ None
     → is_flush i.fields ≡ false → Checked size i
 command_checked size in_use i e f =
@@ -69,7 +66,7 @@ command_checked size in_use i e f =
     record {
       inside = ltb-false size _ (unless_flush (is_flush i.fields) _ f rows.1.1.1.1.1.0);
       few = ltb-false 256 _ (unless_flush (is_flush i.fields) _ f rows.1.1.1.1.0);
-      payload = eqb-true _ _ (unnot _ rows.1.1.1.1.1.1.0);
+      payload = eqb-true _ _ (not-false _ rows.1.1.1.1.1.1.0);
     }
 
 -- ---- a pair that passed its checks
@@ -94,8 +91,8 @@ pair_checked : (u : AtomicParameters) (size : ℕ) (in_use : List ℕ) (first se
     → pair_fault u size in_use first second ≡ None → PairChecked u size first second
 pair_checked u size in_use first second e =
     let rows = none_holds (pair_faults u size in_use first second) (ap is_none e) in
-    let ops = and_parts _ _ (unnot _ rows.0) in
-    let same = and_parts _ _ (unnot _ rows.1.1.1.1.0) in
+    let ops = and_parts _ _ (not-false _ rows.0) in
+    let same = and_parts _ _ (not-false _ rows.1.1.1.1.0) in
     record {
       compare = ops.0;
       write = ops.1;
@@ -104,7 +101,7 @@ pair_checked u size in_use first second e =
           (opcode_not second.fields 1 ops.1 (omega arith));
       start = eqb-true _ _ same.0;
       length = eqb-true _ _ same.1;
-      fits = unnot _ rows.1.1.1.1.1.0;
+      fits = not-false _ rows.1.1.1.1.1.0;
     }
 
 -- ---- what the verdict says
@@ -207,18 +204,6 @@ pub record TicketChecked (c : ConfigNumbers) (k : Ticket) : Type 0 where
 abbrev IsChecked : ConfigNumbers → Ticket → Type 0
 IsChecked c k = is_some (op k) ≡ true → TicketChecked c k
 
-fields_not_pair : (e : Sqe) → is_pair (op_of_fields e) ≡ false
-fields_not_pair e = go (is_write e) (is_read e) (is_compare e) (is_write_zeroes e)
-  where
-    go : (w r m z : Bool) → is_pair
-        (cond w (Some Op.Write) (cond r (Some Op.Read) (cond m (Some Op.Compare) (cond z (Some Op.WriteZeroes) None))))
-        ≡ false
-    go true r m z = refl
-    go false true m z = refl
-    go false false true z = refl
-    go false false false true = refl
-    go false false false false = refl
-
 by_verdict : (c : ConfigNumbers) (in_use : List ℕ) (q : ℕ) (ws : List Submission) (v : Verdict)
     → same_verdict v (verdict_of c.atomic c.blocks in_use (map item_of ws)) ≡ true
     → IsChecked c (record { queue = q; commands = take (taken_entries v) ws; verdict = v })
@@ -230,7 +215,7 @@ by_verdict c in_use q (first ∷ rest) Verdict.Single e h =
       first = command_checked c.blocks in_use (item_of first)
           (single_fault c.atomic c.blocks in_use (item_of first) (map item_of rest) (ap is_single (single_is _ e)))
           (op_not_flush (sqe_fields first.entry) h);
-      pair = λ p. clash _ p (fields_not_pair (sqe_fields first.entry));
+      pair = λ p. clash _ p (not_pair (sqe_fields first.entry));
     }
 by_verdict c in_use q ws Verdict.Pair e h =
     go ws (pair_at c.atomic c.blocks in_use (map item_of ws) (ap is_passed_pair (pair_is _ e)))

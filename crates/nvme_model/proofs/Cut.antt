@@ -10,7 +10,7 @@ use Rattle.nvme_model.specs.Cells.{cell, in_one_cell, is_atomic}
 use Rattle.nvme_model.specs.Cut.{IsCut, longest, cut_within, cut}
 use Rattle.nvme_model.specs.declared.array.Range.{Range}
 
-clash : {A : Type 0} (b : Bool) → b ≡ true → b ≡ false → A
+pub clash : {A : Type 0} (b : Bool) → b ≡ true → b ≡ false → A
 clash b t f = absurd (true≢false (sym t ∙ f))
 
 -- ---- a shorter range is atomic too
@@ -147,7 +147,7 @@ cut-is u s n = is_within n u s n (omega arith)
 
 -- ---- an atomic range is one unit
 
-cut-atomic : (u : AtomicParameters) (s n : ℕ) → is_atomic u s n ≡ true
+pub cut-atomic : (u : AtomicParameters) (s n : ℕ) → is_atomic u s n ≡ true
     → cut u s n ≡ record { slba = s; blocks = n } ∷ []
 cut-atomic u s n h =
     let r : Range = record { slba = s; blocks = n } in

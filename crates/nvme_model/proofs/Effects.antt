@@ -4,6 +4,7 @@ use Rattle.std.proofs.Common.{sym, ap, ap₂, ◌∙◌, subst, Option, Some, No
 use Rattle.std.proofs.Common.{eqb, nat_le, nat_lt, le-leb}
 use Rattle.std.specs.List.{list_any}
 use Rattle.std.proofs.lemmas.Bool.{or_from, or_left, or_right, cond-false, cases_Bool, cases_lt, cases_eq, lt-leb}
+use Rattle.std.proofs.Math.Bool.{and-true}
 use Rattle.nvme_model.specs.declared.config.ConfigNumbers.{ConfigNumbers}
 use Rattle.nvme_model.specs.Tickets
 use Rattle.nvme_model.specs.History.{Past}
@@ -23,7 +24,6 @@ use Rattle.nvme_model.proofs.Rules.{follows}
 use Rattle.nvme_model.proofs.Apart.{ticket_kept}
 use Rattle.nvme_model.proofs.Blocks.{no_blocks, same_made, at_key, grants_before, range_before}
 use Rattle.nvme_model.proofs.Pairs.{no_blocks_yet}
-use Rattle.nvme_model.proofs.Stepping.{and_true}
 
 abbrev pub is_write_op : Option Op → Bool
 is_write_op (Some Op.Write) = true
@@ -148,7 +148,7 @@ effect_state c (Entry.Block b ∷ past) t u h k =
     key_true : (b.effect && eqb b.ticket b.ticket && eqb b.unit b.unit) ≡ b.effect
     key_true =
         ap₂ (λ (x y : Bool). b.effect && x && y) (eq-eqb b.ticket b.ticket refl) (eq-eqb b.unit b.unit refl)
-        ∙ (and_true (b.effect && true) ∙ and_true b.effect)
+        ∙ (and-true (b.effect && true) ∙ and-true b.effect)
 
     own : EffectState past b.ticket b.unit → EffectState (Entry.Block b ∷ past) b.ticket b.unit
     own ih l =

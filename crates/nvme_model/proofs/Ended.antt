@@ -24,9 +24,9 @@ use Rattle.nvme_model.proofs.Lists.{Each, each_map, each_both, each_find}
 use Rattle.nvme_model.proofs.Rules.{follows, may_grant, MayGrant}
 use Rattle.nvme_model.proofs.Apart.{ticket_kept}
 use Rattle.nvme_model.proofs.Granted.{GrantFacts, granted_facts}
-use Rattle.nvme_model.proofs.Written.{clash}
 use Rattle.nvme_model.proofs.Medium.{is_open, unfilter, none_each}
 use Rattle.nvme_model.proofs.Effects.{came, effect_state, some_cond}
+use Rattle.nvme_model.proofs.Cut.{clash}
 
 -- ---- a granted unit has an operation
 

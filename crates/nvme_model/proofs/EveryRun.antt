@@ -33,8 +33,8 @@ use Rattle.nvme_model.proofs.Blocks.{OpenFacts, open_facts}
 use Rattle.nvme_model.proofs.Runs.{publish_follows, fetch_follows, grant_follows, reap_follows}
 use Rattle.nvme_model.proofs.NextBlock.{block_follows, line}
 use Rattle.nvme_model.proofs.NextPost.{post_follows}
-use Rattle.nvme_model.proofs.Written.{clash}
 use Rattle.nvme_model.proofs.Medium.{medium_is_value}
+use Rattle.nvme_model.proofs.Cut.{clash}
 
 block_kept : (c : ConfigNumbers) (past : Past) (t : ℕ) → ControllerInvariant c past → (o : Option GrantLine)
     → find (λ g. eqb g.ticket t) (open_units past) ≡ o

@@ -137,10 +137,6 @@ pub entry_before_jobs : refusal (record default { jobs = 1 })
     (run default [] (Step.Publish 1 (submit 0 0 1 0 0 [] ∷ []) ∷ Step.Fetch 1 ∷ [])) (Step.Fetch 1) ≡ Some Why.NoEntry
 entry_before_jobs = refl
 
--- a ticket that isn't there, and so has no unit
-pub ticket_before_unit : refusal default [] (Step.Grant 1) ≡ Some Why.NoTicket
-ticket_before_unit = refl
-
 -- a Write of two units whose first is open, and whose second lies in the open unit of another Write
 abbrev between : Past
 between =

@@ -4,12 +4,13 @@ use Rattle.std.proofs.Common.{length, refl, sym, ap, ap₂, ◌∙◌, subst, Op
 use Rattle.std.proofs.Common.{eq-eqb, eqb, eqb-true, nat_le, leb-true, le-leb, slice_get}
 use Rattle.std.specs.List.{list_any, list_all, filter}
 use Rattle.std.proofs.lemmas.Bool.{and_parts, or_parts, or_left, or_right, or_cases, cond-false, cases_Bool, cases_lt}
+use Rattle.std.proofs.lemmas.Bool.{not-false}
 use Rattle.nvme_model.specs.declared.config.ConfigNumbers.{ConfigNumbers}
 use Rattle.nvme_model.specs.EntryBytes.{slba, block_count}
 use Rattle.nvme_model.specs.Verdict.{passed}
 use Rattle.nvme_model.specs.History.{Past}
 use Rattle.nvme_model.specs.Tickets
-use Rattle.nvme_model.specs.Tickets.{Ticket, numbers_down, posts_of, in_flight, first_fields}
+use Rattle.nvme_model.specs.Tickets.{Ticket, posts_of, in_flight, first_fields}
 use Rattle.nvme_model.specs.Operations.{op, op_by, units, units_by}
 use Rattle.nvme_model.specs.Open.{granted, grants_of, blocks_made, is_differs, steps_needed, has_ended, open_units}
 use Rattle.nvme_model.specs.Open.{differed}
@@ -24,16 +25,16 @@ use Rattle.nvme_model.specs.declared.entry.BlockLine.{BlockLine}
 use Rattle.nvme_model.specs.declared.entry.Entry.{Entry}
 use Rattle.nvme_model.proofs.Lists.{Each, each_map, each_both, each_filter, each_find, each_get}
 use Rattle.nvme_model.proofs.Rules.{follows, may_grant, MayGrant}
-use Rattle.nvme_model.proofs.Apart.{ticket_kept, fetched_if, fetch_ended, ended_kept, unless}
+use Rattle.nvme_model.proofs.Apart.{ticket_kept, fetched_if, fetch_ended}
 use Rattle.nvme_model.proofs.Granted.{GrantFacts, granted_facts, units_some}
 use Rattle.nvme_model.proofs.Blocks.{may_block, same_made}
-use Rattle.nvme_model.proofs.Written.{clash}
 use Rattle.nvme_model.proofs.Holding.{open_kept, false_if}
 use Rattle.nvme_model.proofs.Medium.{is_open, unfilter, none_each, each_none, still_open}
 use Rattle.nvme_model.proofs.Answers.{needs_all}
 use Rattle.nvme_model.proofs.Ended.{granted_op, some_made}
 use Rattle.nvme_model.proofs.Runs.{some_at}
-use Rattle.nvme_model.proofs.NextPost.{ends, unit_at, unit_of_blocks, same_range, not_flying}
+use Rattle.nvme_model.proofs.NextPost.{ends, unit_at, unit_of_blocks, same_range}
+use Rattle.nvme_model.proofs.Cut.{clash}
 
 -- ---- an open unit is the newest of its ticket
 
@@ -265,7 +266,7 @@ posts_known c (Entry.Fetch f ∷ past) t h l =
     omega (arith, posts_known c past t (follows c past (Entry.Fetch f) h).before l)
 posts_known c (Entry.Post p ∷ past) t h l =
     let f = follows c past (Entry.Post p) h in
-    go (eqb p.ticket t) refl (not_flying _ f.allowed.0) (λ k. posts_known c past t f.before k) f.before l
+    go (eqb p.ticket t) refl (not-false _ f.allowed.0) (λ k. posts_known c past t f.before k) f.before l
   where
     go : (b : Bool) → eqb p.ticket t ≡ b → in_flight past p.ticket ≡ true
         → (1 ≤ posts_of past t → t ≤ Tickets.tickets past) → IsLegal c past → 1 ≤ posts_of past t + cond b 1 0

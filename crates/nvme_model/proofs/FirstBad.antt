@@ -8,8 +8,8 @@ use Rattle.nvme_model.specs.History.{Past}
 use Rattle.nvme_model.specs.Legal.{may_follow, legal, IsLegal, IsLegalFile}
 use Rattle.nvme_model.specs.FirstBad.{IsFirstBad, earlier_or, first_bad_of, first_bad}
 use Rattle.nvme_model.specs.declared.entry.Entry.{Entry}
-use Rattle.nvme_model.proofs.Written.{clash}
 use Rattle.nvme_model.proofs.Beginnings.{beginning}
+use Rattle.nvme_model.proofs.Cut.{clash}
 
 snoc : (e : Entry) (past : Past) → reverse (e ∷ past) ≡ reverse past ++ (e ∷ [])
 snoc e past = reverse-append (e ∷ []) past
@@ -95,7 +95,7 @@ pub some_is_first : (c : ConfigNumbers) (entries : List Entry) (k : ℕ) → fir
 some_is_first c entries k h =
     subst (λ (xs : List Entry). IsFirstBad c xs k) (reverse-reverse entries) (some_bad c (reverse entries) k h)
 
-not_both : (c : ConfigNumbers) (entries : List Entry) (k : ℕ) → IsLegalFile c entries → IsFirstBad c entries k → ⊥
+pub not_both : (c : ConfigNumbers) (entries : List Entry) (k : ℕ) → IsLegalFile c entries → IsFirstBad c entries k → ⊥
 not_both c entries k h b = clash (legal c (reverse (take k entries))) (beginning c entries k h) b.2
 
 pub legal_is_none : (c : ConfigNumbers) (entries : List Entry) → IsLegalFile c entries → first_bad c entries ≡ None

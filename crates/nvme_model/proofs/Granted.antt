@@ -73,7 +73,8 @@ new_grant c past g h =
     grants_more false e n = absurd (let f = e in cc)
 
 -- a later Grant leaves these facts
-length_cond : (b : Bool) (g : GrantLine) (gs : List GrantLine) (n : ℕ) → n < length gs → n < length (cond b (g ∷ gs) gs)
+pub length_cond : (b : Bool) (g : GrantLine) (gs : List GrantLine) (n : ℕ) → n < length gs
+    → n < length (cond b (g ∷ gs) gs)
 length_cond true g gs n l = omega (arith, l)
 length_cond false g gs n l = l
 

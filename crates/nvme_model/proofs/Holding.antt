@@ -5,6 +5,7 @@ use Rattle.std.proofs.Common.{ne_eqb, eqb, eqb-true, nat_le, nat_lt, lt-ltb, leb
 use Rattle.std.specs.List.{list_any, filter}
 use Rattle.std.proofs.lemmas.Bool.{and_parts, and_from, and_left, and_right, or_parts, or_from, or_left, or_right}
 use Rattle.std.proofs.lemmas.Bool.{cond-false, cases_Bool, lt-leb}
+use Rattle.std.proofs.Math.Bool.{and-true}
 use Rattle.nvme_model.specs.declared.config.ConfigNumbers.{ConfigNumbers}
 use Rattle.nvme_model.specs.Open
 use Rattle.nvme_model.specs.Tickets
@@ -31,10 +32,11 @@ use Rattle.nvme_model.proofs.Rules.{follows, may_grant}
 use Rattle.nvme_model.proofs.Apart.{ticket_kept, grant_apart, fetch_ended}
 use Rattle.nvme_model.proofs.Granted.{GrantFacts, granted_facts}
 use Rattle.nvme_model.proofs.Blocks.{OpenFacts, open_facts, MayBlock, no_blocks, same_made, due_lba, range_before}
-use Rattle.nvme_model.proofs.Written.{Writing, clash}
-use Rattle.nvme_model.proofs.Stepping.{started, written, needed, writes_by, Stepped, step, and_true}
+use Rattle.nvme_model.proofs.Written.{Writing}
+use Rattle.nvme_model.proofs.Stepping.{started, written, needed, writes_by, Stepped, step}
 use Rattle.nvme_model.proofs.Bools.{or_false}
 use Rattle.nvme_model.proofs.Pairs.{word_at, goes_on, says_yes, says_no, pair_compares}
+use Rattle.nvme_model.proofs.Cut.{clash}
 
 -- ---- how far unit u of ticket t has written block l
 
@@ -62,7 +64,7 @@ has_low r l h = leb-true r.slba l (and_parts _ _ h).0
 has_high : (r : Range) (l : ℕ) → has_block r l ≡ true → l < r.slba + r.blocks
 has_high r l h = ltb-true l (r.slba + r.blocks) (and_parts (nat_le r.slba l) _ h).1
 
-both_overlap : (r s : Range) (l : ℕ) → has_block r l ≡ true → has_block s l ≡ true → overlap r s ≡ true
+pub both_overlap : (r s : Range) (l : ℕ) → has_block r l ≡ true → has_block s l ≡ true → overlap r s ≡ true
 both_overlap r s l h k =
     and_from _ _ (and_from _ _ (lt-ltb 0 r.blocks (omega (arith, has_low r l h, has_high r l h)))
     (lt-ltb 0 s.blocks (omega (arith, has_low s l k, has_high s l k))))
@@ -268,7 +270,7 @@ own_step c past b g l h m marks w e s =
     }) s in
     let whole : (b.effect && writes_by (op k) same) ≡ (b.effect && has_block r l && writes_by (op k) same) =
     ap (λ (x : Bool). x && writes_by (op k) same)
-    (sym (and_true b.effect) ∙ ap (λ (x : Bool). b.effect && x) (sym e)) in
+    (sym (and-true b.effect) ∙ ap (λ (x : Bool). b.effect && x) (sym e)) in
     subst (λ (v : List ℕ). Stepped (op k) b.found r.slba r.blocks j l (medium (Entry.Block b ∷ past) l) v
     (write_data k l))
     (ap (λ (x : Bool). cond x (write_data k l) (value past l)) whole) stepped

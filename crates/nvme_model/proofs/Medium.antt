@@ -2,14 +2,13 @@
 use Rattle.std.proofs.Common.{◌≡◌, ℕ, Bool, true, false, not, ◌&&◌, ◌||◌, cond, List, [], ◌∷◌, ◌++◌, length, refl, sym}
 use Rattle.std.proofs.Common.{ap, ◌∙◌, subst, subst₂, Some, inl, inr, ◌⊎◌, eq-eqb, eqb, eqb-true, nat_le}
 use Rattle.std.specs.List.{list_any, filter, find}
-use Rattle.std.proofs.lemmas.Bool.{and_parts, and_from, or_parts, or_from, cond-false, cases_Bool}
+use Rattle.std.proofs.lemmas.Bool.{and_from, and_parts, cases_Bool, cond-false, not-true, or_from, or_parts}
 use Rattle.nvme_model.specs.declared.config.ConfigNumbers.{ConfigNumbers}
 use Rattle.nvme_model.specs.Open
 use Rattle.nvme_model.specs.Tickets
 use Rattle.nvme_model.specs.History.{Past}
-use Rattle.nvme_model.specs.Tickets.{Ticket}
 use Rattle.nvme_model.specs.Operations.{op, has_write, is_exclusive}
-use Rattle.nvme_model.specs.Open.{granted, open_units, blocks_made, has_ended, is_written, is_differs, conflict}
+use Rattle.nvme_model.specs.Open.{granted, open_units, blocks_made, has_ended, is_differs, conflict}
 use Rattle.nvme_model.specs.Open.{unit_range}
 use Rattle.nvme_model.specs.Array.{has_block}
 use Rattle.nvme_model.specs.Value.{value}
@@ -25,10 +24,10 @@ use Rattle.nvme_model.proofs.Rules.{follows}
 use Rattle.nvme_model.proofs.Apart.{open_apart, ended_kept, unless}
 use Rattle.nvme_model.proofs.Granted.{GrantFacts, granted_facts}
 use Rattle.nvme_model.proofs.Blocks.{MayBlock, may_block, at_key}
-use Rattle.nvme_model.proofs.Written.{clash}
 use Rattle.nvme_model.proofs.Holding.{State, UnitState, after_fetch, after_grant, both_conflict, conflict_both}
 use Rattle.nvme_model.proofs.Holding.{ended_by, false_if, holds, other_state, own_state, own_step, range_of_entry}
 use Rattle.nvme_model.proofs.Holding.{untouched}
+use Rattle.nvme_model.proofs.Cut.{clash}
 
 -- ---- lists of units
 
@@ -110,10 +109,6 @@ pub still_open : (past : Past) (b : BlockLine) (x : GrantLine) → is_open (Entr
     → is_open past x ≡ true
 still_open past b x h = unless _ _ (ended_kept past b x.ticket x.unit x.range.blocks) h
 
-not_not : (b : Bool) → not b ≡ true → b ≡ false
-not_not false h = refl
-not_not true h = sym h
-
 held_after : (c : ConfigNumbers) (past : Past) (b : BlockLine) (g : GrantLine) (l : ℕ) → IsLegal c past
     → MayBlock past b g → MarkedRight (Entry.Block b ∷ past)
     → (x : GrantLine) → Before past g l x → is_open (Entry.Block b ∷ past) x ≡ true → holds l x ≡ true
@@ -128,7 +123,7 @@ held_after c past b g l h m marks x f o e =
           s).goes_on (sym (ended_by past b g m) ∙ n)))
           (f.state (still_open past b x o) e)
           (subst (λ (r : Range). has_ended (Entry.Block b ∷ past) x.ticket x.unit r.blocks ≡ false) (sym f.facts.range)
-          (not_not _ o))
+          (not-true _ o))
       | inr k ↦ other_state past b l x.ticket x.unit k
           (untouched past b g l m (inr (elsewhere k (f.against (still_open past b x o)))))
           (f.state (still_open past b x o) e)

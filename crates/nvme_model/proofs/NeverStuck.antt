@@ -6,12 +6,13 @@ use Rattle.std.proofs.Common.{slice_get}
 use Rattle.std.specs.List.{list_any, list_all, filter, find, flat_map}
 use Rattle.std.proofs.lemmas.Bool.{and_parts, and_right, or_left, or_right, or_cases, cond-false, cases_lt, cases_eq}
 use Rattle.std.proofs.lemmas.List.{reverse-append}
+use Rattle.std.proofs.lemmas.Bool.{not-true}
 use Rattle.nvme_model.specs.Config.{completion_queue}
 use Rattle.nvme_model.specs.declared.config.ConfigNumbers.{ConfigNumbers}
 use Rattle.nvme_model.specs.Verdict.{passed}
 use Rattle.nvme_model.specs.History.{Past}
 use Rattle.nvme_model.specs.Tickets
-use Rattle.nvme_model.specs.Tickets.{Ticket, numbers_down, posts_of, in_flight, first_fields}
+use Rattle.nvme_model.specs.Tickets.{Ticket, numbers_down, posts_of, in_flight}
 use Rattle.nvme_model.specs.Operations.{op, units, mode}
 use Rattle.nvme_model.specs.Completions.{posted_completions, reaped_count}
 use Rattle.nvme_model.specs.Open.{granted, grants_of, has_ended, open_units, differed}
@@ -31,12 +32,12 @@ use Rattle.nvme_model.proofs.Lists.{Each, each_map, each_both, each_filter, each
 use Rattle.nvme_model.proofs.Rules.{follows, fetch_number, may_grant}
 use Rattle.nvme_model.proofs.Apart.{ticket_kept, fetched_if}
 use Rattle.nvme_model.proofs.Granted.{GrantFacts, granted_facts}
-use Rattle.nvme_model.proofs.Written.{clash}
 use Rattle.nvme_model.proofs.Medium.{is_open, unfilter}
 use Rattle.nvme_model.proofs.Ended.{some_granted, found_some}
 use Rattle.nvme_model.proofs.Runs.{below_if}
 use Rattle.nvme_model.proofs.NextPost.{unit_at, same_range, numbered_all, same_place}
 use Rattle.nvme_model.proofs.Finished.{posted_finished}
+use Rattle.nvme_model.proofs.Cut.{clash}
 
 -- ---- an open unit's ticket is in flight
 
@@ -177,10 +178,6 @@ third_of_three false true d x y z h e f = clash true refl f
 third_of_three false false true x y z h e f = refl
 third_of_three false false false x y z h e f = sym h
 
-unnot_true : (b : Bool) → not b ≡ true → b ≡ false
-unnot_true false h = refl
-unnot_true true h = sym h
-
 -- no unit is open
 none_open : (c : ConfigNumbers) (past : Past) → IsLegal c past → ready c past ≡ None → Each (λ x. ⊥) (open_units past)
 none_open c past h r =
@@ -191,7 +188,7 @@ none_open c past h r =
     refute x i o =
         let n = none_ready c past x.ticket h r i in
         clash (has_open past x.ticket) o
-        (unnot_true _ (second_of_two (not (in_flight past x.ticket)) (not (has_open past x.ticket)) Why.NoTicket
+        (not-true _ (second_of_two (not (in_flight past x.ticket)) (not (has_open past x.ticket)) Why.NoTicket
         Why.WrongState n.1 (ap not i)))
 
 no_units : (xs : List GrantLine) → Each (λ x. ⊥) xs → xs ≡ []

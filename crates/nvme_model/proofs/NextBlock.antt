@@ -7,11 +7,11 @@ use Rattle.std.specs.List.{list_any, list_all, find}
 use Rattle.std.specs.Bool.{beq}
 use Rattle.std.specs.Str.{bytes_eq}
 use Rattle.std.proofs.lemmas.Bool.{and_parts, and_from, and_left, or_parts, or_from, or_left, or_cases, cond-true}
-use Rattle.std.proofs.lemmas.Bool.{cond-false, cases_Bool, cases_lt, lt-leb, le-ltb}
+use Rattle.std.proofs.lemmas.Bool.{cases_Bool, cases_lt, cond-false, le-ltb, lt-leb, not-false}
 use Rattle.nvme_model.specs.declared.config.ConfigNumbers.{ConfigNumbers}
 use Rattle.nvme_model.specs.Tickets
 use Rattle.nvme_model.specs.History.{Past}
-use Rattle.nvme_model.specs.Tickets.{Ticket, first_fields}
+use Rattle.nvme_model.specs.Tickets.{Ticket}
 use Rattle.nvme_model.specs.Operations.{op, is_pair, has_write, has_compare, compare_data}
 use Rattle.nvme_model.specs.Open.{granted, open_units, blocks_made, is_differs, is_equal, is_written, unit_range}
 use Rattle.nvme_model.specs.Placed.{effect, may_be_effect}
@@ -35,7 +35,6 @@ use Rattle.nvme_model.proofs.Lists.{Each, each_both, each_filter, each_find}
 use Rattle.nvme_model.proofs.Rules.{follows, none_holds}
 use Rattle.nvme_model.proofs.Apart.{ticket_kept, open_apart}
 use Rattle.nvme_model.proofs.Blocks.{OpenFacts, open_facts, may_block, same_made, at_key}
-use Rattle.nvme_model.proofs.Written.{clash}
 use Rattle.nvme_model.proofs.Holding.{UnitState, holds}
 use Rattle.nvme_model.proofs.Medium.{is_open, medium_state, against_found}
 use Rattle.nvme_model.proofs.Answers.{not_come_yet, word_compares, writes_or_pair, not_held, pair_writes, AllAgree}
@@ -43,6 +42,7 @@ use Rattle.nvme_model.proofs.Answers.{Agreeing, agree_state}
 use Rattle.nvme_model.proofs.Effects.{came, effect_state, no_effect, not_both}
 use Rattle.nvme_model.proofs.Pairs.{marked_here, word_at, no_blocks_yet}
 use Rattle.nvme_model.proofs.Ended.{HasPrevious, found_some, granted_op, previous}
+use Rattle.nvme_model.proofs.Cut.{clash}
 
 -- ---- the next Block of an open unit
 
@@ -388,10 +388,6 @@ any_found t (x ∷ xs) h = go (t x) h (any_found t xs)
     go true e ih = refl
     go false e ih = ih e
 
-not_not : (b : Bool) → not b ≡ false → b ≡ true
-not_not true h = refl
-not_not false h = sym h
-
 abbrev Known : Past → GrantLine → Type 0
 Known past g = OpenFacts past g × ((is_some (op (Tickets.ticket past g.ticket)) ≡ true) × HasPrevious past g)
 
@@ -412,7 +408,7 @@ pub block_follows : (c : ConfigNumbers) (past : Past) (t : ℕ) → IsLegal c pa
 block_follows c past t h k w n =
     let none = none_holds (conditions c past (Step.Block t)) n in
     let found = found_some (λ g. eqb g.ticket t) (open_units past)
-    (any_found (λ g. eqb g.ticket t) (open_units past) (not_not _ none.1.0)) in
+    (any_found (λ g. eqb g.ticket t) (open_units past) (not-false _ none.1.0)) in
     subst (λ (o : Option GrantLine). may_follow c past (block_entry past t o) ≡ true) (sym found.1)
     (of_unit found.0 found.1)
   where

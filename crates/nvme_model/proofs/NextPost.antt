@@ -6,7 +6,7 @@ use Rattle.std.proofs.lemmas.List.{length-take}
 use Rattle.std.proofs.lemmas.List.Folds.{list_any-append}
 use Rattle.std.specs.List.{list_any, list_all}
 use Rattle.std.proofs.lemmas.Bool.{and_parts, and_from, or_parts, or_left, or_right, or_cases, cond-false, cases_Bool}
-use Rattle.std.proofs.lemmas.Bool.{cases_lt}
+use Rattle.std.proofs.lemmas.Bool.{cases_lt, not-false}
 use Rattle.nvme_model.specs.declared.config.ConfigNumbers.{ConfigNumbers}
 use Rattle.nvme_model.specs.EntryBytes.{slba, block_count, Sqe}
 use Rattle.nvme_model.specs.Verdict.{taken_entries, passed}
@@ -42,12 +42,12 @@ use Rattle.nvme_model.proofs.Rules.{follows, may_grant, none_holds}
 use Rattle.nvme_model.proofs.Apart.{ticket_kept}
 use Rattle.nvme_model.proofs.Granted.{GrantFacts, granted_facts, units_some}
 use Rattle.nvme_model.proofs.Blocks.{MayBlock, may_block, no_blocks, same_made, at_key, grants_before, range_before}
-use Rattle.nvme_model.proofs.Written.{clash}
 use Rattle.nvme_model.proofs.Ended.{ended_effect, some_granted, found_some, some_made}
 use Rattle.nvme_model.proofs.Answers.{needs_all}
 use Rattle.nvme_model.proofs.Runs.{some_at, bytes_same}
 use Rattle.nvme_model.proofs.Pairs.{no_blocks_yet, word_at, goes_on, marked_here, says_no as says_no_at}
 use Rattle.nvme_model.proofs.Effects.{not_both}
+use Rattle.nvme_model.proofs.Cut.{clash}
 
 -- ---- a ticket has no more commands than its Fetch took
 
@@ -394,15 +394,11 @@ owed_long c past t Verdict.Pair e h k n =
     subst (λ (q : Option Op). 2 ≤ length (owed_by c past t q)) (sym o)
     (pair_owed c past t o h k (ends c past t (ap passed e) (ap is_flush_ticket o) n))
 
-pub not_flying : (b : Bool) → not b ≡ false → b ≡ true
-not_flying true h = refl
-not_flying false h = sym h
-
 pub post_follows : (c : ConfigNumbers) (past : Past) (t : ℕ) → IsLegal c past → MarkedRight past
     → is_none (refusal c past (Step.Post t)) ≡ true → may_follow c past (next_entry c past (Step.Post t)) ≡ true
 post_follows c past t h k n =
     let none = none_holds (conditions c past (Step.Post t)) n in
-    let flying = ltb-true _ _ (not_flying _ none.0) in
+    let flying = ltb-true _ _ (not-false _ none.0) in
     let long = owed_long c past t (Tickets.ticket past t).verdict refl h k none.1.0 in
     let due = some_at (owed c past t) (posts_of past t) (omega (arith, flying, long, commands_few past t)) in
     subst (λ (o : Option Status). may_follow c past (post_entry c past t o) ≡ true) (sym due.1) (of_status due.0 due.1)

@@ -2,6 +2,7 @@
 use Rattle.std.proofs.Common.{◌≡◌, ◌%◌, ◌-◌, ◌≤◌, ◌<◌, arith, mod-eq_of_lt, ℕ, zero, suc, Bool, true, false, cond, List}
 use Rattle.std.proofs.Common.{[], ◌∷◌, ◌++◌, length, refl, sym, ap, ◌∙◌, subst, Some, None, inl, inr, ◌⊎◌, eqb}
 use Rattle.std.proofs.Common.{eqb-true, slice_get, get_or}
+use Rattle.std.proofs.lemmas.Bool.{not-false}
 use Rattle.nvme_model.specs.Config.{completion_queue}
 use Rattle.nvme_model.specs.declared.config.ConfigNumbers.{ConfigNumbers}
 use Rattle.nvme_model.specs.EntryBytes.{cqe_bytes}
@@ -18,7 +19,6 @@ use Rattle.nvme_model.specs.declared.entry.Entry.{Entry}
 use Rattle.nvme_model.proofs.Rules.{follows}
 use Rattle.nvme_model.proofs.Posted.{posted_by_machine}
 use Rattle.nvme_model.proofs.Apart.{fetched_if, ticket_kept}
-use Rattle.nvme_model.proofs.NextPost.{not_flying}
 
 -- one more at the end
 get_snoc : (xs : List PostLine) (y : PostLine) (k : ℕ) (p : PostLine) → slice_get (xs ++ (y ∷ [])) k ≡ Some p
@@ -58,7 +58,7 @@ last_number c past p q h e =
             e,
         e,
       );
-      known = fetched_if c past p.ticket f.before (not_flying _ f.allowed.0);
+      known = fetched_if c past p.ticket f.before (not-false _ f.allowed.0);
     }
 
 -- a Fetch leaves it as it was

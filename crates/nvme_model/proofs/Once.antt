@@ -24,7 +24,7 @@ use Rattle.nvme_model.proofs.Blocks.{no_blocks, grants_before, range_before}
 use Rattle.nvme_model.proofs.Effects.{no_effect, some_cond}
 use Rattle.nvme_model.proofs.Placed.{block_fetched, block_unposted, effect_once, posted_served}
 use Rattle.nvme_model.proofs.Finished.{posts_known}
-use Rattle.nvme_model.proofs.Written.{clash}
+use Rattle.nvme_model.proofs.Cut.{clash}
 
 -- ---- the entry that is the effect
 
@@ -62,7 +62,7 @@ effects_counted c (e ∷ past) t u h = effects_counted c past t u (follows c pas
 
 -- ---- in the order of the units
 
-marked_may : (past : Past) (b : BlockLine) (o : Option GrantLine) → block_fits past b o ≡ true → b.effect ≡ true
+pub marked_may : (past : Past) (b : BlockLine) (o : Option GrantLine) → block_fits past b o ≡ true → b.effect ≡ true
     → may_be_effect past b.ticket b.unit ≡ true
 marked_may past b None f e = clash false f refl
 marked_may past b (Some g) f e =
@@ -138,7 +138,7 @@ each_unit p v (suc u) (r ∷ rs) e l =
     (each_unit p (suc v) u rs (and_parts (p v) (list_all (λ x. p x.0) (numbered_units (suc v) rs)) e).1
     (omega (arith, l)))
 
-no_has_effect : (o : Option Past) (k : Ticket) (r : Range) → no_at o k r ≡ true → is_some o ≡ true
+pub no_has_effect : (o : Option Past) (k : Ticket) (r : Range) → no_at o k r ≡ true → is_some o ≡ true
 no_has_effect (Some before) k r e = refl
 no_has_effect None k r e = clash false e refl
 

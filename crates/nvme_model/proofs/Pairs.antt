@@ -13,7 +13,7 @@ use Rattle.nvme_model.specs.Tickets
 use Rattle.nvme_model.specs.History.{Past}
 use Rattle.nvme_model.specs.Tickets.{Ticket}
 use Rattle.nvme_model.specs.Operations.{op, is_pair, has_compare, compare_data}
-use Rattle.nvme_model.specs.Open.{granted, grants_of, blocks_made, is_equal, is_differs, has_ended, unit_range}
+use Rattle.nvme_model.specs.Open.{blocks_made, is_equal, is_differs, has_ended, unit_range}
 use Rattle.nvme_model.specs.Value.{value, all_equal}
 use Rattle.nvme_model.specs.Placed.{effect}
 use Rattle.nvme_model.specs.Legal.{IsLegal}
@@ -28,7 +28,7 @@ use Rattle.nvme_model.proofs.Rules.{follows}
 use Rattle.nvme_model.proofs.Apart.{ticket_kept}
 use Rattle.nvme_model.proofs.Blocks.{MayBlock, may_block, no_blocks, not_made, same_made, made_lbas, lbas, one_more}
 use Rattle.nvme_model.proofs.Blocks.{due_lba, made_in_order, at_key, grants_before, range_before}
-use Rattle.nvme_model.proofs.Written.{clash}
+use Rattle.nvme_model.proofs.Cut.{clash}
 
 -- ---- lists of blocks
 

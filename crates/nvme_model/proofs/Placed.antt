@@ -3,7 +3,7 @@ use Rattle.std.proofs.Common.{◌≡◌, ℕ, ◌-◌, ◌≤◌, Bool, true, fa
 use Rattle.std.proofs.Common.{sym, ap, ◌∙◌, subst, Option, Some, None, is_some, inl, inr, ◌⊎◌, arith, eqb, slice_get}
 use Rattle.std.proofs.Common.{ltb-true}
 use Rattle.std.specs.List.{list_any, find}
-use Rattle.std.proofs.lemmas.Bool.{and_parts, and_right, cond-false, cases_eq}
+use Rattle.std.proofs.lemmas.Bool.{and_parts, and_right, cases_eq, cond-false, not-false}
 use Rattle.nvme_model.specs.declared.config.ConfigNumbers.{ConfigNumbers}
 use Rattle.nvme_model.specs.History.{Past}
 use Rattle.nvme_model.specs.Tickets
@@ -26,15 +26,14 @@ use Rattle.nvme_model.proofs.Lists.{each_find}
 use Rattle.nvme_model.proofs.Rules.{follows}
 use Rattle.nvme_model.proofs.Apart.{fetched_if}
 use Rattle.nvme_model.proofs.Blocks.{may_block}
-use Rattle.nvme_model.proofs.Written.{clash}
-use Rattle.nvme_model.proofs.NextPost.{not_flying}
 use Rattle.nvme_model.proofs.Finished.{posted_finished}
 use Rattle.nvme_model.proofs.NeverStuck.{open_flying, zero_ticket}
+use Rattle.nvme_model.proofs.Cut.{clash}
 
 -- the ticket of a Block is in flight
 block_flying : (c : ConfigNumbers) (past : Past) (b : BlockLine) → IsLegal c (Entry.Block b ∷ past)
     → in_flight past b.ticket ≡ true
-block_flying c past b h = not_flying _ (follows c past (Entry.Block b) h).allowed.0
+block_flying c past b h = not-false _ (follows c past (Entry.Block b) h).allowed.0
 
 pub block_fetched : (c : ConfigNumbers) (past : Past) (b : BlockLine) → IsLegal c (Entry.Block b ∷ past)
     → (1 ≤ b.ticket) × (b.ticket ≤ Tickets.tickets past)

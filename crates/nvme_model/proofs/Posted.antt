@@ -1,10 +1,10 @@
 -- What is posted is what the array's answers make of it.
 use Rattle.std.proofs.Common.{◌≡◌, ℕ, suc, ◌+◌, Bool, true, false, not, ◌&&◌, ◌||◌, cond, List, [], ◌∷◌, ◌++◌, refl}
 use Rattle.std.proofs.Common.{sym, ap, ap₂, ◌∙◌, subst, subst₂, Option, Some, None, inl, inr, arith, eqb, ◌<◌}
-use Rattle.std.proofs.Common.{slice_get, bytes_eq}
+use Rattle.std.proofs.Common.{slice_get}
 use Rattle.std.specs.List.{list_any, find, flat_map}
-use Rattle.std.proofs.lemmas.Slice.Eq.{bytes_eq-Decides}
 use Rattle.std.proofs.lemmas.Bool.{and_parts, cond-true, cond-false, cases_Bool, cases_lt}
+use Rattle.plain_lemmas.proofs.Lists.{bytes_eq_true}
 use Rattle.nvme_model.specs.declared.config.ConfigNumbers.{ConfigNumbers}
 use Rattle.nvme_model.specs.Array.{blocks_from}
 use Rattle.nvme_model.specs.Statuses.{is_success}
@@ -36,10 +36,10 @@ use Rattle.nvme_model.proofs.Apart.{ticket_kept}
 use Rattle.nvme_model.proofs.Blocks.{no_blocks, at_key, grants_before, range_before}
 use Rattle.nvme_model.proofs.Pairs.{no_blocks_yet}
 use Rattle.nvme_model.proofs.Effects.{no_effect}
-use Rattle.nvme_model.proofs.Written.{clash}
 use Rattle.nvme_model.proofs.NextPost.{granted_unit, same_range, same_place}
 use Rattle.nvme_model.proofs.BlockLists.{bytes_listed}
 use Rattle.nvme_model.proofs.Sequential.{sequential_is}
+use Rattle.nvme_model.proofs.Cut.{clash}
 
 -- ---- the answer of a unit
 
@@ -168,7 +168,7 @@ flat_numbered f g v (r ∷ rs) h =
     ap₂ (λ (x y : List ℕ). x ++ y) (h 0 v r refl (omega arith))
     (flat_numbered f g (suc v) rs (λ i j s e m. h (suc i) j s e (omega (arith, m))))
 
-flat_none : (xs : List ℕ) → flat_map (contents_at None) xs ≡ []
+pub flat_none : (xs : List ℕ) → flat_map (contents_at None) xs ≡ []
 flat_none [] = refl
 flat_none (x ∷ xs) = flat_none xs
 
@@ -271,9 +271,6 @@ same_status c past t i s h e =
 
 -- ---- the theorems
 
-same_bytes : (xs ys : List ℕ) → bytes_eq xs ys ≡ true → xs ≡ ys
-same_bytes xs ys h = (bytes_eq-Decides xs ys).0 h
-
 pub posted_by_machine : (c : ConfigNumbers) (past : Past) (p : PostLine) → IsLegal c (Entry.Post p ∷ past)
     → IsPosted c past p
 posted_by_machine c past p h =
@@ -287,8 +284,8 @@ posted_by_machine c past p h =
         let a = and_parts _ _ f in (
           s,
           same_status c past p.ticket (posts_of past p.ticket) s b e,
-          same_bytes _ _ a.0,
-          same_bytes _ _ a.1
+          bytes_eq_true _ _ a.0,
+          bytes_eq_true _ _ a.1
               ∙ sym (data_same c past p.ticket s b),
         )
 
@@ -301,4 +298,4 @@ reaped_is_posted c past r h =
     go : (o : Option PostLine) → slice_get (posted_completions c past r.queue) (reaped_count past r.queue) ≡ o
         → is_cqe o r.cqe ≡ true → IsReaped c past r
     go None e f = clash false f refl
-    go (Some p) e f = (p, e, sym (same_bytes _ _ f))
+    go (Some p) e f = (p, e, sym (bytes_eq_true _ _ f))

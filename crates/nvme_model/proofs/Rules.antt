@@ -1,8 +1,8 @@
 -- What it says that an entry may follow.
-use Rattle.std.proofs.Common.{◌≡◌, ℕ, ◌+◌, Bool, true, false, not, cond, List, [], ◌∷◌, refl, ap₂, Option, Some, None}
+use Rattle.std.proofs.Common.{◌≡◌, ℕ, ◌+◌, Bool, true, false, cond, List, [], ◌∷◌, refl, ap₂, Option, Some, None}
 use Rattle.std.proofs.Common.{is_none, eqb-true}
 use Rattle.std.specs.Bool.{beq}
-use Rattle.std.proofs.lemmas.Bool.{and_parts, or_parts}
+use Rattle.std.proofs.lemmas.Bool.{and_parts, not-false, or_parts}
 use Rattle.nvme_model.specs.declared.config.ConfigNumbers.{ConfigNumbers}
 use Rattle.nvme_model.specs.Tables.{first_row}
 use Rattle.nvme_model.specs.History.{Past, step_of}
@@ -15,7 +15,6 @@ use Rattle.nvme_model.specs.declared.array.Range.{Range}
 use Rattle.nvme_model.specs.declared.entry.GrantLine.{GrantLine}
 use Rattle.nvme_model.specs.declared.entry.FetchLine.{FetchLine}
 use Rattle.nvme_model.specs.declared.entry.Entry.{Entry}
-use Rattle.nvme_model.proofs.Bools.{not_false}
 
 abbrev pub NoneHolds : {A : Type 0} → List (Bool × A) → Type 0
 NoneHolds [] = Unit {0}
@@ -82,7 +81,7 @@ may_grant c past g h =
     let b = and_parts _ _ a.0 in
     let none = or_parts _ _ f.allowed.1.0 in
     record {
-      in_flight = not_false _ f.allowed.0;
+      in_flight = not-false _ f.allowed.0;
       left = none.0;
       closed = none.1;
       apart = f.allowed.1.1.0;

@@ -29,7 +29,7 @@ use Rattle.nvme_model.proofs.Rules.{none_holds, follows}
 
 -- ---- the same words
 
-status_same : (s : Status) → same_status s s ≡ true
+pub status_same : (s : Status) → same_status s s ≡ true
 status_same s = and_from _ _ (eq-eqb s.sct s.sct refl) (eq-eqb s.sc s.sc refl)
 
 verdict_same : (v : Verdict) → same_verdict v v ≡ true

@@ -2,6 +2,7 @@
 use Rattle.std.proofs.Common.{◌≡◌, ℕ, ◌+◌, ◌≤◌, Bool, true, false, ◌&&◌, cond, List, [], ◌∷◌, length, map, take, drop}
 use Rattle.std.proofs.Common.{replicate, refl, sym, ap, ap₂, ◌∙◌, subst, Option, Some, None, eqb}
 use Rattle.std.proofs.lemmas.Bool.{and_left, and_right, cond-false}
+use Rattle.std.proofs.Math.Bool.{and-true}
 use Rattle.nvme_model.specs.declared.config.ConfigNumbers.{ConfigNumbers}
 use Rattle.nvme_model.specs.Array.{zeros, blocks_from, has_block}
 use Rattle.nvme_model.specs.History.{Past}
@@ -22,7 +23,7 @@ use Rattle.nvme_model.specs.declared.entry.Entry.{Entry}
 use Rattle.nvme_model.proofs.Lists.{each_filter, each_find}
 use Rattle.nvme_model.proofs.Rules.{follows}
 use Rattle.nvme_model.proofs.Blocks.{may_block}
-use Rattle.nvme_model.proofs.Stepping.{writes_by, and_true}
+use Rattle.nvme_model.proofs.Stepping.{writes_by}
 use Rattle.nvme_model.proofs.Holding.{range_of_entry}
 use Rattle.nvme_model.proofs.Medium.{is_open}
 use Rattle.nvme_model.proofs.BlockLists.{listed, length_listed, listed_same, listed_const, reads, overwrites, compares}
@@ -50,7 +51,7 @@ changed : (o : Option Op) (f : ℕ → List ℕ) (k : Ticket) (r : Range) (n : �
 changed o f k r n w =
     listed_same (with_range f (write_data k) r) (after o f k r) 0 n
     (λ l a b. ap (λ (x : Bool). cond x (write_data k l) (f l))
-    (sym (ap (λ (x : Bool). has_block r l && x) w ∙ and_true (has_block r l))))
+    (sym (ap (λ (x : Bool). has_block r l && x) w ∙ and-true (has_block r l))))
 
 read_answer : (f : ℕ → List ℕ) (r : Range) (n : ℕ) → r.slba + r.blocks ≤ n
     → holds (take r.blocks (drop r.slba (listed f 0 n))) ≡ holds (listed f r.slba r.blocks)

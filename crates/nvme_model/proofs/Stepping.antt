@@ -4,15 +4,17 @@ use Rattle.std.proofs.Common.{refl, sym, ap, ◌∙◌, subst, Option, Some, Non
 use Rattle.std.proofs.Common.{nat_le, nat_lt, leb-true, leb-false, ltb-true, ltb-false}
 use Rattle.std.proofs.lemmas.Bool.{and_left, and_right, or_cases, or_parts, or_from, cond-true, cond-false, cases_Bool}
 use Rattle.std.proofs.lemmas.Bool.{or_right, lt-leb, ne_eqb}
+use Rattle.std.proofs.Math.Bool.{and-true}
 use Rattle.nvme_model.specs.Operations.{is_pair, has_write, has_compare}
 use Rattle.nvme_model.specs.Open.{is_written, is_equal, is_differs}
 use Rattle.nvme_model.specs.Steps.{marked}
 use Rattle.nvme_model.specs.Answered.{may_find}
 use Rattle.nvme_model.specs.declared.operation.Op.{Op}
 use Rattle.nvme_model.specs.declared.operation.Found.{Found}
-use Rattle.nvme_model.proofs.Written.{Writing, medium_after, clash, write_step, write_end, equal_step, pair_write_step}
+use Rattle.nvme_model.proofs.Written.{Writing, medium_after, write_step, write_end, equal_step, pair_write_step}
 use Rattle.nvme_model.proofs.Written.{pair_end}
 use Rattle.nvme_model.proofs.Bools.{or_false}
+use Rattle.nvme_model.proofs.Cut.{clash}
 
 -- the effect of the unit came, after j Blocks; how many of them wrote
 abbrev pub started : Option Op → ℕ → ℕ → Bool
@@ -31,10 +33,6 @@ pub record Stepped (o : Option Op) (f : Found) (s n j l : ℕ) (medium value new
   pub goes_on : (nat_le (needed o n) (suc j) || is_differs f) ≡ false
       → Writing (started o n (suc j)) (written o n (suc j)) s l medium value new
   pub ends : (nat_le (needed o n) (suc j) || is_differs f) ≡ true → medium ≡ value
-
-pub and_true : (b : Bool) → (b && true) ≡ b
-and_true true = refl
-and_true false = refl
 
 pub written_only : (f : Found) → is_written f ≡ true → is_differs f ≡ false
 written_only Found.Written h = refl
@@ -140,7 +138,7 @@ write_case : (f : Found) (effect : Bool) (s n j l lba : ℕ) (same : Bool) (medi
     → Stepped (Some Op.Write) f s n j l (medium_after f lba l new medium) (cond (effect && true) new value) new
 write_case f effect s n j l lba same medium value new h w =
     subst (λ (v : List ℕ). Stepped (Some Op.Write) f s n j l (medium_after f lba l new medium) v new)
-    (ap (λ (b : Bool). cond b new value) (sym (and_true effect)))
+    (ap (λ (b : Bool). cond b new value) (sym (and-true effect)))
     (of_write f effect s n j l lba same medium value new h w)
 
 pub step : (o : Option Op) (f : Found) (effect : Bool) (s n j l lba : ℕ) (same : Bool) (medium value new : List ℕ)

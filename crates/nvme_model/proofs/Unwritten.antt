@@ -30,7 +30,8 @@ use Rattle.nvme_model.proofs.Blocks.{MayBlock, may_block, no_blocks, same_made, 
 use Rattle.nvme_model.proofs.Blocks.{due_lba}
 use Rattle.nvme_model.proofs.Pairs.{no_blocks_yet, goes_on, word_at, compare_word, pair_compares, answered, comparing}
 use Rattle.nvme_model.proofs.Effects.{no_effect, not_both}
-use Rattle.nvme_model.proofs.Written.{clash}
+use Rattle.nvme_model.proofs.Stepping.{written_only}
+use Rattle.nvme_model.proofs.Cut.{clash}
 
 -- ---- words
 
@@ -45,12 +46,6 @@ not_comparing Found.Written w = refl
 not_comparing Found.Equal w = clash true refl (sym w)
 not_comparing Found.Differs w = clash true refl (sym w)
 not_comparing Found.Read w = clash true refl (sym w)
-
-written_differs : (f : Found) → is_written f ≡ true → is_differs f ≡ false
-written_differs Found.Written w = refl
-written_differs Found.Equal w = refl
-written_differs Found.Read w = refl
-written_differs Found.Differs w = sym w
 
 -- a pair's word after its compares
 late_word : (o : Option Op) (n j : ℕ) (f : Found) → is_pair o ≡ true → n ≤ j → may_find o n j f ≡ true
@@ -201,7 +196,7 @@ late_own past b g m ih p w =
     let n = (unit_range past b.ticket b.unit).blocks in
     let going = (or_parts _ (list_any (λ x. is_differs x.found) made) (goes_on past b g m)).1 in
     elim (cases_Bool (is_written b.found)) [
-      | inl x ↦ record { all = enough x; none = or_from _ _ (written_differs b.found x) going }
+      | inl x ↦ record { all = enough x; none = or_from _ _ (written_only b.found x) going }
       | inr x ↦ clash (is_written b.found)
           (late_word (op (Tickets.ticket past b.ticket)) n (length made) b.found p (ih p (rest x w)).all
           (word_at past b g m)) x

@@ -6,16 +6,13 @@ use Rattle.std.proofs.Math.Nat.{mod-eq-sub-mod}
 use Rattle.std.proofs.lemmas.Bool.{and_from, and_left, and_right, cond-true, cond-false, cases_eq, lt-leb}
 use Rattle.nvme_model.specs.Open.{is_written}
 use Rattle.nvme_model.specs.declared.operation.Found.{Found}
+use Rattle.nvme_model.proofs.Cut.{clash}
 
 -- st: the effect came. w: how many blocks were written
 pub record Writing (st : Bool) (w s l : ℕ) (medium value new : List ℕ) : Type 0 where
   pub not_yet : st ≡ false → medium ≡ value
   pub gives : st ≡ true → value ≡ new
   pub lies : st ≡ true → l < s + w → medium ≡ new
-
-pub clash : {A : Type 0} (b : Bool) → b ≡ true → b ≡ false → A
-clash true t f = absurd (let g = f in cc)
-clash false t f = absurd (let g = t in cc)
 
 -- the volume after a `written` of block `lba`
 abbrev pub medium_after : Found → ℕ → ℕ → List ℕ → List ℕ → List ℕ

@@ -1,5 +1,7 @@
 //! What a ticket does with its blocks, and what one Block step finds.
 
+// A single command's operation is an `Op` too, and `IsSound` says that it isn't the pair's: a type
+// of the other four would be turned into `Op` everywhere.
 /// What a ticket does with its blocks.
 #[derive(Clone, Copy, Debug, PartialEq, Eq)]
 pub enum Op {

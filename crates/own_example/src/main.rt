@@ -1,4 +1,5 @@
-//! Two hosts of one controller, which swap the same block, one after the other.
+//! Two hosts that own their ports, for programs that can't borrow an engine: they swap the same block, one after the
+//! other.
 #![tactic(auto)]
 
 ghost use Rattle.std.specs.Arc.{arc_value};
@@ -7,11 +8,10 @@ ghost use Rattle.driver_cas.specs.Drivers.{IsCallOf};
 ghost use Rattle.history.specs.Config.{config_numbers};
 ghost use Rattle.work_queue.specs.Engines.{IsFreshPass, IsPassOfEngine, IsWorkOf};
 
-use driver_cas::{Call, Driver, Poll, Reply};
+use driver_cas::{Call, Driver, OwnPort, Poll, Reply};
 use history::Config;
 use meet_lock::Pass;
 use nvme_model::array::Range;
-use own_port::OwnPort;
 use std::alloc::Global;
 use std::process::ExitCode;
 use std::sync::Arc;

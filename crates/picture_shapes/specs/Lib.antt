@@ -1,3 +1,8 @@
+pub mod Contents
+pub mod LaneEntries
+pub mod Blocks
+pub mod Beliefs
+pub mod Lanes
 pub mod Rows
 pub mod Bars
 pub mod TicketBoxes

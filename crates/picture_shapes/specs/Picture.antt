@@ -6,7 +6,7 @@ use Rattle.nvme_model.specs.History.{Past}
 use Rattle.nvme_model.specs.declared.config.ConfigNumbers.{ConfigNumbers}
 use Rattle.nvme_model.specs.declared.entry.Entry.{Entry}
 use Rattle.history_words.specs.Told.{entry_told}
-use Rattle.lane_shapes.specs.Lanes.{LanesState, lanes_after, no_lanes}
+use Rattle.picture_shapes.specs.Lanes.{LanesState, lanes_after, no_lanes}
 use Rattle.picture_shapes.specs.Bars.{BarsState, bars_after, no_bars}
 use Rattle.picture_shapes.specs.TicketBoxes.{TicketBoxesState, no_tickets, tickets_after}
 use Rattle.picture_shapes.specs.declared.head.Head.{Head}

@@ -5,10 +5,10 @@ ghost use Rattle.picture_shapes.specs.Picture.{no_picture, picture_after, pictur
 
 use crate::bars::Bars;
 use crate::head::{Head, head_of};
+use crate::lanes::{Lanes, LanesShown};
 use crate::picture_words::PictureWords;
 use crate::ticket_boxes::TicketBoxes;
 use history::{Config, Entry};
-use lane_shapes::{Lanes, LanesShown};
 use std::alloc::{AllocError as NoMemory, Global};
 use std::marker::Model;
 

@@ -11,11 +11,11 @@ use Rattle.picture_shapes.specs.declared.bar.Cell.{Cell}
 use Rattle.picture_shapes.specs.declared.bar.EntryFetch.{EntryFetch}
 use Rattle.picture_shapes.specs.declared.bar.OpenBar.{OpenBar}
 use Rattle.picture_shapes.specs.declared.bar.Posting.{Posting}
-use Rattle.svg_pieces.specs.Boxes.{rect_svg, words_svg}
-use Rattle.svg_pieces.specs.Pieces.{escaped}
+use Rattle.picture_svg.specs.Boxes.{rect_svg, words_svg}
+use Rattle.picture_svg.specs.Pieces.{escaped}
 use Rattle.picture_svg.specs.Scale.{ScaleState, top_at}
-use Rattle.svg_pieces.specs.Columns.{column_left, left_end_of, right_end_of, room}
-use Rattle.svg_pieces.specs.declared.boxes.Frame.{Frame}
+use Rattle.picture_svg.specs.Columns.{column_left, left_end_of, right_end_of, room}
+use Rattle.picture_svg.specs.declared.boxes.Frame.{Frame}
 
 -- the rectangle between these ends
 abbrev pub frame : (left right top height : ℕ) → Frame

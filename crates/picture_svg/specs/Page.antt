@@ -4,12 +4,12 @@ use Rattle.std.specs.Prelude.{◌+◌, ◌∷◌}
 use Rattle.std.specs.List.{concat}
 use Rattle.picture_shapes.specs.Picture.{PictureState}
 use Rattle.picture_shapes.specs.declared.picture.BadColumn.{BadColumn}
-use Rattle.picture_svg.specs.Columns.{bad_svg, head_svg}
+use Rattle.picture_svg.specs.ColumnHeads.{bad_svg, head_svg}
 use Rattle.picture_svg.specs.Entries.{bar_svg, cell_svg, open_svg}
-use Rattle.lane_svg.specs.Lanes as lane_text
-use Rattle.picture_svg.specs.Lanes.{queue_names_svg, tickets_lane_svg}
+use Rattle.picture_svg.specs.LaneRows as lane_text
+use Rattle.picture_svg.specs.LaneNames.{queue_names_svg, tickets_lane_svg}
 use Rattle.picture_svg.specs.Scale.{ScaleState, bottom_of, scale_of}
-use Rattle.svg_pieces.specs.Columns.{edge_of}
+use Rattle.picture_svg.specs.Columns.{edge_of}
 use Rattle.picture_svg.specs.Seen.{seen_svg}
 use Rattle.picture_svg.specs.Tickets.{flying_svg, ticket_box_svg, unit_svg}
 use Rattle.picture_svg.specs.declared.style.TheConstants.{BARS, MARKS, STYLE}

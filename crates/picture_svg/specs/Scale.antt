@@ -2,12 +2,12 @@
 use Rattle.std.specs.Prelude.{List, None, Option, Some, [], length, min, nat_lt, slice_get, take, ℕ}
 use Rattle.std.specs.Prelude.{◌+◌, ◌-◌, ◌==◌, ◌∷◌}
 use Rattle.std.specs.List.{count_by}
-use Rattle.lane_shapes.specs.Lanes.{LanesState}
-use Rattle.lane_svg.specs.Layout.{LayoutState, layout_of, rows_below}
+use Rattle.picture_shapes.specs.Lanes.{LanesState}
+use Rattle.picture_svg.specs.Layout.{LayoutState, layout_of, rows_below}
 use Rattle.picture_shapes.specs.Picture.{PictureState}
 use Rattle.picture_shapes.specs.declared.rows.LaneRow.{LaneRow}
-use Rattle.svg_pieces.specs.Columns.{top_of}
-use Rattle.svg_pieces.specs.declared.columns.Columns.{Columns}
+use Rattle.picture_svg.specs.Columns.{top_of}
+use Rattle.picture_svg.specs.declared.columns.Columns.{Columns}
 
 -- The place of the first column, how many columns there are, the tops of the rows of the submission queues, of the
 -- completion queues and of the tickets, by row, where the lanes of blocks and of slots lie, and the end of all rows.

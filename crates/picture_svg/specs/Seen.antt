@@ -4,7 +4,7 @@ use Rattle.std.specs.List.{concat}
 use Rattle.picture_shapes.specs.declared.head.Head.{Head}
 use Rattle.picture_shapes.specs.declared.head.EntryKind.{EntryKind}
 use Rattle.picture_shapes.specs.declared.picture.Subject.{Subject}
-use Rattle.svg_pieces.specs.Columns.{column_left}
+use Rattle.picture_svg.specs.Columns.{column_left}
 use Rattle.picture_svg.specs.Scale.{ScaleState, bottom_of}
 use Rattle.picture_svg.specs.declared.style.TheConstants.{SEEN_STYLE}
 

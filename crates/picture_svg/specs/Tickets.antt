@@ -5,10 +5,10 @@ use Rattle.history_words.specs.Texts.{blocks_told}
 use Rattle.picture_shapes.specs.declared.ticket_boxes.OpenTicket.{OpenTicket}
 use Rattle.picture_shapes.specs.declared.ticket_boxes.TicketBox.{TicketBox}
 use Rattle.picture_shapes.specs.declared.ticket_boxes.UnitBox.{UnitBox}
-use Rattle.svg_pieces.specs.Boxes.{rect_svg}
+use Rattle.picture_svg.specs.Boxes.{rect_svg}
 use Rattle.picture_svg.specs.Entries.{frame}
 use Rattle.picture_svg.specs.Scale.{ScaleState, top_at}
-use Rattle.svg_pieces.specs.Columns.{left_end_of, right_end_of}
+use Rattle.picture_svg.specs.Columns.{left_end_of, right_end_of}
 
 -- The box of a ticket, from its Fetch to its last Post.
 abbrev pub ticket_box_svg : ScaleState → TicketBox → List ℕ

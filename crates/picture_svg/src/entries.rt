@@ -7,14 +7,16 @@ ghost use Rattle.picture_svg.specs.Entries.{open_svg, posting_place, posted_svg,
 ghost use Rattle.picture_svg.specs.Entries.{ticket_svg, title_svg, wait_svg};
 ghost use Rattle.history.specs.Marks.{found_word};
 
+use crate::boxes::{Frame, push_rect, push_words};
+use crate::columns::room;
 use crate::drawn::Drawn;
+use crate::pieces::{Piece, push_all};
 use crate::scale::Scale;
 use history_words::status_name;
 use nvme_model::operation::Found;
 use nvme_model::status::Status;
 use picture_shapes::{Bar, Cell, OpenBar, Posting};
 use std::alloc::AllocError as NoMemory;
-use svg_pieces::{Frame, Piece, push_all, push_rect, push_words, room};
 
 // The class of a completion: one that says success, or another.
 fn status_class(status: Status) -> &'static [u8]

@@ -1,14 +1,35 @@
-//! The picture of a history as SVG text.
+//! Draws a history as SVG text, for the program: its steps in columns, with lanes of blocks and of slots.
 #![tactic(auto)]
 
+mod boxes;
+mod column_heads;
 mod columns;
+mod drawer;
+mod drawing;
 mod drawn;
 mod entries;
-mod lanes;
+mod fault;
+mod lane_boxes;
+mod lane_names;
+mod lane_rows;
+mod lane_style;
+mod layout;
 mod page;
+mod pieces;
+mod reading;
 mod scale;
 mod seen;
+mod slot_holders;
+mod spans;
 mod style;
 mod tickets;
 
+pub use crate::boxes::{Frame, push_rect, push_words};
+pub use crate::columns::{Columns, room, top_of};
+pub use crate::drawer::DrawOptions;
+pub use crate::drawing::draw_text;
+pub use crate::fault::DrawFault;
+pub use crate::lane_rows::push_lanes;
+pub use crate::layout::Layout;
 pub use crate::page::picture_text;
+pub use crate::pieces::{Piece, push_all};

@@ -8,16 +8,16 @@ ghost use Rattle.picture_svg.specs.Page.{picture_svg, shapes_svg, size_svg, tick
 ghost use Rattle.picture_svg.specs.Page.{width_of};
 ghost use Rattle.picture_svg.specs.Scale.{bottom_of};
 
-use crate::columns::push_bad;
+use crate::column_heads::push_bad;
 use crate::drawn::push_each;
-use crate::lanes::{push_lanes, push_tickets_lane};
+use crate::lane_names::{push_lanes, push_tickets_lane};
+use crate::lane_rows::push_lanes as push_block_lanes;
+use crate::pieces::{Piece, push_all};
 use crate::scale::Scale;
 use crate::seen::push_seen;
 use crate::style::{BARS, MARKS, STYLE, bars_note, marks_note, style};
-use lane_svg::push_lanes as push_block_lanes;
 use picture_shapes::Picture;
 use std::alloc::{AllocError as NoMemory, Global};
-use svg_pieces::{Piece, push_all};
 
 // How many bytes the words of the first bad step have.
 fn bad_length(picture: &Picture) -> u64

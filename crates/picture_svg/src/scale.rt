@@ -2,15 +2,14 @@
 
 ghost use Rattle.std.specs.Prelude.{◌≡◌, ◌==◌, ◌-◌, ◌≤◌, IfOk, length, min, nat_lt};
 ghost use Rattle.std.specs.List.{count_by};
-ghost use Rattle.svg_pieces.specs.Columns.{column_left, edge_of, left_end_of, right_end_of};
+ghost use Rattle.picture_svg.specs.Columns.{column_left, edge_of, left_end_of, right_end_of};
 ghost use Rattle.picture_svg.specs.Scale.{bottom_of, scale_by, scale_of, top_at, tops};
 
-use lane_shapes::Lanes;
-use lane_svg::Layout;
-use picture_shapes::{LaneRow, Picture};
+use crate::columns::{Columns, top_of};
+use crate::layout::Layout;
+use picture_shapes::{LaneRow, Lanes, Picture};
 use std::alloc::{AllocError as NoMemory, Global};
 use std::marker::Model;
-use svg_pieces::{Columns, top_of};
 
 /// Where columns and rows lie, in pixels.
 #[derive(Debug, Drop)]

@@ -4,11 +4,11 @@ ghost use Rattle.std.specs.Prelude.{◌≡◌, ◌++◌, OnOk, flat_map};
 ghost use Rattle.picture_svg.specs.Seen.{band_svg, is_seen, seen_head, seen_svg, witness_svg};
 ghost use Rattle.picture_svg.specs.declared.style.TheConstants.{SEEN_STYLE};
 
+use crate::pieces::{Piece, push_all};
 use crate::scale::Scale;
 use crate::style::{SEEN_STYLE, seen_style};
 use picture_shapes::{EntryKind, Head, Picture, Subject};
 use std::alloc::AllocError as NoMemory;
-use svg_pieces::{Piece, push_all};
 
 // Whether hosts see a step of this kind.
 fn is_seen(kind: EntryKind) -> bool

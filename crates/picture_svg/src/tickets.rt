@@ -4,11 +4,12 @@ ghost use Rattle.std.specs.Prelude.{◌≡◌, ◌++◌, OnOk};
 ghost use Rattle.picture_svg.specs.Tickets.{flying_svg, number_svg, unit_range_told, ticket_box_svg, unit_here_svg};
 ghost use Rattle.picture_svg.specs.Tickets.{unit_svg};
 
+use crate::boxes::{Frame, push_rect};
 use crate::drawn::Drawn;
+use crate::pieces::{Piece, push_all};
 use crate::scale::Scale;
 use picture_shapes::{OpenTicket, TicketBox, UnitBox};
 use std::alloc::AllocError as NoMemory;
-use svg_pieces::{Frame, Piece, push_all, push_rect};
 
 impl Drawn for TicketBox {
     ghost svg = { ticket_box_svg };

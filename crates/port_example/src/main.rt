@@ -1,4 +1,4 @@
-//! A port of one's own, and a driver over it: a device that answers each command at once with success.
+//! A port of one's own, for whoever drives a real device, and a driver over it: each command succeeds at once.
 #![tactic(auto)]
 
 ghost use Rattle.std.specs.Prelude.{◌≡◌, IfSome, length};

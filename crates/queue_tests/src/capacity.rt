@@ -1,9 +1,9 @@
 //! Queues of one place and of sixteen.
 
 ghost use Rattle.std.specs.Prelude.{◌<◌, IfOk};
-ghost use Rattle.lock_rows.specs.Callers.{IsCrewOf, IsFreshWork, IsTestCallerOf};
+ghost use Rattle.lock_testing.specs.Callers.{IsCrewOf, IsFreshWork, IsTestCallerOf};
 
-use lock_rows::{
+use lock_testing::{
     ONE_QUEUE, TestCaller, TestSystem, ThreeCallers, begun, config_of, crewed, flush, pops, pushes,
 };
 use std::alloc::Global;

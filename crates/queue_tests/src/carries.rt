@@ -1,12 +1,12 @@
 //! Every Work that goes through a queue comes out, once and in its pusher's order.
 
 ghost use Rattle.std.specs.Prelude.{◌<◌, All, IfOk};
-ghost use Rattle.lock_rows.specs.Callers.{AreTestSpares, IsTestCallerOf};
+ghost use Rattle.lock_testing.specs.Callers.{AreTestSpares, IsTestCallerOf};
 
 use crate::counts::Counts;
 use crate::crowd::{Ended, Got, WORKS, crowd};
 use crate::ends::entries_of;
-use lock_rows::{SpareCallers, TestCaller, TestSystem, config_of, system_of, take_caller};
+use lock_testing::{SpareCallers, TestCaller, TestSystem, config_of, system_of, take_caller};
 use std::alloc::{AllocError, Global};
 use std::process::Abort;
 use std::sync::Wait;

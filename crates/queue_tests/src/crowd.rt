@@ -1,10 +1,10 @@
 //! Works through one queue, from four threads to four.
 
 ghost use Rattle.std.specs.Prelude.{All, IfOk, IfSome};
-ghost use Rattle.lock_rows.specs.Callers.{IsFreshWork, IsTestCallerOf, IsTestWork};
+ghost use Rattle.lock_testing.specs.Callers.{IsFreshWork, IsTestCallerOf, IsTestWork};
 
 use crate::counts::Counts;
-use lock_rows::{
+use lock_testing::{
     LATE, NO_MEMORY, STRANGE, TestCaller, TestSystem, begun, flush, opens, pops, pushes, works,
 };
 use std::alloc::{AllocError, Global};

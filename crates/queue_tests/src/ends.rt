@@ -1,9 +1,9 @@
 //! An engine is closed, with one of its passes or with all.
 
 ghost use Rattle.std.specs.Prelude.{◌<◌};
-ghost use Rattle.lock_rows.specs.Callers.{IsTestCallerOf};
+ghost use Rattle.lock_testing.specs.Callers.{IsTestCallerOf};
 
-use lock_rows::{ONE_QUEUE, TestCaller, TestSystem, closed, config_of};
+use lock_testing::{ONE_QUEUE, TestCaller, TestSystem, closed, config_of};
 use std::alloc::Global;
 use std::test::Fail;
 use step_core::Core;

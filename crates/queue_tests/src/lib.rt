@@ -1,4 +1,5 @@
-//! Queues of works and notices between callers of an engine, as tests of `work_queue`.
+//! Tests of queues of works and notices between callers of an engine, for `work_queue`. They are apart from
+//! `engine_tests` since the check of each takes minutes.
 //!
 //! - `capacity`, `notices`: queues hold as many works and notices as they have places.
 //! - `carries`: works through one queue, from four threads to four.

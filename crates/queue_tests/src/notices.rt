@@ -5,9 +5,9 @@ ghost use Rattle.meet_lock.specs.Passes.{config_of, seen};
 ghost use Rattle.nvme_model.specs.Passes.{entries};
 ghost use Rattle.work_queue.specs.Notices.{IsNoticeOf};
 ghost use Rattle.work_queue.specs.Posted.{IsAnswerPosted};
-ghost use Rattle.lock_rows.specs.Callers.{IsTestCallerOf};
+ghost use Rattle.lock_testing.specs.Callers.{IsTestCallerOf};
 
-use lock_rows::{
+use lock_testing::{
     ONE_QUEUE, TestCaller, TestSystem, attempt, begun, config_of, crewed, flush, noted, opens,
     system_of, take_caller,
 };

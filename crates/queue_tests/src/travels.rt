@@ -2,10 +2,10 @@
 
 ghost use Rattle.std.specs.Prelude.{◌≡◌};
 ghost use Rattle.meet_lock.specs.Passes.{seen};
-ghost use Rattle.lock_rows.specs.Callers.{IsCrewOf, IsTestCallerOf, IsTestWork};
+ghost use Rattle.lock_testing.specs.Callers.{IsCrewOf, IsTestCallerOf, IsTestWork};
 
 use crate::ends::entries_of;
-use lock_rows::{
+use lock_testing::{
     Command, ONE_QUEUE, TestCaller, TestSystem, ThreeCallers, WRITE, begun, config_of, crewed,
     learns, opens, pops, pushes, works,
 };

@@ -1,4 +1,5 @@
-//! Checks the numbers of a race of hosts, and makes the configuration that they share.
+//! Checks the numbers of a race, for the command line and for `race`, and makes the configuration that its hosts share.
+//! It is a crate of its own so that the command line needn't wait for `race`.
 #![tactic(auto)]
 
 mod bias;

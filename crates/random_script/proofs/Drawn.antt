@@ -5,13 +5,13 @@ use Rattle.std.specs.Prelude.{OnErr, OnOk}
 use Rattle.std.specs.Io.KnownBytes.{Appends}
 use Rattle.std.proofs.lemmas.List.Elements.{All-push}
 use Rattle.line_text.specs.Known.{AppendsFront}
-use Rattle.history_text.specs.declared.printing.PrintFault.{PrintFault}
+use Rattle.history.specs.declared.printing.PrintFault.{PrintFault}
 use Rattle.nvme_model.specs.declared.config.ConfigNumbers.{ConfigNumbers}
 use Rattle.random_script.specs.Kinds.{IsOfKind}
 use Rattle.random_script.specs.Scripts.{AreOfKind, WritesScript}
 use Rattle.random_script.specs.declared.script_kind.ScriptKind.{ScriptKind}
-use Rattle.script_text.specs.Texts.{IsScriptLine, script_text}
-use Rattle.script_text.specs.declared.written.WrittenLine.{WrittenLine}
+use Rattle.script_lines.specs.Texts.{IsScriptLine, script_text}
+use Rattle.script_lines.specs.declared.written.WrittenLine.{WrittenLine}
 
 -- no line
 pub none_drawn : (kind : ScriptKind) → AreOfKind kind 0 []

@@ -2,12 +2,12 @@
 use Rattle.std.specs.Prelude.{ℕ, List, Option, Result, Ok, Err, All, length, ◌≡◌, ◌⊎◌}
 use Rattle.std.specs.Io.KnownBytes.{Appends, Keeps}
 use Rattle.line_text.specs.Known.{AppendsFront}
-use Rattle.history_text.specs.declared.printing.PrintFault.{PrintFault}
+use Rattle.history.specs.declared.printing.PrintFault.{PrintFault}
 use Rattle.nvme_model.specs.declared.config.ConfigNumbers.{ConfigNumbers}
 use Rattle.random_script.specs.Kinds.{IsOfKind}
 use Rattle.random_script.specs.declared.script_kind.ScriptKind.{ScriptKind}
-use Rattle.script_text.specs.Texts.{IsScriptLine, script_text}
-use Rattle.script_text.specs.declared.written.WrittenLine.{WrittenLine}
+use Rattle.script_lines.specs.Texts.{IsScriptLine, script_text}
+use Rattle.script_lines.specs.declared.written.WrittenLine.{WrittenLine}
 
 -- So many lines, each of this kind.
 pub record AreOfKind (kind : ScriptKind) (count : ℕ) (lines : List WrittenLine) : Type 0 where

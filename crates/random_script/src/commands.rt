@@ -2,14 +2,14 @@
 
 ghost use Rattle.std.specs.Prelude.{◌≡◌, ◌≢◌, ◌≤◌, IfOk};
 ghost use Rattle.random_script.specs.Kinds.{IsSingleCommand, IsLong, IsPair, IsShort};
-ghost use Rattle.script_text.specs.declared.written.CommandWord.{CommandWord as TheName};
-ghost use Rattle.script_text.specs.declared.written.EntryForm.{EntryForm as TheForm};
+ghost use Rattle.script_lines.specs.declared.written.CommandWord.{CommandWord as TheName};
+ghost use Rattle.script_lines.specs.declared.written.EntryForm.{EntryForm as TheForm};
 
 use crate::data::{drawn_data, held_data};
 use entry_codec::Fuse;
 use nvme_model::submission::Payload;
 use random_numbers::RandomNumbers;
-use script_text::{CommandWord, EntryForm, WrittenCommand, WrittenEntry};
+use script_lines::{CommandWord, EntryForm, WrittenCommand, WrittenEntry};
 use std::alloc::{AllocError as NoMemory, Global};
 use step_core::Core;
 

@@ -7,7 +7,7 @@ use crate::commands::{drawn_alone, drawn_extent};
 use crate::data::drawn_data;
 use nvme_model::submission::Payload;
 use random_numbers::RandomNumbers;
-use script_text::{EntryForm, WrittenEntry, submission_of};
+use script_lines::{EntryForm, WrittenEntry, submission_of};
 use std::alloc::{AllocError as NoMemory, Global};
 use step_core::Core;
 

@@ -1,4 +1,5 @@
-//! Draws scripts by a seed: lines of a kind, of which a controller accepts about nine steps in ten.
+//! Draws scripts by a seed, for tests of a controller: lines of a kind, of which a controller accepts about nine steps
+//! in ten.
 #![tactic(auto)]
 
 mod commands;

@@ -9,7 +9,7 @@ use crate::hostile::drawn_hostile;
 use crate::script_kind::ScriptKind;
 use crate::swaps::drawn_swap;
 use random_numbers::RandomNumbers;
-use script_text::PublishWords;
+use script_lines::PublishWords;
 use std::alloc::{AllocError as NoMemory, Global};
 use step_core::Core;
 

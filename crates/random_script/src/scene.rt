@@ -1,10 +1,10 @@
 //! A controller beside the script, which says what each line would do.
 
-use controller_steps::{Answer, Kind as WorkKind, Refused, Work};
+use controller_interface::{Answer, Kind as WorkKind, Refused, Work};
 use history::Config;
 use nvme_model::refusal::Why;
 use nvme_model::step::Step;
-use script_text::{WrittenLine, step_asked};
+use script_lines::{WrittenLine, step_asked};
 use std::alloc::{AllocError as NoMemory, Global};
 use step_core::Core;
 

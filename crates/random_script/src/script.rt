@@ -6,10 +6,9 @@ ghost use Rattle.random_script.specs.Scripts.{AreOfKind, WritesScript};
 use crate::scene::Scene;
 use crate::script_kind::ScriptKind;
 use crate::steps::drawn_line;
-use history::Config;
-use history_text::PrintFault;
+use history::{Config, PrintFault};
 use random_numbers::RandomNumbers;
-use script_text::{WrittenLine, print_script};
+use script_lines::{WrittenLine, print_script};
 use std::alloc::{AllocError as NoMemory, Global};
 use std::io::Write;
 

@@ -7,7 +7,7 @@ use crate::publishing::drawn_publish;
 use crate::scene::Scene;
 use crate::script_kind::ScriptKind;
 use random_numbers::RandomNumbers;
-use script_text::WrittenLine;
+use script_lines::WrittenLine;
 use std::alloc::AllocError as NoMemory;
 
 /// What a line does, but for lines that only look.

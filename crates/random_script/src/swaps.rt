@@ -9,7 +9,7 @@ use crate::commands::{TwoEntries, drawn_cid};
 use entry_codec::Fuse;
 use nvme_model::submission::Payload;
 use random_numbers::RandomNumbers;
-use script_text::{CommandWord, EntryForm, WrittenCommand, WrittenEntry};
+use script_lines::{CommandWord, EntryForm, WrittenCommand, WrittenEntry};
 use std::alloc::{AllocError as NoMemory, Global};
 use step_core::Core;
 

@@ -1,24 +1,21 @@
 -- Any two that are held.
 use Rattle.std.proofs.Common.{◌≡◌, ◌≢◌, ℕ, zero, suc, ◌+◌, ◌≤◌, ◌<◌, ◌↔◌, Bool, true, false, ◌&&◌, ◌||◌, List, [], ◌∷◌}
-use Rattle.std.proofs.Common.{None, Some, refl, sym, ap, ◌∙◌, arith, inl, inr, slice_get, eq-eqb, ltb-true, lt-ltb}
-use Rattle.std.proofs.Common.{le-ltb, le-leb, leb-true, nat_le, nat_lt, ◌==◌, true≢false}
+use Rattle.std.proofs.Common.{None, Some, refl, sym, ap, ◌∙◌, arith, inl, inr, slice_get, eq-eqb, ltb-true}
+use Rattle.std.proofs.Common.{le-ltb, leb-true, nat_le, nat_lt, ◌==◌, true≢false}
 use Rattle.std.specs.List.{list_any}
 use Rattle.std.proofs.lemmas.Bool.{and_from, and_parts, and_right, cases_lt, false_from_ne_true, or_left, or_parts}
+use Rattle.std.proofs.Math.Bool.{and_comm}
 use Rattle.nvme_model.specs.Array.{has_block, overlap}
 use Rattle.nvme_model.specs.Open.{conflict}
 use Rattle.nvme_model.specs.Operations.{is_exclusive}
 use Rattle.nvme_model.specs.declared.array.Mode.{Mode}
 use Rattle.nvme_model.specs.declared.array.Range.{Range}
+use Rattle.nvme_model.proofs.HasBlock.{has_inside}
+use Rattle.nvme_model.proofs.Holding.{both_overlap}
 use Rattle.range_reserve.specs.declared.held.HeldRange.{HeldRange}
 use Rattle.range_reserve.specs.Reserved.{AreApart}
 
 -- ---- two ranges
-
-and_turned : (a b : Bool) → (a && b) ≡ (b && a)
-and_turned true true = refl
-and_turned true false = refl
-and_turned false true = refl
-and_turned false false = refl
 
 or_turned : (a b : Bool) → (a || b) ≡ (b || a)
 or_turned true true = refl
@@ -30,9 +27,9 @@ or_turned false false = refl
 overlap-turned : (r s : Range) → overlap r s ≡ overlap s r
 overlap-turned r s =
     ap (λ b. b && (nat_lt r.slba (s.slba + s.blocks) && nat_lt s.slba (r.slba + r.blocks)))
-    (and_turned (nat_lt 0 r.blocks) (nat_lt 0 s.blocks))
+    (and_comm (nat_lt 0 r.blocks) (nat_lt 0 s.blocks))
     ∙ ap (λ b. (nat_lt 0 s.blocks && nat_lt 0 r.blocks) && b)
-    (and_turned (nat_lt r.slba (s.slba + s.blocks)) (nat_lt s.slba (r.slba + r.blocks)))
+    (and_comm (nat_lt r.slba (s.slba + s.blocks)) (nat_lt s.slba (r.slba + r.blocks)))
 
 pub conflict-turned : (r : Range) (m : Mode) (s : Range) (n : Mode) → conflict r m s n ≡ conflict s n r m
 conflict-turned r m s n =
@@ -49,19 +46,6 @@ has_parts r l h =
     let k : (nat_le r.slba l ≡ true) × (nat_lt l (r.slba + r.blocks) ≡ true) =
     and_parts (nat_le r.slba l) (nat_lt l (r.slba + r.blocks)) h in
     record { from = leb-true r.slba l k.0; below = ltb-true l (r.slba + r.blocks) k.1 }
-
-has_from : (r : Range) (l : ℕ) → r.slba ≤ l → l < r.slba + r.blocks → has_block r l ≡ true
-has_from r l a b = and_from _ _ (le-leb r.slba l a) (lt-ltb l (r.slba + r.blocks) b)
-
-overlap_from : (r s : Range) (l : ℕ) → has_block r l ≡ true → has_block s l ≡ true → overlap r s ≡ true
-overlap_from r s l h k =
-    let a : Has r l = has_parts r l h in
-    let b : Has s l = has_parts s l k in
-    and_from _ _
-    (and_from _ _ (lt-ltb 0 r.blocks (omega (arith, a.from, a.below)))
-    (lt-ltb 0 s.blocks (omega (arith, b.from, b.below))))
-    (and_from _ _ (lt-ltb r.slba (s.slba + s.blocks) (omega (arith, a.from, b.below)))
-    (lt-ltb s.slba (r.slba + r.blocks) (omega (arith, b.from, a.below))))
 
 -- what overlapping ranges are
 record Overlaps (r s : Range) : Type 0 where
@@ -89,15 +73,15 @@ shared r s o =
     elim (cases_lt r.slba s.slba) [
       | inl e ↦ (
         s.slba,
-        has_from r s.slba (omega (arith, e)) k.second,
-        has_from s s.slba (omega arith) (omega (arith, k.others)),
+        has_inside r s.slba (omega (arith, e)) k.second,
+        has_inside s s.slba (omega arith) (omega (arith, k.others)),
       )
-      | inr e ↦ (r.slba, has_from r r.slba (omega arith) (omega (arith, k.some)), has_from s r.slba e k.first)
+      | inr e ↦ (r.slba, has_inside r r.slba (omega arith) (omega (arith, k.some)), has_inside s r.slba e k.first)
     ]
 
 -- ranges overlap where they share a block
 pub overlap_shared : (r s : Range) → (overlap r s ≡ true) ↔ ((l : ℕ) × (has_block r l ≡ true) × (has_block s l ≡ true))
-overlap_shared r s = (shared r s, λ k. overlap_from r s k.0 k.1 k.2)
+overlap_shared r s = (shared r s, λ k. both_overlap r s k.0 k.1 k.2)
 
 pub overlap_touching : (r s : Range) → r.slba + r.blocks ≡ s.slba → overlap r s ≡ false
 overlap_touching r s e =
@@ -147,4 +131,4 @@ pub alone : (g h : HeldRange) (l : ℕ) → ArePair g h → is_exclusive g.mode 
     → has_block h.range l ≡ false
 alone g h l p x b = false_from_ne_true (has_block h.range l) (λ (k : has_block h.range l ≡ true).
     true≢false (sym (and_from (overlap g.range h.range) (is_exclusive g.mode || is_exclusive h.mode)
-    (overlap_from g.range h.range l b k) (or_left (is_exclusive g.mode) (is_exclusive h.mode) x)) ∙ p.conflict))
+    (both_overlap g.range h.range l b k) (or_left (is_exclusive g.mode) (is_exclusive h.mode) x)) ∙ p.conflict))

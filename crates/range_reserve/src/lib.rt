@@ -1,4 +1,5 @@
-//! Keeps which ranges of blocks tickets hold, each alone or beside others, for the controller and a checker.
+//! Keeps which ranges of blocks tickets hold, for a controller and for a checker, and refuses a range that conflicts
+//! with one.
 #![tactic(auto)]
 
 mod conflicts;

@@ -20,6 +20,8 @@ use std::marker::Model;
 /// Each ticket holds one range at most, and no two ranges conflict: they share no block, or both are Shared.
 #[derive(Drop)]
 pub struct Ranges {
+    // To take an entry out would move all behind it, and the next grant would move them back. One
+    // without blocks conflicts with none, so nothing else has to know of it.
     /// By rising ticket. What was let go stays here and in the other list, with no blocks, until a grant takes its
     /// place.
     tickets: Vec<HeldRange>,

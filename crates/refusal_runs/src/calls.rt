@@ -4,11 +4,11 @@ ghost use Rattle.std.specs.Prelude.{◌≡◌, IfSome};
 ghost use Rattle.driver_cas.specs.Drivers.{IsCallOf};
 ghost use Rattle.history.specs.Config.{config_numbers};
 ghost use Rattle.work_queue.specs.Engines.{IsWorkOf};
-ghost use Rattle.driver_rows.specs.Benches.{AreBenchSpares, IsBenchHost, IsServerOf};
+ghost use Rattle.driver_testing.specs.Benches.{AreBenchSpares, IsBenchHost, IsServerOf};
 
 use crate::runs::TURNS;
 use driver_cas::{Call, Fault, SharedPort};
-use driver_rows::{
+use driver_testing::{
     AnswerWords, Ask, Bench, BenchHost, BenchSpares, Fill, Server, caller_of, fetches, hears,
     host_of, makes, polls, starts,
 };

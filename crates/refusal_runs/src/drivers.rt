@@ -2,12 +2,12 @@
 
 ghost use Rattle.std.specs.Prelude.{◌≡◌, IfSome};
 ghost use Rattle.history.specs.Config.{config_numbers};
-ghost use Rattle.driver_rows.specs.Benches.{AreBenchSpares, IsServerOf};
+ghost use Rattle.driver_testing.specs.Benches.{AreBenchSpares, IsServerOf};
 
 use crate::calls::are_answered;
 use crate::runs::TURNS;
 use crate::slots::are_granted;
-use driver_rows::{Bench, BenchSpares, Server, bench_of, caller_of};
+use driver_testing::{Bench, BenchSpares, Server, bench_of, caller_of};
 use history::Config;
 use std::alloc::Global;
 use std::sync::Wait;

@@ -1,7 +1,7 @@
 //! A Write of many blocks.
 
 use history::{Config, read_config_line};
-use lock_rows::LARGE;
+use lock_testing::LARGE;
 use script_lines::{ScriptLine, read_script_line};
 use std::alloc::{AllocError as NoMemory, Global};
 use step_core::{Core, Step};

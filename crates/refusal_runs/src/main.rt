@@ -1,4 +1,5 @@
-//! Makes a worked run whose allocations may be refused from outside, and shows its history.
+//! A program for `bench/peer/refusals`: it makes a worked run whose allocations may be refused from outside, and shows
+//! its history.
 //!
 //! refusal_runs WAY ROW PLACE: WAY is `script` (shows the run as a script), `steps` (by a controller), `attempts` (by
 //! the one pass of a lock), `works` (by an engine and its queues), `together` (in one call) or `promised` (PLACE steps,

@@ -1,11 +1,11 @@
 //! Calls of an engine and its queues that take no memory.
 
 ghost use Rattle.std.specs.Prelude.{IfSome};
-ghost use Rattle.lock_rows.specs.Callers.{IsCrewOf, IsFreshWork};
+ghost use Rattle.lock_testing.specs.Callers.{IsCrewOf, IsFreshWork};
 
 use crate::script::{RefusalRun, run_of};
 use crate::works::{closes, ends, fetched, manned, publishes};
-use lock_rows::{CONFIG, TestSystem, ThreeCallers, learns, pops, pushes};
+use lock_testing::{CONFIG, TestSystem, ThreeCallers, learns, pops, pushes};
 use std::alloc::Global;
 use std::sync::Wait;
 use step_core::Step;

@@ -1,7 +1,7 @@
 //! The steps of a worked run.
 
 use history::Config;
-use lock_rows::config_of;
+use lock_testing::config_of;
 use std::alloc::Global;
 use step_core::Step;
 
@@ -15,6 +15,6 @@ pub(crate) struct RefusalRun {
 /// The run of a configuration line and lines that are parted by ` / `.
 pub(crate) fn run_of(alloc: Global, first: &str, lines: &str) -> Option<RefusalRun> {
     let config = config_of(alloc, first)?;
-    let lock_rows::ScriptRun { steps, .. } = lock_rows::run_of(alloc, config, lines)?;
+    let lock_testing::ScriptRun { steps, .. } = lock_testing::run_of(alloc, config, lines)?;
     Some(RefusalRun { config, steps })
 }

@@ -2,14 +2,14 @@
 
 ghost use Rattle.std.specs.Prelude.{◌≡◌, ◌<◌, ◌≤◌, IfSome};
 ghost use Rattle.history.specs.Config.{config_numbers};
-ghost use Rattle.driver_rows.specs.Benches.{AreBenchSpares, IsServerOf};
-ghost use Rattle.driver_rows.specs.Claimants.{IsClaimant};
+ghost use Rattle.driver_testing.specs.Benches.{AreBenchSpares, IsServerOf};
+ghost use Rattle.driver_testing.specs.Claimants.{IsClaimant};
 ghost use Rattle.slot_alloc.specs.Areas.{area};
 
 use crate::calls::serves;
 use crate::runs::TURNS;
 use driver_cas::Fault;
-use driver_rows::{
+use driver_testing::{
     Bench, BenchSpares, Came, Claimant, Server, asks, caller_of, claimant_of, gives_back,
     is_served, polls_begun,
 };

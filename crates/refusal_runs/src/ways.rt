@@ -9,7 +9,7 @@ use crate::runs::{by_a_pass, by_steps, wants};
 use crate::script::{RefusalRun, run_of};
 use crate::works::by_works;
 use history::{Config, write_line};
-use lock_rows::ROWS;
+use lock_testing::ROWS;
 use std::alloc::Global;
 use std::io::Write;
 use std::process::ExitCode;

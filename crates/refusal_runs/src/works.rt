@@ -2,12 +2,12 @@
 //! Work asks for and tells of it. What is refused for want of memory is asked for again.
 
 ghost use Rattle.std.specs.Prelude.{IfSome};
-ghost use Rattle.lock_rows.specs.Callers.{AreTestSpares, IsCrewOf, IsFreshWork, IsTestCallerOf, IsTestWork};
+ghost use Rattle.lock_testing.specs.Callers.{AreTestSpares, IsCrewOf, IsFreshWork, IsTestCallerOf, IsTestWork};
 
 use crate::runs::TURNS;
 use crate::script::RefusalRun;
 use history::Config;
-use lock_rows::{
+use lock_testing::{
     NO_MEMORY, SpareCallers, TestCaller, TestSystem, ThreeCallers, crew_of, fetches, learns, open,
     opens, pops, pushes, system_of, works,
 };

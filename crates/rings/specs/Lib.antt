@@ -3,3 +3,4 @@ pub mod Submissions
 pub mod Completions
 pub mod Queues
 pub mod Tables
+pub mod Used

@@ -1,11 +1,11 @@
 -- The entries so far, and those of the parts that are left.
 use Rattle.std.proofs.Common.{◌≡◌, Bor, ℕ, ◌+◌, ◌<◌, ◌≤◌, List, [], ◌∷◌, ◌++◌, map, length, drop, get_or}
-use Rattle.std.proofs.Common.{None, Some, refl, sym, ap, ◌∙◌, arith, append_assoc, append-nil}
+use Rattle.std.proofs.Common.{None, Some, refl, sym, ap, ◌∙◌, arith, append-nil}
 use Rattle.std.specs.Prelude.{Option}
 use Rattle.std.proofs.lemmas.List.{drop_more, get_or-map, length-map, drop_all}
 use Rattle.nvme_model.specs.declared.submission.Submission.{Submission}
 use Rattle.history.specs.BatchWords.{then_item}
-use Rattle.history.proofs.Joining.{joined}
+use Rattle.history.proofs.Joining.{joined, joined_then}
 use Rattle.script_lines.specs.Commands.{script_item_in}
 use Rattle.script_lines.specs.Batches.{items_in}
 
@@ -23,12 +23,6 @@ items_step part parts = refl
 items_end : items_in [] ≡ Some []
 unfolding items_in
 items_end = refl
-
--- one more entry
-joined-then : (front : List Submission) (x : Submission) (o : Option (List Submission))
-    → joined (front ++ x ∷ []) o ≡ joined front (then_item (Some x) o)
-joined-then front x None = refl
-joined-then front x (Some xs) = ap Some (append_assoc front (x ∷ []) xs)
 
 -- the part at place i
 part_step : {X : Type 0} (f : X → List (List ℕ)) (xs : List X) (i : ℕ) (d : X) (front : List Submission)
@@ -58,7 +52,7 @@ pub part_good : {X : Type 0} (f : X → List (List ℕ)) (xs : List X) (i : ℕ)
     → joined new (items_in (drop (i + 1) (map f xs))) ≡ all
 part_good f xs i d front new x all low h some e =
     ap (λ l. joined l (items_in (drop (i + 1) (map f xs)))) e
-    ∙ joined-then front x (items_in (drop (i + 1) (map f xs)))
+    ∙ joined_then front x (items_in (drop (i + 1) (map f xs)))
     ∙ ap (λ o. joined front (then_item o (items_in (drop (i + 1) (map f xs))))) (sym some)
     ∙ part_step f xs i d front all low h
 

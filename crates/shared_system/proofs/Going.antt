@@ -5,14 +5,14 @@ use Rattle.nvme_model.specs.declared.config.ConfigNumbers.{ConfigNumbers}
 use Rattle.nvme_model.specs.declared.entry.Entry.{Entry}
 use Rattle.nvme_model.specs.declared.step.Step.{Step}
 use Rattle.nvme_model.specs.Kept.{ControllerInvariant}
-use Rattle.controller_steps.specs.State.{Accepts, Refuses, ControllerState}
-use Rattle.controller_steps.specs.declared.answer.Answer.{Answer}
-use Rattle.controller_steps.specs.declared.work.Work.{Work as Duty}
+use Rattle.controller_interface.specs.State.{Accepts, Refuses, ControllerState}
+use Rattle.controller_interface.specs.declared.answer.Answer.{Answer}
+use Rattle.controller_interface.specs.declared.work.Work.{Work as Duty}
 use Rattle.meet_lock.specs.Passes.{Declines, IsSame, Knows, Worked, config_of, seen}
 use Rattle.meet_lock.specs.declared.pass.Declined.{Declined}
 use Rattle.meet_lock.specs.declared.seats.TicketSeat.{TicketSeat}
-use Rattle.serving_laws.specs.Servers.{IsServing, is_served}
-use Rattle.serving_laws.proofs.Servers.{declined, noted, stepped}
+use Rattle.shared_system.specs.Servers.{IsServing, is_served}
+use Rattle.shared_system.proofs.Servers.{declined, noted, stepped}
 use Rattle.work_queue.specs.Duties.{is_only_fetch, task_step}
 use Rattle.work_queue.specs.Engines as engine
 use Rattle.work_queue.specs.QueuePasses as queue
@@ -31,7 +31,7 @@ use Rattle.shared_system.specs.declared.system.CallerPasses.{CallerPasses}
 use Rattle.shared_system.specs.Callers.{AreNoticesOf, Continues, IsCallerOf}
 
 -- a task serves
-task_serves : (k : Task) (t : ℕ) → is_served (task_step k t) ≡ true
+pub task_serves : (k : Task) (t : ℕ) → is_served (task_step k t) ≡ true
 task_serves task.Grant t = refl
 task_serves task.Block t = refl
 task_serves task.Post t = refl

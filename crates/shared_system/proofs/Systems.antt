@@ -2,6 +2,7 @@
 use Rattle.std.proofs.Common.{All, Global, List, None, Some, [], ap, arith, get_or, length, refl}
 use Rattle.std.proofs.Common.{slice_get, subst, suc, sym, Vec, zero, ℕ, ◌+◌, ◌-◌, ◌++◌, ◌<◌, ◌∙◌, ◌≡◌, ◌≤◌, ◌∷◌}
 use Rattle.std.proofs.lemmas.Option.{slice_get-get_or}
+use Rattle.plain_lemmas.proofs.Lists.{at_front, at_last, snoc_each}
 use Rattle.nvme_model.specs.Config.{config_fault}
 use Rattle.nvme_model.specs.declared.config.ConfigNumbers.{ConfigNumbers}
 use Rattle.meet_lock.specs.Passes.{number}
@@ -64,18 +65,6 @@ place_at e (x ∷ qs) (y ∷ ps) a zero p q f g =
     subst (λ z. queue.IsPlaceOf e z p) like (subst (queue.IsPlaceOf e x) same a.0)
 place_at e (x ∷ qs) (y ∷ ps) a (suc k) p q f g = place_at e qs ps a.1 k p q f g
 
--- what holds of each, and of one more at its place, holds of all
-snoc_each : {A : Type 0} (P : ℕ → A → Type 0) (xs : List A) (d : A)
-    → ((k : ℕ) (a : A) → slice_get xs k ≡ Some a → P k a) → P (length xs) d → (k : ℕ) (a : A)
-    → slice_get (xs ++ d ∷ []) k ≡ Some a → P k a
-snoc_each P [] d f e zero a g =
-    let h : Some d ≡ Some a = g in
-    let same : d ≡ a = cc in
-    subst (P 0) same e
-snoc_each P [] d f e (suc k) a g = absurd (let h : None ≡ Some a = g in cc)
-snoc_each P (x ∷ xs) d f e zero a g = f zero a g
-snoc_each P (x ∷ xs) d f e (suc k) a g = snoc_each (λ n. P (suc n)) xs d (λ n b h. f (suc n) b h) e k a g
-
 -- what holds of all holds of the last
 pub all_last : {A : Type 0} (P : A → Type 0) (xs ys : List A) (x : A) → All P ys → ys ≡ xs ++ x ∷ [] → P x
 all_last {A} P xs ys x a e = go xs (subst (All P) e a)
@@ -83,16 +72,6 @@ all_last {A} P xs ys x a e = go xs (subst (All P) e a)
     go : (zs : List A) → All P (zs ++ x ∷ []) → P x
     go [] h = h 0 x (omega arith)
     go (z ∷ zs) h = go zs (λ k d within. h (suc k) d (omega (arith, within)))
-
--- an element at its place stays there, and the last one stands behind the others
-at_front : {A : Type 0} (xs ys : List A) (k : ℕ) (a : A) → slice_get xs k ≡ Some a → slice_get (xs ++ ys) k ≡ Some a
-at_front [] ys k a g = absurd (let h : None ≡ Some a = g in cc)
-at_front (x ∷ xs) ys zero a g = g
-at_front (x ∷ xs) ys (suc k) a g = at_front xs ys k a g
-
-at_last : {A : Type 0} (xs : List A) (a : A) → slice_get (xs ++ a ∷ []) (length xs) ≡ Some a
-at_last [] a = refl
-at_last (x ∷ xs) a = at_last xs a
 
 module _ {G : Type 0} where
   pub places_rest : (system : System G) (xs ys : List (QueuePass Notice)) → AreFirstPlaces system (xs ++ ys)

@@ -1,14 +1,16 @@
-//! A controller that callers share, with its queues of works and notices, and the numbered passes of each caller.
-//! Serves it on one thread; `hosts` serves it on several.
+//! A shared controller with its queues of works and notices and its callers' passes, set up for programs on one thread
+//! or several. Serves it on one thread; `hosts` serves it on several.
 #![tactic(auto)]
 
 mod opening;
 mod rows;
+mod server_laws;
 mod serving;
 mod stop;
 mod system;
 
-pub use opening::system_of;
-pub use serving::{completion_place, notice_of, serve};
-pub use stop::Stop;
-pub use system::{CallerPasses, Callers, HostPasses, System, WorkerPasses};
+pub use crate::opening::system_of;
+pub use crate::server_laws::{a_server_goes_on, what_a_server_has_seen};
+pub use crate::serving::{completion_place, notice_of, serve};
+pub use crate::stop::Stop;
+pub use crate::system::{CallerPasses, Callers, HostPasses, System, WorkerPasses};

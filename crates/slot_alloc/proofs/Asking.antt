@@ -8,7 +8,7 @@ use Rattle.nvme_model.specs.Array.{has_block}
 use Rattle.nvme_model.specs.declared.array.Range.{Range}
 use Rattle.nvme_model.specs.declared.status.Status.{Status}
 use Rattle.driver_calls.specs.declared.reply.Reply.{Reply}
-use Rattle.cid_table.specs.Cids.{QueueCids, held}
+use Rattle.driver_cas.specs.Cids.{QueueCids, held}
 use Rattle.driver_cas.proofs.Drivers.{reaped_calls}
 use Rattle.driver_cas.specs.Drivers.{HasSettings, IsCallOf, area_of, host_of, made, serial_of}
 use Rattle.driver_cas.specs.SlotStarts.{IsClaimStart}
@@ -18,7 +18,7 @@ use Rattle.driver_cas.specs.declared.call.Call.{Call}
 use Rattle.driver_cas.specs.declared.driver.Driver.{Driver}
 use Rattle.driver_cas.specs.declared.fault.Fault.{Fault}
 use Rattle.driver_cas.specs.declared.port.Port.{Ghosts}
-use Rattle.slot_calls.specs.Swaps.{log_released}
+use Rattle.slot_log_laws.specs.Swaps.{log_released}
 use Rattle.slot_alloc.specs.Areas.{area, block_of}
 use Rattle.slot_alloc.specs.SlotRules.{DriverContinues, KeepsSlotRules, ReleasedName, own_name}
 use Rattle.slot_alloc.specs.Claims.{AreTaken, ClaimSays, IsAsking, IsClaimingOf, IsStageUnreleased, claims_in}

@@ -9,8 +9,8 @@ use Rattle.driver_cas.specs.Drivers.{IsOneMore, area_of, made}
 use Rattle.driver_cas.specs.declared.call.Call.{Call}
 use Rattle.driver_cas.specs.declared.driver.Driver.{Driver}
 use Rattle.driver_cas.specs.declared.port.Port.{Ghosts}
-use Rattle.slot_calls.proofs.Counting.{claim_counted, release_counted}
-use Rattle.slot_calls.specs.Counts.{log_claims}
+use Rattle.slot_log_laws.proofs.Counting.{claim_counted, release_counted}
+use Rattle.slot_log_laws.specs.Counts.{log_claims}
 use Rattle.slot_alloc.specs.Areas.{block_of, claim_serial, slot_of}
 use Rattle.slot_alloc.specs.Counts.{AddsNoClaim, IsBehind, claims_made}
 use Rattle.slot_alloc.specs.SlotRules.{own_name}

@@ -19,11 +19,11 @@ use Rattle.driver_cas.specs.declared.call.Poll.{Poll}
 use Rattle.driver_cas.specs.declared.driver.Driver.{Driver}
 use Rattle.driver_cas.specs.declared.fault.Fault.{Fault}
 use Rattle.driver_cas.specs.declared.port.Port.{Ghosts}
-use Rattle.slot_calls.proofs.SlotRules.{slot_rules_release}
-use Rattle.slot_calls.proofs.Winning.{release_in, release_in_later}
-use Rattle.slot_calls.specs.Calls.{IsName, IsReleaseIn}
-use Rattle.slot_calls.specs.SlotRules.{keeps_slot_rules}
-use Rattle.slot_calls.specs.Swaps.{log_believed}
+use Rattle.slot_log_laws.proofs.SlotRules.{slot_rules_release}
+use Rattle.slot_log_laws.proofs.Winning.{release_in, release_in_later}
+use Rattle.slot_log_laws.specs.Calls.{IsName, IsReleaseIn}
+use Rattle.slot_log_laws.specs.SlotRules.{keeps_slot_rules}
+use Rattle.slot_log_laws.specs.Swaps.{log_believed}
 use Rattle.slot_alloc.specs.Areas.{block_of, claim_serial, slot_of}
 use Rattle.slot_alloc.specs.SlotRules.{DriverContinues, KeepsSlotRules, LogContinues, own_name}
 use Rattle.slot_alloc.specs.Claims.{IsHeldBy, IsReleasingOf}

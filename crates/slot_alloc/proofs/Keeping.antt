@@ -4,6 +4,7 @@ use Rattle.std.proofs.Common.{true, ℕ, ◌%◌, ◌&&◌, ◌+◌, ◌/◌, �
 use Rattle.std.specs.Prelude.{Err, Ok, Result}
 use Rattle.std.specs.List.{list_any}
 use Rattle.std.proofs.lemmas.Bool.Decides.{nat_tests}
+use Rattle.std.proofs.lemmas.Bool.{or_parts}
 use Rattle.nvme_model.specs.Array.{overlap}
 use Rattle.nvme_model.specs.Operations.{has_write, is_pair}
 use Rattle.nvme_model.specs.Slots.{touches}
@@ -20,8 +21,8 @@ use Rattle.driver_cas.specs.declared.call.Call.{Call}
 use Rattle.driver_cas.specs.declared.driver.Driver.{Driver}
 use Rattle.driver_cas.specs.declared.fault.Fault.{Fault}
 use Rattle.driver_cas.specs.declared.port.Port.{Ghosts}
-use Rattle.slot_calls.proofs.SlotRules.{slot_rules_outside}
-use Rattle.slot_calls.specs.SlotRules.{keeps_slot_rules}
+use Rattle.slot_log_laws.proofs.SlotRules.{slot_rules_outside}
+use Rattle.slot_log_laws.specs.SlotRules.{keeps_slot_rules}
 use Rattle.slot_alloc.specs.SlotRules.{DriverContinues, KeepsSlotRules, LogContinues}
 use Rattle.slot_alloc.proofs.Logs.{outside_on}
 use Rattle.slot_alloc.proofs.Starting.{slot_rules_same, goes_on_same, settings_of}
@@ -36,11 +37,6 @@ pub record IsSound (slots : Range) (q : Request) : Type 0 where
 abbrev pub Sound : Range → Result Request Fault → Type 0
 Sound slots (Ok q) = IsSound slots q
 Sound slots (Err f) = Unit {0}
-
-or_parts : (a b : Bool) → (a || b) ≡ false → (a ≡ false) × (b ≡ false)
-or_parts false false h = (refl, refl)
-or_parts true b h = absurd (let e : true ≡ false = h in cc)
-or_parts false true h = absurd (let e : true ≡ false = h in cc)
 
 some_blocks : (bytes : ℕ) → ((bytes == 0) || not (bytes % 512 == 0)) ≡ false → 1 ≤ bytes / 512
 some_blocks bytes h =

@@ -1,15 +1,16 @@
 -- A driver's log goes on.
-use Rattle.std.proofs.Common.{Bool, List, None, Option, Some, [], ap, append_assoc, eqb, false, not, refl, subst, sym}
-use Rattle.std.proofs.Common.{true, ℕ, ◌&&◌, ◌++◌, ◌∙◌, ◌∷◌, ◌≡◌, inl, inr}
+use Rattle.std.proofs.Common.{List, None, Option, Some, [], ap, append_assoc, eqb, false, refl, subst, sym}
+use Rattle.std.proofs.Common.{ℕ, ◌&&◌, ◌++◌, ◌∙◌, ◌∷◌, ◌≡◌, inl, inr}
 use Rattle.std.specs.List.{list_any}
+use Rattle.std.proofs.lemmas.Bool.{not-true}
 use Rattle.nvme_model.specs.Slots.{Name, same_name, touches}
 use Rattle.nvme_model.specs.declared.array.Range.{Range}
 use Rattle.nvme_model.specs.declared.submission.Submission.{Submission}
 use Rattle.driver_calls.specs.declared.event.PortEvent.{PortEvent}
 use Rattle.driver_cas.specs.Drivers.{IsOneMore}
-use Rattle.slot_calls.proofs.Staying.{believed_claim, believed_got, believed_other, believed_outside, released_claim}
-use Rattle.slot_calls.proofs.Staying.{released_other, released_outside}
-use Rattle.slot_calls.specs.Calls.{IsClaimBatch, IsName, IsReleaseBatch}
+use Rattle.slot_log_laws.proofs.Staying.{believed_claim, believed_got, believed_other, believed_outside, released_claim}
+use Rattle.slot_log_laws.proofs.Staying.{released_other, released_outside}
+use Rattle.slot_log_laws.specs.Calls.{IsClaimBatch, IsName, IsReleaseBatch}
 use Rattle.slot_alloc.specs.SlotRules.{LogContinues, ReleasedName}
 
 pub same_on : (slots : Range) (log : List PortEvent) → LogContinues slots log log None
@@ -45,10 +46,6 @@ claim_on slots log q k first second m batch x b =
       unreleased = λ l n v a h. released_claim log q k first second m batch l n x b ∙ h;
     }
 
-other : (b : Bool) → not b ≡ true → b ≡ false
-other false h = refl
-other true h = absurd (let e : false ≡ true = h in cc)
-
 pub release_on : (slots : Range) (log : List PortEvent) (q k first second : ℕ) (m : Name) (batch : List Submission)
     → IsName m → IsReleaseBatch k first second m batch
     → LogContinues slots log (PortEvent.Sent q batch ∷ log) (Some (k, m))
@@ -56,13 +53,15 @@ release_on slots log q k first second m batch x b =
     record {
       log = PortEvent.Sent q batch ∷ [];
       more = refl;
-      believed = λ l n v a h. believed_other log q k first second m batch l n x b (other (eqb k l && same_name m n) a)
+      believed = λ l n v a h.
+          believed_other log q k first second m batch l n x b (not-true (eqb k l && same_name m n) a)
           h;
-      unreleased = λ l n v a h. released_other log q k first second m batch l n x b (other (eqb k l && same_name m n) a)
+      unreleased = λ l n v a h.
+          released_other log q k first second m batch l n x b (not-true (eqb k l && same_name m n) a)
           ∙ h;
     }
 
--- first one, then the other
+-- first one, then the not-true
 pub on_on : (slots : Range) (a b c : List PortEvent) → LogContinues slots a b None → LogContinues slots b c None
     → LogContinues slots a c None
 on_on slots a b c x y =

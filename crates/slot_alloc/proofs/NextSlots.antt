@@ -5,6 +5,7 @@ use Rattle.std.proofs.lemmas.List.{length-append}
 use Rattle.std.specs.List.{slice_get}
 use Rattle.std.specs.Prelude.{Err, Ok, Result}
 use Rattle.std.specs.declared.snapshot.Snapshot.{Snapshot}
+use Rattle.plain_lemmas.proofs.Options.{some_one}
 use Rattle.nvme_model.specs.declared.array.Range.{Range}
 use Rattle.driver_calls.specs.declared.reply.Reply.{Reply}
 use Rattle.driver_cas.specs.Drivers.{area_of}
@@ -27,9 +28,6 @@ use Rattle.slot_alloc.specs.declared.progress.Progress.{Progress}
 pub any_reach : (r : Reach) → r ≢ Reach.One → r ≡ Reach.Any
 any_reach Reach.One h = absurd (h refl)
 any_reach Reach.Any h = refl
-
-some_one : {A : Type 0} (x y : A) → Some x ≡ Some y → x ≡ y
-some_one x y h = cc
 
 -- one of a longer list is one of the shorter, or the last
 last_or_lower : {A : Type 0} (xs : List A) (x y : A) (i : ℕ) → slice_get (xs ++ x ∷ []) i ≡ Some y

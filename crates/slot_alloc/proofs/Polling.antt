@@ -19,10 +19,10 @@ use Rattle.driver_cas.specs.declared.call.Poll.{Poll}
 use Rattle.driver_cas.specs.declared.driver.Driver.{Driver}
 use Rattle.driver_cas.specs.declared.fault.Fault.{Fault}
 use Rattle.driver_cas.specs.declared.port.Port.{Ghosts}
-use Rattle.slot_calls.proofs.Winning.{claim_in_later, pair_answered, won_by_log}
-use Rattle.slot_calls.specs.Calls.{IsClaimIn}
-use Rattle.slot_calls.specs.SlotRules.{keeps_slot_rules}
-use Rattle.slot_calls.specs.Swaps.{log_released}
+use Rattle.slot_log_laws.proofs.Winning.{claim_in_later, pair_answered, won_by_log}
+use Rattle.slot_log_laws.specs.Calls.{IsClaimIn}
+use Rattle.slot_log_laws.specs.SlotRules.{keeps_slot_rules}
+use Rattle.slot_log_laws.specs.Swaps.{log_released}
 use Rattle.slot_alloc.specs.Areas.{block_of}
 use Rattle.slot_alloc.specs.SlotRules.{DriverContinues, KeepsSlotRules, own_name}
 use Rattle.slot_alloc.specs.Claims.{ClaimSays, IsAsking, IsClaimingOf, IsAtSlot, IsHeldBy, IsStageUnreleased}

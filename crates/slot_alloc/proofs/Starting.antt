@@ -17,13 +17,13 @@ use Rattle.driver_cas.specs.Starts.{IsStarted}
 use Rattle.driver_cas.specs.declared.call.Call.{Call}
 use Rattle.driver_cas.specs.declared.driver.Driver.{Driver}
 use Rattle.driver_cas.specs.declared.port.Port.{Ghosts}
-use Rattle.slot_calls.proofs.SlotRules.{slot_rules_claim}
-use Rattle.slot_calls.proofs.Claiming.{unreleased}
-use Rattle.slot_calls.proofs.Staying.{released_claim}
-use Rattle.slot_calls.proofs.Winning.{claim_in}
-use Rattle.slot_calls.specs.Calls.{IsClaimIn, IsName}
-use Rattle.slot_calls.specs.SlotRules.{keeps_slot_rules}
-use Rattle.slot_calls.specs.Swaps.{log_released}
+use Rattle.slot_log_laws.proofs.SlotRules.{slot_rules_claim}
+use Rattle.slot_log_laws.proofs.Claiming.{unreleased}
+use Rattle.slot_log_laws.proofs.Staying.{released_claim}
+use Rattle.slot_log_laws.proofs.Winning.{claim_in}
+use Rattle.slot_log_laws.specs.Calls.{IsClaimIn, IsName}
+use Rattle.slot_log_laws.specs.SlotRules.{keeps_slot_rules}
+use Rattle.slot_log_laws.specs.Swaps.{log_released}
 use Rattle.slot_alloc.specs.SlotRules.{DriverContinues, KeepsSlotRules, LogContinues, ReleasedName, own_name}
 use Rattle.slot_alloc.specs.Claims.{IsAsking}
 use Rattle.slot_alloc.proofs.Logs.{claim_on, same_on}

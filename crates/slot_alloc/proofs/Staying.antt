@@ -9,9 +9,9 @@ use Rattle.driver_cas.specs.Drivers.{IsCallOf, area_of, made, number_of}
 use Rattle.driver_cas.specs.declared.call.Call.{Call}
 use Rattle.driver_cas.specs.declared.driver.Driver.{Driver}
 use Rattle.driver_cas.specs.declared.port.Port.{Ghosts}
-use Rattle.slot_calls.proofs.Winning.{claim_in_later, release_in_later}
-use Rattle.slot_calls.specs.Calls.{IsClaimIn, IsReleaseIn}
-use Rattle.slot_calls.specs.Swaps.{log_released}
+use Rattle.slot_log_laws.proofs.Winning.{claim_in_later, release_in_later}
+use Rattle.slot_log_laws.specs.Calls.{IsClaimIn, IsReleaseIn}
+use Rattle.slot_log_laws.specs.Swaps.{log_released}
 use Rattle.slot_alloc.specs.Areas.{block_of}
 use Rattle.slot_alloc.specs.SlotRules.{DriverContinues, ReleasedName, own_name}
 use Rattle.slot_alloc.specs.Claims.{IsAsking, IsAtSlot, IsCallKept, IsClaimingOf, IsReleasingOf, IsStageUnreleased}

@@ -1,7 +1,7 @@
 -- What was begun and what is held, where the driver did nothing.
 use Rattle.std.proofs.Common.{None, ap, inl, refl, subst, sym, ℕ, ◌<◌, ◌∙◌, ◌≡◌}
 use Rattle.nvme_model.specs.declared.array.Range.{Range}
-use Rattle.cid_table.specs.Cids.{QueueCids, held}
+use Rattle.driver_cas.specs.Cids.{QueueCids, held}
 use Rattle.driver_cas.proofs.Drivers.{reaped_calls}
 use Rattle.driver_cas.specs.Drivers.{IsCallOf, area_of, made}
 use Rattle.driver_cas.specs.Starts.{IsUntouched}
@@ -9,8 +9,8 @@ use Rattle.driver_cas.specs.Tables.{is_free}
 use Rattle.driver_cas.specs.declared.call.Call.{Call}
 use Rattle.driver_cas.specs.declared.driver.Driver.{Driver}
 use Rattle.driver_cas.specs.declared.port.Port.{Ghosts}
-use Rattle.slot_calls.specs.Calls.{IsName}
-use Rattle.slot_calls.specs.Swaps.{log_believed}
+use Rattle.slot_log_laws.specs.Calls.{IsName}
+use Rattle.slot_log_laws.specs.Swaps.{log_believed}
 use Rattle.slot_alloc.specs.Areas.{block_of, claim_serial, slot_of}
 use Rattle.slot_alloc.specs.SlotRules.{DriverContinues, KeepsSlotRules, own_name}
 use Rattle.slot_alloc.specs.Claims.{IsAtSlot, IsCallKept, IsClaimingOf, IsHeldBy, IsReleasingOf, IsUnreleased}

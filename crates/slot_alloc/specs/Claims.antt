@@ -16,8 +16,8 @@ use Rattle.slot_alloc.specs.declared.claiming.Lower.{And', Lower, Nothing}
 use Rattle.slot_alloc.specs.declared.claiming.Reach.{Reach}
 use Rattle.slot_alloc.specs.declared.claiming.ClaimStage.{ClaimStage}
 use Rattle.slot_alloc.specs.declared.release.Releasing.{Releasing}
-use Rattle.slot_calls.specs.Calls.{IsClaimIn, IsName, IsReleaseIn}
-use Rattle.slot_calls.specs.Swaps.{log_believed, log_released}
+use Rattle.slot_log_laws.specs.Calls.{IsClaimIn, IsName, IsReleaseIn}
+use Rattle.slot_log_laws.specs.Swaps.{log_believed, log_released}
 
 -- the call of a release
 abbrev pub release_call : {P : Type 0} → Releasing P → Call P

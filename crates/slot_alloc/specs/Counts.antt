@@ -8,7 +8,7 @@ use Rattle.slot_alloc.specs.Areas.{block_of}
 use Rattle.slot_alloc.specs.declared.claiming.Claiming.{Claiming}
 use Rattle.slot_alloc.specs.declared.claiming.ClaimStage.{ClaimStage}
 use Rattle.slot_alloc.specs.declared.progress.Progress.{Progress}
-use Rattle.slot_calls.specs.Counts.{log_claims}
+use Rattle.slot_log_laws.specs.Counts.{log_claims}
 
 module _ {P : Type 0} where
   -- slot i is the one at hand and its claim is begun, or it is below that one

@@ -7,8 +7,8 @@ use Rattle.driver_calls.specs.declared.event.PortEvent.{PortEvent}
 use Rattle.driver_cas.specs.Drivers.{HasSettings, area_of, host_of, made, serial_of}
 use Rattle.driver_cas.specs.declared.driver.Driver.{Driver}
 use Rattle.driver_cas.specs.declared.port.Port.{Ghosts}
-use Rattle.slot_calls.specs.SlotRules.{keeps_slot_rules}
-use Rattle.slot_calls.specs.Swaps.{log_believed, log_released}
+use Rattle.slot_log_laws.specs.SlotRules.{keeps_slot_rules}
+use Rattle.slot_log_laws.specs.Swaps.{log_believed, log_released}
 
 -- the slot of a release, by its block, and the name that is released
 abbrev pub ReleasedName : Type 0

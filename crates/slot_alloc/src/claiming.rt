@@ -33,6 +33,8 @@ pub(crate) enum ClaimStage<P> {
     Due,
 }
 
+// Snapshots, each in the next, since a list would take memory at each slot. Contracts read the
+// chain as a list (`claims_in`).
 /// The claims of a call that were answered, for contracts alone.
 #[derive(Drop)]
 pub(crate) enum Lower<P> {

@@ -20,9 +20,9 @@ ghost use Rattle.driver_cas.specs.declared.fault.Fault.{Fault};
 ghost use Rattle.driver_cas.specs.declared.shared_port.SharedPort.{SharedPort};
 ghost use Rattle.driver_calls.specs.declared.request.CallData.{CallData};
 ghost use Rattle.nvme_model.specs.declared.operation.Op.{Op};
-ghost use Rattle.slot_calls.specs.Calls.{IsName};
-ghost use Rattle.slot_calls.specs.Hosts.{IsSlotHost, IsSlotView};
-ghost use Rattle.slot_calls.specs.Swaps.{log_believed};
+ghost use Rattle.slot_log_laws.specs.Calls.{IsName};
+ghost use Rattle.slot_log_laws.specs.Hosts.{IsSlotHost, IsSlotView};
+ghost use Rattle.slot_log_laws.specs.Swaps.{log_believed};
 ghost use Rattle.slot_alloc.specs.Areas.{block_of, claim_serial, slot_of};
 ghost use Rattle.slot_alloc.specs.SlotRules.{DriverContinues, KeepsSlotRules, ReleasedName, is_another, own_name};
 ghost use Rattle.slot_alloc.specs.Claims.{ClaimSays, IsCallKept, IsClaimingOf, IsHeldBy, IsReleasingOf, IsUnreleased};
@@ -164,7 +164,7 @@ pub fn a_begun_release_stays<P: Port>(
 }
 
 /// What a driver that keeps the rules of slots knows of them, where the premises hold of what its port has seen: what
-/// the laws of `slot_calls` ask for.
+/// the laws of `slot_log_laws` ask for.
 pub fn a_driver_that_keeps_the_rules_knows_its_slots(driver: &Driver<SharedPort<'_>>)
     ensures { KeepsSlotRules driver.now →
         IsSlotHost (before driver.now) (area_of driver.now) (host_of driver.now) (view_of driver.now.port) →

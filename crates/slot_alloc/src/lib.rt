@@ -1,4 +1,4 @@
-//! Gives slots of a shared volume to hosts, which claim and release them by Compare and Write.
+//! Claims and releases slots of a shared volume, for hosts that keep locks there, by Compare and Write.
 #![tactic(auto)]
 
 mod claim;

@@ -20,12 +20,12 @@ use Rattle.nvme_model.specs.declared.entry.PublishLine.{PublishLine}
 use Rattle.host_laws.proofs.Discipline.{area_has}
 use Rattle.host_laws.proofs.Elements.{In, any_in, in_any, in_cases, in_filter}
 use Rattle.host_laws.proofs.Names.{name_eq}
-use Rattle.takeover_laws.specs.Rules.{takeover_disciplined, takeovers_within, takes_right}
-use Rattle.takeover_laws.specs.Takeovers.{Takeover, is_given_on, moves, takeovers, takeovers_in}
-use Rattle.takeover_laws.proofs.Discipline.{kept, kept_before}
-use Rattle.takeover_laws.proofs.Entries.{moves_later}
-use Rattle.takeover_laws.proofs.Fencing.{given_later}
-use Rattle.takeover_laws.proofs.Givers.{one_giver}
+use Rattle.host_laws.specs.Rules.{takeover_disciplined, takeovers_within, takes_right}
+use Rattle.host_laws.specs.Takeovers.{Takeover, is_given_on, moves, takeovers, takeovers_in}
+use Rattle.host_laws.proofs.TakeoverDiscipline.{kept, kept_before}
+use Rattle.host_laws.proofs.Entries.{moves_later}
+use Rattle.host_laws.proofs.Fencing.{given_later}
+use Rattle.host_laws.proofs.Givers.{one_giver}
 use Rattle.slot_check.specs.Broken.{cuts_off}
 use Rattle.slot_check.specs.Names.{KeptNames, KnowsNames}
 use Rattle.slot_check.specs.Takeovers.{KeptTakeovers, KnowsTakeovers, begins_at, begun_by, cut_by}

@@ -1,16 +1,17 @@
 -- The discipline, entry by entry.
-use Rattle.std.proofs.Common.{◌≡◌, Bool, true, false, List, [], ◌&&◌, ◌++◌, ◌∷◌, ◌∙◌, is_none, length, refl}
+use Rattle.std.proofs.Common.{◌≡◌, [], ◌&&◌, ◌∷◌, ◌∙◌, is_none, length, refl}
 use Rattle.host_laws.specs.Discipline.{keeps_at}
 use Rattle.nvme_model.specs.History.{Past}
 use Rattle.nvme_model.specs.Queues.{published_entries}
 use Rattle.nvme_model.specs.declared.array.Range.{Range}
 use Rattle.nvme_model.specs.declared.config.ConfigNumbers.{ConfigNumbers}
 use Rattle.nvme_model.specs.declared.entry.Entry.{Entry}
-use Rattle.takeover_laws.specs.Rules.{takeover_disciplined}
-use Rattle.takeover_laws.specs.Takeovers.{Takeover, takeovers, takeovers_in}
-use Rattle.takeover_laws.proofs.Without.{keeps_as_before}
+use Rattle.host_laws.specs.Rules.{takeover_disciplined}
+use Rattle.host_laws.specs.Takeovers.{takeovers, takeovers_in}
+use Rattle.host_laws.proofs.Without.{keeps_as_before, no_parts}
 use Rattle.slot_check.specs.Broken.{discipline_broken, keeps_takeovers_at}
 use Rattle.slot_check.proofs.Judging.{keeps_is}
+use Rattle.slot_check.proofs.Knowing.{and_true}
 
 pub none_broken_at : (c : ConfigNumbers) (slots : Range) (past : Past) (e : Entry)
     → is_none (discipline_broken c slots past e) ≡ keeps_takeovers_at c slots past e
@@ -21,10 +22,6 @@ none_broken_at c slots past (Entry.Block p) = refl
 none_broken_at c slots past (Entry.Post p) = refl
 none_broken_at c slots past (Entry.Reap p) = refl
 
-and_true : (b : Bool) → b ≡ (b && true)
-and_true true = refl
-and_true false = refl
-
 pub folds : (c : ConfigNumbers) (slots : Range) (past : Past) (e : Entry)
     → takeover_disciplined c slots (e ∷ past)
     ≡ (takeover_disciplined c slots past && keeps_takeovers_at c slots past e)
@@ -34,10 +31,6 @@ folds c slots past (Entry.Grant p) = and_true (takeover_disciplined c slots past
 folds c slots past (Entry.Block p) = and_true (takeover_disciplined c slots past)
 folds c slots past (Entry.Post p) = and_true (takeover_disciplined c slots past)
 folds c slots past (Entry.Reap p) = and_true (takeover_disciplined c slots past)
-
-no_parts : (xs ys : List Takeover) → xs ++ ys ≡ [] → (xs ≡ []) × (ys ≡ [])
-no_parts [] ys e = (refl, e)
-no_parts (x ∷ xs) ys e = absurd (let f = e in cc)
 
 -- without a takeover none is broken exactly where the discipline of claims and releases is kept
 pub none_broken_without : (c : ConfigNumbers) (slots : Range) (past : Past) (e : Entry) → takeovers (e ∷ past) ≡ []

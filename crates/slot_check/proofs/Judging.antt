@@ -4,6 +4,8 @@ use Rattle.std.proofs.Common.{refl, ap, ap₂, ◌∙◌, eqb, eqb-true, None, S
 use Rattle.std.specs.List.{find, list_all, list_any}
 use Rattle.std.specs.Option.{option_map}
 use Rattle.std.proofs.lemmas.List.Folds.{list_any-append}
+use Rattle.std.proofs.Math.Bool.{and-true}
+use Rattle.plain_lemmas.proofs.Lists.{any_same}
 use Rattle.nvme_model.specs.Array.{has_block}
 use Rattle.nvme_model.specs.Config.{completion_queue}
 use Rattle.nvme_model.specs.History.{Past}
@@ -14,9 +16,9 @@ use Rattle.nvme_model.specs.declared.array.Range.{Range}
 use Rattle.nvme_model.specs.declared.config.ConfigNumbers.{ConfigNumbers}
 use Rattle.nvme_model.specs.declared.entry.PublishLine.{PublishLine}
 use Rattle.nvme_model.specs.declared.submission.Submission.{Submission}
-use Rattle.takeover_laws.specs.Rules.{keeps_takeover_discipline, releases_right, takeovers_within, takes_right}
-use Rattle.takeover_laws.specs.Takeovers.{Takeover, giving, is_given_on, is_kept, is_taken, moves, moves_in, takeovers}
-use Rattle.takeover_laws.specs.Takeovers.{takeovers_in}
+use Rattle.host_laws.specs.Rules.{keeps_takeover_discipline, releases_right, takeovers_within, takes_right}
+use Rattle.host_laws.specs.Takeovers.{Takeover, giving, is_given_on, is_kept, is_taken, moves, moves_in, takeovers}
+use Rattle.host_laws.specs.Takeovers.{takeovers_in}
 use Rattle.slot_check.specs.Batch.{claimed_twice_in, release_broken_in, takeover_broken_in}
 use Rattle.slot_check.specs.Broken.{claimed_twice, cut_off_at, cuts_off, first_of, first_touched, is_given}
 use Rattle.slot_check.specs.Broken.{publish_broken, release_broken, release_fault, slots_broken_by, takeover_broken}
@@ -25,7 +27,7 @@ use Rattle.slot_check.specs.Names.{KeptNames, KnowsNames, believes, gives}
 use Rattle.slot_check.specs.Takeovers.{KeptTakeovers, KnowsTakeovers}
 use Rattle.slot_check.specs.declared.broken.BrokenDiscipline.{BrokenDiscipline}
 use Rattle.slot_check.specs.declared.broken.BrokenDiscipline.TheVariants.{NeverGiven, OwnQueue}
-use Rattle.slot_check.proofs.Knowing.{any_same, believes_is, gives_is, in_area_any, twice_is}
+use Rattle.slot_check.proofs.Knowing.{believes_is, gives_is, in_area_any, twice_is}
 
 -- ---- releases
 
@@ -65,10 +67,6 @@ released_moves : (past : Past) (l : ℕ) (n : Name)
     → list_any (λ s. releases s l n) (moves past) ≡ list_any (λ s. releases s l n) (swaps past)
 released_moves past l n = list_any-append (λ s. releases s l n) (swaps past) (map giving (takeovers past))
     ∙ or_none (list_any (λ s. releases s l n) (swaps past)) _ (no_giving (takeovers past) l n)
-
-and_true : (b : Bool) → (b && true) ≡ b
-and_true true = refl
-and_true false = refl
 
 abbrev AllWithin : Range → List Takeover → Type 0
 AllWithin slots [] = Unit {0}
@@ -127,7 +125,7 @@ module _ (c : ConfigNumbers) (slots : Range) (past : Past) (k : KeptNames)
       (given_is w.lba w.dead (λ _. true) a.0
       ∙ any_same (λ s. ((s.claims && eqb s.lba w.lba) && same_name s.name w.dead) && true)
       (λ s. (s.claims && eqb s.lba w.lba) && same_name s.name w.dead) (moves past)
-      (λ s. and_true ((s.claims && eqb s.lba w.lba) && same_name s.name w.dead))))
+      (λ s. and-true ((s.claims && eqb s.lba w.lba) && same_name s.name w.dead))))
       (takeovers_are ws a.1)
 
   pub judged_is : (p : PublishLine) (first : ℕ) (of : List Swap) (ws : List Takeover) (kept : KeptTakeovers)

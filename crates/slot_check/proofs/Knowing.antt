@@ -7,6 +7,8 @@ use Rattle.std.specs.List.{filter, list_any}
 use Rattle.std.proofs.lemmas.Bool.{and_parts, and_from}
 use Rattle.std.proofs.lemmas.List.Elements.{filter-append}
 use Rattle.std.proofs.lemmas.List.Folds.{list_any-append}
+use Rattle.plain_lemmas.proofs.Lists.{any_same}
+use Rattle.host_laws.proofs.Names.{name_eq}
 use Rattle.nvme_model.specs.Array.{has_block}
 use Rattle.nvme_model.specs.Slots.{Name, Swap, fresh_names, in_area, releases, same_name}
 use Rattle.nvme_model.specs.declared.array.Range.{Range}
@@ -16,10 +18,6 @@ use Rattle.slot_check.specs.Names.{AreUnwon, KeptNames, KnowsNames, believes, cl
 use Rattle.slot_check.specs.Names.{gives, listed}
 
 -- ---- lists
-
-pub any_same : {X : Type 0} (p q : X → Bool) (xs : List X) → ((x : X) → p x ≡ q x) → list_any p xs ≡ list_any q xs
-any_same p q [] h = refl
-any_same p q (x ∷ xs) h = ap₂ (λ (a b : Bool). a || b) (h x) (any_same p q xs h)
 
 -- an element that passes both tests is one of the filtered that passes the second
 pub any_filter : {X : Type 0} (p t : X → Bool) (xs : List X) → list_any (λ x. p x && t x) xs ≡ list_any t (filter p xs)
@@ -31,7 +29,7 @@ any_filter p t (x ∷ xs) = go (p x) (any_filter p t xs)
     go true ih = ap (λ (y : Bool). t x || y) ih
     go false ih = ih
 
-and_true : (b : Bool) → b ≡ (b && true)
+pub and_true : (b : Bool) → b ≡ (b && true)
 and_true true = refl
 and_true false = refl
 
@@ -45,11 +43,6 @@ any_listed p xs o h = any_same p (λ x. p x && true) xs (λ x. and_true (p x)) �
     by_some (Some s) = refl
 
 -- ---- names
-
-same_names : (n m : Name) → same_name n m ≡ true → n ≡ m
-same_names n m h =
-    let a = and_parts (eqb n.host m.host) (eqb n.serial m.serial) h in
-    ap₂ (λ (x y : ℕ). record { host = x; serial = y }) (eqb-true _ _ a.0) (eqb-true _ _ a.1)
 
 none_is : (o : Option Swap) → is_some o ≡ false → o ≡ None
 none_is None e = refl
@@ -68,7 +61,7 @@ module _ (r : ℕ → ℕ → Bool) (of : List Swap) (k m : KeptNames) (s : Swap
       go false e f = h.claim n ∙ ap listed (sym f)
       go true e f =
           let p = and_parts s.claims (same_name s.name n) e in
-          let none : k.claim n ≡ None = ap k.claim (sym (same_names s.name n p.1)) ∙ none_is (k.claim s.name)
+          let none : k.claim n ≡ None = ap k.claim (sym (name_eq s.name n p.1)) ∙ none_is (k.claim s.name)
           (fresh p.0) in
           ap (λ (xs : List Swap). s ∷ xs) (h.claim n ∙ ap listed none) ∙ ap listed (sym f)
 

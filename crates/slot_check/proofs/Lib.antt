@@ -1,3 +1,5 @@
+mod Moving
+mod Refused
 mod Batches
 mod Cutting
 pub mod Discipline

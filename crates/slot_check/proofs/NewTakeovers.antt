@@ -11,8 +11,8 @@ use Rattle.nvme_model.specs.declared.array.Range.{Range}
 use Rattle.nvme_model.specs.declared.config.ConfigNumbers.{ConfigNumbers}
 use Rattle.nvme_model.specs.declared.submission.Submission.{Submission}
 use Rattle.host_laws.proofs.Elements.{In}
-use Rattle.takeover_laws.specs.Rules.{takeovers_within}
-use Rattle.takeover_laws.specs.Takeovers.{Takeover, giving, takeover_by, takeover_of, takeovers_in}
+use Rattle.host_laws.specs.Rules.{takeovers_within}
+use Rattle.host_laws.specs.Takeovers.{Takeover, giving, takeover_by, takeover_of, takeovers_in}
 use Rattle.slot_check.specs.Names.{KeptNames}
 use Rattle.slot_check.specs.Takeovers.{begins_at, begun_by, cut_by, cuts_in}
 use Rattle.slot_check.proofs.Batches.{drop_at, drop_is}

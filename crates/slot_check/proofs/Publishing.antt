@@ -20,14 +20,15 @@ use Rattle.nvme_model.specs.declared.config.ConfigNumbers.{ConfigNumbers}
 use Rattle.nvme_model.specs.declared.entry.Entry.{Entry}
 use Rattle.nvme_model.specs.declared.entry.PublishLine.{PublishLine}
 use Rattle.nvme_model.specs.declared.submission.Submission.{Submission}
-use Rattle.takeover_laws.specs.Rules.{keeps_takeover_discipline, takeover_disciplined, takeovers_within}
-use Rattle.takeover_laws.specs.Takeovers.{Takeover, giving, moves, moves_in, takeovers}
-use Rattle.takeover_laws.specs.Takeovers.{takeovers_in}
+use Rattle.host_laws.specs.Rules.{keeps_takeover_discipline, takeover_disciplined, takeovers_within}
+use Rattle.host_laws.specs.Takeovers.{Takeover, giving, moves, moves_in, takeovers}
+use Rattle.host_laws.specs.Takeovers.{takeovers_in}
+use Rattle.host_laws.proofs.TakeoverPublishing.{given_within}
 use Rattle.slot_check.specs.Batch.{claimed_twice_in, fresh_in, release_broken_in, takeover_broken_in}
 use Rattle.slot_check.specs.Broken.{claimed_twice, cut_off_at, publish_broken, release_broken, slots_broken_by}
 use Rattle.slot_check.specs.Broken.{takeover_broken, write_alone}
 use Rattle.slot_check.specs.Names.{AreUnwon, KeptNames, KnowsNames}
-use Rattle.queue_progress.specs.Progress.{KnowsProgress}
+use Rattle.slot_check.specs.Progress.{KnowsProgress}
 use Rattle.slot_check.specs.Takeovers.{KeptTakeovers, begins_at, begun_by, cut_by, cuts_in}
 use Rattle.slot_check.specs.Watched.{IsSlotCheckState, SlotCheckState}
 use Rattle.slot_check.specs.declared.broken.BrokenDiscipline.{BrokenDiscipline}
@@ -117,18 +118,6 @@ fresh_where w None o u d e = refl
 fresh_where None (Some l) o u d e = absurd (let f : Some (ClaimedTwice l) ≡ None = e in cc)
 fresh_where (Some m) (Some l) o u d e = absurd (let f : Some (NoSwap m) ≡ None = e in cc)
 
--- what the takeovers of the area give is what the takeovers give in the area
-givings_within : (slots : Range) (ws : List Takeover)
-    → in_area slots (map giving ws) ≡ map giving (takeovers_within slots ws)
-givings_within slots [] = refl
-givings_within slots (w ∷ ws) = go (has_block slots w.lba) (givings_within slots ws)
-  where
-    go : (b : Bool) → in_area slots (map giving ws) ≡ map giving (takeovers_within slots ws)
-        → cond b (giving w ∷ in_area slots (map giving ws)) (in_area slots (map giving ws))
-        ≡ map giving (cond b (w ∷ takeovers_within slots ws) (takeovers_within slots ws))
-    go true ih = ap (λ (xs : List Swap). giving w ∷ xs) ih
-    go false ih = ih
-
 map-append : (f : Takeover → Swap) (xs ys : List Takeover) → map f (xs ++ ys) ≡ map f xs ++ map f ys
 map-append f [] ys = refl
 map-append f (x ∷ xs) ys = ap (λ (zs : List Swap). f x ∷ zs) (map-append f xs ys)
@@ -160,7 +149,7 @@ all_moves : (slots : Range) (q first : ℕ) (batch : List Submission) (of : List
 all_moves slots q first batch of ws b =
     b.moves ∙ ap (λ (xs : List Takeover). in_area slots (swaps_in q first batch) ++ map giving xs) b.takeovers
     ∙ ap (λ (xs : List Swap). in_area slots (swaps_in q first batch) ++ xs)
-    (sym (givings_within slots (takeovers_in q first batch)))
+    (sym (given_within slots (takeovers_in q first batch)))
     ∙ sym (filter-append (λ s. has_block slots s.lba) (swaps_in q first batch)
     (map giving (takeovers_in q first batch)))
 

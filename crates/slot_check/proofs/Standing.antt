@@ -2,6 +2,8 @@
 use Rattle.nvme_model.specs.Tickets
 use Rattle.std.proofs.Common.{◌≡◌, ℕ, ◌≤◌, Bool, true, false, [], ◌∷◌, refl, sym, ap, ◌∙◌, arith, subst}
 use Rattle.std.proofs.Common.{Some, None, Option, inl, inr, length}
+use Rattle.ticket_laws.proofs.Counts.{fetched_within}
+use Rattle.ticket_laws.proofs.Later.{tickets_later}
 use Rattle.nvme_model.specs.History.{Past}
 use Rattle.nvme_model.specs.Legal.{IsLegal}
 use Rattle.nvme_model.specs.Open.{unit_range}
@@ -20,11 +22,10 @@ use Rattle.nvme_model.proofs.Rules.{follows}
 use Rattle.host_laws.specs.Calls.{yes_at}
 use Rattle.host_laws.proofs.Calls.{takes_from, takes_parts}
 use Rattle.host_laws.proofs.Elements.{In, in_cases}
-use Rattle.host_laws.proofs.Later.{block_facts, effect_at, fetched_before_later, tickets_later, unit_same}
-use Rattle.host_laws.proofs.Taken.{fetched_published}
+use Rattle.host_laws.proofs.Later.{block_facts, effect_at, fetched_before_later, unit_same}
 use Rattle.host_laws.proofs.TicketsApart.{within_fetched}
-use Rattle.takeover_laws.specs.Takeovers.{Takeover, is_taken, takeovers, takeovers_in, took_effect}
-use Rattle.takeover_laws.proofs.Taking.{TookBy, taken_from, taken_later, taken_parts, took_from, took_parts}
+use Rattle.host_laws.specs.Takeovers.{Takeover, is_taken, takeovers, takeovers_in, took_effect}
+use Rattle.host_laws.proofs.Taking.{TookBy, taken_from, taken_later, taken_parts, took_from, took_parts}
 use Rattle.slot_check.proofs.NewTakeovers.{new_in, new_takeovers}
 
 pub same_bools : (a b : Bool) → (a ≡ true → b ≡ true) → (b ≡ true → a ≡ true) → a ≡ b
@@ -108,7 +109,7 @@ untaken_published c past p l n h = untaken_on c (Entry.Publish p) past l n h (λ
         let k = takes_parts past x.ticket w.queue w.number x.takes in
         let f = within_fetched c past x.ticket before k.some k.known in
         let queue : (Tickets.ticket past x.ticket).queue ≡ p.queue = k.queue ∙ new.0 in
-        let g = fetched_published c past (Tickets.ticket past x.ticket).queue before in
+        let g = fetched_within c past (Tickets.ticket past x.ticket).queue before in
         let same : length (published_entries past (Tickets.ticket past x.ticket).queue) ≡ j =
         ap (λ (q : ℕ). length (published_entries past q)) queue in
         omega (arith, f, g, same, new.1, k.high)

@@ -8,8 +8,8 @@ use Rattle.std.proofs.Common.{eqb, eqb-true, eq-eqb, inl, inr, map, nat_le, slic
 use Rattle.std.specs.Bool.{beq}
 use Rattle.std.specs.List.{find, list_all, list_any}
 use Rattle.std.specs.Str.{bytes_eq}
-use Rattle.std.proofs.lemmas.Bool.{and_from, and_parts, cases_Bool, cond-false, or_cases, or_left, or_parts}
-use Rattle.std.proofs.lemmas.Bool.{or_right}
+use Rattle.std.proofs.lemmas.Bool.{and_from, and_parts, cases_Bool, cond-false, not-false, or_cases, or_left, or_parts}
+use Rattle.std.proofs.lemmas.Bool.{not-true, or_right}
 use Rattle.nvme_model.specs.Array.{blocks_from, has_block}
 use Rattle.nvme_model.specs.Answered.{may_find, right_answers}
 use Rattle.nvme_model.specs.EntryBytes.{Sqe, block_count, slba, sqe_fields}
@@ -20,7 +20,7 @@ use Rattle.nvme_model.specs.Operations.{compare_data, has_compare, is_pair, op, 
 use Rattle.nvme_model.specs.Placed.{effect}
 use Rattle.nvme_model.specs.Queues.{published_entries}
 use Rattle.nvme_model.specs.Slots.{Name, fetched_before, name_of}
-use Rattle.nvme_model.specs.Tickets.{Ticket, command, first_fields, in_flight, posts_of, tickets}
+use Rattle.nvme_model.specs.Tickets.{Ticket, command, first_fields, tickets}
 use Rattle.nvme_model.specs.Value.{all_equal, value}
 use Rattle.nvme_model.specs.Verdict.{taken_entries}
 use Rattle.nvme_model.specs.declared.array.Range.{Range}
@@ -33,28 +33,27 @@ use Rattle.nvme_model.specs.declared.operation.Op.{Op}
 use Rattle.nvme_model.specs.declared.status.Verdict.{Verdict}
 use Rattle.nvme_model.specs.declared.submission.Submission.{Submission}
 use Rattle.nvme_model.proofs.Blocks.{MayBlock, lbas, made_in_order, may_block, same_made}
-use Rattle.nvme_model.proofs.Bools.{not_false, not_true}
 use Rattle.nvme_model.proofs.Placed.{block_fetched, block_unposted}
 use Rattle.nvme_model.proofs.Rules.{follows}
-use Rattle.nvme_model.proofs.Written.{clash}
+use Rattle.nvme_model.proofs.Pairs.{marked_here}
+use Rattle.nvme_model.proofs.Cut.{clash}
 use Rattle.host_laws.specs.Calls.{says_yes, yes_at}
 use Rattle.host_laws.proofs.Calls.{takes_from, takes_parts}
 use Rattle.host_laws.proofs.Elements.{In, each_in, in_filter, of_filter, same_some}
-use Rattle.host_laws.proofs.Finds.{effect_here}
 use Rattle.host_laws.proofs.Later.{block_facts, pair_range}
 use Rattle.host_laws.proofs.Names.{name_eq, name_same}
 use Rattle.host_laws.proofs.SwapTickets.{on_one}
 use Rattle.host_laws.proofs.Taken.{ticket_taken}
 use Rattle.host_laws.proofs.TicketsApart.{taken_some}
 use Rattle.host_laws.proofs.Verdicts.{VerdictIs, fuse}
-use Rattle.takeover_laws.specs.Rules.{takeovers_within}
-use Rattle.takeover_laws.specs.Takeovers.{Takeover, is_taken, takeovers, took_effect}
-use Rattle.takeover_laws.proofs.Entries.{TakeoverOf, takeovers_are}
-use Rattle.takeover_laws.proofs.Losing.{pairs}
-use Rattle.takeover_laws.proofs.Taking.{TakenBy, TookBy, taken_from, taken_later, taken_parts, took_from, took_parts}
-use Rattle.queue_progress.specs.Progress.{KeptProgress, KnowsProgress, flying_of}
+use Rattle.host_laws.specs.Rules.{takeovers_within}
+use Rattle.host_laws.specs.Takeovers.{Takeover, is_taken, takeovers, took_effect}
+use Rattle.host_laws.proofs.Entries.{TakeoverOf, takeovers_are}
+use Rattle.host_laws.proofs.Losing.{pairs}
+use Rattle.host_laws.proofs.Taking.{TakenBy, TookBy, taken_from, taken_later, taken_parts, took_from, took_parts}
+use Rattle.slot_check.specs.Progress.{KeptProgress, KnowsProgress, flying_of}
 use Rattle.slot_check.specs.Takeovers.{KeptTakeovers, KnowsTakeovers, begins_at, takes_name}
-use Rattle.queue_progress.specs.declared.progress.Flying.{Flying}
+use Rattle.slot_check.specs.declared.progress.Flying.{Flying}
 use Rattle.slot_check.proofs.Standing.{same_bools, took_before}
 
 -- ---- an effect of a pair of one block says yes where no compare differed
@@ -118,7 +117,7 @@ module _ (c : ConfigNumbers) (past : Past) (b : BlockLine) (h : IsLegal c (Entry
           let order = subst (λ (xs : List BlockLine). InOrder xs) q (made_in_order c past b.ticket b.unit before) in
           let at : a.lba ≡ r.slba + 0 % r.blocks = heads _ _ _ _ order in
           let right : right_answers (Some past) k (b ∷ a ∷ []) ≡ true =
-          subst₂ (λ (o : Option Past) (xs : List BlockLine). right_answers o k xs ≡ true) (effect_here past b e)
+          subst₂ (λ (o : Option Past) (xs : List BlockLine). right_answers o k xs ≡ true) (marked_here past b e)
           (same_made b b.ticket b.unit (blocks_made past b.ticket b.unit) refl refl
           ∙ ap (λ (xs : List BlockLine). b ∷ xs) q) m.2.right in
           two_made past k r b a one at (and_parts _ _ words2).0 (or_parts _ _ differs).0 right
@@ -193,7 +192,7 @@ module _ (c : ConfigNumbers) (past : Past) (b : BlockLine) (h : IsLegal c (Entry
   took w i q n e d =
       let t = takes_of w i q n in
       let here : effect (Entry.Block b ∷ past) b.ticket 0 ≡ Some past =
-      subst (λ (u : ℕ). effect (Entry.Block b ∷ past) b.ticket u ≡ Some past) t.unit (effect_here past b e) in
+      subst (λ (u : ℕ). effect (Entry.Block b ∷ past) b.ticket u ≡ Some past) t.unit (marked_here past b e) in
       let same = all_same e d t.pair t.one in
       took_from (Entry.Block b ∷ past) w.queue w.number (record {
         ticket = b.ticket;
@@ -298,7 +297,7 @@ module _ (c : ConfigNumbers) (past : Past) (b : BlockLine) (h : IsLegal c (Entry
       | inl d ↦
           let m = may_block c past b h in
           let no = Pairs.says_no c past b m.0 m.2 e d in
-          let here : effect (Entry.Block b ∷ past) b.ticket b.unit ≡ Some past = effect_here past b e in
+          let here : effect (Entry.Block b ∷ past) b.ticket b.unit ≡ Some past = marked_here past b e in
           let yes : says_yes (Entry.Block b ∷ past) b.ticket b.unit ≡ true =
           subst₂ (λ (i u : ℕ). says_yes (Entry.Block b ∷ past) i u ≡ true) (sym et) (sym eu) y in
           let both : (has_compare (op k) && all_equal (value past) k r) ≡ true =
@@ -350,7 +349,7 @@ module _ (c : ConfigNumbers) (past : Past) (b : BlockLine) (h : IsLegal c (Entry
       | inl z ↦
           let a = and_parts (b.effect && not (is_differs b.found)) (Hit l n) z in
           let d = and_parts b.effect (not (is_differs b.found)) a.0 in
-          back l n d.0 (not_true (is_differs b.found) d.1) a.1
+          back l n d.0 (not-true (is_differs b.found) d.1) a.1
       | inr z ↦ taken_later c (Entry.Block b ∷ []) past l n h z
     ]) (forth l n v)
 
@@ -361,7 +360,7 @@ module _ (c : ConfigNumbers) (past : Past) (b : BlockLine) (h : IsLegal c (Entry
       → progress.flying b.ticket ≡ Some f → (f.queue ≡ k.queue) × (f.next ≡ fetched_before past b.ticket)
   flies progress f p e =
       let same = same_some f (flying_of past b.ticket) (progress.flying b.ticket) e
-      (p.flying b.ticket (not_false _ (follows c past (Entry.Block b) h).allowed.0)) in (
+      (p.flying b.ticket (not-false _ (follows c past (Entry.Block b) h).allowed.0)) in (
         ap (λ (y : Flying). y.queue) same,
         ap (λ (y : Flying). y.next) same ∙ omega (arith, block_unposted c past b h),
       )
@@ -369,7 +368,7 @@ module _ (c : ConfigNumbers) (past : Past) (b : BlockLine) (h : IsLegal c (Entry
   pub no_flying : (progress : KeptProgress) → KnowsProgress c past progress → progress.flying b.ticket ≡ None → ⊥
   no_flying progress p e =
       let f : None ≡ Some (flying_of past b.ticket) =
-      sym e ∙ p.flying b.ticket (not_false _ (follows c past (Entry.Block b) h).allowed.0) in
+      sym e ∙ p.flying b.ticket (not-false _ (follows c past (Entry.Block b) h).allowed.0) in
       cc
 
   -- a Block moves no count

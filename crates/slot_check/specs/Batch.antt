@@ -5,7 +5,7 @@ use Rattle.std.specs.List.{list_any}
 use Rattle.nvme_model.specs.Config.{completion_queue}
 use Rattle.nvme_model.specs.Slots.{Name, Swap, releases}
 use Rattle.nvme_model.specs.declared.config.ConfigNumbers.{ConfigNumbers}
-use Rattle.takeover_laws.specs.Takeovers.{Takeover}
+use Rattle.host_laws.specs.Takeovers.{Takeover}
 use Rattle.slot_check.specs.Broken.{first_of, release_fault}
 use Rattle.slot_check.specs.Names.{KeptNames, believes, claims_name, gives, keeps_queue}
 use Rattle.slot_check.specs.declared.broken.BrokenDiscipline.{BrokenDiscipline}

@@ -14,9 +14,9 @@ use Rattle.nvme_model.specs.declared.config.ConfigNumbers.{ConfigNumbers}
 use Rattle.nvme_model.specs.declared.entry.Entry.{Entry}
 use Rattle.nvme_model.specs.declared.entry.PublishLine.{PublishLine}
 use Rattle.nvme_model.specs.declared.submission.Submission.{Submission}
-use Rattle.takeover_laws.specs.Rules.{keeps_takeover_discipline, takeovers_within, takes_right}
-use Rattle.takeover_laws.specs.Takeovers.{Takeover, is_given_on, is_kept, is_taken, moves, moves_in, takeovers}
-use Rattle.takeover_laws.specs.Takeovers.{takeovers_in}
+use Rattle.host_laws.specs.Rules.{keeps_takeover_discipline, takeovers_within, takes_right}
+use Rattle.host_laws.specs.Takeovers.{Takeover, is_given_on, is_kept, is_taken, moves, moves_in, takeovers}
+use Rattle.host_laws.specs.Takeovers.{takeovers_in}
 use Rattle.slot_check.specs.declared.broken.BrokenDiscipline.{BrokenDiscipline}
 use Rattle.slot_check.specs.declared.broken.BrokenDiscipline.TheVariants.{ClaimedTwice, CutOff, NeverGiven, NoSwap}
 use Rattle.slot_check.specs.declared.broken.BrokenDiscipline.TheVariants.{OtherQueue, OwnQueue, TakenOver, Unbelieved}

@@ -1,3 +1,4 @@
+pub mod Progress
 pub mod Batch
 pub mod Broken
 pub mod Names

@@ -10,8 +10,8 @@ use Rattle.nvme_model.specs.History.{Past}
 use Rattle.nvme_model.specs.Slots.{Name, same_name}
 use Rattle.nvme_model.specs.declared.array.Range.{Range}
 use Rattle.nvme_model.specs.declared.config.ConfigNumbers.{ConfigNumbers}
-use Rattle.takeover_laws.specs.Rules.{takeovers_within}
-use Rattle.takeover_laws.specs.Takeovers.{Takeover, is_taken, takeovers}
+use Rattle.host_laws.specs.Rules.{takeovers_within}
+use Rattle.host_laws.specs.Takeovers.{Takeover, is_taken, takeovers}
 use Rattle.slot_check.specs.Broken.{cut_off_at}
 use Rattle.slot_check.specs.Names.{KeptNames, gives}
 use Rattle.slot_check.specs.declared.names.EntryNumber.{EntryNumber}

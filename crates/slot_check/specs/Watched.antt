@@ -5,10 +5,10 @@ use Rattle.nvme_model.specs.Legal.{IsLegal}
 use Rattle.nvme_model.specs.Slots.{in_area, reaped_success}
 use Rattle.nvme_model.specs.declared.array.Range.{Range}
 use Rattle.nvme_model.specs.declared.config.ConfigNumbers.{ConfigNumbers}
-use Rattle.takeover_laws.specs.Rules.{takeover_disciplined}
-use Rattle.takeover_laws.specs.Takeovers.{moves}
+use Rattle.host_laws.specs.Rules.{takeover_disciplined}
+use Rattle.host_laws.specs.Takeovers.{moves}
 use Rattle.slot_check.specs.Names.{KeptNames, KnowsNames, names_in}
-use Rattle.queue_progress.specs.Progress.{KeptProgress, KnowsProgress, progress_in}
+use Rattle.slot_check.specs.Progress.{KeptProgress, KnowsProgress, progress_in}
 use Rattle.slot_check.specs.Takeovers.{KeptTakeovers, KnowsTakeovers, takeovers_kept}
 use Rattle.slot_check.specs.declared.area.AreaCheck.{AreaCheck}
 use Rattle.slot_check.specs.declared.tables.SlotTables.{SlotTables}

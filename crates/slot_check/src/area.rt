@@ -6,18 +6,18 @@ ghost use Rattle.nvme_model.specs.Legal.{IsLegal};
 ghost use Rattle.nvme_model.specs.Slots.{disciplined};
 ghost use Rattle.nvme_model.specs.declared.config.ConfigNumbers.{ConfigNumbers};
 ghost use Rattle.host_laws.specs.Discipline.{keeps_at};
-ghost use Rattle.takeover_laws.specs.Rules.{takeover_disciplined};
-ghost use Rattle.takeover_laws.specs.Takeovers.{takeovers};
+ghost use Rattle.host_laws.specs.Rules.{takeover_disciplined};
+ghost use Rattle.host_laws.specs.Takeovers.{takeovers};
 ghost use Rattle.slot_check.specs.Broken.{discipline_broken, keeps_takeovers_at};
 ghost use Rattle.slot_check.specs.Watched.{IsSlotCheckState, Watches, area_state, slot_check_state_in};
 
 use crate::broken::BrokenDiscipline;
 use crate::names::Names;
+use crate::progress::QueueProgress;
 use crate::tables::{SlotTables, take_block, take_fetch, take_post, take_publish, take_reap};
 use crate::takeovers::Takeovers;
 use history::{Config, Entry};
 use nvme_model::array::Range;
-use queue_progress::QueueProgress;
 use std::alloc::{AllocError as NoMemory, Global};
 
 /// Says of each entry of a legal history that it takes which rule of the discipline of an area of slots it breaks. A

@@ -14,6 +14,7 @@ ghost use Rattle.slot_check.specs.Takeovers.{takeovers_kept};
 
 use crate::broken::BrokenDiscipline;
 use crate::names::Names;
+use crate::queue::completion_queue;
 use crate::swap::Swap;
 use crate::takeover::Takeover;
 use crate::takeovers::Takeovers;
@@ -21,8 +22,7 @@ use entry_codec::decode_sqe;
 use history::Config;
 use nvme_model::array::Range;
 use nvme_model::submission::Submission;
-use queue_progress::completion_queue;
-use slot_names::{Name, name_of};
+use nvme_model::{Name, name_of};
 use std::alloc::{AllocError as NoMemory, Global};
 
 /// Whether an area has a block.

@@ -9,10 +9,10 @@ ghost use Rattle.nvme_model.specs.Slots.{releases, same_name};
 ghost use Rattle.slot_check.specs.Batch.{fresh_in};
 ghost use Rattle.slot_check.specs.Names.{AreUnwon, KnowsNames, believes, claims_by, keeps_queue, names_in};
 
+use crate::queue::completion_queue;
 use crate::swap::Swap;
 use history::Config;
-use queue_progress::completion_queue;
-use slot_names::Name;
+use nvme_model::Name;
 use std::alloc::{AllocError as NoMemory, Global};
 use std::collections::{HashMap, HashSet};
 

@@ -2,7 +2,7 @@
 
 ghost use Rattle.std.specs.Prelude.{suc, ◌+◌, ◌<◌, ◌^◌, ◌≡◌};
 
-use slot_names::Name;
+use nvme_model::Name;
 use std::marker::Model;
 
 /// A claim or a release: its queue, the number of its first entry there, its block and its name.

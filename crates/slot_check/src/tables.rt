@@ -16,6 +16,8 @@ ghost use Rattle.slot_check.specs.Watched.{IsSlotCheckState, slot_check_state_in
 use crate::batch::{claimed_twice, release_broken, swaps_in_area, takeover_broken, write_alone};
 use crate::broken::BrokenDiscipline;
 use crate::names::Names;
+use crate::progress::QueueProgress;
+use crate::queue::completion_queue;
 use crate::swap::Swap;
 use crate::takeover::{Takeover, add_givings, takeovers_in_area};
 use crate::takeovers::Takeovers;
@@ -24,7 +26,6 @@ use nvme_model::array::Range;
 use nvme_model::entry::{BlockLine, FetchLine, PostLine, PublishLine, ReapLine};
 use nvme_model::operation::Found;
 use nvme_model::submission::Submission;
-use queue_progress::{QueueProgress, completion_queue};
 use std::alloc::{AllocError as NoMemory, Global};
 
 /// What a check of the slots keeps.

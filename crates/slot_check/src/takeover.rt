@@ -1,8 +1,8 @@
 //! Takeovers of slots, and those of a batch.
 
 ghost use Rattle.std.specs.Prelude.{IfOk, OnOk, length, map, ◌++◌, ◌+◌, ◌<◌, ◌^◌, ◌≡◌};
-ghost use Rattle.takeover_laws.specs.Rules.{takeovers_within};
-ghost use Rattle.takeover_laws.specs.Takeovers.{giving, takeover_by, takeover_of, takeovers_in};
+ghost use Rattle.host_laws.specs.Rules.{takeovers_within};
+ghost use Rattle.host_laws.specs.Takeovers.{giving, takeover_by, takeover_of, takeovers_in};
 ghost use Rattle.slot_check.specs.Takeovers.{listed_takeover};
 
 use crate::batch::{has_block, is_pair_on_one};
@@ -10,7 +10,7 @@ use crate::swap::Swap;
 use entry_codec::decode_sqe;
 use nvme_model::array::Range;
 use nvme_model::submission::Submission;
-use slot_names::{Name, name_of};
+use nvme_model::{Name, name_of};
 use std::alloc::{AllocError as NoMemory, Global};
 use std::marker::Model;
 
@@ -27,7 +27,7 @@ pub struct Takeover {
 
 impl Model for Takeover {
     ghost use Rattle.std.specs.Prelude.{◌+◌, ◌<◌, ◌^◌};
-    ghost use Rattle.takeover_laws.specs.Takeovers as takeovers;
+    ghost use Rattle.host_laws.specs.Takeovers as takeovers;
 
     ghost Value = { takeovers.Takeover };
 

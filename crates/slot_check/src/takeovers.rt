@@ -10,10 +10,10 @@ ghost use Rattle.slot_check.specs.Takeovers.{KnowsTakeovers, begins_at, begun_by
 ghost use Rattle.slot_check.specs.Takeovers.{takes_name};
 
 use crate::names::{EntryNumber, Names, SlotName};
+use crate::queue::completion_queue;
 use crate::takeover::Takeover;
 use history::Config;
-use queue_progress::completion_queue;
-use slot_names::Name;
+use nvme_model::Name;
 use std::alloc::{AllocError as NoMemory, Global};
 use std::collections::{HashMap, HashSet};
 
@@ -24,6 +24,8 @@ pub struct Takeovers {
     pub begun: HashMap<EntryNumber, Takeover>,
     /// The names that were taken over.
     pub taken: HashSet<SlotName>,
+    // Of several takeovers from one host the newest is named, of several slots in one Publish the
+    // first: so one slot for each completion queue is enough.
     /// For each completion queue that was cut off the block of the slot whose takeover did so.
     pub cut: HashMap<u16, u64>,
 }
@@ -135,6 +137,9 @@ impl Takeovers {
             (takeovers_kept self.new).taken l n ≡ (takeovers_kept self.old).taken l n) }
     {
         let entry = EntryNumber { queue, number };
+
+        // At the marked Block of its pair, unless that says `differs`: the mark may stand behind
+        // the compare, which then said `equal`.
         let Some(takeover) = self.begun.get(&entry).copied() else {
             return Ok(());
         };

@@ -18,9 +18,9 @@ use Rattle.driver_cas.specs.declared.call.Poll.{Poll}
 use Rattle.driver_cas.specs.declared.driver.Driver.{Driver}
 use Rattle.driver_cas.specs.declared.fault.Fault.{Fault}
 use Rattle.driver_cas.specs.declared.port.Port.{Ghosts}
-use Rattle.slot_calls.proofs.Winning.{answered_success, pair_answered, swapped_second}
-use Rattle.slot_calls.specs.Calls.{IsName, IsSentAs}
-use Rattle.slot_calls.specs.Swaps.{log_success, names_entry}
+use Rattle.slot_log_laws.proofs.Winning.{answered_success, pair_answered, swapped_second}
+use Rattle.slot_log_laws.specs.Calls.{IsName, IsSentAs}
+use Rattle.slot_log_laws.specs.Swaps.{log_success, names_entry}
 use Rattle.slot_alloc.specs.Areas.{block_of}
 use Rattle.slot_alloc.specs.Progresses.{IsQuiet}
 use Rattle.slot_alloc.specs.SlotRules.{own_name}

@@ -15,8 +15,8 @@ use Rattle.driver_cas.specs.declared.call.Poll.{Poll}
 use Rattle.driver_cas.specs.declared.driver.Driver.{Driver}
 use Rattle.driver_cas.specs.declared.fault.Fault.{Fault}
 use Rattle.driver_cas.specs.declared.port.Port.{Ghosts}
-use Rattle.slot_calls.proofs.Winning.{release_in, release_in_later}
-use Rattle.slot_calls.specs.Calls.{IsReleaseIn}
+use Rattle.slot_log_laws.proofs.Winning.{release_in, release_in_later}
+use Rattle.slot_log_laws.specs.Calls.{IsReleaseIn}
 use Rattle.slot_alloc.specs.Areas.{block_of}
 use Rattle.slot_alloc.specs.Progresses.{IsQuiet}
 use Rattle.slot_alloc.specs.SlotRules.{own_name}

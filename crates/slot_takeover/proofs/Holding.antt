@@ -16,15 +16,16 @@ use Rattle.driver_calls.specs.Log.{is_tidy}
 use Rattle.driver_calls.specs.Views.{IsAlone, PortView, log_of, since}
 use Rattle.driver_calls.proofs.Views.{since_none}
 use Rattle.driver_calls.specs.declared.event.PortEvent.{PortEvent}
-use Rattle.slot_calls.specs.Calls.{IsName, IsSentAs}
-use Rattle.slot_calls.specs.Swaps.{log_released, log_success}
-use Rattle.slot_calls.proofs.Knowing.{Knows, log_knows}
-use Rattle.takeover_laws.specs.Rules.{is_cut_off, takeover_disciplined}
-use Rattle.takeover_laws.specs.Takeovers.{Takeover, is_given_on, still_believed, takeovers}
-use Rattle.takeover_laws.proofs.Fencing.{unfenced_believed}
-use Rattle.takeover_laws.proofs.Winning.{taker_given, taker_kept}
+use Rattle.slot_log_laws.specs.Calls.{IsName, IsSentAs}
+use Rattle.slot_log_laws.specs.Swaps.{log_released, log_success}
+use Rattle.slot_log_laws.proofs.Knowing.{log_knows}
+use Rattle.slot_log_laws.proofs.Believing.{unreleased_on}
+use Rattle.host_laws.specs.Rules.{is_cut_off, takeover_disciplined}
+use Rattle.host_laws.specs.Takeovers.{Takeover, is_given_on, still_believed}
+use Rattle.host_laws.proofs.Fencing.{unfenced_believed}
+use Rattle.host_laws.proofs.Winning.{taker_given, taker_kept}
 use Rattle.slot_takeover.specs.Takeovers.{IsTakeoverBatch}
-use Rattle.slot_takeover.proofs.Knowing.{batch_takes, log_own, log_there, takeover_sent, unreleased_on}
+use Rattle.slot_takeover.proofs.Knowing.{batch_takes, log_own, log_there, takeover_sent}
 
 -- what a log says of a slot that it took over
 pub record Took (log : List PortEvent) (l : ℕ) (n : Name) : Type 0 where

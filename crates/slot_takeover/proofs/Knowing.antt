@@ -1,6 +1,6 @@
 -- The takeovers that a port published, and what its log says of them, stand in the history.
 use Rattle.std.proofs.Common.{Bool, List, [], ap, ap₂, cond, eqb, eqb-true, false, inl, inr, length, not, refl, subst}
-use Rattle.std.proofs.Common.{None, Option, Some, suc, sym, true, ℕ, ◌&&◌, ◌++◌, ◌||◌, ◌∙◌, ◌∷◌, ◌≡◌}
+use Rattle.std.proofs.Common.{None, Option, Some, suc, sym, true, ℕ, ◌++◌, ◌||◌, ◌∙◌, ◌∷◌, ◌≡◌}
 use Rattle.std.specs.List.{list_all}
 use Rattle.std.proofs.lemmas.Bool.{and_parts, cond-true}
 use Rattle.nvme_model.specs.Config.{completion_queue}
@@ -9,27 +9,22 @@ use Rattle.nvme_model.specs.History.{Past}
 use Rattle.nvme_model.specs.Legal.{IsLegal}
 use Rattle.nvme_model.specs.Passes.{SharedPast, entries}
 use Rattle.nvme_model.specs.Queues.{published_entries}
-use Rattle.nvme_model.specs.Slots.{Name, is_pair_on_one, name_of, releases, swaps}
+use Rattle.nvme_model.specs.Slots.{Name, is_pair_on_one, name_of}
 use Rattle.nvme_model.specs.declared.config.ConfigNumbers.{ConfigNumbers}
 use Rattle.nvme_model.specs.declared.entry.Entry.{Entry}
 use Rattle.nvme_model.specs.declared.submission.Submission.{Submission}
 use Rattle.nvme_model.proofs.Beginnings.{earlier}
-use Rattle.nvme_model.proofs.Written.{clash}
 use Rattle.host_laws.specs.Beside.{IsSole, is_beside}
-use Rattle.host_laws.specs.Claims.{is_released_on}
-use Rattle.host_laws.proofs.Claims.{none_any}
-use Rattle.host_laws.proofs.Elements.{In, in_cases, in_left, in_right, none_in}
+use Rattle.host_laws.proofs.Elements.{In, in_cases, in_left, in_right}
 use Rattle.driver_calls.specs.Events.{IsToldByLog, event_at, events}
 use Rattle.driver_calls.specs.Log.{is_tidy, sent}
 use Rattle.driver_calls.specs.declared.event.PortEvent.{PortEvent}
 use Rattle.driver_calls.proofs.Logs.{tidy_before}
 use Rattle.driver_calls.proofs.Telling.{log_tells}
-use Rattle.slot_calls.specs.Calls.{IsName, IsSentAs}
-use Rattle.slot_calls.specs.Swaps.{log_released, log_swaps}
-use Rattle.slot_calls.proofs.Batches.{pair_of, spelled}
-use Rattle.slot_calls.proofs.Knowing.{Knows}
-use Rattle.takeover_laws.specs.Takeovers.{Takeover, takeover_by, takeover_of, takeovers, takeovers_in}
-use Rattle.takeover_laws.proofs.Entries.{takeovers_later}
+use Rattle.slot_log_laws.specs.Calls.{IsName, IsSentAs}
+use Rattle.slot_log_laws.proofs.Batches.{pair_of, spelled}
+use Rattle.host_laws.specs.Takeovers.{Takeover, takeover_by, takeover_of, takeovers, takeovers_in}
+use Rattle.host_laws.proofs.Entries.{takeovers_later}
 use Rattle.slot_takeover.specs.Takeovers.{IsTakeoverBatch}
 
 -- the takeovers of a log, the newest batch first
@@ -195,12 +190,3 @@ takeover_sent log q j batch w x i =
     (subst (λ (k : ℕ). In w (takeovers_in q k batch)) (sym x.number) i) in
     subst (λ (xs : List PortEvent). In w (log_takeovers xs)) x.whole
     (log_takeovers_later x.later (PortEvent.Sent q batch ∷ x.before) w now)
-
--- what the log hasn't released isn't released on its completion queue
-pub unreleased_on : (c : ConfigNumbers) (past : Past) (n : ℕ) (log : List PortEvent) (l : ℕ) (name : Name)
-    → Knows c past n log → log_released log l name ≡ false → is_released_on c past n l name ≡ false
-unreleased_on c past n log l name k u =
-    none_any (λ r. releases r l name && eqb (completion_queue c r.queue) n) (swaps past) (λ r i e.
-    let a = and_parts (releases r l name) (eqb (completion_queue c r.queue) n) e in
-    clash (releases r l name) a.0
-    (none_in (λ s. releases s l name) (log_swaps log) r u (k.known r i (eqb-true _ _ a.1))))

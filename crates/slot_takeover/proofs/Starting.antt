@@ -1,22 +1,21 @@
 -- A takeover that was begun.
-use Rattle.std.proofs.Common.{List, Ok, Some, [], arith, ap, refl, subst, sym, true, ℕ, ◌∙◌, ◌∷◌, ◌<◌, ◌≡◌, ◌≢◌, ◌≤◌}
+use Rattle.std.proofs.Common.{List, Ok, [], arith, refl, subst, sym, ℕ, ◌∷◌, ◌<◌, ◌≢◌, ◌≤◌}
+use Rattle.plain_lemmas.proofs.Numbers.{unlike}
 use Rattle.nvme_model.specs.Slots.{Name}
 use Rattle.nvme_model.specs.declared.array.Range.{Range}
 use Rattle.nvme_model.specs.declared.operation.Op.{Op}
 use Rattle.driver_calls.specs.declared.event.PortEvent.{PortEvent}
 use Rattle.driver_cas.proofs.Sending.{sent_call}
-use Rattle.driver_cas.specs.Drivers.{HasSettings, area_of, host_of, made, number_of}
+use Rattle.driver_cas.specs.Drivers.{HasSettings, area_of, host_of, made}
 use Rattle.driver_cas.specs.TakeoverStarts.{IsTakeoverStart, takeover_data}
 use Rattle.driver_cas.specs.declared.call.Call.{Call}
 use Rattle.driver_cas.specs.declared.driver.Driver.{Driver}
 use Rattle.driver_cas.specs.declared.port.Port.{Ghosts}
-use Rattle.slot_calls.specs.Calls.{IsName}
+use Rattle.slot_log_laws.specs.Calls.{IsName}
 use Rattle.slot_alloc.specs.Areas.{block_of}
 use Rattle.slot_alloc.specs.SlotRules.{own_name}
 use Rattle.slot_alloc.proofs.Starting.{number_now}
 use Rattle.slot_takeover.specs.Takeovers.{IsTakeoverIn, IsTakingOverOf}
-use Rattle.slot_takeover.specs.declared.taking.TakingOver.{TakingOver}
-use Rattle.slot_takeover.proofs.Names.{unlike}
 
 module _ {P : Type 0} (g : Ghosts P) where
   -- what is known of a takeover that was begun

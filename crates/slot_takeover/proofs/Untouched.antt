@@ -1,7 +1,7 @@
 -- What was begun and what is held, where the driver did nothing.
 use Rattle.std.proofs.Common.{List, ap, inl, subst, sym, ℕ, ◌<◌, ◌≡◌}
 use Rattle.nvme_model.specs.declared.array.Range.{Range}
-use Rattle.cid_table.specs.Cids.{QueueCids, held}
+use Rattle.driver_cas.specs.Cids.{QueueCids, held}
 use Rattle.driver_calls.specs.declared.event.PortEvent.{PortEvent}
 use Rattle.driver_cas.proofs.Drivers.{reaped_calls}
 use Rattle.driver_cas.specs.Drivers.{IsCallOf, area_of, made}

@@ -17,8 +17,8 @@ use Rattle.driver_cas.specs.declared.fault.Fault.{Fault}
 use Rattle.driver_cas.specs.declared.port.Port.{Ghosts}
 use Rattle.slot_alloc.specs.Areas.{block_of}
 use Rattle.slot_alloc.specs.SlotRules.{own_name}
-use Rattle.slot_calls.specs.Calls.{IsName, IsReleaseIn, IsSentAs}
-use Rattle.slot_calls.specs.Swaps.{log_success}
+use Rattle.slot_log_laws.specs.Calls.{IsName, IsReleaseIn, IsSentAs}
+use Rattle.slot_log_laws.specs.Swaps.{log_success}
 use Rattle.slot_takeover.specs.declared.giving_back.GivingBack.{GivingBack}
 use Rattle.slot_takeover.specs.declared.held.HeldSlot.{HeldSlot}
 use Rattle.slot_takeover.specs.declared.taking.TakingOver.{TakingOver}

@@ -10,8 +10,8 @@ ghost use Rattle.slot_takeover.specs.Holders.{IsHolderBegun, IsHolderPolled, IsR
 ghost use Rattle.slot_takeover.specs.Holders.{holder_in, holder_named, later_reading};
 
 use driver_cas::{Call, Driver, Fault, Poll, Port, Reply};
+use nvme_model::{Name, name_of};
 use slot_alloc::Slots;
-use slot_names::{Name, name_of};
 
 // The block of a slot that nobody holds.
 const ZEROS: [u8; 512] = [0; 512];

@@ -1,4 +1,4 @@
-//! Takes over the slots of a host that is fenced, by Compare and Write, and tells who holds a slot.
+//! Takes over the slots of a host that is fenced, for hosts that survive it, and tells who holds a slot.
 #![tactic(auto)]
 
 mod giving_back;

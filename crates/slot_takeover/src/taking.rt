@@ -7,8 +7,8 @@ ghost use Rattle.slot_alloc.specs.Areas.{area};
 ghost use Rattle.slot_takeover.specs.Takeovers.{IsTakeoverBegun, IsTakingOverOf};
 
 use driver_cas::{Call, Driver, Fault, Port};
+use nvme_model::Name;
 use slot_alloc::Slots;
-use slot_names::Name;
 
 /// A takeover that was begun. It can't be copied, and one that is dropped keeps its CIDs, and its slot if it is won.
 #[derive(Drop)]
@@ -40,6 +40,7 @@ fn serial_of_name(name: &Name) -> u64
     name.serial
 }
 
+// Functions, and no methods of `Slots`, since a type has methods in its own crate alone.
 /// Begins to take slot `i` over from the name of a dead host: one fused pair is published, from that name to this
 /// driver's host and its next serial, and no Read. That the dead host is fenced is for the caller to see.
 ///

@@ -1,12 +1,12 @@
 //! Sixteen hosts on one slot, each served in a random order.
 
 ghost use Rattle.std.specs.Prelude.{◌≡◌, ◌<◌, ◌≤◌, All, IfOk, IfSome};
-ghost use Rattle.driver_rows.specs.Benches.{AreBenchSpares, IsServerOf};
-ghost use Rattle.driver_rows.specs.Claimants.{IsClaimant};
+ghost use Rattle.driver_testing.specs.Benches.{AreBenchSpares, IsServerOf};
+ghost use Rattle.driver_testing.specs.Claimants.{IsClaimant};
 ghost use Rattle.slot_alloc.specs.Areas.{area};
 
 use crate::rows::closes;
-use driver_rows::{
+use driver_testing::{
     Bench, BenchSpares, Came, Claimant, ClaimantStage, Server, answered, asks, bench_of, caller_of,
     claimant_of, gives_back,
 };

@@ -8,7 +8,7 @@ ghost use Rattle.slot_alloc.specs.Claims.{IsClaimingOf};
 
 use crate::rows::named;
 use driver_cas::{Driver, Fault, PortFault};
-use driver_rows::{Came, Contents, Did, Fake, Script, driver_of, good};
+use driver_testing::{Came, Contents, Did, Fake, Script, driver_of, good};
 use nvme_model::submission::Submission;
 use slot_alloc::{Claiming, Progress, Slots, poll_claim};
 use std::alloc::Global;

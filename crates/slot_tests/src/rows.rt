@@ -1,11 +1,11 @@
 //! Two hosts and one or two slots, every call served before the next, and the blocks' bytes.
 
 ghost use Rattle.std.specs.Prelude.{◌≡◌, ◌<◌, ◌≤◌, IfOk};
-ghost use Rattle.driver_rows.specs.Benches.{AreBenchSpares, IsServerOf};
-ghost use Rattle.driver_rows.specs.Claimants.{IsClaimant};
+ghost use Rattle.driver_testing.specs.Benches.{AreBenchSpares, IsServerOf};
+ghost use Rattle.driver_testing.specs.Claimants.{IsClaimant};
 ghost use Rattle.slot_alloc.specs.Areas.{area};
 
-use driver_rows::{
+use driver_testing::{
     Bench, BenchSpares, Came, Claimant, Contents, Server, asks, claimants_of, claims, is_served,
     leaves, meets, polls_begun, reads, releases, serves, small_bench,
 };

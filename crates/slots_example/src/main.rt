@@ -1,4 +1,4 @@
-//! Two hosts and one slot, on one thread with the server of their controller.
+//! The program of docs/SLOTS.md: two hosts and one slot, on one thread with the server of their controller.
 #![tactic(auto)]
 
 ghost use Rattle.std.specs.Prelude.{IfSome, ◌≡◌};

@@ -7,9 +7,10 @@ use Rattle.nvme_model.specs.declared.step.Step.{Step}
 use Rattle.nvme_model.specs.History.{Past}
 use Rattle.nvme_model.specs.Refusals.{refusal}
 use Rattle.nvme_model.specs.Steps.{next_entry}
-use Rattle.controller_steps.specs.State.{Does, Room, ControllerState, TakesRoom, WantsMemory, answer_of, promised_after}
-use Rattle.controller_steps.specs.State.{refused_as}
-use Rattle.controller_steps.specs.declared.answer.Answer.{Answer}
+use Rattle.controller_interface.specs.State.{Does, Room, ControllerState, TakesRoom, WantsMemory, answer_of}
+use Rattle.controller_interface.specs.State.{promised_after}
+use Rattle.controller_interface.specs.State.{refused_as}
+use Rattle.controller_interface.specs.declared.answer.Answer.{Answer}
 
 -- a call whose error nothing allows answers Ok
 pub ok_unless : {A E : Type 0} {P : E → Type 0} (r : Result A E) → IfErr r P → ((e : E) → P e → ⊥) → is_ok r ≡ true

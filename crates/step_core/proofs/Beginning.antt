@@ -14,7 +14,7 @@ use Rattle.nvme_model.specs.declared.config.ConfigNumbers.{ConfigNumbers}
 use Rattle.nvme_model.proofs.Medium.{medium_is_value}
 use Rattle.nvme_model.proofs.Accepted.{accepted}
 use Rattle.rings.specs.Queues.{completion_ring, submission_ring}
-use Rattle.cids_in_use.proofs.Counts.{none_used}
+use Rattle.rings.proofs.CidCounts.{none_used}
 use Rattle.step_core.specs.Kept.{CoreFields, IsCoreOf}
 use Rattle.rings.proofs.Tables.{IsTable-replicate}
 use Rattle.rings.proofs.Beginnings.{completion_empty, submission_empty}

@@ -6,7 +6,7 @@ use Rattle.std.specs.Prelude.{is_none}
 use Rattle.std.specs.List.{find, list_any}
 use Rattle.std.specs.Option.{option_map}
 use Rattle.std.proofs.Math.Nat.{mod-lt}
-use Rattle.std.proofs.lemmas.Bool.{or_parts}
+use Rattle.std.proofs.lemmas.Bool.{not-false, or_parts}
 use Rattle.std.proofs.lemmas.List.{length-replicate}
 use Rattle.nvme_model.specs.declared.array.Range.{Range}
 use Rattle.nvme_model.specs.declared.config.ConfigNumbers.{ConfigNumbers}
@@ -19,7 +19,7 @@ use Rattle.nvme_model.specs.EntryBytes.{block_count, slba}
 use Rattle.nvme_model.specs.History.{Past}
 use Rattle.nvme_model.specs.Legal.{IsLegal}
 use Rattle.nvme_model.specs.Medium.{medium}
-use Rattle.nvme_model.specs.Open.{blocks_made, granted, grants_of, is_differs, is_read_found, is_written, open_units}
+use Rattle.nvme_model.specs.Open.{blocks_made, granted, grants_of, is_differs, open_units}
 use Rattle.nvme_model.specs.Open
 use Rattle.nvme_model.specs.Operations.{compare_data, has_compare, op, units}
 use Rattle.nvme_model.specs.Refusals.{conditions, has_open, refusal}
@@ -44,12 +44,11 @@ use Rattle.block_exec.proofs.Histories.{unit_has_ended-progress_of}
 use Rattle.block_exec.proofs.Parts.{data_at-unit_compare, length-unit_compare}
 use Rattle.job_table.specs.Keeping.{finds_equal}
 use Rattle.job_table.specs.Parts.{HasPart, part_end, part_of}
-use Rattle.ticket_progress.specs.Shown.{stage_by}
-use Rattle.ticket_progress.specs.declared.progress.TicketStage.TheVariants.{Open}
+use Rattle.job_table.specs.Shown.{stage_by}
+use Rattle.job_table.specs.declared.progress.TicketStage.TheVariants.{Open}
 use Rattle.job_table.specs.Tickets.{compare_bytes, job_at, job_by, read_bytes_by}
 use Rattle.rings.specs.Tables.{IsTable}
 use Rattle.step_core.proofs.Granting.{any_found, job_stage}
-use Rattle.nvme_model.proofs.Bools.{not_false}
 
 -- ---- the unit that a Block is of
 
@@ -110,7 +109,7 @@ pub unit_found : (c : ConfigNumbers) (past : Past) (t : ℕ) → IsLegal c past 
     → (g : GrantLine) × (o : Op) × IsUnit c past t g o
 unit_found c past t h none =
     let rows = none_holds (conditions c past (Step.Block t)) (ap is_none none) in
-    unit_there c past t h (not_false (has_open past t) rows.1.0)
+    unit_there c past t h (not-false (has_open past t) rows.1.0)
 
 -- ---- parts of data
 

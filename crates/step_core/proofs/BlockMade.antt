@@ -2,6 +2,7 @@
 use Rattle.std.proofs.Common.{◌≡◌, ℕ, suc, ◌-◌, Bool, true, false, cond, List, ◌∷◌, map, refl, sym, ap, ap₂, ◌∙◌, subst}
 use Rattle.std.proofs.Common.{Ok, Some, None, not, ◌==◌}
 use Rattle.std.specs.Prelude.{is_none, is_some}
+use Rattle.std.proofs.lemmas.Bool.{not-false}
 use Rattle.nvme_model.specs.declared.config.ConfigNumbers.{ConfigNumbers}
 use Rattle.nvme_model.specs.declared.entry.BlockLine.{BlockLine}
 use Rattle.nvme_model.specs.declared.entry.Entry.{Entry}
@@ -32,19 +33,18 @@ use Rattle.block_exec.specs.declared.run.Done.{Done}
 use Rattle.rings.specs.Completions.{CompletionRing}
 use Rattle.rings.specs.Submissions.{SubmissionRing}
 use Rattle.job_table.specs.Jobs.{JobTable, has_job_of, job_of, replaced}
-use Rattle.job_table.proofs.Tickets.{is_some-job_of}
+use Rattle.job_table.proofs.TicketLookups.{is_some-job_of}
 use Rattle.job_table.specs.Keeping.{CanMake, Keeping, finds_equal, noted_job, read_of, written_on}
-use Rattle.ticket_progress.specs.Stages.{IfOpen, is_open, unit_in}
-use Rattle.ticket_progress.specs.declared.progress.TicketStage.{TicketStage}
-use Rattle.ticket_progress.specs.declared.progress.TicketStage.TheVariants.{Open}
+use Rattle.job_table.specs.Stages.{IfOpen, is_open, unit_in}
+use Rattle.job_table.specs.declared.progress.TicketStage.{TicketStage}
+use Rattle.job_table.specs.declared.progress.TicketStage.TheVariants.{Open}
 use Rattle.rings.specs.Queues.{completion_ring, submission_ring}
 use Rattle.job_table.specs.Tickets.{job_at}
 use Rattle.step_core.specs.Kept.{CoreFields, IsCoreOf}
 use Rattle.rings.specs.Tables.{IsTable}
-use Rattle.controller_steps.specs.State.{Does, Room, ControllerState, TakesRoom, answer_of}
-use Rattle.controller_steps.specs.declared.answer.Answer.{Answer}
+use Rattle.controller_interface.specs.State.{Does, Room, ControllerState, TakesRoom, answer_of}
+use Rattle.controller_interface.specs.declared.answer.Answer.{Answer}
 use Rattle.step_core.proofs.BlockData.{IsUnit, done_same, finds_same, stage_is, unit_found}
-use Rattle.nvme_model.proofs.Bools.{not_false}
 use Rattle.step_core.proofs.BlockKept.{read_now, volume_now}
 use Rattle.step_core.proofs.Blocked.{done_is, done_now, ended_is, entry_is, is_equal, job_now, line_now}
 use Rattle.step_core.proofs.Moves.{job_found, jobs_moved, legal_after, stepped as next_kept}
@@ -96,7 +96,7 @@ module _ (c : ConfigNumbers) (past : Past) (fields : CoreFields) (k : IsCoreOf c
   there =
       let rows = none_holds (conditions c past (Step.Block t)) (ap is_none none) in
       ap (λ (x : JobTable). job_of x.jobs t) k.jobs ∙ job_found c past t k.run.legal
-      ∙ ap (λ b. cond b (Some (job_at c past t)) None) (not_false (in_flight past t) rows.0)
+      ∙ ap (λ b. cond b (Some (job_at c past t)) None) (not-false (in_flight past t) rows.0)
 
   -- its ticket has a job
   pub has_job : has_job_of j.jobs t ≡ true

@@ -28,11 +28,11 @@ use Rattle.block_exec.specs.Progress.{unit_has_ended, next_block}
 use Rattle.block_exec.specs.Units.{progress_of}
 use Rattle.block_exec.specs.declared.run.Done.{Done}
 use Rattle.block_exec.proofs.Histories.{block_entry-next_done, unit_has_ended-progress_of, progress_of-stepped}
-use Rattle.ticket_progress.specs.Shown.{standing_stage}
-use Rattle.ticket_progress.specs.Stages.{noted_in}
-use Rattle.ticket_progress.proofs.Blocked.{blocked}
+use Rattle.job_table.specs.Shown.{standing_stage}
+use Rattle.job_table.specs.Stages.{noted_in}
+use Rattle.job_table.proofs.Blocked.{blocked}
 use Rattle.job_table.specs.Tickets.{compare_bytes, job_at, job_by, read_bytes_by, still_written}
-use Rattle.controller_steps.specs.State.{done_of}
+use Rattle.controller_interface.specs.State.{done_of}
 use Rattle.step_core.proofs.BlockData.{IsUnit, unended}
 
 -- ---- what a Block of an open unit says

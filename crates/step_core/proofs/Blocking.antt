@@ -14,11 +14,11 @@ use Rattle.nvme_model.specs.Refusals.{has_open, refusal}
 use Rattle.nvme_model.specs.Tickets.{ticket}
 use Rattle.ticket_laws.specs.Standing.{Standing, blocks_left, standing, still_owed, unit_of}
 use Rattle.block_exec.specs.Progress.{UnitProgress}
-use Rattle.ticket_progress.specs.Shown.{stage_by}
-use Rattle.ticket_progress.specs.Stages.{is_open}
-use Rattle.ticket_progress.specs.declared.progress.TicketStage.{TicketStage}
-use Rattle.ticket_progress.specs.declared.progress.TicketStage.TheVariants.{Owing, Waiting}
-use Rattle.ticket_progress.proofs.Granted.{none_found}
+use Rattle.job_table.specs.Shown.{stage_by}
+use Rattle.job_table.specs.Stages.{is_open}
+use Rattle.job_table.specs.declared.progress.TicketStage.{TicketStage}
+use Rattle.job_table.specs.declared.progress.TicketStage.TheVariants.{Owing, Waiting}
+use Rattle.job_table.proofs.Granted.{none_found}
 use Rattle.job_table.specs.Keeping.{Keeping}
 use Rattle.job_table.specs.Tickets.{job_at}
 use Rattle.step_core.specs.Found.{IsJob}

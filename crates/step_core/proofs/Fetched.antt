@@ -43,7 +43,7 @@ use Rattle.job_table.specs.declared.jobs.InFlight.{InFlight}
 use Rattle.job_table.proofs.Tables.{all_jobs_below-jobs_by, push-jobs_by}
 use Rattle.range_reserve.specs.Reserved.{by_ticket, held_of}
 use Rattle.range_reserve.specs.declared.held.HeldRange.{HeldRange}
-use Rattle.ticket_progress.specs.Stages.{IsSound}
+use Rattle.job_table.specs.Stages.{IsSound}
 use Rattle.rings.specs.Completions.{CompletionRing}
 use Rattle.rings.specs.Submissions.{SubmissionRing, advanced}
 use Rattle.job_table.specs.Beginning.{HasBlocks, read_first, write_first}
@@ -52,15 +52,15 @@ use Rattle.step_core.specs.declared.controller.fetch.Front.{Front}
 use Rattle.rings.specs.Queues.{completion_ring, submission_ring}
 use Rattle.job_table.specs.Tickets.{job_at, job_by, job_table, write_blocks}
 use Rattle.step_core.specs.Kept.{AreAllQueueCids, AreQueueCids, CoreFields, IsCoreOf}
-use Rattle.cids_in_use.specs.Used.{UsedCids}
-use Rattle.controller_steps.specs.State.{Does, Room, ControllerState, TakesRoom, work_of}
-use Rattle.controller_steps.specs.Works.{IsKind, TicketWork}
-use Rattle.controller_steps.specs.declared.answer.Answer.{Answer}
-use Rattle.controller_steps.specs.declared.work.Kind.{Kind}
+use Rattle.rings.specs.Used.{UsedCids}
+use Rattle.controller_interface.specs.State.{Does, Room, ControllerState, TakesRoom, work_of}
+use Rattle.controller_interface.specs.Works.{IsKind, TicketWork}
+use Rattle.controller_interface.specs.declared.answer.Answer.{Answer}
+use Rattle.controller_interface.specs.declared.work.Kind.{Kind}
 use Rattle.step_core.proofs.FetchedJob.{Names, fresh_job, kind_fits, kind_is, sound, ticket_by}
 use Rattle.step_core.proofs.FetchedData.{blocks_are, has_blocks}
 use Rattle.step_core.proofs.Fetching.{blocks_most, front_command, full_is}
-use Rattle.cids_in_use.proofs.Counts.{count_append, same_length, used_at, used_set}
+use Rattle.rings.proofs.CidCounts.{count_append, same_length, used_at, used_set}
 use Rattle.step_core.proofs.InUse.{count_fetched, two_each}
 use Rattle.step_core.proofs.Moves.{legal_after, stepped}
 use Rattle.rings.proofs.Tables.{IsTable-same}

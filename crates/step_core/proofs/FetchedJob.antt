@@ -1,9 +1,8 @@
 -- The job and the work of a ticket that was just fetched.
-use Rattle.std.proofs.Common.{◌≡◌, ℕ, ◌+◌, ◌-◌, ◌*◌, ◌≤◌, Bool, true, false, cond, List, [], replicate, Some, None}
+use Rattle.std.proofs.Common.{◌≡◌, ℕ, ◌+◌, ◌-◌, ◌*◌, ◌≤◌, true, false, cond, List, [], replicate, Some}
 use Rattle.std.proofs.Common.{is_some, refl, sym, ap, ap₂, ◌∙◌, inl, inr, arith}
 use Rattle.nvme_model.specs.Cells.{pair_fits}
-use Rattle.nvme_model.specs.Commands.{is_compare, is_read, is_write, is_write_zeroes}
-use Rattle.nvme_model.specs.EntryBytes.{Sqe, block_count, slba}
+use Rattle.nvme_model.specs.EntryBytes.{block_count, slba}
 use Rattle.nvme_model.specs.Operations.{has_compare, is_pair, op, op_of_fields}
 use Rattle.ticket_laws.specs.Standing.{fresh_standing}
 use Rattle.nvme_model.specs.Tickets.{Ticket, cids, command, first_fields}
@@ -13,20 +12,21 @@ use Rattle.nvme_model.specs.declared.config.ConfigNumbers.{ConfigNumbers}
 use Rattle.nvme_model.specs.declared.operation.Op.{Op}
 use Rattle.nvme_model.specs.declared.submission.Submission.{Submission}
 use Rattle.nvme_model.proofs.Checked.{TicketChecked}
-use Rattle.nvme_model.proofs.Written.{clash}
 use Rattle.nvme_model.specs.Array.{IsRange}
+use Rattle.nvme_model.proofs.NextPost.{not_pair}
+use Rattle.nvme_model.proofs.Cut.{clash}
 use Rattle.fused_match.specs.Judged.{NamesBlocks, operation_in, verdict_by}
 use Rattle.fused_match.specs.declared.judged.Judged.{Judged}
 use Rattle.fused_match.specs.declared.judged.Judged.TheVariants as judged
-use Rattle.ticket_progress.specs.Stages.{IsSound, commands_in}
-use Rattle.ticket_progress.proofs.Fetched.{fetched}
+use Rattle.job_table.specs.Stages.{IsSound, commands_in}
+use Rattle.job_table.proofs.Fetched.{fetched}
 use Rattle.step_core.specs.Found.{first_job, kind_in}
 use Rattle.job_table.specs.Beginning.{read_first}
 use Rattle.step_core.specs.declared.controller.fetch.Front.{Front}
 use Rattle.job_table.specs.Tickets.{job_by, read_bytes_by, write_blocks}
-use Rattle.controller_steps.specs.State.{kind_by, kind_of, ticket_range}
-use Rattle.controller_steps.specs.Works.{IsKind}
-use Rattle.controller_steps.specs.declared.work.Kind.{Kind}
+use Rattle.controller_interface.specs.State.{kind_by, kind_of, ticket_range}
+use Rattle.controller_interface.specs.Works.{IsKind}
+use Rattle.controller_interface.specs.declared.work.Kind.{Kind}
 use Rattle.step_core.proofs.Written.{fresh_blocks}
 
 -- the ticket of these commands
@@ -39,19 +39,6 @@ pub record Names (j : Judged) (k : Ticket) : Type 0 where
   pub range : NamesBlocks j (first_fields k)
 
 -- ---- what it has to do
-
--- one command alone is no pair
-alone : (e : Sqe) → is_pair (op_of_fields e) ≡ false
-alone e = go (is_write e) (is_read e) (is_compare e) (is_write_zeroes e)
-  where
-    go : (w r m z : Bool) → is_pair
-        (cond w (Some Op.Write) (cond r (Some Op.Read) (cond m (Some Op.Compare) (cond z (Some Op.WriteZeroes) None))))
-        ≡ false
-    go true r m z = refl
-    go false true m z = refl
-    go false false true z = refl
-    go false false false true = refl
-    go false false false false = refl
 
 -- a range by its two numbers
 same_range : (r : Range) (s n : ℕ) → r.slba ≡ s → r.blocks ≡ n → r ≡ record { slba = s; blocks = n }
@@ -72,17 +59,17 @@ pub kind_is : (q : ℕ) (j : Judged) (cs : List Submission) → Names j (ticket_
 kind_is q judged.Flush cs h = ap (kind_by (ticket_by q judged.Flush cs)) h.operation
 kind_is q (judged.Single o r) cs h =
     let k = ticket_by q (judged.Single o r) cs in
-    units_kind k o r (ap is_pair h.operation ∙ alone (first_fields k)) (same_range r _ _ h.range.0 h.range.1)
+    units_kind k o r (ap is_pair h.operation ∙ not_pair (first_fields k)) (same_range r _ _ h.range.0 h.range.1)
     ∙ ap (kind_by k) h.operation
 kind_is q (judged.Pair r) cs h = ap (λ (x : Range). Kind.Pair x) (same_range r _ _ h.range.0 h.range.1)
 kind_is q (judged.SingleFailed s) cs h = refl
 kind_is q (judged.PairFailed s r) cs h = refl
 
--- one command alone does no pair's work
+-- one command not_pair does no pair's work
 pub no_pair : (q : ℕ) (r : Range) (cs : List Submission)
     → Names (judged.Single Op.Pair r) (ticket_by q (judged.Single Op.Pair r) cs) → ⊥
 no_pair q r cs h = let k = ticket_by q (judged.Single Op.Pair r) cs in
-    clash (is_pair (op_of_fields (first_fields k))) (sym (ap is_pair h.operation)) (alone (first_fields k))
+    clash (is_pair (op_of_fields (first_fields k))) (sym (ap is_pair h.operation)) (not_pair (first_fields k))
 
 -- a range within a volume
 range_fits : (r : Range) (s n m : ℕ) → r.slba ≡ s → r.blocks ≡ n + 1 → s + (n + 1) ≤ m → m ≤ 65536 → IsRange r
@@ -111,7 +98,7 @@ pub sound : (u : AtomicParameters) (q : ℕ) (j : Judged) (cs : List Submission)
     → IsKind u (kind_in j) → IsSound j
 sound u q judged.Flush cs h fits = tt
 sound u q (judged.Single o r) cs h fits =
-    (one_command o (ap is_pair h.operation ∙ alone (first_fields (ticket_by q (judged.Single o r) cs))), fits)
+    (one_command o (ap is_pair h.operation ∙ not_pair (first_fields (ticket_by q (judged.Single o r) cs))), fits)
   where
     one_command : (o : Op) → is_pair (Some o) ≡ false → commands_in o ≡ 1
     one_command Op.Read e = refl

@@ -23,7 +23,7 @@ use Rattle.nvme_model.specs.declared.submission.Submission.{Submission}
 use Rattle.ticket_laws.proofs.Counts.{flying_count}
 use Rattle.ticket_laws.proofs.InUse.{verdict_same}
 use Rattle.nvme_model.proofs.Rules.{none_holds}
-use Rattle.cids_in_use.specs.Used.{UsedCids}
+use Rattle.rings.specs.Used.{UsedCids}
 use Rattle.fused_match.specs.Judged.{NamesBlocks, cids_taken, operation_in, verdict_by, waiting_items}
 use Rattle.fused_match.specs.declared.judged.Judged.{Judged}
 use Rattle.job_table.specs.Jobs.{JobTable}
@@ -34,7 +34,7 @@ use Rattle.step_core.specs.declared.controller.fetch.Front.{Front}
 use Rattle.job_table.specs.Tickets.{job_at}
 use Rattle.rings.specs.Queues.{submission_ring}
 use Rattle.step_core.specs.Kept.{AreQueueCids, CoreFields, IsCoreOf}
-use Rattle.cids_in_use.proofs.Counts.{same_in}
+use Rattle.rings.proofs.CidCounts.{same_in}
 
 -- ---- the limits of a configuration
 

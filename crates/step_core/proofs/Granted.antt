@@ -30,16 +30,17 @@ use Rattle.range_reserve.proofs.Rising.{list_any-by_ticket}
 use Rattle.range_reserve.specs.declared.held.HeldRange.{HeldRange}
 use Rattle.range_reserve.proofs.Granted.{has_conflict-map, holds_range-map}
 use Rattle.nvme_model.specs.Array.{IsRange}
+use Rattle.nvme_model.proofs.UnitsWork.{units_of_op}
 use Rattle.rings.specs.Completions.{CompletionRing}
 use Rattle.rings.specs.Submissions.{SubmissionRing}
 use Rattle.job_table.specs.Jobs.{JobTable, has_job_of as has_ticket_in, job_of, replaced}
-use Rattle.job_table.proofs.Tickets.{is_some-job_of}
+use Rattle.job_table.proofs.TicketLookups.{is_some-job_of}
 use Rattle.job_table.specs.Keeping.{Keeping, opened_job}
-use Rattle.ticket_progress.specs.Shown.{standing_stage}
-use Rattle.ticket_progress.specs.Stages.{IsFirstUnit, opened_in}
-use Rattle.ticket_progress.specs.declared.progress.TicketStage.{TicketStage}
-use Rattle.ticket_progress.proofs.Granted.{granted, none_found, units_of_op}
-use Rattle.ticket_progress.proofs.Waits.{Waits, first_of, opens}
+use Rattle.job_table.specs.Shown.{standing_stage}
+use Rattle.job_table.specs.Stages.{IsFirstUnit, opened_in}
+use Rattle.job_table.specs.declared.progress.TicketStage.{TicketStage}
+use Rattle.job_table.proofs.Granted.{granted, none_found}
+use Rattle.job_table.proofs.Waits.{Waits, first_of, opens}
 use Rattle.job_table.specs.Tickets.{compare_bytes, job_at, job_by, read_bytes_by, still_written}
 use Rattle.rings.specs.Queues.{completion_ring, submission_ring}
 use Rattle.step_core.specs.Kept.{CoreFields, IsCoreOf}

@@ -23,14 +23,14 @@ use Rattle.range_reserve.specs.declared.held.HeldRange.{HeldRange}
 use Rattle.range_reserve.proofs.Granted.{has_conflict-map}
 use Rattle.range_reserve.proofs.Rising.{list_any-by_ticket}
 use Rattle.job_table.specs.Keeping.{Keeping}
-use Rattle.ticket_progress.specs.Shown.{standing_stage}
-use Rattle.ticket_progress.specs.Stages.{stage_mode, next_in, unit_in}
-use Rattle.ticket_progress.specs.declared.progress.TicketStage.TheVariants.{Waiting}
-use Rattle.ticket_progress.proofs.Waits.{Waits, no_next, waits}
+use Rattle.job_table.specs.Shown.{standing_stage}
+use Rattle.job_table.specs.Stages.{stage_mode, next_in, unit_in}
+use Rattle.job_table.specs.declared.progress.TicketStage.TheVariants.{Waiting}
+use Rattle.job_table.proofs.Waits.{Waits, no_next, waits}
 use Rattle.job_table.specs.Tickets.{job_by}
 use Rattle.step_core.specs.Kept.{CoreFields, IsCoreOf}
 use Rattle.step_core.specs.Found.{IsJob}
-use Rattle.controller_steps.specs.State.{Room, ControllerState}
+use Rattle.controller_interface.specs.State.{Room, ControllerState}
 use Rattle.step_core.proofs.Bounds.{left_short}
 
 -- what is kept is so of the value that contracts see

@@ -5,20 +5,19 @@ use Rattle.std.proofs.Common.{slice_get, Some, sym, ◌∙◌}
 use Rattle.std.specs.List.{count_by, flat_map}
 use Rattle.std.proofs.lemmas.Bool.{cases_Bool, cases_eq, cond-false, cond-true}
 use Rattle.std.proofs.lemmas.List.{length-append, length-drop, length-map}
-use Rattle.cids_in_use.proofs.Counts.{count_append, count_cons}
+use Rattle.rings.proofs.CidCounts.{count_append, count_cons}
 use Rattle.nvme_model.specs.EntryBytes.{sqe_fields}
 use Rattle.nvme_model.specs.History.{Past}
 use Rattle.nvme_model.specs.Legal.{IsLegal}
 use Rattle.nvme_model.specs.Tickets
 use Rattle.nvme_model.specs.Tickets.{Ticket, cids, cids_in_use, fetched_ticket, in_flight, numbers_down, posts_of}
-use Rattle.nvme_model.specs.Verdict.{taken_entries}
 use Rattle.nvme_model.specs.declared.config.ConfigNumbers.{ConfigNumbers}
 use Rattle.nvme_model.specs.declared.entry.Entry.{Entry}
 use Rattle.nvme_model.specs.declared.entry.FetchLine.{FetchLine}
 use Rattle.nvme_model.specs.declared.entry.PostLine.{PostLine}
-use Rattle.nvme_model.specs.declared.status.Verdict.{Verdict}
 use Rattle.nvme_model.proofs.NextPost.{commands_few}
 use Rattle.nvme_model.proofs.Rules.{fetch_number, follows}
+use Rattle.nvme_model.proofs.TakenEntries.{taken_two}
 use Rattle.ticket_laws.proofs.Unfetched.{no_posts}
 
 -- ---- the CIDs of one ticket
@@ -166,12 +165,6 @@ ticket_zero c (e ∷ past) h = ticket_zero c past (follows c past e h).before
 
 -- ---- how many there are
 
-taken_few : (v : Verdict) → taken_entries v ≤ 2
-taken_few Verdict.Single = omega arith
-taken_few (Verdict.SingleFailed s) = omega arith
-taken_few Verdict.Pair = omega arith
-taken_few (Verdict.PairFailed s t) = omega arith
-
 -- two at most of each ticket in flight
 pub two_each : (past : Past) (q : ℕ)
     → length (cids_in_use past q) ≤ 2 * count_by (in_flight past) (numbers_down (Tickets.tickets past))
@@ -186,7 +179,7 @@ two_each past q = go (Tickets.tickets past)
             let all = length-map (Tickets.ticket past t).commands (λ s. (sqe_fields s.entry).cid) in
             elim (cases_Bool (in_flight past t)) [
               | inl flies ↦ rw flies (omega
-                  (arith, size, all, commands_few past t, taken_few (Tickets.ticket past t).verdict))
+                  (arith, size, all, commands_few past t, taken_two (Tickets.ticket past t).verdict))
               | inr landed ↦ rw landed (omega (arith, size, all, ltb-false _ _ landed))
             ]
 

@@ -20,7 +20,7 @@ use Rattle.job_table.specs.Keeping.{Keeping}
 use Rattle.job_table.specs.declared.jobs.InFlight.{InFlight}
 use Rattle.job_table.proofs.Tables.{length-jobs_by, slice_get-jobs_by}
 use Rattle.job_table.specs.Tickets.{job_at, job_table}
-use Rattle.controller_steps.specs.State.{Room, ControllerState}
+use Rattle.controller_interface.specs.State.{Room, ControllerState}
 use Rattle.step_core.specs.Found.{next_step}
 
 -- the steps of a ticket beside its Fetch

@@ -2,7 +2,7 @@
 use Rattle.std.proofs.Common.{◌≡◌, ◌≢◌, ℕ, zero, suc, drop, ◌*◌, ◌+◌, ◌-◌, ◌%◌, ◌≤◌, ◌<◌, Bool, true, false, cond, List}
 use Rattle.std.proofs.Common.{[], ◌∷◌, length, get_or, set, slice_get, Option, Some, None, refl, sym, ap, ◌∙◌, subst}
 use Rattle.std.proofs.Common.{arith, inl, inr, eqb, eq-eqb, ltb-true, ne_eqb, is_none}
-use Rattle.std.proofs.lemmas.Bool.{cases_eq}
+use Rattle.std.proofs.lemmas.Bool.{cases_eq, not-false}
 use Rattle.std.proofs.lemmas.List.{length-drop, length-map}
 use Rattle.std.proofs.Math.Nat.{mod-lt}
 use Rattle.nvme_model.specs.declared.config.ConfigNumbers.{ConfigNumbers}
@@ -26,16 +26,16 @@ use Rattle.nvme_model.proofs.Rules.{none_holds}
 use Rattle.nvme_model.specs.Steps.{next_entry, post_entry}
 use Rattle.ticket_laws.specs.Standing.{standing}
 use Rattle.nvme_model.specs.Kept.{ControllerInvariant}
-use Rattle.nvme_model.proofs.NextPost.{commands_few, not_flying}
+use Rattle.nvme_model.proofs.NextPost.{commands_few}
 use Rattle.ticket_laws.proofs.Owing.{next_owed}
 use Rattle.range_reserve.specs.declared.held.HeldRange.{HeldRange}
 use Rattle.rings.specs.Completions.{CompletionRing, is_full, posted_ring}
 use Rattle.rings.specs.Submissions.{SubmissionRing}
 use Rattle.job_table.specs.Jobs.{JobTable, has_job_of, job_of, jobs_beside, replaced}
 use Rattle.job_table.specs.Keeping.{Keeping, posted_job}
-use Rattle.ticket_progress.specs.Shown.{standing_stage}
-use Rattle.ticket_progress.specs.Stages.{owed_in}
-use Rattle.ticket_progress.proofs.Owes.{owes as stage_owes}
+use Rattle.job_table.specs.Shown.{standing_stage}
+use Rattle.job_table.specs.Stages.{owed_in}
+use Rattle.job_table.proofs.Owes.{owes as stage_owes}
 use Rattle.job_table.proofs.Tables.{has_job_of-jobs_by}
 use Rattle.rings.specs.Queues.{completion_ring, submission_ring}
 use Rattle.job_table.specs.Tickets.{job_at, job_by, read_bytes_by}
@@ -49,10 +49,10 @@ use Rattle.rings.proofs.Tables.{IsTable-set}
 use Rattle.step_core.proofs.Posting.{due_full, flies_some}
 use Rattle.nvme_model.proofs.TicketQueues.{ticket_queue}
 use Rattle.nvme_model.proofs.TicketQueues.{queue_there}
-use Rattle.cids_in_use.proofs.Counts.{count_cons, is_among, one_less, used_at, used_set}
+use Rattle.rings.proofs.CidCounts.{count_cons, is_among, one_less, used_at, used_set}
 use Rattle.step_core.proofs.InUse.{count_posted, ticket_zero}
 use Rattle.nvme_model.proofs.Apart.{fetched_if}
-use Rattle.cids_in_use.specs.Used.{UsedCids, is_used}
+use Rattle.rings.specs.Used.{UsedCids, is_used}
 use Rattle.std.specs.List.{count_by}
 use Rattle.std.specs.List.Sorted.{IsPermutation}
 use Rattle.step_core.proofs.PostedRing.{post_ring, post_ring_other}
@@ -141,7 +141,7 @@ module _ (c : ConfigNumbers) (past : Past) (fields : CoreFields) (k : IsCoreOf c
   n = fields.tickets
 
   flies : in_flight past d.ticket ≡ true
-  flies = not_flying _ (none_holds (conditions c past (Step.Post d.ticket)) (ap is_none post.0)).0
+  flies = not-false _ (none_holds (conditions c past (Step.Post d.ticket)) (ap is_none post.0)).0
 
   -- the ticket is in the table
   pub there : has_job_of j.jobs d.ticket ≡ true

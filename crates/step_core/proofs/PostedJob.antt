@@ -16,11 +16,11 @@ use Rattle.ticket_laws.proofs.Waiting.{drop_twice}
 use Rattle.job_table.specs.Jobs.{JobTable, jobs_beside, jobs_by, replaced}
 use Rattle.job_table.proofs.Tables.{beside-jobs_by_agree}
 use Rattle.job_table.specs.Keeping.{Keeping, posted_job}
-use Rattle.ticket_progress.specs.Shown.{standing_stage}
-use Rattle.ticket_progress.specs.Stages.{owed_in}
-use Rattle.ticket_progress.specs.declared.progress.TicketStage.{TicketStage}
-use Rattle.ticket_progress.specs.declared.progress.TicketStage.TheVariants.{Open, Owing, Waiting}
-use Rattle.ticket_progress.proofs.Posted.{posted}
+use Rattle.job_table.specs.Shown.{standing_stage}
+use Rattle.job_table.specs.Stages.{owed_in}
+use Rattle.job_table.specs.declared.progress.TicketStage.{TicketStage}
+use Rattle.job_table.specs.declared.progress.TicketStage.TheVariants.{Open, Owing, Waiting}
+use Rattle.job_table.proofs.Posted.{posted}
 use Rattle.job_table.specs.Tickets.{job_at, job_by, job_table}
 use Rattle.step_core.proofs.Moves.{jobs_moved}
 

@@ -1,6 +1,6 @@
 -- What a Post finds.
 use Rattle.std.proofs.Common.{◌≡◌, ℕ, zero, suc, ◌+◌, ◌-◌, ◌%◌, ◌≤◌, ◌<◌, Bool, true, false, not, cond, List, [], ◌∷◌}
-use Rattle.std.proofs.Common.{length, drop, get_or, slice_get, Option, Some, None, is_none, refl, sym, ap, ◌∙◌, subst}
+use Rattle.std.proofs.Common.{length, drop, get_or, slice_get, Option, Some, None, is_none, sym, ap, ◌∙◌, subst}
 use Rattle.std.proofs.Common.{arith, eqb, ltb-true, add-one}
 use Rattle.std.proofs.lemmas.List.{length-map, length-drop}
 use Rattle.nvme_model.specs.declared.config.ConfigNumbers.{ConfigNumbers}
@@ -10,7 +10,7 @@ use Rattle.nvme_model.specs.declared.step.Step.{Step}
 use Rattle.nvme_model.specs.Config.{completion_queue}
 use Rattle.nvme_model.specs.History.{Past}
 use Rattle.nvme_model.specs.Tickets
-use Rattle.nvme_model.specs.Tickets.{Ticket, cids, in_flight, posts_of}
+use Rattle.nvme_model.specs.Tickets.{cids, in_flight, posts_of}
 use Rattle.nvme_model.specs.Queues.{fetched_count}
 use Rattle.nvme_model.specs.Completions.{posted_completions, reaped_count}
 use Rattle.nvme_model.specs.Refusals.{owes_nothing_yet, refusal}
@@ -20,8 +20,8 @@ use Rattle.nvme_model.specs.Kept.{ControllerInvariant}
 use Rattle.nvme_model.proofs.Accepted.{accepted}
 use Rattle.ticket_laws.proofs.Owing.{has_next, next_owed}
 use Rattle.job_table.specs.Keeping.{Keeping}
-use Rattle.ticket_progress.specs.Stages.{owed_in}
-use Rattle.ticket_progress.proofs.Owes.{owes}
+use Rattle.job_table.specs.Stages.{owed_in}
+use Rattle.job_table.proofs.Owes.{owes}
 use Rattle.rings.specs.Completions.{CompletionRing, is_full}
 use Rattle.rings.specs.Submissions.{SubmissionRing}
 use Rattle.entry_codec.specs.Cqe.{completion_bytes, phase_bit}
@@ -32,8 +32,9 @@ use Rattle.rings.specs.Queues.{completion_of, completion_ring, submission_ring}
 use Rattle.job_table.specs.Tickets.{job_by}
 use Rattle.step_core.specs.Kept.{CoreFields, IsCoreOf}
 use Rattle.step_core.specs.Found.{IsDue, IsJob}
-use Rattle.controller_steps.specs.State.{Room, ControllerState}
+use Rattle.controller_interface.specs.State.{Room, ControllerState}
 use Rattle.std.proofs.Math.Nat.{mod-lt}
+use Rattle.plain_lemmas.proofs.Lists.{get_dropped}
 use Rattle.nvme_model.proofs.TicketQueues.{HasQueue, queue_there, ticket_queue}
 
 -- ---- the queue of a ticket
@@ -50,12 +51,6 @@ job_queue c past t j h k =
     (queue_there c _ (ticket_queue c past t h (flies_some past t k.flies)))
 
 -- ---- what is due
-
-get_dropped : {X : Type 0} (n : ℕ) (xs : List X) → slice_get (drop n xs) 0 ≡ slice_get xs n
-get_dropped zero [] = refl
-get_dropped zero (x ∷ xs) = refl
-get_dropped (suc n) [] = refl
-get_dropped (suc n) (x ∷ xs) = get_dropped n xs
 
 -- what is owed next by the stage is what the ticket still owes next
 next_by : (c : ConfigNumbers) (past : Past) (t : ℕ) (j : Keeping) → IsLegal c past → IsJob c past t j

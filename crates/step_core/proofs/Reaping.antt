@@ -1,10 +1,11 @@
 -- What a Reap finds, and what the fields are after it.
-use Rattle.std.proofs.Common.{◌≡◌, ◌≢◌, ℕ, zero, suc, ◌-◌, ◌≤◌, ◌<◌, Bool, true, false, cond, List, [], ◌∷◌, length}
+use Rattle.std.proofs.Common.{◌≡◌, ◌≢◌, ℕ, suc, ◌-◌, ◌≤◌, ◌<◌, Bool, true, false, cond, List, [], ◌∷◌, length}
 use Rattle.std.proofs.Common.{map, drop, get_or, set, slice_get, Option, Some, None, option_map, refl, sym, ap, ◌∙◌}
 use Rattle.std.proofs.Common.{subst, arith, is_none, eqb, eqb-true, eq-eqb, ltb-false, ne_eqb, inl, inr}
 use Rattle.std.proofs.lemmas.Bool.{cases_Bool, cases_lt, eqb-false, or_parts}
 use Rattle.std.proofs.lemmas.List.{drop-map, length-drop, length-map}
 use Rattle.std.proofs.lemmas.Option.{slice_get-map}
+use Rattle.plain_lemmas.proofs.Lists.{get_dropped}
 use Rattle.nvme_model.specs.declared.config.ConfigNumbers.{ConfigNumbers}
 use Rattle.nvme_model.specs.declared.entry.Entry.{Entry}
 use Rattle.nvme_model.specs.declared.entry.PostLine.{PostLine}
@@ -27,21 +28,14 @@ use Rattle.job_table.specs.Jobs.{JobTable}
 use Rattle.rings.specs.Queues.{completion_of, completion_ring, submission_ring}
 use Rattle.step_core.specs.Kept.{CoreFields, IsCoreOf}
 use Rattle.step_core.specs.Found.{IsCqRing}
-use Rattle.controller_steps.specs.State.{answer_of, reaped_payload}
-use Rattle.controller_steps.specs.declared.answer.Answer.{Answer}
+use Rattle.controller_interface.specs.State.{answer_of, reaped_payload}
+use Rattle.controller_interface.specs.declared.answer.Answer.{Answer}
 use Rattle.step_core.proofs.Lookups.{cq_read}
 use Rattle.step_core.proofs.Moves.{stepped}
 use Rattle.rings.proofs.Tables.{IsTable-same}
 use Rattle.rings.proofs.Tables.{IsTable-set}
 
 -- ---- what waits
-
--- the first behind n is at place n
-slice_get-drop : {X : Type 0} (n : ℕ) (xs : List X) → slice_get (drop n xs) 0 ≡ slice_get xs n
-slice_get-drop zero [] = refl
-slice_get-drop zero (x ∷ xs) = refl
-slice_get-drop (suc n) [] = refl
-slice_get-drop (suc n) (x ∷ xs) = slice_get-drop n xs
 
 -- how many wait
 length-waiting : (c : ConfigNumbers) (past : Past) (q : ℕ)
@@ -57,7 +51,7 @@ first-waiting : (c : ConfigNumbers) (past : Past) (q : ℕ)
 unfolding completion_ring
 first-waiting c past q =
     slice_get-map completion_of (drop (reaped_count past q) (posted_completions c past q)) 0
-    ∙ ap (option_map completion_of) (slice_get-drop (reaped_count past q) (posted_completions c past q))
+    ∙ ap (option_map completion_of) (get_dropped (reaped_count past q) (posted_completions c past q))
 
 -- ---- what refuses it
 

@@ -4,10 +4,10 @@ use mathlib.Core.List.{reverse}
 use Rattle.std.proofs.lemmas.List.{reverse-append}
 use Rattle.nvme_model.specs.declared.step.Step.{Step}
 use Rattle.nvme_model.specs.Kept.{ControllerInvariant}
-use Rattle.controller_steps.specs.declared.answer.Answer.{Answer}
-use Rattle.controller_steps.specs.declared.answer.Refused.{Refused}
-use Rattle.controller_steps.specs.State.{RunsSteps, RunsOnto}
-use Rattle.controller_steps.specs.State.{Serves, ControllerState}
+use Rattle.controller_interface.specs.declared.answer.Answer.{Answer}
+use Rattle.controller_interface.specs.declared.answer.Refused.{Refused}
+use Rattle.controller_interface.specs.State.{RunsSteps, RunsOnto}
+use Rattle.controller_interface.specs.State.{Serves, ControllerState}
 use Rattle.step_core.proofs.Moves.{stepped}
 
 -- the history of a controller is legal, and its marks are right

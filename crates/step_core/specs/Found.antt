@@ -23,13 +23,13 @@ use Rattle.rings.specs.Submissions.{SubmissionRing}
 use Rattle.fused_match.specs.Judged.{NamesBlocks, operation_in, verdict_by}
 use Rattle.fused_match.specs.declared.judged.Judged.{Judged}
 use Rattle.fused_match.specs.declared.judged.Judged.TheVariants as judged
-use Rattle.ticket_progress.specs.Stages.{first_ticket_stage, unit_in}
+use Rattle.job_table.specs.Stages.{first_ticket_stage, unit_in}
 use Rattle.job_table.specs.Keeping.{Keeping}
 use Rattle.job_table.specs.Tickets.{compare_by, job_at}
 use Rattle.step_core.specs.declared.controller.fetch.Front.{Front}
 use Rattle.step_core.specs.declared.controller.next.ReadyStep.{ReadyStep}
 use Rattle.step_core.specs.declared.controller.post.Due.{Due}
-use Rattle.controller_steps.specs.declared.work.Kind.{Kind}
+use Rattle.controller_interface.specs.declared.work.Kind.{Kind}
 
 -- a submission queue and its ring
 pub record IsSqRing (c : ConfigNumbers) (past : Past) (q : ℕ) (r : SubmissionRing) : Type 0 where

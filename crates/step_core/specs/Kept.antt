@@ -7,8 +7,8 @@ use Rattle.nvme_model.specs.Medium.{medium}
 use Rattle.nvme_model.specs.Open.{open_units}
 use Rattle.nvme_model.specs.Tickets.{cids_in_use, tickets}
 use Rattle.nvme_model.specs.declared.config.ConfigNumbers.{ConfigNumbers}
-use Rattle.cids_in_use.specs.Used as used
-use Rattle.cids_in_use.specs.Used.{UsedCids}
+use Rattle.rings.specs.Used as used
+use Rattle.rings.specs.Used.{UsedCids}
 use Rattle.range_reserve.specs.Reserved.{by_ticket, held_of}
 use Rattle.range_reserve.specs.declared.held.HeldRange.{HeldRange}
 use Rattle.rings.specs.Completions.{CompletionRing}

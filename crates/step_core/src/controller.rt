@@ -11,7 +11,7 @@ ghost use Rattle.nvme_model.specs.Laws.{is_held};
 ghost use Rattle.nvme_model.specs.Value.{value};
 ghost use Rattle.nvme_model.specs.declared.refusal.Why.{Why as TheWhy};
 ghost use Rattle.step_core.specs.Found.{IsCqRing, IsJob, IsSqRing};
-ghost use Rattle.controller_steps.specs.State.{HasPromised, KeepsRoom, LacksRoom};
+ghost use Rattle.controller_interface.specs.State.{HasPromised, KeepsRoom, LacksRoom};
 
 mod block;
 mod data;
@@ -26,12 +26,11 @@ mod steps;
 
 use crate::spare_boxes::SpareBoxes;
 use block_array::Volume;
-use cids_in_use::{CidsInUse, none_in_use};
 use history::{Config, History};
 use job_table::{Job, Jobs};
 use nvme_model::refusal::Why;
 use range_reserve::Ranges;
-use rings::{CqRing, SqRing, cq_rings, sq_rings};
+use rings::{CidsInUse, CqRing, SqRing, cq_rings, none_in_use, sq_rings};
 use std::alloc::{AllocError as NoMemory, Global};
 use std::marker::Model;
 
@@ -56,7 +55,7 @@ pub struct Core {
 impl Model for Core {
     ghost use Rattle.std.specs.Prelude.{◌+◌, ◌^◌, ◌<◌, ◌≤◌};
     ghost use Rattle.step_core.specs.Kept.{IsCoreOf};
-    ghost use Rattle.controller_steps.specs.State.{ControllerState};
+    ghost use Rattle.controller_interface.specs.State.{ControllerState};
 
     ghost Value = { ControllerState };
 

@@ -1,12 +1,12 @@
 //! The controller as a machine that callers share.
 
 use crate::controller::Core;
-use controller_steps::{Answer, Machine, Refused};
+use controller_interface::{Answer, Machine, Refused};
 use nvme_model::step::Step;
 
 impl Machine for Core {
     ghost use Rattle.nvme_model.specs.Kept.{ControllerInvariant};
-    ghost use Rattle.controller_steps.specs.State.{Accepts, Refuses};
+    ghost use Rattle.controller_interface.specs.State.{Accepts, Refuses};
     ghost use Rattle.ticket_laws.proofs.NewEntries.{accepted_keeps, named_entry, new_entry};
 
     ghost config = { λ core. core.config };

@@ -1,4 +1,5 @@
-//! The controller: a machine of six steps, each with its answer or its refusal.
+//! The controller, for a program and for callers that share it: a machine of six steps, each with its answer or its
+//! refusal.
 #![tactic(auto)]
 
 mod controller;
@@ -7,7 +8,7 @@ mod spare_boxes;
 
 pub use block_exec::Done;
 pub use controller::Core;
-pub use controller_steps::{Answer, Kind, Refused, Work};
+pub use controller_interface::{Answer, Kind, Refused, Work};
 pub use history::{Config, Entry, History, write_line};
 pub use nvme_model::step::Step;
 pub use nvme_model::submission::{Payload, Submission, Submissions};

@@ -1,4 +1,5 @@
-//! A host that dies and two survivors, on one thread with the server of their controller.
+//! A host that dies and two survivors, for programs that take over slots, on one thread with the server of their
+//! controller.
 #![tactic(auto)]
 
 ghost use Rattle.std.specs.Prelude.{IfSome, ◌≡◌};
@@ -13,10 +14,10 @@ mod polling;
 use driver_cas::SharedPort;
 use history::Config;
 use host::{Parties, SlotHost, parties_of};
+use nvme_model::Name;
 use polling::{holder_read, is_given_back, won};
 use shared_system::{System, WorkerPasses, serve, system_of};
 use slot_alloc::Slots;
-use slot_names::Name;
 use slot_takeover::{HeldSlot, Holder, TakingOver, give_back, read_holder, take_over};
 use std::process::ExitCode;
 use std::sync::Wait;

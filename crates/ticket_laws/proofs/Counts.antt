@@ -8,13 +8,14 @@ use Rattle.std.proofs.lemmas.List.Elements.{filter-append}
 use Rattle.std.proofs.lemmas.List.Sums.{sum_by-cons}
 use Rattle.std.proofs.lemmas.List.Folds.{list_any-append}
 use Rattle.std.proofs.lemmas.Bool.{cases_Bool, and_parts}
+use Rattle.plain_lemmas.proofs.Lists.{any_same}
 use Rattle.nvme_model.proofs.Rules.{follows}
 use Rattle.nvme_model.specs.EntryBytes.{sqe_fields}
 use Rattle.nvme_model.specs.History.{Past}
 use Rattle.nvme_model.specs.Legal.{IsLegal}
 use Rattle.nvme_model.specs.Queues.{fetched_count, published_entries, waiting}
 use Rattle.ticket_laws.specs.Standing.{flying, rising}
-use Rattle.nvme_model.specs.Tickets.{next_verdict, cids, cids_in_use, in_flight, numbers_down, posts_of, tickets}
+use Rattle.nvme_model.specs.Tickets.{next_verdict, cids, cids_in_use, in_flight, numbers_down, posts_of}
 use Rattle.nvme_model.specs.Statuses.{missing_fused}
 use Rattle.nvme_model.specs.declared.config.AtomicParameters.{AtomicParameters}
 use Rattle.nvme_model.specs.Verdict.{Item, item_of, command_fault, is_in, of_command, of_pair, pair_fault, pair_verdict}
@@ -26,6 +27,7 @@ use Rattle.nvme_model.specs.declared.status.Verdict.{Verdict}
 use Rattle.nvme_model.specs.declared.submission.Submission.{Submission}
 use Rattle.nvme_model.specs.Tickets
 use Rattle.nvme_model.proofs.Lists.{drop_map}
+use Rattle.nvme_model.proofs.TakenEntries.{one_taken}
 
 -- ---- how many entries a Fetch takes
 
@@ -53,10 +55,6 @@ taken_some (Verdict.SingleFailed s) = (omega arith, omega arith)
 taken_some Verdict.Pair = (omega arith, omega arith)
 taken_some (Verdict.PairFailed s r) = (omega arith, omega arith)
 
-taken_command : (o : Option Status) → taken_entries (of_command o) ≡ 1
-taken_command None = refl
-taken_command (Some s) = refl
-
 taken_pair : (o : Option (Status × Status)) → taken_entries (of_pair o) ≡ 2
 taken_pair None = refl
 taken_pair (Some s) = refl
@@ -83,7 +81,7 @@ taken_within u size in_use (first ∷ rest) l =
     (pair_within u size in_use first rest)
     (by_bool (λ v. taken_entries v ≤ suc (length rest)) (eqb first.fields.fuse 2) (Verdict.SingleFailed missing_fused)
     (of_command (command_fault size in_use first)) (omega arith)
-    (omega (arith, taken_command (command_fault size in_use first))))
+    (omega (arith, one_taken (command_fault size in_use first))))
 
 pub fetched_within : (c : ConfigNumbers) (past : Past) (q : ℕ) → IsLegal c past
     → fetched_count past q ≤ length (published_entries past q)
@@ -202,10 +200,6 @@ one_ticket past q cid t = by (eqb (Tickets.ticket past t).queue q)
     by true = drop_map (λ (s : Submission). (sqe_fields s.entry).cid) (λ m. eqb m cid) (posts_of past t)
         (Tickets.ticket past t).commands
     by false = refl
-
-any_same : {X : Type 0} (p q : X → Bool) (xs : List X) → ((x : X) → p x ≡ q x) → list_any p xs ≡ list_any q xs
-any_same p q [] h = refl
-any_same p q (x ∷ xs) h = (λ i. h x i || any_same p q xs h i)
 
 pub in_use_flying : (past : Past) (q cid : ℕ)
     → is_in cid (cids_in_use past q) ≡ list_any (owing past q cid) (flying past)

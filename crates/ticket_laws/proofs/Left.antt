@@ -5,6 +5,7 @@ use Rattle.std.proofs.Common.{arith, eqb, ne_eqb, nat_le, le-leb, add-one, slice
 use Rattle.std.specs.List.{sum_by}
 use Rattle.std.proofs.lemmas.List.Sums.{sum_by-cons}
 use Rattle.std.proofs.lemmas.Bool.{cases_Bool, cases_lt, lt-leb}
+use Rattle.plain_lemmas.proofs.Lists.{get_drop}
 use Rattle.nvme_model.specs.declared.array.Range.{Range}
 use Rattle.nvme_model.specs.declared.config.AtomicParameters.{AtomicParameters}
 use Rattle.nvme_model.specs.declared.config.ConfigNumbers.{ConfigNumbers}
@@ -65,12 +66,6 @@ cut_left u s n g =
     (subst (λ (m : ℕ). IsCut u (s + blocks_of_all (take g (cut u s n))) m (drop g (cut u s n))) same
     (cut_dropped g u s n (cut u s n) (cut-is u s n)))
 
-get_dropped : {X : Type 0} (n : ℕ) (xs : List X) → slice_get xs n ≡ slice_get (drop n xs) 0
-get_dropped zero [] = refl
-get_dropped zero (x ∷ xs) = refl
-get_dropped (suc n) [] = refl
-get_dropped (suc n) (x ∷ xs) = get_dropped n xs
-
 -- ---- the next unit
 
 abbrev next_left : AtomicParameters → Option Op → ℕ → ℕ → ℕ → Type 0
@@ -103,7 +98,7 @@ pair_next u s n (suc g) l = nothing g
 cut_next : (u : AtomicParameters) (s n g : ℕ)
     → slice_get (cut u s n) g
     ≡ slice_get (cut u (s + blocks_of_all (take g (cut u s n))) (blocks_of_all (drop g (cut u s n)))) 0
-cut_next u s n g = get_dropped g (cut u s n) ∙ ap (λ rs. slice_get rs 0) (cut_left u s n g)
+cut_next u s n g = get_drop g (cut u s n) ∙ ap (λ rs. slice_get rs 0) (cut_left u s n g)
 
 next_is : (u : AtomicParameters) (o : Option Op) (s n g : ℕ) → 1 ≤ n → next_left u o s n g
 next_is u None s n g l = none g

@@ -28,11 +28,10 @@ use Rattle.nvme_model.specs.Answered.{may_find}
 use Rattle.nvme_model.specs.Medium.{medium}
 use Rattle.nvme_model.specs.Legal.{IsLegal}
 use Rattle.nvme_model.proofs.Lists.{Each, each_map, each_find, each_get, each_filter}
-use Rattle.nvme_model.proofs.Cut.{longest_facts}
+use Rattle.nvme_model.proofs.Cut.{clash, longest_facts}
 use Rattle.nvme_model.proofs.Rules.{follows}
 use Rattle.nvme_model.proofs.Blocks.{may_block}
 use Rattle.nvme_model.proofs.NextPost.{unit_at}
-use Rattle.nvme_model.proofs.Written.{clash}
 use Rattle.nvme_model.proofs.Checked.{TicketChecked, ticket_checked}
 
 -- ---- the units of a range lie in it

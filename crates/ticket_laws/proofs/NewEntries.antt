@@ -1,7 +1,7 @@
 -- Which ticket the entry of a step is of.
 use Rattle.std.proofs.Common.{None, Option, Some, [], ap, arith, eq-eqb, eqb, inl, inr, is_none, ne_eqb, refl, subst}
 use Rattle.std.proofs.Common.{sym, true, ℕ, ◌+◌, ◌<◌, ◌∙◌, ◌≡◌, ◌≢◌, ◌⊎◌, ◌∷◌}
-use Rattle.std.proofs.lemmas.Bool.{cond-false, cond-true}
+use Rattle.std.proofs.lemmas.Bool.{cond-false, cond-true, not-false}
 use Rattle.std.specs.List.{find}
 use Rattle.std.specs.Prelude.{slice_get, ◌==◌}
 use Rattle.nvme_model.specs.Completions.{posted_completions, reaped_count}
@@ -22,7 +22,6 @@ use Rattle.nvme_model.specs.declared.status.Status.{Status}
 use Rattle.nvme_model.specs.declared.step.Step.{Step}
 use Rattle.nvme_model.proofs.Apart.{fetched_if, granted_known}
 use Rattle.nvme_model.proofs.EveryRun.{step_kept}
-use Rattle.nvme_model.proofs.NextPost.{not_flying}
 use Rattle.nvme_model.proofs.Placed.{block_fetched}
 use Rattle.nvme_model.proofs.Rules.{fetch_number, follows}
 use Rattle.ticket_laws.specs.Entries.{named_ticket, names_queue, of_ticket, ticket_in}
@@ -54,7 +53,7 @@ no_entries c (Entry.Block b ∷ past) t h l =
 no_entries c (Entry.Post p ∷ past) t h l =
     let w = follows c past (Entry.Post p) h in
     of_ticket-other t past (Entry.Post p)
-    (λ (e : p.ticket ≡ t). omega (arith, e, l, fetched_if c past p.ticket w.before (not_flying _ w.allowed.0)))
+    (λ (e : p.ticket ≡ t). omega (arith, e, l, fetched_if c past p.ticket w.before (not-false _ w.allowed.0)))
     ∙ no_entries c past t w.before l
 no_entries c (Entry.Reap r ∷ past) t h l =
     of_ticket-other t past (Entry.Reap r) (λ (e : 0 ≡ t). omega (arith, e, l))

@@ -2,7 +2,7 @@
 use Rattle.std.proofs.Common.{◌≡◌, ℕ, ◌*◌, ◌≤◌, Bool, true, false, not, ◌&&◌, ◌||◌, cond, List, [], ◌∷◌, ◌++◌, length}
 use Rattle.std.proofs.Common.{map, refl, sym, ap, ◌∙◌, subst, inl, inr, ◌⊎◌, arith, eqb, nat_le, Some, eqb-true, eq-eqb}
 use Rattle.std.specs.List.{filter, find, list_any}
-use Rattle.std.proofs.lemmas.Bool.{cond-true, cases_Bool, lt-leb}
+use Rattle.std.proofs.lemmas.Bool.{cases_Bool, cond-true, lt-leb, or_parts}
 use Rattle.nvme_model.specs.declared.config.ConfigNumbers.{ConfigNumbers}
 use Rattle.nvme_model.specs.declared.array.Range.{Range}
 use Rattle.nvme_model.specs.declared.entry.GrantLine.{GrantLine}
@@ -15,7 +15,7 @@ use Rattle.nvme_model.specs.Operations.{op, is_pair}
 use Rattle.nvme_model.specs.Open.{granted, open_units, blocks_made, steps_needed, is_differs, has_ended, unit_range}
 use Rattle.nvme_model.specs.Legal.{IsLegal}
 use Rattle.nvme_model.proofs.Lists.{Each, each_map}
-use Rattle.ticket_laws.proofs.TicketLists.{IsApart, or_false, filter_each, filter_twice, list_any-map, any_filtered}
+use Rattle.ticket_laws.proofs.TicketLists.{IsApart, filter_each, filter_twice, list_any-map, any_filtered}
 use Rattle.nvme_model.proofs.Rules.{follows, may_grant}
 use Rattle.nvme_model.proofs.Granted.{GrantFacts, granted_facts}
 use Rattle.nvme_model.proofs.Blocks.{no_blocks, at_key, MayBlock, may_block}
@@ -184,7 +184,7 @@ one_each g (y ∷ gs) a e = elim (cases_Bool (eqb y.ticket g.ticket)) [
         → Each (λ x. eqb x.ticket g.ticket ≡ true → x ≡ g) xs
     none_each [] f t = tt
     none_each (x ∷ xs) f t =
-        let both = or_false (eqb x.ticket y.ticket) _ f in
+        let both = or_parts (eqb x.ticket y.ticket) _ f in
         (λ q. absurd (let r : true ≡ false = sym q ∙ ap (eqb x.ticket) (sym t) ∙ both.0 in cc), none_each xs both.1 t)
 
 -- so where the unit of a Block ends, the open units are those of other tickets

@@ -5,6 +5,7 @@ use Rattle.std.proofs.Common.{is_none, inl, inr, ◌⊎◌, arith, eqb, eqb-true
 use Rattle.std.specs.List.{list_any, list_all, find}
 use Rattle.std.proofs.lemmas.Bool.{and_parts, and_from, or_parts, or_from, or_left, or_right, or_cases, cond-false}
 use Rattle.std.proofs.lemmas.Bool.{cases_Bool, cases_lt}
+use Rattle.plain_lemmas.proofs.Lists.{get_dropped}
 use Rattle.nvme_model.specs.declared.config.ConfigNumbers.{ConfigNumbers}
 use Rattle.nvme_model.specs.declared.array.Range.{Range}
 use Rattle.nvme_model.specs.declared.operation.Op.{Op}
@@ -35,7 +36,6 @@ use Rattle.nvme_model.proofs.Lists.{each_both, each_find, all_true}
 use Rattle.nvme_model.proofs.Rules.{follows}
 use Rattle.nvme_model.proofs.Apart.{ticket_kept}
 use Rattle.nvme_model.proofs.Blocks.{MayBlock, may_block, no_blocks, same_made, at_key, grants_before, range_before}
-use Rattle.nvme_model.proofs.Written.{clash}
 use Rattle.nvme_model.proofs.Ended.{found_some, some_granted}
 use Rattle.nvme_model.proofs.Pairs.{no_blocks_yet, marked_here, says_yes}
 use Rattle.nvme_model.proofs.Effects.{not_both, no_effect}
@@ -44,6 +44,7 @@ use Rattle.nvme_model.proofs.NextPost.{unit_at, numbered_all, same_range, all_do
 use Rattle.nvme_model.proofs.NextPost.{commands_few}
 use Rattle.nvme_model.proofs.Runs.{below_if, some_at}
 use Rattle.nvme_model.proofs.Finished.{ended_finished, not_has_open}
+use Rattle.nvme_model.proofs.Cut.{clash}
 
 -- ---- an effect that says no is a `differs`
 
@@ -195,7 +196,7 @@ no_is_differed c past t h k = both (some_no c past t) (differed past t)
 
 -- ---- all units have ended where none is left and none is open
 
-none_found : {X Y : Type 0} (f : X → Y) (p : X → Bool) (xs : List X)
+pub none_found : {X Y : Type 0} (f : X → Y) (p : X → Bool) (xs : List X)
     → is_none (option_map f (find p xs)) ≡ not (list_any p xs)
 none_found f p [] = refl
 none_found f p (x ∷ xs) = go (p x) (none_found f p xs)
@@ -367,12 +368,6 @@ nothing_owed c past t h n =
     go (Verdict.SingleFailed s) p e = clash false p refl
     go (Verdict.PairFailed s r) p e = clash false p refl
 
-get_drop : {X : Type 0} (n : ℕ) (xs : List X) → slice_get (drop n xs) 0 ≡ slice_get xs n
-get_drop zero [] = refl
-get_drop zero (x ∷ xs) = refl
-get_drop (suc n) [] = refl
-get_drop (suc n) (x ∷ xs) = get_drop n xs
-
 nothing_at : {X : Type 0} (n : ℕ) (xs : List X) → xs ≡ [] → is_none (slice_get (drop n xs) 0) ≡ true
 nothing_at zero [] e = refl
 nothing_at (suc n) [] e = refl
@@ -382,7 +377,7 @@ nothing_at n (x ∷ xs) e = absurd (let l = ap length e in omega (arith, l))
 pub next_owed : (c : ConfigNumbers) (past : Past) (t : ℕ) → IsLegal c past → MarkedRight past
     → slice_get (still_owed c (standing past t)) 0 ≡ slice_get (owed c past t) (posts_of past t)
 next_owed c past t h k =
-    get_drop (posts_of past t) (owed_by_standing c (standing past t) (Tickets.ticket past t).verdict)
+    get_dropped (posts_of past t) (owed_by_standing c (standing past t) (Tickets.ticket past t).verdict)
     ∙ ap (λ xs. slice_get xs (posts_of past t)) (sym (owed_is c past t h k))
 
 -- a ticket in flight has one exactly where something is owed

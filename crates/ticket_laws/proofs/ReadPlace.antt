@@ -14,7 +14,7 @@ use Rattle.nvme_model.specs.declared.entry.BlockLine.{BlockLine}
 use Rattle.nvme_model.specs.declared.entry.Entry.{Entry}
 use Rattle.nvme_model.specs.History.{Past}
 use Rattle.nvme_model.specs.Tickets
-use Rattle.nvme_model.specs.Tickets.{Ticket, first_fields}
+use Rattle.nvme_model.specs.Tickets.{Ticket}
 use Rattle.nvme_model.specs.Operations.{op, is_pair, units}
 use Rattle.nvme_model.specs.Open.{grants_of, blocks_of, blocks_made, open_units, steps_needed, is_differs}
 use Rattle.nvme_model.specs.Open.{is_read_found, unit_range}
@@ -31,9 +31,9 @@ use Rattle.ticket_laws.proofs.Opening.{ends_with}
 use Rattle.ticket_laws.proofs.Standings.{grant_here, grant_other, block_on, block_off, block_other}
 use Rattle.nvme_model.proofs.Holding.{range_of_entry}
 use Rattle.nvme_model.proofs.Pairs.{goes_on}
+use Rattle.nvme_model.proofs.Cut.{clash}
 use Rattle.ticket_laws.proofs.Left.{take_one_more}
 use Rattle.ticket_laws.proofs.Lengths.{medium_length}
-use Rattle.nvme_model.proofs.Written.{clash}
 
 -- what a Read's Block says
 pub read_word : (n j : ℕ) (f : Found) → may_find (Some Op.Read) n j f ≡ true

@@ -15,7 +15,6 @@ use Rattle.nvme_model.proofs.Lists.{Each, each_both, each_map}
 use Rattle.nvme_model.proofs.Medium.{Against, against_found, is_open, unfilter}
 use Rattle.nvme_model.proofs.Pairs.{goes_on, marked_here}
 use Rattle.nvme_model.proofs.Rules.{follows, may_grant}
-use Rattle.nvme_model.proofs.Written.{clash}
 use Rattle.nvme_model.specs.Answered.{may_find}
 use Rattle.nvme_model.specs.Array.{blocks_from, has_block}
 use Rattle.nvme_model.specs.History.{Past}
@@ -28,16 +27,15 @@ use Rattle.nvme_model.specs.Operations.{has_write, is_exclusive, is_pair, op}
 use Rattle.nvme_model.specs.Owed.{contents_at}
 use Rattle.nvme_model.specs.Placed.{effect}
 use Rattle.nvme_model.specs.Steps.{marked}
-use Rattle.nvme_model.specs.Tickets.{ticket}
 use Rattle.nvme_model.specs.Value.{value}
 use Rattle.nvme_model.specs.declared.array.Range.{Range}
 use Rattle.nvme_model.specs.declared.config.ConfigNumbers.{ConfigNumbers}
 use Rattle.nvme_model.specs.declared.entry.BlockLine.{BlockLine}
 use Rattle.nvme_model.specs.declared.entry.Entry.{Entry}
 use Rattle.nvme_model.specs.declared.entry.GrantLine.{GrantLine}
-use Rattle.nvme_model.specs.declared.operation.Found.{Found}
 use Rattle.nvme_model.specs.declared.operation.Op.{Op}
 use Rattle.nvme_model.specs.Tickets
+use Rattle.nvme_model.proofs.Cut.{clash}
 use Rattle.ticket_laws.proofs.ReadPlace.{read_word}
 
 -- what the Block steps of unit u of ticket t have read
@@ -76,7 +74,7 @@ flat_push f s (suc n) =
     shift : suc s + n ≡ s + suc n
     shift = omega arith
 
-flat_same : (f g : ℕ → List ℕ) (s n : ℕ) → ((l : ℕ) → s ≤ l → l < s + n → f l ≡ g l)
+pub flat_same : (f g : ℕ → List ℕ) (s n : ℕ) → ((l : ℕ) → s ≤ l → l < s + n → f l ≡ g l)
     → flat_map f (blocks_from s n) ≡ flat_map g (blocks_from s n)
 flat_same f g s zero h = refl
 flat_same f g s (suc n) h =

@@ -1,8 +1,9 @@
 -- How far a ticket has come, after each of its steps, and what that allows.
-use Rattle.std.proofs.Common.{Bool, List, Some, [], add-one, ap, arith, cond, eq-eqb, eqb, false, is_none, length, not}
-use Rattle.std.proofs.Common.{option_map, refl, suc, sym, true, ℕ, ◌&&◌, ◌+◌, ◌-◌, ◌∙◌, ◌≡◌, ◌||◌, ◌∷◌}
-use Rattle.std.specs.List.{filter, find, list_any}
+use Rattle.std.proofs.Common.{Bool, List, [], add-one, ap, arith, cond, eq-eqb, eqb, false, length, not}
+use Rattle.std.proofs.Common.{refl, suc, sym, true, ℕ, ◌&&◌, ◌+◌, ◌-◌, ◌∙◌, ◌≡◌, ◌||◌, ◌∷◌}
+use Rattle.std.specs.List.{filter, list_any}
 use Rattle.std.specs.Prelude.{nat_le}
+use Rattle.std.proofs.lemmas.Bool.{not-false}
 use Rattle.nvme_model.specs.History.{Past}
 use Rattle.nvme_model.specs.Legal.{IsLegal}
 use Rattle.nvme_model.specs.Open.{differed, granted, has_ended, is_differs, open_units, unit_range}
@@ -16,9 +17,8 @@ use Rattle.nvme_model.specs.declared.entry.Entry.{Entry}
 use Rattle.nvme_model.specs.declared.entry.GrantLine.{GrantLine}
 use Rattle.nvme_model.specs.declared.entry.PostLine.{PostLine}
 use Rattle.nvme_model.proofs.Rules.{follows}
-use Rattle.nvme_model.proofs.NextPost.{not_flying}
 use Rattle.ticket_laws.proofs.Opening.{block_open_beside, block_open_on, ends_with, grant_open}
-use Rattle.ticket_laws.proofs.Owing.{has_run_is}
+use Rattle.ticket_laws.proofs.Owing.{has_run_is, none_found}
 use Rattle.ticket_laws.specs.Standing.{unit_of}
 use Rattle.ticket_laws.specs.Entries.{of_ticket}
 use Rattle.ticket_laws.specs.Tasks.{Duty, after_block, after_grant, after_post, duty_at, own_all_ended, own_open}
@@ -63,7 +63,7 @@ open_after c past b h true e = ap (list_any (λ (x : GrantLine). eqb x.ticket b.
 open_after c past b h false e =
     let w = follows c past (Entry.Block b) h in
     ap (list_any (λ (x : GrantLine). eqb x.ticket b.ticket)) (block_open_on c past b w.before e)
-    ∙ not_flying _ w.allowed.1.0
+    ∙ not-false _ w.allowed.1.0
 
 pub block_opens : (c : ConfigNumbers) (past : Past) (b : BlockLine) → IsLegal c (Entry.Block b ∷ past)
     → own_open (op (Tickets.ticket past b.ticket)) (Entry.Block b ∷ of_ticket b.ticket past) b.ticket
@@ -118,16 +118,6 @@ post_stage d its p =
     })
 
 -- ---- what it allows
-
-none_found : {X Y : Type 0} (f : X → Y) (p : X → Bool) (xs : List X)
-    → is_none (option_map f (find p xs)) ≡ not (list_any p xs)
-none_found f p [] = refl
-none_found f p (x ∷ xs) = by (p x) (none_found f p xs)
-  where
-    by : (b : Bool) → is_none (option_map f (find p xs)) ≡ not (list_any p xs)
-        → is_none (option_map f (cond b (Some x) (find p xs))) ≡ not (b || list_any p xs)
-    by true ih = refl
-    by false ih = ih
 
 -- where all units were begun and none is open they have all ended
 pub run_over : (c : ConfigNumbers) (past : Past) (t : ℕ) → IsLegal c past → differed past t ≡ false

@@ -1,8 +1,8 @@
 -- Lists of numbers of tickets, and lists by what holds of each element.
-use Rattle.std.proofs.Common.{◌≡◌, ℕ, zero, suc, ◌≤◌, Bool, true, false, ◌&&◌, ◌||◌, cond, eqb, List, [], ◌∷◌, ◌++◌}
+use Rattle.std.proofs.Common.{◌≡◌, ℕ, zero, suc, ◌≤◌, Bool, true, false, ◌&&◌, ◌||◌, cond, eqb, List, [], ◌∷◌}
 use Rattle.std.proofs.Common.{map, refl, sym, ap, ◌∙◌, None, inl, inr, arith}
 use Rattle.std.specs.List.{filter, find, list_any}
-use Rattle.std.proofs.lemmas.Bool.{cases_Bool, cond-true, cond-false}
+use Rattle.std.proofs.lemmas.Bool.{cases_Bool, cond-false, cond-true, or_parts}
 use Rattle.ticket_laws.specs.Standing.{rising}
 use Rattle.nvme_model.proofs.Lists.{Each, each_map, each_append}
 
@@ -14,11 +14,6 @@ has t xs = list_any (λ s. eqb s t) xs
 abbrev pub IsApart : List ℕ → Type 0
 IsApart [] = Unit {0}
 IsApart (x ∷ xs) = (has x xs ≡ false) × IsApart xs
-
--- neither holds
-pub or_false : (a b : Bool) → (a || b) ≡ false → (a ≡ false) × (b ≡ false)
-or_false false b e = (refl, e)
-or_false true b e = absurd cc
 
 -- filters whose tests agree on each element
 pub filter_each : {X : Type 0} (p q : X → Bool) (xs : List X) → Each (λ x. p x ≡ q x) xs → filter p xs ≡ filter q xs
@@ -52,7 +47,7 @@ pub any_filtered : {X : Type 0} (t p : X → Bool) (xs : List X) → list_any t 
     → list_any t (filter p xs) ≡ false
 any_filtered t p [] e = refl
 any_filtered t p (x ∷ xs) e =
-    let both = or_false (t x) (list_any t xs) e in
+    let both = or_parts (t x) (list_any t xs) e in
     by (p x) both.0 (any_filtered t p xs both.1)
   where
     by : (b : Bool) → t x ≡ false → list_any t (filter p xs) ≡ false
@@ -77,5 +72,5 @@ find_filter t p (x ∷ xs) h = elim (cases_Bool (t x)) [
 -- nothing is found where no element passes
 pub find_none : {X : Type 0} (t : X → Bool) (xs : List X) → list_any t xs ≡ false → find t xs ≡ None
 find_none t [] e = refl
-find_none t (x ∷ xs) e = let both = or_false (t x) (list_any t xs) e in
+find_none t (x ∷ xs) e = let both = or_parts (t x) (list_any t xs) e in
     cond-false (t x) _ _ both.0 ∙ find_none t xs both.1

@@ -1,10 +1,10 @@
 -- A ticket that wasn't fetched yet has nothing, and what a Fetch makes.
-use Rattle.std.proofs.Common.{◌≡◌, ℕ, suc, ◌+◌, ◌≤◌, ◌<◌, Bool, true, false, not, ◌&&◌, ◌||◌, cond, List, [], ◌∷◌, ◌++◌}
+use Rattle.std.proofs.Common.{◌≡◌, ℕ, suc, ◌+◌, ◌≤◌, ◌<◌, true, false, ◌&&◌, ◌||◌, cond, List, [], ◌∷◌, ◌++◌}
 use Rattle.std.proofs.Common.{length, option_map, take, refl, ap, ◌∙◌, sym, None, arith, eq-eqb, ne_eqb, eqb, ltb}
 use Rattle.std.proofs.Common.{lt-ltb, add-one}
 use Rattle.std.specs.List.{filter, find}
 use Rattle.std.proofs.lemmas.List.Elements.{filter-append}
-use Rattle.std.proofs.lemmas.Bool.{cond-true, cond-false}
+use Rattle.std.proofs.lemmas.Bool.{cond-false, cond-true, not-false}
 use Rattle.nvme_model.specs.declared.config.ConfigNumbers.{ConfigNumbers}
 use Rattle.nvme_model.specs.declared.entry.GrantLine.{GrantLine}
 use Rattle.nvme_model.specs.declared.entry.FetchLine.{FetchLine}
@@ -24,7 +24,6 @@ use Rattle.nvme_model.proofs.Rules.{follows, fetch_number}
 use Rattle.nvme_model.proofs.Apart.{ticket_kept, granted_known, fetched_if}
 use Rattle.nvme_model.proofs.Blocks.{may_block}
 use Rattle.nvme_model.proofs.Holding.{open_kept}
-use Rattle.nvme_model.proofs.Bools.{not_false}
 
 none_find : (t : ℕ) (xs : List GrantLine) → Each (λ g. g.ticket < t) xs → find (λ g. eqb g.ticket t) xs ≡ None
 none_find t [] h = refl
@@ -47,7 +46,7 @@ no_posts c [] t h l = refl
 no_posts c (Entry.Fetch f ∷ past) t h l = no_posts c past t (follows c past (Entry.Fetch f) h).before (omega (arith, l))
 no_posts c (Entry.Post p ∷ past) t h l =
     let w = follows c past (Entry.Post p) h in
-    let known = fetched_if c past p.ticket w.before (not_false _ w.allowed.0) in
+    let known = fetched_if c past p.ticket w.before (not-false _ w.allowed.0) in
     (λ i. no_posts c past t w.before l i
     + cond (ne_eqb p.ticket t (λ (e : p.ticket ≡ t). omega (arith, e, known, l)) i) 1 0)
 no_posts c (e ∷ past) t h l = no_posts c past t (follows c past e h).before l

@@ -1,4 +1,5 @@
-//! Laws of one ticket: where it stands in a history, what it owes, and what its own entries say of it.
+//! Laws of one ticket, for controllers and checkers: where it stands in a history, what it owes, and what its own steps
+//! say of it.
 #![tactic(auto)]
 
 mod stage;

@@ -7,8 +7,10 @@ use crate::forced::{
 use entry_codec::Status;
 use nvme_model::array::Range;
 use std::alloc::AllocError as NoMemory;
-use trace_rings::{Line, TraceTables, number_at};
-use trace_walk::{Choice, Gives, SoughtOp, SoughtTicket, Walk, fits, is_sure, wanted_completion};
+use trace_walk::{
+    Choice, Gives, Line, SoughtOp, SoughtTicket, TraceTables, Walk, fits, is_sure, number_at,
+    wanted_completion,
+};
 
 /// What has to end before the next line, and the tickets that may have to do with it.
 #[derive(Drop)]

@@ -2,8 +2,7 @@
 
 use entry_codec::Status;
 use std::alloc::AllocError as NoMemory;
-use trace_rings::TraceTables;
-use trace_walk::{Choice, SoughtTicket, Walk, wanted_completion};
+use trace_walk::{Choice, SoughtTicket, TraceTables, Walk, wanted_completion};
 
 // Whether a ticket can have a unit whose blocks are all equal, or one of which a block differs.
 fn can_be(tables: &TraceTables, ticket: &SoughtTicket, all_equal: bool, is_last: bool) -> bool {

@@ -2,8 +2,10 @@
 
 use entry_codec::Status;
 use nvme_model::array::Range;
-use trace_rings::{Awaited, Line, TraceTables, number_at};
-use trace_walk::{Choice, SoughtOp, SoughtTicket, Walk, fits, wanted_completion};
+use trace_walk::{
+    Awaited, Choice, Line, SoughtOp, SoughtTicket, TraceTables, Walk, fits, number_at,
+    wanted_completion,
+};
 
 /// Whether a Fetch from a submission queue is to be made.
 #[derive(Clone, Copy, PartialEq, Eq)]

@@ -2,8 +2,7 @@
 
 use crate::choosing::{Around, can_make, goes_before};
 use nvme_model::array::Range;
-use trace_rings::TraceTables;
-use trace_walk::{Choice, Gives, SoughtTicket, Walk};
+use trace_walk::{Choice, Gives, SoughtTicket, TraceTables, Walk};
 
 // What a ticket writes to a block.
 fn value_given(walk: &Walk, tables: &TraceTables, ticket: &SoughtTicket, block: u64) -> u64 {

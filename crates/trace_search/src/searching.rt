@@ -5,8 +5,7 @@ use crate::forced::forced;
 use crate::guessing::put_best_last;
 use std::alloc::{AllocError as NoMemory, Global};
 use std::collections::HashSet;
-use trace_rings::TraceTables;
-use trace_walk::{Choice, Walk};
+use trace_walk::{Choice, TraceTables, Walk};
 
 /// What a search found.
 #[derive(Drop)]

@@ -1,9 +1,11 @@
-//! Histories beside traces, and beside the discipline of slots, by calls, as tests: what is answered where there is
-//! memory enough, and with queues that are full.
+//! Tests by calls of histories beside traces and beside slots, and of searches for a history. They show what is
+//! answered where there is memory enough, and with queues that are full.
 #![tactic(auto)]
 
 #[cfg(test)]
 mod areas;
+#[cfg(test)]
+mod options;
 #[cfg(test)]
 mod sessions;
 #[cfg(test)]
@@ -12,5 +14,7 @@ mod shared_queue;
 mod takeovers;
 #[cfg(test)]
 mod texts;
+#[cfg(test)]
+mod traces;
 #[cfg(test)]
 mod verdicts;

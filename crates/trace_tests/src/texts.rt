@@ -1,10 +1,9 @@
 //! Lines of a history and of a trace, as values.
 
 use history::{Config, Entry, parse_line};
-use seen_trace::{Seen, TraceOptions};
 use std::alloc::Global;
 use std::test::Fail;
-use trace_lines::parse_seen;
+use trace::{Seen, TraceOptions, parse_seen};
 use witness_check::{TraceVerdict, certify, judge};
 
 /// The entries of these lines.

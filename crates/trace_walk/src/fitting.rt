@@ -1,9 +1,9 @@
 //! Which completion a ticket can have.
 
+use crate::tables::{Awaited, TraceTables};
 use crate::ticket::{SoughtOp, SoughtTicket, code_of};
 use entry_codec::{Cqe, Status};
-use seen_trace::TraceOptions;
-use trace_rings::{Awaited, TraceTables};
+use trace::TraceOptions;
 
 /// Whether it is sure which completion a ticket has, and that it says success.
 pub fn is_sure(tables: &TraceTables, ticket: &SoughtTicket) -> bool {

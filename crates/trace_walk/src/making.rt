@@ -1,14 +1,16 @@
 //! Makes one more step of a history.
 
 use crate::fitting::is_sure;
+use crate::numbers::{number_at, set_number};
+use crate::tables::{Line, NOBODYS, OPEN, Published, TraceTables};
 use crate::ticket::{Gives, SoughtOp, SoughtTicket, code_of};
+use crate::values::mixed;
 use crate::walk::{Choice, Fixed, Move, Walk};
 use entry_codec::Status;
 use fused_match::{Judged, judge};
 use nvme_model::array::Range;
 use nvme_model::operation::Op;
 use std::alloc::AllocError as NoMemory;
-use trace_rings::{Line, NOBODYS, OPEN, Published, TraceTables, mixed, number_at, set_number};
 
 // The completion that a ticket which passed its checks is to have: the next one for its queue with its identifier that
 // says success or Compare Failure.

@@ -1,11 +1,12 @@
 //! Takes back the newest steps of a history.
 
 use crate::fitting::is_sure;
+use crate::numbers::{number_at, set_number};
+use crate::tables::{Line, OPEN, TraceTables};
 use crate::ticket::SoughtTicket;
 use crate::walk::{Move, Walk};
 use nvme_model::array::Range;
 use std::alloc::AllocError as NoMemory;
-use trace_rings::{Line, OPEN, TraceTables, number_at, set_number};
 
 impl Walk {
     fn undo_line(&mut self, tables: &TraceTables) {

@@ -1,11 +1,13 @@
 //! A history that is being made, and what it has made of the volume.
 
 use crate::fitting::wanted_completion;
+use crate::numbers::{number_at, zeros};
+use crate::tables::{Line, OPEN, TraceTables};
 use crate::ticket::{SoughtOp, SoughtTicket};
+use crate::values::mixed;
 use entry_codec::Status;
 use nvme_model::array::Range;
 use std::alloc::{AllocError as NoMemory, Global};
-use trace_rings::{Line, OPEN, TraceTables, mixed, number_at, zeros};
 
 /// One step of a history in which each unit is one step.
 #[derive(Clone, Copy)]

@@ -2,3 +2,17 @@ pub mod Marks
 mod Batches
 mod PieceGiven
 mod Ready
+mod Calls
+pub mod HostMarks
+mod HostSent
+pub mod Bars
+pub mod Beginning
+pub mod Fresh
+pub mod Keeping
+pub mod SlotMarks
+pub mod Places
+pub mod Polled
+pub mod Releasing
+pub mod SlotSent
+pub mod Staying
+pub mod Takeovers

@@ -1,8 +1,8 @@
 -- What a handle's mark says of what it owns.
 use Rattle.std.proofs.Common.{◌≡◌, ◌<◌, arith, refl}
 use Rattle.std.specs.Prelude.{Err, None, Ok, Option, Result, Some, ℕ}
-use Rattle.controller_steps.specs.declared.answer.Answer.{Answer}
-use Rattle.controller_steps.specs.declared.answer.Refused.{Refused}
+use Rattle.controller_interface.specs.declared.answer.Answer.{Answer}
+use Rattle.controller_interface.specs.declared.answer.Refused.{Refused}
 use Rattle.history_check.specs.Kept.{CheckerRun}
 use Rattle.vandrexu_c.specs.Checkers.{checker_mark}
 use Rattle.vandrexu_c.specs.OwnedStates.{OwnedState, mark}

@@ -3,8 +3,8 @@ use Rattle.std.proofs.Common.{List, [], ap, arith, drop, inl, inr, length, refl,
 use Rattle.std.proofs.Common.{◌+◌, ◌++◌, ◌<◌, ◌∙◌, ◌∷◌, ◌≡◌, ◌≤◌, ◌≢◌, ◌⊎◌}
 use Rattle.std.proofs.lemmas.List.{length-append}
 use Rattle.line_text.specs.Lines.{with_feeds}
-use Rattle.history_pieces.specs.Pieces.{IsPiece, text_of_first}
-use Rattle.history_pieces.specs.declared.pieces.Piece.{Piece}
+use Rattle.c_handles.specs.Pieces.{IsPiece, text_of_first}
+use Rattle.c_handles.specs.declared.pieces.Piece.{Piece}
 use Rattle.vandrexu_c.specs.HistoryLines.{CopiesLines, LacksRoomForLine}
 
 -- each line has its line feed at least

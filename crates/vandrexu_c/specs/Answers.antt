@@ -7,9 +7,9 @@ use Rattle.nvme_model.specs.declared.operation.Found.{Found}
 use Rattle.nvme_model.specs.declared.operation.Op.{Op}
 use Rattle.nvme_model.specs.declared.step.Step.{Step}
 use Rattle.block_exec.specs.declared.run.Done.{Done}
-use Rattle.controller_steps.specs.Works.{TicketWork}
-use Rattle.controller_steps.specs.declared.answer.Refused.{Refused}
-use Rattle.controller_steps.specs.declared.work.Kind.{Kind}
+use Rattle.controller_interface.specs.Works.{TicketWork}
+use Rattle.controller_interface.specs.declared.answer.Refused.{Refused}
+use Rattle.controller_interface.specs.declared.work.Kind.{Kind}
 use Rattle.vandrexu_c.specs.declared.answers.BlockedStep.{BlockedStep}
 use Rattle.vandrexu_c.specs.declared.answers.FetchedWork.{FetchedWork}
 use Rattle.vandrexu_c.specs.declared.answers.GrantedUnit.{GrantedUnit}

@@ -1,8 +1,8 @@
 -- What a call that asks for lines of a controller's history answers.
 use Rattle.std.specs.Prelude.{List, [], drop, length, reverse, ℕ, ◌+◌, ◌++◌, ◌<◌, ◌≡◌, ◌≢◌, ◌≤◌}
-use Rattle.controller_steps.specs.State.{ControllerState}
-use Rattle.history_pieces.specs.Pieces.{text_of_first}
-use Rattle.history_text.specs.Texts.{history_lines}
+use Rattle.controller_interface.specs.State.{ControllerState}
+use Rattle.c_handles.specs.Pieces.{text_of_first}
+use Rattle.history.specs.Texts.{history_lines}
 
 -- the lines of a controller's history from this place on: place 0 is the configuration's, place k the k-th entry's
 abbrev pub lines_from : ControllerState → ℕ → List (List ℕ)

@@ -7,3 +7,16 @@ pub mod Owned
 pub mod OwnedChecker
 pub mod OwnedStates
 pub mod Steps
+pub mod TextCalls
+pub mod Driving
+pub mod HostStates
+pub mod Hosts
+pub mod HostMaking
+pub mod OwnedHost
+pub mod HostReplies
+pub mod Begins
+pub mod SlotMaking
+pub mod OwnedSlotHost
+pub mod Polls
+pub mod SlotReplies
+pub mod SlotStates

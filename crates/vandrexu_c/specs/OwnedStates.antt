@@ -3,7 +3,7 @@ use Rattle.std.specs.Prelude.{List, None, Option, Some, [], max, ℕ, ◌≡◌,
 use Rattle.nvme_model.specs.Config.{config_fault, config_fault_number}
 use Rattle.nvme_model.specs.declared.config.ConfigFault.{ConfigFault}
 use Rattle.nvme_model.specs.declared.config.ConfigNumbers.{ConfigNumbers}
-use Rattle.controller_steps.specs.State.{ControllerState, KeepsRoom, LacksRoom}
+use Rattle.controller_interface.specs.State.{ControllerState, KeepsRoom, LacksRoom}
 
 -- a controller, and the data of the completion that was reaped last
 pub record OwnedState : Type 0 where

@@ -2,9 +2,9 @@
 use Rattle.std.specs.Prelude.{Err, List, None, Ok, Option, Result, Some, length, suc, zero, ℕ, ◌≡◌}
 use Rattle.nvme_model.specs.Steps.{ready}
 use Rattle.nvme_model.specs.declared.step.Step.{Step}
-use Rattle.controller_steps.specs.State.{Serves}
-use Rattle.controller_steps.specs.declared.answer.Answer.{Answer}
-use Rattle.controller_steps.specs.declared.answer.Refused.{Refused}
+use Rattle.controller_interface.specs.State.{Serves}
+use Rattle.controller_interface.specs.declared.answer.Answer.{Answer}
+use Rattle.controller_interface.specs.declared.answer.Refused.{Refused}
 use Rattle.vandrexu_c.specs.Answers.{blocked_of, fetched_work_of, granted_of, next_step_of, refused_number}
 use Rattle.vandrexu_c.specs.OwnedStates.{OwnedState}
 use Rattle.vandrexu_c.specs.declared.answers.BlockedStep.{BlockedStep}

@@ -5,7 +5,7 @@ ghost use Rattle.vandrexu_c.specs.Answers.{blocked_of, found_number, granted_of,
 ghost use Rattle.vandrexu_c.specs.Answers.{refused_number};
 ghost use Rattle.vandrexu_c.specs.Answers.{fetched_work_of, next_step_of};
 
-use controller_steps::{Kind, Refused, Step, Work};
+use controller_interface::{Kind, Refused, Step, Work};
 use nvme_model::array::{Mode, Range};
 use nvme_model::operation::{Found, Op};
 use step_core::Done;

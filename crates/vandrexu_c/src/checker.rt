@@ -1,7 +1,7 @@
 //! A checker: made, freed, and given the lines of a history, one at a time.
 
 ghost use Rattle.std.specs.Prelude.{◌≡◌, ◌⊎◌, [], IfErr, IfOk, None, OnOk, Some, false, length, true};
-ghost use Rattle.given_config.specs.Configurations.{given_numbers};
+ghost use Rattle.c_handles.specs.Configurations.{given_numbers};
 ghost use Rattle.nvme_model.specs.declared.entry.Entry.{Entry as TheEntry};
 ghost use Rattle.history.specs.Lines.{entry_in};
 ghost use Rattle.history_check.specs.Kept.{CheckerRun, Stands};
@@ -11,7 +11,7 @@ ghost use Rattle.vandrexu_c.specs.Checkers.{TellsWhetherLegal, TellsNone, TellsT
 use crate::controller::{IN_USE, NO_HANDLE, NO_MEMORY, TOO_SMALL};
 use crate::owned_checker::{CheckerHandle, OwnedChecker, put_checker, take_checker};
 use broken_rules::Broken;
-use given_config::{GivenConfig, config_of};
+use c_handles::{GivenConfig, config_of};
 use history::{Config, Entry, LineFault, parse_line};
 use history_check::Checker;
 use std::alloc::{AllocError as NoMemory, Global};

@@ -1,11 +1,11 @@
 //! What is wrong with a configuration.
 
 ghost use Rattle.std.specs.Prelude.{◌≡◌};
-ghost use Rattle.given_config.specs.Configurations.{given_numbers};
+ghost use Rattle.c_handles.specs.Configurations.{given_numbers};
 ghost use Rattle.nvme_model.specs.Config.{config_fault};
 ghost use Rattle.vandrexu_c.specs.FaultNumbers.{fault_number};
 
-use given_config::{GivenConfig, config_of};
+use c_handles::{GivenConfig, config_of};
 
 /// 0 where the configuration is accepted, else its first fault, 21 to 30.
 #[unsafe(no_mangle)]

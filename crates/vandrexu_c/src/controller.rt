@@ -1,13 +1,13 @@
 //! A controller: made, freed, and looked at.
 
 ghost use Rattle.std.specs.Prelude.{◌++◌, ◌≡◌, ◌<◌, ◌≤◌, IfOk, None, Some, [], drop, length};
-ghost use Rattle.given_config.specs.Configurations.{given_numbers};
+ghost use Rattle.c_handles.specs.Configurations.{given_numbers};
 ghost use Rattle.nvme_model.specs.Medium.{medium};
 ghost use Rattle.vandrexu_c.specs.OwnedStates.{IsNewController, KeepsOwned, OwnedState, MayRefuse, Reserves};
 
 use crate::held::{Handle, put_in, take_out};
 use crate::owned_controller::OwnedController;
-use given_config::{GivenConfig, config_of};
+use c_handles::{GivenConfig, config_of};
 use std::alloc::{AllocError as NoMemory, Global};
 use step_core::Core;
 

@@ -4,7 +4,7 @@ ghost use Rattle.std.specs.Prelude.{◌≡◌, ◌<◌, MatchOption, None, Optio
 ghost use Rattle.vandrexu_c.specs.OwnedStates.{OwnedState, mark};
 
 use crate::owned_controller::OwnedController;
-use box_parts::Parts;
+use c_handles::Parts;
 use std::alloc::Global;
 use std::marker::{Model, Send};
 

@@ -1,4 +1,5 @@
-//! The controller and the checker for callers in C, one function each: include/vandrexu.h says how they are called.
+//! The library for callers in C, one function each: a controller, a checker, whole texts, hosts with drivers, and their
+//! slots. The headers in `include/` say how they are called.
 #![tactic(auto)]
 
 mod answers;
@@ -6,8 +7,27 @@ mod batch;
 mod checker;
 mod configuration;
 mod controller;
+mod disk_calls;
 mod held;
+mod host;
+mod host_calls;
+mod host_handle;
+mod host_making;
+mod host_numbers;
+mod host_reply;
 mod lines;
 mod owned_checker;
 mod owned_controller;
+mod slot_begin;
+mod slot_endings;
+mod slot_exports;
+mod slot_handle;
+mod slot_hold;
+mod slot_host;
+mod slot_making;
+mod slot_numbers;
+mod slot_polling;
+mod slot_reply;
 mod steps;
+mod texts;
+mod under_way;

@@ -1,13 +1,13 @@
 //! The lines of a controller's history.
 
 ghost use Rattle.std.specs.Prelude.{◌≡◌, ◌⊎◌, IfOk, None, Some, length};
-ghost use Rattle.history_pieces.specs.Pieces.{IsPiece};
+ghost use Rattle.c_handles.specs.Pieces.{IsPiece};
 ghost use Rattle.vandrexu_c.specs.HistoryLines.{CopiesLines, LacksRoomForLine, lines_from};
 ghost use Rattle.vandrexu_c.specs.OwnedStates.{OwnedState};
 
 use crate::controller::{NO_HANDLE, NO_MEMORY, TOO_SMALL};
 use crate::held::{Handle, put_in, take_out};
-use history_pieces::{Piece, piece_of};
+use c_handles::{Piece, piece_of};
 use std::alloc::{AllocError as NoMemory, Global};
 use step_core::Core;
 

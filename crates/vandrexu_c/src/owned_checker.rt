@@ -4,7 +4,7 @@ ghost use Rattle.std.specs.Prelude.{◌≡◌, ◌<◌, MatchOption, None, Optio
 ghost use Rattle.history_check.specs.Kept.{CheckerRun};
 ghost use Rattle.vandrexu_c.specs.Checkers.{checker_mark};
 
-use box_parts::Parts;
+use c_handles::Parts;
 use history_check::Checker;
 use std::alloc::Global;
 use std::marker::{Model, Send};

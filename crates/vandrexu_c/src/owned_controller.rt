@@ -7,7 +7,7 @@ ghost use Rattle.vandrexu_c.specs.Steps.{GivesReap, GivesStep, TellsBlocked, Tel
 use crate::answers::{
     BlockedStep, FetchedWork, GrantedUnit, blocked_in, granted_in, refused_in, work_in,
 };
-use controller_steps::{Answer, Step};
+use controller_interface::{Answer, Step};
 use nvme_model::submission::Submissions;
 use std::marker::Model;
 use step_core::Core;

@@ -9,10 +9,10 @@ use Rattle.nvme_model.specs.Legal.{IsLegal, legal, may_follow}
 use Rattle.nvme_model.specs.declared.config.ConfigNumbers.{ConfigNumbers}
 use Rattle.nvme_model.specs.declared.entry.Entry.{Entry}
 use Rattle.nvme_model.proofs.FirstBad.{none_is_legal}
-use Rattle.seen_trace.specs.Aside.{aside_pair}
-use Rattle.seen_trace.specs.Observed.{observed, shown, with_shown}
-use Rattle.seen_trace.specs.declared.options.TraceOptions.{TraceOptions}
-use Rattle.seen_trace.specs.declared.seen.Seen.{Seen}
+use Rattle.trace.specs.Aside.{aside_pair}
+use Rattle.trace.specs.Observed.{observed, shown, with_shown}
+use Rattle.trace.specs.declared.options.TraceOptions.{TraceOptions}
+use Rattle.trace.specs.declared.seen.Seen.{Seen}
 use Rattle.witness_check.specs.Compared.{Compared, IsComparedTo, IsSeenTo, bad_after, next_after, out_after}
 use Rattle.witness_check.specs.Compared.{unlike_after}
 use Rattle.witness_check.specs.Followed.{Compares, Followed, FollowsHistory, TellsEntry}
@@ -28,7 +28,7 @@ pub none_of : {X : Type 0} (o : Option X) → is_some o ≡ false → o ≡ None
 none_of None none = refl
 none_of (Some x) none = absurd (let f : true ≡ false = none in cc)
 
-stays : (o later : Option ℕ) → is_some o ≡ true → o ≡ earlier_or o later
+pub stays : (o later : Option ℕ) → is_some o ≡ true → o ≡ earlier_or o later
 stays None later some = absurd (let f : false ≡ true = some in cc)
 stays (Some place) later some = refl
 

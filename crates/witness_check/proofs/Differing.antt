@@ -1,10 +1,10 @@
 -- One thing alone differs first between two things.
 use Rattle.std.proofs.Common.{◌≡◌, Option, Some, None, refl, sym, ◌∙◌}
 use Rattle.nvme_model.specs.declared.entry.PublishLine.{PublishLine}
-use Rattle.seen_trace.specs.Options.{ReadsAs, ReadsPublish, ReadsReap}
-use Rattle.seen_trace.specs.declared.options.TraceOptions.{TraceOptions}
-use Rattle.seen_trace.specs.declared.seen.ReapedLine.{ReapedLine}
-use Rattle.seen_trace.specs.declared.seen.Seen.{Seen}
+use Rattle.trace.specs.Options.{ReadsAs, ReadsPublish, ReadsReap}
+use Rattle.trace.specs.declared.options.TraceOptions.{TraceOptions}
+use Rattle.trace.specs.declared.seen.ReapedLine.{ReapedLine}
+use Rattle.trace.specs.declared.seen.Seen.{Seen}
 use Rattle.witness_check.specs.Differing.{Differ, PublishesDiffer, ReapsDiffer}
 use Rattle.witness_check.specs.declared.difference.Difference.{Difference}
 use Rattle.witness_check.specs.declared.difference.Difference.TheVariants.{Batch, Completion, Contents, Data}

@@ -10,13 +10,13 @@ use Rattle.nvme_model.specs.History.{Past}
 use Rattle.nvme_model.specs.Legal.{IsLegal, IsLegalFile}
 use Rattle.nvme_model.specs.declared.config.ConfigNumbers.{ConfigNumbers}
 use Rattle.nvme_model.proofs.FirstBad.{first_is_some, legal_is_none, one_first, some_is_first}
-use Rattle.seen_trace.specs.Aside.{aside_pair, comes_first, in_turn, is_aside, own}
-use Rattle.seen_trace.specs.Observed.{Explains, observed}
-use Rattle.seen_trace.specs.Options.{Pointwise, ReadsAs}
-use Rattle.seen_trace.specs.declared.options.TraceOptions.{TraceOptions}
-use Rattle.seen_trace.specs.declared.seen.Seen.{Seen}
-use Rattle.seen_trace.proofs.Aside.{first_before, own_behind}
-use Rattle.seen_trace.proofs.Pointwise.{parted, same_length}
+use Rattle.trace.specs.Aside.{aside_pair, comes_first, in_turn, is_aside, own}
+use Rattle.trace.specs.Observed.{Explains, observed}
+use Rattle.trace.specs.Options.{Pointwise, ReadsAs}
+use Rattle.trace.specs.declared.options.TraceOptions.{TraceOptions}
+use Rattle.trace.specs.declared.seen.Seen.{Seen}
+use Rattle.trace.proofs.Aside.{first_before, own_behind}
+use Rattle.trace.proofs.Pointwise.{parted, same_length}
 use Rattle.witness_check.specs.Compared.{Compared, IsComparedTo, IsSeenTo, IsVerdict}
 use Rattle.witness_check.specs.Differing.{Differ, DifferFirst, DiffersBehind, StandsFor}
 use Rattle.witness_check.specs.declared.comparison.TraceVerdict.{TraceVerdict}

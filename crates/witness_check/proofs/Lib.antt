@@ -5,3 +5,4 @@ pub mod Turns
 pub mod Comparing
 pub mod Differing
 pub mod Judging
+pub mod Growing

@@ -1,10 +1,10 @@
 -- The completion queue of a Post is told by its bytes.
-use Rattle.std.proofs.Common.{◌≡◌, ℕ, zero, suc, ◌+◌, ◌*◌, ◌%◌, ◌/◌, ◌≤◌, ◌<◌, Bool, true, false, cond, List, [], ◌∷◌}
+use Rattle.std.proofs.Common.{◌≡◌, ℕ, zero, suc, ◌%◌, ◌≤◌, Bool, true, false, cond, List, [], ◌∷◌}
 use Rattle.std.proofs.Common.{length, get_or, None, is_none, ap, ◌∙◌, arith, eqb, ltb-false, nat_lt}
 use Rattle.std.proofs.lemmas.Bool.{or_parts}
 use Rattle.nvme_model.specs.Completions.{phase, posted_completions}
 use Rattle.nvme_model.specs.Config.{completion_queue, config_fault, config_faults}
-use Rattle.nvme_model.specs.EntryBytes.{cqe_bytes, cqe_fields}
+use Rattle.nvme_model.specs.EntryBytes.{cqe_fields}
 use Rattle.nvme_model.specs.History.{Past}
 use Rattle.nvme_model.specs.Legal.{IsLegal}
 use Rattle.nvme_model.specs.Queues.{fetched_count}
@@ -15,9 +15,9 @@ use Rattle.nvme_model.specs.declared.config.ConfigNumbers.{ConfigNumbers}
 use Rattle.nvme_model.specs.declared.entry.Entry.{Entry}
 use Rattle.nvme_model.specs.declared.entry.PostLine.{PostLine}
 use Rattle.nvme_model.specs.declared.entry.ReapLine.{ReapLine}
-use Rattle.nvme_model.specs.declared.status.Status.{Status}
 use Rattle.nvme_model.proofs.Posted.{posted_by_machine}
 use Rattle.nvme_model.proofs.Rules.{follows, none_holds}
+use Rattle.nvme_model.proofs.CqeFields.{sqid_back}
 
 -- ---- the submission queue of a ticket
 
@@ -44,11 +44,6 @@ few_pairs c e = ltb-false _ _
     (or_parts (nat_lt c.pairs 1) (nat_lt 16 c.pairs) (none_holds (config_faults c) (ap is_none e)).1.1.1.1.1.0).1
 
 -- ---- a Post
-
-sqid_back : (h q cid p : ℕ) (s : Status) → q < 65536 → (cqe_fields (cqe_bytes h q cid p s)).sqid ≡ q
-sqid_back h q cid p s l =
-    let e : q % 256 + 256 * ((q / 256) % 256 + 256 * 0) ≡ q = omega (arith, l) in
-    e
 
 -- its bytes name its ticket's submission queue
 pub post_names_queue : (c : ConfigNumbers) (past : Past) (p : PostLine) → config_fault c ≡ None

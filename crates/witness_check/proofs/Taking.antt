@@ -16,9 +16,9 @@ use Rattle.nvme_model.specs.declared.entry.ReapLine.{ReapLine}
 use Rattle.nvme_model.proofs.Rules.{follows}
 use Rattle.history_check.specs.Kept.{Stands, CheckerRun}
 use Rattle.rings.specs.Tables.{IsTable}
-use Rattle.seen_trace.specs.Observed.{next_payload, shown}
-use Rattle.seen_trace.specs.declared.options.TraceOptions.{TraceOptions}
-use Rattle.seen_trace.specs.declared.seen.Seen.{Seen}
+use Rattle.trace.specs.Observed.{next_payload, shown}
+use Rattle.trace.specs.declared.options.TraceOptions.{TraceOptions}
+use Rattle.trace.specs.declared.seen.Seen.{Seen}
 use Rattle.witness_check.specs.Followed.{Compares, Followed, FollowsHistory, TellsEntry, is_inner}
 use Rattle.witness_check.specs.Waiting.{data_or_none, waiting_payloads}
 use Rattle.witness_check.specs.declared.witness.Told.{Told}

@@ -8,13 +8,13 @@ use Rattle.std.proofs.lemmas.List.{length-reverse, length-take-le, reverse-appen
 use Rattle.nvme_model.specs.History.{Past}
 use Rattle.nvme_model.specs.declared.config.ConfigNumbers.{ConfigNumbers}
 use Rattle.nvme_model.specs.declared.entry.Entry.{Entry}
-use Rattle.seen_trace.specs.Aside.{in_turn, is_aside, none_seen, out_aside, own}
-use Rattle.seen_trace.specs.Aside.{out_after as with_this}
-use Rattle.seen_trace.specs.Observed.{next_payload, shown, with_shown}
-use Rattle.seen_trace.specs.Options.{Pointwise, ReadsAs}
-use Rattle.seen_trace.specs.declared.options.TraceOptions.{TraceOptions}
-use Rattle.seen_trace.specs.declared.seen.Seen.{Seen}
-use Rattle.seen_trace.proofs.Pointwise.{same_length}
+use Rattle.trace.specs.Aside.{in_turn, is_aside, none_seen, out_aside, own}
+use Rattle.trace.specs.Aside.{out_after as with_this}
+use Rattle.trace.specs.Observed.{next_payload, shown, with_shown}
+use Rattle.trace.specs.Options.{Pointwise, ReadsAs}
+use Rattle.trace.specs.declared.options.TraceOptions.{TraceOptions}
+use Rattle.trace.specs.declared.seen.Seen.{Seen}
+use Rattle.trace.proofs.Pointwise.{same_length}
 use Rattle.witness_check.specs.Compared.{IsSeenTo, next_after, out_after, unlike_after}
 use Rattle.witness_check.specs.Differing.{Differ, StandsFor}
 use Rattle.witness_check.specs.Followed.{Compares}

@@ -12,7 +12,7 @@ use Rattle.nvme_model.specs.declared.entry.Entry.{Entry}
 use Rattle.nvme_model.specs.declared.entry.PostLine.{PostLine}
 use Rattle.nvme_model.specs.declared.entry.ReapLine.{ReapLine}
 use Rattle.nvme_model.proofs.Runs.{reaped_posted}
-use Rattle.seen_trace.specs.Observed.{next_payload, payload_by}
+use Rattle.trace.specs.Observed.{next_payload, payload_by}
 use Rattle.witness_check.specs.Waiting.{data_or_none, posted_payloads, waiting_payloads}
 
 -- ---- a Post

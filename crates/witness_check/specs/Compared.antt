@@ -4,10 +4,10 @@ use Rattle.nvme_model.specs.FirstBad.{IsFirstBad, first_bad_of}
 use Rattle.nvme_model.specs.History.{Past}
 use Rattle.nvme_model.specs.Legal.{IsLegal}
 use Rattle.nvme_model.specs.declared.config.ConfigNumbers.{ConfigNumbers}
-use Rattle.seen_trace.specs.Aside.{aside_pair, out_aside}
-use Rattle.seen_trace.specs.Observed.{Explains, observed}
-use Rattle.seen_trace.specs.declared.options.TraceOptions.{TraceOptions}
-use Rattle.seen_trace.specs.declared.seen.Seen.{Seen}
+use Rattle.trace.specs.Aside.{aside_pair, out_aside}
+use Rattle.trace.specs.Observed.{Explains, observed}
+use Rattle.trace.specs.declared.options.TraceOptions.{TraceOptions}
+use Rattle.trace.specs.declared.seen.Seen.{Seen}
 use Rattle.witness_check.specs.Differing.{DifferFirst, DiffersBehind, StandsFor}
 use Rattle.witness_check.specs.Followed.{Followed, FollowsHistory}
 use Rattle.witness_check.specs.Turns.{new_difference, new_next, new_out}

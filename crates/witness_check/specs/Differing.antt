@@ -2,11 +2,11 @@
 use Rattle.std.specs.Prelude.{List, None, Option, Some, false, length, reverse, slice_get, take, true, ℕ, ◌++◌, ◌<◌}
 use Rattle.std.specs.Prelude.{◌≡◌, ◌≢◌, ◌≤◌, ◌∷◌, ◌⊎◌}
 use Rattle.nvme_model.specs.declared.entry.PublishLine.{PublishLine}
-use Rattle.seen_trace.specs.Aside.{ReadsTrace, in_turn, is_aside}
-use Rattle.seen_trace.specs.Options.{Pointwise, ReadsAs, ReadsEntry, read_completion}
-use Rattle.seen_trace.specs.declared.options.TraceOptions.{TraceOptions}
-use Rattle.seen_trace.specs.declared.seen.ReapedLine.{ReapedLine}
-use Rattle.seen_trace.specs.declared.seen.Seen.{Seen}
+use Rattle.trace.specs.Aside.{ReadsTrace, in_turn, is_aside}
+use Rattle.trace.specs.Options.{Pointwise, ReadsAs, ReadsEntry, read_completion}
+use Rattle.trace.specs.declared.options.TraceOptions.{TraceOptions}
+use Rattle.trace.specs.declared.seen.ReapedLine.{ReapedLine}
+use Rattle.trace.specs.declared.seen.Seen.{Seen}
 use Rattle.witness_check.specs.declared.difference.Difference.{Difference}
 use Rattle.witness_check.specs.declared.difference.Difference.TheVariants.{Batch, Completion, Contents, Data}
 use Rattle.witness_check.specs.declared.difference.Difference.TheVariants.{HistoryEnds, Kind, Queue, TraceEnds}

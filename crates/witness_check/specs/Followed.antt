@@ -7,10 +7,10 @@ use Rattle.nvme_model.specs.declared.entry.Entry.{Entry}
 use Rattle.history_check.specs.Kept.{Stands}
 use Rattle.history_check.specs.Kept as kept
 use Rattle.rings.specs.Tables.{IsTable}
-use Rattle.seen_trace.specs.Observed.{shown}
-use Rattle.seen_trace.specs.Options.{ReadsAs}
-use Rattle.seen_trace.specs.declared.options.TraceOptions.{TraceOptions}
-use Rattle.seen_trace.specs.declared.seen.Seen.{Seen}
+use Rattle.trace.specs.Observed.{shown}
+use Rattle.trace.specs.Options.{ReadsAs}
+use Rattle.trace.specs.declared.options.TraceOptions.{TraceOptions}
+use Rattle.trace.specs.declared.seen.Seen.{Seen}
 use Rattle.witness_check.specs.Differing.{Differ}
 use Rattle.witness_check.specs.Waiting.{waiting_payloads}
 use Rattle.witness_check.specs.declared.witness.Told.{Told}

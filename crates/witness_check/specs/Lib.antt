@@ -4,3 +4,4 @@ pub mod Followed
 pub mod Turns
 pub mod Compared
 pub mod Seeing
+pub mod TraceText

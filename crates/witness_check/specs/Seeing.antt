@@ -3,7 +3,7 @@ use Rattle.std.specs.Prelude.{List, None, Option, Some, suc, ℕ}
 use Rattle.nvme_model.specs.History.{Past}
 use Rattle.nvme_model.specs.declared.config.ConfigNumbers.{ConfigNumbers}
 use Rattle.rings.specs.Tables.{IsTable}
-use Rattle.seen_trace.specs.declared.seen.Seen.{Seen}
+use Rattle.trace.specs.declared.seen.Seen.{Seen}
 use Rattle.witness_check.specs.Waiting.{waiting_payloads}
 use Rattle.witness_check.specs.declared.sight.Sight.{Sight}
 

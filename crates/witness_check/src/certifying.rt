@@ -1,13 +1,13 @@
 //! Whether entries explain a trace.
 
 ghost use Rattle.std.specs.Prelude.{◌≡◌, ◌↔◌, IfOk, reverse, true};
-ghost use Rattle.seen_trace.specs.Observed.{Explains};
+ghost use Rattle.trace.specs.Observed.{Explains};
 ghost use Rattle.witness_check.specs.Compared.{IsVerdict};
 
 use crate::comparison::{Comparison, TraceVerdict};
 use history::{Config, Entry};
-use seen_trace::{Seen, TraceOptions};
 use std::alloc::{AllocError as NoMemory, Global};
+use trace::{Seen, TraceOptions};
 
 /// What is said of these entries and this trace, each the oldest first: that they explain it; or else the first bad
 /// entry; or else, where they are a legal history, what hosts first saw of them that the trace doesn't say, or what it

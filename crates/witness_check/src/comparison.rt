@@ -4,8 +4,8 @@ ghost use Rattle.std.specs.Option.{option_copied};
 ghost use Rattle.std.specs.Prelude.{◌≡◌, ◌∷◌, ◌-◌, [], IfOk, List, OnErr, OnOk, slice_get};
 ghost use Rattle.nvme_model.specs.History.{Past};
 ghost use Rattle.nvme_model.specs.declared.config.ConfigNumbers.{ConfigNumbers};
-ghost use Rattle.seen_trace.specs.declared.options.TraceOptions.{TraceOptions};
-ghost use Rattle.seen_trace.specs.declared.seen.Seen.{Seen};
+ghost use Rattle.trace.specs.declared.options.TraceOptions.{TraceOptions};
+ghost use Rattle.trace.specs.declared.seen.Seen.{Seen};
 ghost use Rattle.witness_check.specs.Compared.{IsComparedTo, IsVerdict};
 ghost use Rattle.witness_check.specs.Compared.{bad_after as the_bad_after, next_after as the_next_after};
 ghost use Rattle.witness_check.specs.Compared.{out_after as the_out_after, unlike_after as the_unlike_after};
@@ -15,9 +15,9 @@ use crate::difference::Difference;
 use crate::turn::{Turn, aside_pair, is_aside_entry, out_with, turn_of};
 use crate::witness::{Told, Witness};
 use history::{Config, Entry};
-use seen_trace::{Seen, TraceOptions};
 use std::alloc::{AllocError as NoMemory, Global};
 use std::marker::Model;
+use trace::{Seen, TraceOptions};
 
 /// What is said of a history and a trace.
 #[derive(Clone, Copy, Debug, PartialEq, Eq)]

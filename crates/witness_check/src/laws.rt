@@ -3,8 +3,8 @@
 ghost use Rattle.std.specs.Prelude.{◌≡◌, List};
 ghost use Rattle.nvme_model.specs.History.{Past};
 ghost use Rattle.nvme_model.specs.declared.config.ConfigNumbers.{ConfigNumbers};
-ghost use Rattle.seen_trace.specs.declared.options.TraceOptions.{TraceOptions};
-ghost use Rattle.seen_trace.specs.declared.seen.Seen.{Seen};
+ghost use Rattle.trace.specs.declared.options.TraceOptions.{TraceOptions};
+ghost use Rattle.trace.specs.declared.seen.Seen.{Seen};
 ghost use Rattle.witness_check.specs.Compared.{IsVerdict};
 ghost use Rattle.witness_check.specs.declared.comparison.TraceVerdict.{TraceVerdict};
 

@@ -1,4 +1,5 @@
-//! Judges a history beside a trace: whether it is legal, and what hosts saw of it is this trace.
+//! Judges a history beside a trace, for whoever has both: whether it is legal, and what hosts saw of it is this trace.
+//! Writes the trace of a legal history, too.
 #![tactic(auto)]
 
 mod certifying;
@@ -7,8 +8,10 @@ mod difference;
 mod laws;
 mod observer;
 mod payloads;
+mod printing;
 mod same;
 mod sight;
+mod text_laws;
 mod turn;
 mod witness;
 
@@ -17,6 +20,8 @@ pub use crate::comparison::{Comparison, TraceVerdict};
 pub use crate::difference::Difference;
 pub use crate::laws::a_history_has_one_verdict;
 pub use crate::observer::Observer;
+pub use crate::printing::{print_sight, print_trace};
 pub use crate::sight::Sight;
+pub use crate::text_laws::a_trace_goes_on_line_by_line;
 pub use crate::turn::Turn;
 pub use crate::witness::{Told, Witness};

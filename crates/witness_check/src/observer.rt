@@ -6,8 +6,8 @@ ghost use Rattle.nvme_model.specs.History.{Past};
 ghost use Rattle.nvme_model.specs.Legal.{IsLegal};
 ghost use Rattle.nvme_model.specs.declared.config.ConfigNumbers.{ConfigNumbers};
 ghost use Rattle.nvme_model.specs.declared.entry.Entry.{Entry};
-ghost use Rattle.seen_trace.specs.Observed.{shown};
-ghost use Rattle.seen_trace.specs.declared.seen.Seen.{Seen};
+ghost use Rattle.trace.specs.Observed.{shown};
+ghost use Rattle.trace.specs.declared.seen.Seen.{Seen};
 ghost use Rattle.witness_check.specs.Seeing.{AreWaitingPayloads, seen_of};
 ghost use Rattle.witness_check.specs.Waiting.{data_or_none};
 
@@ -17,9 +17,9 @@ use crate::witness::place_of;
 use history::{Config, Entry};
 use nvme_model::entry::{PostLine, ReapLine};
 use nvme_model::submission::Payload;
-use seen_trace::ReapedLine;
 use std::alloc::{AllocError as NoMemory, Global};
 use std::marker::Model;
+use trace::ReapedLine;
 
 /// Follows a legal history entry by entry, and says what hosts see of each. It judges nothing and keeps no entry: only
 /// the data of the completions that wait.

@@ -1,14 +1,14 @@
 //! What differs between what was seen and what a trace says.
 
 ghost use Rattle.std.specs.Prelude.{◌≡◌, ◌↔◌, true};
-ghost use Rattle.seen_trace.specs.Options.{Pointwise, ReadsEntry, read_completion as the_reading};
-ghost use Rattle.seen_trace.specs.declared.seen.Seen.{Seen};
+ghost use Rattle.trace.specs.Options.{Pointwise, ReadsEntry, read_completion as the_reading};
+ghost use Rattle.trace.specs.declared.seen.Seen.{Seen};
 ghost use Rattle.witness_check.specs.Differing.{Distinguishes};
 
 use crate::difference::Difference;
 use nvme_model::entry::{PublishLine, ReapLine};
 use nvme_model::submission::Submission;
-use seen_trace::{ReapedLine, Seen, TraceOptions, read_completion, refused};
+use trace::{ReapedLine, Seen, TraceOptions, read_completion, refused};
 
 // Whether an entry of a history stands for this one of a trace.
 fn reads_item(options: &TraceOptions, one: &Submission, told: &Submission) -> bool

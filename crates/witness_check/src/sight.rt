@@ -1,7 +1,7 @@
 //! What hosts see of an entry.
 
 use nvme_model::entry::PublishLine;
-use seen_trace::ReapedLine;
+use trace::ReapedLine;
 
 /// What hosts see of one more entry of a history.
 #[derive(Drop)]

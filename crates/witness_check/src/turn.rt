@@ -3,13 +3,13 @@
 ghost use Rattle.std.specs.Prelude.{◌≡◌, IfNone, IfSome};
 ghost use Rattle.nvme_model.specs.EntryBytes.{cqe_fields};
 ghost use Rattle.nvme_model.specs.declared.config.ConfigNumbers.{ConfigNumbers};
-ghost use Rattle.seen_trace.specs.Aside.{aside_pair as the_aside_pair};
+ghost use Rattle.trace.specs.Aside.{aside_pair as the_aside_pair};
 ghost use Rattle.witness_check.specs.Turns.{is_aside_entry as the_is_aside_entry, out_with as the_out_with};
 ghost use Rattle.witness_check.specs.Turns.{turn_of as the_turn_of};
 
 use byteorder::{ByteOrder, LittleEndian};
 use history::{Config, Entry};
-use seen_trace::TraceOptions;
+use trace::TraceOptions;
 
 /// Whose turn it is at something seen.
 #[derive(Clone, Copy, Debug, PartialEq, Eq)]

@@ -6,8 +6,8 @@ ghost use Rattle.nvme_model.specs.EntryBytes.{cqe_fields};
 ghost use Rattle.nvme_model.specs.History.{Past};
 ghost use Rattle.nvme_model.specs.declared.config.ConfigNumbers.{ConfigNumbers};
 ghost use Rattle.nvme_model.specs.declared.entry.Entry.{Entry};
-ghost use Rattle.seen_trace.specs.declared.options.TraceOptions.{TraceOptions};
-ghost use Rattle.seen_trace.specs.declared.seen.Seen.{Seen};
+ghost use Rattle.trace.specs.declared.options.TraceOptions.{TraceOptions};
+ghost use Rattle.trace.specs.declared.seen.Seen.{Seen};
 ghost use Rattle.witness_check.specs.Differing.{Distinguishes};
 ghost use Rattle.witness_check.specs.Followed.{Compares, FollowsHistory, TellsEntry, is_inner};
 ghost use Rattle.witness_check.specs.Waiting.{data_or_none};
@@ -20,9 +20,9 @@ use history::{Config, Entry};
 use history_check::Checker;
 use nvme_model::entry::{PostLine, PublishLine, ReapLine};
 use nvme_model::submission::Payload;
-use seen_trace::{Seen, TraceOptions};
 use std::alloc::{AllocError as NoMemory, Global};
 use std::marker::Model;
+use trace::{Seen, TraceOptions};
 
 /// What is said of one more entry of a history, where a trace says something next.
 #[derive(Clone, Copy, Debug, PartialEq, Eq)]
@@ -44,6 +44,9 @@ pub struct Witness {
     alloc: Global,
     checker: Checker,
     // by completion queue
+    // A checker keeps completions without their data. A Post's data is put here before the checker
+    // takes it, so a refused growth changes nothing; which queue a Post is for is read off its
+    // SQID.
     waiting: Vec<Payloads>,
 }
 

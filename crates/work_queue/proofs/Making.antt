@@ -21,14 +21,14 @@ use Rattle.nvme_model.specs.declared.operation.Op.{Op}
 use Rattle.nvme_model.specs.declared.status.Verdict.{Verdict}
 use Rattle.nvme_model.specs.declared.step.Step.{Step}
 use Rattle.nvme_model.specs.declared.submission.Submission.{Submission}
-use Rattle.controller_steps.specs.State.{answer_of, kind_by, work_of}
-use Rattle.controller_steps.specs.Works.{TicketWork}
-use Rattle.controller_steps.specs.declared.answer.Answer.{Answer}
+use Rattle.controller_interface.specs.State.{answer_of, kind_by, work_of}
+use Rattle.controller_interface.specs.Works.{TicketWork}
+use Rattle.controller_interface.specs.declared.answer.Answer.{Answer}
 use Rattle.ticket_laws.specs.Entries.{ticket_in}
 use Rattle.ticket_laws.specs.Tasks.{first_duty_stage, own_stage}
 use Rattle.work_queue.proofs.Staging.{fetched_stage}
 use Rattle.ticket_laws.proofs.Later.{fetched_commands}
-use Rattle.controller_steps.specs.State.{Accepts}
+use Rattle.controller_interface.specs.State.{Accepts}
 use Rattle.work_queue.specs.Duties.{IsWorkAt, duty_of, is_fetch_of}
 
 -- ---- what a ticket has to do is what its Work says

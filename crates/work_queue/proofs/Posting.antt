@@ -21,8 +21,8 @@ use Rattle.nvme_model.specs.declared.entry.Entry.{Entry}
 use Rattle.nvme_model.specs.declared.entry.GrantLine.{GrantLine}
 use Rattle.nvme_model.specs.declared.entry.PostLine.{PostLine}
 use Rattle.nvme_model.specs.declared.status.Status.{Status}
-use Rattle.controller_steps.specs.State.{Accepts, answer_of}
-use Rattle.controller_steps.specs.declared.answer.Answer.{Answer}
+use Rattle.controller_interface.specs.State.{Accepts, answer_of}
+use Rattle.controller_interface.specs.declared.answer.Answer.{Answer}
 use Rattle.meet_lock.specs.Passes.{Accepted, config_of, seen}
 use Rattle.work_queue.specs.Duties.{task_step}
 use Rattle.work_queue.specs.Engines.{EnginePass}

@@ -20,15 +20,15 @@ use Rattle.nvme_model.specs.declared.entry.GrantLine.{GrantLine}
 use Rattle.nvme_model.specs.declared.refusal.Why.{Why}
 use Rattle.nvme_model.specs.declared.status.Status.{Status}
 use Rattle.nvme_model.specs.declared.step.Step.{Step}
-use Rattle.controller_steps.specs.State.{answer_of}
-use Rattle.controller_steps.specs.declared.answer.Answer.{Answer}
+use Rattle.controller_interface.specs.State.{answer_of}
+use Rattle.controller_interface.specs.declared.answer.Answer.{Answer}
 use Rattle.ticket_laws.specs.Entries.{of_ticket, ticket_in}
 use Rattle.ticket_laws.specs.Tasks.{Duty, duty_at, first_duty_stage, own_all_ended, own_open, own_stage, task_fault}
 use Rattle.ticket_laws.specs.declared.stage.DutyStage.{DutyStage}
 use Rattle.ticket_laws.proofs.NewEntries.{named_entry, of_ticket-own}
 use Rattle.ticket_laws.proofs.OwnEntries.{own_differed}
 use Rattle.ticket_laws.proofs.Stages.{block_stage, grant_stage, post_stage, run_over}
-use Rattle.controller_steps.specs.State.{Accepts}
+use Rattle.controller_interface.specs.State.{Accepts}
 use Rattle.work_queue.specs.Duties.{task_step}
 use Rattle.work_queue.specs.Stages.{answer_stage, next_task}
 use Rattle.work_queue.specs.declared.task.Task.{Task}

@@ -12,16 +12,16 @@ use Rattle.nvme_model.specs.declared.config.ConfigNumbers.{ConfigNumbers}
 use Rattle.nvme_model.specs.declared.refusal.Why.{Why}
 use Rattle.nvme_model.specs.declared.step.Step.{Step}
 use Rattle.nvme_model.specs.Kept.{ControllerInvariant}
-use Rattle.controller_steps.specs.State.{ControllerState, refused_as}
-use Rattle.controller_steps.specs.Works.{TicketWork}
-use Rattle.controller_steps.specs.declared.answer.Answer.{Answer}
-use Rattle.controller_steps.specs.declared.answer.Refused.{Refused}
+use Rattle.controller_interface.specs.State.{ControllerState, refused_as}
+use Rattle.controller_interface.specs.Works.{TicketWork}
+use Rattle.controller_interface.specs.declared.answer.Answer.{Answer}
+use Rattle.controller_interface.specs.declared.answer.Refused.{Refused}
 use Rattle.ticket_laws.specs.Entries.{of_ticket}
 use Rattle.ticket_laws.specs.Tasks.{Duty, IsInPlace, duty_at, own_stage, task_fault}
 use Rattle.ticket_laws.specs.declared.stage.DutyStage.{DutyStage}
 use Rattle.ticket_laws.proofs.Allowed.{block_in_place, grant_in_place, post_in_place}
 use Rattle.ticket_laws.proofs.Later.{duty_later, ticket_later, tickets_later}
-use Rattle.controller_steps.specs.State.{Accepts, Refuses}
+use Rattle.controller_interface.specs.State.{Accepts, Refuses}
 use Rattle.meet_lock.specs.Passes.{Declines, IsNotBusy, Learned, Saw, Worked, config_of, its, seen, ticket_config}
 use Rattle.meet_lock.specs.Passes.{ticket_seen}
 use Rattle.meet_lock.specs.declared.pass.Declined.{Declined}

@@ -41,12 +41,12 @@ pub struct Engine {
 }
 
 impl Engine {
-    ghost use Rattle.controller_steps.specs.State.{Accepts, Refuses};
+    ghost use Rattle.controller_interface.specs.State.{Accepts, Refuses};
     ghost use Rattle.meet_lock.specs.Passes.{Declines, IsNew, IsNotBusy, IsSame, Knows, Met, Saw, Worked, config_of};
     ghost use Rattle.meet_lock.specs.Passes.{IsSeenWhole, mine, number, passes_of, seen};
     ghost use Rattle.meet_lock.specs.Lock.{AreOfPasses, ExtendsByPasses, unmade};
     ghost use Rattle.meet_lock.specs.declared.pass.Pass.{Pass};
-    ghost use Rattle.controller_steps.specs.State.{ControllerState};
+    ghost use Rattle.controller_interface.specs.State.{ControllerState};
     ghost use Rattle.ticket_laws.specs.Entries.{of_ticket};
     ghost use Rattle.ticket_laws.specs.Tasks.{task_fault};
     ghost use Rattle.work_queue.specs.Duties.{duty_of, task_step};

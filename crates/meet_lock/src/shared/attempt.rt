@@ -5,7 +5,7 @@ ghost use Rattle.std.specs.Prelude.{◌≡◌, IfErr, IfOk};
 use crate::owner::AnyPass;
 use crate::pass::{Declined, Pass};
 use crate::shared::Shared;
-use controller_steps::{Answer, Machine, Step};
+use controller_interface::{Answer, Machine, Step};
 
 impl<M: Machine> Shared<M, AnyPass> {
     ghost use Rattle.meet_lock.specs.Passes.{Accepted, Declines, IsNotBusy, IsPassOfLock, IsSame, Knows, passes_of};

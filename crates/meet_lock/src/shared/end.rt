@@ -8,7 +8,7 @@ use crate::owner::StepRight;
 use crate::pass::Pass;
 use crate::plays::Gather;
 use crate::shared::{SeatPlace, Shared, unboxed};
-use controller_steps::Machine;
+use controller_interface::Machine;
 
 impl<M: Machine, K: StepRight> Shared<M, K> {
     ghost use Rattle.meet_lock.specs.Passes.{IsPassOfLock, IsSeenWhole, config_of, number, passes_of};
@@ -44,6 +44,9 @@ impl<M: Machine, K: StepRight> Shared<M, K> {
             return None;
         };
         let Pass { mut seat } = last;
+
+        // The last pass takes the others in before it takes the lock: a joined number is that of no
+        // seat, so the holder isn't one of them, and no step of it can come any more.
         while let Some(pass) = rest.pop() {
             self.gather(&mut seat, pass);
         }

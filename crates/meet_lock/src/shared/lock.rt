@@ -3,7 +3,7 @@
 ghost use Rattle.std.specs.Prelude.{◌≡◌, [], ◌∷◌, IfErr, IfOk, MatchOption};
 ghost use Rattle.nvme_model.specs.Passes.{entries};
 ghost use Rattle.nvme_model.specs.declared.entry.Entry.{Entry};
-ghost use Rattle.controller_steps.specs.declared.answer.Answer.{Answer};
+ghost use Rattle.controller_interface.specs.declared.answer.Answer.{Answer};
 ghost use Rattle.meet_lock.specs.Lock.{boxed, grown, view_given_back};
 ghost use Rattle.meet_lock.specs.MachineSteps.{Made, MadeNone};
 ghost use Rattle.meet_lock.specs.SeatSteps.{IsIdle, IsSameSeat, KnowsTicket, MayTell, Missed};
@@ -12,7 +12,7 @@ ghost use Rattle.meet_lock.specs.SeatSteps.{Out, OutMore, OutSame, SawAll};
 use crate::owner::StepRight;
 use crate::plays::{Leave, Take, Write};
 use crate::shared::{SeatPlace, Shared};
-use controller_steps::{Answer, Machine, Refused, Step};
+use controller_interface::{Answer, Machine, Refused, Step};
 
 // Makes the step of the machine in the box.
 fn stepped<M: Machine>(machine: &mut Box<M>, step: Step) -> Result<Answer, Refused>

@@ -12,7 +12,7 @@ use crate::plays::{Hear, Load, Look, Recall, Tell, TellHeld, Unload};
 use crate::seats::NoteSeat;
 use crate::shared::{SeatPlace, Shared};
 use crate::view::Origin;
-use controller_steps::Machine;
+use controller_interface::Machine;
 use std::marker::Brand;
 
 impl<M: Machine, K: StepRight> Shared<M, K> {

@@ -8,7 +8,7 @@ use crate::owner::TicketOwner;
 use crate::pass::{Declined, Pass};
 use crate::seats::TicketSeat;
 use crate::shared::Shared;
-use controller_steps::{Answer, Machine, Step};
+use controller_interface::{Answer, Machine, Step};
 
 impl<M: Machine> Shared<M, TicketOwner> {
     ghost use Rattle.meet_lock.specs.Passes.{Declines, IsNotBusy, IsPassOfLock, IsSame, IsTicketOf, Knows, OpensTicket};

@@ -5,12 +5,12 @@ ghost use Rattle.nvme_model.specs.Refusals.{refusal};
 ghost use Rattle.nvme_model.specs.declared.step.Step.{Step};
 ghost use Rattle.range_reserve.specs.Reserved.{held_beside};
 ghost use Rattle.step_core.specs.Found.{IsJob, IsNextStep};
-ghost use Rattle.controller_steps.specs.State.{Does};
+ghost use Rattle.controller_interface.specs.State.{Does};
 ghost use Rattle.step_core.specs.declared.controller.next.ReadyStep.{ReadyStep};
 
 use crate::controller::Core;
 use crate::controller::room::take_room;
-use controller_steps::Answer;
+use controller_interface::Answer;
 use job_table::Job;
 use nvme_model::entry::{BlockLine, Entry};
 use nvme_model::refusal::Why;

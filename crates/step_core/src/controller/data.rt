@@ -6,7 +6,7 @@ ghost use Rattle.block_exec.specs.Bytes.{first_blocks};
 ghost use Rattle.fused_match.specs.Judged.{operation_in};
 ghost use Rattle.nvme_model.specs.declared.operation.Op.{Op as Operation};
 ghost use Rattle.job_table.specs.Beginning.{HasBlocks, payload_at, read_first, write_first};
-ghost use Rattle.controller_steps.specs.State.{needs_data};
+ghost use Rattle.controller_interface.specs.State.{needs_data};
 
 use crate::spare_boxes::SpareBoxes;
 use block_array::BLOCK;
@@ -41,6 +41,7 @@ pub(super) fn data_room(
 }
 
 // Boxes with what a Write or a pair will write; none for anything else.
+// The boxes are made before the entries are taken, so a refusal leaves all as it was.
 fn write_boxes(
     alloc: Global,
     spare: &mut SpareBoxes,

@@ -13,28 +13,27 @@ ghost use Rattle.nvme_model.specs.declared.step.Step.{Step};
 ghost use Rattle.step_core.specs.Found.{IsFront, first_job, kind_in};
 ghost use Rattle.job_table.specs.Beginning.{read_first};
 ghost use Rattle.job_table.specs.Tickets.{compare_by, write_blocks};
-ghost use Rattle.controller_steps.specs.State.{Does, needs_data};
-ghost use Rattle.ticket_progress.specs.Stages.{IsSound};
+ghost use Rattle.controller_interface.specs.State.{Does, needs_data};
+ghost use Rattle.job_table.specs.Stages.{IsSound};
 
 use crate::controller::Core;
 use crate::controller::data::{DataRoom, data_room};
 use crate::controller::room::keep_room;
 use crate::spare_boxes::SpareBoxes;
-use cids_in_use::CidsInUse;
-use controller_steps::{Answer, Kind, Work};
+use controller_interface::{Answer, Kind, Work};
 use fused_match::{Item, Judged, judge};
-use job_table::{Data, Job};
+use job_table::{Data, Job, OwedCids};
 use nvme_model::entry::{Entry, FetchLine};
 use nvme_model::operation::Op;
 use nvme_model::refusal::Why;
 use nvme_model::submission::{Payload, Submission};
-use rings::SqRing;
+use rings::{CidsInUse, SqRing};
 use std::alloc::{AllocError as NoMemory, Global};
 use std::mem;
-use ticket_progress::OwedCids;
 
 // What a Fetch finds of the entries at the front of a queue: what becomes of them, the CIDs of those that it takes, and
 // the first block that the first of them names.
+// A command is decoded once at its Fetch, for its checks; what the ticket keeps is taken from here.
 #[derive(Clone, Copy)]
 pub(crate) struct Front {
     judged: Judged,

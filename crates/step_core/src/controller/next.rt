@@ -10,11 +10,11 @@ ghost use Rattle.nvme_model.specs.Tickets.{in_flight};
 ghost use Rattle.ticket_laws.specs.Standing.{flying};
 ghost use Rattle.step_core.specs.Found.{IsJob, IsNextStep, next_step, ready_step_of};
 ghost use Rattle.nvme_model.specs.OneAtATime.{IsOneAtATime};
-ghost use Rattle.controller_steps.specs.State.{Serves};
+ghost use Rattle.controller_interface.specs.State.{Serves};
 
 use crate::controller::Core;
 use crate::controller::post::Due;
-use controller_steps::{Answer, Refused};
+use controller_interface::{Answer, Refused};
 use job_table::Job;
 use nvme_model::entry::GrantLine;
 use nvme_model::step::Step;

@@ -6,15 +6,15 @@ ghost use Rattle.job_table.specs.Keeping.{Keeping, posted_job};
 ghost use Rattle.nvme_model.specs.Refusals.{refusal};
 ghost use Rattle.nvme_model.specs.declared.step.Step.{Step};
 ghost use Rattle.step_core.specs.Found.{IsJob, IsNextStep};
-ghost use Rattle.controller_steps.specs.State.{Does};
+ghost use Rattle.controller_interface.specs.State.{Does};
 ghost use Rattle.step_core.specs.declared.controller.next.ReadyStep.{ReadyStep};
-ghost use Rattle.ticket_progress.specs.Stages.{owed_in};
+ghost use Rattle.job_table.specs.Stages.{owed_in};
 
 use crate::controller::Core;
 use crate::controller::room::keep_room;
 use crate::spare_boxes::SpareBoxes;
 use completions::cqe_of;
-use controller_steps::Answer;
+use controller_interface::Answer;
 use entry_codec::encode_cqe;
 use job_table::{Job, Jobs};
 use nvme_model::entry::{Entry, PostLine};

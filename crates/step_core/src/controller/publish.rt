@@ -3,11 +3,11 @@
 ghost use Rattle.std.specs.Prelude.{◌≡◌, None, length};
 ghost use Rattle.nvme_model.specs.Refusals.{refusal};
 ghost use Rattle.nvme_model.specs.declared.step.Step.{Step};
-ghost use Rattle.controller_steps.specs.State.{Serves};
+ghost use Rattle.controller_interface.specs.State.{Serves};
 
 use crate::controller::Core;
 use crate::controller::room::keep_room;
-use controller_steps::{Answer, Refused};
+use controller_interface::{Answer, Refused};
 use nvme_model::entry::{Entry, PublishLine};
 use nvme_model::refusal::Why;
 use nvme_model::submission::{Batch, Payload, Submission, Submissions, copies_of};

@@ -3,11 +3,11 @@
 ghost use Rattle.std.specs.Prelude.{◌≡◌};
 ghost use Rattle.nvme_model.specs.Refusals.{refusal};
 ghost use Rattle.nvme_model.specs.declared.step.Step.{Step};
-ghost use Rattle.controller_steps.specs.State.{Does};
+ghost use Rattle.controller_interface.specs.State.{Does};
 
 use crate::controller::Core;
 use crate::controller::room::take_room;
-use controller_steps::Answer;
+use controller_interface::Answer;
 use nvme_model::entry::{Entry, ReapLine};
 use nvme_model::refusal::Why;
 use rings::Completion;

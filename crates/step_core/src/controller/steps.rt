@@ -4,10 +4,10 @@ ghost use Rattle.std.specs.Prelude.{◌≡◌, ◌+◌, ◌<◌, IfErr, OnErr, O
 ghost use Rattle.std.specs.Vec.{vec_capacity};
 ghost use Rattle.nvme_model.specs.Legal.{IsLegal};
 ghost use Rattle.nvme_model.specs.OneAtATime.{IsOneAtATime};
-ghost use Rattle.controller_steps.specs.State.{RunsOnto, Serves};
+ghost use Rattle.controller_interface.specs.State.{RunsOnto, Serves};
 
 use crate::controller::Core;
-use controller_steps::{Answer, Refused};
+use controller_interface::{Answer, Refused};
 use nvme_model::step::Step;
 use std::alloc::AllocError as NoMemory;
 

@@ -1,5 +1,5 @@
 use Rattle.std.proofs.Common.{ap, inl}
-use Rattle.cid_table.specs.Cids.{QueueCids, held}
+use Rattle.driver_cas.specs.Cids.{QueueCids, held}
 use Rattle.driver_cas.specs.Tables.{is_free}
 use Rattle.driver_cas.proofs.Drivers.{reaped_calls}
 use Rattle.driver_cas.proofs.laws.an_untouched_driver_keeps_its_calls.Goals as goal

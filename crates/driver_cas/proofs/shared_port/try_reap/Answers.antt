@@ -1,8 +1,8 @@
 use Rattle.std.proofs.Common.{List, None, Some, ap, subst, sym, ◌++◌, ◌∙◌}
 use Rattle.nvme_model.specs.Passes.{entries}
 use Rattle.meet_lock.specs.Passes.{config_of}
-use Rattle.controller_steps.specs.State.{Refuses}
-use Rattle.controller_steps.specs.declared.answer.Answer.{Answer}
+use Rattle.controller_interface.specs.State.{Refuses}
+use Rattle.controller_interface.specs.declared.answer.Answer.{Answer}
 use Rattle.nvme_model.specs.declared.step.Step.{Step}
 use Rattle.work_queue.specs.Engines.{IsOpened}
 use Rattle.driver_calls.specs.declared.event.PortEvent.{PortEvent}

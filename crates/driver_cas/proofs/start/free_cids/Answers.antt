@@ -1,7 +1,7 @@
 use Rattle.std.proofs.Common.{Contains, subst, sym, ◌≡◌, ◌≢◌, rules}
 use Rattle.std.specs.Prelude.{IfNone}
 use Rattle.nvme_model.specs.declared.operation.Op.{Op}
-use Rattle.cid_table.specs.Cids.{queues_of}
+use Rattle.driver_cas.specs.Cids.{queues_of}
 use Rattle.driver_cas.specs.Turns.{HasTooFew}
 use Rattle.driver_cas.proofs.Passing.{few_single}
 use Rattle.driver_cas.proofs.start.free_cids.Goals as goal

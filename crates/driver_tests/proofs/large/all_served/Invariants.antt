@@ -1,4 +1,4 @@
-use Rattle.driver_rows.specs.Benches.{IsBenchHost, IsServerOf}
+use Rattle.driver_testing.specs.Benches.{IsBenchHost, IsServerOf}
 use Rattle.driver_tests.proofs.large.all_served.Given as goal
 
 abbrev pub invariant-loop-row : goal.invariant-loop-row

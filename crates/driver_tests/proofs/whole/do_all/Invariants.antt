@@ -1,4 +1,4 @@
-use Rattle.driver_rows.specs.Claimants.{IsClaimant}
+use Rattle.driver_testing.specs.Claimants.{IsClaimant}
 use Rattle.driver_tests.specs.Crews.{AreCrewOf}
 use Rattle.driver_tests.proofs.whole.do_all.Given as goal
 

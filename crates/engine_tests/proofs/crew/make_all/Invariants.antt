@@ -1,4 +1,4 @@
-use Rattle.lock_rows.specs.Callers.{IsCrewOf}
+use Rattle.lock_testing.specs.Callers.{IsCrewOf}
 use Rattle.engine_tests.proofs.crew.make_all.Given as goal
 
 abbrev pub invariant-loop-step : goal.invariant-loop-step

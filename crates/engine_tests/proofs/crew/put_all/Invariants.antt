@@ -1,5 +1,5 @@
 use Rattle.std.proofs.Common.{All, IfSome}
-use Rattle.lock_rows.specs.Callers.{IsTestWork}
+use Rattle.lock_testing.specs.Callers.{IsTestWork}
 use Rattle.engine_tests.proofs.crew.put_all.Given as goal
 
 abbrev pub invariant-loop : goal.invariant-loop

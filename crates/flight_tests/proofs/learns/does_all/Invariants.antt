@@ -1,4 +1,4 @@
-use Rattle.driver_rows.specs.Benches.{IsServerOf}
+use Rattle.driver_testing.specs.Benches.{IsServerOf}
 use Rattle.flight_tests.specs.Flights.{AreInFlight}
 use Rattle.flight_tests.proofs.learns.does_all.Given as goal
 

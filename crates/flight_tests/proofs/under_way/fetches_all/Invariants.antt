@@ -1,6 +1,6 @@
 use Rattle.std.proofs.Common.{All}
 use Rattle.work_queue.specs.Engines.{IsWorkOf}
-use Rattle.driver_rows.specs.Benches.{IsServerOf}
+use Rattle.driver_testing.specs.Benches.{IsServerOf}
 use Rattle.flight_tests.proofs.under_way.fetches_all.Given as goal
 
 abbrev pub invariant-loop : goal.invariant-loop

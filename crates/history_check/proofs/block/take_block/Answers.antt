@@ -1,8 +1,8 @@
 use Rattle.std.proofs.Common.{List, ap, cond, length, set, subst, sym, ◌∙◌, ◌≡◌}
 use Rattle.std.proofs.lemmas.Result.{err_from_is_err_and}
-use Rattle.checked_tickets.specs.Contents.{contents_in, written_in}
-use Rattle.checker_tables.specs.Judged.{block_fits_by}
-use Rattle.checker_tables.specs.Tables.{CheckedTicket}
+use Rattle.history_check.specs.Contents.{contents_in, written_in}
+use Rattle.history_check.specs.Judged.{block_fits_by}
+use Rattle.history_check.specs.Tables.{CheckedTicket}
 use Rattle.nvme_model.specs.Operations.{write_data}
 use Rattle.nvme_model.specs.Tickets.{Ticket}
 use Rattle.history_check.specs.Kept.{checker_state_in}

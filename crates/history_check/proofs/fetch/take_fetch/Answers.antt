@@ -1,6 +1,6 @@
 use Rattle.std.proofs.Common.{List, ap, arith, length, sym, take, ◌++◌, ◌<◌, ◌∙◌, ◌∷◌, []}
 use Rattle.std.specs.Option.{option_copied}
-use Rattle.checker_tables.specs.Tables.{just_fetched, tables}
+use Rattle.history_check.specs.Tables.{just_fetched, tables}
 use Rattle.nvme_model.specs.Tickets.{Ticket, cids}
 use Rattle.nvme_model.specs.declared.config.ConfigNumbers.{ConfigNumbers}
 use Rattle.rings.specs.Submissions.{SubmissionRing, advanced}

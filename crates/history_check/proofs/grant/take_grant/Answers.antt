@@ -1,8 +1,8 @@
 use Rattle.std.proofs.Common.{Err, List, ap, arith, false, inl, inr, subst, sym, true, ◌<◌, ◌^◌, ◌∙◌, ◌≡◌}
 use Rattle.range_reserve.specs.Reserved.{has_conflict, holds_range, held_of, insert_held}
 use Rattle.range_reserve.specs.declared.held.HeldRange.{HeldRange}
-use Rattle.checker_tables.specs.Tables.{CheckedTicket}
-use Rattle.checker_tables.specs.Taken.{opened_flight}
+use Rattle.history_check.specs.Tables.{CheckedTicket}
+use Rattle.history_check.specs.Taken.{opened_flight}
 use Rattle.history_check.specs.declared.fields.CheckedInFlight.{CheckedInFlight}
 use Rattle.history_check.proofs.Flights.{found_by, missing_by, rises_by}
 use Rattle.history_check.proofs.Granting.{grant_apart, grant_few, grant_free, grant_missing, grant_no, grant_range}

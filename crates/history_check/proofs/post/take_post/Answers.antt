@@ -1,6 +1,6 @@
 use Rattle.std.proofs.Common.{List, ap, arith, get_or, length, set, slice_get, subst, sym, true, ℕ, ◌%◌, ◌-◌, ◌∙◌}
-use Rattle.checker_tables.specs.Tables.{CheckedTicket}
-use Rattle.checker_tables.specs.Taken.{posted_flight}
+use Rattle.history_check.specs.Tables.{CheckedTicket}
+use Rattle.history_check.specs.Taken.{posted_flight}
 use Rattle.nvme_model.specs.Tickets.{Ticket}
 use Rattle.nvme_model.specs.declared.entry.Entry.{Entry}
 use Rattle.rings.specs.Completions.{CompletionRing, posted_ring}
@@ -11,8 +11,8 @@ use Rattle.nvme_model.specs.declared.config.ConfigNumbers.{ConfigNumbers}
 use Rattle.history_check.proofs.Flights.{found_by, missing_by, placed_by, rises_by}
 use Rattle.history_check.proofs.Posting.{post_count, post_cq_place, post_few, post_full, post_low, post_missing}
 use Rattle.history_check.proofs.Posting.{post_nothing, post_off, post_on, post_same, post_sq_place, post_unfit}
-use Rattle.checked_tickets.specs.Contents.{post_fits_at}
-use Rattle.checker_tables.specs.Judged.{checked_owed}
+use Rattle.history_check.specs.Contents.{post_fits_at}
+use Rattle.history_check.specs.Judged.{checked_owed}
 use Rattle.entry_codec.specs.Cqe.{phase_bit}
 use Rattle.history_check.proofs.post.take_post.Goals as goal
 

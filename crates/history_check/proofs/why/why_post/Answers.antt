@@ -1,6 +1,6 @@
 use Rattle.std.proofs.Common.{ap, arith, get_or, length, slice_get, sym, ◌%◌, ◌-◌, ◌∙◌}
-use Rattle.checked_tickets.specs.Explained.{post_wrong_at}
-use Rattle.checker_tables.specs.Judged.{checked_owed}
+use Rattle.history_check.specs.Explained.{post_wrong_at}
+use Rattle.history_check.specs.Judged.{checked_owed}
 use Rattle.entry_codec.specs.Cqe.{phase_bit}
 use Rattle.nvme_model.specs.Tickets.{Ticket}
 use Rattle.nvme_model.specs.declared.config.ConfigNumbers.{ConfigNumbers}

@@ -1,6 +1,6 @@
 use Rattle.std.proofs.Common.{[], ◌∷◌}
 use Rattle.picture_svg.specs.Entries.{box_svg, cid_svg, status_svg}
-use Rattle.svg_pieces.proofs.Chains.{last, next}
+use Rattle.picture_svg.proofs.Chains.{last, next}
 use Rattle.picture_svg.proofs.entries.push_posted.Goals as goal
 
 pub returns : goal.returns

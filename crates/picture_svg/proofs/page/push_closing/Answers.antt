@@ -2,7 +2,7 @@ use Rattle.std.proofs.Common.{[], ◌+◌, ◌∷◌}
 use Rattle.picture_svg.specs.Page.{note_svg}
 use Rattle.picture_svg.specs.Scale.{bottom_of}
 use Rattle.picture_svg.specs.declared.style.TheConstants.{BARS, MARKS}
-use Rattle.svg_pieces.proofs.Chains.{last, next}
+use Rattle.picture_svg.proofs.Chains.{last, next}
 use Rattle.picture_svg.proofs.page.push_closing.Goals as goal
 
 pub returns : goal.returns

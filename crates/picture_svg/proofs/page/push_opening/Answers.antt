@@ -1,7 +1,7 @@
 use Rattle.std.proofs.Common.{[], ◌∷◌}
 use Rattle.picture_svg.specs.Page.{ground_svg, size_svg, view_svg}
 use Rattle.picture_svg.specs.declared.style.TheConstants.{STYLE}
-use Rattle.svg_pieces.proofs.Chains.{last, next}
+use Rattle.picture_svg.proofs.Chains.{last, next}
 use Rattle.picture_svg.proofs.page.push_opening.Goals as goal
 
 pub returns : goal.returns

@@ -1,8 +1,8 @@
 use Rattle.std.proofs.Common.{[], ◌∷◌}
-use Rattle.picture_svg.specs.Columns.{bad_svg}
+use Rattle.picture_svg.specs.ColumnHeads.{bad_svg}
 use Rattle.picture_svg.specs.Page.{beside_svg, cells_svg, closing_svg, heads_svg, names_svg, opening_svg, shapes_svg}
 use Rattle.picture_svg.specs.Seen.{seen_svg}
-use Rattle.svg_pieces.proofs.Chains.{last, next}
+use Rattle.picture_svg.proofs.Chains.{last, next}
 use Rattle.picture_svg.proofs.page.push_page.Goals as goal
 
 pub returns : goal.returns

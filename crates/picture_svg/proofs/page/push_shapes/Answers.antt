@@ -1,6 +1,6 @@
 use Rattle.std.proofs.Common.{[], ◌∷◌}
 use Rattle.picture_svg.specs.Page.{done_svg, in_flight_svg, pending_svg, tickets_svg, units_svg}
-use Rattle.svg_pieces.proofs.Chains.{last, next}
+use Rattle.picture_svg.proofs.Chains.{last, next}
 use Rattle.picture_svg.proofs.page.push_shapes.Goals as goal
 
 pub returns : goal.returns

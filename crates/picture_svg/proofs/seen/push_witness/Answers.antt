@@ -1,6 +1,6 @@
 use Rattle.std.proofs.Common.{[], ◌∷◌}
 use Rattle.std.specs.Prelude.{flat_map}
-use Rattle.svg_pieces.proofs.Chains.{last, next}
+use Rattle.picture_svg.proofs.Chains.{last, next}
 use Rattle.picture_svg.specs.Seen.{seen_head}
 use Rattle.picture_svg.specs.declared.style.TheConstants.{SEEN_STYLE}
 use Rattle.picture_svg.proofs.seen.push_witness.Goals as goal

@@ -1,4 +1,4 @@
-use Rattle.lock_rows.specs.Callers.{IsTestCallerOf}
+use Rattle.lock_testing.specs.Callers.{IsTestCallerOf}
 use Rattle.queue_tests.proofs.capacity.overfills.Given as goal
 
 abbrev pub invariant-loop-cid : goal.invariant-loop-cid

@@ -1,5 +1,5 @@
 use Rattle.std.proofs.Common.{All}
-use Rattle.lock_rows.specs.Callers.{AreTestSpares, IsTestCallerOf}
+use Rattle.lock_testing.specs.Callers.{AreTestSpares, IsTestCallerOf}
 use Rattle.queue_tests.proofs.carries.some_callers.Given as goal
 
 abbrev pub invariant-loop : goal.invariant-loop

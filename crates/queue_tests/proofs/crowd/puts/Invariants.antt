@@ -1,4 +1,4 @@
-use Rattle.lock_rows.specs.Callers.{IsFreshWork, IsTestCallerOf}
+use Rattle.lock_testing.specs.Callers.{IsFreshWork, IsTestCallerOf}
 use Rattle.queue_tests.proofs.crowd.puts.Given as goal
 
 abbrev pub invariant-loop : goal.invariant-loop

@@ -1,7 +1,7 @@
 use Rattle.meet_lock.specs.Passes.{config_of, seen}
 use Rattle.nvme_model.specs.Passes.{entries}
 use Rattle.work_queue.specs.Posted.{IsAnswerPosted}
-use Rattle.lock_rows.specs.Callers.{IsTestCallerOf}
+use Rattle.lock_testing.specs.Callers.{IsTestCallerOf}
 use Rattle.queue_tests.proofs.notices.room_for.Given as goal
 
 abbrev pub invariant-loop-told : goal.invariant-loop-told

@@ -1,4 +1,4 @@
-use Rattle.lock_rows.specs.Callers.{IsTestCallerOf, IsTestWork}
+use Rattle.lock_testing.specs.Callers.{IsTestCallerOf, IsTestWork}
 use Rattle.queue_tests.proofs.travels.ends.Given as goal
 
 abbrev pub invariant-loop : goal.invariant-loop

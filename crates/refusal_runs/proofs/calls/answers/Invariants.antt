@@ -1,5 +1,5 @@
 use Rattle.driver_cas.specs.Drivers.{IsCallOf}
-use Rattle.driver_rows.specs.Benches.{IsBenchHost}
+use Rattle.driver_testing.specs.Benches.{IsBenchHost}
 use Rattle.refusal_runs.proofs.calls.answers.Given as goal
 
 abbrev pub invariant-loop : goal.invariant-loop

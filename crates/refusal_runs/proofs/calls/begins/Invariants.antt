@@ -1,4 +1,4 @@
-use Rattle.driver_rows.specs.Benches.{IsBenchHost}
+use Rattle.driver_testing.specs.Benches.{IsBenchHost}
 use Rattle.refusal_runs.proofs.calls.begins.Given as goal
 
 abbrev pub invariant-loop : goal.invariant-loop

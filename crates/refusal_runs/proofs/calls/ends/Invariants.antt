@@ -1,5 +1,5 @@
 use Rattle.work_queue.specs.Engines.{IsWorkOf}
-use Rattle.driver_rows.specs.Benches.{IsServerOf}
+use Rattle.driver_testing.specs.Benches.{IsServerOf}
 use Rattle.refusal_runs.proofs.calls.ends.Given as goal
 
 abbrev pub invariant-loop : goal.invariant-loop

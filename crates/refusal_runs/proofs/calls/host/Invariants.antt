@@ -1,4 +1,4 @@
-use Rattle.driver_rows.specs.Benches.{AreBenchSpares}
+use Rattle.driver_testing.specs.Benches.{AreBenchSpares}
 use Rattle.refusal_runs.proofs.calls.host.Given as goal
 
 abbrev pub invariant-loop : goal.invariant-loop

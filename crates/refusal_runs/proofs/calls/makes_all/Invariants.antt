@@ -1,4 +1,4 @@
-use Rattle.driver_rows.specs.Benches.{IsBenchHost, IsServerOf}
+use Rattle.driver_testing.specs.Benches.{IsBenchHost, IsServerOf}
 use Rattle.refusal_runs.proofs.calls.makes_all.Given as goal
 
 abbrev pub invariant-loop-ask : goal.invariant-loop-ask

@@ -1,4 +1,4 @@
-use Rattle.driver_rows.specs.Benches.{IsServerOf}
+use Rattle.driver_testing.specs.Benches.{IsServerOf}
 use Rattle.refusal_runs.proofs.calls.serves.Given as goal
 
 abbrev pub invariant-loop : goal.invariant-loop

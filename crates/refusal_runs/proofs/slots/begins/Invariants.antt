@@ -1,4 +1,4 @@
-use Rattle.driver_rows.specs.Claimants.{IsClaimant}
+use Rattle.driver_testing.specs.Claimants.{IsClaimant}
 use Rattle.refusal_runs.proofs.slots.begins.Given as goal
 
 abbrev pub invariant-loop : goal.invariant-loop

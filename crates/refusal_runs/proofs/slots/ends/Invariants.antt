@@ -1,5 +1,5 @@
-use Rattle.driver_rows.specs.Benches.{IsServerOf}
-use Rattle.driver_rows.specs.Claimants.{IsClaimant}
+use Rattle.driver_testing.specs.Benches.{IsServerOf}
+use Rattle.driver_testing.specs.Claimants.{IsClaimant}
 use Rattle.refusal_runs.proofs.slots.ends.Given as goal
 
 abbrev pub invariant-loop : goal.invariant-loop

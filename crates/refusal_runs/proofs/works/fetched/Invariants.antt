@@ -1,4 +1,4 @@
-use Rattle.lock_rows.specs.Callers.{IsCrewOf}
+use Rattle.lock_testing.specs.Callers.{IsCrewOf}
 use Rattle.refusal_runs.proofs.works.fetched.Given as goal
 
 abbrev pub invariant-loop : goal.invariant-loop

@@ -1,4 +1,4 @@
-use Rattle.lock_rows.specs.Callers.{IsTestCallerOf}
+use Rattle.lock_testing.specs.Callers.{IsTestCallerOf}
 use Rattle.refusal_runs.proofs.works.reaps.Given as goal
 
 abbrev pub invariant-loop : goal.invariant-loop

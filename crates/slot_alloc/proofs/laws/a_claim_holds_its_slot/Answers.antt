@@ -1,7 +1,7 @@
 use Rattle.driver_cas.specs.Drivers.{area_of, before, host_of, serial_of as last_of}
 use Rattle.driver_cas.specs.Ports.{view_of}
-use Rattle.slot_calls.proofs.Views.{view_believed, view_holder}
-use Rattle.slot_calls.specs.Hosts.{IsSlotView}
+use Rattle.slot_log_laws.proofs.Views.{view_believed, view_holder}
+use Rattle.slot_log_laws.specs.Hosts.{IsSlotView}
 use Rattle.slot_alloc.specs.Areas.{block_of, claim_serial, slot_of}
 use Rattle.slot_alloc.specs.SlotRules.{own_name}
 use Rattle.slot_alloc.proofs.Asking.{inside_of}

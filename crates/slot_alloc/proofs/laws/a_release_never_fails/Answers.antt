@@ -6,14 +6,14 @@ use Rattle.driver_calls.specs.Says.{call_outcome}
 use Rattle.driver_calls.specs.declared.reply.Reply.{Reply}
 use Rattle.driver_cas.specs.Drivers.{answer_to, area_of, before, host_of, made, number_of, serial_of as last_of}
 use Rattle.driver_cas.specs.Ports.{view_of}
-use Rattle.slot_calls.proofs.Releasing.{release_answer}
+use Rattle.slot_log_laws.proofs.Releasing.{release_answer}
 use Rattle.slot_alloc.specs.Areas.{block_of}
 use Rattle.slot_alloc.specs.SlotRules.{KeepsSlotRules, own_name}
 use Rattle.slot_alloc.proofs.Asking.{inside_of}
 use Rattle.slot_alloc.proofs.GivingBack.{inside_there, never_failed, release_there}
 use Rattle.slot_alloc.specs.Claims.{IsReleasingOf}
 use Rattle.slot_alloc.specs.Progresses.{IsQuiet}
-use Rattle.slot_calls.specs.Hosts.{IsSlotHost}
+use Rattle.slot_log_laws.specs.Hosts.{IsSlotHost}
 use Rattle.slot_alloc.proofs.laws.a_release_never_fails.Goals as goal
 
 pub returns : goal.returns

@@ -2,9 +2,9 @@ use Rattle.std.proofs.Common.{subst, sym, true, ℕ, ◌≡◌}
 use Rattle.nvme_model.specs.declared.array.Range.{Range}
 use Rattle.driver_cas.specs.Drivers.{area_of, before, host_of, made, serial_of as last_of}
 use Rattle.driver_cas.specs.Ports.{view_of}
-use Rattle.slot_calls.proofs.Meeting.{other_hosts}
-use Rattle.slot_calls.specs.Hosts.{IsSlotView}
-use Rattle.slot_calls.specs.Swaps.{log_believed}
+use Rattle.slot_log_laws.proofs.Meeting.{other_hosts}
+use Rattle.slot_log_laws.specs.Hosts.{IsSlotView}
+use Rattle.slot_log_laws.specs.Swaps.{log_believed}
 use Rattle.slot_alloc.specs.Areas.{block_of, claim_serial, slot_of}
 use Rattle.slot_alloc.specs.SlotRules.{own_name}
 use Rattle.slot_alloc.proofs.Asking.{inside_of}

@@ -2,7 +2,7 @@ use Rattle.std.proofs.Common.{Bool, Some, ap, ap₂, false, not, refl, rules, sy
 use Rattle.nvme_model.specs.Open.{is_differs}
 use Rattle.nvme_model.specs.Slots.{fetched_before}
 use Rattle.nvme_model.specs.Tickets
-use Rattle.queue_progress.specs.Progress.{progress_in}
+use Rattle.slot_check.specs.Progress.{progress_in}
 use Rattle.slot_check.specs.Takeovers.{takeovers_kept, takes_name}
 use Rattle.slot_check.proofs.TakingOver.{block_knows, block_progress, flies}
 use Rattle.slot_check.proofs.tables.take_block.Goals as goal

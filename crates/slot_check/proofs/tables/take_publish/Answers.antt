@@ -1,7 +1,7 @@
 use Rattle.std.proofs.Common.{List, None, ap₂, map, sym, ◌++◌, ◌∙◌, ◌≡◌}
 use Rattle.nvme_model.specs.History.{Past}
 use Rattle.nvme_model.specs.Slots.{Swap}
-use Rattle.takeover_laws.specs.Takeovers.{Takeover, giving}
+use Rattle.host_laws.specs.Takeovers.{Takeover, giving}
 use Rattle.slot_check.specs.Broken.{publish_broken}
 use Rattle.slot_check.specs.Names.{names_in}
 use Rattle.slot_check.specs.Takeovers.{takeovers_kept}

@@ -1,6 +1,6 @@
 use Rattle.std.proofs.Common.{List, ap, drop, map, ◌++◌, ◌+◌, ◌∙◌}
 use Rattle.nvme_model.specs.Slots.{Swap}
-use Rattle.takeover_laws.specs.Takeovers.{giving}
+use Rattle.host_laws.specs.Takeovers.{giving}
 use Rattle.slot_check.proofs.NewTakeovers.{givings_next}
 use Rattle.slot_check.proofs.takeover.add_givings.Goals as goal
 

@@ -1,5 +1,5 @@
 use Rattle.std.proofs.Common.{drop, map, ◌++◌, ◌≡◌}
-use Rattle.takeover_laws.specs.Takeovers.{giving}
+use Rattle.host_laws.specs.Takeovers.{giving}
 use Rattle.slot_check.proofs.takeover.add_givings.Given as goal
 
 abbrev pub invariant-loop-place : goal.invariant-loop-place

@@ -1,7 +1,7 @@
 use Rattle.std.proofs.Common.{[], ap, cond, sym, true, Bool, ◌∙◌, ◌≡◌}
 use Rattle.nvme_model.specs.EntryBytes.{slba, sqe_fields}
 use Rattle.nvme_model.specs.Slots.{is_pair_on_one, name_of}
-use Rattle.takeover_laws.specs.Takeovers.{takeover_by}
+use Rattle.host_laws.specs.Takeovers.{takeover_by}
 use Rattle.slot_check.proofs.takeover.takeover_of.Goals as goal
 
 pub returns : goal.returns

@@ -1,6 +1,6 @@
 use Rattle.std.proofs.Common.{List, ap, arith, drop, ◌++◌, ◌+◌, ◌∙◌}
-use Rattle.takeover_laws.specs.Rules.{takeovers_within}
-use Rattle.takeover_laws.specs.Takeovers.{Takeover, takeovers_in}
+use Rattle.host_laws.specs.Rules.{takeovers_within}
+use Rattle.host_laws.specs.Takeovers.{Takeover, takeovers_in}
 use Rattle.slot_check.specs.Takeovers.{listed_takeover}
 use Rattle.slot_check.proofs.NewTakeovers.{takeovers_end, takeovers_next}
 use Rattle.slot_check.proofs.takeover.takeovers_in_area.Goals as goal

@@ -1,6 +1,6 @@
 use Rattle.std.proofs.Common.{drop, length, ◌++◌, ◌+◌, ◌-◌, ◌≡◌, ◌≤◌}
-use Rattle.takeover_laws.specs.Rules.{takeovers_within}
-use Rattle.takeover_laws.specs.Takeovers.{takeovers_in}
+use Rattle.host_laws.specs.Rules.{takeovers_within}
+use Rattle.host_laws.specs.Takeovers.{takeovers_in}
 use Rattle.slot_check.proofs.takeover.takeovers_in_area.Given as goal
 
 abbrev pub invariant-loop-place : goal.invariant-loop-place

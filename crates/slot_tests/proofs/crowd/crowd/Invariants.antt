@@ -1,6 +1,6 @@
 use Rattle.std.specs.Prelude.{All}
-use Rattle.driver_rows.specs.Benches.{AreBenchSpares}
-use Rattle.driver_rows.specs.Claimants.{IsClaimant}
+use Rattle.driver_testing.specs.Benches.{AreBenchSpares}
+use Rattle.driver_testing.specs.Claimants.{IsClaimant}
 use Rattle.slot_tests.proofs.crowd.crowd.Given as goal
 
 abbrev pub invariant-loop-h : goal.invariant-loop-h

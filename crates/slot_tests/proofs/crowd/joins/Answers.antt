@@ -1,5 +1,5 @@
 use Rattle.slot_tests.proofs.Lists.{all_more}
-use Rattle.driver_rows.specs.Claimants.{IsClaimant}
+use Rattle.driver_testing.specs.Claimants.{IsClaimant}
 use Rattle.slot_tests.proofs.crowd.joins.Goals as goal
 
 pub returns-in_err-push : goal.returns-in_err-push

@@ -1,7 +1,7 @@
 use Rattle.std.proofs.Common.{length, rules, ◌<◌}
 use Rattle.std.proofs.lemmas.List.Elements.{All-same}
 use Rattle.slot_tests.proofs.Lists.{all_but}
-use Rattle.driver_rows.specs.Claimants.{IsClaimant}
+use Rattle.driver_testing.specs.Claimants.{IsClaimant}
 use Rattle.slot_tests.proofs.crowd.leaves.Goals as goal
 
 pub returns-clause-rest : goal.returns-clause-rest

@@ -1,5 +1,5 @@
-use Rattle.driver_rows.specs.Benches.{IsServerOf}
-use Rattle.driver_rows.specs.Claimants.{IsClaimant}
+use Rattle.driver_testing.specs.Benches.{IsServerOf}
+use Rattle.driver_testing.specs.Claimants.{IsClaimant}
 use Rattle.slot_tests.proofs.rows.does_all.Given as goal
 
 abbrev pub invariant-loop-host : goal.invariant-loop-host

@@ -1,6 +1,6 @@
 use Rattle.std.proofs.Common.{arith, false, sym, true, ◌≡◌, ◌∙◌}
-use Rattle.seen_trace.specs.Options.{ReadsEntry}
-use Rattle.seen_trace.proofs.Pointwise.{one_more, of_place, same_length}
+use Rattle.trace.specs.Options.{ReadsEntry}
+use Rattle.trace.proofs.Pointwise.{one_more, of_place, same_length}
 use Rattle.witness_check.proofs.same.reads_items.Goals as goal
 
 pub returns-then-some-told : goal.returns-then-some-told

@@ -1,5 +1,5 @@
 use Rattle.std.proofs.Common.{take}
-use Rattle.seen_trace.specs.Options.{Pointwise, ReadsEntry}
+use Rattle.trace.specs.Options.{Pointwise, ReadsEntry}
 use Rattle.witness_check.proofs.same.reads_items.Given as goal
 
 abbrev pub invariant-loop-place : goal.invariant-loop-place

@@ -1,7 +1,7 @@
 use Rattle.std.proofs.Common.{List, ℕ, get_or, rules, ◌<◌, ◌≡◌, ◌∙◌, ap, length, refl, subst, sym}
 use Rattle.std.specs.List.Sorted.{IsStrictlyIncreasing}
 use Rattle.std.specs.Prelude.{Contains}
-use Rattle.cid_table.specs.Cids.{QueueCids, queues_of}
+use Rattle.driver_cas.specs.Cids.{QueueCids, queues_of}
 use Rattle.driver_cas.specs.Turns.{IsTurn}
 use Rattle.driver_cas.proofs.Starting.{begun, untouched_on, untouched_self}
 use Rattle.driver_cas.proofs.Passing.{contained, no_room, stopped, too_few, turn_now}

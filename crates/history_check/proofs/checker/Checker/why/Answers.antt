@@ -3,7 +3,7 @@ use Rattle.std.specs.Prelude.{IfOk, is_none}
 use Rattle.broken_rules.specs.Broken.{first_broken}
 use Rattle.nvme_model.specs.Legal.{legal}
 use Rattle.history_check.specs.Kept.{Stands, CheckerRun}
-use Rattle.history_check.proofs.Explaining.{broken_is}
+use Rattle.history_check.proofs.Explained.{broken_is}
 use Rattle.history_check.proofs.Telling.{none_by}
 use Rattle.history_check.proofs.checker.Checker.why.Goals as goal
 

@@ -1,5 +1,5 @@
 use Rattle.std.proofs.Common.{ap, is_some, sym, ◌∙◌}
-use Rattle.job_index.proofs.Rising.{is_some-key_of}
+use Rattle.job_table.proofs.Rising.{is_some-key_of}
 use Rattle.job_table.proofs.Slots.{has_in, rises_in}
 use Rattle.job_table.proofs.jobs.Jobs.contains.Goals as goal
 

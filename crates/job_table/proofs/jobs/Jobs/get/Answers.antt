@@ -1,6 +1,6 @@
 use Rattle.std.proofs.Common.{sym}
 use Rattle.job_table.proofs.Slots.{has_found, has_key, job_found, none_found, rises_in}
-use Rattle.job_table.proofs.Tickets.{job_of_absent}
+use Rattle.job_table.proofs.TicketLookups.{job_of_absent}
 use Rattle.job_table.proofs.jobs.Jobs.get.Goals as goal
 
 pub one-requires : goal.one-requires

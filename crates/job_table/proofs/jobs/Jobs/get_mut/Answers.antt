@@ -4,7 +4,7 @@ use Rattle.job_table.specs.Lends.{with_job}
 use Rattle.job_table.specs.Slots.{jobs_in}
 use Rattle.job_table.specs.declared.job.Job.{Job}
 use Rattle.job_table.proofs.Slots.{has_found, has_key, job_found, length_lent, lent_in, lent_same, none_found, rises_in}
-use Rattle.job_table.proofs.Tickets.{job_of_absent}
+use Rattle.job_table.proofs.TicketLookups.{job_of_absent}
 use Rattle.job_table.proofs.jobs.Jobs.get_mut.Goals as goal
 
 pub index_mut-requires : goal.index_mut-requires

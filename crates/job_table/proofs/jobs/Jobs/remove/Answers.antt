@@ -1,9 +1,9 @@
 use Rattle.std.proofs.Common.{ap, arith, is_some, sym, ◌∙◌}
 use Rattle.job_table.specs.Slots.{jobs_in}
-use Rattle.job_table.proofs.Tickets as absent
-use Rattle.job_index.proofs.Rising.{IsRising-beside, beside_absent, is_some-key_of}
+use Rattle.job_table.proofs.TicketLookups as absent
+use Rattle.job_table.proofs.Rising.{IsRising-beside, beside_absent, is_some-key_of}
 use Rattle.job_table.proofs.Slots.{has_key, job_found, length_beside, none_found, only_key, removed_in}
-use Rattle.job_table.proofs.Tickets.{job_of_absent}
+use Rattle.job_table.proofs.TicketLookups.{job_of_absent}
 use Rattle.job_table.proofs.jobs.Jobs.remove.Goals as goal
 
 pub remove-job-requires : goal.remove-job-requires

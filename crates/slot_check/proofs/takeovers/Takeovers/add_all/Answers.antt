@@ -1,5 +1,5 @@
 use Rattle.std.proofs.Common.{Option, Some, arith, cond, drop, suc, ap, ℕ, ◌-◌, ◌∙◌, ◌≡◌}
-use Rattle.takeover_laws.specs.Takeovers.{Takeover}
+use Rattle.host_laws.specs.Takeovers.{Takeover}
 use Rattle.slot_check.specs.Names.{names_in}
 use Rattle.slot_check.specs.Takeovers.{begins_at, begun_by, cut_by, cuts_in, takeovers_kept}
 use Rattle.slot_check.proofs.NewTakeovers.{begun_next, cut_next}

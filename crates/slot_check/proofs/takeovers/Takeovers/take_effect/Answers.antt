@@ -1,6 +1,6 @@
 use Rattle.std.proofs.Common.{Bool, Option, Some, cond, eqb, refl, rules, sym, true, false, ap, ◌&&◌, ◌||◌, ◌∙◌, ◌≡◌}
 use Rattle.nvme_model.specs.Slots.{same_name}
-use Rattle.takeover_laws.specs.Takeovers.{Takeover}
+use Rattle.host_laws.specs.Takeovers.{Takeover}
 use Rattle.slot_check.specs.Takeovers.{takeovers_kept, takes_name}
 use Rattle.slot_check.proofs.takeovers.Takeovers.take_effect.Goals as goal
 

@@ -4,7 +4,7 @@ use Rattle.fused_match.specs.Judged.{verdict_by}
 use Rattle.nvme_model.specs.Tickets.{fetched_ticket}
 use Rattle.nvme_model.specs.declared.submission.Submission.{Submission}
 use Rattle.job_table.specs.Tickets.{write_blocks}
-use Rattle.controller_steps.specs.State.{ControllerState}
+use Rattle.controller_interface.specs.State.{ControllerState}
 use Rattle.step_core.proofs.Fetched.{IsFetched, ticket_fits, can_take, cids_are, is_above, sound_is, not_full}
 use Rattle.step_core.proofs.Fetched.{used_room, work_fits, fetch_kept, fetch_done}
 use Rattle.step_core.proofs.controller.Core.fetch.Goals as goal

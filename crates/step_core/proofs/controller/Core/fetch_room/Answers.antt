@@ -6,7 +6,7 @@ use Rattle.nvme_model.specs.Tickets.{fetched_ticket}
 use Rattle.job_table.specs.Beginning.{write_first}
 use Rattle.job_table.specs.Tickets.{write_blocks}
 use Rattle.step_core.specs.Found.{IsSqRing}
-use Rattle.controller_steps.specs.State.{ControllerState}
+use Rattle.controller_interface.specs.State.{ControllerState}
 use Rattle.step_core.proofs.Fetched.{IsFetched, data_has, data_is}
 use Rattle.step_core.proofs.controller.Core.fetch_room.Goals as goal
 

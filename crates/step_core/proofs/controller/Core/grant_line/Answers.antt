@@ -1,7 +1,7 @@
 use Rattle.std.proofs.Common.{◌≡◌, ap, ap₂, arith, refl, sym, ◌∙◌}
 use Rattle.nvme_model.specs.declared.config.AtomicParameters.{AtomicParameters}
-use Rattle.ticket_progress.specs.Stages.{Ticking, stage_mode, next_in, unit_in}
-use Rattle.controller_steps.specs.State.{ControllerState}
+use Rattle.job_table.specs.Stages.{Ticking, stage_mode, next_in, unit_in}
+use Rattle.controller_interface.specs.State.{ControllerState}
 use Rattle.step_core.proofs.Granting.{in_conflict, line_is, next_short, nothing_next, seen}
 use Rattle.step_core.proofs.controller.Core.grant_line.Goals as goal
 

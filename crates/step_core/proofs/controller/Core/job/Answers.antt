@@ -2,7 +2,7 @@ use Rattle.std.proofs.Common.{◌≡◌, ap, false, refl, subst, sym, ◌∙◌}
 use Rattle.std.specs.Option.{option_copied}
 use Rattle.nvme_model.specs.Tickets.{in_flight}
 use Rattle.step_core.specs.Found.{IsJob}
-use Rattle.controller_steps.specs.State.{ControllerState}
+use Rattle.controller_interface.specs.State.{ControllerState}
 use Rattle.step_core.proofs.Lookups.{job_absent, job_there}
 use Rattle.step_core.proofs.controller.Core.job.Goals as goal
 

@@ -1,6 +1,6 @@
 use Rattle.std.proofs.Common.{ap, ◌∙◌}
 use Rattle.nvme_model.specs.Refusals.{jobs_full}
-use Rattle.controller_steps.specs.State.{ControllerState}
+use Rattle.controller_interface.specs.State.{ControllerState}
 use Rattle.step_core.proofs.Fetching.{full_is}
 use Rattle.step_core.proofs.controller.Core.jobs_full.Goals as goal
 

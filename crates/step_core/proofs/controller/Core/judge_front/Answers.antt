@@ -5,9 +5,9 @@ use Rattle.nvme_model.specs.Refusals.{no_queue}
 use Rattle.nvme_model.specs.Tickets.{cids_in_use}
 use Rattle.nvme_model.specs.Verdict.{verdict_of}
 use Rattle.nvme_model.specs.declared.config.ConfigNumbers.{ConfigNumbers}
-use Rattle.controller_steps.specs.State.{ControllerState}
+use Rattle.controller_interface.specs.State.{ControllerState}
 use Rattle.step_core.proofs.Fetching.{judged_by}
-use Rattle.cids_in_use.proofs.Counts.{used_at}
+use Rattle.rings.proofs.CidCounts.{used_at}
 use Rattle.nvme_model.proofs.TicketQueues.{queue_there}
 use Rattle.step_core.proofs.controller.Core.judge_front.Goals as goal
 

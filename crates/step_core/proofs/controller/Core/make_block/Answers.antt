@@ -2,7 +2,7 @@ use Rattle.std.proofs.Common.{ap, arith, subst, sym, ◌∙◌}
 use Rattle.std.specs.Option.{option_copied_mut}
 use Rattle.step_core.specs.Found.{IsNextStep}
 use Rattle.step_core.specs.declared.controller.next.ReadyStep.{ReadyStep}
-use Rattle.controller_steps.specs.State.{ControllerState}
+use Rattle.controller_interface.specs.State.{ControllerState}
 use Rattle.step_core.proofs.BlockMade.{block_does, has_job, kept, opened, ready}
 use Rattle.step_core.proofs.controller.Core.make_block.Goals as goal
 

@@ -4,7 +4,7 @@ use Rattle.range_reserve.specs.Reserved.{has_conflict, holds_range, insert_held}
 use Rattle.range_reserve.specs.declared.held.HeldRange.{HeldRange}
 use Rattle.step_core.specs.Found.{IsNextStep}
 use Rattle.step_core.specs.declared.controller.next.ReadyStep.{ReadyStep}
-use Rattle.controller_steps.specs.State.{ControllerState}
+use Rattle.controller_interface.specs.State.{ControllerState}
 use Rattle.step_core.proofs.Granted.{apart, first, free, has_job, held_ok, kept, range_is}
 use Rattle.step_core.proofs.controller.Core.make_grant.Goals as goal
 

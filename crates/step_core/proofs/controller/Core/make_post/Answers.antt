@@ -1,9 +1,9 @@
 use Rattle.std.proofs.Common.{◌≡◌, ◌++◌, arith, ap, false, inr, length, refl, subst, sym, true, ◌∙◌}
-use Rattle.nvme_model.proofs.Written.{clash}
 use Rattle.nvme_model.specs.declared.step.Step.{Step}
+use Rattle.nvme_model.proofs.Cut.{clash}
 use Rattle.step_core.specs.Found.{IsNextStep}
 use Rattle.step_core.specs.declared.controller.next.ReadyStep.{ReadyStep}
-use Rattle.controller_steps.specs.State.{ControllerState, answer_of}
+use Rattle.controller_interface.specs.State.{ControllerState, answer_of}
 use Rattle.step_core.proofs.Accepted.{does_accepted, does_wanting, ok_unless, one_more}
 use Rattle.step_core.proofs.PostKeeps.{from_place, from_there, left, owes, place_there, not_full, post_entry_is}
 use Rattle.step_core.proofs.PostKeeps.{post_keeps, reads, taken_is, there, uses}

@@ -2,7 +2,7 @@ use Rattle.std.proofs.Common.{◌≡◌, ap, arith, false, subst}
 use Rattle.nvme_model.specs.Laws.{is_held}
 use Rattle.nvme_model.specs.Value.{value}
 use Rattle.nvme_model.specs.declared.config.ConfigNumbers.{ConfigNumbers}
-use Rattle.controller_steps.specs.State.{ControllerState}
+use Rattle.controller_interface.specs.State.{ControllerState}
 use Rattle.step_core.proofs.Beginning.{block_is_value}
 use Rattle.step_core.proofs.controller.Core.medium.Goals as goal
 

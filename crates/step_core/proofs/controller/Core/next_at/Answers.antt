@@ -1,7 +1,7 @@
 use Rattle.std.proofs.Common.{ap, sym, ◌∙◌, subst}
 use Rattle.std.specs.Option.{option_and_then}
 use Rattle.step_core.specs.Found.{IsJob, next_step}
-use Rattle.controller_steps.specs.State.{ControllerState}
+use Rattle.controller_interface.specs.State.{ControllerState}
 use Rattle.step_core.proofs.Lookups.{job_nth}
 use Rattle.step_core.proofs.Next.{nth_ticket}
 use Rattle.step_core.proofs.controller.Core.next_at.Goals as goal

@@ -1,6 +1,6 @@
 use Rattle.std.proofs.Common.{ap, is_some, sym, true, false, ◌∙◌}
 use Rattle.job_table.specs.Keeping.{Keeping}
-use Rattle.ticket_progress.specs.Stages.{Ticking, is_open, unit_in}
+use Rattle.job_table.specs.Stages.{Ticking, is_open, unit_in}
 use Rattle.step_core.proofs.Blocking.{block_tested, told}
 use Rattle.step_core.proofs.controller.Core.open_unit.Goals as goal
 

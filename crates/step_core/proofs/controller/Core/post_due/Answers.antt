@@ -1,6 +1,6 @@
 use Rattle.std.proofs.Common.{◌-◌, ◌%◌, ◌+◌, arith, ap, refl, sym, ◌∙◌, ◌==◌, get_or, length, slice_get}
 use Rattle.nvme_model.specs.declared.config.ConfigNumbers.{ConfigNumbers}
-use Rattle.ticket_progress.specs.Stages.{Ticking, owed_in}
+use Rattle.job_table.specs.Stages.{Ticking, owed_in}
 use Rattle.step_core.proofs.Posting.{fields_by, post_nothing, post_queue, post_some, post_place, post_head, post_full}
 use Rattle.step_core.proofs.Posting.{post_is}
 use Rattle.step_core.proofs.controller.Core.post_due.Goals as goal

@@ -2,7 +2,7 @@ use Rattle.std.proofs.Common.{◌≡◌, ◌+◌, ◌≤◌, List, ◌++◌, vec
 use mathlib.Core.List.{reverse}
 use Rattle.std.specs.Vec.{vec_capacity}
 use Rattle.nvme_model.specs.declared.step.Step.{Step}
-use Rattle.controller_steps.specs.State.{RunsOnto}
+use Rattle.controller_interface.specs.State.{RunsOnto}
 use Rattle.step_core.proofs.controller.Core.run_steps.Given as goal
 
 abbrev pub invariant-loop-step : goal.invariant-loop-step

@@ -1,5 +1,5 @@
 use Rattle.std.proofs.Common.{subst, sym}
-use Rattle.controller_steps.specs.State.{ControllerState}
+use Rattle.controller_interface.specs.State.{ControllerState}
 use Rattle.step_core.proofs.Fetched.{IsFetched}
 use Rattle.step_core.proofs.controller.Core.take_room.Goals as goal
 

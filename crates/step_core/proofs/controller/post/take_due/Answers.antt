@@ -1,5 +1,5 @@
 use Rattle.std.proofs.Common.{ap, is_some, ◌∙◌}
-use Rattle.job_table.proofs.Tickets.{is_some-job_of}
+use Rattle.job_table.proofs.TicketLookups.{is_some-job_of}
 use Rattle.step_core.proofs.controller.post.take_due.Goals as goal
 
 pub unwrap-requires : goal.unwrap-requires

@@ -30,7 +30,7 @@ use Rattle.std.specs.Prelude.{Option, Some}
 use Rattle.std.specs.contracts.alloc.Global as global
 use Rattle.std.specs.contracts.impls.GlobalAllocator.TheImpl.{ghosts}
 use Rattle.std.proofs.alloc.Global.TheLaws as global_laws
-use Rattle.box_parts.specs.contracts.Parts as parts
+use Rattle.c_handles.specs.contracts.parts.Parts as parts
 use Rattle.vandrexu_c.specs.OwnedStates.{OwnedState}
 use Rattle.vandrexu_c.specs.contracts.owned_controller.OwnedController as controller
 use Rattle.vandrexu_c.specs.Owned.{owned}

@@ -29,7 +29,7 @@ use Rattle.std.specs.Prelude.{Some}
 use Rattle.std.specs.contracts.alloc.Global as global
 use Rattle.std.specs.contracts.impls.GlobalAllocator.TheImpl.{ghosts}
 use Rattle.std.proofs.alloc.Global.TheLaws as global_laws
-use Rattle.box_parts.specs.contracts.Parts as parts
+use Rattle.c_handles.specs.contracts.parts.Parts as parts
 use Rattle.vandrexu_c.specs.contracts.owned_checker.OwnedChecker as checker
 use Rattle.vandrexu_c.specs.declared.owned_checker.HeldChecker.{HeldChecker}
 use Rattle.vandrexu_c.specs.OwnedChecker.{owned_checker}

@@ -1,5 +1,5 @@
 use Rattle.std.proofs.Common.{Err, Ok, refl, subst, sym, ◌≡◌}
-use Rattle.controller_steps.specs.declared.answer.Answer.{Answer}
+use Rattle.controller_interface.specs.declared.answer.Answer.{Answer}
 use Rattle.vandrexu_c.specs.Steps.{TellsPosted}
 use Rattle.vandrexu_c.proofs.owned_controller.OwnedController.post.Goals as goal
 

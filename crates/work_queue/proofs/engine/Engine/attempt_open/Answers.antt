@@ -4,8 +4,8 @@ use Rattle.nvme_model.specs.Passes.{SharedPast, entries}
 use Rattle.nvme_model.specs.Legal.{IsLegal}
 use Rattle.nvme_model.specs.declared.config.ConfigNumbers.{ConfigNumbers}
 use Rattle.nvme_model.specs.declared.step.Step.{Step}
-use Rattle.controller_steps.specs.declared.answer.Answer.{Answer}
-use Rattle.controller_steps.specs.State.{Accepts}
+use Rattle.controller_interface.specs.declared.answer.Answer.{Answer}
+use Rattle.controller_interface.specs.State.{Accepts}
 use Rattle.meet_lock.specs.Passes.{config_of}
 use Rattle.ticket_laws.specs.Tasks.{own_stage}
 use Rattle.work_queue.specs.Duties.{IsWorkAt, duty_of, is_only_fetch}

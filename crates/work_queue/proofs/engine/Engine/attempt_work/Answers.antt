@@ -3,7 +3,7 @@ use Rattle.nvme_model.specs.Passes.{entries}
 use Rattle.nvme_model.specs.declared.step.Step.{Step}
 use Rattle.ticket_laws.specs.Entries.{of_ticket}
 use Rattle.ticket_laws.specs.Tasks.{own_stage}
-use Rattle.controller_steps.specs.State.{Accepts, Refuses}
+use Rattle.controller_interface.specs.State.{Accepts, Refuses}
 use Rattle.meet_lock.specs.Passes.{Accepted, Declines, Worked, its, seen}
 use Rattle.work_queue.specs.Duties.{duty_of, task_step}
 use Rattle.work_queue.proofs.Posting.{told_posted}

@@ -1,6 +1,6 @@
 use Rattle.std.proofs.Common.{subst, ◌+◌}
 use Rattle.meet_lock.specs.Passes.{IsNew}
-use Rattle.controller_steps.specs.State.{ControllerState}
+use Rattle.controller_interface.specs.State.{ControllerState}
 use Rattle.work_queue.proofs.NewPasses.{all_fresh}
 use Rattle.work_queue.proofs.engine.Engine.of_config.Goals as goal
 

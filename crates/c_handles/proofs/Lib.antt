@@ -1,0 +1,6 @@
+mod Opens
+mod PieceLines
+pub mod Marks
+pub mod Queues
+pub mod Sent
+pub mod Works

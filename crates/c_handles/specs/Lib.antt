@@ -1,0 +1,7 @@
+pub mod Configurations
+pub mod Pieces
+pub mod Answers
+pub mod Disks
+pub mod Handles
+pub mod Making
+pub mod OwnedDisk

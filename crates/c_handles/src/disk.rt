@@ -1,0 +1,147 @@
+//! What the handle of a disk owns.
+
+ghost use Rattle.std.specs.Arc.{arc_value};
+ghost use Rattle.std.specs.Option.{ForSome};
+ghost use Rattle.std.specs.Prelude.{◌≡◌, All};
+ghost use Rattle.work_queue.specs.Engines.{IsFreshPass, IsPassOfEngine, IsWorkOf};
+ghost use Rattle.c_handles.specs.Answers.{declined_number, end_number};
+
+use crate::numbers::{NOTHING_READY, UNFINISHED};
+use history::Config;
+use meet_lock::{Declined, Pass};
+use nvme_model::refusal::Why;
+use std::alloc::{AllocError as NoMemory, Global};
+use std::sync::Arc;
+use step_core::{Core, Refused};
+use work_queue::{Engine, Open, Opened, Work};
+
+/// A controller, who serves it, and the passes of the hosts that aren't made yet.
+#[derive(Drop)]
+pub struct Disk {
+    pub(crate) config: Config,
+    pub(crate) engine: Arc<Engine>,
+    pub(crate) server: Pass<Core>,
+    pub(crate) passes: Vec<Pass<Core>>,
+    // What was fetched and isn't finished.
+    pub(crate) work: Option<Work>,
+    ghost configured: { server.seat.me.0.config ≡ config },
+    ghost serves: { IsPassOfEngine (arc_value engine) server },
+    ghost spares: { All (IsFreshPass (arc_value engine) config) passes.items },
+    ghost working: { ForSome work (IsWorkOf (arc_value engine)) },
+}
+
+// The number of what a step of a shared controller is answered.
+fn declined_in(declined: &Declined) -> u32
+    ensures { result ≡ declined_number declined.now }
+{
+    match declined {
+        Declined::Busy(_) => u32::from(Why::Busy.number()),
+        Declined::Refused(Refused::Publish(why, _)) => u32::from(why.number()),
+        Declined::Refused(Refused::Step(why)) => u32::from(why.number()),
+    }
+}
+
+// What is told where tasks were made until one wasn't.
+fn ended(told: u32) -> u32
+    ensures { result ≡ end_number told }
+{
+    if told == 0 {
+        UNFINISHED
+    } else if told == NOTHING_READY {
+        0
+    } else {
+        told
+    }
+}
+
+impl Disk {
+    ghost use Rattle.std.specs.Prelude.{IfOk};
+    ghost use Rattle.c_handles.specs.Disks.{FetchTells, Finishes, IsNewDisk, ServesDisk, TaskTells};
+
+    /// A controller of this configuration with no history, and passes for so many hosts.
+    pub fn of(alloc: Global, config: Config, hosts: u16) -> Result<Disk, NoMemory>
+        ensures { IfOk result (IsNewDisk config hosts) }
+    {
+        let (engine, mut passes) = Engine::of_config(alloc, config, usize::from(hosts) + 1)?;
+        let Some(server) = passes.pop() else {
+            unreachable!();
+        };
+        let Ok(engine) = Arc::new(alloc, engine) else {
+            return Err(NoMemory);
+        };
+        Ok(Disk {
+            config,
+            engine,
+            server,
+            passes,
+            work: None,
+        })
+    }
+
+    /// Fetches the next command, or pair, of a submission queue, and keeps its Work.
+    pub fn fetch(&mut self, queue: u16) -> u32
+        ensures { FetchTells self.old self.new queue result }
+    {
+        if self.work.is_some() {
+            return UNFINISHED;
+        }
+        match self
+            .engine
+            .attempt_open(&mut self.server, Open::Fetch(queue))
+        {
+            Ok(Opened::Fetched(work)) => {
+                self.work = Some(work);
+                0
+            }
+            Ok(_) => unreachable!(),
+            Err(declined) => declined_in(&declined),
+        }
+    }
+
+    /// Makes the next task of the Work that is kept.
+    pub fn task(&mut self) -> u32
+        ensures { TaskTells self.old self.new result }
+    {
+        let Some(mut work) = self.work.take() else {
+            return NOTHING_READY;
+        };
+        let Some(task) = work.next_task() else {
+            return NOTHING_READY;
+        };
+        match self.engine.attempt_work(&mut self.server, &mut work, task) {
+            Ok(_) => {
+                self.work = Some(work);
+                0
+            }
+            Err(declined) => {
+                self.work = Some(work);
+                declined_in(&declined)
+            }
+        }
+    }
+
+    // Makes tasks of the Work that is kept, until one isn't made.
+    fn finish(&mut self) -> u32
+        ensures { Finishes self.old self.new result }
+    {
+        for _ in 0..u64::MAX {
+            let told = self.task();
+            if told != 0 {
+                return ended(told);
+            }
+        }
+        let told = self.task();
+        ended(told)
+    }
+
+    /// Fetches, where no Work is kept, and finishes the Work.
+    pub fn serve(&mut self, queue: u16) -> u32
+        ensures { ServesDisk self.old self.new queue result }
+    {
+        let told = self.fetch(queue);
+        if told != 0 && told != UNFINISHED {
+            return told;
+        }
+        self.finish()
+    }
+}

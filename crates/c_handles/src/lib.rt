@@ -1,0 +1,18 @@
+//! What handles of C own, for `vandrexu_c`: boxes as pointers, configurations, pieces of a history, a disk and its
+//! drivers.
+#![tactic(auto)]
+
+mod configuration;
+mod disk;
+mod disk_handle;
+mod making;
+pub mod numbers;
+mod parts;
+mod pieces;
+
+pub use crate::configuration::{GivenConfig, config_of};
+pub use crate::disk::Disk;
+pub use crate::disk_handle::DiskHandle;
+pub use crate::making::{give_driver, take_back};
+pub use crate::parts::Parts;
+pub use crate::pieces::{Piece, piece_of};

@@ -1,0 +1,113 @@
+-- What is said of a trace and a history, from what the reading of their lines gave.
+use Rattle.std.proofs.Common.{◌≡◌, ◌≢◌, ℕ, List, [], ◌∷◌, ◌++◌, None, Some, refl, sym, ap, ◌∙◌, subst}
+use mathlib.Core.List.{reverse}
+use Rattle.std.specs.Prelude.{Bool, IfSome, Option, Result, Ok, Err}
+use Rattle.std.specs.Io.KnownBytes.{IsAtEnd}
+use Rattle.std.proofs.KnownBytes.{Keeps-refl}
+use Rattle.std.proofs.lemmas.List.{reverse-append, reverse-reverse}
+use Rattle.line_text.specs.Lines.{whole_lines}
+use Rattle.nvme_model.specs.History.{Past}
+use Rattle.nvme_model.specs.declared.config.ConfigNumbers.{ConfigNumbers}
+use Rattle.nvme_model.specs.declared.entry.Entry.{Entry}
+use Rattle.trace.specs.Aside.{history_numbers}
+use Rattle.trace.specs.declared.options.TraceOptions.{TraceOptions}
+use Rattle.trace.specs.declared.seen.Seen.{Seen}
+use Rattle.witness_check.specs.Compared.{IsVerdict}
+use Rattle.witness_check.specs.declared.comparison.TraceVerdict.{TraceVerdict}
+use Rattle.casdisk_texts.specs.Certified.{CertifiesText, HasTextVerdict, HaveOtherConfigs, IsUncompared, IsVerdictOf}
+use Rattle.casdisk_texts.specs.Certified.{TellsVerdict}
+use Rattle.casdisk_texts.specs.Files.{HasHistory, IsUnread, entry_added, file_of}
+use Rattle.casdisk_texts.specs.Running.{Makes, RunsScript}
+use Rattle.casdisk_texts.specs.Script.{first_config, script_outcome}
+use Rattle.casdisk_texts.specs.Traces.{HasTrace, options_of, trace_in}
+use Rattle.casdisk_texts.specs.declared.certify_fault.CertifyFault.{CertifyFault}
+use Rattle.casdisk_texts.specs.declared.certify_fault.CertifyFault.TheVariants.{History, OtherConfig, Output, Trace}
+use Rattle.casdisk_texts.specs.declared.fault.RunFault.{RunFault}
+
+-- ---- the history
+
+-- one entry more
+pub entry_more : (entries : List Entry) (e : Entry) (past : Past) → entries ≡ reverse past
+    → entries ++ e ∷ [] ≡ reverse (e ∷ past)
+entry_more entries e past h = ap (λ (xs : List Entry). xs ++ e ∷ []) h ∙ sym (reverse-append (e ∷ []) past)
+
+pub whole_history : (c : ConfigNumbers) (entries : List Entry) (r t w u : Option (List ℕ))
+    → RunsScript (script_outcome (λ k. entry_added)) (Ok tt) r t w u
+    → Makes (script_outcome (λ k. entry_added)) (Ok tt) r (λ past. entries ≡ reverse past)
+    → IfSome r (λ bytes. first_config (whole_lines bytes) ≡ Some c)
+    → IsAtEnd t × IfSome r (HasHistory (λ d past. (d ≡ c) × (entries ≡ reverse past)))
+whole_history c entries None t w u ran makes known = (ran.1, tt)
+whole_history c entries (Some bytes) t w u ran makes known = (ran.1, (ran.0.0, (c, known, (refl, makes))))
+
+-- ---- both were read
+
+module _ (o : TraceOptions) (b c d : ConfigNumbers) (things : List Seen) (entries : List Entry) where
+  -- the trace is this one
+  abbrev IsTrace : List ℕ → Type 0
+  IsTrace = HasTrace (λ p k xs. (p ≡ o) × (k ≡ b) × (xs ≡ things) × (c ≡ history_numbers p k))
+
+  -- the history is this one
+  abbrev IsHistory : List ℕ → Type 0
+  IsHistory = HasHistory (λ k past. (k ≡ d) × (entries ≡ reverse past))
+
+  -- the configuration of a history of the trace
+  of_trace : (t : List ℕ) → (trace : IsTrace t) → history_numbers (options_of t) trace.1.0 ≡ c
+  of_trace t trace = sym trace.1.2.3
+
+  verdict_of : (v : TraceVerdict) (t h : List ℕ) → IsTrace t → IsHistory h → c ≡ d
+      → IsVerdict o c (reverse entries) things v
+      → IsVerdictOf v t h
+  verdict_of v t h trace history same says =
+      let whole : reverse entries ≡ (file_of h).past = ap reverse history.1.2.1 ∙ reverse-reverse (file_of h).past in
+      let one = subst (λ (k : ConfigNumbers). IsVerdict o k (reverse entries) things v) (same ∙ sym history.1.2.0)
+      says in
+      let two = subst (λ (xs : List Seen). IsVerdict o history.1.0 (reverse entries) xs v) (sym trace.1.2.2) one in
+      let three = subst (λ (past : Past). IsVerdict o history.1.0 past (trace_in t) v) whole two in
+      let four = subst (λ (p : TraceOptions). IsVerdict p history.1.0 (file_of h).past (trace_in t) v)
+      (sym trace.1.2.0) three in (
+        trace.0,
+        (
+          trace.1.0,
+          trace.1.1,
+          (history.0, (history.1.0, history.1.1, (of_trace t trace ∙ same ∙ sym history.1.2.0, four))),
+        ),
+      )
+
+  has_verdict : (v : TraceVerdict) (Holds : TraceVerdict → Type 0) (t h : Option (List ℕ)) → IfSome t IsTrace
+      → IfSome h IsHistory → c ≡ d → IsVerdict o c (reverse entries) things v → Holds v → HasTextVerdict Holds t h
+  has_verdict v Holds None h trace history same says holds = tt
+  has_verdict v Holds (Some t) None trace history same says holds = tt
+  has_verdict v Holds (Some t) (Some h) trace history same says holds =
+      (v, verdict_of v t h trace history same says, holds)
+
+  pub certified : (v : TraceVerdict) (res : Result Bool CertifyFault) (t u h l x y : Option (List ℕ))
+      → IsAtEnd u × IfSome t IsTrace → IsAtEnd l × IfSome h IsHistory
+      → (c ≡ d) × IsVerdict o c (reverse entries) things v → TellsVerdict v res x y → CertifiesText res t u h l x y
+  certified v (Ok answer) t u h l x y trace history says told =
+      (trace.0, history.0, has_verdict v _ t h trace.1 history.1 says.0 says.1 told)
+  certified v (Err (Trace f)) t u h l x y trace history says told = absurd told
+  certified v (Err (History f)) t u h l x y trace history says told = absurd told
+  certified v (Err OtherConfig) t u h l x y trace history says told = absurd told
+  certified v (Err Output) t u h l x y trace history says told =
+      has_verdict v _ t h trace.1 history.1 says.0 says.1 told
+
+  two_configs : (t h : Option (List ℕ)) → IfSome t IsTrace → IfSome h IsHistory → c ≢ d
+      → IfSome t (λ y. IfSome h (λ x. HaveOtherConfigs y x))
+  two_configs None h trace history other = tt
+  two_configs (Some t) None trace history other = tt
+  two_configs (Some t) (Some h) trace history other = (
+    trace.1.0,
+    history.1.0,
+    trace.1.1,
+    history.1.1,
+    λ e. other (sym (of_trace t trace) ∙ e ∙ history.1.2.0),
+  )
+
+  -- nothing is said
+  pub uncertified : (f : CertifyFault) (t u h l x : Option (List ℕ)) → IfSome t IsTrace → IfSome h IsHistory
+      → IsUncompared c d f → CertifiesText (Err f) t u h l x x
+  uncertified (Trace f) t u h l x trace history failed = absurd failed
+  uncertified (History f) t u h l x trace history failed =
+      (subst (λ (g : RunFault). IsUnread g h l) (sym failed) tt, Keeps-refl x)
+  uncertified OtherConfig t u h l x trace history failed = (two_configs t h trace history failed, Keeps-refl x)
+  uncertified Output t u h l x trace history failed = absurd failed

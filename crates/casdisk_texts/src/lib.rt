@@ -1,0 +1,36 @@
+//! Runs scripts and judges histories as texts, for the program and for callers in C: what is printed, answered and
+//! explained.
+#![tactic(auto)]
+
+mod certify_fault;
+mod certifying;
+mod checking;
+mod explaining;
+mod fault;
+mod first_line;
+mod following;
+mod history_reading;
+mod judging;
+mod kinds;
+mod meaning;
+mod performing;
+mod printing;
+mod running;
+mod script;
+mod trace_reading;
+mod tracing;
+
+pub use crate::certify_fault::CertifyFault;
+pub use crate::certifying::certify_text;
+pub use crate::checking::{check_text, tell_answer};
+pub use crate::explaining::{BadStep, Explained, explain_text};
+pub use crate::fault::RunFault;
+pub use crate::first_line::read_first;
+pub use crate::following::follow_text;
+pub use crate::judging::{FirstBad, Judge};
+pub use crate::kinds::kinds_of;
+pub use crate::meaning::{LineMeaning, Taken, WriteFault};
+pub use crate::running::run_lines;
+pub use crate::script::run_script;
+pub use crate::trace_reading::{Trace, read_trace};
+pub use crate::tracing::trace_text;

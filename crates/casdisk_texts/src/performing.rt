@@ -1,0 +1,179 @@
+//! What a controller does of the lines of a script.
+
+ghost use Rattle.std.specs.Prelude.{◌≡◌, OnOk, OnErr, []};
+ghost use Rattle.nvme_model.specs.History.{Past};
+ghost use Rattle.nvme_model.specs.declared.entry.Entry.{Entry};
+ghost use Rattle.std.specs.Io.KnownBytes.{Appends};
+ghost use Rattle.line_text.specs.Known.{AppendsFront};
+ghost use Rattle.nvme_model.specs.declared.refusal.Why.{Why as TheWhy};
+ghost use Rattle.nvme_model.specs.declared.step.Step.{Step as TheStep};
+ghost use Rattle.controller_interface.specs.State.{Serves, ControllerState};
+ghost use Rattle.casdisk_texts.specs.Doing.{SaysAll};
+ghost use Rattle.casdisk_texts.specs.Doing.{why_of as the_why_of};
+ghost use Rattle.casdisk_texts.specs.Said.{all_ready, entry_text, medium_text, refusal_text, script_line, settle_says};
+ghost use Rattle.casdisk_texts.specs.Said.{step_says};
+ghost use Rattle.std.specs.Prelude.{◌∷◌, ◌≢◌};
+
+use crate::meaning::{LineMeaning, Taken, WriteFault};
+use crate::printing::{print_entry, print_medium, print_refusal};
+use history::{Kinds, LineFault};
+use line_text::send;
+use nvme_model::refusal::Why;
+use nvme_model::step::Step;
+use script_lines::{ScriptLine, read_script_line};
+use std::alloc::Global;
+use std::io::Write;
+use step_core::{Answer, Core, Refused};
+
+/// A controller that does what the lines of a script say, and prints the lines of these kinds.
+#[derive(Drop)]
+pub(crate) struct Performer {
+    pub(crate) alloc: Global,
+    pub(crate) core: Core,
+    pub(crate) kinds: Kinds,
+    // the text of a line, until it is sent
+    pub(crate) text: Vec<u8>,
+}
+
+fn why_of(refused: &Refused) -> Why
+    ensures { result ≡ the_why_of refused.now }
+{
+    match refused {
+        Refused::Publish(why, _) => *why,
+        Refused::Step(why) => *why,
+    }
+}
+
+// Writes a text at once.
+fn send_text<W: Write>(text: &[u8], writer: &mut W) -> Result<(), WriteFault>
+    ensures told { OnOk result (Appends (W.contents writer.old) (W.contents writer.new) text.now) }
+    ensures stopped { OnErr result (AppendsFront (W.contents writer.old) (W.contents writer.new) text.now) }
+{
+    match send(writer, text) {
+        Ok(()) => Ok(()),
+        Err(_) => Err(WriteFault::Output),
+    }
+}
+
+impl Performer {
+    // Prints that a step was refused, or stops where it was for want of memory.
+    fn tell_refusal<W: Write>(&mut self, why: Why, writer: &mut W) -> Result<(), WriteFault>
+        ensures same { (self.new.core ≡ self.old.core) × (self.new.kinds ≡ self.old.kinds) }
+        ensures told { OnOk result
+            (Appends (W.contents writer.old) (W.contents writer.new) (refusal_text self.old.kinds.0 why)) }
+        ensures other { OnOk result (why ≢ TheWhy.NoMemory) }
+        ensures stopped { OnErr result
+            (AppendsFront (W.contents writer.old) (W.contents writer.new) (refusal_text self.old.kinds.0 why)) }
+        ensures silent { OnErr result (why ≡ TheWhy.NoMemory →
+            Appends (W.contents writer.old) (W.contents writer.new) []) }
+    {
+        if why == Why::NoMemory {
+            return Err(WriteFault::NoMemory);
+        }
+        self.text.clear();
+        if print_refusal(self.kinds, why, &mut self.text).is_err() {
+            return Err(WriteFault::NoMemory);
+        }
+        send_text(self.text.as_slice(), writer)
+    }
+
+    // Prints the newest entry.
+    fn tell_entry<W: Write>(&mut self, writer: &mut W) -> Result<(), WriteFault>
+        ensures same { (self.new.core ≡ self.old.core) × (self.new.kinds ≡ self.old.kinds) }
+        ensures told { (e : Entry) (past : Past) → self.old.core.past ≡ e ∷ past →
+            OnOk result (Appends (W.contents writer.old) (W.contents writer.new) (entry_text self.old.kinds.0 e)) }
+        ensures stopped { (e : Entry) (past : Past) → self.old.core.past ≡ e ∷ past → OnErr result
+            (AppendsFront (W.contents writer.old) (W.contents writer.new) (entry_text self.old.kinds.0 e)) }
+    {
+        self.text.clear();
+        let Some(entry) = self.core.history().last() else {
+            return Ok(());
+        };
+        if print_entry(self.kinds, entry, &mut self.text).is_err() {
+            return Err(WriteFault::NoMemory);
+        }
+        send_text(self.text.as_slice(), writer)
+    }
+
+    // Prints a block of the volume.
+    fn tell_medium<W: Write>(&mut self, lba: u64, writer: &mut W) -> Result<(), WriteFault>
+        ensures same { (self.new.core ≡ self.old.core) × (self.new.kinds ≡ self.old.kinds) }
+        ensures told { OnOk result (Appends (W.contents writer.old) (W.contents writer.new)
+            (medium_text self.old.kinds.0 self.old.core.config self.old.core.past lba)) }
+        ensures stopped { OnErr result (AppendsFront (W.contents writer.old) (W.contents writer.new)
+            (medium_text self.old.kinds.0 self.old.core.config self.old.core.past lba)) }
+    {
+        self.text.clear();
+        if print_medium(self.kinds, &self.core, lba, &mut self.text).is_err() {
+            return Err(WriteFault::NoMemory);
+        }
+        send_text(self.text.as_slice(), writer)
+    }
+
+    // Prints how a step was answered: its entry, or that it was refused.
+    fn tell_answer<W: Write>(
+        &mut self,
+        answer: Result<Answer, Refused>,
+        writer: &mut W,
+    ) -> Result<(), WriteFault>
+        ensures same { (self.new.core ≡ self.old.core) × (self.new.kinds ≡ self.old.kinds) }
+        ensures done { (before : ControllerState) (step : TheStep) → Serves before step answer self.old.core →
+            OnOk result (SaysAll (step_says self.old.kinds.0 before.config before.past step) self.new.core.past
+            (W.contents writer.old) (W.contents writer.new)) }
+        ensures stopped { (before : ControllerState) (step : TheStep) → Serves before step answer self.old.core →
+            OnErr result (AppendsFront (W.contents writer.old) (W.contents writer.new)
+            (step_says self.old.kinds.0 before.config before.past step).1) }
+    {
+        match answer {
+            Ok(_) => self.tell_entry(writer),
+            Err(refused) => self.tell_refusal(why_of(&refused), writer),
+        }
+    }
+
+    // Makes a step or refuses it, and prints which.
+    fn do_step<W: Write>(&mut self, step: Step, writer: &mut W) -> Result<(), WriteFault>
+        ensures same { (self.new.core.config ≡ self.old.core.config) × (self.new.kinds ≡ self.old.kinds) }
+        ensures done { OnOk result (SaysAll (step_says self.old.kinds.0 self.old.core.config self.old.core.past step)
+            self.new.core.past (W.contents writer.old) (W.contents writer.new)) }
+        ensures stopped { OnErr result (AppendsFront (W.contents writer.old) (W.contents writer.new)
+            (step_says self.old.kinds.0 self.old.core.config self.old.core.past step).1) }
+    {
+        let answer = self.core.step(step);
+        self.tell_answer(answer, writer)
+    }
+
+    // Makes the step that is ready, until there is none.
+    fn settle<W: Write>(&mut self, writer: &mut W) -> Result<(), WriteFault>
+        ensures same { (self.new.core.config ≡ self.old.core.config) × (self.new.kinds ≡ self.old.kinds) }
+        ensures done { OnOk result (SaysAll (settle_says all_ready self.old.kinds.0 self.old.core.config
+            self.old.core.past) self.new.core.past (W.contents writer.old) (W.contents writer.new)) }
+        ensures stopped { OnErr result (AppendsFront (W.contents writer.old) (W.contents writer.new)
+            (settle_says all_ready self.old.kinds.0 self.old.core.config self.old.core.past).1) }
+    {
+        for _turn in 0..u64::MAX {
+            let Some((_step, answer)) = self.core.step_ready() else {
+                return Ok(());
+            };
+            self.tell_answer(answer, writer)?;
+        }
+        Ok(())
+    }
+}
+
+impl LineMeaning for Performer {
+    ghost stands = { λ m c past. m.core.past ≡ past };
+
+    ghost meaning = { λ m. script_line m.core.config m.kinds.0 };
+
+    fn take_line<W: Write>(&mut self, line: &[u8], writer: &mut W) -> Result<Taken, WriteFault> {
+        match read_script_line(self.alloc, line) {
+            Err(LineFault::Malformed) => return Ok(Taken::Bad),
+            Err(LineFault::NoMemory) => return Err(WriteFault::NoMemory),
+            Ok(ScriptLine::Comment) => {}
+            Ok(ScriptLine::Step(step)) => self.do_step(step, writer)?,
+            Ok(ScriptLine::Settle) => self.settle(writer)?,
+            Ok(ScriptLine::Medium(lba)) => self.tell_medium(lba, writer)?,
+        }
+        Ok(Taken::Done)
+    }
+}

@@ -1,8 +1,0 @@
-use Rattle.std.proofs.Common.{◌≡◌}
-use Rattle.std.specs.List.{flat_map}
-use Rattle.nvme_model.specs.Array.{blocks_from}
-use Rattle.checked_tickets.specs.Contents.{contents_in}
-use Rattle.checked_tickets.proofs.unit.read_at.Given as goal
-
-abbrev pub invariant-loop-place : goal.invariant-loop-place
-invariant-loop-place l = l.bytes.items ≡ flat_map (contents_in l.volume) (blocks_from l.range.slba l.place)

@@ -1,2 +1,0 @@
-pub mod CidsLemmas
-mod Places

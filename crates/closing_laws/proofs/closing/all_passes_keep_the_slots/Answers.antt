@@ -1,5 +1,0 @@
-use Rattle.closing_laws.proofs.Rostering.{race_keeps}
-use Rattle.closing_laws.proofs.closing.all_passes_keep_the_slots.Goals as goal
-
-pub returns : goal.returns
-returns c = race_keeps

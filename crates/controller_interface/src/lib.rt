@@ -1,0 +1,11 @@
+//! Steps, answers and refusals of a controller, for callers that share one and for drivers, which need no more of it.
+#![tactic(auto)]
+
+mod answer;
+mod machine;
+mod work;
+
+pub use crate::answer::{Answer, Refused};
+pub use crate::machine::Machine;
+pub use crate::work::{Kind, Work};
+pub use nvme_model::step::Step;

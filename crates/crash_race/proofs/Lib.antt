@@ -1,5 +1,0 @@
-pub mod Ending
-pub mod Freeing
-pub mod Judged
-pub mod Telling
-pub mod Waiting

@@ -1,7 +1,0 @@
-use Rattle.std.proofs.Common.{vec_len, ◌≡◌}
-use Rattle.seeded_race.specs.Racers.{AreAllRacers}
-use Rattle.crash_race.proofs.racing.to_the_crash.Given as goal
-
-abbrev pub invariant-loop : goal.invariant-loop
-invariant-loop g l = AreAllRacers l.system l.play l.race l.queues l.racers × (vec_len l.fates ≡ l.race.hosts)
-    × (vec_len l.fates ≡ vec_len l.initial.fates)

@@ -1,5 +1,0 @@
-use Rattle.crash_race.specs.Survivors.{AreAllParties}
-use Rattle.crash_race.proofs.swept.drains.Given as goal
-
-abbrev pub invariant-loop : goal.invariant-loop
-invariant-loop g l = AreAllParties l.system l.play l.race l.queues l.fates l.sweep

@@ -1,7 +1,0 @@
-use Rattle.std.proofs.Common.{All, vec_len, ◌≡◌}
-use Rattle.crash_race.specs.Survivors.{IsParty}
-use Rattle.crash_race.proofs.swept.hears_each.Given as goal
-
-abbrev pub invariant-loop-place : goal.invariant-loop-place
-invariant-loop-place g l = All (IsParty l.system l.play l.fates) l.parties.items
-    × (vec_len l.parties ≡ vec_len l.initial.parties)

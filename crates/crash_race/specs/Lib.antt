@@ -1,3 +1,0 @@
-pub mod Crashes
-pub mod Fates
-pub mod Survivors

@@ -1,5 +1,0 @@
-pub mod Answers
-pub mod Disks
-pub mod Handles
-pub mod Making
-pub mod OwnedDisk

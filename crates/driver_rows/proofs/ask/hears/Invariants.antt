@@ -1,8 +1,0 @@
-use Rattle.driver_rows.specs.Benches.{IsBenchHost}
-use Rattle.driver_cas.specs.Starts.{IsUntouched}
-use Rattle.driver_rows.specs.Calls.{KeepsCalls}
-use Rattle.driver_rows.proofs.ask.hears.Given as goal
-
-abbrev pub invariant-loop : goal.invariant-loop
-invariant-loop g l = IsBenchHost l.bench l.host × KeepsCalls l.fn.host l.host
-    × IsUntouched l.fn.host.driver l.host.driver

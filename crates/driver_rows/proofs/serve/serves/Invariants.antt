@@ -1,5 +1,0 @@
-use Rattle.driver_rows.specs.Benches.{IsServerOf, ServesOn}
-use Rattle.driver_rows.proofs.serve.serves.Given as goal
-
-abbrev pub invariant-loop : goal.invariant-loop
-invariant-loop g l = IsServerOf l.bench l.server × ServesOn l.fn.server l.server

@@ -1,6 +1,0 @@
-use Rattle.driver_rows.specs.Benches.{IsServerOf}
-use Rattle.driver_rows.specs.Claimants.{IsClaimant}
-use Rattle.driver_rows.proofs.service.answered.Given as goal
-
-abbrev pub invariant-loop : goal.invariant-loop
-invariant-loop g l = IsServerOf l.bench l.server × IsClaimant l.bench l.slots l.claimant

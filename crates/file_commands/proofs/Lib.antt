@@ -1,0 +1,4 @@
+mod Found
+mod Wronging
+pub mod Told
+mod FirstTold

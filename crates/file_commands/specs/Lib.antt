@@ -1,0 +1,4 @@
+pub mod Texts
+pub mod Wrong
+pub mod Observing
+pub mod ToldText

@@ -1,0 +1,61 @@
+-- What is said of the text of a trace, and what is written of the history that explains it.
+use Rattle.std.specs.Prelude.{◌++◌, ◌∷◌, [], codes, reverse, ℕ, Err, IfSome, List, Ok, Option, Result}
+use Rattle.std.specs.Io.KnownBytes.{Appends, IsAtEnd, Keeps}
+use Rattle.casdisk_texts.specs.Traces.{HasTrace, IsTraceUnread}
+use Rattle.casdisk_texts.specs.declared.fault.RunFault.{RunFault}
+use Rattle.casdisk_texts.specs.declared.fault.RunFault.TheVariants.{BadConfig, BadLine, Input, NoMemory, Output}
+use Rattle.nvme_model.specs.History.{Past}
+use Rattle.nvme_model.specs.declared.config.ConfigNumbers.{ConfigNumbers}
+use Rattle.history.specs.Texts.{history_text}
+use Rattle.trace.specs.Aside.{history_numbers}
+use Rattle.trace.specs.Observed.{Explains}
+use Rattle.trace.specs.declared.options.TraceOptions.{TraceOptions}
+use Rattle.trace.specs.declared.seen.Seen.{Seen}
+use Rattle.file_commands.specs.declared.answer.TraceAnswer.{TraceAnswer}
+use Rattle.file_commands.specs.declared.answer.TraceAnswer.TheVariants.{Explained, GaveUp, NotFound}
+
+-- the status with which the program ends after an answer
+abbrev pub answer_status : TraceAnswer → ℕ
+answer_status Explained = 0
+answer_status NotFound = 1
+answer_status GaveUp = 5
+
+-- the line where a history explains the trace
+abbrev pub explained_text : List ℕ
+explained_text = codes "explained" ++ 10 ∷ []
+
+-- the line where the steps were used up
+abbrev pub gave_up_text : List ℕ
+gave_up_text = codes "gave up" ++ 10 ∷ []
+
+-- A legal history of this configuration is seen as these things, the oldest first, as these options read them, and a
+-- writer has its text behind what it had.
+abbrev pub WritesWitness : TraceOptions → ConfigNumbers → List Seen → Option (List ℕ) → Option (List ℕ) → Type 0
+WritesWitness o c things old new =
+    (past : Past) × Explains o c past (reverse things) × Appends old new (history_text c (reverse past))
+
+-- By what was answered on these things: a history that explains them was written as a witness, and then that it is so;
+-- nothing was written as a witness; or a beginning of what there is to write.
+abbrev pub AnswersTrace : TraceOptions → ConfigNumbers → List Seen → Result TraceAnswer RunFault →
+    (witness witnessed old new : Option (List ℕ)) → Type 0
+AnswersTrace o c things (Ok Explained) witness witnessed old new =
+    WritesWitness o c things witness witnessed × Appends old new explained_text
+AnswersTrace o c things (Ok NotFound) witness witnessed old new = Keeps witness witnessed
+AnswersTrace o c things (Ok GaveUp) witness witnessed old new = Keeps witness witnessed × Appends old new gave_up_text
+AnswersTrace o c things (Err Output) witness witnessed old new = Unit {0}
+AnswersTrace o c things (Err NoMemory) witness witnessed old new = Keeps old new
+AnswersTrace o c things (Err Input) witness witnessed old new = ⊥
+AnswersTrace o c things (Err (BadLine n)) witness witnessed old new = ⊥
+AnswersTrace o c things (Err (BadConfig n)) witness witnessed old new = ⊥
+
+-- By what was answered on a text: the answer on the things that its lines say, and the reader at its end; or why they
+-- weren't all read, and nothing was written; or a beginning of what there is to write.
+abbrev pub ObservesText : Result TraceAnswer RunFault →
+    (trace left witness witnessed old new : Option (List ℕ)) → Type 0
+ObservesText (Ok answer) trace left witness witnessed old new =
+    IsAtEnd left × IfSome trace (HasTrace (λ o c things.
+    AnswersTrace o (history_numbers o c) things (Ok answer) witness witnessed old new))
+ObservesText (Err Output) trace left witness witnessed old new = Unit {0}
+ObservesText (Err NoMemory) trace left witness witnessed old new = Keeps old new
+ObservesText (Err f) trace left witness witnessed old new =
+    IsTraceUnread f trace left × Keeps witness witnessed × Keeps old new

@@ -1,0 +1,22 @@
+//! Reads histories and traces as texts, for the program and for callers in C: beside slots, in words, or to find a
+//! history.
+#![tactic(auto)]
+
+mod answer;
+mod checking;
+mod explaining;
+mod fault;
+mod judging;
+mod observing;
+mod opening;
+mod reading;
+mod telling;
+mod words;
+
+pub use crate::answer::TraceAnswer;
+pub use crate::checking::check_slots;
+pub use crate::explaining::{ExplainedSlots, explain_slots};
+pub use crate::fault::SlotsFault;
+pub use crate::judging::WrongStep;
+pub use crate::observing::observe_text;
+pub use crate::telling::tell_text;

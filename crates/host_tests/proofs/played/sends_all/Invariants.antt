@@ -1,5 +1,0 @@
-use Rattle.host_tests.specs.Listening.{IsListening}
-use Rattle.host_tests.proofs.played.sends_all.Given as goal
-
-abbrev pub invariant-loop-queue : goal.invariant-loop-queue
-invariant-loop-queue g l = IsListening l.system l.host

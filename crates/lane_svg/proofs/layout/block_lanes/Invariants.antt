@@ -1,9 +1,0 @@
--- The lanes so far, and the blocks that are left.
-use Rattle.std.proofs.Common.{◌≡◌, ◌++◌, drop}
-use Rattle.std.specs.Prelude.{flat_map}
-use Rattle.lane_svg.specs.Layout.{block_lane}
-use Rattle.lane_svg.proofs.layout.block_lanes.Given as goal
-
-abbrev pub invariant-loop-block : goal.invariant-loop-block
-invariant-loop-block l =
-    flat_map (block_lane l.shown) l.blocks ≡ l.list.items ++ flat_map (block_lane l.shown) (drop l.block-index l.blocks)

@@ -1,5 +1,0 @@
-use Rattle.lock_rows.specs.Callers.{IsTestCallerOf}
-use Rattle.lock_rows.proofs.messages.opens.Given as goal
-
-abbrev pub invariant-loop : goal.invariant-loop
-invariant-loop g l = IsTestCallerOf l.system l.caller

@@ -1,0 +1,5 @@
+pub mod Rosters
+pub mod Hosts
+pub mod TwoHosts
+pub mod GoingOn
+pub mod Rostering

@@ -1,4 +1,0 @@
-use Rattle.picture_svg.proofs.columns.push_shade.Goals as goal
-
-pub returns : goal.returns
-returns c = record { value = rw (← c.column.ensures.value, ← c.bottom.ensures.value) c.push_all.ensures.value }

@@ -1,0 +1,147 @@
+//! The entries of a file, one a line, judged and drawn as they come.
+
+ghost use Rattle.std.specs.Prelude.{◌≡◌, ◌∷◌, [], IfOk, List, OnOk, ℕ};
+ghost use Rattle.nvme_model.specs.History.{Past};
+ghost use Rattle.nvme_model.specs.declared.config.ConfigNumbers.{ConfigNumbers};
+ghost use Rattle.casdisk_texts.specs.Files.{entry_added};
+ghost use Rattle.picture_svg.specs.Drawn.{HasDrawn, drawn_next, options_list, steps_to};
+
+use broken_rules::Broken;
+use casdisk_texts::{BadStep, Explained, FirstBad, Judge, LineMeaning, Taken, WriteFault};
+use history::{Config, Entry, LineFault, parse_line};
+use picture_shapes::{Aspect, Picture, PictureWords};
+use std::alloc::{AllocError as NoMemory, Global};
+use std::io::Write;
+use std::string::ToString;
+
+/// The most steps that are drawn.
+pub(crate) const MOST_STEPS: u64 = 10_000;
+
+/// What is drawn of a history: its steps from one place to another, from 1, and what is shown besides.
+#[derive(Clone, Copy, Debug, PartialEq, Eq)]
+pub struct DrawOptions {
+    pub from: u64,
+    pub to: u64,
+    pub aspect: Aspect,
+}
+
+// Judges and draws the entries of lines, and keeps none of them.
+#[derive(Drop)]
+pub(crate) struct Drawer {
+    alloc: Global,
+    pub(crate) config: Config,
+    pub(crate) options: DrawOptions,
+    pub(crate) judge: Judge<true>,
+    pub(crate) picture: Picture,
+}
+
+// How many steps are drawn up to this place.
+pub(crate) fn steps_to(options: &DrawOptions, place: u64) -> u64
+    ensures value { result ≡ steps_to options.now.from options.now.to place }
+{
+    place
+        .min(options.to)
+        .saturating_sub(options.from.saturating_sub(1))
+}
+
+// Says which rule the first bad step breaks.
+fn bad_words(alloc: Global, place: u64, broken: Option<Broken>) -> Result<PictureWords, NoMemory> {
+    let Some(broken) = broken else {
+        return Ok(PictureWords::new(String::new(alloc)));
+    };
+    let words = Explained::BadAt(BadStep { place, broken }).to_string(alloc)?;
+    Ok(PictureWords::new(words))
+}
+
+// Draws the entry at this place, where no bad one precedes it, and there aren't too many to draw.
+fn draw(
+    alloc: Global,
+    config: &Config,
+    options: &DrawOptions,
+    place: u64,
+    bad: FirstBad,
+    entry: &Entry,
+    picture: &mut Picture,
+) -> Result<(), NoMemory>
+    ensures drawn { OnOk result ((words : List ℕ) × (picture.new
+        ≡ drawn_next config.now options.now.from options.now.to words bad.place place entry.now picture.old)) }
+{
+    if steps_to(options, place) > MOST_STEPS {
+        return Ok(());
+    }
+    if bad.place.is_none() {
+        return picture.take(config, place, entry);
+    }
+    let words = bad_words(alloc, place, bad.broken)?;
+    picture.take_bad(place, entry, words)
+}
+
+impl Drawer {
+    // One that has drawn no entry.
+    pub(crate) fn new(
+        alloc: Global,
+        config: &Config,
+        options: &DrawOptions,
+    ) -> Result<Drawer, NoMemory>
+        ensures begun { IfOk result (λ x. HasDrawn config.now x.options [] x.config x.judge.checker x.judge.count
+            x.judge.bad x.picture) }
+        ensures options { IfOk result (λ x. x.options ≡ options.now) }
+    {
+        Ok(Drawer {
+            alloc,
+            config: *config,
+            options: *options,
+            judge: Judge::new(alloc, config)?,
+            picture: Picture::new(alloc, options.from, options.to, options.aspect),
+        })
+    }
+
+    // Judges and draws the next entry.
+    fn take(&mut self, entry: &Entry) -> Result<(), NoMemory>
+        ensures drawn { (c : ConfigNumbers) (past : Past) →
+            HasDrawn c self.old.options past self.old.config self.old.judge.checker self.old.judge.count
+            self.old.judge.bad self.old.picture →
+            OnOk result (HasDrawn c self.new.options (entry.now ∷ past) self.new.config self.new.judge.checker
+            self.new.judge.count self.new.judge.bad self.new.picture) }
+        ensures options { self.new.options ≡ self.old.options }
+    {
+        let ended = self.judge.bad.place.is_some();
+        self.judge.judge(entry)?;
+        if ended {
+            return Ok(());
+        }
+        let count = self.judge.count;
+        let bad = self.judge.bad;
+        draw(
+            self.alloc,
+            &self.config,
+            &self.options,
+            count,
+            bad,
+            entry,
+            &mut self.picture,
+        )?;
+        Ok(())
+    }
+}
+
+impl LineMeaning for Drawer {
+    ghost stands = { λ m c past. HasDrawn c m.options past m.config m.judge.checker m.judge.count m.judge.bad
+        m.picture };
+
+    ghost meaning = { λ _. entry_added };
+
+    ghost fixed = { λ m. options_list m.options };
+
+    fn take_line<W: Write>(&mut self, line: &[u8], _writer: &mut W) -> Result<Taken, WriteFault> {
+        let entry = match parse_line(self.alloc, line) {
+            Ok(entry) => entry,
+            Err(LineFault::Malformed) => return Ok(Taken::Bad),
+            Err(LineFault::NoMemory) => return Err(WriteFault::NoMemory),
+        };
+        match self.take(&entry) {
+            Ok(()) => Ok(Taken::Done),
+            Err(_) => Err(WriteFault::NoMemory),
+        }
+    }
+}

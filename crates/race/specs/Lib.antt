@@ -1,0 +1,11 @@
+pub mod Ended
+pub mod Slots
+pub mod Faults
+pub mod Races
+pub mod Drawing
+pub mod Racers
+pub mod Turns
+pub mod Crashes
+pub mod Fates
+pub mod Survivors
+pub mod Told

@@ -1,0 +1,77 @@
+//! What a survivor of a race has in hand, from one turn to the next.
+
+ghost use Rattle.std.specs.Prelude.{◌≡◌};
+
+use driver_cas::{Fault, SharedPort};
+use nvme_model::Name;
+use race_hosts::Host;
+use shared_system::HostPasses;
+use slot_takeover::{GivingBack, HeldSlot, ReadingHolder, TakingOver};
+
+/// A slot that was taken over, and may be dropped: it then stays held.
+pub(crate) struct KeptSlot {
+    pub held: HeldSlot,
+}
+
+impl Drop for KeptSlot {
+    fn drop(self) {
+        let KeptSlot { held } = self;
+        let _ = held.leave();
+    }
+}
+
+impl KeptSlot {
+    /// The slot, to be given back.
+    pub(crate) fn into_held(self) -> HeldSlot
+        ensures { result ≡ self.held }
+    {
+        let KeptSlot { held } = self;
+        held
+    }
+}
+
+/// How far a survivor is with the slot at hand.
+#[derive(Drop)]
+pub(crate) enum SweepStage<'a> {
+    /// It is to ask who holds it.
+    Asks,
+    /// That isn't answered.
+    Reads(ReadingHolder<SharedPort<'a>>),
+    /// A dead host does, under this name: the slot is to be taken over.
+    Finds(Name),
+    /// The takeover hasn't ended.
+    TakesOver(TakingOver<SharedPort<'a>>),
+    /// It has the slot, and is to begin to give it back.
+    Has(KeptSlot),
+    /// That hasn't ended.
+    GivesBack(GivingBack<SharedPort<'a>>),
+    /// No dead host holds the slot any more.
+    Done,
+}
+
+/// What came of a call about the slot at hand.
+#[derive(Drop)]
+pub(crate) enum Called<'a> {
+    /// The survivor is so far now.
+    Done(SweepStage<'a>),
+    /// Nothing yet: it waits.
+    Pending(SweepStage<'a>),
+    /// Nothing, for this reason.
+    Later(Fault, SweepStage<'a>),
+}
+
+/// A host that goes over the slots, with the slot at hand.
+#[derive(Drop)]
+pub(crate) struct Survivor<'a> {
+    pub host: Host<'a>,
+    pub slot: u32,
+    pub stage: SweepStage<'a>,
+}
+
+/// What is left of a host behind its rounds.
+#[derive(Drop)]
+pub(crate) enum Party<'a> {
+    /// It died, and is fenced: its driver is gone, and its passes stay.
+    Fenced(HostPasses),
+    Survives(Survivor<'a>),
+}

@@ -1,4 +1,0 @@
-pub mod Ended
-pub mod Slots
-pub mod Faults
-pub mod Races

@@ -1,4 +1,0 @@
-pub mod WordsRead
-pub mod EntryRead
-pub mod LineRead
-pub mod PublishText

@@ -1,5 +1,0 @@
-use Rattle.script_text.proofs.LineRead.{line_again}
-use Rattle.script_text.proofs.laws.written_lines_are_read.Goals as goal
-
-pub returns : goal.returns
-returns c = record { read = line_again }

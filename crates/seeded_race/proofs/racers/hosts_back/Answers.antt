@@ -1,9 +1,0 @@
-use Rattle.std.proofs.Common.{subst, ℕ, ◌+◌}
-use Rattle.shared_system.specs.declared.system.HostPasses.{HostPasses}
-use Rattle.race_run.specs.Ended.{EndDown}
-use Rattle.seeded_race.proofs.racers.hosts_back.Goals as goal
-
-pub returns-clause-hosts : goal.returns-clause-hosts
-returns-clause-hosts c =
-    subst (λ (n : ℕ). EndDown (λ (h : HostPasses). h.pass) c.args.system.now.engine c.args.play.now c.args.servers
-    (c.args.servers + n) c.loop.hosts.items) c.len-count.ensures c.loop.invariant.2

@@ -1,5 +1,0 @@
-use Rattle.seeded_race.specs.Racers.{AreAllRacers}
-use Rattle.seeded_race.proofs.racing.to_the_end.Given as goal
-
-abbrev pub invariant-loop : goal.invariant-loop
-invariant-loop g l = AreAllRacers l.system l.play l.race l.queues l.racers

@@ -1,3 +1,0 @@
-pub mod Pointwise
-pub mod Aside
-pub mod Beginnings

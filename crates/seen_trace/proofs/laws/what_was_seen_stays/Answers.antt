@@ -1,8 +1,0 @@
-use Rattle.seen_trace.proofs.Beginnings.{goes_on, never_fewer}
-use Rattle.seen_trace.proofs.laws.what_was_seen_stays.Goals as goal
-
-pub returns : goal.returns
-returns c = record {
-  begins = goes_on;
-  count = never_fewer;
-}

@@ -1,0 +1,9 @@
+pub mod Smaller
+pub mod Asked
+pub mod Shrinking
+pub mod Scanning
+pub mod Status
+pub mod Texts
+pub mod Reading
+pub mod Talk
+pub mod TextShrinking

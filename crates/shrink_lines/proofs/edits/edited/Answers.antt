@@ -1,6 +1,0 @@
-use Rattle.std.proofs.Common.{[]}
-use Rattle.shrink_lines.proofs.Parts.{part_none}
-use Rattle.shrink_lines.proofs.edits.edited.Goals as goal
-
-pub loop-k-init : goal.loop-k-init
-loop-k-init c = rw c.new-out.ensures.items (part_none [])

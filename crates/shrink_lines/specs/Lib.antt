@@ -1,4 +1,0 @@
-pub mod Smaller
-pub mod Asked
-pub mod Shrinking
-pub mod Scanning

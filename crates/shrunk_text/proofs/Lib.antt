@@ -1,3 +1,0 @@
-pub mod LinesOut
-pub mod LinesIn
-pub mod Ending

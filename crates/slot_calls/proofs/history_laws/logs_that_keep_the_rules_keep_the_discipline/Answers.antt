@@ -1,5 +1,0 @@
-use Rattle.slot_calls.proofs.Views.{view_disciplined}
-use Rattle.slot_calls.proofs.history_laws.logs_that_keep_the_rules_keep_the_discipline.Goals as goal
-
-pub returns : goal.returns
-returns c = view_disciplined

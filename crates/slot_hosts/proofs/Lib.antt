@@ -1,4 +1,0 @@
-pub mod Rosters
-pub mod Hosts
-pub mod TwoHosts
-pub mod GoingOn

@@ -1,5 +1,0 @@
-use Rattle.slot_hosts.proofs.Hosts.{all_placed}
-use Rattle.slot_hosts.proofs.history_laws.each_pass_drives_or_serves.Goals as goal
-
-pub returns : goal.returns
-returns c = all_placed

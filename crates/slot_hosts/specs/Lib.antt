@@ -1,2 +1,0 @@
-pub mod Rosters
-pub mod Hosts

@@ -1,5 +1,0 @@
-use Rattle.takeover_laws.proofs.Fencing.{fenced}
-use Rattle.takeover_laws.proofs.rule_laws.a_host_that_is_taken_over_is_fenced.Goals as goal
-
-pub returns : goal.returns
-returns c = fenced

@@ -1,3 +1,0 @@
-pub mod Takeovers
-pub mod Rules
-pub mod Effects

@@ -1,3 +1,0 @@
-mod Feeds
-mod ReadBack
-mod Telling

@@ -1,5 +1,0 @@
-use Rattle.ticket_progress.proofs.Owes.{owes}
-use Rattle.ticket_progress.proofs.laws.a_stage_owes_what_its_ticket_owes.Goals as goal
-
-pub returns : goal.returns
-returns c = record { owes = owes }

@@ -1,0 +1,5 @@
+pub mod Options
+pub mod Aside
+pub mod Observed
+pub mod SeenLines
+pub mod OptionLines

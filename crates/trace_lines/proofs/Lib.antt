@@ -1,3 +1,0 @@
-pub mod SeenAgain
-pub mod SeenRead
-pub mod OptionsRead

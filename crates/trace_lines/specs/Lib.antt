@@ -1,2 +1,0 @@
-pub mod SeenLines
-pub mod OptionLines

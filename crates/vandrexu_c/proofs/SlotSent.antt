@@ -1,0 +1,56 @@
+-- A slot host may go to another thread.
+use denote.Param.Send.{IsSend, enum_send, recorded_send, struct_send, sendable, view_send}
+use denote.Enum.Declared.{shape as enum_shape}
+use denote.Struct.Declared.{shape}
+use Rattle.std.proofs.Crossing.{crosses}
+use Rattle.driver_cas.specs.contracts.own_port.OwnPort as port
+use Rattle.driver_cas.specs.contracts.own_port.OwnPortPort.TheImpl.{ghosts}
+use Rattle.slot_alloc.specs.contracts.claiming.Claiming as claiming
+use Rattle.slot_alloc.specs.contracts.release.Releasing as releasing
+use Rattle.slot_alloc.specs.contracts.slots.Slots as slots
+use Rattle.slot_takeover.specs.contracts.giving_back.GivingBack as giving
+use Rattle.slot_takeover.specs.contracts.holder.ReadingHolder as reading
+use Rattle.slot_takeover.specs.contracts.taking.TakingOver as taking
+use Rattle.vandrexu_c.specs.contracts.slot_hold.Hold as hold
+use Rattle.vandrexu_c.specs.contracts.slot_host.SlotHost as host
+use Rattle.vandrexu_c.specs.contracts.slot_host.SlotHost.TheInside as inside
+use Rattle.vandrexu_c.specs.contracts.under_way.UnderWay as calls
+use Rattle.vandrexu_c.proofs.slot_hold.Hold.TheSendSync as hold_sent
+use Rattle.vandrexu_c.proofs.HostSent.{inside_send}
+
+claiming_send : IsSend (claiming.the_field port.the_row ghosts).row
+claiming_send = search (crosses, sendable) depth 20
+
+releasing_send : IsSend (releasing.the_field port.the_row).row
+releasing_send = search (crosses, sendable) depth 20
+
+taking_send : IsSend (taking.the_field port.the_row).row
+taking_send = search (crosses, sendable) depth 20
+
+giving_send : IsSend (giving.the_field port.the_row).row
+giving_send = search (crosses, sendable) depth 20
+
+reading_send : IsSend (reading.the_field port.the_row).row
+reading_send = search (crosses, sendable) depth 20
+
+slots_send : IsSend (slots.the_field).row
+slots_send = search (crosses, sendable) depth 20
+
+calls_send : IsSend (calls.the_field).row
+calls_send =
+    enum_send (enum_shape calls.the_type) (
+      tt,
+      (
+        (claiming_send, tt),
+        (
+          (releasing_send, tt),
+          (
+            (taking_send, tt),
+            ((giving_send, tt), ((reading_send, tt), tt)),
+          ),
+        ),
+      ),
+    )
+
+pub host_send : IsSend host.the_row
+host_send = view_send inside.the_row _ _ _ _ inside_send

@@ -1,0 +1,12 @@
+-- What a handle's pointer owns: the box of a host, or nothing.
+use Rattle.std.specs.Prelude.{None, Option, Some}
+use base.Fml.{Fml, ftrue}
+use denote.RawPtr.{Ptr}
+use Rattle.std.specs.Box.Ownership.{box_owns}
+use Rattle.std.specs.contracts.impls.GlobalAllocator.TheImpl.{ghosts}
+use Rattle.vandrexu_c.specs.contracts.host.DrivenHost.{the_row}
+use Rattle.vandrexu_c.specs.HostStates.{HostState}
+
+abbrev pub owned_host : Ptr → Option HostState → Fml
+owned_host p None = ftrue
+owned_host p (Some h) = box_owns (ghosts.dealloc_token (record { memory = record { seal = tt } })) the_row p h

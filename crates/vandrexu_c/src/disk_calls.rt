@@ -1,0 +1,105 @@
+//! A disk: made, freed, and served.
+
+ghost use Rattle.std.specs.Prelude.{◌≡◌, IfOk, None, Some};
+ghost use Rattle.c_handles.specs.Configurations.{given_numbers};
+ghost use Rattle.c_handles.specs.Disks.{FetchTells, IsNewDisk, KeepsDisk, MayRefuseDisk, ServesDisk, TaskTells};
+ghost use Rattle.c_handles.specs.Handles.{disk_in};
+ghost use Rattle.c_handles.specs.declared.disk.Disk.{Disk as TheDisk};
+
+use c_handles::numbers::{IN_USE, NO_HANDLE, NO_MEMORY};
+use c_handles::{Disk, DiskHandle, GivenConfig, config_of};
+use history::Config;
+use std::alloc::{AllocError as NoMemory, Global};
+
+// A disk in a box.
+fn disk_of(alloc: Global, config: Config, hosts: u16) -> Result<Box<Disk>, NoMemory>
+    ensures { IfOk result (λ b. IsNewDisk config hosts b.value) }
+{
+    let disk = Disk::of(alloc, config, hosts)?;
+    Ok(Box::new(alloc, disk)?)
+}
+
+/// Makes a controller with no history and blocks of zeros, with passes for so many hosts, and puts it into the handle:
+/// 0; or the first fault of the configuration, 21 to 30; or 11 where memory is refused; or 102 where the handle owns
+/// one. The handle is then as before.
+#[unsafe(no_mangle)]
+pub extern "C" fn vandrexu_disk_new(
+    alloc: Global,
+    config: &GivenConfig,
+    hosts: u16,
+    disk: &mut DiskHandle,
+) -> u32
+    ensures done { result ≡ 0 → KeepsDisk (disk_in disk.new) (IsNewDisk (given_numbers config.now) hosts) }
+    ensures failed { (result ≡ 0 → ⊥) → disk_in disk.new ≡ disk_in disk.old }
+    ensures cause { (result ≡ 0 → ⊥) → MayRefuseDisk (given_numbers config.now) (disk_in disk.old) result }
+{
+    if disk.owns() {
+        return IN_USE;
+    }
+    let accepted = match config_of(config) {
+        Ok(accepted) => accepted,
+        Err(fault) => return u32::from(fault.number()),
+    };
+    let Ok(made) = disk_of(alloc, accepted, hosts) else {
+        return NO_MEMORY;
+    };
+    disk.put(made);
+    0
+}
+
+/// Frees what the handle owns. Nothing is done where it owns nothing. Hosts that were made of it stay.
+#[unsafe(no_mangle)]
+pub extern "C" fn vandrexu_disk_free(alloc: Global, disk: &mut DiskHandle)
+    ensures { disk_in disk.new ≡ None }
+{
+    drop(disk.take(alloc));
+}
+
+/// Fetches the next command, or fused pair, of a submission queue, and keeps what it has to do: 0; or the number of the
+/// refusal; or 113 where what was fetched before isn't finished; or 101 where the handle owns nothing.
+#[unsafe(no_mangle)]
+pub extern "C" fn vandrexu_disk_fetch(alloc: Global, disk: &mut DiskHandle, queue: u16) -> u32
+    ensures no_handle { disk_in disk.old ≡ None → (result ≡ 101) × (disk_in disk.new ≡ None) }
+    ensures fetches { (d : TheDisk) → disk_in disk.old ≡ Some d →
+        KeepsDisk (disk_in disk.new) (λ e. FetchTells d e queue result) }
+{
+    let Some(mut owned) = disk.take(alloc) else {
+        return NO_HANDLE;
+    };
+    let told = owned.as_mut().fetch(queue);
+    disk.put(owned);
+    told
+}
+
+/// Makes the next Grant, Block or Post of what was fetched: 0; or the number of the refusal, and the same is next; or
+/// 105 where there is none, and all its completions are posted; or 101 where the handle owns nothing.
+#[unsafe(no_mangle)]
+pub extern "C" fn vandrexu_disk_task(alloc: Global, disk: &mut DiskHandle) -> u32
+    ensures no_handle { disk_in disk.old ≡ None → (result ≡ 101) × (disk_in disk.new ≡ None) }
+    ensures makes { (d : TheDisk) → disk_in disk.old ≡ Some d →
+        KeepsDisk (disk_in disk.new) (λ e. TaskTells d e result) }
+{
+    let Some(mut owned) = disk.take(alloc) else {
+        return NO_HANDLE;
+    };
+    let told = owned.as_mut().task();
+    disk.put(owned);
+    told
+}
+
+/// Serves the next command, or fused pair, of a submission queue to its end, or goes on with what was fetched before
+/// and isn't finished: 0 where it is finished then; or the number of the first refusal, and what was fetched is kept;
+/// or 101 where the handle owns nothing.
+#[unsafe(no_mangle)]
+pub extern "C" fn vandrexu_disk_serve(alloc: Global, disk: &mut DiskHandle, queue: u16) -> u32
+    ensures no_handle { disk_in disk.old ≡ None → (result ≡ 101) × (disk_in disk.new ≡ None) }
+    ensures serves { (d : TheDisk) → disk_in disk.old ≡ Some d →
+        KeepsDisk (disk_in disk.new) (λ e. ServesDisk d e queue result) }
+{
+    let Some(mut owned) = disk.take(alloc) else {
+        return NO_HANDLE;
+    };
+    let told = owned.as_mut().serve(queue);
+    disk.put(owned);
+    told
+}

@@ -1,0 +1,76 @@
+//! Making a host of a disk.
+
+ghost use Rattle.std.specs.Prelude.{◌+◌, ◌≡◌, IfErr, IfOk, None, OnErr, OnOk};
+ghost use Rattle.c_handles.specs.Disks.{disk_config, disk_engine};
+ghost use Rattle.c_handles.specs.Making.{HasGiven, MayRefuseHost, passes_left};
+ghost use Rattle.vandrexu_c.specs.Hosts.{IsHostOver, IsNewHost};
+ghost use Rattle.vandrexu_c.specs.HostMaking.{MakesHost};
+
+use crate::host::DrivenHost;
+use crate::host_handle::{HostHandle, put_host};
+use c_handles::numbers::NO_MEMORY;
+use c_handles::{Disk, give_driver, take_back};
+use driver_cas::{Driver, OwnPort};
+use nvme_model::array::Range;
+use std::alloc::Global;
+
+// A host in a box; the driver, where memory is refused.
+fn host_of(alloc: Global, driver: Driver<OwnPort>) -> Result<Box<DrivenHost>, Driver<OwnPort>>
+    ensures made { IfOk result (λ b. IsHostOver driver b.value) }
+    ensures back { IfErr result (λ d. d ≡ driver) }
+{
+    let host = DrivenHost {
+        driver,
+        call: None,
+        payload: Vec::new(alloc),
+    };
+    match Box::new(alloc, host) {
+        Ok(host) => Ok(host),
+        Err(refused) => {
+            let host = refused.value;
+            Err(host.driver)
+        }
+    }
+}
+
+// Makes a host with the next of the passes; where none is made the pass stays.
+fn give(alloc: Global, disk: &mut Disk, number: u32, queue: u16) -> Result<Box<DrivenHost>, u32>
+    ensures same { HasGiven disk.old disk.new }
+    ensures made { IfOk result (λ b. IsNewHost (disk_engine disk.old) (disk_config disk.old) number queue b.value) }
+    ensures one { OnOk result (passes_left disk.new + 1 ≡ passes_left disk.old) }
+    ensures kept { OnErr result (passes_left disk.new ≡ passes_left disk.old) }
+    ensures cause { IfErr result (MayRefuseHost disk.old number queue) }
+{
+    let none = Range { slba: 0, blocks: 0 };
+    let driver = match give_driver(alloc, disk, number, queue, none) {
+        Ok(driver) => driver,
+        Err(told) => return Err(told),
+    };
+    match host_of(alloc, driver) {
+        Ok(host) => Ok(host),
+        Err(driver) => {
+            take_back(disk, driver);
+            Err(NO_MEMORY)
+        }
+    }
+}
+
+/// Makes a host of a disk, and puts it into a handle that has none.
+pub(crate) fn give_into(
+    alloc: Global,
+    disk: &mut Disk,
+    number: u32,
+    queue: u16,
+    host: &mut HostHandle,
+) -> u32
+    requires { host.old.held.host ≡ None }
+    ensures { MakesHost disk.old disk.new number queue result host.new.held.host }
+{
+    match give(alloc, disk, number, queue) {
+        Ok(made) => {
+            put_host(host, made);
+            0
+        }
+        Err(told) => told,
+    }
+}

@@ -1,0 +1,76 @@
+//! What a call that is polled tells, as it lies in C.
+
+ghost use Rattle.std.specs.Prelude.{◌≡◌};
+ghost use Rattle.vandrexu_c.specs.HostReplies.{done_kind, failed_reply, plain_reply, poll_number, host_reply_of};
+
+use driver_cas::{Fault, Poll, Reply};
+
+/// What became of a call.
+#[repr(C)]
+#[derive(Clone, Copy)]
+pub struct HostReply {
+    /// 1 for pending, 2 for read, 3 for written, 4 for equal, 5 for differs, 6 for swapped, 7 for failed.
+    pub kind: u32,
+    /// Of a failed call: its status, the type and the code.
+    pub sct: u8,
+    pub sc: u8,
+    pub zeros: [u8; 2],
+}
+
+/// A reply without a status.
+pub(crate) fn plain(kind: u32) -> HostReply
+    ensures { result ≡ plain_reply kind }
+{
+    HostReply {
+        kind,
+        sct: 0,
+        sc: 0,
+        zeros: [0, 0],
+    }
+}
+
+fn kind_in(reply: &Reply) -> u32
+    ensures { result ≡ done_kind reply.now }
+{
+    match reply {
+        Reply::Read(_) => 2,
+        Reply::Written => 3,
+        Reply::Equal => 4,
+        Reply::Differs => 5,
+        Reply::Swapped => 6,
+    }
+}
+
+fn failed_in(fault: Fault) -> HostReply
+    ensures { result ≡ failed_reply fault }
+{
+    match fault {
+        Fault::Status(status) => HostReply {
+            sct: status.sct(),
+            sc: status.sc(),
+            ..plain(7)
+        },
+        _ => plain(7),
+    }
+}
+
+/// What a poll tells.
+pub(crate) fn reply_in<P>(polled: &Poll<P>) -> HostReply
+    ensures { result ≡ host_reply_of polled.now }
+{
+    match polled {
+        Poll::Pending(_) | Poll::Later(_, _) => plain(1),
+        Poll::Done(reply) => plain(kind_in(reply)),
+        Poll::Failed(fault) => failed_in(*fault),
+    }
+}
+
+/// The number of a poll: 0, or that of its fault.
+pub(crate) fn number_in<P>(polled: &Poll<P>) -> u32
+    ensures { result ≡ poll_number polled.now }
+{
+    match polled {
+        Poll::Pending(_) | Poll::Done(_) => 0,
+        Poll::Later(fault, _) | Poll::Failed(fault) => u32::from(fault.number()),
+    }
+}

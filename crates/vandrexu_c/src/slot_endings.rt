@@ -1,0 +1,136 @@
+//! What comes of a slot host's call by a poll: what is told, what goes on, and what the host has.
+
+ghost use Rattle.std.specs.Prelude.{◌≡◌, List};
+ghost use Rattle.vandrexu_c.specs.Polls.{HasRoomFor, HasRoomToTake, IsTold};
+ghost use Rattle.vandrexu_c.specs.Polls.{claim_told, give_back_told, holder_told, release_told, takeover_told};
+ghost use Rattle.vandrexu_c.specs.declared.slot_hold.Hold.{Hold as TheHold};
+ghost use Rattle.vandrexu_c.specs.declared.under_way.UnderWay.TheVariants as calls;
+
+use crate::slot_begin::put_at;
+use crate::slot_hold::{Hold, KeptClaim, KeptSlot};
+use crate::slot_reply::{
+    PENDING, RELEASED, SlotReply, TAKEN, failed_by, held_now, plain, told_holder,
+};
+use crate::under_way::UnderWay;
+use driver_cas::OwnPort;
+use slot_alloc::{Progress, Released};
+use slot_takeover::{GivenBack, HolderPoll, TakeoverProgress};
+
+/// Of a claim.
+pub(crate) fn end_claim(
+    under_way: &mut UnderWay,
+    holds: &mut Vec<Hold>,
+    progress: Progress<OwnPort>,
+) -> (u32, SlotReply)
+    requires idle { under_way.old ≡ calls.Nothing }
+    requires room { HasRoomFor progress holds.old.items }
+    ensures { IsTold (claim_told holds.old.items progress) result.0 result.1 under_way.new holds.new.items }
+{
+    match progress {
+        Progress::Pending(claiming) => {
+            *under_way = UnderWay::Claim(claiming);
+            (0, plain(PENDING))
+        }
+        Progress::Later(fault, claiming) => {
+            *under_way = UnderWay::Claim(claiming);
+            (u32::from(fault.number()), plain(PENDING))
+        }
+        Progress::Held(claim) => {
+            let slot = claim.slot();
+
+            // A claim of any slot that is answered with one that the host has would take its place;
+            // the controller can't answer so, since the block has this host's name in it, and no
+            // clause says that.
+            drop(put_at(holds, slot, Hold::Claimed(KeptClaim { claim })));
+            (0, held_now(slot))
+        }
+        Progress::Taken | Progress::AllTaken => (0, plain(TAKEN)),
+        Progress::Failed(fault) => (u32::from(fault.number()), failed_by(fault)),
+    }
+}
+
+/// Of a release.
+pub(crate) fn end_release(under_way: &mut UnderWay, released: Released<OwnPort>) -> (u32, SlotReply)
+    requires idle { under_way.old ≡ calls.Nothing }
+    ensures { (holds : List TheHold) → IsTold (release_told holds released) result.0 result.1 under_way.new holds }
+{
+    match released {
+        Released::Pending(releasing) => {
+            *under_way = UnderWay::Release(releasing);
+            (0, plain(PENDING))
+        }
+        Released::Later(fault, releasing) => {
+            *under_way = UnderWay::Release(releasing);
+            (u32::from(fault.number()), plain(PENDING))
+        }
+        Released::Released => (0, plain(RELEASED)),
+        Released::Failed(fault) => (u32::from(fault.number()), failed_by(fault)),
+    }
+}
+
+/// Of a takeover.
+pub(crate) fn end_takeover(
+    under_way: &mut UnderWay,
+    holds: &mut Vec<Hold>,
+    progress: TakeoverProgress<OwnPort>,
+) -> (u32, SlotReply)
+    requires idle { under_way.old ≡ calls.Nothing }
+    requires room { HasRoomToTake progress holds.old.items }
+    ensures { IsTold (takeover_told holds.old.items progress) result.0 result.1 under_way.new holds.new.items }
+{
+    match progress {
+        TakeoverProgress::Pending(taking) => {
+            *under_way = UnderWay::Takeover(taking);
+            (0, plain(PENDING))
+        }
+        TakeoverProgress::Later(fault, taking) => {
+            *under_way = UnderWay::Takeover(taking);
+            (u32::from(fault.number()), plain(PENDING))
+        }
+        TakeoverProgress::Held(held) => {
+            let slot = held.slot();
+            drop(put_at(holds, slot, Hold::TakenOver(KeptSlot { held })));
+            (0, held_now(slot))
+        }
+        TakeoverProgress::Taken => (0, plain(TAKEN)),
+        TakeoverProgress::Failed(fault) => (u32::from(fault.number()), failed_by(fault)),
+    }
+}
+
+/// Of a release of what was taken over.
+pub(crate) fn end_give_back(under_way: &mut UnderWay, given: GivenBack<OwnPort>) -> (u32, SlotReply)
+    requires idle { under_way.old ≡ calls.Nothing }
+    ensures { (holds : List TheHold) → IsTold (give_back_told holds given) result.0 result.1 under_way.new holds }
+{
+    match given {
+        GivenBack::Pending(giving) => {
+            *under_way = UnderWay::GiveBack(giving);
+            (0, plain(PENDING))
+        }
+        GivenBack::Later(fault, giving) => {
+            *under_way = UnderWay::GiveBack(giving);
+            (u32::from(fault.number()), plain(PENDING))
+        }
+        GivenBack::Released => (0, plain(RELEASED)),
+        GivenBack::Failed(fault) => (u32::from(fault.number()), failed_by(fault)),
+    }
+}
+
+/// Of the question who holds a slot.
+pub(crate) fn end_holder(under_way: &mut UnderWay, polled: HolderPoll<OwnPort>) -> (u32, SlotReply)
+    requires idle { under_way.old ≡ calls.Nothing }
+    ensures { (holds : List TheHold) → IsTold (holder_told holds polled) result.0 result.1 under_way.new holds }
+{
+    match polled {
+        HolderPoll::Pending(reading) => {
+            *under_way = UnderWay::Holder(reading);
+            (0, plain(PENDING))
+        }
+        HolderPoll::Later(fault, reading) => {
+            *under_way = UnderWay::Holder(reading);
+            (u32::from(fault.number()), plain(PENDING))
+        }
+        HolderPoll::Done(holder) => (0, told_holder(holder)),
+        HolderPoll::Failed(fault) => (u32::from(fault.number()), failed_by(fault)),
+    }
+}

@@ -1,0 +1,183 @@
+//! A slot host: made, freed, its calls begun and polled.
+
+ghost use Rattle.std.specs.Prelude.{◌≡◌, None, Some};
+ghost use Rattle.nvme_model.specs.declared.array.Range.{Range};
+ghost use Rattle.c_handles.specs.Disks.{KeepsDisk};
+ghost use Rattle.c_handles.specs.Handles.{disk_in};
+ghost use Rattle.c_handles.specs.declared.disk.Disk.{Disk as TheDisk};
+ghost use Rattle.vandrexu_c.specs.Begins.{AnyClaimTells, ClaimTells, HolderTells, ReleaseTells, TakeoverTells};
+ghost use Rattle.vandrexu_c.specs.SlotMaking.{MakesSlotHost, given_area};
+ghost use Rattle.vandrexu_c.specs.Polls.{PollTells};
+ghost use Rattle.vandrexu_c.specs.SlotStates.{KeepsSlotHost, SlotState};
+
+use crate::slot_handle::{SlotHandle, put_host, take_host};
+use crate::slot_making::{area_given, give_into};
+use crate::slot_numbers::BAD_AREA;
+use crate::slot_reply::SlotReply;
+use c_handles::DiskHandle;
+use c_handles::numbers::{IN_USE, NO_HANDLE};
+use nvme_model::Name;
+use std::alloc::Global;
+
+/// Makes a host of this number, not 0, on this submission queue, with so many slots from block `first` on, with one of
+/// the passes of the disk, and puts it into the handle: 0; or 123 where there is no slot, or one is behind block
+/// 65,535; or 115 for the number 0; or 1 where there is no such submission queue; or 114 where as many hosts were made
+/// as the disk was made for; or 11 where memory is refused; or 101 where the disk's handle owns nothing; or 102 where
+/// the host's owns one. But for 0, both are then as before.
+#[unsafe(no_mangle)]
+#[tactic(auto, using(crate::proofs::Marks::no_slot_host_of))]
+pub extern "C" fn vandrexu_slot_host_new(
+    alloc: Global,
+    disk: &mut DiskHandle,
+    number: u32,
+    queue: u16,
+    first: u64,
+    count: u32,
+    host: &mut SlotHandle,
+) -> u32
+    ensures in_use { (h : SlotState) → host.old.held.host ≡ Some h →
+        (result ≡ 102) × (host.new.held.host ≡ Some h) × (disk_in disk.new ≡ disk_in disk.old) }
+    ensures no_disk { host.old.held.host ≡ None → disk_in disk.old ≡ None →
+        (result ≡ 101) × (host.new.held.host ≡ None) × (disk_in disk.new ≡ None) }
+    ensures no_area { (d : TheDisk) → host.old.held.host ≡ None → disk_in disk.old ≡ Some d →
+        given_area first count ≡ None →
+        (result ≡ 123) × (host.new.held.host ≡ None) × (disk_in disk.new ≡ Some d) }
+    ensures makes { (d : TheDisk) (a : Range) → host.old.held.host ≡ None → disk_in disk.old ≡ Some d →
+        given_area first count ≡ Some a →
+        KeepsDisk (disk_in disk.new) (λ e. MakesSlotHost d e number queue a result host.new.held.host) }
+{
+    if host.live != 0 {
+        return IN_USE;
+    }
+    let Some(mut owned) = disk.take(alloc) else {
+        return NO_HANDLE;
+    };
+    let told = match area_given(first, count) {
+        Some(area) => give_into(alloc, owned.as_mut(), number, queue, area, host),
+        None => BAD_AREA,
+    };
+    disk.put(owned);
+    told
+}
+
+/// Frees what the handle owns. Nothing is done where it owns nothing. What the host has stays held, by its name in the
+/// slot's block, and a call that isn't answered is forgotten.
+#[unsafe(no_mangle)]
+pub extern "C" fn vandrexu_slot_host_free(alloc: Global, host: &mut SlotHandle)
+    ensures { host.new.held.host ≡ None }
+{
+    drop(take_host(alloc, host));
+}
+
+/// Begins to claim a slot: 0; or 116 where a call is under way; or 118 where there is no such slot; or 120 where the
+/// host has it; or 121 where the host has begun a takeover; or the number of the fault; or 101 where the handle owns
+/// nothing.
+#[unsafe(no_mangle)]
+pub extern "C" fn vandrexu_slot_claim(alloc: Global, host: &mut SlotHandle, slot: u32) -> u32
+    ensures no_handle { host.old.held.host ≡ None → (result ≡ 101) × (host.new.held.host ≡ None) }
+    ensures claims { (h : SlotState) → host.old.held.host ≡ Some h →
+        KeepsSlotHost host.new.held.host (λ j. ClaimTells h j slot result) }
+{
+    let Some(mut owned) = take_host(alloc, host) else {
+        return NO_HANDLE;
+    };
+    let told = owned.as_mut().claim(slot);
+    put_host(host, owned);
+    told
+}
+
+/// Begins to claim the first slot that nobody has: slot 0, and each further one once it is answered that the one before
+/// is somebody's: 0; or 116 where a call is under way; or 121 where the host has begun a takeover; or the number of the
+/// fault; or 101 where the handle owns nothing.
+#[unsafe(no_mangle)]
+pub extern "C" fn vandrexu_slot_claim_any(alloc: Global, host: &mut SlotHandle) -> u32
+    ensures no_handle { host.old.held.host ≡ None → (result ≡ 101) × (host.new.held.host ≡ None) }
+    ensures claims { (h : SlotState) → host.old.held.host ≡ Some h →
+        KeepsSlotHost host.new.held.host (λ j. AnyClaimTells h j result) }
+{
+    let Some(mut owned) = take_host(alloc, host) else {
+        return NO_HANDLE;
+    };
+    let told = owned.as_mut().claim_any();
+    put_host(host, owned);
+    told
+}
+
+/// Begins to release a slot that the host has, by a claim or by a takeover: 0; or 116 where a call is under way; or 118
+/// where there is no such slot; or 119 where the host hasn't it; or the number of the fault; or 101 where the handle
+/// owns nothing.
+#[unsafe(no_mangle)]
+pub extern "C" fn vandrexu_slot_release(alloc: Global, host: &mut SlotHandle, slot: u32) -> u32
+    ensures no_handle { host.old.held.host ≡ None → (result ≡ 101) × (host.new.held.host ≡ None) }
+    ensures releases { (h : SlotState) → host.old.held.host ≡ Some h →
+        KeepsSlotHost host.new.held.host (λ j. ReleaseTells h j slot result) }
+{
+    let Some(mut owned) = take_host(alloc, host) else {
+        return NO_HANDLE;
+    };
+    let told = owned.as_mut().release(slot);
+    put_host(host, owned);
+    told
+}
+
+/// Begins to take a slot over from the name of a dead host, its number and its serial: 0; or 116 where a call is under
+/// way; or 118 where there is no such slot; or 120 where the host has it; or 122 where the name has a zero in it or is
+/// of this host; or the number of the fault; or 101 where the handle owns nothing.
+#[unsafe(no_mangle)]
+pub extern "C" fn vandrexu_slot_take_over(
+    alloc: Global,
+    host: &mut SlotHandle,
+    slot: u32,
+    dead: u32,
+    serial: u64,
+) -> u32
+    ensures no_handle { host.old.held.host ≡ None → (result ≡ 101) × (host.new.held.host ≡ None) }
+    ensures takes { (h : SlotState) → host.old.held.host ≡ Some h → KeepsSlotHost host.new.held.host
+        (λ j. TakeoverTells h j slot (record { host = dead; serial = serial }) result) }
+{
+    let Some(mut owned) = take_host(alloc, host) else {
+        return NO_HANDLE;
+    };
+    let told = owned.as_mut().take_over(slot, Name { host: dead, serial });
+    put_host(host, owned);
+    told
+}
+
+/// Begins to ask who holds a slot: 0; or 116 where a call is under way; or 118 where there is no such slot; or the
+/// number of the fault; or 101 where the handle owns nothing.
+#[unsafe(no_mangle)]
+pub extern "C" fn vandrexu_slot_ask_holder(alloc: Global, host: &mut SlotHandle, slot: u32) -> u32
+    ensures no_handle { host.old.held.host ≡ None → (result ≡ 101) × (host.new.held.host ≡ None) }
+    ensures asks { (h : SlotState) → host.old.held.host ≡ Some h →
+        KeepsSlotHost host.new.held.host (λ j. HolderTells h j slot result) }
+{
+    let Some(mut owned) = take_host(alloc, host) else {
+        return NO_HANDLE;
+    };
+    let told = owned.as_mut().ask_holder(slot);
+    put_host(host, owned);
+    told
+}
+
+/// Polls the host's call: 0, and what became of it; or 44 where it failed, with its status; or 45 or 46 where nothing
+/// was reaped, and the call goes on; or 117 where the host has no call; or 101 where the handle owns nothing. `reply`
+/// is written but for 101.
+#[unsafe(no_mangle)]
+pub extern "C" fn vandrexu_slot_poll(
+    alloc: Global,
+    host: &mut SlotHandle,
+    reply: &mut SlotReply,
+) -> u32
+    ensures no_handle { host.old.held.host ≡ None →
+        (result ≡ 101) × (host.new.held.host ≡ None) × (reply.new ≡ reply.old) }
+    ensures polls { (h : SlotState) → host.old.held.host ≡ Some h →
+        KeepsSlotHost host.new.held.host (λ j. PollTells h j result reply.new) }
+{
+    let Some(mut owned) = take_host(alloc, host) else {
+        return NO_HANDLE;
+    };
+    let (told, what) = owned.as_mut().poll();
+    put_host(host, owned);
+    *reply = what;
+    told
+}

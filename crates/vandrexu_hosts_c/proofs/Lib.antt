@@ -1,3 +1,0 @@
-mod Calls
-pub mod Marks
-mod Sent
