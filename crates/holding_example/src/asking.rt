@@ -73,7 +73,7 @@ fn next_passes(
 }
 
 // Host h, whose slot is block 0; None where memory is refused.
-#[tactic(auto, using(crate::proofs::Seats::owns_own))]
+#[tactic(auto, using(driver_calls::proofs::OwnQueue::owns_own))]
 fn asker_of<'a>(
     alloc: Global,
     config: &Config,

@@ -1,4 +1,4 @@
-pub mod Judging
+pub mod JudgingRaces
 pub mod Ended
 pub mod Returned
 pub mod Callers

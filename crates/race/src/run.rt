@@ -52,7 +52,7 @@ fn judge(alloc: Global, config: &Config, entries: &[Entry]) -> Result<(), RaceFa
 }
 
 // Writes and checks a history, which keeps these slots.
-#[tactic(auto, using(crate::proofs::Judging::finishing))]
+#[tactic(auto, using(crate::proofs::JudgingRaces::finishing))]
 fn finish<W: Write>(
     alloc: Global,
     config: &Config,

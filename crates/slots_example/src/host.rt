@@ -32,7 +32,7 @@ pub(crate) struct LockHost<'a> {
 
 // The host of a completion queue, with the queue's number, on the submission queue of that number. Block 0 is its one
 // slot. None where memory is refused.
-#[tactic(auto, using(crate::proofs::Queues::owns_own))]
+#[tactic(auto, using(driver_calls::proofs::OwnQueue::owns_own))]
 fn lock_host_of<'a, G>(
     alloc: Global,
     config: &Config,

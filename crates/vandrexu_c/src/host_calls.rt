@@ -25,7 +25,7 @@ use std::alloc::Global;
 /// were made as the disk was made for; or 11 where memory is refused; or 101 where the disk's handle owns nothing; or
 /// 102 where the host's owns one. But for 0, both are then as before.
 #[unsafe(no_mangle)]
-#[tactic(auto, using(crate::proofs::Marks::no_host_of))]
+#[tactic(auto, using(crate::proofs::HostMarks::no_host_of))]
 pub extern "C" fn vandrexu_host_new(
     alloc: Global,
     disk: &mut DiskHandle,

@@ -63,7 +63,7 @@ pub struct HostHandle {
 }
 
 // Takes the host out of a handle.
-#[tactic(auto, using(crate::proofs::Marks::no_host_of))]
+#[tactic(auto, using(crate::proofs::HostMarks::no_host_of))]
 pub(crate) fn take_host(alloc: Global, handle: &mut HostHandle) -> Option<Box<DrivenHost>>
     ensures value { MatchOption result (handle.old.held.host ≡ None) (λ b. handle.old.held.host ≡ Some b.value) }
     ensures emptied { handle.new.held.host ≡ None }

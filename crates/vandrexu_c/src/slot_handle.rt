@@ -64,7 +64,7 @@ pub struct SlotHandle {
 }
 
 // Takes the host out of a handle.
-#[tactic(auto, using(crate::proofs::Marks::no_slot_host_of))]
+#[tactic(auto, using(crate::proofs::SlotMarks::no_slot_host_of))]
 pub(crate) fn take_host(alloc: Global, handle: &mut SlotHandle) -> Option<Box<SlotHost>>
     ensures value { MatchOption result (handle.old.held.host ≡ None) (λ b. handle.old.held.host ≡ Some b.value) }
     ensures emptied { handle.new.held.host ≡ None }

@@ -1,4 +1,4 @@
-use Rattle.race.proofs.Judging.{kept_rounds}
+use Rattle.race.proofs.JudgingRaces.{kept_rounds}
 use Rattle.race.proofs.run.finish.Goals as goal
 
 pub returns-clause-rounds : goal.returns-clause-rounds
