@@ -13,7 +13,7 @@ use Rattle.vandrexu_c.specs.contracts.host.DrivenHost.TheInside as inside
 kept_send : IsSend (option.the_field (call.the_row port.the_row)).row
 kept_send = option_sent.the_field_send _ call_send
 
-pub inside_send : IsSend inside.the_row
+inside_send : IsSend inside.the_row
 inside_send =
     recorded_send (inside.the_field).row _ _ (inside.the_type).to_one
     (struct_send (shape inside.the_type) (driver_send, (kept_send, (search (crosses, sendable), tt))))

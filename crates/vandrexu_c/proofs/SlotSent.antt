@@ -2,9 +2,10 @@
 use denote.Param.Send.{IsSend, enum_send, recorded_send, struct_send, sendable, view_send}
 use denote.Enum.Declared.{shape as enum_shape}
 use denote.Struct.Declared.{shape}
-use Rattle.std.proofs.Crossing.{crosses}
+use Rattle.std.proofs.Crossing.{Vec-send, crosses}
 use Rattle.driver_cas.specs.contracts.own_port.OwnPort as port
 use Rattle.driver_cas.specs.contracts.own_port.OwnPortPort.TheImpl.{ghosts}
+use Rattle.c_handles.proofs.Sent.{driver_send}
 use Rattle.slot_alloc.specs.contracts.claiming.Claiming as claiming
 use Rattle.slot_alloc.specs.contracts.release.Releasing as releasing
 use Rattle.slot_alloc.specs.contracts.slots.Slots as slots
@@ -16,7 +17,6 @@ use Rattle.vandrexu_c.specs.contracts.slot_host.SlotHost as host
 use Rattle.vandrexu_c.specs.contracts.slot_host.SlotHost.TheInside as inside
 use Rattle.vandrexu_c.specs.contracts.under_way.UnderWay as calls
 use Rattle.vandrexu_c.proofs.slot_hold.Hold.TheSendSync as hold_sent
-use Rattle.vandrexu_c.proofs.HostSent.{inside_send}
 
 claiming_send : IsSend (claiming.the_field port.the_row ghosts).row
 claiming_send = search (crosses, sendable) depth 20
@@ -51,6 +51,24 @@ calls_send =
         ),
       ),
     )
+
+inside_send : IsSend inside.the_row
+inside_send =
+    recorded_send (inside.the_field).row _ _ (inside.the_type).to_one
+    (struct_send (shape inside.the_type) (
+      driver_send,
+      (
+        search (crosses, sendable),
+        (
+          slots_send,
+          (
+            Vec-send hold.the_row
+                hold_sent.the_send,
+            (calls_send, (search (crosses, sendable), tt)),
+          ),
+        ),
+      ),
+    ))
 
 pub host_send : IsSend host.the_row
 host_send = view_send inside.the_row _ _ _ _ inside_send
