@@ -44,7 +44,7 @@ fn same_mode(mode: Mode, other: Mode) -> bool
 {
     match (mode, other) {
         (Mode::Exclusive, Mode::Exclusive) | (Mode::Shared, Mode::Shared) => true,
-        _ => false,
+        (Mode::Exclusive, Mode::Shared) | (Mode::Shared, Mode::Exclusive) => false,
     }
 }
 

@@ -20,7 +20,7 @@ fn is_single_failed(verdict: Verdict, status: Status) -> bool
 {
     match verdict {
         Verdict::SingleFailed(other) => same_status(status, other),
-        _ => false,
+        Verdict::Single | Verdict::Pair | Verdict::PairFailed(_, _) => false,
     }
 }
 
@@ -30,7 +30,7 @@ fn is_pair_failed(verdict: Verdict, first: Status, second: Status) -> bool
 {
     match verdict {
         Verdict::PairFailed(one, other) => same_status(first, one) && same_status(second, other),
-        _ => false,
+        Verdict::Single | Verdict::SingleFailed(_) | Verdict::Pair => false,
     }
 }
 

@@ -1,6 +1,9 @@
 mod Opens
 mod PieceLines
 pub mod Marks
+pub mod Moving
+pub mod Owned
+pub mod Pointers
 pub mod Queues
 pub mod Sent
 pub mod Works

@@ -1,17 +1,17 @@
 -- What a handle's mark says of what it owns.
 use Rattle.std.proofs.Common.{◌≡◌, ◌<◌, arith, refl}
 use Rattle.std.specs.Prelude.{None, Option, Some}
-use Rattle.c_handles.specs.Disks.{disk_mark}
-use Rattle.c_handles.specs.declared.disk.Disk.{Disk}
+use Rattle.c_handles.specs.Owned.{mark}
 
-pub no_disk_of : (o : Option Disk) → disk_mark o ≡ 0 → o ≡ None
-no_disk_of None h = refl
-no_disk_of (Some d) h = cc
+module _ {A : Type 0} where
+  pub none_of : (o : Option A) → mark o ≡ 0 → o ≡ None
+  none_of None h = refl
+  none_of (Some x) h = cc
 
-pub some_disk_of : (o : Option Disk) → 0 < disk_mark o → (d : Disk) × (o ≡ Some d)
-some_disk_of None h = absurd (omega (arith, h))
-some_disk_of (Some d) h = (d, refl)
+  pub some_of : (o : Option A) → 0 < mark o → (x : A) × (o ≡ Some x)
+  some_of None h = absurd (omega (arith, h))
+  some_of (Some x) h = (x, refl)
 
-pub one_disk_of : (o : Option Disk) → (disk_mark o ≡ 0 → ⊥) → disk_mark o ≡ 1
-one_disk_of None h = absurd (h refl)
-one_disk_of (Some d) h = refl
+  pub one_of : (o : Option A) → (mark o ≡ 0 → ⊥) → mark o ≡ 1
+  one_of None h = absurd (h refl)
+  one_of (Some x) h = refl

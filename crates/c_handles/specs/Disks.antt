@@ -2,6 +2,7 @@
 use Rattle.std.specs.Arc.{arc_value}
 use Rattle.std.specs.Prelude.{All, Err, None, Ok, Option, Result, Some, [], suc, true, vec_len, zero, ℕ, ◌≡◌, ◌⊎◌}
 use Rattle.std.specs.Prelude.{IfErr, IfOk}
+use Rattle.c_handles.specs.Owned.{mark}
 use Rattle.nvme_model.specs.Config.{config_fault, config_fault_number}
 use Rattle.nvme_model.specs.Kept.{ControllerInvariant}
 use Rattle.nvme_model.specs.declared.config.ConfigFault.{ConfigFault}
@@ -21,16 +22,6 @@ use Rattle.work_queue.specs.declared.task.Task.{Task}
 use Rattle.work_queue.specs.declared.work.Work.{Work}
 use Rattle.c_handles.specs.Answers.{answer_number, end_number}
 use Rattle.c_handles.specs.declared.disk.Disk.{Disk}
-
--- what stands in the mark of a handle that owns this
-abbrev pub disk_mark : Option Disk → ℕ
-disk_mark None = 0
-disk_mark (Some d) = 1
-
--- a handle owns a disk of which this holds
-abbrev pub KeepsDisk : Option Disk → (Disk → Type 0) → Type 0
-KeepsDisk None P = ⊥
-KeepsDisk (Some d) P = P d
 
 -- its configuration
 abbrev pub disk_config : Disk → ConfigNumbers
@@ -52,7 +43,7 @@ pub record IsNewDisk (c : ConfigNumbers) (hosts : ℕ) (d : Disk) : Type 0 where
 -- why no disk was made: the handle owns one, this is the first fault of the configuration, or memory was refused
 abbrev pub MayRefuseDisk : ConfigNumbers → Option Disk → ℕ → Type 0
 MayRefuseDisk c o number =
-    ((number ≡ 102) × (disk_mark o ≡ 1))
+    ((number ≡ 102) × (mark o ≡ 1))
     ⊎ ((fault : ConfigFault) × (config_fault c ≡ Some fault) × (number ≡ config_fault_number fault))
     ⊎ ((number ≡ 11) × (config_fault c ≡ None))
 

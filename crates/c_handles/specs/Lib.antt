@@ -4,4 +4,4 @@ pub mod Answers
 pub mod Disks
 pub mod Handles
 pub mod Making
-pub mod OwnedDisk
+pub mod Owned

@@ -1,5 +1,5 @@
 -- What contracts say of making a driver of a disk.
-use Rattle.std.specs.Prelude.{[], true, vec_capacity, vec_len, ℕ, ◌<◌, ◌∷◌, ◌≡◌, ◌⊎◌}
+use Rattle.std.specs.Prelude.{None, [], true, vec_capacity, vec_len, ℕ, ◌<◌, ◌∷◌, ◌≡◌, ◌⊎◌}
 use Rattle.nvme_model.specs.Config.{completion_queue}
 use Rattle.nvme_model.specs.Refusals.{no_queue}
 use Rattle.nvme_model.specs.declared.array.Range.{Range}
@@ -10,8 +10,8 @@ use Rattle.work_queue.specs.Engines.{IsFreshPass}
 use Rattle.work_queue.specs.declared.engine.Engine.{Engine}
 use Rattle.driver_cas.specs.declared.driver.Driver.{Driver}
 use Rattle.driver_cas.specs.declared.port.Port.{Ghosts}
-use Rattle.driver_cas.specs.OwnPorts.{engine_of, pass_of, queue_of}
-use Rattle.driver_cas.specs.declared.own_port.OwnPort.{OwnPort}
+use Rattle.driver_cas.specs.Ports.{counted_of, engine_of, pass_of, queue_of}
+use Rattle.driver_cas.specs.declared.shared_port.SharedPort.{SharedPort}
 use Rattle.c_handles.specs.declared.disk.Disk.{Disk}
 
 -- how many hosts can be made of a disk yet
@@ -37,13 +37,14 @@ pub record HasGiven (d e : Disk) : Type 0 where
   pub server : e.server ≡ d.server
   pub work : e.work ≡ d.work
 
-module _ {g : Ghosts OwnPort} where
+module _ {g : Ghosts SharedPort} where
   -- a driver of this engine with these slots, over a pass that has seen nothing, as this host on this submission queue
   pub record IsNewDriver (eng : Engine) (c : ConfigNumbers) (number queue : ℕ) (slots : Range)
-      (d : Driver OwnPort g) : Type 0 where
+      (d : Driver SharedPort g) : Type 0 where
     pub engine : engine_of d.port ≡ eng
     pub pass : IsFreshPass eng c (pass_of d.port)
     pub queue_is : queue_of d.port ≡ completion_queue c queue
+    pub asks : counted_of d.port ≡ None
     pub began : d.began.value ≡ d.port
     pub host : d.host ≡ number
     pub acwu : d.acwu ≡ c.atomic.acwu

@@ -63,9 +63,7 @@ impl Disk {
         ensures { IfOk result (IsNewDisk config hosts) }
     {
         let (engine, mut passes) = Engine::of_config(alloc, config, usize::from(hosts) + 1)?;
-        let Some(server) = passes.pop() else {
-            unreachable!();
-        };
+        let server = passes.pop().unwrap();
         let Ok(engine) = Arc::new(alloc, engine) else {
             return Err(NoMemory);
         };
@@ -93,7 +91,8 @@ impl Disk {
                 self.work = Some(work);
                 0
             }
-            Ok(_) => unreachable!(),
+            // An accepted Fetch is answered by a Work, which the engine's contract says.
+            Ok(Opened::Published | Opened::Reaped { .. }) => unreachable!(),
             Err(declined) => declined_in(&declined),
         }
     }

@@ -1,11 +1,11 @@
 //! The handle of a disk: it lies in the caller's memory, and owns a disk or nothing.
 
-ghost use Rattle.std.specs.Prelude.{◌≡◌, ◌<◌, None, Option, Some};
-ghost use Rattle.c_handles.specs.Disks.{disk_mark};
+ghost use Rattle.std.specs.Prelude.{◌≡◌, None, Option, Some};
+ghost use Rattle.c_handles.specs.Owned.{mark};
 ghost use Rattle.c_handles.specs.declared.disk.Disk.{Disk as TheDisk};
 
 use crate::disk::Disk;
-use crate::parts::Parts;
+use crate::owner::Owner;
 use std::alloc::Global;
 use std::marker::{Model, Send};
 
@@ -18,38 +18,29 @@ pub struct HeldDisk {
 }
 
 impl Model for HeldDisk {
-    ghost use Rattle.c_handles.specs.OwnedDisk.{owned_disk};
+    ghost use Rattle.c_handles.specs.Owned.{owned};
+    ghost use Rattle.c_handles.specs.contracts.disk.Disk.{the_row};
 
-    ghost also_owns = { λ h. owned_disk h.at h.disk };
+    ghost also_owns = { λ h. owned the_row h.at h.disk };
 }
 
 // A handle may be used on another thread than the one that made it.
 unsafe impl Send for HeldDisk {}
 
 impl HeldDisk {
-    pub(crate) fn none() -> HeldDisk
-        ensures { result.disk ≡ None }
+    fn of(owner: Owner<Disk>) -> HeldDisk
+        ensures { result.disk ≡ owner.value }
     {
-        HeldDisk {
-            at: std::ptr::null_mut(),
-        }
+        let Owner { at } = owner;
+        HeldDisk { at: at as *mut u8 }
     }
 
-    pub(crate) fn of(parts: Parts<Disk, Global>) -> HeldDisk
-        ensures { result.disk ≡ Some parts.value }
-    {
-        let Parts { ptr, alloc: _ } = parts;
-        HeldDisk { at: ptr as *mut u8 }
-    }
-
-    pub(crate) fn into_parts(self, alloc: Global) -> Parts<Disk, Global>
-        requires { 0 < disk_mark self.disk }
-        ensures { self.disk ≡ Some result.value }
+    fn into_owner(self) -> Owner<Disk>
+        ensures { result.value ≡ self.disk }
     {
         let HeldDisk { at } = self;
-        Parts {
-            ptr: at as *mut Disk,
-            alloc,
+        Owner {
+            at: at as *mut Disk,
         }
     }
 }
@@ -59,7 +50,7 @@ impl HeldDisk {
 pub struct DiskHandle {
     held: HeldDisk,
     live: u32,
-    ghost marked: { live ≡ disk_mark held.disk },
+    ghost marked: { live ≡ mark held.disk },
 }
 
 impl DiskHandle {
@@ -67,29 +58,25 @@ impl DiskHandle {
     ghost use Rattle.c_handles.specs.Handles.{disk_in};
 
     /// Whether it owns a disk.
-    #[tactic(auto, using(crate::proofs::Marks::no_disk_of, crate::proofs::Marks::one_disk_of))]
+    #[tactic(auto, using(crate::proofs::Marks::none_of, crate::proofs::Marks::one_of))]
     pub fn owns(&self) -> bool
-        ensures owned { result ≡ true → disk_mark (disk_in self.now) ≡ 1 }
+        ensures owned { result ≡ true → mark (disk_in self.now) ≡ 1 }
         ensures empty { result ≡ false → disk_in self.now ≡ None }
     {
         self.live != 0
     }
 
     /// Takes the disk out, if it owns one.
-    #[tactic(auto, using(crate::proofs::Marks::no_disk_of))]
     pub fn take(&mut self, alloc: Global) -> Option<Box<Disk>>
         ensures value { MatchOption result (disk_in self.old ≡ None) (λ b. disk_in self.old ≡ Some b.value) }
         ensures emptied { disk_in self.new ≡ None }
     {
         let empty = DiskHandle {
-            held: HeldDisk::none(),
+            held: HeldDisk::of(Owner::none()),
             live: 0,
         };
         let DiskHandle { held, live } = std::mem::replace(self, empty);
-        if live == 0 {
-            return None;
-        }
-        Some(held.into_parts(alloc).into_box())
+        held.into_owner().into_box(alloc, live)
     }
 
     /// Puts a disk into one that has none.
@@ -98,7 +85,7 @@ impl DiskHandle {
         ensures { disk_in self.new ≡ Some disk.value }
     {
         let full = DiskHandle {
-            held: HeldDisk::of(Parts::of(disk)),
+            held: HeldDisk::of(Owner::of(disk)),
             live: 1,
         };
         let DiskHandle { held: _, live: _ } = std::mem::replace(self, full);

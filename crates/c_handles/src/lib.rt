@@ -7,6 +7,7 @@ mod disk;
 mod disk_handle;
 mod making;
 pub mod numbers;
+mod owner;
 mod parts;
 mod pieces;
 
@@ -14,5 +15,5 @@ pub use crate::configuration::{GivenConfig, config_of};
 pub use crate::disk::Disk;
 pub use crate::disk_handle::DiskHandle;
 pub use crate::making::{give_driver, take_back};
-pub use crate::parts::Parts;
+pub use crate::owner::Owner;
 pub use crate::pieces::{Piece, piece_of};

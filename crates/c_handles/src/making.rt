@@ -1,17 +1,17 @@
 //! Drivers that are made of a disk, each over one of its passes.
 
 ghost use Rattle.std.specs.Arc.{arc_value};
-ghost use Rattle.std.specs.Prelude.{◌+◌, ◌≡◌, ◌≤◌, IfErr, IfOk, OnErr, OnOk};
+ghost use Rattle.std.specs.Prelude.{◌+◌, ◌≡◌, ◌≤◌, IfErr, IfOk, None, OnErr, OnOk};
 ghost use Rattle.driver_cas.specs.Drivers.{port_of};
 ghost use Rattle.nvme_model.specs.Config.{completion_queue as queue_for};
-ghost use Rattle.driver_cas.specs.OwnPorts.{engine_of, pass_of, queue_of};
+ghost use Rattle.driver_cas.specs.Ports.{counted_of, engine_of, pass_of, queue_of};
 ghost use Rattle.work_queue.specs.Engines.{IsFreshPass};
 ghost use Rattle.c_handles.specs.Disks.{disk_config, disk_engine};
 ghost use Rattle.c_handles.specs.Making.{HasGiven, HasRoom, IsNewDriver, MayRefuseHost, passes_left};
 
 use crate::disk::Disk;
 use crate::numbers::{BAD_NUMBER, NO_HOST, NO_MEMORY, NO_QUEUE};
-use driver_cas::{Driver, OwnPort};
+use driver_cas::{Driver, SharedPort};
 use history::Config;
 use meet_lock::Pass;
 use nvme_model::array::Range;
@@ -23,14 +23,15 @@ use work_queue::Engine;
 
 // The port of a submission queue's completion queue.
 #[tactic(auto, using(crate::proofs::Queues::queue_there))]
-fn port_of(config: Config, engine: Arc<Engine>, pass: Pass<Core>, queue: u16) -> OwnPort
+fn port_of(config: Config, engine: Arc<Engine>, pass: Pass<Core>, queue: u16) -> SharedPort<'static>
     requires { IsFreshPass (arc_value engine) config pass }
     ensures pass { IsFreshPass (arc_value engine) config (pass_of result) }
     ensures queue { queue_of result ≡ queue_for config queue }
     ensures engine { engine_of result ≡ arc_value engine }
+    ensures asks { counted_of result ≡ None }
 {
     let _accepted = config.numbers();
-    OwnPort::new(engine, pass, completion_queue(&config, queue))
+    SharedPort::own(engine, pass, completion_queue(&config, queue))
 }
 
 // The driver of a host; the pass, where memory is refused.
@@ -38,18 +39,19 @@ fn port_of(config: Config, engine: Arc<Engine>, pass: Pass<Core>, queue: u16) ->
 fn driver_of(
     alloc: Global,
     config: Config,
-    port: OwnPort,
+    port: SharedPort<'static>,
     number: u32,
     queue: u16,
     slots: Range,
-) -> Result<Driver<OwnPort>, Pass<Core>>
+) -> Result<Driver<SharedPort<'static>>, Pass<Core>>
     requires pass { IsFreshPass (engine_of port) config (pass_of port) }
     requires of { queue_of port ≡ queue_for config queue }
+    requires asks { counted_of port ≡ None }
     requires number { 1 ≤ number }
     requires queue { (1 ≤ queue) × (queue ≤ config.pairs) }
     requires slots { slots.slba + slots.blocks ≤ 65536 }
-    ensures made { IfOk result (IsNewDriver (engine_of port) config number queue slots) }
-    ensures back { IfErr result (IsFreshPass (engine_of port) config) }
+    ensures made { IfOk result (IsNewDriver (engine_of port.entry) config number queue slots) }
+    ensures back { IfErr result (IsFreshPass (engine_of port.entry) config) }
 {
     let Ok(queues) = [queue].to_vec(alloc) else {
         return Err(port.into_pass());
@@ -73,7 +75,7 @@ pub fn give_driver(
     number: u32,
     queue: u16,
     slots: Range,
-) -> Result<Driver<OwnPort>, u32>
+) -> Result<Driver<SharedPort<'static>>, u32>
     requires slots { slots.slba + slots.blocks ≤ 65536 }
     ensures same { HasGiven disk.old disk.new }
     ensures made { IfOk result (IsNewDriver (disk_engine disk.old) (disk_config disk.old) number queue slots) }
@@ -98,23 +100,19 @@ pub fn give_driver(
     match driver_of(alloc, disk.config, port, number, queue, slots) {
         Ok(driver) => Ok(driver),
         Err(pass) => {
-            let Ok(()) = disk.passes.push(pass) else {
-                unreachable!();
-            };
+            disk.passes.push(pass).unwrap();
             Err(NO_MEMORY)
         }
     }
 }
 
 /// Takes a new driver apart, and puts its pass back into its disk.
-pub fn take_back(disk: &mut Disk, driver: Driver<OwnPort>)
+pub fn take_back(disk: &mut Disk, driver: Driver<SharedPort<'static>>)
     requires pass { IsFreshPass (disk_engine disk.old) (disk_config disk.old) (pass_of (port_of driver)) }
     requires room { HasRoom disk.old }
     ensures same { HasGiven disk.old disk.new }
     ensures one { passes_left disk.new ≡ passes_left disk.old + 1 }
 {
     let back = driver.into_port().into_pass();
-    let Ok(()) = disk.passes.push(back) else {
-        unreachable!();
-    };
+    disk.passes.push(back).unwrap();
 }

@@ -194,6 +194,38 @@ fn behind_topic(word: &[u8]) -> &'static [Form] {
     &FIELDS
 }
 
+// What follows the name of a command.
+fn behind_name(word: &[u8]) -> &'static [Form] {
+    if word == b"raw".as_slice() {
+        return &RAW;
+    }
+    &COMMAND
+}
+
+// What follows the word between two entries of a batch.
+fn behind_more(grammar: Grammar) -> &'static [Form] {
+    match grammar {
+        Grammar::Script => &NAMED,
+        Grammar::Configuration | Grammar::History | Grammar::Trace => &RAW,
+    }
+}
+
+// What follows how many commands were fetched.
+fn behind_count(word: &[u8]) -> &'static [Form] {
+    if word == b"1".as_slice() {
+        return &VERDICT;
+    }
+    &PAIR_VERDICT
+}
+
+// What follows how a pair was judged.
+fn behind_pair_verdict(word: &[u8]) -> &'static [Form] {
+    if word == b"ok".as_slice() {
+        return &NOTHING;
+    }
+    &STATUS
+}
+
 /// What follows a word of this form, where `others` would.
 pub(crate) fn behind_word(
     grammar: Grammar,
@@ -202,33 +234,28 @@ pub(crate) fn behind_word(
     others: &'static [Form],
 ) -> &'static [Form] {
     match form {
-        Form::Name => {
-            if word == b"raw".as_slice() {
-                &RAW
-            } else {
-                &COMMAND
-            }
-        }
-        Form::More => match grammar {
-            Grammar::Script => &NAMED,
-            Grammar::Configuration | Grammar::History | Grammar::Trace => &RAW,
-        },
-        Form::Count => {
-            if word == b"1".as_slice() {
-                &VERDICT
-            } else {
-                &PAIR_VERDICT
-            }
-        }
-        Form::PairVerdict => {
-            if word == b"ok".as_slice() {
-                &NOTHING
-            } else {
-                &STATUS
-            }
-        }
+        Form::Name => behind_name(word),
+        Form::More => behind_more(grammar),
+        Form::Count => behind_count(word),
+        Form::PairVerdict => behind_pair_verdict(word),
         Form::Topic => behind_topic(word),
         Form::MoreFields => &MORE_FIELDS,
-        _ => others,
+        Form::Configuration
+        | Form::Kind
+        | Form::Number16
+        | Form::Number32
+        | Form::Number64
+        | Form::Entry
+        | Form::Completion
+        | Form::Data
+        | Form::Fuse
+        | Form::Verdict
+        | Form::Status
+        | Form::Mode
+        | Form::Found
+        | Form::Mark
+        | Form::Unknown
+        | Form::Any
+        | Form::Field => others,
     }
 }

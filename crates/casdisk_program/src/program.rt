@@ -238,7 +238,7 @@ pub(crate) fn cause_of<R: Files + Input + AllocGlobal>(
 pub(crate) fn meaning_of(fault: RunFault) -> Option<ConfigFault> {
     match fault {
         RunFault::BadConfig(number) => ConfigFault::of_number(number),
-        _ => None,
+        RunFault::BadLine(_) | RunFault::Input | RunFault::Output | RunFault::NoMemory => None,
     }
 }
 

@@ -32,7 +32,7 @@ fn why_of<R: Read + Drop>(
 ) -> Option<String> {
     match fault {
         SlotsFault::Run(run) => failure_of(alloc, file, read, Grammar::History, run).why,
-        _ => None,
+        SlotsFault::NoSlots | SlotsFault::Beyond(_) => None,
     }
 }
 

@@ -252,7 +252,20 @@ fn wrong_spelling(form: Form, word: &[u8]) -> Option<Wrong>
             }
             wrong_status(form, word)
         }
-        _ => None,
+        Form::Configuration
+        | Form::Kind
+        | Form::Name
+        | Form::Fuse
+        | Form::More
+        | Form::Count
+        | Form::Mode
+        | Form::Found
+        | Form::Mark
+        | Form::Topic
+        | Form::Unknown
+        | Form::Any
+        | Form::Field
+        | Form::MoreFields => None,
     }
 }
 
@@ -280,7 +293,17 @@ fn wrong_name(form: Form, word: &[u8]) -> Option<Wrong>
                 || word == b"DW1".as_slice()
                 || word == b"SQHD".as_slice()
         }
-        _ => true,
+        Form::Configuration
+        | Form::Kind
+        | Form::Number16
+        | Form::Number32
+        | Form::Number64
+        | Form::Entry
+        | Form::Completion
+        | Form::Data
+        | Form::Verdict
+        | Form::PairVerdict
+        | Form::Status => true,
     };
     wrong_choice(form, chosen)
 }

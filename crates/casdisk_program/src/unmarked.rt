@@ -38,7 +38,7 @@ fn unmarked_behind(
             }
             None => None,
         },
-        _ => found,
+        Entry::Publish(_) | Entry::Fetch(_) | Entry::Post(_) | Entry::Reap(_) => found,
     }
 }
 

@@ -41,7 +41,7 @@ fn explained_by(bad: FirstBad) -> Explained
 {
     match (bad.place, bad.broken) {
         (Some(place), Some(broken)) => Explained::BadAt(BadStep { place, broken }),
-        _ => Explained::Legal,
+        (Some(_), None) | (None, _) => Explained::Legal,
     }
 }
 

@@ -61,12 +61,7 @@ fn number_option<'a>(
 ) -> Arg<'a>
     ensures { rule_of result ≡ number_rule name.entry.now }
 {
-    Arg::new(alloc, name)
-        .long(name)
-        .value_name(value)
-        .help(help)
-        .value_parser(value_parser!(u64))
-        .action(ArgAction::Set)
+    text_option(alloc, name, value, help).value_parser(value_parser!(u64))
 }
 
 // The option with the two numbers of an area of slots.

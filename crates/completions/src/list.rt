@@ -98,7 +98,7 @@ impl<T: Copy> AtMostTwo<T> {
             (Left::One(item), 0) => Some(item),
             (Left::Two(first, _), 0) => Some(first),
             (Left::Two(_, second), 1) => Some(second),
-            _ => None,
+            (Left::Nothing | Left::One(_) | Left::Two(_, _), _) => None,
         }
     }
 

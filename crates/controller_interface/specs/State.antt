@@ -19,6 +19,7 @@ use Rattle.nvme_model.specs.declared.operation.Op.{Op}
 use Rattle.nvme_model.specs.declared.refusal.Why.{Why}
 use Rattle.nvme_model.specs.declared.status.Verdict.{Verdict}
 use Rattle.nvme_model.specs.declared.step.Step.{Step}
+use Rattle.nvme_model.specs.declared.submission.Submission.{Submission}
 use Rattle.block_exec.specs.declared.run.Done.{Done}
 use Rattle.controller_interface.specs.declared.answer.Answer.{Answer}
 use Rattle.controller_interface.specs.declared.answer.Refused.{Refused}
@@ -176,9 +177,14 @@ Serves old step (Err r) new =
     Refuses old.config old.past step r
     × (new ≡ record old { room = new.room }) × KeepsRoom old.room new.room × WantsMemory old step
 
--- the same of a step whose refusal hands nothing back
-abbrev pub Does : ControllerState → Step → Result Answer Why → ControllerState → Type 0
-Does old step r new = Serves old step (result_map_both (λ a. a) (refused_as step) r) new
+-- the same of a call of one kind of steps: its answer is this one, and its refusal hands nothing back
+abbrev pub Does : {X : Type 0} → (X → Answer) → ControllerState → Step → Result X Why → ControllerState → Type 0
+Does answer old step r new = Serves old step (result_map_both answer (refused_as step) r) new
+
+-- the same of a Publish, whose refusal hands the batch back
+abbrev pub DoesPublish : ControllerState → Step → Result (Unit {0}) (Why × List Submission) → ControllerState → Type 0
+DoesPublish old step r new =
+    Serves old step (result_map_both (λ _. Answer.Published) (λ e. Refused.Publish e.0 e.1) r) new
 
 -- these answers, one for each step in order, lead from one controller to the other
 abbrev pub RunsSteps : ControllerState → List Step → List (Result Answer Refused) → ControllerState → Type 0

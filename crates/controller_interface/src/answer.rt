@@ -1,5 +1,8 @@
 //! What a step is answered with.
 
+ghost use Rattle.std.specs.Prelude.{◌≡◌};
+ghost use Rattle.controller_interface.specs.Granted.{granted_answer};
+
 use crate::work::Work;
 use block_exec::Done;
 use nvme_model::array::{Mode, Range};
@@ -20,6 +23,24 @@ pub enum Answer {
     Posted([u8; 16]),
     /// The completion queue entry, and what a successful Read read.
     Reaped { cqe: [u8; 16], payload: Payload },
+}
+
+/// A unit that was granted.
+#[derive(Clone, Copy)]
+pub struct UnitGranted {
+    /// Its number within its ticket, from 0.
+    pub unit: u64,
+    pub range: Range,
+    pub mode: Mode,
+}
+
+impl UnitGranted {
+    /// The answer that it is.
+    pub fn answer(self) -> Answer
+        ensures { result ≡ granted_answer self }
+    {
+        Answer::Granted(self.unit, self.range, self.mode)
+    }
 }
 
 /// Why a step is refused; a refused Publish hands its batch back.

@@ -5,7 +5,7 @@ mod answer;
 mod machine;
 mod work;
 
-pub use crate::answer::{Answer, Refused};
+pub use crate::answer::{Answer, Refused, UnitGranted};
 pub use crate::machine::Machine;
 pub use crate::work::{Kind, Work};
 pub use nvme_model::step::Step;

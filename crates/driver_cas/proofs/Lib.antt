@@ -10,4 +10,3 @@ pub mod Starting
 pub mod Passing
 pub mod Drawing
 pub mod Overtaking
-pub mod OwnFollowing

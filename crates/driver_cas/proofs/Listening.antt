@@ -1,5 +1,5 @@
 -- A pass, a port and a driver that saw more.
-use Rattle.std.proofs.Common.{◌≡◌, ℕ, List, ap, ap₂, inl, length, ◌∙◌}
+use Rattle.std.proofs.Common.{◌≡◌, ℕ, List, None, ap, ap₂, inl, length, ◌∙◌}
 use Rattle.std.specs.declared.snapshot.Snapshot.{Snapshot}
 use Rattle.driver_cas.specs.Cids.{QueueCids, held}
 use Rattle.nvme_model.specs.Passes.{IsBeginning}
@@ -39,10 +39,11 @@ idle_log : (a b : SharedPort) → b.queue ≡ a.queue → SawOn a.pass b.pass �
 idle_log a b queue s = ap (λ (n : ℕ). log_at n b.pass) queue
     ∙ log_declined a.queue a.pass b.pass s.same s.mine_stay s.goes_on
 
-pub saw_more : (a b : SharedPort) → b.queue ≡ a.queue → SawOn a.pass b.pass → SawMore a b
-saw_more a b queue s =
+pub saw_more : (a b : SharedPort) → b.queue ≡ a.queue → (a.counted ≡ None → b.counted ≡ None) → SawOn a.pass b.pass
+    → SawMore a b
+saw_more a b queue asks s =
     record {
-      follows = port_idle a b queue s.same s.goes_on s.mine_stay (idle_log a b queue s);
+      follows = port_idle a b queue asks s.same s.goes_on s.mine_stay (idle_log a b queue s);
       mine_stay = s.mine_stay;
       log = idle_log a b queue s;
     }
@@ -68,4 +69,5 @@ follows_later a b c x y =
       view = follows_on (view_of a) (view_of b) (view_of c) x.view y.view;
       sole = sole_later (steps_of a) (steps_of b) (steps_of c) (length (log_of (view_of a)))
           (length (log_of (view_of b))) (length (log_of (view_of c))) x.sole y.sole;
+      asks = λ h. y.asks (x.asks h);
     }

@@ -2,6 +2,7 @@ pub mod Cids
 pub mod Faults
 pub mod Made
 pub mod Passes
+pub mod Parts
 pub mod Ports
 pub mod Reaps
 pub mod Listening
@@ -13,4 +14,3 @@ pub mod Tries
 pub mod Requests
 pub mod SlotStarts
 pub mod TakeoverStarts
-pub mod OwnPorts

@@ -30,10 +30,14 @@ pub record SawMore (a b : SharedPort) : Type 0 where
   pub mine_stay : mine b.pass ≡ mine a.pass
   pub log : log_of (view_of b) ≡ log_of (view_of a)
 
--- how many notices are counted after one of this completion queue: one more, but 2^64 - 1 at most, where it is the
--- port's own
-abbrev pub counted_with : ℕ → SharedPort → ℕ
-counted_with queue p = if queue == p.queue then min (p.counted + 1) (2 ^ 64 - 1) else p.counted
+-- how many notices are counted after one more, if they are: 2^64 - 1 at most
+abbrev pub one_more : Option ℕ → Option ℕ
+one_more None = None
+one_more (Some n) = Some (min (n + 1) (2 ^ 64 - 1))
+
+-- how many notices are counted after one of this completion queue: one more, where it is the port's own
+abbrev pub counted_with : ℕ → SharedPort → Option ℕ
+counted_with queue p = if queue == p.queue then one_more p.counted else p.counted
 
 -- The port has seen what the notice had, and did nothing else; the notice is counted. From now on a Reap of the
 -- notice's completion queue is refused for want of a completion only where as many Reaps of it stand there as posts

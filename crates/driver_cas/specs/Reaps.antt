@@ -1,5 +1,5 @@
 -- What the engine answers a port's steps, and what the port makes of it.
-use Rattle.std.specs.Prelude.{Err, None, Ok, Option, Result, Some, suc, ℕ, ◌≡◌, ◌≢◌}
+use Rattle.std.specs.Prelude.{Err, None, Ok, Option, Result, Some, suc, ℕ, ◌-◌, ◌≡◌, ◌≢◌}
 use Rattle.nvme_model.specs.Passes.{entries}
 use Rattle.nvme_model.specs.Refusals.{refusal}
 use Rattle.nvme_model.specs.declared.refusal.Why.{Why}
@@ -46,9 +46,10 @@ IsReapAnswered passes a b (Err PortFault.RingFull) = ⊥
 IsReapAnswered passes a b (Err PortFault.Busy) = (passes ≢ 1) × (b ≡ a)
 IsReapAnswered passes a b (Err PortFault.NoMemory) = refusal b.config (entries b.seen) (Step.Reap b.queue) ≡ None
 
--- How many notices are counted whose completions aren't reaped, before a Reap and after: one less where a completion
--- came, none where none was there, and as many as before after a fault.
-abbrev pub IsCounted : ℕ → ℕ → Result (Option Reaped) PortFault → Type 0
-IsCounted before after (Ok (Some r)) = before ≡ suc after
-IsCounted before after (Ok None) = after ≡ 0
-IsCounted before after (Err f) = after ≡ before
+-- How many notices are counted whose completions aren't reaped, if they are, before a Reap and after: one less where a
+-- completion came, none where none was there, and as many as before after a fault.
+abbrev pub IsCounted : Option ℕ → Option ℕ → Result (Option Reaped) PortFault → Type 0
+IsCounted None after r = after ≡ None
+IsCounted (Some n) after (Ok (Some r)) = after ≡ Some (n - 1)
+IsCounted (Some n) after (Ok None) = after ≡ Some 0
+IsCounted (Some n) after (Err f) = after ≡ Some n

@@ -8,6 +8,7 @@ ghost use Rattle.meet_lock.specs.Passes.{config_of, passes_of, seen};
 ghost use Rattle.work_queue.specs.Engines.{IsPassOfEngine};
 ghost use Rattle.work_queue.specs.Notices.{IsNoticeOf, ReapFinds, notice_seen};
 ghost use Rattle.driver_cas.specs.Listening.{IsOfSameEngine, IsNoticeFor, IsPassBeside, SawMore, counted_with};
+ghost use Rattle.driver_cas.specs.Listening.{one_more};
 ghost use Rattle.driver_cas.specs.Passes.{SawOn};
 ghost use Rattle.driver_cas.specs.Ports.{view_of};
 
@@ -51,7 +52,15 @@ fn learn_notice<R: Wait>(rt: &R, engine: &Engine, pass: &mut Pass<Core>, notice:
         }
         yield_now();
     }
+    // The loop ends by its return alone.
     unreachable!()
+}
+
+// How many notices are counted after one more, if they are.
+fn count_one(counted: Option<u64>) -> Option<u64>
+    ensures { result ≡ one_more counted }
+{
+    Some(counted?.saturating_add(1))
 }
 
 impl<'a> SharedPort<'a> {
@@ -72,7 +81,7 @@ impl<'a> SharedPort<'a> {
         ensures busy { IfErr result
             (λ _. (view_of self.new ≡ view_of self.old) × (view_of other.new ≡ view_of other.old)) }
     {
-        meet_passes(self.engine, &mut self.pass, &mut other.pass)
+        meet_passes(self.part.engine(), &mut self.pass, &mut other.pass)
     }
 
     /// The port's pass and this one of its engine see the whole history so far, if no other caller has the controller.
@@ -94,11 +103,11 @@ impl<'a> SharedPort<'a> {
             × ExtendsByPasses (passes_of pass.old) (seen pass.old) (seen pass.new)) }
         ensures busy { IfErr result (λ _. (view_of self.new ≡ view_of self.old) × (seen pass.new ≡ seen pass.old)) }
     {
-        meet_passes(self.engine, &mut self.pass, pass)
+        meet_passes(self.part.engine(), &mut self.pass, pass)
     }
 
-    /// Learns a notice, again while another caller has the controller, and counts it where it is of this completion
-    /// queue.
+    /// Learns a notice, again while another caller has the controller. It is counted where notices are, and it is of
+    /// this completion queue.
     pub(crate) fn hear<R: Wait>(&mut self, rt: &R, notice: Notice)
         requires { IsNoticeFor self.old notice }
         ensures saw { SawMore self.old self.new }
@@ -108,9 +117,9 @@ impl<'a> SharedPort<'a> {
     {
         let mut notice = notice;
         let queue = notice.queue();
-        learn_notice(rt, self.engine, &mut self.pass, &mut notice);
+        learn_notice(rt, self.part.engine(), &mut self.pass, &mut notice);
         if queue == self.queue {
-            self.counted = self.counted.saturating_add(1);
+            self.counted = count_one(self.counted);
         }
     }
 }

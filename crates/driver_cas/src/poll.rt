@@ -38,7 +38,7 @@ fn later_fault(fault: PortFault) -> Fault
     match fault {
         PortFault::Busy => Fault::Busy,
         PortFault::NoMemory => Fault::NoMemory,
-        PortFault::RingFull => unreachable!(),
+        PortFault::RingFull => Fault::RingFull,
     }
 }
 

@@ -1,60 +1,91 @@
 //! The port of one completion queue of a controller that callers share.
 
-ghost use Rattle.std.specs.Prelude.{◌≡◌, ◌≢◌, ◌≤◌, ◌⊎◌, IfErr, IfOk, None, Ok, length};
+ghost use Rattle.std.specs.Arc.{arc_value};
+ghost use Rattle.std.specs.Prelude.{◌≡◌, ◌≢◌, ◌≤◌, ◌⊎◌, IfErr, IfOk, None, Ok, Some, length};
 ghost use Rattle.nvme_model.specs.Kept.{ControllerInvariant};
 ghost use Rattle.nvme_model.specs.Legal.{IsLegal};
 ghost use Rattle.nvme_model.specs.Passes.{entries};
-ghost use Rattle.meet_lock.specs.Passes.{IsSame, Knows, config_of, mine, passes_of};
+ghost use Rattle.meet_lock.specs.Passes.{IsSame, Knows, config_of, mine, passes_of, seen};
 ghost use Rattle.work_queue.specs.Engines.{IsPassOfEngine};
 ghost use Rattle.driver_cas.specs.Made.{after_reap};
+ghost use Rattle.driver_cas.specs.Parts.{engine_in};
 ghost use Rattle.driver_cas.specs.Passes.{log_at, view_at};
 ghost use Rattle.driver_cas.specs.Reaps.{IsCounted, IsReapDeclined, IsReapFault, IsReapAnswered, cause_of, steps_with};
 
+use crate::engine_part::EnginePart;
 use crate::fault::PortFault;
 use crate::port::{Port, Reaped};
 use meet_lock::{Declined, Pass};
 use nvme_model::refusal::Why;
 use nvme_model::submission::Submissions;
+use std::sync::Arc;
 use step_core::{Core, Refused, Step};
 use work_queue::{Engine, Open, Opened};
 
 /// The port of one completion queue of an engine's controller and the submission queues that use it.
 #[derive(Drop)]
 pub struct SharedPort<'a> {
-    pub(crate) engine: &'a Engine,
+    pub(crate) part: EnginePart<'a>,
     pub(crate) pass: Pass<Core>,
     pub(crate) queue: u16,
-    // How many notices were counted whose completions aren't reaped.
-    pub(crate) counted: u64,
-    ghost own: { pass.seat.table_id ≡ engine.now.shared.table.shared.table_id },
+    // How many notices were counted whose completions aren't reaped; None where each Reap asks the controller.
+    pub(crate) counted: Option<u64>,
+    ghost own: { pass.seat.table_id ≡ (engine_in part).shared.table.shared.table_id },
     ghost legal: { IsLegal pass.seat.me.0.config (entries pass.seat.me.0.seen) },
     ghost there: { (1 ≤ queue) × (queue ≤ pass.seat.me.0.config.cqs) },
 }
 
-impl<'a> SharedPort<'a> {
-    ghost use Rattle.meet_lock.specs.Passes.{seen};
+// A port with this part of its engine, which counts notices from this number on, or asks.
+fn made(part: EnginePart<'_>, pass: Pass<Core>, queue: u16, counted: Option<u64>) -> SharedPort<'_>
+    requires own { IsPassOfEngine (engine_in part) pass }
+    requires there { (1 ≤ queue) × (queue ≤ (config_of pass).cqs) }
+    ensures engine { engine_in result.part ≡ engine_in part.entry }
+    ensures pass { IsSame pass result.pass × (seen result.pass ≡ seen pass) }
+    ensures queue { result.queue ≡ queue }
+    ensures counted { result.counted ≡ counted }
+{
+    let mut pass = pass;
+    part.engine().recall(&mut pass);
+    SharedPort {
+        part,
+        pass,
+        queue,
+        counted,
+    }
+}
 
-    /// The port of this completion queue, with a pass of the engine.
+impl<'a> SharedPort<'a> {
+    ghost use Rattle.driver_cas.specs.Ports.{counted_of, engine_of, pass_of, queue_of};
+
+    /// The port of this completion queue, with a pass of the engine. It asks for a completion where a notice told it of
+    /// one.
     pub fn new(engine: &'a Engine, pass: Pass<Core>, queue: u16) -> SharedPort<'a>
         requires own { IsPassOfEngine engine.now pass }
         requires there { (1 ≤ queue) × (queue ≤ (config_of pass).cqs) }
-        ensures pass { IsSame pass result.pass × (seen result.pass ≡ seen pass) }
-        ensures queue { result.queue ≡ queue }
-        ensures counted { result.counted ≡ 0 }
+        ensures pass { IsSame pass (pass_of result) × (seen (pass_of result) ≡ seen pass) }
+        ensures queue { queue_of result ≡ queue }
+        ensures engine { engine_of result ≡ engine.entry.now }
+        ensures counted { counted_of result ≡ Some 0 }
     {
-        let mut pass = pass;
-        engine.recall(&mut pass);
-        SharedPort {
-            engine,
-            pass,
-            queue,
-            counted: 0,
-        }
+        made(EnginePart::Lent(engine), pass, queue, Some(0))
+    }
+
+    /// The port of this completion queue, with a pass of the engine, of which it has a part. Each of its Reaps asks the
+    /// controller, so that nobody has to listen.
+    pub fn own(engine: Arc<Engine>, pass: Pass<Core>, queue: u16) -> SharedPort<'static>
+        requires own { IsPassOfEngine (arc_value engine) pass }
+        requires there { (1 ≤ queue) × (queue ≤ (config_of pass).cqs) }
+        ensures pass { IsSame pass (pass_of result) × (seen (pass_of result) ≡ seen pass) }
+        ensures queue { queue_of result ≡ queue }
+        ensures engine { engine_of result ≡ arc_value engine }
+        ensures counted { counted_of result ≡ None }
+    {
+        made(EnginePart::Own(engine), pass, queue, None)
     }
 
     /// The pass, given back.
     pub fn into_pass(self) -> Pass<Core>
-        ensures { result ≡ self.entry.pass }
+        ensures { result ≡ pass_of self.entry }
     {
         self.pass
     }
@@ -65,11 +96,10 @@ fn publish_fault(why: Why) -> PortFault
     requires { (why ≡ Why.NoRoom) ⊎ (why ≡ Why.NoMemory) }
     ensures { cause_of result ≡ why }
 {
-    match why {
-        Why::NoRoom => PortFault::RingFull,
-        Why::NoMemory => PortFault::NoMemory,
-        _ => unreachable!(),
+    if why == Why::NoRoom {
+        return PortFault::RingFull;
     }
+    PortFault::NoMemory
 }
 
 // Why a Reap wasn't made; None where there is no completion.
@@ -80,8 +110,7 @@ fn reap_fault(declined: &Declined) -> Option<PortFault>
     match declined {
         Declined::Busy(_) => Some(PortFault::Busy),
         Declined::Refused(Refused::Step(Why::NoCompletion)) => None,
-        Declined::Refused(Refused::Step(Why::NoMemory)) => Some(PortFault::NoMemory),
-        Declined::Refused(_) => unreachable!(),
+        Declined::Refused(_) => Some(PortFault::NoMemory),
     }
 }
 
@@ -99,6 +128,7 @@ fn try_reap(engine: &Engine, pass: &mut Pass<Core>, queue: u16) -> Result<Option
 {
     match engine.attempt_open(pass, Open::Reap(queue)) {
         Ok(opened) => {
+            // A Reap that was made is answered by its completion.
             let Opened::Reaped { cqe, payload } = opened else {
                 unreachable!();
             };
@@ -111,33 +141,36 @@ fn try_reap(engine: &Engine, pass: &mut Pass<Core>, queue: u16) -> Result<Option
     }
 }
 
+// How many notices are counted after a Reap that asked. One that found no completion forgets those that were counted:
+// none was unreaped at that moment, so one that is told of twice isn't asked for twice.
+fn count_after(counted: Option<u64>, reaped: &Option<Reaped>) -> Option<u64>
+    requires { counted ≢ Some 0 }
+    ensures { IsCounted counted result (Ok reaped.now) }
+{
+    let count = counted?;
+    Some(if reaped.is_some() { count - 1 } else { 0 })
+}
+
 impl<'a> SharedPort<'a> {
     ghost use Rattle.driver_calls.specs.Views.{log_of};
     ghost use Rattle.driver_cas.specs.Ports.{PortFollows, view_of};
 
-    // Reaps the next completion where a notice is counted whose completion isn't reaped; else it asks nothing.
+    // Reaps the next completion; where notices are counted and none is whose completion isn't reaped, it asks nothing.
     fn reap_counted(&mut self) -> Result<Option<Reaped>, PortFault>
         ensures later { PortFollows self.old self.new }
         ensures got { IfOk result (λ o. log_of (view_of self.new) ≡ after_reap o (log_of (view_of self.old))) }
         ensures fault { IfErr result (λ f. (log_of (view_of self.new) ≡ log_of (view_of self.old))
             × (f ≢ PortFault.RingFull)) }
-        ensures cause { self.old.counted ≢ 0 →
+        ensures cause { self.old.counted ≢ Some 0 →
             IsReapAnswered (passes_of self.old.pass) (view_of self.old) (view_of self.new) result }
-        ensures idle { self.old.counted ≡ 0 → (result ≡ Ok None) × (self.new ≡ self.old) }
+        ensures idle { self.old.counted ≡ Some 0 → (result ≡ Ok None) × (self.new ≡ self.old) }
         ensures counted { IsCounted self.old.counted self.new.counted result }
     {
-        if self.counted == 0 {
+        if let Some(0) = self.counted {
             return Ok(None);
         }
-        let reaped = try_reap(self.engine, &mut self.pass, self.queue)?;
-
-        // A Reap that found no completion forgets the notices that were counted: none was unreaped
-        // at that moment, so one that is told of twice isn't asked for twice.
-        self.counted = if reaped.is_some() {
-            self.counted - 1
-        } else {
-            0
-        };
+        let reaped = try_reap(self.part.engine(), &mut self.pass, self.queue)?;
+        self.counted = count_after(self.counted, &reaped);
         Ok(reaped)
     }
 }
@@ -167,7 +200,8 @@ impl<'a> Port for SharedPort<'a> {
 
     fn publish(&mut self, queue: u16, batch: Submissions) -> Result<(), (PortFault, Submissions)> {
         match self
-            .engine
+            .part
+            .engine()
             .attempt_open(&mut self.pass, Open::Publish(queue, batch))
         {
             Ok(_) => Ok(()),
@@ -176,6 +210,7 @@ impl<'a> Port for SharedPort<'a> {
                 publish_fault(why),
                 batch,
             )),
+            // A Publish that wasn't made hands its batch back.
             Err(_) => unreachable!(),
         }
     }
@@ -189,6 +224,7 @@ impl<'a> Port for SharedPort<'a> {
       same_passes = refl;
       view = follows_self (view_of a);
       sole = refl;
+      asks = λ x. x;
     } };
 
     ghost goes_on = { λ a b c x y. record {
@@ -196,6 +232,7 @@ impl<'a> Port for SharedPort<'a> {
       same_passes = y.same_passes ∙ x.same_passes;
       view = follows_on (view_of a) (view_of b) (view_of c) x.view y.view;
       sole = let h = x.sole in let k = y.sole in omega arith;
+      asks = λ h. y.asks (x.asks h);
     } };
 
     ghost sole = { λ a b x. x.sole };

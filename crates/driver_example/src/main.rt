@@ -57,10 +57,9 @@ fn listens<R: Wait, G>(rt: &R, system: &System<G>, host: &mut QueueHost<'_>)
             .driver
             .listen(rt, &system.notices[0], &mut host.notices)
         {
-            return;
+            break;
         }
     }
-    unreachable!()
 }
 
 // What a call is answered, in words, once the commands of submission queue 1 are served.

@@ -1,20 +1,8 @@
--- What becomes of a host's calls, what is fetched, and that there are completion queues.
-use Rattle.std.proofs.Common.{◌≡◌, ℕ, ◌<◌, ◌∙◌, Err, None, Ok, Option, Result, ap, arith, eqb, false, inl, inr, is_none}
+-- What becomes of a host's calls.
+use Rattle.std.proofs.Common.{◌≡◌, ℕ, ◌∙◌, Err, None, Ok, Option, Result, inl, inr}
 use Rattle.std.proofs.Common.{subst, sym}
 use Rattle.std.specs.Prelude.{IfOk, IfSome}
-use Rattle.std.proofs.lemmas.Bool.{or_parts}
-use Rattle.std.proofs.lemmas.Bool.Decides.{nat_tests}
-use Rattle.nvme_model.specs.Config.{config_fault, config_faults}
-use Rattle.nvme_model.specs.declared.config.ConfigNumbers.{ConfigNumbers}
-use Rattle.nvme_model.specs.declared.entry.Entry.{Entry}
-use Rattle.nvme_model.proofs.Accepted.{accepted}
 use Rattle.nvme_model.specs.declared.operation.Op.{Op}
-use Rattle.controller_interface.specs.declared.answer.Answer.{Answer}
-use Rattle.work_queue.specs.Engines.{EnginePass, IsOpened, IsWorkOf, OpenedAs}
-use Rattle.work_queue.specs.declared.engine.Engine.{Engine}
-use Rattle.work_queue.specs.declared.engine.Open.{Open}
-use Rattle.work_queue.specs.declared.engine.Opened.TheVariants as opened
-use Rattle.work_queue.specs.declared.work.Work.{Work}
 use Rattle.driver_calls.specs.declared.request.CallData.{CallData}
 use Rattle.driver_calls.specs.declared.request.Request.{Request}
 use Rattle.driver_cas.specs.Drivers.{SharesNoCid, IsBack, IsCallBack, IsCallOf, IsSameDriver, area_of}
@@ -26,38 +14,18 @@ use Rattle.driver_cas.specs.declared.fault.Fault.{Fault}
 use Rattle.driver_cas.specs.declared.port.Port.{Ghosts}
 use Rattle.driver_cas.specs.declared.shared_port.SharedPort.{SharedPort}
 use Rattle.driver_testing.specs.Calls.{IsCallAsked, IsNewCall, Polls, given_back}
-use Rattle.driver_testing.specs.declared.bench.BenchHost.{BenchHost}
+use Rattle.driver_testing.specs.declared.host.TestHost.{TestHost}
 use Rattle.slot_alloc.specs.SlotRules.{DriverContinues, KeepsSlotRules}
 
 -- ---- calls
 
-pub polls_on : (h i m : BenchHost) (k n : Call SharedPort) → n ≡ k → Polls h i k → Polls i m n → Polls h m k
+pub polls_on : (h i m : TestHost) (k n : Call SharedPort) → n ≡ k → Polls h i k → Polls i m n → Polls h m k
 polls_on h i m k n e x y =
     record {
       same = (y.same.0 ∙ x.same.0, y.same.1 ∙ x.same.1);
       others = λ j of apart. y.others j (x.others j of apart)
           (subst (λ (c : Call SharedPort). SharesNoCid c j) (sym e) apart);
     }
-
--- ---- what is fetched
-
-by_answer : (eng : Engine) (q : EnginePass) (e : Entry) (a : Answer) (w : Work) → IsOpened eng q e a (opened.Fetched w)
-    → IsWorkOf eng w
-by_answer eng q e Answer.Published w h = absurd h
-by_answer eng q e (Answer.Fetched x) w h = h.1
-by_answer eng q e (Answer.Blocked d) w h = absurd h
-by_answer eng q e (Answer.Granted u r m) w h = absurd h
-by_answer eng q e (Answer.Posted c) w h = absurd h
-by_answer eng q e (Answer.Reaped c p) w h = absurd h
-
-pub fetched_of : (eng : Engine) (p q : EnginePass) (o : Open) (w : Work) → OpenedAs eng p q o (opened.Fetched w)
-    → IsWorkOf eng w
-fetched_of eng p q o w h = by_answer eng q h.by.entry h.answer w h.is
-
--- ---- completion queues
-
-pub some_queues : (c : ConfigNumbers) → config_fault c ≡ None → 0 < c.cqs
-some_queues c e = (accepted c e).some_cqs
 
 -- ---- calls of any port
 

@@ -11,9 +11,9 @@ use Rattle.driver_cas.specs.declared.shared_port.SharedPort.{SharedPort}
 use Rattle.work_queue.specs.QueuePasses.{IsPassOfQueue, lock_of_pass}
 use Rattle.work_queue.specs.declared.notice.Notice.{Notice}
 use Rattle.work_queue.specs.declared.queue.QueuePass.{QueuePass}
-use Rattle.driver_testing.specs.Benches.{IsBenchHost, uses}
-use Rattle.driver_testing.specs.declared.bench.Bench.{Bench}
-use Rattle.driver_testing.specs.declared.bench.BenchHost.{BenchHost}
+use Rattle.driver_testing.specs.Hosts.{IsTestHost, uses}
+use Rattle.shared_system.specs.declared.plain.PlainSystem.{PlainSystem}
+use Rattle.driver_testing.specs.declared.host.TestHost.{TestHost}
 use Rattle.slot_alloc.specs.SlotRules.{KeepsSlotRules}
 use Rattle.slot_alloc.specs.Claims.{IsClaimingOf, IsHeldBy, IsReleasingOf, IsUnreleased}
 use Rattle.slot_alloc.specs.declared.claiming.Claiming.{Claiming}
@@ -36,7 +36,7 @@ uses_own c h qs l m e is =
 
 -- ---- after a Read was begun
 
-pub read_ready : (b : Bench) (s : Slots) (h i : BenchHost) → IsClaimantReady b s h → IsSameDriver h.driver i.driver
+pub read_ready : (b : PlainSystem) (s : Slots) (h i : TestHost) → IsClaimantReady b s h → IsSameDriver h.driver i.driver
     → PortFollows (port_of h.driver) (port_of i.driver) → i.place ≡ h.place
     → (KeepsSlotRules h.driver → KeepsSlotRules i.driver)
     → IsClaimantReady b s i
@@ -47,9 +47,9 @@ read_ready b s h i ready same later place kept =
       slot_rules = kept ready.slot_rules;
     }
   where
-    moved : (b : Bench) (h i : BenchHost) → PortFollows (port_of h.driver) (port_of i.driver) → i.place ≡ h.place
-        → IsBenchHost b h
-        → IsBenchHost b i
+    moved : (b : PlainSystem) (h i : TestHost) → PortFollows (port_of h.driver) (port_of i.driver) → i.place ≡ h.place
+        → IsTestHost b h
+        → IsTestHost b i
     moved b h i later place of = (
       (
         subst (λ (p : QueuePass Notice). IsPassOfQueue b.notices p) (sym place) of.0.0,
@@ -62,7 +62,7 @@ read_ready b s h i ready same later place kept =
 -- ---- what was begun
 
 -- by what its driver keeps of what it began
-pub begun_on : (h i : BenchHost) (stage : ClaimantStage) → ((c : Claim) → IsHeldBy h.driver c → IsHeldBy i.driver c)
+pub begun_on : (h i : TestHost) (stage : ClaimantStage) → ((c : Claim) → IsHeldBy h.driver c → IsHeldBy i.driver c)
     → ((k : Claiming SharedPort _) → IsClaimingOf h.driver k → IsClaimingOf i.driver k)
     → ((k : Claiming SharedPort _) → IsClaimingOf h.driver k → IsUnreleased h.driver k → IsUnreleased i.driver k)
     → ((k : Releasing SharedPort) → IsReleasingOf h.driver k → IsReleasingOf i.driver k) → IsClaimantBegun h stage

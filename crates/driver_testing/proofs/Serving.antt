@@ -16,9 +16,8 @@ use Rattle.work_queue.specs.declared.engine.Engine.{Engine}
 use Rattle.work_queue.specs.declared.engine.Open.TheVariants as opening
 use Rattle.work_queue.specs.declared.engine.Opened.{Opened}
 use Rattle.work_queue.specs.declared.task.Task.{Task}
-use Rattle.work_queue.specs.declared.task.Task.TheVariants as task
-use Rattle.driver_testing.specs.Benches.{ServesOn}
-use Rattle.driver_testing.specs.declared.bench.Server.{Server}
+use Rattle.driver_testing.specs.Hosts.{ServesOn}
+use Rattle.shared_system.specs.declared.plain.PlainCaller.{PlainCaller}
 use Rattle.shared_system.specs.Servers.{IsServing}
 use Rattle.shared_system.proofs.Servers.{declined, stepped}
 use Rattle.shared_system.proofs.Going.{task_serves}
@@ -41,5 +40,5 @@ worked_serves p q w v k t its was (Ok a) same knows ok err x =
 worked_serves p q w v k t its was (Err d) same knows ok err x = declined p q (task_step k t) d same knows err.0 x
 
 -- first one, then the other
-pub serves_through : (s m t : Server) → ServesOn s m → ServesOn m t → ServesOn s t
+pub serves_through : (s m t : PlainCaller) → ServesOn s m → ServesOn m t → ServesOn s t
 serves_through s m t x y = ((y.0.0 ∙ x.0.0, y.0.1 ∙ x.0.1, y.0.2 ∙ x.0.2, y.0.3 ∙ x.0.3), λ h. y.1 (x.1 h))

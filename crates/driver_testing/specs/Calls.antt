@@ -11,7 +11,7 @@ use Rattle.driver_cas.specs.declared.driver.Driver.{Driver}
 use Rattle.driver_cas.specs.declared.fault.Fault.{Fault}
 use Rattle.driver_cas.specs.declared.port.Port.{Ghosts}
 use Rattle.driver_cas.specs.declared.shared_port.SharedPort.{SharedPort}
-use Rattle.driver_testing.specs.declared.bench.BenchHost.{BenchHost}
+use Rattle.driver_testing.specs.declared.host.TestHost.{TestHost}
 
 module _ {P : Type 0} {g : Ghosts P} where
   -- one of the start calls for data was made, and answered so
@@ -31,21 +31,21 @@ module _ {P : Type 0} {g : Ghosts P} where
   IsNewCall d e k = IsCallOf e k × ((j : Call P) → IsCallOf d j → SharesNoCid k j)
 
 -- the host is of the same engine, with the same pass of the queue
-abbrev pub IsSameHost : BenchHost → BenchHost → Type 0
+abbrev pub IsSameHost : TestHost → TestHost → Type 0
 IsSameHost h i = IsOfSameEngine (port_of h.driver) (port_of i.driver) × (i.place ≡ h.place)
 
 -- all its calls stay its calls
-abbrev pub KeepsCalls : BenchHost → BenchHost → Type 0
+abbrev pub KeepsCalls : TestHost → TestHost → Type 0
 KeepsCalls h i = StayCalls h.driver i.driver
 
 -- a call that was begun is the host's, and apart from all that it had, which stay
-pub record Begins (h i : BenchHost) (r : Result (Call SharedPort) Fault) : Type 0 where
+pub record Begins (h i : TestHost) (r : Result (Call SharedPort) Fault) : Type 0 where
   pub same : IsSameHost h i
   pub keeps : KeepsCalls h i
   pub call : IfOk r (IsNewCall h.driver i.driver)
 
 -- after a poll those that are apart from the call stay
-pub record Polls (h i : BenchHost) (k : Call SharedPort) : Type 0 where
+pub record Polls (h i : TestHost) (k : Call SharedPort) : Type 0 where
   pub same : IsSameHost h i
   pub others : (j : Call SharedPort) → IsCallOf h.driver j → SharesNoCid k j → IsCallOf i.driver j
 

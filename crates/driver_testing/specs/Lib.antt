@@ -1,4 +1,4 @@
-pub mod Benches
 pub mod Calls
 pub mod Claimants
 pub mod Fakes
+pub mod Hosts

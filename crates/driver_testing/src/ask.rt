@@ -4,13 +4,14 @@ ghost use Rattle.std.specs.Prelude.{◌≡◌, IfOk, IfSome};
 ghost use Rattle.driver_cas.specs.Drivers.{SharesNoCid, IsCallOf, IsSameDriver, port_of};
 ghost use Rattle.driver_cas.specs.Starts.{IsUntouched};
 ghost use Rattle.driver_cas.specs.declared.call.Call.{Call};
-ghost use Rattle.driver_testing.specs.Benches.{IsBenchHost};
+ghost use Rattle.driver_testing.specs.Hosts.{IsTestHost};
 ghost use Rattle.driver_testing.specs.Calls.{Begins, IsCallAsked, IsNewCall, KeepsCalls, Polls, StayCalls, given_back};
 ghost use Rattle.slot_alloc.specs.SlotRules.{KeepsSlotRules};
 
-use crate::bench::{Bench, BenchHost};
+use crate::host::TestHost;
 use driver_cas::laws::{a_start_keeps_the_other_calls, an_untouched_driver_stays_so};
 use driver_cas::{Call, Driver, Fault, Poll, Port, Reply, SharedPort};
+use shared_system::PlainSystem;
 use slot_alloc::laws::other_calls_touch_no_slot;
 use std::snapshot::Snapshot;
 use std::sync::Wait;
@@ -72,7 +73,13 @@ fn in_words(reply: &Reply) -> AnswerWords {
 fn fault_in_words(fault: Fault) -> AnswerWords {
     match fault {
         Fault::Status(status) => AnswerWords::Failed(status.sct(), status.sc()),
-        _ => AnswerWords::Faulty,
+        Fault::Length
+        | Fault::TooLong
+        | Fault::RingFull
+        | Fault::Busy
+        | Fault::NoMemory
+        | Fault::SlotArea
+        | Fault::NoSerial => AnswerWords::Faulty,
     }
 }
 
@@ -160,7 +167,7 @@ pub fn polled<P: Port>(driver: &mut Driver<P>, call: Call<P>) -> (AnswerWords, O
 /// # Errors
 ///
 /// What the driver answers; the calls stay.
-pub fn starts<'a>(host: &mut BenchHost<'a>, ask: Ask) -> Result<Call<SharedPort<'a>>, Fault>
+pub fn starts<'a>(host: &mut TestHost<'a>, ask: Ask) -> Result<Call<SharedPort<'a>>, Fault>
     ensures { Begins host.old host.new result }
 {
     begins(&mut host.driver, ask)
@@ -168,7 +175,7 @@ pub fn starts<'a>(host: &mut BenchHost<'a>, ask: Ask) -> Result<Call<SharedPort<
 
 /// Polls a call once.
 pub fn polls<'a>(
-    host: &mut BenchHost<'a>,
+    host: &mut TestHost<'a>,
     call: Call<SharedPort<'a>>,
 ) -> (AnswerWords, Option<Call<SharedPort<'a>>>)
     requires { IsCallOf host.old.driver call }
@@ -179,7 +186,7 @@ pub fn polls<'a>(
 }
 
 /// Polls a call until it is answered, at most so many times.
-pub fn answers<'a>(host: &mut BenchHost<'a>, call: Call<SharedPort<'a>>, most: u32) -> AnswerWords
+pub fn answers<'a>(host: &mut TestHost<'a>, call: Call<SharedPort<'a>>, most: u32) -> AnswerWords
     requires { IsCallOf host.old.driver call }
     ensures { Polls host.old host.new call.entry }
 {
@@ -195,9 +202,9 @@ pub fn answers<'a>(host: &mut BenchHost<'a>, call: Call<SharedPort<'a>>, most: u
 }
 
 /// Learns all notices that are there; how many.
-pub fn hears<R: Wait>(rt: &R, bench: &Bench, host: &mut BenchHost<'_>) -> u32
-    requires { IsBenchHost bench.now host.old }
-    ensures same { IsBenchHost bench.now host.new }
+pub fn hears<R: Wait>(rt: &R, system: &PlainSystem, host: &mut TestHost<'_>) -> u32
+    requires { IsTestHost system.now host.old }
+    ensures same { IsTestHost system.now host.new }
     ensures calls { KeepsCalls host.old host.new }
     ensures untouched { IsUntouched host.old.driver host.new.driver }
 {
@@ -205,12 +212,13 @@ pub fn hears<R: Wait>(rt: &R, bench: &Bench, host: &mut BenchHost<'_>) -> u32
     let mut count: u32 = 0;
     for _ in rt.forever() {
         let now = Snapshot::of(&host.driver);
-        let took = host.driver.listen(rt, &bench.notices, &mut host.place);
+        let took = host.driver.listen(rt, &system.notices, &mut host.place);
         an_untouched_driver_stays_so(&before, &now, &host.driver);
         if !took {
             return count;
         }
         count = count.wrapping_add(1);
     }
+    // The loop ends by its return alone.
     unreachable!()
 }

@@ -1,17 +1,18 @@
 //! A host that claims slots, and what it has begun.
 
 ghost use Rattle.std.specs.Prelude.{◌≡◌, ◌<◌, ◌≤◌, ◌∷◌, [], IfOk, IfSome};
-ghost use Rattle.driver_testing.specs.Benches.{AreBenchSpares, IsServerOf};
+ghost use Rattle.shared_system.specs.Plain.{ArePlainCallers, IsPlainCallerOf};
 ghost use Rattle.slot_alloc.specs.Areas.{area};
 ghost use Rattle.slot_alloc.specs.Claims.{IsClaimingOf, IsReleasingOf, IsUnreleased};
 ghost use Rattle.driver_cas.specs.Starts.{IsUntouched};
 ghost use Rattle.driver_testing.specs.Claimants.{IsClaimantBegun, IsClaimant, IsClaimantReady};
-ghost use Rattle.driver_testing.specs.declared.bench.BenchHost.{BenchHost};
+ghost use Rattle.driver_testing.specs.declared.host.TestHost.{TestHost};
 ghost use Rattle.driver_testing.specs.declared.claimant.ClaimantStage.{ClaimantStage};
 
-use crate::bench::{Bench, BenchHost, BenchSpares, Server, caller_of, host_of};
+use crate::host::{TestHost, host_of};
 use driver_cas::{Driver, Fault, SharedPort};
 use nvme_model::array::Range;
+use shared_system::{PlainCaller, PlainCallers, PlainSystem, take_caller};
 use slot_alloc::laws::an_untouched_driver_keeps_its_slots;
 use slot_alloc::{Claim, Claiming, Progress, Released, Releasing, Slots, poll_claim, poll_release};
 use std::alloc::{AllocError as NoMemory, Global};
@@ -51,14 +52,14 @@ pub enum ClaimantStage<'a> {
 /// A host that claims slots, on the submission queue of this number.
 #[derive(Drop)]
 pub struct Claimant<'a> {
-    pub host: BenchHost<'a>,
+    pub host: TestHost<'a>,
     pub queue: u16,
     pub stage: ClaimantStage<'a>,
 }
 
 /// What a host has begun stays so where its driver did nothing.
-pub(crate) fn begun_stays<'a>(before: &Snapshot<Driver<SharedPort<'a>>>, host: &BenchHost<'a>)
-    ensures { (h : BenchHost) → before.now.value ≡ h.driver → IsUntouched h.driver host.now.driver
+pub(crate) fn begun_stays<'a>(before: &Snapshot<Driver<SharedPort<'a>>>, host: &TestHost<'a>)
+    ensures { (h : TestHost) → before.now.value ≡ h.driver → IsUntouched h.driver host.now.driver
         → (stage : ClaimantStage) →
         IsClaimantBegun h stage → IsClaimantBegun host.now stage }
 {
@@ -68,17 +69,17 @@ pub(crate) fn begun_stays<'a>(before: &Snapshot<Driver<SharedPort<'a>>>, host: &
 /// Host h, on queue h, with so many slots from block 0 on, which has begun nothing; None where memory is refused.
 pub fn claimant_of<'a>(
     alloc: Global,
-    bench: &'a Bench,
-    caller: Server,
+    system: &'a PlainSystem,
+    caller: PlainCaller,
     h: u16,
     _slots: &Slots,
     count: u32,
 ) -> Option<Claimant<'a>>
-    requires caller { IsServerOf bench.now caller }
-    requires number { (1 ≤ h) × (h ≤ bench.now.config.pairs) }
-    requires own { bench.now.config.cqs ≡ bench.now.config.pairs }
+    requires caller { IsPlainCallerOf system.now caller }
+    requires number { (1 ≤ h) × (h ≤ system.now.config.pairs) }
+    requires own { system.now.config.cqs ≡ system.now.config.pairs }
     requires slots { (area _slots.now ≡ record { slba = 0; blocks = count }) × (count ≤ 65536) }
-    ensures { IfSome result (IsClaimant bench.entry.now _slots.now) }
+    ensures { IfSome result (IsClaimant system.entry.now _slots.now) }
 {
     let Ok(queues) = queues_of(alloc, h) else {
         return None;
@@ -87,7 +88,7 @@ pub fn claimant_of<'a>(
         slba: 0,
         blocks: count,
     };
-    let host = host_of(alloc, bench, caller, u32::from(h), range, h, queues)?;
+    let host = host_of(alloc, system, caller, u32::from(h), range, h, queues)?;
     Some(Claimant {
         host,
         queue: h,
@@ -98,23 +99,23 @@ pub fn claimant_of<'a>(
 /// A server, and hosts 1 and 2 with so many slots from block 0 on; None where memory is refused or no pass is left.
 pub fn claimants_of<'a>(
     alloc: Global,
-    bench: &'a Bench,
-    spares: &mut BenchSpares,
+    system: &'a PlainSystem,
+    spares: &mut PlainCallers,
     slots: &Slots,
     count: u32,
-) -> Option<(Server, Claimant<'a>, Claimant<'a>)>
-    requires own { AreBenchSpares bench.now spares.old }
-    requires queues { (bench.now.config.pairs ≡ 2) × (bench.now.config.cqs ≡ 2) }
+) -> Option<(PlainCaller, Claimant<'a>, Claimant<'a>)>
+    requires own { ArePlainCallers system.now spares.old }
+    requires queues { (system.now.config.pairs ≡ 2) × (system.now.config.cqs ≡ 2) }
     requires slots { (area slots.now ≡ record { slba = 0; blocks = count }) × (count ≤ 65536) }
-    ensures server { IfSome result (λ h. IsServerOf bench.entry.now h.0) }
-    ensures one { IfSome result (λ h. IsClaimant bench.entry.now slots.now h.1) }
-    ensures two { IfSome result (λ h. IsClaimant bench.entry.now slots.now h.2) }
+    ensures server { IfSome result (λ h. IsPlainCallerOf system.entry.now h.0) }
+    ensures one { IfSome result (λ h. IsClaimant system.entry.now slots.now h.1) }
+    ensures two { IfSome result (λ h. IsClaimant system.entry.now slots.now h.2) }
 {
-    let server = caller_of(bench, spares)?;
-    let one = caller_of(bench, spares)?;
-    let two = caller_of(bench, spares)?;
-    let one = claimant_of(alloc, bench, one, 1, slots, count)?;
-    let two = claimant_of(alloc, bench, two, 2, slots, count)?;
+    let server = take_caller(system, spares)?;
+    let one = take_caller(system, spares)?;
+    let two = take_caller(system, spares)?;
+    let one = claimant_of(alloc, system, one, 1, slots, count)?;
+    let two = claimant_of(alloc, system, two, 2, slots, count)?;
     Some((server, one, two))
 }
 
@@ -148,14 +149,14 @@ pub enum Came {
 
 // Begins to claim this slot or, where it names none, any.
 fn begins<'a>(
-    _bench: &Bench,
+    _system: &PlainSystem,
     slots: &Slots,
-    host: &mut BenchHost<'a>,
+    host: &mut TestHost<'a>,
     slot: Option<u32>,
 ) -> Result<Claiming<SharedPort<'a>>, Fault>
-    requires ready { IsClaimantReady _bench.now slots.now host.old }
+    requires ready { IsClaimantReady _system.now slots.now host.old }
     requires slot { IfSome slot (λ i. i < (area slots.now).blocks) }
-    ensures ready { IsClaimantReady _bench.now slots.now host.new }
+    ensures ready { IsClaimantReady _system.now slots.now host.new }
     ensures claiming { IfOk result (λ k. IsClaimingOf host.new.driver k × IsUnreleased host.new.driver k) }
 {
     match slot {
@@ -165,13 +166,18 @@ fn begins<'a>(
 }
 
 /// Begins to claim this slot, or any, where nothing is begun.
-pub fn asks(bench: &Bench, slots: &Slots, claimant: &mut Claimant<'_>, slot: Option<u32>) -> Came
-    requires claimant { IsClaimant bench.now slots.now claimant.old }
+pub fn asks(
+    system: &PlainSystem,
+    slots: &Slots,
+    claimant: &mut Claimant<'_>,
+    slot: Option<u32>,
+) -> Came
+    requires claimant { IsClaimant system.now slots.now claimant.old }
     requires slot { IfSome slot (λ i. i < (area slots.now).blocks) }
-    ensures { IsClaimant bench.now slots.now claimant.new }
+    ensures { IsClaimant system.now slots.now claimant.new }
 {
     let (stage, came) = match mem::replace(&mut claimant.stage, ClaimantStage::Idle) {
-        ClaimantStage::Idle => match begins(bench, slots, &mut claimant.host, slot) {
+        ClaimantStage::Idle => match begins(system, slots, &mut claimant.host, slot) {
             Ok(claiming) => (ClaimantStage::Claiming(claiming), Came::Begun),
             Err(fault) => (ClaimantStage::Idle, Came::Refused(fault)),
         },
@@ -184,9 +190,9 @@ pub fn asks(bench: &Bench, slots: &Slots, claimant: &mut Claimant<'_>, slot: Opt
 }
 
 /// Begins to release the slot that is held, if one is.
-pub fn gives_back(_bench: &Bench, slots: &Slots, claimant: &mut Claimant<'_>) -> Came
-    requires { IsClaimant _bench.now slots.now claimant.old }
-    ensures { IsClaimant _bench.now slots.now claimant.new }
+pub fn gives_back(_system: &PlainSystem, slots: &Slots, claimant: &mut Claimant<'_>) -> Came
+    requires { IsClaimant _system.now slots.now claimant.old }
+    ensures { IsClaimant _system.now slots.now claimant.new }
 {
     let (stage, came) = match mem::replace(&mut claimant.stage, ClaimantStage::Idle) {
         ClaimantStage::Holding(kept) => match slots.release(
@@ -209,14 +215,14 @@ pub fn gives_back(_bench: &Bench, slots: &Slots, claimant: &mut Claimant<'_>) ->
 
 // What has come of a claim.
 fn polled_claim<'a>(
-    _bench: &Bench,
+    _system: &PlainSystem,
     _slots: &Slots,
-    host: &mut BenchHost<'a>,
+    host: &mut TestHost<'a>,
     claiming: Claiming<SharedPort<'a>>,
 ) -> (ClaimantStage<'a>, Came)
-    requires ready { IsClaimantReady _bench.now _slots.now host.old }
+    requires ready { IsClaimantReady _system.now _slots.now host.old }
     requires of { IsClaimingOf host.old.driver claiming × IsUnreleased host.old.driver claiming }
-    ensures ready { IsClaimantReady _bench.now _slots.now host.new }
+    ensures ready { IsClaimantReady _system.now _slots.now host.new }
     ensures begun { IsClaimantBegun host.new result.0 }
 {
     match poll_claim(&mut host.driver, claiming) {
@@ -237,14 +243,14 @@ fn polled_claim<'a>(
 
 // What has come of a release.
 fn polled_release<'a>(
-    _bench: &Bench,
+    _system: &PlainSystem,
     _slots: &Slots,
-    host: &mut BenchHost<'a>,
+    host: &mut TestHost<'a>,
     releasing: Releasing<SharedPort<'a>>,
 ) -> (ClaimantStage<'a>, Came)
-    requires ready { IsClaimantReady _bench.now _slots.now host.old }
+    requires ready { IsClaimantReady _system.now _slots.now host.old }
     requires of { IsReleasingOf host.old.driver releasing }
-    ensures ready { IsClaimantReady _bench.now _slots.now host.new }
+    ensures ready { IsClaimantReady _system.now _slots.now host.new }
     ensures begun { IsClaimantBegun host.new result.0 }
 {
     match poll_release(&mut host.driver, releasing) {
@@ -259,19 +265,19 @@ fn polled_release<'a>(
 }
 
 /// Polls what is begun, once.
-pub fn polls_begun(bench: &Bench, slots: &Slots, claimant: &mut Claimant<'_>) -> Came
-    requires { IsClaimant bench.now slots.now claimant.old }
-    ensures { IsClaimant bench.now slots.now claimant.new }
+pub fn polls_begun(system: &PlainSystem, slots: &Slots, claimant: &mut Claimant<'_>) -> Came
+    requires { IsClaimant system.now slots.now claimant.old }
+    ensures { IsClaimant system.now slots.now claimant.new }
 {
     let (stage, came) = match mem::replace(&mut claimant.stage, ClaimantStage::Idle) {
         ClaimantStage::Claiming(claiming) => polled_claim(
-            bench,
+            system,
             slots,
             &mut claimant.host,
             claiming,
         ),
         ClaimantStage::Releasing(releasing) => polled_release(
-            bench,
+            system,
             slots,
             &mut claimant.host,
             releasing,
@@ -285,9 +291,13 @@ pub fn polls_begun(bench: &Bench, slots: &Slots, claimant: &mut Claimant<'_>) ->
 
 /// The slot that the host held and the serial of its claim, if it held one, which stays held. What was begun is
 /// dropped.
-pub fn leaves(_bench: &Bench, _slots: &Slots, claimant: &mut Claimant<'_>) -> Option<(u32, u64)>
-    requires { IsClaimant _bench.now _slots.now claimant.old }
-    ensures { IsClaimant _bench.now _slots.now claimant.new }
+pub fn leaves(
+    _system: &PlainSystem,
+    _slots: &Slots,
+    claimant: &mut Claimant<'_>,
+) -> Option<(u32, u64)>
+    requires { IsClaimant _system.now _slots.now claimant.old }
+    ensures { IsClaimant _system.now _slots.now claimant.new }
 {
     match mem::replace(&mut claimant.stage, ClaimantStage::Idle) {
         ClaimantStage::Holding(kept) => Some(kept.into_claim().leave()),

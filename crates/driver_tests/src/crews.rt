@@ -1,129 +1,79 @@
-//! A fetcher and a worker, each with a pass of its own, and a queue of works between them.
+//! A fetcher and a worker, each with passes of its own.
 
-ghost use Rattle.std.specs.Prelude.{◌≡◌, All, IfOk, IfSome};
-ghost use Rattle.work_queue.specs.QueuePasses.{IsPlaceOf};
-ghost use Rattle.driver_testing.specs.Benches.{AreBenchSpares, IsServerOf};
-ghost use Rattle.driver_tests.specs.Crews.{AreCrewOf, IsBenchWork};
+ghost use Rattle.std.specs.Prelude.{IfOk, IfSome};
+ghost use Rattle.driver_tests.specs.Crews.{AreCrewOf};
+ghost use Rattle.shared_system.specs.Plain.{ArePlainCallers, IsFreshWork, IsPlainCallerOf};
 
-use driver_testing::{Bench, BenchSpares, Server, caller_of, ends};
-use lock_testing::number;
+use driver_testing::ends;
+use lock_testing::{number, open, pops, pushes};
 use meet_lock::Declined;
+use shared_system::{PlainCaller, PlainCallers, PlainSystem, take_caller};
 use std::process::Abort;
 use std::sync::Wait;
 use std::test::Fail;
-use work_queue::{Open, Opened, QueuePass, Work, WorkQueue};
+use work_queue::{Open, Opened, Work};
 
 /// A fetcher, which pushes what it fetches, and a worker, which pops it.
 #[derive(Drop)]
 pub(crate) struct ServerPair {
-    pub(crate) fetcher: Server,
-    pub(crate) into: QueuePass<Work>,
-    pub(crate) worker: Server,
-    pub(crate) out: QueuePass<Work>,
+    pub(crate) fetcher: PlainCaller,
+    pub(crate) worker: PlainCaller,
 }
 
-// The next of these passes.
-fn place_of(
-    bench: &Bench,
-    works: &WorkQueue,
-    places: &mut Vec<QueuePass<Work>>,
-) -> Result<QueuePass<Work>, Fail>
-    requires { All (IsPlaceOf bench.now.engine works.now) places.old.items }
-    ensures rest { All (IsPlaceOf bench.now.engine works.now) places.new.items }
-    ensures place { IfOk result (IsPlaceOf bench.now.engine works.now) }
+/// Two of these callers.
+pub(crate) fn crew_of(system: &PlainSystem, spares: &mut PlainCallers) -> Result<ServerPair, Fail>
+    requires { ArePlainCallers system.now spares.old }
+    ensures rest { ArePlainCallers system.now spares.new }
+    ensures crew { IfOk result (λ c. AreCrewOf system.now c.fetcher c.worker) }
 {
-    // (named by the contract alone)
-    let _ = bench;
-    let _ = works;
-    match places.pop() {
-        Some(place) => Ok(place),
-        None => Err(Fail::from("a pass of the queue of works")),
-    }
-}
-
-/// A crew with two of these passes.
-pub(crate) fn crew_of(
-    bench: &Bench,
-    spares: &mut BenchSpares,
-    works: &WorkQueue,
-    places: &mut Vec<QueuePass<Work>>,
-) -> Result<ServerPair, Fail>
-    requires own { AreBenchSpares bench.now spares.old }
-    requires places { All (IsPlaceOf bench.now.engine works.now) places.old.items }
-    ensures rest { AreBenchSpares bench.now spares.new }
-    ensures crew { IfOk result (λ c. AreCrewOf bench.now works.now c.fetcher c.into c.worker c.out) }
-{
-    let into = place_of(bench, works, places)?;
-    let out = place_of(bench, works, places)?;
-    let fetcher = caller_of(bench, spares).ok_or("a fetcher")?;
-    let worker = caller_of(bench, spares).ok_or("a worker")?;
-    Ok(ServerPair {
-        fetcher,
-        into,
-        worker,
-        out,
-    })
+    let fetcher = take_caller(system, spares).ok_or("a fetcher")?;
+    let worker = take_caller(system, spares).ok_or("a worker")?;
+    Ok(ServerPair { fetcher, worker })
 }
 
 // Fetches the next command, or pair; else the number of the refusal, 12 where another caller had the controller.
-#[tactic(auto, using(crate::proofs::Fetched::fetched_fresh))]
-fn fetched(bench: &Bench, server: &mut Server, queue: u16) -> Result<Work, u8>
-    requires { IsServerOf bench.now server.old }
-    ensures same { IsServerOf bench.now server.new }
-    ensures work { IfOk result (IsBenchWork bench.now) }
+fn fetched(system: &PlainSystem, fetcher: &mut PlainCaller, queue: u16) -> Result<Work, u8>
+    requires { IsPlainCallerOf system.now fetcher.old }
+    ensures same { IsPlainCallerOf system.now fetcher.new }
+    ensures work { IfOk result (IsFreshWork system.now) }
 {
-    match bench
-        .engine
-        .attempt_open(&mut server.pass, Open::Fetch(queue))
-    {
+    match open(system, fetcher, Open::Fetch(queue)) {
         Ok(Opened::Fetched(work)) => Ok(work),
-        Ok(_) => Err(0),
+        Ok(Opened::Published | Opened::Reaped { .. }) => Err(0),
         Err(Declined::Refused(refused)) => Err(number(refused)),
         Err(Declined::Busy(_)) => Err(12),
     }
 }
 
 // The Work goes through the queue; None where it is lost.
-fn carried<R: Wait>(
-    rt: &R,
-    bench: &Bench,
-    works: &WorkQueue,
-    into: &mut QueuePass<Work>,
-    out: &mut QueuePass<Work>,
-    work: Work,
-) -> Option<Work>
-    requires into { IsPlaceOf bench.now.engine works.now into.old }
-    requires out { IsPlaceOf bench.now.engine works.now out.old }
-    requires work { IsBenchWork bench.now work }
-    ensures into { IsPlaceOf bench.now.engine works.now into.new }
-    ensures out { IsPlaceOf bench.now.engine works.now out.new }
-    ensures work { IfSome result (IsBenchWork bench.now) }
+fn carried<R: Wait>(rt: &R, system: &PlainSystem, crew: &mut ServerPair, work: Work) -> Option<Work>
+    requires crew { AreCrewOf system.now crew.old.fetcher crew.old.worker }
+    requires work { IsFreshWork system.now work }
+    ensures crew { AreCrewOf system.now crew.new.fetcher crew.new.worker }
+    ensures work { IfSome result (IsFreshWork system.now) }
 {
-    // (named by the contract alone)
-    let _ = bench;
-    if works.push(rt, into, work).is_err() {
+    if pushes(rt, system, &mut crew.fetcher, work).is_err() {
         return None;
     }
-    works.pop(rt, out)
+    pops(rt, system, &mut crew.worker)
 }
 
 // One command, or pair, is served, and each of its completions told of; 0, or the number of the Fetch's refusal.
 fn serves_one<R: Abort + Wait>(
     rt: &R,
-    bench: &Bench,
-    works: &WorkQueue,
+    system: &PlainSystem,
     crew: &mut ServerPair,
     queue: u16,
 ) -> u8
-    requires { AreCrewOf bench.now works.now crew.old.fetcher crew.old.into crew.old.worker crew.old.out }
-    ensures { AreCrewOf bench.now works.now crew.new.fetcher crew.new.into crew.new.worker crew.new.out }
+    requires { AreCrewOf system.now crew.old.fetcher crew.old.worker }
+    ensures { AreCrewOf system.now crew.new.fetcher crew.new.worker }
 {
-    let work = match fetched(bench, &mut crew.fetcher, queue) {
+    let work = match fetched(system, &mut crew.fetcher, queue) {
         Ok(work) => work,
         Err(why) => return why,
     };
-    match carried(rt, bench, works, &mut crew.into, &mut crew.out, work) {
-        Some(work) => assert!(rt; ends(rt, bench, &mut crew.worker, work)),
+    match carried(rt, system, crew, work) {
+        Some(work) => assert!(rt; ends(rt, system, &mut crew.worker, work)),
         None => assert!(rt; false, "a Work is lost"),
     }
     0
@@ -132,16 +82,15 @@ fn serves_one<R: Abort + Wait>(
 /// All commands of a submission queue are served, until no entry is left there.
 pub(crate) fn crew_serves<R: Abort + Wait>(
     rt: &R,
-    bench: &Bench,
-    works: &WorkQueue,
+    system: &PlainSystem,
     crew: &mut ServerPair,
     queue: u16,
 )
-    requires { AreCrewOf bench.now works.now crew.old.fetcher crew.old.into crew.old.worker crew.old.out }
-    ensures { AreCrewOf bench.now works.now crew.new.fetcher crew.new.into crew.new.worker crew.new.out }
+    requires { AreCrewOf system.now crew.old.fetcher crew.old.worker }
+    ensures { AreCrewOf system.now crew.new.fetcher crew.new.worker }
 {
     for _ in rt.forever() {
-        let why = serves_one(rt, bench, works, crew, queue);
+        let why = serves_one(rt, system, crew, queue);
         if why != 0 {
             assert_eq!(rt; why, 3);
             return;

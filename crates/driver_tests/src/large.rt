@@ -3,16 +3,15 @@
 ghost use Rattle.std.specs.Prelude.{◌≡◌, ◌≤◌, IfOk, true};
 ghost use Rattle.history.specs.Config.{config_numbers};
 ghost use Rattle.driver_cas.specs.Drivers.{IsCallOf, IsSameDriver, port_of};
-ghost use Rattle.driver_testing.specs.Benches.{AreBenchSpares, IsBenchHost, IsServerOf, uses};
+ghost use Rattle.driver_testing.specs.Hosts.{IsTestHost, uses};
+ghost use Rattle.shared_system.specs.Plain.{ArePlainCallers, IsPlainCallerOf};
 ghost use Rattle.driver_testing.specs.Calls.{IsCallAsked};
 
 use driver_cas::laws::a_start_keeps_the_other_calls;
 use driver_cas::{Call, Driver, Fault, Port, SharedPort};
-use driver_testing::{
-    AnswerWords, Ask, Bench, BenchHost, BenchSpares, Fill, Server, answers, asked, bench_of,
-    desk_of, hears, serves,
-};
+use driver_testing::{AnswerWords, Ask, Fill, TestHost, answers, asked, desk_of, hears, serves};
 use history::Config;
+use shared_system::{PlainCaller, PlainCallers, PlainSystem, plain_system_of};
 use std::alloc::Global;
 use std::process::Abort;
 use std::snapshot::Snapshot;
@@ -34,15 +33,15 @@ enum Whole {
     Swap(u8, u8),
 }
 
-// A bench of `config 256 AWUN 255 0 0 2 4 4 8`.
-fn large(alloc: Global, awun: u16) -> Result<(Bench, BenchSpares), Fail>
-    ensures own { IfOk result (λ b. AreBenchSpares b.0 b.1) }
+// A system of `config 256 AWUN 255 0 0 2 4 4 8`.
+fn large(alloc: Global, awun: u16) -> Result<(PlainSystem, PlainCallers), Fail>
+    ensures own { IfOk result (λ b. ArePlainCallers b.0 b.1) }
     ensures config { IfOk result (λ b. b.0.config ≡ config_numbers 256 awun 255 0 0 2 4 4 8 2) }
 {
     let Ok(config) = Config::new(256, awun, 255, 0, 0, 2, 4, 4, 8) else {
         return Err(Fail::from("the configuration is refused"));
     };
-    Ok(bench_of(alloc, config, 4, 2)?)
+    Ok(plain_system_of(alloc, config, 4, 2)?)
 }
 
 // 256 blocks whose bytes are all this one. No contract says so: what they hold is for the controller to answer by.
@@ -66,16 +65,16 @@ fn whole_asked<P: Port>(driver: &mut Driver<P>, whole: Whole) -> Result<Call<P>,
 
 // Begins a call of the host.
 fn begins_whole<'a>(
-    bench: &Bench,
-    host: &mut BenchHost<'a>,
+    system: &PlainSystem,
+    host: &mut TestHost<'a>,
     whole: Whole,
 ) -> Result<Call<SharedPort<'a>>, Fault>
-    requires { IsBenchHost bench.now host.old }
-    ensures same { IsBenchHost bench.now host.new }
+    requires { IsTestHost system.now host.old }
+    ensures same { IsTestHost system.now host.new }
     ensures call { IfOk result (IsCallOf host.new.driver) }
 {
     // (named by the contract alone)
-    let _ = bench;
+    let _ = system;
     let before = Snapshot::of(&host.driver);
     let begun = whole_asked(&mut host.driver, whole);
     a_start_keeps_the_other_calls(&before, &host.driver);
@@ -85,65 +84,65 @@ fn begins_whole<'a>(
 // How a call is answered, once its queue is served.
 fn served<R: Wait>(
     rt: &R,
-    bench: &Bench,
-    server: &mut Server,
-    host: &mut BenchHost<'_>,
+    system: &PlainSystem,
+    server: &mut PlainCaller,
+    host: &mut TestHost<'_>,
     whole: Whole,
 ) -> Result<AnswerWords, Fault>
-    requires { IsServerOf bench.now server.old × IsBenchHost bench.now host.old }
-    ensures { IsServerOf bench.now server.new × IsBenchHost bench.now host.new }
+    requires { IsPlainCallerOf system.now server.old × IsTestHost system.now host.old }
+    ensures { IsPlainCallerOf system.now server.new × IsTestHost system.now host.new }
 {
-    let call = begins_whole(bench, host, whole)?;
-    serves(rt, bench, server, 1);
-    hears(rt, bench, host);
+    let call = begins_whole(system, host, whole)?;
+    serves(rt, system, server, 1);
+    hears(rt, system, host);
     Ok(answers(host, call, 2))
 }
 
 // That each call is answered so.
 fn all_served<R: Abort + Wait>(
     rt: &R,
-    bench: &Bench,
-    server: &mut Server,
-    host: &mut BenchHost<'_>,
+    system: &PlainSystem,
+    server: &mut PlainCaller,
+    host: &mut TestHost<'_>,
     rows: &[(Whole, AnswerWords)],
 )
-    requires { IsServerOf bench.now server.old × IsBenchHost bench.now host.old }
-    ensures { IsServerOf bench.now server.new × IsBenchHost bench.now host.new }
+    requires { IsPlainCallerOf system.now server.old × IsTestHost system.now host.old }
+    ensures { IsPlainCallerOf system.now server.new × IsTestHost system.now host.new }
 {
     for row in rows {
         let (whole, told) = *row;
         let want = Ok(told);
-        assert_eq!(rt; served(rt, bench, server, host, whole), want, "{whole:?}");
+        assert_eq!(rt; served(rt, system, server, host, whole), want, "{whole:?}");
     }
 }
 
-// So by a server and a host of this bench.
+// So by a server and a host of this system.
 fn answered_on<R: Abort + Wait>(
     rt: &R,
     alloc: Global,
-    bench: &Bench,
-    spares: &mut BenchSpares,
+    system: &PlainSystem,
+    spares: &mut PlainCallers,
     rows: &[(Whole, AnswerWords)],
 ) -> Result<(), Fail>
-    requires own { AreBenchSpares bench.now spares.old }
-    requires queue { (uses bench.now.config 1 1 ≡ true) × (1 ≤ bench.now.config.cqs) }
+    requires own { ArePlainCallers system.now spares.old }
+    requires queue { (uses system.now.config 1 1 ≡ true) × (1 ≤ system.now.config.cqs) }
 {
-    let Some((mut server, mut host)) = desk_of(alloc, bench, spares, 0) else {
+    let Some((mut server, mut host)) = desk_of(alloc, system, spares, 0) else {
         return Err(Fail::from("a host"));
     };
-    all_served(rt, bench, &mut server, &mut host, rows);
+    all_served(rt, system, &mut server, &mut host, rows);
     Ok(())
 }
 
-// So on a bench of its own, whose units have at most `awun` and one blocks.
+// So on a system of its own, whose units have at most `awun` and one blocks.
 fn answers_all<R: Abort + Wait>(
     rt: &R,
     alloc: Global,
     awun: u16,
     rows: &[(Whole, AnswerWords)],
 ) -> Result<(), Fail> {
-    let (bench, mut spares) = large(alloc, awun)?;
-    answered_on(rt, alloc, &bench, &mut spares, rows)
+    let (system, mut spares) = large(alloc, awun)?;
+    answered_on(rt, alloc, &system, &mut spares, rows)
 }
 
 // Each kind of call, equal, differing in each block, and differing in the last alone.

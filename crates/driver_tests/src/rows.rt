@@ -1,13 +1,14 @@
 //! What each call is answered, served before the next.
 
 ghost use Rattle.std.specs.Prelude.{◌≤◌};
-ghost use Rattle.driver_testing.specs.Benches.{IsBenchHost, IsServerOf};
+ghost use Rattle.driver_testing.specs.Hosts.{IsTestHost};
+ghost use Rattle.shared_system.specs.Plain.{IsPlainCallerOf};
 
 use driver_cas::Fault;
 use driver_testing::{
-    AnswerWords, Ask, Bench, BenchHost, Fill, Server, answers, desk_of, hears, serves, small_bench,
-    starts,
+    AnswerWords, Ask, Fill, TestHost, answers, desk_of, hears, serves, small_system, starts,
 };
+use shared_system::{PlainCaller, PlainSystem};
 use std::alloc::Global;
 use std::process::Abort;
 use std::sync::Wait;
@@ -16,34 +17,34 @@ use std::test::Fail;
 // How a call is answered, once its queue is served.
 fn served<R: Wait>(
     rt: &R,
-    bench: &Bench,
-    server: &mut Server,
-    host: &mut BenchHost<'_>,
+    system: &PlainSystem,
+    server: &mut PlainCaller,
+    host: &mut TestHost<'_>,
     ask: Ask,
 ) -> Result<AnswerWords, Fault>
-    requires { IsServerOf bench.now server.old × IsBenchHost bench.now host.old }
-    ensures { IsServerOf bench.now server.new × IsBenchHost bench.now host.new }
+    requires { IsPlainCallerOf system.now server.old × IsTestHost system.now host.old }
+    ensures { IsPlainCallerOf system.now server.new × IsTestHost system.now host.new }
 {
     let call = starts(host, ask)?;
-    serves(rt, bench, server, 1);
-    hears(rt, bench, host);
+    serves(rt, system, server, 1);
+    hears(rt, system, host);
     Ok(answers(host, call, 2))
 }
 
 // That each call is answered so.
 fn all_answered<R: Abort + Wait>(
     rt: &R,
-    bench: &Bench,
-    server: &mut Server,
-    host: &mut BenchHost<'_>,
+    system: &PlainSystem,
+    server: &mut PlainCaller,
+    host: &mut TestHost<'_>,
     rows: &[(Ask, Result<AnswerWords, Fault>)],
 )
-    requires { IsServerOf bench.now server.old × IsBenchHost bench.now host.old }
-    ensures { IsServerOf bench.now server.new × IsBenchHost bench.now host.new }
+    requires { IsPlainCallerOf system.now server.old × IsTestHost system.now host.old }
+    ensures { IsPlainCallerOf system.now server.new × IsTestHost system.now host.new }
 {
     for row in rows {
         let (ask, want) = *row;
-        assert_eq!(rt; served(rt, bench, server, host, ask), want, "{ask:?}");
+        assert_eq!(rt; served(rt, system, server, host, ask), want, "{ask:?}");
     }
 }
 
@@ -56,13 +57,13 @@ fn answers_all<R: Abort + Wait>(
 ) -> Result<(), Fail>
     requires { slots ≤ 65536 }
 {
-    let Some((bench, mut spares)) = small_bench(alloc, 4, 2) else {
-        return Err(Fail::from("a bench"));
+    let Some((system, mut spares)) = small_system(alloc, 4, 2) else {
+        return Err(Fail::from("a system"));
     };
-    let Some((mut server, mut host)) = desk_of(alloc, &bench, &mut spares, slots) else {
+    let Some((mut server, mut host)) = desk_of(alloc, &system, &mut spares, slots) else {
         return Err(Fail::from("a host"));
     };
-    all_answered(rt, &bench, &mut server, &mut host, rows);
+    all_answered(rt, &system, &mut server, &mut host, rows);
     Ok(())
 }
 

@@ -1,11 +1,10 @@
 //! One run of one thread through all calls of a driver and of slots, and through both kinds of queue: two hosts, a
-//! fetcher and a worker, each with a pass of its own.
+//! fetcher and a worker, each with passes of its own.
 
-ghost use Rattle.std.specs.Prelude.{◌≡◌, ◌<◌, ◌≤◌, All, IfOk, IfSome};
+ghost use Rattle.std.specs.Prelude.{◌≡◌, ◌<◌, ◌≤◌, IfOk};
 ghost use Rattle.work_queue.specs.Engines.{IsPassOfEngine};
-ghost use Rattle.work_queue.specs.QueuePasses.{IsPlaceOf};
 ghost use Rattle.driver_cas.specs.Drivers.{IsCallOf};
-ghost use Rattle.driver_testing.specs.Benches.{AreBenchSpares, IsServerOf};
+ghost use Rattle.shared_system.specs.Plain.{ArePlainCallers};
 ghost use Rattle.driver_testing.specs.Claimants.{IsClaimant, IsClaimantReady};
 ghost use Rattle.slot_alloc.specs.Areas.{area};
 ghost use Rattle.driver_tests.specs.Crews.{AreCrewOf};
@@ -13,19 +12,19 @@ ghost use Rattle.driver_tests.specs.Crews.{AreCrewOf};
 use crate::crews::{ServerPair, crew_of, crew_serves};
 use driver_cas::{Call, SharedPort};
 use driver_testing::{
-    AnswerWords, Ask, Bench, BenchHost, BenchSpares, Came, Claimant, ClaimantStage, Fill, asks,
-    begins_call, caller_of, claimant_of, gives_back, hears_all, leaves, meets, meets_server,
-    polls_begun, polls_call, small_bench,
+    AnswerWords, Ask, Came, Claimant, ClaimantStage, Fill, TestHost, asks, begins_call,
+    claimant_of, gives_back, hears_all, leaves, meets, meets_server, polls_begun, polls_call,
+    small_system,
 };
 use history_check::check;
 use meet_lock::Pass;
+use shared_system::{PlainCallers, PlainSystem, take_caller};
 use slot_alloc::Slots;
 use std::alloc::Global;
 use std::process::Abort;
 use std::sync::Wait;
 use std::test::Fail;
 use step_core::Core;
-use work_queue::{MessageQueue, QueuePass, Work, WorkQueue};
 
 /// What a host does.
 #[derive(Clone, Copy)]
@@ -54,42 +53,41 @@ enum HostsTurn {
 
 // What a call that was begun is told, polled at most twice.
 fn told<'a>(
-    bench: &Bench,
+    system: &PlainSystem,
     slots: &Slots,
-    host: &mut BenchHost<'a>,
+    host: &mut TestHost<'a>,
     call: Call<SharedPort<'a>>,
 ) -> AnswerWords
-    requires ready { IsClaimantReady bench.now slots.now host.old }
+    requires ready { IsClaimantReady system.now slots.now host.old }
     requires call { IsCallOf host.old.driver call }
-    ensures { IsClaimantReady bench.now slots.now host.new }
+    ensures { IsClaimantReady system.now slots.now host.new }
 {
-    let (told, back) = polls_call(bench, slots, host, call);
+    let (told, back) = polls_call(system, slots, host, call);
     let Some(call) = back else {
         return told;
     };
-    polls_call(bench, slots, host, call).0
+    polls_call(system, slots, host, call).0
 }
 
 // What a call is told, once it is served; None where it isn't begun.
 fn asked<R: Abort + Wait>(
     rt: &R,
-    bench: &Bench,
-    works: &WorkQueue,
+    system: &PlainSystem,
     crew: &mut ServerPair,
     slots: &Slots,
     claimant: &mut Claimant<'_>,
     ask: Ask,
 ) -> Option<AnswerWords>
-    requires crew { AreCrewOf bench.now works.now crew.old.fetcher crew.old.into crew.old.worker crew.old.out }
-    requires claimant { IsClaimant bench.now slots.now claimant.old }
-    ensures crew { AreCrewOf bench.now works.now crew.new.fetcher crew.new.into crew.new.worker crew.new.out }
-    ensures claimant { IsClaimant bench.now slots.now claimant.new }
+    requires crew { AreCrewOf system.now crew.old.fetcher crew.old.worker }
+    requires claimant { IsClaimant system.now slots.now claimant.old }
+    ensures crew { AreCrewOf system.now crew.new.fetcher crew.new.worker }
+    ensures claimant { IsClaimant system.now slots.now claimant.new }
 {
     claimant.stage = ClaimantStage::Idle;
-    let call = begins_call(bench, slots, &mut claimant.host, ask)?;
-    crew_serves(rt, bench, works, crew, claimant.queue);
-    hears_all(rt, bench, slots, claimant);
-    let told = told(bench, slots, &mut claimant.host, call);
+    let call = begins_call(system, slots, &mut claimant.host, ask)?;
+    crew_serves(rt, system, crew, claimant.queue);
+    hears_all(rt, system, slots, claimant);
+    let told = told(system, slots, &mut claimant.host, call);
     claimant.stage = ClaimantStage::Idle;
     Some(told)
 }
@@ -97,21 +95,20 @@ fn asked<R: Abort + Wait>(
 // What comes in the end of what was begun, each time served and polled.
 fn comes<R: Abort + Wait>(
     rt: &R,
-    bench: &Bench,
-    works: &WorkQueue,
+    system: &PlainSystem,
     crew: &mut ServerPair,
     slots: &Slots,
     claimant: &mut Claimant<'_>,
 ) -> Came
-    requires crew { AreCrewOf bench.now works.now crew.old.fetcher crew.old.into crew.old.worker crew.old.out }
-    requires claimant { IsClaimant bench.now slots.now claimant.old }
-    ensures crew { AreCrewOf bench.now works.now crew.new.fetcher crew.new.into crew.new.worker crew.new.out }
-    ensures claimant { IsClaimant bench.now slots.now claimant.new }
+    requires crew { AreCrewOf system.now crew.old.fetcher crew.old.worker }
+    requires claimant { IsClaimant system.now slots.now claimant.old }
+    ensures crew { AreCrewOf system.now crew.new.fetcher crew.new.worker }
+    ensures claimant { IsClaimant system.now slots.now claimant.new }
 {
     for _ in 0..8 {
-        crew_serves(rt, bench, works, crew, claimant.queue);
-        hears_all(rt, bench, slots, claimant);
-        let came = polls_begun(bench, slots, claimant);
+        crew_serves(rt, system, crew, claimant.queue);
+        hears_all(rt, system, slots, claimant);
+        let came = polls_begun(system, slots, claimant);
         if came != Came::Pending {
             return came;
         }
@@ -122,100 +119,88 @@ fn comes<R: Abort + Wait>(
 // That this comes of what is begun now.
 fn ends_so<R: Abort + Wait>(
     rt: &R,
-    bench: &Bench,
-    works: &WorkQueue,
+    system: &PlainSystem,
     crew: &mut ServerPair,
     slots: &Slots,
     claimant: &mut Claimant<'_>,
     begun: Came,
     want: Came,
 )
-    requires crew { AreCrewOf bench.now works.now crew.old.fetcher crew.old.into crew.old.worker crew.old.out }
-    requires claimant { IsClaimant bench.now slots.now claimant.old }
-    ensures crew { AreCrewOf bench.now works.now crew.new.fetcher crew.new.into crew.new.worker crew.new.out }
-    ensures claimant { IsClaimant bench.now slots.now claimant.new }
+    requires crew { AreCrewOf system.now crew.old.fetcher crew.old.worker }
+    requires claimant { IsClaimant system.now slots.now claimant.old }
+    ensures crew { AreCrewOf system.now crew.new.fetcher crew.new.worker }
+    ensures claimant { IsClaimant system.now slots.now claimant.new }
 {
     assert_eq!(rt; begun, Came::Begun);
-    let came = comes(rt, bench, works, crew, slots, claimant);
+    let came = comes(rt, system, crew, slots, claimant);
     assert_eq!(rt; came, want);
 }
 
 // A host does so.
 fn does<R: Abort + Wait>(
     rt: &R,
-    bench: &Bench,
-    works: &WorkQueue,
+    system: &PlainSystem,
     crew: &mut ServerPair,
     slots: &Slots,
     claimant: &mut Claimant<'_>,
     deed: Deed,
 )
-    requires crew { AreCrewOf bench.now works.now crew.old.fetcher crew.old.into crew.old.worker crew.old.out }
-    requires claimant { IsClaimant bench.now slots.now claimant.old }
+    requires crew { AreCrewOf system.now crew.old.fetcher crew.old.worker }
+    requires claimant { IsClaimant system.now slots.now claimant.old }
     requires some { 0 < (area slots.now).blocks }
-    ensures crew { AreCrewOf bench.now works.now crew.new.fetcher crew.new.into crew.new.worker crew.new.out }
-    ensures claimant { IsClaimant bench.now slots.now claimant.new }
+    ensures crew { AreCrewOf system.now crew.new.fetcher crew.new.worker }
+    ensures claimant { IsClaimant system.now slots.now claimant.new }
 {
     match deed {
         Deed::Asks(ask, told) => {
-            let answer = asked(rt, bench, works, crew, slots, claimant, ask);
+            let answer = asked(rt, system, crew, slots, claimant, ask);
             let want = Some(told);
             assert_eq!(rt; answer, want);
         }
         Deed::Claims(came) => {
-            let begun = asks(bench, slots, claimant, Some(0));
-            ends_so(rt, bench, works, crew, slots, claimant, begun, came);
+            let begun = asks(system, slots, claimant, Some(0));
+            ends_so(rt, system, crew, slots, claimant, begun, came);
         }
         Deed::ClaimsAny(came) => {
-            let begun = asks(bench, slots, claimant, None);
-            ends_so(rt, bench, works, crew, slots, claimant, begun, came);
+            let begun = asks(system, slots, claimant, None);
+            ends_so(rt, system, crew, slots, claimant, begun, came);
         }
         Deed::Releases => {
-            let begun = gives_back(bench, slots, claimant);
-            ends_so(
-                rt,
-                bench,
-                works,
-                crew,
-                slots,
-                claimant,
-                begun,
-                Came::Released,
-            );
+            let begun = gives_back(system, slots, claimant);
+            ends_so(rt, system, crew, slots, claimant, begun, Came::Released);
         }
         Deed::Leaves(slot, serial) => {
-            let left = leaves(bench, slots, claimant);
+            let left = leaves(system, slots, claimant);
             let want = Some((slot, serial));
             assert_eq!(rt; left, want);
         }
-        Deed::Meets => assert!(rt; meets_server(bench, slots, claimant, &mut crew.worker)),
+        Deed::Meets => assert!(rt; meets_server(system, slots, claimant, &mut crew.worker)),
     }
 }
 
 // Both do all of this.
 fn do_all<R: Abort + Wait>(
     rt: &R,
-    bench: &Bench,
-    works: &WorkQueue,
+    system: &PlainSystem,
     crew: &mut ServerPair,
     slots: &Slots,
     one: &mut Claimant<'_>,
     two: &mut Claimant<'_>,
     all: &[HostsTurn],
 )
-    requires crew { AreCrewOf bench.now works.now crew.old.fetcher crew.old.into crew.old.worker crew.old.out }
-    requires one { IsClaimant bench.now slots.now one.old }
-    requires two { IsClaimant bench.now slots.now two.old }
+    requires crew { AreCrewOf system.now crew.old.fetcher crew.old.worker }
+    requires one { IsClaimant system.now slots.now one.old }
+    requires two { IsClaimant system.now slots.now two.old }
     requires some { 0 < (area slots.now).blocks }
-    ensures crew { AreCrewOf bench.now works.now crew.new.fetcher crew.new.into crew.new.worker crew.new.out }
-    ensures one { IsClaimant bench.now slots.now one.new }
-    ensures two { IsClaimant bench.now slots.now two.new }
+    ensures crew { AreCrewOf system.now crew.new.fetcher crew.new.worker }
+    ensures one { IsClaimant system.now slots.now one.new }
+    ensures two { IsClaimant system.now slots.now two.new }
 {
     for turn in all {
         match *turn {
-            HostsTurn::One(deed) => does(rt, bench, works, crew, slots, one, deed),
-            HostsTurn::Two(deed) => does(rt, bench, works, crew, slots, two, deed),
-            HostsTurn::Meet => assert!(rt; meets(bench, slots, one, two)),
+            HostsTurn::One(deed) => does(rt, system, crew, slots, one, deed),
+            HostsTurn::Two(deed) => does(rt, system, crew, slots, two, deed),
+            HostsTurn::Meet => assert!(rt; meets(system, slots, one, two)),
         }
     }
 }
@@ -223,32 +208,32 @@ fn do_all<R: Abort + Wait>(
 // Host h, on queue h.
 fn host<'a>(
     alloc: Global,
-    bench: &'a Bench,
-    spares: &mut BenchSpares,
+    system: &'a PlainSystem,
+    spares: &mut PlainCallers,
     h: u16,
     slots: &Slots,
 ) -> Result<Claimant<'a>, Fail>
-    requires own { AreBenchSpares bench.now spares.old }
-    requires number { (1 ≤ h) × (h ≤ bench.now.config.pairs) }
-    requires queues { bench.now.config.cqs ≡ bench.now.config.pairs }
+    requires own { ArePlainCallers system.now spares.old }
+    requires number { (1 ≤ h) × (h ≤ system.now.config.pairs) }
+    requires queues { system.now.config.cqs ≡ system.now.config.pairs }
     requires slots { area slots.now ≡ record { slba = 0; blocks = 2 } }
-    ensures rest { AreBenchSpares bench.now spares.new }
-    ensures host { IfOk result (IsClaimant bench.entry.now slots.now) }
+    ensures rest { ArePlainCallers system.now spares.new }
+    ensures host { IfOk result (IsClaimant system.entry.now slots.now) }
 {
-    let caller = caller_of(bench, spares).ok_or("a caller")?;
-    match claimant_of(alloc, bench, caller, h, slots, 2) {
+    let caller = take_caller(system, spares).ok_or("a caller")?;
+    match claimant_of(alloc, system, caller, h, slots, 2) {
         Some(claimant) => Ok(claimant),
         None => Err(Fail::from("a host")),
     }
 }
 
 // The host's pass, given back.
-fn pass_of(bench: &Bench, slots: &Slots, claimant: Claimant<'_>) -> Pass<Core>
-    requires { IsClaimant bench.now slots.now claimant }
-    ensures { IsPassOfEngine bench.now.engine result }
+fn pass_of(system: &PlainSystem, slots: &Slots, claimant: Claimant<'_>) -> Pass<Core>
+    requires { IsClaimant system.now slots.now claimant }
+    ensures { IsPassOfEngine system.now.engine result }
 {
     // (named by the contract alone)
-    let _ = bench;
+    let _ = system;
     let _ = slots;
     let Claimant { host, .. } = claimant;
     host.driver.into_port().into_pass()
@@ -258,31 +243,27 @@ fn pass_of(bench: &Bench, slots: &Slots, claimant: Claimant<'_>) -> Pass<Core>
 fn pass_after<R: Abort + Wait>(
     rt: &R,
     alloc: Global,
-    bench: &Bench,
-    spares: &mut BenchSpares,
-    works: &WorkQueue,
-    places: &mut Vec<QueuePass<Work>>,
+    system: &PlainSystem,
+    spares: &mut PlainCallers,
     all: &[HostsTurn],
 ) -> Result<Pass<Core>, Fail>
-    requires own { AreBenchSpares bench.now spares.old }
-    requires places { All (IsPlaceOf bench.now.engine works.now) places.old.items }
-    requires queues { (bench.now.config.pairs ≡ 2) × (bench.now.config.cqs ≡ 2) }
-    ensures { IfOk result (IsPassOfEngine bench.now.engine) }
+    requires own { ArePlainCallers system.now spares.old }
+    requires queues { (system.now.config.pairs ≡ 2) × (system.now.config.cqs ≡ 2) }
+    ensures { IfOk result (IsPassOfEngine system.now.engine) }
 {
     let slots = Slots::new(0, 2);
-    let mut crew = crew_of(bench, spares, works, places)?;
-    let mut one = host(alloc, bench, spares, 1, &slots)?;
-    let mut two = host(alloc, bench, spares, 2, &slots)?;
-    do_all(rt, bench, works, &mut crew, &slots, &mut one, &mut two, all);
-    Ok(pass_of(bench, &slots, one))
+    let mut crew = crew_of(system, spares)?;
+    let mut one = host(alloc, system, spares, 1, &slots)?;
+    let mut two = host(alloc, system, spares, 2, &slots)?;
+    do_all(rt, system, &mut crew, &slots, &mut one, &mut two, all);
+    Ok(pass_of(system, &slots, one))
 }
 
 // The controller after all of this.
 fn core_after<R: Abort + Wait>(rt: &R, alloc: Global, all: &[HostsTurn]) -> Result<Core, Fail> {
-    let (bench, mut spares) = small_bench(alloc, 4, 4).ok_or("memory")?;
-    let (works, mut places) = MessageQueue::<Work>::new(alloc, &bench.engine, 4, 2)?;
-    let pass = pass_after(rt, alloc, &bench, &mut spares, &works, &mut places, all)?;
-    let Bench { engine, .. } = bench;
+    let (system, mut spares) = small_system(alloc, 4, 4).ok_or("memory")?;
+    let pass = pass_after(rt, alloc, &system, &mut spares, all)?;
+    let PlainSystem { engine, .. } = system;
     match engine.close(pass) {
         Some(core) => Ok(core),
         None => Err(Fail::from("the lock isn't free")),

@@ -1,14 +1,13 @@
 //! The steps of a run through an engine, its works and its notices, by three callers of one thread.
 
 ghost use Rattle.std.specs.Prelude.{All, IfOk, IfSome};
-ghost use Rattle.lock_testing.specs.Callers.{IsCrewOf, IsFreshWork, IsTestCallerOf, IsTestWork};
+ghost use Rattle.lock_testing.specs.Callers.{IsCrewOf};
+ghost use Rattle.shared_system.specs.Plain.{IsFreshWork, IsPlainCallerOf, IsPlainWork};
 
 use crate::passes::BUSY;
-use lock_testing::{
-    NO_MEMORY, TestCaller, TestSystem, ThreeCallers, attempt, learns, number, open, pops, pushes,
-    tells,
-};
+use lock_testing::{NO_MEMORY, ThreeCallers, attempt, learns, number, open, pops, pushes, tells};
 use meet_lock::Declined;
+use shared_system::{PlainCaller, PlainSystem};
 use std::alloc::{AllocError, Global};
 use std::sync::Wait;
 use std::test::Fail;
@@ -17,12 +16,12 @@ use work_queue::{Open, Opened, Task, Work};
 
 /// How an opening was answered: 0 or the number of its refusal, and the Work of a Fetch.
 pub(crate) fn opened(
-    system: &TestSystem,
-    caller: &mut TestCaller,
+    system: &PlainSystem,
+    caller: &mut PlainCaller,
     request: Open,
 ) -> (u8, Option<Work>)
-    requires { IsTestCallerOf system.now caller.old }
-    ensures same { IsTestCallerOf system.now caller.new }
+    requires { IsPlainCallerOf system.now caller.old }
+    ensures same { IsPlainCallerOf system.now caller.new }
     ensures fresh { IfSome result.1 (IsFreshWork system.now) }
 {
     match open(system, caller, request) {
@@ -36,7 +35,7 @@ pub(crate) fn opened(
 /// The Work goes through the queue to the worker.
 fn callers_over<R: Wait>(
     rt: &R,
-    system: &TestSystem,
+    system: &PlainSystem,
     crew: &mut ThreeCallers,
     work: Work,
 ) -> Result<(), Fail>
@@ -55,7 +54,7 @@ fn callers_over<R: Wait>(
 /// A Fetch. Its Work goes to the worker.
 fn fetch<R: Wait>(
     rt: &R,
-    system: &TestSystem,
+    system: &PlainSystem,
     crew: &mut ThreeCallers,
     queue: u16,
 ) -> Result<u8, Fail>
@@ -71,16 +70,16 @@ fn fetch<R: Wait>(
 
 // Found, where it is the Work of this ticket, or else one of the others.
 fn put_by(
-    _system: &TestSystem,
+    _system: &PlainSystem,
     work: Work,
     ticket: u64,
     found: &mut Option<Work>,
     others: &mut Vec<Work>,
 ) -> Result<(), AllocError>
-    requires work { IsTestWork _system.now work }
-    requires both { IfSome found.old (IsTestWork _system.now) × All (IsTestWork _system.now) others.old.items }
-    ensures found { IfSome found.new (IsTestWork _system.now) }
-    ensures others { All (IsTestWork _system.now) others.new.items }
+    requires work { IsPlainWork _system.now work }
+    requires both { IfSome found.old (IsPlainWork _system.now) × All (IsPlainWork _system.now) others.old.items }
+    ensures found { IfSome found.new (IsPlainWork _system.now) }
+    ensures others { All (IsPlainWork _system.now) others.new.items }
 {
     if work.ticket() == ticket {
         *found = Some(work);
@@ -92,16 +91,16 @@ fn put_by(
 
 // The same of all Works.
 fn put_all(
-    system: &TestSystem,
+    system: &PlainSystem,
     works: &mut Vec<Work>,
     ticket: u64,
     found: &mut Option<Work>,
     others: &mut Vec<Work>,
 ) -> Result<(), AllocError>
-    requires works { All (IsTestWork system.now) works.old.items }
-    requires both { IfSome found.old (IsTestWork system.now) × All (IsTestWork system.now) others.old.items }
-    ensures found { IfSome found.new (IsTestWork system.now) }
-    ensures others { All (IsTestWork system.now) others.new.items }
+    requires works { All (IsPlainWork system.now) works.old.items }
+    requires both { IfSome found.old (IsPlainWork system.now) × All (IsPlainWork system.now) others.old.items }
+    ensures found { IfSome found.new (IsPlainWork system.now) }
+    ensures others { All (IsPlainWork system.now) others.new.items }
 {
     for _ in 0..works.len() {
         if let Some(work) = works.pop() {
@@ -114,13 +113,13 @@ fn put_all(
 /// The Work of this ticket, out of these.
 fn take_work(
     alloc: Global,
-    system: &TestSystem,
+    system: &PlainSystem,
     works: &mut Vec<Work>,
     ticket: u64,
 ) -> Result<Option<Work>, AllocError>
-    requires { All (IsTestWork system.now) works.old.items }
-    ensures rest { All (IsTestWork system.now) works.new.items }
-    ensures found { IfOk result (λ w. IfSome w (IsTestWork system.now)) }
+    requires { All (IsPlainWork system.now) works.old.items }
+    ensures rest { All (IsPlainWork system.now) works.new.items }
+    ensures found { IfOk result (λ w. IfSome w (IsPlainWork system.now)) }
 {
     let mut found = None;
     let mut others = Vec::new(alloc);
@@ -132,13 +131,13 @@ fn take_work(
 /// The task, where it is the one that is next; None where it isn't.
 fn asks<R: Wait>(
     rt: &R,
-    system: &TestSystem,
-    caller: &mut TestCaller,
+    system: &PlainSystem,
+    caller: &mut PlainCaller,
     work: &mut Work,
     task: Task,
 ) -> Option<u8>
-    requires { IsTestCallerOf system.now caller.old × IsTestWork system.now work.old }
-    ensures { IsTestCallerOf system.now caller.new × IsTestWork system.now work.new }
+    requires { IsPlainCallerOf system.now caller.old × IsPlainWork system.now work.old }
+    ensures { IsPlainCallerOf system.now caller.new × IsPlainWork system.now work.new }
 {
     let next = work.next_task()?;
     if next != task {
@@ -160,7 +159,7 @@ fn asks<R: Wait>(
 fn work_on<R: Wait>(
     rt: &R,
     alloc: Global,
-    system: &TestSystem,
+    system: &PlainSystem,
     crew: &mut ThreeCallers,
     ticket: u64,
     task: Task,
@@ -177,18 +176,18 @@ fn work_on<R: Wait>(
 }
 
 /// The host learns what it was told.
-fn hears<R: Wait>(rt: &R, system: &TestSystem, crew: &mut ThreeCallers) -> Result<(), Fail>
+fn hears<R: Wait>(rt: &R, system: &PlainSystem, crew: &mut ThreeCallers) -> Result<(), Fail>
     requires { IsCrewOf system.now crew.old }
     ensures { IfOk result (λ _. IsCrewOf system.now crew.new) }
 {
     for _ in rt.forever() {
         match learns(rt, system, &mut crew.host) {
             Ok(true) => crew.learnt = crew.learnt.wrapping_add(1),
-            Ok(false) => return Ok(()),
+            Ok(false) => break,
             Err(_) => return Err(Fail::from("the lock was held")),
         }
     }
-    unreachable!()
+    Ok(())
 }
 
 /// A step by the caller whose it is: 0 or the number of its refusal, None where its ticket's Work can't be asked for
@@ -196,7 +195,7 @@ fn hears<R: Wait>(rt: &R, system: &TestSystem, crew: &mut ThreeCallers) -> Resul
 fn make<R: Wait>(
     rt: &R,
     alloc: Global,
-    system: &TestSystem,
+    system: &PlainSystem,
     crew: &mut ThreeCallers,
     step: Step,
 ) -> Result<Option<u8>, Fail>
@@ -224,7 +223,7 @@ fn make<R: Wait>(
 pub(crate) fn make_all<R: Wait>(
     rt: &R,
     alloc: Global,
-    system: &TestSystem,
+    system: &PlainSystem,
     crew: &mut ThreeCallers,
     steps: Vec<Step>,
 ) -> Result<Vec<Option<u8>>, Fail>

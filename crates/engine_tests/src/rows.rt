@@ -1,15 +1,16 @@
 //! Worked runs by passes of a lock and by an engine's crew, answer for answer and line for line as by a controller of
 //! one caller.
 
-ghost use Rattle.lock_testing.specs.Callers.{IsCrewOf, IsTestCallerOf};
+ghost use Rattle.lock_testing.specs.Callers.{IsCrewOf};
+ghost use Rattle.shared_system.specs.Plain.{IsPlainCallerOf};
 
 use crate::crew::make_all;
 use crate::passes::{lines_in, made_by_passes};
 use history::Config;
 use lock_testing::{
-    CONFIG, LARGE, LARGE_PAIR, ROWS, ScriptRun, TestCaller, TestSystem, ThreeCallers, closed,
-    config_of, crewed, run_of,
+    CONFIG, LARGE, LARGE_PAIR, ROWS, ScriptRun, ThreeCallers, closed, config_of, crewed, run_of,
 };
+use shared_system::{PlainCaller, PlainSystem};
 use std::alloc::Global;
 use std::process::Abort;
 use std::sync::Wait;
@@ -108,9 +109,9 @@ fn config_for(alloc: Global, line: &str, is_single: bool) -> Option<Config> {
 type RunMade = (Vec<Option<u8>>, Vec<u8>);
 
 /// The host.
-fn host_of(_system: &TestSystem, crew: ThreeCallers) -> TestCaller
+fn host_of(_system: &PlainSystem, crew: ThreeCallers) -> PlainCaller
     requires { IsCrewOf _system.now crew }
-    ensures { IsTestCallerOf _system.now result }
+    ensures { IsPlainCallerOf _system.now result }
 {
     crew.host
 }

@@ -28,7 +28,7 @@ fn explained_by(bad: FirstBad, wrong: Option<WrongStep>) -> ExplainedSlots
 {
     match (bad.place, bad.broken) {
         (Some(place), Some(broken)) => ExplainedSlots::BadAt(BadStep { place, broken }),
-        _ => match wrong {
+        (Some(_), None) | (None, _) => match wrong {
             Some(step) => ExplainedSlots::SlotsBadAt(step),
             None => ExplainedSlots::Legal,
         },

@@ -5,9 +5,9 @@ use Rattle.driver_cas.specs.declared.call.Call.{Call}
 use Rattle.driver_cas.specs.declared.driver.Driver.{Driver}
 use Rattle.driver_cas.specs.declared.port.Port.{Ghosts}
 use Rattle.driver_cas.specs.declared.shared_port.SharedPort.{SharedPort}
-use Rattle.driver_testing.specs.Benches.{IsBenchHost}
-use Rattle.driver_testing.specs.declared.bench.Bench.{Bench}
-use Rattle.driver_testing.specs.declared.bench.BenchHost.{BenchHost}
+use Rattle.driver_testing.specs.Hosts.{IsTestHost}
+use Rattle.shared_system.specs.declared.plain.PlainSystem.{PlainSystem}
+use Rattle.driver_testing.specs.declared.host.TestHost.{TestHost}
 
 module _ {P : Type 0} {g : Ghosts P} where
   -- All are the driver's, and no two of them have a CID in common.
@@ -16,5 +16,5 @@ module _ {P : Type 0} {g : Ghosts P} where
     pub apart : AllPairs SharesNoCid ks
 
 -- a host with its calls in flight
-abbrev pub AreInFlight : Bench → BenchHost → List (Call SharedPort) → Type 0
-AreInFlight b h ks = IsBenchHost b h × AreCallsOf h.driver ks
+abbrev pub AreInFlight : PlainSystem → TestHost → List (Call SharedPort) → Type 0
+AreInFlight b h ks = IsTestHost b h × AreCallsOf h.driver ks

@@ -3,16 +3,18 @@
 ghost use Rattle.std.specs.Prelude.{◌≡◌, ◌≤◌, IfOk, true};
 ghost use Rattle.history.specs.Config.{config_numbers};
 ghost use Rattle.work_queue.specs.Engines.{IsPassOfEngine};
-ghost use Rattle.driver_testing.specs.Benches.{AreBenchSpares, uses};
+ghost use Rattle.driver_testing.specs.Hosts.{uses};
+ghost use Rattle.shared_system.specs.Plain.{ArePlainCallers};
 
 use crate::callers::{on_both, server_of};
 use crate::sent::{Sent, one, published_in, two};
 use crate::turns::{BenchTurn, turns_all};
 use crate::under_way::pass_of;
 use driver_cas::Fault;
-use driver_testing::{AnswerWords, Ask, Bench, BenchSpares, Fill, bench_of};
+use driver_testing::{AnswerWords, Ask, Fill};
 use history::Config;
 use meet_lock::Pass;
+use shared_system::{PlainCallers, PlainSystem, plain_system_of};
 use std::alloc::Global;
 use std::process::Abort;
 use std::sync::Wait;
@@ -27,35 +29,35 @@ const FULL: Fault = Fault::RingFull;
 
 const ZEROS: AnswerWords = AnswerWords::Read(512, 0);
 
-// A bench of `config2 8 1 1 0 0 2 SQ 8 8 1`.
-fn narrow(alloc: Global, sq: u16) -> Result<(Bench, BenchSpares), Fail>
-    ensures own { IfOk result (λ b. AreBenchSpares b.0 b.1) }
+// A system of `config2 8 1 1 0 0 2 SQ 8 8 1`.
+fn narrow(alloc: Global, sq: u16) -> Result<(PlainSystem, PlainCallers), Fail>
+    ensures own { IfOk result (λ b. ArePlainCallers b.0 b.1) }
     ensures config { IfOk result (λ b. b.0.config ≡ config_numbers 8 1 1 0 0 2 sq 8 8 1) }
 {
     let Ok(config) = Config::with_cqs(8, 1, 1, 0, 0, 2, sq, 8, 8, 1) else {
         return Err(Fail::from("the configuration is refused"));
     };
-    Ok(bench_of(alloc, config, 8, 2)?)
+    Ok(plain_system_of(alloc, config, 8, 2)?)
 }
 
 // The pass of host 1 on both submission queues, after these turns.
 fn pass_after<R: Abort + Wait>(
     rt: &R,
     alloc: Global,
-    bench: &Bench,
-    spares: &mut BenchSpares,
+    system: &PlainSystem,
+    spares: &mut PlainCallers,
     turns: &[BenchTurn],
 ) -> Result<Pass<Core>, Fail>
-    requires own { AreBenchSpares bench.now spares.old }
-    requires some { 1 ≤ bench.now.config.cqs }
-    requires one { uses bench.now.config 1 1 ≡ true }
-    requires two { uses bench.now.config 1 2 ≡ true }
-    ensures { IfOk result (IsPassOfEngine bench.now.engine) }
+    requires own { ArePlainCallers system.now spares.old }
+    requires some { 1 ≤ system.now.config.cqs }
+    requires one { uses system.now.config 1 1 ≡ true }
+    requires two { uses system.now.config 1 2 ≡ true }
+    ensures { IfOk result (IsPassOfEngine system.now.engine) }
 {
-    let mut server = server_of(bench, spares)?;
-    let mut flight = on_both(alloc, bench, spares)?;
-    turns_all(rt, bench, &mut server, &mut flight, turns);
-    Ok(pass_of(bench, flight))
+    let mut server = server_of(system, spares)?;
+    let mut flight = on_both(alloc, system, spares)?;
+    turns_all(rt, system, &mut server, &mut flight, turns);
+    Ok(pass_of(system, flight))
 }
 
 /// The controller after these turns of a host and a server, where a submission queue has room for one entry less than
@@ -66,9 +68,9 @@ pub(crate) fn core_after<R: Abort + Wait>(
     sq: u16,
     turns: &[BenchTurn],
 ) -> Result<Core, Fail> {
-    let (bench, mut spares) = narrow(alloc, sq)?;
-    let pass = pass_after(rt, alloc, &bench, &mut spares, turns)?;
-    let Bench { engine, .. } = bench;
+    let (system, mut spares) = narrow(alloc, sq)?;
+    let pass = pass_after(rt, alloc, &system, &mut spares, turns)?;
+    let PlainSystem { engine, .. } = system;
     match engine.close(pass) {
         Some(core) => Ok(core),
         None => Err(Fail::from("the lock isn't free")),

@@ -2,17 +2,19 @@
 
 ghost use Rattle.std.specs.Prelude.{◌≡◌, ◌≤◌, IfOk, true};
 ghost use Rattle.history.specs.Config.{config_numbers};
-ghost use Rattle.driver_testing.specs.Benches.{AreBenchSpares, IsServerOf, uses};
+ghost use Rattle.driver_testing.specs.Hosts.{uses};
+ghost use Rattle.shared_system.specs.Plain.{ArePlainCallers, IsPlainCallerOf};
 ghost use Rattle.flight_tests.specs.Flights.{AreInFlight};
 
 use crate::callers::{on_own, server_of};
 use crate::full::core_after;
 use crate::turns::{BenchTurn, turns};
 use crate::under_way::{CallsInFlight, meets, meets_server};
-use driver_testing::{AnswerWords, Ask, Bench, BenchSpares, Fill, Server, bench_of, small_bench};
+use driver_testing::{AnswerWords, Ask, Fill, small_system};
 use history::Config;
 use history_check::check;
 use lock_testing::text;
+use shared_system::{PlainCaller, PlainCallers, PlainSystem, plain_system_of};
 use std::alloc::{AllocError as NoMemory, Global};
 use std::process::Abort;
 use std::sync::Wait;
@@ -37,45 +39,45 @@ enum Deed {
 // Does so.
 fn does<R: Abort + Wait>(
     rt: &R,
-    bench: &Bench,
-    server: &mut Server,
+    system: &PlainSystem,
+    server: &mut PlainCaller,
     one: &mut CallsInFlight<'_>,
     two: &mut CallsInFlight<'_>,
     deed: Deed,
 )
-    requires server { IsServerOf bench.now server.old }
-    requires one { AreInFlight bench.now one.old.host one.old.calls.items }
-    requires two { AreInFlight bench.now two.old.host two.old.calls.items }
-    ensures server { IsServerOf bench.now server.new }
-    ensures one { AreInFlight bench.now one.new.host one.new.calls.items }
-    ensures two { AreInFlight bench.now two.new.host two.new.calls.items }
+    requires server { IsPlainCallerOf system.now server.old }
+    requires one { AreInFlight system.now one.old.host one.old.calls.items }
+    requires two { AreInFlight system.now two.old.host two.old.calls.items }
+    ensures server { IsPlainCallerOf system.now server.new }
+    ensures one { AreInFlight system.now one.new.host one.new.calls.items }
+    ensures two { AreInFlight system.now two.new.host two.new.calls.items }
 {
     match deed {
-        Deed::One(turn) => turns(rt, bench, server, one, turn),
-        Deed::Two(turn) => turns(rt, bench, server, two, turn),
-        Deed::Meet => assert!(rt; meets(bench, one, two)),
-        Deed::MeetServer => assert!(rt; meets_server(bench, one, server)),
+        Deed::One(turn) => turns(rt, system, server, one, turn),
+        Deed::Two(turn) => turns(rt, system, server, two, turn),
+        Deed::Meet => assert!(rt; meets(system, one, two)),
+        Deed::MeetServer => assert!(rt; meets_server(system, one, server)),
     }
 }
 
 // Does them all.
 fn does_all<R: Abort + Wait>(
     rt: &R,
-    bench: &Bench,
-    server: &mut Server,
+    system: &PlainSystem,
+    server: &mut PlainCaller,
     one: &mut CallsInFlight<'_>,
     two: &mut CallsInFlight<'_>,
     all: &[Deed],
 )
-    requires server { IsServerOf bench.now server.old }
-    requires one { AreInFlight bench.now one.old.host one.old.calls.items }
-    requires two { AreInFlight bench.now two.old.host two.old.calls.items }
-    ensures server { IsServerOf bench.now server.new }
-    ensures one { AreInFlight bench.now one.new.host one.new.calls.items }
-    ensures two { AreInFlight bench.now two.new.host two.new.calls.items }
+    requires server { IsPlainCallerOf system.now server.old }
+    requires one { AreInFlight system.now one.old.host one.old.calls.items }
+    requires two { AreInFlight system.now two.old.host two.old.calls.items }
+    ensures server { IsPlainCallerOf system.now server.new }
+    ensures one { AreInFlight system.now one.new.host one.new.calls.items }
+    ensures two { AreInFlight system.now two.new.host two.new.calls.items }
 {
     for deed in all {
-        does(rt, bench, server, one, two, *deed);
+        does(rt, system, server, one, two, *deed);
     }
 }
 
@@ -83,43 +85,43 @@ fn does_all<R: Abort + Wait>(
 fn both_do<R: Abort + Wait>(
     rt: &R,
     alloc: Global,
-    bench: &Bench,
-    spares: &mut BenchSpares,
+    system: &PlainSystem,
+    spares: &mut PlainCallers,
     hosts: (u16, u16),
     all: &[Deed],
 ) -> Result<(), Fail>
-    requires own { AreBenchSpares bench.now spares.old }
-    requires one { (1 ≤ hosts.0) × (hosts.0 ≤ bench.now.config.cqs) × (uses bench.now.config hosts.0 hosts.0 ≡ true) }
-    requires two { (1 ≤ hosts.1) × (hosts.1 ≤ bench.now.config.cqs) × (uses bench.now.config hosts.1 hosts.1 ≡ true) }
+    requires own { ArePlainCallers system.now spares.old }
+    requires one { (1 ≤ hosts.0) × (hosts.0 ≤ system.now.config.cqs) × (uses system.now.config hosts.0 hosts.0 ≡ true) }
+    requires two { (1 ≤ hosts.1) × (hosts.1 ≤ system.now.config.cqs) × (uses system.now.config hosts.1 hosts.1 ≡ true) }
 {
-    let mut server = server_of(bench, spares)?;
-    let mut one = on_own(alloc, bench, server_of(bench, spares)?, hosts.0)?;
-    let mut two = on_own(alloc, bench, server_of(bench, spares)?, hosts.1)?;
-    does_all(rt, bench, &mut server, &mut one, &mut two, all);
+    let mut server = server_of(system, spares)?;
+    let mut one = on_own(alloc, system, server_of(system, spares)?, hosts.0)?;
+    let mut two = on_own(alloc, system, server_of(system, spares)?, hosts.1)?;
+    does_all(rt, system, &mut server, &mut one, &mut two, all);
     Ok(())
 }
 
-// Hosts 1 and 2, on a bench of their own.
+// Hosts 1 and 2, on a system of their own.
 fn hosts_do<R: Abort + Wait>(rt: &R, alloc: Global, all: &[Deed]) -> Result<(), Fail> {
-    let (bench, mut spares) = small_bench(alloc, 4, 3).ok_or("memory")?;
-    both_do(rt, alloc, &bench, &mut spares, (1, 2), all)
+    let (system, mut spares) = small_system(alloc, 4, 3).ok_or("memory")?;
+    both_do(rt, alloc, &system, &mut spares, (1, 2), all)
 }
 
-// A bench of `config 8 1 1 0 0 4 4 4 8`.
-fn of_four(alloc: Global) -> Result<(Bench, BenchSpares), Fail>
-    ensures own { IfOk result (λ b. AreBenchSpares b.0 b.1) }
+// A system of `config 8 1 1 0 0 4 4 4 8`.
+fn of_four(alloc: Global) -> Result<(PlainSystem, PlainCallers), Fail>
+    ensures own { IfOk result (λ b. ArePlainCallers b.0 b.1) }
     ensures config { IfOk result (λ b. b.0.config ≡ config_numbers 8 1 1 0 0 4 4 4 8 4) }
 {
     let Ok(config) = Config::new(8, 1, 1, 0, 0, 4, 4, 4, 8) else {
         return Err(Fail::from("the configuration is refused"));
     };
-    Ok(bench_of(alloc, config, 4, 3)?)
+    Ok(plain_system_of(alloc, config, 4, 3)?)
 }
 
 // Hosts 3 and 4, whose ports are those of completion queues 3 and 4.
 fn last_hosts_do<R: Abort + Wait>(rt: &R, alloc: Global, all: &[Deed]) -> Result<(), Fail> {
-    let (bench, mut spares) = of_four(alloc)?;
-    both_do(rt, alloc, &bench, &mut spares, (3, 4), all)
+    let (system, mut spares) = of_four(alloc)?;
+    both_do(rt, alloc, &system, &mut spares, (3, 4), all)
 }
 
 // Host a writes, host b reads what it wrote, and they meet between all that.

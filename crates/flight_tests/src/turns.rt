@@ -1,11 +1,12 @@
 //! What a test has a host and a server do, in turn.
 
-ghost use Rattle.driver_testing.specs.Benches.{IsServerOf};
+ghost use Rattle.shared_system.specs.Plain.{IsPlainCallerOf};
 ghost use Rattle.flight_tests.specs.Flights.{AreInFlight};
 
 use crate::under_way::{CallsInFlight, lands, launches, listens};
 use driver_cas::Fault;
-use driver_testing::{AnswerWords, Ask, Bench, Server, serves};
+use driver_testing::{AnswerWords, Ask, serves};
+use shared_system::{PlainCaller, PlainSystem};
 use std::process::Abort;
 use std::sync::Wait;
 
@@ -27,31 +28,31 @@ pub(crate) enum BenchTurn {
 /// Makes it.
 pub(crate) fn turns<R: Abort + Wait>(
     rt: &R,
-    bench: &Bench,
-    server: &mut Server,
+    system: &PlainSystem,
+    server: &mut PlainCaller,
     flight: &mut CallsInFlight<'_>,
     turn: BenchTurn,
 )
-    requires { IsServerOf bench.now server.old × AreInFlight bench.now flight.old.host flight.old.calls.items }
-    ensures { IsServerOf bench.now server.new × AreInFlight bench.now flight.new.host flight.new.calls.items }
+    requires { IsPlainCallerOf system.now server.old × AreInFlight system.now flight.old.host flight.old.calls.items }
+    ensures { IsPlainCallerOf system.now server.new × AreInFlight system.now flight.new.host flight.new.calls.items }
 {
     match turn {
         BenchTurn::Begin(ask) => {
-            let begun = launches(bench, flight, ask);
+            let begun = launches(system, flight, ask);
             assert_eq!(rt; begun, Ok(()));
         }
         BenchTurn::Refused(ask, fault) => {
-            let begun = launches(bench, flight, ask);
+            let begun = launches(system, flight, ask);
             let want = Err(fault);
             assert_eq!(rt; begun, want);
         }
-        BenchTurn::Serve(queue) => assert!(rt; serves(rt, bench, server, queue)),
+        BenchTurn::Serve(queue) => assert!(rt; serves(rt, system, server, queue)),
         BenchTurn::Listen(took) => {
-            let heard = listens(rt, bench, flight);
+            let heard = listens(rt, system, flight);
             assert_eq!(rt; heard, took);
         }
         BenchTurn::End(place, polls, told) => {
-            let ended = lands(bench, flight, place, polls);
+            let ended = lands(system, flight, place, polls);
             let want = Some((told, polls));
             assert_eq!(rt; ended, want);
         }
@@ -61,15 +62,15 @@ pub(crate) fn turns<R: Abort + Wait>(
 /// Makes them all.
 pub(crate) fn turns_all<R: Abort + Wait>(
     rt: &R,
-    bench: &Bench,
-    server: &mut Server,
+    system: &PlainSystem,
+    server: &mut PlainCaller,
     flight: &mut CallsInFlight<'_>,
     all: &[BenchTurn],
 )
-    requires { IsServerOf bench.now server.old × AreInFlight bench.now flight.old.host flight.old.calls.items }
-    ensures { IsServerOf bench.now server.new × AreInFlight bench.now flight.new.host flight.new.calls.items }
+    requires { IsPlainCallerOf system.now server.old × AreInFlight system.now flight.old.host flight.old.calls.items }
+    ensures { IsPlainCallerOf system.now server.new × AreInFlight system.now flight.new.host flight.new.calls.items }
 {
     for turn in all {
-        turns(rt, bench, server, flight, *turn);
+        turns(rt, system, server, flight, *turn);
     }
 }

@@ -2,14 +2,15 @@
 
 ghost use Rattle.std.specs.Prelude.{◌≡◌, IfOk};
 ghost use Rattle.history.specs.Config.{config_numbers};
-ghost use Rattle.driver_testing.specs.Benches.{AreBenchSpares, IsServerOf};
+ghost use Rattle.shared_system.specs.Plain.{ArePlainCallers, IsPlainCallerOf};
 ghost use Rattle.flight_tests.specs.Flights.{AreInFlight};
 
 use crate::callers::{on_both, server_of};
 use crate::under_way::{CallsInFlight, ends_newest, fetches_all, hears_all, lands, launches};
 use driver_cas::Fault;
-use driver_testing::{AnswerWords, Ask, Bench, BenchSpares, Fill, Server, bench_of};
+use driver_testing::{AnswerWords, Ask, Fill};
 use history::Config;
+use shared_system::{PlainCaller, PlainCallers, PlainSystem, plain_system_of};
 use std::alloc::{AllocError as NoMemory, Global};
 use std::process::Abort;
 use std::sync::Wait;
@@ -47,27 +48,27 @@ fn told_of(kind: CallKind, number: u8) -> AnswerWords {
     }
 }
 
-// A bench of `config2 128 1 1 0 0 2 65 129 128 1`.
-fn wide(alloc: Global) -> Result<(Bench, BenchSpares), Fail>
-    ensures own { IfOk result (λ b. AreBenchSpares b.0 b.1) }
+// A system of `config2 128 1 1 0 0 2 65 129 128 1`.
+fn wide(alloc: Global) -> Result<(PlainSystem, PlainCallers), Fail>
+    ensures own { IfOk result (λ b. ArePlainCallers b.0 b.1) }
     ensures config { IfOk result (λ b. b.0.config ≡ config_numbers 128 1 1 0 0 2 65 129 128 1) }
 {
     let Ok(config) = Config::with_cqs(128, 1, 1, 0, 0, 2, 65, 129, 128, 1) else {
         return Err(Fail::from("the configuration is refused"));
     };
-    Ok(bench_of(alloc, config, 128, 2)?)
+    Ok(plain_system_of(alloc, config, 128, 2)?)
 }
 
 // Begins all calls, and one too many.
-fn all_begun<R: Abort>(rt: &R, bench: &Bench, flight: &mut CallsInFlight<'_>, kind: CallKind)
-    requires { AreInFlight bench.now flight.old.host flight.old.calls.items }
-    ensures { AreInFlight bench.now flight.new.host flight.new.calls.items }
+fn all_begun<R: Abort>(rt: &R, system: &PlainSystem, flight: &mut CallsInFlight<'_>, kind: CallKind)
+    requires { AreInFlight system.now flight.old.host flight.old.calls.items }
+    ensures { AreInFlight system.now flight.new.host flight.new.calls.items }
 {
     for number in 1..=CALLS {
-        let begun = launches(bench, flight, ask_of(kind, number));
+        let begun = launches(system, flight, ask_of(kind, number));
         assert_eq!(rt; begun, Ok(()), "{number}");
     }
-    let begun = launches(bench, flight, ask_of(kind, 1));
+    let begun = launches(system, flight, ask_of(kind, 1));
     assert_eq!(rt; begun, Err(Fault::RingFull));
 }
 
@@ -75,18 +76,18 @@ fn all_begun<R: Abort>(rt: &R, bench: &Bench, flight: &mut CallsInFlight<'_>, ki
 fn all_ended<R: Abort + Wait>(
     rt: &R,
     alloc: Global,
-    bench: &Bench,
-    server: &mut Server,
+    system: &PlainSystem,
+    server: &mut PlainCaller,
 ) -> Result<(), NoMemory>
-    requires { IsServerOf bench.now server.old }
-    ensures { IsServerOf bench.now server.new }
+    requires { IsPlainCallerOf system.now server.old }
+    ensures { IsPlainCallerOf system.now server.new }
 {
     let mut works = Vec::new(alloc);
     for queue in 1..3 {
-        assert_eq!(rt; fetches_all(bench, server, queue, &mut works)?, 64);
+        assert_eq!(rt; fetches_all(system, server, queue, &mut works)?, 64);
     }
     for _ in 0..CALLS {
-        assert!(rt; ends_newest(rt, bench, server, &mut works));
+        assert!(rt; ends_newest(rt, system, server, &mut works));
     }
     Ok(())
 }
@@ -95,29 +96,34 @@ fn all_ended<R: Abort + Wait>(
 fn all_served<R: Abort + Wait>(
     rt: &R,
     alloc: Global,
-    bench: &Bench,
-    server: &mut Server,
+    system: &PlainSystem,
+    server: &mut PlainCaller,
     flight: &mut CallsInFlight<'_>,
     kind: CallKind,
 ) -> Result<(), NoMemory>
-    requires { IsServerOf bench.now server.old × AreInFlight bench.now flight.old.host flight.old.calls.items }
-    ensures { IsServerOf bench.now server.new × AreInFlight bench.now flight.new.host flight.new.calls.items }
+    requires { IsPlainCallerOf system.now server.old × AreInFlight system.now flight.old.host flight.old.calls.items }
+    ensures { IsPlainCallerOf system.now server.new × AreInFlight system.now flight.new.host flight.new.calls.items }
 {
-    all_begun(rt, bench, flight, kind);
-    all_ended(rt, alloc, bench, server)?;
-    assert_eq!(rt; hears_all(rt, bench, flight), u32::from(CALLS));
+    all_begun(rt, system, flight, kind);
+    all_ended(rt, alloc, system, server)?;
+    assert_eq!(rt; hears_all(rt, system, flight), u32::from(CALLS));
     Ok(())
 }
 
 // Each is answered by its first poll, from the newest to the oldest, which is the order of their completions.
-fn newest_first<R: Abort>(rt: &R, bench: &Bench, flight: &mut CallsInFlight<'_>, kind: CallKind)
-    requires { AreInFlight bench.now flight.old.host flight.old.calls.items }
-    ensures { AreInFlight bench.now flight.new.host flight.new.calls.items }
+fn newest_first<R: Abort>(
+    rt: &R,
+    system: &PlainSystem,
+    flight: &mut CallsInFlight<'_>,
+    kind: CallKind,
+)
+    requires { AreInFlight system.now flight.old.host flight.old.calls.items }
+    ensures { AreInFlight system.now flight.new.host flight.new.calls.items }
 {
     for number in (1..=CALLS).rev() {
         let want = Some((told_of(kind, number), 1));
         assert_eq!(rt;
-            lands(bench, flight, usize::from(number) - 1, 1),
+            lands(system, flight, usize::from(number) - 1, 1),
             want,
             "{kind:?} {number}"
         );
@@ -125,14 +131,19 @@ fn newest_first<R: Abort>(rt: &R, bench: &Bench, flight: &mut CallsInFlight<'_>,
 }
 
 // The oldest is answered by its poll that reaps the last completion, and each other then by its first.
-fn oldest_first<R: Abort>(rt: &R, bench: &Bench, flight: &mut CallsInFlight<'_>, kind: CallKind)
-    requires { AreInFlight bench.now flight.old.host flight.old.calls.items }
-    ensures { AreInFlight bench.now flight.new.host flight.new.calls.items }
+fn oldest_first<R: Abort>(
+    rt: &R,
+    system: &PlainSystem,
+    flight: &mut CallsInFlight<'_>,
+    kind: CallKind,
+)
+    requires { AreInFlight system.now flight.old.host flight.old.calls.items }
+    ensures { AreInFlight system.now flight.new.host flight.new.calls.items }
 {
     for number in 1..=CALLS {
         let polls = if number == 1 { u32::from(CALLS) } else { 1 };
         let want = Some((told_of(kind, number), polls));
-        assert_eq!(rt; lands(bench, flight, 0, polls), want, "{kind:?} {number}");
+        assert_eq!(rt; lands(system, flight, 0, polls), want, "{kind:?} {number}");
     }
 }
 
@@ -140,17 +151,17 @@ fn oldest_first<R: Abort>(rt: &R, bench: &Bench, flight: &mut CallsInFlight<'_>,
 fn all_kinds<R: Abort + Wait>(
     rt: &R,
     alloc: Global,
-    bench: &Bench,
-    server: &mut Server,
+    system: &PlainSystem,
+    server: &mut PlainCaller,
     flight: &mut CallsInFlight<'_>,
 ) -> Result<(), Fail>
-    requires { IsServerOf bench.now server.old × AreInFlight bench.now flight.old.host flight.old.calls.items }
+    requires { IsPlainCallerOf system.now server.old × AreInFlight system.now flight.old.host flight.old.calls.items }
 {
     for kind in [CallKind::Writes, CallKind::Reads, CallKind::Compares] {
-        all_served(rt, alloc, bench, server, flight, kind)?;
-        newest_first(rt, bench, flight, kind);
-        all_served(rt, alloc, bench, server, flight, kind)?;
-        oldest_first(rt, bench, flight, kind);
+        all_served(rt, alloc, system, server, flight, kind)?;
+        newest_first(rt, system, flight, kind);
+        all_served(rt, alloc, system, server, flight, kind)?;
+        oldest_first(rt, system, flight, kind);
     }
     Ok(())
 }
@@ -159,19 +170,19 @@ fn all_kinds<R: Abort + Wait>(
 fn both_do<R: Abort + Wait>(
     rt: &R,
     alloc: Global,
-    bench: &Bench,
-    spares: &mut BenchSpares,
+    system: &PlainSystem,
+    spares: &mut PlainCallers,
 ) -> Result<(), Fail>
-    requires own { AreBenchSpares bench.now spares.old }
-    requires config { bench.now.config ≡ config_numbers 128 1 1 0 0 2 65 129 128 1 }
+    requires own { ArePlainCallers system.now spares.old }
+    requires config { system.now.config ≡ config_numbers 128 1 1 0 0 2 65 129 128 1 }
 {
-    let mut server = server_of(bench, spares)?;
-    let mut flight = on_both(alloc, bench, spares)?;
-    all_kinds(rt, alloc, bench, &mut server, &mut flight)
+    let mut server = server_of(system, spares)?;
+    let mut flight = on_both(alloc, system, spares)?;
+    all_kinds(rt, alloc, system, &mut server, &mut flight)
 }
 
 #[test]
 fn each_is_answered_by_its_own(rt: HostRuntime) -> Result<(), Fail> {
-    let (bench, mut spares) = wide(rt.alloc())?;
-    both_do(&rt, rt.alloc(), &bench, &mut spares)
+    let (system, mut spares) = wide(rt.alloc())?;
+    both_do(&rt, rt.alloc(), &system, &mut spares)
 }

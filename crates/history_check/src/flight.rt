@@ -205,9 +205,7 @@ impl CheckedTicket {
         ensures ended { IfOk result (λ d. IfSome self.old.unit (λ u. d.ended ≡ ends_by self.old block.now u)) }
         ensures err { OnErr result (self.new ≡ self.old) }
     {
-        let Some(unit) = &self.unit else {
-            unreachable!();
-        };
+        let unit = self.unit.as_ref().unwrap();
         let ended = unit.ends(&self.ticket, block.found);
         let range = unit.range();
         let word = word_of(block.found);
@@ -249,10 +247,7 @@ impl CheckedTicket {
             self.found.extend_from_slice(read)?;
             return Ok(());
         };
-        let Some(unit) = &mut self.unit else {
-            unreachable!();
-        };
-        unit.say(word)?;
+        self.unit.as_mut().unwrap().say(word)?;
         Ok(())
     }
 

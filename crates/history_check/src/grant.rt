@@ -79,9 +79,7 @@ pub fn take_grant(alloc: Global, fields: &mut Fields, line: &GrantLine) -> Resul
     }
     fields.ranges.reserve(1)?;
     let range = line.range.get();
-    let Ok(()) = fields.ranges.grant(line.ticket, range, line.mode) else {
-        unreachable!();
-    };
+    fields.ranges.grant(line.ticket, range, line.mode).unwrap();
     fields.flights[place].flight.open(alloc, line);
     Ok(true)
 }

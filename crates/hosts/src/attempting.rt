@@ -30,20 +30,10 @@ fn unmade(declined: Declined) -> TriedTask
 {
     match declined {
         Declined::Busy(_) => TriedTask::Again,
-        Declined::Refused(Refused::Step(why)) => match why {
-            Why::Conflict | Why::CqFull => TriedTask::Again,
-            Why::NoMemory => TriedTask::NoMemory,
-            Why::NoQueue
-            | Why::NoRoom
-            | Why::NoEntry
-            | Why::JobsFull
-            | Why::NoTicket
-            | Why::WrongState
-            | Why::NoCompletion
-            | Why::BadBatch
-            | Why::Busy => unreachable!(),
-        },
-        Declined::Refused(Refused::Publish(..)) => unreachable!(),
+        Declined::Refused(Refused::Step(Why::Conflict | Why::CqFull)) => TriedTask::Again,
+        Declined::Refused(Refused::Step(Why::NoMemory)) => TriedTask::NoMemory,
+        // No other refusal meets a task in its place.
+        Declined::Refused(Refused::Step(_) | Refused::Publish(..)) => unreachable!(),
     }
 }
 

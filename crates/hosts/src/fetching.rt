@@ -43,20 +43,11 @@ fn unfetched(declined: Declined) -> Fetched
 {
     match declined {
         Declined::Busy(_) => Fetched::Again,
-        Declined::Refused(Refused::Step(why)) => match why {
-            Why::NoQueue | Why::NoEntry => Fetched::Nothing,
-            Why::JobsFull => Fetched::Again,
-            Why::NoMemory => Fetched::NoMemory,
-            Why::NoRoom
-            | Why::NoTicket
-            | Why::Conflict
-            | Why::WrongState
-            | Why::CqFull
-            | Why::NoCompletion
-            | Why::BadBatch
-            | Why::Busy => unreachable!(),
-        },
-        Declined::Refused(Refused::Publish(..)) => unreachable!(),
+        Declined::Refused(Refused::Step(Why::NoQueue | Why::NoEntry)) => Fetched::Nothing,
+        Declined::Refused(Refused::Step(Why::JobsFull)) => Fetched::Again,
+        Declined::Refused(Refused::Step(Why::NoMemory)) => Fetched::NoMemory,
+        // No other refusal meets a Fetch.
+        Declined::Refused(Refused::Step(_) | Refused::Publish(..)) => unreachable!(),
     }
 }
 
@@ -72,6 +63,7 @@ fn fetch<G: Gate>(system: &System<G>, caller: &mut CallerPasses, queue: u16) -> 
         .attempt_open(&mut caller.pass, Open::Fetch(queue))
     {
         Ok(Opened::Fetched(work)) => Fetched::Work(work),
+        // A Fetch that was made is answered by its Work.
         Ok(Opened::Published | Opened::Reaped { .. }) => unreachable!(),
         Err(declined) => unfetched(declined),
     }
@@ -196,5 +188,6 @@ pub fn fetcher<R: Wait, G: Gate>(
         }
         stage = fetch_turn(rt, system, caller, queues, stage)?;
     }
+    // The loop ends by its returns alone.
     unreachable!()
 }

@@ -30,9 +30,7 @@ pub fn join_each<R: Threads, H: Drop, P: Promise<Returned<H>>>(
 {
     let mut ends = Ok(());
     for _ in 0..started.len() {
-        let Some(child) = started.pop() else {
-            unreachable!();
-        };
+        let child = started.pop().unwrap();
         let (caller, end) = child.join(rt);
         callers.push_reserved(caller);
         ends = ends.and(end);

@@ -157,9 +157,7 @@ pub(crate) fn start_workers<'s, E, R: Threads + Wait + Sync, G: Gate + Sync>(
     ensures all { OnOk result (callers.new.items ≡ []) }
 {
     for _ in 0..callers.len() {
-        let Some(own) = callers.pop() else {
-            unreachable!();
-        };
+        let own = callers.pop().unwrap();
         match start_worker(rt, scope, system, own) {
             Ok(child) => started.push_reserved(child),
             Err(back) => {

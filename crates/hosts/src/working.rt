@@ -214,5 +214,6 @@ pub fn worker<R: Wait, G: Gate>(
         }
         stage = work_turn(rt, system, caller, notices, stage)?;
     }
+    // The loop ends by its returns alone.
     unreachable!()
 }

@@ -146,9 +146,7 @@ impl Job {
             (λ p. volume.new ≡ volume_with p volume.old (block_at self.old.write 0) result.found) }
         ensures job { IfOpen self.old.progress.stage (λ p. self.new ≡ noted_job self.old p volume.old result.found) }
     {
-        let Some(run) = self.progress.run() else {
-            unreachable!();
-        };
+        let run = self.progress.run().unwrap();
         let compare = self.compare.as_slice();
         let boxes = self.write.as_mut_slice();
         let read = self.read.as_mut_slice();

@@ -175,8 +175,5 @@ fn one(jobs: &Slab<InFlight>, key: usize) -> &InFlight
     requires there { ContainsKey jobs.now key }
     ensures value { get jobs.now key ≡ Some result.now }
 {
-    let Some(one) = jobs.get(key) else {
-        unreachable!();
-    };
-    one
+    jobs.get(key).unwrap()
 }

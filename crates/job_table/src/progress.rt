@@ -117,6 +117,7 @@ impl TicketProgress {
         requires first { IsFirstUnit self.old.stage range }
         ensures opened { self.new ≡ record self.old { stage = opened_in self.old.stage range } }
     {
+        // Only a ticket that waits has a first unit.
         let TicketStage::Waiting(op, unit, left) = self.stage else {
             unreachable!();
         };
@@ -145,6 +146,7 @@ impl TicketProgress {
         ensures done { IfOpen self.old.stage (λ run. result ≡ done_by run found) }
         ensures noted { self.new ≡ record self.old { stage = noted_in self.old.stage found } }
     {
+        // A unit is open, as the caller has to know.
         let TicketStage::Open(run, unit, left) = &mut self.stage else {
             unreachable!();
         };
@@ -164,9 +166,7 @@ impl TicketProgress {
             return None;
         };
         let status = owed.front()?;
-        let Some(cid) = self.cids.front() else {
-            unreachable!();
-        };
+        let cid = self.cids.front().unwrap();
         Some((status, cid))
     }
 
@@ -177,6 +177,7 @@ impl TicketProgress {
         ensures last { IsTrue result ↔ (length self.old.cids ≡ 1) }
     {
         let stage = self.stage;
+        // Only a ticket that owes has completions left to post.
         let TicketStage::Owing(mut owed) = stage else {
             unreachable!();
         };

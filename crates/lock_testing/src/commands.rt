@@ -1,11 +1,11 @@
 //! Commands that are published, and fetched.
 
 ghost use Rattle.std.specs.Prelude.{◌≡◌, IfOk, vec_len};
-ghost use Rattle.lock_testing.specs.Callers.{IsFreshWork, IsTestCallerOf};
+ghost use Rattle.shared_system.specs.Plain.{IsFreshWork, IsPlainCallerOf};
 
 use crate::messages::{NO_MEMORY, fetches, opens};
-use crate::system::{TestCaller, TestSystem};
 use nvme_model::submission::{Payload, Submission, Submissions};
+use shared_system::{PlainCaller, PlainSystem};
 use std::alloc::{AllocError, Global};
 use std::sync::Wait;
 use work_queue::{Open, Work};
@@ -79,12 +79,12 @@ pub fn items_of(alloc: Global, command: Command) -> Result<Vec<Submission>, Allo
 pub fn begun<R: Wait>(
     rt: &R,
     alloc: Global,
-    system: &TestSystem,
-    caller: &mut TestCaller,
+    system: &PlainSystem,
+    caller: &mut PlainCaller,
     command: Command,
 ) -> Result<Work, u8>
-    requires { IsTestCallerOf system.now caller.old }
-    ensures same { IsTestCallerOf system.now caller.new }
+    requires { IsPlainCallerOf system.now caller.old }
+    ensures same { IsPlainCallerOf system.now caller.new }
     ensures fresh { IfOk result (IsFreshWork system.now) }
 {
     let Ok(items) = items_of(alloc, command) else {

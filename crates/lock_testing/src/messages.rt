@@ -8,11 +8,12 @@ ghost use Rattle.work_queue.specs.Duties.{duty_of, task_step};
 ghost use Rattle.work_queue.specs.Engines.{its};
 ghost use Rattle.work_queue.specs.Notices.{IsNoticeOf};
 ghost use Rattle.work_queue.specs.Posted.{IsAnswerPosted};
-ghost use Rattle.lock_testing.specs.Callers.{IsFreshOpening, IsFreshWork, IsTestCallerOf, IsTestWork};
+ghost use Rattle.lock_testing.specs.Callers.{IsFreshOpening};
+ghost use Rattle.shared_system.specs.Plain.{IsFreshWork, IsPlainCallerOf, IsPlainWork};
 
 use crate::plain::number;
-use crate::system::{TestCaller, TestSystem};
 use meet_lock::Declined;
+use shared_system::{PlainCaller, PlainSystem};
 use std::sync::Wait;
 use std::thread::yield_now;
 use step_core::{Answer, Step};
@@ -29,9 +30,13 @@ pub const STRANGE: u8 = 99;
 
 /// A Publish, a Fetch or a Reap.
 #[tactic(auto, using(crate::proofs::Callers::fetched_fresh))]
-pub fn open(system: &TestSystem, caller: &mut TestCaller, request: Open) -> Result<Opened, Declined>
-    requires { IsTestCallerOf system.now caller.old }
-    ensures same { IsTestCallerOf system.now caller.new }
+pub fn open(
+    system: &PlainSystem,
+    caller: &mut PlainCaller,
+    request: Open,
+) -> Result<Opened, Declined>
+    requires { IsPlainCallerOf system.now caller.old }
+    ensures same { IsPlainCallerOf system.now caller.new }
     ensures fresh { IfOk result (IsFreshOpening system.now) }
 {
     system.engine.attempt_open(&mut caller.pass, request)
@@ -44,12 +49,12 @@ pub fn open(system: &TestSystem, caller: &mut TestCaller, request: Open) -> Resu
 /// The number of its refusal.
 pub fn opens<R: Wait>(
     rt: &R,
-    system: &TestSystem,
-    caller: &mut TestCaller,
+    system: &PlainSystem,
+    caller: &mut PlainCaller,
     request: Open,
 ) -> Result<Opened, u8>
-    requires { IsTestCallerOf system.now caller.old }
-    ensures same { IsTestCallerOf system.now caller.new }
+    requires { IsPlainCallerOf system.now caller.old }
+    ensures same { IsPlainCallerOf system.now caller.new }
     ensures fresh { IfOk result (IsFreshOpening system.now) }
 {
     let mut next = request;
@@ -64,6 +69,7 @@ pub fn opens<R: Wait>(
         }
         yield_now();
     }
+    // The loop ends by its answer alone.
     unreachable!()
 }
 
@@ -74,12 +80,12 @@ pub fn opens<R: Wait>(
 /// The number of its refusal.
 pub fn fetches<R: Wait>(
     rt: &R,
-    system: &TestSystem,
-    caller: &mut TestCaller,
+    system: &PlainSystem,
+    caller: &mut PlainCaller,
     queue: u16,
 ) -> Result<Work, u8>
-    requires { IsTestCallerOf system.now caller.old }
-    ensures same { IsTestCallerOf system.now caller.new }
+    requires { IsPlainCallerOf system.now caller.old }
+    ensures same { IsPlainCallerOf system.now caller.new }
     ensures fresh { IfOk result (IsFreshWork system.now) }
 {
     match opens(rt, system, caller, Open::Fetch(queue)) {
@@ -92,22 +98,22 @@ pub fn fetches<R: Wait>(
 /// The Work, put at the back; or it comes back.
 pub fn pushes<R: Wait>(
     rt: &R,
-    system: &TestSystem,
-    caller: &mut TestCaller,
+    system: &PlainSystem,
+    caller: &mut PlainCaller,
     work: Work,
 ) -> Result<(), Work>
-    requires own { IsTestCallerOf system.now caller.old }
+    requires own { IsPlainCallerOf system.now caller.old }
     requires fresh { IsFreshWork system.now work }
-    ensures same { IsTestCallerOf system.now caller.new }
+    ensures same { IsPlainCallerOf system.now caller.new }
     ensures back { IfErr result (IsFreshWork system.now) }
 {
     system.works.push(rt, &mut caller.works, work)
 }
 
 /// The Work at the front.
-pub fn pops<R: Wait>(rt: &R, system: &TestSystem, caller: &mut TestCaller) -> Option<Work>
-    requires { IsTestCallerOf system.now caller.old }
-    ensures same { IsTestCallerOf system.now caller.new }
+pub fn pops<R: Wait>(rt: &R, system: &PlainSystem, caller: &mut PlainCaller) -> Option<Work>
+    requires { IsPlainCallerOf system.now caller.old }
+    ensures same { IsPlainCallerOf system.now caller.new }
     ensures work { IfSome result (IsFreshWork system.now) }
 {
     system.works.pop(rt, &mut caller.works)
@@ -119,15 +125,15 @@ pub fn pops<R: Wait>(rt: &R, system: &TestSystem, caller: &mut TestCaller) -> Op
 ///
 /// As `Engine::attempt_work`.
 pub fn attempt(
-    system: &TestSystem,
-    caller: &mut TestCaller,
+    system: &PlainSystem,
+    caller: &mut PlainCaller,
     work: &mut Work,
     task: Task,
 ) -> Result<Answer, Declined>
-    requires own { IsTestCallerOf system.now caller.old × IsTestWork system.now work.old }
+    requires own { IsPlainCallerOf system.now caller.old × IsPlainWork system.now work.old }
     requires allowed { task_fault (duty_of work.old.work) work.old.work.ticket (its work.old)
         (task_step task work.old.work.ticket) ≡ None }
-    ensures same { IsTestCallerOf system.now caller.new × IsTestWork system.now work.new }
+    ensures same { IsPlainCallerOf system.now caller.new × IsPlainWork system.now work.new }
     ensures posted { IfOk result (IsAnswerPosted (config_of caller.new.pass) (entries (seen caller.new.pass))
         work.new.queue) }
 {
@@ -140,15 +146,15 @@ pub fn attempt(
 ///
 /// The number of want of memory.
 pub fn noted(
-    system: &TestSystem,
-    caller: &mut TestCaller,
+    system: &PlainSystem,
+    caller: &mut PlainCaller,
     _work: &Work,
     answer: &Answer,
 ) -> Result<Option<Notice>, u8>
-    requires own { IsTestCallerOf system.now caller.old }
+    requires own { IsPlainCallerOf system.now caller.old }
     requires posted { IsAnswerPosted (config_of caller.old.pass) (entries (seen caller.old.pass)) _work.now.queue
         answer.now }
-    ensures same { IsTestCallerOf system.now caller.new }
+    ensures same { IsPlainCallerOf system.now caller.new }
     ensures notice { IfOk result (λ n. IfSome n (IsNoticeOf system.now.engine)) }
     ensures posted { IsAnswerPosted (config_of caller.new.pass) (entries (seen caller.new.pass)) _work.now.queue
         answer.now }
@@ -168,15 +174,15 @@ pub fn noted(
 /// That Notice, put into the queue; whether there was room and memory for it.
 pub fn tells<R: Wait>(
     rt: &R,
-    system: &TestSystem,
-    caller: &mut TestCaller,
+    system: &PlainSystem,
+    caller: &mut PlainCaller,
     _work: &Work,
     answer: &Answer,
 ) -> bool
-    requires own { IsTestCallerOf system.now caller.old }
+    requires own { IsPlainCallerOf system.now caller.old }
     requires posted { IsAnswerPosted (config_of caller.old.pass) (entries (seen caller.old.pass)) _work.now.queue
         answer.now }
-    ensures { IsTestCallerOf system.now caller.new }
+    ensures { IsPlainCallerOf system.now caller.new }
 {
     match noted(system, caller, _work, answer) {
         Ok(Some(notice)) => system.notices.push(rt, &mut caller.notices, notice).is_ok(),
@@ -193,16 +199,16 @@ pub fn tells<R: Wait>(
 /// The number of its refusal.
 pub fn works<R: Wait>(
     rt: &R,
-    system: &TestSystem,
-    caller: &mut TestCaller,
+    system: &PlainSystem,
+    caller: &mut PlainCaller,
     work: &mut Work,
 ) -> Result<Option<Answer>, u8>
-    requires { IsTestCallerOf system.now caller.old × IsTestWork system.now work.old }
-    ensures { IsTestCallerOf system.now caller.new × IsTestWork system.now work.new }
+    requires { IsPlainCallerOf system.now caller.old × IsPlainWork system.now work.old }
+    ensures { IsPlainCallerOf system.now caller.new × IsPlainWork system.now work.new }
 {
     for _ in rt.forever() {
         let Some(task) = work.next_task() else {
-            return Ok(None);
+            break;
         };
         match attempt(system, caller, work, task) {
             Ok(answer) => {
@@ -216,7 +222,7 @@ pub fn works<R: Wait>(
         }
         yield_now();
     }
-    unreachable!()
+    Ok(None)
 }
 
 /// Learns one notice, if one is there; whether there was.
@@ -224,9 +230,9 @@ pub fn works<R: Wait>(
 /// # Errors
 ///
 /// A number, where another caller had the lock.
-pub fn learns<R: Wait>(rt: &R, system: &TestSystem, caller: &mut TestCaller) -> Result<bool, u8>
-    requires { IsTestCallerOf system.now caller.old }
-    ensures { IsTestCallerOf system.now caller.new }
+pub fn learns<R: Wait>(rt: &R, system: &PlainSystem, caller: &mut PlainCaller) -> Result<bool, u8>
+    requires { IsPlainCallerOf system.now caller.old }
+    ensures { IsPlainCallerOf system.now caller.new }
 {
     let Some(mut notice) = system.notices.pop(rt, &mut caller.notices) else {
         return Ok(false);

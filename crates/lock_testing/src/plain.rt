@@ -56,7 +56,7 @@ fn step_of(alloc: Global, core: &Core, line: &str) -> Option<Step> {
     match read_script_line(alloc, line.as_bytes()) {
         Ok(ScriptLine::Step(step)) => Some(step),
         Ok(ScriptLine::Settle) => core.ready(),
-        _ => None,
+        Ok(ScriptLine::Medium(_) | ScriptLine::Comment) | Err(_) => None,
     }
 }
 

@@ -3,20 +3,26 @@
 #![tactic(auto)]
 
 ghost use Rattle.std.specs.Arc.{arc_value};
-ghost use Rattle.std.specs.Prelude.{◌+◌, ◌≡◌, ◌≤◌, All, IfSome};
+ghost use Rattle.std.specs.Prelude.{◌≡◌, ◌≤◌, IfSome};
 ghost use Rattle.driver_cas.specs.Drivers.{IsCallOf};
 ghost use Rattle.history.specs.Config.{config_numbers};
-ghost use Rattle.work_queue.specs.Engines.{IsFreshPass, IsPassOfEngine, IsWorkOf};
+ghost use Rattle.meet_lock.specs.Passes.{config_of};
+ghost use Rattle.shared_system.specs.Plain.{ArePlainCallers};
+ghost use Rattle.work_queue.specs.Engines.{IsPassOfEngine, IsWorkOf};
 
-use driver_cas::{Call, Driver, OwnPort, Poll, Reply};
+use driver_cas::{Call, Driver, Poll, Reply, SharedPort};
 use history::Config;
 use meet_lock::Pass;
 use nvme_model::array::Range;
+use shared_system::{PlainCallers, PlainSystem, plain_system_of, take_caller};
 use std::alloc::Global;
 use std::process::ExitCode;
 use std::sync::Arc;
 use step_core::Core;
 use work_queue::{Engine, Open, Opened, Work};
+
+// A host, which owns all that it needs, so it may be kept beside the controller.
+type OwnHost = Driver<SharedPort<'static>>;
 
 // A controller and who serves it.
 #[derive(Drop)]
@@ -26,13 +32,14 @@ struct Disk {
     ghost own: { IsPassOfEngine (arc_value engine) server },
 }
 
-// Host h, on submission queue h, with no slots. It owns all that it needs, so it may be kept beside the controller.
-fn host_of(alloc: Global, disk: &Disk, pass: Pass<Core>, h: u16) -> Option<Driver<OwnPort>>
-    requires pass { IsFreshPass (arc_value disk.now.engine) (config_numbers 8 1 1 0 0 2 4 4 8 2) pass }
+// Host h, on submission queue h, with no slots.
+fn host_of(alloc: Global, engine: &Arc<Engine>, pass: Pass<Core>, h: u16) -> Option<OwnHost>
+    requires pass { IsPassOfEngine (arc_value engine.now) pass }
+    requires config { config_of pass ≡ config_numbers 8 1 1 0 0 2 4 4 8 2 }
     requires number { (1 ≤ h) × (h ≤ 2) }
 {
-    let engine = Arc::try_clone(&disk.engine).ok()?;
-    let port = OwnPort::new(engine, pass, h);
+    let engine = Arc::try_clone(engine).ok()?;
+    let port = SharedPort::own(engine, pass, h);
     let none = Range { slba: 0, blocks: 0 };
     let queues = [h].to_vec(alloc).ok()?;
     match Driver::new(alloc, port, u32::from(h), 1, none, queues) {
@@ -75,7 +82,7 @@ fn serve(disk: &mut Disk, queue: u16) -> bool {
 }
 
 // Begins to swap zeros in block 3 for this block.
-fn swap(host: &mut Driver<OwnPort>, block: &[u8; 512]) -> Option<Call<OwnPort>>
+fn swap(host: &mut OwnHost, block: &[u8; 512]) -> Option<Call<SharedPort<'static>>>
     ensures { IfSome result (IsCallOf host.new) }
 {
     let Ok(call) = host.start_compare_and_write(3, &[0; 512], block) else {
@@ -85,7 +92,7 @@ fn swap(host: &mut Driver<OwnPort>, block: &[u8; 512]) -> Option<Call<OwnPort>>
 }
 
 // What a pair is answered, in words: a poll reaps one completion, and a pair has two.
-fn told(host: &mut Driver<OwnPort>, call: Call<OwnPort>) -> Option<&'static str>
+fn told(host: &mut OwnHost, call: Call<SharedPort<'static>>) -> Option<&'static str>
     requires { IsCallOf host.old call }
 {
     let Poll::Pending(call) = host.poll(call) else {
@@ -94,58 +101,48 @@ fn told(host: &mut Driver<OwnPort>, call: Call<OwnPort>) -> Option<&'static str>
     match host.poll(call) {
         Poll::Done(Reply::Swapped) => Some("Swapped"),
         Poll::Done(Reply::Differs) => Some("Differs"),
-        _ => None,
+        Poll::Done(Reply::Read(_) | Reply::Written | Reply::Equal)
+        | Poll::Pending(_)
+        | Poll::Later(..)
+        | Poll::Failed(_) => None,
     }
 }
 
-// The next pass.
-fn next_pass(_engine: &Engine, passes: &mut Vec<Pass<Core>>) -> Option<Pass<Core>>
-    requires { All (IsFreshPass _engine.now (config_numbers 8 1 1 0 0 2 4 4 8 2)) passes.old.items }
-    ensures pass { IfSome result (IsFreshPass _engine.now (config_numbers 8 1 1 0 0 2 4 4 8 2)) }
-    ensures rest { All (IsFreshPass _engine.now (config_numbers 8 1 1 0 0 2 4 4 8 2)) passes.new.items }
+// A controller of 8 blocks with two queue pairs, and three callers.
+fn system_of(alloc: Global) -> Option<(PlainSystem, PlainCallers)>
+    ensures callers { IfSome result (λ h. ArePlainCallers h.0 h.1) }
+    ensures config { IfSome result (λ h. h.0.config ≡ config_numbers 8 1 1 0 0 2 4 4 8 2) }
 {
-    passes.pop()
+    let config = Config::new(8, 1, 1, 0, 0, 2, 4, 4, 8).ok()?;
+    plain_system_of(alloc, config, 1, 3).ok()
 }
 
-// A controller of 8 blocks with two queue pairs, and the passes of two hosts.
-#[derive(Drop)]
-struct Setup {
-    disk: Disk,
-    first: Pass<Core>,
-    second: Pass<Core>,
-    ghost one: { IsFreshPass (arc_value disk.engine) (config_numbers 8 1 1 0 0 2 4 4 8 2) first },
-    ghost two: { IsFreshPass (arc_value disk.engine) (config_numbers 8 1 1 0 0 2 4 4 8 2) second },
+// The next caller's pass.
+fn next_pass(system: &PlainSystem, callers: &mut PlainCallers) -> Option<Pass<Core>>
+    requires callers { ArePlainCallers system.now callers.old }
+    requires config { system.now.config ≡ config_numbers 8 1 1 0 0 2 4 4 8 2 }
+    ensures rest { ArePlainCallers system.now callers.new }
+    ensures pass { IfSome result (IsPassOfEngine system.now.engine) }
+    ensures config { IfSome result (λ p. config_of p ≡ config_numbers 8 1 1 0 0 2 4 4 8 2) }
+{
+    Some(take_caller(system, callers)?.pass)
 }
 
-fn set_up(alloc: Global) -> Option<Setup> {
-    let Ok(config) = Config::new(8, 1, 1, 0, 0, 2, 4, 4, 8) else {
-        return None;
-    };
-    let Ok((engine, mut passes)) = Engine::of_config(alloc, config, 3) else {
-        return None;
-    };
-    let server = next_pass(&engine, &mut passes)?;
-    let first = next_pass(&engine, &mut passes)?;
-    let second = next_pass(&engine, &mut passes)?;
-    let Ok(engine) = Arc::new(alloc, engine) else {
-        return None;
-    };
-    let disk = Disk { engine, server };
-    Some(Setup {
-        disk,
-        first,
-        second,
-    })
+// The controller, and two hosts.
+fn set_up(alloc: Global) -> Option<(Disk, OwnHost, OwnHost)> {
+    let (system, mut callers) = system_of(alloc)?;
+    let server = next_pass(&system, &mut callers)?;
+    let first = next_pass(&system, &mut callers)?;
+    let second = next_pass(&system, &mut callers)?;
+    let PlainSystem { engine, .. } = system;
+    let engine = Arc::new(alloc, engine).ok()?;
+    let one = host_of(alloc, &engine, first, 1)?;
+    let two = host_of(alloc, &engine, second, 2)?;
+    Some((Disk { engine, server }, one, two))
 }
 
 fn runs<R: AllocGlobal + Print>(rt: &R) -> Option<()> {
-    let Setup {
-        mut disk,
-        first,
-        second,
-    } = set_up(rt.alloc())?;
-    let mut one = host_of(rt.alloc(), &disk, first, 1)?;
-    let mut two = host_of(rt.alloc(), &disk, second, 2)?;
+    let (mut disk, mut one, mut two) = set_up(rt.alloc())?;
     // Both begin before either is served.
     let a = swap(&mut one, &[0xa1; 512])?;
     let b = swap(&mut two, &[0xb2; 512])?;

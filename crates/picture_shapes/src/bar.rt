@@ -79,7 +79,8 @@ fn same_stage(one: BarStage, other: BarStage) -> bool
         (BarStage::Fetched(a), BarStage::Fetched(b)) => a == b,
         (BarStage::Second(a), BarStage::Second(b)) => a == b,
         (BarStage::Posted(a), BarStage::Posted(b)) => a == b,
-        _ => false,
+        (BarStage::Published(_) | BarStage::Fetched(_), _) => false,
+        (BarStage::Second(_) | BarStage::Posted(_), _) => false,
     }
 }
 

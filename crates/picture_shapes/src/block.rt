@@ -47,7 +47,7 @@ fn same_ticket(one: Option<u64>, other: Option<u64>) -> bool
     match (one, other) {
         (None, None) => true,
         (Some(a), Some(b)) => a == b,
-        _ => false,
+        (None, Some(_)) | (Some(_), None) => false,
     }
 }
 

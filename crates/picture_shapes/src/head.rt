@@ -46,7 +46,8 @@ fn is_marked(entry: &Entry) -> bool
 {
     match entry {
         Entry::Block(line) => line.effect,
-        _ => false,
+        Entry::Publish(_) | Entry::Fetch(_) | Entry::Grant(_) | Entry::Post(_) | Entry::Reap(_) =>
+            false,
     }
 }
 

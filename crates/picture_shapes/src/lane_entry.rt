@@ -102,7 +102,7 @@ fn same_lane_entry_stage(one: LaneEntryStage, other: LaneEntryStage) -> bool
     match (one, other) {
         (LaneEntryStage::Waiting(a), LaneEntryStage::Waiting(b)) => a == b,
         (LaneEntryStage::InFlight(a), LaneEntryStage::InFlight(b)) => a == b,
-        _ => false,
+        (LaneEntryStage::Waiting(_) | LaneEntryStage::InFlight(_), _) => false,
     }
 }
 

@@ -1,11 +1,11 @@
 //! Queues of one place and of sixteen.
 
 ghost use Rattle.std.specs.Prelude.{◌<◌, IfOk};
-ghost use Rattle.lock_testing.specs.Callers.{IsCrewOf, IsFreshWork, IsTestCallerOf};
+ghost use Rattle.lock_testing.specs.Callers.{IsCrewOf};
+ghost use Rattle.shared_system.specs.Plain.{IsFreshWork, IsPlainCallerOf};
 
-use lock_testing::{
-    ONE_QUEUE, TestCaller, TestSystem, ThreeCallers, begun, config_of, crewed, flush, pops, pushes,
-};
+use lock_testing::{ONE_QUEUE, ThreeCallers, begun, config_of, crewed, flush, pops, pushes};
+use shared_system::{PlainCaller, PlainSystem};
 use std::alloc::Global;
 use std::ops::Range;
 use std::process::Abort;
@@ -14,9 +14,9 @@ use std::test::Fail;
 use work_queue::Work;
 
 /// The ticket of the Work at the front, 0 where there is none.
-fn popped<R: Wait>(rt: &R, system: &TestSystem, caller: &mut TestCaller) -> u64
-    requires { IsTestCallerOf system.now caller.old }
-    ensures { IsTestCallerOf system.now caller.new }
+fn popped<R: Wait>(rt: &R, system: &PlainSystem, caller: &mut PlainCaller) -> u64
+    requires { IsPlainCallerOf system.now caller.old }
+    ensures { IsPlainCallerOf system.now caller.new }
 {
     match pops(rt, system, caller) {
         Some(work) => work.ticket(),
@@ -28,12 +28,12 @@ fn popped<R: Wait>(rt: &R, system: &TestSystem, caller: &mut TestCaller) -> u64
 fn overfills<R: Wait>(
     rt: &R,
     alloc: Global,
-    system: &TestSystem,
-    caller: &mut TestCaller,
+    system: &PlainSystem,
+    caller: &mut PlainCaller,
     capacity: u16,
 ) -> Result<Work, u8>
-    requires { IsTestCallerOf system.now caller.old }
-    ensures same { IsTestCallerOf system.now caller.new }
+    requires { IsPlainCallerOf system.now caller.old }
+    ensures same { IsPlainCallerOf system.now caller.new }
     ensures fresh { IfOk result (IsFreshWork system.now) }
 {
     for cid in 0..=capacity {
@@ -48,12 +48,12 @@ fn overfills<R: Wait>(
 /// Pops these tickets, and then nothing.
 fn empties<R: Abort + Wait>(
     rt: &R,
-    system: &TestSystem,
-    caller: &mut TestCaller,
+    system: &PlainSystem,
+    caller: &mut PlainCaller,
     tickets: Range<u64>,
 )
-    requires { IsTestCallerOf system.now caller.old }
-    ensures { IsTestCallerOf system.now caller.new }
+    requires { IsPlainCallerOf system.now caller.old }
+    ensures { IsPlainCallerOf system.now caller.new }
 {
     for ticket in tickets {
         assert_eq!(rt; popped(rt, system, caller), ticket);
@@ -62,7 +62,7 @@ fn empties<R: Abort + Wait>(
 }
 
 /// What the worker popped, beside what the fetcher pushed: the queue goes on as before.
-fn compares(system: &TestSystem, crew: &mut ThreeCallers)
+fn compares(system: &PlainSystem, crew: &mut ThreeCallers)
     requires { IsCrewOf system.now crew.old }
     ensures { IsCrewOf system.now crew.new }
 {
@@ -75,7 +75,7 @@ fn compares(system: &TestSystem, crew: &mut ThreeCallers)
 fn holds<R: Abort + Wait>(
     rt: &R,
     alloc: Global,
-    system: &TestSystem,
+    system: &PlainSystem,
     crew: &mut ThreeCallers,
     capacity: u16,
 )

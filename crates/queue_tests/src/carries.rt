@@ -1,12 +1,13 @@
 //! Every Work that goes through a queue comes out, once and in its pusher's order.
 
 ghost use Rattle.std.specs.Prelude.{◌<◌, All, IfOk};
-ghost use Rattle.lock_testing.specs.Callers.{AreTestSpares, IsTestCallerOf};
+ghost use Rattle.shared_system.specs.Plain.{ArePlainCallers, IsPlainCallerOf};
 
 use crate::counts::Counts;
 use crate::crowd::{Ended, Got, WORKS, crowd};
 use crate::ends::entries_of;
-use lock_testing::{SpareCallers, TestCaller, TestSystem, config_of, system_of, take_caller};
+use lock_testing::config_of;
+use shared_system::{PlainCaller, PlainCallers, PlainSystem, plain_system_of, take_caller};
 use std::alloc::{AllocError, Global};
 use std::process::Abort;
 use std::sync::Wait;
@@ -60,9 +61,9 @@ fn check_each<R: Abort>(rt: &R, alloc: Global, gots: &[Got]) -> Result<(), Fail>
 }
 
 /// Adds a caller, where there is one and memory.
-fn add_caller(system: &TestSystem, spares: &mut SpareCallers, callers: &mut Vec<TestCaller>)
-    requires { AreTestSpares system.now spares.old × All (IsTestCallerOf system.now) callers.old.items }
-    ensures { AreTestSpares system.now spares.new × All (IsTestCallerOf system.now) callers.new.items }
+fn add_caller(system: &PlainSystem, spares: &mut PlainCallers, callers: &mut Vec<PlainCaller>)
+    requires { ArePlainCallers system.now spares.old × All (IsPlainCallerOf system.now) callers.old.items }
+    ensures { ArePlainCallers system.now spares.new × All (IsPlainCallerOf system.now) callers.new.items }
 {
     if let Some(caller) = take_caller(system, spares) {
         let _ = callers.push(caller);
@@ -72,12 +73,12 @@ fn add_caller(system: &TestSystem, spares: &mut SpareCallers, callers: &mut Vec<
 /// So many callers, or fewer.
 fn some_callers(
     alloc: Global,
-    system: &TestSystem,
-    spares: &mut SpareCallers,
+    system: &PlainSystem,
+    spares: &mut PlainCallers,
     count: u8,
-) -> Vec<TestCaller>
-    requires { AreTestSpares system.now spares.old }
-    ensures { AreTestSpares system.now spares.new × All (IsTestCallerOf system.now) result.items }
+) -> Vec<PlainCaller>
+    requires { ArePlainCallers system.now spares.old }
+    ensures { ArePlainCallers system.now spares.new × All (IsPlainCallerOf system.now) result.items }
 {
     let mut callers = Vec::new(alloc);
     for _ in 0..count {
@@ -90,12 +91,12 @@ fn some_callers(
 fn eight<R: Abort + Threads + Wait + Sync>(
     rt: &R,
     alloc: Global,
-    system: &TestSystem,
-    spares: &mut SpareCallers,
+    system: &PlainSystem,
+    spares: &mut PlainCallers,
     capacity: usize,
 ) -> Result<(), Fail>
-    requires { AreTestSpares system.now spares.old }
-    ensures { IfOk result (λ _. AreTestSpares system.now spares.new) }
+    requires { ArePlainCallers system.now spares.old }
+    ensures { IfOk result (λ _. ArePlainCallers system.now spares.new) }
 {
     let callers = some_callers(alloc, system, spares, 8);
     assert_eq!(rt; callers.len(), 8);
@@ -113,7 +114,7 @@ fn carries<R: Abort + Threads + Wait + Sync>(
     requires { 0 < capacity }
 {
     let config = config_of(alloc, "config 8 1 1 0 0 4 4 8 32").ok_or("no configuration")?;
-    let (system, mut spares) = system_of(alloc, config, capacity, 9)?;
+    let (system, mut spares) = plain_system_of(alloc, config, capacity, 9)?;
     eight(rt, alloc, &system, &mut spares, capacity)?;
     let last = take_caller(&system, &mut spares).ok_or("a caller")?;
     assert_eq!(rt; entries_of(system, last)? as u64, 16 * u64::from(WORKS));

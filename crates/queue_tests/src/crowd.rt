@@ -1,12 +1,11 @@
 //! Works through one queue, from four threads to four.
 
 ghost use Rattle.std.specs.Prelude.{All, IfOk, IfSome};
-ghost use Rattle.lock_testing.specs.Callers.{IsFreshWork, IsTestCallerOf, IsTestWork};
+ghost use Rattle.shared_system.specs.Plain.{IsFreshWork, IsPlainCallerOf, IsPlainWork};
 
 use crate::counts::Counts;
-use lock_testing::{
-    LATE, NO_MEMORY, STRANGE, TestCaller, TestSystem, begun, flush, opens, pops, pushes, works,
-};
+use lock_testing::{LATE, NO_MEMORY, STRANGE, begun, flush, opens, pops, pushes, works};
+use shared_system::{PlainCaller, PlainSystem};
 use std::alloc::{AllocError, Global};
 use std::sync::Wait;
 use std::thread::{Threads, map_vec, yield_now};
@@ -35,13 +34,13 @@ pub(crate) type Got = Result<Vec<Ended>, u8>;
 /// The Work, put at the back, again while it comes back.
 fn puts<R: Wait>(
     rt: &R,
-    system: &TestSystem,
+    system: &PlainSystem,
     counts: &Counts,
-    caller: &mut TestCaller,
+    caller: &mut PlainCaller,
     work: Work,
 ) -> Result<(), u8>
-    requires { IsTestCallerOf system.now caller.old × IsFreshWork system.now work }
-    ensures { IsTestCallerOf system.now caller.new }
+    requires { IsPlainCallerOf system.now caller.old × IsFreshWork system.now work }
+    ensures { IsPlainCallerOf system.now caller.new }
 {
     let mut next = work;
     for _ in 0..TRIES {
@@ -64,13 +63,13 @@ fn puts<R: Wait>(
 /// The Work at the front, once one is there; None once all are popped.
 fn takes<R: Wait>(
     rt: &R,
-    system: &TestSystem,
+    system: &PlainSystem,
     counts: &Counts,
-    caller: &mut TestCaller,
+    caller: &mut PlainCaller,
 ) -> Result<Option<Work>, u8>
-    requires { IsTestCallerOf system.now caller.old }
-    ensures same { IsTestCallerOf system.now caller.new }
-    ensures work { IfOk result (λ w. IfSome w (IsTestWork system.now)) }
+    requires { IsPlainCallerOf system.now caller.old }
+    ensures same { IsPlainCallerOf system.now caller.new }
+    ensures work { IfOk result (λ w. IfSome w (IsPlainWork system.now)) }
 {
     for _ in 0..TRIES {
         if counts.is_done() {
@@ -93,12 +92,12 @@ fn takes<R: Wait>(
 fn pusher<R: Wait>(
     rt: &R,
     alloc: Global,
-    system: &TestSystem,
+    system: &PlainSystem,
     counts: &Counts,
-    caller: &mut TestCaller,
+    caller: &mut PlainCaller,
     queue: u16,
 ) -> Result<(), u8>
-    requires { IsTestCallerOf system.now caller.old }
+    requires { IsPlainCallerOf system.now caller.old }
 {
     for cid in 1..=WORKS {
         let work = begun(rt, alloc, system, caller, flush(queue, cid))?;
@@ -110,12 +109,12 @@ fn pusher<R: Wait>(
 /// Posts the Work's one completion.
 fn posted<R: Wait>(
     rt: &R,
-    system: &TestSystem,
-    caller: &mut TestCaller,
+    system: &PlainSystem,
+    caller: &mut PlainCaller,
     mut work: Work,
 ) -> Result<[u8; 16], u8>
-    requires { IsTestCallerOf system.now caller.old × IsTestWork system.now work }
-    ensures { IsTestCallerOf system.now caller.new }
+    requires { IsPlainCallerOf system.now caller.old × IsPlainWork system.now work }
+    ensures { IsPlainCallerOf system.now caller.new }
 {
     match works(rt, system, caller, &mut work) {
         Ok(Some(Answer::Posted(cqe))) => Ok(cqe),
@@ -127,12 +126,12 @@ fn posted<R: Wait>(
 /// Posts the Work's one completion, and reaps one of that queue; the command that was posted.
 fn ends<R: Wait>(
     rt: &R,
-    system: &TestSystem,
-    caller: &mut TestCaller,
+    system: &PlainSystem,
+    caller: &mut PlainCaller,
     work: Work,
 ) -> Result<Ended, u8>
-    requires { IsTestCallerOf system.now caller.old × IsTestWork system.now work }
-    ensures { IsTestCallerOf system.now caller.new }
+    requires { IsPlainCallerOf system.now caller.old × IsPlainWork system.now work }
+    ensures { IsPlainCallerOf system.now caller.new }
 {
     let cqe = posted(rt, system, caller, work)?;
     let queue = u16::from_le_bytes([cqe[10], cqe[11]]);
@@ -147,12 +146,12 @@ fn ends<R: Wait>(
 /// Ends Works until all are popped; their commands.
 fn popper<R: Wait>(
     rt: &R,
-    system: &TestSystem,
+    system: &PlainSystem,
     counts: &Counts,
-    caller: &mut TestCaller,
+    caller: &mut PlainCaller,
     popped: &mut Vec<Ended>,
 ) -> Result<(), u8>
-    requires { IsTestCallerOf system.now caller.old }
+    requires { IsPlainCallerOf system.now caller.old }
 {
     for _ in 0..TRIES {
         let Some(work) = takes(rt, system, counts, caller)? else {
@@ -170,11 +169,11 @@ fn popper<R: Wait>(
 fn plays<R: Wait>(
     rt: &R,
     alloc: Global,
-    system: &TestSystem,
+    system: &PlainSystem,
     counts: &Counts,
-    mut caller: TestCaller,
+    mut caller: PlainCaller,
 ) -> Got
-    requires { IsTestCallerOf system.now caller }
+    requires { IsPlainCallerOf system.now caller }
 {
     let mut popped = Vec::new(alloc);
     let place = counts.comes();
@@ -190,17 +189,17 @@ fn plays<R: Wait>(
 pub(crate) fn crowd<R: Threads + Wait + Sync>(
     rt: &R,
     alloc: Global,
-    system: &TestSystem,
+    system: &PlainSystem,
     counts: &Counts,
-    callers: Vec<TestCaller>,
+    callers: Vec<PlainCaller>,
 ) -> Result<Vec<Got>, AllocError>
-    requires { All (IsTestCallerOf system.now) callers.items }
+    requires { All (IsPlainCallerOf system.now) callers.items }
 {
     map_vec(
         rt,
         callers,
         &|caller| -> Got
-            requires { IsTestCallerOf system.now caller }
+            requires { IsPlainCallerOf system.now caller }
         { plays(rt, alloc, system, counts, caller) },
     )
 }

@@ -1,9 +1,10 @@
 //! An engine is closed, with one of its passes or with all.
 
 ghost use Rattle.std.specs.Prelude.{◌<◌};
-ghost use Rattle.lock_testing.specs.Callers.{IsTestCallerOf};
+ghost use Rattle.shared_system.specs.Plain.{IsPlainCallerOf};
 
-use lock_testing::{ONE_QUEUE, TestCaller, TestSystem, closed, config_of};
+use lock_testing::{ONE_QUEUE, closed, config_of};
+use shared_system::{PlainCaller, PlainSystem};
 use std::alloc::Global;
 use std::test::Fail;
 use step_core::Core;
@@ -22,8 +23,8 @@ fn closed_by_all(alloc: Global, count: usize) -> Result<Core, Fail>
 }
 
 /// How long the history of a system is, once nobody has the lock.
-pub(crate) fn entries_of(system: TestSystem, caller: TestCaller) -> Result<usize, Fail>
-    requires { IsTestCallerOf system caller }
+pub(crate) fn entries_of(system: PlainSystem, caller: PlainCaller) -> Result<usize, Fail>
+    requires { IsPlainCallerOf system caller }
 {
     let core = closed(system, caller).ok_or("the lock isn't free")?;
     Ok(core.history().len())

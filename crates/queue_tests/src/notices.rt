@@ -5,13 +5,11 @@ ghost use Rattle.meet_lock.specs.Passes.{config_of, seen};
 ghost use Rattle.nvme_model.specs.Passes.{entries};
 ghost use Rattle.work_queue.specs.Notices.{IsNoticeOf};
 ghost use Rattle.work_queue.specs.Posted.{IsAnswerPosted};
-ghost use Rattle.lock_testing.specs.Callers.{IsTestCallerOf};
+ghost use Rattle.shared_system.specs.Plain.{IsPlainCallerOf};
 
-use lock_testing::{
-    ONE_QUEUE, TestCaller, TestSystem, attempt, begun, config_of, crewed, flush, noted, opens,
-    system_of, take_caller,
-};
+use lock_testing::{ONE_QUEUE, attempt, begun, config_of, crewed, flush, noted, opens};
 use nvme_model::submission::Submissions;
+use shared_system::{PlainCaller, PlainSystem, plain_system_of, take_caller};
 use std::alloc::Global;
 use std::process::Abort;
 use std::sync::Wait;
@@ -23,12 +21,12 @@ use work_queue::{Notice, Open, Opened, Work};
 fn posts<R: Wait>(
     rt: &R,
     alloc: Global,
-    system: &TestSystem,
-    caller: &mut TestCaller,
+    system: &PlainSystem,
+    caller: &mut PlainCaller,
     cid: u16,
 ) -> Option<Notice>
-    requires { IsTestCallerOf system.now caller.old }
-    ensures same { IsTestCallerOf system.now caller.new }
+    requires { IsPlainCallerOf system.now caller.old }
+    ensures same { IsPlainCallerOf system.now caller.new }
     ensures notice { IfSome result (IsNoticeOf system.now.engine) }
 {
     let mut work = begun(rt, alloc, system, caller, flush(1, cid)).ok()?;
@@ -40,12 +38,12 @@ fn posts<R: Wait>(
 /// The notice, put at the back; or it comes back.
 fn tells<R: Wait>(
     rt: &R,
-    system: &TestSystem,
-    caller: &mut TestCaller,
+    system: &PlainSystem,
+    caller: &mut PlainCaller,
     notice: Notice,
 ) -> Result<(), Notice>
-    requires { IsTestCallerOf system.now caller.old × IsNoticeOf system.now.engine notice }
-    ensures same { IsTestCallerOf system.now caller.new }
+    requires { IsPlainCallerOf system.now caller.old × IsNoticeOf system.now.engine notice }
+    ensures same { IsPlainCallerOf system.now caller.new }
     ensures back { IfErr result (IsNoticeOf system.now.engine) }
     ensures pass { caller.new.pass ≡ caller.old.pass }
 {
@@ -59,9 +57,9 @@ fn cid_of(notice: &Notice) -> u16 {
 }
 
 /// The next notice's CID, once it is learnt and the completion that it names was reaped; 0 where there is none.
-fn hears<R: Abort + Wait>(rt: &R, system: &TestSystem, caller: &mut TestCaller) -> u16
-    requires { IsTestCallerOf system.now caller.old }
-    ensures { IsTestCallerOf system.now caller.new }
+fn hears<R: Abort + Wait>(rt: &R, system: &PlainSystem, caller: &mut PlainCaller) -> u16
+    requires { IsPlainCallerOf system.now caller.old }
+    ensures { IsPlainCallerOf system.now caller.new }
 {
     let Some(mut notice) = system.notices.pop(rt, &mut caller.notices) else {
         return 0;
@@ -79,11 +77,11 @@ fn hears<R: Abort + Wait>(rt: &R, system: &TestSystem, caller: &mut TestCaller) 
 fn overfills<R: Wait>(
     rt: &R,
     alloc: Global,
-    system: &TestSystem,
-    caller: &mut TestCaller,
+    system: &PlainSystem,
+    caller: &mut PlainCaller,
 ) -> Option<Notice>
-    requires { IsTestCallerOf system.now caller.old }
-    ensures same { IsTestCallerOf system.now caller.new }
+    requires { IsPlainCallerOf system.now caller.old }
+    ensures same { IsPlainCallerOf system.now caller.new }
     ensures notice { IfSome result (IsNoticeOf system.now.engine) }
 {
     let first = posts(rt, alloc, system, caller, 1)?;
@@ -95,18 +93,18 @@ fn overfills<R: Wait>(
 }
 
 /// That this notice is the only one.
-fn hears_one<R: Abort + Wait>(rt: &R, system: &TestSystem, caller: &mut TestCaller, cid: u16)
-    requires { IsTestCallerOf system.now caller.old }
-    ensures { IsTestCallerOf system.now caller.new }
+fn hears_one<R: Abort + Wait>(rt: &R, system: &PlainSystem, caller: &mut PlainCaller, cid: u16)
+    requires { IsPlainCallerOf system.now caller.old }
+    ensures { IsPlainCallerOf system.now caller.new }
 {
     assert_eq!(rt; hears(rt, system, caller), cid);
     assert_eq!(rt; hears(rt, system, caller), 0);
 }
 
 /// That the second notice comes back, and an empty queue gives none.
-fn holds_one<R: Abort + Wait>(rt: &R, alloc: Global, system: &TestSystem, caller: &mut TestCaller)
-    requires { IsTestCallerOf system.now caller.old }
-    ensures { IsTestCallerOf system.now caller.new }
+fn holds_one<R: Abort + Wait>(rt: &R, alloc: Global, system: &PlainSystem, caller: &mut PlainCaller)
+    requires { IsPlainCallerOf system.now caller.old }
+    ensures { IsPlainCallerOf system.now caller.new }
 {
     let Some(back) = overfills(rt, alloc, system, caller) else {
         panic!(rt; "a notice that comes back")
@@ -121,11 +119,11 @@ fn holds_one<R: Abort + Wait>(rt: &R, alloc: Global, system: &TestSystem, caller
 fn refuses_none<R: Abort + Wait>(
     rt: &R,
     alloc: Global,
-    system: &TestSystem,
-    caller: &mut TestCaller,
+    system: &PlainSystem,
+    caller: &mut PlainCaller,
 )
-    requires { IsTestCallerOf system.now caller.old }
-    ensures { IsTestCallerOf system.now caller.new }
+    requires { IsPlainCallerOf system.now caller.old }
+    ensures { IsPlainCallerOf system.now caller.new }
 {
     let batch = Submissions::new(Vec::new(alloc));
     let Err(why) = opens(rt, system, caller, Open::Publish(1, batch)) else {
@@ -137,13 +135,13 @@ fn refuses_none<R: Abort + Wait>(
 /// How many notices of one completion there is room for, up to this number.
 fn room_for<R: Wait>(
     rt: &R,
-    system: &TestSystem,
-    caller: &mut TestCaller,
+    system: &PlainSystem,
+    caller: &mut PlainCaller,
     work: &Work,
     answer: &Answer,
     most: u16,
 ) -> u16
-    requires own { IsTestCallerOf system.now caller.old }
+    requires own { IsPlainCallerOf system.now caller.old }
     requires posted { IsAnswerPosted (config_of caller.old.pass) (entries (seen caller.old.pass)) work.now.queue
         answer.now }
 {
@@ -162,11 +160,11 @@ fn room_for<R: Wait>(
 fn room_of_a_flush<R: Wait>(
     rt: &R,
     alloc: Global,
-    system: &TestSystem,
-    caller: &mut TestCaller,
+    system: &PlainSystem,
+    caller: &mut PlainCaller,
     most: u16,
 ) -> Option<u16>
-    requires { IsTestCallerOf system.now caller.old }
+    requires { IsPlainCallerOf system.now caller.old }
 {
     let mut work = begun(rt, alloc, system, caller, flush(1, 1)).ok()?;
     let task = work.next_task()?;
@@ -177,7 +175,7 @@ fn room_of_a_flush<R: Wait>(
 #[test]
 fn a_thousand_places_and_three_hundred_passes_are_given(rt: HostRuntime) -> Result<(), Fail> {
     let config = config_of(rt.alloc(), ONE_QUEUE).ok_or("no configuration")?;
-    let (system, mut callers) = system_of(rt.alloc(), config, 1_024, 300)?;
+    let (system, mut callers) = plain_system_of(rt.alloc(), config, 1_024, 300)?;
     let mut caller = take_caller(&system, &mut callers).ok_or("no caller")?;
     assert_eq!(rt; callers.passes.len(), 299);
     assert_eq!(rt;

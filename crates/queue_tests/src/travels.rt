@@ -2,13 +2,15 @@
 
 ghost use Rattle.std.specs.Prelude.{◌≡◌};
 ghost use Rattle.meet_lock.specs.Passes.{seen};
-ghost use Rattle.lock_testing.specs.Callers.{IsCrewOf, IsTestCallerOf, IsTestWork};
+ghost use Rattle.lock_testing.specs.Callers.{IsCrewOf};
+ghost use Rattle.shared_system.specs.Plain.{IsPlainCallerOf, IsPlainWork};
 
 use crate::ends::entries_of;
 use lock_testing::{
-    Command, ONE_QUEUE, TestCaller, TestSystem, ThreeCallers, WRITE, begun, config_of, crewed,
-    learns, opens, pops, pushes, works,
+    Command, ONE_QUEUE, ThreeCallers, WRITE, begun, config_of, crewed, learns, opens, pops, pushes,
+    works,
 };
+use shared_system::{PlainCaller, PlainSystem};
 use std::alloc::Global;
 use std::process::Abort;
 use std::sync::Wait;
@@ -24,29 +26,29 @@ use work_queue::{Open, Opened, Work};
 /// The number of another refusal.
 pub(crate) fn ends<R: Wait>(
     rt: &R,
-    system: &TestSystem,
-    caller: &mut TestCaller,
+    system: &PlainSystem,
+    caller: &mut PlainCaller,
     mut work: Work,
 ) -> Result<u64, u8>
-    requires { IsTestCallerOf system.now caller.old × IsTestWork system.now work }
-    ensures { IsTestCallerOf system.now caller.new }
+    requires { IsPlainCallerOf system.now caller.old × IsPlainWork system.now work }
+    ensures { IsPlainCallerOf system.now caller.new }
 {
     let mut made = 0u64;
     for _ in rt.forever() {
         match works(rt, system, caller, &mut work) {
             Ok(Some(_)) => made = made.wrapping_add(1),
-            Ok(None) => return Ok(made),
+            Ok(None) => break,
             Err(6 | 8) => yield_now(),
             Err(why) => return Err(why),
         }
     }
-    unreachable!()
+    Ok(made)
 }
 
 // Waits for a Work and ends it.
-fn serves<R: Wait>(rt: &R, system: &TestSystem, caller: &mut TestCaller) -> Result<u64, u8>
-    requires { IsTestCallerOf system.now caller.old }
-    ensures { IsTestCallerOf system.now caller.new }
+fn serves<R: Wait>(rt: &R, system: &PlainSystem, caller: &mut PlainCaller) -> Result<u64, u8>
+    requires { IsPlainCallerOf system.now caller.old }
+    ensures { IsPlainCallerOf system.now caller.new }
 {
     for _ in rt.forever() {
         match pops(rt, system, caller) {
@@ -54,50 +56,54 @@ fn serves<R: Wait>(rt: &R, system: &TestSystem, caller: &mut TestCaller) -> Resu
             None => yield_now(),
         }
     }
+    // The loop ends by its Work alone.
     unreachable!()
 }
 
 // Waits for a notice, and reaps; the number of the refusal, if it is refused.
-fn hears<R: Wait>(rt: &R, system: &TestSystem, caller: &mut TestCaller) -> Result<(), u8>
-    requires { IsTestCallerOf system.now caller.old }
-    ensures { IsTestCallerOf system.now caller.new }
+fn hears<R: Wait>(rt: &R, system: &PlainSystem, caller: &mut PlainCaller) -> Result<(), u8>
+    requires { IsPlainCallerOf system.now caller.old }
+    ensures { IsPlainCallerOf system.now caller.new }
 {
     for _ in rt.forever() {
         if learns(rt, system, caller)? {
-            return match opens(rt, system, caller, Open::Reap(1)) {
-                Ok(Opened::Reaped { .. }) => Ok(()),
-                Ok(_) => Err(0),
-                Err(why) => Err(why),
-            };
+            break;
         }
         yield_now();
     }
-    unreachable!()
+    match opens(rt, system, caller, Open::Reap(1)) {
+        Ok(Opened::Reaped { .. }) => Ok(()),
+        Ok(_) => Err(0),
+        Err(why) => Err(why),
+    }
 }
 
 // A worker and a host, each on a thread; how each ended, and what it owned.
 fn both<R: Threads + Wait + Sync>(
     rt: &R,
-    system: &TestSystem,
-    worker: TestCaller,
-    host: TestCaller,
-) -> ((Result<u64, u8>, TestCaller), (Result<(), u8>, TestCaller))
-    requires { IsTestCallerOf system.now worker × IsTestCallerOf system.now host }
-    ensures { IsTestCallerOf system.now result.0.1 × IsTestCallerOf system.now result.1.1 }
+    system: &PlainSystem,
+    worker: PlainCaller,
+    host: PlainCaller,
+) -> (
+    (Result<u64, u8>, PlainCaller),
+    (Result<(), u8>, PlainCaller),
+)
+    requires { IsPlainCallerOf system.now worker × IsPlainCallerOf system.now host }
+    ensures { IsPlainCallerOf system.now result.0.1 × IsPlainCallerOf system.now result.1.1 }
 {
     join(
         rt,
-        move || -> (Result<u64, u8>, TestCaller)
-            requires { IsTestCallerOf system.now worker }
-            ensures { IsTestCallerOf system.entry.now result.1 }
+        move || -> (Result<u64, u8>, PlainCaller)
+            requires { IsPlainCallerOf system.now worker }
+            ensures { IsPlainCallerOf system.entry.now result.1 }
         {
             let mut caller = worker;
             let made = serves(rt, system, &mut caller);
             (made, caller)
         },
-        move || -> (Result<(), u8>, TestCaller)
-            requires { IsTestCallerOf system.now host }
-            ensures { IsTestCallerOf system.entry.now result.1 }
+        move || -> (Result<(), u8>, PlainCaller)
+            requires { IsPlainCallerOf system.now host }
+            ensures { IsPlainCallerOf system.entry.now result.1 }
         {
             let mut caller = host;
             let heard = hears(rt, system, &mut caller);
@@ -107,9 +113,9 @@ fn both<R: Threads + Wait + Sync>(
 }
 
 // Two passes see one history.
-fn meets<R: Abort>(rt: &R, system: &TestSystem, one: &mut TestCaller, two: &mut TestCaller)
-    requires { IsTestCallerOf system.now one.old × IsTestCallerOf system.now two.old }
-    ensures same { IsTestCallerOf system.now one.new × IsTestCallerOf system.now two.new }
+fn meets<R: Abort>(rt: &R, system: &PlainSystem, one: &mut PlainCaller, two: &mut PlainCaller)
+    requires { IsPlainCallerOf system.now one.old × IsPlainCallerOf system.now two.old }
+    ensures same { IsPlainCallerOf system.now one.new × IsPlainCallerOf system.now two.new }
     ensures met { seen one.new.pass ≡ seen two.new.pass }
 {
     if system.engine.meet(&mut one.pass, &mut two.pass).is_err() {
@@ -118,9 +124,9 @@ fn meets<R: Abort>(rt: &R, system: &TestSystem, one: &mut TestCaller, two: &mut 
 }
 
 // A Write, published, fetched and pushed.
-fn sends<R: Abort + Wait>(rt: &R, alloc: Global, system: &TestSystem, caller: &mut TestCaller)
-    requires { IsTestCallerOf system.now caller.old }
-    ensures { IsTestCallerOf system.now caller.new }
+fn sends<R: Abort + Wait>(rt: &R, alloc: Global, system: &PlainSystem, caller: &mut PlainCaller)
+    requires { IsPlainCallerOf system.now caller.old }
+    ensures { IsPlainCallerOf system.now caller.new }
 {
     let write = Command {
         opcode: WRITE,
@@ -141,11 +147,11 @@ fn sends<R: Abort + Wait>(rt: &R, alloc: Global, system: &TestSystem, caller: &m
 // meet. The host.
 fn travels<R: Abort + Threads + Wait + Sync>(
     rt: &R,
-    system: &TestSystem,
+    system: &PlainSystem,
     crew: ThreeCallers,
-) -> TestCaller
+) -> PlainCaller
     requires { IsCrewOf system.now crew }
-    ensures { IsTestCallerOf system.now result }
+    ensures { IsPlainCallerOf system.now result }
 {
     let ThreeCallers { host, worker, .. } = crew;
     let ((made, mut worker), (heard, mut host)) = both(rt, system, worker, host);

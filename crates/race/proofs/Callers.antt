@@ -1,24 +1,26 @@
 -- The callers of a race go on by their turns.
-use Rattle.std.proofs.Common.{IfSome, List, None, Option, Some, arith, length, subst, sym, ℕ, ◌+◌, ◌++◌, ◌-◌}
-use Rattle.std.proofs.Common.{◌∙◌, ◌≡◌, ◌≤◌}
+use Rattle.std.proofs.Common.{List, Option, [], arith, length, subst, sym, ℕ, ◌+◌, ◌++◌, ◌-◌}
+use Rattle.std.proofs.Common.{◌∙◌, ◌∷◌, ◌≡◌, ◌≤◌}
 use Rattle.std.specs.Option.{option_to_list}
 use Rattle.meet_lock.specs.Passes.{number}
-use Rattle.shared_system.specs.Callers.{Continues, IsCallerOf, IsOneOf}
+use Rattle.shared_system.specs.Callers.{AreLastHosts, Continues, IsCallerOf, IsHostOf, IsLastPass, IsOneOf}
 use Rattle.shared_system.specs.declared.system.CallerPasses.{CallerPasses}
+use Rattle.shared_system.specs.declared.system.HostPasses.{HostPasses}
 use Rattle.shared_system.specs.declared.system.System.{System}
 use Rattle.shared_system.proofs.Going.{goes_same}
 use Rattle.driver_cas.specs.Drivers.{made}
 use Rattle.slot_log_laws.specs.Counts.{log_claims}
 use Rattle.many_host_laws.specs.Closing.{HasClaimed, HasDone}
 use Rattle.work_queue.specs.Engines.{EnginePass}
+use Rattle.nvme_model.specs.declared.config.ConfigNumbers.{ConfigNumbers}
 use Rattle.race_hosts.specs.Hosts.{rounds_begun}
 use Rattle.race_hosts.specs.declared.host_threads.Play.{Play}
 use Rattle.race_hosts.proofs.Playing.{first_claims}
 use Rattle.race.specs.Ended.{HasEnded}
 use Rattle.race.proofs.Ended.{served}
 use Rattle.race.specs.declared.racers.Racer.{Racer}
-use Rattle.race.specs.Racers.{AreOver, AreRacers, IsRacer, racer_pass}
-use Rattle.race.proofs.Each.{each_popped}
+use Rattle.race.specs.Racers.{IsRacer, racer_pass}
+use Rattle.race.proofs.Each.{each_last, each_rest}
 
 -- ---- servers
 
@@ -72,15 +74,18 @@ module _ {G : Type 0} (system : System G) (play : Play) (servers : ℕ) where
             (claimed ∙ (first_claims r.host play.slots x.is.area ∙ all));
       })
 
--- ---- the last of them
+-- ---- the last of the hosts' passes
 
-module _ {G : Type 0} (system : System G) where
-  pub last_of_racers : (play : Play) (servers : ℕ) (old new : List Racer) (o : Option Racer) (n : ℕ) → n ≡ length new
-      → old ≡ new ++ option_to_list o → AreRacers system play servers old → AreOver old
-      → IfSome o (λ r. IsRacer system play servers r × (r.rounds.left ≡ 0)
-      × (number (racer_pass r) ≡ servers + n + 1))
-  last_of_racers play servers old new None n same items are over = tt
-  last_of_racers play servers old new (Some r) n same items are over =
-      let a = each_popped (λ (k : ℕ) (x : Racer). (number (racer_pass x) ≡ servers + k + 1)
-      × IsRacer system play servers x) old new (Some r) n same items are in
-      (a.1, each_popped (λ (k : ℕ) (x : Racer). x.rounds.left ≡ 0) old new (Some r) n same items over, a.0)
+module _ {G : Type 0} (system : System G) (c : ConfigNumbers) (all : ℕ) where
+  pub last_host : (old new : List HostPasses) (h : HostPasses) → old ≡ new ++ h ∷ [] → AreLastHosts system c all old
+      → IsHostOf system c h × (h.queue + length new ≡ c.cqs) × IsLastPass c all h
+  last_host old new h items are =
+      each_last (λ (k : ℕ) (x : HostPasses). IsHostOf system c x × (x.queue + k ≡ c.cqs) × IsLastPass c all x) old new h
+      items are
+
+  -- and those before it
+  pub front_hosts : (old new : List HostPasses) (o : Option HostPasses) → old ≡ new ++ option_to_list o
+      → AreLastHosts system c all old → AreLastHosts system c all new
+  front_hosts old new o items are =
+      each_rest (λ (k : ℕ) (x : HostPasses). IsHostOf system c x × (x.queue + k ≡ c.cqs) × IsLastPass c all x) old new o
+      items are

@@ -51,12 +51,10 @@ module _ {A : Type 0} (P : ℕ → A → Type 0) where
       h k a (subst (λ l. slice_get l k ≡ Some a) (sym items) (at_front new (option_to_list o) k a g))
 
   -- and that one
-  pub each_popped : (old new : List A) (o : Option A) (n : ℕ) → n ≡ length new → old ≡ new ++ option_to_list o
-      → ((k : ℕ) (a : A) → slice_get old k ≡ Some a → P k a) → IfSome o (P n)
-  each_popped old new None n same items h = tt
-  each_popped old new (Some x) n same items h =
-      subst (λ m. P m x) (sym same)
-      (h (length new) x (subst (λ l. slice_get l (length new) ≡ Some x) (sym items) (at_last new x)))
+  pub each_last : (old new : List A) (x : A) → old ≡ new ++ x ∷ []
+      → ((k : ℕ) (a : A) → slice_get old k ≡ Some a → P k a) → P (length new) x
+  each_last old new x items h =
+      h (length new) x (subst (λ l. slice_get l (length new) ≡ Some x) (sym items) (at_last new x))
 
 -- ---- what holds at Ok
 

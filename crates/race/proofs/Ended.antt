@@ -1,5 +1,5 @@
 -- What came back of the threads of a race.
-use Rattle.std.proofs.Common.{IfSome, List, None, Option, Some, [], ap, arith, length, refl, slice_get, subst, suc, sym}
+use Rattle.std.proofs.Common.{List, None, Option, Some, [], ap, arith, length, refl, slice_get, subst, suc, sym}
 use Rattle.std.proofs.Common.{zero, ℕ, ◌+◌, ◌-◌}
 use Rattle.std.specs.Option.{option_to_list}
 use Rattle.std.proofs.Common.{◌++◌, ◌∙◌, ◌∷◌, ◌≡◌, ◌≤◌}
@@ -64,11 +64,10 @@ module _ (e : Engine) (play : Play) (servers : ℕ) where
       end_rest e play servers f top new (option_to_list o) (subst (EndDown f e play servers top) items h)
 
   -- and the one that was taken
-  pub popped_last : {H : Type 0} (f : H → EnginePass) (top n : ℕ) (old new : List H) (o : Option H) → n ≡ length new
-      → old ≡ new ++ option_to_list o → EndDown f e play servers top old
-      → IfSome o (λ x. (number (f x) + n ≡ top) × HasEnded e play servers (f x))
-  popped_last f top n old new None same items h = tt
-  popped_last f top n old new (Some x) same items h =
+  pub popped_last : {H : Type 0} (f : H → EnginePass) (top n : ℕ) (old new : List H) (x : H) → n ≡ length new
+      → old ≡ new ++ x ∷ [] → EndDown f e play servers top old
+      → (number (f x) + n ≡ top) × HasEnded e play servers (f x)
+  popped_last f top n old new x same items h =
       let r = end_last e play servers f top new x (subst (EndDown f e play servers top) items h) in
       (ap (λ (m : ℕ). number (f x) + m) same ∙ r.0, r.1)
 

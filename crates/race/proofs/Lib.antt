@@ -3,7 +3,6 @@ pub mod Ended
 pub mod Returned
 pub mod Callers
 pub mod Each
-pub mod Ending
 pub mod Freeing
 pub mod Judged
 pub mod Telling

@@ -13,10 +13,11 @@ use Rattle.hosts.specs.Stages.{IsFetchStage, IsWorkStage}
 use Rattle.race_hosts.specs.Hosts.{IsHosting, rounds_begun}
 use Rattle.race_hosts.specs.Stages.{IsStageOf}
 use Rattle.race_hosts.specs.declared.host_threads.Play.{Play}
-use Rattle.race_numbers.specs.declared.race.Race.{Race}
 use Rattle.race.specs.Ended.{HasEnded}
 use Rattle.race.specs.declared.racers.Racer.{Racer}
 use Rattle.race.specs.declared.racers.Racers.{Racers}
+use Rattle.race.specs.declared.scene.Scene.{Scene}
+use Rattle.race.specs.declared.servers.Servers.{Servers}
 
 -- the pass of a host's driver
 abbrev pub racer_pass : Racer → EnginePass
@@ -49,16 +50,20 @@ module _ {G : Type 0} where
   IsRaceFetcher system play servers h = IsCallerOf system h × (number h.pass ≡ servers)
       × HasEnded system.engine play servers h.pass
 
-  -- All callers of a race of so many workers and hosts, the fetcher of so many submission queues, and what each has in
-  -- hand.
-  pub record AreAllRacers (system : System G) (play : Play) (race : Race) (queues : ℕ) (r : Racers) : Type 0 where
-    pub fetcher : IsRaceFetcher system play (race.workers + 1) r.fetcher
-    pub fetching : IsFetchStage system queues r.fetching
-    pub workers_are : AreRaceWorkers system play (race.workers + 1) race.workers r.workers.items
-    pub working : All (IsWorkStage system) r.working.items
-    pub count : (vec_len r.workers ≡ race.workers) × (vec_len r.working ≡ race.workers)
-    pub hosts : AreRacers system play (race.workers + 1) r.hosts.items
-    pub hosts_count : vec_len r.hosts ≡ race.hosts
+-- The fetcher of the scene's submission queues and the workers of its race, and what each has in hand.
+pub record AreServers (scene : Scene) (s : Servers) : Type 0 where
+  pub fetcher : IsRaceFetcher scene.system.now scene.play.now (scene.race.now.workers + 1) s.fetcher
+  pub fetching : IsFetchStage scene.system.now scene.queues s.fetching
+  pub workers_are : AreRaceWorkers scene.system.now scene.play.now (scene.race.now.workers + 1) scene.race.now.workers
+      s.workers.items
+  pub working : All (IsWorkStage scene.system.now) s.working.items
+  pub count : (vec_len s.workers ≡ scene.race.now.workers) × (vec_len s.working ≡ scene.race.now.workers)
+
+-- All callers of a race, and what each has in hand.
+pub record AreAllRacers (scene : Scene) (r : Racers) : Type 0 where
+  pub servers : AreServers scene r.servers
+  pub hosts : AreRacers scene.system.now scene.play.now (scene.race.now.workers + 1) r.hosts.items
+  pub count : vec_len r.hosts ≡ scene.race.now.hosts
 
 -- the rounds of each are over
 abbrev pub AreOver : List Racer → Type 0

@@ -1,5 +1,5 @@
 -- What is left of a race's hosts behind their rounds.
-use Rattle.std.specs.Prelude.{Bool, List, All, false, length, true, vec_len, ℕ, ◌+◌, ◌-◌, ◌≡◌, ◌≢◌, ◌≤◌}
+use Rattle.std.specs.Prelude.{Bool, List, All, false, length, true, vec_len, ℕ, ◌-◌, ◌≡◌, ◌≢◌, ◌≤◌}
 use Rattle.work_queue.specs.Engines as engine
 use Rattle.shared_system.specs.Callers.{IsPlaceAt}
 use Rattle.shared_system.specs.declared.system.HostPasses.{HostPasses}
@@ -7,16 +7,15 @@ use Rattle.shared_system.specs.declared.system.System.{System}
 use Rattle.nvme_model.specs.Slots.{Name}
 use Rattle.driver_cas.specs.Drivers.{area_of, host_of, port_of}
 use Rattle.driver_cas.specs.Ports.{pass_of}
-use Rattle.hosts.specs.Stages.{IsFetchStage, IsWorkStage}
 use Rattle.race_hosts.specs.declared.host_threads.Play.{Play}
 use Rattle.race_hosts.specs.declared.owned.Host.{Host}
-use Rattle.race_numbers.specs.declared.race.Race.{Race}
-use Rattle.race.specs.Racers.{AreRaceWorkers, IsRaceFetcher}
+use Rattle.race.specs.Racers.{AreServers}
 use Rattle.slot_alloc.specs.Areas.{area}
 use Rattle.slot_takeover.specs.Holders.{IsReadingOf}
 use Rattle.slot_takeover.specs.Takeovers.{HoldsTaken, IsGivingBackOf, IsTakingOverOf}
 use Rattle.race.specs.Fates.{is_dead_host}
 use Rattle.race.specs.declared.fate.Fate.{Fate}
+use Rattle.race.specs.declared.scene.Scene.{Scene}
 use Rattle.race.specs.declared.survivor.Called.{Called}
 use Rattle.race.specs.declared.survivor.Party.{Party}
 use Rattle.race.specs.declared.survivor.Survivor.{Survivor}
@@ -76,13 +75,8 @@ module _ {G : Type 0} where
   IsParty system play fates (Party.Fenced h) = IsFencedHost system h
   IsParty system play fates (Party.Survives s) = IsSurvivor system play fates s
 
-  -- All callers of a race behind the rounds of its hosts, and what each has in hand.
-  pub record AreAllParties (system : System G) (play : Play) (race : Race) (queues : ℕ) (fates : List Fate) (s : Sweep)
-      : Type 0 where
-    pub fetcher : IsRaceFetcher system play (race.workers + 1) s.fetcher
-    pub fetching : IsFetchStage system queues s.fetching
-    pub workers_are : AreRaceWorkers system play (race.workers + 1) race.workers s.workers.items
-    pub working : All (IsWorkStage system) s.working.items
-    pub count : (vec_len s.workers ≡ race.workers) × (vec_len s.working ≡ race.workers)
-    pub parties : All (IsParty system play fates) s.parties.items
-    pub hosts : vec_len s.parties ≡ race.hosts
+-- All callers of a race behind the rounds of its hosts, and what each has in hand.
+pub record AreAllParties (scene : Scene) (fates : List Fate) (s : Sweep) : Type 0 where
+  pub servers : AreServers scene s.servers
+  pub parties : All (IsParty scene.system.now scene.play.now fates) s.parties.items
+  pub hosts : vec_len s.parties ≡ scene.race.now.hosts

@@ -1,6 +1,6 @@
 //! A race is closed with all passes of its engine.
 
-ghost use Rattle.std.specs.Prelude.{[], ◌+◌, ◌<◌, ◌≡◌, ◌≤◌, IfOk, IfSome, MatchOption, vec_len};
+ghost use Rattle.std.specs.Prelude.{[], ◌+◌, ◌<◌, ◌≡◌, ◌≤◌, IfOk, vec_len};
 ghost use Rattle.std.specs.Vec.{vec_capacity};
 ghost use Rattle.meet_lock.specs.Passes.{number};
 ghost use Rattle.race.specs.Ended.{EndDown, HasEnded, HaveEnded};
@@ -41,16 +41,17 @@ fn last_worker(
     _servers: usize,
     _top: usize,
     workers: &mut Vec<WorkerPasses>,
-) -> Option<WorkerPasses>
-    requires { EndDown (λ w. w.caller.pass) _system.now.engine _play.now _servers _top
+) -> WorkerPasses
+    requires workers { EndDown (λ w. w.caller.pass) _system.now.engine _play.now _servers _top
         workers.old.items }
+    requires some { 1 ≤ vec_len workers.old }
     ensures rest { EndDown (λ w. w.caller.pass) _system.now.engine _play.now _servers _top
         workers.new.items }
-    ensures last { IfSome result (λ w. (number w.caller.pass + vec_len workers.new ≡ _top)
-        × HasEnded _system.now.engine _play.now _servers w.caller.pass) }
-    ensures count { MatchOption result (vec_len workers.old ≡ 0) (λ _. vec_len workers.new + 1 ≡ vec_len workers.old) }
+    ensures last { HasEnded _system.now.engine _play.now _servers result.caller.pass }
+    ensures number { number result.caller.pass + vec_len workers.new ≡ _top }
+    ensures count { vec_len workers.new + 1 ≡ vec_len workers.old }
 {
-    workers.pop()
+    workers.pop().unwrap()
 }
 
 // The passes of workers, the last worker's first.
@@ -71,9 +72,7 @@ fn put_workers(
 {
     let top = workers.len();
     for _ in 0..top {
-        let Some(worker) = last_worker(system, play, servers, top, &mut workers) else {
-            unreachable!();
-        };
+        let worker = last_worker(system, play, servers, top, &mut workers);
         put_pass(system, play, servers, passes, worker.caller.pass);
     }
 }
@@ -86,15 +85,16 @@ fn last_host(
     _servers: usize,
     _top: usize,
     hosts: &mut Vec<HostPasses>,
-) -> Option<HostPasses>
-    requires { EndDown (λ h. h.pass) _system.now.engine _play.now _servers _top hosts.old.items }
+) -> HostPasses
+    requires hosts { EndDown (λ h. h.pass) _system.now.engine _play.now _servers _top hosts.old.items }
+    requires some { 1 ≤ vec_len hosts.old }
     ensures rest { EndDown (λ h. h.pass) _system.now.engine _play.now _servers _top
         hosts.new.items }
-    ensures last { IfSome result (λ h. (number h.pass + vec_len hosts.new ≡ _top)
-        × HasEnded _system.now.engine _play.now _servers h.pass) }
-    ensures count { MatchOption result (vec_len hosts.old ≡ 0) (λ _. vec_len hosts.new + 1 ≡ vec_len hosts.old) }
+    ensures last { HasEnded _system.now.engine _play.now _servers result.pass }
+    ensures number { number result.pass + vec_len hosts.new ≡ _top }
+    ensures count { vec_len hosts.new + 1 ≡ vec_len hosts.old }
 {
-    hosts.pop()
+    hosts.pop().unwrap()
 }
 
 // The passes of hosts, the last host's first.
@@ -116,9 +116,7 @@ fn put_hosts(
     let count = hosts.len();
     let top = servers + count;
     for _ in 0..count {
-        let Some(host) = last_host(system, play, servers, top, &mut hosts) else {
-            unreachable!();
-        };
+        let host = last_host(system, play, servers, top, &mut hosts);
         put_pass(system, play, servers, passes, host.pass);
     }
 }
@@ -162,8 +160,5 @@ pub fn closed(
     put_pass(&system, play, servers, &mut passes, fetcher.pass);
     put_hosts(&system, play, servers, hosts, &mut passes);
     let System { engine, .. } = system;
-    match engine.close_all(passes) {
-        Some(core) => core,
-        None => unreachable!(),
-    }
+    engine.close_all(passes).unwrap()
 }

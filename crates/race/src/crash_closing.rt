@@ -11,6 +11,7 @@ use crate::crash_fault::CrashFault;
 use crate::crash_racing::to_the_crash;
 use crate::fate::fates_of;
 use crate::play::play_of;
+use crate::scene::Scene;
 use crate::seeded_racing::all_racers;
 use crate::swept::{drains, sweep_of, sweeps};
 use hosts::OpenGate;
@@ -26,49 +27,27 @@ use step_core::Core;
 fn all_turns<R: Wait>(
     rt: &R,
     alloc: Global,
-    system: &System<OpenGate>,
-    play: &Play,
-    race: &Race,
+    scene: &Scene<'_>,
     bias: &Bias,
     crash: u16,
     seed: u64,
     callers: Callers,
 ) -> Result<CallerPasses, NoMemory>
-    requires callers { AreCallersOf system.now play.now.config race.now.workers callers }
-    requires config { play.now.config ≡ race_config race.now }
-    requires slots { IsSlotArea play.now.slots }
-    ensures { IfOk result (IsRaceFetcher system.now play.now (race.now.workers + 1)) }
+    requires callers { AreCallersOf scene.now.system.now scene.now.play.now.config scene.now.race.now.workers callers }
+    requires config { scene.now.play.now.config ≡ race_config scene.now.race.now }
+    requires slots { IsSlotArea scene.now.play.now.slots }
+    ensures { IfOk result (IsRaceFetcher scene.now.system.now scene.now.play.now (scene.now.race.now.workers + 1)) }
 {
-    let queues = race.hosts * race.queues;
     let mut random = RandomNumbers::from_seed(seed);
-    let mut fates = fates_of(alloc, race, crash, &mut random)?;
-    let mut racers = all_racers(alloc, system, play, race, queues, callers)?;
-    to_the_crash(
-        rt,
-        system,
-        play,
-        race,
-        bias,
-        queues,
-        &mut fates,
-        &mut racers,
-        &mut random,
-    )?;
-    let mut sweep = sweep_of(alloc, system, play, race, &fates, queues, racers)?;
+    let mut fates = fates_of(alloc, scene.race, crash, &mut random)?;
+    let mut racers = all_racers(alloc, scene, callers)?;
+    to_the_crash(rt, scene, bias, &mut fates, &mut racers, &mut random)?;
+    let mut sweep = sweep_of(alloc, scene, &fates, racers)?;
     let fates = fates.as_slice();
-    drains(rt, system, play, race, fates, queues, &mut sweep)?;
-    sweeps(
-        rt,
-        system,
-        play,
-        race,
-        bias,
-        fates,
-        queues,
-        &mut sweep,
-        &mut random,
-    )?;
-    Ok(sweep.fetcher)
+    drains(rt, scene, fates, &mut sweep)?;
+    sweeps(rt, scene, bias, fates, &mut sweep, &mut random)?;
+    let servers = sweep.servers;
+    Ok(servers.fetcher)
 }
 
 // The controller, closed. None where the lock wasn't free.
@@ -104,6 +83,12 @@ pub(crate) fn raced<R: Wait>(
 {
     let play = play_of(race);
     let (system, callers) = system_of(alloc, play.config, OpenGate, race.workers)?;
-    let fetcher = all_turns(rt, alloc, &system, &play, race, bias, crash, seed, callers)?;
+    let scene = Scene {
+        system: &system,
+        play: &play,
+        race,
+        queues: race.hosts * race.queues,
+    };
+    let fetcher = all_turns(rt, alloc, &scene, bias, crash, seed, callers)?;
     closed(system, &play, race, fetcher).ok_or(CrashFault::NoHistory)
 }

@@ -1,13 +1,13 @@
 //! The hosts that died are fenced.
 
-ghost use Rattle.std.specs.Prelude.{◌+◌, ◌≡◌, ◌≤◌, ◌<◌, All, IfOk, IfSome, MatchOption, vec_len};
+ghost use Rattle.std.specs.Prelude.{◌+◌, ◌≡◌, ◌≤◌, ◌<◌, All, IfOk, vec_len};
 ghost use Rattle.std.specs.Vec.{vec_capacity};
 ghost use Rattle.race.specs.Racers.{AreRacers, IsRacer};
 ghost use Rattle.race.specs.Fates.{is_dead};
 ghost use Rattle.race.specs.Survivors.{IsParty, is_fenced};
 
 use crate::fate::Fate;
-use crate::racers::Racer;
+use crate::racers::{Racer, last_racer};
 use crate::survivor::{Party, Survivor, SweepStage};
 use hosts::OpenGate;
 use race_hosts::Play;
@@ -36,21 +36,6 @@ fn party_of<'a>(
         slot: 0,
         stage: SweepStage::Asks,
     })
-}
-
-// The last of these hosts.
-fn last_racer<'a>(
-    _system: &System<OpenGate>,
-    _play: &Play,
-    _servers: usize,
-    racers: &mut Vec<Racer<'a>>,
-) -> Option<Racer<'a>>
-    requires racers { AreRacers _system.now _play.now _servers racers.old.items }
-    ensures rest { AreRacers _system.now _play.now _servers racers.new.items }
-    ensures last { IfSome result (IsRacer _system.now _play.now _servers) }
-    ensures count { MatchOption result (vec_len racers.old ≡ 0) (λ _. vec_len racers.new + 1 ≡ vec_len racers.old) }
-{
-    racers.pop()
 }
 
 // One party more.
@@ -92,9 +77,7 @@ pub(crate) fn parties_of<'a>(
     let count = racers.len();
     let mut parties = Vec::with_capacity(alloc, count)?;
     for _ in 0..count {
-        let Some(racer) = last_racer(system, play, servers, &mut racers) else {
-            unreachable!();
-        };
+        let racer = last_racer(system, play, servers, &mut racers);
         let fate = fates[racers.len()];
         let party = party_of(system, play, fates.as_slice(), servers, fate, racer);
         put_party(system, play, fates.as_slice(), &mut parties, party);

@@ -75,6 +75,11 @@ pub(crate) fn forgets<R: Wait>(rt: &R, system: &System<OpenGate>, fenced: &mut H
 pub(crate) fn asks_again(fault: Fault) -> Result<(), NoMemory> {
     match fault {
         Fault::Busy | Fault::RingFull => Ok(()),
-        _ => Err(NoMemory),
+        Fault::Length
+        | Fault::TooLong
+        | Fault::Status(_)
+        | Fault::NoMemory
+        | Fault::SlotArea
+        | Fault::NoSerial => Err(NoMemory),
     }
 }

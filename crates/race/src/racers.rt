@@ -1,6 +1,6 @@
 //! The callers of a race, from one turn to the next.
 
-ghost use Rattle.std.specs.Prelude.{◌+◌, ◌≡◌, ◌≤◌, ◌<◌, IfOk, IfSome, MatchOption, vec_len};
+ghost use Rattle.std.specs.Prelude.{◌+◌, ◌≡◌, ◌≤◌, ◌<◌, IfOk, vec_len};
 ghost use Rattle.std.specs.Vec.{vec_capacity};
 ghost use Rattle.meet_lock.specs.Passes.{number};
 ghost use Rattle.shared_system.specs.Callers.{AreLastHosts, IsHostOf, IsLastPass};
@@ -8,10 +8,11 @@ ghost use Rattle.race_hosts.specs.Hosts.{IsSlotArea};
 ghost use Rattle.race.specs.Ended.{EndDown, HasEnded};
 ghost use Rattle.race.specs.Racers.{AreOver, AreRacers, IsRacer, racer_pass};
 
-use hosts::{FetchStage, OpenGate, WorkStage};
+use crate::servers::Servers;
+use hosts::OpenGate;
 use many_host_laws::{what_a_hosts_pass_claimed, what_a_hosts_pass_did};
 use race_hosts::{Host, Play, Rounds, host_of};
-use shared_system::{CallerPasses, Callers, HostPasses, System, WorkerPasses};
+use shared_system::{HostPasses, System};
 use std::alloc::{AllocError as NoMemory, Global};
 
 /// A host, and its rounds.
@@ -24,11 +25,7 @@ pub struct Racer<'a> {
 /// All callers, each with what it has in hand.
 #[derive(Drop)]
 pub struct Racers<'a> {
-    pub fetcher: CallerPasses,
-    pub fetching: FetchStage,
-    pub workers: Vec<WorkerPasses>,
-    /// In the order of the workers.
-    pub working: Vec<WorkStage>,
+    pub servers: Servers,
     pub hosts: Vec<Racer<'a>>,
 }
 
@@ -80,14 +77,16 @@ fn last_caller(
     _play: &Play,
     _all: usize,
     hosts: &mut Vec<HostPasses>,
-) -> Option<HostPasses>
-    requires { AreLastHosts _system.now _play.now.config _all hosts.old.items }
+) -> HostPasses
+    requires hosts { AreLastHosts _system.now _play.now.config _all hosts.old.items }
+    requires some { 1 ≤ vec_len hosts.old }
     ensures rest { AreLastHosts _system.now _play.now.config _all hosts.new.items }
-    ensures last { IfSome result (λ h. IsHostOf _system.now _play.now.config h × IsLastPass _play.now.config _all h
-        × (h.queue + vec_len hosts.new ≡ _play.now.config.cqs)) }
-    ensures count { MatchOption result (vec_len hosts.old ≡ 0) (λ _. vec_len hosts.new + 1 ≡ vec_len hosts.old) }
+    ensures own { IsHostOf _system.now _play.now.config result }
+    ensures last { IsLastPass _play.now.config _all result }
+    ensures queue { result.queue + vec_len hosts.new ≡ _play.now.config.cqs }
+    ensures count { vec_len hosts.new + 1 ≡ vec_len hosts.old }
 {
-    hosts.pop()
+    hosts.pop().unwrap()
 }
 
 /// A host with each of these passes, in the order of their numbers.
@@ -113,30 +112,30 @@ pub(crate) fn racers_of<'a>(
     let all = servers + count;
     let mut racers = Vec::with_capacity(alloc, count)?;
     for _ in 0..count {
-        let Some(caller) = last_caller(system, play, all, &mut hosts) else {
-            unreachable!();
-        };
+        let caller = last_caller(system, play, all, &mut hosts);
         let racer = racer_of(alloc, system, play, servers, caller)?;
         put_racer(system, play, servers, &mut racers, racer);
     }
     Ok(racers)
 }
 
-// The last of these hosts, that of the highest number.
-fn last_racer<'a>(
+/// The last of these hosts, that of the highest number.
+pub(crate) fn last_racer<'a>(
     _system: &System<OpenGate>,
     _play: &Play,
     _servers: usize,
     racers: &mut Vec<Racer<'a>>,
-) -> Option<Racer<'a>>
+) -> Racer<'a>
     requires racers { AreRacers _system.now _play.now _servers racers.old.items }
-    requires over { AreOver racers.old.items }
-    ensures rest { AreRacers _system.now _play.now _servers racers.new.items × AreOver racers.new.items }
-    ensures last { IfSome result (λ r. IsRacer _system.now _play.now _servers r × (r.rounds.left ≡ 0)
-        × (number (racer_pass r) ≡ _servers + vec_len racers.new + 1)) }
-    ensures count { MatchOption result (vec_len racers.old ≡ 0) (λ _. vec_len racers.new + 1 ≡ vec_len racers.old) }
+    requires some { 1 ≤ vec_len racers.old }
+    ensures rest { AreRacers _system.now _play.now _servers racers.new.items }
+    ensures last { IsRacer _system.now _play.now _servers result }
+    ensures number { number (racer_pass result) ≡ _servers + vec_len racers.new + 1 }
+    ensures over { AreOver racers.old.items → result.rounds.left ≡ 0 }
+    ensures rest_over { AreOver racers.old.items → AreOver racers.new.items }
+    ensures count { vec_len racers.new + 1 ≡ vec_len racers.old }
 {
-    racers.pop()
+    racers.pop().unwrap()
 }
 
 // The passes of a host whose rounds are over.
@@ -200,9 +199,7 @@ pub(crate) fn hosts_back(
     let top = servers + count;
     let mut hosts = Vec::with_capacity(alloc, count)?;
     for _ in 0..count {
-        let Some(racer) = last_racer(system, play, servers, &mut racers) else {
-            unreachable!();
-        };
+        let racer = last_racer(system, play, servers, &mut racers);
         let caller = caller_of(system, play, servers, racer);
         put_caller(system, play, servers, top, &mut hosts, caller);
     }

@@ -1,12 +1,11 @@
 //! The turns of a race.
 
-ghost use Rattle.std.specs.Prelude.{◌+◌, ◌≡◌, ◌≤◌, ◌<◌, All, IfErr, IfOk, OnOk, true, vec_len};
-ghost use Rattle.meet_lock.specs.Passes.{number};
+ghost use Rattle.std.specs.Prelude.{◌≡◌, All, IfErr, IfOk, OnOk, true, vec_len};
 ghost use Rattle.random_numbers.specs.Drawn.{moved_on};
 ghost use Rattle.shared_system.specs.Callers.{AreCallersOf};
 ghost use Rattle.race_hosts.specs.Hosts.{IsSlotArea};
 ghost use Rattle.race_numbers.specs.Races.{race_config};
-ghost use Rattle.race.specs.Ended.{EndDown, HasEnded};
+ghost use Rattle.race.specs.Ended.{HaveCallersEnded};
 ghost use Rattle.race.specs.Faults.{IsEarly};
 ghost use Rattle.many_host_laws.specs.Closing.{HasRounds, KeepsSlots};
 ghost use Rattle.race.specs.Slots.{slots_of};
@@ -19,9 +18,10 @@ use crate::drawing::{Actor, next_actor};
 use crate::fault::RaceFault;
 use crate::play::play_of;
 use crate::racers::{Racer, Racers, hosts_back, racers_of};
-use crate::turns::{busy_racer_turn, fetcher_turn, racer_turn, worker_turn};
+use crate::scene::Scene;
+use crate::servers::{Servers, fetches, works};
+use crate::turns::{busy_racer_turn, racer_turn};
 use hosts::{FetchStage, OpenGate, WorkStage};
-use race_hosts::Play;
 use race_numbers::{Bias, Race};
 use random_numbers::RandomNumbers;
 use shared_system::{Callers, System, system_of};
@@ -49,68 +49,43 @@ fn are_all_over(racers: &Vec<Racer<'_>>) -> bool
 // A turn of a caller that finds the controller free.
 fn acts<R: Wait>(
     rt: &R,
-    system: &System<OpenGate>,
-    play: &Play,
-    race: &Race,
-    queues: u16,
+    scene: &Scene<'_>,
     racers: &mut Racers<'_>,
     actor: Actor,
 ) -> Result<(), NoMemory>
-    requires racers { AreAllRacers system.now play.now race.now queues racers.old }
-    requires some { 1 ≤ queues }
-    requires actor { IsActorIn race.now actor }
-    ensures { OnOk result (AreAllRacers system.now play.now race.now queues racers.new) }
+    requires racers { AreAllRacers scene.now racers.old }
+    requires actor { IsActorIn scene.now.race.now actor }
+    ensures { OnOk result (AreAllRacers scene.now racers.new) }
 {
-    let workers = usize::from(race.workers);
     match actor {
-        Actor::Fetcher => fetcher_turn(
+        Actor::Fetcher => fetches(rt, scene, &mut racers.servers),
+        Actor::Worker(k) => works(rt, scene, &mut racers.servers, usize::from(k)),
+        Actor::Host(k) => racer_turn(
             rt,
-            system,
-            play,
-            workers + 1,
-            queues,
-            &mut racers.fetcher,
-            &mut racers.fetching,
-        ),
-        Actor::Worker(k) => worker_turn(
-            rt,
-            system,
-            play,
-            workers,
-            &mut racers.workers,
-            &mut racers.working,
+            scene.system,
+            scene.play,
+            scene.servers(),
+            &mut racers.hosts,
             usize::from(k),
         ),
-        Actor::Host(k) => {
-            racer_turn(
-                rt,
-                system,
-                play,
-                workers + 1,
-                &mut racers.hosts,
-                usize::from(k),
-            )
-        }
     }
 }
 
 // A turn of a caller that finds the controller busy: nothing comes of its call.
-fn waits<R: Wait>(
-    rt: &R,
-    system: &System<OpenGate>,
-    play: &Play,
-    race: &Race,
-    _queues: u16,
-    racers: &mut Racers<'_>,
-    actor: Actor,
-)
-    requires racers { AreAllRacers system.now play.now race.now _queues racers.old }
-    requires actor { IsActorIn race.now actor }
-    ensures { AreAllRacers system.now play.now race.now _queues racers.new }
+fn waits<R: Wait>(rt: &R, scene: &Scene<'_>, racers: &mut Racers<'_>, actor: Actor)
+    requires racers { AreAllRacers scene.now racers.old }
+    requires actor { IsActorIn scene.now.race.now actor }
+    ensures { AreAllRacers scene.now racers.new }
 {
     if let Actor::Host(k) = actor {
-        let servers = usize::from(race.workers) + 1;
-        busy_racer_turn(rt, system, play, servers, &mut racers.hosts, usize::from(k));
+        busy_racer_turn(
+            rt,
+            scene.system,
+            scene.play,
+            scene.servers(),
+            &mut racers.hosts,
+            usize::from(k),
+        );
     }
 }
 
@@ -121,51 +96,43 @@ fn waits<R: Wait>(
 /// `NoMemory` where a growth is refused, or a round can't be begun.
 pub fn turn_of<R: Wait>(
     rt: &R,
-    system: &System<OpenGate>,
-    play: &Play,
-    race: &Race,
-    queues: u16,
+    scene: &Scene<'_>,
     racers: &mut Racers<'_>,
     actor: Actor,
     random: &mut RandomNumbers,
 ) -> Result<(), NoMemory>
-    requires racers { AreAllRacers system.now play.now race.now queues racers.old }
-    requires some { 1 ≤ queues }
-    requires actor { IsActorIn race.now actor }
-    ensures racers { OnOk result (AreAllRacers system.now play.now race.now queues racers.new) }
+    requires racers { AreAllRacers scene.now racers.old }
+    requires actor { IsActorIn scene.now.race.now actor }
+    ensures racers { OnOk result (AreAllRacers scene.now racers.new) }
     ensures moved { random.new ≡ moved_on random.old }
 {
     if random.one_in(BUSY) {
-        waits(rt, system, play, race, queues, racers, actor);
+        waits(rt, scene, racers, actor);
         return Ok(());
     }
-    acts(rt, system, play, race, queues, racers, actor)
+    acts(rt, scene, racers, actor)
 }
 
 // Turns until the rounds of all hosts are over. A draw says whose each is.
 fn to_the_end<R: Wait>(
     rt: &R,
-    system: &System<OpenGate>,
-    play: &Play,
-    race: &Race,
+    scene: &Scene<'_>,
     bias: &Bias,
-    queues: u16,
     racers: &mut Racers<'_>,
     random: &mut RandomNumbers,
 ) -> Result<(), NoMemory>
-    requires racers { AreAllRacers system.now play.now race.now queues racers.old }
-    requires some { 1 ≤ queues }
-    ensures racers { OnOk result (AreAllRacers system.now play.now race.now queues racers.new) }
+    requires { AreAllRacers scene.now racers.old }
+    ensures racers { OnOk result (AreAllRacers scene.now racers.new) }
     ensures over { OnOk result (AreOver racers.new.hosts.items) }
 {
     for _ in rt.forever() {
         if are_all_over(&racers.hosts) {
-            return Ok(());
+            break;
         }
-        let actor = next_actor(race, bias, random);
-        turn_of(rt, system, play, race, queues, racers, actor, random)?;
+        let actor = next_actor(scene.race, bias, random);
+        turn_of(rt, scene, racers, actor, random)?;
     }
-    unreachable!()
+    Ok(())
 }
 
 // So many workers that have no Work.
@@ -191,65 +158,45 @@ fn idle_workers(
 /// `NoMemory` where a growth is refused.
 pub fn all_racers<'a>(
     alloc: Global,
-    system: &'a System<OpenGate>,
-    play: &Play,
-    race: &Race,
-    _queues: u16,
+    scene: &Scene<'a>,
     callers: Callers,
 ) -> Result<Racers<'a>, NoMemory>
-    requires callers { AreCallersOf system.now play.now.config race.now.workers callers }
-    requires hosts { play.now.config.cqs ≡ race.now.hosts }
-    requires slots { IsSlotArea play.now.slots }
-    requires some { 1 ≤ _queues }
-    ensures { IfOk result (AreAllRacers system.entry.now play.now race.now _queues) }
+    requires callers { AreCallersOf scene.now.system.now scene.now.play.now.config scene.now.race.now.workers callers }
+    requires hosts { scene.now.play.now.config.cqs ≡ scene.now.race.now.hosts }
+    requires slots { IsSlotArea scene.now.play.now.slots }
+    ensures { IfOk result (AreAllRacers scene.now) }
 {
     let Callers {
         fetcher,
         workers,
         hosts,
     } = callers;
-    let count = usize::from(race.workers);
-    let working = idle_workers(alloc, system, count)?;
-    let hosts = racers_of(alloc, system, play, count + 1, hosts)?;
-    Ok(Racers {
+    let working = idle_workers(alloc, scene.system, usize::from(scene.race.workers))?;
+    let hosts = racers_of(alloc, scene.system, scene.play, scene.servers(), hosts)?;
+    let servers = Servers {
         fetcher,
         fetching: FetchStage::Asks(1),
         workers,
         working,
-        hosts,
-    })
+    };
+    Ok(Racers { servers, hosts })
 }
 
 // All passes of callers whose rounds are over.
-fn callers_back(
-    alloc: Global,
-    system: &System<OpenGate>,
-    play: &Play,
-    race: &Race,
-    _queues: u16,
-    racers: Racers<'_>,
-) -> Result<Callers, NoMemory>
-    requires racers { AreAllRacers system.now play.now race.now _queues racers }
+fn callers_back(alloc: Global, scene: &Scene<'_>, racers: Racers<'_>) -> Result<Callers, NoMemory>
+    requires racers { AreAllRacers scene.now racers }
     requires over { AreOver racers.hosts.items }
-    requires hosts { play.now.config.cqs ≡ race.now.hosts }
-    ensures workers { IfOk result (λ h. EndDown (λ w. w.caller.pass) system.now.engine play.now
-        (race.now.workers + 1) race.now.workers h.workers.items) }
-    ensures fetcher { IfOk result (λ h. (number h.fetcher.pass ≡ race.now.workers + 1)
-        × HasEnded system.now.engine play.now (race.now.workers + 1) h.fetcher.pass) }
-    ensures hosts { IfOk result (λ h. EndDown (λ g. g.pass) system.now.engine play.now
-        (race.now.workers + 1) (race.now.workers + 1 + play.now.config.cqs) h.hosts.items) }
-    ensures counts { IfOk result
-        (λ h. (vec_len h.workers ≡ race.now.workers) × (vec_len h.hosts ≡ play.now.config.cqs)) }
+    requires hosts { scene.now.play.now.config.cqs ≡ scene.now.race.now.hosts }
+    ensures { IfOk result (HaveCallersEnded scene.now.system.now.engine scene.now.play.now scene.now.race.now.workers) }
 {
-    let Racers {
+    let Racers { servers, hosts } = racers;
+    let Servers {
         fetcher,
         fetching: _,
         workers,
         working: _,
-        hosts,
-    } = racers;
-    let servers = usize::from(race.workers) + 1;
-    let hosts = hosts_back(alloc, system, play, servers, hosts)?;
+    } = servers;
+    let hosts = hosts_back(alloc, scene.system, scene.play, scene.servers(), hosts)?;
     Ok(Callers {
         fetcher,
         workers,
@@ -261,39 +208,20 @@ fn callers_back(
 fn all_turns<R: Wait>(
     rt: &R,
     alloc: Global,
-    system: &System<OpenGate>,
-    play: &Play,
-    race: &Race,
+    scene: &Scene<'_>,
     bias: &Bias,
     seed: u64,
     callers: Callers,
 ) -> Result<Callers, NoMemory>
-    requires callers { AreCallersOf system.now play.now.config race.now.workers callers }
-    requires config { play.now.config ≡ race_config race.now }
-    requires slots { IsSlotArea play.now.slots }
-    ensures workers { IfOk result (λ h. EndDown (λ w. w.caller.pass) system.now.engine play.now
-        (race.now.workers + 1) race.now.workers h.workers.items) }
-    ensures fetcher { IfOk result (λ h. (number h.fetcher.pass ≡ race.now.workers + 1)
-        × HasEnded system.now.engine play.now (race.now.workers + 1) h.fetcher.pass) }
-    ensures hosts { IfOk result (λ h. EndDown (λ g. g.pass) system.now.engine play.now
-        (race.now.workers + 1) (race.now.workers + 1 + play.now.config.cqs) h.hosts.items) }
-    ensures counts { IfOk result
-        (λ h. (vec_len h.workers ≡ race.now.workers) × (vec_len h.hosts ≡ play.now.config.cqs)) }
+    requires callers { AreCallersOf scene.now.system.now scene.now.play.now.config scene.now.race.now.workers callers }
+    requires config { scene.now.play.now.config ≡ race_config scene.now.race.now }
+    requires slots { IsSlotArea scene.now.play.now.slots }
+    ensures { IfOk result (HaveCallersEnded scene.now.system.now.engine scene.now.play.now scene.now.race.now.workers) }
 {
-    let queues = race.hosts * race.queues;
     let mut random = RandomNumbers::from_seed(seed);
-    let mut racers = all_racers(alloc, system, play, race, queues, callers)?;
-    to_the_end(
-        rt,
-        system,
-        play,
-        race,
-        bias,
-        queues,
-        &mut racers,
-        &mut random,
-    )?;
-    callers_back(alloc, system, play, race, queues, racers)
+    let mut racers = all_racers(alloc, scene, callers)?;
+    to_the_end(rt, scene, bias, &mut racers, &mut random)?;
+    callers_back(alloc, scene, racers)
 }
 
 /// The controller after a race by turns: its history keeps the slots, and has all rounds of each host.
@@ -317,6 +245,12 @@ pub(crate) fn raced<R: Wait>(
     let play = play_of(race);
     let (system, callers) = system_of(alloc, play.config, OpenGate, race.workers)?;
     let room = room_for(alloc, &play, race.workers)?;
-    let callers = all_turns(rt, alloc, &system, &play, race, bias, seed, callers)?;
+    let scene = Scene {
+        system: &system,
+        play: &play,
+        race,
+        queues: race.hosts * race.queues,
+    };
+    let callers = all_turns(rt, alloc, &scene, bias, seed, callers)?;
     Ok(closed(system, &play, callers, room))
 }

@@ -1,6 +1,6 @@
 //! The turns of a race behind the rounds of its hosts: those that live go over the slots.
 
-ghost use Rattle.std.specs.Prelude.{◌≡◌, ◌≤◌, ◌<◌, All, IfOk, OnOk, vec_len};
+ghost use Rattle.std.specs.Prelude.{◌≡◌, All, IfOk, vec_len};
 ghost use Rattle.race.specs.Drawing.{IsActorIn};
 ghost use Rattle.race.specs.Racers.{AreAllRacers};
 ghost use Rattle.race.specs.Survivors.{AreAllParties, IsParty};
@@ -10,13 +10,11 @@ use crate::fate::Fate;
 use crate::fencing::parties_of;
 use crate::parties::{busy_parts, parts};
 use crate::racers::Racers;
+use crate::scene::Scene;
+use crate::servers::{Servers, asks_each, fetches, works, works_each};
 use crate::survivor::Party;
-use crate::turns::{fetcher_turn, worker_turn};
-use hosts::{FetchStage, OpenGate, WorkStage};
-use race_hosts::Play;
-use race_numbers::{Bias, Race};
+use race_numbers::Bias;
 use random_numbers::RandomNumbers;
-use shared_system::{CallerPasses, System, WorkerPasses};
 use std::alloc::{AllocError as NoMemory, Global};
 use std::sync::Wait;
 
@@ -26,11 +24,7 @@ const BUSY: u32 = 8;
 /// All callers, each with what it has in hand.
 #[derive(Drop)]
 pub(crate) struct Sweep<'a> {
-    pub fetcher: CallerPasses,
-    pub fetching: FetchStage,
-    pub workers: Vec<WorkerPasses>,
-    /// In the order of the workers.
-    pub working: Vec<WorkStage>,
+    pub servers: Servers,
     /// What is left of the hosts, of the last one first.
     pub parties: Vec<Party<'a>>,
 }
@@ -42,128 +36,61 @@ pub(crate) struct Sweep<'a> {
 /// `NoMemory` where a growth is refused.
 pub(crate) fn sweep_of<'a>(
     alloc: Global,
-    system: &System<OpenGate>,
-    play: &Play,
-    race: &Race,
+    scene: &Scene<'_>,
     fates: &Vec<Fate>,
-    _queues: u16,
     racers: Racers<'a>,
 ) -> Result<Sweep<'a>, NoMemory>
-    requires racers { AreAllRacers system.now play.now race.now _queues racers }
-    requires fates { vec_len fates.now ≡ race.now.hosts }
-    ensures { IfOk result (AreAllParties system.now play.now race.now _queues fates.now.items) }
+    requires racers { AreAllRacers scene.now racers }
+    requires fates { vec_len fates.now ≡ scene.now.race.now.hosts }
+    ensures { IfOk result (AreAllParties scene.now fates.now.items) }
 {
-    let Racers {
-        fetcher,
-        fetching,
-        workers,
-        working,
-        hosts,
-    } = racers;
-    let servers = usize::from(race.workers) + 1;
-    let parties = parties_of(alloc, system, play, fates, servers, hosts)?;
-    Ok(Sweep {
-        fetcher,
-        fetching,
-        workers,
-        working,
-        parties,
-    })
-}
-
-// One turn of the fetcher.
-fn fetches<R: Wait>(
-    rt: &R,
-    system: &System<OpenGate>,
-    play: &Play,
-    race: &Race,
-    _fates: &[Fate],
-    queues: u16,
-    sweep: &mut Sweep<'_>,
-) -> Result<(), NoMemory>
-    requires sweep { AreAllParties system.now play.now race.now queues _fates.now sweep.old }
-    requires some { 1 ≤ queues }
-    ensures { AreAllParties system.now play.now race.now queues _fates.now sweep.new }
-{
-    let workers = usize::from(race.workers);
-    fetcher_turn(
-        rt,
-        system,
-        play,
-        workers + 1,
-        queues,
-        &mut sweep.fetcher,
-        &mut sweep.fetching,
-    )
-}
-
-// One turn of the worker at this place.
-fn works<R: Wait>(
-    rt: &R,
-    system: &System<OpenGate>,
-    play: &Play,
-    race: &Race,
-    _fates: &[Fate],
-    _queues: u16,
-    sweep: &mut Sweep<'_>,
-    place: usize,
-) -> Result<(), NoMemory>
-    requires sweep { AreAllParties system.now play.now race.now _queues _fates.now sweep.old }
-    requires place { place < race.now.workers }
-    ensures { AreAllParties system.now play.now race.now _queues _fates.now sweep.new }
-{
-    let top = usize::from(race.workers);
-    worker_turn(
-        rt,
-        system,
-        play,
-        top,
-        &mut sweep.workers,
-        &mut sweep.working,
-        place,
-    )
+    let Racers { servers, hosts } = racers;
+    let count = scene.servers();
+    let parties = parties_of(alloc, scene.system, scene.play, fates, count, hosts)?;
+    Ok(Sweep { servers, parties })
 }
 
 // One turn of a caller that finds the controller free.
 fn acts<R: Wait>(
     rt: &R,
-    system: &System<OpenGate>,
-    play: &Play,
-    race: &Race,
+    scene: &Scene<'_>,
     fates: &[Fate],
-    queues: u16,
     sweep: &mut Sweep<'_>,
     actor: Actor,
 ) -> Result<(), NoMemory>
-    requires sweep { AreAllParties system.now play.now race.now queues fates.now sweep.old }
-    requires some { 1 ≤ queues }
-    requires actor { IsActorIn race.now actor }
-    ensures { AreAllParties system.now play.now race.now queues fates.now sweep.new }
+    requires sweep { AreAllParties scene.now fates.now sweep.old }
+    requires actor { IsActorIn scene.now.race.now actor }
+    ensures { AreAllParties scene.now fates.now sweep.new }
 {
     match actor {
-        Actor::Fetcher => fetches(rt, system, play, race, fates, queues, sweep),
-        Actor::Worker(k) => works(rt, system, play, race, fates, queues, sweep, usize::from(k)),
-        Actor::Host(k) => parts(rt, system, play, fates, &mut sweep.parties, usize::from(k)),
+        Actor::Fetcher => fetches(rt, scene, &mut sweep.servers),
+        Actor::Worker(k) => works(rt, scene, &mut sweep.servers, usize::from(k)),
+        Actor::Host(k) => parts(
+            rt,
+            scene.system,
+            scene.play,
+            fates,
+            &mut sweep.parties,
+            usize::from(k),
+        ),
     }
 }
 
 // One turn of a caller that finds the controller busy.
-fn waits<R: Wait>(
-    rt: &R,
-    system: &System<OpenGate>,
-    play: &Play,
-    _race: &Race,
-    fates: &[Fate],
-    _queues: u16,
-    sweep: &mut Sweep<'_>,
-    actor: Actor,
-)
-    requires sweep { AreAllParties system.now play.now _race.now _queues fates.now sweep.old }
-    requires actor { IsActorIn _race.now actor }
-    ensures { AreAllParties system.now play.now _race.now _queues fates.now sweep.new }
+fn waits<R: Wait>(rt: &R, scene: &Scene<'_>, fates: &[Fate], sweep: &mut Sweep<'_>, actor: Actor)
+    requires sweep { AreAllParties scene.now fates.now sweep.old }
+    requires actor { IsActorIn scene.now.race.now actor }
+    ensures { AreAllParties scene.now fates.now sweep.new }
 {
     if let Actor::Host(k) = actor {
-        busy_parts(rt, system, play, fates, &mut sweep.parties, usize::from(k));
+        busy_parts(
+            rt,
+            scene.system,
+            scene.play,
+            fates,
+            &mut sweep.parties,
+            usize::from(k),
+        );
     }
 }
 
@@ -189,106 +116,37 @@ fn are_all_over(parties: &Vec<Party<'_>>, slots: u32) -> bool {
 /// `NoMemory` where a growth is refused, or a call can't be begun.
 pub(crate) fn sweeps<R: Wait>(
     rt: &R,
-    system: &System<OpenGate>,
-    play: &Play,
-    race: &Race,
+    scene: &Scene<'_>,
     bias: &Bias,
     fates: &[Fate],
-    queues: u16,
     sweep: &mut Sweep<'_>,
     random: &mut RandomNumbers,
 ) -> Result<(), NoMemory>
-    requires sweep { AreAllParties system.now play.now race.now queues fates.now sweep.old }
-    requires some { 1 ≤ queues }
-    ensures { AreAllParties system.now play.now race.now queues fates.now sweep.new }
+    requires { AreAllParties scene.now fates.now sweep.old }
+    ensures { AreAllParties scene.now fates.now sweep.new }
 {
     for _ in rt.forever() {
-        if are_all_over(&sweep.parties, race.slots) {
-            return Ok(());
+        if are_all_over(&sweep.parties, scene.race.slots) {
+            break;
         }
-        let actor = next_actor(race, bias, random);
+        let actor = next_actor(scene.race, bias, random);
         if random.one_in(BUSY) {
-            waits(rt, system, play, race, fates, queues, sweep, actor);
+            waits(rt, scene, fates, sweep, actor);
         } else {
-            acts(rt, system, play, race, fates, queues, sweep, actor)?;
+            acts(rt, scene, fates, sweep, actor)?;
         }
     }
-    unreachable!()
-}
-
-// Whether the fetcher has no Work, and no worker has.
-fn is_idle(sweep: &Sweep<'_>) -> bool {
-    let mut idle = match &sweep.fetching {
-        FetchStage::Asks(_) => true,
-        FetchStage::Pushes(_, _) => false,
-    };
-    for stage in &sweep.working {
-        let is_idle = match stage {
-            WorkStage::Idle => true,
-            WorkStage::Works(_) | WorkStage::Tells(_, _) => false,
-        };
-        idle = idle && is_idle;
-    }
-    idle
-}
-
-// The fetcher asks each submission queue; whether nobody had a Work then.
-fn asks_each<R: Wait>(
-    rt: &R,
-    system: &System<OpenGate>,
-    play: &Play,
-    race: &Race,
-    fates: &[Fate],
-    queues: u16,
-    sweep: &mut Sweep<'_>,
-) -> Result<bool, NoMemory>
-    requires sweep { AreAllParties system.now play.now race.now queues fates.now sweep.old }
-    requires some { 1 ≤ queues }
-    ensures { AreAllParties system.now play.now race.now queues fates.now sweep.new }
-{
-    let mut idle = is_idle(sweep);
-    for _ in 0..queues {
-        fetches(rt, system, play, race, fates, queues, sweep)?;
-        idle = idle && is_idle(sweep);
-    }
-    Ok(idle)
-}
-
-// Each worker makes a turn; whether nobody had a Work then.
-fn works_each<R: Wait>(
-    rt: &R,
-    system: &System<OpenGate>,
-    play: &Play,
-    race: &Race,
-    fates: &[Fate],
-    queues: u16,
-    sweep: &mut Sweep<'_>,
-) -> Result<bool, NoMemory>
-    requires sweep { AreAllParties system.now play.now race.now queues fates.now sweep.old }
-    ensures { AreAllParties system.now play.now race.now queues fates.now sweep.new }
-{
-    let mut idle = true;
-    for k in 0..race.workers {
-        works(rt, system, play, race, fates, queues, sweep, usize::from(k))?;
-        idle = idle && is_idle(sweep);
-    }
-    Ok(idle)
+    Ok(())
 }
 
 // What is left of each host learns the next notice.
-fn hears_each<R: Wait>(
-    rt: &R,
-    system: &System<OpenGate>,
-    play: &Play,
-    fates: &[Fate],
-    parties: &mut Vec<Party<'_>>,
-)
-    requires { All (IsParty system.now play.now fates.now) parties.old.items }
-    ensures parties { All (IsParty system.now play.now fates.now) parties.new.items }
+fn hears_each<R: Wait>(rt: &R, scene: &Scene<'_>, fates: &[Fate], parties: &mut Vec<Party<'_>>)
+    requires { All (IsParty scene.now.system.now scene.now.play.now fates.now) parties.old.items }
+    ensures parties { All (IsParty scene.now.system.now scene.now.play.now fates.now) parties.new.items }
     ensures count { vec_len parties.new ≡ vec_len parties.old }
 {
     for place in 0..parties.len() {
-        busy_parts(rt, system, play, fates, parties, place);
+        busy_parts(rt, scene.system, scene.play, fates, parties, place);
     }
 }
 
@@ -300,24 +158,20 @@ fn hears_each<R: Wait>(
 /// `NoMemory` where a growth is refused.
 pub(crate) fn drains<R: Wait>(
     rt: &R,
-    system: &System<OpenGate>,
-    play: &Play,
-    race: &Race,
+    scene: &Scene<'_>,
     fates: &[Fate],
-    queues: u16,
     sweep: &mut Sweep<'_>,
 ) -> Result<(), NoMemory>
-    requires sweep { AreAllParties system.now play.now race.now queues fates.now sweep.old }
-    requires some { 1 ≤ queues }
-    ensures { AreAllParties system.now play.now race.now queues fates.now sweep.new }
+    requires { AreAllParties scene.now fates.now sweep.old }
+    ensures { AreAllParties scene.now fates.now sweep.new }
 {
     for _ in rt.forever() {
-        let asked = asks_each(rt, system, play, race, fates, queues, sweep)?;
-        let worked = works_each(rt, system, play, race, fates, queues, sweep)?;
-        hears_each(rt, system, play, fates, &mut sweep.parties);
+        let asked = asks_each(rt, scene, &mut sweep.servers)?;
+        let worked = works_each(rt, scene, &mut sweep.servers)?;
+        hears_each(rt, scene, fates, &mut sweep.parties);
         if asked && worked {
-            return Ok(());
+            break;
         }
     }
-    unreachable!()
+    Ok(())
 }

@@ -19,6 +19,10 @@ use Rattle.driver_cas.specs.declared.port.Port.{Ghosts}
 use Rattle.driver_cas.specs.declared.shared_port.SharedPort.{SharedPort}
 use Rattle.driver_cas.proofs.Listening.{follows_later}
 use Rattle.slot_alloc.specs.Areas.{area, block_of}
+use Rattle.slot_alloc.specs.Claims.{IsClaimingOf, IsHeldBy, IsReleasingOf, IsUnreleased}
+use Rattle.slot_alloc.specs.declared.claim.Claim.{Claim}
+use Rattle.slot_alloc.specs.declared.claiming.Claiming.{Claiming}
+use Rattle.slot_alloc.specs.declared.release.Releasing.{Releasing}
 use Rattle.slot_log_laws.specs.Counts.{log_claims}
 use Rattle.slot_alloc.specs.SlotRules as slot_rules
 use Rattle.slot_alloc.specs.SlotRules.{KeepsSlotRules, ReleasedName}
@@ -26,14 +30,14 @@ use Rattle.many_host_laws.specs.Hosts.{IsHost}
 use Rattle.slot_alloc.specs.Counts.{claims_made}
 use Rattle.race_hosts.specs.Hosts.{HostContinues, IsHosting}
 use Rattle.race_hosts.specs.declared.owned.Host.{Host}
-use Rattle.race_hosts.specs.Stages.{are_over}
+use Rattle.race_hosts.specs.Stages.{IsStageOf, are_over}
 use Rattle.race_hosts.specs.declared.stage.RoundStage.{RoundStage}
 use Rattle.race_hosts.specs.declared.stage.RoundStage.TheVariants as stage
 
 -- a port is itself at a later time, and later than a later one
 later_same : (a : SharedPort) → PortFollows a a
 later_same a =
-    record { same_lock = refl; same_passes = refl; view = follows_self (view_of a); sole = refl }
+    record { same_lock = refl; same_passes = refl; view = follows_self (view_of a); sole = refl; asks = λ x. x }
 
 module _ {P : Type 0} {g : Ghosts P} where
   settings_on : (d e f : Driver P g) → HasSettings d e → HasSettings e f → HasSettings d f
@@ -122,3 +126,14 @@ none_left left stage.Ready e = grind (arith, e)
 none_left left (stage.Claiming k) e = absurd (let f : false ≡ true = e in cc)
 none_left left (stage.Holding k) e = absurd (let f : false ≡ true = e in cc)
 none_left left (stage.Releasing k) e = absurd (let f : false ≡ true = e in cc)
+
+-- what a host has begun stays so where its claims and its release do
+pub stays : (h k : Host) → ((c : Claim) → IsHeldBy h.driver c → IsHeldBy k.driver c)
+    → ((c : Claiming SharedPort _) → IsClaimingOf h.driver c → IsClaimingOf k.driver c)
+    → ((c : Claiming SharedPort _) → IsClaimingOf h.driver c → IsUnreleased h.driver c → IsUnreleased k.driver c)
+    → ((r : Releasing SharedPort) → IsReleasingOf h.driver r → IsReleasingOf k.driver r)
+    → (s : RoundStage) → IsStageOf h s → IsStageOf k s
+stays h k held claiming unreleased releasing stage.Ready is = is
+stays h k held claiming unreleased releasing (stage.Claiming c) is = (claiming c is.0, unreleased c is.0 is.1, is.2)
+stays h k held claiming unreleased releasing (stage.Holding c) is = held c.claim is
+stays h k held claiming unreleased releasing (stage.Releasing r) is = releasing r is

@@ -5,10 +5,9 @@ ghost use Rattle.slot_alloc.specs.Claims.{IsClaimingOf, IsUnreleased};
 ghost use Rattle.slot_alloc.specs.Counts.{IsPast};
 ghost use Rattle.race_hosts.specs.Hosts.{HostContinues, IsHosting, rounds_begun};
 ghost use Rattle.race_hosts.specs.Stages.{IsStageOf};
-ghost use Rattle.race_hosts.specs.declared.stage.RoundStage.{RoundStage};
 
 use crate::owned::Host;
-use crate::pausing::{AfterFault, next_after, pause, stops};
+use crate::pausing::{AfterFault, busy_turn, next_after, pause, stops};
 use crate::stage::{KeptClaim, RoundStage, Rounds};
 use driver_cas::{Fault, SharedPort};
 use shared_system::System;
@@ -52,25 +51,6 @@ pub(crate) fn begin<'a, R: Wait, G>(
     }
 }
 
-/// Pauses while a claim hasn't ended.
-pub(crate) fn waits_claiming<'a, R: Wait, G>(
-    rt: &R,
-    system: &System<G>,
-    host: &mut Host<'a>,
-    claiming: Claiming<SharedPort<'a>>,
-) -> RoundStage<'a>
-    requires own { IsHosting system.now host.old }
-    requires of { IsClaimingOf host.old.driver claiming × IsUnreleased host.old.driver claiming }
-    requires past { IsPast claiming 0 }
-    ensures goes { HostContinues system.now host.old host.new }
-    ensures stage { IsStageOf host.new result }
-    ensures begun { rounds_begun host.new ≡ rounds_begun host.old }
-    ensures same { result ≡ RoundStage.Claiming claiming.entry }
-{
-    pause(rt, system, host);
-    RoundStage::Claiming(claiming)
-}
-
 /// Polls a claim of any slot. Where it hasn't ended the host pauses; where it ended without a slot the round does.
 ///
 /// # Errors
@@ -91,12 +71,12 @@ pub(crate) fn polls<'a, R: Wait, G>(
 {
     match poll_claim(&mut host.driver, claiming) {
         Progress::Held(claim) => Ok(RoundStage::Holding(KeptClaim { claim })),
-        Progress::Pending(same) => Ok(waits_claiming(rt, system, host, same)),
+        Progress::Pending(same) => Ok(busy_turn(rt, system, host, RoundStage::Claiming(same))),
         Progress::Later(fault, same) => {
             if fault == Fault::NoMemory {
                 return Err(stops(system));
             }
-            Ok(waits_claiming(rt, system, host, same))
+            Ok(busy_turn(rt, system, host, RoundStage::Claiming(same)))
         }
         Progress::Taken | Progress::AllTaken | Progress::Failed(_) => Ok(RoundStage::Ready),
     }

@@ -131,9 +131,7 @@ fn start_hosts<'s, E, R: Threads + Wait + Sync, G: Sync>(
     ensures all { OnOk result (callers.new.items ≡ []) }
 {
     for _ in 0..callers.len() {
-        let Some(caller) = callers.pop() else {
-            unreachable!();
-        };
+        let caller = callers.pop().unwrap();
         match start_host(rt, alloc, scope, system, play, caller) {
             Ok(child) => started.push_reserved(child),
             Err(back) => {

@@ -11,5 +11,6 @@ mod stage;
 
 pub use crate::host_threads::{Play, run_hosts};
 pub use crate::owned::{Host, host_of};
-pub use crate::rounds::{busy_turn, host, host_turn};
+pub use crate::pausing::busy_turn;
+pub use crate::rounds::{host, host_turn};
 pub use crate::stage::{KeptClaim, RoundStage, Rounds};

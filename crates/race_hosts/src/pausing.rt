@@ -7,8 +7,10 @@ ghost use Rattle.slot_alloc.specs.declared.claim.Claim.{Claim};
 ghost use Rattle.slot_alloc.specs.declared.claiming.Claiming.{Claiming};
 ghost use Rattle.slot_alloc.specs.declared.release.Releasing.{Releasing};
 ghost use Rattle.race_hosts.specs.Hosts.{HostContinues, IsHosting, rounds_begun};
+ghost use Rattle.race_hosts.specs.Stages.{IsStageOf};
 
 use crate::owned::Host;
+use crate::stage::RoundStage;
 use driver_cas::Fault;
 use shared_system::System;
 use slot_alloc::laws::an_untouched_driver_keeps_its_slots;
@@ -32,7 +34,8 @@ pub(crate) fn next_after(fault: Fault) -> AfterFault {
     match fault {
         Fault::Busy | Fault::RingFull => AfterFault::Again,
         Fault::NoMemory => AfterFault::NoMemory,
-        _ => AfterFault::RoundEnds,
+        Fault::Length | Fault::TooLong | Fault::Status(_) | Fault::SlotArea | Fault::NoSerial =>
+            AfterFault::RoundEnds,
     }
 }
 
@@ -64,4 +67,23 @@ pub(crate) fn pause<R: Wait, G>(rt: &R, system: &System<G>, host: &mut Host<'_>)
         yield_now();
     }
     an_untouched_driver_keeps_its_slots(&before, &host.driver);
+}
+
+/// One turn of a host of whose call nothing comes, since it hasn't ended or would find the controller busy: the host
+/// learns the next notice, or lets others run where there is none.
+pub fn busy_turn<'a, R: Wait, G>(
+    rt: &R,
+    system: &System<G>,
+    host: &mut Host<'a>,
+    stage: RoundStage<'a>,
+) -> RoundStage<'a>
+    requires own { IsHosting system.now host.old }
+    requires stage { IsStageOf host.old stage }
+    ensures goes { HostContinues system.now host.old host.new }
+    ensures stage { IsStageOf host.new result }
+    ensures begun { rounds_begun host.new ≡ rounds_begun host.old }
+    ensures same { result ≡ stage.entry }
+{
+    pause(rt, system, host);
+    stage
 }

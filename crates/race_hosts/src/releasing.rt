@@ -4,10 +4,9 @@ ghost use Rattle.std.specs.Prelude.{◌≡◌, IfOk};
 ghost use Rattle.slot_alloc.specs.Claims.{IsHeldBy, IsReleasingOf};
 ghost use Rattle.race_hosts.specs.Hosts.{HostContinues, IsHosting, rounds_begun};
 ghost use Rattle.race_hosts.specs.Stages.{IsStageOf};
-ghost use Rattle.race_hosts.specs.declared.stage.RoundStage.{RoundStage};
 
 use crate::owned::Host;
-use crate::pausing::{AfterFault, next_after, pause, stops};
+use crate::pausing::{AfterFault, busy_turn, next_after, pause, stops};
 use crate::stage::{KeptClaim, RoundStage};
 use driver_cas::{Fault, SharedPort};
 use shared_system::System;
@@ -56,24 +55,6 @@ pub(crate) fn give_back<'a, R: Wait, G>(
     }
 }
 
-/// Pauses while a release hasn't ended.
-pub(crate) fn waits_releasing<'a, R: Wait, G>(
-    rt: &R,
-    system: &System<G>,
-    host: &mut Host<'a>,
-    releasing: Releasing<SharedPort<'a>>,
-) -> RoundStage<'a>
-    requires own { IsHosting system.now host.old }
-    requires of { IsReleasingOf host.old.driver releasing }
-    ensures goes { HostContinues system.now host.old host.new }
-    ensures stage { IsStageOf host.new result }
-    ensures begun { rounds_begun host.new ≡ rounds_begun host.old }
-    ensures same { result ≡ RoundStage.Releasing releasing.entry }
-{
-    pause(rt, system, host);
-    RoundStage::Releasing(releasing)
-}
-
 /// Polls a release. Where it hasn't ended the host pauses, else the round ends.
 ///
 /// # Errors
@@ -93,12 +74,12 @@ pub(crate) fn polls_release<'a, R: Wait, G>(
 {
     match poll_release(&mut host.driver, releasing) {
         Released::Released | Released::Failed(_) => Ok(RoundStage::Ready),
-        Released::Pending(same) => Ok(waits_releasing(rt, system, host, same)),
+        Released::Pending(same) => Ok(busy_turn(rt, system, host, RoundStage::Releasing(same))),
         Released::Later(fault, same) => {
             if fault == Fault::NoMemory {
                 return Err(stops(system));
             }
-            Ok(waits_releasing(rt, system, host, same))
+            Ok(busy_turn(rt, system, host, RoundStage::Releasing(same)))
         }
     }
 }

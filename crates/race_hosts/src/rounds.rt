@@ -3,17 +3,14 @@
 ghost use Rattle.std.specs.Prelude.{ℕ, IfOk, OnOk, ◌+◌, ◌≡◌, ◌≤◌};
 ghost use Rattle.nvme_model.specs.declared.array.Range.{Range};
 ghost use Rattle.nvme_model.specs.declared.config.ConfigNumbers.{ConfigNumbers};
-ghost use Rattle.slot_alloc.specs.Claims.{IsHeldBy};
 ghost use Rattle.many_host_laws.specs.Hosts.{IsHost};
 ghost use Rattle.race_hosts.specs.Hosts.{HostContinues, IsHosting, rounds_begun};
 ghost use Rattle.race_hosts.specs.Stages.{IsStageOf};
-ghost use Rattle.race_hosts.specs.declared.stage.RoundStage.{RoundStage};
 
-use crate::claiming::{begin, polls, waits_claiming};
+use crate::claiming::{begin, polls};
 use crate::owned::Host;
-use crate::pausing::pause;
-use crate::releasing::{give_back, polls_release, waits_releasing};
-use crate::stage::{KeptClaim, RoundStage, Rounds};
+use crate::releasing::{give_back, polls_release};
+use crate::stage::{RoundStage, Rounds};
 use shared_system::System;
 use std::alloc::AllocError as NoMemory;
 use std::sync::Wait;
@@ -79,59 +76,6 @@ pub fn host_turn<'a, R: Wait, G>(
     }
 }
 
-// Pauses while a slot is held.
-fn waits_holding<'a, R: Wait, G>(
-    rt: &R,
-    system: &System<G>,
-    host: &mut Host<'a>,
-    kept: KeptClaim,
-) -> RoundStage<'a>
-    requires own { IsHosting system.now host.old }
-    requires held { IsHeldBy host.old.driver kept.claim }
-    ensures goes { HostContinues system.now host.old host.new }
-    ensures stage { IsStageOf host.new result }
-    ensures begun { rounds_begun host.new ≡ rounds_begun host.old }
-    ensures same { result ≡ RoundStage.Holding kept }
-{
-    pause(rt, system, host);
-    RoundStage::Holding(kept)
-}
-
-// Pauses while no round is begun.
-fn waits_ready<'a, R: Wait, G>(rt: &R, system: &System<G>, host: &mut Host<'a>) -> RoundStage<'a>
-    requires { IsHosting system.now host.old }
-    ensures goes { HostContinues system.now host.old host.new }
-    ensures stage { IsStageOf host.new result }
-    ensures begun { rounds_begun host.new ≡ rounds_begun host.old }
-    ensures same { result ≡ RoundStage.Ready }
-{
-    pause(rt, system, host);
-    RoundStage::Ready
-}
-
-/// One turn of a host whose call would find the controller busy: nothing comes of it, and the host learns the next
-/// notice, or lets others run where there is none.
-pub fn busy_turn<'a, R: Wait, G>(
-    rt: &R,
-    system: &System<G>,
-    host: &mut Host<'a>,
-    stage: RoundStage<'a>,
-) -> RoundStage<'a>
-    requires own { IsHosting system.now host.old }
-    requires stage { IsStageOf host.old stage }
-    ensures goes { HostContinues system.now host.old host.new }
-    ensures stage { IsStageOf host.new result }
-    ensures begun { rounds_begun host.new ≡ rounds_begun host.old }
-    ensures same { result ≡ stage.entry }
-{
-    match stage {
-        RoundStage::Ready => waits_ready(rt, system, host),
-        RoundStage::Claiming(claiming) => waits_claiming(rt, system, host, claiming),
-        RoundStage::Holding(kept) => waits_holding(rt, system, host, kept),
-        RoundStage::Releasing(releasing) => waits_releasing(rt, system, host, releasing),
-    }
-}
-
 /// Claims any slot and releases it, so many times, by turns. Each round begins with a claim of the first slot. A slot
 /// that is held when the stop flag is set stays held. All that is added to the driver's pass is in the driver's log,
 /// and keeps the rules of slots.
@@ -168,5 +112,6 @@ pub fn host<R: Wait, G>(
         }
         now = host_turn(rt, system, host, now)?;
     }
+    // The loop is left by a return alone.
     unreachable!()
 }

@@ -97,9 +97,6 @@ impl Race {
         ensures value { result ≡ race_config self.now }
     {
         let pairs = self.hosts * self.queues;
-        let Ok(config) = Config::with_cqs(64, 1, 1, 0, 0, pairs, 8, 8, 16, self.hosts) else {
-            unreachable!();
-        };
-        config
+        Config::with_cqs(64, 1, 1, 0, 0, pairs, 8, 8, 16, self.hosts).unwrap()
     }
 }

@@ -27,10 +27,7 @@ fn narrow(random: &mut RandomNumbers) -> Config
     let cq = between(random, 2, 4);
     let jobs = between(random, 1, 4);
     let cqs = between(random, 1, pairs);
-    let Ok(config) = Config::with_cqs(8, 0, 0, 0, 0, pairs, sq, cq, jobs, cqs) else {
-        unreachable!();
-    };
-    config
+    Config::with_cqs(8, 0, 0, 0, 0, pairs, sq, cq, jobs, cqs).unwrap()
 }
 
 // Boundaries in most cases, and units of few blocks.
@@ -48,10 +45,7 @@ fn bounded(random: &mut RandomNumbers) -> Config
     let nabo = between(random, 0, nabsn);
     let blocks = between(random, 12, 40);
     let jobs = between(random, 1, 6);
-    let Ok(config) = Config::new(u32::from(blocks), awun, acwu, nabsn, nabo, 2, 6, 6, jobs) else {
-        unreachable!();
-    };
-    config
+    Config::new(u32::from(blocks), awun, acwu, nabsn, nabo, 2, 6, 6, jobs).unwrap()
 }
 
 // Anything that is small; a fused pair finds room.
@@ -74,11 +68,7 @@ fn small(random: &mut RandomNumbers) -> Config
     let jobs = between(random, 1, 6);
     let cqs = between(random, 1, pairs);
     let blocks = u32::from(blocks);
-    let Ok(config) = Config::with_cqs(blocks, awun, acwu, nabsn, nabo, pairs, sq, cq, jobs, cqs)
-    else {
-        unreachable!();
-    };
-    config
+    Config::with_cqs(blocks, awun, acwu, nabsn, nabo, pairs, sq, cq, jobs, cqs).unwrap()
 }
 
 /// A small configuration that suits a kind, for a script of which none is asked for.

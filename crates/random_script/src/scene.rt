@@ -99,7 +99,10 @@ impl Scene {
                 self.posted(ticket);
                 Ok(())
             }
-            _ => Ok(()),
+            Answer::Published
+            | Answer::Granted(_, _, _)
+            | Answer::Blocked(_)
+            | Answer::Reaped { .. } => Ok(()),
         }
     }
 
@@ -126,7 +129,13 @@ impl Scene {
         };
         let ticket = match line {
             WrittenLine::Post(ticket) => *ticket,
-            _ => 0,
+            WrittenLine::Publish(_)
+            | WrittenLine::Fetch(_)
+            | WrittenLine::Grant(_)
+            | WrittenLine::Block(_)
+            | WrittenLine::Reap(_)
+            | WrittenLine::Settle
+            | WrittenLine::Medium(_) => 0,
         };
         self.step(step, ticket)
     }
@@ -139,7 +148,11 @@ impl Scene {
             };
             let ticket = match step {
                 Step::Post(ticket) => ticket,
-                _ => 0,
+                Step::Publish(_, _)
+                | Step::Fetch(_)
+                | Step::Grant(_)
+                | Step::Block(_)
+                | Step::Reap(_) => 0,
             };
             let Ok(answer) = answer else {
                 return Err(NoMemory);

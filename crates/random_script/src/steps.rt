@@ -24,7 +24,12 @@ enum Act {
 fn drawn_act(random: &mut RandomNumbers, kind: ScriptKind, turn: u32) -> Act {
     let fills = match kind {
         ScriptKind::Queues => Some(turn / 12 % 2 == 0),
-        _ => None,
+        ScriptKind::Single
+        | ScriptKind::Pairs
+        | ScriptKind::Units
+        | ScriptKind::Hostile
+        | ScriptKind::Slots
+        | ScriptKind::Mixed => None,
     };
     match (fills, random.below(16)) {
         (Some(true), 0..=7) => Act::Publish,

@@ -1,10 +1,13 @@
 -- What is held where it is what the grants of open units hold.
 use Rattle.std.proofs.Common.{◌≡◌, ℕ, Bool, true, false, cond, not, ◌||◌, List, [], ◌∷◌, map, refl, ap, ◌==◌}
+use Rattle.std.proofs.Common.{Err, Ok, Result, inl, inr, is_ok, ◌⊎◌}
 use Rattle.std.specs.List.{filter, list_any}
+use Rattle.std.specs.Prelude.{IfErr}
 use Rattle.nvme_model.specs.Open.{conflict}
 use Rattle.nvme_model.specs.declared.array.Mode.{Mode}
 use Rattle.nvme_model.specs.declared.array.Range.{Range}
 use Rattle.nvme_model.specs.declared.entry.GrantLine.{GrantLine}
+use Rattle.nvme_model.specs.declared.refusal.Why.{Why}
 use Rattle.range_reserve.specs.declared.held.HeldRange.{HeldRange}
 use Rattle.range_reserve.specs.Reserved.{has_conflict, holds_range, held_beside, held_of}
 
@@ -29,3 +32,14 @@ held_beside-map (g ∷ gs) t = first (not (g.ticket == t)) g gs (held_beside-map
         ≡ map held_of (cond b (g ∷ filter (λ g. not (g.ticket == t)) gs) (filter (λ g. not (g.ticket == t)) gs))
     first true g gs e = ap (λ (hs : List HeldRange). held_of g ∷ hs) e
     first false g gs e = e
+
+-- ---- the call that grants
+
+-- it answers Ok where neither error comes
+pub held_ok : (r : Result (Unit {0}) Why) → IfErr r (λ why. (why ≡ Why.Conflict) ⊎ (why ≡ Why.NoMemory))
+    → (r ≡ Err Why.Conflict → ⊥) → (r ≡ Err Why.NoMemory → ⊥) → is_ok r ≡ true
+held_ok (Ok x) e a b = refl
+held_ok (Err why) e a b = elim e [
+  | inl f ↦ absurd (a (ap Err f))
+  | inr f ↦ absurd (b (ap Err f))
+]

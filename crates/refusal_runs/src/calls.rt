@@ -4,15 +4,16 @@ ghost use Rattle.std.specs.Prelude.{◌≡◌, IfSome};
 ghost use Rattle.driver_cas.specs.Drivers.{IsCallOf};
 ghost use Rattle.history.specs.Config.{config_numbers};
 ghost use Rattle.work_queue.specs.Engines.{IsWorkOf};
-ghost use Rattle.driver_testing.specs.Benches.{AreBenchSpares, IsBenchHost, IsServerOf};
+ghost use Rattle.driver_testing.specs.Hosts.{IsTestHost};
+ghost use Rattle.shared_system.specs.Plain.{ArePlainCallers, IsPlainCallerOf};
 
 use crate::runs::TURNS;
 use driver_cas::{Call, Fault, SharedPort};
 use driver_testing::{
-    AnswerWords, Ask, Bench, BenchHost, BenchSpares, Fill, Server, caller_of, fetches, hears,
-    host_of, makes, polls, starts,
+    AnswerWords, Ask, Fill, TestHost, fetches, hears, host_of, makes, polls, starts,
 };
 use nvme_model::array::Range;
+use shared_system::{PlainCaller, PlainCallers, PlainSystem, take_caller};
 use std::alloc::Global;
 use std::sync::Wait;
 use work_queue::Work;
@@ -44,13 +45,13 @@ const CALLS: [(Ask, AnswerWords); 10] = [
 ];
 
 // Makes all tasks of a Work.
-fn ends<R: Wait>(rt: &R, bench: &Bench, server: &mut Server, work: Work, told: &mut u64)
-    requires { IsServerOf bench.now server.old × IsWorkOf bench.now.engine work }
-    ensures { IsServerOf bench.now server.new }
+fn ends<R: Wait>(rt: &R, system: &PlainSystem, server: &mut PlainCaller, work: Work, told: &mut u64)
+    requires { IsPlainCallerOf system.now server.old × IsWorkOf system.now.engine work }
+    ensures { IsPlainCallerOf system.now server.new }
 {
     let mut work = work;
     for _ in 0..TURNS {
-        match makes(rt, bench, server, &mut work) {
+        match makes(rt, system, server, &mut work) {
             Some(true) => {}
             Some(false) => return,
             None => *told = told.wrapping_add(1),
@@ -61,30 +62,30 @@ fn ends<R: Wait>(rt: &R, bench: &Bench, server: &mut Server, work: Work, told: &
 /// Serves the command that waits in a submission queue, if one does.
 pub(crate) fn serves<R: Wait>(
     rt: &R,
-    bench: &Bench,
-    server: &mut Server,
+    system: &PlainSystem,
+    server: &mut PlainCaller,
     queue: u16,
     told: &mut u64,
 )
-    requires { IsServerOf bench.now server.old }
-    ensures { IsServerOf bench.now server.new }
+    requires { IsPlainCallerOf system.now server.old }
+    ensures { IsPlainCallerOf system.now server.new }
 {
     for _ in 0..FETCHES {
-        if let Some(work) = fetches(bench, server, queue) {
-            ends(rt, bench, server, work, told);
+        if let Some(work) = fetches(system, server, queue) {
+            ends(rt, system, server, work, told);
         }
     }
 }
 
 // Begins a call.
 fn begins<'a>(
-    _bench: &Bench,
-    host: &mut BenchHost<'a>,
+    _system: &PlainSystem,
+    host: &mut TestHost<'a>,
     ask: Ask,
     told: &mut u64,
 ) -> Option<Call<SharedPort<'a>>>
-    requires { IsBenchHost _bench.now host.old }
-    ensures same { IsBenchHost _bench.now host.new }
+    requires { IsTestHost _system.now host.old }
+    ensures same { IsTestHost _system.now host.new }
     ensures call { IfSome result (IsCallOf host.new.driver) }
 {
     for _ in 0..TURNS {
@@ -99,13 +100,13 @@ fn begins<'a>(
 
 // Polls a call until it is answered.
 fn answers<'a>(
-    _bench: &Bench,
-    host: &mut BenchHost<'a>,
+    _system: &PlainSystem,
+    host: &mut TestHost<'a>,
     call: Call<SharedPort<'a>>,
     told: &mut u64,
 ) -> Option<AnswerWords>
-    requires { IsBenchHost _bench.now host.old × IsCallOf host.old.driver call }
-    ensures { IsBenchHost _bench.now host.new }
+    requires { IsTestHost _system.now host.old × IsCallOf host.old.driver call }
+    ensures { IsTestHost _system.now host.new }
 {
     let mut next = call;
     for _ in 0..TURNS {
@@ -124,55 +125,55 @@ fn answers<'a>(
 // What a call is told, once it is served.
 fn served<R: Wait>(
     rt: &R,
-    bench: &Bench,
-    server: &mut Server,
-    host: &mut BenchHost<'_>,
+    system: &PlainSystem,
+    server: &mut PlainCaller,
+    host: &mut TestHost<'_>,
     ask: Ask,
     told: &mut u64,
 ) -> Option<AnswerWords>
-    requires { IsServerOf bench.now server.old × IsBenchHost bench.now host.old }
-    ensures { IsServerOf bench.now server.new × IsBenchHost bench.now host.new }
+    requires { IsPlainCallerOf system.now server.old × IsTestHost system.now host.old }
+    ensures { IsPlainCallerOf system.now server.new × IsTestHost system.now host.new }
 {
-    let call = begins(bench, host, ask, told)?;
-    serves(rt, bench, server, 1, told);
-    hears(rt, bench, host);
-    answers(bench, host, call, told)
+    let call = begins(system, host, ask, told)?;
+    serves(rt, system, server, 1, told);
+    hears(rt, system, host);
+    answers(system, host, call, told)
 }
 
-// The same by a host.
-fn makes_all<R: Wait>(
+/// Makes all calls of a host, each served; whether each is told what is wanted.
+pub(crate) fn makes_all<R: Wait>(
     rt: &R,
-    bench: &Bench,
-    server: &mut Server,
-    host: &mut BenchHost<'_>,
+    system: &PlainSystem,
+    server: &mut PlainCaller,
+    host: &mut TestHost<'_>,
     told: &mut u64,
 ) -> bool
-    requires { IsServerOf bench.now server.old × IsBenchHost bench.now host.old }
-    ensures { IsServerOf bench.now server.new }
+    requires { IsPlainCallerOf system.now server.old × IsTestHost system.now host.old }
+    ensures { IsPlainCallerOf system.now server.new }
 {
     for (ask, wanted) in CALLS {
-        if served(rt, bench, server, host, ask, told) != Some(wanted) {
+        if served(rt, system, server, host, ask, told) != Some(wanted) {
             return false;
         }
     }
     true
 }
 
-// Host 1, on submission queue 1.
-fn host<'a>(
+/// Host 1, on submission queue 1.
+pub(crate) fn host<'a>(
     alloc: Global,
-    bench: &'a Bench,
-    spares: &mut BenchSpares,
+    system: &'a PlainSystem,
+    spares: &mut PlainCallers,
     told: &mut u64,
-) -> Option<BenchHost<'a>>
-    requires own { AreBenchSpares bench.now spares.old }
-    requires config { bench.now.config ≡ config_numbers 8 1 1 0 0 2 4 4 8 2 }
-    ensures { IfSome result (IsBenchHost bench.entry.now) }
+) -> Option<TestHost<'a>>
+    requires own { ArePlainCallers system.now spares.old }
+    requires config { system.now.config ≡ config_numbers 8 1 1 0 0 2 4 4 8 2 }
+    ensures { IfSome result (IsTestHost system.entry.now) }
 {
     for _ in 0..HOSTS {
         if let Ok(queues) = [1].to_vec(alloc) {
-            let caller = caller_of(bench, spares)?;
-            let host = host_of(alloc, bench, caller, 1, SLOTS, 1, queues);
+            let caller = take_caller(system, spares)?;
+            let host = host_of(alloc, system, caller, 1, SLOTS, 1, queues);
             if host.is_some() {
                 return host;
             }
@@ -180,23 +181,4 @@ fn host<'a>(
         *told = told.wrapping_add(1);
     }
     None
-}
-
-/// Makes all calls; whether each is told what is wanted.
-pub(crate) fn are_answered<R: Wait>(
-    rt: &R,
-    alloc: Global,
-    bench: &Bench,
-    server: &mut Server,
-    spares: &mut BenchSpares,
-    told: &mut u64,
-) -> bool
-    requires own { AreBenchSpares bench.now spares.old × IsServerOf bench.now server.old }
-    requires config { bench.now.config ≡ config_numbers 8 1 1 0 0 2 4 4 8 2 }
-    ensures { IsServerOf bench.now server.new }
-{
-    match host(alloc, bench, spares, told) {
-        Some(mut host) => makes_all(rt, bench, server, &mut host, told),
-        None => false,
-    }
 }

@@ -2,13 +2,15 @@
 
 ghost use Rattle.std.specs.Prelude.{◌≡◌, IfSome};
 ghost use Rattle.history.specs.Config.{config_numbers};
-ghost use Rattle.driver_testing.specs.Benches.{AreBenchSpares, IsServerOf};
+ghost use Rattle.shared_system.specs.Plain.{ArePlainCallers, IsPlainCallerOf};
 
-use crate::calls::are_answered;
-use crate::runs::TURNS;
-use crate::slots::are_granted;
-use driver_testing::{Bench, BenchSpares, Server, bench_of, caller_of};
+use crate::calls::{host, makes_all};
+use crate::runs::system;
+use crate::slots::{COUNT, claimants, turns};
 use history::Config;
+use lock_testing::closed;
+use shared_system::{PlainCaller, PlainCallers, PlainSystem, take_caller};
+use slot_alloc::Slots;
 use std::alloc::Global;
 use std::sync::Wait;
 use step_core::Core;
@@ -17,38 +19,30 @@ use step_core::Core;
 /// unused.
 const MOST: usize = 8;
 
-// A controller, and passes for its callers.
-fn bench(alloc: Global, config: Config, told: &mut u64) -> Option<(Bench, BenchSpares)>
-    ensures own { IfSome result (λ b. AreBenchSpares b.0 b.1) }
-    ensures config { IfSome result (λ b. b.0.config ≡ config) }
-{
-    for _ in 0..TURNS {
-        match bench_of(alloc, config, MOST, MOST) {
-            Ok(made) => return Some(made),
-            Err(_) => *told = told.wrapping_add(1),
-        }
-    }
-    None
-}
-
 // Whether all calls, or all claims, are told what is wanted.
 fn are_served<R: Wait>(
     rt: &R,
     alloc: Global,
-    bench: &Bench,
-    server: &mut Server,
-    spares: &mut BenchSpares,
+    system: &PlainSystem,
+    server: &mut PlainCaller,
+    spares: &mut PlainCallers,
     is_slots: bool,
     told: &mut u64,
 ) -> bool
-    requires own { AreBenchSpares bench.now spares.old × IsServerOf bench.now server.old }
-    requires config { bench.now.config ≡ config_numbers 8 1 1 0 0 2 4 4 8 2 }
-    ensures { IsServerOf bench.now server.new }
+    requires own { ArePlainCallers system.now spares.old × IsPlainCallerOf system.now server.old }
+    requires config { system.now.config ≡ config_numbers 8 1 1 0 0 2 4 4 8 2 }
+    ensures { IsPlainCallerOf system.now server.new }
 {
-    if is_slots {
-        are_granted(rt, alloc, bench, server, spares, told)
-    } else {
-        are_answered(rt, alloc, bench, server, spares, told)
+    if !is_slots {
+        return match host(alloc, system, spares, told) {
+            Some(mut host) => makes_all(rt, system, server, &mut host, told),
+            None => false,
+        };
+    }
+    let slots = Slots::new(0, COUNT);
+    match claimants(alloc, system, spares, &slots, told) {
+        Some((mut one, mut two)) => turns(rt, system, server, &slots, &mut one, &mut two, told),
+        None => false,
     }
 }
 
@@ -56,29 +50,21 @@ fn are_served<R: Wait>(
 fn all_served<R: Wait>(
     rt: &R,
     alloc: Global,
-    bench: &Bench,
-    spares: &mut BenchSpares,
+    system: &PlainSystem,
+    spares: &mut PlainCallers,
     is_slots: bool,
     told: &mut u64,
-) -> Option<Server>
-    requires own { AreBenchSpares bench.now spares.old }
-    requires config { bench.now.config ≡ config_numbers 8 1 1 0 0 2 4 4 8 2 }
-    ensures { IfSome result (IsServerOf bench.now) }
+) -> Option<PlainCaller>
+    requires own { ArePlainCallers system.now spares.old }
+    requires config { system.now.config ≡ config_numbers 8 1 1 0 0 2 4 4 8 2 }
+    ensures { IfSome result (IsPlainCallerOf system.now) }
 {
-    let mut server = caller_of(bench, spares)?;
-    if are_served(rt, alloc, bench, &mut server, spares, is_slots, told) {
+    let mut server = take_caller(system, spares)?;
+    if are_served(rt, alloc, system, &mut server, spares, is_slots, told) {
         Some(server)
     } else {
         None
     }
-}
-
-// The controller of a bench whose hosts are gone.
-fn closes(bench: Bench, server: Server) -> Option<Core>
-    requires { IsServerOf bench server }
-{
-    let Bench { engine, .. } = bench;
-    engine.close(server.pass)
 }
 
 /// The controller after all calls, or all claims.
@@ -91,7 +77,7 @@ pub(crate) fn by_driver<R: Wait>(
     let Ok(config) = Config::new(8, 1, 1, 0, 0, 2, 4, 4, 8) else {
         return None;
     };
-    let (bench, mut spares) = bench(alloc, config, told)?;
-    let server = all_served(rt, alloc, &bench, &mut spares, is_slots, told)?;
-    closes(bench, server)
+    let (system, mut spares) = system(alloc, config, MOST, MOST, told)?;
+    let server = all_served(rt, alloc, &system, &mut spares, is_slots, told)?;
+    closed(system, server)
 }

@@ -30,7 +30,7 @@ fn publish_of(alloc: Global, blocks: usize) -> Option<Step> {
     let line = line_of(alloc, blocks).ok()?;
     match read_script_line(alloc, line.as_bytes()) {
         Ok(ScriptLine::Step(step)) => Some(step),
-        _ => None,
+        Ok(ScriptLine::Settle | ScriptLine::Medium(_) | ScriptLine::Comment) | Err(_) => None,
     }
 }
 

@@ -1,11 +1,13 @@
 //! Calls of an engine and its queues that take no memory.
 
 ghost use Rattle.std.specs.Prelude.{IfSome};
-ghost use Rattle.lock_testing.specs.Callers.{IsCrewOf, IsFreshWork};
+ghost use Rattle.lock_testing.specs.Callers.{IsCrewOf};
+ghost use Rattle.shared_system.specs.Plain.{IsFreshWork};
 
 use crate::script::{RefusalRun, run_of};
 use crate::works::{closes, ends, fetched, manned, publishes};
-use lock_testing::{CONFIG, TestSystem, ThreeCallers, learns, pops, pushes};
+use lock_testing::{CONFIG, ThreeCallers, learns, pops, pushes};
+use shared_system::PlainSystem;
 use std::alloc::Global;
 use std::sync::Wait;
 use step_core::Step;
@@ -17,7 +19,7 @@ const LINES: &str = "publish 1 flush 0 1 0 0 - / publish 1 flush 0 2 0 0 -";
 // What stands before: the Work of the second Flush.
 fn begins<R: Wait>(
     rt: &R,
-    system: &TestSystem,
+    system: &PlainSystem,
     crew: &mut ThreeCallers,
     steps: Vec<Step>,
 ) -> Option<Work>
@@ -39,7 +41,7 @@ fn begins<R: Wait>(
 // A Work goes through its queue, a Notice is learnt, and two passes meet.
 fn quiet_calls<R: Wait>(
     rt: &R,
-    system: &TestSystem,
+    system: &PlainSystem,
     crew: &mut ThreeCallers,
     work: Work,
 ) -> Option<()>
@@ -60,7 +62,7 @@ fn quiet_calls<R: Wait>(
 // Makes what stands before, and then them.
 fn calls<R: Wait>(
     rt: &R,
-    system: &TestSystem,
+    system: &PlainSystem,
     crew: &mut ThreeCallers,
     steps: Vec<Step>,
     is_first: bool,

@@ -1,12 +1,14 @@
 //! A run's steps, each asked for again after want of memory.
 
-ghost use Rattle.std.specs.Prelude.{◌≡◌, [], IfSome};
+ghost use Rattle.std.specs.Prelude.{◌≡◌, ◌<◌, [], IfSome};
 ghost use Rattle.meet_lock.specs.Passes.{IsPassOfLock, IsSame};
+ghost use Rattle.shared_system.specs.Plain.{ArePlainCallers};
 
 use crate::script::RefusalRun;
 use history::Config;
 use meet_lock::{Declined, Pass, Shared};
 use nvme_model::refusal::Why;
+use shared_system::{PlainCallers, PlainSystem, plain_system_of};
 use std::alloc::Global;
 use step_core::{Answer, Core, Refused, Step};
 
@@ -20,6 +22,28 @@ pub(crate) fn controller(alloc: Global, config: Config, told: &mut u64) -> Optio
     for _ in 0..TURNS {
         match Core::new(alloc, config) {
             Ok(core) => return Some(core),
+            Err(_) => *told = told.wrapping_add(1),
+        }
+    }
+    None
+}
+
+/// A system of a new controller, with so many callers, asked for again after want of memory. Each of its queues holds
+/// `capacity` messages.
+pub(crate) fn system(
+    alloc: Global,
+    config: Config,
+    capacity: usize,
+    count: usize,
+    told: &mut u64,
+) -> Option<(PlainSystem, PlainCallers)>
+    requires { (0 < capacity) × (0 < count) }
+    ensures callers { IfSome result (λ h. ArePlainCallers h.0 h.1) }
+    ensures config { IfSome result (λ h. h.0.config ≡ config) }
+{
+    for _ in 0..TURNS {
+        match plain_system_of(alloc, config, capacity, count) {
+            Ok(made) => return Some(made),
             Err(_) => *told = told.wrapping_add(1),
         }
     }
@@ -42,7 +66,7 @@ fn same(step: &Step) -> Option<Step> {
 fn queue_of(step: &Step) -> u16 {
     match step {
         Step::Publish(queue, _) => *queue,
-        _ => 0,
+        Step::Fetch(_) | Step::Grant(_) | Step::Block(_) | Step::Post(_) | Step::Reap(_) => 0,
     }
 }
 
@@ -51,7 +75,7 @@ fn again(refused: Refused, queue: u16, kept: Option<Step>) -> Option<Step> {
     match refused {
         Refused::Publish(Why::NoMemory, batch) => Some(Step::Publish(queue, batch)),
         Refused::Step(Why::NoMemory) => kept,
-        _ => None,
+        Refused::Publish(..) | Refused::Step(_) => None,
     }
 }
 

@@ -2,23 +2,21 @@
 
 ghost use Rattle.std.specs.Prelude.{◌≡◌, ◌<◌, ◌≤◌, IfSome};
 ghost use Rattle.history.specs.Config.{config_numbers};
-ghost use Rattle.driver_testing.specs.Benches.{AreBenchSpares, IsServerOf};
+ghost use Rattle.shared_system.specs.Plain.{ArePlainCallers, IsPlainCallerOf};
 ghost use Rattle.driver_testing.specs.Claimants.{IsClaimant};
 ghost use Rattle.slot_alloc.specs.Areas.{area};
 
 use crate::calls::serves;
 use crate::runs::TURNS;
 use driver_cas::Fault;
-use driver_testing::{
-    Bench, BenchSpares, Came, Claimant, Server, asks, caller_of, claimant_of, gives_back,
-    is_served, polls_begun,
-};
+use driver_testing::{Came, Claimant, asks, claimant_of, gives_back, is_served, polls_begun};
+use shared_system::{PlainCaller, PlainCallers, PlainSystem, take_caller};
 use slot_alloc::Slots;
 use std::alloc::Global;
 use std::sync::Wait;
 
 /// How many slots there are, from block 0 on.
-const COUNT: u32 = 2;
+pub(crate) const COUNT: u32 = 2;
 
 /// How often a host is asked for.
 const HOSTS: u32 = 3;
@@ -46,22 +44,22 @@ const TURN: [(u16, Wish, Came); 6] = [
 // The host of this number.
 fn claimant<'a>(
     alloc: Global,
-    bench: &'a Bench,
-    spares: &mut BenchSpares,
+    system: &'a PlainSystem,
+    spares: &mut PlainCallers,
     h: u16,
     slots: &Slots,
     told: &mut u64,
 ) -> Option<Claimant<'a>>
-    requires own { AreBenchSpares bench.now spares.old }
-    requires config { bench.now.config ≡ config_numbers 8 1 1 0 0 2 4 4 8 2 }
+    requires own { ArePlainCallers system.now spares.old }
+    requires config { system.now.config ≡ config_numbers 8 1 1 0 0 2 4 4 8 2 }
     requires number { (1 ≤ h) × (h ≤ 2) }
     requires slots { area slots.now ≡ record { slba = 0; blocks = 2 } }
-    ensures rest { AreBenchSpares bench.entry.now spares.new }
-    ensures claimant { IfSome result (IsClaimant bench.entry.now slots.now) }
+    ensures rest { ArePlainCallers system.entry.now spares.new }
+    ensures claimant { IfSome result (IsClaimant system.entry.now slots.now) }
 {
     for _ in 0..HOSTS {
-        let caller = caller_of(bench, spares)?;
-        let made = claimant_of(alloc, bench, caller, h, slots, COUNT);
+        let caller = take_caller(system, spares)?;
+        let made = claimant_of(alloc, system, caller, h, slots, COUNT);
         if made.is_some() {
             return made;
         }
@@ -72,21 +70,21 @@ fn claimant<'a>(
 
 // Begins what a host wants.
 fn begins(
-    bench: &Bench,
+    system: &PlainSystem,
     slots: &Slots,
     claimant: &mut Claimant<'_>,
     wish: Wish,
     told: &mut u64,
 ) -> Came
-    requires claimant { IsClaimant bench.now slots.now claimant.old }
+    requires claimant { IsClaimant system.now slots.now claimant.old }
     requires slots { 0 < (area slots.now).blocks }
-    ensures { IsClaimant bench.now slots.now claimant.new }
+    ensures { IsClaimant system.now slots.now claimant.new }
 {
     for _ in 0..TURNS {
         let came = match wish {
-            Wish::First => asks(bench, slots, claimant, Some(0)),
-            Wish::Any => asks(bench, slots, claimant, None),
-            Wish::Release => gives_back(bench, slots, claimant),
+            Wish::First => asks(system, slots, claimant, Some(0)),
+            Wish::Any => asks(system, slots, claimant, None),
+            Wish::Release => gives_back(system, slots, claimant),
         };
         if came != Came::Refused(Fault::NoMemory) {
             return came;
@@ -99,21 +97,21 @@ fn begins(
 // What comes of what was begun.
 fn ends<R: Wait>(
     rt: &R,
-    bench: &Bench,
-    server: &mut Server,
+    system: &PlainSystem,
+    server: &mut PlainCaller,
     slots: &Slots,
     claimant: &mut Claimant<'_>,
     told: &mut u64,
 ) -> Came
-    requires server { IsServerOf bench.now server.old }
-    requires claimant { IsClaimant bench.now slots.now claimant.old }
-    ensures server { IsServerOf bench.now server.new }
-    ensures claimant { IsClaimant bench.now slots.now claimant.new }
+    requires server { IsPlainCallerOf system.now server.old }
+    requires claimant { IsClaimant system.now slots.now claimant.old }
+    ensures server { IsPlainCallerOf system.now server.new }
+    ensures claimant { IsClaimant system.now slots.now claimant.new }
 {
     for _ in 0..TURNS {
-        serves(rt, bench, server, claimant.queue, told);
-        is_served(rt, bench, server, slots, claimant);
-        match polls_begun(bench, slots, claimant) {
+        serves(rt, system, server, claimant.queue, told);
+        is_served(rt, system, server, slots, claimant);
+        match polls_begun(system, slots, claimant) {
             Came::Pending => {}
             Came::Later(Fault::NoMemory) => *told = told.wrapping_add(1),
             came => return came,
@@ -125,92 +123,68 @@ fn ends<R: Wait>(
 // Whether that comes of what a host wants.
 fn grants<R: Wait>(
     rt: &R,
-    bench: &Bench,
-    server: &mut Server,
+    system: &PlainSystem,
+    server: &mut PlainCaller,
     slots: &Slots,
     claimant: &mut Claimant<'_>,
     want: (Wish, Came),
     told: &mut u64,
 ) -> bool
-    requires server { IsServerOf bench.now server.old }
-    requires claimant { IsClaimant bench.now slots.now claimant.old }
+    requires server { IsPlainCallerOf system.now server.old }
+    requires claimant { IsClaimant system.now slots.now claimant.old }
     requires slots { 0 < (area slots.now).blocks }
-    ensures server { IsServerOf bench.now server.new }
-    ensures claimant { IsClaimant bench.now slots.now claimant.new }
+    ensures server { IsPlainCallerOf system.now server.new }
+    ensures claimant { IsClaimant system.now slots.now claimant.new }
 {
-    begins(bench, slots, claimant, want.0, told) == Came::Begun
-        && ends(rt, bench, server, slots, claimant, told) == want.1
+    begins(system, slots, claimant, want.0, told) == Came::Begun
+        && ends(rt, system, server, slots, claimant, told) == want.1
 }
 
-// Host 1 or host 2 in its turn; the other waits.
-fn turn<R: Wait>(
+/// Both in turn; whether all came of it that is wanted.
+pub(crate) fn turns<R: Wait>(
     rt: &R,
-    bench: &Bench,
-    server: &mut Server,
-    slots: &Slots,
-    one: &mut Claimant<'_>,
-    two: &mut Claimant<'_>,
-    asked: (u16, Wish, Came),
-    told: &mut u64,
-) -> bool
-    requires server { IsServerOf bench.now server.old }
-    requires one { IsClaimant bench.now slots.now one.old }
-    requires two { IsClaimant bench.now slots.now two.old }
-    requires slots { 0 < (area slots.now).blocks }
-    ensures server { IsServerOf bench.now server.new }
-    ensures one { IsClaimant bench.now slots.now one.new }
-    ensures two { IsClaimant bench.now slots.now two.new }
-{
-    let want = (asked.1, asked.2);
-    if asked.0 == 1 {
-        return grants(rt, bench, server, slots, one, want, told);
-    }
-    grants(rt, bench, server, slots, two, want, told)
-}
-
-// Both in turn; whether all came of it that is wanted.
-fn turns<R: Wait>(
-    rt: &R,
-    bench: &Bench,
-    server: &mut Server,
+    system: &PlainSystem,
+    server: &mut PlainCaller,
     slots: &Slots,
     one: &mut Claimant<'_>,
     two: &mut Claimant<'_>,
     told: &mut u64,
 ) -> bool
-    requires server { IsServerOf bench.now server.old }
-    requires one { IsClaimant bench.now slots.now one.old }
-    requires two { IsClaimant bench.now slots.now two.old }
+    requires server { IsPlainCallerOf system.now server.old }
+    requires one { IsClaimant system.now slots.now one.old }
+    requires two { IsClaimant system.now slots.now two.old }
     requires slots { 0 < (area slots.now).blocks }
-    ensures { IsServerOf bench.now server.new }
+    ensures { IsPlainCallerOf system.now server.new }
 {
-    for asked in TURN {
-        if !turn(rt, bench, server, slots, one, two, asked, told) {
+    for (host, wish, came) in TURN {
+        let want = (wish, came);
+        let is_granted = if host == 1 {
+            grants(rt, system, server, slots, one, want, told)
+        } else {
+            grants(rt, system, server, slots, two, want, told)
+        };
+        if !is_granted {
             return false;
         }
     }
     true
 }
 
-/// Two hosts in turn; whether all came of it that is wanted.
-pub(crate) fn are_granted<R: Wait>(
-    rt: &R,
+/// Hosts 1 and 2.
+pub(crate) fn claimants<'a>(
     alloc: Global,
-    bench: &Bench,
-    server: &mut Server,
-    spares: &mut BenchSpares,
+    system: &'a PlainSystem,
+    spares: &mut PlainCallers,
+    slots: &Slots,
     told: &mut u64,
-) -> bool
-    requires own { AreBenchSpares bench.now spares.old × IsServerOf bench.now server.old }
-    requires config { bench.now.config ≡ config_numbers 8 1 1 0 0 2 4 4 8 2 }
-    ensures { IsServerOf bench.now server.new }
+) -> Option<(Claimant<'a>, Claimant<'a>)>
+    requires own { ArePlainCallers system.now spares.old }
+    requires config { system.now.config ≡ config_numbers 8 1 1 0 0 2 4 4 8 2 }
+    requires slots { area slots.now ≡ record { slba = 0; blocks = 2 } }
+    ensures one { IfSome result (λ h. IsClaimant system.entry.now slots.now h.0) }
+    ensures two { IfSome result (λ h. IsClaimant system.entry.now slots.now h.1) }
 {
-    let slots = Slots::new(0, COUNT);
-    let Some(mut one) = claimant(alloc, bench, spares, 1, &slots, told) else {
-        return false;
-    };
-    let Some(mut two) = claimant(alloc, bench, spares, 2, &slots, told) else {
-        return false;
-    };
-    turns(rt, bench, server, &slots, &mut one, &mut two, told)
+    let one = claimant(alloc, system, spares, 1, slots, told)?;
+    let two = claimant(alloc, system, spares, 2, slots, told)?;
+    Some((one, two))
 }

@@ -2,18 +2,19 @@
 //! Work asks for and tells of it. What is refused for want of memory is asked for again.
 
 ghost use Rattle.std.specs.Prelude.{IfSome};
-ghost use Rattle.lock_testing.specs.Callers.{AreTestSpares, IsCrewOf, IsFreshWork, IsTestCallerOf, IsTestWork};
+ghost use Rattle.lock_testing.specs.Callers.{IsCrewOf};
+ghost use Rattle.shared_system.specs.Plain.{IsFreshWork, IsPlainCallerOf, IsPlainWork};
 
-use crate::runs::TURNS;
+use crate::runs::{TURNS, system};
 use crate::script::RefusalRun;
 use history::Config;
 use lock_testing::{
-    NO_MEMORY, SpareCallers, TestCaller, TestSystem, ThreeCallers, crew_of, fetches, learns, open,
-    opens, pops, pushes, system_of, works,
+    NO_MEMORY, ThreeCallers, closed, crew_of, fetches, learns, open, opens, pops, pushes, works,
 };
 use meet_lock::Declined;
 use nvme_model::refusal::Why;
 use nvme_model::submission::Submissions;
+use shared_system::{PlainCaller, PlainSystem};
 use std::alloc::Global;
 use std::sync::Wait;
 use step_core::{Core, Refused, Step};
@@ -29,36 +30,22 @@ fn single(config: Config) -> Option<Config> {
     Config::from_numbers(&numbers).ok()
 }
 
-// The engine, its queues, and three callers.
-fn system(alloc: Global, config: Config, told: &mut u64) -> Option<(TestSystem, SpareCallers)>
-    ensures { IfSome result (λ h. AreTestSpares h.0 h.1) }
-{
-    let config = single(config)?;
-    for _ in 0..TURNS {
-        match system_of(alloc, config, CAPACITY, 3) {
-            Ok(made) => return Some(made),
-            Err(_) => *told = told.wrapping_add(1),
-        }
-    }
-    None
-}
-
 // A Publish; it is asked again with the batch that came back.
 pub(crate) fn publishes(
-    system: &TestSystem,
-    caller: &mut TestCaller,
+    system: &PlainSystem,
+    caller: &mut PlainCaller,
     queue: u16,
     batch: Submissions,
     told: &mut u64,
 )
-    requires { IsTestCallerOf system.now caller.old }
-    ensures { IsTestCallerOf system.now caller.new }
+    requires { IsPlainCallerOf system.now caller.old }
+    ensures { IsPlainCallerOf system.now caller.new }
 {
     let mut next = batch;
     for _ in 0..TURNS {
         match open(system, caller, Open::Publish(queue, next)) {
             Err(Declined::Refused(Refused::Publish(Why::NoMemory, back))) => next = back,
-            _ => return,
+            Ok(_) | Err(Declined::Refused(_) | Declined::Busy(_)) => return,
         }
         *told = told.wrapping_add(1);
     }
@@ -67,7 +54,7 @@ pub(crate) fn publishes(
 // The Work of a Fetch, out of the queue.
 pub(crate) fn fetched<R: Wait>(
     rt: &R,
-    system: &TestSystem,
+    system: &PlainSystem,
     crew: &mut ThreeCallers,
     queue: u16,
     told: &mut u64,
@@ -92,13 +79,13 @@ pub(crate) fn fetched<R: Wait>(
 // Makes all tasks of a Work, up to one that is refused for another cause.
 pub(crate) fn ends<R: Wait>(
     rt: &R,
-    system: &TestSystem,
-    caller: &mut TestCaller,
+    system: &PlainSystem,
+    caller: &mut PlainCaller,
     work: Work,
     told: &mut u64,
 )
-    requires { IsTestCallerOf system.now caller.old × IsTestWork system.now work }
-    ensures { IsTestCallerOf system.now caller.new }
+    requires { IsPlainCallerOf system.now caller.old × IsPlainWork system.now work }
+    ensures { IsPlainCallerOf system.now caller.new }
 {
     let mut work = work;
     for _ in 0..TURNS {
@@ -112,9 +99,9 @@ pub(crate) fn ends<R: Wait>(
 }
 
 // The host learns all that it was told.
-fn hears<R: Wait>(rt: &R, system: &TestSystem, caller: &mut TestCaller)
-    requires { IsTestCallerOf system.now caller.old }
-    ensures { IsTestCallerOf system.now caller.new }
+fn hears<R: Wait>(rt: &R, system: &PlainSystem, caller: &mut PlainCaller)
+    requires { IsPlainCallerOf system.now caller.old }
+    ensures { IsPlainCallerOf system.now caller.new }
 {
     for _ in 0..CAPACITY {
         if learns(rt, system, caller) != Ok(true) {
@@ -124,21 +111,27 @@ fn hears<R: Wait>(rt: &R, system: &TestSystem, caller: &mut TestCaller)
 }
 
 // The host learns, and reaps.
-fn reaps<R: Wait>(rt: &R, system: &TestSystem, caller: &mut TestCaller, queue: u16, told: &mut u64)
-    requires { IsTestCallerOf system.now caller.old }
-    ensures { IsTestCallerOf system.now caller.new }
+fn reaps<R: Wait>(
+    rt: &R,
+    system: &PlainSystem,
+    caller: &mut PlainCaller,
+    queue: u16,
+    told: &mut u64,
+)
+    requires { IsPlainCallerOf system.now caller.old }
+    ensures { IsPlainCallerOf system.now caller.new }
 {
     hears(rt, system, caller);
     for _ in 0..TURNS {
         match opens(rt, system, caller, Open::Reap(queue)) {
             Err(NO_MEMORY) => *told = told.wrapping_add(1),
-            _ => return,
+            Ok(_) | Err(_) => return,
         }
     }
 }
 
 // A step by the caller whose it is. A worker makes Grants, Blocks and Posts unasked.
-fn make<R: Wait>(rt: &R, system: &TestSystem, crew: &mut ThreeCallers, step: Step, told: &mut u64)
+fn make<R: Wait>(rt: &R, system: &PlainSystem, crew: &mut ThreeCallers, step: Step, told: &mut u64)
     requires { IsCrewOf system.now crew.old }
     ensures { IsCrewOf system.now crew.new }
 {
@@ -157,7 +150,7 @@ fn make<R: Wait>(rt: &R, system: &TestSystem, crew: &mut ThreeCallers, step: Ste
 // All steps, each by the caller whose it is.
 fn make_each<R: Wait>(
     rt: &R,
-    system: &TestSystem,
+    system: &PlainSystem,
     crew: &mut ThreeCallers,
     steps: Vec<Step>,
     told: &mut u64,
@@ -175,10 +168,10 @@ pub(crate) fn manned(
     alloc: Global,
     config: Config,
     told: &mut u64,
-) -> Option<(TestSystem, ThreeCallers)>
+) -> Option<(PlainSystem, ThreeCallers)>
     ensures { IfSome result (λ h. IsCrewOf h.0 h.1) }
 {
-    let (system, mut callers) = system(alloc, config, told)?;
+    let (system, mut callers) = system(alloc, single(config)?, CAPACITY, 3, told)?;
     let crew = crew_of(alloc, &system, &mut callers)?;
     Some((system, crew))
 }
@@ -196,10 +189,8 @@ pub(crate) fn by_works<R: Wait>(
 }
 
 // The controller, with the host's pass.
-pub(crate) fn closes(system: TestSystem, crew: ThreeCallers) -> Option<Core>
+pub(crate) fn closes(system: PlainSystem, crew: ThreeCallers) -> Option<Core>
     requires { IsCrewOf system crew }
 {
-    let TestSystem { engine, .. } = system;
-    let ThreeCallers { host, .. } = crew;
-    engine.close(host.pass)
+    closed(system, crew.host)
 }

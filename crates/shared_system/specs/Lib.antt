@@ -1,3 +1,4 @@
 pub mod Servers
 pub mod Callers
 pub mod Capacities
+pub mod Plain

@@ -91,9 +91,7 @@ fn next_host<G>(
         × (vec_len places.new + 1 ≡ vec_len places.old)) }
 {
     let pass = last_pass(system, config, all, passes)?;
-    let Some(notices) = last_place(system, places) else {
-        unreachable!();
-    };
+    let notices = last_place(system, places).unwrap();
     Some(HostPasses {
         pass,
         queue,
@@ -122,9 +120,7 @@ fn hosts_of<G>(
     let all = passes.len();
     let mut hosts = Vec::with_capacity(alloc, usize::from(count))?;
     for k in 0..count {
-        let Some(host) = next_host(system, config, all, passes, &mut places, count - k) else {
-            unreachable!();
-        };
+        let host = next_host(system, config, all, passes, &mut places, count - k).unwrap();
         put_host(system, config, all, &mut hosts, host);
     }
     Ok(hosts)
@@ -154,12 +150,8 @@ fn take_worker<G>(
         ≡ vec_len spares.old.rows) }
 {
     let notices = spares.rows.pop()?;
-    let (Some(pass), Some(works)) = (
-        last_pass(system, config, all, &mut spares.passes),
-        spares.works.pop(),
-    ) else {
-        unreachable!();
-    };
+    let pass = last_pass(system, config, all, &mut spares.passes).unwrap();
+    let works = spares.works.pop().unwrap();
     Some(WorkerPasses {
         caller: CallerPasses { pass, works },
         notices,
@@ -203,9 +195,7 @@ fn workers_of<G>(
     let count = spares.rows.len();
     let mut workers = Vec::with_capacity(alloc, count)?;
     for _ in 0..count {
-        let Some(worker) = take_worker(system, config, all, &mut spares) else {
-            unreachable!();
-        };
+        let worker = take_worker(system, config, all, &mut spares).unwrap();
         put_worker(system, config, all, count, &mut workers, worker);
     }
     Ok(workers)
@@ -231,9 +221,7 @@ fn take_fetcher<G>(
         × (vec_len passes.new ≡ vec_len works.new)) }
 {
     let works = works.pop()?;
-    let Some(pass) = last_pass(system, config, all, passes) else {
-        unreachable!();
-    };
+    let pass = last_pass(system, config, all, passes).unwrap();
     Some(CallerPasses { pass, works })
 }
 
@@ -255,14 +243,10 @@ fn callers_of<G>(
     requires count { (vec_len passes ≡ vec_len rows + config.now.cqs) × (vec_len works ≡ vec_len rows) }
     ensures { IfOk result (AreCallersOf system.now config.now (vec_len rows - 1)) }
 {
-    let Some(row) = rows.pop() else {
-        unreachable!();
-    };
+    let row = rows.pop().unwrap();
     let all = passes.len();
     let hosts = hosts_of(alloc, system, config, &mut passes, row)?;
-    let Some(fetcher) = take_fetcher(system, config, all, &mut passes, &mut works) else {
-        unreachable!();
-    };
+    let fetcher = take_fetcher(system, config, all, &mut passes, &mut works).unwrap();
     let spares = WorkerSpares {
         passes,
         works,

@@ -56,9 +56,8 @@ fn next_row(
     ensures count { (vec_len rows.new + 1 ≡ vec_len rows.old) × (vec_len places.new ≡ vec_len rows.new) }
     ensures row { IfOk result (λ r. ArePlaces engine.now (made.now.items ++ more.now ∷ []) r.items) }
 {
-    let (Some(row), Some(place)) = (rows.pop(), places.pop()) else {
-        unreachable!();
-    };
+    let row = rows.pop().unwrap();
+    let place = places.pop().unwrap();
     longer_row(engine, made, more, row, place)
 }
 

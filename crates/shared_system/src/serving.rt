@@ -156,6 +156,7 @@ fn finish<R: Wait, G>(
             return false;
         }
     }
+    // The loop ends by its returns alone.
     unreachable!()
 }
 
@@ -171,6 +172,7 @@ fn fetch<G>(system: &System<G>, caller: &mut CallerPasses, queue: u16) -> Option
         .attempt_open(&mut caller.pass, Open::Fetch(queue))
     {
         Ok(Opened::Fetched(work)) => Some(work),
+        // A Fetch that was made is answered by its Work.
         Ok(Opened::Published | Opened::Reaped { .. }) => unreachable!(),
         Err(declined) => nothing(declined),
     }
@@ -193,5 +195,6 @@ pub fn serve<R: Wait, G>(rt: &R, system: &System<G>, server: &mut WorkerPasses, 
             return false;
         }
     }
+    // The loop ends by its returns alone.
     unreachable!()
 }

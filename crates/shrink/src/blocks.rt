@@ -73,7 +73,9 @@ fn add_cut(
             }
         }
         Place::Data => add_word(out, first, cut(word, nlb.saturating_add(1))),
-        _ => add_word(out, first, word),
+        Place::Kind | Place::Queue | Place::Name | Place::Other(_) | Place::Raw(_) => {
+            add_word(out, first, word)
+        }
     }
 }
 

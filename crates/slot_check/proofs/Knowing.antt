@@ -15,7 +15,8 @@ use Rattle.nvme_model.specs.declared.array.Range.{Range}
 use Rattle.slot_check.specs.Batch.{claimed_twice_in, fresh_in}
 use Rattle.slot_check.specs.Broken.{claimed_twice}
 use Rattle.slot_check.specs.Names.{AreUnwon, KeptNames, KnowsNames, believes, claims_by, claims_name}
-use Rattle.slot_check.specs.Names.{gives, listed}
+use Rattle.std.specs.Option.{option_to_list}
+use Rattle.slot_check.specs.Names.{gives}
 
 -- ---- lists
 
@@ -33,12 +34,12 @@ pub and_true : (b : Bool) → b ≡ (b && true)
 and_true true = refl
 and_true false = refl
 
-pub any_listed : (p : Swap → Bool) (xs : List Swap) (o : Option Swap) → filter p xs ≡ listed o
+pub any_listed : (p : Swap → Bool) (xs : List Swap) (o : Option Swap) → filter p xs ≡ option_to_list o
     → list_any p xs ≡ is_some o
 any_listed p xs o h = any_same p (λ x. p x && true) xs (λ x. and_true (p x)) ∙ any_filter p (λ _. true) xs
     ∙ ap (list_any (λ _. true)) h ∙ by_some o
   where
-    by_some : (o : Option Swap) → list_any (λ _. true) (listed o) ≡ is_some o
+    by_some : (o : Option Swap) → list_any (λ _. true) (option_to_list o) ≡ is_some o
     by_some None = refl
     by_some (Some s) = refl
 
@@ -53,17 +54,17 @@ none_is (Some s) e = absurd cc
 module _ (r : ℕ → ℕ → Bool) (of : List Swap) (k m : KeptNames) (s : Swap) (h : KnowsNames r of k) where
   pub added_claim : ((n : Name) → m.claim n ≡ cond (s.claims && same_name s.name n) (Some s) (k.claim n))
       → (s.claims ≡ true → is_some (k.claim s.name) ≡ false)
-      → (n : Name) → filter (claims_name n) (s ∷ of) ≡ listed (m.claim n)
+      → (n : Name) → filter (claims_name n) (s ∷ of) ≡ option_to_list (m.claim n)
   added_claim a fresh n = go (s.claims && same_name s.name n) refl (a n)
     where
       go : (b : Bool) → (s.claims && same_name s.name n) ≡ b → m.claim n ≡ cond b (Some s) (k.claim n)
-          → cond b (s ∷ filter (claims_name n) of) (filter (claims_name n) of) ≡ listed (m.claim n)
-      go false e f = h.claim n ∙ ap listed (sym f)
+          → cond b (s ∷ filter (claims_name n) of) (filter (claims_name n) of) ≡ option_to_list (m.claim n)
+      go false e f = h.claim n ∙ ap option_to_list (sym f)
       go true e f =
           let p = and_parts s.claims (same_name s.name n) e in
           let none : k.claim n ≡ None = ap k.claim (sym (name_eq s.name n p.1)) ∙ none_is (k.claim s.name)
           (fresh p.0) in
-          ap (λ (xs : List Swap). s ∷ xs) (h.claim n ∙ ap listed none) ∙ ap listed (sym f)
+          ap (λ (xs : List Swap). s ∷ xs) (h.claim n ∙ ap option_to_list none) ∙ ap option_to_list (sym f)
 
   pub added_won : ((q j : ℕ) → m.won q j ≡ cond (claims_by q j s) (Some false) (k.won q j))
       → r s.queue (suc s.number) ≡ false
@@ -97,7 +98,7 @@ pub unchanged : (r : ℕ → ℕ → Bool) (of : List Swap) (k m : KeptNames) �
     → KnowsNames r of k → KnowsNames r of m
 unchanged r of k m a b d h =
     record {
-      claim = λ n. h.claim n ∙ ap listed (sym (a n));
+      claim = λ n. h.claim n ∙ ap option_to_list (sym (a n));
       won = λ q j. b q j ∙ h.won q j;
       released = λ l n. d l n ∙ h.released l n;
     }
@@ -112,7 +113,7 @@ pub won_more : (r p : ℕ → ℕ → Bool) (of : List Swap) (k m : KeptNames) (
     → ((q j : ℕ) → p q j ≡ ((eqb queue q && eqb number j) || r q j)) → KnowsNames p of m
 won_more r p of k m queue number h a b d e =
     record {
-      claim = λ n. h.claim n ∙ ap listed (sym (a n));
+      claim = λ n. h.claim n ∙ ap option_to_list (sym (a n));
       won = λ q j. b q j ∙ go q j (eqb queue q && eqb number j) refl
           ∙ (λ i. cond (list_any (claims_by q j) of) (Some (sym (e q j) i)) None);
       released = λ l n. d l n ∙ h.released l n;
@@ -175,7 +176,7 @@ any_found p t xs x ys e f = any_filter p t xs ∙ ap (list_any t) e ∙ ap (λ (
 won_of : (r : ℕ → ℕ → Bool) (of : List Swap) (k : KeptNames) (n : Name) (w : Swap) → KnowsNames r of k
     → k.claim n ≡ Some w → k.won w.queue (suc w.number) ≡ Some (r w.queue (suc w.number))
 won_of r of k n w h e =
-    let is : filter (claims_name n) of ≡ w ∷ [] = h.claim n ∙ ap listed e in
+    let is : filter (claims_name n) of ≡ w ∷ [] = h.claim n ∙ ap option_to_list e in
     let claims = (and_parts w.claims (same_name w.name n) (in_filter_holds (claims_name n) of w [] is)).0 in
     let there : list_any (λ y. claims_name n y && claims_by w.queue (suc w.number) y) of ≡ true =
     any_found (claims_name n) (claims_by w.queue (suc w.number)) of w [] is
@@ -211,7 +212,7 @@ gives_is r of k l n test h = go (k.claim n) ∙ sym found
     both s = eqb s.lba l && test s
 
     found : list_any (λ s. ((s.claims && eqb s.lba l) && same_name s.name n) && test s) of
-        ≡ list_any both (listed (k.claim n))
+        ≡ list_any both (option_to_list (k.claim n))
     found = any_same _ (λ s. claims_name n s && both s) of
         (λ s. order s.claims (eqb s.lba l) (same_name s.name n) (test s))
         ∙ any_filter (claims_name n) both of ∙ ap (list_any both) (h.claim n)
@@ -220,7 +221,7 @@ gives_is r of k l n test h = go (k.claim n) ∙ sym found
     or_none true = refl
     or_none false = refl
 
-    go : (o : Option Swap) → gives l test o ≡ list_any both (listed o)
+    go : (o : Option Swap) → gives l test o ≡ list_any both (option_to_list o)
     go None = refl
     go (Some w) = or_none (both w)
 
@@ -239,12 +240,13 @@ believes_is r of k l n h =
 
 -- ---- two lists, each in two parts
 
-longer : (o : Option Swap) (x y : Swap) (zs : List Swap) → x ∷ y ∷ zs ≡ listed o → ⊥
+longer : (o : Option Swap) (x y : Swap) (zs : List Swap) → x ∷ y ∷ zs ≡ option_to_list o → ⊥
 longer None x y zs e = absurd cc
 longer (Some s) x y zs e = absurd (let l : suc (suc (length zs)) ≡ 1 = ap length e in omega (arith, l))
 
 -- of four parts that have one element at most the order doesn't matter
-regroup : (o : Option Swap) (a g b h : List Swap) → (a ++ g) ++ (b ++ h) ≡ listed o → (a ++ b) ++ (g ++ h) ≡ listed o
+regroup : (o : Option Swap) (a g b h : List Swap) → (a ++ g) ++ (b ++ h) ≡ option_to_list o
+    → (a ++ b) ++ (g ++ h) ≡ option_to_list o
 regroup o [] [] b h e = e
 regroup o [] (x ∷ g) [] h e = e
 regroup o [] (x ∷ []) (y ∷ b) h e = absurd (longer o x y (b ++ h) e)

@@ -10,7 +10,7 @@ use Rattle.nvme_model.specs.Completions.{reaped_count}
 use Rattle.nvme_model.specs.Config.{completion_queue}
 use Rattle.nvme_model.specs.History.{Past}
 use Rattle.nvme_model.specs.Legal.{IsLegal}
-use Rattle.nvme_model.specs.Queues.{fetched_count, waiting}
+use Rattle.nvme_model.specs.Queues.{fetched_count}
 use Rattle.nvme_model.specs.Slots.{EntryCompletion, entry_completion, entry_completions, fetched_before, says_success}
 use Rattle.nvme_model.specs.Tickets.{fetched_ticket, in_flight, posts_of}
 use Rattle.nvme_model.specs.Verdict.{taken_entries}

@@ -5,6 +5,7 @@ use Rattle.std.specs.Prelude.{◌==◌, ◌∷◌, ◌≡◌}
 use Rattle.std.specs.HashMap.{get_by}
 use Rattle.std.specs.HashSet.{contains_by}
 use Rattle.std.specs.List.{filter, list_any}
+use Rattle.std.specs.Option.{option_to_list}
 use Rattle.nvme_model.specs.Config.{completion_queue}
 use Rattle.nvme_model.specs.Slots.{Name, Swap, releases, same_name}
 use Rattle.nvme_model.specs.declared.config.ConfigNumbers.{ConfigNumbers}
@@ -37,11 +38,6 @@ claims_name n s = s.claims && same_name s.name n
 abbrev pub claims_by : ℕ → ℕ → Swap → Bool
 claims_by q j s = s.claims && ((s.queue == q) && (suc s.number == j))
 
--- the claim, where there is one
-abbrev pub listed : Option Swap → List Swap
-listed None = []
-listed (Some s) = s ∷ []
-
 -- the claim is of the slot at block l, and passes the test
 abbrev pub gives : ℕ → (Swap → Bool) → Option Swap → Bool
 gives l test None = false
@@ -49,7 +45,7 @@ gives l test (Some w) = (w.lba == l) && test w
 
 -- It is what is kept of these claims and releases, where r says of which entries success was reaped.
 pub record KnowsNames (r : ℕ → ℕ → Bool) (of : List Swap) (k : KeptNames) : Type 0 where
-  pub claim : (n : Name) → filter (claims_name n) of ≡ listed (k.claim n)
+  pub claim : (n : Name) → filter (claims_name n) of ≡ option_to_list (k.claim n)
   pub won : (q j : ℕ) → k.won q j ≡ (if list_any (claims_by q j) of then Some (r q j) else None)
   pub released : (l : ℕ) (n : Name) → k.released l n ≡ list_any (λ s. releases s l n) of
 

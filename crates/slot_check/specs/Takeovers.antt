@@ -34,11 +34,6 @@ takeovers_kept x =
       cut = λ q. get nat_eq x.cut q;
     }
 
--- the takeover, where there is one
-abbrev pub listed_takeover : Option Takeover → List Takeover
-listed_takeover None = []
-listed_takeover (Some w) = w ∷ []
-
 -- a takeover whose first entry is entry j of queue q
 abbrev pub begins_at : ℕ → ℕ → Takeover → Bool
 begins_at q j w = (w.queue == q) && (w.number == j)

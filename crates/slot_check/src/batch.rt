@@ -1,15 +1,16 @@
 //! The claims, the releases, the takeovers and the Writes of a batch.
 
-ghost use Rattle.std.specs.Prelude.{IfOk, OnOk, [], bytes_eq, is_some, length, not, suc, ◌&&◌, ◌++◌, ◌+◌, ◌<◌, ◌==◌};
+ghost use Rattle.std.specs.Prelude.{[], bytes_eq, is_some, length, not, suc, ◌&&◌, ◌+◌, ◌<◌, ◌==◌};
 ghost use Rattle.std.specs.Prelude.{◌^◌, ◌||◌, ◌≡◌};
 ghost use Rattle.std.specs.List.{list_any};
+ghost use Rattle.std.specs.Option.{option_to_list};
 ghost use Rattle.nvme_model.specs.Array.{has_block, overlap, zeros};
-ghost use Rattle.nvme_model.specs.Slots.{in_area, is_pair_on_one, releases, swap_by, swap_of, swaps_in};
+ghost use Rattle.nvme_model.specs.Slots.{in_area, is_pair_on_one, releases, swap_by, swap_of};
 ghost use Rattle.nvme_model.specs.Slots.{touches};
 ghost use Rattle.slot_check.specs.Batch.{claimed_twice_in, release_broken_in, release_wrong_in, takeover_broken_in};
 ghost use Rattle.slot_check.specs.Batch.{takeover_wrong_in};
 ghost use Rattle.slot_check.specs.Broken.{first_touched, write_alone};
-ghost use Rattle.slot_check.specs.Names.{claims_name, listed, names_in};
+ghost use Rattle.slot_check.specs.Names.{claims_name, names_in};
 ghost use Rattle.slot_check.specs.Takeovers.{takeovers_kept};
 
 use crate::broken::BrokenDiscipline;
@@ -23,7 +24,6 @@ use history::Config;
 use nvme_model::array::Range;
 use nvme_model::submission::Submission;
 use nvme_model::{Name, name_of};
-use std::alloc::{AllocError as NoMemory, Global};
 
 /// Whether an area has a block.
 pub fn has_block(slots: Range, lba: u64) -> bool
@@ -77,7 +77,7 @@ fn is_free(bytes: &[u8]) -> bool
 // A claim or a release of this name, if there is one.
 fn swap_by(claims: bool, queue: u16, number: u64, lba: u64, name: Option<Name>) -> Option<Swap>
     requires room { number + 1 < 2 ^ 64 }
-    ensures value { listed result ≡ swap_by claims queue number lba name }
+    ensures value { option_to_list result ≡ swap_by claims queue number lba name }
 {
     match name {
         Some(name) => Some(Swap::new(claims, queue, number, lba, name)),
@@ -88,7 +88,7 @@ fn swap_by(claims: bool, queue: u16, number: u64, lba: u64, name: Option<Name>) 
 // The claim or the release that two entries are, the first of them with this number on this queue.
 fn swap_of(queue: u16, number: u64, a: &Submission, b: &Submission) -> Option<Swap>
     requires room { number + 1 < 2 ^ 64 }
-    ensures value { listed result ≡ swap_of queue number a.now b.now }
+    ensures value { option_to_list result ≡ swap_of queue number a.now b.now }
 {
     if !is_pair_on_one(a, b) {
         return None;
@@ -103,8 +103,8 @@ fn swap_of(queue: u16, number: u64, a: &Submission, b: &Submission) -> Option<Sw
     None
 }
 
-// The same, where it is of a slot of this area.
-fn swap_in_area(
+/// The same, where it is of a slot of this area.
+pub fn swap_in_area(
     slots: Range,
     queue: u16,
     number: u64,
@@ -112,7 +112,7 @@ fn swap_in_area(
     b: &Submission,
 ) -> Option<Swap>
     requires room { number + 1 < 2 ^ 64 }
-    ensures value { listed result ≡ in_area slots (swap_of queue number a.now b.now) }
+    ensures value { option_to_list result ≡ in_area slots (swap_of queue number a.now b.now) }
 {
     let swap = swap_of(queue, number, a, b)?;
     if has_block(slots, swap.lba()) {
@@ -120,42 +120,6 @@ fn swap_in_area(
     } else {
         None
     }
-}
-
-// Adds the claim or release, if there is one.
-fn push_some(found: &mut Vec<Swap>, swap: Option<Swap>) -> Result<(), NoMemory>
-    ensures ok { OnOk result (found.new.items ≡ found.old.items ++ listed swap) }
-{
-    if let Some(swap) = swap {
-        found.push(swap)?;
-    }
-    Ok(())
-}
-
-/// The claims and releases of a batch in an area, where its first entry has this number on this queue.
-///
-/// # Errors
-///
-/// `NoMemory` where a growth is refused.
-pub fn swaps_in_area(
-    alloc: Global,
-    slots: Range,
-    queue: u16,
-    first: u64,
-    batch: &[Submission],
-) -> Result<Vec<Swap>, NoMemory>
-    requires room { first + length batch.now < 2 ^ 64 }
-    ensures value { IfOk result (λ of. of.items ≡ in_area slots (swaps_in queue first batch.now)) }
-{
-    let mut found = Vec::new(alloc);
-    let mut place = 0;
-    while place + 1 < batch.len() {
-        let number = first + place as u64;
-        let swap = swap_in_area(slots, queue, number, &batch[place], &batch[place + 1]);
-        push_some(&mut found, swap)?;
-        place += 1;
-    }
-    Ok(found)
 }
 
 // Whether the entry of this number is the second of one of these claims and releases.

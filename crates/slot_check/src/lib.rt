@@ -5,6 +5,7 @@
 mod area;
 mod batch;
 mod broken;
+mod moves;
 mod names;
 mod progress;
 mod queue;

@@ -107,9 +107,8 @@ impl Names {
     {
         let entry = EntryNumber { queue, number };
         if self.won.contains_key(&entry) {
-            let Ok(_) = self.won.insert(entry, true) else {
-                unreachable!();
-            };
+            let put: Result<_, _> = self.won.insert(entry, true);
+            put.unwrap();
         }
     }
 
@@ -147,24 +146,21 @@ impl Names {
         ensures released_left { set.spare self.old.released ≤ set.spare self.new.released + 1 }
     {
         if swap.claims() {
-            let Ok(_) = self.claims.insert(swap.name(), swap) else {
-                unreachable!();
-            };
+            let claimed: Result<_, _> = self.claims.insert(swap.name(), swap);
+            claimed.unwrap();
             let entry = EntryNumber {
                 queue: swap.queue(),
                 number: swap.second(),
             };
-            let Ok(_) = self.won.insert(entry, false) else {
-                unreachable!();
-            };
+            let awaited: Result<_, _> = self.won.insert(entry, false);
+            awaited.unwrap();
         } else {
             let released = SlotName {
                 lba: swap.lba(),
                 name: swap.name(),
             };
-            let Ok(_) = self.released.insert(released) else {
-                unreachable!();
-            };
+            let put: Result<_, _> = self.released.insert(released);
+            put.unwrap();
         }
     }
 

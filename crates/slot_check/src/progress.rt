@@ -156,9 +156,8 @@ impl QueueProgress {
             next,
             left: taken,
         };
-        let Ok(_) = self.flying.insert(line.ticket, flying) else {
-            unreachable!();
-        };
+        let put: Result<_, _> = self.flying.insert(line.ticket, flying);
+        put.unwrap();
         Ok(())
     }
 
@@ -200,12 +199,9 @@ impl QueueProgress {
             number: flying.next,
             success,
         };
-        let Ok(_) = self
-            .waiting
-            .insert(CompletionPlace { queue, index }, completed)
-        else {
-            unreachable!();
-        };
+        let place = CompletionPlace { queue, index };
+        let added: Result<_, _> = self.waiting.insert(place, completed);
+        added.unwrap();
         if flying.left <= 1 {
             self.flying.remove(&ticket);
             return Ok(());
@@ -215,9 +211,8 @@ impl QueueProgress {
             next,
             left: flying.left - 1,
         };
-        let Ok(_) = self.flying.insert(ticket, moved) else {
-            unreachable!();
-        };
+        let put: Result<_, _> = self.flying.insert(ticket, moved);
+        put.unwrap();
         Ok(())
     }
 

@@ -13,19 +13,17 @@ ghost use Rattle.slot_check.specs.Names.{names_in};
 ghost use Rattle.slot_check.specs.Takeovers.{takeovers_kept};
 ghost use Rattle.slot_check.specs.Watched.{IsSlotCheckState, slot_check_state_in};
 
-use crate::batch::{claimed_twice, release_broken, swaps_in_area, takeover_broken, write_alone};
+use crate::batch::{claimed_twice, release_broken, takeover_broken, write_alone};
 use crate::broken::BrokenDiscipline;
+use crate::moves::{Moves, moves_in_area};
 use crate::names::Names;
 use crate::progress::QueueProgress;
 use crate::queue::completion_queue;
-use crate::swap::Swap;
-use crate::takeover::{Takeover, add_givings, takeovers_in_area};
 use crate::takeovers::Takeovers;
 use history::Config;
 use nvme_model::array::Range;
 use nvme_model::entry::{BlockLine, FetchLine, PostLine, PublishLine, ReapLine};
 use nvme_model::operation::Found;
-use nvme_model::submission::Submission;
 use std::alloc::{AllocError as NoMemory, Global};
 
 /// What a check of the slots keeps.
@@ -36,39 +34,41 @@ pub struct SlotTables {
     pub takeovers: Takeovers,
 }
 
-// What the claims, releases, takeovers and Writes of a batch break. What gives a slot is among the moves, be it a claim
-// or a takeover.
+// What the Writes of a Publish break, whose first entry has this number on its queue, and what its moves do.
 fn judge_batch(
     config: &Config,
     slots: Range,
     tables: &SlotTables,
-    queue: u16,
     first: u64,
-    batch: &[Submission],
-    moves: &[Swap],
-    takeovers: &[Takeover],
+    line: &PublishLine,
+    moves: &Moves,
 ) -> Option<BrokenDiscipline>
-    requires room { first + length batch.now < 2 ^ 64 }
-    ensures value { result ≡ slots_broken_by (write_alone slots queue first batch.now moves.now)
-        (claimed_twice_in (names_in tables.now.names) moves.now)
+    requires room { first + length line.now.batch < 2 ^ 64 }
+    ensures value { result ≡
+        slots_broken_by (write_alone slots line.now.queue first line.now.batch moves.now.swaps.items)
+        (claimed_twice_in (names_in tables.now.names) moves.now.swaps.items)
         (release_broken_in config.now (names_in tables.now.names) (takeovers_kept tables.now.takeovers).taken []
-        moves.now)
-        (takeover_broken_in config.now (names_in tables.now.names) takeovers.now)
-        ((takeovers_kept tables.now.takeovers).cut (completion_queue config.now queue)) }
+        moves.now.swaps.items)
+        (takeover_broken_in config.now (names_in tables.now.names) moves.now.takeovers.items)
+        ((takeovers_kept tables.now.takeovers).cut (completion_queue config.now line.now.queue)) }
 {
-    if let Some(lba) = write_alone(slots, queue, first, batch, moves) {
+    let swaps = moves.swaps.as_slice();
+    if let Some(lba) = write_alone(slots, line.queue, first, line.batch.as_slice(), swaps) {
         return Some(BrokenDiscipline::NoSwap(lba));
     }
-    if let Some(lba) = claimed_twice(&tables.names, moves) {
+    if let Some(lba) = claimed_twice(&tables.names, swaps) {
         return Some(BrokenDiscipline::ClaimedTwice(lba));
     }
-    if let Some(broken) = release_broken(config, &tables.names, &tables.takeovers, moves) {
+    if let Some(broken) = release_broken(config, &tables.names, &tables.takeovers, swaps) {
         return Some(broken);
     }
-    if let Some(broken) = takeover_broken(config, &tables.names, takeovers) {
+    if let Some(broken) = takeover_broken(config, &tables.names, moves.takeovers.as_slice()) {
         return Some(broken);
     }
-    match tables.takeovers.cut_at(completion_queue(config, queue)) {
+    match tables
+        .takeovers
+        .cut_at(completion_queue(config, line.queue))
+    {
         Some(lba) => Some(BrokenDiscipline::CutOff(lba)),
         None => None,
     }
@@ -100,22 +100,18 @@ pub fn take_publish(
     if first.checked_add(batch.len() as u64).is_none() {
         return Err(NoMemory);
     }
-    let takeovers = takeovers_in_area(alloc, slots, line.queue, first, batch)?;
-    let mut moves = swaps_in_area(alloc, slots, line.queue, first, batch)?;
-    add_givings(&mut moves, takeovers.as_slice())?;
-    let moves = moves.as_slice();
-    let takeovers = takeovers.as_slice();
-    let broken = judge_batch(
-        config, slots, tables, line.queue, first, batch, moves, takeovers,
-    );
+    let moves = moves_in_area(alloc, slots, line.queue, first, batch)?;
+    let broken = judge_batch(config, slots, tables, first, line, &moves);
     if broken.is_some() {
         return Ok(broken);
     }
-    tables.names.reserve(moves.len())?;
+    let swaps = moves.swaps.as_slice();
+    let takeovers = moves.takeovers.as_slice();
+    tables.names.reserve(swaps.len())?;
     tables.takeovers.reserve(takeovers.len())?;
     tables.progress.publish(line)?;
     tables.takeovers.add_all(config, &tables.names, takeovers);
-    tables.names.add_all(moves);
+    tables.names.add_all(swaps);
     Ok(None)
 }
 

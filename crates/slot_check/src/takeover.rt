@@ -1,9 +1,9 @@
 //! Takeovers of slots, and those of a batch.
 
-ghost use Rattle.std.specs.Prelude.{IfOk, OnOk, length, map, ◌++◌, ◌+◌, ◌<◌, ◌^◌, ◌≡◌};
+ghost use Rattle.std.specs.Prelude.{OnOk, map, ◌++◌, ◌+◌, ◌<◌, ◌^◌, ◌≡◌};
+ghost use Rattle.std.specs.Option.{option_to_list};
 ghost use Rattle.host_laws.specs.Rules.{takeovers_within};
-ghost use Rattle.host_laws.specs.Takeovers.{giving, takeover_by, takeover_of, takeovers_in};
-ghost use Rattle.slot_check.specs.Takeovers.{listed_takeover};
+ghost use Rattle.host_laws.specs.Takeovers.{giving, takeover_by, takeover_of};
 
 use crate::batch::{has_block, is_pair_on_one};
 use crate::swap::Swap;
@@ -11,7 +11,7 @@ use entry_codec::decode_sqe;
 use nvme_model::array::Range;
 use nvme_model::submission::Submission;
 use nvme_model::{Name, name_of};
-use std::alloc::{AllocError as NoMemory, Global};
+use std::alloc::AllocError as NoMemory;
 use std::marker::Model;
 
 /// A takeover: its queue, the number of its first entry there, its block, the name that it takes the slot from, and the
@@ -83,7 +83,7 @@ fn takeover_by(
     name: Option<Name>,
 ) -> Option<Takeover>
     requires room { number + 1 < 2 ^ 64 }
-    ensures value { listed_takeover result ≡ takeover_by queue number lba dead name }
+    ensures value { option_to_list result ≡ takeover_by queue number lba dead name }
 {
     let dead = dead?;
     let name = name?;
@@ -102,7 +102,7 @@ fn takeover_by(
 // The takeover that two entries are, the first of them with this number on this queue.
 fn takeover_of(queue: u16, number: u64, a: &Submission, b: &Submission) -> Option<Takeover>
     requires room { number + 1 < 2 ^ 64 }
-    ensures value { listed_takeover result ≡ takeover_of queue number a.now b.now }
+    ensures value { option_to_list result ≡ takeover_of queue number a.now b.now }
 {
     if !is_pair_on_one(a, b) {
         return None;
@@ -113,8 +113,8 @@ fn takeover_of(queue: u16, number: u64, a: &Submission, b: &Submission) -> Optio
     takeover_by(queue, number, lba, dead, name)
 }
 
-// The same, where it is of a slot of this area.
-fn takeover_in_area(
+/// The same, where it is of a slot of this area.
+pub fn takeover_in_area(
     slots: Range,
     queue: u16,
     number: u64,
@@ -122,7 +122,7 @@ fn takeover_in_area(
     b: &Submission,
 ) -> Option<Takeover>
     requires room { number + 1 < 2 ^ 64 }
-    ensures value { listed_takeover result ≡ takeovers_within slots (takeover_of queue number a.now b.now) }
+    ensures value { option_to_list result ≡ takeovers_within slots (takeover_of queue number a.now b.now) }
 {
     let takeover = takeover_of(queue, number, a, b)?;
     if has_block(slots, takeover.lba()) {
@@ -130,42 +130,6 @@ fn takeover_in_area(
     } else {
         None
     }
-}
-
-// Adds the takeover, if there is one.
-fn push_some(found: &mut Vec<Takeover>, takeover: Option<Takeover>) -> Result<(), NoMemory>
-    ensures ok { OnOk result (found.new.items ≡ found.old.items ++ listed_takeover takeover) }
-{
-    if let Some(takeover) = takeover {
-        found.push(takeover)?;
-    }
-    Ok(())
-}
-
-/// The takeovers of a batch in an area, where its first entry has this number on this queue.
-///
-/// # Errors
-///
-/// `NoMemory` where a growth is refused.
-pub fn takeovers_in_area(
-    alloc: Global,
-    slots: Range,
-    queue: u16,
-    first: u64,
-    batch: &[Submission],
-) -> Result<Vec<Takeover>, NoMemory>
-    requires room { first + length batch.now < 2 ^ 64 }
-    ensures value { IfOk result (λ ws. ws.items ≡ takeovers_within slots (takeovers_in queue first batch.now)) }
-{
-    let mut found = Vec::new(alloc);
-    let mut place = 0;
-    while place + 1 < batch.len() {
-        let number = first + place as u64;
-        let takeover = takeover_in_area(slots, queue, number, &batch[place], &batch[place + 1]);
-        push_some(&mut found, takeover)?;
-        place += 1;
-    }
-    Ok(found)
 }
 
 /// Adds what these takeovers give.

@@ -91,17 +91,15 @@ impl Takeovers {
             queue: takeover.queue(),
             number: takeover.number(),
         };
-        let Ok(_) = self.begun.insert(entry, takeover) else {
-            unreachable!();
-        };
+        let begun: Result<_, _> = self.begun.insert(entry, takeover);
+        begun.unwrap();
         let Some(claim) = names.claim(takeover.dead()) else {
             return;
         };
         if claim.lba() == takeover.lba() {
             let queue = completion_queue(config, claim.queue());
-            let Ok(_) = self.cut.insert(queue, takeover.lba()) else {
-                unreachable!();
-            };
+            let cut: Result<_, _> = self.cut.insert(queue, takeover.lba());
+            cut.unwrap();
         }
     }
 

@@ -95,6 +95,7 @@ fn holder_by(reply: Reply) -> Holder
 {
     match reply {
         Reply::Read(payload) => holder_of(payload.as_slice()),
+        // A Read is answered by its data.
         Reply::Written | Reply::Equal | Reply::Differs | Reply::Swapped => unreachable!(),
     }
 }

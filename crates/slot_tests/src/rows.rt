@@ -1,15 +1,16 @@
 //! Two hosts and one or two slots, every call served before the next, and the blocks' bytes.
 
 ghost use Rattle.std.specs.Prelude.{◌≡◌, ◌<◌, ◌≤◌, IfOk};
-ghost use Rattle.driver_testing.specs.Benches.{AreBenchSpares, IsServerOf};
+ghost use Rattle.shared_system.specs.Plain.{ArePlainCallers, IsPlainCallerOf};
 ghost use Rattle.driver_testing.specs.Claimants.{IsClaimant};
 ghost use Rattle.slot_alloc.specs.Areas.{area};
 
 use driver_testing::{
-    Bench, BenchSpares, Came, Claimant, Contents, Server, asks, claimants_of, claims, is_served,
-    leaves, meets, polls_begun, reads, releases, serves, small_bench,
+    Came, Claimant, Contents, asks, claimants_of, claims, is_served, leaves, meets, polls_begun,
+    reads, releases, serves, small_system,
 };
 use history_check::check;
+use shared_system::{PlainCaller, PlainCallers, PlainSystem};
 use slot_alloc::Slots;
 use std::alloc::Global;
 use std::process::Abort;
@@ -49,50 +50,50 @@ pub(crate) fn named(host: u8, serial: u8) -> Contents {
 // Does so, beside the other host.
 fn does<R: Abort + Wait>(
     rt: &R,
-    bench: &Bench,
-    server: &mut Server,
+    system: &PlainSystem,
+    server: &mut PlainCaller,
     slots: &Slots,
     host: &mut Claimant<'_>,
     other: &mut Claimant<'_>,
     act: SlotAct,
 )
-    requires server { IsServerOf bench.now server.old }
-    requires host { IsClaimant bench.now slots.now host.old }
-    requires other { IsClaimant bench.now slots.now other.old }
+    requires server { IsPlainCallerOf system.now server.old }
+    requires host { IsClaimant system.now slots.now host.old }
+    requires other { IsClaimant system.now slots.now other.old }
     requires slots { 0 < (area slots.now).blocks }
-    ensures server { IsServerOf bench.now server.new }
-    ensures host { IsClaimant bench.now slots.now host.new }
-    ensures other { IsClaimant bench.now slots.now other.new }
+    ensures server { IsPlainCallerOf system.now server.new }
+    ensures host { IsClaimant system.now slots.now host.new }
+    ensures other { IsClaimant system.now slots.now other.new }
 {
     match act {
         SlotAct::First(want) => {
-            let came = claims(rt, bench, server, slots, host, Some(0));
+            let came = claims(rt, system, server, slots, host, Some(0));
             assert_eq!(rt; came, want);
         }
         SlotAct::Any(want) => {
-            let came = claims(rt, bench, server, slots, host, None);
+            let came = claims(rt, system, server, slots, host, None);
             assert_eq!(rt; came, want);
         }
         SlotAct::Asks => {
-            let came = asks(bench, slots, host, Some(0));
+            let came = asks(system, slots, host, Some(0));
             assert_eq!(rt; came, Came::Begun);
         }
-        SlotAct::Waits => assert!(rt; is_served(rt, bench, server, slots, host)),
+        SlotAct::Waits => assert!(rt; is_served(rt, system, server, slots, host)),
         SlotAct::Polls(want) => {
-            let came = polls_begun(bench, slots, host);
+            let came = polls_begun(system, slots, host);
             assert_eq!(rt; came, want);
         }
-        SlotAct::Meets => assert!(rt; meets(bench, slots, host, other)),
+        SlotAct::Meets => assert!(rt; meets(system, slots, host, other)),
         SlotAct::Releases(want) => {
-            let came = releases(rt, bench, server, slots, host);
+            let came = releases(rt, system, server, slots, host);
             assert_eq!(rt; came, want);
         }
         SlotAct::Leaves(want) => {
-            let left = leaves(bench, slots, host);
+            let left = leaves(system, slots, host);
             assert_eq!(rt; left, want);
         }
         SlotAct::Reads(lba, number, serial) => {
-            let contents = reads(rt, bench, server, slots, host, lba);
+            let contents = reads(rt, system, server, slots, host, lba);
             assert!(rt; contents == Some(named(number, serial)));
         }
     }
@@ -101,23 +102,23 @@ fn does<R: Abort + Wait>(
 // Host 1 and host 2 do so, each act beside the number of its host.
 fn does_all<R: Abort + Wait>(
     rt: &R,
-    bench: &Bench,
-    server: &mut Server,
+    system: &PlainSystem,
+    server: &mut PlainCaller,
     slots: &Slots,
     one: &mut Claimant<'_>,
     two: &mut Claimant<'_>,
     acts: &[(u8, SlotAct)],
 )
-    requires server { IsServerOf bench.now server.old }
-    requires one { IsClaimant bench.now slots.now one.old }
-    requires two { IsClaimant bench.now slots.now two.old }
+    requires server { IsPlainCallerOf system.now server.old }
+    requires one { IsClaimant system.now slots.now one.old }
+    requires two { IsClaimant system.now slots.now two.old }
     requires slots { 0 < (area slots.now).blocks }
-    ensures { IsServerOf bench.now server.new }
+    ensures { IsPlainCallerOf system.now server.new }
 {
     for (host, act) in acts {
         match *host {
-            1 => does(rt, bench, server, slots, one, two, *act),
-            _ => does(rt, bench, server, slots, two, one, *act),
+            1 => does(rt, system, server, slots, one, two, *act),
+            _ => does(rt, system, server, slots, two, one, *act),
         }
     }
 }
@@ -126,23 +127,23 @@ fn does_all<R: Abort + Wait>(
 fn served<R: Abort + Wait>(
     rt: &R,
     alloc: Global,
-    bench: &Bench,
-    spares: &mut BenchSpares,
+    system: &PlainSystem,
+    spares: &mut PlainCallers,
     slots: &Slots,
     count: u32,
     acts: &[(u8, SlotAct)],
-) -> Result<Server, Fail>
-    requires own { AreBenchSpares bench.now spares.old }
-    requires queues { (bench.now.config.pairs ≡ 2) × (bench.now.config.cqs ≡ 2) }
+) -> Result<PlainCaller, Fail>
+    requires own { ArePlainCallers system.now spares.old }
+    requires queues { (system.now.config.pairs ≡ 2) × (system.now.config.cqs ≡ 2) }
     requires slots { area slots.now ≡ record { slba = 0; blocks = count } }
     requires count { (0 < count) × (count ≤ 2) }
-    ensures { IfOk result (IsServerOf bench.now) }
+    ensures { IfOk result (IsPlainCallerOf system.now) }
 {
-    let Some((mut server, mut one, mut two)) = claimants_of(alloc, bench, spares, slots, count)
+    let Some((mut server, mut one, mut two)) = claimants_of(alloc, system, spares, slots, count)
     else {
         return Err(Fail::from("two hosts"));
     };
-    does_all(rt, bench, &mut server, slots, &mut one, &mut two, acts);
+    does_all(rt, system, &mut server, slots, &mut one, &mut two, acts);
     Ok(server)
 }
 
@@ -150,13 +151,13 @@ fn served<R: Abort + Wait>(
 pub(crate) fn closes<R: Abort>(
     rt: &R,
     alloc: Global,
-    bench: Bench,
-    server: Server,
+    system: PlainSystem,
+    server: PlainCaller,
     wants: &[(u64, Contents)],
 ) -> Result<(), Fail>
-    requires { IsServerOf bench server }
+    requires { IsPlainCallerOf system server }
 {
-    let Bench { engine, config, .. } = bench;
+    let PlainSystem { engine, config, .. } = system;
     let core = engine.close(server.pass).ok_or("the lock isn't free")?;
     for (lba, want) in wants {
         assert!(rt; core.medium(*lba) == Some(want));
@@ -176,12 +177,12 @@ fn plays<R: Abort + Wait>(
 ) -> Result<(), Fail>
     requires { (0 < count) × (count ≤ 2) }
 {
-    let Some((bench, mut spares)) = small_bench(alloc, cq, 3) else {
-        return Err(Fail::from("a bench"));
+    let Some((system, mut spares)) = small_system(alloc, cq, 3) else {
+        return Err(Fail::from("a system"));
     };
     let slots = Slots::new(0, count);
-    let server = served(rt, alloc, &bench, &mut spares, &slots, count, acts)?;
-    closes(rt, alloc, bench, server, wants)
+    let server = served(rt, alloc, &system, &mut spares, &slots, count, acts)?;
+    closes(rt, alloc, system, server, wants)
 }
 
 #[test]
@@ -276,21 +277,21 @@ fn a_slot_that_is_left_stays_held(rt: HostRuntime) -> Result<(), Fail> {
 // The driver of host 1 releases what it left, by the serial that it was told, and host 2 claims it.
 fn frees<R: Abort + Wait>(
     rt: &R,
-    bench: &Bench,
-    server: &mut Server,
+    system: &PlainSystem,
+    server: &mut PlainCaller,
     slots: &Slots,
     one: &mut Claimant<'_>,
     two: &mut Claimant<'_>,
 )
-    requires server { IsServerOf bench.now server.old }
-    requires one { IsClaimant bench.now slots.now one.old }
-    requires two { IsClaimant bench.now slots.now two.old }
+    requires server { IsPlainCallerOf system.now server.old }
+    requires one { IsClaimant system.now slots.now one.old }
+    requires two { IsClaimant system.now slots.now two.old }
     requires slots { area slots.now ≡ record { slba = 0; blocks = 1 } }
-    ensures { IsServerOf bench.now server.new }
+    ensures { IsPlainCallerOf system.now server.new }
 {
     does(
         rt,
-        bench,
+        system,
         server,
         slots,
         one,
@@ -299,7 +300,7 @@ fn frees<R: Abort + Wait>(
     );
     does(
         rt,
-        bench,
+        system,
         server,
         slots,
         one,
@@ -307,29 +308,29 @@ fn frees<R: Abort + Wait>(
         SlotAct::Leaves(Some((0, 1))),
     );
     assert!(rt; one.host.driver.start_release(0, 1).is_ok());
-    serves(rt, bench, server, 1);
-    let came = claims(rt, bench, server, slots, two, Some(0));
+    serves(rt, system, server, 1);
+    let came = claims(rt, system, server, slots, two, Some(0));
     assert_eq!(rt; came, Came::Held(0));
 }
 
 // Whoever was told the slot and the serial frees it by other means.
 #[test]
 fn a_slot_that_is_left_is_freed_by_its_name(rt: HostRuntime) -> Result<(), Fail> {
-    let Some((bench, mut spares)) = small_bench(rt.alloc(), 8, 3) else {
-        return Err(Fail::from("a bench"));
+    let Some((system, mut spares)) = small_system(rt.alloc(), 8, 3) else {
+        return Err(Fail::from("a system"));
     };
     let slots = Slots::new(0, 1);
     let Some((mut server, mut one, mut two)) = claimants_of(
         rt.alloc(),
-        &bench,
+        &system,
         &mut spares,
         &slots,
         1,
     ) else {
         return Err(Fail::from("two hosts"));
     };
-    frees(&rt, &bench, &mut server, &slots, &mut one, &mut two);
+    frees(&rt, &system, &mut server, &slots, &mut one, &mut two);
     drop(one);
     drop(two);
-    closes(&rt, rt.alloc(), bench, server, &[(0, named(2, 1))])
+    closes(&rt, rt.alloc(), system, server, &[(0, named(2, 1))])
 }

@@ -7,7 +7,7 @@ use Rattle.nvme_model.specs.declared.step.Step.{Step}
 use Rattle.nvme_model.specs.History.{Past}
 use Rattle.nvme_model.specs.Refusals.{refusal}
 use Rattle.nvme_model.specs.Steps.{next_entry}
-use Rattle.controller_interface.specs.State.{Does, Room, ControllerState, TakesRoom, WantsMemory, answer_of}
+use Rattle.controller_interface.specs.State.{Room, ControllerState, Serves, TakesRoom, WantsMemory, answer_of}
 use Rattle.controller_interface.specs.State.{promised_after}
 use Rattle.controller_interface.specs.State.{refused_as}
 use Rattle.controller_interface.specs.declared.answer.Answer.{Answer}
@@ -32,9 +32,9 @@ pub does_accepted : (inside old : ControllerState) (step : Step) (a : Answer) (e
     → e ≡ next_entry inside.config inside.past step
     → a ≡ answer_of inside.config inside.past (next_entry inside.config inside.past step)
     → p ≡ e ∷ inside.past → n ≡ promised_after step inside.promised → TakesRoom step inside.room room
-    → Does old step (Ok a) (record { config = inside.config; past = p; promised = n; room = room })
+    → Serves old step (Ok a) (record { config = inside.config; past = p; promised = n; room = room })
 does_accepted inside old step a e p n room same none entry answer past promised takes =
-    subst (λ (x : ControllerState). Does x step (Ok a) (record {
+    subst (λ (x : ControllerState). Serves x step (Ok a) (record {
       config = inside.config;
       past = p;
       promised = n;
@@ -55,9 +55,9 @@ does_accepted inside old step a e p n room same none entry answer past promised 
 pub does_wanting : (inside old : ControllerState) (step : Step) → inside ≡ old
     → refusal inside.config inside.past step ≡ None
     → WantsMemory inside step
-    → Does old step (Err Why.NoMemory) old
+    → Serves old step (Err (refused_as step Why.NoMemory)) old
 does_wanting inside old step same none wants =
-    subst (λ (x : ControllerState). Does x step (Err Why.NoMemory) x) same (
+    subst (λ (x : ControllerState). Serves x step (Err (refused_as step Why.NoMemory)) x) same (
       ap (λ (o : Option Why). refused_as step (unwrap_or o Why.NoMemory)) (sym none),
       refl,
       record { entries = omega arith; ranges = omega arith },

@@ -42,7 +42,7 @@ use Rattle.rings.specs.Queues.{completion_ring, submission_ring}
 use Rattle.job_table.specs.Tickets.{job_at}
 use Rattle.step_core.specs.Kept.{CoreFields, IsCoreOf}
 use Rattle.rings.specs.Tables.{IsTable}
-use Rattle.controller_interface.specs.State.{Does, Room, ControllerState, TakesRoom, answer_of}
+use Rattle.controller_interface.specs.State.{Room, ControllerState, Serves, TakesRoom, answer_of}
 use Rattle.controller_interface.specs.declared.answer.Answer.{Answer}
 use Rattle.step_core.proofs.BlockData.{IsUnit, done_same, finds_same, stage_is, unit_found}
 use Rattle.step_core.proofs.BlockKept.{read_now, volume_now}
@@ -179,10 +179,10 @@ module _ (c : ConfigNumbers) (past : Past) (fields : CoreFields) (k : IsCoreOf c
           → record { config = c; past = past; promised = p; room = w } ≡ x → h ≡ past
           → past' ≡ Entry.Block (record { ticket = t; unit = n'; lba = d.lba; found = d.found; effect = d.effect }) ∷ h
           → p' ≡ p - 1 → TakesRoom (Step.Block t) w w'
-          → Does x (Step.Block t) (Ok (Answer.Blocked d))
+          → Serves x (Step.Block t) (Ok (Answer.Blocked d))
           (record { config = c; past = past'; promised = p'; room = w' })
       block_does x p p' w w' h past' view same_past is_past is_left takes =
-          subst (λ (y : ControllerState). Does y (Step.Block t) (Ok (Answer.Blocked d))
+          subst (λ (y : ControllerState). Serves y (Step.Block t) (Ok (Answer.Blocked d))
           (record { config = c; past = past'; promised = p'; room = w' })) view (
             (none, refl, answer_is),
             (λ z. record {

@@ -53,7 +53,7 @@ use Rattle.rings.specs.Queues.{completion_ring, submission_ring}
 use Rattle.job_table.specs.Tickets.{job_at, job_by, job_table, write_blocks}
 use Rattle.step_core.specs.Kept.{AreAllQueueCids, AreQueueCids, CoreFields, IsCoreOf}
 use Rattle.rings.specs.Used.{UsedCids}
-use Rattle.controller_interface.specs.State.{Does, Room, ControllerState, TakesRoom, work_of}
+use Rattle.controller_interface.specs.State.{Room, ControllerState, Serves, TakesRoom, work_of}
 use Rattle.controller_interface.specs.Works.{IsKind, TicketWork}
 use Rattle.controller_interface.specs.declared.answer.Answer.{Answer}
 use Rattle.controller_interface.specs.declared.work.Kind.{Kind}
@@ -440,7 +440,8 @@ module _ (c : ConfigNumbers) (past : Past) (fields : CoreFields) (k : IsCoreOf c
       → then ≡ Entry.Fetch (record { queue = t; ticket = n + 1; verdict = w }) ∷ now → u ≡ c.atomic
       → kind ≡ kind_in x.judged → work ≡ record { ticket = n + 1; atomic = u; kind = kind }
       → TakesRoom (Step.Fetch t) room left
-      → Does y (Step.Fetch t) (Ok (Answer.Fetched work)) (record { config = c; past = then; promised = p; room = left })
+      → Serves y (Step.Fetch t) (Ok (Answer.Fetched work))
+      (record { config = c; past = then; promised = p; room = left })
   fetch_done y p room left w now then work u kind view says same pushed units does made takes =
       let work_is : work ≡ work_of c (Tickets.tickets past + 1) (fetched_ticket past t (next_verdict c past t)) =
       made ∙ (λ i. record {
@@ -452,7 +453,7 @@ module _ (c : ConfigNumbers) (past : Past) (fields : CoreFields) (k : IsCoreOf c
       let past_is : then ≡ next_entry c past (Step.Fetch t) ∷ past =
       pushed ∙ (λ i. Entry.Fetch (record { queue = t; ticket = k.count i + 1; verdict = says i }) ∷ same i)
       ∙ ap (λ (e : Entry). e ∷ past) entry_is in
-      subst (λ (z : ControllerState). Does z (Step.Fetch t) (Ok (Answer.Fetched work))
+      subst (λ (z : ControllerState). Serves z (Step.Fetch t) (Ok (Answer.Fetched work))
       (record { config = c; past = then; promised = p; room = left })) view (
         (a.0, refl, ap (λ (v : TicketWork). Answer.Fetched v) work_is),
         (λ i. record { config = c; past = past_is i; promised = p; room = left }),

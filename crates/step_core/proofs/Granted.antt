@@ -1,14 +1,12 @@
 -- A Grant that isn't refused: what the calls that make it require, and the fields after it.
 use Rattle.std.proofs.Common.{◌≡◌, ℕ, suc, true, false, cond, List, ◌∷◌, drop, map, option_map, refl, sym, ap}
-use Rattle.std.proofs.Common.{◌∙◌, subst, Option, Some, None, is_some, is_ok, inl, inr, Result, Ok, Err}
-use Rattle.std.proofs.Common.{◌==◌, ◌⊎◌}
-use Rattle.std.specs.Prelude.{IfErr}
+use Rattle.std.proofs.Common.{◌∙◌, subst, Option, Some, None, is_some}
+use Rattle.std.proofs.Common.{◌==◌}
 use Rattle.std.proofs.lemmas.Bool.{or_parts}
 use Rattle.nvme_model.specs.declared.array.Range.{Range}
 use Rattle.nvme_model.specs.declared.config.ConfigNumbers.{ConfigNumbers}
 use Rattle.nvme_model.specs.declared.entry.Entry.{Entry}
 use Rattle.nvme_model.specs.declared.entry.GrantLine.{GrantLine}
-use Rattle.nvme_model.specs.declared.refusal.Why.{Why}
 use Rattle.nvme_model.specs.declared.step.Step.{Step}
 use Rattle.nvme_model.specs.History.{Past}
 use Rattle.nvme_model.specs.Legal.{IsLegal}
@@ -68,17 +66,6 @@ opened_is c s g e w =
       write = w z;
       read = read_bytes_by (op s.ticket) s.ticket s.read;
     })
-
--- ---- the call that holds its range
-
--- it answers Ok where neither error comes
-pub held_ok : (r : Result (Unit {0}) Why) → IfErr r (λ why. (why ≡ Why.Conflict) ⊎ (why ≡ Why.NoMemory))
-    → (r ≡ Err Why.Conflict → ⊥) → (r ≡ Err Why.NoMemory → ⊥) → is_ok r ≡ true
-held_ok (Ok x) e a b = refl
-held_ok (Err why) e a b = elim e [
-  | inl f ↦ absurd (a (ap Err f))
-  | inr f ↦ absurd (b (ap Err f))
-]
 
 -- ---- the rings are as they were
 

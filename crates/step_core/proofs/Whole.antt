@@ -8,27 +8,10 @@ use Rattle.controller_interface.specs.declared.answer.Answer.{Answer}
 use Rattle.controller_interface.specs.declared.answer.Refused.{Refused}
 use Rattle.controller_interface.specs.State.{RunsSteps, RunsOnto}
 use Rattle.controller_interface.specs.State.{Serves, ControllerState}
-use Rattle.step_core.proofs.Moves.{stepped}
 
 -- the history of a controller is legal, and its marks are right
 abbrev pub KeptBy : ControllerState → Type 0
 KeptBy x = ControllerInvariant x.config x.past
-
--- after a step it is so again
-pub kept_served : (old new : ControllerState) (step : Step) (r : Result Answer Refused) → KeptBy old
-    → Serves old step r new
-    → KeptBy new
-kept_served old new step (Ok a) k s = subst KeptBy (sym s.1) (stepped old.config old.past step k s.0.0)
-kept_served old new step (Err r) k s = subst KeptBy (sym s.1) k
-
--- and after many
-pub kept_runs : (old new : ControllerState) (steps : List Step) (rs : List (Result Answer Refused)) → KeptBy old
-    → RunsSteps old steps rs new → KeptBy new
-kept_runs old new [] [] k run = subst KeptBy (sym run) k
-kept_runs old new (step ∷ steps) (r ∷ rs) k run =
-    kept_runs run.0 new steps rs (kept_served old run.0 step r k run.1) run.2
-kept_runs old new [] (r ∷ rs) k run = absurd run
-kept_runs old new (step ∷ steps) [] k run = absurd run
 
 -- one step more
 Runs-push : (old mid new : ControllerState) (steps : List Step) (rs : List (Result Answer Refused)) (step : Step)

@@ -12,3 +12,4 @@ pub use controller_interface::{Answer, Kind, Refused, Work};
 pub use history::{Config, Entry, History, write_line};
 pub use nvme_model::step::Step;
 pub use nvme_model::submission::{Payload, Submission, Submissions};
+pub use rings::Completion;

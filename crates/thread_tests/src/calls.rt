@@ -112,10 +112,10 @@ fn reaped<R: Wait, G>(rt: &R, system: &System<G>, host: &mut HostPasses) -> Opti
         {
             Ok(Opened::Reaped { cqe, .. }) => return Some(cqe),
             Err(Declined::Busy(_)) => yield_now(),
-            _ => return None,
+            Ok(Opened::Published | Opened::Fetched(_)) | Err(Declined::Refused(_)) => break,
         }
     }
-    unreachable!()
+    None
 }
 
 /// Reaps so many completions, each at once when it was told; how many say success.

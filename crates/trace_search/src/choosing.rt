@@ -142,7 +142,11 @@ fn may_make(
     let Some(completion) = wanted_completion(tables, ticket) else {
         return match ticket.kind {
             SoughtOp::Pair => idle || finds_all(walk, tables, ticket, range),
-            _ => idle || ticket.writes(),
+            SoughtOp::Idle
+            | SoughtOp::Read
+            | SoughtOp::Compare
+            | SoughtOp::Write
+            | SoughtOp::WriteZeroes => idle || ticket.writes(),
         };
     };
     let success = completion.cqe.status == Status::SUCCESS;
@@ -158,7 +162,7 @@ fn may_make(
             finds_all(walk, tables, ticket, range) && !(whole && !success)
         }
         SoughtOp::Pair => success && finds_all(walk, tables, ticket, range),
-        _ => success,
+        SoughtOp::Idle | SoughtOp::Write | SoughtOp::WriteZeroes => success,
     }
 }
 

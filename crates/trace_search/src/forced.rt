@@ -52,7 +52,7 @@ fn is_reused(walk: &Walk, tables: &TraceTables, completion: &Awaited) -> bool {
                     return true;
                 }
             }
-            _ => return false,
+            Some(_) | None => return false,
         }
     }
     false
@@ -162,7 +162,7 @@ fn is_right_now(walk: &Walk, tables: &TraceTables, ticket: &SoughtTicket, range:
             && finds_all(walk, tables, ticket, range),
         SoughtOp::Compare => finds_all(walk, tables, ticket, range) == success,
         SoughtOp::Pair => !success && !finds_all(walk, tables, ticket, range),
-        _ => false,
+        SoughtOp::Idle | SoughtOp::Write | SoughtOp::WriteZeroes => false,
     }
 }
 

@@ -106,7 +106,8 @@ pub(crate) fn put_best_last(
         let is_best = match choices.get(place) {
             Some(Choice::Unit(number)) => *number == best,
             Some(Choice::Compared(number, _)) => *number == best,
-            _ => false,
+            Some(Choice::Line | Choice::Fetch(_) | Choice::Refuse(_) | Choice::Post(_, _)) | None =>
+                false,
         };
         if is_best && place < choices.len() && last < choices.len() {
             choices.swap(place, last);

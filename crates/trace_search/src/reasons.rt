@@ -227,6 +227,6 @@ pub(crate) fn reason_of(tables: &TraceTables, lines: usize) -> Unexplained {
     }
     match (tables.lines.last(), tables.completions.last()) {
         (Some(Line::Reap(_)), Some(completion)) => completion_reason(tables, lines, completion),
-        _ => plain,
+        (Some(Line::Reap(_)), None) | (Some(Line::Publish(_, _, _)) | None, _) => plain,
     }
 }

@@ -193,7 +193,7 @@ impl Writer {
                 let entry = post_of(self.alloc, ticket, line, cqe)?;
                 self.units.entries.push(entry)?;
             }
-            _ => self.post_unseen(tables, ticket, known)?,
+            Some(Seen::Published(_)) | None => self.post_unseen(tables, ticket, known)?,
         }
         let cq = tables.cq_of(known.queue);
         let posted = number_at(&self.posted, cq).saturating_add(1);

@@ -7,8 +7,8 @@ use Rattle.nvme_model.specs.declared.operation.Op.{Op}
 use Rattle.driver_calls.specs.declared.request.CallData.{CallData}
 use Rattle.driver_cas.specs.Drivers.{HasSettings, IsSameDriver, area_of, host_of}
 use Rattle.driver_cas.specs.declared.fault.Fault.{Fault}
-use Rattle.driver_cas.specs.contracts.own_port.OwnPortPort.TheImpl.{ghosts}
-use Rattle.driver_cas.specs.declared.own_port.OwnPort.{OwnPort}
+use Rattle.driver_cas.specs.contracts.shared_port.SharedPortPort.TheImpl.{ghosts}
+use Rattle.driver_cas.specs.declared.shared_port.SharedPort.{SharedPort}
 use Rattle.slot_log_laws.specs.Calls.{IsName}
 use Rattle.slot_alloc.proofs.GivingBack.{goes_on_start}
 use Rattle.slot_alloc.proofs.Keeping.{IsSound, start_kept}
@@ -41,7 +41,7 @@ clash : {b : Bool} {X : Type 0} → b ≡ true → b ≡ false → X
 clash t f = absurd (let e : true ≡ false = sym t ∙ f in cc)
 
 pub claim_kept : (d e : SlotDriver) (number : ℕ) (slots : Slots) (holds : List Hold) (took : Bool) (n : ℕ)
-    (r : Result (Claiming OwnPort ghosts) Fault) (u : UnderWay)
+    (r : Result (Claiming SharedPort ghosts) Fault) (u : UnderWay)
     → KeepsSlots d number slots holds UnderWay.Nothing took → took ≡ false → DriverContinues d e None
     → (KeepsSlotRules d → KeepsSlotRules e) → IfOk r (λ k. IsClaimingOf e k)
     → (KeepsSlotRules d → IfOk r (λ k. IsUnreleased e k)) → BeginTold UnderWay.Claim r n u
@@ -51,13 +51,13 @@ claim_kept d e number slots holds took n r u k fresh x rules of free told =
     (call_of UnderWay.Claim e took r n u
     (λ c is. (
       fresh,
-      ok_of (λ (w : Claiming OwnPort ghosts). IsClaimingOf e w) r of c is,
-      ok_of (λ (w : Claiming OwnPort ghosts). IsUnreleased e w) r (free (k.rules fresh)) c is,
+      ok_of (λ (w : Claiming SharedPort ghosts). IsClaimingOf e w) r of c is,
+      ok_of (λ (w : Claiming SharedPort ghosts). IsUnreleased e w) r (free (k.rules fresh)) c is,
     )) told)
     (λ f. rules (k.rules f))
 
 pub release_kept : (d e : SlotDriver) (number : ℕ) (slots : Slots) (holds later : List Hold) (took : Bool) (i n : ℕ)
-    (c : Claim) (r : Result (Releasing OwnPort) (Claim × Fault)) (u : UnderWay)
+    (c : Claim) (r : Result (Releasing SharedPort) (Claim × Fault)) (u : UnderWay)
     → KeepsSlots d number slots holds UnderWay.Nothing took → slice_get holds i ≡ Some Hold.Nothing → slot_of c ≡ i
     → IsHeldBy d c → DriverContinues d e (released_by d c r) → IsReleaseBegun d e c r
     → (KeepsSlotRules d → KeepsSlotRules e) → IfOk r (λ k. IsReleasingOf e k) → ReleaseTold UnderWay.Release r n u
@@ -78,7 +78,7 @@ release_kept d e number slots holds later took i n c (Err w) u k nothing at held
     (subst (λ (v : UnderWay). IsUnderWay e took v) (sym told.1) tt) (λ f. rules (k.rules f)))
 
 pub give_back_kept : (d e : SlotDriver) (number : ℕ) (slots : Slots) (holds later : List Hold) (took : Bool) (i n : ℕ)
-    (h : HeldSlot) (r : Result (GivingBack OwnPort) (HeldSlot × Fault)) (u : UnderWay)
+    (h : HeldSlot) (r : Result (GivingBack SharedPort) (HeldSlot × Fault)) (u : UnderWay)
     → KeepsSlots d number slots holds UnderWay.Nothing took → slice_get holds i ≡ Some Hold.Nothing → slot_held h ≡ i
     → took ≡ true → HoldsTaken d h → IsSameDriver d e → ghosts.follows d.port e.port → IsGivingBackBegun d e h r
     → IfOk r (λ k. IsGivingBackOf e k) → ReleaseTold UnderWay.GiveBack r n u → later ≡ slot_back holds i r
@@ -105,7 +105,7 @@ give_back_kept d e number slots holds later took i n h (Err w) u k nothing at ol
     (subst (λ (v : UnderWay). IsUnderWay e took v) (sym told.1) tt) (λ f. clash old f))
 
 pub takeover_kept : (d e : SlotDriver) (number : ℕ) (slots : Slots) (holds : List Hold) (took : Bool) (i n : ℕ)
-    (dead : Name) (r : Result (TakingOver OwnPort) Fault) (u : UnderWay)
+    (dead : Name) (r : Result (TakingOver SharedPort) Fault) (u : UnderWay)
     → KeepsSlots d number slots holds UnderWay.Nothing took → HasSettings d e → ghosts.follows d.port e.port
     → IsTakeoverBegun d e i dead r → IfOk r (λ k. IsTakingOverOf e k) → BeginTold UnderWay.Takeover r n u
     → KeepsSlots e number slots holds u (took_over_by took r)
@@ -128,7 +128,7 @@ reads_one : (d : SlotDriver) (l : ℕ) → IsSound (area_of d) (record { op = Op
 reads_one d l = record { some = omega arith; most = omega arith; outside = refl }
 
 pub holder_kept : (d e : SlotDriver) (number : ℕ) (slots : Slots) (holds : List Hold) (took : Bool) (i n : ℕ)
-    (r : Result (ReadingHolder OwnPort) Fault) (u : UnderWay)
+    (r : Result (ReadingHolder SharedPort) Fault) (u : UnderWay)
     → KeepsSlots d number slots holds UnderWay.Nothing took → IsSameDriver d e → ghosts.follows d.port e.port
     → IsHolderBegun d e i r → IfOk r (λ k. IsReadingOf e k) → BeginTold UnderWay.Holder r n u
     → KeepsSlots e number slots holds u took

@@ -9,7 +9,7 @@ use Rattle.driver_cas.specs.declared.call.Poll.{Poll}
 use Rattle.driver_cas.specs.declared.driver.Driver.{Driver}
 use Rattle.driver_cas.specs.declared.fault.Fault.{Fault}
 use Rattle.driver_cas.specs.declared.port.Port.{Ghosts}
-use Rattle.driver_cas.specs.declared.own_port.OwnPort.{OwnPort}
+use Rattle.driver_cas.specs.declared.shared_port.SharedPort.{SharedPort}
 use Rattle.vandrexu_c.specs.HostStates.{HostState}
 use Rattle.vandrexu_c.specs.Hosts.{HostPolls}
 use Rattle.vandrexu_c.specs.HostReplies.{StartTold, call_given_back}
@@ -40,6 +40,6 @@ module _ {P : Type 0} {g : Ghosts P} where
   back_of e (Poll.Failed f) o of is x h = absurd (none_other is h)
 
 -- the same of a call that is the one kept
-pub polls_of : (h i : HostState) (j k : Call OwnPort) (number : ℕ) (told : HostReply) → j ≡ k
+pub polls_of : (h i : HostState) (j k : Call SharedPort) (number : ℕ) (told : HostReply) → j ≡ k
     → HostPolls h i j number told → HostPolls h i k number told
-polls_of h i j k number told e x = subst (λ (c : Call OwnPort). HostPolls h i c number told) e x
+polls_of h i j k number told e x = subst (λ (c : Call SharedPort). HostPolls h i c number told) e x

@@ -10,8 +10,8 @@ use Rattle.driver_cas.specs.Drivers.{area_of, host_of, made, serial_of}
 use Rattle.nvme_model.specs.declared.array.Range.{Range}
 use Rattle.nvme_model.specs.declared.config.ConfigNumbers.{ConfigNumbers}
 use Rattle.work_queue.specs.declared.engine.Engine.{Engine}
-use Rattle.driver_cas.specs.contracts.own_port.OwnPortPort.TheImpl.{ghosts}
-use Rattle.driver_cas.specs.declared.own_port.OwnPort.{OwnPort}
+use Rattle.driver_cas.specs.contracts.shared_port.SharedPortPort.TheImpl.{ghosts}
+use Rattle.driver_cas.specs.declared.shared_port.SharedPort.{SharedPort}
 use Rattle.c_handles.specs.Making.{IsNewDriver}
 use Rattle.slot_log_laws.specs.SlotRules.{keeps_slot_rules}
 use Rattle.slot_alloc.specs.SlotRules.{KeepsSlotRules}
@@ -34,7 +34,7 @@ fresh_driver eng c number queue slots d x =
     record {
       host = x.host;
       slots_are = x.slots_are;
-      none = ap (λ (p : OwnPort). since (ghosts.log p) (ghosts.log d.port)) x.began ∙ since_self (ghosts.log d.port);
+      none = ap (λ (p : SharedPort). since (ghosts.log p) (ghosts.log d.port)) x.began ∙ since_self (ghosts.log d.port);
     }
 
 -- nothing is at each place, which is so of every driver

@@ -3,13 +3,11 @@ mod Batches
 mod PieceGiven
 mod Ready
 mod Calls
-pub mod HostMarks
 mod HostSent
 pub mod Bars
 pub mod Beginning
 pub mod Fresh
 pub mod Keeping
-pub mod SlotMarks
 pub mod Places
 pub mod Polled
 pub mod Releasing

@@ -3,8 +3,8 @@ use Rattle.std.proofs.Common.{Bool, List, ap, false, length, refl, subst, sym, t
 use Rattle.std.specs.Prelude.{None}
 use Rattle.nvme_model.specs.declared.array.Range.{Range}
 use Rattle.driver_cas.specs.Drivers.{area_of}
-use Rattle.driver_cas.specs.contracts.own_port.OwnPortPort.TheImpl.{ghosts}
-use Rattle.driver_cas.specs.declared.own_port.OwnPort.{OwnPort}
+use Rattle.driver_cas.specs.contracts.shared_port.SharedPortPort.TheImpl.{ghosts}
+use Rattle.driver_cas.specs.declared.shared_port.SharedPort.{SharedPort}
 use Rattle.slot_alloc.proofs.Polling.{goes_on_polled, slot_rules_polled}
 use Rattle.slot_alloc.specs.Areas.{slot_of}
 use Rattle.slot_alloc.specs.Progresses.{IsClaimingOn, IsHeldOn, IsQuiet, IsUnreleasedOn}
@@ -39,7 +39,7 @@ inside d e number slots holds u took i k same less =
     subst (λ (n : ℕ). i < n) (ap (λ (r : Range). r.blocks) (same ∙ k.area_is) ∙ sym k.count) less
 
 pub room_for : (d e : SlotDriver) (number : ℕ) (slots : Slots) (holds : List Hold) (u : UnderWay) (took : Bool)
-    (p : Progress OwnPort ghosts) → KeepsSlots d number slots holds u took → DriverContinues d e None → IsHeldOn e p
+    (p : Progress SharedPort ghosts) → KeepsSlots d number slots holds u took → DriverContinues d e None → IsHeldOn e p
     → HasRoomFor p holds
 room_for d e number slots holds u took (Progress.Held c) k x held =
     inside d e number slots holds u took (slot_of c) k x.settings.slots held.inside
@@ -50,7 +50,7 @@ room_for d e number slots holds u took Progress.AllTaken k x held = tt
 room_for d e number slots holds u took (Progress.Failed f) k x held = tt
 
 pub room_to_take : (d e : SlotDriver) (number : ℕ) (slots : Slots) (holds : List Hold) (u : UnderWay) (took : Bool)
-    (t : TakingOver OwnPort) (p : TakeoverProgress OwnPort) → KeepsSlots d number slots holds u took → IsQuiet d e
+    (t : TakingOver SharedPort) (p : TakeoverProgress SharedPort) → KeepsSlots d number slots holds u took → IsQuiet d e
     → IsTakeoverPolled e t p → HasRoomToTake p holds
 room_to_take d e number slots holds u took t (TakeoverProgress.Held s) k x is =
     inside d e number slots holds u took (slot_held s) k x.same.slots is.3.inside
@@ -69,7 +69,7 @@ told_kept e number slots took t n reply u holds k told =
     (λ i. (sym told.holds_are i, sym told.call_is i)) k
 
 pub claim_polled : (d e : SlotDriver) (number : ℕ) (slots : Slots) (holds later : List Hold) (took : Bool) (n : ℕ)
-    (reply : SlotReply) (u : UnderWay) (p : Progress OwnPort ghosts)
+    (reply : SlotReply) (u : UnderWay) (p : Progress SharedPort ghosts)
     → KeepsSlots d number slots holds UnderWay.Nothing took → took ≡ false → DriverContinues d e None
     → (KeepsSlotRules d → KeepsSlotRules e) → IsClaimingOn e p → IsHeldOn e p → IsUnreleasedOn e p
     → IsTold (claim_told holds p) n reply u later → KeepsSlots e number slots later u took
@@ -80,7 +80,7 @@ claim_polled d e number slots holds later took n reply u p k fresh x rules of he
     stays v call =
         kept_on d e number slots holds UnderWay.Nothing v took took k x (λ t. t) call (λ f. rules (k.rules f))
 
-    go : (p : Progress OwnPort ghosts) → IsClaimingOn e p → IsHeldOn e p → IsUnreleasedOn e p
+    go : (p : Progress SharedPort ghosts) → IsClaimingOn e p → IsHeldOn e p → IsUnreleasedOn e p
         → KeepsSlots e number slots (claim_told holds p).holds (claim_told holds p).call took
     go (Progress.Pending j) of held free = stays (UnderWay.Claim j) (fresh, of, free)
     go (Progress.Later f j) of held free = stays (UnderWay.Claim j) (fresh, of, free)
@@ -101,7 +101,7 @@ quiet_kept d e number slots holds took v k q follows call =
     (λ f. slot_rules_polled ghosts d e (record { same = q.same; later = follows; one = q.one }) (k.rules f))
 
 pub release_polled : (d e : SlotDriver) (number : ℕ) (slots : Slots) (holds : List Hold) (took : Bool) (n : ℕ)
-    (reply : SlotReply) (u : UnderWay) (w : Releasing OwnPort) (p : Released OwnPort)
+    (reply : SlotReply) (u : UnderWay) (w : Releasing SharedPort) (p : Released SharedPort)
     → KeepsSlots d number slots holds UnderWay.Nothing took → IsQuiet d e → ghosts.follows d.port e.port
     → IsReleasePolled e w p → IsTold (release_told holds p) n reply u holds → KeepsSlots e number slots holds u took
 release_polled d e number slots holds took n reply u w (Released.Pending j) k q follows is told =
@@ -118,7 +118,7 @@ release_polled d e number slots holds took n reply u w (Released.Failed f) k q f
     (quiet_kept d e number slots holds took UnderWay.Nothing k q follows tt) told
 
 pub give_back_polled : (d e : SlotDriver) (number : ℕ) (slots : Slots) (holds : List Hold) (took : Bool) (n : ℕ)
-    (reply : SlotReply) (u : UnderWay) (w : GivingBack OwnPort) (p : GivenBack OwnPort)
+    (reply : SlotReply) (u : UnderWay) (w : GivingBack SharedPort) (p : GivenBack SharedPort)
     → KeepsSlots d number slots holds UnderWay.Nothing took → IsQuiet d e → ghosts.follows d.port e.port
     → IsGivenBackPolled e w p → IsTold (give_back_told holds p) n reply u holds → KeepsSlots e number slots holds u took
 give_back_polled d e number slots holds took n reply u w (GivenBack.Pending j) k q follows is told =
@@ -135,7 +135,7 @@ give_back_polled d e number slots holds took n reply u w (GivenBack.Failed f) k 
     (quiet_kept d e number slots holds took UnderWay.Nothing k q follows tt) told
 
 pub holder_polled : (d e : SlotDriver) (number : ℕ) (slots : Slots) (holds : List Hold) (took : Bool) (n : ℕ)
-    (reply : SlotReply) (u : UnderWay) (w : ReadingHolder OwnPort) (p : HolderPoll OwnPort)
+    (reply : SlotReply) (u : UnderWay) (w : ReadingHolder SharedPort) (p : HolderPoll SharedPort)
     → KeepsSlots d number slots holds UnderWay.Nothing took → IsQuiet d e → ghosts.follows d.port e.port
     → IsHolderPolled e w p → IsTold (holder_told holds p) n reply u holds → KeepsSlots e number slots holds u took
 holder_polled d e number slots holds took n reply u w (HolderPoll.Pending j) k q follows is told =
@@ -152,7 +152,7 @@ holder_polled d e number slots holds took n reply u w (HolderPoll.Failed f) k q 
     (quiet_kept d e number slots holds took UnderWay.Nothing k q follows tt) told
 
 pub takeover_polled : (d e : SlotDriver) (number : ℕ) (slots : Slots) (holds later : List Hold) (took : Bool) (n : ℕ)
-    (reply : SlotReply) (u : UnderWay) (w : TakingOver OwnPort) (p : TakeoverProgress OwnPort)
+    (reply : SlotReply) (u : UnderWay) (w : TakingOver SharedPort) (p : TakeoverProgress SharedPort)
     → KeepsSlots d number slots holds UnderWay.Nothing took → took ≡ true → IsQuiet d e → ghosts.follows d.port e.port
     → IsTakeoverPolled e w p → IsTold (takeover_told holds p) n reply u later → KeepsSlots e number slots later u took
 takeover_polled d e number slots holds later took n reply u w p k old q follows is told =
@@ -164,7 +164,7 @@ takeover_polled d e number slots holds later took n reply u w p k old q follows 
     rules : took ≡ false → KeepsSlotRules e
     rules f = absurd (let c : true ≡ false = sym old ∙ f in cc)
 
-    go : (p : TakeoverProgress OwnPort) → IsTakeoverPolled e w p
+    go : (p : TakeoverProgress SharedPort) → IsTakeoverPolled e w p
         → KeepsSlots e number slots (takeover_told holds p).holds (takeover_told holds p).call took
     go (TakeoverProgress.Pending j) is =
         quiet_kept d e number slots holds took (UnderWay.Takeover j) k q follows (old, is.1)

@@ -2,7 +2,7 @@
 use Rattle.std.proofs.Common.{Bool, Err, List, Ok, Result, Some, ap, length, length-set, subst, sym, ℕ, ◌∙◌, ◌≡◌}
 use Rattle.std.specs.Prelude.{slice_get, slice_set}
 use Rattle.driver_cas.specs.declared.fault.Fault.{Fault}
-use Rattle.driver_cas.specs.declared.own_port.OwnPort.{OwnPort}
+use Rattle.driver_cas.specs.declared.shared_port.SharedPort.{SharedPort}
 use Rattle.slot_alloc.specs.Releases.{IsReleaseBegun}
 use Rattle.slot_alloc.specs.declared.claim.Claim.{Claim}
 use Rattle.slot_alloc.specs.declared.release.Releasing.{Releasing}
@@ -60,7 +60,7 @@ release_begins d slots holds later u took j i n k kept c was now is ends there =
       same = x.same;
     }
   where
-    go : (r : Result (Releasing OwnPort) (Claim × Fault)) → IsReleaseBegun d j.driver k.claim r
+    go : (r : Result (Releasing SharedPort) (Claim × Fault)) → IsReleaseBegun d j.driver k.claim r
         → j.holds ≡ claim_back later i r → j.holds ≡ released_holds holds i r
     go (Ok w) b h = h ∙ now
     go (Err w) b h = h ∙ ((λ m. slice_set (now m) i (Hold.Claimed (record { claim = b.0 m })))
@@ -87,7 +87,7 @@ give_back_begins d slots holds later u took j i n k kept s was now is ends there
       same = x.same;
     }
   where
-    go : (r : Result (GivingBack OwnPort) (HeldSlot × Fault)) → IsGivingBackBegun d j.driver k.held r
+    go : (r : Result (GivingBack SharedPort) (HeldSlot × Fault)) → IsGivingBackBegun d j.driver k.held r
         → j.holds ≡ slot_back later i r → j.holds ≡ released_holds holds i r
     go (Ok w) b h = h ∙ now
     go (Err w) b h = h ∙ ((λ m. slice_set (now m) i (Hold.TakenOver (record { held = b.0 m })))

@@ -1,10 +1,11 @@
 -- A slot host may go to another thread.
 use denote.Param.Send.{IsSend, enum_send, recorded_send, struct_send, sendable, view_send}
 use denote.Enum.Declared.{shape as enum_shape}
+use denote.Signature.{static_lft}
 use denote.Struct.Declared.{shape}
 use Rattle.std.proofs.Crossing.{Vec-send, crosses}
-use Rattle.driver_cas.specs.contracts.own_port.OwnPort as port
-use Rattle.driver_cas.specs.contracts.own_port.OwnPortPort.TheImpl.{ghosts}
+use Rattle.driver_cas.specs.contracts.shared_port.SharedPort as port
+use Rattle.driver_cas.specs.contracts.shared_port.SharedPortPort.TheImpl.{ghosts}
 use Rattle.c_handles.proofs.Sent.{driver_send}
 use Rattle.slot_alloc.specs.contracts.claiming.Claiming as claiming
 use Rattle.slot_alloc.specs.contracts.release.Releasing as releasing
@@ -18,19 +19,19 @@ use Rattle.vandrexu_c.specs.contracts.slot_host.SlotHost.TheInside as inside
 use Rattle.vandrexu_c.specs.contracts.under_way.UnderWay as calls
 use Rattle.vandrexu_c.proofs.slot_hold.Hold.TheSendSync as hold_sent
 
-claiming_send : IsSend (claiming.the_field port.the_row ghosts).row
+claiming_send : IsSend (claiming.the_field (port.the_row static_lft) ghosts).row
 claiming_send = search (crosses, sendable) depth 20
 
-releasing_send : IsSend (releasing.the_field port.the_row).row
+releasing_send : IsSend (releasing.the_field (port.the_row static_lft)).row
 releasing_send = search (crosses, sendable) depth 20
 
-taking_send : IsSend (taking.the_field port.the_row).row
+taking_send : IsSend (taking.the_field (port.the_row static_lft)).row
 taking_send = search (crosses, sendable) depth 20
 
-giving_send : IsSend (giving.the_field port.the_row).row
+giving_send : IsSend (giving.the_field (port.the_row static_lft)).row
 giving_send = search (crosses, sendable) depth 20
 
-reading_send : IsSend (reading.the_field port.the_row).row
+reading_send : IsSend (reading.the_field (port.the_row static_lft)).row
 reading_send = search (crosses, sendable) depth 20
 
 slots_send : IsSend (slots.the_field).row
@@ -70,5 +71,5 @@ inside_send =
       ),
     ))
 
-pub host_send : IsSend host.the_row
-host_send = view_send inside.the_row _ _ _ _ inside_send
+pub slot_host_send : IsSend host.the_row
+slot_host_send = view_send inside.the_row _ _ _ _ inside_send

@@ -5,8 +5,8 @@ use Rattle.nvme_model.specs.Slots.{Name}
 use Rattle.driver_cas.specs.Drivers.{HasSettings, IsSameDriver, host_of, port_of}
 use Rattle.driver_cas.specs.Faults.{call_fault_number}
 use Rattle.driver_cas.specs.declared.fault.Fault.{Fault}
-use Rattle.driver_cas.specs.contracts.own_port.OwnPortPort.TheImpl.{ghosts}
-use Rattle.driver_cas.specs.declared.own_port.OwnPort.{OwnPort}
+use Rattle.driver_cas.specs.contracts.shared_port.SharedPortPort.TheImpl.{ghosts}
+use Rattle.driver_cas.specs.declared.shared_port.SharedPort.{SharedPort}
 use Rattle.slot_alloc.specs.Progresses.{IsFirstClaim}
 use Rattle.slot_alloc.specs.Releases.{IsReleaseBegun, released_by}
 use Rattle.slot_alloc.specs.SlotRules.{DriverContinues}
@@ -113,7 +113,7 @@ module _ {A : Type 0} where
 
 -- a claim of slot i was asked of the driver, and this number is told
 pub record ClaimBegins (h j : SlotState) (i number : ℕ) : Type 0 where
-  pub answer : Result (Claiming OwnPort ghosts) Fault
+  pub answer : Result (Claiming SharedPort ghosts) Fault
   pub is : IsFirstClaim h.driver j.driver h.slots Reach.One i answer
   pub goes_on : DriverContinues h.driver j.driver None
   pub told : BeginTold UnderWay.Claim answer number j.under_way
@@ -121,52 +121,50 @@ pub record ClaimBegins (h j : SlotState) (i number : ℕ) : Type 0 where
 
 -- a claim of any slot was, from slot 0 on
 pub record AnyClaimBegins (h j : SlotState) (number : ℕ) : Type 0 where
-  pub answer : Result (Claiming OwnPort ghosts) Fault
+  pub answer : Result (Claiming SharedPort ghosts) Fault
   pub is : IsFirstClaim h.driver j.driver h.slots Reach.Any 0 answer
   pub goes_on : DriverContinues h.driver j.driver None
   pub told : BeginTold UnderWay.Claim answer number j.under_way
   pub same : (j.slots ≡ h.slots) × (j.holds ≡ h.holds) × (j.took_over ≡ h.took_over)
 
--- the release of a claim of slot i was asked of it
-pub record ReleaseBegins (h j : SlotState) (i : ℕ) (c : Claim) (number : ℕ) : Type 0 where
-  pub answer : Result (Releasing OwnPort) (Claim × Fault)
+-- the release of a claim was asked of it, and this number is told; by its answer the host then has this
+pub record Releases (after : Result (Releasing SharedPort) (Claim × Fault) → List Hold) (h j : SlotState) (c : Claim)
+    (number : ℕ) : Type 0 where
+  pub answer : Result (Releasing SharedPort) (Claim × Fault)
   pub is : IsReleaseBegun h.driver j.driver c answer
   pub goes_on : DriverContinues h.driver j.driver (released_by h.driver c answer)
   pub told : ReleaseTold UnderWay.Release answer number j.under_way
-  pub holds_are : j.holds ≡ released_holds h.holds i answer
+  pub holds_are : j.holds ≡ after answer
   pub same : (j.slots ≡ h.slots) × (j.took_over ≡ h.took_over)
 
--- the release of slot i, which was taken over
-pub record GiveBackBegins (h j : SlotState) (i : ℕ) (s : HeldSlot) (number : ℕ) : Type 0 where
-  pub answer : Result (GivingBack OwnPort) (HeldSlot × Fault)
+-- the release of a slot that was taken over
+pub record GivesBack (after : Result (GivingBack SharedPort) (HeldSlot × Fault) → List Hold) (h j : SlotState)
+    (s : HeldSlot) (number : ℕ) : Type 0 where
+  pub answer : Result (GivingBack SharedPort) (HeldSlot × Fault)
   pub is : IsGivingBackBegun h.driver j.driver s answer
   pub same_driver : IsSameDriver h.driver j.driver
   pub later : ghosts.follows (port_of h.driver) (port_of j.driver)
   pub told : ReleaseTold UnderWay.GiveBack answer number j.under_way
-  pub holds_are : j.holds ≡ released_holds h.holds i answer
+  pub holds_are : j.holds ≡ after answer
   pub same : (j.slots ≡ h.slots) × (j.took_over ≡ h.took_over)
+
+-- those of slot i
+abbrev pub ReleaseBegins : SlotState → SlotState → ℕ → Claim → ℕ → Type 0
+ReleaseBegins h j i c number = Releases (released_holds h.holds i) h j c number
+
+abbrev pub GiveBackBegins : SlotState → SlotState → ℕ → HeldSlot → ℕ → Type 0
+GiveBackBegins h j i s number = GivesBack (released_holds h.holds i) h j s number
 
 -- the same of a claim, and of a slot that was taken over, that was taken out of its place before
-pub record ReleaseEnds (h j : SlotState) (i : ℕ) (c : Claim) (number : ℕ) : Type 0 where
-  pub answer : Result (Releasing OwnPort) (Claim × Fault)
-  pub is : IsReleaseBegun h.driver j.driver c answer
-  pub goes_on : DriverContinues h.driver j.driver (released_by h.driver c answer)
-  pub told : ReleaseTold UnderWay.Release answer number j.under_way
-  pub holds_are : j.holds ≡ claim_back h.holds i answer
-  pub same : (j.slots ≡ h.slots) × (j.took_over ≡ h.took_over)
+abbrev pub ReleaseEnds : SlotState → SlotState → ℕ → Claim → ℕ → Type 0
+ReleaseEnds h j i c number = Releases (claim_back h.holds i) h j c number
 
-pub record GiveBackEnds (h j : SlotState) (i : ℕ) (s : HeldSlot) (number : ℕ) : Type 0 where
-  pub answer : Result (GivingBack OwnPort) (HeldSlot × Fault)
-  pub is : IsGivingBackBegun h.driver j.driver s answer
-  pub same_driver : IsSameDriver h.driver j.driver
-  pub later : ghosts.follows (port_of h.driver) (port_of j.driver)
-  pub told : ReleaseTold UnderWay.GiveBack answer number j.under_way
-  pub holds_are : j.holds ≡ slot_back h.holds i answer
-  pub same : (j.slots ≡ h.slots) × (j.took_over ≡ h.took_over)
+abbrev pub GiveBackEnds : SlotState → SlotState → ℕ → HeldSlot → ℕ → Type 0
+GiveBackEnds h j i s number = GivesBack (slot_back h.holds i) h j s number
 
 -- a takeover of slot i from this name
 pub record TakeoverBegins (h j : SlotState) (i : ℕ) (dead : Name) (number : ℕ) : Type 0 where
-  pub answer : Result (TakingOver OwnPort) Fault
+  pub answer : Result (TakingOver SharedPort) Fault
   pub is : IsTakeoverBegun h.driver j.driver i dead answer
   pub settings : HasSettings h.driver j.driver
   pub later : ghosts.follows (port_of h.driver) (port_of j.driver)
@@ -176,7 +174,7 @@ pub record TakeoverBegins (h j : SlotState) (i : ℕ) (dead : Name) (number : �
 
 -- the question who holds slot i
 pub record HolderBegins (h j : SlotState) (i number : ℕ) : Type 0 where
-  pub answer : Result (ReadingHolder OwnPort) Fault
+  pub answer : Result (ReadingHolder SharedPort) Fault
   pub is : IsHolderBegun h.driver j.driver i answer
   pub same_driver : IsSameDriver h.driver j.driver
   pub later : ghosts.follows (port_of h.driver) (port_of j.driver)

@@ -1,5 +1,6 @@
 -- What a handle of a checker owns, and what its calls answer.
-use Rattle.std.specs.Prelude.{Bool, List, None, Option, Some, [], false, true, ℕ, ◌<◌, ◌∷◌, ◌≡◌, ◌⊎◌}
+use Rattle.std.specs.Prelude.{Bool, List, None, Option, Some, [], false, true, ℕ, ◌<◌, ◌≤◌, ◌∷◌, ◌≡◌, ◌⊎◌}
+use Rattle.c_handles.specs.Owned.{Keeps, mark}
 use Rattle.nvme_model.specs.Config.{config_fault, config_fault_number}
 use Rattle.nvme_model.specs.History.{Past}
 use Rattle.nvme_model.specs.Legal.{legal}
@@ -9,24 +10,14 @@ use Rattle.nvme_model.specs.declared.entry.Entry.{Entry}
 use Rattle.history.specs.Lines.{entry_in}
 use Rattle.history_check.specs.Kept.{CheckerRun, Stands}
 
--- what stands in the mark of a handle that owns this
-abbrev pub checker_mark : Option CheckerRun → ℕ
-checker_mark None = 0
-checker_mark (Some r) = 1
-
--- a handle owns a checker of which this holds
-abbrev pub KeepsChecker : Option CheckerRun → (CheckerRun → Type 0) → Type 0
-KeepsChecker None P = ⊥
-KeepsChecker (Some r) P = P r
-
 -- a handle owns a checker that has taken no line, of a configuration that isn't refused
 abbrev pub IsNewChecker : ConfigNumbers → Option CheckerRun → Type 0
-IsNewChecker c o = KeepsChecker o (Stands c []) × (config_fault c ≡ None)
+IsNewChecker c o = Keeps o (Stands c []) × (config_fault c ≡ None)
 
 -- why no checker was made: the handle owns one, this is the first fault of the configuration, or memory was refused
 abbrev pub MayRefuseChecker : ConfigNumbers → Option CheckerRun → ℕ → Type 0
 MayRefuseChecker c o number =
-    ((number ≡ 102) × (checker_mark o ≡ 1))
+    ((number ≡ 102) × (mark o ≡ 1))
     ⊎ ((fault : ConfigFault) × (config_fault c ≡ Some fault) × (number ≡ config_fault_number fault))
     ⊎ ((number ≡ 11) × (config_fault c ≡ None))
 
@@ -64,5 +55,5 @@ TellsNone r line number =
 abbrev pub TellsWhy : CheckerRun → List ℕ → ℕ → ℕ → ℕ → Type 0
 TellsWhy r line room number needed =
     TellsNone r line number
-    ⊎ (((number ≡ 108) ⊎ ((number ≡ 103) × (room < needed)))
+    ⊎ ((((number ≡ 108) × (needed ≤ room)) ⊎ ((number ≡ 103) × (room < needed)))
     × ((e : Entry) × (entry_in line ≡ Some e) × IsNext false r e))

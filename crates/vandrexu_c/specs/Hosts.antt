@@ -9,26 +9,16 @@ use Rattle.driver_cas.specs.declared.call.Poll.{Poll}
 use Rattle.driver_cas.specs.declared.driver.Driver.{Driver}
 use Rattle.driver_cas.specs.declared.fault.Fault.{Fault}
 use Rattle.c_handles.specs.Making.{IsNewDriver}
-use Rattle.driver_cas.specs.contracts.own_port.OwnPortPort.TheImpl.{ghosts}
-use Rattle.driver_cas.specs.declared.own_port.OwnPort.{OwnPort}
+use Rattle.driver_cas.specs.contracts.shared_port.SharedPortPort.TheImpl.{ghosts}
+use Rattle.driver_cas.specs.declared.shared_port.SharedPort.{SharedPort}
 use Rattle.vandrexu_c.specs.Driving.{IsCallPolled, Starts}
 use Rattle.vandrexu_c.specs.HostStates.{HostState}
 use Rattle.vandrexu_c.specs.HostReplies.{StartTold, call_given_back, host_reply_of, plain_reply, poll_number}
 use Rattle.vandrexu_c.specs.HostReplies.{read_last}
 use Rattle.vandrexu_c.specs.declared.host_reply.HostReply.{HostReply}
 
--- what stands in the mark of a handle that owns this
-abbrev pub host_mark : Option HostState → ℕ
-host_mark None = 0
-host_mark (Some h) = 1
-
--- a handle owns a host of which this holds
-abbrev pub KeepsHost : Option HostState → (HostState → Type 0) → Type 0
-KeepsHost None P = ⊥
-KeepsHost (Some h) P = P h
-
 -- a host with this driver and no call, which has read nothing
-pub record IsHostOver (d : Driver OwnPort ghosts) (h : HostState) : Type 0 where
+pub record IsHostOver (d : Driver SharedPort ghosts) (h : HostState) : Type 0 where
   pub driver_is : h.driver ≡ d
   pub no_call : h.call ≡ None
   pub nothing_read : h.payload ≡ []
@@ -41,19 +31,19 @@ pub record IsNewHost (eng : Engine) (c : ConfigNumbers) (number queue : ℕ) (h 
 
 -- a call was asked of the host's driver, and this number is told
 pub record HostStarts (h i : HostState) (asked : Result Request Fault) (contents : CallData) (number : ℕ) : Type 0 where
-  pub answer : Result (Call OwnPort) Fault
+  pub answer : Result (Call SharedPort) Fault
   pub starts : Starts h.driver i.driver asked contents answer
   pub told : StartTold answer number i.call
   pub same : i.payload ≡ h.payload
 
 -- A host that has a call starts no other. Else a call is asked of its driver.
 pub record StartTells (h i : HostState) (asked : Result Request Fault) (contents : CallData) (number : ℕ) : Type 0 where
-  pub in_call : (k : Call OwnPort) → h.call ≡ Some k → (number ≡ 116) × (i ≡ h)
+  pub in_call : (k : Call SharedPort) → h.call ≡ Some k → (number ≡ 116) × (i ≡ h)
   pub starts : h.call ≡ None → HostStarts h i asked contents number
 
 -- the host's call was polled, and what came of it is told; the call is kept where it isn't answered
-pub record HostPolls (h i : HostState) (k : Call OwnPort) (number : ℕ) (told : HostReply) : Type 0 where
-  pub polled : Poll OwnPort
+pub record HostPolls (h i : HostState) (k : Call SharedPort) (number : ℕ) (told : HostReply) : Type 0 where
+  pub polled : Poll SharedPort
   pub is : IsCallPolled h.driver i.driver k polled
   pub number_is : number ≡ poll_number polled
   pub told_is : told ≡ host_reply_of polled
@@ -64,4 +54,4 @@ pub record HostPolls (h i : HostState) (k : Call OwnPort) (number : ℕ) (told :
 pub record PollTells (h i : HostState) (number : ℕ) (told : HostReply) : Type 0 where
   pub no_call : h.call ≡ None → (number ≡ 117) × (told ≡ plain_reply 1) × (i.call ≡ None) × (i.driver ≡ h.driver)
       × (i.payload ≡ h.payload)
-  pub polls : (k : Call OwnPort) → h.call ≡ Some k → HostPolls h i k number told
+  pub polls : (k : Call SharedPort) → h.call ≡ Some k → HostPolls h i k number told

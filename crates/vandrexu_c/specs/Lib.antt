@@ -3,8 +3,6 @@ pub mod Batches
 pub mod Checkers
 pub mod FaultNumbers
 pub mod HistoryLines
-pub mod Owned
-pub mod OwnedChecker
 pub mod OwnedStates
 pub mod Steps
 pub mod TextCalls
@@ -12,11 +10,9 @@ pub mod Driving
 pub mod HostStates
 pub mod Hosts
 pub mod HostMaking
-pub mod OwnedHost
 pub mod HostReplies
 pub mod Begins
 pub mod SlotMaking
-pub mod OwnedSlotHost
 pub mod Polls
 pub mod SlotReplies
 pub mod SlotStates

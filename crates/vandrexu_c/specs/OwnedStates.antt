@@ -1,5 +1,6 @@
 -- What a handle of a controller owns.
 use Rattle.std.specs.Prelude.{List, None, Option, Some, [], max, ℕ, ◌≡◌, ◌⊎◌}
+use Rattle.c_handles.specs.Owned.{Keeps, mark}
 use Rattle.nvme_model.specs.Config.{config_fault, config_fault_number}
 use Rattle.nvme_model.specs.declared.config.ConfigFault.{ConfigFault}
 use Rattle.nvme_model.specs.declared.config.ConfigNumbers.{ConfigNumbers}
@@ -10,19 +11,9 @@ pub record OwnedState : Type 0 where
   pub core : ControllerState
   pub payload : List ℕ
 
--- what stands in the mark of a handle that owns this
-abbrev pub mark : Option OwnedState → ℕ
-mark None = 0
-mark (Some m) = 1
-
--- a handle owns a controller of which this holds
-abbrev pub KeepsOwned : Option OwnedState → (OwnedState → Type 0) → Type 0
-KeepsOwned None P = ⊥
-KeepsOwned (Some m) P = P m
-
 -- a handle owns a controller of this configuration that has no history, which the configuration's faults don't refuse
 abbrev pub IsNewController : ConfigNumbers → Option OwnedState → Type 0
-IsNewController c o = KeepsOwned o (λ m. (m.core ≡ record { config = c; past = []; promised = 0; room = m.core.room })
+IsNewController c o = Keeps o (λ m. (m.core ≡ record { config = c; past = []; promised = 0; room = m.core.room })
     × (m.payload ≡ []) × (config_fault c ≡ None))
 
 -- why no controller was made: the handle owns one, this is the first fault of the configuration, or memory was refused

@@ -2,8 +2,8 @@
 use Rattle.std.specs.Prelude.{List, None, length, slice_set, ℕ, ◌<◌, ◌≡◌}
 use Rattle.driver_cas.specs.Drivers.{AsksPort, port_of}
 use Rattle.driver_cas.specs.Faults.{call_fault_number}
-use Rattle.driver_cas.specs.contracts.own_port.OwnPortPort.TheImpl.{ghosts}
-use Rattle.driver_cas.specs.declared.own_port.OwnPort.{OwnPort}
+use Rattle.driver_cas.specs.contracts.shared_port.SharedPortPort.TheImpl.{ghosts}
+use Rattle.driver_cas.specs.declared.shared_port.SharedPort.{SharedPort}
 use Rattle.slot_alloc.specs.Areas.{slot_of}
 use Rattle.slot_alloc.specs.Claims.{claim_stage, release_call}
 use Rattle.slot_alloc.specs.Progresses.{IsProgress, IsQuiet}
@@ -52,7 +52,7 @@ abbrev pub fails_as : ℕ → SlotReply → List Hold → Told
 fails_as number reply holds = record { number = number; reply = reply; call = UnderWay.Nothing; holds = holds }
 
 -- that of a claim
-abbrev pub claim_told : List Hold → Progress OwnPort ghosts → Told
+abbrev pub claim_told : List Hold → Progress SharedPort ghosts → Told
 claim_told holds (Progress.Pending k) = goes_on_as (UnderWay.Claim k) holds
 claim_told holds (Progress.Later f k) = waits_as (call_fault_number f) (UnderWay.Claim k) holds
 claim_told holds (Progress.Held c) =
@@ -62,14 +62,14 @@ claim_told holds Progress.AllTaken = ends_as (plain_reply 3) holds
 claim_told holds (Progress.Failed f) = fails_as (call_fault_number f) (failed_reply f) holds
 
 -- of a release
-abbrev pub release_told : List Hold → Released OwnPort → Told
+abbrev pub release_told : List Hold → Released SharedPort → Told
 release_told holds (Released.Pending k) = goes_on_as (UnderWay.Release k) holds
 release_told holds (Released.Later f k) = waits_as (call_fault_number f) (UnderWay.Release k) holds
 release_told holds Released.Released = ends_as (plain_reply 4) holds
 release_told holds (Released.Failed f) = fails_as (call_fault_number f) (failed_reply f) holds
 
 -- of a takeover
-abbrev pub takeover_told : List Hold → TakeoverProgress OwnPort → Told
+abbrev pub takeover_told : List Hold → TakeoverProgress SharedPort → Told
 takeover_told holds (TakeoverProgress.Pending k) = goes_on_as (UnderWay.Takeover k) holds
 takeover_told holds (TakeoverProgress.Later f k) = waits_as (call_fault_number f) (UnderWay.Takeover k) holds
 takeover_told holds (TakeoverProgress.Held s) =
@@ -78,14 +78,14 @@ takeover_told holds TakeoverProgress.Taken = ends_as (plain_reply 3) holds
 takeover_told holds (TakeoverProgress.Failed f) = fails_as (call_fault_number f) (failed_reply f) holds
 
 -- of a release of what was taken over
-abbrev pub give_back_told : List Hold → GivenBack OwnPort → Told
+abbrev pub give_back_told : List Hold → GivenBack SharedPort → Told
 give_back_told holds (GivenBack.Pending k) = goes_on_as (UnderWay.GiveBack k) holds
 give_back_told holds (GivenBack.Later f k) = waits_as (call_fault_number f) (UnderWay.GiveBack k) holds
 give_back_told holds GivenBack.Released = ends_as (plain_reply 4) holds
 give_back_told holds (GivenBack.Failed f) = fails_as (call_fault_number f) (failed_reply f) holds
 
 -- of the question who holds a slot
-abbrev pub holder_told : List Hold → HolderPoll OwnPort → Told
+abbrev pub holder_told : List Hold → HolderPoll SharedPort → Told
 holder_told holds (HolderPoll.Pending k) = goes_on_as (UnderWay.Holder k) holds
 holder_told holds (HolderPoll.Later f k) = waits_as (call_fault_number f) (UnderWay.Holder k) holds
 holder_told holds (HolderPoll.Done w) = ends_as (holder_reply w) holds
@@ -99,26 +99,26 @@ pub record IsTold (t : Told) (number : ℕ) (reply : SlotReply) (call : UnderWay
   pub holds_are : holds ≡ t.holds
 
 -- a slot that is held now is one of those there are
-abbrev pub HasRoomFor : Progress OwnPort ghosts → List Hold → Type 0
+abbrev pub HasRoomFor : Progress SharedPort ghosts → List Hold → Type 0
 HasRoomFor (Progress.Held c) holds = slot_of c < length holds
 HasRoomFor _ holds = Unit {0}
 
 -- and so is one that was taken over
-abbrev pub HasRoomToTake : TakeoverProgress OwnPort → List Hold → Type 0
+abbrev pub HasRoomToTake : TakeoverProgress SharedPort → List Hold → Type 0
 HasRoomToTake (TakeoverProgress.Held s) holds = slot_held s < length holds
 HasRoomToTake _ holds = Unit {0}
 
 -- the claim was polled, and this came of it
-pub record ClaimPolls (h j : SlotState) (k : Claiming OwnPort ghosts) (number : ℕ) (reply : SlotReply) : Type 0 where
-  pub progress : Progress OwnPort ghosts
+pub record ClaimPolls (h j : SlotState) (k : Claiming SharedPort ghosts) (number : ℕ) (reply : SlotReply) : Type 0 where
+  pub progress : Progress SharedPort ghosts
   pub is : IsProgress h.driver j.driver k (claim_stage k) progress
   pub goes_on : DriverContinues h.driver j.driver None
   pub told : IsTold (claim_told h.holds progress) number reply j.under_way j.holds
   pub same : (j.slots ≡ h.slots) × (j.took_over ≡ h.took_over)
 
 -- the release was
-pub record ReleasePolls (h j : SlotState) (k : Releasing OwnPort) (number : ℕ) (reply : SlotReply) : Type 0 where
-  pub released : Released OwnPort
+pub record ReleasePolls (h j : SlotState) (k : Releasing SharedPort) (number : ℕ) (reply : SlotReply) : Type 0 where
+  pub released : Released SharedPort
   pub is : IsReleasePolled j.driver k released
   pub quiet : IsQuiet h.driver j.driver
   pub goes_on : DriverContinues h.driver j.driver None
@@ -127,8 +127,8 @@ pub record ReleasePolls (h j : SlotState) (k : Releasing OwnPort) (number : ℕ)
   pub same : (j.slots ≡ h.slots) × (j.took_over ≡ h.took_over)
 
 -- the takeover was
-pub record TakeoverPolls (h j : SlotState) (k : TakingOver OwnPort) (number : ℕ) (reply : SlotReply) : Type 0 where
-  pub progress : TakeoverProgress OwnPort
+pub record TakeoverPolls (h j : SlotState) (k : TakingOver SharedPort) (number : ℕ) (reply : SlotReply) : Type 0 where
+  pub progress : TakeoverProgress SharedPort
   pub is : IsTakeoverPolled j.driver k progress
   pub quiet : IsQuiet h.driver j.driver
   pub later : ghosts.follows (port_of h.driver) (port_of j.driver)
@@ -137,8 +137,8 @@ pub record TakeoverPolls (h j : SlotState) (k : TakingOver OwnPort) (number : �
   pub same : (j.slots ≡ h.slots) × (j.took_over ≡ h.took_over)
 
 -- the release of what was taken over was
-pub record GiveBackPolls (h j : SlotState) (k : GivingBack OwnPort) (number : ℕ) (reply : SlotReply) : Type 0 where
-  pub given : GivenBack OwnPort
+pub record GiveBackPolls (h j : SlotState) (k : GivingBack SharedPort) (number : ℕ) (reply : SlotReply) : Type 0 where
+  pub given : GivenBack SharedPort
   pub is : IsGivenBackPolled j.driver k given
   pub quiet : IsQuiet h.driver j.driver
   pub later : ghosts.follows (port_of h.driver) (port_of j.driver)
@@ -146,8 +146,8 @@ pub record GiveBackPolls (h j : SlotState) (k : GivingBack OwnPort) (number : �
   pub same : (j.slots ≡ h.slots) × (j.took_over ≡ h.took_over)
 
 -- the question who holds a slot was
-pub record HolderPolls (h j : SlotState) (k : ReadingHolder OwnPort) (number : ℕ) (reply : SlotReply) : Type 0 where
-  pub polled : HolderPoll OwnPort
+pub record HolderPolls (h j : SlotState) (k : ReadingHolder SharedPort) (number : ℕ) (reply : SlotReply) : Type 0 where
+  pub polled : HolderPoll SharedPort
   pub is : IsHolderPolled j.driver k polled
   pub quiet : IsQuiet h.driver j.driver
   pub later : ghosts.follows (port_of h.driver) (port_of j.driver)

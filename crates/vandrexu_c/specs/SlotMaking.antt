@@ -2,6 +2,7 @@
 use Rattle.std.specs.Prelude.{All, List, None, Option, Some, [], false, if◌then◌else◌, length, nat_lt, ℕ, ◌+◌}
 use Rattle.std.specs.Prelude.{◌==◌, ◌||◌}
 use Rattle.std.specs.Prelude.{◌≡◌}
+use Rattle.c_handles.specs.Owned.{Keeps}
 use Rattle.nvme_model.specs.declared.array.Range.{Range}
 use Rattle.nvme_model.specs.declared.config.ConfigNumbers.{ConfigNumbers}
 use Rattle.work_queue.specs.declared.engine.Engine.{Engine}
@@ -10,7 +11,7 @@ use Rattle.c_handles.specs.Disks.{disk_config, disk_engine}
 use Rattle.c_handles.specs.Making.{HasGiven, IsNewDriver, MayRefuseHost, passes_left}
 use Rattle.c_handles.specs.declared.disk.Disk.{Disk}
 use Rattle.slot_alloc.specs.Areas.{area}
-use Rattle.vandrexu_c.specs.SlotStates.{KeepsSlotHost, SlotDriver, SlotState}
+use Rattle.vandrexu_c.specs.SlotStates.{SlotDriver, SlotState}
 use Rattle.vandrexu_c.specs.declared.slot_hold.Hold.{Hold}
 use Rattle.vandrexu_c.specs.declared.under_way.UnderWay.{UnderWay}
 
@@ -48,7 +49,7 @@ pub record MakesSlotHost (d e : Disk) (number queue : ℕ) (slots : Range) (told
     : Type 0 where
   pub same : HasGiven d e
   pub done : told ≡ 0 →
-      KeepsSlotHost made (IsNewSlotHost (disk_engine d) (disk_config d) number queue slots)
+      Keeps made (IsNewSlotHost (disk_engine d) (disk_config d) number queue slots)
       × (passes_left e + 1 ≡ passes_left d)
   pub failed : (told ≡ 0 → ⊥) →
       (made ≡ None) × (passes_left e ≡ passes_left d) × MayRefuseHost d number queue told

@@ -2,8 +2,8 @@
 use Rattle.std.specs.Prelude.{Bool, List, None, Option, Some, false, length, slice_get, true, ℕ, ◌≡◌}
 use Rattle.driver_cas.specs.Drivers.{area_of, host_of}
 use Rattle.driver_cas.specs.declared.driver.Driver.{Driver}
-use Rattle.driver_cas.specs.contracts.own_port.OwnPortPort.TheImpl.{ghosts}
-use Rattle.driver_cas.specs.declared.own_port.OwnPort.{OwnPort}
+use Rattle.driver_cas.specs.contracts.shared_port.SharedPortPort.TheImpl.{ghosts}
+use Rattle.driver_cas.specs.declared.shared_port.SharedPort.{SharedPort}
 use Rattle.slot_alloc.specs.Areas.{area, slot_of}
 use Rattle.slot_alloc.specs.Claims.{IsClaimingOf, IsHeldBy, IsReleasingOf, IsUnreleased}
 use Rattle.slot_alloc.specs.SlotRules.{KeepsSlotRules}
@@ -15,7 +15,7 @@ use Rattle.vandrexu_c.specs.declared.under_way.UnderWay.{UnderWay}
 
 -- the driver of a slot host
 abbrev pub SlotDriver : Type 0
-SlotDriver = Driver OwnPort ghosts
+SlotDriver = Driver SharedPort ghosts
 
 -- a driver, its slots, what the host has at each, its call, and whether it has begun a takeover
 pub record SlotState : Type 0 where
@@ -60,13 +60,3 @@ pub record KeepsSlots (d : SlotDriver) (number : ℕ) (slots : Slots) (holds : L
 pub record IsEmptied (h : SlotState) (i : ℕ) : Type 0 where
   pub idle : h.under_way ≡ UnderWay.Nothing
   pub nothing : slice_get h.holds i ≡ Some Hold.Nothing
-
--- what stands in the mark of a handle that owns this
-abbrev pub slot_host_mark : Option SlotState → ℕ
-slot_host_mark None = 0
-slot_host_mark (Some h) = 1
-
--- a handle owns a slot host of which this holds
-abbrev pub KeepsSlotHost : Option SlotState → (SlotState → Type 0) → Type 0
-KeepsSlotHost None P = ⊥
-KeepsSlotHost (Some h) P = P h

@@ -2,12 +2,13 @@
 
 ghost use Rattle.std.specs.Prelude.{◌≡◌};
 ghost use Rattle.vandrexu_c.specs.Answers.{blocked_of, found_number, granted_of, mode_number, op_number};
-ghost use Rattle.vandrexu_c.specs.Answers.{refused_number};
+ghost use Rattle.nvme_model.specs.Refusals.{refusal_number};
 ghost use Rattle.vandrexu_c.specs.Answers.{fetched_work_of, next_step_of};
 
-use controller_interface::{Kind, Refused, Step, Work};
-use nvme_model::array::{Mode, Range};
+use controller_interface::{Kind, Step, UnitGranted, Work};
+use nvme_model::array::Mode;
 use nvme_model::operation::{Found, Op};
+use nvme_model::refusal::Why;
 use step_core::Done;
 
 /// What a fetched ticket has to do; what a kind doesn't have is 0.
@@ -127,14 +128,14 @@ pub(crate) fn work_in(work: &Work) -> FetchedWork
 }
 
 /// A granted unit.
-pub(crate) fn granted_in(unit: u64, range: Range, mode: Mode) -> GrantedUnit
-    ensures { result ≡ granted_of unit range mode }
+pub(crate) fn granted_in(granted: UnitGranted) -> GrantedUnit
+    ensures { result ≡ granted_of granted.unit granted.range granted.mode }
 {
     GrantedUnit {
-        unit,
-        slba: range.slba,
-        blocks: range.blocks,
-        mode: mode_in(mode),
+        unit: granted.unit,
+        slba: granted.range.slba,
+        blocks: granted.range.blocks,
+        mode: mode_in(granted.mode),
     }
 }
 
@@ -173,11 +174,8 @@ pub(crate) fn step_in(step: &Step) -> Option<NextStep>
 }
 
 /// The number of a refusal.
-pub(crate) fn refused_in(refused: &Refused) -> u32
-    ensures { result ≡ refused_number refused.now }
+pub(crate) fn refused_in(why: Why) -> u32
+    ensures { result ≡ refusal_number why }
 {
-    match refused {
-        Refused::Publish(why, _) => u32::from(why.number()),
-        Refused::Step(why) => u32::from(why.number()),
-    }
+    u32::from(why.number())
 }

@@ -1,9 +1,10 @@
 //! The entries of a Publish.
 
 ghost use Rattle.std.specs.Prelude.{◌≡◌, ◌++◌, ◌⊎◌, IfErr, IfOk, None, OnOk, Some, List};
+ghost use Rattle.c_handles.specs.Owned.{Keeps};
 ghost use Rattle.nvme_model.specs.declared.submission.Submission.{Submission as TheSubmission};
 ghost use Rattle.vandrexu_c.specs.Batches.{TellsPublish, submissions_of};
-ghost use Rattle.vandrexu_c.specs.OwnedStates.{KeepsOwned, OwnedState};
+ghost use Rattle.vandrexu_c.specs.OwnedStates.{OwnedState};
 
 use crate::controller::{NO_HANDLE, NO_MEMORY};
 use crate::held::{Handle, put_in, take_out};
@@ -88,7 +89,7 @@ pub extern "C" fn vandrexu_controller_publish(
 ) -> u32
     ensures no_handle { controller.old.held.core ≡ None → (result ≡ 101) × (controller.new.held.core ≡ None) }
     ensures publishes { (m : OwnedState) → controller.old.held.core ≡ Some m →
-        KeepsOwned controller.new.held.core (TellsPublish m queue entries.now bytes.now result) }
+        Keeps controller.new.held.core (TellsPublish m queue entries.now bytes.now result) }
 {
     let Some(mut owned) = take_out(alloc, controller) else {
         return NO_HANDLE;

@@ -1,14 +1,16 @@
 //! A checker: made, freed, and given the lines of a history, one at a time.
 
 ghost use Rattle.std.specs.Prelude.{◌≡◌, ◌⊎◌, [], IfErr, IfOk, None, OnOk, Some, false, length, true};
+ghost use Rattle.c_handles.specs.Owned.{Keeps};
 ghost use Rattle.c_handles.specs.Configurations.{given_numbers};
 ghost use Rattle.nvme_model.specs.declared.entry.Entry.{Entry as TheEntry};
 ghost use Rattle.history.specs.Lines.{entry_in};
 ghost use Rattle.history_check.specs.Kept.{CheckerRun, Stands};
-ghost use Rattle.vandrexu_c.specs.Checkers.{IsNewChecker, IsNext, KeepsChecker, MayRefuseChecker};
+ghost use Rattle.vandrexu_c.specs.Checkers.{IsNewChecker, IsNext, MayRefuseChecker};
 ghost use Rattle.vandrexu_c.specs.Checkers.{TellsWhetherLegal, TellsNone, TellsTaken, TellsWhy};
 
 use crate::controller::{IN_USE, NO_HANDLE, NO_MEMORY, TOO_SMALL};
+use crate::copying::fits;
 use crate::owned_checker::{CheckerHandle, OwnedChecker, put_checker, take_checker};
 use broken_rules::Broken;
 use c_handles::{GivenConfig, config_of};
@@ -32,7 +34,7 @@ fn own_checker(alloc: Global, config: &Config) -> Result<Box<OwnedChecker>, NoMe
 /// first fault of the configuration, 21 to 30; or 11 where memory is refused; or 102 where the handle owns one. The
 /// handle is then as before.
 #[unsafe(no_mangle)]
-#[tactic(auto, using(crate::proofs::Marks::no_checker_of))]
+#[tactic(auto, using(c_handles::proofs::Marks::none_of))]
 pub extern "C" fn vandrexu_checker_new(
     alloc: Global,
     config: &GivenConfig,
@@ -97,7 +99,7 @@ pub extern "C" fn vandrexu_checker_take_line(
 ) -> u32
     ensures no_handle { checker.old.held.run ≡ None → (result ≡ 101) × (checker.new.held.run ≡ None) }
     ensures takes { (r : CheckerRun) → checker.old.held.run ≡ Some r →
-        KeepsChecker checker.new.held.run (TellsTaken r line.now result) }
+        Keeps checker.new.held.run (TellsTaken r line.now result) }
 {
     let Some(mut owned) = take_checker(alloc, checker) else {
         return NO_HANDLE;
@@ -170,11 +172,8 @@ pub extern "C" fn vandrexu_checker_why(
         Ok(words) => words,
         Err(number) => return number,
     };
-    let count = words.len();
-    *needed = count;
-    if out.len() < count {
-        return TOO_SMALL;
+    if fits(words.as_bytes(), out, needed) {
+        return NOT_LEGAL;
     }
-    out[..count].copy_from_slice(words.as_bytes());
-    NOT_LEGAL
+    TOO_SMALL
 }

@@ -1,10 +1,12 @@
 //! A controller: made, freed, and looked at.
 
 ghost use Rattle.std.specs.Prelude.{◌++◌, ◌≡◌, ◌<◌, ◌≤◌, IfOk, None, Some, [], drop, length};
+ghost use Rattle.c_handles.specs.Owned.{Keeps};
 ghost use Rattle.c_handles.specs.Configurations.{given_numbers};
 ghost use Rattle.nvme_model.specs.Medium.{medium};
-ghost use Rattle.vandrexu_c.specs.OwnedStates.{IsNewController, KeepsOwned, OwnedState, MayRefuse, Reserves};
+ghost use Rattle.vandrexu_c.specs.OwnedStates.{IsNewController, OwnedState, MayRefuse, Reserves};
 
+use crate::copying::fits;
 use crate::held::{Handle, put_in, take_out};
 use crate::owned_controller::OwnedController;
 use c_handles::{GivenConfig, config_of};
@@ -36,7 +38,7 @@ fn own_controller(alloc: Global, core: Core) -> Result<Box<OwnedController>, NoM
 /// configuration, 21 to 30; or 11 where memory is refused; or 102 where the handle owns one. The handle is then as
 /// before.
 #[unsafe(no_mangle)]
-#[tactic(auto, using(crate::proofs::Marks::none_of))]
+#[tactic(auto, using(c_handles::proofs::Marks::none_of))]
 pub extern "C" fn vandrexu_controller_new(
     alloc: Global,
     config: &GivenConfig,
@@ -81,7 +83,7 @@ pub extern "C" fn vandrexu_controller_reserve(
 ) -> u32
     ensures no_handle { controller.old.held.core ≡ None → (result ≡ 101) × (controller.new.held.core ≡ None) }
     ensures reserves { (m : OwnedState) → controller.old.held.core ≡ Some m →
-        KeepsOwned controller.new.held.core (λ n. Reserves m more result n) }
+        Keeps controller.new.held.core (λ n. Reserves m more result n) }
 {
     let Some(mut owned) = take_out(alloc, controller) else {
         return NO_HANDLE;
@@ -146,15 +148,9 @@ pub extern "C" fn vandrexu_controller_data(
     let Some(owned) = take_out(alloc, controller) else {
         return NO_HANDLE;
     };
-    let count = owned.as_ref().payload.len();
-    *needed = count;
-    if out.len() < count {
-        put_in(controller, owned);
-        return TOO_SMALL;
-    }
-    out[..count].copy_from_slice(owned.as_ref().payload.as_slice());
+    let fit = fits(owned.as_ref().payload.as_slice(), out, needed);
     put_in(controller, owned);
-    0
+    if fit { 0 } else { TOO_SMALL }
 }
 
 /// How many entries the history has: 0; or 101 where the handle owns nothing.

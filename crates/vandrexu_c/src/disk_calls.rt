@@ -1,8 +1,9 @@
 //! A disk: made, freed, and served.
 
 ghost use Rattle.std.specs.Prelude.{◌≡◌, IfOk, None, Some};
+ghost use Rattle.c_handles.specs.Owned.{Keeps};
 ghost use Rattle.c_handles.specs.Configurations.{given_numbers};
-ghost use Rattle.c_handles.specs.Disks.{FetchTells, IsNewDisk, KeepsDisk, MayRefuseDisk, ServesDisk, TaskTells};
+ghost use Rattle.c_handles.specs.Disks.{FetchTells, IsNewDisk, MayRefuseDisk, ServesDisk, TaskTells};
 ghost use Rattle.c_handles.specs.Handles.{disk_in};
 ghost use Rattle.c_handles.specs.declared.disk.Disk.{Disk as TheDisk};
 
@@ -29,7 +30,7 @@ pub extern "C" fn vandrexu_disk_new(
     hosts: u16,
     disk: &mut DiskHandle,
 ) -> u32
-    ensures done { result ≡ 0 → KeepsDisk (disk_in disk.new) (IsNewDisk (given_numbers config.now) hosts) }
+    ensures done { result ≡ 0 → Keeps (disk_in disk.new) (IsNewDisk (given_numbers config.now) hosts) }
     ensures failed { (result ≡ 0 → ⊥) → disk_in disk.new ≡ disk_in disk.old }
     ensures cause { (result ≡ 0 → ⊥) → MayRefuseDisk (given_numbers config.now) (disk_in disk.old) result }
 {
@@ -61,7 +62,7 @@ pub extern "C" fn vandrexu_disk_free(alloc: Global, disk: &mut DiskHandle)
 pub extern "C" fn vandrexu_disk_fetch(alloc: Global, disk: &mut DiskHandle, queue: u16) -> u32
     ensures no_handle { disk_in disk.old ≡ None → (result ≡ 101) × (disk_in disk.new ≡ None) }
     ensures fetches { (d : TheDisk) → disk_in disk.old ≡ Some d →
-        KeepsDisk (disk_in disk.new) (λ e. FetchTells d e queue result) }
+        Keeps (disk_in disk.new) (λ e. FetchTells d e queue result) }
 {
     let Some(mut owned) = disk.take(alloc) else {
         return NO_HANDLE;
@@ -77,7 +78,7 @@ pub extern "C" fn vandrexu_disk_fetch(alloc: Global, disk: &mut DiskHandle, queu
 pub extern "C" fn vandrexu_disk_task(alloc: Global, disk: &mut DiskHandle) -> u32
     ensures no_handle { disk_in disk.old ≡ None → (result ≡ 101) × (disk_in disk.new ≡ None) }
     ensures makes { (d : TheDisk) → disk_in disk.old ≡ Some d →
-        KeepsDisk (disk_in disk.new) (λ e. TaskTells d e result) }
+        Keeps (disk_in disk.new) (λ e. TaskTells d e result) }
 {
     let Some(mut owned) = disk.take(alloc) else {
         return NO_HANDLE;
@@ -94,7 +95,7 @@ pub extern "C" fn vandrexu_disk_task(alloc: Global, disk: &mut DiskHandle) -> u3
 pub extern "C" fn vandrexu_disk_serve(alloc: Global, disk: &mut DiskHandle, queue: u16) -> u32
     ensures no_handle { disk_in disk.old ≡ None → (result ≡ 101) × (disk_in disk.new ≡ None) }
     ensures serves { (d : TheDisk) → disk_in disk.old ≡ Some d →
-        KeepsDisk (disk_in disk.new) (λ e. ServesDisk d e queue result) }
+        Keeps (disk_in disk.new) (λ e. ServesDisk d e queue result) }
 {
     let Some(mut owned) = disk.take(alloc) else {
         return NO_HANDLE;

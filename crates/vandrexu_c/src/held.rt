@@ -1,10 +1,11 @@
 //! A handle: it lies in the caller's memory, and owns a controller or nothing.
 
-ghost use Rattle.std.specs.Prelude.{◌≡◌, ◌<◌, MatchOption, None, Option, Some};
-ghost use Rattle.vandrexu_c.specs.OwnedStates.{OwnedState, mark};
+ghost use Rattle.std.specs.Prelude.{◌≡◌, MatchOption, None, Option, Some};
+ghost use Rattle.c_handles.specs.Owned.{mark};
+ghost use Rattle.vandrexu_c.specs.OwnedStates.{OwnedState};
 
 use crate::owned_controller::OwnedController;
-use c_handles::Parts;
+use c_handles::Owner;
 use std::alloc::Global;
 use std::marker::{Model, Send};
 
@@ -17,38 +18,29 @@ pub struct Held {
 }
 
 impl Model for Held {
-    ghost use Rattle.vandrexu_c.specs.Owned.{owned};
+    ghost use Rattle.c_handles.specs.Owned.{owned};
+    ghost use Rattle.vandrexu_c.specs.contracts.owned_controller.OwnedController.{the_row};
 
-    ghost also_owns = { λ h. owned h.at h.core };
+    ghost also_owns = { λ h. owned the_row h.at h.core };
 }
 
 // A handle may be used on another thread than the one that made it.
 unsafe impl Send for Held {}
 
 impl Held {
-    pub(crate) fn none() -> Held
-        ensures { result.core ≡ None }
+    fn of(owner: Owner<OwnedController>) -> Held
+        ensures { result.core ≡ owner.value }
     {
-        Held {
-            at: std::ptr::null_mut(),
-        }
+        let Owner { at } = owner;
+        Held { at: at as *mut u8 }
     }
 
-    pub(crate) fn of(parts: Parts<OwnedController, Global>) -> Held
-        ensures { result.core ≡ Some parts.value }
-    {
-        let Parts { ptr, alloc: _ } = parts;
-        Held { at: ptr as *mut u8 }
-    }
-
-    pub(crate) fn into_parts(self, alloc: Global) -> Parts<OwnedController, Global>
-        requires { 0 < mark self.core }
-        ensures { self.core ≡ Some result.value }
+    fn into_owner(self) -> Owner<OwnedController>
+        ensures { result.value ≡ self.core }
     {
         let Held { at } = self;
-        Parts {
-            ptr: at as *mut OwnedController,
-            alloc,
+        Owner {
+            at: at as *mut OwnedController,
         }
     }
 }
@@ -62,20 +54,16 @@ pub struct Handle {
 }
 
 // Takes the controller out of a handle.
-#[tactic(auto, using(crate::proofs::Marks::none_of))]
 pub(crate) fn take_out(alloc: Global, handle: &mut Handle) -> Option<Box<OwnedController>>
     ensures value { MatchOption result (handle.old.held.core ≡ None) (λ b. handle.old.held.core ≡ Some b.value) }
     ensures emptied { handle.new.held.core ≡ None }
 {
     let empty = Handle {
-        held: Held::none(),
+        held: Held::of(Owner::none()),
         live: 0,
     };
     let Handle { held, live } = std::mem::replace(handle, empty);
-    if live == 0 {
-        return None;
-    }
-    Some(held.into_parts(alloc).into_box())
+    held.into_owner().into_box(alloc, live)
 }
 
 // Puts a controller into a handle that has none.
@@ -84,7 +72,7 @@ pub(crate) fn put_in(handle: &mut Handle, owned: Box<OwnedController>)
     ensures { handle.new.held.core ≡ Some owned.value }
 {
     let full = Handle {
-        held: Held::of(Parts::of(owned)),
+        held: Held::of(Owner::of(owned)),
         live: 1,
     };
     let Handle { held: _, live: _ } = std::mem::replace(handle, full);

@@ -4,15 +4,15 @@ ghost use Rattle.std.specs.Prelude.{◌≡◌, None};
 ghost use Rattle.vandrexu_c.specs.HostReplies.{StartTold, call_given_back, read_last};
 
 use crate::host_numbers::{IN_CALL, NO_CALL};
-use crate::host_reply::{HostReply, number_in, plain, reply_in};
-use driver_cas::{Call, Driver, Fault, OwnPort, Poll, Reply};
+use crate::host_reply::{HostReply, PENDING, number_in, plain, reply_in};
+use driver_cas::{Call, Driver, Fault, Poll, Reply, SharedPort};
 use std::marker::Model;
 
 /// A driver, the call that was started and not answered, and what was read last.
 #[derive(Drop)]
 pub struct DrivenHost {
-    pub(crate) driver: Driver<OwnPort>,
-    pub(crate) call: Option<Call<OwnPort>>,
+    pub(crate) driver: Driver<SharedPort<'static>>,
+    pub(crate) call: Option<Call<SharedPort<'static>>>,
     pub(crate) payload: Vec<u8>,
 }
 
@@ -27,9 +27,12 @@ impl Model for DrivenHost {
 }
 
 // Keeps the call that was started, if one was.
-fn keep(kept: &mut Option<Call<OwnPort>>, started: Result<Call<OwnPort>, Fault>) -> u32
+fn keep(
+    kept: &mut Option<Call<SharedPort<'static>>>,
+    started: Result<Call<SharedPort<'static>>, Fault>,
+) -> u32
     requires { kept.old ≡ None }
-    ensures { StartTold started result kept.new }
+    ensures { StartTold started.entry result kept.new }
 {
     match started {
         Ok(call) => {
@@ -41,10 +44,14 @@ fn keep(kept: &mut Option<Call<OwnPort>>, started: Result<Call<OwnPort>, Fault>)
 }
 
 // Keeps the call where it comes back, or what was read.
-fn end(kept: &mut Option<Call<OwnPort>>, last: &mut Vec<u8>, polled: Poll<OwnPort>)
+fn end(
+    kept: &mut Option<Call<SharedPort<'static>>>,
+    last: &mut Vec<u8>,
+    polled: Poll<SharedPort<'static>>,
+)
     requires { kept.old ≡ None }
-    ensures call { kept.new ≡ call_given_back polled }
-    ensures payload { last.new.items ≡ read_last polled last.old.items }
+    ensures call { kept.new ≡ call_given_back polled.entry }
+    ensures payload { last.new.items ≡ read_last polled.entry last.old.items }
 {
     match polled {
         Poll::Pending(call) | Poll::Later(_, call) => *kept = Some(call),
@@ -137,7 +144,7 @@ impl DrivenHost {
         ensures { PollTells self.old self.new result.0 result.1 }
     {
         let Some(call) = self.call.take() else {
-            return (NO_CALL, plain(1));
+            return (NO_CALL, plain(PENDING));
         };
         let polled = self.driver.poll(call);
         let told = (number_in(&polled), reply_in(&polled));

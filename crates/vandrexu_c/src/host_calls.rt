@@ -1,17 +1,18 @@
 //! A host: made, freed, its calls begun and polled.
 
 ghost use Rattle.std.specs.Prelude.{◌*◌, ◌++◌, ◌<◌, ◌≡◌, None, Some, [], drop, length};
+ghost use Rattle.c_handles.specs.Owned.{Keeps};
 ghost use Rattle.nvme_model.specs.declared.operation.Op.{Op};
 ghost use Rattle.driver_calls.specs.declared.request.CallData.{CallData};
 ghost use Rattle.driver_cas.specs.Drivers.{acwu_of, area_of};
 ghost use Rattle.driver_cas.specs.Requests.{pair_request_of, request_of};
-ghost use Rattle.c_handles.specs.Disks.{KeepsDisk};
 ghost use Rattle.c_handles.specs.Handles.{disk_in};
 ghost use Rattle.c_handles.specs.declared.disk.Disk.{Disk as TheDisk};
 ghost use Rattle.vandrexu_c.specs.HostStates.{HostState};
-ghost use Rattle.vandrexu_c.specs.Hosts.{KeepsHost, PollTells, StartTells};
+ghost use Rattle.vandrexu_c.specs.Hosts.{PollTells, StartTells};
 ghost use Rattle.vandrexu_c.specs.HostMaking.{MakesHost};
 
+use crate::copying::fits;
 use crate::host_handle::{HostHandle, put_host, take_host};
 use crate::host_making::give_into;
 use crate::host_numbers::TOO_SMALL;
@@ -25,7 +26,7 @@ use std::alloc::Global;
 /// were made as the disk was made for; or 11 where memory is refused; or 101 where the disk's handle owns nothing; or
 /// 102 where the host's owns one. But for 0, both are then as before.
 #[unsafe(no_mangle)]
-#[tactic(auto, using(crate::proofs::HostMarks::no_host_of))]
+#[tactic(auto, using(c_handles::proofs::Marks::none_of))]
 pub extern "C" fn vandrexu_host_new(
     alloc: Global,
     disk: &mut DiskHandle,
@@ -38,7 +39,7 @@ pub extern "C" fn vandrexu_host_new(
     ensures no_disk { host.old.held.host ≡ None → disk_in disk.old ≡ None →
         (result ≡ 101) × (host.new.held.host ≡ None) × (disk_in disk.new ≡ None) }
     ensures makes { (d : TheDisk) → host.old.held.host ≡ None → disk_in disk.old ≡ Some d →
-        KeepsDisk (disk_in disk.new) (λ e. MakesHost d e number queue result host.new.held.host) }
+        Keeps (disk_in disk.new) (λ e. MakesHost d e number queue result host.new.held.host) }
 {
     if host.live != 0 {
         return IN_USE;
@@ -69,7 +70,7 @@ pub extern "C" fn vandrexu_host_read(
     blocks: u32,
 ) -> u32
     ensures no_handle { host.old.held.host ≡ None → (result ≡ 101) × (host.new.held.host ≡ None) }
-    ensures starts { (h : HostState) → host.old.held.host ≡ Some h → KeepsHost host.new.held.host (λ i. StartTells h i
+    ensures starts { (h : HostState) → host.old.held.host ≡ Some h → Keeps host.new.held.host (λ i. StartTells h i
         (request_of (acwu_of h.driver) (area_of h.driver) Op.Read lba (512 * blocks)) (CallData.One []) result) }
 {
     let Some(mut owned) = take_host(alloc, host) else {
@@ -89,7 +90,7 @@ pub extern "C" fn vandrexu_host_write_zeroes(
     blocks: u32,
 ) -> u32
     ensures no_handle { host.old.held.host ≡ None → (result ≡ 101) × (host.new.held.host ≡ None) }
-    ensures starts { (h : HostState) → host.old.held.host ≡ Some h → KeepsHost host.new.held.host (λ i. StartTells h i
+    ensures starts { (h : HostState) → host.old.held.host ≡ Some h → Keeps host.new.held.host (λ i. StartTells h i
         (request_of (acwu_of h.driver) (area_of h.driver) Op.WriteZeroes lba (512 * blocks)) (CallData.One [])
         result) }
 {
@@ -110,7 +111,7 @@ pub extern "C" fn vandrexu_host_write(
     contents: &[u8],
 ) -> u32
     ensures no_handle { host.old.held.host ≡ None → (result ≡ 101) × (host.new.held.host ≡ None) }
-    ensures starts { (h : HostState) → host.old.held.host ≡ Some h → KeepsHost host.new.held.host (λ i. StartTells h i
+    ensures starts { (h : HostState) → host.old.held.host ≡ Some h → Keeps host.new.held.host (λ i. StartTells h i
         (request_of (acwu_of h.driver) (area_of h.driver) Op.Write lba (length contents.now))
         (CallData.One contents.now) result) }
 {
@@ -132,7 +133,7 @@ pub extern "C" fn vandrexu_host_compare(
     contents: &[u8],
 ) -> u32
     ensures no_handle { host.old.held.host ≡ None → (result ≡ 101) × (host.new.held.host ≡ None) }
-    ensures starts { (h : HostState) → host.old.held.host ≡ Some h → KeepsHost host.new.held.host (λ i. StartTells h i
+    ensures starts { (h : HostState) → host.old.held.host ≡ Some h → Keeps host.new.held.host (λ i. StartTells h i
         (request_of (acwu_of h.driver) (area_of h.driver) Op.Compare lba (length contents.now))
         (CallData.One contents.now) result) }
 {
@@ -155,7 +156,7 @@ pub extern "C" fn vandrexu_host_compare_and_write(
     desired: &[u8],
 ) -> u32
     ensures no_handle { host.old.held.host ≡ None → (result ≡ 101) × (host.new.held.host ≡ None) }
-    ensures starts { (h : HostState) → host.old.held.host ≡ Some h → KeepsHost host.new.held.host (λ i. StartTells h i
+    ensures starts { (h : HostState) → host.old.held.host ≡ Some h → Keeps host.new.held.host (λ i. StartTells h i
         (pair_request_of (acwu_of h.driver) (area_of h.driver) lba (length expected.now) (length desired.now))
         (CallData.Two expected.now desired.now) result) }
 {
@@ -181,7 +182,7 @@ pub extern "C" fn vandrexu_host_poll(
     ensures no_handle { host.old.held.host ≡ None →
         (result ≡ 101) × (host.new.held.host ≡ None) × (reply.new ≡ reply.old) }
     ensures polls { (h : HostState) → host.old.held.host ≡ Some h →
-        KeepsHost host.new.held.host (λ i. PollTells h i result reply.new) }
+        Keeps host.new.held.host (λ i. PollTells h i result reply.new) }
 {
     let Some(mut owned) = take_host(alloc, host) else {
         return NO_HANDLE;
@@ -212,13 +213,7 @@ pub extern "C" fn vandrexu_host_data(
     let Some(owned) = take_host(alloc, host) else {
         return NO_HANDLE;
     };
-    let count = owned.as_ref().payload.len();
-    *needed = count;
-    if out.len() < count {
-        put_host(host, owned);
-        return TOO_SMALL;
-    }
-    out[..count].copy_from_slice(owned.as_ref().payload.as_slice());
+    let fit = fits(owned.as_ref().payload.as_slice(), out, needed);
     put_host(host, owned);
-    0
+    if fit { 0 } else { TOO_SMALL }
 }

@@ -10,14 +10,17 @@ use crate::host::DrivenHost;
 use crate::host_handle::{HostHandle, put_host};
 use c_handles::numbers::NO_MEMORY;
 use c_handles::{Disk, give_driver, take_back};
-use driver_cas::{Driver, OwnPort};
+use driver_cas::{Driver, SharedPort};
 use nvme_model::array::Range;
 use std::alloc::Global;
 
 // A host in a box; the driver, where memory is refused.
-fn host_of(alloc: Global, driver: Driver<OwnPort>) -> Result<Box<DrivenHost>, Driver<OwnPort>>
-    ensures made { IfOk result (λ b. IsHostOver driver b.value) }
-    ensures back { IfErr result (λ d. d ≡ driver) }
+fn host_of(
+    alloc: Global,
+    driver: Driver<SharedPort<'static>>,
+) -> Result<Box<DrivenHost>, Driver<SharedPort<'static>>>
+    ensures made { IfOk result (λ b. IsHostOver driver.entry b.value) }
+    ensures back { IfErr result (λ d. d ≡ driver.entry) }
 {
     let host = DrivenHost {
         driver,

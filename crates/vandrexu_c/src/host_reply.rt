@@ -5,6 +5,20 @@ ghost use Rattle.vandrexu_c.specs.HostReplies.{done_kind, failed_reply, plain_re
 
 use driver_cas::{Fault, Poll, Reply};
 
+pub(crate) const PENDING: u32 = 1;
+
+const READ: u32 = 2;
+
+const WRITTEN: u32 = 3;
+
+const EQUAL: u32 = 4;
+
+const DIFFERS: u32 = 5;
+
+const SWAPPED: u32 = 6;
+
+const FAILED: u32 = 7;
+
 /// What became of a call.
 #[repr(C)]
 #[derive(Clone, Copy)]
@@ -33,11 +47,11 @@ fn kind_in(reply: &Reply) -> u32
     ensures { result ≡ done_kind reply.now }
 {
     match reply {
-        Reply::Read(_) => 2,
-        Reply::Written => 3,
-        Reply::Equal => 4,
-        Reply::Differs => 5,
-        Reply::Swapped => 6,
+        Reply::Read(_) => READ,
+        Reply::Written => WRITTEN,
+        Reply::Equal => EQUAL,
+        Reply::Differs => DIFFERS,
+        Reply::Swapped => SWAPPED,
     }
 }
 
@@ -48,9 +62,15 @@ fn failed_in(fault: Fault) -> HostReply
         Fault::Status(status) => HostReply {
             sct: status.sct(),
             sc: status.sc(),
-            ..plain(7)
+            ..plain(FAILED)
         },
-        _ => plain(7),
+        Fault::Length
+        | Fault::TooLong
+        | Fault::RingFull
+        | Fault::Busy
+        | Fault::NoMemory
+        | Fault::SlotArea
+        | Fault::NoSerial => plain(FAILED),
     }
 }
 
@@ -59,7 +79,7 @@ pub(crate) fn reply_in<P>(polled: &Poll<P>) -> HostReply
     ensures { result ≡ host_reply_of polled.now }
 {
     match polled {
-        Poll::Pending(_) | Poll::Later(_, _) => plain(1),
+        Poll::Pending(_) | Poll::Later(_, _) => plain(PENDING),
         Poll::Done(reply) => plain(kind_in(reply)),
         Poll::Failed(fault) => failed_in(*fault),
     }

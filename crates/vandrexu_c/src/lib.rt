@@ -7,6 +7,7 @@ mod batch;
 mod checker;
 mod configuration;
 mod controller;
+mod copying;
 mod disk_calls;
 mod held;
 mod host;

@@ -1,10 +1,10 @@
 //! What the handle of a checker owns, and that handle: it lies in the caller's memory, and owns a checker or nothing.
 
-ghost use Rattle.std.specs.Prelude.{◌≡◌, ◌<◌, MatchOption, None, Option, Some};
+ghost use Rattle.std.specs.Prelude.{◌≡◌, MatchOption, None, Option, Some};
+ghost use Rattle.c_handles.specs.Owned.{mark};
 ghost use Rattle.history_check.specs.Kept.{CheckerRun};
-ghost use Rattle.vandrexu_c.specs.Checkers.{checker_mark};
 
-use c_handles::Parts;
+use c_handles::Owner;
 use history_check::Checker;
 use std::alloc::Global;
 use std::marker::{Model, Send};
@@ -32,38 +32,29 @@ pub struct HeldChecker {
 }
 
 impl Model for HeldChecker {
-    ghost use Rattle.vandrexu_c.specs.OwnedChecker.{owned_checker};
+    ghost use Rattle.c_handles.specs.Owned.{owned};
+    ghost use Rattle.vandrexu_c.specs.contracts.owned_checker.OwnedChecker.{the_row};
 
-    ghost also_owns = { λ h. owned_checker h.at h.run };
+    ghost also_owns = { λ h. owned the_row h.at h.run };
 }
 
 // A handle may be used on another thread than the one that made it.
 unsafe impl Send for HeldChecker {}
 
 impl HeldChecker {
-    pub(crate) fn none() -> HeldChecker
-        ensures { result.run ≡ None }
+    fn of(owner: Owner<OwnedChecker>) -> HeldChecker
+        ensures { result.run ≡ owner.value }
     {
-        HeldChecker {
-            at: std::ptr::null_mut(),
-        }
+        let Owner { at } = owner;
+        HeldChecker { at: at as *mut u8 }
     }
 
-    pub(crate) fn of(parts: Parts<OwnedChecker, Global>) -> HeldChecker
-        ensures { result.run ≡ Some parts.value }
-    {
-        let Parts { ptr, alloc: _ } = parts;
-        HeldChecker { at: ptr as *mut u8 }
-    }
-
-    pub(crate) fn into_parts(self, alloc: Global) -> Parts<OwnedChecker, Global>
-        requires { 0 < checker_mark self.run }
-        ensures { self.run ≡ Some result.value }
+    fn into_owner(self) -> Owner<OwnedChecker>
+        ensures { result.value ≡ self.run }
     {
         let HeldChecker { at } = self;
-        Parts {
-            ptr: at as *mut OwnedChecker,
-            alloc,
+        Owner {
+            at: at as *mut OwnedChecker,
         }
     }
 }
@@ -73,24 +64,20 @@ impl HeldChecker {
 pub struct CheckerHandle {
     pub(crate) held: HeldChecker,
     pub(crate) live: u32,
-    ghost marked: { live ≡ checker_mark held.run },
+    ghost marked: { live ≡ mark held.run },
 }
 
 // Takes the checker out of a handle.
-#[tactic(auto, using(crate::proofs::Marks::no_checker_of))]
 pub(crate) fn take_checker(alloc: Global, handle: &mut CheckerHandle) -> Option<Box<OwnedChecker>>
     ensures value { MatchOption result (handle.old.held.run ≡ None) (λ b. handle.old.held.run ≡ Some b.value) }
     ensures emptied { handle.new.held.run ≡ None }
 {
     let empty = CheckerHandle {
-        held: HeldChecker::none(),
+        held: HeldChecker::of(Owner::none()),
         live: 0,
     };
     let CheckerHandle { held, live } = std::mem::replace(handle, empty);
-    if live == 0 {
-        return None;
-    }
-    Some(held.into_parts(alloc).into_box())
+    held.into_owner().into_box(alloc, live)
 }
 
 // Puts a checker into a handle that has none.
@@ -99,7 +86,7 @@ pub(crate) fn put_checker(handle: &mut CheckerHandle, owned: Box<OwnedChecker>)
     ensures { handle.new.held.run ≡ Some owned.value }
 {
     let full = CheckerHandle {
-        held: HeldChecker::of(Parts::of(owned)),
+        held: HeldChecker::of(Owner::of(owned)),
         live: 1,
     };
     let CheckerHandle { held: _, live: _ } = std::mem::replace(handle, full);

@@ -7,7 +7,6 @@ ghost use Rattle.vandrexu_c.specs.Steps.{GivesReap, GivesStep, TellsBlocked, Tel
 use crate::answers::{
     BlockedStep, FetchedWork, GrantedUnit, blocked_in, granted_in, refused_in, work_in,
 };
-use controller_interface::{Answer, Step};
 use nvme_model::submission::Submissions;
 use std::marker::Model;
 use step_core::Core;
@@ -32,9 +31,9 @@ impl OwnedController {
     pub(crate) fn publish(&mut self, queue: u16, batch: Submissions) -> Result<(), u32>
         ensures gives { GivesStep self.old (TheStep.Publish queue batch) (λ _ _. Unit {0}) result self.new }
     {
-        match self.core.step(Step::Publish(queue, batch)) {
-            Ok(_) => Ok(()),
-            Err(refused) => Err(refused_in(&refused)),
+        match self.core.publish(queue, batch) {
+            Ok(()) => Ok(()),
+            Err(back) => Err(refused_in(back.0)),
         }
     }
 
@@ -42,13 +41,9 @@ impl OwnedController {
     pub(crate) fn fetch(&mut self, queue: u16) -> Result<FetchedWork, u32>
         ensures gives { GivesStep self.old (TheStep.Fetch queue) TellsFetched result self.new }
     {
-        let answer = match self.core.step(Step::Fetch(queue)) {
-            Ok(answer) => answer,
-            Err(refused) => return Err(refused_in(&refused)),
-        };
-        match answer {
-            Answer::Fetched(work) => Ok(work_in(&work)),
-            _ => unreachable!(),
+        match self.core.fetch(queue) {
+            Ok(work) => Ok(work_in(&work)),
+            Err(why) => Err(refused_in(why)),
         }
     }
 
@@ -56,13 +51,9 @@ impl OwnedController {
     pub(crate) fn grant(&mut self, ticket: u64) -> Result<GrantedUnit, u32>
         ensures gives { GivesStep self.old (TheStep.Grant ticket) TellsGranted result self.new }
     {
-        let answer = match self.core.step(Step::Grant(ticket)) {
-            Ok(answer) => answer,
-            Err(refused) => return Err(refused_in(&refused)),
-        };
-        match answer {
-            Answer::Granted(unit, range, mode) => Ok(granted_in(unit, range, mode)),
-            _ => unreachable!(),
+        match self.core.grant(ticket) {
+            Ok(granted) => Ok(granted_in(granted)),
+            Err(why) => Err(refused_in(why)),
         }
     }
 
@@ -70,10 +61,9 @@ impl OwnedController {
     pub(crate) fn block(&mut self, ticket: u64) -> Result<BlockedStep, u32>
         ensures gives { GivesStep self.old (TheStep.Block ticket) TellsBlocked result self.new }
     {
-        match self.core.step(Step::Block(ticket)) {
-            Ok(Answer::Blocked(done)) => Ok(blocked_in(&done)),
-            Ok(_) => unreachable!(),
-            Err(refused) => Err(refused_in(&refused)),
+        match self.core.block(ticket) {
+            Ok(done) => Ok(blocked_in(&done)),
+            Err(why) => Err(refused_in(why)),
         }
     }
 
@@ -81,13 +71,9 @@ impl OwnedController {
     pub(crate) fn post(&mut self, ticket: u64) -> Result<[u8; 16], u32>
         ensures gives { GivesStep self.old (TheStep.Post ticket) TellsPosted result self.new }
     {
-        let answer = match self.core.step(Step::Post(ticket)) {
-            Ok(answer) => answer,
-            Err(refused) => return Err(refused_in(&refused)),
-        };
-        match answer {
-            Answer::Posted(cqe) => Ok(cqe),
-            _ => unreachable!(),
+        match self.core.post(ticket) {
+            Ok(cqe) => Ok(cqe),
+            Err(why) => Err(refused_in(why)),
         }
     }
 
@@ -95,13 +81,13 @@ impl OwnedController {
     pub(crate) fn reap(&mut self, queue: u16) -> Result<[u8; 16], u32>
         ensures gives { GivesReap self.old (TheStep.Reap queue) result self.new }
     {
-        match self.core.step(Step::Reap(queue)) {
-            Ok(Answer::Reaped { cqe, payload }) => {
-                self.payload = payload.into_vec();
+        match self.core.reap(queue) {
+            Ok(completion) => {
+                let cqe = completion.cqe;
+                self.payload = completion.payload.into_vec();
                 Ok(cqe)
             }
-            Ok(_) => unreachable!(),
-            Err(refused) => Err(refused_in(&refused)),
+            Err(why) => Err(refused_in(why)),
         }
     }
 }

@@ -9,7 +9,7 @@ use crate::slot_hold::{Hold, KeptClaim, KeptSlot};
 use crate::slot_host::SlotHost;
 use crate::slot_numbers::{BAD_NAME, HELD, IN_CALL, NO_SLOT, NOT_HELD, TOOK_OVER};
 use crate::under_way::UnderWay;
-use driver_cas::{Fault, OwnPort};
+use driver_cas::{Fault, SharedPort};
 use nvme_model::Name;
 use slot_alloc::{Claim, Claiming, Releasing};
 use slot_takeover::{
@@ -90,9 +90,9 @@ pub(crate) fn put_at(holds: &mut Vec<Hold>, slot: u32, hold: Hold) -> Hold
     mem::replace(&mut holds[slot as usize], hold)
 }
 
-fn keep_claim(under_way: &mut UnderWay, begun: Result<Claiming<OwnPort>, Fault>) -> u32
+fn keep_claim(under_way: &mut UnderWay, begun: Result<Claiming<SharedPort<'static>>, Fault>) -> u32
     requires { under_way.old ≡ calls.Nothing }
-    ensures { BeginTold calls.Claim begun result under_way.new }
+    ensures { BeginTold calls.Claim begun.entry result under_way.new }
 {
     match begun {
         Ok(claiming) => {
@@ -104,7 +104,7 @@ fn keep_claim(under_way: &mut UnderWay, begun: Result<Claiming<OwnPort>, Fault>)
 }
 
 // Whether a host has begun a takeover, by now.
-fn has_begun(took_over: bool, begun: &Result<TakingOver<OwnPort>, Fault>) -> bool
+fn has_begun(took_over: bool, begun: &Result<TakingOver<SharedPort<'static>>, Fault>) -> bool
     ensures { result ≡ took_over_by took_over begun.now }
 {
     match begun {
@@ -113,9 +113,12 @@ fn has_begun(took_over: bool, begun: &Result<TakingOver<OwnPort>, Fault>) -> boo
     }
 }
 
-fn keep_takeover(under_way: &mut UnderWay, begun: Result<TakingOver<OwnPort>, Fault>) -> u32
+fn keep_takeover(
+    under_way: &mut UnderWay,
+    begun: Result<TakingOver<SharedPort<'static>>, Fault>,
+) -> u32
     requires { under_way.old ≡ calls.Nothing }
-    ensures { BeginTold calls.Takeover begun result under_way.new }
+    ensures { BeginTold calls.Takeover begun.entry result under_way.new }
 {
     match begun {
         Ok(taking) => {
@@ -126,9 +129,12 @@ fn keep_takeover(under_way: &mut UnderWay, begun: Result<TakingOver<OwnPort>, Fa
     }
 }
 
-fn keep_holder(under_way: &mut UnderWay, begun: Result<ReadingHolder<OwnPort>, Fault>) -> u32
+fn keep_holder(
+    under_way: &mut UnderWay,
+    begun: Result<ReadingHolder<SharedPort<'static>>, Fault>,
+) -> u32
     requires { under_way.old ≡ calls.Nothing }
-    ensures { BeginTold calls.Holder begun result under_way.new }
+    ensures { BeginTold calls.Holder begun.entry result under_way.new }
 {
     match begun {
         Ok(reading) => {
@@ -144,12 +150,12 @@ fn keep_release(
     under_way: &mut UnderWay,
     holds: &mut Vec<Hold>,
     slot: u32,
-    begun: Result<Releasing<OwnPort>, (Claim, Fault)>,
+    begun: Result<Releasing<SharedPort<'static>>, (Claim, Fault)>,
 ) -> u32
     requires idle { under_way.old ≡ calls.Nothing }
     requires slot { slot < vec_len holds.old }
-    ensures told { ReleaseTold calls.Release begun result under_way.new }
-    ensures holds { holds.new.items ≡ claim_back holds.old.items slot begun }
+    ensures told { ReleaseTold calls.Release begun.entry result under_way.new }
+    ensures holds { holds.new.items ≡ claim_back holds.old.items slot begun.entry }
 {
     match begun {
         Ok(releasing) => {
@@ -168,12 +174,12 @@ fn keep_give_back(
     under_way: &mut UnderWay,
     holds: &mut Vec<Hold>,
     slot: u32,
-    begun: Result<GivingBack<OwnPort>, (HeldSlot, Fault)>,
+    begun: Result<GivingBack<SharedPort<'static>>, (HeldSlot, Fault)>,
 ) -> u32
     requires idle { under_way.old ≡ calls.Nothing }
     requires slot { slot < vec_len holds.old }
-    ensures told { ReleaseTold calls.GiveBack begun result under_way.new }
-    ensures holds { holds.new.items ≡ slot_back holds.old.items slot begun }
+    ensures told { ReleaseTold calls.GiveBack begun.entry result under_way.new }
+    ensures holds { holds.new.items ≡ slot_back holds.old.items slot begun.entry }
 {
     match begun {
         Ok(giving) => {
@@ -291,6 +297,7 @@ impl SlotHost {
             GiveBackBegins self.old self.new slot k.held result }
     {
         match put_at(&mut self.holds, slot, Hold::Nothing) {
+            // `release` has answered for a slot that the host hasn't.
             Hold::Nothing => unreachable!(),
             Hold::Claimed(kept) => self.release_claim(slot, kept.into_claim()),
             Hold::TakenOver(kept) => self.give_back(slot, kept.into_held()),

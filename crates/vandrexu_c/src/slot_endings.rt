@@ -3,6 +3,7 @@
 ghost use Rattle.std.specs.Prelude.{◌≡◌, List};
 ghost use Rattle.vandrexu_c.specs.Polls.{HasRoomFor, HasRoomToTake, IsTold};
 ghost use Rattle.vandrexu_c.specs.Polls.{claim_told, give_back_told, holder_told, release_told, takeover_told};
+ghost use Rattle.vandrexu_c.specs.SlotReplies.{plain_reply};
 ghost use Rattle.vandrexu_c.specs.declared.slot_hold.Hold.{Hold as TheHold};
 ghost use Rattle.vandrexu_c.specs.declared.under_way.UnderWay.TheVariants as calls;
 
@@ -12,29 +13,37 @@ use crate::slot_reply::{
     PENDING, RELEASED, SlotReply, TAKEN, failed_by, held_now, plain, told_holder,
 };
 use crate::under_way::UnderWay;
-use driver_cas::OwnPort;
+use driver_cas::SharedPort;
 use slot_alloc::{Progress, Released};
 use slot_takeover::{GivenBack, HolderPoll, TakeoverProgress};
+
+// The call goes on: it isn't answered, or this number says why it wasn't polled.
+fn go_on(under_way: &mut UnderWay, call: UnderWay, number: u32) -> (u32, SlotReply)
+    requires { under_way.old ≡ calls.Nothing }
+    ensures told { (result.0 ≡ number) × (result.1 ≡ plain_reply 1) }
+    ensures call { under_way.new ≡ call }
+{
+    *under_way = call;
+    (number, plain(PENDING))
+}
 
 /// Of a claim.
 pub(crate) fn end_claim(
     under_way: &mut UnderWay,
     holds: &mut Vec<Hold>,
-    progress: Progress<OwnPort>,
+    progress: Progress<SharedPort<'static>>,
 ) -> (u32, SlotReply)
     requires idle { under_way.old ≡ calls.Nothing }
     requires room { HasRoomFor progress holds.old.items }
-    ensures { IsTold (claim_told holds.old.items progress) result.0 result.1 under_way.new holds.new.items }
+    ensures { IsTold (claim_told holds.old.items progress.entry) result.0 result.1 under_way.new holds.new.items }
 {
     match progress {
-        Progress::Pending(claiming) => {
-            *under_way = UnderWay::Claim(claiming);
-            (0, plain(PENDING))
-        }
-        Progress::Later(fault, claiming) => {
-            *under_way = UnderWay::Claim(claiming);
-            (u32::from(fault.number()), plain(PENDING))
-        }
+        Progress::Pending(claiming) => go_on(under_way, UnderWay::Claim(claiming), 0),
+        Progress::Later(fault, claiming) => go_on(
+            under_way,
+            UnderWay::Claim(claiming),
+            u32::from(fault.number()),
+        ),
         Progress::Held(claim) => {
             let slot = claim.slot();
 
@@ -50,19 +59,21 @@ pub(crate) fn end_claim(
 }
 
 /// Of a release.
-pub(crate) fn end_release(under_way: &mut UnderWay, released: Released<OwnPort>) -> (u32, SlotReply)
+pub(crate) fn end_release(
+    under_way: &mut UnderWay,
+    released: Released<SharedPort<'static>>,
+) -> (u32, SlotReply)
     requires idle { under_way.old ≡ calls.Nothing }
-    ensures { (holds : List TheHold) → IsTold (release_told holds released) result.0 result.1 under_way.new holds }
+    ensures { (holds : List TheHold) →
+        IsTold (release_told holds released.entry) result.0 result.1 under_way.new holds }
 {
     match released {
-        Released::Pending(releasing) => {
-            *under_way = UnderWay::Release(releasing);
-            (0, plain(PENDING))
-        }
-        Released::Later(fault, releasing) => {
-            *under_way = UnderWay::Release(releasing);
-            (u32::from(fault.number()), plain(PENDING))
-        }
+        Released::Pending(releasing) => go_on(under_way, UnderWay::Release(releasing), 0),
+        Released::Later(fault, releasing) => go_on(
+            under_way,
+            UnderWay::Release(releasing),
+            u32::from(fault.number()),
+        ),
         Released::Released => (0, plain(RELEASED)),
         Released::Failed(fault) => (u32::from(fault.number()), failed_by(fault)),
     }
@@ -72,21 +83,19 @@ pub(crate) fn end_release(under_way: &mut UnderWay, released: Released<OwnPort>)
 pub(crate) fn end_takeover(
     under_way: &mut UnderWay,
     holds: &mut Vec<Hold>,
-    progress: TakeoverProgress<OwnPort>,
+    progress: TakeoverProgress<SharedPort<'static>>,
 ) -> (u32, SlotReply)
     requires idle { under_way.old ≡ calls.Nothing }
     requires room { HasRoomToTake progress holds.old.items }
-    ensures { IsTold (takeover_told holds.old.items progress) result.0 result.1 under_way.new holds.new.items }
+    ensures { IsTold (takeover_told holds.old.items progress.entry) result.0 result.1 under_way.new holds.new.items }
 {
     match progress {
-        TakeoverProgress::Pending(taking) => {
-            *under_way = UnderWay::Takeover(taking);
-            (0, plain(PENDING))
-        }
-        TakeoverProgress::Later(fault, taking) => {
-            *under_way = UnderWay::Takeover(taking);
-            (u32::from(fault.number()), plain(PENDING))
-        }
+        TakeoverProgress::Pending(taking) => go_on(under_way, UnderWay::Takeover(taking), 0),
+        TakeoverProgress::Later(fault, taking) => go_on(
+            under_way,
+            UnderWay::Takeover(taking),
+            u32::from(fault.number()),
+        ),
         TakeoverProgress::Held(held) => {
             let slot = held.slot();
             drop(put_at(holds, slot, Hold::TakenOver(KeptSlot { held })));
@@ -98,38 +107,40 @@ pub(crate) fn end_takeover(
 }
 
 /// Of a release of what was taken over.
-pub(crate) fn end_give_back(under_way: &mut UnderWay, given: GivenBack<OwnPort>) -> (u32, SlotReply)
+pub(crate) fn end_give_back(
+    under_way: &mut UnderWay,
+    given: GivenBack<SharedPort<'static>>,
+) -> (u32, SlotReply)
     requires idle { under_way.old ≡ calls.Nothing }
-    ensures { (holds : List TheHold) → IsTold (give_back_told holds given) result.0 result.1 under_way.new holds }
+    ensures { (holds : List TheHold) → IsTold (give_back_told holds given.entry) result.0 result.1 under_way.new holds }
 {
     match given {
-        GivenBack::Pending(giving) => {
-            *under_way = UnderWay::GiveBack(giving);
-            (0, plain(PENDING))
-        }
-        GivenBack::Later(fault, giving) => {
-            *under_way = UnderWay::GiveBack(giving);
-            (u32::from(fault.number()), plain(PENDING))
-        }
+        GivenBack::Pending(giving) => go_on(under_way, UnderWay::GiveBack(giving), 0),
+        GivenBack::Later(fault, giving) => go_on(
+            under_way,
+            UnderWay::GiveBack(giving),
+            u32::from(fault.number()),
+        ),
         GivenBack::Released => (0, plain(RELEASED)),
         GivenBack::Failed(fault) => (u32::from(fault.number()), failed_by(fault)),
     }
 }
 
 /// Of the question who holds a slot.
-pub(crate) fn end_holder(under_way: &mut UnderWay, polled: HolderPoll<OwnPort>) -> (u32, SlotReply)
+pub(crate) fn end_holder(
+    under_way: &mut UnderWay,
+    polled: HolderPoll<SharedPort<'static>>,
+) -> (u32, SlotReply)
     requires idle { under_way.old ≡ calls.Nothing }
-    ensures { (holds : List TheHold) → IsTold (holder_told holds polled) result.0 result.1 under_way.new holds }
+    ensures { (holds : List TheHold) → IsTold (holder_told holds polled.entry) result.0 result.1 under_way.new holds }
 {
     match polled {
-        HolderPoll::Pending(reading) => {
-            *under_way = UnderWay::Holder(reading);
-            (0, plain(PENDING))
-        }
-        HolderPoll::Later(fault, reading) => {
-            *under_way = UnderWay::Holder(reading);
-            (u32::from(fault.number()), plain(PENDING))
-        }
+        HolderPoll::Pending(reading) => go_on(under_way, UnderWay::Holder(reading), 0),
+        HolderPoll::Later(fault, reading) => go_on(
+            under_way,
+            UnderWay::Holder(reading),
+            u32::from(fault.number()),
+        ),
         HolderPoll::Done(holder) => (0, told_holder(holder)),
         HolderPoll::Failed(fault) => (u32::from(fault.number()), failed_by(fault)),
     }

@@ -1,14 +1,14 @@
 //! A slot host: made, freed, its calls begun and polled.
 
 ghost use Rattle.std.specs.Prelude.{◌≡◌, None, Some};
+ghost use Rattle.c_handles.specs.Owned.{Keeps};
 ghost use Rattle.nvme_model.specs.declared.array.Range.{Range};
-ghost use Rattle.c_handles.specs.Disks.{KeepsDisk};
 ghost use Rattle.c_handles.specs.Handles.{disk_in};
 ghost use Rattle.c_handles.specs.declared.disk.Disk.{Disk as TheDisk};
 ghost use Rattle.vandrexu_c.specs.Begins.{AnyClaimTells, ClaimTells, HolderTells, ReleaseTells, TakeoverTells};
 ghost use Rattle.vandrexu_c.specs.SlotMaking.{MakesSlotHost, given_area};
 ghost use Rattle.vandrexu_c.specs.Polls.{PollTells};
-ghost use Rattle.vandrexu_c.specs.SlotStates.{KeepsSlotHost, SlotState};
+ghost use Rattle.vandrexu_c.specs.SlotStates.{SlotState};
 
 use crate::slot_handle::{SlotHandle, put_host, take_host};
 use crate::slot_making::{area_given, give_into};
@@ -25,7 +25,7 @@ use std::alloc::Global;
 /// as the disk was made for; or 11 where memory is refused; or 101 where the disk's handle owns nothing; or 102 where
 /// the host's owns one. But for 0, both are then as before.
 #[unsafe(no_mangle)]
-#[tactic(auto, using(crate::proofs::SlotMarks::no_slot_host_of))]
+#[tactic(auto, using(c_handles::proofs::Marks::none_of))]
 pub extern "C" fn vandrexu_slot_host_new(
     alloc: Global,
     disk: &mut DiskHandle,
@@ -44,7 +44,7 @@ pub extern "C" fn vandrexu_slot_host_new(
         (result ≡ 123) × (host.new.held.host ≡ None) × (disk_in disk.new ≡ Some d) }
     ensures makes { (d : TheDisk) (a : Range) → host.old.held.host ≡ None → disk_in disk.old ≡ Some d →
         given_area first count ≡ Some a →
-        KeepsDisk (disk_in disk.new) (λ e. MakesSlotHost d e number queue a result host.new.held.host) }
+        Keeps (disk_in disk.new) (λ e. MakesSlotHost d e number queue a result host.new.held.host) }
 {
     if host.live != 0 {
         return IN_USE;
@@ -76,7 +76,7 @@ pub extern "C" fn vandrexu_slot_host_free(alloc: Global, host: &mut SlotHandle)
 pub extern "C" fn vandrexu_slot_claim(alloc: Global, host: &mut SlotHandle, slot: u32) -> u32
     ensures no_handle { host.old.held.host ≡ None → (result ≡ 101) × (host.new.held.host ≡ None) }
     ensures claims { (h : SlotState) → host.old.held.host ≡ Some h →
-        KeepsSlotHost host.new.held.host (λ j. ClaimTells h j slot result) }
+        Keeps host.new.held.host (λ j. ClaimTells h j slot result) }
 {
     let Some(mut owned) = take_host(alloc, host) else {
         return NO_HANDLE;
@@ -93,7 +93,7 @@ pub extern "C" fn vandrexu_slot_claim(alloc: Global, host: &mut SlotHandle, slot
 pub extern "C" fn vandrexu_slot_claim_any(alloc: Global, host: &mut SlotHandle) -> u32
     ensures no_handle { host.old.held.host ≡ None → (result ≡ 101) × (host.new.held.host ≡ None) }
     ensures claims { (h : SlotState) → host.old.held.host ≡ Some h →
-        KeepsSlotHost host.new.held.host (λ j. AnyClaimTells h j result) }
+        Keeps host.new.held.host (λ j. AnyClaimTells h j result) }
 {
     let Some(mut owned) = take_host(alloc, host) else {
         return NO_HANDLE;
@@ -110,7 +110,7 @@ pub extern "C" fn vandrexu_slot_claim_any(alloc: Global, host: &mut SlotHandle) 
 pub extern "C" fn vandrexu_slot_release(alloc: Global, host: &mut SlotHandle, slot: u32) -> u32
     ensures no_handle { host.old.held.host ≡ None → (result ≡ 101) × (host.new.held.host ≡ None) }
     ensures releases { (h : SlotState) → host.old.held.host ≡ Some h →
-        KeepsSlotHost host.new.held.host (λ j. ReleaseTells h j slot result) }
+        Keeps host.new.held.host (λ j. ReleaseTells h j slot result) }
 {
     let Some(mut owned) = take_host(alloc, host) else {
         return NO_HANDLE;
@@ -132,7 +132,7 @@ pub extern "C" fn vandrexu_slot_take_over(
     serial: u64,
 ) -> u32
     ensures no_handle { host.old.held.host ≡ None → (result ≡ 101) × (host.new.held.host ≡ None) }
-    ensures takes { (h : SlotState) → host.old.held.host ≡ Some h → KeepsSlotHost host.new.held.host
+    ensures takes { (h : SlotState) → host.old.held.host ≡ Some h → Keeps host.new.held.host
         (λ j. TakeoverTells h j slot (record { host = dead; serial = serial }) result) }
 {
     let Some(mut owned) = take_host(alloc, host) else {
@@ -149,7 +149,7 @@ pub extern "C" fn vandrexu_slot_take_over(
 pub extern "C" fn vandrexu_slot_ask_holder(alloc: Global, host: &mut SlotHandle, slot: u32) -> u32
     ensures no_handle { host.old.held.host ≡ None → (result ≡ 101) × (host.new.held.host ≡ None) }
     ensures asks { (h : SlotState) → host.old.held.host ≡ Some h →
-        KeepsSlotHost host.new.held.host (λ j. HolderTells h j slot result) }
+        Keeps host.new.held.host (λ j. HolderTells h j slot result) }
 {
     let Some(mut owned) = take_host(alloc, host) else {
         return NO_HANDLE;
@@ -171,7 +171,7 @@ pub extern "C" fn vandrexu_slot_poll(
     ensures no_handle { host.old.held.host ≡ None →
         (result ≡ 101) × (host.new.held.host ≡ None) × (reply.new ≡ reply.old) }
     ensures polls { (h : SlotState) → host.old.held.host ≡ Some h →
-        KeepsSlotHost host.new.held.host (λ j. PollTells h j result reply.new) }
+        Keeps host.new.held.host (λ j. PollTells h j result reply.new) }
 {
     let Some(mut owned) = take_host(alloc, host) else {
         return NO_HANDLE;

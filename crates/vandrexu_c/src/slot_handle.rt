@@ -1,12 +1,13 @@
 //! The handle of a slot host: it lies in the caller's memory, and owns a slot host or nothing.
 
 ghost use Rattle.std.specs.Coded.{coded_option};
-ghost use Rattle.std.specs.Prelude.{◌≡◌, ◌<◌, MatchOption, None, Option, Some};
-ghost use Rattle.vandrexu_c.specs.SlotStates.{SlotState, slot_host_mark};
+ghost use Rattle.std.specs.Prelude.{◌≡◌, MatchOption, None, Option, Some};
+ghost use Rattle.c_handles.specs.Owned.{mark};
+ghost use Rattle.vandrexu_c.specs.SlotStates.{SlotState};
 ghost use Rattle.vandrexu_c.specs.contracts.slot_host.SlotHost.{the_row};
 
 use crate::slot_host::SlotHost;
-use c_handles::Parts;
+use c_handles::Owner;
 use std::alloc::Global;
 use std::marker::{Model, Send};
 
@@ -19,38 +20,29 @@ pub struct HeldSlotHost {
 }
 
 impl Model for HeldSlotHost {
-    ghost use Rattle.vandrexu_c.specs.OwnedSlotHost.{owned_slot_host};
+    ghost use Rattle.c_handles.specs.Owned.{owned};
+    ghost use Rattle.vandrexu_c.specs.contracts.slot_host.SlotHost.{the_row};
 
-    ghost also_owns = { λ h. owned_slot_host h.at h.host };
+    ghost also_owns = { λ h. owned the_row h.at h.host };
 }
 
 // A handle may be used on another thread than the one that made it.
 unsafe impl Send for HeldSlotHost {}
 
 impl HeldSlotHost {
-    pub(crate) fn none() -> HeldSlotHost
-        ensures { result.host ≡ None }
+    fn of(owner: Owner<SlotHost>) -> HeldSlotHost
+        ensures { result.host ≡ owner.value }
     {
-        HeldSlotHost {
-            at: std::ptr::null_mut(),
-        }
+        let Owner { at } = owner;
+        HeldSlotHost { at: at as *mut u8 }
     }
 
-    pub(crate) fn of(parts: Parts<SlotHost, Global>) -> HeldSlotHost
-        ensures { result.host ≡ Some parts.value }
-    {
-        let Parts { ptr, alloc: _ } = parts;
-        HeldSlotHost { at: ptr as *mut u8 }
-    }
-
-    pub(crate) fn into_parts(self, alloc: Global) -> Parts<SlotHost, Global>
-        requires { 0 < slot_host_mark self.host }
-        ensures { self.host ≡ Some result.value }
+    fn into_owner(self) -> Owner<SlotHost>
+        ensures { result.value ≡ self.host }
     {
         let HeldSlotHost { at } = self;
-        Parts {
-            ptr: at as *mut SlotHost,
-            alloc,
+        Owner {
+            at: at as *mut SlotHost,
         }
     }
 }
@@ -60,24 +52,20 @@ impl HeldSlotHost {
 pub struct SlotHandle {
     pub(crate) held: HeldSlotHost,
     pub(crate) live: u32,
-    ghost marked: { live ≡ slot_host_mark held.host },
+    ghost marked: { live ≡ mark held.host },
 }
 
 // Takes the host out of a handle.
-#[tactic(auto, using(crate::proofs::SlotMarks::no_slot_host_of))]
 pub(crate) fn take_host(alloc: Global, handle: &mut SlotHandle) -> Option<Box<SlotHost>>
     ensures value { MatchOption result (handle.old.held.host ≡ None) (λ b. handle.old.held.host ≡ Some b.value) }
     ensures emptied { handle.new.held.host ≡ None }
 {
     let empty = SlotHandle {
-        held: HeldSlotHost::none(),
+        held: HeldSlotHost::of(Owner::none()),
         live: 0,
     };
     let SlotHandle { held, live } = std::mem::replace(handle, empty);
-    if live == 0 {
-        return None;
-    }
-    Some(held.into_parts(alloc).into_box())
+    held.into_owner().into_box(alloc, live)
 }
 
 // Puts a host into a handle that has none.
@@ -86,7 +74,7 @@ pub(crate) fn put_host(handle: &mut SlotHandle, host: Box<SlotHost>)
     ensures { handle.new.held.host ≡ Some host.value }
 {
     let full = SlotHandle {
-        held: HeldSlotHost::of(Parts::of(host)),
+        held: HeldSlotHost::of(Owner::of(host)),
         live: 1,
     };
     let SlotHandle { held: _, live: _ } = std::mem::replace(handle, full);

@@ -2,14 +2,14 @@
 
 use crate::slot_hold::Hold;
 use crate::under_way::UnderWay;
-use driver_cas::{Driver, OwnPort};
+use driver_cas::{Driver, SharedPort};
 use slot_alloc::Slots;
 use std::marker::Model;
 
 /// A driver, its slots, what the host has at each, and its call.
 #[derive(Drop)]
 pub struct SlotHost {
-    pub(crate) driver: Driver<OwnPort>,
+    pub(crate) driver: Driver<SharedPort<'static>>,
     // Of the host.
     pub(crate) number: u32,
     pub(crate) slots: Slots,

@@ -12,7 +12,7 @@ use crate::slot_host::SlotHost;
 use crate::under_way::UnderWay;
 use c_handles::numbers::NO_MEMORY;
 use c_handles::{Disk, give_driver, take_back};
-use driver_cas::{Driver, OwnPort};
+use driver_cas::{Driver, SharedPort};
 use nvme_model::array::Range;
 use slot_alloc::Slots;
 use std::alloc::{AllocError as NoMemory, Global};
@@ -46,16 +46,16 @@ fn nothing_held(alloc: Global, count: u32) -> Result<Vec<Hold>, NoMemory>
 // A host in a box; the driver, where memory is refused.
 fn host_of(
     alloc: Global,
-    driver: Driver<OwnPort>,
+    driver: Driver<SharedPort<'static>>,
     number: u32,
     area: Range,
     holds: Vec<Hold>,
-) -> Result<Box<SlotHost>, Driver<OwnPort>>
+) -> Result<Box<SlotHost>, Driver<SharedPort<'static>>>
     requires driver { IsFreshDriver number area driver }
     requires some { 1 ≤ area.blocks }
     requires holds { AreNothing holds.items area.blocks }
-    ensures made { IfOk result (λ b. IsHostOver driver area b.value) }
-    ensures back { IfErr result (λ d. d ≡ driver) }
+    ensures made { IfOk result (λ b. IsHostOver driver.entry area b.value) }
+    ensures back { IfErr result (λ d. d ≡ driver.entry) }
 {
     let host = SlotHost {
         driver,

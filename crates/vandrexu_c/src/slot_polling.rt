@@ -8,7 +8,7 @@ use crate::slot_host::SlotHost;
 use crate::slot_numbers::NO_CALL;
 use crate::slot_reply::{PENDING, SlotReply, plain};
 use crate::under_way::UnderWay;
-use driver_cas::OwnPort;
+use driver_cas::SharedPort;
 use slot_alloc::{Claiming, Releasing, poll_claim, poll_release};
 use slot_takeover::{
     GivingBack, ReadingHolder, TakingOver, poll_given_back, poll_holder, poll_takeover,
@@ -20,46 +20,46 @@ impl SlotHost {
     ghost use Rattle.vandrexu_c.specs.Polls.{TakeoverPolls};
     ghost use Rattle.vandrexu_c.specs.SlotStates.{IsUnderWay};
 
-    fn poll_claim(&mut self, claiming: Claiming<OwnPort>) -> (u32, SlotReply)
+    fn poll_claim(&mut self, claiming: Claiming<SharedPort<'static>>) -> (u32, SlotReply)
         requires idle { self.old.under_way ≡ calls.Nothing }
         requires of { IsUnderWay self.old.driver self.old.took_over (calls.Claim claiming) }
-        ensures { ClaimPolls self.old self.new claiming result.0 result.1 }
+        ensures { ClaimPolls self.old self.new claiming.entry result.0 result.1 }
     {
         let progress = poll_claim(&mut self.driver, claiming);
         end_claim(&mut self.under_way, &mut self.holds, progress)
     }
 
-    fn poll_release(&mut self, releasing: Releasing<OwnPort>) -> (u32, SlotReply)
+    fn poll_release(&mut self, releasing: Releasing<SharedPort<'static>>) -> (u32, SlotReply)
         requires idle { self.old.under_way ≡ calls.Nothing }
         requires of { IsUnderWay self.old.driver self.old.took_over (calls.Release releasing) }
-        ensures { ReleasePolls self.old self.new releasing result.0 result.1 }
+        ensures { ReleasePolls self.old self.new releasing.entry result.0 result.1 }
     {
         let released = poll_release(&mut self.driver, releasing);
         end_release(&mut self.under_way, released)
     }
 
-    fn poll_takeover(&mut self, taking: TakingOver<OwnPort>) -> (u32, SlotReply)
+    fn poll_takeover(&mut self, taking: TakingOver<SharedPort<'static>>) -> (u32, SlotReply)
         requires idle { self.old.under_way ≡ calls.Nothing }
         requires of { IsUnderWay self.old.driver self.old.took_over (calls.Takeover taking) }
-        ensures { TakeoverPolls self.old self.new taking result.0 result.1 }
+        ensures { TakeoverPolls self.old self.new taking.entry result.0 result.1 }
     {
         let progress = poll_takeover(&mut self.driver, taking);
         end_takeover(&mut self.under_way, &mut self.holds, progress)
     }
 
-    fn poll_give_back(&mut self, giving: GivingBack<OwnPort>) -> (u32, SlotReply)
+    fn poll_give_back(&mut self, giving: GivingBack<SharedPort<'static>>) -> (u32, SlotReply)
         requires idle { self.old.under_way ≡ calls.Nothing }
         requires of { IsUnderWay self.old.driver self.old.took_over (calls.GiveBack giving) }
-        ensures { GiveBackPolls self.old self.new giving result.0 result.1 }
+        ensures { GiveBackPolls self.old self.new giving.entry result.0 result.1 }
     {
         let given = poll_given_back(&mut self.driver, giving);
         end_give_back(&mut self.under_way, given)
     }
 
-    fn poll_holder(&mut self, reading: ReadingHolder<OwnPort>) -> (u32, SlotReply)
+    fn poll_holder(&mut self, reading: ReadingHolder<SharedPort<'static>>) -> (u32, SlotReply)
         requires idle { self.old.under_way ≡ calls.Nothing }
         requires of { IsUnderWay self.old.driver self.old.took_over (calls.Holder reading) }
-        ensures { HolderPolls self.old self.new reading result.0 result.1 }
+        ensures { HolderPolls self.old self.new reading.entry result.0 result.1 }
     {
         let polled = poll_holder(&mut self.driver, reading);
         end_holder(&mut self.under_way, polled)

@@ -75,7 +75,13 @@ pub(crate) fn failed_by(fault: Fault) -> SlotReply
             sc: status.sc(),
             ..plain(FAILED)
         },
-        _ => plain(FAILED),
+        Fault::Length
+        | Fault::TooLong
+        | Fault::RingFull
+        | Fault::Busy
+        | Fault::NoMemory
+        | Fault::SlotArea
+        | Fault::NoSerial => plain(FAILED),
     }
 }
 

@@ -1,9 +1,10 @@
 //! The steps of a controller.
 
 ghost use Rattle.std.specs.Prelude.{◌≡◌, None, Some};
+ghost use Rattle.c_handles.specs.Owned.{Keeps};
 ghost use Rattle.nvme_model.specs.Steps.{ready};
 ghost use Rattle.nvme_model.specs.declared.step.Step.{Step as TheStep};
-ghost use Rattle.vandrexu_c.specs.OwnedStates.{KeepsOwned, OwnedState};
+ghost use Rattle.vandrexu_c.specs.OwnedStates.{OwnedState};
 ghost use Rattle.vandrexu_c.specs.Steps.{TellsBlocked, TellsFetched, TellsGranted, TellsPosted, TellsReady};
 ghost use Rattle.vandrexu_c.specs.Steps.{TellsReap, TellsStep};
 
@@ -26,7 +27,7 @@ pub extern "C" fn vandrexu_controller_fetch(
 ) -> u32
     ensures no_handle { controller.old.held.core ≡ None → (result ≡ 101) × (controller.new.held.core ≡ None) }
     ensures serves { (m : OwnedState) → controller.old.held.core ≡ Some m →
-        KeepsOwned controller.new.held.core (TellsStep m (TheStep.Fetch queue) (TellsFetched work.new) result) }
+        Keeps controller.new.held.core (TellsStep m (TheStep.Fetch queue) (TellsFetched work.new) result) }
     ensures kept { (result ≡ 0 → ⊥) → work.new ≡ work.old }
 {
     let Some(mut owned) = take_out(alloc, controller) else {
@@ -55,7 +56,7 @@ pub extern "C" fn vandrexu_controller_grant(
 ) -> u32
     ensures no_handle { controller.old.held.core ≡ None → (result ≡ 101) × (controller.new.held.core ≡ None) }
     ensures serves { (m : OwnedState) → controller.old.held.core ≡ Some m →
-        KeepsOwned controller.new.held.core (TellsStep m (TheStep.Grant ticket) (TellsGranted granted.new) result) }
+        Keeps controller.new.held.core (TellsStep m (TheStep.Grant ticket) (TellsGranted granted.new) result) }
     ensures kept { (result ≡ 0 → ⊥) → granted.new ≡ granted.old }
 {
     let Some(mut owned) = take_out(alloc, controller) else {
@@ -84,7 +85,7 @@ pub extern "C" fn vandrexu_controller_block(
 ) -> u32
     ensures no_handle { controller.old.held.core ≡ None → (result ≡ 101) × (controller.new.held.core ≡ None) }
     ensures serves { (m : OwnedState) → controller.old.held.core ≡ Some m →
-        KeepsOwned controller.new.held.core (TellsStep m (TheStep.Block ticket) (TellsBlocked blocked.new) result) }
+        Keeps controller.new.held.core (TellsStep m (TheStep.Block ticket) (TellsBlocked blocked.new) result) }
     ensures kept { (result ≡ 0 → ⊥) → blocked.new ≡ blocked.old }
 {
     let Some(mut owned) = take_out(alloc, controller) else {
@@ -113,7 +114,7 @@ pub extern "C" fn vandrexu_controller_post(
 ) -> u32
     ensures no_handle { controller.old.held.core ≡ None → (result ≡ 101) × (controller.new.held.core ≡ None) }
     ensures serves { (m : OwnedState) → controller.old.held.core ≡ Some m →
-        KeepsOwned controller.new.held.core (TellsStep m (TheStep.Post ticket) (TellsPosted cqe.new) result) }
+        Keeps controller.new.held.core (TellsStep m (TheStep.Post ticket) (TellsPosted cqe.new) result) }
     ensures kept { (result ≡ 0 → ⊥) → cqe.new ≡ cqe.old }
 {
     let Some(mut owned) = take_out(alloc, controller) else {
@@ -144,7 +145,7 @@ pub extern "C" fn vandrexu_controller_reap(
 ) -> u32
     ensures no_handle { controller.old.held.core ≡ None → (result ≡ 101) × (controller.new.held.core ≡ None) }
     ensures serves { (m : OwnedState) → controller.old.held.core ≡ Some m →
-        KeepsOwned controller.new.held.core (TellsReap m (TheStep.Reap queue) cqe.new count.new result) }
+        Keeps controller.new.held.core (TellsReap m (TheStep.Reap queue) cqe.new count.new result) }
     ensures kept { (result ≡ 0 → ⊥) → (cqe.new ≡ cqe.old) × (count.new ≡ count.old) }
 {
     let Some(mut owned) = take_out(alloc, controller) else {
@@ -190,6 +191,7 @@ pub extern "C" fn vandrexu_controller_ready(
             *step = told;
             0
         }
+        // What is ready is a step of a ticket.
         None => unreachable!(),
     }
 }

@@ -1,12 +1,12 @@
 //! Whole texts, from memory to memory: scripts, histories and traces, as the program takes them.
 
-ghost use Rattle.std.specs.Prelude.{◌++◌, ◌≡◌, ◌<◌, ◌≤◌, drop, length};
-ghost use Rattle.std.specs.Prelude.{false, true};
-ghost use Rattle.vandrexu_c.specs.TextCalls.{CertifiesInMemory, ChecksInMemory, GivesAll, GivesText};
+ghost use Rattle.std.specs.Prelude.{◌≡◌};
+ghost use Rattle.vandrexu_c.specs.TextCalls.{CertifiesInMemory, ChecksInMemory, GivesText};
 ghost use Rattle.vandrexu_c.specs.TextCalls.{ObservesInMemory, RunsInMemory};
 ghost use Rattle.vandrexu_c.specs.TextCalls.{told_certify, told_certify_fault, told_check, told_fault};
 ghost use Rattle.vandrexu_c.specs.TextCalls.{told_history_fault, told_observe, told_run};
 
+use crate::copying::fits;
 use bitflags::Flags;
 use casdisk_texts::{CertifyFault, RunFault, certify_text, check_text, run_script};
 use file_commands::{TraceAnswer, observe_text};
@@ -128,21 +128,6 @@ fn told_observe(done: Result<TraceAnswer, RunFault>) -> TextAnswer
         Ok(TraceAnswer::GaveUp) => plain(GAVE_UP),
         Err(fault) => told_fault(fault),
     }
-}
-
-// Copies a text to the begin of a room, where it fits; whether it does.
-fn fits(text: &[u8], out: &mut [u8], needed: &mut usize) -> bool
-    ensures gives { GivesAll text.now out.old out.new needed.new }
-    ensures fits { result ≡ true → length text.now ≤ length out.old }
-    ensures short { result ≡ false → length out.old < length text.now }
-{
-    let count = text.len();
-    *needed = count;
-    if out.len() < count {
-        return false;
-    }
-    out[..count].copy_from_slice(text);
-    true
 }
 
 // Gives a text, with what is told; where the room is too short for it, that is told alone.

@@ -1,6 +1,6 @@
 //! The call of a host that isn't answered.
 
-use driver_cas::OwnPort;
+use driver_cas::SharedPort;
 use slot_alloc::{Claiming, Releasing};
 use slot_takeover::{GivingBack, ReadingHolder, TakingOver};
 
@@ -8,11 +8,11 @@ use slot_takeover::{GivingBack, ReadingHolder, TakingOver};
 #[derive(Drop)]
 pub(crate) enum UnderWay {
     Nothing,
-    Claim(Claiming<OwnPort>),
-    Release(Releasing<OwnPort>),
-    Takeover(TakingOver<OwnPort>),
+    Claim(Claiming<SharedPort<'static>>),
+    Release(Releasing<SharedPort<'static>>),
+    Takeover(TakingOver<SharedPort<'static>>),
     /// Of a slot that was taken over.
-    GiveBack(GivingBack<OwnPort>),
+    GiveBack(GivingBack<SharedPort<'static>>),
     /// Who holds a slot.
-    Holder(ReadingHolder<OwnPort>),
+    Holder(ReadingHolder<SharedPort<'static>>),
 }

@@ -98,7 +98,9 @@ fn next_after(
 {
     match (told, turn, unlike) {
         (Told::Same, Turn::Own, None) => after,
-        _ => next,
+        (Told::Same, Turn::Own, Some(_)) => next,
+        (Told::Same, Turn::Aside | Turn::Late, _) => next,
+        (Told::Bad | Told::Hidden | Told::Unlike(_), _, _) => next,
     }
 }
 
@@ -107,9 +109,10 @@ fn out_after(told: Told, turn: Turn, unlike: Option<Difference>, out: u64, more:
     ensures value { result ≡ the_out_after told turn unlike out more }
 {
     match (told, turn, unlike) {
-        (Told::Same, Turn::Aside, None) => more,
-        (Told::Unlike(_), Turn::Aside, None) => more,
-        _ => out,
+        (Told::Same | Told::Unlike(_), Turn::Aside, None) => more,
+        (Told::Same | Told::Unlike(_), Turn::Aside, Some(_)) => out,
+        (Told::Same | Told::Unlike(_), Turn::Own | Turn::Late, _) => out,
+        (Told::Bad | Told::Hidden, _, _) => out,
     }
 }
 

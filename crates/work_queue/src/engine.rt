@@ -124,6 +124,7 @@ impl Engine {
             }
             Open::Fetch(queue) => {
                 let (answer, owner) = self.shared.attempt_open(pass, Step::Fetch(queue))?;
+                // A Fetch that was made is answered by its work.
                 let Answer::Fetched(work) = answer else {
                     unreachable!();
                 };
@@ -137,6 +138,7 @@ impl Engine {
             }
             Open::Reap(queue) => {
                 let (answer, _) = self.shared.attempt_open(pass, Step::Reap(queue))?;
+                // A Reap that was made is answered by its completion.
                 let Answer::Reaped { cqe, payload } = answer else {
                     unreachable!();
                 };

@@ -5,7 +5,7 @@ use std::fmt;
 pub type Result<T> = std::result::Result<T, Error>;
 
 macro_rules! errors {
-    ($($(#[$about:meta])* $name:ident = $status:ident, $words:literal;)*) => {
+    ($($(#[$about:meta])* $name:ident = $status:ident $(or $call:ident)?, $words:literal;)*) => {
         /// Why a call did nothing: all but what a call says otherwise is as before.
         ///
         /// ```
@@ -29,7 +29,7 @@ macro_rules! errors {
             /// Each error but [`Error::Unknown`], in the order of their statuses.
             pub const ALL: &[Error] = &[$(Error::$name),*];
 
-            /// The number of vandrexu.h.
+            /// The number of vandrexu.h, for an error of two numbers the first.
             #[must_use]
             pub fn status(self) -> u32 {
                 match self {
@@ -41,7 +41,7 @@ macro_rules! errors {
             /// The error of this number.
             fn of(status: u32) -> Error {
                 match status {
-                    $(vandrexu_sys::$status => Error::$name,)*
+                    $(vandrexu_sys::$status $(| vandrexu_sys::$call)? => Error::$name,)*
                     other => Error::Unknown(other),
                 }
             }
@@ -69,9 +69,10 @@ errors! {
     CqFull = VANDREXU_CQ_FULL, "completion queue full";
     NoCompletion = VANDREXU_NO_COMPLETION, "no completion to reap";
     BadBatch = VANDREXU_BAD_BATCH, "no entry to publish";
-    NoMemory = VANDREXU_NO_MEMORY, "no memory";
-    /// (Of [`Disk`](crate::Disk); nothing was done.)
-    Busy = VANDREXU_BUSY, "another handle of the disk had the controller";
+    /// (Also 46, of a host's call.)
+    NoMemory = VANDREXU_NO_MEMORY or VANDREXU_CALL_NO_MEMORY, "no memory";
+    /// (Also 45, of a host's call. Nothing was done: ask again.)
+    Busy = VANDREXU_BUSY or VANDREXU_CALL_BUSY, "another handle of the disk had the controller";
     AwunTooLarge = VANDREXU_AWUN_TOO_LARGE, "AWUN is above 255";
     AcwuTooLarge = VANDREXU_ACWU_TOO_LARGE, "ACWU is above 255";
     BoundaryBelowUnit = VANDREXU_BOUNDARY_BELOW_UNIT, "NABSN isn't 0, and AWUN or ACWU is above it";
@@ -87,9 +88,6 @@ errors! {
     CallNoRoom = VANDREXU_CALL_NO_ROOM, "no room in the submission queue for a call";
     /// ([`Reply::Failed`](crate::Reply::Failed) or [`SlotReply::Failed`](crate::SlotReply::Failed) in place of it.)
     CallFailed = VANDREXU_CALL_FAILED, "the call failed";
-    /// (Of [`Host`](crate::Host) and [`SlotHost`](crate::SlotHost); nothing was done.)
-    CallBusy = VANDREXU_CALL_BUSY, "another handle of the disk had the controller, for a call";
-    CallNoMemory = VANDREXU_CALL_NO_MEMORY, "no memory for a call";
     CallNoSerial = VANDREXU_CALL_NO_SERIAL, "the host has used the last serial";
     /// (What is made owns something until it is dropped.)
     NoHandle = VANDREXU_NO_HANDLE, "the handle owns nothing";
@@ -159,6 +157,9 @@ mod tests {
         .concat();
         numbers.sort_unstable();
         assert_eq!(numbers[0], 0);
+        let of_calls = [vandrexu_sys::VANDREXU_CALL_BUSY, vandrexu_sys::VANDREXU_CALL_NO_MEMORY];
+        assert_eq!(of_calls.map(told), [Err(Error::Busy), Err(Error::NoMemory)]);
+        numbers.retain(|it| !of_calls.contains(it));
         assert_eq!(Error::ALL.iter().map(|it| it.status()).collect::<Vec<_>>(), numbers[1..]);
         for error in Error::ALL {
             assert_eq!(told(error.status()), Err(*error));

@@ -190,7 +190,7 @@ impl Host {
     ///
     /// # Errors
     /// [`Error::InCall`]; [`Error::CallLength`] of no block, [`Error::CallTooLong`], [`Error::CallNoRoom`],
-    /// [`Error::CallBusy`], [`Error::CallNoMemory`]: nothing was published.
+    /// [`Error::Busy`], [`Error::NoMemory`]: nothing was published.
     pub fn read(&mut self, lba: u64, blocks: u32) -> Result<()> {
         // SAFETY: nobody else has the handle, which isn't Sync.
         told(unsafe { sys::vandrexu_host_read(self.handle.get(), lba, blocks) })
@@ -246,7 +246,7 @@ impl Host {
     /// Reaps at most one completion, and says what became of the call, which is over but where it is pending.
     ///
     /// # Errors
-    /// [`Error::NoCall`]; [`Error::CallBusy`] and [`Error::CallNoMemory`], where the call goes on.
+    /// [`Error::NoCall`]; [`Error::Busy`] and [`Error::NoMemory`], where the call goes on.
     pub fn poll(&mut self) -> Result<Reply> {
         let mut reply = sys::vandrexu_reply::default();
         // SAFETY: as in read.

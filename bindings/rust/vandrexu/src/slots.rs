@@ -123,7 +123,7 @@ impl SlotHost {
     ///
     /// # Errors
     /// [`Error::InCall`], [`Error::NoSlot`]; [`Error::Held`]; [`Error::TookOver`] of a host that has begun a takeover;
-    /// [`Error::CallNoRoom`], [`Error::CallBusy`], [`Error::CallNoMemory`], [`Error::CallNoSerial`]: nothing was
+    /// [`Error::CallNoRoom`], [`Error::Busy`], [`Error::NoMemory`], [`Error::CallNoSerial`]: nothing was
     /// published.
     pub fn claim(&mut self, slot: u32) -> Result<()> {
         // SAFETY: nobody else has the handle, which isn't Sync.
@@ -136,7 +136,7 @@ impl SlotHost {
     ///
     /// # Errors
     /// [`Error::InCall`]; [`Error::TookOver`] of a host that has begun a takeover; [`Error::CallNoRoom`],
-    /// [`Error::CallBusy`], [`Error::CallNoMemory`], [`Error::CallNoSerial`]: nothing was published.
+    /// [`Error::Busy`], [`Error::NoMemory`], [`Error::CallNoSerial`]: nothing was published.
     pub fn claim_any(&mut self) -> Result<()> {
         // SAFETY: as of claim.
         told(unsafe { sys::vandrexu_slot_claim_any(self.handle.get()) })
@@ -146,8 +146,8 @@ impl SlotHost {
     /// has it no more, whatever comes of it.
     ///
     /// # Errors
-    /// [`Error::InCall`], [`Error::NoSlot`]; [`Error::NotHeld`]; [`Error::CallNoRoom`], [`Error::CallBusy`],
-    /// [`Error::CallNoMemory`]: nothing was published, and the host has the slot still.
+    /// [`Error::InCall`], [`Error::NoSlot`]; [`Error::NotHeld`]; [`Error::CallNoRoom`], [`Error::Busy`],
+    /// [`Error::NoMemory`]: nothing was published, and the host has the slot still.
     pub fn release(&mut self, slot: u32) -> Result<()> {
         // SAFETY: as in claim.
         told(unsafe { sys::vandrexu_slot_release(self.handle.get(), slot) })
@@ -180,7 +180,7 @@ impl SlotHost {
     ///
     /// # Errors
     /// [`Error::InCall`], [`Error::NoSlot`]; [`Error::Held`]; [`Error::BadName`] of a name with a zero in it, or of the
-    /// host itself; [`Error::CallNoRoom`], [`Error::CallBusy`], [`Error::CallNoMemory`], [`Error::CallNoSerial`]:
+    /// host itself; [`Error::CallNoRoom`], [`Error::Busy`], [`Error::NoMemory`], [`Error::CallNoSerial`]:
     /// nothing was published.
     pub fn take_over(&mut self, slot: u32, dead: Name) -> Result<()> {
         // SAFETY: as in claim.
@@ -190,7 +190,7 @@ impl SlotHost {
     /// Begins to ask who holds a slot: to read its block.
     ///
     /// # Errors
-    /// [`Error::InCall`], [`Error::NoSlot`]; [`Error::CallNoRoom`], [`Error::CallBusy`], [`Error::CallNoMemory`]:
+    /// [`Error::InCall`], [`Error::NoSlot`]; [`Error::CallNoRoom`], [`Error::Busy`], [`Error::NoMemory`]:
     /// nothing was published.
     pub fn ask_holder(&mut self, slot: u32) -> Result<()> {
         // SAFETY: as in claim.
@@ -200,7 +200,7 @@ impl SlotHost {
     /// Reaps at most one completion, and says what became of the call, which is over but where it is pending.
     ///
     /// # Errors
-    /// [`Error::NoCall`]; [`Error::CallBusy`] and [`Error::CallNoMemory`], where the call goes on.
+    /// [`Error::NoCall`]; [`Error::Busy`] and [`Error::NoMemory`], where the call goes on.
     pub fn poll(&mut self) -> Result<SlotReply> {
         let mut reply = sys::vandrexu_slot_reply::default();
         // SAFETY: as in claim.

@@ -84,7 +84,7 @@ fn each_reply() -> Result<(), Error> {
 fn when_free<T>(mut ask: impl FnMut() -> Result<T, Error>) -> T {
     loop {
         match ask() {
-            Err(Error::Busy | Error::CallBusy) => thread::yield_now(),
+            Err(Error::Busy) => thread::yield_now(),
             done => return done.expect("it is done"),
         }
     }

@@ -273,7 +273,7 @@ fn a_host_outlives_its_disk() -> Result<(), Error> {
 fn when_free<T>(mut ask: impl FnMut() -> Result<T, Error>) -> T {
     loop {
         match ask() {
-            Err(Error::CallBusy) => thread::yield_now(),
+            Err(Error::Busy) => thread::yield_now(),
             done => return done.expect("it is done"),
         }
     }

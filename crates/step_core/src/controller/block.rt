@@ -6,11 +6,12 @@ ghost use Rattle.nvme_model.specs.declared.step.Step.{Step};
 ghost use Rattle.range_reserve.specs.Reserved.{held_beside};
 ghost use Rattle.step_core.specs.Found.{IsJob, IsNextStep};
 ghost use Rattle.controller_interface.specs.State.{Does};
+ghost use Rattle.controller_interface.specs.declared.answer.Answer.{Answer};
 ghost use Rattle.step_core.specs.declared.controller.next.ReadyStep.{ReadyStep};
 
 use crate::controller::Core;
 use crate::controller::room::take_room;
-use controller_interface::Answer;
+use block_exec::Done;
 use job_table::Job;
 use nvme_model::entry::{BlockLine, Entry};
 use nvme_model::refusal::Why;
@@ -31,9 +32,9 @@ impl Core {
         }
     }
 
-    /// Makes the next block of a ticket's open unit.
-    pub(super) fn block(&mut self, ticket: u64) -> Result<Answer, Why>
-        ensures does { Does self.old (Step.Block ticket) result self.new }
+    // Makes the next block of a ticket's open unit.
+    pub(super) fn block_next(&mut self, ticket: u64) -> Result<Done, Why>
+        ensures does { Does Answer.Blocked self.old (Step.Block ticket) result self.new }
     {
         let job = self.job(ticket)?;
         let unit = self.open_unit(ticket, job)?;
@@ -41,9 +42,9 @@ impl Core {
     }
 
     // Makes the next block of this open unit.
-    pub(super) fn make_block(&mut self, ticket: u64, unit: u64) -> Result<Answer, Why>
+    pub(super) fn make_block(&mut self, ticket: u64, unit: u64) -> Result<Done, Why>
         requires block { IsNextStep self.old.config self.old.past (ReadyStep.Block ticket unit) }
-        ensures does { Does self.old (Step.Block ticket) result self.new }
+        ensures does { Does Answer.Blocked self.old (Step.Block ticket) result self.new }
     {
         take_room(&mut self.history, &mut self.promised)?;
         let job = self.jobs.get_mut(ticket).unwrap();
@@ -56,7 +57,7 @@ impl Core {
             found: done.found,
             effect: done.effect,
         }));
-        Ok(Answer::Blocked(done))
+        Ok(done)
     }
 }
 

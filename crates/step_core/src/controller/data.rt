@@ -55,7 +55,10 @@ fn write_boxes(
     match judged {
         Judged::Single(Op::Write, range) => boxed(alloc, spare, range.blocks, payload_at(ring, 0)),
         Judged::Pair(range) => boxed(alloc, spare, range.blocks, payload_at(ring, 1)),
-        _ => Ok(Vec::new(alloc)),
+        Judged::Single(Op::Read | Op::Compare | Op::WriteZeroes | Op::Pair, _)
+        | Judged::Flush
+        | Judged::SingleFailed(_)
+        | Judged::PairFailed(_, _) => Ok(Vec::new(alloc)),
     }
 }
 
@@ -64,10 +67,7 @@ fn payload_at(ring: &SqRing, place: usize) -> &[u8]
     requires within { place < length ring.now.waiting }
     ensures value { result.now ≡ payload_at ring.now.waiting place }
 {
-    let Some(one) = ring.peek(place) else {
-        unreachable!();
-    };
-    one.payload.as_slice()
+    ring.peek(place).unwrap().payload.as_slice()
 }
 
 // The first blocks of these bytes, each in a box.
@@ -102,6 +102,10 @@ fn read_buffer(alloc: Global, judged: &Judged) -> Result<Payload, NoMemory>
             buffer.resize(bytes, 0)?;
             Ok(Payload::new(buffer))
         }
-        _ => Ok(Payload::new(Vec::new(alloc))),
+        Judged::Single(Op::Compare | Op::Write | Op::WriteZeroes | Op::Pair, _)
+        | Judged::Flush
+        | Judged::Pair(_)
+        | Judged::SingleFailed(_)
+        | Judged::PairFailed(_, _) => Ok(Payload::new(Vec::new(alloc))),
     }
 }

@@ -14,13 +14,14 @@ ghost use Rattle.step_core.specs.Found.{IsFront, first_job, kind_in};
 ghost use Rattle.job_table.specs.Beginning.{read_first};
 ghost use Rattle.job_table.specs.Tickets.{compare_by, write_blocks};
 ghost use Rattle.controller_interface.specs.State.{Does, needs_data};
+ghost use Rattle.controller_interface.specs.declared.answer.Answer.{Answer};
 ghost use Rattle.job_table.specs.Stages.{IsSound};
 
 use crate::controller::Core;
 use crate::controller::data::{DataRoom, data_room};
 use crate::controller::room::keep_room;
 use crate::spare_boxes::SpareBoxes;
-use controller_interface::{Answer, Kind, Work};
+use controller_interface::{Kind, Work};
 use fused_match::{Item, Judged, judge};
 use job_table::{Data, Job, OwedCids};
 use nvme_model::entry::{Entry, FetchLine};
@@ -71,7 +72,7 @@ fn taken_cids(judged: &Judged, first: &Item, second: Option<&Item>) -> OwedCids
 {
     match second {
         Some(second) if judged.taken() == 2 => OwedCids::two(first.sqe().cid, second.sqe().cid),
-        _ => OwedCids::one(first.sqe().cid),
+        Some(_) | None => OwedCids::one(first.sqe().cid),
     }
 }
 
@@ -188,9 +189,7 @@ impl Core {
         ensures read { IfOk result (λ room. room.read ≡ read_first front.now.judged) }
         ensures wants { OnErr result (needs_data (operation_in front.now.judged) ≡ true) }
     {
-        let Some(ring) = self.sq_ring(queue) else {
-            unreachable!();
-        };
+        let ring = self.sq_ring(queue).unwrap();
         data_room(self.alloc, spare, ring, &front.judged)
     }
 
@@ -210,9 +209,9 @@ impl Core {
         room
     }
 
-    /// Takes the next command, or the next fused pair, of a submission queue.
-    pub(super) fn fetch(&mut self, queue: u16) -> Result<Answer, Why>
-        ensures does { Does self.old (Step.Fetch queue) result self.new }
+    // Takes the next command, or the next fused pair, of a submission queue.
+    pub(super) fn fetch_next(&mut self, queue: u16) -> Result<Work, Why>
+        ensures does { Does Answer.Fetched self.old (Step.Fetch queue) result self.new }
     {
         let front = self.fetch_front(queue)?;
         let Ok(room) = self.take_room(queue, &front) else {
@@ -225,9 +224,7 @@ impl Core {
         let (first, _) = self.submission[place].take_commands(judged.taken());
         put_in_use(&mut self.in_use[place], front.cids);
         let job = new_job(self.alloc, queue, front, first, room);
-        let Ok(()) = self.jobs.insert(ticket, job) else {
-            unreachable!();
-        };
+        self.jobs.insert(ticket, job).unwrap();
         self.tickets = ticket;
         self.history.push_reserved(Entry::Fetch(FetchLine {
             queue,
@@ -235,6 +232,6 @@ impl Core {
             verdict: judged.verdict(),
         }));
         let units = self.config.units();
-        Ok(Answer::Fetched(Work::new(ticket, units, kind_of(&judged))))
+        Ok(Work::new(ticket, units, kind_of(&judged)))
     }
 }

@@ -4,12 +4,13 @@ ghost use Rattle.std.specs.Prelude.{◌≡◌, MatchResult, Some};
 ghost use Rattle.nvme_model.specs.Refusals.{refusal};
 ghost use Rattle.nvme_model.specs.declared.step.Step.{Step};
 ghost use Rattle.step_core.specs.Found.{IsJob, IsNextStep};
+ghost use Rattle.controller_interface.specs.Granted.{granted_answer};
 ghost use Rattle.controller_interface.specs.State.{Does};
 ghost use Rattle.step_core.specs.declared.controller.next.ReadyStep.{ReadyStep};
 
 use crate::controller::Core;
 use crate::controller::room::take_both;
-use controller_interface::Answer;
+use controller_interface::UnitGranted;
 use job_table::Job;
 use nvme_model::entry::{Entry, GrantLine, UnitRange};
 use nvme_model::refusal::Why;
@@ -38,9 +39,9 @@ impl Core {
         })
     }
 
-    /// Begins the next unit of a ticket.
-    pub(super) fn grant(&mut self, ticket: u64) -> Result<Answer, Why>
-        ensures does { Does self.old (Step.Grant ticket) result self.new }
+    // Begins the next unit of a ticket.
+    pub(super) fn grant_next(&mut self, ticket: u64) -> Result<UnitGranted, Why>
+        ensures does { Does granted_answer self.old (Step.Grant ticket) result self.new }
     {
         let job = self.job(ticket)?;
         let line = self.grant_line(ticket, job)?;
@@ -48,9 +49,9 @@ impl Core {
     }
 
     // Begins the unit of this line.
-    pub(super) fn make_grant(&mut self, line: GrantLine) -> Result<Answer, Why>
+    pub(super) fn make_grant(&mut self, line: GrantLine) -> Result<UnitGranted, Why>
         requires line { IsNextStep self.old.config self.old.past (ReadyStep.Grant line) }
-        ensures does { Does self.old (Step.Grant line.ticket) result self.new }
+        ensures does { Does granted_answer self.old (Step.Grant line.ticket) result self.new }
     {
         let ticket = line.ticket;
         let range = line.range.get();
@@ -58,6 +59,10 @@ impl Core {
         self.ranges.grant(ticket, range, line.mode).unwrap();
         self.jobs.get_mut(ticket).unwrap().open(range);
         self.history.push_reserved(Entry::Grant(line));
-        Ok(Answer::Granted(line.unit, range, line.mode))
+        Ok(UnitGranted {
+            unit: line.unit,
+            range,
+            mode: line.mode,
+        })
     }
 }

@@ -14,7 +14,7 @@ ghost use Rattle.controller_interface.specs.State.{Serves};
 
 use crate::controller::Core;
 use crate::controller::post::Due;
-use controller_interface::{Answer, Refused};
+use controller_interface::{Answer, Refused, UnitGranted};
 use job_table::Job;
 use nvme_model::entry::GrantLine;
 use nvme_model::step::Step;
@@ -68,6 +68,7 @@ impl Core {
     {
         let next = self.next()?;
         let answer = self.make(next);
+        self.tells_kept();
         Some((next.step(), answer))
     }
 
@@ -119,9 +120,9 @@ impl Core {
         ensures serves { Serves self.old (ready_step_of next) result self.new }
     {
         let done = match next {
-            ReadyStep::Grant(line) => self.make_grant(line),
-            ReadyStep::Block { ticket, unit } => self.make_block(ticket, unit),
-            ReadyStep::Post(due) => self.make_post(due),
+            ReadyStep::Grant(line) => self.make_grant(line).map(UnitGranted::answer),
+            ReadyStep::Block { ticket, unit } => self.make_block(ticket, unit).map(Answer::Blocked),
+            ReadyStep::Post(due) => self.make_post(due).map(Answer::Posted),
         };
         done.map_err(Refused::Step)
     }

@@ -7,6 +7,7 @@ ghost use Rattle.nvme_model.specs.Refusals.{refusal};
 ghost use Rattle.nvme_model.specs.declared.step.Step.{Step};
 ghost use Rattle.step_core.specs.Found.{IsJob, IsNextStep};
 ghost use Rattle.controller_interface.specs.State.{Does};
+ghost use Rattle.controller_interface.specs.declared.answer.Answer.{Answer};
 ghost use Rattle.step_core.specs.declared.controller.next.ReadyStep.{ReadyStep};
 ghost use Rattle.job_table.specs.Stages.{owed_in};
 
@@ -14,7 +15,6 @@ use crate::controller::Core;
 use crate::controller::room::keep_room;
 use crate::spare_boxes::SpareBoxes;
 use completions::cqe_of;
-use controller_interface::Answer;
 use entry_codec::encode_cqe;
 use job_table::{Job, Jobs};
 use nvme_model::entry::{Entry, PostLine};
@@ -70,9 +70,9 @@ impl Core {
         })
     }
 
-    /// Posts a ticket's next completion.
-    pub(super) fn post(&mut self, ticket: u64) -> Result<Answer, Why>
-        ensures does { Does self.old (Step.Post ticket) result self.new }
+    // Posts a ticket's next completion.
+    pub(super) fn post_next(&mut self, ticket: u64) -> Result<[u8; 16], Why>
+        ensures does { Does Answer.Posted self.old (Step.Post ticket) result self.new }
     {
         let job = self.job(ticket)?;
         let due = self.post_due(ticket, job)?;
@@ -80,9 +80,9 @@ impl Core {
     }
 
     // Posts this completion.
-    pub(super) fn make_post(&mut self, due: Due) -> Result<Answer, Why>
+    pub(super) fn make_post(&mut self, due: Due) -> Result<[u8; 16], Why>
         requires due { IsNextStep self.old.config self.old.past (ReadyStep.Post due) }
-        ensures does { Does self.old (Step.Post due.ticket) result self.new }
+        ensures does { Does Answer.Posted self.old (Step.Post due.ticket) result self.new }
     {
         let Due { ticket, cqe, .. } = due;
         let Ok(mut copy) = Vec::with_capacity(self.alloc, due.bytes) else {
@@ -100,7 +100,7 @@ impl Core {
             cqe,
             payload: Payload::new(copy),
         }));
-        Ok(Answer::Posted(cqe))
+        Ok(cqe)
     }
 }
 

@@ -4,10 +4,10 @@ ghost use Rattle.std.specs.Prelude.{◌≡◌};
 ghost use Rattle.nvme_model.specs.Refusals.{refusal};
 ghost use Rattle.nvme_model.specs.declared.step.Step.{Step};
 ghost use Rattle.controller_interface.specs.State.{Does};
+ghost use Rattle.step_core.specs.Answers.{reaped_answer};
 
 use crate::controller::Core;
 use crate::controller::room::take_room;
-use controller_interface::Answer;
 use nvme_model::entry::{Entry, ReapLine};
 use nvme_model::refusal::Why;
 use rings::Completion;
@@ -26,18 +26,18 @@ impl Core {
         None
     }
 
-    /// Takes the next completion of a completion queue.
-    pub(super) fn reap(&mut self, queue: u16) -> Result<Answer, Why>
-        ensures does { Does self.old (Step.Reap queue) result self.new }
+    // Takes the next completion of a completion queue.
+    pub(super) fn reap_next(&mut self, queue: u16) -> Result<Completion, Why>
+        ensures does { Does reaped_answer self.old (Step.Reap queue) result self.new }
     {
         if let Some(why) = self.reap_refusal(queue) {
             return Err(why);
         }
         take_room(&mut self.history, &mut self.promised)?;
         let completion = self.completion[queue as usize - 1].reap().unwrap();
-        let Completion { cqe, payload } = completion;
+        let cqe = completion.cqe;
         self.history
             .push_reserved(Entry::Reap(ReapLine { queue, cqe }));
-        Ok(Answer::Reaped { cqe, payload })
+        Ok(completion)
     }
 }

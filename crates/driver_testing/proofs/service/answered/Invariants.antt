@@ -1,6 +1,6 @@
-use Rattle.driver_testing.specs.Benches.{IsServerOf}
+use Rattle.shared_system.specs.Plain.{IsPlainCallerOf}
 use Rattle.driver_testing.specs.Claimants.{IsClaimant}
 use Rattle.driver_testing.proofs.service.answered.Given as goal
 
 abbrev pub invariant-loop : goal.invariant-loop
-invariant-loop g l = IsServerOf l.bench l.server × IsClaimant l.bench l.slots l.claimant
+invariant-loop g l = IsPlainCallerOf l.system l.server × IsClaimant l.system l.slots l.claimant

@@ -2,4 +2,4 @@ use Rattle.driver_tests.specs.Crews.{AreCrewOf}
 use Rattle.driver_tests.proofs.crews.crew_serves.Given as goal
 
 abbrev pub invariant-loop : goal.invariant-loop
-invariant-loop g l = AreCrewOf l.bench l.works l.crew.fetcher l.crew.into l.crew.worker l.crew.out
+invariant-loop g l = AreCrewOf l.system l.crew.fetcher l.crew.worker

@@ -1,5 +1,6 @@
-use Rattle.driver_testing.specs.Benches.{IsBenchHost, IsServerOf}
+use Rattle.driver_testing.specs.Hosts.{IsTestHost}
+use Rattle.shared_system.specs.Plain.{IsPlainCallerOf}
 use Rattle.driver_tests.proofs.rows.all_answered.Given as goal
 
 abbrev pub invariant-loop-row : goal.invariant-loop-row
-invariant-loop-row g l = IsServerOf l.bench l.server × IsBenchHost l.bench l.host
+invariant-loop-row g l = IsPlainCallerOf l.system l.server × IsTestHost l.system l.host

@@ -3,5 +3,5 @@ use Rattle.driver_tests.specs.Crews.{AreCrewOf}
 use Rattle.driver_tests.proofs.whole.comes.Given as goal
 
 abbrev pub invariant-loop : goal.invariant-loop
-invariant-loop g l = AreCrewOf l.bench l.works l.crew.fetcher l.crew.into l.crew.worker l.crew.out
-    × IsClaimant l.bench l.slots l.claimant
+invariant-loop g l = AreCrewOf l.system l.crew.fetcher l.crew.worker
+    × IsClaimant l.system l.slots l.claimant

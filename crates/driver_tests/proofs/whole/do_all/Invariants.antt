@@ -4,5 +4,5 @@ use Rattle.driver_tests.proofs.whole.do_all.Given as goal
 
 abbrev pub invariant-loop-turn : goal.invariant-loop-turn
 invariant-loop-turn g l =
-    AreCrewOf l.bench l.works l.crew.fetcher l.crew.into l.crew.worker l.crew.out × IsClaimant l.bench l.slots l.one
-    × IsClaimant l.bench l.slots l.two
+    AreCrewOf l.system l.crew.fetcher l.crew.worker × IsClaimant l.system l.slots l.one
+    × IsClaimant l.system l.slots l.two

@@ -1,7 +1,7 @@
 use Rattle.std.proofs.Common.{All, IfSome}
-use Rattle.lock_testing.specs.Callers.{IsTestWork}
+use Rattle.shared_system.specs.Plain.{IsPlainWork}
 use Rattle.engine_tests.proofs.crew.put_all.Given as goal
 
 abbrev pub invariant-loop : goal.invariant-loop
-invariant-loop l = All (IsTestWork l.system) l.works.items × All (IsTestWork l.system) l.others.items
-    × IfSome l.found (IsTestWork l.system)
+invariant-loop l = All (IsPlainWork l.system) l.works.items × All (IsPlainWork l.system) l.others.items
+    × IfSome l.found (IsPlainWork l.system)

@@ -1,6 +1,6 @@
-use Rattle.driver_testing.specs.Benches.{IsServerOf}
+use Rattle.shared_system.specs.Plain.{IsPlainCallerOf}
 use Rattle.flight_tests.specs.Flights.{AreInFlight}
 use Rattle.flight_tests.proofs.turns.turns_all.Given as goal
 
 abbrev pub invariant-loop-turn : goal.invariant-loop-turn
-invariant-loop-turn g l = IsServerOf l.bench l.server × AreInFlight l.bench l.flight.host l.flight.calls.items
+invariant-loop-turn g l = IsPlainCallerOf l.system l.server × AreInFlight l.system l.flight.host l.flight.calls.items

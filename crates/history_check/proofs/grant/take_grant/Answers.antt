@@ -1,4 +1,7 @@
-use Rattle.std.proofs.Common.{Err, List, ap, arith, false, inl, inr, subst, sym, true, ◌<◌, ◌^◌, ◌∙◌, ◌≡◌}
+use Rattle.std.proofs.Common.{List, ap, arith, false, subst, sym}
+use Rattle.std.proofs.Common.{true, ◌<◌, ◌^◌}
+use Rattle.std.proofs.Common.{◌∙◌, ◌≡◌}
+use Rattle.range_reserve.proofs.Granted.{held_ok}
 use Rattle.range_reserve.specs.Reserved.{has_conflict, holds_range, held_of, insert_held}
 use Rattle.range_reserve.specs.declared.held.HeldRange.{HeldRange}
 use Rattle.history_check.specs.Tables.{CheckedTicket}
@@ -44,22 +47,19 @@ grant-requires-clause-range c =
     (grant_range _ _ _ k c.args.line.now c.in-Some.place c.index.result.now there c.grant_fits.result
     c.grant_fits.ensures.value c.if-not-grant_fits.false)
 
-pub unreachable-requires : goal.unreachable-requires
-unreachable-requires c = elim c.in_default-grant.ensures.errors [
-  | inl e ↦
-      let k = c.requires.keeps.2 in
-      let there = found_by _ _ _ k c.args.line.now.ticket c.in-Some.place c.index.result.now _ _
-      c.as_slice.ensures.value c.ticket_place.ensures.value c.in-Some.is c.index.ensures in
-      let yes : has_conflict c.reserve.new.self.held c.args.line.now.range c.args.line.now.mode ≡ true =
-      (rw c.get-range.ensures.value at c.grant.ensures.conflict).0 (c.in_default-grant.is ∙ ap Err e) in
-      let apart = grant_apart _ _ _ k c.args.line.now c.in-Some.place c.index.result.now there c.grant_fits.result
-      c.grant_fits.ensures.value c.if-not-grant_fits.false in
-      let both : true ≡ false = sym yes
-      ∙ ap (λ (hs : List HeldRange). has_conflict hs c.args.line.now.range c.args.line.now.mode) c.reserve.ensures.held
-      ∙ apart in
-      absurd cc
-  | inr e ↦ omega (arith, c.grant.ensures.memory (c.in_default-grant.is ∙ ap Err e), c.in_ok-reserve.ensures.ok)
-]
+pub unwrap-requires : goal.unwrap-requires
+unwrap-requires c =
+    let k = c.requires.keeps.2 in
+    let there = found_by _ _ _ k c.args.line.now.ticket c.in-Some.place c.index.result.now _ _ c.as_slice.ensures.value
+    c.ticket_place.ensures.value c.in-Some.is c.index.ensures in
+    let apart = grant_apart _ _ _ k c.args.line.now c.in-Some.place c.index.result.now there c.grant_fits.result
+    c.grant_fits.ensures.value c.if-not-grant_fits.false in
+    let same = ap (λ (hs : List HeldRange). has_conflict hs c.args.line.now.range c.args.line.now.mode)
+    c.reserve.ensures.held in
+    held_ok c.grant.result c.grant.ensures.errors
+    (λ e. absurd (let both : true ≡ false = sym ((rw c.get-range.ensures.value at c.grant.ensures.conflict).0 e) ∙ same
+    ∙ apart in cc))
+    (λ e. omega (arith, c.grant.ensures.memory e, c.in_ok-reserve.ensures.ok))
 
 pub open-requires : goal.open-requires
 open-requires c =
@@ -83,5 +83,5 @@ returns-clause-took c = λ n past k.
     (ap (λ (f : CheckedTicket). record c.index_mut.result.now { flight = f }) c.open.ensures.value
     ∙ ap (λ (x : CheckedInFlight). record x { flight = opened_flight x.flight c.args.line.now }) (here.is
     ∙ sym there.is))
-    ((rw c.get-range.ensures.value at c.in-Ok.ensures.ok)
+    ((rw c.get-range.ensures.value at (rw c.unwrap.ensures at c.grant.ensures.ok))
     ∙ ap (insert_held (held_of c.args.line.now)) c.reserve.ensures.held)

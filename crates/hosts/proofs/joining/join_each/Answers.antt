@@ -11,13 +11,14 @@ loop-init g c = (search rules, search rules, [], [], sym (append-nil _), sym (ap
 pub loop-preserved : goal.loop-preserved
 loop-preserved g c =
     let i = c.loop.invariant in
-    let child = c.in-Some.child in
+    let child = c.unwrap-child.result in
     let caller = c.join-caller.result.0 in (
       search rules,
       search rules,
       child ∷ i.2,
       i.3 ++ caller ∷ [],
-      i.4 ∙ (ap (λ l. l ++ i.2) c.in-Some.ensures.items ∙ append_assoc c.pop.new.self.items (child ∷ []) i.2),
+      i.4 ∙ (ap (λ l. l ++ i.2) (rw c.unwrap-child.ensures at c.pop.ensures.items)
+          ∙ append_assoc c.pop.new.self.items (child ∷ []) i.2),
       c.push_reserved.ensures.items
           ∙ (ap (λ l. l ++ caller ∷ []) i.5 ∙ append_assoc c.args.callers.now.items i.3 (caller ∷ [])),
       rw c.and-ends.ensures

@@ -24,16 +24,18 @@ pub loop-preserved : goal.loop-preserved
 loop-preserved g c =
     let i = c.loop.invariant in
     let system = c.args.system.now in
-    let own = c.in-Some.own in
+    let own = c.unwrap-own.result in
     let child = c.in-Ok.child in
+    let items : c.loop.callers.items ≡ c.pop.new.self.items ++ own ∷ [] =
+    rw c.unwrap-own.ensures at c.pop.ensures.items in
     let old = c.loop.started.items in (
-      (All-pop (IsWorkerOf system) c.loop.callers.items c.pop.new.self.items (Some own) c.in-Some.ensures.items i.0).0,
+      (All-pop (IsWorkerOf system) c.loop.callers.items c.pop.new.self.items (Some own) items i.0).0,
       search rules,
       search rules,
       search rules,
       search rules,
       own ∷ i.5,
-      i.6 ∙ (ap (λ l. l ++ i.5) c.in-Some.ensures.items ∙ append_assoc c.pop.new.self.items (own ∷ []) i.5),
+      i.6 ∙ (ap (λ l. l ++ i.5) items ∙ append_assoc c.pop.new.self.items (own ∷ []) i.5),
       subst (λ l. AllZip (IsWorkerBack system) (own ∷ i.5) (reverse (map (λ h. h.promise) l)))
           (sym c.push_reserved.ensures.items)
           (begun_more (WorkerContinues system) (IsWorkerBack system) (λ h. h.promise) child old own i.5 i.7
@@ -44,12 +46,13 @@ pub returns-in-Err-clause-parted : goal.returns-in-Err-clause-parted
 returns-in-Err-clause-parted g c =
     let i = c.loop.invariant in
     let system = c.args.system.now in
-    let own = c.in-Some.own in
+    let own = c.unwrap-own.result in
     let rest = c.pop.new.self.items in
+    let items : c.loop.callers.items ≡ rest ++ own ∷ [] = rw c.unwrap-own.ensures at c.pop.ensures.items in
     parted_here (WorkerContinues system) (IsWorkerBack system) rest i.5 c.args.callers.now.items _ own c.in-Err.back _
-    (i.6 ∙ ap (λ l. l ++ i.5) c.in-Some.ensures.items)
+    (i.6 ∙ ap (λ l. l ++ i.5) items)
     (workers_same system rest
-    (All-pop (IsWorkerOf system) c.loop.callers.items rest (Some own) c.in-Some.ensures.items i.0).0)
+    (All-pop (IsWorkerOf system) c.loop.callers.items rest (Some own) items i.0).0)
     c.in-Err.ensures.back c.push_reserved-in-Err.ensures.items i.7
 
 pub returns-clause-parted : goal.returns-clause-parted

@@ -1,5 +1,5 @@
-use Rattle.lock_testing.specs.Callers.{IsTestCallerOf}
+use Rattle.shared_system.specs.Plain.{IsPlainCallerOf}
 use Rattle.queue_tests.proofs.capacity.overfills.Given as goal
 
 abbrev pub invariant-loop-cid : goal.invariant-loop-cid
-invariant-loop-cid g l = IsTestCallerOf l.system l.caller
+invariant-loop-cid g l = IsPlainCallerOf l.system l.caller

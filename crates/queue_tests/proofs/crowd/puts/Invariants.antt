@@ -1,5 +1,5 @@
-use Rattle.lock_testing.specs.Callers.{IsFreshWork, IsTestCallerOf}
+use Rattle.shared_system.specs.Plain.{IsFreshWork, IsPlainCallerOf}
 use Rattle.queue_tests.proofs.crowd.puts.Given as goal
 
 abbrev pub invariant-loop : goal.invariant-loop
-invariant-loop g l = IsTestCallerOf l.system l.caller × IsFreshWork l.system l.next
+invariant-loop g l = IsPlainCallerOf l.system l.caller × IsFreshWork l.system l.next

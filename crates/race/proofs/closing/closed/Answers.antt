@@ -42,12 +42,14 @@ returns c =
     let ps = c.put_hosts.new.passes.items in
     let long = sym c.put_hosts.new.passes.ok.0 in
     let all : length ps ≡ c.len-servers.result + 1 + play.config.cqs = omega (arith, len, count, long) in
-    let core = c.in-Some.core in
-    let is = c.in-Some.ensures in
+    let core = c.unwrap.result in
+    let some = c.unwrap.ensures in
+    let config = rw some at c.close_all.ensures.config in
+    let legal = rw some at c.close_all.ensures.legal in
+    let whole = rw some at c.close_all.ensures.whole in
     record {
-      config = closed_config system.engine play _ ps c.put_hosts.ensures.passes all (omega arith) core is.config;
-      slots = closed_slots system.engine play _ ps c.put_hosts.ensures.passes all (omega arith) core is.config is.legal
-          is.whole;
-      rounds = closed_rounds system.engine play _ ps c.put_hosts.ensures.passes all (omega arith) core is.config
-          is.legal is.whole;
+      config = closed_config system.engine play _ ps c.put_hosts.ensures.passes all (omega arith) core config;
+      slots = closed_slots system.engine play _ ps c.put_hosts.ensures.passes all (omega arith) core config legal whole;
+      rounds = closed_rounds system.engine play _ ps c.put_hosts.ensures.passes all (omega arith) core config legal
+          whole;
     }

@@ -14,7 +14,7 @@ closed-requires-clause-workers g c =
     let callers = c.in_ok-callers.callers in
     let play = c.play_of-play.result in
     subst (λ (n : ℕ). EndDown (λ (w : WorkerPasses). w.caller.pass) c.in_ok-system.system.engine play (n + 1) n
-    callers.workers.items) (sym c.in_ok-callers.ensures.counts.0) c.in_ok-callers.ensures.workers
+    callers.workers.items) (sym c.in_ok-callers.ensures.counts.0) c.in_ok-callers.ensures.workers_end
 
 pub closed-requires-clause-hosts : goal.closed-requires-clause-hosts
 closed-requires-clause-hosts g c =

@@ -24,25 +24,26 @@ loop-init g c = (
 pub start_host-requires-clause-caller : goal.start_host-requires-clause-caller
 start_host-requires-clause-caller g c κs lives =
     (All-pop (IsHostOf c.args.system.now c.args.play.now.config) c.loop.callers.items c.pop.new.self.items
-    (Some c.in-Some.caller) c.in-Some.ensures.items c.loop.invariant.0).1
+    (Some c.unwrap-caller.result) (rw c.unwrap-caller.ensures at c.pop.ensures.items) c.loop.invariant.0).1
 
 pub loop-preserved : goal.loop-preserved
 loop-preserved g c =
     let i = c.loop.invariant in
     let system = c.args.system.now in
     let play = c.args.play.now in
-    let caller = c.in-Some.caller in
+    let caller = c.unwrap-caller.result in
     let child = c.in-Ok.child in
     let old = c.loop.started.items in (
       (All-pop (IsHostOf system play.config) c.loop.callers.items c.pop.new.self.items
-          (Some caller) c.in-Some.ensures.items
+          (Some caller) (rw c.unwrap-caller.ensures at c.pop.ensures.items)
           i.0).0,
       search rules,
       search rules,
       search rules,
       search rules,
       caller ∷ i.5,
-      i.6 ∙ (ap (λ l. l ++ i.5) c.in-Some.ensures.items ∙ append_assoc c.pop.new.self.items (caller ∷ []) i.5),
+      i.6 ∙ (ap (λ l. l ++ i.5) (rw c.unwrap-caller.ensures at c.pop.ensures.items) ∙ append_assoc
+          c.pop.new.self.items (caller ∷ []) i.5),
       subst (λ l. AllZip (Promises system play) (caller ∷ i.5) (reverse (map (λ h. h.promise) l)))
           (sym c.push_reserved.ensures.items)
           (begun_more (HostPassesContinue system) (Promises system play) (λ h. h.promise) child old caller i.5 i.7
@@ -54,13 +55,14 @@ returns-in-Err-clause-parted g c =
     let i = c.loop.invariant in
     let system = c.args.system.now in
     let play = c.args.play.now in
-    let caller = c.in-Some.caller in
+    let caller = c.unwrap-caller.result in
     let rest = c.pop.new.self.items in
     parted_here (HostPassesContinue system)
     (Promises system play) rest i.5 c.args.callers.now.items _ caller c.in-Err.back _
-    (i.6 ∙ ap (λ l. l ++ i.5) c.in-Some.ensures.items)
+    (i.6 ∙ ap (λ l. l ++ i.5) (rw c.unwrap-caller.ensures at c.pop.ensures.items))
     (callers_same system play.config rest
-    (All-pop (IsHostOf system play.config) c.loop.callers.items rest (Some caller) c.in-Some.ensures.items i.0).0)
+    (All-pop (IsHostOf system play.config) c.loop.callers.items rest (Some caller)
+    (rw c.unwrap-caller.ensures at c.pop.ensures.items) i.0).0)
     c.in-Err.ensures.back c.push_reserved-in-Err.ensures.items i.7
 
 pub returns-clause-parted : goal.returns-clause-parted

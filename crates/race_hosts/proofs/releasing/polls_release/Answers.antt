@@ -7,11 +7,11 @@ returns-in-Pending-clause-goes g c =
     goes_far _ _ (record c.args.host.now { driver = c.poll_release.new.driver }) _
     (goes_called _ _ _ _ None (goes_same _ _ c.requires.own) refl refl refl c.poll_release.ensures.slot_rules
     c.poll_release.ensures.goes_on)
-    c.waits_releasing.ensures.goes
+    c.busy_turn.ensures.goes
 
 pub returns-else-eq-clause-goes : goal.returns-else-eq-clause-goes
 returns-else-eq-clause-goes g c =
     goes_far _ _ (record c.args.host.now { driver = c.poll_release.new.driver }) _
     (goes_called _ _ _ _ None (goes_same _ _ c.requires.own) refl refl refl c.poll_release.ensures.slot_rules
     c.poll_release.ensures.goes_on)
-    c.waits_releasing-in-Later.ensures.goes
+    c.busy_turn-in-Later.ensures.goes

@@ -1,5 +1,5 @@
-use Rattle.driver_testing.specs.Benches.{IsBenchHost}
+use Rattle.driver_testing.specs.Hosts.{IsTestHost}
 use Rattle.refusal_runs.proofs.calls.begins.Given as goal
 
 abbrev pub invariant-loop : goal.invariant-loop
-invariant-loop l = IsBenchHost l._bench l.host
+invariant-loop l = IsTestHost l._system l.host

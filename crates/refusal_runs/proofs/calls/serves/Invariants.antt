@@ -1,5 +1,5 @@
-use Rattle.driver_testing.specs.Benches.{IsServerOf}
+use Rattle.shared_system.specs.Plain.{IsPlainCallerOf}
 use Rattle.refusal_runs.proofs.calls.serves.Given as goal
 
 abbrev pub invariant-loop : goal.invariant-loop
-invariant-loop g l = IsServerOf l.bench l.server
+invariant-loop g l = IsPlainCallerOf l.system l.server

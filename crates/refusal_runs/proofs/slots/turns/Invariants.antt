@@ -1,7 +1,7 @@
-use Rattle.driver_testing.specs.Benches.{IsServerOf}
+use Rattle.shared_system.specs.Plain.{IsPlainCallerOf}
 use Rattle.driver_testing.specs.Claimants.{IsClaimant}
 use Rattle.refusal_runs.proofs.slots.turns.Given as goal
 
-abbrev pub invariant-loop-asked : goal.invariant-loop-asked
-invariant-loop-asked g l =
-    IsServerOf l.bench l.server × IsClaimant l.bench l.slots l.one × IsClaimant l.bench l.slots l.two
+abbrev pub invariant-loop-host : goal.invariant-loop-host
+invariant-loop-host g l =
+    IsPlainCallerOf l.system l.server × IsClaimant l.system l.slots l.one × IsClaimant l.system l.slots l.two

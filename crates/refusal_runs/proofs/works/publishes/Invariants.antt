@@ -1,5 +1,5 @@
-use Rattle.lock_testing.specs.Callers.{IsTestCallerOf}
+use Rattle.shared_system.specs.Plain.{IsPlainCallerOf}
 use Rattle.refusal_runs.proofs.works.publishes.Given as goal
 
 abbrev pub invariant-loop : goal.invariant-loop
-invariant-loop l = IsTestCallerOf l.system l.caller
+invariant-loop l = IsPlainCallerOf l.system l.caller

@@ -10,8 +10,9 @@ pub returns-clause-worker : goal.returns-clause-worker
 returns-clause-worker g c =
     let system = c.args.system.now in
     worker_is system c.args.config.now _ _ _
-    c.in-Some-Some.ensures.last.0.0
-    (all_last (queue.IsPlaceOf system.engine system.works) _ _ _ c.requires.works c.in-Some-Some.ensures'.items)
+    (rw c.unwrap-pass.ensures at c.last_pass.ensures.last).0.0
+    (all_last (queue.IsPlaceOf system.engine system.works) _ _ _ c.requires.works
+    (rw c.unwrap-works.ensures at c.pop-2.ensures.items))
     c.requires.queues.0
     c.requires.queues.1
     (all_last (λ (row : Vec (QueuePass Notice) Global). ArePlaces system.engine system.notices.items row.items) _ _ _

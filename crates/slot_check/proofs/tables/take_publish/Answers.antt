@@ -1,7 +1,5 @@
-use Rattle.std.proofs.Common.{List, None, ap₂, map, sym, ◌++◌, ◌∙◌, ◌≡◌}
+use Rattle.std.proofs.Common.{None, refl, sym, ◌∙◌, ◌≡◌}
 use Rattle.nvme_model.specs.History.{Past}
-use Rattle.nvme_model.specs.Slots.{Swap}
-use Rattle.host_laws.specs.Takeovers.{Takeover, giving}
 use Rattle.slot_check.specs.Broken.{publish_broken}
 use Rattle.slot_check.specs.Names.{names_in}
 use Rattle.slot_check.specs.Takeovers.{takeovers_kept}
@@ -11,49 +9,47 @@ use Rattle.slot_check.proofs.tables.take_publish.Goals as goal
 
 pub returns-then-is_some-clause-broken : goal.returns-then-is_some-clause-broken
 returns-then-is_some-clause-broken c =
-    let batch : BatchIs c.args.slots c.args.line.now.queue c.published-first.result c.as_slice-batch.result.now
-    c.as_slice-moves.result.now c.as_slice-takeovers.result.now = record {
-      moves = c.as_slice-moves.ensures.value ∙ c.in_ok-add_givings.ensures.ok
-          ∙ ap₂ (λ (xs : List Swap) (ws : List Takeover). xs ++ map giving ws) c.in_ok-moves.ensures.value
-          (c.as_slice.ensures.value ∙ sym c.as_slice-takeovers.ensures.value);
-      takeovers = c.as_slice-takeovers.ensures.value ∙ c.in_ok-takeovers.ensures.value;
+    let line = c.args.line.now in
+    let moves = c.in_ok-moves.moves in
+    let batch : BatchIs c.args.slots line.queue c.published-first.result line.batch moves.swaps.items
+    moves.takeovers.items = record {
+      moves = rw c.as_slice-batch.ensures.value at c.in_ok-moves.ensures.swaps;
+      takeovers = rw c.as_slice-batch.ensures.value at c.in_ok-moves.ensures.takeovers;
     } in
     λ past h.
-    whole_is c.args.config.now c.args.slots past c.args.line.now
-    (slot_check_state_in c.args.tables.now) c.published-first.result
-    c.as_slice-batch.result.now c.as_slice-moves.result.now c.as_slice-takeovers.result.now c.judge_batch-broken.result
-    h c.published-first.ensures.value c.as_slice-batch.ensures.value batch c.judge_batch-broken.ensures.value
+    whole_is c.args.config.now c.args.slots past line (slot_check_state_in c.args.tables.now) c.published-first.result
+    line.batch moves.swaps.items moves.takeovers.items c.judge_batch-broken.result h c.published-first.ensures.value
+    refl batch c.judge_batch-broken.ensures.value
 
 pub returns : goal.returns
 returns c =
-    let batch : BatchIs c.args.slots c.args.line.now.queue c.published-first.result c.as_slice-batch.result.now
-    c.as_slice-moves.result.now c.as_slice-takeovers.result.now = record {
-      moves = c.as_slice-moves.ensures.value ∙ c.in_ok-add_givings.ensures.ok
-          ∙ ap₂ (λ (xs : List Swap) (ws : List Takeover). xs ++ map giving ws) c.in_ok-moves.ensures.value
-          (c.as_slice.ensures.value ∙ sym c.as_slice-takeovers.ensures.value);
-      takeovers = c.as_slice-takeovers.ensures.value ∙ c.in_ok-takeovers.ensures.value;
+    let line = c.args.line.now in
+    let moves = c.in_ok-moves.moves in
+    let batch : BatchIs c.args.slots line.queue c.published-first.result line.batch moves.swaps.items
+    moves.takeovers.items = record {
+      moves = rw c.as_slice-batch.ensures.value at c.in_ok-moves.ensures.swaps;
+      takeovers = rw c.as_slice-batch.ensures.value at c.in_ok-moves.ensures.takeovers;
     } in
     let none : c.judge_batch-broken.result ≡ None = none_where c.judge_batch-broken.result c.if-is_some.ensures in
     let broken : (past : Past)
     → IsSlotCheckState c.args.config.now c.args.slots past (slot_check_state_in c.args.tables.now)
-    → None ≡ publish_broken c.args.config.now c.args.slots past c.args.line.now =
+    → None ≡ publish_broken c.args.config.now c.args.slots past line =
     λ past h. sym none
-    ∙ whole_is c.args.config.now c.args.slots past c.args.line.now
-    (slot_check_state_in c.args.tables.now) c.published-first.result
-    c.as_slice-batch.result.now c.as_slice-moves.result.now c.as_slice-takeovers.result.now c.judge_batch-broken.result
-    h c.published-first.ensures.value c.as_slice-batch.ensures.value batch c.judge_batch-broken.ensures.value in
+    ∙ whole_is c.args.config.now c.args.slots past line (slot_check_state_in c.args.tables.now)
+    c.published-first.result line.batch moves.swaps.items moves.takeovers.items c.judge_batch-broken.result h
+    c.published-first.ensures.value refl batch c.judge_batch-broken.ensures.value in
     record {
       broken = broken;
       kept = λ past h legal e.
-          publish_keeps c.args.config.now c.args.slots past c.args.line.now (slot_check_state_in c.args.tables.now)
+          publish_keeps c.args.config.now c.args.slots past line (slot_check_state_in c.args.tables.now)
           (slot_check_state_in (record {
             progress = c.publish.new.self;
             names = c.add_all-2.new.self;
             takeovers = c.add_all.new.self;
           }))
           (names_in c.reserve.new.self) (takeovers_kept c.reserve-2.new.self) c.published-first.result
-          c.as_slice-batch.result.now c.as_slice-moves.result.now c.as_slice-takeovers.result.now h
-          legal c.published-first.ensures.value c.as_slice-batch.ensures.value batch (sym (broken past h))
+          line.batch moves.swaps.items moves.takeovers.items h
+          legal c.published-first.ensures.value refl batch (sym (broken past h))
           (c.in_ok-publish.ensures.ok c.args.config.now past h.progress)
           (record {
             claim = c.reserve.ensures.claims;
@@ -62,10 +58,10 @@ returns c =
             begun = c.reserve-2.ensures.begun;
             taken = c.reserve-2.ensures.taken;
             cut = c.reserve-2.ensures.cut;
-            new_begun = c.add_all.ensures.begun;
+            new_begun = rw c.as_slice-takeovers.ensures.value at c.add_all.ensures.begun;
             new_taken = c.add_all.ensures.taken;
-            new_cut = c.add_all.ensures.cut;
-            knows = c.add_all-2.ensures.knows;
+            new_cut = rw c.as_slice-takeovers.ensures.value at c.add_all.ensures.cut;
+            knows = rw c.as_slice-swaps.ensures.value at c.add_all-2.ensures.knows;
           });
       err = λ past h. tt;
     }

@@ -7,6 +7,7 @@ use Rattle.slot_tests.proofs.crowd.leaves.Goals as goal
 pub returns-clause-rest : goal.returns-clause-rest
 returns-clause-rest c =
     let less : c.args.place < length c.args.all.now.items = search rules in
-    All-same (IsClaimant c.args._bench.now c.args._slots.now) c.swap_remove.new.self.items _ c.swap_remove.ensures.items
-    (all_but (IsClaimant c.args._bench.now c.args._slots.now) c.args.all.now.items c.args.place c.swap_remove.result
+    All-same (IsClaimant c.args._system.now c.args._slots.now) c.swap_remove.new.self.items _
+    c.swap_remove.ensures.items
+    (all_but (IsClaimant c.args._system.now c.args._slots.now) c.args.all.now.items c.args.place c.swap_remove.result
     less c.requires)

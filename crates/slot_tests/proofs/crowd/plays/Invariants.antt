@@ -1,8 +1,8 @@
 use Rattle.std.specs.Prelude.{All}
-use Rattle.driver_testing.specs.Benches.{IsServerOf}
+use Rattle.shared_system.specs.Plain.{IsPlainCallerOf}
 use Rattle.driver_testing.specs.Claimants.{IsClaimant}
 use Rattle.slot_tests.proofs.crowd.plays.Given as goal
 
 abbrev pub invariant-loop : goal.invariant-loop
-invariant-loop g l = IsServerOf l.bench l.server × All (IsClaimant l.bench l.slots) l.some.items
-    × All (IsClaimant l.bench l.slots) l.others.items
+invariant-loop g l = IsPlainCallerOf l.system l.server × All (IsClaimant l.system l.slots) l.crowd.waiting.items
+    × All (IsClaimant l.system l.slots) l.crowd.done.items

@@ -72,7 +72,8 @@ returns-in-Err-Refused-Publish-clause-refused c =
 pub returns-in-Ok-clause-later : goal.returns-in-Ok-clause-later
 returns-in-Ok-clause-later c =
     let k = c.in-Ok.ensures in
-    port_stepped c.args.self.now _ (PortEvent.Sent c.args.queue c.args.batch) refl k.same k.knows.1 k.accepted.by.adds
+    port_stepped c.args.self.now _ (PortEvent.Sent c.args.queue c.args.batch) refl (λ h. h) k.same k.knows.1
+    k.accepted.by.adds
     (returns-in-Ok-clause-sent c)
 
 pub returns-in-Err-Refused-Publish-clause-later : goal.returns-in-Err-Refused-Publish-clause-later
@@ -81,4 +82,4 @@ returns-in-Err-Refused-Publish-clause-later c =
     let d = e.ensures in
     let r = refused_publish c.args.self.now.pass c.attempt_open.new.pass c.args.queue c.args.batch e.field-0 e.field-0-0
     e.why e.batch e.field-0-is e.field-0-0-is d.declined in
-    port_idle c.args.self.now _ refl d.same d.knows.1 r.0 (returns-in-Err-Refused-Publish-clause-back c).1
+    port_idle c.args.self.now _ refl (λ h. h) d.same d.knows.1 r.0 (returns-in-Err-Refused-Publish-clause-back c).1

@@ -7,7 +7,7 @@ use Rattle.job_table.proofs.job.Job.make_block.Goals as goal
 pub returns-clause-job : goal.returns-clause-job
 returns-clause-job c =
     let j = c.self.inside in
-    let p = c.in-Some.run' in
+    let p = c.unwrap-run.result in
     let v = c.args.volume.now in
     let f = c.touch-found.result in
     let boxes = c.touch-found.new.boxes in
@@ -35,5 +35,6 @@ returns-clause-job c =
     (drop c.written_then-count.result
     (contents_of (take (length j.write.items) (boxes ++ drop (length boxes) j.write.items))))
     (take (length j.read) (c.touch-found.new.read ++ drop (length c.touch-found.new.read) j.read)) c.self.view_is
-    c.requires.open c.in-Some.ensures.value c.note.ensures.done c.note.ensures.noted write read in
+    c.requires.open (rw c.unwrap-run.ensures at c.run.ensures.value) c.note.ensures.done c.note.ensures.noted write
+    read in
     search (rules, r)

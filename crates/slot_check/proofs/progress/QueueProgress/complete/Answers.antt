@@ -14,13 +14,15 @@ returns-in_err-add_count-clause-none_waits c =
     ≡ (progress_in c.args.self.now).waiting q i) same
 
 pub returns-then-flying-le1-clause-waiting : goal.returns-then-flying-le1-clause-waiting
-returns-then-flying-le1-clause-waiting c = λ q i. c.in-Ok.ensures.updates.0 (record { queue = q; index = i })
+returns-then-flying-le1-clause-waiting c =
+    λ q i. (rw c.unwrap.ensures at c.insert-added.ensures.updates).0 (record { queue = q; index = i })
     ∙ (λ t. cond (eqb c.args.queue q && eqb (c.count_of-index.ensures.value t) i)
     (Some (record { queue = c.args.flying.queue; number = c.args.flying.next; success = c.args.success }))
     (c.reserve.ensures.entries.2 (record { queue = q; index = i }) t))
 
 pub returns-clause-waiting : goal.returns-clause-waiting
-returns-clause-waiting c = λ q i. c.in-Ok.ensures.updates.0 (record { queue = q; index = i })
+returns-clause-waiting c =
+    λ q i. (rw c.unwrap.ensures at c.insert-added.ensures.updates).0 (record { queue = q; index = i })
     ∙ (λ t. cond (eqb c.args.queue q && eqb (c.count_of-index.ensures.value t) i)
     (Some (record { queue = c.args.flying.queue; number = c.args.flying.next; success = c.args.success }))
     (c.reserve.ensures.entries.2 (record { queue = q; index = i }) t))

@@ -12,13 +12,13 @@ returns-clause-ok c = λ d past h legal.
       fetched = c.add_count.new.counts;
       posted = c.args.self.now.posted;
       reaped = c.args.self.now.reaped;
-      flying = c.insert.new.self;
+      flying = c.insert-put.new.self;
       waiting = c.args.self.now.waiting;
     })) h legal (λ q. refl)
     (λ q. c.in_ok-add_count.ensures.ok q
     ∙ ap (λ (x : ℕ). (progress_in c.args.self.now).fetched q + cond (eqb c.args.line.now.queue q) x 0) n)
     (λ q. refl) (λ q. refl)
-    (λ t. c.in-Ok.ensures.updates.0 t
+    (λ t. (rw c.unwrap.ensures at c.insert-put.ensures.updates).0 t
     ∙ (λ i. cond (eqb c.args.line.now.ticket t)
     (Some (record { queue = c.args.line.now.queue; next = c.count_of-next.ensures.value i; left = n i }))
     (c.reserve.ensures.entries.2 t i))) (λ q i. refl)

@@ -15,9 +15,9 @@ data_room-requires c =
     let a = subst (λ (x : ControllerState). IsFetched x.config x.past c.args.queue c.args.front.now)
     (sym c.self.view_is)
     c.requires.fetched in
-    let ring = subst (λ (x : ControllerState). IsSqRing x.config x.past c.args.queue c.in-Some.ring.now)
+    let ring = subst (λ (x : ControllerState). IsSqRing x.config x.past c.args.queue c.unwrap-ring.result.now)
     (sym c.self.view_is)
-    c.in-Some.ensures.value in
+    (rw c.unwrap-ring.ensures at c.sq_ring.ensures.value) in
     record { has = data_has _ _ _ c.self.invariant.0 _ _ a _ ring }
 
 pub returns-clause-write : goal.returns-clause-write
@@ -25,10 +25,10 @@ returns-clause-write c =
     let a = subst (λ (x : ControllerState). IsFetched x.config x.past c.args.queue c.args.front.now)
     (sym c.self.view_is)
     c.requires.fetched in
-    let ring = subst (λ (x : ControllerState). IsSqRing x.config x.past c.args.queue c.in-Some.ring.now)
+    let ring = subst (λ (x : ControllerState). IsSqRing x.config x.past c.args.queue c.unwrap-ring.result.now)
     (sym c.self.view_is)
-    c.in-Some.ensures.value in
-    let same = subst (λ (x : ControllerState). write_first c.args.front.now.judged c.in-Some.ring.now.waiting
+    (rw c.unwrap-ring.ensures at c.sq_ring.ensures.value) in
+    let same = subst (λ (x : ControllerState). write_first c.args.front.now.judged c.unwrap-ring.result.now.waiting
     ≡ write_blocks (fetched_ticket x.past c.args.queue (verdict_by c.args.front.now.judged))) c.self.view_is
     (data_is _ _ _ c.self.invariant.0 _ _ a _ ring) in
     subst (λ (bs : List (List ℕ)). IfOk c.data_room.result (λ room. contents_of room.write.items ≡ bs)) same

@@ -5,7 +5,8 @@ use Rattle.range_reserve.specs.declared.held.HeldRange.{HeldRange}
 use Rattle.step_core.specs.Found.{IsNextStep}
 use Rattle.step_core.specs.declared.controller.next.ReadyStep.{ReadyStep}
 use Rattle.controller_interface.specs.State.{ControllerState}
-use Rattle.step_core.proofs.Granted.{apart, first, free, has_job, held_ok, kept, range_is}
+use Rattle.step_core.proofs.Granted.{apart, first, free, has_job, kept, range_is}
+use Rattle.range_reserve.proofs.Granted.{held_ok}
 use Rattle.step_core.proofs.controller.Core.make_grant.Goals as goal
 
 pub grant-requires-clause-free : goal.grant-requires-clause-free

@@ -1,8 +1,7 @@
-use Rattle.std.proofs.Common.{◌≡◌, ◌++◌, ◌∷◌, [], ap, sym, ◌∙◌, append_assoc, arith, refl, subst}
+use Rattle.std.proofs.Common.{◌≡◌, ◌++◌, ◌∷◌, [], ap, sym, ◌∙◌, append_assoc, arith, refl}
 use mathlib.Core.List.{reverse}
 use Rattle.std.proofs.lemmas.List.{append-nil, reverse-reverse}
-use Rattle.step_core.proofs.Whole.{KeptBy, RunsOnto-push, kept_runs, reverse_push}
-use Rattle.nvme_model.proofs.OneAtATime.{one_at_a_time}
+use Rattle.step_core.proofs.Whole.{RunsOnto-push, reverse_push}
 use Rattle.step_core.proofs.controller.Core.run_steps.Goals as goal
 
 pub loop-step-preserved : goal.loop-step-preserved
@@ -23,24 +22,10 @@ loop-step-preserved c =
         tried.0 ++ c.in-Some.step ∷ [],
         append_assoc tried.0 (c.in-Some.step ∷ []) (reverse c.pop.new.self.items) ∙ ap (λ x. tried.0 ++ x) (sym left)
             ∙ tried.1,
-        RunsOnto-push _ _ _ tried.0 _ _ _ c.in-Some.step _ tried.2 c.serve-answer.ensures.serves
+        RunsOnto-push _ _ _ tried.0 _ _ _ c.in-Some.step _ tried.2 c.step-answer.ensures.serves
             c.push_reserved.ensures.items,
       );
     }
-
-pub returns-clause-legal : goal.returns-clause-legal
-returns-clause-legal c =
-    let tried = c.loop-step.invariant.tried in
-    (kept_runs _ _ tried.0 tried.2.0 (subst KeptBy c.self.view_is c.self.invariant.0.run) tried.2.2).legal
-
-pub returns-clause-array : goal.returns-clause-array
-returns-clause-array c =
-    let tried = c.loop-step.invariant.tried in
-    one_at_a_time _ _ (kept_runs _ _ tried.0 tried.2.0 (subst KeptBy c.self.view_is c.self.invariant.0.run)
-    tried.2.2).legal
-
-pub returns-in-Err-clause-array : goal.returns-in-Err-clause-array
-returns-in-Err-clause-array c = one_at_a_time _ _ (subst KeptBy c.self.view_is c.self.invariant.0.run).legal
 
 pub loop-step-init : goal.loop-step-init
 loop-step-init c =

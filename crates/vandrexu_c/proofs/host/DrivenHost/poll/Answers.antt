@@ -1,10 +1,13 @@
 use Rattle.std.proofs.Common.{sym}
-use Rattle.vandrexu_c.proofs.Calls.{polls_of}
+use Rattle.vandrexu_c.proofs.Calls.{back_of, polls_of}
 use Rattle.c_handles.proofs.Works.{one_kept, some_kept}
 use Rattle.vandrexu_c.proofs.host.DrivenHost.poll.Goals as goal
 
 pub poll-polled-requires : goal.poll-polled-requires
 poll-polled-requires c = c.self.invariant c.in-Some.call (sym c.in-Some.ensures.value)
+
+pub invariant_of-self-2 : goal.invariant_of-self-2
+invariant_of-self-2 c = back_of _ c.poll-polled.result _ c.poll-polled.ensures.stays c.end.ensures.call
 
 pub returns : goal.returns
 returns c =

@@ -1,18 +1,26 @@
-use Rattle.std.proofs.Common.{Ok, refl, subst, sym, ◌≡◌}
+use Rattle.std.proofs.Common.{Err, Ok, refl, subst, sym}
 use Rattle.controller_interface.specs.declared.answer.Answer.{Answer}
-use Rattle.vandrexu_c.specs.Steps.{TellsFetched}
+use Rattle.controller_interface.specs.declared.answer.Refused.{Refused}
+use Rattle.vandrexu_c.specs.Steps.{GivesAnswer, TellsFetched}
 use Rattle.vandrexu_c.proofs.owned_controller.OwnedController.fetch.Goals as goal
+use Rattle.vandrexu_c.proofs.owned_controller.OwnedController.fetch.Goals.{in-Err, in-Ok}
 
 pub returns : goal.returns
 returns c =
-    let answered : c.in-Ok.answer ≡ Answer.Fetched c.in-Fetched.work = c.in-Fetched.is in
     record {
       gives = rw (sym c.self.view_is) (
         refl,
-        (
-          Ok c.in-Ok.answer,
-          c.in-Ok.ensures.serves,
-          subst (TellsFetched c.work_in.result) (sym answered) c.work_in.ensures,
-        ),
+        elim c.match-fetch.branch [
+          | in-Ok w ↦ (
+            Ok (Answer.Fetched w.in-Ok.work),
+            w.in-Ok.ensures.serves,
+            subst (GivesAnswer TellsFetched (Ok (Answer.Fetched w.in-Ok.work))) (sym w.result-is) w.work_in.ensures,
+          )
+          | in-Err w ↦ (
+            Err (Refused.Step w.in-Err.why),
+            w.in-Err.ensures.serves,
+            subst (GivesAnswer TellsFetched (Err (Refused.Step w.in-Err.why))) (sym w.result-is) w.refused_in.ensures,
+          )
+        ],
       );
     }

@@ -5,6 +5,11 @@ use Rattle.vandrexu_c.proofs.Beginning.{holder_kept}
 use Rattle.vandrexu_c.proofs.Keeping.{idle}
 use Rattle.vandrexu_c.proofs.slot_host.SlotHost.begin_holder.Goals as goal
 
+pub keep_holder-requires : goal.keep_holder-requires
+keep_holder-requires c =
+    ap (λ (h : SlotState). h.under_way) c.self.view_is
+    ∙ (slot_open c.args.self.now.under_way c.args.self.now.holds c.args.slot c.requires).0
+
 pub invariant_of-self : goal.invariant_of-self
 invariant_of-self c =
     let s = c.self.inside in

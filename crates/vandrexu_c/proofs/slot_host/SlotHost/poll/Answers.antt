@@ -52,3 +52,28 @@ returns-in-GiveBack c =
     }) in
     subst (λ (g : SlotState). PollTells g c.poll_give_back.new.self c.poll_give_back.result.0 c.poll_give_back.result.1)
     c.self.view_is told
+
+pub returns-in-Release : goal.returns-in-Release
+returns-in-Release c =
+    let s = c.self.inside in
+    let x = c.poll_release.ensures in
+    let h : SlotState = record {
+      driver = s.driver;
+      slots = s.slots;
+      holds = s.holds.items;
+      under_way = s.under_way;
+      took_over = s.took_over;
+    } in
+    let told : CallPolls h c.poll_release.new.self s.under_way c.poll_release.result.0 c.poll_release.result.1 =
+    subst (λ (u : UnderWay). CallPolls h c.poll_release.new.self u c.poll_release.result.0 c.poll_release.result.1)
+    c.in-Release.ensures.value (record {
+      released = x.released;
+      is = x.is;
+      quiet = x.quiet;
+      goes_on = x.goes_on;
+      asks = x.asks;
+      told = x.told;
+      same = x.same;
+    }) in
+    subst (λ (g : SlotState). PollTells g c.poll_release.new.self c.poll_release.result.0 c.poll_release.result.1)
+    c.self.view_is told

@@ -1,5 +1,0 @@
-use Rattle.race.specs.Survivors.{AreAllParties}
-use Rattle.race.proofs.swept.asks_each.Given as goal
-
-abbrev pub invariant-loop : goal.invariant-loop
-invariant-loop g l = AreAllParties l.system l.play l.race l.queues l.fates l.sweep
