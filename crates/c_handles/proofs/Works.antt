@@ -1,10 +1,8 @@
 -- Whether a Work is kept, and which.
 use Rattle.std.proofs.Common.{Bool, false, is_some, subst, ℕ, ◌≡◌}
 use Rattle.std.specs.Prelude.{None, Option, Some}
-use Rattle.work_queue.specs.Engines.{EnginePass, OpenedAs}
+use Rattle.work_queue.specs.Engines.{EnginePass, FetchedAs}
 use Rattle.work_queue.specs.declared.engine.Engine.{Engine}
-use Rattle.work_queue.specs.declared.engine.Open.{Open}
-use Rattle.work_queue.specs.declared.engine.Opened.{Opened}
 use Rattle.work_queue.specs.declared.work.Work.{Work}
 use Rattle.c_handles.specs.Disks.{MakesTask}
 use Rattle.c_handles.specs.declared.disk.Disk.{Disk}
@@ -19,11 +17,10 @@ one_kept h k = let x = h in let y = k in cc
 pub some_kept : {A : Type 0} {o : Option A} {v : A} → Some v ≡ o → o ≡ None → ⊥
 some_kept h k = let x = h in let y = k in cc
 
--- the same by what the engine and the answer are
-pub opened_by : (e f : Engine) (p q : EnginePass) (o : Open) (r s : Opened) → e ≡ f → r ≡ s → OpenedAs e p q o r
-    → OpenedAs f p q o s
-opened_by e f p q o r s h k x =
-    subst (λ (g : Engine). OpenedAs g p q o s) h (subst (λ (t : Opened). OpenedAs e p q o t) k x)
+-- the same by what the engine is
+pub fetched_by : (e f : Engine) (p q : EnginePass) (n : ℕ) (w : Work) → e ≡ f → FetchedAs e p q n w
+    → FetchedAs f p q n w
+fetched_by e f p q n w h x = subst (λ (g : Engine). FetchedAs g p q n w) h x
 
 -- the same of a Work that is the one kept
 pub makes_of : (d e : Disk) (v w : Work) (n : ℕ) → v ≡ w → MakesTask d e v n → MakesTask d e w n

@@ -14,10 +14,8 @@ use Rattle.meet_lock.specs.Passes.{Declines, IsSame, Knows, Worked}
 use Rattle.meet_lock.specs.declared.pass.Declined.{Declined}
 use Rattle.ticket_laws.specs.Tasks.{own_done, task_fault}
 use Rattle.work_queue.specs.Duties.{duty_of, task_step}
-use Rattle.work_queue.specs.Engines.{EnginePass, IsFreshPass, OpenedAs, its, opening_of}
+use Rattle.work_queue.specs.Engines.{EnginePass, FetchedAs, IsFreshPass, its, opening_of}
 use Rattle.work_queue.specs.declared.engine.Engine.{Engine}
-use Rattle.work_queue.specs.declared.engine.Open.TheVariants as opening
-use Rattle.work_queue.specs.declared.engine.Opened.TheVariants as opened
 use Rattle.work_queue.specs.declared.task.Task.{Task}
 use Rattle.work_queue.specs.declared.work.Work.{Work}
 use Rattle.c_handles.specs.Answers.{answer_number, end_number}
@@ -57,7 +55,7 @@ pub record IsSameDisk (d e : Disk) : Type 0 where
 -- what a Fetch gives: the Work, which is kept; or why there is none
 abbrev pub FetchGives : Disk → Disk → ℕ → Result Work Declined → Type 0
 FetchGives d e q (Ok w) =
-    (e.work ≡ Some w) × OpenedAs (disk_engine d) d.server e.server (opening.Fetch q) (opened.Fetched w)
+    (e.work ≡ Some w) × FetchedAs (disk_engine d) d.server e.server q w
 FetchGives d e q (Err x) = (e.work ≡ None) × Declines Refuses d.server e.server (Step.Fetch q) x
 
 -- the server asked for a Fetch of this submission queue, and this number is told

@@ -1,5 +1,5 @@
 -- Some lines of a text, from a place on.
-use Rattle.std.specs.Prelude.{List, Some, [], drop, length, slice_get, take, ℕ, ◌+◌, ◌++◌, ◌<◌, ◌∷◌, ◌≡◌, ◌≤◌, ◌⊎◌}
+use Rattle.std.specs.Prelude.{List, Some, [], length, slice_get, take, ℕ, ◌+◌, ◌++◌, ◌<◌, ◌∷◌, ◌≡◌, ◌≤◌, ◌⊎◌}
 use Rattle.line_text.specs.Lines.{with_feeds}
 use Rattle.c_handles.specs.declared.pieces.Piece.{Piece}
 

@@ -3,17 +3,17 @@
 ghost use Rattle.std.specs.Arc.{arc_value};
 ghost use Rattle.std.specs.Option.{ForSome};
 ghost use Rattle.std.specs.Prelude.{◌≡◌, All};
-ghost use Rattle.work_queue.specs.Engines.{IsFreshPass, IsPassOfEngine, IsWorkOf};
+ghost use Rattle.work_queue.specs.Engines.{IsFreshPass, IsPassOfEngine, IsWorkOf, fetch_declined};
 ghost use Rattle.c_handles.specs.Answers.{declined_number, end_number};
 
 use crate::numbers::{NOTHING_READY, UNFINISHED};
 use history::Config;
-use meet_lock::{Declined, Pass};
+use meet_lock::{Declined, Pass, Unmade};
 use nvme_model::refusal::Why;
 use std::alloc::{AllocError as NoMemory, Global};
 use std::sync::Arc;
-use step_core::{Core, Refused};
-use work_queue::{Engine, Open, Opened, Work};
+use step_core::{Core, FetchCall, Refused};
+use work_queue::{Engine, Work};
 
 /// A controller, who serves it, and the passes of the hosts that aren't made yet.
 #[derive(Drop)]
@@ -38,6 +38,16 @@ fn declined_in(declined: &Declined) -> u32
         Declined::Busy(_) => u32::from(Why::Busy.number()),
         Declined::Refused(Refused::Publish(why, _)) => u32::from(why.number()),
         Declined::Refused(Refused::Step(why)) => u32::from(why.number()),
+    }
+}
+
+// The number of why a Fetch isn't made.
+fn unfetched(unmade: &Unmade<FetchCall, Why>) -> u32
+    ensures { result ≡ declined_number (fetch_declined unmade.now) }
+{
+    match unmade {
+        Unmade::Busy(_) => u32::from(Why::Busy.number()),
+        Unmade::Refused(why) => u32::from(why.number()),
     }
 }
 
@@ -83,17 +93,12 @@ impl Disk {
         if self.work.is_some() {
             return UNFINISHED;
         }
-        match self
-            .engine
-            .attempt_open(&mut self.server, Open::Fetch(queue))
-        {
-            Ok(Opened::Fetched(work)) => {
+        match self.engine.fetch(&mut self.server, queue) {
+            Ok(work) => {
                 self.work = Some(work);
                 0
             }
-            // An accepted Fetch is answered by a Work, which the engine's contract says.
-            Ok(Opened::Published | Opened::Reaped { .. }) => unreachable!(),
-            Err(declined) => declined_in(&declined),
+            Err(unmade) => unfetched(&unmade),
         }
     }
 

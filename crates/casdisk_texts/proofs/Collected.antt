@@ -1,5 +1,5 @@
 -- What the lines of a trace keep.
-use Rattle.std.proofs.Common.{◌≡◌, ℕ, ◌+◌, ◌<◌, ◌≤◌, ◌==◌, ◌&&◌, ◌||◌, not, Bool, true, false, cond, List, [], ◌∷◌}
+use Rattle.std.proofs.Common.{◌≡◌, ◌≢◌, ℕ, ◌+◌, ◌<◌, ◌≤◌, ◌==◌, ◌&&◌, ◌||◌, not, Bool, true, false, cond, List, [], ◌∷◌}
 use Rattle.std.proofs.Common.{◌++◌}
 use Rattle.std.proofs.Common.{None, Some, drop, inl, inr, refl, sym, ap, ◌∙◌, is_some, arith, subst}
 use Rattle.std.proofs.Common.{append_assoc, append-nil}
@@ -26,11 +26,11 @@ use Rattle.trace.specs.declared.option_lines.TraceOption.{TraceOption}
 use Rattle.trace.specs.declared.option_lines.TraceOption.TheVariants.{ContentsUnknown, Ignore, StatusesAny}
 use Rattle.casdisk_texts.specs.Fault.{fault_in_memory}
 use Rattle.casdisk_texts.specs.Meaning.{TakesLine}
-use Rattle.casdisk_texts.specs.Running.{Makes, PrintsAll, Reached, RunsScript}
-use Rattle.casdisk_texts.specs.Script.{Outcome, ScriptEnd, after_config, after_line, after_numbers, bad_config}
+use Rattle.casdisk_texts.specs.Running.{Makes, Reached, RunsScript}
+use Rattle.casdisk_texts.specs.Script.{Outcome, after_config, after_line, after_numbers, bad_config}
 use Rattle.casdisk_texts.specs.Script.{bad_line}
 use Rattle.casdisk_texts.specs.Script.{cut, done, first_config, lines_print, script_outcome, script_prints}
-use Rattle.casdisk_texts.specs.Traces.{HasCollected, HasTrace, IsTraceUnread, TakesOption, TraceEndsSo, bit}
+use Rattle.casdisk_texts.specs.Traces.{HasCollected, HasTrace, IsTraceUnread, TakesOption, bit}
 use Rattle.casdisk_texts.specs.Traces.{config_after, has_room}
 use Rattle.casdisk_texts.specs.Traces.{kept_as, kept_by, kept_option, line_kept, may_stand, option_kept_as}
 use Rattle.casdisk_texts.specs.Traces.{options_kept, rank_kept, things_in, things_kept}
@@ -39,6 +39,7 @@ use Rattle.casdisk_texts.specs.declared.fault.RunFault.{RunFault}
 use Rattle.casdisk_texts.specs.declared.fault.RunFault.TheVariants.{BadLine, BadConfig, Input, Output, NoMemory}
 use Rattle.casdisk_texts.specs.declared.meaning.Taken.{Taken}
 use Rattle.casdisk_texts.specs.declared.meaning.Taken.TheVariants.{Bad, Done}
+use Rattle.casdisk_texts.proofs.Reaching.{end_is}
 
 -- ---- what is kept is what it was
 
@@ -309,17 +310,23 @@ kept_text (line ∷ lines) rest h = by (config_in line) h
 
 -- ---- what is said of a trace, from what the reading of its lines gave
 
-ends_of : (e : ScriptEnd) (r w u : Option (List ℕ)) → PrintsAll (script_outcome (λ c. line_kept (has_room c))) e r w u
-    → TraceEndsSo e r
-ends_of e None w u p = tt
-ends_of e (Some bytes) w u p = p.0
+-- a fault of what isn't writing is none of memory
+pub same_in_memory : (f : RunFault) → f ≢ Output → fault_in_memory f ≡ f
+same_in_memory (BadLine n) other = refl
+same_in_memory (BadConfig n) other = refl
+same_in_memory Input other = refl
+same_in_memory Output other = absurd (other refl)
+same_in_memory NoMemory other = refl
 
 pub trace_unread : (f : RunFault) (r t w u : Option (List ℕ))
     → RunsScript (script_outcome (λ c. line_kept (has_room c))) (Err f) r t w u
     → IsTraceUnread (fault_in_memory f) r t
-trace_unread (BadLine n) r t w u (inl h) = inl (ends_of (bad_line n) r w u h)
-trace_unread (BadLine n) r t w u (inr h) = inr (ends_of (cut n) r w u h)
-trace_unread (BadConfig n) r t w u h = ends_of (bad_config n) r w u h
+trace_unread (BadLine n) r t w u (inl h) =
+    inl (end_is (script_outcome (λ c. line_kept (has_room c))) (bad_line n) r w u h)
+trace_unread (BadLine n) r t w u (inr h) =
+    inr (end_is (script_outcome (λ c. line_kept (has_room c))) (cut n) r w u h)
+trace_unread (BadConfig n) r t w u h =
+    end_is (script_outcome (λ c. line_kept (has_room c))) (bad_config n) r w u h
 trace_unread Input r t w u h = (h.0, h.1, h.2)
 trace_unread Output r t w u h = tt
 trace_unread NoMemory r t w u h = tt

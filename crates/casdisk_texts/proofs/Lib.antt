@@ -3,7 +3,6 @@ pub mod Answering
 mod Collected
 mod Configurations
 mod KindsLemmas
-pub mod Faults
 mod Followed
 pub mod Placing
 mod Printed

@@ -2,7 +2,7 @@
 use Rattle.std.proofs.Common.{◌≡◌, ℕ, ◌+◌, List, [], ◌∷◌, ◌++◌, None, Some, inl, inr, refl, sym, ap, ◌∙◌, subst}
 use Rattle.std.proofs.Common.{append_assoc, append-nil}
 use Rattle.std.specs.Prelude.{IfSome, Option, Result, Ok, Err}
-use Rattle.std.specs.Io.KnownBytes.{Appends, Keeps, IsAtEnd}
+use Rattle.std.specs.Io.KnownBytes.{Appends, Consumes, Keeps, IsAtEnd}
 use Rattle.std.proofs.KnownBytes.{Appends-nil, Appends-trans, Appends-kept, Consumes-nil, Consumes-trans}
 use Rattle.std.proofs.KnownBytes.{Consumes-whole}
 use Rattle.line_text.specs.Known.{AppendsFront}
@@ -69,17 +69,11 @@ pub print_rest : (meaning : Meaning) (past : Past) (n : ℕ) (rest : List ℕ) �
 print_rest meaning past n [] h = absurd (h refl)
 print_rest meaning past n (b ∷ bs) h = print_cut meaning past n b bs
 
--- what stands behind the last line feed prints nothing
-print_nothing : (meaning : Meaning) (past : Past) (n : ℕ) (rest : List ℕ)
-    → (lines_print meaning past n [] rest).text ≡ []
-print_nothing meaning past n [] = ap (λ (o : Outcome). o.text) (print_end meaning past n)
-print_nothing meaning past n (b ∷ bs) = ap (λ (o : Outcome). o.text) (print_cut meaning past n b bs)
-
--- and is no bad line
-open_end : (meaning : Meaning) (past : Past) (n : ℕ) (rest : List ℕ)
-    → IsOpenEnd (lines_print meaning past n [] rest).end
-open_end meaning past n [] = subst (λ (o : Outcome). IsOpenEnd o.end) (sym (print_end meaning past n)) tt
-open_end meaning past n (b ∷ bs) = subst (λ (o : Outcome). IsOpenEnd o.end) (sym (print_cut meaning past n b bs)) tt
+-- what stands behind the last line feed prints nothing, and is no bad line
+print_last : (meaning : Meaning) (past : Past) (n : ℕ) (rest : List ℕ)
+    → (e : ScriptEnd) × IsOpenEnd e × (lines_print meaning past n [] rest ≡ ending e past)
+print_last meaning past n [] = (done, tt, print_end meaning past n)
+print_last meaning past n (b ∷ bs) = (cut n, tt, print_cut meaning past n b bs)
 
 -- ---- no call yet
 
@@ -119,15 +113,21 @@ module _ (outcome : List ℕ → Outcome) (meaning : Meaning) (past : Past) (n :
             (rest_line (after ++ more)) x e) ∙ prefixed_twice at.out x.1 (lines_from meaning x.0 (n + 1) after more);
       }
 
+  -- what holds of the outcome up to a bad line holds of each input that has it
+  pub at_bad : (P : Outcome → Type 0) (after line : List ℕ) → GivesBytes s t held after (line ++ 10 ∷ []) → NoFeed line
+      → meaning past line ≡ None → P (prefixed at.out (ending (bad_line n) past))
+      → IfSome r (λ bytes. P (outcome bytes))
+  at_bad P after line g plain e holds =
+      known_input r t (at.bytes ++ g.bytes) (λ bytes. P (outcome bytes))
+      (Consumes-trans r s t at.bytes g.bytes at.consumed g.consumed) (λ more.
+      subst P
+      (sym (meant after line more g plain ∙ ap (prefixed at.out) (print_bad meaning past n line _ _ e))) holds)
+
   pub ends_bad : (after line : List ℕ) (u : Option (List ℕ)) → GivesBytes s t held after (line ++ 10 ∷ []) → NoFeed line
       → meaning past line ≡ None → Keeps v u → PrintsAll outcome (bad_line n) r w u
   ends_bad after line u g plain e p =
-      known_input r t (at.bytes ++ g.bytes) _ (Consumes-trans r s t at.bytes g.bytes at.consumed g.consumed) (λ more.
-      let is : outcome ((at.bytes ++ g.bytes) ++ more) ≡ prefixed at.out (ending (bad_line n) past) =
-      meant after line more g plain ∙ ap (prefixed at.out) (print_bad meaning past n line _ _ e) in
-      let text : at.out ≡ (outcome ((at.bytes ++ g.bytes) ++ more)).text = sym (append-nil at.out)
-      ∙ sym (ap (λ (o : Outcome). o.text) is) in
-      (ap (λ (o : Outcome). o.end) is, subst (Appends w u) text (Appends-kept w v u at.out at.written p)))
+      at_bad (λ (o : Outcome). (o.end ≡ bad_line n) × Appends w u o.text) after line g plain e
+      (refl, subst (Appends w u) (sym (append-nil at.out)) (Appends-kept w v u at.out at.written p))
 
   pub front_stopped : (after line : List ℕ) (u : Option (List ℕ)) → GivesBytes s t held after (line ++ 10 ∷ [])
       → NoFeed line
@@ -158,22 +158,33 @@ module _ (outcome : List ℕ → Outcome) (meaning : Meaning) (past : Past) (n :
         },
       )
 
-  -- what was read ends within a line: its whole text is that of the lines before
-  pub all_read : (after line : List ℕ) → GivesFront s t held after line → after ≡ [] → PrintsRead outcome r t w v
-  all_read after line g none =
+  -- the whole text of what was read is that of the lines before
+  all_written : Appends w v (at.out ++ [])
+  all_written = subst (Appends w v) (sym (append-nil at.out)) at.written
+
+  -- what was read ends within a line
+  pub at_lost : (P : Outcome → Type 0) (after line : List ℕ) → GivesFront s t held after line → after ≡ []
+      → ((e : ScriptEnd) → IsOpenEnd e → P (prefixed at.out (ending e past)))
+      → (bytes : List ℕ) × Consumes r t bytes × P (outcome bytes)
+  at_lost P after line g none holds =
       let more = g.0.bytes in
-      let last = rest_is_last s t held after line g.0 g.1 none in
       let rest = rest_line (held ++ more) in
-      let is : outcome (at.bytes ++ more) ≡ prefixed at.out (lines_print meaning past n [] rest) =
-      at.agrees more ∙ ap (λ l. prefixed at.out (lines_print meaning past n l rest)) last.0 in
-      let text : (outcome (at.bytes ++ more)).text ≡ at.out =
-      ap (λ (o : Outcome). o.text) is ∙ ap (λ l. at.out ++ l) (print_nothing meaning past n rest)
-      ∙ append-nil at.out in (
+      let last = print_last meaning past n rest in
+      let is : outcome (at.bytes ++ more) ≡ prefixed at.out (ending last.0 past) =
+      at.agrees more
+      ∙ ap (λ l. prefixed at.out (lines_print meaning past n l rest)) (rest_is_last s t held after line g.0 g.1 none).0
+      ∙ ap (prefixed at.out) last.2 in (
         at.bytes ++ more,
         Consumes-trans r s t at.bytes more at.consumed g.0.consumed,
-        subst (λ (o : Outcome). IsOpenEnd o.end) (sym is) (open_end meaning past n rest),
-        subst (Appends w v) (sym text) at.written,
+        subst P (sym is)
+            (holds last.0 last.1),
       )
+
+  pub all_read : (after line : List ℕ) → GivesFront s t held after line → after ≡ [] → PrintsRead outcome r t w v
+  all_read after line g none =
+      let x = at_lost (λ (o : Outcome). IsOpenEnd o.end × Appends w v o.text) after line g none (λ e is.
+      (is, all_written)) in
+      (x.0, x.1, x.2.0, x.2.1)
 
   pub front_here : PrintsFront outcome r s w v
   front_here =
@@ -189,21 +200,25 @@ module _ (outcome : List ℕ → Outcome) (meaning : Meaning) (past : Past) (n :
         },
       )
 
-  pub ends_last : (after line : List ℕ) (e : ScriptEnd) → GivesBytes s t held after line → NoFeed line → after ≡ []
-      → IsAtEnd t
-      → lines_print meaning past n [] line ≡ ending e past → PrintsAll outcome e r w v
-  ends_last after line e g plain none end p =
+  -- the reader is at its end
+  pub at_end : (P : Outcome → Type 0) (after line : List ℕ) (e : ScriptEnd) → GivesBytes s t held after line
+      → NoFeed line → after ≡ [] → IsAtEnd t → lines_print meaning past n [] line ≡ ending e past
+      → P (prefixed at.out (ending e past)) → IfSome r (λ bytes. P (outcome bytes))
+  at_end P after line e g plain none end p holds =
       let last = rest_is_last s t held after line g plain none in
       let is : outcome (at.bytes ++ g.bytes) ≡ prefixed at.out (ending e past) =
       at.agrees g.bytes
       ∙ ap (λ l. prefixed at.out (lines_print meaning past n l (rest_line (held ++ g.bytes)))) last.0
       ∙ ap (λ l. prefixed at.out (lines_print meaning past n [] l)) last.1
       ∙ ap (prefixed at.out) p in
-      let text : at.out ≡ (outcome (at.bytes ++ g.bytes)).text = sym (append-nil at.out)
-      ∙ sym (ap (λ (o : Outcome). o.text) is) in
-      Consumes-whole r t (at.bytes ++ g.bytes) (λ bytes. ((outcome bytes).end ≡ e) × Appends w v (outcome bytes).text)
-      (Consumes-trans r s t at.bytes g.bytes at.consumed g.consumed) end
-      (ap (λ (o : Outcome). o.end) is, subst (Appends w v) text at.written)
+      Consumes-whole r t (at.bytes ++ g.bytes) (λ bytes. P (outcome bytes))
+      (Consumes-trans r s t at.bytes g.bytes at.consumed g.consumed) end (subst P (sym is) holds)
+
+  pub ends_last : (after line : List ℕ) (e : ScriptEnd) → GivesBytes s t held after line → NoFeed line → after ≡ []
+      → IsAtEnd t
+      → lines_print meaning past n [] line ≡ ending e past → PrintsAll outcome e r w v
+  ends_last after line e g plain none end p =
+      at_end (λ (o : Outcome). (o.end ≡ e) × Appends w v o.text) after line e g plain none end p (refl, all_written)
 
   -- what holds of the history by now holds of the one that the whole input makes
   pub makes_last : (after line : List ℕ) (e : ScriptEnd) (Stands : Past → Type 0) → Stands past
@@ -211,17 +226,15 @@ module _ (outcome : List ℕ → Outcome) (meaning : Meaning) (past : Past) (n :
       → NoFeed line → after ≡ [] → IsAtEnd t → lines_print meaning past n [] line ≡ ending e past
       → IfSome r (λ bytes. Stands (outcome bytes).past)
   makes_last after line e Stands stands g plain none end p =
-      let last = rest_is_last s t held after line g plain none in
-      let is : outcome (at.bytes ++ g.bytes) ≡ prefixed at.out (ending e past) =
-      at.agrees g.bytes
-      ∙ ap (λ l. prefixed at.out (lines_print meaning past n l (rest_line (held ++ g.bytes)))) last.0
-      ∙ ap (λ l. prefixed at.out (lines_print meaning past n [] l)) last.1
-      ∙ ap (prefixed at.out) p in
-      Consumes-whole r t (at.bytes ++ g.bytes) (λ bytes. Stands (outcome bytes).past)
-      (Consumes-trans r s t at.bytes g.bytes at.consumed g.consumed) end
-      (subst Stands (ap (λ (o : Outcome). o.past) (sym is)) stands)
+      at_end (λ (o : Outcome). Stands o.past) after line e g plain none end p stands
 
 -- ---- the answer of a run
+
+-- how the input ends
+pub end_is : (outcome : List ℕ → Outcome) (e : ScriptEnd) (r w v : Option (List ℕ)) → PrintsAll outcome e r w v
+    → IfSome r (λ bytes. (outcome bytes).end ≡ e)
+end_is outcome e None w v p = tt
+end_is outcome e (Some bytes) w v p = p.0
 
 -- no line was read
 pub runs_unread : (outcome : List ℕ → Outcome) (f : ReadFault) (r t w v : Option (List ℕ))

@@ -1,5 +1,5 @@
 -- What is written of the text of a history whose trace is asked for.
-use Rattle.std.proofs.Common.{◌≡◌, Bool, List, None, Ok, Err, Option, Result, Some, ap, false, inl, inr, subst, sym}
+use Rattle.std.proofs.Common.{◌≡◌, Bool, List, Ok, Err, Option, Result, ap, false, inl, inr, subst, sym}
 use Rattle.std.proofs.Common.{ℕ, ◌∙◌}
 use mathlib.Core.List.{reverse}
 use Rattle.std.proofs.lemmas.List.{reverse-reverse}
@@ -10,10 +10,11 @@ use Rattle.nvme_model.specs.FirstBad.{IsFirstBad}
 use Rattle.nvme_model.specs.History.{Past}
 use Rattle.nvme_model.specs.declared.config.ConfigNumbers.{ConfigNumbers}
 use Rattle.nvme_model.specs.declared.entry.Entry.{Entry}
-use Rattle.casdisk_texts.specs.Files.{HasHistory, IsUnread, file_of}
+use Rattle.casdisk_texts.specs.Files.{HasHistory, IsUnread}
 use Rattle.casdisk_texts.specs.Tracing.{TracesText, WritesTrace, WritesTraceOf}
 use Rattle.casdisk_texts.specs.declared.fault.RunFault.{RunFault}
 use Rattle.casdisk_texts.specs.declared.fault.RunFault.TheVariants.{BadConfig, BadLine, Input, NoMemory, Output}
+use Rattle.casdisk_texts.proofs.Answering.{history_then}
 
 -- not all lines were read
 pub untraced : (f : RunFault) (input left w : Option (List ℕ)) → IsUnread f input left
@@ -28,15 +29,12 @@ untraced NoMemory input left w h = inl (Keeps-refl w)
 traced_of : (told : Result Bool RunFault) (c : ConfigNumbers) (es : List Entry) (input old new : Option (List ℕ))
     → IfSome input (HasHistory (λ d past. (d ≡ c) × (es ≡ reverse past)))
     → WritesTrace c (reverse es) told old new → WritesTraceOf told input old new
-traced_of told c es None old new h w = tt
-traced_of told c es (Some bytes) old new h w =
-    let read = h.1.2 in
-    let past = (file_of bytes).past in
+traced_of told c es input old new h w =
+    history_then (λ d past. (d ≡ c) × (es ≡ reverse past)) (λ d past. WritesTrace d past told old new) input
+    (λ d past read.
     let same : reverse es ≡ past = ap (λ (l : List Entry). reverse l) read.1 ∙ reverse-reverse past in
-    let there = subst (λ (p : Past). WritesTrace c p told old new) same w in (
-      h.0,
-      (h.1.0, h.1.1, subst (λ (d : ConfigNumbers). WritesTrace d past told old new) (sym read.0) there),
-    )
+    subst (λ (k : ConfigNumbers). WritesTrace k past told old new) (sym read.0)
+    (subst (λ (p : Past). WritesTrace c p told old new) same w)) h
 
 pub traced : (told : Result Bool RunFault) (c : ConfigNumbers) (es : List Entry)
     (input left old new : Option (List ℕ)) → IsAtEnd left

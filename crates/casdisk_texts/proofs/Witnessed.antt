@@ -1,11 +1,10 @@
 -- What is said of a trace and a history, from what the reading of their lines gave.
-use Rattle.std.proofs.Common.{◌≡◌, ◌≢◌, ℕ, List, [], ◌∷◌, ◌++◌, None, Some, refl, sym, ap, ◌∙◌, subst}
+use Rattle.std.proofs.Common.{◌≡◌, ◌≢◌, ℕ, List, [], ◌∷◌, ◌++◌, None, Some, sym, ap, ◌∙◌, subst}
 use mathlib.Core.List.{reverse}
 use Rattle.std.specs.Prelude.{Bool, IfSome, Option, Result, Ok, Err}
 use Rattle.std.specs.Io.KnownBytes.{IsAtEnd}
 use Rattle.std.proofs.KnownBytes.{Keeps-refl}
 use Rattle.std.proofs.lemmas.List.{reverse-append, reverse-reverse}
-use Rattle.line_text.specs.Lines.{whole_lines}
 use Rattle.nvme_model.specs.History.{Past}
 use Rattle.nvme_model.specs.declared.config.ConfigNumbers.{ConfigNumbers}
 use Rattle.nvme_model.specs.declared.entry.Entry.{Entry}
@@ -16,9 +15,7 @@ use Rattle.witness_check.specs.Compared.{IsVerdict}
 use Rattle.witness_check.specs.declared.comparison.TraceVerdict.{TraceVerdict}
 use Rattle.casdisk_texts.specs.Certified.{CertifiesText, HasTextVerdict, HaveOtherConfigs, IsUncompared, IsVerdictOf}
 use Rattle.casdisk_texts.specs.Certified.{TellsVerdict}
-use Rattle.casdisk_texts.specs.Files.{HasHistory, IsUnread, entry_added, file_of}
-use Rattle.casdisk_texts.specs.Running.{Makes, RunsScript}
-use Rattle.casdisk_texts.specs.Script.{first_config, script_outcome}
+use Rattle.casdisk_texts.specs.Files.{HasHistory, IsUnread, file_of}
 use Rattle.casdisk_texts.specs.Traces.{HasTrace, options_of, trace_in}
 use Rattle.casdisk_texts.specs.declared.certify_fault.CertifyFault.{CertifyFault}
 use Rattle.casdisk_texts.specs.declared.certify_fault.CertifyFault.TheVariants.{History, OtherConfig, Output, Trace}
@@ -30,14 +27,6 @@ use Rattle.casdisk_texts.specs.declared.fault.RunFault.{RunFault}
 pub entry_more : (entries : List Entry) (e : Entry) (past : Past) → entries ≡ reverse past
     → entries ++ e ∷ [] ≡ reverse (e ∷ past)
 entry_more entries e past h = ap (λ (xs : List Entry). xs ++ e ∷ []) h ∙ sym (reverse-append (e ∷ []) past)
-
-pub whole_history : (c : ConfigNumbers) (entries : List Entry) (r t w u : Option (List ℕ))
-    → RunsScript (script_outcome (λ k. entry_added)) (Ok tt) r t w u
-    → Makes (script_outcome (λ k. entry_added)) (Ok tt) r (λ past. entries ≡ reverse past)
-    → IfSome r (λ bytes. first_config (whole_lines bytes) ≡ Some c)
-    → IsAtEnd t × IfSome r (HasHistory (λ d past. (d ≡ c) × (entries ≡ reverse past)))
-whole_history c entries None t w u ran makes known = (ran.1, tt)
-whole_history c entries (Some bytes) t w u ran makes known = (ran.1, (ran.0.0, (c, known, (refl, makes))))
 
 -- ---- both were read
 

@@ -1,5 +1,5 @@
 -- What is said of a file of entries that is checked as it comes, up to its first bad step.
-use Rattle.std.specs.Prelude.{◌≡◌, ◌⊎◌, ◌<◌, ℕ, Bool, true, false, List, [], Option, Some, None, IfSome, Result, Ok}
+use Rattle.std.specs.Prelude.{◌≡◌, ◌<◌, ℕ, Bool, true, false, List, [], Option, Some, None, IfSome, Result, Ok}
 use Rattle.std.specs.Prelude.{Err}
 use Rattle.std.specs.Io.KnownBytes.{Appends, Consumes, IsAtEnd, Keeps}
 use Rattle.line_text.specs.Known.{AppendsFront}
@@ -9,9 +9,9 @@ use Rattle.nvme_model.specs.History.{Past}
 use Rattle.nvme_model.specs.Legal.{IsLegal}
 use Rattle.nvme_model.specs.declared.config.ConfigNumbers.{ConfigNumbers}
 use Rattle.casdisk_texts.specs.Files.{HasHistory, IsAnswer, IsAnswerOf, IsUnread, file_of}
-use Rattle.casdisk_texts.specs.Script.{IsOpenEnd, Outcome, bad_line, cut, done, ending, first_config}
+use Rattle.casdisk_texts.specs.Script.{IsOpenEnd, Outcome, cut, ending, first_config}
 use Rattle.casdisk_texts.specs.declared.fault.RunFault.{RunFault}
-use Rattle.casdisk_texts.specs.declared.fault.RunFault.TheVariants.{BadLine, Input, Output, NoMemory}
+use Rattle.casdisk_texts.specs.declared.fault.RunFault.TheVariants.{BadLine, Input, Output}
 
 -- this holds of the configuration of a file and of the entries before its first bad line, if it has one
 abbrev pub HasStart : (ConfigNumbers → Outcome → Type 0) → List ℕ → Type 0
@@ -59,17 +59,7 @@ abbrev pub IsFollowedTo : Option ℕ → Option (List ℕ) → Option (List ℕ)
 IsFollowedTo None input left = IsAtEnd left × IfSome input (HasHistory IsLegal)
 IsFollowedTo (Some place) input left = IfSome input (HasStart (λ c file. first_bad_of c file.past ≡ Some place))
 
--- the lines behind the first were read so, up to this bad step
-abbrev pub FollowsLines : (List ℕ → Outcome) → ConfigNumbers → Result (Unit {0}) RunFault → Option ℕ →
-    (input left : Option (List ℕ)) → Type 0
-FollowsLines outcome c (Ok x) None input left =
-    IsAtEnd left × IfSome input (λ bytes. ((outcome bytes).end ≡ done) × IsLegal c (outcome bytes).past)
-FollowsLines outcome c (Ok x) (Some place) input left =
-    IfSome input (λ bytes. first_bad_of c (outcome bytes).past ≡ Some place)
-FollowsLines outcome c (Err (BadLine n)) place input left =
-    IfSome input (λ bytes. (((outcome bytes).end ≡ bad_line n) ⊎ ((outcome bytes).end ≡ cut n))
-    × IsLegal c (outcome bytes).past)
-FollowsLines outcome c (Err Input) place input left =
-    (bytes : List ℕ) × Consumes input left bytes × IsOpenEnd (outcome bytes).end × IsLegal c (outcome bytes).past
-FollowsLines outcome c (Err NoMemory) place input left = Unit {0}
-FollowsLines outcome c (Err f) place input left = ⊥
+-- By how far a file was followed: to its end or to its first bad step; or why not.
+abbrev pub FollowsHistory : Result (Option ℕ) RunFault → (input left : Option (List ℕ)) → Type 0
+FollowsHistory (Ok place) input left = IsFollowedTo place input left
+FollowsHistory (Err f) input left = IsUnfollowed f input left

@@ -5,6 +5,7 @@ pub mod Doing
 pub mod Script
 pub mod Running
 pub mod Files
+pub mod Entries
 pub mod Judged
 pub mod Followed
 pub mod Explained

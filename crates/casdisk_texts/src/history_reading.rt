@@ -1,17 +1,15 @@
 //! The text of a history, read whole.
 
-ghost use Rattle.std.specs.Prelude.{◌≡◌, ◌++◌, ◌∷◌, [], IfErr, IfOk, IfSome, OnOk, reverse};
+ghost use Rattle.std.specs.Prelude.{◌≡◌, IfErr, IfOk, IfSome, reverse};
 ghost use Rattle.std.specs.Io.KnownBytes.{IsAtEnd};
-ghost use Rattle.casdisk_texts.specs.Files.{HasHistory, IsUnread, entry_added};
+ghost use Rattle.casdisk_texts.specs.Files.{HasHistory, IsUnread};
 
 use crate::fault::RunFault;
-use crate::first_line::read_first;
-use crate::meaning::{LineMeaning, Taken, WriteFault};
-use crate::running::run_lines;
-use history::{Config, Entry, LineFault, parse_line};
-use line_text::Lines;
+use crate::history_lines::HistoryLines;
+use crate::meaning::EntryMeaning;
+use history::{Config, Entry};
 use std::alloc::{AllocError as NoMemory, Global};
-use std::io::{Read, Write};
+use std::io::Read;
 
 /// A configuration, and entries, the oldest first.
 #[derive(Drop)]
@@ -20,37 +18,15 @@ pub(crate) struct ReadHistory {
     pub(crate) entries: Vec<Entry>,
 }
 
-// Keeps the entries of lines.
-#[derive(Drop)]
-pub(crate) struct Keeper {
-    alloc: Global,
-    entries: Vec<Entry>,
-}
+// Entries are kept, the oldest first.
+impl EntryMeaning for Vec<Entry> {
+    ghost stands = { λ m c past. m.items ≡ reverse past };
 
-impl Keeper {
-    fn keep(&mut self, entry: Entry) -> Result<(), NoMemory>
-        ensures kept { OnOk result (self.new.entries.items ≡ self.old.entries.items ++ entry ∷ []) }
-    {
-        self.entries.push(entry)?;
+    ghost kept = { λ _. tt };
+
+    fn take_entry(&mut self, entry: Entry) -> Result<(), NoMemory> {
+        self.push(entry)?;
         Ok(())
-    }
-}
-
-impl LineMeaning for Keeper {
-    ghost stands = { λ m c past. m.entries.items ≡ reverse past };
-
-    ghost meaning = { λ _. entry_added };
-
-    fn take_line<W: Write>(&mut self, line: &[u8], _writer: &mut W) -> Result<Taken, WriteFault> {
-        let entry = match parse_line(self.alloc, line) {
-            Ok(entry) => entry,
-            Err(LineFault::Malformed) => return Ok(Taken::Bad),
-            Err(LineFault::NoMemory) => return Err(WriteFault::NoMemory),
-        };
-        match self.keep(entry) {
-            Ok(()) => Ok(Taken::Done),
-            Err(_) => Err(WriteFault::NoMemory),
-        }
     }
 }
 
@@ -60,21 +36,11 @@ pub(crate) fn read_history<R: Read>(alloc: Global, reader: &mut R) -> Result<Rea
         (HasHistory (λ c past. (c ≡ told.config) × (told.entries.items ≡ reverse past)))) }
     ensures unread { IfErr result (λ fault. IsUnread fault (R.remaining reader.old) (R.remaining reader.new)) }
 {
-    let Ok(mut lines) = Lines::new(alloc) else {
-        return Err(RunFault::NoMemory);
-    };
-    let mut line = Vec::new(alloc);
-    let config = read_first(alloc, &mut lines, &mut line, reader)?;
-    let mut keeper = Keeper {
-        alloc,
-        entries: Vec::new(alloc),
-    };
-    let mut unprinted: Vec<u8> = Vec::new(alloc);
-    match run_lines(&mut keeper, &mut lines, &mut line, reader, &mut unprinted) {
-        Ok(()) => Ok(ReadHistory {
-            config,
-            entries: keeper.entries,
-        }),
-        Err(fault) => Err(fault.in_memory()),
+    let mut lines = HistoryLines::begin(alloc, reader)?;
+    let config = lines.config;
+    let mut entries = Vec::new(alloc);
+    match lines.take_entries(&mut entries, reader) {
+        Ok(()) => Ok(ReadHistory { config, entries }),
+        Err(fault) => Err(fault),
     }
 }

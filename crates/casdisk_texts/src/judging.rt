@@ -6,19 +6,17 @@ ghost use Rattle.nvme_model.specs.History.{Past};
 ghost use Rattle.nvme_model.specs.declared.config.ConfigNumbers.{ConfigNumbers};
 ghost use Rattle.broken_rules.specs.Broken.{first_broken};
 ghost use Rattle.history_check.specs.Kept.{Stands};
-ghost use Rattle.casdisk_texts.specs.Files.{HasHistory, IsUnread, entry_added};
+ghost use Rattle.casdisk_texts.specs.Files.{HasHistory, IsUnread};
 ghost use Rattle.casdisk_texts.specs.Judged.{HasFirstBad, HasJudged};
 
 use crate::fault::RunFault;
-use crate::first_line::read_first;
-use crate::meaning::{LineMeaning, Taken, WriteFault};
-use crate::running::run_lines;
+use crate::history_lines::HistoryLines;
+use crate::meaning::EntryMeaning;
 use broken_rules::Broken;
-use history::{Config, Entry, LineFault, parse_line};
+use history::{Config, Entry};
 use history_check::Checker;
-use line_text::Lines;
 use std::alloc::{AllocError as NoMemory, Global};
-use std::io::{Read, Write};
+use std::io::Read;
 
 /// The first entry that may not follow: its place, from 1, and the rule that it breaks first, where that was asked.
 #[derive(Clone, Copy)]
@@ -27,10 +25,9 @@ pub struct FirstBad {
     pub broken: Option<Broken>,
 }
 
-/// Judges the entries of lines, and keeps none of them. Which rule a bad one breaks is asked for where `WHY` is true.
+/// Judges entries, and keeps none of them. Which rule a bad one breaks is asked for where `WHY` is true.
 #[derive(Drop)]
 pub struct Judge<const WHY: bool> {
-    alloc: Global,
     pub checker: Checker,
     /// How many there were.
     pub count: u64,
@@ -55,7 +52,6 @@ impl<const WHY: bool> Judge<WHY> {
         ensures none { IfOk result (λ judge. judge.bad.place ≡ None) }
     {
         Ok(Judge {
-            alloc,
             checker: Checker::new(alloc, config)?,
             count: 0,
             bad: FirstBad {
@@ -107,21 +103,13 @@ impl<const WHY: bool> Judge<WHY> {
     }
 }
 
-impl<const WHY: bool> LineMeaning for Judge<WHY> {
+impl<const WHY: bool> EntryMeaning for Judge<WHY> {
     ghost stands = { λ m c past. HasJudged WHY c past m.checker m.count m.bad };
 
-    ghost meaning = { λ _. entry_added };
+    ghost kept = { λ _. tt };
 
-    fn take_line<W: Write>(&mut self, line: &[u8], _writer: &mut W) -> Result<Taken, WriteFault> {
-        let entry = match parse_line(self.alloc, line) {
-            Ok(entry) => entry,
-            Err(LineFault::Malformed) => return Ok(Taken::Bad),
-            Err(LineFault::NoMemory) => return Err(WriteFault::NoMemory),
-        };
-        match self.judge(&entry) {
-            Ok(()) => Ok(Taken::Done),
-            Err(_) => Err(WriteFault::NoMemory),
-        }
+    fn take_entry(&mut self, entry: Entry) -> Result<(), NoMemory> {
+        self.judge(&entry)
     }
 }
 
@@ -134,17 +122,12 @@ pub(crate) fn judge_text<const WHY: bool, R: Read>(
         × IfSome (R.remaining reader.old) (HasHistory (λ c past. HasFirstBad WHY c past bad))) }
     ensures unread { IfErr result (λ fault. IsUnread fault (R.remaining reader.old) (R.remaining reader.new)) }
 {
-    let Ok(mut lines) = Lines::new(alloc) else {
+    let mut lines = HistoryLines::begin(alloc, reader)?;
+    let Ok(mut judge) = Judge::<WHY>::new(alloc, &lines.config) else {
         return Err(RunFault::NoMemory);
     };
-    let mut line = Vec::new(alloc);
-    let config = read_first(alloc, &mut lines, &mut line, reader)?;
-    let Ok(mut judge) = Judge::<WHY>::new(alloc, &config) else {
-        return Err(RunFault::NoMemory);
-    };
-    let mut unprinted: Vec<u8> = Vec::new(alloc);
-    match run_lines(&mut judge, &mut lines, &mut line, reader, &mut unprinted) {
+    match lines.take_entries(&mut judge, reader) {
         Ok(()) => Ok(judge.bad),
-        Err(fault) => Err(fault.in_memory()),
+        Err(fault) => Err(fault),
     }
 }

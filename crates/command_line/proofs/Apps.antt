@@ -2,9 +2,12 @@
 use Rattle.std.proofs.Common.{◌≡◌, ◌∙◌, Bool, Err, Ok, Result, ap, ap₂, false, refl, subst, sym, true}
 use Rattle.std.specs.Prelude.{IfOk, IsOkAnd, is_some, length, not, ◌&&◌, ◌==◌}
 use Rattle.std.proofs.lemmas.Result.{IfOk-weaker}
-use Rattle.clap.specs.Words.{AddsArg, AddsSubcommand, App, Rule, app_of, rule_of, with_rule, with_subcommand}
+use Rattle.clap.specs.Words.{AddsArg, AddsSubcommand, App, Rule, Text, app_of, rule_of, with_rule, with_subcommand}
 use Rattle.clap.specs.declared.builder.Arg.{Arg}
 use Rattle.clap.specs.declared.builder.command.Command.{Command}
+use Rattle.command_line.specs.CommandLine.{argument_rule}
+use Rattle.command_line.specs.declared.options.Argument.{Argument}
+use Rattle.command_line.specs.declared.options.Argument.TheVariants.{Area, Flag, Input, Needed, Number, NumberOr}
 
 -- a last test that has to fail
 pub last_of_two : (a b g : Bool) → (a && (b && not g)) ≡ true → g ≡ false
@@ -37,6 +40,16 @@ not_global a h =
     tenth_fails (length a.overrides.items == 0) (length a.default_vals_ifs.items == 0) (length a.groups.items == 0)
     (not (is_some a.val_delim)) (not (is_some a.terminator))
     (not a.allow_hyphen_values) (not a.allow_negative_numbers) (not a.require_equals) (not a.last) a.global h
+
+-- what a command takes has a simple rule
+pub is_argument_simple : (a : Argument) (name : Text) → (argument_rule a name).is_simple ≡ true
+is_argument_simple Input name = refl
+is_argument_simple (Argument.Text value) name = refl
+is_argument_simple Flag name = refl
+is_argument_simple Area name = refl
+is_argument_simple (Number value) name = refl
+is_argument_simple (Needed value) name = refl
+is_argument_simple (NumberOr value number) name = refl
 
 -- a command with one more argument, whose rule is simple
 pub adds_rule : {E : Type 0} (r : Result Command E) (old : Command) (a : Arg) (rule : Rule) → rule_of a ≡ rule

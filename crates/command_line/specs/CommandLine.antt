@@ -4,6 +4,8 @@ use Rattle.clap.specs.Words.{App, Kinds, Row, Rule, Text, fault_of, new_app, new
 use Rattle.clap.specs.Words.{with_subcommand}
 use Rattle.clap.specs.declared.builder.action.ArgAction.TheVariants.{Set, SetTrue}
 use Rattle.clap.specs.declared.builder.value_parser.ValueParser.TheVariants.{Unsigned}
+use Rattle.command_line.specs.declared.options.Argument.{Argument}
+use Rattle.command_line.specs.declared.options.Argument.TheVariants.{Area, Flag, Input, Needed, Number, NumberOr}
 
 -- the name of a file of this kind, which has to be there
 abbrev pub input_rule : Text → Rule
@@ -37,6 +39,16 @@ needed_rule name = record (number_rule name) { required = true }
 -- one that is this number where it isn't there
 abbrev pub default_rule : Text → Text → Rule
 default_rule name value = record (number_rule name) { defaults = value ∷ [] }
+
+-- what a command takes by a name
+abbrev pub argument_rule : Argument → Text → Rule
+argument_rule Input name = input_rule name
+argument_rule (Argument.Text value) name = text_rule name
+argument_rule Flag name = flag_rule name
+argument_rule Area name = record (number_rule name) { value_names = 2 }
+argument_rule (Number value) name = number_rule name
+argument_rule (Needed value) name = needed_rule name
+argument_rule (NumberOr value number) name = default_rule name number.now
 
 -- the command `run` with its options
 abbrev pub run_app : App

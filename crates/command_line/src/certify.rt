@@ -5,7 +5,8 @@ ghost use Rattle.clap.specs.Words.{app_of, found_of, rows_of};
 ghost use Rattle.command_line.specs.Asking.{AreTwoInputs, AsksBy, IsRaceInRange, IsRefusedBy};
 ghost use Rattle.command_line.specs.CommandLine.{certify_app};
 
-use crate::options::{HISTORY, WHY, flag_asked, text_asked, text_of, with_flag, with_input};
+use crate::options::Argument::{Flag, Input};
+use crate::options::{HISTORY, SEEN, WHY, flag_asked, text_needed, text_of, with};
 use crate::request::{Asked, UsageFault};
 use clap::{ArgMatches, Command};
 use std::alloc::{AllocError, Global};
@@ -27,14 +28,9 @@ pub(crate) fn certify_command<'a>(alloc: Global) -> Result<Command<'a>, AllocErr
     let command = Command::new(alloc, "certify")
         .about(ABOUT)
         .after_help(ABOUT_TRACES);
-    let command = with_flag(alloc, command, "why", WHY)?;
-    let command = with_input(
-        alloc,
-        command,
-        "TRACE",
-        "What hosts saw; - is standard input",
-    )?;
-    with_input(alloc, command, "HISTORY", HISTORY)
+    let command = with(alloc, command, "why", Flag, WHY)?;
+    let command = with(alloc, command, "TRACE", Input, SEEN)?;
+    with(alloc, command, "HISTORY", Input, HISTORY)
 }
 
 // Whether both files are standard input.
@@ -53,12 +49,8 @@ pub(crate) fn certify_asked<'a>(
     ensures race { IfOk result IsRaceInRange }
     ensures refuses { IfErr result (IsRefusedBy (codes "certify") (rows_of (found_of matches.now))) }
 {
-    let Some(trace) = text_asked(matches, "TRACE") else {
-        return Err(text_of(alloc, "error: no trace"));
-    };
-    let Some(history) = text_asked(matches, "HISTORY") else {
-        return Err(text_of(alloc, "error: no history"));
-    };
+    let trace = text_needed(alloc, matches, "TRACE", "error: no trace")?;
+    let history = text_needed(alloc, matches, "HISTORY", "error: no history")?;
     if are_one_input(trace, history) {
         return Err(text_of(alloc, "error: TRACE and HISTORY are both standard input"));
     }

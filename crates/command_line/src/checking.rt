@@ -6,9 +6,8 @@ ghost use Rattle.command_line.specs.Asking.{AsksBy, IsRaceInRange, IsRefusedBy};
 ghost use Rattle.command_line.specs.CommandLine.{check_app, explain_app};
 
 use crate::area::area_asked;
-use crate::options::{
-    HISTORY, QUIET, WHY, flag_asked, text_asked, text_of, with_area, with_flag, with_input,
-};
+use crate::options::Argument::{Area, Flag, Input};
+use crate::options::{HISTORY, NO_FILE, QUIET, WHY, flag_asked, text_needed, text_of, with};
 use crate::request::{Asked, UsageFault};
 use clap::{ArgMatches, Command};
 use std::alloc::{AllocError, Global};
@@ -37,11 +36,11 @@ pub(crate) fn check_command<'a>(alloc: Global) -> Result<Command<'a>, AllocError
     let command = Command::new(alloc, "check")
         .about(ABOUT_CHECK)
         .after_help(ABOUT_HISTORIES);
-    let command = with_flag(alloc, command, "follow", FOLLOW)?;
-    let command = with_area(alloc, command, SLOTS)?;
-    let command = with_flag(alloc, command, "quiet", QUIET)?;
-    let command = with_flag(alloc, command, "why", WHY)?;
-    with_input(alloc, command, "FILE", HISTORY)
+    let command = with(alloc, command, "follow", Flag, FOLLOW)?;
+    let command = with(alloc, command, "slots", Area, SLOTS)?;
+    let command = with(alloc, command, "quiet", Flag, QUIET)?;
+    let command = with(alloc, command, "why", Flag, WHY)?;
+    with(alloc, command, "FILE", Input, HISTORY)
 }
 
 pub(crate) fn explain_command<'a>(alloc: Global) -> Result<Command<'a>, AllocError>
@@ -50,9 +49,9 @@ pub(crate) fn explain_command<'a>(alloc: Global) -> Result<Command<'a>, AllocErr
     let command = Command::new(alloc, "explain")
         .about(ABOUT_EXPLAIN)
         .after_help(ABOUT_HISTORIES);
-    let command = with_area(alloc, command, SLOTS)?;
-    let command = with_flag(alloc, command, "why", WHY)?;
-    with_input(alloc, command, "FILE", HISTORY)
+    let command = with(alloc, command, "slots", Area, SLOTS)?;
+    let command = with(alloc, command, "why", Flag, WHY)?;
+    with(alloc, command, "FILE", Input, HISTORY)
 }
 
 pub(crate) fn check_asked<'a>(
@@ -63,24 +62,19 @@ pub(crate) fn check_asked<'a>(
     ensures race { IfOk result IsRaceInRange }
     ensures refuses { IfErr result (IsRefusedBy (codes "check") (rows_of (found_of matches.now))) }
 {
-    let area = match area_asked(alloc, matches) {
-        Ok(area) => area,
-        Err(fault) => return Err(fault),
-    };
+    let area = area_asked(alloc, matches)?;
     let follow = flag_asked(matches, "follow");
     if follow && area.is_some() {
         return Err(text_of(alloc, "error: '--slots' and '--follow' exclude each other"));
     }
-    match text_asked(matches, "FILE") {
-        Some(file) => Ok(Asked::Check {
-            follow,
-            area,
-            quiet: flag_asked(matches, "quiet"),
-            why: flag_asked(matches, "why"),
-            file,
-        }),
-        None => Err(text_of(alloc, "error: no file")),
-    }
+    let file = text_needed(alloc, matches, "FILE", NO_FILE)?;
+    Ok(Asked::Check {
+        follow,
+        area,
+        quiet: flag_asked(matches, "quiet"),
+        why: flag_asked(matches, "why"),
+        file,
+    })
 }
 
 pub(crate) fn explain_asked<'a>(
@@ -91,16 +85,11 @@ pub(crate) fn explain_asked<'a>(
     ensures race { IfOk result IsRaceInRange }
     ensures refuses { IfErr result (IsRefusedBy (codes "explain") (rows_of (found_of matches.now))) }
 {
-    let area = match area_asked(alloc, matches) {
-        Ok(area) => area,
-        Err(fault) => return Err(fault),
-    };
-    match text_asked(matches, "FILE") {
-        Some(file) => Ok(Asked::Explain {
-            area,
-            why: flag_asked(matches, "why"),
-            file,
-        }),
-        None => Err(text_of(alloc, "error: no file")),
-    }
+    let area = area_asked(alloc, matches)?;
+    let file = text_needed(alloc, matches, "FILE", NO_FILE)?;
+    Ok(Asked::Explain {
+        area,
+        why: flag_asked(matches, "why"),
+        file,
+    })
 }

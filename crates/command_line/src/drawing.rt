@@ -7,9 +7,9 @@ ghost use Rattle.command_line.specs.Asking.{is_one_input, is_step_range};
 ghost use Rattle.command_line.specs.CommandLine.{draw_app, with_lane_rules, with_range_rules};
 
 use crate::area::area_asked;
+use crate::options::Argument::{Area, Flag, Input, Number, Text};
 use crate::options::{
-    HISTORY, WHY, flag_asked, number_may_be, text_asked, text_of, with_area, with_flag, with_input,
-    with_number, with_text,
+    HISTORY, NO_FILE, WHY, flag_asked, number_may_be, text_asked, text_needed, text_of, with,
 };
 use crate::request::{Asked, UsageFault};
 use clap::{ArgMatches, Command};
@@ -45,17 +45,17 @@ steps.";
 fn with_range<'a>(alloc: Global, command: Command<'a>) -> Result<Command<'a>, AllocError>
     ensures { IfOk result (λ c. app_of c ≡ with_range_rules (app_of command.entry)) }
 {
-    let command = with_number(alloc, command, "from", "K", "Begin with step K")?;
-    with_number(alloc, command, "to", "K", "End with step K")
+    let command = with(alloc, command, "from", Number("K"), "Begin with step K")?;
+    with(alloc, command, "to", Number("K"), "End with step K")
 }
 
 // The command with what it shows besides.
 fn with_lanes<'a>(alloc: Global, command: Command<'a>) -> Result<Command<'a>, AllocError>
     ensures { IfOk result (λ c. app_of c ≡ with_lane_rules (app_of command.entry)) }
 {
-    let command = with_flag(alloc, command, "blocks", BLOCKS)?;
-    let command = with_area(alloc, command, SLOTS)?;
-    with_text(alloc, command, "trace", "TRACE", TRACE)
+    let command = with(alloc, command, "blocks", Flag, BLOCKS)?;
+    let command = with(alloc, command, "slots", Area, SLOTS)?;
+    with(alloc, command, "trace", Text("TRACE"), TRACE)
 }
 
 pub(crate) fn draw_command<'a>(alloc: Global) -> Result<Command<'a>, AllocError>
@@ -66,8 +66,8 @@ pub(crate) fn draw_command<'a>(alloc: Global) -> Result<Command<'a>, AllocError>
         .after_help(ABOUT_PICTURES);
     let command = with_range(alloc, command)?;
     let command = with_lanes(alloc, command)?;
-    let command = with_flag(alloc, command, "why", WHY)?;
-    with_input(alloc, command, "FILE", HISTORY)
+    let command = with(alloc, command, "why", Flag, WHY)?;
+    with(alloc, command, "FILE", Input, HISTORY)
 }
 
 // What is wrong with a range of steps, if something is.
@@ -124,17 +124,9 @@ pub(crate) fn draw_asked<'a>(
     ensures race { IfOk result IsRaceInRange }
     ensures refuses { IfErr result (IsRefusedBy (codes "draw") (rows_of (found_of matches.now))) }
 {
-    let range = match range_asked(alloc, matches) {
-        Ok(range) => range,
-        Err(fault) => return Err(fault),
-    };
-    let area = match area_asked(alloc, matches) {
-        Ok(area) => area,
-        Err(fault) => return Err(fault),
-    };
-    let Some(file) = text_asked(matches, "FILE") else {
-        return Err(text_of(alloc, "error: no file"));
-    };
+    let range = range_asked(alloc, matches)?;
+    let area = area_asked(alloc, matches)?;
+    let file = text_needed(alloc, matches, "FILE", NO_FILE)?;
     let trace = text_asked(matches, "trace");
     if is_one_input(trace, file) {
         return Err(text_of(alloc, "error: TRACE and FILE are both standard input"));

@@ -5,13 +5,15 @@ ghost use Rattle.clap.specs.Words.{app_of, found_of, rows_of};
 ghost use Rattle.command_line.specs.Asking.{AsksBy, IsRaceInRange, IsRefusedBy};
 ghost use Rattle.command_line.specs.CommandLine.{observe_app};
 
-use crate::options::{
-    WHY, flag_asked, number_asked, text_asked, text_of, with_default, with_flag, with_input,
-    with_text,
-};
+use crate::options::Argument::{Flag, Input, NumberOr, Text};
+use crate::options::{SEEN, WHY, flag_asked, number_asked, text_asked, text_needed, text_of, with};
 use crate::request::{Asked, UsageFault};
 use clap::{ArgMatches, Command};
 use std::alloc::{AllocError, Global};
+
+const WITNESS: &str = "Write the history that was found into FILE";
+
+const STEPS: &str = "Steps of search, at most";
 
 const ABOUT: &str = "\
 Looks for a history that explains what hosts saw: prints 'explained', 'not found: ' and why, or 'gave up'";
@@ -29,28 +31,10 @@ pub(crate) fn observe_command<'a>(alloc: Global) -> Result<Command<'a>, AllocErr
     let command = Command::new(alloc, "observe")
         .about(ABOUT)
         .after_help(ABOUT_SEARCH);
-    let command = with_text(
-        alloc,
-        command,
-        "witness",
-        "FILE",
-        "Write the history that was found into FILE",
-    )?;
-    let command = with_default(
-        alloc,
-        command,
-        "steps",
-        "N",
-        "Steps of search, at most",
-        "10000000",
-    )?;
-    let command = with_flag(alloc, command, "why", WHY)?;
-    with_input(
-        alloc,
-        command,
-        "TRACE",
-        "What hosts saw; - is standard input",
-    )
+    let command = with(alloc, command, "witness", Text("FILE"), WITNESS)?;
+    let command = with(alloc, command, "steps", NumberOr("N", "10000000"), STEPS)?;
+    let command = with(alloc, command, "why", Flag, WHY)?;
+    with(alloc, command, "TRACE", Input, SEEN)
 }
 
 pub(crate) fn observe_asked<'a>(
@@ -64,13 +48,11 @@ pub(crate) fn observe_asked<'a>(
     let Some(steps) = number_asked(matches, "steps") else {
         return Err(text_of(alloc, "error: no steps"));
     };
-    match text_asked(matches, "TRACE") {
-        Some(trace) => Ok(Asked::Observe {
-            witness: text_asked(matches, "witness"),
-            steps,
-            why: flag_asked(matches, "why"),
-            trace,
-        }),
-        None => Err(text_of(alloc, "error: no trace")),
-    }
+    let trace = text_needed(alloc, matches, "TRACE", "error: no trace")?;
+    Ok(Asked::Observe {
+        witness: text_asked(matches, "witness"),
+        steps,
+        why: flag_asked(matches, "why"),
+        trace,
+    })
 }

@@ -1,9 +1,9 @@
 //! Options of several commands: how a command gets them, and what they say.
 
-ghost use Rattle.std.specs.Prelude.{◌≡◌, IfOk, IfSome, Some, map, option_map, ℕ};
+ghost use Rattle.std.specs.Prelude.{◌≡◌, IfErr, IfOk, IfSome, None, Some, map, option_map, ℕ};
 ghost use Rattle.clap.specs.Words.{all_of, app_of, first_of, found_of, rows_of, rule_of, with_rule};
-ghost use Rattle.command_line.specs.Asking.{MaySayNumber, SaysFlag, SaysNumber};
-ghost use Rattle.command_line.specs.CommandLine.{area_rule, default_rule, flag_rule, input_rule, needed_rule};
+ghost use Rattle.command_line.specs.Asking.{HasCause, MaySayNumber, SaysFlag, SaysNumber, SaysText};
+ghost use Rattle.command_line.specs.CommandLine.{argument_rule, default_rule, flag_rule, input_rule, needed_rule};
 ghost use Rattle.command_line.specs.CommandLine.{number_rule, text_rule};
 
 use crate::request::UsageFault;
@@ -12,9 +12,13 @@ use std::alloc::{AllocError, Global};
 
 pub(crate) const HISTORY: &str = "The history; - is standard input";
 
+pub(crate) const SEEN: &str = "What hosts saw; - is standard input";
+
 pub(crate) const WHY: &str = "Say why it failed, in a second line on standard error";
 
 pub(crate) const QUIET: &str = "Don't say how far it is";
+
+pub(crate) const NO_FILE: &str = "error: no file";
 
 // A file that has to be named.
 fn input_argument<'a>(alloc: Global, name: &'static str, help: &'static str) -> Arg<'a>
@@ -64,105 +68,94 @@ fn number_option<'a>(
     text_option(alloc, name, value, help).value_parser(value_parser!(u64))
 }
 
-// The option with the two numbers of an area of slots.
-fn area_option<'a>(alloc: Global, help: &'static str) -> Arg<'a>
-    ensures { rule_of result ≡ area_rule }
+// One that has to be there.
+fn needed_option<'a>(
+    alloc: Global,
+    name: &'static str,
+    value: &'static str,
+    help: &'static str,
+) -> Arg<'a>
+    ensures { rule_of result ≡ needed_rule name.entry.now }
 {
-    Arg::new(alloc, "slots")
-        .long("slots")
+    number_option(alloc, name, value, help).required(true)
+}
+
+// One that is this number where it isn't there.
+fn default_option<'a>(
+    alloc: Global,
+    name: &'static str,
+    value: &'static str,
+    default: &'static str,
+    help: &'static str,
+) -> Arg<'a>
+    ensures { rule_of result ≡ default_rule name.entry.now default.entry.now }
+{
+    number_option(alloc, name, value, help).default_value(default)
+}
+
+// An option with the two numbers of an area of slots.
+fn area_option<'a>(alloc: Global, name: &'static str, help: &'static str) -> Arg<'a>
+    ensures { rule_of result ≡ argument_rule Argument.Area name.entry.now }
+{
+    Arg::new(alloc, name)
+        .long(name)
         .value_names(&["FIRST", "COUNT"])
         .help(help)
         .value_parser(value_parser!(u64))
         .action(ArgAction::Set)
 }
 
-/// The command with one more file, which has to be named.
-pub(crate) fn with_input<'a>(
+/// What a command takes: a file or an option. An option with a value has a word for it in its help.
+#[derive(Clone, Copy)]
+pub(crate) enum Argument {
+    /// A file, which has to be named.
+    Input,
+    /// An option with a text.
+    Text(&'static str),
+    /// An option without a value.
+    Flag,
+    /// The option of an area of slots, with two numbers.
+    Area,
+    /// An option with a number, which may be left out.
+    Number(&'static str),
+    /// One that has to be there.
+    Needed(&'static str),
+    /// One that is the second of these where it isn't there.
+    NumberOr(&'static str, &'static str),
+}
+
+// What a command takes by this name.
+fn argument_of<'a>(
+    alloc: Global,
+    name: &'static str,
+    argument: Argument,
+    help: &'static str,
+) -> Arg<'a>
+    ensures { rule_of result ≡ argument_rule argument name.entry.now }
+{
+    match argument {
+        Argument::Input => input_argument(alloc, name, help),
+        Argument::Text(value) => text_option(alloc, name, value, help),
+        Argument::Flag => flag_option(alloc, name, help),
+        Argument::Area => area_option(alloc, name, help),
+        Argument::Number(value) => number_option(alloc, name, value, help),
+        Argument::Needed(value) => needed_option(alloc, name, value, help),
+        Argument::NumberOr(value, or) => default_option(alloc, name, value, or, help),
+    }
+}
+
+/// The command with one argument more.
+pub(crate) fn with<'a>(
     alloc: Global,
     command: Command<'a>,
     name: &'static str,
+    argument: Argument,
     help: &'static str,
-) -> Result<Command<'a>, AllocError>
-    ensures { IfOk result (λ c. app_of c ≡ with_rule (app_of command.entry) (input_rule name.entry.now)) }
-{
-    command.arg(input_argument(alloc, name, help))
-}
-
-/// The command with one more option with a text.
-pub(crate) fn with_text<'a>(
-    alloc: Global,
-    command: Command<'a>,
-    name: &'static str,
-    value: &'static str,
-    help: &'static str,
-) -> Result<Command<'a>, AllocError>
-    ensures { IfOk result (λ c. app_of c ≡ with_rule (app_of command.entry) (text_rule name.entry.now)) }
-{
-    command.arg(text_option(alloc, name, value, help))
-}
-
-/// The command with one more option without a value.
-pub(crate) fn with_flag<'a>(
-    alloc: Global,
-    command: Command<'a>,
-    name: &'static str,
-    help: &'static str,
-) -> Result<Command<'a>, AllocError>
-    ensures { IfOk result (λ c. app_of c ≡ with_rule (app_of command.entry) (flag_rule name.entry.now)) }
-{
-    command.arg(flag_option(alloc, name, help))
-}
-
-/// The command with the option of an area of slots.
-pub(crate) fn with_area<'a>(
-    alloc: Global,
-    command: Command<'a>,
-    help: &'static str,
-) -> Result<Command<'a>, AllocError>
-    ensures { IfOk result (λ c. app_of c ≡ with_rule (app_of command.entry) area_rule) }
-{
-    command.arg(area_option(alloc, help))
-}
-
-/// The command with one more number, which may be left out.
-pub(crate) fn with_number<'a>(
-    alloc: Global,
-    command: Command<'a>,
-    name: &'static str,
-    value: &'static str,
-    help: &'static str,
-) -> Result<Command<'a>, AllocError>
-    ensures { IfOk result (λ c. app_of c ≡ with_rule (app_of command.entry) (number_rule name.entry.now)) }
-{
-    command.arg(number_option(alloc, name, value, help))
-}
-
-/// The command with one more of its numbers, which has to be there.
-pub(crate) fn with_needed<'a>(
-    alloc: Global,
-    command: Command<'a>,
-    name: &'static str,
-    value: &'static str,
-    help: &'static str,
-) -> Result<Command<'a>, AllocError>
-    ensures { IfOk result (λ c. app_of c ≡ with_rule (app_of command.entry) (needed_rule name.entry.now)) }
-{
-    command.arg(number_option(alloc, name, value, help).required(true))
-}
-
-/// The command with one more of its numbers, which is `default` where it isn't there.
-pub(crate) fn with_default<'a>(
-    alloc: Global,
-    command: Command<'a>,
-    name: &'static str,
-    value: &'static str,
-    help: &'static str,
-    default: &'static str,
 ) -> Result<Command<'a>, AllocError>
     ensures { IfOk result
-        (λ c. app_of c ≡ with_rule (app_of command.entry) (default_rule name.entry.now default.entry.now)) }
+        (λ c. app_of c ≡ with_rule (app_of command.entry) (argument_rule argument name.entry.now)) }
 {
-    command.arg(number_option(alloc, name, value, help).default_value(default))
+    command.arg(argument_of(alloc, name, argument, help))
 }
 
 pub(crate) fn text_of(alloc: Global, words: &str) -> UsageFault {
@@ -184,6 +177,26 @@ pub(crate) fn text_asked<'a>(matches: &ArgMatches<'a>, name: &'static str) -> Op
     ensures { option_map (λ t. t.now) result ≡ first_of name.entry.now (rows_of (found_of matches.now)) }
 {
     matches.get_str(name)
+}
+
+/// The same, where it has to be there.
+///
+/// # Errors
+///
+/// These words, where it isn't.
+pub(crate) fn text_needed<'a>(
+    alloc: Global,
+    matches: &ArgMatches<'a>,
+    name: &'static str,
+    words: &str,
+) -> Result<&'a str, UsageFault>
+    ensures says { IfOk result (λ t. SaysText name.entry.now (rows_of (found_of matches.now)) t.now) }
+    ensures refuses { IfErr result (HasCause (first_of name.entry.now (rows_of (found_of matches.now)) ≡ None)) }
+{
+    match text_asked(matches, name) {
+        Some(text) => Ok(text),
+        None => Err(text_of(alloc, words)),
+    }
 }
 
 /// The number that this option says.

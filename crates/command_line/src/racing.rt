@@ -5,14 +5,18 @@ ghost use Rattle.clap.specs.Words.{app_of, found_of, rows_of};
 ghost use Rattle.command_line.specs.Asking.{AsksBy, IsRaceInRange, IsRefusedBy, SaysNumbers};
 ghost use Rattle.command_line.specs.CommandLine.{race_app, with_race_rules, with_turn_rules};
 
+use crate::options::Argument::{Flag, Needed, Number, NumberOr, Text};
 use crate::options::{
-    QUIET, WHY, flag_asked, number_asked, number_may_be, text_asked, text_of, with_default,
-    with_flag, with_needed, with_number, with_text,
+    QUIET, WHY, flag_asked, number_asked, number_may_be, text_asked, text_of, with,
 };
 use crate::request::{Asked, UsageFault};
 use clap::{ArgMatches, Command};
 use race_numbers::{Race, RaceUsage};
 use std::alloc::{AllocError, Global};
+
+const ROUNDS: &str = "Rounds of each host, 1 to 1000";
+
+const QUEUES: &str = "Submission queues of each host, 1 to 16";
 
 const TRACE: &str = "Print what hosts see, the lines of a trace, in place of the history's";
 
@@ -47,35 +51,21 @@ threads.";
 fn with_numbers<'a>(alloc: Global, command: Command<'a>) -> Result<Command<'a>, AllocError>
     ensures { IfOk result (λ c. app_of c ≡ with_race_rules (app_of command.entry)) }
 {
-    let command = with_needed(alloc, command, "hosts", "H", "Hosts, 1 to 16")?;
-    let command = with_needed(alloc, command, "workers", "W", "Workers, 1 to 16")?;
-    let command = with_needed(alloc, command, "slots", "S", "Slots, 1 to 64")?;
-    let command = with_default(
-        alloc,
-        command,
-        "rounds",
-        "R",
-        "Rounds of each host, 1 to 1000",
-        "10",
-    )?;
-    with_default(
-        alloc,
-        command,
-        "queues",
-        "Z",
-        "Submission queues of each host, 1 to 16",
-        "1",
-    )
+    let command = with(alloc, command, "hosts", Needed("H"), "Hosts, 1 to 16")?;
+    let command = with(alloc, command, "workers", Needed("W"), "Workers, 1 to 16")?;
+    let command = with(alloc, command, "slots", Needed("S"), "Slots, 1 to 64")?;
+    let command = with(alloc, command, "rounds", NumberOr("R", "10"), ROUNDS)?;
+    with(alloc, command, "queues", NumberOr("Z", "1"), QUEUES)
 }
 
 // The command with what the turns of a race are drawn from.
 fn with_turns<'a>(alloc: Global, command: Command<'a>) -> Result<Command<'a>, AllocError>
     ensures { IfOk result (λ c. app_of c ≡ with_turn_rules (app_of command.entry)) }
 {
-    let command = with_number(alloc, command, "crash", "N", CRASH)?;
-    let command = with_number(alloc, command, "seed", "N", SEED)?;
-    let command = with_text(alloc, command, "seeds", "A..B", SEEDS)?;
-    with_text(alloc, command, "bias", "WEIGHTS", BIAS)
+    let command = with(alloc, command, "crash", Number("N"), CRASH)?;
+    let command = with(alloc, command, "seed", Number("N"), SEED)?;
+    let command = with(alloc, command, "seeds", Text("A..B"), SEEDS)?;
+    with(alloc, command, "bias", Text("WEIGHTS"), BIAS)
 }
 
 pub(crate) fn race_command<'a>(alloc: Global) -> Result<Command<'a>, AllocError>
@@ -86,9 +76,9 @@ pub(crate) fn race_command<'a>(alloc: Global) -> Result<Command<'a>, AllocError>
         .after_help(ABOUT_RACES);
     let command = with_numbers(alloc, command)?;
     let command = with_turns(alloc, command)?;
-    let command = with_flag(alloc, command, "trace", TRACE)?;
-    let command = with_flag(alloc, command, "quiet", QUIET)?;
-    with_flag(alloc, command, "why", WHY)
+    let command = with(alloc, command, "trace", Flag, TRACE)?;
+    let command = with(alloc, command, "quiet", Flag, QUIET)?;
+    with(alloc, command, "why", Flag, WHY)
 }
 
 // The numbers of a race, where its options say all of them.

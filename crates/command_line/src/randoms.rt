@@ -5,10 +5,13 @@ ghost use Rattle.clap.specs.Words.{app_of, found_of, rows_of};
 ghost use Rattle.command_line.specs.Asking.{AsksBy, IsRaceInRange, IsRefusedBy};
 ghost use Rattle.command_line.specs.CommandLine.{random_app};
 
-use crate::options::{number_asked, text_asked, text_of, with_default, with_needed, with_text};
+use crate::options::Argument::{Needed, NumberOr, Text};
+use crate::options::{number_asked, text_asked, text_of, with};
 use crate::request::{Asked, UsageFault};
 use clap::{ArgMatches, Command};
 use std::alloc::{AllocError, Global};
+
+const LINES: &str = "Lines behind the configuration line";
 
 const CONFIG: &str = "Numbers of the configuration line, as '64 0 0 0 0 2 8 8 16'";
 
@@ -25,17 +28,10 @@ pub(crate) fn random_command<'a>(alloc: Global) -> Result<Command<'a>, AllocErro
     let command = Command::new(alloc, "random")
         .about("Prints a random script, the same for the same seed")
         .after_help(ABOUT_SEEDS);
-    let command = with_needed(alloc, command, "seed", "N", "The seed")?;
-    let command = with_default(
-        alloc,
-        command,
-        "lines",
-        "L",
-        "Lines behind the configuration line",
-        "100",
-    )?;
-    let command = with_text(alloc, command, "config", "NUMBERS", CONFIG)?;
-    with_text(alloc, command, "like", "KIND", LIKE)
+    let command = with(alloc, command, "seed", Needed("N"), "The seed")?;
+    let command = with(alloc, command, "lines", NumberOr("L", "100"), LINES)?;
+    let command = with(alloc, command, "config", Text("NUMBERS"), CONFIG)?;
+    with(alloc, command, "like", Text("KIND"), LIKE)
 }
 
 pub(crate) fn random_asked<'a>(

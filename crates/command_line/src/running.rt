@@ -5,7 +5,8 @@ ghost use Rattle.clap.specs.Words.{app_of, found_of, rows_of};
 ghost use Rattle.command_line.specs.Asking.{AsksBy, IsNotShown, IsRaceInRange, IsRefusedBy, HasCause, SaysShown};
 ghost use Rattle.command_line.specs.CommandLine.{run_app};
 
-use crate::options::{WHY, flag_asked, text_asked, text_of, with_flag, with_input, with_text};
+use crate::options::Argument::{Flag, Input, Text};
+use crate::options::{NO_FILE, WHY, flag_asked, text_asked, text_needed, text_of, with};
 use crate::request::{Asked, Shown, UsageFault};
 use crate::shown::no_kinds_in;
 use casdisk_texts::kinds_of;
@@ -50,11 +51,17 @@ pub(crate) fn run_command<'a>(alloc: Global) -> Result<Command<'a>, AllocError>
     let command = Command::new(alloc, "run")
         .about("Runs a script over one controller and prints what each step did")
         .after_help(ABOUT_LINES);
-    let command = with_text(alloc, command, "show", "KINDS", KINDS)?;
-    let command = with_flag(alloc, command, "trace", TRACE)?;
-    let command = with_flag(alloc, command, "flush", FLUSH)?;
-    let command = with_flag(alloc, command, "why", WHY)?;
-    with_input(alloc, command, "FILE", "The script; - is standard input")
+    let command = with(alloc, command, "show", Text("KINDS"), KINDS)?;
+    let command = with(alloc, command, "trace", Flag, TRACE)?;
+    let command = with(alloc, command, "flush", Flag, FLUSH)?;
+    let command = with(alloc, command, "why", Flag, WHY)?;
+    with(
+        alloc,
+        command,
+        "FILE",
+        Input,
+        "The script; - is standard input",
+    )
 }
 
 // What the options of a run show: all kinds of lines where they name none.
@@ -86,17 +93,12 @@ pub(crate) fn run_asked<'a>(
     ensures race { IfOk result IsRaceInRange }
     ensures refuses { IfErr result (IsRefusedBy (codes "run") (rows_of (found_of matches.now))) }
 {
-    let shown = match shown_asked(alloc, matches) {
-        Ok(shown) => shown,
-        Err(fault) => return Err(fault),
-    };
-    match text_asked(matches, "FILE") {
-        Some(file) => Ok(Asked::Run {
-            shown,
-            flush: flag_asked(matches, "flush"),
-            why: flag_asked(matches, "why"),
-            file,
-        }),
-        None => Err(text_of(alloc, "error: no file")),
-    }
+    let shown = shown_asked(alloc, matches)?;
+    let file = text_needed(alloc, matches, "FILE", NO_FILE)?;
+    Ok(Asked::Run {
+        shown,
+        flush: flag_asked(matches, "flush"),
+        why: flag_asked(matches, "why"),
+        file,
+    })
 }

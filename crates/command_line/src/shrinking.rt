@@ -5,7 +5,8 @@ ghost use Rattle.clap.specs.Words.{app_of, found_of, rows_of};
 ghost use Rattle.command_line.specs.Asking.{AsksBy, IsRaceInRange, IsRefusedBy};
 ghost use Rattle.command_line.specs.CommandLine.{shrink_app};
 
-use crate::options::{WHY, flag_asked, text_asked, text_of, with_flag, with_input};
+use crate::options::Argument::{Flag, Input};
+use crate::options::{WHY, flag_asked, text_needed, text_of, with};
 use crate::request::{Asked, UsageFault};
 use clap::{ArgMatches, Command};
 use std::alloc::{AllocError, Global};
@@ -24,8 +25,8 @@ pub(crate) fn shrink_command<'a>(alloc: Global) -> Result<Command<'a>, AllocErro
     let command = Command::new(alloc, "shrink")
         .about("Makes a script that fails small, by questions whether a smaller one fails")
         .after_help(ABOUT_QUESTIONS);
-    let command = with_flag(alloc, command, "why", WHY)?;
-    with_input(alloc, command, "SCRIPT", "The script that fails")
+    let command = with(alloc, command, "why", Flag, WHY)?;
+    with(alloc, command, "SCRIPT", Input, "The script that fails")
 }
 
 pub(crate) fn shrink_asked<'a>(
@@ -36,9 +37,7 @@ pub(crate) fn shrink_asked<'a>(
     ensures race { IfOk result IsRaceInRange }
     ensures refuses { IfErr result (IsRefusedBy (codes "shrink") (rows_of (found_of matches.now))) }
 {
-    let Some(script) = text_asked(matches, "SCRIPT") else {
-        return Err(text_of(alloc, "error: no script"));
-    };
+    let script = text_needed(alloc, matches, "SCRIPT", "error: no script")?;
     if script == "-" {
         return Err(text_of(
             alloc,

@@ -5,7 +5,8 @@ ghost use Rattle.clap.specs.Words.{app_of, found_of, rows_of};
 ghost use Rattle.command_line.specs.Asking.{AsksBy, IsRaceInRange, IsRefusedBy};
 ghost use Rattle.command_line.specs.CommandLine.{tell_app};
 
-use crate::options::{flag_asked, text_asked, text_of, with_flag, with_input};
+use crate::options::Argument::{Flag, Input};
+use crate::options::{NO_FILE, flag_asked, text_needed, with};
 use crate::request::{Asked, UsageFault};
 use clap::{ArgMatches, Command};
 use std::alloc::{AllocError, Global};
@@ -27,8 +28,8 @@ pub(crate) fn tell_command<'a>(alloc: Global) -> Result<Command<'a>, AllocError>
     let command = Command::new(alloc, "tell")
         .about("Tells a history or a trace in words, a line for a line")
         .after_help(ABOUT_WORDS);
-    let command = with_flag(alloc, command, "color", COLOR)?;
-    with_input(alloc, command, "FILE", LINES)
+    let command = with(alloc, command, "color", Flag, COLOR)?;
+    with(alloc, command, "FILE", Input, LINES)
 }
 
 pub(crate) fn tell_asked<'a>(
@@ -39,11 +40,9 @@ pub(crate) fn tell_asked<'a>(
     ensures race { IfOk result IsRaceInRange }
     ensures refuses { IfErr result (IsRefusedBy (codes "tell") (rows_of (found_of matches.now))) }
 {
-    match text_asked(matches, "FILE") {
-        Some(file) => Ok(Asked::Tell {
-            color: flag_asked(matches, "color"),
-            file,
-        }),
-        None => Err(text_of(alloc, "error: no file")),
-    }
+    let file = text_needed(alloc, matches, "FILE", NO_FILE)?;
+    Ok(Asked::Tell {
+        color: flag_asked(matches, "color"),
+        file,
+    })
 }

@@ -21,9 +21,9 @@ use Rattle.nvme_model.specs.declared.status.Verdict.{Verdict}
 use Rattle.nvme_model.specs.declared.step.Step.{Step}
 use Rattle.nvme_model.specs.declared.submission.Submission.{Submission}
 use Rattle.block_exec.specs.declared.run.Done.{Done}
+use Rattle.fused_match.specs.declared.judged.Judged.{Judged}
 use Rattle.controller_interface.specs.declared.answer.Answer.{Answer}
 use Rattle.controller_interface.specs.declared.answer.Refused.{Refused}
-use Rattle.controller_interface.specs.declared.work.Kind.{Kind}
 use Rattle.controller_interface.specs.Works.{TicketWork}
 
 -- how many entries of the history, and how many ranges of open units, need no memory
@@ -45,21 +45,21 @@ pub record ControllerState : Type 0 where
 abbrev pub ticket_range : Ticket → Range
 ticket_range k = record { slba = slba (first_fields k); blocks = block_count (first_fields k) }
 
--- what a ticket that passed its checks has to do
-abbrev pub kind_by : Ticket → Option Op → Kind
-kind_by k None = Kind.Flush
-kind_by k (Some Op.Pair) = Kind.Pair (ticket_range k)
-kind_by k (Some o) = Kind.Units o (ticket_range k)
+-- what a Fetch finds of one command that passed its checks
+abbrev pub judged_by : Ticket → Option Op → Judged
+judged_by k None = Judged.Flush
+judged_by k (Some o) = Judged.Single o (ticket_range k)
 
--- what a ticket has to do
-abbrev pub kind_of : Ticket → Verdict → Kind
-kind_of k (Verdict.SingleFailed s) = Kind.Failed 1
-kind_of k (Verdict.PairFailed s r) = Kind.Failed 2
-kind_of k _ = kind_by k (op k)
+-- what a Fetch finds of a ticket's commands
+abbrev pub judged_of : Ticket → Verdict → Judged
+judged_of k Verdict.Single = judged_by k (op k)
+judged_of k Verdict.Pair = Judged.Pair (ticket_range k)
+judged_of k (Verdict.SingleFailed s) = Judged.SingleFailed s
+judged_of k (Verdict.PairFailed s r) = Judged.PairFailed s r
 
 -- the work of a ticket of this number
 abbrev pub work_of : ConfigNumbers → ℕ → Ticket → TicketWork
-work_of c t k = record { ticket = t; atomic = c.atomic; kind = kind_of k k.verdict }
+work_of c t k = record { ticket = t; atomic = c.atomic; judged = judged_of k k.verdict }
 
 -- what a Block did
 abbrev pub done_of : Past → BlockLine → Done

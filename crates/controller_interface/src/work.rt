@@ -1,25 +1,12 @@
 //! What a fetched ticket has to do.
 
 ghost use Rattle.std.specs.Prelude.{◌≡◌};
-ghost use Rattle.controller_interface.specs.Works.{IsKind, work_units};
+ghost use Rattle.controller_interface.specs.Works.{work_units};
+ghost use Rattle.fused_match.specs.Judged.{IsSoundFor};
 
 use atomic_units::{UnitIter, Units};
-use nvme_model::array::Range;
-use nvme_model::operation::Op;
+use fused_match::Judged;
 use std::marker::Model;
-
-/// What a fetched ticket has to do.
-#[derive(Clone, Copy, Debug, PartialEq, Eq)]
-pub enum Kind {
-    /// Its checks failed, and it owes this many statuses, 1 or 2.
-    Failed(u8),
-    /// A Flush, which owes one status.
-    Flush,
-    /// A command on these blocks, in units one after the other.
-    Units(Op, Range),
-    /// A fused pair on these blocks, in one unit.
-    Pair(Range),
-}
 
 /// A fetched ticket and what it has to do; it can't be copied, and one that is dropped leaves its ticket unfinished.
 ///
@@ -28,29 +15,30 @@ pub enum Kind {
 pub struct Work {
     ticket: u64,
     units: Units,
-    kind: Kind,
+    judged: Judged,
 }
 
 impl Model for Work {
-    ghost use Rattle.controller_interface.specs.Works.{IsKind, TicketWork};
+    ghost use Rattle.controller_interface.specs.Works.{TicketWork};
+    ghost use Rattle.fused_match.specs.Judged.{IsSoundFor};
 
     ghost Value = { TicketWork };
 
-    ghost view = { λ w. record { ticket = w.ticket; atomic = w.units; kind = w.kind } };
+    ghost view = { λ w. record { ticket = w.ticket; atomic = w.units; judged = w.judged } };
 
-    ghost invariant = { λ w. IsKind w.units w.kind };
+    ghost invariant = { λ w. IsSoundFor w.units w.judged };
 }
 
 impl Work {
     /// The work of this ticket.
-    pub fn new(ticket: u64, units: Units, kind: Kind) -> Work
-        requires { IsKind units kind }
-        ensures { result ≡ record { ticket = ticket; atomic = units; kind = kind } }
+    pub fn new(ticket: u64, units: Units, judged: Judged) -> Work
+        requires { IsSoundFor units judged }
+        ensures { result ≡ record { ticket = ticket; atomic = units; judged = judged } }
     {
         Work {
             ticket,
             units,
-            kind,
+            judged,
         }
     }
 
@@ -61,21 +49,22 @@ impl Work {
         self.ticket
     }
 
-    /// What it has to do.
-    pub fn kind(&self) -> Kind
-        ensures value { result ≡ self.now.kind }
-        ensures law { IsKind self.now.atomic result }
+    /// What its Fetch found, which says what it has to do.
+    pub fn judged(&self) -> Judged
+        ensures value { result ≡ self.now.judged }
+        ensures law { IsSoundFor self.now.atomic result }
     {
-        self.kind
+        self.judged
     }
 
     /// The units of a command on blocks, which are the cut of its range, in order; None for anything else.
     pub fn units(&self) -> Option<UnitIter>
         ensures units { result ≡ work_units self.now }
     {
-        match self.kind {
-            Kind::Units(_, range) => Some(self.units.cut(range.slba, range.blocks)),
-            Kind::Failed(_) | Kind::Flush | Kind::Pair(_) => None,
+        match self.judged {
+            Judged::Single(_, range) => Some(self.units.cut(range.slba, range.blocks)),
+            Judged::Flush | Judged::Pair(_) | Judged::SingleFailed(_) | Judged::PairFailed(_, _) =>
+                None,
         }
     }
 }

@@ -20,15 +20,15 @@ use Rattle.nvme_model.specs.declared.step.Step.{Step}
 use Rattle.nvme_model.specs.declared.submission.Submission.{Submission}
 use Rattle.nvme_model.specs.Steps.{reap_entry}
 use Rattle.nvme_model.specs.declared.entry.PostLine.{PostLine}
-use Rattle.meet_lock.specs.Passes.{Declines, IsNotBusy, IsSame, config_of, mine, number, passes_of, seen}
+use Rattle.meet_lock.specs.Passes.{Declines, IsCallMade, IsSame, config_of, mine, number, passes_of, seen}
 use Rattle.meet_lock.specs.declared.pass.Declined.{Declined}
-use Rattle.work_queue.specs.Engines.{IsOpened}
-use Rattle.work_queue.specs.declared.engine.Engine.{Engine}
-use Rattle.work_queue.specs.declared.engine.Opened.{Opened}
-use Rattle.work_queue.specs.declared.engine.Opened.TheVariants as opened
+use Rattle.meet_lock.specs.declared.pass.Unmade.{Unmade}
+use Rattle.step_core.specs.declared.calls.PublishCall.{PublishCall}
+use Rattle.step_core.specs.declared.calls.ReapCall.{ReapCall}
+use Rattle.work_queue.specs.Engines.{publish_declined, reap_declined}
 use Rattle.driver_cas.specs.Passes.{log_at, view_at}
 use Rattle.driver_cas.specs.Ports.{IsRefused}
-use Rattle.driver_cas.specs.Reaps.{IsReapDeclined, IsReapFault, IsReapAnswered, cause_of}
+use Rattle.driver_cas.specs.Reaps.{IsReapAnswered, IsReapFault, IsReapUnmade, cause_of}
 use Rattle.driver_cas.specs.declared.fault.PortFault.{PortFault}
 use Rattle.driver_cas.specs.declared.port.Reaped.{Reaped}
 use Rattle.work_queue.specs.Engines.{EnginePass}
@@ -110,25 +110,19 @@ reap_event c n past e a s =
           (eq-eqb r.queue n l.of);
     }
 
-pub opened_as_reaped : (eng : Engine) (q : EnginePass) (e : Entry) (cqe payload : List ℕ) (r : Opened)
-    → IsOpened eng q e (Answer.Reaped cqe payload) r → r ≡ opened.Reaped cqe payload
-opened_as_reaped eng q e cqe payload (opened.Reaped c p) (a, b) = ap₂ opened.Reaped a b
-opened_as_reaped eng q e cqe payload opened.Published h = absurd h
-opened_as_reaped eng q e cqe payload (opened.Fetched w) h = absurd h
+reaped_cqe : Answer → List ℕ
+reaped_cqe (Answer.Reaped c p) = c
+reaped_cqe _ = []
 
-opened_cqe : Opened → List ℕ
-opened_cqe (opened.Reaped c p) = c
-opened_cqe _ = []
-
-opened_payload : Opened → List ℕ
-opened_payload (opened.Reaped c p) = p
-opened_payload _ = []
+reaped_data : Answer → List ℕ
+reaped_data (Answer.Reaped c p) = p
+reaped_data _ = []
 
 -- the event of the completion that was answered
-pub got_of : (cqe payload c p : List ℕ) → opened.Reaped cqe payload ≡ opened.Reaped c p
+pub got_of : (cqe payload c p : List ℕ) → Answer.Reaped cqe payload ≡ Answer.Reaped c p
     → PortEvent.Got cqe payload ∷ [] ≡ PortEvent.Got c p ∷ []
-unfolding opened_cqe opened_payload
-got_of cqe payload c p h = ap₂ (λ (x y : List ℕ). PortEvent.Got x y ∷ []) (ap opened_cqe h) (ap opened_payload h)
+unfolding reaped_cqe reaped_data
+got_of cqe payload c p h = ap₂ (λ (x y : List ℕ). PortEvent.Got x y ∷ []) (ap reaped_cqe h) (ap reaped_data h)
 
 -- a step that wasn't made adds no entry of the pass
 pub declined_mine : (refuses : ConfigNumbers → Past → Step → Refused → Type 0) (p q : EnginePass) (step : Step)
@@ -145,6 +139,10 @@ refused_batch : List Submission → Refused → List Submission
 refused_batch other (Refused.Publish why batch) = batch
 refused_batch other (Refused.Step why) = other
 
+pub same_step : (why w : Why) → Refused.Step why ≡ Refused.Step w → why ≡ w
+unfolding refused_why
+same_step why w h = ap refused_why h
+
 pub same_why : (why w : Why) (a b : List Submission) → Refused.Publish why a ≡ Refused.Publish w b → why ≡ w
 unfolding refused_why
 same_why why w a b h = ap refused_why h
@@ -154,15 +152,15 @@ unfolding refused_batch
 same_batch why w a b h = ap (refused_batch a) h
 
 -- a batch that comes back refused is the one that was asked, and why is what the table says at what was seen
-pub refused_publish : (p q : EnginePass) (queue : ℕ) (batch : List Submission) (d : Declined) (r : Refused) (why : Why)
-    (b : List Submission) → d ≡ Declined.Refused r → r ≡ Refused.Publish why b
-    → Declines Refuses p q (Step.Publish queue batch) d
+pub refused_publish : (p q : EnginePass) (queue : ℕ) (batch : List Submission)
+    (u : Unmade PublishCall (Why × List Submission)) (why : Why) (b : List Submission) → u ≡ Unmade.Refused (why, b)
+    → Declines Refuses p q (Step.Publish queue batch) (publish_declined u)
     → (mine q ≡ mine p) × (Refused.Publish why b
     ≡ Refused.Publish (unwrap_or (refusal (config_of p) (entries (seen q)) (Step.Publish queue batch)) Why.NoMemory)
     batch)
-refused_publish p q queue batch d r why b is of h =
-    let g = subst (λ (x : Declined). Declines Refuses p q (Step.Publish queue batch) x) is h in
-    (g.0, sym of ∙ g.1)
+refused_publish p q queue batch u why b is h =
+    subst (λ (x : Unmade PublishCall (Why × List Submission)).
+    Declines Refuses p q (Step.Publish queue batch) (publish_declined x)) is h
 
 -- ---- why a step that the port asks for is refused
 
@@ -231,18 +229,15 @@ fault_tells passes a b q batch PortFault.NoMemory h (inl e) =
     absurd (let x : Why.NoMemory ≡ Why.NoRoom = h ∙ ap (λ (o : Option Why). unwrap_or o Why.NoMemory) e in cc)
 fault_tells passes a b q batch PortFault.NoMemory h (inr e) = e
 
--- what declines a Reap of a completion queue that is there
-pub declined_reap : (p q : EnginePass) (n : ℕ) (d : Declined) → IsSame p q → 1 ≤ n → n ≤ (config_of p).cqs
-    → Declines Refuses p q (Step.Reap n) d → IsReapDeclined d
-declined_reap p q n (Declined.Busy s) same few most h = tt
-declined_reap p q n (Declined.Refused r) same few most h =
-    let why = unwrap_or (refusal (config_of p) (entries (seen q)) (Step.Reap n)) Why.NoMemory in
-    subst (λ (x : Refused). IsReapDeclined (Declined.Refused x)) (sym h.1)
+-- why a Reap of a completion queue that is there isn't made
+pub unmade_reap : (p q : EnginePass) (n : ℕ) (u : Unmade ReapCall Why) → 1 ≤ n → n ≤ (config_of p).cqs
+    → Declines Refuses p q (Step.Reap n) (reap_declined u) → IsReapUnmade u
+unmade_reap p q n (Unmade.Busy c) few most h = tt
+unmade_reap p q n (Unmade.Refused why) few most h =
+    subst (λ (w : Why). IsReapUnmade (Unmade.Refused w)) (sym (same_step _ _ h.1))
     (elim (owned_reap (config_of p) (entries (seen q)) n few most) [
-      | inl e ↦ subst (λ (o : Option Why). IsReapDeclined (Declined.Refused (Refused.Step (unwrap_or o Why.NoMemory))))
-          (sym e) tt
-      | inr e ↦ subst (λ (o : Option Why). IsReapDeclined (Declined.Refused (Refused.Step (unwrap_or o Why.NoMemory))))
-          (sym e) tt
+      | inl e ↦ subst (λ (o : Option Why). IsReapUnmade (Unmade.Refused (unwrap_or o Why.NoMemory))) (sym e) tt
+      | inr e ↦ subst (λ (o : Option Why). IsReapUnmade (Unmade.Refused (unwrap_or o Why.NoMemory))) (sym e) tt
     ])
 
 -- and what is known where the port then answers so
@@ -250,14 +245,14 @@ abbrev reap_result : Option PortFault → Result (Option Reaped) PortFault
 reap_result None = Ok None
 reap_result (Some f) = Err f
 
-pub reap_told : (p q : EnginePass) (n : ℕ) (d : Declined) (o : Option PortFault) → IsSame p q → 1 ≤ n
-    → n ≤ (config_of p).cqs → Declines Refuses p q (Step.Reap n) d → (passes_of p ≡ 1 → IsNotBusy {A = Opened} (Err d))
-    → IsReapFault d o
+pub reap_told : (p q : EnginePass) (n : ℕ) (u : Unmade ReapCall Why) (o : Option PortFault) → IsSame p q
+    → 1 ≤ n → n ≤ (config_of p).cqs → Declines Refuses p q (Step.Reap n) (reap_declined u)
+    → (passes_of p ≡ 1 → IsCallMade {A = Unit {0}} (Err u)) → IsReapFault u o
     → IsReapAnswered (passes_of p) (view_at n p) (view_at n q) (reap_result o)
-reap_told p q n (Declined.Busy s) o same few most h alone f =
+reap_told p q n (Unmade.Busy c) o same few most h alone f =
     subst (λ (x : Option PortFault). IsReapAnswered (passes_of p) (view_at n p) (view_at n q) (reap_result x)) (sym f)
     (alone, λ i. record { config = same.3 i; queue = n; pass = same.1 i; seen = h.1 i })
-reap_told p q n (Declined.Refused r) o same few most h alone f =
+reap_told p q n (Unmade.Refused why) o same few most h alone f =
     go (refusal (config_of p) (entries (seen q)) (Step.Reap n)) refl
     (owned_reap (config_of p) (entries (seen q)) n few most)
   where
@@ -269,15 +264,15 @@ reap_told p q n (Declined.Refused r) o same few most h alone f =
         → (w ≡ Some Why.NoCompletion) ⊎ (w ≡ None)
         → IsReapAnswered (passes_of p) (view_at n p) (view_at n q) (reap_result o)
     go w is (inl e) =
-        let told : IsReapFault (Declined.Refused (Refused.Step Why.NoCompletion)) o =
-        subst (λ (x : Refused). IsReapFault (Declined.Refused x) o)
-        (h.1 ∙ ap (λ (x : Option Why). Refused.Step (unwrap_or x Why.NoMemory)) (is ∙ e)) f in
+        let told : IsReapFault (Unmade.Refused Why.NoCompletion) o =
+        subst (λ (x : Why). IsReapFault (Unmade.Refused x) o)
+        (same_step _ _ h.1 ∙ ap (λ (x : Option Why). unwrap_or x Why.NoMemory) (is ∙ e)) f in
         subst (λ (x : Option PortFault). IsReapAnswered (passes_of p) (view_at n p) (view_at n q) (reap_result x))
         (sym told) (same_refusal ∙ is ∙ e)
     go w is (inr e) =
-        let told : IsReapFault (Declined.Refused (Refused.Step Why.NoMemory)) o =
-        subst (λ (x : Refused). IsReapFault (Declined.Refused x) o)
-        (h.1 ∙ ap (λ (x : Option Why). Refused.Step (unwrap_or x Why.NoMemory)) (is ∙ e)) f in
+        let told : IsReapFault (Unmade.Refused Why.NoMemory) o =
+        subst (λ (x : Why). IsReapFault (Unmade.Refused x) o)
+        (same_step _ _ h.1 ∙ ap (λ (x : Option Why). unwrap_or x Why.NoMemory) (is ∙ e)) f in
         subst (λ (x : Option PortFault). IsReapAnswered (passes_of p) (view_at n p) (view_at n q) (reap_result x))
         (sym told) (same_refusal ∙ is ∙ e)
 

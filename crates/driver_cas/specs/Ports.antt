@@ -1,5 +1,4 @@
 -- What contracts say of the port of a shared controller.
-use Rattle.std.specs.Arc.{arc_value}
 use Rattle.std.specs.Prelude.{List, None, Ok, Option, Result, Some, length, ℕ, ◌+◌, ◌≡◌, ◌≢◌}
 use Rattle.nvme_model.specs.Passes.{entries}
 use Rattle.nvme_model.specs.Refusals.{refusal}

@@ -4,8 +4,8 @@ use Rattle.nvme_model.specs.Passes.{entries}
 use Rattle.nvme_model.specs.Refusals.{refusal}
 use Rattle.nvme_model.specs.declared.refusal.Why.{Why}
 use Rattle.nvme_model.specs.declared.step.Step.{Step}
-use Rattle.meet_lock.specs.declared.pass.Declined.{Declined}
-use Rattle.controller_interface.specs.declared.answer.Refused.{Refused}
+use Rattle.step_core.specs.declared.calls.ReapCall.{ReapCall}
+use Rattle.meet_lock.specs.declared.pass.Unmade.{Unmade}
 use Rattle.driver_calls.specs.Views.{PortView}
 use Rattle.driver_cas.specs.declared.fault.PortFault.{PortFault}
 use Rattle.driver_cas.specs.declared.port.Reaped.{Reaped}
@@ -17,17 +17,17 @@ cause_of PortFault.Busy = Why.Busy
 cause_of PortFault.NoMemory = Why.NoMemory
 
 -- a Reap of a completion queue that is there isn't made for these causes alone
-abbrev pub IsReapDeclined : Declined → Type 0
-IsReapDeclined (Declined.Busy s) = Unit {0}
-IsReapDeclined (Declined.Refused (Refused.Step Why.NoCompletion)) = Unit {0}
-IsReapDeclined (Declined.Refused (Refused.Step Why.NoMemory)) = Unit {0}
-IsReapDeclined _ = ⊥
+abbrev pub IsReapUnmade : Unmade ReapCall Why → Type 0
+IsReapUnmade (Unmade.Busy c) = Unit {0}
+IsReapUnmade (Unmade.Refused Why.NoCompletion) = Unit {0}
+IsReapUnmade (Unmade.Refused Why.NoMemory) = Unit {0}
+IsReapUnmade _ = ⊥
 
 -- what the port then answers: no fault where there is no completion
-abbrev pub IsReapFault : Declined → Option PortFault → Type 0
-IsReapFault (Declined.Busy s) o = o ≡ Some PortFault.Busy
-IsReapFault (Declined.Refused (Refused.Step Why.NoCompletion)) o = o ≡ None
-IsReapFault (Declined.Refused (Refused.Step Why.NoMemory)) o = o ≡ Some PortFault.NoMemory
+abbrev pub IsReapFault : Unmade ReapCall Why → Option PortFault → Type 0
+IsReapFault (Unmade.Busy c) o = o ≡ Some PortFault.Busy
+IsReapFault (Unmade.Refused Why.NoCompletion) o = o ≡ None
+IsReapFault (Unmade.Refused Why.NoMemory) o = o ≡ Some PortFault.NoMemory
 IsReapFault _ o = ⊥
 
 -- how many steps there are after a Reap that found this

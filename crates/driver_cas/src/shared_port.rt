@@ -10,17 +10,17 @@ ghost use Rattle.work_queue.specs.Engines.{IsPassOfEngine};
 ghost use Rattle.driver_cas.specs.Made.{after_reap};
 ghost use Rattle.driver_cas.specs.Parts.{engine_in};
 ghost use Rattle.driver_cas.specs.Passes.{log_at, view_at};
-ghost use Rattle.driver_cas.specs.Reaps.{IsCounted, IsReapDeclined, IsReapFault, IsReapAnswered, cause_of, steps_with};
+ghost use Rattle.driver_cas.specs.Reaps.{IsCounted, IsReapAnswered, IsReapFault, IsReapUnmade, cause_of, steps_with};
 
 use crate::engine_part::EnginePart;
 use crate::fault::PortFault;
 use crate::port::{Port, Reaped};
-use meet_lock::{Declined, Pass};
+use meet_lock::{Pass, Unmade};
 use nvme_model::refusal::Why;
 use nvme_model::submission::Submissions;
 use std::sync::Arc;
-use step_core::{Core, Refused, Step};
-use work_queue::{Engine, Open, Opened};
+use step_core::{Completion, Core, ReapCall};
+use work_queue::Engine;
 
 /// The port of one completion queue of an engine's controller and the submission queues that use it.
 #[derive(Drop)]
@@ -102,15 +102,15 @@ fn publish_fault(why: Why) -> PortFault
     PortFault::NoMemory
 }
 
-// Why a Reap wasn't made; None where there is no completion.
-fn reap_fault(declined: &Declined) -> Option<PortFault>
-    requires { IsReapDeclined declined.now }
-    ensures { IsReapFault declined.now result }
+// Why a Reap isn't made; None where there is no completion.
+fn reap_fault(unmade: &Unmade<ReapCall, Why>) -> Option<PortFault>
+    requires { IsReapUnmade unmade.now }
+    ensures { IsReapFault unmade.now result }
 {
-    match declined {
-        Declined::Busy(_) => Some(PortFault::Busy),
-        Declined::Refused(Refused::Step(Why::NoCompletion)) => None,
-        Declined::Refused(_) => Some(PortFault::NoMemory),
+    match unmade {
+        Unmade::Busy(_) => Some(PortFault::Busy),
+        Unmade::Refused(Why::NoCompletion) => None,
+        Unmade::Refused(_) => Some(PortFault::NoMemory),
     }
 }
 
@@ -126,15 +126,12 @@ fn try_reap(engine: &Engine, pass: &mut Pass<Core>, queue: u16) -> Result<Option
     ensures none { IfErr result (λ _. mine pass.new ≡ mine pass.old) }
     ensures cause { IsReapAnswered (passes_of pass.old) (view_at queue pass.old) (view_at queue pass.new) result }
 {
-    match engine.attempt_open(pass, Open::Reap(queue)) {
-        Ok(opened) => {
-            // A Reap that was made is answered by its completion.
-            let Opened::Reaped { cqe, payload } = opened else {
-                unreachable!();
-            };
+    match engine.reap(pass, queue) {
+        Ok(completion) => {
+            let Completion { cqe, payload } = completion;
             Ok(Some(Reaped { cqe, payload }))
         }
-        Err(declined) => match reap_fault(&declined) {
+        Err(unmade) => match reap_fault(&unmade) {
             Some(fault) => Err(fault),
             None => Ok(None),
         },
@@ -199,19 +196,10 @@ impl<'a> Port for SharedPort<'a> {
     ghost says = { λ before start now. AnswerSays before (view_of start) (view_of now) };
 
     fn publish(&mut self, queue: u16, batch: Submissions) -> Result<(), (PortFault, Submissions)> {
-        match self
-            .part
-            .engine()
-            .attempt_open(&mut self.pass, Open::Publish(queue, batch))
-        {
-            Ok(_) => Ok(()),
-            Err(Declined::Busy(Step::Publish(_, batch))) => Err((PortFault::Busy, batch)),
-            Err(Declined::Refused(Refused::Publish(why, batch))) => Err((
-                publish_fault(why),
-                batch,
-            )),
-            // A Publish that wasn't made hands its batch back.
-            Err(_) => unreachable!(),
+        match self.part.engine().publish(&mut self.pass, queue, batch) {
+            Ok(()) => Ok(()),
+            Err(Unmade::Busy(call)) => Err((PortFault::Busy, call.batch)),
+            Err(Unmade::Refused((why, batch))) => Err((publish_fault(why), batch)),
         }
     }
 

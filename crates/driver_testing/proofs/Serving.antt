@@ -8,14 +8,16 @@ use Rattle.controller_interface.specs.State.{Accepts, Refuses}
 use Rattle.controller_interface.specs.declared.answer.Answer.{Answer}
 use Rattle.meet_lock.specs.Passes.{Declines, IsSame, Knows, Worked}
 use Rattle.meet_lock.specs.declared.pass.Declined.{Declined}
+use Rattle.meet_lock.specs.declared.pass.Unmade.{Unmade}
+use Rattle.nvme_model.specs.declared.refusal.Why.{Why}
+use Rattle.step_core.specs.declared.calls.FetchCall.{FetchCall}
 use Rattle.meet_lock.specs.declared.seats.TicketSeat.{TicketSeat}
 use Rattle.controller_interface.specs.State.{ControllerState}
 use Rattle.work_queue.specs.Duties.{task_step}
-use Rattle.work_queue.specs.Engines.{EnginePass, OpenedAs}
+use Rattle.work_queue.specs.Engines.{EnginePass, FetchedAs, fetch_declined}
 use Rattle.work_queue.specs.declared.engine.Engine.{Engine}
-use Rattle.work_queue.specs.declared.engine.Open.TheVariants as opening
-use Rattle.work_queue.specs.declared.engine.Opened.{Opened}
 use Rattle.work_queue.specs.declared.task.Task.{Task}
+use Rattle.work_queue.specs.declared.work.Work.{Work}
 use Rattle.driver_testing.specs.Hosts.{ServesOn}
 use Rattle.shared_system.specs.declared.plain.PlainCaller.{PlainCaller}
 use Rattle.shared_system.specs.Servers.{IsServing}
@@ -23,12 +25,14 @@ use Rattle.shared_system.proofs.Servers.{declined, stepped}
 use Rattle.shared_system.proofs.Going.{task_serves}
 
 -- after a Fetch, whether it was made or not
-pub fetched_serves : (eng : Engine) (p q : EnginePass) (queue : ℕ) (r : Result Opened Declined) → IsSame p q
-    → Knows ControllerInvariant p q → IfOk r (OpenedAs eng p q (opening.Fetch queue))
-    → IfErr r (Declines Refuses p q (Step.Fetch queue))
+pub fetched_serves : (eng : Engine) (p q : EnginePass) (queue : ℕ) (r : Result Work (Unmade FetchCall Why))
+    → IsSame p q → Knows ControllerInvariant p q → IfOk r (FetchedAs eng p q queue)
+    → IfErr r (λ u. Declines Refuses p q (Step.Fetch queue) (fetch_declined u))
     → IsServing p → IsServing q
-fetched_serves eng p q queue (Ok o) same k ok err x = stepped p q (Step.Fetch queue) ok.answer same k refl ok.by x
-fetched_serves eng p q queue (Err d) same k ok err x = declined p q (Step.Fetch queue) d same k err x
+fetched_serves eng p q queue (Ok w) same k ok err x =
+    stepped p q (Step.Fetch queue) (Answer.Fetched w.work) same k refl ok.by x
+fetched_serves eng p q queue (Err u) same k ok err x =
+    declined p q (Step.Fetch queue) (fetch_declined u) same k err x
 
 -- and after a task
 pub worked_serves : (p q : EnginePass) (w v : TicketSeat ControllerState) (k : Task) (t : ℕ) (its : Past) (was : Past)

@@ -12,7 +12,7 @@ ghost use Rattle.shared_system.specs.Plain.{IsPlainCallerOf};
 use shared_system::{PlainCaller, PlainSystem};
 use std::sync::Wait;
 use step_core::Answer;
-use work_queue::{Notice, Open, Opened, Work};
+use work_queue::{Notice, Work};
 
 // The completion queue of a submission queue.
 #[tactic(auto, using(shared_system::proofs::Systems::some_queues))]
@@ -31,12 +31,9 @@ pub fn fetches(system: &PlainSystem, server: &mut PlainCaller, queue: u16) -> Op
     ensures serves { ServesOn server.old server.new }
     ensures work { IfSome result (IsWorkOf system.now.engine) }
 {
-    match system
-        .engine
-        .attempt_open(&mut server.pass, Open::Fetch(queue))
-    {
-        Ok(Opened::Fetched(work)) => Some(work),
-        Ok(Opened::Published | Opened::Reaped { .. }) | Err(_) => None,
+    match system.engine.fetch(&mut server.pass, queue) {
+        Ok(work) => Some(work),
+        Err(_) => None,
     }
 }
 

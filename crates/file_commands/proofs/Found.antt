@@ -1,6 +1,6 @@
 -- What is said of a file beside an area, from what was found.
-use Rattle.std.proofs.Common.{Bool, List, None, Option, Some, [], ap, ap₂, arith, false, inl, inr, is_none, refl, subst}
-use Rattle.std.proofs.Common.{sym, true, ℕ, ◌∙◌, ◌∷◌, ◌≡◌, ◌≤◌}
+use Rattle.std.proofs.Common.{Bool, List, None, Option, Some, ap, arith, false, inl, inr, is_none, refl, subst}
+use Rattle.std.proofs.Common.{sym, true, ℕ, ◌∙◌, ◌≡◌, ◌≤◌}
 use Rattle.std.specs.Prelude.{Err, IfSome, Ok}
 use Rattle.std.specs.Io.KnownBytes.{IsAtEnd}
 use Rattle.std.proofs.KnownBytes.{Keeps-refl}
@@ -13,14 +13,14 @@ use Rattle.nvme_model.specs.declared.array.Range.{Range}
 use Rattle.nvme_model.specs.declared.config.ConfigNumbers.{ConfigNumbers}
 use Rattle.broken_rules.specs.declared.broken.Broken.{Broken}
 use Rattle.history_check.specs.Kept.{CheckerRun}
-use Rattle.casdisk_texts.specs.Files.{HasHistory, entry_added, file_of}
+use Rattle.casdisk_texts.specs.Files.{HasHistory}
 use Rattle.casdisk_texts.specs.Followed.{StopsFirst}
 use Rattle.casdisk_texts.specs.Judged.{HasFirstBad, first_rule}
-use Rattle.casdisk_texts.specs.Running.{Makes, RunsScript}
-use Rattle.casdisk_texts.specs.Script.{first_config, script_outcome}
+use Rattle.casdisk_texts.specs.Script.{first_config}
 use Rattle.casdisk_texts.specs.declared.fault.RunFault.{RunFault}
 use Rattle.casdisk_texts.specs.declared.fault.RunFault.TheVariants.{BadConfig, BadLine, Input, NoMemory, Output}
 use Rattle.casdisk_texts.specs.declared.judging.FirstBad.{FirstBad}
+use Rattle.casdisk_texts.proofs.Answering.{history_then}
 use Rattle.casdisk_texts.proofs.Placing.{answered_by, explained_by, not_legal}
 use Rattle.slot_check.specs.Watched.{AreaState}
 use Rattle.file_commands.specs.Texts.{ChecksSlots, HasArea, HasAreaByThen, HasFound, IsExplainedSlots, IsSlotsAnswer}
@@ -68,17 +68,11 @@ module _ (slots : Range) (found : JudgedSlots) where
   answer_of : (bytes : List ℕ) → HasHistory (λ c past. HasFound false c slots past found) bytes
       → IsSlotsAnswerOf slots bytes (found_none found.bad.place found.wrong) (found_text found.bad.place found.wrong)
   answer_of bytes h =
-      let is = h.1.2 in (
-        h.0,
-        (
-          h.1.0,
-          h.1.1,
-          (
-            is.within,
-            answer_by h.1.0 slots (file_of bytes).past found.bad.place found.wrong is.first.place is.wrong,
-          ),
-        ),
-      )
+      history_then (λ c past. HasFound false c slots past found)
+      (λ c past. IsWithin c slots
+      × IsSlotsAnswer c slots past (found_none found.bad.place found.wrong) (found_text found.bad.place found.wrong))
+      (Some bytes)
+      (λ c past is. (is.within, answer_by c slots past found.bad.place found.wrong is.first.place is.wrong)) h
 
   pub answered : (answer : Bool) (r t v x : Option (List ℕ)) → 1 ≤ slots.blocks → IsAtEnd t
       → IfSome r (HasHistory (λ c past. HasFound false c slots past found))
@@ -110,20 +104,15 @@ module _ (slots : Range) (found : JudgedSlots) where
   pub explained : (r : Option (List ℕ)) → IfSome r (HasHistory (λ c past. HasFound true c slots past found))
       → IfSome r (HasHistory (λ c past. IsWithin c slots
       × IsExplainedSlots c slots past (explained_slots_of found.bad.place found.bad.broken found.wrong)))
-  explained None h = tt
-  explained (Some bytes) h =
-      let is = h.1.2 in (
-        h.0,
-        (
-          h.1.0,
-          h.1.1,
-          (
-            is.within,
-            explain_by h.1.0 slots (file_of bytes).past found.bad.place found.bad.broken found.wrong is.first.place
-                (is.first.rule refl) is.wrong,
-          ),
-        ),
-      )
+  explained r h =
+      history_then (λ c past. HasFound true c slots past found)
+      (λ c past. IsWithin c slots
+      × IsExplainedSlots c slots past (explained_slots_of found.bad.place found.bad.broken found.wrong)) r
+      (λ c past is. (
+        is.within,
+        explain_by c slots past found.bad.place found.bad.broken found.wrong is.first.place (is.first.rule refl)
+            is.wrong,
+      )) h
 
 -- it wasn't judged, and nothing was written
 pub unjudged : (slots : Range) (fault : SlotsFault) (r t v : Option (List ℕ)) → IsUnjudged slots fault r t
@@ -162,13 +151,7 @@ unread_behind slots NoMemory c r within known = tt
 
 -- ---- from what the reading of its lines gave
 
-same_range : (a b : Range) → (a.slba ∷ a.blocks ∷ []) ≡ (b.slba ∷ b.blocks ∷ []) → a ≡ b
-same_range a b h =
-    let first : a.slba ≡ b.slba = cc in
-    let second : a.blocks ≡ b.blocks = cc in
-    ap₂ (λ (x y : ℕ). let r : Range = record { slba = x; blocks = y } in r) first second
-
-found_in : (why : Bool) (c : ConfigNumbers) (slots kept : Range) (past : Past) (checker : CheckerRun) (count : ℕ)
+pub found_in : (why : Bool) (c : ConfigNumbers) (slots kept : Range) (past : Past) (checker : CheckerRun) (count : ℕ)
     (bad : FirstBad) (area : AreaState) (wrong : Option WrongStep) (found : JudgedSlots) → found.bad ≡ bad
     → found.wrong ≡ wrong → slots ≡ kept → IsWithin c slots
     → HasJudgedSlots why c kept past checker count bad area wrong → HasFound why c slots past found
@@ -179,25 +162,3 @@ found_in why c slots kept past checker count bad area wrong found e f same withi
       wrong = λ none. f ∙ h.first (ap (λ (b : FirstBad). b.place) (sym e) ∙ none)
           ∙ ap (λ (s : Range). first_wrong c s past) (sym same);
     }
-
-pub whole : (why : Bool) (c : ConfigNumbers) (slots kept : Range) (checker : CheckerRun) (count : ℕ) (bad : FirstBad)
-    (area : AreaState) (wrong : Option WrongStep) (found : JudgedSlots) (r t w u : Option (List ℕ)) → found.bad ≡ bad
-    → found.wrong ≡ wrong → (kept.slba ∷ kept.blocks ∷ []) ≡ (slots.slba ∷ slots.blocks ∷ []) → IsWithin c slots
-    → RunsScript (script_outcome (λ c. entry_added)) (Ok tt) r t w u
-    → Makes (script_outcome (λ c. entry_added)) (Ok tt) r
-    (λ past. HasJudgedSlots why c kept past checker count bad area wrong)
-    → IfSome r (λ bytes. first_config (whole_lines bytes) ≡ Some c)
-    → IsAtEnd t × IfSome r (HasHistory (λ c past. HasFound why c slots past found))
-whole why c slots kept checker count bad area wrong found None t w u e f same within ran makes known = (ran.1, tt)
-whole why c slots kept checker count bad area wrong found (Some bytes) t w u e f same within ran makes known = (
-  ran.1,
-  (
-    ran.0.0,
-    (
-      c,
-      known,
-      found_in why c slots kept (file_of bytes).past checker count bad area wrong found e f
-          (sym (same_range kept slots same)) within makes,
-    ),
-  ),
-)

@@ -1,18 +1,15 @@
 //! The entries of a file, one a line, judged as they come, and beside an area of slots.
 
-ghost use Rattle.std.specs.Prelude.{◌≡◌, ◌∷◌, [], IfOk, OnOk};
-ghost use Rattle.nvme_model.specs.History.{Past};
-ghost use Rattle.nvme_model.specs.declared.config.ConfigNumbers.{ConfigNumbers};
-ghost use Rattle.casdisk_texts.specs.Files.{entry_added};
+ghost use Rattle.std.specs.Prelude.{◌≡◌, [], IfOk};
+ghost use Rattle.nvme_model.specs.declared.array.Range.{Range};
 ghost use Rattle.slot_check.specs.Watched.{area_state};
 ghost use Rattle.file_commands.specs.Wrong.{HasJudgedSlots, wrong_step_at};
 
-use casdisk_texts::{FirstBad, Judge, LineMeaning, Taken, WriteFault};
-use history::{Config, Entry, LineFault, parse_line};
+use casdisk_texts::{EntryMeaning, FirstBad, Judge};
+use history::{Config, Entry};
 use nvme_model::array::Range;
 use slot_check::{AreaCheck, BrokenDiscipline};
 use std::alloc::{AllocError as NoMemory, Global};
-use std::io::Write;
 
 /// An entry that breaks the discipline of slots: its place, from 1, and the first rule that it breaks.
 #[derive(Clone, Copy, Debug, Drop, PartialEq, Eq)]
@@ -29,10 +26,9 @@ pub(crate) struct JudgedSlots {
     pub(crate) wrong: Option<WrongStep>,
 }
 
-// Judges the entries of lines, and keeps none of them; `wrong` is the first that breaks the discipline of the slots.
+// Judges entries, and keeps none of them; `wrong` is the first that breaks the discipline of the slots.
 #[derive(Drop)]
 pub(crate) struct SlotJudge<const WHY: bool> {
-    alloc: Global,
     pub(crate) slots: Range,
     pub(crate) judge: Judge<WHY>,
     pub(crate) area: AreaCheck,
@@ -61,7 +57,6 @@ impl<const WHY: bool> SlotJudge<WHY> {
         ensures slots { IfOk result (λ x. x.slots ≡ slots) }
     {
         Ok(SlotJudge {
-            alloc,
             slots,
             judge: Judge::new(alloc, config)?,
             area: AreaCheck::new(alloc, config, slots),
@@ -78,46 +73,26 @@ impl<const WHY: bool> SlotJudge<WHY> {
             wrong: self.wrong,
         }
     }
+}
 
-    // Judges the next entry.
-    fn judge_both(&mut self, entry: &Entry) -> Result<(), NoMemory>
-        ensures judged { (c : ConfigNumbers) (past : Past) →
-            HasJudgedSlots WHY c self.old.slots past self.old.judge.checker self.old.judge.count self.old.judge.bad
-            (area_state self.old.area) self.old.wrong →
-            OnOk result (HasJudgedSlots WHY c self.new.slots (entry.now ∷ past) self.new.judge.checker
-            self.new.judge.count self.new.judge.bad (area_state self.new.area) self.new.wrong) }
-        ensures slots { self.new.slots ≡ self.old.slots }
-    {
-        self.judge.judge(entry)?;
+impl<const WHY: bool> EntryMeaning for SlotJudge<WHY> {
+    ghost stands = { λ m c past. HasJudgedSlots WHY c m.slots past m.judge.checker m.judge.count m.judge.bad
+        (area_state m.area) m.wrong };
+
+    ghost Kept = { Range };
+
+    ghost kept = { λ m. m.slots };
+
+    fn take_entry(&mut self, entry: Entry) -> Result<(), NoMemory> {
+        self.judge.judge(&entry)?;
         if self.judge.bad.place.is_some() {
             return Ok(());
         }
         if self.wrong.is_some() {
             return Ok(());
         }
-        let broken = self.area.take(entry)?;
+        let broken = self.area.take(&entry)?;
         self.wrong = wrong_step_at(self.judge.count, broken);
         Ok(())
-    }
-}
-
-impl<const WHY: bool> LineMeaning for SlotJudge<WHY> {
-    ghost stands = { λ m c past. HasJudgedSlots WHY c m.slots past m.judge.checker m.judge.count m.judge.bad
-        (area_state m.area) m.wrong };
-
-    ghost meaning = { λ _. entry_added };
-
-    ghost fixed = { λ m. m.slots.slba ∷ m.slots.blocks ∷ [] };
-
-    fn take_line<W: Write>(&mut self, line: &[u8], _writer: &mut W) -> Result<Taken, WriteFault> {
-        let entry = match parse_line(self.alloc, line) {
-            Ok(entry) => entry,
-            Err(LineFault::Malformed) => return Ok(Taken::Bad),
-            Err(LineFault::NoMemory) => return Err(WriteFault::NoMemory),
-        };
-        match self.judge_both(&entry) {
-            Ok(()) => Ok(Taken::Done),
-            Err(_) => Err(WriteFault::NoMemory),
-        }
     }
 }

@@ -7,8 +7,7 @@ ghost use Rattle.file_commands.specs.Texts.{HasFound, IsUnjudged};
 
 use crate::fault::SlotsFault;
 use crate::judging::{JudgedSlots, SlotJudge};
-use casdisk_texts::{RunFault, read_first, run_lines};
-use line_text::Lines;
+use casdisk_texts::{HistoryLines, RunFault};
 use nvme_model::array::Range;
 use std::alloc::Global;
 use std::io::Read;
@@ -35,24 +34,19 @@ pub(crate) fn judge_slots<const WHY: bool, R: Read>(
     if slots.blocks == 0 {
         return Err(SlotsFault::NoSlots);
     }
-    let Ok(mut lines) = Lines::new(alloc) else {
-        return Err(SlotsFault::Run(RunFault::NoMemory));
-    };
-    let mut line = Vec::new(alloc);
-    let config = match read_first(alloc, &mut lines, &mut line, reader) {
-        Ok(config) => config,
+    let mut lines = match HistoryLines::begin(alloc, reader) {
+        Ok(lines) => lines,
         Err(fault) => return Err(SlotsFault::Run(fault)),
     };
-    let blocks = config.numbers().blocks;
+    let blocks = lines.config.numbers().blocks;
     if !is_within(slots, blocks) {
         return Err(SlotsFault::Beyond(blocks));
     }
-    let Ok(mut judge) = SlotJudge::<WHY>::new(alloc, &config, slots) else {
+    let Ok(mut judge) = SlotJudge::<WHY>::new(alloc, &lines.config, slots) else {
         return Err(SlotsFault::Run(RunFault::NoMemory));
     };
-    let mut unprinted: Vec<u8> = Vec::new(alloc);
-    match run_lines(&mut judge, &mut lines, &mut line, reader, &mut unprinted) {
+    match lines.take_entries(&mut judge, reader) {
         Ok(()) => Ok(judge.found()),
-        Err(fault) => Err(SlotsFault::Run(fault.in_memory())),
+        Err(fault) => Err(SlotsFault::Run(fault)),
     }
 }

@@ -1,7 +1,13 @@
 -- What becomes of the entries that a Fetch takes, by the definitions of the verdict and of operations.
-use Rattle.std.specs.Prelude.{List, None, Option, Some, [], map, take, ℕ, ◌∷◌, ◌≡◌}
+use Rattle.std.specs.Prelude.{List, None, Option, Some, [], false, map, take, true, ℕ, ◌∷◌, ◌≡◌}
+use Rattle.nvme_model.specs.Array.{IsRange}
+use Rattle.nvme_model.specs.Cells.{pair_fits}
+use Rattle.nvme_model.specs.Cut.{cut}
 use Rattle.nvme_model.specs.EntryBytes.{Sqe, block_count, slba}
+use Rattle.nvme_model.specs.Operations.{is_pair}
 use Rattle.nvme_model.specs.Verdict.{Item, taken_entries}
+use Rattle.nvme_model.specs.declared.array.Range.{Range}
+use Rattle.nvme_model.specs.declared.config.AtomicParameters.{AtomicParameters}
 use Rattle.nvme_model.specs.declared.operation.Op.{Op}
 use Rattle.nvme_model.specs.declared.status.Verdict.{Verdict}
 use Rattle.fused_match.specs.declared.judged.Judged.{Judged}
@@ -20,6 +26,23 @@ abbrev pub operation_in : Judged → Option Op
 operation_in (Single o r) = Some o
 operation_in (Pair r) = Some Op.Pair
 operation_in _ = None
+
+-- its units, in order
+abbrev pub units_in_order : AtomicParameters → Judged → List Range
+units_in_order u (Single o r) = cut u r.slba r.blocks
+units_in_order u (Pair r) = r ∷ []
+units_in_order u _ = []
+
+-- one command does no pair's work, and the blocks can be some of a volume
+abbrev pub IsSound : Judged → Type 0
+IsSound (Single o r) = (is_pair (Some o) ≡ false) × IsRange r
+IsSound (Pair r) = IsRange r
+IsSound _ = Unit {0}
+
+-- and a pair fits one unit
+abbrev pub IsSoundFor : AtomicParameters → Judged → Type 0
+IsSoundFor u (Pair r) = IsSound (Pair r) × (pair_fits u r.slba r.blocks ≡ true)
+IsSoundFor u j = IsSound j
 
 -- the blocks of the first command are those that it names
 abbrev pub NamesBlocks : Judged → Sqe → Type 0

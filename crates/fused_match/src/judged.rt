@@ -23,15 +23,23 @@ pub enum Judged {
 }
 
 impl Judged {
-    ghost use Rattle.fused_match.specs.Judged.{verdict_by};
+    ghost use Rattle.fused_match.specs.Judged.{operation_in, verdict_by};
 
     /// How many entries the Fetch takes, 1 or 2.
     pub fn taken(&self) -> u8
         ensures value { result ≡ taken_entries (verdict_by self.now) }
     {
+        self.verdict().taken()
+    }
+
+    /// What is done with the blocks; None for a Flush, and where the checks failed.
+    pub fn operation(&self) -> Option<Op>
+        ensures value { result ≡ operation_in self.now }
+    {
         match self {
-            Judged::Flush | Judged::Single(_, _) | Judged::SingleFailed(_) => 1,
-            Judged::Pair(_) | Judged::PairFailed(_, _) => 2,
+            Judged::Single(op, _) => Some(*op),
+            Judged::Pair(_) => Some(Op::Pair),
+            Judged::Flush | Judged::SingleFailed(_) | Judged::PairFailed(_, _) => None,
         }
     }
 

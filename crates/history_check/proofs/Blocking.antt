@@ -23,7 +23,7 @@ use Rattle.nvme_model.specs.Open.{blocks_made, grants_of, granted, has_ended, op
 use Rattle.nvme_model.specs.Operations.{has_write, is_pair, op, units, write_data}
 use Rattle.nvme_model.specs.Placed.{effect}
 use Rattle.nvme_model.specs.Tickets
-use Rattle.nvme_model.specs.Tickets.{Ticket, first_fields}
+use Rattle.nvme_model.specs.Tickets.{Ticket}
 use Rattle.nvme_model.specs.Value.{value, writes}
 use Rattle.nvme_model.specs.declared.array.Range.{Range}
 use Rattle.nvme_model.specs.declared.config.ConfigNumbers.{ConfigNumbers}

@@ -13,7 +13,8 @@ use Rattle.history_check.specs.Taken.{fetched_by, tables_after}
 use Rattle.rings.specs.Used.{AreUsed, UsedCids}
 use Rattle.rings.proofs.CidCounts.{count_append, same_in, same_length, used_at, used_set}
 use Rattle.fused_match.specs.Judged as matched
-use Rattle.fused_match.specs.Judged.{NamesBlocks, operation_in, waiting_items}
+use Rattle.fused_match.specs.Judged.{IsSound, NamesBlocks, operation_in, units_in_order, waiting_items}
+use Rattle.fused_match.proofs.Sound.{sound_for, sound_of}
 use Rattle.fused_match.specs.declared.judged.Judged.{Judged}
 use Rattle.fused_match.specs.declared.judged.Judged.TheVariants as judgement
 use Rattle.nvme_model.specs.Cut.{cut}
@@ -42,7 +43,7 @@ use Rattle.ticket_laws.proofs.InUse.{verdict_same}
 use Rattle.ticket_laws.proofs.Unfetched.{flying_known}
 use Rattle.history_check.specs.Kept.{IsCheckerState, CheckerState, flight_in}
 use Rattle.history_check.specs.Rings.{checked_submission_ring}
-use Rattle.history_check.specs.Steps.{HasUnits, Took, units_in_order}
+use Rattle.history_check.specs.Steps.{Took}
 use Rattle.history_check.specs.declared.fields.CheckedInFlight.{CheckedInFlight}
 use Rattle.history_check.proofs.Flights.{more_one}
 use Rattle.history_check.proofs.InUse.{in_use_few, in_use_fetched}
@@ -148,17 +149,6 @@ units_named u (judgement.Single x r) e o n = go x o ∙ ap (λ y. units_by u y (
     go Op.Write q = cuts
     go Op.WriteZeroes q = cuts
     go Op.Pair q = absurd (let f : true ≡ false = ap is_pair q ∙ not_pair e in cc)
-
--- they lie in a volume
-units_fit : (c : ConfigNumbers) (j : Judged) (k : Ticket) → operation_in j ≡ op k → NamesBlocks j (first_fields k)
-    → (is_some (op k) ≡ true → TicketChecked c k) → c.blocks ≤ 65536 → HasUnits j
-units_fit c judgement.Flush k o n t l = tt
-units_fit c (judgement.SingleFailed s) k o n t l = tt
-units_fit c (judgement.PairFailed s r) k o n t l = tt
-units_fit c (judgement.Pair r) k o n t l = tt
-units_fit c (judgement.Single x r) k o n t l =
-    let inside = (t (ap is_some (sym o))).first.inside in
-    (omega (arith, n.1), omega (arith, n.0, n.1, inside, l))
 
 -- ---- the rule
 
@@ -311,12 +301,13 @@ module _ (c : ConfigNumbers) (past : Past) (k : CheckerState) (keeps : IsChecker
           (eq-eqb l.ticket l.ticket refl))
           (ticket_checked c (Entry.Fetch l ∷ past) l.ticket legal_then)
 
-      -- its units lie in the volume
-      pub fetch_units : HasUnits j
-      fetch_units = units_fit c j (fetched_by (tables c past) l) (operation ∙ op_is)
-          (subst (NamesBlocks j) fields_is names) checked (accepted c keeps.accepted).most_blocks
+      -- what was judged is sound
+      pub fetch_sound : IsSound j
+      fetch_sound =
+          sound_of c.atomic j (sound_for c j (fetched_by (tables c past) l) (sym same) (operation ∙ op_is)
+          (subst (NamesBlocks j) fields_is names) checked (accepted c keeps.accepted).most_blocks)
 
-      -- and are those of the ticket
+      -- its units are those of the ticket
       units_are : units_in_order c.atomic j ≡ units c (fetched_by (tables c past) l)
       units_are = units_named c.atomic j (sqe_fields first.entry) operation names
           ∙ (λ z. units_by c.atomic (op_is z) (slba (fields_is z)) (block_count (fields_is z)))

@@ -1,18 +1,13 @@
 -- What one more entry makes of what is kept.
 use Rattle.std.specs.Bool.{beq}
-use Rattle.std.specs.Prelude.{Bool, List, None, Option, Some, [], false, is_some, not, true, ◌&&◌, ◌+◌, ◌==◌, ◌||◌, ◌∷◌}
-use Rattle.std.specs.Prelude.{◌≡◌, ◌≤◌}
+use Rattle.std.specs.Prelude.{Bool, List, None, Option, Some, false, is_some, not, true, ◌&&◌, ◌==◌, ◌||◌, ◌≡◌}
 use Rattle.history_check.specs.Judged as rules
 use Rattle.history_check.specs.Tables.{tables}
 use Rattle.history_check.specs.Tables.{CheckedTicket}
 use Rattle.history_check.specs.Taken.{tables_after}
-use Rattle.fused_match.specs.declared.judged.Judged.{Judged}
-use Rattle.fused_match.specs.declared.judged.Judged.TheVariants as judged
-use Rattle.nvme_model.specs.Cut.{cut}
 use Rattle.nvme_model.specs.History.{Past}
 use Rattle.nvme_model.specs.Operations.{is_exclusive, mode}
 use Rattle.nvme_model.specs.declared.array.Range.{Range}
-use Rattle.nvme_model.specs.declared.config.AtomicParameters.{AtomicParameters}
 use Rattle.nvme_model.specs.declared.config.ConfigNumbers.{ConfigNumbers}
 use Rattle.nvme_model.specs.declared.entry.GrantLine.{GrantLine}
 use Rattle.range_reserve.specs.Reserved.{has_conflict}
@@ -42,16 +37,3 @@ grant_by f (Some r) held g =
     not (f.differs || is_some f.unit) && not (has_conflict held r (mode f.ticket))
     && ((g.unit == f.opened) && ((r.slba == g.range.slba) && (r.blocks == g.range.blocks))
     && beq (is_exclusive g.mode) (is_exclusive (mode f.ticket)))
-
--- ---- a Fetch
-
--- the units of what was judged
-abbrev pub units_in_order : AtomicParameters → Judged → List Range
-units_in_order u (judged.Single o r) = cut u r.slba r.blocks
-units_in_order u (judged.Pair r) = r ∷ []
-units_in_order u _ = []
-
--- where it has some, its blocks can be those of a volume
-abbrev pub HasUnits : Judged → Type 0
-HasUnits (judged.Single o r) = (1 ≤ r.blocks) × (r.slba + r.blocks ≤ 65536)
-HasUnits _ = Unit {0}

@@ -7,12 +7,12 @@ ghost use Rattle.nvme_model.specs.declared.config.ConfigNumbers.{ConfigNumbers};
 ghost use Rattle.nvme_model.specs.declared.entry.Entry.{Entry};
 ghost use Rattle.history_check.specs.Kept.{IsCheckerState, checker_state_in};
 ghost use Rattle.history_check.specs.Steps.{Took};
-ghost use Rattle.fused_match.specs.Judged.{NamesBlocks, operation_in, verdict_by, waiting_items};
+ghost use Rattle.fused_match.specs.Judged.{IsSound, NamesBlocks, operation_in, units_in_order, verdict_by};
+ghost use Rattle.fused_match.specs.Judged.{waiting_items};
 ghost use Rattle.nvme_model.specs.EntryBytes.{sqe_fields};
 ghost use Rattle.nvme_model.specs.Operations.{op_by};
 ghost use Rattle.nvme_model.specs.Tickets.{cids};
 ghost use Rattle.nvme_model.specs.Verdict.{item_of, same_verdict, verdict_of};
-ghost use Rattle.history_check.specs.Steps.{HasUnits, units_in_order};
 
 use crate::commands::Commands;
 use crate::fields::{CheckedInFlight, Fields, TicketUnits};
@@ -52,7 +52,7 @@ pub(crate) fn judge_front(
 
 // The units of a ticket.
 fn units_of(alloc: Global, config: &Config, judged: &Judged) -> Result<Vec<Range>, NoMemory>
-    requires within { HasUnits judged.now }
+    requires sound { IsSound judged.now }
     ensures value { IfOk result (λ units. units.items ≡ units_in_order config.now.atomic judged.now) }
 {
     match judged {

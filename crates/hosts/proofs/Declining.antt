@@ -1,5 +1,5 @@
--- Why a task whose turn it is is declined.
-use Rattle.std.proofs.Common.{Bool, [], false, subst, sym, true, ◌∷◌, ℕ}
+-- Why a Fetch isn't made, and a task whose turn it is is declined.
+use Rattle.std.proofs.Common.{Bool, [], false, subst, sym, true, ◌∷◌, ◌≡◌, ℕ}
 use Rattle.std.specs.Prelude.{unwrap_or}
 use Rattle.nvme_model.specs.History.{Past}
 use Rattle.nvme_model.specs.Passes.{entries}
@@ -11,11 +11,14 @@ use Rattle.controller_interface.specs.State.{Refuses, refused_as}
 use Rattle.controller_interface.specs.declared.answer.Refused.{Refused}
 use Rattle.meet_lock.specs.Passes.{Declines, config_of, seen}
 use Rattle.meet_lock.specs.declared.pass.Declined.{Declined}
+use Rattle.meet_lock.specs.declared.pass.Unmade.{Unmade}
+use Rattle.nvme_model.specs.declared.step.Step.{Step}
+use Rattle.step_core.specs.declared.calls.FetchCall.{FetchCall}
 use Rattle.work_queue.specs.Duties.{task_step}
 use Rattle.work_queue.specs.Engines as engine
 use Rattle.work_queue.specs.declared.task.Task.{Task}
 use Rattle.work_queue.specs.declared.task.Task.TheVariants as task
-use Rattle.hosts.specs.Declining.{IsTaskDeclined}
+use Rattle.hosts.specs.Declining.{IsFetchUnmade, IsTaskDeclined}
 
 -- the first of three rows that holds, or want of memory
 of_three : (P : Why → Type 0) (a b d : Bool) (u v w : Why) → P u → P v → P w → P Why.NoMemory
@@ -55,3 +58,12 @@ pub task_declined : (p s : engine.EnginePass) (k : Task) (t : ℕ) (d : Declined
     → engine.IsNoTaskFault d → IsTaskDeclined d
 task_declined p s k t (Declined.Busy step) h f = tt
 task_declined p s k t (Declined.Refused r) h f = task_refused (config_of p) (entries (seen s)) k t r h.1 f
+
+pub fetch_unmade : (p s : engine.EnginePass) (q : ℕ) (u : Unmade FetchCall Why)
+    → Declines Refuses p s (Step.Fetch q) (engine.fetch_declined u) → IsFetchUnmade u
+fetch_unmade p s q (Unmade.Busy call) h = tt
+fetch_unmade p s q (Unmade.Refused why) h =
+    let is = h.1 in
+    let why_is : why ≡ unwrap_or (refusal (config_of p) (entries (seen s)) (Step.Fetch q)) Why.NoMemory = cc in
+    subst (λ (w : Why). IsFetchUnmade (Unmade.Refused w)) (sym why_is)
+    (of_three (λ (w : Why). IsFetchUnmade (Unmade.Refused w)) _ _ _ Why.NoQueue Why.NoEntry Why.JobsFull tt tt tt tt)

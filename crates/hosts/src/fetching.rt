@@ -1,21 +1,21 @@
 //! Who fetches.
 
 ghost use Rattle.std.specs.Prelude.{◌≡◌, ◌≤◌, ◌+◌, ◌%◌, IfOk};
-ghost use Rattle.hosts.specs.Declining.{IsFetchDeclined};
+ghost use Rattle.hosts.specs.Declining.{IsFetchUnmade};
 ghost use Rattle.shared_system.specs.Callers.{Continues, IsCallerOf, IsPushableWork};
 ghost use Rattle.hosts.specs.Asking.{IsNoWork, IsFetchedReady};
 ghost use Rattle.hosts.specs.Stages.{IsFetchStage, IsFetchTurn, IsQueueIn};
 ghost use Rattle.hosts.specs.declared.fetching.FetchStage.{FetchStage};
 
 use crate::gate::{Gate, Point};
-use meet_lock::Declined;
+use meet_lock::Unmade;
 use nvme_model::refusal::Why;
 use shared_system::{CallerPasses, System};
 use std::alloc::AllocError as NoMemory;
 use std::sync::Wait;
 use std::thread::yield_now;
-use step_core::Refused;
-use work_queue::{Open, Opened, Work};
+use step_core::FetchCall;
+use work_queue::Work;
 
 /// What a fetcher does in its next turn.
 #[derive(Drop)]
@@ -36,18 +36,18 @@ enum Fetched {
     NoMemory,
 }
 
-// What comes of a Fetch that was declined.
-fn unfetched(declined: Declined) -> Fetched
-    requires { IsFetchDeclined declined }
+// What comes of a Fetch that isn't made.
+fn unfetched(unmade: Unmade<FetchCall, Why>) -> Fetched
+    requires { IsFetchUnmade unmade }
     ensures ready { IsNoWork result }
 {
-    match declined {
-        Declined::Busy(_) => Fetched::Again,
-        Declined::Refused(Refused::Step(Why::NoQueue | Why::NoEntry)) => Fetched::Nothing,
-        Declined::Refused(Refused::Step(Why::JobsFull)) => Fetched::Again,
-        Declined::Refused(Refused::Step(Why::NoMemory)) => Fetched::NoMemory,
+    match unmade {
+        Unmade::Busy(_) => Fetched::Again,
+        Unmade::Refused(Why::NoQueue | Why::NoEntry) => Fetched::Nothing,
+        Unmade::Refused(Why::JobsFull) => Fetched::Again,
+        Unmade::Refused(Why::NoMemory) => Fetched::NoMemory,
         // No other refusal meets a Fetch.
-        Declined::Refused(Refused::Step(_) | Refused::Publish(..)) => unreachable!(),
+        Unmade::Refused(_) => unreachable!(),
     }
 }
 
@@ -58,14 +58,9 @@ fn fetch<G: Gate>(system: &System<G>, caller: &mut CallerPasses, queue: u16) -> 
     ensures goes { Continues system.now caller.old caller.new }
     ensures ready { IsFetchedReady system.now result }
 {
-    match system
-        .engine
-        .attempt_open(&mut caller.pass, Open::Fetch(queue))
-    {
-        Ok(Opened::Fetched(work)) => Fetched::Work(work),
-        // A Fetch that was made is answered by its Work.
-        Ok(Opened::Published | Opened::Reaped { .. }) => unreachable!(),
-        Err(declined) => unfetched(declined),
+    match system.engine.fetch(&mut caller.pass, queue) {
+        Ok(work) => Fetched::Work(work),
+        Err(unmade) => unfetched(unmade),
     }
 }
 

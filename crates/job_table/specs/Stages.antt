@@ -97,12 +97,6 @@ owed_in _ = []
 
 -- ---- how a step moves it
 
--- one command does no pair's work, and the blocks can be some of a volume
-abbrev pub IsSound : Judged → Type 0
-IsSound (judged.Single o r) = (commands_in o ≡ 1) × IsRange r
-IsSound (judged.Pair r) = IsRange r
-IsSound _ = Unit {0}
-
 -- just fetched
 abbrev pub first_ticket_stage : Judged → TicketStage
 first_ticket_stage judged.Flush = Owing (success ∷ [])

@@ -7,7 +7,7 @@ ghost use Rattle.block_exec.specs.Bytes.{block_at, boxes_after, compare_length, 
 ghost use Rattle.block_exec.specs.Bytes.{volume_with};
 ghost use Rattle.block_exec.specs.Course.{next_done};
 ghost use Rattle.block_exec.specs.Progress.{unit_has_ended, next_found};
-ghost use Rattle.fused_match.specs.Judged.{verdict_by};
+ghost use Rattle.fused_match.specs.Judged.{IsSound, verdict_by};
 ghost use Rattle.nvme_model.specs.Verdict.{taken_entries};
 ghost use Rattle.nvme_model.specs.declared.operation.Op.{Op as Operation};
 ghost use Rattle.job_table.specs.Keeping.{read_of};
@@ -72,7 +72,7 @@ pub struct Data {
 
 impl Job {
     ghost use Rattle.job_table.specs.Keeping.{CanMake, finds_equal, noted_job, opened_job, posted_job};
-    ghost use Rattle.job_table.specs.Stages.{IfOpen, IsFirstUnit, IsSound, first_ticket_stage, is_open, owed_in};
+    ghost use Rattle.job_table.specs.Stages.{IfOpen, IsFirstUnit, first_ticket_stage, is_open, owed_in};
 
     /// A ticket of this queue that was judged so, with the CIDs of its commands and its data.
     pub fn new(queue: u16, judged: &Judged, cids: OwedCids, all: Data) -> Job

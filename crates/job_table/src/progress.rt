@@ -5,7 +5,7 @@ ghost use Rattle.std.specs.Prelude.{length, slice_get, true, ℕ};
 ghost use Rattle.std.specs.Option.{option_map};
 ghost use Rattle.nvme_model.specs.Verdict.{taken_entries};
 ghost use Rattle.ticket_laws.specs.Standing.{on_differs, on_success};
-ghost use Rattle.fused_match.specs.Judged.{verdict_by};
+ghost use Rattle.fused_match.specs.Judged.{IsSound, verdict_by};
 ghost use Rattle.block_exec.specs.Course.{done_by};
 ghost use Rattle.nvme_model.specs.Array.{IsRange};
 ghost use Rattle.nvme_model.specs.Open.{is_differs};
@@ -53,7 +53,7 @@ impl Model for TicketProgress {
 }
 
 impl TicketProgress {
-    ghost use Rattle.job_table.specs.Stages.{IfOpen, IsTicketProgress, IsFirstUnit, IsSound, first_ticket_stage};
+    ghost use Rattle.job_table.specs.Stages.{IfOpen, IsTicketProgress, IsFirstUnit, first_ticket_stage};
     ghost use Rattle.job_table.specs.Stages.{is_open};
     ghost use Rattle.job_table.specs.Stages.{stage_mode};
     ghost use Rattle.job_table.specs.Stages.{next_in, noted_in, opened_in, owed_in, posted_in, unit_in};

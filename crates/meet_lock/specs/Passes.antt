@@ -13,6 +13,7 @@ use Rattle.meet_lock.specs.Lock.{AreOfPasses, ExtendsByPasses, noted, unmade}
 use Rattle.ticket_laws.specs.Entries.{ticket_in}
 use Rattle.meet_lock.specs.declared.pass.Declined.{Declined}
 use Rattle.meet_lock.specs.declared.pass.Pass.{Pass}
+use Rattle.meet_lock.specs.declared.pass.Unmade.{Unmade}
 use Rattle.meet_lock.specs.declared.seats.NoteSeat.{NoteSeat}
 use Rattle.meet_lock.specs.declared.seats.TicketSeat.{TicketSeat}
 use Rattle.meet_lock.specs.declared.shared.Shared.{Shared}
@@ -23,6 +24,22 @@ abbrev pub IsNotBusy : {A : Type 0} → Result A Declined → Type 0
 IsNotBusy (Ok a) = Unit {0}
 IsNotBusy (Err (Declined.Busy s)) = ⊥
 IsNotBusy (Err (Declined.Refused r)) = Unit {0}
+
+-- the same of a call of one kind of steps
+abbrev pub IsCallMade : {A C R : Type 0} → Result A (Unmade C R) → Type 0
+IsCallMade (Ok a) = Unit {0}
+IsCallMade (Err (Unmade.Busy c)) = ⊥
+IsCallMade (Err (Unmade.Refused r)) = Unit {0}
+
+-- where it comes back, it is this one
+abbrev pub IsBack : {C R : Type 0} → C → Unmade C R → Type 0
+IsBack call (Unmade.Busy c) = c ≡ call
+IsBack call (Unmade.Refused r) = Unit {0}
+
+-- why such a call isn't made, as it is said of all steps
+abbrev pub declined_by : {C R : Type 0} → (C → Step) → (R → Refused) → Unmade C R → Declined
+declined_by asks refuses (Unmade.Busy c) = Declined.Busy (asks c)
+declined_by asks refuses (Unmade.Refused r) = Declined.Refused (refuses r)
 
 -- the view of the first seat before any number was given out
 abbrev pub IsFirstView : ℕ → View → Type 0

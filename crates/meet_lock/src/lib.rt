@@ -15,7 +15,7 @@ mod view;
 pub use controller_interface::Machine;
 pub use laws::{what_a_pass_has_seen, what_came_between_is_of_passes};
 pub use owner::{AnyPass, StepRight, TicketOwner};
-pub use pass::{Busy, Declined, Pass};
+pub use pass::{Busy, Declined, Pass, Unmade};
 pub use seats::{NoteSeat, TicketSeat};
 pub use shared::Shared;
 pub use view::View;

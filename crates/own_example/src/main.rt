@@ -65,10 +65,7 @@ fn makes(disk: &mut Disk, work: &mut Work) -> Option<bool>
 
 // Serves the next command, or pair, of a submission queue; whether nothing was refused.
 fn serve(disk: &mut Disk, queue: u16) -> bool {
-    let Ok(Opened::Fetched(mut work)) = disk
-        .engine
-        .attempt_open(&mut disk.server, Open::Fetch(queue))
-    else {
+    let Ok(mut work) = disk.engine.fetch(&mut disk.server, queue) else {
         return false;
     };
     for _ in 0..u64::MAX {

@@ -7,79 +7,30 @@ use Rattle.std.proofs.KnownBytes.{Keeps-refl}
 use Rattle.line_text.specs.Lines.{whole_lines}
 use Rattle.nvme_model.specs.FirstBad.{first_bad_of}
 use Rattle.nvme_model.specs.History.{Past}
-use Rattle.nvme_model.specs.declared.array.Range.{Range}
 use Rattle.nvme_model.specs.declared.config.ConfigNumbers.{ConfigNumbers}
-use Rattle.casdisk_texts.specs.Files.{HasHistory, entry_added, file_of}
+use Rattle.casdisk_texts.specs.Files.{HasHistory, file_of}
 use Rattle.casdisk_texts.specs.Followed.{StopsFirst}
-use Rattle.casdisk_texts.specs.Running.{Makes, RunsScript}
-use Rattle.casdisk_texts.specs.Script.{first_config, script_outcome}
-use Rattle.casdisk_texts.specs.Traces.{bit}
+use Rattle.casdisk_texts.specs.Script.{first_config}
 use Rattle.casdisk_texts.specs.declared.fault.RunFault.{RunFault}
 use Rattle.casdisk_texts.specs.declared.fault.RunFault.TheVariants.{BadConfig, BadLine, Input, NoMemory, Output}
 use Rattle.casdisk_texts.specs.declared.judging.FirstBad.{FirstBad}
+use Rattle.casdisk_texts.proofs.Answering.{history_then}
 use Rattle.history_check.specs.Kept.{CheckerRun}
 use Rattle.picture_shapes.specs.Picture.{PictureState}
-use Rattle.picture_shapes.specs.declared.picture.Subject.{Subject}
 use Rattle.picture_svg.specs.Page.{picture_svg}
 use Rattle.picture_svg.specs.Drawing.{DrawsText, HasArea, IsDrawn, HasAreaByThen, IsTooLong, IsUndrawn, WritesDrawn}
-use Rattle.picture_svg.specs.Drawn.{HasDrawing, HasDrawn, area_list, end_of, has_no_slot, is_within}
-use Rattle.picture_svg.specs.Drawn.{options_list, steps_drawn, steps_to, subject_number}
+use Rattle.picture_svg.specs.Drawn.{HasDrawing, HasDrawn, end_of, has_no_slot, is_within, steps_drawn, steps_to}
 use Rattle.picture_svg.specs.declared.drawer.DrawOptions.{DrawOptions}
 use Rattle.picture_svg.specs.declared.fault.DrawFault.{DrawFault}
 use Rattle.picture_svg.specs.declared.fault.DrawFault.TheVariants.{Beyond, NoSlots, Run, TooLong}
-
-same_bit : (a b : Bool) → bit a ≡ bit b → a ≡ b
-same_bit true true h = refl
-same_bit true false h = absurd (let no : ⊥ = cc in no)
-same_bit false true h = absurd (let no : ⊥ = cc in no)
-same_bit false false h = refl
-
-same_subject : (a b : Subject) → subject_number a ≡ subject_number b → a ≡ b
-same_subject Subject.History Subject.History h = refl
-same_subject Subject.History Subject.Witness h = absurd (let no : ⊥ = cc in no)
-same_subject Subject.Witness Subject.History h = absurd (let no : ⊥ = cc in no)
-same_subject Subject.Witness Subject.Witness h = refl
-
-same_area : (a b : Option Range) → area_list a ≡ area_list b → a ≡ b
-same_area None None h = refl
-same_area None (Some s) h = absurd (let no : ⊥ = cc in no)
-same_area (Some r) None h = absurd (let no : ⊥ = cc in no)
-same_area (Some r) (Some s) h =
-    let first : r.slba ≡ s.slba = cc in
-    let second : r.blocks ≡ s.blocks = cc in
-    ap₂ (λ (x y : ℕ). let q : Range = record { slba = x; blocks = y } in Some q) first second
-
-abbrev options_with : (from to : ℕ) → Subject → Bool → Option Range → DrawOptions
-options_with from to subject blocks slots =
-    record {
-      from = from;
-      to = to;
-      aspect = record { subject = subject; lanes = record { blocks = blocks; slots = slots } };
-    }
-
-same_options : (a b : DrawOptions) → options_list a ≡ options_list b → a ≡ b
-same_options a b h =
-    let first : a.from ≡ b.from = cc in
-    let second : a.to ≡ b.to = cc in
-    let subject : subject_number a.aspect.subject ≡ subject_number b.aspect.subject = cc in
-    let blocks : bit a.aspect.lanes.blocks ≡ bit b.aspect.lanes.blocks = cc in
-    let slots : area_list a.aspect.lanes.slots ≡ area_list b.aspect.lanes.slots = cc in
-    ap (λ (x : ℕ). options_with x a.to a.aspect.subject a.aspect.lanes.blocks a.aspect.lanes.slots) first
-    ∙ ap (λ (x : ℕ). options_with b.from x a.aspect.subject a.aspect.lanes.blocks a.aspect.lanes.slots) second
-    ∙ ap (λ (x : Subject). options_with b.from b.to x a.aspect.lanes.blocks a.aspect.lanes.slots)
-    (same_subject a.aspect.subject b.aspect.subject subject)
-    ∙ ap (λ (x : Bool). options_with b.from b.to b.aspect.subject x a.aspect.lanes.slots)
-    (same_bit a.aspect.lanes.blocks b.aspect.lanes.blocks blocks)
-    ∙ ap (λ (x : Option Range). options_with b.from b.to b.aspect.subject b.aspect.lanes.blocks x)
-    (same_area a.aspect.lanes.slots b.aspect.lanes.slots slots)
 
 -- the last place, from what was judged
 ends : (c : ConfigNumbers) (past : Past) (bad : Option ℕ) (n : ℕ) → bad ≡ first_bad_of c past → n ≡ length past
     → unwrap_or bad n ≡ end_of c past
 ends c past bad n e f = ap₂ unwrap_or e f
 
-drawing_in : (c : ConfigNumbers) (o kept : DrawOptions) (past : Past) (config : ConfigNumbers) (x : CheckerRun) (n : ℕ)
-    (bad : FirstBad) (s : PictureState) → has_no_slot o.aspect.lanes.slots ≡ false
+pub drawing_in : (c : ConfigNumbers) (o kept : DrawOptions) (past : Past) (config : ConfigNumbers) (x : CheckerRun)
+    (n : ℕ) (bad : FirstBad) (s : PictureState) → has_no_slot o.aspect.lanes.slots ≡ false
     → is_within o.aspect.lanes.slots c.blocks ≡ true → kept ≡ o → HasDrawn c kept past config x n bad s
     → HasDrawing c o past bad.place n s
 drawing_in c o kept past config x n bad s slots within same h =
@@ -94,26 +45,6 @@ drawing_in c o kept past config x n bad s slots within same h =
       drawn = λ few. k.drawn few;
     }
 
-pub whole : (c : ConfigNumbers) (o kept : DrawOptions) (config : ConfigNumbers) (x : CheckerRun) (n : ℕ)
-    (bad : FirstBad) (s : PictureState) (r t w u : Option (List ℕ)) → has_no_slot o.aspect.lanes.slots ≡ false
-    → is_within o.aspect.lanes.slots c.blocks ≡ true → options_list kept ≡ options_list o
-    → RunsScript (script_outcome (λ c. entry_added)) (Ok tt) r t w u
-    → Makes (script_outcome (λ c. entry_added)) (Ok tt) r (λ past. HasDrawn c kept past config x n bad s)
-    → IfSome r (λ bytes. first_config (whole_lines bytes) ≡ Some c)
-    → IsAtEnd t × IfSome r (HasHistory (λ c past. HasDrawing c o past bad.place n s))
-whole c o kept config x n bad s None t w u slots within same ran makes known = (ran.1, tt)
-whole c o kept config x n bad s (Some bytes) t w u slots within same ran makes known = (
-  ran.1,
-  (
-    ran.0.0,
-    (
-      c,
-      known,
-      drawing_in c o kept (file_of bytes).past config x n bad s slots within (same_options kept o same) makes,
-    ),
-  ),
-)
-
 -- ---- what was answered
 
 module _ (o : DrawOptions) (bad : Option ℕ) (n : ℕ) (s : PictureState) where
@@ -121,22 +52,17 @@ module _ (o : DrawOptions) (bad : Option ℕ) (n : ℕ) (s : PictureState) where
       → steps_to o.from o.to (unwrap_or bad n) ≤ 10000 → answer ≡ is_none bad
       → HasHistory (λ c past. IsDrawn c o past answer (picture_svg s)) bytes
   drawn_in bytes answer h few e =
-      let is = h.1.2 in
-      let few' : steps_drawn h.1.0 o (file_of bytes).past ≤ 10000 = subst (λ k. k ≤ 10000) is.steps few in (
-        h.0,
-        (
-          h.1.0,
-          h.1.1,
-          record {
-            few = few';
-            slots = is.slots;
-            within = is.within;
-            legal = e ∙ is.legal;
-            words = is.words;
-            picture = ap picture_svg (is.drawn few');
-          },
-        ),
-      )
+      history_then (λ c past. HasDrawing c o past bad n s) (λ c past. IsDrawn c o past answer (picture_svg s))
+      (Some bytes) (λ c past is.
+      let few' : steps_drawn c o past ≤ 10000 = subst (λ k. k ≤ 10000) is.steps few in
+      record {
+        few = few';
+        slots = is.slots;
+        within = is.within;
+        legal = e ∙ is.legal;
+        words = is.words;
+        picture = ap picture_svg (is.drawn few');
+      }) h
 
   pub written : (result : Result Bool DrawFault) (r t v x : Option (List ℕ)) → IsAtEnd t
       → has_no_slot o.aspect.lanes.slots ≡ false → IfSome r (HasHistory (λ c past. HasDrawing c o past bad n s))

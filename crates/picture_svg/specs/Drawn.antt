@@ -1,33 +1,16 @@
 -- What was drawn of a list of entries.
-use Rattle.std.specs.Prelude.{Bool, List, None, Option, Some, [], false, if◌then◌else◌, is_none, length, min, nat_le}
-use Rattle.std.specs.Prelude.{nat_lt, true, unwrap_or, ℕ, ◌+◌, ◌-◌, ◌==◌, ◌∷◌, ◌≡◌, ◌≤◌}
+use Rattle.std.specs.Prelude.{Bool, List, None, Option, Some, false, if◌then◌else◌, is_none, length, min, nat_le}
+use Rattle.std.specs.Prelude.{nat_lt, true, unwrap_or, ℕ, ◌+◌, ◌-◌, ◌==◌, ◌≡◌, ◌≤◌}
 use Rattle.nvme_model.specs.FirstBad.{first_bad_of}
 use Rattle.nvme_model.specs.History.{Past}
 use Rattle.nvme_model.specs.declared.array.Range.{Range}
 use Rattle.nvme_model.specs.declared.config.ConfigNumbers.{ConfigNumbers}
 use Rattle.nvme_model.specs.declared.entry.Entry.{Entry}
 use Rattle.casdisk_texts.specs.Judged.{HasJudged}
-use Rattle.casdisk_texts.specs.Traces.{bit}
 use Rattle.casdisk_texts.specs.declared.judging.FirstBad.{FirstBad}
 use Rattle.history_check.specs.Kept.{CheckerRun}
 use Rattle.picture_shapes.specs.Picture.{PictureState, picture_of, picture_step}
-use Rattle.picture_shapes.specs.declared.picture.Subject.{Subject}
 use Rattle.picture_svg.specs.declared.drawer.DrawOptions.{DrawOptions}
-
--- whether a picture is of a witness, as a number
-abbrev pub subject_number : Subject → ℕ
-subject_number Subject.History = 0
-subject_number Subject.Witness = 1
-
--- an area as numbers, where there is one
-abbrev pub area_list : Option Range → List ℕ
-area_list None = []
-area_list (Some slots) = slots.slba ∷ slots.blocks ∷ []
-
--- all options as numbers
-abbrev pub options_list : DrawOptions → List ℕ
-options_list o =
-    o.from ∷ o.to ∷ subject_number o.aspect.subject ∷ bit o.aspect.lanes.blocks ∷ area_list o.aspect.lanes.slots
 
 -- whether there is an area of slots that has no block
 abbrev pub has_no_slot : Option Range → Bool

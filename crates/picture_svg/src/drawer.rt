@@ -1,17 +1,14 @@
 //! The entries of a file, one a line, judged and drawn as they come.
 
-ghost use Rattle.std.specs.Prelude.{◌≡◌, ◌∷◌, [], IfOk, List, OnOk, ℕ};
-ghost use Rattle.nvme_model.specs.History.{Past};
-ghost use Rattle.nvme_model.specs.declared.config.ConfigNumbers.{ConfigNumbers};
-ghost use Rattle.casdisk_texts.specs.Files.{entry_added};
-ghost use Rattle.picture_svg.specs.Drawn.{HasDrawn, drawn_next, options_list, steps_to};
+ghost use Rattle.std.specs.Prelude.{◌≡◌, [], IfOk, List, OnOk, ℕ};
+ghost use Rattle.picture_svg.specs.Drawn.{HasDrawn, drawn_next, steps_to};
+ghost use Rattle.picture_svg.specs.declared.drawer.DrawOptions.{DrawOptions};
 
 use broken_rules::Broken;
-use casdisk_texts::{BadStep, Explained, FirstBad, Judge, LineMeaning, Taken, WriteFault};
-use history::{Config, Entry, LineFault, parse_line};
+use casdisk_texts::{BadStep, EntryMeaning, Explained, FirstBad, Judge};
+use history::{Config, Entry};
 use picture_shapes::{Aspect, Picture, PictureWords};
 use std::alloc::{AllocError as NoMemory, Global};
-use std::io::Write;
 use std::string::ToString;
 
 /// The most steps that are drawn.
@@ -25,7 +22,7 @@ pub struct DrawOptions {
     pub aspect: Aspect,
 }
 
-// Judges and draws the entries of lines, and keeps none of them.
+// Judges and draws entries, and keeps none of them.
 #[derive(Drop)]
 pub(crate) struct Drawer {
     alloc: Global,
@@ -95,18 +92,19 @@ impl Drawer {
             picture: Picture::new(alloc, options.from, options.to, options.aspect),
         })
     }
+}
 
-    // Judges and draws the next entry.
-    fn take(&mut self, entry: &Entry) -> Result<(), NoMemory>
-        ensures drawn { (c : ConfigNumbers) (past : Past) →
-            HasDrawn c self.old.options past self.old.config self.old.judge.checker self.old.judge.count
-            self.old.judge.bad self.old.picture →
-            OnOk result (HasDrawn c self.new.options (entry.now ∷ past) self.new.config self.new.judge.checker
-            self.new.judge.count self.new.judge.bad self.new.picture) }
-        ensures options { self.new.options ≡ self.old.options }
-    {
+impl EntryMeaning for Drawer {
+    ghost stands = { λ m c past. HasDrawn c m.options past m.config m.judge.checker m.judge.count m.judge.bad
+        m.picture };
+
+    ghost Kept = { DrawOptions };
+
+    ghost kept = { λ m. m.options };
+
+    fn take_entry(&mut self, entry: Entry) -> Result<(), NoMemory> {
         let ended = self.judge.bad.place.is_some();
-        self.judge.judge(entry)?;
+        self.judge.judge(&entry)?;
         if ended {
             return Ok(());
         }
@@ -118,30 +116,9 @@ impl Drawer {
             &self.options,
             count,
             bad,
-            entry,
+            &entry,
             &mut self.picture,
         )?;
         Ok(())
-    }
-}
-
-impl LineMeaning for Drawer {
-    ghost stands = { λ m c past. HasDrawn c m.options past m.config m.judge.checker m.judge.count m.judge.bad
-        m.picture };
-
-    ghost meaning = { λ _. entry_added };
-
-    ghost fixed = { λ m. options_list m.options };
-
-    fn take_line<W: Write>(&mut self, line: &[u8], _writer: &mut W) -> Result<Taken, WriteFault> {
-        let entry = match parse_line(self.alloc, line) {
-            Ok(entry) => entry,
-            Err(LineFault::Malformed) => return Ok(Taken::Bad),
-            Err(LineFault::NoMemory) => return Err(WriteFault::NoMemory),
-        };
-        match self.take(&entry) {
-            Ok(()) => Ok(Taken::Done),
-            Err(_) => Err(WriteFault::NoMemory),
-        }
     }
 }

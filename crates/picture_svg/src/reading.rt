@@ -8,8 +8,7 @@ ghost use Rattle.picture_svg.specs.Drawn.{HasDrawing, has_no_slot, is_within, st
 
 use crate::drawer::{DrawOptions, Drawer, steps_to};
 use crate::fault::DrawFault;
-use casdisk_texts::{RunFault, read_first, run_lines};
-use line_text::Lines;
+use casdisk_texts::{HistoryLines, RunFault};
 use nvme_model::array::Range;
 use std::alloc::Global;
 use std::io::Read;
@@ -56,24 +55,19 @@ pub(crate) fn read_drawing<R: Read>(
     if has_no_slot(options) {
         return Err(DrawFault::NoSlots);
     }
-    let Ok(mut lines) = Lines::new(alloc) else {
-        return Err(DrawFault::Run(RunFault::NoMemory));
-    };
-    let mut line = Vec::new(alloc);
-    let config = match read_first(alloc, &mut lines, &mut line, reader) {
-        Ok(config) => config,
+    let mut lines = match HistoryLines::begin(alloc, reader) {
+        Ok(lines) => lines,
         Err(fault) => return Err(DrawFault::Run(fault)),
     };
-    let blocks = config.numbers().blocks;
+    let blocks = lines.config.numbers().blocks;
     if !is_within(options.aspect.lanes.slots, blocks) {
         return Err(DrawFault::Beyond(blocks));
     }
-    let Ok(mut drawer) = Drawer::new(alloc, &config, options) else {
+    let Ok(mut drawer) = Drawer::new(alloc, &lines.config, options) else {
         return Err(DrawFault::Run(RunFault::NoMemory));
     };
-    let mut unprinted: Vec<u8> = Vec::new(alloc);
-    match run_lines(&mut drawer, &mut lines, &mut line, reader, &mut unprinted) {
+    match lines.take_entries(&mut drawer, reader) {
         Ok(()) => Ok(drawer),
-        Err(fault) => Err(DrawFault::Run(fault.in_memory())),
+        Err(fault) => Err(DrawFault::Run(fault)),
     }
 }

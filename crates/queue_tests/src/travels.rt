@@ -16,7 +16,7 @@ use std::process::Abort;
 use std::sync::Wait;
 use std::test::Fail;
 use std::thread::{Threads, join, yield_now};
-use step_core::Kind;
+use step_core::Judged;
 use work_queue::{Open, Opened, Work};
 
 /// Makes each task of the Work, to its last Post; how many. What is refused for now is asked again.
@@ -139,7 +139,7 @@ fn sends<R: Abort + Wait>(rt: &R, alloc: Global, system: &PlainSystem, caller: &
         panic!(rt; "a Work")
     };
     assert_eq!(rt; work.ticket(), 1);
-    assert!(rt; matches!(work.kind(), Kind::Units(_, _)));
+    assert!(rt; matches!(work.judged(), Judged::Single(_, _)));
     assert!(rt; pushes(rt, system, caller, work).is_ok());
 }
 

@@ -1,5 +1,5 @@
 -- What is left of a race's hosts behind their rounds.
-use Rattle.std.specs.Prelude.{Bool, List, All, false, length, true, vec_len, ℕ, ◌-◌, ◌≡◌, ◌≢◌, ◌≤◌}
+use Rattle.std.specs.Prelude.{Bool, List, All, false, length, true, vec_len, ◌-◌, ◌≡◌, ◌≢◌, ◌≤◌}
 use Rattle.work_queue.specs.Engines as engine
 use Rattle.shared_system.specs.Callers.{IsPlaceAt}
 use Rattle.shared_system.specs.declared.system.HostPasses.{HostPasses}
@@ -11,14 +11,16 @@ use Rattle.race_hosts.specs.declared.host_threads.Play.{Play}
 use Rattle.race_hosts.specs.declared.owned.Host.{Host}
 use Rattle.race.specs.Racers.{AreServers}
 use Rattle.slot_alloc.specs.Areas.{area}
+use Rattle.slot_alloc.specs.Claims.{IsReleasingOf}
 use Rattle.slot_takeover.specs.Holders.{IsReadingOf}
-use Rattle.slot_takeover.specs.Takeovers.{HoldsTaken, IsGivingBackOf, IsTakingOverOf}
+use Rattle.slot_takeover.specs.Takeovers.{HoldsTaken, IsTakingOverOf}
 use Rattle.race.specs.Fates.{is_dead_host}
 use Rattle.race.specs.declared.fate.Fate.{Fate}
 use Rattle.race.specs.declared.scene.Scene.{Scene}
 use Rattle.race.specs.declared.survivor.Called.{Called}
 use Rattle.race.specs.declared.survivor.Party.{Party}
 use Rattle.race.specs.declared.survivor.Survivor.{Survivor}
+use Rattle.race.specs.declared.survivor.SweepCall.{SweepCall}
 use Rattle.race.specs.declared.survivor.SweepStage.{SweepStage}
 use Rattle.race.specs.declared.swept.Sweep.{Sweep}
 
@@ -28,21 +30,25 @@ pub record IsDeadName (fates : List Fate) (n : Name) : Type 0 where
   pub serial : 1 ≤ n.serial
   pub dead : is_dead_host fates n.host ≡ true
 
+-- a call that is begun is the host's driver's
+abbrev pub IsSweepCall : Host → SweepCall → Type 0
+IsSweepCall h (SweepCall.Reads k) = IsReadingOf h.driver k
+IsSweepCall h (SweepCall.TakesOver k) = IsTakingOverOf h.driver k
+IsSweepCall h (SweepCall.GivesBack k) = IsReleasingOf h.driver k
+
 -- What is begun is the host's driver's, and what it has was taken over by it. A slot is taken over from a dead host
 -- alone, which isn't this one.
 abbrev pub IsSweepStage : List Fate → Host → SweepStage → Type 0
 IsSweepStage fates h SweepStage.Asks = Unit {0}
-IsSweepStage fates h (SweepStage.Reads k) = IsReadingOf h.driver k
 IsSweepStage fates h (SweepStage.Finds n) = IsDeadName fates n × (n.host ≢ h.queue)
-IsSweepStage fates h (SweepStage.TakesOver k) = IsTakingOverOf h.driver k
 IsSweepStage fates h (SweepStage.Has k) = HoldsTaken h.driver k.held
-IsSweepStage fates h (SweepStage.GivesBack k) = IsGivingBackOf h.driver k
+IsSweepStage fates h (SweepStage.Waits k) = IsSweepCall h k
 IsSweepStage fates h SweepStage.Done = Unit {0}
 
 -- what it has in hand behind a call is such a stage
 abbrev pub IsCalled : List Fate → Host → Called → Type 0
 IsCalled fates h (Called.Done s) = IsSweepStage fates h s
-IsCalled fates h (Called.Pending s) = IsSweepStage fates h s
+IsCalled fates h (Called.Pending k) = IsSweepCall h k
 IsCalled fates h (Called.Later fault s) = IsSweepStage fates h s
 
 -- its driver is gone

@@ -2,9 +2,10 @@
 
 ghost use Rattle.std.specs.Prelude.{◌≡◌};
 ghost use Rattle.driver_cas.specs.declared.shared_port.SharedPort.{SharedPort};
+ghost use Rattle.slot_alloc.specs.Claims.{IsReleasingOf};
+ghost use Rattle.slot_alloc.specs.declared.release.Releasing.{Releasing};
 ghost use Rattle.slot_takeover.specs.Holders.{IsReadingOf};
-ghost use Rattle.slot_takeover.specs.Takeovers.{HoldsTaken, IsGivingBackOf, IsTakingOverOf};
-ghost use Rattle.slot_takeover.specs.declared.giving_back.GivingBack.{GivingBack};
+ghost use Rattle.slot_takeover.specs.Takeovers.{HoldsTaken, IsTakingOverOf};
 ghost use Rattle.slot_takeover.specs.declared.held.HeldSlot.{HeldSlot};
 ghost use Rattle.slot_takeover.specs.declared.holder.ReadingHolder.{ReadingHolder};
 ghost use Rattle.slot_takeover.specs.declared.taking.TakingOver.{TakingOver};
@@ -30,8 +31,7 @@ pub(crate) fn pause<R: Wait>(rt: &R, system: &System<OpenGate>, _play: &Play, ho
     ensures taking { (k : TakingOver SharedPort) → IsTakingOverOf host.old.driver k →
         IsTakingOverOf host.new.driver k }
     ensures held { (h : HeldSlot) → HoldsTaken host.old.driver h → HoldsTaken host.new.driver h }
-    ensures giving { (k : GivingBack SharedPort) → IsGivingBackOf host.old.driver k →
-        IsGivingBackOf host.new.driver k }
+    ensures giving { (k : Releasing SharedPort) → IsReleasingOf host.old.driver k → IsReleasingOf host.new.driver k }
 {
     let before = Snapshot::of(&host.driver);
     let place = usize::from(host.queue - 1);

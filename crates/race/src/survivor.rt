@@ -6,7 +6,8 @@ use driver_cas::{Fault, SharedPort};
 use nvme_model::Name;
 use race_hosts::Host;
 use shared_system::HostPasses;
-use slot_takeover::{GivingBack, HeldSlot, ReadingHolder, TakingOver};
+use slot_alloc::Releasing;
+use slot_takeover::{HeldSlot, ReadingHolder, TakingOver};
 
 /// A slot that was taken over, and may be dropped: it then stays held.
 pub(crate) struct KeptSlot {
@@ -30,21 +31,26 @@ impl KeptSlot {
     }
 }
 
+/// A call about the slot at hand that was begun.
+#[derive(Drop)]
+pub(crate) enum SweepCall<'a> {
+    /// Who holds the slot?
+    Reads(ReadingHolder<SharedPort<'a>>),
+    TakesOver(TakingOver<SharedPort<'a>>),
+    GivesBack(Releasing<SharedPort<'a>>),
+}
+
 /// How far a survivor is with the slot at hand.
 #[derive(Drop)]
 pub(crate) enum SweepStage<'a> {
     /// It is to ask who holds it.
     Asks,
-    /// That isn't answered.
-    Reads(ReadingHolder<SharedPort<'a>>),
     /// A dead host does, under this name: the slot is to be taken over.
     Finds(Name),
-    /// The takeover hasn't ended.
-    TakesOver(TakingOver<SharedPort<'a>>),
     /// It has the slot, and is to begin to give it back.
     Has(KeptSlot),
-    /// That hasn't ended.
-    GivesBack(GivingBack<SharedPort<'a>>),
+    /// The call hasn't ended.
+    Waits(SweepCall<'a>),
     /// No dead host holds the slot any more.
     Done,
 }
@@ -55,7 +61,7 @@ pub(crate) enum Called<'a> {
     /// The survivor is so far now.
     Done(SweepStage<'a>),
     /// Nothing yet: it waits.
-    Pending(SweepStage<'a>),
+    Pending(SweepCall<'a>),
     /// Nothing, for this reason.
     Later(Fault, SweepStage<'a>),
 }

@@ -1,24 +1,25 @@
 //! The turns of a survivor, which goes over the slots.
 
 ghost use Rattle.std.specs.Prelude.{◌≡◌, ◌<◌, IfOk, true};
-ghost use Rattle.slot_takeover.specs.Holders.{IsReadingOf};
-ghost use Rattle.slot_takeover.specs.Takeovers.{HoldsTaken, IsGivingBackOf, IsTakingOverOf};
+ghost use Rattle.slot_takeover.specs.Takeovers.{HoldsTaken};
 ghost use Rattle.race.specs.Fates.{is_dead_host};
-ghost use Rattle.race.specs.Survivors.{IsCalled, IsDeadName, IsSurvivor, IsSweepStage, IsSweeping};
+ghost use Rattle.race.specs.Survivors.{IsCalled, IsDeadName, IsSurvivor, IsSweepCall, IsSweepStage, IsSweeping};
 ghost use Rattle.race.specs.declared.survivor.SweepStage.{SweepStage};
 
 use crate::fate::{Fate, is_dead_at};
 use crate::pausing::{asks_again, pause, waits};
-use crate::survivor::{Called, KeptSlot, Survivor, SweepStage};
-use driver_cas::SharedPort;
+use crate::survivor::SweepCall::{GivesBack, Reads, TakesOver};
+use crate::survivor::SweepStage::Waits;
+use crate::survivor::{Called, KeptSlot, Survivor, SweepCall, SweepStage};
 use hosts::OpenGate;
 use nvme_model::Name;
 use race_hosts::{Host, Play};
 use shared_system::System;
+use slot_alloc::{Released, poll_release};
 use slot_takeover::laws::an_untouched_driver_keeps_its_takeovers;
 use slot_takeover::{
-    GivenBack, GivingBack, HeldSlot, Holder, HolderPoll, ReadingHolder, TakeoverProgress,
-    TakingOver, give_back, poll_given_back, poll_holder, poll_takeover, read_holder, take_over,
+    HeldSlot, Holder, HolderPoll, TakeoverProgress, give_back, poll_holder, poll_takeover,
+    read_holder, take_over,
 };
 use std::alloc::AllocError as NoMemory;
 use std::mem;
@@ -69,29 +70,8 @@ fn asks<'a>(
     ensures called { IsCalled _fates.now host.new result }
 {
     match read_holder(&host.slots, &mut host.driver, slot) {
-        Ok(reading) => Called::Done(SweepStage::Reads(reading)),
+        Ok(reading) => Called::Done(Waits(Reads(reading))),
         Err(fault) => Called::Later(fault, SweepStage::Asks),
-    }
-}
-
-// Polls it.
-fn reads<'a>(
-    _system: &System<OpenGate>,
-    _play: &Play,
-    fates: &[Fate],
-    host: &mut Host<'a>,
-    reading: ReadingHolder<SharedPort<'a>>,
-) -> Called<'a>
-    requires own { IsSweeping _system.now _play.now host.old }
-    requires of { IsReadingOf host.old.driver reading }
-    ensures goes { IsSweeping _system.now _play.now host.new }
-    ensures called { IsCalled fates.now host.new result }
-{
-    match poll_holder(&mut host.driver, reading) {
-        HolderPoll::Done(holder) => Called::Done(found(fates, host, holder)),
-        HolderPoll::Pending(same) => Called::Pending(SweepStage::Reads(same)),
-        HolderPoll::Later(fault, same) => Called::Later(fault, SweepStage::Reads(same)),
-        HolderPoll::Failed(_) => Called::Done(SweepStage::Done),
     }
 }
 
@@ -111,29 +91,8 @@ fn takes<'a>(
     ensures called { IsCalled _fates.now host.new result }
 {
     match take_over(&host.slots, &mut host.driver, slot, name) {
-        Ok(taking) => Called::Done(SweepStage::TakesOver(taking)),
+        Ok(taking) => Called::Done(Waits(TakesOver(taking))),
         Err(fault) => Called::Later(fault, SweepStage::Finds(name)),
-    }
-}
-
-// Polls it: the slot is this host's, or somebody else took it over first.
-fn takes_over<'a>(
-    _system: &System<OpenGate>,
-    _play: &Play,
-    _fates: &[Fate],
-    host: &mut Host<'a>,
-    taking: TakingOver<SharedPort<'a>>,
-) -> Called<'a>
-    requires own { IsSweeping _system.now _play.now host.old }
-    requires of { IsTakingOverOf host.old.driver taking }
-    ensures goes { IsSweeping _system.now _play.now host.new }
-    ensures called { IsCalled _fates.now host.new result }
-{
-    match poll_takeover(&mut host.driver, taking) {
-        TakeoverProgress::Held(held) => Called::Done(SweepStage::Has(KeptSlot { held })),
-        TakeoverProgress::Pending(same) => Called::Pending(SweepStage::TakesOver(same)),
-        TakeoverProgress::Later(fault, same) => Called::Later(fault, SweepStage::TakesOver(same)),
-        TakeoverProgress::Taken | TakeoverProgress::Failed(_) => Called::Done(SweepStage::Done),
     }
 }
 
@@ -152,7 +111,7 @@ fn gives<'a>(
 {
     let before = Snapshot::of(&host.driver);
     match give_back(&host.slots, &mut host.driver, held) {
-        Ok(giving) => Called::Done(SweepStage::GivesBack(giving)),
+        Ok(giving) => Called::Done(Waits(GivesBack(giving))),
         Err((held, fault)) => {
             an_untouched_driver_keeps_its_takeovers(&before, &host.driver);
             Called::Later(fault, SweepStage::Has(KeptSlot { held }))
@@ -160,23 +119,37 @@ fn gives<'a>(
     }
 }
 
-// Polls it.
-fn gives_back<'a>(
+// Polls a call about this slot. Where a takeover ends, the slot is this host's, or somebody else took it over first.
+fn polls<'a>(
     _system: &System<OpenGate>,
     _play: &Play,
-    _fates: &[Fate],
+    fates: &[Fate],
     host: &mut Host<'a>,
-    giving: GivingBack<SharedPort<'a>>,
+    call: SweepCall<'a>,
 ) -> Called<'a>
     requires own { IsSweeping _system.now _play.now host.old }
-    requires of { IsGivingBackOf host.old.driver giving }
+    requires of { IsSweepCall host.old call }
     ensures goes { IsSweeping _system.now _play.now host.new }
-    ensures called { IsCalled _fates.now host.new result }
+    ensures called { IsCalled fates.now host.new result }
 {
-    match poll_given_back(&mut host.driver, giving) {
-        GivenBack::Released | GivenBack::Failed(_) => Called::Done(SweepStage::Done),
-        GivenBack::Pending(same) => Called::Pending(SweepStage::GivesBack(same)),
-        GivenBack::Later(fault, same) => Called::Later(fault, SweepStage::GivesBack(same)),
+    match call {
+        Reads(reading) => match poll_holder(&mut host.driver, reading) {
+            HolderPoll::Done(holder) => Called::Done(found(fates, host, holder)),
+            HolderPoll::Pending(same) => Called::Pending(Reads(same)),
+            HolderPoll::Later(fault, same) => Called::Later(fault, Waits(Reads(same))),
+            HolderPoll::Failed(_) => Called::Done(SweepStage::Done),
+        },
+        TakesOver(taking) => match poll_takeover(&mut host.driver, taking) {
+            TakeoverProgress::Held(held) => Called::Done(SweepStage::Has(KeptSlot { held })),
+            TakeoverProgress::Pending(same) => Called::Pending(TakesOver(same)),
+            TakeoverProgress::Later(fault, same) => Called::Later(fault, Waits(TakesOver(same))),
+            TakeoverProgress::Taken | TakeoverProgress::Failed(_) => Called::Done(SweepStage::Done),
+        },
+        GivesBack(giving) => match poll_release(&mut host.driver, giving) {
+            Released::Released | Released::Failed(_) => Called::Done(SweepStage::Done),
+            Released::Pending(same) => Called::Pending(GivesBack(same)),
+            Released::Later(fault, same) => Called::Later(fault, Waits(GivesBack(same))),
+        },
     }
 }
 
@@ -197,11 +170,9 @@ fn calls<'a>(
 {
     match stage {
         SweepStage::Asks => asks(system, play, fates, host, slot),
-        SweepStage::Reads(reading) => reads(system, play, fates, host, reading),
         SweepStage::Finds(name) => takes(system, play, fates, host, slot, name),
-        SweepStage::TakesOver(taking) => takes_over(system, play, fates, host, taking),
         SweepStage::Has(kept) => gives(system, play, fates, host, kept.into_held()),
-        SweepStage::GivesBack(giving) => gives_back(system, play, fates, host, giving),
+        Waits(call) => polls(system, play, fates, host, call),
         SweepStage::Done => Called::Done(SweepStage::Done),
     }
 }
@@ -224,7 +195,7 @@ fn next_stage<'a, R: Wait>(
 {
     match calls(system, play, fates, host, slot, stage) {
         Called::Done(next) => Ok(next),
-        Called::Pending(same) => Ok(waits(rt, system, play, fates, host, same)),
+        Called::Pending(same) => Ok(waits(rt, system, play, fates, host, Waits(same))),
         Called::Later(fault, same) => {
             asks_again(fault)?;
             Ok(waits(rt, system, play, fates, host, same))

@@ -1,6 +1,6 @@
 -- The block of a small name.
 use Rattle.std.proofs.Common.{[], List, ap, ap₂, arith, refl, replicate, ℕ, ◌%◌, ◌++◌, ◌/◌, ◌<◌, ◌^◌, ◌∙◌, ◌∷◌, ◌≡◌}
-use Rattle.nvme_model.specs.Slots.{Name, four_bytes, slot_block}
+use Rattle.nvme_model.specs.Slots.{four_bytes, slot_block}
 
 -- the bytes of a number of one byte
 small_bytes : (n : ℕ) → n < 256 → n ∷ 0 ∷ 0 ∷ 0 ∷ [] ≡ four_bytes n

@@ -6,11 +6,9 @@ use Rattle.entry_codec.specs.declared.fuse.Fuse.{Fuse}
 use Rattle.random_script.specs.declared.script_kind.ScriptKind.{ScriptKind}
 use Rattle.random_script.specs.declared.script_kind.ScriptKind.TheVariants.{Single, Pairs, Units, Queues, Hostile}
 use Rattle.random_script.specs.declared.script_kind.ScriptKind.TheVariants.{Slots, Mixed}
-use Rattle.script_lines.specs.declared.written.WrittenCommand.{WrittenCommand}
 use Rattle.script_lines.specs.declared.written.CommandWord.{CommandWord}
 use Rattle.script_lines.specs.declared.written.EntryForm.{EntryForm}
 use Rattle.script_lines.specs.declared.written.EntryForm.TheVariants.{Named, Raw}
-use Rattle.script_lines.specs.declared.written.PublishWords.{PublishWords}
 use Rattle.script_lines.specs.declared.written.WrittenEntry.{WrittenEntry}
 use Rattle.script_lines.specs.declared.written.WrittenLine.{WrittenLine}
 use Rattle.script_lines.specs.declared.written.WrittenLine.TheVariants.{Publish, Fetch, Grant, Block, Post, Reap}

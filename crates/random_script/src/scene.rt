@@ -1,6 +1,6 @@
 //! A controller beside the script, which says what each line would do.
 
-use controller_interface::{Answer, Kind as WorkKind, Refused, Work};
+use controller_interface::{Answer, Refused, Work};
 use history::Config;
 use nvme_model::refusal::Why;
 use nvme_model::step::Step;
@@ -24,15 +24,6 @@ pub(crate) struct Scene {
     flying: Vec<OwingTicket>,
     // tickets so far
     fetched: u64,
-}
-
-// The completions that a fetched ticket owes.
-fn owed_by(kind: WorkKind) -> u8 {
-    match kind {
-        WorkKind::Failed(count) => count,
-        WorkKind::Flush | WorkKind::Units(_, _) => 1,
-        WorkKind::Pair(_) => 2,
-    }
 }
 
 fn why_of(refused: &Refused) -> Why {
@@ -86,7 +77,7 @@ impl Scene {
         self.fetched = work.ticket();
         self.flying.push(OwingTicket {
             ticket: work.ticket(),
-            owed: owed_by(work.kind()),
+            owed: work.judged().taken(),
         })?;
         Ok(())
     }

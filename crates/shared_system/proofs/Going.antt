@@ -2,12 +2,10 @@
 use Rattle.std.proofs.Common.{◌≡◌, ◌++◌, List, [], ◌∙◌, ap, append_assoc, refl, subst, sym, true, ℕ}
 use Rattle.nvme_model.specs.Passes.{IsBeginning, SharedPast}
 use Rattle.nvme_model.specs.declared.config.ConfigNumbers.{ConfigNumbers}
-use Rattle.nvme_model.specs.declared.entry.Entry.{Entry}
 use Rattle.nvme_model.specs.declared.step.Step.{Step}
 use Rattle.nvme_model.specs.Kept.{ControllerInvariant}
 use Rattle.controller_interface.specs.State.{Accepts, Refuses, ControllerState}
 use Rattle.controller_interface.specs.declared.answer.Answer.{Answer}
-use Rattle.controller_interface.specs.declared.work.Work.{Work as Duty}
 use Rattle.meet_lock.specs.Passes.{Declines, IsSame, Knows, Worked, config_of, seen}
 use Rattle.meet_lock.specs.declared.pass.Declined.{Declined}
 use Rattle.meet_lock.specs.declared.seats.TicketSeat.{TicketSeat}
@@ -17,10 +15,6 @@ use Rattle.work_queue.specs.Duties.{is_only_fetch, task_step}
 use Rattle.work_queue.specs.Engines as engine
 use Rattle.work_queue.specs.QueuePasses as queue
 use Rattle.work_queue.specs.declared.engine.Engine.{Engine}
-use Rattle.work_queue.specs.declared.engine.Open.{Open}
-use Rattle.work_queue.specs.declared.engine.Open.TheVariants as opening
-use Rattle.work_queue.specs.declared.engine.Opened.{Opened}
-use Rattle.work_queue.specs.declared.engine.Opened.TheVariants as opened
 use Rattle.work_queue.specs.declared.notice.Notice.{Notice}
 use Rattle.work_queue.specs.declared.queue.QueuePass.{QueuePass}
 use Rattle.work_queue.specs.declared.task.Task.{Task}
@@ -61,13 +55,13 @@ module _ {G : Type 0} where
       record { of = (same.0 ∙ of.0, of.1); same = same; begins = knows.1; serves = serves }
 
   -- by a Fetch that was made
-  pub goes_fetched : (system : System G) (h : CallerPasses) (p : engine.EnginePass) (n : ℕ) (o : Opened)
+  pub goes_fetched : (system : System G) (h : CallerPasses) (p : engine.EnginePass) (n : ℕ) (w : Work)
       → IsCallerOf system h
       → IsSame h.pass p → Knows ControllerInvariant h.pass p
-      → engine.OpenedAs system.engine h.pass p (opening.Fetch n) o → Continues system h (record h { pass = p })
-  goes_fetched system h p n o of same knows x =
+      → engine.FetchedAs system.engine h.pass p n w → Continues system h (record h { pass = p })
+  goes_fetched system h p n w of same knows x =
       goes_step system h p of same knows
-      (stepped h.pass p (engine.open_step (opening.Fetch n)) x.answer same knows refl x.by)
+      (stepped h.pass p (Step.Fetch n) (Answer.Fetched w.work) same knows refl x.by)
 
   -- by a task that was made
   pub goes_worked : (system : System G) (h : CallerPasses) (p : engine.EnginePass) (w v : TicketSeat ControllerState)
@@ -106,21 +100,9 @@ module _ {G : Type 0} where
       }
 
 -- the Work of a Fetch may be pushed
-fetched_is : (e : Engine) (q : engine.EnginePass) (entry : Entry) (a : Answer) (w : Work)
-    → engine.IsOpened e q entry a (opened.Fetched w)
+pub fetched_ready : (e : Engine) (p q : engine.EnginePass) (n : ℕ) (w : Work) → engine.FetchedAs e p q n w
     → engine.IsWorkOf e w × (is_only_fetch w.work.ticket (engine.its w) ≡ true)
-fetched_is e q entry Answer.Published w h = absurd h
-fetched_is e q entry (Answer.Fetched x) w h =
-    (h.1, ap (λ n. is_only_fetch n (engine.its w)) (ap (λ (y : Duty). y.ticket) h.0) ∙ h.4)
-fetched_is e q entry (Answer.Blocked d) w h = absurd h
-fetched_is e q entry (Answer.Granted u r m) w h = absurd h
-fetched_is e q entry (Answer.Posted c) w h = absurd h
-fetched_is e q entry (Answer.Reaped c p) w h = absurd h
-
-pub fetched_ready : (e : Engine) (p q : engine.EnginePass) (o : Open) (w : Work)
-    → engine.OpenedAs e p q o (opened.Fetched w)
-    → engine.IsWorkOf e w × (is_only_fetch w.work.ticket (engine.its w) ≡ true)
-fetched_ready e p q o w h = fetched_is e q h.by.entry h.answer w h.is
+fetched_ready e p q n w h = (h.of, h.fresh)
 
 module _ {G : Type 0} where
   -- the passes of the queues of notices stay those of the same controller's

@@ -13,11 +13,10 @@ ghost use Rattle.shared_system.specs.Callers.{AreNoticesOf, Continues, IsCallerO
 ghost use Rattle.shared_system.specs.Callers.{WorkerContinues};
 
 use crate::system::{CallerPasses, System, WorkerPasses};
-use meet_lock::Declined;
 use std::alloc::AllocError as NoMemory;
 use std::sync::Wait;
 use step_core::Answer;
-use work_queue::{Notice, Open, Opened, QueuePass, Task, Work};
+use work_queue::{Notice, QueuePass, Task, Work};
 
 /// The place, from 0, of the completion queue that a submission queue uses, where there are so many.
 pub fn completion_place(queue: u16, count: usize) -> u16
@@ -102,8 +101,8 @@ fn told<R: Wait, G>(
     }
 }
 
-// What comes of a step that was declined.
-fn nothing<T>(_declined: Declined) -> Option<T>
+// What comes of a step that wasn't made.
+fn nothing<T, U: Drop>(_unmade: U) -> Option<T>
     ensures { result ≡ None }
 {
     None
@@ -167,14 +166,9 @@ fn fetch<G>(system: &System<G>, caller: &mut CallerPasses, queue: u16) -> Option
     ensures goes { Continues system.now caller.old caller.new }
     ensures work { IfSome result (engine.IsWorkOf system.now.engine) }
 {
-    match system
-        .engine
-        .attempt_open(&mut caller.pass, Open::Fetch(queue))
-    {
-        Ok(Opened::Fetched(work)) => Some(work),
-        // A Fetch that was made is answered by its Work.
-        Ok(Opened::Published | Opened::Reaped { .. }) => unreachable!(),
-        Err(declined) => nothing(declined),
+    match system.engine.fetch(&mut caller.pass, queue) {
+        Ok(work) => Some(work),
+        Err(unmade) => nothing(unmade),
     }
 }
 

@@ -1,9 +1,7 @@
 -- How many claims of a slot each call publishes.
 use Rattle.std.proofs.Common.{Bool, List, arith, cond, eq-eqb, eqb, eqb-true, false, inl, inr, refl, suc, true, ℕ, ◌+◌}
 use Rattle.std.proofs.Common.{ap, subst, ◌∙◌, ◌∷◌, ◌<◌, ◌≡◌, ◌≤◌}
-use Rattle.std.specs.Prelude.{Ok}
 use Rattle.std.proofs.lemmas.Bool.{cases_Bool, eqb-false}
-use Rattle.nvme_model.specs.declared.array.Range.{Range}
 use Rattle.driver_calls.specs.declared.event.PortEvent.{PortEvent}
 use Rattle.driver_cas.specs.Drivers.{IsOneMore, area_of, made}
 use Rattle.driver_cas.specs.declared.call.Call.{Call}

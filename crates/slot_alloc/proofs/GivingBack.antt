@@ -89,6 +89,24 @@ module _ {P : Type 0} (g : Ghosts P) where
       goes_on_any g d e (Some (l, own_name d serial))
       (goes_on_same g d e (settings_of g d e same) same.serial later s.0.0)
 
+  pub releasing_begun : (d e : Driver P g) (slot serial : ℕ) (k : Call P) → IsSameDriver d e
+      → IsReleaseStart d e (block_of (area_of d) slot) serial (Ok k) → slot < (area_of d).blocks
+      → IsName (own_name d serial) → IsReleasingOf e (record { slot = slot; serial = serial; call = k })
+  releasing_begun d e slot serial k same s inside name =
+      let l = block_of (area_of d) slot in
+      let contents = release_data (host_of d) serial in
+      let number = number_now g d e k l contents s in
+      record {
+        of = s.of;
+        does = s.does;
+        inside = subst (λ (r : Range). slot < r.blocks) (sym same.slots) inside;
+        release = subst (λ (z : List PortEvent × ℕ × ℕ × Range).
+            IsReleaseIn z.0 k.queue k.first k.second z.1 (block_of z.3 slot) (record { host = z.2; serial = serial }))
+            (λ i. (sym s.published i, sym number i, sym same.host i, sym same.slots i))
+            (release_in (made d) k.queue l k.first k.second (own_name d serial) s.batch name s.is
+            (sent_call (made d) k.queue l 1 k.first k.second Op.Pair contents s.batch s.free.unlike s.is));
+      }
+
   -- ---- that of a claim
 
   pub slot_rules_released : (d e : Driver P g) (c : Claim) (k : Call P) → Releases d e c k → KeepsSlotRules d
@@ -105,21 +123,7 @@ module _ {P : Type 0} (g : Ghosts P) where
   pub releasing_now : (d e : Driver P g) (c : Claim) (k : Call P) → Releases d e c k
       → IsReleasingOf e (record { slot = slot_of c; serial = claim_serial c; call = k })
   releasing_now d e c k x =
-      let s = x.start in
-      let l = block_of (area_of d) (slot_of c) in
-      let contents = release_data (host_of d) (claim_serial c) in
-      let number = number_now g d e k l contents s in
-      record {
-        of = s.of;
-        does = s.does;
-        inside = subst (λ (r : Range). slot_of c < r.blocks) (sym x.same.slots) x.held.inside;
-        release = subst (λ (z : List PortEvent × ℕ × ℕ × Range).
-            IsReleaseIn z.0 k.queue k.first k.second z.1 (block_of z.3 (slot_of c))
-            (record { host = z.2; serial = claim_serial c }))
-            (λ i. (sym s.published i, sym number i, sym x.same.host i, sym x.same.slots i))
-            (release_in (made d) k.queue l k.first k.second (own_name d (claim_serial c)) s.batch x.held.name s.is
-            (sent_call (made d) k.queue l 1 k.first k.second Op.Pair contents s.batch s.free.unlike s.is));
-      }
+      releasing_begun d e (slot_of c) (claim_serial c) k x.same x.start x.held.inside x.held.name
 
   -- ---- after a poll
 

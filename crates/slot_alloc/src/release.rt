@@ -17,12 +17,13 @@ use crate::slots::Slots;
 use driver_cas::{Call, Driver, Fault, Poll, Port};
 use nvme_model::status::Status;
 
-/// A release that was begun. It can't be copied, and one that is dropped keeps its CIDs.
+/// A release that was begun: of this slot, under this serial, by this call. It can't be copied, and one that is dropped
+/// keeps its CIDs.
 #[derive(Drop)]
 pub struct Releasing<P> {
-    pub(crate) slot: u32,
-    pub(crate) serial: u64,
-    pub(crate) call: Call<P>,
+    pub slot: u32,
+    pub serial: u64,
+    pub call: Call<P>,
 }
 
 impl Slots {

@@ -1,15 +1,14 @@
--- The claims, the releases and the Writes of a batch, entry by entry.
+-- The Writes of a batch, its pairs, claims and releases, entry by entry.
 use Rattle.std.proofs.Common.{◌≡◌, ℕ, zero, suc, ◌+◌, ◌<◌, ◌≤◌, Bool, true, false, not, ◌&&◌, cond, List, []}
 use Rattle.std.proofs.Common.{◌∷◌, ◌++◌}
 use Rattle.std.proofs.Common.{length, refl, sym, ap, ap₂, ◌∙◌, arith, drop, get_or, eqb, None, Option, Some}
-use Rattle.std.specs.List.{list_any}
+use Rattle.std.specs.List.{filter, list_any}
 use Rattle.std.specs.Str.{bytes_eq}
 use Rattle.std.proofs.lemmas.List.{append-nil, append_assoc, length-drop}
 use Rattle.std.proofs.lemmas.List.Elements.{filter-append}
-use Rattle.nvme_model.specs.Array.{has_block, zeros}
+use Rattle.nvme_model.specs.Array.{zeros}
 use Rattle.nvme_model.specs.EntryBytes.{slba, sqe_fields}
-use Rattle.nvme_model.specs.Slots.{Swap, in_area, is_pair_on_one, name_of, swap_by, swap_of, swaps_in}
-use Rattle.nvme_model.specs.Slots.{touches}
+use Rattle.nvme_model.specs.Slots.{Swap, is_pair_on_one, name_of, swap_by, swap_of, touches}
 use Rattle.nvme_model.specs.declared.array.Range.{Range}
 use Rattle.nvme_model.specs.declared.submission.Submission.{Submission}
 use Rattle.host_laws.proofs.Names.{bytes_are}
@@ -82,34 +81,46 @@ free_second q j a b pair held free =
     (bytes_eq b.payload zeros) release []) []) pair
     ∙ ap₂ (λ (x y : Bool). cond x claim [] ++ cond y release []) held free)
 
-pub swaps_next : (slots : Range) (q first : ℕ) (batch : List Submission) (i : ℕ) (a b : Submission)
-    (found more : List Swap) → i + 1 < length batch → a ≡ get_or batch i a → b ≡ get_or batch (i + 1) b
-    → more ≡ in_area slots (swap_of q (first + i) a b)
-    → (found ++ more) ++ in_area slots (swaps_in q (first + (i + 1)) (drop (i + 1) batch))
-    ≡ found ++ in_area slots (swaps_in q (first + i) (drop i batch))
-swaps_next slots q first batch i a b found more l e f m =
-    let here : i + 1 ≡ suc i = omega arith in
-    let n : first + (i + 1) ≡ suc (first + i) = omega arith in
-    let rest = swaps_in q (suc (first + i)) (drop (suc i) batch) in
-    let second : drop (suc i) batch ≡ b ∷ drop (suc (suc i)) batch =
-    drop_is batch (suc i) b (omega (arith, l)) (f ∙ ap (λ (x : ℕ). get_or batch x b) here) in
-    let both : drop i batch ≡ a ∷ b ∷ drop (suc (suc i)) batch =
-    drop_is batch i a (omega (arith, l)) e ∙ ap (λ (xs : List Submission). a ∷ xs) second in
-    (λ t. (found ++ m t) ++ in_area slots (swaps_in q (n t) (drop (here t) batch)))
-    ∙ append_assoc found (in_area slots (swap_of q (first + i) a b)) (in_area slots rest)
-    ∙ ap (λ (xs : List Swap). found ++ xs)
-    (sym (filter-append (λ s. has_block slots s.lba) (swap_of q (first + i) a b) rest)
-    ∙ ap (λ (xs : List Submission). in_area slots (swap_of q (first + i) a b ++ swaps_in q (suc
-    (first + i)) xs)) second
-    ∙ ap (λ (xs : List Submission). in_area slots (swaps_in q (first + i) xs)) (sym both))
+-- ---- what pairs of entries are
 
-few : (q j : ℕ) (xs : List Submission) → length xs ≤ 1 → swaps_in q j xs ≡ []
-few q j [] l = refl
-few q j (x ∷ []) l = refl
-few q j (x ∷ y ∷ xs) l = absurd (omega (arith, l))
+module _ {X : Type 0} (pair : ℕ → Submission → Submission → List X) (of : ℕ → List Submission → List X) where
+  -- what a batch is, pair by pair
+  pub record IsByPairs : Type 0 where
+    pub none : (j : ℕ) → of j [] ≡ []
+    pub one : (j : ℕ) (a : Submission) → of j (a ∷ []) ≡ []
+    pub more : (j : ℕ) (a b : Submission) (rest : List Submission)
+        → of j (a ∷ b ∷ rest) ≡ pair j a b ++ of (suc j) (b ∷ rest)
 
-pub swaps_end : (slots : Range) (q first : ℕ) (batch : List Submission) (i : ℕ) (found : List Swap)
-    → length batch ≤ i + 1 → found ≡ found ++ in_area slots (swaps_in q (first + i) (drop i batch))
-swaps_end slots q first batch i found l =
-    sym (ap (λ (xs : List Swap). found ++ in_area slots xs)
-    (few q (first + i) (drop i batch) (omega (arith, length-drop i batch, l))) ∙ append-nil found)
+  -- what the next pair is, of what passes a test, is added behind what was found
+  pub pairs_next : IsByPairs → (test : X → Bool) (first : ℕ) (batch : List Submission) (i : ℕ) (a b : Submission)
+      (found more : List X) → i + 1 < length batch → a ≡ get_or batch i a → b ≡ get_or batch (i + 1) b
+      → more ≡ pair (first + i) a b
+      → (found ++ filter test more) ++ filter test (of (first + (i + 1)) (drop (i + 1) batch))
+      ≡ found ++ filter test (of (first + i) (drop i batch))
+  pairs_next by test first batch i a b found more l e f m =
+      let here : i + 1 ≡ suc i = omega arith in
+      let n : first + (i + 1) ≡ suc (first + i) = omega arith in
+      let after = drop (suc (suc i)) batch in
+      let rest = of (suc (first + i)) (drop (suc i) batch) in
+      let second : drop (suc i) batch ≡ b ∷ after =
+      drop_is batch (suc i) b (omega (arith, l)) (f ∙ ap (λ (x : ℕ). get_or batch x b) here) in
+      let both : drop i batch ≡ a ∷ b ∷ after =
+      drop_is batch i a (omega (arith, l)) e ∙ ap (λ (xs : List Submission). a ∷ xs) second in
+      (λ t. (found ++ filter test (m t)) ++ filter test (of (n t) (drop (here t) batch)))
+      ∙ append_assoc found (filter test (pair (first + i) a b)) (filter test rest)
+      ∙ ap (λ (xs : List X). found ++ xs)
+      (sym (filter-append test (pair (first + i) a b) rest)
+      ∙ ap (λ (xs : List Submission). filter test (pair (first + i) a b ++ of (suc (first + i)) xs)) second
+      ∙ ap (filter test) (sym (by.more (first + i) a b after))
+      ∙ ap (λ (xs : List Submission). filter test (of (first + i) xs)) (sym both))
+
+  few : IsByPairs → (j : ℕ) (xs : List Submission) → length xs ≤ 1 → of j xs ≡ []
+  few by j [] l = by.none j
+  few by j (x ∷ []) l = by.one j x
+  few by j (x ∷ y ∷ xs) l = absurd (omega (arith, l))
+
+  pub pairs_end : IsByPairs → (test : X → Bool) (first : ℕ) (batch : List Submission) (i : ℕ) (found : List X)
+      → length batch ≤ i + 1 → found ≡ found ++ filter test (of (first + i) (drop i batch))
+  pairs_end by test first batch i found l =
+      sym (ap (λ (xs : List X). found ++ filter test xs)
+      (few by (first + i) (drop i batch) (omega (arith, length-drop i batch, l))) ∙ append-nil found)

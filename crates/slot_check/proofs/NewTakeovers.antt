@@ -2,20 +2,16 @@
 use Rattle.std.proofs.Common.{◌≡◌, ℕ, suc, ◌≤◌, Bool, true, false, not, cond, List, [], ◌∷◌, ◌++◌, refl, arith, eqb, ap}
 use Rattle.std.proofs.Common.{◌<◌, drop, get_or, length, map, sym}
 use Rattle.std.proofs.Common.{inl, inr, None, Some, Option, ◌+◌, ◌∙◌}
-use Rattle.std.proofs.lemmas.List.{append-nil, append_assoc, length-drop}
-use Rattle.std.proofs.lemmas.List.Elements.{filter-append}
-use Rattle.nvme_model.specs.Array.{has_block}
+use Rattle.std.proofs.lemmas.List.{append_assoc}
 use Rattle.nvme_model.specs.EntryBytes.{slba, sqe_fields}
 use Rattle.nvme_model.specs.Slots.{Name, Swap, is_pair_on_one, name_of}
-use Rattle.nvme_model.specs.declared.array.Range.{Range}
 use Rattle.nvme_model.specs.declared.config.ConfigNumbers.{ConfigNumbers}
 use Rattle.nvme_model.specs.declared.submission.Submission.{Submission}
 use Rattle.host_laws.proofs.Elements.{In}
-use Rattle.host_laws.specs.Rules.{takeovers_within}
 use Rattle.host_laws.specs.Takeovers.{Takeover, giving, takeover_by, takeover_of, takeovers_in}
 use Rattle.slot_check.specs.Names.{KeptNames}
 use Rattle.slot_check.specs.Takeovers.{begins_at, begun_by, cut_by, cuts_in}
-use Rattle.slot_check.proofs.Batches.{drop_at, drop_is}
+use Rattle.slot_check.proofs.Batches.{drop_at}
 
 -- each is of queue q, from entry j on
 abbrev pub IsNewOn : ℕ → ℕ → List Takeover → Type 0
@@ -52,41 +48,6 @@ new_in q j [] w h i = absurd i
 new_in q j (x ∷ ws) w h (inl e) =
     (ap (λ (y : Takeover). y.queue) e ∙ h.0.0, omega (arith, h.0.1, ap (λ (y : Takeover). y.number) e))
 new_in q j (x ∷ ws) w h (inr i) = new_in q j ws w h.1 i
-
--- ---- the takeovers of a batch, entry by entry
-
-pub takeovers_next : (slots : Range) (q first : ℕ) (batch : List Submission) (i : ℕ) (a b : Submission)
-    (found more : List Takeover) → i + 1 < length batch → a ≡ get_or batch i a → b ≡ get_or batch (i + 1) b
-    → more ≡ takeovers_within slots (takeover_of q (first + i) a b)
-    → (found ++ more) ++ takeovers_within slots (takeovers_in q (first + (i + 1)) (drop (i + 1) batch))
-    ≡ found ++ takeovers_within slots (takeovers_in q (first + i) (drop i batch))
-takeovers_next slots q first batch i a b found more l e f m =
-    let here : i + 1 ≡ suc i = omega arith in
-    let n : first + (i + 1) ≡ suc (first + i) = omega arith in
-    let rest = takeovers_in q (suc (first + i)) (drop (suc i) batch) in
-    let second : drop (suc i) batch ≡ b ∷ drop (suc (suc i)) batch =
-    drop_is batch (suc i) b (omega (arith, l)) (f ∙ ap (λ (x : ℕ). get_or batch x b) here) in
-    let both : drop i batch ≡ a ∷ b ∷ drop (suc (suc i)) batch =
-    drop_is batch i a (omega (arith, l)) e ∙ ap (λ (xs : List Submission). a ∷ xs) second in
-    (λ t. (found ++ m t) ++ takeovers_within slots (takeovers_in q (n t) (drop (here t) batch)))
-    ∙ append_assoc found (takeovers_within slots (takeover_of q (first + i) a b)) (takeovers_within slots rest)
-    ∙ ap (λ (xs : List Takeover). found ++ xs)
-    (sym (filter-append (λ w. has_block slots w.lba) (takeover_of q (first + i) a b) rest)
-    ∙ ap (λ (xs : List Submission). takeovers_within slots (takeover_of q (first + i) a b ++ takeovers_in q (suc
-    (first + i)) xs)) second
-    ∙ ap (λ (xs : List Submission). takeovers_within slots (takeovers_in q (first + i) xs)) (sym both))
-
-few : (q j : ℕ) (xs : List Submission) → length xs ≤ 1 → takeovers_in q j xs ≡ []
-few q j [] l = refl
-few q j (x ∷ []) l = refl
-few q j (x ∷ y ∷ xs) l = absurd (omega (arith, l))
-
-pub takeovers_end : (slots : Range) (q first : ℕ) (batch : List Submission) (i : ℕ) (found : List Takeover)
-    → length batch ≤ i + 1
-    → found ≡ found ++ takeovers_within slots (takeovers_in q (first + i) (drop i batch))
-takeovers_end slots q first batch i found l =
-    sym (ap (λ (xs : List Takeover). found ++ takeovers_within slots xs)
-    (few q (first + i) (drop i batch) (omega (arith, length-drop i batch, l))) ∙ append-nil found)
 
 -- what a takeover gives is added behind what was there
 pub givings_next : (ws : List Takeover) (i : ℕ) (d w : Takeover) (moves : List Swap) (s : Swap) → i < length ws

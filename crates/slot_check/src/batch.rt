@@ -5,8 +5,7 @@ ghost use Rattle.std.specs.Prelude.{◌^◌, ◌||◌, ◌≡◌};
 ghost use Rattle.std.specs.List.{list_any};
 ghost use Rattle.std.specs.Option.{option_to_list};
 ghost use Rattle.nvme_model.specs.Array.{has_block, overlap, zeros};
-ghost use Rattle.nvme_model.specs.Slots.{in_area, is_pair_on_one, releases, swap_by, swap_of};
-ghost use Rattle.nvme_model.specs.Slots.{touches};
+ghost use Rattle.nvme_model.specs.Slots.{is_pair_on_one, releases, swap_by, swap_of, touches};
 ghost use Rattle.slot_check.specs.Batch.{claimed_twice_in, release_broken_in, release_wrong_in, takeover_broken_in};
 ghost use Rattle.slot_check.specs.Batch.{takeover_wrong_in};
 ghost use Rattle.slot_check.specs.Broken.{first_touched, write_alone};
@@ -85,8 +84,8 @@ fn swap_by(claims: bool, queue: u16, number: u64, lba: u64, name: Option<Name>) 
     }
 }
 
-// The claim or the release that two entries are, the first of them with this number on this queue.
-fn swap_of(queue: u16, number: u64, a: &Submission, b: &Submission) -> Option<Swap>
+/// The claim or the release that two entries are, the first of them with this number on this queue.
+pub fn swap_of(queue: u16, number: u64, a: &Submission, b: &Submission) -> Option<Swap>
     requires room { number + 1 < 2 ^ 64 }
     ensures value { option_to_list result ≡ swap_of queue number a.now b.now }
 {
@@ -101,25 +100,6 @@ fn swap_of(queue: u16, number: u64, a: &Submission, b: &Submission) -> Option<Sw
         return swap_by(false, queue, number, lba, name_of(a.payload.as_slice()));
     }
     None
-}
-
-/// The same, where it is of a slot of this area.
-pub fn swap_in_area(
-    slots: Range,
-    queue: u16,
-    number: u64,
-    a: &Submission,
-    b: &Submission,
-) -> Option<Swap>
-    requires room { number + 1 < 2 ^ 64 }
-    ensures value { option_to_list result ≡ in_area slots (swap_of queue number a.now b.now) }
-{
-    let swap = swap_of(queue, number, a, b)?;
-    if has_block(slots, swap.lba()) {
-        Some(swap)
-    } else {
-        None
-    }
 }
 
 // Whether the entry of this number is the second of one of these claims and releases.

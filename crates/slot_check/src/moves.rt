@@ -1,14 +1,15 @@
 //! What a batch does to the slots of an area: its claims, releases and takeovers.
 
-ghost use Rattle.std.specs.Prelude.{IfOk, OnOk, length, map, ◌++◌, ◌+◌, ◌<◌, ◌^◌, ◌≡◌};
+ghost use Rattle.std.specs.Prelude.{IfOk, OnOk, filter, length, map, ℕ, ◌++◌, ◌+◌, ◌<◌, ◌^◌, ◌≡◌};
 ghost use Rattle.std.specs.Option.{option_to_list};
+ghost use Rattle.nvme_model.specs.Array.{has_block};
 ghost use Rattle.nvme_model.specs.Slots.{in_area, swaps_in};
 ghost use Rattle.host_laws.specs.Rules.{takeovers_within};
 ghost use Rattle.host_laws.specs.Takeovers.{giving, takeovers_in};
 
-use crate::batch::swap_in_area;
+use crate::batch::{has_block, swap_of};
 use crate::swap::Swap;
-use crate::takeover::{Takeover, add_givings, takeover_in_area};
+use crate::takeover::{Takeover, add_givings, takeover_of};
 use nvme_model::array::Range;
 use nvme_model::submission::Submission;
 use std::alloc::{AllocError as NoMemory, Global};
@@ -20,13 +21,42 @@ pub struct Moves {
     pub takeovers: Vec<Takeover>,
 }
 
-// Adds it, where there is one.
-fn push_some<T: Drop>(found: &mut Vec<T>, one: Option<T>) -> Result<(), NoMemory>
-    ensures ok { OnOk result (found.new.items ≡ found.old.items ++ option_to_list one) }
-{
-    if let Some(one) = one {
-        found.push(one)?;
+/// What a batch does to a slot.
+trait OfSlot: Drop {
+    ghost block: { Self → ℕ };
+
+    fn lba(&self) -> u64
+        ensures { result ≡ block self.now };
+}
+
+impl OfSlot for Swap {
+    ghost block = { λ s. s.lba };
+
+    fn lba(&self) -> u64 {
+        self.lba()
     }
+}
+
+impl OfSlot for Takeover {
+    ghost block = { λ w. w.lba };
+
+    fn lba(&self) -> u64 {
+        self.lba()
+    }
+}
+
+// Adds it, where there is one and its slot is of the area.
+fn push_in_area<T: OfSlot>(found: &mut Vec<T>, slots: Range, one: Option<T>) -> Result<(), NoMemory>
+    ensures ok { OnOk result (found.new.items
+        ≡ found.old.items ++ filter (λ s. has_block slots (T.block s)) (option_to_list one)) }
+{
+    let Some(one) = one else {
+        return Ok(());
+    };
+    if !has_block(slots, one.lba()) {
+        return Ok(());
+    }
+    found.push(one)?;
     Ok(())
 }
 
@@ -55,8 +85,8 @@ pub fn moves_in_area(
         let number = first + place as u64;
         let a = &batch[place];
         let b = &batch[place + 1];
-        push_some(&mut swaps, swap_in_area(slots, queue, number, a, b))?;
-        push_some(&mut takeovers, takeover_in_area(slots, queue, number, a, b))?;
+        push_in_area(&mut swaps, slots, swap_of(queue, number, a, b))?;
+        push_in_area(&mut takeovers, slots, takeover_of(queue, number, a, b))?;
         place += 1;
     }
     add_givings(&mut swaps, takeovers.as_slice())?;

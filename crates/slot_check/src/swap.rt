@@ -59,6 +59,13 @@ impl Swap {
         self.queue
     }
 
+    /// The number of its first entry.
+    pub fn number(&self) -> u64
+        ensures value { result ≡ self.now.number }
+    {
+        self.number
+    }
+
     /// The number of its second entry.
     pub fn second(&self) -> u64
         ensures value { result ≡ suc self.now.number }

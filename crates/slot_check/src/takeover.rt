@@ -2,61 +2,63 @@
 
 ghost use Rattle.std.specs.Prelude.{OnOk, map, ◌++◌, ◌+◌, ◌<◌, ◌^◌, ◌≡◌};
 ghost use Rattle.std.specs.Option.{option_to_list};
-ghost use Rattle.host_laws.specs.Rules.{takeovers_within};
 ghost use Rattle.host_laws.specs.Takeovers.{giving, takeover_by, takeover_of};
 
-use crate::batch::{has_block, is_pair_on_one};
+use crate::batch::is_pair_on_one;
 use crate::swap::Swap;
 use entry_codec::decode_sqe;
-use nvme_model::array::Range;
 use nvme_model::submission::Submission;
 use nvme_model::{Name, name_of};
 use std::alloc::AllocError as NoMemory;
 use std::marker::Model;
 
-/// A takeover: its queue, the number of its first entry there, its block, the name that it takes the slot from, and the
-/// name that it gives the slot to.
+/// A takeover: the name that it takes the slot from, and what gives the slot to its own name, as a claim does.
 #[derive(Clone, Copy, Debug, Drop, PartialEq, Eq)]
 pub struct Takeover {
-    queue: u16,
-    number: u64,
-    lba: u64,
     dead: Name,
-    name: Name,
+    given: Swap,
 }
 
 impl Model for Takeover {
-    ghost use Rattle.std.specs.Prelude.{◌+◌, ◌<◌, ◌^◌};
+    ghost use Rattle.std.specs.Prelude.{true, ◌≡◌};
+    ghost use Rattle.std.proofs.Common.{sym};
     ghost use Rattle.host_laws.specs.Takeovers as takeovers;
 
     ghost Value = { takeovers.Takeover };
 
-    ghost view = { λ w. record { queue = w.queue; number = w.number; lba = w.lba; dead = w.dead; name = w.name } };
+    ghost view = { λ w. record {
+      queue = w.given.queue;
+      number = w.given.number;
+      lba = w.given.lba;
+      dead = w.dead;
+      name = w.given.name;
+    } };
 
-    // Its second entry has a number, too.
-    ghost invariant = { λ w. w.number + 1 < 2 ^ 64 };
+    ghost invariant = { λ w. w.given.claims ≡ true };
 
-    ghost inverse = { λ w. record { queue = w.queue; number = w.number; lba = w.lba; dead = w.dead; name = w.name } };
+    ghost inverse = { λ w. record { dead = w.dead; given = takeovers.giving w } };
+
+    ghost inverse_ok = { λ w h i. record { dead = w.dead; given = record w.given { claims = sym h i } } };
 }
 
 impl Takeover {
     pub fn queue(&self) -> u16
         ensures value { result ≡ self.now.queue }
     {
-        self.queue
+        self.given.queue()
     }
 
     /// The number of its first entry.
     pub fn number(&self) -> u64
         ensures value { result ≡ self.now.number }
     {
-        self.number
+        self.given.number()
     }
 
     pub fn lba(&self) -> u64
         ensures value { result ≡ self.now.lba }
     {
-        self.lba
+        self.given.lba()
     }
 
     /// The name that it takes the slot from.
@@ -70,7 +72,7 @@ impl Takeover {
     pub fn giving(&self) -> Swap
         ensures value { result ≡ giving self.now }
     {
-        Swap::new(true, self.queue, self.number, self.lba, self.name)
+        self.given
     }
 }
 
@@ -91,16 +93,13 @@ fn takeover_by(
         return None;
     }
     Some(Takeover {
-        queue,
-        number,
-        lba,
         dead,
-        name,
+        given: Swap::new(true, queue, number, lba, name),
     })
 }
 
-// The takeover that two entries are, the first of them with this number on this queue.
-fn takeover_of(queue: u16, number: u64, a: &Submission, b: &Submission) -> Option<Takeover>
+/// The takeover that two entries are, the first of them with this number on this queue.
+pub fn takeover_of(queue: u16, number: u64, a: &Submission, b: &Submission) -> Option<Takeover>
     requires room { number + 1 < 2 ^ 64 }
     ensures value { option_to_list result ≡ takeover_of queue number a.now b.now }
 {
@@ -111,25 +110,6 @@ fn takeover_of(queue: u16, number: u64, a: &Submission, b: &Submission) -> Optio
     let dead = name_of(a.payload.as_slice());
     let name = name_of(b.payload.as_slice());
     takeover_by(queue, number, lba, dead, name)
-}
-
-/// The same, where it is of a slot of this area.
-pub fn takeover_in_area(
-    slots: Range,
-    queue: u16,
-    number: u64,
-    a: &Submission,
-    b: &Submission,
-) -> Option<Takeover>
-    requires room { number + 1 < 2 ^ 64 }
-    ensures value { option_to_list result ≡ takeovers_within slots (takeover_of queue number a.now b.now) }
-{
-    let takeover = takeover_of(queue, number, a, b)?;
-    if has_block(slots, takeover.lba()) {
-        Some(takeover)
-    } else {
-        None
-    }
 }
 
 /// Adds what these takeovers give.

@@ -1,6 +1,6 @@
 -- A takeover after a poll of its call.
 use Rattle.std.proofs.lemmas.Bool.{or_right}
-use Rattle.std.proofs.Common.{List, Ok, Some, [], ap, eqb, false, inl, inr, subst, suc, sym, true, ℕ, ◌&&◌, ◌∙◌}
+use Rattle.std.proofs.Common.{List, Ok, Some, ap, eqb, false, inl, inr, subst, suc, sym, true, ℕ, ◌&&◌, ◌∙◌}
 use Rattle.std.proofs.Common.{◌∷◌, ◌<◌, ◌≡◌, ◌≢◌}
 use Rattle.nvme_model.specs.Slots.{Name}
 use Rattle.nvme_model.specs.declared.array.Range.{Range}
@@ -8,7 +8,7 @@ use Rattle.nvme_model.specs.Statuses.{is_success}
 use Rattle.nvme_model.specs.declared.operation.Op.{Op}
 use Rattle.nvme_model.specs.declared.submission.Submission.{Submission}
 use Rattle.host_laws.specs.Calls.{cqe_status}
-use Rattle.driver_calls.specs.Says.{IsCallIn, call_outcome}
+use Rattle.driver_calls.specs.Says.{call_outcome}
 use Rattle.driver_calls.specs.declared.event.PortEvent.{PortEvent}
 use Rattle.driver_calls.specs.declared.reply.Reply.{Reply}
 use Rattle.driver_cas.specs.Drivers.{IsBack, IsCallOf, IsOneMore, SaysOfPort, answer_to, area_of, made, number_of}

@@ -1,7 +1,6 @@
 mod Names
 mod Starting
 mod Answering
-mod Giving
 mod Reading
 mod Untouched
 mod Knowing

@@ -1,6 +1,6 @@
 -- A question who holds a slot, after a poll of its Read.
-use Rattle.std.proofs.Common.{Bool, Err, List, None, Ok, Option, Result, Some, cond, false, subst, sym, true, ℕ, ◌&&◌}
-use Rattle.std.proofs.Common.{◌<◌, ◌∙◌, ◌≡◌, ap}
+use Rattle.std.proofs.Common.{Bool, Err, List, None, Ok, Some, cond, false, subst, sym, true, ℕ, ◌&&◌}
+use Rattle.std.proofs.Common.{◌<◌, ◌≡◌, ap}
 use Rattle.nvme_model.specs.Statuses.{compare_failure, is_success, same_status}
 use Rattle.nvme_model.specs.declared.array.Range.{Range}
 use Rattle.nvme_model.specs.declared.operation.Op.{Op}
@@ -9,9 +9,8 @@ use Rattle.host_laws.specs.Calls.{cqe_status}
 use Rattle.driver_calls.specs.Log.{state_of}
 use Rattle.driver_calls.specs.Says.{call_outcome, one_outcome}
 use Rattle.driver_calls.specs.declared.event.CidState.{CidState}
-use Rattle.driver_calls.specs.declared.event.PortEvent.{PortEvent}
 use Rattle.driver_calls.specs.declared.reply.Reply.{Reply}
-use Rattle.driver_cas.specs.Drivers.{IsBack, IsCallOf, SaysOfPort, answer_to, area_of, made, poll_answer}
+use Rattle.driver_cas.specs.Drivers.{IsBack, IsCallOf, SaysOfPort, answer_to, made, poll_answer}
 use Rattle.driver_cas.specs.declared.call.Call.{Call}
 use Rattle.driver_cas.specs.declared.call.Poll.{Poll}
 use Rattle.driver_cas.specs.declared.driver.Driver.{Driver}

@@ -1,10 +1,9 @@
 -- What was begun and what is held, where the driver did nothing.
-use Rattle.std.proofs.Common.{List, ap, inl, subst, sym, ℕ, ◌<◌, ◌≡◌}
+use Rattle.std.proofs.Common.{ap, inl, subst, sym, ◌<◌}
 use Rattle.nvme_model.specs.declared.array.Range.{Range}
 use Rattle.driver_cas.specs.Cids.{QueueCids, held}
-use Rattle.driver_calls.specs.declared.event.PortEvent.{PortEvent}
 use Rattle.driver_cas.proofs.Drivers.{reaped_calls}
-use Rattle.driver_cas.specs.Drivers.{IsCallOf, area_of, made}
+use Rattle.driver_cas.specs.Drivers.{IsCallOf}
 use Rattle.driver_cas.specs.Starts.{IsUntouched}
 use Rattle.driver_cas.specs.Tables.{is_free}
 use Rattle.driver_cas.specs.declared.call.Call.{Call}
@@ -12,12 +11,10 @@ use Rattle.driver_cas.specs.declared.driver.Driver.{Driver}
 use Rattle.driver_cas.specs.declared.port.Port.{Ghosts}
 use Rattle.slot_alloc.specs.Progresses.{IsQuiet}
 use Rattle.slot_takeover.specs.Holders.{IsReadingOf}
-use Rattle.slot_takeover.specs.Takeovers.{HoldsTaken, IsGivingBackOf, IsTakingOverOf}
-use Rattle.slot_takeover.specs.declared.giving_back.GivingBack.{GivingBack}
+use Rattle.slot_takeover.specs.Takeovers.{HoldsTaken, IsTakingOverOf}
 use Rattle.slot_takeover.specs.declared.held.HeldSlot.{HeldSlot}
 use Rattle.slot_takeover.specs.declared.holder.ReadingHolder.{ReadingHolder}
 use Rattle.slot_takeover.specs.declared.taking.TakingOver.{TakingOver}
-use Rattle.slot_takeover.proofs.Giving.{giving_polled}
 use Rattle.slot_takeover.proofs.Answering.{held_more, taking_polled}
 
 module _ {P : Type 0} (g : Ghosts P) where
@@ -33,10 +30,6 @@ module _ {P : Type 0} (g : Ghosts P) where
   pub taking_kept : ((a b c : P) → g.follows a b → g.follows b c → g.follows a c)
       → (d e : Driver P g) (k : TakingOver P) → IsUntouched d e → IsTakingOverOf d k → IsTakingOverOf e k
   taking_kept on d e k u of = taking_polled g d e k of (quiet d e u) (call_kept on d e u k.call of.of)
-
-  pub giving_kept : ((a b c : P) → g.follows a b → g.follows b c → g.follows a c)
-      → (d e : Driver P g) (k : GivingBack P) → IsUntouched d e → IsGivingBackOf d k → IsGivingBackOf e k
-  giving_kept on d e k u of = giving_polled g d e k of (quiet d e u) (call_kept on d e u k.call of.of)
 
   pub reading_kept : ((a b c : P) → g.follows a b → g.follows b c → g.follows a c)
       → (d e : Driver P g) (k : ReadingHolder P) → IsUntouched d e → IsReadingOf d k → IsReadingOf e k

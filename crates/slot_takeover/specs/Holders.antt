@@ -3,7 +3,6 @@ use Rattle.std.specs.Prelude.{Err, List, None, Ok, Option, Result, Some, [], byt
 use Rattle.nvme_model.specs.Array.{zeros}
 use Rattle.nvme_model.specs.Slots.{Name, name_of}
 use Rattle.nvme_model.specs.declared.operation.Op.{Op}
-use Rattle.driver_calls.specs.Says.{IsCallIn}
 use Rattle.driver_calls.specs.declared.reply.Reply.{Reply}
 use Rattle.driver_calls.specs.declared.request.CallData.{CallData}
 use Rattle.driver_cas.specs.Drivers.{IsCallOf, answer_to, area_of}

@@ -1,12 +1,11 @@
 -- What contracts say of takeovers that were begun, and of slots that were taken over.
-use Rattle.std.specs.Prelude.{Err, List, Ok, Result, false, suc, true, ℕ, ◌<◌, ◌==◌, ◌≡◌, ◌≢◌}
+use Rattle.std.specs.Prelude.{Err, List, Ok, Result, false, suc, true, ℕ, ◌<◌, ◌==◌, ◌≡◌}
 use Rattle.nvme_model.specs.Slots.{Name, slot_block}
 use Rattle.nvme_model.specs.declared.operation.Op.{Op}
 use Rattle.nvme_model.specs.declared.submission.Submission.{Submission}
 use Rattle.driver_calls.specs.Entries.{IsBatch}
-use Rattle.driver_calls.specs.Says.{IsCallIn, call_outcome}
+use Rattle.driver_calls.specs.Says.{IsCallIn}
 use Rattle.driver_calls.specs.declared.event.PortEvent.{PortEvent}
-use Rattle.driver_calls.specs.declared.reply.Reply.{Reply}
 use Rattle.driver_calls.specs.declared.request.CallData.{CallData}
 use Rattle.driver_cas.specs.Drivers.{IsCallOf, area_of, made, number_of}
 use Rattle.driver_cas.specs.SlotStarts.{IsReleaseStart}
@@ -17,9 +16,9 @@ use Rattle.driver_cas.specs.declared.fault.Fault.{Fault}
 use Rattle.driver_cas.specs.declared.port.Port.{Ghosts}
 use Rattle.slot_alloc.specs.Areas.{block_of}
 use Rattle.slot_alloc.specs.SlotRules.{own_name}
-use Rattle.slot_log_laws.specs.Calls.{IsName, IsReleaseIn, IsSentAs}
+use Rattle.slot_alloc.specs.declared.release.Releasing.{Releasing}
+use Rattle.slot_log_laws.specs.Calls.{IsName, IsSentAs}
 use Rattle.slot_log_laws.specs.Swaps.{log_success}
-use Rattle.slot_takeover.specs.declared.giving_back.GivingBack.{GivingBack}
 use Rattle.slot_takeover.specs.declared.held.HeldSlot.{HeldSlot}
 use Rattle.slot_takeover.specs.declared.taking.TakingOver.{TakingOver}
 
@@ -84,16 +83,8 @@ module _ {P : Type 0} {g : Ghosts P} where
     pub success : log_success (made d) queue (suc number) ≡ true
 
   -- the release of the slot is begun, or the slot comes back and it is told why
-  abbrev pub IsGivingBackBegun : Driver P g → Driver P g → HeldSlot → Result (GivingBack P) (HeldSlot × Fault) → Type 0
+  abbrev pub IsGivingBackBegun : Driver P g → Driver P g → HeldSlot → Result (Releasing P) (HeldSlot × Fault) → Type 0
   IsGivingBackBegun d e h (Ok k) = (k.slot ≡ slot_held h) × (k.serial ≡ held_serial h)
       × IsReleaseStart d e (block_of (area_of d) (slot_held h)) (held_serial h) (Ok k.call)
   IsGivingBackBegun d e h (Err x) =
       (x.0 ≡ h) × IsReleaseStart d e (block_of (area_of d) (slot_held h)) (held_serial h) (Err x.1)
-
-  -- The driver began the release of this name, which hasn't ended.
-  pub record IsGivingBackOf (d : Driver P g) (k : GivingBack P) : Type 0 where
-    pub of : IsCallOf d k.call
-    pub does : k.call.op ≡ Op.Pair
-    pub inside : k.slot < (area_of d).blocks
-    pub release : IsReleaseIn (made d) k.call.queue k.call.first k.call.second (number_of d k.call)
-        (block_of (area_of d) k.slot) (own_name d k.serial)

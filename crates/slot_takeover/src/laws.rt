@@ -9,15 +9,16 @@ ghost use Rattle.driver_cas.specs.Ports.{PortFollows, view_of};
 ghost use Rattle.driver_cas.specs.Starts.{IsUntouched};
 ghost use Rattle.host_laws.specs.Calls.{PairDiffers, PairSwaps};
 ghost use Rattle.slot_alloc.specs.Areas.{block_of};
+ghost use Rattle.slot_alloc.specs.Claims.{IsReleasingOf};
 ghost use Rattle.slot_alloc.specs.SlotRules.{own_name};
+ghost use Rattle.slot_alloc.specs.declared.release.Releasing.{Releasing};
 ghost use Rattle.slot_log_laws.specs.Swaps.{log_released};
 ghost use Rattle.host_laws.specs.Rules.{is_cut_off, takeover_disciplined};
 ghost use Rattle.host_laws.specs.Takeovers.{still_believed};
 ghost use Rattle.slot_takeover.specs.Holders.{IsReadingOf};
 ghost use Rattle.slot_takeover.specs.Polls.{IsTakeoverPolled};
-ghost use Rattle.slot_takeover.specs.Takeovers.{HoldsTaken, IsGivingBackOf, IsTakingOverOf, held_serial, slot_held};
+ghost use Rattle.slot_takeover.specs.Takeovers.{HoldsTaken, IsTakingOverOf, held_serial, slot_held};
 ghost use Rattle.slot_takeover.specs.Takeovers.{takeover_call};
-ghost use Rattle.slot_takeover.specs.declared.giving_back.GivingBack.{GivingBack};
 ghost use Rattle.slot_takeover.specs.declared.held.HeldSlot.{HeldSlot};
 ghost use Rattle.slot_takeover.specs.declared.holder.ReadingHolder.{ReadingHolder};
 ghost use Rattle.slot_takeover.specs.declared.polling.TakeoverProgress.{TakeoverProgress};
@@ -36,7 +37,7 @@ pub fn an_untouched_driver_keeps_its_takeovers<P: Port>(old: &Snapshot<Driver<P>
     ensures held { IsUntouched old.now.value new.now →
         (h : HeldSlot) → HoldsTaken old.now.value h → HoldsTaken new.now h }
     ensures giving { IsUntouched old.now.value new.now →
-        (k : GivingBack P) → IsGivingBackOf old.now.value k → IsGivingBackOf new.now k }
+        (k : Releasing P) → IsReleasingOf old.now.value k → IsReleasingOf new.now k }
     ensures reading { IsUntouched old.now.value new.now →
         (k : ReadingHolder P) → IsReadingOf old.now.value k → IsReadingOf new.now k }
 {

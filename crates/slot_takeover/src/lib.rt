@@ -8,7 +8,7 @@ pub mod laws;
 mod polling;
 mod taking;
 
-pub use giving_back::{GivenBack, GivingBack, give_back, poll_given_back};
+pub use giving_back::give_back;
 pub use held::HeldSlot;
 pub use holder::{Holder, HolderPoll, ReadingHolder, poll_holder, read_holder};
 pub use polling::{TakeoverProgress, poll_takeover};

@@ -27,7 +27,7 @@ pub enum TakeoverProgress<P> {
 }
 
 // Whether a pair's effect said yes.
-pub(crate) fn is_swapped(reply: Reply) -> bool
+fn is_swapped(reply: Reply) -> bool
     ensures yes { result ≡ true → reply ≡ Reply.Swapped }
     ensures no_other { result ≡ false → reply ≢ Reply.Swapped }
 {

@@ -1,21 +1,20 @@
 //! The program of docs/SLOTS.md: two hosts and one slot, on one thread with the server of their controller.
 #![tactic(auto)]
 
-ghost use Rattle.std.specs.Prelude.{IfSome, ◌≡◌};
+ghost use Rattle.std.specs.Prelude.{IfSome};
+ghost use Rattle.example_hosts.specs.Hosts.{IsLockHost};
 ghost use Rattle.shared_system.specs.Callers.{IsWorkerOf};
-ghost use Rattle.slot_alloc.specs.Areas.{area};
 ghost use Rattle.slot_alloc.specs.Claims.{IsHeldBy, IsReleasingOf};
-ghost use Rattle.slots_example.specs.Hosts.{IsLockHost};
 
-mod host;
 mod polling;
 
 use driver_cas::SharedPort;
+use example_hosts::{listens, next_host, next_server};
 use history::Config;
-use host::{LockHost, Parties, listens, parties_of};
 use polling::{held_by, polled, polled_release};
+use race_hosts::Host;
 use shared_system::{System, WorkerPasses, serve, system_of};
-use slot_alloc::{Claim, Progress, Releasing, Slots};
+use slot_alloc::{Claim, Progress, Releasing};
 use std::process::ExitCode;
 use std::sync::Wait;
 
@@ -24,23 +23,21 @@ fn claims<R: Wait, G>(
     rt: &R,
     system: &System<G>,
     server: &mut WorkerPasses,
-    slots: &Slots,
-    host: &mut LockHost<'_>,
+    host: &mut Host<'_>,
 ) -> Option<Claim>
-    requires own { IsWorkerOf system.now server.old × IsLockHost system.now slots.now host.old }
-    requires slots { area slots.now ≡ record { slba = 0; blocks = 1 } }
-    ensures own { IsWorkerOf system.now server.new × IsLockHost system.now slots.now host.new }
+    requires own { IsWorkerOf system.now server.old × IsLockHost system.now host.old }
+    ensures own { IsWorkerOf system.now server.new × IsLockHost system.now host.new }
     ensures held { IfSome result (IsHeldBy host.new.driver) }
 {
-    let Ok(claiming) = slots.claim(&mut host.driver, 0) else {
+    let Ok(claiming) = host.slots.claim(&mut host.driver, 0) else {
         return None;
     };
     serve(rt, system, server, host.queue);
-    listens(rt, system, slots, host);
-    listens(rt, system, slots, host);
-    match polled(system, slots, host, claiming) {
+    listens(rt, system, host);
+    listens(rt, system, host);
+    match polled(system, host, claiming) {
         Progress::Pending(claiming) => {
-            let progress = polled(system, slots, host, claiming);
+            let progress = polled(system, host, claiming);
             held_by(host, progress)
         }
         progress => held_by(host, progress),
@@ -52,20 +49,19 @@ fn ends<'a, R: Wait, G>(
     rt: &R,
     system: &System<G>,
     server: &mut WorkerPasses,
-    slots: &Slots,
-    host: &mut LockHost<'a>,
+    host: &mut Host<'a>,
     releasing: Releasing<SharedPort<'a>>,
 ) -> bool
-    requires own { IsWorkerOf system.now server.old × IsLockHost system.now slots.now host.old }
+    requires own { IsWorkerOf system.now server.old × IsLockHost system.now host.old }
     requires releasing { IsReleasingOf host.old.driver releasing }
-    ensures own { IsWorkerOf system.now server.new × IsLockHost system.now slots.now host.new }
+    ensures own { IsWorkerOf system.now server.new × IsLockHost system.now host.new }
 {
     serve(rt, system, server, host.queue);
-    listens(rt, system, slots, host);
-    listens(rt, system, slots, host);
-    match polled_release(system, slots, host, releasing) {
+    listens(rt, system, host);
+    listens(rt, system, host);
+    match polled_release(system, host, releasing) {
         Ok(done) => done,
-        Err(releasing) => match polled_release(system, slots, host, releasing) {
+        Err(releasing) => match polled_release(system, host, releasing) {
             Ok(done) => done,
             Err(_) => false,
         },
@@ -77,16 +73,15 @@ fn releases<R: Wait, G>(
     rt: &R,
     system: &System<G>,
     server: &mut WorkerPasses,
-    slots: &Slots,
-    host: &mut LockHost<'_>,
+    host: &mut Host<'_>,
     claim: Claim,
 ) -> bool
-    requires own { IsWorkerOf system.now server.old × IsLockHost system.now slots.now host.old }
+    requires own { IsWorkerOf system.now server.old × IsLockHost system.now host.old }
     requires held { IsHeldBy host.old.driver claim }
-    ensures own { IsWorkerOf system.now server.new × IsLockHost system.now slots.now host.new }
+    ensures own { IsWorkerOf system.now server.new × IsLockHost system.now host.new }
 {
-    match slots.release(&mut host.driver, claim) {
-        Ok(releasing) => ends(rt, system, server, slots, host, releasing),
+    match host.slots.release(&mut host.driver, claim) {
+        Ok(releasing) => ends(rt, system, server, host, releasing),
         Err((claim, _)) => {
             claim.leave();
             false
@@ -102,29 +97,35 @@ fn leaves(claim: Option<Claim>) -> Option<(u32, u64)> {
     }
 }
 
-fn runs<R: AllocGlobal + Print + Wait>(rt: &R) -> Option<()> {
-    // One slot, block 0, of a controller of two queue pairs; host h uses queue h.
-    let slots = Slots::new(0, 1);
-    let Ok(config) = Config::new(8, 1, 1, 0, 0, 2, 4, 4, 8) else {
-        return None;
-    };
-    let Ok((system, callers)) = system_of(rt.alloc(), config, (), 1) else {
-        return None;
-    };
-    let Parties {
-        mut server,
-        mut one,
-        mut two,
-    } = parties_of(rt.alloc(), &config, &system, &slots, callers)?;
-    let Some(claim) = claims(rt, &system, &mut server, &slots, &mut one) else {
-        return None;
-    };
-    let second = leaves(claims(rt, &system, &mut server, &slots, &mut two));
-    let released = releases(rt, &system, &mut server, &slots, &mut one, claim);
-    let third = leaves(claims(rt, &system, &mut server, &slots, &mut two));
+// Host 1 claims the slot, host 2 claims it in vain, and gets it once host 1 has released it.
+fn plays<R: Print + Wait, G>(
+    rt: &R,
+    system: &System<G>,
+    server: &mut WorkerPasses,
+    one: &mut Host<'_>,
+    two: &mut Host<'_>,
+) -> Option<()>
+    requires { IsWorkerOf system.now server.old × IsLockHost system.now one.old × IsLockHost system.now two.old }
+{
+    let claim = claims(rt, system, server, one)?;
+    let second = leaves(claims(rt, system, server, two));
+    let released = releases(rt, system, server, one, claim);
+    let third = leaves(claims(rt, system, server, two));
     println!(rt; "host 1 holds slot 0, and host 2 claims it: {second:?}").ok()?;
     println!(rt; "host 1 releases it: {released}").ok()?;
     println!(rt; "host 2 claims it, and leaves it held, slot and serial: {third:?}").ok()
+}
+
+fn runs<R: AllocGlobal + Print + Wait>(rt: &R) -> Option<()> {
+    // A controller of two queue pairs; host h uses queue h, and its one slot is block 0.
+    let config = Config::new(8, 1, 1, 0, 0, 2, 4, 4, 8).ok()?;
+    let Ok((system, mut callers)) = system_of(rt.alloc(), config, (), 1) else {
+        return None;
+    };
+    let mut server = next_server(&system, &config, &mut callers)?;
+    let mut one = next_host(rt.alloc(), &config, &system, &mut callers)?;
+    let mut two = next_host(rt.alloc(), &config, &system, &mut callers)?;
+    plays(rt, &system, &mut server, &mut one, &mut two)
 }
 
 fn main(rt: HostRuntime) -> ExitCode {

@@ -12,8 +12,7 @@ use Rattle.nvme_model.specs.EntryBytes.{slba}
 use Rattle.nvme_model.specs.History.{Past}
 use Rattle.nvme_model.specs.Legal.{IsLegal}
 use Rattle.nvme_model.specs.Medium.{medium}
-use Rattle.nvme_model.specs.Open.{blocks_made, blocks_of, differed, grants_of, is_differs, is_read_found, is_written}
-use Rattle.nvme_model.specs.Open.{open_units}
+use Rattle.nvme_model.specs.Open.{blocks_made}
 use Rattle.nvme_model.specs.Open
 use Rattle.nvme_model.specs.Operations.{compare_data, op}
 use Rattle.ticket_laws.specs.Standing.{OpenUnit, standing}

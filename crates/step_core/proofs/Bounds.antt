@@ -4,12 +4,11 @@ use Rattle.std.proofs.Common.{slice_get}
 use Rattle.std.proofs.lemmas.List.Sums.{sum_by-take-drop}
 use Rattle.nvme_model.specs.declared.array.Range.{Range}
 use Rattle.nvme_model.specs.declared.config.ConfigNumbers.{ConfigNumbers}
-use Rattle.nvme_model.specs.declared.operation.Op.{Op}
-use Rattle.nvme_model.specs.Config.{config_fault, config_faults}
+use Rattle.nvme_model.specs.Config.{config_fault}
 use Rattle.nvme_model.specs.EntryBytes.{block_count, slba}
 use Rattle.nvme_model.specs.History.{Past}
 use Rattle.nvme_model.specs.Legal.{IsLegal}
-use Rattle.nvme_model.specs.Operations.{op, units, units_by}
+use Rattle.nvme_model.specs.Operations.{op, units}
 use Rattle.ticket_laws.specs.Standing.{Standing, had, blocks_left, remaining, standing}
 use Rattle.nvme_model.specs.Tickets.{first_fields, ticket}
 use Rattle.nvme_model.proofs.Checked.{ticket_checked}

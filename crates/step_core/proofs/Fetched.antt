@@ -1,7 +1,7 @@
 -- What a Fetch requires and what it leaves.
 use Rattle.std.proofs.Common.{◌≡◌, ◌≢◌, ℕ, zero, suc, ◌*◌, ◌+◌, ◌-◌, ◌%◌, ◌≤◌, ◌<◌, ◌^◌, ◌==◌, ◌||◌, true, false, cond}
 use Rattle.std.proofs.Common.{List, [], ◌∷◌, ◌++◌, drop, get_or, length, map, set, take, None, Some, Ok, Bool}
-use Rattle.std.proofs.Common.{slice_get, nat_le, is_none, is_some, refl, sym, ap, ap₂, ◌∙◌, subst, subst₂, arith, inl}
+use Rattle.std.proofs.Common.{slice_get, nat_le, is_none, is_some, refl, sym, ap, ap₂, ◌∙◌, subst, arith, inl}
 use Rattle.std.proofs.Common.{inr, add-zero, eqb, eqb-true, eq-eqb, ne_eqb, nat_lt, ltb-false}
 use Rattle.std.specs.List.{count_by, list_all, list_any}
 use Rattle.std.proofs.Math.Nat.{mod-add-mod}
@@ -36,28 +36,27 @@ use Rattle.nvme_model.proofs.Lists.{Each}
 use Rattle.nvme_model.proofs.Rules.{none_holds}
 use Rattle.ticket_laws.proofs.Unfetched.{fetch_flying, fetch_here, fetch_other, flying_known}
 use Rattle.ticket_laws.proofs.Waiting.{fetch_waits}
-use Rattle.fused_match.specs.Judged.{verdict_by}
+use Rattle.fused_match.specs.Judged.{IsSound, IsSoundFor, verdict_by}
+use Rattle.fused_match.proofs.Sound.{sound_for, sound_of}
 use Rattle.job_table.specs.Jobs.{JobTable, all_jobs_below, jobs_by}
 use Rattle.job_table.specs.Keeping.{Keeping}
 use Rattle.job_table.specs.declared.jobs.InFlight.{InFlight}
 use Rattle.job_table.proofs.Tables.{all_jobs_below-jobs_by, push-jobs_by}
 use Rattle.range_reserve.specs.Reserved.{by_ticket, held_of}
 use Rattle.range_reserve.specs.declared.held.HeldRange.{HeldRange}
-use Rattle.job_table.specs.Stages.{IsSound}
 use Rattle.rings.specs.Completions.{CompletionRing}
 use Rattle.rings.specs.Submissions.{SubmissionRing, advanced}
 use Rattle.job_table.specs.Beginning.{HasBlocks, read_first, write_first}
-use Rattle.step_core.specs.Found.{IsFront, IsSqRing, first_job, kind_in}
+use Rattle.step_core.specs.Found.{IsFront, IsSqRing, first_job}
 use Rattle.step_core.specs.declared.controller.fetch.Front.{Front}
 use Rattle.rings.specs.Queues.{completion_ring, submission_ring}
 use Rattle.job_table.specs.Tickets.{job_at, job_by, job_table, write_blocks}
 use Rattle.step_core.specs.Kept.{AreAllQueueCids, AreQueueCids, CoreFields, IsCoreOf}
 use Rattle.rings.specs.Used.{UsedCids}
 use Rattle.controller_interface.specs.State.{Room, ControllerState, Serves, TakesRoom, work_of}
-use Rattle.controller_interface.specs.Works.{IsKind, TicketWork}
+use Rattle.controller_interface.specs.Works.{TicketWork}
 use Rattle.controller_interface.specs.declared.answer.Answer.{Answer}
-use Rattle.controller_interface.specs.declared.work.Kind.{Kind}
-use Rattle.step_core.proofs.FetchedJob.{Names, fresh_job, kind_fits, kind_is, sound, ticket_by}
+use Rattle.step_core.proofs.FetchedJob.{Names, fresh_job, judged_is, ticket_by}
 use Rattle.step_core.proofs.FetchedData.{blocks_are, has_blocks}
 use Rattle.step_core.proofs.Fetching.{blocks_most, front_command, full_is}
 use Rattle.rings.proofs.CidCounts.{count_append, same_length, used_at, used_set}
@@ -257,18 +256,14 @@ module _ (c : ConfigNumbers) (past : Past) (fields : CoreFields) (k : IsCoreOf c
   data_is ring is = ap (λ (y : SubmissionRing). write_first x.judged y.waiting) is.is
       ∙ blocks_are t x.judged (waiting past t) names
 
-  -- what it has to do is right
-  pub work_fits : (u : AtomicParameters) (w : Kind) → u ≡ c.atomic → w ≡ kind_in x.judged → IsKind u w
-  work_fits u w e f =
-      subst₂ IsKind (sym e) (sym f)
-      (kind_fits c t x.judged (take (taken_entries (verdict_by x.judged)) (waiting past t))
-      (blocks_most c k.accepted) names
-      checked)
+  -- what was judged is sound
+  pub work_fits : (u : AtomicParameters) → u ≡ c.atomic → IsSoundFor u x.judged
+  work_fits u e = subst (λ (y : AtomicParameters). IsSoundFor y x.judged) (sym e)
+      (sound_for c x.judged (fetched_ticket past t (verdict_by x.judged)) refl a.1.operation a.1.range checked
+      (blocks_most c k.accepted))
 
-  -- and what was judged can be
   pub sound_is : IsSound x.judged
-  sound_is = sound c.atomic t x.judged (take (taken_entries (verdict_by x.judged)) (waiting past t)) names
-      (work_fits c.atomic (kind_in x.judged) refl refl)
+  sound_is = sound_of c.atomic x.judged (work_fits c.atomic refl)
 
   -- ---- what it leaves
 
@@ -435,19 +430,19 @@ module _ (c : ConfigNumbers) (past : Past) (fields : CoreFields) (k : IsCoreOf c
 
   -- the step is done, and the answer is the new ticket and its work
   pub fetch_done : (y : ControllerState) (p : ℕ) (room left : Room) (w : Verdict) (now then : Past) (work : TicketWork)
-      (u : AtomicParameters) (kind : Kind) → record { config = c; past = past; promised = p; room = room } ≡ y
+      (u : AtomicParameters) → record { config = c; past = past; promised = p; room = room } ≡ y
       → w ≡ verdict_by x.judged → now ≡ past
       → then ≡ Entry.Fetch (record { queue = t; ticket = n + 1; verdict = w }) ∷ now → u ≡ c.atomic
-      → kind ≡ kind_in x.judged → work ≡ record { ticket = n + 1; atomic = u; kind = kind }
+      → work ≡ record { ticket = n + 1; atomic = u; judged = x.judged }
       → TakesRoom (Step.Fetch t) room left
       → Serves y (Step.Fetch t) (Ok (Answer.Fetched work))
       (record { config = c; past = then; promised = p; room = left })
-  fetch_done y p room left w now then work u kind view says same pushed units does made takes =
+  fetch_done y p room left w now then work u view says same pushed units made takes =
       let work_is : work ≡ work_of c (Tickets.tickets past + 1) (fetched_ticket past t (next_verdict c past t)) =
       made ∙ (λ i. record {
         ticket = k.count i + 1;
         atomic = units i;
-        kind = (does ∙ kind_is t x.judged (take (taken_entries (verdict_by x.judged)) (waiting past t)) names) i;
+        judged = judged_is t x.judged (take (taken_entries (verdict_by x.judged)) (waiting past t)) names i;
       })
       ∙ ap (λ (v : Verdict). work_of c (Tickets.tickets past + 1) (fetched_ticket past t v)) a.1.verdict in
       let past_is : then ≡ next_entry c past (Step.Fetch t) ∷ past =

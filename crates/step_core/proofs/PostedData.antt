@@ -14,7 +14,7 @@ use Rattle.nvme_model.specs.Statuses.{compare_failure, is_success, success}
 use Rattle.nvme_model.specs.EntryBytes.{block_count, slba}
 use Rattle.nvme_model.specs.History.{Past}
 use Rattle.nvme_model.specs.Tickets
-use Rattle.nvme_model.specs.Tickets.{Ticket, first_fields, in_flight, posts_of}
+use Rattle.nvme_model.specs.Tickets.{first_fields, in_flight, posts_of}
 use Rattle.nvme_model.specs.Operations.{has_compare, op, op_by, units, units_by}
 use Rattle.nvme_model.specs.Open.{differed, grants_of, unit_range}
 use Rattle.nvme_model.specs.Placed.{effect}

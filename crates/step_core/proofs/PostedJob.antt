@@ -9,7 +9,7 @@ use Rattle.nvme_model.specs.declared.entry.PostLine.{PostLine}
 use Rattle.nvme_model.specs.EntryBytes.{sqe_fields}
 use Rattle.nvme_model.specs.History.{Past}
 use Rattle.nvme_model.specs.Tickets
-use Rattle.nvme_model.specs.Tickets.{Ticket, cids, first_fields, in_flight, posts_of}
+use Rattle.nvme_model.specs.Tickets.{cids, in_flight, posts_of}
 use Rattle.ticket_laws.specs.Standing.{Standing, flying, standing}
 use Rattle.ticket_laws.proofs.Standings.{post_here, post_other, post_flying_on, post_flying_off}
 use Rattle.ticket_laws.proofs.Waiting.{drop_twice}

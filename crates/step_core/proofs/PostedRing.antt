@@ -11,7 +11,6 @@ use Rattle.nvme_model.specs.Tickets.{ticket}
 use Rattle.nvme_model.specs.Completions.{posted_completions, reaped_count}
 use Rattle.nvme_model.specs.Legal.{IsLegal}
 use Rattle.nvme_model.proofs.Runs.{reaped_posted}
-use Rattle.entry_codec.specs.Cqe.{phase_bit}
 use Rattle.rings.specs.Completions.{QueueCompletions, CompletionRing, ShowsCompleted, posted_ring}
 use Rattle.rings.specs.declared.completion_ring.Completion.{Completion}
 use Rattle.rings.proofs.Counts.{completed_more}

@@ -21,15 +21,12 @@ use Rattle.rings.specs.Completions.{CompletionRing}
 use Rattle.rings.specs.Queues.{completion_ring, submission_ring}
 use Rattle.rings.specs.Submissions.{SubmissionRing}
 use Rattle.fused_match.specs.Judged.{NamesBlocks, operation_in, verdict_by}
-use Rattle.fused_match.specs.declared.judged.Judged.{Judged}
-use Rattle.fused_match.specs.declared.judged.Judged.TheVariants as judged
 use Rattle.job_table.specs.Stages.{first_ticket_stage, unit_in}
 use Rattle.job_table.specs.Keeping.{Keeping}
 use Rattle.job_table.specs.Tickets.{compare_by, job_at}
 use Rattle.step_core.specs.declared.controller.fetch.Front.{Front}
 use Rattle.step_core.specs.declared.controller.next.ReadyStep.{ReadyStep}
 use Rattle.step_core.specs.declared.controller.post.Due.{Due}
-use Rattle.controller_interface.specs.declared.work.Kind.{Kind}
 
 -- a submission queue and its ring
 pub record IsSqRing (c : ConfigNumbers) (past : Past) (q : ℕ) (r : SubmissionRing) : Type 0 where
@@ -69,14 +66,6 @@ pub record IsFront (c : ConfigNumbers) (past : Past) (q : ℕ) (f : Front) : Typ
   pub range : NamesBlocks f.judged (first_fields (fetched_ticket past q (verdict_by f.judged)))
   pub cids : f.cids ≡ cids (fetched_ticket past q (verdict_by f.judged))
   pub slba : f.slba ≡ slba (first_fields (fetched_ticket past q (verdict_by f.judged)))
-
--- what a ticket that was judged so has to do
-abbrev pub kind_in : Judged → Kind
-kind_in judged.Flush = Kind.Flush
-kind_in (judged.Single o r) = Kind.Units o r
-kind_in (judged.Pair r) = Kind.Pair r
-kind_in (judged.SingleFailed s) = Kind.Failed 1
-kind_in (judged.PairFailed s r) = Kind.Failed 2
 
 -- what is kept of a ticket that begins, with these blocks to write and this room for what it reads
 abbrev pub first_job : ℕ → Front → Submission → List (List ℕ) → List ℕ → Keeping

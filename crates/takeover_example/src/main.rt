@@ -2,25 +2,30 @@
 //! controller.
 #![tactic(auto)]
 
-ghost use Rattle.std.specs.Prelude.{IfSome, ◌≡◌};
+ghost use Rattle.std.specs.Prelude.{IfSome};
+ghost use Rattle.example_hosts.specs.Hosts.{IsSlotHost};
 ghost use Rattle.shared_system.specs.Callers.{IsWorkerOf};
-ghost use Rattle.slot_alloc.specs.Areas.{area};
 ghost use Rattle.slot_takeover.specs.Takeovers.{HoldsTaken, IsTakingOverOf};
-ghost use Rattle.takeover_example.specs.Hosts.{IsSlotHost};
 
-mod host;
 mod polling;
 
 use driver_cas::SharedPort;
+use example_hosts::{next_host, next_server};
 use history::Config;
-use host::{Parties, SlotHost, parties_of};
 use nvme_model::Name;
 use polling::{holder_read, is_given_back, won};
+use race_hosts::Host;
 use shared_system::{System, WorkerPasses, serve, system_of};
-use slot_alloc::Slots;
 use slot_takeover::{HeldSlot, Holder, TakingOver, give_back, read_holder, take_over};
 use std::process::ExitCode;
 use std::sync::Wait;
+
+// The host begins to claim slot 0; whether that was published.
+fn claims<G>(_system: &System<G>, host: &mut Host<'_>) -> bool
+    requires { IsSlotHost _system.now host.old }
+{
+    host.slots.claim(&mut host.driver, 0).is_ok()
+}
 
 // The host claims slot 0, and dies: nobody asks what came of its claim, and its driver goes with it. So it is fenced,
 // and nothing is published on its queues from here on. What it published is served. Whether it was published.
@@ -28,15 +33,13 @@ fn claims_and_dies<R: Wait, G>(
     rt: &R,
     system: &System<G>,
     server: &mut WorkerPasses,
-    slots: &Slots,
-    mut host: SlotHost<'_>,
+    mut host: Host<'_>,
 ) -> bool
     requires server { IsWorkerOf system.now server.old }
-    requires host { IsSlotHost system.now slots.now host }
-    requires slots { area slots.now ≡ record { slba = 0; blocks = 1 } }
+    requires host { IsSlotHost system.now host }
     ensures server { IsWorkerOf system.now server.new }
 {
-    let is_published = slots.claim(&mut host.driver, 0).is_ok();
+    let is_published = claims(system, &mut host);
     let queue = host.queue;
     drop(host);
     serve(rt, system, server, queue);
@@ -48,16 +51,14 @@ fn reads<R: Wait, G>(
     rt: &R,
     system: &System<G>,
     server: &mut WorkerPasses,
-    slots: &Slots,
-    host: &mut SlotHost<'_>,
+    host: &mut Host<'_>,
 ) -> Option<Holder>
-    requires own { IsWorkerOf system.now server.old × IsSlotHost system.now slots.now host.old }
-    requires slots { area slots.now ≡ record { slba = 0; blocks = 1 } }
-    ensures own { IsWorkerOf system.now server.new × IsSlotHost system.now slots.now host.new }
+    requires own { IsWorkerOf system.now server.old × IsSlotHost system.now host.old }
+    ensures own { IsWorkerOf system.now server.new × IsSlotHost system.now host.new }
 {
-    let reading = read_holder(slots, &mut host.driver, 0).ok()?;
+    let reading = read_holder(&host.slots, &mut host.driver, 0).ok()?;
     serve(rt, system, server, host.queue);
-    holder_read(rt, system, slots, host, reading)
+    holder_read(rt, system, host, reading)
 }
 
 // The name of a host that died: its number, and the serial of its claim.
@@ -87,52 +88,14 @@ fn holder_word(holder: Holder) -> &'static str {
     }
 }
 
-// The name under which slot 0 is held, where the host is told one.
-fn reads_name<R: Wait, G>(
-    rt: &R,
-    system: &System<G>,
-    server: &mut WorkerPasses,
-    slots: &Slots,
-    host: &mut SlotHost<'_>,
-) -> Option<DeadName>
-    requires own { IsWorkerOf system.now server.old × IsSlotHost system.now slots.now host.old }
-    requires slots { area slots.now ≡ record { slba = 0; blocks = 1 } }
-    ensures own { IsWorkerOf system.now server.new × IsSlotHost system.now slots.now host.new }
-{
-    match reads(rt, system, server, slots, host) {
-        Some(holder) => dead_name_of(holder),
-        None => None,
-    }
-}
-
-// Who holds slot 0, in a word, where the host is told.
-fn reads_word<R: Wait, G>(
-    rt: &R,
-    system: &System<G>,
-    server: &mut WorkerPasses,
-    slots: &Slots,
-    host: &mut SlotHost<'_>,
-) -> Option<&'static str>
-    requires own { IsWorkerOf system.now server.old × IsSlotHost system.now slots.now host.old }
-    requires slots { area slots.now ≡ record { slba = 0; blocks = 1 } }
-    ensures own { IsWorkerOf system.now server.new × IsSlotHost system.now slots.now host.new }
-{
-    match reads(rt, system, server, slots, host) {
-        Some(holder) => Some(holder_word(holder)),
-        None => None,
-    }
-}
-
 // The host begins to take slot 0 over from a name of another host.
 fn begins<'a, G>(
     _system: &System<G>,
-    slots: &Slots,
-    host: &mut SlotHost<'a>,
+    host: &mut Host<'a>,
     dead: DeadName,
 ) -> Option<TakingOver<SharedPort<'a>>>
-    requires host { IsSlotHost _system.now slots.now host.old }
-    requires slots { area slots.now ≡ record { slba = 0; blocks = 1 } }
-    ensures host { IsSlotHost _system.now slots.now host.new }
+    requires host { IsSlotHost _system.now host.old }
+    ensures host { IsSlotHost _system.now host.new }
     ensures taking { IfSome result (IsTakingOverOf host.new.driver) }
 {
     if dead.host == u32::from(host.queue) || dead.host == 0 || dead.serial == 0 {
@@ -142,7 +105,7 @@ fn begins<'a, G>(
         host: dead.host,
         serial: dead.serial,
     };
-    take_over(slots, &mut host.driver, 0, name).ok()
+    take_over(&host.slots, &mut host.driver, 0, name).ok()
 }
 
 // The host gives slot 0 back; whether that is done. Else the slot may stay held.
@@ -150,18 +113,17 @@ fn gives<R: Wait, G>(
     rt: &R,
     system: &System<G>,
     server: &mut WorkerPasses,
-    slots: &Slots,
-    host: &mut SlotHost<'_>,
+    host: &mut Host<'_>,
     held: HeldSlot,
 ) -> bool
-    requires own { IsWorkerOf system.now server.old × IsSlotHost system.now slots.now host.old }
+    requires own { IsWorkerOf system.now server.old × IsSlotHost system.now host.old }
     requires held { HoldsTaken host.old.driver held }
-    ensures own { IsWorkerOf system.now server.new × IsSlotHost system.now slots.now host.new }
+    ensures own { IsWorkerOf system.now server.new × IsSlotHost system.now host.new }
 {
-    match give_back(slots, &mut host.driver, held) {
+    match give_back(&host.slots, &mut host.driver, held) {
         Ok(giving) => {
             serve(rt, system, server, host.queue);
-            is_given_back(rt, system, slots, host, giving)
+            is_given_back(rt, system, host, giving)
         }
         Err((held, _)) => {
             held.leave();
@@ -176,27 +138,25 @@ fn both_take_over<R: Wait, G>(
     rt: &R,
     system: &System<G>,
     server: &mut WorkerPasses,
-    slots: &Slots,
-    first: &mut SlotHost<'_>,
-    second: &mut SlotHost<'_>,
+    first: &mut Host<'_>,
+    second: &mut Host<'_>,
     dead: DeadName,
 ) -> Option<(bool, bool)>
     requires server { IsWorkerOf system.now server.old }
-    requires first { IsSlotHost system.now slots.now first.old }
-    requires second { IsSlotHost system.now slots.now second.old }
-    requires slots { area slots.now ≡ record { slba = 0; blocks = 1 } }
+    requires first { IsSlotHost system.now first.old }
+    requires second { IsSlotHost system.now second.old }
     ensures server { IsWorkerOf system.now server.new }
-    ensures first { IsSlotHost system.now slots.now first.new }
-    ensures second { IsSlotHost system.now slots.now second.new }
+    ensures first { IsSlotHost system.now first.new }
+    ensures second { IsSlotHost system.now second.new }
 {
-    let one = begins(system, slots, first, dead)?;
-    let two = begins(system, slots, second, dead)?;
+    let one = begins(system, first, dead)?;
+    let two = begins(system, second, dead)?;
     serve(rt, system, server, first.queue);
     serve(rt, system, server, second.queue);
-    let one = won(rt, system, slots, first, one);
-    let two = won(rt, system, slots, second, two);
-    let one = ends(rt, system, server, slots, first, one);
-    let two = ends(rt, system, server, slots, second, two);
+    let one = won(rt, system, first, one);
+    let two = won(rt, system, second, two);
+    let one = ends(rt, system, server, first, one);
+    let two = ends(rt, system, server, second, two);
     Some((one, two))
 }
 
@@ -205,39 +165,36 @@ fn ends<R: Wait, G>(
     rt: &R,
     system: &System<G>,
     server: &mut WorkerPasses,
-    slots: &Slots,
-    host: &mut SlotHost<'_>,
+    host: &mut Host<'_>,
     held: Option<HeldSlot>,
 ) -> bool
-    requires own { IsWorkerOf system.now server.old × IsSlotHost system.now slots.now host.old }
+    requires own { IsWorkerOf system.now server.old × IsSlotHost system.now host.old }
     requires held { IfSome held (HoldsTaken host.old.driver) }
-    ensures own { IsWorkerOf system.now server.new × IsSlotHost system.now slots.now host.new }
+    ensures own { IsWorkerOf system.now server.new × IsSlotHost system.now host.new }
 {
     match held {
-        Some(held) => gives(rt, system, server, slots, host, held),
+        Some(held) => gives(rt, system, server, host, held),
         None => false,
     }
 }
 
-fn runs<R: AllocGlobal + Print + Wait>(rt: &R) -> Option<()> {
-    // One slot, block 0, of a controller of three queue pairs; host h uses queue h.
-    let slots = Slots::new(0, 1);
-    let Ok(config) = Config::new(8, 1, 1, 0, 0, 3, 4, 4, 8) else {
-        return None;
-    };
-    let Ok((system, callers)) = system_of(rt.alloc(), config, (), 1) else {
-        return None;
-    };
-    let Parties {
-        mut server,
-        one,
-        mut two,
-        mut three,
-    } = parties_of(rt.alloc(), &config, &system, &slots, callers)?;
-    let claimed = claims_and_dies(rt, &system, &mut server, &slots, one);
-    let dead = reads_name(rt, &system, &mut server, &slots, &mut two)?;
-    let done = both_take_over(rt, &system, &mut server, &slots, &mut two, &mut three, dead)?;
-    let holder = reads_word(rt, &system, &mut server, &slots, &mut three)?;
+// Host 1 claims the slot and dies, and hosts 2 and 3 take it over.
+fn plays<R: Print + Wait, G>(
+    rt: &R,
+    system: &System<G>,
+    server: &mut WorkerPasses,
+    one: Host<'_>,
+    two: &mut Host<'_>,
+    three: &mut Host<'_>,
+) -> Option<()>
+    requires server { IsWorkerOf system.now server.old }
+    requires one { IsSlotHost system.now one }
+    requires survivors { IsSlotHost system.now two.old × IsSlotHost system.now three.old }
+{
+    let claimed = claims_and_dies(rt, system, server, one);
+    let dead = dead_name_of(reads(rt, system, server, two)?)?;
+    let done = both_take_over(rt, system, server, two, three, dead)?;
+    let holder = holder_word(reads(rt, system, server, three)?);
     println!(rt; "host 1 claims slot 0, and dies: {claimed}").ok()?;
     println!(rt;
         "host 2 reads who holds it: host {}, serial {}",
@@ -246,6 +203,19 @@ fn runs<R: AllocGlobal + Print + Wait>(rt: &R) -> Option<()> {
     .ok()?;
     println!(rt; "hosts 2 and 3 take it over; who has it gives it back: {done:?}").ok()?;
     println!(rt; "host 3 reads who holds it then: {holder}").ok()
+}
+
+fn runs<R: AllocGlobal + Print + Wait>(rt: &R) -> Option<()> {
+    // A controller of three queue pairs; host h uses queue h, and its one slot is block 0.
+    let config = Config::new(8, 1, 1, 0, 0, 3, 4, 4, 8).ok()?;
+    let Ok((system, mut callers)) = system_of(rt.alloc(), config, (), 1) else {
+        return None;
+    };
+    let mut server = next_server(&system, &config, &mut callers)?;
+    let one = next_host(rt.alloc(), &config, &system, &mut callers)?;
+    let mut two = next_host(rt.alloc(), &config, &system, &mut callers)?;
+    let mut three = next_host(rt.alloc(), &config, &system, &mut callers)?;
+    plays(rt, &system, &mut server, one, &mut two, &mut three)
 }
 
 fn main(rt: HostRuntime) -> ExitCode {

@@ -1,17 +1,19 @@
 //! What has come of a question, of a takeover, and of a release.
 
 ghost use Rattle.std.specs.Prelude.{IfErr, IfOk, IfSome};
+ghost use Rattle.example_hosts.specs.Hosts.{IsSlotHost};
+ghost use Rattle.slot_alloc.specs.Claims.{IsReleasingOf};
 ghost use Rattle.slot_takeover.specs.Holders.{IsReadingOf};
-ghost use Rattle.slot_takeover.specs.Takeovers.{HoldsTaken, IsGivingBackOf, IsTakingOverOf};
-ghost use Rattle.takeover_example.specs.Hosts.{IsSlotHost};
+ghost use Rattle.slot_takeover.specs.Takeovers.{HoldsTaken, IsTakingOverOf};
 
-use crate::host::{SlotHost, listens};
 use driver_cas::SharedPort;
+use example_hosts::listens;
+use race_hosts::Host;
 use shared_system::System;
-use slot_alloc::Slots;
+use slot_alloc::{Released, Releasing, poll_release};
 use slot_takeover::{
-    GivenBack, GivingBack, HeldSlot, Holder, HolderPoll, ReadingHolder, TakeoverProgress,
-    TakingOver, poll_given_back, poll_holder, poll_takeover,
+    HeldSlot, Holder, HolderPoll, ReadingHolder, TakeoverProgress, TakingOver, poll_holder,
+    poll_takeover,
 };
 use std::sync::Wait;
 
@@ -29,15 +31,14 @@ fn told<P>(poll: HolderPoll<P>) -> Option<Holder> {
 pub(crate) fn holder_read<'a, R: Wait, G>(
     rt: &R,
     system: &System<G>,
-    slots: &Slots,
-    host: &mut SlotHost<'a>,
+    host: &mut Host<'a>,
     reading: ReadingHolder<SharedPort<'a>>,
 ) -> Option<Holder>
-    requires host { IsSlotHost system.now slots.now host.old }
+    requires host { IsSlotHost system.now host.old }
     requires reading { IsReadingOf host.old.driver reading }
-    ensures host { IsSlotHost system.now slots.now host.new }
+    ensures host { IsSlotHost system.now host.new }
 {
-    listens(rt, system, slots, host);
+    listens(rt, system, host);
     told(poll_holder(&mut host.driver, reading))
 }
 
@@ -45,17 +46,16 @@ pub(crate) fn holder_read<'a, R: Wait, G>(
 fn polled<'a, R: Wait, G>(
     rt: &R,
     system: &System<G>,
-    slots: &Slots,
-    host: &mut SlotHost<'a>,
+    host: &mut Host<'a>,
     taking: TakingOver<SharedPort<'a>>,
 ) -> Result<Option<HeldSlot>, TakingOver<SharedPort<'a>>>
-    requires host { IsSlotHost system.now slots.now host.old }
+    requires host { IsSlotHost system.now host.old }
     requires taking { IsTakingOverOf host.old.driver taking }
-    ensures host { IsSlotHost system.now slots.now host.new }
+    ensures host { IsSlotHost system.now host.new }
     ensures held { IfOk result (λ h. IfSome h (HoldsTaken host.new.driver)) }
     ensures back { IfErr result (IsTakingOverOf host.new.driver) }
 {
-    listens(rt, system, slots, host);
+    listens(rt, system, host);
     match poll_takeover(&mut host.driver, taking) {
         TakeoverProgress::Pending(taking) => Err(taking),
         TakeoverProgress::Held(held) => Ok(Some(held)),
@@ -69,18 +69,17 @@ fn polled<'a, R: Wait, G>(
 pub(crate) fn won<'a, R: Wait, G>(
     rt: &R,
     system: &System<G>,
-    slots: &Slots,
-    host: &mut SlotHost<'a>,
+    host: &mut Host<'a>,
     taking: TakingOver<SharedPort<'a>>,
 ) -> Option<HeldSlot>
-    requires host { IsSlotHost system.now slots.now host.old }
+    requires host { IsSlotHost system.now host.old }
     requires taking { IsTakingOverOf host.old.driver taking }
-    ensures host { IsSlotHost system.now slots.now host.new }
+    ensures host { IsSlotHost system.now host.new }
     ensures held { IfSome result (HoldsTaken host.new.driver) }
 {
-    match polled(rt, system, slots, host, taking) {
+    match polled(rt, system, host, taking) {
         Ok(held) => held,
-        Err(taking) => match polled(rt, system, slots, host, taking) {
+        Err(taking) => match polled(rt, system, host, taking) {
             Ok(held) => held,
             Err(_) => None,
         },
@@ -91,20 +90,19 @@ pub(crate) fn won<'a, R: Wait, G>(
 fn polled_release<'a, R: Wait, G>(
     rt: &R,
     system: &System<G>,
-    slots: &Slots,
-    host: &mut SlotHost<'a>,
-    giving: GivingBack<SharedPort<'a>>,
-) -> Result<bool, GivingBack<SharedPort<'a>>>
-    requires host { IsSlotHost system.now slots.now host.old }
-    requires giving { IsGivingBackOf host.old.driver giving }
-    ensures host { IsSlotHost system.now slots.now host.new }
-    ensures back { IfErr result (IsGivingBackOf host.new.driver) }
+    host: &mut Host<'a>,
+    giving: Releasing<SharedPort<'a>>,
+) -> Result<bool, Releasing<SharedPort<'a>>>
+    requires host { IsSlotHost system.now host.old }
+    requires giving { IsReleasingOf host.old.driver giving }
+    ensures host { IsSlotHost system.now host.new }
+    ensures back { IfErr result (IsReleasingOf host.new.driver) }
 {
-    listens(rt, system, slots, host);
-    match poll_given_back(&mut host.driver, giving) {
-        GivenBack::Pending(giving) => Err(giving),
-        GivenBack::Released => Ok(true),
-        GivenBack::Later(_, _) | GivenBack::Failed(_) => Ok(false),
+    listens(rt, system, host);
+    match poll_release(&mut host.driver, giving) {
+        Released::Pending(giving) => Err(giving),
+        Released::Released => Ok(true),
+        Released::Later(_, _) | Released::Failed(_) => Ok(false),
     }
 }
 
@@ -112,17 +110,16 @@ fn polled_release<'a, R: Wait, G>(
 pub(crate) fn is_given_back<'a, R: Wait, G>(
     rt: &R,
     system: &System<G>,
-    slots: &Slots,
-    host: &mut SlotHost<'a>,
-    giving: GivingBack<SharedPort<'a>>,
+    host: &mut Host<'a>,
+    giving: Releasing<SharedPort<'a>>,
 ) -> bool
-    requires host { IsSlotHost system.now slots.now host.old }
-    requires giving { IsGivingBackOf host.old.driver giving }
-    ensures host { IsSlotHost system.now slots.now host.new }
+    requires host { IsSlotHost system.now host.old }
+    requires giving { IsReleasingOf host.old.driver giving }
+    ensures host { IsSlotHost system.now host.new }
 {
-    match polled_release(rt, system, slots, host, giving) {
+    match polled_release(rt, system, host, giving) {
         Ok(done) => done,
-        Err(giving) => match polled_release(rt, system, slots, host, giving) {
+        Err(giving) => match polled_release(rt, system, host, giving) {
             Ok(done) => done,
             Err(_) => false,
         },

@@ -8,7 +8,7 @@ ghost use Rattle.shared_system.specs.Callers.{IsCallerOf};
 ghost use Rattle.thread_tests.specs.Listening.{IsListening};
 
 use history_check::check;
-use meet_lock::{Declined, Pass};
+use meet_lock::{Pass, Unmade};
 use nvme_model::submission::{Payload, Submission, Submissions};
 use shared_system::{CallerPasses, HostPasses, System};
 use std::alloc::{AllocError as NoMemory, Global};
@@ -16,7 +16,7 @@ use std::sync::Wait;
 use std::test::Fail;
 use std::thread::yield_now;
 use step_core::Core;
-use work_queue::{Notice, Open, Opened};
+use work_queue::Notice;
 
 /// How often a host looks for a notice.
 const TURNS: u32 = 20_000_000;
@@ -64,8 +64,8 @@ pub(crate) fn publishes<G>(
     requires { engine.IsPassOfEngine system.now.engine pass.old }
     ensures { IsSame pass.old pass.new }
 {
-    let request = Open::Publish(queue, Submissions::new(batch));
-    system.engine.attempt_open(pass, request).is_ok()
+    let batch = Submissions::new(batch);
+    system.engine.publish(pass, queue, batch).is_ok()
 }
 
 // The next notice.
@@ -106,13 +106,10 @@ fn reaped<R: Wait, G>(rt: &R, system: &System<G>, host: &mut HostPasses) -> Opti
     ensures { IsListening system.now host.new }
 {
     for _ in rt.forever() {
-        match system
-            .engine
-            .attempt_open(&mut host.pass, Open::Reap(host.queue))
-        {
-            Ok(Opened::Reaped { cqe, .. }) => return Some(cqe),
-            Err(Declined::Busy(_)) => yield_now(),
-            Ok(Opened::Published | Opened::Fetched(_)) | Err(Declined::Refused(_)) => break,
+        match system.engine.reap(&mut host.pass, host.queue) {
+            Ok(completion) => return Some(completion.cqe),
+            Err(Unmade::Busy(_)) => yield_now(),
+            Err(Unmade::Refused(_)) => break,
         }
     }
     None

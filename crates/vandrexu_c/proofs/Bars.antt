@@ -30,7 +30,6 @@ slot_open UnderWay.Nothing holds i h = (refl, go (nat_lt i (length holds)) refl 
 slot_open (UnderWay.Claim k) holds i h = some_none 116 h
 slot_open (UnderWay.Release k) holds i h = some_none 116 h
 slot_open (UnderWay.Takeover k) holds i h = some_none 116 h
-slot_open (UnderWay.GiveBack k) holds i h = some_none 116 h
 slot_open (UnderWay.Holder k) holds i h = some_none 116 h
 
 pub claim_open : (h : SlotState) (i : ℕ) → claim_bar h i ≡ None
@@ -47,7 +46,6 @@ nothing_on UnderWay.Nothing e = refl
 nothing_on (UnderWay.Claim k) e = absurd (let f : true ≡ false = e in cc)
 nothing_on (UnderWay.Release k) e = absurd (let f : true ≡ false = e in cc)
 nothing_on (UnderWay.Takeover k) e = absurd (let f : true ≡ false = e in cc)
-nothing_on (UnderWay.GiveBack k) e = absurd (let f : true ≡ false = e in cc)
 nothing_on (UnderWay.Holder k) e = absurd (let f : true ≡ false = e in cc)
 
 pub any_open : (h : SlotState) → any_bar h ≡ None → (h.under_way ≡ UnderWay.Nothing) × (h.took_over ≡ false)

@@ -22,9 +22,8 @@ use Rattle.slot_alloc.specs.declared.claiming.Claiming.{Claiming}
 use Rattle.slot_alloc.specs.declared.release.Releasing.{Releasing}
 use Rattle.slot_alloc.specs.declared.slots.Slots.{Slots}
 use Rattle.slot_takeover.specs.Holders.{IsHolderBegun, IsReadingOf}
-use Rattle.slot_takeover.specs.Takeovers.{HoldsTaken, IsGivingBackBegun, IsGivingBackOf, IsTakeoverBegun}
-use Rattle.slot_takeover.specs.Takeovers.{IsTakingOverOf, held_serial, slot_held}
-use Rattle.slot_takeover.specs.declared.giving_back.GivingBack.{GivingBack}
+use Rattle.slot_takeover.specs.Takeovers.{HoldsTaken, IsGivingBackBegun, IsTakeoverBegun, IsTakingOverOf}
+use Rattle.slot_takeover.specs.Takeovers.{held_serial, slot_held}
 use Rattle.slot_takeover.specs.declared.held.HeldSlot.{HeldSlot}
 use Rattle.slot_takeover.specs.declared.holder.ReadingHolder.{ReadingHolder}
 use Rattle.slot_takeover.specs.declared.taking.TakingOver.{TakingOver}
@@ -78,10 +77,10 @@ release_kept d e number slots holds later took i n c (Err w) u k nothing at held
     (subst (λ (v : UnderWay). IsUnderWay e took v) (sym told.1) tt) (λ f. rules (k.rules f)))
 
 pub give_back_kept : (d e : SlotDriver) (number : ℕ) (slots : Slots) (holds later : List Hold) (took : Bool) (i n : ℕ)
-    (h : HeldSlot) (r : Result (GivingBack SharedPort) (HeldSlot × Fault)) (u : UnderWay)
+    (h : HeldSlot) (r : Result (Releasing SharedPort) (HeldSlot × Fault)) (u : UnderWay)
     → KeepsSlots d number slots holds UnderWay.Nothing took → slice_get holds i ≡ Some Hold.Nothing → slot_held h ≡ i
     → took ≡ true → HoldsTaken d h → IsSameDriver d e → ghosts.follows d.port e.port → IsGivingBackBegun d e h r
-    → IfOk r (λ k. IsGivingBackOf e k) → ReleaseTold UnderWay.GiveBack r n u → later ≡ slot_back holds i r
+    → IfOk r (λ k. IsReleasingOf e k) → ReleaseTold UnderWay.Release r n u → later ≡ slot_back holds i r
     → KeepsSlots e number slots later u took
 give_back_kept d e number slots holds later took i n h (Ok j) u k nothing at old held same follows is of told back =
     let name = own_name d (held_serial h) in

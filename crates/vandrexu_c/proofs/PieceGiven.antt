@@ -1,5 +1,5 @@
 -- What a piece of a history says of the room that its lines are copied into.
-use Rattle.std.proofs.Common.{List, [], ap, arith, drop, inl, inr, length, refl, subst, suc, sym, take, zero, ℕ}
+use Rattle.std.proofs.Common.{List, [], ap, arith, drop, inl, inr, length, refl, suc, sym, take, zero, ℕ}
 use Rattle.std.proofs.Common.{◌+◌, ◌++◌, ◌<◌, ◌∙◌, ◌∷◌, ◌≡◌, ◌≤◌, ◌≢◌, ◌⊎◌}
 use Rattle.std.proofs.lemmas.List.{length-append}
 use Rattle.line_text.specs.Lines.{with_feeds}

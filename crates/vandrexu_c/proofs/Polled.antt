@@ -15,16 +15,14 @@ use Rattle.slot_alloc.specs.declared.progress.Released.{Released}
 use Rattle.slot_alloc.specs.declared.release.Releasing.{Releasing}
 use Rattle.slot_alloc.specs.declared.slots.Slots.{Slots}
 use Rattle.slot_takeover.specs.Holders.{IsHolderPolled}
-use Rattle.slot_takeover.specs.Polls.{IsGivenBackPolled, IsTakeoverPolled}
+use Rattle.slot_takeover.specs.Polls.{IsTakeoverPolled}
 use Rattle.slot_takeover.specs.Takeovers.{slot_held}
-use Rattle.slot_takeover.specs.declared.giving_back.GivenBack.{GivenBack}
-use Rattle.slot_takeover.specs.declared.giving_back.GivingBack.{GivingBack}
 use Rattle.slot_takeover.specs.declared.holder.HolderPoll.{HolderPoll}
 use Rattle.slot_takeover.specs.declared.holder.ReadingHolder.{ReadingHolder}
 use Rattle.slot_takeover.specs.declared.polling.TakeoverProgress.{TakeoverProgress}
 use Rattle.slot_takeover.specs.declared.taking.TakingOver.{TakingOver}
-use Rattle.vandrexu_c.specs.Polls.{HasRoomFor, HasRoomToTake, IsTold, Told, claim_told, give_back_told}
-use Rattle.vandrexu_c.specs.Polls.{holder_told, release_told, takeover_told}
+use Rattle.vandrexu_c.specs.Polls.{HasRoomFor, HasRoomToTake, IsTold, Told, claim_told, holder_told}
+use Rattle.vandrexu_c.specs.Polls.{release_told, takeover_told}
 use Rattle.vandrexu_c.specs.SlotStates.{IsUnderWay, KeepsSlots, SlotDriver}
 use Rattle.vandrexu_c.specs.declared.slot_hold.Hold.{Hold}
 use Rattle.vandrexu_c.specs.declared.slot_reply.SlotReply.{SlotReply}
@@ -114,23 +112,6 @@ release_polled d e number slots holds took n reply u w Released.Released k q fol
     told_kept e number slots took _ n reply u holds
     (quiet_kept d e number slots holds took UnderWay.Nothing k q follows tt) told
 release_polled d e number slots holds took n reply u w (Released.Failed f) k q follows is told =
-    told_kept e number slots took _ n reply u holds
-    (quiet_kept d e number slots holds took UnderWay.Nothing k q follows tt) told
-
-pub give_back_polled : (d e : SlotDriver) (number : ℕ) (slots : Slots) (holds : List Hold) (took : Bool) (n : ℕ)
-    (reply : SlotReply) (u : UnderWay) (w : GivingBack SharedPort) (p : GivenBack SharedPort)
-    → KeepsSlots d number slots holds UnderWay.Nothing took → IsQuiet d e → ghosts.follows d.port e.port
-    → IsGivenBackPolled e w p → IsTold (give_back_told holds p) n reply u holds → KeepsSlots e number slots holds u took
-give_back_polled d e number slots holds took n reply u w (GivenBack.Pending j) k q follows is told =
-    told_kept e number slots took _ n reply u holds
-    (quiet_kept d e number slots holds took (UnderWay.GiveBack j) k q follows is.1) told
-give_back_polled d e number slots holds took n reply u w (GivenBack.Later f j) k q follows is told =
-    told_kept e number slots took _ n reply u holds
-    (quiet_kept d e number slots holds took (UnderWay.GiveBack j) k q follows is.1) told
-give_back_polled d e number slots holds took n reply u w GivenBack.Released k q follows is told =
-    told_kept e number slots took _ n reply u holds
-    (quiet_kept d e number slots holds took UnderWay.Nothing k q follows tt) told
-give_back_polled d e number slots holds took n reply u w (GivenBack.Failed f) k q follows is told =
     told_kept e number slots took _ n reply u holds
     (quiet_kept d e number slots holds took UnderWay.Nothing k q follows tt) told
 

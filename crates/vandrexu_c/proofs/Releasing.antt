@@ -8,7 +8,6 @@ use Rattle.slot_alloc.specs.declared.claim.Claim.{Claim}
 use Rattle.slot_alloc.specs.declared.release.Releasing.{Releasing}
 use Rattle.slot_alloc.specs.declared.slots.Slots.{Slots}
 use Rattle.slot_takeover.specs.Takeovers.{IsGivingBackBegun}
-use Rattle.slot_takeover.specs.declared.giving_back.GivingBack.{GivingBack}
 use Rattle.slot_takeover.specs.declared.held.HeldSlot.{HeldSlot}
 use Rattle.vandrexu_c.specs.Begins.{GiveBackBegins, GiveBackEnds, ReleaseBegins, ReleaseEnds, claim_back}
 use Rattle.vandrexu_c.specs.Begins.{released_holds, slot_back}
@@ -87,7 +86,7 @@ give_back_begins d slots holds later u took j i n k kept s was now is ends there
       same = x.same;
     }
   where
-    go : (r : Result (GivingBack SharedPort) (HeldSlot × Fault)) → IsGivingBackBegun d j.driver k.held r
+    go : (r : Result (Releasing SharedPort) (HeldSlot × Fault)) → IsGivingBackBegun d j.driver k.held r
         → j.holds ≡ slot_back later i r → j.holds ≡ released_holds holds i r
     go (Ok w) b h = h ∙ now
     go (Err w) b h = h ∙ ((λ m. slice_set (now m) i (Hold.TakenOver (record { held = b.0 m })))

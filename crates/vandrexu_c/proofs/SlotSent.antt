@@ -10,7 +10,6 @@ use Rattle.c_handles.proofs.Sent.{driver_send}
 use Rattle.slot_alloc.specs.contracts.claiming.Claiming as claiming
 use Rattle.slot_alloc.specs.contracts.release.Releasing as releasing
 use Rattle.slot_alloc.specs.contracts.slots.Slots as slots
-use Rattle.slot_takeover.specs.contracts.giving_back.GivingBack as giving
 use Rattle.slot_takeover.specs.contracts.holder.ReadingHolder as reading
 use Rattle.slot_takeover.specs.contracts.taking.TakingOver as taking
 use Rattle.vandrexu_c.specs.contracts.slot_hold.Hold as hold
@@ -28,9 +27,6 @@ releasing_send = search (crosses, sendable) depth 20
 taking_send : IsSend (taking.the_field (port.the_row static_lft)).row
 taking_send = search (crosses, sendable) depth 20
 
-giving_send : IsSend (giving.the_field (port.the_row static_lft)).row
-giving_send = search (crosses, sendable) depth 20
-
 reading_send : IsSend (reading.the_field (port.the_row static_lft)).row
 reading_send = search (crosses, sendable) depth 20
 
@@ -47,7 +43,7 @@ calls_send =
           (releasing_send, tt),
           (
             (taking_send, tt),
-            ((giving_send, tt), ((reading_send, tt), tt)),
+            ((reading_send, tt), tt),
           ),
         ),
       ),

@@ -9,7 +9,7 @@ use Rattle.nvme_model.specs.declared.step.Step.{Step}
 use Rattle.block_exec.specs.declared.run.Done.{Done}
 use Rattle.controller_interface.specs.Works.{TicketWork}
 use Rattle.controller_interface.specs.declared.answer.Refused.{Refused}
-use Rattle.controller_interface.specs.declared.work.Kind.{Kind}
+use Rattle.fused_match.specs.declared.judged.Judged.{Judged}
 use Rattle.vandrexu_c.specs.declared.answers.BlockedStep.{BlockedStep}
 use Rattle.vandrexu_c.specs.declared.answers.FetchedWork.{FetchedWork}
 use Rattle.vandrexu_c.specs.declared.answers.GrantedUnit.{GrantedUnit}
@@ -41,16 +41,17 @@ truth_number true = 1
 truth_number false = 0
 
 -- what a ticket has to do, with 0 for what a kind doesn't have
-abbrev pub kind_work : ℕ → Kind → FetchedWork
-kind_work t (Kind.Failed n) = record { ticket = t; slba = 0; blocks = 0; kind = 1; op = 0; statuses = n }
-kind_work t Kind.Flush = record { ticket = t; slba = 0; blocks = 0; kind = 2; op = 0; statuses = 0 }
-kind_work t (Kind.Units o r) =
+abbrev pub kind_work : ℕ → Judged → FetchedWork
+kind_work t (Judged.SingleFailed s) = record { ticket = t; slba = 0; blocks = 0; kind = 1; op = 0; statuses = 1 }
+kind_work t (Judged.PairFailed s r) = record { ticket = t; slba = 0; blocks = 0; kind = 1; op = 0; statuses = 2 }
+kind_work t Judged.Flush = record { ticket = t; slba = 0; blocks = 0; kind = 2; op = 0; statuses = 0 }
+kind_work t (Judged.Single o r) =
     record { ticket = t; slba = r.slba; blocks = r.blocks; kind = 3; op = op_number o; statuses = 0 }
-kind_work t (Kind.Pair r) = record { ticket = t; slba = r.slba; blocks = r.blocks; kind = 4; op = 0; statuses = 0 }
+kind_work t (Judged.Pair r) = record { ticket = t; slba = r.slba; blocks = r.blocks; kind = 4; op = 0; statuses = 0 }
 
 -- the work of a ticket
 abbrev pub fetched_work_of : TicketWork → FetchedWork
-fetched_work_of w = kind_work w.ticket w.kind
+fetched_work_of w = kind_work w.ticket w.judged
 
 -- a granted unit
 abbrev pub granted_of : ℕ → Range → Mode → GrantedUnit

@@ -16,7 +16,6 @@ use Rattle.slot_alloc.specs.declared.claiming.Reach.{Reach}
 use Rattle.slot_alloc.specs.declared.release.Releasing.{Releasing}
 use Rattle.slot_takeover.specs.Holders.{IsHolderBegun}
 use Rattle.slot_takeover.specs.Takeovers.{IsGivingBackBegun, IsTakeoverBegun}
-use Rattle.slot_takeover.specs.declared.giving_back.GivingBack.{GivingBack}
 use Rattle.slot_takeover.specs.declared.held.HeldSlot.{HeldSlot}
 use Rattle.slot_takeover.specs.declared.holder.ReadingHolder.{ReadingHolder}
 use Rattle.slot_takeover.specs.declared.taking.TakingOver.{TakingOver}
@@ -138,13 +137,13 @@ pub record Releases (after : Result (Releasing SharedPort) (Claim × Fault) → 
   pub same : (j.slots ≡ h.slots) × (j.took_over ≡ h.took_over)
 
 -- the release of a slot that was taken over
-pub record GivesBack (after : Result (GivingBack SharedPort) (HeldSlot × Fault) → List Hold) (h j : SlotState)
+pub record GivesBack (after : Result (Releasing SharedPort) (HeldSlot × Fault) → List Hold) (h j : SlotState)
     (s : HeldSlot) (number : ℕ) : Type 0 where
-  pub answer : Result (GivingBack SharedPort) (HeldSlot × Fault)
+  pub answer : Result (Releasing SharedPort) (HeldSlot × Fault)
   pub is : IsGivingBackBegun h.driver j.driver s answer
   pub same_driver : IsSameDriver h.driver j.driver
   pub later : ghosts.follows (port_of h.driver) (port_of j.driver)
-  pub told : ReleaseTold UnderWay.GiveBack answer number j.under_way
+  pub told : ReleaseTold UnderWay.Release answer number j.under_way
   pub holds_are : j.holds ≡ after answer
   pub same : (j.slots ≡ h.slots) × (j.took_over ≡ h.took_over)
 

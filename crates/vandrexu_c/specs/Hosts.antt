@@ -1,5 +1,5 @@
 -- What contracts say of a host.
-use Rattle.std.specs.Prelude.{None, Option, Result, Some, [], ℕ, ◌≡◌}
+use Rattle.std.specs.Prelude.{None, Result, Some, [], ℕ, ◌≡◌}
 use Rattle.nvme_model.specs.declared.config.ConfigNumbers.{ConfigNumbers}
 use Rattle.work_queue.specs.declared.engine.Engine.{Engine}
 use Rattle.driver_calls.specs.declared.request.CallData.{CallData}

@@ -14,10 +14,8 @@ use Rattle.slot_alloc.specs.declared.progress.Progress.{Progress}
 use Rattle.slot_alloc.specs.declared.progress.Released.{Released}
 use Rattle.slot_alloc.specs.declared.release.Releasing.{Releasing}
 use Rattle.slot_takeover.specs.Holders.{IsHolderPolled}
-use Rattle.slot_takeover.specs.Polls.{IsGivenBackPolled, IsTakeoverPolled, later_taking}
+use Rattle.slot_takeover.specs.Polls.{IsTakeoverPolled, later_taking}
 use Rattle.slot_takeover.specs.Takeovers.{slot_held, takeover_call}
-use Rattle.slot_takeover.specs.declared.giving_back.GivenBack.{GivenBack}
-use Rattle.slot_takeover.specs.declared.giving_back.GivingBack.{GivingBack}
 use Rattle.slot_takeover.specs.declared.holder.HolderPoll.{HolderPoll}
 use Rattle.slot_takeover.specs.declared.holder.ReadingHolder.{ReadingHolder}
 use Rattle.slot_takeover.specs.declared.polling.TakeoverProgress.{TakeoverProgress}
@@ -77,13 +75,6 @@ takeover_told holds (TakeoverProgress.Held s) =
 takeover_told holds TakeoverProgress.Taken = ends_as (plain_reply 3) holds
 takeover_told holds (TakeoverProgress.Failed f) = fails_as (call_fault_number f) (failed_reply f) holds
 
--- of a release of what was taken over
-abbrev pub give_back_told : List Hold → GivenBack SharedPort → Told
-give_back_told holds (GivenBack.Pending k) = goes_on_as (UnderWay.GiveBack k) holds
-give_back_told holds (GivenBack.Later f k) = waits_as (call_fault_number f) (UnderWay.GiveBack k) holds
-give_back_told holds GivenBack.Released = ends_as (plain_reply 4) holds
-give_back_told holds (GivenBack.Failed f) = fails_as (call_fault_number f) (failed_reply f) holds
-
 -- of the question who holds a slot
 abbrev pub holder_told : List Hold → HolderPoll SharedPort → Told
 holder_told holds (HolderPoll.Pending k) = goes_on_as (UnderWay.Holder k) holds
@@ -136,15 +127,6 @@ pub record TakeoverPolls (h j : SlotState) (k : TakingOver SharedPort) (number :
   pub told : IsTold (takeover_told h.holds progress) number reply j.under_way j.holds
   pub same : (j.slots ≡ h.slots) × (j.took_over ≡ h.took_over)
 
--- the release of what was taken over was
-pub record GiveBackPolls (h j : SlotState) (k : GivingBack SharedPort) (number : ℕ) (reply : SlotReply) : Type 0 where
-  pub given : GivenBack SharedPort
-  pub is : IsGivenBackPolled j.driver k given
-  pub quiet : IsQuiet h.driver j.driver
-  pub later : ghosts.follows (port_of h.driver) (port_of j.driver)
-  pub told : IsTold (give_back_told h.holds given) number reply j.under_way j.holds
-  pub same : (j.slots ≡ h.slots) × (j.took_over ≡ h.took_over)
-
 -- the question who holds a slot was
 pub record HolderPolls (h j : SlotState) (k : ReadingHolder SharedPort) (number : ℕ) (reply : SlotReply) : Type 0 where
   pub polled : HolderPoll SharedPort
@@ -160,7 +142,6 @@ CallPolls h j UnderWay.Nothing number reply = (number ≡ 117) × (reply ≡ pla
 CallPolls h j (UnderWay.Claim k) number reply = ClaimPolls h j k number reply
 CallPolls h j (UnderWay.Release k) number reply = ReleasePolls h j k number reply
 CallPolls h j (UnderWay.Takeover k) number reply = TakeoverPolls h j k number reply
-CallPolls h j (UnderWay.GiveBack k) number reply = GiveBackPolls h j k number reply
 CallPolls h j (UnderWay.Holder k) number reply = HolderPolls h j k number reply
 
 -- Where the host has no call nothing is polled, and the reply is that of a call that isn't answered.

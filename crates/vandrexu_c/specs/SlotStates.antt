@@ -1,5 +1,5 @@
 -- What the handle of a slot host owns.
-use Rattle.std.specs.Prelude.{Bool, List, None, Option, Some, false, length, slice_get, true, ℕ, ◌≡◌}
+use Rattle.std.specs.Prelude.{Bool, List, Some, false, length, slice_get, true, ℕ, ◌≡◌}
 use Rattle.driver_cas.specs.Drivers.{area_of, host_of}
 use Rattle.driver_cas.specs.declared.driver.Driver.{Driver}
 use Rattle.driver_cas.specs.contracts.shared_port.SharedPortPort.TheImpl.{ghosts}
@@ -9,7 +9,7 @@ use Rattle.slot_alloc.specs.Claims.{IsClaimingOf, IsHeldBy, IsReleasingOf, IsUnr
 use Rattle.slot_alloc.specs.SlotRules.{KeepsSlotRules}
 use Rattle.slot_alloc.specs.declared.slots.Slots.{Slots}
 use Rattle.slot_takeover.specs.Holders.{IsReadingOf}
-use Rattle.slot_takeover.specs.Takeovers.{HoldsTaken, IsGivingBackOf, IsTakingOverOf, slot_held}
+use Rattle.slot_takeover.specs.Takeovers.{HoldsTaken, IsTakingOverOf, slot_held}
 use Rattle.vandrexu_c.specs.declared.slot_hold.Hold.{Hold}
 use Rattle.vandrexu_c.specs.declared.under_way.UnderWay.{UnderWay}
 
@@ -38,7 +38,6 @@ IsUnderWay d took UnderWay.Nothing = Unit {0}
 IsUnderWay d took (UnderWay.Claim k) = (took ≡ false) × IsClaimingOf d k × IsUnreleased d k
 IsUnderWay d took (UnderWay.Release k) = IsReleasingOf d k
 IsUnderWay d took (UnderWay.Takeover k) = (took ≡ true) × IsTakingOverOf d k
-IsUnderWay d took (UnderWay.GiveBack k) = IsGivingBackOf d k
 IsUnderWay d took (UnderWay.Holder k) = IsReadingOf d k
 
 -- each hold is one at its place

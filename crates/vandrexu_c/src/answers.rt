@@ -5,7 +5,7 @@ ghost use Rattle.vandrexu_c.specs.Answers.{blocked_of, found_number, granted_of,
 ghost use Rattle.nvme_model.specs.Refusals.{refusal_number};
 ghost use Rattle.vandrexu_c.specs.Answers.{fetched_work_of, next_step_of};
 
-use controller_interface::{Kind, Step, UnitGranted, Work};
+use controller_interface::{Judged, Step, UnitGranted, Work};
 use nvme_model::array::Mode;
 use nvme_model::operation::{Found, Op};
 use nvme_model::refusal::Why;
@@ -104,21 +104,26 @@ pub(crate) fn work_in(work: &Work) -> FetchedWork
         op: 0,
         statuses: 0,
     };
-    match work.kind() {
-        Kind::Failed(count) => FetchedWork {
+    match work.judged() {
+        Judged::SingleFailed(_) => FetchedWork {
             kind: 1,
-            statuses: u32::from(count),
+            statuses: 1,
             ..none
         },
-        Kind::Flush => FetchedWork { kind: 2, ..none },
-        Kind::Units(op, range) => FetchedWork {
+        Judged::PairFailed(_, _) => FetchedWork {
+            kind: 1,
+            statuses: 2,
+            ..none
+        },
+        Judged::Flush => FetchedWork { kind: 2, ..none },
+        Judged::Single(op, range) => FetchedWork {
             slba: range.slba,
             blocks: range.blocks,
             kind: 3,
             op: op_in(op),
             ..none
         },
-        Kind::Pair(range) => FetchedWork {
+        Judged::Pair(range) => FetchedWork {
             slba: range.slba,
             blocks: range.blocks,
             kind: 4,

@@ -6,8 +6,8 @@ ghost use Rattle.nvme_model.specs.declared.submission.Submission.{Submission as 
 ghost use Rattle.vandrexu_c.specs.Batches.{TellsPublish, submissions_of};
 ghost use Rattle.vandrexu_c.specs.OwnedStates.{OwnedState};
 
-use crate::controller::{NO_HANDLE, NO_MEMORY};
-use crate::held::{Handle, put_in, take_out};
+use crate::held::Handle;
+use c_handles::numbers::{NO_HANDLE, NO_MEMORY};
 use nvme_model::submission::{Payload, Submission, Submissions};
 use std::alloc::Global;
 
@@ -91,18 +91,18 @@ pub extern "C" fn vandrexu_controller_publish(
     ensures publishes { (m : OwnedState) → controller.old.held.core ≡ Some m →
         Keeps controller.new.held.core (TellsPublish m queue entries.now bytes.now result) }
 {
-    let Some(mut owned) = take_out(alloc, controller) else {
+    let Some(mut owned) = controller.take(alloc) else {
         return NO_HANDLE;
     };
     let batch = match batch_of(alloc, entries, bytes) {
         Ok(batch) => batch,
         Err(number) => {
-            put_in(controller, owned);
+            controller.put(owned);
             return number;
         }
     };
     let done = owned.as_mut().publish(queue, batch);
-    put_in(controller, owned);
+    controller.put(owned);
     match done {
         Ok(()) => 0,
         Err(number) => number,

@@ -9,18 +9,16 @@ ghost use Rattle.history_check.specs.Kept.{CheckerRun, Stands};
 ghost use Rattle.vandrexu_c.specs.Checkers.{IsNewChecker, IsNext, MayRefuseChecker};
 ghost use Rattle.vandrexu_c.specs.Checkers.{TellsWhetherLegal, TellsNone, TellsTaken, TellsWhy};
 
-use crate::controller::{IN_USE, NO_HANDLE, NO_MEMORY, TOO_SMALL};
 use crate::copying::fits;
-use crate::owned_checker::{CheckerHandle, OwnedChecker, put_checker, take_checker};
+use crate::lending::{fill, lend};
+use crate::numbers::{BAD_LINE, NOT_LEGAL, TOO_SMALL};
+use crate::owned_checker::{CheckerHandle, OwnedChecker};
 use broken_rules::Broken;
-use c_handles::{GivenConfig, config_of};
+use c_handles::GivenConfig;
+use c_handles::numbers::NO_MEMORY;
 use history::{Config, Entry, LineFault, parse_line};
 use history_check::Checker;
 use std::alloc::{AllocError as NoMemory, Global};
-
-pub(crate) const BAD_LINE: u32 = 107;
-
-pub(crate) const NOT_LEGAL: u32 = 108;
 
 // A checker in a box.
 fn own_checker(alloc: Global, config: &Config) -> Result<Box<OwnedChecker>, NoMemory>
@@ -44,18 +42,7 @@ pub extern "C" fn vandrexu_checker_new(
     ensures failed { (result ≡ 0 → ⊥) → checker.new.held.run ≡ checker.old.held.run }
     ensures cause { (result ≡ 0 → ⊥) → MayRefuseChecker (given_numbers config.now) checker.old.held.run result }
 {
-    if checker.live != 0 {
-        return IN_USE;
-    }
-    let accepted = match config_of(config) {
-        Ok(accepted) => accepted,
-        Err(fault) => return u32::from(fault.number()),
-    };
-    let Ok(owned) = own_checker(alloc, &accepted) else {
-        return NO_MEMORY;
-    };
-    put_checker(checker, owned);
-    0
+    fill!(checker.live != 0, checker, config, accepted => own_checker(alloc, &accepted))
 }
 
 /// Frees what the handle owns. Nothing is done where it owns nothing.
@@ -63,7 +50,7 @@ pub extern "C" fn vandrexu_checker_new(
 pub extern "C" fn vandrexu_checker_free(alloc: Global, checker: &mut CheckerHandle)
     ensures { checker.new.held.run ≡ None }
 {
-    drop(take_checker(alloc, checker));
+    drop(checker.take(alloc));
 }
 
 // Takes an entry behind those that were taken: a fault, or whether all are legal, by its number.
@@ -101,12 +88,7 @@ pub extern "C" fn vandrexu_checker_take_line(
     ensures takes { (r : CheckerRun) → checker.old.held.run ≡ Some r →
         Keeps checker.new.held.run (TellsTaken r line.now result) }
 {
-    let Some(mut owned) = take_checker(alloc, checker) else {
-        return NO_HANDLE;
-    };
-    let number = taken(alloc, &mut owned.as_mut().checker, line);
-    put_checker(checker, owned);
-    number
+    lend!(alloc, checker, mut owned => taken(alloc, &mut owned.as_mut().checker, line))
 }
 
 // The words of a broken rule.
@@ -163,11 +145,7 @@ pub extern "C" fn vandrexu_checker_why(
         TellsWhy r line.now (length out.old) result needed.new }
     ensures kept { (result ≡ 108 → ⊥) → out.new ≡ out.old }
 {
-    let Some(owned) = take_checker(alloc, checker) else {
-        return NO_HANDLE;
-    };
-    let told = why_of(alloc, &owned.as_ref().checker, line);
-    put_checker(checker, owned);
+    let told = lend!(alloc, checker, owned => why_of(alloc, &owned.as_ref().checker, line));
     let words = match told {
         Ok(words) => words,
         Err(number) => return number,

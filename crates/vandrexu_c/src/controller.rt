@@ -7,26 +7,25 @@ ghost use Rattle.nvme_model.specs.Medium.{medium};
 ghost use Rattle.vandrexu_c.specs.OwnedStates.{IsNewController, OwnedState, MayRefuse, Reserves};
 
 use crate::copying::fits;
-use crate::held::{Handle, put_in, take_out};
+use crate::held::Handle;
+use crate::lending::{fill, lend};
+use crate::numbers::TOO_SMALL;
 use crate::owned_controller::OwnedController;
-use c_handles::{GivenConfig, config_of};
+use c_handles::GivenConfig;
+use c_handles::numbers::NO_MEMORY;
+use history::Config;
 use std::alloc::{AllocError as NoMemory, Global};
 use step_core::Core;
-
-pub(crate) const NO_MEMORY: u32 = 11;
-
-pub(crate) const NO_HANDLE: u32 = 101;
-
-pub(crate) const IN_USE: u32 = 102;
-
-pub(crate) const TOO_SMALL: u32 = 103;
 
 const NO_BLOCK: u32 = 104;
 
 // A controller in a box.
-fn own_controller(alloc: Global, core: Core) -> Result<Box<OwnedController>, NoMemory>
-    ensures { IfOk result (λ b. (b.value.core ≡ core) × (b.value.payload ≡ [])) }
+fn own_controller(alloc: Global, config: Config) -> Result<Box<OwnedController>, NoMemory>
+    ensures core { IfOk result (λ b.
+        b.value.core ≡ record { config = config; past = []; promised = 0; room = b.value.core.room }) }
+    ensures payload { IfOk result (λ b. b.value.payload ≡ []) }
 {
+    let core = Core::new(alloc, config)?;
     let owned = OwnedController {
         core,
         payload: Vec::new(alloc),
@@ -48,21 +47,7 @@ pub extern "C" fn vandrexu_controller_new(
     ensures failed { (result ≡ 0 → ⊥) → controller.new.held.core ≡ controller.old.held.core }
     ensures cause { (result ≡ 0 → ⊥) → MayRefuse (given_numbers config.now) controller.old.held.core result }
 {
-    if controller.live != 0 {
-        return IN_USE;
-    }
-    let accepted = match config_of(config) {
-        Ok(accepted) => accepted,
-        Err(fault) => return u32::from(fault.number()),
-    };
-    let Ok(core) = Core::new(alloc, accepted) else {
-        return NO_MEMORY;
-    };
-    let Ok(owned) = own_controller(alloc, core) else {
-        return NO_MEMORY;
-    };
-    put_in(controller, owned);
-    0
+    fill!(controller.live != 0, controller, config, accepted => own_controller(alloc, accepted))
 }
 
 /// Frees what the handle owns. Nothing is done where it owns nothing.
@@ -70,7 +55,7 @@ pub extern "C" fn vandrexu_controller_new(
 pub extern "C" fn vandrexu_controller_free(alloc: Global, controller: &mut Handle)
     ensures { controller.new.held.core ≡ None }
 {
-    drop(take_out(alloc, controller));
+    drop(controller.take(alloc));
 }
 
 /// Makes the memory of the next `more` Grants, Blocks and Reaps, so that none of them is answered 11: 0; or 11 where
@@ -85,11 +70,7 @@ pub extern "C" fn vandrexu_controller_reserve(
     ensures reserves { (m : OwnedState) → controller.old.held.core ≡ Some m →
         Keeps controller.new.held.core (λ n. Reserves m more result n) }
 {
-    let Some(mut owned) = take_out(alloc, controller) else {
-        return NO_HANDLE;
-    };
-    let done = owned.as_mut().core.reserve(more);
-    put_in(controller, owned);
+    let done = lend!(alloc, controller, mut owned => owned.as_mut().core.reserve(more));
     match done {
         Ok(()) => 0,
         Err(_) => NO_MEMORY,
@@ -113,11 +94,7 @@ pub extern "C" fn vandrexu_controller_medium(
         lba < m.core.config.blocks → (result ≡ 0) × (out.new ≡ medium m.core.past lba) }
     ensures kept { (result ≡ 0 → ⊥) → out.new ≡ out.old }
 {
-    let Some(owned) = take_out(alloc, controller) else {
-        return NO_HANDLE;
-    };
-    let found = owned.as_ref().core.medium(lba).copied();
-    put_in(controller, owned);
+    let found = lend!(alloc, controller, owned => owned.as_ref().core.medium(lba).copied());
     match found {
         Some(block) => {
             *out = block;
@@ -145,11 +122,8 @@ pub extern "C" fn vandrexu_controller_data(
         (result ≡ 103) × (needed.new ≡ length m.payload) × (length out.old < length m.payload) }
     ensures kept { (result ≡ 0 → ⊥) → out.new ≡ out.old }
 {
-    let Some(owned) = take_out(alloc, controller) else {
-        return NO_HANDLE;
-    };
-    let fit = fits(owned.as_ref().payload.as_slice(), out, needed);
-    put_in(controller, owned);
+    let fit =
+        lend!(alloc, controller, owned => fits(owned.as_ref().payload.as_slice(), out, needed));
     if fit { 0 } else { TOO_SMALL }
 }
 
@@ -166,11 +140,7 @@ pub extern "C" fn vandrexu_controller_history_count(
         (result ≡ 0) × (count.new ≡ length m.core.past) }
     ensures kept { (result ≡ 0 → ⊥) → count.new ≡ count.old }
 {
-    let Some(owned) = take_out(alloc, controller) else {
-        return NO_HANDLE;
-    };
-    let entries = owned.as_ref().core.history().len() as u64;
-    put_in(controller, owned);
+    let entries = lend!(alloc, controller, owned => owned.as_ref().core.history().len() as u64);
     *count = entries;
     0
 }

@@ -7,8 +7,8 @@ ghost use Rattle.c_handles.specs.Disks.{FetchTells, IsNewDisk, MayRefuseDisk, Se
 ghost use Rattle.c_handles.specs.Handles.{disk_in};
 ghost use Rattle.c_handles.specs.declared.disk.Disk.{Disk as TheDisk};
 
-use c_handles::numbers::{IN_USE, NO_HANDLE, NO_MEMORY};
-use c_handles::{Disk, DiskHandle, GivenConfig, config_of};
+use crate::lending::{fill, lend};
+use c_handles::{Disk, DiskHandle, GivenConfig};
 use history::Config;
 use std::alloc::{AllocError as NoMemory, Global};
 
@@ -34,18 +34,7 @@ pub extern "C" fn vandrexu_disk_new(
     ensures failed { (result ≡ 0 → ⊥) → disk_in disk.new ≡ disk_in disk.old }
     ensures cause { (result ≡ 0 → ⊥) → MayRefuseDisk (given_numbers config.now) (disk_in disk.old) result }
 {
-    if disk.owns() {
-        return IN_USE;
-    }
-    let accepted = match config_of(config) {
-        Ok(accepted) => accepted,
-        Err(fault) => return u32::from(fault.number()),
-    };
-    let Ok(made) = disk_of(alloc, accepted, hosts) else {
-        return NO_MEMORY;
-    };
-    disk.put(made);
-    0
+    fill!(disk.owns(), disk, config, accepted => disk_of(alloc, accepted, hosts))
 }
 
 /// Frees what the handle owns. Nothing is done where it owns nothing. Hosts that were made of it stay.
@@ -64,12 +53,7 @@ pub extern "C" fn vandrexu_disk_fetch(alloc: Global, disk: &mut DiskHandle, queu
     ensures fetches { (d : TheDisk) → disk_in disk.old ≡ Some d →
         Keeps (disk_in disk.new) (λ e. FetchTells d e queue result) }
 {
-    let Some(mut owned) = disk.take(alloc) else {
-        return NO_HANDLE;
-    };
-    let told = owned.as_mut().fetch(queue);
-    disk.put(owned);
-    told
+    lend!(alloc, disk, mut owned => owned.as_mut().fetch(queue))
 }
 
 /// Makes the next Grant, Block or Post of what was fetched: 0; or the number of the refusal, and the same is next; or
@@ -80,12 +64,7 @@ pub extern "C" fn vandrexu_disk_task(alloc: Global, disk: &mut DiskHandle) -> u3
     ensures makes { (d : TheDisk) → disk_in disk.old ≡ Some d →
         Keeps (disk_in disk.new) (λ e. TaskTells d e result) }
 {
-    let Some(mut owned) = disk.take(alloc) else {
-        return NO_HANDLE;
-    };
-    let told = owned.as_mut().task();
-    disk.put(owned);
-    told
+    lend!(alloc, disk, mut owned => owned.as_mut().task())
 }
 
 /// Serves the next command, or fused pair, of a submission queue to its end, or goes on with what was fetched before
@@ -97,10 +76,5 @@ pub extern "C" fn vandrexu_disk_serve(alloc: Global, disk: &mut DiskHandle, queu
     ensures serves { (d : TheDisk) → disk_in disk.old ≡ Some d →
         Keeps (disk_in disk.new) (λ e. ServesDisk d e queue result) }
 {
-    let Some(mut owned) = disk.take(alloc) else {
-        return NO_HANDLE;
-    };
-    let told = owned.as_mut().serve(queue);
-    disk.put(owned);
-    told
+    lend!(alloc, disk, mut owned => owned.as_mut().serve(queue))
 }

@@ -53,27 +53,29 @@ pub struct Handle {
     ghost marked: { live ≡ mark held.core },
 }
 
-// Takes the controller out of a handle.
-pub(crate) fn take_out(alloc: Global, handle: &mut Handle) -> Option<Box<OwnedController>>
-    ensures value { MatchOption result (handle.old.held.core ≡ None) (λ b. handle.old.held.core ≡ Some b.value) }
-    ensures emptied { handle.new.held.core ≡ None }
-{
-    let empty = Handle {
-        held: Held::of(Owner::none()),
-        live: 0,
-    };
-    let Handle { held, live } = std::mem::replace(handle, empty);
-    held.into_owner().into_box(alloc, live)
-}
+impl Handle {
+    // Takes the controller out, if it owns one.
+    pub(crate) fn take(&mut self, alloc: Global) -> Option<Box<OwnedController>>
+        ensures value { MatchOption result (self.old.held.core ≡ None) (λ b. self.old.held.core ≡ Some b.value) }
+        ensures emptied { self.new.held.core ≡ None }
+    {
+        let empty = Handle {
+            held: Held::of(Owner::none()),
+            live: 0,
+        };
+        let Handle { held, live } = std::mem::replace(self, empty);
+        held.into_owner().into_box(alloc, live)
+    }
 
-// Puts a controller into a handle that has none.
-pub(crate) fn put_in(handle: &mut Handle, owned: Box<OwnedController>)
-    requires { handle.old.held.core ≡ None }
-    ensures { handle.new.held.core ≡ Some owned.value }
-{
-    let full = Handle {
-        held: Held::of(Owner::of(owned)),
-        live: 1,
-    };
-    let Handle { held: _, live: _ } = std::mem::replace(handle, full);
+    // Puts a controller into one that has none.
+    pub(crate) fn put(&mut self, owned: Box<OwnedController>)
+        requires { self.old.held.core ≡ None }
+        ensures { self.new.held.core ≡ Some owned.value }
+    {
+        let full = Handle {
+            held: Held::of(Owner::of(owned)),
+            live: 1,
+        };
+        let Handle { held: _, live: _ } = std::mem::replace(self, full);
+    }
 }

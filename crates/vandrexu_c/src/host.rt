@@ -3,8 +3,8 @@
 ghost use Rattle.std.specs.Prelude.{◌≡◌, None};
 ghost use Rattle.vandrexu_c.specs.HostReplies.{StartTold, call_given_back, read_last};
 
-use crate::host_numbers::{IN_CALL, NO_CALL};
 use crate::host_reply::{HostReply, PENDING, number_in, plain, reply_in};
+use crate::numbers::{IN_CALL, NO_CALL};
 use driver_cas::{Call, Driver, Fault, Poll, Reply, SharedPort};
 use std::marker::Model;
 

@@ -13,12 +13,13 @@ ghost use Rattle.vandrexu_c.specs.Hosts.{PollTells, StartTells};
 ghost use Rattle.vandrexu_c.specs.HostMaking.{MakesHost};
 
 use crate::copying::fits;
-use crate::host_handle::{HostHandle, put_host, take_host};
+use crate::host_handle::HostHandle;
 use crate::host_making::give_into;
-use crate::host_numbers::TOO_SMALL;
 use crate::host_reply::HostReply;
+use crate::lending::lend;
+use crate::numbers::TOO_SMALL;
 use c_handles::DiskHandle;
-use c_handles::numbers::{IN_USE, NO_HANDLE};
+use c_handles::numbers::IN_USE;
 use std::alloc::Global;
 
 /// Makes a host of this number, not 0, on this submission queue, with one of the passes of the disk, and puts it into
@@ -44,12 +45,7 @@ pub extern "C" fn vandrexu_host_new(
     if host.live != 0 {
         return IN_USE;
     }
-    let Some(mut owned) = disk.take(alloc) else {
-        return NO_HANDLE;
-    };
-    let told = give_into(alloc, owned.as_mut(), number, queue, host);
-    disk.put(owned);
-    told
+    lend!(alloc, disk, mut owned => give_into(alloc, owned.as_mut(), number, queue, host))
 }
 
 /// Frees what the handle owns. Nothing is done where it owns nothing. A call that isn't answered is forgotten.
@@ -57,7 +53,7 @@ pub extern "C" fn vandrexu_host_new(
 pub extern "C" fn vandrexu_host_free(alloc: Global, host: &mut HostHandle)
     ensures { host.new.held.host ≡ None }
 {
-    drop(take_host(alloc, host));
+    drop(host.take(alloc));
 }
 
 /// Begins to read so many blocks from block `lba` on: 0; or the number of the fault; or 116 where the host has a call;
@@ -73,12 +69,7 @@ pub extern "C" fn vandrexu_host_read(
     ensures starts { (h : HostState) → host.old.held.host ≡ Some h → Keeps host.new.held.host (λ i. StartTells h i
         (request_of (acwu_of h.driver) (area_of h.driver) Op.Read lba (512 * blocks)) (CallData.One []) result) }
 {
-    let Some(mut owned) = take_host(alloc, host) else {
-        return NO_HANDLE;
-    };
-    let told = owned.as_mut().start_read(lba, blocks);
-    put_host(host, owned);
-    told
+    lend!(alloc, host, mut owned => owned.as_mut().start_read(lba, blocks))
 }
 
 /// Begins to write zeros to so many blocks from block `lba` on; answers as `vandrexu_host_read`.
@@ -94,12 +85,7 @@ pub extern "C" fn vandrexu_host_write_zeroes(
         (request_of (acwu_of h.driver) (area_of h.driver) Op.WriteZeroes lba (512 * blocks)) (CallData.One [])
         result) }
 {
-    let Some(mut owned) = take_host(alloc, host) else {
-        return NO_HANDLE;
-    };
-    let told = owned.as_mut().start_write_zeroes(lba, blocks);
-    put_host(host, owned);
-    told
+    lend!(alloc, host, mut owned => owned.as_mut().start_write_zeroes(lba, blocks))
 }
 
 /// Begins to write this data, 512 bytes a block, from block `lba` on; answers as `vandrexu_host_read`.
@@ -115,12 +101,7 @@ pub extern "C" fn vandrexu_host_write(
         (request_of (acwu_of h.driver) (area_of h.driver) Op.Write lba (length contents.now))
         (CallData.One contents.now) result) }
 {
-    let Some(mut owned) = take_host(alloc, host) else {
-        return NO_HANDLE;
-    };
-    let told = owned.as_mut().start_write(lba, contents);
-    put_host(host, owned);
-    told
+    lend!(alloc, host, mut owned => owned.as_mut().start_write(lba, contents))
 }
 
 /// Begins to compare this data, 512 bytes a block, with the blocks from block `lba` on; answers as
@@ -137,12 +118,7 @@ pub extern "C" fn vandrexu_host_compare(
         (request_of (acwu_of h.driver) (area_of h.driver) Op.Compare lba (length contents.now))
         (CallData.One contents.now) result) }
 {
-    let Some(mut owned) = take_host(alloc, host) else {
-        return NO_HANDLE;
-    };
-    let told = owned.as_mut().start_compare(lba, contents);
-    put_host(host, owned);
-    told
+    lend!(alloc, host, mut owned => owned.as_mut().start_compare(lba, contents))
 }
 
 /// Begins to write the desired data to the blocks from block `lba` on where they hold the expected data, as one fused
@@ -160,14 +136,7 @@ pub extern "C" fn vandrexu_host_compare_and_write(
         (pair_request_of (acwu_of h.driver) (area_of h.driver) lba (length expected.now) (length desired.now))
         (CallData.Two expected.now desired.now) result) }
 {
-    let Some(mut owned) = take_host(alloc, host) else {
-        return NO_HANDLE;
-    };
-    let told = owned
-        .as_mut()
-        .start_compare_and_write(lba, expected, desired);
-    put_host(host, owned);
-    told
+    lend!(alloc, host, mut owned => owned.as_mut().start_compare_and_write(lba, expected, desired))
 }
 
 /// Polls the host's call: 0, and what became of it; or 44 where it failed, with its status; or 45 or 46 where nothing
@@ -184,11 +153,7 @@ pub extern "C" fn vandrexu_host_poll(
     ensures polls { (h : HostState) → host.old.held.host ≡ Some h →
         Keeps host.new.held.host (λ i. PollTells h i result reply.new) }
 {
-    let Some(mut owned) = take_host(alloc, host) else {
-        return NO_HANDLE;
-    };
-    let (told, what) = owned.as_mut().poll();
-    put_host(host, owned);
+    let (told, what) = lend!(alloc, host, mut owned => owned.as_mut().poll());
     *reply = what;
     told
 }
@@ -210,10 +175,6 @@ pub extern "C" fn vandrexu_host_data(
         (result ≡ 103) × (needed.new ≡ length h.payload) × (length out.old < length h.payload) }
     ensures kept { (result ≡ 0 → ⊥) → out.new ≡ out.old }
 {
-    let Some(owned) = take_host(alloc, host) else {
-        return NO_HANDLE;
-    };
-    let fit = fits(owned.as_ref().payload.as_slice(), out, needed);
-    put_host(host, owned);
+    let fit = lend!(alloc, host, owned => fits(owned.as_ref().payload.as_slice(), out, needed));
     if fit { 0 } else { TOO_SMALL }
 }

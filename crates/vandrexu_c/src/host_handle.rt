@@ -53,27 +53,29 @@ pub struct HostHandle {
     ghost marked: { live ≡ mark held.host },
 }
 
-// Takes the host out of a handle.
-pub(crate) fn take_host(alloc: Global, handle: &mut HostHandle) -> Option<Box<DrivenHost>>
-    ensures value { MatchOption result (handle.old.held.host ≡ None) (λ b. handle.old.held.host ≡ Some b.value) }
-    ensures emptied { handle.new.held.host ≡ None }
-{
-    let empty = HostHandle {
-        held: HeldHost::of(Owner::none()),
-        live: 0,
-    };
-    let HostHandle { held, live } = std::mem::replace(handle, empty);
-    held.into_owner().into_box(alloc, live)
-}
+impl HostHandle {
+    // Takes the host out, if it owns one.
+    pub(crate) fn take(&mut self, alloc: Global) -> Option<Box<DrivenHost>>
+        ensures value { MatchOption result (self.old.held.host ≡ None) (λ b. self.old.held.host ≡ Some b.value) }
+        ensures emptied { self.new.held.host ≡ None }
+    {
+        let empty = HostHandle {
+            held: HeldHost::of(Owner::none()),
+            live: 0,
+        };
+        let HostHandle { held, live } = std::mem::replace(self, empty);
+        held.into_owner().into_box(alloc, live)
+    }
 
-// Puts a host into a handle that has none.
-pub(crate) fn put_host(handle: &mut HostHandle, host: Box<DrivenHost>)
-    requires { handle.old.held.host ≡ None }
-    ensures { handle.new.held.host ≡ Some host.value }
-{
-    let full = HostHandle {
-        held: HeldHost::of(Owner::of(host)),
-        live: 1,
-    };
-    let HostHandle { held: _, live: _ } = std::mem::replace(handle, full);
+    // Puts a host into one that has none.
+    pub(crate) fn put(&mut self, host: Box<DrivenHost>)
+        requires { self.old.held.host ≡ None }
+        ensures { self.new.held.host ≡ Some host.value }
+    {
+        let full = HostHandle {
+            held: HeldHost::of(Owner::of(host)),
+            live: 1,
+        };
+        let HostHandle { held: _, live: _ } = std::mem::replace(self, full);
+    }
 }

@@ -7,7 +7,7 @@ ghost use Rattle.vandrexu_c.specs.Hosts.{IsHostOver, IsNewHost};
 ghost use Rattle.vandrexu_c.specs.HostMaking.{MakesHost};
 
 use crate::host::DrivenHost;
-use crate::host_handle::{HostHandle, put_host};
+use crate::host_handle::HostHandle;
 use c_handles::numbers::NO_MEMORY;
 use c_handles::{Disk, give_driver, take_back};
 use driver_cas::{Driver, SharedPort};
@@ -71,7 +71,7 @@ pub(crate) fn give_into(
 {
     match give(alloc, disk, number, queue) {
         Ok(made) => {
-            put_host(host, made);
+            host.put(made);
             0
         }
         Err(told) => told,

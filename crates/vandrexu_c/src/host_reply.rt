@@ -55,23 +55,32 @@ fn kind_in(reply: &Reply) -> u32
     }
 }
 
+// The reply of this type to a call that failed, with its status where it has one.
+macro_rules! failed {
+    ($reply:ident, $fault:ident) => {
+        match $fault {
+            Fault::Status(status) => $reply {
+                sct: status.sct(),
+                sc: status.sc(),
+                ..plain(FAILED)
+            },
+            Fault::Length
+            | Fault::TooLong
+            | Fault::RingFull
+            | Fault::Busy
+            | Fault::NoMemory
+            | Fault::SlotArea
+            | Fault::NoSerial => plain(FAILED),
+        }
+    };
+}
+
+pub(crate) use failed;
+
 fn failed_in(fault: Fault) -> HostReply
     ensures { result ≡ failed_reply fault }
 {
-    match fault {
-        Fault::Status(status) => HostReply {
-            sct: status.sct(),
-            sc: status.sc(),
-            ..plain(FAILED)
-        },
-        Fault::Length
-        | Fault::TooLong
-        | Fault::RingFull
-        | Fault::Busy
-        | Fault::NoMemory
-        | Fault::SlotArea
-        | Fault::NoSerial => plain(FAILED),
-    }
+    failed!(HostReply, fault)
 }
 
 /// What a poll tells.

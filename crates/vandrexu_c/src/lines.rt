@@ -5,8 +5,10 @@ ghost use Rattle.c_handles.specs.Pieces.{IsPiece};
 ghost use Rattle.vandrexu_c.specs.HistoryLines.{CopiesLines, LacksRoomForLine, lines_from};
 ghost use Rattle.vandrexu_c.specs.OwnedStates.{OwnedState};
 
-use crate::controller::{NO_HANDLE, NO_MEMORY, TOO_SMALL};
-use crate::held::{Handle, put_in, take_out};
+use crate::held::Handle;
+use crate::lending::lend;
+use crate::numbers::TOO_SMALL;
+use c_handles::numbers::NO_MEMORY;
 use c_handles::{Piece, piece_of};
 use std::alloc::{AllocError as NoMemory, Global};
 use step_core::Core;
@@ -71,17 +73,12 @@ pub extern "C" fn vandrexu_controller_history(
         LacksRoomForLine (lines_from m.core from) (length out.old) needed.new }
     ensures kept { (result ≡ 0 → ⊥) → (out.new ≡ out.old) × (next.new ≡ next.old) }
 {
-    let Some(owned) = take_out(alloc, controller) else {
-        return NO_HANDLE;
-    };
-    let told = copy_lines(
+    lend!(alloc, controller, owned => copy_lines(
         alloc,
         &owned.as_ref().core,
         from as usize,
         out,
         needed,
         next,
-    );
-    put_in(controller, owned);
-    told
+    ))
 }

@@ -67,27 +67,29 @@ pub struct CheckerHandle {
     ghost marked: { live ≡ mark held.run },
 }
 
-// Takes the checker out of a handle.
-pub(crate) fn take_checker(alloc: Global, handle: &mut CheckerHandle) -> Option<Box<OwnedChecker>>
-    ensures value { MatchOption result (handle.old.held.run ≡ None) (λ b. handle.old.held.run ≡ Some b.value) }
-    ensures emptied { handle.new.held.run ≡ None }
-{
-    let empty = CheckerHandle {
-        held: HeldChecker::of(Owner::none()),
-        live: 0,
-    };
-    let CheckerHandle { held, live } = std::mem::replace(handle, empty);
-    held.into_owner().into_box(alloc, live)
-}
+impl CheckerHandle {
+    // Takes the checker out, if it owns one.
+    pub(crate) fn take(&mut self, alloc: Global) -> Option<Box<OwnedChecker>>
+        ensures value { MatchOption result (self.old.held.run ≡ None) (λ b. self.old.held.run ≡ Some b.value) }
+        ensures emptied { self.new.held.run ≡ None }
+    {
+        let empty = CheckerHandle {
+            held: HeldChecker::of(Owner::none()),
+            live: 0,
+        };
+        let CheckerHandle { held, live } = std::mem::replace(self, empty);
+        held.into_owner().into_box(alloc, live)
+    }
 
-// Puts a checker into a handle that has none.
-pub(crate) fn put_checker(handle: &mut CheckerHandle, owned: Box<OwnedChecker>)
-    requires { handle.old.held.run ≡ None }
-    ensures { handle.new.held.run ≡ Some owned.value }
-{
-    let full = CheckerHandle {
-        held: HeldChecker::of(Owner::of(owned)),
-        live: 1,
-    };
-    let CheckerHandle { held: _, live: _ } = std::mem::replace(handle, full);
+    // Puts a checker into one that has none.
+    pub(crate) fn put(&mut self, owned: Box<OwnedChecker>)
+        requires { self.old.held.run ≡ None }
+        ensures { self.new.held.run ≡ Some owned.value }
+    {
+        let full = CheckerHandle {
+            held: HeldChecker::of(Owner::of(owned)),
+            live: 1,
+        };
+        let CheckerHandle { held: _, live: _ } = std::mem::replace(self, full);
+    }
 }

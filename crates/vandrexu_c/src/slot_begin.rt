@@ -5,16 +5,14 @@ ghost use Rattle.vandrexu_c.specs.Begins.{BeginTold, is_held, is_hold, is_no_dea
 ghost use Rattle.vandrexu_c.specs.Begins.{ReleaseTold, claim_back, slot_back, slot_bar, took_over_by};
 ghost use Rattle.vandrexu_c.specs.declared.under_way.UnderWay.TheVariants as calls;
 
+use crate::numbers::{BAD_NAME, HELD, IN_CALL, NO_SLOT, NOT_HELD, TOOK_OVER};
 use crate::slot_hold::{Hold, KeptClaim, KeptSlot};
 use crate::slot_host::SlotHost;
-use crate::slot_numbers::{BAD_NAME, HELD, IN_CALL, NO_SLOT, NOT_HELD, TOOK_OVER};
 use crate::under_way::UnderWay;
 use driver_cas::{Fault, SharedPort};
 use nvme_model::Name;
 use slot_alloc::{Claim, Claiming, Releasing};
-use slot_takeover::{
-    GivingBack, HeldSlot, ReadingHolder, TakingOver, give_back, read_holder, take_over,
-};
+use slot_takeover::{HeldSlot, ReadingHolder, TakingOver, give_back, read_holder, take_over};
 use std::mem;
 
 // Whether a call is under way.
@@ -23,11 +21,8 @@ fn is_begun(under_way: &UnderWay) -> bool
 {
     match under_way {
         UnderWay::Nothing => false,
-        UnderWay::Claim(_)
-        | UnderWay::Release(_)
-        | UnderWay::Takeover(_)
-        | UnderWay::GiveBack(_)
-        | UnderWay::Holder(_) => true,
+        UnderWay::Claim(_) | UnderWay::Release(_) | UnderWay::Takeover(_) | UnderWay::Holder(_) =>
+            true,
     }
 }
 
@@ -174,16 +169,16 @@ fn keep_give_back(
     under_way: &mut UnderWay,
     holds: &mut Vec<Hold>,
     slot: u32,
-    begun: Result<GivingBack<SharedPort<'static>>, (HeldSlot, Fault)>,
+    begun: Result<Releasing<SharedPort<'static>>, (HeldSlot, Fault)>,
 ) -> u32
     requires idle { under_way.old ≡ calls.Nothing }
     requires slot { slot < vec_len holds.old }
-    ensures told { ReleaseTold calls.GiveBack begun.entry result under_way.new }
+    ensures told { ReleaseTold calls.Release begun.entry result under_way.new }
     ensures holds { holds.new.items ≡ slot_back holds.old.items slot begun.entry }
 {
     match begun {
-        Ok(giving) => {
-            *under_way = UnderWay::GiveBack(giving);
+        Ok(releasing) => {
+            *under_way = UnderWay::Release(releasing);
             0
         }
         Err((held, fault)) => {

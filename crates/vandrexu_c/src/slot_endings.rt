@@ -2,7 +2,7 @@
 
 ghost use Rattle.std.specs.Prelude.{◌≡◌, List};
 ghost use Rattle.vandrexu_c.specs.Polls.{HasRoomFor, HasRoomToTake, IsTold};
-ghost use Rattle.vandrexu_c.specs.Polls.{claim_told, give_back_told, holder_told, release_told, takeover_told};
+ghost use Rattle.vandrexu_c.specs.Polls.{claim_told, holder_told, release_told, takeover_told};
 ghost use Rattle.vandrexu_c.specs.SlotReplies.{plain_reply};
 ghost use Rattle.vandrexu_c.specs.declared.slot_hold.Hold.{Hold as TheHold};
 ghost use Rattle.vandrexu_c.specs.declared.under_way.UnderWay.TheVariants as calls;
@@ -15,16 +15,16 @@ use crate::slot_reply::{
 use crate::under_way::UnderWay;
 use driver_cas::SharedPort;
 use slot_alloc::{Progress, Released};
-use slot_takeover::{GivenBack, HolderPoll, TakeoverProgress};
+use slot_takeover::{HolderPoll, TakeoverProgress};
 
 // The call goes on: it isn't answered, or this number says why it wasn't polled.
-fn go_on(under_way: &mut UnderWay, call: UnderWay, number: u32) -> (u32, SlotReply)
+fn go_on(under_way: &mut UnderWay, call: UnderWay, number: u8) -> (u32, SlotReply)
     requires { under_way.old ≡ calls.Nothing }
     ensures told { (result.0 ≡ number) × (result.1 ≡ plain_reply 1) }
     ensures call { under_way.new ≡ call }
 {
     *under_way = call;
-    (number, plain(PENDING))
+    (u32::from(number), plain(PENDING))
 }
 
 /// Of a claim.
@@ -39,11 +39,9 @@ pub(crate) fn end_claim(
 {
     match progress {
         Progress::Pending(claiming) => go_on(under_way, UnderWay::Claim(claiming), 0),
-        Progress::Later(fault, claiming) => go_on(
-            under_way,
-            UnderWay::Claim(claiming),
-            u32::from(fault.number()),
-        ),
+        Progress::Later(fault, claiming) => {
+            go_on(under_way, UnderWay::Claim(claiming), fault.number())
+        }
         Progress::Held(claim) => {
             let slot = claim.slot();
 
@@ -69,11 +67,9 @@ pub(crate) fn end_release(
 {
     match released {
         Released::Pending(releasing) => go_on(under_way, UnderWay::Release(releasing), 0),
-        Released::Later(fault, releasing) => go_on(
-            under_way,
-            UnderWay::Release(releasing),
-            u32::from(fault.number()),
-        ),
+        Released::Later(fault, releasing) => {
+            go_on(under_way, UnderWay::Release(releasing), fault.number())
+        }
         Released::Released => (0, plain(RELEASED)),
         Released::Failed(fault) => (u32::from(fault.number()), failed_by(fault)),
     }
@@ -91,11 +87,9 @@ pub(crate) fn end_takeover(
 {
     match progress {
         TakeoverProgress::Pending(taking) => go_on(under_way, UnderWay::Takeover(taking), 0),
-        TakeoverProgress::Later(fault, taking) => go_on(
-            under_way,
-            UnderWay::Takeover(taking),
-            u32::from(fault.number()),
-        ),
+        TakeoverProgress::Later(fault, taking) => {
+            go_on(under_way, UnderWay::Takeover(taking), fault.number())
+        }
         TakeoverProgress::Held(held) => {
             let slot = held.slot();
             drop(put_at(holds, slot, Hold::TakenOver(KeptSlot { held })));
@@ -103,26 +97,6 @@ pub(crate) fn end_takeover(
         }
         TakeoverProgress::Taken => (0, plain(TAKEN)),
         TakeoverProgress::Failed(fault) => (u32::from(fault.number()), failed_by(fault)),
-    }
-}
-
-/// Of a release of what was taken over.
-pub(crate) fn end_give_back(
-    under_way: &mut UnderWay,
-    given: GivenBack<SharedPort<'static>>,
-) -> (u32, SlotReply)
-    requires idle { under_way.old ≡ calls.Nothing }
-    ensures { (holds : List TheHold) → IsTold (give_back_told holds given.entry) result.0 result.1 under_way.new holds }
-{
-    match given {
-        GivenBack::Pending(giving) => go_on(under_way, UnderWay::GiveBack(giving), 0),
-        GivenBack::Later(fault, giving) => go_on(
-            under_way,
-            UnderWay::GiveBack(giving),
-            u32::from(fault.number()),
-        ),
-        GivenBack::Released => (0, plain(RELEASED)),
-        GivenBack::Failed(fault) => (u32::from(fault.number()), failed_by(fault)),
     }
 }
 
@@ -136,11 +110,9 @@ pub(crate) fn end_holder(
 {
     match polled {
         HolderPoll::Pending(reading) => go_on(under_way, UnderWay::Holder(reading), 0),
-        HolderPoll::Later(fault, reading) => go_on(
-            under_way,
-            UnderWay::Holder(reading),
-            u32::from(fault.number()),
-        ),
+        HolderPoll::Later(fault, reading) => {
+            go_on(under_way, UnderWay::Holder(reading), fault.number())
+        }
         HolderPoll::Done(holder) => (0, told_holder(holder)),
         HolderPoll::Failed(fault) => (u32::from(fault.number()), failed_by(fault)),
     }

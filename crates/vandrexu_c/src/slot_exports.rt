@@ -10,12 +10,13 @@ ghost use Rattle.vandrexu_c.specs.SlotMaking.{MakesSlotHost, given_area};
 ghost use Rattle.vandrexu_c.specs.Polls.{PollTells};
 ghost use Rattle.vandrexu_c.specs.SlotStates.{SlotState};
 
-use crate::slot_handle::{SlotHandle, put_host, take_host};
+use crate::lending::lend;
+use crate::numbers::BAD_AREA;
+use crate::slot_handle::SlotHandle;
 use crate::slot_making::{area_given, give_into};
-use crate::slot_numbers::BAD_AREA;
 use crate::slot_reply::SlotReply;
 use c_handles::DiskHandle;
-use c_handles::numbers::{IN_USE, NO_HANDLE};
+use c_handles::numbers::IN_USE;
 use nvme_model::Name;
 use std::alloc::Global;
 
@@ -49,15 +50,10 @@ pub extern "C" fn vandrexu_slot_host_new(
     if host.live != 0 {
         return IN_USE;
     }
-    let Some(mut owned) = disk.take(alloc) else {
-        return NO_HANDLE;
-    };
-    let told = match area_given(first, count) {
+    lend!(alloc, disk, mut owned => match area_given(first, count) {
         Some(area) => give_into(alloc, owned.as_mut(), number, queue, area, host),
         None => BAD_AREA,
-    };
-    disk.put(owned);
-    told
+    })
 }
 
 /// Frees what the handle owns. Nothing is done where it owns nothing. What the host has stays held, by its name in the
@@ -66,7 +62,7 @@ pub extern "C" fn vandrexu_slot_host_new(
 pub extern "C" fn vandrexu_slot_host_free(alloc: Global, host: &mut SlotHandle)
     ensures { host.new.held.host ≡ None }
 {
-    drop(take_host(alloc, host));
+    drop(host.take(alloc));
 }
 
 /// Begins to claim a slot: 0; or 116 where a call is under way; or 118 where there is no such slot; or 120 where the
@@ -78,12 +74,7 @@ pub extern "C" fn vandrexu_slot_claim(alloc: Global, host: &mut SlotHandle, slot
     ensures claims { (h : SlotState) → host.old.held.host ≡ Some h →
         Keeps host.new.held.host (λ j. ClaimTells h j slot result) }
 {
-    let Some(mut owned) = take_host(alloc, host) else {
-        return NO_HANDLE;
-    };
-    let told = owned.as_mut().claim(slot);
-    put_host(host, owned);
-    told
+    lend!(alloc, host, mut owned => owned.as_mut().claim(slot))
 }
 
 /// Begins to claim the first slot that nobody has: slot 0, and each further one once it is answered that the one before
@@ -95,12 +86,7 @@ pub extern "C" fn vandrexu_slot_claim_any(alloc: Global, host: &mut SlotHandle) 
     ensures claims { (h : SlotState) → host.old.held.host ≡ Some h →
         Keeps host.new.held.host (λ j. AnyClaimTells h j result) }
 {
-    let Some(mut owned) = take_host(alloc, host) else {
-        return NO_HANDLE;
-    };
-    let told = owned.as_mut().claim_any();
-    put_host(host, owned);
-    told
+    lend!(alloc, host, mut owned => owned.as_mut().claim_any())
 }
 
 /// Begins to release a slot that the host has, by a claim or by a takeover: 0; or 116 where a call is under way; or 118
@@ -112,12 +98,7 @@ pub extern "C" fn vandrexu_slot_release(alloc: Global, host: &mut SlotHandle, sl
     ensures releases { (h : SlotState) → host.old.held.host ≡ Some h →
         Keeps host.new.held.host (λ j. ReleaseTells h j slot result) }
 {
-    let Some(mut owned) = take_host(alloc, host) else {
-        return NO_HANDLE;
-    };
-    let told = owned.as_mut().release(slot);
-    put_host(host, owned);
-    told
+    lend!(alloc, host, mut owned => owned.as_mut().release(slot))
 }
 
 /// Begins to take a slot over from the name of a dead host, its number and its serial: 0; or 116 where a call is under
@@ -135,12 +116,7 @@ pub extern "C" fn vandrexu_slot_take_over(
     ensures takes { (h : SlotState) → host.old.held.host ≡ Some h → Keeps host.new.held.host
         (λ j. TakeoverTells h j slot (record { host = dead; serial = serial }) result) }
 {
-    let Some(mut owned) = take_host(alloc, host) else {
-        return NO_HANDLE;
-    };
-    let told = owned.as_mut().take_over(slot, Name { host: dead, serial });
-    put_host(host, owned);
-    told
+    lend!(alloc, host, mut owned => owned.as_mut().take_over(slot, Name { host: dead, serial }))
 }
 
 /// Begins to ask who holds a slot: 0; or 116 where a call is under way; or 118 where there is no such slot; or the
@@ -151,12 +127,7 @@ pub extern "C" fn vandrexu_slot_ask_holder(alloc: Global, host: &mut SlotHandle,
     ensures asks { (h : SlotState) → host.old.held.host ≡ Some h →
         Keeps host.new.held.host (λ j. HolderTells h j slot result) }
 {
-    let Some(mut owned) = take_host(alloc, host) else {
-        return NO_HANDLE;
-    };
-    let told = owned.as_mut().ask_holder(slot);
-    put_host(host, owned);
-    told
+    lend!(alloc, host, mut owned => owned.as_mut().ask_holder(slot))
 }
 
 /// Polls the host's call: 0, and what became of it; or 44 where it failed, with its status; or 45 or 46 where nothing
@@ -173,11 +144,7 @@ pub extern "C" fn vandrexu_slot_poll(
     ensures polls { (h : SlotState) → host.old.held.host ≡ Some h →
         Keeps host.new.held.host (λ j. PollTells h j result reply.new) }
 {
-    let Some(mut owned) = take_host(alloc, host) else {
-        return NO_HANDLE;
-    };
-    let (told, what) = owned.as_mut().poll();
-    put_host(host, owned);
+    let (told, what) = lend!(alloc, host, mut owned => owned.as_mut().poll());
     *reply = what;
     told
 }

@@ -6,7 +6,7 @@ ghost use Rattle.c_handles.specs.Making.{HasGiven, MayRefuseHost, passes_left};
 ghost use Rattle.vandrexu_c.specs.SlotMaking.{AreNothing, IsFreshDriver, IsHostOver, IsNewSlotHost, MakesSlotHost};
 ghost use Rattle.vandrexu_c.specs.SlotMaking.{given_area};
 
-use crate::slot_handle::{SlotHandle, put_host};
+use crate::slot_handle::SlotHandle;
 use crate::slot_hold::Hold;
 use crate::slot_host::SlotHost;
 use crate::under_way::UnderWay;
@@ -121,7 +121,7 @@ pub(crate) fn give_into(
 {
     match give(alloc, disk, number, queue, area) {
         Ok(made) => {
-            put_host(host, made);
+            host.put(made);
             0
         }
         Err(told) => told,

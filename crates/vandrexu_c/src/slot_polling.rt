@@ -3,21 +3,18 @@
 ghost use Rattle.std.specs.Prelude.{◌≡◌};
 ghost use Rattle.vandrexu_c.specs.declared.under_way.UnderWay.TheVariants as calls;
 
-use crate::slot_endings::{end_claim, end_give_back, end_holder, end_release, end_takeover};
+use crate::numbers::NO_CALL;
+use crate::slot_endings::{end_claim, end_holder, end_release, end_takeover};
 use crate::slot_host::SlotHost;
-use crate::slot_numbers::NO_CALL;
 use crate::slot_reply::{PENDING, SlotReply, plain};
 use crate::under_way::UnderWay;
 use driver_cas::SharedPort;
 use slot_alloc::{Claiming, Releasing, poll_claim, poll_release};
-use slot_takeover::{
-    GivingBack, ReadingHolder, TakingOver, poll_given_back, poll_holder, poll_takeover,
-};
+use slot_takeover::{ReadingHolder, TakingOver, poll_holder, poll_takeover};
 use std::mem;
 
 impl SlotHost {
-    ghost use Rattle.vandrexu_c.specs.Polls.{ClaimPolls, GiveBackPolls, HolderPolls, PollTells, ReleasePolls};
-    ghost use Rattle.vandrexu_c.specs.Polls.{TakeoverPolls};
+    ghost use Rattle.vandrexu_c.specs.Polls.{ClaimPolls, HolderPolls, PollTells, ReleasePolls, TakeoverPolls};
     ghost use Rattle.vandrexu_c.specs.SlotStates.{IsUnderWay};
 
     fn poll_claim(&mut self, claiming: Claiming<SharedPort<'static>>) -> (u32, SlotReply)
@@ -47,15 +44,6 @@ impl SlotHost {
         end_takeover(&mut self.under_way, &mut self.holds, progress)
     }
 
-    fn poll_give_back(&mut self, giving: GivingBack<SharedPort<'static>>) -> (u32, SlotReply)
-        requires idle { self.old.under_way ≡ calls.Nothing }
-        requires of { IsUnderWay self.old.driver self.old.took_over (calls.GiveBack giving) }
-        ensures { GiveBackPolls self.old self.new giving.entry result.0 result.1 }
-    {
-        let given = poll_given_back(&mut self.driver, giving);
-        end_give_back(&mut self.under_way, given)
-    }
-
     fn poll_holder(&mut self, reading: ReadingHolder<SharedPort<'static>>) -> (u32, SlotReply)
         requires idle { self.old.under_way ≡ calls.Nothing }
         requires of { IsUnderWay self.old.driver self.old.took_over (calls.Holder reading) }
@@ -74,7 +62,6 @@ impl SlotHost {
             UnderWay::Claim(claiming) => self.poll_claim(claiming),
             UnderWay::Release(releasing) => self.poll_release(releasing),
             UnderWay::Takeover(taking) => self.poll_takeover(taking),
-            UnderWay::GiveBack(giving) => self.poll_give_back(giving),
             UnderWay::Holder(reading) => self.poll_holder(reading),
         }
     }

@@ -3,6 +3,7 @@
 ghost use Rattle.std.specs.Prelude.{◌≡◌};
 ghost use Rattle.vandrexu_c.specs.SlotReplies.{failed_reply, holder_reply, plain_reply, slot_reply};
 
+use crate::host_reply::failed;
 use driver_cas::Fault;
 use slot_takeover::Holder;
 
@@ -69,20 +70,7 @@ pub(crate) fn held_now(slot: u32) -> SlotReply
 pub(crate) fn failed_by(fault: Fault) -> SlotReply
     ensures { result ≡ failed_reply fault }
 {
-    match fault {
-        Fault::Status(status) => SlotReply {
-            sct: status.sct(),
-            sc: status.sc(),
-            ..plain(FAILED)
-        },
-        Fault::Length
-        | Fault::TooLong
-        | Fault::RingFull
-        | Fault::Busy
-        | Fault::NoMemory
-        | Fault::SlotArea
-        | Fault::NoSerial => plain(FAILED),
-    }
+    failed!(SlotReply, fault)
 }
 
 /// Who holds a slot.

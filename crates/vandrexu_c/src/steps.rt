@@ -9,11 +9,23 @@ ghost use Rattle.vandrexu_c.specs.Steps.{TellsBlocked, TellsFetched, TellsGrante
 ghost use Rattle.vandrexu_c.specs.Steps.{TellsReap, TellsStep};
 
 use crate::answers::{BlockedStep, FetchedWork, GrantedUnit, NextStep, step_in};
-use crate::controller::NO_HANDLE;
-use crate::held::{Handle, put_in, take_out};
+use crate::held::Handle;
+use crate::lending::lend;
+use c_handles::numbers::NOTHING_READY;
 use std::alloc::Global;
 
-const NOTHING_READY: u32 = 105;
+// 0, and what is told lies in the caller's memory; or the number of the refusal.
+macro_rules! tell {
+    ($done:ident, $out:ident) => {
+        match $done {
+            Ok(told) => {
+                *$out = told;
+                0
+            }
+            Err(number) => number,
+        }
+    };
+}
 
 /// Fetches the next command, or fused pair, of a submission queue, as a ticket: 0, and what that has to do; or the
 /// number of the refusal; or 101 where the handle owns nothing. `work` is written at 0 alone.
@@ -30,18 +42,8 @@ pub extern "C" fn vandrexu_controller_fetch(
         Keeps controller.new.held.core (TellsStep m (TheStep.Fetch queue) (TellsFetched work.new) result) }
     ensures kept { (result ≡ 0 → ⊥) → work.new ≡ work.old }
 {
-    let Some(mut owned) = take_out(alloc, controller) else {
-        return NO_HANDLE;
-    };
-    let done = owned.as_mut().fetch(queue);
-    put_in(controller, owned);
-    match done {
-        Ok(told) => {
-            *work = told;
-            0
-        }
-        Err(number) => number,
-    }
+    let done = lend!(alloc, controller, mut owned => owned.as_mut().fetch(queue));
+    tell!(done, work)
 }
 
 /// Begins the next unit of a ticket: 0, and its blocks; or the number of the refusal; or 101 where the handle owns
@@ -59,18 +61,8 @@ pub extern "C" fn vandrexu_controller_grant(
         Keeps controller.new.held.core (TellsStep m (TheStep.Grant ticket) (TellsGranted granted.new) result) }
     ensures kept { (result ≡ 0 → ⊥) → granted.new ≡ granted.old }
 {
-    let Some(mut owned) = take_out(alloc, controller) else {
-        return NO_HANDLE;
-    };
-    let done = owned.as_mut().grant(ticket);
-    put_in(controller, owned);
-    match done {
-        Ok(told) => {
-            *granted = told;
-            0
-        }
-        Err(number) => number,
-    }
+    let done = lend!(alloc, controller, mut owned => owned.as_mut().grant(ticket));
+    tell!(done, granted)
 }
 
 /// Makes the next block of a ticket's open unit: 0, and what it found and did; or the number of the refusal; or 101
@@ -88,18 +80,8 @@ pub extern "C" fn vandrexu_controller_block(
         Keeps controller.new.held.core (TellsStep m (TheStep.Block ticket) (TellsBlocked blocked.new) result) }
     ensures kept { (result ≡ 0 → ⊥) → blocked.new ≡ blocked.old }
 {
-    let Some(mut owned) = take_out(alloc, controller) else {
-        return NO_HANDLE;
-    };
-    let done = owned.as_mut().block(ticket);
-    put_in(controller, owned);
-    match done {
-        Ok(told) => {
-            *blocked = told;
-            0
-        }
-        Err(number) => number,
-    }
+    let done = lend!(alloc, controller, mut owned => owned.as_mut().block(ticket));
+    tell!(done, blocked)
 }
 
 /// Posts the next completion of a ticket: 0, and its 16 bytes; or the number of the refusal; or 101 where the handle
@@ -117,18 +99,8 @@ pub extern "C" fn vandrexu_controller_post(
         Keeps controller.new.held.core (TellsStep m (TheStep.Post ticket) (TellsPosted cqe.new) result) }
     ensures kept { (result ≡ 0 → ⊥) → cqe.new ≡ cqe.old }
 {
-    let Some(mut owned) = take_out(alloc, controller) else {
-        return NO_HANDLE;
-    };
-    let done = owned.as_mut().post(ticket);
-    put_in(controller, owned);
-    match done {
-        Ok(told) => {
-            *cqe = told;
-            0
-        }
-        Err(number) => number,
-    }
+    let done = lend!(alloc, controller, mut owned => owned.as_mut().post(ticket));
+    tell!(done, cqe)
 }
 
 /// Takes the next completion of a completion queue: 0, its 16 bytes, and how many bytes a successful Read read, which
@@ -148,12 +120,8 @@ pub extern "C" fn vandrexu_controller_reap(
         Keeps controller.new.held.core (TellsReap m (TheStep.Reap queue) cqe.new count.new result) }
     ensures kept { (result ≡ 0 → ⊥) → (cqe.new ≡ cqe.old) × (count.new ≡ count.old) }
 {
-    let Some(mut owned) = take_out(alloc, controller) else {
-        return NO_HANDLE;
-    };
-    let done = owned.as_mut().reap(queue);
-    let length = owned.as_ref().payload.len();
-    put_in(controller, owned);
+    let (done, length) =
+        lend!(alloc, controller, mut owned => (owned.as_mut().reap(queue), owned.as_ref().payload.len()));
     match done {
         Ok(taken) => {
             *cqe = taken;
@@ -178,11 +146,7 @@ pub extern "C" fn vandrexu_controller_ready(
         TellsReady (ready m.core.config m.core.past) result step.new }
     ensures kept { (result ≡ 0 → ⊥) → step.new ≡ step.old }
 {
-    let Some(owned) = take_out(alloc, controller) else {
-        return NO_HANDLE;
-    };
-    let found = owned.as_ref().core.ready();
-    put_in(controller, owned);
+    let found = lend!(alloc, controller, owned => owned.as_ref().core.ready());
     let Some(next) = found else {
         return NOTHING_READY;
     };

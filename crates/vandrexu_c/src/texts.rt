@@ -7,19 +7,13 @@ ghost use Rattle.vandrexu_c.specs.TextCalls.{told_certify, told_certify_fault, t
 ghost use Rattle.vandrexu_c.specs.TextCalls.{told_history_fault, told_observe, told_run};
 
 use crate::copying::fits;
+use crate::numbers::{BAD_LINE, NOT_LEGAL, TOO_SMALL};
 use bitflags::Flags;
+use c_handles::numbers::NO_MEMORY;
 use casdisk_texts::{CertifyFault, RunFault, certify_text, check_text, run_script};
 use file_commands::{TraceAnswer, observe_text};
 use history::Kinds;
 use std::alloc::Global;
-
-const NO_MEMORY: u32 = 11;
-
-const TOO_SMALL: u32 = 103;
-
-const BAD_LINE: u32 = 107;
-
-const NOT_LEGAL: u32 = 108;
 
 const NOT_EXPLAINED: u32 = 109;
 

@@ -1,27 +1,24 @@
 -- The Work of a ticket that was just fetched.
 use Rattle.std.proofs.Common.{Bool, List, None, Option, Some, [], ap, arith, cond, eq-eqb, eqb, false, length, refl}
-use Rattle.std.proofs.Common.{subst, sym, true, ℕ, ◌+◌, ◌∙◌, ◌≡◌, ◌||◌, ◌∷◌, slice_get}
+use Rattle.std.proofs.Common.{subst, sym, true, ℕ, ◌+◌, ◌∙◌, ◌≡◌, ◌||◌, ◌∷◌}
 use Rattle.std.specs.List.{list_any}
 use Rattle.std.proofs.lemmas.Bool.{cond-true}
 use Rattle.nvme_model.specs.Commands.{is_compare, is_read, is_write, is_write_zeroes}
-use Rattle.nvme_model.specs.Completions.{posted_completions, reaped_count}
 use Rattle.nvme_model.specs.EntryBytes.{block_count, slba}
 use Rattle.nvme_model.specs.History.{Past}
 use Rattle.nvme_model.specs.Legal.{IsLegal}
 use Rattle.nvme_model.specs.Operations.{is_pair, op, op_of_fields, units, units_by}
-use Rattle.nvme_model.specs.Steps.{reap_entry}
 use Rattle.nvme_model.specs.Tickets
 use Rattle.nvme_model.specs.Tickets.{Ticket, fetched_ticket, first_fields, next_verdict, tickets}
 use Rattle.nvme_model.specs.Verdict.{taken_entries}
 use Rattle.nvme_model.specs.declared.config.ConfigNumbers.{ConfigNumbers}
 use Rattle.nvme_model.specs.declared.entry.Entry.{Entry}
 use Rattle.nvme_model.specs.declared.entry.FetchLine.{FetchLine}
-use Rattle.nvme_model.specs.declared.entry.PostLine.{PostLine}
 use Rattle.nvme_model.specs.declared.operation.Op.{Op}
 use Rattle.nvme_model.specs.declared.status.Verdict.{Verdict}
 use Rattle.nvme_model.specs.declared.step.Step.{Step}
 use Rattle.nvme_model.specs.declared.submission.Submission.{Submission}
-use Rattle.controller_interface.specs.State.{answer_of, kind_by, work_of}
+use Rattle.controller_interface.specs.State.{answer_of, judged_by, work_of}
 use Rattle.controller_interface.specs.Works.{TicketWork}
 use Rattle.controller_interface.specs.declared.answer.Answer.{Answer}
 use Rattle.ticket_laws.specs.Entries.{ticket_in}
@@ -43,7 +40,7 @@ no_pair false false false true = refl
 no_pair false false false false = refl
 
 by_op : (c : ConfigNumbers) (t : ℕ) (k : Ticket) (o : Option Op) → is_pair o ≡ false
-    → duty_of (record { ticket = t; atomic = c.atomic; kind = kind_by k o }) ≡ record {
+    → duty_of (record { ticket = t; atomic = c.atomic; judged = judged_by k o }) ≡ record {
       statuses = 1;
       op = o;
       units = units_by c.atomic o (slba (first_fields k)) (block_count (first_fields k));
@@ -114,15 +111,3 @@ fetched_work c past q e a w h now s is =
           ∙ ap (λ (z : Entry). own_stage (duty_of w) w.ticket (z ∷ [])) (sym s.1),
       ap (is_fetch_of w.ticket) s.1 ∙ eq-eqb (tickets past + 1) w.ticket (ap (λ (x : TicketWork). x.ticket) work),
     )
-
--- a Reap is answered with a completion
-reap_by : (c : ConfigNumbers) (past : Past) (q : ℕ) (o : Option PostLine)
-    → (cqe payload : List ℕ) × (answer_of c past (reap_entry q o) ≡ Answer.Reaped cqe payload)
-reap_by c past q None = (_, _, refl)
-reap_by c past q (Some p) = (_, _, refl)
-
-pub reaped_answer : (c : ConfigNumbers) (past : Past) (q : ℕ) (e : Entry) (a : Answer)
-    → Accepts c past (Step.Reap q) e a → (cqe payload : List ℕ) × (a ≡ Answer.Reaped cqe payload)
-reaped_answer c past q e a s =
-    let t = reap_by c past q (slice_get (posted_completions c past q) (reaped_count past q)) in
-    (t.0, t.1, s.2 ∙ (ap (answer_of c past) s.1 ∙ t.2))

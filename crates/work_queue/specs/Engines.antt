@@ -1,11 +1,12 @@
 -- What contracts say of an engine, its works and its notices.
-use Rattle.std.specs.Prelude.{[], true, ◌≡◌, ◌∷◌}
+use Rattle.std.specs.Prelude.{List, [], true, ℕ, ◌≡◌, ◌∷◌}
 use Rattle.nvme_model.specs.History.{Past}
 use Rattle.nvme_model.specs.Passes.{SharedPast}
 use Rattle.nvme_model.specs.declared.config.ConfigNumbers.{ConfigNumbers}
 use Rattle.nvme_model.specs.declared.entry.Entry.{Entry}
 use Rattle.nvme_model.specs.declared.refusal.Why.{Why}
 use Rattle.nvme_model.specs.declared.step.Step.{Step}
+use Rattle.nvme_model.specs.declared.submission.Submission.{Submission}
 use Rattle.controller_interface.specs.State.{ControllerState}
 use Rattle.controller_interface.specs.declared.answer.Answer.{Answer}
 use Rattle.controller_interface.specs.declared.answer.Refused.{Refused}
@@ -13,6 +14,10 @@ use Rattle.controller_interface.specs.State.{Accepts}
 use Rattle.meet_lock.specs.Passes
 use Rattle.meet_lock.specs.declared.pass.Declined.{Declined}
 use Rattle.meet_lock.specs.declared.pass.Pass.{Pass}
+use Rattle.meet_lock.specs.declared.pass.Unmade.{Unmade}
+use Rattle.step_core.specs.declared.calls.FetchCall.{FetchCall}
+use Rattle.step_core.specs.declared.calls.PublishCall.{PublishCall}
+use Rattle.step_core.specs.declared.calls.ReapCall.{ReapCall}
 use Rattle.work_queue.specs.Duties.{is_only_fetch}
 use Rattle.work_queue.specs.declared.engine.Engine.{Engine}
 use Rattle.work_queue.specs.declared.engine.Open.{Open}
@@ -50,6 +55,30 @@ its w = Passes.its w.owner
 -- what the Work has seen
 abbrev pub work_seen : Work → SharedPast
 work_seen w = Passes.ticket_seen w.owner
+
+-- after an accepted Fetch: the Work of the ticket of its entry, which is that ticket's one entry, has seen what the
+-- pass has
+pub record FetchedAs (eng : Engine) (p q : EnginePass) (n : ℕ) (w : Work) : Type 0 where
+  pub by : Passes.Accepted Accepts p q (Step.Fetch n) (Answer.Fetched w.work)
+  pub of : IsWorkOf eng w
+  pub saw : work_seen w ≡ Passes.seen q
+  pub one : its w ≡ by.entry ∷ []
+  pub fresh : is_only_fetch w.work.ticket (its w) ≡ true
+
+-- why a Publish isn't made, as it is said of all steps
+abbrev pub publish_declined : Unmade PublishCall (Why × List Submission) → Declined
+publish_declined (Unmade.Busy c) = Declined.Busy (Step.Publish c.queue c.batch)
+publish_declined (Unmade.Refused r) = Declined.Refused (Refused.Publish r.0 r.1)
+
+-- why a Fetch isn't made
+abbrev pub fetch_declined : Unmade FetchCall Why → Declined
+fetch_declined (Unmade.Busy c) = Declined.Busy (Step.Fetch c.queue)
+fetch_declined (Unmade.Refused why) = Declined.Refused (Refused.Step why)
+
+-- why a Reap isn't made
+abbrev pub reap_declined : Unmade ReapCall Why → Declined
+reap_declined (Unmade.Busy c) = Declined.Busy (Step.Reap c.queue)
+reap_declined (Unmade.Refused why) = Declined.Refused (Refused.Step why)
 
 -- the step that an opening asks for
 abbrev pub open_step : Open → Step

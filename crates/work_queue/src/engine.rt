@@ -1,18 +1,20 @@
 //! A controller that callers share, each ticket stepped only with its Work.
 
-ghost use Rattle.std.specs.Prelude.{◌≡◌, ◌<◌, ◌+◌, All, None, Some, ℕ, IfErr, IfOk, IfSome, IsSome};
+ghost use Rattle.std.specs.Prelude.{◌≡◌, ◌<◌, ◌+◌, All, None, Some, ℕ, IfErr, IfOk, IfSome, IsSome, OnOk};
 ghost use Rattle.std.specs.Prelude.{[], slice_get, vec_len};
 ghost use Rattle.nvme_model.specs.Passes.{IsBeginning, SharedPast, entries, places};
 ghost use Rattle.nvme_model.specs.Kept.{ControllerInvariant};
+ghost use Rattle.work_queue.specs.Engines.{fetch_declined, publish_declined, reap_declined};
 
 use crate::stages::{stage_after, start_of};
 use crate::task::Task;
 use crate::work::Work;
 use history::Config;
-use meet_lock::{Busy, Declined, Pass, Shared, TicketOwner};
+use meet_lock::{Busy, Declined, Pass, Shared, TicketOwner, Unmade};
+use nvme_model::refusal::Why;
 use nvme_model::submission::{Payload, Submissions};
 use std::alloc::{AllocError as NoMemory, Global};
-use step_core::{Answer, Core, Step};
+use step_core::{Answer, Completion, Core, FetchCall, PublishCall, ReapCall, Refused, Step};
 
 /// A step that names a queue.
 #[derive(Drop)]
@@ -34,6 +36,36 @@ pub enum Opened {
     Reaped { cqe: [u8; 16], payload: Payload },
 }
 
+// Why a Publish isn't made, as it is said of all steps.
+fn publish_declined(unmade: Unmade<PublishCall, (Why, Submissions)>) -> Declined
+    ensures value { result ≡ publish_declined unmade }
+{
+    match unmade {
+        Unmade::Busy(PublishCall { queue, batch }) => Declined::Busy(Step::Publish(queue, batch)),
+        Unmade::Refused((why, batch)) => Declined::Refused(Refused::Publish(why, batch)),
+    }
+}
+
+// Why a Fetch isn't made.
+fn fetch_declined(unmade: Unmade<FetchCall, Why>) -> Declined
+    ensures value { result ≡ fetch_declined unmade }
+{
+    match unmade {
+        Unmade::Busy(FetchCall { queue }) => Declined::Busy(Step::Fetch(queue)),
+        Unmade::Refused(why) => Declined::Refused(Refused::Step(why)),
+    }
+}
+
+// Why a Reap isn't made.
+fn reap_declined(unmade: Unmade<ReapCall, Why>) -> Declined
+    ensures value { result ≡ reap_declined unmade }
+{
+    match unmade {
+        Unmade::Busy(ReapCall { queue }) => Declined::Busy(Step::Reap(queue)),
+        Unmade::Refused(why) => Declined::Refused(Refused::Step(why)),
+    }
+}
+
 /// A controller that callers share.
 #[derive(Drop)]
 pub struct Engine {
@@ -42,8 +74,11 @@ pub struct Engine {
 
 impl Engine {
     ghost use Rattle.controller_interface.specs.State.{Accepts, Refuses};
-    ghost use Rattle.meet_lock.specs.Passes.{Declines, IsNew, IsNotBusy, IsSame, Knows, Met, Saw, Worked, config_of};
-    ghost use Rattle.meet_lock.specs.Passes.{IsSeenWhole, mine, number, passes_of, seen};
+    ghost use Rattle.nvme_model.specs.declared.step.Step.{Step as TheStep};
+    ghost use Rattle.controller_interface.specs.declared.answer.Answer.{Answer as TheAnswer};
+    ghost use Rattle.meet_lock.specs.Passes.{Accepted, Declines, IsCallMade, IsNew, IsNotBusy, IsSame, Knows, Met, Saw};
+    ghost use Rattle.meet_lock.specs.Passes.{IsSeenWhole, Worked, config_of, mine, number, passes_of, seen};
+    ghost use Rattle.step_core.specs.Answers.{reaped_answer};
     ghost use Rattle.meet_lock.specs.Lock.{AreOfPasses, ExtendsByPasses, unmade};
     ghost use Rattle.meet_lock.specs.declared.pass.Pass.{Pass};
     ghost use Rattle.controller_interface.specs.State.{ControllerState};
@@ -51,9 +86,8 @@ impl Engine {
     ghost use Rattle.ticket_laws.specs.Tasks.{task_fault};
     ghost use Rattle.work_queue.specs.Duties.{duty_of, task_step};
     ghost use Rattle.work_queue.specs.Posted.{IsAnswerPosted};
-    ghost use Rattle.work_queue.specs.Engines.{IsFreshPass, IsNoTaskFault, IsPassOfEngine, IsWorkOf, OpenedAs, its};
-    ghost use Rattle.work_queue.specs.Engines.{open_step};
-    ghost use Rattle.work_queue.specs.Engines.{opening_of};
+    ghost use Rattle.work_queue.specs.Engines.{FetchedAs, IsFreshPass, IsNoTaskFault, IsPassOfEngine};
+    ghost use Rattle.work_queue.specs.Engines.{IsWorkOf, OpenedAs, its, open_step, opening_of};
 
     /// The controller with a lock round it, and as many passes as asked for, numbered from 1 in order.
     ///
@@ -103,6 +137,86 @@ impl Engine {
         Ok((engine, passes))
     }
 
+    /// Puts a batch at the end of a submission queue, if no other caller has the lock.
+    ///
+    /// # Errors
+    ///
+    /// The batch comes back: `Busy` where another caller had the lock; nothing has changed. `Refused` by the refusals
+    /// at what the pass has seen then.
+    pub fn publish(
+        &self,
+        pass: &mut Pass<Core>,
+        queue: u16,
+        batch: Submissions,
+    ) -> Result<(), Unmade<PublishCall, (Why, Submissions)>>
+        requires { IsPassOfEngine self.now pass.old }
+        ensures same { IsSame pass.old pass.new }
+        ensures knows { Knows ControllerInvariant pass.old pass.new }
+        ensures accepted { OnOk result
+            (Accepted Accepts pass.old pass.new (TheStep.Publish queue batch) TheAnswer.Published) }
+        ensures declined { IfErr result
+            (λ u. Declines Refuses pass.old pass.new (TheStep.Publish queue batch) (publish_declined u)) }
+        ensures alone { passes_of pass.old ≡ 1 → IsCallMade result }
+    {
+        match self.shared.attempt_open(pass, PublishCall { queue, batch }) {
+            Ok(_) => Ok(()),
+            Err(unmade) => Err(unmade),
+        }
+    }
+
+    /// Takes the next command, or the next fused pair, of a submission queue, if no other caller has the lock.
+    ///
+    /// # Errors
+    ///
+    /// As `publish`.
+    pub fn fetch(&self, pass: &mut Pass<Core>, queue: u16) -> Result<Work, Unmade<FetchCall, Why>>
+        requires { IsPassOfEngine self.now pass.old }
+        ensures same { IsSame pass.old pass.new }
+        ensures knows { Knows ControllerInvariant pass.old pass.new }
+        ensures accepted { IfOk result (FetchedAs self.now pass.old pass.new queue) }
+        ensures declined { IfErr result
+            (λ u. Declines Refuses pass.old pass.new (TheStep.Fetch queue) (fetch_declined u)) }
+        ensures alone { passes_of pass.old ≡ 1 → IsCallMade result }
+    {
+        match self.shared.attempt_open(pass, FetchCall { queue }) {
+            Ok((work, owner)) => {
+                let stage = start_of(&work);
+                Ok(Work {
+                    work,
+                    queue,
+                    owner,
+                    stage,
+                })
+            }
+            Err(unmade) => Err(unmade),
+        }
+    }
+
+    /// Takes the next completion of a completion queue, if no other caller has the lock.
+    ///
+    /// # Errors
+    ///
+    /// As `publish`.
+    pub fn reap(
+        &self,
+        pass: &mut Pass<Core>,
+        queue: u16,
+    ) -> Result<Completion, Unmade<ReapCall, Why>>
+        requires { IsPassOfEngine self.now pass.old }
+        ensures same { IsSame pass.old pass.new }
+        ensures knows { Knows ControllerInvariant pass.old pass.new }
+        ensures accepted { IfOk result
+            (λ c. Accepted Accepts pass.old pass.new (TheStep.Reap queue) (reaped_answer c)) }
+        ensures declined { IfErr result
+            (λ u. Declines Refuses pass.old pass.new (TheStep.Reap queue) (reap_declined u)) }
+        ensures alone { passes_of pass.old ≡ 1 → IsCallMade result }
+    {
+        match self.shared.attempt_open(pass, ReapCall { queue }) {
+            Ok((completion, _)) => Ok(completion),
+            Err(unmade) => Err(unmade),
+        }
+    }
+
     /// Makes a Publish, a Fetch or a Reap, if no other caller has the lock.
     ///
     /// # Errors
@@ -118,32 +232,21 @@ impl Engine {
         ensures alone { passes_of pass.old ≡ 1 → IsNotBusy result }
     {
         match request {
-            Open::Publish(queue, batch) => {
-                self.shared.attempt_open(pass, Step::Publish(queue, batch))?;
-                Ok(Opened::Published)
-            }
-            Open::Fetch(queue) => {
-                let (answer, owner) = self.shared.attempt_open(pass, Step::Fetch(queue))?;
-                // A Fetch that was made is answered by its work.
-                let Answer::Fetched(work) = answer else {
-                    unreachable!();
-                };
-                let stage = start_of(&work);
-                Ok(Opened::Fetched(Work {
-                    work,
-                    queue,
-                    owner,
-                    stage,
-                }))
-            }
-            Open::Reap(queue) => {
-                let (answer, _) = self.shared.attempt_open(pass, Step::Reap(queue))?;
-                // A Reap that was made is answered by its completion.
-                let Answer::Reaped { cqe, payload } = answer else {
-                    unreachable!();
-                };
-                Ok(Opened::Reaped { cqe, payload })
-            }
+            Open::Publish(queue, batch) => match self.publish(pass, queue, batch) {
+                Ok(()) => Ok(Opened::Published),
+                Err(unmade) => Err(publish_declined(unmade)),
+            },
+            Open::Fetch(queue) => match self.fetch(pass, queue) {
+                Ok(work) => Ok(Opened::Fetched(work)),
+                Err(unmade) => Err(fetch_declined(unmade)),
+            },
+            Open::Reap(queue) => match self.reap(pass, queue) {
+                Ok(completion) => {
+                    let Completion { cqe, payload } = completion;
+                    Ok(Opened::Reaped { cqe, payload })
+                }
+                Err(unmade) => Err(reap_declined(unmade)),
+            },
         }
     }
 

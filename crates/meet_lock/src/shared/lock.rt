@@ -12,17 +12,17 @@ ghost use Rattle.meet_lock.specs.SeatSteps.{Out, OutMore, OutSame, SawAll};
 use crate::owner::StepRight;
 use crate::plays::{Leave, Take, Write};
 use crate::shared::{SeatPlace, Shared};
-use controller_interface::{Answer, Machine, Refused, Step};
+use controller_interface::{Machine, StepCall};
 
 // Makes the step of the machine in the box.
-fn stepped<M: Machine>(machine: &mut Box<M>, step: Step) -> Result<Answer, Refused>
+fn stepped<M: Machine, C: StepCall<M>>(machine: &mut Box<M>, call: C) -> Result<C::Told, C::Refusal>
     ensures config { boxed M.config machine.new ≡ boxed M.config machine.old }
-    ensures accepted { IfOk result (λ a. (e : Entry) × (boxed M.history machine.new ≡ e ∷ boxed M.history machine.old)
-        × M.accepts (boxed M.config machine.old) (boxed M.history machine.old) step e a) }
+    ensures accepted { IfOk result (λ t. (e : Entry) × (boxed M.history machine.new ≡ e ∷ boxed M.history machine.old)
+        × M.accepts (boxed M.config machine.old) (boxed M.history machine.old) (C.asks call) e (C.answers t)) }
     ensures refused { IfErr result (λ r. (boxed M.history machine.new ≡ boxed M.history machine.old)
-        × M.refuses (boxed M.config machine.old) (boxed M.history machine.old) step r) }
+        × M.refuses (boxed M.config machine.old) (boxed M.history machine.old) (C.asks call) (C.refuses r)) }
 {
-    machine.step(step)
+    call.make(machine)
 }
 
 impl<M: Machine, K: StepRight> Shared<M, K> {
@@ -42,26 +42,29 @@ impl<M: Machine, K: StepRight> Shared<M, K> {
     }
 
     // Makes the step of the machine that the seat took out, and gives it back.
-    pub(crate) fn step_out(
+    pub(crate) fn step_out<C: StepCall<M>>(
         &self,
         seat: &mut SeatPlace<M>,
         mut machine: Box<M>,
-        step: Step,
-    ) -> Result<Answer, Refused>
+        call: C,
+    ) -> Result<C::Told, C::Refusal>
         requires own { seat.old.table_id ≡ self.now.table.shared.table_id }
         requires out { OutSame (boxed M.config) (boxed M.history) M.legal machine seat.old.me }
-        requires may { (e : Entry) (a : Answer) → M.accepts seat.old.me.0.config (entries seat.old.me.0.held) step e a
+        requires may { (e : Entry) (a : Answer)
+            → M.accepts seat.old.me.0.config (entries seat.old.me.0.held) (C.asks call) e a
             → MayTell K.owned seat.old.me.0 (entries seat.old.me.0.held) e }
         ensures same { IsSameSeat seat.old seat.new }
-        ensures made { IfOk result (Made M.legal M.accepts K.owned step seat.old.me seat.new.me) }
-        ensures refused { IfErr result (MadeNone M.refuses step seat.old.me seat.new.me) }
+        ensures made { IfOk result
+            (λ t. Made M.legal M.accepts K.owned (C.asks call) seat.old.me seat.new.me (C.answers t)) }
+        ensures refused { IfErr result
+            (λ r. MadeNone M.refuses (C.asks call) seat.old.me seat.new.me (C.refuses r)) }
         ensures told { SawAll seat.old.me.0 }
         ensures whole { KnowsTicket seat.new.me.0 }
     {
-        match stepped(&mut machine, step) {
-            Ok(answer) => {
+        match stepped(&mut machine, call) {
+            Ok(told) => {
                 self.give_more(seat, machine);
-                Ok(answer)
+                Ok(told)
             }
             Err(refusal) => {
                 self.give_same(seat, machine);

@@ -5,13 +5,14 @@ ghost use Rattle.nvme_model.specs.Passes.{entries};
 ghost use Rattle.ticket_laws.specs.Entries.{named_ticket, names_queue, of_ticket};
 
 use crate::owner::TicketOwner;
-use crate::pass::{Declined, Pass};
+use crate::pass::{Declined, Pass, Unmade};
 use crate::seats::TicketSeat;
 use crate::shared::Shared;
-use controller_interface::{Answer, Machine, Step};
+use controller_interface::{Answer, Machine, Step, StepCall};
 
 impl<M: Machine> Shared<M, TicketOwner> {
-    ghost use Rattle.meet_lock.specs.Passes.{Declines, IsNotBusy, IsPassOfLock, IsSame, IsTicketOf, Knows, OpensTicket};
+    ghost use Rattle.meet_lock.specs.Passes.{Declines, IsBack, IsCallMade, IsNotBusy, IsPassOfLock, IsSame, IsTicketOf};
+    ghost use Rattle.meet_lock.specs.Passes.{Knows, OpensTicket, declined_by};
     ghost use Rattle.meet_lock.specs.Passes.{Saw, Worked};
     ghost use Rattle.meet_lock.specs.Passes.{its, owned_ticket, passes_of, seen};
 
@@ -19,29 +20,32 @@ impl<M: Machine> Shared<M, TicketOwner> {
     ///
     /// # Errors
     ///
-    /// As `attempt`.
-    pub fn attempt_open(
+    /// As `attempt`, but that the call comes back, or its own refusal.
+    pub fn attempt_open<C: StepCall<M>>(
         &self,
         pass: &mut Pass<M>,
-        step: Step,
-    ) -> Result<(Answer, TicketSeat<M>), Declined>
+        call: C,
+    ) -> Result<(C::Told, TicketSeat<M>), Unmade<C, C::Refusal>>
         requires own { IsPassOfLock self.now pass.old }
-        requires open { names_queue step ≡ true }
+        requires open { names_queue (C.asks call) ≡ true }
         ensures same { IsSame pass.old pass.new }
         ensures knows { Knows M.legal pass.old pass.new }
-        ensures accepted { IfOk result (λ r. OpensTicket M.accepts self.now pass.old pass.new step r.0 r.1) }
-        ensures declined { IfErr result (Declines M.refuses pass.old pass.new step) }
-        ensures alone { passes_of pass.old ≡ 1 → IsNotBusy result }
+        ensures accepted { IfOk result
+            (λ r. OpensTicket M.accepts self.now pass.old pass.new (C.asks call) (C.answers r.0) r.1) }
+        ensures declined { IfErr result
+            (λ u. Declines M.refuses pass.old pass.new (C.asks call) (declined_by C.asks C.refuses u)) }
+        ensures back { IfErr result (IsBack call) }
+        ensures alone { passes_of pass.old ≡ 1 → IsCallMade result }
     {
         let Some(machine) = self.take(&mut pass.seat) else {
-            return Err(Declined::Busy(step));
+            return Err(Unmade::Busy(call));
         };
-        match self.step_out(&mut pass.seat, machine, step) {
-            Ok(answer) => {
+        match self.step_out(&mut pass.seat, machine, call) {
+            Ok(told) => {
                 let seat = self.unload(&mut pass.seat);
-                Ok((answer, TicketSeat { seat }))
+                Ok((told, TicketSeat { seat }))
             }
-            Err(refusal) => Err(Declined::Refused(refusal)),
+            Err(refusal) => Err(Unmade::Refused(refusal)),
         }
     }
 

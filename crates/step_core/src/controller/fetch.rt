@@ -4,24 +4,23 @@ ghost use Rattle.std.specs.Option.{option_copied, option_map};
 ghost use Rattle.std.specs.Prelude.{◌≡◌, ◌≤◌, ◌+◌, ◌++◌, IfOk, MatchResult, None, OnErr, Some};
 ghost use Rattle.std.specs.Prelude.{false, length, slice_get, true};
 ghost use Rattle.block_array.specs.Blocks.{contents_of};
-ghost use Rattle.fused_match.specs.Judged.{NamesBlocks, cids_taken, operation_in, verdict_by, waiting_items};
+ghost use Rattle.fused_match.specs.Judged.{IsSound, NamesBlocks, cids_taken, operation_in, verdict_by, waiting_items};
 ghost use Rattle.nvme_model.specs.Operations.{op_by};
 ghost use Rattle.nvme_model.specs.Refusals.{jobs_full, no_queue, refusal};
 ghost use Rattle.nvme_model.specs.Tickets.{cids_in_use, fetched_ticket};
 ghost use Rattle.nvme_model.specs.Verdict.{item_of, taken_entries, verdict_of};
 ghost use Rattle.nvme_model.specs.declared.step.Step.{Step};
-ghost use Rattle.step_core.specs.Found.{IsFront, first_job, kind_in};
+ghost use Rattle.step_core.specs.Found.{IsFront, first_job};
 ghost use Rattle.job_table.specs.Beginning.{read_first};
 ghost use Rattle.job_table.specs.Tickets.{compare_by, write_blocks};
 ghost use Rattle.controller_interface.specs.State.{Does, needs_data};
 ghost use Rattle.controller_interface.specs.declared.answer.Answer.{Answer};
-ghost use Rattle.job_table.specs.Stages.{IsSound};
 
 use crate::controller::Core;
 use crate::controller::data::{DataRoom, data_room};
 use crate::controller::room::keep_room;
 use crate::spare_boxes::SpareBoxes;
-use controller_interface::{Kind, Work};
+use controller_interface::Work;
 use fused_match::{Item, Judged, judge};
 use job_table::{Data, Job, OwedCids};
 use nvme_model::entry::{Entry, FetchLine};
@@ -40,30 +39,6 @@ pub(crate) struct Front {
     judged: Judged,
     cids: OwedCids,
     slba: u64,
-}
-
-// What a ticket has to do.
-fn kind_of(judged: &Judged) -> Kind
-    ensures value { result ≡ kind_in judged.now }
-{
-    match judged {
-        Judged::Flush => Kind::Flush,
-        Judged::Single(op, range) => Kind::Units(*op, *range),
-        Judged::Pair(range) => Kind::Pair(*range),
-        Judged::SingleFailed(_) => Kind::Failed(1),
-        Judged::PairFailed(_, _) => Kind::Failed(2),
-    }
-}
-
-// What a ticket does with its blocks.
-fn op_of(judged: &Judged) -> Option<Op>
-    ensures value { result ≡ operation_in judged.now }
-{
-    match judged {
-        Judged::Single(op, _) => Some(*op),
-        Judged::Pair(_) => Some(Op::Pair),
-        Judged::Flush | Judged::SingleFailed(_) | Judged::PairFailed(_, _) => None,
-    }
 }
 
 // The CIDs of the commands that are taken.
@@ -112,7 +87,7 @@ fn new_job(alloc: Global, queue: u16, front: Front, first: Submission, room: Dat
     let Front { judged, cids, slba } = front;
     let all = Data {
         slba,
-        compare: compare_of(alloc, op_of(&judged), first),
+        compare: compare_of(alloc, judged.operation(), first),
         write: room.write,
         read: room.read,
     };
@@ -232,6 +207,6 @@ impl Core {
             verdict: judged.verdict(),
         }));
         let units = self.config.units();
-        Ok(Work::new(ticket, units, kind_of(&judged)))
+        Ok(Work::new(ticket, units, judged))
     }
 }

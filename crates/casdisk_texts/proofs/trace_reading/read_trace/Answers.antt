@@ -4,8 +4,8 @@ use Rattle.trace.specs.Options.{no_options}
 use Rattle.trace.specs.declared.options.TraceOptions.{TraceOptions}
 use Rattle.casdisk_texts.specs.Script.{script_outcome}
 use Rattle.casdisk_texts.specs.Traces.{HasCollected, has_room, line_kept}
-use Rattle.casdisk_texts.proofs.Collected.{begins_so, none_collected, room_is, trace_unread, whole_trace}
-use Rattle.casdisk_texts.proofs.Faults.{same_in_memory}
+use Rattle.casdisk_texts.proofs.Collected.{begins_so, none_collected, room_is, same_in_memory, trace_unread}
+use Rattle.casdisk_texts.proofs.Collected.{whole_trace}
 use Rattle.casdisk_texts.proofs.Reaching.{makes_after, runs_after}
 use Rattle.casdisk_texts.proofs.trace_reading.read_trace.Goals as goal
 

@@ -1,66 +1,46 @@
-use Rattle.std.proofs.Common.{Err, List, None, Ok, Option, Some, [], ap, eqb, not, subst, ℕ, ◌+◌, ◌∙◌, ◌∷◌, ◌≤◌}
-use Rattle.std.proofs.Common.{rules}
-use Rattle.nvme_model.specs.declared.array.Range.{Range}
+use Rattle.std.proofs.Common.{eqb, not, rules, subst, sym, ◌+◌, ◌∙◌, ◌≡◌, ◌≤◌}
 use Rattle.nvme_model.specs.declared.config.ConfigNumbers.{ConfigNumbers}
-use Rattle.casdisk_texts.specs.Fault.{fault_in_memory}
-use Rattle.casdisk_texts.specs.Files.{entry_added}
-use Rattle.casdisk_texts.specs.Script.{script_outcome}
-use Rattle.casdisk_texts.proofs.Answering.{unread}
-use Rattle.casdisk_texts.proofs.Faults.{same_in_memory}
-use Rattle.casdisk_texts.proofs.Reaching.{makes_after, runs_after}
+use Rattle.casdisk_texts.proofs.Answering.{history_then}
 use Rattle.slot_check.specs.Watched.{area_state}
-use Rattle.file_commands.specs.Texts.{IsWithin}
+use Rattle.file_commands.specs.Texts.{HasFound, IsWithin}
 use Rattle.file_commands.specs.Wrong.{HasJudgedSlots}
-use Rattle.file_commands.proofs.Found.{first_unread, unread_behind, whole}
+use Rattle.file_commands.proofs.Found.{first_unread, found_in, unread_behind}
 use Rattle.file_commands.proofs.reading.judge_slots.Goals as goal
 
 pub returns-in-Err-clause-unread : goal.returns-in-Err-clause-unread
 returns-in-Err-clause-unread g c =
-    let none : Option (List ℕ) = None in
-    let f = c.in-Err.fault in
-    let stops = unread f _ _ none none (c.in-Err.ensures.stopped (λ c'. entry_added) none) in
     let some : 1 ≤ c.args.slots.blocks = search rules in
-    (some, first_unread c.args.slots f _ _ c.in-Err.ensures.first, rw (same_in_memory f c.in-Err.ensures.read) at stops)
+    (some, first_unread c.args.slots c.in-Err.fault _ _ c.in-Err.ensures.first, c.in-Err.ensures.unread)
 
-pub returns-in-Ok-run_lines-clause-whole : goal.returns-in-Ok-run_lines-clause-whole
-returns-in-Ok-run_lines-clause-whole g c =
+pub returns-in-Ok-take_entries-clause-whole : goal.returns-in-Ok-take_entries-clause-whole
+returns-in-Ok-take_entries-clause-whole g c =
     let why = not (eqb g.row.WHY 0) in
-    let none = Some c.new-unprinted.result.items in
-    let some = Some c.run_lines.new.writer.items in
-    let config = c.in-Ok-read_first.config in
-    let begun = c.in-Ok-read_first.ensures.begun (λ c'. entry_added) None none tt in
-    let ran = c.in-Ok-run_lines.ensures.runs config [] c.in-Ok-new.ensures.begun in
-    let made = c.in-Ok-run_lines.ensures.makes config [] c.in-Ok-new.ensures.begun in
-    let all = runs_after (script_outcome (λ c'. entry_added)) entry_added [] 2 _ _ _ None none some _ (Ok tt) begun
-    ran in
-    let last = c.run_lines.new.actor in
-    let makes = makes_after (script_outcome (λ c'. entry_added)) entry_added [] 2 _ _ None none _ (Ok tt)
-    (λ past. HasJudgedSlots why config last.slots past last.judge.checker last.judge.count last.judge.bad
-    (area_state last.area) last.wrong) begun made in
+    let config = c.in-Ok.lines.config in
+    let read = c.in-Ok-take_entries.ensures.takes _ c.in-Ok.ensures.begun c.in-Ok-new.ensures.begun in
+    let last = c.take_entries.new.taker in
     let few : c.args.slots.slba + c.args.slots.blocks ≤ c.numbers-blocks.result.blocks = search rules in
     let within : IsWithin config c.args.slots = subst (λ (d : ConfigNumbers). IsWithin d c.args.slots)
-    c.numbers-blocks.ensures.value few in
-    whole why config c.args.slots last.slots last.judge.checker last.judge.count last.judge.bad (area_state last.area)
-    last.wrong c.found.result _ _ None some c.found.ensures.value.0 c.found.ensures.value.1
-    (c.in-Ok-run_lines.ensures.fixed ∙ ap (λ (s : Range). s.slba ∷ s.blocks ∷ []) c.in-Ok-new.ensures.slots) within all
-    makes c.in-Ok-read_first.ensures.config
+    c.numbers-blocks.ensures.value few in (
+      read.0,
+      history_then
+          (λ k past. (k ≡ config) × HasJudgedSlots why k last.slots past last.judge.checker last.judge.count
+          last.judge.bad (area_state last.area) last.wrong)
+          (λ k past. HasFound why k c.args.slots past c.found.result) _
+          (λ k past h.
+          found_in why k c.args.slots last.slots past last.judge.checker last.judge.count last.judge.bad
+          (area_state last.area) last.wrong c.found.result c.found.ensures.value.0 c.found.ensures.value.1
+          (sym (c.in-Ok-take_entries.ensures.kept ∙ c.in-Ok-new.ensures.slots))
+          (subst (λ (d : ConfigNumbers). IsWithin d c.args.slots) (sym h.0) within) h.1) read.1,
+    )
 
 pub returns-clause-unread : goal.returns-clause-unread
 returns-clause-unread g c =
-    let none = Some c.new-unprinted.result.items in
-    let some = Some c.run_lines.new.writer.items in
-    let begun = c.in-Ok-read_first.ensures.begun (λ c'. entry_added) None none tt in
-    let ran = c.in-Err-run_lines.ensures.runs c.in-Ok-read_first.config [] c.in-Ok-new.ensures.begun in
-    let all = runs_after (script_outcome (λ c'. entry_added)) entry_added [] 2 _ _ _ None none some _
-    (Err c.in-Err-run_lines.fault) begun ran in
-    let config = c.in-Ok-read_first.config in
     let slot : 1 ≤ c.args.slots.blocks = search rules in
     let few : c.args.slots.slba + c.args.slots.blocks ≤ c.numbers-blocks.result.blocks = search rules in
-    let within : IsWithin config c.args.slots = subst (λ (d : ConfigNumbers). IsWithin d c.args.slots)
-    c.numbers-blocks.ensures.value few in
-    rw c.in_memory.ensures.value (
+    let within : IsWithin c.in-Ok.lines.config c.args.slots = subst (λ (d : ConfigNumbers). IsWithin d c.args.slots)
+    c.numbers-blocks.ensures.value few in (
       slot,
-      unread_behind c.args.slots (fault_in_memory c.in-Err-run_lines.fault) config _ within
-          c.in-Ok-read_first.ensures.config,
-      unread c.in-Err-run_lines.fault _ _ None some all,
+      unread_behind c.args.slots c.in-Err-take_entries.fault c.in-Ok.lines.config _ within
+          c.in-Ok.ensures.begun.config,
+      c.in-Err-take_entries.ensures.takes _ c.in-Ok.ensures.begun c.in-Ok-new.ensures.begun,
     )

@@ -6,7 +6,7 @@ use Rattle.nvme_model.specs.declared.config.ConfigNumbers.{ConfigNumbers}
 use Rattle.rings.specs.Submissions.{SubmissionRing, advanced}
 use Rattle.history_check.specs.Rings.{checked_submission_ring}
 use Rattle.history_check.specs.declared.fields.CheckedInFlight.{CheckedInFlight}
-use Rattle.history_check.proofs.Fetching.{fetch_none, fetch_room, fetch_some, fetch_unfit, fetch_units, fetch_yes}
+use Rattle.history_check.proofs.Fetching.{fetch_none, fetch_room, fetch_some, fetch_unfit, fetch_sound, fetch_yes}
 use Rattle.history_check.proofs.Rings.{IsPlace, one_ring}
 use Rattle.history_check.proofs.fetch.take_fetch.Goals as goal
 
@@ -62,7 +62,7 @@ units_of-requires c =
       ap (λ (n : ConfigNumbers). n.jobs) c.numbers.ensures.value,
     ) in
     record {
-      within = fetch_units _ _ _ k c.args.line.now c.in-Some.place place c.index-ring.result.now
+      sound = fetch_sound _ _ _ k c.args.line.now c.in-Some.place place c.index-ring.result.now
           c.index-ring.ensures c.in-Some-peek.first.now waits (option_copied c.as_ref.result) behind room
           c.judge_front-judged.result c.index.result.now c.index.ensures c.as_slice-in_use.result.now
           c.as_slice-in_use.ensures.value c.judge_front-judged.ensures.verdict c.judge_front-judged.ensures.operation

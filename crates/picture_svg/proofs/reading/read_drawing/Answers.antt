@@ -1,68 +1,46 @@
-use Rattle.std.proofs.Common.{Err, List, None, Ok, Option, Some, [], ap, false, rules, subst, true, ℕ, ◌∙◌}
-use Rattle.std.proofs.Common.{◌≡◌}
+use Rattle.std.proofs.Common.{false, rules, subst, sym, true, ◌∙◌, ◌≡◌}
 use Rattle.nvme_model.specs.declared.config.ConfigNumbers.{ConfigNumbers}
-use Rattle.casdisk_texts.specs.Fault.{fault_in_memory}
-use Rattle.casdisk_texts.specs.Files.{entry_added}
-use Rattle.casdisk_texts.specs.Script.{script_outcome}
-use Rattle.casdisk_texts.proofs.Answering.{unread}
-use Rattle.casdisk_texts.proofs.Faults.{same_in_memory}
-use Rattle.casdisk_texts.proofs.Reaching.{makes_after, runs_after}
-use Rattle.picture_svg.specs.Drawn.{HasDrawn, has_no_slot, is_within, options_list}
-use Rattle.picture_svg.proofs.Whole.{first_unread, unread_behind, whole}
+use Rattle.casdisk_texts.proofs.Answering.{history_then}
+use Rattle.picture_svg.specs.Drawn.{HasDrawing, HasDrawn, has_no_slot, is_within}
+use Rattle.picture_svg.proofs.Whole.{drawing_in, first_unread, unread_behind}
 use Rattle.picture_svg.proofs.reading.read_drawing.Goals as goal
 
 pub returns-in-Err-clause-unread : goal.returns-in-Err-clause-unread
 returns-in-Err-clause-unread g c =
-    let none : Option (List ℕ) = None in
-    let f = c.in-Err.fault in
-    let stops = unread f _ _ none none (c.in-Err.ensures.stopped (λ c'. entry_added) none) in
-    let some_slot : has_no_slot c.args.options.now.aspect.lanes.slots ≡ false = search rules in (
-      some_slot,
-      first_unread c.args.options.now f _ _ c.in-Err.ensures.first,
-      rw (same_in_memory f c.in-Err.ensures.read) at stops,
-    )
+    let some_slot : has_no_slot c.args.options.now.aspect.lanes.slots ≡ false = search rules in
+    (some_slot, first_unread c.args.options.now c.in-Err.fault _ _ c.in-Err.ensures.first, c.in-Err.ensures.unread)
 
-pub returns-in-Ok-run_lines-clause-whole : goal.returns-in-Ok-run_lines-clause-whole
-returns-in-Ok-run_lines-clause-whole g c =
-    let none = Some c.new-unprinted.result.items in
-    let some = Some c.run_lines.new.writer.items in
-    let config = c.in-Ok-read_first.config in
-    let begun = c.in-Ok-read_first.ensures.begun (λ c'. entry_added) None none tt in
-    let ran = c.in-Ok-run_lines.ensures.runs config [] c.in-Ok-new.ensures.begun in
-    let made = c.in-Ok-run_lines.ensures.makes config [] c.in-Ok-new.ensures.begun in
-    let all = runs_after (script_outcome (λ c'. entry_added)) entry_added [] 2 _ _ _ None none some _ (Ok tt) begun
-    ran in
-    let last = c.run_lines.new.actor in
-    let makes = makes_after (script_outcome (λ c'. entry_added)) entry_added [] 2 _ _ None none _ (Ok tt)
-    (λ past. HasDrawn config last.options past last.config last.judge.checker last.judge.count last.judge.bad
-    last.picture) begun made in
+pub returns-in-Ok-take_entries-clause-whole : goal.returns-in-Ok-take_entries-clause-whole
+returns-in-Ok-take_entries-clause-whole g c =
+    let config = c.in-Ok.lines.config in
+    let read = c.in-Ok-take_entries.ensures.takes _ c.in-Ok.ensures.begun c.in-Ok-new.ensures.begun in
+    let last = c.take_entries.new.taker in
     let slots = c.args.options.now.aspect.lanes.slots in
     let some_slot : has_no_slot slots ≡ false = search rules in
     let few : is_within slots c.numbers-blocks.result.blocks ≡ true = search rules in
     let within : is_within slots config.blocks ≡ true =
-    subst (λ (d : ConfigNumbers). is_within slots d.blocks ≡ true) c.numbers-blocks.ensures.value few in
-    whole config c.args.options.now last.options last.config last.judge.checker last.judge.count last.judge.bad
-    last.picture _ _ None some some_slot within
-    (c.in-Ok-run_lines.ensures.fixed ∙ ap options_list c.in-Ok-new.ensures.options) all
-    makes c.in-Ok-read_first.ensures.config
+    subst (λ (d : ConfigNumbers). is_within slots d.blocks ≡ true) c.numbers-blocks.ensures.value few in (
+      read.0,
+      history_then
+          (λ k past. (k ≡ config) × HasDrawn k last.options past last.config last.judge.checker last.judge.count
+          last.judge.bad last.picture)
+          (λ k past. HasDrawing k c.args.options.now past last.judge.bad.place last.judge.count last.picture) _
+          (λ k past h.
+          drawing_in k c.args.options.now last.options past last.config last.judge.checker last.judge.count
+          last.judge.bad last.picture some_slot
+          (subst (λ (d : ConfigNumbers). is_within slots d.blocks ≡ true) (sym h.0) within)
+          (c.in-Ok-take_entries.ensures.kept ∙ c.in-Ok-new.ensures.options) h.1) read.1,
+    )
 
 pub returns-clause-unread : goal.returns-clause-unread
 returns-clause-unread g c =
-    let none = Some c.new-unprinted.result.items in
-    let some = Some c.run_lines.new.writer.items in
-    let begun = c.in-Ok-read_first.ensures.begun (λ c'. entry_added) None none tt in
-    let ran = c.in-Err-run_lines.ensures.runs c.in-Ok-read_first.config [] c.in-Ok-new.ensures.begun in
-    let all = runs_after (script_outcome (λ c'. entry_added)) entry_added [] 2 _ _ _ None none some _
-    (Err c.in-Err-run_lines.fault) begun ran in
-    let config = c.in-Ok-read_first.config in
+    let config = c.in-Ok.lines.config in
     let slots = c.args.options.now.aspect.lanes.slots in
     let some_slot : has_no_slot slots ≡ false = search rules in
     let few : is_within slots c.numbers-blocks.result.blocks ≡ true = search rules in
     let within : is_within slots config.blocks ≡ true =
-    subst (λ (d : ConfigNumbers). is_within slots d.blocks ≡ true) c.numbers-blocks.ensures.value few in
-    rw c.in_memory.ensures.value (
+    subst (λ (d : ConfigNumbers). is_within slots d.blocks ≡ true) c.numbers-blocks.ensures.value few in (
       some_slot,
-      unread_behind c.args.options.now (fault_in_memory c.in-Err-run_lines.fault) config _ within
-          c.in-Ok-read_first.ensures.config,
-      unread c.in-Err-run_lines.fault _ _ None some all,
+      unread_behind c.args.options.now c.in-Err-take_entries.fault config _ within c.in-Ok.ensures.begun.config,
+      c.in-Err-take_entries.ensures.takes _ c.in-Ok.ensures.begun c.in-Ok-new.ensures.begun,
     )

@@ -3,7 +3,7 @@ use Rattle.nvme_model.specs.declared.array.Range.{Range}
 use Rattle.driver_cas.specs.Drivers.{area_of}
 use Rattle.driver_cas.specs.SlotStarts.{IsReleaseStart}
 use Rattle.slot_alloc.specs.Areas.{block_of}
-use Rattle.slot_takeover.proofs.Giving.{giving_now}
+use Rattle.slot_alloc.proofs.GivingBack.{releasing_begun}
 use Rattle.slot_takeover.proofs.giving_back.give_back.Goals as goal
 
 pub returns-in-Ok-clause-of : goal.returns-in-Ok-clause-of
@@ -13,8 +13,9 @@ returns-in-Ok-clause-of g c =
     let x = c.in-Ok in
     let at : c.block.result ≡ block_of (area_of d) c.args.held.slot = c.block.ensures
     ∙ ap (λ (r : Range). block_of r c.args.held.slot) (sym c.requires.area) in
-    giving_now g.P.Port d e c.args.held x.call x.ensures.same
-    (subst (λ (l : ℕ). IsReleaseStart d e l c.args.held.serial (Ok x.call)) at x.ensures.is) c.requires.held
+    releasing_begun g.P.Port d e c.args.held.slot c.args.held.serial x.call x.ensures.same
+    (subst (λ (l : ℕ). IsReleaseStart d e l c.args.held.serial (Ok x.call)) at x.ensures.is) c.requires.held.inside
+    c.requires.held.name
 
 pub returns-in-Err-clause-is : goal.returns-in-Err-clause-is
 returns-in-Err-clause-is g c =

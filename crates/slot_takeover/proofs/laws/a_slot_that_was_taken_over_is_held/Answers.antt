@@ -9,7 +9,6 @@ use Rattle.slot_alloc.specs.Areas.{block_of}
 use Rattle.slot_alloc.specs.SlotRules.{own_name}
 use Rattle.slot_log_laws.specs.Swaps.{log_released}
 use Rattle.host_laws.specs.Rules.{is_cut_off, takeover_disciplined}
-use Rattle.host_laws.specs.Takeovers.{still_believed}
 use Rattle.host_laws.proofs.TakeoverBeliefs.{believed_holds}
 use Rattle.slot_takeover.specs.Takeovers.{HoldsTaken, held_serial, slot_held}
 use Rattle.slot_takeover.proofs.Holding.{Took, view_believed}

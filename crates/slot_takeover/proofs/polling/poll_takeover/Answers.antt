@@ -2,7 +2,6 @@ use Rattle.std.proofs.Common.{Ok, Some, ap, refl, subst, sym, ◌∙◌}
 use Rattle.driver_calls.specs.declared.reply.Reply.{Reply}
 use Rattle.driver_cas.specs.Drivers.{IsCallOf, SaysOfPort}
 use Rattle.driver_cas.specs.declared.call.Call.{Call}
-use Rattle.slot_alloc.specs.Progresses.{IsQuiet}
 use Rattle.slot_takeover.specs.Takeovers.{IsTakingOverOf}
 use Rattle.slot_takeover.specs.declared.taking.TakingOver.{TakingOver}
 use Rattle.slot_takeover.proofs.Answering.{held_now, same_taking, taking_differs, taking_failed, taking_polled}

@@ -18,8 +18,8 @@ use Rattle.driver_cas.proofs.shared_port.SharedPortPort.publish.Goals as goal
 pub returns-in-Ok-clause-sent : goal.returns-in-Ok-clause-sent
 returns-in-Ok-clause-sent c =
     let k = c.in-Ok.ensures in
-    let a = k.accepted.by in
-    log_accepted c.args.self.now.queue c.args.self.now.pass c.attempt_open.new.pass a.entry a.before k.same a.ends
+    let a = k.accepted in
+    log_accepted c.args.self.now.queue c.args.self.now.pass c.publish.new.pass a.entry a.before k.same a.ends
     a.adds k.knows.1
     ∙ ap (λ (xs : List PortEvent). xs ++ log_at c.args.self.now.queue c.args.self.now.pass)
     (publish_event (view_of c.args.self.now) (entries a.before) a.entry c.args.queue c.args.batch a.says.1
@@ -28,35 +28,35 @@ returns-in-Ok-clause-sent c =
 pub returns-in-Ok-clause-accepted : goal.returns-in-Ok-clause-accepted
 returns-in-Ok-clause-accepted c =
     let k = c.in-Ok.ensures in
-    let a = k.accepted.by in
+    let a = k.accepted in
     record {
       publishes = record {
         before = a.before;
-        begins = before_accepted c.args.self.now.pass c.attempt_open.new.pass a.entry a.before k.same a.ends a.adds
+        begins = before_accepted c.args.self.now.pass c.publish.new.pass a.entry a.before k.same a.ends a.adds
             k.knows.1;
         ends = a.ends ∙ ap₂ (λ (n : ℕ) (e : Entry). (n, e) ∷ a.before) (sym k.same.1) a.says.1;
       };
       counted = refl;
     }
 
-pub returns-in-Err-Refused-Publish-clause-back : goal.returns-in-Err-Refused-Publish-clause-back
-returns-in-Err-Refused-Publish-clause-back c =
-    let e = c.in-Err-Refused-Publish in
+pub returns-in-Err-Refused-clause-back : goal.returns-in-Err-Refused-clause-back
+returns-in-Err-Refused-clause-back c =
+    let e = c.in-Err-Refused in
     let d = e.ensures in
-    let r = refused_publish c.args.self.now.pass c.attempt_open.new.pass c.args.queue c.args.batch e.field-0 e.field-0-0
-    e.why e.batch e.field-0-is e.field-0-0-is d.declined in (
+    let r = refused_publish c.args.self.now.pass c.publish.new.pass c.args.queue c.args.batch e.field-0 e.why
+    e.batch e.field-0-is d.declined in (
       same_batch _ _ _ _ r.1,
-      log_declined c.args.self.now.queue c.args.self.now.pass c.attempt_open.new.pass d.same r.0 d.knows.1,
+      log_declined c.args.self.now.queue c.args.self.now.pass c.publish.new.pass d.same r.0 d.knows.1,
     )
 
-pub returns-in-Err-Refused-Publish-clause-refused : goal.returns-in-Err-Refused-Publish-clause-refused
-returns-in-Err-Refused-Publish-clause-refused c =
-    let e = c.in-Err-Refused-Publish in
+pub returns-in-Err-Refused-clause-refused : goal.returns-in-Err-Refused-clause-refused
+returns-in-Err-Refused-clause-refused c =
+    let e = c.in-Err-Refused in
     let d = e.ensures in
     let a = c.args.self.now in
-    let q = c.attempt_open.new.pass in
-    let r = refused_publish a.pass q c.args.queue c.args.batch e.field-0 e.field-0-0 e.why e.batch e.field-0-is
-    e.field-0-0-is d.declined in
+    let q = c.publish.new.pass in
+    let r = refused_publish a.pass q c.args.queue c.args.batch e.field-0 e.why
+    e.batch e.field-0-is d.declined in
     let past = entries (seen q) in
     let step = Step.Publish c.args.queue c.args.batch in (
       fault_tells (passes_of a.pass) (view_of a)
@@ -73,13 +73,13 @@ pub returns-in-Ok-clause-later : goal.returns-in-Ok-clause-later
 returns-in-Ok-clause-later c =
     let k = c.in-Ok.ensures in
     port_stepped c.args.self.now _ (PortEvent.Sent c.args.queue c.args.batch) refl (λ h. h) k.same k.knows.1
-    k.accepted.by.adds
+    k.accepted.adds
     (returns-in-Ok-clause-sent c)
 
-pub returns-in-Err-Refused-Publish-clause-later : goal.returns-in-Err-Refused-Publish-clause-later
-returns-in-Err-Refused-Publish-clause-later c =
-    let e = c.in-Err-Refused-Publish in
+pub returns-in-Err-Refused-clause-later : goal.returns-in-Err-Refused-clause-later
+returns-in-Err-Refused-clause-later c =
+    let e = c.in-Err-Refused in
     let d = e.ensures in
-    let r = refused_publish c.args.self.now.pass c.attempt_open.new.pass c.args.queue c.args.batch e.field-0 e.field-0-0
-    e.why e.batch e.field-0-is e.field-0-0-is d.declined in
-    port_idle c.args.self.now _ refl (λ h. h) d.same d.knows.1 r.0 (returns-in-Err-Refused-Publish-clause-back c).1
+    let r = refused_publish c.args.self.now.pass c.publish.new.pass c.args.queue c.args.batch e.field-0 e.why
+    e.batch e.field-0-is d.declined in
+    port_idle c.args.self.now _ refl (λ h. h) d.same d.knows.1 r.0 (returns-in-Err-Refused-clause-back c).1

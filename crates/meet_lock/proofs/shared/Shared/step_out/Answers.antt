@@ -7,7 +7,8 @@ pub give_more-requires-clause-out : goal.give_more-requires-clause-out
 give_more-requires-clause-out g c =
     let o = c.requires.out in
     let s = c.in-Ok.ensures.accepted in
-    let says = subst (λ (p : ConfigNumbers × Past). g.M.Machine.accepts p.0 p.1 c.args.step s.0 c.in-Ok.answer)
+    let says = subst (λ (p : ConfigNumbers × Past). g.M.Machine.accepts p.0 p.1 (g.C.StepCall.asks c.args.call) s.0
+    (g.C.StepCall.answers c.in-Ok.told))
     (λ i. (o.at.0 i, o.at.1 i)) s.2 in
     record {
       entry = s.0;
@@ -15,7 +16,7 @@ give_more-requires-clause-out g c =
       holds = o.holds;
       at = (c.in-Ok.ensures.config ∙ o.at.0, s.1 ∙ ap (λ l. s.0 ∷ l) o.at.1);
       right = g.met.M.Machine.stays_legal _ _ _ _ _ o.right says;
-      may = c.requires.may s.0 c.in-Ok.answer says;
+      may = c.requires.may s.0 (g.C.StepCall.answers c.in-Ok.told) says;
     }
 
 pub give_same-requires-clause-out : goal.give_same-requires-clause-out
@@ -32,7 +33,8 @@ pub returns-in-Ok-clause-made : goal.returns-in-Ok-clause-made
 returns-in-Ok-clause-made g c =
     let o = c.requires.out in
     let s = c.in-Ok.ensures.accepted in
-    let says = subst (λ (p : ConfigNumbers × Past). g.M.Machine.accepts p.0 p.1 c.args.step s.0 c.in-Ok.answer)
+    let says = subst (λ (p : ConfigNumbers × Past). g.M.Machine.accepts p.0 p.1 (g.C.StepCall.asks c.args.call) s.0
+    (g.C.StepCall.answers c.in-Ok.told))
     (λ i. (o.at.0 i, o.at.1 i)) s.2 in
     record {
       entry = s.0;
@@ -46,6 +48,7 @@ returns-in-Err-clause-refused g c =
     let o = c.requires.out in
     let s = c.in-Err.ensures.refused in (
       c.give_same.ensures.shown,
-      subst (λ (p : ConfigNumbers × Past). g.M.Machine.refuses p.0 p.1 c.args.step c.in-Err.refusal)
+      subst (λ (p : ConfigNumbers × Past). g.M.Machine.refuses p.0 p.1 (g.C.StepCall.asks c.args.call)
+          (g.C.StepCall.refuses c.in-Err.refusal))
           (λ i. (o.at.0 i, o.at.1 i)) s.1,
     )

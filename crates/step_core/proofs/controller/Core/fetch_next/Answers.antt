@@ -63,7 +63,7 @@ new-requires c =
     let a = subst (λ (x : ControllerState). IsFetched x.config x.past c.args.queue c.in_ok-front.front)
     (sym (c.self.view_is ∙ c.take_room.ensures.same))
     c.in_ok-front.ensures.value in
-    work_fits _ _ _ c.self.invariant.0 _ _ a _ _ c.units-units.ensures c.kind_of.ensures.value
+    work_fits _ _ _ c.self.invariant.0 _ _ a _ c.units-units.ensures
 
 pub invariant_of-self-2 : goal.invariant_of-self-2
 invariant_of-self-2 c =
@@ -91,10 +91,9 @@ returns c =
     (sym (c.self.view_is ∙ c.take_room.ensures.same))
     c.in_ok-front.ensures.value in
     record {
-      does = fetch_done _ _ _ c.self.invariant.0 _ _ a _ _ _ _ _ _ _ _ _ _ (c.self.view_is ∙ c.take_room.ensures.same)
+      does = fetch_done _ _ _ c.self.invariant.0 _ _ a _ _ _ _ _ _ _ _ _ (c.self.view_is ∙ c.take_room.ensures.same)
           c.verdict.ensures.value
-          c.keep_room.ensures.past c.push_reserved.ensures.past c.units-units.ensures c.kind_of.ensures.value
-          c.new.ensures
+          c.keep_room.ensures.past c.push_reserved.ensures.past c.units-units.ensures c.new.ensures
           (record {
             entries = omega (arith, c.keep_room.ensures.kept, c.push_reserved.ensures.room);
             ranges = omega arith;

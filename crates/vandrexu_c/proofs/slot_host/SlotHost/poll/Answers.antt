@@ -29,30 +29,6 @@ returns-in-Takeover c =
     subst (λ (g : SlotState). PollTells g c.poll_takeover.new.self c.poll_takeover.result.0 c.poll_takeover.result.1)
     c.self.view_is told
 
-pub returns-in-GiveBack : goal.returns-in-GiveBack
-returns-in-GiveBack c =
-    let s = c.self.inside in
-    let x = c.poll_give_back.ensures in
-    let h : SlotState = record {
-      driver = s.driver;
-      slots = s.slots;
-      holds = s.holds.items;
-      under_way = s.under_way;
-      took_over = s.took_over;
-    } in
-    let told : CallPolls h c.poll_give_back.new.self s.under_way c.poll_give_back.result.0 c.poll_give_back.result.1 =
-    subst (λ (u : UnderWay). CallPolls h c.poll_give_back.new.self u c.poll_give_back.result.0
-    c.poll_give_back.result.1) c.in-GiveBack.ensures.value (record {
-      given = x.given;
-      is = x.is;
-      quiet = x.quiet;
-      later = x.later;
-      told = x.told;
-      same = x.same;
-    }) in
-    subst (λ (g : SlotState). PollTells g c.poll_give_back.new.self c.poll_give_back.result.0 c.poll_give_back.result.1)
-    c.self.view_is told
-
 pub returns-in-Release : goal.returns-in-Release
 returns-in-Release c =
     let s = c.self.inside in

@@ -1,6 +1,0 @@
-use Rattle.std.proofs.Common.{refl}
-use Rattle.command_line.proofs.Apps.{adds_rule}
-use Rattle.command_line.proofs.options.with_area.Goals as goal
-
-pub returns : goal.returns
-returns c = adds_rule c.arg.result c.args.command c.area_option.result _ c.area_option.ensures refl c.arg.ensures

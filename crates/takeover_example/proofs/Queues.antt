@@ -1,1 +1,0 @@
--- The submission queue of a host.

@@ -1,0 +1,23 @@
+//! The numbers that calls answer, beside those of `c_handles`, of refusals and of faults.
+
+pub(crate) const TOO_SMALL: u32 = 103;
+
+pub(crate) const BAD_LINE: u32 = 107;
+
+pub(crate) const NOT_LEGAL: u32 = 108;
+
+pub(crate) const IN_CALL: u32 = 116;
+
+pub(crate) const NO_CALL: u32 = 117;
+
+pub(crate) const NO_SLOT: u32 = 118;
+
+pub(crate) const NOT_HELD: u32 = 119;
+
+pub(crate) const HELD: u32 = 120;
+
+pub(crate) const TOOK_OVER: u32 = 121;
+
+pub(crate) const BAD_NAME: u32 = 122;
+
+pub(crate) const BAD_AREA: u32 = 123;
